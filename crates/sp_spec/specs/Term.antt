@@ -1,0 +1,58 @@
+-- Message terms. Source: Schmidt, Meier, Cremers and Basin, CSF 2012, section "Cryptographic messages"; Tamarin manual,
+-- "Cryptographic messages". Terms are over variables of any kind: those of a rule or a system, those that a text names,
+-- bound ones, or none at all.
+use Rattle.std.specs.Prelude.{ℕ, suc, List}
+
+-- fresh and pub are subsorts of msg, and have nothing in common
+pub data Sort : Type 0 where
+  Msg : Sort
+  Fresh : Sort
+  Pub : Sort
+
+-- a variable of a rule or of a system
+pub record Variable : Type 0 where
+  pub sort : Sort
+  pub number : ℕ
+
+-- a variable, a public name 'c', a fresh name ~n1, or a symbol, by its name, over arguments
+mutual
+  pub data Term (V : Type 0) : Type 0 where
+    var : V → Term V
+    constant : List ℕ → Term V
+    name : ℕ → Term V
+    app : List ℕ → Terms V → Term V
+
+  pub data Terms (V : Type 0) : Type 0 where
+    none : Terms V
+    more : Term V → Terms V → Terms V
+
+-- a term without variables
+abbrev pub Ground : Type 0
+Ground = Term ⊥
+
+abbrev pub Grounds : Type 0
+Grounds = Terms ⊥
+
+-- each variable replaced by what it stands for
+abbrev mutual
+  pub valued : {V W : Type 0} → (V → Term W) → Term V → Term W
+  valued v (var x) = v x
+  valued v (constant c) = constant c
+  valued v (name n) = name n
+  valued v (app f ts) = app f (valued_all v ts)
+
+  pub valued_all : {V W : Type 0} → (V → Term W) → Terms V → Terms W
+  valued_all v none = none
+  valued_all v (more t ts) = more (valued v t) (valued_all v ts)
+
+abbrev pub count : {V : Type 0} → Terms V → ℕ
+count none = 0
+count (more t ts) = suc (count ts)
+
+-- one after the other
+abbrev pub joined : {V : Type 0} → Terms V → Terms V → Terms V
+joined none us = us
+joined (more t ts) us = more t (joined ts us)
+
+abbrev pub Values : Type 0
+Values = Variable → Ground

@@ -1,0 +1,2 @@
+// The meaning of theories, executions, traces and lemmas.
+#![tactic(auto)]
