@@ -5,3 +5,9 @@ pub mod Equal
 pub mod Rule
 pub mod Formula
 pub mod Theory
+pub mod Execution
+pub mod Truth
+pub mod Guarded
+pub mod Destruction
+pub mod Log
+pub mod Verdict

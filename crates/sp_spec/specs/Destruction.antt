@@ -1,0 +1,84 @@
+-- What an equation lets the adversary take out of a message. Source: CSF 2012, "Message deduction" (destruction rules of a
+-- subterm-convergent theory); Meier's thesis, chapter 3 (chains).
+use Rattle.std.specs.Prelude.{◌≡◌, ℕ, Bool, true, false, ◌&&◌, ◌||◌, ◌==◌, not, if◌then◌else◌, List, [], ◌∷◌, ◌++◌, Option, Some, None, option_map}
+use Rattle.std.specs.Str.{bytes_eq}
+use Rattle.sp_spec.specs.Term.{Sort, Msg, Fresh, Pub, Variable, Term, var, constant, name, app, Terms, none, more, joined, count}
+use Rattle.sp_spec.specs.Signature.{Symbol, Equation, Signature}
+
+-- from a message of the pattern and the side messages follows the result
+pub record Destruction : Type 0 where
+  pub pattern : Term Variable
+  pub sides : Terms Variable
+  pub result : Term Variable
+
+-- one step down in a term: the symbol, its arguments before the one that is entered, that one, and those behind it
+pub record Fork : Type 0 where
+  pub symbol : List ℕ
+  pub front : Terms Variable
+  pub entered : Term Variable
+  pub back : Terms Variable
+
+abbrev pub same_sort : Sort → Sort → Bool
+same_sort Msg Msg = true
+same_sort Fresh Fresh = true
+same_sort Pub Pub = true
+same_sort s u = false
+
+abbrev mutual
+  pub same_term : Term Variable → Term Variable → Bool
+  same_term (var x) (var y) = same_sort x.sort y.sort && (x.number == y.number)
+  same_term (constant c) (constant d) = bytes_eq c d
+  same_term (name m) (name n) = m == n
+  same_term (app f ts) (app g us) = bytes_eq f g && same_terms ts us
+  same_term t u = false
+
+  pub same_terms : Terms Variable → Terms Variable → Bool
+  same_terms none none = true
+  same_terms (more t ts) (more u us) = same_term t u && same_terms ts us
+  same_terms ts us = false
+
+abbrev pub or_else : {A : Type 0} → Option A → Option A → Option A
+or_else (Some x) other = Some x
+or_else None other = other
+
+-- the way down to the leftmost place where the term r stands
+abbrev mutual
+  pub way_to : Term Variable → Term Variable → Option (List Fork)
+  way_to r (var x) = if same_term r (var x) then Some [] else None
+  way_to r (constant c) = if same_term r (constant c) then Some [] else None
+  way_to r (name n) = if same_term r (name n) then Some [] else None
+  way_to r (app f ts) = if same_term r (app f ts) then Some [] else way_among r f none ts
+
+  pub way_among : Term Variable → List ℕ → Terms Variable → Terms Variable → Option (List Fork)
+  way_among r f front none = None
+  way_among r f front (more t ts) =
+      or_else (option_map (λ forks. record { symbol = f; front = front; entered = t; back = ts } ∷ forks) (way_to r t))
+      (way_among r f (joined front (more t none)) ts)
+
+-- a public symbol of that name and arity
+abbrev pub is_public : List Symbol → List ℕ → ℕ → Bool
+is_public [] f n = false
+is_public (s ∷ symbols) f n = (bytes_eq s.name f && (s.arity == n) && not s.private) || is_public symbols f n
+
+-- One destruction for each place on the way that is neither its beginning nor its end, as long as each symbol above is public.
+-- The side messages are the arguments beside the way, from the top down.
+abbrev pub along : List Symbol → Term Variable → Terms Variable → List Fork → List Destruction
+along symbols r sides [] = []
+along symbols r sides (f ∷ []) = []
+along symbols r sides (f ∷ g ∷ forks) =
+    if is_public symbols f.symbol (count (joined f.front (more f.entered f.back)))
+    then record { pattern = f.entered; sides = joined sides (joined f.front f.back); result = r }
+        ∷ along symbols r (joined sides (joined f.front f.back)) (g ∷ forks)
+    else []
+
+abbrev pub along_way : List Symbol → Term Variable → Option (List Fork) → List Destruction
+along_way symbols r None = []
+along_way symbols r (Some forks) = along symbols r none forks
+
+abbrev pub destructions_by : List Symbol → List Equation → List Destruction
+destructions_by symbols [] = []
+destructions_by symbols (e ∷ es) = along_way symbols e.right (way_to e.right e.left) ++ destructions_by symbols es
+
+-- in the order of the equations: the first is that of fst, the second that of snd
+abbrev pub destructions : Signature → List Destruction
+destructions signature = destructions_by signature.symbols signature.equations
