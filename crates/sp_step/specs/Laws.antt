@@ -1,0 +1,34 @@
+-- What the written rules owe.
+use Rattle.std.specs.Prelude.{◌≡◌, ◌<◌, ◌≤◌, ℕ, List, map, length, Option, Some, true, [], ◌∷◌}
+use Rattle.sp_spec.specs.Lists.{Every, Member}
+use Rattle.sp_spec.specs.Rule.{Rule}
+use Rattle.sp_spec.specs.Theory.{Theory}
+use Rattle.sp_spec.specs.Log.{Log, IsLog}
+use Rattle.sp_system.specs.System.{System, Valuation, Solves, InFacts, IsNumbered, Covers}
+use Rattle.sp_step.specs.Rows.{Row, by_row, is_contradictory}
+use Rattle.sp_step.specs.Moves.{Move, unproved, Case, cases}
+
+-- a rule's variables have the numbers below the length of their list
+abbrev pub RulesAreNumbered : List Rule → Type 0
+RulesAreNumbered rules = Every (λ (r : Rule). InFacts (λ x. x.number < length r.variables) r.facts) rules
+
+-- no log of the theory solves the system
+abbrev pub HasNoSolution : Theory → System → Type 0
+HasNoSolution theory s = (log : Log) → IsLog theory log → (v : Valuation) → Solves theory log v s → ⊥
+
+-- a contradiction stands only where there is no solution
+pub record ContradictionsHold (theory : Theory) : Type 0 where
+  pub no_solution : (s : System) → is_contradictory s ≡ true → IsNumbered s → HasNoSolution theory s
+
+-- an elementary move keeps the numbers below the next one, and covers
+pub record RowsCover (theory : Theory) : Type 0 where
+  pub numbered : (row : Row) (s t : System) → by_row row s ≡ Some t → IsNumbered s → IsNumbered t × (s.next ≤ t.next)
+  pub covers : (row : Row) (s t : System) → by_row row s ≡ Some t → IsNumbered s → Covers theory s (t ∷ [])
+
+abbrev pub systems_of : List Case → List System
+systems_of cs = map (λ c. c.system) cs
+
+-- so does each move that isn't an open leaf, with all its cases
+pub record MovesCover (theory : Theory) : Type 0 where
+  pub numbered : (s : System) (move : Move) (cs : List Case) → cases theory.rules s move ≡ Some cs → IsNumbered s → Every (λ (c : Case). IsNumbered c.system × (s.next ≤ c.system.next)) cs
+  pub covers : (s : System) (move : Move) (cs : List Case) → cases theory.rules s move ≡ Some cs → (move ≡ unproved → ⊥) → IsNumbered s → Covers theory s (systems_of cs)

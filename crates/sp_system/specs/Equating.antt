@@ -1,0 +1,88 @@
+-- Putting terms for variables and one time for another throughout a system, and making two events one.
+use Rattle.std.specs.Prelude.{◌≡◌, ℕ, ◌==◌, ◌&&◌, nat_lt, List, [], ◌∷◌, ◌++◌, map, Bool, true, false, if◌then◌else◌, Option, Some, None, option_map, option_and_then}
+use Rattle.std.specs.Str.{bytes_eq}
+use Rattle.sp_spec.specs.Term.{Variable, Term, var, Terms, none, more, valued}
+use Rattle.sp_spec.specs.Rule.{Fact, Action, Facts, facts_at}
+use Rattle.sp_spec.specs.Guarded.{Guarded}
+use Rattle.sp_system.specs.Substitution.{Binding, bound_to}
+use Rattle.sp_system.specs.Unifier.{Pair, mgu}
+use Rattle.sp_system.specs.Change.{Change, free_change, changed}
+use Rattle.sp_system.specs.System.{Happening, rule_step, Event, System}
+
+-- the larger of two times is replaced by the smaller
+abbrev pub time_replaced : ℕ → ℕ → ℕ → ℕ
+time_replaced small large i = if i == large then small else i
+
+abbrev pub happening_changed : (Variable → Term Variable) → Happening → Happening
+happening_changed terms (rule_step r facts) = rule_step r (facts_at terms facts)
+
+abbrev pub event_changed : (Variable → Term Variable) → (ℕ → ℕ) → Event → Event
+event_changed terms times e = record { time = times e.time; happening = happening_changed terms e.happening }
+
+abbrev pub pair_changed : (Variable → Term Variable) → Pair → Pair
+pair_changed terms p = (valued terms p.0, valued terms p.1)
+
+abbrev pub system_changed : (Variable → Term Variable) → (ℕ → ℕ) → System → System
+system_changed terms times s = record {
+  events = map (event_changed terms times) s.events;
+  formulas = map (changed (free_change terms times)) s.formulas;
+  spent = map (changed (free_change terms times)) s.spent;
+  unequal = map (pair_changed terms) s.unequal;
+  next = s.next;
+}
+
+-- the pairs that make two lists of arguments the same, if there are as many of the one as of the other
+abbrev pub argument_pairs : Terms Variable → Terms Variable → Option (List Pair)
+argument_pairs none none = Some []
+argument_pairs none (more u us) = None
+argument_pairs (more t ts) none = None
+argument_pairs (more t ts) (more u us) = option_map (λ (pairs : List Pair). (t, u) ∷ pairs) (argument_pairs ts us)
+
+abbrev pub same_flag : Bool → Bool → Bool
+same_flag true b = b
+same_flag false true = false
+same_flag false false = true
+
+abbrev pub both_pairs : Option (List Pair) → Option (List Pair) → Option (List Pair)
+both_pairs (Some pairs) (Some more_pairs) = Some (pairs ++ more_pairs)
+both_pairs (Some pairs) None = None
+both_pairs None other = None
+
+abbrev pub fact_pairs : List (Fact Variable) → List (Fact Variable) → Option (List Pair)
+fact_pairs [] [] = Some []
+fact_pairs [] (g ∷ gs) = None
+fact_pairs (f ∷ fs) [] = None
+fact_pairs (f ∷ fs) (g ∷ gs) =
+    if bytes_eq f.symbol g.symbol && same_flag f.persistent g.persistent then both_pairs (argument_pairs f.args g.args) (fact_pairs fs gs) else None
+
+abbrev pub action_pair : Action Variable → Action Variable → Option (List Pair)
+action_pair a b = if bytes_eq a.symbol b.symbol then argument_pairs a.args b.args else None
+
+abbrev pub action_pairs : List (Action Variable) → List (Action Variable) → Option (List Pair)
+action_pairs [] [] = Some []
+action_pairs [] (b ∷ bs) = None
+action_pairs (a ∷ rest) [] = None
+action_pairs (a ∷ rest) (b ∷ bs) = both_pairs (action_pair a b) (action_pairs rest bs)
+
+-- two steps are one where they are of the same rule and all their facts are the same
+abbrev pub merging_pairs : Happening → Happening → Option (List Pair)
+merging_pairs (rule_step r f) (rule_step q g) =
+    if bytes_eq r q
+    then both_pairs (fact_pairs f.premises g.premises) (both_pairs (action_pairs f.actions g.actions) (fact_pairs f.conclusions g.conclusions))
+    else None
+
+abbrev pub unifier_of : Option (List Pair) → Option (List Binding)
+unifier_of pairs = option_and_then mgu pairs
+
+-- the smaller and the larger
+abbrev pub smaller : ℕ → ℕ → ℕ
+smaller i j = if nat_lt j i then j else i
+
+abbrev pub larger : ℕ → ℕ → ℕ
+larger i j = if nat_lt j i then i else j
+
+-- The events of one system without that of a place, which becomes one with an earlier event.
+abbrev pub merged_system : System → List Event → Event → Event → List Binding → System
+merged_system s others a b bs =
+    system_changed (bound_to bs) (time_replaced (smaller a.time b.time) (larger a.time b.time))
+    (record { events = others; formulas = s.formulas; spent = s.spent; unequal = s.unequal; next = s.next })

@@ -1,0 +1,5 @@
+pub mod Substitution
+pub mod Unifier
+pub mod Change
+pub mod System
+pub mod Equating

@@ -1,0 +1,27 @@
+-- Substitutions, as lists of bindings.
+use Rattle.std.specs.Prelude.{◌≡◌, List, [], ◌∷◌, ◌++◌, map, Option, Some, None, unwrap_or, ◌&&◌, ◌==◌, Bool, if◌then◌else◌}
+use Rattle.sp_spec.specs.Term.{Variable, Term, var, Ground, Values, valued}
+use Rattle.sp_spec.specs.Destruction.{same_sort}
+
+abbrev pub Binding : Type 0
+Binding = Variable × Term Variable
+
+abbrev pub same_variable : Variable → Variable → Bool
+same_variable x y = same_sort x.sort y.sort && (x.number == y.number)
+
+-- what the first binding of a variable gives it
+abbrev pub lookup : List Binding → Variable → Option (Term Variable)
+lookup [] x = None
+lookup (b ∷ bs) x = if same_variable b.0 x then Some b.1 else lookup bs x
+
+-- a variable without a binding stays
+abbrev pub bound_to : List Binding → Variable → Term Variable
+bound_to bs x = unwrap_or (lookup bs x) (var x)
+
+-- first the one list of bindings, then the other
+abbrev pub followed_by : List Binding → List Binding → List Binding
+followed_by bs cs = map (λ (b : Binding). (b.0, valued (bound_to cs) b.1)) bs ++ cs
+
+-- the substitution changes no value: each variable has the value of what it is bound to
+abbrev pub Fixes : Values → List Binding → Type 0
+Fixes v bs = (x : Variable) → v x ≡ valued v (bound_to bs x)
