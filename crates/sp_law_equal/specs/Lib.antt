@@ -1,0 +1,4 @@
+pub mod Same
+pub mod Matching
+pub mod Convergent
+pub mod Normal
