@@ -1,3 +1,5 @@
 pub mod Chains
 pub mod Tests
 pub mod Matches
+pub mod Parts
+pub mod Forms

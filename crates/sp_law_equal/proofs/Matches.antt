@@ -1,5 +1,5 @@
 -- What `matched` finds, and what it refuses.
-use Rattle.std.proofs.Common.{◌≡◌, ℕ, Bool, true, false, cond, List, [], ◌∷◌, ◌++◌, Option, Some, None, unwrap_or, ◌⊎◌, ⊎_elim, inl, inr, refl, sym, ap, ◌∙◌, subst, true≢false, nat_eq}
+use Rattle.std.proofs.Common.{◌≡◌, Bool, true, false, cond, List, [], ◌∷◌, ◌++◌, Option, Some, None, unwrap_or, ◌⊎◌, ⊎_elim, inl, inr, refl, sym, ap, ◌∙◌, subst, true≢false, nat_eq}
 use Rattle.std.specs.Prelude.{option_and_then}
 use Rattle.std.specs.Str.{bytes_eq}
 use Rattle.std.proofs.lemmas.Bool.{eqb-true, eq-eqb}

@@ -1,8 +1,8 @@
 -- Equations that may be read from left to right: the first form of equations, where no destructor stands under the root of a
 -- left side. Source: Tamarin manual, "Cryptographic messages" (user-defined functions and equations).
-use Rattle.std.specs.Prelude.{◌≡◌, ◌⊎◌, ℕ, List, [], ◌∷◌}
+use Rattle.std.specs.Prelude.{◌≡◌, ◌⊎◌, ℕ, List}
 use Rattle.sp_spec.specs.Lists.{Member}
-use Rattle.sp_spec.specs.Term.{Variable, Term, var, constant, name, app, Terms, none, more, Values, valued}
+use Rattle.sp_spec.specs.Term.{Variable, Term, app, Terms, none, more, Values, valued}
 use Rattle.sp_spec.specs.Signature.{Symbol, Equation, HasSymbol, RespectsSorts}
 
 -- the term is an application of the symbol

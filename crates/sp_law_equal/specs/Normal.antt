@@ -1,6 +1,6 @@
 -- The normal form of a term, from the leaves up.
 use Rattle.std.specs.Prelude.{List, [], ◌∷◌, map, Option, Some, None}
-use Rattle.sp_spec.specs.Term.{Variable, Term, var, constant, name, app, Terms, none, more, Ground, Grounds, valued}
+use Rattle.sp_spec.specs.Term.{Variable, Term, var, constant, name, app, none, more, Ground, Grounds, valued}
 use Rattle.sp_spec.specs.Signature.{Equation}
 use Rattle.sp_spec.specs.Rule.{Fact, Action, Facts}
 use Rattle.sp_law_equal.specs.Matching.{Bound, value_in, matched}
