@@ -3,3 +3,4 @@ pub mod Tests
 pub mod Matches
 pub mod Parts
 pub mod Forms
+pub mod Values
