@@ -4,3 +4,4 @@ pub mod Matches
 pub mod Parts
 pub mod Forms
 pub mod Values
+pub mod Pairs
