@@ -5,3 +5,5 @@ pub mod Parts
 pub mod Forms
 pub mod Values
 pub mod Pairs
+pub mod Over
+pub mod Facts

@@ -2,3 +2,4 @@ pub mod Same
 pub mod Matching
 pub mod Convergent
 pub mod Normal
+pub mod Pointwise
