@@ -4,3 +4,15 @@
 // What the definitions are is in specs/, and each lemma that other laws cite is in a file of proofs/ by its subject.
 // The functions do nothing when they run: the one clause of each is a law.
 #![tactic(auto)]
+
+ghost use Rattle.sp_law_equal.specs.Laws.{NormalFormsDecide, PairsAreConvergent};
+
+/// Normal forms decide equality, for each list of convergent equations.
+pub fn normal_forms_decide()
+    ensures { NormalFormsDecide }
+{}
+
+/// The equations that belong to every theory are convergent.
+pub fn pairs_are_convergent()
+    ensures { PairsAreConvergent }
+{}
