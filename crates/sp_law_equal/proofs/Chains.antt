@@ -30,7 +30,8 @@ module _ (es : List Equation) where
   in_place c on t u (back l h) = back (on _ _ l) (in_place c on _ u h)
 
   -- arguments replaced one after the other
-  in_places : (c : Grounds → Ground) → ((ts us : Grounds) → LinkIn es ts us → Link es (c ts) (c us)) → (ts us : Grounds) → EqualAll es ts us → Equal es (c ts) (c us)
+  in_places : (c : Grounds → Ground) → ((ts us : Grounds) → LinkIn es ts us → Link es (c ts) (c us))
+      → (ts us : Grounds) → EqualAll es ts us → Equal es (c ts) (c us)
   in_places c on none none h = end
   in_places c on none (more u us) h = absurd h
   in_places c on (more t ts) none h = absurd h

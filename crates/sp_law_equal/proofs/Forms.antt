@@ -4,7 +4,7 @@ use Rattle.sp_spec.specs.Lists.{Member}
 use Rattle.sp_spec.specs.Term.{Sort, Msg, Fresh, Pub, Variable, Term, var, constant, name, app, Terms, none, more, Ground, Grounds, Values, valued, valued_all}
 use Rattle.sp_spec.specs.Signature.{Equation, HasSort, RespectsSorts}
 use Rattle.sp_spec.specs.Equal.{Link, at_root, below, LinkIn, here, there, Equal, end, forth, back, EqualAll, MatchesNone, IsNormal, AreNormal}
-use Rattle.sp_law_equal.specs.Matching.{Bound, value_in, IsMatch, matched}
+use Rattle.sp_law_equal.specs.Matching.{Bound, value_in, IsMatch, NoneMatches, matched}
 use Rattle.sp_law_equal.specs.Convergent.{HasRoot, IsDestructor, IsPlain, ArePlain, IsPlainBelow, IsProperPart, AreConvergent}
 use Rattle.sp_law_equal.specs.Normal.{found_or, reduced, normal, normal_all}
 use Rattle.sp_law_equal.proofs.Chains.{equal_trans, equal_sym, equal_app}
@@ -26,7 +26,7 @@ reduced_by (e ∷ es) t = by_match (matched e.left t []) refl (reduced_by es t)
     by_match None h r =
         ⊎_elim
         (λ u. inl (u.0, u.1, inr u.2, u.3, u.4))
-        (λ n. inr (n.0, λ d m v s k. ⊎_elim (λ is. none_matches e.left t h v s (subst (λ (c : Equation). valued v c.left ≡ t) (sym is) k)) (λ m'. n.1 d m' v s k) m))
+        (λ n. inr (n.0, λ d m. ⊎_elim (λ is. subst (λ (c : Equation). NoneMatches c.left t) is (none_matches e.left t h)) (λ m'. n.1 d m') m))
         r
 
 module _ (es : List Equation) where

@@ -7,3 +7,4 @@ pub mod Values
 pub mod Pairs
 pub mod Over
 pub mod Facts
+pub mod Decided

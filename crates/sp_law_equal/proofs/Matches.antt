@@ -18,10 +18,12 @@ Agrees v bs = (x : Variable) (t : Ground) → lookup bs x ≡ Some t → v x ≡
 abbrev Tells : (Values → Type 0) → List Bound → Option (List Bound) → Type 0
 Tells Fits bs None = (v : Values) → RespectsSorts v → Agrees v bs → Fits v → ⊥
 Tells Fits bs (Some cs) =
-    ((v : Values) → Agrees v cs → Fits v × Agrees v bs) × ((v : Values) → RespectsSorts v → Agrees v bs → Fits v → Agrees v cs) × (RespectsSorts (value_in bs) → RespectsSorts (value_in cs))
+    ((v : Values) → Agrees v cs → Fits v × Agrees v bs) × ((v : Values) → RespectsSorts v → Agrees v bs → Fits v → Agrees v cs)
+    × (RespectsSorts (value_in bs) → RespectsSorts (value_in cs))
 
 -- a test, which leaves the bindings
-tested : (Fits : Values → Type 0) (bs : List Bound) (b : Bool) → (b ≡ true → (v : Values) → Agrees v bs → Fits v) → (b ≡ false → (v : Values) → Agrees v bs → Fits v → ⊥) → Tells Fits bs (cond b (Some bs) None)
+tested : (Fits : Values → Type 0) (bs : List Bound) (b : Bool) → (b ≡ true → (v : Values) → Agrees v bs → Fits v)
+    → (b ≡ false → (v : Values) → Agrees v bs → Fits v → ⊥) → Tells Fits bs (cond b (Some bs) None)
 tested Fits bs true good bad = (λ v a. (good refl v a, a), λ v r a f. a, λ s. s)
 tested Fits bs false good bad = λ v r a f. bad refl v a f
 
@@ -30,7 +32,8 @@ module _ (x : Variable) (t : Ground) where
   old_stays [] y u e = absurd cc
   old_stays (b ∷ bs) y u e = by_test (same_variable b.0 y) e (old_stays bs y u)
     where
-      by_test : (c : Bool) → cond c (Some b.1) (lookup bs y) ≡ Some u → (lookup bs y ≡ Some u → lookup (bs ++ (x, t) ∷ []) y ≡ Some u) → cond c (Some b.1) (lookup (bs ++ (x, t) ∷ []) y) ≡ Some u
+      by_test : (c : Bool) → cond c (Some b.1) (lookup bs y) ≡ Some u → (lookup bs y ≡ Some u → lookup (bs ++ (x, t) ∷ []) y ≡ Some u)
+          → cond c (Some b.1) (lookup (bs ++ (x, t) ∷ []) y) ≡ Some u
       by_test true e' next = e'
       by_test false e' next = next e'
 
@@ -38,7 +41,8 @@ module _ (x : Variable) (t : Ground) where
   new_there [] e = ap (λ c. cond c (Some t) None) ((same_variable_decides x x).1 refl)
   new_there (b ∷ bs) e = by_test (same_variable b.0 x) e (new_there bs)
     where
-      by_test : (c : Bool) → cond c (Some b.1) (lookup bs x) ≡ None → (lookup bs x ≡ None → lookup (bs ++ (x, t) ∷ []) x ≡ Some t) → cond c (Some b.1) (lookup (bs ++ (x, t) ∷ []) x) ≡ Some t
+      by_test : (c : Bool) → cond c (Some b.1) (lookup bs x) ≡ None → (lookup bs x ≡ None → lookup (bs ++ (x, t) ∷ []) x ≡ Some t)
+          → cond c (Some b.1) (lookup (bs ++ (x, t) ∷ []) x) ≡ Some t
       by_test true e' next = absurd cc
       by_test false e' next = next e'
 
@@ -50,7 +54,8 @@ module _ (x : Variable) (t : Ground) where
       by_test false s e' = inl e'
   one_of (b ∷ bs) y u e = by_test (same_variable b.0 y) e (one_of bs y u)
     where
-      by_test : (c : Bool) → cond c (Some b.1) (lookup (bs ++ (x, t) ∷ []) y) ≡ Some u → (lookup (bs ++ (x, t) ∷ []) y ≡ Some u → (lookup bs y ≡ Some u) ⊎ ((x ≡ y) × (t ≡ u))) → (cond c (Some b.1) (lookup bs y) ≡ Some u) ⊎ ((x ≡ y) × (t ≡ u))
+      by_test : (c : Bool) → cond c (Some b.1) (lookup (bs ++ (x, t) ∷ []) y) ≡ Some u
+          → (lookup (bs ++ (x, t) ∷ []) y ≡ Some u → (lookup bs y ≡ Some u) ⊎ ((x ≡ y) × (t ≡ u))) → (cond c (Some b.1) (lookup bs y) ≡ Some u) ⊎ ((x ≡ y) × (t ≡ u))
       by_test true e' next = inl e'
       by_test false e' next = next e'
 
@@ -88,8 +93,10 @@ bound_tells None x t bs e = by_test (has_sort x.sort t) refl
     by_test false s = λ v r a f. true≢false (sym ((has_sort_decides x.sort t).1 (subst (HasSort x.sort) f (r x))) ∙ s)
 
 -- one part, then the others
-module _ (First Others Both : Values → Type 0) (join : (v : Values) → First v → Others v → Both v) (first : (v : Values) → Both v → First v) (others : (v : Values) → Both v → Others v) where
-  in_turn : (bs : List Bound) (o : Option (List Bound)) (next : List Bound → Option (List Bound)) → Tells First bs o → ((cs : List Bound) → Tells Others cs (next cs)) → Tells Both bs (option_and_then next o)
+module _ (First Others Both : Values → Type 0) (join : (v : Values) → First v → Others v → Both v)
+    (first : (v : Values) → Both v → First v) (others : (v : Values) → Both v → Others v) where
+  in_turn : (bs : List Bound) (o : Option (List Bound)) (next : List Bound → Option (List Bound)) → Tells First bs o
+      → ((cs : List Bound) → Tells Others cs (next cs)) → Tells Both bs (option_and_then next o)
   in_turn bs None next h k = λ v r a f. h v r a (first v f)
   in_turn bs (Some cs) next h k = by_last (next cs) (k cs)
     where
@@ -101,7 +108,8 @@ module _ (First Others Both : Values → Type 0) (join : (v : Values) → First 
         λ q. m.2 (h.2 q),
       )
 
-renamed : (Fits Fits' : Values → Type 0) (bs : List Bound) (o : Option (List Bound)) → ((v : Values) → Fits v → Fits' v) → ((v : Values) → Fits' v → Fits v) → Tells Fits bs o → Tells Fits' bs o
+renamed : (Fits Fits' : Values → Type 0) (bs : List Bound) (o : Option (List Bound)) → ((v : Values) → Fits v → Fits' v)
+    → ((v : Values) → Fits' v → Fits v) → Tells Fits bs o → Tells Fits' bs o
 renamed Fits Fits' bs None to from h = λ v r a f. h v r a (from v f)
 renamed Fits Fits' bs (Some cs) to from h = (λ v a. let b = h.0 v a in (to v b.0, b.1), λ v r a f. h.1 v r a (from v f), h.2)
 
@@ -109,13 +117,17 @@ mutual
   matched_tells : (p : Term Variable) (t : Ground) (bs : List Bound) → Tells (λ v. valued v p ≡ t) bs (matched p t bs)
   matched_tells (var x) t bs = bound_tells (lookup bs x) x t bs refl
   matched_tells (constant c) (constant d) bs =
-      tested (λ v. constant c ≡ constant d) bs (bytes_eq c d) (λ e v a. ap constant ((bytes_eq-Decides c d).0 e)) (λ e v a f. true≢false (sym ((bytes_eq-Decides c d).1 cc) ∙ e))
+      tested (λ v. constant c ≡ constant d) bs (bytes_eq c d) (λ e v a. ap constant ((bytes_eq-Decides c d).0 e))
+      (λ e v a f. true≢false (sym ((bytes_eq-Decides c d).1 cc) ∙ e))
   matched_tells (name m) (name n) bs =
       tested (λ v. name m ≡ name n) bs (nat_eq m n) (λ e v a. ap name (eqb-true m n e)) (λ e v a f. true≢false (sym (eq-eqb m n cc) ∙ e))
   matched_tells (app f ps) (app g ts) bs = by_test (bytes_eq f g) refl (matched_all_tell ps ts bs)
     where
-      by_test : (c : Bool) → bytes_eq f g ≡ c → Tells (λ v. valued_all v ps ≡ ts) bs (matched_all ps ts bs) → Tells (λ v. app f (valued_all v ps) ≡ app g ts) bs (cond c (matched_all ps ts bs) None)
-      by_test true e h = renamed (λ v. valued_all v ps ≡ ts) (λ v. app f (valued_all v ps) ≡ app g ts) bs (matched_all ps ts bs) (λ v k. cc ((bytes_eq-Decides f g).0 e)) (λ v k. cc) h
+      by_test : (c : Bool) → bytes_eq f g ≡ c → Tells (λ v. valued_all v ps ≡ ts) bs (matched_all ps ts bs)
+          → Tells (λ v. app f (valued_all v ps) ≡ app g ts) bs (cond c (matched_all ps ts bs) None)
+      by_test true e h =
+          renamed (λ v. valued_all v ps ≡ ts) (λ v. app f (valued_all v ps) ≡ app g ts) bs (matched_all ps ts bs)
+          (λ v k. cc ((bytes_eq-Decides f g).0 e)) (λ v k. cc) h
       by_test false e h = λ v r a k. true≢false (sym ((bytes_eq-Decides f g).1 cc) ∙ e)
   matched_tells (constant c) (var y) bs = absurd y
   matched_tells (constant c) (name n) bs = λ v r a f. cc

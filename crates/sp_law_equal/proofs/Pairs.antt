@@ -24,25 +24,43 @@ names_apart f g h e = true≢false (sym ((bytes_eq-Decides f g).1 e) ∙ h)
 
 -- fst and snd are the destructors
 pub pair_is_plain : IsDestructor pair_equations (codes "pair") → ⊥
-pair_is_plain h = each_of_pairs (λ e. HasRoot (codes "pair") e.left → ⊥) (names_apart (codes "fst") (codes "pair") refl) (names_apart (codes "snd") (codes "pair") refl) h.0 h.1 h.2
+pair_is_plain h =
+    each_of_pairs (λ e. HasRoot (codes "pair") e.left → ⊥)
+    (names_apart (codes "fst") (codes "pair") refl)
+    (names_apart (codes "snd") (codes "pair") refl)
+    h.0 h.1 h.2
 
-app_injective : {f g : List ℕ} {ts us : Grounds} → app f ts ≡ app g us → (f ≡ g) × (ts ≡ us)
-app_injective e = (cc, cc)
+same_root : {f g : List ℕ} {ts us : Grounds} → app f ts ≡ app g us → f ≡ g
+same_root e = cc
+
+-- the right sides are variables of the pair
+first_is_part : IsProperPart first_of_pair.right first_of_pair.left
+first_is_part = inl (inr (inl refl))
+
+second_is_part : IsProperPart second_of_pair.right second_of_pair.left
+second_is_part = inl (inr (inr (inl refl)))
 
 pub pairs_convergent : AreConvergent pair_equations
 pairs_convergent = record {
   left_plain = each_of_pairs (λ e. IsPlainBelow pair_equations e.left) ((pair_is_plain, (tt, (tt, tt))), tt) ((pair_is_plain, (tt, (tt, tt))), tt);
   right_plain = each_of_pairs (λ e. IsPlain pair_equations e.right) tt tt;
-  simple = each_of_pairs IsSimple (inl (inl (inr (inl refl)))) (inl (inl (inr (inr (inl refl)))));
+  simple = each_of_pairs IsSimple (inl first_is_part) (inl second_is_part);
   agree = λ d e m n.
       each_of_pairs (λ d. (e : Equation) → Member e pair_equations → DoAgree d e)
-      (each_of_pairs (λ e. DoAgree first_of_pair e) (λ v w r s k. cc) (λ v w r s k. absurd (names_apart (codes "fst") (codes "snd") refl (app_injective k).0)))
-      (each_of_pairs (λ e. DoAgree second_of_pair e) (λ v w r s k. absurd (names_apart (codes "snd") (codes "fst") refl (app_injective k).0)) (λ v w r s k. cc))
+      (each_of_pairs (λ e. DoAgree first_of_pair e)
+      (λ v w r s k. cc)
+      (λ v w r s k. absurd (names_apart (codes "fst") (codes "snd") refl (same_root k))))
+      (each_of_pairs (λ e. DoAgree second_of_pair e)
+      (λ v w r s k. absurd (names_apart (codes "snd") (codes "fst") refl (same_root k)))
+      (λ v w r s k. cc))
       d m e n;
 }
 
 -- whatever the symbols
 pub pairs_keep_symbols : (symbols : List Symbol) → KeepSymbols symbols pair_equations
 pairs_keep_symbols symbols = record {
-  each = each_of_pairs (λ e. IsProperPart e.right e.left ⊎ ((c : List ℕ) × (e.right ≡ app c none) × HasSymbol symbols c 0)) (inl (inl (inr (inl refl)))) (inl (inl (inr (inr (inl refl)))));
+  each =
+      each_of_pairs (λ e. IsProperPart e.right e.left ⊎ ((c : List ℕ) × (e.right ≡ app c none) × HasSymbol symbols c 0))
+      (inl first_is_part)
+      (inl second_is_part);
 }

@@ -1,5 +1,5 @@
 -- What the tests of equality and of sorts tell.
-use Rattle.std.proofs.Common.{◌≡◌, ℕ, List, Bool, true, refl, ap, ◌∙◌, subst}
+use Rattle.std.proofs.Common.{◌≡◌, ℕ, Bool, true, refl, ap, ◌∙◌, subst}
 use Rattle.std.proofs.lemmas.Bool.{and_parts, and_from, eqb-true, eq-eqb}
 use Rattle.std.proofs.lemmas.Slice.Eq.{bytes_eq-Decides}
 use Rattle.std.specs.Bool.{Decides}
@@ -88,10 +88,6 @@ same_term_decides a b = same_by_decides (λ (x y : ⊥). true) (λ x y. absurd x
 
 pub same_terms_decides : (ts us : Grounds) → Decides (same_terms ts us) (ts ≡ us)
 same_terms_decides ts us = same_all_by_decides (λ (x y : ⊥). true) (λ x y. absurd x) ts us
-
--- names of symbols, facts and constants
-pub same_bytes_decides : (xs ys : List ℕ) → Decides (bytes_eq xs ys) (xs ≡ ys)
-same_bytes_decides xs ys = bytes_eq-Decides xs ys
 
 has_sort_tells : (s : Sort) (t : Ground) → has_sort s t ≡ true → HasSort s t
 has_sort_tells Msg t e = tt
