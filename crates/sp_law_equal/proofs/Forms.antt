@@ -92,7 +92,7 @@ module _ (es : List Equation) where
     to_normal_all none = tt
     to_normal_all (more t ts) = (to_normal t, to_normal_all ts)
 
-  -- a link at the root of an application whose arguments are plain shows its symbol at the root of the left side
+  -- an instance of a left side has the symbol of the left side at its root
   root_of : (v : Values) (l : Term Variable) (f : List ℕ) (us : Grounds) → IsPlainBelow es l → valued v l ≡ app f us → HasRoot f l
   root_of v (var x) f us p e = absurd p
   root_of v (constant c) f us p e = absurd p
