@@ -1,0 +1,10 @@
+pub mod Chains
+pub mod Tests
+pub mod Matches
+pub mod Parts
+pub mod Forms
+pub mod Values
+pub mod Pairs
+pub mod Over
+pub mod Facts
+pub mod Decided

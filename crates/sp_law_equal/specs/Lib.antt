@@ -1,0 +1,6 @@
+pub mod Same
+pub mod Matching
+pub mod Convergent
+pub mod Normal
+pub mod Pointwise
+pub mod Laws
