@@ -1,2 +1,7 @@
 pub mod Values
+pub mod Lists
 pub mod Changing
+pub mod Numbers
+pub mod Facts
+pub mod Unchanged
+pub mod Solutions

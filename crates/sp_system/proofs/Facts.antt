@@ -1,0 +1,104 @@
+-- Values of facts.
+use Rattle.std.proofs.Common.{◌≡◌, List, [], ◌∷◌, map, refl, ap, ap₂, sym, ◌∙◌}
+use Rattle.sp_spec.specs.Lists.{Every}
+use Rattle.sp_spec.specs.Term.{Variable, Term, var, constant, name, app, Terms, none, more, Ground, Grounds, Values, valued, valued_all}
+use Rattle.sp_spec.specs.Rule.{Fact, Action, Facts, fact_at, action_at, facts_at}
+use Rattle.sp_system.specs.Substitution.{Binding, bound_to, Fixes}
+use Rattle.sp_system.specs.System.{EachVariable, EachVariables, InFacts}
+use Rattle.sp_system.proofs.Values.{valued-valued, valued_all-valued_all}
+
+mutual
+  pub valued_same : {V W : Type 0} (v w : V → Term W) (t : Term V) → EachVariable (λ x. v x ≡ w x) t → valued v t ≡ valued w t
+  valued_same v w (var x) e = e
+  valued_same v w (constant c) e = refl
+  valued_same v w (name n) e = refl
+  valued_same v w (app f ts) e = ap (app f) (valued_all_same v w ts e)
+
+  pub valued_all_same : {V W : Type 0} (v w : V → Term W) (ts : Terms V) → EachVariables (λ x. v x ≡ w x) ts → valued_all v ts ≡ valued_all w ts
+  valued_all_same v w none e = refl
+  valued_all_same v w (more t ts) e = ap₂ more (valued_same v w t e.0) (valued_all_same v w ts e.1)
+
+mutual
+  -- where all values are the same
+  pub valued_equal : {V W : Type 0} (v w : V → Term W) → ((x : V) → v x ≡ w x) → (t : Term V) → valued v t ≡ valued w t
+  valued_equal v w e (var x) = e x
+  valued_equal v w e (constant c) = refl
+  valued_equal v w e (name n) = refl
+  valued_equal v w e (app f ts) = ap (app f) (valued_all_equal v w e ts)
+
+  pub valued_all_equal : {V W : Type 0} (v w : V → Term W) → ((x : V) → v x ≡ w x) → (ts : Terms V) → valued_all v ts ≡ valued_all w ts
+  valued_all_equal v w e none = refl
+  valued_all_equal v w e (more t ts) = ap₂ more (valued_equal v w e t) (valued_all_equal v w e ts)
+
+
+map_same : {A B : Type 0} (f g : A → B) (xs : List A) → Every (λ x. f x ≡ g x) xs → map f xs ≡ map g xs
+map_same f g [] e = refl
+map_same f g (x ∷ xs) e = ap₂ (λ y ys. y ∷ ys) e.0 (map_same f g xs e.1)
+
+map-map : {A B C : Type 0} (f : A → B) (g : B → C) (xs : List A) → map g (map f xs) ≡ map (λ x. g (f x)) xs
+map-map f g [] = refl
+map-map f g (x ∷ xs) = ap (λ ys. g (f x) ∷ ys) (map-map f g xs)
+
+abbrev parts_of : {V : Type 0} → List (Fact V) → List (Action V) → List (Fact V) → Facts V
+parts_of ps as' cs = record { premises = ps; actions = as'; conclusions = cs }
+
+parts_same : {V : Type 0} (p q : List (Fact V)) (a b : List (Action V)) (c d : List (Fact V)) → p ≡ q → a ≡ b → c ≡ d → parts_of p a c ≡ parts_of q b d
+parts_same p q a b c d e f g = ap (λ (x : _). parts_of x a c) e ∙ ap (λ (x : _). parts_of q x c) f ∙ ap (λ (x : _). parts_of q b x) g
+
+fact_same : {V W : Type 0} (v w : V → Term W) (f : Fact V) → EachVariables (λ x. v x ≡ w x) f.args → fact_at v f ≡ fact_at w f
+fact_same {V} {W} v w f e = ap (λ (ts : Terms W). let g : Fact W = record { symbol = f.symbol; persistent = f.persistent; args = ts } in g) (valued_all_same v w f.args e)
+
+pub action_same : {V W : Type 0} (v w : V → Term W) (a : Action V) → EachVariables (λ x. v x ≡ w x) a.args → action_at v a ≡ action_at w a
+action_same {V} {W} v w a e = ap (λ (ts : Terms W). let g : Action W = record { symbol = a.symbol; args = ts } in g) (valued_all_same v w a.args e)
+
+every_to : {A : Type 0} (P Q : A → Type 0) → ((x : A) → P x → Q x) → (xs : List A) → Every P xs → Every Q xs
+every_to P Q h [] e = tt
+every_to P Q h (x ∷ xs) e = (h x e.0, every_to P Q h xs e.1)
+
+every_all : {A : Type 0} (P : A → Type 0) → ((x : A) → P x) → (xs : List A) → Every P xs
+every_all P h [] = tt
+every_all P h (x ∷ xs) = (h x, every_all P h xs)
+
+pub facts_same : {V W : Type 0} (v w : V → Term W) (facts : Facts V) → InFacts (λ x. v x ≡ w x) facts → facts_at v facts ≡ facts_at w facts
+facts_same v w facts e =
+    parts_same _ _ _ _ _ _
+    (map_same (fact_at v) (fact_at w) facts.premises (every_to _ _ (fact_same v w) facts.premises e.premises))
+    (map_same (action_at v) (action_at w) facts.actions (every_to _ _ (action_same v w) facts.actions e.actions))
+    (map_same (fact_at v) (fact_at w) facts.conclusions (every_to _ _ (fact_same v w) facts.conclusions e.conclusions))
+
+pub action_at-action_at : {U V W : Type 0} (v : U → Term V) (w : V → Term W) (a : Action U) → action_at w (action_at v a) ≡ action_at (λ x. valued w (v x)) a
+action_at-action_at {U} {V} {W} v w a = ap (λ (ts : Terms W). let g : Action W = record { symbol = a.symbol; args = ts } in g) (valued_all-valued_all v w a.args)
+
+fact_at-fact_at : {U V W : Type 0} (v : U → Term V) (w : V → Term W) (f : Fact U) → fact_at w (fact_at v f) ≡ fact_at (λ x. valued w (v x)) f
+fact_at-fact_at {U} {V} {W} v w f = ap (λ (ts : Terms W). let g : Fact W = record { symbol = f.symbol; persistent = f.persistent; args = ts } in g) (valued_all-valued_all v w f.args)
+
+pub facts_at-facts_at : {U V W : Type 0} (v : U → Term V) (w : V → Term W) (facts : Facts U) → facts_at w (facts_at v facts) ≡ facts_at (λ x. valued w (v x)) facts
+facts_at-facts_at v w facts =
+    parts_same _ _ _ _ _ _
+    (map-map (fact_at v) (fact_at w) facts.premises ∙ map_same _ _ facts.premises (every_all _ (fact_at-fact_at v w) facts.premises))
+    (map-map (action_at v) (action_at w) facts.actions ∙ map_same _ _ facts.actions (every_all _ (action_at-action_at v w) facts.actions))
+    (map-map (fact_at v) (fact_at w) facts.conclusions ∙ map_same _ _ facts.conclusions (every_all _ (fact_at-fact_at v w) facts.conclusions))
+
+-- A substitution that the values fix changes no value.
+pub fixed_term : (v : Values) (bs : List Binding) → Fixes v bs → (t : Term Variable) → valued v (valued (bound_to bs) t) ≡ valued v t
+fixed_term v bs h t = valued-valued (bound_to bs) v t ∙ valued_equal _ v (λ x. sym (h x)) t
+
+mutual
+  pub each_of_all : {V : Type 0} (P : V → Type 0) → ((x : V) → P x) → (t : Term V) → EachVariable P t
+  each_of_all P h (var x) = h x
+  each_of_all P h (constant c) = tt
+  each_of_all P h (name n) = tt
+  each_of_all P h (app f ts) = each_of_all_terms P h ts
+
+  pub each_of_all_terms : {V : Type 0} (P : V → Type 0) → ((x : V) → P x) → (ts : Terms V) → EachVariables P ts
+  each_of_all_terms P h none = tt
+  each_of_all_terms P h (more t ts) = (each_of_all P h t, each_of_all_terms P h ts)
+
+pub fixed_facts : (v : Values) (bs : List Binding) → Fixes v bs → (facts : Facts Variable) → facts_at v (facts_at (bound_to bs) facts) ≡ facts_at v facts
+fixed_facts v bs h facts =
+    facts_at-facts_at (bound_to bs) v facts
+    ∙ facts_same _ v facts (record {
+      premises = every_all _ (λ f. each_of_all_terms _ (λ x. sym (h x)) f.args) facts.premises;
+      actions = every_all _ (λ a. each_of_all_terms _ (λ x. sym (h x)) a.args) facts.actions;
+      conclusions = every_all _ (λ f. each_of_all_terms _ (λ x. sym (h x)) f.args) facts.conclusions;
+    })
