@@ -2,7 +2,7 @@
 use Rattle.std.specs.Prelude.{◌≡◌, ℕ, ◌+◌, List, [], ◌∷◌, Option, Some, None}
 use Rattle.sp_spec.specs.Rule.{Rule}
 use Rattle.sp_system.specs.System.{System}
-use Rattle.sp_step.specs.Moves.{Move, simplify, contradiction, unproved, action, Case, cases}
+use Rattle.sp_step.specs.Moves.{Move, unproved, Case, cases}
 
 -- a move, and a tree for each of its cases, by the case's name
 mutual

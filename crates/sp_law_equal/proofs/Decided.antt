@@ -7,7 +7,7 @@ use Rattle.sp_spec.specs.Lists.{Classically}
 use Rattle.sp_spec.specs.Term.{Variable, Term, Ground, Grounds}
 use Rattle.sp_spec.specs.Signature.{Equation}
 use Rattle.sp_spec.specs.Equal.{Equal, EqualAll, IsNormal}
-use Rattle.sp_law_equal.specs.Same.{same_term, same_terms}
+use Rattle.sp_spec.specs.Same.{same_term, same_terms}
 use Rattle.sp_law_equal.specs.Matching.{Bound, IsMatch, NoneMatches, matched}
 use Rattle.sp_law_equal.specs.Convergent.{AreConvergent}
 use Rattle.sp_law_equal.specs.Normal.{normal, normal_all}

@@ -6,7 +6,7 @@ use Rattle.std.proofs.lemmas.Bool.{eqb-true, eq-eqb}
 use Rattle.std.proofs.lemmas.Slice.Eq.{bytes_eq-Decides}
 use Rattle.sp_spec.specs.Term.{Sort, Msg, Fresh, Pub, Variable, Term, var, constant, name, app, Terms, none, more, Ground, Grounds, Values, valued, valued_all}
 use Rattle.sp_spec.specs.Signature.{HasSort, RespectsSorts}
-use Rattle.sp_law_equal.specs.Same.{same_variable, same_term}
+use Rattle.sp_spec.specs.Same.{same_variable, same_term}
 use Rattle.sp_law_equal.specs.Matching.{Bound, lookup, any_of, value_in, IsMatch, NoneMatches, has_sort, by_bound, matched, matched_all}
 use Rattle.sp_law_equal.proofs.Tests.{same_variable_decides, same_term_decides, has_sort_decides}
 

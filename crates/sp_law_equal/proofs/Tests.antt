@@ -6,7 +6,7 @@ use Rattle.std.specs.Bool.{Decides}
 use Rattle.std.specs.Str.{bytes_eq}
 use Rattle.sp_spec.specs.Term.{Sort, Msg, Fresh, Pub, Variable, Term, var, constant, name, app, Terms, none, more, Ground, Grounds}
 use Rattle.sp_spec.specs.Signature.{HasSort}
-use Rattle.sp_law_equal.specs.Same.{same_sort, same_variable, same_by, same_all_by, same_term, same_terms}
+use Rattle.sp_spec.specs.Same.{same_sort, same_variable, same_by, same_all_by, same_term, same_terms}
 use Rattle.sp_law_equal.specs.Matching.{has_sort}
 
 same_sort_tells : (s u : Sort) → same_sort s u ≡ true → s ≡ u

@@ -1,4 +1,3 @@
-pub mod Same
 pub mod Matching
 pub mod Convergent
 pub mod Normal

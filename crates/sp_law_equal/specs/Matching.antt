@@ -3,7 +3,7 @@ use Rattle.std.specs.Prelude.{◌≡◌, List, [], ◌∷◌, ◌++◌, Bool, tr
 use Rattle.std.specs.Str.{bytes_eq}
 use Rattle.sp_spec.specs.Term.{Sort, Msg, Fresh, Pub, Variable, Term, var, constant, name, app, Terms, none, more, Ground, Grounds, Values, valued}
 use Rattle.sp_spec.specs.Signature.{RespectsSorts}
-use Rattle.sp_law_equal.specs.Same.{same_variable, same_term}
+use Rattle.sp_spec.specs.Same.{same_variable, same_term}
 
 -- a variable and its value
 abbrev pub Bound : Type 0

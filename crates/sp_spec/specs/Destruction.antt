@@ -1,8 +1,9 @@
 -- What an equation lets the adversary take out of a message. Source: CSF 2012, "Message deduction" (destruction rules of a
 -- subterm-convergent theory); Meier's thesis, chapter 3 (chains).
-use Rattle.std.specs.Prelude.{◌≡◌, ℕ, Bool, true, false, ◌&&◌, ◌||◌, ◌==◌, not, if◌then◌else◌, List, [], ◌∷◌, ◌++◌, Option, Some, None, option_map}
+use Rattle.std.specs.Prelude.{ℕ, Bool, false, ◌&&◌, ◌||◌, ◌==◌, not, if◌then◌else◌, List, [], ◌∷◌, ◌++◌, Option, Some, None, option_map}
 use Rattle.std.specs.Str.{bytes_eq}
-use Rattle.sp_spec.specs.Term.{Sort, Msg, Fresh, Pub, Variable, Term, var, constant, name, app, Terms, none, more, joined, count}
+use Rattle.sp_spec.specs.Term.{Variable, Term, var, constant, name, app, Terms, none, more, joined, count}
+use Rattle.sp_spec.specs.Same.{alike}
 use Rattle.sp_spec.specs.Signature.{Symbol, Equation, Signature}
 
 -- from a message of the pattern and the side messages follows the result
@@ -18,25 +19,6 @@ pub record Fork : Type 0 where
   pub entered : Term Variable
   pub back : Terms Variable
 
-abbrev pub same_sort : Sort → Sort → Bool
-same_sort Msg Msg = true
-same_sort Fresh Fresh = true
-same_sort Pub Pub = true
-same_sort s u = false
-
-abbrev mutual
-  pub same_term : Term Variable → Term Variable → Bool
-  same_term (var x) (var y) = same_sort x.sort y.sort && (x.number == y.number)
-  same_term (constant c) (constant d) = bytes_eq c d
-  same_term (name m) (name n) = m == n
-  same_term (app f ts) (app g us) = bytes_eq f g && same_terms ts us
-  same_term t u = false
-
-  pub same_terms : Terms Variable → Terms Variable → Bool
-  same_terms none none = true
-  same_terms (more t ts) (more u us) = same_term t u && same_terms ts us
-  same_terms ts us = false
-
 abbrev pub or_else : {A : Type 0} → Option A → Option A → Option A
 or_else (Some x) other = Some x
 or_else None other = other
@@ -44,10 +26,10 @@ or_else None other = other
 -- the way down to the leftmost place where the term r stands
 abbrev mutual
   pub way_to : Term Variable → Term Variable → Option (List Fork)
-  way_to r (var x) = if same_term r (var x) then Some [] else None
-  way_to r (constant c) = if same_term r (constant c) then Some [] else None
-  way_to r (name n) = if same_term r (name n) then Some [] else None
-  way_to r (app f ts) = if same_term r (app f ts) then Some [] else way_among r f none ts
+  way_to r (var x) = if alike r (var x) then Some [] else None
+  way_to r (constant c) = if alike r (constant c) then Some [] else None
+  way_to r (name n) = if alike r (name n) then Some [] else None
+  way_to r (app f ts) = if alike r (app f ts) then Some [] else way_among r f none ts
 
   pub way_among : Term Variable → List ℕ → Terms Variable → Terms Variable → Option (List Fork)
   way_among r f front none = None

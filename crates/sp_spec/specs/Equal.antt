@@ -3,7 +3,7 @@
 -- no further terms equal.)
 use Rattle.std.specs.Prelude.{◌≡◌, ℕ, List}
 use Rattle.sp_spec.specs.Lists.{Member}
-use Rattle.sp_spec.specs.Term.{Variable, Term, var, constant, name, app, Terms, none, more, Ground, Grounds, Values, valued}
+use Rattle.sp_spec.specs.Term.{var, constant, name, app, none, more, Ground, Grounds, Values, valued}
 use Rattle.sp_spec.specs.Signature.{Equation, RespectsSorts}
 
 -- in one place of the term an instance of the left side of an equation is replaced by the same instance of the right side

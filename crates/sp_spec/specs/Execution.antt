@@ -2,7 +2,7 @@
 -- and the rules by which the adversary takes what is sent, sends what is known, and applies symbols.
 use Rattle.std.specs.Prelude.{◌≡◌, ℕ, List, [], ◌∷◌, ◌++◌, if◌then◌else◌}
 use Rattle.sp_spec.specs.Lists.{Member}
-use Rattle.sp_spec.specs.Term.{Msg, Fresh, Pub, Variable, app, none, more, Ground, Grounds, count, Values}
+use Rattle.sp_spec.specs.Term.{Msg, Fresh, Pub, app, none, more, Ground, Grounds, count, Values}
 use Rattle.sp_spec.specs.Signature.{Equation, Signature, HasPublic, AreOver, IsValue, IsValuation}
 use Rattle.sp_spec.specs.Rule.{Fact, Action, Facts, Rule, facts_at, SameFact, Gives, fr, in_of, out_of, knows, sends}
 use Rattle.sp_spec.specs.Theory.{Theory, signature_of}

@@ -1,6 +1,9 @@
 pub mod Lists
 pub mod Term
 pub mod Signature
+pub mod Same
+pub mod Substitution
+pub mod Unifier
 pub mod Equal
 pub mod Rule
 pub mod Formula
@@ -11,3 +14,4 @@ pub mod Guarded
 pub mod Destruction
 pub mod Log
 pub mod Verdict
+pub mod Written

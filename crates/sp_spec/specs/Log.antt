@@ -4,7 +4,7 @@
 use Rattle.std.specs.Prelude.{◌≡◌, ◌⊎◌, ◌<◌, ℕ, zero, Bool, true, false, not, ◌&&◌, if◌then◌else◌, List, [], ◌∷◌, ◌++◌, codes}
 use Rattle.std.specs.Str.{bytes_eq}
 use Rattle.sp_spec.specs.Lists.{Member, Every, Distinct, AtPlace, AtPosition}
-use Rattle.sp_spec.specs.Term.{Sort, Pub, Fresh, Variable, Term, app, name, Terms, none, more, Ground, Grounds, count, Values, valued, valued_all}
+use Rattle.sp_spec.specs.Term.{Pub, Fresh, app, none, more, Ground, Grounds, count, Values, valued, valued_all}
 use Rattle.sp_spec.specs.Signature.{Signature, HasPublic, HasSort, IsValuation, RespectsSorts}
 use Rattle.sp_spec.specs.Equal.{IsNormal}
 use Rattle.sp_spec.specs.Rule.{Fact, Action, Facts, Rule, facts_at, IsNormalFormOf, in_of, out_of, sends, learns}

@@ -1,7 +1,7 @@
 -- Facts, actions, rules, and the instances of rules. Source: Tamarin manual, "Model specification using rules"; CSF 2012,
 -- "Labeled multiset rewriting".
 use Rattle.std.specs.Prelude.{◌≡◌, ℕ, suc, Bool, true, false, List, [], ◌∷◌, ◌++◌, map, codes}
-use Rattle.sp_spec.specs.Term.{Sort, Variable, Term, var, name, Terms, none, more, Ground, Grounds, Values, valued, valued_all}
+use Rattle.sp_spec.specs.Term.{Sort, Variable, Term, Terms, none, more, Ground, Values, valued_all}
 use Rattle.sp_spec.specs.Equal.{EqualAll, AreNormalFormsOf}
 use Rattle.sp_spec.specs.Signature.{Equation}
 

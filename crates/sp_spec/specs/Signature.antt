@@ -1,8 +1,8 @@
 -- The symbols of a theory, and the ground terms over them. Source: Tamarin manual, "Cryptographic messages": the pair symbols
 -- and their equations belong to every theory.
-use Rattle.std.specs.Prelude.{◌≡◌, ℕ, Bool, true, false, List, [], ◌∷◌, ◌++◌, codes}
+use Rattle.std.specs.Prelude.{ℕ, Bool, false, List, [], ◌∷◌, ◌++◌, codes}
 use Rattle.sp_spec.specs.Lists.{Member}
-use Rattle.sp_spec.specs.Term.{Sort, Msg, Fresh, Pub, Variable, Term, var, constant, name, app, Terms, none, more, Ground, Grounds, count, Values}
+use Rattle.sp_spec.specs.Term.{Sort, Msg, Fresh, Pub, Variable, Term, var, constant, name, app, none, more, Ground, Grounds, count, Values}
 
 pub record Symbol : Type 0 where
   pub name : List ℕ

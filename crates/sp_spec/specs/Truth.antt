@@ -2,8 +2,8 @@
 -- classical first-order logic: messages range over all ground terms of the sort, times over the positions of the trace.
 use Rattle.std.specs.Prelude.{◌≡◌, ◌⊎◌, ◌<◌, ℕ, List, [], ◌∷◌, length, if◌then◌else◌}
 use Rattle.std.specs.Str.{bytes_eq}
-use Rattle.sp_spec.specs.Lists.{Member, Every, AtPosition, Classically}
-use Rattle.sp_spec.specs.Term.{Sort, Msg, Term, var, constant, name, app, Ground, valued}
+use Rattle.sp_spec.specs.Lists.{Member, AtPosition, Classically}
+use Rattle.sp_spec.specs.Term.{Msg, Term, var, constant, name, app, Ground, valued}
 use Rattle.sp_spec.specs.Signature.{Equation, Signature, IsValue}
 use Rattle.sp_spec.specs.Equal.{Equal}
 use Rattle.sp_spec.specs.Rule.{Action, action_at, SameAction}

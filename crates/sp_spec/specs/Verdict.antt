@@ -1,6 +1,6 @@
 -- What it means that a lemma holds, and that it is broken. Source: Tamarin manual, "Property specification" (all-traces,
 -- exists-trace, restrictions); CSF 2012, "Security properties".
-use Rattle.std.specs.Prelude.{◌≡◌, Bool, true, false, ◌||◌, List, codes}
+use Rattle.std.specs.Prelude.{Bool, false, ◌||◌, List, codes}
 use Rattle.std.specs.Str.{bytes_eq}
 use Rattle.sp_spec.specs.Lists.{Every}
 use Rattle.sp_spec.specs.Formula.{Formula, truth, falsity, happens, equals, precedes, not_so, both, either, implies, for_all, for_some}

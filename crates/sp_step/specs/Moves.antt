@@ -1,13 +1,11 @@
 -- The moves of a proof and their cases. Source: CSF 2012, "Constraint solving" (case distinctions on the rules that may have done
 -- an action); Tamarin manual, "Constraint solving". Case names and their order are this project's own.
-use Rattle.std.specs.Prelude.{◌≡◌, ℕ, zero, suc, ◌+◌, ◌==◌, Bool, true, false, if◌then◌else◌, List, [], ◌∷◌, ◌++◌, map, length, Option, Some, None, option_map, option_and_then, is_some, slice_get, codes, decimal}
-use Rattle.std.specs.Str.{bytes_eq}
-use Rattle.sp_spec.specs.Term.{Variable, Term, var}
+use Rattle.std.specs.Prelude.{ℕ, suc, ◌+◌, ◌==◌, if◌then◌else◌, List, [], ◌∷◌, ◌++◌, map, length, Option, Some, None, option_map, is_some, slice_get, codes, decimal}
+use Rattle.sp_spec.specs.Term.{Variable, var}
 use Rattle.sp_spec.specs.Rule.{Action, Facts, Rule, facts_at}
-use Rattle.sp_spec.specs.Guarded.{Guarded, holds, Atom, acts, Time, free_time}
-use Rattle.sp_system.specs.Substitution.{Binding, bound_to}
-use Rattle.sp_system.specs.Unifier.{Pair, mgu}
-use Rattle.sp_system.specs.System.{Happening, rule_step, Event, System}
+use Rattle.sp_spec.specs.Guarded.{Guarded, holds, acts, free_time}
+use Rattle.sp_spec.specs.Substitution.{bound_to}
+use Rattle.sp_system.specs.System.{rule_step, Event, System}
 use Rattle.sp_system.specs.Equating.{action_pair, unifier_of, system_changed}
 use Rattle.sp_step.specs.Rows.{freed_action, happening_actions, rows, by_rows, is_contradictory, simplified}
 

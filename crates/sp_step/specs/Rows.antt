@@ -1,15 +1,15 @@
 -- Contradictions and elementary moves. Source: CSF 2012, "Constraint solving" (the simplification rules); Meier's thesis, chapter 3.
 -- The elementary moves are in the order in which they are tried; each is done at its lowest position.
-use Rattle.std.specs.Prelude.{◌≡◌, ℕ, zero, suc, ◌+◌, ◌==◌, ◌&&◌, ◌||◌, Bool, true, false, if◌then◌else◌, List, [], ◌∷◌, ◌++◌, map, length, Option, Some, None, option_map, option_and_then, is_some, is_none}
+use Rattle.std.specs.Prelude.{ℕ, zero, suc, ◌+◌, ◌==◌, ◌&&◌, ◌||◌, Bool, true, false, if◌then◌else◌, List, [], ◌∷◌, ◌++◌, map, length, Option, Some, None, option_map, option_and_then, is_none}
 use Rattle.std.specs.Str.{bytes_eq}
 use Rattle.sp_spec.specs.Term.{Variable, Term, var, constant, name, app, Terms, none, more}
-use Rattle.sp_spec.specs.Rule.{Fact, Action, Facts}
-use Rattle.sp_spec.specs.Guarded.{Place, free, bound, Time, free_time, bound_time, Binder, Atom, acts, same, same_time, before, last, Guarded, truth, falsity, holds, fails, all_of, one_of, some, every}
-use Rattle.sp_spec.specs.Destruction.{same_term, same_terms}
+use Rattle.sp_spec.specs.Rule.{Fact, Action}
+use Rattle.sp_spec.specs.Guarded.{Place, free, bound, free_time, Binder, Atom, acts, same, same_time, Guarded, holds, fails, some}
+use Rattle.sp_spec.specs.Same.{alike, alike_all}
 use Rattle.sp_spec.specs.Log.{is_fr}
-use Rattle.sp_system.specs.Substitution.{Binding}
-use Rattle.sp_system.specs.Unifier.{Pair, mgu}
-use Rattle.sp_system.specs.Change.{Change, atom_changed, changed, opening}
+use Rattle.sp_spec.specs.Substitution.{Binding}
+use Rattle.sp_spec.specs.Unifier.{Pair, mgu}
+use Rattle.sp_system.specs.Change.{atom_changed, changed, opening}
 use Rattle.sp_system.specs.System.{Happening, rule_step, Event, System}
 use Rattle.sp_system.specs.Equating.{merging_pairs, unifier_of, merged_system}
 
@@ -93,7 +93,7 @@ unequal s = option_map (unequal_at s) (first_formula inequality_of s.formulas)
 
 -- Action stands: an action that its event has is spent.
 abbrev pub same_action : Action Variable → Action Variable → Bool
-same_action a b = bytes_eq a.symbol b.symbol && same_terms a.args b.args
+same_action a b = bytes_eq a.symbol b.symbol && alike_all a.args b.args
 
 abbrev pub is_among : Action Variable → List (Action Variable) → Bool
 is_among a [] = false
@@ -131,7 +131,7 @@ happening_fresh (rule_step r facts) = fresh_terms facts.premises
 
 abbrev pub stands_in : Term Variable → List (Term Variable) → Bool
 stands_in t [] = false
-stands_in t (u ∷ us) = same_term t u || stands_in t us
+stands_in t (u ∷ us) = alike t u || stands_in t us
 
 abbrev pub share_one : List (Term Variable) → List (Term Variable) → Bool
 share_one [] us = false
@@ -195,7 +195,7 @@ by_rows (row ∷ more_rows) s = first_of (by_row row s) (by_rows more_rows s)
 -- Contradictions. Equal unequal pair: the two terms are the same.
 abbrev pub has_equal_pair : List Pair → Bool
 has_equal_pair [] = false
-has_equal_pair (p ∷ pairs) = same_term p.0 p.1 || has_equal_pair pairs
+has_equal_pair (p ∷ pairs) = alike p.0 p.1 || has_equal_pair pairs
 
 -- Refuted literal: a time is said to differ from itself.
 abbrev pub is_refuted : Guarded → Bool

@@ -2,7 +2,7 @@
 use Rattle.std.proofs.Common.{◌≡◌, ◌⊎◌, ◌<◌, ℕ, zero, suc, List, [], ◌∷◌, map, length, refl, sym, ap, ap₂, ◌∙◌}
 use mathlib.Core.Path.{fun_ext}
 use Rattle.sp_spec.specs.Lists.{Every, Classically}
-use Rattle.sp_spec.specs.Term.{Sort, Variable, Term, var, constant, name, app, Terms, none, more, Ground, Grounds, valued, valued_all}
+use Rattle.sp_spec.specs.Term.{Variable, Term, var, constant, name, app, Terms, none, more, Ground, Grounds, valued, valued_all}
 use Rattle.sp_spec.specs.Signature.{Signature, IsValue}
 use Rattle.sp_spec.specs.Equal.{Equal, IsNormal, AreNormal}
 use Rattle.sp_spec.specs.Rule.{Action, action_at}

@@ -1,9 +1,9 @@
 -- Values of facts.
 use Rattle.std.proofs.Common.{◌≡◌, List, [], ◌∷◌, map, refl, ap, ap₂, sym, ◌∙◌}
 use Rattle.sp_spec.specs.Lists.{Every}
-use Rattle.sp_spec.specs.Term.{Variable, Term, var, constant, name, app, Terms, none, more, Ground, Grounds, Values, valued, valued_all}
+use Rattle.sp_spec.specs.Term.{Variable, Term, var, constant, name, app, Terms, none, more, Values, valued, valued_all}
 use Rattle.sp_spec.specs.Rule.{Fact, Action, Facts, fact_at, action_at, facts_at}
-use Rattle.sp_system.specs.Substitution.{Binding, bound_to, Fixes}
+use Rattle.sp_spec.specs.Substitution.{Binding, bound_to, Fixes}
 use Rattle.sp_system.specs.System.{EachVariable, EachVariables, InFacts}
 use Rattle.sp_system.proofs.Values.{valued-valued, valued_all-valued_all}
 

@@ -1,6 +1,6 @@
 -- Every and membership.
-use Rattle.std.proofs.Common.{◌≡◌, ◌⊎◌, ℕ, zero, suc, List, [], ◌∷◌, ◌++◌, map, inl, inr, sym, subst, refl, Option, Some, slice_get}
-use Rattle.sp_spec.specs.Lists.{Member, Every, AtPlace}
+use Rattle.std.proofs.Common.{◌≡◌, ℕ, zero, suc, List, [], ◌∷◌, ◌++◌, map, inl, inr, subst, refl, Some, slice_get}
+use Rattle.sp_spec.specs.Lists.{Member, Every}
 
 pub every_map : {A B : Type 0} (P : A → Type 0) (Q : B → Type 0) (f : A → B) → ((x : A) → P x → Q (f x)) → (xs : List A) → Every P xs → Every Q (map f xs)
 every_map P Q f h [] e = tt

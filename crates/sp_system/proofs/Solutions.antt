@@ -1,21 +1,21 @@
 -- What keeps a solution: values that agree on the numbers of the system, and replacing that changes no value.
-use Rattle.std.proofs.Common.{◌≡◌, ◌<◌, ◌≤◌, ◌+◌, ℕ, List, [], ◌∷◌, ◌++◌, map, length, refl, sym, ap, ap₂, ◌∙◌, subst, arith, lt_of_lt_of_le}
+use Rattle.std.proofs.Common.{◌≡◌, ◌<◌, ℕ, List, [], ◌∷◌, map, length, refl, sym, ◌∙◌, subst}
 use Rattle.sp_spec.specs.Lists.{Every, AtPosition}
-use Rattle.sp_spec.specs.Term.{Variable, Term, var, Values, valued}
+use Rattle.sp_spec.specs.Term.{Variable, Term, valued}
 use Rattle.sp_spec.specs.Signature.{IsValuation}
 use Rattle.sp_spec.specs.Equal.{IsNormal}
 use Rattle.sp_spec.specs.Rule.{Facts, facts_at}
 use Rattle.sp_spec.specs.Theory.{Theory, signature_of}
-use Rattle.sp_spec.specs.Guarded.{Guarded, GuardedHolds}
-use Rattle.sp_spec.specs.Log.{Log, Entry, step, Source, log_trace}
-use Rattle.sp_system.specs.Substitution.{Binding, bound_to, Fixes}
-use Rattle.sp_system.specs.Unifier.{Pair}
+use Rattle.sp_spec.specs.Guarded.{Guarded}
+use Rattle.sp_spec.specs.Log.{Log, step, log_trace}
+use Rattle.sp_spec.specs.Substitution.{Binding, bound_to, Fixes}
+use Rattle.sp_spec.specs.Unifier.{Pair}
 use Rattle.sp_system.specs.Change.{free_change, changed}
-use Rattle.sp_system.specs.System.{Happening, rule_step, Event, System, Valuation, assignment, HappensAt, HappensIn, Settled, FormulaHolds, AreUnequal, Solves, EachVariable, InFacts, InFormula, InHappening, InEvent, IsNumbered, Agrees, NoneSolved}
+use Rattle.sp_system.specs.System.{Happening, rule_step, Event, System, Valuation, assignment, HappensAt, HappensIn, FormulaHolds, AreUnequal, Solves, EachVariable, InFormula, InHappening, InEvent, IsNumbered, Agrees}
 use Rattle.sp_system.specs.Equating.{happening_changed, event_changed, pair_changed, system_changed}
-use Rattle.sp_system.proofs.Lists.{every_map, every_weaken, every_both}
+use Rattle.sp_system.proofs.Lists.{every_map, every_both}
 use Rattle.sp_system.proofs.Facts.{valued_same, facts_same, fixed_term, fixed_facts}
-use Rattle.sp_system.proofs.Numbers.{each_weaken, facts_weaken, formula_weaken, event_weaken, happening_weaken, PutsIn, changed_in, each_valued, facts_valued}
+use Rattle.sp_system.proofs.Numbers.{each_weaken, facts_weaken, PutsIn, changed_in, each_valued, facts_valued}
 use Rattle.sp_system.proofs.Changing.{Reads, changed_same, settled_same}
 use Rattle.sp_system.proofs.Unchanged.{agree_same, agree_settled}
 

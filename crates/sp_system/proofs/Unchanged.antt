@@ -1,15 +1,14 @@
 -- A change that puts each thing in its own place changes no formula; and so a formula is as true under values that agree on what
 -- stands in it.
-use Rattle.std.proofs.Common.{◌≡◌, ◌<◌, ℕ, zero, suc, List, [], ◌∷◌, map, length, refl, sym, ap, ap₂, ◌∙◌, subst}
-use Rattle.sp_spec.specs.Lists.{Every}
+use Rattle.std.proofs.Common.{◌≡◌, ℕ, zero, suc, List, [], ◌∷◌, map, refl, sym, ap, ap₂, ◌∙◌}
 use Rattle.sp_spec.specs.Term.{Sort, Variable, Term, var, Terms, valued, valued_all}
 use Rattle.sp_spec.specs.Signature.{Signature}
 use Rattle.sp_spec.specs.Rule.{Action, action_at}
 use Rattle.sp_spec.specs.Execution.{Trace}
-use Rattle.sp_spec.specs.Guarded.{Place, free, bound, Time, free_time, bound_time, Binder, message, time, Atom, acts, same, same_time, before, last, Guarded, truth, falsity, holds, fails, all_of, one_of, some, every, Guardeds, no_more, and_then, Assignment, pushed, term_in, GuardedHolds}
+use Rattle.sp_spec.specs.Guarded.{Place, free, bound, Time, free_time, bound_time, Binder, message, time, Atom, acts, same, same_time, before, last, Guarded, truth, falsity, holds, fails, all_of, one_of, some, every, Guardeds, no_more, and_then, Assignment, pushed, GuardedHolds}
 use Rattle.sp_spec.specs.Term as term
-use Rattle.sp_system.specs.Change.{Change, placed, place_changed, time_changed, raised_place, raised, raised_time, under_message, under_time, under, atom_changed, changed, changed_each, free_change}
-use Rattle.sp_system.specs.System.{InFormula, Settled, Valuation, assignment}
+use Rattle.sp_system.specs.Change.{Change, placed, place_changed, time_changed, raised, raised_time, under_message, under_time, under, atom_changed, changed, changed_each, free_change}
+use Rattle.sp_system.specs.System.{InFormula, Settled}
 use Rattle.sp_system.proofs.Facts.{valued_equal, valued_all_equal}
 use Rattle.sp_system.proofs.Changing.{Reads, changed_same, settled_same}
 

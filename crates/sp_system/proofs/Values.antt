@@ -1,5 +1,5 @@
 -- Values of terms.
-use Rattle.std.proofs.Common.{◌≡◌, List, refl, ap, ap₂}
+use Rattle.std.proofs.Common.{◌≡◌, refl, ap, ap₂}
 use Rattle.sp_spec.specs.Term.{Term, var, constant, name, app, Terms, none, more, valued, valued_all}
 
 mutual

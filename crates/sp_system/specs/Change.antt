@@ -1,7 +1,7 @@
 -- What becomes of formulas where variables and times are replaced.
 use Rattle.std.specs.Prelude.{ℕ, zero, suc, List, [], ◌∷◌, map}
-use Rattle.sp_spec.specs.Term.{Variable, Term, var, Terms, valued, valued_all}
-use Rattle.sp_spec.specs.Rule.{Action, action_at}
+use Rattle.sp_spec.specs.Term.{Variable, Term, var, valued}
+use Rattle.sp_spec.specs.Rule.{action_at}
 use Rattle.sp_spec.specs.Guarded.{Place, free, bound, Time, free_time, bound_time, Binder, message, time, Atom, acts, same, same_time, before, last, Guarded, truth, falsity, holds, fails, all_of, one_of, some, every, Guardeds, no_more, and_then, pushed}
 
 -- what stands for the system's variables and times, and for what is bound outside

@@ -1,12 +1,11 @@
 -- Putting terms for variables and one time for another throughout a system, and making two events one.
-use Rattle.std.specs.Prelude.{◌≡◌, ℕ, ◌==◌, ◌&&◌, nat_lt, List, [], ◌∷◌, ◌++◌, map, Bool, true, false, if◌then◌else◌, Option, Some, None, option_map, option_and_then}
+use Rattle.std.specs.Prelude.{ℕ, ◌==◌, ◌&&◌, nat_lt, List, [], ◌∷◌, ◌++◌, map, Bool, true, false, if◌then◌else◌, Option, Some, None, option_map, option_and_then}
 use Rattle.std.specs.Str.{bytes_eq}
-use Rattle.sp_spec.specs.Term.{Variable, Term, var, Terms, none, more, valued}
-use Rattle.sp_spec.specs.Rule.{Fact, Action, Facts, facts_at}
-use Rattle.sp_spec.specs.Guarded.{Guarded}
-use Rattle.sp_system.specs.Substitution.{Binding, bound_to}
-use Rattle.sp_system.specs.Unifier.{Pair, mgu}
-use Rattle.sp_system.specs.Change.{Change, free_change, changed}
+use Rattle.sp_spec.specs.Term.{Variable, Term, Terms, none, more, valued}
+use Rattle.sp_spec.specs.Rule.{Fact, Action, facts_at}
+use Rattle.sp_spec.specs.Substitution.{Binding, bound_to}
+use Rattle.sp_spec.specs.Unifier.{Pair, mgu}
+use Rattle.sp_system.specs.Change.{free_change, changed}
 use Rattle.sp_system.specs.System.{Happening, rule_step, Event, System}
 
 -- the larger of two times is replaced by the smaller

@@ -1,5 +1,3 @@
-pub mod Substitution
-pub mod Unifier
 pub mod Change
 pub mod System
 pub mod Equating

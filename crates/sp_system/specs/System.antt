@@ -2,13 +2,13 @@
 -- Schmidt's thesis, chapter 3; Meier's thesis, chapter 3.
 use Rattle.std.specs.Prelude.{◌≡◌, ◌<◌, ℕ, List, [], ◌∷◌, length}
 use Rattle.sp_spec.specs.Lists.{Every, AtPosition}
-use Rattle.sp_spec.specs.Term.{Sort, Variable, Term, var, constant, name, app, Terms, none, more, Ground, Values, valued, valued_all}
+use Rattle.sp_spec.specs.Term.{Variable, Term, var, constant, name, app, Terms, none, more, Ground, Values, valued}
 use Rattle.sp_spec.specs.Signature.{Signature, IsValue, IsValuation}
 use Rattle.sp_spec.specs.Equal.{IsNormal, AreNormal}
 use Rattle.sp_spec.specs.Rule.{Fact, Action, Facts, facts_at}
 use Rattle.sp_spec.specs.Theory.{Theory, signature_of}
 use Rattle.sp_spec.specs.Guarded.{Place, free, bound, Time, free_time, bound_time, Binder, message, time, Atom, acts, same, same_time, before, last, Guarded, truth, falsity, holds, fails, all_of, one_of, some, every, Guardeds, no_more, and_then, Assignment, with_term, with_time, time_in, term_in, action_in, GuardedHolds}
-use Rattle.sp_spec.specs.Log.{Log, Entry, step, Source, IsLog, log_trace}
+use Rattle.sp_spec.specs.Log.{Log, step, Source, IsLog, log_trace}
 
 -- what happens at an event
 pub data Happening : Type 0 where

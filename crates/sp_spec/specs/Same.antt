@@ -32,3 +32,10 @@ same_term t u = same_by (λ (x y : ⊥). true) t u
 
 abbrev pub same_terms : Grounds → Grounds → Bool
 same_terms ts us = same_all_by (λ (x y : ⊥). true) ts us
+
+-- terms of rules and systems
+abbrev pub alike : Term Variable → Term Variable → Bool
+alike t u = same_by same_variable t u
+
+abbrev pub alike_all : Terms Variable → Terms Variable → Bool
+alike_all ts us = same_all_by same_variable ts us

@@ -3,7 +3,8 @@
 use Rattle.std.specs.Prelude.{◌≡◌, ℕ, zero, suc, ◌+◌, List, [], ◌∷◌, Bool, true, false, not, ◌&&◌, ◌||◌, ◌==◌, nat_lt, if◌then◌else◌, Option, Some, None}
 use Rattle.std.specs.Str.{bytes_eq}
 use Rattle.sp_spec.specs.Term.{Sort, Msg, Fresh, Pub, Variable, Term, var, constant, name, app, Terms, none, more, Values, valued}
-use Rattle.sp_system.specs.Substitution.{Binding, same_variable, bound_to, followed_by}
+use Rattle.sp_spec.specs.Same.{same_variable}
+use Rattle.sp_spec.specs.Substitution.{Binding, bound_to, followed_by}
 
 abbrev pub Pair : Type 0
 Pair = Term Variable × Term Variable

@@ -1,13 +1,10 @@
 -- Substitutions, as lists of bindings.
-use Rattle.std.specs.Prelude.{◌≡◌, List, [], ◌∷◌, ◌++◌, map, Option, Some, None, unwrap_or, ◌&&◌, ◌==◌, Bool, if◌then◌else◌}
-use Rattle.sp_spec.specs.Term.{Variable, Term, var, Ground, Values, valued}
-use Rattle.sp_spec.specs.Destruction.{same_sort}
+use Rattle.std.specs.Prelude.{◌≡◌, List, [], ◌∷◌, ◌++◌, map, Option, Some, None, unwrap_or, if◌then◌else◌}
+use Rattle.sp_spec.specs.Term.{Variable, Term, var, Values, valued}
+use Rattle.sp_spec.specs.Same.{same_variable}
 
 abbrev pub Binding : Type 0
 Binding = Variable × Term Variable
-
-abbrev pub same_variable : Variable → Variable → Bool
-same_variable x y = same_sort x.sort y.sort && (x.number == y.number)
 
 -- what the first binding of a variable gives it
 abbrev pub lookup : List Binding → Variable → Option (Term Variable)

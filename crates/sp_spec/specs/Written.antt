@@ -1,0 +1,96 @@
+-- A theory as a text writes it, before its rules' variables are numbered and their sorts settled, and the theory that it stands for.
+-- Source: Tamarin manual, "Model specification using rules" (sorts of variables, Fr facts).
+use Rattle.std.specs.Prelude.{ℕ, zero, suc, Bool, true, false, ◌&&◌, ◌||◌, if◌then◌else◌, List, [], ◌∷◌, ◌++◌, map, codes}
+use Rattle.std.specs.Str.{bytes_eq}
+use Rattle.sp_spec.specs.Term.{Sort, Msg, Fresh, Pub, Variable, Term, var, constant, name, app, Terms, none, more}
+use Rattle.sp_spec.specs.Rule.{Fact, Action, Facts, Rule, facts_at}
+use Rattle.sp_spec.specs.Formula.{Mark, of_sort, Written}
+use Rattle.sp_spec.specs.Theory.{Restriction, Lemma, Theory}
+
+pub record WrittenRule : Type 0 where
+  pub name : List ℕ
+  pub facts : Facts Written
+
+pub record WrittenTheory : Type 0 where
+  pub name : List ℕ
+  pub rules : List WrittenRule
+  pub restrictions : List Restriction
+  pub lemmas : List Lemma
+
+-- the variables as they stand in terms and facts, from left to right
+abbrev mutual
+  pub in_term : Term Written → List Written
+  in_term (var x) = x ∷ []
+  in_term (constant c) = []
+  in_term (name n) = []
+  in_term (app f ts) = in_terms ts
+
+  pub in_terms : Terms Written → List Written
+  in_terms none = []
+  in_terms (more t ts) = in_term t ++ in_terms ts
+
+abbrev pub in_facts : List (Fact Written) → List Written
+in_facts [] = []
+in_facts (f ∷ fs) = in_terms f.args ++ in_facts fs
+
+abbrev pub in_actions : List (Action Written) → List Written
+in_actions [] = []
+in_actions (a ∷ rest) = in_terms a.args ++ in_actions rest
+
+-- over premises, actions, conclusions
+abbrev pub occurrences : Facts Written → List Written
+occurrences facts = in_facts facts.premises ++ (in_actions facts.actions ++ in_facts facts.conclusions)
+
+-- the argument of a premise Fr is fresh in the whole rule
+abbrev pub is_argument : List ℕ → Terms Written → Bool
+is_argument x (more (var y) none) = bytes_eq y.name x
+is_argument x ts = false
+
+abbrev pub is_fr_argument : List ℕ → List (Fact Written) → Bool
+is_fr_argument x [] = false
+is_fr_argument x (f ∷ fs) = (bytes_eq f.symbol (codes "Fr") && is_argument x f.args) || is_fr_argument x fs
+
+abbrev pub is_marked : Sort → Mark → Bool
+is_marked Fresh (of_sort Fresh) = true
+is_marked Pub (of_sort Pub) = true
+is_marked sort mark = false
+
+abbrev pub is_written : Sort → List ℕ → List Written → Bool
+is_written sort x [] = false
+is_written sort x (y ∷ ys) = (bytes_eq y.name x && is_marked sort y.mark) || is_written sort x ys
+
+abbrev pub sort_in : Facts Written → List ℕ → Sort
+sort_in facts x =
+    if is_fr_argument x facts.premises || is_written Fresh x (occurrences facts) then Fresh
+    else if is_written Pub x (occurrences facts) then Pub
+    else Msg
+
+-- the names, each once, in first-seen order
+abbrev pub is_listed : List ℕ → List (List ℕ) → Bool
+is_listed x [] = false
+is_listed x (y ∷ ys) = bytes_eq y x || is_listed x ys
+
+abbrev pub names_after : List (List ℕ) → List Written → List (List ℕ)
+names_after seen [] = seen
+names_after seen (x ∷ xs) = names_after (if is_listed x.name seen then seen else seen ++ x.name ∷ []) xs
+
+abbrev pub rule_names : Facts Written → List (List ℕ)
+rule_names facts = names_after [] (occurrences facts)
+
+-- the place of a name
+abbrev pub place_of : List ℕ → List (List ℕ) → ℕ
+place_of x [] = zero
+place_of x (y ∷ ys) = if bytes_eq y x then zero else suc (place_of x ys)
+
+abbrev pub numbered_in : Facts Written → Written → Term Variable
+numbered_in facts x = var (record { sort = sort_in facts x.name; number = place_of x.name (rule_names facts) })
+
+abbrev pub rule_of : WrittenRule → Rule
+rule_of r = record {
+  name = r.name;
+  variables = map (λ x. record { name = x; sort = sort_in r.facts x }) (rule_names r.facts);
+  facts = facts_at (numbered_in r.facts) r.facts;
+}
+
+abbrev pub theory_of : WrittenTheory → Theory
+theory_of t = record { symbols = []; equations = []; rules = map rule_of t.rules; restrictions = t.restrictions; lemmas = t.lemmas }
