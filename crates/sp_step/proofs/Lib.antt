@@ -1,3 +1,6 @@
 pub mod Freed
 pub mod Spending
 pub mod Literals
+pub mod Opening
+pub mod Opened
+pub mod OpenedNumbers

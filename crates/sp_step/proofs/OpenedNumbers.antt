@@ -1,0 +1,104 @@
+-- Opening an existential formula takes new numbers alone.
+use Rattle.std.proofs.Common.{◌≡◌, ◌≤◌, ◌<◌, ◌+◌, ℕ, zero, suc, List, [], ◌∷◌, ◌++◌, map, length, Option, Some, refl, sym, ap, ◌∙◌, subst, arith, lt_of_lt_of_le}
+use Rattle.sp_spec.specs.Lists.{Every}
+use Rattle.sp_spec.specs.Term.{Sort, Variable, Term, var}
+use Rattle.sp_spec.specs.Guarded.{Place, free, bound, Time, free_time, bound_time, Binder, message, time, Atom, Guarded, truth, falsity, holds, fails, all_of, one_of, some, every, pushed}
+use Rattle.sp_spec.specs.Unifier.{Pair}
+use Rattle.sp_system.specs.Change.{Change, atom_changed, changed, opened, opening, free_change}
+use Rattle.sp_system.specs.System.{Event, System, EachVariable, AtFree, AtFreeTime, InAtom, InFormula, InEvent, IsNumbered}
+use Rattle.sp_system.proofs.Lists.{every_append, every_weaken}
+use Rattle.sp_system.proofs.Numbers.{PutsIn, atom_changed_in, changed_in, formula_weaken, event_weaken, each_weaken}
+use Rattle.sp_system.proofs.Solutions.{Under, TimeUnder}
+use Rattle.sp_step.specs.Rows.{Found, first_formula, spending, Existential, existential_of, opened_at, open_existential}
+use Rattle.sp_step.proofs.Freed.{mapped}
+use Rattle.sp_step.proofs.Spending.{IsFound, is_found, found_holds, spending_numbered}
+
+pub weaken_numbered : (s t : System) (n : ℕ) → s.next ≤ n → t.events ≡ s.events → t.formulas ≡ s.formulas → t.spent ≡ s.spent → t.unequal ≡ s.unequal → t.next ≡ n → IsNumbered s → IsNumbered t
+weaken_numbered s t n le e f p u x k = record {
+  events = subst (λ (m : ℕ). Every (InEvent (Under m) (TimeUnder m)) t.events) (sym x) (subst (Every (InEvent (Under n) (TimeUnder n))) (sym e) (every_weaken _ _ (event_weaken _ _ _ _ (λ y h. lt_of_lt_of_le h le) (λ i h. lt_of_lt_of_le h le)) s.events k.events));
+  formulas = subst (λ (m : ℕ). Every (InFormula (Under m) (TimeUnder m)) t.formulas) (sym x) (subst (Every (InFormula (Under n) (TimeUnder n))) (sym f) (every_weaken _ _ (formula_weaken _ _ _ _ (λ y h. lt_of_lt_of_le h le) (λ i h. lt_of_lt_of_le h le)) s.formulas k.formulas));
+  spent = subst (λ (m : ℕ). Every (InFormula (Under m) (TimeUnder m)) t.spent) (sym x) (subst (Every (InFormula (Under n) (TimeUnder n))) (sym p) (every_weaken _ _ (formula_weaken _ _ _ _ (λ y h. lt_of_lt_of_le h le) (λ i h. lt_of_lt_of_le h le)) s.spent k.spent));
+  unequal = subst (λ (m : ℕ). Every (λ (q : Pair). EachVariable (Under m) q.0 × EachVariable (Under m) q.1) t.unequal) (sym x)
+      (subst (Every (λ (q : Pair). EachVariable (Under n) q.0 × EachVariable (Under n) q.1)) (sym u) (every_weaken _ _ (λ q b. (each_weaken (Under s.next) (Under n) (λ y h. lt_of_lt_of_le h le) q.0 b.0, each_weaken (Under s.next) (Under n) (λ y h. lt_of_lt_of_le h le) q.1 b.1)) s.unequal k.unequal));
+}
+
+module _ (base : ℕ) where
+  abbrev Puts : ℕ → Change → Type 0
+  Puts next c = PutsIn (Under base) (Under next) (TimeUnder base) (TimeUnder next) c
+
+  more_place : (n : ℕ) (t : Term Place) → EachVariable (AtFree (Under n)) t → EachVariable (AtFree (Under (suc n))) t
+  more_place n t b = each_weaken (AtFree (Under n)) (AtFree (Under (suc n))) at t b
+    where
+      at : (p : Place) → AtFree (Under n) p → AtFree (Under (suc n)) p
+      at (free x) h = omega (arith, h)
+      at (bound k) h = tt
+
+  more_time : (n : ℕ) (i : Time) → AtFreeTime (TimeUnder n) i → AtFreeTime (TimeUnder (suc n)) i
+  more_time n (free_time i) b = omega (arith, b)
+  more_time n (bound_time k) b = tt
+
+  more_puts : (n : ℕ) (c : Change) → Puts n c → Puts (suc n) c
+  more_puts n c h = record {
+    terms = λ x k. each_weaken (Under n) (Under (suc n)) (λ y l. omega (arith, l)) (c.terms x) (h.terms x k);
+    times = λ i k. let l = h.times i k in omega (arith, l);
+    bound_terms = λ k. more_place n (c.bound_terms k) (h.bound_terms k);
+    bound_times = λ k. more_time n (c.bound_times k) (h.bound_times k);
+  }
+
+  opened_puts : (bs : List Binder) (next : ℕ) (c : Change) → Puts next c → Puts (next + length bs) (opened bs next c)
+  opened_puts [] next c h = subst (λ (n : ℕ). Puts n c) (omega arith) h
+  opened_puts (message sort ∷ bs) next c h =
+      let d : Change = record { terms = c.terms; times = c.times; bound_terms = pushed (var (free (record { sort = sort; number = next }))) c.bound_terms; bound_times = c.bound_times } in
+      let m = more_puts next c h in
+      let k : Puts (suc next) d = record { terms = m.terms; times = m.times; bound_terms = terms m; bound_times = m.bound_times } in
+      subst (λ (n : ℕ). Puts n (opened bs (suc next) d)) (omega arith) (opened_puts bs (suc next) d k)
+    where
+      terms : Puts (suc next) c → (j : ℕ) → EachVariable (AtFree (Under (suc next))) (pushed (var (free (record { sort = sort; number = next }))) c.bound_terms j)
+      terms m zero = omega arith
+      terms m (suc j) = m.bound_terms j
+  opened_puts (time ∷ bs) next c h =
+      let d : Change = record { terms = c.terms; times = c.times; bound_terms = c.bound_terms; bound_times = pushed (free_time next) c.bound_times } in
+      let m = more_puts next c h in
+      let k : Puts (suc next) d = record { terms = m.terms; times = m.times; bound_terms = m.bound_terms; bound_times = times m } in
+      subst (λ (n : ℕ). Puts n (opened bs (suc next) d)) (omega arith) (opened_puts bs (suc next) d k)
+    where
+      times : Puts (suc next) c → (j : ℕ) → AtFreeTime (TimeUnder (suc next)) (pushed (free_time next) c.bound_times j)
+      times m zero = omega arith
+      times m (suc j) = m.bound_times j
+
+  opening_puts : (bs : List Binder) → Puts (base + length bs) (opening bs base)
+  opening_puts bs = opened_puts bs base (free_change var (λ i. i)) (record { terms = λ x k. k; times = λ i k. k; bound_terms = λ k. tt; bound_times = λ k. tt })
+
+found_in : (P : Variable → Type 0) (Q : ℕ → Type 0) (f : Guarded) (e : Existential) → existential_of f ≡ Some e → InFormula P Q f → Every (InAtom P Q) e.guard × InFormula P Q e.body
+found_in P Q (some bs guard f) e h k =
+    let d : Existential = record { binders = bs; guard = guard; body = f } in
+    let g : d ≡ e = cc in
+    subst (λ (x : Existential). Every (InAtom P Q) x.guard × InFormula P Q x.body) g k
+found_in P Q truth e h k = absurd cc
+found_in P Q falsity e h k = absurd cc
+found_in P Q (holds a) e h k = absurd cc
+found_in P Q (fails a) e h k = absurd cc
+found_in P Q (all_of fs) e h k = absurd cc
+found_in P Q (one_of fs) e h k = absurd cc
+found_in P Q (every bs guard f) e h k = absurd cc
+
+atoms_in : (P P' : Variable → Type 0) (Q Q' : ℕ → Type 0) (c : Change) → PutsIn P P' Q Q' c → (atoms : List Atom) → Every (InAtom P Q) atoms → Every (InFormula P' Q') (map (λ a. holds (atom_changed c a)) atoms)
+atoms_in P P' Q Q' c h [] k = tt
+atoms_in P P' Q Q' c h (a ∷ atoms) k = (atom_changed_in P P' Q Q' c h a k.0, atoms_in P P' Q Q' c h atoms k.1)
+
+pub open_existential_numbered : (s t : System) → open_existential s ≡ Some t → IsNumbered s → IsNumbered t × (s.next ≤ t.next)
+open_existential_numbered s t e n =
+    let q = mapped (opened_at s) (first_formula existential_of s.formulas) t e in
+    let r = q.0 in
+    let next = s.next + length r.picked.binders in
+    let found = is_found existential_of s.formulas r q.1 in
+    let i = found_in (Under s.next) (TimeUnder s.next) r.formula r.picked found.picks (found_holds existential_of s.formulas r found (InFormula (Under s.next) (TimeUnder s.next)) n.formulas) in
+    let wide : System = record { events = s.events; formulas = s.formulas; spent = s.spent; unequal = s.unequal; next = next } in
+    let m : IsNumbered wide = weaken_numbered s wide next (omega arith) refl refl refl refl refl n in
+    let c = opening r.picked.binders s.next in
+    let puts = opening_puts s.next r.picked.binders in
+    let new = every_append (InFormula (Under next) (TimeUnder next)) (map (λ a. holds (atom_changed c a)) r.picked.guard) (changed c r.picked.body ∷ [])
+        (atoms_in _ _ _ _ c puts r.picked.guard i.0) (changed_in _ _ _ _ c puts r.picked.body i.1, tt) in
+    let k = spending_numbered existential_of wide r found (map (λ a. holds (atom_changed c a)) r.picked.guard ++ changed c r.picked.body ∷ []) new m in
+    let P : System → Type 0 = λ w. IsNumbered w × (s.next ≤ w.next) in
+    subst P (sym q.2) (record { events = k.events; formulas = k.formulas; spent = k.spent; unequal = k.unequal }, omega arith)
