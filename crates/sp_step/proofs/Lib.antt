@@ -4,3 +4,4 @@ pub mod Literals
 pub mod Opening
 pub mod Opened
 pub mod OpenedNumbers
+pub mod FreshOnce

@@ -121,7 +121,7 @@ unequal_numbered s t e n =
     )
 
 -- Contradictions. Two like terms have one value.
-alike_same : (t u : Term Variable) → alike t u ≡ true → t ≡ u
+pub alike_same : (t u : Term Variable) → alike t u ≡ true → t ≡ u
 alike_same t u e = (same_by_decides _ same_variable_decides t u).0 e
 
 pub equal_pair_contradicts : (theory : Theory) (v : Valuation) (pairs : List Pair) → has_equal_pair pairs ≡ true → Every (AreUnequal theory v) pairs → ⊥

@@ -5,3 +5,4 @@ pub mod Numbers
 pub mod Facts
 pub mod Unchanged
 pub mod Solutions
+pub mod Merging

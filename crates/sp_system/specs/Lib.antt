@@ -1,3 +1,4 @@
 pub mod Change
 pub mod System
 pub mod Equating
+pub mod Laws
