@@ -13,7 +13,7 @@ use Rattle.sp_spec.specs.Log.{Log, Entry, step, Source, IsLog, is_fr, first_arg,
 use Rattle.sp_system.specs.System.{Happening, rule_step, Event, System, Valuation, HappensAt, HappensIn, Solves, EachVariable, InFacts, InHappening, InEvent, IsNumbered, Covers}
 use Rattle.sp_system.specs.Laws.{UnifierIsRight, PairsUnder}
 use Rattle.sp_system.specs.Equating.{time_replaced, merging_pairs, unifier_of, smaller, larger, merged_system}
-use Rattle.sp_system.proofs.Merging.{Paired, merging_paired}
+use Rattle.sp_system.proofs.Merging.{Paired, merging_paired, OptionUnder, merging_under}
 use Rattle.sp_system.proofs.Solutions.{Under, TimeUnder, change_solves, change_numbered}
 use Rattle.sp_step.specs.Rows.{first_term, fresh_terms, happening_fresh, stands_in, share_one, Twins, twin_behind, twin_of, twins_from, first_twins, merged_twins, fresh_once, fails_to_merge}
 use Rattle.sp_step.proofs.Freed.{mapped, then_some}
@@ -225,3 +225,23 @@ module _ (right : UnifierIsRight) (theory : Theory) where
       subst (Solves theory log v) (sym u.2)
       (change_solves theory log v u.0 fixes (time_replaced (smaller r.first.time r.second.time) (larger r.first.time r.second.time)) (replaced_same v.times r.first.time r.second.time p.0) rest rest_numbered rest_solved))
 
+
+-- what the unifier of pairs below the limit puts in is below the limit
+pub unifier_within : UnifierIsRight → (n : ℕ) (o : Option (List Pair)) (bs : List Binding) → unifier_of o ≡ Some bs → OptionUnder n o → (x : Variable) → Under n x → EachVariable (Under n) (bound_to bs x)
+unifier_within right n None bs e u x h = absurd cc
+unifier_within right n (Some pairs) bs e u x h = right.within pairs bs e n u x h
+
+pub fresh_once_numbered : UnifierIsRight → (s t : System) → fresh_once s ≡ Some t → IsNumbered s → IsNumbered t × (s.next ≤ t.next)
+fresh_once_numbered right s t e n =
+    let q = then_some (merged_twins s) (first_twins s.events) t e in
+    let r = q.0 in
+    let u = mapped (merged_system s r.others r.first r.second) (unifier_of (merging_pairs r.first.happening r.second.happening)) t q.2 in
+    let i = twins_are (InEvent (Under s.next) (TimeUnder s.next)) s.events r q.1 n.events in
+    let within = unifier_within right s.next (merging_pairs r.first.happening r.second.happening) u.0 u.1 (merging_under s.next r.first.happening r.second.happening i.first.1 i.second.1) in
+    let rest : System = record { events = r.others; formulas = s.formulas; spent = s.spent; unequal = s.unequal; next = s.next } in
+    let rest_numbered : IsNumbered rest = record { events = i.others; formulas = n.formulas; spent = n.spent; unequal = n.unequal } in
+    let P : System → Type 0 = λ w. IsNumbered w × (s.next ≤ w.next) in
+    subst P (sym u.2) (
+      change_numbered s.next u.0 within (time_replaced (smaller r.first.time r.second.time) (larger r.first.time r.second.time)) (replaced_under s.next r.first.time r.second.time i.first.0 i.second.0) rest refl rest_numbered,
+      le_refl s.next,
+    )

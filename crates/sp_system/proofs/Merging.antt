@@ -93,3 +93,50 @@ merging_paired v n r q f g a b named e =
     let s = actions_paired v n f.actions g.actions a.actions b.actions (ap (λ (x : Facts ⊥). x.actions) e) in
     let c = fact_paired v n f.conclusions g.conclusions a.conclusions b.conclusions (ap (λ (x : Facts ⊥). x.conclusions) e) in
     rw (same_text r q named) (both_paired v n _ _ p (both_paired v n _ _ s c))
+
+-- The pairs' variables are those of the facts.
+abbrev pub OptionUnder : ℕ → Option (List Pair) → Type 0
+OptionUnder n None = Unit {0}
+OptionUnder n (Some pairs) = PairsUnder n pairs
+
+both_under : (n : ℕ) (o u : Option (List Pair)) → OptionUnder n o → OptionUnder n u → OptionUnder n (both_pairs o u)
+both_under n None u a b = tt
+both_under n (Some ps) None a b = tt
+both_under n (Some ps) (Some qs) a b = every_append _ ps qs a b
+
+if_under : (n : ℕ) (b : Bool) (o : Option (List Pair)) → OptionUnder n o → OptionUnder n (if b then o else None)
+if_under n true o a = a
+if_under n false o a = tt
+
+one_more_under : (n : ℕ) (p : Pair) (o : Option (List Pair)) → PairsUnder n (p ∷ []) → OptionUnder n o → OptionUnder n (option_map (λ (pairs : List Pair). p ∷ pairs) o)
+one_more_under n p None h k = tt
+one_more_under n p (Some ps) h k = (h.0, k)
+
+argument_under : (n : ℕ) (ts us : Terms Variable) → EachVariables (Under n) ts → EachVariables (Under n) us → OptionUnder n (argument_pairs ts us)
+argument_under n none none a b = tt
+argument_under n none (more u us) a b = tt
+argument_under n (more t ts) none a b = tt
+argument_under n (more t ts) (more u us) a b = one_more_under n (t, u) (argument_pairs ts us) ((a.0, b.0), tt) (argument_under n ts us a.1 b.1)
+
+fact_under : (n : ℕ) (fs gs : List (Fact Variable)) → Every (λ (f : Fact Variable). EachVariables (Under n) f.args) fs → Every (λ (f : Fact Variable). EachVariables (Under n) f.args) gs → OptionUnder n (fact_pairs fs gs)
+fact_under n [] [] a b = tt
+fact_under n [] (g ∷ gs) a b = tt
+fact_under n (f ∷ fs) [] a b = tt
+fact_under n (f ∷ fs) (g ∷ gs) a b =
+    if_under n (bytes_eq f.symbol g.symbol && same_flag f.persistent g.persistent) (both_pairs (argument_pairs f.args g.args) (fact_pairs fs gs))
+    (both_under n (argument_pairs f.args g.args) (fact_pairs fs gs) (argument_under n f.args g.args a.0 b.0) (fact_under n fs gs a.1 b.1))
+
+pub action_under : (n : ℕ) (a b : Action Variable) → EachVariables (Under n) a.args → EachVariables (Under n) b.args → OptionUnder n (action_pair a b)
+action_under n a b h k = if_under n (bytes_eq a.symbol b.symbol) (argument_pairs a.args b.args) (argument_under n a.args b.args h k)
+
+actions_under : (n : ℕ) (xs ys : List (Action Variable)) → Every (λ (a : Action Variable). EachVariables (Under n) a.args) xs → Every (λ (a : Action Variable). EachVariables (Under n) a.args) ys → OptionUnder n (action_pairs xs ys)
+actions_under n [] [] a b = tt
+actions_under n [] (y ∷ ys) a b = tt
+actions_under n (x ∷ xs) [] a b = tt
+actions_under n (x ∷ xs) (y ∷ ys) a b = both_under n (action_pair x y) (action_pairs xs ys) (action_under n x y a.0 b.0) (actions_under n xs ys a.1 b.1)
+
+pub merging_under : (n : ℕ) (a b : Happening) → InHappening (Under n) a → InHappening (Under n) b → OptionUnder n (merging_pairs a b)
+merging_under n (rule_step r f) (rule_step q g) a b =
+    if_under n (bytes_eq r q) (both_pairs (fact_pairs f.premises g.premises) (both_pairs (action_pairs f.actions g.actions) (fact_pairs f.conclusions g.conclusions)))
+    (both_under n (fact_pairs f.premises g.premises) (both_pairs (action_pairs f.actions g.actions) (fact_pairs f.conclusions g.conclusions)) (fact_under n f.premises g.premises a.premises b.premises)
+    (both_under n (action_pairs f.actions g.actions) (fact_pairs f.conclusions g.conclusions) (actions_under n f.actions g.actions a.actions b.actions) (fact_under n f.conclusions g.conclusions a.conclusions b.conclusions)))
