@@ -5,3 +5,4 @@ pub mod Opening
 pub mod Opened
 pub mod OpenedNumbers
 pub mod FreshOnce
+pub mod Simplifying

@@ -1,0 +1,89 @@
+-- Each row covers, a contradiction has no solution, and so simplification covers.
+use Rattle.std.proofs.Common.{◌≡◌, ◌⊎◌, ◌≤◌, ◌<◌, ℕ, zero, suc, Bool, true, false, ◌||◌, List, [], ◌∷◌, Option, Some, None, refl, sym, ap, ◌∙◌, subst, arith, ⊎_elim, le_refl, le_trans, lt_of_lt_of_le}
+use Rattle.std.proofs.lemmas.Bool.{or_cases}
+use Rattle.sp_spec.specs.Theory.{Theory, signature_of}
+use Rattle.sp_spec.specs.Log.{Log, IsLog}
+use Rattle.sp_law_equal.specs.Convergent.{AreConvergent, KeepSymbols}
+use Rattle.sp_system.specs.System.{System, Valuation, Solves, IsNumbered, Agrees, NoneSolved, Covers}
+use Rattle.sp_system.specs.Laws.{UnifierIsRight}
+use Rattle.sp_step.specs.Rows.{Row, row_open, row_unequal, row_action_stands, row_fresh_once, rows, by_row, first_of, by_rows, has_equal_pair, has_refuted, fails_to_merge, first_twins, is_contradictory, goes_on, simplified_by}
+use Rattle.sp_step.specs.Laws.{HasNoSolution, ContradictionsHold, RowsCover}
+use Rattle.sp_step.proofs.Literals.{agrees_itself, action_stands_covers, action_stands_numbered, unequal_covers, unequal_numbered, equal_pair_contradicts, some_refuted_contradicts}
+use Rattle.sp_step.proofs.FreshOnce.{merge_contradicts, fresh_once_covers, fresh_once_numbered}
+use Rattle.sp_step.proofs.Opened.{EqualTruth, open_existential_covers}
+use Rattle.sp_step.proofs.OpenedNumbers.{open_existential_numbered}
+
+agrees_on : (n k : ℕ) (u v w : Valuation) → n ≤ k → Agrees n u v → Agrees k v w → Agrees n u w
+agrees_on n k u v w le a b = record {
+  terms = λ x h. b.terms x (lt_of_lt_of_le h le) ∙ a.terms x h;
+  times = λ i h. b.times i (lt_of_lt_of_le h le) ∙ a.times i h;
+}
+
+-- one case after another
+pub covers_then : (theory : Theory) (s t : System) (cs : List System) → s.next ≤ t.next → Covers theory s (t ∷ []) → Covers theory t cs → Covers theory s cs
+covers_then theory s t cs le a b = record {
+  covers = λ log is v h none. a.covers log is v h ((λ w ag k. b.covers log is w k (moved log v w ag cs none)), tt);
+}
+  where
+    moved : (log : Log) (v w : Valuation) → Agrees s.next v w → (cs : List System) → NoneSolved theory log v s.next cs → NoneSolved theory log w t.next cs
+    moved log v w ag [] none = tt
+    moved log v w ag (c ∷ cs) none = ((λ x b k. none.0 x (agrees_on s.next t.next v w x le ag b) k), moved log v w ag cs none.1)
+
+pub covers_itself : (theory : Theory) (s : System) → Covers theory s (s ∷ [])
+covers_itself theory s = record { covers = λ log is v h none. none.0 v (agrees_itself s.next v) h }
+
+module _ (right : UnifierIsRight) (theory : Theory) (good : AreConvergent (signature_of theory).equations) (keeps : KeepSymbols (signature_of theory).symbols (signature_of theory).equations) (equal_truth : EqualTruth) where
+  row_numbered : (row : Row) (s t : System) → by_row row s ≡ Some t → IsNumbered s → IsNumbered t × (s.next ≤ t.next)
+  row_numbered row_open s t e n = open_existential_numbered s t e n
+  row_numbered row_unequal s t e n = unequal_numbered s t e n
+  row_numbered row_action_stands s t e n = action_stands_numbered s t e n
+  row_numbered row_fresh_once s t e n = fresh_once_numbered right s t e n
+
+  row_covers : (row : Row) (s t : System) → by_row row s ≡ Some t → IsNumbered s → Covers theory s (t ∷ [])
+  row_covers row_open s t e n = open_existential_covers theory good keeps equal_truth s t e n
+  row_covers row_unequal s t e n = unequal_covers theory s t e
+  row_covers row_action_stands s t e n = action_stands_covers theory s t e
+  row_covers row_fresh_once s t e n = fresh_once_covers right theory s t e n
+
+  pub rows_cover : RowsCover theory
+  rows_cover = record { numbered = row_numbered; covers = row_covers }
+
+  no_solution : (s : System) → is_contradictory s ≡ true → IsNumbered s → HasNoSolution theory s
+  no_solution s e n log is v h =
+      ⊎_elim
+      (λ k. equal_pair_contradicts theory v s.unequal k h.unequal)
+      (λ k. ⊎_elim
+        (λ l. some_refuted_contradicts theory log v s.formulas l h.formulas)
+        (λ l. merge_contradicts right theory s l n log is v h)
+        (or_cases (has_refuted s.formulas) (fails_to_merge s (first_twins s.events)) k))
+      (or_cases (has_equal_pair s.unequal) (has_refuted s.formulas || fails_to_merge s (first_twins s.events)) e)
+
+  pub contradictions_hold : ContradictionsHold theory
+  contradictions_hold = record { no_solution = no_solution }
+
+  abbrev Follows : System → System → Type 0
+  Follows s t = (IsNumbered t × (s.next ≤ t.next)) × Covers theory s (t ∷ [])
+
+  some_row : (list : List Row) (s t : System) → by_rows list s ≡ Some t → IsNumbered s → Follows s t
+  some_row [] s t e n = absurd cc
+  some_row (row ∷ list) s t e n = at (by_row row s) refl e (λ k. some_row list s t k n)
+    where
+      at : (o : Option System) → by_row row s ≡ o → first_of o (by_rows list s) ≡ Some t → (by_rows list s ≡ Some t → Follows s t) → Follows s t
+      at (Some u) h k later =
+          let g : u ≡ t = cc in
+          let r : by_row row s ≡ Some t = h ∙ ap (λ (x : System). Some x) g in
+          (row_numbered row s t r n, row_covers row s t r n)
+      at None h k later = later k
+
+  pub simplified_follows : (fuel : ℕ) (s : System) → IsNumbered s → Follows s (simplified_by fuel s)
+  unfolding simplified_by
+  simplified_follows zero s n = ((n, le_refl s.next), covers_itself theory s)
+  simplified_follows (suc fuel) s n = at (is_contradictory s) (by_rows rows s) refl (λ t k. simplified_follows fuel t k)
+    where
+      at : (b : Bool) (o : Option System) → by_rows rows s ≡ o → ((t : System) → IsNumbered t → Follows t (simplified_by fuel t)) → Follows s (goes_on b o (simplified_by fuel) s)
+      at true o h later = ((n, le_refl s.next), covers_itself theory s)
+      at false None h later = ((n, le_refl s.next), covers_itself theory s)
+      at false (Some t) h later =
+          let f = some_row rows s t h n in
+          let g = later t f.0.0 in
+          ((g.0.0, le_trans f.0.1 g.0.1), covers_then theory s t (simplified_by fuel t ∷ []) f.0.1 f.1 g.1)
