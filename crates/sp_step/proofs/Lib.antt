@@ -6,3 +6,5 @@ pub mod Opened
 pub mod OpenedNumbers
 pub mod FreshOnce
 pub mod Simplifying
+pub mod Entries
+pub mod Actions

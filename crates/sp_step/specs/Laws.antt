@@ -1,9 +1,12 @@
 -- What the written rules owe.
 use Rattle.std.specs.Prelude.{◌≡◌, ◌<◌, ◌≤◌, List, map, length, Some, true, [], ◌∷◌}
 use Rattle.sp_spec.specs.Lists.{Every}
-use Rattle.sp_spec.specs.Rule.{Rule}
+use Rattle.sp_spec.specs.Term.{Variable}
+use Rattle.sp_spec.specs.Signature.{Equation}
+use Rattle.sp_spec.specs.Rule.{Fact, Action, Facts, Rule}
 use Rattle.sp_spec.specs.Theory.{Theory}
 use Rattle.sp_spec.specs.Log.{Log, IsLog}
+use Rattle.sp_law_equal.specs.Convergent.{ArePlain}
 use Rattle.sp_system.specs.System.{System, Valuation, Solves, InFacts, IsNumbered, Covers}
 use Rattle.sp_step.specs.Rows.{Row, by_row, is_contradictory}
 use Rattle.sp_step.specs.Moves.{Move, unproved, Case, cases}
@@ -11,6 +14,15 @@ use Rattle.sp_step.specs.Moves.{Move, unproved, Case, cases}
 -- a rule's variables have the numbers below the length of their list
 abbrev pub RulesAreNumbered : List Rule → Type 0
 RulesAreNumbered rules = Every (λ (r : Rule). InFacts (λ x. x.number < length r.variables) r.facts) rules
+
+-- no destructor stands in a rule, so that the facts of a rule under normal values are normal
+pub record FactsArePlain (es : List Equation) (facts : Facts Variable) : Type 0 where
+  pub premises : Every (λ (f : Fact Variable). ArePlain es f.args) facts.premises
+  pub actions : Every (λ (a : Action Variable). ArePlain es a.args) facts.actions
+  pub conclusions : Every (λ (f : Fact Variable). ArePlain es f.args) facts.conclusions
+
+abbrev pub RulesArePlain : List Equation → List Rule → Type 0
+RulesArePlain es rules = Every (λ (r : Rule). FactsArePlain es r.facts) rules
 
 -- no log of the theory solves the system
 abbrev pub HasNoSolution : Theory → System → Type 0

@@ -1,6 +1,6 @@
 -- The moves of a proof and their cases. Source: CSF 2012, "Constraint solving" (case distinctions on the rules that may have done
 -- an action); Tamarin manual, "Constraint solving". Case names and their order are this project's own.
-use Rattle.std.specs.Prelude.{ℕ, suc, ◌+◌, ◌==◌, if◌then◌else◌, List, [], ◌∷◌, ◌++◌, map, length, Option, Some, None, option_map, is_some, slice_get, codes, decimal}
+use Rattle.std.specs.Prelude.{ℕ, suc, ◌+◌, ◌==◌, ◌||◌, Bool, if◌then◌else◌, List, [], ◌∷◌, ◌++◌, map, length, Option, Some, None, option_map, is_some, slice_get, codes, decimal, bytes_eq}
 use Rattle.sp_spec.specs.Term.{Variable, var}
 use Rattle.sp_spec.specs.Rule.{Action, Facts, Rule, facts_at}
 use Rattle.sp_spec.specs.Guarded.{Guarded, holds, acts, free_time}
@@ -82,9 +82,13 @@ abbrev pub action_at_time : List Rule → System → ℕ → Option (Action Vari
 action_at_time rules s i None = None
 action_at_time rules s i (Some a) = Some (action_cases rules s i a (event_at i s.events))
 
+-- the adversary's actions are no instance as long as systems have no events of the adversary
+abbrev pub is_adversary : List ℕ → Bool
+is_adversary symbol = bytes_eq symbol (codes "K") || bytes_eq symbol (codes "KU")
+
 -- an action at its event: each of the event's own actions, or a new step of some rule
 abbrev pub solving_action : List Rule → System → Option Guarded → Option (List Case)
-solving_action rules s (Some (holds (acts a (free_time i)))) = action_at_time rules s i (freed_action a)
+solving_action rules s (Some (holds (acts a (free_time i)))) = if is_adversary a.symbol then None else action_at_time rules s i (freed_action a)
 solving_action rules s f = None
 
 -- the cases of a move before they are simplified; none where it is no instance
