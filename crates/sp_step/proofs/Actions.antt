@@ -61,7 +61,7 @@ at_event_systems s a n (b ∷ bs) =
 
 module _ (right : UnifierIsRight) (theory : Theory) (log : Log) where
   -- the values of an instance of one action of a list solve the case for it
-  by_actions_solved : (s : System) (base : ℕ) (v w : Valuation) → Agrees base v w → IsNumbered s → Solves theory log w s → (a : Action Variable) (bs : List (Action Variable))
+  pub by_actions_solved : (s : System) (base : ℕ) (v w : Valuation) → Agrees base v w → IsNumbered s → Solves theory log w s → (a : Action Variable) (bs : List (Action Variable))
       → EachVariables (Under s.next) a.args → Every (λ (b : Action Variable). EachVariables (Under s.next) b.args) bs
       → (b : Action Variable) → Member b bs → action_at w.terms a ≡ action_at w.terms b → NoneSolved theory log v base (by_actions s a bs) → ⊥
   by_actions_solved s base v w ag n h a [] ia ib b m e none = m

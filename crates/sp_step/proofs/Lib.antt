@@ -8,3 +8,4 @@ pub mod FreshOnce
 pub mod Simplifying
 pub mod Entries
 pub mod Actions
+pub mod ActionCovers
