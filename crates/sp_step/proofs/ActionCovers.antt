@@ -32,7 +32,7 @@ use Rattle.sp_step.proofs.Literals.{agrees_itself}
 use Rattle.sp_step.proofs.Entries.{traced, IsStepOf, entry_is_step, step_action_normal, same_normal_action, plain_step, beside, beside_agrees}
 use Rattle.sp_step.proofs.Actions.{named_systems, systems_append, at_event_systems, by_actions_solved, step_numbered, step_solved}
 
-event_found : (i : ℕ) (es : List Event) (e : Event) → event_at i es ≡ Some e → Member e es × (e.time ≡ i)
+pub event_found : (i : ℕ) (es : List Event) (e : Event) → event_at i es ≡ Some e → Member e es × (e.time ≡ i)
 event_found i [] e h = absurd cc
 event_found i (d ∷ es) e h = at (nat_eq d.time i) refl h (λ k. event_found i es e k)
   where
@@ -73,7 +73,7 @@ module _ (right : UnifierIsRight) (theory : Theory) (good : AreConvergent (signa
     same_symbol = let e = freed_action_value (assignment v) f a freed in ap (λ (x : Action ⊥). x.symbol) e
 
     -- at the event's time
-    at_event_solved : (e : Event) → Member e s.events → e.time ≡ i → (shown : Action ⊥) → (p : ℕ) → p ≡ v.times i → (actions : List (Action ⊥)) → AtPosition (log_trace log) p actions → Member shown actions
+    pub at_event_solved : (e : Event) → Member e s.events → e.time ≡ i → (shown : Action ⊥) → (p : ℕ) → p ≡ v.times i → (actions : List (Action ⊥)) → AtPosition (log_trace log) p actions → Member shown actions
         → AreNormal (signature_of theory).equations (action_in (assignment v) f).args → SameAction (signature_of theory).equations (action_in (assignment v) f) shown
         → NoneSolved theory log v s.next (by_actions s a (happening_actions e.happening)) → ⊥
     at_event_solved e member time shown p is_p actions there m normal_f same_f none =
@@ -96,7 +96,7 @@ module _ (right : UnifierIsRight) (theory : Theory) (good : AreConvergent (signa
             (subst (λ (y : Happening). NoneSolved theory log v s.next (by_actions s a (happening_actions y))) k none)
 
     -- by a new step of the entry's rule
-    new_step_solved : (shown : Action ⊥) → (actions : List (Action ⊥)) → AtPosition (log_trace log) (v.times i) actions → Member shown actions
+    pub new_step_solved : (shown : Action ⊥) → (actions : List (Action ⊥)) → AtPosition (log_trace log) (v.times i) actions → Member shown actions
         → AreNormal (signature_of theory).equations (action_in (assignment v) f).args → SameAction (signature_of theory).equations (action_in (assignment v) f) shown
         → NoneSolved theory log v s.next (systems_of (by_each theory.rules s i a)) → ⊥
     new_step_solved shown actions there m normal_f same_f none =

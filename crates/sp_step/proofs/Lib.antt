@@ -9,3 +9,4 @@ pub mod Simplifying
 pub mod Entries
 pub mod Actions
 pub mod ActionCovers
+pub mod MovesCover

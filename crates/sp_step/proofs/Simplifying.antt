@@ -13,7 +13,7 @@ use Rattle.sp_step.proofs.FreshOnce.{merge_contradicts, fresh_once_covers, fresh
 use Rattle.sp_step.proofs.Opened.{EqualTruth, open_existential_covers}
 use Rattle.sp_step.proofs.OpenedNumbers.{open_existential_numbered}
 
-agrees_on : (n k : ℕ) (u v w : Valuation) → n ≤ k → Agrees n u v → Agrees k v w → Agrees n u w
+pub agrees_on : (n k : ℕ) (u v w : Valuation) → n ≤ k → Agrees n u v → Agrees k v w → Agrees n u w
 agrees_on n k u v w le a b = record {
   terms = λ x h. b.terms x (lt_of_lt_of_le h le) ∙ a.terms x h;
   times = λ i h. b.times i (lt_of_lt_of_le h le) ∙ a.times i h;
@@ -48,7 +48,7 @@ module _ (right : UnifierIsRight) (theory : Theory) (good : AreConvergent (signa
   pub rows_cover : RowsCover theory
   rows_cover = record { numbered = row_numbered; covers = row_covers }
 
-  no_solution : (s : System) → is_contradictory s ≡ true → IsNumbered s → HasNoSolution theory s
+  pub no_solution : (s : System) → is_contradictory s ≡ true → IsNumbered s → HasNoSolution theory s
   no_solution s e n log is v h =
       ⊎_elim
       (λ k. equal_pair_contradicts theory v s.unequal k h.unequal)

@@ -1,0 +1,201 @@
+-- Each move covers, with its cases simplified.
+use Rattle.std.proofs.Common.{◌≡◌, ◌≤◌, ◌<◌, ◌+◌, ℕ, zero, suc, Bool, true, false, if◌then◌else◌, List, [], ◌∷◌, ◌++◌, map, length, Option, Some, None, option_map, option_and_then, is_some, refl, sym, ap, ◌∙◌, subst, arith, le_refl, le_trans, slice_get}
+use Rattle.sp_spec.specs.Lists.{Member, Every, Classically}
+use Rattle.sp_spec.specs.Term.{Variable}
+use Rattle.sp_spec.specs.Rule.{Fact, Action, Facts, Rule}
+use Rattle.sp_spec.specs.Equal.{AreNormal}
+use Rattle.sp_spec.specs.Theory.{Theory, signature_of}
+use Rattle.sp_spec.specs.Truth.{Acts}
+use Rattle.sp_spec.specs.Guarded.{Place, Guarded, truth, falsity, holds, fails, all_of, one_of, some, every, Atom, acts, same, same_time, before, last, Time, free_time, bound_time, action_in}
+use Rattle.sp_spec.specs.Log.{Log, IsLog, log_trace}
+use Rattle.sp_spec.specs.Substitution.{Binding, bound_to}
+use Rattle.sp_law_equal.specs.Convergent.{AreConvergent, KeepSymbols}
+use Rattle.sp_system.specs.System.{Happening, rule_step, Event, System, Valuation, assignment, FormulaHolds, Solves, EachVariables, InEvent, InHappening, InFormula, IsNumbered, NoneSolved, Covers}
+use Rattle.sp_system.specs.Laws.{UnifierIsRight}
+use Rattle.sp_system.specs.Equating.{action_pair, unifier_of, system_changed}
+use Rattle.sp_system.proofs.Lists.{every_append, every_parts, every_member, every_at, every_weaken}
+use Rattle.sp_system.proofs.Numbers.{each_weaken_all}
+use Rattle.sp_system.proofs.Merging.{action_under}
+use Rattle.sp_system.proofs.Solutions.{Under, TimeUnder, change_numbered}
+use Rattle.sp_step.specs.Rows.{freed_action, happening_actions, rows, by_rows, is_contradictory, simplified, simplified_by}
+use Rattle.sp_step.specs.Moves.{Move, simplify, contradiction, unproved, action, Case, where_same, case_if, at_event, renamed, with_step, system_if, by_actions, named, by_each, event_at, action_cases, action_at_time, is_adversary, solving_action, raw_cases, simple_case, cases}
+use Rattle.sp_step.specs.Laws.{RulesAreNumbered, RulesArePlain, systems_of, MovesCover}
+use Rattle.sp_step.proofs.Freed.{mapped, freed_action_in}
+use Rattle.sp_step.proofs.FreshOnce.{unifier_within}
+use Rattle.sp_step.proofs.Opened.{EqualTruth}
+use Rattle.sp_step.proofs.Actions.{named_systems, systems_append, at_event_systems, step_numbered}
+use Rattle.sp_step.proofs.ActionCovers.{event_found, at_event_solved, new_step_solved}
+use Rattle.sp_step.proofs.Simplifying.{no_solution, simplified_follows, covers_itself, agrees_on}
+
+-- a solved action: the formula, its time and its terms
+pub record SolvesAction (rules : List Rule) (s : System) (f : Guarded) (cs : List Case) : Type 0 where
+  pub atom : Action Place
+  pub time : ℕ
+  pub terms : Action Variable
+  pub is_action : f ≡ holds (acts atom (free_time time))
+  pub freed : freed_action atom ≡ Some terms
+  pub own : is_adversary atom.symbol ≡ false
+  pub cases : cs ≡ action_cases rules s time terms (event_at time s.events)
+
+solving : (rules : List Rule) (s : System) (f : Guarded) (cs : List Case) → solving_action rules s (Some f) ≡ Some cs → SolvesAction rules s f cs
+solving rules s (holds (acts a (free_time i))) cs e = at (is_adversary a.symbol) (freed_action a) refl refl e
+  where
+    at : (b : Bool) (o : Option (Action Variable)) → is_adversary a.symbol ≡ b → freed_action a ≡ o → (if b then None else action_at_time rules s i o) ≡ Some cs → SolvesAction rules s (holds (acts a (free_time i))) cs
+    at true o h k l = absurd cc
+    at false None h k l = absurd cc
+    at false (Some t) h k l = record { atom = a; time = i; terms = t; is_action = refl; freed = k; own = h; cases = let g : cs ≡ action_cases rules s i t (event_at i s.events) = cc in g }
+solving rules s (holds (acts a (bound_time i))) cs e = absurd cc
+solving rules s (holds (same t u)) cs e = absurd cc
+solving rules s (holds (same_time i j)) cs e = absurd cc
+solving rules s (holds (before i j)) cs e = absurd cc
+solving rules s (holds (last i)) cs e = absurd cc
+solving rules s (fails a) cs e = absurd cc
+solving rules s truth cs e = absurd cc
+solving rules s falsity cs e = absurd cc
+solving rules s (all_of fs) cs e = absurd cc
+solving rules s (one_of fs) cs e = absurd cc
+solving rules s (some bs guard f) cs e = absurd cc
+solving rules s (every bs guard f) cs e = absurd cc
+
+at_place : (rules : List Rule) (s : System) (k : ℕ) (cs : List Case) → solving_action rules s (slice_get s.formulas k) ≡ Some cs → (f : Guarded) × (slice_get s.formulas k ≡ Some f) × SolvesAction rules s f cs
+at_place rules s k cs e = at (slice_get s.formulas k) refl e
+  where
+    at : (o : Option Guarded) → slice_get s.formulas k ≡ o → solving_action rules s o ≡ Some cs → (f : Guarded) × (slice_get s.formulas k ≡ Some f) × SolvesAction rules s f cs
+    at None h l = absurd cc
+    at (Some f) h l = (f, h, solving rules s f cs l)
+
+abbrev pub Later : ℕ → System → Type 0
+Later n t = IsNumbered t × (n ≤ t.next)
+
+module _ (right : UnifierIsRight) where
+  same_numbered : (base : ℕ) (s : System) → base ≤ s.next → IsNumbered s → (a : Action Variable) (bs : List (Action Variable)) → EachVariables (Under s.next) a.args → Every (λ (b : Action Variable). EachVariables (Under s.next) b.args) bs
+      → Every (Later base) (by_actions s a bs)
+  same_numbered base s le n a [] ia ib = tt
+  same_numbered base s le n a (b ∷ bs) ia ib =
+      every_append (Later base) (system_if (where_same s a b)) (by_actions s a bs) (at (unifier_of (action_pair a b)) refl) (same_numbered base s le n a bs ia ib.1)
+    where
+      at : (o : Option (List Binding)) → unifier_of (action_pair a b) ≡ o → Every (Later base) (system_if (option_map (λ bindings. system_changed (bound_to bindings) (λ i. i) s) o))
+      at None e = tt
+      at (Some bindings) e =
+          ((change_numbered s.next bindings (unifier_within right s.next (action_pair a b) bindings e (action_under s.next a b ia ib.0)) (λ i. i) (λ i h. h) s refl n, le), tt)
+
+-- what holds of the systems of cases
+every_system : (P : System → Type 0) (cs : List Case) → Every P (systems_of cs) → Every (λ (c : Case). P c.system) cs
+every_system P [] h = tt
+every_system P (c ∷ cs) h = (h.0, every_system P cs h.1)
+
+module _ (right : UnifierIsRight) (theory : Theory) (good : AreConvergent (signature_of theory).equations) (keeps : KeepSymbols (signature_of theory).symbols (signature_of theory).equations)
+    (rules_numbered : RulesAreNumbered theory.rules) (rules_plain : RulesArePlain (signature_of theory).equations theory.rules) (equal_truth : EqualTruth) where
+  by_each_numbered : (rules : List Rule) → RulesAreNumbered rules → (s : System) → IsNumbered s → (i : ℕ) → i < s.next → (a : Action Variable) → EachVariables (Under s.next) a.args
+      → Every (Later s.next) (systems_of (by_each rules s i a))
+  by_each_numbered [] k s n i iu a au = tt
+  by_each_numbered (r ∷ rules) k s n i iu a au =
+      let cs = by_actions (with_step s i r) a (renamed s.next r.facts).actions in
+      let num = step_numbered theory s r i iu k.0 n in
+      let own = (every_parts _ s.events (_ ∷ []) num.events).1.0.1.actions in
+      let wide : EachVariables (Under (with_step s i r).next) a.args = each_weaken_all (Under s.next) (Under (s.next + length r.variables)) (λ x h. omega (arith, h)) a.args au in
+      let here = same_numbered right s.next (with_step s i r) (omega arith) num a (renamed s.next r.facts).actions wide own in
+      subst (Every (Later s.next)) (sym (systems_append (named r.name cs) (by_each rules s i a)))
+      (every_append (Later s.next) (systems_of (named r.name cs)) (systems_of (by_each rules s i a))
+      (subst (Every (Later s.next)) (sym (named_systems r.name cs)) here) (by_each_numbered rules k.1 s n i iu a au))
+
+  -- the parts of the action that is solved
+  action_in_system : (s : System) (n : IsNumbered s) (k : ℕ) (f : Guarded) (cs : List Case) → slice_get s.formulas k ≡ Some f → (r : SolvesAction theory.rules s f cs) → (r.time < s.next) × EachVariables (Under s.next) r.terms.args
+  action_in_system s n k f cs e r =
+      let i = subst (InFormula (Under s.next) (TimeUnder s.next)) r.is_action (every_at _ s.formulas k f e n.formulas) in
+      (i.1, freed_action_in (Under s.next) r.atom r.terms r.freed i.0)
+
+  cases_numbered : (s : System) → IsNumbered s → (i : ℕ) → i < s.next → (a : Action Variable) → EachVariables (Under s.next) a.args → (o : Option Event) → event_at i s.events ≡ o
+      → Every (Later s.next) (systems_of (action_cases theory.rules s i a o))
+  cases_numbered s n i iu a au None e = by_each_numbered theory.rules rules_numbered s n i iu a au
+  cases_numbered s n i iu a au (Some d) e =
+      let found = event_found i s.events d e in
+      let inside = (every_member (InEvent (Under s.next) (TimeUnder s.next)) s.events d found.0 n.events).1 in
+      subst (Every (Later s.next)) (sym (at_event_systems s a 0 (happening_actions d.happening))) (same_numbered right s.next s (le_refl s.next) n a (happening_actions d.happening) au (happening_in d.happening inside))
+    where
+      happening_in : (h : Happening) → InHappening (Under s.next) h → Every (λ (b : Action Variable). EachVariables (Under s.next) b.args) (happening_actions h)
+      happening_in (rule_step r facts) k = k.actions
+
+  action_numbered : (s : System) → IsNumbered s → (k : ℕ) (cs : List Case) → solving_action theory.rules s (slice_get s.formulas k) ≡ Some cs → Every (Later s.next) (systems_of cs)
+  action_numbered s n k cs e =
+      let p = at_place theory.rules s k cs e in
+      let r = p.2 in
+      let i = action_in_system s n k p.0 cs p.1 r in
+      subst (λ (x : List Case). Every (Later s.next) (systems_of x)) (sym r.cases) (cases_numbered s n r.time i.0 r.terms i.1 (event_at r.time s.events) refl)
+
+  action_covers : (s : System) → IsNumbered s → (k : ℕ) (cs : List Case) → solving_action theory.rules s (slice_get s.formulas k) ≡ Some cs → Covers theory s (systems_of cs)
+  action_covers s n k cs e =
+      let p = at_place theory.rules s k cs e in
+      let r = p.2 in
+      let i = action_in_system s n k p.0 cs p.1 r in
+      record {
+        covers = λ log is v h none.
+            let f = subst (FormulaHolds theory log v) r.is_action (every_at _ s.formulas k p.0 p.1 h.formulas) in
+            f.0 (λ y. acting s n r.atom r.terms r.freed r.time i.0 i.1 r.own log is v h f.1.0 y (event_at r.time s.events) refl (subst (λ (x : List Case). NoneSolved theory log v s.next (systems_of x)) r.cases none));
+      }
+    where
+      acting : (s : System) (n : IsNumbered s) (f : Action Place) (a : Action Variable) (freed : freed_action f ≡ Some a) (i : ℕ) (i_under : i < s.next) (a_under : EachVariables (Under s.next) a.args)
+          (own : is_adversary f.symbol ≡ false) (log : Log) (is : IsLog theory log) (v : Valuation) (h : Solves theory log v s)
+          → AreNormal (signature_of theory).equations (action_in (assignment v) f).args → Acts (signature_of theory).equations (log_trace log) (v.times i) (action_in (assignment v) f)
+          → (o : Option Event) → event_at i s.events ≡ o → NoneSolved theory log v s.next (systems_of (action_cases theory.rules s i a o)) → ⊥
+      acting s n f a freed i iu au own log is v h normal_f y None e none =
+          new_step_solved right theory good keeps rules_numbered rules_plain s n f a freed i iu au own log is v h y.2 y.0 y.1 y.3 normal_f y.4 none
+      acting s n f a freed i iu au own log is v h normal_f y (Some d) e none =
+          let found = event_found i s.events d e in
+          at_event_solved right theory good keeps rules_numbered rules_plain s n f a freed i iu au own log is v h d found.0 found.1 y.2 (v.times i) refl y.0 y.1 y.3 normal_f y.4
+          (subst (NoneSolved theory log v s.next) (at_event_systems s a 0 (happening_actions d.happening)) none)
+
+  -- before the cases are simplified
+  raw_numbered : (s : System) (move : Move) (cs : List Case) → raw_cases theory.rules s move ≡ Some cs → IsNumbered s → Every (Later s.next) (systems_of cs)
+  raw_numbered s simplify cs e n = at (is_some (by_rows rows s)) e
+    where
+      at : (b : Bool) → (if b then Some (record { name = []; system = s } ∷ []) else None) ≡ Some cs → Every (Later s.next) (systems_of cs)
+      at true k = let one : Case = record { name = []; system = s } in let g : one ∷ [] ≡ cs = cc in subst (λ (x : List Case). Every (Later s.next) (systems_of x)) g ((n, le_refl s.next), tt)
+      at false k = absurd cc
+  raw_numbered s contradiction cs e n = at (is_contradictory s) e
+    where
+      at : (b : Bool) → (if b then Some [] else None) ≡ Some cs → Every (Later s.next) (systems_of cs)
+      at true k = let none : List Case = [] in let g : none ≡ cs = cc in subst (λ (x : List Case). Every (Later s.next) (systems_of x)) g tt
+      at false k = absurd cc
+  raw_numbered s unproved cs e n = let none : List Case = [] in let g : none ≡ cs = cc in subst (λ (x : List Case). Every (Later s.next) (systems_of x)) g tt
+  raw_numbered s (action k) cs e n = action_numbered s n k cs e
+
+  raw_covers : (s : System) (move : Move) (cs : List Case) → raw_cases theory.rules s move ≡ Some cs → (move ≡ unproved → ⊥) → IsNumbered s → Covers theory s (systems_of cs)
+  raw_covers s simplify cs e not_open n = at (is_some (by_rows rows s)) e
+    where
+      at : (b : Bool) → (if b then Some (record { name = []; system = s } ∷ []) else None) ≡ Some cs → Covers theory s (systems_of cs)
+      at true k = let one : Case = record { name = []; system = s } in let g : one ∷ [] ≡ cs = cc in subst (λ (x : List Case). Covers theory s (systems_of x)) g (covers_itself theory s)
+      at false k = absurd cc
+  raw_covers s contradiction cs e not_open n = at (is_contradictory s) refl e
+    where
+      at : (b : Bool) → is_contradictory s ≡ b → (if b then Some [] else None) ≡ Some cs → Covers theory s (systems_of cs)
+      at true c k = record { covers = λ log is v h none. no_solution right theory good keeps equal_truth s c n log is v h }
+      at false c k = absurd cc
+  raw_covers s unproved cs e not_open n = absurd (not_open refl)
+  raw_covers s (action k) cs e not_open n = action_covers s n k cs e
+
+  -- the cases, each simplified
+  simple_numbered : (n : ℕ) (cs : List Case) → Every (Later n) (systems_of cs) → Every (λ (c : Case). IsNumbered c.system × (n ≤ c.system.next)) (map simple_case cs)
+  simple_numbered n [] h = tt
+  simple_numbered n (c ∷ cs) h =
+      let f = simplified_follows right theory good keeps equal_truth 10000 c.system h.0.0 in
+      ((f.0.0, le_trans h.0.1 f.0.1), simple_numbered n cs h.1)
+
+  simple_solved : (log : Log) → IsLog theory log → (n : ℕ) (v : Valuation) (cs : List Case) → Every (Later n) (systems_of cs) → NoneSolved theory log v n (systems_of (map simple_case cs)) → NoneSolved theory log v n (systems_of cs)
+  simple_solved log is n v [] h none = tt
+  simple_solved log is n v (c ∷ cs) h none =
+      let f = simplified_follows right theory good keeps equal_truth 10000 c.system h.0.0 in
+      ((λ w a k. f.1.covers log is w k ((λ x b l. none.0 x (agrees_on n c.system.next v w x h.0.1 a b) l), tt)), simple_solved log is n v cs h.1 none.1)
+
+  pub moves_cover : MovesCover theory
+  moves_cover = record {
+    numbered = λ s move cs e n.
+        let r = mapped (map simple_case) (raw_cases theory.rules s move) cs e in
+        subst (Every (λ (c : Case). IsNumbered c.system × (s.next ≤ c.system.next))) (sym r.2) (simple_numbered s.next r.0 (raw_numbered s move r.0 r.1 n));
+    covers = λ s move cs e not_open n.
+        let r = mapped (map simple_case) (raw_cases theory.rules s move) cs e in
+        let raw = raw_covers s move r.0 r.1 not_open n in
+        let num = raw_numbered s move r.0 r.1 n in
+        subst (λ (x : List Case). Covers theory s (systems_of x)) (sym r.2)
+        (record { covers = λ log is v h none. raw.covers log is v h (simple_solved log is s.next v r.0 num none) });
+  }
