@@ -1,0 +1,83 @@
+-- Lists that hold no more than others do.
+use Rattle.std.proofs.Common.{◌≡◌, ◌⊎◌, ⊎_elim, inl, inr, List, [], ◌∷◌, ◌++◌, refl, sym, subst, append_assoc}
+use Rattle.sp_spec.specs.Lists.{Member, Every, Distinct}
+
+pub member_left : {A : Type 0} → (x : A) (xs ys : List A) → Member x xs → Member x (xs ++ ys)
+member_left x [] ys m = absurd m
+member_left x (y ∷ xs) ys m = ⊎_elim (λ e. inl e) (λ n. inr (member_left x xs ys n)) m
+
+pub member_right : {A : Type 0} → (x : A) (xs ys : List A) → Member x ys → Member x (xs ++ ys)
+member_right x [] ys m = m
+member_right x (y ∷ xs) ys m = inr (member_right x xs ys m)
+
+pub member_either : {A : Type 0} → (x : A) (xs ys : List A) → Member x (xs ++ ys) → Member x xs ⊎ Member x ys
+member_either x [] ys m = inr m
+member_either x (y ∷ xs) ys m = ⊎_elim (λ e. inl (inl e)) (λ n. ⊎_elim (λ a. inl (inr a)) (λ b. inr b) (member_either x xs ys n)) m
+
+pub every_member : {A : Type 0} → (P : A → Type 0) (xs : List A) (x : A) → Every P xs → Member x xs → P x
+every_member P [] x all m = absurd m
+every_member P (y ∷ xs) x all m = ⊎_elim (λ e. subst P e all.0) (λ n. every_member P xs x all.1 n) m
+
+pub every_of : {A : Type 0} → (P : A → Type 0) (xs : List A) → ((x : A) → Member x xs → P x) → Every P xs
+every_of P [] h = tt
+every_of P (x ∷ xs) h = (h x (inl refl), every_of P xs (λ y m. h y (inr m)))
+
+pub every_append : {A : Type 0} → (P : A → Type 0) (xs ys : List A) → Every P xs → Every P ys → Every P (xs ++ ys)
+every_append P [] ys a b = b
+every_append P (x ∷ xs) ys a b = (a.0, every_append P xs ys a.1 b)
+
+pub distinct_right : {A : Type 0} → (xs ys : List A) → Distinct (xs ++ ys) → Distinct ys
+distinct_right [] ys d = d
+distinct_right (x ∷ xs) ys d = distinct_right xs ys d.1
+
+-- each element of the second stands in the first, and each at a place of its own
+pub record Keeps {A : Type 0} (xs ys : List A) : Type 0 where
+  pub members : (z : A) → Member z ys → Member z xs
+  pub distinct : (zs : List A) → Distinct (xs ++ zs) → Distinct (ys ++ zs)
+
+module _ {A : Type 0} where
+  pub keeps_same : (xs ys : List A) → xs ≡ ys → Keeps xs ys
+  keeps_same xs ys e = subst (λ (zs : List A). Keeps xs zs) e (record { members = λ z m. m; distinct = λ zs d. d })
+
+  pub keeps_then : (xs ys zs : List A) → Keeps xs ys → Keeps ys zs → Keeps xs zs
+  keeps_then xs ys zs a b = record { members = λ z m. a.members z (b.members z m); distinct = λ ws d. b.distinct ws (a.distinct ws d) }
+
+  pub keeps_cons : (x : A) (xs ys : List A) → Keeps xs ys → Keeps (x ∷ xs) (x ∷ ys)
+  keeps_cons x xs ys k = record {
+    members = λ z m. ⊎_elim (λ e. inl e) (λ n. inr (k.members z n)) m;
+    distinct = λ zs d. (
+      λ m. ⊎_elim (λ a. d.0 (member_left x xs zs (k.members x a))) (λ b. d.0 (member_right x xs zs b)) (member_either x ys zs m),
+      k.distinct zs d.1,
+    );
+  }
+
+  pub keeps_behind : (ws xs ys : List A) → Keeps xs ys → Keeps (ws ++ xs) (ws ++ ys)
+  keeps_behind [] xs ys k = k
+  keeps_behind (w ∷ ws) xs ys k = keeps_cons w (ws ++ xs) (ws ++ ys) (keeps_behind ws xs ys k)
+
+  keeps_swap : (x y : A) (zs : List A) → Keeps (x ∷ y ∷ zs) (y ∷ x ∷ zs)
+  keeps_swap x y zs = record {
+    members = λ z m. ⊎_elim (λ e. inr (inl e)) (λ n. ⊎_elim (λ e. inl e) (λ k. inr (inr k)) n) m;
+    distinct = λ ws d. (λ m. ⊎_elim (λ e. d.0 (inl (sym e))) (λ k. d.1.0 k) m, ((λ k. d.0 (inr k)), d.1.1));
+  }
+
+  keeps_one : (xs : List A) (y : A) (zs : List A) → Keeps (xs ++ y ∷ zs) (y ∷ xs ++ zs)
+  keeps_one [] y zs = keeps_same (y ∷ zs) (y ∷ zs) refl
+  keeps_one (x ∷ xs) y zs =
+      keeps_then (x ∷ xs ++ y ∷ zs) (x ∷ y ∷ xs ++ zs) (y ∷ x ∷ xs ++ zs)
+      (keeps_cons x (xs ++ y ∷ zs) (y ∷ xs ++ zs) (keeps_one xs y zs))
+      (keeps_swap x y (xs ++ zs))
+
+  -- a part is put to the front
+  pub keeps_moved : (xs ys zs : List A) → Keeps (xs ++ (ys ++ zs)) (ys ++ (xs ++ zs))
+  keeps_moved xs [] zs = keeps_same (xs ++ zs) (xs ++ zs) refl
+  keeps_moved xs (y ∷ ys) zs =
+      keeps_then (xs ++ (y ∷ (ys ++ zs))) (y ∷ (xs ++ (ys ++ zs))) (y ∷ (ys ++ (xs ++ zs)))
+      (keeps_one xs y (ys ++ zs))
+      (keeps_cons y (xs ++ (ys ++ zs)) (ys ++ (xs ++ zs)) (keeps_moved xs ys zs))
+
+  pub keeps_right : (xs ys : List A) → Keeps (xs ++ ys) ys
+  keeps_right xs ys = record {
+    members = λ z m. member_right z xs ys m;
+    distinct = λ zs d. distinct_right xs (ys ++ zs) (subst (λ (ws : List A). Distinct ws) (append_assoc xs ys zs) d);
+  }
