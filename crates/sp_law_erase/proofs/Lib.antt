@@ -1,2 +1,3 @@
 pub mod Rearranged
 pub mod Origins
+pub mod Sources

@@ -10,7 +10,7 @@ use Rattle.sp_spec.specs.Rule.{Fact, SameFact, fr}
 use Rattle.sp_spec.specs.Execution.{Takes}
 use Rattle.sp_spec.specs.Log.{Source, fresh_rule, conclusion, Entry, Log, Concludes, is_fr, first_arg, fresh_of, linear_sources}
 use Rattle.sp_law_erase.specs.Traces.{EachWith}
-use Rattle.sp_law_erase.specs.Adversary.{IsAdversarys}
+use Rattle.sp_law_erase.specs.Adversary.{adversary_facts}
 use Rattle.sp_law_erase.proofs.Rearranged.{Keeps, keeps_same, keeps_then, keeps_behind, keeps_moved}
 
 -- a linear source, if the fact has one, and the name of a fresh fact: what a fact adds to those of a state
@@ -47,7 +47,7 @@ module _ (norm : Grounds → Grounds) where
 
   -- A fact of the adversary's or a fresh one has no source in the log. Any other is, in normal form, a conclusion there.
   abbrev pub HasOrigin : Log → Fact ⊥ → Source → Type 0
-  HasOrigin log f fresh_rule = IsAdversarys f.symbol ⊎ ((n : ℕ) × (f ≡ fr (name n)))
+  HasOrigin log f fresh_rule = Member f.symbol adversary_facts ⊎ ((n : ℕ) × (f ≡ fr (name n)))
   HasOrigin log f (conclusion p k) = (f.symbol ≡ codes "Fr" → ⊥) × ((e : Entry) × AtPosition log p e × Concludes e k (normal_fact f))
 
   abbrev pub HaveOrigins : Log → List (Fact ⊥) → List Source → Type 0
