@@ -1,3 +1,4 @@
 pub mod Rearranged
 pub mod Origins
 pub mod Sources
+pub mod Places

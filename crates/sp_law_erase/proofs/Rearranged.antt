@@ -1,5 +1,6 @@
 -- Lists that hold no more than others do.
 use Rattle.std.proofs.Common.{◌≡◌, ◌⊎◌, ⊎_elim, inl, inr, List, [], ◌∷◌, ◌++◌, refl, sym, subst, append_assoc}
+use Rattle.std.proofs.lemmas.List.{append-nil}
 use Rattle.sp_spec.specs.Lists.{Member, Every, Distinct}
 
 pub member_left : {A : Type 0} → (x : A) (xs ys : List A) → Member x xs → Member x (xs ++ ys)
@@ -81,3 +82,27 @@ module _ {A : Type 0} where
     members = λ z m. member_right z xs ys m;
     distinct = λ zs d. distinct_right xs (ys ++ zs) (subst (λ (ws : List A). Distinct ws) (append_assoc xs ys zs) d);
   }
+
+  pub keeps_distinct : (xs ys : List A) → Keeps xs ys → Distinct xs → Distinct ys
+  keeps_distinct xs ys k d =
+      subst (λ (zs : List A). Distinct zs) (append-nil ys) (k.distinct [] (subst (λ (zs : List A). Distinct zs) (sym (append-nil xs)) d))
+
+  keeps_before : (xs ys zs : List A) → Keeps xs ys → Keeps (xs ++ zs) (ys ++ zs)
+  keeps_before xs ys zs k = record {
+    members = λ z m. ⊎_elim (λ a. member_left z xs zs (k.members z a)) (λ b. member_right z xs zs b) (member_either z ys zs m);
+    distinct = λ ws d.
+        subst (λ (us : List A). Distinct us) (sym (append_assoc ys zs ws))
+            (k.distinct (zs ++ ws) (subst (λ (us : List A). Distinct us) (append_assoc xs zs ws) d));
+  }
+
+  -- what was taken is added to what was used, and the rest stays
+  pub keeps_used : (all taken rest used : List A) → Keeps all (taken ++ rest) → Keeps (all ++ used) (rest ++ (taken ++ used))
+  keeps_used all taken rest used k =
+      keeps_then (all ++ used) ((taken ++ rest) ++ used) (rest ++ (taken ++ used)) (keeps_before all (taken ++ rest) used k)
+      (keeps_then ((taken ++ rest) ++ used) (taken ++ (rest ++ used)) (rest ++ (taken ++ used))
+          (keeps_same ((taken ++ rest) ++ used) (taken ++ (rest ++ used)) (append_assoc taken rest used))
+          (keeps_moved taken rest used))
+
+  -- what was taken is forgotten, and the rest stays
+  pub keeps_rest : (all taken rest used : List A) → Keeps all (taken ++ rest) → Keeps (all ++ used) (rest ++ used)
+  keeps_rest all taken rest used k = keeps_before all rest used (keeps_then all (taken ++ rest) rest k (keeps_right taken rest))
