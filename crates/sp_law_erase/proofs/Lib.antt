@@ -2,3 +2,5 @@ pub mod Rearranged
 pub mod Origins
 pub mod Sources
 pub mod Places
+pub mod Shown
+pub mod Steps

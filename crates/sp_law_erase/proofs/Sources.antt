@@ -29,10 +29,12 @@ false_test false P h wrong = refl
 false_and : (a b : Bool) → a ≡ false → a && b ≡ false
 false_and a b e = rw e refl
 
+-- a name that isn't this one is told from it
+pub is_not_named : (f g : List ℕ) → (f ≡ g → ⊥) → bytes_eq f g ≡ false
+is_not_named f g apart = false_test (bytes_eq f g) (f ≡ g) (bytes_eq-Decides f g).0 apart
+
 pub is_not_fr : (f : Fact ⊥) → (f.symbol ≡ codes "Fr" → ⊥) → is_fr f ≡ false
-is_not_fr f apart =
-    false_and (bytes_eq f.symbol (codes "Fr")) (not f.persistent)
-    (false_test (bytes_eq f.symbol (codes "Fr")) (f.symbol ≡ codes "Fr") (bytes_eq-Decides f.symbol (codes "Fr")).0 apart)
+is_not_fr f apart = false_and (bytes_eq f.symbol (codes "Fr")) (not f.persistent) (is_not_named f.symbol (codes "Fr") apart)
 
 pub no_fresh_share : (f : Fact ⊥) → (f.symbol ≡ codes "Fr" → ⊥) → fresh_share f ≡ []
 no_fresh_share f apart = rw (is_not_fr f apart) refl
