@@ -4,3 +4,5 @@ pub mod Sources
 pub mod Places
 pub mod Shown
 pub mod Steps
+pub mod Erased
+pub mod Needs

@@ -6,7 +6,7 @@ use Rattle.sp_spec.specs.Term.{Grounds}
 use Rattle.sp_spec.specs.Rule.{Fact, Facts}
 use Rattle.sp_spec.specs.Log.{Source, fresh_rule, conclusion, Entry, step, Log, Concludes, linear_sources}
 use Rattle.sp_law_erase.specs.Traces.{EachWith}
-use Rattle.sp_law_erase.proofs.Rearranged.{member_either, every_member}
+use Rattle.sp_law_erase.proofs.Rearranged.{member_either}
 use Rattle.sp_law_erase.proofs.Origins.{source_share, linear_cons, normal_fact, HasOrigin, HaveOrigins}
 
 -- the source is in an entry before that position

@@ -15,17 +15,9 @@ pub member_either : {A : Type 0} → (x : A) (xs ys : List A) → Member x (xs +
 member_either x [] ys m = inr m
 member_either x (y ∷ xs) ys m = ⊎_elim (λ e. inl (inl e)) (λ n. ⊎_elim (λ a. inl (inr a)) (λ b. inr b) (member_either x xs ys n)) m
 
-pub every_member : {A : Type 0} → (P : A → Type 0) (xs : List A) (x : A) → Every P xs → Member x xs → P x
-every_member P [] x all m = absurd m
-every_member P (y ∷ xs) x all m = ⊎_elim (λ e. subst P e all.0) (λ n. every_member P xs x all.1 n) m
-
-pub every_of : {A : Type 0} → (P : A → Type 0) (xs : List A) → ((x : A) → Member x xs → P x) → Every P xs
-every_of P [] h = tt
-every_of P (x ∷ xs) h = (h x (inl refl), every_of P xs (λ y m. h y (inr m)))
-
-pub every_append : {A : Type 0} → (P : A → Type 0) (xs ys : List A) → Every P xs → Every P ys → Every P (xs ++ ys)
-every_append P [] ys a b = b
-every_append P (x ∷ xs) ys a b = (a.0, every_append P xs ys a.1 b)
+pub every_then : {A : Type 0} {P Q : A → Type 0} → (xs : List A) → ((x : A) → P x → Q x) → Every P xs → Every Q xs
+every_then [] h all = tt
+every_then (x ∷ xs) h all = (h x all.0, every_then xs h all.1)
 
 pub distinct_right : {A : Type 0} → (xs ys : List A) → Distinct (xs ++ ys) → Distinct ys
 distinct_right [] ys d = d
