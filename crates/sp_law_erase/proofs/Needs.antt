@@ -1,7 +1,7 @@
 -- A theory whose rules don't deal with the adversary needs none.
-use Rattle.std.proofs.Common.{◌≡◌, ◌⊎◌, ⊎_elim, inl, inr, List, [], ◌∷◌, sym}
+use Rattle.std.proofs.Common.{inl, inr, List, [], ◌∷◌, sym}
 use Rattle.std.specs.Prelude.{ℕ, codes}
-use Rattle.sp_spec.specs.Lists.{Member, Every}
+use Rattle.sp_spec.specs.Lists.{Member}
 use Rattle.sp_spec.specs.Theory.{Theory}
 use Rattle.sp_law_erase.specs.Adversary.{adversary_facts, adversary_names, NeedsNoAdversary, NamesNoAdversary, IsFreshRight}
 use Rattle.sp_law_erase.proofs.Rearranged.{every_then, member_left}

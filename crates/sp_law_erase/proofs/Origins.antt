@@ -1,8 +1,7 @@
 -- Where the facts of a state come from, and how these origins are passed on when facts are taken.
-use Rattle.std.proofs.Common.{◌≡◌, ◌⊎◌, ⊎_elim, inl, inr, ℕ, zero, suc, Bool, true, false, not, ◌&&◌, if◌then◌else◌, List, [], ◌∷◌, ◌++◌, refl, sym, ap, ◌∙◌, subst, append_assoc, true≢false}
+use Rattle.std.proofs.Common.{◌≡◌, ◌⊎◌, ℕ, Bool, true, false, not, ◌&&◌, if◌then◌else◌, List, [], ◌∷◌, ◌++◌, refl, sym, ap, ◌∙◌, subst, append_assoc}
 use Rattle.std.specs.Prelude.{codes}
 use Rattle.std.specs.Str.{bytes_eq}
-use Rattle.std.proofs.lemmas.Slice.Eq.{bytes_eq-Decides}
 use Rattle.sp_spec.specs.Lists.{Member, AtPosition}
 use Rattle.sp_spec.specs.Term.{name, Ground, Grounds}
 use Rattle.sp_spec.specs.Signature.{Equation}
@@ -21,7 +20,8 @@ source_share f fresh_rule = []
 abbrev pub fresh_share : Fact ⊥ → List Ground
 fresh_share f = if is_fr f then first_arg f.args else []
 
-pub linear_cons : (f : Fact ⊥) (fs : List (Fact ⊥)) (o : Source) (os : List Source) → linear_sources (f ∷ fs) (o ∷ os) ≡ source_share f o ++ linear_sources fs os
+pub linear_cons : (f : Fact ⊥) (fs : List (Fact ⊥)) (o : Source) (os : List Source)
+    → linear_sources (f ∷ fs) (o ∷ os) ≡ source_share f o ++ linear_sources fs os
 linear_cons f fs (conclusion p k) os = refl
 linear_cons f fs fresh_rule os = refl
 
@@ -84,14 +84,17 @@ module _ (norm : Grounds → Grounds) where
       has_source : HasOrigin log found source
       have_behind : HaveOrigins log back behind
 
-    split : (front : List (Fact ⊥)) (found : Fact ⊥) (back : List (Fact ⊥)) (origins : List Source) → HaveOrigins log (front ++ found ∷ back) origins → Split front found back origins
+    split : (front : List (Fact ⊥)) (found : Fact ⊥) (back : List (Fact ⊥)) (origins : List Source)
+        → HaveOrigins log (front ++ found ∷ back) origins → Split front found back origins
     split [] found back [] h = absurd h
     split [] found back (o ∷ os) h = record { before = []; source = o; behind = os; is = refl; have_before = tt; has_source = h.0; have_behind = h.1 }
     split (f ∷ front) found back [] h = absurd h
     split (f ∷ front) found back (o ∷ os) h =
         let s = split front found back os h.1 in
         record {
-          before = o ∷ s.before; source = s.source; behind = s.behind;
+          before = o ∷ s.before;
+          source = s.source;
+          behind = s.behind;
           is = ap (λ (xs : List Source). o ∷ xs) s.is;
           have_before = (h.0, s.have_before);
           has_source = s.has_source;
@@ -121,28 +124,33 @@ module _ (norm : Grounds → Grounds) where
     moved_linear front found back origins s =
         let share = source_share found s.source in
         let all : linear_sources (front ++ found ∷ back) origins ≡ linear_sources front s.before ++ (share ++ linear_sources back s.behind) =
-            ap (linear_sources (front ++ found ∷ back)) s.is
-            ∙ linear_append front (found ∷ back) s.before (s.source ∷ s.behind) s.have_before
-            ∙ ap (λ (xs : List Source). linear_sources front s.before ++ xs) (linear_cons found back s.source s.behind) in
+        ap (linear_sources (front ++ found ∷ back)) s.is
+        ∙ linear_append front (found ∷ back) s.before (s.source ∷ s.behind) s.have_before
+        ∙ ap (λ (xs : List Source). linear_sources front s.before ++ xs) (linear_cons found back s.source s.behind) in
         let rest : linear_sources front s.before ++ linear_sources back s.behind ≡ linear_sources (front ++ back) (s.before ++ s.behind) =
-            sym (linear_append front back s.before s.behind s.have_before) in
+        sym (linear_append front back s.before s.behind s.have_before) in
         subst (λ (xs : List Source). Keeps xs (share ++ linear_sources (front ++ back) (s.before ++ s.behind))) (sym all)
-            (subst (λ (xs : List Source). Keeps (linear_sources front s.before ++ (share ++ linear_sources back s.behind)) (share ++ xs)) rest
-                (keeps_moved (linear_sources front s.before) share (linear_sources back s.behind)))
+        (subst (λ (xs : List Source). Keeps (linear_sources front s.before ++ (share ++ linear_sources back s.behind)) (share ++ xs)) rest
+        (keeps_moved (linear_sources front s.before) share (linear_sources back s.behind)))
 
-    moved_fresh : (front : List (Fact ⊥)) (found : Fact ⊥) (back : List (Fact ⊥)) → Keeps (fresh_of (front ++ found ∷ back)) (fresh_share found ++ fresh_of (front ++ back))
+    moved_fresh : (front : List (Fact ⊥)) (found : Fact ⊥) (back : List (Fact ⊥))
+        → Keeps (fresh_of (front ++ found ∷ back)) (fresh_share found ++ fresh_of (front ++ back))
     moved_fresh front found back =
         subst (λ (xs : List Ground). Keeps xs (fresh_share found ++ fresh_of (front ++ back))) (sym (fresh_append front (found ∷ back)))
-            (subst (λ (xs : List Ground). Keeps (fresh_of front ++ (fresh_share found ++ fresh_of back)) (fresh_share found ++ xs)) (sym (fresh_append front back))
-                (keeps_moved (fresh_of front) (fresh_share found) (fresh_of back)))
+        (subst (λ (xs : List Ground). Keeps (fresh_of front ++ (fresh_share found ++ fresh_of back)) (fresh_share found ++ xs)) (sym (fresh_append front back))
+        (keeps_moved (fresh_of front) (fresh_share found) (fresh_of back)))
 
     one_taken : (front : List (Fact ⊥)) (found : Fact ⊥) (back : List (Fact ⊥)) (origins : List Source) → HaveOrigins log (front ++ found ∷ back) origins
         → OneTaken log (front ++ found ∷ back) origins found (front ++ (if found.persistent then found ∷ back else back))
     one_taken front found back origins h = at found.persistent refl (split front found back origins h)
       where
-        at : (b : Bool) → found.persistent ≡ b → Split front found back origins → OneTaken log (front ++ found ∷ back) origins found (front ++ (if b then found ∷ back else back))
+        at : (b : Bool) → found.persistent ≡ b → Split front found back origins
+            → OneTaken log (front ++ found ∷ back) origins found (front ++ (if b then found ∷ back else back))
         at true e s = record {
-          source = s.source; left = origins; has_source = s.has_source; have_left = h;
+          source = s.source;
+          left = origins;
+          has_source = s.has_source;
+          have_left = h;
           linear =
               keeps_same (linear_sources (front ++ found ∷ back) origins) (source_share found s.source ++ linear_sources (front ++ found ∷ back) origins)
               (ap (λ (xs : List Source). xs ++ linear_sources (front ++ found ∷ back) origins) (sym (source_share_none found s.source e)));
@@ -151,23 +159,31 @@ module _ (norm : Grounds → Grounds) where
               (ap (λ (xs : List Ground). xs ++ fresh_of (front ++ found ∷ back)) (sym (fresh_share_none found e)));
         }
         at false e s = record {
-          source = s.source; left = s.before ++ s.behind; has_source = s.has_source;
+          source = s.source;
+          left = s.before ++ s.behind;
+          has_source = s.has_source;
           have_left = have_append front back s.before s.behind s.have_before s.have_behind;
           linear = moved_linear front found back origins s;
           fresh = moved_fresh front found back;
         }
 
     -- a share that moved to the front, and then what follows it
-    also : {A : Type 0} (all share middle taken left : List A) → Keeps all (share ++ middle) → Keeps middle (taken ++ left) → Keeps all ((share ++ taken) ++ left)
+    also : {A : Type 0} (all share middle taken left : List A)
+        → Keeps all (share ++ middle) → Keeps middle (taken ++ left) → Keeps all ((share ++ taken) ++ left)
     also all share middle taken left a b =
         keeps_then all (share ++ middle) ((share ++ taken) ++ left) a
         (keeps_then (share ++ middle) (share ++ (taken ++ left)) ((share ++ taken) ++ left)
-            (keeps_behind share middle (taken ++ left) b)
-            (keeps_same (share ++ (taken ++ left)) ((share ++ taken) ++ left) (sym (append_assoc share taken left))))
+        (keeps_behind share middle (taken ++ left) b)
+        (keeps_same (share ++ (taken ++ left)) ((share ++ taken) ++ left) (sym (append_assoc share taken left))))
 
-    pub taken : (es : List Equation) (facts state : List (Fact ⊥)) (origins : List Source) (rest : List (Fact ⊥)) → HaveOrigins log state origins → Takes es facts state rest → Taken es log facts state origins rest
+    pub taken : (es : List Equation) (facts state : List (Fact ⊥)) (origins : List Source) (rest : List (Fact ⊥))
+        → HaveOrigins log state origins → Takes es facts state rest → Taken es log facts state origins rest
     taken es [] state origins rest h t = record {
-      founds = []; sources = []; left = origins; same = tt; have_sources = tt;
+      founds = [];
+      sources = [];
+      left = origins;
+      same = tt;
+      have_sources = tt;
       have_left = subst (λ (fs : List (Fact ⊥)). HaveOrigins log fs origins) t h;
       linear = keeps_same (linear_sources state origins) (linear_sources rest origins) (ap (λ (fs : List (Fact ⊥)). linear_sources fs origins) t);
       fresh = keeps_same (fresh_of state) (fresh_of rest) (ap fresh_of t);
@@ -178,15 +194,24 @@ module _ (norm : Grounds → Grounds) where
         let is : front ++ found ∷ back ≡ state = sym t.3 in
         let one = one_taken front found back origins (subst (λ (fs : List (Fact ⊥)). HaveOrigins log fs origins) t.3 h) in
         let more_taken = taken es facts middle one.left rest one.have_left t.5 in
+        let here = front ++ found ∷ back in
+        let left_sources = linear_sources rest more_taken.left in
+        let found_sources = linear_sources (found ∷ more_taken.founds) (one.source ∷ more_taken.sources) in
+        let sources_moved =
+        also (linear_sources here origins) (source_share found one.source) (linear_sources middle one.left)
+        (linear_sources more_taken.founds more_taken.sources) left_sources one.linear more_taken.linear in
+        let fresh_moved =
+        also (fresh_of here) (fresh_share found) (fresh_of middle) (fresh_of more_taken.founds) (fresh_of rest) one.fresh more_taken.fresh in
         record {
-          founds = found ∷ more_taken.founds; sources = one.source ∷ more_taken.sources; left = more_taken.left;
-          same = (t.4, more_taken.same); have_sources = (one.has_source, more_taken.have_sources); have_left = more_taken.have_left;
+          founds = found ∷ more_taken.founds;
+          sources = one.source ∷ more_taken.sources;
+          left = more_taken.left;
+          same = (t.4, more_taken.same);
+          have_sources = (one.has_source, more_taken.have_sources);
+          have_left = more_taken.have_left;
           linear =
-              subst (λ (fs : List (Fact ⊥)). Keeps (linear_sources fs origins) (linear_sources (found ∷ more_taken.founds) (one.source ∷ more_taken.sources) ++ linear_sources rest more_taken.left)) is
-                  (subst (λ (xs : List Source). Keeps (linear_sources (front ++ found ∷ back) origins) (xs ++ linear_sources rest more_taken.left)) (sym (linear_cons found more_taken.founds one.source more_taken.sources))
-                      (also (linear_sources (front ++ found ∷ back) origins) (source_share found one.source) (linear_sources middle one.left)
-                          (linear_sources more_taken.founds more_taken.sources) (linear_sources rest more_taken.left) one.linear more_taken.linear));
-          fresh =
-              subst (λ (fs : List (Fact ⊥)). Keeps (fresh_of fs) (fresh_of (found ∷ more_taken.founds) ++ fresh_of rest)) is
-                  (also (fresh_of (front ++ found ∷ back)) (fresh_share found) (fresh_of middle) (fresh_of more_taken.founds) (fresh_of rest) one.fresh more_taken.fresh);
+              subst (λ (fs : List (Fact ⊥)). Keeps (linear_sources fs origins) (found_sources ++ left_sources)) is
+              (subst (λ (xs : List Source). Keeps (linear_sources here origins) (xs ++ left_sources))
+              (sym (linear_cons found more_taken.founds one.source more_taken.sources)) sources_moved);
+          fresh = subst (λ (fs : List (Fact ⊥)). Keeps (fresh_of fs) (fresh_of (found ∷ more_taken.founds) ++ fresh_of rest)) is fresh_moved;
         }

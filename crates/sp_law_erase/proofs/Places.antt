@@ -1,13 +1,12 @@
 -- The sources that the conclusions of a new entry are.
-use Rattle.std.proofs.Common.{◌≡◌, ◌⊎◌, ⊎_elim, inl, inr, ℕ, zero, suc, ◌+◌, ◌<◌, ◌≤◌, Bool, true, false, if◌then◌else◌, List, [], ◌∷◌, ◌++◌, map, length, refl, sym, ap, ◌∙◌, subst, arith}
+use Rattle.std.proofs.Common.{◌≡◌, ⊎_elim, inl, inr, ℕ, zero, suc, ◌+◌, ◌<◌, ◌≤◌, Bool, true, false, if◌then◌else◌, List, [], ◌∷◌, ◌++◌, map, length, refl, sym, ap, subst, arith}
 use Rattle.std.specs.Prelude.{codes}
 use Rattle.sp_spec.specs.Lists.{Member, Every, Distinct, AtPlace, AtPosition}
 use Rattle.sp_spec.specs.Term.{Grounds}
 use Rattle.sp_spec.specs.Rule.{Fact, Facts}
-use Rattle.sp_spec.specs.Log.{Source, fresh_rule, conclusion, Entry, step, Log, Concludes, linear_sources}
-use Rattle.sp_law_erase.specs.Traces.{EachWith}
+use Rattle.sp_spec.specs.Log.{Source, fresh_rule, conclusion, Entry, step, Log, linear_sources}
 use Rattle.sp_law_erase.proofs.Rearranged.{member_either}
-use Rattle.sp_law_erase.proofs.Origins.{source_share, linear_cons, normal_fact, HasOrigin, HaveOrigins}
+use Rattle.sp_law_erase.proofs.Origins.{source_share, normal_fact, HasOrigin, HaveOrigins}
 
 -- the source is in an entry before that position
 abbrev pub IsBelow : ℕ → Source → Type 0
@@ -20,6 +19,7 @@ position_below (y ∷ xs) p x a = ⊎_elim (λ (w : (p ≡ length xs) × (y ≡ 
   where
     at : p ≡ length xs → p < suc (length xs)
     at e = omega arith
+
     later : p < length xs → p < suc (length xs)
     later h = omega arith
 
@@ -52,7 +52,7 @@ pub numbered_from : (p : ℕ) (fs : List (Fact ⊥)) (k : ℕ) (o : Source) → 
 numbered_from p [] k o m = absurd m
 numbered_from p (f ∷ fs) k o m =
     ⊎_elim (λ n. subst (IsFrom p k) (member_share f p k o n) (refl, omega arith)) (λ n. from_sooner p k o (numbered_from p fs (suc k) o n))
-        (member_either o (source_share f (conclusion p k)) (linear_sources fs (numbered p (suc k) fs)) m)
+    (member_either o (source_share f (conclusion p k)) (linear_sources fs (numbered p (suc k) fs)) m)
 
 pub numbered_below : (p : ℕ) (fs : List (Fact ⊥)) (k : ℕ) (o : Source) → Member o (linear_sources fs (numbered p k fs)) → IsBelow (suc p) o
 numbered_below p fs k o m = at o (numbered_from p fs k o m)
@@ -69,9 +69,12 @@ numbered_distinct p (f ∷ fs) k old below d = at f.persistent (numbered_distinc
   where
     not_later : (o : Source) → conclusion p k ≡ o → IsFrom p (suc k) o → ⊥
     not_later o e h = let w = subst (IsFrom p (suc k)) (sym e) h in let n = w.1 in omega arith
+
     not_old : IsBelow p (conclusion p k) → ⊥
     not_old h = omega arith
-    at : (b : Bool) → Distinct (linear_sources fs (numbered p (suc k) fs) ++ old) → Distinct ((if b then [] else conclusion p k ∷ []) ++ linear_sources fs (numbered p (suc k) fs) ++ old)
+
+    at : (b : Bool) → Distinct (linear_sources fs (numbered p (suc k) fs) ++ old)
+        → Distinct ((if b then [] else conclusion p k ∷ []) ++ linear_sources fs (numbered p (suc k) fs) ++ old)
     at true h = h
     at false h = (
       λ m. ⊎_elim (λ a. not_later (conclusion p k) refl (numbered_from p fs (suc k) (conclusion p k) a)) (λ b. not_old (below (conclusion p k) b))
@@ -102,9 +105,11 @@ module _ (norm : Grounds → Grounds) where
         → HaveOrigins norm (step r facts sources ∷ log) fs (numbered (length log) k fs)
     numbered_origins [] k apart at = tt
     numbered_origins (f ∷ fs) k apart at =
-        let here : AtPlace facts.conclusions k (normal_fact norm f) = subst (λ (j : ℕ). AtPlace facts.conclusions j (normal_fact norm f)) (omega arith) (at zero f refl) in
-        ((apart.0, (step r facts sources, inl (refl, refl), here)),
-        numbered_origins fs (suc k) apart.1 (λ j g a. subst (λ (i : ℕ). AtPlace facts.conclusions i (normal_fact norm g)) (next j) (at (suc j) g a)))
+        let here : AtPlace facts.conclusions k (normal_fact norm f) =
+        subst (λ (j : ℕ). AtPlace facts.conclusions j (normal_fact norm f)) (omega arith) (at zero f refl) in (
+          (apart.0, (step r facts sources, inl (refl, refl), here)),
+          numbered_origins fs (suc k) apart.1 (λ j g a. subst (λ (i : ℕ). AtPlace facts.conclusions i (normal_fact norm g)) (next j) (at (suc j) g a)),
+        )
       where
         next : (j : ℕ) → k + suc j ≡ suc k + j
         next j = omega arith

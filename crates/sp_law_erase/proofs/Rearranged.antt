@@ -84,7 +84,7 @@ module _ {A : Type 0} where
     members = λ z m. ⊎_elim (λ a. member_left z xs zs (k.members z a)) (λ b. member_right z xs zs b) (member_either z ys zs m);
     distinct = λ ws d.
         subst (λ (us : List A). Distinct us) (sym (append_assoc ys zs ws))
-            (k.distinct (zs ++ ws) (subst (λ (us : List A). Distinct us) (append_assoc xs zs ws) d));
+        (k.distinct (zs ++ ws) (subst (λ (us : List A). Distinct us) (append_assoc xs zs ws) d));
   }
 
   -- what was taken is added to what was used, and the rest stays
@@ -92,8 +92,8 @@ module _ {A : Type 0} where
   keeps_used all taken rest used k =
       keeps_then (all ++ used) ((taken ++ rest) ++ used) (rest ++ (taken ++ used)) (keeps_before all (taken ++ rest) used k)
       (keeps_then ((taken ++ rest) ++ used) (taken ++ (rest ++ used)) (rest ++ (taken ++ used))
-          (keeps_same ((taken ++ rest) ++ used) (taken ++ (rest ++ used)) (append_assoc taken rest used))
-          (keeps_moved taken rest used))
+      (keeps_same ((taken ++ rest) ++ used) (taken ++ (rest ++ used)) (append_assoc taken rest used))
+      (keeps_moved taken rest used))
 
   -- what was taken is forgotten, and the rest stays
   pub keeps_rest : (all taken rest used : List A) → Keeps all (taken ++ rest) → Keeps (all ++ used) (rest ++ used)

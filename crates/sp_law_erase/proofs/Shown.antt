@@ -1,12 +1,12 @@
 -- What a step adds to the trace of an execution and to that of a log.
-use Rattle.std.proofs.Common.{◌≡◌, ℕ, Bool, true, false, if◌then◌else◌, List, [], ◌∷◌, map, refl, sym, ap, ◌∙◌, subst}
+use Rattle.std.proofs.Common.{◌≡◌, false, List, [], ◌∷◌, map, refl, sym, ap, subst}
 use Rattle.std.specs.Prelude.{codes}
 use Rattle.sp_spec.specs.Lists.{Every}
-use Rattle.sp_spec.specs.Term.{Variable, Ground, Values}
+use Rattle.sp_spec.specs.Term.{Variable, Values}
 use Rattle.sp_spec.specs.Signature.{Equation}
-use Rattle.sp_spec.specs.Rule.{Action, action_at, SameAction, sends}
+use Rattle.sp_spec.specs.Rule.{Action, action_at}
 use Rattle.sp_spec.specs.Execution.{Trace, with_entry}
-use Rattle.sp_law_erase.specs.Traces.{EachWith, EqualTraces, is_send, without_send, without_sends, without_empty}
+use Rattle.sp_law_erase.specs.Traces.{EqualTraces, is_send, without_send, without_sends, without_empty}
 use Rattle.sp_law_erase.specs.Laws.{NormalForms}
 use Rattle.sp_law_erase.proofs.Sources.{normal_action, same_normal_actions, is_not_named}
 
@@ -28,6 +28,8 @@ module _ (es : List Equation) (forms : NormalForms es) where
       → EqualTraces es (without_empty (without_sends (with_entry actions earlier))) (with_entry (map (normal_action es forms) actions) others)
   shown_step [] earlier others own same = same
   shown_step (a ∷ actions) earlier others own same =
-      subst (λ (xs : List (Action ⊥)). EqualTraces es (with_entry xs (without_empty (without_sends earlier))) (map (normal_action es forms) (a ∷ actions) ∷ others))
-          (sym (not_sent (a ∷ actions) own))
-          (same_normal_actions es forms (a ∷ actions), same)
+      subst
+      (λ (xs : List (Action ⊥)).
+      EqualTraces es (with_entry xs (without_empty (without_sends earlier))) (map (normal_action es forms) (a ∷ actions) ∷ others))
+      (sym (not_sent (a ∷ actions) own))
+      (same_normal_actions es forms (a ∷ actions), same)

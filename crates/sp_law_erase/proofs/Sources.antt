@@ -1,13 +1,13 @@
 -- The normal forms of a rule's premises, and their sources in the log.
-use Rattle.std.proofs.Common.{◌≡◌, ◌⊎◌, ⊎_elim, inl, inr, ℕ, zero, suc, Bool, true, false, not, ◌&&◌, if◌then◌else◌, List, [], ◌∷◌, ◌++◌, map, refl, sym, ap, ap₂, ◌∙◌, subst, true≢false}
+use Rattle.std.proofs.Common.{◌≡◌, ⊎_elim, ℕ, Bool, true, false, not, ◌&&◌, List, [], ◌∷◌, ◌++◌, map, refl, sym, ap, ap₂, ◌∙◌, subst, true≢false}
 use Rattle.std.specs.Prelude.{codes}
 use Rattle.std.specs.Str.{bytes_eq}
 use Rattle.std.proofs.lemmas.Slice.Eq.{bytes_eq-Decides}
-use Rattle.sp_spec.specs.Lists.{Member, Every, AtPosition}
+use Rattle.sp_spec.specs.Lists.{Member, Every}
 use Rattle.sp_spec.specs.Term.{name, none, more, Ground, Grounds}
 use Rattle.sp_spec.specs.Signature.{Equation}
 use Rattle.sp_spec.specs.Rule.{Fact, Action, Facts, SameFact, SameAction, fr, AreNormalFacts, AreNormalActions, IsNormalFormOf}
-use Rattle.sp_spec.specs.Log.{Source, fresh_rule, conclusion, Entry, Log, Concludes, is_fr, first_arg, fresh_of, linear_sources, HasSources}
+use Rattle.sp_spec.specs.Log.{Source, fresh_rule, conclusion, Log, is_fr, fresh_of, linear_sources, HasSources}
 use Rattle.sp_law_erase.specs.Traces.{EachWith}
 use Rattle.sp_law_erase.specs.Adversary.{adversary_facts}
 use Rattle.sp_law_erase.specs.Laws.{NormalForms}
@@ -20,7 +20,8 @@ names_apart f g h e = true≢false (sym ((bytes_eq-Decides f g).1 e) ∙ h)
 pub adversary_is_not_fr : (symbol : List ℕ) → Member symbol adversary_facts → symbol ≡ codes "Fr" → ⊥
 adversary_is_not_fr symbol m e =
     ⊎_elim (λ a. names_apart (codes "In") (codes "Fr") refl (a ∙ e))
-    (λ n. ⊎_elim (λ a. names_apart (codes "Out") (codes "Fr") refl (a ∙ e)) (λ k. ⊎_elim (λ a. names_apart (codes "K") (codes "Fr") refl (a ∙ e)) (λ h. h) k) n) m
+    (λ n. ⊎_elim (λ a. names_apart (codes "Out") (codes "Fr") refl (a ∙ e))
+    (λ k. ⊎_elim (λ a. names_apart (codes "K") (codes "Fr") refl (a ∙ e)) (λ h. h) k) n) m
 
 false_test : (test : Bool) (P : Type 0) → (test ≡ true → P) → (P → ⊥) → test ≡ false
 false_test true P h wrong = absurd (wrong (h refl))
@@ -76,7 +77,8 @@ module _ (es : List Equation) (forms : NormalForms es) where
   normals_same [] (g ∷ gs) h = absurd h
   normals_same (f ∷ fs) [] h = absurd h
   normals_same (f ∷ fs) (g ∷ gs) h =
-      ap₂ (λ (x : Fact ⊥) (xs : List (Fact ⊥)). x ∷ xs) (same_parts (normal f) (normal g) h.0.0 h.0.1 (forms.decides f.args g.args h.0.2)) (normals_same fs gs h.1)
+      ap₂ (λ (x : Fact ⊥) (xs : List (Fact ⊥)). x ∷ xs)
+      (same_parts (normal f) (normal g) h.0.0 h.0.1 (forms.decides f.args g.args h.0.2)) (normals_same fs gs h.1)
 
   linear_normal_one : (f : Fact ⊥) (o : Source) → source_share (normal f) o ≡ source_share f o
   linear_normal_one f (conclusion p k) = refl
@@ -103,7 +105,8 @@ module _ (es : List Equation) (forms : NormalForms es) where
     fresh_share_same f fresh_rule own h = ⊎_elim (λ m. absurd (own m)) (λ e. ap fresh_share (normal_fresh f e.0 e.1)) h
     fresh_share_same f (conclusion p k) own h = no_fresh_share (normal f) h.0 ∙ sym (no_fresh_share f h.0)
 
-    pub fresh_normal : (fs : List (Fact ⊥)) (os : List Source) → Every (λ (f : Fact ⊥). Member f.symbol adversary_facts → ⊥) fs → HaveOrigins forms.norm log fs os
+    pub fresh_normal : (fs : List (Fact ⊥)) (os : List Source)
+        → Every (λ (f : Fact ⊥). Member f.symbol adversary_facts → ⊥) fs → HaveOrigins forms.norm log fs os
         → fresh_of (map normal fs) ≡ fresh_of fs
     fresh_normal [] os own h = refl
     fresh_normal (f ∷ fs) [] own h = absurd h
@@ -113,7 +116,8 @@ module _ (es : List Equation) (forms : NormalForms es) where
     fr_is_fr f n e = subst (λ (g : Fact ⊥). is_fr (normal g) ≡ true) (sym e) refl
 
     -- facts that aren't the adversary's have their sources in the log
-    pub has_sources : (fs : List (Fact ⊥)) (os : List Source) → Every (λ (f : Fact ⊥). Member f.symbol adversary_facts → ⊥) fs → HaveOrigins forms.norm log fs os
+    pub has_sources : (fs : List (Fact ⊥)) (os : List Source)
+        → Every (λ (f : Fact ⊥). Member f.symbol adversary_facts → ⊥) fs → HaveOrigins forms.norm log fs os
         → HasSources (map normal fs) os log
     has_sources [] [] own h = tt
     has_sources [] (o ∷ os) own h = absurd h

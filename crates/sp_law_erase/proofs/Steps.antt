@@ -1,19 +1,19 @@
 -- What is kept along an execution, and that each step keeps it.
-use Rattle.std.proofs.Common.{◌≡◌, ◌⊎◌, ⊎_elim, inl, inr, ℕ, zero, suc, List, [], ◌∷◌, ◌++◌, map, length, refl, sym, ap, ap₂, ◌∙◌, subst, append_assoc, zero-add}
+use Rattle.std.proofs.Common.{◌≡◌, ⊎_elim, ℕ, zero, suc, List, [], ◌∷◌, ◌++◌, map, length, refl, sym, ap, ap₂, ◌∙◌, subst, append_assoc, zero-add}
 use Rattle.std.specs.Prelude.{codes}
 use Rattle.sp_spec.specs.Lists.{Member, Every, Distinct, AtPlace}
-use Rattle.sp_spec.specs.Term.{Variable, name, Ground, Values}
+use Rattle.sp_spec.specs.Term.{Variable, Ground, Values}
 use Rattle.sp_spec.specs.Signature.{Equation, IsValuation}
-use Rattle.sp_spec.specs.Rule.{Fact, Facts, Rule, fact_at, facts_at, SameFact, fr}
+use Rattle.sp_spec.specs.Rule.{Fact, Facts, Rule, fact_at, facts_at, SameFact}
 use Rattle.sp_spec.specs.Theory.{Theory, signature_of}
-use Rattle.sp_spec.specs.Execution.{Takes, Trace, with_entry}
-use Rattle.sp_spec.specs.Log.{Source, fresh_rule, Entry, step, Log, fresh_of, all_fresh_uses, linear_sources, all_sources, HasSources, Fits, IsLog, log_trace}
-use Rattle.sp_law_erase.specs.Traces.{EachWith, EqualTraces, without_sends, without_empty}
+use Rattle.sp_spec.specs.Execution.{Trace, with_entry}
+use Rattle.sp_spec.specs.Log.{Source, Entry, step, Log, fresh_of, all_fresh_uses, linear_sources, all_sources, HasSources, IsLog, log_trace}
+use Rattle.sp_law_erase.specs.Traces.{EachWith, without_empty}
 use Rattle.sp_law_erase.specs.Adversary.{adversary_facts, NeedsNoAdversary}
 use Rattle.sp_law_erase.specs.Laws.{NormalForms, ErasesTo}
-use Rattle.sp_law_erase.proofs.Rearranged.{member_left, member_right, member_either, distinct_right, Keeps, keeps_distinct, keeps_used, keeps_rest}
-use Rattle.sp_law_erase.proofs.Origins.{fresh_share, fresh_append, HasOrigin, HaveOrigins, Taken, have_append, linear_append, taken}
-use Rattle.sp_law_erase.proofs.Sources.{no_fresh_share, adversary_is_not_fr, normal, normal_facts, is_normal_form, normals_same, linear_normal, fresh_normal, has_sources}
+use Rattle.sp_law_erase.proofs.Rearranged.{member_either, distinct_right, Keeps, keeps_distinct, keeps_used}
+use Rattle.sp_law_erase.proofs.Origins.{fresh_append, HaveOrigins, Taken, have_append, linear_append}
+use Rattle.sp_law_erase.proofs.Sources.{no_fresh_share, normal, normal_facts, is_normal_form, normals_same, linear_normal, fresh_normal, has_sources}
 use Rattle.sp_law_erase.proofs.Places.{IsBelow, below_later, numbered, numbered_below, numbered_distinct, numbered_origins, origins_later, place_map}
 use Rattle.sp_law_erase.proofs.Shown.{own_actions, shown_step}
 
@@ -28,7 +28,8 @@ own_founds es v (p ∷ ps) (g ∷ founds) own same =
     let e : g.symbol ≡ p.symbol = sym same.0.0 in
     ((λ m. own.0 (subst (λ (s : List ℕ). Member s adversary_facts) e m)), own_founds es v ps founds own.1 same.1)
 
-apart_at : (v : Values) (cs : List (Fact Variable)) → Every (λ (f : Fact Variable). f.symbol ≡ codes "Fr" → ⊥) cs → Every (λ (f : Fact ⊥). f.symbol ≡ codes "Fr" → ⊥) (map (fact_at v) cs)
+apart_at : (v : Values) (cs : List (Fact Variable))
+    → Every (λ (f : Fact Variable). f.symbol ≡ codes "Fr" → ⊥) cs → Every (λ (f : Fact ⊥). f.symbol ≡ codes "Fr" → ⊥) (map (fact_at v) cs)
 apart_at v [] h = tt
 apart_at v (c ∷ cs) h = (h.0, apart_at v cs h.1)
 
@@ -73,23 +74,29 @@ module _ (theory : Theory) (forms : NormalForms (signature_of theory).equations)
       premises_are = sym (normals_same (signature_of theory).equations forms used.premises t.founds t.same)
 
       step_sources : HasSources shown.premises t.sources log
-      step_sources = subst (λ (fs : List (Fact ⊥)). HasSources fs t.sources log) premises_are (has_sources (signature_of theory).equations forms log t.founds t.sources own t.have_sources)
+      step_sources =
+          subst (λ (fs : List (Fact ⊥)). HasSources fs t.sources log) premises_are
+          (has_sources (signature_of theory).equations forms log t.founds t.sources own t.have_sources)
 
       sources_are : linear_sources t.founds t.sources ≡ linear_sources shown.premises t.sources
-      sources_are = sym (linear_normal (signature_of theory).equations forms t.founds t.sources) ∙ ap (λ (fs : List (Fact ⊥)). linear_sources fs t.sources) premises_are
+      sources_are =
+          sym (linear_normal (signature_of theory).equations forms t.founds t.sources)
+          ∙ ap (λ (fs : List (Fact ⊥)). linear_sources fs t.sources) premises_are
 
       fresh_are : fresh_of t.founds ≡ fresh_of shown.premises
       fresh_are = sym (fresh_normal (signature_of theory).equations forms log t.founds t.sources own t.have_sources) ∙ ap fresh_of premises_are
 
       keeps_sources : Keeps (linear_sources facts old.origins ++ all_sources log) (linear_sources rest t.left ++ all_sources (entry ∷ log))
       keeps_sources =
-          subst (λ (xs : List Source). Keeps (linear_sources facts old.origins ++ all_sources log) (linear_sources rest t.left ++ (xs ++ all_sources log))) sources_are
-              (keeps_used (linear_sources facts old.origins) (linear_sources t.founds t.sources) (linear_sources rest t.left) (all_sources log) t.linear)
+          subst
+          (λ (xs : List Source). Keeps (linear_sources facts old.origins ++ all_sources log) (linear_sources rest t.left ++ (xs ++ all_sources log)))
+          sources_are
+          (keeps_used (linear_sources facts old.origins) (linear_sources t.founds t.sources) (linear_sources rest t.left) (all_sources log) t.linear)
 
       keeps_fresh : Keeps (fresh_of facts ++ all_fresh_uses log) (fresh_of rest ++ all_fresh_uses (entry ∷ log))
       keeps_fresh =
           subst (λ (xs : List Ground). Keeps (fresh_of facts ++ all_fresh_uses log) (fresh_of rest ++ (xs ++ all_fresh_uses log))) fresh_are
-              (keeps_used (fresh_of facts) (fresh_of t.founds) (fresh_of rest) (all_fresh_uses log) t.fresh)
+          (keeps_used (fresh_of facts) (fresh_of t.founds) (fresh_of rest) (all_fresh_uses log) t.fresh)
 
       once_left : Distinct (linear_sources rest t.left ++ all_sources (entry ∷ log))
       once_left = keeps_distinct _ _ keeps_sources old.sources_once
@@ -101,8 +108,8 @@ module _ (theory : Theory) (forms : NormalForms (signature_of theory).equations)
       conclusions_have =
           numbered_origins forms.norm log r.name shown t.sources used.conclusions zero apart
           (λ j f a.
-              subst (λ (i : ℕ). AtPlace shown.conclusions i (normal (signature_of theory).equations forms f)) (sym (zero-add j))
-                  (place_map (normal (signature_of theory).equations forms) used.conclusions j f a))
+          subst (λ (i : ℕ). AtPlace shown.conclusions i (normal (signature_of theory).equations forms f)) (sym (zero-add j))
+          (place_map (normal (signature_of theory).equations forms) used.conclusions j f a))
 
       fresh_stays : fresh_of (used.conclusions ++ rest) ≡ fresh_of rest
       fresh_stays = fresh_append used.conclusions rest ∙ ap (λ (xs : List Ground). xs ++ fresh_of rest) (no_fresh used.conclusions apart)
@@ -113,7 +120,7 @@ module _ (theory : Theory) (forms : NormalForms (signature_of theory).equations)
       all_are =
           sym (append_assoc (linear_sources used.conclusions new_origins) (linear_sources rest t.left) (all_sources (entry ∷ log)))
           ∙ ap (λ (xs : List Source). xs ++ all_sources (entry ∷ log))
-              (sym (linear_append forms.norm (entry ∷ log) used.conclusions rest new_origins t.left conclusions_have))
+          (sym (linear_append forms.norm (entry ∷ log) used.conclusions rest new_origins t.left conclusions_have))
 
       below_left : (o : Source) → Member o (linear_sources rest t.left ++ all_sources (entry ∷ log)) → IsBelow (length log) o
       below_left o m = old.sources_below o (keeps_sources.members o m)
@@ -125,7 +132,7 @@ module _ (theory : Theory) (forms : NormalForms (signature_of theory).equations)
           → IsBelow (suc (length log)) o
       all_below o m =
           ⊎_elim (λ a. numbered_below (length log) used.conclusions zero o a) (λ b. below_later (length log) o (below_left o b))
-              (member_either o (linear_sources used.conclusions new_origins) (linear_sources rest t.left ++ all_sources (entry ∷ log)) m)
+          (member_either o (linear_sources used.conclusions new_origins) (linear_sources rest t.left ++ all_sources (entry ∷ log)) m)
 
       new_log : IsLog theory (entry ∷ log)
       new_log = (
@@ -144,7 +151,8 @@ module _ (theory : Theory) (forms : NormalForms (signature_of theory).equations)
         sources_once = subst (λ (xs : List Source). Distinct xs) all_are all_once;
         sources_below = λ o m. all_below o (subst (λ (xs : List Source). Member o xs) (sym all_are) m);
         fresh_once = subst (λ (xs : List Ground). Distinct (xs ++ all_fresh_uses (entry ∷ log))) (sym fresh_stays) fresh_left;
-        fresh_made = λ n m. old.fresh_made n (keeps_fresh.members n (subst (λ (xs : List Ground). Member n (xs ++ all_fresh_uses (entry ∷ log))) fresh_stays m));
+        fresh_made = λ n m.
+            old.fresh_made n (keeps_fresh.members n (subst (λ (xs : List Ground). Member n (xs ++ all_fresh_uses (entry ∷ log))) fresh_stays m));
         erases = record {
           is_log = new_log;
           steps_alone = (tt, old.erases.steps_alone);
