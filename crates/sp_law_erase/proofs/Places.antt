@@ -1,0 +1,115 @@
+-- The sources that the conclusions of a new entry are.
+use Rattle.std.proofs.Common.{◌≡◌, ⊎_elim, inl, inr, ℕ, zero, suc, ◌+◌, ◌<◌, ◌≤◌, Bool, true, false, if◌then◌else◌, List, [], ◌∷◌, ◌++◌, map, length, refl, sym, ap, subst, arith}
+use Rattle.std.specs.Prelude.{codes}
+use Rattle.sp_spec.specs.Lists.{Member, Every, Distinct, AtPlace, AtPosition}
+use Rattle.sp_spec.specs.Term.{Grounds}
+use Rattle.sp_spec.specs.Rule.{Fact, Facts}
+use Rattle.sp_spec.specs.Log.{Source, fresh_rule, conclusion, Entry, step, Log, linear_sources}
+use Rattle.sp_law_erase.proofs.Rearranged.{member_either}
+use Rattle.sp_law_erase.proofs.Origins.{source_share, normal_fact, HasOrigin, HaveOrigins}
+
+-- the source is in an entry before that position
+abbrev pub IsBelow : ℕ → Source → Type 0
+IsBelow n fresh_rule = Unit {0}
+IsBelow n (conclusion p k) = p < n
+
+pub position_below : {A : Type 0} → (xs : List A) (p : ℕ) (x : A) → AtPosition xs p x → p < length xs
+position_below [] p x a = absurd a
+position_below (y ∷ xs) p x a = ⊎_elim (λ (w : (p ≡ length xs) × (y ≡ x)). at w.0) (λ h. later (position_below xs p x h)) a
+  where
+    at : p ≡ length xs → p < suc (length xs)
+    at e = omega arith
+
+    later : p < length xs → p < suc (length xs)
+    later h = omega arith
+
+pub below_later : (n : ℕ) (o : Source) → IsBelow n o → IsBelow (suc n) o
+below_later n fresh_rule h = tt
+below_later n (conclusion p k) h = omega arith
+
+-- the conclusions of the entry at position p, from the k-th on
+abbrev pub numbered : ℕ → ℕ → List (Fact ⊥) → List Source
+numbered p k [] = []
+numbered p k (f ∷ fs) = conclusion p k ∷ numbered p (suc k) fs
+
+-- a conclusion of that position, none before the k-th
+abbrev pub IsFrom : ℕ → ℕ → Source → Type 0
+IsFrom p k fresh_rule = ⊥
+IsFrom p k (conclusion q j) = (q ≡ p) × (k ≤ j)
+
+from_sooner : (p k : ℕ) (o : Source) → IsFrom p (suc k) o → IsFrom p k o
+from_sooner p k fresh_rule h = h
+from_sooner p k (conclusion q j) h = let at = h.1 in (h.0, omega arith)
+
+member_share : (f : Fact ⊥) (p k : ℕ) (o : Source) → Member o (source_share f (conclusion p k)) → conclusion p k ≡ o
+member_share f p k o m = at f.persistent m
+  where
+    at : (b : Bool) → Member o (if b then [] else conclusion p k ∷ []) → conclusion p k ≡ o
+    at true n = absurd n
+    at false n = ⊎_elim (λ e. e) (λ h. absurd h) n
+
+pub numbered_from : (p : ℕ) (fs : List (Fact ⊥)) (k : ℕ) (o : Source) → Member o (linear_sources fs (numbered p k fs)) → IsFrom p k o
+numbered_from p [] k o m = absurd m
+numbered_from p (f ∷ fs) k o m =
+    ⊎_elim (λ n. subst (IsFrom p k) (member_share f p k o n) (refl, omega arith)) (λ n. from_sooner p k o (numbered_from p fs (suc k) o n))
+    (member_either o (source_share f (conclusion p k)) (linear_sources fs (numbered p (suc k) fs)) m)
+
+pub numbered_below : (p : ℕ) (fs : List (Fact ⊥)) (k : ℕ) (o : Source) → Member o (linear_sources fs (numbered p k fs)) → IsBelow (suc p) o
+numbered_below p fs k o m = at o (numbered_from p fs k o m)
+  where
+    at : (o : Source) → IsFrom p k o → IsBelow (suc p) o
+    at fresh_rule h = tt
+    at (conclusion q j) h = let e = h.0 in omega arith
+
+-- new sources are none of the old ones
+pub numbered_distinct : (p : ℕ) (fs : List (Fact ⊥)) (k : ℕ) (old : List Source) → ((o : Source) → Member o old → IsBelow p o) → Distinct old
+    → Distinct (linear_sources fs (numbered p k fs) ++ old)
+numbered_distinct p [] k old below d = d
+numbered_distinct p (f ∷ fs) k old below d = at f.persistent (numbered_distinct p fs (suc k) old below d)
+  where
+    not_later : (o : Source) → conclusion p k ≡ o → IsFrom p (suc k) o → ⊥
+    not_later o e h = let w = subst (IsFrom p (suc k)) (sym e) h in let n = w.1 in omega arith
+
+    not_old : IsBelow p (conclusion p k) → ⊥
+    not_old h = omega arith
+
+    at : (b : Bool) → Distinct (linear_sources fs (numbered p (suc k) fs) ++ old)
+        → Distinct ((if b then [] else conclusion p k ∷ []) ++ linear_sources fs (numbered p (suc k) fs) ++ old)
+    at true h = h
+    at false h = (
+      λ m. ⊎_elim (λ a. not_later (conclusion p k) refl (numbered_from p fs (suc k) (conclusion p k) a)) (λ b. not_old (below (conclusion p k) b))
+          (member_either (conclusion p k) (linear_sources fs (numbered p (suc k) fs)) old m),
+      h,
+    )
+
+pub place_map : {A B : Type 0} → (n : A → B) (xs : List A) (k : ℕ) (x : A) → AtPlace xs k x → AtPlace (map n xs) k (n x)
+place_map n [] k x a = absurd a
+place_map n (y ∷ xs) zero x a = ap n a
+place_map n (y ∷ xs) (suc k) x a = place_map n xs k x a
+
+module _ (norm : Grounds → Grounds) where
+  pub origin_later : (log : Log) (entry : Entry) (f : Fact ⊥) (o : Source) → HasOrigin norm log f o → HasOrigin norm (entry ∷ log) f o
+  origin_later log entry f fresh_rule h = h
+  origin_later log entry f (conclusion p k) h = (h.0, (h.1.0, inr h.1.1, h.1.2))
+
+  pub origins_later : (log : Log) (entry : Entry) (fs : List (Fact ⊥)) (os : List Source) → HaveOrigins norm log fs os → HaveOrigins norm (entry ∷ log) fs os
+  origins_later log entry [] [] h = tt
+  origins_later log entry [] (o ∷ os) h = absurd h
+  origins_later log entry (f ∷ fs) [] h = absurd h
+  origins_later log entry (f ∷ fs) (o ∷ os) h = (origin_later log entry f o h.0, origins_later log entry fs os h.1)
+
+  -- the conclusions of a step are where they come from
+  module _ (log : Log) (r : List ℕ) (facts : Facts ⊥) (sources : List Source) where
+    pub numbered_origins : (fs : List (Fact ⊥)) (k : ℕ) → Every (λ (f : Fact ⊥). f.symbol ≡ codes "Fr" → ⊥) fs
+        → ((j : ℕ) (f : Fact ⊥) → AtPlace fs j f → AtPlace facts.conclusions (k + j) (normal_fact norm f))
+        → HaveOrigins norm (step r facts sources ∷ log) fs (numbered (length log) k fs)
+    numbered_origins [] k apart at = tt
+    numbered_origins (f ∷ fs) k apart at =
+        let here : AtPlace facts.conclusions k (normal_fact norm f) =
+        subst (λ (j : ℕ). AtPlace facts.conclusions j (normal_fact norm f)) (omega arith) (at zero f refl) in (
+          (apart.0, (step r facts sources, inl (refl, refl), here)),
+          numbered_origins fs (suc k) apart.1 (λ j g a. subst (λ (i : ℕ). AtPlace facts.conclusions i (normal_fact norm g)) (next j) (at (suc j) g a)),
+        )
+      where
+        next : (j : ℕ) → k + suc j ≡ suc k + j
+        next j = omega arith

@@ -1,0 +1,163 @@
+-- What is kept along an execution, and that each step keeps it.
+use Rattle.std.proofs.Common.{◌≡◌, ⊎_elim, ℕ, zero, suc, List, [], ◌∷◌, ◌++◌, map, length, refl, sym, ap, ap₂, ◌∙◌, subst, append_assoc, zero-add}
+use Rattle.std.specs.Prelude.{codes}
+use Rattle.sp_spec.specs.Lists.{Member, Every, Distinct, AtPlace}
+use Rattle.sp_spec.specs.Term.{Variable, Ground, Values}
+use Rattle.sp_spec.specs.Signature.{Equation, IsValuation}
+use Rattle.sp_spec.specs.Rule.{Fact, Facts, Rule, fact_at, facts_at, SameFact}
+use Rattle.sp_spec.specs.Theory.{Theory, signature_of}
+use Rattle.sp_spec.specs.Execution.{Trace, with_entry}
+use Rattle.sp_spec.specs.Log.{Source, Entry, step, Log, fresh_of, all_fresh_uses, linear_sources, all_sources, HasSources, IsLog, log_trace}
+use Rattle.sp_law_erase.specs.Traces.{EachWith, without_empty}
+use Rattle.sp_law_erase.specs.Adversary.{adversary_facts, NeedsNoAdversary}
+use Rattle.sp_law_erase.specs.Laws.{NormalForms, ErasesTo}
+use Rattle.sp_law_erase.proofs.Rearranged.{member_either, distinct_right, Keeps, keeps_distinct, keeps_used}
+use Rattle.sp_law_erase.proofs.Origins.{fresh_append, HaveOrigins, Taken, have_append, linear_append}
+use Rattle.sp_law_erase.proofs.Sources.{no_fresh_share, normal, normal_facts, is_normal_form, normals_same, linear_normal, fresh_normal, has_sources}
+use Rattle.sp_law_erase.proofs.Places.{IsBelow, below_later, numbered, numbered_below, numbered_distinct, numbered_origins, origins_later, place_map}
+use Rattle.sp_law_erase.proofs.Shown.{own_actions, shown_step}
+
+-- what isn't the adversary's in a rule isn't in what is found for it
+own_founds : (es : List Equation) (v : Values) (ps : List (Fact Variable)) (founds : List (Fact ⊥))
+    → Every (λ (f : Fact Variable). Member f.symbol adversary_facts → ⊥) ps → EachWith (SameFact es) (map (fact_at v) ps) founds
+    → Every (λ (f : Fact ⊥). Member f.symbol adversary_facts → ⊥) founds
+own_founds es v [] [] own same = tt
+own_founds es v [] (g ∷ founds) own same = absurd same
+own_founds es v (p ∷ ps) [] own same = absurd same
+own_founds es v (p ∷ ps) (g ∷ founds) own same =
+    let e : g.symbol ≡ p.symbol = sym same.0.0 in
+    ((λ m. own.0 (subst (λ (s : List ℕ). Member s adversary_facts) e m)), own_founds es v ps founds own.1 same.1)
+
+apart_at : (v : Values) (cs : List (Fact Variable))
+    → Every (λ (f : Fact Variable). f.symbol ≡ codes "Fr" → ⊥) cs → Every (λ (f : Fact ⊥). f.symbol ≡ codes "Fr" → ⊥) (map (fact_at v) cs)
+apart_at v [] h = tt
+apart_at v (c ∷ cs) h = (h.0, apart_at v cs h.1)
+
+no_fresh : (fs : List (Fact ⊥)) → Every (λ (f : Fact ⊥). f.symbol ≡ codes "Fr" → ⊥) fs → fresh_of fs ≡ []
+no_fresh [] h = refl
+no_fresh (f ∷ fs) h = ap₂ (λ (xs ys : List Ground). xs ++ ys) (no_fresh_share f h.0) (no_fresh fs h.1)
+
+module _ (theory : Theory) (forms : NormalForms (signature_of theory).equations) where
+  -- Each fact has its origin, no linear source or fresh name of the state or of the log is there twice, and the log shows the trace.
+  pub record Erased (facts : List (Fact ⊥)) (made : List Ground) (trace : Trace) (log : Log) : Type 0 where
+    pub origins : List Source
+    pub have_origins : HaveOrigins forms.norm log facts origins
+    pub sources_once : Distinct (linear_sources facts origins ++ all_sources log)
+    pub sources_below : (o : Source) → Member o (linear_sources facts origins ++ all_sources log) → IsBelow (length log) o
+    pub fresh_once : Distinct (fresh_of facts ++ all_fresh_uses log)
+    pub fresh_made : (t : Ground) → Member t (fresh_of facts ++ all_fresh_uses log) → Member t made
+    pub erases : ErasesTo theory trace log
+
+  -- the step of a rule, where these were taken for its premises
+  module _ (needs : NeedsNoAdversary theory) (r : Rule) (member : Member r theory.rules) (v : Values) (valuation : IsValuation (signature_of theory) v) where
+    abbrev used : Facts ⊥
+    used = facts_at v r.facts
+
+    abbrev shown : Facts ⊥
+    shown = normal_facts (signature_of theory).equations forms used
+
+    module _ (log : Log) (facts rest : List (Fact ⊥)) (made : List Ground) (earlier : Trace) (old : Erased facts made earlier log)
+        (t : Taken forms.norm (signature_of theory).equations log used.premises facts old.origins rest) where
+      abbrev entry : Entry
+      entry = step r.name shown t.sources
+
+      abbrev new_origins : List Source
+      new_origins = numbered (length log) zero used.conclusions
+
+      own : Every (λ (f : Fact ⊥). Member f.symbol adversary_facts → ⊥) t.founds
+      own = own_founds (signature_of theory).equations v r.facts.premises t.founds (needs.premises r member) t.same
+
+      apart : Every (λ (f : Fact ⊥). f.symbol ≡ codes "Fr" → ⊥) used.conclusions
+      apart = apart_at v r.facts.conclusions (needs.conclusions r member)
+
+      premises_are : map (normal (signature_of theory).equations forms) t.founds ≡ shown.premises
+      premises_are = sym (normals_same (signature_of theory).equations forms used.premises t.founds t.same)
+
+      step_sources : HasSources shown.premises t.sources log
+      step_sources =
+          subst (λ (fs : List (Fact ⊥)). HasSources fs t.sources log) premises_are
+          (has_sources (signature_of theory).equations forms log t.founds t.sources own t.have_sources)
+
+      sources_are : linear_sources t.founds t.sources ≡ linear_sources shown.premises t.sources
+      sources_are =
+          sym (linear_normal (signature_of theory).equations forms t.founds t.sources)
+          ∙ ap (λ (fs : List (Fact ⊥)). linear_sources fs t.sources) premises_are
+
+      fresh_are : fresh_of t.founds ≡ fresh_of shown.premises
+      fresh_are = sym (fresh_normal (signature_of theory).equations forms log t.founds t.sources own t.have_sources) ∙ ap fresh_of premises_are
+
+      keeps_sources : Keeps (linear_sources facts old.origins ++ all_sources log) (linear_sources rest t.left ++ all_sources (entry ∷ log))
+      keeps_sources =
+          subst
+          (λ (xs : List Source). Keeps (linear_sources facts old.origins ++ all_sources log) (linear_sources rest t.left ++ (xs ++ all_sources log)))
+          sources_are
+          (keeps_used (linear_sources facts old.origins) (linear_sources t.founds t.sources) (linear_sources rest t.left) (all_sources log) t.linear)
+
+      keeps_fresh : Keeps (fresh_of facts ++ all_fresh_uses log) (fresh_of rest ++ all_fresh_uses (entry ∷ log))
+      keeps_fresh =
+          subst (λ (xs : List Ground). Keeps (fresh_of facts ++ all_fresh_uses log) (fresh_of rest ++ (xs ++ all_fresh_uses log))) fresh_are
+          (keeps_used (fresh_of facts) (fresh_of t.founds) (fresh_of rest) (all_fresh_uses log) t.fresh)
+
+      once_left : Distinct (linear_sources rest t.left ++ all_sources (entry ∷ log))
+      once_left = keeps_distinct _ _ keeps_sources old.sources_once
+
+      fresh_left : Distinct (fresh_of rest ++ all_fresh_uses (entry ∷ log))
+      fresh_left = keeps_distinct _ _ keeps_fresh old.fresh_once
+
+      conclusions_have : HaveOrigins forms.norm (entry ∷ log) used.conclusions new_origins
+      conclusions_have =
+          numbered_origins forms.norm log r.name shown t.sources used.conclusions zero apart
+          (λ j f a.
+          subst (λ (i : ℕ). AtPlace shown.conclusions i (normal (signature_of theory).equations forms f)) (sym (zero-add j))
+          (place_map (normal (signature_of theory).equations forms) used.conclusions j f a))
+
+      fresh_stays : fresh_of (used.conclusions ++ rest) ≡ fresh_of rest
+      fresh_stays = fresh_append used.conclusions rest ∙ ap (λ (xs : List Ground). xs ++ fresh_of rest) (no_fresh used.conclusions apart)
+
+      -- the new sources, those that were left, and those that the log names
+      all_are : linear_sources used.conclusions new_origins ++ (linear_sources rest t.left ++ all_sources (entry ∷ log))
+          ≡ linear_sources (used.conclusions ++ rest) (new_origins ++ t.left) ++ all_sources (entry ∷ log)
+      all_are =
+          sym (append_assoc (linear_sources used.conclusions new_origins) (linear_sources rest t.left) (all_sources (entry ∷ log)))
+          ∙ ap (λ (xs : List Source). xs ++ all_sources (entry ∷ log))
+          (sym (linear_append forms.norm (entry ∷ log) used.conclusions rest new_origins t.left conclusions_have))
+
+      below_left : (o : Source) → Member o (linear_sources rest t.left ++ all_sources (entry ∷ log)) → IsBelow (length log) o
+      below_left o m = old.sources_below o (keeps_sources.members o m)
+
+      all_once : Distinct (linear_sources used.conclusions new_origins ++ (linear_sources rest t.left ++ all_sources (entry ∷ log)))
+      all_once = numbered_distinct (length log) used.conclusions zero (linear_sources rest t.left ++ all_sources (entry ∷ log)) below_left once_left
+
+      all_below : (o : Source) → Member o (linear_sources used.conclusions new_origins ++ (linear_sources rest t.left ++ all_sources (entry ∷ log)))
+          → IsBelow (suc (length log)) o
+      all_below o m =
+          ⊎_elim (λ a. numbered_below (length log) used.conclusions zero o a) (λ b. below_later (length log) o (below_left o b))
+          (member_either o (linear_sources used.conclusions new_origins) (linear_sources rest t.left ++ all_sources (entry ∷ log)) m)
+
+      new_log : IsLog theory (entry ∷ log)
+      new_log = (
+        old.erases.is_log,
+        ((r, member, refl, v, valuation, is_normal_form (signature_of theory).equations forms used), step_sources),
+        distinct_right (fresh_of rest) (all_fresh_uses (entry ∷ log)) fresh_left,
+        distinct_right (linear_sources rest t.left) (all_sources (entry ∷ log)) once_left,
+      )
+
+      pub rule_step : Erased (used.conclusions ++ rest) made (with_entry used.actions earlier) (entry ∷ log)
+      rule_step = record {
+        origins = new_origins ++ t.left;
+        have_origins =
+            have_append forms.norm (entry ∷ log) used.conclusions rest new_origins t.left conclusions_have
+            (origins_later forms.norm log entry rest t.left t.have_left);
+        sources_once = subst (λ (xs : List Source). Distinct xs) all_are all_once;
+        sources_below = λ o m. all_below o (subst (λ (xs : List Source). Member o xs) (sym all_are) m);
+        fresh_once = subst (λ (xs : List Ground). Distinct (xs ++ all_fresh_uses (entry ∷ log))) (sym fresh_stays) fresh_left;
+        fresh_made = λ n m.
+            old.fresh_made n (keeps_fresh.members n (subst (λ (xs : List Ground). Member n (xs ++ all_fresh_uses (entry ∷ log))) fresh_stays m));
+        erases = record {
+          is_log = new_log;
+          steps_alone = (tt, old.erases.steps_alone);
+          same_trace =
+              shown_step (signature_of theory).equations forms used.actions earlier (without_empty (log_trace log))
+              (own_actions v r.facts.actions (needs.actions r member)) old.erases.same_trace;
+        };
+      }

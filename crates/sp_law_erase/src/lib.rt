@@ -1,0 +1,13 @@
+// Erasing the adversary: an execution of a theory whose rules don't deal with it has a log of rule steps alone.
+// Below stands sp_spec (executions, learning logs). Above, what holds of logs is carried to executions by the laws of truth.
+// Carried here: the promise that nothing is lost if the adversary is left out where no rule names it.
+// The trace is the execution's modulo the equations, without what is sent and without entries that have no action.
+// The function does nothing when it runs: its one clause is the law.
+#![tactic(auto)]
+
+ghost use Rattle.sp_law_erase.specs.Laws.{ExecutionsHaveLogs};
+
+/// Each execution of a theory whose rules leave the adversary alone has a log of steps alone that shows its trace.
+pub fn executions_have_logs()
+    ensures { ExecutionsHaveLogs }
+{}
