@@ -15,3 +15,4 @@ pub mod Destruction
 pub mod Log
 pub mod Verdict
 pub mod Written
+pub mod Findings
