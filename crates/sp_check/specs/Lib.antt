@@ -1,3 +1,4 @@
 pub mod Tree
 pub mod FirstForm
 pub mod Growth
+pub mod Laws
