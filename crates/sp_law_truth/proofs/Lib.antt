@@ -1,2 +1,3 @@
 pub mod Stable
 pub mod StableGuarded
+pub mod Shifts
