@@ -1,3 +1,5 @@
 pub mod Stable
 pub mod StableGuarded
+pub mod AsTrue
 pub mod Shifts
+pub mod WithoutEmpty

@@ -1,5 +1,6 @@
 -- Where the entries of a trace stand once those without actions are left out.
 use Rattle.std.proofs.Common.{◌≡◌, ◌⊎◌, ℕ, zero, suc, ◌<◌, ◌≤◌, List, [], ◌∷◌, length, refl, sym, ap, ◌∙◌, subst, inl, inr, arith}
+use Rattle.std.specs.Prelude.{◌↔◌}
 use Rattle.std.proofs.lemmas.Bool.{cases_eq, cases_order}
 use Rattle.sp_spec.specs.Lists.{Member, AtPosition}
 use Rattle.sp_spec.specs.Signature.{Equation}
@@ -89,7 +90,7 @@ position_within (y ∷ past) p x (inl h) = let e = h.0 in omega (arith, e)
 position_within (y ∷ past) p x (inr h) = let l = position_within past p x h in omega (arith, l)
 
 -- an entry that is left stands at its new position
-pub shifts_entry : (trace : Trace) (p q : ℕ) → Shifts trace p q → (entry : List (Action ⊥)) → (AtPosition trace p entry → AtPosition (without_empty trace) q entry) × (AtPosition (without_empty trace) q entry → AtPosition trace p entry)
+pub shifts_entry : (trace : Trace) (p q : ℕ) → Shifts trace p q → (entry : List (Action ⊥)) → AtPosition trace p entry ↔ AtPosition (without_empty trace) q entry
 shifts_entry [] p q s entry = absurd s
 shifts_entry ([] ∷ past) p q s entry = let h = shifts_entry past p q s entry in (forth h.0, (λ x. inr (h.1 x)))
   where
@@ -128,7 +129,6 @@ pub idle_acts : (es : List Equation) (trace : Trace) (p : ℕ) (action : Action 
 idle_acts es trace p action idle h = let s = position_shifts trace p h.0 h.2 h.1 h.3 in idle s.0 s.1
 
 -- the same actions are at an entry's new position
-pub shifts_acts : (es : List Equation) (trace : Trace) (p q : ℕ) (action : Action ⊥) → Shifts trace p q
-    → (Acts es trace p action → Acts es (without_empty trace) q action) × (Acts es (without_empty trace) q action → Acts es trace p action)
+pub shifts_acts : (es : List Equation) (trace : Trace) (p q : ℕ) (action : Action ⊥) → Shifts trace p q → Acts es trace p action ↔ Acts es (without_empty trace) q action
 shifts_acts es trace p q action s =
     ((λ h. (h.0, (shifts_entry trace p q s h.0).0 h.1, h.2, h.3, h.4)), (λ h. (h.0, (shifts_entry trace p q s h.0).1 h.1, h.2, h.3, h.4)))
