@@ -3,3 +3,4 @@ pub mod StableGuarded
 pub mod AsTrue
 pub mod Shifts
 pub mod WithoutEmpty
+pub mod Equals
