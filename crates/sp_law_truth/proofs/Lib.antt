@@ -4,3 +4,4 @@ pub mod AsTrue
 pub mod Shifts
 pub mod WithoutEmpty
 pub mod Equals
+pub mod ActsAlike
