@@ -105,36 +105,33 @@ module _ (signature : Signature) (IsNamed : List ℕ → Type 0) (trace other : 
   atoms_alike (a ∷ guard) named m w h =
       as_both (atom_alike a (every_front IsNamed (atom_names a) (guard_names guard) named) m w h) (atoms_alike guard (every_back IsNamed (atom_names a) (guard_names guard) named) m w h)
 
-mutual
-  pub formula_alike : (signature : Signature) (IsNamed : List ℕ → Type 0) (trace other : Trace) → ActsAlike signature.equations IsNamed trace other
-      → (f : Guarded) → Every IsNamed (action_names f) → IsAlike signature.equations (λ m. GuardedHolds signature trace m f) (λ m. GuardedHolds signature other m f)
-  formula_alike signature IsNamed trace other alike truth named m w h = as_itself
-  formula_alike signature IsNamed trace other alike falsity named m w h = as_itself
-  formula_alike signature IsNamed trace other alike (holds a) named m w h = atom_alike signature IsNamed trace other alike a named m w h
-  formula_alike signature IsNamed trace other alike (fails a) named m w h = as_not (atom_alike signature IsNamed trace other alike a named m w h)
-  formula_alike signature IsNamed trace other alike (all_of fs) named m w h = each_formula_alike signature IsNamed trace other alike fs named m w h
-  formula_alike signature IsNamed trace other alike (one_of fs) named m w h = as_classically (some_formula_alike signature IsNamed trace other alike fs named m w h)
-  formula_alike signature IsNamed trace other alike (some bs guard f) named m w h =
-      some_alike signature (length trace) (length other) alike.lengths (λ u. AtomsHold signature trace u guard × GuardedHolds signature trace u f) (λ u. AtomsHold signature other u guard × GuardedHolds signature other u f)
-      (λ u r k.
-      as_both (atoms_alike signature IsNamed trace other alike guard (every_front IsNamed (guard_names guard) (action_names f) named) u r k)
-      (formula_alike signature IsNamed trace other alike f (every_back IsNamed (guard_names guard) (action_names f) named) u r k)) bs m w h
-  formula_alike signature IsNamed trace other alike (every bs guard f) named m w h =
-      each_alike signature (length trace) (length other) alike.lengths (λ u. AtomsHold signature trace u guard → GuardedHolds signature trace u f) (λ u. AtomsHold signature other u guard → GuardedHolds signature other u f)
-      (λ u r k.
-      as_implies (atoms_alike signature IsNamed trace other alike guard (every_front IsNamed (guard_names guard) (action_names f) named) u r k)
-      (formula_alike signature IsNamed trace other alike f (every_back IsNamed (guard_names guard) (action_names f) named) u r k)) bs m w h
+  mutual
+    pub formula_alike : (f : Guarded) → Every IsNamed (action_names f) → IsAlike signature.equations (λ m. GuardedHolds signature trace m f) (λ m. GuardedHolds signature other m f)
+    formula_alike truth named m w h = as_itself
+    formula_alike falsity named m w h = as_itself
+    formula_alike (holds a) named m w h = atom_alike a named m w h
+    formula_alike (fails a) named m w h = as_not (atom_alike a named m w h)
+    formula_alike (all_of fs) named m w h = each_formula_alike fs named m w h
+    formula_alike (one_of fs) named m w h = as_classically (some_formula_alike fs named m w h)
+    formula_alike (some bs guard f) named m w h =
+        some_alike signature (length trace) (length other) alike.lengths (λ u. AtomsHold signature trace u guard × GuardedHolds signature trace u f) (λ u. AtomsHold signature other u guard × GuardedHolds signature other u f)
+        (λ u r k.
+        as_both (atoms_alike guard (every_front IsNamed (guard_names guard) (action_names f) named) u r k)
+        (formula_alike f (every_back IsNamed (guard_names guard) (action_names f) named) u r k)) bs m w h
+    formula_alike (every bs guard f) named m w h =
+        each_alike signature (length trace) (length other) alike.lengths (λ u. AtomsHold signature trace u guard → GuardedHolds signature trace u f) (λ u. AtomsHold signature other u guard → GuardedHolds signature other u f)
+        (λ u r k.
+        as_implies (atoms_alike guard (every_front IsNamed (guard_names guard) (action_names f) named) u r k)
+        (formula_alike f (every_back IsNamed (guard_names guard) (action_names f) named) u r k)) bs m w h
 
-  each_formula_alike : (signature : Signature) (IsNamed : List ℕ → Type 0) (trace other : Trace) → ActsAlike signature.equations IsNamed trace other
-      → (fs : Guardeds) → Every IsNamed (all_action_names fs) → IsAlike signature.equations (λ m. EachHolds signature trace m fs) (λ m. EachHolds signature other m fs)
-  each_formula_alike signature IsNamed trace other alike no_more named m w h = as_itself
-  each_formula_alike signature IsNamed trace other alike (and_then f fs) named m w h =
-      as_both (formula_alike signature IsNamed trace other alike f (every_front IsNamed (action_names f) (all_action_names fs) named) m w h)
-      (each_formula_alike signature IsNamed trace other alike fs (every_back IsNamed (action_names f) (all_action_names fs) named) m w h)
+    each_formula_alike : (fs : Guardeds) → Every IsNamed (all_action_names fs) → IsAlike signature.equations (λ m. EachHolds signature trace m fs) (λ m. EachHolds signature other m fs)
+    each_formula_alike no_more named m w h = as_itself
+    each_formula_alike (and_then f fs) named m w h =
+        as_both (formula_alike f (every_front IsNamed (action_names f) (all_action_names fs) named) m w h)
+        (each_formula_alike fs (every_back IsNamed (action_names f) (all_action_names fs) named) m w h)
 
-  some_formula_alike : (signature : Signature) (IsNamed : List ℕ → Type 0) (trace other : Trace) → ActsAlike signature.equations IsNamed trace other
-      → (fs : Guardeds) → Every IsNamed (all_action_names fs) → IsAlike signature.equations (λ m. SomeHolds signature trace m fs) (λ m. SomeHolds signature other m fs)
-  some_formula_alike signature IsNamed trace other alike no_more named m w h = as_itself
-  some_formula_alike signature IsNamed trace other alike (and_then f fs) named m w h =
-      as_either (formula_alike signature IsNamed trace other alike f (every_front IsNamed (action_names f) (all_action_names fs) named) m w h)
-      (some_formula_alike signature IsNamed trace other alike fs (every_back IsNamed (action_names f) (all_action_names fs) named) m w h)
+    some_formula_alike : (fs : Guardeds) → Every IsNamed (all_action_names fs) → IsAlike signature.equations (λ m. SomeHolds signature trace m fs) (λ m. SomeHolds signature other m fs)
+    some_formula_alike no_more named m w h = as_itself
+    some_formula_alike (and_then f fs) named m w h =
+        as_either (formula_alike f (every_front IsNamed (action_names f) (all_action_names fs) named) m w h)
+        (some_formula_alike fs (every_back IsNamed (action_names f) (all_action_names fs) named) m w h)

@@ -5,3 +5,4 @@ pub mod Shifts
 pub mod WithoutEmpty
 pub mod Equals
 pub mod ActsAlike
+pub mod Only
