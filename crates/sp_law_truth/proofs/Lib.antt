@@ -6,3 +6,5 @@ pub mod WithoutEmpty
 pub mod Equals
 pub mod ActsAlike
 pub mod Only
+pub mod EqualTraces
+pub mod Shown
