@@ -1,2 +1,4 @@
-pub mod Trees
 pub mod Growing
+pub mod Trees
+pub mod Meant
+pub mod Negations

@@ -59,7 +59,7 @@ abbrev pub meant : List Written → List ℕ → Option Meant
 meant [] x = None
 meant (b ∷ bs) x = if bytes_eq b.name x then Some (binder_meant b.mark) else option_map (past_binder b.mark) (meant bs x)
 
--- a term's variables are messages
+-- a term's variable is a message
 abbrev pub message_place : Option Meant → Option (Term Place)
 message_place (Some (a_message mark k)) = Some (var (bound k))
 message_place (Some (a_time k)) = None
@@ -70,16 +70,16 @@ time_place (Some (a_time k)) = Some (bound_time k)
 time_place (Some (a_message mark k)) = None
 time_place None = None
 
-abbrev mutual
-  pub placed_term : List Written → Term Written → Option (Term Place)
-  placed_term bs (var x) = message_place (meant bs x.name)
-  placed_term bs (constant c) = Some (constant c)
-  placed_term bs (name n) = Some (name n)
-  placed_term bs (app f ts) = option_map (app f) (placed_terms bs ts)
+-- (lemmas of this form have no symbols in their terms)
+abbrev pub placed_term : List Written → Term Written → Option (Term Place)
+placed_term bs (var x) = message_place (meant bs x.name)
+placed_term bs (constant c) = Some (constant c)
+placed_term bs (name n) = None
+placed_term bs (app f ts) = None
 
-  pub placed_terms : List Written → Terms Written → Option (Terms Place)
-  placed_terms bs none = Some none
-  placed_terms bs (more t ts) = option_and_then (λ u. option_map (more u) (placed_terms bs ts)) (placed_term bs t)
+abbrev pub placed_terms : List Written → Terms Written → Option (Terms Place)
+placed_terms bs none = Some none
+placed_terms bs (more t ts) = option_and_then (λ u. option_map (more u) (placed_terms bs ts)) (placed_term bs t)
 
 abbrev pub placed_action : List Written → Happens → Option Atom
 placed_action bs h =
