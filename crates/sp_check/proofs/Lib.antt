@@ -2,3 +2,4 @@ pub mod Growing
 pub mod Trees
 pub mod Meant
 pub mod Negations
+pub mod Flat
