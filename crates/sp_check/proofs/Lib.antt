@@ -3,3 +3,4 @@ pub mod Trees
 pub mod Meant
 pub mod Negations
 pub mod Flat
+pub mod Shown
