@@ -6,3 +6,8 @@ pub mod Facts
 pub mod Unchanged
 pub mod Solutions
 pub mod Merging
+pub mod TermValues
+pub mod Variables
+pub mod Bindings
+pub mod Unifying
+pub mod Unifier
