@@ -4,3 +4,4 @@ pub mod Meant
 pub mod Negations
 pub mod Flat
 pub mod Shown
+pub mod Roots
