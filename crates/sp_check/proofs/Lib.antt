@@ -5,3 +5,4 @@ pub mod Negations
 pub mod Flat
 pub mod Shown
 pub mod Roots
+pub mod Verified

@@ -81,7 +81,7 @@ guards_times atoms (time ∷ bs) e =
     (subst (λ (k : ℕ). HasActionAt k atoms) n (has_action_at (times_in bs) atoms both.0), guards_times atoms bs both.1)
 
 -- what checking adds
-checked : (l : FirstForm) (g : Guarded) → checked_negation l ≡ Some g → (negation l ≡ Some g) × (is_guarded g ≡ true)
+pub checked : (l : FirstForm) (g : Guarded) → checked_negation l ≡ Some g → (negation l ≡ Some g) × (is_guarded g ≡ true)
 checked l g e = at (negation l) refl e
   where
     at : (o : Option Guarded) → negation l ≡ o → right_negation l o ≡ Some g → (negation l ≡ Some g) × (is_guarded g ≡ true)
@@ -138,7 +138,7 @@ root_numbered g p = record {
 }
 
 -- a log over whose trace the negation is true solves the root
-root_solved : (theory : Theory) (log : Log) (g : Guarded) → HasParts g → GuardedHolds (signature_of theory) (log_trace log) (assignment start) g → Solves theory log start (root g)
+pub root_solved : (theory : Theory) (log : Log) (g : Guarded) → HasParts g → GuardedHolds (signature_of theory) (log_trace log) (assignment start) g → Solves theory log start (root g)
 root_solved theory log g p h = record {
   sorts = start_sorts (signature_of theory);
   normal = start_normal (signature_of theory);
