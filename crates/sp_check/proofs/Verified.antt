@@ -2,8 +2,6 @@
 -- execution, steps of the adversary included.
 use Rattle.std.proofs.Common.{◌≡◌, ◌⊎◌, ℕ, zero, List, [], ◌∷◌, Option, Some, refl, sym, subst, inl, inr}
 use Rattle.sp_spec.specs.Lists.{Member, Every}
-use Rattle.sp_spec.specs.Signature.{Equation}
-use Rattle.sp_spec.specs.Rule.{Action}
 use Rattle.sp_spec.specs.Theory.{Theory, Lemma, signature_of}
 use Rattle.sp_spec.specs.Formula.{Formula}
 use Rattle.sp_spec.specs.Execution.{Step, Trace, IsExecution}
@@ -11,19 +9,14 @@ use Rattle.sp_spec.specs.Truth.{IsTrueOver}
 use Rattle.sp_spec.specs.Guarded.{Guarded, GuardedHolds}
 use Rattle.sp_spec.specs.Log.{Log, IsLog, log_trace}
 use Rattle.sp_spec.specs.Verdict.{HoldsInAll}
-use Rattle.sp_law_equal.specs.Convergent.{AreConvergent, KeepSymbols}
-use Rattle.sp_law_equal.proofs.Chains.{same_action_refl}
 use Rattle.sp_law_truth.specs.Shown.{without_empty, action_names}
-use Rattle.sp_law_truth.specs.Same.{SameActions, EqualTraces}
+use Rattle.sp_law_truth.specs.Same.{EqualTraces}
 use Rattle.sp_law_truth.proofs.Stable.{stable_truth}
 use Rattle.sp_law_truth.proofs.Shown.{equal_shown_same}
-use Rattle.sp_law_truth.proofs.EqualTraces.{equal_same}
 use Rattle.sp_law_erase.specs.Traces.{without_sends}
 use Rattle.sp_system.specs.System.{assignment}
-use Rattle.sp_system.proofs.Unifier.{unifier_is_right}
-use Rattle.sp_step.specs.Laws.{RulesAreNumbered, RulesArePlain}
-use Rattle.sp_step.proofs.Opened.{EqualTruth}
-use Rattle.sp_step.proofs.MovesCover.{moves_cover}
+use Rattle.sp_step.specs.Laws.{IsPlainTheory}
+use Rattle.sp_step.proofs.Covering.{plain_moves_cover}
 use Rattle.sp_check.specs.Tree.{Tree, IsAccepted, IsFinished}
 use Rattle.sp_check.specs.FirstForm.{FirstForm, formula_of, checked_negation, root}
 use Rattle.sp_check.proofs.Trees.{finished_tree}
@@ -38,20 +31,7 @@ each_among (x ∷ xs) ys h = (h x (inl refl), each_among xs ys (λ z m. h z (inr
 every_itself : {A : Type 0} (xs : List A) → Every (λ x. Member x xs) xs
 every_itself xs = each_among xs xs (λ x m. m)
 
-same_actions_itself : (es : List Equation) (actions : List (Action ⊥)) → SameActions es actions actions
-same_actions_itself es [] = tt
-same_actions_itself es (a ∷ actions) = (same_action_refl es a, same_actions_itself es actions)
-
-same_trace_itself : (es : List Equation) (trace : Trace) → EqualTraces es trace trace
-same_trace_itself es [] = tt
-same_trace_itself es (entry ∷ trace) = (same_actions_itself es entry, same_trace_itself es trace)
-
-pub equal_truth : EqualTruth
-equal_truth signature trace f m w terms times bound_terms bound_times h =
-    (equal_same signature trace trace (same_trace_itself signature.equations trace) m w (record { terms = terms; times = times; bound_terms = bound_terms; bound_times = bound_times }) f).0 h
-
-module _ (theory : Theory) (good : AreConvergent (signature_of theory).equations) (keeps : KeepSymbols (signature_of theory).symbols (signature_of theory).equations)
-    (numbered : RulesAreNumbered theory.rules) (plain : RulesArePlain (signature_of theory).equations theory.rules)
+module _ (theory : Theory) (p : IsPlainTheory theory)
     (erase : (steps : List Step) (trace : Trace) → IsExecution theory steps trace → (log : Log) × IsLog theory log × EqualTraces (signature_of theory).equations (without_empty (without_sends trace)) (without_empty (log_trace log))) where
   pub verified : (lemma : Lemma) (l : FirstForm) → lemma.formula ≡ formula_of l → (g : Guarded) → checked_negation l ≡ Some g → NamesNoSend (action_names g)
       → (tree : Tree) → IsAccepted theory.rules (root g) tree → IsFinished tree → HoldsInAll theory lemma
@@ -59,11 +39,11 @@ module _ (theory : Theory) (good : AreConvergent (signature_of theory).equations
       subst (λ (f : Formula). IsTrueOver (signature_of theory) trace f) (sym is)
       (stable_truth (signature_of theory) trace _ (formula_of l) (λ broken.
       let c = checked l g e in
-      let p = negation_parts l g c.0 in
-      let timed = negation_timed g p c.1 in
+      let parts = negation_parts l g c.0 in
+      let timed = negation_timed g parts c.1 in
       let r = erase steps trace execution in
       let log = r.0 in
       let over_trace = negation_holds (signature_of theory) trace l g c.0 (assignment start) broken in
       let equal = erased_shown (signature_of theory).equations (action_names g) names trace (log_trace log) r.2 in
       let over_log = (equal_shown_same (signature_of theory) (action_names g) trace (log_trace log) equal (assignment start) g timed (every_itself (action_names g))).0 over_trace in
-      finished_tree theory (moves_cover unifier_is_right theory good keeps numbered plain equal_truth) tree (root g) (root_numbered g p) accepted finished log r.1 start (root_solved theory log g p over_log)))
+      finished_tree theory (plain_moves_cover theory p) tree (root g) (root_numbered g parts) accepted finished log r.1 start (root_solved theory log g parts over_log)))

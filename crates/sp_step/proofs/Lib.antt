@@ -10,3 +10,4 @@ pub mod Entries
 pub mod Actions
 pub mod ActionCovers
 pub mod MovesCover
+pub mod Covering

@@ -4,9 +4,9 @@ use Rattle.sp_spec.specs.Lists.{Every}
 use Rattle.sp_spec.specs.Term.{Variable}
 use Rattle.sp_spec.specs.Signature.{Equation}
 use Rattle.sp_spec.specs.Rule.{Fact, Action, Facts, Rule}
-use Rattle.sp_spec.specs.Theory.{Theory}
+use Rattle.sp_spec.specs.Theory.{Theory, signature_of}
 use Rattle.sp_spec.specs.Log.{Log, IsLog}
-use Rattle.sp_law_equal.specs.Convergent.{ArePlain}
+use Rattle.sp_law_equal.specs.Convergent.{AreConvergent, KeepSymbols, ArePlain}
 use Rattle.sp_system.specs.System.{System, Valuation, Solves, InFacts, IsNumbered, Covers}
 use Rattle.sp_step.specs.Rows.{Row, by_row, is_contradictory}
 use Rattle.sp_step.specs.Moves.{Move, unproved, Case, cases}
@@ -44,3 +44,17 @@ systems_of cs = map (λ c. c.system) cs
 pub record MovesCover (theory : Theory) : Type 0 where
   pub numbered : (s : System) (move : Move) (cs : List Case) → cases theory.rules s move ≡ Some cs → IsNumbered s → Every (λ (c : Case). IsNumbered c.system × (s.next ≤ c.system.next)) cs
   pub covers : (s : System) (move : Move) (cs : List Case) → cases theory.rules s move ≡ Some cs → (move ≡ unproved → ⊥) → IsNumbered s → Covers theory s (systems_of cs)
+
+-- What is asked of a theory: its equations may be read from left to right and bring in no new symbols, its rules' variables are
+-- numbered, and no destructor stands in a rule.
+pub record IsPlainTheory (theory : Theory) : Type 0 where
+  pub convergent : AreConvergent (signature_of theory).equations
+  pub keeps : KeepSymbols (signature_of theory).symbols (signature_of theory).equations
+  pub numbered : RulesAreNumbered theory.rules
+  pub plain : RulesArePlain (signature_of theory).equations theory.rules
+
+-- No solution is lost: not by an elementary move, not by a contradiction, and not by a move with its cases simplified.
+pub record NothingIsLost : Type 0 where
+  pub rows : (theory : Theory) → IsPlainTheory theory → RowsCover theory
+  pub contradictions : (theory : Theory) → IsPlainTheory theory → ContradictionsHold theory
+  pub moves : (theory : Theory) → IsPlainTheory theory → MovesCover theory
