@@ -6,3 +6,4 @@ pub mod Flat
 pub mod Shown
 pub mod Roots
 pub mod Verified
+pub mod WrittenRules

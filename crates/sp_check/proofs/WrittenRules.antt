@@ -1,0 +1,166 @@
+-- A written rule of the first form stands for a rule whose variables are numbered, without destructors, that leaves the adversary
+-- alone.
+use Rattle.std.proofs.Common.{◌≡◌, ◌<◌, ℕ, zero, suc, Bool, true, false, ◌&&◌, ◌||◌, if◌then◌else◌, List, [], ◌∷◌, ◌++◌, map, length, codes, refl, sym, ap, ◌∙◌, subst, inl, inr, arith, bytes_eq, ⊎_elim}
+use Rattle.std.proofs.lemmas.Bool.{or_cases, or_left, or_right, or_parts}
+use Rattle.std.proofs.lemmas.Slice.Eq.{bytes_eq-Decides}
+use Rattle.sp_spec.specs.Lists.{Member, Every}
+use Rattle.sp_spec.specs.Term.{Sort, Variable, Term, var, constant, name, app, Terms, none, more, valued, valued_all}
+use Rattle.sp_spec.specs.Signature.{Equation}
+use Rattle.sp_spec.specs.Rule.{Fact, Action, Facts, Declared, Rule, fact_at, action_at, facts_at}
+use Rattle.sp_spec.specs.Formula.{Written}
+use Rattle.sp_spec.specs.Theory.{Theory}
+use Rattle.sp_spec.specs.Written.{WrittenRule, WrittenTheory, in_term, in_terms, in_facts, in_actions, occurrences, is_listed, names_after, rule_names, place_of, numbered_in, sort_in, rule_of, theory_of}
+use Rattle.sp_spec.specs.Findings.{is_fr_named, has_fr}
+use Rattle.sp_law_equal.specs.Convergent.{IsPlain, ArePlain}
+use Rattle.sp_law_erase.specs.Adversary.{adversary_facts, adversary_names, NeedsNoAdversary}
+use Rattle.sp_system.specs.System.{EachVariable, EachVariables, InFacts}
+use Rattle.sp_system.proofs.Lists.{every_map, every_weaken, every_member, member_mapped}
+use Rattle.sp_system.proofs.Numbers.{facts_valued}
+use Rattle.sp_step.specs.Laws.{FactsArePlain, RulesArePlain, RulesAreNumbered}
+use Rattle.sp_check.specs.FirstTheory.{IsAtomic, AreAtomic, IsFirstFact, IsFirstAction, IsFirstRule}
+
+-- names that are listed
+listed_append : (x : List ℕ) (xs ys : List (List ℕ)) → is_listed x xs ≡ true → is_listed x (xs ++ ys) ≡ true
+listed_append x [] ys e = absurd cc
+listed_append x (z ∷ xs) ys e = ⊎_elim (λ h. or_left (bytes_eq z x) (is_listed x (xs ++ ys)) h) (λ h. or_right (bytes_eq z x) (is_listed x (xs ++ ys)) (listed_append x xs ys h)) (or_cases (bytes_eq z x) (is_listed x xs) e)
+
+listed_last : (x : List ℕ) (xs : List (List ℕ)) → is_listed x (xs ++ x ∷ []) ≡ true
+listed_last x [] = or_left (bytes_eq x x) false ((bytes_eq-Decides x x).1 refl)
+listed_last x (z ∷ xs) = or_right (bytes_eq z x) (is_listed x (xs ++ x ∷ [])) (listed_last x xs)
+
+abbrev seen_then : List (List ℕ) → Written → List (List ℕ)
+seen_then seen x = if is_listed x.name seen then seen else seen ++ x.name ∷ []
+
+listed_then : (y : List ℕ) (seen : List (List ℕ)) (x : Written) → is_listed y seen ≡ true → is_listed y (seen_then seen x) ≡ true
+listed_then y seen x e = at (is_listed x.name seen)
+  where
+    at : (b : Bool) → is_listed y (if b then seen else seen ++ x.name ∷ []) ≡ true
+    at true = e
+    at false = listed_append y seen (x.name ∷ []) e
+
+listed_here : (seen : List (List ℕ)) (x : Written) → is_listed x.name (seen_then seen x) ≡ true
+listed_here seen x = at (is_listed x.name seen) refl
+  where
+    at : (b : Bool) → is_listed x.name seen ≡ b → is_listed x.name (if b then seen else seen ++ x.name ∷ []) ≡ true
+    at true e = e
+    at false e = listed_last x.name seen
+
+names_keep : (y : List ℕ) (seen : List (List ℕ)) (xs : List Written) → is_listed y seen ≡ true → is_listed y (names_after seen xs) ≡ true
+names_keep y seen [] e = e
+names_keep y seen (x ∷ xs) e = names_keep y (seen_then seen x) xs (listed_then y seen x e)
+
+names_have : (seen : List (List ℕ)) (xs : List Written) → Every (λ (x : Written). is_listed x.name (names_after seen xs) ≡ true) xs
+names_have seen [] = tt
+names_have seen (x ∷ xs) = (names_keep x.name (seen_then seen x) xs (listed_here seen x), names_have (seen_then seen x) xs)
+
+place_under : (x : List ℕ) (xs : List (List ℕ)) → is_listed x xs ≡ true → place_of x xs < length xs
+place_under x [] e = absurd cc
+place_under x (z ∷ xs) e = at (bytes_eq z x) e (λ h. place_under x xs h)
+  where
+    at : (b : Bool) → (b || is_listed x xs) ≡ true → (is_listed x xs ≡ true → place_of x xs < length xs) → (if b then zero else suc (place_of x xs)) < suc (length xs)
+    at true h later = omega arith
+    at false h later = let l = later h in omega (arith, l)
+
+-- what holds of each occurrence holds of each variable of the facts
+module _ (P : Written → Type 0) where
+  front : (xs ys : List Written) → Every P (xs ++ ys) → Every P xs
+  front [] ys h = tt
+  front (x ∷ xs) ys h = (h.0, front xs ys h.1)
+
+  back : (xs ys : List Written) → Every P (xs ++ ys) → Every P ys
+  back [] ys h = h
+  back (x ∷ xs) ys h = back xs ys h.1
+
+  mutual
+    term_each : (t : Term Written) → Every P (in_term t) → EachVariable P t
+    term_each (var x) h = h.0
+    term_each (constant c) h = tt
+    term_each (name n) h = tt
+    term_each (app f ts) h = terms_each ts h
+
+    terms_each : (ts : Terms Written) → Every P (in_terms ts) → EachVariables P ts
+    terms_each none h = tt
+    terms_each (more t ts) h = (term_each t (front (in_term t) (in_terms ts) h), terms_each ts (back (in_term t) (in_terms ts) h))
+
+  facts_each : (fs : List (Fact Written)) → Every P (in_facts fs) → Every (λ (f : Fact Written). EachVariables P f.args) fs
+  facts_each [] h = tt
+  facts_each (f ∷ fs) h = (terms_each f.args (front (in_terms f.args) (in_facts fs) h), facts_each fs (back (in_terms f.args) (in_facts fs) h))
+
+  actions_each : (xs : List (Action Written)) → Every P (in_actions xs) → Every (λ (a : Action Written). EachVariables P a.args) xs
+  actions_each [] h = tt
+  actions_each (a ∷ xs) h = (terms_each a.args (front (in_terms a.args) (in_actions xs) h), actions_each xs (back (in_terms a.args) (in_actions xs) h))
+
+  occurrences_each : (facts : Facts Written) → Every P (occurrences facts) → InFacts P facts
+  occurrences_each facts h =
+      let behind = back (in_facts facts.premises) (in_actions facts.actions ++ in_facts facts.conclusions) h in
+      record {
+        premises = facts_each facts.premises (front (in_facts facts.premises) (in_actions facts.actions ++ in_facts facts.conclusions) h);
+        actions = actions_each facts.actions (front (in_actions facts.actions) (in_facts facts.conclusions) behind);
+        conclusions = facts_each facts.conclusions (back (in_actions facts.actions) (in_facts facts.conclusions) behind);
+      }
+
+length_map : {A B : Type 0} (f : A → B) (xs : List A) → length (map f xs) ≡ length xs
+length_map f [] = refl
+length_map f (x ∷ xs) = ap suc (length_map f xs)
+
+-- the variables are numbered
+rule_numbered : (r : WrittenRule) → InFacts (λ x. x.number < length (rule_of r).variables) (rule_of r).facts
+rule_numbered r =
+    let names = rule_names r.facts in
+    let declared : List ℕ → Declared = λ x. record { name = x; sort = sort_in r.facts x } in
+    facts_valued (λ (y : Written). is_listed y.name names ≡ true) (λ x. x.number < length (map declared names)) (numbered_in r.facts)
+    (λ y h. subst (λ (n : ℕ). place_of y.name names < n) (sym (length_map declared names)) (place_under y.name names h))
+    r.facts (occurrences_each (λ (y : Written). is_listed y.name names ≡ true) r.facts (names_have [] (occurrences r.facts)))
+
+pub rules_numbered : (rs : List WrittenRule) → RulesAreNumbered (map rule_of rs)
+rules_numbered [] = tt
+rules_numbered (r ∷ rs) = (rule_numbered r, rules_numbered rs)
+
+-- no destructor stands in them
+module _ (es : List Equation) (v : Written → Term Variable) (v_plain : (x : Written) → IsPlain es (v x)) where
+  atomic_plain : (t : Term Written) → IsAtomic t → IsPlain es (valued v t)
+  atomic_plain (var x) h = v_plain x
+  atomic_plain (constant c) h = tt
+  atomic_plain (name n) h = absurd h
+  atomic_plain (app f ts) h = absurd h
+
+  atomics_plain : (ts : Terms Written) → AreAtomic ts → ArePlain es (valued_all v ts)
+  atomics_plain none h = tt
+  atomics_plain (more t ts) h = (atomic_plain t h.0, atomics_plain ts h.1)
+
+rule_plain : (es : List Equation) (r : WrittenRule) → IsFirstRule r → FactsArePlain es (rule_of r).facts
+rule_plain es r h = record {
+  premises = every_map IsFirstFact _ (fact_at (numbered_in r.facts)) (λ f k. atomics_plain es (numbered_in r.facts) (λ x. tt) f.args k.0) r.facts.premises h.premises;
+  actions = every_map IsFirstAction _ (action_at (numbered_in r.facts)) (λ a k. atomics_plain es (numbered_in r.facts) (λ x. tt) a.args k.0) r.facts.actions h.actions;
+  conclusions = every_map IsFirstFact _ (fact_at (numbered_in r.facts)) (λ f k. atomics_plain es (numbered_in r.facts) (λ x. tt) f.args k.0) r.facts.conclusions h.conclusions;
+}
+
+pub rules_plain : (es : List Equation) (rs : List WrittenRule) → Every IsFirstRule rs → RulesArePlain es (map rule_of rs)
+rules_plain es [] h = tt
+rules_plain es (r ∷ rs) h = (rule_plain es r h.0, rules_plain es rs h.1)
+
+-- they leave the adversary alone
+among : (s : List ℕ) → Member s adversary_facts → Member s adversary_names
+among s (inl h) = inl h
+among s (inr (inl h)) = inr (inl h)
+among s (inr (inr (inl h))) = inr (inr (inl h))
+among s (inr (inr (inr h))) = absurd h
+
+no_fr : (fs : List (Fact Written)) → has_fr fs ≡ false → Every (λ (f : Fact Written). f.symbol ≡ codes "Fr" → ⊥) fs
+no_fr [] e = tt
+no_fr (f ∷ fs) e =
+    let both = or_parts (is_fr_named f) (has_fr fs) e in
+    ((λ k. cc (both.0, (bytes_eq-Decides f.symbol (codes "Fr")).1 k)), no_fr fs both.1)
+
+pub rules_leave_adversary : (t : WrittenTheory) → Every IsFirstRule t.rules → Every (λ (r : WrittenRule). has_fr r.facts.conclusions ≡ false) t.rules → NeedsNoAdversary (theory_of t)
+rules_leave_adversary t first fr = record {
+  premises = λ r m. let o = member_mapped rule_of r t.rules m in
+      subst (λ (q : Rule). Every (λ (f : Fact Variable). Member f.symbol adversary_facts → ⊥) q.facts.premises) o.2
+      (every_map IsFirstFact _ (fact_at (numbered_in o.0.facts)) (λ f k l. k.1 (among f.symbol l)) o.0.facts.premises (every_member IsFirstRule t.rules o.0 o.1 first).premises);
+  actions = λ r m. let o = member_mapped rule_of r t.rules m in
+      subst (λ (q : Rule). Every (λ (a : Action Variable). a.symbol ≡ codes "K" → ⊥) q.facts.actions) o.2
+      (every_map IsFirstAction _ (action_at (numbered_in o.0.facts)) (λ a k l. k.1 (inr (inr (inl (sym l))))) o.0.facts.actions (every_member IsFirstRule t.rules o.0 o.1 first).actions);
+  conclusions = λ r m. let o = member_mapped rule_of r t.rules m in
+      subst (λ (q : Rule). Every (λ (f : Fact Variable). f.symbol ≡ codes "Fr" → ⊥) q.facts.conclusions) o.2
+      (every_map (λ (f : Fact Written). f.symbol ≡ codes "Fr" → ⊥) _ (fact_at (numbered_in o.0.facts)) (λ f k. k) o.0.facts.conclusions (no_fr o.0.facts.conclusions (every_member (λ (q : WrittenRule). has_fr q.facts.conclusions ≡ false) t.rules o.0 o.1 fr)));
+}
