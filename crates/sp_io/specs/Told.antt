@@ -1,15 +1,11 @@
 -- What a library and a sink tell of themselves, and what their calls may do to it.
-use Rattle.std.specs.Prelude.{◌≡◌, ℕ, ◌≤◌, ◌<◌, ◌^◌, ◌+◌, ◌-◌, min, ◌⊎◌, Option, Some, None, List, ◌++◌, Result, IsErrOf, length, take}
+use Rattle.std.specs.Prelude.{◌≡◌, ℕ, ◌≤◌, ◌<◌, ◌^◌, ◌-◌, ◌⊎◌, Option, Some, None, List, ◌++◌, Result, IsErrOf, length, take}
 use Rattle.sp_io.specs.declared.FetchFail.{FetchFail}
 use Rattle.sp_io.specs.declared.FetchFail.TheVariants.{Failed, NoMemory}
 
 -- a count of faults rose, or stands at the last value that a counter has
 abbrev pub Rose : ℕ → ℕ → Type 0
 Rose before now = (before < now) ⊎ (now ≡ 2 ^ 64 - 1)
-
--- a counter after one more, which stands still at its last value
-abbrev pub raised : ℕ → ℕ
-raised n = min (n + 1) (2 ^ 64 - 1)
 
 -- a list that is told, with more at its end; what is not told stays so
 abbrev pub extended : {A : Type 0} → Option (List A) → List A → Option (List A)

@@ -11,8 +11,10 @@ ghost use Rattle.sp_io.specs.Told.{Rose, extended, IsExtendedByPrefix, IsCutShor
 use std::alloc::{AllocError, Global};
 
 mod mem_library;
+mod mem_sink;
 
 pub use mem_library::MemLibrary;
+pub use mem_sink::MemSink;
 
 /// Why a fetch gave no bytes.
 #[derive(Clone, Copy, Debug, PartialEq, Eq)]

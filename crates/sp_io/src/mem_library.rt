@@ -1,6 +1,7 @@
 ghost use Rattle.std.specs.Prelude.{◌≡◌, ◌<◌, ◌≤◌, ◌+◌, ◌↔◌, ◌++◌, List, [], ◌∷◌, ℕ, Option, Some, None, true, false, length, map, OnOk, OnErr, IfOk, IsErrOf, IsSomeAnd, IsTrue, option_copied, string_bytes, bytes_eq, if◌then◌else◌};
-ghost use Rattle.sp_io.specs.Told.{Rose, extended, IsCutShort, raised};
-ghost use Rattle.sp_io.specs.Shelf.{Shelf, under, is_planned, count_after};
+ghost use Rattle.sp_io.specs.Calls.{raised, is_planned, count_after};
+ghost use Rattle.sp_io.specs.Shelf.{Shelf, under};
+ghost use Rattle.sp_io.specs.Told.{Rose, extended, IsCutShort};
 
 use crate::{FetchFail, Library};
 use std::alloc::{AllocError, Global};
@@ -82,7 +83,7 @@ impl MemLibrary {
         ensures fails { result ≡ is_planned self.old.failing (raised self.old.calls) }
         ensures never_falls { self.old.faults ≤ self.new.faults }
         ensures rose { IsTrue result → Rose self.old.faults self.new.faults }
-        ensures counted { self.new ≡ record self.old { calls = raised self.old.calls; faults = count_after self.old.failing (raised self.old.calls) self.old.faults } }
+        ensures counted { self.new ≡ record self.old { calls = raised self.old.calls; faults = count_after (is_planned self.old.failing (raised self.old.calls)) self.old.faults } }
     {
         self.calls = self.calls.saturating_add(1);
         let fails = self.failing.contains(&self.calls);
@@ -163,7 +164,7 @@ impl Library for MemLibrary {
 
         // The calls that are to fail are those that do, and their number is the count of faults.
         ensures fails { ¬ IsErrOf result FetchFail.NoMemory → (IsErrOf result FetchFail.Failed ↔ IsTrue (is_planned self.old.failing (raised self.old.calls))) }
-        ensures counted { self.new.faults ≡ count_after self.old.failing (raised self.old.calls) self.old.faults }
+        ensures counted { self.new.faults ≡ count_after (is_planned self.old.failing (raised self.old.calls)) self.old.faults }
         ensures called { self.new.calls ≡ raised self.old.calls }
         ensures planned { self.new.failing ≡ self.old.failing }
         ensures texts { self.new.texts ≡ self.old.texts }
