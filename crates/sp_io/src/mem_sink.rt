@@ -104,3 +104,46 @@ impl MemSink {
         self.room -= bytes.len();
     }
 }
+
+impl Sink for MemSink {
+    ghost written = { λ slate. Some slate.written };
+
+    ghost faults = { λ slate. slate.faults };
+
+    fn write(&mut self, piece: &[u8]) -> Result<usize, Failed>
+        ensures count { self.old.faults ≤ self.new.faults }
+
+        // An empty piece changes nothing.
+        ensures empty { piece.now ≡ [] → result ≡ Ok 0 }
+        ensures empty_written { piece.now ≡ [] → Some self.new.written ≡ Some self.old.written }
+        ensures empty_faults { piece.now ≡ [] → self.new.faults ≡ self.old.faults }
+
+        ensures within { IfOk result (λ n. n ≤ length piece.now) }
+        ensures some { IfOk result (λ n. 0 < length piece.now → 0 < n) }
+        ensures appended { IfOk result (λ n. Some self.new.written ≡ extended (Some self.old.written) (take n piece.now)) }
+        ensures failed { OnErr result (Rose self.old.faults self.new.faults) }
+        ensures failed_written { OnErr result (Some self.new.written ≡ Some self.old.written) }
+
+        // The calls that are to fail or find no room are those that do, and their number is the count of faults.
+        ensures fails { 0 < length piece.now → (IsErr result ↔ IsTrue (fails_next self.old)) }
+        ensures counted { self.new.faults ≡ count_after (is_err result) self.old.faults }
+        ensures called { 0 < length piece.now → self.new.calls ≡ raised self.old.calls }
+        ensures not_called { piece.now ≡ [] → self.new ≡ self.old }
+
+        // How much one call takes.
+        ensures taken { IfOk result (λ n. n ≡ min (length piece.now) (min self.old.piece self.old.room)) }
+        ensures room { self.new.room + length self.new.written ≡ self.old.room + length self.old.written }
+        ensures planned { self.new.failing ≡ self.old.failing }
+        ensures piece { self.new.piece ≡ self.old.piece }
+    {
+        if piece.is_empty() {
+            return Ok(0);
+        }
+        if self.count_call() {
+            return Err(Failed);
+        }
+        let n = self.count_taken(piece.len());
+        self.add(&piece[..n]);
+        Ok(n)
+    }
+}
