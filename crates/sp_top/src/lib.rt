@@ -74,3 +74,16 @@ fn answer_file<L: Library>(alloc: Global, file: &str, library: &mut L) -> Result
         Err(FetchFail::NoMemory) => Err(AllocError),
     }
 }
+
+/// The whole answer to the words.
+fn respond<L: Library>(alloc: Global, words: &Words, library: &mut L) -> Result<(Vec<u8>, Status), AllocError>
+    ensures answer { IfOk result (λ answer. IsAnswer words.now (L.holds library.old) (L.faults library.old) (L.faults library.new) answer.0.items answer.1) }
+    ensures no_line { IsNoLine words.now → L.asked library.new ≡ L.asked library.old }
+    ensures asked { (file : List ℕ) → IsLine words.now file → (L.asked library.new ≡ L.asked library.old) ⊎ (L.asked library.new ≡ extended (L.asked library.old) (file ∷ [])) }
+    ensures asked_once { OnOk result ((file : List ℕ) → IsLine words.now file → L.asked library.new ≡ extended (L.asked library.old) (file ∷ [])) }
+{
+    match words.file() {
+        Some(file) => answer_file(alloc, file, library),
+        None => fixed(alloc, b"refused: usage\n", Status::Usage),
+    }
+}
