@@ -8,8 +8,9 @@ use Rattle.sp_top.specs.declared.Status.{Status}
 use Rattle.sp_top.specs.declared.Status.TheVariants.{Refused, Usage, ReadFault, TooLong}
 
 -- what is answered to the bytes of a text
-abbrev pub TextAnswer : List ℕ → List ℕ → Status → Type 0
-TextAnswer bytes text status = (text ≡ codes "refused: text at byte 0\n") × (status ≡ Refused)
+pub record TextAnswer (bytes text : List ℕ) (status : Status) : Type 0 where
+  pub text_is : text ≡ codes "refused: text at byte 0\n"
+  pub status_is : status ≡ Refused
 
 -- whatever is told is more bytes than a text may have
 abbrev pub MayBeTooLong : Option (Option (List ℕ)) → Type 0
