@@ -1,9 +1,9 @@
 -- Each status has its cause, since it is that of the whole answer.
-use Rattle.std.proofs.Common.{◌≡◌, ◌≢◌, ◌⊎◌, ◌≤◌, ◌<◌, ℕ, List, [], ◌∷◌, Option, Some, None, length, codes, refl, sym, ap, subst, ◌∙◌, inl, inr, arith}
-use Rattle.sp_io.specs.Told.{Rose, extended, IsExtendedByPrefix}
-use Rattle.sp_top.specs.Answer.{TextAnswer, MayBeTooLong, MayBeText, IsUsage, IsReadFault, IsTooLong, IsTextAnswer, IsFileAnswer, IsAnswer}
-use Rattle.sp_top.specs.Command.{IsLine, IsNoLine, IsFile}
-use Rattle.sp_top.specs.Run.{IsCutShort, UsageExactly, ReadFaultExactly, TooLongExactly, RefusedExactly, IsComplete}
+use Rattle.std.proofs.Common.{◌≡◌, ◌≢◌, ◌⊎◌, ◌≤◌, ◌<◌, ℕ, List, Option, Some, None, length, sym, ap, subst, ◌∙◌, inl, inr, arith}
+use Rattle.sp_io.specs.Told.{Rose}
+use Rattle.sp_top.specs.Answer.{TextAnswer, MayBeTooLong, MayBeText, IsFileAnswer, IsAnswer}
+use Rattle.sp_top.specs.Command.{IsLine, IsNoLine}
+use Rattle.sp_top.specs.Run.{IsCutShort, UsageExactly, ReadFaultExactly, TooLongExactly, RefusedExactly}
 use Rattle.sp_top.specs.declared.TheConstants.{TEXT_LIMIT}
 use Rattle.sp_top.specs.declared.Status.{Status}
 use Rattle.sp_top.specs.declared.Status.TheVariants.{Refused, Usage, ReadFault, WriteFault, NoMemory, TooLong}
@@ -58,6 +58,7 @@ module _ (words : List (List ℕ)) (holds : List ℕ → Option (Option (List �
       cause (inr (file, line, inl fault)) e = (file, line, fault.cause)
       cause (inr (file, line, inr (inl long))) e = let f = long.status_is in cc
       cause (inr (file, line, inr (inr known))) e = let f = known.answer.status_is in cc
+
       comes : (file : List ℕ) → holds file ≡ Some None → IsFileAnswer (holds file) before now text status → status ≡ ReadFault
       comes file absent (inl fault) = fault.status_is
       comes file absent (inr (inl long)) = absurd (long.longer None absent)
@@ -73,6 +74,7 @@ module _ (words : List (List ℕ)) (holds : List ℕ → Option (Option (List �
       cause (inr (file, line, inl fault)) e = let f = fault.status_is in cc
       cause (inr (file, line, inr (inl long))) e = (file, line, long.longer)
       cause (inr (file, line, inr (inr known))) e = let f = known.answer.status_is in cc
+
       comes : (file bytes : List ℕ) → holds file ≡ Some (Some bytes) → TEXT_LIMIT < length bytes → status ≢ ReadFault → IsFileAnswer (holds file) before now text status → status ≡ TooLong
       comes file bytes told more read (inl fault) = absurd (read fault.status_is)
       comes file bytes told more read (inr (inl long)) = long.status_is
@@ -98,6 +100,7 @@ module _ (words : List (List ℕ)) (holds : List ℕ → Option (Option (List �
       cause (inr (file, line, inr (inr known))) e =
           let P : Status → Type 0 = λ s. TextAnswer known.bytes text s in
           (file, known.bytes, text, line, known.agrees, subst P e known.answer)
+
       comes : (file bytes : List ℕ) → holds file ≡ Some (Some bytes) → length bytes ≤ TEXT_LIMIT → status ≢ ReadFault → IsFileAnswer (holds file) before now text status → status ≡ Refused
       comes file bytes told within read (inl fault) = absurd (read fault.status_is)
       comes file bytes told within read (inr (inl long)) =

@@ -9,6 +9,7 @@ ghost use Rattle.std.specs.Prelude.{◌≡◌, ◌⊎◌, ◌≤◌, [], ◌∷�
 ghost use Rattle.sp_io.specs.Told.{extended};
 ghost use Rattle.sp_top.specs.Answer.{TextAnswer, IsFileAnswer, IsAnswer};
 ghost use Rattle.sp_top.specs.Command.{IsLine, IsNoLine};
+ghost use Rattle.sp_top.specs.Run.{UsageExactly, ReadFaultExactly, TooLongExactly, RefusedExactly, WritesWhole, WritesPrefix, IsComplete, WriteFaultOnly, WritesNothing, AsksFileOnce};
 
 use sp_io::{FetchFail, Library, Sink, write_whole};
 use std::alloc::{AllocError, Global};
@@ -62,21 +63,37 @@ fn answer(alloc: Global, _bytes: &[u8]) -> Result<(Vec<u8>, Status), AllocError>
 }
 
 /// The whole answer to FILE, which is fetched once.
-fn answer_file<L: Library>(alloc: Global, file: &str, library: &mut L) -> Result<(Vec<u8>, Status), AllocError>
+fn answer_file<L: Library>(
+    alloc: Global,
+    file: &str,
+    library: &mut L,
+) -> Result<(Vec<u8>, Status), AllocError>
     ensures answer { IfOk result (λ answer. IsFileAnswer (L.holds library.old file.now) (L.faults library.old) (L.faults library.new) answer.0.items answer.1) }
     ensures asked { (L.asked library.new ≡ L.asked library.old) ⊎ (L.asked library.new ≡ extended (L.asked library.old) (file.now ∷ [])) }
     ensures asked_once { OnOk result (L.asked library.new ≡ extended (L.asked library.old) (file.now ∷ [])) }
 {
     match library.fetch(alloc, file, TEXT_LIMIT) {
         Ok(bytes) => answer(alloc, &bytes),
-        Err(FetchFail::Failed) | Err(FetchFail::Missing) => fixed(alloc, b"refused: read fault\n", Status::ReadFault),
-        Err(FetchFail::TooLong) => fixed(alloc, b"refused: text longer than 1048576 bytes\n", Status::TooLong),
+        Err(FetchFail::Failed) | Err(FetchFail::Missing) => fixed(
+            alloc,
+            b"refused: read fault\n",
+            Status::ReadFault,
+        ),
+        Err(FetchFail::TooLong) => fixed(
+            alloc,
+            b"refused: text longer than 1048576 bytes\n",
+            Status::TooLong,
+        ),
         Err(FetchFail::NoMemory) => Err(AllocError),
     }
 }
 
 /// The whole answer to the words.
-fn respond<L: Library>(alloc: Global, words: &Words, library: &mut L) -> Result<(Vec<u8>, Status), AllocError>
+fn respond<L: Library>(
+    alloc: Global,
+    words: &Words,
+    library: &mut L,
+) -> Result<(Vec<u8>, Status), AllocError>
     ensures answer { IfOk result (λ answer. IsAnswer words.now (L.holds library.old) (L.faults library.old) (L.faults library.new) answer.0.items answer.1) }
     ensures no_line { IsNoLine words.now → L.asked library.new ≡ L.asked library.old }
     ensures asked { (file : List ℕ) → IsLine words.now file → (L.asked library.new ≡ L.asked library.old) ⊎ (L.asked library.new ≡ extended (L.asked library.old) (file ∷ [])) }
@@ -85,5 +102,38 @@ fn respond<L: Library>(alloc: Global, words: &Words, library: &mut L) -> Result<
     match words.file() {
         Some(file) => answer_file(alloc, file, library),
         None => fixed(alloc, b"refused: usage\n", Status::Usage),
+    }
+}
+
+/// Does what the words of a command ask: writes the answer, and says how it ended.
+pub fn run<L: Library, K: Sink>(
+    alloc: Global,
+    words: &Words,
+    library: &mut L,
+    out: &mut K,
+) -> Status
+    // Each status has its cause, and comes where the cause holds.
+    ensures usage { UsageExactly words.now result }
+    ensures read_fault { ReadFaultExactly words.now (L.holds library.old) (L.faults library.old) (L.faults library.new) result }
+    ensures too_long { TooLongExactly words.now (L.holds library.old) result }
+    ensures refused { RefusedExactly words.now (L.holds library.old) result }
+    ensures write_fault { WriteFaultOnly (K.faults out.old) (K.faults out.new) result }
+
+    // What stands written is the whole answer, or a prefix of it, or nothing.
+    ensures whole { WritesWhole words.now (L.holds library.old) (L.faults library.old) (L.faults library.new) (K.written out.old) (K.written out.new) result }
+    ensures prefix { WritesPrefix words.now (L.holds library.old) (L.faults library.old) (L.faults library.new) (K.written out.old) (K.written out.new) result }
+    ensures no_memory { WritesNothing (K.faults out.old) (K.faults out.new) (K.written out.old) (K.written out.new) result }
+    ensures complete { IsComplete words.now (L.holds library.old) (L.faults library.old) (L.faults library.new) (K.faults out.old) (K.faults out.new) (K.written out.old) (K.written out.new) result }
+
+    // Nothing but FILE is fetched.
+    ensures asked { AsksFileOnce words.now (L.asked library.old) (L.asked library.new) result }
+{
+    let (text, status) = match respond(alloc, words, library) {
+        Ok(answer) => answer,
+        Err(_) => return Status::NoMemory,
+    };
+    match write_whole(out, &text) {
+        Ok(()) => status,
+        Err(_) => Status::WriteFault,
     }
 }
