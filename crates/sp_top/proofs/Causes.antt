@@ -1,10 +1,9 @@
 -- Each status has its cause, since it is that of the whole answer.
 use Rattle.std.proofs.Common.{◌≡◌, ◌≢◌, ◌⊎◌, ◌≤◌, ◌<◌, ℕ, List, Option, Some, None, length, sym, ap, subst, ◌∙◌, inl, inr, arith}
 use Rattle.sp_io.specs.Told.{Rose}
-use Rattle.sp_top.specs.Answer.{TextAnswer, MayBeTooLong, MayBeText, IsFileAnswer, IsAnswer}
+use Rattle.sp_top.specs.Answer.{text_limit, TextAnswer, MayBeTooLong, MayBeText, IsFileAnswer, IsAnswer}
 use Rattle.sp_top.specs.Command.{IsLine, IsNoLine}
 use Rattle.sp_top.specs.Run.{IsCutShort, UsageExactly, ReadFaultExactly, TooLongExactly, RefusedExactly}
-use Rattle.sp_top.specs.declared.TheConstants.{TEXT_LIMIT}
 use Rattle.sp_top.specs.declared.Status.{Status}
 use Rattle.sp_top.specs.declared.Status.TheVariants.{Refused, Usage, ReadFault, WriteFault, NoMemory, TooLong}
 
@@ -75,7 +74,7 @@ module _ (words : List (List ℕ)) (holds : List ℕ → Option (Option (List �
       cause (inr (file, line, inr (inl long))) e = (file, line, long.longer)
       cause (inr (file, line, inr (inr known))) e = let f = known.answer.status_is in cc
 
-      comes : (file bytes : List ℕ) → holds file ≡ Some (Some bytes) → TEXT_LIMIT < length bytes → status ≢ ReadFault → IsFileAnswer (holds file) before now text status → status ≡ TooLong
+      comes : (file bytes : List ℕ) → holds file ≡ Some (Some bytes) → text_limit < length bytes → status ≢ ReadFault → IsFileAnswer (holds file) before now text status → status ≡ TooLong
       comes file bytes told more read (inl fault) = absurd (read fault.status_is)
       comes file bytes told more read (inr (inl long)) = long.status_is
       comes file bytes told more read (inr (inr known)) =
@@ -101,19 +100,19 @@ module _ (words : List (List ℕ)) (holds : List ℕ → Option (Option (List �
           let P : Status → Type 0 = λ s. TextAnswer known.bytes text s in
           (file, known.bytes, text, line, known.agrees, subst P e known.answer)
 
-      comes : (file bytes : List ℕ) → holds file ≡ Some (Some bytes) → length bytes ≤ TEXT_LIMIT → status ≢ ReadFault → IsFileAnswer (holds file) before now text status → status ≡ Refused
+      comes : (file bytes : List ℕ) → holds file ≡ Some (Some bytes) → length bytes ≤ text_limit → status ≢ ReadFault → IsFileAnswer (holds file) before now text status → status ≡ Refused
       comes file bytes told within read (inl fault) = absurd (read fault.status_is)
       comes file bytes told within read (inr (inl long)) =
-          let more : TEXT_LIMIT < length bytes = long.longer (Some bytes) told in
+          let more : text_limit < length bytes = long.longer (Some bytes) told in
           absurd (omega (arith, within, more))
       comes file bytes told within read (inr (inr known)) = known.answer.status_is
 
   -- a text that is told gets its answer
   pub text_is_answered : (text file bytes : List ℕ) (status : Status) → IsFileAnswer (holds file) before now text status
-      → holds file ≡ Some (Some bytes) → length bytes ≤ TEXT_LIMIT → ¬ Rose before now → TextAnswer bytes text status
+      → holds file ≡ Some (Some bytes) → length bytes ≤ text_limit → ¬ Rose before now → TextAnswer bytes text status
   text_is_answered text file bytes status (inl fault) told within still = elim fault.cause [ inl rose ↦ absurd (still rose) | inr absent ↦ cc ]
   text_is_answered text file bytes status (inr (inl long)) told within still =
-      let more : TEXT_LIMIT < length bytes = long.longer (Some bytes) told in
+      let more : text_limit < length bytes = long.longer (Some bytes) told in
       absurd (omega (arith, within, more))
   text_is_answered text file bytes status (inr (inr known)) told within still =
       let e = known.agrees.1 (Some bytes) told in

@@ -3,9 +3,12 @@ use Rattle.std.specs.Prelude.{◌≡◌, ◌⊎◌, ◌≤◌, ◌<◌, ℕ, Lis
 use Rattle.std.specs.Option.{ForSome}
 use Rattle.sp_io.specs.Told.{Rose}
 use Rattle.sp_top.specs.Command.{IsLine, IsNoLine}
-use Rattle.sp_top.specs.declared.TheConstants.{TEXT_LIMIT}
 use Rattle.sp_top.specs.declared.Status.{Status}
 use Rattle.sp_top.specs.declared.Status.TheVariants.{Refused, Usage, ReadFault, TooLong}
+
+-- how many bytes a text may have
+abbrev pub text_limit : ℕ
+text_limit = 1048576
 
 -- what is answered to the bytes of a text
 pub record TextAnswer (bytes text : List ℕ) (status : Status) : Type 0 where
@@ -14,11 +17,11 @@ pub record TextAnswer (bytes text : List ℕ) (status : Status) : Type 0 where
 
 -- whatever is told is more bytes than a text may have
 abbrev pub MayBeTooLong : Option (Option (List ℕ)) → Type 0
-MayBeTooLong told = ForSome told (λ content. IsSomeAnd content (λ bytes. TEXT_LIMIT < length bytes))
+MayBeTooLong told = ForSome told (λ content. IsSomeAnd content (λ bytes. text_limit < length bytes))
 
 -- whatever is told is these bytes, which are within the limit
 abbrev pub MayBeText : Option (Option (List ℕ)) → List ℕ → Type 0
-MayBeText told bytes = (length bytes ≤ TEXT_LIMIT) × ForSome told (λ content. content ≡ Some bytes)
+MayBeText told bytes = (length bytes ≤ text_limit) × ForSome told (λ content. content ≡ Some bytes)
 
 -- the words are no line of the command
 pub record IsUsage (words : List (List ℕ)) (text : List ℕ) (status : Status) : Type 0 where

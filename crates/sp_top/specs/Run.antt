@@ -1,9 +1,8 @@
 -- What the top call promises, clause by clause. `before` and `now` are a count of faults before and after the call.
 use Rattle.std.specs.Prelude.{◌≡◌, ◌≢◌, ◌⊎◌, ◌≤◌, ◌<◌, ℕ, List, [], ◌∷◌, Option, Some, None, length}
 use Rattle.sp_io.specs.Told.{Rose, extended, IsExtendedByPrefix}
-use Rattle.sp_top.specs.Answer.{TextAnswer, MayBeTooLong, MayBeText, IsAnswer}
+use Rattle.sp_top.specs.Answer.{text_limit, TextAnswer, MayBeTooLong, MayBeText, IsAnswer}
 use Rattle.sp_top.specs.Command.{IsLine, IsNoLine}
-use Rattle.sp_top.specs.declared.TheConstants.{TEXT_LIMIT}
 use Rattle.sp_top.specs.declared.Status.{Status}
 use Rattle.sp_top.specs.declared.Status.TheVariants.{Refused, Usage, ReadFault, WriteFault, NoMemory, TooLong}
 
@@ -25,13 +24,13 @@ module _ (words : List (List ℕ)) (holds : List ℕ → Option (Option (List �
   -- TooLong comes exactly where the bytes held under FILE are more than the limit
   pub record TooLongExactly (status : Status) : Type 0 where
     pub cause : status ≡ TooLong → (file : List ℕ) × IsLine words file × MayBeTooLong (holds file)
-    pub comes : (file bytes : List ℕ) → IsLine words file → holds file ≡ Some (Some bytes) → TEXT_LIMIT < length bytes
+    pub comes : (file bytes : List ℕ) → IsLine words file → holds file ≡ Some (Some bytes) → text_limit < length bytes
         → ¬ IsCutShort status → status ≢ ReadFault → status ≡ TooLong
 
   -- Refused comes exactly where the answer to the text is a refusal
   pub record RefusedExactly (status : Status) : Type 0 where
     pub cause : status ≡ Refused → (file bytes text : List ℕ) × IsLine words file × MayBeText (holds file) bytes × TextAnswer bytes text Refused
-    pub comes : (file bytes text : List ℕ) → IsLine words file → holds file ≡ Some (Some bytes) → length bytes ≤ TEXT_LIMIT → TextAnswer bytes text Refused
+    pub comes : (file bytes text : List ℕ) → IsLine words file → holds file ≡ Some (Some bytes) → length bytes ≤ text_limit → TextAnswer bytes text Refused
         → ¬ IsCutShort status → status ≢ ReadFault → status ≡ Refused
 
   -- but after a fault of the sink or for want of memory, the whole answer stands written
@@ -44,7 +43,7 @@ module _ (words : List (List ℕ)) (holds : List ℕ → Option (Option (List �
 
   -- a text that is told and within the limit gets its answer, but for faults and want of memory
   pub record IsComplete (before now sink_before sink_now : ℕ) (old new : Option (List ℕ)) (status : Status) : Type 0 where
-    pub complete : (file bytes : List ℕ) → IsLine words file → holds file ≡ Some (Some bytes) → length bytes ≤ TEXT_LIMIT
+    pub complete : (file bytes : List ℕ) → IsLine words file → holds file ≡ Some (Some bytes) → length bytes ≤ text_limit
         → ¬ Rose before now → ¬ Rose sink_before sink_now → (status ≡ NoMemory) ⊎ ((text : List ℕ) × TextAnswer bytes text status × (new ≡ extended old text))
 
 -- WriteFault comes only where the sink's count of faults rose

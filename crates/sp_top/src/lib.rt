@@ -14,6 +14,8 @@ ghost use Rattle.sp_top.specs.Run.{UsageExactly, ReadFaultExactly, TooLongExactl
 use sp_io::{FetchFail, Library, Sink, write_whole};
 use std::alloc::{AllocError, Global};
 
+#[cfg(test)]
+mod tests;
 mod words;
 
 pub use words::Words;
@@ -123,7 +125,7 @@ pub fn run<L: Library, K: Sink>(
     ensures whole { WritesWhole words.now (L.holds library.old) (L.faults library.old) (L.faults library.new) (K.written out.old) (K.written out.new) result }
     ensures prefix { WritesPrefix words.now (L.holds library.old) (L.faults library.old) (L.faults library.new) (K.written out.old) (K.written out.new) result }
     ensures no_memory { WritesNothing (K.faults out.old) (K.faults out.new) (K.written out.old) (K.written out.new) result }
-    ensures complete { IsComplete words.now (L.holds library.old) (L.faults library.old) (L.faults library.new) (K.faults out.old) (K.faults out.new) (K.written out.old) (K.written out.new) result }
+    ensures completeness { IsComplete words.now (L.holds library.old) (L.faults library.old) (L.faults library.new) (K.faults out.old) (K.faults out.new) (K.written out.old) (K.written out.new) result }
 
     // Nothing but FILE is fetched.
     ensures asked { AsksFileOnce words.now (L.asked library.old) (L.asked library.new) result }
