@@ -1,0 +1,4 @@
+pub mod Told
+pub mod Calls
+pub mod Shelf
+pub mod Slate

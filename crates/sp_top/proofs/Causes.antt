@@ -1,0 +1,121 @@
+-- Each status has its cause, since it is that of the whole answer.
+use Rattle.std.proofs.Common.{◌≡◌, ◌≢◌, ◌⊎◌, ◌≤◌, ◌<◌, ℕ, List, Option, Some, None, length, sym, ap, subst, ◌∙◌, inl, inr, arith}
+use Rattle.sp_io.specs.Told.{Rose}
+use Rattle.sp_top.specs.Answer.{text_limit, TextAnswer, MayBeTooLong, MayBeText, IsFileAnswer, IsAnswer}
+use Rattle.sp_top.specs.Command.{IsLine, IsNoLine}
+use Rattle.sp_top.specs.Run.{IsCutShort, UsageExactly, ReadFaultExactly, TooLongExactly, RefusedExactly}
+use Rattle.sp_top.specs.declared.Status.{Status}
+use Rattle.sp_top.specs.declared.Status.TheVariants.{Refused, Usage, ReadFault, WriteFault, NoMemory, TooLong}
+
+-- a line names one file
+pub line_names_one : (words : List (List ℕ)) (file other : List ℕ) → IsLine words file → IsLine words other → file ≡ other
+line_names_one words file other (_, p, e) (_, q, f) = cc
+
+-- the whole answer, or the cause why there is none
+abbrev pub Ends : List (List ℕ) → (List ℕ → Option (Option (List ℕ))) → ℕ → ℕ → Status → Type 0
+Ends words holds before now status = IsCutShort status ⊎ ((text : List ℕ) × IsAnswer words holds before now text status)
+
+-- the answer to a line is the answer to its file
+pub answer_of_line : (words : List (List ℕ)) (holds : List ℕ → Option (Option (List ℕ))) (before now : ℕ) (text file : List ℕ) (status : Status)
+    → IsLine words file → IsAnswer words holds before now text status → IsFileAnswer (holds file) before now text status
+answer_of_line words holds before now text file status line (inl usage) = absurd (usage.no_line file line)
+answer_of_line words holds before now text file status line (inr (other, same, answer)) =
+    let P : List ℕ → Type 0 = λ name. IsFileAnswer (holds name) before now text status in
+    subst P (line_names_one words other file same line) answer
+
+-- a status that is none of the two
+whole_is : (status other : Status) → status ≡ other → other ≢ WriteFault → other ≢ NoMemory → ¬ IsCutShort status
+whole_is status other e f g (inl h) = f (sym e ∙ h)
+whole_is status other e f g (inr h) = g (sym e ∙ h)
+
+-- an answer's status is neither a fault of the sink nor want of memory
+pub answer_is_whole : (words : List (List ℕ)) (holds : List ℕ → Option (Option (List ℕ))) (before now : ℕ) (text : List ℕ) (status : Status)
+    → IsAnswer words holds before now text status → ¬ IsCutShort status
+answer_is_whole words holds before now text status (inl usage) = whole_is status Usage usage.status_is (λ e. cc) (λ e. cc)
+answer_is_whole words holds before now text status (inr (file, line, inl fault)) = whole_is status ReadFault fault.status_is (λ e. cc) (λ e. cc)
+answer_is_whole words holds before now text status (inr (file, line, inr (inl long))) = whole_is status TooLong long.status_is (λ e. cc) (λ e. cc)
+answer_is_whole words holds before now text status (inr (file, line, inr (inr known))) = whole_is status Refused known.answer.status_is (λ e. cc) (λ e. cc)
+
+module _ (words : List (List ℕ)) (holds : List ℕ → Option (Option (List ℕ))) (before now : ℕ) where
+  pub usage_exactly : (status : Status) → Ends words holds before now status → UsageExactly words status
+  usage_exactly status (inl short) = record { cause = λ e. absurd (whole_is status Usage e (λ f. cc) (λ f. cc) short); comes = λ no_line whole. absurd (whole short) }
+  usage_exactly status (inr (text, inl usage)) = record { cause = λ e. usage.no_line; comes = λ no_line whole. usage.status_is }
+  usage_exactly status (inr (text, inr (file, line, answer))) = record { cause = cause answer; comes = λ no_line whole. absurd (no_line file line) }
+    where
+      cause : IsFileAnswer (holds file) before now text status → status ≡ Usage → IsNoLine words
+      cause (inl fault) e = let f = fault.status_is in cc
+      cause (inr (inl long)) e = let f = long.status_is in cc
+      cause (inr (inr known)) e = let f = known.answer.status_is in cc
+
+  pub read_fault_exactly : (status : Status) → Ends words holds before now status → ReadFaultExactly words holds before now status
+  read_fault_exactly status (inl short) = record { cause = λ e. absurd (whole_is status ReadFault e (λ f. cc) (λ f. cc) short); comes = λ file line absent whole. absurd (whole short) }
+  read_fault_exactly status (inr (text, answer)) =
+      record { cause = cause answer; comes = λ file line absent whole. comes file absent (answer_of_line words holds before now text file status line answer) }
+    where
+      cause : IsAnswer words holds before now text status → status ≡ ReadFault → (file : List ℕ) × IsLine words file × (Rose before now ⊎ (holds file ≡ Some None))
+      cause (inl usage) e = let f = usage.status_is in cc
+      cause (inr (file, line, inl fault)) e = (file, line, fault.cause)
+      cause (inr (file, line, inr (inl long))) e = let f = long.status_is in cc
+      cause (inr (file, line, inr (inr known))) e = let f = known.answer.status_is in cc
+
+      comes : (file : List ℕ) → holds file ≡ Some None → IsFileAnswer (holds file) before now text status → status ≡ ReadFault
+      comes file absent (inl fault) = fault.status_is
+      comes file absent (inr (inl long)) = absurd (long.longer None absent)
+      comes file absent (inr (inr known)) = let e = known.agrees.1 None absent in cc
+
+  pub too_long_exactly : (status : Status) → Ends words holds before now status → TooLongExactly words holds status
+  too_long_exactly status (inl short) = record { cause = λ e. absurd (whole_is status TooLong e (λ f. cc) (λ f. cc) short); comes = λ file bytes line told more whole read. absurd (whole short) }
+  too_long_exactly status (inr (text, answer)) =
+      record { cause = cause answer; comes = λ file bytes line told more whole read. comes file bytes told more read (answer_of_line words holds before now text file status line answer) }
+    where
+      cause : IsAnswer words holds before now text status → status ≡ TooLong → (file : List ℕ) × IsLine words file × MayBeTooLong (holds file)
+      cause (inl usage) e = let f = usage.status_is in cc
+      cause (inr (file, line, inl fault)) e = let f = fault.status_is in cc
+      cause (inr (file, line, inr (inl long))) e = (file, line, long.longer)
+      cause (inr (file, line, inr (inr known))) e = let f = known.answer.status_is in cc
+
+      comes : (file bytes : List ℕ) → holds file ≡ Some (Some bytes) → text_limit < length bytes → status ≢ ReadFault → IsFileAnswer (holds file) before now text status → status ≡ TooLong
+      comes file bytes told more read (inl fault) = absurd (read fault.status_is)
+      comes file bytes told more read (inr (inl long)) = long.status_is
+      comes file bytes told more read (inr (inr known)) =
+          let e = known.agrees.1 (Some bytes) told in
+          let same : bytes ≡ known.bytes = cc in
+          absurd (omega (arith, ap length same, known.agrees.0, more))
+
+  pub refused_exactly : (status : Status) → Ends words holds before now status → RefusedExactly words holds status
+  refused_exactly status (inl short) =
+      record { cause = λ e. absurd (whole_is status Refused e (λ f. cc) (λ f. cc) short); comes = λ file bytes refusal line told within answer whole read. absurd (whole short) }
+  refused_exactly status (inr (text, answer)) =
+      record {
+        cause = cause answer;
+        comes = λ file bytes refusal line told within refused whole read. comes file bytes told within read (answer_of_line words holds before now text file status line answer);
+      }
+    where
+      cause : IsAnswer words holds before now text status → status ≡ Refused
+          → (file bytes refusal : List ℕ) × IsLine words file × MayBeText (holds file) bytes × TextAnswer bytes refusal Refused
+      cause (inl usage) e = let f = usage.status_is in cc
+      cause (inr (file, line, inl fault)) e = let f = fault.status_is in cc
+      cause (inr (file, line, inr (inl long))) e = let f = long.status_is in cc
+      cause (inr (file, line, inr (inr known))) e =
+          let P : Status → Type 0 = λ s. TextAnswer known.bytes text s in
+          (file, known.bytes, text, line, known.agrees, subst P e known.answer)
+
+      comes : (file bytes : List ℕ) → holds file ≡ Some (Some bytes) → length bytes ≤ text_limit → status ≢ ReadFault → IsFileAnswer (holds file) before now text status → status ≡ Refused
+      comes file bytes told within read (inl fault) = absurd (read fault.status_is)
+      comes file bytes told within read (inr (inl long)) =
+          let more : text_limit < length bytes = long.longer (Some bytes) told in
+          absurd (omega (arith, within, more))
+      comes file bytes told within read (inr (inr known)) = known.answer.status_is
+
+  -- a text that is told gets its answer
+  pub text_is_answered : (text file bytes : List ℕ) (status : Status) → IsFileAnswer (holds file) before now text status
+      → holds file ≡ Some (Some bytes) → length bytes ≤ text_limit → ¬ Rose before now → TextAnswer bytes text status
+  text_is_answered text file bytes status (inl fault) told within still = elim fault.cause [ inl rose ↦ absurd (still rose) | inr absent ↦ cc ]
+  text_is_answered text file bytes status (inr (inl long)) told within still =
+      let more : text_limit < length bytes = long.longer (Some bytes) told in
+      absurd (omega (arith, within, more))
+  text_is_answered text file bytes status (inr (inr known)) told within still =
+      let e = known.agrees.1 (Some bytes) told in
+      let P : List ℕ → Type 0 = λ b. TextAnswer b text status in
+      let same : known.bytes ≡ bytes = cc in
+      subst P same known.answer

@@ -1,0 +1,27 @@
+use Rattle.std.proofs.Common.{inr}
+use Rattle.sp_top.proofs.Causes.{answer_of_line, usage_exactly, read_fault_exactly, too_long_exactly, refused_exactly, text_is_answered}
+use Rattle.sp_top.proofs.run.Goals as goal
+
+pub returns-in-Ok-write_whole-clause-usage : goal.returns-in-Ok-write_whole-clause-usage
+returns-in-Ok-write_whole-clause-usage g c = usage_exactly c.args.words.now _ _ _ _ (inr (c.in-Ok.answer.0.items, c.in-Ok.ensures.answer))
+
+pub returns-in-Ok-write_whole-clause-read_fault : goal.returns-in-Ok-write_whole-clause-read_fault
+returns-in-Ok-write_whole-clause-read_fault g c = read_fault_exactly c.args.words.now _ _ _ _ (inr (c.in-Ok.answer.0.items, c.in-Ok.ensures.answer))
+
+pub returns-in-Ok-write_whole-clause-too_long : goal.returns-in-Ok-write_whole-clause-too_long
+returns-in-Ok-write_whole-clause-too_long g c = too_long_exactly c.args.words.now _ _ _ _ (inr (c.in-Ok.answer.0.items, c.in-Ok.ensures.answer))
+
+pub returns-in-Ok-write_whole-clause-refused : goal.returns-in-Ok-write_whole-clause-refused
+returns-in-Ok-write_whole-clause-refused g c = refused_exactly c.args.words.now _ _ _ _ (inr (c.in-Ok.answer.0.items, c.in-Ok.ensures.answer))
+
+pub returns-in-Ok-write_whole-clause-completeness : goal.returns-in-Ok-write_whole-clause-completeness
+returns-in-Ok-write_whole-clause-completeness g c = record {
+  complete = λ file bytes line told within still sink_still.
+      let text = c.in-Ok.answer.0.items in
+      let answer = answer_of_line c.args.words.now (g.L.Library.holds c.args.library.now) _ _ text file c.in-Ok.answer.1 line c.in-Ok.ensures.answer in
+      inr (
+        text,
+        text_is_answered c.args.words.now (g.L.Library.holds c.args.library.now) _ _ text file bytes c.in-Ok.answer.1 answer told within still,
+        rw c.deref.ensures.value at c.in-Ok-write_whole.ensures.all,
+      );
+}

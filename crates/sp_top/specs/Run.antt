@@ -1,0 +1,62 @@
+-- What the top call promises, clause by clause. `before` and `now` are a count of faults before and after the call.
+use Rattle.std.specs.Prelude.{◌≡◌, ◌≢◌, ◌⊎◌, ◌≤◌, ◌<◌, ℕ, List, [], ◌∷◌, Option, Some, None, length}
+use Rattle.sp_io.specs.Told.{Rose, extended, IsExtendedByPrefix}
+use Rattle.sp_top.specs.Answer.{text_limit, TextAnswer, MayBeTooLong, MayBeText, IsAnswer}
+use Rattle.sp_top.specs.Command.{IsLine, IsNoLine}
+use Rattle.sp_top.specs.declared.Status.{Status}
+use Rattle.sp_top.specs.declared.Status.TheVariants.{Refused, Usage, ReadFault, WriteFault, NoMemory, TooLong}
+
+-- a fault of the sink or want of memory came before another cause could show
+abbrev pub IsCutShort : Status → Type 0
+IsCutShort status = (status ≡ WriteFault) ⊎ (status ≡ NoMemory)
+
+-- Usage comes exactly where the words are no line of the command
+pub record UsageExactly (words : List (List ℕ)) (status : Status) : Type 0 where
+  pub cause : status ≡ Usage → IsNoLine words
+  pub comes : IsNoLine words → ¬ IsCutShort status → status ≡ Usage
+
+module _ (words : List (List ℕ)) (holds : List ℕ → Option (Option (List ℕ))) where
+  -- ReadFault comes only where the count of faults rose or absence is told, and always where absence is told
+  pub record ReadFaultExactly (before now : ℕ) (status : Status) : Type 0 where
+    pub cause : status ≡ ReadFault → (file : List ℕ) × IsLine words file × (Rose before now ⊎ (holds file ≡ Some None))
+    pub comes : (file : List ℕ) → IsLine words file → holds file ≡ Some None → ¬ IsCutShort status → status ≡ ReadFault
+
+  -- TooLong comes exactly where the bytes held under FILE are more than the limit
+  pub record TooLongExactly (status : Status) : Type 0 where
+    pub cause : status ≡ TooLong → (file : List ℕ) × IsLine words file × MayBeTooLong (holds file)
+    pub comes : (file bytes : List ℕ) → IsLine words file → holds file ≡ Some (Some bytes) → text_limit < length bytes
+        → ¬ IsCutShort status → status ≢ ReadFault → status ≡ TooLong
+
+  -- Refused comes exactly where the answer to the text is a refusal
+  pub record RefusedExactly (status : Status) : Type 0 where
+    pub cause : status ≡ Refused → (file bytes text : List ℕ) × IsLine words file × MayBeText (holds file) bytes × TextAnswer bytes text Refused
+    pub comes : (file bytes text : List ℕ) → IsLine words file → holds file ≡ Some (Some bytes) → length bytes ≤ text_limit → TextAnswer bytes text Refused
+        → ¬ IsCutShort status → status ≢ ReadFault → status ≡ Refused
+
+  -- but after a fault of the sink or for want of memory, the whole answer stands written
+  pub record WritesWhole (before now : ℕ) (old new : Option (List ℕ)) (status : Status) : Type 0 where
+    pub whole : ¬ IsCutShort status → (text : List ℕ) × IsAnswer words holds before now text status × (new ≡ extended old text)
+
+  -- after a fault of the sink, a prefix of the whole answer stands written
+  pub record WritesPrefix (before now : ℕ) (old new : Option (List ℕ)) (status : Status) : Type 0 where
+    pub prefix : status ≡ WriteFault → (text : List ℕ) × (full : Status) × IsAnswer words holds before now text full × IsExtendedByPrefix old new text
+
+  -- a text that is told and within the limit gets its answer, but for faults and want of memory
+  pub record IsComplete (before now sink_before sink_now : ℕ) (old new : Option (List ℕ)) (status : Status) : Type 0 where
+    pub complete : (file bytes : List ℕ) → IsLine words file → holds file ≡ Some (Some bytes) → length bytes ≤ text_limit
+        → ¬ Rose before now → ¬ Rose sink_before sink_now → (status ≡ NoMemory) ⊎ ((text : List ℕ) × TextAnswer bytes text status × (new ≡ extended old text))
+
+-- WriteFault comes only where the sink's count of faults rose
+pub record WriteFaultOnly (before now : ℕ) (status : Status) : Type 0 where
+  pub cause : status ≡ WriteFault → Rose before now
+
+-- for want of memory nothing was written
+pub record WritesNothing (before now : ℕ) (old new : Option (List ℕ)) (status : Status) : Type 0 where
+  pub written : status ≡ NoMemory → new ≡ old
+  pub faults : status ≡ NoMemory → now ≡ before
+
+-- FILE alone is fetched, and but for want of memory once; where the words are no line nothing is
+pub record AsksFileOnce (words : List (List ℕ)) (old new : Option (List (List ℕ))) (status : Status) : Type 0 where
+  pub no_line : IsNoLine words → new ≡ old
+  pub at_most : (file : List ℕ) → IsLine words file → (new ≡ old) ⊎ (new ≡ extended old (file ∷ []))
+  pub once : (file : List ℕ) → IsLine words file → status ≢ NoMemory → new ≡ extended old (file ∷ [])
