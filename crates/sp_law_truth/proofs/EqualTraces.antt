@@ -1,5 +1,5 @@
 -- Equal values, and traces with equal actions, keep the truth of formulas.
-use Rattle.std.proofs.Common.{◌≡◌, ◌⊎◌, ℕ, List, [], ◌∷◌, length, refl, sym, ap, ◌∙◌, subst, inl, inr, arith}
+use Rattle.std.proofs.Common.{◌≡◌, ℕ, List, [], ◌∷◌, length, refl, ◌∙◌, subst, inl, inr, arith}
 use Rattle.std.specs.Prelude.{◌↔◌}
 use Rattle.sp_spec.specs.Lists.{Member, Every, AtPosition}
 use Rattle.sp_spec.specs.Signature.{Equation, Signature}
@@ -9,7 +9,7 @@ use Rattle.sp_spec.specs.Truth.{Acts}
 use Rattle.sp_spec.specs.Guarded.{Guarded, Assignment, GuardedHolds}
 use Rattle.sp_law_truth.specs.Shown.{action_names}
 use Rattle.sp_law_truth.specs.Same.{SameActions, EqualTraces, EqualAssignments}
-use Rattle.sp_law_truth.proofs.Equals.{same_action_refl, same_action_sym, same_action_trans}
+use Rattle.sp_law_equal.proofs.Chains.{same_action_sym, same_action_trans}
 use Rattle.sp_law_truth.proofs.ActsAlike.{ActsAlike, formula_alike}
 
 module _ (es : List Equation) where
@@ -57,8 +57,8 @@ module _ (es : List Equation) where
   equal_traces_act_alike IsNamed trace other e = record {
     lengths = equal_traces_length trace other e;
     acts = λ p a b named same. (
-        equal_traces_acts trace other e p a b same,
-        equal_traces_acts other trace (equal_traces_sym trace other e) p b a (same_action_sym es a b same),
+      equal_traces_acts trace other e p a b same,
+      equal_traces_acts other trace (equal_traces_sym trace other e) p b a (same_action_sym es a b same),
     );
   }
 
