@@ -6,7 +6,8 @@ use Rattle.sp_spec.specs.Equal.{AreNormalFormsOf}
 use Rattle.sp_spec.specs.Rule.{Fact, Action, Facts, fact_at, action_at, facts_at, SameFact, SameAction, AreNormalFacts, AreNormalActions, IsNormalFormOf}
 use Rattle.sp_law_equal.specs.Convergent.{AreConvergent}
 use Rattle.sp_law_equal.specs.Normal.{normal, normal_fact, normal_action, normal_facts}
-use Rattle.sp_law_equal.specs.Pointwise.{EachWith, AreSameFacts}
+use Rattle.sp_law_equal.specs.Pointwise.{AreSameFacts}
+use Rattle.sp_law_equal.proofs.Pointwise.{map_same}
 use Rattle.sp_law_equal.proofs.Forms.{equal_all_normal, decides_all}
 use Rattle.sp_law_equal.proofs.Values.{normal_forms, normal_forms_same, normal_value_all}
 
@@ -19,7 +20,7 @@ made_action f ts = record { symbol = f; args = ts }
 abbrev made_facts : List (Fact ⊥) → List (Action ⊥) → List (Fact ⊥) → Facts ⊥
 made_facts ps as' cs = record { premises = ps; actions = as'; conclusions = cs }
 
-same_parts : (f g : Fact ⊥) → f.symbol ≡ g.symbol → f.persistent ≡ g.persistent → f.args ≡ g.args → f ≡ g
+pub same_parts : (f g : Fact ⊥) → f.symbol ≡ g.symbol → f.persistent ≡ g.persistent → f.args ≡ g.args → f ≡ g
 same_parts f g s p a =
     ap (λ x. made_fact x f.persistent f.args) s ∙ ap (λ x. made_fact g.symbol x f.args) p ∙ ap (made_fact g.symbol g.persistent) a
 
@@ -29,13 +30,6 @@ same_action_parts a b s e = ap (λ x. made_action x a.args) s ∙ ap (made_actio
 same_facts_parts : (f g : Facts ⊥) → f.premises ≡ g.premises → f.actions ≡ g.actions → f.conclusions ≡ g.conclusions → f ≡ g
 same_facts_parts f g p a c =
     ap (λ x. made_facts x f.actions f.conclusions) p ∙ ap (λ x. made_facts g.premises x f.conclusions) a ∙ ap (made_facts g.premises g.actions) c
-
--- elements that are made the same
-map_same : {A B : Type 0} (R : A → A → Type 0) (n : A → B) → ((x y : A) → R x y → n x ≡ n y) → (xs ys : List A) → EachWith R xs ys → map n xs ≡ map n ys
-map_same R n e [] [] h = refl
-map_same R n e [] (y ∷ ys) h = absurd h
-map_same R n e (x ∷ xs) [] h = absurd h
-map_same R n e (x ∷ xs) (y ∷ ys) h = ap₂ (λ z zs. z ∷ zs) (e x y h.0) (map_same R n e xs ys h.1)
 
 map_map_same : {A B C : Type 0} (a b : A → B) (n : B → C) → ((x : A) → n (a x) ≡ n (b x)) → (xs : List A) → map n (map a xs) ≡ map n (map b xs)
 map_map_same a b n e [] = refl

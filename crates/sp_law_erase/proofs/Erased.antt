@@ -7,7 +7,9 @@ use Rattle.sp_spec.specs.Rule.{Fact, Action, Facts, facts_at, fr, in_of, out_of,
 use Rattle.sp_spec.specs.Theory.{Theory, signature_of}
 use Rattle.sp_spec.specs.Execution.{Step, make_fresh, use_rule, take_out, put_in, know_public, make_own, apply_symbol, State, known_all, Takes, Leads, made_by, Trace, with_entry, Runs, IsExecution}
 use Rattle.sp_spec.specs.Log.{fresh_rule, Log, fresh_of, all_fresh_uses, linear_sources, all_sources, log_trace}
-use Rattle.sp_law_erase.specs.Traces.{EqualTraces, without_sends, without_empty}
+use Rattle.sp_law_truth.specs.Same.{EqualTraces}
+use Rattle.sp_law_truth.specs.Shown.{without_empty}
+use Rattle.sp_law_erase.specs.Traces.{without_sends}
 use Rattle.sp_law_erase.specs.Adversary.{adversary_facts, NeedsNoAdversary}
 use Rattle.sp_law_erase.specs.Laws.{NormalForms, ErasesTo}
 use Rattle.sp_law_erase.proofs.Rearranged.{keeps_distinct, keeps_rest}

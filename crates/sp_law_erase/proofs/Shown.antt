@@ -6,7 +6,9 @@ use Rattle.sp_spec.specs.Term.{Variable, Values}
 use Rattle.sp_spec.specs.Signature.{Equation}
 use Rattle.sp_spec.specs.Rule.{Action, action_at}
 use Rattle.sp_spec.specs.Execution.{Trace, with_entry}
-use Rattle.sp_law_erase.specs.Traces.{EqualTraces, is_send, without_send, without_sends, without_empty}
+use Rattle.sp_law_truth.specs.Same.{EqualTraces}
+use Rattle.sp_law_truth.specs.Shown.{without_empty}
+use Rattle.sp_law_erase.specs.Traces.{is_send, without_send, without_sends}
 use Rattle.sp_law_erase.specs.Laws.{NormalForms}
 use Rattle.sp_law_erase.proofs.Sources.{normal_action, same_normal_actions, is_not_named}
 

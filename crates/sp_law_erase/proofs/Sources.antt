@@ -8,7 +8,7 @@ use Rattle.sp_spec.specs.Term.{name, none, more, Ground, Grounds}
 use Rattle.sp_spec.specs.Signature.{Equation}
 use Rattle.sp_spec.specs.Rule.{Fact, Action, Facts, SameFact, SameAction, fr, AreNormalFacts, AreNormalActions, IsNormalFormOf}
 use Rattle.sp_spec.specs.Log.{Source, fresh_rule, conclusion, Log, is_fr, fresh_of, linear_sources, HasSources}
-use Rattle.sp_law_erase.specs.Traces.{EachWith}
+use Rattle.sp_law_equal.specs.Pointwise.{EachWith}
 use Rattle.sp_law_erase.specs.Adversary.{adversary_facts}
 use Rattle.sp_law_erase.specs.Laws.{NormalForms}
 use Rattle.sp_law_erase.proofs.Origins.{source_share, fresh_share, linear_cons, normal_fact, HasOrigin, HaveOrigins}

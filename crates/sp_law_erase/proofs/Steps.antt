@@ -8,7 +8,8 @@ use Rattle.sp_spec.specs.Rule.{Fact, Facts, Rule, fact_at, facts_at, SameFact}
 use Rattle.sp_spec.specs.Theory.{Theory, signature_of}
 use Rattle.sp_spec.specs.Execution.{Trace, with_entry}
 use Rattle.sp_spec.specs.Log.{Source, Entry, step, Log, fresh_of, all_fresh_uses, linear_sources, all_sources, HasSources, IsLog, log_trace}
-use Rattle.sp_law_erase.specs.Traces.{EachWith, without_empty}
+use Rattle.sp_law_equal.specs.Pointwise.{EachWith}
+use Rattle.sp_law_truth.specs.Shown.{without_empty}
 use Rattle.sp_law_erase.specs.Adversary.{adversary_facts, NeedsNoAdversary}
 use Rattle.sp_law_erase.specs.Laws.{NormalForms, ErasesTo}
 use Rattle.sp_law_erase.proofs.Rearranged.{member_either, distinct_right, Keeps, keeps_distinct, keeps_used}

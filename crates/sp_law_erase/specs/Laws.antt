@@ -6,7 +6,9 @@ use Rattle.sp_spec.specs.Equal.{EqualAll, AreNormal, AreNormalFormsOf}
 use Rattle.sp_spec.specs.Theory.{Theory, signature_of}
 use Rattle.sp_spec.specs.Execution.{Step, Trace, IsExecution}
 use Rattle.sp_spec.specs.Log.{Log, IsLog, log_trace}
-use Rattle.sp_law_erase.specs.Traces.{EqualTraces, without_sends, without_empty}
+use Rattle.sp_law_truth.specs.Same.{EqualTraces}
+use Rattle.sp_law_truth.specs.Shown.{without_empty}
+use Rattle.sp_law_erase.specs.Traces.{without_sends}
 use Rattle.sp_law_erase.specs.Adversary.{NeedsNoAdversary, NamesNoAdversary, IsFreshRight, HasStepsAlone}
 
 -- each list of terms has a normal form, those of equal ones are the same, and what is normal is its own
