@@ -6,7 +6,7 @@ use Rattle.sp_spec.specs.Equal.{AreNormalFormsOf}
 use Rattle.sp_spec.specs.Rule.{Fact, Action, Facts, fact_at, action_at, facts_at, SameFact, SameAction, AreNormalFacts, AreNormalActions, IsNormalFormOf}
 use Rattle.sp_law_equal.specs.Convergent.{AreConvergent}
 use Rattle.sp_law_equal.specs.Normal.{normal, normal_fact, normal_action, normal_facts}
-use Rattle.sp_law_equal.specs.Pointwise.{AreSameFacts}
+use Rattle.sp_law_equal.specs.Pointwise.{EachWith, AreSameFacts}
 use Rattle.sp_law_equal.proofs.Pointwise.{map_same}
 use Rattle.sp_law_equal.proofs.Forms.{equal_all_normal, decides_all}
 use Rattle.sp_law_equal.proofs.Values.{normal_forms, normal_forms_same, normal_value_all}
@@ -20,7 +20,7 @@ made_action f ts = record { symbol = f; args = ts }
 abbrev made_facts : List (Fact ⊥) → List (Action ⊥) → List (Fact ⊥) → Facts ⊥
 made_facts ps as' cs = record { premises = ps; actions = as'; conclusions = cs }
 
-pub same_parts : (f g : Fact ⊥) → f.symbol ≡ g.symbol → f.persistent ≡ g.persistent → f.args ≡ g.args → f ≡ g
+same_parts : (f g : Fact ⊥) → f.symbol ≡ g.symbol → f.persistent ≡ g.persistent → f.args ≡ g.args → f ≡ g
 same_parts f g s p a =
     ap (λ x. made_fact x f.persistent f.args) s ∙ ap (λ x. made_fact g.symbol x f.args) p ∙ ap (made_fact g.symbol g.persistent) a
 
@@ -91,14 +91,16 @@ module _ (es : List Equation) (good : AreConvergent es) where
     λ e. (ap (λ x. x.symbol) e, (decides_all es good a.args b.args).1 (ap (λ x. x.args) e)),
   )
 
+  pub normal_facts_same : (fs gs : List (Fact ⊥)) → EachWith (SameFact es) fs gs → map (normal_fact es) fs ≡ map (normal_fact es) gs
+  normal_facts_same = map_same (SameFact es) (normal_fact es) (λ f g s. (same_fact_decides f g).0 s)
+
   -- facts that are the same one by one have one normal form
   pub same_facts_normal : (f g : Facts ⊥) → AreSameFacts es f g → normal_facts es f ≡ normal_facts es g
   same_facts_normal f g h =
-      let each = λ (x y : Fact ⊥) (s : SameFact es x y). (same_fact_decides x y).0 s in
       same_facts_parts (normal_facts es f) (normal_facts es g)
-      (map_same (SameFact es) (normal_fact es) each f.premises g.premises h.premises)
+      (normal_facts_same f.premises g.premises h.premises)
       (map_same (SameAction es) (normal_action es) (λ x y s. (same_action_decides x y).0 s) f.actions g.actions h.actions)
-      (map_same (SameFact es) (normal_fact es) each f.conclusions g.conclusions h.conclusions)
+      (normal_facts_same f.conclusions g.conclusions h.conclusions)
 
   pub facts_normal_forms_same : (f f' g g' : Facts ⊥) → AreSameFacts es f f' → IsNormalFormOf es f g → IsNormalFormOf es f' g' → g ≡ g'
   facts_normal_forms_same f f' g g' s h h' = facts_normal_form_only f g h ∙ same_facts_normal f f' s ∙ sym (facts_normal_form_only f' g' h')
