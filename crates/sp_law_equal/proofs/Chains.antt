@@ -3,7 +3,7 @@ use Rattle.std.proofs.Common.{◌≡◌, List, ℕ, refl, sym, subst, ◌∙◌}
 use Rattle.sp_spec.specs.Term.{Term, var, constant, name, app, Terms, none, more, Ground, Grounds, valued, valued_all}
 use Rattle.sp_spec.specs.Equal.{Link, below, LinkIn, here, there, Equal, end, forth, back, EqualAll}
 use Rattle.sp_spec.specs.Signature.{Equation}
-use Rattle.sp_spec.specs.Rule.{Fact, Action, SameFact, SameAction}
+use Rattle.sp_spec.specs.Rule.{Fact, Action, action_at, SameFact, SameAction}
 
 module _ (es : List Equation) where
   pub equal_refl : (t : Ground) → Equal es t t
@@ -73,6 +73,9 @@ module _ (es : List Equation) where
       pub equal_all_valued : (ts : Terms V) → EqualAll es (valued_all v ts) (valued_all w ts)
       equal_all_valued none = tt
       equal_all_valued (more t ts) = (equal_valued t, equal_all_valued ts)
+
+    pub same_action_valued : (a : Action V) → SameAction es (action_at v a) (action_at w a)
+    same_action_valued a = (refl, equal_all_valued a.args)
 
   pub same_fact_refl : (f : Fact ⊥) → SameFact es f f
   same_fact_refl f = (refl, refl, equal_all_refl f.args)

@@ -7,6 +7,7 @@ use Rattle.sp_spec.specs.Rule.{Fact, Action, Facts, fact_at, action_at, facts_at
 use Rattle.sp_law_equal.specs.Convergent.{AreConvergent}
 use Rattle.sp_law_equal.specs.Normal.{normal, normal_fact, normal_action, normal_facts}
 use Rattle.sp_law_equal.specs.Pointwise.{EachWith, AreSameFacts}
+use Rattle.sp_law_equal.proofs.Pointwise.{map_same}
 use Rattle.sp_law_equal.proofs.Forms.{equal_all_normal, decides_all}
 use Rattle.sp_law_equal.proofs.Values.{normal_forms, normal_forms_same, normal_value_all}
 
@@ -29,13 +30,6 @@ same_action_parts a b s e = ap (λ x. made_action x a.args) s ∙ ap (made_actio
 same_facts_parts : (f g : Facts ⊥) → f.premises ≡ g.premises → f.actions ≡ g.actions → f.conclusions ≡ g.conclusions → f ≡ g
 same_facts_parts f g p a c =
     ap (λ x. made_facts x f.actions f.conclusions) p ∙ ap (λ x. made_facts g.premises x f.conclusions) a ∙ ap (made_facts g.premises g.actions) c
-
--- elements that are made the same
-map_same : {A B : Type 0} (R : A → A → Type 0) (n : A → B) → ((x y : A) → R x y → n x ≡ n y) → (xs ys : List A) → EachWith R xs ys → map n xs ≡ map n ys
-map_same R n e [] [] h = refl
-map_same R n e [] (y ∷ ys) h = absurd h
-map_same R n e (x ∷ xs) [] h = absurd h
-map_same R n e (x ∷ xs) (y ∷ ys) h = ap₂ (λ z zs. z ∷ zs) (e x y h.0) (map_same R n e xs ys h.1)
 
 map_map_same : {A B C : Type 0} (a b : A → B) (n : B → C) → ((x : A) → n (a x) ≡ n (b x)) → (xs : List A) → map n (map a xs) ≡ map n (map b xs)
 map_map_same a b n e [] = refl
@@ -97,14 +91,16 @@ module _ (es : List Equation) (good : AreConvergent es) where
     λ e. (ap (λ x. x.symbol) e, (decides_all es good a.args b.args).1 (ap (λ x. x.args) e)),
   )
 
+  pub normal_facts_same : (fs gs : List (Fact ⊥)) → EachWith (SameFact es) fs gs → map (normal_fact es) fs ≡ map (normal_fact es) gs
+  normal_facts_same = map_same (SameFact es) (normal_fact es) (λ f g s. (same_fact_decides f g).0 s)
+
   -- facts that are the same one by one have one normal form
   pub same_facts_normal : (f g : Facts ⊥) → AreSameFacts es f g → normal_facts es f ≡ normal_facts es g
   same_facts_normal f g h =
-      let each = λ (x y : Fact ⊥) (s : SameFact es x y). (same_fact_decides x y).0 s in
       same_facts_parts (normal_facts es f) (normal_facts es g)
-      (map_same (SameFact es) (normal_fact es) each f.premises g.premises h.premises)
+      (normal_facts_same f.premises g.premises h.premises)
       (map_same (SameAction es) (normal_action es) (λ x y s. (same_action_decides x y).0 s) f.actions g.actions h.actions)
-      (map_same (SameFact es) (normal_fact es) each f.conclusions g.conclusions h.conclusions)
+      (normal_facts_same f.conclusions g.conclusions h.conclusions)
 
   pub facts_normal_forms_same : (f f' g g' : Facts ⊥) → AreSameFacts es f f' → IsNormalFormOf es f g → IsNormalFormOf es f' g' → g ≡ g'
   facts_normal_forms_same f f' g g' s h h' = facts_normal_form_only f g h ∙ same_facts_normal f f' s ∙ sym (facts_normal_form_only f' g' h')

@@ -1,3 +1,4 @@
+pub mod Pointwise
 pub mod Chains
 pub mod Tests
 pub mod Matches

@@ -7,9 +7,12 @@ use Rattle.sp_spec.specs.Rule.{Fact, Action, Facts, facts_at, fr, in_of, out_of,
 use Rattle.sp_spec.specs.Theory.{Theory, signature_of}
 use Rattle.sp_spec.specs.Execution.{Step, make_fresh, use_rule, take_out, put_in, know_public, make_own, apply_symbol, State, known_all, Takes, Leads, made_by, Trace, with_entry, Runs, IsExecution}
 use Rattle.sp_spec.specs.Log.{fresh_rule, Log, fresh_of, all_fresh_uses, linear_sources, all_sources, log_trace}
-use Rattle.sp_law_erase.specs.Traces.{EqualTraces, without_sends, without_empty}
+use Rattle.sp_law_truth.specs.Same.{EqualTraces}
+use Rattle.sp_law_truth.specs.Shown.{without_empty}
+use Rattle.sp_law_erase.specs.Traces.{without_sends}
 use Rattle.sp_law_erase.specs.Adversary.{adversary_facts, NeedsNoAdversary}
-use Rattle.sp_law_erase.specs.Laws.{NormalForms, ErasesTo}
+use Rattle.sp_law_equal.specs.Convergent.{AreConvergent}
+use Rattle.sp_law_erase.specs.Laws.{ErasesTo}
 use Rattle.sp_law_erase.proofs.Rearranged.{keeps_distinct, keeps_rest}
 use Rattle.sp_law_erase.proofs.Origins.{taken}
 use Rattle.sp_law_erase.proofs.Sources.{no_fresh_share, adversary_is_not_fr}
@@ -21,21 +24,21 @@ is_name (constant c) h = absurd h
 is_name (name n) h = (n, refl)
 is_name (app f ts) h = absurd h
 
-module _ (theory : Theory) (forms : NormalForms (signature_of theory).equations) where
-  module _ (log : Log) (facts : List (Fact ⊥)) (made : List Ground) (earlier : Trace) (old : Erased theory forms facts made earlier log) where
+module _ (theory : Theory) where
+  module _ (log : Log) (facts : List (Fact ⊥)) (made : List Ground) (earlier : Trace) (old : Erased theory facts made earlier log) where
     -- a step of the adversary's takes facts and adds one of its own, and the log stays as it is
     adversary_step : (step : Facts ⊥) (rest : List (Fact ⊥)) (g : Fact ⊥) → Member g.symbol adversary_facts → step.conclusions ≡ g ∷ []
         → without_empty (without_sends (with_entry step.actions earlier)) ≡ without_empty (without_sends earlier)
         → Takes (signature_of theory).equations step.premises facts rest
-        → Erased theory forms (step.conclusions ++ rest) made (with_entry step.actions earlier) log
+        → Erased theory (step.conclusions ++ rest) made (with_entry step.actions earlier) log
     adversary_step step rest g is_adversarys one hidden takes =
-        let t = taken forms.norm log (signature_of theory).equations step.premises facts old.origins rest old.have_origins takes in
+        let t = taken (signature_of theory).equations log step.premises facts old.origins rest old.have_origins takes in
         let keeps_sources =
         keeps_rest (linear_sources facts old.origins) (linear_sources t.founds t.sources) (linear_sources rest t.left) (all_sources log) t.linear in
         let keeps_fresh = keeps_rest (fresh_of facts) (fresh_of t.founds) (fresh_of rest) (all_fresh_uses log) t.fresh in
         let none : fresh_of (g ∷ rest) ≡ fresh_of rest =
         ap (λ (xs : List Ground). xs ++ fresh_of rest) (no_fresh_share g (adversary_is_not_fr g.symbol is_adversarys)) in
-        subst (λ (fs : List (Fact ⊥)). Erased theory forms (fs ++ rest) made (with_entry step.actions earlier) log) (sym one)
+        subst (λ (fs : List (Fact ⊥)). Erased theory (fs ++ rest) made (with_entry step.actions earlier) log) (sym one)
         (record {
           origins = fresh_rule ∷ t.left;
           have_origins = (inl is_adversarys, t.have_left);
@@ -51,7 +54,7 @@ module _ (theory : Theory) (forms : NormalForms (signature_of theory).equations)
           };
         })
 
-    fresh_step : (n : ℕ) → (Member (name n) made → ⊥) → Erased theory forms (fr (name n) ∷ facts) (name n ∷ made) earlier log
+    fresh_step : (n : ℕ) → (Member (name n) made → ⊥) → Erased theory (fr (name n) ∷ facts) (name n ∷ made) earlier log
     fresh_step n new = record {
       origins = fresh_rule ∷ old.origins;
       have_origins = (inr (n, refl), old.have_origins);
@@ -62,10 +65,10 @@ module _ (theory : Theory) (forms : NormalForms (signature_of theory).equations)
       erases = old.erases;
     }
 
-  module _ (needs : NeedsNoAdversary theory) where
+  module _ (good : AreConvergent (signature_of theory).equations) (needs : NeedsNoAdversary theory) where
     -- with the facts and the names of a state
     abbrev ErasedAt : State → Trace → Type 0
-    ErasedAt state trace = (log : Log) × Erased theory forms state.facts state.made trace log
+    ErasedAt state trace = (log : Log) × Erased theory state.facts state.made trace log
 
     abbrev added : Step → Facts ⊥ → State → List (Fact ⊥) → State
     added step facts before rest = record { facts = facts.conclusions ++ rest; made = made_by step before.made }
@@ -75,7 +78,7 @@ module _ (theory : Theory) (forms : NormalForms (signature_of theory).equations)
         → Takes (signature_of theory).equations facts.premises before.facts rest → (premises : List (Fact ⊥)) (actions : List (Action ⊥)) (g : Fact ⊥)
         → Member g.symbol adversary_facts → facts ≡ record { premises = premises; actions = actions; conclusions = g ∷ [] }
         → without_empty (without_sends (with_entry actions earlier)) ≡ without_empty (without_sends earlier)
-        → Erased theory forms (facts.conclusions ++ rest) before.made (with_entry facts.actions earlier) old.0
+        → Erased theory (facts.conclusions ++ rest) before.made (with_entry facts.actions earlier) old.0
     by_adversary before earlier facts rest old takes premises actions g is_adversarys is hidden =
         adversary_step old.0 before.facts before.made earlier old.1 facts rest g is_adversarys (ap (λ (fs : Facts ⊥). fs.conclusions) is)
         (ap (λ (fs : Facts ⊥). without_empty (without_sends (with_entry fs.actions earlier))) is ∙ hidden)
@@ -90,17 +93,17 @@ module _ (theory : Theory) (forms : NormalForms (signature_of theory).equations)
         let none : before.facts ≡ l.rest =
         subst (λ (fs : Facts ⊥). Takes (signature_of theory).equations fs.premises before.facts l.rest) l.is_instance l.takes in
         let one = fresh_step old.0 before.facts before.made earlier old.1 n.0 new in
-        let at_rest = subst (λ (fs : List (Fact ⊥)). Erased theory forms (fr (name n.0) ∷ fs) (name n.0 ∷ before.made) earlier old.0) none one in
-        let at_term = subst (λ (u : Ground). Erased theory forms (fr u ∷ l.rest) (u ∷ before.made) earlier old.0) (sym n.1) at_rest in
-        let made = λ (fs : Facts ⊥). Erased theory forms (fs.conclusions ++ l.rest) (t ∷ before.made) (with_entry fs.actions earlier) old.0 in
+        let at_rest = subst (λ (fs : List (Fact ⊥)). Erased theory (fr (name n.0) ∷ fs) (name n.0 ∷ before.made) earlier old.0) none one in
+        let at_term = subst (λ (u : Ground). Erased theory (fr u ∷ l.rest) (u ∷ before.made) earlier old.0) (sym n.1) at_rest in
+        let made = λ (fs : Facts ⊥). Erased theory (fs.conclusions ++ l.rest) (t ∷ before.made) (with_entry fs.actions earlier) old.0 in
         (old.0, subst made (sym l.is_instance) at_term)
     next (use_rule called given) before after earlier facts l old =
         let r = l.is_instance.0 in
         let is : facts ≡ facts_at l.values r.facts = l.is_instance.4 in
         let takes = subst (λ (fs : Facts ⊥). Takes (signature_of theory).equations fs.premises before.facts l.rest) is l.takes in
         let used = facts_at l.values r.facts in
-        let t = taken forms.norm old.0 (signature_of theory).equations used.premises before.facts old.1.origins l.rest old.1.have_origins takes in
-        let one = rule_step theory forms needs r l.is_instance.1 l.values l.sorts old.0 before.facts l.rest before.made earlier old.1 t in
+        let t = taken (signature_of theory).equations old.0 used.premises before.facts old.1.origins l.rest old.1.have_origins takes in
+        let one = rule_step theory good needs r l.is_instance.1 l.values l.sorts old.0 before.facts l.rest before.made earlier old.1 t in
         subst (λ (fs : Facts ⊥). ErasedAt (added (use_rule called given) fs before l.rest) (with_entry fs.actions earlier)) (sym is) (_, one)
     next (take_out t) before after earlier facts l old =
         (old.0, by_adversary before earlier facts l.rest old l.takes (out_of t ∷ []) [] (knows t) (inr (inr (inl refl))) l.is_instance refl)
@@ -115,7 +118,7 @@ module _ (theory : Theory) (forms : NormalForms (signature_of theory).equations)
 
     runs_erase : (steps : List Step) (state : State) (trace : Trace) → Runs theory steps state trace → ErasedAt state trace
     runs_erase [] state trace r =
-        let nothing : Erased theory forms [] [] [] [] = record {
+        let nothing : Erased theory [] [] [] [] = record {
           origins = [];
           have_origins = tt;
           sources_once = tt;

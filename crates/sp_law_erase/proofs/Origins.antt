@@ -3,12 +3,13 @@ use Rattle.std.proofs.Common.{◌≡◌, ◌⊎◌, ℕ, Bool, true, false, not,
 use Rattle.std.specs.Prelude.{codes}
 use Rattle.std.specs.Str.{bytes_eq}
 use Rattle.sp_spec.specs.Lists.{Member, AtPosition}
-use Rattle.sp_spec.specs.Term.{name, Ground, Grounds}
+use Rattle.sp_spec.specs.Term.{name, Ground}
 use Rattle.sp_spec.specs.Signature.{Equation}
 use Rattle.sp_spec.specs.Rule.{Fact, SameFact, fr}
 use Rattle.sp_spec.specs.Execution.{Takes}
 use Rattle.sp_spec.specs.Log.{Source, fresh_rule, conclusion, Entry, Log, Concludes, is_fr, first_arg, fresh_of, linear_sources}
-use Rattle.sp_law_erase.specs.Traces.{EachWith}
+use Rattle.sp_law_equal.specs.Normal.{normal_fact}
+use Rattle.sp_law_equal.specs.Pointwise.{EachWith}
 use Rattle.sp_law_erase.specs.Adversary.{adversary_facts}
 use Rattle.sp_law_erase.proofs.Rearranged.{Keeps, keeps_same, keeps_then, keeps_behind, keeps_moved}
 
@@ -41,20 +42,17 @@ and_not_true false b e = refl
 pub fresh_share_none : (f : Fact ⊥) → f.persistent ≡ true → fresh_share f ≡ []
 fresh_share_none f e = let n : is_fr f ≡ false = and_not_true (bytes_eq f.symbol (codes "Fr")) f.persistent e in rw n refl
 
-module _ (norm : Grounds → Grounds) where
-  abbrev pub normal_fact : Fact ⊥ → Fact ⊥
-  normal_fact f = record { symbol = f.symbol; persistent = f.persistent; args = norm f.args }
-
+module _ (es : List Equation) where
   -- A fact of the adversary's or a fresh one has no source in the log. Any other is, in normal form, a conclusion there.
   abbrev pub HasOrigin : Log → Fact ⊥ → Source → Type 0
   HasOrigin log f fresh_rule = Member f.symbol adversary_facts ⊎ ((n : ℕ) × (f ≡ fr (name n)))
-  HasOrigin log f (conclusion p k) = (f.symbol ≡ codes "Fr" → ⊥) × ((e : Entry) × AtPosition log p e × Concludes e k (normal_fact f))
+  HasOrigin log f (conclusion p k) = (f.symbol ≡ codes "Fr" → ⊥) × ((e : Entry) × AtPosition log p e × Concludes e k (normal_fact es f))
 
   abbrev pub HaveOrigins : Log → List (Fact ⊥) → List Source → Type 0
   HaveOrigins log = EachWith (HasOrigin log)
 
   -- what was found for the facts, and what is left, with their sources
-  pub record Taken (es : List Equation) (log : Log) (facts state : List (Fact ⊥)) (origins : List Source) (rest : List (Fact ⊥)) : Type 0 where
+  pub record Taken (log : Log) (facts state : List (Fact ⊥)) (origins : List Source) (rest : List (Fact ⊥)) : Type 0 where
     pub founds : List (Fact ⊥)
     pub sources : List Source
     pub left : List Source
@@ -176,9 +174,9 @@ module _ (norm : Grounds → Grounds) where
         (keeps_behind share middle (taken ++ left) b)
         (keeps_same (share ++ (taken ++ left)) ((share ++ taken) ++ left) (sym (append_assoc share taken left))))
 
-    pub taken : (es : List Equation) (facts state : List (Fact ⊥)) (origins : List Source) (rest : List (Fact ⊥))
-        → HaveOrigins log state origins → Takes es facts state rest → Taken es log facts state origins rest
-    taken es [] state origins rest h t = record {
+    pub taken : (facts state : List (Fact ⊥)) (origins : List Source) (rest : List (Fact ⊥))
+        → HaveOrigins log state origins → Takes es facts state rest → Taken log facts state origins rest
+    taken [] state origins rest h t = record {
       founds = [];
       sources = [];
       left = origins;
@@ -188,12 +186,12 @@ module _ (norm : Grounds → Grounds) where
       linear = keeps_same (linear_sources state origins) (linear_sources rest origins) (ap (λ (fs : List (Fact ⊥)). linear_sources fs origins) t);
       fresh = keeps_same (fresh_of state) (fresh_of rest) (ap fresh_of t);
     }
-    taken es (f ∷ facts) state origins rest h t =
+    taken (f ∷ facts) state origins rest h t =
         let front = t.0 in let found = t.1 in let back = t.2 in
         let middle = front ++ (if found.persistent then found ∷ back else back) in
         let is : front ++ found ∷ back ≡ state = sym t.3 in
         let one = one_taken front found back origins (subst (λ (fs : List (Fact ⊥)). HaveOrigins log fs origins) t.3 h) in
-        let more_taken = taken es facts middle one.left rest one.have_left t.5 in
+        let more_taken = taken facts middle one.left rest one.have_left t.5 in
         let here = front ++ found ∷ back in
         let left_sources = linear_sources rest more_taken.left in
         let found_sources = linear_sources (found ∷ more_taken.founds) (one.source ∷ more_taken.sources) in

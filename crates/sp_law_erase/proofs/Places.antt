@@ -2,11 +2,12 @@
 use Rattle.std.proofs.Common.{◌≡◌, ⊎_elim, inl, inr, ℕ, zero, suc, ◌+◌, ◌<◌, ◌≤◌, Bool, true, false, if◌then◌else◌, List, [], ◌∷◌, ◌++◌, map, length, refl, sym, ap, subst, arith}
 use Rattle.std.specs.Prelude.{codes}
 use Rattle.sp_spec.specs.Lists.{Member, Every, Distinct, AtPlace, AtPosition}
-use Rattle.sp_spec.specs.Term.{Grounds}
+use Rattle.sp_spec.specs.Signature.{Equation}
 use Rattle.sp_spec.specs.Rule.{Fact, Facts}
 use Rattle.sp_spec.specs.Log.{Source, fresh_rule, conclusion, Entry, step, Log, linear_sources}
+use Rattle.sp_law_equal.specs.Normal.{normal_fact}
 use Rattle.sp_law_erase.proofs.Rearranged.{member_either}
-use Rattle.sp_law_erase.proofs.Origins.{source_share, normal_fact, HasOrigin, HaveOrigins}
+use Rattle.sp_law_erase.proofs.Origins.{source_share, HasOrigin, HaveOrigins}
 
 -- the source is in an entry before that position
 abbrev pub IsBelow : ℕ → Source → Type 0
@@ -87,12 +88,12 @@ place_map n [] k x a = absurd a
 place_map n (y ∷ xs) zero x a = ap n a
 place_map n (y ∷ xs) (suc k) x a = place_map n xs k x a
 
-module _ (norm : Grounds → Grounds) where
-  pub origin_later : (log : Log) (entry : Entry) (f : Fact ⊥) (o : Source) → HasOrigin norm log f o → HasOrigin norm (entry ∷ log) f o
+module _ (es : List Equation) where
+  pub origin_later : (log : Log) (entry : Entry) (f : Fact ⊥) (o : Source) → HasOrigin es log f o → HasOrigin es (entry ∷ log) f o
   origin_later log entry f fresh_rule h = h
   origin_later log entry f (conclusion p k) h = (h.0, (h.1.0, inr h.1.1, h.1.2))
 
-  pub origins_later : (log : Log) (entry : Entry) (fs : List (Fact ⊥)) (os : List Source) → HaveOrigins norm log fs os → HaveOrigins norm (entry ∷ log) fs os
+  pub origins_later : (log : Log) (entry : Entry) (fs : List (Fact ⊥)) (os : List Source) → HaveOrigins es log fs os → HaveOrigins es (entry ∷ log) fs os
   origins_later log entry [] [] h = tt
   origins_later log entry [] (o ∷ os) h = absurd h
   origins_later log entry (f ∷ fs) [] h = absurd h
@@ -101,14 +102,14 @@ module _ (norm : Grounds → Grounds) where
   -- the conclusions of a step are where they come from
   module _ (log : Log) (r : List ℕ) (facts : Facts ⊥) (sources : List Source) where
     pub numbered_origins : (fs : List (Fact ⊥)) (k : ℕ) → Every (λ (f : Fact ⊥). f.symbol ≡ codes "Fr" → ⊥) fs
-        → ((j : ℕ) (f : Fact ⊥) → AtPlace fs j f → AtPlace facts.conclusions (k + j) (normal_fact norm f))
-        → HaveOrigins norm (step r facts sources ∷ log) fs (numbered (length log) k fs)
+        → ((j : ℕ) (f : Fact ⊥) → AtPlace fs j f → AtPlace facts.conclusions (k + j) (normal_fact es f))
+        → HaveOrigins es (step r facts sources ∷ log) fs (numbered (length log) k fs)
     numbered_origins [] k apart at = tt
     numbered_origins (f ∷ fs) k apart at =
-        let here : AtPlace facts.conclusions k (normal_fact norm f) =
-        subst (λ (j : ℕ). AtPlace facts.conclusions j (normal_fact norm f)) (omega arith) (at zero f refl) in (
+        let here : AtPlace facts.conclusions k (normal_fact es f) =
+        subst (λ (j : ℕ). AtPlace facts.conclusions j (normal_fact es f)) (omega arith) (at zero f refl) in (
           (apart.0, (step r facts sources, inl (refl, refl), here)),
-          numbered_origins fs (suc k) apart.1 (λ j g a. subst (λ (i : ℕ). AtPlace facts.conclusions i (normal_fact norm g)) (next j) (at (suc j) g a)),
+          numbered_origins fs (suc k) apart.1 (λ j g a. subst (λ (i : ℕ). AtPlace facts.conclusions i (normal_fact es g)) (next j) (at (suc j) g a)),
         )
       where
         next : (j : ℕ) → k + suc j ≡ suc k + j

@@ -4,14 +4,15 @@ use Rattle.std.specs.Prelude.{codes}
 use Rattle.std.specs.Str.{bytes_eq}
 use Rattle.std.proofs.lemmas.Slice.Eq.{bytes_eq-Decides}
 use Rattle.sp_spec.specs.Lists.{Member, Every}
-use Rattle.sp_spec.specs.Term.{name, none, more, Ground, Grounds}
+use Rattle.sp_spec.specs.Term.{name, Ground}
 use Rattle.sp_spec.specs.Signature.{Equation}
-use Rattle.sp_spec.specs.Rule.{Fact, Action, Facts, SameFact, SameAction, fr, AreNormalFacts, AreNormalActions, IsNormalFormOf}
+use Rattle.sp_spec.specs.Rule.{Fact, Action, SameAction, fr}
 use Rattle.sp_spec.specs.Log.{Source, fresh_rule, conclusion, Log, is_fr, fresh_of, linear_sources, HasSources}
-use Rattle.sp_law_erase.specs.Traces.{EachWith}
+use Rattle.sp_law_equal.specs.Normal.{normal_fact, normal_action}
+use Rattle.sp_law_equal.proofs.Forms.{to_normal_all}
+use Rattle.sp_law_equal.specs.Pointwise.{EachWith}
 use Rattle.sp_law_erase.specs.Adversary.{adversary_facts}
-use Rattle.sp_law_erase.specs.Laws.{NormalForms}
-use Rattle.sp_law_erase.proofs.Origins.{source_share, fresh_share, linear_cons, normal_fact, HasOrigin, HaveOrigins}
+use Rattle.sp_law_erase.proofs.Origins.{source_share, fresh_share, linear_cons, HasOrigin, HaveOrigins}
 
 pub names_apart : (f g : List ℕ) → bytes_eq f g ≡ false → f ≡ g → ⊥
 names_apart f g h e = true≢false (sym ((bytes_eq-Decides f g).1 e) ∙ h)
@@ -40,88 +41,50 @@ is_not_fr f apart = false_and (bytes_eq f.symbol (codes "Fr")) (not f.persistent
 pub no_fresh_share : (f : Fact ⊥) → (f.symbol ≡ codes "Fr" → ⊥) → fresh_share f ≡ []
 no_fresh_share f apart = rw (is_not_fr f apart) refl
 
-abbrev made_fact : List ℕ → Bool → Grounds → Fact ⊥
-made_fact f p ts = record { symbol = f; persistent = p; args = ts }
-
-same_parts : (f g : Fact ⊥) → f.symbol ≡ g.symbol → f.persistent ≡ g.persistent → f.args ≡ g.args → f ≡ g
-same_parts f g s p a = ap (λ x. made_fact x f.persistent f.args) s ∙ ap (λ x. made_fact g.symbol x f.args) p ∙ ap (made_fact g.symbol g.persistent) a
-
-module _ (es : List Equation) (forms : NormalForms es) where
-  abbrev pub normal : Fact ⊥ → Fact ⊥
-  normal f = normal_fact forms.norm f
-
-  abbrev pub normal_action : Action ⊥ → Action ⊥
-  normal_action a = record { symbol = a.symbol; args = forms.norm a.args }
-
-  abbrev pub normal_facts : Facts ⊥ → Facts ⊥
-  normal_facts f = record { premises = map normal f.premises; actions = map normal_action f.actions; conclusions = map normal f.conclusions }
-
-  are_normal_facts : (fs : List (Fact ⊥)) → AreNormalFacts es fs (map normal fs)
-  are_normal_facts [] = tt
-  are_normal_facts (f ∷ fs) = (refl, refl, forms.is_form f.args, are_normal_facts fs)
-
-  are_normal_actions : (xs : List (Action ⊥)) → AreNormalActions es xs (map normal_action xs)
-  are_normal_actions [] = tt
-  are_normal_actions (a ∷ xs) = (refl, forms.is_form a.args, are_normal_actions xs)
-
-  pub is_normal_form : (f : Facts ⊥) → IsNormalFormOf es f (normal_facts f)
-  is_normal_form f = record { premises = are_normal_facts f.premises; actions = are_normal_actions f.actions; conclusions = are_normal_facts f.conclusions }
-
-  pub same_normal_actions : (xs : List (Action ⊥)) → EachWith (SameAction es) xs (map normal_action xs)
+module _ (es : List Equation) where
+  pub same_normal_actions : (xs : List (Action ⊥)) → EachWith (SameAction es) xs (map (normal_action es) xs)
   same_normal_actions [] = tt
-  same_normal_actions (a ∷ xs) = ((refl, (forms.is_form a.args).0), same_normal_actions xs)
+  same_normal_actions (a ∷ xs) = ((refl, to_normal_all es a.args), same_normal_actions xs)
 
-  -- facts that are the same one by one have the same normal forms
-  pub normals_same : (fs gs : List (Fact ⊥)) → EachWith (SameFact es) fs gs → map normal fs ≡ map normal gs
-  normals_same [] [] h = refl
-  normals_same [] (g ∷ gs) h = absurd h
-  normals_same (f ∷ fs) [] h = absurd h
-  normals_same (f ∷ fs) (g ∷ gs) h =
-      ap₂ (λ (x : Fact ⊥) (xs : List (Fact ⊥)). x ∷ xs)
-      (same_parts (normal f) (normal g) h.0.0 h.0.1 (forms.decides f.args g.args h.0.2)) (normals_same fs gs h.1)
-
-  linear_normal_one : (f : Fact ⊥) (o : Source) → source_share (normal f) o ≡ source_share f o
+  linear_normal_one : (f : Fact ⊥) (o : Source) → source_share (normal_fact es f) o ≡ source_share f o
   linear_normal_one f (conclusion p k) = refl
   linear_normal_one f fresh_rule = refl
 
   -- normal facts are linear or persistent as they were
-  pub linear_normal : (fs : List (Fact ⊥)) (os : List Source) → linear_sources (map normal fs) os ≡ linear_sources fs os
+  pub linear_normal : (fs : List (Fact ⊥)) (os : List Source) → linear_sources (map (normal_fact es) fs) os ≡ linear_sources fs os
   linear_normal [] os = refl
   linear_normal (f ∷ fs) [] = refl
   linear_normal (f ∷ fs) (o ∷ os) =
-      linear_cons (normal f) (map normal fs) o os
+      linear_cons (normal_fact es f) (map (normal_fact es) fs) o os
       ∙ ap₂ (λ (xs ys : List Source). xs ++ ys) (linear_normal_one f o) (linear_normal fs os)
       ∙ sym (linear_cons f fs o os)
 
-  normal_name : (n : ℕ) → normal (fr (name n)) ≡ fr (name n)
-  normal_name n = ap (made_fact (codes "Fr") false) (forms.keeps (more (name n) none) (tt, tt))
-
-  normal_fresh : (f : Fact ⊥) (n : ℕ) → f ≡ fr (name n) → normal f ≡ f
-  normal_fresh f n e = subst (λ (g : Fact ⊥). normal g ≡ g) (sym e) (normal_name n)
+  normal_fresh : (f : Fact ⊥) (n : ℕ) → f ≡ fr (name n) → normal_fact es f ≡ f
+  normal_fresh f n e = subst (λ (g : Fact ⊥). normal_fact es g ≡ g) (sym e) refl
 
   module _ (log : Log) where
     -- a fact that isn't the adversary's uses the same fresh name in normal form
-    fresh_share_same : (f : Fact ⊥) (o : Source) → (Member f.symbol adversary_facts → ⊥) → HasOrigin forms.norm log f o → fresh_share (normal f) ≡ fresh_share f
+    fresh_share_same : (f : Fact ⊥) (o : Source) → (Member f.symbol adversary_facts → ⊥) → HasOrigin es log f o → fresh_share (normal_fact es f) ≡ fresh_share f
     fresh_share_same f fresh_rule own h = ⊎_elim (λ m. absurd (own m)) (λ e. ap fresh_share (normal_fresh f e.0 e.1)) h
-    fresh_share_same f (conclusion p k) own h = no_fresh_share (normal f) h.0 ∙ sym (no_fresh_share f h.0)
+    fresh_share_same f (conclusion p k) own h = no_fresh_share (normal_fact es f) h.0 ∙ sym (no_fresh_share f h.0)
 
     pub fresh_normal : (fs : List (Fact ⊥)) (os : List Source)
-        → Every (λ (f : Fact ⊥). Member f.symbol adversary_facts → ⊥) fs → HaveOrigins forms.norm log fs os
-        → fresh_of (map normal fs) ≡ fresh_of fs
+        → Every (λ (f : Fact ⊥). Member f.symbol adversary_facts → ⊥) fs → HaveOrigins es log fs os
+        → fresh_of (map (normal_fact es) fs) ≡ fresh_of fs
     fresh_normal [] os own h = refl
     fresh_normal (f ∷ fs) [] own h = absurd h
     fresh_normal (f ∷ fs) (o ∷ os) own h = ap₂ (λ (xs ys : List Ground). xs ++ ys) (fresh_share_same f o own.0 h.0) (fresh_normal fs os own.1 h.1)
 
-    fr_is_fr : (f : Fact ⊥) (n : ℕ) → f ≡ fr (name n) → is_fr (normal f) ≡ true
-    fr_is_fr f n e = subst (λ (g : Fact ⊥). is_fr (normal g) ≡ true) (sym e) refl
+    fr_is_fr : (f : Fact ⊥) (n : ℕ) → f ≡ fr (name n) → is_fr (normal_fact es f) ≡ true
+    fr_is_fr f n e = subst (λ (g : Fact ⊥). is_fr (normal_fact es g) ≡ true) (sym e) refl
 
     -- facts that aren't the adversary's have their sources in the log
     pub has_sources : (fs : List (Fact ⊥)) (os : List Source)
-        → Every (λ (f : Fact ⊥). Member f.symbol adversary_facts → ⊥) fs → HaveOrigins forms.norm log fs os
-        → HasSources (map normal fs) os log
+        → Every (λ (f : Fact ⊥). Member f.symbol adversary_facts → ⊥) fs → HaveOrigins es log fs os
+        → HasSources (map (normal_fact es) fs) os log
     has_sources [] [] own h = tt
     has_sources [] (o ∷ os) own h = absurd h
     has_sources (f ∷ fs) [] own h = absurd h
     has_sources (f ∷ fs) (fresh_rule ∷ os) own h =
         (⊎_elim (λ m. absurd (own.0 m)) (λ e. fr_is_fr f e.0 e.1) h.0, has_sources fs os own.1 h.1)
-    has_sources (f ∷ fs) (conclusion p k ∷ os) own h = (is_not_fr (normal f) h.0.0, h.0.1, has_sources fs os own.1 h.1)
+    has_sources (f ∷ fs) (conclusion p k ∷ os) own h = (is_not_fr (normal_fact es f) h.0.0, h.0.1, has_sources fs os own.1 h.1)

@@ -8,12 +8,16 @@ use Rattle.sp_spec.specs.Rule.{Fact, Facts, Rule, fact_at, facts_at, SameFact}
 use Rattle.sp_spec.specs.Theory.{Theory, signature_of}
 use Rattle.sp_spec.specs.Execution.{Trace, with_entry}
 use Rattle.sp_spec.specs.Log.{Source, Entry, step, Log, fresh_of, all_fresh_uses, linear_sources, all_sources, HasSources, IsLog, log_trace}
-use Rattle.sp_law_erase.specs.Traces.{EachWith, without_empty}
+use Rattle.sp_law_equal.specs.Convergent.{AreConvergent}
+use Rattle.sp_law_equal.specs.Normal.{normal_fact, normal_facts}
+use Rattle.sp_law_equal.proofs.Facts.{facts_normal_form, normal_facts_same}
+use Rattle.sp_law_equal.specs.Pointwise.{EachWith}
+use Rattle.sp_law_truth.specs.Shown.{without_empty}
 use Rattle.sp_law_erase.specs.Adversary.{adversary_facts, NeedsNoAdversary}
-use Rattle.sp_law_erase.specs.Laws.{NormalForms, ErasesTo}
+use Rattle.sp_law_erase.specs.Laws.{ErasesTo}
 use Rattle.sp_law_erase.proofs.Rearranged.{member_either, distinct_right, Keeps, keeps_distinct, keeps_used}
 use Rattle.sp_law_erase.proofs.Origins.{fresh_append, HaveOrigins, Taken, have_append, linear_append}
-use Rattle.sp_law_erase.proofs.Sources.{no_fresh_share, normal, normal_facts, is_normal_form, normals_same, linear_normal, fresh_normal, has_sources}
+use Rattle.sp_law_erase.proofs.Sources.{no_fresh_share, linear_normal, fresh_normal, has_sources}
 use Rattle.sp_law_erase.proofs.Places.{IsBelow, below_later, numbered, numbered_below, numbered_distinct, numbered_origins, origins_later, place_map}
 use Rattle.sp_law_erase.proofs.Shown.{own_actions, shown_step}
 
@@ -37,11 +41,11 @@ no_fresh : (fs : List (Fact ⊥)) → Every (λ (f : Fact ⊥). f.symbol ≡ cod
 no_fresh [] h = refl
 no_fresh (f ∷ fs) h = ap₂ (λ (xs ys : List Ground). xs ++ ys) (no_fresh_share f h.0) (no_fresh fs h.1)
 
-module _ (theory : Theory) (forms : NormalForms (signature_of theory).equations) where
+module _ (theory : Theory) where
   -- Each fact has its origin, no linear source or fresh name of the state or of the log is there twice, and the log shows the trace.
   pub record Erased (facts : List (Fact ⊥)) (made : List Ground) (trace : Trace) (log : Log) : Type 0 where
     pub origins : List Source
-    pub have_origins : HaveOrigins forms.norm log facts origins
+    pub have_origins : HaveOrigins (signature_of theory).equations log facts origins
     pub sources_once : Distinct (linear_sources facts origins ++ all_sources log)
     pub sources_below : (o : Source) → Member o (linear_sources facts origins ++ all_sources log) → IsBelow (length log) o
     pub fresh_once : Distinct (fresh_of facts ++ all_fresh_uses log)
@@ -49,15 +53,16 @@ module _ (theory : Theory) (forms : NormalForms (signature_of theory).equations)
     pub erases : ErasesTo theory trace log
 
   -- the step of a rule, where these were taken for its premises
-  module _ (needs : NeedsNoAdversary theory) (r : Rule) (member : Member r theory.rules) (v : Values) (valuation : IsValuation (signature_of theory) v) where
+  module _ (good : AreConvergent (signature_of theory).equations) (needs : NeedsNoAdversary theory)
+      (r : Rule) (member : Member r theory.rules) (v : Values) (valuation : IsValuation (signature_of theory) v) where
     abbrev used : Facts ⊥
     used = facts_at v r.facts
 
     abbrev shown : Facts ⊥
-    shown = normal_facts (signature_of theory).equations forms used
+    shown = normal_facts (signature_of theory).equations used
 
     module _ (log : Log) (facts rest : List (Fact ⊥)) (made : List Ground) (earlier : Trace) (old : Erased facts made earlier log)
-        (t : Taken forms.norm (signature_of theory).equations log used.premises facts old.origins rest) where
+        (t : Taken (signature_of theory).equations log used.premises facts old.origins rest) where
       abbrev entry : Entry
       entry = step r.name shown t.sources
 
@@ -70,21 +75,21 @@ module _ (theory : Theory) (forms : NormalForms (signature_of theory).equations)
       apart : Every (λ (f : Fact ⊥). f.symbol ≡ codes "Fr" → ⊥) used.conclusions
       apart = apart_at v r.facts.conclusions (needs.conclusions r member)
 
-      premises_are : map (normal (signature_of theory).equations forms) t.founds ≡ shown.premises
-      premises_are = sym (normals_same (signature_of theory).equations forms used.premises t.founds t.same)
+      premises_are : map (normal_fact (signature_of theory).equations) t.founds ≡ shown.premises
+      premises_are = sym (normal_facts_same (signature_of theory).equations good used.premises t.founds t.same)
 
       step_sources : HasSources shown.premises t.sources log
       step_sources =
           subst (λ (fs : List (Fact ⊥)). HasSources fs t.sources log) premises_are
-          (has_sources (signature_of theory).equations forms log t.founds t.sources own t.have_sources)
+          (has_sources (signature_of theory).equations log t.founds t.sources own t.have_sources)
 
       sources_are : linear_sources t.founds t.sources ≡ linear_sources shown.premises t.sources
       sources_are =
-          sym (linear_normal (signature_of theory).equations forms t.founds t.sources)
+          sym (linear_normal (signature_of theory).equations t.founds t.sources)
           ∙ ap (λ (fs : List (Fact ⊥)). linear_sources fs t.sources) premises_are
 
       fresh_are : fresh_of t.founds ≡ fresh_of shown.premises
-      fresh_are = sym (fresh_normal (signature_of theory).equations forms log t.founds t.sources own t.have_sources) ∙ ap fresh_of premises_are
+      fresh_are = sym (fresh_normal (signature_of theory).equations log t.founds t.sources own t.have_sources) ∙ ap fresh_of premises_are
 
       keeps_sources : Keeps (linear_sources facts old.origins ++ all_sources log) (linear_sources rest t.left ++ all_sources (entry ∷ log))
       keeps_sources =
@@ -104,12 +109,12 @@ module _ (theory : Theory) (forms : NormalForms (signature_of theory).equations)
       fresh_left : Distinct (fresh_of rest ++ all_fresh_uses (entry ∷ log))
       fresh_left = keeps_distinct _ _ keeps_fresh old.fresh_once
 
-      conclusions_have : HaveOrigins forms.norm (entry ∷ log) used.conclusions new_origins
+      conclusions_have : HaveOrigins (signature_of theory).equations (entry ∷ log) used.conclusions new_origins
       conclusions_have =
-          numbered_origins forms.norm log r.name shown t.sources used.conclusions zero apart
+          numbered_origins (signature_of theory).equations log r.name shown t.sources used.conclusions zero apart
           (λ j f a.
-          subst (λ (i : ℕ). AtPlace shown.conclusions i (normal (signature_of theory).equations forms f)) (sym (zero-add j))
-          (place_map (normal (signature_of theory).equations forms) used.conclusions j f a))
+          subst (λ (i : ℕ). AtPlace shown.conclusions i (normal_fact (signature_of theory).equations f)) (sym (zero-add j))
+          (place_map (normal_fact (signature_of theory).equations) used.conclusions j f a))
 
       fresh_stays : fresh_of (used.conclusions ++ rest) ≡ fresh_of rest
       fresh_stays = fresh_append used.conclusions rest ∙ ap (λ (xs : List Ground). xs ++ fresh_of rest) (no_fresh used.conclusions apart)
@@ -120,7 +125,7 @@ module _ (theory : Theory) (forms : NormalForms (signature_of theory).equations)
       all_are =
           sym (append_assoc (linear_sources used.conclusions new_origins) (linear_sources rest t.left) (all_sources (entry ∷ log)))
           ∙ ap (λ (xs : List Source). xs ++ all_sources (entry ∷ log))
-          (sym (linear_append forms.norm (entry ∷ log) used.conclusions rest new_origins t.left conclusions_have))
+          (sym (linear_append (signature_of theory).equations (entry ∷ log) used.conclusions rest new_origins t.left conclusions_have))
 
       below_left : (o : Source) → Member o (linear_sources rest t.left ++ all_sources (entry ∷ log)) → IsBelow (length log) o
       below_left o m = old.sources_below o (keeps_sources.members o m)
@@ -137,7 +142,7 @@ module _ (theory : Theory) (forms : NormalForms (signature_of theory).equations)
       new_log : IsLog theory (entry ∷ log)
       new_log = (
         old.erases.is_log,
-        ((r, member, refl, v, valuation, is_normal_form (signature_of theory).equations forms used), step_sources),
+        ((r, member, refl, v, valuation, facts_normal_form (signature_of theory).equations good used), step_sources),
         distinct_right (fresh_of rest) (all_fresh_uses (entry ∷ log)) fresh_left,
         distinct_right (linear_sources rest t.left) (all_sources (entry ∷ log)) once_left,
       )
@@ -146,8 +151,8 @@ module _ (theory : Theory) (forms : NormalForms (signature_of theory).equations)
       rule_step = record {
         origins = new_origins ++ t.left;
         have_origins =
-            have_append forms.norm (entry ∷ log) used.conclusions rest new_origins t.left conclusions_have
-            (origins_later forms.norm log entry rest t.left t.have_left);
+            have_append (signature_of theory).equations (entry ∷ log) used.conclusions rest new_origins t.left conclusions_have
+            (origins_later (signature_of theory).equations log entry rest t.left t.have_left);
         sources_once = subst (λ (xs : List Source). Distinct xs) all_are all_once;
         sources_below = λ o m. all_below o (subst (λ (xs : List Source). Member o xs) (sym all_are) m);
         fresh_once = subst (λ (xs : List Ground). Distinct (xs ++ all_fresh_uses (entry ∷ log))) (sym fresh_stays) fresh_left;
@@ -157,7 +162,7 @@ module _ (theory : Theory) (forms : NormalForms (signature_of theory).equations)
           is_log = new_log;
           steps_alone = (tt, old.erases.steps_alone);
           same_trace =
-              shown_step (signature_of theory).equations forms used.actions earlier (without_empty (log_trace log))
+              shown_step (signature_of theory).equations used.actions earlier (without_empty (log_trace log))
               (own_actions v r.facts.actions (needs.actions r member)) old.erases.same_trace;
         };
       }

@@ -1,20 +1,13 @@
 -- What holds of executions of theories whose rules leave the adversary alone.
-use Rattle.std.specs.Prelude.{◌≡◌, List}
-use Rattle.sp_spec.specs.Term.{Grounds}
-use Rattle.sp_spec.specs.Signature.{Equation}
-use Rattle.sp_spec.specs.Equal.{EqualAll, AreNormal, AreNormalFormsOf}
+use Rattle.std.specs.Prelude.{List}
 use Rattle.sp_spec.specs.Theory.{Theory, signature_of}
 use Rattle.sp_spec.specs.Execution.{Step, Trace, IsExecution}
 use Rattle.sp_spec.specs.Log.{Log, IsLog, log_trace}
-use Rattle.sp_law_erase.specs.Traces.{EqualTraces, without_sends, without_empty}
+use Rattle.sp_law_equal.specs.Convergent.{AreConvergent}
+use Rattle.sp_law_truth.specs.Same.{EqualTraces}
+use Rattle.sp_law_truth.specs.Shown.{without_empty}
+use Rattle.sp_law_erase.specs.Traces.{without_sends}
 use Rattle.sp_law_erase.specs.Adversary.{NeedsNoAdversary, NamesNoAdversary, IsFreshRight, HasStepsAlone}
-
--- each list of terms has a normal form, those of equal ones are the same, and what is normal is its own
-pub record NormalForms (es : List Equation) : Type 0 where
-  pub norm : Grounds → Grounds
-  pub is_form : (ts : Grounds) → AreNormalFormsOf es ts (norm ts)
-  pub decides : (ts us : Grounds) → EqualAll es ts us → norm ts ≡ norm us
-  pub keeps : (ts : Grounds) → AreNormal es ts → norm ts ≡ ts
 
 -- the log has steps alone, and shows the trace but for what the adversary sends and for entries without actions
 pub record ErasesTo (theory : Theory) (trace : Trace) (log : Log) : Type 0 where
@@ -22,9 +15,9 @@ pub record ErasesTo (theory : Theory) (trace : Trace) (log : Log) : Type 0 where
   pub steps_alone : HasStepsAlone log
   pub same_trace : EqualTraces (signature_of theory).equations (without_empty (without_sends trace)) (without_empty (log_trace log))
 
--- Each execution of a theory that needs no adversary has such a log, and each theory whose rules don't deal with the adversary
+-- Over convergent equations each execution of a theory that needs no adversary has such a log, and each theory whose rules don't deal with the adversary
 -- needs none.
 pub record ExecutionsHaveLogs : Type 0 where
-  pub each : (theory : Theory) → NeedsNoAdversary theory → NormalForms (signature_of theory).equations
+  pub each : (theory : Theory) → NeedsNoAdversary theory → AreConvergent (signature_of theory).equations
       → (steps : List Step) (trace : Trace) → IsExecution theory steps trace → (log : Log) × ErasesTo theory trace log
   pub needs_none : (theory : Theory) → NamesNoAdversary theory → IsFreshRight theory → NeedsNoAdversary theory

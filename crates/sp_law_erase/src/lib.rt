@@ -1,5 +1,5 @@
 // Erasing the adversary: an execution of a theory whose rules don't deal with it has a log of rule steps alone.
-// Below stands sp_spec (executions, learning logs). Above, what holds of logs is carried to executions by the laws of truth.
+// Below stand sp_spec (executions, learning logs) and the laws of equality and of truth, which carry what holds of logs to executions.
 // Carried here: the promise that nothing is lost if the adversary is left out where no rule names it.
 // The trace is the execution's modulo the equations, without what is sent and without entries that have no action.
 // The function does nothing when it runs: its one clause is the law.

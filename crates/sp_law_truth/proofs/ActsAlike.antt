@@ -1,5 +1,5 @@
 -- Over traces whose positions have the same actions of the symbols that a formula names, and at equal values, it is as true.
-use Rattle.std.proofs.Common.{◌≡◌, ◌⊎◌, ℕ, zero, suc, ◌<◌, List, [], ◌∷◌, ◌++◌, length, refl, sym, ap, ap₂, ◌∙◌, subst, inl, inr, arith}
+use Rattle.std.proofs.Common.{◌≡◌, ℕ, zero, suc, ◌<◌, List, [], ◌∷◌, ◌++◌, length, refl, sym, ap, ◌∙◌, subst, arith}
 use Rattle.std.specs.Prelude.{◌↔◌}
 use Rattle.sp_spec.specs.Lists.{Every}
 use Rattle.sp_spec.specs.Term.{Ground}
@@ -8,11 +8,11 @@ use Rattle.sp_spec.specs.Equal.{Equal, end}
 use Rattle.sp_spec.specs.Rule.{Action, SameAction}
 use Rattle.sp_spec.specs.Execution.{Trace}
 use Rattle.sp_spec.specs.Truth.{Acts}
-use Rattle.sp_spec.specs.Guarded.{Place, free, bound, Time, free_time, bound_time, Binder, message, time, Atom, acts, same, same_time, before, last, Guarded, Guardeds, truth, falsity, holds, fails, all_of, one_of, some, every, no_more, and_then, Assignment, with_term, with_time, pushed, place_in, term_in, action_in, time_in, AtomHolds, AtomsHold, SomeValues, EachValues, GuardedHolds, EachHolds, SomeHolds}
+use Rattle.sp_spec.specs.Guarded.{Place, free, bound, Time, free_time, bound_time, Binder, message, time, Atom, acts, same, same_time, before, last, Guarded, Guardeds, truth, falsity, holds, fails, all_of, one_of, some, every, no_more, and_then, Assignment, with_term, with_time, pushed, place_in, action_in, time_in, AtomHolds, AtomsHold, SomeValues, EachValues, GuardedHolds, EachHolds, SomeHolds}
 use Rattle.sp_law_truth.specs.Shown.{atom_names, guard_names, action_names, all_action_names}
 use Rattle.sp_law_truth.specs.Same.{EqualAssignments}
 use Rattle.sp_law_truth.proofs.AsTrue.{as_itself, as_both, as_either, as_implies, as_not, as_classically}
-use Rattle.sp_law_truth.proofs.Equals.{equal_trans, equal_sym, equal_valued, same_action_valued}
+use Rattle.sp_law_equal.proofs.Chains.{equal_trans, equal_sym, equal_valued, same_action_valued}
 
 -- as long, and with the same actions at each position, as far as their symbols are of this kind
 pub record ActsAlike (es : List Equation) (IsNamed : List ℕ → Type 0) (trace other : Trace) : Type 0 where
@@ -85,8 +85,10 @@ module _ (signature : Signature) (IsNamed : List ℕ → Type 0) (trace other : 
       let e = same_times signature.equations m w h i in
       as_classically ((λ x. there.0 (subst P e x)), (λ x. subst P (sym e) (there.1 x)))
   atom_alike (same t u) named m w h =
+      let trans = equal_trans signature.equations in
+      let turned = equal_sym signature.equations in
       let e = equal_valued signature.equations (place_in m) (place_in w) (equal_places signature.equations m w h) in
-      as_classically ((λ x. equal_trans (equal_sym (e t)) (equal_trans x (e u))), (λ x. equal_trans (e t) (equal_trans x (equal_sym (e u)))))
+      as_classically ((λ x. trans _ _ _ (turned _ _ (e t)) (trans _ _ _ x (e u))), (λ x. trans _ _ _ (e t) (trans _ _ _ x (turned _ _ (e u)))))
   atom_alike (same_time i j) named m w h =
       let e = same_times signature.equations m w h i in
       let d = same_times signature.equations m w h j in

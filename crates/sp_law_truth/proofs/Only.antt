@@ -1,5 +1,5 @@
 -- Leaving out actions that a formula doesn't name keeps its truth.
-use Rattle.std.proofs.Common.{◌≡◌, ◌⊎◌, ℕ, ◌<◌, Bool, true, false, cond, ◌||◌, List, [], ◌∷◌, length, refl, sym, ap, ◌∙◌, subst, inl, inr, arith}
+use Rattle.std.proofs.Common.{◌≡◌, ℕ, Bool, true, false, cond, ◌||◌, List, [], ◌∷◌, length, refl, sym, ap, ◌∙◌, subst, inl, inr, arith}
 use Rattle.std.specs.Prelude.{◌↔◌}
 use Rattle.std.specs.Str.{bytes_eq}
 use Rattle.std.proofs.lemmas.Slice.Eq.{bytes_eq-Decides}
@@ -10,7 +10,7 @@ use Rattle.sp_spec.specs.Execution.{Trace}
 use Rattle.sp_spec.specs.Truth.{Acts}
 use Rattle.sp_spec.specs.Guarded.{Guarded, Assignment, GuardedHolds}
 use Rattle.sp_law_truth.specs.Shown.{is_among, only_actions, only, action_names}
-use Rattle.sp_law_truth.proofs.Equals.{same_action_sym, same_action_trans}
+use Rattle.sp_law_equal.proofs.Chains.{same_action_sym, same_action_trans}
 use Rattle.sp_law_truth.proofs.ActsAlike.{ActsAlike, equal_assignment, formula_alike}
 
 pub member_is_among : (s : List ℕ) (names : List (List ℕ)) → Member s names → is_among s names ≡ true
@@ -69,7 +69,9 @@ only_acts_alike es names trace = record { lengths = sym (only_length names trace
   where
     forth : (p : ℕ) (a b : Action ⊥) → Member a.symbol names → SameAction es a b → Acts es trace p a → Acts es (only names trace) p b
     forth p a b named e h = (
-      only_actions names h.0, only_position names trace p h.0 h.1, h.2,
+      only_actions names h.0,
+      only_position names trace p h.0 h.1,
+      h.2,
       only_member names h.0 h.2 (subst (λ (s : List ℕ). Member s names) h.4.0 named) h.3,
       same_action_trans es b a h.2 (same_action_sym es a b e) h.4,
     )

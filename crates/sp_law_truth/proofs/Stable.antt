@@ -1,5 +1,5 @@
 -- Truth is that of classical logic: what isn't false is true.
-use Rattle.std.proofs.Common.{◌≡◌, ◌⊎◌, ℕ, ◌<◌, ◌≤◌, List, [], ◌∷◌, length, inl, inr, arith}
+use Rattle.std.proofs.Common.{◌⊎◌, ℕ, ◌<◌, ◌≤◌, ◌∷◌, inl, inr, arith}
 use Rattle.std.proofs.lemmas.Bool.{cases_lt}
 use Rattle.sp_spec.specs.Lists.{Classically}
 use Rattle.sp_spec.specs.Signature.{Signature}

@@ -1,15 +1,14 @@
 -- Leaving out entries without actions keeps the truth of formulas whose times have actions.
-use Rattle.std.proofs.Common.{◌≡◌, ◌⊎◌, ℕ, zero, suc, ◌<◌, List, [], ◌∷◌, length, refl, sym, ap, ap₂, ◌∙◌, subst, inl, inr, arith}
+use Rattle.std.proofs.Common.{◌≡◌, ◌⊎◌, ℕ, zero, suc, ◌<◌, List, [], ◌∷◌, length, refl, sym, ap, ap₂, subst, inl, inr, arith}
 use Rattle.std.specs.Prelude.{◌↔◌}
-use Rattle.sp_spec.specs.Lists.{Classically}
-use Rattle.sp_spec.specs.Term.{Values, Term, Ground, valued}
+use Rattle.sp_spec.specs.Term.{Values, Ground, valued}
 use Rattle.sp_spec.specs.Signature.{Signature}
 use Rattle.sp_spec.specs.Equal.{Equal}
 use Rattle.sp_spec.specs.Rule.{Action, action_at}
 use Rattle.sp_spec.specs.Execution.{Trace}
 use Rattle.sp_spec.specs.Truth.{Acts}
-use Rattle.sp_spec.specs.Guarded.{Place, free, bound, Time, free_time, bound_time, Binder, message, time, Atom, acts, same, same_time, before, last, Guarded, Guardeds, truth, falsity, holds, fails, all_of, one_of, some, every, no_more, and_then, Assignment, with_term, with_time, pushed, place_in, term_in, action_in, time_in, AtomHolds, AtomsHold, SomeValues, EachValues, GuardedHolds, EachHolds, SomeHolds}
-use Rattle.sp_law_truth.specs.Shown.{without_empty, times_within, IsBound, IsTimedAtom, AreTimedAtoms, IsActionAt, HasActionAt, GuardsTimes, IsTimed, AreTimed}
+use Rattle.sp_spec.specs.Guarded.{Place, Time, free_time, bound_time, Binder, message, time, Atom, acts, same, same_time, before, last, Guarded, Guardeds, truth, falsity, holds, fails, all_of, one_of, some, every, no_more, and_then, Assignment, with_term, with_time, pushed, place_in, action_in, time_in, AtomHolds, AtomsHold, SomeValues, EachValues, GuardedHolds, EachHolds, SomeHolds}
+use Rattle.sp_law_truth.specs.Shown.{without_empty, times_within, IsBound, IsTimedAtom, AreTimedAtoms, HasActionAt, GuardsTimes, IsTimed, AreTimed}
 use Rattle.sp_law_truth.proofs.Stable.{classically}
 use Rattle.sp_law_truth.proofs.AsTrue.{as_itself, as_both, as_either, as_implies, as_not, as_classically}
 use Rattle.sp_law_truth.proofs.Shifts.{Shifts, IsIdle, shifts_within, shifts_or_idle, shifts_from, shifts_rises, shifts_same, shifts_reflects_less, shifts_reflects_same, idle_acts, shifts_acts}

@@ -1,24 +1,20 @@
 -- Traces and assignments that are the same modulo the equations.
-use Rattle.std.specs.Prelude.{◌≡◌, ℕ, List, [], ◌∷◌}
+use Rattle.std.specs.Prelude.{◌≡◌, ℕ, List}
 use Rattle.sp_spec.specs.Term.{Variable}
 use Rattle.sp_spec.specs.Signature.{Equation}
 use Rattle.sp_spec.specs.Equal.{Equal}
 use Rattle.sp_spec.specs.Rule.{Action, SameAction}
 use Rattle.sp_spec.specs.Execution.{Trace}
 use Rattle.sp_spec.specs.Guarded.{Assignment}
+use Rattle.sp_law_equal.specs.Pointwise.{EachWith}
 
+-- action by action
 abbrev pub SameActions : List Equation → List (Action ⊥) → List (Action ⊥) → Type 0
-SameActions es [] [] = Unit {0}
-SameActions es [] (b ∷ bs) = ⊥
-SameActions es (a ∷ rest) [] = ⊥
-SameActions es (a ∷ rest) (b ∷ bs) = SameAction es a b × SameActions es rest bs
+SameActions es = EachWith (SameAction es)
 
--- entry by entry, and action by action
+-- entry by entry
 abbrev pub EqualTraces : List Equation → Trace → Trace → Type 0
-EqualTraces es [] [] = Unit {0}
-EqualTraces es [] (entry ∷ trace) = ⊥
-EqualTraces es (entry ∷ trace) [] = ⊥
-EqualTraces es (entry ∷ trace) (shown ∷ other) = SameActions es entry shown × EqualTraces es trace other
+EqualTraces es = EachWith (SameActions es)
 
 -- the same times, and equal messages
 pub record EqualAssignments (es : List Equation) (m w : Assignment) : Type 0 where

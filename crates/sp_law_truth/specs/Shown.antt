@@ -1,9 +1,9 @@
 -- What a formula doesn't see of a trace: actions that it doesn't name, and entries without actions.
-use Rattle.std.specs.Prelude.{◌≡◌, ◌⊎◌, ◌<◌, ℕ, zero, suc, Bool, true, false, ◌||◌, if◌then◌else◌, List, [], ◌∷◌, ◌++◌}
+use Rattle.std.specs.Prelude.{◌≡◌, ◌⊎◌, ◌<◌, ℕ, zero, suc, Bool, false, ◌||◌, if◌then◌else◌, List, [], ◌∷◌, ◌++◌}
 use Rattle.std.specs.Str.{bytes_eq}
 use Rattle.sp_spec.specs.Rule.{Action}
 use Rattle.sp_spec.specs.Execution.{Trace, with_entry}
-use Rattle.sp_spec.specs.Guarded.{Place, Time, free_time, bound_time, Binder, message, time, Atom, acts, same, same_time, before, last, Guarded, Guardeds, truth, falsity, holds, fails, all_of, one_of, some, every, no_more, and_then}
+use Rattle.sp_spec.specs.Guarded.{Time, free_time, bound_time, Binder, message, time, Atom, acts, same, same_time, before, last, Guarded, Guardeds, truth, falsity, holds, fails, all_of, one_of, some, every, no_more, and_then}
 
 abbrev pub is_among : List ℕ → List (List ℕ) → Bool
 is_among s [] = false

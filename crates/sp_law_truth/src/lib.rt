@@ -1,6 +1,6 @@
 // The laws of truth: what may change in a trace or in values while formulas keep their truth.
 // It is for all that compares traces: executions with logs, found executions with normal ones, a theory with a changed one.
-// Below it stands sp_spec with the definitions; above it stand the crates that replay, erase the adversary, and cover.
+// Below it stand sp_spec with the definitions and sp_law_equal; above it stand the crates that replay, erase the adversary, and cover.
 // Of the promise on meaning it carries the truth of formulas: equal values and traces, and what may be left out.
 // Nothing here runs: each public function is a law, and its one clause says it.
 #![tactic(auto)]
@@ -9,15 +9,12 @@ ghost use Rattle.sp_law_truth.specs.Laws.{TruthIsClassical, EqualValuesKeepTruth
 
 pub fn truth_is_classical()
     ensures { TruthIsClassical }
-{
-}
+{}
 
 pub fn equal_values_keep_truth()
     ensures { EqualValuesKeepTruth }
-{
-}
+{}
 
 pub fn leaving_out_keeps_truth()
     ensures { LeavingOutKeepsTruth }
-{
-}
+{}

@@ -4,6 +4,6 @@ use Rattle.sp_law_erase.proofs.executions_have_logs.Goals as goal
 
 pub returns : goal.returns
 returns c = record {
-  each = λ theory needs forms steps trace e. executions_erase theory forms needs steps trace e;
+  each = λ theory needs good steps trace e. executions_erase theory good needs steps trace e;
   needs_none = λ theory names fresh. needs_none theory names fresh;
 }
