@@ -7,3 +7,4 @@ pub mod Shown
 pub mod Roots
 pub mod Verified
 pub mod WrittenRules
+pub mod Showing
