@@ -1,5 +1,5 @@
 -- Lists of terms and what they stand for.
-use Rattle.std.proofs.Common.{◌≡◌, ℕ, suc, List, [], ◌∷◌, length, refl, ap}
+use Rattle.std.proofs.Common.{◌≡◌, suc, List, [], ◌∷◌, length, refl, ap}
 use Rattle.sp_spec.specs.Term.{count}
 use Rattle.sp_term.specs.declared.term.Term.{Term}
 use Rattle.sp_term.specs.View.{view_all}

@@ -6,3 +6,5 @@
 
 pub mod subst;
 pub mod term;
+#[cfg(test)]
+mod tests;

@@ -3,9 +3,8 @@
 ghost use Rattle.std.specs.Prelude.{◌≡◌, ◌↔◌, IfOk, IsTrue};
 ghost use Rattle.sp_term.specs.View.{name_of, variable_of, view, view_all};
 
-use std::alloc::AllocError;
-use std::rc::Rc;
-use std::rc::RcStr;
+use std::alloc::{AllocError, Global};
+use std::rc::{Rc, RcStr};
 
 /// The sort of a variable; fresh and pub are subsorts of msg.
 #[derive(Clone, Copy, Debug, PartialEq, Eq, PartialOrd, Ord)]
@@ -35,6 +34,14 @@ pub struct Name {
 }
 
 impl Name {
+    /// The name with this text.
+    pub fn new(alloc: Global, text: &str) -> Result<Name, AllocError>
+        ensures { IfOk result (λ n. name_of n ≡ text.now) }
+    {
+        let text = RcStr::from_str(alloc, text)?;
+        Ok(Name { text })
+    }
+
     /// The same name.
     pub fn copy(&self) -> Result<Name, AllocError>
         ensures { IfOk result (λ n. name_of n ≡ name_of self.now) }
