@@ -3,6 +3,7 @@ use Rattle.std.proofs.Common.{◌≡◌, ◌≤◌, ℕ, List, [], ◌∷◌, Op
 use Rattle.sp_spec.specs.Lists.{Every}
 use Rattle.sp_spec.specs.Theory.{Theory}
 use Rattle.sp_spec.specs.Log.{Log, IsLog}
+use Rattle.sp_spec.proofs.Lists.{every_weaken}
 use Rattle.sp_system.specs.System.{System, Valuation, IsNumbered, NoneSolved}
 use Rattle.sp_step.specs.Moves.{Case, cases}
 use Rattle.sp_step.specs.Laws.{HasNoSolution, MovesCover, systems_of}
@@ -16,10 +17,6 @@ module _ (theory : Theory) (covering : MovesCover theory) where
   none_solved log is_log v limit [] none = tt
   none_solved log is_log v limit (c ∷ cs) none = (λ w agrees solves. none.0 log is_log w solves, none_solved log is_log v limit cs none.1)
 
-  each_numbered : (next : ℕ) (cs : List Case) → Every (λ (c : Case). IsNumbered c.system × (next ≤ c.system.next)) cs → Every (λ (c : Case). IsNumbered c.system) cs
-  each_numbered next [] h = tt
-  each_numbered next (c ∷ cs) h = (h.0.0, each_numbered next cs h.1)
-
   mutual
     pub finished_tree : (tree : Tree) (s : System) → IsNumbered s → IsAccepted theory.rules s tree → IsFinished tree → HasNoSolution theory s
     finished_tree (node move branches) s numbered accepted finished log is_log v solves =
@@ -31,7 +28,7 @@ module _ (theory : Theory) (covering : MovesCover theory) where
         at_node None e a below = a
         at_node (Some cs) e a below =
             (covering.covers s move cs e (λ q. finished.0 (subst IsOpen (sym q) tt)) numbered).covers log is_log v solves
-            (none_solved log is_log v s.next cs (below cs (each_numbered s.next cs (covering.numbered s move cs e numbered)) a finished.1))
+            (none_solved log is_log v s.next cs (below cs (every_weaken _ _ (λ c h. h.0) cs (covering.numbered s move cs e numbered)) a finished.1))
 
     finished_branches : (branches : Branches) (cs : List Case) → Every (λ (c : Case). IsNumbered c.system) cs → AreAccepted theory.rules (Some cs) branches → AreFinished branches
         → Every (λ (c : Case). HasNoSolution theory c.system) cs

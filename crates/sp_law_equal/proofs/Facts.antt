@@ -4,6 +4,7 @@ use Rattle.sp_spec.specs.Term.{Grounds, Ground}
 use Rattle.sp_spec.specs.Signature.{Equation}
 use Rattle.sp_spec.specs.Equal.{AreNormalFormsOf}
 use Rattle.sp_spec.specs.Rule.{Fact, Action, Facts, fact_at, action_at, facts_at, SameFact, SameAction, AreNormalFacts, AreNormalActions, IsNormalFormOf}
+use Rattle.sp_spec.proofs.Lists.{every_all, map_each, map-map}
 use Rattle.sp_law_equal.specs.Convergent.{AreConvergent}
 use Rattle.sp_law_equal.specs.Normal.{normal, normal_fact, normal_action, normal_facts}
 use Rattle.sp_law_equal.specs.Pointwise.{EachWith, AreSameFacts}
@@ -32,8 +33,7 @@ same_facts_parts f g p a c =
     ap (λ x. made_facts x f.actions f.conclusions) p ∙ ap (λ x. made_facts g.premises x f.conclusions) a ∙ ap (made_facts g.premises g.actions) c
 
 map_map_same : {A B C : Type 0} (a b : A → B) (n : B → C) → ((x : A) → n (a x) ≡ n (b x)) → (xs : List A) → map n (map a xs) ≡ map n (map b xs)
-map_map_same a b n e [] = refl
-map_map_same a b n e (x ∷ xs) = ap₂ (λ z zs. z ∷ zs) (e x) (map_map_same a b n e xs)
+map_map_same a b n e xs = map-map a n xs ∙ map_each _ _ xs (every_all _ e xs) ∙ sym (map-map b n xs)
 
 module _ (es : List Equation) (good : AreConvergent es) where
   -- the normal form of facts is one of them

@@ -19,7 +19,7 @@ pub each_of_pairs : (P : Equation → Type 0) → P first_of_pair → P second_o
 each_of_pairs P p q e m = ⊎_elim (λ is. subst P is p) (λ m'. ⊎_elim (λ is. subst P is q) (λ h. absurd h) m') m
 
 -- different names of symbols
-names_apart : (f g : List ℕ) → bytes_eq f g ≡ false → f ≡ g → ⊥
+pub names_apart : (f g : List ℕ) → bytes_eq f g ≡ false → f ≡ g → ⊥
 names_apart f g h e = true≢false (sym ((bytes_eq-Decides f g).1 e) ∙ h)
 
 -- fst and snd are the destructors

@@ -5,24 +5,14 @@ use Rattle.sp_spec.specs.Lists.{Member, Every, Distinct, AtPlace, AtPosition}
 use Rattle.sp_spec.specs.Signature.{Equation}
 use Rattle.sp_spec.specs.Rule.{Fact, Facts}
 use Rattle.sp_spec.specs.Log.{Source, fresh_rule, conclusion, Entry, step, Log, linear_sources}
+use Rattle.sp_spec.proofs.Lists.{member_either}
 use Rattle.sp_law_equal.specs.Normal.{normal_fact}
-use Rattle.sp_law_erase.proofs.Rearranged.{member_either}
 use Rattle.sp_law_erase.proofs.Origins.{source_share, HasOrigin, HaveOrigins}
 
 -- the source is in an entry before that position
 abbrev pub IsBelow : ℕ → Source → Type 0
 IsBelow n fresh_rule = Unit {0}
 IsBelow n (conclusion p k) = p < n
-
-pub position_below : {A : Type 0} → (xs : List A) (p : ℕ) (x : A) → AtPosition xs p x → p < length xs
-position_below [] p x a = absurd a
-position_below (y ∷ xs) p x a = ⊎_elim (λ (w : (p ≡ length xs) × (y ≡ x)). at w.0) (λ h. later (position_below xs p x h)) a
-  where
-    at : p ≡ length xs → p < suc (length xs)
-    at e = omega arith
-
-    later : p < length xs → p < suc (length xs)
-    later h = omega arith
 
 pub below_later : (n : ℕ) (o : Source) → IsBelow n o → IsBelow (suc n) o
 below_later n fresh_rule h = tt
@@ -82,11 +72,6 @@ numbered_distinct p (f ∷ fs) k old below d = at f.persistent (numbered_distinc
           (member_either (conclusion p k) (linear_sources fs (numbered p (suc k) fs)) old m),
       h,
     )
-
-pub place_map : {A B : Type 0} → (n : A → B) (xs : List A) (k : ℕ) (x : A) → AtPlace xs k x → AtPlace (map n xs) k (n x)
-place_map n [] k x a = absurd a
-place_map n (y ∷ xs) zero x a = ap n a
-place_map n (y ∷ xs) (suc k) x a = place_map n xs k x a
 
 module _ (es : List Equation) where
   pub origin_later : (log : Log) (entry : Entry) (f : Fact ⊥) (o : Source) → HasOrigin es log f o → HasOrigin es (entry ∷ log) f o

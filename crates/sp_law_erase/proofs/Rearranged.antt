@@ -2,26 +2,7 @@
 use Rattle.std.proofs.Common.{◌≡◌, ◌⊎◌, ⊎_elim, inl, inr, List, [], ◌∷◌, ◌++◌, refl, sym, subst, append_assoc}
 use Rattle.std.proofs.lemmas.List.{append-nil}
 use Rattle.sp_spec.specs.Lists.{Member, Every, Distinct}
-
-pub member_left : {A : Type 0} → (x : A) (xs ys : List A) → Member x xs → Member x (xs ++ ys)
-member_left x [] ys m = absurd m
-member_left x (y ∷ xs) ys m = ⊎_elim (λ e. inl e) (λ n. inr (member_left x xs ys n)) m
-
-pub member_right : {A : Type 0} → (x : A) (xs ys : List A) → Member x ys → Member x (xs ++ ys)
-member_right x [] ys m = m
-member_right x (y ∷ xs) ys m = inr (member_right x xs ys m)
-
-pub member_either : {A : Type 0} → (x : A) (xs ys : List A) → Member x (xs ++ ys) → Member x xs ⊎ Member x ys
-member_either x [] ys m = inr m
-member_either x (y ∷ xs) ys m = ⊎_elim (λ e. inl (inl e)) (λ n. ⊎_elim (λ a. inl (inr a)) (λ b. inr b) (member_either x xs ys n)) m
-
-pub every_then : {A : Type 0} {P Q : A → Type 0} → (xs : List A) → ((x : A) → P x → Q x) → Every P xs → Every Q xs
-every_then [] h all = tt
-every_then (x ∷ xs) h all = (h x all.0, every_then xs h all.1)
-
-pub distinct_right : {A : Type 0} → (xs ys : List A) → Distinct (xs ++ ys) → Distinct ys
-distinct_right [] ys d = d
-distinct_right (x ∷ xs) ys d = distinct_right xs ys d.1
+use Rattle.sp_spec.proofs.Lists.{member_left, member_right, member_either, distinct_right}
 
 -- each element of the second stands in the first, and each at a place of its own
 pub record Keeps {A : Type 0} (xs ys : List A) : Type 0 where

@@ -6,6 +6,7 @@ use Rattle.sp_spec.specs.Term.{Variable, Values}
 use Rattle.sp_spec.specs.Signature.{Equation}
 use Rattle.sp_spec.specs.Rule.{Action, action_at}
 use Rattle.sp_spec.specs.Execution.{Trace, with_entry}
+use Rattle.sp_spec.proofs.Lists.{every_map}
 use Rattle.sp_law_truth.specs.Same.{EqualTraces}
 use Rattle.sp_law_truth.specs.Shown.{without_empty}
 use Rattle.sp_law_erase.specs.Traces.{is_send, without_send, without_sends}
@@ -20,8 +21,7 @@ not_sent (a ∷ actions) h =
 
 pub own_actions : (v : Values) (actions : List (Action Variable)) → Every (λ (a : Action Variable). a.symbol ≡ codes "K" → ⊥) actions
     → Every (λ (a : Action ⊥). a.symbol ≡ codes "K" → ⊥) (map (action_at v) actions)
-own_actions v [] h = tt
-own_actions v (a ∷ actions) h = (h.0, own_actions v actions h.1)
+own_actions v = every_map _ _ (action_at v) (λ a h. h)
 
 module _ (es : List Equation) where
   -- a step without actions shows nothing in either, and one with actions shows them in both

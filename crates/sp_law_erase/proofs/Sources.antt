@@ -8,14 +8,12 @@ use Rattle.sp_spec.specs.Term.{name, Ground}
 use Rattle.sp_spec.specs.Signature.{Equation}
 use Rattle.sp_spec.specs.Rule.{Fact, Action, SameAction, fr}
 use Rattle.sp_spec.specs.Log.{Source, fresh_rule, conclusion, Log, is_fr, fresh_of, linear_sources, HasSources}
+use Rattle.sp_law_equal.proofs.Pairs.{names_apart}
 use Rattle.sp_law_equal.specs.Normal.{normal_fact, normal_action}
 use Rattle.sp_law_equal.proofs.Forms.{to_normal_all}
 use Rattle.sp_law_equal.specs.Pointwise.{EachWith}
 use Rattle.sp_law_erase.specs.Adversary.{adversary_facts}
 use Rattle.sp_law_erase.proofs.Origins.{source_share, fresh_share, linear_cons, HasOrigin, HaveOrigins}
-
-pub names_apart : (f g : List ℕ) → bytes_eq f g ≡ false → f ≡ g → ⊥
-names_apart f g h e = true≢false (sym ((bytes_eq-Decides f g).1 e) ∙ h)
 
 -- none of the adversary's facts is named Fr
 pub adversary_is_not_fr : (symbol : List ℕ) → Member symbol adversary_facts → symbol ≡ codes "Fr" → ⊥

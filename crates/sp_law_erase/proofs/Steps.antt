@@ -8,6 +8,7 @@ use Rattle.sp_spec.specs.Rule.{Fact, Facts, Rule, fact_at, facts_at, SameFact}
 use Rattle.sp_spec.specs.Theory.{Theory, signature_of}
 use Rattle.sp_spec.specs.Execution.{Trace, with_entry}
 use Rattle.sp_spec.specs.Log.{Source, Entry, step, Log, fresh_of, all_fresh_uses, linear_sources, all_sources, HasSources, IsLog, log_trace}
+use Rattle.sp_spec.proofs.Lists.{member_either, distinct_right, place_map, every_map}
 use Rattle.sp_law_equal.specs.Convergent.{AreConvergent}
 use Rattle.sp_law_equal.specs.Normal.{normal_fact, normal_facts}
 use Rattle.sp_law_equal.proofs.Facts.{facts_normal_form, normal_facts_same}
@@ -15,10 +16,10 @@ use Rattle.sp_law_equal.specs.Pointwise.{EachWith}
 use Rattle.sp_law_truth.specs.Shown.{without_empty}
 use Rattle.sp_law_erase.specs.Adversary.{adversary_facts, NeedsNoAdversary}
 use Rattle.sp_law_erase.specs.Laws.{ErasesTo}
-use Rattle.sp_law_erase.proofs.Rearranged.{member_either, distinct_right, Keeps, keeps_distinct, keeps_used}
+use Rattle.sp_law_erase.proofs.Rearranged.{Keeps, keeps_distinct, keeps_used}
 use Rattle.sp_law_erase.proofs.Origins.{fresh_append, HaveOrigins, Taken, have_append, linear_append}
 use Rattle.sp_law_erase.proofs.Sources.{no_fresh_share, linear_normal, fresh_normal, has_sources}
-use Rattle.sp_law_erase.proofs.Places.{IsBelow, below_later, numbered, numbered_below, numbered_distinct, numbered_origins, origins_later, place_map}
+use Rattle.sp_law_erase.proofs.Places.{IsBelow, below_later, numbered, numbered_below, numbered_distinct, numbered_origins, origins_later}
 use Rattle.sp_law_erase.proofs.Shown.{own_actions, shown_step}
 
 -- what isn't the adversary's in a rule isn't in what is found for it
@@ -31,11 +32,6 @@ own_founds es v (p ∷ ps) [] own same = absurd same
 own_founds es v (p ∷ ps) (g ∷ founds) own same =
     let e : g.symbol ≡ p.symbol = sym same.0.0 in
     ((λ m. own.0 (subst (λ (s : List ℕ). Member s adversary_facts) e m)), own_founds es v ps founds own.1 same.1)
-
-apart_at : (v : Values) (cs : List (Fact Variable))
-    → Every (λ (f : Fact Variable). f.symbol ≡ codes "Fr" → ⊥) cs → Every (λ (f : Fact ⊥). f.symbol ≡ codes "Fr" → ⊥) (map (fact_at v) cs)
-apart_at v [] h = tt
-apart_at v (c ∷ cs) h = (h.0, apart_at v cs h.1)
 
 no_fresh : (fs : List (Fact ⊥)) → Every (λ (f : Fact ⊥). f.symbol ≡ codes "Fr" → ⊥) fs → fresh_of fs ≡ []
 no_fresh [] h = refl
@@ -73,7 +69,7 @@ module _ (theory : Theory) where
       own = own_founds (signature_of theory).equations v r.facts.premises t.founds (needs.premises r member) t.same
 
       apart : Every (λ (f : Fact ⊥). f.symbol ≡ codes "Fr" → ⊥) used.conclusions
-      apart = apart_at v r.facts.conclusions (needs.conclusions r member)
+      apart = every_map _ _ (fact_at v) (λ f h. h) r.facts.conclusions (needs.conclusions r member)
 
       premises_are : map (normal_fact (signature_of theory).equations) t.founds ≡ shown.premises
       premises_are = sym (normal_facts_same (signature_of theory).equations good used.premises t.founds t.same)

@@ -9,6 +9,7 @@ use Rattle.sp_spec.specs.Rule.{Action, SameAction}
 use Rattle.sp_spec.specs.Execution.{Trace}
 use Rattle.sp_spec.specs.Truth.{Acts}
 use Rattle.sp_spec.specs.Guarded.{Place, free, bound, Time, free_time, bound_time, Binder, message, time, Atom, acts, same, same_time, before, last, Guarded, Guardeds, truth, falsity, holds, fails, all_of, one_of, some, every, no_more, and_then, Assignment, with_term, with_time, pushed, place_in, action_in, time_in, AtomHolds, AtomsHold, SomeValues, EachValues, GuardedHolds, EachHolds, SomeHolds}
+use Rattle.sp_spec.proofs.Lists.{every_parts}
 use Rattle.sp_law_truth.specs.Shown.{atom_names, guard_names, action_names, all_action_names}
 use Rattle.sp_law_truth.specs.Same.{EqualAssignments}
 use Rattle.sp_law_truth.proofs.AsTrue.{as_itself, as_both, as_either, as_implies, as_not, as_classically}
@@ -18,14 +19,6 @@ use Rattle.sp_law_equal.proofs.Chains.{equal_trans, equal_sym, equal_valued, sam
 pub record ActsAlike (es : List Equation) (IsNamed : List ℕ → Type 0) (trace other : Trace) : Type 0 where
   pub lengths : length trace ≡ length other
   pub acts : (p : ℕ) (a b : Action ⊥) → IsNamed a.symbol → SameAction es a b → Acts es trace p a ↔ Acts es other p b
-
-pub every_front : {A : Type 0} (P : A → Type 0) (xs ys : List A) → Every P (xs ++ ys) → Every P xs
-every_front P [] ys h = tt
-every_front P (x ∷ xs) ys h = (h.0, every_front P xs ys h.1)
-
-pub every_back : {A : Type 0} (P : A → Type 0) (xs ys : List A) → Every P (xs ++ ys) → Every P ys
-every_back P [] ys h = h
-every_back P (x ∷ xs) ys h = every_back P xs ys h.1
 
 pub equal_assignment : (es : List Equation) (m : Assignment) → EqualAssignments es m m
 equal_assignment es m = record { terms = λ x. end; times = λ i. refl; bound_terms = λ k. end; bound_times = λ k. refl }
@@ -105,7 +98,7 @@ module _ (signature : Signature) (IsNamed : List ℕ → Type 0) (trace other : 
   atoms_alike : (guard : List Atom) → Every IsNamed (guard_names guard) → IsAlike signature.equations (λ m. AtomsHold signature trace m guard) (λ m. AtomsHold signature other m guard)
   atoms_alike [] named m w h = as_itself
   atoms_alike (a ∷ guard) named m w h =
-      as_both (atom_alike a (every_front IsNamed (atom_names a) (guard_names guard) named) m w h) (atoms_alike guard (every_back IsNamed (atom_names a) (guard_names guard) named) m w h)
+      as_both (atom_alike a (every_parts IsNamed (atom_names a) (guard_names guard) named).0 m w h) (atoms_alike guard (every_parts IsNamed (atom_names a) (guard_names guard) named).1 m w h)
 
   mutual
     pub formula_alike : (f : Guarded) → Every IsNamed (action_names f) → IsAlike signature.equations (λ m. GuardedHolds signature trace m f) (λ m. GuardedHolds signature other m f)
@@ -118,22 +111,22 @@ module _ (signature : Signature) (IsNamed : List ℕ → Type 0) (trace other : 
     formula_alike (some bs guard f) named m w h =
         some_alike signature (length trace) (length other) alike.lengths (λ u. AtomsHold signature trace u guard × GuardedHolds signature trace u f) (λ u. AtomsHold signature other u guard × GuardedHolds signature other u f)
         (λ u r k.
-        as_both (atoms_alike guard (every_front IsNamed (guard_names guard) (action_names f) named) u r k)
-        (formula_alike f (every_back IsNamed (guard_names guard) (action_names f) named) u r k)) bs m w h
+        as_both (atoms_alike guard (every_parts IsNamed (guard_names guard) (action_names f) named).0 u r k)
+        (formula_alike f (every_parts IsNamed (guard_names guard) (action_names f) named).1 u r k)) bs m w h
     formula_alike (every bs guard f) named m w h =
         each_alike signature (length trace) (length other) alike.lengths (λ u. AtomsHold signature trace u guard → GuardedHolds signature trace u f) (λ u. AtomsHold signature other u guard → GuardedHolds signature other u f)
         (λ u r k.
-        as_implies (atoms_alike guard (every_front IsNamed (guard_names guard) (action_names f) named) u r k)
-        (formula_alike f (every_back IsNamed (guard_names guard) (action_names f) named) u r k)) bs m w h
+        as_implies (atoms_alike guard (every_parts IsNamed (guard_names guard) (action_names f) named).0 u r k)
+        (formula_alike f (every_parts IsNamed (guard_names guard) (action_names f) named).1 u r k)) bs m w h
 
     each_formula_alike : (fs : Guardeds) → Every IsNamed (all_action_names fs) → IsAlike signature.equations (λ m. EachHolds signature trace m fs) (λ m. EachHolds signature other m fs)
     each_formula_alike no_more named m w h = as_itself
     each_formula_alike (and_then f fs) named m w h =
-        as_both (formula_alike f (every_front IsNamed (action_names f) (all_action_names fs) named) m w h)
-        (each_formula_alike fs (every_back IsNamed (action_names f) (all_action_names fs) named) m w h)
+        as_both (formula_alike f (every_parts IsNamed (action_names f) (all_action_names fs) named).0 m w h)
+        (each_formula_alike fs (every_parts IsNamed (action_names f) (all_action_names fs) named).1 m w h)
 
     some_formula_alike : (fs : Guardeds) → Every IsNamed (all_action_names fs) → IsAlike signature.equations (λ m. SomeHolds signature trace m fs) (λ m. SomeHolds signature other m fs)
     some_formula_alike no_more named m w h = as_itself
     some_formula_alike (and_then f fs) named m w h =
-        as_either (formula_alike f (every_front IsNamed (action_names f) (all_action_names fs) named) m w h)
-        (some_formula_alike fs (every_back IsNamed (action_names f) (all_action_names fs) named) m w h)
+        as_either (formula_alike f (every_parts IsNamed (action_names f) (all_action_names fs) named).0 m w h)
+        (some_formula_alike fs (every_parts IsNamed (action_names f) (all_action_names fs) named).1 m w h)

@@ -7,6 +7,7 @@ use Rattle.sp_spec.specs.Rule.{Action, SameAction}
 use Rattle.sp_spec.specs.Execution.{Trace}
 use Rattle.sp_spec.specs.Truth.{Acts}
 use Rattle.sp_spec.specs.Guarded.{Guarded, Assignment, GuardedHolds}
+use Rattle.sp_spec.proofs.Lists.{every_all}
 use Rattle.sp_law_truth.specs.Shown.{action_names}
 use Rattle.sp_law_truth.specs.Same.{SameActions, EqualTraces, EqualAssignments}
 use Rattle.sp_law_equal.proofs.Pointwise.{each_with_sym, each_with_length, each_with_member, each_with_position}
@@ -33,12 +34,7 @@ module _ (es : List Equation) where
     );
   }
 
--- it holds of each element because it holds of any
-every_always : {A : Type 0} (xs : List A) → Every (λ x. Unit {0}) xs
-every_always [] = tt
-every_always (x ∷ xs) = (tt, every_always xs)
-
 pub equal_same : (signature : Signature) (trace other : Trace) → EqualTraces signature.equations trace other
     → (m w : Assignment) → EqualAssignments signature.equations m w → (f : Guarded) → GuardedHolds signature trace m f ↔ GuardedHolds signature other w f
 equal_same signature trace other e m w h f =
-    formula_alike signature (λ s. Unit {0}) trace other (equal_traces_act_alike signature.equations (λ s. Unit {0}) trace other e) f (every_always (action_names f)) m w h
+    formula_alike signature (λ s. Unit {0}) trace other (equal_traces_act_alike signature.equations (λ s. Unit {0}) trace other e) f (every_all _ (λ s. tt) (action_names f)) m w h

@@ -7,6 +7,7 @@ use Rattle.sp_spec.specs.Signature.{Equation}
 use Rattle.sp_spec.specs.Rule.{Action}
 use Rattle.sp_spec.specs.Execution.{Trace}
 use Rattle.sp_spec.specs.Truth.{Acts}
+use Rattle.sp_spec.proofs.Lists.{position_below}
 use Rattle.sp_law_truth.specs.Shown.{without_empty}
 
 -- the entry at position p has actions, and is at position q of those that have
@@ -84,11 +85,6 @@ shifts_reflects_same trace p q r s h k e = at (cases_order p r)
     at (inr (inl m)) = let f = shifts_rises trace p q r s h k m in absurd (omega (arith, e, f))
     at (inr (inr m)) = let f = shifts_rises trace r s p q k h m in absurd (omega (arith, e, f))
 
-pub position_within : {A : Type 0} → (xs : List A) (p : ℕ) (x : A) → AtPosition xs p x → p < length xs
-position_within [] p x h = absurd h
-position_within (y ∷ past) p x (inl h) = let e = h.0 in omega (arith, e)
-position_within (y ∷ past) p x (inr h) = let l = position_within past p x h in omega (arith, l)
-
 -- an entry that is left stands at its new position
 pub shifts_entry : (trace : Trace) (p q : ℕ) → Shifts trace p q → (entry : List (Action ⊥)) → AtPosition trace p entry ↔ AtPosition (without_empty trace) q entry
 shifts_entry [] p q s entry = absurd s
@@ -101,11 +97,11 @@ shifts_entry ((a ∷ actions) ∷ past) p q (inl s) entry = (forth, back)
   where
     forth : AtPosition ((a ∷ actions) ∷ past) p entry → AtPosition ((a ∷ actions) ∷ without_empty past) q entry
     forth (inl x) = inl (s.1, x.1)
-    forth (inr x) = let e = s.0 in let l = position_within past p entry x in absurd (omega (arith, e, l))
+    forth (inr x) = let e = s.0 in let l = position_below past p entry x in absurd (omega (arith, e, l))
 
     back : AtPosition ((a ∷ actions) ∷ without_empty past) q entry → AtPosition ((a ∷ actions) ∷ past) p entry
     back (inl x) = inl (s.0, x.1)
-    back (inr x) = let e = s.1 in let l = position_within (without_empty past) q entry x in absurd (omega (arith, e, l))
+    back (inr x) = let e = s.1 in let l = position_below (without_empty past) q entry x in absurd (omega (arith, e, l))
 shifts_entry ((a ∷ actions) ∷ past) p q (inr s) entry = let h = shifts_entry past p q s entry in (forth h.0, back h.1)
   where
     forth : (AtPosition past p entry → AtPosition (without_empty past) q entry) → AtPosition ((a ∷ actions) ∷ past) p entry → AtPosition ((a ∷ actions) ∷ without_empty past) q entry

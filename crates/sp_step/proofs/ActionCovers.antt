@@ -18,7 +18,7 @@ use Rattle.sp_law_equal.proofs.Over.{normal_over}
 use Rattle.sp_system.specs.System.{Happening, rule_step, Event, System, Valuation, assignment, HappensAt, HappensIn, FormulaHolds, Solves, EachVariables, InFacts, InHappening, InEvent, InFormula, IsNumbered, Agrees, NoneSolved, Covers}
 use Rattle.sp_system.specs.Laws.{UnifierIsRight}
 use Rattle.sp_system.specs.Equating.{action_pair, unifier_of, system_changed}
-use Rattle.sp_system.proofs.Lists.{every_append, every_parts, every_member, member_mapped, every_at, every_weaken}
+use Rattle.sp_spec.proofs.Lists.{every_append, every_parts, every_member, member_mapped, every_at, every_weaken, position_one}
 use Rattle.sp_system.proofs.Facts.{action_same}
 use Rattle.sp_system.proofs.Numbers.{each_weaken_all}
 use Rattle.sp_system.proofs.Merging.{action_under}
@@ -27,7 +27,7 @@ use Rattle.sp_step.specs.Rows.{freed_action, happening_actions}
 use Rattle.sp_step.specs.Moves.{Case, where_same, at_event, renamed, with_step, system_if, by_actions, named, by_each, event_at, action_cases, action_at_time, is_adversary, solving_action}
 use Rattle.sp_step.specs.Laws.{RulesAreNumbered, FactsArePlain, RulesArePlain, systems_of}
 use Rattle.sp_step.proofs.Freed.{mapped, freed_action_value, freed_action_in}
-use Rattle.sp_step.proofs.FreshOnce.{position_one, unifier_within}
+use Rattle.sp_step.proofs.FreshOnce.{unifier_within}
 use Rattle.sp_step.proofs.Literals.{agrees_itself}
 use Rattle.sp_step.proofs.Entries.{traced, IsStepOf, entry_is_step, step_action_normal, same_normal_action, plain_step, beside, beside_agrees}
 use Rattle.sp_step.proofs.Actions.{named_systems, systems_append, at_event_systems, by_actions_solved, step_numbered, step_solved}

@@ -20,7 +20,7 @@ use Rattle.sp_law_equal.proofs.Over.{normal_over}
 use Rattle.sp_system.specs.System.{Happening, rule_step, Event, System, Valuation, assignment, HappensAt, HappensIn, FormulaHolds, Solves, EachVariable, EachVariables, InFacts, InHappening, InEvent, InFormula, IsNumbered, Agrees, NoneSolved, Covers}
 use Rattle.sp_system.specs.Laws.{UnifierIsRight}
 use Rattle.sp_system.specs.Equating.{action_pair, unifier_of, system_changed}
-use Rattle.sp_system.proofs.Lists.{every_append, every_parts, every_member, member_mapped, every_at, every_weaken}
+use Rattle.sp_spec.proofs.Lists.{every_append, every_parts, every_member, member_mapped, every_at, every_weaken, position_one}
 use Rattle.sp_system.proofs.Facts.{facts_same, facts_at-facts_at}
 use Rattle.sp_system.proofs.Numbers.{facts_valued, facts_weaken, event_weaken}
 use Rattle.sp_system.proofs.Merging.{Paired, action_paired, action_under}
@@ -29,7 +29,7 @@ use Rattle.sp_step.specs.Rows.{freed_action, happening_actions}
 use Rattle.sp_step.specs.Moves.{Case, where_same, case_if, at_event, renamed, with_step, system_if, by_actions, numbered, named, by_each, event_at, action_cases, action_at_time, is_adversary, solving_action}
 use Rattle.sp_step.specs.Laws.{RulesAreNumbered, FactsArePlain, RulesArePlain, systems_of}
 use Rattle.sp_step.proofs.Freed.{mapped, freed_action_value, freed_action_in}
-use Rattle.sp_step.proofs.FreshOnce.{position_one, unifier_within}
+use Rattle.sp_step.proofs.FreshOnce.{unifier_within}
 use Rattle.sp_step.proofs.OpenedNumbers.{weaken_numbered}
 use Rattle.sp_step.proofs.Entries.{traced, IsStepOf, entry_is_step, step_action_normal, same_normal_action, plain_step, beside, beside_agrees, beside_new, each_beside}
 

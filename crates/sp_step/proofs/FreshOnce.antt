@@ -10,6 +10,7 @@ use Rattle.sp_spec.specs.Same.{alike}
 use Rattle.sp_spec.specs.Substitution.{Binding, bound_to, Fixes}
 use Rattle.sp_spec.specs.Unifier.{Pair, MakesSame, mgu}
 use Rattle.sp_spec.specs.Log.{Log, Entry, step, Source, IsLog, is_fr, first_arg, fresh_of, fresh_uses, all_fresh_uses}
+use Rattle.sp_spec.proofs.Lists.{member_left, member_right, distinct_apart, position_one}
 use Rattle.sp_system.specs.System.{Happening, rule_step, Event, System, Valuation, HappensAt, HappensIn, Solves, EachVariable, InFacts, InHappening, InEvent, IsNumbered, Covers}
 use Rattle.sp_system.specs.Laws.{UnifierIsRight, PairsUnder}
 use Rattle.sp_system.specs.Equating.{time_replaced, merging_pairs, unifier_of, smaller, larger, merged_system}
@@ -19,40 +20,11 @@ use Rattle.sp_step.specs.Rows.{first_term, fresh_terms, happening_fresh, stands_
 use Rattle.sp_step.proofs.Freed.{mapped, then_some}
 use Rattle.sp_step.proofs.Literals.{alike_same, covers_by_itself}
 
--- members of lists
-member_left : {A : Type 0} (x : A) (xs ys : List A) → Member x xs → Member x (xs ++ ys)
-member_left x [] ys m = absurd m
-member_left x (z ∷ xs) ys (inl m) = inl m
-member_left x (z ∷ xs) ys (inr m) = inr (member_left x xs ys m)
-
-member_right : {A : Type 0} (x : A) (xs ys : List A) → Member x ys → Member x (xs ++ ys)
-member_right x [] ys m = m
-member_right x (z ∷ xs) ys m = inr (member_right x xs ys m)
-
--- what stands in both parts stands twice
-distinct_apart : {A : Type 0} (x : A) (xs ys : List A) → Distinct (xs ++ ys) → Member x xs → Member x ys → ⊥
-distinct_apart x [] ys d m k = m
-distinct_apart x (z ∷ xs) ys d (inl m) k = d.0 (subst (λ (w : _). Member w (xs ++ ys)) (sym m) (member_right x xs ys k))
-distinct_apart x (z ∷ xs) ys d (inr m) k = distinct_apart x xs ys d.1 m k
-
 -- the Fr that an entry of the log uses is among those that the log uses
 uses_among : (log : Log) (p : ℕ) (e : Entry) (t : Ground) → AtPosition log p e → Member t (fresh_uses e) → Member t (all_fresh_uses log)
 uses_among [] p e t a m = absurd a
 uses_among (d ∷ log) p e t (inl a) m = member_left t (fresh_uses d) (all_fresh_uses log) (subst (λ (x : Entry). Member t (fresh_uses x)) (sym a.1) m)
 uses_among (d ∷ log) p e t (inr a) m = member_right t (fresh_uses d) (all_fresh_uses log) (uses_among log p e t a m)
-
-position_under : {A : Type 0} (xs : List A) (p : ℕ) (x : A) → AtPosition xs p x → p < length xs
-position_under [] p x a = absurd a
-position_under (y ∷ xs) p x (inl a) = let e = a.0 in omega arith
-position_under (y ∷ xs) p x (inr a) = let l = position_under xs p x a in omega arith
-
--- one position has one element
-pub position_one : {A : Type 0} (xs : List A) (p : ℕ) (x y : A) → AtPosition xs p x → AtPosition xs p y → x ≡ y
-position_one [] p x y a b = absurd a
-position_one (z ∷ xs) p x y (inl a) (inl b) = sym a.1 ∙ b.1
-position_one (z ∷ xs) p x y (inl a) (inr b) = let l = position_under xs p y b in let e = a.0 in absurd (omega arith)
-position_one (z ∷ xs) p x y (inr a) (inl b) = let l = position_under xs p x a in let e = b.0 in absurd (omega arith)
-position_one (z ∷ xs) p x y (inr a) (inr b) = position_one xs p x y a b
 
 -- two entries that use one Fr are at one position
 one_position : (theory : Theory) (log : Log) → IsLog theory log → (p q : ℕ) (d e : Entry) (t : Ground) → AtPosition log p d → AtPosition log q e → Member t (fresh_uses d) → Member t (fresh_uses e) → p ≡ q

@@ -12,7 +12,7 @@ use Rattle.sp_spec.specs.Substitution.{Binding}
 use Rattle.sp_spec.specs.Unifier.{Pair, mgu}
 use Rattle.sp_law_equal.proofs.Tests.{same_by_decides, same_variable_decides}
 use Rattle.sp_system.specs.System.{System, Valuation, assignment, FormulaHolds, AreUnequal, Solves, EachVariable, InFormula, IsNumbered, Agrees, NoneSolved, Covers}
-use Rattle.sp_system.proofs.Lists.{every_append}
+use Rattle.sp_spec.proofs.Lists.{every_append}
 use Rattle.sp_system.proofs.Solutions.{Under, TimeUnder}
 use Rattle.sp_step.specs.Rows.{Found, first_formula, spending, pair_of, inequality_of, kept_unequal, unequal_at, unequal, standing_of, action_stands, freed, has_equal_pair, is_refuted, has_refuted}
 use Rattle.sp_step.specs.Laws.{HasNoSolution}

@@ -13,7 +13,7 @@ use Rattle.sp_law_equal.specs.Convergent.{AreConvergent, KeepSymbols}
 use Rattle.sp_system.specs.System.{Happening, rule_step, Event, System, Valuation, assignment, FormulaHolds, Solves, EachVariables, InEvent, InHappening, InFormula, IsNumbered, NoneSolved, Covers}
 use Rattle.sp_system.specs.Laws.{UnifierIsRight}
 use Rattle.sp_system.specs.Equating.{action_pair, unifier_of, system_changed}
-use Rattle.sp_system.proofs.Lists.{every_append, every_parts, every_member, every_at, every_weaken}
+use Rattle.sp_spec.proofs.Lists.{every_append, every_parts, every_member, every_at, every_weaken}
 use Rattle.sp_system.proofs.Numbers.{each_weaken_all}
 use Rattle.sp_system.proofs.Merging.{action_under}
 use Rattle.sp_system.proofs.Solutions.{Under, TimeUnder, change_numbered}

@@ -15,7 +15,7 @@ use Rattle.sp_law_equal.proofs.Forms.{normal_has_sort, to_normal, is_normal}
 use Rattle.sp_law_equal.proofs.Over.{normal_over}
 use Rattle.sp_system.specs.Change.{Change, atom_changed, changed, opened, opening, free_change}
 use Rattle.sp_system.specs.System.{System, Valuation, assignment, EachNormal, AtomSettled, Settled, FormulaHolds, Solves, EachVariable, AtFree, InAtom, InFormula, IsNumbered, Agrees, NoneSolved, Covers}
-use Rattle.sp_system.proofs.Lists.{every_append, every_map, every_weaken}
+use Rattle.sp_spec.proofs.Lists.{every_append, every_map, every_weaken}
 use Rattle.sp_system.proofs.Numbers.{PutsIn, atom_changed_in, changed_in, formula_weaken}
 use Rattle.sp_system.proofs.Changing.{Reads, changed_same, settled_same, atoms_same, atoms_settled}
 use Rattle.sp_system.proofs.Solutions.{Under, TimeUnder, agree_solves}

@@ -6,7 +6,7 @@ use Rattle.sp_spec.specs.Guarded.{Place, free, bound, Time, free_time, bound_tim
 use Rattle.sp_spec.specs.Unifier.{Pair}
 use Rattle.sp_system.specs.Change.{Change, atom_changed, changed, opened, opening, free_change}
 use Rattle.sp_system.specs.System.{Event, System, EachVariable, AtFree, AtFreeTime, InAtom, InFormula, InEvent, IsNumbered}
-use Rattle.sp_system.proofs.Lists.{every_append, every_weaken}
+use Rattle.sp_spec.proofs.Lists.{every_append, every_weaken}
 use Rattle.sp_system.proofs.Numbers.{PutsIn, atom_changed_in, changed_in, formula_weaken, event_weaken, each_weaken}
 use Rattle.sp_system.proofs.Solutions.{Under, TimeUnder}
 use Rattle.sp_step.specs.Rows.{Found, first_formula, spending, Existential, existential_of, opened_at, open_existential}

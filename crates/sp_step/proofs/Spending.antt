@@ -5,7 +5,7 @@ use Rattle.sp_spec.specs.Theory.{Theory}
 use Rattle.sp_spec.specs.Guarded.{Guarded}
 use Rattle.sp_spec.specs.Log.{Log}
 use Rattle.sp_system.specs.System.{Event, System, Valuation, FormulaHolds, Solves, InFormula, IsNumbered}
-use Rattle.sp_system.proofs.Lists.{every_append, every_parts}
+use Rattle.sp_spec.proofs.Lists.{every_append, every_parts}
 use Rattle.sp_system.proofs.Solutions.{Under, TimeUnder}
 use Rattle.sp_step.specs.Rows.{Found, behind, found_at, first_formula, spending}
 use Rattle.sp_step.proofs.Freed.{mapped}

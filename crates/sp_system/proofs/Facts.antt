@@ -4,6 +4,7 @@ use Rattle.sp_spec.specs.Lists.{Every}
 use Rattle.sp_spec.specs.Term.{Variable, Term, var, constant, name, app, Terms, none, more, Values, valued, valued_all}
 use Rattle.sp_spec.specs.Rule.{Fact, Action, Facts, fact_at, action_at, facts_at}
 use Rattle.sp_spec.specs.Substitution.{Binding, bound_to, Fixes}
+use Rattle.sp_spec.proofs.Lists.{every_weaken, every_all, map_each, map-map}
 use Rattle.sp_system.specs.System.{EachVariable, EachVariables, InFacts}
 use Rattle.sp_system.proofs.Values.{valued-valued, valued_all-valued_all}
 
@@ -31,14 +32,6 @@ mutual
   valued_all_equal v w e (more t ts) = ap₂ more (valued_equal v w e t) (valued_all_equal v w e ts)
 
 
-map_same : {A B : Type 0} (f g : A → B) (xs : List A) → Every (λ x. f x ≡ g x) xs → map f xs ≡ map g xs
-map_same f g [] e = refl
-map_same f g (x ∷ xs) e = ap₂ (λ y ys. y ∷ ys) e.0 (map_same f g xs e.1)
-
-map-map : {A B C : Type 0} (f : A → B) (g : B → C) (xs : List A) → map g (map f xs) ≡ map (λ x. g (f x)) xs
-map-map f g [] = refl
-map-map f g (x ∷ xs) = ap (λ ys. g (f x) ∷ ys) (map-map f g xs)
-
 abbrev parts_of : {V : Type 0} → List (Fact V) → List (Action V) → List (Fact V) → Facts V
 parts_of ps as' cs = record { premises = ps; actions = as'; conclusions = cs }
 
@@ -51,20 +44,12 @@ fact_same {V} {W} v w f e = ap (λ (ts : Terms W). let g : Fact W = record { sym
 pub action_same : {V W : Type 0} (v w : V → Term W) (a : Action V) → EachVariables (λ x. v x ≡ w x) a.args → action_at v a ≡ action_at w a
 action_same {V} {W} v w a e = ap (λ (ts : Terms W). let g : Action W = record { symbol = a.symbol; args = ts } in g) (valued_all_same v w a.args e)
 
-every_to : {A : Type 0} (P Q : A → Type 0) → ((x : A) → P x → Q x) → (xs : List A) → Every P xs → Every Q xs
-every_to P Q h [] e = tt
-every_to P Q h (x ∷ xs) e = (h x e.0, every_to P Q h xs e.1)
-
-every_all : {A : Type 0} (P : A → Type 0) → ((x : A) → P x) → (xs : List A) → Every P xs
-every_all P h [] = tt
-every_all P h (x ∷ xs) = (h x, every_all P h xs)
-
 pub facts_same : {V W : Type 0} (v w : V → Term W) (facts : Facts V) → InFacts (λ x. v x ≡ w x) facts → facts_at v facts ≡ facts_at w facts
 facts_same v w facts e =
     parts_same _ _ _ _ _ _
-    (map_same (fact_at v) (fact_at w) facts.premises (every_to _ _ (fact_same v w) facts.premises e.premises))
-    (map_same (action_at v) (action_at w) facts.actions (every_to _ _ (action_same v w) facts.actions e.actions))
-    (map_same (fact_at v) (fact_at w) facts.conclusions (every_to _ _ (fact_same v w) facts.conclusions e.conclusions))
+    (map_each (fact_at v) (fact_at w) facts.premises (every_weaken _ _ (fact_same v w) facts.premises e.premises))
+    (map_each (action_at v) (action_at w) facts.actions (every_weaken _ _ (action_same v w) facts.actions e.actions))
+    (map_each (fact_at v) (fact_at w) facts.conclusions (every_weaken _ _ (fact_same v w) facts.conclusions e.conclusions))
 
 pub action_at-action_at : {U V W : Type 0} (v : U → Term V) (w : V → Term W) (a : Action U) → action_at w (action_at v a) ≡ action_at (λ x. valued w (v x)) a
 action_at-action_at {U} {V} {W} v w a = ap (λ (ts : Terms W). let g : Action W = record { symbol = a.symbol; args = ts } in g) (valued_all-valued_all v w a.args)
@@ -75,9 +60,9 @@ fact_at-fact_at {U} {V} {W} v w f = ap (λ (ts : Terms W). let g : Fact W = reco
 pub facts_at-facts_at : {U V W : Type 0} (v : U → Term V) (w : V → Term W) (facts : Facts U) → facts_at w (facts_at v facts) ≡ facts_at (λ x. valued w (v x)) facts
 facts_at-facts_at v w facts =
     parts_same _ _ _ _ _ _
-    (map-map (fact_at v) (fact_at w) facts.premises ∙ map_same _ _ facts.premises (every_all _ (fact_at-fact_at v w) facts.premises))
-    (map-map (action_at v) (action_at w) facts.actions ∙ map_same _ _ facts.actions (every_all _ (action_at-action_at v w) facts.actions))
-    (map-map (fact_at v) (fact_at w) facts.conclusions ∙ map_same _ _ facts.conclusions (every_all _ (fact_at-fact_at v w) facts.conclusions))
+    (map-map (fact_at v) (fact_at w) facts.premises ∙ map_each _ _ facts.premises (every_all _ (fact_at-fact_at v w) facts.premises))
+    (map-map (action_at v) (action_at w) facts.actions ∙ map_each _ _ facts.actions (every_all _ (action_at-action_at v w) facts.actions))
+    (map-map (fact_at v) (fact_at w) facts.conclusions ∙ map_each _ _ facts.conclusions (every_all _ (fact_at-fact_at v w) facts.conclusions))
 
 -- A substitution that the values fix changes no value.
 pub fixed_term : (v : Values) (bs : List Binding) → Fixes v bs → (t : Term Variable) → valued v (valued (bound_to bs) t) ≡ valued v t

@@ -1,5 +1,4 @@
 pub mod Values
-pub mod Lists
 pub mod Changing
 pub mod Numbers
 pub mod Facts

@@ -9,7 +9,7 @@ use Rattle.sp_spec.specs.Unifier.{Pair, MakesSame}
 use Rattle.sp_system.specs.System.{Happening, rule_step, EachVariables, InFacts, InHappening}
 use Rattle.sp_system.specs.Laws.{PairsUnder}
 use Rattle.sp_system.specs.Equating.{argument_pairs, same_flag, both_pairs, fact_pairs, action_pair, action_pairs, merging_pairs}
-use Rattle.sp_system.proofs.Lists.{every_append}
+use Rattle.sp_spec.proofs.Lists.{every_append}
 use Rattle.sp_system.proofs.Solutions.{Under}
 
 -- pairs that are there, have one value each, and have numbers below the limit

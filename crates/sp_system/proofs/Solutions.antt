@@ -13,7 +13,7 @@ use Rattle.sp_spec.specs.Unifier.{Pair}
 use Rattle.sp_system.specs.Change.{free_change, changed}
 use Rattle.sp_system.specs.System.{Happening, rule_step, Event, System, Valuation, assignment, HappensAt, HappensIn, FormulaHolds, AreUnequal, Solves, EachVariable, InFormula, InHappening, InEvent, IsNumbered, Agrees}
 use Rattle.sp_system.specs.Equating.{happening_changed, event_changed, pair_changed, system_changed}
-use Rattle.sp_system.proofs.Lists.{every_map, every_both}
+use Rattle.sp_spec.proofs.Lists.{every_map, every_both}
 use Rattle.sp_system.proofs.Facts.{valued_same, facts_same, fixed_term, fixed_facts}
 use Rattle.sp_system.proofs.Numbers.{each_weaken, facts_weaken, PutsIn, changed_in, each_valued, facts_valued}
 use Rattle.sp_system.proofs.Changing.{Reads, changed_same, settled_same}

@@ -1,0 +1,105 @@
+-- What holds of each element, members, elements at positions, and lists without twice the same.
+use Rattle.std.proofs.Common.{◌≡◌, ◌⊎◌, ◌<◌, ℕ, zero, suc, List, [], ◌∷◌, ◌++◌, map, length, inl, inr, refl, sym, ap, ap₂, ◌∙◌, subst, Some, slice_get, arith}
+use Rattle.sp_spec.specs.Lists.{Member, Every, Distinct, AtPlace, AtPosition}
+
+pub every_map : {A B : Type 0} (P : A → Type 0) (Q : B → Type 0) (f : A → B) → ((x : A) → P x → Q (f x)) → (xs : List A) → Every P xs → Every Q (map f xs)
+every_map P Q f h [] e = tt
+every_map P Q f h (x ∷ xs) e = (h x e.0, every_map P Q f h xs e.1)
+
+pub every_weaken : {A : Type 0} (P Q : A → Type 0) → ((x : A) → P x → Q x) → (xs : List A) → Every P xs → Every Q xs
+every_weaken P Q h [] e = tt
+every_weaken P Q h (x ∷ xs) e = (h x e.0, every_weaken P Q h xs e.1)
+
+-- of what two predicates hold
+pub every_both : {A : Type 0} (P Q R : A → Type 0) → ((x : A) → P x → Q x → R x) → (xs : List A) → Every P xs → Every Q xs → Every R xs
+every_both P Q R h [] e k = tt
+every_both P Q R h (x ∷ xs) e k = (h x e.0 k.0, every_both P Q R h xs e.1 k.1)
+
+-- of each element, as it holds of any
+pub every_all : {A : Type 0} (P : A → Type 0) → ((x : A) → P x) → (xs : List A) → Every P xs
+every_all P h [] = tt
+every_all P h (x ∷ xs) = (h x, every_all P h xs)
+
+pub every_append : {A : Type 0} (P : A → Type 0) (xs ys : List A) → Every P xs → Every P ys → Every P (xs ++ ys)
+every_append P [] ys e k = k
+every_append P (x ∷ xs) ys e k = (e.0, every_append P xs ys e.1 k)
+
+pub every_parts : {A : Type 0} (P : A → Type 0) (xs ys : List A) → Every P (xs ++ ys) → Every P xs × Every P ys
+every_parts P [] ys e = (tt, e)
+every_parts P (x ∷ xs) ys e = let r = every_parts P xs ys e.1 in ((e.0, r.0), r.1)
+
+pub every_member : {A : Type 0} (P : A → Type 0) (xs : List A) (x : A) → Member x xs → Every P xs → P x
+every_member P [] x m e = absurd m
+every_member P (y ∷ ys) x (inl m) e = subst P m e.0
+every_member P (y ∷ ys) x (inr m) e = every_member P ys x m e.1
+
+pub every_at : {A : Type 0} (P : A → Type 0) (xs : List A) (k : ℕ) (x : A) → slice_get xs k ≡ Some x → Every P xs → P x
+every_at P [] k x h e = absurd cc
+every_at P (y ∷ ys) zero x h e = subst P (let g : y ≡ x = cc in g) e.0
+every_at P (y ∷ ys) (suc k) x h e = every_at P ys k x h e.1
+
+pub member_map : {A B : Type 0} (f : A → B) (x : A) (xs : List A) → Member x xs → Member (f x) (map f xs)
+member_map f x [] m = m
+member_map f x (y ∷ ys) (inl m) = inl (let g : f y ≡ f x = cc in g)
+member_map f x (y ∷ ys) (inr m) = inr (member_map f x ys m)
+
+-- an element of a mapped list comes from one of the list
+pub member_mapped : {A B : Type 0} (f : A → B) (y : B) (xs : List A) → Member y (map f xs) → (x : A) × Member x xs × (f x ≡ y)
+member_mapped f y [] m = absurd m
+member_mapped f y (x ∷ xs) (inl m) = (x, inl refl, m)
+member_mapped f y (x ∷ xs) (inr m) = let r = member_mapped f y xs m in (r.0, inr r.1, r.2)
+
+pub member_left : {A : Type 0} (x : A) (xs ys : List A) → Member x xs → Member x (xs ++ ys)
+member_left x [] ys m = absurd m
+member_left x (y ∷ xs) ys (inl m) = inl m
+member_left x (y ∷ xs) ys (inr m) = inr (member_left x xs ys m)
+
+pub member_right : {A : Type 0} (x : A) (xs ys : List A) → Member x ys → Member x (xs ++ ys)
+member_right x [] ys m = m
+member_right x (y ∷ xs) ys m = inr (member_right x xs ys m)
+
+pub member_either : {A : Type 0} (x : A) (xs ys : List A) → Member x (xs ++ ys) → Member x xs ⊎ Member x ys
+member_either x [] ys m = inr m
+member_either x (y ∷ xs) ys (inl m) = inl (inl m)
+member_either x (y ∷ xs) ys (inr m) = at (member_either x xs ys m)
+  where
+    at : Member x xs ⊎ Member x ys → Member x (y ∷ xs) ⊎ Member x ys
+    at (inl k) = inl (inr k)
+    at (inr k) = inr k
+
+pub distinct_right : {A : Type 0} (xs ys : List A) → Distinct (xs ++ ys) → Distinct ys
+distinct_right [] ys d = d
+distinct_right (x ∷ xs) ys d = distinct_right xs ys d.1
+
+-- what stands in both parts stands twice
+pub distinct_apart : {A : Type 0} (x : A) (xs ys : List A) → Distinct (xs ++ ys) → Member x xs → Member x ys → ⊥
+distinct_apart x [] ys d m k = m
+distinct_apart x (z ∷ xs) ys d (inl m) k = d.0 (subst (λ (w : _). Member w (xs ++ ys)) (sym m) (member_right x xs ys k))
+distinct_apart x (z ∷ xs) ys d (inr m) k = distinct_apart x xs ys d.1 m k
+
+pub position_below : {A : Type 0} (xs : List A) (p : ℕ) (x : A) → AtPosition xs p x → p < length xs
+position_below [] p x a = absurd a
+position_below (y ∷ xs) p x (inl a) = let e = a.0 in omega arith
+position_below (y ∷ xs) p x (inr a) = let l = position_below xs p x a in omega arith
+
+-- one position has one element
+pub position_one : {A : Type 0} (xs : List A) (p : ℕ) (x y : A) → AtPosition xs p x → AtPosition xs p y → x ≡ y
+position_one [] p x y a b = absurd a
+position_one (z ∷ xs) p x y (inl a) (inl b) = sym a.1 ∙ b.1
+position_one (z ∷ xs) p x y (inl a) (inr b) = let l = position_below xs p y b in let e = a.0 in absurd (omega arith)
+position_one (z ∷ xs) p x y (inr a) (inl b) = let l = position_below xs p x a in let e = b.0 in absurd (omega arith)
+position_one (z ∷ xs) p x y (inr a) (inr b) = position_one xs p x y a b
+
+pub place_map : {A B : Type 0} (f : A → B) (xs : List A) (k : ℕ) (x : A) → AtPlace xs k x → AtPlace (map f xs) k (f x)
+place_map f [] k x a = absurd a
+place_map f (y ∷ xs) zero x a = ap f a
+place_map f (y ∷ xs) (suc k) x a = place_map f xs k x a
+
+-- functions that give the same of each element
+pub map_each : {A B : Type 0} (f g : A → B) (xs : List A) → Every (λ x. f x ≡ g x) xs → map f xs ≡ map g xs
+map_each f g [] e = refl
+map_each f g (x ∷ xs) e = ap₂ (λ y ys. y ∷ ys) e.0 (map_each f g xs e.1)
+
+pub map-map : {A B C : Type 0} (f : A → B) (g : B → C) (xs : List A) → map g (map f xs) ≡ map (λ x. g (f x)) xs
+map-map f g [] = refl
+map-map f g (x ∷ xs) = ap (λ ys. g (f x) ∷ ys) (map-map f g xs)
