@@ -1,24 +1,24 @@
 -- Each move covers, with its cases simplified.
-use Rattle.std.proofs.Common.{◌≡◌, ◌≤◌, ◌<◌, ◌+◌, ℕ, zero, suc, Bool, true, false, if◌then◌else◌, List, [], ◌∷◌, ◌++◌, map, length, Option, Some, None, option_map, option_and_then, is_some, refl, sym, ap, ◌∙◌, subst, arith, le_refl, le_trans, slice_get}
-use Rattle.sp_spec.specs.Lists.{Member, Every, Classically}
+use Rattle.std.proofs.Common.{◌≡◌, ◌≤◌, ◌<◌, ◌+◌, ℕ, Bool, true, false, if◌then◌else◌, List, [], ◌∷◌, map, length, Option, Some, None, option_map, is_some, refl, sym, subst, arith, le_refl, le_trans, slice_get}
+use Rattle.sp_spec.specs.Lists.{Every}
 use Rattle.sp_spec.specs.Term.{Variable}
-use Rattle.sp_spec.specs.Rule.{Fact, Action, Facts, Rule}
+use Rattle.sp_spec.specs.Rule.{Action, Rule}
 use Rattle.sp_spec.specs.Equal.{AreNormal}
 use Rattle.sp_spec.specs.Theory.{Theory, signature_of}
 use Rattle.sp_spec.specs.Truth.{Acts}
-use Rattle.sp_spec.specs.Guarded.{Place, Guarded, truth, falsity, holds, fails, all_of, one_of, some, every, Atom, acts, same, same_time, before, last, Time, free_time, bound_time, action_in}
+use Rattle.sp_spec.specs.Guarded.{Place, Guarded, truth, falsity, holds, fails, all_of, one_of, some, every, acts, same, same_time, before, last, free_time, bound_time, action_in}
 use Rattle.sp_spec.specs.Log.{Log, IsLog, log_trace}
 use Rattle.sp_spec.specs.Substitution.{Binding, bound_to}
 use Rattle.sp_law_equal.specs.Convergent.{AreConvergent, KeepSymbols}
 use Rattle.sp_system.specs.System.{Happening, rule_step, Event, System, Valuation, assignment, FormulaHolds, Solves, EachVariables, InEvent, InHappening, InFormula, IsNumbered, NoneSolved, Covers}
 use Rattle.sp_system.specs.Laws.{UnifierIsRight}
 use Rattle.sp_system.specs.Equating.{action_pair, unifier_of, system_changed}
-use Rattle.sp_spec.proofs.Lists.{every_append, every_parts, every_member, every_at, every_weaken}
+use Rattle.sp_spec.proofs.Lists.{every_append, every_parts, every_member, every_at}
 use Rattle.sp_system.proofs.Numbers.{each_weaken_all}
 use Rattle.sp_system.proofs.Merging.{action_under}
 use Rattle.sp_system.proofs.Solutions.{Under, TimeUnder, change_numbered}
-use Rattle.sp_step.specs.Rows.{freed_action, happening_actions, rows, by_rows, is_contradictory, simplified, simplified_by}
-use Rattle.sp_step.specs.Moves.{Move, simplify, contradiction, unproved, action, Case, where_same, case_if, at_event, renamed, with_step, system_if, by_actions, named, by_each, event_at, action_cases, action_at_time, is_adversary, solving_action, raw_cases, simple_case, cases}
+use Rattle.sp_step.specs.Rows.{freed_action, happening_actions, rows, by_rows, is_contradictory}
+use Rattle.sp_step.specs.Moves.{Move, simplify, contradiction, unproved, action, Case, where_same, renamed, with_step, system_if, by_actions, named, by_each, event_at, action_cases, action_at_time, is_adversary, solving_action, raw_cases, simple_case}
 use Rattle.sp_step.specs.Laws.{RulesAreNumbered, RulesArePlain, systems_of, MovesCover}
 use Rattle.sp_step.proofs.Freed.{mapped, freed_action_in}
 use Rattle.sp_step.proofs.FreshOnce.{unifier_within}

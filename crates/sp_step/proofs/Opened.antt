@@ -1,27 +1,26 @@
 -- The row that opens an existential formula covers.
-use Rattle.std.proofs.Common.{◌≡◌, ◌≤◌, ◌<◌, ◌+◌, ℕ, zero, suc, List, [], ◌∷◌, ◌++◌, map, length, Option, Some, None, option_map, refl, sym, ap, ◌∙◌, subst, arith, le_refl, lt_of_lt_of_le, le_trans}
-use Rattle.sp_spec.specs.Lists.{Every, Classically}
-use Rattle.sp_spec.specs.Term.{Sort, Msg, Fresh, Pub, Variable, Term, var, Ground, Values, valued}
-use Rattle.sp_spec.specs.Signature.{Signature, HasSort, IsOver, IsValue, IsValuation}
-use Rattle.sp_spec.specs.Equal.{Equal, IsNormal}
+use Rattle.std.proofs.Common.{◌≡◌, ◌≤◌, ◌<◌, ◌+◌, ℕ, zero, suc, List, [], ◌∷◌, ◌++◌, map, length, Some, refl, sym, ap, ◌∙◌, subst, arith, le_refl, lt_of_lt_of_le}
+use Rattle.sp_spec.specs.Lists.{Every}
+use Rattle.sp_spec.specs.Term.{Variable, var, Ground, valued}
+use Rattle.sp_spec.specs.Signature.{Signature, IsValue}
+use Rattle.sp_spec.specs.Equal.{Equal}
 use Rattle.sp_spec.specs.Execution.{Trace}
 use Rattle.sp_spec.specs.Theory.{Theory, signature_of}
-use Rattle.sp_spec.specs.Guarded.{Place, free, bound, Time, free_time, bound_time, Binder, message, time, Atom, Guarded, truth, falsity, holds, fails, all_of, one_of, some, every, Assignment, with_term, with_time, term_in, time_in, AtomsHold, AtomHolds, SomeValues, GuardedHolds}
-use Rattle.sp_spec.specs.Log.{Log, IsLog, log_trace}
+use Rattle.sp_spec.specs.Guarded.{Binder, message, time, Atom, Guarded, truth, falsity, holds, fails, all_of, one_of, some, every, Assignment, with_term, with_time, AtomsHold, GuardedHolds}
+use Rattle.sp_spec.specs.Log.{Log, log_trace}
 use Rattle.sp_law_equal.specs.Normal.{normal}
 use Rattle.sp_law_equal.specs.Convergent.{AreConvergent, KeepSymbols}
 use Rattle.sp_law_equal.proofs.Chains.{equal_refl}
 use Rattle.sp_law_equal.proofs.Forms.{normal_has_sort, to_normal, is_normal}
 use Rattle.sp_law_equal.proofs.Over.{normal_over}
 use Rattle.sp_system.specs.Change.{Change, atom_changed, changed, opened, opening, free_change}
-use Rattle.sp_system.specs.System.{System, Valuation, assignment, EachNormal, AtomSettled, Settled, FormulaHolds, Solves, EachVariable, AtFree, InAtom, InFormula, IsNumbered, Agrees, NoneSolved, Covers}
-use Rattle.sp_spec.proofs.Lists.{every_append, every_map, every_weaken}
-use Rattle.sp_system.proofs.Numbers.{PutsIn, atom_changed_in, changed_in, formula_weaken}
+use Rattle.sp_system.specs.System.{System, Valuation, assignment, AtomSettled, Settled, FormulaHolds, Solves, InAtom, InFormula, IsNumbered, Agrees, Covers}
+use Rattle.sp_spec.proofs.Lists.{every_append}
 use Rattle.sp_system.proofs.Changing.{Reads, changed_same, settled_same, atoms_same, atoms_settled}
 use Rattle.sp_system.proofs.Solutions.{Under, TimeUnder, agree_solves}
-use Rattle.sp_step.specs.Rows.{Found, first_formula, spending, Existential, existential_of, opened_at, open_existential}
+use Rattle.sp_step.specs.Rows.{first_formula, Existential, existential_of, opened_at, open_existential}
 use Rattle.sp_step.proofs.Freed.{mapped}
-use Rattle.sp_step.proofs.Spending.{IsFound, is_found, found_holds, spending_solves, spending_numbered}
+use Rattle.sp_step.proofs.Spending.{is_found, found_holds, spending_solves}
 use Rattle.sp_step.proofs.Opening.{with_value, with_position, value_agrees, position_agrees, Opens, opens_message, opens_time, put_message, put_time}
 
 -- truth under equal values
@@ -59,7 +58,7 @@ module _ (theory : Theory) (good : AreConvergent (signature_of theory).equations
         let value : IsValue (signature_of theory) sort t = (normal_has_sort es sort y.0 y.1.0, normal_over (signature_of theory).symbols es keeps y.0 y.1.1) in
         let normal_t = is_normal es good y.0 in
         let h' = equal_truth (signature_of theory) (log_trace log) (some bs guard f) (with_term y.0 m) (with_term t m)
-            (λ x. equal_refl es (m.terms x)) (λ i. refl) (bound_equal y.0) (λ i. refl) y.2 in
+        (λ x. equal_refl es (m.terms x)) (λ i. refl) (bound_equal y.0) (λ i. refl) y.2 in
         opened_holds bs (suc next) (put_message c sort next) (with_value w (record { sort = sort; number = next }) t) (with_term t m)
         (opens_message theory base next c w m o sort t value normal_t) h' (k t value normal_t)
         (λ w' m' a o' p. none w' m' (agrees_then next (suc next) w (with_value w (record { sort = sort; number = next }) t) w' (omega arith) (value_agrees w sort next t) a)
@@ -125,15 +124,17 @@ module _ (theory : Theory) (good : AreConvergent (signature_of theory).equations
       let A = Under base in
       let B = TimeUnder base in
       let g : AtomsHold (signature_of theory) (log_trace log) (assignment w) (map (atom_changed c) guard) =
-          subst (λ (X : Type 0). X) (sym (atoms_same A B (signature_of theory) (log_trace log) c (assignment w) m reads guard ig)) p.0.0 in
+      subst (λ (X : Type 0). X) (sym (atoms_same A B (signature_of theory) (log_trace log) c (assignment w) m reads guard ig)) p.0.0 in
       let gs : Every (AtomSettled (signature_of theory) (length log) (assignment w)) (map (atom_changed c) guard) =
-          subst (λ (X : Type 0). X) (sym (atoms_settled A B (signature_of theory) (length log) c (assignment w) m reads guard ig)) p.1.0 in
+      subst (λ (X : Type 0). X) (sym (atoms_settled A B (signature_of theory) (length log) c (assignment w) m reads guard ig)) p.1.0 in
       every_append (FormulaHolds theory log w) (map (λ a. holds (atom_changed c a)) guard) (changed c f ∷ [])
-      (each guard g gs)
-      ((
-        subst (λ (X : Type 0). X) (sym (changed_same A B (signature_of theory) (log_trace log) c (assignment w) m reads f if')) p.0.1,
-        subst (λ (X : Type 0). X) (sym (settled_same A B (signature_of theory) (length log) c (assignment w) m reads f if')) p.1.1,
-      ), tt)
+      (each guard g gs) (
+        (
+          subst (λ (X : Type 0). X) (sym (changed_same A B (signature_of theory) (log_trace log) c (assignment w) m reads f if')) p.0.1,
+          subst (λ (X : Type 0). X) (sym (settled_same A B (signature_of theory) (length log) c (assignment w) m reads f if')) p.1.1,
+        ),
+        tt,
+      )
     where
       each : (atoms : List Atom) → AtomsHold (signature_of theory) (log_trace log) (assignment w) (map (atom_changed c) atoms)
           → Every (AtomSettled (signature_of theory) (length log) (assignment w)) (map (atom_changed c) atoms)

@@ -1,17 +1,17 @@
 -- Opening an existential formula takes new numbers alone.
-use Rattle.std.proofs.Common.{◌≡◌, ◌≤◌, ◌<◌, ◌+◌, ℕ, zero, suc, List, [], ◌∷◌, ◌++◌, map, length, Option, Some, refl, sym, ap, ◌∙◌, subst, arith, lt_of_lt_of_le}
+use Rattle.std.proofs.Common.{◌≡◌, ◌≤◌, ◌+◌, ℕ, zero, suc, List, [], ◌∷◌, ◌++◌, map, length, Some, refl, sym, subst, arith, lt_of_lt_of_le}
 use Rattle.sp_spec.specs.Lists.{Every}
-use Rattle.sp_spec.specs.Term.{Sort, Variable, Term, var}
+use Rattle.sp_spec.specs.Term.{Variable, Term, var}
 use Rattle.sp_spec.specs.Guarded.{Place, free, bound, Time, free_time, bound_time, Binder, message, time, Atom, Guarded, truth, falsity, holds, fails, all_of, one_of, some, every, pushed}
 use Rattle.sp_spec.specs.Unifier.{Pair}
 use Rattle.sp_system.specs.Change.{Change, atom_changed, changed, opened, opening, free_change}
-use Rattle.sp_system.specs.System.{Event, System, EachVariable, AtFree, AtFreeTime, InAtom, InFormula, InEvent, IsNumbered}
+use Rattle.sp_system.specs.System.{System, EachVariable, AtFree, AtFreeTime, InAtom, InFormula, InEvent, IsNumbered}
 use Rattle.sp_spec.proofs.Lists.{every_append, every_weaken}
 use Rattle.sp_system.proofs.Numbers.{PutsIn, atom_changed_in, changed_in, formula_weaken, event_weaken, each_weaken}
 use Rattle.sp_system.proofs.Solutions.{Under, TimeUnder}
-use Rattle.sp_step.specs.Rows.{Found, first_formula, spending, Existential, existential_of, opened_at, open_existential}
+use Rattle.sp_step.specs.Rows.{first_formula, Existential, existential_of, opened_at, open_existential}
 use Rattle.sp_step.proofs.Freed.{mapped}
-use Rattle.sp_step.proofs.Spending.{IsFound, is_found, found_holds, spending_numbered}
+use Rattle.sp_step.proofs.Spending.{is_found, found_holds, spending_numbered}
 
 pub weaken_numbered : (s t : System) (n : ℕ) → s.next ≤ n → t.events ≡ s.events → t.formulas ≡ s.formulas → t.spent ≡ s.spent → t.unequal ≡ s.unequal → t.next ≡ n → IsNumbered s → IsNumbered t
 weaken_numbered s t n le e f p u x k = record {
@@ -98,7 +98,7 @@ open_existential_numbered s t e n =
     let c = opening r.picked.binders s.next in
     let puts = opening_puts s.next r.picked.binders in
     let new = every_append (InFormula (Under next) (TimeUnder next)) (map (λ a. holds (atom_changed c a)) r.picked.guard) (changed c r.picked.body ∷ [])
-        (atoms_in _ _ _ _ c puts r.picked.guard i.0) (changed_in _ _ _ _ c puts r.picked.body i.1, tt) in
+    (atoms_in _ _ _ _ c puts r.picked.guard i.0) (changed_in _ _ _ _ c puts r.picked.body i.1, tt) in
     let k = spending_numbered existential_of wide r found (map (λ a. holds (atom_changed c a)) r.picked.guard ++ changed c r.picked.body ∷ []) new m in
     let P : System → Type 0 = λ w. IsNumbered w × (s.next ≤ w.next) in
     subst P (sym q.2) (record { events = k.events; formulas = k.formulas; spent = k.spent; unequal = k.unequal }, omega arith)

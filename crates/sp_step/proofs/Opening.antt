@@ -1,18 +1,15 @@
 -- Opening an existential formula covers: its variables get the values that make it true, in normal form.
-use Rattle.std.proofs.Common.{◌≡◌, ◌⊎◌, ◌≤◌, ◌<◌, ◌+◌, ℕ, zero, suc, Bool, true, false, ◌==◌, ◌&&◌, if◌then◌else◌, List, [], ◌∷◌, ◌++◌, map, length, Option, Some, None, option_map, refl, sym, ap, ap₂, ◌∙◌, subst, arith, lt_of_lt_of_le, le_refl, nat_eq}
+use Rattle.std.proofs.Common.{◌≡◌, ◌≤◌, ◌<◌, ℕ, zero, suc, Bool, true, false, ◌==◌, if◌then◌else◌, refl, sym, ap, ◌∙◌, subst, arith, lt_of_lt_of_le, nat_eq}
 use Rattle.std.proofs.lemmas.Bool.{eqb-true, eq-eqb}
-use Rattle.sp_spec.specs.Lists.{Every, Classically}
-use Rattle.sp_spec.specs.Term.{Sort, Msg, Fresh, Pub, Variable, Term, var, Ground, Values, valued}
-use Rattle.sp_spec.specs.Signature.{Signature, HasSort, IsOver, IsValue, IsValuation}
-use Rattle.sp_spec.specs.Equal.{Equal, IsNormal}
-use Rattle.sp_spec.specs.Execution.{Trace}
+use Rattle.sp_spec.specs.Term.{Sort, Variable, Term, var, Ground}
+use Rattle.sp_spec.specs.Signature.{IsValue, IsValuation}
+use Rattle.sp_spec.specs.Equal.{IsNormal}
 use Rattle.sp_spec.specs.Theory.{Theory, signature_of}
-use Rattle.sp_spec.specs.Guarded.{Place, free, bound, Time, free_time, bound_time, Binder, message, time, Atom, Guarded, some, Assignment, with_term, with_time, pushed, place_in, term_in, time_in, AtomsHold, GuardedHolds}
-use Rattle.sp_spec.specs.Same.{same_sort, same_variable}
-use Rattle.sp_law_equal.specs.Normal.{normal}
+use Rattle.sp_spec.specs.Guarded.{Place, free, bound, Time, free_time, bound_time, Assignment, with_term, with_time, pushed, place_in, term_in, time_in}
+use Rattle.sp_spec.specs.Same.{same_variable}
 use Rattle.sp_law_equal.proofs.Tests.{same_variable_decides}
-use Rattle.sp_system.specs.Change.{Change, opened, opening, free_change}
-use Rattle.sp_system.specs.System.{Valuation, assignment, AtomSettled, Settled, EachVariable, AtFree, AtFreeTime, Agrees}
+use Rattle.sp_system.specs.Change.{Change}
+use Rattle.sp_system.specs.System.{Valuation, assignment, EachVariable, AtFree, AtFreeTime, Agrees}
 use Rattle.sp_system.proofs.Facts.{valued_same}
 use Rattle.sp_system.proofs.Numbers.{each_weaken}
 use Rattle.sp_system.proofs.Solutions.{Under, TimeUnder}

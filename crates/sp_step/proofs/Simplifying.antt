@@ -1,10 +1,10 @@
 -- Each row covers, a contradiction has no solution, and so simplification covers.
-use Rattle.std.proofs.Common.{◌≡◌, ◌⊎◌, ◌≤◌, ◌<◌, ℕ, zero, suc, Bool, true, false, ◌||◌, List, [], ◌∷◌, Option, Some, None, refl, sym, ap, ◌∙◌, subst, arith, ⊎_elim, le_refl, le_trans, lt_of_lt_of_le}
+use Rattle.std.proofs.Common.{◌≡◌, ◌≤◌, ℕ, zero, suc, Bool, true, false, ◌||◌, List, [], ◌∷◌, Option, Some, None, refl, ap, ◌∙◌, ⊎_elim, le_refl, le_trans, lt_of_lt_of_le}
 use Rattle.std.proofs.lemmas.Bool.{or_cases}
 use Rattle.sp_spec.specs.Theory.{Theory, signature_of}
-use Rattle.sp_spec.specs.Log.{Log, IsLog}
+use Rattle.sp_spec.specs.Log.{Log}
 use Rattle.sp_law_equal.specs.Convergent.{AreConvergent, KeepSymbols}
-use Rattle.sp_system.specs.System.{System, Valuation, Solves, IsNumbered, Agrees, NoneSolved, Covers}
+use Rattle.sp_system.specs.System.{System, Valuation, IsNumbered, Agrees, NoneSolved, Covers}
 use Rattle.sp_system.specs.Laws.{UnifierIsRight}
 use Rattle.sp_step.specs.Rows.{Row, row_open, row_unequal, row_action_stands, row_fresh_once, rows, by_row, first_of, by_rows, has_equal_pair, has_refuted, fails_to_merge, first_twins, is_contradictory, goes_on, simplified_by}
 use Rattle.sp_step.specs.Laws.{HasNoSolution, ContradictionsHold, RowsCover}
@@ -53,9 +53,9 @@ module _ (right : UnifierIsRight) (theory : Theory) (good : AreConvergent (signa
       ⊎_elim
       (λ k. equal_pair_contradicts theory v s.unequal k h.unequal)
       (λ k. ⊎_elim
-        (λ l. some_refuted_contradicts theory log v s.formulas l h.formulas)
-        (λ l. merge_contradicts right theory s l n log is v h)
-        (or_cases (has_refuted s.formulas) (fails_to_merge s (first_twins s.events)) k))
+      (λ l. some_refuted_contradicts theory log v s.formulas l h.formulas)
+      (λ l. merge_contradicts right theory s l n log is v h)
+      (or_cases (has_refuted s.formulas) (fails_to_merge s (first_twins s.events)) k))
       (or_cases (has_equal_pair s.unequal) (has_refuted s.formulas || fails_to_merge s (first_twins s.events)) e)
 
   pub contradictions_hold : ContradictionsHold theory

@@ -1,6 +1,5 @@
 -- Values of facts.
-use Rattle.std.proofs.Common.{◌≡◌, List, [], ◌∷◌, map, refl, ap, ap₂, sym, ◌∙◌}
-use Rattle.sp_spec.specs.Lists.{Every}
+use Rattle.std.proofs.Common.{◌≡◌, List, refl, ap, ap₂, sym, ◌∙◌}
 use Rattle.sp_spec.specs.Term.{Variable, Term, var, constant, name, app, Terms, none, more, Values, valued, valued_all}
 use Rattle.sp_spec.specs.Rule.{Fact, Action, Facts, fact_at, action_at, facts_at}
 use Rattle.sp_spec.specs.Substitution.{Binding, bound_to, Fixes}
@@ -30,7 +29,6 @@ mutual
   pub valued_all_equal : {V W : Type 0} (v w : V → Term W) → ((x : V) → v x ≡ w x) → (ts : Terms V) → valued_all v ts ≡ valued_all w ts
   valued_all_equal v w e none = refl
   valued_all_equal v w e (more t ts) = ap₂ more (valued_equal v w e t) (valued_all_equal v w e ts)
-
 
 abbrev parts_of : {V : Type 0} → List (Fact V) → List (Action V) → List (Fact V) → Facts V
 parts_of ps as' cs = record { premises = ps; actions = as'; conclusions = cs }
