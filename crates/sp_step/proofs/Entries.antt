@@ -16,14 +16,14 @@ use Rattle.sp_law_equal.proofs.Facts.{facts_normal_form_only}
 use Rattle.sp_system.specs.System.{Valuation, Agrees}
 use Rattle.sp_step.specs.Laws.{FactsArePlain}
 
+pub length_trace : (log : Log) → length (log_trace log) ≡ length log
+length_trace [] = refl
+length_trace (e ∷ log) = ap suc (length_trace log)
+
 -- an entry of the log's trace is that of the log at the same position
 pub traced : (log : Log) (p : ℕ) (actions : List (Action ⊥)) → AtPosition (log_trace log) p actions → (e : Entry) × AtPosition log p e × (actions ≡ entry_actions e)
 traced [] p actions a = absurd a
 traced (e ∷ log) p actions (inl a) = (e, inl (a.0 ∙ length_trace log, refl), sym a.1)
-  where
-    length_trace : (log : Log) → length (log_trace log) ≡ length log
-    length_trace [] = refl
-    length_trace (d ∷ log) = ap suc (length_trace log)
 traced (e ∷ log) p actions (inr a) = let r = traced log p actions a in (r.0, inr r.1, r.2)
 
 -- the entry is an instance of a rule

@@ -1,5 +1,5 @@
 -- The rows on inequalities and standing actions, and the contradictions of literals.
-use Rattle.std.proofs.Common.{◌≡◌, ◌≤◌, ℕ, true, List, [], ◌∷◌, Option, Some, None, option_map, refl, sym, ap, ◌∙◌, subst, eqb-true, ⊎_elim, le_refl}
+use Rattle.std.proofs.Common.{◌≡◌, ◌≤◌, ℕ, true, List, [], ◌∷◌, Option, Some, None, option_map, sym, ap, ◌∙◌, subst, eqb-true, ⊎_elim, le_refl}
 use Rattle.std.proofs.lemmas.Bool.{or_cases}
 use Rattle.sp_spec.specs.Lists.{Every}
 use Rattle.sp_spec.specs.Term.{Variable, Term, Ground, valued}
@@ -11,15 +11,12 @@ use Rattle.sp_spec.specs.Same.{alike}
 use Rattle.sp_spec.specs.Substitution.{Binding}
 use Rattle.sp_spec.specs.Unifier.{Pair, mgu}
 use Rattle.sp_law_equal.proofs.Tests.{same_by_decides, same_variable_decides}
-use Rattle.sp_system.specs.System.{System, Valuation, assignment, FormulaHolds, AreUnequal, Solves, EachVariable, InFormula, IsNumbered, Agrees, Covers}
+use Rattle.sp_system.specs.System.{System, Valuation, assignment, FormulaHolds, AreUnequal, Solves, EachVariable, InFormula, IsNumbered, Covers}
 use Rattle.sp_spec.proofs.Lists.{every_append}
-use Rattle.sp_system.proofs.Solutions.{Under, TimeUnder}
+use Rattle.sp_system.proofs.Solutions.{Under, TimeUnder, agrees_itself}
 use Rattle.sp_step.specs.Rows.{first_formula, spending, pair_of, inequality_of, kept_unequal, unequal_at, unequal, standing_of, action_stands, freed, has_equal_pair, is_refuted, has_refuted}
 use Rattle.sp_step.proofs.Freed.{mapped, then_some, freed_value, freed_in}
 use Rattle.sp_step.proofs.Spending.{is_found, found_holds, spending_solves, spending_numbered}
-
-pub agrees_itself : (n : ℕ) (v : Valuation) → Agrees n v v
-agrees_itself n v = record { terms = λ x h. refl; times = λ i h. refl }
 
 -- one case that the same values solve
 pub covers_by_itself : (theory : Theory) (s t : System) → ((log : Log) → IsLog theory log → (v : Valuation) → Solves theory log v s → Solves theory log v t) → Covers theory s (t ∷ [])

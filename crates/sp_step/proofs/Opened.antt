@@ -1,12 +1,12 @@
 -- The row that opens an existential formula covers.
-use Rattle.std.proofs.Common.{◌≡◌, ◌≤◌, ◌<◌, ◌+◌, ℕ, zero, suc, List, [], ◌∷◌, ◌++◌, map, length, Some, refl, sym, ap, ◌∙◌, subst, arith, le_refl, lt_of_lt_of_le}
+use Rattle.std.proofs.Common.{◌≡◌, ◌<◌, ◌+◌, ℕ, zero, suc, List, [], ◌∷◌, ◌++◌, map, length, Some, refl, sym, ap, ◌∙◌, subst, arith, le_refl}
 use Rattle.sp_spec.specs.Lists.{Every}
 use Rattle.sp_spec.specs.Term.{Variable, var, Ground, valued}
 use Rattle.sp_spec.specs.Signature.{Signature, IsValue}
 use Rattle.sp_spec.specs.Equal.{Equal}
 use Rattle.sp_spec.specs.Execution.{Trace}
 use Rattle.sp_spec.specs.Theory.{Theory, signature_of}
-use Rattle.sp_spec.specs.Guarded.{Binder, message, time, Atom, Guarded, truth, falsity, holds, fails, all_of, one_of, some, every, Assignment, with_term, with_time, AtomsHold, GuardedHolds}
+use Rattle.sp_spec.specs.Guarded.{Binder, message, time, Atom, Guarded, holds, some, Assignment, with_term, with_time, AtomsHold, GuardedHolds}
 use Rattle.sp_spec.specs.Log.{Log, log_trace}
 use Rattle.sp_law_equal.specs.Normal.{normal}
 use Rattle.sp_law_equal.specs.Convergent.{AreConvergent, KeepSymbols}
@@ -17,10 +17,12 @@ use Rattle.sp_system.specs.Change.{Change, atom_changed, changed, opened, openin
 use Rattle.sp_system.specs.System.{System, Valuation, assignment, AtomSettled, Settled, FormulaHolds, Solves, InAtom, InFormula, IsNumbered, Agrees, Covers}
 use Rattle.sp_spec.proofs.Lists.{every_append}
 use Rattle.sp_system.proofs.Changing.{Reads, changed_same, settled_same, atoms_same, atoms_settled}
-use Rattle.sp_system.proofs.Solutions.{Under, TimeUnder, agree_solves}
-use Rattle.sp_step.specs.Rows.{first_formula, Existential, existential_of, opened_at, open_existential}
+use Rattle.sp_system.proofs.Solutions.{Under, TimeUnder, agrees_itself, agrees_then, agree_solves}
+use Rattle.sp_step.specs.Rows.{first_formula, existential_of, opened_at, open_existential}
 use Rattle.sp_step.proofs.Freed.{mapped}
 use Rattle.sp_step.proofs.Spending.{is_found, found_holds, spending_solves}
+use Rattle.sp_step.proofs.Entries.{length_trace}
+use Rattle.sp_step.proofs.OpenedNumbers.{found_formula}
 use Rattle.sp_step.proofs.Opening.{with_value, with_position, value_agrees, position_agrees, Opens, opens_message, opens_time, put_message, put_time}
 
 -- truth under equal values
@@ -29,16 +31,6 @@ EqualTruth = (signature : Signature) (trace : Trace) (f : Guarded) (m w : Assign
     → ((x : Variable) → Equal signature.equations (m.terms x) (w.terms x)) → ((i : ℕ) → m.times i ≡ w.times i)
     → ((k : ℕ) → Equal signature.equations (m.bound_terms k) (w.bound_terms k)) → ((k : ℕ) → m.bound_times k ≡ w.bound_times k)
     → GuardedHolds signature trace m f → GuardedHolds signature trace w f
-
-agrees_then : (n k : ℕ) (u v w : Valuation) → n ≤ k → Agrees n u v → Agrees k v w → Agrees n u w
-agrees_then n k u v w le a b = record {
-  terms = λ x h. b.terms x (lt_of_lt_of_le h le) ∙ a.terms x h;
-  times = λ i h. b.times i (lt_of_lt_of_le h le) ∙ a.times i h;
-}
-
-length_trace : (log : Log) → length (log_trace log) ≡ length log
-length_trace [] = refl
-length_trace (e ∷ log) = ap suc (length_trace log)
 
 module _ (theory : Theory) (good : AreConvergent (signature_of theory).equations) (keeps : KeepSymbols (signature_of theory).symbols (signature_of theory).equations) (equal_truth : EqualTruth) where
   module _ (log : Log) (guard : List Atom) (f : Guarded) (base : ℕ) where
@@ -51,7 +43,7 @@ module _ (theory : Theory) (good : AreConvergent (signature_of theory).equations
         → GuardedHolds (signature_of theory) (log_trace log) m (some bs guard f) → Settled (signature_of theory) (length log) m (some bs guard f)
         → ((w' : Valuation) (m' : Assignment) → Agrees next w w' → Opens theory base (next + length bs) (opened bs next c) w' m' → Parts m' → ⊥) → ⊥
     opened_holds [] next c w m o h k none =
-        none w m (record { terms = λ x l. refl; times = λ i l. refl }) (subst (λ (n : ℕ). Opens theory base n c w m) (omega arith) o) (h, k)
+        none w m (agrees_itself next w) (subst (λ (n : ℕ). Opens theory base n c w m) (omega arith) o) (h, k)
     opened_holds (message sort ∷ bs) next c w m o h k none = h (λ y.
         let es = (signature_of theory).equations in
         let t = normal es y.0 in
@@ -82,11 +74,6 @@ module _ (theory : Theory) (good : AreConvergent (signature_of theory).equations
     times = o.times;
   }
 
-  atoms_each : (log : Log) (w : Valuation) (atoms : List Atom) → AtomsHold (signature_of theory) (log_trace log) (assignment w) atoms → Every (AtomSettled (signature_of theory) (length log) (assignment w)) atoms
-      → Every (FormulaHolds theory log w) (map holds atoms)
-  atoms_each log w [] h k = tt
-  atoms_each log w (a ∷ atoms) h k = ((h.0, k.0), atoms_each log w atoms h.1 k.1)
-
   pub starts : (s : System) (log : Log) (v : Valuation) → Solves theory log v s → Opens theory s.next s.next (free_change var (λ i. i)) v (assignment v)
   starts s log v h = record {
     above = le_refl s.next;
@@ -101,19 +88,6 @@ module _ (theory : Theory) (good : AreConvergent (signature_of theory).equations
     sorts = h.sorts;
     normal_values = h.normal;
   }
-
-  found_formula : (f : Guarded) (e : Existential) → existential_of f ≡ Some e → f ≡ some e.binders e.guard e.body
-  found_formula (some bs guard f) e h =
-      let d : Existential = record { binders = bs; guard = guard; body = f } in
-      let g : d ≡ e = cc in
-      ap (λ (x : Existential). some x.binders x.guard x.body) g
-  found_formula truth e h = absurd cc
-  found_formula falsity e h = absurd cc
-  found_formula (holds a) e h = absurd cc
-  found_formula (fails a) e h = absurd cc
-  found_formula (all_of fs) e h = absurd cc
-  found_formula (one_of fs) e h = absurd cc
-  found_formula (every bs guard f) e h = absurd cc
 
   -- the new formulas hold where the guard and the body do under the assignment that is read
   new_hold : (log : Log) (base next : ℕ) (c : Change) (w : Valuation) (m : Assignment) → Opens theory base next c w m → (guard : List Atom) (f : Guarded)

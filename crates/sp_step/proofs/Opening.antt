@@ -74,14 +74,15 @@ agree_time : (n : ℕ) (v w : Valuation) → Agrees n v w → (i : Time) → AtF
 agree_time n v w a (free_time i) b = a.times i b
 agree_time n v w a (bound_time k) b = refl
 
-more_place : (n : ℕ) (t : Term Place) → EachVariable (AtFree (Under n)) t → EachVariable (AtFree (Under (suc n))) t
+-- what is under a number is under the next
+pub more_place : (n : ℕ) (t : Term Place) → EachVariable (AtFree (Under n)) t → EachVariable (AtFree (Under (suc n))) t
 more_place n t b = each_weaken (AtFree (Under n)) (AtFree (Under (suc n))) at t b
   where
     at : (p : Place) → AtFree (Under n) p → AtFree (Under (suc n)) p
     at (free x) h = omega (arith, h)
     at (bound k) h = tt
 
-more_time : (n : ℕ) (i : Time) → AtFreeTime (TimeUnder n) i → AtFreeTime (TimeUnder (suc n)) i
+pub more_time : (n : ℕ) (i : Time) → AtFreeTime (TimeUnder n) i → AtFreeTime (TimeUnder (suc n)) i
 more_time n (free_time i) b = omega (arith, b)
 more_time n (bound_time k) b = tt
 
