@@ -1,5 +1,5 @@
 -- The way to the unifier: each binding takes a variable out of the pairs, so that the number in its definition is never used up.
-use Rattle.std.proofs.Common.{◌≡◌, ℕ, zero, suc, ◌<◌, true, false, List, [], ◌∷◌, Some, None, refl, sym, ◌∙◌, arith, true≢false}
+use Rattle.std.proofs.Common.{◌≡◌, ℕ, zero, suc, ◌<◌, true, false, List, [], ◌∷◌, Some, None, refl, sym, ap, ◌∙◌, subst, arith, true≢false}
 use Rattle.std.proofs.lemmas.Bool.{false_from_ne_true}
 use Rattle.std.proofs.lemmas.List.Sums.{count_by-le-length, length-filter}
 use Rattle.sp_spec.specs.Term.{Variable, Term}
@@ -30,7 +30,7 @@ starts pairs = record {
 
 module _ (pairs : List Pair) (bs : List Binding) (way : OnTheWay pairs bs) where
   -- what is to be shown where this is the first difference
-  abbrev pub Outcome : Difference → Type 0
+  abbrev Outcome : Difference → Type 0
   Outcome no_difference = Some bs ≡ mgu pairs
   Outcome clash = None ≡ mgu pairs
   Outcome (binding x t) = OnTheWay pairs (followed_by bs ((x, t) ∷ [])) × (left_over (followed_by bs ((x, t) ∷ [])) pairs < left_over bs pairs)
@@ -64,10 +64,15 @@ module _ (pairs : List Pair) (bs : List Binding) (way : OnTheWay pairs bs) where
     falls x t told,
   )
 
-  -- the first difference is the end, or one step further on the way
-  pub goes_on : Outcome (first_difference bs pairs)
-  goes_on = by_left way.left way.enough way.same
+  -- a first difference is the end of the way, or one step further on it
+  pub reaches : (d : Difference) → first_difference bs pairs ≡ d → Outcome d
+  reaches d is = subst Outcome is (by_left way.left way.enough way.same)
     where
       by_left : (n : ℕ) → left_over bs pairs < n → unified n pairs bs ≡ mgu pairs → Outcome (first_difference bs pairs)
       by_left zero enough same = absurd (omega arith)
       by_left (suc n) enough same = outcome (first_difference bs pairs) (first_difference_tells Occurs bs pairs (λ y o. o)) n enough same
+
+  pub goes_on : (x : Variable) (t : Term Variable) (one made : List Binding) → first_difference bs pairs ≡ binding x t → one ≡ (x, t) ∷ [] → made ≡ followed_by bs one
+      → OnTheWay pairs made × (left_over made pairs < left_over bs pairs)
+  goes_on x t one made is single then =
+      subst (λ cs. OnTheWay pairs cs × (left_over cs pairs < left_over bs pairs)) (sym (then ∙ ap (followed_by bs) single)) (reaches (binding x t) is)

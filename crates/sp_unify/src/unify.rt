@@ -28,6 +28,24 @@ enum Step {
     Binds(Variable, Term),
 }
 
+/// The most general bindings that make each pair the same, or none where no terms of the sorts do.
+pub fn mgu(alloc: Global, pairs: &[(Term, Term)]) -> Result<Option<Subst>, AllocError>
+    ensures { IfOk result (λ r. option_map bindings r ≡ spec.mgu (map pair_view pairs.now)) }
+{
+    let mut subst = Subst::new(alloc);
+    loop {
+        match next_step(alloc, &subst, pairs)? {
+            Step::Done => return Ok(Some(subst)),
+            Step::Fails => return Ok(None),
+            Step::Binds(variable, term) => {
+                let mut next = Subst::new(alloc);
+                next.push(variable, term)?;
+                subst = subst.then(alloc, next)?;
+            }
+        }
+    }
+}
+
 fn next_step(alloc: Global, subst: &Subst, pairs: &[(Term, Term)]) -> Result<Step, AllocError>
     ensures { IfOk result (λ s. step_of s ≡ first_difference (bindings subst.now) (map pair_view pairs.now)) }
 {
