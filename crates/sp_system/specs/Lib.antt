@@ -2,3 +2,4 @@ pub mod Change
 pub mod System
 pub mod Equating
 pub mod Laws
+pub mod View
