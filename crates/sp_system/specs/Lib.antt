@@ -3,3 +3,4 @@ pub mod System
 pub mod Equating
 pub mod Laws
 pub mod View
+pub mod FormulaView
