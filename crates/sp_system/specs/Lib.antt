@@ -4,3 +4,4 @@ pub mod Equating
 pub mod Laws
 pub mod View
 pub mod FormulaView
+pub mod SystemView
