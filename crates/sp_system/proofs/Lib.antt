@@ -14,3 +14,4 @@ pub mod Unifier
 pub mod FreeChanges
 pub mod Rows
 pub mod Existentials
+pub mod Pairs

@@ -5,3 +5,4 @@ pub mod Laws
 pub mod View
 pub mod FormulaView
 pub mod SystemView
+pub mod Pairs

@@ -4,3 +4,4 @@
 pub mod fact;
 pub mod formula;
 pub mod system;
+pub mod pairing;
