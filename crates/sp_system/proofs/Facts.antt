@@ -30,7 +30,6 @@ mutual
   valued_all_equal v w e none = refl
   valued_all_equal v w e (more t ts) = ap₂ more (valued_equal v w e t) (valued_all_equal v w e ts)
 
-
 map_same : {A B : Type 0} (f g : A → B) (xs : List A) → Every (λ x. f x ≡ g x) xs → map f xs ≡ map g xs
 map_same f g [] e = refl
 map_same f g (x ∷ xs) e = ap₂ (λ y ys. y ∷ ys) e.0 (map_same f g xs e.1)

@@ -3,8 +3,8 @@ use Rattle.std.proofs.Common.{◌≡◌, ℕ, zero, suc, List, [], ◌∷◌, ma
 use Rattle.std.proofs.lemmas.Bool.{eqb-true}
 use Rattle.std.proofs.Math.Path.{fun_ext}
 use Rattle.sp_spec.specs.Term.{Variable, Term, var, valued}
-use Rattle.sp_spec.specs.Guarded.{Place, free, bound, Time, bound_time, Binder, message, time, Atom, Guarded, some, fails, pushed}
-use Rattle.sp_system.specs.Change.{Change, placed, place_changed, under, under_message, under_time, atom_changed, changed, free_change, raised, raised_time}
+use Rattle.sp_spec.specs.Guarded.{Place, free, bound, Time, bound_time, Binder, message, time, Atom, some, fails, pushed}
+use Rattle.sp_system.specs.Change.{Change, placed, place_changed, under, under_message, under_time, atom_changed, changed, free_change}
 use Rattle.sp_system.specs.Equating.{time_replaced}
 use Rattle.sp_system.proofs.Values.{valued-valued}
 

@@ -1,5 +1,5 @@
 -- The systems that systems in memory stand for.
-use Rattle.std.specs.Prelude.{List, map}
+use Rattle.std.specs.Prelude.{map}
 use Rattle.sp_spec.specs.Unifier.{Pair}
 use Rattle.sp_term.specs.View.{name_of, view}
 use Rattle.sp_term.specs.declared.term.Term.{Term}

@@ -122,11 +122,7 @@ fn copy_actions(alloc: Global, actions: &Vec<Action>) -> Result<Vec<Action>, All
     Ok(made)
 }
 
-fn changed_facts(
-    alloc: Global,
-    subst: &Subst,
-    facts: &Vec<Fact>,
-) -> Result<Vec<Fact>, AllocError>
+fn changed_facts(alloc: Global, subst: &Subst, facts: &Vec<Fact>) -> Result<Vec<Fact>, AllocError>
     ensures { IfOk result (λ fs. map fact_of fs.items ≡ map (fact_at (bound_to (bindings subst.now))) (map fact_of facts.now.items)) }
 {
     let mut made = Vec::with_capacity(alloc, facts.len())?;

@@ -3,5 +3,5 @@
 
 pub mod fact;
 pub mod formula;
-pub mod system;
 pub mod pairing;
+pub mod system;

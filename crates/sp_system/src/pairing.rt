@@ -122,7 +122,12 @@ pub fn merging_pairs(
     let Some(mut actions) = action_pairs(alloc, &left.facts.actions, &right.facts.actions)? else {
         return Ok(None);
     };
-    let Some(mut conclusions) = fact_pairs(alloc, &left.facts.conclusions, &right.facts.conclusions)? else {
+    let Some(mut conclusions) = fact_pairs(
+        alloc,
+        &left.facts.conclusions,
+        &right.facts.conclusions,
+    )?
+    else {
         return Ok(None);
     };
     made.append(&mut actions)?;

@@ -64,11 +64,7 @@ impl Event {
     {
         let rule = self.rule.copy()?;
         let facts = self.facts.changed(alloc, subst)?;
-        let time = if self.time == large {
-            small
-        } else {
-            self.time
-        };
+        let time = if self.time == large { small } else { self.time };
         Ok(Event { time, rule, facts })
     }
 }
@@ -119,10 +115,7 @@ fn changed_pair(
     Ok((left, right))
 }
 
-fn copy_pairs(
-    alloc: Global,
-    pairs: &Vec<(Term, Term)>,
-) -> Result<Vec<(Term, Term)>, AllocError>
+fn copy_pairs(alloc: Global, pairs: &Vec<(Term, Term)>) -> Result<Vec<(Term, Term)>, AllocError>
     ensures { IfOk result (λ ps. map pair_of ps.items ≡ map pair_of pairs.now.items) }
 {
     let mut made = Vec::with_capacity(alloc, pairs.len())?;

@@ -1,6 +1,6 @@
-use Rattle.std.proofs.Common.{◌≡◌, ℕ, sym, ◌∙◌, map, [], ◌∷◌, refl, arith}
+use Rattle.std.proofs.Common.{sym, ◌∙◌, map, [], ◌∷◌, refl, arith}
 use Rattle.std.proofs.lemmas.Grind.{common_steps}
-use Rattle.std.proofs.lemmas.Slice.Zip.{Zip-more, either_empty_from_Zip}
+use Rattle.std.proofs.lemmas.Slice.Zip.{either_empty_from_Zip}
 use Rattle.std.specs.Slice.Iter.{iter_rest}
 use Rattle.sp_term.specs.View.{view}
 use Rattle.sp_system.specs.SystemView.{pair_of}
@@ -24,5 +24,5 @@ returns c =
     let left = c.args.left.now.items in
     let right = c.args.right.now.items in
     sym (argument_pairs-listed left right
-        ∙ gathered_end term_pair left right (map pair_of c.loop-t.made.items) (iter_rest c.loop-t.t-iterator.a) (iter_rest c.loop-t.t-iterator.b)
-        (either_empty_from_Zip c.loop-t.t-iterator c.next.new.self c.next.result c.in-None.is c.next.ensures.steps) c.loop-t.invariant)
+    ∙ gathered_end term_pair left right (map pair_of c.loop-t.made.items) (iter_rest c.loop-t.t-iterator.a) (iter_rest c.loop-t.t-iterator.b)
+    (either_empty_from_Zip c.loop-t.t-iterator c.next.new.self c.next.result c.in-None.is c.next.ensures.steps) c.loop-t.invariant)
