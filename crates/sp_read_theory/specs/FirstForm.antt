@@ -1,0 +1,137 @@
+-- The one form of text that is read: a theory of one rule and one lemma, whose formula is All binders. actions ==> variable = variable.
+-- `R tokens x rest` says that the tokens begin with x, which R reads, and that the rest follows. Source: Tamarin manual, "Syntax description".
+use Rattle.std.specs.Prelude.{◌≡◌, ℕ, suc, ◌<◌, Bool, true, false, List, [], ◌∷◌, map, Some, codes}
+use Rattle.sp_lex.specs.declared.token.Sign.{Sign}
+use Rattle.sp_lex.specs.declared.token.Sign.TheVariants as s
+use Rattle.sp_lex.specs.Lexeme.{Lexeme, word, constant, sign}
+use Rattle.sp_spec.specs.Term.{Term, var, Terms, none, more}
+use Rattle.sp_spec.specs.Term as t
+use Rattle.sp_spec.specs.Rule.{Fact, Action}
+use Rattle.sp_spec.specs.Formula.{Mark, bare, Written, Formula, truth, happens, equals, both, implies, for_all}
+use Rattle.sp_spec.specs.Theory.{all_traces, Lemma}
+use Rattle.sp_spec.specs.Written.{WrittenRule, WrittenTheory}
+use Rattle.sp_read_theory.specs.Names.{IsName, names_fact, mark_of, mark_at}
+
+-- another token stands first, or none
+abbrev pub IsNotFirst : Lexeme → List Lexeme → Type 0
+IsNotFirst x tokens = (rest : List Lexeme) → tokens ≡ x ∷ rest → ⊥
+
+-- the tokens begin with nothing that R reads
+pub record NoReading {A : Type 0} (R : List Lexeme → A → List Lexeme → Type 0) (tokens : List Lexeme) : Type 0 where
+  pub none : (x : A) (rest : List Lexeme) → R tokens x rest → ⊥
+
+abbrev pub written : List ℕ → Mark → Written
+written w m = record { name = w; mark = m }
+
+pub data IsNameFirst : List Lexeme → List ℕ → List Lexeme → Type 0 where
+  name : {w : List ℕ} {rest : List Lexeme} → IsName w → IsNameFirst (word w ∷ rest) w rest
+
+-- a variable; behind a bare name there is no colon
+pub data IsVariable : List Lexeme → Written → List Lexeme → Type 0 where
+  marked : {x : Sign} {m : Mark} {w : List ℕ} {tokens rest : List Lexeme} → mark_at x ≡ Some m → IsNameFirst tokens w rest → IsVariable (sign x ∷ tokens) (written w m) rest
+  sorted : {w k : List ℕ} {m : Mark} {tokens rest : List Lexeme} → IsNameFirst tokens w (sign s.Colon ∷ word k ∷ rest) → mark_of k ≡ Some m → IsVariable tokens (written w m) rest
+  plain : {w : List ℕ} {tokens rest : List Lexeme} → IsNameFirst tokens w rest → IsNotFirst (sign s.Colon) rest → IsVariable tokens (written w bare) rest
+
+-- a term at this nesting, which counts the brackets around it
+pub data IsTerm : ℕ → List Lexeme → Term Written → List Lexeme → Type 0 where
+  variable : {n : ℕ} {v : Written} {tokens rest : List Lexeme} → IsVariable tokens v rest → IsTerm n tokens (var v) rest
+  fixed : {n : ℕ} {c : List ℕ} {rest : List Lexeme} → IsTerm n (constant c ∷ rest) (t.constant c) rest
+  brackets : {n : ℕ} {x : Term Written} {tokens rest : List Lexeme} → n < 128 → IsTerm (suc n) tokens x (sign s.Close ∷ rest) → IsTerm n (sign s.Open ∷ tokens) x rest
+
+-- parts with one sign between two of them, and another behind the last
+pub data AreParts {A : Type 0} (R : List Lexeme → A → List Lexeme → Type 0) (between close : Sign) : List Lexeme → List A → List Lexeme → Type 0 where
+  last : {x : A} {tokens rest : List Lexeme} → R tokens x (sign close ∷ rest) → AreParts R between close tokens (x ∷ []) rest
+  next : {x : A} {xs : List A} {tokens mid rest : List Lexeme} → R tokens x (sign between ∷ mid) → AreParts R between close mid xs rest → AreParts R between close tokens (x ∷ xs) rest
+
+-- parts with commas, or none
+pub data AreItems {A : Type 0} (R : List Lexeme → A → List Lexeme → Type 0) (close : Sign) : List Lexeme → List A → List Lexeme → Type 0 where
+  empty : {rest : List Lexeme} → AreItems R close (sign close ∷ rest) [] rest
+  some : {xs : List A} {tokens rest : List Lexeme} → AreParts R s.Comma close tokens xs rest → AreItems R close tokens xs rest
+
+abbrev pub row : List (Term Written) → Terms Written
+row [] = none
+row (x ∷ xs) = more x (row xs)
+
+abbrev pub fact : List ℕ → Bool → List (Term Written) → Fact Written
+fact w persistent args = record { symbol = w; persistent = persistent; args = row args }
+
+-- behind the name of a fact
+pub data AreArguments (n : ℕ) : List Lexeme → List (Term Written) → List Lexeme → Type 0 where
+  arguments : {args : List (Term Written)} {tokens rest : List Lexeme} → n < 128 → AreItems (IsTerm (suc n)) s.Close tokens args rest → AreArguments n (sign s.Open ∷ tokens) args rest
+
+pub data IsFact (n : ℕ) : List Lexeme → Fact Written → List Lexeme → Type 0 where
+  linear : {w : List ℕ} {args : List (Term Written)} {tokens rest : List Lexeme} → names_fact w ≡ true → AreArguments n tokens args rest → IsFact n (word w ∷ tokens) (fact w false args) rest
+  persistent : {w : List ℕ} {args : List (Term Written)} {tokens rest : List Lexeme} → names_fact w ≡ true → AreArguments n tokens args rest → IsFact n (sign s.Bang ∷ word w ∷ tokens) (fact w true args) rest
+
+-- `[` fact,* `]`
+pub data AreFacts : List Lexeme → List (Fact Written) → List Lexeme → Type 0 where
+  facts : {fs : List (Fact Written)} {tokens rest : List Lexeme} → AreItems (IsFact 0) s.CloseList tokens fs rest → AreFacts (sign s.OpenList ∷ tokens) fs rest
+
+-- `-->` or `--[` fact,* `]->`
+pub data IsArrow : List Lexeme → List (Fact Written) → List Lexeme → Type 0 where
+  unlabelled : {rest : List Lexeme} → IsArrow (sign s.Arrow ∷ rest) [] rest
+  labelled : {fs : List (Fact Written)} {tokens rest : List Lexeme} → AreItems (IsFact 0) s.CloseArrow tokens fs rest → IsArrow (sign s.OpenArrow ∷ tokens) fs rest
+
+-- the keyword, a name, and a colon
+pub data IsHeader (keyword : List ℕ) : List Lexeme → List ℕ → List Lexeme → Type 0 where
+  header : {w : List ℕ} {rest : List Lexeme} → IsName w → IsHeader keyword (word keyword ∷ word w ∷ sign s.Colon ∷ rest) w rest
+
+-- an exclamation mark at an action says nothing
+abbrev pub action_of : Fact Written → Action Written
+action_of f = record { symbol = f.symbol; args = f.args }
+
+abbrev pub rule_of : List ℕ → List (Fact Written) → List (Fact Written) → List (Fact Written) → WrittenRule
+rule_of w premises actions conclusions = record { name = w; facts = record { premises = premises; actions = map action_of actions; conclusions = conclusions } }
+
+pub data IsRule : List Lexeme → WrittenRule → List Lexeme → Type 0 where
+  rule : {w : List ℕ} {premises actions conclusions : List (Fact Written)} {tokens body mid behind rest : List Lexeme} → IsHeader (codes "rule") tokens w body → AreFacts body premises mid → IsArrow mid actions behind → AreFacts behind conclusions rest
+      → IsRule tokens (rule_of w premises actions conclusions) rest
+
+-- var+ `.`
+pub data AreBinders : List Lexeme → List Written → List Lexeme → Type 0 where
+  last : {v : Written} {tokens rest : List Lexeme} → IsVariable tokens v (sign s.Dot ∷ rest) → AreBinders tokens (v ∷ []) rest
+  next : {v : Written} {vs : List Written} {tokens mid rest : List Lexeme} → IsVariable tokens v mid → AreBinders mid vs rest → AreBinders tokens (v ∷ vs) rest
+
+-- a fact and the time at which it happens
+pub record Event : Type 0 where
+  pub fact : Fact Written
+  pub at : Written
+
+-- fact `@` var, inside one quantifier
+pub data IsEvent : List Lexeme → Event → List Lexeme → Type 0 where
+  happening : {f : Fact Written} {v : Written} {tokens mid rest : List Lexeme} → IsFact 1 tokens f (sign s.At ∷ mid) → IsVariable mid v rest → IsEvent tokens (record { fact = f; at = v }) rest
+
+-- var `=` var
+pub data IsEquation : List Lexeme → Formula → List Lexeme → Type 0 where
+  equation : {a b : Written} {tokens mid rest : List Lexeme} → IsVariable tokens a (sign s.Equals ∷ mid) → IsVariable mid b rest → IsEquation tokens (equals (var a) (var b)) rest
+
+abbrev pub happens_at : Event → Formula
+happens_at e = happens (action_of e.fact) e.at
+
+-- `&` groups to the left
+abbrev pub joined_after : Formula → List Event → Formula
+joined_after f [] = f
+joined_after f (e ∷ es) = joined_after (both f (happens_at e)) es
+
+abbrev pub joined : List Event → Formula
+joined [] = truth
+joined (e ∷ es) = joined_after (happens_at e) es
+
+abbrev pub quantified : List Written → Formula → Formula
+quantified [] f = f
+quantified (v ∷ vs) f = for_all v (quantified vs f)
+
+abbrev pub lemma_of : List ℕ → List Written → List Event → Formula → Lemma
+lemma_of w binders events f = record { name = w; kind = all_traces; formula = quantified binders (implies (joined events) f) }
+
+-- All var+ `.` happening (`&` happening)* `==>` var `=` var, in quotes
+pub data IsLemma : List Lexeme → Lemma → List Lexeme → Type 0 where
+  lemma : {w : List ℕ} {binders : List Written} {events : List Event} {e : Formula} {tokens body guard right rest : List Lexeme} → IsHeader (codes "lemma") tokens w (sign s.Quote ∷ word (codes "All") ∷ body) → AreBinders body binders guard → AreParts IsEvent s.And s.Implies guard events right
+      → IsEquation right e (sign s.Quote ∷ rest) → IsLemma tokens (lemma_of w binders events e) rest
+
+abbrev pub theory_of : List ℕ → WrittenRule → Lemma → WrittenTheory
+theory_of w r l = record { name = w; rules = r ∷ []; restrictions = []; lemmas = l ∷ [] }
+
+pub data IsFirstForm : List Lexeme → WrittenTheory → Type 0 where
+  first_form : {w : List ℕ} {r : WrittenRule} {l : Lemma} {tokens mid : List Lexeme} → IsName w → IsRule tokens r mid → IsLemma mid l (word (codes "end") ∷ [])
+      → IsFirstForm (word (codes "theory") ∷ word w ∷ word (codes "begin") ∷ tokens) (theory_of w r l)

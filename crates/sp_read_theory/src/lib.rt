@@ -1,0 +1,6 @@
+// Reads a theory.
+#![tactic(auto)]
+
+mod written;
+mod read;
+pub use written::{Mark, ReadTheory, WrittenEvent, WrittenFact, WrittenLemma, WrittenRule, WrittenTerm, WrittenVariable};
