@@ -1,2 +1,3 @@
 pub mod One
 pub mod Steps
+pub mod Loops

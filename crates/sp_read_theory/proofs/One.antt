@@ -1,5 +1,5 @@
 -- Each part is read in one way.
-use Rattle.std.proofs.Common.{◌≡◌, ℕ, suc, ◌<◌, true, false, List, [], ◌∷◌, Option, Some, None, codes, refl, sym, ap, ap₂, subst, ◌∙◌}
+use Rattle.std.proofs.Common.{◌≡◌, ℕ, suc, ◌<◌, Bool, true, false, List, [], ◌∷◌, Option, Some, None, codes, refl, sym, ap, ap₂, subst, ◌∙◌}
 use Rattle.sp_lex.specs.declared.token.Sign.{Sign}
 use Rattle.sp_lex.specs.declared.token.Sign.TheVariants as s
 use Rattle.sp_lex.specs.Lexeme.{Lexeme, word, constant, sign}
@@ -10,7 +10,7 @@ use Rattle.sp_spec.specs.Formula.{Mark, bare, Written, Formula}
 use Rattle.sp_spec.specs.Theory.{Lemma}
 use Rattle.sp_spec.specs.Written.{WrittenRule, WrittenTheory}
 use Rattle.sp_read_theory.specs.Names.{mark_of, mark_at}
-use Rattle.sp_read_theory.specs.FirstForm.{NoReading, written, IsNameFirst, name, IsVariable, marked, sorted, plain, IsTerm, variable, fixed, brackets, AreParts, last, next, AreItems, empty, some, AreArguments, arguments, fact, IsFact, linear, persistent, AreFacts, facts, IsArrow, unlabelled, labelled, IsHeader, header, IsRule, rule, AreBinders, Event, IsEvent, happening, IsEquation, equation, IsLemma, lemma, theory_of, IsFirstForm, first_form}
+use Rattle.sp_read_theory.specs.FirstForm.{NoReading, written, IsNameFirst, name, IsSort, sort, IsVariable, marked, sorted, plain, IsPlainTerm, variable, fixed, IsTerm, unbracketed, brackets, AreParts, last, next, AreItems, empty, some, AreArguments, arguments, fact, IsNamedFact, named, IsFact, linear, persistent, AreFacts, facts, IsArrow, unlabelled, labelled, IsHeader, header, IsRule, rule, AreBinders, Event, IsEvent, happening, IsEquation, equation, IsLemma, lemma, theory_of, IsFirstForm, first_form}
 
 -- what is read, and what follows it, are fixed by the tokens
 pub record One {A : Type 0} (R : List Lexeme → A → List Lexeme → Type 0) : Type 0 where
@@ -22,15 +22,18 @@ name_one (name h) (name k) = (refl, refl)
 some_one : {m o : Mark} {c : Option Mark} → c ≡ Some m → c ≡ Some o → m ≡ o
 some_one e f = let g = sym e ∙ f in cc
 
+pub sort_one : {tokens r q : List Lexeme} {m o : Mark} → IsSort tokens m r → IsSort tokens o q → (m ≡ o) × (r ≡ q)
+sort_one (sort e) (sort f) = (some_one e f, refl)
+
 pub variable_one : {tokens r q : List Lexeme} {v w : Written} → IsVariable tokens v r → IsVariable tokens w q → (v ≡ w) × (r ≡ q)
 variable_one (marked e h) (marked f k) = let o = name_one h k in let g = some_one e f in (rw (o.0, g) refl, o.1)
 variable_one (marked e h) (sorted k f) = elim k [ ]
 variable_one (marked e h) (plain k f) = elim k [ ]
 variable_one (sorted k f) (marked e h) = elim k [ ]
 variable_one (plain k f) (marked e h) = elim k [ ]
-variable_one (sorted (name h) e) (sorted (name k) f) = let g = some_one e f in (rw g refl, refl)
-variable_one (sorted {k = c} {rest = r} (name h) e) (plain (name k) f) = absurd (f (word c ∷ r) refl)
-variable_one (plain (name k) f) (sorted {k = c} {rest = r} (name h) e) = absurd (f (word c ∷ r) refl)
+variable_one (sorted (name {w = w} h) e) (sorted (name k) f) = let o = sort_one e f in (ap (written w) o.0, o.1)
+variable_one (sorted {behind = b} (name h) e) (plain (name k) f) = absurd (f b refl)
+variable_one (plain (name k) f) (sorted {behind = b} (name h) e) = absurd (f b refl)
 variable_one (plain (name h) e) (plain (name k) f) = (refl, refl)
 
 -- no variable begins with a constant, nor with a sign that marks none
@@ -43,18 +46,24 @@ variable_sign n (marked e h) = let g = sym n ∙ e in cc
 variable_sign n (sorted h e) = elim h [ ]
 variable_sign n (plain h e) = elim h [ ]
 
+pub plain_one : {tokens r q : List Lexeme} {x y : Term Written} → IsPlainTerm tokens x r → IsPlainTerm tokens y q → (x ≡ y) × (r ≡ q)
+plain_one (variable h) (variable k) = let o = variable_one h k in (ap (λ (v : Written). var v) o.0, o.1)
+plain_one (variable h) fixed = absurd (variable_constant h)
+plain_one fixed (variable k) = absurd (variable_constant k)
+plain_one fixed fixed = (refl, refl)
+
+pub plain_sign : {x : Sign} {tokens r : List Lexeme} {y : Term Written} → mark_at x ≡ None → IsPlainTerm (sign x ∷ tokens) y r → ⊥
+plain_sign e (variable h) = variable_sign e h
+
 pub term_one : {n : ℕ} {tokens r q : List Lexeme} {x y : Term Written} → IsTerm n tokens x r → IsTerm n tokens y q → (x ≡ y) × (r ≡ q)
-term_one (variable h) (variable k) = let o = variable_one h k in (ap (λ (v : Written). var v) o.0, o.1)
-term_one (variable h) fixed = absurd (variable_constant h)
-term_one (variable h) (brackets lt k) = absurd (variable_sign refl h)
-term_one fixed (variable k) = absurd (variable_constant k)
-term_one fixed fixed = (refl, refl)
-term_one (brackets lt h) (variable k) = absurd (variable_sign refl k)
+term_one (unbracketed h) (unbracketed k) = plain_one h k
+term_one (unbracketed h) (brackets lt k) = absurd (plain_sign refl h)
+term_one (brackets lt h) (unbracketed k) = absurd (plain_sign refl k)
 term_one (brackets lt h) (brackets gt k) = let o = term_one h k in let e = o.1 in (o.0, cc)
 
 -- no term begins with a sign that neither marks a variable nor opens a bracket
 pub term_sign : {n : ℕ} {x : Sign} {tokens r : List Lexeme} {y : Term Written} → mark_at x ≡ None → (x ≡ s.Open → ⊥) → IsTerm n (sign x ∷ tokens) y r → ⊥
-term_sign e d (variable h) = variable_sign e h
+term_sign e d (unbracketed h) = plain_sign e h
 term_sign e d (brackets lt h) = d refl
 
 pub parts_one : {A : Type 0} {R : List Lexeme → A → List Lexeme → Type 0} {between close : Sign} → One R → (between ≡ close → ⊥) → {tokens r q : List Lexeme} {xs ys : List A}
@@ -82,21 +91,27 @@ items_one o d c (empty {rest = r}) k = items_closed c k r refl
 items_one o d c (some h) (empty {rest = r}) = let e = items_closed c (some h) r refl in (sym e.0, sym e.1)
 items_one o d c (some h) (some k) = parts_one o d h k
 
-terms : {n : ℕ} → One (IsTerm n)
+pub terms : {n : ℕ} → One (IsTerm n)
 terms = record { one = term_one }
 
 pub arguments_one : {n : ℕ} {tokens r q : List Lexeme} {xs ys : List (Term Written)} → AreArguments n tokens xs r → AreArguments n tokens ys q → (xs ≡ ys) × (r ≡ q)
 arguments_one (arguments lt h) (arguments gt k) = items_one terms (λ e. cc) (λ ts r x t. term_sign refl (λ e. cc) t) h k
 
+pub named_one : {n : ℕ} {p : Bool} {tokens r q : List Lexeme} {f g : Fact Written} → IsNamedFact n p tokens f r → IsNamedFact n p tokens g q → (f ≡ g) × (r ≡ q)
+named_one {p = p} (named {w = w} e h) (named f k) = let o = arguments_one h k in (ap (λ (xs : List (Term Written)). fact w p xs) o.0, o.1)
+
 pub fact_one : {n : ℕ} {tokens r q : List Lexeme} {f g : Fact Written} → IsFact n tokens f r → IsFact n tokens g q → (f ≡ g) × (r ≡ q)
-fact_one (linear {w = w} e h) (linear f k) = let o = arguments_one h k in (ap (λ (xs : List (Term Written)). fact w false xs) o.0, o.1)
-fact_one (persistent {w = w} e h) (persistent f k) = let o = arguments_one h k in (ap (λ (xs : List (Term Written)). fact w true xs) o.0, o.1)
+fact_one (linear h) (linear k) = named_one h k
+fact_one (linear h) (persistent k) = elim h [ ]
+fact_one (persistent h) (linear k) = elim k [ ]
+fact_one (persistent h) (persistent k) = named_one h k
 
 -- of the signs only `!` begins a fact
 pub fact_sign : {n : ℕ} {x : Sign} {tokens r : List Lexeme} {f : Fact Written} → (x ≡ s.Bang → ⊥) → IsFact n (sign x ∷ tokens) f r → ⊥
-fact_sign d (persistent e h) = d refl
+fact_sign d (linear h) = elim h [ ]
+fact_sign d (persistent h) = d refl
 
-facts' : {n : ℕ} → One (IsFact n)
+pub facts' : {n : ℕ} → One (IsFact n)
 facts' = record { one = fact_one }
 
 pub facts_one : {tokens r q : List Lexeme} {fs gs : List (Fact Written)} → AreFacts tokens fs r → AreFacts tokens gs q → (fs ≡ gs) × (r ≡ q)

@@ -1,6 +1,6 @@
 -- The one form of text that is read: a theory of one rule and one lemma, whose formula is All binders. actions ==> variable = variable.
 -- `R tokens x rest` says that the tokens begin with x, which R reads, and that the rest follows. Source: Tamarin manual, "Syntax description".
-use Rattle.std.specs.Prelude.{◌≡◌, ℕ, suc, ◌<◌, Bool, true, false, List, [], ◌∷◌, map, Some, codes}
+use Rattle.std.specs.Prelude.{◌≡◌, ℕ, ◌+◌, ◌<◌, Bool, true, false, List, [], ◌∷◌, map, Some, codes}
 use Rattle.sp_lex.specs.declared.token.Sign.{Sign}
 use Rattle.sp_lex.specs.declared.token.Sign.TheVariants as s
 use Rattle.sp_lex.specs.Lexeme.{Lexeme, word, constant, sign}
@@ -16,6 +16,9 @@ use Rattle.sp_read_theory.specs.Names.{IsName, names_fact, mark_of, mark_at}
 abbrev pub IsNotFirst : Lexeme → List Lexeme → Type 0
 IsNotFirst x tokens = (rest : List Lexeme) → tokens ≡ x ∷ rest → ⊥
 
+abbrev pub IsNoWord : List Lexeme → Type 0
+IsNoWord tokens = (w : List ℕ) (rest : List Lexeme) → tokens ≡ word w ∷ rest → ⊥
+
 -- the tokens begin with nothing that R reads
 pub record NoReading {A : Type 0} (R : List Lexeme → A → List Lexeme → Type 0) (tokens : List Lexeme) : Type 0 where
   pub none : (x : A) (rest : List Lexeme) → R tokens x rest → ⊥
@@ -26,17 +29,23 @@ written w m = record { name = w; mark = m }
 pub data IsNameFirst : List Lexeme → List ℕ → List Lexeme → Type 0 where
   name : {w : List ℕ} {rest : List Lexeme} → IsName w → IsNameFirst (word w ∷ rest) w rest
 
+pub data IsSort : List Lexeme → Mark → List Lexeme → Type 0 where
+  sort : {k : List ℕ} {m : Mark} {rest : List Lexeme} → mark_of k ≡ Some m → IsSort (word k ∷ rest) m rest
+
 -- a variable; behind a bare name there is no colon
 pub data IsVariable : List Lexeme → Written → List Lexeme → Type 0 where
   marked : {x : Sign} {m : Mark} {w : List ℕ} {tokens rest : List Lexeme} → mark_at x ≡ Some m → IsNameFirst tokens w rest → IsVariable (sign x ∷ tokens) (written w m) rest
-  sorted : {w k : List ℕ} {m : Mark} {tokens rest : List Lexeme} → IsNameFirst tokens w (sign s.Colon ∷ word k ∷ rest) → mark_of k ≡ Some m → IsVariable tokens (written w m) rest
+  sorted : {w : List ℕ} {m : Mark} {tokens behind rest : List Lexeme} → IsNameFirst tokens w (sign s.Colon ∷ behind) → IsSort behind m rest → IsVariable tokens (written w m) rest
   plain : {w : List ℕ} {tokens rest : List Lexeme} → IsNameFirst tokens w rest → IsNotFirst (sign s.Colon) rest → IsVariable tokens (written w bare) rest
+
+pub data IsPlainTerm : List Lexeme → Term Written → List Lexeme → Type 0 where
+  variable : {v : Written} {tokens rest : List Lexeme} → IsVariable tokens v rest → IsPlainTerm tokens (var v) rest
+  fixed : {c : List ℕ} {rest : List Lexeme} → IsPlainTerm (constant c ∷ rest) (t.constant c) rest
 
 -- a term at this nesting, which counts the brackets around it
 pub data IsTerm : ℕ → List Lexeme → Term Written → List Lexeme → Type 0 where
-  variable : {n : ℕ} {v : Written} {tokens rest : List Lexeme} → IsVariable tokens v rest → IsTerm n tokens (var v) rest
-  fixed : {n : ℕ} {c : List ℕ} {rest : List Lexeme} → IsTerm n (constant c ∷ rest) (t.constant c) rest
-  brackets : {n : ℕ} {x : Term Written} {tokens rest : List Lexeme} → n < 128 → IsTerm (suc n) tokens x (sign s.Close ∷ rest) → IsTerm n (sign s.Open ∷ tokens) x rest
+  unbracketed : {n : ℕ} {x : Term Written} {tokens rest : List Lexeme} → IsPlainTerm tokens x rest → IsTerm n tokens x rest
+  brackets : {n : ℕ} {x : Term Written} {tokens rest : List Lexeme} → n < 128 → IsTerm (n + 1) tokens x (sign s.Close ∷ rest) → IsTerm n (sign s.Open ∷ tokens) x rest
 
 -- parts with one sign between two of them, and another behind the last
 pub data AreParts {A : Type 0} (R : List Lexeme → A → List Lexeme → Type 0) (between close : Sign) : List Lexeme → List A → List Lexeme → Type 0 where
@@ -57,11 +66,14 @@ fact w persistent args = record { symbol = w; persistent = persistent; args = ro
 
 -- behind the name of a fact
 pub data AreArguments (n : ℕ) : List Lexeme → List (Term Written) → List Lexeme → Type 0 where
-  arguments : {args : List (Term Written)} {tokens rest : List Lexeme} → n < 128 → AreItems (IsTerm (suc n)) s.Close tokens args rest → AreArguments n (sign s.Open ∷ tokens) args rest
+  arguments : {args : List (Term Written)} {tokens rest : List Lexeme} → n < 128 → AreItems (IsTerm (n + 1)) s.Close tokens args rest → AreArguments n (sign s.Open ∷ tokens) args rest
+
+pub data IsNamedFact (n : ℕ) (persistent : Bool) : List Lexeme → Fact Written → List Lexeme → Type 0 where
+  named : {w : List ℕ} {args : List (Term Written)} {tokens rest : List Lexeme} → names_fact w ≡ true → AreArguments n tokens args rest → IsNamedFact n persistent (word w ∷ tokens) (fact w persistent args) rest
 
 pub data IsFact (n : ℕ) : List Lexeme → Fact Written → List Lexeme → Type 0 where
-  linear : {w : List ℕ} {args : List (Term Written)} {tokens rest : List Lexeme} → names_fact w ≡ true → AreArguments n tokens args rest → IsFact n (word w ∷ tokens) (fact w false args) rest
-  persistent : {w : List ℕ} {args : List (Term Written)} {tokens rest : List Lexeme} → names_fact w ≡ true → AreArguments n tokens args rest → IsFact n (sign s.Bang ∷ word w ∷ tokens) (fact w true args) rest
+  linear : {f : Fact Written} {tokens rest : List Lexeme} → IsNamedFact n false tokens f rest → IsFact n tokens f rest
+  persistent : {f : Fact Written} {tokens rest : List Lexeme} → IsNamedFact n true tokens f rest → IsFact n (sign s.Bang ∷ tokens) f rest
 
 -- `[` fact,* `]`
 pub data AreFacts : List Lexeme → List (Fact Written) → List Lexeme → Type 0 where

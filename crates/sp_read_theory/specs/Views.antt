@@ -1,5 +1,5 @@
 -- What the code's values stand for.
-use Rattle.std.specs.Prelude.{◌≡◌, ℕ, List, [], ◌∷◌, map}
+use Rattle.std.specs.Prelude.{◌≡◌, ℕ, List, [], ◌∷◌, map, drop}
 use Rattle.sp_lex.specs.declared.token.Token as lexer
 use Rattle.sp_lex.specs.Lexeme.{Lexeme}
 use Rattle.sp_lex.specs.Lex.{lexemes}
@@ -27,6 +27,10 @@ use Rattle.sp_read_theory.specs.declared.written.ReadTheory.{ReadTheory}
 -- the tokens as they read
 abbrev pub seen : List lexer.Token → List Lexeme
 seen tokens = lexemes (tokens_of tokens)
+
+-- those from this place on
+abbrev pub seen_from : List lexer.Token → ℕ → List Lexeme
+seen_from tokens place = seen (drop place tokens)
 
 abbrev pub mark : Mark → formula.Mark
 mark m.Bare = formula.bare

@@ -2,5 +2,7 @@
 #![tactic(auto)]
 
 mod written;
-mod read;
+mod cursor;
+mod terms;
+mod words;
 pub use written::{Mark, ReadTheory, WrittenEvent, WrittenFact, WrittenLemma, WrittenRule, WrittenTerm, WrittenVariable};
