@@ -3,6 +3,7 @@
 
 mod written;
 mod cursor;
+mod facts;
 mod terms;
 mod words;
 pub use written::{Mark, ReadTheory, WrittenEvent, WrittenFact, WrittenLemma, WrittenRule, WrittenTerm, WrittenVariable};

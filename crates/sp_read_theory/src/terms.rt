@@ -10,7 +10,7 @@ use sp_lex::{Lexeme, Sign, Token};
 use std::alloc::{AllocError, Global};
 
 /// A name, and the tokens behind it.
-#[tactic(auto, using(crate::proofs::Steps::variables))]
+#[tactic(auto, using(crate::proofs::Steps::names))]
 pub fn name<'a>(tokens: &[Token<'a>], at: usize) -> Option<(&'a str, usize)>
     ensures value { MatchOption result (NoReading IsNameFirst (seen_from tokens.now at)) (λ x. IsNameFirst (seen_from tokens.now at) x.0.now (seen_from tokens.now x.1)) }
     ensures further { IfSome result (λ x. (at < x.1) × (x.1 ≤ length tokens.now)) }
@@ -20,7 +20,7 @@ pub fn name<'a>(tokens: &[Token<'a>], at: usize) -> Option<(&'a str, usize)>
 }
 
 /// The word of a sort, and the tokens behind it.
-#[tactic(auto, using(crate::proofs::Steps::variables))]
+#[tactic(auto, using(crate::proofs::Steps::sorts))]
 pub fn sort<'a>(tokens: &[Token<'a>], at: usize) -> Option<(Mark, usize)>
     ensures value { MatchOption result (NoReading IsSort (seen_from tokens.now at)) (λ x. IsSort (seen_from tokens.now at) (view.mark x.0) (seen_from tokens.now x.1)) }
     ensures further { IfSome result (λ x. (at < x.1) × (x.1 ≤ length tokens.now)) }
@@ -59,7 +59,7 @@ pub fn variable<'a>(tokens: &[Token<'a>], at: usize) -> Option<(WrittenVariable<
 pub const LIMIT: u32 = 128;
 
 /// A variable or a constant, and the tokens behind it.
-#[tactic(auto, using(crate::proofs::Steps::terms_and_facts))]
+#[tactic(auto, using(crate::proofs::Steps::plain_terms))]
 pub fn plain_term<'a>(tokens: &[Token<'a>], at: usize) -> Option<(WrittenTerm<'a>, usize)>
     ensures value { MatchOption result (NoReading IsPlainTerm (seen_from tokens.now at)) (λ x. IsPlainTerm (seen_from tokens.now at) (view.term x.0) (seen_from tokens.now x.1)) }
     ensures further { IfSome result (λ x. (at < x.1) × (x.1 ≤ length tokens.now)) }
@@ -79,7 +79,7 @@ pub fn plain_term<'a>(tokens: &[Token<'a>], at: usize) -> Option<(WrittenTerm<'a
 }
 
 /// A term, and the tokens behind it.
-#[tactic(auto, using(crate::proofs::Steps::terms_and_facts))]
+#[tactic(auto, using(crate::proofs::Steps::bracketed_terms))]
 pub fn term<'a>(nesting: u32, tokens: &[Token<'a>], at: usize) -> Option<(WrittenTerm<'a>, usize)>
     requires { nesting ≤ LIMIT }
     ensures value { MatchOption result (NoReading (IsTerm nesting) (seen_from tokens.now at)) (λ x. IsTerm nesting (seen_from tokens.now at) (view.term x.0) (seen_from tokens.now x.1)) }
