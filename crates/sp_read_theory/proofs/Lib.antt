@@ -1,3 +1,5 @@
 pub mod One
 pub mod Steps
 pub mod Loops
+pub mod Sequence
+pub mod Items

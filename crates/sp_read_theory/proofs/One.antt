@@ -10,7 +10,7 @@ use Rattle.sp_spec.specs.Formula.{Mark, bare, Written, Formula}
 use Rattle.sp_spec.specs.Theory.{Lemma}
 use Rattle.sp_spec.specs.Written.{WrittenRule, WrittenTheory}
 use Rattle.sp_read_theory.specs.Names.{mark_of, mark_at}
-use Rattle.sp_read_theory.specs.FirstForm.{NoReading, written, IsNameFirst, name, IsSort, sort, IsVariable, marked, sorted, plain, IsPlainTerm, variable, fixed, IsTerm, unbracketed, brackets, AreParts, last, next, AreItems, empty, some, AreArguments, arguments, fact, IsNamedFact, named, IsFact, linear, persistent, AreFacts, facts, IsArrow, unlabelled, labelled, IsHeader, header, IsRule, rule, AreBinders, Event, IsEvent, happening, IsEquation, equation, IsLemma, lemma, theory_of, IsFirstForm, first_form}
+use Rattle.sp_read_theory.specs.FirstForm.{NoReading, written, IsNameFirst, name, IsSort, sort, IsVariable, marked, sorted, plain, IsPlainTerm, variable, fixed, IsTerm, unbracketed, brackets, AreParts, last, next, AreItems, empty, some, AreArguments, arguments, fact, IsNamedFact, named, IsFact, linear, persistent, AreFacts, facts, IsArrow, unlabelled, labelled, IsHeader, header, IsRule, rule, AreBinders, Event, IsEvent, happening, IsEquation, equation, formula_of, IsFormula, for_all_events, IsLemma, lemma, IsOpening, opening, IsFirstForm, first_form}
 
 -- what is read, and what follows it, are fixed by the tokens
 pub record One {A : Type 0} (R : List Lexeme → A → List Lexeme → Type 0) : Type 0 where
@@ -176,19 +176,28 @@ equation_one {q = q} (equation {mid = m} h k) (equation {b = w} {mid = n} i l) =
 pub events : One IsEvent
 events = record { one = event_one }
 
+pub formula_one : {tokens r q : List Lexeme} {f g : Formula} → IsFormula tokens f r → IsFormula tokens g q → (f ≡ g) × (r ≡ q)
+formula_one {r = r} {q = q} (for_all_events {guard = a} {right = b} h i j) (for_all_events {binders = vs} {events = es} {f = f} {guard = c} {right = d} h' i' j') =
+    let o = binders_one h h' in
+    let p = parts_one events (λ u. cc) i (subst (λ (ts : List Lexeme). AreParts IsEvent s.And s.Implies ts es d) (sym o.1) i') in
+    let e = equation_one j (subst (λ (ts : List Lexeme). IsEquation ts f q) (sym p.1) j') in
+    (rw (o.0, p.0, e.0) refl, e.1)
+
 pub lemma_one : {tokens x y : List Lexeme} {l m : Lemma} → IsLemma tokens l x → IsLemma tokens m y → (l ≡ m) × (x ≡ y)
-lemma_one {x = x} {y = y} (lemma {body = a} {guard = b} {right = c} h i j k) (lemma {w = w} {binders = vs} {events = es} {e = f} {body = d} {guard = g} {right = z} h' i' j' k') =
-    let o = header_one h h' in
+lemma_one {x = x} {y = y} (lemma {body = a} h k) (lemma {w = w} {f = f} {body = b} i l) =
+    let o = header_one h i in
     let n = o.1 in
-    let e : d ≡ a = cc in
-    let p = binders_one i (subst (λ (ts : List Lexeme). AreBinders ts vs g) e i') in
-    let q = parts_one events (λ u. cc) j (subst (λ (ts : List Lexeme). AreParts IsEvent s.And s.Implies ts es z) (sym p.1) j') in
-    let r = equation_one k (subst (λ (ts : List Lexeme). IsEquation ts f (sign s.Quote ∷ y)) (sym q.1) k') in
-    let v = r.1 in
-    (rw (o.0, p.0, q.0, r.0) refl, cc)
+    let e : b ≡ a = cc in
+    let p = formula_one k (subst (λ (ts : List Lexeme). IsFormula ts f (sign s.Quote ∷ y)) e l) in
+    let v = p.1 in
+    (rw (o.0, p.0) refl, cc)
+
+pub opening_one : {tokens r q : List Lexeme} {w u : List ℕ} → IsOpening tokens w r → IsOpening tokens u q → (w ≡ u) × (r ≡ q)
+opening_one (opening h) (opening k) = (refl, refl)
 
 pub first_form_one : {tokens : List Lexeme} {t u : WrittenTheory} → IsFirstForm tokens t → IsFirstForm tokens u → t ≡ u
-first_form_one (first_form {w = w} e h k) (first_form {l = n} f i l) =
-    let o = rule_one h i in
-    let p = lemma_one k (subst (λ (ts : List Lexeme). IsLemma ts n (word (codes "end") ∷ [])) (sym o.1) l) in
-    ap₂ (theory_of w) o.0 p.0
+first_form_one (first_form {body = a} {mid = b} h i j) (first_form {r = r} {l = l} {body = c} {mid = d} h' i' j') =
+    let o = opening_one h h' in
+    let p = rule_one i (subst (λ (ts : List Lexeme). IsRule ts r d) (sym o.1) i') in
+    let q = lemma_one j (subst (λ (ts : List Lexeme). IsLemma ts l (word (codes "end") ∷ [])) (sym p.1) j') in
+    rw (o.0, p.0, q.0) refl

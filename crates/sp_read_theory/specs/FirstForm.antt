@@ -113,9 +113,12 @@ pub record Event : Type 0 where
 pub data IsEvent : List Lexeme → Event → List Lexeme → Type 0 where
   happening : {f : Fact Written} {v : Written} {tokens mid rest : List Lexeme} → IsFact 1 tokens f (sign s.At ∷ mid) → IsVariable mid v rest → IsEvent tokens (record { fact = f; at = v }) rest
 
+abbrev pub equal : Written → Written → Formula
+equal a b = equals (var a) (var b)
+
 -- var `=` var
 pub data IsEquation : List Lexeme → Formula → List Lexeme → Type 0 where
-  equation : {a b : Written} {tokens mid rest : List Lexeme} → IsVariable tokens a (sign s.Equals ∷ mid) → IsVariable mid b rest → IsEquation tokens (equals (var a) (var b)) rest
+  equation : {a b : Written} {tokens mid rest : List Lexeme} → IsVariable tokens a (sign s.Equals ∷ mid) → IsVariable mid b rest → IsEquation tokens (equal a b) rest
 
 abbrev pub happens_at : Event → Formula
 happens_at e = happens (action_of e.fact) e.at
@@ -133,17 +136,24 @@ abbrev pub quantified : List Written → Formula → Formula
 quantified [] f = f
 quantified (v ∷ vs) f = for_all v (quantified vs f)
 
-abbrev pub lemma_of : List ℕ → List Written → List Event → Formula → Lemma
-lemma_of w binders events f = record { name = w; kind = all_traces; formula = quantified binders (implies (joined events) f) }
+abbrev pub formula_of : List Written → List Event → Formula → Formula
+formula_of binders events f = quantified binders (implies (joined events) f)
 
--- All var+ `.` happening (`&` happening)* `==>` var `=` var, in quotes
+-- All var+ `.` event (`&` event)* `==>` var `=` var
+pub data IsFormula : List Lexeme → Formula → List Lexeme → Type 0 where
+  for_all_events : {binders : List Written} {events : List Event} {f : Formula} {tokens guard right rest : List Lexeme} → AreBinders tokens binders guard → AreParts IsEvent s.And s.Implies guard events right → IsEquation right f rest
+      → IsFormula (word (codes "All") ∷ tokens) (formula_of binders events f) rest
+
+-- the header, and a formula in quotes
 pub data IsLemma : List Lexeme → Lemma → List Lexeme → Type 0 where
-  lemma : {w : List ℕ} {binders : List Written} {events : List Event} {e : Formula} {tokens body guard right rest : List Lexeme} → IsHeader (codes "lemma") tokens w (sign s.Quote ∷ word (codes "All") ∷ body) → AreBinders body binders guard → AreParts IsEvent s.And s.Implies guard events right
-      → IsEquation right e (sign s.Quote ∷ rest) → IsLemma tokens (lemma_of w binders events e) rest
+  lemma : {w : List ℕ} {f : Formula} {tokens body rest : List Lexeme} → IsHeader (codes "lemma") tokens w (sign s.Quote ∷ body) → IsFormula body f (sign s.Quote ∷ rest) → IsLemma tokens (record { name = w; kind = all_traces; formula = f }) rest
+
+-- `theory`, a name, and `begin`
+pub data IsOpening : List Lexeme → List ℕ → List Lexeme → Type 0 where
+  opening : {w : List ℕ} {rest : List Lexeme} → IsName w → IsOpening (word (codes "theory") ∷ word w ∷ word (codes "begin") ∷ rest) w rest
 
 abbrev pub theory_of : List ℕ → WrittenRule → Lemma → WrittenTheory
 theory_of w r l = record { name = w; rules = r ∷ []; restrictions = []; lemmas = l ∷ [] }
 
 pub data IsFirstForm : List Lexeme → WrittenTheory → Type 0 where
-  first_form : {w : List ℕ} {r : WrittenRule} {l : Lemma} {tokens mid : List Lexeme} → IsName w → IsRule tokens r mid → IsLemma mid l (word (codes "end") ∷ [])
-      → IsFirstForm (word (codes "theory") ∷ word w ∷ word (codes "begin") ∷ tokens) (theory_of w r l)
+  first_form : {w : List ℕ} {r : WrittenRule} {l : Lemma} {tokens body mid : List Lexeme} → IsOpening tokens w body → IsRule body r mid → IsLemma mid l (word (codes "end") ∷ []) → IsFirstForm tokens (theory_of w r l)

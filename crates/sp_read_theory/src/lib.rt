@@ -6,4 +6,4 @@ mod cursor;
 mod facts;
 mod terms;
 mod words;
-pub use written::{Mark, ReadTheory, WrittenEvent, WrittenFact, WrittenLemma, WrittenRule, WrittenTerm, WrittenVariable};
+pub use written::{Mark, ReadTheory, WrittenEvent, WrittenFact, WrittenFormula, WrittenLemma, WrittenRule, WrittenTerm, WrittenVariable};

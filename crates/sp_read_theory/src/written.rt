@@ -51,14 +51,20 @@ pub struct WrittenEvent<'a> {
     pub at: WrittenVariable<'a>,
 }
 
-/// A lemma: for all binders, where the events happen, left is right.
+/// A formula: for all binders, where the events happen, left is right.
 #[derive(Drop)]
-pub struct WrittenLemma<'a> {
-    pub name: &'a str,
+pub struct WrittenFormula<'a> {
     pub binders: Vec<WrittenVariable<'a>>,
     pub events: Vec<WrittenEvent<'a>>,
     pub left: WrittenVariable<'a>,
     pub right: WrittenVariable<'a>,
+}
+
+/// A lemma on all traces.
+#[derive(Drop)]
+pub struct WrittenLemma<'a> {
+    pub name: &'a str,
+    pub formula: WrittenFormula<'a>,
 }
 
 /// A theory as it is written, and the places in the text behind its lemma's closing quote and behind its word `end`.
