@@ -2,4 +2,4 @@ pub mod One
 pub mod Steps
 pub mod Loops
 pub mod Sequence
-pub mod Items
+pub mod Missing

@@ -111,7 +111,7 @@ rule_no_arrow h i n = no_whole rule_parts (no_second headers' h (no_second lists
 pub rule_no_conclusions : {w : List ℕ} {ps as' : List (Fact Written)} {tokens body mid behind : List Lexeme} → IsHeader (codes "rule") tokens w body → AreFacts body ps mid → IsArrow mid as' behind → NoReading AreFacts behind → NoReading IsRule tokens
 rule_no_conclusions h i j n = no_whole rule_parts (no_second headers' h (no_second lists i (no_second arrows' j n)))
 
-pub ruleset rules' = (rule, rule_no_header, rule_no_premises, rule_no_arrow, rule_no_conclusions)
+pub ruleset rule_items = (rule, rule_no_header, rule_no_premises, rule_no_arrow, rule_no_conclusions)
 
 -- ---- binders
 
