@@ -157,3 +157,6 @@ theory_of w r l = record { name = w; rules = r ∷ []; restrictions = []; lemmas
 
 pub data IsFirstForm : List Lexeme → WrittenTheory → Type 0 where
   first_form : {w : List ℕ} {r : WrittenRule} {l : Lemma} {tokens body mid : List Lexeme} → IsOpening tokens w body → IsRule body r mid → IsLemma mid l (word (codes "end") ∷ []) → IsFirstForm tokens (theory_of w r l)
+
+pub record IsNoForm (tokens : List Lexeme) : Type 0 where
+  pub none : (theory : WrittenTheory) → IsFirstForm tokens theory → ⊥

@@ -1,3 +1,4 @@
 pub mod Names
 pub mod FirstForm
 pub mod Views
+pub mod Text
