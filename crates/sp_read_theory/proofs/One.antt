@@ -10,7 +10,7 @@ use Rattle.sp_spec.specs.Formula.{Mark, bare, Written, Formula}
 use Rattle.sp_spec.specs.Theory.{Lemma}
 use Rattle.sp_spec.specs.Written.{WrittenRule, WrittenTheory}
 use Rattle.sp_read_theory.specs.Names.{mark_of, mark_at}
-use Rattle.sp_read_theory.specs.FirstForm.{NoReading, written, IsNameFirst, name, IsSort, sort, IsVariable, marked, sorted, plain, IsPlainTerm, variable, fixed, IsTerm, unbracketed, brackets, AreParts, last, next, AreItems, empty, some, AreArguments, arguments, fact, IsNamedFact, named, IsFact, linear, persistent, AreFacts, facts, IsArrow, unlabelled, labelled, IsHeader, header, IsRule, rule, AreBinders, Event, IsEvent, happening, IsEquation, equation, formula_of, IsFormula, for_all_events, IsLemma, lemma, IsOpening, opening, IsFirstForm, first_form}
+use Rattle.sp_read_theory.specs.FirstForm.{NoReading, written, IsNameFirst, name, IsSort, sort, IsVariable, marked, sorted, plain, IsPlainTerm, variable, fixed, IsTerm, unbracketed, brackets, AreParts, last, next, AreItems, empty, some, AreArguments, arguments, fact, IsNamedFact, named, IsFact, linear, persistent, AreFacts, facts, IsArrow, unlabelled, labelled, IsHeader, header, IsRule, rule, AreBinders, one_binder, more_binders, Event, IsEvent, happening, IsEquation, equation, formula_of, IsFormula, for_all_events, IsLemma, lemma, IsOpening, opening, IsFirstForm, first_form}
 
 -- what is read, and what follows it, are fixed by the tokens
 pub record One {A : Type 0} (R : List Lexeme → A → List Lexeme → Type 0) : Type 0 where
@@ -137,18 +137,18 @@ rule_one {x = x} {y = y} (rule {body = a} {mid = b} {behind = c} h k l m) (rule 
 
 -- no variable begins with a sign that marks none, and no binder with a dot
 pub binders_one : {tokens r q : List Lexeme} {vs ws : List Written} → AreBinders tokens vs r → AreBinders tokens ws q → (vs ≡ ws) × (r ≡ q)
-binders_one (last h) (last k) = let o = variable_one h k in let e = o.1 in (ap (λ (v : Written). v ∷ []) o.0, cc)
-binders_one (last {rest = r} h) (next {vs = ws} {rest = q} k l) = absurd (no_dot (subst (λ (ts : List Lexeme). AreBinders ts ws q) (sym (variable_one h k).1) l))
+binders_one (one_binder h) (one_binder k) = let o = variable_one h k in let e = o.1 in (ap (λ (v : Written). v ∷ []) o.0, cc)
+binders_one (one_binder {rest = r} h) (more_binders {vs = ws} {rest = q} k l) = absurd (no_dot (subst (λ (ts : List Lexeme). AreBinders ts ws q) (sym (variable_one h k).1) l))
   where
     no_dot : {ts q : List Lexeme} {ws : List Written} → AreBinders (sign s.Dot ∷ ts) ws q → ⊥
-    no_dot (last h) = variable_sign refl h
-    no_dot (next h k) = variable_sign refl h
-binders_one (next {vs = ws} {rest = q} k l) (last {rest = r} h) = absurd (no_dot (subst (λ (ts : List Lexeme). AreBinders ts ws q) (sym (variable_one h k).1) l))
+    no_dot (one_binder h) = variable_sign refl h
+    no_dot (more_binders h k) = variable_sign refl h
+binders_one (more_binders {vs = ws} {rest = q} k l) (one_binder {rest = r} h) = absurd (no_dot (subst (λ (ts : List Lexeme). AreBinders ts ws q) (sym (variable_one h k).1) l))
   where
     no_dot : {ts q : List Lexeme} {ws : List Written} → AreBinders (sign s.Dot ∷ ts) ws q → ⊥
-    no_dot (last h) = variable_sign refl h
-    no_dot (next h k) = variable_sign refl h
-binders_one {q = q} (next h k) (next {vs = ws} i l) =
+    no_dot (one_binder h) = variable_sign refl h
+    no_dot (more_binders h k) = variable_sign refl h
+binders_one {q = q} (more_binders h k) (more_binders {vs = ws} i l) =
     let a = variable_one h i in
     let b = binders_one k (subst (λ (ts : List Lexeme). AreBinders ts ws q) (sym a.1) l) in
     let e = a.0 in let f = b.0 in (cc, b.1)

@@ -87,7 +87,9 @@ variable_no_sort h e n = record { none = λ v r k. at h e n k }
     at {behind = b} (name i) e n (plain (name h) d) = d b e
 
 pub ruleset names = (name_at, name_no_word, name_reserved)
+
 pub ruleset sorts = (sort_at, sort_no_word, sort_unknown)
+
 pub ruleset variables = (marked_at, sorted_at, plain, variable_nil, variable_no_mark, variable_no_name, variable_no_constant, variable_reserved, variable_no_sort)
 
 -- ---- terms and facts
@@ -196,7 +198,11 @@ no_linear {n} d k = record { none = λ x r h. at h d k }
     at (persistent {tokens = ts} h) d k = d ts refl
 
 pub ruleset plain_terms = (variable, fixed_at, plain_nil, plain_no_word, plain_no_sign)
+
 pub ruleset bracketed_terms = (unbracketed, brackets_at, term_no_plain, term_too_deep, term_no_inside, term_unclosed)
+
 pub ruleset argument_lists = (arguments_at, no_arguments, no_argument_list)
+
 pub ruleset named_facts = (named_at, named_no_word, named_no_name, named_no_arguments)
+
 pub ruleset facts_either_way = (linear, persistent_at, no_persistent, no_linear)

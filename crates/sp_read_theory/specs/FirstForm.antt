@@ -10,21 +10,9 @@ use Rattle.sp_spec.specs.Rule.{Fact, Action}
 use Rattle.sp_spec.specs.Formula.{Mark, bare, Written, Formula, truth, happens, equals, both, implies, for_all}
 use Rattle.sp_spec.specs.Theory.{all_traces, Lemma}
 use Rattle.sp_spec.specs.Written.{WrittenRule, WrittenTheory}
+pub use Rattle.sp_read_theory.specs.Lists.{IsNotFirst, IsNoWord, NoReading, AreParts, last, next, AreItems, empty, some}
+pub use Rattle.sp_read_theory.specs.Shapes.{written, row, fact, action_of, rule_of, Event, equal, happens_at, joined_after, joined, quantified, formula_of}
 use Rattle.sp_read_theory.specs.Names.{IsName, names_fact, mark_of, mark_at}
-
--- another token stands first, or none
-abbrev pub IsNotFirst : Lexeme → List Lexeme → Type 0
-IsNotFirst x tokens = (rest : List Lexeme) → tokens ≡ x ∷ rest → ⊥
-
-abbrev pub IsNoWord : List Lexeme → Type 0
-IsNoWord tokens = (w : List ℕ) (rest : List Lexeme) → tokens ≡ word w ∷ rest → ⊥
-
--- the tokens begin with nothing that R reads
-pub record NoReading {A : Type 0} (R : List Lexeme → A → List Lexeme → Type 0) (tokens : List Lexeme) : Type 0 where
-  pub none : (x : A) (rest : List Lexeme) → R tokens x rest → ⊥
-
-abbrev pub written : List ℕ → Mark → Written
-written w m = record { name = w; mark = m }
 
 pub data IsNameFirst : List Lexeme → List ℕ → List Lexeme → Type 0 where
   name : {w : List ℕ} {rest : List Lexeme} → IsName w → IsNameFirst (word w ∷ rest) w rest
@@ -46,23 +34,6 @@ pub data IsPlainTerm : List Lexeme → Term Written → List Lexeme → Type 0 w
 pub data IsTerm : ℕ → List Lexeme → Term Written → List Lexeme → Type 0 where
   unbracketed : {n : ℕ} {x : Term Written} {tokens rest : List Lexeme} → IsPlainTerm tokens x rest → IsTerm n tokens x rest
   brackets : {n : ℕ} {x : Term Written} {tokens rest : List Lexeme} → n < 128 → IsTerm (n + 1) tokens x (sign s.Close ∷ rest) → IsTerm n (sign s.Open ∷ tokens) x rest
-
--- parts with one sign between two of them, and another behind the last
-pub data AreParts {A : Type 0} (R : List Lexeme → A → List Lexeme → Type 0) (between close : Sign) : List Lexeme → List A → List Lexeme → Type 0 where
-  last : {x : A} {tokens rest : List Lexeme} → R tokens x (sign close ∷ rest) → AreParts R between close tokens (x ∷ []) rest
-  next : {x : A} {xs : List A} {tokens mid rest : List Lexeme} → R tokens x (sign between ∷ mid) → AreParts R between close mid xs rest → AreParts R between close tokens (x ∷ xs) rest
-
--- parts with commas, or none
-pub data AreItems {A : Type 0} (R : List Lexeme → A → List Lexeme → Type 0) (close : Sign) : List Lexeme → List A → List Lexeme → Type 0 where
-  empty : {rest : List Lexeme} → AreItems R close (sign close ∷ rest) [] rest
-  some : {xs : List A} {tokens rest : List Lexeme} → AreParts R s.Comma close tokens xs rest → AreItems R close tokens xs rest
-
-abbrev pub row : List (Term Written) → Terms Written
-row [] = none
-row (x ∷ xs) = more x (row xs)
-
-abbrev pub fact : List ℕ → Bool → List (Term Written) → Fact Written
-fact w persistent args = record { symbol = w; persistent = persistent; args = row args }
 
 -- behind the name of a fact
 pub data AreArguments (n : ℕ) : List Lexeme → List (Term Written) → List Lexeme → Type 0 where
@@ -88,56 +59,22 @@ pub data IsArrow : List Lexeme → List (Fact Written) → List Lexeme → Type 
 pub data IsHeader (keyword : List ℕ) : List Lexeme → List ℕ → List Lexeme → Type 0 where
   header : {w : List ℕ} {rest : List Lexeme} → IsName w → IsHeader keyword (word keyword ∷ word w ∷ sign s.Colon ∷ rest) w rest
 
--- an exclamation mark at an action says nothing
-abbrev pub action_of : Fact Written → Action Written
-action_of f = record { symbol = f.symbol; args = f.args }
-
-abbrev pub rule_of : List ℕ → List (Fact Written) → List (Fact Written) → List (Fact Written) → WrittenRule
-rule_of w premises actions conclusions = record { name = w; facts = record { premises = premises; actions = map action_of actions; conclusions = conclusions } }
-
 pub data IsRule : List Lexeme → WrittenRule → List Lexeme → Type 0 where
   rule : {w : List ℕ} {premises actions conclusions : List (Fact Written)} {tokens body mid behind rest : List Lexeme} → IsHeader (codes "rule") tokens w body → AreFacts body premises mid → IsArrow mid actions behind → AreFacts behind conclusions rest
       → IsRule tokens (rule_of w premises actions conclusions) rest
 
 -- var+ `.`
 pub data AreBinders : List Lexeme → List Written → List Lexeme → Type 0 where
-  last : {v : Written} {tokens rest : List Lexeme} → IsVariable tokens v (sign s.Dot ∷ rest) → AreBinders tokens (v ∷ []) rest
-  next : {v : Written} {vs : List Written} {tokens mid rest : List Lexeme} → IsVariable tokens v mid → AreBinders mid vs rest → AreBinders tokens (v ∷ vs) rest
-
--- a fact and the time at which it happens
-pub record Event : Type 0 where
-  pub fact : Fact Written
-  pub at : Written
+  one_binder : {v : Written} {tokens rest : List Lexeme} → IsVariable tokens v (sign s.Dot ∷ rest) → AreBinders tokens (v ∷ []) rest
+  more_binders : {v : Written} {vs : List Written} {tokens mid rest : List Lexeme} → IsVariable tokens v mid → AreBinders mid vs rest → AreBinders tokens (v ∷ vs) rest
 
 -- fact `@` var, inside one quantifier
 pub data IsEvent : List Lexeme → Event → List Lexeme → Type 0 where
   happening : {f : Fact Written} {v : Written} {tokens mid rest : List Lexeme} → IsFact 1 tokens f (sign s.At ∷ mid) → IsVariable mid v rest → IsEvent tokens (record { fact = f; at = v }) rest
 
-abbrev pub equal : Written → Written → Formula
-equal a b = equals (var a) (var b)
-
 -- var `=` var
 pub data IsEquation : List Lexeme → Formula → List Lexeme → Type 0 where
   equation : {a b : Written} {tokens mid rest : List Lexeme} → IsVariable tokens a (sign s.Equals ∷ mid) → IsVariable mid b rest → IsEquation tokens (equal a b) rest
-
-abbrev pub happens_at : Event → Formula
-happens_at e = happens (action_of e.fact) e.at
-
--- `&` groups to the left
-abbrev pub joined_after : Formula → List Event → Formula
-joined_after f [] = f
-joined_after f (e ∷ es) = joined_after (both f (happens_at e)) es
-
-abbrev pub joined : List Event → Formula
-joined [] = truth
-joined (e ∷ es) = joined_after (happens_at e) es
-
-abbrev pub quantified : List Written → Formula → Formula
-quantified [] f = f
-quantified (v ∷ vs) f = for_all v (quantified vs f)
-
-abbrev pub formula_of : List Written → List Event → Formula → Formula
-formula_of binders events f = quantified binders (implies (joined events) f)
 
 -- All var+ `.` event (`&` event)* `==>` var `=` var
 pub data IsFormula : List Lexeme → Formula → List Lexeme → Type 0 where

@@ -11,7 +11,11 @@ pub fn split<'a>(tokens: &[Token<'a>], at: usize) -> Option<(Lexeme<'a>, usize)>
     ensures value { MatchOption result (seen_from tokens.now at ≡ []) (λ x. seen_from tokens.now at ≡ lexeme_of x.0 ∷ seen_from tokens.now x.1) }
     ensures further { IfSome result (λ x. (at < x.1) × (x.1 ≤ length tokens.now)) }
 {
-    if at < tokens.len() { Some((tokens[at].lexeme, at + 1)) } else { None }
+    if at < tokens.len() {
+        Some((tokens[at].lexeme, at + 1))
+    } else {
+        None
+    }
 }
 
 /// The tokens behind this sign, if it stands first.

@@ -12,7 +12,12 @@ use std::alloc::{AllocError, Global};
 
 /// The arguments of a fact in their brackets, and the place behind them.
 #[tactic(auto, using(crate::proofs::Steps::argument_lists))]
-pub fn arguments<'a>(alloc: Global, nesting: u32, tokens: &[Token<'a>], at: usize) -> Result<Option<(Vec<WrittenTerm<'a>>, usize)>, AllocError>
+pub fn arguments<'a>(
+    alloc: Global,
+    nesting: u32,
+    tokens: &[Token<'a>],
+    at: usize,
+) -> Result<Option<(Vec<WrittenTerm<'a>>, usize)>, AllocError>
     requires { nesting < LIMIT }
     ensures value { IfOk result (λ o. MatchOption o (NoReading (AreArguments nesting) (seen_from tokens.now at)) (λ x. AreArguments nesting (seen_from tokens.now at) (map view.term x.0.items) (seen_from tokens.now x.1))) }
     ensures further { IfOk result (λ o. IfSome o (λ x. (at < x.1) × (x.1 ≤ length tokens.now))) }
@@ -28,7 +33,13 @@ pub fn arguments<'a>(alloc: Global, nesting: u32, tokens: &[Token<'a>], at: usiz
 
 /// A fact from its name on, and the place behind it.
 #[tactic(auto, using(crate::proofs::Steps::named_facts))]
-pub fn named_fact<'a>(alloc: Global, persistent: bool, nesting: u32, tokens: &[Token<'a>], at: usize) -> Result<Option<(WrittenFact<'a>, usize)>, AllocError>
+pub fn named_fact<'a>(
+    alloc: Global,
+    persistent: bool,
+    nesting: u32,
+    tokens: &[Token<'a>],
+    at: usize,
+) -> Result<Option<(WrittenFact<'a>, usize)>, AllocError>
     requires { nesting < LIMIT }
     ensures value { IfOk result (λ o. MatchOption o (NoReading (IsNamedFact nesting persistent) (seen_from tokens.now at)) (λ x. IsNamedFact nesting persistent (seen_from tokens.now at) (view.fact_of x.0) (seen_from tokens.now x.1))) }
     ensures further { IfOk result (λ o. IfSome o (λ x. (at < x.1) × (x.1 ≤ length tokens.now))) }
@@ -42,12 +53,24 @@ pub fn named_fact<'a>(alloc: Global, persistent: bool, nesting: u32, tokens: &[T
     let Some((arguments, rest)) = arguments(alloc, nesting, tokens, behind)? else {
         return Ok(None);
     };
-    Ok(Some((WrittenFact { symbol, persistent, arguments }, rest)))
+    Ok(Some((
+        WrittenFact {
+            symbol,
+            persistent,
+            arguments,
+        },
+        rest,
+    )))
 }
 
 /// A fact, and the place behind it.
 #[tactic(auto, using(crate::proofs::Steps::facts_either_way))]
-pub fn fact<'a>(alloc: Global, nesting: u32, tokens: &[Token<'a>], at: usize) -> Result<Option<(WrittenFact<'a>, usize)>, AllocError>
+pub fn fact<'a>(
+    alloc: Global,
+    nesting: u32,
+    tokens: &[Token<'a>],
+    at: usize,
+) -> Result<Option<(WrittenFact<'a>, usize)>, AllocError>
     requires { nesting < LIMIT }
     ensures value { IfOk result (λ o. MatchOption o (NoReading (IsFact nesting) (seen_from tokens.now at)) (λ x. IsFact nesting (seen_from tokens.now at) (view.fact_of x.0) (seen_from tokens.now x.1))) }
     ensures further { IfOk result (λ o. IfSome o (λ x. (at < x.1) × (x.1 ≤ length tokens.now))) }
@@ -68,7 +91,12 @@ fn push_fact<'a>(found: &mut Vec<WrittenFact<'a>>, next: WrittenFact<'a>) -> Res
 
 /// Facts with commas, up to the closing sign, and the place behind it.
 #[tactic(auto, using(crate::proofs::Loops::loops))]
-fn facts<'a>(alloc: Global, close: Sign, tokens: &[Token<'a>], at: usize) -> Result<Option<(Vec<WrittenFact<'a>>, usize)>, AllocError>
+fn facts<'a>(
+    alloc: Global,
+    close: Sign,
+    tokens: &[Token<'a>],
+    at: usize,
+) -> Result<Option<(Vec<WrittenFact<'a>>, usize)>, AllocError>
     requires { Sign.Comma ≡ close → ⊥ }
     ensures value { IfOk result (λ o. MatchOption o (NoReading (AreParts (IsFact 0) Sign.Comma close) (seen_from tokens.now at)) (λ x. AreParts (IsFact 0) Sign.Comma close (seen_from tokens.now at) (view.facts_of x.0.items) (seen_from tokens.now x.1))) }
     ensures further { IfOk result (λ o. IfSome o (λ x. (at < x.1) × (x.1 ≤ length tokens.now))) }
@@ -92,7 +120,12 @@ fn facts<'a>(alloc: Global, close: Sign, tokens: &[Token<'a>], at: usize) -> Res
 
 /// Facts with commas, or none, up to the closing sign, and the place behind it.
 #[tactic(auto, using(crate::proofs::Loops::loops))]
-pub fn fact_list<'a>(alloc: Global, close: Sign, tokens: &[Token<'a>], at: usize) -> Result<Option<(Vec<WrittenFact<'a>>, usize)>, AllocError>
+pub fn fact_list<'a>(
+    alloc: Global,
+    close: Sign,
+    tokens: &[Token<'a>],
+    at: usize,
+) -> Result<Option<(Vec<WrittenFact<'a>>, usize)>, AllocError>
     requires { Sign.Comma ≡ close → ⊥ }
     ensures value { IfOk result (λ o. MatchOption o (NoReading (AreItems (IsFact 0) close) (seen_from tokens.now at)) (λ x. AreItems (IsFact 0) close (seen_from tokens.now at) (view.facts_of x.0.items) (seen_from tokens.now x.1))) }
     ensures further { IfOk result (λ o. IfSome o (λ x. (at < x.1) × (x.1 ≤ length tokens.now))) }

@@ -6,13 +6,19 @@ ghost use Rattle.sp_read_theory.specs.Views.{seen_from};
 use crate::cursor::{after, behind};
 use crate::facts::{fact, fact_list};
 use crate::terms::{name, variable};
-use crate::written::{WrittenEvent, WrittenFact, WrittenFormula, WrittenLemma, WrittenRule, WrittenVariable};
+use crate::written::{
+    WrittenEvent, WrittenFact, WrittenFormula, WrittenLemma, WrittenRule, WrittenVariable,
+};
 use sp_lex::{Sign, Token};
 use std::alloc::{AllocError, Global};
 
 /// Facts in their brackets, and the place behind them.
 #[tactic(auto, using(crate::proofs::Missing::fact_lists))]
-fn facts_in_brackets<'a>(alloc: Global, tokens: &[Token<'a>], at: usize) -> Result<Option<(Vec<WrittenFact<'a>>, usize)>, AllocError>
+fn facts_in_brackets<'a>(
+    alloc: Global,
+    tokens: &[Token<'a>],
+    at: usize,
+) -> Result<Option<(Vec<WrittenFact<'a>>, usize)>, AllocError>
     ensures value { IfOk result (λ o. MatchOption o (NoReading AreFacts (seen_from tokens.now at)) (λ x. AreFacts (seen_from tokens.now at) (view.facts_of x.0.items) (seen_from tokens.now x.1))) }
     ensures further { IfOk result (λ o. IfSome o (λ x. (at < x.1) × (x.1 ≤ length tokens.now))) }
 {
@@ -27,7 +33,11 @@ fn facts_in_brackets<'a>(alloc: Global, tokens: &[Token<'a>], at: usize) -> Resu
 
 /// The arrow of a rule with its actions, and the place behind it.
 #[tactic(auto, using(crate::proofs::Missing::arrows))]
-fn arrow<'a>(alloc: Global, tokens: &[Token<'a>], at: usize) -> Result<Option<(Vec<WrittenFact<'a>>, usize)>, AllocError>
+fn arrow<'a>(
+    alloc: Global,
+    tokens: &[Token<'a>],
+    at: usize,
+) -> Result<Option<(Vec<WrittenFact<'a>>, usize)>, AllocError>
     ensures value { IfOk result (λ o. MatchOption o (NoReading IsArrow (seen_from tokens.now at)) (λ x. IsArrow (seen_from tokens.now at) (view.facts_of x.0.items) (seen_from tokens.now x.1))) }
     ensures further { IfOk result (λ o. IfSome o (λ x. (at < x.1) × (x.1 ≤ length tokens.now))) }
 {
@@ -57,7 +67,11 @@ fn header<'a>(keyword: &str, tokens: &[Token<'a>], at: usize) -> Option<(&'a str
 
 /// A rule, and the place behind it.
 #[tactic(auto, using(crate::proofs::Missing::rule_items))]
-pub fn rule<'a>(alloc: Global, tokens: &[Token<'a>], at: usize) -> Result<Option<(WrittenRule<'a>, usize)>, AllocError>
+pub fn rule<'a>(
+    alloc: Global,
+    tokens: &[Token<'a>],
+    at: usize,
+) -> Result<Option<(WrittenRule<'a>, usize)>, AllocError>
     ensures value { IfOk result (λ o. MatchOption o (NoReading IsRule (seen_from tokens.now at)) (λ x. IsRule (seen_from tokens.now at) (view.rule x.0) (seen_from tokens.now x.1))) }
     ensures further { IfOk result (λ o. IfSome o (λ x. (at < x.1) × (x.1 ≤ length tokens.now))) }
 {
@@ -73,11 +87,22 @@ pub fn rule<'a>(alloc: Global, tokens: &[Token<'a>], at: usize) -> Result<Option
     let Some((conclusions, rest)) = facts_in_brackets(alloc, tokens, last)? else {
         return Ok(None);
     };
-    Ok(Some((WrittenRule { name, premises, actions, conclusions }, rest)))
+    Ok(Some((
+        WrittenRule {
+            name,
+            premises,
+            actions,
+            conclusions,
+        },
+        rest,
+    )))
 }
 
 /// Puts a variable at the end.
-fn push_variable<'a>(found: &mut Vec<WrittenVariable<'a>>, next: WrittenVariable<'a>) -> Result<(), AllocError>
+fn push_variable<'a>(
+    found: &mut Vec<WrittenVariable<'a>>,
+    next: WrittenVariable<'a>,
+) -> Result<(), AllocError>
     ensures { OnOk result (map view.variable found.new.items ≡ map view.variable found.old.items ++ view.variable next.entry ∷ []) }
 {
     found.push(next)?;
@@ -86,7 +111,11 @@ fn push_variable<'a>(found: &mut Vec<WrittenVariable<'a>>, next: WrittenVariable
 
 /// Variables up to a dot, and the place behind it.
 #[tactic(auto, using(crate::proofs::Missing::bindings))]
-fn binders<'a>(alloc: Global, tokens: &[Token<'a>], at: usize) -> Result<Option<(Vec<WrittenVariable<'a>>, usize)>, AllocError>
+fn binders<'a>(
+    alloc: Global,
+    tokens: &[Token<'a>],
+    at: usize,
+) -> Result<Option<(Vec<WrittenVariable<'a>>, usize)>, AllocError>
     ensures value { IfOk result (λ o. MatchOption o (NoReading AreBinders (seen_from tokens.now at)) (λ x. AreBinders (seen_from tokens.now at) (map view.variable x.0.items) (seen_from tokens.now x.1))) }
     ensures further { IfOk result (λ o. IfSome o (λ x. (at < x.1) × (x.1 ≤ length tokens.now))) }
 {
@@ -106,7 +135,11 @@ fn binders<'a>(alloc: Global, tokens: &[Token<'a>], at: usize) -> Result<Option<
 
 /// An action at a time, and the place behind it.
 #[tactic(auto, using(crate::proofs::Missing::happenings))]
-fn event<'a>(alloc: Global, tokens: &[Token<'a>], at: usize) -> Result<Option<(WrittenEvent<'a>, usize)>, AllocError>
+fn event<'a>(
+    alloc: Global,
+    tokens: &[Token<'a>],
+    at: usize,
+) -> Result<Option<(WrittenEvent<'a>, usize)>, AllocError>
     ensures value { IfOk result (λ o. MatchOption o (NoReading IsEvent (seen_from tokens.now at)) (λ x. IsEvent (seen_from tokens.now at) (view.event x.0) (seen_from tokens.now x.1))) }
     ensures further { IfOk result (λ o. IfSome o (λ x. (at < x.1) × (x.1 ≤ length tokens.now))) }
 {
@@ -123,7 +156,10 @@ fn event<'a>(alloc: Global, tokens: &[Token<'a>], at: usize) -> Result<Option<(W
 }
 
 /// Puts an event at the end.
-fn push_event<'a>(found: &mut Vec<WrittenEvent<'a>>, next: WrittenEvent<'a>) -> Result<(), AllocError>
+fn push_event<'a>(
+    found: &mut Vec<WrittenEvent<'a>>,
+    next: WrittenEvent<'a>,
+) -> Result<(), AllocError>
     ensures { OnOk result (view.events found.new.items ≡ view.events found.old.items ++ view.event next.entry ∷ []) }
 {
     found.push(next)?;
@@ -132,7 +168,11 @@ fn push_event<'a>(found: &mut Vec<WrittenEvent<'a>>, next: WrittenEvent<'a>) -> 
 
 /// Events joined by `&` up to `==>`, and the place behind it.
 #[tactic(auto, using(crate::proofs::Loops::loops))]
-fn events<'a>(alloc: Global, tokens: &[Token<'a>], at: usize) -> Result<Option<(Vec<WrittenEvent<'a>>, usize)>, AllocError>
+fn events<'a>(
+    alloc: Global,
+    tokens: &[Token<'a>],
+    at: usize,
+) -> Result<Option<(Vec<WrittenEvent<'a>>, usize)>, AllocError>
     ensures value { IfOk result (λ o. MatchOption o (NoReading (AreParts IsEvent Sign.And Sign.Implies) (seen_from tokens.now at)) (λ x. AreParts IsEvent Sign.And Sign.Implies (seen_from tokens.now at) (view.events x.0.items) (seen_from tokens.now x.1))) }
     ensures further { IfOk result (λ o. IfSome o (λ x. (at < x.1) × (x.1 ≤ length tokens.now))) }
 {
@@ -155,7 +195,10 @@ fn events<'a>(alloc: Global, tokens: &[Token<'a>], at: usize) -> Result<Option<(
 
 /// Two variables that are equal, and the place behind them.
 #[tactic(auto, using(crate::proofs::Missing::equations))]
-fn equation<'a>(tokens: &[Token<'a>], at: usize) -> Option<((WrittenVariable<'a>, WrittenVariable<'a>), usize)>
+fn equation<'a>(
+    tokens: &[Token<'a>],
+    at: usize,
+) -> Option<((WrittenVariable<'a>, WrittenVariable<'a>), usize)>
     ensures value { MatchOption result (NoReading IsEquation (seen_from tokens.now at)) (λ x. IsEquation (seen_from tokens.now at) (view.equation x.0.0 x.0.1) (seen_from tokens.now x.1)) }
     ensures further { IfSome result (λ x. (at < x.1) × (x.1 ≤ length tokens.now)) }
 {
@@ -167,7 +210,11 @@ fn equation<'a>(tokens: &[Token<'a>], at: usize) -> Option<((WrittenVariable<'a>
 
 /// A formula, and the place behind it.
 #[tactic(auto, using(crate::proofs::Missing::formulas))]
-fn formula<'a>(alloc: Global, tokens: &[Token<'a>], at: usize) -> Result<Option<(WrittenFormula<'a>, usize)>, AllocError>
+fn formula<'a>(
+    alloc: Global,
+    tokens: &[Token<'a>],
+    at: usize,
+) -> Result<Option<(WrittenFormula<'a>, usize)>, AllocError>
     ensures value { IfOk result (λ o. MatchOption o (NoReading IsFormula (seen_from tokens.now at)) (λ x. IsFormula (seen_from tokens.now at) (view.formula x.0) (seen_from tokens.now x.1))) }
     ensures further { IfOk result (λ o. IfSome o (λ x. (at < x.1) × (x.1 ≤ length tokens.now))) }
 {
@@ -183,12 +230,24 @@ fn formula<'a>(alloc: Global, tokens: &[Token<'a>], at: usize) -> Result<Option<
     let Some(((left, right), rest)) = equation(tokens, goal) else {
         return Ok(None);
     };
-    Ok(Some((WrittenFormula { binders, events, left, right }, rest)))
+    Ok(Some((
+        WrittenFormula {
+            binders,
+            events,
+            left,
+            right,
+        },
+        rest,
+    )))
 }
 
 /// A lemma, and the place behind it.
 #[tactic(auto, using(crate::proofs::Missing::lemmas))]
-pub fn lemma<'a>(alloc: Global, tokens: &[Token<'a>], at: usize) -> Result<Option<(WrittenLemma<'a>, usize)>, AllocError>
+pub fn lemma<'a>(
+    alloc: Global,
+    tokens: &[Token<'a>],
+    at: usize,
+) -> Result<Option<(WrittenLemma<'a>, usize)>, AllocError>
     ensures value { IfOk result (λ o. MatchOption o (NoReading IsLemma (seen_from tokens.now at)) (λ x. IsLemma (seen_from tokens.now at) (view.lemma x.0) (seen_from tokens.now x.1))) }
     ensures further { IfOk result (λ o. IfSome o (λ x. (at < x.1) × (x.1 ≤ length tokens.now))) }
 {

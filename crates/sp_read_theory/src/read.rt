@@ -49,7 +49,10 @@ fn behind_all(tokens: &[Token]) -> usize
 
 /// The theory that these tokens are, in the one form that is read.
 #[tactic(auto, using(crate::proofs::Whole::wholes))]
-fn read_tokens<'a>(alloc: Global, tokens: &[Token<'a>]) -> Result<Option<ReadTheory<'a>>, AllocError>
+fn read_tokens<'a>(
+    alloc: Global,
+    tokens: &[Token<'a>],
+) -> Result<Option<ReadTheory<'a>>, AllocError>
     ensures value { IfOk result (λ o. MatchOption o (IsNoForm (seen tokens.now)) (λ r. IsFirstForm (seen tokens.now) (view.theory r))) }
     ensures lemma { IfOk result (λ o. IfSome o (λ r. r.behind_lemma ≡ places.behind_quote (tokens_of tokens.now))) }
     ensures theory { IfOk result (λ o. IfSome o (λ r. r.behind_end ≡ places.behind_all (tokens_of tokens.now))) }
@@ -69,7 +72,13 @@ fn read_tokens<'a>(alloc: Global, tokens: &[Token<'a>]) -> Result<Option<ReadThe
     if rest < tokens.len() {
         return Ok(None);
     }
-    Ok(Some(ReadTheory { name, rule, lemma, behind_lemma: behind_quote(tokens), behind_end: behind_all(tokens) }))
+    Ok(Some(ReadTheory {
+        name,
+        rule,
+        lemma,
+        behind_lemma: behind_quote(tokens),
+        behind_end: behind_all(tokens),
+    }))
 }
 
 /// The theory that a text is, in the one form that is read, or none if it is not of that form.

@@ -16,7 +16,11 @@ pub fn name<'a>(tokens: &[Token<'a>], at: usize) -> Option<(&'a str, usize)>
     ensures further { IfSome result (λ x. (at < x.1) × (x.1 ≤ length tokens.now)) }
 {
     let (found, rest) = word(tokens, at)?;
-    if is_reserved(found) { None } else { Some((found, rest)) }
+    if is_reserved(found) {
+        None
+    } else {
+        Some((found, rest))
+    }
 }
 
 /// The word of a sort, and the tokens behind it.
@@ -46,7 +50,13 @@ pub fn variable<'a>(tokens: &[Token<'a>], at: usize) -> Option<(WrittenVariable<
         Lexeme::Word(_) => {
             let (name, rest) = name(tokens, at)?;
             let Some(colon) = after(Sign::Colon, tokens, rest) else {
-                return Some((WrittenVariable { name, mark: Mark::Bare }, rest));
+                return Some((
+                    WrittenVariable {
+                        name,
+                        mark: Mark::Bare,
+                    },
+                    rest,
+                ));
             };
             let (mark, rest) = sort(tokens, colon)?;
             Some((WrittenVariable { name, mark }, rest))
@@ -98,7 +108,10 @@ pub fn term<'a>(nesting: u32, tokens: &[Token<'a>], at: usize) -> Option<(Writte
 }
 
 /// Puts a term at the end.
-pub fn push_term<'a>(found: &mut Vec<WrittenTerm<'a>>, next: WrittenTerm<'a>) -> Result<(), AllocError>
+pub fn push_term<'a>(
+    found: &mut Vec<WrittenTerm<'a>>,
+    next: WrittenTerm<'a>,
+) -> Result<(), AllocError>
     ensures { OnOk result (map view.term found.new.items ≡ map view.term found.old.items ++ view.term next.entry ∷ []) }
 {
     found.push(next)?;
@@ -107,7 +120,12 @@ pub fn push_term<'a>(found: &mut Vec<WrittenTerm<'a>>, next: WrittenTerm<'a>) ->
 
 /// Terms with commas, up to a closing bracket, and the tokens behind it.
 #[tactic(auto, using(crate::proofs::Loops::loops))]
-pub fn terms<'a>(alloc: Global, nesting: u32, tokens: &[Token<'a>], at: usize) -> Result<Option<(Vec<WrittenTerm<'a>>, usize)>, AllocError>
+pub fn terms<'a>(
+    alloc: Global,
+    nesting: u32,
+    tokens: &[Token<'a>],
+    at: usize,
+) -> Result<Option<(Vec<WrittenTerm<'a>>, usize)>, AllocError>
     requires { nesting ≤ LIMIT }
     ensures value { IfOk result (λ o. MatchOption o (NoReading (AreParts (IsTerm nesting) Sign.Comma Sign.Close) (seen_from tokens.now at)) (λ x. AreParts (IsTerm nesting) Sign.Comma Sign.Close (seen_from tokens.now at) (map view.term x.0.items) (seen_from tokens.now x.1))) }
     ensures further { IfOk result (λ o. IfSome o (λ x. (at < x.1) × (x.1 ≤ length tokens.now))) }
@@ -131,7 +149,12 @@ pub fn terms<'a>(alloc: Global, nesting: u32, tokens: &[Token<'a>], at: usize) -
 
 /// Terms with commas, or none, up to a closing bracket, and the tokens behind it.
 #[tactic(auto, using(crate::proofs::Loops::loops))]
-pub fn term_list<'a>(alloc: Global, nesting: u32, tokens: &[Token<'a>], at: usize) -> Result<Option<(Vec<WrittenTerm<'a>>, usize)>, AllocError>
+pub fn term_list<'a>(
+    alloc: Global,
+    nesting: u32,
+    tokens: &[Token<'a>],
+    at: usize,
+) -> Result<Option<(Vec<WrittenTerm<'a>>, usize)>, AllocError>
     requires { nesting ≤ LIMIT }
     ensures value { IfOk result (λ o. MatchOption o (NoReading (AreItems (IsTerm nesting) Sign.Close) (seen_from tokens.now at)) (λ x. AreItems (IsTerm nesting) Sign.Close (seen_from tokens.now at) (map view.term x.0.items) (seen_from tokens.now x.1))) }
     ensures further { IfOk result (λ o. IfSome o (λ x. (at < x.1) × (x.1 ≤ length tokens.now))) }

@@ -10,7 +10,14 @@ use sp_lex::Sign;
 pub fn is_reserved(word: &str) -> bool
     ensures { result ≡ names.is_reserved word.now }
 {
-    word == "end" || word == "let" || word == "in" || word == "not" || word == "All" || word == "Ex" || word == "last" || word == "solve"
+    word == "end"
+        || word == "let"
+        || word == "in"
+        || word == "not"
+        || word == "All"
+        || word == "Ex"
+        || word == "last"
+        || word == "solve"
 }
 
 /// Whether only the adversary's rules speak of facts of this name.
