@@ -1,13 +1,14 @@
 use super::*;
 use std::test::Fail;
 
-/// The tokens as text, each before a blank: words as they stand, constants in quotes, signs as numbers of bytes.
-fn shown(lexeme: Lexeme) -> (&str, usize) {
-    match lexeme {
-        Lexeme::Word(word) => (word, 0),
-        Lexeme::Constant(text) => (text, 1),
-        Lexeme::Sign(_) => ("", 2),
-    }
+/// Whether the token reads so: a word (0), a constant (1) or a sign (2), with this text, between these places.
+fn reads(token: &Token, text: &str, kind: usize, start: usize, end: usize) -> bool {
+    let right = match token.lexeme {
+        Lexeme::Word(word) => kind == 0 && word == text,
+        Lexeme::Constant(inside) => kind == 1 && inside == text,
+        Lexeme::Sign(_) => kind == 2,
+    };
+    right && token.start == start && token.end == end
 }
 
 #[test]
@@ -28,9 +29,7 @@ fn cuts_words_constants_and_signs(rt: HostRuntime) -> Result<(), Fail> {
     ];
     assert_eq!(rt; found.len(), wanted.len());
     for (token, want) in found.iter().zip(wanted.iter()) {
-        let (text, kind) = shown(token.lexeme);
-        assert_eq!(rt; text, want.0);
-        assert_eq!(rt; (kind, token.start, token.end), (want.1, want.2, want.3));
+        assert!(rt; reads(token, want.0, want.1, want.2, want.3));
     }
     Ok(())
 }
