@@ -1,6 +1,5 @@
 -- Rules and lemmas from their parts, and each part that may be missing.
-use Rattle.std.proofs.Common.{◌≡◌, ℕ, List, [], ◌∷◌, ◌++◌, codes, refl, sym, ap, subst, ◌∙◌, append_assoc}
-use Rattle.sp_lex.specs.declared.token.Sign.{Sign}
+use Rattle.std.proofs.Common.{◌≡◌, ℕ, List, [], ◌∷◌, ◌++◌, codes, refl, sym, subst, append_assoc}
 use Rattle.sp_lex.specs.declared.token.Sign.TheVariants as s
 use Rattle.sp_lex.specs.Lexeme.{Lexeme, word, sign}
 use Rattle.sp_spec.specs.Rule.{Fact}
@@ -8,7 +7,7 @@ use Rattle.sp_spec.specs.Formula.{Written, Formula}
 use Rattle.sp_spec.specs.Theory.{Lemma, all_traces}
 use Rattle.sp_spec.specs.Written.{WrittenRule}
 use Rattle.sp_read_theory.specs.FirstForm.{IsNotFirst, NoReading, IsNameFirst, name, IsVariable, AreParts, AreItems, IsFact, AreFacts, facts, IsArrow, unlabelled, labelled, IsHeader, header, IsRule, rule, rule_of, AreBinders, one_binder, more_binders, Event, IsEvent, happening, IsEquation, equation, equal, formula_of, IsFormula, for_all_events, IsLemma, lemma, IsOpening, opening}
-use Rattle.sp_read_theory.proofs.One.{One, name_one, variable_one, variable_sign, items_one, facts', fact_one, facts_one, arrow_one, header_one, binders_one, events, parts_one, equation_one, formula_one}
+use Rattle.sp_read_theory.proofs.One.{One, name_one, variable_one, fact_one, facts_one, arrow_one, header_one, binders_one, events, parts_one, formula_one}
 use Rattle.sp_read_theory.proofs.Sequence.{Fixed, fixed_none, fixed_one, Then, no_first, no_second, Becomes, no_whole}
 
 -- ---- lists of facts, and arrows

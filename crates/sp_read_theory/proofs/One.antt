@@ -1,16 +1,15 @@
 -- Each part is read in one way.
-use Rattle.std.proofs.Common.{◌≡◌, ℕ, suc, ◌<◌, Bool, true, false, List, [], ◌∷◌, Option, Some, None, codes, refl, sym, ap, ap₂, subst, ◌∙◌}
+use Rattle.std.proofs.Common.{◌≡◌, ℕ, Bool, List, [], ◌∷◌, Option, Some, None, codes, refl, sym, ap, subst, ◌∙◌}
 use Rattle.sp_lex.specs.declared.token.Sign.{Sign}
 use Rattle.sp_lex.specs.declared.token.Sign.TheVariants as s
 use Rattle.sp_lex.specs.Lexeme.{Lexeme, word, constant, sign}
 use Rattle.sp_spec.specs.Term.{Term, var}
-use Rattle.sp_spec.specs.Term as t
 use Rattle.sp_spec.specs.Rule.{Fact}
-use Rattle.sp_spec.specs.Formula.{Mark, bare, Written, Formula}
+use Rattle.sp_spec.specs.Formula.{Mark, Written, Formula}
 use Rattle.sp_spec.specs.Theory.{Lemma}
 use Rattle.sp_spec.specs.Written.{WrittenRule, WrittenTheory}
-use Rattle.sp_read_theory.specs.Names.{mark_of, mark_at}
-use Rattle.sp_read_theory.specs.FirstForm.{NoReading, written, IsNameFirst, name, IsSort, sort, IsVariable, marked, sorted, plain, IsPlainTerm, variable, fixed, IsTerm, unbracketed, brackets, AreParts, last, next, AreItems, empty, some, AreArguments, arguments, fact, IsNamedFact, named, IsFact, linear, persistent, AreFacts, facts, IsArrow, unlabelled, labelled, IsHeader, header, IsRule, rule, AreBinders, one_binder, more_binders, Event, IsEvent, happening, IsEquation, equation, formula_of, IsFormula, for_all_events, IsLemma, lemma, IsOpening, opening, IsFirstForm, first_form}
+use Rattle.sp_read_theory.specs.Names.{mark_at}
+use Rattle.sp_read_theory.specs.FirstForm.{written, IsNameFirst, name, IsSort, sort, IsVariable, marked, sorted, plain, IsPlainTerm, variable, fixed, IsTerm, unbracketed, brackets, AreParts, last, next, AreItems, empty, some, AreArguments, arguments, fact, IsNamedFact, named, IsFact, linear, persistent, AreFacts, facts, IsArrow, unlabelled, labelled, IsHeader, header, IsRule, rule, AreBinders, one_binder, more_binders, Event, IsEvent, happening, IsEquation, equation, IsFormula, for_all_events, IsLemma, lemma, IsOpening, opening, IsFirstForm, first_form}
 
 -- what is read, and what follows it, are fixed by the tokens
 pub record One {A : Type 0} (R : List Lexeme → A → List Lexeme → Type 0) : Type 0 where

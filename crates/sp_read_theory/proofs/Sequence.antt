@@ -1,5 +1,5 @@
 -- Parts one behind the other: where one of them is missing, there is no reading of the whole.
-use Rattle.std.proofs.Common.{◌≡◌, List, [], ◌∷◌, refl, sym, subst, ◌∙◌}
+use Rattle.std.proofs.Common.{◌≡◌, List, ◌∷◌, refl, sym, subst, ◌∙◌}
 use Rattle.sp_lex.specs.Lexeme.{Lexeme}
 use Rattle.sp_read_theory.specs.FirstForm.{IsNotFirst, NoReading}
 use Rattle.sp_read_theory.proofs.One.{One}

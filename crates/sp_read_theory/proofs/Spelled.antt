@@ -1,14 +1,14 @@
 -- Each part of the one form is spelled so by the grammar.
-use Rattle.std.proofs.Common.{◌≡◌, ℕ, ◌+◌, ◌<◌, true, List, [], ◌∷◌, codes, arith}
+use Rattle.std.proofs.Common.{ℕ, List, ◌∷◌, arith}
 use Rattle.sp_lex.specs.declared.token.Sign.{Sign}
 use Rattle.sp_lex.specs.declared.token.Sign.TheVariants as s
-use Rattle.sp_lex.specs.Lexeme.{Lexeme, word, sign}
+use Rattle.sp_lex.specs.Lexeme.{Lexeme, sign}
 use Rattle.sp_spec.specs.Term.{Term}
 use Rattle.sp_spec.specs.Rule.{Fact}
 use Rattle.sp_spec.specs.Formula.{Written, Formula, both}
 use Rattle.sp_spec.specs.Theory.{Lemma}
 use Rattle.sp_spec.specs.Written.{WrittenRule, WrittenTheory}
-use Rattle.sp_read_theory.specs.Lists.{IsNotFirst, AreParts, last, next, AreItems, empty, some}
+use Rattle.sp_read_theory.specs.Lists.{AreParts, last, next, AreItems, empty, some}
 use Rattle.sp_read_theory.specs.Shapes.{Event, happens_at, joined_after, joined}
 use Rattle.sp_read_theory.specs.FirstForm as f
 use Rattle.sp_read_theory.specs.FirstForm.{IsVariable, IsTerm, IsFact, AreFacts, IsArrow, IsRule, AreBinders, IsEvent, IsEquation, IsFormula, IsLemma, IsFirstForm}

@@ -1,15 +1,15 @@
 -- What a part begins with says which way it is read; each way to get stuck leaves no reading.
-use Rattle.std.proofs.Common.{◌≡◌, ◌≢◌, ℕ, suc, ◌+◌, ◌<◌, ◌≤◌, Bool, true, false, List, [], ◌∷◌, Option, Some, None, codes, refl, sym, ap, ap₂, subst, ◌∙◌, add-one, arith}
+use Rattle.std.proofs.Common.{◌≡◌, ℕ, ◌+◌, ◌<◌, ◌≤◌, Bool, true, false, List, [], ◌∷◌, Some, None, refl, sym, ap, subst, ◌∙◌, arith}
 use Rattle.sp_lex.specs.declared.token.Sign.{Sign}
 use Rattle.sp_lex.specs.declared.token.Sign.TheVariants as s
 use Rattle.sp_lex.specs.Lexeme.{Lexeme, word, constant, sign}
 use Rattle.sp_spec.specs.Term.{Term, var}
 use Rattle.sp_spec.specs.Term as t
 use Rattle.sp_spec.specs.Rule.{Fact}
-use Rattle.sp_spec.specs.Formula.{Mark, bare, Written}
+use Rattle.sp_spec.specs.Formula.{Mark, Written}
 use Rattle.sp_read_theory.specs.Names.{IsName, names_fact, mark_of, mark_at}
 use Rattle.sp_read_theory.specs.FirstForm.{IsNotFirst, IsNoWord, NoReading, written, IsNameFirst, name, IsSort, sort, IsVariable, marked, sorted, plain, IsPlainTerm, variable, fixed, IsTerm, unbracketed, brackets, AreItems, AreArguments, arguments, fact, IsNamedFact, named, IsFact, linear, persistent}
-use Rattle.sp_read_theory.proofs.One.{name_one, variable_one, variable_constant, variable_sign, plain_sign, term_one}
+use Rattle.sp_read_theory.proofs.One.{variable_constant, variable_sign, plain_sign, term_one}
 
 -- ---- names and variables
 

@@ -1,11 +1,11 @@
 -- Whole texts.
-use Rattle.std.proofs.Common.{◌≡◌, ℕ, ◌+◌, ◌-◌, ◌<◌, ◌≤◌, List, [], ◌∷◌, length, length-drop, map, drop, codes, refl, sym, ap, subst, ◌∙◌, zero-add, arith}
+use Rattle.std.proofs.Common.{◌≡◌, ℕ, ◌-◌, ◌<◌, ◌≤◌, List, [], ◌∷◌, length, length-drop, drop, codes, refl, sym, ap, subst, ◌∙◌, arith}
 use Rattle.std.proofs.lemmas.List.{nil_from_length, length-map}
 use Rattle.sp_lex.specs.declared.token.Token as lexer
 use Rattle.sp_lex.specs.Views.{token_of, tokens_of}
 use Rattle.sp_lex.specs.Lexeme.{Lexeme, word, Token}
 use Rattle.sp_lex.specs.Lex.{AreTokens, IsFault, lexemes}
-use Rattle.sp_lex.specs.Places.{is_quote, is_any, behind_all, behind_quote}
+use Rattle.sp_lex.specs.Places.{is_quote, behind_all, behind_quote}
 use Rattle.sp_lex.proofs.One.{tokens_one, not_both}
 use Rattle.sp_lex.proofs.Places.{places_in_order}
 use Rattle.sp_spec.specs.Theory.{Lemma}
@@ -14,7 +14,7 @@ use Rattle.sp_read_theory.specs.FirstForm.{IsNotFirst, NoReading, IsRule, IsLemm
 use Rattle.sp_read_theory.specs.Text.{IsTextOf, IsNoText, ArePlaces}
 use Rattle.sp_read_theory.specs.Views.{seen_from}
 use Rattle.sp_read_theory.proofs.One.{One, opening_one, rule_one, lemma_one}
-use Rattle.sp_read_theory.proofs.Sequence.{Fixed, fixed_none, Then, no_first, no_second}
+use Rattle.sp_read_theory.proofs.Sequence.{Then, no_first, no_second}
 
 pub form_at : {w : List ℕ} {r : WrittenRule} {l : Lemma} {tokens body mid last : List Lexeme} → IsOpening tokens w body → IsRule body r mid → IsLemma mid l last → last ≡ word (codes "end") ∷ [] → IsFirstForm tokens (theory_of w r l)
 form_at {l = l} {mid = m} h i j e = first_form h i (subst (λ (ts : List Lexeme). IsLemma m l ts) e j)

@@ -1,13 +1,13 @@
 -- The one form of text that is read: a theory of one rule and one lemma, whose formula is All binders. actions ==> variable = variable.
 -- `R tokens x rest` says that the tokens begin with x, which R reads, and that the rest follows. Source: Tamarin manual, "Syntax description".
-use Rattle.std.specs.Prelude.{◌≡◌, ℕ, ◌+◌, ◌<◌, Bool, true, false, List, [], ◌∷◌, map, Some, codes}
+use Rattle.std.specs.Prelude.{◌≡◌, ℕ, ◌+◌, ◌<◌, Bool, true, false, List, [], ◌∷◌, Some, codes}
 use Rattle.sp_lex.specs.declared.token.Sign.{Sign}
 use Rattle.sp_lex.specs.declared.token.Sign.TheVariants as s
 use Rattle.sp_lex.specs.Lexeme.{Lexeme, word, constant, sign}
 use Rattle.sp_spec.specs.Term.{Term, var, Terms, none, more}
 use Rattle.sp_spec.specs.Term as t
-use Rattle.sp_spec.specs.Rule.{Fact, Action}
-use Rattle.sp_spec.specs.Formula.{Mark, bare, Written, Formula, truth, happens, equals, both, implies, for_all}
+use Rattle.sp_spec.specs.Rule.{Fact}
+use Rattle.sp_spec.specs.Formula.{Mark, bare, Written, Formula}
 use Rattle.sp_spec.specs.Theory.{all_traces, Lemma}
 use Rattle.sp_spec.specs.Written.{WrittenRule, WrittenTheory}
 pub use Rattle.sp_read_theory.specs.Lists.{IsNotFirst, IsNoWord, NoReading, AreParts, last, next, AreItems, empty, some}

@@ -1,14 +1,14 @@
 -- The grammar of theories without an adversary, line by line: which tokens spell which theory. `SpellsX tokens x rest` says that the tokens
 -- begin with a spelling of x, and that the rest follows. The number n is the nesting: brackets, quantifiers, and `==>` to the left that are open.
 -- Comments and the proofs below lemmas are not in it. Source: Tamarin manual, "Syntax description".
-use Rattle.std.specs.Prelude.{◌≡◌, ℕ, ◌+◌, ◌<◌, Bool, true, false, List, [], ◌∷◌, Some, codes}
+use Rattle.std.specs.Prelude.{◌≡◌, ℕ, ◌+◌, ◌<◌, true, false, List, [], ◌∷◌, Some, codes}
 use Rattle.sp_lex.specs.declared.token.Sign.{Sign}
 use Rattle.sp_lex.specs.declared.token.Sign.TheVariants as s
 use Rattle.sp_lex.specs.Lexeme.{Lexeme, word, constant, sign}
 use Rattle.sp_spec.specs.Term.{Term, var}
 use Rattle.sp_spec.specs.Term as t
 use Rattle.sp_spec.specs.Rule.{Fact}
-use Rattle.sp_spec.specs.Formula.{Mark, bare, Written, Formula, truth, falsity, happens, equals, precedes, not_so, both, either, implies, for_all, for_some}
+use Rattle.sp_spec.specs.Formula.{Mark, bare, Written, Formula, truth, falsity, happens, equals, precedes, not_so, both, either, implies, for_some}
 use Rattle.sp_spec.specs.Theory.{TraceKind, all_traces, exists_trace, Lemma}
 use Rattle.sp_spec.specs.Written.{WrittenRule, WrittenTheory}
 use Rattle.sp_read_theory.specs.Names.{IsName, names_fact, mark_of, mark_at}

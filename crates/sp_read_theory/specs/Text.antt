@@ -1,5 +1,5 @@
 -- What a text says, in the one form that is read, and two of its places.
-use Rattle.std.specs.Prelude.{◌≡◌, ℕ, ◌≤◌, List, length}
+use Rattle.std.specs.Prelude.{◌≡◌, ℕ, List, length}
 use Rattle.sp_lex.specs.Lexeme.{Token}
 use Rattle.sp_lex.specs.Lex.{AreTokens, lexemes}
 use Rattle.sp_lex.specs.Places.{behind_all, behind_quote}

@@ -1,5 +1,5 @@
 -- What the code's values stand for.
-use Rattle.std.specs.Prelude.{◌≡◌, ℕ, List, [], ◌∷◌, map, drop}
+use Rattle.std.specs.Prelude.{ℕ, List, map, drop}
 use Rattle.sp_lex.specs.declared.token.Token as lexer
 use Rattle.sp_lex.specs.Lexeme.{Lexeme}
 use Rattle.sp_lex.specs.Lex.{lexemes}

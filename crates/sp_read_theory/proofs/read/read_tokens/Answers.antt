@@ -1,5 +1,5 @@
 use Rattle.std.proofs.Common.{◌∙◌, ap, ◌∷◌, codes}
-use Rattle.sp_lex.specs.Lexeme.{Lexeme, word}
+use Rattle.sp_lex.specs.Lexeme.{word}
 use Rattle.sp_read_theory.proofs.Whole.{form_at, form_goes_on, left_over, nothing_left}
 use Rattle.sp_read_theory.proofs.read.read_tokens.Goals as goal
 
