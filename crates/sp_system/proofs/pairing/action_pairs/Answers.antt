@@ -20,13 +20,15 @@ returns-in_default c =
     let left = c.args.left.now.items in
     let right = c.args.right.now.items in
     sym (action_pairs-listed left right
-    ∙ gathered_stop (λ a b. action_pair (action_of a) (action_of b)) left right (map pair_of c.loop-a.made.items) (iter_rest c.loop-a.a-iterator.a) (iter_rest c.loop-a.a-iterator.b) (iter_rest c.next.new.self.a) (iter_rest c.next.new.self.b)
+    ∙ gathered_stop (λ a b. action_pair (action_of a) (action_of b)) left right (map pair_of c.loop-a.made.items)
+    (iter_rest c.loop-a.a-iterator.a) (iter_rest c.loop-a.a-iterator.b) (iter_rest c.next.new.self.a) (iter_rest c.next.new.self.b)
     c.in-Some.a.now c.in-Some.b.now c.in-Some.ensures.steps.0 c.in-Some.ensures.steps.1
     (sym (rw c.in_default.is at c.in_ok-pairs.ensures)) c.loop-a.invariant)
 
 pub loop-a-preserved : goal.loop-a-preserved
 loop-a-preserved c =
-    gathered_more (λ a b. action_pair (action_of a) (action_of b)) c.args.left.now.items c.args.right.now.items (map pair_of c.loop-a.made.items) (map pair_of c.in-Some-2.pairs.items) (map pair_of c.append.new.self.items)
+    gathered_more (λ a b. action_pair (action_of a) (action_of b)) c.args.left.now.items c.args.right.now.items (map pair_of c.loop-a.made.items)
+    (map pair_of c.in-Some-2.pairs.items) (map pair_of c.append.new.self.items)
     (iter_rest c.loop-a.a-iterator.a) (iter_rest c.loop-a.a-iterator.b) (iter_rest c.next.new.self.a) (iter_rest c.next.new.self.b)
     c.in-Some.a.now c.in-Some.b.now c.in-Some.ensures.steps.0 c.in-Some.ensures.steps.1
     (sym (rw c.in-Some-2.is at c.in_ok-pairs.ensures)) (grind (arith, common_steps)) c.loop-a.invariant

@@ -20,13 +20,15 @@ returns-in_default c =
     let left = c.args.left.now.items in
     let right = c.args.right.now.items in
     sym (fact_pairs-listed left right
-    ∙ gathered_stop (λ f g. fact_pair (fact_of f) (fact_of g)) left right (map pair_of c.loop-f.made.items) (iter_rest c.loop-f.f-iterator.a) (iter_rest c.loop-f.f-iterator.b) (iter_rest c.next.new.self.a) (iter_rest c.next.new.self.b)
+    ∙ gathered_stop (λ f g. fact_pair (fact_of f) (fact_of g)) left right (map pair_of c.loop-f.made.items)
+    (iter_rest c.loop-f.f-iterator.a) (iter_rest c.loop-f.f-iterator.b) (iter_rest c.next.new.self.a) (iter_rest c.next.new.self.b)
     c.in-Some.f.now c.in-Some.g.now c.in-Some.ensures.steps.0 c.in-Some.ensures.steps.1
     (sym (rw c.in_default.is at c.in_ok-pairs.ensures)) c.loop-f.invariant)
 
 pub loop-f-preserved : goal.loop-f-preserved
 loop-f-preserved c =
-    gathered_more (λ f g. fact_pair (fact_of f) (fact_of g)) c.args.left.now.items c.args.right.now.items (map pair_of c.loop-f.made.items) (map pair_of c.in-Some-2.pairs.items) (map pair_of c.append.new.self.items)
+    gathered_more (λ f g. fact_pair (fact_of f) (fact_of g)) c.args.left.now.items c.args.right.now.items (map pair_of c.loop-f.made.items)
+    (map pair_of c.in-Some-2.pairs.items) (map pair_of c.append.new.self.items)
     (iter_rest c.loop-f.f-iterator.a) (iter_rest c.loop-f.f-iterator.b) (iter_rest c.next.new.self.a) (iter_rest c.next.new.self.b)
     c.in-Some.f.now c.in-Some.g.now c.in-Some.ensures.steps.0 c.in-Some.ensures.steps.1
     (sym (rw c.in-Some-2.is at c.in_ok-pairs.ensures)) (grind (arith, common_steps)) c.loop-f.invariant

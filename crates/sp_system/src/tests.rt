@@ -1,0 +1,157 @@
+use crate::fact::{Action, Fact, Facts};
+use crate::formula::{Atom, Binder, Existential, Formula, FormulaAction, FormulaTerm, Moment};
+use crate::pairing::merging_pairs;
+use crate::system::{Event, System};
+use sp_term::subst::Subst;
+use sp_term::term::{Name, Sort, Term, Variable, same};
+use std::alloc::{AllocError, Global};
+use std::rc::RcStr;
+use std::test::Fail;
+
+fn variable(number: u128) -> Variable {
+    Variable {
+        sort: Sort::Msg,
+        number,
+    }
+}
+
+fn name(alloc: Global, text: &str) -> Result<Name, AllocError> {
+    Ok(Name {
+        text: RcStr::from_str(alloc, text)?,
+    })
+}
+
+fn terms(alloc: Global, term: Term) -> Result<Vec<Term>, AllocError> {
+    let mut terms = Vec::new(alloc);
+    terms.push(term)?;
+    Ok(terms)
+}
+
+// the rule R with the premise F(term) and the action A(term)
+fn event(alloc: Global, time: u128, term: Term) -> Result<Event, AllocError> {
+    let mut premises = Vec::new(alloc);
+    premises.push(Fact {
+        symbol: name(alloc, "F")?,
+        persistent: false,
+        args: terms(alloc, sp_term::term::copy(&term)?)?,
+    })?;
+    let mut actions = Vec::new(alloc);
+    actions.push(Action {
+        symbol: name(alloc, "A")?,
+        args: terms(alloc, term)?,
+    })?;
+    Ok(Event {
+        time,
+        rule: name(alloc, "R")?,
+        facts: Facts {
+            premises,
+            actions,
+            conclusions: Vec::new(alloc),
+        },
+    })
+}
+
+// there are x and i with A(x) at i, and not x = y for the variable y of number 1
+fn formula(alloc: Global) -> Result<Formula, AllocError> {
+    let mut binders = Vec::new(alloc);
+    binders.push(Binder::Message(Sort::Msg))?;
+    binders.push(Binder::Time)?;
+    let mut args = Vec::new(alloc);
+    args.push(FormulaTerm::Bound(0))?;
+    let mut guard = Vec::new(alloc);
+    guard.push(Atom::Acts(
+        FormulaAction {
+            symbol: name(alloc, "A")?,
+            args,
+        },
+        Moment::Bound(0),
+    ))?;
+    Ok(Formula::Exists(Existential {
+        binders,
+        guard,
+        body: Atom::Same(
+            FormulaTerm::Bound(0),
+            FormulaTerm::Free(Term::Var(variable(1))),
+        ),
+    }))
+}
+
+fn system(alloc: Global) -> Result<System, AllocError> {
+    let mut events = Vec::new(alloc);
+    events.push(event(alloc, 2, Term::Var(variable(0)))?)?;
+    events.push(event(alloc, 3, Term::Var(variable(1)))?)?;
+    let mut formulas = Vec::new(alloc);
+    formulas.push(formula(alloc)?)?;
+    formulas.push(Formula::Fails(Atom::SameTime(Moment::Free(2), Moment::Free(3))))?;
+    let mut unequal = Vec::new(alloc);
+    unequal.push((Term::Var(variable(0)), Term::Var(variable(1))))?;
+    Ok(System {
+        events,
+        formulas,
+        spent: Vec::new(alloc),
+        unequal,
+        next: 4,
+    })
+}
+
+// whether the body of the first formula says that its bound message is no fresh name 7
+fn body_is_changed(system: &System) -> bool {
+    match system.formulas.first() {
+        Some(Formula::Exists(formula)) => match &formula.body {
+            Atom::Same(FormulaTerm::Bound(place), FormulaTerm::Free(term)) => {
+                *place == 0 && same(term, &Term::FreshName(7))
+            }
+            _ => false,
+        },
+        _ => false,
+    }
+}
+
+fn times_are(system: &System, first: u128, second: u128) -> bool {
+    match system.formulas.last() {
+        Some(Formula::Fails(Atom::SameTime(Moment::Free(i), Moment::Free(j)))) => {
+            *i == first && *j == second
+        }
+        _ => false,
+    }
+}
+
+#[test]
+fn changes(rt: HostRuntime) -> Result<(), Fail> {
+    let alloc = rt.alloc();
+    let mut subst = Subst::new(alloc);
+    subst.push(variable(1), Term::FreshName(7))?;
+    let given = system(alloc)?;
+    let changed = given.changed(alloc, &subst, 2, 3)?;
+    let is_changed = body_is_changed(&changed);
+    assert!(rt; is_changed);
+    let is_replaced = times_are(&changed, 2, 2);
+    assert!(rt; is_replaced);
+    let made = given.with_terms(alloc, &subst)?;
+    let is_made = body_is_changed(&made);
+    assert!(rt; is_made);
+    let stays = times_are(&made, 2, 3);
+    assert!(rt; stays);
+    let copied = given.copy(alloc)?;
+    let is_copied = body_is_changed(&copied);
+    assert!(rt; !is_copied);
+    Ok(())
+}
+
+#[test]
+fn pairs(rt: HostRuntime) -> Result<(), Fail> {
+    let alloc = rt.alloc();
+    let left = event(alloc, 2, Term::Var(variable(0)))?;
+    let right = event(alloc, 3, Term::Var(variable(1)))?;
+    let found = merging_pairs(alloc, &left, &right)?;
+    let count = match found {
+        Some(pairs) => pairs.len(),
+        None => 0,
+    };
+    assert_eq!(rt; count, 2);
+    let mut other = event(alloc, 3, Term::Var(variable(1)))?;
+    other.rule = name(alloc, "S")?;
+    let is_none = merging_pairs(alloc, &left, &other)?.is_none();
+    assert!(rt; is_none);
+    Ok(())
+}
