@@ -1,10 +1,10 @@
 -- What names mean among the binders, and the values that the binders have.
-use Rattle.std.proofs.Common.{◌≡◌, ◌<◌, ℕ, zero, suc, Bool, true, false, if◌then◌else◌, List, [], ◌∷◌, Option, Some, None, option_map, option_and_then, refl, sym, ap, ap₂, ◌∙◌, subst, arith, bytes_eq}
-use Rattle.sp_spec.specs.Term.{Sort, Msg, Term, var, constant, name, app, Terms, none, more, Ground, Grounds, valued, valued_all}
+use Rattle.std.proofs.Common.{◌≡◌, ℕ, zero, Bool, true, false, if◌then◌else◌, List, ◌∷◌, Option, Some, None, option_map, refl, sym, ap, ap₂, ◌∙◌, subst, bytes_eq}
+use Rattle.sp_spec.specs.Term.{Term, var, constant, name, app, Terms, none, more, Ground, Grounds, valued, valued_all}
 use Rattle.sp_spec.specs.Rule.{Action, action_at}
 use Rattle.sp_spec.specs.Formula.{Mark, bare, of_sort, of_time, Written}
 use Rattle.sp_spec.specs.Truth.{Value, message, position, Environment, value_of, message_of}
-use Rattle.sp_spec.specs.Guarded.{Place, free, bound, Time, free_time, bound_time, Atom, acts, Assignment, with_term, with_time, pushed, place_in, term_in, action_in, time_in}
+use Rattle.sp_spec.specs.Guarded.{Place, bound, Time, bound_time, Atom, acts, Assignment, with_term, with_time, place_in, term_in, action_in, time_in}
 use Rattle.sp_step.proofs.Freed.{mapped, then_some}
 use Rattle.sp_check.specs.FirstForm.{Meant, a_message, a_time, binder_meant, past_binder, meant, message_place, time_place, placed_term, placed_terms, Happens, placed_action}
 

@@ -1,18 +1,17 @@
 -- Where a lemma of the first form is false, its negation in guarded form is true.
-use Rattle.std.proofs.Common.{◌≡◌, ◌<◌, ℕ, zero, suc, Bool, true, false, List, [], ◌∷◌, ◌++◌, map, length, Option, Some, None, option_map, option_and_then, refl, sym, ap, ap₂, ◌∙◌, subst, append_assoc}
-use Rattle.sp_spec.specs.Lists.{Every, Classically}
-use Rattle.sp_spec.specs.Term.{Sort, Msg, Term, var, Ground}
-use Rattle.sp_spec.specs.Signature.{Signature, IsValue}
-use Rattle.sp_spec.specs.Equal.{Equal}
+use Rattle.std.proofs.Common.{◌≡◌, List, [], ◌∷◌, ◌++◌, map, length, Option, Some, None, option_map, refl, sym, ap, ◌∙◌, subst, append_assoc}
+use Rattle.sp_spec.specs.Lists.{Every}
+use Rattle.sp_spec.specs.Term.{var}
+use Rattle.sp_spec.specs.Signature.{Signature}
 use Rattle.sp_spec.specs.Rule.{Action, action_at}
-use Rattle.sp_spec.specs.Formula.{Mark, bare, of_sort, of_time, Written, Formula, happens, equals, both, implies, for_all}
+use Rattle.sp_spec.specs.Formula.{Mark, bare, of_sort, of_time, Written, Formula, equals, both, implies}
 use Rattle.sp_spec.specs.Execution.{Trace}
 use Rattle.sp_spec.specs.Truth.{Value, message, position, Environment, value_of, message_of, Acts, ActsAt, IsSame, EachValue, IsTrueIn, IsTrueOver}
-use Rattle.sp_spec.specs.Guarded.{Place, bound, Time, bound_time, Binder, Atom, acts, same, same_time, Guarded, fails, some, Assignment, with_term, with_time, action_in, time_in, AtomHolds, AtomsHold, SomeValues, GuardedHolds}
+use Rattle.sp_spec.specs.Guarded.{bound, bound_time, Atom, same, same_time, Guarded, fails, some, Assignment, with_term, with_time, time_in, AtomHolds, AtomsHold, SomeValues, GuardedHolds}
 use Rattle.sp_law_truth.proofs.Stable.{stable_truth}
 use Rattle.sp_step.proofs.Freed.{mapped, then_some}
 use Rattle.sp_check.specs.FirstForm.{Happens, FirstForm, happens_of, joined_with, for_each, formula_of, Meant, a_message, a_time, meant, placed_action, placed_actions, equality_of, marked_binder, binder_of, reversed, negation}
-use Rattle.sp_check.proofs.Meant.{Corresponds, corresponds_message, corresponds_time, ReadsAction, action_read}
+use Rattle.sp_check.proofs.Meant.{Corresponds, corresponds_message, corresponds_time, action_read}
 
 module _ (signature : Signature) (trace : Trace) where
   -- an action as written and as an atom
@@ -75,8 +74,12 @@ module _ (signature : Signature) (trace : Trace) where
         at (of_sort sort) k b later = λ none. b (λ t i. stable_truth signature trace ((x.name, message t) ∷ env) (for_each xs body)
             (λ nb. none (t, i, later ((x.name, message t) ∷ env) (with_term t m) (corresponds_message x bs env m t (λ q. cc) h) nb)))
         at of_time k b later = λ none. b (λ p i. stable_truth signature trace ((x.name, position p) ∷ env) (for_each xs body)
-            (λ nb. none (p, i, later ((x.name, position p) ∷ env) (with_time p m)
-            (subst (λ (y : Written). Corresponds (y ∷ bs) ((x.name, position p) ∷ env) (with_time p m)) (same_written k) (corresponds_time x.name bs env m p h)) nb)))
+            (λ nb. none (
+              p,
+              i,
+              later ((x.name, position p) ∷ env) (with_time p m)
+                  (subst (λ (y : Written). Corresponds (y ∷ bs) ((x.name, position p) ∷ env) (with_time p m)) (same_written k) (corresponds_time x.name bs env m p h)) nb,
+            )))
           where
             same_written : x.mark ≡ of_time → record { name = x.name; mark = of_time } ≡ x
             same_written q = let make : Mark → Written = λ mark. record { name = x.name; mark = mark } in ap make (sym q)
@@ -93,8 +96,7 @@ module _ (signature : Signature) (trace : Trace) where
       (broken_some (implies (joined_with (happens_of l.first) l.others) (equals (var l.left) (var l.right)))
       (λ w. AtomsHold signature trace w r.0 × GuardedHolds signature trace w (fails q.0)) bs
       (λ env w h b.
-      let actions = stable_truth signature trace env (joined_with (happens_of l.first) l.others) (λ n. b (λ x. absurd (n x))) in
-      (
+      let actions = stable_truth signature trace env (joined_with (happens_of l.first) l.others) (λ n. b (λ x. absurd (n x))) in (
         actions_hold bs env w h (l.first ∷ l.others) r.0 r.1 (joined_true env (happens_of l.first) l.others actions),
         (λ x. b (λ _. equality_back bs env w h l.left l.right (meant bs l.left.name) (meant bs l.right.name) refl refl q.0 q.1 x)),
       ))

@@ -1,29 +1,20 @@
 -- An accepted tree without open leaves, from the negation of a lemma of the first form, shows that the lemma holds in every
 -- execution, steps of the adversary included.
-use Rattle.std.proofs.Common.{◌≡◌, ◌<◌, ◌≤◌, ℕ, zero, suc, Bool, true, false, ◌&&◌, ◌||◌, not, if◌then◌else◌, List, [], ◌∷◌, ◌++◌, ◌+◌, map, length, Option, Some, None, option_map, option_and_then, refl, sym, ap, ◌∙◌, subst, inl, inr, arith, codes, nat_eq, ⊎_elim}
+use Rattle.std.proofs.Common.{◌≡◌, ◌<◌, ℕ, zero, suc, Bool, true, false, ◌&&◌, if◌then◌else◌, List, [], ◌∷◌, ◌+◌, map, length, Option, Some, None, option_map, refl, sym, ap, ◌∙◌, subst, inl, inr, arith, ⊎_elim}
 use Rattle.std.proofs.lemmas.Bool.{and_parts, or_cases, eqb-true}
-use Rattle.sp_spec.specs.Lists.{Member, Every, Classically}
-use Rattle.sp_spec.specs.Term.{Sort, Msg, Fresh, Pub, Variable, Term, var, constant, name, Ground, Values}
-use Rattle.sp_spec.specs.Signature.{Signature, HasSort, IsValue, IsValuation}
+use Rattle.sp_spec.specs.Lists.{Every}
+use Rattle.sp_spec.specs.Term.{Sort, Msg, Fresh, Pub, Variable, constant, name, Ground}
+use Rattle.sp_spec.specs.Signature.{Signature, IsValue, IsValuation}
 use Rattle.sp_spec.specs.Equal.{IsNormal}
 use Rattle.sp_spec.specs.Rule.{Action}
-use Rattle.sp_spec.specs.Formula.{Written}
-use Rattle.sp_spec.specs.Theory.{Theory, Lemma, signature_of}
-use Rattle.sp_spec.specs.Execution.{Step, Trace, IsExecution}
-use Rattle.sp_spec.specs.Truth.{IsTrueOver}
+use Rattle.sp_spec.specs.Theory.{Theory, signature_of}
 use Rattle.sp_spec.specs.Guarded.{Place, Time, free_time, bound_time, Binder, message, time, Atom, acts, same, same_time, before, last, Guarded, fails, some, Assignment, GuardedHolds}
-use Rattle.sp_spec.specs.Log.{Log, IsLog, log_trace}
-use Rattle.sp_spec.specs.Verdict.{MeetsRestrictions, HoldsInAll}
-use Rattle.sp_law_equal.specs.Convergent.{AreConvergent, KeepSymbols}
-use Rattle.sp_law_truth.specs.Shown.{times_within, HasActionAt, IsActionAt, GuardsTimes, IsTimed, action_names}
-use Rattle.sp_law_truth.proofs.Stable.{stable_truth}
-use Rattle.sp_law_truth.proofs.Shown.{equal_shown_same}
-use Rattle.sp_system.specs.System.{System, Valuation, assignment, AtomSettled, Settled, InAtom, InFormula, IsNumbered, FormulaHolds, Solves}
-use Rattle.sp_step.specs.Laws.{HasNoSolution}
+use Rattle.sp_spec.specs.Log.{Log, log_trace}
+use Rattle.sp_law_truth.specs.Shown.{times_within, HasActionAt, IsActionAt, GuardsTimes, IsTimed}
+use Rattle.sp_system.specs.System.{Valuation, assignment, AtomSettled, Settled, InAtom, InFormula, IsNumbered, Solves}
 use Rattle.sp_step.proofs.Freed.{mapped, then_some}
-use Rattle.sp_check.specs.FirstForm.{Happens, FirstForm, formula_of, meant, placed_actions, equality_of, binder_of, reversed, negation, root, has_time, is_at, times_in, messages_in, has_message, each_guarded, is_guarded, right_negation, checked_negation}
-use Rattle.sp_check.proofs.Flat.{FlatAtom, flat_timed, flat_all_timed, flat_atom_in, Bounded, flat_settled, each_bounded, times_of, times_reversed, actions_flat, equality_flat}
-use Rattle.sp_check.proofs.Negations.{negation_holds}
+use Rattle.sp_check.specs.FirstForm.{FirstForm, meant, placed_actions, equality_of, binder_of, reversed, negation, root, has_time, is_at, times_in, messages_in, has_message, each_guarded, is_guarded, right_negation, checked_negation}
+use Rattle.sp_check.proofs.Flat.{FlatAtom, flat_timed, flat_all_timed, flat_atom_in, Bounded, flat_settled, each_bounded, times_reversed, actions_flat, equality_flat}
 
 -- the negation's parts: flat atoms under binders
 pub record IsNegation (bs : List Binder) (atoms : List Atom) (e : Atom) : Type 0 where

@@ -1,15 +1,14 @@
 -- What accepted trees show, with the laws of logs and of rows and moves put in.
-use Rattle.std.proofs.Common.{◌≡◌, ◌⊎◌, ℕ, Bool, true, false, ◌||◌, List, [], ◌∷◌, ◌++◌, map, Option, Some, None, option_map, option_and_then, codes, refl, sym, ap, ◌∙◌, subst, bytes_eq}
+use Rattle.std.proofs.Common.{◌≡◌, ℕ, Bool, true, false, List, [], ◌∷◌, ◌++◌, map, Option, Some, None, option_map, codes, refl, sym, ap, subst, bytes_eq}
 use Rattle.std.proofs.lemmas.Bool.{or_parts}
 use Rattle.std.proofs.lemmas.Slice.Eq.{bytes_eq-Decides}
 use Rattle.sp_spec.specs.Lists.{Every}
 use Rattle.sp_spec.specs.Term.{Terms}
 use Rattle.sp_spec.specs.Rule.{Action}
 use Rattle.sp_spec.specs.Formula.{Written}
-use Rattle.sp_spec.specs.Theory.{Theory, Lemma, signature_of}
-use Rattle.sp_spec.specs.Written.{WrittenRule, WrittenTheory, theory_of}
-use Rattle.sp_spec.specs.Findings.{has_fr}
-use Rattle.sp_spec.specs.Guarded.{Place, bound, Time, bound_time, Atom, acts, same, same_time, Guarded, some, fails}
+use Rattle.sp_spec.specs.Theory.{signature_of}
+use Rattle.sp_spec.specs.Written.{theory_of}
+use Rattle.sp_spec.specs.Guarded.{Place, bound, bound_time, Atom, acts, same, same_time, Guarded, some, fails}
 use Rattle.sp_spec.specs.Term as term
 use Rattle.sp_law_equal.proofs.Pairs.{pairs_convergent, pairs_keep_symbols}
 use Rattle.sp_law_truth.specs.Shown.{is_among, atom_names, guard_names, action_names}
@@ -17,8 +16,7 @@ use Rattle.sp_law_erase.proofs.Erased.{executions_erase}
 use Rattle.sp_step.specs.Laws.{IsPlainTheory}
 use Rattle.sp_step.proofs.Freed.{mapped, then_some}
 use Rattle.sp_step.proofs.Covering.{plain_moves_cover}
-use Rattle.sp_check.specs.FirstForm.{Happens, FirstForm, formula_of, Meant, a_message, a_time, meant, time_place, placed_terms, placed_action, placed_actions, equality_of, binder_of, reversed, negation, checked_negation, root}
-use Rattle.sp_check.specs.FirstTheory.{IsFirstRule}
+use Rattle.sp_check.specs.FirstForm.{Happens, FirstForm, Meant, a_message, a_time, meant, time_place, placed_terms, placed_action, placed_actions, equality_of, binder_of, reversed, negation}
 use Rattle.sp_check.specs.Laws.{NamesNoSending, AcceptedTreesShow}
 use Rattle.sp_check.proofs.Trees.{finished_trees_show}
 use Rattle.sp_check.proofs.Shown.{NamesNoSend}

@@ -1,10 +1,8 @@
 -- What a formula that doesn't name the adversary's action sees of an execution is what it sees of its log.
-use Rattle.std.proofs.Common.{◌≡◌, Bool, true, false, if◌then◌else◌, List, [], ◌∷◌, codes, refl, sym, ap, ap₂, ◌∙◌, subst, bytes_eq, ℕ}
-use Rattle.std.proofs.lemmas.Bool.{eqb-true}
+use Rattle.std.proofs.Common.{◌≡◌, Bool, true, false, if◌then◌else◌, List, [], ◌∷◌, codes, refl, ap, ap₂, ◌∙◌, subst, ℕ}
 use Rattle.std.proofs.lemmas.Slice.Eq.{bytes_eq-Decides}
-use Rattle.sp_spec.specs.Lists.{Member, Every}
 use Rattle.sp_spec.specs.Signature.{Equation}
-use Rattle.sp_spec.specs.Rule.{Action, SameAction}
+use Rattle.sp_spec.specs.Rule.{Action}
 use Rattle.sp_spec.specs.Execution.{Trace, with_entry}
 use Rattle.sp_law_truth.specs.Shown.{is_among, only_actions, only, without_empty, shown}
 use Rattle.sp_law_truth.specs.Same.{SameActions, EqualTraces}

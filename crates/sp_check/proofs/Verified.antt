@@ -1,12 +1,12 @@
 -- An accepted tree without open leaves, from the negation of a lemma of the first form, shows that the lemma holds in every
 -- execution, steps of the adversary included.
-use Rattle.std.proofs.Common.{◌≡◌, ◌⊎◌, ℕ, zero, List, [], ◌∷◌, Option, Some, refl, sym, subst, inl, inr}
+use Rattle.std.proofs.Common.{◌≡◌, List, [], ◌∷◌, Some, refl, sym, subst, inl, inr}
 use Rattle.sp_spec.specs.Lists.{Member, Every}
 use Rattle.sp_spec.specs.Theory.{Theory, Lemma, signature_of}
 use Rattle.sp_spec.specs.Formula.{Formula}
 use Rattle.sp_spec.specs.Execution.{Step, Trace, IsExecution}
 use Rattle.sp_spec.specs.Truth.{IsTrueOver}
-use Rattle.sp_spec.specs.Guarded.{Guarded, GuardedHolds}
+use Rattle.sp_spec.specs.Guarded.{Guarded}
 use Rattle.sp_spec.specs.Log.{Log, IsLog, log_trace}
 use Rattle.sp_spec.specs.Verdict.{HoldsInAll}
 use Rattle.sp_law_truth.specs.Shown.{without_empty, action_names}

@@ -1,20 +1,19 @@
 -- A written rule of the first form stands for a rule whose variables are numbered, without destructors, that leaves the adversary
 -- alone.
-use Rattle.std.proofs.Common.{◌≡◌, ◌<◌, ℕ, zero, suc, Bool, true, false, ◌&&◌, ◌||◌, if◌then◌else◌, List, [], ◌∷◌, ◌++◌, map, length, codes, refl, sym, ap, ◌∙◌, subst, inl, inr, arith, bytes_eq, ⊎_elim}
+use Rattle.std.proofs.Common.{◌≡◌, ◌<◌, ℕ, zero, suc, Bool, true, false, ◌||◌, if◌then◌else◌, List, [], ◌∷◌, ◌++◌, map, length, codes, refl, sym, ap, subst, inl, inr, arith, bytes_eq, ⊎_elim}
 use Rattle.std.proofs.lemmas.Bool.{or_cases, or_left, or_right, or_parts}
 use Rattle.std.proofs.lemmas.Slice.Eq.{bytes_eq-Decides}
 use Rattle.sp_spec.specs.Lists.{Member, Every}
-use Rattle.sp_spec.specs.Term.{Sort, Variable, Term, var, constant, name, app, Terms, none, more, valued, valued_all}
+use Rattle.sp_spec.specs.Term.{Variable, Term, var, constant, name, app, Terms, none, more, valued, valued_all}
 use Rattle.sp_spec.specs.Signature.{Equation}
-use Rattle.sp_spec.specs.Rule.{Fact, Action, Facts, Declared, Rule, fact_at, action_at, facts_at}
+use Rattle.sp_spec.specs.Rule.{Fact, Action, Facts, Declared, Rule, fact_at, action_at}
 use Rattle.sp_spec.specs.Formula.{Written}
-use Rattle.sp_spec.specs.Theory.{Theory}
 use Rattle.sp_spec.specs.Written.{WrittenRule, WrittenTheory, in_term, in_terms, in_facts, in_actions, occurrences, is_listed, names_after, rule_names, place_of, numbered_in, sort_in, rule_of, theory_of}
 use Rattle.sp_spec.specs.Findings.{is_fr_named, has_fr}
 use Rattle.sp_law_equal.specs.Convergent.{IsPlain, ArePlain}
 use Rattle.sp_law_erase.specs.Adversary.{adversary_facts, adversary_names, NeedsNoAdversary}
 use Rattle.sp_system.specs.System.{EachVariable, EachVariables, InFacts}
-use Rattle.sp_system.proofs.Lists.{every_map, every_weaken, every_member, member_mapped}
+use Rattle.sp_spec.proofs.Lists.{every_map, every_member, member_mapped}
 use Rattle.sp_system.proofs.Numbers.{facts_valued}
 use Rattle.sp_step.specs.Laws.{FactsArePlain, RulesArePlain, RulesAreNumbered}
 use Rattle.sp_check.specs.FirstTheory.{IsAtomic, AreAtomic, IsFirstFact, IsFirstAction, IsFirstRule}

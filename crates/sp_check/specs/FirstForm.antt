@@ -2,7 +2,7 @@
 -- system in which its proof begins. Source: CSF 2012, "Guarded trace properties".
 use Rattle.std.specs.Prelude.{ℕ, zero, suc, Bool, true, false, ◌&&◌, ◌||◌, ◌==◌, not, if◌then◌else◌, List, [], ◌∷◌, ◌++◌, map, Option, Some, None, option_map, option_and_then}
 use Rattle.std.specs.Str.{bytes_eq}
-use Rattle.sp_spec.specs.Term.{Sort, Msg, Fresh, Pub, Term, var, constant, name, app, Terms, none, more}
+use Rattle.sp_spec.specs.Term.{Msg, Fresh, Pub, Term, var, constant, name, app, Terms, none, more}
 use Rattle.sp_spec.specs.Rule.{Action}
 use Rattle.sp_spec.specs.Written.{in_terms}
 use Rattle.sp_spec.specs.Findings.{is_wide}

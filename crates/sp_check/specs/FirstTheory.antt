@@ -1,15 +1,11 @@
 -- The theories that the first form of texts spells: rules without symbols and without facts of the adversary, and one lemma of the
 -- first form.
-use Rattle.std.specs.Prelude.{◌≡◌, false, List, [], ◌∷◌}
 use Rattle.sp_spec.specs.Lists.{Member, Every}
 use Rattle.sp_spec.specs.Term.{Term, var, constant, name, app, Terms, none, more}
-use Rattle.sp_spec.specs.Rule.{Fact, Action, Facts}
+use Rattle.sp_spec.specs.Rule.{Fact, Action}
 use Rattle.sp_spec.specs.Formula.{Written}
-use Rattle.sp_spec.specs.Theory.{TraceKind, all_traces}
-use Rattle.sp_spec.specs.Written.{WrittenRule, WrittenTheory}
-use Rattle.sp_spec.specs.Findings.{rule_is_wrong}
+use Rattle.sp_spec.specs.Written.{WrittenRule}
 use Rattle.sp_law_erase.specs.Adversary.{adversary_names}
-use Rattle.sp_check.specs.FirstForm.{FirstForm, formula_of}
 
 -- a variable or a public name
 abbrev pub IsAtomic : Term Written → Type 0

@@ -1,4 +1,4 @@
-ghost use Rattle.std.specs.Prelude.{◌≡◌, ◌<◌, ◌≤◌, ◌+◌, ◌↔◌, ◌++◌, List, [], ◌∷◌, ℕ, Option, Some, None, true, false, length, map, OnOk, OnErr, IfOk, IsErrOf, IsSomeAnd, IsTrue, option_copied, string_bytes, bytes_eq, if◌then◌else◌};
+ghost use Rattle.std.specs.Prelude.{◌≡◌, ◌<◌, ◌≤◌, ◌+◌, ◌↔◌, ◌++◌, List, [], ◌∷◌, ℕ, Option, Some, None, length, map, OnOk, OnErr, IfOk, IsErrOf, IsSomeAnd, IsTrue, option_copied, string_bytes, bytes_eq, if◌then◌else◌};
 ghost use Rattle.sp_io.specs.Calls.{raised, is_planned, count_after};
 ghost use Rattle.sp_io.specs.Shelf.{Shelf, under};
 ghost use Rattle.sp_io.specs.Told.{Rose, extended, IsCutShort};

@@ -1,4 +1,4 @@
-ghost use Rattle.std.specs.Prelude.{◌≡◌, ◌<◌, ◌≤◌, ◌+◌, ◌-◌, ◌↔◌, ◌++◌, List, [], ◌∷◌, ℕ, Option, Some, None, length, take, min, vec_len, vec_capacity, is_err, OnOk, OnErr, IfOk, IsErr, IsTrue};
+ghost use Rattle.std.specs.Prelude.{◌≡◌, ◌<◌, ◌≤◌, ◌+◌, ◌-◌, ◌↔◌, ◌++◌, [], ◌∷◌, Some, length, take, min, vec_len, vec_capacity, is_err, OnOk, OnErr, IfOk, IsErr, IsTrue};
 ghost use Rattle.sp_io.specs.Calls.{raised, count_after};
 ghost use Rattle.sp_io.specs.Slate.{Slate, fails_next};
 ghost use Rattle.sp_io.specs.Told.{Rose, extended};

@@ -1,7 +1,7 @@
 -- The sources that the conclusions of a new entry are.
-use Rattle.std.proofs.Common.{◌≡◌, ⊎_elim, inl, inr, ℕ, zero, suc, ◌+◌, ◌<◌, ◌≤◌, Bool, true, false, if◌then◌else◌, List, [], ◌∷◌, ◌++◌, map, length, refl, sym, ap, subst, arith}
+use Rattle.std.proofs.Common.{◌≡◌, ⊎_elim, inl, inr, ℕ, zero, suc, ◌+◌, ◌<◌, ◌≤◌, Bool, true, false, if◌then◌else◌, List, [], ◌∷◌, ◌++◌, length, refl, sym, subst, arith}
 use Rattle.std.specs.Prelude.{codes}
-use Rattle.sp_spec.specs.Lists.{Member, Every, Distinct, AtPlace, AtPosition}
+use Rattle.sp_spec.specs.Lists.{Member, Every, Distinct, AtPlace}
 use Rattle.sp_spec.specs.Signature.{Equation}
 use Rattle.sp_spec.specs.Rule.{Fact, Facts}
 use Rattle.sp_spec.specs.Log.{Source, fresh_rule, conclusion, Entry, step, Log, linear_sources}

@@ -1,7 +1,7 @@
 -- Lists that hold no more than others do.
-use Rattle.std.proofs.Common.{◌≡◌, ◌⊎◌, ⊎_elim, inl, inr, List, [], ◌∷◌, ◌++◌, refl, sym, subst, append_assoc}
+use Rattle.std.proofs.Common.{◌≡◌, ⊎_elim, inl, inr, List, [], ◌∷◌, ◌++◌, refl, sym, subst, append_assoc}
 use Rattle.std.proofs.lemmas.List.{append-nil}
-use Rattle.sp_spec.specs.Lists.{Member, Every, Distinct}
+use Rattle.sp_spec.specs.Lists.{Member, Distinct}
 use Rattle.sp_spec.proofs.Lists.{member_left, member_right, member_either, distinct_right}
 
 -- each element of the second stands in the first, and each at a place of its own

@@ -1,7 +1,6 @@
 -- Equal values, and traces with equal actions, keep the truth of formulas.
-use Rattle.std.proofs.Common.{ℕ, List, [], ◌∷◌}
+use Rattle.std.proofs.Common.{ℕ, List}
 use Rattle.std.specs.Prelude.{◌↔◌}
-use Rattle.sp_spec.specs.Lists.{Every}
 use Rattle.sp_spec.specs.Signature.{Equation, Signature}
 use Rattle.sp_spec.specs.Rule.{Action, SameAction}
 use Rattle.sp_spec.specs.Execution.{Trace}

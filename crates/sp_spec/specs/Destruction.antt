@@ -50,7 +50,7 @@ along symbols r sides (f ∷ []) = []
 along symbols r sides (f ∷ g ∷ forks) =
     if is_public symbols f.symbol (count (joined f.front (more f.entered f.back)))
     then record { pattern = f.entered; sides = joined sides (joined f.front f.back); result = r }
-        ∷ along symbols r (joined sides (joined f.front f.back)) (g ∷ forks)
+    ∷ along symbols r (joined sides (joined f.front f.back)) (g ∷ forks)
     else []
 
 abbrev pub along_way : List Symbol → Term Variable → Option (List Fork) → List Destruction

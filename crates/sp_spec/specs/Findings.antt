@@ -1,11 +1,11 @@
 -- What is wrong with a written theory though its grammar is right: the fatal findings on facts, rules and formulas. Source: Tamarin
 -- manual, "Checking well-formedness"; CSF 2012, "Guarded trace properties" (guarded variables).
-use Rattle.std.specs.Prelude.{ℕ, Bool, true, false, ◌&&◌, ◌||◌, ◌==◌, nat_lt, not, if◌then◌else◌, List, [], ◌∷◌, codes}
+use Rattle.std.specs.Prelude.{ℕ, Bool, true, false, ◌&&◌, ◌||◌, nat_lt, not, List, [], ◌∷◌, codes}
 use Rattle.std.specs.Str.{bytes_eq}
-use Rattle.sp_spec.specs.Term.{Sort, Msg, Fresh, Pub, Term, var, constant, name, app, Terms, none, more, count}
+use Rattle.sp_spec.specs.Term.{Sort, Msg, Fresh, Pub, var, Terms, none, more, count}
 use Rattle.sp_spec.specs.Rule.{Fact, Action, Facts}
 use Rattle.sp_spec.specs.Formula.{Mark, bare, of_sort, of_time, Written}
-use Rattle.sp_spec.specs.Written.{WrittenRule, in_term, in_terms, in_facts, in_actions, occurrences, is_fr_argument, is_written, sort_in, is_listed}
+use Rattle.sp_spec.specs.Written.{WrittenRule, in_facts, in_actions, occurrences, is_fr_argument, sort_in}
 
 -- more than sixteen arguments
 abbrev pub is_wide : {V : Type 0} → Terms V → Bool

@@ -1,36 +1,30 @@
 -- The cases of an action cover, and keep the numbers.
-use Rattle.std.proofs.Common.{◌≡◌, ◌⊎◌, ◌≤◌, ◌<◌, ◌+◌, ℕ, zero, suc, Bool, true, false, ◌||◌, if◌then◌else◌, List, [], ◌∷◌, ◌++◌, map, length, Option, Some, None, option_map, option_and_then, refl, sym, ap, ◌∙◌, subst, inl, inr, arith, nat_eq, le_refl, slice_get, codes, bytes_eq}
+use Rattle.std.proofs.Common.{◌≡◌, ◌<◌, ◌+◌, ℕ, Bool, true, false, if◌then◌else◌, List, [], ◌∷◌, map, length, Some, refl, sym, ap, ◌∙◌, subst, inl, inr, arith, nat_eq, codes, bytes_eq}
 use Rattle.std.proofs.lemmas.Bool.{eqb-true, or_left, or_right}
 use Rattle.std.proofs.lemmas.Slice.Eq.{bytes_eq-Decides}
-use Rattle.sp_spec.specs.Lists.{Member, Every, AtPosition, Classically}
+use Rattle.sp_spec.specs.Lists.{Member, Every, AtPosition}
 use Rattle.sp_spec.specs.Term.{Variable, Values}
 use Rattle.sp_spec.specs.Signature.{IsValuation}
 use Rattle.sp_spec.specs.Equal.{IsNormal, AreNormal}
-use Rattle.sp_spec.specs.Rule.{Fact, Action, Facts, Rule, action_at, facts_at, SameAction, sends, learns}
+use Rattle.sp_spec.specs.Rule.{Action, Facts, Rule, action_at, facts_at, SameAction}
 use Rattle.sp_spec.specs.Theory.{Theory, signature_of}
-use Rattle.sp_spec.specs.Guarded.{Place, Guarded, truth, falsity, holds, fails, all_of, one_of, some, every, Atom, acts, same, same_time, before, last, Time, free_time, bound_time, action_in}
-use Rattle.sp_spec.specs.Log.{Log, Entry, step, send, learn, How, Source, IsLog, log_trace, entry_actions}
-use Rattle.sp_spec.specs.Substitution.{Binding, bound_to}
+use Rattle.sp_spec.specs.Guarded.{Place, action_in}
+use Rattle.sp_spec.specs.Log.{Log, Entry, step, send, learn, IsLog, log_trace, entry_actions}
 use Rattle.sp_law_equal.specs.Convergent.{AreConvergent, KeepSymbols}
-use Rattle.sp_law_equal.specs.Normal.{normal}
 use Rattle.sp_law_equal.proofs.Forms.{normal_has_sort, is_normal, normals}
 use Rattle.sp_law_equal.proofs.Over.{normal_over}
-use Rattle.sp_system.specs.System.{Happening, rule_step, Event, System, Valuation, assignment, HappensAt, HappensIn, FormulaHolds, Solves, EachVariables, InFacts, InHappening, InEvent, InFormula, IsNumbered, Agrees, NoneSolved, Covers}
+use Rattle.sp_system.specs.System.{Happening, rule_step, Event, System, Valuation, assignment, HappensAt, HappensIn, Solves, EachVariables, InFacts, InHappening, InEvent, IsNumbered, Agrees, NoneSolved}
 use Rattle.sp_system.specs.Laws.{UnifierIsRight}
-use Rattle.sp_system.specs.Equating.{action_pair, unifier_of, system_changed}
-use Rattle.sp_spec.proofs.Lists.{every_append, every_parts, every_member, member_mapped, every_at, every_weaken, position_one}
+use Rattle.sp_spec.proofs.Lists.{every_parts, every_member, member_mapped, position_one}
 use Rattle.sp_system.proofs.Facts.{action_same}
 use Rattle.sp_system.proofs.Numbers.{each_weaken_all}
-use Rattle.sp_system.proofs.Merging.{action_under}
-use Rattle.sp_system.proofs.Solutions.{Under, TimeUnder, change_numbered}
+use Rattle.sp_system.proofs.Solutions.{Under, TimeUnder, agrees_itself}
 use Rattle.sp_step.specs.Rows.{freed_action, happening_actions}
-use Rattle.sp_step.specs.Moves.{Case, where_same, at_event, renamed, with_step, system_if, by_actions, named, by_each, event_at, action_cases, action_at_time, is_adversary, solving_action}
-use Rattle.sp_step.specs.Laws.{RulesAreNumbered, FactsArePlain, RulesArePlain, systems_of}
-use Rattle.sp_step.proofs.Freed.{mapped, freed_action_value, freed_action_in}
-use Rattle.sp_step.proofs.FreshOnce.{unifier_within}
-use Rattle.sp_step.proofs.Literals.{agrees_itself}
-use Rattle.sp_step.proofs.Entries.{traced, IsStepOf, entry_is_step, step_action_normal, same_normal_action, plain_step, beside, beside_agrees}
-use Rattle.sp_step.proofs.Actions.{named_systems, systems_append, at_event_systems, by_actions_solved, step_numbered, step_solved}
+use Rattle.sp_step.specs.Moves.{renamed, with_step, by_actions, named, by_each, event_at, is_adversary}
+use Rattle.sp_step.specs.Laws.{RulesAreNumbered, RulesArePlain, systems_of}
+use Rattle.sp_step.proofs.Freed.{freed_action_value}
+use Rattle.sp_step.proofs.Entries.{traced, entry_is_step, step_action_normal, same_normal_action, plain_step, beside, beside_agrees}
+use Rattle.sp_step.proofs.Actions.{named_systems, systems_append, by_actions_solved, step_numbered, step_solved}
 
 pub event_found : (i : ℕ) (es : List Event) (e : Event) → event_at i es ≡ Some e → Member e es × (e.time ≡ i)
 event_found i [] e h = absurd cc
@@ -121,16 +115,16 @@ module _ (right : UnifierIsRight) (theory : Theory) (good : AreConvergent (signa
             let sorts : IsValuation (signature_of theory) w = λ x. (normal_has_sort es x.sort (is_step.3 x) (is_step.4 x).0, normal_over (signature_of theory).symbols es keeps (is_step.3 x) (is_step.4 x).1) in
             let are_normal : (x : Variable) → IsNormal es (w x) = λ x. is_normal es good (is_step.3 x) in
             let here : AtPosition log (v.times i) (step rule.name (facts_at w rule.facts) sources) =
-                subst (λ (g : Facts ⊥). AtPosition log (v.times i) (step rule.name g sources)) same_facts (subst (λ (q : List ℕ). AtPosition log (v.times i) (step q facts sources)) (sym is_step.2) k) in
+            subst (λ (g : Facts ⊥). AtPosition log (v.times i) (step rule.name g sources)) same_facts (subst (λ (q : List ℕ). AtPosition log (v.times i) (step q facts sources)) (sym is_step.2) k) in
             let solved = step_solved theory s rule i i_under numbered_r log v h n w sorts are_normal sources here in
             let num = step_numbered theory s rule i i_under numbered_r n in
             let value : Valuation = beside s.next v w in
             let event : HappensIn log value (record { time = i; happening = rule_step rule.name (renamed s.next rule.facts) }) =
-                (every_parts (HappensIn log value) s.events (record { time = i; happening = rule_step rule.name (renamed s.next rule.facts) } ∷ []) solved.events).1.0 in
+            (every_parts (HappensIn log value) s.events (record { time = i; happening = rule_step rule.name (renamed s.next rule.facts) } ∷ []) solved.events).1.0 in
             let ag = beside_agrees s.next v w in
             let time : value.times i ≡ v.times i = ag.times i i_under in
             let one : step rule.name (facts_at value.terms (renamed s.next rule.facts)) event.0 ≡ step r facts sources =
-                position_one log (value.times i) _ (step r facts sources) event.1 (subst (λ (p : ℕ). AtPosition log p (step r facts sources)) (sym time) k) in
+            position_one log (value.times i) _ (step r facts sources) event.1 (subst (λ (p : ℕ). AtPosition log p (step r facts sources)) (sym time) k) in
             let entry_facts : facts_at value.terms (renamed s.next rule.facts) ≡ facts = cc in
             let shown_in : Member shown (map (action_at value.terms) (renamed s.next rule.facts).actions) = subst (λ (g : Facts ⊥). Member shown g.actions) (sym entry_facts) l in
             let b = member_mapped (action_at value.terms) shown (renamed s.next rule.facts).actions shown_in in

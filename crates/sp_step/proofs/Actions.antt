@@ -1,37 +1,26 @@
 -- The move on an action covers: the entry at its time has the action, and it is the event's, or an instance of some rule.
-use Rattle.std.proofs.Common.{◌≡◌, ◌⊎◌, ◌≤◌, ◌<◌, ◌+◌, ℕ, zero, suc, Bool, true, false, if◌then◌else◌, List, [], ◌∷◌, ◌++◌, map, length, Option, Some, None, option_map, option_and_then, refl, sym, ap, ◌∙◌, subst, inl, inr, arith, nat_eq, le_refl, lt_of_lt_of_le, codes, decimal, bytes_eq}
-use Rattle.std.proofs.lemmas.Bool.{eqb-true, or_left, or_right}
-use Rattle.std.proofs.lemmas.Slice.Eq.{bytes_eq-Decides}
-use Rattle.sp_spec.specs.Lists.{Member, Every, AtPosition, Classically}
-use Rattle.sp_spec.specs.Term.{Sort, Variable, Term, var, Ground, Values, valued}
-use Rattle.sp_spec.specs.Signature.{IsValue, IsValuation, RespectsSorts}
-use Rattle.sp_spec.specs.Equal.{IsNormal, AreNormal}
-use Rattle.sp_spec.specs.Rule.{Fact, Action, Facts, Rule, fact_at, action_at, facts_at, SameAction, sends, learns}
+use Rattle.std.proofs.Common.{◌≡◌, ◌<◌, ◌+◌, ℕ, suc, List, [], ◌∷◌, ◌++◌, length, Option, Some, None, option_map, option_and_then, refl, sym, ap, ◌∙◌, subst, inl, inr, arith, codes, decimal}
+use Rattle.sp_spec.specs.Lists.{Member, Every, AtPosition}
+use Rattle.sp_spec.specs.Term.{Variable, var, Values}
+use Rattle.sp_spec.specs.Signature.{IsValue, IsValuation}
+use Rattle.sp_spec.specs.Equal.{IsNormal}
+use Rattle.sp_spec.specs.Rule.{Action, Facts, Rule, action_at, facts_at}
 use Rattle.sp_spec.specs.Theory.{Theory, signature_of}
-use Rattle.sp_spec.specs.Truth.{Acts}
-use Rattle.sp_spec.specs.Guarded.{Place, Guarded, holds, Atom, acts, Time, free_time, action_in, GuardedHolds}
-use Rattle.sp_spec.specs.Log.{Log, Entry, step, send, learn, Source, IsLog, log_trace, entry_actions}
+use Rattle.sp_spec.specs.Log.{Log, step, Source}
 use Rattle.sp_spec.specs.Substitution.{Binding, bound_to}
-use Rattle.sp_spec.specs.Unifier.{Pair, mgu}
-use Rattle.sp_law_equal.specs.Convergent.{AreConvergent, KeepSymbols}
-use Rattle.sp_law_equal.specs.Normal.{normal}
-use Rattle.sp_law_equal.proofs.Forms.{normal_has_sort, is_normal, normals}
-use Rattle.sp_law_equal.proofs.Over.{normal_over}
-use Rattle.sp_system.specs.System.{Happening, rule_step, Event, System, Valuation, assignment, HappensAt, HappensIn, FormulaHolds, Solves, EachVariable, EachVariables, InFacts, InHappening, InEvent, InFormula, IsNumbered, Agrees, NoneSolved, Covers}
+use Rattle.sp_spec.specs.Unifier.{mgu}
+use Rattle.sp_system.specs.System.{rule_step, System, Valuation, HappensIn, Solves, EachVariables, InFacts, InEvent, IsNumbered, Agrees, NoneSolved}
 use Rattle.sp_system.specs.Laws.{UnifierIsRight}
 use Rattle.sp_system.specs.Equating.{action_pair, unifier_of, system_changed}
-use Rattle.sp_spec.proofs.Lists.{every_append, every_parts, every_member, member_mapped, every_at, every_weaken, position_one}
+use Rattle.sp_spec.proofs.Lists.{every_append, every_parts}
 use Rattle.sp_system.proofs.Facts.{facts_same, facts_at-facts_at}
-use Rattle.sp_system.proofs.Numbers.{facts_valued, facts_weaken, event_weaken}
-use Rattle.sp_system.proofs.Merging.{Paired, action_paired, action_under}
-use Rattle.sp_system.proofs.Solutions.{Under, TimeUnder, agree_solves, change_solves, change_numbered}
-use Rattle.sp_step.specs.Rows.{freed_action, happening_actions}
-use Rattle.sp_step.specs.Moves.{Case, where_same, case_if, at_event, renamed, with_step, system_if, by_actions, numbered, named, by_each, event_at, action_cases, action_at_time, is_adversary, solving_action}
-use Rattle.sp_step.specs.Laws.{RulesAreNumbered, FactsArePlain, RulesArePlain, systems_of}
-use Rattle.sp_step.proofs.Freed.{mapped, freed_action_value, freed_action_in}
-use Rattle.sp_step.proofs.FreshOnce.{unifier_within}
+use Rattle.sp_system.proofs.Numbers.{facts_valued, facts_weaken}
+use Rattle.sp_system.proofs.Merging.{Paired, action_paired}
+use Rattle.sp_system.proofs.Solutions.{Under, TimeUnder, agree_solves, change_solves}
+use Rattle.sp_step.specs.Moves.{Case, where_same, case_if, at_event, renamed, with_step, system_if, by_actions, numbered, named}
+use Rattle.sp_step.specs.Laws.{systems_of}
 use Rattle.sp_step.proofs.OpenedNumbers.{weaken_numbered}
-use Rattle.sp_step.proofs.Entries.{traced, IsStepOf, entry_is_step, step_action_normal, same_normal_action, plain_step, beside, beside_agrees, beside_new, each_beside}
+use Rattle.sp_step.proofs.Entries.{beside, beside_agrees, beside_new, each_beside}
 
 -- the systems of named cases are those that were named
 numbered_systems : (name : List ℕ) (k : ℕ) (ss : List System) → systems_of (numbered name k ss) ≡ ss
@@ -104,10 +93,10 @@ module _ (theory : Theory) (s : System) (r : Rule) (i : ℕ) (i_under : i < s.ne
     step_solved =
         let a = beside_agrees s.next v w in
         let old = agree_solves theory log s v (beside s.next v w) n a
-            (each_beside s.next v w (λ sort t. IsNormal (signature_of theory).equations t) h.normal are_normal) (each_beside s.next v w (IsValue (signature_of theory)) h.sorts sorts) h in
+        (each_beside s.next v w (λ sort t. IsNormal (signature_of theory).equations t) h.normal are_normal) (each_beside s.next v w (IsValue (signature_of theory)) h.sorts sorts) h in
         let here : AtPosition log ((beside s.next v w).times i) (step r.name (facts_at (beside s.next v w).terms (renamed s.next r.facts)) sources) =
-            subst (λ (f : Facts ⊥). AtPosition log ((beside s.next v w).times i) (step r.name f sources)) (sym renamed_value)
-            (subst (λ (p : ℕ). AtPosition log p (step r.name (facts_at w r.facts) sources)) (sym (a.times i i_under)) there) in
+        subst (λ (f : Facts ⊥). AtPosition log ((beside s.next v w).times i) (step r.name f sources)) (sym renamed_value)
+        (subst (λ (p : ℕ). AtPosition log p (step r.name (facts_at w r.facts) sources)) (sym (a.times i i_under)) there) in
         record {
           sorts = old.sorts;
           normal = old.normal;

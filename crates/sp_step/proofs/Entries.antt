@@ -1,31 +1,29 @@
 -- What the log says of an entry: its actions, its rule, and the new event that stands for it.
-use Rattle.std.proofs.Common.{◌≡◌, ◌⊎◌, ◌≤◌, ◌<◌, ◌+◌, ◌-◌, ℕ, zero, suc, Bool, true, false, if◌then◌else◌, List, [], ◌∷◌, ◌++◌, map, length, refl, sym, ap, ap₂, ◌∙◌, subst, inl, inr, arith, nat_lt, lt-ltb}
-use Rattle.std.proofs.lemmas.Bool.{ltb-true, ltb-false}
-use Rattle.sp_spec.specs.Lists.{Member, Every, Distinct, AtPosition}
-use Rattle.sp_spec.specs.Term.{Sort, Variable, Term, var, Terms, none, more, Ground, Grounds, Values, valued, valued_all}
-use Rattle.sp_spec.specs.Signature.{Equation, HasSort, IsOver, IsValue, IsValuation, RespectsSorts}
-use Rattle.sp_spec.specs.Equal.{Equal, EqualAll, IsNormal, AreNormal}
-use Rattle.sp_spec.specs.Rule.{Fact, Action, Facts, Rule, fact_at, action_at, facts_at, SameAction, AreNormalActions, IsNormalFormOf, sends, learns}
+use Rattle.std.proofs.Common.{◌≡◌, ◌+◌, ◌-◌, ℕ, suc, Bool, true, false, if◌then◌else◌, List, [], ◌∷◌, map, length, refl, sym, ap, ap₂, ◌∙◌, subst, inl, inr, arith, nat_lt, lt-ltb}
+use Rattle.std.proofs.lemmas.Bool.{ltb-true}
+use Rattle.sp_spec.specs.Lists.{Member, Every, AtPosition}
+use Rattle.sp_spec.specs.Term.{Sort, Variable, Ground, Grounds, Values}
+use Rattle.sp_spec.specs.Signature.{Equation, IsValuation}
+use Rattle.sp_spec.specs.Equal.{AreNormal}
+use Rattle.sp_spec.specs.Rule.{Fact, Action, Facts, Rule, fact_at, action_at, facts_at, SameAction, AreNormalActions, IsNormalFormOf}
 use Rattle.sp_spec.specs.Theory.{Theory, signature_of}
-use Rattle.sp_spec.specs.Execution.{Trace}
-use Rattle.sp_spec.specs.Log.{Log, Entry, step, send, learn, How, Source, entry_actions, log_trace, Fits, IsLog}
-use Rattle.sp_law_equal.specs.Convergent.{AreConvergent, KeepSymbols, ArePlain}
-use Rattle.sp_law_equal.specs.Normal.{normal, normal_all, normal_fact, normal_action, normal_facts}
-use Rattle.sp_law_equal.proofs.Forms.{normal_has_sort, is_normal, normals, normal_plain_all}
+use Rattle.sp_spec.specs.Log.{Log, Entry, step, Source, entry_actions, log_trace, Fits, IsLog}
+use Rattle.sp_law_equal.specs.Convergent.{AreConvergent, ArePlain}
+use Rattle.sp_law_equal.specs.Normal.{normal_fact, normal_action}
+use Rattle.sp_law_equal.proofs.Forms.{normals, normal_plain_all}
 use Rattle.sp_law_equal.proofs.Values.{equal_all_normal_same}
-use Rattle.sp_law_equal.proofs.Over.{normal_over}
 use Rattle.sp_law_equal.proofs.Facts.{facts_normal_form_only}
-use Rattle.sp_system.specs.System.{System, Event, Valuation, Agrees}
+use Rattle.sp_system.specs.System.{Valuation, Agrees}
 use Rattle.sp_step.specs.Laws.{FactsArePlain}
+
+pub length_trace : (log : Log) → length (log_trace log) ≡ length log
+length_trace [] = refl
+length_trace (e ∷ log) = ap suc (length_trace log)
 
 -- an entry of the log's trace is that of the log at the same position
 pub traced : (log : Log) (p : ℕ) (actions : List (Action ⊥)) → AtPosition (log_trace log) p actions → (e : Entry) × AtPosition log p e × (actions ≡ entry_actions e)
 traced [] p actions a = absurd a
 traced (e ∷ log) p actions (inl a) = (e, inl (a.0 ∙ length_trace log, refl), sym a.1)
-  where
-    length_trace : (log : Log) → length (log_trace log) ≡ length log
-    length_trace [] = refl
-    length_trace (d ∷ log) = ap suc (length_trace log)
 traced (e ∷ log) p actions (inr a) = let r = traced log p actions a in (r.0, inr r.1, r.2)
 
 -- the entry is an instance of a rule

@@ -1,6 +1,6 @@
 -- A term of a formula that binds none of its variables has the value of the term of the system.
-use Rattle.std.proofs.Common.{◌≡◌, List, Option, Some, None, option_map, option_and_then, refl, sym, ap, ap₂, ◌∙◌, subst}
-use Rattle.sp_spec.specs.Term.{Variable, Term, var, constant, name, app, Terms, none, more, Ground, Grounds, valued, valued_all}
+use Rattle.std.proofs.Common.{◌≡◌, Option, Some, None, option_map, option_and_then, refl, sym, ap, ap₂, ◌∙◌, subst}
+use Rattle.sp_spec.specs.Term.{Variable, Term, var, constant, name, app, Terms, none, more, Grounds, valued, valued_all}
 use Rattle.sp_spec.specs.Rule.{Action, action_at}
 use Rattle.sp_spec.specs.Guarded.{Place, free, bound, Assignment, place_in, term_in, action_in}
 use Rattle.sp_system.specs.System.{EachVariable, EachVariables, AtFree}

@@ -1,18 +1,18 @@
 -- Two events that use the same Fr are one entry of the log: the row makes them one, and where it can't there is no solution.
-use Rattle.std.proofs.Common.{◌≡◌, ◌⊎◌, ◌≤◌, ◌<◌, ℕ, zero, suc, Bool, true, false, ◌||◌, ◌&&◌, if◌then◌else◌, List, [], ◌∷◌, ◌++◌, map, length, Option, Some, None, option_map, option_and_then, is_none, refl, sym, ap, ◌∙◌, subst, inl, inr, arith, ⊎_elim, le_refl, nat_lt, nat_eq}
-use Rattle.std.proofs.lemmas.Bool.{or_cases, eqb-true, cases_eq}
-use Rattle.sp_spec.specs.Lists.{Member, Every, Distinct, AtPosition}
-use Rattle.sp_spec.specs.Term.{Variable, Term, Terms, none, more, Ground, Grounds, Values, valued, valued_all}
+use Rattle.std.proofs.Common.{◌≡◌, ◌≤◌, ◌<◌, ℕ, Bool, true, false, if◌then◌else◌, List, [], ◌∷◌, ◌++◌, map, Option, Some, None, option_map, option_and_then, is_none, refl, sym, ap, ◌∙◌, subst, inl, inr, ⊎_elim, le_refl, nat_lt, nat_eq}
+use Rattle.std.proofs.lemmas.Bool.{or_cases, eqb-true}
+use Rattle.sp_spec.specs.Lists.{Member, Every, AtPosition}
+use Rattle.sp_spec.specs.Term.{Variable, Term, Terms, none, more, Ground, Values, valued, valued_all}
 use Rattle.sp_spec.specs.Signature.{RespectsSorts}
-use Rattle.sp_spec.specs.Rule.{Fact, Action, Facts, fact_at, facts_at}
+use Rattle.sp_spec.specs.Rule.{Fact, fact_at, facts_at}
 use Rattle.sp_spec.specs.Theory.{Theory}
 use Rattle.sp_spec.specs.Same.{alike}
-use Rattle.sp_spec.specs.Substitution.{Binding, bound_to, Fixes}
-use Rattle.sp_spec.specs.Unifier.{Pair, MakesSame, mgu}
-use Rattle.sp_spec.specs.Log.{Log, Entry, step, Source, IsLog, is_fr, first_arg, fresh_of, fresh_uses, all_fresh_uses}
+use Rattle.sp_spec.specs.Substitution.{Binding, bound_to}
+use Rattle.sp_spec.specs.Unifier.{Pair, mgu}
+use Rattle.sp_spec.specs.Log.{Log, Entry, step, IsLog, is_fr, first_arg, fresh_of, fresh_uses, all_fresh_uses}
 use Rattle.sp_spec.proofs.Lists.{member_left, member_right, distinct_apart, position_one}
-use Rattle.sp_system.specs.System.{Happening, rule_step, Event, System, Valuation, HappensAt, HappensIn, Solves, EachVariable, InFacts, InHappening, InEvent, IsNumbered, Covers}
-use Rattle.sp_system.specs.Laws.{UnifierIsRight, PairsUnder}
+use Rattle.sp_system.specs.System.{Happening, rule_step, Event, System, Valuation, HappensAt, HappensIn, Solves, EachVariable, InHappening, InEvent, IsNumbered, Covers}
+use Rattle.sp_system.specs.Laws.{UnifierIsRight}
 use Rattle.sp_system.specs.Equating.{time_replaced, merging_pairs, unifier_of, smaller, larger, merged_system}
 use Rattle.sp_system.proofs.Merging.{Paired, merging_paired, OptionUnder, merging_under}
 use Rattle.sp_system.proofs.Solutions.{Under, TimeUnder, change_solves, change_numbered}
@@ -196,7 +196,6 @@ module _ (right : UnifierIsRight) (theory : Theory) where
       let rest_solved : Solves theory log v rest = record { sorts = h.sorts; normal = h.normal; events = w.others; formulas = h.formulas; spent = h.spent; unequal = h.unequal } in
       subst (Solves theory log v) (sym u.2)
       (change_solves theory log v u.0 fixes (time_replaced (smaller r.first.time r.second.time) (larger r.first.time r.second.time)) (replaced_same v.times r.first.time r.second.time p.0) rest rest_numbered rest_solved))
-
 
 -- what the unifier of pairs below the limit puts in is below the limit
 pub unifier_within : UnifierIsRight → (n : ℕ) (o : Option (List Pair)) (bs : List Binding) → unifier_of o ≡ Some bs → OptionUnder n o → (x : Variable) → Under n x → EachVariable (Under n) (bound_to bs x)

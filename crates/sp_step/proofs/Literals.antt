@@ -1,26 +1,22 @@
 -- The rows on inequalities and standing actions, and the contradictions of literals.
-use Rattle.std.proofs.Common.{◌≡◌, ◌⊎◌, ◌≤◌, ℕ, ◌<◌, Bool, true, false, ◌||◌, ◌&&◌, List, [], ◌∷◌, ◌++◌, Option, Some, None, option_map, option_and_then, refl, sym, ap, ◌∙◌, subst, inl, inr, arith, eqb-true, ⊎_elim, le_refl}
+use Rattle.std.proofs.Common.{◌≡◌, ◌≤◌, ℕ, true, List, [], ◌∷◌, Option, Some, None, option_map, sym, ap, ◌∙◌, subst, eqb-true, ⊎_elim, le_refl}
 use Rattle.std.proofs.lemmas.Bool.{or_cases}
 use Rattle.sp_spec.specs.Lists.{Every}
-use Rattle.sp_spec.specs.Term.{Variable, Term, Ground, Values, valued}
+use Rattle.sp_spec.specs.Term.{Variable, Term, Ground, valued}
 use Rattle.sp_spec.specs.Equal.{Equal, end, IsNormal}
 use Rattle.sp_spec.specs.Theory.{Theory, signature_of}
-use Rattle.sp_spec.specs.Guarded.{Place, Time, free_time, bound_time, Binder, Atom, acts, same, same_time, before, last, Guarded, truth, falsity, holds, fails, all_of, one_of, some, every, term_in, GuardedHolds}
+use Rattle.sp_spec.specs.Guarded.{Place, free_time, bound_time, acts, same, same_time, before, last, Guarded, truth, falsity, holds, fails, all_of, one_of, some, every, term_in}
 use Rattle.sp_spec.specs.Log.{Log, IsLog}
 use Rattle.sp_spec.specs.Same.{alike}
 use Rattle.sp_spec.specs.Substitution.{Binding}
 use Rattle.sp_spec.specs.Unifier.{Pair, mgu}
 use Rattle.sp_law_equal.proofs.Tests.{same_by_decides, same_variable_decides}
-use Rattle.sp_system.specs.System.{System, Valuation, assignment, FormulaHolds, AreUnequal, Solves, EachVariable, InFormula, IsNumbered, Agrees, NoneSolved, Covers}
+use Rattle.sp_system.specs.System.{System, Valuation, assignment, FormulaHolds, AreUnequal, Solves, EachVariable, InFormula, IsNumbered, Covers}
 use Rattle.sp_spec.proofs.Lists.{every_append}
-use Rattle.sp_system.proofs.Solutions.{Under, TimeUnder}
-use Rattle.sp_step.specs.Rows.{Found, first_formula, spending, pair_of, inequality_of, kept_unequal, unequal_at, unequal, standing_of, action_stands, freed, has_equal_pair, is_refuted, has_refuted}
-use Rattle.sp_step.specs.Laws.{HasNoSolution}
+use Rattle.sp_system.proofs.Solutions.{Under, TimeUnder, agrees_itself}
+use Rattle.sp_step.specs.Rows.{first_formula, spending, pair_of, inequality_of, kept_unequal, unequal_at, unequal, standing_of, action_stands, freed, has_equal_pair, is_refuted, has_refuted}
 use Rattle.sp_step.proofs.Freed.{mapped, then_some, freed_value, freed_in}
-use Rattle.sp_step.proofs.Spending.{IsFound, is_found, found_holds, spending_solves, spending_numbered}
-
-pub agrees_itself : (n : ℕ) (v : Valuation) → Agrees n v v
-agrees_itself n v = record { terms = λ x h. refl; times = λ i h. refl }
+use Rattle.sp_step.proofs.Spending.{is_found, found_holds, spending_solves, spending_numbered}
 
 -- one case that the same values solve
 pub covers_by_itself : (theory : Theory) (s t : System) → ((log : Log) → IsLog theory log → (v : Valuation) → Solves theory log v s → Solves theory log v t) → Covers theory s (t ∷ [])

@@ -1,31 +1,31 @@
 -- Each move covers, with its cases simplified.
-use Rattle.std.proofs.Common.{◌≡◌, ◌≤◌, ◌<◌, ◌+◌, ℕ, zero, suc, Bool, true, false, if◌then◌else◌, List, [], ◌∷◌, ◌++◌, map, length, Option, Some, None, option_map, option_and_then, is_some, refl, sym, ap, ◌∙◌, subst, arith, le_refl, le_trans, slice_get}
-use Rattle.sp_spec.specs.Lists.{Member, Every, Classically}
+use Rattle.std.proofs.Common.{◌≡◌, ◌≤◌, ◌<◌, ◌+◌, ℕ, Bool, true, false, if◌then◌else◌, List, [], ◌∷◌, map, length, Option, Some, None, option_map, is_some, refl, sym, subst, arith, le_refl, le_trans, slice_get}
+use Rattle.sp_spec.specs.Lists.{Every}
 use Rattle.sp_spec.specs.Term.{Variable}
-use Rattle.sp_spec.specs.Rule.{Fact, Action, Facts, Rule}
+use Rattle.sp_spec.specs.Rule.{Action, Rule}
 use Rattle.sp_spec.specs.Equal.{AreNormal}
 use Rattle.sp_spec.specs.Theory.{Theory, signature_of}
 use Rattle.sp_spec.specs.Truth.{Acts}
-use Rattle.sp_spec.specs.Guarded.{Place, Guarded, truth, falsity, holds, fails, all_of, one_of, some, every, Atom, acts, same, same_time, before, last, Time, free_time, bound_time, action_in}
+use Rattle.sp_spec.specs.Guarded.{Place, Guarded, truth, falsity, holds, fails, all_of, one_of, some, every, acts, same, same_time, before, last, free_time, bound_time, action_in}
 use Rattle.sp_spec.specs.Log.{Log, IsLog, log_trace}
 use Rattle.sp_spec.specs.Substitution.{Binding, bound_to}
 use Rattle.sp_law_equal.specs.Convergent.{AreConvergent, KeepSymbols}
 use Rattle.sp_system.specs.System.{Happening, rule_step, Event, System, Valuation, assignment, FormulaHolds, Solves, EachVariables, InEvent, InHappening, InFormula, IsNumbered, NoneSolved, Covers}
 use Rattle.sp_system.specs.Laws.{UnifierIsRight}
 use Rattle.sp_system.specs.Equating.{action_pair, unifier_of, system_changed}
-use Rattle.sp_spec.proofs.Lists.{every_append, every_parts, every_member, every_at, every_weaken}
+use Rattle.sp_spec.proofs.Lists.{every_append, every_parts, every_member, every_at}
 use Rattle.sp_system.proofs.Numbers.{each_weaken_all}
 use Rattle.sp_system.proofs.Merging.{action_under}
-use Rattle.sp_system.proofs.Solutions.{Under, TimeUnder, change_numbered}
-use Rattle.sp_step.specs.Rows.{freed_action, happening_actions, rows, by_rows, is_contradictory, simplified, simplified_by}
-use Rattle.sp_step.specs.Moves.{Move, simplify, contradiction, unproved, action, Case, where_same, case_if, at_event, renamed, with_step, system_if, by_actions, named, by_each, event_at, action_cases, action_at_time, is_adversary, solving_action, raw_cases, simple_case, cases}
+use Rattle.sp_system.proofs.Solutions.{Under, TimeUnder, agrees_then, change_numbered}
+use Rattle.sp_step.specs.Rows.{freed_action, happening_actions, rows, by_rows, is_contradictory}
+use Rattle.sp_step.specs.Moves.{Move, simplify, contradiction, unproved, action, Case, where_same, renamed, with_step, system_if, by_actions, named, by_each, event_at, action_cases, action_at_time, is_adversary, solving_action, raw_cases, simple_case}
 use Rattle.sp_step.specs.Laws.{RulesAreNumbered, RulesArePlain, systems_of, MovesCover}
 use Rattle.sp_step.proofs.Freed.{mapped, freed_action_in}
 use Rattle.sp_step.proofs.FreshOnce.{unifier_within}
 use Rattle.sp_step.proofs.Opened.{EqualTruth}
 use Rattle.sp_step.proofs.Actions.{named_systems, systems_append, at_event_systems, step_numbered}
 use Rattle.sp_step.proofs.ActionCovers.{event_found, at_event_solved, new_step_solved}
-use Rattle.sp_step.proofs.Simplifying.{no_solution, simplified_follows, covers_itself, agrees_on}
+use Rattle.sp_step.proofs.Simplifying.{no_solution, simplified_follows, covers_itself}
 
 -- a solved action: the formula, its time and its terms
 pub record SolvesAction (rules : List Rule) (s : System) (f : Guarded) (cs : List Case) : Type 0 where
@@ -185,7 +185,7 @@ module _ (right : UnifierIsRight) (theory : Theory) (good : AreConvergent (signa
   simple_solved log is n v [] h none = tt
   simple_solved log is n v (c ∷ cs) h none =
       let f = simplified_follows right theory good keeps equal_truth 10000 c.system h.0.0 in
-      ((λ w a k. f.1.covers log is w k ((λ x b l. none.0 x (agrees_on n c.system.next v w x h.0.1 a b) l), tt)), simple_solved log is n v cs h.1 none.1)
+      ((λ w a k. f.1.covers log is w k ((λ x b l. none.0 x (agrees_then n c.system.next v w x h.0.1 a b) l), tt)), simple_solved log is n v cs h.1 none.1)
 
   pub moves_cover : MovesCover theory
   moves_cover = record {

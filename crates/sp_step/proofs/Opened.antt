@@ -1,27 +1,28 @@
 -- The row that opens an existential formula covers.
-use Rattle.std.proofs.Common.{◌≡◌, ◌≤◌, ◌<◌, ◌+◌, ℕ, zero, suc, List, [], ◌∷◌, ◌++◌, map, length, Option, Some, None, option_map, refl, sym, ap, ◌∙◌, subst, arith, le_refl, lt_of_lt_of_le, le_trans}
-use Rattle.sp_spec.specs.Lists.{Every, Classically}
-use Rattle.sp_spec.specs.Term.{Sort, Msg, Fresh, Pub, Variable, Term, var, Ground, Values, valued}
-use Rattle.sp_spec.specs.Signature.{Signature, HasSort, IsOver, IsValue, IsValuation}
-use Rattle.sp_spec.specs.Equal.{Equal, IsNormal}
+use Rattle.std.proofs.Common.{◌≡◌, ◌<◌, ◌+◌, ℕ, zero, suc, List, [], ◌∷◌, ◌++◌, map, length, Some, refl, sym, ap, ◌∙◌, subst, arith, le_refl}
+use Rattle.sp_spec.specs.Lists.{Every}
+use Rattle.sp_spec.specs.Term.{Variable, var, Ground, valued}
+use Rattle.sp_spec.specs.Signature.{Signature, IsValue}
+use Rattle.sp_spec.specs.Equal.{Equal}
 use Rattle.sp_spec.specs.Execution.{Trace}
 use Rattle.sp_spec.specs.Theory.{Theory, signature_of}
-use Rattle.sp_spec.specs.Guarded.{Place, free, bound, Time, free_time, bound_time, Binder, message, time, Atom, Guarded, truth, falsity, holds, fails, all_of, one_of, some, every, Assignment, with_term, with_time, term_in, time_in, AtomsHold, AtomHolds, SomeValues, GuardedHolds}
-use Rattle.sp_spec.specs.Log.{Log, IsLog, log_trace}
+use Rattle.sp_spec.specs.Guarded.{Binder, message, time, Atom, Guarded, holds, some, Assignment, with_term, with_time, AtomsHold, GuardedHolds}
+use Rattle.sp_spec.specs.Log.{Log, log_trace}
 use Rattle.sp_law_equal.specs.Normal.{normal}
 use Rattle.sp_law_equal.specs.Convergent.{AreConvergent, KeepSymbols}
 use Rattle.sp_law_equal.proofs.Chains.{equal_refl}
 use Rattle.sp_law_equal.proofs.Forms.{normal_has_sort, to_normal, is_normal}
 use Rattle.sp_law_equal.proofs.Over.{normal_over}
 use Rattle.sp_system.specs.Change.{Change, atom_changed, changed, opened, opening, free_change}
-use Rattle.sp_system.specs.System.{System, Valuation, assignment, EachNormal, AtomSettled, Settled, FormulaHolds, Solves, EachVariable, AtFree, InAtom, InFormula, IsNumbered, Agrees, NoneSolved, Covers}
-use Rattle.sp_spec.proofs.Lists.{every_append, every_map, every_weaken}
-use Rattle.sp_system.proofs.Numbers.{PutsIn, atom_changed_in, changed_in, formula_weaken}
+use Rattle.sp_system.specs.System.{System, Valuation, assignment, AtomSettled, Settled, FormulaHolds, Solves, InAtom, InFormula, IsNumbered, Agrees, Covers}
+use Rattle.sp_spec.proofs.Lists.{every_append}
 use Rattle.sp_system.proofs.Changing.{Reads, changed_same, settled_same, atoms_same, atoms_settled}
-use Rattle.sp_system.proofs.Solutions.{Under, TimeUnder, agree_solves}
-use Rattle.sp_step.specs.Rows.{Found, first_formula, spending, Existential, existential_of, opened_at, open_existential}
+use Rattle.sp_system.proofs.Solutions.{Under, TimeUnder, agrees_itself, agrees_then, agree_solves}
+use Rattle.sp_step.specs.Rows.{first_formula, existential_of, opened_at, open_existential}
 use Rattle.sp_step.proofs.Freed.{mapped}
-use Rattle.sp_step.proofs.Spending.{IsFound, is_found, found_holds, spending_solves, spending_numbered}
+use Rattle.sp_step.proofs.Spending.{is_found, found_holds, spending_solves}
+use Rattle.sp_step.proofs.Entries.{length_trace}
+use Rattle.sp_step.proofs.OpenedNumbers.{found_formula}
 use Rattle.sp_step.proofs.Opening.{with_value, with_position, value_agrees, position_agrees, Opens, opens_message, opens_time, put_message, put_time}
 
 -- truth under equal values
@@ -30,16 +31,6 @@ EqualTruth = (signature : Signature) (trace : Trace) (f : Guarded) (m w : Assign
     → ((x : Variable) → Equal signature.equations (m.terms x) (w.terms x)) → ((i : ℕ) → m.times i ≡ w.times i)
     → ((k : ℕ) → Equal signature.equations (m.bound_terms k) (w.bound_terms k)) → ((k : ℕ) → m.bound_times k ≡ w.bound_times k)
     → GuardedHolds signature trace m f → GuardedHolds signature trace w f
-
-agrees_then : (n k : ℕ) (u v w : Valuation) → n ≤ k → Agrees n u v → Agrees k v w → Agrees n u w
-agrees_then n k u v w le a b = record {
-  terms = λ x h. b.terms x (lt_of_lt_of_le h le) ∙ a.terms x h;
-  times = λ i h. b.times i (lt_of_lt_of_le h le) ∙ a.times i h;
-}
-
-length_trace : (log : Log) → length (log_trace log) ≡ length log
-length_trace [] = refl
-length_trace (e ∷ log) = ap suc (length_trace log)
 
 module _ (theory : Theory) (good : AreConvergent (signature_of theory).equations) (keeps : KeepSymbols (signature_of theory).symbols (signature_of theory).equations) (equal_truth : EqualTruth) where
   module _ (log : Log) (guard : List Atom) (f : Guarded) (base : ℕ) where
@@ -52,14 +43,14 @@ module _ (theory : Theory) (good : AreConvergent (signature_of theory).equations
         → GuardedHolds (signature_of theory) (log_trace log) m (some bs guard f) → Settled (signature_of theory) (length log) m (some bs guard f)
         → ((w' : Valuation) (m' : Assignment) → Agrees next w w' → Opens theory base (next + length bs) (opened bs next c) w' m' → Parts m' → ⊥) → ⊥
     opened_holds [] next c w m o h k none =
-        none w m (record { terms = λ x l. refl; times = λ i l. refl }) (subst (λ (n : ℕ). Opens theory base n c w m) (omega arith) o) (h, k)
+        none w m (agrees_itself next w) (subst (λ (n : ℕ). Opens theory base n c w m) (omega arith) o) (h, k)
     opened_holds (message sort ∷ bs) next c w m o h k none = h (λ y.
         let es = (signature_of theory).equations in
         let t = normal es y.0 in
         let value : IsValue (signature_of theory) sort t = (normal_has_sort es sort y.0 y.1.0, normal_over (signature_of theory).symbols es keeps y.0 y.1.1) in
         let normal_t = is_normal es good y.0 in
         let h' = equal_truth (signature_of theory) (log_trace log) (some bs guard f) (with_term y.0 m) (with_term t m)
-            (λ x. equal_refl es (m.terms x)) (λ i. refl) (bound_equal y.0) (λ i. refl) y.2 in
+        (λ x. equal_refl es (m.terms x)) (λ i. refl) (bound_equal y.0) (λ i. refl) y.2 in
         opened_holds bs (suc next) (put_message c sort next) (with_value w (record { sort = sort; number = next }) t) (with_term t m)
         (opens_message theory base next c w m o sort t value normal_t) h' (k t value normal_t)
         (λ w' m' a o' p. none w' m' (agrees_then next (suc next) w (with_value w (record { sort = sort; number = next }) t) w' (omega arith) (value_agrees w sort next t) a)
@@ -83,11 +74,6 @@ module _ (theory : Theory) (good : AreConvergent (signature_of theory).equations
     times = o.times;
   }
 
-  atoms_each : (log : Log) (w : Valuation) (atoms : List Atom) → AtomsHold (signature_of theory) (log_trace log) (assignment w) atoms → Every (AtomSettled (signature_of theory) (length log) (assignment w)) atoms
-      → Every (FormulaHolds theory log w) (map holds atoms)
-  atoms_each log w [] h k = tt
-  atoms_each log w (a ∷ atoms) h k = ((h.0, k.0), atoms_each log w atoms h.1 k.1)
-
   pub starts : (s : System) (log : Log) (v : Valuation) → Solves theory log v s → Opens theory s.next s.next (free_change var (λ i. i)) v (assignment v)
   starts s log v h = record {
     above = le_refl s.next;
@@ -103,19 +89,6 @@ module _ (theory : Theory) (good : AreConvergent (signature_of theory).equations
     normal_values = h.normal;
   }
 
-  found_formula : (f : Guarded) (e : Existential) → existential_of f ≡ Some e → f ≡ some e.binders e.guard e.body
-  found_formula (some bs guard f) e h =
-      let d : Existential = record { binders = bs; guard = guard; body = f } in
-      let g : d ≡ e = cc in
-      ap (λ (x : Existential). some x.binders x.guard x.body) g
-  found_formula truth e h = absurd cc
-  found_formula falsity e h = absurd cc
-  found_formula (holds a) e h = absurd cc
-  found_formula (fails a) e h = absurd cc
-  found_formula (all_of fs) e h = absurd cc
-  found_formula (one_of fs) e h = absurd cc
-  found_formula (every bs guard f) e h = absurd cc
-
   -- the new formulas hold where the guard and the body do under the assignment that is read
   new_hold : (log : Log) (base next : ℕ) (c : Change) (w : Valuation) (m : Assignment) → Opens theory base next c w m → (guard : List Atom) (f : Guarded)
       → Every (InAtom (Under base) (TimeUnder base)) guard → InFormula (Under base) (TimeUnder base) f → Parts log guard f base m
@@ -125,15 +98,17 @@ module _ (theory : Theory) (good : AreConvergent (signature_of theory).equations
       let A = Under base in
       let B = TimeUnder base in
       let g : AtomsHold (signature_of theory) (log_trace log) (assignment w) (map (atom_changed c) guard) =
-          subst (λ (X : Type 0). X) (sym (atoms_same A B (signature_of theory) (log_trace log) c (assignment w) m reads guard ig)) p.0.0 in
+      subst (λ (X : Type 0). X) (sym (atoms_same A B (signature_of theory) (log_trace log) c (assignment w) m reads guard ig)) p.0.0 in
       let gs : Every (AtomSettled (signature_of theory) (length log) (assignment w)) (map (atom_changed c) guard) =
-          subst (λ (X : Type 0). X) (sym (atoms_settled A B (signature_of theory) (length log) c (assignment w) m reads guard ig)) p.1.0 in
+      subst (λ (X : Type 0). X) (sym (atoms_settled A B (signature_of theory) (length log) c (assignment w) m reads guard ig)) p.1.0 in
       every_append (FormulaHolds theory log w) (map (λ a. holds (atom_changed c a)) guard) (changed c f ∷ [])
-      (each guard g gs)
-      ((
-        subst (λ (X : Type 0). X) (sym (changed_same A B (signature_of theory) (log_trace log) c (assignment w) m reads f if')) p.0.1,
-        subst (λ (X : Type 0). X) (sym (settled_same A B (signature_of theory) (length log) c (assignment w) m reads f if')) p.1.1,
-      ), tt)
+      (each guard g gs) (
+        (
+          subst (λ (X : Type 0). X) (sym (changed_same A B (signature_of theory) (log_trace log) c (assignment w) m reads f if')) p.0.1,
+          subst (λ (X : Type 0). X) (sym (settled_same A B (signature_of theory) (length log) c (assignment w) m reads f if')) p.1.1,
+        ),
+        tt,
+      )
     where
       each : (atoms : List Atom) → AtomsHold (signature_of theory) (log_trace log) (assignment w) (map (atom_changed c) atoms)
           → Every (AtomSettled (signature_of theory) (length log) (assignment w)) (map (atom_changed c) atoms)

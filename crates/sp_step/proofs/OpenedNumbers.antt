@@ -1,17 +1,18 @@
 -- Opening an existential formula takes new numbers alone.
-use Rattle.std.proofs.Common.{◌≡◌, ◌≤◌, ◌<◌, ◌+◌, ℕ, zero, suc, List, [], ◌∷◌, ◌++◌, map, length, Option, Some, refl, sym, ap, ◌∙◌, subst, arith, lt_of_lt_of_le}
+use Rattle.std.proofs.Common.{◌≡◌, ◌≤◌, ◌+◌, ℕ, zero, suc, List, [], ◌∷◌, ◌++◌, map, length, Some, refl, sym, ap, subst, arith, lt_of_lt_of_le}
 use Rattle.sp_spec.specs.Lists.{Every}
-use Rattle.sp_spec.specs.Term.{Sort, Variable, Term, var}
-use Rattle.sp_spec.specs.Guarded.{Place, free, bound, Time, free_time, bound_time, Binder, message, time, Atom, Guarded, truth, falsity, holds, fails, all_of, one_of, some, every, pushed}
+use Rattle.sp_spec.specs.Term.{Variable, var}
+use Rattle.sp_spec.specs.Guarded.{free, free_time, Binder, message, time, Atom, Guarded, truth, falsity, holds, fails, all_of, one_of, some, every, pushed}
 use Rattle.sp_spec.specs.Unifier.{Pair}
 use Rattle.sp_system.specs.Change.{Change, atom_changed, changed, opened, opening, free_change}
-use Rattle.sp_system.specs.System.{Event, System, EachVariable, AtFree, AtFreeTime, InAtom, InFormula, InEvent, IsNumbered}
-use Rattle.sp_spec.proofs.Lists.{every_append, every_weaken}
+use Rattle.sp_system.specs.System.{System, EachVariable, AtFree, AtFreeTime, InAtom, InFormula, InEvent, IsNumbered}
+use Rattle.sp_spec.proofs.Lists.{every_append, every_map, every_weaken}
 use Rattle.sp_system.proofs.Numbers.{PutsIn, atom_changed_in, changed_in, formula_weaken, event_weaken, each_weaken}
 use Rattle.sp_system.proofs.Solutions.{Under, TimeUnder}
-use Rattle.sp_step.specs.Rows.{Found, first_formula, spending, Existential, existential_of, opened_at, open_existential}
+use Rattle.sp_step.specs.Rows.{first_formula, Existential, existential_of, opened_at, open_existential}
 use Rattle.sp_step.proofs.Freed.{mapped}
-use Rattle.sp_step.proofs.Spending.{IsFound, is_found, found_holds, spending_numbered}
+use Rattle.sp_step.proofs.Opening.{more_place, more_time}
+use Rattle.sp_step.proofs.Spending.{is_found, found_holds, spending_numbered}
 
 pub weaken_numbered : (s t : System) (n : ℕ) → s.next ≤ n → t.events ≡ s.events → t.formulas ≡ s.formulas → t.spent ≡ s.spent → t.unequal ≡ s.unequal → t.next ≡ n → IsNumbered s → IsNumbered t
 weaken_numbered s t n le e f p u x k = record {
@@ -25,17 +26,6 @@ weaken_numbered s t n le e f p u x k = record {
 module _ (base : ℕ) where
   abbrev Puts : ℕ → Change → Type 0
   Puts next c = PutsIn (Under base) (Under next) (TimeUnder base) (TimeUnder next) c
-
-  more_place : (n : ℕ) (t : Term Place) → EachVariable (AtFree (Under n)) t → EachVariable (AtFree (Under (suc n))) t
-  more_place n t b = each_weaken (AtFree (Under n)) (AtFree (Under (suc n))) at t b
-    where
-      at : (p : Place) → AtFree (Under n) p → AtFree (Under (suc n)) p
-      at (free x) h = omega (arith, h)
-      at (bound k) h = tt
-
-  more_time : (n : ℕ) (i : Time) → AtFreeTime (TimeUnder n) i → AtFreeTime (TimeUnder (suc n)) i
-  more_time n (free_time i) b = omega (arith, b)
-  more_time n (bound_time k) b = tt
 
   more_puts : (n : ℕ) (c : Change) → Puts n c → Puts (suc n) c
   more_puts n c h = record {
@@ -69,22 +59,22 @@ module _ (base : ℕ) where
   opening_puts : (bs : List Binder) → Puts (base + length bs) (opening bs base)
   opening_puts bs = opened_puts bs base (free_change var (λ i. i)) (record { terms = λ x k. k; times = λ i k. k; bound_terms = λ k. tt; bound_times = λ k. tt })
 
-found_in : (P : Variable → Type 0) (Q : ℕ → Type 0) (f : Guarded) (e : Existential) → existential_of f ≡ Some e → InFormula P Q f → Every (InAtom P Q) e.guard × InFormula P Q e.body
-found_in P Q (some bs guard f) e h k =
+-- what an existential formula was taken to be
+pub found_formula : (f : Guarded) (e : Existential) → existential_of f ≡ Some e → f ≡ some e.binders e.guard e.body
+found_formula (some bs guard f) e h =
     let d : Existential = record { binders = bs; guard = guard; body = f } in
     let g : d ≡ e = cc in
-    subst (λ (x : Existential). Every (InAtom P Q) x.guard × InFormula P Q x.body) g k
-found_in P Q truth e h k = absurd cc
-found_in P Q falsity e h k = absurd cc
-found_in P Q (holds a) e h k = absurd cc
-found_in P Q (fails a) e h k = absurd cc
-found_in P Q (all_of fs) e h k = absurd cc
-found_in P Q (one_of fs) e h k = absurd cc
-found_in P Q (every bs guard f) e h k = absurd cc
+    ap (λ (x : Existential). some x.binders x.guard x.body) g
+found_formula truth e h = absurd cc
+found_formula falsity e h = absurd cc
+found_formula (holds a) e h = absurd cc
+found_formula (fails a) e h = absurd cc
+found_formula (all_of fs) e h = absurd cc
+found_formula (one_of fs) e h = absurd cc
+found_formula (every bs guard f) e h = absurd cc
 
 atoms_in : (P P' : Variable → Type 0) (Q Q' : ℕ → Type 0) (c : Change) → PutsIn P P' Q Q' c → (atoms : List Atom) → Every (InAtom P Q) atoms → Every (InFormula P' Q') (map (λ a. holds (atom_changed c a)) atoms)
-atoms_in P P' Q Q' c h [] k = tt
-atoms_in P P' Q Q' c h (a ∷ atoms) k = (atom_changed_in P P' Q Q' c h a k.0, atoms_in P P' Q Q' c h atoms k.1)
+atoms_in P P' Q Q' c h = every_map _ _ (λ a. holds (atom_changed c a)) (atom_changed_in P P' Q Q' c h)
 
 pub open_existential_numbered : (s t : System) → open_existential s ≡ Some t → IsNumbered s → IsNumbered t × (s.next ≤ t.next)
 open_existential_numbered s t e n =
@@ -92,13 +82,13 @@ open_existential_numbered s t e n =
     let r = q.0 in
     let next = s.next + length r.picked.binders in
     let found = is_found existential_of s.formulas r q.1 in
-    let i = found_in (Under s.next) (TimeUnder s.next) r.formula r.picked found.picks (found_holds existential_of s.formulas r found (InFormula (Under s.next) (TimeUnder s.next)) n.formulas) in
+    let i = subst (InFormula (Under s.next) (TimeUnder s.next)) (found_formula r.formula r.picked found.picks) (found_holds existential_of s.formulas r found (InFormula (Under s.next) (TimeUnder s.next)) n.formulas) in
     let wide : System = record { events = s.events; formulas = s.formulas; spent = s.spent; unequal = s.unequal; next = next } in
     let m : IsNumbered wide = weaken_numbered s wide next (omega arith) refl refl refl refl refl n in
     let c = opening r.picked.binders s.next in
     let puts = opening_puts s.next r.picked.binders in
     let new = every_append (InFormula (Under next) (TimeUnder next)) (map (λ a. holds (atom_changed c a)) r.picked.guard) (changed c r.picked.body ∷ [])
-        (atoms_in _ _ _ _ c puts r.picked.guard i.0) (changed_in _ _ _ _ c puts r.picked.body i.1, tt) in
+    (atoms_in _ _ _ _ c puts r.picked.guard i.0) (changed_in _ _ _ _ c puts r.picked.body i.1, tt) in
     let k = spending_numbered existential_of wide r found (map (λ a. holds (atom_changed c a)) r.picked.guard ++ changed c r.picked.body ∷ []) new m in
     let P : System → Type 0 = λ w. IsNumbered w × (s.next ≤ w.next) in
     subst P (sym q.2) (record { events = k.events; formulas = k.formulas; spent = k.spent; unequal = k.unequal }, omega arith)

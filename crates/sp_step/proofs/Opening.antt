@@ -1,18 +1,15 @@
 -- Opening an existential formula covers: its variables get the values that make it true, in normal form.
-use Rattle.std.proofs.Common.{◌≡◌, ◌⊎◌, ◌≤◌, ◌<◌, ◌+◌, ℕ, zero, suc, Bool, true, false, ◌==◌, ◌&&◌, if◌then◌else◌, List, [], ◌∷◌, ◌++◌, map, length, Option, Some, None, option_map, refl, sym, ap, ap₂, ◌∙◌, subst, arith, lt_of_lt_of_le, le_refl, nat_eq}
+use Rattle.std.proofs.Common.{◌≡◌, ◌≤◌, ◌<◌, ℕ, zero, suc, Bool, true, false, ◌==◌, if◌then◌else◌, refl, sym, ap, ◌∙◌, subst, arith, lt_of_lt_of_le, nat_eq}
 use Rattle.std.proofs.lemmas.Bool.{eqb-true, eq-eqb}
-use Rattle.sp_spec.specs.Lists.{Every, Classically}
-use Rattle.sp_spec.specs.Term.{Sort, Msg, Fresh, Pub, Variable, Term, var, Ground, Values, valued}
-use Rattle.sp_spec.specs.Signature.{Signature, HasSort, IsOver, IsValue, IsValuation}
-use Rattle.sp_spec.specs.Equal.{Equal, IsNormal}
-use Rattle.sp_spec.specs.Execution.{Trace}
+use Rattle.sp_spec.specs.Term.{Sort, Variable, Term, var, Ground}
+use Rattle.sp_spec.specs.Signature.{IsValue, IsValuation}
+use Rattle.sp_spec.specs.Equal.{IsNormal}
 use Rattle.sp_spec.specs.Theory.{Theory, signature_of}
-use Rattle.sp_spec.specs.Guarded.{Place, free, bound, Time, free_time, bound_time, Binder, message, time, Atom, Guarded, some, Assignment, with_term, with_time, pushed, place_in, term_in, time_in, AtomsHold, GuardedHolds}
-use Rattle.sp_spec.specs.Same.{same_sort, same_variable}
-use Rattle.sp_law_equal.specs.Normal.{normal}
+use Rattle.sp_spec.specs.Guarded.{Place, free, bound, Time, free_time, bound_time, Assignment, with_term, with_time, pushed, place_in, term_in, time_in}
+use Rattle.sp_spec.specs.Same.{same_variable}
 use Rattle.sp_law_equal.proofs.Tests.{same_variable_decides}
-use Rattle.sp_system.specs.Change.{Change, opened, opening, free_change}
-use Rattle.sp_system.specs.System.{Valuation, assignment, AtomSettled, Settled, EachVariable, AtFree, AtFreeTime, Agrees}
+use Rattle.sp_system.specs.Change.{Change}
+use Rattle.sp_system.specs.System.{Valuation, assignment, EachVariable, AtFree, AtFreeTime, Agrees}
 use Rattle.sp_system.proofs.Facts.{valued_same}
 use Rattle.sp_system.proofs.Numbers.{each_weaken}
 use Rattle.sp_system.proofs.Solutions.{Under, TimeUnder}
@@ -77,14 +74,15 @@ agree_time : (n : ℕ) (v w : Valuation) → Agrees n v w → (i : Time) → AtF
 agree_time n v w a (free_time i) b = a.times i b
 agree_time n v w a (bound_time k) b = refl
 
-more_place : (n : ℕ) (t : Term Place) → EachVariable (AtFree (Under n)) t → EachVariable (AtFree (Under (suc n))) t
+-- what is under a number is under the next
+pub more_place : (n : ℕ) (t : Term Place) → EachVariable (AtFree (Under n)) t → EachVariable (AtFree (Under (suc n))) t
 more_place n t b = each_weaken (AtFree (Under n)) (AtFree (Under (suc n))) at t b
   where
     at : (p : Place) → AtFree (Under n) p → AtFree (Under (suc n)) p
     at (free x) h = omega (arith, h)
     at (bound k) h = tt
 
-more_time : (n : ℕ) (i : Time) → AtFreeTime (TimeUnder n) i → AtFreeTime (TimeUnder (suc n)) i
+pub more_time : (n : ℕ) (i : Time) → AtFreeTime (TimeUnder n) i → AtFreeTime (TimeUnder (suc n)) i
 more_time n (free_time i) b = omega (arith, b)
 more_time n (bound_time k) b = tt
 

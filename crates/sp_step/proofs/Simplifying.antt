@@ -1,23 +1,18 @@
 -- Each row covers, a contradiction has no solution, and so simplification covers.
-use Rattle.std.proofs.Common.{◌≡◌, ◌⊎◌, ◌≤◌, ◌<◌, ℕ, zero, suc, Bool, true, false, ◌||◌, List, [], ◌∷◌, Option, Some, None, refl, sym, ap, ◌∙◌, subst, arith, ⊎_elim, le_refl, le_trans, lt_of_lt_of_le}
+use Rattle.std.proofs.Common.{◌≡◌, ◌≤◌, ℕ, zero, suc, Bool, true, false, ◌||◌, List, [], ◌∷◌, Option, Some, None, refl, ap, ◌∙◌, ⊎_elim, le_refl, le_trans}
 use Rattle.std.proofs.lemmas.Bool.{or_cases}
 use Rattle.sp_spec.specs.Theory.{Theory, signature_of}
-use Rattle.sp_spec.specs.Log.{Log, IsLog}
+use Rattle.sp_spec.specs.Log.{Log}
 use Rattle.sp_law_equal.specs.Convergent.{AreConvergent, KeepSymbols}
-use Rattle.sp_system.specs.System.{System, Valuation, Solves, IsNumbered, Agrees, NoneSolved, Covers}
+use Rattle.sp_system.specs.System.{System, Valuation, IsNumbered, Agrees, NoneSolved, Covers}
 use Rattle.sp_system.specs.Laws.{UnifierIsRight}
+use Rattle.sp_system.proofs.Solutions.{agrees_then}
 use Rattle.sp_step.specs.Rows.{Row, row_open, row_unequal, row_action_stands, row_fresh_once, rows, by_row, first_of, by_rows, has_equal_pair, has_refuted, fails_to_merge, first_twins, is_contradictory, goes_on, simplified_by}
 use Rattle.sp_step.specs.Laws.{HasNoSolution, ContradictionsHold, RowsCover}
-use Rattle.sp_step.proofs.Literals.{agrees_itself, action_stands_covers, action_stands_numbered, unequal_covers, unequal_numbered, equal_pair_contradicts, some_refuted_contradicts}
+use Rattle.sp_step.proofs.Literals.{covers_by_itself, action_stands_covers, action_stands_numbered, unequal_covers, unequal_numbered, equal_pair_contradicts, some_refuted_contradicts}
 use Rattle.sp_step.proofs.FreshOnce.{merge_contradicts, fresh_once_covers, fresh_once_numbered}
 use Rattle.sp_step.proofs.Opened.{EqualTruth, open_existential_covers}
 use Rattle.sp_step.proofs.OpenedNumbers.{open_existential_numbered}
-
-pub agrees_on : (n k : ℕ) (u v w : Valuation) → n ≤ k → Agrees n u v → Agrees k v w → Agrees n u w
-agrees_on n k u v w le a b = record {
-  terms = λ x h. b.terms x (lt_of_lt_of_le h le) ∙ a.terms x h;
-  times = λ i h. b.times i (lt_of_lt_of_le h le) ∙ a.times i h;
-}
 
 -- one case after another
 pub covers_then : (theory : Theory) (s t : System) (cs : List System) → s.next ≤ t.next → Covers theory s (t ∷ []) → Covers theory t cs → Covers theory s cs
@@ -27,10 +22,10 @@ covers_then theory s t cs le a b = record {
   where
     moved : (log : Log) (v w : Valuation) → Agrees s.next v w → (cs : List System) → NoneSolved theory log v s.next cs → NoneSolved theory log w t.next cs
     moved log v w ag [] none = tt
-    moved log v w ag (c ∷ cs) none = ((λ x b k. none.0 x (agrees_on s.next t.next v w x le ag b) k), moved log v w ag cs none.1)
+    moved log v w ag (c ∷ cs) none = ((λ x b k. none.0 x (agrees_then s.next t.next v w x le ag b) k), moved log v w ag cs none.1)
 
 pub covers_itself : (theory : Theory) (s : System) → Covers theory s (s ∷ [])
-covers_itself theory s = record { covers = λ log is v h none. none.0 v (agrees_itself s.next v) h }
+covers_itself theory s = covers_by_itself theory s s (λ log is v h. h)
 
 module _ (right : UnifierIsRight) (theory : Theory) (good : AreConvergent (signature_of theory).equations) (keeps : KeepSymbols (signature_of theory).symbols (signature_of theory).equations) (equal_truth : EqualTruth) where
   row_numbered : (row : Row) (s t : System) → by_row row s ≡ Some t → IsNumbered s → IsNumbered t × (s.next ≤ t.next)
@@ -53,9 +48,9 @@ module _ (right : UnifierIsRight) (theory : Theory) (good : AreConvergent (signa
       ⊎_elim
       (λ k. equal_pair_contradicts theory v s.unequal k h.unequal)
       (λ k. ⊎_elim
-        (λ l. some_refuted_contradicts theory log v s.formulas l h.formulas)
-        (λ l. merge_contradicts right theory s l n log is v h)
-        (or_cases (has_refuted s.formulas) (fails_to_merge s (first_twins s.events)) k))
+      (λ l. some_refuted_contradicts theory log v s.formulas l h.formulas)
+      (λ l. merge_contradicts right theory s l n log is v h)
+      (or_cases (has_refuted s.formulas) (fails_to_merge s (first_twins s.events)) k))
       (or_cases (has_equal_pair s.unequal) (has_refuted s.formulas || fails_to_merge s (first_twins s.events)) e)
 
   pub contradictions_hold : ContradictionsHold theory

@@ -1,10 +1,10 @@
 -- The first formula of which something is picked, and spending it.
-use Rattle.std.proofs.Common.{◌≡◌, ℕ, ◌<◌, List, [], ◌∷◌, ◌++◌, map, Option, Some, None, option_map, refl, sym, ap, ◌∙◌, subst}
+use Rattle.std.proofs.Common.{◌≡◌, List, [], ◌∷◌, ◌++◌, Option, Some, None, refl, sym, ap, subst}
 use Rattle.sp_spec.specs.Lists.{Every}
 use Rattle.sp_spec.specs.Theory.{Theory}
 use Rattle.sp_spec.specs.Guarded.{Guarded}
 use Rattle.sp_spec.specs.Log.{Log}
-use Rattle.sp_system.specs.System.{Event, System, Valuation, FormulaHolds, Solves, InFormula, IsNumbered}
+use Rattle.sp_system.specs.System.{System, Valuation, FormulaHolds, Solves, InFormula, IsNumbered}
 use Rattle.sp_spec.proofs.Lists.{every_append, every_parts}
 use Rattle.sp_system.proofs.Solutions.{Under, TimeUnder}
 use Rattle.sp_step.specs.Rows.{Found, behind, found_at, first_formula, spending}

@@ -1,6 +1,5 @@
 -- Values of facts.
-use Rattle.std.proofs.Common.{◌≡◌, List, [], ◌∷◌, map, refl, ap, ap₂, sym, ◌∙◌}
-use Rattle.sp_spec.specs.Lists.{Every}
+use Rattle.std.proofs.Common.{◌≡◌, List, refl, ap, ap₂, sym, ◌∙◌}
 use Rattle.sp_spec.specs.Term.{Variable, Term, var, constant, name, app, Terms, none, more, Values, valued, valued_all}
 use Rattle.sp_spec.specs.Rule.{Fact, Action, Facts, fact_at, action_at, facts_at}
 use Rattle.sp_spec.specs.Substitution.{Binding, bound_to, Fixes}
@@ -20,17 +19,22 @@ mutual
   valued_all_same v w (more t ts) e = ap₂ more (valued_same v w t e.0) (valued_all_same v w ts e.1)
 
 mutual
-  -- where all values are the same
-  pub valued_equal : {V W : Type 0} (v w : V → Term W) → ((x : V) → v x ≡ w x) → (t : Term V) → valued v t ≡ valued w t
-  valued_equal v w e (var x) = e x
-  valued_equal v w e (constant c) = refl
-  valued_equal v w e (name n) = refl
-  valued_equal v w e (app f ts) = ap (app f) (valued_all_equal v w e ts)
+  pub each_of_all : {V : Type 0} (P : V → Type 0) → ((x : V) → P x) → (t : Term V) → EachVariable P t
+  each_of_all P h (var x) = h x
+  each_of_all P h (constant c) = tt
+  each_of_all P h (name n) = tt
+  each_of_all P h (app f ts) = each_of_all_terms P h ts
 
-  pub valued_all_equal : {V W : Type 0} (v w : V → Term W) → ((x : V) → v x ≡ w x) → (ts : Terms V) → valued_all v ts ≡ valued_all w ts
-  valued_all_equal v w e none = refl
-  valued_all_equal v w e (more t ts) = ap₂ more (valued_equal v w e t) (valued_all_equal v w e ts)
+  pub each_of_all_terms : {V : Type 0} (P : V → Type 0) → ((x : V) → P x) → (ts : Terms V) → EachVariables P ts
+  each_of_all_terms P h none = tt
+  each_of_all_terms P h (more t ts) = (each_of_all P h t, each_of_all_terms P h ts)
 
+-- where all values are the same
+pub valued_equal : {V W : Type 0} (v w : V → Term W) → ((x : V) → v x ≡ w x) → (t : Term V) → valued v t ≡ valued w t
+valued_equal v w e t = valued_same v w t (each_of_all _ e t)
+
+pub valued_all_equal : {V W : Type 0} (v w : V → Term W) → ((x : V) → v x ≡ w x) → (ts : Terms V) → valued_all v ts ≡ valued_all w ts
+valued_all_equal v w e ts = valued_all_same v w ts (each_of_all_terms _ e ts)
 
 abbrev parts_of : {V : Type 0} → List (Fact V) → List (Action V) → List (Fact V) → Facts V
 parts_of ps as' cs = record { premises = ps; actions = as'; conclusions = cs }
@@ -67,17 +71,6 @@ facts_at-facts_at v w facts =
 -- A substitution that the values fix changes no value.
 pub fixed_term : (v : Values) (bs : List Binding) → Fixes v bs → (t : Term Variable) → valued v (valued (bound_to bs) t) ≡ valued v t
 fixed_term v bs h t = valued-valued (bound_to bs) v t ∙ valued_equal _ v (λ x. sym (h x)) t
-
-mutual
-  pub each_of_all : {V : Type 0} (P : V → Type 0) → ((x : V) → P x) → (t : Term V) → EachVariable P t
-  each_of_all P h (var x) = h x
-  each_of_all P h (constant c) = tt
-  each_of_all P h (name n) = tt
-  each_of_all P h (app f ts) = each_of_all_terms P h ts
-
-  pub each_of_all_terms : {V : Type 0} (P : V → Type 0) → ((x : V) → P x) → (ts : Terms V) → EachVariables P ts
-  each_of_all_terms P h none = tt
-  each_of_all_terms P h (more t ts) = (each_of_all P h t, each_of_all_terms P h ts)
 
 pub fixed_facts : (v : Values) (bs : List Binding) → Fixes v bs → (facts : Facts Variable) → facts_at v (facts_at (bound_to bs) facts) ≡ facts_at v facts
 fixed_facts v bs h facts =

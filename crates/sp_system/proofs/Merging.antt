@@ -1,9 +1,9 @@
 -- Facts that have the same values give pairs that have, and so two events that are one entry of a log can be made one.
-use Rattle.std.proofs.Common.{◌≡◌, ℕ, ◌<◌, Bool, true, false, ◌&&◌, if◌then◌else◌, List, [], ◌∷◌, ◌++◌, map, Option, Some, None, option_map, option_and_then, refl, sym, ap, ◌∙◌, subst}
+use Rattle.std.proofs.Common.{◌≡◌, ℕ, Bool, true, false, ◌&&◌, if◌then◌else◌, List, [], ◌∷◌, ◌++◌, map, Option, Some, None, option_map, refl, sym, ap}
 use Rattle.std.proofs.lemmas.Slice.Eq.{bytes_eq-Decides}
 use Rattle.std.specs.Str.{bytes_eq}
 use Rattle.sp_spec.specs.Lists.{Every}
-use Rattle.sp_spec.specs.Term.{Variable, Term, Terms, none, more, Grounds, Values, valued, valued_all}
+use Rattle.sp_spec.specs.Term.{Variable, Terms, none, more, Values, valued, valued_all}
 use Rattle.sp_spec.specs.Rule.{Fact, Action, Facts, fact_at, action_at, facts_at}
 use Rattle.sp_spec.specs.Unifier.{Pair, MakesSame}
 use Rattle.sp_system.specs.System.{Happening, rule_step, EachVariables, InFacts, InHappening}

@@ -1,5 +1,5 @@
 -- What keeps a solution: values that agree on the numbers of the system, and replacing that changes no value.
-use Rattle.std.proofs.Common.{◌≡◌, ◌<◌, ℕ, List, [], ◌∷◌, map, length, refl, sym, ◌∙◌, subst}
+use Rattle.std.proofs.Common.{◌≡◌, ◌≤◌, ◌<◌, ℕ, List, [], ◌∷◌, map, length, refl, sym, ◌∙◌, subst, lt_of_lt_of_le}
 use Rattle.sp_spec.specs.Lists.{Every, AtPosition}
 use Rattle.sp_spec.specs.Term.{Variable, Term, valued}
 use Rattle.sp_spec.specs.Signature.{IsValuation}
@@ -24,6 +24,16 @@ Under n x = x.number < n
 
 abbrev pub TimeUnder : ℕ → ℕ → Type 0
 TimeUnder n i = i < n
+
+pub agrees_itself : (n : ℕ) (v : Valuation) → Agrees n v v
+agrees_itself n v = record { terms = λ x h. refl; times = λ i h. refl }
+
+-- one agreement after another, of which the second reaches as far
+pub agrees_then : (n k : ℕ) (u v w : Valuation) → n ≤ k → Agrees n u v → Agrees k v w → Agrees n u w
+agrees_then n k u v w le a b = record {
+  terms = λ x h. b.terms x (lt_of_lt_of_le h le) ∙ a.terms x h;
+  times = λ i h. b.times i (lt_of_lt_of_le h le) ∙ a.times i h;
+}
 
 module _ (limit : ℕ) (v w : Valuation) (a : Agrees limit v w) (theory : Theory) (log : Log) where
   agree_happening : (p : ℕ) (h : Happening) → InHappening (Under limit) h → HappensAt log p v.terms h → HappensAt log p w.terms h

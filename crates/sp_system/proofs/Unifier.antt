@@ -1,5 +1,5 @@
 -- The unifier is what its users need.
-use Rattle.std.proofs.Common.{◌≡◌, ◌<◌, ℕ, List, Option, Some, None}
+use Rattle.std.proofs.Common.{◌<◌}
 use Rattle.sp_system.specs.Laws.{UnifierIsRight}
 use Rattle.sp_system.proofs.Unifying.{mgu_fixes, mgu_none, mgu_within}
 

@@ -1,9 +1,10 @@
 -- Each status has its cause, since it is that of the whole answer.
-use Rattle.std.proofs.Common.{◌≡◌, ◌≢◌, ◌⊎◌, ◌≤◌, ◌<◌, ℕ, List, Option, Some, None, length, sym, ap, subst, ◌∙◌, inl, inr, arith}
+use Rattle.std.proofs.Common.{◌≡◌, ◌≢◌, ◌⊎◌, ◌≤◌, ◌<◌, ℕ, List, Option, Some, None, length, refl, sym, ap, subst, ◌∙◌, inl, inr, arith}
 use Rattle.sp_io.specs.Told.{Rose}
 use Rattle.sp_top.specs.Answer.{text_limit, TextAnswer, MayBeTooLong, MayBeText, IsFileAnswer, IsAnswer}
 use Rattle.sp_top.specs.Command.{IsLine, IsNoLine}
 use Rattle.sp_top.specs.Run.{IsCutShort, UsageExactly, ReadFaultExactly, TooLongExactly, RefusedExactly}
+use Rattle.sp_top.proofs.TextStatus.{text_status, refusal_is_sole}
 use Rattle.sp_top.specs.declared.Status.{Status}
 use Rattle.sp_top.specs.declared.Status.TheVariants.{Refused, Usage, ReadFault, WriteFault, NoMemory, TooLong}
 
@@ -34,7 +35,9 @@ pub answer_is_whole : (words : List (List ℕ)) (holds : List ℕ → Option (Op
 answer_is_whole words holds before now text status (inl usage) = whole_is status Usage usage.status_is (λ e. cc) (λ e. cc)
 answer_is_whole words holds before now text status (inr (file, line, inl fault)) = whole_is status ReadFault fault.status_is (λ e. cc) (λ e. cc)
 answer_is_whole words holds before now text status (inr (file, line, inr (inl long))) = whole_is status TooLong long.status_is (λ e. cc) (λ e. cc)
-answer_is_whole words holds before now text status (inr (file, line, inr (inr known))) = whole_is status Refused known.answer.status_is (λ e. cc) (λ e. cc)
+answer_is_whole words holds before now text status (inr (file, line, inr (inr known))) =
+    let kind = text_status known.bytes text status known.answer in
+    whole_is status status refl kind.write_fault kind.no_memory
 
 module _ (words : List (List ℕ)) (holds : List ℕ → Option (Option (List ℕ))) (before now : ℕ) where
   pub usage_exactly : (status : Status) → Ends words holds before now status → UsageExactly words status
@@ -45,7 +48,7 @@ module _ (words : List (List ℕ)) (holds : List ℕ → Option (Option (List �
       cause : IsFileAnswer (holds file) before now text status → status ≡ Usage → IsNoLine words
       cause (inl fault) e = let f = fault.status_is in cc
       cause (inr (inl long)) e = let f = long.status_is in cc
-      cause (inr (inr known)) e = let f = known.answer.status_is in cc
+      cause (inr (inr known)) e = absurd ((text_status known.bytes text status known.answer).usage e)
 
   pub read_fault_exactly : (status : Status) → Ends words holds before now status → ReadFaultExactly words holds before now status
   read_fault_exactly status (inl short) = record { cause = λ e. absurd (whole_is status ReadFault e (λ f. cc) (λ f. cc) short); comes = λ file line absent whole. absurd (whole short) }
@@ -56,7 +59,7 @@ module _ (words : List (List ℕ)) (holds : List ℕ → Option (Option (List �
       cause (inl usage) e = let f = usage.status_is in cc
       cause (inr (file, line, inl fault)) e = (file, line, fault.cause)
       cause (inr (file, line, inr (inl long))) e = let f = long.status_is in cc
-      cause (inr (file, line, inr (inr known))) e = let f = known.answer.status_is in cc
+      cause (inr (file, line, inr (inr known))) e = absurd ((text_status known.bytes text status known.answer).read_fault e)
 
       comes : (file : List ℕ) → holds file ≡ Some None → IsFileAnswer (holds file) before now text status → status ≡ ReadFault
       comes file absent (inl fault) = fault.status_is
@@ -72,7 +75,7 @@ module _ (words : List (List ℕ)) (holds : List ℕ → Option (Option (List �
       cause (inl usage) e = let f = usage.status_is in cc
       cause (inr (file, line, inl fault)) e = let f = fault.status_is in cc
       cause (inr (file, line, inr (inl long))) e = (file, line, long.longer)
-      cause (inr (file, line, inr (inr known))) e = let f = known.answer.status_is in cc
+      cause (inr (file, line, inr (inr known))) e = absurd ((text_status known.bytes text status known.answer).too_long e)
 
       comes : (file bytes : List ℕ) → holds file ≡ Some (Some bytes) → text_limit < length bytes → status ≢ ReadFault → IsFileAnswer (holds file) before now text status → status ≡ TooLong
       comes file bytes told more read (inl fault) = absurd (read fault.status_is)
@@ -88,7 +91,7 @@ module _ (words : List (List ℕ)) (holds : List ℕ → Option (Option (List �
   refused_exactly status (inr (text, answer)) =
       record {
         cause = cause answer;
-        comes = λ file bytes refusal line told within refused whole read. comes file bytes told within read (answer_of_line words holds before now text file status line answer);
+        comes = λ file bytes refusal line told within refused whole read. comes file bytes refusal told within refused read (answer_of_line words holds before now text file status line answer);
       }
     where
       cause : IsAnswer words holds before now text status → status ≡ Refused
@@ -100,12 +103,17 @@ module _ (words : List (List ℕ)) (holds : List ℕ → Option (Option (List �
           let P : Status → Type 0 = λ s. TextAnswer known.bytes text s in
           (file, known.bytes, text, line, known.agrees, subst P e known.answer)
 
-      comes : (file bytes : List ℕ) → holds file ≡ Some (Some bytes) → length bytes ≤ text_limit → status ≢ ReadFault → IsFileAnswer (holds file) before now text status → status ≡ Refused
-      comes file bytes told within read (inl fault) = absurd (read fault.status_is)
-      comes file bytes told within read (inr (inl long)) =
+      comes : (file bytes refusal : List ℕ) → holds file ≡ Some (Some bytes) → length bytes ≤ text_limit → TextAnswer bytes refusal Refused → status ≢ ReadFault
+          → IsFileAnswer (holds file) before now text status → status ≡ Refused
+      comes file bytes refusal told within refused read (inl fault) = absurd (read fault.status_is)
+      comes file bytes refusal told within refused read (inr (inl long)) =
           let more : text_limit < length bytes = long.longer (Some bytes) told in
           absurd (omega (arith, within, more))
-      comes file bytes told within read (inr (inr known)) = known.answer.status_is
+      comes file bytes refusal told within refused read (inr (inr known)) =
+          let e = known.agrees.1 (Some bytes) told in
+          let P : List ℕ → Type 0 = λ b. TextAnswer b text status in
+          let same : known.bytes ≡ bytes = cc in
+          refusal_is_sole bytes refusal text status refused (subst P same known.answer)
 
   -- a text that is told gets its answer
   pub text_is_answered : (text file bytes : List ℕ) (status : Status) → IsFileAnswer (holds file) before now text status

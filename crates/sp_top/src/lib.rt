@@ -1,11 +1,11 @@
 // The top call: from the words of a command to the text that is written and the status.
 // It stands on `sp_io`, which brings the library that texts come from and the sink that answers go to. The program
 // stands above it and only makes the words, the library and the sink.
-// It promises that every status comes exactly by its cause, that what is written is the whole answer or, after a fault
+// It promises that each status comes by its cause alone, that what is written is the whole answer or, after a fault
 // of the sink, a prefix of that very answer, and that FILE alone is fetched, once.
 #![tactic(auto)]
 
-ghost use Rattle.std.specs.Prelude.{◌≡◌, ◌⊎◌, ◌≤◌, [], ◌∷◌, ℕ, List, OnOk, IfOk};
+ghost use Rattle.std.specs.Prelude.{◌≡◌, ◌⊎◌, [], ◌∷◌, ℕ, List, OnOk, IfOk};
 ghost use Rattle.sp_io.specs.Told.{extended};
 ghost use Rattle.sp_top.specs.Answer.{TextAnswer, IsFileAnswer, IsAnswer};
 ghost use Rattle.sp_top.specs.Command.{IsLine, IsNoLine};
@@ -21,7 +21,7 @@ mod words;
 pub use words::Words;
 
 /// How many bytes a text may have.
-pub const TEXT_LIMIT: usize = 1_048_576;
+const TEXT_LIMIT: usize = 1_048_576;
 
 /// How a call ended; the number is the program's status.
 #[derive(Clone, Copy, Debug, PartialEq, Eq)]
@@ -58,8 +58,8 @@ fn fixed(alloc: Global, text: &[u8], status: Status) -> Result<(Vec<u8>, Status)
 }
 
 /// The whole answer to the bytes of a text.
-fn answer(alloc: Global, _bytes: &[u8]) -> Result<(Vec<u8>, Status), AllocError>
-    ensures { IfOk result (λ answer. TextAnswer _bytes.now answer.0.items answer.1) }
+fn answer(alloc: Global, bytes: &[u8]) -> Result<(Vec<u8>, Status), AllocError>
+    ensures { IfOk result (λ answer. TextAnswer bytes.now answer.0.items answer.1) }
 {
     fixed(alloc, b"refused: text at byte 0\n", Status::Refused)
 }

@@ -1,4 +1,4 @@
-ghost use Rattle.std.specs.Prelude.{◌≡◌, ◌++◌, ◌↔◌, List, [], ◌∷◌, ℕ, Some, None, map, string_bytes, OnOk, OnErr, MatchOption, IsTrue};
+ghost use Rattle.std.specs.Prelude.{◌≡◌, ◌++◌, ◌↔◌, List, [], ◌∷◌, ℕ, map, string_bytes, OnOk, OnErr, MatchOption, IsTrue};
 ghost use Rattle.sp_top.specs.Command.{IsFile, IsLine, IsNoLine};
 
 use std::alloc::{AllocError, Global};
@@ -39,7 +39,7 @@ impl Words {
     }
 
     /// The file that the words ask to prove, where they are a line of the command.
-    pub fn file(&self) -> Option<&str>
+    pub(crate) fn file(&self) -> Option<&str>
         ensures { MatchOption result (IsNoLine self.now) (λ file. IsLine self.now file.now) }
     {
         if self.texts.len() != 3 || self.texts[1].as_str() != "prove" {

@@ -1,4 +1,4 @@
-ghost use Rattle.std.specs.Prelude.{◌≡◌, ◌≤◌, None, Some, length, IfOk, IsErrOf};
+ghost use Rattle.std.specs.Prelude.{◌≡◌, ◌≤◌, ◌<◌, None, length, IfOk, IfSome, IsErrOf};
 
 use sp_io::{FetchFail, Library};
 use std::alloc::Global;
@@ -25,6 +25,8 @@ impl<'a, R> Files<'a, R> {
 /// Reads to the end, or until there are more bytes than the limit.
 fn read_within<I: Read>(alloc: Global, reader: &mut I, limit: usize) -> Result<Vec<u8>, FetchFail>
     ensures bounded { IfOk result (λ bytes. length bytes.items ≤ limit) }
+    ensures whole { IfOk result (λ bytes. IfSome (I.remaining reader.old) (λ known. bytes.items ≡ known)) }
+    ensures too_long { IsErrOf result FetchFail.TooLong → IfSome (I.remaining reader.old) (λ known. limit < length known) }
     ensures found { ¬ IsErrOf result FetchFail.Missing }
 {
     let mut bytes = Vec::new(alloc);

@@ -1,5 +1,5 @@
-use Rattle.std.proofs.Common.{inr}
-use Rattle.sp_top.proofs.Causes.{answer_of_line, usage_exactly, read_fault_exactly, too_long_exactly, refused_exactly, text_is_answered}
+use Rattle.std.proofs.Common.{inl, inr}
+use Rattle.sp_top.proofs.Causes.{answer_is_whole, answer_of_line, usage_exactly, read_fault_exactly, too_long_exactly, refused_exactly, text_is_answered}
 use Rattle.sp_top.proofs.run.Goals as goal
 
 pub returns-in-Ok-write_whole-clause-usage : goal.returns-in-Ok-write_whole-clause-usage
@@ -25,3 +25,13 @@ returns-in-Ok-write_whole-clause-completeness g c = record {
         rw c.deref.ensures.value at c.in-Ok-write_whole.ensures.all,
       );
 }
+
+pub returns-in-Ok-write_whole-clause-write_fault : goal.returns-in-Ok-write_whole-clause-write_fault
+returns-in-Ok-write_whole-clause-write_fault g c = record {
+  cause = λ e. absurd (answer_is_whole c.args.words.now _ _ _ c.in-Ok.answer.0.items _ c.in-Ok.ensures.answer (inl e));
+}
+
+pub returns-in-Ok-write_whole-clause-no_memory : goal.returns-in-Ok-write_whole-clause-no_memory
+returns-in-Ok-write_whole-clause-no_memory g c =
+    let whole = answer_is_whole c.args.words.now _ _ _ c.in-Ok.answer.0.items _ c.in-Ok.ensures.answer in
+    record { written = λ e. absurd (whole (inr e)); faults = λ e. absurd (whole (inr e)) }

@@ -1,0 +1,4 @@
+pub mod Lexeme
+pub mod Lex
+pub mod Views
+pub mod Laws

@@ -1,0 +1,22 @@
+// Cuts a text into tokens, up to its first word `end`.
+// Below stands sp_spec; the readers of theories stand above, and see tokens alone.
+// Carried here: the part of "texts are read exactly" that concerns bytes: a text has one list of tokens, or one first fault.
+// The language's pieces are functions in specs/Lex.antt, the lists of tokens a relation over them.
+// A token shows its text, and where it begins and ends.
+#![tactic(auto)]
+
+mod cut;
+mod token;
+
+ghost use Rattle.sp_lex.specs.Laws.{TextsAreCutOneWay};
+
+pub use cut::tokens;
+pub use token::{LexError, Lexeme, Sign, Token};
+
+/// A text has one list of tokens, or one first fault, and not both.
+pub fn texts_are_cut_one_way()
+    ensures { TextsAreCutOneWay }
+{}
+
+#[cfg(test)]
+mod tests;

@@ -1,0 +1,167 @@
+// The most general unifier, one difference after another.
+
+ghost use Rattle.std.specs.Prelude.{◌≡◌, IfOk, map, option_map};
+ghost use Rattle.sp_spec.specs.Term.{var};
+ghost use Rattle.sp_spec.specs.Unifier.{difference, differences, first_difference, occurs, with_term, with_variable};
+ghost use Rattle.sp_spec.specs.Unifier as spec;
+ghost use Rattle.sp_term.specs.View.{variable_of, view, view_all};
+ghost use Rattle.sp_term.specs.Bindings.{bindings};
+ghost use Rattle.sp_unify.specs.View.{found_of, pair_view, step_of};
+
+use sp_term::subst::{Subst, apply};
+use sp_term::term::{Sort, Term, Variable, copy};
+use std::alloc::{AllocError, Global};
+
+// The first difference of two terms.
+#[derive(Drop)]
+enum Found<'a> {
+    Same,
+    Clash,
+    Bind(Variable, &'a Term),
+}
+
+// What is to be done with pairs of terms.
+#[derive(Drop)]
+enum Step {
+    Done,
+    Fails,
+    Binds(Variable, Term),
+}
+
+/// The most general bindings that make each pair the same, or none where no terms of the sorts do.
+pub fn mgu(alloc: Global, pairs: &[(Term, Term)]) -> Result<Option<Subst>, AllocError>
+    ensures { IfOk result (λ r. option_map bindings r ≡ spec.mgu (map pair_view pairs.now)) }
+{
+    let mut subst = Subst::new(alloc);
+    loop {
+        match next_step(alloc, &subst, pairs)? {
+            Step::Done => return Ok(Some(subst)),
+            Step::Fails => return Ok(None),
+            Step::Binds(variable, term) => {
+                let mut next = Subst::new(alloc);
+                next.push(variable, term)?;
+                subst = subst.then(alloc, next)?;
+            }
+        }
+    }
+}
+
+fn next_step(alloc: Global, subst: &Subst, pairs: &[(Term, Term)]) -> Result<Step, AllocError>
+    ensures { IfOk result (λ s. step_of s ≡ first_difference (bindings subst.now) (map pair_view pairs.now)) }
+{
+    for (left, right) in pairs {
+        let left = apply(alloc, subst, left)?;
+        let right = apply(alloc, subst, right)?;
+        match difference_of(&left, &right) {
+            Found::Same => {}
+            Found::Clash => return Ok(Step::Fails),
+            Found::Bind(variable, term) => return Ok(Step::Binds(variable, copy(term)?)),
+        }
+    }
+    Ok(Step::Done)
+}
+
+#[cycle(difference)]
+fn difference_of<'a>(a: &'a Term, b: &'a Term) -> Found<'a>
+    ensures { found_of result ≡ difference (view a.now) (view b.now) }
+{
+    match (a, b) {
+        (Term::Var(x), Term::Var(y)) => of_two(*x, *y, a, b),
+        (Term::Var(x), _) => value_for(*x, b),
+        (_, Term::Var(y)) => value_for(*y, a),
+        (Term::Constant(c), Term::Constant(d)) => {
+            if *c == *d { Found::Same } else { Found::Clash }
+        }
+        (Term::FreshName(m), Term::FreshName(n)) => {
+            if *m == *n { Found::Same } else { Found::Clash }
+        }
+        (Term::App(f, ts), Term::App(g, us)) => {
+            if *f == *g {
+                differences_of(ts, us)
+            } else {
+                Found::Clash
+            }
+        }
+        _ => Found::Clash,
+    }
+}
+
+#[cycle(difference)]
+fn differences_of<'a>(ts: &'a Vec<Term>, us: &'a Vec<Term>) -> Found<'a>
+    ensures { found_of result ≡ differences (view_all ts.now.items) (view_all us.now.items) }
+{
+    for (t, u) in ts.iter().zip(us) {
+        match difference_of(t, u) {
+            Found::Same => {}
+            found => return found,
+        }
+    }
+    if ts.len() == us.len() {
+        Found::Same
+    } else {
+        Found::Clash
+    }
+}
+
+// Two variables; a and b are the terms that they are.
+fn of_two<'a>(x: Variable, y: Variable, a: &'a Term, b: &'a Term) -> Found<'a>
+    requires left { view a.now ≡ var (variable_of x) }
+    requires right { view b.now ≡ var (variable_of y) }
+    ensures { found_of result ≡ with_variable (variable_of x) (variable_of y) }
+{
+    if x == y {
+        return Found::Same;
+    }
+    match (x.sort, y.sort) {
+        (Sort::Msg, Sort::Msg) | (Sort::Fresh, Sort::Fresh) | (Sort::Pub, Sort::Pub) => {
+            if x.number < y.number {
+                Found::Bind(y, a)
+            } else {
+                Found::Bind(x, b)
+            }
+        }
+        (Sort::Msg, _) => Found::Bind(x, b),
+        (_, Sort::Msg) => Found::Bind(y, a),
+        _ => Found::Clash,
+    }
+}
+
+// A variable beside a term that is none.
+fn value_for<'a>(x: Variable, term: &'a Term) -> Found<'a>
+    ensures { found_of result ≡ with_term (variable_of x) (view term.now) }
+{
+    let stands = match (x.sort, term) {
+        (Sort::Msg, _) => true,
+        (Sort::Fresh, Term::FreshName(_)) => true,
+        (Sort::Pub, Term::Constant(_)) => true,
+        _ => false,
+    };
+    if stands && !occurs_in(x, term) {
+        Found::Bind(x, term)
+    } else {
+        Found::Clash
+    }
+}
+
+#[cycle(occurs)]
+fn occurs_in(x: Variable, term: &Term) -> bool
+    ensures { result ≡ occurs (variable_of x) (view term.now) }
+{
+    match term {
+        Term::Var(y) => x == *y,
+        Term::App(_, terms) => occurs_in_some(x, terms),
+        _ => false,
+    }
+}
+
+#[cycle(occurs)]
+fn occurs_in_some(x: Variable, terms: &Vec<Term>) -> bool
+    ensures { result ≡ spec.occurs_in (variable_of x) (view_all terms.now.items) }
+{
+    for term in terms {
+        if occurs_in(x, term) {
+            return true;
+        }
+    }
+    false
+}
