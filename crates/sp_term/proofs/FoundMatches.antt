@@ -11,12 +11,9 @@ use Rattle.sp_spec.specs.Term.{Sort, Msg, Fresh, Pub, Variable, Term, var, const
 use Rattle.sp_spec.specs.Same.{same_sort, same_variable, alike}
 use Rattle.sp_spec.specs.Substitution.{Binding, lookup, bound_to}
 use Rattle.sp_spec.specs.Unifier.{occurs, occurs_in}
-use Rattle.sp_law_equal.proofs.Tests.{same_variable_decides, same_by_decides}
+use Rattle.sp_law_equal.proofs.Tests.{same_variable_decides}
+use Rattle.sp_term.proofs.Alike.{alike_decides}
 use Rattle.sp_term.specs.Matching.{IsOfSort, Substitution, KeepsSorts, IsMatch, NoneMatches, is_of_sort, by_bound, matched, matched_all, answer}
-
--- the test of equality tells whether terms are the same
-pub alike_decides : (a b : Term Variable) → Decides (alike a b) (a ≡ b)
-alike_decides a b = same_by_decides same_variable same_variable_decides a b
 
 abbrev sorted : Sort → Variable
 sorted s = record { sort = s; number = 0 }
