@@ -7,14 +7,17 @@
 
 ghost use Rattle.sp_law_truth.specs.Laws.{TruthIsClassical, EqualValuesKeepTruth, LeavingOutKeepsTruth};
 
+/// What is not false is true, of written and of guarded formulas.
 pub fn truth_is_classical()
     ensures { TruthIsClassical }
 {}
 
+/// Equal values, and traces with equal actions, leave each formula's truth as it is.
 pub fn equal_values_keep_truth()
     ensures { EqualValuesKeepTruth }
 {}
 
+/// What a formula doesn't name, and entries without actions, may be left out of a trace.
 pub fn leaving_out_keeps_truth()
     ensures { LeavingOutKeepsTruth }
 {}

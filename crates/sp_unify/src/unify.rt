@@ -28,7 +28,11 @@ enum Step {
     Binds(Variable, Term),
 }
 
-/// The most general bindings that make each pair the same, or none where no terms of the sorts do.
+/// The most general bindings that make each pair the same, each term of its variable's sort, or none where there are no such bindings.
+///
+/// # Errors
+///
+/// `AllocError` where memory is wanting.
 pub fn mgu(alloc: Global, pairs: &[(Term, Term)]) -> Result<Option<Subst>, AllocError>
     ensures { IfOk result (λ r. option_map bindings r ≡ spec.mgu (map pair_view pairs.now)) }
 {
@@ -164,4 +168,77 @@ fn occurs_in_some(x: Variable, terms: &Vec<Term>) -> bool
         }
     }
     false
+}
+
+#[cfg(test)]
+mod tests {
+    use super::*;
+    use sp_term::term::{Name, same};
+    use std::rc::{Rc, RcStr};
+    use std::test::Fail;
+
+    fn variable(sort: Sort, number: u128) -> Term {
+        Term::Var(Variable { sort, number })
+    }
+
+    fn name(alloc: Global, text: &str) -> Result<Name, AllocError> {
+        Ok(Name {
+            text: RcStr::from_str(alloc, text)?,
+        })
+    }
+
+    fn pair(alloc: Global, a: Term, b: Term) -> Result<Term, AllocError> {
+        let mut parts = Vec::new(alloc);
+        parts.push(a)?;
+        parts.push(b)?;
+        Ok(Term::App(name(alloc, "pair")?, Rc::new(alloc, parts)?))
+    }
+
+    // Two terms, a third one, and what that becomes under their unifier.
+    fn rows(alloc: Global) -> Result<Vec<(Term, Term, Term, Option<Term>)>, AllocError> {
+        let x = variable(Sort::Msg, 0);
+        let y = variable(Sort::Msg, 1);
+        let f = variable(Sort::Fresh, 2);
+        let p = variable(Sort::Pub, 3);
+        let c = Term::Constant(name(alloc, "c")?);
+        let n = Term::FreshName(7);
+        let mut rows = Vec::new(alloc);
+        rows.push((
+            pair(alloc, copy(&x)?, copy(&y)?)?,
+            pair(alloc, copy(&y)?, copy(&f)?)?,
+            copy(&x)?,
+            Some(copy(&f)?),
+        ))?;
+        rows.push((copy(&y)?, copy(&x)?, copy(&y)?, Some(copy(&x)?)))?;
+        rows.push((copy(&p)?, copy(&c)?, copy(&p)?, Some(copy(&c)?)))?;
+        rows.push((copy(&f)?, copy(&n)?, copy(&f)?, Some(copy(&n)?)))?;
+        rows.push((copy(&f)?, copy(&p)?, copy(&x)?, None))?;
+        rows.push((copy(&f)?, copy(&c)?, copy(&x)?, None))?;
+        rows.push((
+            copy(&x)?,
+            pair(alloc, copy(&x)?, copy(&y)?)?,
+            copy(&x)?,
+            None,
+        ))?;
+        Ok(rows)
+    }
+
+    #[test]
+    fn unifies(rt: HostRuntime) -> Result<(), Fail> {
+        let alloc = rt.alloc();
+        for (left, right, asked, wanted) in rows(alloc)? {
+            let mut pairs = Vec::new(alloc);
+            pairs.push((left, right))?;
+            match (mgu(alloc, &pairs)?, wanted) {
+                (None, None) => {}
+                (Some(subst), Some(wanted)) => {
+                    let made = apply(alloc, &subst, &asked)?;
+                    let is_wanted = same(&made, &wanted);
+                    assert!(rt; is_wanted);
+                }
+                _ => assert!(rt; false),
+            }
+        }
+        Ok(())
+    }
 }
