@@ -31,7 +31,7 @@ skip_end k {rest} {total} h e =
 pub one_less : {a : ℕ} {rest after : List ℕ} → rest ≡ a ∷ after → length after + 1 ≡ length rest
 one_less {a} {rest} {after} e = rw e (add-one (length after))
 
-skip_shorter : (k : Class) (bytes : List ℕ) → length (skip k bytes) ≤ length bytes
+pub skip_shorter : (k : Class) (bytes : List ℕ) → length (skip k bytes) ≤ length bytes
 unfolding skip
 skip_shorter k [] = omega arith
 skip_shorter k (b ∷ bytes) = by_test (is_in k b bytes) (skip_shorter k bytes)

@@ -10,3 +10,7 @@ pub mod Variables
 pub mod Bindings
 pub mod Unifying
 pub mod Unifier
+pub mod FreeChanges
+pub mod Rows
+pub mod Existentials
+pub mod Pairs

@@ -27,7 +27,8 @@ module _ (p q : Variable → Bool) (implies : (y : Variable) → p y ≡ true �
 
   pub fewer : (x : Variable) → p x ≡ false → q x ≡ true → (xs : List Variable) → listed x xs ≡ true → passed p xs < passed q xs
   fewer x without within [] h = absurd (true≢false (sym h))
-  fewer x without within (y ∷ ys) h = ⊎_elim here (λ k. later (p y) (q y) (implies y) (fewer x without within ys k)) (or_cases (same_variable x y) (listed x ys) h)
+  fewer x without within (y ∷ ys) h =
+      ⊎_elim here (λ k. later (p y) (q y) (implies y) (fewer x without within ys k)) (or_cases (same_variable x y) (listed x ys) h)
     where
       at : (a b : Bool) → a ≡ false → b ≡ true → passed p ys ≤ passed q ys
           → length (cond a (y ∷ filter p ys) (filter p ys)) < length (cond b (y ∷ filter q ys) (filter q ys))
@@ -61,7 +62,14 @@ mutual
 pub occurrences_of-length : (pairs : List Pair) → length (variables_of pairs) ≡ occurrences_of pairs
 occurrences_of-length [] = refl
 occurrences_of-length (p ∷ pairs) =
-    omega (arith, length-append (variables p.0 ++ variables p.1) (variables_of pairs), length-append (variables p.0) (variables p.1), occurrences-length p.0, occurrences-length p.1, occurrences_of-length pairs)
+    omega (
+      arith,
+      length-append (variables p.0 ++ variables p.1) (variables_of pairs),
+      length-append (variables p.0) (variables p.1),
+      occurrences-length p.0,
+      occurrences-length p.1,
+      occurrences_of-length pairs,
+    )
 
 module _ (x : Variable) where
   listed-append : (xs ys : List Variable) → listed x (xs ++ ys) ≡ (listed x xs || listed x ys)

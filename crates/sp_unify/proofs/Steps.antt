@@ -40,6 +40,7 @@ Tells P clash = Unit {0}
 Tells P (binding x t) = Binds P x t
 
 module _ (P : Variable → Type 0) where
+  -- P of what passes one of two tests is P of what passes the first, and of what passes the second
   in_left : (f g : Variable → Bool) → Each P (either f g) → Each P f
   in_left f g h y o = h y (or_left (f y) (g y) o)
 
@@ -49,6 +50,7 @@ module _ (P : Variable → Type 0) where
   in_both : (f g : Variable → Bool) → Each P f → Each P g → Each P (either f g)
   in_both f g h k y o = ⊎_elim (h y) (k y) (or_cases (f y) (g y) o)
 
+  -- P of the variables of a variable is P of it
   of_variable : (x : Variable) → Each P (in_term (var x)) → P x
   of_variable x h = h x ((same_variable_decides x x).1 refl)
 
@@ -57,12 +59,14 @@ module _ (P : Variable → Type 0) where
 
 -- What a difference tells where P holds of the variables of both terms.
 module _ (P : Variable → Type 0) where
+  -- of two differences the first that is one tells
   or_then_tells : (d e : Difference) → Tells P d → Tells P e → Tells P (or_then d e)
   or_then_tells no_difference e h k = k
   or_then_tells clash e h k = tt
   or_then_tells (binding x t) e h k = h
 
   module _ (x y : Variable) (hx : Each P (in_term (var x))) (hy : Each P (in_term (var y))) (unequal : same_variable x y ≡ false) where
+    -- the one variable is bound to the other, or the other to the one
     there : Binds P x (var y)
     there = record { here = of_variable P x hx; only = hy; new = unequal }
 
@@ -98,6 +102,7 @@ module _ (P : Variable → Type 0) where
       by_tests false false e = tt
 
   mutual
+    -- the variables of a difference are those of the two terms
     difference_tells : (t u : Term Variable) → Each P (in_term t) → Each P (in_term u) → Tells P (difference t u)
     difference_tells (var x) (var y) h k = with_variable_tells x y h k
     difference_tells (var x) (constant d) h k = with_term_tells x (constant d) h k
@@ -134,6 +139,7 @@ abbrev in_second : List Binding → Pair → Variable → Bool
 in_second bs p = in_term (valued (bound_to bs) p.1)
 
 module _ (P : Variable → Type 0) (bs : List Binding) (p : Pair) (pairs : List Pair) (h : Each P (occurs_under bs (p ∷ pairs))) where
+  -- P holds of what occurs in either side of the first pair, and in the other pairs
   first_of : Each P (in_first bs p)
   first_of = in_left P (in_first bs p) (in_second bs p) (in_left P (either (in_first bs p) (in_second bs p)) (occurs_under bs pairs) h)
 
@@ -143,6 +149,7 @@ module _ (P : Variable → Type 0) (bs : List Binding) (p : Pair) (pairs : List 
   rest_of : Each P (occurs_under bs pairs)
   rest_of = in_right P (either (in_first bs p) (in_second bs p)) (occurs_under bs pairs) h
 
+-- the variables of the first difference occur in the pairs under the bindings
 pub first_difference_tells : (P : Variable → Type 0) (bs : List Binding) (pairs : List Pair) → Each P (occurs_under bs pairs)
     → Tells P (first_difference bs pairs)
 first_difference_tells P bs [] h = tt
@@ -172,6 +179,7 @@ module _ (P : Variable → Type 0) (v : Variable → Term Variable) where
   Value z = Each P (in_term (v z))
 
   mutual
+    -- what stands for the variables of a term has only variables of the term with its variables replaced
     from_valued : (u : Term Variable) → Each P (in_term (valued v u)) → Each Value (in_term u)
     from_valued (var z) h = is_variable Value z h
     from_valued (constant c) h = λ y o. absurd (true≢false (sym o))
@@ -194,6 +202,7 @@ module _ (P : Variable → Type 0) (x : Variable) (t : Term Variable) (only : Ea
   abbrev pub Stays : Variable → Type 0
   Stays y = P y × (same_variable x y ≡ false)
 
+  -- the term's variables stay
   in_new : Each Stays (in_term t)
   in_new y o = (
     only y o,
@@ -201,6 +210,7 @@ module _ (P : Variable → Type 0) (x : Variable) (t : Term Variable) (only : Ea
         (λ e. let Occurs : Variable → Type 0 = λ z. occurs z t ≡ true in true≢false (sym (subst Occurs (sym ((same_variable_decides x y).0 e)) o) ∙ new)),
   )
 
+  -- under the one binding a variable stays, or its place is taken by the term
   by_one : (z : Variable) → P z → Each Stays (in_term (bound_to one z))
   by_one z h = by_test (same_variable x z) refl
     where
@@ -208,6 +218,7 @@ module _ (P : Variable → Type 0) (x : Variable) (t : Term Variable) (only : Ea
       by_test true e = in_new
       by_test false e = is_variable Stays z (h, e)
 
+  -- so it is after other bindings, for a variable and for a term
   by_next : (bs : List Binding) (z : Variable) → Each P (in_term (bound_to bs z)) → Each Stays (in_term (bound_to (followed_by bs one) z))
   by_next [] z h = by_one z (of_variable P z h)
   by_next (b ∷ bs) z h = by_test (same_variable b.0 z) h (by_next bs z)
@@ -218,9 +229,11 @@ module _ (P : Variable → Type 0) (x : Variable) (t : Term Variable) (only : Ea
       by_test true k later = of_valued P Stays (bound_to one) by_one b.1 k
       by_test false k later = later k
 
-  by_next_term : (bs : List Binding) (u : Term Variable) → Each P (in_term (valued (bound_to bs) u)) → Each Stays (in_term (valued (bound_to (followed_by bs one)) u))
+  by_next_term : (bs : List Binding) (u : Term Variable) → Each P (in_term (valued (bound_to bs) u))
+      → Each Stays (in_term (valued (bound_to (followed_by bs one)) u))
   by_next_term bs u h = of_valued (Value P (bound_to bs)) Stays (bound_to (followed_by bs one)) (by_next bs) u (from_valued P (bound_to bs) u h)
 
+  -- what occurs in pairs after the binding occurred before it, and isn't its variable
   pub stays : (bs : List Binding) (pairs : List Pair) → Each P (occurs_under bs pairs) → Each Stays (occurs_under (followed_by bs one) pairs)
   stays bs [] h = λ y o. absurd (true≢false (sym o))
   stays bs (p ∷ pairs) h =

@@ -23,7 +23,8 @@ pub starts : (pairs : List Pair) → OnTheWay pairs []
 starts pairs = record {
   left = suc (occurrences_of pairs);
   enough =
-      omega (arith, length-filter (occurs_under [] pairs) (variables_of pairs), count_by-le-length (occurs_under [] pairs) (variables_of pairs), occurrences_of-length pairs);
+      omega
+      (arith, length-filter (occurs_under [] pairs) (variables_of pairs), count_by-le-length (occurs_under [] pairs) (variables_of pairs), occurrences_of-length pairs);
   same = refl;
   relevant = λ y o. listed-occurs_under y pairs ∙ o;
 }
@@ -42,15 +43,18 @@ module _ (pairs : List Pair) (bs : List Binding) (way : OnTheWay pairs bs) where
     abbrev next : List Binding
     next = followed_by bs ((x, t) ∷ [])
 
+    -- what occurs afterwards occurred before and isn't the variable, which is gone
     remains : Each (Stays Occurs x t told.only told.new) (occurs_under next pairs)
     remains = stays Occurs x t told.only told.new bs pairs (λ y o. o)
 
     gone : occurs_under next pairs x ≡ false
     gone = false_from_ne_true (occurs_under next pairs x) (λ o. true≢false (sym ((same_variable_decides x x).1 refl) ∙ (remains x o).1))
 
+    -- fewer variables are left over
     falls : left_over next pairs < left_over bs pairs
     falls = fewer (occurs_under next pairs) (occurs_under bs pairs) (λ y o. (remains y o).0) x gone told.here (variables_of pairs) (way.relevant x told.here)
 
+  -- one step of the definition, where the rest of its way is long enough
   outcome : (d : Difference) → Tells Occurs d → (n : ℕ) → left_over bs pairs < suc n → go_on d bs (unified n pairs) ≡ mgu pairs → Outcome d
   outcome no_difference told n enough same = same
   outcome clash told n enough same = same
@@ -72,7 +76,9 @@ module _ (pairs : List Pair) (bs : List Binding) (way : OnTheWay pairs bs) where
       by_left zero enough same = absurd (omega arith)
       by_left (suc n) enough same = outcome (first_difference bs pairs) (first_difference_tells Occurs bs pairs (λ y o. o)) n enough same
 
-  pub goes_on : (x : Variable) (t : Term Variable) (one made : List Binding) → first_difference bs pairs ≡ binding x t → one ≡ (x, t) ∷ [] → made ≡ followed_by bs one
+  -- a step goes on with the bindings that are made of these and of the one that the first difference is
+  pub goes_on : (x : Variable) (t : Term Variable) (one made : List Binding)
+      → first_difference bs pairs ≡ binding x t → one ≡ (x, t) ∷ [] → made ≡ followed_by bs one
       → OnTheWay pairs made × (left_over made pairs < left_over bs pairs)
   goes_on x t one made is single then =
       subst (λ cs. OnTheWay pairs cs × (left_over cs pairs < left_over bs pairs)) (sym (then ∙ ap (followed_by bs) single)) (reaches (binding x t) is)

@@ -5,4 +5,5 @@ use Rattle.sp_unify.specs.View.{pair_view}
 use Rattle.sp_unify.proofs.unify.next_step.Given as goal
 
 abbrev pub invariant-loop-left : goal.invariant-loop-left
-invariant-loop-left l = first_difference (bindings l.subst) (map pair_view l.pairs) ≡ first_difference (bindings l.subst) (map pair_view (drop l.left-index l.pairs))
+invariant-loop-left l =
+    first_difference (bindings l.subst) (map pair_view l.pairs) ≡ first_difference (bindings l.subst) (map pair_view (drop l.left-index l.pairs))

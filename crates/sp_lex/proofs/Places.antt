@@ -1,0 +1,76 @@
+-- Tokens stand in the text, one behind the other.
+use Rattle.std.proofs.Common.{◌≡◌, ℕ, ◌+◌, ◌-◌, ◌<◌, ◌≤◌, Bool, true, false, cond, List, [], ◌∷◌, length, drop, Option, Some, None, ap, length-drop, arith}
+use Rattle.std.specs.Prelude.{◌&&◌, ◌==◌, nat_lt}
+use Rattle.std.specs.Char.{is_ascii_alphanumeric}
+use Rattle.sp_lex.specs.declared.token.Sign.{Sign}
+use Rattle.sp_lex.specs.declared.token.Class.TheVariants as class
+use Rattle.sp_lex.specs.declared.token.Sign.TheVariants as s
+use Rattle.sp_lex.specs.Lexeme.{Lexeme, word, constant, sign, Token}
+use Rattle.sp_lex.specs.Lex.{skip, Piece, token, no_token, close_constant, short_sign, short_piece, first_short, first_sign, piece, before, is_first, after_blanks, IsNext, AreTokens, no_more, last, next}
+use Rattle.sp_lex.specs.Places.{place_behind, is_any}
+use Rattle.sp_lex.proofs.Pieces.{skip_shorter}
+
+-- fewer than these bytes are left
+record Leaves (n : ℕ) (p : Piece) : Type 0 where
+  less : (x : Lexeme) (rest : List ℕ) → p ≡ token x rest → length rest < n
+
+leaves_token : {n : ℕ} (x : Lexeme) (rest : List ℕ) → length rest < n → Leaves n (token x rest)
+leaves_token x rest lt = record { less = λ y r e. let f : rest ≡ r = cc in omega (arith, ap length f) }
+
+leaves_none : {n : ℕ} → Leaves n no_token
+leaves_none = record { less = λ y r e. absurd cc }
+
+either : (t : Bool) {n : ℕ} {x y : Piece} → Leaves n x → Leaves n y → Leaves n (cond t x y)
+either true h k = h
+either false h k = k
+
+short_leaves : (o : Option Sign) (bytes : List ℕ) (n : ℕ) → length bytes < n → Leaves n (short_piece o bytes)
+short_leaves None bytes n lt = leaves_none
+short_leaves (Some x) bytes n lt = leaves_token (sign x) bytes lt
+
+dropped : (k : ℕ) (b : ℕ) (bytes : List ℕ) → length (drop (k + 1) (b ∷ bytes)) < length (b ∷ bytes)
+dropped k b bytes = rw length-drop (omega arith)
+
+drop_less : (k : ℕ) (bytes : List ℕ) (n : ℕ) → length bytes < n → length (drop k bytes) < n
+drop_less k bytes n lt = rw length-drop (omega arith)
+
+sign_leaves : (b : ℕ) (bytes : List ℕ) → Leaves (length (b ∷ bytes)) (first_sign (b ∷ bytes))
+unfolding first_sign
+sign_leaves b bytes =
+    let n = length (b ∷ bytes) in
+    let three : length (drop 3 (b ∷ bytes)) < n = dropped 2 b bytes in
+    let sign_of : (x : Sign) → Leaves n (token (sign x) (drop 3 (b ∷ bytes))) = λ x. leaves_token (sign x) (drop 3 (b ∷ bytes)) three in
+    let last : Leaves n (first_short (b ∷ bytes)) = short_leaves (short_sign b) bytes n (omega arith) in
+    either _ (sign_of s.OpenArrow) (either _ (sign_of s.CloseArrow) (either _ (sign_of s.Arrow) (either _ (sign_of s.Implies) (either _ (sign_of s.Iff) last))))
+
+piece_leaves : (bytes : List ℕ) → Leaves (length bytes) (piece bytes)
+unfolding piece first_sign
+piece_leaves [] = leaves_none
+piece_leaves (b ∷ bytes) =
+    let n = length (b ∷ bytes) in
+    let constants : length (drop 1 (skip class.Constant bytes)) < n = drop_less 1 (skip class.Constant bytes) n (let k = skip_shorter class.Constant bytes in omega arith) in
+    let words : length (skip class.Word bytes) < n = let k = skip_shorter class.Word bytes in omega arith in
+    let w = skip class.Word bytes in
+    let c = skip class.Constant bytes in
+    let quoted = either (nat_lt (length c) (length bytes) && is_first (λ b. b == 39) c) (leaves_token (constant (before bytes c)) (drop 1 c) constants) leaves_none in
+    either (is_ascii_alphanumeric b) (leaves_token (word (before (b ∷ bytes) w)) w words) (either (b == 39) quoted (sign_leaves b bytes))
+
+-- fewer bytes follow the next token
+pub next_shorter : {size : ℕ} {bytes rest : List ℕ} {t : Token} → IsNext size bytes t rest → length rest < length bytes
+next_shorter {bytes = bytes} {rest = rest} {t = t} n =
+    let h : length rest < length (after_blanks bytes) = (piece_leaves (after_blanks bytes)).less t.lexeme rest n.reads in
+    let k = skip_shorter class.Blank bytes in
+    omega arith
+
+chosen : (t : Bool) (a b c : ℕ) → a ≤ c → b ≤ c → cond t a b ≤ c
+chosen true a b c h k = h
+chosen false a b c h k = k
+
+-- the last token that passes a test ends before the last of all, and that in the text
+pub places_in_order : {size : ℕ} {bytes : List ℕ} {ts : List Token} (p : Lexeme → Bool) (a b : ℕ) → AreTokens size bytes ts → a ≤ b → b + length bytes ≤ size → (place_behind p a ts ≤ place_behind is_any b ts) × (place_behind is_any b ts ≤ size)
+places_in_order p a b (no_more e) le in_text = (le, omega arith)
+places_in_order p a b (last {t = t} n e) le in_text = let k = n.end in let lt = next_shorter n in (chosen (p t.lexeme) t.end a t.end (omega arith) (omega arith), omega arith)
+places_in_order p a b (next {t = t} n e h) le in_text =
+    let k = n.end in
+    let lt = next_shorter n in
+    places_in_order p (cond (p t.lexeme) t.end a) t.end h (chosen (p t.lexeme) t.end a t.end (omega arith) (omega arith)) (omega arith)

@@ -1,0 +1,27 @@
+-- Where tokens end.
+use Rattle.std.specs.Prelude.{ℕ, Bool, true, false, if◌then◌else◌, List, [], ◌∷◌}
+use Rattle.sp_lex.specs.declared.token.Sign.{Sign}
+use Rattle.sp_lex.specs.declared.token.Sign.TheVariants as s
+use Rattle.sp_lex.specs.Lexeme.{Lexeme, word, constant, sign, Token}
+
+-- behind the last token that passes the test, or else this place
+abbrev pub place_behind : (Lexeme → Bool) → ℕ → List Token → ℕ
+place_behind p place [] = place
+place_behind p place (t ∷ ts) = place_behind p (if p t.lexeme then t.end else place) ts
+
+abbrev pub is_quote : Lexeme → Bool
+is_quote (word w) = false
+is_quote (constant c) = false
+is_quote (sign s.Quote) = true
+is_quote (sign _) = false
+
+abbrev pub is_any : Lexeme → Bool
+is_any x = true
+
+-- behind the last of these tokens
+abbrev pub behind_all : List Token → ℕ
+behind_all ts = place_behind is_any 0 ts
+
+-- behind the last double quote
+abbrev pub behind_quote : List Token → ℕ
+behind_quote ts = place_behind is_quote 0 ts

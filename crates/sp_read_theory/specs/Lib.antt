@@ -1,0 +1,8 @@
+pub mod Names
+pub mod Lists
+pub mod Shapes
+pub mod Grammar
+pub mod FirstForm
+pub mod Views
+pub mod Text
+pub mod Laws

@@ -1,0 +1,11 @@
+use Rattle.std.proofs.Common.{◌≡◌, take, map}
+use Rattle.sp_spec.specs.Substitution.{bound_to}
+use Rattle.sp_term.specs.Bindings.{bindings}
+use Rattle.sp_system.specs.Change.{changed, free_change}
+use Rattle.sp_system.specs.Equating.{time_replaced}
+use Rattle.sp_system.specs.FormulaView.{formula_of}
+use Rattle.sp_system.proofs.formula.changed_formulas.Given as goal
+
+abbrev pub invariant-loop-formula : goal.invariant-loop-formula
+invariant-loop-formula l =
+    map formula_of l.made.items ≡ map (changed (free_change (bound_to (bindings l.subst)) (time_replaced l.small l.large))) (map formula_of (take l.formula-index l.formula-items))

@@ -1,0 +1,26 @@
+-- The systems that systems in memory stand for.
+use Rattle.std.specs.Prelude.{map}
+use Rattle.sp_spec.specs.Unifier.{Pair}
+use Rattle.sp_term.specs.View.{name_of, view}
+use Rattle.sp_term.specs.declared.term.Term.{Term}
+use Rattle.sp_system.specs.System.{rule_step}
+use Rattle.sp_system.specs.System as spec
+use Rattle.sp_system.specs.View.{facts_of}
+use Rattle.sp_system.specs.FormulaView.{formula_of}
+use Rattle.sp_system.specs.declared.system.Event.{Event}
+use Rattle.sp_system.specs.declared.system.System.{System}
+
+abbrev pub event_of : Event → spec.Event
+event_of e = record { time = e.time; happening = rule_step (name_of e.rule) (facts_of e.facts) }
+
+abbrev pub pair_of : Term × Term → Pair
+pair_of p = (view p.0, view p.1)
+
+abbrev pub system_of : System → spec.System
+system_of s = record {
+  events = map event_of s.events.items;
+  formulas = map formula_of s.formulas.items;
+  spent = map formula_of s.spent.items;
+  unequal = map pair_of s.unequal.items;
+  next = s.next;
+}

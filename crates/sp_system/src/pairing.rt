@@ -1,0 +1,136 @@
+// The pairs of terms that make facts, actions and steps the same.
+
+ghost use Rattle.std.specs.Prelude.{◌≡◌, IfOk, map, option_map};
+ghost use Rattle.sp_term.specs.View.{view_all};
+ghost use Rattle.sp_system.specs.Equating as equating;
+ghost use Rattle.sp_system.specs.Pairs as one;
+ghost use Rattle.sp_system.specs.View.{fact_of, action_of};
+ghost use Rattle.sp_system.specs.SystemView.{event_of, pair_of};
+
+use crate::fact::{Action, Fact};
+use crate::system::Event;
+use sp_term::term::{Term, copy};
+use std::alloc::{AllocError, Global};
+
+/// The pairs of the arguments at each place, if there are as many of the one as of the other.
+pub fn argument_pairs(
+    alloc: Global,
+    left: &Vec<Term>,
+    right: &Vec<Term>,
+) -> Result<Option<Vec<(Term, Term)>>, AllocError>
+    ensures { IfOk result (λ o. option_map (λ ps. map pair_of ps.items) o ≡ equating.argument_pairs (view_all left.now.items) (view_all right.now.items)) }
+{
+    if left.len() != right.len() {
+        return Ok(None);
+    }
+    let mut made = Vec::with_capacity(alloc, left.len())?;
+    for (t, u) in left.iter().zip(right) {
+        let first = copy(t)?;
+        let second = copy(u)?;
+        made.push((first, second))?;
+    }
+    Ok(Some(made))
+}
+
+fn fact_pair(
+    alloc: Global,
+    left: &Fact,
+    right: &Fact,
+) -> Result<Option<Vec<(Term, Term)>>, AllocError>
+    ensures { IfOk result (λ o. option_map (λ ps. map pair_of ps.items) o ≡ one.fact_pair (fact_of left.now) (fact_of right.now)) }
+{
+    if left.symbol == right.symbol && left.persistent == right.persistent {
+        let pairs = argument_pairs(alloc, &left.args, &right.args)?;
+        Ok(pairs)
+    } else {
+        Ok(None)
+    }
+}
+
+/// The pairs that make the facts at each place the same, if their names agree.
+pub fn fact_pairs(
+    alloc: Global,
+    left: &Vec<Fact>,
+    right: &Vec<Fact>,
+) -> Result<Option<Vec<(Term, Term)>>, AllocError>
+    ensures { IfOk result (λ o. option_map (λ ps. map pair_of ps.items) o ≡ equating.fact_pairs (map fact_of left.now.items) (map fact_of right.now.items)) }
+{
+    if left.len() != right.len() {
+        return Ok(None);
+    }
+    let mut made = Vec::new(alloc);
+    for (f, g) in left.iter().zip(right) {
+        let Some(mut pairs) = fact_pair(alloc, f, g)? else {
+            return Ok(None);
+        };
+        made.append(&mut pairs)?;
+    }
+    Ok(Some(made))
+}
+
+/// The pairs that make the actions the same, if their names agree.
+pub fn action_pair(
+    alloc: Global,
+    left: &Action,
+    right: &Action,
+) -> Result<Option<Vec<(Term, Term)>>, AllocError>
+    ensures { IfOk result (λ o. option_map (λ ps. map pair_of ps.items) o ≡ equating.action_pair (action_of left.now) (action_of right.now)) }
+{
+    if left.symbol == right.symbol {
+        let pairs = argument_pairs(alloc, &left.args, &right.args)?;
+        Ok(pairs)
+    } else {
+        Ok(None)
+    }
+}
+
+/// The pairs that make the actions at each place the same, if their names agree.
+pub fn action_pairs(
+    alloc: Global,
+    left: &Vec<Action>,
+    right: &Vec<Action>,
+) -> Result<Option<Vec<(Term, Term)>>, AllocError>
+    ensures { IfOk result (λ o. option_map (λ ps. map pair_of ps.items) o ≡ equating.action_pairs (map action_of left.now.items) (map action_of right.now.items)) }
+{
+    if left.len() != right.len() {
+        return Ok(None);
+    }
+    let mut made = Vec::new(alloc);
+    for (a, b) in left.iter().zip(right) {
+        let Some(mut pairs) = action_pair(alloc, a, b)? else {
+            return Ok(None);
+        };
+        made.append(&mut pairs)?;
+    }
+    Ok(Some(made))
+}
+
+/// The pairs that make two steps one, if they are of one rule.
+pub fn merging_pairs(
+    alloc: Global,
+    left: &Event,
+    right: &Event,
+) -> Result<Option<Vec<(Term, Term)>>, AllocError>
+    ensures { IfOk result (λ o. option_map (λ ps. map pair_of ps.items) o ≡ equating.merging_pairs (event_of left.now).happening (event_of right.now).happening) }
+{
+    if left.rule != right.rule {
+        return Ok(None);
+    }
+    let Some(mut made) = fact_pairs(alloc, &left.facts.premises, &right.facts.premises)? else {
+        return Ok(None);
+    };
+    let Some(mut actions) = action_pairs(alloc, &left.facts.actions, &right.facts.actions)? else {
+        return Ok(None);
+    };
+    let Some(mut conclusions) = fact_pairs(
+        alloc,
+        &left.facts.conclusions,
+        &right.facts.conclusions,
+    )?
+    else {
+        return Ok(None);
+    };
+    made.append(&mut actions)?;
+    made.append(&mut conclusions)?;
+    Ok(Some(made))
+}

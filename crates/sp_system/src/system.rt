@@ -1,0 +1,190 @@
+// Systems in memory.
+
+ghost use Rattle.std.specs.Prelude.{◌≡◌, IfOk, map};
+ghost use Rattle.sp_spec.specs.Substitution.{bound_to};
+ghost use Rattle.sp_term.specs.Bindings.{bindings};
+ghost use Rattle.sp_system.specs.Equating.{time_replaced, event_changed, pair_changed, system_changed};
+ghost use Rattle.sp_system.specs.SystemView.{event_of, pair_of, system_of};
+
+use crate::fact::Facts;
+use crate::formula::{Formula, changed_formulas, copy_formulas};
+use sp_term::subst::{Subst, apply};
+use sp_term::term::{Name, Term, copy};
+use std::alloc::{AllocError, Global};
+
+/// A step of a rule at a time.
+#[derive(Debug, Drop)]
+pub struct Event {
+    /// when
+    pub time: u128,
+    /// the name of the rule
+    pub rule: Name,
+    /// the facts of the step
+    pub facts: Facts,
+}
+
+/// What a log has to satisfy.
+#[derive(Debug, Drop)]
+pub struct System {
+    /// the steps that it has
+    pub events: Vec<Event>,
+    /// what is true of it
+    pub formulas: Vec<Formula>,
+    /// what is true of it too, and has been used
+    pub spent: Vec<Formula>,
+    /// the pairs of terms with different values
+    pub unequal: Vec<(Term, Term)>,
+    /// a number above those of all variables and times
+    pub next: u128,
+}
+
+impl Event {
+    /// An equal event.
+    pub fn copy(&self, alloc: Global) -> Result<Event, AllocError>
+        ensures { IfOk result (λ e. event_of e ≡ event_of self.now) }
+    {
+        let rule = self.rule.copy()?;
+        let facts = self.facts.copy(alloc)?;
+        Ok(Event {
+            time: self.time,
+            rule,
+            facts,
+        })
+    }
+
+    /// The event with each bound variable replaced, and with `small` in place of `large`.
+    pub fn changed(
+        &self,
+        alloc: Global,
+        subst: &Subst,
+        small: u128,
+        large: u128,
+    ) -> Result<Event, AllocError>
+        ensures { IfOk result (λ e. event_of e ≡ event_changed (bound_to (bindings subst.now)) (time_replaced small large) (event_of self.now)) }
+    {
+        let rule = self.rule.copy()?;
+        let facts = self.facts.changed(alloc, subst)?;
+        let time = if self.time == large { small } else { self.time };
+        Ok(Event { time, rule, facts })
+    }
+}
+
+fn copy_events(alloc: Global, events: &Vec<Event>) -> Result<Vec<Event>, AllocError>
+    ensures { IfOk result (λ es. map event_of es.items ≡ map event_of events.now.items) }
+{
+    let mut made = Vec::with_capacity(alloc, events.len())?;
+    for event in events {
+        made.push(event.copy(alloc)?)?;
+    }
+    Ok(made)
+}
+
+fn changed_events(
+    alloc: Global,
+    subst: &Subst,
+    small: u128,
+    large: u128,
+    events: &Vec<Event>,
+) -> Result<Vec<Event>, AllocError>
+    ensures { IfOk result (λ es. map event_of es.items ≡ map (event_changed (bound_to (bindings subst.now)) (time_replaced small large)) (map event_of events.now.items)) }
+{
+    let mut made = Vec::with_capacity(alloc, events.len())?;
+    for event in events {
+        made.push(event.changed(alloc, subst, small, large)?)?;
+    }
+    Ok(made)
+}
+
+fn copy_pair(pair: &(Term, Term)) -> Result<(Term, Term), AllocError>
+    ensures { IfOk result (λ p. pair_of p ≡ pair_of pair.now) }
+{
+    let left = copy(&pair.0)?;
+    let right = copy(&pair.1)?;
+    Ok((left, right))
+}
+
+fn changed_pair(
+    alloc: Global,
+    subst: &Subst,
+    pair: &(Term, Term),
+) -> Result<(Term, Term), AllocError>
+    ensures { IfOk result (λ p. pair_of p ≡ pair_changed (bound_to (bindings subst.now)) (pair_of pair.now)) }
+{
+    let left = apply(alloc, subst, &pair.0)?;
+    let right = apply(alloc, subst, &pair.1)?;
+    Ok((left, right))
+}
+
+fn copy_pairs(alloc: Global, pairs: &Vec<(Term, Term)>) -> Result<Vec<(Term, Term)>, AllocError>
+    ensures { IfOk result (λ ps. map pair_of ps.items ≡ map pair_of pairs.now.items) }
+{
+    let mut made = Vec::with_capacity(alloc, pairs.len())?;
+    for pair in pairs {
+        made.push(copy_pair(pair)?)?;
+    }
+    Ok(made)
+}
+
+fn changed_pairs(
+    alloc: Global,
+    subst: &Subst,
+    pairs: &Vec<(Term, Term)>,
+) -> Result<Vec<(Term, Term)>, AllocError>
+    ensures { IfOk result (λ ps. map pair_of ps.items ≡ map (pair_changed (bound_to (bindings subst.now))) (map pair_of pairs.now.items)) }
+{
+    let mut made = Vec::with_capacity(alloc, pairs.len())?;
+    for pair in pairs {
+        made.push(changed_pair(alloc, subst, pair)?)?;
+    }
+    Ok(made)
+}
+
+impl System {
+    /// An equal system.
+    pub fn copy(&self, alloc: Global) -> Result<System, AllocError>
+        ensures { IfOk result (λ s. system_of s ≡ system_of self.now) }
+    {
+        let events = copy_events(alloc, &self.events)?;
+        let formulas = copy_formulas(alloc, &self.formulas)?;
+        let spent = copy_formulas(alloc, &self.spent)?;
+        let unequal = copy_pairs(alloc, &self.unequal)?;
+        Ok(System {
+            events,
+            formulas,
+            spent,
+            unequal,
+            next: self.next,
+        })
+    }
+
+    /// The system with each bound variable replaced, and with the time `small` in place of `large`.
+    pub fn changed(
+        &self,
+        alloc: Global,
+        subst: &Subst,
+        small: u128,
+        large: u128,
+    ) -> Result<System, AllocError>
+        ensures { IfOk result (λ s. system_of s ≡ system_changed (bound_to (bindings subst.now)) (time_replaced small large) (system_of self.now)) }
+    {
+        let events = changed_events(alloc, subst, small, large, &self.events)?;
+        let formulas = changed_formulas(alloc, subst, small, large, &self.formulas)?;
+        let spent = changed_formulas(alloc, subst, small, large, &self.spent)?;
+        let unequal = changed_pairs(alloc, subst, &self.unequal)?;
+        Ok(System {
+            events,
+            formulas,
+            spent,
+            unequal,
+            next: self.next,
+        })
+    }
+
+    /// The system with each bound variable replaced; the times stay.
+    pub fn with_terms(&self, alloc: Global, subst: &Subst) -> Result<System, AllocError>
+        ensures { IfOk result (λ s. system_of s ≡ system_changed (bound_to (bindings subst.now)) (λ i. i) (system_of self.now)) }
+    {
+        let made = self.changed(alloc, subst, 0, 0)?;
+        Ok(made)
+    }
+}
