@@ -1,2 +1,4 @@
 pub mod Lists
 pub mod Applied
+pub mod Alike
+pub mod FoundMatches

@@ -4,6 +4,7 @@
 // terms are those of the definitions. A symbol is its name: which names are symbols, and private, is the signature's.
 #![tactic(auto)]
 
+pub mod matching;
 pub mod subst;
 pub mod term;
 #[cfg(test)]

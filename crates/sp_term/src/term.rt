@@ -1,6 +1,7 @@
 // Terms, and what is done to them without any theory.
 
 ghost use Rattle.std.specs.Prelude.{◌≡◌, ◌↔◌, IfOk, IsTrue};
+ghost use Rattle.sp_spec.specs.Same.{alike, alike_all};
 ghost use Rattle.sp_term.specs.View.{name_of, variable_of, view, view_all};
 
 use std::alloc::{AllocError, Global};
@@ -27,7 +28,7 @@ pub struct Variable {
 }
 
 /// The name of a symbol, of a public constant, of a fact or of a rule; copies share the text.
-#[derive(Debug, PartialEq, Eq, Drop)]
+#[derive(Debug, PartialEq, Eq, PartialOrd, Ord, Drop)]
 pub struct Name {
     /// the name's bytes
     pub text: RcStr,
@@ -65,9 +66,16 @@ pub enum Term {
 }
 
 /// Whether two terms are the same.
-#[cycle(same)]
 pub fn same(a: &Term, b: &Term) -> bool
-    ensures { IsTrue result ↔ (view a.now ≡ view b.now) }
+    ensures tests { result ≡ alike (view a.now) (view b.now) }
+    ensures tells { IsTrue result ↔ (view a.now ≡ view b.now) }
+{
+    same_tree(a, b)
+}
+
+#[cycle(same)]
+fn same_tree(a: &Term, b: &Term) -> bool
+    ensures { result ≡ alike (view a.now) (view b.now) }
 {
     match (a, b) {
         (Term::Var(x), Term::Var(y)) => *x == *y,
@@ -80,13 +88,13 @@ pub fn same(a: &Term, b: &Term) -> bool
 
 #[cycle(same)]
 fn all_same(xs: &Vec<Term>, ys: &Vec<Term>) -> bool
-    ensures { IsTrue result ↔ (view_all xs.now.items ≡ view_all ys.now.items) }
+    ensures { result ≡ alike_all (view_all xs.now.items) (view_all ys.now.items) }
 {
     if xs.len() != ys.len() {
         return false;
     }
     for (x, y) in xs.iter().zip(ys) {
-        if !same(x, y) {
+        if !same_tree(x, y) {
             return false;
         }
     }
