@@ -1,5 +1,5 @@
 -- The first form that a written lemma has, and the meanings that code works with.
-use Rattle.std.specs.Prelude.{List, [], ◌∷◌, Option, Some, None, map}
+use Rattle.std.specs.Prelude.{ℕ, List, [], ◌∷◌, Option, Some, None, map}
 use Rattle.sp_spec.specs.Formula.{Written}
 use Rattle.sp_read_theory.specs.Shapes.{action_of}
 use Rattle.sp_read_theory.specs.declared.written.WrittenVariable.{WrittenVariable}
@@ -14,6 +14,10 @@ use Rattle.sp_guard.specs.declared.meaning.Meaning.TheVariants.{Message, Time}
 abbrev pub meant_of : Meaning → spec.Meant
 meant_of (Message m k) = a_message (mark m) k
 meant_of (Time k) = a_time k
+
+abbrev pub place_of : Meaning → ℕ
+place_of (Message m k) = k
+place_of (Time k) = k
 
 abbrev pub happens_of : WrittenEvent → Happens
 happens_of e = record { action = action_of (fact_of e.fact); time = variable e.at }

@@ -6,3 +6,11 @@
 #![tactic(auto)]
 
 pub mod meaning;
+pub mod negation;
+
+ghost use Rattle.sp_guard.specs.Laws.{FirstFormSpellsFormula};
+
+/// The first form of a written formula spells the formula that is read.
+pub fn first_form_spells_formula()
+    ensures { FirstFormSpellsFormula }
+{}
