@@ -1,0 +1,4 @@
+pub mod Same
+pub mod Lists
+pub mod Each
+pub mod Placed

@@ -1,0 +1,38 @@
+-- Lists that are looked through from the outermost binder to the innermost, and answers gathered one after the other.
+use Rattle.std.proofs.Common.{arith, ◌≡◌, ◌+◌, ◌<◌, ◌∙◌, refl, sym, ap, ℕ, suc, List, [], ◌∷◌, ◌++◌, length, map, take, get_or, Option, Some, None, option_map, if◌then◌else◌}
+use Rattle.std.specs.Str.{bytes_eq}
+use Rattle.std.proofs.Math.Seq.{take-suc}
+use mathlib.Core.List.{map-append}
+use Rattle.sp_spec.specs.Formula.{Written}
+use Rattle.sp_read_theory.specs.declared.written.Mark.TheVariants.{Bare}
+use Rattle.sp_read_theory.specs.declared.written.WrittenTerm.{WrittenTerm}
+use Rattle.sp_read_theory.specs.declared.written.WrittenTerm.TheVariants.{Variable}
+use Rattle.sp_read_theory.specs.declared.written.WrittenVariable.{WrittenVariable}
+use Rattle.sp_read_theory.specs.Views.{variable}
+use Rattle.sp_check.specs.FirstForm.{Meant, binder_meant, past_binder, meant, reversed}
+use Rattle.sp_guard.specs.View.{innermost_first}
+
+-- what stands behind the end of a list
+abbrev pub none_written : WrittenVariable
+none_written = record { name = record { ref_ptr = (0, 0); now = [] }; mark = Bare }
+
+abbrev pub no_term : WrittenTerm
+no_term = Variable none_written
+
+pub reversed_more : {A : Type 0} → (xs : List A) → (x : A) → reversed (xs ++ x ∷ []) ≡ x ∷ reversed xs
+reversed_more [] x = refl
+reversed_more (y ∷ ys) x = ap (λ zs. zs ++ y ∷ []) (reversed_more ys x)
+
+-- what a name means inside one more binder
+abbrev pub inside : List ℕ → Written → Option Meant → Option Meant
+inside x b outside = if bytes_eq b.name x then Some (binder_meant b.mark) else option_map (past_binder b.mark) outside
+
+pub meant_more : (x : List ℕ) → (bs : List WrittenVariable) → (i : ℕ) → (d : WrittenVariable) → i < length bs
+    → meant (innermost_first (take (i + 1) bs)) x ≡ inside x (variable (get_or bs i d)) (meant (innermost_first (take i bs)) x)
+meant_more x bs i d below =
+    let b = get_or bs i d in
+    let next : i + 1 ≡ suc i = omega arith in
+    ap (λ (n : ℕ). meant (innermost_first (take n bs)) x) next
+    ∙ ap (λ (cs : List WrittenVariable). meant (innermost_first cs) x) (take-suc bs i d below)
+    ∙ ap (λ (cs : List Written). meant (reversed cs) x) (map-append variable (take i bs) (b ∷ []))
+    ∙ ap (λ (cs : List Written). meant cs x) (reversed_more (map variable (take i bs)) (variable b))
