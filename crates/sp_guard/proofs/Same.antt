@@ -24,6 +24,7 @@ same_formula g l e = at g.events.items refl
   where
     read : Formula → List WrittenEvent → Formula
     read f es = quantified (map variable g.binders.items) (implies (shape.joined (map event es)) f)
+
     at : (es : List WrittenEvent) → g.events.items ≡ es → formula_of l ≡ view.formula g
     at [] is = absurd (cc (ap (λ (es : List WrittenEvent). with_events g (map happens_of es)) (sym is) ∙ e))
     at (h ∷ hs) is =

@@ -44,11 +44,7 @@ impl Meaning {
 }
 
 /// What the name means inside one more binder, where it meant `outside` before.
-fn meant_inside(
-    outside: Option<Meaning>,
-    binder: &WrittenVariable,
-    name: &str,
-) -> Option<Meaning>
+fn meant_inside(outside: Option<Meaning>, binder: &WrittenVariable, name: &str) -> Option<Meaning>
     requires { IfSome outside (λ m. place_of m < 2 ^ 64 - 1) }
     ensures value { option_map meant_of result ≡ (if bytes_eq binder.now.name.now name.now then Some (spec.binder_meant (view.mark binder.now.mark)) else option_map (spec.past_binder (view.mark binder.now.mark)) (option_map meant_of outside)) }
     ensures place { (k : ℕ) → IfSome outside (λ m. place_of m < k) → IfSome result (λ m. place_of m < k + 1) }

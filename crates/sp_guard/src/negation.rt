@@ -9,9 +9,7 @@ ghost use Rattle.sp_guard.specs.View.{meant_of, happens_of, first_form, innermos
 
 use crate::meaning::{Meaning, meant};
 use sp_read_theory::{Mark, WrittenEvent, WrittenFormula, WrittenTerm, WrittenVariable};
-use sp_system::formula::{
-    Atom, Binder, Existential, Formula, FormulaAction, FormulaTerm, Moment,
-};
+use sp_system::formula::{Atom, Binder, Existential, Formula, FormulaAction, FormulaTerm, Moment};
 use sp_term::term::{Name, Sort, Term};
 use std::alloc::{AllocError, Global};
 
@@ -134,10 +132,7 @@ fn marked_binder(mark: Mark) -> Binder
 }
 
 /// What the binders bind.
-fn marked_binders(
-    alloc: Global,
-    binders: &Vec<WrittenVariable>,
-) -> Result<Vec<Binder>, AllocError>
+fn marked_binders(alloc: Global, binders: &Vec<WrittenVariable>) -> Result<Vec<Binder>, AllocError>
     ensures { IfOk result (λ bs. map binder_of bs.items ≡ map spec.binder_of (map view.variable binders.now.items)) }
 {
     let mut made = Vec::with_capacity(alloc, binders.len())?;
@@ -149,10 +144,7 @@ fn marked_binders(
 
 /// The negation of a lemma, guarded by its actions. None where it has no actions, a name has no binder, or a message stands for a time
 /// or a time for a message.
-pub fn negation(
-    alloc: Global,
-    formula: &WrittenFormula,
-) -> Result<Option<Formula>, AllocError>
+pub fn negation(alloc: Global, formula: &WrittenFormula) -> Result<Option<Formula>, AllocError>
     ensures { IfOk result (λ o. option_map formula_of o ≡ option_and_then spec.negation (first_form formula.now)) }
 {
     if formula.events.is_empty() {
