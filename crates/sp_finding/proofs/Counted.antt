@@ -1,6 +1,6 @@
 -- How many arguments a fact has.
-use Rattle.std.proofs.Common.{arith, ◌≡◌, List, [], ◌∷◌, map, length, ℕ, Bool, true, false, not, ◌&&◌, ◌||◌, refl, ap, ap₂, sym, ◌∙◌, nat_lt, nat_eq, suc}
-use Rattle.sp_spec.specs.Term.{Terms, count}
+use Rattle.std.proofs.Common.{arith, ◌≡◌, List, [], ◌∷◌, map, length, ℕ, false, not, ◌&&◌, ◌||◌, refl, ap, sym, nat_eq, suc}
+use Rattle.sp_spec.specs.Term.{count}
 use Rattle.sp_spec.specs.Rule.{Fact}
 use Rattle.sp_spec.specs.Formula.{Written}
 use Rattle.sp_spec.specs.Findings.{is_wide, has_wide_fact, has_wide_action, is_one, is_fresh_variable}
