@@ -2,3 +2,6 @@ pub mod Same
 pub mod Lists
 pub mod Each
 pub mod Placed
+pub mod Found
+pub mod Any
+pub mod Guards
