@@ -5,3 +5,4 @@ pub mod Placed
 pub mod Found
 pub mod Any
 pub mod Guards
+pub mod Fits

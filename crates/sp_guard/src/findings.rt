@@ -1,13 +1,15 @@
 //! What is wrong with a lemma: variables that no action guards, and variables that are marked against their binders.
 
 ghost use Rattle.std.specs.Prelude.{◌≡◌, [], ◌∷◌, map, option_map};
+ghost use Rattle.sp_spec.specs.Written.{in_term, in_terms};
+ghost use Rattle.sp_read_theory.specs.Shapes.{row};
 ghost use Rattle.sp_read_theory.specs.Views as view;
 ghost use Rattle.sp_system.specs.FormulaView.{placed_term, placed_terms, atom_of, binder_of, formula_of};
 ghost use Rattle.sp_check.specs.FirstForm as spec;
 ghost use Rattle.sp_guard.specs.View.{innermost_first};
 
 use crate::meaning::{Meaning, meant};
-use sp_read_theory::{Mark, WrittenVariable};
+use sp_read_theory::{Mark, WrittenTerm, WrittenVariable};
 use sp_system::formula::{Atom, Binder, Formula, FormulaTerm, Moment};
 
 /// Whether the bound message of this place is one of the terms.
@@ -133,4 +135,27 @@ fn fits(binders: &Vec<WrittenVariable>, variable: &WrittenVariable) -> bool
         Some(Meaning::Message(binder, _)) => is_same_mark(variable.mark, binder),
         Some(Meaning::Time(_)) => matches!(variable.mark, Mark::Bare | Mark::Time),
     }
+}
+
+/// Whether the term's variable fits its binder.
+#[tactic(auto, using(crate::proofs::Fits::and_true))]
+fn term_fits(binders: &Vec<WrittenVariable>, term: &WrittenTerm) -> bool
+    ensures { result ≡ spec.each_fits (innermost_first binders.now.items) (in_term (view.term term.now)) }
+{
+    match term {
+        WrittenTerm::Variable(variable) => fits(binders, variable),
+        WrittenTerm::Constant(_) => true,
+    }
+}
+
+/// Whether each variable of the terms fits its binder.
+fn terms_fit(binders: &Vec<WrittenVariable>, terms: &Vec<WrittenTerm>) -> bool
+    ensures { result ≡ spec.each_fits (innermost_first binders.now.items) (in_terms (row (map view.term terms.now.items))) }
+{
+    for term in terms {
+        if !term_fits(binders, term) {
+            return false;
+        }
+    }
+    true
 }
