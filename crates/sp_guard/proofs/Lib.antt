@@ -6,3 +6,4 @@ pub mod Found
 pub mod Any
 pub mod Guards
 pub mod Fits
+pub mod Kept

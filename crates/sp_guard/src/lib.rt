@@ -5,6 +5,7 @@
 // guarded, or whose variables are used against their marks, has none.
 #![tactic(auto)]
 
+pub mod checked;
 pub mod findings;
 pub mod meaning;
 pub mod negation;
