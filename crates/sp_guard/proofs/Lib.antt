@@ -5,3 +5,5 @@ pub mod Placed
 pub mod Found
 pub mod Any
 pub mod Guards
+pub mod Fits
+pub mod Kept

@@ -1,13 +1,16 @@
-//! What is wrong with a lemma: variables that no action guards, and variables that are marked against their binders.
+//! What is wrong with a lemma: variables that no action guards, variables that are marked against their binders, and wide actions.
 
 ghost use Rattle.std.specs.Prelude.{◌≡◌, [], ◌∷◌, map, option_map};
+ghost use Rattle.sp_spec.specs.Findings as findings;
+ghost use Rattle.sp_spec.specs.Written.{in_term, in_terms};
+ghost use Rattle.sp_read_theory.specs.Shapes.{row};
 ghost use Rattle.sp_read_theory.specs.Views as view;
 ghost use Rattle.sp_system.specs.FormulaView.{placed_term, placed_terms, atom_of, binder_of, formula_of};
 ghost use Rattle.sp_check.specs.FirstForm as spec;
-ghost use Rattle.sp_guard.specs.View.{innermost_first};
+ghost use Rattle.sp_guard.specs.View.{happens_of, innermost_first, written_variables};
 
 use crate::meaning::{Meaning, meant};
-use sp_read_theory::{Mark, WrittenVariable};
+use sp_read_theory::{Mark, WrittenEvent, WrittenFormula, WrittenTerm, WrittenVariable};
 use sp_system::formula::{Atom, Binder, Formula, FormulaTerm, Moment};
 
 /// Whether the bound message of this place is one of the terms.
@@ -133,4 +136,79 @@ fn fits(binders: &Vec<WrittenVariable>, variable: &WrittenVariable) -> bool
         Some(Meaning::Message(binder, _)) => is_same_mark(variable.mark, binder),
         Some(Meaning::Time(_)) => matches!(variable.mark, Mark::Bare | Mark::Time),
     }
+}
+
+/// Whether the term's variable fits its binder.
+#[tactic(auto, using(crate::proofs::Fits::and_true))]
+fn term_fits(binders: &Vec<WrittenVariable>, term: &WrittenTerm) -> bool
+    ensures { result ≡ spec.each_fits (innermost_first binders.now.items) (in_term (view.term term.now)) }
+{
+    match term {
+        WrittenTerm::Variable(variable) => fits(binders, variable),
+        WrittenTerm::Constant(_) => true,
+    }
+}
+
+/// Whether each variable of the terms fits its binder.
+fn terms_fit(binders: &Vec<WrittenVariable>, terms: &Vec<WrittenTerm>) -> bool
+    ensures { result ≡ spec.each_fits (innermost_first binders.now.items) (in_terms (row (map view.term terms.now.items))) }
+{
+    for term in terms {
+        if !term_fits(binders, term) {
+            return false;
+        }
+    }
+    true
+}
+
+/// Whether each variable of the action and its time fit their binders.
+#[tactic(auto, using(crate::proofs::Fits::event_so))]
+fn event_fits(binders: &Vec<WrittenVariable>, event: &WrittenEvent) -> bool
+    ensures { result ≡ spec.each_fits (innermost_first binders.now.items) (spec.happens_variables (happens_of event.now ∷ [])) }
+{
+    terms_fit(binders, &event.fact.arguments) && fits(binders, &event.at)
+}
+
+/// Whether each variable of the actions and their times fit their binders.
+fn events_fit(binders: &Vec<WrittenVariable>, events: &Vec<WrittenEvent>) -> bool
+    ensures { result ≡ spec.each_fits (innermost_first binders.now.items) (spec.happens_variables (map happens_of events.now.items)) }
+{
+    for event in events {
+        if !event_fits(binders, event) {
+            return false;
+        }
+    }
+    true
+}
+
+/// Whether each variable of the lemma fits its binder.
+#[tactic(auto, using(crate::proofs::Fits::formula_so))]
+pub fn each_fits(formula: &WrittenFormula) -> bool
+    ensures { result ≡ spec.each_fits (innermost_first formula.now.binders.items) (written_variables formula.now) }
+{
+    let binders = &formula.binders;
+    let acts = events_fit(binders, &formula.events);
+    let left = fits(binders, &formula.left);
+    let right = fits(binders, &formula.right);
+    acts && left && right
+}
+
+/// Whether the action has too many arguments.
+#[tactic(auto, using(crate::proofs::Fits::wide_length))]
+fn is_wide(event: &WrittenEvent) -> bool
+    ensures { result ≡ findings.is_wide (happens_of event.now).action.args }
+{
+    event.fact.arguments.len() > 16
+}
+
+/// Whether an action has too many arguments.
+pub fn has_wide_happening(events: &Vec<WrittenEvent>) -> bool
+    ensures { result ≡ spec.has_wide_happening (map happens_of events.now.items) }
+{
+    for event in events {
+        if is_wide(event) {
+            return true;
+        }
+    }
+    false
 }

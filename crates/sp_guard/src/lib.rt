@@ -5,6 +5,7 @@
 // looked for here.
 #![tactic(auto)]
 
+pub mod checked;
 pub mod findings;
 pub mod meaning;
 pub mod negation;
