@@ -1,8 +1,8 @@
-// The guarded negation of a lemma of the first form, with which its proof begins.
-// Below stand written formulas (sp_read_theory), formulas in memory (sp_system), and the definition of the negation (sp_check); above
-// stands what begins proofs. Each call is exact: it gives what the definition gives, and none where that gives none.
-// Carried here: the promise that the root of a proof is the negation of the lemma that the text says. The findings on a lemma are not
-// looked for here.
+// The guarded negation of a lemma of the first form, with which its proof begins, and the findings on the lemma.
+// Below stand written formulas (sp_read_theory), formulas in memory (sp_system), and the definitions of the negation and of the findings
+// (sp_check); above stands what begins proofs. Each call is exact: it gives what the definition gives, and none where that gives none.
+// Carried here: the promise that the root of a proof is the negation of the lemma that the text says, and that a lemma that is not
+// guarded, or whose variables are used against their marks, has none.
 #![tactic(auto)]
 
 pub mod checked;

@@ -1,5 +1,5 @@
 use super::*;
-use crate::negation::negation;
+use crate::checked::checked_negation;
 use sp_read_theory::read_theory;
 use sp_system::formula::Formula;
 use std::alloc::Global;
@@ -7,7 +7,7 @@ use std::alloc::Global;
 /// How many binders and guard atoms the lemma's negation has; none where it has no negation.
 fn shape(alloc: Global, text: &[u8]) -> Option<(usize, usize)> {
     match read_theory(alloc, text) {
-        Ok(Some(theory)) => match negation(alloc, &theory.lemma.formula) {
+        Ok(Some(theory)) => match checked_negation(alloc, &theory.lemma.formula) {
             Ok(Some(Formula::Exists(found))) => Some((found.binders.len(), found.guard.len())),
             _ => None,
         },
@@ -17,7 +17,7 @@ fn shape(alloc: Global, text: &[u8]) -> Option<(usize, usize)> {
 
 #[test]
 fn negates_lemmas(rt: HostRuntime) {
-    let wanted: [(&[u8], Option<(usize, usize)>); 4] = [
+    let wanted: [(&[u8], Option<(usize, usize)>); 6] = [
         (
             b"theory T begin rule R: [] --> [] lemma l: \"All x #i #j. A(x)@i & A(x)@j ==> #i = #j\" end",
             Some((3, 2)),
@@ -32,6 +32,14 @@ fn negates_lemmas(rt: HostRuntime) {
         ),
         (
             b"theory T begin rule R: [] --> [] lemma l: \"All x #i. A(y)@i ==> x = x\" end",
+            None,
+        ),
+        (
+            b"theory T begin rule R: [] --> [] lemma l: \"All x #i. A()@i ==> x = x\" end",
+            None,
+        ),
+        (
+            b"theory T begin rule R: [] --> [] lemma l: \"All x #i. A(~x)@i ==> x = x\" end",
             None,
         ),
     ];
