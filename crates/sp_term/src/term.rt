@@ -86,8 +86,9 @@ fn same_tree(a: &Term, b: &Term) -> bool
     }
 }
 
+/// Whether the terms at each place are the same, and as many.
 #[cycle(same)]
-fn all_same(xs: &Vec<Term>, ys: &Vec<Term>) -> bool
+pub fn all_same(xs: &Vec<Term>, ys: &Vec<Term>) -> bool
     ensures { result ≡ alike_all (view_all xs.now.items) (view_all ys.now.items) }
 {
     if xs.len() != ys.len() {

@@ -1,0 +1,1 @@
+-- The trees that trees in memory stand for: to be written.

@@ -1,0 +1,16 @@
+-- The moves and cases that those in memory stand for.
+use Rattle.std.specs.Prelude.{string_bytes}
+use Rattle.sp_system.specs.SystemView.{system_of}
+use Rattle.sp_step.specs.Moves as spec
+use Rattle.sp_moves.specs.declared.moves.Move.{Move}
+use Rattle.sp_moves.specs.declared.moves.Move.TheVariants.{Simplify, Contradiction, Unproved, Action}
+use Rattle.sp_moves.specs.declared.moves.Case.{Case}
+
+abbrev pub move_of : Move → spec.Move
+move_of Simplify = spec.simplify
+move_of Contradiction = spec.contradiction
+move_of Unproved = spec.unproved
+move_of (Action k) = spec.action k
+
+abbrev pub case_of : Case → spec.Case
+case_of c = record { name = string_bytes c.name; system = system_of c.system }

@@ -1,0 +1,60 @@
+-- The first formula of which something is picked is the one at its position.
+use Rattle.std.proofs.Common.{◌≡◌, ℕ, suc, List, [], ◌∷◌, ◌++◌, take, drop, Option, Some, None, option_map, refl, ap, ap₂, ◌∙◌}
+use Rattle.sp_spec.specs.Guarded.{Guarded}
+use Rattle.sp_system.specs.System.{System}
+use Rattle.sp_step.specs.Rows.{Found, found_at, first_formula, spending, inequality_of, unequal, standing_of, action_stands}
+use Rattle.sp_rows.specs.RowsView.{position_at, position_of, spending_at, keeping}
+
+-- what is found is what stands at the position
+record Stands {A : Type 0} (fs : List Guarded) (r : Found A) (p : ℕ × A) : Type 0 where
+  front : r.front ≡ take p.0 fs
+  formula : r.formula ∷ [] ≡ take 1 (drop p.0 fs)
+  picked : r.picked ≡ p.1
+  back : r.back ≡ drop (suc p.0) fs
+
+abbrev IsThere : {A : Type 0} → List Guarded → Option (Found A) → Option (ℕ × A) → Type 0
+IsThere fs None None = Unit {0}
+IsThere fs None (Some p) = ⊥
+IsThere fs (Some r) None = ⊥
+IsThere fs (Some r) (Some p) = Stands fs r p
+
+there : {A : Type 0} (f : Guarded) (fs : List Guarded) (o : Option A) (found : Option (Found A)) (position : Option (ℕ × A)) → IsThere fs found position → IsThere (f ∷ fs) (found_at f fs o found) (position_at o position)
+there f fs (Some a) found position h = record { front = refl; formula = refl; picked = refl; back = refl }
+there f fs None None None h = tt
+there f fs None None (Some p) h = absurd h
+there f fs None (Some r) None h = absurd h
+there f fs None (Some r) (Some p) h = record { front = ap (λ (gs : List Guarded). f ∷ gs) h.front; formula = h.formula; picked = h.picked; back = h.back }
+
+is_there : {A : Type 0} (pick : Guarded → Option A) (fs : List Guarded) → IsThere fs (first_formula pick fs) (position_of pick fs)
+is_there pick [] = tt
+is_there pick (f ∷ fs) = there f fs (pick f) (first_formula pick fs) (position_of pick fs) (is_there pick fs)
+
+spent_there : {A : Type 0} (s : System) (r : Found A) (p : ℕ × A) (fs : List Guarded) → Stands s.formulas r p → spending s r fs ≡ spending_at s p.0 fs
+spent_there s r p fs h =
+    let made : List Guarded → List Guarded → System = λ gs ds. record { events = s.events; formulas = gs; spent = s.spent ++ ds; unequal = s.unequal; next = s.next } in
+    ap₂ made (ap₂ (λ (xs ys : List Guarded). xs ++ (fs ++ ys)) h.front h.back) h.formula
+
+-- a row that spends the formula and goes on with what it picked of it
+pub spends : {A : Type 0} (pick : Guarded → Option A) (instead : A → List Guarded) (goes_on : System → A → System) (s : System)
+    → option_map (λ r. goes_on (spending s r (instead r.picked)) r.picked) (first_formula pick s.formulas) ≡ option_map (λ p. goes_on (spending_at s p.0 (instead p.1)) p.1) (position_of pick s.formulas)
+spends {A = A} pick instead goes_on s = at (first_formula pick s.formulas) (position_of pick s.formulas) (is_there pick s.formulas)
+  where
+    at : (found : Option (Found A)) (position : Option (ℕ × A)) → IsThere s.formulas found position
+        → option_map (λ r. goes_on (spending s r (instead r.picked)) r.picked) found ≡ option_map (λ p. goes_on (spending_at s p.0 (instead p.1)) p.1) position
+    at None None h = refl
+    at None (Some p) h = absurd h
+    at (Some r) None h = absurd h
+    at (Some r) (Some p) h =
+        ap (λ (a : A). Some (goes_on (spending s r (instead a)) a)) h.picked
+        ∙ ap (λ (t : System). Some (goes_on t p.1)) (spent_there s r p (instead p.1) h)
+
+pub unequal-there : (s : System) → unequal s ≡ option_map (λ p. keeping (spending_at s p.0 []) p.1) (position_of inequality_of s.formulas)
+unequal-there s = spends inequality_of (λ p. []) keeping s
+
+pub action_stands-there : (s : System) → action_stands s ≡ option_map (λ p. spending_at s p.0 []) (position_of (standing_of s.events) s.formulas)
+action_stands-there s = spends (standing_of s.events) (λ a. []) (λ t a. t) s
+
+-- of what is picked, only where it stands counts
+pub place_counts : {A : Type 0} (s : System) (o : Option (ℕ × A)) → option_map (λ p. spending_at s p.0 []) o ≡ option_map (λ k. spending_at s k []) (option_map (λ p. p.0) o)
+place_counts s None = refl
+place_counts s (Some p) = refl

@@ -1,0 +1,11 @@
+use Rattle.std.proofs.Common.{Some, sym, ap, ◌∙◌}
+use Rattle.sp_term.specs.View.{view}
+use Rattle.sp_system.specs.declared.formula.FormulaTerm.{FormulaTerm}
+use Rattle.sp_system.specs.FormulaView.{placed_term}
+use Rattle.sp_step.specs.Rows as rows
+use Rattle.sp_rows.proofs.Frees.{freed-placed}
+use Rattle.sp_rows.proofs.inequality.freed.Goals as goal
+
+pub returns-in_ok-copy-in-Free : goal.returns-in_ok-copy-in-Free
+returns-in_ok-copy-in-Free c =
+    ap Some c.in_ok-copy-in-Free.ensures ∙ sym (freed-placed (view c.in-Free.term)) ∙ ap (λ (t : FormulaTerm). rows.freed (placed_term t)) (sym c.in-Free.is)

@@ -1,0 +1,32 @@
+use Rattle.std.proofs.Common.{◌≡◌, ℕ, [], Option, Some, option_map, map, sym, ap, ◌∙◌, ◌<◌, subst}
+use Rattle.std.proofs.lemmas.List.{length-map}
+use Rattle.sp_system.specs.System as spec
+use Rattle.sp_system.specs.FormulaView.{formula_of}
+use Rattle.sp_system.specs.SystemView.{system_of, event_of}
+use Rattle.sp_step.specs.Rows as rows
+use Rattle.sp_rows.specs.RowsView.{spending_at, position_of}
+use Rattle.sp_rows.proofs.Positions.{action_stands-there, place_counts}
+use Rattle.sp_rows.proofs.Searches.{place_within}
+use Rattle.sp_rows.proofs.stands.action_stands.Goals as goal
+
+abbrev row : spec.System → Option ℕ → Option spec.System
+row s = option_map (λ k. spending_at s k [])
+
+whole : (s : spec.System) → row s (option_map (λ p. p.0) (position_of (rows.standing_of s.events) s.formulas)) ≡ rows.action_stands s
+whole s = sym (action_stands-there s ∙ place_counts s (position_of (rows.standing_of s.events) s.formulas))
+
+pub returns-in_default : goal.returns-in_default
+returns-in_default c =
+    let s = system_of c.args.system.now in
+    ap (row s) (sym c.in_default.is ∙ c.in_ok-position.ensures) ∙ whole s
+
+pub spend-requires : goal.spend-requires
+spend-requires c =
+    let fs = c.args.system.now.formulas.items in
+    subst (λ (n : ℕ). c.in-Some.position < n) (length-map fs formula_of)
+    (place_within (rows.standing_of (map event_of c.args.system.now.events.items)) (map formula_of fs) c.in-Some.position (sym c.in_ok-position.ensures ∙ c.in-Some.is))
+
+pub returns : goal.returns
+returns c =
+    let s = system_of c.args.system.now in
+    ap Some c.in_ok-made.ensures ∙ ap (row s) (sym c.in-Some.is ∙ c.in_ok-position.ensures) ∙ whole s

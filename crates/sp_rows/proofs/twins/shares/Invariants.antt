@@ -1,0 +1,9 @@
+use Rattle.std.proofs.Common.{◌≡◌, map, drop}
+use Rattle.sp_system.specs.View.{fact_of}
+use Rattle.sp_step.specs.Rows as rows
+use Rattle.sp_rows.proofs.twins.shares.Given as goal
+
+abbrev pub invariant-loop-premise : goal.invariant-loop-premise
+invariant-loop-premise l =
+    rows.share_one (rows.fresh_terms (map fact_of l.left.items)) (rows.fresh_terms (map fact_of l.right.items))
+    ≡ rows.share_one (rows.fresh_terms (map fact_of (drop l.premise-index l.premise-items))) (rows.fresh_terms (map fact_of l.right.items))

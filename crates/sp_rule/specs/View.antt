@@ -1,0 +1,13 @@
+-- The rules that rules in memory stand for.
+use Rattle.std.specs.Prelude.{map}
+use Rattle.sp_spec.specs.Rule as spec
+use Rattle.sp_term.specs.View.{sort_of, name_of}
+use Rattle.sp_system.specs.View.{facts_of}
+use Rattle.sp_rule.specs.declared.rule.Declared.{Declared}
+use Rattle.sp_rule.specs.declared.rule.Rule.{Rule}
+
+abbrev pub declared_of : Declared → spec.Declared
+declared_of x = record { name = name_of x.name; sort = sort_of x.sort }
+
+abbrev pub rule_of : Rule → spec.Rule
+rule_of r = record { name = name_of r.name; variables = map declared_of r.variables.items; facts = facts_of r.facts }
