@@ -6,12 +6,14 @@
 
 mod analysed;
 mod problem;
+mod prove;
 mod summary;
 mod verdict;
 
 ghost use Rattle.sp_prove.specs.Laws.{VerifiedHolds, VerdictsAreOne};
 
-pub use verdict::Verdict;
+pub use prove::analyse;
+pub use verdict::{Analysis, Verdict};
 
 /// A lemma that is called verified holds.
 pub fn verified_holds()
