@@ -1,5 +1,6 @@
 -- The rules that rules in memory stand for.
-use Rattle.std.specs.Prelude.{map}
+use Rattle.std.specs.Prelude.{ℕ, List, map}
+use denote.Ref.{Bor}
 use Rattle.sp_spec.specs.Rule as spec
 use Rattle.sp_term.specs.View.{sort_of, name_of}
 use Rattle.sp_system.specs.View.{facts_of}
@@ -11,3 +12,7 @@ declared_of x = record { name = name_of x.name; sort = sort_of x.sort }
 
 abbrev pub rule_of : Rule → spec.Rule
 rule_of r = record { name = name_of r.name; variables = map declared_of r.variables.items; facts = facts_of r.facts }
+
+-- names that are kept as parts of a text
+abbrev pub texts_of : List (Bor (List ℕ)) → List (List ℕ)
+texts_of names = map (λ n. n.now) names

@@ -4,6 +4,7 @@
 // Carried here: the promise that the rules that are searched with are the rules that the text says.
 #![tactic(auto)]
 
+mod names;
 mod numbering;
 mod rule;
 
