@@ -10,3 +10,6 @@ mod rule;
 
 pub use numbering::numbered;
 pub use rule::{Declared, Rule};
+
+#[cfg(test)]
+mod tests;
