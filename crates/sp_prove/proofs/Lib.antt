@@ -3,3 +3,4 @@ pub mod FormsAreOne
 pub mod Verdicts
 pub mod Posed
 pub mod Assembled
+pub mod Results

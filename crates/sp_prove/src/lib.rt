@@ -6,6 +6,7 @@
 
 mod analysed;
 mod problem;
+mod proof;
 mod prove;
 mod summary;
 mod verdict;
