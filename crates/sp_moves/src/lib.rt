@@ -6,3 +6,5 @@
 
 pub mod action;
 pub mod moves;
+pub mod renamed;
+pub mod where_same;
