@@ -5,6 +5,7 @@
 #![tactic(auto)]
 
 pub mod action;
+pub mod at_event;
 pub mod moves;
 pub mod renamed;
 pub mod where_same;

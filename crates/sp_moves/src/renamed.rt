@@ -50,3 +50,65 @@ fn moved_all(alloc: Global, next: u128, terms: &Vec<Term>) -> Result<Vec<Term>, 
     }
     Ok(made)
 }
+
+fn moved_fact(alloc: Global, next: u128, fact: &Fact) -> Result<Fact, AllocError>
+    ensures { IfOk result (λ f. fact_of f ≡ fact_at (shifted next) (fact_of fact.now)) }
+{
+    let symbol = fact.symbol.copy()?;
+    let args = moved_all(alloc, next, &fact.args)?;
+    Ok(Fact {
+        symbol,
+        persistent: fact.persistent,
+        args,
+    })
+}
+
+fn moved_action(alloc: Global, next: u128, action: &Action) -> Result<Action, AllocError>
+    ensures { IfOk result (λ a. action_of a ≡ action_at (shifted next) (action_of action.now)) }
+{
+    let symbol = action.symbol.copy()?;
+    let args = moved_all(alloc, next, &action.args)?;
+    Ok(Action { symbol, args })
+}
+
+fn moved_facts(alloc: Global, next: u128, facts: &Vec<Fact>) -> Result<Vec<Fact>, AllocError>
+    ensures { IfOk result (λ fs. map fact_of fs.items ≡ map (fact_at (shifted next)) (map fact_of facts.now.items)) }
+{
+    let mut made = Vec::with_capacity(alloc, facts.len())?;
+    for fact in facts {
+        made.push(moved_fact(alloc, next, fact)?)?;
+    }
+    Ok(made)
+}
+
+fn moved_actions(
+    alloc: Global,
+    next: u128,
+    actions: &Vec<Action>,
+) -> Result<Vec<Action>, AllocError>
+    ensures { IfOk result (λ xs. map action_of xs.items ≡ map (action_at (shifted next)) (map action_of actions.now.items)) }
+{
+    let mut made = Vec::with_capacity(alloc, actions.len())?;
+    for action in actions {
+        made.push(moved_action(alloc, next, action)?)?;
+    }
+    Ok(made)
+}
+
+/// The facts over variables of the numbers from `next` on.
+///
+/// # Errors
+///
+/// `AllocError` where memory is wanting, or no number is left.
+pub fn renamed(alloc: Global, next: u128, facts: &Facts) -> Result<Facts, AllocError>
+    ensures { IfOk result (λ f. facts_of f ≡ spec.renamed next (facts_of facts.now)) }
+{
+    let premises = moved_facts(alloc, next, &facts.premises)?;
+    let actions = moved_actions(alloc, next, &facts.actions)?;
+    let conclusions = moved_facts(alloc, next, &facts.conclusions)?;
+    Ok(Facts {
+        premises,
+        actions,
+        conclusions,
+    })
+}
