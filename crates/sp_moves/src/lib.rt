@@ -7,5 +7,6 @@
 pub mod action;
 pub mod at_event;
 pub mod moves;
+pub mod named;
 pub mod renamed;
 pub mod where_same;
