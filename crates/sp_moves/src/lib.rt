@@ -6,6 +6,7 @@
 
 pub mod action;
 pub mod at_event;
+pub mod by_rules;
 pub mod moves;
 pub mod named;
 pub mod renamed;
