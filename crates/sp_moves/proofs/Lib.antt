@@ -1,1 +1,1 @@
-pub mod Solving
+pub mod ByAction

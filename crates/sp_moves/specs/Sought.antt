@@ -1,5 +1,5 @@
 -- What the functions of this crate give, in parts of the written move.
-use Rattle.std.specs.Prelude.{ℕ, ◌+◌, List, if◌then◌else◌, Option, Some, None, option_map}
+use Rattle.std.specs.Prelude.{ℕ, ◌+◌, List, if◌then◌else◌, Option, None, option_map}
 use Rattle.sp_spec.specs.Term.{Variable, Term, var}
 use Rattle.sp_spec.specs.Rule.{Action, Rule}
 use Rattle.sp_spec.specs.Guarded.{Guarded, holds, acts, free_time}

@@ -10,4 +10,5 @@ pub mod by_rules;
 pub mod moves;
 pub mod named;
 pub mod renamed;
+pub mod solving;
 pub mod where_same;

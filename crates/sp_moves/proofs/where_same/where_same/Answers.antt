@@ -1,13 +1,12 @@
-use Rattle.std.proofs.Common.{◌≡◌, List, Option, Some, option_map, map, sym, ap, ◌∙◌}
+use Rattle.std.proofs.Common.{List, Option, Some, option_map, map, sym, ap, ◌∙◌}
 use Rattle.std.specs.Global.{Vec}
 use Rattle.sp_spec.specs.Substitution.{Binding, bound_to}
 use Rattle.sp_spec.specs.Unifier.{Pair, mgu}
 use Rattle.sp_system.specs.System as spec
-use Rattle.sp_system.specs.Equating.{action_pair, unifier_of, system_changed}
+use Rattle.sp_system.specs.Equating.{unifier_of, system_changed}
 use Rattle.sp_term.specs.Bindings.{bindings}
 use Rattle.sp_term.specs.declared.term.Term.{Term}
 use Rattle.sp_term.specs.declared.subst.Subst.{Subst}
-use Rattle.sp_system.specs.View.{action_of}
 use Rattle.sp_system.specs.SystemView.{pair_of, system_of}
 use Rattle.sp_moves.proofs.where_same.where_same.Goals as goal
 
