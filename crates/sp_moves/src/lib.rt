@@ -5,10 +5,10 @@
 #![tactic(auto)]
 
 pub mod action;
-pub mod at_event;
-pub mod by_rules;
+mod at_event;
+mod by_rules;
 pub mod moves;
-pub mod named;
-pub mod renamed;
-pub mod solving;
-pub mod where_same;
+mod named;
+mod renamed;
+mod solving;
+mod where_same;
