@@ -5,4 +5,10 @@
 #![tactic(auto)]
 
 pub mod action;
+mod at_event;
+mod by_rules;
 pub mod moves;
+mod named;
+mod renamed;
+mod solving;
+mod where_same;
