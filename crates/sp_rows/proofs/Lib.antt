@@ -6,3 +6,4 @@ pub mod Merges
 pub mod TwinPlaces
 pub mod Spends
 pub mod Searches
+pub mod Turns

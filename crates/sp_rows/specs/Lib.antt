@@ -1,2 +1,3 @@
 pub mod RowsView
 pub mod TwinsView
+pub mod SimplifyView

@@ -3,6 +3,7 @@
 ghost use Rattle.std.specs.Prelude.{◌≡◌, IfOk, option_map};
 ghost use Rattle.sp_system.specs.SystemView.{system_of};
 ghost use Rattle.sp_step.specs.Rows as rows;
+ghost use Rattle.sp_rows.specs.SimplifyView as spec;
 
 use crate::contradiction::{has_equal_pair, has_refuted};
 use crate::existential::open_existential;
@@ -47,13 +48,30 @@ pub fn is_contradictory(alloc: Global, system: &System) -> Result<bool, AllocErr
     fails_to_merge(alloc, system)
 }
 
+// The system after one more elementary move, if no contradiction is seen and some move applies.
+fn turned(alloc: Global, system: &System) -> Result<Option<System>, AllocError>
+    ensures { IfOk result (λ o. option_map system_of o ≡ spec.turned (system_of system.now)) }
+{
+    if is_contradictory(alloc, system)? {
+        return Ok(None);
+    }
+    by_rows(alloc, system)
+}
+
 /// The system after at most 10,000 elementary moves, up to a contradiction.
 ///
 /// # Errors
 ///
 /// `AllocError` where memory is wanting, or no number is left for a new variable.
-pub fn simplified(_alloc: Global, _system: System) -> Result<System, AllocError>
-    ensures { IfOk result (λ s. system_of s ≡ rows.simplified (system_of _system)) }
+pub fn simplified(alloc: Global, system: System) -> Result<System, AllocError>
+    ensures { IfOk result (λ s. system_of s ≡ rows.simplified (system_of system)) }
 {
-    Err(AllocError)
+    let mut made = system;
+    for turn in 0..10_000u64 {
+        let Some(next) = turned(alloc, &made)? else {
+            return Ok(made);
+        };
+        made = next;
+    }
+    Ok(made)
 }
