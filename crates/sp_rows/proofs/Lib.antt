@@ -7,3 +7,4 @@ pub mod TwinPlaces
 pub mod Spends
 pub mod Searches
 pub mod Turns
+pub mod Openings
