@@ -91,4 +91,73 @@ impl NewVariables {
             Moment::Bound(place - count)
         }
     }
+
+    fn in_term(&self, term: &FormulaTerm) -> Result<FormulaTerm, AllocError>
+        ensures { IfOk result (λ t. placed_term t ≡ valued (place_changed (change_of self.now)) (placed_term term.now)) }
+    {
+        match term {
+            FormulaTerm::Bound(place) => Ok(self.message(*place)),
+            FormulaTerm::Free(term) => Ok(FormulaTerm::Free(copy(term)?)),
+        }
+    }
+
+    fn in_moment(&self, moment: Moment) -> Moment
+        ensures { moment_of result ≡ time_changed (change_of self.now) (moment_of moment) }
+    {
+        match moment {
+            Moment::Bound(place) => self.moment(place),
+            Moment::Free(time) => Moment::Free(time),
+        }
+    }
+
+    fn in_terms(
+        &self,
+        alloc: Global,
+        terms: &Vec<FormulaTerm>,
+    ) -> Result<Vec<FormulaTerm>, AllocError>
+        ensures { IfOk result (λ ts. placed_terms ts.items ≡ valued_all (place_changed (change_of self.now)) (placed_terms terms.now.items)) }
+    {
+        let mut made = Vec::with_capacity(alloc, terms.len())?;
+        for term in terms {
+            made.push(self.in_term(term)?)?;
+        }
+        Ok(made)
+    }
+
+    fn in_action(
+        &self,
+        alloc: Global,
+        action: &FormulaAction,
+    ) -> Result<FormulaAction, AllocError>
+        ensures { IfOk result (λ a. placed_action a ≡ action_at (place_changed (change_of self.now)) (placed_action action.now)) }
+    {
+        let symbol = action.symbol.copy()?;
+        let args = self.in_terms(alloc, &action.args)?;
+        Ok(FormulaAction { symbol, args })
+    }
+
+    /// The atom with these variables in place of those that were bound.
+    ///
+    /// # Errors
+    ///
+    /// `AllocError` where memory is wanting.
+    pub fn in_atom(&self, alloc: Global, atom: &Atom) -> Result<Atom, AllocError>
+        ensures { IfOk result (λ a. atom_of a ≡ atom_changed (change_of self.now) (atom_of atom.now)) }
+    {
+        match atom {
+            Atom::Acts(action, time) => {
+                let action = self.in_action(alloc, action)?;
+                Ok(Atom::Acts(action, self.in_moment(*time)))
+            }
+            Atom::Same(left, right) => {
+                let left = self.in_term(left)?;
+                let right = self.in_term(right)?;
+                Ok(Atom::Same(left, right))
+            }
+            Atom::SameTime(first, second) => Ok(Atom::SameTime(
+                self.in_moment(*first),
+                self.in_moment(*second),
+            )),
+        }
+    }
 }
