@@ -11,4 +11,6 @@ pub mod moves;
 mod named;
 mod renamed;
 mod solving;
+#[cfg(test)]
+mod tests;
 mod where_same;
