@@ -1,5 +1,5 @@
 -- What stands at a place where variables were pushed one after another, and how they are made.
-use Rattle.std.proofs.Common.{◌≡◌, ◌≤◌, ◌<◌, ◌+◌, ◌-◌, ℕ, zero, suc, List, [], ◌∷◌, ◌++◌, length, map, drop, refl, sym, ap, ◌∙◌, arith, slice_index_or}
+use Rattle.std.proofs.Common.{◌≡◌, ◌≤◌, ◌<◌, ◌+◌, ℕ, zero, suc, List, [], ◌∷◌, ◌++◌, length, map, drop, refl, sym, ap, ◌∙◌, arith, slice_index_or}
 use Rattle.std.proofs.lemmas.List.{map-append, drop_more, drop_all}
 use Rattle.sp_spec.specs.Term.{Term, var}
 use Rattle.sp_spec.specs.Guarded.{pushed}

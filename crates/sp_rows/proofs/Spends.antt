@@ -1,7 +1,7 @@
 -- A copy of a system in memory, one formula of which is spent.
-use Rattle.std.proofs.Common.{◌≡◌, ◌<◌, ◌≤◌, ◌+◌, ◌-◌, ℕ, zero, suc, List, [], ◌∷◌, ◌++◌, take, drop, length, map, sym, ap, ap₂, ◌∙◌, arith, slice_index_or, append_assoc, length-drop}
+use Rattle.std.proofs.Common.{◌≡◌, ◌<◌, ◌+◌, ℕ, suc, List, [], ◌∷◌, ◌++◌, take, drop, length, map, sym, ap, ap₂, ◌∙◌, arith, slice_index_or, append_assoc, length-drop}
 use Rattle.std.specs.List.{remove}
-use Rattle.std.proofs.lemmas.List.{map-append, take-map, drop-map, length-map, drop_more, drop-drop}
+use Rattle.std.proofs.lemmas.List.{map-append, take-map, drop-map, length-map, drop-drop}
 use Rattle.sp_spec.specs.Guarded.{Guarded}
 use Rattle.sp_system.specs.System as spec
 use Rattle.sp_system.specs.declared.formula.Formula.{Formula}
@@ -24,7 +24,7 @@ put_between : (fs gs : List Formula) (k : ℕ) → map formula_of ((take k fs ++
 put_between fs gs k =
     let one : k + 1 ≡ suc k = omega arith in
     let behind : map formula_of (drop 1 (drop k fs)) ≡ drop (suc k) (map formula_of fs) =
-        ap (map formula_of) (drop-drop 1 k fs) ∙ sym (drop-map formula_of (k + 1) fs) ∙ ap (λ (n : ℕ). drop n (map formula_of fs)) one in
+    ap (map formula_of) (drop-drop 1 k fs) ∙ sym (drop-map formula_of (k + 1) fs) ∙ ap (λ (n : ℕ). drop n (map formula_of fs)) one in
     map-append formula_of (take k fs ++ gs) (drop 1 (drop k fs))
     ∙ ap₂ (λ (xs ys : List Guarded). xs ++ ys) (map-append formula_of (take k fs) gs) behind
     ∙ append_assoc (map formula_of (take k fs)) (map formula_of gs) (drop (suc k) (map formula_of fs))

@@ -1,5 +1,5 @@
 -- Simplification, turn by turn.
-use Rattle.std.proofs.Common.{◌≡◌, ℕ, zero, suc, Bool, true, false, Option, Some, None, refl, sym, ap, ◌∙◌}
+use Rattle.std.proofs.Common.{◌≡◌, ℕ, suc, Bool, true, false, Option, Some, None, refl, ap, ◌∙◌}
 use Rattle.sp_system.specs.System.{System}
 use Rattle.sp_step.specs.Rows.{is_contradictory, by_rows, rows, goes_on, simplified_by}
 use Rattle.sp_rows.specs.SimplifyView.{unless, turned}

@@ -1,5 +1,5 @@
 -- What stands for the variables of an existential formula that is opened.
-use Rattle.std.specs.Prelude.{ℕ, suc, ◌+◌, List, [], ◌∷◌, ◌++◌, map, length}
+use Rattle.std.specs.Prelude.{ℕ, ◌+◌, List, [], ◌∷◌, ◌++◌, map, length}
 use Rattle.sp_spec.specs.Term.{Term, var}
 use Rattle.sp_spec.specs.Guarded.{Place, free, bound, free_time, bound_time, Binder, message, time, holds, fails, pushed}
 use Rattle.sp_term.specs.View.{variable_of}

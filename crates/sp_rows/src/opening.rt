@@ -124,11 +124,7 @@ impl NewVariables {
         Ok(made)
     }
 
-    fn in_action(
-        &self,
-        alloc: Global,
-        action: &FormulaAction,
-    ) -> Result<FormulaAction, AllocError>
+    fn in_action(&self, alloc: Global, action: &FormulaAction) -> Result<FormulaAction, AllocError>
         ensures { IfOk result (λ a. placed_action a ≡ action_at (place_changed (change_of self.now)) (placed_action action.now)) }
     {
         let symbol = action.symbol.copy()?;

@@ -1,4 +1,4 @@
-use Rattle.std.proofs.Common.{ℕ, List, Option, Some, option_map, sym, ap, ◌∙◌, ◌<◌, ◌≤◌, length, subst, slice_index_or, arith}
+use Rattle.std.proofs.Common.{ℕ, List, Option, Some, option_map, sym, ap, ◌∙◌, ◌<◌, ◌≤◌, length, subst, slice_index_or}
 use Rattle.sp_system.specs.System as spec
 use Rattle.sp_system.specs.declared.formula.Formula.{Formula}
 use Rattle.sp_system.specs.FormulaView.{formula_of}
@@ -21,7 +21,7 @@ returns-in-Exists c =
     let within = subst (λ (fs : List Formula). i < length fs) all c.loop-position-test.true in
     let is = c.formula-item.is ∙ ap (λ (fs : List Formula). slice_index_or fs i f) all in
     let found = left_found rows.existential_of c.args.system.now.formulas.items i f (parts_of c.in-Exists.formula) within is
-        (ap (λ (g : Formula). rows.existential_of (formula_of g)) c.in-Exists.is) c.loop-position.invariant in
+    (ap (λ (g : Formula). rows.existential_of (formula_of g)) c.in-Exists.is) c.loop-position.invariant in
     ap Some c.in_ok-made.ensures ∙ ap (row s) (sym found) ∙ sym (open_existential-there s)
 
 pub returns : goal.returns

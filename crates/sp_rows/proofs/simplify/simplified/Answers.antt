@@ -1,4 +1,4 @@
-use Rattle.std.proofs.Common.{◌-◌, ◌+◌, None, Some, option_map, refl, sym, ap, ◌∙◌, arith}
+use Rattle.std.proofs.Common.{◌-◌, ◌+◌, option_map, refl, sym, ap, ◌∙◌, arith}
 use Rattle.sp_system.specs.SystemView.{system_of}
 use Rattle.sp_rows.proofs.Turns.{no_turns, last_turn, one_turn}
 use Rattle.sp_rows.proofs.simplify.simplified.Goals as goal

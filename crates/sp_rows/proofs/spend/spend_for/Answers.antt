@@ -1,4 +1,4 @@
-use Rattle.std.proofs.Common.{sym, ap, ap₂, ◌∙◌, List, ◌++◌, take, drop, slice_index_or}
+use Rattle.std.proofs.Common.{ap, ap₂, ◌∙◌, List, ◌++◌, slice_index_or}
 use Rattle.std.specs.List.{remove}
 use Rattle.sp_system.specs.declared.formula.Formula.{Formula}
 use Rattle.sp_rows.proofs.Spends.{spends_one}

@@ -1,4 +1,4 @@
-use Rattle.std.proofs.Common.{◌≡◌, ◌+◌, drop, length, map}
+use Rattle.std.proofs.Common.{◌≡◌, ◌+◌, drop, map}
 use Rattle.sp_system.specs.Change.{opened, opening}
 use Rattle.sp_system.specs.FormulaView.{binder_of}
 use Rattle.sp_rows.specs.OpeningView.{change_of}
