@@ -1,3 +1,4 @@
 pub mod Budget
+pub mod Choosing
 pub mod Finished
 pub mod Turns

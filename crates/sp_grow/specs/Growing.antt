@@ -1,10 +1,10 @@
 -- How trees in memory are grown, by the systems and moves that they hold.
-use Rattle.std.specs.Prelude.{ℕ, ◌+◌, Bool, true, false, List, [], ◌∷◌, Option, Some, None}
+use Rattle.std.specs.Prelude.{ℕ, ◌+◌, Bool, true, false, List, [], ◌∷◌, map, Option, Some, None}
 use Rattle.sp_spec.specs.Rule.{Rule}
 use Rattle.sp_system.specs.System.{System}
 use Rattle.sp_step.specs.Moves.{Move, Case, cases}
 use Rattle.sp_check.specs.Growth.{choice, class_of, least, has_class}
-use Rattle.sp_grow.specs.Kept.{Kept, leaf, inner, Keeps, nothing, also}
+use Rattle.sp_grow.specs.Kept.{Kept, leaf, inner, Keeps, nothing, also, all_kept}
 
 -- the least class of the open leaves
 abbrev mutual
@@ -24,8 +24,7 @@ abbrev pub leaf_at : List Rule → Case → List ℕ × Kept
 leaf_at rules c = (c.name, open_leaf rules c.system)
 
 abbrev pub leaves_at : List Rule → List Case → Keeps
-leaves_at rules [] = nothing
-leaves_at rules (c ∷ cs) = also c.name (open_leaf rules c.system) (leaves_at rules cs)
+leaves_at rules cs = all_kept (map (leaf_at rules) cs)
 
 abbrev pub leaves : List Rule → Option (List Case) → Keeps
 leaves rules None = nothing
