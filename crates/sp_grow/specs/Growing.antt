@@ -30,9 +30,13 @@ abbrev pub leaves : List Rule → Option (List Case) → Keeps
 leaves rules None = nothing
 leaves rules (Some cs) = leaves_at rules cs
 
+-- a leaf replaced by its move
+abbrev pub replaced : List Rule → System → Move → Kept
+replaced rules s move = inner move (leaves rules (cases rules s move))
+
 -- what stands for a tree, and whether a leaf has been replaced by now
 abbrev pub opened : List Rule → System → Move → Bool → Kept × Bool
-opened rules s move true = (inner move (leaves rules (cases rules s move)), true)
+opened rules s move true = (replaced rules s move, true)
 opened rules s move false = (leaf s move, false)
 
 abbrev pub within : Move → Keeps × Bool → Kept × Bool

@@ -1,6 +1,6 @@
 // Trees are grown, one open leaf after the other.
 
-ghost use Rattle.std.specs.Prelude.{◌≡◌, map, Bool, IfOk};
+ghost use Rattle.std.specs.Prelude.{◌≡◌, map, option_map, IfOk};
 ghost use Rattle.sp_rule.specs.View.{rule_of};
 ghost use Rattle.sp_system.specs.SystemView.{system_of};
 ghost use Rattle.sp_step.specs.Moves as moves;
@@ -12,8 +12,9 @@ ghost use Rattle.sp_grow.specs.View.{kept_of, branch_of, branches_of};
 
 use crate::choose::choice;
 
+use crate::class::{class_of, deeper, least_class};
 use crate::tree::{Branch, OpenLeaf, Tree};
-use sp_moves::moves::Case;
+use sp_moves::moves::{Case, cases};
 use sp_rule::Rule;
 use sp_system::system::System;
 use std::alloc::{AllocError, Global};
@@ -48,4 +49,53 @@ fn leaves_at(alloc: Global, rules: &Vec<Rule>, found: Vec<Case>) -> Result<Vec<B
         made.push(leaf_at(alloc, rules, case)?)?;
     }
     Ok(made)
+}
+
+fn leaves(
+    alloc: Global,
+    rules: &Vec<Rule>,
+    found: Option<Vec<Case>>,
+) -> Result<Vec<Branch>, AllocError>
+    ensures { IfOk result (λ bs. branches_of bs.items ≡ growing.leaves (map rule_of rules.now.items) (option_map (λ cs. map case_of cs.items) found)) }
+{
+    match found {
+        Some(found) => leaves_at(alloc, rules, found),
+        None => Ok(Vec::new(alloc)),
+    }
+}
+
+// the leaf replaced by its move, with an open leaf at each case
+fn opened(alloc: Global, rules: &Vec<Rule>, leaf: &OpenLeaf) -> Result<Tree, AllocError>
+    ensures { IfOk result (λ t. kept_of t ≡ growing.replaced (map rule_of rules.now.items) (system_of leaf.now.system) (move_of leaf.now.choice)) }
+{
+    let found = cases(alloc, rules, &leaf.system, leaf.choice)?;
+    let branches = leaves(alloc, rules, found)?;
+    Ok(Tree::Node(leaf.choice, branches))
+}
+
+fn has_class(own: Option<u64>, class: u64) -> bool
+    ensures { result ≡ growth.has_class own class }
+{
+    match own {
+        Some(own) => own == class,
+        None => false,
+    }
+}
+
+fn grow_leaf(
+    alloc: Global,
+    rules: &Vec<Rule>,
+    class: u64,
+    depth: u64,
+    leaf: Box<OpenLeaf>,
+) -> Result<(Tree, bool), AllocError>
+    ensures { IfOk result (λ r. (kept_of r.0, r.1) ≡ growing.opened (map rule_of rules.now.items) (system_of leaf.value.system) (move_of leaf.value.choice) (growth.has_class (growth.class_of (move_of leaf.value.choice) depth) class)) }
+{
+    let own = class_of(leaf.choice, depth)?;
+    if has_class(own, class) {
+        let tree = opened(alloc, rules, &leaf)?;
+        Ok((tree, true))
+    } else {
+        Ok((Tree::Open(leaf), false))
+    }
 }
