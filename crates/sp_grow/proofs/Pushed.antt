@@ -21,10 +21,10 @@ grow_in_joined rules k depth done (also n u ts) name t =
     ap (behind n r.0) (grow_in_joined rules k depth r.1 ts name t)
 
 -- one more branch, whose tree has become now
-pub grow_in_push : (rules : List Rule) (k depth : ℕ) (made all : List (List ℕ × Kept)) (done after : Bool) (name : List ℕ) (t now : Kept)
+pub grow_in_push : (rules : List Rule) (k depth : ℕ) (made all : List (List ℕ × Kept)) (done after : Bool) (new old : List ℕ × Kept) (name : List ℕ) (t now : Kept)
+    → new ≡ (name, now) → old ≡ (name, t)
     → ◌≡◌ {A = Keeps × Bool} (all_kept made, done) (grow_in rules k depth false (all_kept all)) → ◌≡◌ {A = Kept × Bool} (now, after) (grow rules k depth done t)
-    → ◌≡◌ {A = Keeps × Bool} (all_kept (made ++ (name, now) ∷ []), after) (grow_in rules k depth false (all_kept (all ++ (name, t) ∷ [])))
-grow_in_push rules k depth made all done after name t now before here =
-    let r = grow_in rules k depth false (all_kept all) in
+    → ◌≡◌ {A = Keeps × Bool} (all_kept (made ++ new ∷ []), after) (grow_in rules k depth false (all_kept (all ++ old ∷ [])))
+grow_in_push rules k depth made all done after new old name t now is was before here =
     let step = grow_in_joined rules k depth false (all_kept all) name t in
-    rw (all_kept_push made name now, all_kept_push all name t, step) (rw (← before) (ap (λ (q : Kept × Bool). (joined (all_kept made) (also name q.0 nothing), q.1)) here))
+    rw (is, was, all_kept_push made name now, all_kept_push all name t, step) (rw (← before) (ap (λ (q : Kept × Bool). (joined (all_kept made) (also name q.0 nothing), q.1)) here))

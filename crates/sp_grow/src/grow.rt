@@ -1,6 +1,6 @@
 // Trees are grown, one open leaf after the other.
 
-ghost use Rattle.std.specs.Prelude.{◌≡◌, map, option_map, IfOk};
+ghost use Rattle.std.specs.Prelude.{◌≡◌, false, map, option_map, IfOk};
 ghost use Rattle.sp_rule.specs.View.{rule_of};
 ghost use Rattle.sp_system.specs.SystemView.{system_of};
 ghost use Rattle.sp_step.specs.Moves as moves;
@@ -98,4 +98,52 @@ fn grow_leaf(
     } else {
         Ok((Tree::Open(leaf), false))
     }
+}
+
+// The tree with the first open leaf of this class, in preorder, replaced, unless one has been replaced before.
+#[cycle(grow)]
+fn grow(
+    alloc: Global,
+    rules: &Vec<Rule>,
+    class: u64,
+    depth: u64,
+    done: bool,
+    tree: Tree,
+) -> Result<(Tree, bool), AllocError>
+    ensures { IfOk result (λ r. (kept_of r.0, r.1) ≡ growing.grow (map rule_of rules.now.items) class depth done (kept_of tree)) }
+{
+    if done {
+        return Ok((tree, true));
+    }
+    match tree {
+        Tree::Open(leaf) => grow_leaf(alloc, rules, class, depth, leaf),
+        Tree::Node(chosen, branches) => {
+            let next = deeper(depth)?;
+            let (made, grew) = grow_in(alloc, rules, class, next, branches)?;
+            Ok((Tree::Node(chosen, made), grew))
+        }
+    }
+}
+
+#[cycle(grow)]
+fn grow_in(
+    alloc: Global,
+    rules: &Vec<Rule>,
+    class: u64,
+    depth: u64,
+    branches: Vec<Branch>,
+) -> Result<(Vec<Branch>, bool), AllocError>
+    ensures { IfOk result (λ r. (branches_of r.0.items, r.1) ≡ growing.grow_in (map rule_of rules.now.items) class depth false (branches_of branches.items)) }
+{
+    let mut made = Vec::with_capacity(alloc, branches.len())?;
+    let mut done = false;
+    for branch in branches {
+        let (tree, now) = grow(alloc, rules, class, depth, done, branch.tree)?;
+        made.push(Branch {
+            name: branch.name,
+            tree,
+        })?;
+        done = now;
+    }
+    Ok((made, done))
 }
