@@ -1,9 +1,9 @@
 -- Turns, as often as the budget says.
-use Rattle.std.proofs.Common.{◌≡◌, ℕ, suc, ◌+◌, ◌<◌, ◌-◌, Bool, true, false, List, Option, Some, None, refl, sym, ap, ◌∙◌, arith, true≢false}
+use Rattle.std.proofs.Common.{◌≡◌, ℕ, suc, ◌+◌, ◌<◌, ◌≤◌, ◌-◌, Bool, true, false, List, Option, Some, None, refl, sym, ap, ◌∙◌, arith, true≢false}
 use Rattle.sp_spec.specs.Rule.{Rule}
 use Rattle.sp_system.specs.System.{System}
 use Rattle.sp_check.specs.Tree.{Tree}
-use Rattle.sp_check.specs.Growth.{least_class, grown_at, grown_once, go_on, grown}
+use Rattle.sp_check.specs.Growth.{least_class, grown_once, go_on, grown}
 use Rattle.sp_grow.specs.Kept.{Kept, shown}
 use Rattle.sp_grow.specs.Growing.{least_kept, turn_at, turn}
 use Rattle.sp_grow.proofs.Turns.{Belongs, Became, least_is, grow_is, grow_belongs}
@@ -41,18 +41,31 @@ no_turn : (rules : List Rule) (s : System) (n : ℕ) (t : Kept) → Belongs rule
 unfolding grown
 no_turn rules s n t b is = stopped (grown rules s n) (shown t) (shown (turn rules t).0) (turn rules t).1 (grown_once rules s (shown t) (least_class rules 0 s (shown t))) (turn_is rules s t b) is
 
-pub turns_go_on : (rules : List Rule) (s : System) (n i : ℕ) (t : Kept) → Belongs rules s t → (turn rules t).1 ≡ true → i < n
-    → grown rules s (n - i) (shown t) ≡ grown rules s (n - (i + 1)) (shown (turn rules t).0)
-turns_go_on rules s n i t b is below =
-    let e : n - i ≡ suc (n - (i + 1)) = omega arith in
-    rw e (more_turns rules s (n - (i + 1)) t b is)
-
-pub turns_stop : (rules : List Rule) (s : System) (n i : ℕ) (t : Kept) → Belongs rules s t → (turn rules t).1 ≡ false → i < n
-    → grown rules s (n - i) (shown t) ≡ shown (turn rules t).0
-turns_stop rules s n i t b is below =
-    let e : n - i ≡ suc (n - (i + 1)) = omega arith in
-    rw e (no_turn rules s (n - (i + 1)) t b is)
-
-pub turns_end : (rules : List Rule) (s : System) (t : Tree) → grown rules s 0 t ≡ t
+no_turns : (rules : List Rule) (s : System) (t : Tree) → grown rules s 0 t ≡ t
 unfolding grown
-turns_end rules s t = refl
+no_turns rules s t = refl
+
+module _ (rules : List Rule) (s : System) (n i : ℕ) (t next : Kept) (grew : Bool) (whole : Tree) (b : Belongs rules s t) (turned : ◌≡◌ {A = Kept × Bool} (next, grew) (turn rules t))
+    (below : i < n) (so_far : grown rules s (n - i) (shown t) ≡ whole) where
+  is_next : next ≡ (turn rules t).0
+  is_next = ap (λ (r : Kept × Bool). r.0) turned
+
+  left : n - i ≡ suc (n - (i + 1))
+  left = omega arith
+
+  pub goes_on : grew ≡ true → Belongs rules s next × (grown rules s (n - (i + 1)) (shown next) ≡ whole)
+  goes_on is =
+      let e : (turn rules t).1 ≡ true = sym (ap (λ (r : Kept × Bool). r.1) turned) ∙ is in
+      let here = ap (λ (m : ℕ). grown rules s m (shown t)) left ∙ more_turns rules s (n - (i + 1)) t b e in
+      rw is_next (turn_belongs rules s t b, sym here ∙ so_far)
+
+  pub stops : grew ≡ false → shown next ≡ whole
+  stops is =
+      let e : (turn rules t).1 ≡ false = sym (ap (λ (r : Kept × Bool). r.1) turned) ∙ is in
+      let here = ap (λ (m : ℕ). grown rules s m (shown t)) left ∙ no_turn rules s (n - (i + 1)) t b e in
+      rw is_next (sym here ∙ so_far)
+
+pub turns_end : (rules : List Rule) (s : System) (n i : ℕ) (t whole : Tree) → grown rules s (n - i) t ≡ whole → n ≤ i → t ≡ whole
+turns_end rules s n i t whole so_far past =
+    let none_left : n - i ≡ 0 = omega arith in
+    sym (no_turns rules s t) ∙ sym (ap (λ (m : ℕ). grown rules s m t) none_left) ∙ so_far

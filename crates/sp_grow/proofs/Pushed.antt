@@ -1,5 +1,5 @@
 -- Growth of branches, one after the other.
-use Rattle.std.proofs.Common.{◌≡◌, ℕ, Bool, false, List, [], ◌∷◌, ◌++◌, refl, sym, ap, ◌∙◌}
+use Rattle.std.proofs.Common.{◌≡◌, ℕ, Bool, false, List, [], ◌∷◌, ◌++◌, refl, ap}
 use Rattle.sp_spec.specs.Rule.{Rule}
 use Rattle.sp_grow.specs.Kept.{Kept, Keeps, nothing, also, all_kept}
 use Rattle.sp_grow.specs.Growing.{behind, grow, grow_in}

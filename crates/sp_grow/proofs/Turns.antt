@@ -1,13 +1,13 @@
 -- Growth of trees that hold their systems and moves is growth of the trees that they show.
-use Rattle.std.proofs.Common.{◌≡◌, ℕ, suc, ◌+◌, ◌<◌, ◌-◌, Bool, true, false, List, [], ◌∷◌, Option, Some, None, refl, sym, ap, ◌∙◌, arith, add-one, true≢false}
+use Rattle.std.proofs.Common.{◌≡◌, ℕ, suc, ◌+◌, Bool, true, false, List, [], ◌∷◌, Option, Some, None, refl, sym, ap, add-one, true≢false}
 use Rattle.std.specs.Prelude.{option_map, if◌then◌else◌}
 use Rattle.sp_spec.specs.Rule.{Rule}
 use Rattle.sp_system.specs.System.{System}
 use Rattle.sp_step.specs.Moves.{Move, simplify, contradiction, unproved, action, Case, cases}
 use Rattle.sp_check.specs.Tree.{Tree, node, Branches, no_branch, branch}
-use Rattle.sp_check.specs.Growth.{choice, class_of, least, has_class, is_unproved, least_class, least_class_in, grown_at, grown_in, grown_once, go_on, grown, open_leaves, leaves_for, grown_leaf, first_grown}
+use Rattle.sp_check.specs.Growth.{choice, class_of, has_class, is_unproved, least_class, least_class_in, grown_at, grown_in, open_leaves, leaves_for, grown_leaf, first_grown}
 use Rattle.sp_grow.specs.Kept.{Kept, leaf, inner, Keeps, nothing, also, shown, shown_all}
-use Rattle.sp_grow.specs.Growing.{least_kept, least_in, open_leaf, leaves_at, leaves, opened, within, behind, next, unless, grow, grow_in, turn_at, turn}
+use Rattle.sp_grow.specs.Growing.{least_kept, least_in, leaves_at, leaves, opened, behind, grow, grow_in}
 
 -- The tree belongs to this system: each open leaf has its own system and the move that is chosen for it.
 abbrev mutual
@@ -122,6 +122,7 @@ mutual
   grow_in_belong rules k depth cs nothing b = tt
   grow_in_belong rules k depth None (also name t ts) b = absurd b
   grow_in_belong rules k depth (Some []) (also name t ts) b = absurd b
-  grow_in_belong rules k depth (Some (c ∷ cs)) (also name t ts) b =
-      (grow_belongs rules k depth c.system t b.0,
-      later_belong rules cs ts (grow rules k depth false t).1 (λ now. grow_in rules k depth now ts) (rests rules k depth ts) b.1 (grow_in_belong rules k depth (Some cs) ts b.1))
+  grow_in_belong rules k depth (Some (c ∷ cs)) (also name t ts) b = (
+    grow_belongs rules k depth c.system t b.0,
+    later_belong rules cs ts (grow rules k depth false t).1 (λ now. grow_in rules k depth now ts) (rests rules k depth ts) b.1 (grow_in_belong rules k depth (Some cs) ts b.1),
+  )

@@ -1,5 +1,5 @@
 -- How trees in memory are grown, by the systems and moves that they hold.
-use Rattle.std.specs.Prelude.{ℕ, ◌+◌, Bool, true, false, List, [], ◌∷◌, map, Option, Some, None}
+use Rattle.std.specs.Prelude.{ℕ, ◌+◌, Bool, true, false, List, map, Option, Some, None}
 use Rattle.sp_spec.specs.Rule.{Rule}
 use Rattle.sp_system.specs.System.{System}
 use Rattle.sp_step.specs.Moves.{Move, Case, cases}

@@ -19,8 +19,8 @@ use std::alloc::{AllocError, Global};
 /// # Errors
 ///
 /// `AllocError` where memory is wanting, or no number is left for a new variable.
-pub fn choice(alloc: Global, _rules: &Vec<Rule>, system: &System) -> Result<Move, AllocError>
-    ensures { IfOk result (λ m. move_of m ≡ growth.choice (map rule_of _rules.now.items) (system_of system.now)) }
+pub fn choice(alloc: Global, rules: &Vec<Rule>, system: &System) -> Result<Move, AllocError>
+    ensures { IfOk result (λ m. move_of m ≡ growth.choice (map rule_of rules.now.items) (system_of system.now)) }
 {
     if is_contradictory(alloc, system)? {
         return Ok(Move::Contradiction);

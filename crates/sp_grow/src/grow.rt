@@ -8,10 +8,9 @@ ghost use Rattle.sp_moves.specs.View.{move_of, case_of};
 ghost use Rattle.sp_check.specs.Growth as growth;
 ghost use Rattle.sp_grow.specs.Kept as kept;
 ghost use Rattle.sp_grow.specs.Growing as growing;
-ghost use Rattle.sp_grow.specs.View.{kept_of, branch_of, branches_of};
+ghost use Rattle.sp_grow.specs.View.{kept_of, branch_of, branches_of, tree_of};
 
 use crate::choose::choice;
-
 use crate::class::{class_of, deeper, least_class};
 use crate::tree::{Branch, OpenLeaf, Tree};
 use sp_moves::moves::{Case, cases};
@@ -146,4 +145,38 @@ fn grow_in(
         done = now;
     }
     Ok((made, done))
+}
+
+// The tree with the first open leaf of the least class replaced, and whether there was one.
+fn turn(alloc: Global, rules: &Vec<Rule>, tree: Tree) -> Result<(Tree, bool), AllocError>
+    ensures { IfOk result (λ r. (kept_of r.0, r.1) ≡ growing.turn (map rule_of rules.now.items) (kept_of tree)) }
+{
+    match least_class(&tree, 0)? {
+        Some(class) => grow(alloc, rules, class, 0, false, tree),
+        None => Ok((tree, false)),
+    }
+}
+
+/// The tree for this system, grown as often as the budget says and as there is a leaf with a move.
+///
+/// # Errors
+///
+/// `AllocError` where memory is wanting, or no number is left for a new variable.
+pub fn grown_tree(
+    alloc: Global,
+    rules: &Vec<Rule>,
+    root: System,
+    budget: u64,
+) -> Result<Tree, AllocError>
+    ensures { IfOk result (λ t. tree_of t ≡ growth.grown_tree (map rule_of rules.now.items) (system_of root) budget) }
+{
+    let mut tree = open_leaf(alloc, rules, root)?;
+    for turns in 0..budget {
+        let (next, grew) = turn(alloc, rules, tree)?;
+        if !grew {
+            return Ok(next);
+        }
+        tree = next;
+    }
+    Ok(tree)
 }

@@ -10,4 +10,5 @@ mod grow;
 mod tree;
 
 pub use choose::choice;
+pub use grow::grown_tree;
 pub use tree::{Branch, OpenLeaf, Tree, is_finished, steps};

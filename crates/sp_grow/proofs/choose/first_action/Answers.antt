@@ -1,4 +1,4 @@
-use Rattle.std.proofs.Common.{◌<◌, ◌≡◌, Bool, if◌then◌else◌, length, get_or, refl, sym, ap, ◌∙◌, arith}
+use Rattle.std.proofs.Common.{◌<◌, ◌≡◌, length, get_or, refl, sym, ◌∙◌, arith}
 use Rattle.sp_system.specs.SystemView.{system_of}
 use Rattle.sp_grow.proofs.Choosing.{first_from}
 use Rattle.sp_grow.proofs.choose.first_action.Goals as goal

@@ -1,4 +1,4 @@
-use Rattle.std.proofs.Common.{◌≡◌, map, take}
+use Rattle.std.proofs.Common.{◌≡◌, map}
 use Rattle.sp_rule.specs.View.{rule_of}
 use Rattle.sp_moves.specs.View.{case_of}
 use Rattle.sp_grow.specs.Growing.{leaf_at}
