@@ -1,1 +1,5 @@
+pub mod Budget
+pub mod Choosing
 pub mod Finished
+pub mod Pushed
+pub mod Turns

@@ -3,7 +3,7 @@ use Rattle.std.specs.Prelude.{ℕ, List, map, string_bytes}
 use Rattle.sp_system.specs.SystemView.{system_of}
 use Rattle.sp_moves.specs.View.{move_of}
 use Rattle.sp_check.specs.Tree as spec
-use Rattle.sp_grow.specs.Kept.{Kept, leaf, inner, Keeps, all_kept, shown, shown_all}
+use Rattle.sp_grow.specs.Kept.{Kept, leaf, inner, Keeps, all_kept, shown}
 use Rattle.sp_grow.specs.declared.tree.Branch.{Branch}
 use Rattle.sp_grow.specs.declared.tree.Tree.{Tree, fold-Tree}
 use Rattle.sp_grow.specs.declared.tree.Tree.TheFolds.{fold-Branch}

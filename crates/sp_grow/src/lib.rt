@@ -4,6 +4,11 @@
 // Carried here: the promise that a tree without open leaves is one that the written rules accept.
 #![tactic(auto)]
 
+mod choose;
+mod class;
+mod grow;
 mod tree;
 
-pub use tree::{Branch, OpenLeaf, Tree};
+pub use choose::choice;
+pub use grow::grown_tree;
+pub use tree::{Branch, OpenLeaf, Tree, is_finished, steps};
