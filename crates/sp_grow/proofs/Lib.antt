@@ -1,0 +1,3 @@
+pub mod Budget
+pub mod Finished
+pub mod Turns

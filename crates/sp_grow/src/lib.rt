@@ -4,10 +4,6 @@
 // Carried here: the promise that a tree without open leaves is one that the written rules accept.
 #![tactic(auto)]
 
-mod choice;
-mod grow;
 mod tree;
 
-pub use choice::choice;
-pub use grow::grown_tree;
-pub use tree::{Branch, OpenLeaf, Tree, is_finished, steps};
+pub use tree::{Branch, OpenLeaf, Tree};
