@@ -1,0 +1,5 @@
+pub mod Named
+pub mod FormsAreOne
+pub mod Verdicts
+pub mod Posed
+pub mod Assembled
