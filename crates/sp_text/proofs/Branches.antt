@@ -1,5 +1,5 @@
 -- The branches of a tree, one after the other, and the text of each.
-use Rattle.std.proofs.Common.{arith, ◌≡◌, ◌∙◌, refl, sym, ap, subst, ℕ, zero, suc, ◌+◌, ◌-◌, ◌<◌, Bool, true, false, true≢false, nat_eq, List, [], ◌∷◌, ◌++◌, codes, length, get_or, drop, drop-cons, length-drop, string_bytes, append_assoc}
+use Rattle.std.proofs.Common.{arith, ◌≡◌, ◌∙◌, refl, sym, ap, ℕ, suc, ◌+◌, ◌-◌, ◌<◌, Bool, true, false, true≢false, nat_eq, List, [], ◌∷◌, ◌++◌, codes, length, get_or, drop, drop-cons, length-drop, string_bytes, append_assoc}
 use Rattle.std.proofs.lemmas.List.{append-nil}
 use Rattle.std.proofs.lemmas.Bool.Decides.{nat_tests}
 use Rattle.std.proofs.Math.Dec.{eqb-suc-zero}
@@ -8,8 +8,8 @@ use Rattle.std.specs.declared.alloc.Global.{Global}
 use Rattle.sp_step.specs.Moves.{Move}
 use Rattle.sp_check.specs.Tree.{Tree, node, Branches, no_branch, branch}
 use Rattle.sp_grow.specs.Kept.{Kept, shown_all}
-use Rattle.sp_grow.specs.View.{tree_step, branch_step, branches_of, kept_of, branch_of, tree_of}
-use Rattle.sp_grow.specs.Kept.{all_kept, also, shown}
+use Rattle.sp_grow.specs.View.{tree_step, branch_step, branches_of, branch_of, tree_of}
+use Rattle.sp_grow.specs.Kept.{shown}
 use Rattle.sp_grow.specs.declared.tree.Branch.{Branch}
 use Rattle.sp_grow.specs.declared.tree.Tree.TheVariants.{Node, rolls-Node}
 use Rattle.sp_grow.specs.declared.tree.Tree.TheOpen.{Tree-F}
@@ -114,7 +114,7 @@ pub next_case : (depth inside place n : ℕ) (bs : List Branch) (b : Branch) (na
 next_case depth inside place n bs b name all out a t c below is inside_is n_is name_is so e f g =
     let rest = cases_text depth (shown_of (drop (place + 1) bs)) in
     let one : line inside (codes "case " ++ name) ≡ line (depth + 1) (codes "case " ++ string_bytes b.name) =
-        ap (λ (i : ℕ). line i (codes "case " ++ name)) inside_is ∙ ap (λ (m : List ℕ). line (depth + 1) (codes "case " ++ m)) name_is in
+    ap (λ (i : ℕ). line i (codes "case " ++ name)) inside_is ∙ ap (λ (m : List ℕ). line (depth + 1) (codes "case " ++ m)) name_is in
     let two : tree_text inside (tree_of b.tree) ≡ tree_text (depth + 1) (tree_of b.tree) = ap (λ (i : ℕ). tree_text i (tree_of b.tree)) inside_is in
     let three : line depth (words_behind (nat_eq (place + 1) n)) ≡ line depth (words_behind (nat_eq (place + 1) (length bs))) = ap (λ (m : ℕ). line depth (words_behind (nat_eq (place + 1) m))) n_is in
     three_more out a t c (line (depth + 1) (codes "case " ++ string_bytes b.name)) (tree_text (depth + 1) (tree_of b.tree)) (line depth (words_behind (nat_eq (place + 1) (length bs)))) rest

@@ -7,3 +7,6 @@ mod lines;
 mod trees;
 
 pub use trees::tree_text;
+
+#[cfg(test)]
+mod tests;
