@@ -1,5 +1,5 @@
 -- The text of a proof tree: a line for each move, and the cases of a move indented below it. The words are this project's own.
-use Rattle.std.specs.Prelude.{ℕ, zero, suc, List, [], ◌∷◌, ◌++◌, codes, decimal}
+use Rattle.std.specs.Prelude.{ℕ, zero, suc, List, [], ◌++◌, codes, decimal}
 use Rattle.sp_step.specs.Moves.{Move, simplify, contradiction, unproved, action}
 use Rattle.sp_check.specs.Tree.{Tree, node, Branches, no_branch, branch}
 
