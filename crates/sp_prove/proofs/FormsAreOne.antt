@@ -1,8 +1,8 @@
 -- A formula has one first form.
-use Rattle.std.proofs.Common.{◌≡◌, List, [], ◌∷◌, ◌++◌, refl, sym, ap, ap₂, ◌∙◌, subst}
+use Rattle.std.proofs.Common.{◌≡◌, List, [], ◌∷◌, ◌++◌, refl, sym, ap, ap₂, ◌∙◌}
 use Rattle.std.proofs.lemmas.List.{append-nil, append_assoc}
-use Rattle.sp_spec.specs.Term.{Term, var}
-use Rattle.sp_spec.specs.Formula.{Written, Formula, truth, falsity, happens, equals, precedes, not_so, both, either, implies, for_all, for_some}
+use Rattle.sp_spec.specs.Term.{var}
+use Rattle.sp_spec.specs.Formula.{Written, Formula, truth, happens, equals, both, implies, for_all}
 use Rattle.sp_read_theory.specs.Shapes.{quantified}
 use Rattle.sp_check.specs.FirstForm.{Happens, FirstForm, happens_of, joined_with, for_each, formula_of}
 

@@ -1,9 +1,9 @@
 -- What is read in the one form names nothing of the adversary's.
-use Rattle.std.proofs.Common.{◌≡◌, ◌⊎◌, ℕ, Bool, true, false, not, ◌&&◌, List, [], ◌∷◌, map, codes, inl, inr, refl, sym, ap, ◌∙◌, subst, true≢false}
+use Rattle.std.proofs.Common.{◌≡◌, ℕ, Bool, true, false, not, ◌&&◌, List, [], ◌∷◌, map, inl, inr, refl, sym, ◌∙◌, subst, true≢false}
 use Rattle.sp_lex.specs.Lexeme.{Lexeme}
 use Rattle.sp_lex.specs.declared.token.Sign.{Sign}
 use Rattle.sp_spec.specs.Lists.{Member, Every}
-use Rattle.sp_spec.specs.Term.{Term, Terms}
+use Rattle.sp_spec.specs.Term.{Term}
 use Rattle.sp_spec.specs.Rule.{Fact}
 use Rattle.sp_spec.specs.Formula.{Written}
 use Rattle.sp_spec.specs.Written.{WrittenRule}
@@ -11,7 +11,7 @@ use Rattle.sp_law_erase.specs.Adversary.{adversary_names}
 use Rattle.sp_read_theory.specs.Lists.{AreParts, last, next, AreItems, empty, some}
 use Rattle.sp_read_theory.specs.Shapes.{row, action_of}
 use Rattle.sp_read_theory.specs.Names.{is_capital, is_reserved, is_adversarial, names_fact}
-use Rattle.sp_read_theory.specs.FirstForm.{IsPlainTerm, variable, fixed, IsTerm, unbracketed, brackets, AreArguments, arguments, IsNamedFact, named, IsFact, linear, persistent, AreFacts, facts, IsArrow, unlabelled, labelled, IsRule, rule}
+use Rattle.sp_read_theory.specs.FirstForm.{IsPlainTerm, variable, fixed, IsTerm, unbracketed, brackets, arguments, IsNamedFact, named, IsFact, linear, persistent, AreFacts, facts, IsArrow, unlabelled, labelled, IsRule, rule}
 use Rattle.sp_check.specs.FirstTheory.{IsAtomic, AreAtomic, IsFirstFact, IsFirstAction, IsFirstRule}
 
 last_fails : (b c d : Bool) → (b && not c && not d) ≡ true → d ≡ false

@@ -1,8 +1,7 @@
 -- What was read poses what the text poses.
 use Rattle.std.proofs.Common.{◌≡◌, Bool, true, false, true≢false, ℕ, List, [], ◌∷◌, map, Option, Some, None, option_and_then, refl, sym, ap, ◌∙◌, subst}
-use Rattle.sp_spec.specs.Formula.{Written, Formula, truth, equals, implies}
+use Rattle.sp_spec.specs.Formula.{Formula, implies}
 use Rattle.sp_spec.specs.Lists.{Every}
-use Rattle.sp_spec.specs.Term.{var}
 use Rattle.sp_spec.specs.Theory.{Lemma}
 use Rattle.sp_spec.specs.Written.{WrittenRule, WrittenTheory}
 use Rattle.sp_spec.specs.Findings.{rule_is_wrong}
@@ -13,7 +12,7 @@ use Rattle.sp_read_theory.specs.declared.written.WrittenFormula.{WrittenFormula}
 use Rattle.sp_read_theory.specs.Text.{IsTextOf, IsNoText}
 use Rattle.sp_read_theory.specs.Shapes.{joined, quantified}
 use Rattle.sp_read_theory.specs.Views as view
-use Rattle.sp_check.specs.FirstForm.{Happens, FirstForm, happens_of, joined_with, for_each, formula_of, checked_negation}
+use Rattle.sp_check.specs.FirstForm.{FirstForm, formula_of, checked_negation}
 use Rattle.sp_guard.specs.View.{first_form, with_events}
 use Rattle.sp_guard.specs.View as guard
 use Rattle.sp_guard.proofs.Same.{same_formula}

@@ -1,5 +1,5 @@
 -- What a verdict says holds, and each text has one.
-use Rattle.std.proofs.Common.{◌≡◌, ◌⊎◌, ℕ, Bool, true, false, ◌||◌, List, [], ◌∷◌, map, codes, Some, inl, inr, refl, sym, ap, ap₂, ◌∙◌, subst}
+use Rattle.std.proofs.Common.{◌≡◌, ℕ, Bool, true, false, ◌||◌, List, [], ◌∷◌, map, codes, Some, inl, inr, refl, sym, ap, ap₂, ◌∙◌, subst}
 use Rattle.sp_lex.specs.Lexeme.{Lexeme}
 use Rattle.sp_lex.specs.declared.token.Sign.{Sign}
 use Rattle.sp_lex.specs.Lexeme.{Token}
@@ -8,8 +8,7 @@ use Rattle.sp_lex.proofs.One.{tokens_one}
 use Rattle.sp_read_theory.proofs.One.{first_form_one}
 use Rattle.sp_spec.specs.Lists.{Member, Every}
 use Rattle.sp_spec.proofs.Lists.{every_weaken}
-use Rattle.sp_spec.specs.Rule.{Fact}
-use Rattle.sp_spec.specs.Formula.{Written, Formula, both, implies, for_all, equals}
+use Rattle.sp_spec.specs.Formula.{Written, Formula, both, implies}
 use Rattle.sp_spec.specs.Theory.{Lemma}
 use Rattle.sp_spec.specs.Written.{WrittenRule, WrittenTheory, theory_of, in_facts, in_actions, occurrences}
 use Rattle.sp_spec.specs.Findings.{has_wide_fact, has_wide_action, has_two_sorts, has_wrong_premise, has_fr, has_wrong_argument, has_unbound, rule_is_wrong}
@@ -19,20 +18,20 @@ use Rattle.sp_law_erase.specs.Adversary.{adversary_names}
 use Rattle.sp_read_theory.specs.Lists.{AreParts, last, next}
 use Rattle.sp_read_theory.specs.Shapes.{Event, action_of, happens_at, joined_after, joined, quantified, equal}
 use Rattle.sp_read_theory.specs.Shapes as shape
-use Rattle.sp_read_theory.specs.FirstForm.{IsEvent, happening, IsEquation, equation, IsFormula, for_all_events, IsLemma, lemma, IsRule, IsFirstForm, first_form}
+use Rattle.sp_read_theory.specs.FirstForm.{IsEvent, happening, equation, IsFormula, for_all_events, IsLemma, lemma, IsFirstForm, first_form}
 use Rattle.sp_read_theory.specs.Text.{IsTextOf}
-use Rattle.sp_check.specs.FirstForm.{Happens, FirstForm, happens_of, joined_with, for_each, formula_of, checked_negation, root}
+use Rattle.sp_check.specs.FirstForm.{Happens, FirstForm, joined_with, formula_of, checked_negation, root}
 use Rattle.sp_check.specs.FirstTheory.{IsFirstRule}
 use Rattle.sp_check.specs.Tree.{Tree, IsFinished}
 use Rattle.sp_check.specs.Laws.{NamesNoSending}
 use Rattle.sp_check.proofs.Showing.{accepted_trees_show_lem}
 use Rattle.sp_check.proofs.Growing.{grown_tree_accepted}
 use Rattle.sp_prove.specs.Problem.{Poses, budget, proof_tree}
-use Rattle.sp_prove.specs.Analysis.{IsVerdictOf, IsAnalysis}
+use Rattle.sp_prove.specs.Analysis.{IsVerdictOf}
 use Rattle.sp_prove.specs.Laws.{VerifiedHolds, VerdictsAreOne}
 use Rattle.sp_prove.specs.declared.verdict.Verdict.{Verdict}
 use Rattle.sp_prove.specs.declared.verdict.Verdict.TheVariants.{Verified, Incomplete}
-use Rattle.sp_prove.proofs.Named.{no_adversary, fact_first, every_item, rule_first}
+use Rattle.sp_prove.proofs.Named.{fact_first, rule_first}
 use Rattle.sp_prove.proofs.FormsAreOne.{for_each_same, one_form}
 
 -- an action of the lemma, as it was read
@@ -100,12 +99,12 @@ no_fr : (rules : List WrittenRule) → Every (λ (r : WrittenRule). rule_is_wron
 no_fr rules e =
     every_weaken (λ (r : WrittenRule). rule_is_wrong r ≡ false) (λ (r : WrittenRule). has_fr r.facts.conclusions ≡ false)
     (λ r h. fourth_false
-        (has_wide_fact r.facts.premises || (has_wide_action r.facts.actions || has_wide_fact r.facts.conclusions))
-        (has_two_sorts r.facts (occurrences r.facts))
-        (has_wrong_premise r.facts.premises)
-        (has_fr r.facts.conclusions)
-        (has_wrong_argument r.facts.premises || (has_unbound r.facts (in_actions r.facts.actions) || has_unbound r.facts (in_facts r.facts.conclusions)))
-        h)
+    (has_wide_fact r.facts.premises || (has_wide_action r.facts.actions || has_wide_fact r.facts.conclusions))
+    (has_two_sorts r.facts (occurrences r.facts))
+    (has_wrong_premise r.facts.premises)
+    (has_fr r.facts.conclusions)
+    (has_wrong_argument r.facts.premises || (has_unbound r.facts (in_actions r.facts.actions) || has_unbound r.facts (in_facts r.facts.conclusions)))
+    h)
     rules e
 
 -- the one lemma's first form is the one that was read

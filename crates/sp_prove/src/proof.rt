@@ -51,11 +51,7 @@ fn root(alloc: Global, negation: Formula) -> Result<System, AllocError>
 /// # Errors
 ///
 /// `AllocError` where memory is wanting.
-pub fn proof_tree(
-    alloc: Global,
-    theory: &ReadTheory,
-    negation: Formula,
-) -> Result<Tree, AllocError>
+pub fn proof_tree(alloc: Global, theory: &ReadTheory, negation: Formula) -> Result<Tree, AllocError>
     ensures { IfOk result (λ t. tree_of t ≡ spec.proof_tree (view.theory theory.now) (formula_of negation)) }
 {
     let rules = rules(alloc, &theory.rule)?;

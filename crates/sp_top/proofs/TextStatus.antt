@@ -1,10 +1,10 @@
 -- What the status of a text's answer can be. The proofs of the clauses on statuses rest on these laws alone.
-use Rattle.std.proofs.Common.{◌≡◌, ◌≢◌, ◌⊎◌, ℕ, List, inl, inr, refl, sym, ap, ◌∙◌, subst}
+use Rattle.std.proofs.Common.{◌≡◌, ◌≢◌, ℕ, List, inl, inr, refl, sym, ap, ◌∙◌, subst}
 use Rattle.sp_prove.specs.Analysis.{IsAnalysis}
 use Rattle.sp_prove.specs.declared.verdict.Verdict.{Verdict}
 use Rattle.sp_prove.specs.declared.verdict.Verdict.TheVariants as verdict
 use Rattle.sp_prove.proofs.Verdicts.{verdicts_are_one_lem}
-use Rattle.sp_top.specs.Answer.{TextAnswer, IsRefusal, IsAnalysed, status_of}
+use Rattle.sp_top.specs.Answer.{TextAnswer, status_of}
 use Rattle.sp_top.specs.declared.Status.{Status}
 use Rattle.sp_top.specs.declared.Status.TheVariants.{Fine, Refused, Usage, ReadFault, WriteFault, NoMemory, TooLong}
 

@@ -11,7 +11,6 @@ ghost use Rattle.sp_top.specs.Answer as answer;
 ghost use Rattle.sp_top.specs.Answer.{TextAnswer, IsFileAnswer, IsAnswer};
 ghost use Rattle.sp_top.specs.Command.{IsLine, IsNoLine};
 ghost use Rattle.sp_top.specs.Run.{UsageExactly, ReadFaultExactly, TooLongExactly, AnswersExactly, VerifiedHolds, WritesWhole, WritesPrefix, IsComplete, WriteFaultOnly, WritesNothing, AsksFileOnce};
-
 ghost use Rattle.sp_top.specs.declared.Status.TheVariants.{Fine, Incomplete, Refused};
 
 use sp_io::{FetchFail, Library, Sink, write_whole};
@@ -81,11 +80,7 @@ fn answer(alloc: Global, bytes: &[u8]) -> Result<(Vec<u8>, Status), AllocError>
             let status = status_of(analysis.verdict);
             Ok((analysis.written, status))
         }
-        None => fixed(
-            alloc,
-            b"refused: text at byte 0\n",
-            Status::Refused,
-        ),
+        None => fixed(alloc, b"refused: text at byte 0\n", Status::Refused),
     }
 }
 

@@ -114,7 +114,9 @@ fn analysed(
     proof: &str,
     summary: &str,
 ) -> Result<String, AllocError> {
-    let text = format!(in alloc; "theory R1 begin\nrule {rule}\nlemma once: \"{lemma}\"\n{proof}\nend\n/*\nonce (all-traces): {summary}\n*/\n")?;
+    let text = format!(in alloc;
+        "theory R1 begin\nrule {rule}\nlemma once: \"{lemma}\"\n{proof}\nend\n/*\nonce (all-traces): {summary}\n*/\n"
+    )?;
     Ok(text)
 }
 

@@ -1,4 +1,4 @@
-use Rattle.std.proofs.Common.{◌≡◌, ◌∙◌, ap, ◌++◌, List, ℕ}
+use Rattle.std.proofs.Common.{◌∙◌, ap, ◌++◌, List, ℕ}
 use Rattle.sp_prove.proofs.Assembled.{assembled}
 use Rattle.sp_prove.proofs.analysed.analysed_text.Goals as goal
 

@@ -1,4 +1,4 @@
-use Rattle.std.proofs.Common.{rules, ◌≡◌, ◌∙◌, ap₂, string_bytes}
+use Rattle.std.proofs.Common.{rules, ◌∙◌, ap₂, string_bytes}
 use Rattle.sp_read_theory.specs.Text.{ArePlaces}
 use Rattle.sp_read_theory.specs.Views as view
 use Rattle.sp_system.specs.FormulaView.{formula_of}
