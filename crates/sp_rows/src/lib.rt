@@ -12,4 +12,6 @@ pub mod opening;
 pub mod simplify;
 pub mod spend;
 pub mod stands;
+#[cfg(test)]
+mod tests;
 pub mod twins;
