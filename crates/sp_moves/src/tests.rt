@@ -141,9 +141,9 @@ fn is_no_instance(rt: HostRuntime) -> Result<(), Fail> {
     let alloc = rt.alloc();
     let rules = rules(alloc)?;
     let system = system(alloc)?;
-    let looked_for = is_solvable(alloc, &system.formulas[0])?;
+    let looked_for = is_solvable(alloc, &formula(alloc, "A")?)?;
     assert!(rt; looked_for);
-    let sent = is_solvable(alloc, &system.formulas[1])?;
+    let sent = is_solvable(alloc, &formula(alloc, "K")?)?;
     assert!(rt; !sent);
     for position in 1..3 {
         let is_none = cases(alloc, &rules, &system, Move::Action(position))?.is_none();
