@@ -5,4 +5,12 @@
 #![tactic(auto)]
 
 pub mod action;
+mod at_event;
+mod by_rules;
 pub mod moves;
+mod named;
+mod renamed;
+mod solving;
+#[cfg(test)]
+mod tests;
+mod where_same;

@@ -1,11 +1,13 @@
 // Moves and cases.
 
-ghost use Rattle.std.specs.Prelude.{◌≡◌, IfOk, map, option_map};
+ghost use Rattle.std.specs.Prelude.{◌≡◌, [], IfOk, map, option_map};
 ghost use Rattle.sp_rule.specs.View.{rule_of};
 ghost use Rattle.sp_system.specs.SystemView.{system_of};
 ghost use Rattle.sp_step.specs.Moves as spec;
 ghost use Rattle.sp_moves.specs.View.{move_of, case_of};
 
+use crate::solving::solving_action;
+use sp_rows::simplify::{by_rows, is_contradictory, simplified};
 use sp_rule::Rule;
 use sp_system::system::System;
 use std::alloc::{AllocError, Global};
@@ -32,18 +34,70 @@ pub struct Case {
     pub system: System,
 }
 
+// The system itself, if some elementary move applies.
+fn unsimplified(alloc: Global, system: &System) -> Result<Option<Vec<Case>>, AllocError>
+    ensures { IfOk result (λ o. option_map (λ cs. map case_of cs.items) o ≡ spec.raw_cases [] (system_of system.now) spec.simplify) }
+{
+    if by_rows(alloc, system)?.is_none() {
+        return Ok(None);
+    }
+    let name = String::new(alloc);
+    let system = system.copy(alloc)?;
+    let mut made = Vec::new(alloc);
+    made.push(Case { name, system })?;
+    Ok(Some(made))
+}
+
+fn raw_cases(
+    alloc: Global,
+    rules: &Vec<Rule>,
+    system: &System,
+    chosen: Move,
+) -> Result<Option<Vec<Case>>, AllocError>
+    ensures { IfOk result (λ o. option_map (λ cs. map case_of cs.items) o ≡ spec.raw_cases (map rule_of rules.now.items) (system_of system.now) (move_of chosen)) }
+{
+    match chosen {
+        Move::Simplify => unsimplified(alloc, system),
+        Move::Contradiction => {
+            if is_contradictory(alloc, system)? {
+                Ok(Some(Vec::new(alloc)))
+            } else {
+                Ok(None)
+            }
+        }
+        Move::Unproved => Ok(Some(Vec::new(alloc))),
+        Move::Action(position) => solving_action(alloc, rules, system, position),
+    }
+}
+
+fn simple_cases(alloc: Global, cases: Vec<Case>) -> Result<Vec<Case>, AllocError>
+    ensures { IfOk result (λ cs. map case_of cs.items ≡ map spec.simple_case (map case_of cases.items)) }
+{
+    let mut made = Vec::with_capacity(alloc, cases.len())?;
+    for case in cases {
+        let name = case.name;
+        let system = simplified(alloc, case.system)?;
+        made.push(Case { name, system })?;
+    }
+    Ok(made)
+}
+
 /// The cases of a move, simplified; none where it is no instance.
 ///
 /// # Errors
 ///
 /// `AllocError` where memory is wanting, or no number is left for a new variable.
 pub fn cases(
-    _alloc: Global,
-    _rules: &Vec<Rule>,
-    _system: &System,
-    _chosen: Move,
+    alloc: Global,
+    rules: &Vec<Rule>,
+    system: &System,
+    chosen: Move,
 ) -> Result<Option<Vec<Case>>, AllocError>
-    ensures { IfOk result (λ o. option_map (λ cs. map case_of cs.items) o ≡ spec.cases (map rule_of _rules.now.items) (system_of _system.now) (move_of _chosen)) }
+    ensures { IfOk result (λ o. option_map (λ cs. map case_of cs.items) o ≡ spec.cases (map rule_of rules.now.items) (system_of system.now) (move_of chosen)) }
 {
-    Err(AllocError)
+    let Some(raw) = raw_cases(alloc, rules, system, chosen)? else {
+        return Ok(None);
+    };
+    let made = simple_cases(alloc, raw)?;
+    Ok(Some(made))
 }

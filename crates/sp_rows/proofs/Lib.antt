@@ -6,3 +6,5 @@ pub mod Merges
 pub mod TwinPlaces
 pub mod Spends
 pub mod Searches
+pub mod Turns
+pub mod Openings

@@ -1,9 +1,11 @@
 -- The first formula of which something is picked is the one at its position.
-use Rattle.std.proofs.Common.{◌≡◌, ℕ, suc, List, [], ◌∷◌, ◌++◌, take, drop, Option, Some, None, option_map, refl, ap, ap₂, ◌∙◌}
-use Rattle.sp_spec.specs.Guarded.{Guarded}
+use Rattle.std.proofs.Common.{◌≡◌, ℕ, suc, List, [], ◌∷◌, ◌++◌, take, drop, Option, Some, None, option_map, refl, ap, ap₂, ◌∙◌, ◌+◌, length, map}
+use Rattle.sp_spec.specs.Guarded.{Guarded, holds}
 use Rattle.sp_system.specs.System.{System}
-use Rattle.sp_step.specs.Rows.{Found, found_at, first_formula, spending, inequality_of, unequal, standing_of, action_stands}
+use Rattle.sp_system.specs.Change.{atom_changed, changed, opening}
+use Rattle.sp_step.specs.Rows.{Found, found_at, first_formula, spending, inequality_of, unequal, standing_of, action_stands, existential_of, open_existential}
 use Rattle.sp_rows.specs.RowsView.{position_at, position_of, spending_at, keeping}
+use Rattle.sp_rows.specs.OpeningView.{opening_at}
 
 -- what is found is what stands at the position
 record Stands {A : Type 0} (fs : List Guarded) (r : Found A) (p : ℕ × A) : Type 0 where
@@ -58,3 +60,8 @@ action_stands-there s = spends (standing_of s.events) (λ a. []) (λ t a. t) s
 pub place_counts : {A : Type 0} (s : System) (o : Option (ℕ × A)) → option_map (λ p. spending_at s p.0 []) o ≡ option_map (λ k. spending_at s k []) (option_map (λ p. p.0) o)
 place_counts s None = refl
 place_counts s (Some p) = refl
+
+pub open_existential-there : (s : System) → open_existential s ≡ option_map (λ p. opening_at s p.0 p.1) (position_of existential_of s.formulas)
+open_existential-there s =
+    spends existential_of (λ e. let c = opening e.binders s.next in map (λ a. holds (atom_changed c a)) e.guard ++ changed c e.body ∷ [])
+    (λ t e. record { events = t.events; formulas = t.formulas; spent = t.spent; unequal = t.unequal; next = s.next + length e.binders }) s

@@ -56,8 +56,11 @@ module _ {A : Type 0} (pick : Guarded → Option A) where
       at None d = absurd (true≢false (sym n ∙ ap is_some d))
       at (Some a) d = ap (option_map (λ p. p.0)) (sym (left_found fs i f a h e d left))
 
+  pub left_none : (fs : List Formula) (i : ℕ) → length fs ≤ i → IsLeft pick fs i → position_of pick (map formula_of fs) ≡ None
+  left_none fs i h left = left ∙ ap (λ (gs : List Formula). option_map (further i) (position_of pick (map formula_of gs))) (drop_all i fs h)
+
   pub left_nothing : (fs : List Formula) (i : ℕ) → length fs ≤ i → IsLeft pick fs i → None ≡ option_map (λ p. p.0) (position_of pick (map formula_of fs))
-  left_nothing fs i h left = sym (ap (option_map (λ p. p.0)) (left ∙ ap (λ (gs : List Formula). option_map (further i) (position_of pick (map formula_of gs))) (drop_all i fs h)))
+  left_nothing fs i h left = sym (ap (option_map (λ p. p.0)) (left_none fs i h left))
 
   index : Option (ℕ × A) → ℕ
   index None = 0

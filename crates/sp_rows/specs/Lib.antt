@@ -1,2 +1,4 @@
 pub mod RowsView
 pub mod TwinsView
+pub mod SimplifyView
+pub mod OpeningView

@@ -8,6 +8,7 @@
 pub mod contradiction;
 pub mod existential;
 pub mod inequality;
+pub mod opening;
 pub mod simplify;
 pub mod spend;
 pub mod stands;

@@ -3,7 +3,13 @@
 ghost use Rattle.std.specs.Prelude.{◌≡◌, IfOk, option_map};
 ghost use Rattle.sp_system.specs.SystemView.{system_of};
 ghost use Rattle.sp_step.specs.Rows as rows;
+ghost use Rattle.sp_rows.specs.SimplifyView as spec;
 
+use crate::contradiction::{has_equal_pair, has_refuted};
+use crate::existential::open_existential;
+use crate::inequality::unequal;
+use crate::stands::action_stands;
+use crate::twins::{fails_to_merge, fresh_once};
 use sp_system::system::System;
 use std::alloc::{AllocError, Global};
 
@@ -12,10 +18,20 @@ use std::alloc::{AllocError, Global};
 /// # Errors
 ///
 /// `AllocError` where memory is wanting, or no number is left for a new variable.
-pub fn by_rows(_alloc: Global, _system: &System) -> Result<Option<System>, AllocError>
-    ensures { IfOk result (λ o. option_map system_of o ≡ rows.by_rows rows.rows (system_of _system.now)) }
+pub fn by_rows(alloc: Global, system: &System) -> Result<Option<System>, AllocError>
+    ensures { IfOk result (λ o. option_map system_of o ≡ rows.by_rows rows.rows (system_of system.now)) }
 {
-    Err(AllocError)
+    if let Some(made) = open_existential(alloc, system)? {
+        return Ok(Some(made));
+    }
+    if let Some(made) = unequal(alloc, system)? {
+        return Ok(Some(made));
+    }
+    if let Some(made) = action_stands(alloc, system)? {
+        return Ok(Some(made));
+    }
+    let made = fresh_once(alloc, system)?;
+    Ok(made)
 }
 
 /// Whether a contradiction is seen.
@@ -23,10 +39,23 @@ pub fn by_rows(_alloc: Global, _system: &System) -> Result<Option<System>, Alloc
 /// # Errors
 ///
 /// `AllocError` where memory is wanting.
-pub fn is_contradictory(_alloc: Global, _system: &System) -> Result<bool, AllocError>
-    ensures { IfOk result (λ b. b ≡ rows.is_contradictory (system_of _system.now)) }
+pub fn is_contradictory(alloc: Global, system: &System) -> Result<bool, AllocError>
+    ensures { IfOk result (λ b. b ≡ rows.is_contradictory (system_of system.now)) }
 {
-    Err(AllocError)
+    if has_equal_pair(&system.unequal) || has_refuted(&system.formulas) {
+        return Ok(true);
+    }
+    fails_to_merge(alloc, system)
+}
+
+// The system after one more elementary move, if no contradiction is seen and some move applies.
+fn turned(alloc: Global, system: &System) -> Result<Option<System>, AllocError>
+    ensures { IfOk result (λ o. option_map system_of o ≡ spec.turned (system_of system.now)) }
+{
+    if is_contradictory(alloc, system)? {
+        return Ok(None);
+    }
+    by_rows(alloc, system)
 }
 
 /// The system after at most 10,000 elementary moves, up to a contradiction.
@@ -34,8 +63,15 @@ pub fn is_contradictory(_alloc: Global, _system: &System) -> Result<bool, AllocE
 /// # Errors
 ///
 /// `AllocError` where memory is wanting, or no number is left for a new variable.
-pub fn simplified(_alloc: Global, _system: System) -> Result<System, AllocError>
-    ensures { IfOk result (λ s. system_of s ≡ rows.simplified (system_of _system)) }
+pub fn simplified(alloc: Global, system: System) -> Result<System, AllocError>
+    ensures { IfOk result (λ s. system_of s ≡ rows.simplified (system_of system)) }
 {
-    Err(AllocError)
+    let mut made = system;
+    for turn in 0..10_000u64 {
+        let Some(next) = turned(alloc, &made)? else {
+            return Ok(made);
+        };
+        made = next;
+    }
+    Ok(made)
 }

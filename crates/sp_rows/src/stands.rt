@@ -16,10 +16,7 @@ use sp_system::system::{Event, System};
 use sp_term::term::{Term, all_same};
 use std::alloc::{AllocError, Global};
 
-fn freed_all(
-    alloc: Global,
-    terms: &Vec<FormulaTerm>,
-) -> Result<Option<Vec<Term>>, AllocError>
+fn freed_all(alloc: Global, terms: &Vec<FormulaTerm>) -> Result<Option<Vec<Term>>, AllocError>
     ensures { IfOk result (λ o. option_map (λ ts. view_all ts.items) o ≡ rows.freed_all (placed_terms terms.now.items)) }
 {
     let mut made = Vec::with_capacity(alloc, terms.len())?;
@@ -33,10 +30,7 @@ fn freed_all(
 }
 
 /// The action of the system that a formula's action is, if it binds none of its variables.
-pub fn freed_action(
-    alloc: Global,
-    action: &FormulaAction,
-) -> Result<Option<Action>, AllocError>
+pub fn freed_action(alloc: Global, action: &FormulaAction) -> Result<Option<Action>, AllocError>
     ensures { IfOk result (λ o. option_map action_of o ≡ rows.freed_action (placed_action action.now)) }
 {
     let Some(args) = freed_all(alloc, &action.args)? else {

@@ -4,8 +4,12 @@
 // Carried here: the promise that the rules that are searched with are the rules that the text says.
 #![tactic(auto)]
 
+mod names;
 mod numbering;
 mod rule;
 
 pub use numbering::numbered;
 pub use rule::{Declared, Rule};
+
+#[cfg(test)]
+mod tests;

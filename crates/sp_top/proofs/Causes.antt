@@ -1,12 +1,13 @@
 -- Each status has its cause, since it is that of the whole answer.
 use Rattle.std.proofs.Common.{◌≡◌, ◌≢◌, ◌⊎◌, ◌≤◌, ◌<◌, ℕ, List, Option, Some, None, length, refl, sym, ap, subst, ◌∙◌, inl, inr, arith}
-use Rattle.sp_io.specs.Told.{Rose}
+use Rattle.sp_io.specs.Told.{Rose, extended}
 use Rattle.sp_top.specs.Answer.{text_limit, TextAnswer, MayBeTooLong, MayBeText, IsFileAnswer, IsAnswer}
 use Rattle.sp_top.specs.Command.{IsLine, IsNoLine}
-use Rattle.sp_top.specs.Run.{IsCutShort, UsageExactly, ReadFaultExactly, TooLongExactly, RefusedExactly}
-use Rattle.sp_top.proofs.TextStatus.{text_status, refusal_is_sole}
+use Rattle.sp_top.specs.Run.{IsCutShort, UsageExactly, ReadFaultExactly, TooLongExactly, AnswersExactly, IsVerified, VerifiedHolds}
+use Rattle.sp_prove.proofs.Verdicts.{verified_holds_lem}
+use Rattle.sp_top.proofs.TextStatus.{IsTextStatus, text_status, status_is_one, fine_is_verified}
 use Rattle.sp_top.specs.declared.Status.{Status}
-use Rattle.sp_top.specs.declared.Status.TheVariants.{Refused, Usage, ReadFault, WriteFault, NoMemory, TooLong}
+use Rattle.sp_top.specs.declared.Status.TheVariants.{Fine, Usage, ReadFault, WriteFault, NoMemory, TooLong}
 
 -- a line names one file
 pub line_names_one : (words : List (List ℕ)) (file other : List ℕ) → IsLine words file → IsLine words other → file ≡ other
@@ -85,35 +86,59 @@ module _ (words : List (List ℕ)) (holds : List ℕ → Option (Option (List �
           let same : bytes ≡ known.bytes = cc in
           absurd (omega (arith, ap length same, known.agrees.0, more))
 
-  pub refused_exactly : (status : Status) → Ends words holds before now status → RefusedExactly words holds status
-  refused_exactly status (inl short) =
-      record { cause = λ e. absurd (whole_is status Refused e (λ f. cc) (λ f. cc) short); comes = λ file bytes refusal line told within answer whole read. absurd (whole short) }
-  refused_exactly status (inr (text, answer)) =
+  pub answers_exactly : (kind status : Status) → IsTextStatus kind → Ends words holds before now status → AnswersExactly words holds kind status
+  answers_exactly kind status is_text (inl short) =
+      record {
+        cause = λ e. absurd (whole_is status kind e is_text.write_fault is_text.no_memory short);
+        comes = λ file bytes text line told within answer whole read. absurd (whole short);
+      }
+  answers_exactly kind status is_text (inr (text, answer)) =
       record {
         cause = cause answer;
-        comes = λ file bytes refusal line told within refused whole read. comes file bytes refusal told within refused read (answer_of_line words holds before now text file status line answer);
+        comes = λ file bytes other line told within answered whole read. comes file bytes other told within answered read (answer_of_line words holds before now text file status line answer);
       }
     where
-      cause : IsAnswer words holds before now text status → status ≡ Refused
-          → (file bytes refusal : List ℕ) × IsLine words file × MayBeText (holds file) bytes × TextAnswer bytes refusal Refused
-      cause (inl usage) e = let f = usage.status_is in cc
-      cause (inr (file, line, inl fault)) e = let f = fault.status_is in cc
-      cause (inr (file, line, inr (inl long))) e = let f = long.status_is in cc
+      cause : IsAnswer words holds before now text status → status ≡ kind → (file bytes other : List ℕ) × IsLine words file × MayBeText (holds file) bytes × TextAnswer bytes other kind
+      cause (inl usage) e = absurd (is_text.usage (sym e ∙ usage.status_is))
+      cause (inr (file, line, inl fault)) e = absurd (is_text.read_fault (sym e ∙ fault.status_is))
+      cause (inr (file, line, inr (inl long))) e = absurd (is_text.too_long (sym e ∙ long.status_is))
       cause (inr (file, line, inr (inr known))) e =
           let P : Status → Type 0 = λ s. TextAnswer known.bytes text s in
           (file, known.bytes, text, line, known.agrees, subst P e known.answer)
 
-      comes : (file bytes refusal : List ℕ) → holds file ≡ Some (Some bytes) → length bytes ≤ text_limit → TextAnswer bytes refusal Refused → status ≢ ReadFault
-          → IsFileAnswer (holds file) before now text status → status ≡ Refused
-      comes file bytes refusal told within refused read (inl fault) = absurd (read fault.status_is)
-      comes file bytes refusal told within refused read (inr (inl long)) =
+      comes : (file bytes other : List ℕ) → holds file ≡ Some (Some bytes) → length bytes ≤ text_limit → TextAnswer bytes other kind → status ≢ ReadFault
+          → IsFileAnswer (holds file) before now text status → status ≡ kind
+      comes file bytes other told within answered read (inl fault) = absurd (read fault.status_is)
+      comes file bytes other told within answered read (inr (inl long)) =
           let more : text_limit < length bytes = long.longer (Some bytes) told in
           absurd (omega (arith, within, more))
-      comes file bytes refusal told within refused read (inr (inr known)) =
+      comes file bytes other told within answered read (inr (inr known)) =
           let e = known.agrees.1 (Some bytes) told in
           let P : List ℕ → Type 0 = λ b. TextAnswer b text status in
           let same : known.bytes ≡ bytes = cc in
-          refusal_is_sole bytes refusal text status refused (subst P same known.answer)
+          status_is_one bytes other text kind status answered (subst P same known.answer)
+
+  -- what an answer calls verified holds
+  pub fine_holds : (text : List ℕ) (status : Status) → status ≡ Fine → IsAnswer words holds before now text status → IsVerified words holds text
+  fine_holds text status e (inl usage) = absurd (let f : Fine ≡ Usage = sym e ∙ usage.status_is in cc)
+  fine_holds text status e (inr (file, line, inl fault)) = absurd (let f : Fine ≡ ReadFault = sym e ∙ fault.status_is in cc)
+  fine_holds text status e (inr (file, line, inr (inl long))) = absurd (let f : Fine ≡ TooLong = sym e ∙ long.status_is in cc)
+  fine_holds text status e (inr (file, line, inr (inr known))) =
+      let a = fine_is_verified known.bytes text status e known.answer in
+      record { file = file; bytes = known.bytes; line = line; text = known.agrees; analysis = a; holds_in_all = verified_holds_lem.holds known.bytes text a }
+
+  pub headline : (old new : Option (List ℕ)) (text : List ℕ) (status : Status) → IsAnswer words holds before now text status → new ≡ extended old text
+      → VerifiedHolds words holds before now old new status
+  headline old new text status answer written = record {
+    whole = λ e. (text, fine_holds text status e answer, written);
+    prefix = λ other fine. fine_holds other Fine refl fine;
+  }
+
+  pub headline_short : (old new : Option (List ℕ)) (status : Status) → IsCutShort status → VerifiedHolds words holds before now old new status
+  headline_short old new status short = record {
+    whole = λ e. absurd (whole_is status Fine e (λ f. cc) (λ f. cc) short);
+    prefix = λ other fine. fine_holds other Fine refl fine;
+  }
 
   -- a text that is told gets its answer
   pub text_is_answered : (text file bytes : List ℕ) (status : Status) → IsFileAnswer (holds file) before now text status

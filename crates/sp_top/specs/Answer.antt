@@ -4,16 +4,35 @@ use Rattle.std.specs.Option.{ForSome}
 use Rattle.sp_io.specs.Told.{Rose}
 use Rattle.sp_top.specs.Command.{IsLine, IsNoLine}
 use Rattle.sp_top.specs.declared.Status.{Status}
-use Rattle.sp_top.specs.declared.Status.TheVariants.{Refused, Usage, ReadFault, TooLong}
+use Rattle.sp_top.specs.declared.Status.TheVariants.{Fine, Incomplete, Refused, Usage, ReadFault, TooLong}
+use Rattle.sp_prove.specs.Problem.{PosesNothing}
+use Rattle.sp_prove.specs.Analysis.{IsAnalysis}
+use Rattle.sp_prove.specs.declared.verdict.Verdict.{Verdict}
+use Rattle.sp_prove.specs.declared.verdict.Verdict.TheVariants as verdict
 
 -- how many bytes a text may have
 abbrev pub text_limit : ℕ
 text_limit = 1048576
 
--- what is answered to the bytes of a text
-pub record TextAnswer (bytes text : List ℕ) (status : Status) : Type 0 where
+-- the text says no theory in the form that is read, or one with fatal findings
+pub record IsRefusal (bytes text : List ℕ) (status : Status) : Type 0 where
+  pub nothing : PosesNothing bytes
   pub text_is : text ≡ codes "refused: text at byte 0\n"
   pub status_is : status ≡ Refused
+
+abbrev pub status_of : Verdict → Status
+status_of verdict.Verified = Fine
+status_of verdict.Incomplete = Incomplete
+
+-- the text with the proof that is grown for its lemma, and what is said of the lemma
+pub record IsAnalysed (bytes text : List ℕ) (status : Status) : Type 0 where
+  pub verdict : Verdict
+  pub analysis : IsAnalysis bytes text verdict
+  pub status_is : status ≡ status_of verdict
+
+-- what is answered to the bytes of a text
+abbrev pub TextAnswer : List ℕ → List ℕ → Status → Type 0
+TextAnswer bytes text status = IsRefusal bytes text status ⊎ IsAnalysed bytes text status
 
 -- whatever is told is more bytes than a text may have
 abbrev pub MayBeTooLong : Option (Option (List ℕ)) → Type 0

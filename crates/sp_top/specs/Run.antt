@@ -4,7 +4,11 @@ use Rattle.sp_io.specs.Told.{Rose, extended, IsExtendedByPrefix}
 use Rattle.sp_top.specs.Answer.{text_limit, TextAnswer, MayBeTooLong, MayBeText, IsAnswer}
 use Rattle.sp_top.specs.Command.{IsLine, IsNoLine}
 use Rattle.sp_top.specs.declared.Status.{Status}
-use Rattle.sp_top.specs.declared.Status.TheVariants.{Refused, Usage, ReadFault, WriteFault, NoMemory, TooLong}
+use Rattle.sp_top.specs.declared.Status.TheVariants.{Fine, Usage, ReadFault, WriteFault, NoMemory, TooLong}
+use Rattle.sp_spec.specs.Written.{theory_of}
+use Rattle.sp_spec.specs.Verdict.{HoldsInAll}
+use Rattle.sp_prove.specs.Analysis.{IsAnalysis}
+use Rattle.sp_prove.specs.declared.verdict.Verdict.TheVariants.{Verified}
 
 -- a fault of the sink or want of memory came before another cause could show
 abbrev pub IsCutShort : Status → Type 0
@@ -27,11 +31,26 @@ module _ (words : List (List ℕ)) (holds : List ℕ → Option (Option (List �
     pub comes : (file bytes : List ℕ) → IsLine words file → holds file ≡ Some (Some bytes) → text_limit < length bytes
         → ¬ IsCutShort status → status ≢ ReadFault → status ≡ TooLong
 
-  -- Refused comes exactly where the answer to the text is a refusal
-  pub record RefusedExactly (status : Status) : Type 0 where
-    pub cause : status ≡ Refused → (file bytes text : List ℕ) × IsLine words file × MayBeText (holds file) bytes × TextAnswer bytes text Refused
-    pub comes : (file bytes text : List ℕ) → IsLine words file → holds file ≡ Some (Some bytes) → length bytes ≤ text_limit → TextAnswer bytes text Refused
-        → ¬ IsCutShort status → status ≢ ReadFault → status ≡ Refused
+  -- Fine, Incomplete and Refused come exactly where the answer to the text has them
+  pub record AnswersExactly (kind status : Status) : Type 0 where
+    pub cause : status ≡ kind → (file bytes text : List ℕ) × IsLine words file × MayBeText (holds file) bytes × TextAnswer bytes text kind
+    pub comes : (file bytes text : List ℕ) → IsLine words file → holds file ≡ Some (Some bytes) → length bytes ≤ text_limit → TextAnswer bytes text kind
+        → ¬ IsCutShort status → status ≢ ReadFault → status ≡ kind
+
+  -- The answer says that a lemma is verified, and the lemma holds in every execution of the theory that the text says, steps of the
+  -- adversary included.
+  pub record IsVerified (answer : List ℕ) : Type 0 where
+    pub file : List ℕ
+    pub bytes : List ℕ
+    pub line : IsLine words file
+    pub text : MayBeText (holds file) bytes
+    pub analysis : IsAnalysis bytes answer Verified
+    pub holds_in_all : HoldsInAll (theory_of analysis.theory) analysis.lemma
+
+  -- The headline: a lemma that is printed verified holds. Where the sink failed, this is said of the answer of which a prefix stands.
+  pub record VerifiedHolds (before now : ℕ) (old new : Option (List ℕ)) (status : Status) : Type 0 where
+    pub whole : status ≡ Fine → (answer : List ℕ) × IsVerified answer × (new ≡ extended old answer)
+    pub prefix : (answer : List ℕ) → IsAnswer words holds before now answer Fine → IsVerified answer
 
   -- but after a fault of the sink or for want of memory, the whole answer stands written
   pub record WritesWhole (before now : ℕ) (old new : Option (List ℕ)) (status : Status) : Type 0 where

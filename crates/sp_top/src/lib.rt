@@ -7,11 +7,15 @@
 
 ghost use Rattle.std.specs.Prelude.{◌≡◌, ◌⊎◌, [], ◌∷◌, ℕ, List, OnOk, IfOk};
 ghost use Rattle.sp_io.specs.Told.{extended};
+ghost use Rattle.sp_top.specs.Answer as answer;
 ghost use Rattle.sp_top.specs.Answer.{TextAnswer, IsFileAnswer, IsAnswer};
 ghost use Rattle.sp_top.specs.Command.{IsLine, IsNoLine};
-ghost use Rattle.sp_top.specs.Run.{UsageExactly, ReadFaultExactly, TooLongExactly, RefusedExactly, WritesWhole, WritesPrefix, IsComplete, WriteFaultOnly, WritesNothing, AsksFileOnce};
+ghost use Rattle.sp_top.specs.Run.{UsageExactly, ReadFaultExactly, TooLongExactly, AnswersExactly, VerifiedHolds, WritesWhole, WritesPrefix, IsComplete, WriteFaultOnly, WritesNothing, AsksFileOnce};
+
+ghost use Rattle.sp_top.specs.declared.Status.TheVariants.{Fine, Incomplete, Refused};
 
 use sp_io::{FetchFail, Library, Sink, write_whole};
+use sp_prove::{Verdict, analyse};
 use std::alloc::{AllocError, Global};
 
 #[cfg(test)]
@@ -57,11 +61,32 @@ fn fixed(alloc: Global, text: &[u8], status: Status) -> Result<(Vec<u8>, Status)
     Ok((text, status))
 }
 
+/// The status that a verdict ends with.
+fn status_of(verdict: Verdict) -> Status
+    ensures { result ≡ answer.status_of verdict }
+{
+    match verdict {
+        Verdict::Verified => Status::Fine,
+        Verdict::Incomplete => Status::Incomplete,
+    }
+}
+
 /// The whole answer to the bytes of a text.
+#[tactic(auto, using(crate::proofs::Answered::answers))]
 fn answer(alloc: Global, bytes: &[u8]) -> Result<(Vec<u8>, Status), AllocError>
     ensures { IfOk result (λ answer. TextAnswer bytes.now answer.0.items answer.1) }
 {
-    fixed(alloc, b"refused: text at byte 0\n", Status::Refused)
+    match analyse(alloc, bytes)? {
+        Some(analysis) => {
+            let status = status_of(analysis.verdict);
+            Ok((analysis.written, status))
+        }
+        None => fixed(
+            alloc,
+            b"refused: text at byte 0\n",
+            Status::Refused,
+        ),
+    }
 }
 
 /// The whole answer to FILE, which is fetched once.
@@ -118,9 +143,13 @@ pub fn run<L: Library, K: Sink>(
     ensures usage { UsageExactly words.now result }
     ensures read_fault { ReadFaultExactly words.now (L.holds library.old) (L.faults library.old) (L.faults library.new) result }
     ensures too_long { TooLongExactly words.now (L.holds library.old) result }
-    ensures refused { RefusedExactly words.now (L.holds library.old) result }
+    ensures refused { AnswersExactly words.now (L.holds library.old) Refused result }
+    ensures incomplete { AnswersExactly words.now (L.holds library.old) Incomplete result }
+    ensures fine { AnswersExactly words.now (L.holds library.old) Fine result }
     ensures write_fault { WriteFaultOnly (K.faults out.old) (K.faults out.new) result }
 
+    // The headline: a lemma that is printed verified holds in every execution, steps of the adversary included.
+    ensures verified { VerifiedHolds words.now (L.holds library.old) (L.faults library.old) (L.faults library.new) (K.written out.old) (K.written out.new) result }
     // What stands written is the whole answer, or a prefix of it, or nothing.
     ensures whole { WritesWhole words.now (L.holds library.old) (L.faults library.old) (L.faults library.new) (K.written out.old) (K.written out.new) result }
     ensures prefix { WritesPrefix words.now (L.holds library.old) (L.faults library.old) (L.faults library.new) (K.written out.old) (K.written out.new) result }

@@ -1,0 +1,25 @@
+-- What the functions of this crate give, in parts of the written move.
+use Rattle.std.specs.Prelude.{ℕ, ◌+◌, List, if◌then◌else◌, Option, None, option_map}
+use Rattle.sp_spec.specs.Term.{Variable, Term, var}
+use Rattle.sp_spec.specs.Rule.{Action, Rule}
+use Rattle.sp_spec.specs.Guarded.{Guarded, holds, acts, free_time}
+use Rattle.sp_step.specs.Rows.{freed_action}
+use Rattle.sp_system.specs.System.{System}
+use Rattle.sp_step.specs.Moves.{Case, is_adversary, with_step, by_actions, renamed, named}
+
+-- an action, with its time
+abbrev pub timed : ℕ → Action Variable → ℕ × Action Variable
+timed i a = (i, a)
+
+-- the action whose event can be looked for, with its time
+abbrev pub sought : Guarded → Option (ℕ × Action Variable)
+sought (holds (acts a (free_time i))) = if is_adversary a.symbol then None else option_map (timed i) (freed_action a)
+sought f = None
+
+-- a rule's variable, of a number from next on
+abbrev pub shifted : ℕ → Variable → Term Variable
+shifted next x = var (record { sort = x.sort; number = next + x.number })
+
+-- the cases of a new step of one rule
+abbrev pub by_rule : Rule → System → ℕ → Action Variable → List Case
+by_rule r s i a = named r.name (by_actions (with_step s i r) a (renamed s.next r.facts).actions)

@@ -1,0 +1,55 @@
+// An action at an event that the system has.
+
+ghost use Rattle.std.specs.Prelude.{◌≡◌, IfOk, ◌++◌, codes, decimal, map, option_map, string_bytes};
+ghost use Rattle.sp_system.specs.View.{action_of};
+ghost use Rattle.sp_system.specs.SystemView.{event_of, system_of};
+ghost use Rattle.sp_step.specs.Moves as spec;
+ghost use Rattle.sp_moves.specs.View.{case_of};
+
+use crate::moves::Case;
+use crate::where_same::where_same;
+use sp_system::fact::Action;
+use sp_system::system::{Event, System};
+use std::alloc::{AllocError, Global};
+
+/// The event of this time.
+pub fn event_at(time: u128, events: &Vec<Event>) -> Option<&Event>
+    ensures { option_map (λ e. event_of e.now) result ≡ spec.event_at time (map event_of events.now.items) }
+{
+    for event in events {
+        if event.time == time {
+            return Some(event);
+        }
+    }
+    None
+}
+
+fn name_at(alloc: Global, place: usize) -> Result<String, AllocError>
+    ensures { IfOk result (λ n. string_bytes n ≡ codes "at_" ++ decimal place) }
+{
+    let name = format!(in alloc; "at_{place}")?;
+    Ok(name)
+}
+
+/// Each of the event's actions that may be this one, by its place.
+///
+/// # Errors
+///
+/// `AllocError` where memory is wanting.
+pub fn at_event(
+    alloc: Global,
+    system: &System,
+    action: &Action,
+    actions: &Vec<Action>,
+) -> Result<Vec<Case>, AllocError>
+    ensures { IfOk result (λ cs. map case_of cs.items ≡ spec.at_event (system_of system.now) (action_of action.now) 0 (map action_of actions.now.items)) }
+{
+    let mut made = Vec::new(alloc);
+    for (place, other) in actions.iter().enumerate() {
+        if let Some(system) = where_same(alloc, system, action, other)? {
+            let name = name_at(alloc, place)?;
+            made.push(Case { name, system })?;
+        }
+    }
+    Ok(made)
+}

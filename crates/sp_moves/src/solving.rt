@@ -1,0 +1,58 @@
+// The cases of an action: at its event, or at a new step of some rule.
+
+ghost use Rattle.std.specs.Prelude.{◌≡◌, IfOk, map, option_map, slice_get};
+ghost use Rattle.sp_rule.specs.View.{rule_of};
+ghost use Rattle.sp_system.specs.View.{action_of};
+ghost use Rattle.sp_system.specs.SystemView.{system_of};
+ghost use Rattle.sp_step.specs.Moves as spec;
+ghost use Rattle.sp_moves.specs.View.{case_of};
+
+use crate::action::sought;
+use crate::at_event::{at_event, event_at};
+use crate::by_rules::by_each;
+use crate::moves::Case;
+use sp_rule::Rule;
+use sp_system::fact::Action;
+use sp_system::formula::Formula;
+use sp_system::system::System;
+use std::alloc::{AllocError, Global};
+
+fn action_cases(
+    alloc: Global,
+    rules: &Vec<Rule>,
+    system: &System,
+    time: u128,
+    action: &Action,
+) -> Result<Vec<Case>, AllocError>
+    ensures { IfOk result (λ cs. map case_of cs.items ≡ spec.action_cases (map rule_of rules.now.items) (system_of system.now) time (action_of action.now)
+        (spec.event_at time (system_of system.now).events)) }
+{
+    match event_at(time, &system.events) {
+        Some(event) => at_event(alloc, system, action, &event.facts.actions),
+        None => by_each(alloc, rules, system, time, action),
+    }
+}
+
+/// The cases of the action that stands at the position, before they are simplified; none where there is no action to look for.
+///
+/// # Errors
+///
+/// `AllocError` where memory is wanting, or no number is left.
+pub fn solving_action(
+    alloc: Global,
+    rules: &Vec<Rule>,
+    system: &System,
+    position: usize,
+) -> Result<Option<Vec<Case>>, AllocError>
+    ensures { IfOk result (λ o. option_map (λ cs. map case_of cs.items) o
+        ≡ spec.solving_action (map rule_of rules.now.items) (system_of system.now) (slice_get (system_of system.now).formulas position)) }
+{
+    let Some(formula) = system.formulas.get(position) else {
+        return Ok(None);
+    };
+    let Some((time, action)) = sought(alloc, formula)? else {
+        return Ok(None);
+    };
+    let made = action_cases(alloc, rules, system, time, &action)?;
+    Ok(Some(made))
+}

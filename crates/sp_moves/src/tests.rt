@@ -1,0 +1,157 @@
+use crate::action::is_solvable;
+use crate::moves::{Case, Move, cases};
+use crate::solving::solving_action;
+use sp_rule::{Declared, Rule};
+use sp_system::fact::{Action, Facts};
+use sp_system::formula::{Atom, Formula, FormulaAction, FormulaTerm, Moment};
+use sp_system::system::{Event, System};
+use sp_term::term::{Name, Sort, Term, Variable};
+use std::alloc::{AllocError, Global};
+use std::test::Fail;
+
+fn variable(sort: Sort, number: u128) -> Term {
+    Term::Var(Variable { sort, number })
+}
+
+fn action(alloc: Global, symbol: &str, term: Term) -> Result<Action, AllocError> {
+    let mut args = Vec::new(alloc);
+    args.push(term)?;
+    let symbol = Name::new(alloc, symbol)?;
+    Ok(Action { symbol, args })
+}
+
+// The actions B(x), A(x) and A('c').
+fn three_actions(alloc: Global, x: u128) -> Result<Vec<Action>, AllocError> {
+    let mut actions = Vec::new(alloc);
+    actions.push(action(alloc, "B", variable(Sort::Msg, x))?)?;
+    actions.push(action(alloc, "A", variable(Sort::Msg, x))?)?;
+    let c = Term::Constant(Name::new(alloc, "c")?);
+    actions.push(action(alloc, "A", c)?)?;
+    Ok(actions)
+}
+
+fn facts(alloc: Global, actions: Vec<Action>) -> Facts {
+    Facts {
+        premises: Vec::new(alloc),
+        actions,
+        conclusions: Vec::new(alloc),
+    }
+}
+
+fn rule(alloc: Global, name: &str, sort: Sort, actions: Vec<Action>) -> Result<Rule, AllocError> {
+    let mut variables = Vec::new(alloc);
+    let declared = Name::new(alloc, "x")?;
+    variables.push(Declared {
+        name: declared,
+        sort,
+    })?;
+    Ok(Rule {
+        name: Name::new(alloc, name)?,
+        variables,
+        facts: facts(alloc, actions),
+    })
+}
+
+// One: A(~x); Other: B(x); Three: B(x), A(x), A('c').
+fn rules(alloc: Global) -> Result<Vec<Rule>, AllocError> {
+    let mut one = Vec::new(alloc);
+    one.push(action(alloc, "A", variable(Sort::Fresh, 0))?)?;
+    let mut other = Vec::new(alloc);
+    other.push(action(alloc, "B", variable(Sort::Msg, 0))?)?;
+    let mut rules = Vec::new(alloc);
+    rules.push(rule(alloc, "One", Sort::Fresh, one)?)?;
+    rules.push(rule(alloc, "Other", Sort::Msg, other)?)?;
+    rules.push(rule(alloc, "Three", Sort::Msg, three_actions(alloc, 0)?)?)?;
+    Ok(rules)
+}
+
+// The action of the name over the variable of number 0, at the time 5.
+fn formula(alloc: Global, symbol: &str) -> Result<Formula, AllocError> {
+    let mut args = Vec::new(alloc);
+    args.push(FormulaTerm::Free(variable(Sort::Msg, 0)))?;
+    let symbol = Name::new(alloc, symbol)?;
+    Ok(Formula::Holds(Atom::Acts(FormulaAction { symbol, args }, Moment::Free(5))))
+}
+
+fn system(alloc: Global) -> Result<System, AllocError> {
+    let mut formulas = Vec::new(alloc);
+    formulas.push(formula(alloc, "A")?)?;
+    formulas.push(formula(alloc, "K")?)?;
+    Ok(System {
+        events: Vec::new(alloc),
+        formulas,
+        spent: Vec::new(alloc),
+        unequal: Vec::new(alloc),
+        next: 6,
+    })
+}
+
+// The names of the cases, with a space behind each.
+fn names(alloc: Global, cases: &Vec<Case>) -> Result<String, AllocError> {
+    let mut all = String::new(alloc);
+    for case in cases {
+        all.push_str(case.name.as_str())?;
+        all.push_str(" ")?;
+    }
+    Ok(all)
+}
+
+#[test]
+fn tries_each_rule(rt: HostRuntime) -> Result<(), Fail> {
+    let alloc = rt.alloc();
+    let rules = rules(alloc)?;
+    let system = system(alloc)?;
+    match solving_action(alloc, &rules, &system, 0)? {
+        None => assert!(rt; false),
+        Some(found) => {
+            let names = names(alloc, &found)?;
+            assert_eq!(rt; names.as_str(), "One Three_case_1 Three_case_2 ");
+            for case in &found {
+                assert_eq!(rt; case.system.next, 7);
+                assert_eq!(rt; case.system.events.len(), 1);
+            }
+        }
+    }
+    Ok(())
+}
+
+#[test]
+fn tries_each_action_of_the_event(rt: HostRuntime) -> Result<(), Fail> {
+    let alloc = rt.alloc();
+    let rules = rules(alloc)?;
+    let mut system = system(alloc)?;
+    let step = Name::new(alloc, "Three")?;
+    system.events.push(Event {
+        time: 5,
+        rule: step,
+        facts: facts(alloc, three_actions(alloc, 1)?),
+    })?;
+    match solving_action(alloc, &rules, &system, 0)? {
+        None => assert!(rt; false),
+        Some(found) => {
+            let names = names(alloc, &found)?;
+            assert_eq!(rt; names.as_str(), "at_1 at_2 ");
+        }
+    }
+    Ok(())
+}
+
+#[test]
+fn is_no_instance(rt: HostRuntime) -> Result<(), Fail> {
+    let alloc = rt.alloc();
+    let rules = rules(alloc)?;
+    let system = system(alloc)?;
+    let looked_for = is_solvable(alloc, &system.formulas[0])?;
+    assert!(rt; looked_for);
+    let sent = is_solvable(alloc, &system.formulas[1])?;
+    assert!(rt; !sent);
+    for position in 1..3 {
+        let is_none = cases(alloc, &rules, &system, Move::Action(position))?.is_none();
+        assert!(rt; is_none);
+    }
+    match cases(alloc, &rules, &system, Move::Unproved)? {
+        None => assert!(rt; false),
+        Some(found) => assert!(rt; found.is_empty()),
+    }
+    Ok(())
+}

@@ -1,0 +1,20 @@
+use Rattle.std.proofs.Common.{ap, ap₂, ◌∙◌, List, ◌++◌, slice_index_or}
+use Rattle.std.specs.List.{remove}
+use Rattle.sp_system.specs.declared.formula.Formula.{Formula}
+use Rattle.sp_rows.proofs.Spends.{spends_one}
+use Rattle.sp_rows.proofs.spend.spend_for.Goals as goal
+
+pub returns : goal.returns
+returns c =
+    let fs = c.in_ok-made.made.formulas.items in
+    let k = c.args.position in
+    let gs = c.args.instead.items in
+    let tail = c.in_ok-behind.ensures.tail in
+    spends_one c.in_ok-made.made c.args.system.now c.append-2.new.self.items gs c.push.new.self.items k c.remove-formula.result
+    c.in_ok-made.ensures c.requires
+    (c.remove-formula.ensures.value ∙ ap (λ (xs : List Formula). slice_index_or xs 0 c.remove-formula.result) tail)
+    (c.in_ok-append-2.ensures.items
+    ∙ ap₂ (λ (xs ys : List Formula). xs ++ ys)
+    (c.in_ok-append.ensures.items ∙ ap (λ (xs : List Formula). xs ++ gs) c.in_ok-behind.ensures.items)
+    (c.remove-formula.ensures.items ∙ ap (λ (xs : List Formula). remove xs 0) tail))
+    c.in_ok-push.ensures.items

@@ -1,0 +1,45 @@
+-- What stands for the variables of an existential formula that is opened.
+use Rattle.std.specs.Prelude.{ℕ, ◌+◌, List, [], ◌∷◌, ◌++◌, map, length}
+use Rattle.sp_spec.specs.Term.{Term, var}
+use Rattle.sp_spec.specs.Guarded.{Place, free, bound, free_time, bound_time, Binder, message, time, holds, fails, pushed}
+use Rattle.sp_term.specs.View.{variable_of}
+use Rattle.sp_term.specs.declared.term.Variable.{Variable}
+use Rattle.sp_system.specs.System.{System}
+use Rattle.sp_system.specs.Change.{Change, atom_changed, changed, opening}
+use Rattle.sp_system.specs.FormulaView.{atom_of, binder_of}
+use Rattle.sp_system.specs.declared.formula.Existential.{Existential}
+use Rattle.sp_step.specs.Rows as rows
+use Rattle.sp_rows.specs.RowsView.{spending_at}
+use Rattle.sp_rows.specs.declared.opening.NewVariables.{NewVariables}
+
+-- one after another, so that the last one is the innermost
+abbrev pub pushed_all : {A : Type 0} → List A → (ℕ → A) → ℕ → A
+pushed_all [] f = f
+pushed_all (a ∷ as_rest) f = pushed_all as_rest (pushed a f)
+
+abbrev pub variable_place : Variable → Term Place
+variable_place x = var (free (variable_of x))
+
+-- what the variables made so far stand for; what is bound beyond them stays
+abbrev pub change_of : NewVariables → Change
+change_of v = record {
+  terms = var;
+  times = λ i. i;
+  bound_terms = pushed_all (map variable_place v.messages.items) (λ k. var (bound k));
+  bound_times = pushed_all (map free_time v.times.items) bound_time;
+}
+
+-- for one more binder, the variable of this number
+abbrev pub put : Binder → ℕ → Change → Change
+put (message sort) n c = record { terms = c.terms; times = c.times; bound_terms = pushed (var (free (record { sort = sort; number = n }))) c.bound_terms; bound_times = c.bound_times }
+put time n c = record { terms = c.terms; times = c.times; bound_terms = c.bound_terms; bound_times = pushed (free_time n) c.bound_times }
+
+abbrev pub parts_of : Existential → rows.Existential
+parts_of e = record { binders = map binder_of e.binders.items; guard = map atom_of e.guard.items; body = fails (atom_of e.body) }
+
+-- the existential formula at this position is opened
+abbrev pub opening_at : System → ℕ → rows.Existential → System
+opening_at s k e =
+    let c = opening e.binders s.next in
+    let t = spending_at s k (map (λ a. holds (atom_changed c a)) e.guard ++ changed c e.body ∷ []) in
+    record { events = t.events; formulas = t.formulas; spent = t.spent; unequal = t.unequal; next = s.next + length e.binders }

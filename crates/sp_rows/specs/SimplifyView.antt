@@ -1,0 +1,12 @@
+-- One turn of simplification.
+use Rattle.std.specs.Prelude.{Bool, true, false, Option, None}
+use Rattle.sp_system.specs.System.{System}
+use Rattle.sp_step.specs.Rows.{is_contradictory, by_rows, rows}
+
+abbrev pub unless : Bool → Option System → Option System
+unless true o = None
+unless false o = o
+
+-- the next system, if no contradiction is seen and some row applies
+abbrev pub turned : System → Option System
+turned s = unless (is_contradictory s) (by_rows rows s)

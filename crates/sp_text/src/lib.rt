@@ -1,0 +1,12 @@
+// The text of proof trees.
+// Below stand proof trees (sp_check) and trees in memory (sp_grow); above stands what is written of a text (sp_prove).
+// Carried here: the promise that what is printed of a tree is its text.
+#![tactic(auto)]
+
+mod lines;
+mod trees;
+
+pub use trees::tree_text;
+
+#[cfg(test)]
+mod tests;

@@ -1,0 +1,40 @@
+// Lines of a text, and the texts of moves.
+
+ghost use Rattle.std.specs.Prelude.{◌≡◌, ◌++◌, IfOk, OnOk, string_bytes};
+ghost use Rattle.sp_moves.specs.View.{move_of};
+ghost use Rattle.sp_text.specs.TreeText as spec;
+
+use sp_moves::moves::Move;
+use std::alloc::{AllocError, Global};
+
+/// Puts two blanks at the end for each level of depth.
+fn write_indent(out: &mut String, depth: u64) -> Result<(), AllocError>
+    ensures { OnOk result (string_bytes out.new ≡ string_bytes out.old ++ spec.indent depth) }
+{
+    for _level in 0..depth {
+        out.push_str("  ")?;
+    }
+    Ok(())
+}
+
+/// Puts a line at the end, whose text has two parts.
+pub fn write_line(out: &mut String, depth: u64, start: &str, end: &str) -> Result<(), AllocError>
+    ensures { OnOk result (string_bytes out.new ≡ string_bytes out.old ++ spec.line depth (start.now ++ end.now)) }
+{
+    write_indent(out, depth)?;
+    out.push_str(start)?;
+    out.push_str(end)?;
+    out.push_str("\n")
+}
+
+/// The text of a move.
+pub fn move_text(alloc: Global, chosen: Move) -> Result<String, AllocError>
+    ensures { IfOk result (λ t. string_bytes t ≡ spec.move_text (move_of chosen)) }
+{
+    match chosen {
+        Move::Simplify => String::from_str(alloc, "simplify"),
+        Move::Contradiction => String::from_str(alloc, "contradiction"),
+        Move::Unproved => String::from_str(alloc, "sorry"),
+        Move::Action(formula) => format!(in alloc; "solve( action {formula} )"),
+    }
+}
