@@ -3,10 +3,8 @@
 ghost use Rattle.std.specs.Prelude.{◌≡◌, false, map, option_map, IfOk};
 ghost use Rattle.sp_rule.specs.View.{rule_of};
 ghost use Rattle.sp_system.specs.SystemView.{system_of};
-ghost use Rattle.sp_step.specs.Moves as moves;
 ghost use Rattle.sp_moves.specs.View.{move_of, case_of};
 ghost use Rattle.sp_check.specs.Growth as growth;
-ghost use Rattle.sp_grow.specs.Kept as kept;
 ghost use Rattle.sp_grow.specs.Growing as growing;
 ghost use Rattle.sp_grow.specs.View.{kept_of, branch_of, branches_of, tree_of};
 
