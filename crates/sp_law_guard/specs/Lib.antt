@@ -1,0 +1,3 @@
+pub mod GuardedForm
+pub mod IsGuarded
+pub mod Laws
