@@ -4,3 +4,10 @@ pub mod Turned
 pub mod Meant
 pub mod Joined
 pub mod Kept
+pub mod Parts
+pub mod Proper
+pub mod Throughout
+pub mod Places
+pub mod Timed
+pub mod Named
+pub mod Closed

@@ -1,3 +1,6 @@
 pub mod GuardedForm
 pub mod IsGuarded
+pub mod Symbols
+pub mod Closed
+pub mod Proper
 pub mod Laws

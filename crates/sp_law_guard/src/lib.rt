@@ -5,14 +5,34 @@
 // Nothing here runs: each public function is a law, and its one clause says it.
 #![tactic(auto)]
 
-ghost use Rattle.sp_law_guard.specs.Laws.{NegationTurnsTruth, GuardedFormKeepsTruth};
+ghost use Rattle.sp_law_guard.specs.Laws.{NegationTurnsTruth, NegationIsAnInvolution, GuardedFormKeepsTruth, GuardedFormsAreTimed, GuardedFormsName, GuardedFormsAreClosed};
 
 /// The negation of a guarded formula is true exactly where the formula isn't.
 pub fn negation_turns_truth()
     ensures { NegationTurnsTruth }
 {}
 
+/// The negation of the negation of a guarded form is that form.
+pub fn negation_is_an_involution()
+    ensures { NegationIsAnInvolution }
+{}
+
 /// The guarded form of a closed formula is as true as the formula.
 pub fn guarded_form_keeps_truth()
     ensures { GuardedFormKeepsTruth }
+{}
+
+/// Each time of a form whose variables are guarded is bound, and stands in an action of a guard.
+pub fn guarded_forms_are_timed()
+    ensures { GuardedFormsAreTimed }
+{}
+
+/// The guarded form speaks of the formula's actions alone.
+pub fn guarded_forms_name()
+    ensures { GuardedFormsName }
+{}
+
+/// No variable and no time of a system stands in a guarded form.
+pub fn guarded_forms_are_closed()
+    ensures { GuardedFormsAreClosed }
 {}
