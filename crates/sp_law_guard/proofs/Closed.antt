@@ -3,12 +3,10 @@ use Rattle.std.proofs.Common.{◌≡◌, ℕ, List, [], ◌∷◌, Some, refl, s
 use Rattle.sp_spec.specs.Lists.{Every}
 use Rattle.sp_spec.specs.Formula.{Formula}
 use Rattle.sp_spec.specs.Guarded.{Time, free_time, bound_time, Atom, Guarded, Guardeds, truth, falsity, holds, fails, all_of, one_of, some, every, no_more, and_then}
-use Rattle.sp_spec.proofs.Lists.{every_all}
 use Rattle.sp_law_truth.specs.Shown.{times_within, IsBound}
 use Rattle.sp_law_guard.specs.GuardedForm.{guarded_form}
-use Rattle.sp_law_guard.specs.Symbols.{symbols_of}
 use Rattle.sp_law_guard.specs.Closed.{IsClosedTime, IsClosedAtom, IsClosed, AreClosed}
-use Rattle.sp_law_guard.proofs.Throughout.{Throughout, ThroughoutEach, OfAtoms, form_throughout}
+use Rattle.sp_law_guard.proofs.Throughout.{Throughout, ThroughoutEach, OfAtoms, any_formula, form_throughout}
 use Rattle.sp_law_guard.proofs.Places.{action_made, order_made, equality_made}
 
 abbrev OfClosed : ℕ → Atom → Type 0
@@ -18,11 +16,11 @@ closed_time : (n : ℕ) (i : Time) → IsBound n i → IsClosedTime i
 closed_time n (free_time i) b = b
 closed_time n (bound_time k) b = tt
 
-closed_atoms : OfAtoms OfClosed (λ s. Unit {0})
+closed_atoms : OfAtoms OfClosed (λ f. Unit {0})
 closed_atoms = record {
-  of_actions = λ bs a i atom named e. let r = action_made bs a i atom e in subst IsClosedAtom (sym r.is) (r.closed, closed_time _ r.time r.bounded);
-  of_equalities = λ bs t u atom e. equality_made bs t u atom IsClosedAtom e (λ i j k l. (closed_time _ i k, closed_time _ j l)) (λ x y k l. (k, l));
-  of_order = λ bs i j atom e. let r = order_made bs i j atom e in subst IsClosedAtom (sym r.is) (closed_time _ r.first r.first_bound, closed_time _ r.second r.second_bound);
+  of_actions = λ bs a i atom w e. let r = action_made bs a i atom e in subst IsClosedAtom (sym r.is) (r.closed, closed_time _ r.time r.bounded);
+  of_equalities = λ bs t u atom w e. equality_made bs t u atom IsClosedAtom e (λ i j k l. (closed_time _ i k, closed_time _ j l)) (λ x y k l. (k, l));
+  of_order = λ bs i j atom w e. let r = order_made bs i j atom e in subst IsClosedAtom (sym r.is) (closed_time _ r.first r.first_bound, closed_time _ r.second r.second_bound);
 }
 
 mutual
@@ -41,4 +39,4 @@ mutual
   each_closed n (and_then g gs) t = (closed n g t.0, each_closed n gs t.1)
 
 pub form_closed : (f : Formula) (g : Guarded) → guarded_form [] f ≡ Some g → IsClosed g
-form_closed f g e = closed 0 g (form_throughout OfClosed (λ s. Unit {0}) closed_atoms [] f g (every_all _ (λ s. tt) (symbols_of f)) e)
+form_closed f g e = closed 0 g (form_throughout OfClosed (λ f. Unit {0}) any_formula closed_atoms [] f g tt e)

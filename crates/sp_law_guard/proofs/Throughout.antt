@@ -7,11 +7,9 @@ use Rattle.sp_spec.specs.Rule.{Action}
 use Rattle.sp_spec.specs.Formula.{Written, Formula, truth, falsity, happens, equals, precedes, not_so, both, either, implies, for_all, for_some}
 use Rattle.sp_spec.specs.Guarded.{Binder, message, time, Atom, acts, same, same_time, before, last, Guarded, Guardeds, holds, fails, all_of, one_of, some, every, no_more, and_then}
 use Rattle.sp_spec.specs.Guarded as guarded
-use Rattle.sp_spec.proofs.Lists.{every_parts}
 use Rattle.sp_law_truth.specs.Shown.{times_within}
 use Rattle.sp_law_truth.proofs.AsTrue.{as_itself, as_both}
 use Rattle.sp_law_guard.specs.GuardedForm.{meant, time_place, placed_action, term_time, acts_at, before_at, equality_at, binder_of, guard_in, rest_in, body_of, conjuncts, conjunction, disjunction, negated_atom, negate, negate_each, existential, guarded_form}
-use Rattle.sp_law_guard.specs.Symbols.{symbols_of}
 use Rattle.sp_law_guard.proofs.Options.{mapped}
 use Rattle.sp_law_guard.proofs.Kept.{joined_forms}
 use Rattle.sp_law_guard.proofs.Parts.{EachIs, IsOfParts, conjuncts_are, conjunction_is, disjunction_is, quantified_is}
@@ -61,7 +59,7 @@ module _ (P : ℕ → Atom → Type 0) where
   every_throughout n bs guard g below p = (p, below)
 
   mutual
-    negate_throughout : (n : ℕ) (g : Guarded) → Throughout P n g → Throughout P n (negate g)
+    pub negate_throughout : (n : ℕ) (g : Guarded) → Throughout P n g → Throughout P n (negate g)
     negate_throughout n guarded.truth p = tt
     negate_throughout n guarded.falsity p = tt
     negate_throughout n (holds a) p = negated_throughout n a p
@@ -107,54 +105,73 @@ module _ (P : ℕ → Atom → Type 0) where
   existential_throughout b n (one_of gs) p = new_throughout b n (one_of gs) p
   existential_throughout b n (every bs guard g) p = new_throughout b n (every bs guard g) p
 
--- what holds of the atoms that the formula's atoms become, if the actions' symbols are of this kind
-pub record OfAtoms (P : ℕ → Atom → Type 0) (IsNamed : List ℕ → Type 0) : Type 0 where
-  pub of_actions : (bs : List Written) (a : Action Written) (i : Written) (atom : Atom) → IsNamed a.symbol → acts_at (placed_action bs a) (time_place (meant bs i.name)) ≡ Some atom → P (times_bound bs) atom
-  pub of_equalities : (bs : List Written) (t u : Term Written) (atom : Atom) → equality_at bs t u (term_time bs t) (term_time bs u) ≡ Some atom → P (times_bound bs) atom
-  pub of_order : (bs : List Written) (i j : Written) (atom : Atom) → before_at (time_place (meant bs i.name)) (time_place (meant bs j.name)) ≡ Some atom → P (times_bound bs) atom
+-- what holds of a formula's parts where it holds of the formula
+pub record OfFormulas (W : Formula → Type 0) : Type 0 where
+  pub of_not : (f : Formula) → W (not_so f) → W f
+  pub of_both : (f g : Formula) → W (both f g) → W f × W g
+  pub of_either : (f g : Formula) → W (either f g) → W f × W g
+  pub of_implies : (f g : Formula) → W (implies f g) → W f × W g
+  pub of_all : (x : Written) (f : Formula) → W (for_all x f) → W f
+  pub of_some : (x : Written) (f : Formula) → W (for_some x f) → W f
 
-module _ (P : ℕ → Atom → Type 0) (IsNamed : List ℕ → Type 0) (atoms : OfAtoms P IsNamed) where
-  pub form_throughout : (bs : List Written) (f : Formula) (g : Guarded) → Every IsNamed (symbols_of f) → guarded_form bs f ≡ Some g → Throughout P (times_bound bs) g
-  form_throughout bs truth g named e = subst (Throughout P (times_bound bs)) (let k : guarded.truth ≡ g = cc in k) tt
-  form_throughout bs falsity g named e = subst (Throughout P (times_bound bs)) (let k : guarded.falsity ≡ g = cc in k) tt
-  form_throughout bs (happens a i) g named e =
+pub any_formula : OfFormulas (λ f. Unit {0})
+any_formula = record {
+  of_not = λ f w. tt;
+  of_both = λ f g w. (tt, tt);
+  of_either = λ f g w. (tt, tt);
+  of_implies = λ f g w. (tt, tt);
+  of_all = λ x f w. tt;
+  of_some = λ x f w. tt;
+}
+
+-- what holds of the atoms that the formula's atoms become, if these are of this kind
+pub record OfAtoms (P : ℕ → Atom → Type 0) (W : Formula → Type 0) : Type 0 where
+  pub of_actions : (bs : List Written) (a : Action Written) (i : Written) (atom : Atom) → W (happens a i) → acts_at (placed_action bs a) (time_place (meant bs i.name)) ≡ Some atom → P (times_bound bs) atom
+  pub of_equalities : (bs : List Written) (t u : Term Written) (atom : Atom) → W (equals t u) → equality_at bs t u (term_time bs t) (term_time bs u) ≡ Some atom → P (times_bound bs) atom
+  pub of_order : (bs : List Written) (i j : Written) (atom : Atom) → W (precedes i j) → before_at (time_place (meant bs i.name)) (time_place (meant bs j.name)) ≡ Some atom → P (times_bound bs) atom
+
+module _ (P : ℕ → Atom → Type 0) (W : Formula → Type 0) (parts : OfFormulas W) (atoms : OfAtoms P W) where
+  pub form_throughout : (bs : List Written) (f : Formula) (g : Guarded) → W f → guarded_form bs f ≡ Some g → Throughout P (times_bound bs) g
+  form_throughout bs truth g w e = subst (Throughout P (times_bound bs)) (let k : guarded.truth ≡ g = cc in k) tt
+  form_throughout bs falsity g w e = subst (Throughout P (times_bound bs)) (let k : guarded.falsity ≡ g = cc in k) tt
+  form_throughout bs (happens a i) g w e =
       let r = mapped holds (acts_at (placed_action bs a) (time_place (meant bs i.name))) g e in
-      subst (Throughout P (times_bound bs)) (sym r.2) (atoms.of_actions bs a i r.0 named.0 r.1)
-  form_throughout bs (equals t u) g named e =
+      subst (Throughout P (times_bound bs)) (sym r.2) (atoms.of_actions bs a i r.0 w r.1)
+  form_throughout bs (equals t u) g w e =
       let r = mapped holds (equality_at bs t u (term_time bs t) (term_time bs u)) g e in
-      subst (Throughout P (times_bound bs)) (sym r.2) (atoms.of_equalities bs t u r.0 r.1)
-  form_throughout bs (precedes i j) g named e =
+      subst (Throughout P (times_bound bs)) (sym r.2) (atoms.of_equalities bs t u r.0 w r.1)
+  form_throughout bs (precedes i j) g w e =
       let r = mapped holds (before_at (time_place (meant bs i.name)) (time_place (meant bs j.name))) g e in
-      subst (Throughout P (times_bound bs)) (sym r.2) (atoms.of_order bs i j r.0 r.1)
-  form_throughout bs (not_so f) g named e =
+      subst (Throughout P (times_bound bs)) (sym r.2) (atoms.of_order bs i j r.0 w r.1)
+  form_throughout bs (not_so f) g w e =
       let r = mapped negate (guarded_form bs f) g e in
-      subst (Throughout P (times_bound bs)) (sym r.2) (negate_throughout P (times_bound bs) r.0 (form_throughout bs f r.0 named r.1))
-  form_throughout bs (both f k) g named e =
+      subst (Throughout P (times_bound bs)) (sym r.2) (negate_throughout P (times_bound bs) r.0 (form_throughout bs f r.0 (parts.of_not f w) r.1))
+  form_throughout bs (both f k) g w e =
       let n = times_bound bs in
-      let s = every_parts IsNamed (symbols_of f) (symbols_of k) named in
+      let s = parts.of_both f k w in
       let r = joined_forms conjunction (guarded_form bs f) (guarded_form bs k) g e in
       subst (Throughout P n) (sym r.4) (conjunction_is (Throughout P n) (throughout_parts P n) r.0 r.1 (form_throughout bs f r.0 s.0 r.2) (form_throughout bs k r.1 s.1 r.3))
-  form_throughout bs (either f k) g named e =
+  form_throughout bs (either f k) g w e =
       let n = times_bound bs in
-      let s = every_parts IsNamed (symbols_of f) (symbols_of k) named in
+      let s = parts.of_either f k w in
       let r = joined_forms disjunction (guarded_form bs f) (guarded_form bs k) g e in
       subst (Throughout P n) (sym r.4) (disjunction_is (Throughout P n) (throughout_parts P n) r.0 r.1 (form_throughout bs f r.0 s.0 r.2) (form_throughout bs k r.1 s.1 r.3))
-  form_throughout bs (implies f k) g named e =
+  form_throughout bs (implies f k) g w e =
       let n = times_bound bs in
-      let s = every_parts IsNamed (symbols_of f) (symbols_of k) named in
+      let s = parts.of_implies f k w in
       let r = joined_forms disjunction (option_map negate (guarded_form bs f)) (guarded_form bs k) g e in
       let q = mapped negate (guarded_form bs f) r.0 r.2 in
       subst (Throughout P n) (sym r.4)
       (disjunction_is (Throughout P n) (throughout_parts P n) r.0 r.1 (subst (Throughout P n) (sym q.2) (negate_throughout P n q.0 (form_throughout bs f q.0 s.0 q.1)))
       (form_throughout bs k r.1 s.1 r.3))
-  form_throughout bs (for_all x f) g named e =
+  form_throughout bs (for_all x f) g w e =
       let n = times_bound bs in
       let b = binder_of x.mark in
       let r = mapped (λ (k : Guarded). negate (existential (binder_of x.mark) (negate k))) (guarded_form (x ∷ bs) f) g e in
       subst (Throughout P n) (sym r.2)
       (negate_throughout P n (existential b (negate r.0))
-      (existential_throughout P b n (negate r.0) (negate_throughout P (one_within x n) r.0 (form_throughout (x ∷ bs) f r.0 named r.1))))
-  form_throughout bs (for_some x f) g named e =
+      (existential_throughout P b n (negate r.0) (negate_throughout P (one_within x n) r.0 (form_throughout (x ∷ bs) f r.0 (parts.of_all x f w) r.1))))
+  form_throughout bs (for_some x f) g w e =
       let n = times_bound bs in
       let r = mapped (existential (binder_of x.mark)) (guarded_form (x ∷ bs) f) g e in
-      subst (Throughout P n) (sym r.2) (existential_throughout P (binder_of x.mark) n r.0 (form_throughout (x ∷ bs) f r.0 named r.1))
+      subst (Throughout P n) (sym r.2) (existential_throughout P (binder_of x.mark) n r.0 (form_throughout (x ∷ bs) f r.0 (parts.of_some x f w) r.1))

@@ -4,19 +4,17 @@ use Rattle.std.proofs.lemmas.Bool.{and_parts, eqb-true}
 use Rattle.sp_spec.specs.Lists.{Every}
 use Rattle.sp_spec.specs.Formula.{Formula}
 use Rattle.sp_spec.specs.Guarded.{Time, free_time, bound_time, Binder, message, time, Atom, acts, same, same_time, before, last, Guarded, Guardeds, truth, falsity, holds, fails, all_of, one_of, some, every, no_more, and_then}
-use Rattle.sp_spec.proofs.Lists.{every_all}
 use Rattle.sp_law_truth.specs.Shown.{times_within, IsTimedAtom, AreTimedAtoms, IsActionAt, HasActionAt, GuardsTimes, IsTimed, AreTimed}
 use Rattle.sp_law_guard.specs.GuardedForm.{guarded_form}
 use Rattle.sp_law_guard.specs.IsGuarded.{is_time_place, time_guarded, messages_in, times_in, message_guarded, each_guarded, is_guarded, are_guarded}
-use Rattle.sp_law_guard.specs.Symbols.{symbols_of}
-use Rattle.sp_law_guard.proofs.Throughout.{Throughout, ThroughoutEach, OfAtoms, form_throughout}
+use Rattle.sp_law_guard.proofs.Throughout.{Throughout, ThroughoutEach, OfAtoms, any_formula, form_throughout}
 use Rattle.sp_law_guard.proofs.Places.{action_made, order_made, equality_made}
 
-timed_atoms : OfAtoms IsTimedAtom (λ s. Unit {0})
+timed_atoms : OfAtoms IsTimedAtom (λ f. Unit {0})
 timed_atoms = record {
-  of_actions = λ bs a i atom named e. let r = action_made bs a i atom e in subst (IsTimedAtom _) (sym r.is) r.bounded;
-  of_equalities = λ bs t u atom e. equality_made bs t u atom (IsTimedAtom _) e (λ i j k l. (k, l)) (λ x y k l. tt);
-  of_order = λ bs i j atom e. let r = order_made bs i j atom e in subst (IsTimedAtom _) (sym r.is) (r.first_bound, r.second_bound);
+  of_actions = λ bs a i atom w e. let r = action_made bs a i atom e in subst (IsTimedAtom _) (sym r.is) r.bounded;
+  of_equalities = λ bs t u atom w e. equality_made bs t u atom (IsTimedAtom _) e (λ i j k l. (k, l)) (λ x y k l. tt);
+  of_order = λ bs i j atom w e. let r = order_made bs i j atom e in subst (IsTimedAtom _) (sym r.is) (r.first_bound, r.second_bound);
 }
 
 -- a guard that guards a time has an action at it
@@ -59,7 +57,7 @@ atoms_timed n [] e = tt
 atoms_timed n (a ∷ guard) e = (e.0, atoms_timed n guard e.1)
 
 mutual
-  timed : (n : ℕ) (g : Guarded) → Throughout IsTimedAtom n g → is_guarded g ≡ true → IsTimed n g
+  pub timed : (n : ℕ) (g : Guarded) → Throughout IsTimedAtom n g → is_guarded g ≡ true → IsTimed n g
   timed n truth t e = tt
   timed n falsity t e = tt
   timed n (holds a) t e = t
@@ -80,4 +78,4 @@ mutual
       (timed n g t.0 r.0, each_timed n gs t.1 r.1)
 
 pub form_timed : (f : Formula) (g : Guarded) → guarded_form [] f ≡ Some g → is_guarded g ≡ true → IsTimed zero g
-form_timed f g e guarded = timed zero g (form_throughout IsTimedAtom (λ s. Unit {0}) timed_atoms [] f g (every_all _ (λ s. tt) (symbols_of f)) e) guarded
+form_timed f g e guarded = timed zero g (form_throughout IsTimedAtom (λ f. Unit {0}) any_formula timed_atoms [] f g tt e) guarded

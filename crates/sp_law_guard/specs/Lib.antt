@@ -3,4 +3,5 @@ pub mod IsGuarded
 pub mod Symbols
 pub mod Closed
 pub mod Proper
+pub mod CheckedForm
 pub mod Laws
