@@ -7,7 +7,7 @@ use Rattle.sp_law_truth.specs.Shown.{times_within, IsBound}
 use Rattle.sp_law_guard.specs.GuardedForm.{guarded_form}
 use Rattle.sp_law_guard.specs.Closed.{IsClosedTime, IsClosedAtom, IsClosed, AreClosed}
 use Rattle.sp_law_guard.proofs.Throughout.{Throughout, ThroughoutEach, OfAtoms, any_formula, form_throughout}
-use Rattle.sp_law_guard.proofs.Places.{action_made, order_made, equality_made}
+use Rattle.sp_law_guard.proofs.Places.{term_closed, action_made, order_made, equality_made}
 
 abbrev OfClosed : ℕ → Atom → Type 0
 OfClosed n a = IsClosedAtom a
@@ -19,7 +19,7 @@ closed_time n (bound_time k) b = tt
 closed_atoms : OfAtoms OfClosed (λ f. Unit {0})
 closed_atoms = record {
   of_actions = λ bs a i atom w e. let r = action_made bs a i atom e in subst IsClosedAtom (sym r.is) (r.closed, closed_time _ r.time r.bounded);
-  of_equalities = λ bs t u atom w e. equality_made bs t u atom IsClosedAtom e (λ i j k l. (closed_time _ i k, closed_time _ j l)) (λ x y k l. (k, l));
+  of_equalities = λ bs t u atom w e. equality_made bs t u atom IsClosedAtom e (λ i j k l. (closed_time _ i k, closed_time _ j l)) (λ x y k l. (term_closed bs t x k, term_closed bs u y l));
   of_order = λ bs i j atom w e. let r = order_made bs i j atom e in subst IsClosedAtom (sym r.is) (closed_time _ r.first r.first_bound, closed_time _ r.second r.second_bound);
 }
 

@@ -11,3 +11,5 @@ pub mod Places
 pub mod Timed
 pub mod Named
 pub mod Closed
+pub mod Negated
+pub mod Checked

@@ -59,7 +59,7 @@ message_closed (Some (a_time k)) u e = absurd cc
 message_closed (Some (a_message mark k)) u e = let g : var (bound k) ≡ u = cc in subst IsClosedTerm g tt
 
 mutual
-  term_closed : (bs : List Written) (t : Term Written) (u : Term Place) → placed_term bs t ≡ Some u → IsClosedTerm u
+  pub term_closed : (bs : List Written) (t : Term Written) (u : Term Place) → placed_term bs t ≡ Some u → IsClosedTerm u
   term_closed bs (var x) u e = message_closed (meant bs x.name) u e
   term_closed bs (constant c) u e = let g : constant c ≡ u = cc in subst IsClosedTerm g tt
   term_closed bs (name n) u e = let g : name n ≡ u = cc in subst IsClosedTerm g tt
@@ -75,18 +75,19 @@ mutual
       subst AreClosedTerms (sym q.2) (term_closed bs t r.0 r.1, terms_closed bs ts q.0 q.1)
 
 -- An action, an order of times, and an equality, as atoms.
-pub record ReadsAction (n : ℕ) (a : Action Written) (atom : Atom) : Type 0 where
+pub record ReadsAction (bs : List Written) (a : Action Written) (atom : Atom) : Type 0 where
   pub action : Action Place
   pub time : Time
   pub is : atom ≡ acts action time
   pub symbol : action.symbol ≡ a.symbol
+  pub placed : placed_terms bs a.args ≡ Some action.args
   pub closed : AreClosedTerms action.args
-  pub bounded : IsBound n time
+  pub bounded : IsBound (times_bound bs) time
 
-pub action_made : (bs : List Written) (a : Action Written) (i : Written) (atom : Atom) → acts_at (placed_action bs a) (time_place (meant bs i.name)) ≡ Some atom → ReadsAction (times_bound bs) a atom
+pub action_made : (bs : List Written) (a : Action Written) (i : Written) (atom : Atom) → acts_at (placed_action bs a) (time_place (meant bs i.name)) ≡ Some atom → ReadsAction bs a atom
 action_made bs a i atom e = at (placed_action bs a) (time_place (meant bs i.name)) refl refl e
   where
-    at : (o : Option (Action Place)) (p : Option Time) → placed_action bs a ≡ o → time_place (meant bs i.name) ≡ p → acts_at o p ≡ Some atom → ReadsAction (times_bound bs) a atom
+    at : (o : Option (Action Place)) (p : Option Time) → placed_action bs a ≡ o → time_place (meant bs i.name) ≡ p → acts_at o p ≡ Some atom → ReadsAction bs a atom
     at None p k l e = absurd cc
     at (Some b) None k l e = absurd cc
     at (Some b) (Some j) k l e =
@@ -97,6 +98,7 @@ action_made bs a i atom e = at (placed_action bs a) (time_place (meant bs i.name
           time = j;
           is = let g : atom ≡ acts b j = cc in subst (λ (x : Action Place). atom ≡ acts x j) r.2 g;
           symbol = refl;
+          placed = r.1;
           closed = terms_closed bs a.args r.0 r.1;
           bounded = time_bound bs i.name j l;
         }
@@ -125,13 +127,13 @@ order_made bs i j atom e = at (time_place (meant bs i.name)) (time_place (meant 
 -- two times, or two messages
 pub equality_made : (bs : List Written) (t u : Term Written) (atom : Atom) (Q : Atom → Type 0) → equality_at bs t u (term_time bs t) (term_time bs u) ≡ Some atom
     → ((i j : Time) → IsBound (times_bound bs) i → IsBound (times_bound bs) j → Q (same_time i j))
-    → ((x y : Term Place) → IsClosedTerm x → IsClosedTerm y → Q (same x y)) → Q atom
+    → ((x y : Term Place) → placed_term bs t ≡ Some x → placed_term bs u ≡ Some y → Q (same x y)) → Q atom
 equality_made bs t u atom Q e times messages = at (term_time bs t) (term_time bs u) refl refl e
   where
     both : (o p : Option (Term Place)) → placed_term bs t ≡ o → placed_term bs u ≡ p → same_at o p ≡ Some atom → Q atom
     both None p k l e = absurd cc
     both (Some x) None k l e = absurd cc
-    both (Some x) (Some y) k l e = let g : same x y ≡ atom = cc in subst Q g (messages x y (term_closed bs t x k) (term_closed bs u y l))
+    both (Some x) (Some y) k l e = let g : same x y ≡ atom = cc in subst Q g (messages x y k l)
 
     at : (o p : Option Time) → term_time bs t ≡ o → term_time bs u ≡ p → equality_at bs t u o p ≡ Some atom → Q atom
     at (Some i) (Some j) k l e = let g : same_time i j ≡ atom = cc in subst Q g (times i j (term_time_bound bs t i k) (term_time_bound bs u j l))

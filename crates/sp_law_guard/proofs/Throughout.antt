@@ -7,6 +7,7 @@ use Rattle.sp_spec.specs.Rule.{Action}
 use Rattle.sp_spec.specs.Formula.{Written, Formula, truth, falsity, happens, equals, precedes, not_so, both, either, implies, for_all, for_some}
 use Rattle.sp_spec.specs.Guarded.{Binder, message, time, Atom, acts, same, same_time, before, last, Guarded, Guardeds, holds, fails, all_of, one_of, some, every, no_more, and_then}
 use Rattle.sp_spec.specs.Guarded as guarded
+use Rattle.sp_spec.proofs.Lists.{every_weaken}
 use Rattle.sp_law_truth.specs.Shown.{times_within}
 use Rattle.sp_law_truth.proofs.AsTrue.{as_itself, as_both}
 use Rattle.sp_law_guard.specs.GuardedForm.{meant, time_place, placed_action, term_time, acts_at, before_at, equality_at, binder_of, guard_in, rest_in, body_of, conjuncts, conjunction, disjunction, negated_atom, negate, negate_each, existential, guarded_form}
@@ -104,6 +105,23 @@ module _ (P : ℕ → Atom → Type 0) where
   existential_throughout b n (all_of gs) p = new_throughout b n (all_of gs) p
   existential_throughout b n (one_of gs) p = new_throughout b n (one_of gs) p
   existential_throughout b n (every bs guard g) p = new_throughout b n (every bs guard g) p
+
+-- what holds of more atoms
+module _ (P Q : ℕ → Atom → Type 0) (below : (n : ℕ) (a : Atom) → P n a → Q n a) where
+  mutual
+    pub throughout_weaken : (n : ℕ) (g : Guarded) → Throughout P n g → Throughout Q n g
+    throughout_weaken n guarded.truth p = tt
+    throughout_weaken n guarded.falsity p = tt
+    throughout_weaken n (holds a) p = below n a p
+    throughout_weaken n (fails a) p = below n a p
+    throughout_weaken n (all_of gs) p = each_weaken n gs p
+    throughout_weaken n (one_of gs) p = each_weaken n gs p
+    throughout_weaken n (some bs guard g) p = (every_weaken (P (times_within bs n)) (Q (times_within bs n)) (below (times_within bs n)) guard p.0, throughout_weaken (times_within bs n) g p.1)
+    throughout_weaken n (every bs guard g) p = (every_weaken (P (times_within bs n)) (Q (times_within bs n)) (below (times_within bs n)) guard p.0, throughout_weaken (times_within bs n) g p.1)
+
+    each_weaken : (n : ℕ) (gs : Guardeds) → ThroughoutEach P n gs → ThroughoutEach Q n gs
+    each_weaken n no_more p = tt
+    each_weaken n (and_then g gs) p = (throughout_weaken n g p.0, each_weaken n gs p.1)
 
 -- what holds of a formula's parts where it holds of the formula
 pub record OfFormulas (W : Formula → Type 0) : Type 0 where
