@@ -1,7 +1,7 @@
 -- What accepted trees without open leaves show of lemmas.
 use Rattle.std.proofs.Common.{◌≡◌, List, [], Some, false}
 use Rattle.sp_spec.specs.Lists.{Every}
-use Rattle.sp_spec.specs.Theory.{Theory, Lemma, signature_of}
+use Rattle.sp_spec.specs.Theory.{Lemma, signature_of}
 use Rattle.sp_spec.specs.Written.{WrittenRule, WrittenTheory, theory_of}
 use Rattle.sp_spec.specs.Findings.{has_fr}
 use Rattle.sp_spec.specs.Execution.{Step, Trace, IsExecution}

@@ -1,6 +1,6 @@
 -- Guarded formulas whose atoms are flat and name no action of the adversary: they are timed, and a log over whose trace one is true
 -- solves the system that begins with it.
-use Rattle.std.proofs.Common.{◌≡◌, ◌<◌, ℕ, zero, true, List, [], ◌∷◌, length, codes, refl, inl, inr, arith, sym}
+use Rattle.std.proofs.Common.{◌≡◌, ◌<◌, ℕ, zero, true, List, [], ◌∷◌, length, refl, inl, inr, arith, sym}
 use Rattle.sp_spec.specs.Lists.{Member, Every}
 use Rattle.sp_spec.specs.Term.{Variable}
 use Rattle.sp_spec.specs.Signature.{Signature}
@@ -17,9 +17,8 @@ use Rattle.sp_law_guard.proofs.Negated.{negate_guarded}
 use Rattle.sp_law_erase.specs.Adversary.{adversary_names}
 use Rattle.sp_system.specs.System.{assignment, AtomSettled, Settled, EachSettled, InFormula, InEach, IsNumbered, Solves}
 use Rattle.sp_check.specs.FirstForm.{root}
-use Rattle.sp_check.proofs.Flat.{FlatAtom, flat_timed, Bounded, flat_settled, each_bounded}
+use Rattle.sp_check.proofs.Flat.{FlatAtom, flat_timed, flat_atom_in, Bounded, flat_settled, each_bounded}
 use Rattle.sp_check.proofs.Roots.{start, start_sorts, start_normal, each_in}
-use Rattle.sp_check.proofs.Flat.{flat_atom_in}
 use Rattle.sp_check.proofs.Shown.{NamesNoSend}
 use Rattle.sp_check.proofs.Showing.{not_named}
 

@@ -1,5 +1,5 @@
 -- The guarded form of a formula of variables and public names that names no action of the adversary has flat atoms that name none.
-use Rattle.std.proofs.Common.{◌≡◌, ◌<◌, ℕ, zero, true, List, [], ◌∷◌, Option, Some, None, option_map, refl, sym, subst}
+use Rattle.std.proofs.Common.{◌≡◌, ℕ, true, List, [], Option, Some, None, option_map, sym, subst}
 use Rattle.sp_spec.specs.Term.{Term, var, constant, name, app, Terms, none, more}
 use Rattle.sp_spec.specs.Formula.{Written, Formula}
 use Rattle.sp_spec.specs.Guarded.{Place, bound, Time, free_time, bound_time, Guarded}
