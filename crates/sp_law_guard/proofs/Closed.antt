@@ -1,6 +1,5 @@
 -- Each variable and each time of a guarded form is bound.
-use Rattle.std.proofs.Common.{◌≡◌, ℕ, List, [], ◌∷◌, Some, refl, sym, subst}
-use Rattle.sp_spec.specs.Lists.{Every}
+use Rattle.std.proofs.Common.{◌≡◌, ℕ, [], Some, sym, subst}
 use Rattle.sp_spec.specs.Formula.{Formula}
 use Rattle.sp_spec.specs.Guarded.{Time, free_time, bound_time, Atom, Guarded, Guardeds, truth, falsity, holds, fails, all_of, one_of, some, every, no_more, and_then}
 use Rattle.sp_law_truth.specs.Shown.{times_within, IsBound}

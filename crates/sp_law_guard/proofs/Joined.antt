@@ -4,7 +4,7 @@ use Rattle.std.specs.Prelude.{◌↔◌}
 use Rattle.sp_spec.specs.Lists.{Classically}
 use Rattle.sp_spec.specs.Signature.{Signature}
 use Rattle.sp_spec.specs.Execution.{Trace}
-use Rattle.sp_spec.specs.Guarded.{Binder, message, time, Atom, acts, same, same_time, before, last, Guarded, Guardeds, truth, falsity, holds, fails, all_of, one_of, some, every, no_more, and_then, Assignment, AtomHolds, AtomsHold, SomeValues, GuardedHolds, EachHolds, SomeHolds}
+use Rattle.sp_spec.specs.Guarded.{Binder, message, time, acts, same, same_time, before, last, Guarded, Guardeds, truth, falsity, holds, fails, all_of, one_of, some, every, no_more, and_then, Assignment, AtomsHold, SomeValues, GuardedHolds, EachHolds, SomeHolds}
 use Rattle.sp_law_truth.proofs.Stable.{classically}
 use Rattle.sp_law_truth.proofs.StableGuarded.{stable_guarded}
 use Rattle.sp_law_truth.proofs.AsTrue.{as_itself, as_both, as_either, as_classically, as_turned, as_through}

@@ -10,12 +10,11 @@ use Rattle.sp_spec.specs.Execution.{Trace}
 use Rattle.sp_spec.specs.Truth.{Value, message, position, Environment, value_of, message_of, value_in, ActsAt, IsSame, IsEarlier, EachValue, SomeValue, IsTrueIn, IsTrueOver}
 use Rattle.sp_spec.specs.Guarded.{Place, Time, Atom, acts, same, same_time, before, Guarded, holds, Assignment, with_term, with_time, term_in, action_in, time_in, AtomHolds, SomeValues, EachValues, GuardedHolds}
 use Rattle.sp_spec.specs.Guarded as guarded
-use Rattle.sp_law_truth.proofs.Stable.{classically}
 use Rattle.sp_law_truth.proofs.StableGuarded.{stable_guarded}
-use Rattle.sp_law_truth.proofs.AsTrue.{as_itself, as_both, as_either, as_implies, as_not, as_classically, as_turned, as_through}
-use Rattle.sp_law_guard.specs.GuardedForm.{Meant, meant, time_place, placed_term, placed_action, term_time, acts_at, before_at, same_at, equality_at, binder_of, conjunction, disjunction, negate, existential, both_forms, guarded_form}
+use Rattle.sp_law_truth.proofs.AsTrue.{as_both, as_either, as_implies, as_not, as_classically, as_turned, as_through}
+use Rattle.sp_law_guard.specs.GuardedForm.{meant, time_place, placed_term, placed_action, term_time, acts_at, before_at, same_at, equality_at, binder_of, conjunction, disjunction, negate, existential, both_forms, guarded_form}
 use Rattle.sp_law_guard.proofs.Options.{mapped}
-use Rattle.sp_law_guard.proofs.Values.{some_as, each_not}
+use Rattle.sp_law_guard.proofs.Values.{each_not}
 use Rattle.sp_law_guard.proofs.Turned.{turned}
 use Rattle.sp_law_guard.proofs.Meant.{Corresponds, corresponds_message, corresponds_time, action_read, time_read, term_time_read, value_read}
 use Rattle.sp_law_guard.proofs.Joined.{conjunction_both, disjunction_either, existential_some}

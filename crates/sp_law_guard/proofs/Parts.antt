@@ -2,7 +2,7 @@
 use Rattle.std.proofs.Common.{List, [], ◌∷◌, ◌++◌}
 use Rattle.std.specs.Prelude.{◌↔◌}
 use Rattle.sp_spec.specs.Lists.{Every}
-use Rattle.sp_spec.specs.Guarded.{Binder, Atom, acts, same, same_time, before, last, Guarded, Guardeds, truth, falsity, holds, fails, all_of, one_of, some, every, no_more, and_then}
+use Rattle.sp_spec.specs.Guarded.{acts, same, same_time, before, last, Guarded, Guardeds, truth, falsity, holds, fails, all_of, one_of, some, every, no_more, and_then}
 use Rattle.sp_spec.proofs.Lists.{every_append}
 use Rattle.sp_law_guard.specs.GuardedForm.{listed, parts_of, conjuncts, disjuncts, conjunction, disjunction, rest_in, body_of}
 

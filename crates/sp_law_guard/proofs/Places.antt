@@ -1,5 +1,5 @@
 -- What names become is bound, the times within those that are bound there.
-use Rattle.std.proofs.Common.{◌≡◌, ℕ, zero, suc, ◌<◌, Bool, true, false, if◌then◌else◌, List, [], ◌∷◌, Option, Some, None, option_map, refl, sym, subst, bytes_eq, arith}
+use Rattle.std.proofs.Common.{◌≡◌, ℕ, ◌<◌, Bool, true, false, if◌then◌else◌, List, [], ◌∷◌, Option, Some, None, option_map, refl, sym, subst, bytes_eq, arith}
 use Rattle.sp_spec.specs.Term.{Term, var, constant, name, app, Terms, none, more}
 use Rattle.sp_spec.specs.Rule.{Action}
 use Rattle.sp_spec.specs.Formula.{Mark, bare, of_sort, of_time, Written}

@@ -1,11 +1,11 @@
 -- Guarded forms are proper, and negating a proper formula twice gives it back.
-use Rattle.std.proofs.Common.{◌≡◌, List, [], ◌∷◌, Option, Some, option_map, refl, sym, ap, ap₂, subst}
+use Rattle.std.proofs.Common.{◌≡◌, List, [], ◌∷◌, Some, option_map, refl, sym, ap, ap₂, subst}
 use Rattle.sp_spec.specs.Formula.{Written, Formula, truth, falsity, happens, equals, precedes, not_so, both, either, implies, for_all, for_some}
 use Rattle.sp_spec.specs.Guarded.{Binder, Atom, acts, same, same_time, before, last, Guarded, Guardeds, holds, fails, all_of, one_of, some, every, no_more, and_then}
 use Rattle.sp_spec.specs.Guarded as guarded
 use Rattle.sp_law_truth.proofs.AsTrue.{as_itself, as_both}
 use Rattle.std.specs.Prelude.{◌↔◌}
-use Rattle.sp_law_guard.specs.GuardedForm.{meant, time_place, placed_action, term_time, acts_at, before_at, equality_at, binder_of, guard_in, rest_in, body_of, conjuncts, conjunction, disjunction, negated_atom, negate, negate_each, existential, guarded_form}
+use Rattle.sp_law_guard.specs.GuardedForm.{meant, time_place, placed_action, term_time, acts_at, before_at, equality_at, binder_of, conjunction, disjunction, negated_atom, negate, negate_each, existential, guarded_form}
 use Rattle.sp_law_guard.specs.Proper.{IsNoAction, IsProper, AreProper}
 use Rattle.sp_law_guard.proofs.Options.{mapped}
 use Rattle.sp_law_guard.proofs.Kept.{joined_forms}

@@ -1,5 +1,5 @@
 -- What holds of each atom that a formula's atoms become, with so many times bound outside it, holds of each atom of its guarded form.
-use Rattle.std.proofs.Common.{◌≡◌, ℕ, zero, List, [], ◌∷◌, Option, Some, option_map, refl, sym, subst}
+use Rattle.std.proofs.Common.{◌≡◌, ℕ, zero, List, [], ◌∷◌, Some, option_map, sym, subst}
 use Rattle.std.specs.Prelude.{◌↔◌}
 use Rattle.sp_spec.specs.Lists.{Every}
 use Rattle.sp_spec.specs.Term.{Term}

@@ -1,10 +1,10 @@
 -- The negation is true exactly where the formula isn't.
-use Rattle.std.proofs.Common.{◌⊎◌, List, [], ◌∷◌, length, inl, inr}
+use Rattle.std.proofs.Common.{List, [], ◌∷◌, length, inl, inr}
 use Rattle.std.specs.Prelude.{◌↔◌}
 use Rattle.sp_spec.specs.Lists.{Classically}
 use Rattle.sp_spec.specs.Signature.{Signature}
 use Rattle.sp_spec.specs.Execution.{Trace}
-use Rattle.sp_spec.specs.Guarded.{Binder, Atom, acts, same, same_time, before, last, Guarded, Guardeds, truth, falsity, holds, fails, all_of, one_of, some, every, no_more, and_then, Assignment, AtomHolds, AtomsHold, SomeValues, EachValues, GuardedHolds, EachHolds, SomeHolds}
+use Rattle.sp_spec.specs.Guarded.{Binder, Atom, acts, same, same_time, before, last, Guarded, Guardeds, truth, falsity, holds, fails, all_of, one_of, some, every, no_more, and_then, Assignment, AtomHolds, AtomsHold, GuardedHolds, EachHolds, SomeHolds}
 use Rattle.sp_law_truth.proofs.StableGuarded.{stable_atom, stable_atoms, stable_guarded, stable_each}
 use Rattle.sp_law_truth.proofs.Stable.{classically}
 use Rattle.sp_law_truth.proofs.AsTrue.{as_itself}

@@ -1,5 +1,5 @@
 -- What is true for some values of binders, and for all, and where it isn't.
-use Rattle.std.proofs.Common.{ℕ, ◌<◌, List, [], ◌∷◌}
+use Rattle.std.proofs.Common.{ℕ, List, [], ◌∷◌}
 use Rattle.std.specs.Prelude.{◌↔◌}
 use Rattle.sp_spec.specs.Lists.{Classically}
 use Rattle.sp_spec.specs.Term.{Ground}

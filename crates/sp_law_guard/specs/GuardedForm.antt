@@ -1,12 +1,12 @@
 -- The guarded form of a formula: a quantifier has as guard the actions and the equalities of messages that stand in its conjunction, and
 -- negation stands at atoms alone. Source: CSF 2012, "Guarded trace properties"; Tamarin manual, "Property specification".
-use Rattle.std.specs.Prelude.{ℕ, zero, suc, Bool, true, false, List, [], ◌∷◌, ◌++◌, if◌then◌else◌, Option, Some, None, option_map, option_and_then}
+use Rattle.std.specs.Prelude.{ℕ, zero, suc, List, [], ◌∷◌, ◌++◌, if◌then◌else◌, Option, Some, None, option_map, option_and_then}
 use Rattle.std.specs.Str.{bytes_eq}
 use Rattle.sp_spec.specs.Term.{Msg, Term, var, constant, name, app, Terms, none, more}
 use Rattle.sp_spec.specs.Rule.{Action}
 use Rattle.sp_spec.specs.Formula.{Mark, bare, of_sort, of_time, Written, Formula}
 use Rattle.sp_spec.specs.Formula as f
-use Rattle.sp_spec.specs.Guarded.{Place, free, bound, Time, free_time, bound_time, Binder, message, time, Atom, acts, same, same_time, before, last, Guarded, Guardeds, truth, falsity, holds, fails, all_of, one_of, some, every, no_more, and_then}
+use Rattle.sp_spec.specs.Guarded.{Place, bound, Time, bound_time, Binder, message, time, Atom, acts, same, same_time, before, last, Guarded, Guardeds, truth, falsity, holds, fails, all_of, one_of, some, every, no_more, and_then}
 
 -- What a name means: the innermost binder of that name, a message or a time, counted apart from the innermost outwards.
 pub data Meant : Type 0 where

@@ -2,7 +2,7 @@
 -- whose variables are bound outside or stand in actions of the same guard. Source: CSF 2012, "Guarded trace properties".
 use Rattle.std.specs.Prelude.{ℕ, zero, suc, Bool, true, false, ◌&&◌, ◌||◌, ◌==◌, nat_lt, not, List, [], ◌∷◌}
 use Rattle.sp_spec.specs.Term.{Term, var, constant, name, app, Terms, none, more}
-use Rattle.sp_spec.specs.Guarded.{Place, free, bound, Time, free_time, bound_time, Binder, message, time, Atom, acts, same, same_time, before, last, Guarded, Guardeds, truth, falsity, holds, fails, all_of, one_of, some, every, no_more, and_then}
+use Rattle.sp_spec.specs.Guarded.{Place, free, bound, Time, free_time, bound_time, Binder, message, time, Atom, acts, same, Guarded, Guardeds, truth, falsity, holds, fails, all_of, one_of, some, every, no_more, and_then}
 
 -- the bound message of that place stands in the term
 abbrev pub is_place : ℕ → Place → Bool
