@@ -1,6 +1,6 @@
 -- Formulas on which there are no findings. Source: Tamarin manual, "Checking well-formedness".
-use Rattle.std.specs.Prelude.{ℕ, Bool, true, false, ◌&&◌, ◌||◌, not, if◌then◌else◌, List, [], ◌∷◌, ◌++◌, Option, Some, None}
-use Rattle.sp_spec.specs.Term.{Msg, Fresh, Pub, Term}
+use Rattle.std.specs.Prelude.{Bool, true, false, ◌&&◌, ◌||◌, not, if◌then◌else◌, List, [], ◌∷◌, ◌++◌, Option, Some, None}
+use Rattle.sp_spec.specs.Term.{Msg, Fresh, Pub}
 use Rattle.sp_spec.specs.Formula.{Mark, bare, of_sort, of_time, Written, Formula, truth, falsity, happens, equals, precedes, not_so, both, either, implies, for_all, for_some}
 use Rattle.sp_spec.specs.Written.{in_term, in_terms}
 use Rattle.sp_spec.specs.Findings.{is_wide}
