@@ -1,9 +1,10 @@
 // Proof trees: which are accepted, what an accepted tree shows, and how one is grown.
-// Below stand the rows and moves (sp_step), systems (sp_system) and the laws of equality, truth and erasing; above it the top call.
+// Below stand the rows and moves (sp_step), systems (sp_system) and the laws of equality, truth, guarded forms and erasing; above it
+// stands the top call.
 // It carries three promises: where an accepted tree from a lemma's negation has no open leaf, the lemma holds in every execution of the
 // theory, steps of the adversary included; where one from the lemma itself has none, no execution satisfies it; and what is grown is an
-// accepted tree within its budget of steps. Trees and growth are
-// definitions (specs/Tree.antt, specs/Growth.antt); the promises are said of the definitions.
+// accepted tree within its budget of steps. Trees and growth are definitions (specs/Tree.antt, specs/Growth.antt); the promises are said
+// of the definitions.
 #![tactic(auto)]
 
 ghost use Rattle.sp_check.specs.Laws.{AcceptedTreesShow, LemmasAreShown, GrowthIsAccepted};
