@@ -1,5 +1,5 @@
--- The atoms of a first form's negation: variables that are bound, and constants. So they are settled, closed, and at times that are
--- bound.
+-- Flat atoms: variables that are bound, and constants. So they are settled, closed, and at times that are bound. Those of a first form's
+-- negation are flat.
 use Rattle.std.proofs.Common.{◌≡◌, ◌<◌, ◌+◌, ℕ, zero, suc, Bool, true, false, if◌then◌else◌, List, [], ◌∷◌, ◌++◌, map, Option, Some, None, option_map, refl, sym, ◌∙◌, subst, arith, bytes_eq}
 use Rattle.sp_spec.specs.Lists.{Every}
 use Rattle.sp_spec.specs.Term.{Variable, Term, var, constant, name, app, Terms, none, more, Ground, valued_all}
@@ -33,7 +33,7 @@ abbrev pub FlatAtom : ℕ → Atom → Type 0
 FlatAtom n (acts a i) = FlatTerms a.args × FlatTime n i
 FlatAtom n (same t u) = FlatTerm t × FlatTerm u
 FlatAtom n (same_time i j) = FlatTime n i × FlatTime n j
-FlatAtom n (before i j) = ⊥
+FlatAtom n (before i j) = FlatTime n i × FlatTime n j
 FlatAtom n (last i) = ⊥
 
 -- what holds of flat atoms
@@ -45,7 +45,7 @@ pub flat_timed : (n : ℕ) (a : Atom) → FlatAtom n a → IsTimedAtom n a
 flat_timed n (acts a i) h = flat_time n i h.1
 flat_timed n (same t u) h = tt
 flat_timed n (same_time i j) h = (flat_time n i h.0, flat_time n j h.1)
-flat_timed n (before i j) h = absurd h
+flat_timed n (before i j) h = (flat_time n i h.0, flat_time n j h.1)
 flat_timed n (last i) h = absurd h
 
 pub flat_all_timed : (n : ℕ) (atoms : List Atom) → Every (FlatAtom n) atoms → AreTimedAtoms n atoms
@@ -72,7 +72,7 @@ module _ (P : Variable → Type 0) (Q : ℕ → Type 0) where
   flat_atom_in n (acts a i) h = (flat_all_in a.args h.0, flat_time_in n i h.1)
   flat_atom_in n (same t u) h = (flat_in t h.0, flat_in u h.1)
   flat_atom_in n (same_time i j) h = (flat_time_in n i h.0, flat_time_in n j h.1)
-  flat_atom_in n (before i j) h = absurd h
+  flat_atom_in n (before i j) h = (flat_time_in n i h.0, flat_time_in n j h.1)
   flat_atom_in n (last i) h = absurd h
 
 -- values of what is bound: normal messages, and positions for the times that are bound
@@ -100,7 +100,7 @@ module _ (signature : Signature) (limit n : ℕ) (m : Assignment) (b : Bounded s
   flat_settled (acts a i) h = (flat_all_normal a.args h.0, flat_position i h.1)
   flat_settled (same t u) h = (flat_normal t h.0, flat_normal u h.1)
   flat_settled (same_time i j) h = (flat_position i h.0, flat_position j h.1)
-  flat_settled (before i j) h = absurd h
+  flat_settled (before i j) h = (flat_position i h.0, flat_position j h.1)
   flat_settled (last i) h = absurd h
 
 -- under all binders

@@ -8,3 +8,6 @@ pub mod Roots
 pub mod Verified
 pub mod WrittenRules
 pub mod Showing
+pub mod Forms
+pub mod PlacedForms
+pub mod AllShown

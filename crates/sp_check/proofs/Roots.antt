@@ -98,7 +98,7 @@ start_value Pub = constant []
 pub start : Valuation
 start = record { terms = λ x. start_value x.sort; times = λ i. zero }
 
-start_sorts : (signature : Signature) → IsValuation signature start.terms
+pub start_sorts : (signature : Signature) → IsValuation signature start.terms
 unfolding start start_value
 start_sorts signature x = at x.sort
   where
@@ -107,7 +107,7 @@ start_sorts signature x = at x.sort
     at Fresh = (tt, tt)
     at Pub = (tt, tt)
 
-start_normal : (signature : Signature) (x : Variable) → IsNormal signature.equations (start.terms x)
+pub start_normal : (signature : Signature) (x : Variable) → IsNormal signature.equations (start.terms x)
 unfolding start start_value
 start_normal signature x = at x.sort
   where
@@ -116,7 +116,7 @@ start_normal signature x = at x.sort
     at Fresh = tt
     at Pub = tt
 
-each_in : (P : Variable → Type 0) (Q : ℕ → Type 0) (n : ℕ) (atoms : List Atom) → Every (FlatAtom n) atoms → Every (InAtom P Q) atoms
+pub each_in : (P : Variable → Type 0) (Q : ℕ → Type 0) (n : ℕ) (atoms : List Atom) → Every (FlatAtom n) atoms → Every (InAtom P Q) atoms
 each_in P Q n [] h = tt
 each_in P Q n (a ∷ atoms) h = (flat_atom_in P Q n a h.0, each_in P Q n atoms h.1)
 

@@ -32,7 +32,7 @@ other_name s n = at (bytes_eq s (codes "K")) refl
     at true e = absurd (n ((bytes_eq-Decides s (codes "K")).0 e))
     at false e = refl
 
-not_named : (x : List ℕ) (xs : List (List ℕ)) → (x ≡ codes "K" → ⊥) → NamesNoSend xs → NamesNoSend (x ∷ xs)
+pub not_named : (x : List ℕ) (xs : List (List ℕ)) → (x ≡ codes "K" → ⊥) → NamesNoSend xs → NamesNoSend (x ∷ xs)
 not_named x xs n h = rw (other_name x n) h
 
 not_named_append : (xs ys : List (List ℕ)) → NamesNoSend xs → NamesNoSend ys → NamesNoSend (xs ++ ys)

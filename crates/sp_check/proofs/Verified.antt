@@ -28,7 +28,7 @@ each_among : {A : Type 0} (xs ys : List A) → ((x : A) → Member x xs → Memb
 each_among [] ys h = tt
 each_among (x ∷ xs) ys h = (h x (inl refl), each_among xs ys (λ z m. h z (inr m)))
 
-every_itself : {A : Type 0} (xs : List A) → Every (λ x. Member x xs) xs
+pub every_itself : {A : Type 0} (xs : List A) → Every (λ x. Member x xs) xs
 every_itself xs = each_among xs xs (λ x m. m)
 
 module _ (theory : Theory) (p : IsPlainTheory theory)

@@ -1,9 +1,8 @@
--- The theories that the first form of texts spells: rules without symbols and without facts of the adversary, and one lemma of the
--- first form.
+-- The theories that are proved: rules without symbols and without facts of the adversary, and formulas of the same kind.
 use Rattle.sp_spec.specs.Lists.{Member, Every}
 use Rattle.sp_spec.specs.Term.{Term, var, constant, name, app, Terms, none, more}
 use Rattle.sp_spec.specs.Rule.{Fact, Action}
-use Rattle.sp_spec.specs.Formula.{Written}
+use Rattle.sp_spec.specs.Formula.{Written, Formula, truth, falsity, happens, equals, precedes, not_so, both, either, implies, for_all, for_some}
 use Rattle.sp_spec.specs.Written.{WrittenRule}
 use Rattle.sp_law_erase.specs.Adversary.{adversary_names}
 
@@ -28,3 +27,16 @@ pub record IsFirstRule (r : WrittenRule) : Type 0 where
   pub premises : Every IsFirstFact r.facts.premises
   pub actions : Every IsFirstAction r.facts.actions
   pub conclusions : Every IsFirstFact r.facts.conclusions
+
+abbrev pub IsFirstFormula : Formula → Type 0
+IsFirstFormula truth = Unit {0}
+IsFirstFormula falsity = Unit {0}
+IsFirstFormula (happens a i) = IsFirstAction a
+IsFirstFormula (equals t u) = IsAtomic t × IsAtomic u
+IsFirstFormula (precedes i j) = Unit {0}
+IsFirstFormula (not_so f) = IsFirstFormula f
+IsFirstFormula (both f g) = IsFirstFormula f × IsFirstFormula g
+IsFirstFormula (either f g) = IsFirstFormula f × IsFirstFormula g
+IsFirstFormula (implies f g) = IsFirstFormula f × IsFirstFormula g
+IsFirstFormula (for_all x f) = IsFirstFormula f
+IsFirstFormula (for_some x f) = IsFirstFormula f

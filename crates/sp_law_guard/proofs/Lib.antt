@@ -1,0 +1,15 @@
+pub mod Options
+pub mod Values
+pub mod Turned
+pub mod Meant
+pub mod Joined
+pub mod Kept
+pub mod Parts
+pub mod Proper
+pub mod Throughout
+pub mod Places
+pub mod Timed
+pub mod Named
+pub mod Closed
+pub mod Negated
+pub mod Checked
