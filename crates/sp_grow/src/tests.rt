@@ -3,7 +3,7 @@ use crate::class::least_class;
 use sp_moves::moves::Move;
 use sp_rule::Rule;
 use sp_system::fact::{Action, Facts};
-use sp_system::formula::{Atom, Binder, Existential, Formula, FormulaAction, FormulaTerm, Moment};
+use sp_system::formula::{Atom, Binder, Formula, FormulaAction, FormulaTerm, Moment};
 use sp_system::system::System;
 use sp_term::term::{Name, Sort, Term};
 use std::alloc::{AllocError, Global};
@@ -50,12 +50,8 @@ fn refuted(alloc: Global) -> Result<Formula, AllocError> {
     binders.push(Binder::Time)?;
     let mut guard = Vec::new(alloc);
     guard.push(action(alloc, FormulaTerm::Bound(0), Moment::Bound(0))?)?;
-    let body = Atom::Same(FormulaTerm::Bound(0), FormulaTerm::Bound(0));
-    Ok(Formula::Exists(Existential {
-        binders,
-        guard,
-        body,
-    }))
+    let body = Formula::Fails(Atom::Same(FormulaTerm::Bound(0), FormulaTerm::Bound(0)));
+    Ok(Formula::Exists(binders, guard, Box::new(alloc, body)?))
 }
 
 // A('c') at the time 0

@@ -5,7 +5,7 @@ use Rattle.sp_spec.specs.Guarded.{free}
 use Rattle.sp_system.specs.Change.{placed}
 use Rattle.sp_system.specs.declared.formula.FormulaTerm.{FormulaTerm}
 use Rattle.sp_system.specs.declared.formula.Atom.{Atom}
-use Rattle.sp_system.specs.declared.formula.Atom.TheVariants.{Acts, Same, SameTime}
+use Rattle.sp_system.specs.declared.formula.Atom.TheVariants.{Acts, Same, SameTime, Before}
 use Rattle.sp_system.specs.FormulaView.{placed_term, placed_terms, moment_of, atom_of}
 use Rattle.sp_check.specs.FirstForm.{has_place, has_place_in, has_message, is_at, has_time}
 use Rattle.sp_guard.proofs.Any.{any}
@@ -41,9 +41,11 @@ messages_any k [] = refl
 messages_any k (Acts a i ∷ atoms) = ap (λ (b : Bool). has_place_in k (placed_terms a.args.items) || b) (messages_any k atoms) ∙ or_false (has_place_in k (placed_terms a.args.items)) (any (shows_message k) atoms)
 messages_any k (Same t u ∷ atoms) = messages_any k atoms
 messages_any k (SameTime i j ∷ atoms) = messages_any k atoms
+messages_any k (Before i j ∷ atoms) = messages_any k atoms
 
 pub times_any : (k : ℕ) → (atoms : List Atom) → has_time k (map atom_of atoms) ≡ any (shows_time k) atoms
 times_any k [] = refl
 times_any k (Acts a i ∷ atoms) = ap (λ (b : Bool). is_at k (moment_of i) || b) (times_any k atoms) ∙ or_false (is_at k (moment_of i)) (any (shows_time k) atoms)
 times_any k (Same t u ∷ atoms) = times_any k atoms
 times_any k (SameTime i j ∷ atoms) = times_any k atoms
+times_any k (Before i j ∷ atoms) = times_any k atoms

@@ -109,7 +109,7 @@ pub fn is_guarded(formula: &Formula) -> bool
     ensures { result ≡ spec.is_guarded (formula_of formula.now) }
 {
     match formula {
-        Formula::Exists(existential) => each_guarded(&existential.binders, &existential.guard),
+        Formula::Exists(binders, guard, _) => each_guarded(binders, guard),
         _ => false,
     }
 }

@@ -9,7 +9,7 @@ ghost use Rattle.sp_guard.specs.View.{meant_of, happens_of, first_form, innermos
 
 use crate::meaning::{Meaning, meant};
 use sp_read_theory::{Mark, WrittenEvent, WrittenFormula, WrittenTerm, WrittenVariable};
-use sp_system::formula::{Atom, Binder, Existential, Formula, FormulaAction, FormulaTerm, Moment};
+use sp_system::formula::{Atom, Binder, Formula, FormulaAction, FormulaTerm, Moment};
 use sp_term::term::{Name, Sort, Term};
 use std::alloc::{AllocError, Global};
 
@@ -159,9 +159,6 @@ pub fn negation(alloc: Global, formula: &WrittenFormula) -> Result<Option<Formul
         return Ok(None);
     };
     let binders = marked_binders(alloc, &formula.binders)?;
-    Ok(Some(Formula::Exists(Existential {
-        binders,
-        guard,
-        body,
-    })))
+    let fails = Box::new(alloc, Formula::Fails(body))?;
+    Ok(Some(Formula::Exists(binders, guard, fails)))
 }

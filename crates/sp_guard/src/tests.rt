@@ -8,7 +8,7 @@ use std::alloc::Global;
 fn shape(alloc: Global, text: &[u8]) -> Option<(usize, usize)> {
     match read_theory(alloc, text) {
         Ok(Some(theory)) => match checked_negation(alloc, &theory.lemma.formula) {
-            Ok(Some(Formula::Exists(found))) => Some((found.binders.len(), found.guard.len())),
+            Ok(Some(Formula::Exists(binders, guard, _))) => Some((binders.len(), guard.len())),
             _ => None,
         },
         _ => None,

@@ -8,3 +8,4 @@ pub mod Spends
 pub mod Searches
 pub mod Turns
 pub mod Openings
+pub mod Sheltered

@@ -2,3 +2,4 @@ pub mod RowsView
 pub mod TwinsView
 pub mod SimplifyView
 pub mod OpeningView
+pub mod InsideView

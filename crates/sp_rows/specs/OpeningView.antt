@@ -1,13 +1,15 @@
 -- What stands for the variables of an existential formula that is opened.
 use Rattle.std.specs.Prelude.{ℕ, ◌+◌, List, [], ◌∷◌, ◌++◌, map, length}
 use Rattle.sp_spec.specs.Term.{Term, var}
-use Rattle.sp_spec.specs.Guarded.{Place, free, bound, free_time, bound_time, Binder, message, time, holds, fails, pushed}
+use Rattle.sp_spec.specs.Guarded.{Place, free, bound, free_time, bound_time, Binder, message, time, holds, pushed}
 use Rattle.sp_term.specs.View.{variable_of}
 use Rattle.sp_term.specs.declared.term.Variable.{Variable}
 use Rattle.sp_system.specs.System.{System}
 use Rattle.sp_system.specs.Change.{Change, atom_changed, changed, opening}
-use Rattle.sp_system.specs.FormulaView.{atom_of, binder_of}
-use Rattle.sp_system.specs.declared.formula.Existential.{Existential}
+use Rattle.sp_system.specs.FormulaView.{atom_of, binder_of, formula_of}
+use Rattle.sp_system.specs.declared.formula.Atom as memory_atom
+use Rattle.sp_system.specs.declared.formula.Binder as memory_binder
+use Rattle.sp_system.specs.declared.formula.Formula.{Formula}
 use Rattle.sp_step.specs.Rows as rows
 use Rattle.sp_rows.specs.RowsView.{spending_at}
 use Rattle.sp_rows.specs.declared.opening.NewVariables.{NewVariables}
@@ -34,8 +36,8 @@ abbrev pub put : Binder → ℕ → Change → Change
 put (message sort) n c = record { terms = c.terms; times = c.times; bound_terms = pushed (var (free (record { sort = sort; number = n }))) c.bound_terms; bound_times = c.bound_times }
 put time n c = record { terms = c.terms; times = c.times; bound_terms = c.bound_terms; bound_times = pushed (free_time n) c.bound_times }
 
-abbrev pub parts_of : Existential → rows.Existential
-parts_of e = record { binders = map binder_of e.binders.items; guard = map atom_of e.guard.items; body = fails (atom_of e.body) }
+abbrev pub parts_of : List memory_binder.Binder → List memory_atom.Atom → Formula → rows.Existential
+parts_of bs guard f = record { binders = map binder_of bs; guard = map atom_of guard; body = formula_of f }
 
 -- the existential formula at this position is opened
 abbrev pub opening_at : System → ℕ → rows.Existential → System

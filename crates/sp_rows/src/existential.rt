@@ -3,14 +3,14 @@
 ghost use Rattle.std.specs.Prelude.{◌≡◌, ◌<◌, ◌∷◌, ◌++◌, [], IfOk, length, map, option_map};
 ghost use Rattle.sp_spec.specs.Guarded.{holds};
 ghost use Rattle.sp_system.specs.Change.{atom_changed, changed};
-ghost use Rattle.sp_system.specs.FormulaView.{formula_of};
+ghost use Rattle.sp_system.specs.FormulaView.{atom_of, formula_of};
 ghost use Rattle.sp_system.specs.SystemView.{system_of};
 ghost use Rattle.sp_step.specs.Rows as rows;
 ghost use Rattle.sp_rows.specs.OpeningView.{change_of, opening_at, parts_of};
 
 use crate::opening::NewVariables;
 use crate::spend::spend_for;
-use sp_system::formula::{Existential, Formula};
+use sp_system::formula::{Atom, Binder, Formula};
 use sp_system::system::System;
 use std::alloc::{AllocError, Global};
 
@@ -18,15 +18,16 @@ use std::alloc::{AllocError, Global};
 fn opened_parts(
     alloc: Global,
     variables: &NewVariables,
-    formula: &Existential,
+    guard: &Vec<Atom>,
+    body: &Formula,
 ) -> Result<Vec<Formula>, AllocError>
-    ensures { IfOk result (λ fs. map formula_of fs.items ≡ map (λ a. holds (atom_changed (change_of variables.now) a)) (parts_of formula.now).guard ++ changed (change_of variables.now) (parts_of formula.now).body ∷ []) }
+    ensures { IfOk result (λ fs. map formula_of fs.items ≡ map (λ a. holds (atom_changed (change_of variables.now) a)) (map atom_of guard.now.items) ++ changed (change_of variables.now) (formula_of body.now) ∷ []) }
 {
     let mut made = Vec::new(alloc);
-    for atom in &formula.guard {
+    for atom in guard {
         made.push(Formula::Holds(variables.in_atom(alloc, atom)?))?;
     }
-    made.push(Formula::Fails(variables.in_atom(alloc, &formula.body)?))?;
+    made.push(variables.in_formula(alloc, body)?)?;
     Ok(made)
 }
 
@@ -35,13 +36,15 @@ fn open_at(
     alloc: Global,
     system: &System,
     position: usize,
-    formula: &Existential,
+    binders: &Vec<Binder>,
+    guard: &Vec<Atom>,
+    body: &Formula,
 ) -> Result<System, AllocError>
     requires { position < length system.now.formulas.items }
-    ensures { IfOk result (λ s. system_of s ≡ opening_at (system_of system.now) position (parts_of formula.now)) }
+    ensures { IfOk result (λ s. system_of s ≡ opening_at (system_of system.now) position (parts_of binders.now.items guard.now.items body.now)) }
 {
-    let variables = NewVariables::of(alloc, &formula.binders, system.next)?;
-    let parts = opened_parts(alloc, &variables, formula)?;
+    let variables = NewVariables::of(alloc, binders, system.next)?;
+    let parts = opened_parts(alloc, &variables, guard, body)?;
     let mut made = spend_for(alloc, system, position, parts)?;
     made.next = variables.next;
     Ok(made)
@@ -56,8 +59,8 @@ pub fn open_existential(alloc: Global, system: &System) -> Result<Option<System>
     ensures { IfOk result (λ o. option_map system_of o ≡ rows.open_existential (system_of system.now)) }
 {
     for (position, formula) in system.formulas.iter().enumerate() {
-        if let Formula::Exists(formula) = formula {
-            let made = open_at(alloc, system, position, formula)?;
+        if let Formula::Exists(binders, guard, body) = formula {
+            let made = open_at(alloc, system, position, binders, guard, body)?;
             return Ok(Some(made));
         }
     }

@@ -8,6 +8,7 @@
 pub mod contradiction;
 pub mod existential;
 pub mod inequality;
+pub mod inside;
 pub mod opening;
 pub mod simplify;
 pub mod spend;

@@ -6,7 +6,7 @@ use crate::spend::spend;
 use crate::stands::{action_stands, freed_action, has_action};
 use crate::twins::{fails_to_merge, fresh_once};
 use sp_system::fact::{Action, Fact, Facts};
-use sp_system::formula::{Atom, Binder, Existential, Formula, FormulaAction, FormulaTerm, Moment};
+use sp_system::formula::{Atom, Binder, Formula, FormulaAction, FormulaTerm, Moment};
 use sp_system::system::{Event, System};
 use sp_term::term::{Name, Sort, Term, Variable};
 use std::alloc::{AllocError, Global};
@@ -63,11 +63,8 @@ fn existential(alloc: Global) -> Result<Formula, AllocError> {
     let mut guard = Vec::new(alloc);
     guard.push(acts(alloc, FormulaTerm::Bound(0), Moment::Bound(0))?)?;
     guard.push(acts(alloc, FormulaTerm::Bound(1), Moment::Bound(1))?)?;
-    Ok(Formula::Exists(Existential {
-        binders,
-        guard,
-        body: Atom::Same(FormulaTerm::Bound(0), FormulaTerm::Bound(1)),
-    }))
+    let body = Formula::Fails(Atom::Same(FormulaTerm::Bound(0), FormulaTerm::Bound(1)));
+    Ok(Formula::Exists(binders, guard, Box::new(alloc, body)?))
 }
 
 // events at 2 and 3 with one Fr; the existential; the action of the event at 2; the fresh variable isn't 'c'; i isn't j
@@ -153,6 +150,86 @@ fn opens(rt: HostRuntime) -> Result<(), Fail> {
     assert_eq!(rt; numbers_at(open_existential(alloc, &given), 1)?, (6, 7));
     assert_eq!(rt; numbers_at(open_existential(alloc, &given), 2)?, (4, 5));
     assert_eq!(rt; numbers_at(open_existential(alloc, &given), 3)?, (6, 4));
+    Ok(())
+}
+
+// there are x and i with A(x) at i, and for all y and j with A(y) at j, that y is x, or that j is before i
+fn nested(alloc: Global) -> Result<Formula, AllocError> {
+    let mut guard = Vec::new(alloc);
+    guard.push(acts(alloc, FormulaTerm::Bound(0), Moment::Bound(0))?)?;
+    let mut within = Vec::new(alloc);
+    within.push(acts(alloc, FormulaTerm::Bound(0), Moment::Bound(0))?)?;
+    let mut either = Vec::new(alloc);
+    either.push(Formula::Holds(Atom::Same(FormulaTerm::Bound(0), FormulaTerm::Bound(1))))?;
+    either.push(Formula::Holds(Atom::Before(Moment::Bound(0), Moment::Bound(1))))?;
+    let inner = Formula::ForAll(
+        message_and_time(alloc)?,
+        within,
+        Box::new(alloc, Formula::OneOf(either))?,
+    );
+    Ok(Formula::Exists(message_and_time(alloc)?, guard, Box::new(alloc, inner)?))
+}
+
+fn message_and_time(alloc: Global) -> Result<Vec<Binder>, AllocError> {
+    let mut binders = Vec::new(alloc);
+    binders.push(Binder::Message(Sort::Msg))?;
+    binders.push(Binder::Time)?;
+    Ok(binders)
+}
+
+// the numbers in an equality and an order; a bound one is 50 and more
+fn numbers_of_either(formula: &Formula) -> (u128, u128, u128, u128) {
+    match formula {
+        Formula::OneOf(either) => match (either.first(), either.last()) {
+            (
+                Some(Formula::Holds(Atom::Same(left, right))),
+                Some(Formula::Holds(Atom::Before(first, second))),
+            ) => (
+                place_or_number(left),
+                place_or_number(right),
+                time_number(*first),
+                time_number(*second),
+            ),
+            _ => (97, 97, 97, 97),
+        },
+        _ => (98, 98, 98, 98),
+    }
+}
+
+fn numbers_within(formula: &Formula) -> (u128, u128, u128, u128) {
+    match formula {
+        Formula::ForAll(_, _, body) => numbers_of_either(body),
+        _ => (99, 99, 99, 99),
+    }
+}
+
+fn place_or_number(term: &FormulaTerm) -> u128 {
+    match term {
+        FormulaTerm::Bound(place) => 50 + u128::from(*place),
+        _ => number(term),
+    }
+}
+
+fn time_number(moment: Moment) -> u128 {
+    match moment {
+        Moment::Bound(place) => 50 + u128::from(place),
+        Moment::Free(time) => time,
+    }
+}
+
+#[test]
+fn opens_around_a_quantifier(rt: HostRuntime) -> Result<(), Fail> {
+    let alloc = rt.alloc();
+    let mut given = system(alloc, "R")?;
+    given.formulas.insert(0, nested(alloc)?)?;
+    let within = match open_existential(alloc, &given)? {
+        Some(made) => match made.formulas.get(1) {
+            Some(formula) => numbers_within(formula),
+            None => (96, 96, 96, 96),
+        },
+        None => (95, 95, 95, 95),
+    };
+    assert_eq!(rt; within, (50, 4, 50, 5));
     Ok(())
 }
 

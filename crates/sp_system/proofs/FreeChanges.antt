@@ -1,10 +1,10 @@
 -- A change of the system's variables and times is the same under binders.
-use Rattle.std.proofs.Common.{◌≡◌, ℕ, zero, suc, List, [], ◌∷◌, map, Bool, true, false, ◌==◌, if◌then◌else◌, refl, sym, ap, ◌∙◌}
+use Rattle.std.proofs.Common.{◌≡◌, ℕ, zero, suc, List, [], ◌∷◌, Bool, true, false, ◌==◌, if◌then◌else◌, refl, sym, ap, ◌∙◌}
 use Rattle.std.proofs.lemmas.Bool.{eqb-true}
 use Rattle.std.proofs.Math.Path.{fun_ext}
 use Rattle.sp_spec.specs.Term.{Variable, Term, var, valued}
-use Rattle.sp_spec.specs.Guarded.{Place, free, bound, Time, bound_time, Binder, message, time, Atom, some, fails, pushed}
-use Rattle.sp_system.specs.Change.{Change, placed, place_changed, under, under_message, under_time, atom_changed, changed, free_change}
+use Rattle.sp_spec.specs.Guarded.{Place, free, bound, Time, bound_time, Binder, message, time, pushed}
+use Rattle.sp_system.specs.Change.{Change, placed, place_changed, under, under_message, under_time, free_change}
 use Rattle.sp_system.specs.Equating.{time_replaced}
 use Rattle.sp_system.proofs.Values.{valued-valued}
 
@@ -31,11 +31,6 @@ module _ (terms : Variable → Term Variable) (times : ℕ → ℕ) where
   under-free_change [] = refl
   under-free_change (message sort ∷ bs) = ap (under bs) under_message-free_change ∙ under-free_change bs
   under-free_change (time ∷ bs) = ap (under bs) under_time-free_change ∙ under-free_change bs
-
-  -- so it changes the parts of a flat formula
-  pub changed-some : (bs : List Binder) (guard : List Atom) (a : Atom)
-      → changed (free_change terms times) (some bs guard (fails a)) ≡ some bs (map (atom_changed (free_change terms times)) guard) (fails (atom_changed (free_change terms times) a))
-  changed-some bs guard a = ap (λ (c : Change). some bs (map (atom_changed c) guard) (fails (atom_changed c a))) (under-free_change bs)
 
 -- no time changes where one replaces itself
 pub time_replaced-same : (i : ℕ) → time_replaced i i ≡ (λ k. k)

@@ -12,5 +12,5 @@ pub mod Unifying
 pub mod Unifier
 pub mod FreeChanges
 pub mod Rows
-pub mod Existentials
 pub mod Pairs
+pub mod Formulas

@@ -12,12 +12,11 @@ use Rattle.sp_system.specs.declared.formula.Moment.{Moment}
 use Rattle.sp_system.specs.declared.formula.Moment.TheVariants as moment
 use Rattle.sp_system.specs.declared.formula.FormulaAction.{FormulaAction}
 use Rattle.sp_system.specs.declared.formula.Atom.{Atom}
-use Rattle.sp_system.specs.declared.formula.Atom.TheVariants.{Acts, Same, SameTime}
+use Rattle.sp_system.specs.declared.formula.Atom.TheVariants.{Acts, Same, SameTime, Before}
 use Rattle.sp_system.specs.declared.formula.Binder.{Binder}
 use Rattle.sp_system.specs.declared.formula.Binder.TheVariants.{Message, Time}
-use Rattle.sp_system.specs.declared.formula.Existential.{Existential}
-use Rattle.sp_system.specs.declared.formula.Formula.{Formula}
-use Rattle.sp_system.specs.declared.formula.Formula.TheVariants.{Exists, Holds, Fails}
+use Rattle.sp_system.specs.declared.formula.Formula.{Formula, fold-Formula}
+use Rattle.sp_system.specs.declared.formula.Formula.TheOpen.{Formula-F}
 
 abbrev pub placed_term : FormulaTerm → Term Place
 placed_term (Bound k) = var (bound k)
@@ -41,15 +40,26 @@ abbrev pub atom_of : Atom → spec.Atom
 atom_of (Acts a i) = spec.acts (placed_action a) (moment_of i)
 atom_of (Same t u) = spec.same (placed_term t) (placed_term u)
 atom_of (SameTime i j) = spec.same_time (moment_of i) (moment_of j)
+atom_of (Before i j) = spec.before (moment_of i) (moment_of j)
 
 abbrev pub binder_of : Binder → spec.Binder
 binder_of (Message sort) = spec.message (sort_of sort)
 binder_of Time = spec.time
 
-abbrev pub existential_of : Existential → spec.Guarded
-existential_of e = spec.some (map binder_of e.binders.items) (map atom_of e.guard.items) (spec.fails (atom_of e.body))
+abbrev pub guardeds_of : List spec.Guarded → spec.Guardeds
+guardeds_of [] = spec.no_more
+guardeds_of (f ∷ fs) = spec.and_then f (guardeds_of fs)
+
+-- one level, with each formula inside already seen
+abbrev pub formula_step : Formula-F spec.Guarded → spec.Guarded
+formula_step Formula-F.Truth = spec.truth
+formula_step Formula-F.Falsity = spec.falsity
+formula_step (Formula-F.Holds a) = spec.holds (atom_of a)
+formula_step (Formula-F.Fails a) = spec.fails (atom_of a)
+formula_step (Formula-F.AllOf fs) = spec.all_of (guardeds_of fs.items)
+formula_step (Formula-F.OneOf fs) = spec.one_of (guardeds_of fs.items)
+formula_step (Formula-F.Exists bs guard f) = spec.some (map binder_of bs.items) (map atom_of guard.items) f.value
+formula_step (Formula-F.ForAll bs guard f) = spec.every (map binder_of bs.items) (map atom_of guard.items) f.value
 
 abbrev pub formula_of : Formula → spec.Guarded
-formula_of (Exists e) = existential_of e
-formula_of (Holds a) = spec.holds (atom_of a)
-formula_of (Fails a) = spec.fails (atom_of a)
+formula_of = fold-Formula spec.Guarded formula_step

@@ -1,4 +1,4 @@
-// Formulas of a system, in the flat form: an atom, the negation of one, or "there are" over atoms and the negation of one.
+// Guarded formulas of a system.
 
 ghost use Rattle.std.specs.Prelude.{◌≡◌, IfOk, map};
 ghost use Rattle.sp_spec.specs.Term.{var, valued, valued_all};
@@ -7,7 +7,7 @@ ghost use Rattle.sp_spec.specs.Substitution.{bound_to};
 ghost use Rattle.sp_term.specs.Bindings.{bindings};
 ghost use Rattle.sp_system.specs.Change.{place_changed, time_changed, atom_changed, changed, free_change};
 ghost use Rattle.sp_system.specs.Equating.{time_replaced};
-ghost use Rattle.sp_system.specs.FormulaView.{placed_term, placed_terms, placed_action, moment_of, atom_of, existential_of, formula_of};
+ghost use Rattle.sp_system.specs.FormulaView.{placed_term, placed_terms, placed_action, moment_of, atom_of, binder_of, formula_of};
 
 use sp_term::subst::{Subst, apply};
 use sp_term::term::{Name, Sort, Term, copy};
@@ -49,6 +49,8 @@ pub enum Atom {
     Same(FormulaTerm, FormulaTerm),
     /// the times are equal
     SameTime(Moment, Moment),
+    /// the first time is before the second
+    Before(Moment, Moment),
 }
 
 /// What a quantifier binds.
@@ -60,26 +62,25 @@ pub enum Binder {
     Time,
 }
 
-/// There are values of the binders for which each atom of the guard holds, and the body doesn't.
-#[derive(Debug, Drop)]
-pub struct Existential {
-    /// what is bound
-    pub binders: Vec<Binder>,
-    /// what holds
-    pub guard: Vec<Atom>,
-    /// what doesn't
-    pub body: Atom,
-}
-
-/// A formula in the flat form.
+/// A guarded formula: negation stands at atoms alone, and each quantifier has a guard.
 #[derive(Debug, Drop)]
 pub enum Formula {
-    /// some values
-    Exists(Existential),
+    /// what always holds
+    Truth,
+    /// what never does
+    Falsity,
     /// the atom holds
     Holds(Atom),
     /// the atom doesn't
     Fails(Atom),
+    /// each of the formulas holds
+    AllOf(Vec<Formula>),
+    /// one of the formulas holds
+    OneOf(Vec<Formula>),
+    /// there are values of the binders for which each atom of the guard holds, and the body
+    Exists(Vec<Binder>, Vec<Atom>, Box<Formula>),
+    /// for all values of the binders for which each atom of the guard holds, the body does
+    ForAll(Vec<Binder>, Vec<Atom>, Box<Formula>),
 }
 
 impl FormulaTerm {
@@ -185,6 +186,7 @@ impl Atom {
                 Ok(Atom::Same(left, right))
             }
             Atom::SameTime(first, second) => Ok(Atom::SameTime(*first, *second)),
+            Atom::Before(first, second) => Ok(Atom::Before(*first, *second)),
         }
     }
 
@@ -209,6 +211,10 @@ impl Atom {
                 Ok(Atom::Same(left, right))
             }
             Atom::SameTime(first, second) => Ok(Atom::SameTime(
+                first.changed(small, large),
+                second.changed(small, large),
+            )),
+            Atom::Before(first, second) => Ok(Atom::Before(
                 first.changed(small, large),
                 second.changed(small, large),
             )),
@@ -242,91 +248,39 @@ fn changed_atoms(
     Ok(made)
 }
 
-impl Existential {
-    /// An equal formula.
-    pub fn copy(&self, alloc: Global) -> Result<Existential, AllocError>
-        ensures { IfOk result (λ f. existential_of f ≡ existential_of self.now) }
-    {
-        let binders = self.binders.clone()?;
-        let guard = copy_atoms(alloc, &self.guard)?;
-        let body = self.body.copy(alloc)?;
-        Ok(Existential {
-            binders,
-            guard,
-            body,
-        })
-    }
-
-    /// The formula with each bound variable of the system replaced, and with `small` in place of `large`.
-    pub fn changed(
-        &self,
-        alloc: Global,
-        subst: &Subst,
-        small: u128,
-        large: u128,
-    ) -> Result<Existential, AllocError>
-        ensures { IfOk result (λ f. existential_of f ≡ changed (free_change (bound_to (bindings subst.now)) (time_replaced small large)) (existential_of self.now)) }
-    {
-        let binders = self.binders.clone()?;
-        let guard = changed_atoms(alloc, subst, small, large, &self.guard)?;
-        let body = self.body.changed(alloc, subst, small, large)?;
-        Ok(Existential {
-            binders,
-            guard,
-            body,
-        })
-    }
-}
-
 impl Formula {
     /// An equal formula.
+    #[cycle(copy)]
     pub fn copy(&self, alloc: Global) -> Result<Formula, AllocError>
         ensures { IfOk result (λ f. formula_of f ≡ formula_of self.now) }
     {
         match self {
-            Formula::Exists(formula) => {
-                let formula = formula.copy(alloc)?;
-                Ok(Formula::Exists(formula))
+            Formula::Truth => Ok(Formula::Truth),
+            Formula::Falsity => Ok(Formula::Falsity),
+            Formula::Holds(atom) => Ok(Formula::Holds(atom.copy(alloc)?)),
+            Formula::Fails(atom) => Ok(Formula::Fails(atom.copy(alloc)?)),
+            Formula::AllOf(formulas) => Ok(Formula::AllOf(copy_formulas(alloc, formulas)?)),
+            Formula::OneOf(formulas) => Ok(Formula::OneOf(copy_formulas(alloc, formulas)?)),
+            Formula::Exists(binders, guard, body) => {
+                let binders = copy_binders(alloc, binders)?;
+                let guard = copy_atoms(alloc, guard)?;
+                let body = body.copy(alloc)?;
+                let boxed = Box::new(alloc, body)?;
+                Ok(Formula::Exists(binders, guard, boxed))
             }
-            Formula::Holds(atom) => {
-                let atom = atom.copy(alloc)?;
-                Ok(Formula::Holds(atom))
-            }
-            Formula::Fails(atom) => {
-                let atom = atom.copy(alloc)?;
-                Ok(Formula::Fails(atom))
-            }
-        }
-    }
-
-    /// The formula with each bound variable of the system replaced, and with `small` in place of `large`.
-    pub fn changed(
-        &self,
-        alloc: Global,
-        subst: &Subst,
-        small: u128,
-        large: u128,
-    ) -> Result<Formula, AllocError>
-        ensures { IfOk result (λ f. formula_of f ≡ changed (free_change (bound_to (bindings subst.now)) (time_replaced small large)) (formula_of self.now)) }
-    {
-        match self {
-            Formula::Exists(formula) => {
-                let formula = formula.changed(alloc, subst, small, large)?;
-                Ok(Formula::Exists(formula))
-            }
-            Formula::Holds(atom) => {
-                let atom = atom.changed(alloc, subst, small, large)?;
-                Ok(Formula::Holds(atom))
-            }
-            Formula::Fails(atom) => {
-                let atom = atom.changed(alloc, subst, small, large)?;
-                Ok(Formula::Fails(atom))
+            Formula::ForAll(binders, guard, body) => {
+                let binders = copy_binders(alloc, binders)?;
+                let guard = copy_atoms(alloc, guard)?;
+                let body = body.copy(alloc)?;
+                let boxed = Box::new(alloc, body)?;
+                Ok(Formula::ForAll(binders, guard, boxed))
             }
         }
     }
 }
 
 /// Equal formulas.
+#[cycle(copy)]
 pub fn copy_formulas(alloc: Global, formulas: &Vec<Formula>) -> Result<Vec<Formula>, AllocError>
     ensures { IfOk result (λ fs. map formula_of fs.items ≡ map formula_of formulas.now.items) }
 {
@@ -337,7 +291,82 @@ pub fn copy_formulas(alloc: Global, formulas: &Vec<Formula>) -> Result<Vec<Formu
     Ok(made)
 }
 
+/// The same binders.
+pub fn copy_binders(alloc: Global, binders: &Vec<Binder>) -> Result<Vec<Binder>, AllocError>
+    ensures { IfOk result (λ bs. map binder_of bs.items ≡ map binder_of binders.now.items) }
+{
+    let mut made = Vec::with_capacity(alloc, binders.len())?;
+    for binder in binders {
+        made.push(*binder)?;
+    }
+    Ok(made)
+}
+
+impl Formula {
+    /// The formula with each bound variable of the system replaced, and with `small` in place of `large`.
+    #[cycle(changed)]
+    pub fn changed(
+        &self,
+        alloc: Global,
+        subst: &Subst,
+        small: u128,
+        large: u128,
+    ) -> Result<Formula, AllocError>
+        ensures { IfOk result (λ f. formula_of f ≡ changed (free_change (bound_to (bindings subst.now)) (time_replaced small large)) (formula_of self.now)) }
+    {
+        match self {
+            Formula::Truth => Ok(Formula::Truth),
+            Formula::Falsity => Ok(Formula::Falsity),
+            Formula::Holds(atom) => {
+                let atom = atom.changed(alloc, subst, small, large)?;
+                Ok(Formula::Holds(atom))
+            }
+            Formula::Fails(atom) => {
+                let atom = atom.changed(alloc, subst, small, large)?;
+                Ok(Formula::Fails(atom))
+            }
+            Formula::AllOf(formulas) => {
+                let formulas = changed_formulas(alloc, subst, small, large, formulas)?;
+                Ok(Formula::AllOf(formulas))
+            }
+            Formula::OneOf(formulas) => {
+                let formulas = changed_formulas(alloc, subst, small, large, formulas)?;
+                Ok(Formula::OneOf(formulas))
+            }
+            Formula::Exists(binders, guard, body) => {
+                let binders = copy_binders(alloc, binders)?;
+                let guard = changed_atoms(alloc, subst, small, large, guard)?;
+                let body = changed_body(alloc, subst, small, large, body)?;
+                Ok(Formula::Exists(binders, guard, body))
+            }
+            Formula::ForAll(binders, guard, body) => {
+                let binders = copy_binders(alloc, binders)?;
+                let guard = changed_atoms(alloc, subst, small, large, guard)?;
+                let body = changed_body(alloc, subst, small, large, body)?;
+                Ok(Formula::ForAll(binders, guard, body))
+            }
+        }
+    }
+}
+
+// The formula, in a box.
+#[cycle(changed)]
+fn changed_body(
+    alloc: Global,
+    subst: &Subst,
+    small: u128,
+    large: u128,
+    body: &Formula,
+) -> Result<Box<Formula>, AllocError>
+    ensures { IfOk result (λ f. formula_of f.value ≡ changed (free_change (bound_to (bindings subst.now)) (time_replaced small large)) (formula_of body.now)) }
+{
+    let made = body.changed(alloc, subst, small, large)?;
+    let boxed = Box::new(alloc, made)?;
+    Ok(boxed)
+}
+
 /// The formulas with each bound variable of the system replaced, and with `small` in place of `large`.
+#[cycle(changed)]
 pub fn changed_formulas(
     alloc: Global,
     subst: &Subst,

@@ -1,5 +1,5 @@
 use crate::fact::{Action, Fact, Facts};
-use crate::formula::{Atom, Binder, Existential, Formula, FormulaAction, FormulaTerm, Moment};
+use crate::formula::{Atom, Binder, Formula, FormulaAction, FormulaTerm, Moment};
 use crate::pairing::merging_pairs;
 use crate::system::{Event, System};
 use sp_term::subst::Subst;
@@ -66,14 +66,11 @@ fn formula(alloc: Global) -> Result<Formula, AllocError> {
         },
         Moment::Bound(0),
     ))?;
-    Ok(Formula::Exists(Existential {
-        binders,
-        guard,
-        body: Atom::Same(
-            FormulaTerm::Bound(0),
-            FormulaTerm::Free(Term::Var(variable(1))),
-        ),
-    }))
+    let body = Formula::Fails(Atom::Same(
+        FormulaTerm::Bound(0),
+        FormulaTerm::Free(Term::Var(variable(1))),
+    ));
+    Ok(Formula::Exists(binders, guard, Box::new(alloc, body)?))
 }
 
 fn system(alloc: Global) -> Result<System, AllocError> {
@@ -95,14 +92,18 @@ fn system(alloc: Global) -> Result<System, AllocError> {
 }
 
 // whether the body of the first formula says that its bound message is no fresh name 7
+fn says_of_bound(formula: &Formula) -> bool {
+    match formula {
+        Formula::Fails(Atom::Same(FormulaTerm::Bound(place), FormulaTerm::Free(term))) => {
+            *place == 0 && same(term, &Term::FreshName(7))
+        }
+        _ => false,
+    }
+}
+
 fn body_is_changed(system: &System) -> bool {
     match system.formulas.first() {
-        Some(Formula::Exists(formula)) => match &formula.body {
-            Atom::Same(FormulaTerm::Bound(place), FormulaTerm::Free(term)) => {
-                *place == 0 && same(term, &Term::FreshName(7))
-            }
-            _ => false,
-        },
+        Some(Formula::Exists(_, _, body)) => says_of_bound(body),
         _ => false,
     }
 }
@@ -135,6 +136,62 @@ fn changes(rt: HostRuntime) -> Result<(), Fail> {
     let copied = given.copy(alloc)?;
     let is_copied = body_is_changed(&copied);
     assert!(rt; !is_copied);
+    Ok(())
+}
+
+// both: for all x with A(x) at 2, falsity; and: 3 is before 2, or truth
+fn nested(alloc: Global) -> Result<Formula, AllocError> {
+    let mut args = Vec::new(alloc);
+    args.push(FormulaTerm::Bound(0))?;
+    let mut guard = Vec::new(alloc);
+    guard.push(Atom::Acts(
+        FormulaAction {
+            symbol: name(alloc, "A")?,
+            args,
+        },
+        Moment::Free(2),
+    ))?;
+    let mut binders = Vec::new(alloc);
+    binders.push(Binder::Message(Sort::Msg))?;
+    let body = Box::new(alloc, Formula::Falsity)?;
+    let mut either = Vec::new(alloc);
+    either.push(Formula::Holds(Atom::Before(Moment::Free(3), Moment::Free(2))))?;
+    either.push(Formula::Truth)?;
+    let mut both = Vec::new(alloc);
+    both.push(Formula::ForAll(binders, guard, body))?;
+    both.push(Formula::OneOf(either))?;
+    Ok(Formula::AllOf(both))
+}
+
+// the times of the action and of the order in the nested formula
+fn times_within(formula: &Formula) -> (u128, u128, u128) {
+    match formula {
+        Formula::AllOf(both) => match (both.first(), both.last()) {
+            (Some(Formula::ForAll(_, guard, _)), Some(Formula::OneOf(either))) => {
+                match (guard.first(), either.first()) {
+                    (
+                        Some(Atom::Acts(_, Moment::Free(at))),
+                        Some(
+                            Formula::Holds(Atom::Before(Moment::Free(first), Moment::Free(second))),
+                        ),
+                    ) => (*at, *first, *second),
+                    _ => (97, 97, 97),
+                }
+            }
+            _ => (98, 98, 98),
+        },
+        _ => (99, 99, 99),
+    }
+}
+
+#[test]
+fn changes_within(rt: HostRuntime) -> Result<(), Fail> {
+    let alloc = rt.alloc();
+    let given = nested(alloc)?;
+    let copied = given.copy(alloc)?;
+    assert_eq!(rt; times_within(&copied), (2, 3, 2));
+    let changed = given.changed(alloc, &Subst::new(alloc), 1, 2)?;
+    assert_eq!(rt; times_within(&changed), (1, 3, 1));
     Ok(())
 }
 

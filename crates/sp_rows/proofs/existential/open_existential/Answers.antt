@@ -3,6 +3,7 @@ use Rattle.sp_system.specs.System as spec
 use Rattle.sp_system.specs.declared.formula.Formula.{Formula}
 use Rattle.sp_system.specs.FormulaView.{formula_of}
 use Rattle.sp_system.specs.SystemView.{system_of}
+use Rattle.sp_system.proofs.Formulas.{some_shown}
 use Rattle.sp_step.specs.Rows as rows
 use Rattle.sp_rows.specs.OpeningView.{opening_at, parts_of}
 use Rattle.sp_rows.proofs.Positions.{open_existential-there}
@@ -20,9 +21,10 @@ returns-in-Exists c =
     let all = c.deref-formula-items.ensures.value in
     let within = subst (λ (fs : List Formula). i < length fs) all c.loop-position-test.true in
     let is = c.formula-item.is ∙ ap (λ (fs : List Formula). slice_index_or fs i f) all in
-    let found = left_found rows.existential_of c.args.system.now.formulas.items i f (parts_of c.in-Exists.formula) within is
-    (ap (λ (g : Formula). rows.existential_of (formula_of g)) c.in-Exists.is) c.loop-position.invariant in
-    ap Some c.in_ok-made.ensures ∙ ap (row s) (sym found) ∙ sym (open_existential-there s)
+    let found = left_found rows.existential_of c.args.system.now.formulas.items i f (parts_of c.in-Exists.binders.items c.in-Exists.guard.items c.in-Exists.body.value) within is
+    (ap (λ (g : Formula). rows.existential_of (formula_of g)) c.in-Exists.is ∙ ap rows.existential_of (some_shown c.in-Exists.binders c.in-Exists.guard c.in-Exists.body)) c.loop-position.invariant in
+    let opened = λ (g : Formula). opening_at s i (parts_of c.in-Exists.binders.items c.in-Exists.guard.items g) in
+    ap Some (c.in_ok-made.ensures ∙ ap opened c.deref.ensures) ∙ ap (row s) (sym found) ∙ sym (open_existential-there s)
 
 pub returns : goal.returns
 returns c =

@@ -6,11 +6,12 @@ use Rattle.sp_system.specs.declared.formula.FormulaTerm.{FormulaTerm}
 use Rattle.sp_system.specs.FormulaView.{placed_term}
 use Rattle.sp_system.proofs.FreeChanges.{valued-placed}
 use Rattle.sp_system.proofs.TermValues.{valued_var}
+use Rattle.sp_rows.specs.InsideView.{inside_of}
 use Rattle.sp_rows.specs.OpeningView.{change_of}
 use Rattle.sp_rows.proofs.opening.NewVariables.in_term.Goals as goal
 
 pub returns-in_ok-copy-in-Free : goal.returns-in_ok-copy-in-Free
 returns-in_ok-copy-in-Free c =
-    let d = change_of c.args.self.now in
+    let d = inside_of c.args.inside (change_of c.args.self.now) in
     ap placed (c.in_ok-copy-in-Free.ensures ∙ sym (valued_var (view c.in-Free.term)))
     ∙ sym (valued-placed d (view c.in-Free.term)) ∙ ap (λ (t : FormulaTerm). valued (place_changed d) (placed_term t)) (sym c.in-Free.is)

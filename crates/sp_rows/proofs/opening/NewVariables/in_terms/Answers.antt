@@ -3,8 +3,10 @@ use Rattle.std.proofs.lemmas.Grind.{common_steps}
 use Rattle.sp_system.specs.Change.{place_changed}
 use Rattle.sp_system.specs.FormulaView.{placed_term, row_of}
 use Rattle.sp_system.proofs.Rows.{row_of-valued}
+use Rattle.sp_rows.specs.InsideView.{inside_of}
 use Rattle.sp_rows.specs.OpeningView.{change_of}
 use Rattle.sp_rows.proofs.opening.NewVariables.in_terms.Goals as goal
 
 pub returns : goal.returns
-returns c = ap row_of (grind (arith, common_steps)) ∙ row_of-valued (place_changed (change_of c.args.self.now)) (map placed_term c.args.terms.now.items)
+returns c =
+    ap row_of (grind (arith, common_steps)) ∙ row_of-valued (place_changed (inside_of c.args.inside (change_of c.args.self.now))) (map placed_term c.args.terms.now.items)

@@ -4,8 +4,8 @@ use Rattle.sp_term.specs.Bindings.{bindings}
 use Rattle.sp_system.specs.Change.{changed, free_change}
 use Rattle.sp_system.specs.Equating.{time_replaced}
 use Rattle.sp_system.specs.FormulaView.{formula_of}
-use Rattle.sp_system.proofs.formula.changed_formulas.Given as goal
+use Rattle.sp_system.proofs.formula.+changed.Given as goal
 
-abbrev pub invariant-loop-formula : goal.invariant-loop-formula
-invariant-loop-formula l =
+abbrev pub invariant-changed_formulas-loop-formula : goal.invariant-changed_formulas-loop-formula
+invariant-changed_formulas-loop-formula l =
     map formula_of l.made.items ≡ map (changed (free_change (bound_to (bindings l.subst)) (time_replaced l.small l.large))) (map formula_of (take l.formula-index l.formula-items))
