@@ -1,11 +1,11 @@
 -- What begins as one kind of formula begins as no other kind.
-use Rattle.std.proofs.Common.{◌≡◌, ℕ, ◌+◌, Bool, true, false, not, ◌&&◌, List, ◌∷◌, Some, None, codes, refl, sym, subst, ◌∙◌}
+use Rattle.std.proofs.Common.{◌≡◌, ℕ, ◌+◌, Bool, true, false, not, ◌&&◌, List, ◌∷◌, None, codes, refl, sym, ◌∙◌}
 use Rattle.sp_lex.specs.declared.token.Sign.{Sign}
 use Rattle.sp_lex.specs.declared.token.Sign.TheVariants as s
 use Rattle.sp_lex.specs.Lexeme.{Lexeme, word, sign}
 use Rattle.sp_spec.specs.Term.{Term}
 use Rattle.sp_spec.specs.Rule.{Fact}
-use Rattle.sp_spec.specs.Formula.{Mark, Written, Formula}
+use Rattle.sp_spec.specs.Formula.{Written, Formula}
 use Rattle.sp_read_parts.specs.Names.{is_reserved, is_capital, is_adversarial, names_fact, mark_at}
 use Rattle.sp_read_parts.specs.Lists.{IsNotFirst, NoReading}
 use Rattle.sp_read_parts.specs.Parts as f

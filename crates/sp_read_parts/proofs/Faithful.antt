@@ -1,7 +1,7 @@
 -- What is read is spelled so by the grammar.
-use Rattle.std.proofs.Common.{◌≡◌, ℕ, List, ◌∷◌, true, false, refl}
+use Rattle.std.proofs.Common.{ℕ, List}
 use Rattle.sp_lex.specs.declared.token.Sign.TheVariants as s
-use Rattle.sp_lex.specs.Lexeme.{Lexeme, word, sign}
+use Rattle.sp_lex.specs.Lexeme.{Lexeme, sign}
 use Rattle.sp_spec.specs.Formula.{Formula}
 use Rattle.sp_read_parts.specs.Lists.{IsNotFirst}
 use Rattle.sp_read_parts.specs.Grammar as g

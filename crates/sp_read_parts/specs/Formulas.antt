@@ -1,5 +1,5 @@
 -- What a formula in memory stands for.
-use Rattle.std.specs.Prelude.{List, map}
+use Rattle.std.specs.Prelude.{map}
 use Rattle.sp_spec.specs.Formula as f
 use Rattle.sp_spec.specs.Formula.{Formula}
 use Rattle.sp_read_parts.specs.Shapes.{quantified}
