@@ -4,9 +4,9 @@ use Rattle.sp_spec.specs.Term.{count}
 use Rattle.sp_spec.specs.Rule.{Fact}
 use Rattle.sp_spec.specs.Formula.{Written}
 use Rattle.sp_spec.specs.Findings.{is_wide, has_wide_fact, has_wide_action, is_one, is_fresh_variable}
-use Rattle.sp_read_theory.specs.Shapes.{action_of, row}
+use Rattle.sp_read_parts.specs.Shapes.{action_of, row}
 use Rattle.sp_read_theory.specs.Views.{term}
-use Rattle.sp_read_theory.specs.declared.written.WrittenTerm.{WrittenTerm}
+use Rattle.sp_read_parts.specs.declared.written.WrittenTerm.{WrittenTerm}
 
 -- as many as are listed
 pub counted : (ts : List WrittenTerm) → count (row (map term ts)) ≡ length ts

@@ -4,10 +4,10 @@ use Rattle.std.proofs.lemmas.List.{append_assoc}
 use Rattle.sp_spec.specs.Rule.{Fact}
 use Rattle.sp_spec.specs.Formula.{Written}
 use Rattle.sp_spec.specs.Written.{in_facts, in_actions, in_terms, is_argument}
-use Rattle.sp_read_theory.specs.Shapes.{action_of, row}
+use Rattle.sp_read_parts.specs.Shapes.{action_of, row}
 use Rattle.sp_read_theory.specs.Views.{term}
-use Rattle.sp_read_theory.specs.declared.written.WrittenTerm.{WrittenTerm}
-use Rattle.sp_read_theory.specs.declared.written.WrittenTerm.TheVariants as v
+use Rattle.sp_read_parts.specs.declared.written.WrittenTerm.{WrittenTerm}
+use Rattle.sp_read_parts.specs.declared.written.WrittenTerm.TheVariants as v
 
 -- an action has the variables of its fact
 pub actions_as_facts : (fs : List (Fact Written)) → in_actions (map action_of fs) ≡ in_facts fs

@@ -4,10 +4,10 @@ use Rattle.sp_spec.specs.Formula.{Written}
 use Rattle.sp_spec.specs.Written.{in_term, in_terms}
 use Rattle.sp_spec.specs.Term.{count}
 use Rattle.sp_spec.specs.Findings.{is_wide}
-use Rattle.sp_read_theory.specs.declared.written.WrittenTerm.{WrittenTerm}
+use Rattle.sp_read_parts.specs.declared.written.WrittenTerm.{WrittenTerm}
 use Rattle.sp_read_theory.specs.declared.written.WrittenEvent.{WrittenEvent}
 use Rattle.sp_read_theory.specs.declared.written.WrittenFormula.{WrittenFormula}
-use Rattle.sp_read_theory.specs.Shapes.{row}
+use Rattle.sp_read_parts.specs.Shapes.{row}
 use Rattle.sp_read_theory.specs.Views.{term, variable, mark}
 use Rattle.sp_check.specs.FirstForm.{fits, each_fits, meant, happens_variables, has_wide_happening}
 use Rattle.sp_guard.specs.View.{happens_of, written_variables}

@@ -4,10 +4,10 @@ use Rattle.std.specs.Str.{bytes_eq}
 use Rattle.std.proofs.Math.Seq.{take-suc}
 use mathlib.Core.List.{map-append}
 use Rattle.sp_spec.specs.Formula.{Written}
-use Rattle.sp_read_theory.specs.declared.written.Mark.TheVariants.{Bare}
-use Rattle.sp_read_theory.specs.declared.written.WrittenTerm.{WrittenTerm}
-use Rattle.sp_read_theory.specs.declared.written.WrittenTerm.TheVariants.{Variable}
-use Rattle.sp_read_theory.specs.declared.written.WrittenVariable.{WrittenVariable}
+use Rattle.sp_read_parts.specs.declared.written.Mark.TheVariants.{Bare}
+use Rattle.sp_read_parts.specs.declared.written.WrittenTerm.{WrittenTerm}
+use Rattle.sp_read_parts.specs.declared.written.WrittenTerm.TheVariants.{Variable}
+use Rattle.sp_read_parts.specs.declared.written.WrittenVariable.{WrittenVariable}
 use Rattle.sp_read_theory.specs.Views.{variable}
 use Rattle.sp_check.specs.FirstForm.{Meant, binder_meant, past_binder, meant, reversed}
 use Rattle.sp_guard.specs.View.{innermost_first}

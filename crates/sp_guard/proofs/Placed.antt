@@ -3,9 +3,9 @@ use Rattle.std.proofs.Common.{◌≡◌, refl, sym, ap, ◌∙◌, List, [], ◌
 use Rattle.sp_spec.specs.Term.{Term, Terms, none, more}
 use Rattle.sp_spec.specs.Formula.{Written}
 use Rattle.sp_spec.specs.Guarded.{Place, Atom}
-use Rattle.sp_read_theory.specs.declared.written.WrittenTerm.{WrittenTerm}
+use Rattle.sp_read_parts.specs.declared.written.WrittenTerm.{WrittenTerm}
 use Rattle.sp_read_theory.specs.declared.written.WrittenEvent.{WrittenEvent}
-use Rattle.sp_read_theory.specs.Shapes.{row}
+use Rattle.sp_read_parts.specs.Shapes.{row}
 use Rattle.sp_read_theory.specs.Views.{term}
 use Rattle.sp_system.specs.FormulaView.{row_of}
 use Rattle.sp_check.specs.FirstForm.{placed_term, placed_terms, placed_action, placed_actions}

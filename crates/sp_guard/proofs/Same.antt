@@ -3,8 +3,8 @@ use Rattle.std.proofs.Common.{◌≡◌, refl, sym, ap, ◌∙◌, List, [], ◌
 use Rattle.sp_spec.specs.Formula.{Written, Formula, both, implies, for_all}
 use Rattle.sp_read_theory.specs.declared.written.WrittenEvent.{WrittenEvent}
 use Rattle.sp_read_theory.specs.declared.written.WrittenFormula.{WrittenFormula}
-use Rattle.sp_read_theory.specs.Shapes.{joined_after, quantified}
-use Rattle.sp_read_theory.specs.Shapes as shape
+use Rattle.sp_read_parts.specs.Shapes.{joined_after, quantified}
+use Rattle.sp_read_parts.specs.Shapes as shape
 use Rattle.sp_read_theory.specs.Views.{variable, event, equation}
 use Rattle.sp_read_theory.specs.Views as view
 use Rattle.sp_check.specs.FirstForm.{FirstForm, joined_with, for_each, formula_of}

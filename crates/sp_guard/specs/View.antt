@@ -1,8 +1,8 @@
 -- The first form that a written lemma has, and the meanings that code works with.
 use Rattle.std.specs.Prelude.{ℕ, List, [], ◌∷◌, ◌++◌, Option, Some, None, map}
 use Rattle.sp_spec.specs.Formula.{Written}
-use Rattle.sp_read_theory.specs.Shapes.{action_of}
-use Rattle.sp_read_theory.specs.declared.written.WrittenVariable.{WrittenVariable}
+use Rattle.sp_read_parts.specs.Shapes.{action_of}
+use Rattle.sp_read_parts.specs.declared.written.WrittenVariable.{WrittenVariable}
 use Rattle.sp_read_theory.specs.declared.written.WrittenEvent.{WrittenEvent}
 use Rattle.sp_read_theory.specs.declared.written.WrittenFormula.{WrittenFormula}
 use Rattle.sp_read_theory.specs.Views.{mark, variable, fact_of}

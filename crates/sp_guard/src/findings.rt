@@ -3,7 +3,7 @@
 ghost use Rattle.std.specs.Prelude.{◌≡◌, [], ◌∷◌, map, option_map};
 ghost use Rattle.sp_spec.specs.Findings as findings;
 ghost use Rattle.sp_spec.specs.Written.{in_term, in_terms};
-ghost use Rattle.sp_read_theory.specs.Shapes.{row};
+ghost use Rattle.sp_read_parts.specs.Shapes.{row};
 ghost use Rattle.sp_read_theory.specs.Views as view;
 ghost use Rattle.sp_system.specs.FormulaView.{placed_term, placed_terms, atom_of, binder_of, formula_of};
 ghost use Rattle.sp_check.specs.FirstForm as spec;

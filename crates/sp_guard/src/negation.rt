@@ -1,7 +1,7 @@
 //! The guarded negation of a lemma: there are values for which its actions happen, and its equality fails.
 
 ghost use Rattle.std.specs.Prelude.{◌≡◌, IfOk, map, option_map, option_and_then};
-ghost use Rattle.sp_read_theory.specs.Shapes.{row};
+ghost use Rattle.sp_read_parts.specs.Shapes.{row};
 ghost use Rattle.sp_read_theory.specs.Views as view;
 ghost use Rattle.sp_system.specs.FormulaView.{placed_term, placed_terms, moment_of, atom_of, binder_of, formula_of};
 ghost use Rattle.sp_check.specs.FirstForm as spec;

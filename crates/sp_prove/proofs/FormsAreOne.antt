@@ -3,7 +3,7 @@ use Rattle.std.proofs.Common.{◌≡◌, List, [], ◌∷◌, ◌++◌, refl, sy
 use Rattle.std.proofs.lemmas.List.{append-nil, append_assoc}
 use Rattle.sp_spec.specs.Term.{var}
 use Rattle.sp_spec.specs.Formula.{Written, Formula, truth, happens, equals, both, implies, for_all}
-use Rattle.sp_read_theory.specs.Shapes.{quantified}
+use Rattle.sp_read_parts.specs.Shapes.{quantified}
 use Rattle.sp_check.specs.FirstForm.{Happens, FirstForm, happens_of, joined_with, for_each, formula_of}
 
 -- the actions that are joined

@@ -8,9 +8,9 @@ use Rattle.sp_spec.specs.Rule.{Fact}
 use Rattle.sp_spec.specs.Formula.{Written}
 use Rattle.sp_spec.specs.Written.{WrittenRule}
 use Rattle.sp_law_erase.specs.Adversary.{adversary_names}
-use Rattle.sp_read_theory.specs.Lists.{AreParts, last, next, AreItems, empty, some}
-use Rattle.sp_read_theory.specs.Shapes.{row, action_of}
-use Rattle.sp_read_theory.specs.Names.{is_capital, is_reserved, is_adversarial, names_fact}
+use Rattle.sp_read_parts.specs.Lists.{AreParts, last, next, AreItems, empty, some}
+use Rattle.sp_read_parts.specs.Shapes.{row, action_of}
+use Rattle.sp_read_parts.specs.Names.{is_capital, is_reserved, is_adversarial, names_fact}
 use Rattle.sp_read_theory.specs.FirstForm.{IsPlainTerm, variable, fixed, IsTerm, unbracketed, brackets, arguments, IsNamedFact, named, IsFact, linear, persistent, AreFacts, facts, IsArrow, unlabelled, labelled, IsRule, rule}
 use Rattle.sp_check.specs.FirstTheory.{IsAtomic, AreAtomic, IsFirstFact, IsFirstAction, IsFirstRule}
 

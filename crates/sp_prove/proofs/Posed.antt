@@ -10,7 +10,7 @@ use Rattle.sp_read_theory.specs.declared.written.ReadTheory.{ReadTheory}
 use Rattle.sp_read_theory.specs.declared.written.WrittenEvent.{WrittenEvent}
 use Rattle.sp_read_theory.specs.declared.written.WrittenFormula.{WrittenFormula}
 use Rattle.sp_read_theory.specs.Text.{IsTextOf, IsNoText}
-use Rattle.sp_read_theory.specs.Shapes.{joined, quantified}
+use Rattle.sp_read_parts.specs.Shapes.{joined, quantified}
 use Rattle.sp_read_theory.specs.Views as view
 use Rattle.sp_check.specs.FirstForm.{FirstForm, formula_of, checked_negation}
 use Rattle.sp_guard.specs.View.{first_form, with_events}

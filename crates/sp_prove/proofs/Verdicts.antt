@@ -15,9 +15,9 @@ use Rattle.sp_spec.specs.Findings.{has_wide_fact, has_wide_action, has_two_sorts
 use Rattle.sp_spec.specs.Guarded.{Guarded}
 use Rattle.sp_spec.specs.Verdict.{HoldsInAll}
 use Rattle.sp_law_erase.specs.Adversary.{adversary_names}
-use Rattle.sp_read_theory.specs.Lists.{AreParts, last, next}
-use Rattle.sp_read_theory.specs.Shapes.{Event, action_of, happens_at, joined_after, joined, quantified, equal}
-use Rattle.sp_read_theory.specs.Shapes as shape
+use Rattle.sp_read_parts.specs.Lists.{AreParts, last, next}
+use Rattle.sp_read_parts.specs.Shapes.{Event, action_of, happens_at, joined_after, joined, quantified, equal}
+use Rattle.sp_read_parts.specs.Shapes as shape
 use Rattle.sp_read_theory.specs.FirstForm.{IsEvent, happening, equation, IsFormula, for_all_events, IsLemma, lemma, IsFirstForm, first_form}
 use Rattle.sp_read_theory.specs.Text.{IsTextOf}
 use Rattle.sp_check.specs.FirstForm.{Happens, FirstForm, joined_with, formula_of, checked_negation, root}

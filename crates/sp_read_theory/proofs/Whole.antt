@@ -13,8 +13,9 @@ use Rattle.sp_spec.specs.Written.{WrittenRule, WrittenTheory}
 use Rattle.sp_read_theory.specs.FirstForm.{IsNotFirst, NoReading, IsRule, IsLemma, IsOpening, theory_of, IsFirstForm, first_form, IsNoForm}
 use Rattle.sp_read_theory.specs.Text.{IsTextOf, IsNoText, ArePlaces}
 use Rattle.sp_read_theory.specs.Views.{seen_from}
-use Rattle.sp_read_theory.proofs.One.{One, opening_one, rule_one, lemma_one}
-use Rattle.sp_read_theory.proofs.Sequence.{Then, no_first, no_second}
+use Rattle.sp_read_parts.proofs.One.{One}
+use Rattle.sp_read_theory.proofs.One.{opening_one, rule_one, lemma_one}
+use Rattle.sp_read_parts.proofs.Sequence.{Then, no_first, no_second}
 
 pub form_at : {w : List ℕ} {r : WrittenRule} {l : Lemma} {tokens body mid last : List Lexeme} → IsOpening tokens w body → IsRule body r mid → IsLemma mid l last → last ≡ word (codes "end") ∷ [] → IsFirstForm tokens (theory_of w r l)
 form_at {l = l} {mid = m} h i j e = first_form h i (subst (λ (ts : List Lexeme). IsLemma m l ts) e j)

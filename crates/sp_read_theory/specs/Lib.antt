@@ -1,6 +1,3 @@
-pub mod Names
-pub mod Lists
-pub mod Shapes
 pub mod Grammar
 pub mod FirstForm
 pub mod Views

@@ -3,13 +3,13 @@ ghost use Rattle.sp_read_theory.specs.FirstForm.{NoReading, AreParts, AreFacts, 
 ghost use Rattle.sp_read_theory.specs.Views as view;
 ghost use Rattle.sp_read_theory.specs.Views.{seen_from};
 
-use crate::cursor::{after, behind};
-use crate::facts::{fact, fact_list};
-use crate::terms::{name, variable};
-use crate::written::{
-    WrittenEvent, WrittenFact, WrittenFormula, WrittenLemma, WrittenRule, WrittenVariable,
-};
+use crate::written::{WrittenEvent, WrittenFormula, WrittenLemma, WrittenRule};
 use sp_lex::{Sign, Token};
+use sp_read_parts::binders::binders;
+use sp_read_parts::cursor::{after, behind};
+use sp_read_parts::facts::{fact, fact_list};
+use sp_read_parts::terms::{name, variable};
+use sp_read_parts::{WrittenFact, WrittenVariable};
 use std::alloc::{AllocError, Global};
 
 /// Facts in their brackets, and the place behind them.
@@ -98,41 +98,6 @@ pub fn rule<'a>(
     )))
 }
 
-/// Puts a variable at the end.
-fn push_variable<'a>(
-    found: &mut Vec<WrittenVariable<'a>>,
-    next: WrittenVariable<'a>,
-) -> Result<(), AllocError>
-    ensures { OnOk result (map view.variable found.new.items ≡ map view.variable found.old.items ++ view.variable next.entry ∷ []) }
-{
-    found.push(next)?;
-    Ok(())
-}
-
-/// Variables up to a dot, and the place behind it.
-#[tactic(auto, using(crate::proofs::Missing::bindings))]
-fn binders<'a>(
-    alloc: Global,
-    tokens: &[Token<'a>],
-    at: usize,
-) -> Result<Option<(Vec<WrittenVariable<'a>>, usize)>, AllocError>
-    ensures value { IfOk result (λ o. MatchOption o (NoReading AreBinders (seen_from tokens.now at)) (λ x. AreBinders (seen_from tokens.now at) (map view.variable x.0.items) (seen_from tokens.now x.1))) }
-    ensures further { IfOk result (λ o. IfSome o (λ x. (at < x.1) × (x.1 ≤ length tokens.now))) }
-{
-    let mut found = Vec::new(alloc);
-    let mut rest = at;
-    loop {
-        let Some((next, ahead)) = variable(tokens, rest) else {
-            return Ok(None);
-        };
-        push_variable(&mut found, next)?;
-        if let Some(end) = after(Sign::Dot, tokens, ahead) {
-            return Ok(Some((found, end)));
-        }
-        rest = ahead;
-    }
-}
-
 /// An action at a time, and the place behind it.
 #[tactic(auto, using(crate::proofs::Missing::happenings))]
 fn event<'a>(
@@ -167,7 +132,7 @@ fn push_event<'a>(
 }
 
 /// Events joined by `&` up to `==>`, and the place behind it.
-#[tactic(auto, using(crate::proofs::Loops::loops))]
+#[tactic(auto, using(sp_read_parts::proofs::Loops::loops))]
 fn events<'a>(
     alloc: Global,
     tokens: &[Token<'a>],

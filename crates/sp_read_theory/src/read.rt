@@ -6,10 +6,10 @@ ghost use Rattle.sp_read_theory.specs.Text.{IsTextOf, IsNoText, ArePlaces};
 ghost use Rattle.sp_read_theory.specs.Views as view;
 ghost use Rattle.sp_read_theory.specs.Views.{seen};
 
-use crate::cursor::behind;
 use crate::items::{lemma, opening, rule};
 use crate::written::ReadTheory;
 use sp_lex::{LexError, Lexeme, Sign, Token, tokens};
+use sp_read_parts::cursor::behind;
 use std::alloc::{AllocError, Global};
 
 /// Whether it is a double quote.

@@ -1,39 +1,4 @@
-/// How a text marks a variable.
-#[derive(Clone, Copy)]
-pub enum Mark {
-    /// `x`
-    Bare,
-    /// `~x` or `x:fresh`
-    Fresh,
-    /// `$x` or `x:pub`
-    Public,
-    /// `x:msg`
-    Message,
-    /// `#i` or `i:node`
-    Time,
-}
-
-/// A variable as it is written.
-#[derive(Clone, Copy)]
-pub struct WrittenVariable<'a> {
-    pub name: &'a str,
-    pub mark: Mark,
-}
-
-/// A term as it is written, without its brackets.
-#[derive(Clone, Copy)]
-pub enum WrittenTerm<'a> {
-    Variable(WrittenVariable<'a>),
-    Constant(&'a str),
-}
-
-/// A fact, or an action, in which the mark of persistence says nothing.
-#[derive(Drop)]
-pub struct WrittenFact<'a> {
-    pub symbol: &'a str,
-    pub persistent: bool,
-    pub arguments: Vec<WrittenTerm<'a>>,
-}
+use sp_read_parts::{WrittenFact, WrittenVariable};
 
 /// A rule as it is written.
 #[derive(Drop)]

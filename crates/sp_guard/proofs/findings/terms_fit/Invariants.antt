@@ -1,6 +1,6 @@
 use Rattle.std.proofs.Common.{◌≡◌, take, true}
 use Rattle.sp_spec.specs.Written.{in_term}
-use Rattle.sp_read_theory.specs.declared.written.WrittenTerm.{WrittenTerm}
+use Rattle.sp_read_parts.specs.declared.written.WrittenTerm.{WrittenTerm}
 use Rattle.sp_read_theory.specs.Views.{term}
 use Rattle.sp_check.specs.FirstForm.{each_fits}
 use Rattle.sp_guard.specs.View.{innermost_first}

@@ -1,7 +1,7 @@
 use Rattle.std.proofs.Common.{◌≡◌, sym, ap, ◌∙◌, List, Option, map, option_map}
 use Rattle.sp_spec.specs.Guarded.{Place}
 use Rattle.sp_spec.specs.Term.{Term}
-use Rattle.sp_read_theory.specs.declared.written.WrittenTerm.{WrittenTerm}
+use Rattle.sp_read_parts.specs.declared.written.WrittenTerm.{WrittenTerm}
 use Rattle.sp_read_theory.specs.Views.{term}
 use Rattle.sp_system.specs.FormulaView.{placed_term, row_of}
 use Rattle.sp_check.specs.FirstForm as spec

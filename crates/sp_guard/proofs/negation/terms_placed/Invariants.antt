@@ -1,5 +1,5 @@
 use Rattle.std.proofs.Common.{◌≡◌, map, take, Some}
-use Rattle.sp_read_theory.specs.declared.written.WrittenTerm.{WrittenTerm}
+use Rattle.sp_read_parts.specs.declared.written.WrittenTerm.{WrittenTerm}
 use Rattle.sp_read_theory.specs.Views as view
 use Rattle.sp_system.specs.FormulaView.{placed_term}
 use Rattle.sp_check.specs.FirstForm as spec

@@ -1,6 +1,6 @@
 use Rattle.std.proofs.Common.{arith}
 use Rattle.sp_read_theory.proofs.One.{events}
-use Rattle.sp_read_theory.proofs.Loops.{going_more, going_no_sign}
+use Rattle.sp_read_parts.proofs.Loops.{going_more, going_no_sign}
 use Rattle.sp_read_theory.proofs.items.events.Goals as goal
 
 pub loop-found-preserved : goal.loop-found-preserved

@@ -3,7 +3,7 @@ use Rattle.sp_lex.specs.declared.token.Sign.TheVariants as s
 use Rattle.sp_read_theory.specs.FirstForm.{IsEvent}
 use Rattle.sp_read_theory.specs.Views as view
 use Rattle.sp_read_theory.specs.Views.{seen_from}
-use Rattle.sp_read_theory.proofs.Loops.{Going}
+use Rattle.sp_read_parts.proofs.Loops.{Going}
 use Rattle.sp_read_theory.proofs.items.events.Given as goal
 
 abbrev pub invariant-loop-found : goal.invariant-loop-found

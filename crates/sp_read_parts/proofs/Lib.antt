@@ -1,0 +1,12 @@
+pub mod One
+pub mod Steps
+pub mod Loops
+pub mod Sequence
+pub mod Bindings
+pub mod Spelled
+pub mod Atomic
+pub mod OneFormula
+pub mod Stuck
+pub mod Faithful
+pub mod Apart
+pub mod Taken

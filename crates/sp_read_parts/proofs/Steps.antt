@@ -1,0 +1,210 @@
+-- What a part begins with says which way it is read; each way to get stuck leaves no reading.
+use Rattle.std.proofs.Common.{◌≡◌, ℕ, ◌+◌, ◌<◌, ◌≤◌, Bool, true, false, List, [], ◌∷◌, Some, None, refl, sym, ap, subst, ◌∙◌, arith}
+use Rattle.sp_lex.specs.declared.token.Sign.{Sign}
+use Rattle.sp_lex.specs.declared.token.Sign.TheVariants as s
+use Rattle.sp_lex.specs.Lexeme.{Lexeme, word, constant, sign}
+use Rattle.sp_spec.specs.Term.{Term, var}
+use Rattle.sp_spec.specs.Term as t
+use Rattle.sp_spec.specs.Rule.{Fact}
+use Rattle.sp_spec.specs.Formula.{Mark, Written}
+use Rattle.sp_read_parts.specs.Names.{IsName, names_fact, mark_of, mark_at}
+use Rattle.sp_read_parts.specs.Lists.{IsNotFirst, IsNoWord, NoReading, AreItems}
+use Rattle.sp_read_parts.specs.Shapes.{written, fact}
+use Rattle.sp_read_parts.specs.Parts.{IsNameFirst, name, IsSort, sort, IsVariable, marked, sorted, plain, IsPlainTerm, variable, fixed, IsTerm, unbracketed, brackets, AreArguments, arguments, IsNamedFact, named, IsFact, linear, persistent}
+use Rattle.sp_read_parts.proofs.One.{variable_constant, variable_sign, plain_sign, term_one}
+
+-- ---- names and variables
+
+pub name_at : {w : List ℕ} {tokens rest : List Lexeme} → tokens ≡ word w ∷ rest → IsName w → IsNameFirst tokens w rest
+name_at e h = rw e (name h)
+
+pub name_no_word : {tokens : List Lexeme} → IsNoWord tokens → NoReading IsNameFirst tokens
+name_no_word {tokens} d = record { none = λ w rest h. at h d }
+  where
+    at : {ts r : List Lexeme} {w : List ℕ} → IsNameFirst ts w r → IsNoWord ts → ⊥
+    at (name {w = w} {rest = r} h) d = d w r refl
+
+pub name_reserved : {w : List ℕ} {tokens rest : List Lexeme} → tokens ≡ word w ∷ rest → (IsName w → ⊥) → NoReading IsNameFirst tokens
+name_reserved {w} e d = record { none = λ u r h. at h e d }
+  where
+    at : {ts r rest : List Lexeme} {u w : List ℕ} → IsNameFirst ts u r → ts ≡ word w ∷ rest → (IsName w → ⊥) → ⊥
+    at (name {w = u} h) e d = let f : u ≡ _ = cc in d (subst IsName f h)
+
+pub marked_at : {x : Sign} {m : Mark} {w : List ℕ} {tokens after rest : List Lexeme} → tokens ≡ sign x ∷ after → Some m ≡ mark_at x → IsNameFirst after w rest → IsVariable tokens (written w m) rest
+marked_at e m h = rw e (marked (sym m) h)
+
+pub sort_at : {k : List ℕ} {m : Mark} {tokens rest : List Lexeme} → tokens ≡ word k ∷ rest → Some m ≡ mark_of k → IsSort tokens m rest
+sort_at e m = rw e (sort (sym m))
+
+pub sort_no_word : {tokens : List Lexeme} → IsNoWord tokens → NoReading IsSort tokens
+sort_no_word {tokens} d = record { none = λ m r h. at h d }
+  where
+    at : {ts r : List Lexeme} {m : Mark} → IsSort ts m r → IsNoWord ts → ⊥
+    at (sort {k = k} {rest = r} h) d = d k r refl
+
+pub sort_unknown : {k : List ℕ} {tokens rest : List Lexeme} → tokens ≡ word k ∷ rest → None ≡ mark_of k → NoReading IsSort tokens
+sort_unknown {k} e n = record { none = λ m r h. at h e n }
+  where
+    at : {k : List ℕ} {ts r rest : List Lexeme} {m : Mark} → IsSort ts m r → ts ≡ word k ∷ rest → None ≡ mark_of k → ⊥
+    at {k} (sort {k = c} {m = m} h) e n = let g : k ≡ c = cc in let j : None ≡ Some m = n ∙ ap mark_of g ∙ h in cc
+
+pub sorted_at : {w : List ℕ} {m : Mark} {tokens mid behind rest : List Lexeme} → IsNameFirst tokens w mid → mid ≡ sign s.Colon ∷ behind → IsSort behind m rest → IsVariable tokens (written w m) rest
+sorted_at h e k = sorted (rw e at h) k
+
+pub variable_nil : {tokens : List Lexeme} → tokens ≡ [] → NoReading IsVariable tokens
+variable_nil e = record { none = λ v r h. at h e }
+  where
+    at : {ts r : List Lexeme} {v : Written} → IsVariable ts v r → ts ≡ [] → ⊥
+    at (marked m h) e = cc
+    at (sorted (name h) m) e = cc
+    at (plain (name h) m) e = cc
+
+pub variable_no_mark : {x : Sign} {tokens after : List Lexeme} → tokens ≡ sign x ∷ after → None ≡ mark_at x → NoReading IsVariable tokens
+variable_no_mark e n = record { none = λ v r h. variable_sign (sym n) (subst (λ (ts : List Lexeme). IsVariable ts v r) e h) }
+
+pub variable_no_name : {x : Sign} {tokens after : List Lexeme} → tokens ≡ sign x ∷ after → NoReading IsNameFirst after → NoReading IsVariable tokens
+variable_no_name e n = record { none = λ v r h. at (subst (λ (ts : List Lexeme). IsVariable ts v r) e h) n }
+  where
+    at : {x : Sign} {ts r : List Lexeme} {v : Written} → IsVariable (sign x ∷ ts) v r → NoReading IsNameFirst ts → ⊥
+    at (marked {w = w} {rest = r} m h) n = n.none w r h
+    at (sorted h m) n = elim h [ ]
+    at (plain h m) n = elim h [ ]
+
+pub variable_no_constant : {c : List ℕ} {tokens after : List Lexeme} → tokens ≡ constant c ∷ after → NoReading IsVariable tokens
+variable_no_constant e = record { none = λ v r h. variable_constant (subst (λ (ts : List Lexeme). IsVariable ts v r) e h) }
+
+pub variable_reserved : {w : List ℕ} {tokens after : List Lexeme} → tokens ≡ word w ∷ after → NoReading IsNameFirst tokens → NoReading IsVariable tokens
+variable_reserved e n = record { none = λ v r h. at h e n }
+  where
+    at : {ts r after : List Lexeme} {w : List ℕ} {v : Written} → IsVariable ts v r → ts ≡ word w ∷ after → NoReading IsNameFirst ts → ⊥
+    at (marked m h) e n = cc
+    at (sorted {w = w} h m) e n = n.none w _ h
+    at (plain {w = w} {rest = r} h m) e n = n.none w r h
+
+pub variable_no_sort : {w : List ℕ} {tokens mid behind : List Lexeme} → IsNameFirst tokens w mid → mid ≡ sign s.Colon ∷ behind → NoReading IsSort behind → NoReading IsVariable tokens
+variable_no_sort h e n = record { none = λ v r k. at h e n k }
+  where
+    at : {w : List ℕ} {tokens mid behind rest : List Lexeme} {v : Written} → IsNameFirst tokens w mid → mid ≡ sign s.Colon ∷ behind → NoReading IsSort behind → IsVariable tokens v rest → ⊥
+    at (name i) e n (sorted {m = m} {behind = b} {rest = r} (name h) k) = n.none m r (subst (λ (ts : List Lexeme). IsSort ts m r) (cc) k)
+    at {behind = b} (name i) e n (plain (name h) d) = d b e
+
+pub ruleset names = (name_at, name_no_word, name_reserved)
+
+pub ruleset sorts = (sort_at, sort_no_word, sort_unknown)
+
+pub ruleset variables = (marked_at, sorted_at, plain, variable_nil, variable_no_mark, variable_no_name, variable_no_constant, variable_reserved, variable_no_sort)
+
+-- ---- terms and facts
+
+pub fixed_at : {c : List ℕ} {tokens rest : List Lexeme} → tokens ≡ constant c ∷ rest → IsPlainTerm tokens (t.constant c) rest
+fixed_at e = rw e fixed
+
+pub plain_nil : {tokens : List Lexeme} → tokens ≡ [] → NoReading IsPlainTerm tokens
+plain_nil e = record { none = λ x r h. at h e }
+  where
+    at : {ts r : List Lexeme} {x : Term Written} → IsPlainTerm ts x r → ts ≡ [] → ⊥
+    at (variable {v = v} {rest = r} h) e = (variable_nil e).none v r h
+    at fixed e = cc
+
+-- a plain term that does not begin with a constant is a variable
+no_plain : {first : Lexeme} {tokens after : List Lexeme} → ((c : List ℕ) → first ≡ constant c → ⊥) → tokens ≡ first ∷ after → NoReading IsVariable tokens → NoReading IsPlainTerm tokens
+no_plain {first} d e n = record { none = λ x r h. at h e n d }
+  where
+    at : {first : Lexeme} {ts r after : List Lexeme} {x : Term Written} → IsPlainTerm ts x r → ts ≡ first ∷ after → NoReading IsVariable ts → ((c : List ℕ) → first ≡ constant c → ⊥) → ⊥
+    at (variable {v = v} {rest = r} h) e n d = n.none v r h
+    at (fixed {c = c}) e n d = d c cc
+
+pub plain_no_word : {w : List ℕ} {tokens after : List Lexeme} → tokens ≡ word w ∷ after → NoReading IsVariable tokens → NoReading IsPlainTerm tokens
+plain_no_word e n = no_plain (λ c g. cc) e n
+
+pub plain_no_sign : {x : Sign} {tokens after : List Lexeme} → tokens ≡ sign x ∷ after → NoReading IsVariable tokens → NoReading IsPlainTerm tokens
+plain_no_sign e n = no_plain (λ c g. cc) e n
+
+pub brackets_at : {n : ℕ} {x : Term Written} {tokens inside ahead rest : List Lexeme} → tokens ≡ sign s.Open ∷ inside → n < 128 → IsTerm (n + 1) inside x ahead → ahead ≡ sign s.Close ∷ rest → IsTerm n tokens x rest
+brackets_at e lt h f = rw e (brackets lt (rw f at h))
+
+pub term_no_plain : {n : ℕ} {tokens : List Lexeme} → IsNotFirst (sign s.Open) tokens → NoReading IsPlainTerm tokens → NoReading (IsTerm n) tokens
+term_no_plain {n} d k = record { none = λ x r h. at h d k }
+  where
+    at : {ts r : List Lexeme} {x : Term Written} → IsTerm n ts x r → IsNotFirst (sign s.Open) ts → NoReading IsPlainTerm ts → ⊥
+    at (unbracketed {x = x} {rest = r} h) d k = k.none x r h
+    at (brackets {tokens = ts} lt h) d k = d ts refl
+
+under_bracket : {n : ℕ} {tokens inside rest : List Lexeme} {x : Term Written} → tokens ≡ sign s.Open ∷ inside → IsTerm n tokens x rest → (n < 128) × IsTerm (n + 1) inside x (sign s.Close ∷ rest)
+under_bracket {n} {rest = rest} {x = x} e h = at (subst (λ (ts : List Lexeme). IsTerm n ts x rest) e h)
+  where
+    at : {n : ℕ} {inside rest : List Lexeme} {x : Term Written} → IsTerm n (sign s.Open ∷ inside) x rest → (n < 128) × IsTerm (n + 1) inside x (sign s.Close ∷ rest)
+    at (unbracketed h) = absurd (plain_sign refl h)
+    at (brackets lt h) = (lt, h)
+
+pub term_too_deep : {n : ℕ} {tokens inside : List Lexeme} → tokens ≡ sign s.Open ∷ inside → 128 ≤ n → NoReading (IsTerm n) tokens
+term_too_deep e le = record { none = λ x r h. let i = under_bracket e h in omega (arith, i.0) }
+
+pub term_no_inside : {n : ℕ} {tokens inside : List Lexeme} → tokens ≡ sign s.Open ∷ inside → NoReading (IsTerm (n + 1)) inside → NoReading (IsTerm n) tokens
+term_no_inside e k = record { none = λ x r h. k.none x (sign s.Close ∷ r) (under_bracket e h).1 }
+
+pub term_unclosed : {n : ℕ} {y : Term Written} {tokens inside ahead : List Lexeme} → tokens ≡ sign s.Open ∷ inside → IsTerm (n + 1) inside y ahead → IsNotFirst (sign s.Close) ahead → NoReading (IsTerm n) tokens
+term_unclosed e k d = record { none = λ x r h. d r (term_one k (under_bracket e h).1).1 }
+
+pub arguments_at : {n : ℕ} {args : List (Term Written)} {tokens inside rest : List Lexeme} → tokens ≡ sign s.Open ∷ inside → n < 128 → AreItems (IsTerm (n + 1)) s.Close inside args rest → AreArguments n tokens args rest
+arguments_at e lt h = rw e (arguments lt h)
+
+pub no_arguments : {n : ℕ} {tokens : List Lexeme} → IsNotFirst (sign s.Open) tokens → NoReading (AreArguments n) tokens
+no_arguments {n} d = record { none = λ x r h. at h d }
+  where
+    at : {ts r : List Lexeme} {xs : List (Term Written)} → AreArguments n ts xs r → IsNotFirst (sign s.Open) ts → ⊥
+    at (arguments {tokens = ts} lt h) d = d ts refl
+
+pub no_argument_list : {n : ℕ} {tokens inside : List Lexeme} → tokens ≡ sign s.Open ∷ inside → NoReading (AreItems (IsTerm (n + 1)) s.Close) inside → NoReading (AreArguments n) tokens
+no_argument_list {n} e k = record { none = λ x r h. at h e k }
+  where
+    at : {ts r inside : List Lexeme} {xs : List (Term Written)} → AreArguments n ts xs r → ts ≡ sign s.Open ∷ inside → NoReading (AreItems (IsTerm (n + 1)) s.Close) inside → ⊥
+    at {inside = i} (arguments {args = xs} {tokens = ts} {rest = r} lt h) e k = let f : ts ≡ i = cc in k.none xs r (subst (λ (l : List Lexeme). AreItems (IsTerm (n + 1)) s.Close l xs r) f h)
+
+pub named_at : {n : ℕ} {p : Bool} {w : List ℕ} {args : List (Term Written)} {tokens after rest : List Lexeme} → tokens ≡ word w ∷ after → names_fact w ≡ true → AreArguments n after args rest → IsNamedFact n p tokens (fact w p args) rest
+named_at e f h = rw e (named f h)
+
+pub named_no_word : {n : ℕ} {p : Bool} {tokens : List Lexeme} → IsNoWord tokens → NoReading (IsNamedFact n p) tokens
+named_no_word {n} {p} d = record { none = λ x r h. at h d }
+  where
+    at : {ts r : List Lexeme} {f : Fact Written} → IsNamedFact n p ts f r → IsNoWord ts → ⊥
+    at (named {w = w} {tokens = ts} e h) d = d w ts refl
+
+under_name : {n : ℕ} {p : Bool} {w : List ℕ} {tokens after rest : List Lexeme} {f : Fact Written} → tokens ≡ word w ∷ after → IsNamedFact n p tokens f rest → (names_fact w ≡ true) × (args : List (Term Written)) × AreArguments n after args rest
+under_name {n} {p} {rest = rest} {f = f} e h = at (subst (λ (ts : List Lexeme). IsNamedFact n p ts f rest) e h)
+  where
+    at : {w : List ℕ} {after rest : List Lexeme} {f : Fact Written} → IsNamedFact n p (word w ∷ after) f rest → (names_fact w ≡ true) × (args : List (Term Written)) × AreArguments n after args rest
+    at (named {args = xs} e h) = (e, xs, h)
+
+pub named_no_name : {n : ℕ} {p : Bool} {w : List ℕ} {tokens after : List Lexeme} → tokens ≡ word w ∷ after → names_fact w ≡ false → NoReading (IsNamedFact n p) tokens
+named_no_name e f = record { none = λ x r h. let g = sym f ∙ (under_name e h).0 in cc }
+
+pub named_no_arguments : {n : ℕ} {p : Bool} {w : List ℕ} {tokens after : List Lexeme} → tokens ≡ word w ∷ after → NoReading (AreArguments n) after → NoReading (IsNamedFact n p) tokens
+named_no_arguments e k = record { none = λ x r h. let i = under_name e h in k.none i.1 r i.2 }
+
+pub persistent_at : {n : ℕ} {f : Fact Written} {tokens after rest : List Lexeme} → tokens ≡ sign s.Bang ∷ after → IsNamedFact n true after f rest → IsFact n tokens f rest
+persistent_at e h = rw e (persistent h)
+
+pub no_persistent : {n : ℕ} {tokens after : List Lexeme} → tokens ≡ sign s.Bang ∷ after → NoReading (IsNamedFact n true) after → NoReading (IsFact n) tokens
+no_persistent {n} e k = record { none = λ x r h. at (subst (λ (ts : List Lexeme). IsFact n ts x r) e h) k }
+  where
+    at : {after r : List Lexeme} {f : Fact Written} → IsFact n (sign s.Bang ∷ after) f r → NoReading (IsNamedFact n true) after → ⊥
+    at (linear h) k = elim h [ ]
+    at (persistent {f = f} {rest = r} h) k = k.none f r h
+
+pub no_linear : {n : ℕ} {tokens : List Lexeme} → IsNotFirst (sign s.Bang) tokens → NoReading (IsNamedFact n false) tokens → NoReading (IsFact n) tokens
+no_linear {n} d k = record { none = λ x r h. at h d k }
+  where
+    at : {ts r : List Lexeme} {f : Fact Written} → IsFact n ts f r → IsNotFirst (sign s.Bang) ts → NoReading (IsNamedFact n false) ts → ⊥
+    at (linear {f = f} {rest = r} h) d k = k.none f r h
+    at (persistent {tokens = ts} h) d k = d ts refl
+
+pub ruleset plain_terms = (variable, fixed_at, plain_nil, plain_no_word, plain_no_sign)
+
+pub ruleset bracketed_terms = (unbracketed, brackets_at, term_no_plain, term_too_deep, term_no_inside, term_unclosed)
+
+pub ruleset argument_lists = (arguments_at, no_arguments, no_argument_list)
+
+pub ruleset named_facts = (named_at, named_no_word, named_no_name, named_no_arguments)
+
+pub ruleset facts_either_way = (linear, persistent_at, no_persistent, no_linear)

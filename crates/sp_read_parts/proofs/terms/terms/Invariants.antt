@@ -1,0 +1,13 @@
+use Rattle.std.proofs.Common.{map, length, ◌≤◌, ◌-◌}
+use Rattle.sp_lex.specs.declared.token.Sign.TheVariants as s
+use Rattle.sp_read_parts.specs.Parts.{IsTerm}
+use Rattle.sp_read_parts.specs.Views as view
+use Rattle.sp_read_parts.specs.Views.{seen_from}
+use Rattle.sp_read_parts.proofs.Loops.{Going}
+use Rattle.sp_read_parts.proofs.terms.terms.Given as goal
+
+abbrev pub invariant-loop-next : goal.invariant-loop-next
+invariant-loop-next l = record { reads : Going (IsTerm l.nesting) s.Comma s.Close (seen_from l.tokens l.at) (map view.term l.found.items) (seen_from l.tokens l.rest); further : l.at ≤ l.rest }
+
+abbrev pub decreases-loop-next : goal.decreases-loop-next
+decreases-loop-next l = length l.tokens - l.rest

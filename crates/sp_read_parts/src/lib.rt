@@ -1,0 +1,27 @@
+// Reads variables, terms, facts and formulas from tokens.
+// Below stand sp_spec (what is written) and sp_lex (tokens); theories are read above (sp_read_theory).
+// Carried here: the promise that texts are read exactly, for the parts of a theory. The grammar is specs/Grammar.antt, and
+// what a reader gives is spelled there by the tokens that it takes; where it gives nothing, no text of the grammar stands there.
+// Formulas are read as far as they reach (specs/Reading.antt), which before a closing sign is what the grammar says (specs/Closed.antt).
+#![tactic(auto)]
+
+mod atoms;
+pub mod binders;
+pub mod cursor;
+pub mod facts;
+pub mod formulas;
+pub mod terms;
+mod words;
+mod written;
+
+ghost use Rattle.sp_read_parts.specs.Closed.{ClosedFormulasAreOne};
+
+pub use written::{Mark, ReadFormula, WrittenFact, WrittenTerm, WrittenVariable};
+
+/// What is spelled before a closing sign, and what follows it, are fixed by the tokens.
+pub fn closed_formulas_are_one()
+    ensures { ClosedFormulasAreOne }
+{}
+
+#[cfg(test)]
+mod tests;
