@@ -1,8 +1,9 @@
 // The cases of an action: at its event, or at a new step of some rule.
 
-ghost use Rattle.std.specs.Prelude.{◌≡◌, IfOk, map, option_map, slice_get};
+ghost use Rattle.std.specs.Prelude.{◌≡◌, Some, IfOk, map, option_map, slice_get};
 ghost use Rattle.sp_rule.specs.View.{rule_of};
 ghost use Rattle.sp_system.specs.View.{action_of};
+ghost use Rattle.sp_system.specs.FormulaView.{formula_of};
 ghost use Rattle.sp_system.specs.SystemView.{system_of};
 ghost use Rattle.sp_step.specs.Moves as spec;
 ghost use Rattle.sp_moves.specs.View.{case_of};
@@ -33,6 +34,24 @@ fn action_cases(
     }
 }
 
+// The cases of the action that the formula is.
+#[tactic(auto, using(crate::proofs::ByAction::solves))]
+fn solving(
+    alloc: Global,
+    rules: &Vec<Rule>,
+    system: &System,
+    formula: &Formula,
+) -> Result<Option<Vec<Case>>, AllocError>
+    ensures { IfOk result (λ o. option_map (λ cs. map case_of cs.items) o
+        ≡ spec.solving_action (map rule_of rules.now.items) (system_of system.now) (Some (formula_of formula.now))) }
+{
+    let Some((time, action)) = sought(alloc, formula)? else {
+        return Ok(None);
+    };
+    let made = action_cases(alloc, rules, system, time, &action)?;
+    Ok(Some(made))
+}
+
 /// The cases of the action that stands at the position, before they are simplified; none where there is no action to look for.
 ///
 /// # Errors
@@ -47,12 +66,8 @@ pub fn solving_action(
     ensures { IfOk result (λ o. option_map (λ cs. map case_of cs.items) o
         ≡ spec.solving_action (map rule_of rules.now.items) (system_of system.now) (slice_get (system_of system.now).formulas position)) }
 {
-    let Some(formula) = system.formulas.get(position) else {
-        return Ok(None);
-    };
-    let Some((time, action)) = sought(alloc, formula)? else {
-        return Ok(None);
-    };
-    let made = action_cases(alloc, rules, system, time, &action)?;
-    Ok(Some(made))
+    match system.formulas.get(position) {
+        Some(formula) => solving(alloc, rules, system, formula),
+        None => Ok(None),
+    }
 }
