@@ -5,24 +5,7 @@ use Rattle.sp_spec.specs.Term.{Sort, Msg, Fresh, Pub, Variable, Term, var, const
 use Rattle.sp_spec.specs.Same.{same_sort, alike}
 use Rattle.sp_spec.specs.Substitution.{Binding, lookup, bound_to}
 use Rattle.sp_spec.specs.Unifier.{occurs}
-
--- a term of the sort, whatever its variables stand for: a variable has its own sort
-abbrev pub IsOfSort : Sort → Term Variable → Type 0
-IsOfSort Msg t = Unit {0}
-IsOfSort Fresh (name n) = Unit {0}
-IsOfSort Fresh (var x) = x.sort ≡ Fresh
-IsOfSort Fresh t = ⊥
-IsOfSort Pub (constant c) = Unit {0}
-IsOfSort Pub (var x) = x.sort ≡ Pub
-IsOfSort Pub t = ⊥
-
--- what is put for each variable
-abbrev pub Substitution : Type 0
-Substitution = Variable → Term Variable
-
--- what is put for a variable is of its sort
-abbrev pub KeepsSorts : Substitution → Type 0
-KeepsSorts v = (x : Variable) → IsOfSort x.sort (v x)
+pub use Rattle.sp_law_unify.specs.MostGeneral.{IsOfSort, Substitution, KeepsSorts}
 
 -- bindings that make the pattern the term and keep sorts, of no variables but the pattern's
 pub record IsMatch (pattern term : Term Variable) (bs : List Binding) : Type 0 where

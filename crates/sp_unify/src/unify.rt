@@ -1,9 +1,10 @@
 // The most general unifier, one difference after another.
 
-ghost use Rattle.std.specs.Prelude.{◌≡◌, IfOk, map, option_map};
+ghost use Rattle.std.specs.Prelude.{◌≡◌, IfOk, MatchOption, map, option_map};
 ghost use Rattle.sp_spec.specs.Term.{var};
 ghost use Rattle.sp_spec.specs.Unifier.{difference, differences, first_difference, occurs, with_term, with_variable};
 ghost use Rattle.sp_spec.specs.Unifier as spec;
+ghost use Rattle.sp_law_unify.specs.MostGeneral.{HaveNoSolution, IsMostGeneral};
 ghost use Rattle.sp_term.specs.View.{variable_of, view, view_all};
 ghost use Rattle.sp_term.specs.Bindings.{bindings};
 ghost use Rattle.sp_unify.specs.View.{found_of, pair_view, step_of};
@@ -28,13 +29,15 @@ enum Step {
     Binds(Variable, Term),
 }
 
-/// The most general bindings that make each pair the same, each term of its variable's sort, or none where there are no such bindings.
+/// The most general unifier of the pairs, by sorts; none exactly where no values of the variables' sorts make each pair the same.
 ///
 /// # Errors
 ///
 /// `AllocError` where memory is wanting.
 pub fn mgu(alloc: Global, pairs: &[(Term, Term)]) -> Result<Option<Subst>, AllocError>
-    ensures { IfOk result (λ r. option_map bindings r ≡ spec.mgu (map pair_view pairs.now)) }
+    ensures found { IfOk result (λ r. option_map bindings r ≡ spec.mgu (map pair_view pairs.now)) }
+    ensures means { IfOk result (λ r. MatchOption r (HaveNoSolution (map pair_view pairs.now))
+        (λ s. IsMostGeneral (map pair_view pairs.now) (bindings s))) }
 {
     let mut subst = Subst::new(alloc);
     loop {

@@ -7,7 +7,7 @@ use Rattle.sp_spec.specs.Same.{same_variable}
 use Rattle.sp_spec.specs.Substitution.{bound_to}
 use Rattle.sp_spec.specs.Unifier.{Pair, occurs, occurs_in, occurrences, occurrences_in, occurrences_of}
 use Rattle.sp_law_equal.proofs.Tests.{same_variable_decides}
-use Rattle.sp_unify.specs.Progress.{variables, variables_in, variables_of, listed, occurs_under}
+use Rattle.sp_law_unify.specs.Progress.{variables, variables_in, variables_of, listed, occurs_under}
 
 -- The one test holds of fewer variables of a list than the other, where it holds of no more and not of one of them.
 module _ (p q : Variable → Bool) (implies : (y : Variable) → p y ≡ true → q y ≡ true) where

@@ -6,9 +6,9 @@ use Rattle.sp_spec.specs.Term.{Variable, Term}
 use Rattle.sp_spec.specs.Substitution.{Binding, followed_by}
 use Rattle.sp_spec.specs.Unifier.{Pair, Difference, no_difference, clash, binding, first_difference, occurrences_of, go_on, unified, mgu}
 use Rattle.sp_law_equal.proofs.Tests.{same_variable_decides}
-use Rattle.sp_unify.specs.Progress.{variables_of, listed, occurs_under, left_over}
-use Rattle.sp_unify.proofs.Steps.{Each, Tells, Binds, first_difference_tells, Stays, stays}
-use Rattle.sp_unify.proofs.Counts.{fewer, occurrences_of-length, listed-occurs_under}
+use Rattle.sp_law_unify.specs.Progress.{variables_of, listed, occurs_under, left_over}
+use Rattle.sp_law_unify.proofs.Steps.{Each, Tells, Binds, first_difference_tells, Stays, stays}
+use Rattle.sp_law_unify.proofs.Counts.{fewer, occurrences_of-length, listed-occurs_under}
 
 -- Bindings on the way to the unifier: the rest of the way leads to the unifier, is longer than the number of variables left over, and
 -- what occurs is listed among the pairs' variables.

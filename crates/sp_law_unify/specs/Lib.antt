@@ -1,0 +1,3 @@
+pub mod MostGeneral
+pub mod Progress
+pub mod Laws
