@@ -5,7 +5,7 @@ use Rattle.sp_spec.specs.Rule.{Fact, Action, Facts, fact_at, action_at, facts_at
 use Rattle.sp_spec.specs.Substitution.{Binding, bound_to, Fixes}
 use Rattle.sp_spec.proofs.Lists.{every_weaken, every_all, map_each, map-map}
 use Rattle.sp_system.specs.System.{EachVariable, EachVariables, InFacts}
-use Rattle.sp_system.proofs.Values.{valued-valued, valued_all-valued_all}
+use Rattle.sp_formula.proofs.Values.{valued-valued, valued_all-valued_all}
 
 mutual
   pub valued_same : {V W : Type 0} (v w : V → Term W) (t : Term V) → EachVariable (λ x. v x ≡ w x) t → valued v t ≡ valued w t

@@ -1,4 +1,3 @@
-pub mod Values
 pub mod Changing
 pub mod Numbers
 pub mod Facts
@@ -6,11 +5,7 @@ pub mod Unchanged
 pub mod Solutions
 pub mod Merging
 pub mod TermValues
-pub mod Variables
 pub mod Bindings
 pub mod Unifying
 pub mod Unifier
-pub mod FreeChanges
-pub mod Rows
 pub mod Pairs
-pub mod Formulas

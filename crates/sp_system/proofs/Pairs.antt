@@ -6,9 +6,9 @@ use Rattle.sp_term.specs.View.{view, view_all}
 use Rattle.sp_term.specs.declared.term.Term.{Term}
 use Rattle.sp_system.specs.Equating.{argument_pairs, same_flag, both_pairs, fact_pairs, action_pair, action_pairs}
 use Rattle.sp_system.specs.Pairs.{fact_pair}
-use Rattle.sp_system.specs.View.{fact_of, action_of}
-use Rattle.sp_system.specs.declared.fact.Fact.{Fact}
-use Rattle.sp_system.specs.declared.fact.Action.{Action}
+use Rattle.sp_fact.specs.View.{fact_of, action_of}
+use Rattle.sp_fact.specs.declared.fact.Fact.{Fact}
+use Rattle.sp_fact.specs.declared.fact.Action.{Action}
 
 -- the pairs of each two elements, if there are as many of the one list as of the other
 abbrev pub listed : {A : Type 0} → (A → A → Option (List Pair)) → List A → List A → Option (List Pair)

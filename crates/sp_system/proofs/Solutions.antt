@@ -10,9 +10,9 @@ use Rattle.sp_spec.specs.Guarded.{Guarded}
 use Rattle.sp_spec.specs.Log.{Log, step, log_trace}
 use Rattle.sp_spec.specs.Substitution.{Binding, bound_to, Fixes}
 use Rattle.sp_spec.specs.Unifier.{Pair}
-use Rattle.sp_system.specs.Change.{free_change, changed}
-use Rattle.sp_system.specs.System.{Happening, rule_step, Event, System, Valuation, assignment, HappensAt, HappensIn, FormulaHolds, AreUnequal, Solves, EachVariable, InFormula, InHappening, InEvent, IsNumbered, Agrees}
-use Rattle.sp_system.specs.Equating.{happening_changed, event_changed, pair_changed, system_changed}
+use Rattle.sp_formula.specs.Change.{free_change, changed}
+use Rattle.sp_system.specs.System.{Happening, rule_step, Event, System, Valuation, assignment, HappensAt, HappensIn, FormulaHolds, AreUnequal, IsBefore, Solves, EachVariable, InFormula, InHappening, InEvent, IsNumbered, Agrees}
+use Rattle.sp_system.specs.Equating.{happening_changed, event_changed, pair_changed, order_changed, system_changed}
 use Rattle.sp_spec.proofs.Lists.{every_map, every_both}
 use Rattle.sp_system.proofs.Facts.{valued_same, facts_same, fixed_term, fixed_facts}
 use Rattle.sp_system.proofs.Numbers.{each_weaken, facts_weaken, PutsIn, changed_in, each_valued, facts_valued}
@@ -60,6 +60,9 @@ module _ (limit : ℕ) (v w : Valuation) (a : Agrees limit v w) (theory : Theory
     subst (IsNormal (signature_of theory).equations) (sym (agree_term p.1 b.1)) h.2,
   )
 
+  pub agree_order : (p : ℕ × ℕ) → TimeUnder limit p.0 × TimeUnder limit p.1 → IsBefore v p → IsBefore w p
+  agree_order p b h = subst (λ (q : ℕ). w.times p.0 < q) (sym (a.times p.1 b.1)) (subst (λ (q : ℕ). q < v.times p.1) (sym (a.times p.0 b.0)) h)
+
 -- A solution stays one under values that agree below the next number, if they respect sorts and are normal.
 pub agree_solves : (theory : Theory) (log : Log) (s : System) (v w : Valuation) → IsNumbered s → Agrees s.next v w → ((x : Variable) → IsNormal (signature_of theory).equations (w.terms x)) → IsValuation (signature_of theory) w.terms
     → Solves theory log v s → Solves theory log w s
@@ -70,6 +73,7 @@ agree_solves theory log s v w n a normal sorts h = record {
   formulas = every_both _ _ _ (agree_formula s.next v w a theory log) s.formulas n.formulas h.formulas;
   spent = every_both _ _ _ (agree_formula s.next v w a theory log) s.spent n.spent h.spent;
   unequal = every_both _ _ _ (agree_unequal s.next v w a theory log) s.unequal n.unequal h.unequal;
+  order = every_both _ _ _ (agree_order s.next v w a theory log) s.order n.order h.order;
 }
 
 -- replacing that the values fix
@@ -98,6 +102,9 @@ module _ (theory : Theory) (log : Log) (v : Valuation) (bs : List Binding) (fixe
         subst (IsNormal (signature_of theory).equations) (sym d) h.2,
       )
 
+  change_order : (p : ℕ × ℕ) → IsBefore v p → IsBefore v (order_changed times p)
+  change_order p h = subst (λ (q : ℕ). v.times (times p.0) < q) (sym (same_times p.1)) (subst (λ (q : ℕ). q < v.times p.1) (sym (same_times p.0)) h)
+
   change_formulas : (A : Variable → Type 0) (B : ℕ → Type 0) (fs : List Guarded) → Every (InFormula A B) fs → Every (FormulaHolds theory log v) fs
       → Every (FormulaHolds theory log v) (map (changed (free_change (bound_to bs) times)) fs)
   change_formulas A B [] n h = tt
@@ -112,6 +119,7 @@ module _ (theory : Theory) (log : Log) (v : Valuation) (bs : List Binding) (fixe
     formulas = change_formulas (Under s.next) (TimeUnder s.next) s.formulas n.formulas h.formulas;
     spent = change_formulas (Under s.next) (TimeUnder s.next) s.spent n.spent h.spent;
     unequal = every_map _ _ (pair_changed (bound_to bs)) change_unequal s.unequal h.unequal;
+    order = every_map _ _ (order_changed times) change_order s.order h.order;
   }
 
 -- and its numbers stay below the next one
@@ -135,4 +143,6 @@ module _ (n : ℕ) (bs : List Binding) (within : (x : Variable) → Under n x �
         unequal = subst (λ (m : ℕ). Every (λ (p : Pair). EachVariable (Under m) p.0 × EachVariable (Under m) p.1) (map (pair_changed (bound_to bs)) s.unequal)) (sym e)
             (every_map _ _ (pair_changed (bound_to bs)) (λ p b. (each_valued _ _ (bound_to bs) within p.0 b.0, each_valued _ _ (bound_to bs) within p.1 b.1)) s.unequal
             (subst (λ (m : ℕ). Every (λ (p : Pair). EachVariable (Under m) p.0 × EachVariable (Under m) p.1) s.unequal) e k.unequal));
+        order = subst (λ (m : ℕ). Every (λ (p : ℕ × ℕ). (p.0 < m) × (p.1 < m)) (map (order_changed times) s.order)) (sym e)
+            (every_map _ _ (order_changed times) (λ p b. (times_within p.0 b.0, times_within p.1 b.1)) s.order (subst (λ (m : ℕ). Every (λ (p : ℕ × ℕ). (p.0 < m) × (p.1 < m)) s.order) e k.order));
       }

@@ -1,7 +1,6 @@
--- Values of terms: composition, agreement, and what holds of each variable.
-use Rattle.std.proofs.Common.{◌≡◌, List, refl, sym, ap, ◌∙◌}
-use Rattle.sp_spec.specs.Term.{Variable, Term, var, constant, name, app, Terms, none, more, Values, valued, valued_all}
-use Rattle.sp_spec.specs.Substitution.{Binding, bound_to, Fixes}
+-- Values of terms: composition, and what holds of each variable.
+use Rattle.std.proofs.Common.{◌≡◌, refl, ap}
+use Rattle.sp_spec.specs.Term.{Term, var, constant, name, app, Terms, none, more, valued, valued_all}
 use Rattle.sp_system.specs.System.{EachVariable, EachVariables}
 
 module _ {U V W : Type 0} (v : V → Term W) (θ : U → Term V) where
@@ -16,19 +15,6 @@ module _ {U V W : Type 0} (v : V → Term W) (θ : U → Term V) where
     pub valued-valued_all : (ts : Terms U) → valued_all v (valued_all θ ts) ≡ valued_all (λ x. valued v (θ x)) ts
     valued-valued_all none = refl
     valued-valued_all (more t ts) = cc (valued-valued t, valued-valued_all ts)
-
-module _ {V W : Type 0} (v w : V → Term W) where
-  mutual
-    -- the value depends on the values of the variables in the term only
-    pub valued_agree : (t : Term V) → EachVariable (λ x. v x ≡ w x) t → valued v t ≡ valued w t
-    valued_agree (var x) h = h
-    valued_agree (constant c) h = refl
-    valued_agree (name n) h = refl
-    valued_agree (app f ts) h = ap (app f) (valued_agree_all ts h)
-
-    pub valued_agree_all : (ts : Terms V) → EachVariables (λ x. v x ≡ w x) ts → valued_all v ts ≡ valued_all w ts
-    valued_agree_all none h = refl
-    valued_agree_all (more t ts) h = cc (valued_agree t h.0, valued_agree_all ts h.1)
 
 module _ {V : Type 0} where
   mutual
@@ -55,19 +41,6 @@ module _ {V : Type 0} (P Q : V → Type 0) (implies : (x : V) → P x → Q x) w
     EachVariable_map_all none h = tt
     EachVariable_map_all (more t ts) h = (EachVariable_map t h.0, EachVariable_map_all ts h.1)
 
--- what holds of every variable holds of each in the term
-module _ {V : Type 0} (P : V → Type 0) (all : (x : V) → P x) where
-  mutual
-    pub EachVariable_from : (t : Term V) → EachVariable P t
-    EachVariable_from (var x) = all x
-    EachVariable_from (constant c) = tt
-    EachVariable_from (name n) = tt
-    EachVariable_from (app f ts) = EachVariable_from_all ts
-
-    pub EachVariable_from_all : (ts : Terms V) → EachVariables P ts
-    EachVariable_from_all none = tt
-    EachVariable_from_all (more t ts) = (EachVariable_from t, EachVariable_from_all ts)
-
 -- the variables of a substituted term are those of what its variables stand for
 module _ {V W : Type 0} (P : V → Type 0) (Q : W → Type 0) (θ : V → Term W) (each : (x : V) → P x → EachVariable Q (θ x)) where
   mutual
@@ -80,15 +53,3 @@ module _ {V W : Type 0} (P : V → Type 0) (Q : W → Type 0) (θ : V → Term W
     pub EachVariable_valued_all : (ts : Terms V) → EachVariables P ts → EachVariables Q (valued_all θ ts)
     EachVariable_valued_all none h = tt
     EachVariable_valued_all (more t ts) h = (EachVariable_valued t h.0, EachVariable_valued_all ts h.1)
-
--- A fixing substitution keeps the value of each term.
-module _ (v : Values) (bs : List Binding) (fixes : Fixes v bs) where
-  pub fixes_value : (t : Term Variable) → valued v (valued (bound_to bs) t) ≡ valued v t
-  fixes_value t =
-      valued-valued v (bound_to bs) t
-      ∙ sym (valued_agree v (λ x. valued v (bound_to bs x)) t (EachVariable_from (λ x. v x ≡ valued v (bound_to bs x)) fixes t))
-
-  pub fixes_value_all : (ts : Terms Variable) → valued_all v (valued_all (bound_to bs) ts) ≡ valued_all v ts
-  fixes_value_all ts =
-      valued-valued_all v (bound_to bs) ts
-      ∙ sym (valued_agree_all v (λ x. valued v (bound_to bs x)) ts (EachVariable_from_all (λ x. v x ≡ valued v (bound_to bs x)) fixes ts))

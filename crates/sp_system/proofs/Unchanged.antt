@@ -7,7 +7,7 @@ use Rattle.sp_spec.specs.Rule.{Action, action_at}
 use Rattle.sp_spec.specs.Execution.{Trace}
 use Rattle.sp_spec.specs.Guarded.{Place, free, bound, Time, free_time, bound_time, Binder, message, time, Atom, acts, same, same_time, before, last, Guarded, truth, falsity, holds, fails, all_of, one_of, some, every, Guardeds, no_more, and_then, Assignment, pushed, GuardedHolds}
 use Rattle.sp_spec.specs.Term as term
-use Rattle.sp_system.specs.Change.{Change, placed, place_changed, time_changed, raised, raised_time, under_message, under_time, under, atom_changed, changed, changed_each, free_change}
+use Rattle.sp_formula.specs.Change.{Change, placed, place_changed, time_changed, raised, raised_time, under_message, under_time, under, atom_changed, changed, changed_each, free_change}
 use Rattle.sp_system.specs.System.{InFormula, Settled}
 use Rattle.sp_system.proofs.Facts.{valued_equal, valued_all_equal}
 use Rattle.sp_system.proofs.Changing.{Reads, changed_same, settled_same}

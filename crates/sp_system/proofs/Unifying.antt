@@ -1,18 +1,15 @@
--- What the unifier tells of the values that make pairs of terms the same, and of the variables in its bindings.
-use Rattle.std.proofs.Common.{◌≡◌, ℕ, zero, suc, Bool, true, false, not, ◌&&◌, nat_lt, nat_eq, if◌then◌else◌, List, [], ◌∷◌, Option, Some, None, refl, sym, ◌∙◌, subst, true≢false}
-use Rattle.std.proofs.lemmas.Bool.{cond_both, eqb-false}
-use Rattle.std.proofs.lemmas.Slice.Eq.{bytes_eq-Decides}
+-- The unifier brings in no variables but those of the pairs.
+use Rattle.std.proofs.Common.{◌≡◌, ℕ, zero, suc, not, ◌&&◌, nat_lt, nat_eq, List, [], ◌∷◌, Option, Some, None, sym, subst}
+use Rattle.std.proofs.lemmas.Bool.{cond_both}
 use Rattle.std.specs.Str.{bytes_eq}
 use Rattle.sp_spec.specs.Lists.{Every}
-use Rattle.sp_spec.specs.Term.{Sort, Msg, Fresh, Pub, Variable, Term, var, constant, name, app, Terms, none, more, Ground, Values, valued, valued_all}
-use Rattle.sp_spec.specs.Signature.{HasSort, RespectsSorts}
-use Rattle.sp_spec.specs.Substitution.{Binding, bound_to, followed_by, Fixes}
+use Rattle.sp_spec.specs.Term.{Sort, Msg, Fresh, Pub, Variable, Term, var, constant, name, app, Terms, none, more}
+use Rattle.sp_spec.specs.Substitution.{Binding, bound_to, followed_by}
 use Rattle.sp_spec.specs.Same.{same_variable}
-use Rattle.sp_spec.specs.Unifier.{Pair, MakesSame, Difference, no_difference, clash, binding, occurs, may_stand, with_term, by_number, by_sorts, with_variable, or_then, difference, differences, first_difference, go_on, unified, mgu, occurrences_of}
+use Rattle.sp_spec.specs.Unifier.{Pair, Difference, no_difference, clash, binding, occurs, may_stand, with_term, by_number, by_sorts, with_variable, or_then, difference, differences, first_difference, go_on, unified, mgu, occurrences_of}
+use Rattle.sp_law_unify.proofs.Values.{bound_to-followed_by, bound_to-one}
 use Rattle.sp_system.specs.System.{EachVariable, EachVariables}
-use Rattle.sp_system.proofs.TermValues.{fixes_value, EachVariable_valued}
-use Rattle.sp_system.proofs.Variables.{IsNoVariable, no_part}
-use Rattle.sp_system.proofs.Bindings.{bound_to-followed_by, bound_to-one, Fixes-none, Fixes-one, Fixes-followed_by}
+use Rattle.sp_system.proofs.TermValues.{EachVariable_valued}
 
 -- of a chain of differences the first one counts
 or_then_keeps : (D : Difference → Type 0) (d e : Difference) → D d → D e → D (or_then d e)
@@ -20,112 +17,25 @@ or_then_keeps D no_difference e h k = k
 or_then_keeps D clash e h k = h
 or_then_keeps D (binding x t) e h k = h
 
--- the sorts have no value in common
-abbrev Apart : Sort → Sort → Type 0
-Apart Fresh Pub = Unit {0}
-Apart Pub Fresh = Unit {0}
-Apart s u = ⊥
-
--- two variables clash only where their sorts do; else the one is bound to the other
-module _ (D : Difference → Type 0) (x y : Variable) (there : D (binding x (var y))) (back : D (binding y (var x))) where
+-- two variables are the same, clash, or the one is bound to the other
+module _ (D : Difference → Type 0) (x y : Variable) (there : D (binding x (var y))) (back : D (binding y (var x))) (apart : D clash) where
   by_number_keeps : D (by_number x y)
   by_number_keeps = cond_both (nat_lt x.number y.number) (binding y (var x)) (binding x (var y)) D (λ _. back) (λ _. there)
 
-  by_sorts_keeps : (s u : Sort) → (Apart s u → D clash) → D (by_sorts s u x y)
-  by_sorts_keeps Msg Msg k = by_number_keeps
-  by_sorts_keeps Msg Fresh k = there
-  by_sorts_keeps Msg Pub k = there
-  by_sorts_keeps Fresh Msg k = back
-  by_sorts_keeps Fresh Fresh k = by_number_keeps
-  by_sorts_keeps Fresh Pub k = k tt
-  by_sorts_keeps Pub Msg k = back
-  by_sorts_keeps Pub Fresh k = k tt
-  by_sorts_keeps Pub Pub k = by_number_keeps
+  by_sorts_keeps : (s u : Sort) → D (by_sorts s u x y)
+  by_sorts_keeps Msg Msg = by_number_keeps
+  by_sorts_keeps Msg Fresh = there
+  by_sorts_keeps Msg Pub = there
+  by_sorts_keeps Fresh Msg = back
+  by_sorts_keeps Fresh Fresh = by_number_keeps
+  by_sorts_keeps Fresh Pub = apart
+  by_sorts_keeps Pub Msg = back
+  by_sorts_keeps Pub Fresh = apart
+  by_sorts_keeps Pub Pub = by_number_keeps
 
-  with_variable_keeps : D no_difference → (Apart x.sort y.sort → D clash) → D (with_variable x y)
-  with_variable_keeps same k =
-      cond_both (same_variable x y) no_difference (by_sorts x.sort y.sort x y) D (λ _. same) (λ _. by_sorts_keeps x.sort y.sort k)
-
--- what a difference tells of values that make the two terms the same
-abbrev pub Tells : Values → Difference → Type 0
-Tells v no_difference = Unit {0}
-Tells v clash = ⊥
-Tells v (binding x t) = v x ≡ valued v t
-
--- no ground term is of both sorts
-apart : (s u : Sort) (t : Ground) → Apart s u → HasSort s t → HasSort u t → ⊥
-apart Msg u t a h k = a
-apart Fresh Msg t a h k = a
-apart Fresh Fresh t a h k = a
-apart Fresh Pub (var x) a h k = x
-apart Fresh Pub (constant c) a h k = h
-apart Fresh Pub (name n) a h k = k
-apart Fresh Pub (app f ts) a h k = h
-apart Pub Msg t a h k = a
-apart Pub Fresh (var x) a h k = x
-apart Pub Fresh (constant c) a h k = k
-apart Pub Fresh (name n) a h k = h
-apart Pub Fresh (app f ts) a h k = h
-apart Pub Pub t a h k = a
-
--- a term whose value is of the sort may stand for a variable of the sort
-may_stand_by_value : (s : Sort) (t : Term Variable) (v : Values) → IsNoVariable t → HasSort s (valued v t) → may_stand s t ≡ true
-may_stand_by_value Msg t v n h = refl
-may_stand_by_value Fresh (var x) v n h = absurd n
-may_stand_by_value Fresh (constant c) v n h = absurd h
-may_stand_by_value Fresh (name m) v n h = refl
-may_stand_by_value Fresh (app f ts) v n h = absurd h
-may_stand_by_value Pub (var x) v n h = absurd n
-may_stand_by_value Pub (constant c) v n h = refl
-may_stand_by_value Pub (name m) v n h = absurd h
-may_stand_by_value Pub (app f ts) v n h = absurd h
-
-module _ (v : Values) (sorts : RespectsSorts v) where
-  with_variable_sound : (x y : Variable) → v x ≡ v y → Tells v (with_variable x y)
-  with_variable_sound x y e =
-      with_variable_keeps (Tells v) x y e (sym e) tt
-      (λ a. apart x.sort y.sort (v y) a (subst (HasSort x.sort) e (sorts x)) (sorts y))
-
-  with_term_sound : (x : Variable) (t : Term Variable) → IsNoVariable t → v x ≡ valued v t → Tells v (with_term x t)
-  with_term_sound x t n e =
-      by_tests (may_stand x.sort t) (occurs x t) (may_stand_by_value x.sort t v n (subst (HasSort x.sort) e (sorts x))) refl
-    where
-      by_tests : (m o : Bool) → m ≡ true → occurs x t ≡ o → Tells v (if m && not o then binding x t else clash)
-      by_tests true false em eo = e
-      by_tests true true em eo = no_part x t v n eo e
-      by_tests false o em eo = absurd (true≢false (sym em))
-
-  mutual
-    pub difference_sound : (t u : Term Variable) → valued v t ≡ valued v u → Tells v (difference t u)
-    difference_sound (var x) (var y) e = with_variable_sound x y e
-    difference_sound (var x) (constant d) e = with_term_sound x (constant d) tt e
-    difference_sound (var x) (name n) e = with_term_sound x (name n) tt e
-    difference_sound (var x) (app g us) e = with_term_sound x (app g us) tt e
-    difference_sound (constant c) (var y) e = with_term_sound y (constant c) tt (sym e)
-    difference_sound (name m) (var y) e = with_term_sound y (name m) tt (sym e)
-    difference_sound (app f ts) (var y) e = with_term_sound y (app f ts) tt (sym e)
-    difference_sound (constant c) (constant d) e =
-        cond_both (bytes_eq c d) no_difference clash (Tells v) (λ _. tt) (λ k. true≢false (sym ((bytes_eq-Decides c d).1 cc) ∙ k))
-    difference_sound (name m) (name n) e = cond_both (nat_eq m n) no_difference clash (Tells v) (λ _. tt) (λ k. eqb-false m n k cc)
-    difference_sound (app f ts) (app g us) e =
-        let args : valued_all v ts ≡ valued_all v us = cc in
-        cond_both (bytes_eq f g) (differences ts us) clash (Tells v)
-        (λ _. differences_sound ts us args) (λ k. true≢false (sym ((bytes_eq-Decides f g).1 cc) ∙ k))
-    difference_sound (constant c) (name n) e = cc
-    difference_sound (constant c) (app g us) e = cc
-    difference_sound (name m) (constant d) e = cc
-    difference_sound (name m) (app g us) e = cc
-    difference_sound (app f ts) (constant d) e = cc
-    difference_sound (app f ts) (name n) e = cc
-
-    pub differences_sound : (ts us : Terms Variable) → valued_all v ts ≡ valued_all v us → Tells v (differences ts us)
-    differences_sound none none e = tt
-    differences_sound none (more u us) e = cc
-    differences_sound (more t ts) none e = cc
-    differences_sound (more t ts) (more u us) e =
-        let head : valued v t ≡ valued v u = cc in
-        let tail : valued_all v ts ≡ valued_all v us = cc in
-        or_then_keeps (Tells v) (difference t u) (differences ts us) (difference_sound t u head) (differences_sound ts us tail)
+  with_variable_keeps : D no_difference → D (with_variable x y)
+  with_variable_keeps same =
+      cond_both (same_variable x y) no_difference (by_sorts x.sort y.sort x y) D (λ _. same) (λ _. by_sorts_keeps x.sort y.sort)
 
 -- it holds of the variables in a binding
 abbrev pub Within : (Variable → Type 0) → Difference → Type 0
@@ -135,7 +45,7 @@ Within P (binding x t) = P x × EachVariable P t
 
 module _ (P : Variable → Type 0) where
   with_variable_within : (x y : Variable) → P x → P y → Within P (with_variable x y)
-  with_variable_within x y h k = with_variable_keeps (Within P) x y (h, k) (k, h) tt (λ _. tt)
+  with_variable_within x y h k = with_variable_keeps (Within P) x y (h, k) (k, h) tt tt
 
   with_term_within : (x : Variable) (t : Term Variable) → P x → EachVariable P t → Within P (with_term x t)
   with_term_within x t h k = cond_both (may_stand x.sort t && not (occurs x t)) (binding x t) clash (Within P) (λ _. (h, k)) (λ _. tt)
@@ -188,34 +98,6 @@ module _ (Kept : List Binding → Type 0) (Failed : Type 0) where
       → Ends (unified n pairs bs)
   unified_ends pairs step zero bs kept = kept
   unified_ends pairs step (suc n) bs kept = go_on_ends (first_difference bs pairs) bs (unified n pairs) kept (step bs kept) (unified_ends pairs step n)
-
-module _ (v : Values) (sorts : RespectsSorts v) where
-  first_difference_sound : (bs : List Binding) → Fixes v bs → (pairs : List Pair) → MakesSame v pairs → Tells v (first_difference bs pairs)
-  first_difference_sound bs fixes [] same = tt
-  first_difference_sound bs fixes (p ∷ pairs) same =
-      or_then_keeps (Tells v) _ (first_difference bs pairs)
-      (difference_sound v sorts _ _ (fixes_value v bs fixes p.0 ∙ same.0 ∙ sym (fixes_value v bs fixes p.1)))
-      (first_difference_sound bs fixes pairs same.1)
-
-  Fixes-goes : (bs : List Binding) (d : Difference) → Fixes v bs → Tells v d → Goes (Fixes v) ⊥ bs d
-  Fixes-goes bs no_difference fixes tells = tt
-  Fixes-goes bs clash fixes tells = tells
-  Fixes-goes bs (binding x t) fixes tells = Fixes-followed_by v bs ((x, t) ∷ []) fixes (Fixes-one v x t tells)
-
-  unified_outcome : (n : ℕ) (pairs : List Pair) (bs : List Binding) → MakesSame v pairs → Fixes v bs → Ends (Fixes v) ⊥ (unified n pairs bs)
-  unified_outcome n pairs bs same fixes =
-      unified_ends (Fixes v) ⊥ pairs (λ cs h. Fixes-goes cs (first_difference cs pairs) h (first_difference_sound cs h pairs same)) n bs fixes
-
-  -- values that make the pairs the same are fixed by the unifier
-  pub unified_fixes : (n : ℕ) (pairs : List Pair) (bs cs : List Binding) → MakesSame v pairs → Fixes v bs → unified n pairs bs ≡ Some cs → Fixes v cs
-  unified_fixes n pairs bs cs same fixes e = subst (Ends (Fixes v) ⊥) e (unified_outcome n pairs bs same fixes)
-
-  pub mgu_fixes : (pairs : List Pair) (bs : List Binding) → MakesSame v pairs → mgu pairs ≡ Some bs → Fixes v bs
-  mgu_fixes pairs bs same e = unified_fixes (suc (occurrences_of pairs)) pairs [] bs same (Fixes-none v) e
-
-  -- where there is no unifier, no values make the pairs the same
-  pub mgu_none : (pairs : List Pair) → MakesSame v pairs → mgu pairs ≡ None → ⊥
-  mgu_none pairs same e = subst (Ends (Fixes v) ⊥) e (unified_outcome (suc (occurrences_of pairs)) pairs [] same (Fixes-none v))
 
 -- the bindings of variables with P have only variables with P
 abbrev KeepsWithin : (Variable → Type 0) → List Binding → Type 0

@@ -1,16 +1,13 @@
 -- Putting terms for variables and one time for another throughout a system, and making two events one.
-use Rattle.std.specs.Prelude.{ℕ, ◌==◌, ◌&&◌, nat_lt, List, [], ◌∷◌, ◌++◌, map, Bool, true, false, if◌then◌else◌, Option, Some, None, option_map, option_and_then}
+use Rattle.std.specs.Prelude.{ℕ, ◌&&◌, nat_lt, List, [], ◌∷◌, ◌++◌, map, Bool, true, false, if◌then◌else◌, Option, Some, None, option_map, option_and_then}
 use Rattle.std.specs.Str.{bytes_eq}
 use Rattle.sp_spec.specs.Term.{Variable, Term, Terms, none, more, valued}
 use Rattle.sp_spec.specs.Rule.{Fact, Action, facts_at}
 use Rattle.sp_spec.specs.Substitution.{Binding, bound_to}
 use Rattle.sp_spec.specs.Unifier.{Pair, mgu}
-use Rattle.sp_system.specs.Change.{free_change, changed}
+use Rattle.sp_formula.specs.Change.{free_change, changed}
+pub use Rattle.sp_formula.specs.Change.{time_replaced}
 use Rattle.sp_system.specs.System.{Happening, rule_step, Event, System}
-
--- the larger of two times is replaced by the smaller
-abbrev pub time_replaced : ℕ → ℕ → ℕ → ℕ
-time_replaced small large i = if i == large then small else i
 
 abbrev pub happening_changed : (Variable → Term Variable) → Happening → Happening
 happening_changed terms (rule_step r facts) = rule_step r (facts_at terms facts)
@@ -21,12 +18,16 @@ event_changed terms times e = record { time = times e.time; happening = happenin
 abbrev pub pair_changed : (Variable → Term Variable) → Pair → Pair
 pair_changed terms p = (valued terms p.0, valued terms p.1)
 
+abbrev pub order_changed : (ℕ → ℕ) → ℕ × ℕ → ℕ × ℕ
+order_changed times p = (times p.0, times p.1)
+
 abbrev pub system_changed : (Variable → Term Variable) → (ℕ → ℕ) → System → System
 system_changed terms times s = record {
   events = map (event_changed terms times) s.events;
   formulas = map (changed (free_change terms times)) s.formulas;
   spent = map (changed (free_change terms times)) s.spent;
   unequal = map (pair_changed terms) s.unequal;
+  order = map (order_changed times) s.order;
   next = s.next;
 }
 
@@ -84,4 +85,4 @@ larger i j = if nat_lt j i then i else j
 abbrev pub merged_system : System → List Event → Event → Event → List Binding → System
 merged_system s others a b bs =
     system_changed (bound_to bs) (time_replaced (smaller a.time b.time) (larger a.time b.time))
-    (record { events = others; formulas = s.formulas; spent = s.spent; unequal = s.unequal; next = s.next })
+    (record { events = others; formulas = s.formulas; spent = s.spent; unequal = s.unequal; order = s.order; next = s.next })

@@ -19,12 +19,14 @@ pub record Event : Type 0 where
   pub time : ℕ
   pub happening : Happening
 
--- Message variables and times share the numbers; the next one is used by nothing yet. Spent formulas hold too.
+-- Message variables and times share the numbers; the next one is used by nothing yet. Spent formulas hold too. Of an order pair the
+-- first time is before the second.
 pub record System : Type 0 where
   pub events : List Event
   pub formulas : List Guarded
   pub spent : List Guarded
   pub unequal : List (Term Variable × Term Variable)
+  pub order : List (ℕ × ℕ)
   pub next : ℕ
 
 pub record Valuation : Type 0 where
@@ -83,6 +85,10 @@ AreUnequal theory v p =
     (valued v.terms p.0 ≡ valued v.terms p.1 → ⊥)
     × IsNormal (signature_of theory).equations (valued v.terms p.0) × IsNormal (signature_of theory).equations (valued v.terms p.1)
 
+-- the first time has the smaller position
+abbrev pub IsBefore : Valuation → ℕ × ℕ → Type 0
+IsBefore v p = v.times p.0 < v.times p.1
+
 -- The log, with values for the system's variables, is a solution of the system.
 pub record Solves (theory : Theory) (log : Log) (v : Valuation) (s : System) : Type 0 where
   pub sorts : IsValuation (signature_of theory) v.terms
@@ -91,6 +97,7 @@ pub record Solves (theory : Theory) (log : Log) (v : Valuation) (s : System) : T
   pub formulas : Every (FormulaHolds theory log v) s.formulas
   pub spent : Every (FormulaHolds theory log v) s.spent
   pub unequal : Every (AreUnequal theory v) s.unequal
+  pub order : Every (IsBefore v) s.order
 
 -- it holds of each variable in the term
 abbrev mutual
@@ -152,6 +159,7 @@ pub record IsNumbered (s : System) : Type 0 where
   pub formulas : Every (InFormula (λ x. x.number < s.next) (λ i. i < s.next)) s.formulas
   pub spent : Every (InFormula (λ x. x.number < s.next) (λ i. i < s.next)) s.spent
   pub unequal : Every (λ (p : Term Variable × Term Variable). EachVariable (λ x. x.number < s.next) p.0 × EachVariable (λ x. x.number < s.next) p.1) s.unequal
+  pub order : Every (λ (p : ℕ × ℕ). (p.0 < s.next) × (p.1 < s.next)) s.order
 
 -- the valuations agree on the numbers below the limit
 pub record Agrees (limit : ℕ) (v w : Valuation) : Type 0 where

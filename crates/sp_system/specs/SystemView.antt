@@ -5,8 +5,8 @@ use Rattle.sp_term.specs.View.{name_of, view}
 use Rattle.sp_term.specs.declared.term.Term.{Term}
 use Rattle.sp_system.specs.System.{rule_step}
 use Rattle.sp_system.specs.System as spec
-use Rattle.sp_system.specs.View.{facts_of}
-use Rattle.sp_system.specs.FormulaView.{formula_of}
+use Rattle.sp_fact.specs.View.{facts_of}
+use Rattle.sp_formula.specs.FormulaView.{formula_of}
 use Rattle.sp_system.specs.declared.system.Event.{Event}
 use Rattle.sp_system.specs.declared.system.System.{System}
 
@@ -22,5 +22,6 @@ system_of s = record {
   formulas = map formula_of s.formulas.items;
   spent = map formula_of s.spent.items;
   unequal = map pair_of s.unequal.items;
+  order = s.order.items;
   next = s.next;
 }

@@ -7,8 +7,6 @@
 
 ghost use Rattle.sp_system.specs.Laws.{UnifierIsRight};
 
-pub mod fact;
-pub mod formula;
 pub mod pairing;
 pub mod system;
 

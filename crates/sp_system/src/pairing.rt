@@ -4,11 +4,11 @@ ghost use Rattle.std.specs.Prelude.{◌≡◌, IfOk, map, option_map};
 ghost use Rattle.sp_term.specs.View.{view_all};
 ghost use Rattle.sp_system.specs.Equating as equating;
 ghost use Rattle.sp_system.specs.Pairs as one;
-ghost use Rattle.sp_system.specs.View.{fact_of, action_of};
+ghost use Rattle.sp_fact.specs.View.{fact_of, action_of};
 ghost use Rattle.sp_system.specs.SystemView.{event_of, pair_of};
 
-use crate::fact::{Action, Fact};
 use crate::system::Event;
+use sp_fact::fact::{Action, Fact};
 use sp_term::term::{Term, copy};
 use std::alloc::{AllocError, Global};
 

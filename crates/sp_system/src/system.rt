@@ -3,11 +3,11 @@
 ghost use Rattle.std.specs.Prelude.{◌≡◌, IfOk, map};
 ghost use Rattle.sp_spec.specs.Substitution.{bound_to};
 ghost use Rattle.sp_term.specs.Bindings.{bindings};
-ghost use Rattle.sp_system.specs.Equating.{time_replaced, event_changed, pair_changed, system_changed};
+ghost use Rattle.sp_system.specs.Equating.{time_replaced, event_changed, pair_changed, order_changed, system_changed};
 ghost use Rattle.sp_system.specs.SystemView.{event_of, pair_of, system_of};
 
-use crate::fact::Facts;
-use crate::formula::{Formula, changed_formulas, copy_formulas};
+use sp_fact::fact::Facts;
+use sp_formula::formula::{Formula, changed_formulas, copy_formulas};
 use sp_term::subst::{Subst, apply};
 use sp_term::term::{Name, Term, copy};
 use std::alloc::{AllocError, Global};
@@ -34,6 +34,8 @@ pub struct System {
     pub spent: Vec<Formula>,
     /// the pairs of terms with different values
     pub unequal: Vec<(Term, Term)>,
+    /// the pairs of times of which the first is before the second
+    pub order: Vec<(u128, u128)>,
     /// a number above those of all variables and times
     pub next: u128,
 }
@@ -139,6 +141,39 @@ fn changed_pairs(
     Ok(made)
 }
 
+fn copy_order(alloc: Global, pairs: &Vec<(u128, u128)>) -> Result<Vec<(u128, u128)>, AllocError>
+    ensures { IfOk result (λ ps. ps.items ≡ pairs.now.items) }
+{
+    let mut made = Vec::with_capacity(alloc, pairs.len())?;
+    for pair in pairs {
+        made.push((pair.0, pair.1))?;
+    }
+    Ok(made)
+}
+
+fn changed_time(small: u128, large: u128, time: u128) -> u128
+    ensures { result ≡ time_replaced small large time }
+{
+    if time == large { small } else { time }
+}
+
+fn changed_order(
+    alloc: Global,
+    small: u128,
+    large: u128,
+    pairs: &Vec<(u128, u128)>,
+) -> Result<Vec<(u128, u128)>, AllocError>
+    ensures { IfOk result (λ ps. ps.items ≡ map (order_changed (time_replaced small large)) pairs.now.items) }
+{
+    let mut made = Vec::with_capacity(alloc, pairs.len())?;
+    for pair in pairs {
+        let first = changed_time(small, large, pair.0);
+        let second = changed_time(small, large, pair.1);
+        made.push((first, second))?;
+    }
+    Ok(made)
+}
+
 impl System {
     /// An equal system.
     pub fn copy(&self, alloc: Global) -> Result<System, AllocError>
@@ -148,11 +183,13 @@ impl System {
         let formulas = copy_formulas(alloc, &self.formulas)?;
         let spent = copy_formulas(alloc, &self.spent)?;
         let unequal = copy_pairs(alloc, &self.unequal)?;
+        let order = copy_order(alloc, &self.order)?;
         Ok(System {
             events,
             formulas,
             spent,
             unequal,
+            order,
             next: self.next,
         })
     }
@@ -171,11 +208,13 @@ impl System {
         let formulas = changed_formulas(alloc, subst, small, large, &self.formulas)?;
         let spent = changed_formulas(alloc, subst, small, large, &self.spent)?;
         let unequal = changed_pairs(alloc, subst, &self.unequal)?;
+        let order = changed_order(alloc, small, large, &self.order)?;
         Ok(System {
             events,
             formulas,
             spent,
             unequal,
+            order,
             next: self.next,
         })
     }

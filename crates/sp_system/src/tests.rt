@@ -1,7 +1,7 @@
-use crate::fact::{Action, Fact, Facts};
-use crate::formula::{Atom, Binder, Formula, FormulaAction, FormulaTerm, Moment};
 use crate::pairing::merging_pairs;
 use crate::system::{Event, System};
+use sp_fact::fact::{Action, Fact, Facts};
+use sp_formula::formula::{Atom, Binder, Formula, FormulaAction, FormulaTerm, Moment};
 use sp_term::subst::Subst;
 use sp_term::term::{Name, Sort, Term, Variable, same};
 use std::alloc::{AllocError, Global};
@@ -82,11 +82,14 @@ fn system(alloc: Global) -> Result<System, AllocError> {
     formulas.push(Formula::Fails(Atom::SameTime(Moment::Free(2), Moment::Free(3))))?;
     let mut unequal = Vec::new(alloc);
     unequal.push((Term::Var(variable(0)), Term::Var(variable(1))))?;
+    let mut order = Vec::new(alloc);
+    order.push((2, 3))?;
     Ok(System {
         events,
         formulas,
         spent: Vec::new(alloc),
         unequal,
+        order,
         next: 4,
     })
 }
@@ -117,6 +120,13 @@ fn times_are(system: &System, first: u128, second: u128) -> bool {
     }
 }
 
+fn order_is(system: &System, first: u128, second: u128) -> bool {
+    match system.order.first() {
+        Some(pair) => pair.0 == first && pair.1 == second,
+        None => false,
+    }
+}
+
 #[test]
 fn changes(rt: HostRuntime) -> Result<(), Fail> {
     let alloc = rt.alloc();
@@ -128,70 +138,18 @@ fn changes(rt: HostRuntime) -> Result<(), Fail> {
     assert!(rt; is_changed);
     let is_replaced = times_are(&changed, 2, 2);
     assert!(rt; is_replaced);
+    let order_is_replaced = order_is(&changed, 2, 2);
+    assert!(rt; order_is_replaced);
     let made = given.with_terms(alloc, &subst)?;
     let is_made = body_is_changed(&made);
     assert!(rt; is_made);
     let stays = times_are(&made, 2, 3);
     assert!(rt; stays);
+    let order_stays = order_is(&made, 2, 3);
+    assert!(rt; order_stays);
     let copied = given.copy(alloc)?;
     let is_copied = body_is_changed(&copied);
     assert!(rt; !is_copied);
-    Ok(())
-}
-
-// both: for all x with A(x) at 2, falsity; and: 3 is before 2, or truth
-fn nested(alloc: Global) -> Result<Formula, AllocError> {
-    let mut args = Vec::new(alloc);
-    args.push(FormulaTerm::Bound(0))?;
-    let mut guard = Vec::new(alloc);
-    guard.push(Atom::Acts(
-        FormulaAction {
-            symbol: name(alloc, "A")?,
-            args,
-        },
-        Moment::Free(2),
-    ))?;
-    let mut binders = Vec::new(alloc);
-    binders.push(Binder::Message(Sort::Msg))?;
-    let body = Box::new(alloc, Formula::Falsity)?;
-    let mut either = Vec::new(alloc);
-    either.push(Formula::Holds(Atom::Before(Moment::Free(3), Moment::Free(2))))?;
-    either.push(Formula::Truth)?;
-    let mut both = Vec::new(alloc);
-    both.push(Formula::ForAll(binders, guard, body))?;
-    both.push(Formula::OneOf(either))?;
-    Ok(Formula::AllOf(both))
-}
-
-// the times of the action and of the order in the nested formula
-fn times_within(formula: &Formula) -> (u128, u128, u128) {
-    match formula {
-        Formula::AllOf(both) => match (both.first(), both.last()) {
-            (Some(Formula::ForAll(_, guard, _)), Some(Formula::OneOf(either))) => {
-                match (guard.first(), either.first()) {
-                    (
-                        Some(Atom::Acts(_, Moment::Free(at))),
-                        Some(
-                            Formula::Holds(Atom::Before(Moment::Free(first), Moment::Free(second))),
-                        ),
-                    ) => (*at, *first, *second),
-                    _ => (97, 97, 97),
-                }
-            }
-            _ => (98, 98, 98),
-        },
-        _ => (99, 99, 99),
-    }
-}
-
-#[test]
-fn changes_within(rt: HostRuntime) -> Result<(), Fail> {
-    let alloc = rt.alloc();
-    let given = nested(alloc)?;
-    let copied = given.copy(alloc)?;
-    assert_eq!(rt; times_within(&copied), (2, 3, 2));
-    let changed = given.changed(alloc, &Subst::new(alloc), 1, 2)?;
-    assert_eq!(rt; times_within(&changed), (1, 3, 1));
     Ok(())
 }
 

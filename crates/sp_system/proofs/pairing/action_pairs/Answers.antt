@@ -3,7 +3,7 @@ use Rattle.std.proofs.lemmas.Grind.{common_steps}
 use Rattle.std.proofs.lemmas.Slice.Zip.{either_empty_from_Zip}
 use Rattle.std.specs.Slice.Iter.{iter_rest}
 use Rattle.sp_system.specs.Equating.{action_pair}
-use Rattle.sp_system.specs.View.{action_of}
+use Rattle.sp_fact.specs.View.{action_of}
 use Rattle.sp_system.specs.SystemView.{pair_of}
 use Rattle.sp_system.proofs.Pairs.{action_pairs-listed, unlike, gathered_more, gathered_stop, gathered_end}
 use Rattle.sp_system.proofs.pairing.action_pairs.Goals as goal

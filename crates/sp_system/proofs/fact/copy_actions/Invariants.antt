@@ -1,6 +1,0 @@
-use Rattle.std.proofs.Common.{◌≡◌, take, map}
-use Rattle.sp_system.specs.View.{action_of}
-use Rattle.sp_system.proofs.fact.copy_actions.Given as goal
-
-abbrev pub invariant-loop-action : goal.invariant-loop-action
-invariant-loop-action l = map action_of l.made.items ≡ map action_of (take l.action-index l.action-items)

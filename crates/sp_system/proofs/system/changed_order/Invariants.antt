@@ -1,0 +1,6 @@
+use Rattle.std.proofs.Common.{◌≡◌, take, map}
+use Rattle.sp_system.specs.Equating.{time_replaced, order_changed}
+use Rattle.sp_system.proofs.system.changed_order.Given as goal
+
+abbrev pub invariant-loop-pair : goal.invariant-loop-pair
+invariant-loop-pair l = l.made.items ≡ map (order_changed (time_replaced l.small l.large)) (take l.pair-index l.pair-items)
