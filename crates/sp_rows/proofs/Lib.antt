@@ -4,8 +4,10 @@ pub mod Positions
 pub mod TwinSearches
 pub mod Merges
 pub mod TwinPlaces
+pub mod MergeSearches
 pub mod Spends
 pub mod Searches
 pub mod Turns
 pub mod Openings
+pub mod Paths
 pub mod Sheltered

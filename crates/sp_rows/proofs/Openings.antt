@@ -10,9 +10,9 @@ use Rattle.sp_term.specs.declared.term.Term.TheFolds.{fold-roll-Term}
 use Rattle.sp_term.specs.declared.term.Term.TheOpen.{Term-F}
 use Rattle.sp_spec.specs.Guarded as spec
 use Rattle.sp_spec.specs.Term as term
-use Rattle.sp_system.specs.Change.{Change, opened}
-use Rattle.sp_system.specs.FormulaView.{binder_of}
-use Rattle.sp_system.specs.declared.formula.Binder.{Binder}
+use Rattle.sp_formula.specs.Change.{Change, opened}
+use Rattle.sp_formula.specs.FormulaView.{binder_of}
+use Rattle.sp_formula.specs.declared.formula.Binder.{Binder}
 use Rattle.sp_rows.specs.OpeningView.{pushed_all, put}
 
 pushed_last : {A : Type 0} (xs : List A) (x : A) (f : ℕ → A) → pushed_all (xs ++ x ∷ []) f ≡ pushed x (pushed_all xs f)

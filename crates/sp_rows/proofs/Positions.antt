@@ -1,10 +1,10 @@
 -- The first formula of which something is picked is the one at its position.
-use Rattle.std.proofs.Common.{◌≡◌, ℕ, suc, List, [], ◌∷◌, ◌++◌, take, drop, Option, Some, None, option_map, refl, ap, ap₂, ◌∙◌, ◌+◌, length, map}
+use Rattle.std.proofs.Common.{◌≡◌, ℕ, suc, List, [], ◌∷◌, ◌++◌, take, drop, Option, Some, None, option_map, option_and_then, refl, sym, ap, ap₂, ◌∙◌, ◌+◌, length, map}
 use Rattle.sp_spec.specs.Guarded.{Guarded, holds}
 use Rattle.sp_system.specs.System.{System}
-use Rattle.sp_system.specs.Change.{atom_changed, changed, opening}
-use Rattle.sp_step.specs.Rows.{Found, found_at, first_formula, spending, inequality_of, unequal, standing_of, action_stands, existential_of, open_existential}
-use Rattle.sp_rows.specs.RowsView.{position_at, position_of, spending_at, keeping}
+use Rattle.sp_formula.specs.Change.{atom_changed, changed, opening}
+use Rattle.sp_step.specs.Rows.{Found, found_at, first_formula, spending, split_of, split, order_of, in_order, inequality_of, unequal, Equation, equation_of, equated, equate, standing_of, action_stands, existential_of, open_existential}
+use Rattle.sp_rows.specs.RowsView.{position_at, position_of, spending_at, keeping, ordering}
 use Rattle.sp_rows.specs.OpeningView.{opening_at}
 
 -- what is found is what stands at the position
@@ -33,13 +33,13 @@ is_there pick (f ∷ fs) = there f fs (pick f) (first_formula pick fs) (position
 
 spent_there : {A : Type 0} (s : System) (r : Found A) (p : ℕ × A) (fs : List Guarded) → Stands s.formulas r p → spending s r fs ≡ spending_at s p.0 fs
 spent_there s r p fs h =
-    let made : List Guarded → List Guarded → System = λ gs ds. record { events = s.events; formulas = gs; spent = s.spent ++ ds; unequal = s.unequal; next = s.next } in
+    let made : List Guarded → List Guarded → System = λ gs ds. record { events = s.events; formulas = gs; spent = s.spent ++ ds; unequal = s.unequal; order = s.order; next = s.next } in
     ap₂ made (ap₂ (λ (xs ys : List Guarded). xs ++ (fs ++ ys)) h.front h.back) h.formula
 
 -- a row that spends the formula and goes on with what it picked of it
-pub spends : {A : Type 0} (pick : Guarded → Option A) (instead : A → List Guarded) (goes_on : System → A → System) (s : System)
+pub spends : {A R : Type 0} (pick : Guarded → Option A) (instead : A → List Guarded) (goes_on : System → A → R) (s : System)
     → option_map (λ r. goes_on (spending s r (instead r.picked)) r.picked) (first_formula pick s.formulas) ≡ option_map (λ p. goes_on (spending_at s p.0 (instead p.1)) p.1) (position_of pick s.formulas)
-spends {A = A} pick instead goes_on s = at (first_formula pick s.formulas) (position_of pick s.formulas) (is_there pick s.formulas)
+spends {A = A} {R = R} pick instead goes_on s = at (first_formula pick s.formulas) (position_of pick s.formulas) (is_there pick s.formulas)
   where
     at : (found : Option (Found A)) (position : Option (ℕ × A)) → IsThere s.formulas found position
         → option_map (λ r. goes_on (spending s r (instead r.picked)) r.picked) found ≡ option_map (λ p. goes_on (spending_at s p.0 (instead p.1)) p.1) position
@@ -64,4 +64,24 @@ place_counts s (Some p) = refl
 pub open_existential-there : (s : System) → open_existential s ≡ option_map (λ p. opening_at s p.0 p.1) (position_of existential_of s.formulas)
 open_existential-there s =
     spends existential_of (λ e. let c = opening e.binders s.next in map (λ a. holds (atom_changed c a)) e.guard ++ changed c e.body ∷ [])
-    (λ t e. record { events = t.events; formulas = t.formulas; spent = t.spent; unequal = t.unequal; next = s.next + length e.binders }) s
+    (λ t e. record { events = t.events; formulas = t.formulas; spent = t.spent; unequal = t.unequal; order = t.order; next = s.next + length e.binders }) s
+
+pub split-there : (s : System) → split s ≡ option_map (λ p. spending_at s p.0 p.1) (position_of split_of s.formulas)
+split-there s = spends split_of (λ fs. fs) (λ t fs. t) s
+
+pub in_order-there : (s : System) → in_order s ≡ option_map (λ p. ordering (spending_at s p.0 []) p.1) (position_of (order_of s.order) s.formulas)
+in_order-there s = spends (order_of s.order) (λ ps. []) ordering s
+
+-- what may fail after the formula is spent
+abbrev pub joined : Option (Option System) → Option System
+joined o = option_and_then (λ p. p) o
+
+pub joins : {A : Type 0} (f : A → Option System) (o : Option A) → joined (option_map f o) ≡ option_and_then f o
+joins f None = refl
+joins f (Some a) = refl
+
+pub equate-there : (s : System) → equate s ≡ option_and_then (λ p. equated (spending_at s p.0 []) p.1) (position_of equation_of s.formulas)
+equate-there s =
+    sym (joins (λ (r : Found Equation). equated (spending s r []) r.picked) (first_formula equation_of s.formulas))
+    ∙ ap joined (spends equation_of (λ e. []) equated s)
+    ∙ joins (λ (p : ℕ × Equation). equated (spending_at s p.0 []) p.1) (position_of equation_of s.formulas)

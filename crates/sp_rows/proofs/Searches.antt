@@ -2,8 +2,8 @@
 use Rattle.std.proofs.Common.{◌≡◌, ◌<◌, ◌≤◌, is_some, true, false, true≢false, ℕ, suc, ◌+◌, List, [], ◌∷◌, drop, length, map, Option, Some, None, option_map, refl, sym, ap, ◌∙◌, subst, arith, slice_index_or}
 use Rattle.std.proofs.lemmas.List.{drop_more, drop_all}
 use Rattle.sp_spec.specs.Guarded.{Guarded}
-use Rattle.sp_system.specs.declared.formula.Formula.{Formula}
-use Rattle.sp_system.specs.FormulaView.{formula_of}
+use Rattle.sp_formula.specs.declared.formula.Formula.{Formula}
+use Rattle.sp_formula.specs.FormulaView.{formula_of}
 use Rattle.sp_rows.specs.RowsView.{one_on, position_at, position_of}
 
 abbrev further : {A : Type 0} → ℕ → ℕ × A → ℕ × A

@@ -1,10 +1,10 @@
 -- What stands at a place under binders, and how one goes under them.
-use Rattle.std.proofs.Common.{◌≡◌, ◌<◌, ◌≤◌, ◌+◌, ℕ, zero, suc, List, [], ◌∷◌, length, map, drop, refl, sym, ap, ◌∙◌, arith, slice_index_or}
+use Rattle.std.proofs.Common.{◌≡◌, ◌<◌, ◌≤◌, ◌+◌, ℕ, zero, suc, List, ◌∷◌, length, map, drop, refl, sym, ap, ◌∙◌, arith, slice_index_or}
 use Rattle.std.proofs.lemmas.List.{drop_more, drop_all}
 use Rattle.sp_spec.specs.Guarded as spec
-use Rattle.sp_system.specs.Change.{Change, under}
-use Rattle.sp_system.specs.FormulaView.{binder_of}
-use Rattle.sp_system.specs.declared.formula.Binder.{Binder}
+use Rattle.sp_formula.specs.Change.{Change, under}
+use Rattle.sp_formula.specs.FormulaView.{binder_of}
+use Rattle.sp_formula.specs.declared.formula.Binder.{Binder}
 use Rattle.sp_rows.specs.InsideView.{sheltered, under_one}
 
 module _ {A : Type 0} (place : ℕ → A) (raise : A → A) (one : (k : ℕ) → raise (place k) ≡ place (suc k)) where

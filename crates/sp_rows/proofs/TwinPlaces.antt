@@ -1,7 +1,7 @@
 -- The first twins are the events at their positions.
-use Rattle.std.proofs.Common.{◌≡◌, ◌<◌, ℕ, zero, suc, List, [], ◌∷◌, ◌++◌, take, drop, length, Bool, true, false, if◌then◌else◌, Option, Some, None, option_map, option_and_then, is_none, refl, sym, ap, ap₂, ◌∙◌, arith}
-use Rattle.sp_system.specs.System.{Event, System}
-use Rattle.sp_step.specs.Rows.{Twins, twin_behind, twin_of, twins_from, first_twins, merged_twins, fails_to_merge, happening_fresh, share_one}
+use Rattle.std.proofs.Common.{◌≡◌, ◌<◌, ℕ, zero, suc, List, [], ◌∷◌, ◌++◌, take, drop, length, Bool, true, false, if◌then◌else◌, Option, Some, None, option_map, option_and_then, refl, sym, ap, ap₂, ◌∙◌, arith}
+use Rattle.sp_system.specs.System.{Event}
+use Rattle.sp_step.specs.Rows.{Twins, twin_behind, twin_by, twins_from, twins_by}
 use Rattle.sp_rows.specs.TwinsView.{twin_position, twins_at, twin_positions, twins, head_of, twins_there}
 
 record One (e : Event) (es : List Event) (r : Twins) (k : ℕ) : Type 0 where
@@ -23,9 +23,9 @@ one_step e d es false None (Some k) h = absurd h
 one_step e d es false (Some r) None h = absurd h
 one_step e d es false (Some r) (Some k) h = record { first = h.first; second = h.second; others = ap (λ (xs : List Event). d ∷ xs) h.others }
 
-is_one : (e : Event) (es : List Event) → IsOne e es (twin_of e es) (twin_position e es)
-is_one e [] = tt
-is_one e (d ∷ es) = one_step e d es (share_one (happening_fresh e.happening) (happening_fresh d.happening)) (twin_of e es) (twin_position e es) (is_one e es)
+is_one : (one : Event → Event → Bool) (e : Event) (es : List Event) → IsOne e es (twin_by one e es) (twin_position one e es)
+is_one one e [] = tt
+is_one one e (d ∷ es) = one_step e d es (one e d) (twin_by one e es) (twin_position one e es) (is_one one e es)
 
 record Both (es : List Event) (r : Twins) (p : ℕ × ℕ) : Type 0 where
   first : head_of (drop p.0 es) ≡ Some r.first
@@ -47,12 +47,12 @@ both_step e es None later (Some k) p h q = absurd h
 both_step e es (Some r) later None p h q = absurd h
 both_step e es (Some r) later (Some k) p h q = record { first = ap Some (sym h.first); second = h.second; others = ap (λ (xs : List Event). e ∷ xs) h.others }
 
-are_both : (es : List Event) → AreBoth es (first_twins es) (twin_positions es)
-are_both [] = tt
-are_both (e ∷ es) = both_step e es (twin_of e es) (first_twins es) (twin_position e es) (twin_positions es) (is_one e es) (are_both es)
+are_both : (one : Event → Event → Bool) (es : List Event) → AreBoth es (twins_by one es) (twin_positions one es)
+are_both one [] = tt
+are_both one (e ∷ es) = both_step e es (twin_by one e es) (twins_by one es) (twin_position one e es) (twin_positions one es) (is_one one e es) (are_both one es)
 
-pub first-there : (es : List Event) → first_twins es ≡ option_and_then (twins_there es) (twin_positions es)
-first-there es = at (first_twins es) (twin_positions es) (are_both es)
+pub first-there : (one : Event → Event → Bool) (es : List Event) → twins_by one es ≡ option_and_then (twins_there es) (twin_positions one es)
+first-there one es = at (twins_by one es) (twin_positions one es) (are_both one es)
   where
     at : (o : Option Twins) (p : Option (ℕ × ℕ)) → AreBoth es o p → o ≡ option_and_then (twins_there es) p
     at None None h = refl
@@ -71,8 +71,8 @@ headed [] k x e = absurd (none k e)
 headed (d ∷ es) zero x e = omega arith
 headed (d ∷ es) (suc k) x e = let h = headed es k x e in omega (arith, h)
 
-pub places_within : (es : List Event) (i j : ℕ) → twin_positions es ≡ Some (i, j) → (i < length es) × (j < length es)
-places_within es i j e = at (first_twins es) (twin_positions es) (are_both es) e
+pub places_within : (one : Event → Event → Bool) (es : List Event) (i j : ℕ) → twin_positions one es ≡ Some (i, j) → (i < length es) × (j < length es)
+places_within one es i j e = at (twins_by one es) (twin_positions one es) (are_both one es) e
   where
     at : (o : Option Twins) (p : Option (ℕ × ℕ)) → AreBoth es o p → p ≡ Some (i, j) → (i < length es) × (j < length es)
     at o None h d = absurd cc
@@ -82,13 +82,3 @@ places_within es i j e = at (first_twins es) (twin_positions es) (are_both es) e
         let g : p.1 ≡ j = cc in
         let a = headed es p.0 r.first h.first in
         let b = headed es p.1 r.second h.second in (omega (arith, f, a), omega (arith, g, b))
-
-pub fails_there : (s : System) (i j : ℕ) → twin_positions s.events ≡ Some (i, j) → is_none (option_and_then (merged_twins s) (twins_there s.events (i, j))) ≡ fails_to_merge s (first_twins s.events)
-fails_there s i j e = at (first_twins s.events) (twin_positions s.events) (are_both s.events) (first-there s.events) e
-  where
-    at : (o : Option Twins) (p : Option (ℕ × ℕ)) → AreBoth s.events o p → o ≡ option_and_then (twins_there s.events) p → p ≡ Some (i, j)
-        → is_none (option_and_then (merged_twins s) (twins_there s.events (i, j))) ≡ fails_to_merge s o
-    at None None h q d = absurd cc
-    at None (Some p) h q d = absurd h
-    at (Some r) None h q d = absurd h
-    at (Some r) (Some p) h q d = ap (λ x. is_none (option_and_then (merged_twins s) x)) (sym (q ∙ ap (option_and_then (twins_there s.events)) d))

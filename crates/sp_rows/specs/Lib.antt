@@ -2,4 +2,6 @@ pub mod RowsView
 pub mod TwinsView
 pub mod SimplifyView
 pub mod OpeningView
+pub mod OrderView
 pub mod InsideView
+pub mod EquationView

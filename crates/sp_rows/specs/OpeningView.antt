@@ -5,11 +5,11 @@ use Rattle.sp_spec.specs.Guarded.{Place, free, bound, free_time, bound_time, Bin
 use Rattle.sp_term.specs.View.{variable_of}
 use Rattle.sp_term.specs.declared.term.Variable.{Variable}
 use Rattle.sp_system.specs.System.{System}
-use Rattle.sp_system.specs.Change.{Change, atom_changed, changed, opening}
-use Rattle.sp_system.specs.FormulaView.{atom_of, binder_of, formula_of}
-use Rattle.sp_system.specs.declared.formula.Atom as memory_atom
-use Rattle.sp_system.specs.declared.formula.Binder as memory_binder
-use Rattle.sp_system.specs.declared.formula.Formula.{Formula}
+use Rattle.sp_formula.specs.Change.{Change, atom_changed, changed, opening}
+use Rattle.sp_formula.specs.FormulaView.{atom_of, binder_of, formula_of}
+use Rattle.sp_formula.specs.declared.formula.Atom as memory_atom
+use Rattle.sp_formula.specs.declared.formula.Binder as memory_binder
+use Rattle.sp_formula.specs.declared.formula.Formula.{Formula}
 use Rattle.sp_step.specs.Rows as rows
 use Rattle.sp_rows.specs.RowsView.{spending_at}
 use Rattle.sp_rows.specs.declared.opening.NewVariables.{NewVariables}
@@ -44,4 +44,4 @@ abbrev pub opening_at : System → ℕ → rows.Existential → System
 opening_at s k e =
     let c = opening e.binders s.next in
     let t = spending_at s k (map (λ a. holds (atom_changed c a)) e.guard ++ changed c e.body ∷ []) in
-    record { events = t.events; formulas = t.formulas; spent = t.spent; unequal = t.unequal; next = s.next + length e.binders }
+    record { events = t.events; formulas = t.formulas; spent = t.spent; unequal = t.unequal; order = t.order; next = s.next + length e.binders }

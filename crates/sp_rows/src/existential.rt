@@ -2,15 +2,15 @@
 
 ghost use Rattle.std.specs.Prelude.{◌≡◌, ◌<◌, ◌∷◌, ◌++◌, [], IfOk, length, map, option_map};
 ghost use Rattle.sp_spec.specs.Guarded.{holds};
-ghost use Rattle.sp_system.specs.Change.{atom_changed, changed};
-ghost use Rattle.sp_system.specs.FormulaView.{atom_of, formula_of};
+ghost use Rattle.sp_formula.specs.Change.{atom_changed, changed};
+ghost use Rattle.sp_formula.specs.FormulaView.{atom_of, formula_of};
 ghost use Rattle.sp_system.specs.SystemView.{system_of};
 ghost use Rattle.sp_step.specs.Rows as rows;
 ghost use Rattle.sp_rows.specs.OpeningView.{change_of, opening_at, parts_of};
 
 use crate::opening::NewVariables;
 use crate::spend::spend_for;
-use sp_system::formula::{Atom, Binder, Formula};
+use sp_formula::formula::{Atom, Binder, Formula};
 use sp_system::system::System;
 use std::alloc::{AllocError, Global};
 

@@ -2,13 +2,13 @@
 
 ghost use Rattle.std.specs.Prelude.{◌≡◌, IfOk, map, option_map};
 ghost use Rattle.sp_term.specs.View.{view};
-ghost use Rattle.sp_system.specs.FormulaView.{placed_term, formula_of};
+ghost use Rattle.sp_formula.specs.FormulaView.{placed_term, formula_of};
 ghost use Rattle.sp_system.specs.SystemView.{pair_of, system_of};
 ghost use Rattle.sp_step.specs.Rows as rows;
 ghost use Rattle.sp_rows.specs.RowsView.{position_of, keeping};
 
 use crate::spend::spend;
-use sp_system::formula::{Atom, Formula, FormulaTerm};
+use sp_formula::formula::{Atom, Formula, FormulaTerm};
 use sp_system::system::System;
 use sp_term::term::{Term, copy};
 use sp_unify::unify::mgu;
@@ -24,7 +24,11 @@ pub fn freed(term: &FormulaTerm) -> Result<Option<Term>, AllocError>
     }
 }
 
-fn freed_pair(left: &FormulaTerm, right: &FormulaTerm) -> Result<Option<(Term, Term)>, AllocError>
+/// Two terms of the system, if both are terms of it.
+pub fn freed_pair(
+    left: &FormulaTerm,
+    right: &FormulaTerm,
+) -> Result<Option<(Term, Term)>, AllocError>
     ensures { IfOk result (λ o. option_map pair_of o ≡ rows.pair_of (placed_term left.now) (placed_term right.now)) }
 {
     let Some(first) = freed(left)? else {

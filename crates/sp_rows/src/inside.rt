@@ -1,11 +1,11 @@
 // Binders that are inside what is opened.
 
 ghost use Rattle.std.specs.Prelude.{◌≡◌, IfOk, map};
-ghost use Rattle.sp_system.specs.Change.{Change, under};
-ghost use Rattle.sp_system.specs.FormulaView.{binder_of};
+ghost use Rattle.sp_formula.specs.Change.{Change, under};
+ghost use Rattle.sp_formula.specs.FormulaView.{binder_of};
 ghost use Rattle.sp_rows.specs.InsideView.{inside_of, under_one};
 
-use sp_system::formula::Binder;
+use sp_formula::formula::Binder;
 use std::alloc::AllocError;
 
 /// How many binders stand between a place and what is opened.

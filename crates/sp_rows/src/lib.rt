@@ -5,11 +5,17 @@
 // That the rows lose no solution is said of the definitions, in sp_step.
 #![tactic(auto)]
 
+pub mod before;
+pub mod conjunction;
 pub mod contradiction;
+pub mod equation;
 pub mod existential;
 pub mod inequality;
 pub mod inside;
 pub mod opening;
+pub mod order;
+#[cfg(test)]
+mod row_tests;
 pub mod simplify;
 pub mod spend;
 pub mod stands;

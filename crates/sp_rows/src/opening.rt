@@ -3,13 +3,15 @@
 ghost use Rattle.std.specs.Prelude.{◌≡◌, ◌+◌, IfOk, length, map};
 ghost use Rattle.sp_spec.specs.Term.{valued, valued_all};
 ghost use Rattle.sp_spec.specs.Rule.{action_at};
-ghost use Rattle.sp_system.specs.Change.{place_changed, time_changed, atom_changed, changed, opening};
-ghost use Rattle.sp_system.specs.FormulaView.{placed_term, placed_terms, placed_action, moment_of, atom_of, binder_of, formula_of};
+ghost use Rattle.sp_formula.specs.Change.{place_changed, time_changed, atom_changed, changed, opening};
+ghost use Rattle.sp_formula.specs.FormulaView.{placed_term, placed_terms, placed_action, moment_of, atom_of, binder_of, formula_of};
 ghost use Rattle.sp_rows.specs.InsideView.{inside_of};
 ghost use Rattle.sp_rows.specs.OpeningView.{change_of, put};
 
 use crate::inside::Inside;
-use sp_system::formula::{Atom, Binder, Formula, FormulaAction, FormulaTerm, Moment, copy_binders};
+use sp_formula::formula::{
+    Atom, Binder, Formula, FormulaAction, FormulaTerm, Moment, copy_binders,
+};
 use sp_term::term::{Term, Variable, copy};
 use std::alloc::{AllocError, Global};
 

@@ -5,9 +5,13 @@ ghost use Rattle.sp_system.specs.SystemView.{system_of};
 ghost use Rattle.sp_step.specs.Rows as rows;
 ghost use Rattle.sp_rows.specs.SimplifyView as spec;
 
-use crate::contradiction::{has_equal_pair, has_refuted};
+use crate::before::is_cyclic;
+use crate::conjunction::split;
+use crate::contradiction::{has_equal_pair, has_falsity, has_refuted};
+use crate::equation::{equate, fails_to_equate};
 use crate::existential::open_existential;
 use crate::inequality::unequal;
+use crate::order::in_order;
 use crate::stands::action_stands;
 use crate::twins::{fails_to_merge, fresh_once};
 use sp_system::system::System;
@@ -21,10 +25,19 @@ use std::alloc::{AllocError, Global};
 pub fn by_rows(alloc: Global, system: &System) -> Result<Option<System>, AllocError>
     ensures { IfOk result (λ o. option_map system_of o ≡ rows.by_rows rows.rows (system_of system.now)) }
 {
+    if let Some(made) = split(alloc, system)? {
+        return Ok(Some(made));
+    }
     if let Some(made) = open_existential(alloc, system)? {
         return Ok(Some(made));
     }
+    if let Some(made) = equate(alloc, system)? {
+        return Ok(Some(made));
+    }
     if let Some(made) = unequal(alloc, system)? {
+        return Ok(Some(made));
+    }
+    if let Some(made) = in_order(alloc, system)? {
         return Ok(Some(made));
     }
     if let Some(made) = action_stands(alloc, system)? {
@@ -42,10 +55,16 @@ pub fn by_rows(alloc: Global, system: &System) -> Result<Option<System>, AllocEr
 pub fn is_contradictory(alloc: Global, system: &System) -> Result<bool, AllocError>
     ensures { IfOk result (λ b. b ≡ rows.is_contradictory (system_of system.now)) }
 {
-    if has_equal_pair(&system.unequal) || has_refuted(&system.formulas) {
+    if has_falsity(&system.formulas) || has_equal_pair(&system.unequal) {
         return Ok(true);
     }
-    fails_to_merge(alloc, system)
+    if has_refuted(alloc, &system.order, &system.formulas)? || is_cyclic(alloc, &system.order)? {
+        return Ok(true);
+    }
+    if fails_to_equate(alloc, system)? {
+        return Ok(true);
+    }
+    fails_to_merge(alloc, &system.events)
 }
 
 // The system after one more elementary move, if no contradiction is seen and some move applies.

@@ -1,11 +1,11 @@
 // Formulas that have been used.
 
 ghost use Rattle.std.specs.Prelude.{◌≡◌, ◌<◌, [], IfOk, length, map};
-ghost use Rattle.sp_system.specs.FormulaView.{formula_of};
+ghost use Rattle.sp_formula.specs.FormulaView.{formula_of};
 ghost use Rattle.sp_system.specs.SystemView.{system_of};
 ghost use Rattle.sp_rows.specs.RowsView.{spending_at};
 
-use sp_system::formula::Formula;
+use sp_formula::formula::Formula;
 use sp_system::system::System;
 use std::alloc::{AllocError, Global};
 

@@ -2,16 +2,16 @@
 
 ghost use Rattle.std.specs.Prelude.{◌≡◌, IfOk, map, option_map, is_some};
 ghost use Rattle.sp_term.specs.View.{view_all};
-ghost use Rattle.sp_system.specs.View.{action_of};
-ghost use Rattle.sp_system.specs.FormulaView.{placed_terms, placed_action, formula_of};
+ghost use Rattle.sp_fact.specs.View.{action_of};
+ghost use Rattle.sp_formula.specs.FormulaView.{placed_terms, placed_action, formula_of};
 ghost use Rattle.sp_system.specs.SystemView.{event_of, system_of};
 ghost use Rattle.sp_step.specs.Rows as rows;
 ghost use Rattle.sp_rows.specs.RowsView.{position_of};
 
 use crate::inequality::freed;
 use crate::spend::spend;
-use sp_system::fact::Action;
-use sp_system::formula::{Atom, Formula, FormulaAction, FormulaTerm, Moment};
+use sp_fact::fact::Action;
+use sp_formula::formula::{Atom, Formula, FormulaAction, FormulaTerm, Moment};
 use sp_system::system::{Event, System};
 use sp_term::term::{Term, all_same};
 use std::alloc::{AllocError, Global};

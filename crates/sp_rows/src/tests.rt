@@ -5,8 +5,8 @@ use crate::simplify::{by_rows, is_contradictory, simplified};
 use crate::spend::spend;
 use crate::stands::{action_stands, freed_action, has_action};
 use crate::twins::{fails_to_merge, fresh_once};
-use sp_system::fact::{Action, Fact, Facts};
-use sp_system::formula::{Atom, Binder, Formula, FormulaAction, FormulaTerm, Moment};
+use sp_fact::fact::{Action, Fact, Facts};
+use sp_formula::formula::{Atom, Binder, Formula, FormulaAction, FormulaTerm, Moment};
 use sp_system::system::{Event, System};
 use sp_term::term::{Name, Sort, Term, Variable};
 use std::alloc::{AllocError, Global};
@@ -85,6 +85,7 @@ fn system(alloc: Global, second_rule: &str) -> Result<System, AllocError> {
         formulas,
         spent: Vec::new(alloc),
         unequal: Vec::new(alloc),
+        order: Vec::new(alloc),
         next: 4,
     })
 }
@@ -268,7 +269,7 @@ fn simplifies(rt: HostRuntime) -> Result<(), Fail> {
     assert_eq!(rt; sizes(&made), (1, 3, 4, 1, 8));
     let after = is_contradictory(alloc, &made)?;
     assert!(rt; after);
-    let seen = has_refuted(&made.formulas);
+    let seen = has_refuted(alloc, &made.order, &made.formulas)?;
     assert!(rt; seen);
     Ok(())
 }
@@ -277,7 +278,7 @@ fn simplifies(rt: HostRuntime) -> Result<(), Fail> {
 fn sees_contradictions(rt: HostRuntime) -> Result<(), Fail> {
     let alloc = rt.alloc();
     let apart = system(alloc, "S")?;
-    let fails = fails_to_merge(alloc, &apart)?;
+    let fails = fails_to_merge(alloc, &apart.events)?;
     assert!(rt; fails);
     let stays = simplified(alloc, apart)?;
     assert_eq!(rt; sizes(&stays), (2, 4, 0, 0, 4));
@@ -288,7 +289,9 @@ fn sees_contradictions(rt: HostRuntime) -> Result<(), Fail> {
     pairs.push((variable(Sort::Msg, 1), variable(Sort::Msg, 1)))?;
     let equal = has_equal_pair(&pairs);
     assert!(rt; equal);
-    let refuted = is_refuted(&Formula::Fails(Atom::SameTime(Moment::Free(3), Moment::Free(3))));
+    let order = Vec::new(alloc);
+    let itself = Formula::Fails(Atom::SameTime(Moment::Free(3), Moment::Free(3)));
+    let refuted = is_refuted(alloc, &order, &itself)?;
     assert!(rt; refuted);
     Ok(())
 }

@@ -4,7 +4,11 @@ pub mod Literals
 pub mod Opening
 pub mod Opened
 pub mod OpenedNumbers
+pub mod Twins
 pub mod FreshOnce
+pub mod Splitting
+pub mod Orders
+pub mod Equations
 pub mod Simplifying
 pub mod Entries
 pub mod Actions

@@ -1,11 +1,11 @@
 -- The rows on inequalities and standing actions, and the contradictions of literals.
-use Rattle.std.proofs.Common.{◌≡◌, ◌≤◌, ℕ, true, List, [], ◌∷◌, Option, Some, None, option_map, sym, ap, ◌∙◌, subst, eqb-true, ⊎_elim, le_refl}
+use Rattle.std.proofs.Common.{◌≡◌, ◌≤◌, ℕ, true, List, [], ◌∷◌, Option, Some, None, option_map, sym, ap, ◌∙◌, subst, ⊎_elim, le_refl}
 use Rattle.std.proofs.lemmas.Bool.{or_cases}
 use Rattle.sp_spec.specs.Lists.{Every}
 use Rattle.sp_spec.specs.Term.{Variable, Term, Ground, valued}
 use Rattle.sp_spec.specs.Equal.{Equal, end, IsNormal}
 use Rattle.sp_spec.specs.Theory.{Theory, signature_of}
-use Rattle.sp_spec.specs.Guarded.{Place, free_time, bound_time, acts, same, same_time, before, last, Guarded, truth, falsity, holds, fails, all_of, one_of, some, every, term_in}
+use Rattle.sp_spec.specs.Guarded.{Place, acts, same, same_time, before, last, Guarded, truth, falsity, holds, fails, all_of, one_of, some, every, term_in}
 use Rattle.sp_spec.specs.Log.{Log, IsLog}
 use Rattle.sp_spec.specs.Same.{alike}
 use Rattle.sp_spec.specs.Substitution.{Binding}
@@ -14,7 +14,7 @@ use Rattle.sp_law_equal.proofs.Tests.{same_by_decides, same_variable_decides}
 use Rattle.sp_system.specs.System.{System, Valuation, assignment, FormulaHolds, AreUnequal, Solves, EachVariable, InFormula, IsNumbered, Covers}
 use Rattle.sp_spec.proofs.Lists.{every_append}
 use Rattle.sp_system.proofs.Solutions.{Under, TimeUnder, agrees_itself}
-use Rattle.sp_step.specs.Rows.{first_formula, spending, pair_of, inequality_of, kept_unequal, unequal_at, unequal, standing_of, action_stands, freed, has_equal_pair, is_refuted, has_refuted}
+use Rattle.sp_step.specs.Rows.{first_formula, spending, pair_of, inequality_of, kept_unequal, unequal_at, unequal, standing_of, action_stands, freed, has_equal_pair}
 use Rattle.sp_step.proofs.Freed.{mapped, then_some, freed_value, freed_in}
 use Rattle.sp_step.proofs.Spending.{is_found, found_holds, spending_solves, spending_numbered}
 
@@ -37,7 +37,7 @@ action_stands_numbered s t e n =
     subst P (sym r.2) (spending_numbered (standing_of s.events) s r.0 found [] tt n, le_refl s.next)
 
 -- Unequal: the two terms of the literal are terms of the system.
-pair_parts : (t u : Term Place) (p : Pair) → pair_of t u ≡ Some p → (freed t ≡ Some p.0) × (freed u ≡ Some p.1)
+pub pair_parts : (t u : Term Place) (p : Pair) → pair_of t u ≡ Some p → (freed t ≡ Some p.0) × (freed u ≡ Some p.1)
 pair_parts t u p e =
     let r = then_some (λ a. option_map (λ (b : Term Variable). let q : Pair = (a, b) in q) (freed u)) (freed t) p e in
     let q = mapped (λ (b : Term Variable). let q : Pair = (r.0, b) in q) (freed u) p r.2 in
@@ -97,6 +97,7 @@ unequal_covers theory s t e =
       formulas = u.formulas;
       spent = u.spent;
       unequal = kept_each (AreUnequal theory v) s.unequal r.0.picked (mgu (r.0.picked ∷ [])) h.unequal p;
+      order = u.order;
     }))
 
 pub unequal_numbered : (s t : System) → unequal s ≡ Some t → IsNumbered s → IsNumbered t × (s.next ≤ t.next)
@@ -112,6 +113,7 @@ unequal_numbered s t e n =
         formulas = u.formulas;
         spent = u.spent;
         unequal = kept_each _ s.unequal r.0.picked (mgu (r.0.picked ∷ [])) n.unequal p;
+        order = u.order;
       },
       le_refl s.next,
     )
@@ -127,28 +129,3 @@ equal_pair_contradicts theory v (p ∷ pairs) e h =
     (λ k. h.0.0 (ap (valued v.terms) (alike_same p.0 p.1 k)))
     (λ k. equal_pair_contradicts theory v pairs k h.1)
     (or_cases (alike p.0 p.1) (has_equal_pair pairs) e)
-
--- a time differs from itself
-refuted_contradicts : (theory : Theory) (log : Log) (v : Valuation) (f : Guarded) → is_refuted f ≡ true → FormulaHolds theory log v f → ⊥
-refuted_contradicts theory log v (fails (same_time (free_time i) (free_time j))) e h = h.0 (λ none. none (ap v.times (eqb-true i j e)))
-refuted_contradicts theory log v (fails (same_time (free_time i) (bound_time j))) e h = absurd cc
-refuted_contradicts theory log v (fails (same_time (bound_time i) j)) e h = absurd cc
-refuted_contradicts theory log v (fails (acts a i)) e h = absurd cc
-refuted_contradicts theory log v (fails (same t u)) e h = absurd cc
-refuted_contradicts theory log v (fails (before i j)) e h = absurd cc
-refuted_contradicts theory log v (fails (last i)) e h = absurd cc
-refuted_contradicts theory log v truth e h = absurd cc
-refuted_contradicts theory log v falsity e h = absurd cc
-refuted_contradicts theory log v (holds a) e h = absurd cc
-refuted_contradicts theory log v (all_of fs) e h = absurd cc
-refuted_contradicts theory log v (one_of fs) e h = absurd cc
-refuted_contradicts theory log v (some bs guard f) e h = absurd cc
-refuted_contradicts theory log v (every bs guard f) e h = absurd cc
-
-pub some_refuted_contradicts : (theory : Theory) (log : Log) (v : Valuation) (fs : List Guarded) → has_refuted fs ≡ true → Every (FormulaHolds theory log v) fs → ⊥
-some_refuted_contradicts theory log v [] e h = absurd cc
-some_refuted_contradicts theory log v (f ∷ fs) e h =
-    ⊎_elim
-    (λ k. refuted_contradicts theory log v f k h.0)
-    (λ k. some_refuted_contradicts theory log v fs k h.1)
-    (or_cases (is_refuted f) (has_refuted fs) e)

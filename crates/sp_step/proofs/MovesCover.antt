@@ -21,7 +21,7 @@ use Rattle.sp_step.specs.Rows.{freed_action, happening_actions, rows, by_rows, i
 use Rattle.sp_step.specs.Moves.{Move, simplify, contradiction, unproved, action, Case, where_same, renamed, with_step, system_if, by_actions, named, by_each, event_at, action_cases, action_at_time, is_adversary, solving_action, raw_cases, simple_case}
 use Rattle.sp_step.specs.Laws.{RulesAreNumbered, RulesArePlain, systems_of, MovesCover}
 use Rattle.sp_step.proofs.Freed.{mapped, freed_action_in}
-use Rattle.sp_step.proofs.FreshOnce.{unifier_within}
+use Rattle.sp_step.proofs.Twins.{unifier_within}
 use Rattle.sp_step.proofs.Opened.{EqualTruth}
 use Rattle.sp_step.proofs.Actions.{named_systems, systems_append, at_event_systems, step_numbered}
 use Rattle.sp_step.proofs.ActionCovers.{event_found, at_event_solved, new_step_solved}

@@ -8,7 +8,7 @@ use Rattle.sp_spec.specs.Theory.{Theory, signature_of}
 use Rattle.sp_spec.specs.Guarded.{Place, free, bound, Time, free_time, bound_time, Assignment, with_term, with_time, pushed, place_in, term_in, time_in}
 use Rattle.sp_spec.specs.Same.{same_variable}
 use Rattle.sp_law_equal.proofs.Tests.{same_variable_decides}
-use Rattle.sp_system.specs.Change.{Change}
+use Rattle.sp_formula.specs.Change.{Change}
 use Rattle.sp_system.specs.System.{Valuation, assignment, EachVariable, AtFree, AtFreeTime, Agrees}
 use Rattle.sp_system.proofs.Facts.{valued_same}
 use Rattle.sp_system.proofs.Numbers.{each_weaken}

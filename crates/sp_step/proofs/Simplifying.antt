@@ -7,9 +7,12 @@ use Rattle.sp_law_equal.specs.Convergent.{AreConvergent, KeepSymbols}
 use Rattle.sp_system.specs.System.{System, Valuation, IsNumbered, Agrees, NoneSolved, Covers}
 use Rattle.sp_system.specs.Laws.{UnifierIsRight}
 use Rattle.sp_system.proofs.Solutions.{agrees_then}
-use Rattle.sp_step.specs.Rows.{Row, row_open, row_unequal, row_action_stands, row_fresh_once, rows, by_row, first_of, by_rows, has_equal_pair, has_refuted, fails_to_merge, first_twins, is_contradictory, goes_on, simplified_by}
+use Rattle.sp_step.specs.Rows.{Row, row_split, row_open, row_equate, row_unequal, row_order, row_action_stands, row_fresh_once, rows, by_row, first_of, by_rows, has_falsity, has_equal_pair, has_refuted, is_cyclic, fails_to_equate, fails_to_merge, is_contradictory, goes_on, simplified_by}
 use Rattle.sp_step.specs.Laws.{HasNoSolution, ContradictionsHold, RowsCover}
-use Rattle.sp_step.proofs.Literals.{covers_by_itself, action_stands_covers, action_stands_numbered, unequal_covers, unequal_numbered, equal_pair_contradicts, some_refuted_contradicts}
+use Rattle.sp_step.proofs.Literals.{covers_by_itself, action_stands_covers, action_stands_numbered, unequal_covers, unequal_numbered, equal_pair_contradicts}
+use Rattle.sp_step.proofs.Splitting.{split_covers, split_numbered, some_falsity_contradicts}
+use Rattle.sp_step.proofs.Orders.{in_order_covers, in_order_numbered, cyclic_contradicts, some_refuted_contradicts}
+use Rattle.sp_step.proofs.Equations.{equate_covers, equate_numbered, some_fails_contradicts}
 use Rattle.sp_step.proofs.FreshOnce.{merge_contradicts, fresh_once_covers, fresh_once_numbered}
 use Rattle.sp_step.proofs.Opened.{EqualTruth, open_existential_covers}
 use Rattle.sp_step.proofs.OpenedNumbers.{open_existential_numbered}
@@ -29,14 +32,20 @@ covers_itself theory s = covers_by_itself theory s s (λ log is v h. h)
 
 module _ (right : UnifierIsRight) (theory : Theory) (good : AreConvergent (signature_of theory).equations) (keeps : KeepSymbols (signature_of theory).symbols (signature_of theory).equations) (equal_truth : EqualTruth) where
   row_numbered : (row : Row) (s t : System) → by_row row s ≡ Some t → IsNumbered s → IsNumbered t × (s.next ≤ t.next)
+  row_numbered row_split s t e n = split_numbered s t e n
   row_numbered row_open s t e n = open_existential_numbered s t e n
+  row_numbered row_equate s t e n = equate_numbered right s t e n
   row_numbered row_unequal s t e n = unequal_numbered s t e n
+  row_numbered row_order s t e n = in_order_numbered s t e n
   row_numbered row_action_stands s t e n = action_stands_numbered s t e n
-  row_numbered row_fresh_once s t e n = fresh_once_numbered right s t e n
+  row_numbered row_fresh_once s t e n = fresh_once_numbered right theory s t e n
 
   row_covers : (row : Row) (s t : System) → by_row row s ≡ Some t → IsNumbered s → Covers theory s (t ∷ [])
+  row_covers row_split s t e n = split_covers theory s t e
   row_covers row_open s t e n = open_existential_covers theory good keeps equal_truth s t e n
+  row_covers row_equate s t e n = equate_covers right theory good s t e n
   row_covers row_unequal s t e n = unequal_covers theory s t e
+  row_covers row_order s t e n = in_order_covers theory s t e
   row_covers row_action_stands s t e n = action_stands_covers theory s t e
   row_covers row_fresh_once s t e n = fresh_once_covers right theory s t e n
 
@@ -45,13 +54,15 @@ module _ (right : UnifierIsRight) (theory : Theory) (good : AreConvergent (signa
 
   pub no_solution : (s : System) → is_contradictory s ≡ true → IsNumbered s → HasNoSolution theory s
   no_solution s e n log is v h =
-      ⊎_elim
-      (λ k. equal_pair_contradicts theory v s.unequal k h.unequal)
-      (λ k. ⊎_elim
-      (λ l. some_refuted_contradicts theory log v s.formulas l h.formulas)
-      (λ l. merge_contradicts right theory s l n log is v h)
-      (or_cases (has_refuted s.formulas) (fails_to_merge s (first_twins s.events)) k))
-      (or_cases (has_equal_pair s.unequal) (has_refuted s.formulas || fails_to_merge s (first_twins s.events)) e)
+      either (has_falsity s.formulas) _ (λ k. some_falsity_contradicts theory log v s.formulas k h.formulas)
+      (λ a. either (has_equal_pair s.unequal) _ (λ k. equal_pair_contradicts theory v s.unequal k h.unequal)
+      (λ b. either (has_refuted s.order s.formulas) _ (λ k. some_refuted_contradicts v s.order h.order theory log s.formulas k h.formulas)
+      (λ c. either (is_cyclic s.order) _ (λ k. cyclic_contradicts v s.order h.order k)
+      (λ d. either (fails_to_equate s s.formulas) (fails_to_merge s.events) (λ k. some_fails_contradicts right theory good s n log v h s.formulas k h.formulas)
+      (λ k. merge_contradicts right theory s k n log is v h) d) c) b) a) e
+    where
+      either : (a b : Bool) → (a ≡ true → ⊥) → (b ≡ true → ⊥) → (a || b) ≡ true → ⊥
+      either a b first second k = ⊎_elim first second (or_cases a b k)
 
   pub contradictions_hold : ContradictionsHold theory
   contradictions_hold = record { no_solution = no_solution }

@@ -43,6 +43,7 @@ with_step s i r = record {
   formulas = s.formulas;
   spent = s.spent;
   unequal = s.unequal;
+  order = s.order;
   next = s.next + length r.variables;
 }
 

@@ -1,6 +1,6 @@
 use Rattle.std.proofs.Common.{ap, ap₂, ◌∙◌, List, ◌++◌, slice_index_or}
 use Rattle.std.specs.List.{remove}
-use Rattle.sp_system.specs.declared.formula.Formula.{Formula}
+use Rattle.sp_formula.specs.declared.formula.Formula.{Formula}
 use Rattle.sp_rows.proofs.Spends.{spends_one}
 use Rattle.sp_rows.proofs.spend.spend_for.Goals as goal
 

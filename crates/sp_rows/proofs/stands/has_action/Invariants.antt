@@ -1,5 +1,5 @@
 use Rattle.std.proofs.Common.{◌≡◌, map, drop}
-use Rattle.sp_system.specs.View.{action_of}
+use Rattle.sp_fact.specs.View.{action_of}
 use Rattle.sp_system.specs.SystemView.{event_of}
 use Rattle.sp_step.specs.Rows as rows
 use Rattle.sp_rows.proofs.stands.has_action.Given as goal

@@ -1,4 +1,4 @@
-use Rattle.std.proofs.Common.{◌∙◌, sym, ap, option_and_then}
+use Rattle.std.proofs.Common.{Some, option_map, sym, ap, ◌∙◌}
 use Rattle.sp_system.specs.SystemView.{system_of}
 use Rattle.sp_step.specs.Rows.{merged_twins}
 use Rattle.sp_rows.proofs.Merges.{both_there}
@@ -6,6 +6,6 @@ use Rattle.sp_rows.proofs.twins.merge.Goals as goal
 
 pub returns : goal.returns
 returns c =
-    c.in_ok-made.ensures
-    ∙ ap (option_and_then (merged_twins (system_of c.args.system.now)))
+    ap Some c.in_ok-made.ensures
+    ∙ ap (option_map (merged_twins (system_of c.args.system.now)))
     (sym (both_there c.args.system.now.events.items c.args.first c.args.second c.index-left.result.now c.index-right.result.now c.requires.first c.index-left.ensures c.requires.second c.index-right.ensures))

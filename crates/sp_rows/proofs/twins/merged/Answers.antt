@@ -31,7 +31,7 @@ returns-in_default-2 c =
     let b = event_of c.args.right.now in
     let others = (twins a b s.events c.args.second).others in
     ap (λ (o : Option Subst). row s a b others (option_map bindings o)) (sym c.in_default-2.is)
-    ∙ ap (row s a b others) c.in_ok-subst.ensures
+    ∙ ap (row s a b others) c.in_ok-subst.ensures.found
     ∙ ap (λ (xs : List (Term × Term)). row s a b others (mgu (map pair_of xs))) c.deref.ensures.value
     ∙ ap (λ (o : Option (Vec (Term × Term))). row s a b others (unifier_of (option_map (λ ps. map pair_of ps.items) o))) (sym c.in-Some.is)
     ∙ ap (λ (o : Option (List Pair)). row s a b others (unifier_of o)) c.in_ok-pairs.ensures
@@ -42,14 +42,14 @@ returns c =
     let a = event_of c.args.left.now in
     let b = event_of c.args.right.now in
     let others = (twins a b s.events c.args.second).others in
-    let t : spec.System = record { events = others; formulas = s.formulas; spent = s.spent; unequal = s.unequal; next = s.next } in
+    let t : spec.System = record { events = others; formulas = s.formulas; spent = s.spent; unequal = s.unequal; order = s.order; next = s.next } in
     let bs = bindings c.in-Some-2.subst in
     let times = c.ordered-small.result in
     ap Some
     (merges c.in_ok-made.made s (bound_to bs) (time_replaced times.0 times.1) c.remove.new.self.items c.args.second c.in_ok-made.ensures c.remove.ensures.items
     ∙ ap (λ (q : ℕ × ℕ). system_changed (bound_to bs) (time_replaced q.0 q.1) t) c.ordered-small.ensures)
     ∙ ap (λ (o : Option Subst). row s a b others (option_map bindings o)) (sym c.in-Some-2.is)
-    ∙ ap (row s a b others) c.in_ok-subst.ensures
+    ∙ ap (row s a b others) c.in_ok-subst.ensures.found
     ∙ ap (λ (xs : List (Term × Term)). row s a b others (mgu (map pair_of xs))) c.deref.ensures.value
     ∙ ap (λ (o : Option (Vec (Term × Term))). row s a b others (unifier_of (option_map (λ ps. map pair_of ps.items) o))) (sym c.in-Some.is)
     ∙ ap (λ (o : Option (List Pair)). row s a b others (unifier_of o)) c.in_ok-pairs.ensures

@@ -1,6 +1,6 @@
 use Rattle.std.proofs.Common.{◌≡◌, drop, map}
-use Rattle.sp_system.specs.Change.{Change, under}
-use Rattle.sp_system.specs.FormulaView.{binder_of}
+use Rattle.sp_formula.specs.Change.{Change, under}
+use Rattle.sp_formula.specs.FormulaView.{binder_of}
 use Rattle.sp_rows.specs.InsideView.{inside_of}
 use Rattle.sp_rows.proofs.inside.Inside.under.Given as goal
 

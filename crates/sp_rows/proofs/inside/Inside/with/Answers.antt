@@ -1,6 +1,6 @@
 use Rattle.std.proofs.Common.{◌≡◌, ℕ, suc, sym, ap, ◌∙◌, arith}
-use Rattle.sp_system.specs.FormulaView.{binder_of}
-use Rattle.sp_system.specs.declared.formula.Binder.{Binder}
+use Rattle.sp_formula.specs.FormulaView.{binder_of}
+use Rattle.sp_formula.specs.declared.formula.Binder.{Binder}
 use Rattle.sp_rows.specs.InsideView.{inside_of, under_one}
 use Rattle.sp_rows.specs.declared.inside.Inside.{Inside}
 use Rattle.sp_rows.proofs.inside.Inside.with.Goals as goal

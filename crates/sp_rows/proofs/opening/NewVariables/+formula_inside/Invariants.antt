@@ -1,6 +1,6 @@
 use Rattle.std.proofs.Common.{◌≡◌, take, map}
-use Rattle.sp_system.specs.Change.{changed}
-use Rattle.sp_system.specs.FormulaView.{formula_of}
+use Rattle.sp_formula.specs.Change.{changed}
+use Rattle.sp_formula.specs.FormulaView.{formula_of}
 use Rattle.sp_rows.specs.InsideView.{inside_of}
 use Rattle.sp_rows.specs.OpeningView.{change_of}
 use Rattle.sp_rows.proofs.opening.NewVariables.+formula_inside.Given as goal

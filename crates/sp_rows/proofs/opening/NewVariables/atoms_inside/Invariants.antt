@@ -1,6 +1,6 @@
 use Rattle.std.proofs.Common.{◌≡◌, take, map}
-use Rattle.sp_system.specs.Change.{atom_changed}
-use Rattle.sp_system.specs.FormulaView.{atom_of}
+use Rattle.sp_formula.specs.Change.{atom_changed}
+use Rattle.sp_formula.specs.FormulaView.{atom_of}
 use Rattle.sp_rows.specs.InsideView.{inside_of}
 use Rattle.sp_rows.specs.OpeningView.{change_of}
 use Rattle.sp_rows.proofs.opening.NewVariables.atoms_inside.Given as goal

@@ -1,10 +1,10 @@
 use Rattle.std.proofs.Common.{sym, ap, ◌∙◌}
 use Rattle.sp_spec.specs.Term.{valued}
 use Rattle.sp_term.specs.View.{view}
-use Rattle.sp_system.specs.Change.{placed, place_changed}
-use Rattle.sp_system.specs.declared.formula.FormulaTerm.{FormulaTerm}
-use Rattle.sp_system.specs.FormulaView.{placed_term}
-use Rattle.sp_system.proofs.FreeChanges.{valued-placed}
+use Rattle.sp_formula.specs.Change.{placed, place_changed}
+use Rattle.sp_formula.specs.declared.formula.FormulaTerm.{FormulaTerm}
+use Rattle.sp_formula.specs.FormulaView.{placed_term}
+use Rattle.sp_formula.proofs.FreeChanges.{valued-placed}
 use Rattle.sp_system.proofs.TermValues.{valued_var}
 use Rattle.sp_rows.specs.InsideView.{inside_of}
 use Rattle.sp_rows.specs.OpeningView.{change_of}

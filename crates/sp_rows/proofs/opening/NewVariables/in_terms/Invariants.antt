@@ -1,7 +1,7 @@
 use Rattle.std.proofs.Common.{◌≡◌, take, map}
 use Rattle.sp_spec.specs.Term.{valued}
-use Rattle.sp_system.specs.Change.{place_changed}
-use Rattle.sp_system.specs.FormulaView.{placed_term}
+use Rattle.sp_formula.specs.Change.{place_changed}
+use Rattle.sp_formula.specs.FormulaView.{placed_term}
 use Rattle.sp_rows.specs.InsideView.{inside_of}
 use Rattle.sp_rows.specs.OpeningView.{change_of}
 use Rattle.sp_rows.proofs.opening.NewVariables.in_terms.Given as goal

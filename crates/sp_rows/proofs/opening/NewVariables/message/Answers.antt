@@ -1,7 +1,7 @@
 use Rattle.std.proofs.Common.{ℕ, ◌-◌, refl, sym, ap, ◌∙◌, arith}
 use Rattle.sp_spec.specs.Term.{Term, var}
 use Rattle.sp_spec.specs.Guarded.{Place, bound}
-use Rattle.sp_system.specs.Change.{placed, raised}
+use Rattle.sp_formula.specs.Change.{placed, raised}
 use Rattle.sp_rows.specs.OpeningView.{change_of, variable_place}
 use Rattle.sp_rows.proofs.Openings.{view_var, stands_there, stands_past}
 use Rattle.sp_rows.proofs.Sheltered.{shelters, stays_past, moves_past}

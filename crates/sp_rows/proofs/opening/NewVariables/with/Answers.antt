@@ -1,9 +1,9 @@
 use Rattle.std.proofs.Common.{ℕ, sym, ap, ◌∙◌}
 use Rattle.sp_spec.specs.Term.{Term, var}
 use Rattle.sp_spec.specs.Guarded.{Place, Time, bound, free_time, bound_time}
-use Rattle.sp_system.specs.Change.{Change}
-use Rattle.sp_system.specs.FormulaView.{binder_of}
-use Rattle.sp_system.specs.declared.formula.Binder.{Binder}
+use Rattle.sp_formula.specs.Change.{Change}
+use Rattle.sp_formula.specs.FormulaView.{binder_of}
+use Rattle.sp_formula.specs.declared.formula.Binder.{Binder}
 use Rattle.sp_rows.specs.OpeningView.{change_of, put, variable_place}
 use Rattle.sp_rows.proofs.Openings.{one_more}
 use Rattle.sp_rows.proofs.opening.NewVariables.with.Goals as goal

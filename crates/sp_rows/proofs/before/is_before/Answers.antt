@@ -1,0 +1,10 @@
+use Rattle.std.proofs.Common.{length, ap, ◌∙◌}
+use Rattle.sp_rows.specs.OrderView.{among}
+use Rattle.sp_rows.proofs.Paths.{rounds-found}
+use Rattle.sp_rows.proofs.before.is_before.Goals as goal
+
+pub returns : goal.returns
+returns c =
+    c.is_among.ensures
+    ∙ ap (among c.args.first) c.in_ok-known.ensures
+    ∙ rounds-found (length c.args.order.now.items) c.args.order.now.items c.args.first c.args.second

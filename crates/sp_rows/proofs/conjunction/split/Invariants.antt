@@ -1,0 +1,6 @@
+use Rattle.sp_step.specs.Rows as rows
+use Rattle.sp_rows.proofs.Searches.{IsLeft}
+use Rattle.sp_rows.proofs.conjunction.split.Given as goal
+
+abbrev pub invariant-loop-position : goal.invariant-loop-position
+invariant-loop-position l = IsLeft rows.split_of l.system.formulas.items l.position

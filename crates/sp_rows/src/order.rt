@@ -1,0 +1,100 @@
+// The order of times.
+
+ghost use Rattle.std.specs.Prelude.{◌≡◌, ◌||◌, ◌==◌, IfOk, option_map};
+ghost use Rattle.sp_formula.specs.FormulaView.{formula_of};
+ghost use Rattle.sp_system.specs.SystemView.{system_of};
+ghost use Rattle.sp_step.specs.Rows as rows;
+ghost use Rattle.sp_rows.specs.RowsView.{ordering};
+
+use crate::before::is_before;
+use crate::spend::spend;
+use sp_formula::formula::{Atom, Formula, Moment};
+use sp_system::system::System;
+use std::alloc::{AllocError, Global};
+
+// Whether one of the times is before the other.
+fn are_apart(
+    alloc: Global,
+    order: &Vec<(u128, u128)>,
+    first: u128,
+    second: u128,
+) -> Result<bool, AllocError>
+    ensures { IfOk result (λ b. b ≡ (rows.is_before order.now.items first second || rows.is_before order.now.items second first)) }
+{
+    if is_before(alloc, order, first, second)? {
+        return Ok(true);
+    }
+    is_before(alloc, order, second, first)
+}
+
+// Whether the first time is the second one, or after it.
+fn is_not_before(
+    alloc: Global,
+    order: &Vec<(u128, u128)>,
+    first: u128,
+    second: u128,
+) -> Result<bool, AllocError>
+    ensures { IfOk result (λ b. b ≡ ((first == second) || rows.is_before order.now.items second first)) }
+{
+    if first == second {
+        return Ok(true);
+    }
+    is_before(alloc, order, second, first)
+}
+
+fn nothing_if(alloc: Global, decided: bool) -> Option<Vec<(u128, u128)>>
+    ensures { option_map (λ ps. ps.items) result ≡ rows.nothing_if decided }
+{
+    if decided { Some(Vec::new(alloc)) } else { None }
+}
+
+// The order pairs that stand for the literal, if they do: none for one that they make true.
+fn order_of(
+    alloc: Global,
+    order: &Vec<(u128, u128)>,
+    formula: &Formula,
+) -> Result<Option<Vec<(u128, u128)>>, AllocError>
+    ensures { IfOk result (λ o. option_map (λ ps. ps.items) o ≡ rows.order_of order.now.items (formula_of formula.now)) }
+{
+    match formula {
+        Formula::Holds(Atom::Before(Moment::Free(first), Moment::Free(second))) => {
+            let mut made = Vec::new(alloc);
+            made.push((*first, *second))?;
+            Ok(Some(made))
+        }
+        Formula::Fails(Atom::SameTime(Moment::Free(first), Moment::Free(second))) => {
+            let decided = are_apart(alloc, order, *first, *second)?;
+            Ok(nothing_if(alloc, decided))
+        }
+        Formula::Fails(Atom::Before(Moment::Free(first), Moment::Free(second))) => {
+            let decided = is_not_before(alloc, order, *first, *second)?;
+            Ok(nothing_if(alloc, decided))
+        }
+        _ => Ok(None),
+    }
+}
+
+fn with_order(mut system: System, mut pairs: Vec<(u128, u128)>) -> Result<System, AllocError>
+    ensures { IfOk result (λ s. system_of s ≡ ordering (system_of system) pairs.items) }
+{
+    system.order.append(&mut pairs)?;
+    Ok(system)
+}
+
+/// Spends the first literal that order pairs stand for.
+///
+/// # Errors
+///
+/// `AllocError` where memory is wanting.
+pub fn in_order(alloc: Global, system: &System) -> Result<Option<System>, AllocError>
+    ensures { IfOk result (λ o. option_map system_of o ≡ rows.in_order (system_of system.now)) }
+{
+    for (position, formula) in system.formulas.iter().enumerate() {
+        if let Some(pairs) = order_of(alloc, &system.order, formula)? {
+            let spent = spend(alloc, system, position)?;
+            let made = with_order(spent, pairs)?;
+            return Ok(Some(made));
+        }
+    }
+    Ok(None)
+}
