@@ -1,7 +1,7 @@
 -- A text has one list of tokens, or one first fault, and not both.
-use Rattle.std.proofs.Common.{◌≡◌, ℕ, ◌+◌, ◌<◌, Bool, true, false, List, [], ◌∷◌, length, refl, sym, ap, subst, ◌∙◌, arith}
+use Rattle.std.proofs.Common.{◌≡◌, ℕ, true, false, List, [], ◌∷◌, length, refl, sym, ap, subst, ◌∙◌, arith}
 use Rattle.sp_lex.specs.Lexeme.{Lexeme, Token}
-use Rattle.sp_lex.specs.Lex.{after_blanks, piece, Piece, token, no_token, first_sign, first_short, is_first, is_end, IsNext, AreTokens, no_more, last, next, IsFault, here, later}
+use Rattle.sp_lex.specs.Lex.{after_blanks, piece, token, no_token, first_sign, is_end, IsNext, AreTokens, no_more, last, next, IsFault, here, later}
 
 abbrev made : Lexeme → ℕ → ℕ → Token
 made x a b = record { lexeme = x; start = a; end = b }

@@ -1,12 +1,12 @@
 -- Tokens stand in the text, one behind the other.
-use Rattle.std.proofs.Common.{◌≡◌, ℕ, ◌+◌, ◌-◌, ◌<◌, ◌≤◌, Bool, true, false, cond, List, [], ◌∷◌, length, drop, Option, Some, None, ap, length-drop, arith}
+use Rattle.std.proofs.Common.{◌≡◌, ℕ, ◌+◌, ◌<◌, ◌≤◌, Bool, true, false, cond, List, [], ◌∷◌, length, drop, Option, Some, None, ap, length-drop, arith}
 use Rattle.std.specs.Prelude.{◌&&◌, ◌==◌, nat_lt}
 use Rattle.std.specs.Char.{is_ascii_alphanumeric}
 use Rattle.sp_lex.specs.declared.token.Sign.{Sign}
 use Rattle.sp_lex.specs.declared.token.Class.TheVariants as class
 use Rattle.sp_lex.specs.declared.token.Sign.TheVariants as s
 use Rattle.sp_lex.specs.Lexeme.{Lexeme, word, constant, sign, Token}
-use Rattle.sp_lex.specs.Lex.{skip, Piece, token, no_token, close_constant, short_sign, short_piece, first_short, first_sign, piece, before, is_first, after_blanks, IsNext, AreTokens, no_more, last, next}
+use Rattle.sp_lex.specs.Lex.{skip, Piece, token, no_token, short_sign, short_piece, first_short, first_sign, piece, before, is_first, after_blanks, IsNext, AreTokens, no_more, last, next}
 use Rattle.sp_lex.specs.Places.{place_behind, is_any}
 use Rattle.sp_lex.proofs.Pieces.{skip_shorter}
 

@@ -1,5 +1,5 @@
 -- What is cut off, token by token.
-use Rattle.std.proofs.Common.{◌≡◌, ℕ, ◌+◌, ◌-◌, ◌<◌, ◌≤◌, true, false, List, [], ◌∷◌, ◌++◌, length, sym, ap, subst, ◌∙◌, append-nil, append_assoc, arith}
+use Rattle.std.proofs.Common.{◌≡◌, ℕ, ◌+◌, ◌-◌, ◌<◌, ◌≤◌, true, false, List, [], ◌∷◌, ◌++◌, length, sym, ap, ◌∙◌, append-nil, append_assoc, arith}
 use Rattle.sp_lex.specs.Lexeme.{Token}
 use Rattle.sp_lex.specs.Lex.{after_blanks, piece, token, no_token, is_end, IsNext, AreTokens, no_more, last, next, IsFault, here, later}
 

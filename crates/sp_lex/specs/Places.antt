@@ -1,6 +1,5 @@
 -- Where tokens end.
 use Rattle.std.specs.Prelude.{ℕ, Bool, true, false, if◌then◌else◌, List, [], ◌∷◌}
-use Rattle.sp_lex.specs.declared.token.Sign.{Sign}
 use Rattle.sp_lex.specs.declared.token.Sign.TheVariants as s
 use Rattle.sp_lex.specs.Lexeme.{Lexeme, word, constant, sign, Token}
 
@@ -21,7 +20,3 @@ is_any x = true
 -- behind the last of these tokens
 abbrev pub behind_all : List Token → ℕ
 behind_all ts = place_behind is_any 0 ts
-
--- behind the last double quote
-abbrev pub behind_quote : List Token → ℕ
-behind_quote ts = place_behind is_quote 0 ts

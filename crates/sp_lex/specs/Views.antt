@@ -1,5 +1,5 @@
 -- What the code's values are in `Lexeme.antt` and `Lex.antt`.
-use Rattle.std.specs.Prelude.{◌≡◌, ℕ, ◌<◌, List, map, length}
+use Rattle.std.specs.Prelude.{ℕ, ◌<◌, List, map, length}
 use Rattle.sp_lex.specs.declared.token.Lexeme as rust
 use Rattle.sp_lex.specs.declared.token.Lexeme.TheVariants as v
 use Rattle.sp_lex.specs.declared.token.Token as rust_token

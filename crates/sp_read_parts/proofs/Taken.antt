@@ -39,7 +39,7 @@ items_taken : {n : ℕ} {tokens rest : List Lexeme} {xs : List (Term Written)} �
 items_taken empty = empty
 items_taken (some h) = some (parts_taken h)
 
-fact_taken : {n : ℕ} {tokens rest : List Lexeme} {x : Fact Written} → SpellsFact n tokens x rest → IsFact n tokens x rest
+pub fact_taken : {n : ℕ} {tokens rest : List Lexeme} {x : Fact Written} → SpellsFact n tokens x rest → IsFact n tokens x rest
 fact_taken (g.linear e lt h) = f.linear (f.named e (f.arguments lt (items_taken h)))
 fact_taken (g.persistent e lt h) = f.persistent (f.named e (f.arguments lt (items_taken h)))
 

@@ -1,8 +1,8 @@
 -- What the parts of a text stand for.
 use Rattle.std.specs.Prelude.{ℕ, Bool, List, [], ◌∷◌, map}
-use Rattle.sp_spec.specs.Term.{Term, var, Terms, none, more}
+use Rattle.sp_spec.specs.Term.{Term, Terms, none, more}
 use Rattle.sp_spec.specs.Rule.{Fact, Action}
-use Rattle.sp_spec.specs.Formula.{Mark, Written, Formula, truth, happens, equals, both, implies, for_all}
+use Rattle.sp_spec.specs.Formula.{Mark, Written, Formula, for_all}
 use Rattle.sp_spec.specs.Written.{WrittenRule}
 
 abbrev pub written : List ℕ → Mark → Written
@@ -22,29 +22,6 @@ action_of f = record { symbol = f.symbol; args = f.args }
 abbrev pub rule_of : List ℕ → List (Fact Written) → List (Fact Written) → List (Fact Written) → WrittenRule
 rule_of w premises actions conclusions = record { name = w; facts = record { premises = premises; actions = map action_of actions; conclusions = conclusions } }
 
--- a fact and the time at which it happens
-pub record Event : Type 0 where
-  pub fact : Fact Written
-  pub at : Written
-
-abbrev pub equal : Written → Written → Formula
-equal a b = equals (var a) (var b)
-
-abbrev pub happens_at : Event → Formula
-happens_at e = happens (action_of e.fact) e.at
-
--- `&` groups to the left
-abbrev pub joined_after : Formula → List Event → Formula
-joined_after f [] = f
-joined_after f (e ∷ es) = joined_after (both f (happens_at e)) es
-
-abbrev pub joined : List Event → Formula
-joined [] = truth
-joined (e ∷ es) = joined_after (happens_at e) es
-
 abbrev pub quantified : List Written → Formula → Formula
 quantified [] f = f
 quantified (v ∷ vs) f = for_all v (quantified vs f)
-
-abbrev pub formula_of : List Written → List Event → Formula → Formula
-formula_of binders events f = quantified binders (implies (joined events) f)

@@ -1,4 +1,7 @@
 pub mod One
-pub mod Spelled
+pub mod RuleParts
+pub mod LemmaParts
+pub mod Quotes
+pub mod Closing
+pub mod Gone
 pub mod Whole
-pub mod Missing

@@ -1,20 +1,41 @@
--- Each part is read in one way.
-use Rattle.std.proofs.Common.{◌≡◌, ℕ, List, [], ◌∷◌, codes, refl, sym, ap, subst}
+-- Tokens spell one theory.
+use Rattle.std.proofs.Common.{◌≡◌, ℕ, List, [], ◌∷◌, codes, refl, sym, ap, subst, arith}
+use Rattle.sp_lex.specs.declared.token.Sign.{Sign}
 use Rattle.sp_lex.specs.declared.token.Sign.TheVariants as s
 use Rattle.sp_lex.specs.Lexeme.{Lexeme, word, sign}
 use Rattle.sp_spec.specs.Rule.{Fact}
 use Rattle.sp_spec.specs.Formula.{Written, Formula}
-use Rattle.sp_spec.specs.Theory.{Lemma}
+use Rattle.sp_spec.specs.Theory.{TraceKind, Lemma}
 use Rattle.sp_spec.specs.Written.{WrittenRule, WrittenTheory}
-use Rattle.sp_read_parts.proofs.One.{One, variable_one, items_one, parts_one, fact_one, fact_sign, facts', binders_one}
-use Rattle.sp_read_theory.specs.FirstForm.{IsVariable, AreParts, AreFacts, facts, IsArrow, unlabelled, labelled, IsHeader, header, IsRule, rule, Event, IsEvent, happening, IsEquation, equation, IsFormula, for_all_events, IsLemma, lemma, IsOpening, opening, IsFirstForm, first_form}
+use Rattle.sp_read_parts.specs.Lists.{AreItems}
+use Rattle.sp_read_parts.specs.Parts.{IsFact}
+use Rattle.sp_read_parts.specs.Shapes.{rule_of}
+use Rattle.sp_read_parts.specs.Grammar.{SpellsFact}
+use Rattle.sp_read_parts.specs.Closed.{IsClosed}
+use Rattle.sp_read_parts.proofs.One as parts
+use Rattle.sp_read_parts.proofs.One.{One, fact_sign, facts'}
+use Rattle.sp_read_parts.proofs.Spelled.{items_spelled, fact_spelled}
+use Rattle.sp_read_parts.proofs.Taken.{fact_taken, closed_one}
+use Rattle.sp_read_theory.specs.Grammar as g
+use Rattle.sp_read_theory.specs.Grammar.{SpellsFacts, SpellsArrow, SpellsRule, SpellsKind, SpellsLemma, SpellsItems, SpellsTheory}
+use Rattle.sp_read_theory.specs.Items.{IsOpening, opening, IsHeader, header, IsKind, the_end, AreItemsToEnd}
 
-pub facts_one : {tokens r q : List Lexeme} {fs gs : List (Fact Written)} → AreFacts tokens fs r → AreFacts tokens gs q → (fs ≡ gs) × (r ≡ q)
-facts_one (facts h) (facts k) = items_one facts' (λ e. cc) (λ ts r x t. fact_sign (λ e. cc) t) h k
+-- ---- facts, which are read in one way
 
-pub arrow_one : {tokens r q : List Lexeme} {fs gs : List (Fact Written)} → IsArrow tokens fs r → IsArrow tokens gs q → (fs ≡ gs) × (r ≡ q)
-arrow_one unlabelled unlabelled = (refl, refl)
-arrow_one (labelled h) (labelled k) = items_one facts' (λ e. cc) (λ ts r x t. fact_sign (λ e. cc) t) h k
+pub spelled : {close : Sign} {tokens rest : List Lexeme} {fs : List (Fact Written)} → AreItems (IsFact 0) close tokens fs rest → AreItems (SpellsFact 0) close tokens fs rest
+spelled h = items_spelled (λ ts x r k. fact_spelled k) h
+
+pub taken : {close : Sign} {tokens rest : List Lexeme} {fs : List (Fact Written)} → AreItems (SpellsFact 0) close tokens fs rest → AreItems (IsFact 0) close tokens fs rest
+taken h = items_spelled (λ ts x r k. fact_taken k) h
+
+pub facts_one : {tokens r q : List Lexeme} {fs gs : List (Fact Written)} → SpellsFacts tokens fs r → SpellsFacts tokens gs q → (fs ≡ gs) × (r ≡ q)
+facts_one (g.facts h) (g.facts k) = parts.items_one facts' (λ e. cc) (λ ts r x t. fact_sign (λ e. cc) t) (taken h) (taken k)
+
+pub arrow_one : {tokens r q : List Lexeme} {fs gs : List (Fact Written)} → SpellsArrow tokens fs r → SpellsArrow tokens gs q → (fs ≡ gs) × (r ≡ q)
+arrow_one g.unlabelled g.unlabelled = (refl, refl)
+arrow_one (g.labelled h) (g.labelled k) = parts.items_one facts' (λ e. cc) (λ ts r x t. fact_sign (λ e. cc) t) (taken h) (taken k)
+
+-- ---- headers, openings and rules
 
 pub header_one : {keyword : List ℕ} {tokens r q : List Lexeme} {w u : List ℕ} → IsHeader keyword tokens w r → IsHeader keyword tokens u q → (w ≡ u) × (r ≡ q)
 header_one (header {w = w} {rest = r} h) k = at k w r refl
@@ -22,59 +43,142 @@ header_one (header {w = w} {rest = r} h) k = at k w r refl
     at : {keyword : List ℕ} {tokens q : List Lexeme} {u : List ℕ} → IsHeader keyword tokens u q → (w : List ℕ) (r : List Lexeme) → tokens ≡ word keyword ∷ word w ∷ sign s.Colon ∷ r → (w ≡ u) × (r ≡ q)
     at (header k) w r e = (cc, cc)
 
-pub rule_one : {tokens x y : List Lexeme} {r q : WrittenRule} → IsRule tokens r x → IsRule tokens q y → (r ≡ q) × (x ≡ y)
-rule_one {x = x} {y = y} (rule {body = a} {mid = b} {behind = c} h k l m) (rule {premises = ps} {actions = as'} {conclusions = cs} {body = d} {mid = e} {behind = f} h' k' l' m') =
-    let o = header_one h h' in
-    let p = facts_one k (subst (λ (ts : List Lexeme). AreFacts ts ps e) (sym o.1) k') in
-    let i = arrow_one l (subst (λ (ts : List Lexeme). IsArrow ts as' f) (sym p.1) l') in
-    let j = facts_one m (subst (λ (ts : List Lexeme). AreFacts ts cs y) (sym i.1) m') in
-    (rw (o.0, p.0, i.0, j.0) refl, j.1)
-
-abbrev event_at : Fact Written → Written → Event
-event_at f v = record { fact = f; at = v }
-
-pub event_one : {tokens r q : List Lexeme} {a b : Event} → IsEvent tokens a r → IsEvent tokens b q → (a ≡ b) × (r ≡ q)
-event_one {q = q} (happening {f = f} {v = v} {mid = m} h k) (happening {f = g} {v = w} {mid = n} i l) =
-    let a = fact_one h i in
-    let d = a.1 in
-    let e : n ≡ m = cc in
-    let b = variable_one k (subst (λ (ts : List Lexeme). IsVariable ts w q) e l) in
-    let c : event_at f v ≡ event_at g w = rw (a.0, b.0) refl in
-    (c, b.1)
-
-pub equation_one : {tokens r q : List Lexeme} {f g : Formula} → IsEquation tokens f r → IsEquation tokens g q → (f ≡ g) × (r ≡ q)
-equation_one {q = q} (equation {mid = m} h k) (equation {b = w} {mid = n} i l) =
-    let a = variable_one h i in
-    let d = a.1 in
-    let e : n ≡ m = cc in
-    let b = variable_one k (subst (λ (ts : List Lexeme). IsVariable ts w q) e l) in
-    (rw (a.0, b.0) refl, b.1)
-
-pub events : One IsEvent
-events = record { one = event_one }
-
-pub formula_one : {tokens r q : List Lexeme} {f g : Formula} → IsFormula tokens f r → IsFormula tokens g q → (f ≡ g) × (r ≡ q)
-formula_one {r = r} {q = q} (for_all_events {guard = a} {right = b} h i j) (for_all_events {binders = vs} {events = es} {f = f} {guard = c} {right = d} h' i' j') =
-    let o = binders_one h h' in
-    let p = parts_one events (λ u. cc) i (subst (λ (ts : List Lexeme). AreParts IsEvent s.And s.Implies ts es d) (sym o.1) i') in
-    let e = equation_one j (subst (λ (ts : List Lexeme). IsEquation ts f q) (sym p.1) j') in
-    (rw (o.0, p.0, e.0) refl, e.1)
-
-pub lemma_one : {tokens x y : List Lexeme} {l m : Lemma} → IsLemma tokens l x → IsLemma tokens m y → (l ≡ m) × (x ≡ y)
-lemma_one {x = x} {y = y} (lemma {body = a} h k) (lemma {w = w} {f = f} {body = b} i l) =
-    let o = header_one h i in
-    let n = o.1 in
-    let e : b ≡ a = cc in
-    let p = formula_one k (subst (λ (ts : List Lexeme). IsFormula ts f (sign s.Quote ∷ y)) e l) in
-    let v = p.1 in
-    (rw (o.0, p.0) refl, cc)
-
 pub opening_one : {tokens r q : List Lexeme} {w u : List ℕ} → IsOpening tokens w r → IsOpening tokens u q → (w ≡ u) × (r ≡ q)
 opening_one (opening h) (opening k) = (refl, refl)
 
-pub first_form_one : {tokens : List Lexeme} {t u : WrittenTheory} → IsFirstForm tokens t → IsFirstForm tokens u → t ≡ u
-first_form_one (first_form {body = a} {mid = b} h i j) (first_form {r = r} {l = l} {body = c} {mid = d} h' i' j') =
-    let o = opening_one h h' in
-    let p = rule_one i (subst (λ (ts : List Lexeme). IsRule ts r d) (sym o.1) i') in
-    let q = lemma_one j (subst (λ (ts : List Lexeme). IsLemma ts l (word (codes "end") ∷ [])) (sym p.1) j') in
-    rw (o.0, p.0, q.0) refl
+pub rule_one : {tokens x y : List Lexeme} {r q : WrittenRule} → SpellsRule tokens r x → SpellsRule tokens q y → (r ≡ q) × (x ≡ y)
+rule_one (g.rule {w = w} {tokens = ts} h i j k) l = at l w ts i j k refl
+  where
+    at : {us x y mid behind : List Lexeme} {q : WrittenRule} {ps as' cs : List (Fact Written)} → SpellsRule us q y → (w : List ℕ) (tokens : List Lexeme) → SpellsFacts tokens ps mid → SpellsArrow mid as' behind → SpellsFacts behind cs x
+        → us ≡ word (codes "rule") ∷ word w ∷ sign s.Colon ∷ tokens → (rule_of w ps as' cs ≡ q) × (x ≡ y)
+    at {y = y} (g.rule {w = v} {premises = qs} {actions = bs} {conclusions = ds} {tokens = vs} {mid = m} {behind = b} h i j k) w ts i' j' k' e =
+        let d : vs ≡ ts = cc in
+        let n : v ≡ w = cc in
+        let o = facts_one i' (subst (λ (us : List Lexeme). SpellsFacts us qs m) d i) in
+        let p = arrow_one j' (subst (λ (us : List Lexeme). SpellsArrow us bs b) (sym o.1) j) in
+        let u = facts_one k' (subst (λ (us : List Lexeme). SpellsFacts us ds y) (sym p.1) k) in
+        (rw (n, o.0, p.0, u.0) refl, u.1)
+
+pub rules_one : One SpellsRule
+rules_one = record { one = rule_one }
+
+-- ---- lemmas
+
+-- the first byte of a first word
+abbrev pub first_byte : List Lexeme → ℕ
+first_byte (word (b ∷ bytes) ∷ tokens) = b
+first_byte _ = 0
+
+pub kind_one : {tokens r q : List Lexeme} {k o : TraceKind} → IsKind tokens k r → IsKind tokens o q → (k ≡ o) × (r ≡ q)
+kind_one h k = at h k refl refl refl
+  where
+    at : {ts us xs ys r q : List Lexeme} {k o : TraceKind} → SpellsKind ts k xs → SpellsKind us o ys → ts ≡ us → xs ≡ sign s.Quote ∷ r → ys ≡ sign s.Quote ∷ q → (k ≡ o) × (r ≡ q)
+    at g.no_kind g.no_kind d e f = (refl, cc)
+    at g.no_kind g.all_kind d e f = absurd cc
+    at g.no_kind g.exists_kind d e f = absurd cc
+    at g.all_kind g.no_kind d e f = absurd cc
+    at g.all_kind g.all_kind d e f = (refl, cc)
+    at g.all_kind g.exists_kind d e f = let b : 97 ≡ 101 = ap first_byte d in absurd (omega (arith, b))
+    at g.exists_kind g.no_kind d e f = absurd cc
+    at g.exists_kind g.all_kind d e f = let b : 101 ≡ 97 = ap first_byte d in absurd (omega (arith, b))
+    at g.exists_kind g.exists_kind d e f = (refl, cc)
+
+pub kinds : One IsKind
+kinds = record { one = kind_one }
+
+pub formulas : One (IsClosed 0 s.Quote)
+formulas = record { one = closed_one s.Quote tt }
+
+-- the kind is behind the name, the formula behind the kind
+pub lemma_one : {tokens x y : List Lexeme} {l m : Lemma} → SpellsLemma tokens l x → SpellsLemma tokens m y → (l ≡ m) × (x ≡ y)
+lemma_one (g.lemma {w = w} {tokens = ts} {body = a} h k f) i = at i w ts k f refl
+  where
+    at : {us x y body : List Lexeme} {m : Lemma} {k : TraceKind} {f : Formula} → SpellsLemma us m y → (w : List ℕ) (tokens : List Lexeme) → IsKind tokens k body → IsClosed 0 s.Quote body f x → us ≡ word (codes "lemma") ∷ word w ∷ sign s.Colon ∷ tokens
+        → (record { name = w; kind = k; formula = f } ≡ m) × (x ≡ y)
+    at {y = y} (g.lemma {w = v} {kind = o} {f = j} {tokens = vs} {body = b} h i c) w ts k f e =
+        let d : vs ≡ ts = cc in
+        let n : v ≡ w = cc in
+        let p = kind_one k (subst (λ (ts : List Lexeme). IsKind ts o b) d i) in
+        let q = closed_one s.Quote tt f (subst (λ (ts : List Lexeme). IsClosed 0 s.Quote ts j y) (sym p.1) c) in
+        (rw (n, p.0, q.0) refl, q.1)
+
+pub lemmas_one : One SpellsLemma
+lemmas_one = record { one = lemma_one }
+
+-- ---- items
+
+rule_word : {tokens rest : List Lexeme} {r : WrittenRule} → SpellsRule tokens r rest → first_byte tokens ≡ 114
+rule_word (g.rule w h i j) = refl
+
+lemma_word : {tokens rest : List Lexeme} {l : Lemma} → SpellsLemma tokens l rest → first_byte tokens ≡ 108
+lemma_word (g.lemma w k f) = refl
+
+pub rule_not_lemma : {tokens r q : List Lexeme} {x : WrittenRule} {l : Lemma} → SpellsRule tokens x r → SpellsLemma tokens l q → ⊥
+rule_not_lemma h k = omega (arith, rule_word h, lemma_word k)
+
+pub rule_not_end : {tokens rest after : List Lexeme} {r : WrittenRule} → SpellsRule tokens r rest → tokens ≡ word (codes "end") ∷ after → ⊥
+rule_not_end {tokens} h e = let d : first_byte tokens ≡ 101 = ap first_byte e in omega (arith, rule_word h, d)
+
+pub lemma_not_end : {tokens rest after : List Lexeme} {l : Lemma} → SpellsLemma tokens l rest → tokens ≡ word (codes "end") ∷ after → ⊥
+lemma_not_end {tokens} h e = let d : first_byte tokens ≡ 101 = ap first_byte e in omega (arith, lemma_word h, d)
+
+-- behind a rule that is spelled, and behind a lemma
+pub record BehindRule (r : WrittenRule) (mid : List Lexeme) (rs : List WrittenRule) (ls : List Lemma) : Type 0 where
+  pub others : List WrittenRule
+  pub is : rs ≡ r ∷ others
+  pub items : AreItemsToEnd mid others ls
+
+pub record BehindLemma (l : Lemma) (mid : List Lexeme) (rs : List WrittenRule) (ls : List Lemma) : Type 0 where
+  pub others : List Lemma
+  pub is : ls ≡ l ∷ others
+  pub items : AreItemsToEnd mid rs others
+
+pub behind_rule : {tokens mid : List Lexeme} {r : WrittenRule} {rs : List WrittenRule} {ls : List Lemma} → SpellsRule tokens r mid → AreItemsToEnd tokens rs ls → BehindRule r mid rs ls
+behind_rule h k = at h k refl
+  where
+    at : {tokens mid rest : List Lexeme} {r : WrittenRule} {rs : List WrittenRule} {ls : List Lemma} → SpellsRule tokens r mid → SpellsItems tokens rs ls rest → rest ≡ the_end → BehindRule r mid rs ls
+    at h g.no_item e = absurd (rule_not_end h e)
+    at h (g.rule_first {rs = rs} {ls = ls} {mid = m} k i) e =
+        let o = rules_one.one h k in
+        record { others = rs; is = rw o.0 refl; items = rw (o.1, sym e) i }
+    at h (g.lemma_first k i) e = absurd (rule_not_lemma h k)
+
+pub behind_lemma : {tokens mid : List Lexeme} {l : Lemma} {rs : List WrittenRule} {ls : List Lemma} → SpellsLemma tokens l mid → AreItemsToEnd tokens rs ls → BehindLemma l mid rs ls
+behind_lemma h k = at h k refl
+  where
+    at : {tokens mid rest : List Lexeme} {l : Lemma} {rs : List WrittenRule} {ls : List Lemma} → SpellsLemma tokens l mid → SpellsItems tokens rs ls rest → rest ≡ the_end → BehindLemma l mid rs ls
+    at h g.no_item e = absurd (lemma_not_end h e)
+    at h (g.rule_first k i) e = absurd (rule_not_lemma k h)
+    at h (g.lemma_first {rs = rs} {ls = ls} {mid = m} k i) e =
+        let o = lemmas_one.one h k in
+        record { others = ls; is = rw o.0 refl; items = rw (o.1, sym e) i }
+
+pub items_one : {tokens : List Lexeme} {rs qs : List WrittenRule} {ls ms : List Lemma} → AreItemsToEnd tokens rs ls → AreItemsToEnd tokens qs ms → (rs ≡ qs) × (ls ≡ ms)
+items_one h k = at h refl k
+  where
+    at : {tokens rest : List Lexeme} {rs qs : List WrittenRule} {ls ms : List Lemma} → SpellsItems tokens rs ls rest → rest ≡ the_end → AreItemsToEnd tokens qs ms → (rs ≡ qs) × (ls ≡ ms)
+    at g.no_item e k = nothing e k
+      where
+        nothing : {tokens rest : List Lexeme} {qs : List WrittenRule} {ms : List Lemma} → tokens ≡ the_end → SpellsItems tokens qs ms rest → ([] ≡ qs) × ([] ≡ ms)
+        nothing e g.no_item = (refl, refl)
+        nothing e (g.rule_first h k) = absurd (rule_not_end h e)
+        nothing e (g.lemma_first h k) = absurd (lemma_not_end h e)
+    at (g.rule_first {r = r} h i) e k =
+        let b = behind_rule h k in
+        let o = at i e b.items in
+        (rw (o.0, sym b.is) refl, o.1)
+    at (g.lemma_first {l = l} h i) e k =
+        let b = behind_lemma h k in
+        let o = at i e b.items in
+        (o.0, rw (o.1, sym b.is) refl)
+
+pub theory_one : {tokens : List Lexeme} {t u : WrittenTheory} → SpellsTheory tokens t → SpellsTheory tokens u → t ≡ u
+theory_one (g.theory {w = w} {tokens = ts} h k) i = at i w ts k refl
+  where
+    at : {us : List Lexeme} {u : WrittenTheory} {rs : List WrittenRule} {ls : List Lemma} → SpellsTheory us u → (w : List ℕ) (tokens : List Lexeme) → AreItemsToEnd tokens rs ls → us ≡ word (codes "theory") ∷ word w ∷ word (codes "begin") ∷ tokens
+        → record { name = w; rules = rs; restrictions = []; lemmas = ls } ≡ u
+    at (g.theory {w = v} {rs = qs} {ls = ms} {tokens = vs} h k) w ts i e =
+        let d : vs ≡ ts = cc in
+        let n : v ≡ w = cc in
+        let o = items_one i (subst (λ (ts : List Lexeme). AreItemsToEnd ts qs ms) d k) in
+        rw (n, o.0, o.1) refl

@@ -1,5 +1,6 @@
 pub mod Grammar
-pub mod FirstForm
+pub mod Items
+pub mod Places
 pub mod Views
 pub mod Text
 pub mod Laws

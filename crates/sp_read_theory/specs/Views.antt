@@ -1,35 +1,36 @@
 -- What the code's values stand for.
-use Rattle.std.specs.Prelude.{List, map}
-use Rattle.sp_spec.specs.Formula.{Formula}
-use Rattle.sp_spec.specs.Theory.{Lemma, all_traces}
+use Rattle.std.specs.Prelude.{ℕ, List, [], map}
+use Rattle.sp_spec.specs.Theory as t
+use Rattle.sp_spec.specs.Theory.{Lemma}
 use Rattle.sp_spec.specs.Written as spec
 pub use Rattle.sp_read_parts.specs.Views.{seen, seen_from, mark, variable, term, fact_of, facts_of}
-use Rattle.sp_read_theory.specs.FirstForm as form
-use Rattle.sp_read_theory.specs.FirstForm.{Event, equal, formula_of}
-use Rattle.sp_read_parts.specs.declared.written.WrittenVariable.{WrittenVariable}
+use Rattle.sp_read_parts.specs.Shapes.{rule_of}
+use Rattle.sp_read_parts.specs.Formulas.{formula}
 use Rattle.sp_read_theory.specs.declared.written.WrittenRule.{WrittenRule}
-use Rattle.sp_read_theory.specs.declared.written.WrittenEvent.{WrittenEvent}
-use Rattle.sp_read_theory.specs.declared.written.WrittenFormula.{WrittenFormula}
+use Rattle.sp_read_theory.specs.declared.written.TraceKind.{TraceKind}
+use Rattle.sp_read_theory.specs.declared.written.TraceKind.TheVariants as k
 use Rattle.sp_read_theory.specs.declared.written.WrittenLemma.{WrittenLemma}
 use Rattle.sp_read_theory.specs.declared.written.ReadTheory.{ReadTheory}
 
 abbrev pub rule : WrittenRule → spec.WrittenRule
-rule r = form.rule_of r.name.now (facts_of r.premises.items) (facts_of r.actions.items) (facts_of r.conclusions.items)
+rule r = rule_of r.name.now (facts_of r.premises.items) (facts_of r.actions.items) (facts_of r.conclusions.items)
 
-abbrev pub event : WrittenEvent → Event
-event e = record { fact = fact_of e.fact; at = variable e.at }
-
-abbrev pub equation : WrittenVariable → WrittenVariable → Formula
-equation a b = equal (variable a) (variable b)
-
-abbrev pub events : List WrittenEvent → List Event
-events es = map event es
-
-abbrev pub formula : WrittenFormula → Formula
-formula g = formula_of (map variable g.binders.items) (events g.events.items) (equation g.left g.right)
+abbrev pub kind : TraceKind → t.TraceKind
+kind k.AllTraces = t.all_traces
+kind k.ExistsTrace = t.exists_trace
 
 abbrev pub lemma : WrittenLemma → Lemma
-lemma l = record { name = l.name.now; kind = all_traces; formula = formula l.formula }
+lemma l = record { name = l.name.now; kind = kind l.kind; formula = formula l.formula }
+
+abbrev pub rules : List WrittenRule → List spec.WrittenRule
+rules rs = map rule rs
+
+abbrev pub lemmas : List WrittenLemma → List Lemma
+lemmas ls = map lemma ls
+
+-- the places behind the closing quotes of their formulas
+abbrev pub places : List WrittenLemma → List ℕ
+places ls = map (λ (l : WrittenLemma). l.behind) ls
 
 abbrev pub theory : ReadTheory → spec.WrittenTheory
-theory r = form.theory_of r.name.now (rule r.rule) (lemma r.lemma)
+theory r = record { name = r.name.now; rules = rules r.rules.items; restrictions = []; lemmas = lemmas r.lemmas.items }

@@ -1,4 +1,4 @@
-use sp_read_parts::{WrittenFact, WrittenVariable};
+use sp_read_parts::{ReadFormula, WrittenFact};
 
 /// A rule as it is written.
 #[derive(Drop)]
@@ -9,35 +9,27 @@ pub struct WrittenRule<'a> {
     pub conclusions: Vec<WrittenFact<'a>>,
 }
 
-/// An action, and the time at which it happens.
-#[derive(Drop)]
-pub struct WrittenEvent<'a> {
-    pub fact: WrittenFact<'a>,
-    pub at: WrittenVariable<'a>,
+/// Whether a lemma speaks of all traces, or says that there is one.
+#[derive(Clone, Copy)]
+pub enum TraceKind {
+    AllTraces,
+    ExistsTrace,
 }
 
-/// A formula: for all binders, where the events happen, left is right.
-#[derive(Drop)]
-pub struct WrittenFormula<'a> {
-    pub binders: Vec<WrittenVariable<'a>>,
-    pub events: Vec<WrittenEvent<'a>>,
-    pub left: WrittenVariable<'a>,
-    pub right: WrittenVariable<'a>,
-}
-
-/// A lemma on all traces.
+/// A lemma, and the place in the text behind the closing quote of its formula.
 #[derive(Drop)]
 pub struct WrittenLemma<'a> {
     pub name: &'a str,
-    pub formula: WrittenFormula<'a>,
+    pub kind: TraceKind,
+    pub formula: ReadFormula<'a>,
+    pub behind: usize,
 }
 
-/// A theory as it is written, and the places in the text behind its lemma's closing quote and behind its word `end`.
+/// A theory as it is written, and the place in the text behind its word `end`.
 #[derive(Drop)]
 pub struct ReadTheory<'a> {
     pub name: &'a str,
-    pub rule: WrittenRule<'a>,
-    pub lemma: WrittenLemma<'a>,
-    pub behind_lemma: usize,
+    pub rules: Vec<WrittenRule<'a>>,
+    pub lemmas: Vec<WrittenLemma<'a>>,
     pub behind_end: usize,
 }

@@ -10,14 +10,14 @@ ghost use Rattle.sp_read_parts.specs.Shapes.{row};
 ghost use Rattle.sp_read_theory.specs.Views as view;
 ghost use Rattle.sp_term.specs.View as memory;
 ghost use Rattle.sp_term.specs.View.{view_all};
-ghost use Rattle.sp_system.specs.View.{fact_of, action_of};
+ghost use Rattle.sp_fact.specs.View.{fact_of, action_of};
 ghost use Rattle.sp_rule.specs.View.{declared_of, declared_in, rule_of, texts_of, Numbers};
 
 use crate::names::{names, place_of};
 use crate::rule::{Declared, Rule};
+use sp_fact::fact::{Action, Fact, Facts};
 use sp_finding::{occurrences, sort_in};
 use sp_read_theory::{WrittenFact, WrittenRule, WrittenTerm, WrittenVariable};
-use sp_system::fact::{Action, Fact, Facts};
 use sp_term::term::{Name, Term, Variable};
 use std::alloc::{AllocError, Global};
 

@@ -1,6 +1,6 @@
 // Rules over numbered variables.
 
-use sp_system::fact::Facts;
+use sp_fact::fact::Facts;
 use sp_term::term::{Name, Sort};
 
 /// A variable of a rule, by its name.

@@ -1,15 +1,15 @@
 use super::*;
+use sp_fact::fact::{Action, Fact};
 use sp_read_theory::read_theory;
-use sp_system::fact::{Action, Fact};
 use sp_term::term::{Sort, Term};
 use std::alloc::Global;
 
-/// The rule of a text, with its variables numbered.
+/// The first rule of a text, with its variables numbered.
 fn rule(alloc: Global, text: &[u8]) -> Option<Rule> {
     match read_theory(alloc, text) {
-        Ok(Some(theory)) => match numbered(alloc, &theory.rule) {
-            Ok(rule) => Some(rule),
-            Err(_) => None,
+        Ok(Some(theory)) => match theory.rules.first() {
+            Some(rule) => numbered(alloc, rule).ok(),
+            None => None,
         },
         _ => None,
     }
@@ -50,7 +50,7 @@ fn is_declared(rule: &Rule, number: usize, name: &str, sort: Sort) -> bool {
 #[test]
 fn numbers_variables_in_first_seen_order(rt: HostRuntime) {
     let text: &[u8] =
-        b"theory T begin rule Make: [ Fr(k), !In1('c',x) ] --[ Made($a,~k) ]-> [ Out1(x,a) ] lemma l: \"All i. A()@i ==> i = i\" end";
+        b"theory T begin rule Make: [ Fr(k), !In1('c',x) ] --[ Made($a,~k) ]-> [ Out1(x,a) ] end";
     let Some(rule) = rule(rt.alloc(), text) else {
         assert_eq!(rt; true, false);
         return;

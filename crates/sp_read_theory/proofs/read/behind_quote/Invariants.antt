@@ -1,7 +1,0 @@
-use Rattle.std.proofs.Common.{◌≡◌, drop}
-use Rattle.sp_lex.specs.Places.{place_behind, behind_quote, is_quote}
-use Rattle.sp_lex.specs.Views.{tokens_of}
-use Rattle.sp_read_theory.proofs.read.behind_quote.Given as goal
-
-abbrev pub invariant-loop-token : goal.invariant-loop-token
-invariant-loop-token l = place_behind is_quote l.place (tokens_of (drop l.token-index l.tokens)) ≡ behind_quote (tokens_of l.tokens)
