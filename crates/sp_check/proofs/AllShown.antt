@@ -1,6 +1,6 @@
 -- What accepted trees without open leaves show of lemmas.
-use Rattle.std.proofs.Common.{◌≡◌, List, [], Some, false}
-use Rattle.sp_spec.specs.Lists.{Every}
+use Rattle.std.proofs.Common.{◌≡◌, List, [], ◌∷◌, Some, false, refl, inl, inr}
+use Rattle.sp_spec.specs.Lists.{Member, Every}
 use Rattle.sp_spec.specs.Theory.{Lemma, signature_of}
 use Rattle.sp_spec.specs.Written.{WrittenRule, WrittenTheory, theory_of}
 use Rattle.sp_spec.specs.Findings.{has_fr}
@@ -20,24 +20,30 @@ use Rattle.sp_system.specs.System.{assignment}
 use Rattle.sp_step.specs.Laws.{IsPlainTheory}
 use Rattle.sp_step.proofs.Covering.{plain_moves_cover}
 use Rattle.sp_check.specs.Tree.{Tree, IsAccepted, IsFinished}
-use Rattle.sp_check.specs.FirstForm.{root}
-use Rattle.sp_check.specs.FirstTheory.{IsFirstRule, IsFirstFormula}
+use Rattle.sp_check.specs.Root.{root}
+use Rattle.sp_check.specs.PlainTheory.{IsPlainRule, IsPlainFormula}
 use Rattle.sp_check.specs.Laws.{LemmasAreShown}
 use Rattle.sp_check.proofs.Trees.{finished_tree}
 use Rattle.sp_check.proofs.Shown.{erased_shown}
-use Rattle.sp_check.proofs.Roots.{start}
-use Rattle.sp_check.proofs.Verified.{every_itself}
+use Rattle.sp_check.proofs.Starts.{start}
 use Rattle.sp_check.proofs.WrittenRules.{rules_numbered, rules_plain, rules_leave_adversary}
 use Rattle.sp_check.proofs.Forms.{IsRight, right_negation, right_timed, right_not_send, right_numbered, right_solved}
 use Rattle.sp_check.proofs.PlacedForms.{form_right}
 
-module _ (t : WrittenTheory) (first : Every IsFirstRule t.rules) (fr : Every (λ (r : WrittenRule). has_fr r.facts.conclusions ≡ false) t.rules) where
+each_among : {A : Type 0} (xs ys : List A) → ((x : A) → Member x xs → Member x ys) → Every (λ x. Member x ys) xs
+each_among [] ys h = tt
+each_among (x ∷ xs) ys h = (h x (inl refl), each_among xs ys (λ z m. h z (inr m)))
+
+every_itself : {A : Type 0} (xs : List A) → Every (λ x. Member x xs) xs
+every_itself xs = each_among xs xs (λ x m. m)
+
+module _ (t : WrittenTheory) (rules : Every IsPlainRule t.rules) (fr : Every (λ (r : WrittenRule). has_fr r.facts.conclusions ≡ false) t.rules) where
   plain : IsPlainTheory (theory_of t)
   plain = record {
     convergent = pairs_convergent;
     keeps = pairs_keep_symbols (signature_of (theory_of t)).symbols;
     numbered = rules_numbered t.rules;
-    plain = rules_plain (signature_of (theory_of t)).equations t.rules first;
+    plain = rules_plain (signature_of (theory_of t)).equations t.rules rules;
   }
 
   -- a formula from which an accepted tree without open leaves grows is true in no execution
@@ -46,24 +52,24 @@ module _ (t : WrittenTheory) (first : Every IsFirstRule t.rules) (fr : Every (λ
   in_none h right tree accepted finished steps trace execution holds =
       let theory = theory_of t in
       let signature = signature_of theory in
-      let r = executions_erase theory pairs_convergent (rules_leave_adversary t first fr) steps trace execution in
+      let r = executions_erase theory pairs_convergent (rules_leave_adversary t rules fr) steps trace execution in
       let equal = erased_shown signature.equations (action_names h) (right_not_send h right) trace (log_trace r.0) r.1.same_trace in
       let over_log = (equal_shown_same signature (action_names h) trace (log_trace r.0) equal (assignment start) h (right_timed h right) (every_itself (action_names h))).0 holds in
       finished_tree theory (plain_moves_cover theory plain) tree (root h) (right_numbered h right) accepted finished r.0 r.1.is_log start (right_solved theory r.0 h right over_log)
 
-  lemma_right : (lemma : Lemma) → IsFirstFormula lemma.formula → (g : Guarded) → checked_form lemma.formula ≡ Some g → IsRight g
+  lemma_right : (lemma : Lemma) → IsPlainFormula lemma.formula → (g : Guarded) → checked_form lemma.formula ≡ Some g → IsRight g
   lemma_right lemma f g e = let c = form_checked lemma.formula g e in form_right lemma.formula g f c.0 c.1
 
 pub lemmas_are_shown_lem : LemmasAreShown
 lemmas_are_shown_lem = record {
-  all_traces = λ t first fr lemma f g e tree accepted finished steps trace execution meets.
+  all_traces = λ t rules fr lemma f g e tree accepted finished steps trace execution meets.
       let signature = signature_of (theory_of t) in
       let kept = form_kept signature trace lemma.formula g (form_checked lemma.formula g e).0 (assignment start) in
       stable_truth signature trace [] lemma.formula (λ broken.
-      in_none t first fr _ (right_negation g (lemma_right t first fr lemma f g e)) tree accepted finished steps trace execution
+      in_none t rules fr _ (right_negation g (lemma_right t rules fr lemma f g e)) tree accepted finished steps trace execution
       ((turned signature trace g (assignment start)).1 (λ holds. broken (kept.1 holds))));
-  exists_trace = λ t first fr lemma f g e tree accepted finished steps trace execution meets holds.
+  exists_trace = λ t rules fr lemma f g e tree accepted finished steps trace execution meets holds.
       let signature = signature_of (theory_of t) in
       let kept = form_kept signature trace lemma.formula g (form_checked lemma.formula g e).0 (assignment start) in
-      in_none t first fr g (lemma_right t first fr lemma f g e) tree accepted finished steps trace execution (kept.0 holds);
+      in_none t rules fr g (lemma_right t rules fr lemma f g e) tree accepted finished steps trace execution (kept.0 holds);
 }

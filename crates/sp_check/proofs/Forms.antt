@@ -1,6 +1,7 @@
 -- Guarded formulas whose atoms are flat and name no action of the adversary: they are timed, and a log over whose trace one is true
 -- solves the system that begins with it.
-use Rattle.std.proofs.Common.{◌≡◌, ◌<◌, ℕ, zero, true, List, [], ◌∷◌, length, refl, inl, inr, arith, sym}
+use Rattle.std.proofs.Common.{◌≡◌, ◌<◌, ℕ, zero, Bool, true, false, List, [], ◌∷◌, length, codes, refl, inl, inr, arith, sym, bytes_eq}
+use Rattle.std.proofs.lemmas.Slice.Eq.{bytes_eq-Decides}
 use Rattle.sp_spec.specs.Lists.{Member, Every}
 use Rattle.sp_spec.specs.Term.{Variable}
 use Rattle.sp_spec.specs.Signature.{Signature}
@@ -16,11 +17,10 @@ use Rattle.sp_law_guard.proofs.Named.{OfNames, named}
 use Rattle.sp_law_guard.proofs.Negated.{negate_guarded}
 use Rattle.sp_law_erase.specs.Adversary.{adversary_names}
 use Rattle.sp_system.specs.System.{assignment, AtomSettled, Settled, EachSettled, InFormula, InEach, IsNumbered, Solves}
-use Rattle.sp_check.specs.FirstForm.{root}
-use Rattle.sp_check.proofs.Flat.{FlatAtom, flat_timed, flat_atom_in, Bounded, flat_settled, each_bounded}
-use Rattle.sp_check.proofs.Roots.{start, start_sorts, start_normal, each_in}
+use Rattle.sp_check.specs.Root.{root}
+use Rattle.sp_check.proofs.Flat.{FlatAtom, flat_timed, flat_atom_in, each_in, Bounded, flat_settled, each_bounded}
+use Rattle.sp_check.proofs.Starts.{start, start_sorts, start_normal}
 use Rattle.sp_check.proofs.Shown.{NamesNoSend}
-use Rattle.sp_check.proofs.Showing.{not_named}
 
 abbrev pub NotAdversary : List ℕ → Type 0
 NotAdversary s = Member s adversary_names → ⊥
@@ -40,6 +40,16 @@ pub right_timed : (h : Guarded) → IsRight h → IsTimed zero h
 right_timed h r = timed zero h (throughout_weaken RightAtom _ (λ n a p. flat_timed n a p.0) zero h r.each) r.guarded
 
 -- what is sent isn't named
+other_name : (s : List ℕ) → (s ≡ codes "K" → ⊥) → bytes_eq s (codes "K") ≡ false
+other_name s n = at (bytes_eq s (codes "K")) refl
+  where
+    at : (b : Bool) → bytes_eq s (codes "K") ≡ b → b ≡ false
+    at true e = absurd (n ((bytes_eq-Decides s (codes "K")).0 e))
+    at false e = refl
+
+not_named : (x : List ℕ) (xs : List (List ℕ)) → (x ≡ codes "K" → ⊥) → NamesNoSend xs → NamesNoSend (x ∷ xs)
+not_named x xs n h = rw (other_name x n) h
+
 each_not_send : (names : List (List ℕ)) → Every NotAdversary names → NamesNoSend names
 each_not_send [] e = refl
 each_not_send (x ∷ names) e = not_named x names (λ k. e.0 (inr (inr (inl (sym k))))) (each_not_send names e.1)
@@ -94,7 +104,7 @@ right_flat : (h : Guarded) → IsRight h → Throughout FlatAtom zero h
 right_flat h r = throughout_weaken RightAtom FlatAtom (λ n a p. p.0) zero h r.each
 
 pub right_numbered : (h : Guarded) → IsRight h → IsNumbered (root h)
-right_numbered h r = record { events = tt; formulas = (flat_in (λ x. x.number < zero) (λ i. i < zero) zero h (right_flat h r), tt); spent = tt; unequal = tt }
+right_numbered h r = record { events = tt; formulas = (flat_in (λ x. x.number < zero) (λ i. i < zero) zero h (right_flat h r), tt); spent = tt; unequal = tt; order = tt }
 
 pub right_solved : (theory : Theory) (log : Log) (h : Guarded) → IsRight h → GuardedHolds (signature_of theory) (log_trace log) (assignment start) h → Solves theory log start (root h)
 right_solved theory log h r true_there = record {
@@ -110,4 +120,5 @@ right_solved theory log h r true_there = record {
   );
   spent = tt;
   unequal = tt;
+  order = tt;
 }

@@ -1,13 +1,9 @@
 pub mod Growing
 pub mod Trees
-pub mod Meant
-pub mod Negations
 pub mod Flat
 pub mod Shown
-pub mod Roots
-pub mod Verified
+pub mod Starts
 pub mod WrittenRules
-pub mod Showing
 pub mod Forms
 pub mod PlacedForms
 pub mod AllShown

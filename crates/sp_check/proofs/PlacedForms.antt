@@ -9,7 +9,7 @@ use Rattle.sp_law_guard.specs.IsGuarded.{is_guarded}
 use Rattle.sp_law_guard.proofs.Options.{mapped, then_some}
 use Rattle.sp_law_guard.proofs.Places.{action_made, order_made, equality_made}
 use Rattle.sp_law_guard.proofs.Throughout.{times_bound, OfFormulas, OfAtoms, form_throughout}
-use Rattle.sp_check.specs.FirstTheory.{IsAtomic, AreAtomic, IsFirstFormula}
+use Rattle.sp_check.specs.PlainTheory.{IsAtomic, AreAtomic, IsPlainFormula}
 use Rattle.sp_check.proofs.Flat.{FlatTerm, FlatTerms, FlatTime}
 use Rattle.sp_check.proofs.Forms.{NotAdversary, RightAtom, IsRight}
 
@@ -37,8 +37,8 @@ time_flat n (bound_time k) h = h
 time_flat n (free_time i) h = absurd h
 
 -- the formula's parts and atoms
-first_parts : OfFormulas IsFirstFormula
-first_parts = record {
+plain_parts : OfFormulas IsPlainFormula
+plain_parts = record {
   of_not = λ f w. w;
   of_both = λ f g w. w;
   of_either = λ f g w. w;
@@ -47,8 +47,8 @@ first_parts = record {
   of_some = λ x f w. w;
 }
 
-first_atoms : OfAtoms RightAtom IsFirstFormula
-first_atoms = record {
+plain_atoms : OfAtoms RightAtom IsPlainFormula
+plain_atoms = record {
   of_actions = λ bs a i atom w e.
       let r = action_made bs a i atom e in
       subst (RightAtom (times_bound bs)) (sym r.is)
@@ -61,5 +61,5 @@ first_atoms = record {
       subst (RightAtom (times_bound bs)) (sym r.is) ((time_flat (times_bound bs) r.first r.first_bound, time_flat (times_bound bs) r.second r.second_bound), tt);
 }
 
-pub form_right : (f : Formula) (g : Guarded) → IsFirstFormula f → guarded_form [] f ≡ Some g → is_guarded g ≡ true → IsRight g
-form_right f g first e guarded = record { each = form_throughout RightAtom IsFirstFormula first_parts first_atoms [] f g first e; guarded = guarded }
+pub form_right : (f : Formula) (g : Guarded) → IsPlainFormula f → guarded_form [] f ≡ Some g → is_guarded g ≡ true → IsRight g
+form_right f g plain e guarded = record { each = form_throughout RightAtom IsPlainFormula plain_parts plain_atoms [] f g plain e; guarded = guarded }

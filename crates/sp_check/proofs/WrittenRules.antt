@@ -1,4 +1,4 @@
--- A written rule of the first form stands for a rule whose variables are numbered, without destructors, that leaves the adversary
+-- A written rule of a plain theory stands for a rule whose variables are numbered, without destructors, that leaves the adversary
 -- alone.
 use Rattle.std.proofs.Common.{◌≡◌, ◌<◌, ℕ, zero, suc, Bool, true, false, ◌||◌, if◌then◌else◌, List, [], ◌∷◌, ◌++◌, map, length, codes, refl, sym, ap, subst, inl, inr, arith, bytes_eq, ⊎_elim}
 use Rattle.std.proofs.lemmas.Bool.{or_cases, or_left, or_right, or_parts}
@@ -16,7 +16,7 @@ use Rattle.sp_system.specs.System.{EachVariable, EachVariables, InFacts}
 use Rattle.sp_spec.proofs.Lists.{every_map, every_member, member_mapped}
 use Rattle.sp_system.proofs.Numbers.{facts_valued}
 use Rattle.sp_step.specs.Laws.{FactsArePlain, RulesArePlain, RulesAreNumbered}
-use Rattle.sp_check.specs.FirstTheory.{IsAtomic, AreAtomic, IsFirstFact, IsFirstAction, IsFirstRule}
+use Rattle.sp_check.specs.PlainTheory.{IsAtomic, AreAtomic, IsPlainFact, IsPlainAction, IsPlainRule}
 
 -- names that are listed
 listed_append : (x : List ℕ) (xs ys : List (List ℕ)) → is_listed x xs ≡ true → is_listed x (xs ++ ys) ≡ true
@@ -127,14 +127,14 @@ module _ (es : List Equation) (v : Written → Term Variable) (v_plain : (x : Wr
   atomics_plain none h = tt
   atomics_plain (more t ts) h = (atomic_plain t h.0, atomics_plain ts h.1)
 
-rule_plain : (es : List Equation) (r : WrittenRule) → IsFirstRule r → FactsArePlain es (rule_of r).facts
+rule_plain : (es : List Equation) (r : WrittenRule) → IsPlainRule r → FactsArePlain es (rule_of r).facts
 rule_plain es r h = record {
-  premises = every_map IsFirstFact _ (fact_at (numbered_in r.facts)) (λ f k. atomics_plain es (numbered_in r.facts) (λ x. tt) f.args k.0) r.facts.premises h.premises;
-  actions = every_map IsFirstAction _ (action_at (numbered_in r.facts)) (λ a k. atomics_plain es (numbered_in r.facts) (λ x. tt) a.args k.0) r.facts.actions h.actions;
-  conclusions = every_map IsFirstFact _ (fact_at (numbered_in r.facts)) (λ f k. atomics_plain es (numbered_in r.facts) (λ x. tt) f.args k.0) r.facts.conclusions h.conclusions;
+  premises = every_map IsPlainFact _ (fact_at (numbered_in r.facts)) (λ f k. atomics_plain es (numbered_in r.facts) (λ x. tt) f.args k.0) r.facts.premises h.premises;
+  actions = every_map IsPlainAction _ (action_at (numbered_in r.facts)) (λ a k. atomics_plain es (numbered_in r.facts) (λ x. tt) a.args k.0) r.facts.actions h.actions;
+  conclusions = every_map IsPlainFact _ (fact_at (numbered_in r.facts)) (λ f k. atomics_plain es (numbered_in r.facts) (λ x. tt) f.args k.0) r.facts.conclusions h.conclusions;
 }
 
-pub rules_plain : (es : List Equation) (rs : List WrittenRule) → Every IsFirstRule rs → RulesArePlain es (map rule_of rs)
+pub rules_plain : (es : List Equation) (rs : List WrittenRule) → Every IsPlainRule rs → RulesArePlain es (map rule_of rs)
 rules_plain es [] h = tt
 rules_plain es (r ∷ rs) h = (rule_plain es r h.0, rules_plain es rs h.1)
 
@@ -151,14 +151,14 @@ no_fr (f ∷ fs) e =
     let both = or_parts (is_fr_named f) (has_fr fs) e in
     ((λ k. cc (both.0, (bytes_eq-Decides f.symbol (codes "Fr")).1 k)), no_fr fs both.1)
 
-pub rules_leave_adversary : (t : WrittenTheory) → Every IsFirstRule t.rules → Every (λ (r : WrittenRule). has_fr r.facts.conclusions ≡ false) t.rules → NeedsNoAdversary (theory_of t)
-rules_leave_adversary t first fr = record {
+pub rules_leave_adversary : (t : WrittenTheory) → Every IsPlainRule t.rules → Every (λ (r : WrittenRule). has_fr r.facts.conclusions ≡ false) t.rules → NeedsNoAdversary (theory_of t)
+rules_leave_adversary t plain fr = record {
   premises = λ r m. let o = member_mapped rule_of r t.rules m in
       subst (λ (q : Rule). Every (λ (f : Fact Variable). Member f.symbol adversary_facts → ⊥) q.facts.premises) o.2
-      (every_map IsFirstFact _ (fact_at (numbered_in o.0.facts)) (λ f k l. k.1 (among f.symbol l)) o.0.facts.premises (every_member IsFirstRule t.rules o.0 o.1 first).premises);
+      (every_map IsPlainFact _ (fact_at (numbered_in o.0.facts)) (λ f k l. k.1 (among f.symbol l)) o.0.facts.premises (every_member IsPlainRule t.rules o.0 o.1 plain).premises);
   actions = λ r m. let o = member_mapped rule_of r t.rules m in
       subst (λ (q : Rule). Every (λ (a : Action Variable). a.symbol ≡ codes "K" → ⊥) q.facts.actions) o.2
-      (every_map IsFirstAction _ (action_at (numbered_in o.0.facts)) (λ a k l. k.1 (inr (inr (inl (sym l))))) o.0.facts.actions (every_member IsFirstRule t.rules o.0 o.1 first).actions);
+      (every_map IsPlainAction _ (action_at (numbered_in o.0.facts)) (λ a k l. k.1 (inr (inr (inl (sym l))))) o.0.facts.actions (every_member IsPlainRule t.rules o.0 o.1 plain).actions);
   conclusions = λ r m. let o = member_mapped rule_of r t.rules m in
       subst (λ (q : Rule). Every (λ (f : Fact Variable). f.symbol ≡ codes "Fr" → ⊥) q.facts.conclusions) o.2
       (every_map (λ (f : Fact Written). f.symbol ≡ codes "Fr" → ⊥) _ (fact_at (numbered_in o.0.facts)) (λ f k. k) o.0.facts.conclusions (no_fr o.0.facts.conclusions (every_member (λ (q : WrittenRule). has_fr q.facts.conclusions ≡ false) t.rules o.0 o.1 fr)));

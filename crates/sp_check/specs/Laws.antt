@@ -1,5 +1,5 @@
 -- What an accepted tree shows, and what growth owes.
-use Rattle.std.specs.Prelude.{◌≡◌, ℕ, ◌≤◌, List, ◌∷◌, Some, false, codes}
+use Rattle.std.specs.Prelude.{◌≡◌, ℕ, ◌≤◌, List, Some, false}
 use Rattle.sp_spec.specs.Lists.{Every}
 use Rattle.sp_spec.specs.Rule.{Rule}
 use Rattle.sp_spec.specs.Theory.{Theory, Lemma}
@@ -12,34 +12,26 @@ use Rattle.sp_law_guard.specs.CheckedForm.{checked_form}
 use Rattle.sp_system.specs.System.{System, IsNumbered}
 use Rattle.sp_step.specs.Laws.{HasNoSolution, IsPlainTheory}
 use Rattle.sp_check.specs.Tree.{Tree, IsAccepted, IsFinished, steps}
-use Rattle.sp_check.specs.FirstForm.{Happens, FirstForm, formula_of, checked_negation, root}
-use Rattle.sp_check.specs.FirstTheory.{IsFirstRule, IsFirstFormula}
+use Rattle.sp_check.specs.Root.{root}
+use Rattle.sp_check.specs.PlainTheory.{IsPlainRule, IsPlainFormula}
 use Rattle.sp_check.specs.Growth.{grown_tree}
 
 -- the tree theorem: where a tree is accepted and no leaf is left open, the system at its root has no solution
 pub record FinishedTreesShow (theory : Theory) : Type 0 where
   pub no_solution : (s : System) (tree : Tree) → IsNumbered s → IsAccepted theory.rules s tree → IsFinished tree → HasNoSolution theory s
 
--- no action of the lemma is the adversary's
-abbrev pub NamesNoSending : FirstForm → Type 0
-NamesNoSending l = Every (λ (h : Happens). h.action.symbol ≡ codes "K" → ⊥) (l.first ∷ l.others)
-
--- An accepted tree without open leaves has a root without solutions. Where its root is the negation of a lemma of the first form,
--- the lemma holds in every execution of the theory, steps of the adversary included.
+-- An accepted tree without open leaves has a root without solutions.
 pub record AcceptedTreesShow : Type 0 where
   pub trees : (theory : Theory) → IsPlainTheory theory → FinishedTreesShow theory
-  pub lemmas : (theory : WrittenTheory) → Every IsFirstRule theory.rules → Every (λ (r : WrittenRule). has_fr r.facts.conclusions ≡ false) theory.rules
-      → (lemma : Lemma) (l : FirstForm) → lemma.formula ≡ formula_of l → NamesNoSending l → (g : Guarded) → checked_negation l ≡ Some g
-      → (tree : Tree) → IsAccepted (theory_of theory).rules (root g) tree → IsFinished tree → HoldsInAll (theory_of theory) lemma
 
 -- What an accepted tree without open leaves shows of a lemma, steps of the adversary included. From the negation of the lemma's guarded
 -- form: every execution satisfies the lemma. From the guarded form: no execution does.
 pub record LemmasAreShown : Type 0 where
-  pub all_traces : (theory : WrittenTheory) → Every IsFirstRule theory.rules → Every (λ (r : WrittenRule). has_fr r.facts.conclusions ≡ false) theory.rules
-      → (lemma : Lemma) → IsFirstFormula lemma.formula → (g : Guarded) → checked_form lemma.formula ≡ Some g
+  pub all_traces : (theory : WrittenTheory) → Every IsPlainRule theory.rules → Every (λ (r : WrittenRule). has_fr r.facts.conclusions ≡ false) theory.rules
+      → (lemma : Lemma) → IsPlainFormula lemma.formula → (g : Guarded) → checked_form lemma.formula ≡ Some g
       → (tree : Tree) → IsAccepted (theory_of theory).rules (root (negate g)) tree → IsFinished tree → HoldsInAll (theory_of theory) lemma
-  pub exists_trace : (theory : WrittenTheory) → Every IsFirstRule theory.rules → Every (λ (r : WrittenRule). has_fr r.facts.conclusions ≡ false) theory.rules
-      → (lemma : Lemma) → IsFirstFormula lemma.formula → (g : Guarded) → checked_form lemma.formula ≡ Some g
+  pub exists_trace : (theory : WrittenTheory) → Every IsPlainRule theory.rules → Every (λ (r : WrittenRule). has_fr r.facts.conclusions ≡ false) theory.rules
+      → (lemma : Lemma) → IsPlainFormula lemma.formula → (g : Guarded) → checked_form lemma.formula ≡ Some g
       → (tree : Tree) → IsAccepted (theory_of theory).rules (root g) tree → IsFinished tree → HoldsInNone (theory_of theory) lemma
 
 -- a tree that is grown is accepted, and has at most as many steps as the budget says

@@ -1,5 +1,5 @@
 pub mod Tree
-pub mod FirstForm
+pub mod Root
 pub mod Growth
+pub mod PlainTheory
 pub mod Laws
-pub mod FirstTheory

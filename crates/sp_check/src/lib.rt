@@ -9,7 +9,7 @@
 
 ghost use Rattle.sp_check.specs.Laws.{AcceptedTreesShow, LemmasAreShown, GrowthIsAccepted};
 
-/// What an accepted tree without open leaves shows.
+/// The root of an accepted tree without open leaves has no solution.
 pub fn accepted_trees_show()
     ensures { AcceptedTreesShow }
 {}
