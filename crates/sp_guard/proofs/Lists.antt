@@ -1,5 +1,5 @@
 -- Lists that are looked through from the outermost binder to the innermost, and answers gathered one after the other.
-use Rattle.std.proofs.Common.{arith, ◌≡◌, ◌+◌, ◌<◌, ◌∙◌, refl, sym, ap, ℕ, suc, List, [], ◌∷◌, ◌++◌, length, map, take, get_or, Option, Some, None, option_map, if◌then◌else◌}
+use Rattle.std.proofs.Common.{arith, ◌≡◌, ◌+◌, ◌<◌, ◌∙◌, refl, ap, ℕ, suc, List, [], ◌∷◌, ◌++◌, length, map, take, get_or, Option, Some, option_map, if◌then◌else◌}
 use Rattle.std.specs.Str.{bytes_eq}
 use Rattle.std.proofs.Math.Seq.{take-suc}
 use mathlib.Core.List.{map-append}
@@ -8,9 +8,9 @@ use Rattle.sp_read_parts.specs.declared.written.Mark.TheVariants.{Bare}
 use Rattle.sp_read_parts.specs.declared.written.WrittenTerm.{WrittenTerm}
 use Rattle.sp_read_parts.specs.declared.written.WrittenTerm.TheVariants.{Variable}
 use Rattle.sp_read_parts.specs.declared.written.WrittenVariable.{WrittenVariable}
-use Rattle.sp_read_theory.specs.Views.{variable}
-use Rattle.sp_check.specs.FirstForm.{Meant, binder_meant, past_binder, meant, reversed}
-use Rattle.sp_guard.specs.View.{innermost_first}
+use Rattle.sp_read_parts.specs.Views.{variable}
+use Rattle.sp_law_guard.specs.GuardedForm.{Meant, binder_meant, past_binder, meant}
+use Rattle.sp_guard.specs.View.{reversed, innermost_first}
 
 -- what stands behind the end of a list
 abbrev pub none_written : WrittenVariable

@@ -1,21 +1,20 @@
-// The guarded negation of a lemma of the first form, with which its proof begins, and the findings on the lemma.
-// Below stand written formulas (sp_read_theory), formulas in memory (sp_system), and the definitions of the negation and of the findings
-// (sp_check); above stands what begins proofs. Each call is exact: it gives what the definition gives, and none where that gives none.
-// Carried here: the promise that the root of a proof is the negation of the lemma that the text says, and that a lemma that is not
-// guarded, or whose variables are used against their marks, has none.
+// The guarded form of any written formula, its negation, and the findings on both.
+// Below stand written formulas (sp_read_parts), formulas in memory (sp_formula), and the definitions of the forms and of the findings
+// (sp_law_guard); above stands what begins proofs.
+// Carried here: each call is exact. It gives what the definition gives, and none where that gives none: where a name has no binder, a
+// message stands for a time or a time for a message, a quantifier is not guarded, a variable is used against its mark, or an action
+// has too many arguments. So the formula with which a proof begins is the one that the definition makes of the text's formula.
 #![tactic(auto)]
 
-pub mod checked;
-pub mod findings;
+pub mod form;
+pub mod guarded;
+pub mod join;
+pub mod marks;
 pub mod meaning;
-pub mod negation;
-
-ghost use Rattle.sp_guard.specs.Laws.{FirstFormSpellsFormula};
-
-/// The first form of a written formula spells the formula that is read.
-pub fn first_form_spells_formula()
-    ensures { FirstFormSpellsFormula }
-{}
-
+pub mod negate;
+pub mod place;
 #[cfg(test)]
 mod tests;
+pub mod unguarded;
+#[cfg(test)]
+mod unguarded_tests;

@@ -1,12 +1,12 @@
-//! What the names in a lemma mean.
+//! What the names in a formula mean.
 
 ghost use Rattle.std.specs.Prelude.{◌≡◌, ℕ, ◌+◌, ◌<◌, ◌-◌, ◌^◌, IfSome, Some, option_map, if◌then◌else◌};
 ghost use Rattle.std.specs.Str.{bytes_eq};
-ghost use Rattle.sp_read_theory.specs.Views as view;
-ghost use Rattle.sp_check.specs.FirstForm as spec;
-ghost use Rattle.sp_guard.specs.View.{meant_of, place_of, innermost_first};
+ghost use Rattle.sp_read_parts.specs.Views as view;
+ghost use Rattle.sp_law_guard.specs.GuardedForm as spec;
+ghost use Rattle.sp_guard.specs.View.{meaning_of, place_of, innermost_first};
 
-use sp_read_theory::{Mark, WrittenVariable};
+use sp_read_parts::{Mark, WrittenVariable};
 
 /// What a name means: a binder, by its place among those of its kind, the innermost having place 0.
 #[derive(Clone, Copy)]
@@ -19,7 +19,7 @@ pub enum Meaning {
 
 /// What the innermost binder's name means.
 pub fn binder_meant(mark: Mark) -> Meaning
-    ensures { meant_of result ≡ spec.binder_meant (view.mark mark) }
+    ensures { meaning_of result ≡ spec.binder_meant (view.mark mark) }
 {
     match mark {
         Mark::Time => Meaning::Time(0),
@@ -31,7 +31,7 @@ impl Meaning {
     /// The same binder, seen from inside one more binder with this mark.
     fn past_binder(self, mark: Mark) -> Meaning
         requires { place_of self < 2 ^ 64 - 1 }
-        ensures value { meant_of result ≡ spec.past_binder (view.mark mark) (meant_of self) }
+        ensures value { meaning_of result ≡ spec.past_binder (view.mark mark) (meaning_of self) }
         ensures place { place_of result < place_of self + 2 }
     {
         match (self, mark) {
@@ -46,7 +46,7 @@ impl Meaning {
 /// What the name means inside one more binder, where it meant `outside` before.
 fn meant_inside(outside: Option<Meaning>, binder: &WrittenVariable, name: &str) -> Option<Meaning>
     requires { IfSome outside (λ m. place_of m < 2 ^ 64 - 1) }
-    ensures value { option_map meant_of result ≡ (if bytes_eq binder.now.name.now name.now then Some (spec.binder_meant (view.mark binder.now.mark)) else option_map (spec.past_binder (view.mark binder.now.mark)) (option_map meant_of outside)) }
+    ensures value { option_map meaning_of result ≡ (if bytes_eq binder.now.name.now name.now then Some (spec.binder_meant (view.mark binder.now.mark)) else option_map (spec.past_binder (view.mark binder.now.mark)) (option_map meaning_of outside)) }
     ensures place { (k : ℕ) → IfSome outside (λ m. place_of m < k) → IfSome result (λ m. place_of m < k + 1) }
 {
     if binder.name == name {
@@ -60,7 +60,7 @@ fn meant_inside(outside: Option<Meaning>, binder: &WrittenVariable, name: &str) 
 
 /// What the name means inside all binders: the innermost binder of that name.
 pub fn meant(binders: &Vec<WrittenVariable>, name: &str) -> Option<Meaning>
-    ensures { option_map meant_of result ≡ spec.meant (innermost_first binders.now.items) name.now }
+    ensures { option_map meaning_of result ≡ spec.meant (innermost_first binders.now.items) name.now }
 {
     let mut found = None;
     for binder in binders {

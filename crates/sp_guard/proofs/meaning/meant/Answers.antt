@@ -1,6 +1,6 @@
-use Rattle.std.proofs.Common.{◌≡◌, sym, ap, ◌∙◌, ◌+◌, Option, get_or}
-use Rattle.sp_read_theory.specs.Views.{variable}
-use Rattle.sp_check.specs.FirstForm as spec
+use Rattle.std.proofs.Common.{sym, ap, ◌∙◌, ◌+◌, Option, get_or}
+use Rattle.sp_read_parts.specs.Views.{variable}
+use Rattle.sp_law_guard.specs.GuardedForm as spec
 use Rattle.sp_guard.proofs.Lists.{none_written, inside, meant_more}
 use Rattle.sp_guard.proofs.meaning.meant.Goals as goal
 

@@ -1,0 +1,69 @@
+-- Variables fit their binders one after the other, and the quantifiers in a row are gone through at once.
+use Rattle.std.proofs.Common.{◌≡◌, refl, ap, ◌∙◌, Bool, true, false, ◌&&◌, ◌||◌, nat_lt, suc, length, List, [], ◌∷◌, ◌++◌, map}
+use Rattle.sp_spec.specs.Formula.{Written, Formula}
+use Rattle.sp_spec.specs.Term.{count}
+use Rattle.sp_spec.specs.Findings.{is_wide}
+use Rattle.sp_read_parts.specs.declared.written.WrittenTerm.{WrittenTerm}
+use Rattle.sp_read_parts.specs.declared.written.WrittenVariable.{WrittenVariable}
+use Rattle.sp_read_parts.specs.Shapes.{row, quantified}
+use Rattle.sp_read_parts.specs.Grammar.{quantified_some}
+use Rattle.sp_read_parts.specs.Views.{term, variable}
+use Rattle.sp_law_guard.specs.GuardedForm.{meant}
+use Rattle.sp_law_guard.specs.CheckedForm.{fits, each_fits, marks_fit, has_wide}
+use Rattle.sp_guard.specs.View.{reversed, innermost_first}
+use Rattle.sp_guard.proofs.QuantifiedForm.{regrouped, inside}
+
+pub one_fits : (x : Bool) → x && true ≡ x
+one_fits true = refl
+one_fits false = refl
+
+and_grouped : (x y z : Bool) → x && (y && z) ≡ (x && y) && z
+and_grouped true y z = refl
+and_grouped false y z = refl
+
+pub both_fit : (bs xs ys : List Written) → each_fits bs (xs ++ ys) ≡ each_fits bs xs && each_fits bs ys
+both_fit bs [] ys = refl
+both_fit bs (x ∷ xs) ys =
+    ap (λ (b : Bool). fits x.mark (meant bs x.name) && b) (both_fit bs xs ys) ∙ and_grouped (fits x.mark (meant bs x.name)) (each_fits bs xs) (each_fits bs ys)
+
+counted : (ts : List WrittenTerm) → count (row (map term ts)) ≡ length ts
+counted [] = refl
+counted (t ∷ ts) = ap suc (counted ts)
+
+pub wide_length : (ts : List WrittenTerm) → is_wide (row (map term ts)) ≡ nat_lt 16 (length ts)
+wide_length ts = ap (nat_lt 16) (counted ts)
+
+-- each implies the other
+pub both_ways : (x y : Bool) → x && y ≡ (x && y) && (y && x)
+both_ways true true = refl
+both_ways true false = refl
+both_ways false y = refl
+
+pub either_way : (x y : Bool) → x || y ≡ (x || y) || (y || x)
+either_way true y = refl
+either_way false true = refl
+either_way false false = refl
+
+all_fit : (bs xs : List Written) (f : Formula) → marks_fit (reversed xs ++ bs) f ≡ marks_fit bs (quantified xs f)
+all_fit bs [] f = refl
+all_fit bs (x ∷ xs) f = ap (λ (cs : List Written). marks_fit cs f) (regrouped xs bs x) ∙ all_fit (x ∷ bs) xs f
+
+some_fit : (bs xs : List Written) (f : Formula) → marks_fit (reversed xs ++ bs) f ≡ marks_fit bs (quantified_some xs f)
+some_fit bs [] f = refl
+some_fit bs (x ∷ xs) f = ap (λ (cs : List Written). marks_fit cs f) (regrouped xs bs x) ∙ some_fit (x ∷ bs) xs f
+
+pub fit_for_all : (bs vs all : List WrittenVariable) (f : Formula) → all ≡ bs ++ vs → marks_fit (innermost_first all) f ≡ marks_fit (innermost_first bs) (quantified (map variable vs) f)
+fit_for_all bs vs all f e =
+    ap (λ (cs : List WrittenVariable). marks_fit (innermost_first cs) f) e ∙ ap (λ (cs : List Written). marks_fit cs f) (inside bs vs) ∙ all_fit (innermost_first bs) (map variable vs) f
+
+pub fit_for_some : (bs vs all : List WrittenVariable) (f : Formula) → all ≡ bs ++ vs → marks_fit (innermost_first all) f ≡ marks_fit (innermost_first bs) (quantified_some (map variable vs) f)
+fit_for_some bs vs all f e =
+    ap (λ (cs : List WrittenVariable). marks_fit (innermost_first cs) f) e ∙ ap (λ (cs : List Written). marks_fit cs f) (inside bs vs) ∙ some_fit (innermost_first bs) (map variable vs) f
+
+pub wide_for_all : (xs : List Written) (f : Formula) → has_wide f ≡ has_wide (quantified xs f)
+wide_for_all [] f = refl
+wide_for_all (x ∷ xs) f = wide_for_all xs f
+
+pub wide_for_some : (xs : List Written) (f : Formula) → has_wide f ≡ has_wide (quantified_some xs f)
+wide_for_some [] f = refl
+wide_for_some (x ∷ xs) f = wide_for_some xs f

@@ -1,0 +1,255 @@
+// The guarded form of a written formula.
+
+ghost use Rattle.std.specs.Prelude.{◌≡◌, ◌++◌, IfOk, map, option_map};
+ghost use Rattle.sp_spec.specs.Guarded.{holds};
+ghost use Rattle.sp_read_parts.specs.Shapes.{quantified};
+ghost use Rattle.sp_read_parts.specs.Grammar.{quantified_some};
+ghost use Rattle.sp_read_parts.specs.Views as view;
+ghost use Rattle.sp_read_parts.specs.Formulas as written;
+ghost use Rattle.sp_formula.specs.FormulaView.{atom_of, formula_of};
+ghost use Rattle.sp_law_guard.specs.GuardedForm as spec;
+ghost use Rattle.sp_guard.specs.View.{innermost_first};
+ghost use Rattle.sp_guard.specs.Bound.{for_all_form, for_some_form, each_bound, equivalent_forms};
+
+use crate::join::{conjunction, disjunction, existential};
+use crate::negate::negate;
+use crate::place::{action_placed, equality_placed, marked_binder, order_placed};
+use sp_formula::formula::{Atom, Formula};
+use sp_read_parts::{ReadFormula, WrittenVariable};
+use std::alloc::{AllocError, Global};
+
+fn held(atom: Option<Atom>) -> Option<Formula>
+    ensures { option_map formula_of result ≡ option_map holds (option_map atom_of atom) }
+{
+    match atom {
+        Some(atom) => Some(Formula::Holds(atom)),
+        None => None,
+    }
+}
+
+fn negated(alloc: Global, form: Option<Formula>) -> Result<Option<Formula>, AllocError>
+    ensures { IfOk result (λ o. option_map formula_of o ≡ option_map spec.negate (option_map formula_of form)) }
+{
+    match form {
+        Some(form) => {
+            let made = negate(alloc, form)?;
+            Ok(Some(made))
+        }
+        None => Ok(None),
+    }
+}
+
+fn both(
+    alloc: Global,
+    left: Option<Formula>,
+    right: Option<Formula>,
+) -> Result<Option<Formula>, AllocError>
+    ensures { IfOk result (λ o. option_map formula_of o ≡ spec.both_forms spec.conjunction (option_map formula_of left) (option_map formula_of right)) }
+{
+    let Some(left) = left else {
+        return Ok(None);
+    };
+    let Some(right) = right else {
+        return Ok(None);
+    };
+    let made = conjunction(alloc, left, right)?;
+    Ok(Some(made))
+}
+
+fn either(
+    alloc: Global,
+    left: Option<Formula>,
+    right: Option<Formula>,
+) -> Result<Option<Formula>, AllocError>
+    ensures { IfOk result (λ o. option_map formula_of o ≡ spec.both_forms spec.disjunction (option_map formula_of left) (option_map formula_of right)) }
+{
+    let Some(left) = left else {
+        return Ok(None);
+    };
+    let Some(right) = right else {
+        return Ok(None);
+    };
+    let made = disjunction(alloc, left, right)?;
+    Ok(Some(made))
+}
+
+fn implication(
+    alloc: Global,
+    left: Option<Formula>,
+    right: Option<Formula>,
+) -> Result<Option<Formula>, AllocError>
+    ensures { IfOk result (λ o. option_map formula_of o ≡ spec.both_forms spec.disjunction (option_map spec.negate (option_map formula_of left)) (option_map formula_of right)) }
+{
+    let denied = negated(alloc, left)?;
+    let made = either(alloc, denied, right)?;
+    Ok(made)
+}
+
+fn copied(alloc: Global, form: &Option<Formula>) -> Result<Option<Formula>, AllocError>
+    ensures { IfOk result (λ o. option_map formula_of o ≡ option_map formula_of form.now) }
+{
+    match form {
+        Some(form) => {
+            let made = form.copy(alloc)?;
+            Ok(Some(made))
+        }
+        None => Ok(None),
+    }
+}
+
+// Each implies the other.
+fn equivalence(
+    alloc: Global,
+    left: Option<Formula>,
+    right: Option<Formula>,
+) -> Result<Option<Formula>, AllocError>
+    ensures { IfOk result (λ o. option_map formula_of o ≡ equivalent_forms (option_map formula_of left) (option_map formula_of right)) }
+{
+    let first = copied(alloc, &left)?;
+    let second = copied(alloc, &right)?;
+    let forth = implication(alloc, first, second)?;
+    let back = implication(alloc, right, left)?;
+    let made = both(alloc, forth, back)?;
+    Ok(made)
+}
+
+// The formula for all values of the binders.
+fn all_values(
+    alloc: Global,
+    binders: &Vec<WrittenVariable>,
+    body: Formula,
+) -> Result<Formula, AllocError>
+    ensures { IfOk result (λ g. formula_of g ≡ each_bound for_all_form (map view.variable binders.now.items) (formula_of body)) }
+{
+    let mut form = body;
+    for index in (0..binders.len()).rev() {
+        let denied = negate(alloc, form)?;
+        let found = existential(alloc, marked_binder(binders[index].mark), denied)?;
+        form = negate(alloc, found)?;
+    }
+    Ok(form)
+}
+
+// The formula for some values of the binders.
+fn some_values(
+    alloc: Global,
+    binders: &Vec<WrittenVariable>,
+    body: Formula,
+) -> Result<Formula, AllocError>
+    ensures { IfOk result (λ g. formula_of g ≡ each_bound for_some_form (map view.variable binders.now.items) (formula_of body)) }
+{
+    let mut form = body;
+    for index in (0..binders.len()).rev() {
+        form = existential(alloc, marked_binder(binders[index].mark), form)?;
+    }
+    Ok(form)
+}
+
+/// The binders with those of a quantifier inside them.
+///
+/// # Errors
+///
+/// `AllocError` where memory is wanting.
+pub fn within<'a>(
+    alloc: Global,
+    binders: &Vec<WrittenVariable<'a>>,
+    more: &Vec<WrittenVariable<'a>>,
+) -> Result<Vec<WrittenVariable<'a>>, AllocError>
+    ensures { IfOk result (λ bs. bs.items ≡ binders.now.items ++ more.now.items) }
+{
+    let mut made = Vec::with_capacity(alloc, binders.len())?;
+    made.extend_from_slice(binders)?;
+    made.extend_from_slice(more)?;
+    Ok(made)
+}
+
+/// The guarded form of the formula inside these binders. None where a name has no binder, or a message stands for a time or a time for a
+/// message.
+///
+/// # Errors
+///
+/// `AllocError` where memory is wanting.
+#[cycle(form)]
+pub fn guarded_form<'a>(
+    alloc: Global,
+    binders: &Vec<WrittenVariable<'a>>,
+    formula: &ReadFormula<'a>,
+) -> Result<Option<Formula>, AllocError>
+    ensures { IfOk result (λ o. option_map formula_of o ≡ spec.guarded_form (innermost_first binders.now.items) (written.formula formula.now)) }
+{
+    match formula {
+        ReadFormula::True => Ok(Some(Formula::Truth)),
+        ReadFormula::False => Ok(Some(Formula::Falsity)),
+        ReadFormula::Happens(fact, at) => {
+            let atom = action_placed(alloc, binders, fact, at)?;
+            Ok(held(atom))
+        }
+        ReadFormula::Equals(left, right) => {
+            let atom = equality_placed(alloc, binders, left, right)?;
+            Ok(held(atom))
+        }
+        ReadFormula::Precedes(first, second) => Ok(held(order_placed(binders, first, second))),
+        ReadFormula::Not(denied) => {
+            let form = guarded_form(alloc, binders, denied)?;
+            negated(alloc, form)
+        }
+        ReadFormula::Both(left, right) => {
+            let first = guarded_form(alloc, binders, left)?;
+            let second = guarded_form(alloc, binders, right)?;
+            both(alloc, first, second)
+        }
+        ReadFormula::Either(left, right) => {
+            let first = guarded_form(alloc, binders, left)?;
+            let second = guarded_form(alloc, binders, right)?;
+            either(alloc, first, second)
+        }
+        ReadFormula::Implies(left, right) => {
+            let first = guarded_form(alloc, binders, left)?;
+            let second = guarded_form(alloc, binders, right)?;
+            implication(alloc, first, second)
+        }
+        ReadFormula::Equivalent(left, right) => {
+            let first = guarded_form(alloc, binders, left)?;
+            let second = guarded_form(alloc, binders, right)?;
+            equivalence(alloc, first, second)
+        }
+        ReadFormula::ForAll(more, body) => for_all(alloc, binders, more, body),
+        ReadFormula::ForSome(more, body) => for_some(alloc, binders, more, body),
+    }
+}
+
+#[cycle(form)]
+#[tactic(auto, using(crate::proofs::QuantifiedForm::all_within))]
+fn for_all<'a>(
+    alloc: Global,
+    binders: &Vec<WrittenVariable<'a>>,
+    more: &Vec<WrittenVariable<'a>>,
+    body: &ReadFormula<'a>,
+) -> Result<Option<Formula>, AllocError>
+    ensures { IfOk result (λ o. option_map formula_of o ≡ spec.guarded_form (innermost_first binders.now.items) (quantified (map view.variable more.now.items) (written.formula body.now))) }
+{
+    let inner = within(alloc, &*binders, &*more)?;
+    let Some(form) = guarded_form(alloc, &inner, body)? else {
+        return Ok(None);
+    };
+    let made = all_values(alloc, more, form)?;
+    Ok(Some(made))
+}
+
+#[cycle(form)]
+#[tactic(auto, using(crate::proofs::QuantifiedForm::some_within))]
+fn for_some<'a>(
+    alloc: Global,
+    binders: &Vec<WrittenVariable<'a>>,
+    more: &Vec<WrittenVariable<'a>>,
+    body: &ReadFormula<'a>,
+) -> Result<Option<Formula>, AllocError>
+    ensures { IfOk result (λ o. option_map formula_of o ≡ spec.guarded_form (innermost_first binders.now.items) (quantified_some (map view.variable more.now.items) (written.formula body.now))) }
+{
+    let inner = within(alloc, &*binders, &*more)?;
+    let Some(form) = guarded_form(alloc, &inner, body)? else {
+        return Ok(None);
+    };
+    let made = some_values(alloc, more, form)?;
+    Ok(Some(made))
+}

@@ -1,0 +1,209 @@
+// The findings on a written formula, and its guarded form where there are none.
+
+ghost use Rattle.std.specs.Prelude.{◌≡◌, [], ◌∷◌, ◌++◌, ◌&&◌, not, IfOk, map, option_map};
+ghost use Rattle.sp_spec.specs.Written.{in_term, in_terms};
+ghost use Rattle.sp_spec.specs.Findings.{is_wide};
+ghost use Rattle.sp_read_parts.specs.Shapes.{row, quantified};
+ghost use Rattle.sp_read_parts.specs.Grammar.{quantified_some};
+ghost use Rattle.sp_read_parts.specs.Views as view;
+ghost use Rattle.sp_read_parts.specs.Formulas as written;
+ghost use Rattle.sp_formula.specs.FormulaView.{formula_of};
+ghost use Rattle.sp_law_guard.specs.GuardedForm as forms;
+ghost use Rattle.sp_law_guard.specs.IsGuarded.{is_guarded};
+ghost use Rattle.sp_law_guard.specs.CheckedForm as spec;
+ghost use Rattle.sp_guard.specs.View.{innermost_first};
+
+use crate::form::{guarded_form, within};
+use crate::guarded::is_guarded;
+use crate::meaning::{Meaning, meant};
+use sp_formula::formula::Formula;
+use sp_read_parts::{Mark, ReadFormula, WrittenFact, WrittenTerm, WrittenVariable};
+use std::alloc::{AllocError, Global};
+
+/// Whether a message marked like this can be what the binder with the other mark binds.
+fn is_same_mark(mark: Mark, binder: Mark) -> bool
+    ensures { result ≡ spec.same_mark (view.mark mark) (view.mark binder) }
+{
+    match (mark, binder) {
+        (Mark::Bare, _) => true,
+        (Mark::Message, Mark::Bare | Mark::Message) => true,
+        (Mark::Fresh, Mark::Fresh) => true,
+        (Mark::Public, Mark::Public) => true,
+        _ => false,
+    }
+}
+
+/// Whether the variable is marked like the binder that it means.
+fn fits(binders: &Vec<WrittenVariable>, variable: &WrittenVariable) -> bool
+    ensures { result ≡ spec.fits (view.mark variable.now.mark) (forms.meant (innermost_first binders.now.items) variable.now.name.now) }
+{
+    match meant(binders, variable.name) {
+        None => true,
+        Some(Meaning::Message(binder, _)) => is_same_mark(variable.mark, binder),
+        Some(Meaning::Time(_)) => matches!(variable.mark, Mark::Bare | Mark::Time),
+    }
+}
+
+/// Whether the term's variable fits its binder.
+#[tactic(auto, using(crate::proofs::MarksFit::one_fits))]
+fn term_fits(binders: &Vec<WrittenVariable>, term: &WrittenTerm) -> bool
+    ensures { result ≡ spec.each_fits (innermost_first binders.now.items) (in_term (view.term term.now)) }
+{
+    match term {
+        WrittenTerm::Variable(variable) => fits(binders, variable),
+        WrittenTerm::Constant(_) => true,
+    }
+}
+
+/// Whether each variable of the terms fits its binder.
+#[tactic(auto, using(crate::proofs::MarksFit::both_fit))]
+fn terms_fit(binders: &Vec<WrittenVariable>, terms: &Vec<WrittenTerm>) -> bool
+    ensures { result ≡ spec.each_fits (innermost_first binders.now.items) (in_terms (row (map view.term terms.now.items))) }
+{
+    for term in terms {
+        if !term_fits(binders, term) {
+            return false;
+        }
+    }
+    true
+}
+
+/// Whether each variable of the action and its time fit their binders.
+#[tactic(auto, using(crate::proofs::MarksFit::both_fit, crate::proofs::MarksFit::one_fits))]
+fn action_fits(binders: &Vec<WrittenVariable>, fact: &WrittenFact, at: &WrittenVariable) -> bool
+    ensures { result ≡ spec.each_fits (innermost_first binders.now.items) (in_terms (row (map view.term fact.now.arguments.items)) ++ (view.variable at.now ∷ [])) }
+{
+    let args = terms_fit(binders, &fact.arguments);
+    let time = fits(binders, at);
+    args && time
+}
+
+/// Whether each variable of both terms fits its binder.
+#[tactic(auto, using(crate::proofs::MarksFit::both_fit))]
+fn equality_fits(binders: &Vec<WrittenVariable>, left: &WrittenTerm, right: &WrittenTerm) -> bool
+    ensures { result ≡ spec.each_fits (innermost_first binders.now.items) (in_term (view.term left.now) ++ in_term (view.term right.now)) }
+{
+    let first = term_fits(binders, left);
+    let second = term_fits(binders, right);
+    first && second
+}
+
+/// Whether both times fit their binders.
+#[tactic(auto, using(crate::proofs::MarksFit::one_fits))]
+fn order_fits(
+    binders: &Vec<WrittenVariable>,
+    left: &WrittenVariable,
+    right: &WrittenVariable,
+) -> bool
+    ensures { result ≡ spec.each_fits (innermost_first binders.now.items) (view.variable left.now ∷ view.variable right.now ∷ []) }
+{
+    let first = fits(binders, left);
+    let second = fits(binders, right);
+    first && second
+}
+
+/// Whether the variables inside these binders are marked as their binders are.
+///
+/// # Errors
+///
+/// `AllocError` where memory is wanting.
+#[tactic(auto, using(crate::proofs::MarksFit::both_ways, crate::proofs::MarksFit::fit_for_all, crate::proofs::MarksFit::fit_for_some))]
+pub fn marks_fit<'a>(
+    alloc: Global,
+    binders: &Vec<WrittenVariable<'a>>,
+    formula: &ReadFormula<'a>,
+) -> Result<bool, AllocError>
+    ensures { IfOk result (λ b. b ≡ spec.marks_fit (innermost_first binders.now.items) (written.formula formula.now)) }
+{
+    match formula {
+        ReadFormula::True | ReadFormula::False => Ok(true),
+        ReadFormula::Happens(fact, at) => Ok(action_fits(binders, fact, at)),
+        ReadFormula::Equals(left, right) => Ok(equality_fits(binders, left, right)),
+        ReadFormula::Precedes(left, right) => Ok(order_fits(binders, left, right)),
+        ReadFormula::Not(denied) => marks_fit(alloc, binders, denied),
+        ReadFormula::Both(left, right) => {
+            let first = marks_fit(alloc, binders, left)?;
+            let second = marks_fit(alloc, binders, right)?;
+            Ok(first && second)
+        }
+        ReadFormula::Either(left, right) => {
+            let first = marks_fit(alloc, binders, left)?;
+            let second = marks_fit(alloc, binders, right)?;
+            Ok(first && second)
+        }
+        ReadFormula::Implies(left, right) => {
+            let first = marks_fit(alloc, binders, left)?;
+            let second = marks_fit(alloc, binders, right)?;
+            Ok(first && second)
+        }
+        ReadFormula::Equivalent(left, right) => {
+            let first = marks_fit(alloc, binders, left)?;
+            let second = marks_fit(alloc, binders, right)?;
+            Ok(first && second)
+        }
+        ReadFormula::ForAll(more, body) => {
+            let inner = within(alloc, &*binders, &*more)?;
+            marks_fit(alloc, &inner, body)
+        }
+        ReadFormula::ForSome(more, body) => {
+            let inner = within(alloc, &*binders, &*more)?;
+            marks_fit(alloc, &inner, body)
+        }
+    }
+}
+
+#[tactic(auto, using(crate::proofs::MarksFit::wide_length))]
+fn is_wide_action(fact: &WrittenFact) -> bool
+    ensures { result ≡ is_wide (row (map view.term fact.now.arguments.items)) }
+{
+    fact.arguments.len() > 16
+}
+
+/// Whether an action of the formula has too many arguments.
+#[tactic(auto, using(crate::proofs::MarksFit::either_way, crate::proofs::MarksFit::wide_for_all, crate::proofs::MarksFit::wide_for_some))]
+pub fn has_wide(formula: &ReadFormula) -> bool
+    ensures { result ≡ spec.has_wide (written.formula formula.now) }
+{
+    match formula {
+        ReadFormula::True | ReadFormula::False => false,
+        ReadFormula::Happens(fact, _) => is_wide_action(fact),
+        ReadFormula::Equals(_, _) => false,
+        ReadFormula::Precedes(_, _) => false,
+        ReadFormula::Not(denied) => has_wide(denied),
+        ReadFormula::Both(left, right) => has_wide(left) || has_wide(right),
+        ReadFormula::Either(left, right) => has_wide(left) || has_wide(right),
+        ReadFormula::Implies(left, right) => has_wide(left) || has_wide(right),
+        ReadFormula::Equivalent(left, right) => has_wide(left) || has_wide(right),
+        ReadFormula::ForAll(_, body) => has_wide(body),
+        ReadFormula::ForSome(_, body) => has_wide(body),
+    }
+}
+
+// Whether there are no findings on the formula with this guarded form.
+fn is_right(alloc: Global, formula: &ReadFormula, form: &Formula) -> Result<bool, AllocError>
+    ensures { IfOk result (λ b. b ≡ (is_guarded (formula_of form.now) && (spec.marks_fit [] (written.formula formula.now) && not (spec.has_wide (written.formula formula.now))))) }
+{
+    let none = Vec::new(alloc);
+    let fit = marks_fit(alloc, &none, formula)?;
+    let wide = has_wide(formula);
+    let guarded = is_guarded(form);
+    Ok(guarded && fit && !wide)
+}
+
+/// The guarded form of the formula. None where it has none, or there are findings on it.
+///
+/// # Errors
+///
+/// `AllocError` where memory is wanting.
+pub fn checked_form(alloc: Global, formula: &ReadFormula) -> Result<Option<Formula>, AllocError>
+    ensures { IfOk result (λ o. option_map formula_of o ≡ spec.checked_form (written.formula formula.now)) }
+{
+    let none = Vec::new(alloc);
+    let Some(form) = guarded_form(alloc, &none, formula)? else {
+        return Ok(None);
+    };
+    if !is_right(alloc, formula, &form)? {
+        return Ok(None);
+    }
+    Ok(Some(form))
+}

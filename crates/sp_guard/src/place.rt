@@ -1,0 +1,168 @@
+// The atoms of a formula, with each name in the place that it means.
+
+ghost use Rattle.std.specs.Prelude.{◌≡◌, IfOk, map, option_map};
+ghost use Rattle.sp_read_parts.specs.Shapes.{row, action_of};
+ghost use Rattle.sp_read_parts.specs.Views as view;
+ghost use Rattle.sp_formula.specs.FormulaView.{placed_term, placed_terms, moment_of, atom_of, binder_of};
+ghost use Rattle.sp_law_guard.specs.GuardedForm as spec;
+ghost use Rattle.sp_guard.specs.View.{meaning_of, innermost_first};
+
+use crate::meaning::{Meaning, meant};
+use sp_formula::formula::{Atom, Binder, FormulaAction, FormulaTerm, Moment};
+use sp_read_parts::{Mark, WrittenFact, WrittenTerm, WrittenVariable};
+use sp_term::term::{Name, Sort, Term};
+use std::alloc::{AllocError, Global};
+
+/// The message that is meant.
+fn message_place(meaning: Option<Meaning>) -> Option<FormulaTerm>
+    ensures { option_map placed_term result ≡ spec.message_place (option_map meaning_of meaning) }
+{
+    match meaning {
+        Some(Meaning::Message(_, place)) => Some(FormulaTerm::Bound(place)),
+        _ => None,
+    }
+}
+
+/// The time that is meant.
+fn time_place(meaning: Option<Meaning>) -> Option<Moment>
+    ensures { option_map moment_of result ≡ spec.time_place (option_map meaning_of meaning) }
+{
+    match meaning {
+        Some(Meaning::Time(place)) => Some(Moment::Bound(place)),
+        _ => None,
+    }
+}
+
+/// The term with each name in the place that it means; none where a name means no message.
+fn term_placed(
+    alloc: Global,
+    binders: &Vec<WrittenVariable>,
+    term: &WrittenTerm,
+) -> Result<Option<FormulaTerm>, AllocError>
+    ensures { IfOk result (λ o. option_map placed_term o ≡ spec.placed_term (innermost_first binders.now.items) (view.term term.now)) }
+{
+    match term {
+        WrittenTerm::Variable(variable) => Ok(message_place(meant(binders, variable.name))),
+        WrittenTerm::Constant(text) => {
+            let name = Name::new(alloc, text)?;
+            Ok(Some(FormulaTerm::Free(Term::Constant(name))))
+        }
+    }
+}
+
+/// The terms with each name in the place that it means.
+fn terms_placed(
+    alloc: Global,
+    binders: &Vec<WrittenVariable>,
+    terms: &Vec<WrittenTerm>,
+) -> Result<Option<Vec<FormulaTerm>>, AllocError>
+    ensures { IfOk result (λ o. option_map (λ ts. placed_terms ts.items) o ≡ spec.placed_terms (innermost_first binders.now.items) (row (map view.term terms.now.items))) }
+{
+    let mut placed = Vec::with_capacity(alloc, terms.len())?;
+    for term in terms {
+        let Some(term) = term_placed(alloc, binders, term)? else {
+            return Ok(None);
+        };
+        placed.push(term)?;
+    }
+    Ok(Some(placed))
+}
+
+/// The action at its time, with each name in the place that it means.
+///
+/// # Errors
+///
+/// `AllocError` where memory is wanting.
+pub fn action_placed(
+    alloc: Global,
+    binders: &Vec<WrittenVariable>,
+    fact: &WrittenFact,
+    at: &WrittenVariable,
+) -> Result<Option<Atom>, AllocError>
+    ensures { IfOk result (λ o. option_map atom_of o ≡ spec.acts_at (spec.placed_action (innermost_first binders.now.items) (action_of (view.fact_of fact.now))) (spec.time_place (spec.meant (innermost_first binders.now.items) at.now.name.now))) }
+{
+    let Some(args) = terms_placed(alloc, binders, &fact.arguments)? else {
+        return Ok(None);
+    };
+    let Some(time) = time_place(meant(binders, at.name)) else {
+        return Ok(None);
+    };
+    let symbol = Name::new(alloc, fact.symbol)?;
+    Ok(Some(Atom::Acts(FormulaAction { symbol, args }, time)))
+}
+
+/// The time that the term is, if it is a name that means one.
+fn term_time(binders: &Vec<WrittenVariable>, term: &WrittenTerm) -> Option<Moment>
+    ensures { option_map moment_of result ≡ spec.term_time (innermost_first binders.now.items) (view.term term.now) }
+{
+    match term {
+        WrittenTerm::Variable(variable) => time_place(meant(binders, variable.name)),
+        WrittenTerm::Constant(_) => None,
+    }
+}
+
+/// That two messages are equal.
+fn same_placed(
+    alloc: Global,
+    binders: &Vec<WrittenVariable>,
+    left: &WrittenTerm,
+    right: &WrittenTerm,
+) -> Result<Option<Atom>, AllocError>
+    ensures { IfOk result (λ o. option_map atom_of o ≡ spec.same_at (spec.placed_term (innermost_first binders.now.items) (view.term left.now)) (spec.placed_term (innermost_first binders.now.items) (view.term right.now))) }
+{
+    let Some(left) = term_placed(alloc, binders, left)? else {
+        return Ok(None);
+    };
+    let Some(right) = term_placed(alloc, binders, right)? else {
+        return Ok(None);
+    };
+    Ok(Some(Atom::Same(left, right)))
+}
+
+/// That two times, or else two messages, are equal.
+///
+/// # Errors
+///
+/// `AllocError` where memory is wanting.
+pub fn equality_placed(
+    alloc: Global,
+    binders: &Vec<WrittenVariable>,
+    left: &WrittenTerm,
+    right: &WrittenTerm,
+) -> Result<Option<Atom>, AllocError>
+    ensures { IfOk result (λ o. option_map atom_of o ≡ spec.equality_at (innermost_first binders.now.items) (view.term left.now) (view.term right.now) (spec.term_time (innermost_first binders.now.items) (view.term left.now)) (spec.term_time (innermost_first binders.now.items) (view.term right.now))) }
+{
+    match (term_time(binders, left), term_time(binders, right)) {
+        (Some(first), Some(second)) => Ok(Some(Atom::SameTime(first, second))),
+        (None, None) => same_placed(alloc, binders, left, right),
+        _ => Ok(None),
+    }
+}
+
+/// That one time is before the other.
+pub fn order_placed(
+    binders: &Vec<WrittenVariable>,
+    first: &WrittenVariable,
+    second: &WrittenVariable,
+) -> Option<Atom>
+    ensures { option_map atom_of result ≡ spec.before_at (spec.time_place (spec.meant (innermost_first binders.now.items) first.now.name.now)) (spec.time_place (spec.meant (innermost_first binders.now.items) second.now.name.now)) }
+{
+    let first = time_place(meant(binders, first.name));
+    let second = time_place(meant(binders, second.name));
+    match (first, second) {
+        (Some(first), Some(second)) => Some(Atom::Before(first, second)),
+        _ => None,
+    }
+}
+
+/// What a binder with this mark binds.
+pub fn marked_binder(mark: Mark) -> Binder
+    ensures { binder_of result ≡ spec.binder_of (view.mark mark) }
+{
+    match mark {
+        Mark::Bare | Mark::Message => Binder::Message(Sort::Msg),
+        Mark::Fresh => Binder::Message(Sort::Fresh),
+        Mark::Public => Binder::Message(Sort::Pub),
+        Mark::Time => Binder::Time,
+    }
+}
