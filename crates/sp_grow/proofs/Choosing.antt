@@ -5,8 +5,8 @@ use Rattle.std.proofs.lemmas.Option.{slice_get-map, slice_get-get_or}
 use Rattle.sp_spec.specs.Rule.{Rule}
 use Rattle.sp_spec.specs.Guarded.{Guarded}
 use Rattle.sp_system.specs.System.{System}
-use Rattle.sp_system.specs.FormulaView.{formula_of}
-use Rattle.sp_system.specs.declared.formula.Formula.{Formula}
+use Rattle.sp_formula.specs.FormulaView.{formula_of}
+use Rattle.sp_formula.specs.declared.formula.Formula.{Formula}
 use Rattle.sp_step.specs.Moves.{action, Case, simple_case, cases, solving_action}
 use Rattle.sp_check.specs.Growth.{first_action}
 

@@ -1,9 +1,9 @@
 use super::*;
 use crate::class::least_class;
+use sp_fact::fact::{Action, Facts};
+use sp_formula::formula::{Atom, Binder, Formula, FormulaAction, FormulaTerm, Moment};
 use sp_moves::moves::Move;
 use sp_rule::Rule;
-use sp_system::fact::{Action, Facts};
-use sp_system::formula::{Atom, Binder, Formula, FormulaAction, FormulaTerm, Moment};
 use sp_system::system::System;
 use sp_term::term::{Name, Sort, Term};
 use std::alloc::{AllocError, Global};
@@ -68,6 +68,7 @@ fn system(alloc: Global, formula: Formula) -> Result<System, AllocError> {
         formulas,
         spent: Vec::new(alloc),
         unequal: Vec::new(alloc),
+        order: Vec::new(alloc),
         next: 1,
     })
 }

@@ -1,1 +1,2 @@
 pub mod ByAction
+pub mod PassedOver

@@ -4,14 +4,14 @@ ghost use Rattle.std.specs.Prelude.{◌≡◌, List, Some, is_some, IfOk, option
 ghost use Rattle.sp_spec.specs.Rule as spec_rule;
 ghost use Rattle.sp_term.specs.View.{name_of};
 ghost use Rattle.sp_system.specs.System as spec_system;
-ghost use Rattle.sp_system.specs.View.{action_of};
-ghost use Rattle.sp_system.specs.FormulaView.{formula_of};
+ghost use Rattle.sp_fact.specs.View.{action_of};
+ghost use Rattle.sp_formula.specs.FormulaView.{formula_of};
 ghost use Rattle.sp_step.specs.Moves as spec;
 ghost use Rattle.sp_moves.specs.Sought.{sought, timed};
 
+use sp_fact::fact::Action;
+use sp_formula::formula::{Atom, Formula, FormulaAction, Moment};
 use sp_rows::stands::freed_action;
-use sp_system::fact::Action;
-use sp_system::formula::{Atom, Formula, FormulaAction, Moment};
 use sp_term::term::Name;
 use std::alloc::{AllocError, Global};
 

@@ -1,14 +1,14 @@
 // An action at an event that the system has.
 
 ghost use Rattle.std.specs.Prelude.{◌≡◌, IfOk, ◌++◌, codes, decimal, map, option_map, string_bytes};
-ghost use Rattle.sp_system.specs.View.{action_of};
+ghost use Rattle.sp_fact.specs.View.{action_of};
 ghost use Rattle.sp_system.specs.SystemView.{event_of, system_of};
 ghost use Rattle.sp_step.specs.Moves as spec;
 ghost use Rattle.sp_moves.specs.View.{case_of};
 
 use crate::moves::Case;
 use crate::where_same::where_same;
-use sp_system::fact::Action;
+use sp_fact::fact::Action;
 use sp_system::system::{Event, System};
 use std::alloc::{AllocError, Global};
 

@@ -2,19 +2,21 @@
 
 ghost use Rattle.std.specs.Prelude.{◌≡◌, IfOk, map};
 ghost use Rattle.sp_rule.specs.View.{rule_of};
-ghost use Rattle.sp_system.specs.View.{action_of};
+ghost use Rattle.sp_term.specs.View.{name_of};
+ghost use Rattle.sp_fact.specs.View.{action_of};
 ghost use Rattle.sp_system.specs.SystemView.{system_of};
 ghost use Rattle.sp_step.specs.Moves as spec;
 ghost use Rattle.sp_moves.specs.View.{case_of};
-ghost use Rattle.sp_moves.specs.Sought.{by_rule};
+ghost use Rattle.sp_moves.specs.Sought.{by_rule, has_action};
 
 use crate::moves::Case;
 use crate::named::named;
 use crate::renamed::renamed;
 use crate::where_same::by_actions;
+use sp_fact::fact::Action;
 use sp_rule::Rule;
-use sp_system::fact::Action;
 use sp_system::system::{Event, System};
+use sp_term::term::Name;
 use std::alloc::{AllocError, Global};
 
 /// The system with one more event: a step of the rule at the time, over variables that are new.
@@ -41,6 +43,19 @@ pub fn with_step(
     Ok(made)
 }
 
+/// Whether one of the actions has this name.
+fn has_action(symbol: &Name, actions: &Vec<Action>) -> bool
+    ensures { result ≡ has_action (name_of symbol.now) (map action_of actions.now.items) }
+{
+    for action in actions {
+        if *symbol == action.symbol {
+            return true;
+        }
+    }
+    false
+}
+
+// A rule without an action of this name, as most are, is passed over before anything is copied.
 fn by_rule(
     alloc: Global,
     system: &System,
@@ -50,6 +65,9 @@ fn by_rule(
 ) -> Result<Vec<Case>, AllocError>
     ensures { IfOk result (λ cs. map case_of cs.items ≡ by_rule (rule_of rule.now) (system_of system.now) time (action_of action.now)) }
 {
+    if !has_action(&action.symbol, &rule.facts.actions) {
+        return Ok(Vec::new(alloc));
+    }
     let facts = renamed(alloc, system.next, &rule.facts)?;
     let stepped = with_step(alloc, system, time, rule)?;
     let systems = by_actions(alloc, &stepped, action, &facts.actions)?;

@@ -4,11 +4,11 @@ ghost use Rattle.std.specs.Prelude.{◌≡◌, IfOk, map};
 ghost use Rattle.sp_spec.specs.Term.{valued, valued_all};
 ghost use Rattle.sp_spec.specs.Rule.{fact_at, action_at};
 ghost use Rattle.sp_term.specs.View.{variable_of, view, view_all};
-ghost use Rattle.sp_system.specs.View.{fact_of, action_of, facts_of};
+ghost use Rattle.sp_fact.specs.View.{fact_of, action_of, facts_of};
 ghost use Rattle.sp_step.specs.Moves as spec;
 ghost use Rattle.sp_moves.specs.Sought.{shifted};
 
-use sp_system::fact::{Action, Fact, Facts};
+use sp_fact::fact::{Action, Fact, Facts};
 use sp_term::term::{Term, Variable};
 use std::alloc::{AllocError, Global};
 use std::rc::Rc;

@@ -2,8 +2,8 @@
 
 ghost use Rattle.std.specs.Prelude.{◌≡◌, Some, IfOk, map, option_map, slice_get};
 ghost use Rattle.sp_rule.specs.View.{rule_of};
-ghost use Rattle.sp_system.specs.View.{action_of};
-ghost use Rattle.sp_system.specs.FormulaView.{formula_of};
+ghost use Rattle.sp_fact.specs.View.{action_of};
+ghost use Rattle.sp_formula.specs.FormulaView.{formula_of};
 ghost use Rattle.sp_system.specs.SystemView.{system_of};
 ghost use Rattle.sp_step.specs.Moves as spec;
 ghost use Rattle.sp_moves.specs.View.{case_of};
@@ -12,9 +12,9 @@ use crate::action::sought;
 use crate::at_event::{at_event, event_at};
 use crate::by_rules::by_each;
 use crate::moves::Case;
+use sp_fact::fact::Action;
+use sp_formula::formula::Formula;
 use sp_rule::Rule;
-use sp_system::fact::Action;
-use sp_system::formula::Formula;
 use sp_system::system::System;
 use std::alloc::{AllocError, Global};
 

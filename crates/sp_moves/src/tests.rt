@@ -1,9 +1,9 @@
 use crate::action::is_solvable;
 use crate::moves::{Case, Move, cases};
 use crate::solving::solving_action;
+use sp_fact::fact::{Action, Facts};
+use sp_formula::formula::{Atom, Formula, FormulaAction, FormulaTerm, Moment};
 use sp_rule::{Declared, Rule};
-use sp_system::fact::{Action, Facts};
-use sp_system::formula::{Atom, Formula, FormulaAction, FormulaTerm, Moment};
 use sp_system::system::{Event, System};
 use sp_term::term::{Name, Sort, Term, Variable};
 use std::alloc::{AllocError, Global};
@@ -82,6 +82,7 @@ fn system(alloc: Global) -> Result<System, AllocError> {
         formulas,
         spent: Vec::new(alloc),
         unequal: Vec::new(alloc),
+        order: Vec::new(alloc),
         next: 6,
     })
 }

@@ -1,11 +1,11 @@
 // A system in which two actions are one.
 
 ghost use Rattle.std.specs.Prelude.{◌≡◌, IfOk, map, option_map};
-ghost use Rattle.sp_system.specs.View.{action_of};
+ghost use Rattle.sp_fact.specs.View.{action_of};
 ghost use Rattle.sp_system.specs.SystemView.{system_of};
 ghost use Rattle.sp_step.specs.Moves as spec;
 
-use sp_system::fact::Action;
+use sp_fact::fact::Action;
 use sp_system::pairing::action_pair;
 use sp_system::system::System;
 use sp_unify::unify::mgu;

@@ -16,6 +16,7 @@ fn open(alloc: Global) -> Result<Tree, AllocError> {
         formulas: Vec::new(alloc),
         spent: Vec::new(alloc),
         unequal: Vec::new(alloc),
+        order: Vec::new(alloc),
         next: 0,
     };
     let leaf = OpenLeaf {

@@ -1,7 +1,7 @@
 use Rattle.std.proofs.Common.{◌≡◌, map, List, drop}
 use Rattle.sp_spec.specs.Rule as spec_rule
 use Rattle.sp_system.specs.SystemView.{system_of}
-use Rattle.sp_system.specs.FormulaView.{formula_of}
+use Rattle.sp_formula.specs.FormulaView.{formula_of}
 use Rattle.sp_check.specs.Growth.{first_action}
 use Rattle.sp_grow.proofs.choose.first_action.Given as goal
 

@@ -1,6 +1,6 @@
 use Rattle.std.proofs.Common.{◌≡◌, take, map}
 use Rattle.sp_spec.specs.Rule.{action_at}
-use Rattle.sp_system.specs.View.{action_of}
+use Rattle.sp_fact.specs.View.{action_of}
 use Rattle.sp_moves.specs.Sought.{shifted}
 use Rattle.sp_moves.proofs.renamed.moved_actions.Given as goal
 

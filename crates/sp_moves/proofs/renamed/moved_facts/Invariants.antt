@@ -1,6 +1,6 @@
 use Rattle.std.proofs.Common.{◌≡◌, take, map}
 use Rattle.sp_spec.specs.Rule.{fact_at}
-use Rattle.sp_system.specs.View.{fact_of}
+use Rattle.sp_fact.specs.View.{fact_of}
 use Rattle.sp_moves.specs.Sought.{shifted}
 use Rattle.sp_moves.proofs.renamed.moved_facts.Given as goal
 

@@ -1,5 +1,5 @@
 use Rattle.std.proofs.Common.{◌≡◌, ◌++◌, map, drop}
-use Rattle.sp_system.specs.View.{action_of}
+use Rattle.sp_fact.specs.View.{action_of}
 use Rattle.sp_system.specs.SystemView.{system_of}
 use Rattle.sp_step.specs.Moves as spec
 use Rattle.sp_moves.proofs.where_same.by_actions.Given as goal

@@ -25,7 +25,7 @@ pub returns-in_default-2 : goal.returns-in_default-2
 returns-in_default-2 c =
     let s = system_of c.args.system.now in
     ap (λ (o : Option Subst). row s (option_map bindings o)) (sym c.in_default-2.is)
-    ∙ ap (row s) c.in_ok-subst.ensures
+    ∙ ap (row s) c.in_ok-subst.ensures.found
     ∙ ap (λ (xs : List (Term × Term)). row s (mgu (map pair_of xs))) c.deref.ensures.value
     ∙ ap (row_of_pairs s) (sym c.in-Some.is)
     ∙ ap (λ (o : Option (List Pair)). row s (unifier_of o)) c.in_ok-pairs.ensures
@@ -35,7 +35,7 @@ returns c =
     let s = system_of c.args.system.now in
     ap Some c.in_ok-made.ensures
     ∙ ap (λ (o : Option Subst). row s (option_map bindings o)) (sym c.in-Some-2.is)
-    ∙ ap (row s) c.in_ok-subst.ensures
+    ∙ ap (row s) c.in_ok-subst.ensures.found
     ∙ ap (λ (xs : List (Term × Term)). row s (mgu (map pair_of xs))) c.deref.ensures.value
     ∙ ap (row_of_pairs s) (sym c.in-Some.is)
     ∙ ap (λ (o : Option (List Pair)). row s (unifier_of o)) c.in_ok-pairs.ensures
