@@ -3,11 +3,11 @@ use Rattle.std.proofs.Common.{◌≡◌, ◌≢◌, ◌⊎◌, ◌≤◌, ◌<�
 use Rattle.sp_io.specs.Told.{Rose, extended}
 use Rattle.sp_top.specs.Answer.{text_limit, TextAnswer, MayBeTooLong, MayBeText, IsFileAnswer, IsAnswer}
 use Rattle.sp_top.specs.Command.{IsLine, IsNoLine}
-use Rattle.sp_top.specs.Run.{IsCutShort, UsageExactly, ReadFaultExactly, TooLongExactly, AnswersExactly, IsVerified, VerifiedHolds}
-use Rattle.sp_prove.proofs.Verdicts.{verified_holds_lem}
-use Rattle.sp_top.proofs.TextStatus.{IsTextStatus, text_status, status_is_one, fine_is_verified}
+use Rattle.sp_top.specs.Run.{IsCutShort, UsageExactly, ReadFaultExactly, TooLongExactly, AnswersExactly, HasVerdicts, IsRight, VerdictsHold}
+use Rattle.sp_analysis.proofs.Right.{verdicts_are_right_lem}
+use Rattle.sp_top.proofs.TextStatus.{IsTextStatus, text_status, verdicts_status, status_is_one, verdicts_are_tried}
 use Rattle.sp_top.specs.declared.Status.{Status}
-use Rattle.sp_top.specs.declared.Status.TheVariants.{Fine, Usage, ReadFault, WriteFault, NoMemory, TooLong}
+use Rattle.sp_top.specs.declared.Status.TheVariants.{Usage, ReadFault, WriteFault, NoMemory, TooLong}
 
 -- a line names one file
 pub line_names_one : (words : List (List ℕ)) (file other : List ℕ) → IsLine words file → IsLine words other → file ≡ other
@@ -118,26 +118,35 @@ module _ (words : List (List ℕ)) (holds : List ℕ → Option (Option (List �
           let same : known.bytes ≡ bytes = cc in
           status_is_one bytes other text kind status answered (subst P same known.answer)
 
-  -- what an answer calls verified holds
-  pub fine_holds : (text : List ℕ) (status : Status) → status ≡ Fine → IsAnswer words holds before now text status → IsVerified words holds text
-  fine_holds text status e (inl usage) = absurd (let f : Fine ≡ Usage = sym e ∙ usage.status_is in cc)
-  fine_holds text status e (inr (file, line, inl fault)) = absurd (let f : Fine ≡ ReadFault = sym e ∙ fault.status_is in cc)
-  fine_holds text status e (inr (file, line, inr (inl long))) = absurd (let f : Fine ≡ TooLong = sym e ∙ long.status_is in cc)
-  fine_holds text status e (inr (file, line, inr (inr known))) =
-      let a = fine_is_verified known.bytes text status e known.answer in
-      record { file = file; bytes = known.bytes; line = line; text = known.agrees; analysis = a; holds_in_all = verified_holds_lem.holds known.bytes text a }
+  -- what an answer with verdicts says of each lemma is so
+  pub answer_is_right : (text : List ℕ) (status : Status) → HasVerdicts status → IsAnswer words holds before now text status → IsRight words holds text status
+  answer_is_right text status h (inl usage) = absurd ((verdicts_status status h).usage usage.status_is)
+  answer_is_right text status h (inr (file, line, inl fault)) = absurd ((verdicts_status status h).read_fault fault.status_is)
+  answer_is_right text status h (inr (file, line, inr (inl long))) = absurd ((verdicts_status status h).too_long long.status_is)
+  answer_is_right text status h (inr (file, line, inr (inr known))) =
+      let tried = verdicts_are_tried known.bytes text status h known.answer in
+      record {
+        file = file;
+        bytes = known.bytes;
+        line = line;
+        text = known.agrees;
+        outcomes = tried.outcomes;
+        analysis = tried.analysis;
+        status_is = tried.status_is;
+        right = verdicts_are_right_lem.right known.bytes text tried.outcomes tried.analysis;
+      }
 
   pub headline : (old new : Option (List ℕ)) (text : List ℕ) (status : Status) → IsAnswer words holds before now text status → new ≡ extended old text
-      → VerifiedHolds words holds before now old new status
+      → VerdictsHold words holds before now old new status
   headline old new text status answer written = record {
-    whole = λ e. (text, fine_holds text status e answer, written);
-    prefix = λ other fine. fine_holds other Fine refl fine;
+    whole = λ h. (text, answer_is_right text status h answer, written);
+    prefix = answer_is_right;
   }
 
-  pub headline_short : (old new : Option (List ℕ)) (status : Status) → IsCutShort status → VerifiedHolds words holds before now old new status
+  pub headline_short : (old new : Option (List ℕ)) (status : Status) → IsCutShort status → VerdictsHold words holds before now old new status
   headline_short old new status short = record {
-    whole = λ e. absurd (whole_is status Fine e (λ f. cc) (λ f. cc) short);
-    prefix = λ other fine. fine_holds other Fine refl fine;
+    whole = λ h. absurd (elim short [ inl e ↦ (verdicts_status status h).write_fault e | inr e ↦ (verdicts_status status h).no_memory e ]);
+    prefix = answer_is_right;
   }
 
   -- a text that is told gets its answer

@@ -1,38 +1,54 @@
 -- What is answered to the words of a command: a text that is written, and a status.
-use Rattle.std.specs.Prelude.{◌≡◌, ◌⊎◌, ◌≤◌, ◌<◌, ℕ, List, Option, Some, None, IsSomeAnd, length, codes}
+use Rattle.std.specs.Prelude.{◌≡◌, ◌⊎◌, ◌≤◌, ◌<◌, ℕ, Bool, true, false, List, map, Option, Some, None, IsSomeAnd, if◌then◌else◌, length, codes}
+use Rattle.std.specs.List.{list_any}
 use Rattle.std.specs.Option.{ForSome}
 use Rattle.sp_io.specs.Told.{Rose}
 use Rattle.sp_top.specs.Command.{IsLine, IsNoLine}
 use Rattle.sp_top.specs.declared.Status.{Status}
-use Rattle.sp_top.specs.declared.Status.TheVariants.{Fine, Incomplete, Refused, Usage, ReadFault, TooLong}
-use Rattle.sp_prove.specs.Problem.{PosesNothing}
-use Rattle.sp_prove.specs.Analysis.{IsAnalysis}
-use Rattle.sp_prove.specs.declared.verdict.Verdict.{Verdict}
-use Rattle.sp_prove.specs.declared.verdict.Verdict.TheVariants as verdict
+use Rattle.sp_top.specs.declared.Status.TheVariants.{Fine, Falsified, Incomplete, Refused, Usage, ReadFault, TooLong}
+use Rattle.sp_analysis.specs.Problem.{PosesNothing}
+use Rattle.sp_analysis.specs.Analysis.{Outcome, IsAnalysis}
+use Rattle.sp_analysis.specs.declared.verdict.Verdict.{Verdict}
+use Rattle.sp_analysis.specs.declared.verdict.Verdict.TheVariants as verdict
 
 -- how many bytes a text may have
 abbrev pub text_limit : ℕ
 text_limit = 1048576
 
--- the text says no theory in the form that is read, or one with fatal findings
+-- the text says no theory, or one with fatal findings
 pub record IsRefusal (bytes text : List ℕ) (status : Status) : Type 0 where
   pub nothing : PosesNothing bytes
   pub text_is : text ≡ codes "refused: text at byte 0\n"
   pub status_is : status ≡ Refused
 
-abbrev pub status_of : Verdict → Status
-status_of verdict.Verified = Fine
-status_of verdict.Incomplete = Incomplete
+abbrev pub is_falsified : Verdict → Bool
+is_falsified verdict.Falsified = true
+is_falsified verdict.Verified = false
+is_falsified verdict.Incomplete = false
 
--- the text with the proof that is grown for its lemma, and what is said of the lemma
-pub record IsAnalysed (bytes text : List ℕ) (status : Status) : Type 0 where
-  pub verdict : Verdict
-  pub analysis : IsAnalysis bytes text verdict
-  pub status_is : status ≡ status_of verdict
+abbrev pub is_incomplete : Verdict → Bool
+is_incomplete verdict.Incomplete = true
+is_incomplete verdict.Verified = false
+is_incomplete verdict.Falsified = false
+
+-- Falsified where some lemma is falsified, else Incomplete where the analysis of some lemma is incomplete, else Fine: all are verified, or
+-- there are none.
+abbrev pub status_of : List Verdict → Status
+status_of vs = if list_any is_falsified vs then Falsified else if list_any is_incomplete vs then Incomplete else Fine
+
+-- what is said of each lemma
+abbrev pub verdicts_of : List Outcome → List Verdict
+verdicts_of os = map (λ (o : Outcome). o.verdict) os
+
+-- the text with the proof that is grown for each of its lemmas, and what is said of them
+pub record IsTried (bytes text : List ℕ) (status : Status) : Type 0 where
+  pub outcomes : List Outcome
+  pub analysis : IsAnalysis bytes text outcomes
+  pub status_is : status ≡ status_of (verdicts_of outcomes)
 
 -- what is answered to the bytes of a text
 abbrev pub TextAnswer : List ℕ → List ℕ → Status → Type 0
-TextAnswer bytes text status = IsRefusal bytes text status ⊎ IsAnalysed bytes text status
+TextAnswer bytes text status = IsRefusal bytes text status ⊎ IsTried bytes text status
 
 -- whatever is told is more bytes than a text may have
 abbrev pub MayBeTooLong : Option (Option (List ℕ)) → Type 0

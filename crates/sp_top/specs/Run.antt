@@ -1,18 +1,22 @@
 -- What the top call promises, clause by clause. `before` and `now` are a count of faults before and after the call.
 use Rattle.std.specs.Prelude.{◌≡◌, ◌≢◌, ◌⊎◌, ◌≤◌, ◌<◌, ℕ, List, [], ◌∷◌, Option, Some, None, length}
 use Rattle.sp_io.specs.Told.{Rose, extended, IsExtendedByPrefix}
-use Rattle.sp_top.specs.Answer.{text_limit, TextAnswer, MayBeTooLong, MayBeText, IsAnswer}
+use Rattle.sp_top.specs.Answer.{text_limit, status_of, verdicts_of, TextAnswer, MayBeTooLong, MayBeText, IsAnswer}
 use Rattle.sp_top.specs.Command.{IsLine, IsNoLine}
 use Rattle.sp_top.specs.declared.Status.{Status}
-use Rattle.sp_top.specs.declared.Status.TheVariants.{Fine, Usage, ReadFault, WriteFault, NoMemory, TooLong}
+use Rattle.sp_top.specs.declared.Status.TheVariants.{Fine, Falsified, Incomplete, Usage, ReadFault, WriteFault, NoMemory, TooLong}
+use Rattle.sp_spec.specs.Lists.{Every}
 use Rattle.sp_spec.specs.Written.{theory_of}
-use Rattle.sp_spec.specs.Verdict.{HoldsInAll}
-use Rattle.sp_prove.specs.Analysis.{IsAnalysis}
-use Rattle.sp_prove.specs.declared.verdict.Verdict.TheVariants.{Verified}
+use Rattle.sp_analysis.specs.Analysis.{Outcome, IsAnalysis}
+use Rattle.sp_analysis.specs.Laws.{Means}
 
 -- a fault of the sink or want of memory came before another cause could show
 abbrev pub IsCutShort : Status → Type 0
 IsCutShort status = (status ≡ WriteFault) ⊎ (status ≡ NoMemory)
+
+-- the answer has verdicts on the lemmas of the text
+abbrev pub HasVerdicts : Status → Type 0
+HasVerdicts status = (status ≡ Fine) ⊎ (status ≡ Falsified) ⊎ (status ≡ Incomplete)
 
 -- Usage comes exactly where the words are no line of the command
 pub record UsageExactly (words : List (List ℕ)) (status : Status) : Type 0 where
@@ -31,26 +35,28 @@ module _ (words : List (List ℕ)) (holds : List ℕ → Option (Option (List �
     pub comes : (file bytes : List ℕ) → IsLine words file → holds file ≡ Some (Some bytes) → text_limit < length bytes
         → ¬ IsCutShort status → status ≢ ReadFault → status ≡ TooLong
 
-  -- Fine, Incomplete and Refused come exactly where the answer to the text has them
+  -- Fine, Falsified, Incomplete and Refused come exactly where the answer to the text has them
   pub record AnswersExactly (kind status : Status) : Type 0 where
     pub cause : status ≡ kind → (file bytes text : List ℕ) × IsLine words file × MayBeText (holds file) bytes × TextAnswer bytes text kind
     pub comes : (file bytes text : List ℕ) → IsLine words file → holds file ≡ Some (Some bytes) → length bytes ≤ text_limit → TextAnswer bytes text kind
         → ¬ IsCutShort status → status ≢ ReadFault → status ≡ kind
 
-  -- The answer says that a lemma is verified, and the lemma holds in every execution of the theory that the text says, steps of the
-  -- adversary included.
-  pub record IsVerified (answer : List ℕ) : Type 0 where
+  -- The answer is the analysis of the bytes that FILE holds, and each verdict in it is so: a lemma that is verified holds in every
+  -- execution of the theory that the text says, steps of the adversary included; one on some trace that is falsified holds in none.
+  pub record IsRight (answer : List ℕ) (status : Status) : Type 0 where
     pub file : List ℕ
     pub bytes : List ℕ
     pub line : IsLine words file
     pub text : MayBeText (holds file) bytes
-    pub analysis : IsAnalysis bytes answer Verified
-    pub holds_in_all : HoldsInAll (theory_of analysis.theory) analysis.lemma
+    pub outcomes : List Outcome
+    pub analysis : IsAnalysis bytes answer outcomes
+    pub status_is : status ≡ status_of (verdicts_of outcomes)
+    pub right : Every (λ (o : Outcome). Means (theory_of analysis.theory) o.lemma.kind o.verdict o.lemma) outcomes
 
-  -- The headline: a lemma that is printed verified holds. Where the sink failed, this is said of the answer of which a prefix stands.
-  pub record VerifiedHolds (before now : ℕ) (old new : Option (List ℕ)) (status : Status) : Type 0 where
-    pub whole : status ≡ Fine → (answer : List ℕ) × IsVerified answer × (new ≡ extended old answer)
-    pub prefix : (answer : List ℕ) → IsAnswer words holds before now answer Fine → IsVerified answer
+  -- The headline: what is written of each lemma is so. Where the sink failed, this is said of the answer of which a prefix stands.
+  pub record VerdictsHold (before now : ℕ) (old new : Option (List ℕ)) (status : Status) : Type 0 where
+    pub whole : HasVerdicts status → (answer : List ℕ) × IsRight answer status × (new ≡ extended old answer)
+    pub prefix : (answer : List ℕ) (full : Status) → HasVerdicts full → IsAnswer words holds before now answer full → IsRight answer full
 
   -- but after a fault of the sink or for want of memory, the whole answer stands written
   pub record WritesWhole (before now : ℕ) (old new : Option (List ℕ)) (status : Status) : Type 0 where

@@ -1,8 +1,8 @@
 // The top call: from the words of a command to the text that is written and the status.
-// It stands on `sp_io`, which brings the library that texts come from and the sink that answers go to. The program
-// stands above it and only makes the words, the library and the sink.
-// It promises that each status comes by its cause alone, that what is written is the whole answer or, after a fault
-// of the sink, a prefix of that very answer, and that FILE alone is fetched, once.
+// It stands on `sp_analysis`, which tries the lemmas of a text, and on `sp_io`, which brings the library that texts come from and the sink
+// that answers go to. The program stands above it and only makes the words, the library and the sink.
+// It promises that what is written of each lemma is so, that each status comes by its cause alone, that what is written is the whole
+// answer or, after a fault of the sink, a prefix of that very answer, and that FILE alone is fetched, once.
 #![tactic(auto)]
 
 ghost use Rattle.std.specs.Prelude.{◌≡◌, ◌⊎◌, [], ◌∷◌, ℕ, List, OnOk, IfOk};
@@ -10,11 +10,11 @@ ghost use Rattle.sp_io.specs.Told.{extended};
 ghost use Rattle.sp_top.specs.Answer as answer;
 ghost use Rattle.sp_top.specs.Answer.{TextAnswer, IsFileAnswer, IsAnswer};
 ghost use Rattle.sp_top.specs.Command.{IsLine, IsNoLine};
-ghost use Rattle.sp_top.specs.Run.{UsageExactly, ReadFaultExactly, TooLongExactly, AnswersExactly, VerifiedHolds, WritesWhole, WritesPrefix, IsComplete, WriteFaultOnly, WritesNothing, AsksFileOnce};
-ghost use Rattle.sp_top.specs.declared.Status.TheVariants.{Fine, Incomplete, Refused};
+ghost use Rattle.sp_top.specs.Run.{UsageExactly, ReadFaultExactly, TooLongExactly, AnswersExactly, VerdictsHold, WritesWhole, WritesPrefix, IsComplete, WriteFaultOnly, WritesNothing, AsksFileOnce};
+ghost use Rattle.sp_top.specs.declared.Status.TheVariants.{Fine, Falsified, Incomplete, Refused};
 
+use sp_analysis::{Verdict, analyse};
 use sp_io::{FetchFail, Library, Sink, write_whole};
-use sp_prove::{Verdict, analyse};
 use std::alloc::{AllocError, Global};
 
 #[cfg(test)]
@@ -60,13 +60,16 @@ fn fixed(alloc: Global, text: &[u8], status: Status) -> Result<(Vec<u8>, Status)
     Ok((text, status))
 }
 
-/// The status that a verdict ends with.
-fn status_of(verdict: Verdict) -> Status
-    ensures { result ≡ answer.status_of verdict }
+/// The status that the verdicts on a text's lemmas end with.
+fn status_of(verdicts: &[Verdict]) -> Status
+    ensures { result ≡ answer.status_of verdicts.now }
 {
-    match verdict {
-        Verdict::Verified => Status::Fine,
-        Verdict::Incomplete => Status::Incomplete,
+    if verdicts.contains(&Verdict::Falsified) {
+        Status::Falsified
+    } else if verdicts.contains(&Verdict::Incomplete) {
+        Status::Incomplete
+    } else {
+        Status::Fine
     }
 }
 
@@ -77,7 +80,7 @@ fn answer(alloc: Global, bytes: &[u8]) -> Result<(Vec<u8>, Status), AllocError>
 {
     match analyse(alloc, bytes)? {
         Some(analysis) => {
-            let status = status_of(analysis.verdict);
+            let status = status_of(&analysis.verdicts);
             Ok((analysis.written, status))
         }
         None => fixed(alloc, b"refused: text at byte 0\n", Status::Refused),
@@ -139,12 +142,14 @@ pub fn run<L: Library, K: Sink>(
     ensures read_fault { ReadFaultExactly words.now (L.holds library.old) (L.faults library.old) (L.faults library.new) result }
     ensures too_long { TooLongExactly words.now (L.holds library.old) result }
     ensures refused { AnswersExactly words.now (L.holds library.old) Refused result }
+    ensures falsified { AnswersExactly words.now (L.holds library.old) Falsified result }
     ensures incomplete { AnswersExactly words.now (L.holds library.old) Incomplete result }
     ensures fine { AnswersExactly words.now (L.holds library.old) Fine result }
     ensures write_fault { WriteFaultOnly (K.faults out.old) (K.faults out.new) result }
 
-    // The headline: a lemma that is printed verified holds in every execution, steps of the adversary included.
-    ensures verified { VerifiedHolds words.now (L.holds library.old) (L.faults library.old) (L.faults library.new) (K.written out.old) (K.written out.new) result }
+    // The headline: what is written of each lemma is so. A lemma that is verified holds in every execution, steps of the adversary
+    // included, and one on some trace that is falsified holds in none.
+    ensures headline { VerdictsHold words.now (L.holds library.old) (L.faults library.old) (L.faults library.new) (K.written out.old) (K.written out.new) result }
     // What stands written is the whole answer, or a prefix of it, or nothing.
     ensures whole { WritesWhole words.now (L.holds library.old) (L.faults library.old) (L.faults library.new) (K.written out.old) (K.written out.new) result }
     ensures prefix { WritesPrefix words.now (L.holds library.old) (L.faults library.old) (L.faults library.new) (K.written out.old) (K.written out.new) result }

@@ -1,6 +1,7 @@
 use super::{Status, TEXT_LIMIT, Words, run};
 use sp_io::{MemLibrary, MemSink};
 use std::alloc::{AllocError, Global};
+use std::process::Abort;
 use std::test::Fail;
 
 /// The words of a line, between blanks.
@@ -12,7 +13,7 @@ fn words_of(alloc: Global, line: &str) -> Result<Words, AllocError> {
     Ok(words)
 }
 
-/// A library with a short text, one of the limit, and one beyond it.
+/// A library with a short text, one of the limit, one beyond it, and theories with findings.
 fn library(alloc: Global) -> Result<MemLibrary, AllocError> {
     let mut library = MemLibrary::new(alloc);
     library.put("short", b"no theory")?;
@@ -23,6 +24,14 @@ fn library(alloc: Global) -> Result<MemLibrary, AllocError> {
     library.put(
         "unguarded",
         b"theory R1 begin rule Make: [ Fr(~k) ] --[ A(~k) ]-> [ ] lemma once: \"All x y #i. A(x)@i ==> x = y\" end",
+    )?;
+    library.put(
+        "two_rules",
+        b"theory R1 begin rule Make: [ ] --> [ ] rule Make: [ ] --[ A('c') ]-> [ ] end",
+    )?;
+    library.put(
+        "two_lemmas",
+        b"theory R1 begin lemma one: \"T\" lemma one: exists-trace \"F\" end",
     )?;
     let mut text = vec![in alloc; b'x'; TEXT_LIMIT]?;
     library.put("limit", &text)?;
@@ -41,6 +50,8 @@ fn answers_have_their_causes(rt: HostRuntime) -> Result<(), Fail> {
         ("spthy prove -x", 5, "refused: usage\n"),
         ("spthy prove wrong", 4, "refused: text at byte 0\n"),
         ("spthy prove unguarded", 4, "refused: text at byte 0\n"),
+        ("spthy prove two_rules", 4, "refused: text at byte 0\n"),
+        ("spthy prove two_lemmas", 4, "refused: text at byte 0\n"),
         ("spthy prove short", 4, "refused: text at byte 0\n"),
         ("spthy prove limit", 4, "refused: text at byte 0\n"),
         (
@@ -193,4 +204,374 @@ fn a_failing_sink_keeps_the_beginning(rt: HostRuntime) -> Result<(), Fail> {
     );
     assert_eq!(rt; sink.written(), b"theory R1 ".as_slice());
     Ok(())
+}
+
+/// A lemma of a theory, and what is written of it.
+struct Tried {
+    /// from its name on
+    lemma: &'static str,
+    /// the tree that is grown for it
+    tree: &'static str,
+    /// its line in the summary
+    line: &'static str,
+}
+
+/// A theory with these rules and these lemmas.
+fn theory_of(alloc: Global, rules: &str, lemmas: &[Tried]) -> Result<String, AllocError> {
+    let mut text = format!(in alloc; "theory T begin\n{rules}")?;
+    for tried in lemmas {
+        text.push_str("lemma ")?;
+        text.push_str(tried.lemma)?;
+        text.push_str("\n")?;
+    }
+    text.push_str("end\n")?;
+    Ok(text)
+}
+
+/// What is written of it: each tree behind its lemma, and the summary.
+fn written_of(alloc: Global, rules: &str, lemmas: &[Tried]) -> Result<String, AllocError> {
+    let mut text = format!(in alloc; "theory T begin\n{rules}")?;
+    let mut summary = String::new(alloc);
+    for tried in lemmas {
+        text.push_str("lemma ")?;
+        text.push_str(tried.lemma)?;
+        text.push_str("\n")?;
+        text.push_str(tried.tree)?;
+        text.push_str("\n")?;
+        summary.push_str(tried.line)?;
+        summary.push_str("\n")?;
+    }
+    text.push_str("end\n/*\n")?;
+    text.push_str(summary.as_str())?;
+    text.push_str("*/\n")?;
+    Ok(text)
+}
+
+/// Asserts that the theory gets this status and what is written of it.
+fn assert_tried(
+    rt: &impl Abort,
+    alloc: Global,
+    rules: &str,
+    lemmas: &[Tried],
+    status: u8,
+) -> Result<(), Fail> {
+    let words = words_of(alloc, "spthy prove t")?;
+    let mut library = MemLibrary::new(alloc);
+    let text = theory_of(alloc, rules, lemmas)?;
+    library.put("t", text.as_bytes())?;
+    let mut sink = MemSink::new(alloc, 100, 10_000)?;
+    let ended = run(alloc, &words, &mut library, &mut sink);
+    let wanted = written_of(alloc, rules, lemmas)?;
+    assert_eq!(rt; sink.written(), wanted.as_bytes());
+    assert_eq!(rt; ended as u8, status);
+    Ok(())
+}
+
+/// One rule with one fresh name.
+const ONE_RULE: &str = "rule Make: [ Fr(~k) ] --[ A(~k) ]-> [ ]\n";
+
+/// Two steps of the one rule that are one step, which contradicts the rest.
+const ONE_STEP: &str = "simplify
+solve( action 0 )
+  case Make
+  solve( action 0 )
+    case Make
+    by contradiction
+  qed
+qed
+";
+
+/// Lemmas of both kinds.
+const BOTH_KINDS: [Tried; 2] = [
+    Tried {
+        lemma: "once: \"All x #i #j. A(x)@i & A(x)@j ==> #i = #j\"",
+        tree: ONE_STEP,
+        line: "once (all-traces): verified (4 steps)",
+    },
+    Tried {
+        lemma: "twice: exists-trace \"Ex x #i #j. A(x)@i & A(x)@j & #i < #j\"",
+        tree: ONE_STEP,
+        line: "twice (exists-trace): falsified - no trace found (4 steps)",
+    },
+];
+
+#[test]
+fn lemmas_of_both_kinds_are_tried(rt: HostRuntime) -> Result<(), Fail> {
+    assert_tried(&rt, rt.alloc(), ONE_RULE, &BOTH_KINDS, 1)
+}
+
+/// The connectives, where what is sought is a conjunction.
+const CONNECTIVES: [Tried; 6] = [
+    Tried {
+        lemma: "denied: exists-trace \"Ex x y #i #j. A(x)@i & A(y)@j & not (x = y ==> #i = #j)\"",
+        tree: ONE_STEP,
+        line: "denied (exists-trace): falsified - no trace found (4 steps)",
+    },
+    Tried {
+        lemma: "either: all-traces \"All x #i #j. A(x)@i & A(x)@j ==> #i = #j | #j = #i\"",
+        tree: ONE_STEP,
+        line: "either (all-traces): verified (4 steps)",
+    },
+    Tried {
+        lemma: "implied: \"All x y #i #j. A(x)@i & A(y)@j ==> x = y ==> #i = #j\"",
+        tree: ONE_STEP,
+        line: "implied (all-traces): verified (4 steps)",
+    },
+    Tried {
+        lemma: "same: exists-trace \"Ex x #i. A(x)@i & #i < #i & (x = x <=> A(x)@i)\"",
+        tree: "simplify\nby contradiction\n",
+        line: "same (exists-trace): falsified - no trace found (2 steps)",
+    },
+    Tried {
+        lemma: "nested: \"All x #i. A(x)@i ==> (All y #j. A(y)@j ==> x = y ==> #i = #j)\"",
+        tree: ONE_STEP,
+        line: "nested (all-traces): verified (4 steps)",
+    },
+    Tried {
+        lemma: "none: \"not (Ex x #i #j. A(x)@i & A(x)@j & not (#i = #j))\"",
+        tree: ONE_STEP,
+        line: "none (all-traces): verified (4 steps)",
+    },
+];
+
+#[test]
+fn connectives_are_tried(rt: HostRuntime) -> Result<(), Fail> {
+    assert_tried(&rt, rt.alloc(), ONE_RULE, &CONNECTIVES, 1)
+}
+
+/// The order of times.
+const ORDER: [Tried; 3] = [
+    Tried {
+        lemma: "turned: \"All x y #i #j. A(x)@i & A(y)@j & #i < #j ==> not #j < #i\"",
+        tree: "simplify\nby contradiction\n",
+        line: "turned (all-traces): verified (2 steps)",
+    },
+    Tried {
+        lemma: "apart: \"All x y #i #j. A(x)@i & A(y)@j & #i < #j ==> not (x = y)\"",
+        tree: ONE_STEP,
+        line: "apart (all-traces): verified (4 steps)",
+    },
+    Tried {
+        lemma: "cycle: exists-trace \"Ex x y #i #j. A(x)@i & A(y)@j & #i < #j & #j < #i\"",
+        tree: "simplify\nby contradiction\n",
+        line: "cycle (exists-trace): falsified - no trace found (2 steps)",
+    },
+];
+
+#[test]
+fn order_is_tried(rt: HostRuntime) -> Result<(), Fail> {
+    assert_tried(&rt, rt.alloc(), ONE_RULE, &ORDER, 1)
+}
+
+/// True and false formulas, of which none is falsified.
+const CONSTANTS: [Tried; 5] = [
+    Tried {
+        lemma: "always: \"T\"",
+        tree: "by contradiction\n",
+        line: "always (all-traces): verified (1 steps)",
+    },
+    Tried {
+        lemma: "some: exists-trace \"T\"",
+        tree: "simplify\nby sorry\n",
+        line: "some (exists-trace): analysis incomplete (1 steps)",
+    },
+    Tried {
+        lemma: "none: \"F\"",
+        tree: "simplify\nby sorry\n",
+        line: "none (all-traces): analysis incomplete (1 steps)",
+    },
+    Tried {
+        lemma: "nothing: \"All x #i. A(x)@i ==> F\"",
+        tree: "simplify\nsolve( action 0 )\n  case Make\n  by sorry\nqed\n",
+        line: "nothing (all-traces): analysis incomplete (2 steps)",
+    },
+    Tried {
+        lemma: "anything: \"All x #i. A(x)@i ==> T\"",
+        tree: "simplify\nby contradiction\n",
+        line: "anything (all-traces): verified (2 steps)",
+    },
+];
+
+#[test]
+fn open_proofs_are_incomplete(rt: HostRuntime) -> Result<(), Fail> {
+    assert_tried(&rt, rt.alloc(), ONE_RULE, &CONSTANTS, 2)
+}
+
+/// A false formula that some trace is to satisfy.
+const NEVER: [Tried; 1] = [Tried {
+    lemma: "never: exists-trace \"F\"",
+    tree: "by contradiction\n",
+    line: "never (exists-trace): falsified - no trace found (1 steps)",
+}];
+
+#[test]
+fn falsity_is_falsified(rt: HostRuntime) -> Result<(), Fail> {
+    assert_tried(&rt, rt.alloc(), ONE_RULE, &NEVER, 1)
+}
+
+/// Two rules that show a name; one of them shows two.
+const TWO_RULES: &str = "rule First: [ Fr(~k) ] --[ A(~k) ]-> [ ]
+rule Second: [ Fr(~a), Fr(~b) ] --[ A(~a), A(~b) ]-> [ ]
+";
+
+/// What is verified, what is left open and what is falsified, with the cases in the order of the rules.
+const IN_ORDER: [Tried; 3] = [
+    Tried {
+        lemma: "once: \"All x #i #j. A(x)@i & A(x)@j ==> #i = #j\"",
+        tree: "simplify
+solve( action 0 )
+  case First
+  solve( action 0 )
+    case First
+    by contradiction
+  next
+    case Second_case_1
+    by contradiction
+  next
+    case Second_case_2
+    by contradiction
+  qed
+next
+  case Second_case_1
+  solve( action 0 )
+    case First
+    by contradiction
+  next
+    case Second_case_1
+    by contradiction
+  next
+    case Second_case_2
+    by contradiction
+  qed
+next
+  case Second_case_2
+  solve( action 0 )
+    case First
+    by contradiction
+  next
+    case Second_case_1
+    by contradiction
+  next
+    case Second_case_2
+    by contradiction
+  qed
+qed
+",
+        line: "once (all-traces): verified (14 steps)",
+    },
+    Tried {
+        lemma: "alone: \"All x y #i. A(x)@i & A(y)@i ==> x = y\"",
+        tree: "simplify
+solve( action 0 )
+  case First
+  solve( action 0 )
+    case at_0
+    by contradiction
+  qed
+next
+  case Second_case_1
+  solve( action 0 )
+    case at_0
+    by contradiction
+  next
+    case at_1
+    by sorry
+  qed
+next
+  case Second_case_2
+  solve( action 0 )
+    case at_0
+    by sorry
+  next
+    case at_1
+    by contradiction
+  qed
+qed
+",
+        line: "alone (all-traces): analysis incomplete (8 steps)",
+    },
+    Tried {
+        lemma: "absent: exists-trace \"Ex x #i. B(x)@i\"",
+        tree: "simplify\nby solve( action 0 )\n",
+        line: "absent (exists-trace): falsified - no trace found (2 steps)",
+    },
+];
+
+#[test]
+fn cases_are_in_the_order_of_rules(rt: HostRuntime) -> Result<(), Fail> {
+    assert_tried(&rt, rt.alloc(), TWO_RULES, &IN_ORDER, 1)
+}
+
+/// Rules that show constants.
+const CONSTANT_RULES: &str = "rule Make: [ Fr(~k) ] --[ A(~k) ]-> [ ]
+rule Fixed: [ ] --[ B('c') ]-> [ ]
+rule Both: [ Fr(~k) ] --[ A(~k), B('d') ]-> [ ]
+";
+
+/// What is falsified stands before what is left open.
+const FALSIFIED_FIRST: [Tried; 4] = [
+    Tried {
+        lemma: "never: exists-trace \"Ex #i. B('e')@i\"",
+        tree: "simplify\nby solve( action 0 )\n",
+        line: "never (exists-trace): falsified - no trace found (2 steps)",
+    },
+    Tried {
+        lemma: "fixed: \"All x #i. B(x)@i ==> x = 'c'\"",
+        tree: "simplify
+solve( action 0 )
+  case Fixed
+  by contradiction
+next
+  case Both
+  by sorry
+qed
+",
+        line: "fixed (all-traces): analysis incomplete (3 steps)",
+    },
+    Tried {
+        lemma: "shown: \"All x #i #j. A(x)@i & A(x)@j & B('c')@i ==> F\"",
+        tree: "simplify
+solve( action 0 )
+  case Make
+  solve( action 0 )
+    case Make
+    by solve( action 0 )
+  next
+    case Both
+    by contradiction
+  qed
+next
+  case Both
+  solve( action 0 )
+    case Make
+    by contradiction
+  next
+    case Both
+    by solve( action 0 )
+  qed
+qed
+",
+        line: "shown (all-traces): verified (8 steps)",
+    },
+    Tried {
+        lemma: "both: exists-trace \"Ex #i. B('c')@i & B('d')@i\"",
+        tree: "simplify
+solve( action 0 )
+  case Fixed
+  by solve( action 0 )
+qed
+",
+        line: "both (exists-trace): falsified - no trace found (3 steps)",
+    },
+];
+
+#[test]
+fn falsified_counts_before_incomplete(rt: HostRuntime) -> Result<(), Fail> {
+    assert_tried(&rt, rt.alloc(), CONSTANT_RULES, &FALSIFIED_FIRST, 1)
+}
+
+#[test]
+fn a_theory_without_lemmas_is_fine(rt: HostRuntime) -> Result<(), Fail> {
+    assert_tried(&rt, rt.alloc(), TWO_RULES, &[], 0)?;
+    assert_tried(&rt, rt.alloc(), "", &[], 0)
 }

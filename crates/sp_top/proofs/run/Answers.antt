@@ -1,7 +1,6 @@
 use Rattle.std.proofs.Common.{inl, inr, refl}
 use Rattle.sp_top.proofs.Causes.{answer_is_whole, answer_of_line, usage_exactly, read_fault_exactly, too_long_exactly, answers_exactly, headline, headline_short, text_is_answered}
-use Rattle.sp_top.proofs.TextStatus.{verdict_status, refused_status}
-use Rattle.sp_prove.specs.declared.verdict.Verdict.TheVariants.{Verified, Incomplete}
+use Rattle.sp_top.proofs.TextStatus.{verdicts_status, refused_status}
 use Rattle.sp_top.proofs.run.Goals as goal
 
 pub returns-in-Ok-write_whole-clause-usage : goal.returns-in-Ok-write_whole-clause-usage
@@ -14,16 +13,19 @@ pub returns-in-Ok-write_whole-clause-too_long : goal.returns-in-Ok-write_whole-c
 returns-in-Ok-write_whole-clause-too_long g c = too_long_exactly c.args.words.now _ _ _ _ (inr (c.in-Ok.answer.0.items, c.in-Ok.ensures.answer))
 
 pub returns-in-Ok-write_whole-clause-refused : goal.returns-in-Ok-write_whole-clause-refused
-returns-in-Ok-write_whole-clause-refused g c = answers_exactly c.args.words.now _ _ _ _ _ (refused_status) (inr (c.in-Ok.answer.0.items, c.in-Ok.ensures.answer))
+returns-in-Ok-write_whole-clause-refused g c = answers_exactly c.args.words.now _ _ _ _ _ refused_status (inr (c.in-Ok.answer.0.items, c.in-Ok.ensures.answer))
+
+pub returns-in-Ok-write_whole-clause-falsified : goal.returns-in-Ok-write_whole-clause-falsified
+returns-in-Ok-write_whole-clause-falsified g c = answers_exactly c.args.words.now _ _ _ _ _ (verdicts_status _ (inr (inl refl))) (inr (c.in-Ok.answer.0.items, c.in-Ok.ensures.answer))
 
 pub returns-in-Ok-write_whole-clause-incomplete : goal.returns-in-Ok-write_whole-clause-incomplete
-returns-in-Ok-write_whole-clause-incomplete g c = answers_exactly c.args.words.now _ _ _ _ _ (verdict_status Incomplete) (inr (c.in-Ok.answer.0.items, c.in-Ok.ensures.answer))
+returns-in-Ok-write_whole-clause-incomplete g c = answers_exactly c.args.words.now _ _ _ _ _ (verdicts_status _ (inr (inr refl))) (inr (c.in-Ok.answer.0.items, c.in-Ok.ensures.answer))
 
 pub returns-in-Ok-write_whole-clause-fine : goal.returns-in-Ok-write_whole-clause-fine
-returns-in-Ok-write_whole-clause-fine g c = answers_exactly c.args.words.now _ _ _ _ _ (verdict_status Verified) (inr (c.in-Ok.answer.0.items, c.in-Ok.ensures.answer))
+returns-in-Ok-write_whole-clause-fine g c = answers_exactly c.args.words.now _ _ _ _ _ (verdicts_status _ (inl refl)) (inr (c.in-Ok.answer.0.items, c.in-Ok.ensures.answer))
 
-pub returns-in-Ok-write_whole-clause-verified : goal.returns-in-Ok-write_whole-clause-verified
-returns-in-Ok-write_whole-clause-verified g c = headline c.args.words.now _ _ _ _ _ c.in-Ok.answer.0.items _ c.in-Ok.ensures.answer (rw c.deref.ensures.value at c.in-Ok-write_whole.ensures.all)
+pub returns-in-Ok-write_whole-clause-headline : goal.returns-in-Ok-write_whole-clause-headline
+returns-in-Ok-write_whole-clause-headline g c = headline c.args.words.now _ _ _ _ _ c.in-Ok.answer.0.items _ c.in-Ok.ensures.answer (rw c.deref.ensures.value at c.in-Ok-write_whole.ensures.all)
 
 pub returns-in-Ok-write_whole-clause-completeness : goal.returns-in-Ok-write_whole-clause-completeness
 returns-in-Ok-write_whole-clause-completeness g c = record {
@@ -47,8 +49,8 @@ returns-in-Ok-write_whole-clause-no_memory g c =
     let whole = answer_is_whole c.args.words.now _ _ _ c.in-Ok.answer.0.items _ c.in-Ok.ensures.answer in
     record { written = λ e. absurd (whole (inr e)); faults = λ e. absurd (whole (inr e)) }
 
-pub returns-in-Err-clause-verified : goal.returns-in-Err-clause-verified
-returns-in-Err-clause-verified g c = headline_short c.args.words.now _ _ _ _ _ _ (inr refl)
+pub returns-in-Err-clause-headline : goal.returns-in-Err-clause-headline
+returns-in-Err-clause-headline g c = headline_short c.args.words.now _ _ _ _ _ _ (inr refl)
 
-pub returns-clause-verified : goal.returns-clause-verified
-returns-clause-verified g c = headline_short c.args.words.now _ _ _ _ _ _ (inl refl)
+pub returns-clause-headline : goal.returns-clause-headline
+returns-clause-headline g c = headline_short c.args.words.now _ _ _ _ _ _ (inl refl)

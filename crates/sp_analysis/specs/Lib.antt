@@ -1,0 +1,5 @@
+pub mod Tests
+pub mod Problem
+pub mod Analysis
+pub mod Laws
+pub mod Tried

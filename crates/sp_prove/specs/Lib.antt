@@ -1,3 +1,0 @@
-pub mod Problem
-pub mod Analysis
-pub mod Laws
