@@ -78,33 +78,35 @@ equal_ascii : (b c : ℕ) → c < 128 → (b == c) ≡ true → b < 128
 equal_ascii b c lt h = let e = eqb-true b c h in omega arith
 
 -- the bytes of a word and of a constant are ASCII
-in_ascii : (k : Class) (b : ℕ) (bytes : List ℕ) → is_in k b bytes ≡ true → b < 128
-in_ascii class.Blank b bytes h =
-    either (b == 32 || b == 9 || b == 10) (b == 13) (b < 128)
-    (either (b == 32 || b == 9) (b == 10) (b < 128) (either (b == 32) (b == 9) (b < 128) (equal_ascii b 32 (omega arith)) (equal_ascii b 9 (omega arith))) (equal_ascii b 10 (omega arith)))
-    (equal_ascii b 13 (omega arith)) h
-in_ascii class.Constant b bytes h = range_ascii 32 126 b (omega arith) (and_left (nat_le 32 b && nat_le b 126) (not (b == 39)) h)
-in_ascii class.Word b bytes h =
+abbrev is_ascii_class : Class → Bool
+is_ascii_class class.Constant = true
+is_ascii_class class.Line = false
+is_ascii_class class.Word = true
+
+in_ascii : (k : Class) (b : ℕ) (bytes : List ℕ) → is_ascii_class k ≡ true → is_in k b bytes ≡ true → b < 128
+in_ascii class.Constant b bytes a h = range_ascii 32 126 b (omega arith) (and_left (nat_le 32 b && nat_le b 126) (not (b == 39)) h)
+in_ascii class.Line b bytes a h = absurd cc
+in_ascii class.Word b bytes a h =
     either (is_ascii_alphanumeric b || b == 95) (b == 46 && is_first is_digit bytes) (b < 128)
     (either (is_ascii_alphanumeric b) (b == 95) (b < 128) (alphanumeric_ascii b) (equal_ascii b 95 (omega arith)))
     (λ e. equal_ascii b 46 (omega arith) (and_left (b == 46) (is_first is_digit bytes) e)) h
 
-before_ascii : (k : Class) (bytes : List ℕ) → IsAscii (before bytes (skip k bytes))
+before_ascii : (k : Class) (bytes : List ℕ) → is_ascii_class k ≡ true → IsAscii (before bytes (skip k bytes))
 unfolding skip
-before_ascii k [] = IsAscii-nil
-before_ascii k (b ∷ bytes) = by_test (is_in k b bytes) refl (before_ascii k bytes)
+before_ascii k [] a = IsAscii-nil
+before_ascii k (b ∷ bytes) a = by_test (is_in k b bytes) refl (before_ascii k bytes a)
   where
     by_test : (t : Bool) → is_in k b bytes ≡ t → IsAscii (before bytes (skip k bytes)) → IsAscii (before (b ∷ bytes) (cond t (skip k bytes) (b ∷ bytes)))
-    by_test true e h = rw (before_more b bytes (skip k bytes) (skip_shorter k bytes)) (ascii_more b (before bytes (skip k bytes)) (in_ascii k b bytes e) h)
+    by_test true e h = rw (before_more b bytes (skip k bytes) (skip_shorter k bytes)) (ascii_more b (before bytes (skip k bytes)) (in_ascii k b bytes a e) h)
     by_test false e h = rw (before_all (b ∷ bytes)) IsAscii-nil
 
 pub constant_utf8 : (body rest : List ℕ) → rest ≡ skip class.Constant body → IsUtf8 (before body rest)
-constant_utf8 body rest e = IsUtf8-from_ascii (before body rest) (rw e (before_ascii class.Constant body))
+constant_utf8 body rest e = IsUtf8-from_ascii (before body rest) (rw e (before_ascii class.Constant body refl))
 
 pub word_utf8 : (text body rest : List ℕ) (b : ℕ) → text ≡ b ∷ body → is_ascii_alphanumeric b ≡ true → rest ≡ skip class.Word body → IsUtf8 (before text rest)
 word_utf8 text body rest b f t e =
     let lt : b < 128 = alphanumeric_ascii b t in
     rw (f, e) (IsUtf8-from_ascii (before (b ∷ body) (skip class.Word body))
-    (rw (before_more b body (skip class.Word body) (skip_shorter class.Word body)) (ascii_more b (before body (skip class.Word body)) lt (before_ascii class.Word body))))
+    (rw (before_more b body (skip class.Word body) (skip_shorter class.Word body)) (ascii_more b (before body (skip class.Word body)) lt (before_ascii class.Word body refl))))
 
 pub ruleset pieces = (constant_utf8, word_utf8)

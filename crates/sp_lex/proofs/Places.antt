@@ -1,14 +1,17 @@
 -- Tokens stand in the text, one behind the other.
-use Rattle.std.proofs.Common.{◌≡◌, ℕ, ◌+◌, ◌<◌, ◌≤◌, Bool, true, false, cond, List, [], ◌∷◌, length, drop, Option, Some, None, ap, length-drop, arith}
+use Rattle.std.proofs.Common.{◌≡◌, ℕ, ◌+◌, ◌<◌, ◌≤◌, Bool, true, false, cond, List, [], ◌∷◌, length, drop, Option, Some, None, refl, ap, subst, length-drop, arith}
 use Rattle.std.specs.Prelude.{◌&&◌, ◌==◌, nat_lt}
 use Rattle.std.specs.Char.{is_ascii_alphanumeric}
 use Rattle.sp_lex.specs.declared.token.Sign.{Sign}
+use Rattle.sp_lex.specs.declared.token.FaultKind.{FaultKind}
 use Rattle.sp_lex.specs.declared.token.Class.TheVariants as class
 use Rattle.sp_lex.specs.declared.token.Sign.TheVariants as s
-use Rattle.sp_lex.specs.Lexeme.{Lexeme, word, constant, sign, Token}
-use Rattle.sp_lex.specs.Lex.{skip, Piece, token, no_token, short_sign, short_piece, first_short, first_sign, piece, before, is_first, after_blanks, IsNext, AreTokens, no_more, last, next}
+use Rattle.sp_lex.specs.Lexeme.{Lexeme, word, constant, sign, solve, Token}
+use Rattle.sp_lex.specs.Lex.{skip, Piece, token, no_token, short_sign, short_piece, first_short, first_sign, piece, before, is_first, to_closing, closed_by, Reads, plain, bare, goal, IsNext, AreTokens, no_more, last, next}
 use Rattle.sp_lex.specs.Places.{place_behind, is_any}
 use Rattle.sp_lex.proofs.Pieces.{skip_shorter}
+use Rattle.sp_lex.proofs.Gaps.{LeavesMost, skips_shorter}
+use Rattle.sp_lex.proofs.Solve.{closing_leaves}
 
 -- fewer than these bytes are left
 record Leaves (n : ℕ) (p : Piece) : Type 0 where
@@ -17,7 +20,7 @@ record Leaves (n : ℕ) (p : Piece) : Type 0 where
 leaves_token : {n : ℕ} (x : Lexeme) (rest : List ℕ) → length rest < n → Leaves n (token x rest)
 leaves_token x rest lt = record { less = λ y r e. let f : rest ≡ r = cc in omega (arith, ap length f) }
 
-leaves_none : {n : ℕ} → Leaves n no_token
+leaves_none : {n : ℕ} {kind : FaultKind} → Leaves n (no_token kind)
 leaves_none = record { less = λ y r e. absurd cc }
 
 either : (t : Bool) {n : ℕ} {x y : Piece} → Leaves n x → Leaves n y → Leaves n (cond t x y)
@@ -55,11 +58,23 @@ piece_leaves (b ∷ bytes) =
     let quoted = either (nat_lt (length c) (length bytes) && is_first (λ b. b == 39) c) (leaves_token (constant (before bytes c)) (drop 1 c) constants) leaves_none in
     either (is_ascii_alphanumeric b) (leaves_token (word (before (b ∷ bytes) w)) w words) (either (b == 39) quoted (sign_leaves b bytes))
 
+solve_leaves : {n : ℕ} (bytes : List ℕ) (o : Option (List ℕ)) → LeavesMost (length bytes) o → length bytes < n → Leaves n (closed_by bytes o)
+solve_leaves bytes None l lt = leaves_none
+solve_leaves bytes (Some rest) l lt = let k = l.most rest refl in leaves_token (solve (before bytes rest)) (drop 1 rest) (drop_less 1 rest _ (omega arith))
+
+reads_leaves : {bytes : List ℕ} {p : Piece} → Reads bytes p → Leaves (length bytes) p
+reads_leaves {bytes} (plain e d) = subst (λ (p : Piece). Leaves (length bytes) p) e (piece_leaves bytes)
+reads_leaves {bytes} (bare e t n) = subst (λ (p : Piece). Leaves (length bytes) p) e (piece_leaves bytes)
+reads_leaves {bytes} (goal {rest = r} {inside = i} {x = x} e t h f) =
+    let k = (piece_leaves bytes).less x r e in
+    let l = skips_shorter h in
+    subst (λ (p : Piece). Leaves (length bytes) p) f (solve_leaves i (to_closing false 0 i) (closing_leaves false 0 i) (omega arith))
+
 -- fewer bytes follow the next token
 pub next_shorter : {size : ℕ} {bytes rest : List ℕ} {t : Token} → IsNext size bytes t rest → length rest < length bytes
-next_shorter {bytes = bytes} {rest = rest} {t = t} n =
-    let h : length rest < length (after_blanks bytes) = (piece_leaves (after_blanks bytes)).less t.lexeme rest n.reads in
-    let k = skip_shorter class.Blank bytes in
+next_shorter {rest = rest} {t = t} n =
+    let h = (reads_leaves n.reads).less t.lexeme rest refl in
+    let k = skips_shorter n.skips in
     omega arith
 
 chosen : (t : Bool) (a b c : ℕ) → a ≤ c → b ≤ c → cond t a b ≤ c

@@ -1,7 +1,7 @@
 -- Where tokens end.
 use Rattle.std.specs.Prelude.{ℕ, Bool, true, false, if◌then◌else◌, List, [], ◌∷◌}
 use Rattle.sp_lex.specs.declared.token.Sign.TheVariants as s
-use Rattle.sp_lex.specs.Lexeme.{Lexeme, word, constant, sign, Token}
+use Rattle.sp_lex.specs.Lexeme.{Lexeme, word, constant, sign, solve, Token}
 
 -- behind the last token that passes the test, or else this place
 abbrev pub place_behind : (Lexeme → Bool) → ℕ → List Token → ℕ
@@ -13,6 +13,7 @@ is_quote (word w) = false
 is_quote (constant c) = false
 is_quote (sign s.Quote) = true
 is_quote (sign _) = false
+is_quote (solve s) = false
 
 abbrev pub is_any : Lexeme → Bool
 is_any x = true

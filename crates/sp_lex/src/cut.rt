@@ -1,10 +1,12 @@
-ghost use Rattle.std.specs.Prelude.{◌≡◌, [], ◌∷◌, MatchOption, option_map, IsUtf8, if◌then◌else◌, drop, length, IfSome, MatchResult, ◌≤◌, ◌+◌, ◌++◌, Some, None};
+ghost use Rattle.std.specs.Prelude.{◌≡◌, [], ◌∷◌, MatchOption, option_map, IsUtf8, false, if◌then◌else◌, drop, length, IfSome, IfOk, OnOk, MatchResult, ◌≤◌, ◌<◌, ◌+◌, ◌++◌, Some, None};
 ghost use Rattle.sp_lex.specs.Lex as spec;
-ghost use Rattle.sp_lex.specs.Lex.{begins, close_constant, first_sign, AreTokens};
-ghost use Rattle.sp_lex.specs.Views.{found, Takes, IsFaultOf, lexeme_of, token_of, tokens_of};
+ghost use Rattle.sp_lex.specs.Lex.{begins, close_constant, first_sign, solve_piece, Skips, IsUnclosed, NoBracket, Reads, AreTokens};
+ghost use Rattle.sp_lex.specs.Views.{found, step, Takes, Passes, IsScanned, IsFaultOf, lexeme_of, token_of, tokens_of};
 
-use crate::token::{Class, Found, LexError, Lexeme, Sign, Token};
-use std::alloc::Global;
+use crate::token::{
+    Class, FaultKind, Found, Gap, LexError, LexFault, Lexeme, Mark, Scanned, Sign, Token,
+};
+use std::alloc::{AllocError, Global};
 
 fn split(text: &[u8]) -> Option<(u8, &[u8])>
     ensures { MatchOption result (text.now ≡ []) (λ x. text.now ≡ x.0 ∷ x.1.now) }
@@ -48,8 +50,8 @@ fn is_in(class: Class, byte: u8, after: &[u8]) -> bool
     ensures { result ≡ spec.is_in class byte after.now }
 {
     match class {
-        Class::Blank => is_blank(byte),
         Class::Constant => is_constant_byte(byte),
+        Class::Line => byte != b'\n',
         Class::Word => is_word_byte(byte) || byte == b'.' && begins_with_digit(after),
     }
 }
@@ -69,13 +71,21 @@ fn skip(class: Class, text: &[u8]) -> &[u8]
     rest
 }
 
+/// The bytes before these last ones.
+fn bytes_before<'a>(text: &'a [u8], rest: &[u8]) -> &'a [u8]
+    requires { length rest.now ≤ length text.now }
+    ensures { result.now ≡ spec.before text.now rest.now }
+{
+    &text[..text.len() - rest.len()]
+}
+
 /// The bytes before these last ones, as text.
 fn before<'a>(text: &'a [u8], rest: &[u8]) -> &'a str
     requires shorter { length rest.now ≤ length text.now }
     requires utf8 { IsUtf8 (spec.before text.now rest.now) }
     ensures { result.now ≡ spec.before text.now rest.now }
 {
-    match str::from_utf8(&text[..text.len() - rest.len()]) {
+    match str::from_utf8(bytes_before(text, rest)) {
         Ok(found) => found,
         Err(_) => unreachable!(),
     }
@@ -129,9 +139,9 @@ fn first_short(text: &[u8]) -> Found
     match split(text) {
         Some((byte, rest)) => match short_sign(byte) {
             Some(sign) => Found::Token(Lexeme::Sign(sign), rest),
-            None => Found::NoToken,
+            None => Found::NoToken(FaultKind::NoToken),
         },
-        None => Found::NoToken,
+        None => Found::NoToken(FaultKind::NoToken),
     }
 }
 
@@ -168,11 +178,11 @@ fn constant(body: &[u8]) -> Found
             Lexeme::Constant(before(body, rest)),
             behind,
         ),
-        _ => Found::NoToken,
+        _ => Found::NoToken(FaultKind::NoConstant),
     }
 }
 
-/// The token that begins here.
+/// The word, constant or sign that begins here.
 #[tactic(auto, using(crate::proofs::Pieces::pieces), unfolding(crate::specs::Lex::piece))]
 fn piece(text: &[u8]) -> Found
     ensures value { found result ≡ spec.piece text.now }
@@ -190,6 +200,206 @@ fn piece(text: &[u8]) -> Found
     sign(text)
 }
 
+/// What two bytes of a comment do to the comments that are open.
+fn comment_mark(first: u8, second: u8) -> Mark
+    ensures { result ≡ spec.comment_mark first second }
+{
+    if first == b'/' && second == b'*' {
+        Mark::Opens
+    } else if first == b'*' && second == b'/' {
+        Mark::Closes
+    } else {
+        Mark::Neither
+    }
+}
+
+/// What follows a comment, from behind its first `/*`, if it is closed.
+#[tactic(auto, using(crate::proofs::Gaps::comments), unfolding(crate::specs::Lex::after_comment))]
+fn after_comment(text: &[u8]) -> Option<&[u8]>
+    ensures value { option_map (λ x. x.now) result ≡ spec.after_comment 0 text.now }
+    ensures shorter { IfSome result (λ x. length x.now ≤ length text.now) }
+{
+    let mut depth: usize = 0;
+    let mut rest = text;
+    loop {
+        let Some((first, after)) = split(rest) else {
+            return None;
+        };
+        let Some((second, behind)) = split(after) else {
+            return None;
+        };
+        match comment_mark(first, second) {
+            Mark::Opens => {
+                depth += 1;
+                rest = behind;
+            }
+            Mark::Closes => {
+                if depth == 0 {
+                    return Some(behind);
+                }
+                depth -= 1;
+                rest = behind;
+            }
+            Mark::Neither => rest = after,
+        }
+    }
+}
+
+/// The blank or the comment that begins here.
+#[tactic(auto, unfolding(crate::specs::Lex::gap))]
+fn gap(text: &[u8]) -> Gap
+    ensures value { step result ≡ spec.gap text.now }
+    ensures shorter { Passes result text.now }
+{
+    if let Some((byte, rest)) = split(text) {
+        if is_blank(byte) {
+            return Gap::Past(rest);
+        }
+    }
+    if let Some(inside) = after(text, b"//") {
+        return Gap::Past(skip(Class::Line, inside));
+    }
+    match after(text, b"/*") {
+        Some(inside) => match after_comment(inside) {
+            Some(rest) => Gap::Past(rest),
+            None => Gap::Unclosed,
+        },
+        None => Gap::Nothing,
+    }
+}
+
+/// The bytes behind all blanks and comments that stand here, or from the comment on that is not closed.
+#[tactic(auto, using(crate::proofs::Gaps::gaps))]
+fn skip_gaps(text: &[u8]) -> Result<&[u8], &[u8]>
+    ensures read { MatchResult result (λ x. Skips text.now x.now) (λ x. IsUnclosed text.now x.now) }
+    ensures shorter { MatchResult result (λ x. length x.now ≤ length text.now) (λ x. length x.now ≤ length text.now) }
+{
+    let mut rest = text;
+    loop {
+        match gap(rest) {
+            Gap::Nothing => return Ok(rest),
+            Gap::Past(after) => rest = after,
+            Gap::Unclosed => return Err(rest),
+        }
+    }
+}
+
+/// Whether the bytes behind this one stand in a constant.
+fn is_quoted(quoted: bool, byte: u8, after: &[u8]) -> bool
+    ensures { result ≡ spec.is_quoted quoted byte after.now }
+{
+    if quoted {
+        return byte != b'\'';
+    }
+    byte == b'\'' && matches!(constant(after), Found::Token(_, _))
+}
+
+/// What a byte does to the brackets that are open.
+fn bracket(quoted: bool, byte: u8) -> Mark
+    ensures { result ≡ spec.bracket quoted byte }
+{
+    if quoted {
+        Mark::Neither
+    } else if byte == b'(' {
+        Mark::Opens
+    } else if byte == b')' {
+        Mark::Closes
+    } else {
+        Mark::Neither
+    }
+}
+
+/// The bytes from the bracket on that closes a `solve(`, from behind that, if there is one.
+#[tactic(auto, using(crate::proofs::Solve::closings), unfolding(crate::specs::Lex::to_closing))]
+fn to_closing(text: &[u8]) -> Option<&[u8]>
+    ensures value { option_map (λ x. x.now) result ≡ spec.to_closing false 0 text.now }
+    ensures shorter { IfSome result (λ x. (0 < length x.now) × (length x.now ≤ length text.now)) }
+{
+    let mut quoted = false;
+    let mut depth: usize = 0;
+    let mut rest = text;
+    loop {
+        let Some((byte, after)) = split(rest) else {
+            return None;
+        };
+        match bracket(quoted, byte) {
+            Mark::Opens => {
+                depth += 1;
+                rest = after;
+            }
+            Mark::Closes => {
+                if depth == 0 {
+                    return Some(rest);
+                }
+                depth -= 1;
+                rest = after;
+            }
+            Mark::Neither => {
+                quoted = is_quoted(quoted, byte, after);
+                rest = after;
+            }
+        }
+    }
+}
+
+/// The goal that stands behind `solve(`.
+fn solve(inside: &[u8]) -> Found
+    ensures value { found result ≡ solve_piece inside.now }
+    ensures shorter { Takes result inside.now }
+{
+    match to_closing(inside) {
+        Some(rest) => Found::Token(Lexeme::Solve(bytes_before(inside, rest)), &rest[1..]),
+        None => Found::NoToken(FaultKind::OpenSolve),
+    }
+}
+
+/// What stands behind a bracket, with blanks and comments before it.
+#[tactic(auto, using(crate::proofs::Solve::brackets))]
+fn behind_bracket(text: &[u8]) -> Option<&[u8]>
+    ensures value { MatchOption result (NoBracket text.now) (λ x. Skips text.now (40 ∷ x.now)) }
+    ensures shorter { IfSome result (λ x. length x.now ≤ length text.now) }
+{
+    match skip_gaps(text) {
+        Ok(rest) => {
+            let (byte, inside) = split(rest)?;
+            if byte == b'(' { Some(inside) } else { None }
+        }
+        Err(_) => None,
+    }
+}
+
+/// Whether it is the word `solve`.
+fn is_solve(lexeme: Lexeme) -> bool
+    ensures { result ≡ spec.is_solve (lexeme_of lexeme.entry) }
+{
+    match lexeme {
+        Lexeme::Word(word) => word == "solve",
+        Lexeme::Constant(_) => false,
+        Lexeme::Sign(_) => false,
+        Lexeme::Solve(_) => false,
+    }
+}
+
+/// The token that begins here.
+#[tactic(auto, using(crate::proofs::Solve::readings))]
+fn first_token(text: &[u8]) -> Found
+    ensures value { Reads text.now (found result) }
+    ensures shorter { Takes result text.now }
+{
+    match piece(text) {
+        Found::Token(lexeme, rest) => {
+            if !is_solve(lexeme) {
+                return Found::Token(lexeme, rest);
+            }
+            match behind_bracket(rest) {
+                Some(inside) => solve(inside),
+                None => Found::Token(lexeme, rest),
+            }
+        }
+        Found::NoToken(kind) => Found::NoToken(kind),
+    }
+}
+
 /// Whether it is the word `end`.
 fn is_end(lexeme: Lexeme) -> bool
     ensures { result ≡ spec.is_end (lexeme_of lexeme.entry) }
@@ -198,50 +408,86 @@ fn is_end(lexeme: Lexeme) -> bool
         Lexeme::Word(word) => word == "end",
         Lexeme::Constant(_) => false,
         Lexeme::Sign(_) => false,
+        Lexeme::Solve(_) => false,
     }
 }
 
-fn push<'a>(found: &mut Vec<Token<'a>>, next: Token<'a>) -> Result<(), LexError>
-    ensures { MatchResult result (λ _. tokens_of found.new.items ≡ tokens_of found.old.items ++ token_of next.entry ∷ []) (λ e. e ≡ LexError.Memory) }
+fn push<'a>(found: &mut Vec<Token<'a>>, next: Token<'a>) -> Result<(), AllocError>
+    ensures { OnOk result (tokens_of found.new.items ≡ tokens_of found.old.items ++ token_of next.entry ∷ []) }
 {
-    match found.push(next) {
-        Ok(()) => Ok(()),
-        Err(_) => Err(LexError::Memory),
+    found.push(next)?;
+    Ok(())
+}
+
+fn broken<'a>(tokens: Vec<Token<'a>>, kind: FaultKind, place: usize) -> Scanned<'a>
+    ensures tokens { tokens_of result.tokens.items ≡ tokens_of tokens.entry.items }
+    ensures fault { result.fault ≡ Some (record { kind = kind; place = place }) }
+{
+    Scanned {
+        tokens,
+        fault: Some(LexFault { kind, place }),
     }
 }
 
-/// The tokens of a text up to its first word `end`, or its first fault.
+/// The tokens of a text up to its first word `end`, or those before its first fault, and that fault.
 ///
 /// What follows that word is not looked at. A text without it is cut whole.
+/// Blanks and comments separate tokens; a comment goes to the end of its line, or is bracketed, and those nest.
+///
+/// # Errors
+///
+/// There is no memory.
 #[tactic(auto, using(crate::proofs::Runs::runs))]
-pub fn tokens<'a>(alloc: Global, text: &'a [u8]) -> Result<Vec<Token<'a>>, LexError>
-    ensures { MatchResult result (λ x. AreTokens (length text.now) text.now (tokens_of x.items)) (IsFaultOf text.now) }
+pub fn scan<'a>(alloc: Global, text: &'a [u8]) -> Result<Scanned<'a>, AllocError>
+    ensures { IfOk result (λ c. IsScanned text.now (tokens_of c.tokens.items) c.fault) }
 {
     let size = text.len();
     let mut found = Vec::new(alloc);
     let mut rest = text;
     loop {
-        let here = skip(Class::Blank, rest);
+        let here = match skip_gaps(rest) {
+            Ok(here) => here,
+            Err(comment) => {
+                let made = broken(found, FaultKind::OpenComment, size - comment.len());
+                return Ok(made);
+            }
+        };
         if here.len() == 0 {
-            return Ok(found);
+            return Ok(Scanned {
+                tokens: found,
+                fault: None,
+            });
         }
         let start = size - here.len();
-        match piece(here) {
+        match first_token(here) {
             Found::Token(lexeme, after) => {
-                push(
-                    &mut found,
-                    Token {
-                        lexeme,
-                        start,
-                        end: size - after.len(),
-                    },
-                )?;
+                let end = size - after.len();
+                push(&mut found, Token { lexeme, start, end })?;
                 if is_end(lexeme) {
-                    return Ok(found);
+                    return Ok(Scanned {
+                        tokens: found,
+                        fault: None,
+                    });
                 }
                 rest = after;
             }
-            Found::NoToken => return Err(LexError::Fault(start)),
+            Found::NoToken(kind) => {
+                let made = broken(found, kind, start);
+                return Ok(made);
+            }
         }
+    }
+}
+
+/// The tokens of a text up to its first word `end`, or its first fault.
+pub fn tokens<'a>(alloc: Global, text: &'a [u8]) -> Result<Vec<Token<'a>>, LexError>
+    ensures { MatchResult result (λ x. AreTokens (length text.now) text.now (tokens_of x.items)) (IsFaultOf text.now) }
+{
+    match scan(alloc, text) {
+        Ok(made) => match made.fault {
+            None => Ok(made.tokens),
+            Some(fault) => Err(LexError::Fault(fault)),
+        },
+        Err(_) => Err(LexError::Memory),
     }
 }

@@ -2,7 +2,8 @@
 // Below stands sp_spec; the readers of theories stand above, and see tokens alone.
 // Carried here: the part of "texts are read exactly" that concerns bytes: a text has one list of tokens, or one first fault.
 // The language's pieces are functions in specs/Lex.antt, the lists of tokens a relation over them.
-// A token shows its text, and where it begins and ends.
+// Comments nest, and what stands between the brackets of `solve( )` is one token.
+// A token shows its text, and where it begins and ends; a fault its kind, and where it begins.
 #![tactic(auto)]
 
 mod cut;
@@ -10,8 +11,8 @@ mod token;
 
 ghost use Rattle.sp_lex.specs.Laws.{TextsAreCutOneWay};
 
-pub use cut::tokens;
-pub use token::{LexError, Lexeme, Sign, Token};
+pub use cut::{scan, tokens};
+pub use token::{FaultKind, LexError, LexFault, Lexeme, Scanned, Sign, Token};
 
 /// A text has one list of tokens, or one first fault, and not both.
 pub fn texts_are_cut_one_way()

@@ -2,7 +2,7 @@
 use Rattle.std.proofs.Common.{◌≡◌, ℕ, Bool, List, [], ◌∷◌, Option, Some, None, refl, sym, ap, subst, ◌∙◌}
 use Rattle.sp_lex.specs.declared.token.Sign.{Sign}
 use Rattle.sp_lex.specs.declared.token.Sign.TheVariants as s
-use Rattle.sp_lex.specs.Lexeme.{Lexeme, constant, sign}
+use Rattle.sp_lex.specs.Lexeme.{Lexeme, constant, sign, solve}
 use Rattle.sp_spec.specs.Term.{Term, var}
 use Rattle.sp_spec.specs.Rule.{Fact}
 use Rattle.sp_spec.specs.Formula.{Mark, Written}
@@ -35,10 +35,14 @@ variable_one (sorted {behind = b} (name h) e) (plain (name k) f) = absurd (f b r
 variable_one (plain (name k) f) (sorted {behind = b} (name h) e) = absurd (f b refl)
 variable_one (plain (name h) e) (plain (name k) f) = (refl, refl)
 
--- no variable begins with a constant, nor with a sign that marks none
+-- no variable begins with a constant or a goal, nor with a sign that marks none
 pub variable_constant : {c : List ℕ} {tokens r : List Lexeme} {v : Written} → IsVariable (constant c ∷ tokens) v r → ⊥
 variable_constant (sorted h e) = elim h [ ]
 variable_constant (plain h e) = elim h [ ]
+
+pub variable_solve : {s : List ℕ} {tokens r : List Lexeme} {v : Written} → IsVariable (solve s ∷ tokens) v r → ⊥
+variable_solve (sorted h e) = elim h [ ]
+variable_solve (plain h e) = elim h [ ]
 
 pub variable_sign : {x : Sign} {tokens r : List Lexeme} {v : Written} → mark_at x ≡ None → IsVariable (sign x ∷ tokens) v r → ⊥
 variable_sign n (marked e h) = let g = sym n ∙ e in cc

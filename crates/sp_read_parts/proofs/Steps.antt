@@ -2,7 +2,7 @@
 use Rattle.std.proofs.Common.{◌≡◌, ℕ, ◌+◌, ◌<◌, ◌≤◌, Bool, true, false, List, [], ◌∷◌, Some, None, refl, sym, ap, subst, ◌∙◌, arith}
 use Rattle.sp_lex.specs.declared.token.Sign.{Sign}
 use Rattle.sp_lex.specs.declared.token.Sign.TheVariants as s
-use Rattle.sp_lex.specs.Lexeme.{Lexeme, word, constant, sign}
+use Rattle.sp_lex.specs.Lexeme.{Lexeme, word, constant, sign, solve}
 use Rattle.sp_spec.specs.Term.{Term, var}
 use Rattle.sp_spec.specs.Term as t
 use Rattle.sp_spec.specs.Rule.{Fact}
@@ -11,7 +11,7 @@ use Rattle.sp_read_parts.specs.Names.{IsName, names_fact, mark_of, mark_at}
 use Rattle.sp_read_parts.specs.Lists.{IsNotFirst, IsNoWord, NoReading, AreItems}
 use Rattle.sp_read_parts.specs.Shapes.{written, fact}
 use Rattle.sp_read_parts.specs.Parts.{IsNameFirst, name, IsSort, sort, IsVariable, marked, sorted, plain, IsPlainTerm, variable, fixed, IsTerm, unbracketed, brackets, AreArguments, arguments, IsNamedFact, named, IsFact, linear, persistent}
-use Rattle.sp_read_parts.proofs.One.{variable_constant, variable_sign, plain_sign, term_one}
+use Rattle.sp_read_parts.proofs.One.{variable_constant, variable_solve, variable_sign, plain_sign, term_one}
 
 -- ---- names and variables
 
@@ -73,6 +73,9 @@ variable_no_name e n = record { none = λ v r h. at (subst (λ (ts : List Lexeme
 pub variable_no_constant : {c : List ℕ} {tokens after : List Lexeme} → tokens ≡ constant c ∷ after → NoReading IsVariable tokens
 variable_no_constant e = record { none = λ v r h. variable_constant (subst (λ (ts : List Lexeme). IsVariable ts v r) e h) }
 
+pub variable_no_solve : {s : List ℕ} {tokens after : List Lexeme} → tokens ≡ solve s ∷ after → NoReading IsVariable tokens
+variable_no_solve e = record { none = λ v r h. variable_solve (subst (λ (ts : List Lexeme). IsVariable ts v r) e h) }
+
 pub variable_reserved : {w : List ℕ} {tokens after : List Lexeme} → tokens ≡ word w ∷ after → NoReading IsNameFirst tokens → NoReading IsVariable tokens
 variable_reserved e n = record { none = λ v r h. at h e n }
   where
@@ -92,7 +95,7 @@ pub ruleset names = (name_at, name_no_word, name_reserved)
 
 pub ruleset sorts = (sort_at, sort_no_word, sort_unknown)
 
-pub ruleset variables = (marked_at, sorted_at, plain, variable_nil, variable_no_mark, variable_no_name, variable_no_constant, variable_reserved, variable_no_sort)
+pub ruleset variables = (marked_at, sorted_at, plain, variable_nil, variable_no_mark, variable_no_name, variable_no_constant, variable_no_solve, variable_reserved, variable_no_sort)
 
 -- ---- terms and facts
 
@@ -119,6 +122,9 @@ plain_no_word e n = no_plain (λ c g. cc) e n
 
 pub plain_no_sign : {x : Sign} {tokens after : List Lexeme} → tokens ≡ sign x ∷ after → NoReading IsVariable tokens → NoReading IsPlainTerm tokens
 plain_no_sign e n = no_plain (λ c g. cc) e n
+
+pub plain_no_solve : {s : List ℕ} {tokens after : List Lexeme} → tokens ≡ solve s ∷ after → NoReading IsPlainTerm tokens
+plain_no_solve e = no_plain (λ c g. cc) e (variable_no_solve e)
 
 pub brackets_at : {n : ℕ} {x : Term Written} {tokens inside ahead rest : List Lexeme} → tokens ≡ sign s.Open ∷ inside → n < 128 → IsTerm (n + 1) inside x ahead → ahead ≡ sign s.Close ∷ rest → IsTerm n tokens x rest
 brackets_at e lt h f = rw e (brackets lt (rw f at h))
@@ -199,7 +205,7 @@ no_linear {n} d k = record { none = λ x r h. at h d k }
     at (linear {f = f} {rest = r} h) d k = k.none f r h
     at (persistent {tokens = ts} h) d k = d ts refl
 
-pub ruleset plain_terms = (variable, fixed_at, plain_nil, plain_no_word, plain_no_sign)
+pub ruleset plain_terms = (variable, fixed_at, plain_nil, plain_no_word, plain_no_sign, plain_no_solve)
 
 pub ruleset bracketed_terms = (unbracketed, brackets_at, term_no_plain, term_too_deep, term_no_inside, term_unclosed)
 

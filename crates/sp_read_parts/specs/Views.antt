@@ -9,13 +9,15 @@ use Rattle.sp_spec.specs.Term as t
 use Rattle.sp_spec.specs.Rule.{Fact}
 use Rattle.sp_spec.specs.Formula as f
 use Rattle.sp_spec.specs.Formula.{Written}
-use Rattle.sp_read_parts.specs.Shapes.{written, fact}
+use Rattle.sp_spec.specs.Written as spec
+use Rattle.sp_read_parts.specs.Shapes.{written, fact, rule_of}
 use Rattle.sp_read_parts.specs.declared.written.Mark.{Mark}
 use Rattle.sp_read_parts.specs.declared.written.Mark.TheVariants as m
 use Rattle.sp_read_parts.specs.declared.written.WrittenVariable.{WrittenVariable}
 use Rattle.sp_read_parts.specs.declared.written.WrittenTerm.{WrittenTerm}
 use Rattle.sp_read_parts.specs.declared.written.WrittenTerm.TheVariants as v
 use Rattle.sp_read_parts.specs.declared.written.WrittenFact.{WrittenFact}
+use Rattle.sp_read_parts.specs.declared.written.WrittenRule.{WrittenRule}
 
 -- the tokens as they read
 abbrev pub seen : List lexer.Token → List Lexeme
@@ -44,3 +46,9 @@ fact_of f = fact f.symbol.now f.persistent (map term f.arguments.items)
 
 abbrev pub facts_of : List WrittenFact → List (Fact Written)
 facts_of fs = map fact_of fs
+
+abbrev pub rule : WrittenRule → spec.WrittenRule
+rule r = rule_of r.name.now (facts_of r.premises.items) (facts_of r.actions.items) (facts_of r.conclusions.items)
+
+abbrev pub rules : List WrittenRule → List spec.WrittenRule
+rules rs = map rule rs

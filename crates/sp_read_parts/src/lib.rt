@@ -1,4 +1,4 @@
-// Reads variables, terms, facts and formulas from tokens.
+// Reads variables, terms, facts and formulas from tokens; what a rule is in memory stands here too.
 // Below stand sp_spec (what is written) and sp_lex (tokens); theories are read above (sp_read_theory).
 // Carried here: the promise that texts are read exactly, for the parts of a theory. The grammar is specs/Grammar.antt, and
 // what a reader gives is spelled there by the tokens that it takes; where it gives nothing, no text of the grammar stands there.
@@ -11,12 +11,12 @@ pub mod cursor;
 pub mod facts;
 pub mod formulas;
 pub mod terms;
-mod words;
+pub mod words;
 mod written;
 
 ghost use Rattle.sp_read_parts.specs.Closed.{ClosedFormulasAreOne};
 
-pub use written::{Mark, ReadFormula, WrittenFact, WrittenTerm, WrittenVariable};
+pub use written::{Mark, ReadFormula, WrittenFact, WrittenRule, WrittenTerm, WrittenVariable};
 
 /// What is spelled before a closing sign, and what follows it, are fixed by the tokens.
 pub fn closed_formulas_are_one()

@@ -63,6 +63,7 @@ pub fn variable<'a>(tokens: &[Token<'a>], at: usize) -> Option<(WrittenVariable<
             Some((WrittenVariable { name, mark }, rest))
         }
         Lexeme::Constant(_) => None,
+        Lexeme::Solve(_) => None,
     }
 }
 
@@ -86,6 +87,7 @@ pub fn plain_term<'a>(tokens: &[Token<'a>], at: usize) -> Option<(WrittenTerm<'a
             let (found, rest) = variable(tokens, at)?;
             Some((WrittenTerm::Variable(found), rest))
         }
+        Lexeme::Solve(_) => None,
     }
 }
 

@@ -34,7 +34,7 @@ fn read(alloc: Global, text: &[u8]) -> Option<(u8, usize)> {
 
 #[test]
 fn reads_formulas(rt: HostRuntime) {
-    let wanted: [(&[u8], Option<(u8, usize)>); 18] = [
+    let wanted: [(&[u8], Option<(u8, usize)>); 20] = [
         (b"T\"", Some((b'T', 2))),
         (b"(F)\" x", Some((b'F', 4))),
         (b"(T) = x\"", Some((b'=', 6))),
@@ -53,6 +53,8 @@ fn reads_formulas(rt: HostRuntime) {
         (b"x & T\"", None),
         (b"(T\"", None),
         (b"All . T\"", None),
+        (b"solve(x) = y\"", None),
+        (b"x = /* y */ solve(y)\"", None),
     ];
     for (text, want) in wanted {
         assert_eq!(rt; read(rt.alloc(), text), want);

@@ -35,6 +35,15 @@ pub struct WrittenFact<'a> {
     pub arguments: Vec<WrittenTerm<'a>>,
 }
 
+/// A rule as it is written.
+#[derive(Drop)]
+pub struct WrittenRule<'a> {
+    pub name: &'a str,
+    pub premises: Vec<WrittenFact<'a>>,
+    pub actions: Vec<WrittenFact<'a>>,
+    pub conclusions: Vec<WrittenFact<'a>>,
+}
+
 /// A formula as it is written.
 #[derive(Drop)]
 pub enum ReadFormula<'a> {
