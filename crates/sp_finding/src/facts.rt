@@ -2,10 +2,10 @@
 
 ghost use Rattle.std.specs.Prelude.{◌≡◌, ◌&&◌, not};
 ghost use Rattle.sp_spec.specs.Findings as findings;
-ghost use Rattle.sp_read_theory.specs.Views as view;
-ghost use Rattle.sp_read_theory.specs.Views.{facts_of, fact_of};
+ghost use Rattle.sp_read_parts.specs.Views as view;
+ghost use Rattle.sp_read_parts.specs.Views.{facts_of, fact_of};
 
-use sp_read_theory::{Mark, WrittenFact, WrittenTerm};
+use sp_read_parts::{Mark, WrittenFact, WrittenTerm};
 
 /// The most arguments that a fact may have.
 const MOST_ARGUMENTS: usize = 16;

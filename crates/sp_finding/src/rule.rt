@@ -3,13 +3,13 @@
 ghost use Rattle.std.specs.Prelude.{◌≡◌, ◌||◌, IfOk, map};
 ghost use Rattle.sp_spec.specs.Findings as findings;
 ghost use Rattle.sp_spec.specs.Written as written;
-ghost use Rattle.sp_read_theory.specs.Views as view;
-ghost use Rattle.sp_read_theory.specs.Views.{facts_of};
+ghost use Rattle.sp_read_parts.specs.Views as view;
+ghost use Rattle.sp_read_parts.specs.Views.{facts_of};
 ghost use Rattle.sp_term.specs.View.{sort_of};
 
 use crate::facts::{has_fr, has_wide, has_wrong_argument, has_wrong_premise};
 use crate::variables::{gather_all, is_fr_argument, occurrences, sort_in};
-use sp_read_theory::{Mark, WrittenRule, WrittenVariable};
+use sp_read_parts::{Mark, WrittenRule, WrittenVariable};
 use sp_term::term::Sort;
 use std::alloc::{AllocError, Global};
 

@@ -4,11 +4,11 @@ ghost use Rattle.std.specs.Prelude.{◌≡◌, IfOk, OnOk, map, ◌++◌};
 ghost use Rattle.sp_spec.specs.Term.{Fresh, Pub};
 ghost use Rattle.sp_spec.specs.Written.{in_facts, in_terms, is_argument};
 ghost use Rattle.sp_spec.specs.Written as written;
-ghost use Rattle.sp_read_theory.specs.Views as view;
-ghost use Rattle.sp_read_theory.specs.Views.{facts_of, fact_of};
+ghost use Rattle.sp_read_parts.specs.Views as view;
+ghost use Rattle.sp_read_parts.specs.Views.{facts_of, fact_of};
 ghost use Rattle.sp_term.specs.View.{sort_of};
 
-use sp_read_theory::{Mark, WrittenFact, WrittenRule, WrittenTerm, WrittenVariable};
+use sp_read_parts::{Mark, WrittenFact, WrittenRule, WrittenTerm, WrittenVariable};
 use sp_term::term::Sort;
 use std::alloc::{AllocError, Global};
 

@@ -5,7 +5,7 @@ use Rattle.sp_spec.specs.Term.{more, valued, valued_all}
 use Rattle.sp_spec.specs.Formula.{Written}
 use Rattle.sp_read_parts.specs.declared.written.WrittenTerm.{WrittenTerm}
 use Rattle.sp_read_parts.specs.Shapes.{row}
-use Rattle.sp_read_theory.specs.Views as written
+use Rattle.sp_read_parts.specs.Views as written
 use Rattle.sp_term.specs.declared.term.Term.{Term}
 use Rattle.sp_term.specs.View.{view, terms_of, view_all}
 

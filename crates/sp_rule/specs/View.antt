@@ -5,7 +5,7 @@ use Rattle.sp_spec.specs.Rule as spec
 use Rattle.sp_spec.specs.Rule.{Facts}
 use Rattle.sp_spec.specs.Formula.{Written}
 use Rattle.sp_spec.specs.Written.{occurrences, rule_names, sort_in}
-use Rattle.sp_read_theory.specs.Views as view
+use Rattle.sp_read_parts.specs.Views as view
 use Rattle.sp_term.specs.View.{sort_of, name_of}
 use Rattle.sp_fact.specs.View.{facts_of}
 use Rattle.sp_rule.specs.declared.numbering.Numbering.{Numbering}

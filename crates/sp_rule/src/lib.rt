@@ -1,5 +1,5 @@
 // Rules in memory, with their variables numbered and their sorts settled, made from rules as they are read.
-// Below stand the meaning of written rules (sp_spec, specs/Written.antt), rules as they are read (sp_read_theory), the sorts of their
+// Below stand the meaning of written rules (sp_spec, specs/Written.antt), rules as they are read (sp_read_parts), the sorts of their
 // variables (sp_finding), and facts in memory (sp_system); above stand the moves of a proof (sp_moves).
 // Carried here: the promise that the rules that are searched with are the rules that the text says.
 #![tactic(auto)]

@@ -2,10 +2,10 @@
 
 ghost use Rattle.std.specs.Prelude.{◌≡◌, ◌++◌, ◌∷◌, [], IfOk, OnOk, map, if◌then◌else◌};
 ghost use Rattle.sp_spec.specs.Written as written;
-ghost use Rattle.sp_read_theory.specs.Views as view;
+ghost use Rattle.sp_read_parts.specs.Views as view;
 ghost use Rattle.sp_rule.specs.View.{texts_of};
 
-use sp_read_theory::WrittenVariable;
+use sp_read_parts::WrittenVariable;
 use std::alloc::{AllocError, Global};
 
 /// Whether the name is one of these.

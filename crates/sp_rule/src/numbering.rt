@@ -7,7 +7,7 @@ ghost use Rattle.sp_spec.specs.Written as written;
 ghost use Rattle.sp_spec.specs.Written.{numbered_in};
 ghost use Rattle.sp_read_parts.specs.Shapes as shapes;
 ghost use Rattle.sp_read_parts.specs.Shapes.{row};
-ghost use Rattle.sp_read_theory.specs.Views as view;
+ghost use Rattle.sp_read_parts.specs.Views as view;
 ghost use Rattle.sp_term.specs.View as memory;
 ghost use Rattle.sp_term.specs.View.{view_all};
 ghost use Rattle.sp_fact.specs.View.{fact_of, action_of};
@@ -17,7 +17,7 @@ use crate::names::{names, place_of};
 use crate::rule::{Declared, Rule};
 use sp_fact::fact::{Action, Fact, Facts};
 use sp_finding::{occurrences, sort_in};
-use sp_read_theory::{WrittenFact, WrittenRule, WrittenTerm, WrittenVariable};
+use sp_read_parts::{WrittenFact, WrittenRule, WrittenTerm, WrittenVariable};
 use sp_term::term::{Name, Term, Variable};
 use std::alloc::{AllocError, Global};
 

@@ -1,18 +1,32 @@
 use super::*;
 use sp_fact::fact::{Action, Fact};
-use sp_read_theory::read_theory;
+use sp_lex::{Sign, tokens};
+use sp_read_parts::facts::fact_list;
+use sp_read_parts::{WrittenFact, WrittenRule};
 use sp_term::term::{Sort, Term};
 use std::alloc::Global;
 
-/// The first rule of a text, with its variables numbered.
-fn rule(alloc: Global, text: &[u8]) -> Option<Rule> {
-    match read_theory(alloc, text) {
-        Ok(Some(theory)) => match theory.rules.first() {
-            Some(rule) => numbered(alloc, rule).ok(),
-            None => None,
-        },
+/// The facts of a text up to its closing bracket, or none where it isn't read.
+fn facts<'a>(alloc: Global, text: &'a [u8]) -> Option<Vec<WrittenFact<'a>>> {
+    let found = match tokens(alloc, text) {
+        Ok(found) => found,
+        Err(_) => return None,
+    };
+    match fact_list(alloc, Sign::CloseList, &found, 0) {
+        Ok(Some((facts, _))) => Some(facts),
         _ => None,
     }
+}
+
+/// The rule of these facts, with its variables numbered.
+fn rule(alloc: Global, premises: &[u8], actions: &[u8], conclusions: &[u8]) -> Option<Rule> {
+    let written = WrittenRule {
+        name: "Make",
+        premises: facts(alloc, premises)?,
+        actions: facts(alloc, actions)?,
+        conclusions: facts(alloc, conclusions)?,
+    };
+    numbered(alloc, &written).ok()
 }
 
 /// The sort and the number of the variable at this place, or none where there is no variable.
@@ -49,9 +63,13 @@ fn is_declared(rule: &Rule, number: usize, name: &str, sort: Sort) -> bool {
 
 #[test]
 fn numbers_variables_in_first_seen_order(rt: HostRuntime) {
-    let text: &[u8] =
-        b"theory T begin rule Make: [ Fr(k), !In1('c',x) ] --[ Made($a,~k) ]-> [ Out1(x,a) ] end";
-    let Some(rule) = rule(rt.alloc(), text) else {
+    let read = rule(
+        rt.alloc(),
+        b"Fr(k), !In1('c',x) ]",
+        b"Made($a,~k) ]",
+        b"Out1(x,a) ]",
+    );
+    let Some(rule) = read else {
         assert_eq!(rt; true, false);
         return;
     };

@@ -1,6 +1,6 @@
 use Rattle.std.proofs.Common.{◌≡◌, map, drop}
 use Rattle.sp_spec.specs.Findings as findings
-use Rattle.sp_read_theory.specs.Views as view
+use Rattle.sp_read_parts.specs.Views as view
 use Rattle.sp_finding.proofs.rule.is_named.Given as goal
 
 abbrev pub invariant-loop-variable : goal.invariant-loop-variable

@@ -1,6 +1,6 @@
 use Rattle.std.proofs.Common.{◌≡◌, map, drop, ◌++◌}
 use Rattle.sp_spec.specs.Written.{in_terms}
-use Rattle.sp_read_theory.specs.Views as view
+use Rattle.sp_read_parts.specs.Views as view
 use Rattle.sp_read_parts.specs.Shapes.{row}
 use Rattle.sp_finding.proofs.variables.gather.Given as goal
 

@@ -1,6 +1,6 @@
 use Rattle.std.proofs.Common.{◌≡◌, map, drop, ◌++◌}
 use Rattle.sp_spec.specs.Written.{in_facts}
-use Rattle.sp_read_theory.specs.Views as view
+use Rattle.sp_read_parts.specs.Views as view
 use Rattle.sp_finding.proofs.variables.gather_all.Given as goal
 
 abbrev pub invariant-loop-fact : goal.invariant-loop-fact

@@ -1,6 +1,6 @@
 use Rattle.std.proofs.Common.{◌≡◌, map, drop}
 use Rattle.sp_spec.specs.Written as written
-use Rattle.sp_read_theory.specs.Views as view
+use Rattle.sp_read_parts.specs.Views as view
 use Rattle.sp_term.specs.View.{sort_of}
 use Rattle.sp_finding.proofs.variables.is_written.Given as goal
 

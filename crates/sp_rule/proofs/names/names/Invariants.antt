@@ -1,6 +1,6 @@
 use Rattle.std.proofs.Common.{◌≡◌, [], map, drop}
 use Rattle.sp_spec.specs.Written as written
-use Rattle.sp_read_theory.specs.Views as view
+use Rattle.sp_read_parts.specs.Views as view
 use Rattle.sp_rule.specs.View.{texts_of}
 use Rattle.sp_rule.proofs.names.names.Given as goal
 

@@ -2,7 +2,7 @@ use Rattle.std.proofs.Common.{◌≡◌, take, map}
 use Rattle.sp_spec.specs.Rule.{action_at}
 use Rattle.sp_spec.specs.Written.{numbered_in}
 use Rattle.sp_read_parts.specs.Shapes as shapes
-use Rattle.sp_read_theory.specs.Views as written
+use Rattle.sp_read_parts.specs.Views as written
 use Rattle.sp_fact.specs.View.{action_of}
 use Rattle.sp_rule.proofs.numbering.actions_numbered.Given as goal
 

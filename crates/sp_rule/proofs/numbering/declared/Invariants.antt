@@ -1,5 +1,5 @@
 use Rattle.std.proofs.Common.{◌≡◌, take, map}
-use Rattle.sp_read_theory.specs.Views as written
+use Rattle.sp_read_parts.specs.Views as written
 use Rattle.sp_rule.specs.View.{declared_of, declared_in, texts_of}
 use Rattle.sp_rule.proofs.numbering.declared.Given as goal
 

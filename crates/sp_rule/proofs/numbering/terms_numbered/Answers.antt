@@ -1,7 +1,7 @@
 use Rattle.std.proofs.Common.{arith}
 use Rattle.std.proofs.lemmas.Grind.{common_steps}
 use Rattle.sp_spec.specs.Written.{numbered_in}
-use Rattle.sp_read_theory.specs.Views as written
+use Rattle.sp_read_parts.specs.Views as written
 use Rattle.sp_rule.proofs.Each.{valued_each}
 use Rattle.sp_rule.proofs.numbering.terms_numbered.Goals as goal
 

@@ -1,7 +1,7 @@
 use Rattle.std.proofs.Common.{◌≡◌, take, map}
 use Rattle.sp_spec.specs.Term.{valued}
 use Rattle.sp_spec.specs.Written.{numbered_in}
-use Rattle.sp_read_theory.specs.Views as written
+use Rattle.sp_read_parts.specs.Views as written
 use Rattle.sp_term.specs.View.{view}
 use Rattle.sp_rule.proofs.numbering.terms_numbered.Given as goal
 

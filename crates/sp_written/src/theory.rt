@@ -1,0 +1,43 @@
+use crate::proof::WrittenProof;
+use sp_read_parts::{ReadFormula, WrittenRule};
+
+/// Whether a lemma speaks of all traces, or says that there is one.
+#[derive(Clone, Copy)]
+pub enum TraceKind {
+    AllTraces,
+    ExistsTrace,
+}
+
+/// Where the proof of a lemma stands in the text.
+#[derive(Clone, Copy, PartialEq, Eq)]
+pub struct Span {
+    /// the place behind the closing quote of the lemma's formula
+    pub from: usize,
+    /// the place behind the proof; that same place where there is none
+    pub to: usize,
+}
+
+/// A lemma as it is written.
+#[derive(Drop)]
+pub struct WrittenLemma<'a> {
+    pub name: &'a str,
+    pub kind: TraceKind,
+    pub formula: ReadFormula<'a>,
+    pub proof: Option<WrittenProof<'a>>,
+    pub span: Span,
+}
+
+/// An item of a theory.
+#[derive(Drop)]
+pub enum Item<'a> {
+    Rule(WrittenRule<'a>),
+    Lemma(WrittenLemma<'a>),
+}
+
+/// A theory as it is written, and the place in the text behind its word `end`.
+#[derive(Drop)]
+pub struct ReadTheory<'a> {
+    pub name: &'a str,
+    pub items: Vec<Item<'a>>,
+    pub behind_end: usize,
+}
