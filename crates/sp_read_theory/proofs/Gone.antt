@@ -1,74 +1,92 @@
 -- Items that are read one after the other.
-use Rattle.std.proofs.Common.{◌≡◌, ℕ, false, List, [], ◌∷◌, ◌++◌, codes, refl, sym, ap, subst, ◌∙◌, append_assoc}
+use Rattle.std.proofs.Common.{◌≡◌, List, [], ◌∷◌, ◌++◌, codes, refl, ap, subst, ◌∙◌, append_assoc}
 use Rattle.std.proofs.lemmas.List.{append-nil}
 use Rattle.sp_lex.specs.Lexeme.{Lexeme, word, Token}
 use Rattle.sp_lex.specs.Lex.{lexemes}
-use Rattle.sp_spec.specs.Theory.{Lemma}
 use Rattle.sp_spec.specs.Written.{WrittenRule}
+use Rattle.sp_written.specs.Text.{Item, rule_item}
+use Rattle.sp_written.specs.declared.theory.Item as rust
+use Rattle.sp_written.specs.declared.theory.Item.TheVariants as i
+use Rattle.sp_written.specs.declared.theory.Span.{Span}
 use Rattle.sp_read_parts.specs.Lists.{IsNotFirst, NoReading}
 use Rattle.sp_read_theory.specs.Grammar.{SpellsRule, SpellsLemma, SpellsItems, no_item, rule_first, lemma_first}
-use Rattle.sp_read_theory.specs.Items.{the_end, AreItemsToEnd, NoItems}
-use Rattle.sp_read_theory.specs.Places.{closing}
-use Rattle.sp_read_theory.proofs.One.{rule_not_end, lemma_not_end, behind_rule, behind_lemma}
+use Rattle.sp_read_theory.specs.Items.{ReadsItem, a_rule, a_lemma, NoItem, the_end, AreItemsToEnd, NoItems}
+use Rattle.sp_read_theory.specs.Places.{EndsWith, AreSpans, no_span, past_rule, past_lemma}
+use Rattle.sp_read_theory.specs.Views as view
+use Rattle.sp_read_theory.proofs.One.{rule_not_end, lemma_not_end, Behind, behind_rule, behind_lemma}
+use Rattle.sp_read_theory.proofs.Suffix.{ends_with}
 
--- these rules and lemmas stand before the rest
-pub record Gone (tokens : List Lexeme) (rs : List WrittenRule) (ls : List Lemma) (rest : List Lexeme) : Type 0 where
-  pub goes : (qs : List WrittenRule) (ms : List Lemma) → AreItemsToEnd rest qs ms → AreItemsToEnd tokens (rs ++ qs) (ls ++ ms)
-  pub stops : NoItems rest → NoItems tokens
+-- these items stand before the rest, and the proofs of their lemmas have these spans
+pub record Gone (tokens : List Token) (items : List Item) (spans : List Span) (rest : List Token) : Type 0 where
+  pub goes : (others : List Item) → AreItemsToEnd (lexemes rest) others → AreItemsToEnd (lexemes tokens) (items ++ others)
+  pub places : (others : List Item) (more : List Span) → AreSpans rest others more → AreSpans tokens (items ++ others) (spans ++ more)
+  pub stops : NoItems (lexemes rest) → NoItems (lexemes tokens)
 
-pub gone_none : (tokens : List Lexeme) → Gone tokens [] [] tokens
-gone_none tokens = record { goes = λ qs ms h. h; stops = λ h. h }
+pub gone_none : (tokens : List Token) → Gone tokens [] [] tokens
+gone_none tokens = record { goes = λ xs h. h; places = λ xs ss h. h; stops = λ h. h }
 
-pub gone_rule : {tokens rest mid : List Lexeme} {rs : List WrittenRule} {ls : List Lemma} {r : WrittenRule} → Gone tokens rs ls rest → SpellsRule rest r mid → Gone tokens (rs ++ r ∷ []) ls mid
-gone_rule {r = r} g h = record {
-  goes = λ qs ms k. rw append_assoc (g.goes (r ∷ qs) ms (rule_first h k));
-  stops = λ n. g.stops (record { none = λ qs ms k. let b = behind_rule h k in n.none b.others ms b.items });
+-- ---- one item
+
+before_items : {tokens rest : List Token} {x : Item} {spans : List Span} {others : List Item} → ReadsItem tokens x spans rest → AreItemsToEnd (lexemes rest) others → AreItemsToEnd (lexemes tokens) (x ∷ others)
+before_items (a_rule r e) h = rule_first r h
+before_items (a_lemma l b p) h = lemma_first l p.spells h
+
+before_spans : {tokens rest : List Token} {x : Item} {spans more : List Span} {others : List Item} → ReadsItem tokens x spans rest → AreSpans rest others more → AreSpans tokens (x ∷ others) (spans ++ more)
+before_spans (a_rule r e) h = past_rule r e h
+before_spans (a_lemma l b p) h = past_lemma l b p.spells p.ends h
+
+behind_item : {tokens rest : List Token} {x : Item} {spans : List Span} {items : List Item} → ReadsItem tokens x spans rest → AreItemsToEnd (lexemes tokens) items → Behind x (lexemes rest) items
+behind_item (a_rule r e) h = behind_rule r h
+behind_item (a_lemma l b p) h = behind_lemma l p.spells p.greedy h
+
+pub gone_item : {tokens rest mid : List Token} {items : List Item} {spans more : List Span} {x : Item} → Gone tokens items spans rest → ReadsItem rest x more mid → Gone tokens (items ++ x ∷ []) (spans ++ more) mid
+gone_item {x = x} g r = record {
+  goes = λ xs h. rw append_assoc (g.goes (x ∷ xs) (before_items r h));
+  places = λ xs ss h. rw (append_assoc, append_assoc) (g.places (x ∷ xs) _ (before_spans r h));
+  stops = λ n. g.stops (record { none = λ xs h. let b = behind_item r h in n.none b.others b.spelled });
 }
 
-pub gone_lemma : {tokens rest mid : List Lexeme} {rs : List WrittenRule} {ls : List Lemma} {l : Lemma} → Gone tokens rs ls rest → SpellsLemma rest l mid → Gone tokens rs (ls ++ l ∷ []) mid
-gone_lemma {l = l} g h = record {
-  goes = λ qs ms k. rw append_assoc (g.goes qs (l ∷ ms) (lemma_first h k));
-  stops = λ n. g.stops (record { none = λ qs ms k. let b = behind_lemma h k in n.none qs b.others b.items });
-}
+-- a rule has no proof, a lemma one span
+pub spans_more : (xs ys : List rust.Item) → view.spans (xs ++ ys) ≡ view.spans xs ++ view.spans ys
+spans_more [] ys = refl
+spans_more (i.Rule r ∷ xs) ys = spans_more xs ys
+spans_more (i.Lemma l ∷ xs) ys = ap (λ (ss : List Span). l.span ∷ ss) (spans_more xs ys)
 
-pub gone_all : {tokens rest : List Lexeme} {rs : List WrittenRule} {ls : List Lemma} → Gone tokens rs ls rest → rest ≡ the_end → AreItemsToEnd tokens rs ls
-gone_all {tokens} {rs = rs} {ls = ls} g e =
-    subst (λ (qs : List WrittenRule). AreItemsToEnd tokens qs ls) (append-nil rs) (subst (λ (ms : List Lemma). AreItemsToEnd tokens (rs ++ []) ms) (append-nil ls) (g.goes [] [] (rw e no_item)))
+pub rule_item_at : {r : WrittenRule} {tokens rest : List Token} → SpellsRule (lexemes tokens) r (lexemes rest) → EndsWith tokens rest → ReadsItem tokens (rule_item r) [] rest
+rule_item_at h e = a_rule h e
+
+pub no_item_at : {tokens : List Lexeme} → NoReading SpellsRule tokens → NoReading SpellsLemma tokens → NoItem tokens
+no_item_at n m = record { no_rule = n; no_lemma = m }
+
+pub ruleset one_item = (rule_item_at, no_item_at, ends_with)
+
+-- ---- the end
+
+pub gone_all : {tokens rest : List Token} {items : List Item} {spans : List Span} → Gone tokens items spans rest → lexemes rest ≡ the_end → AreItemsToEnd (lexemes tokens) items
+gone_all {tokens} {items = items} g e = subst (λ (xs : List Item). AreItemsToEnd (lexemes tokens) xs) (append-nil items) (g.goes [] (rw e no_item))
+
+pub gone_places : {tokens rest : List Token} {items : List Item} {spans : List Span} → Gone tokens items spans rest → AreSpans tokens items spans
+gone_places {tokens} {items = items} {spans = spans} g =
+    subst (λ (xs : List Item). AreSpans tokens xs spans) (append-nil items) (subst (λ (ss : List Span). AreSpans tokens (items ++ []) ss) (append-nil spans) (g.places [] [] no_span))
 
 -- another token is left behind the end
-pub gone_too_far : {tokens rest after : List Lexeme} {rs : List WrittenRule} {ls : List Lemma} → Gone tokens rs ls rest → rest ≡ word (codes "end") ∷ after → (after ≡ [] → ⊥) → NoItems tokens
-gone_too_far g e d = g.stops (record { none = λ qs ms k. at k refl e d })
+pub gone_too_far : {tokens rest : List Token} {after : List Lexeme} {items : List Item} {spans : List Span} → Gone tokens items spans rest → lexemes rest ≡ word (codes "end") ∷ after → (after ≡ [] → ⊥) → NoItems (lexemes tokens)
+gone_too_far g e d = g.stops (record { none = λ xs h. at h refl e d })
   where
-    at : {rest after xs : List Lexeme} {qs : List WrittenRule} {ms : List Lemma} → SpellsItems rest qs ms xs → xs ≡ the_end → rest ≡ word (codes "end") ∷ after → (after ≡ [] → ⊥) → ⊥
+    at : {rest after ends : List Lexeme} {xs : List Item} → SpellsItems rest xs ends → ends ≡ the_end → rest ≡ word (codes "end") ∷ after → (after ≡ [] → ⊥) → ⊥
     at no_item f e d = d cc
-    at (rule_first h k) f e d = rule_not_end h e
-    at (lemma_first h k) f e d = lemma_not_end h e
+    at (rule_first r h) f e d = rule_not_end r e
+    at (lemma_first l p h) f e d = lemma_not_end l e
 
-pub gone_nowhere : {tokens rest : List Lexeme} {rs : List WrittenRule} {ls : List Lemma} → Gone tokens rs ls rest → IsNotFirst (word (codes "end")) rest → NoReading SpellsRule rest → NoReading SpellsLemma rest → NoItems tokens
-gone_nowhere g d a b = g.stops (record { none = λ qs ms k. at k refl d a b })
+pub gone_nowhere : {tokens rest : List Token} {items : List Item} {spans : List Span} → Gone tokens items spans rest → IsNotFirst (word (codes "end")) (lexemes rest) → NoItem (lexemes rest) → NoItems (lexemes tokens)
+gone_nowhere g d n = g.stops (record { none = λ xs h. at h refl d n })
   where
-    at : {rest xs : List Lexeme} {qs : List WrittenRule} {ms : List Lemma} → SpellsItems rest qs ms xs → xs ≡ the_end → IsNotFirst (word (codes "end")) rest → NoReading SpellsRule rest → NoReading SpellsLemma rest → ⊥
-    at no_item f d a b = d [] f
-    at (rule_first {r = r} {mid = m} h k) f d a b = a.none r m h
-    at (lemma_first {l = l} {mid = m} h k) f d a b = b.none l m h
-
-pub ruleset all_items = (gone_none, gone_nowhere)
-
-pub none_closed : (ts : List Token) → lexemes ts ≡ the_end → closing false ts ≡ []
-none_closed [] e = absurd cc
-none_closed (t ∷ []) e = let f : t.lexeme ≡ word (codes "end") = cc in rw f refl
-none_closed (t ∷ u ∷ ts) e = absurd cc
+    at : {rest ends : List Lexeme} {xs : List Item} → SpellsItems rest xs ends → ends ≡ the_end → IsNotFirst (word (codes "end")) rest → NoItem rest → ⊥
+    at no_item f d n = d [] f
+    at (rule_first {r = r} {mid = m} k h) f d n = n.no_rule.none r m k
+    at (lemma_first {l = l} {behind = b} k p h) f d n = n.no_lemma.none l b k
 
 pub nothing_follows : {tokens last : List Lexeme} → tokens ≡ word (codes "end") ∷ last → last ≡ [] → tokens ≡ the_end
 nothing_follows e f = e ∙ ap (λ (ts : List Lexeme). word (codes "end") ∷ ts) f
 
--- ---- the places behind the formulas so far, and those that follow
-
-pub before_rule : {all rest next : List ℕ} (found : List ℕ) → all ≡ found ++ rest → rest ≡ next → all ≡ found ++ next
-before_rule f e h = e ∙ ap (λ (ps : List ℕ). f ++ ps) h
-
-pub before_lemma : {all more rest next : List ℕ} {place : ℕ} (found : List ℕ) → all ≡ found ++ rest → rest ≡ place ∷ next → more ≡ found ++ place ∷ [] → all ≡ more ++ next
-before_lemma f e h k = rw (k, append_assoc) (before_rule f e h)
-
-pub before_end : {all rest : List ℕ} (found : List ℕ) → all ≡ found ++ rest → rest ≡ [] → found ≡ all
-before_end {all} f e h = let k : all ≡ f ++ [] = before_rule f e h in sym (rw append-nil at k)
+pub ruleset all_items = (gone_none, gone_nowhere)

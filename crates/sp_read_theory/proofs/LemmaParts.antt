@@ -1,16 +1,21 @@
--- Lemmas from their parts, and each part that may be missing.
-use Rattle.std.proofs.Common.{◌≡◌, ℕ, List, ◌∷◌, codes, refl, sym, ◌∙◌}
+-- Lemmas from their parts, with their proofs, and each part that may be missing.
+use Rattle.std.proofs.Common.{◌≡◌, ℕ, List, [], ◌∷◌, Option, Some, None, codes, refl, sym, subst, ◌∙◌}
 use Rattle.sp_lex.specs.declared.token.Sign.TheVariants as s
-use Rattle.sp_lex.specs.Lexeme.{Lexeme, word, sign}
+use Rattle.sp_lex.specs.Lexeme.{Lexeme, word, sign, Token}
+use Rattle.sp_lex.specs.Lex.{lexemes}
 use Rattle.sp_spec.specs.Formula.{Formula}
 use Rattle.sp_spec.specs.Theory.{TraceKind, all_traces, exists_trace, Lemma}
 use Rattle.sp_read_parts.specs.Lists.{IsNotFirst, NoReading}
 use Rattle.sp_read_parts.specs.Closed.{IsClosed}
 use Rattle.sp_read_parts.proofs.One.{One}
 use Rattle.sp_read_parts.proofs.Sequence.{Then, no_first, no_second, Becomes, no_whole}
+use Rattle.sp_written.specs.Text.{WrittenProof, lemma_item}
+use Rattle.sp_written.specs.declared.theory.Span.{Span}
+use Rattle.sp_read_proof.specs.Grammar.{SpellsProof}
 use Rattle.sp_read_theory.specs.Grammar as g
 use Rattle.sp_read_theory.specs.Grammar.{SpellsKind, SpellsLemma}
-use Rattle.sp_read_theory.specs.Items.{IsHeader, header, Dashed, NotDashed, IsKind}
+use Rattle.sp_read_theory.specs.Items.{IsHeader, header, Dashed, NotDashed, IsKind, ReadsProofPart, ReadsItem, a_lemma}
+use Rattle.sp_read_theory.specs.Places.{IsBehind}
 use Rattle.sp_read_theory.proofs.One.{header_one, kinds}
 
 -- ---- two words and a dash
@@ -84,3 +89,19 @@ pub lemma_no_formula : {w : List ℕ} {k : TraceKind} {tokens mid body : List Le
 lemma_no_formula h k n = no_whole lemma_parts (no_second headers h (no_second kinds k n))
 
 pub ruleset whole_lemmas = (lemma_at, lemma_no_header, lemma_no_kind, lemma_no_formula)
+
+-- ---- the proof behind a lemma
+
+pub no_proof_there : {behind : List Token} {span : Span} → NoReading SpellsProof (lexemes behind) → span.to ≡ span.from → ReadsProofPart behind None span behind
+no_proof_there n e = record { spells = g.no_proof; greedy = n; ends = (refl, e) }
+
+pub proof_there : {behind rest : List Token} {p : WrittenProof} {span : Span} → SpellsProof (lexemes behind) p (lexemes rest) → IsBehind behind rest span.to → ReadsProofPart behind (Some p) span rest
+proof_there h b = record { spells = g.a_proof h; greedy = tt; ends = b }
+
+pub ruleset proof_parts = (no_proof_there, proof_there)
+
+pub proved_lemma : {l : Lemma} {p : Option WrittenProof} {place : ℕ} {span : Span} {tokens behind rest : List Token} → SpellsLemma (lexemes tokens) l (lexemes behind) → IsBehind tokens behind place → ReadsProofPart behind p span rest → span.from ≡ place
+    → ReadsItem tokens (lemma_item l p) (span ∷ []) rest
+proved_lemma {tokens = ts} {behind = us} h b r e = a_lemma h (subst (λ (q : ℕ). IsBehind ts us q) (sym e) b) r
+
+pub ruleset proved_lemmas = (proved_lemma)

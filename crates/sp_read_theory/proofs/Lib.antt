@@ -1,7 +1,7 @@
 pub mod One
 pub mod RuleParts
 pub mod LemmaParts
-pub mod Quotes
-pub mod Closing
+pub mod Suffix
+pub mod Spans
 pub mod Gone
 pub mod Whole

@@ -1,88 +1,88 @@
 -- Whole texts.
-use Rattle.std.proofs.Common.{◌≡◌, ℕ, ◌+◌, ◌<◌, ◌≤◌, Bool, true, false, cond, List, [], length, drop, sym, subst, ◌∙◌, arith}
+use Rattle.std.proofs.Common.{◌≡◌, ℕ, ◌≤◌, List, ◌∷◌, length, drop, codes, refl, sym, ap, subst, ◌∙◌, arith}
+use Rattle.std.proofs.lemmas.List.{drop-map}
 use Rattle.sp_lex.specs.declared.token.Token as lexer
-use Rattle.sp_lex.specs.Views.{tokens_of}
-use Rattle.sp_lex.specs.Lexeme.{Lexeme, Token}
-use Rattle.sp_lex.specs.Lex.{AreTokens, no_more, last, next, IsFault, lexemes}
-use Rattle.sp_lex.specs.Places.{place_behind, is_any, is_quote, behind_all}
+use Rattle.sp_lex.specs.declared.token.FaultKind.{FaultKind}
+use Rattle.sp_lex.specs.Views.{token_of, tokens_of}
+use Rattle.sp_lex.specs.Lexeme.{Lexeme, word, Token}
+use Rattle.sp_lex.specs.Lex.{AreTokens, IsFault, lexemes}
+use Rattle.sp_lex.specs.Places.{is_any, behind_all}
 use Rattle.sp_lex.proofs.One.{tokens_one, not_both}
-use Rattle.sp_lex.proofs.Places.{next_shorter, places_in_order}
-use Rattle.sp_spec.specs.Theory.{Lemma}
-use Rattle.sp_spec.specs.Written.{WrittenRule, WrittenTheory}
+use Rattle.sp_lex.proofs.Places.{places_in_order}
 use Rattle.sp_read_parts.specs.Lists.{NoReading}
+use Rattle.sp_written.specs.Text.{Item, WrittenText}
+use Rattle.sp_written.specs.declared.theory.Span.{Span}
 use Rattle.sp_read_theory.specs.Grammar.{SpellsTheory, theory}
 use Rattle.sp_read_theory.specs.Items.{IsOpening, opening, AreItemsToEnd, NoItems, NoTheory}
-use Rattle.sp_read_theory.specs.Places.{closing, Rise}
+use Rattle.sp_read_theory.specs.Places.{AreSpans, Rise}
 use Rattle.sp_read_theory.specs.Text.{IsTextOf, IsNoText, ArePlaces}
 use Rattle.sp_read_theory.specs.Views.{seen_from}
 use Rattle.sp_read_theory.proofs.One.{opening_one, theory_one}
-use Rattle.sp_read_theory.proofs.Quotes.{opening_free}
-use Rattle.sp_read_theory.proofs.Closing.{skipped}
+use Rattle.sp_read_theory.proofs.Suffix.{three_further}
+use Rattle.sp_read_theory.proofs.Spans.{spans_one, rise, rising, dropped}
 
 -- ---- tokens
 
-pub theory_at : {w : List ℕ} {rs : List WrittenRule} {ls : List Lemma} {tokens body : List Lexeme} → IsOpening tokens w body → AreItemsToEnd body rs ls → SpellsTheory tokens (record { name = w; rules = rs; restrictions = []; lemmas = ls })
+pub theory_at : {w : List ℕ} {items : List Item} {tokens body : List Lexeme} → IsOpening tokens w body → AreItemsToEnd body items → SpellsTheory tokens (record { name = w; items = items })
 theory_at (opening h) k = theory h k
 
 pub theory_no_opening : {tokens : List Lexeme} → NoReading IsOpening tokens → NoTheory tokens
 theory_no_opening n = record { none = λ t h. at h n }
   where
-    at : {tokens : List Lexeme} {t : WrittenTheory} → SpellsTheory tokens t → NoReading IsOpening tokens → ⊥
+    at : {tokens : List Lexeme} {t : WrittenText} → SpellsTheory tokens t → NoReading IsOpening tokens → ⊥
     at (theory {w = w} {tokens = ts} h k) n = n.none w ts (opening h)
 
 pub theory_no_items : {w : List ℕ} {tokens body : List Lexeme} → IsOpening tokens w body → NoItems body → NoTheory tokens
 theory_no_items i n = record { none = λ t h. at h i n }
   where
-    at : {w : List ℕ} {tokens body : List Lexeme} {t : WrittenTheory} → SpellsTheory tokens t → IsOpening tokens w body → NoItems body → ⊥
-    at (theory {rs = rs} {ls = ls} h k) i n = n.none rs ls (subst (λ (ts : List Lexeme). AreItemsToEnd ts rs ls) (opening_one (opening h) i).1 k)
-
-pub all_places : {w ps : List ℕ} (xs : List lexer.Token) (body : ℕ) → IsOpening (seen_from xs 0) w (seen_from xs body) → ps ≡ closing false (tokens_of (drop body xs)) → ps ≡ closing false (tokens_of xs)
-all_places xs body h e = e ∙ sym (skipped xs 0 body false (omega arith) (opening_free h))
+    at : {w : List ℕ} {tokens body : List Lexeme} {t : WrittenText} → SpellsTheory tokens t → IsOpening tokens w body → NoItems body → ⊥
+    at (theory {items = xs} h k) i n = n.none xs (subst (λ (ts : List Lexeme). AreItemsToEnd ts xs) (opening_one (opening h) i).1 k)
 
 pub ruleset wholes = (theory_at, theory_no_opening, theory_no_items)
 
+-- the items stand behind three tokens
+opening_size : {w : List ℕ} {tokens body : List Lexeme} → IsOpening tokens w body → (xs : List lexer.Token) (i : ℕ) → i ≤ length xs → tokens ≡ seen_from xs 0 → body ≡ seen_from xs i → i ≡ 3
+opening_size (opening {w = w} h) xs i le e f = three_further xs i le (sym e ∙ ap (λ (ts : List Lexeme). word (codes "theory") ∷ word w ∷ word (codes "begin") ∷ ts) f)
+
+pub all_spans : {w : List ℕ} {items : List Item} {spans : List Span} (xs : List lexer.Token) (i : ℕ) → i ≤ length xs → IsOpening (seen_from xs 0) w (seen_from xs i) → AreSpans (tokens_of (drop i xs)) items spans → AreSpans (drop 3 (tokens_of xs)) items spans
+all_spans {items = items} {spans = spans} xs i le h k =
+    let e = opening_size h xs i le refl refl in
+    let f : AreSpans (tokens_of (drop 3 xs)) items spans = subst (λ (j : ℕ). AreSpans (tokens_of (drop j xs)) items spans) e k in
+    subst (λ (ts : List Token). AreSpans ts items spans) (sym (drop-map token_of 3 xs)) f
+
 -- ---- texts
 
-pub text_of : {text : List ℕ} {ts : List Token} {t : WrittenTheory} → AreTokens (length text) text ts → SpellsTheory (lexemes ts) t → IsTextOf text t
+pub text_of : {text : List ℕ} {ts : List Token} {t : WrittenText} → AreTokens (length text) text ts → SpellsTheory (lexemes ts) t → IsTextOf text t
 text_of {ts = ts} h k = record { tokens = ts; cut = h; spells = k }
 
 pub text_no_theory : {text : List ℕ} {ts : List Token} → AreTokens (length text) text ts → NoTheory (lexemes ts) → IsNoText text
 text_no_theory h n = record { none = λ t k. n.none t (subst (λ (us : List Token). SpellsTheory (lexemes us) t) (tokens_one k.cut h) k.spells) }
 
-pub text_no_tokens : {text : List ℕ} {place : ℕ} → IsFault (length text) text place → IsNoText text
+pub text_no_tokens : {text : List ℕ} {place : ℕ} {kind : FaultKind} → IsFault (length text) text place kind → IsNoText text
 text_no_tokens h = record { none = λ t k. not_both k.cut h }
 
-pub text_places : {text : List ℕ} {ts : List Token} {ps : List ℕ} {b : ℕ} → AreTokens (length text) text ts → ps ≡ closing false ts → b ≡ behind_all ts → ArePlaces text ps b
-text_places {ts = ts} h e f = record { tokens = ts; cut = h; lemmas = e; theory = f }
+pub text_places : {text : List ℕ} {ts : List Token} {t : WrittenText} {spans : List Span} {b : ℕ} → AreTokens (length text) text ts → AreSpans (drop 3 ts) t.items spans → b ≡ behind_all ts → ArePlaces text t spans b
+text_places {ts = ts} h k e = record { tokens = ts; cut = h; spans_are = k; end_is = e }
 
-pub text_one : {text : List ℕ} {t u : WrittenTheory} → IsTextOf text t → IsTextOf text u → t ≡ u
+pub text_one : {text : List ℕ} {t u : WrittenText} → IsTextOf text t → IsTextOf text u → t ≡ u
 text_one {u = u} h k = theory_one h.spells (subst (λ (us : List Token). SpellsTheory (lexemes us) u) (tokens_one k.cut h.cut) k.spells)
+
+pub places_one : {text : List ℕ} {t : WrittenText} {ss rs : List Span} {a b : ℕ} → ArePlaces text t ss a → ArePlaces text t rs b → (ss ≡ rs) × (a ≡ b)
+places_one {t = t} {rs = rs} {b = b} h k =
+    let e = tokens_one k.cut h.cut in
+    let f : b ≡ behind_all h.tokens = subst (λ (us : List Token). b ≡ behind_all us) e k.end_is in
+    (spans_one h.spans_are (subst (λ (us : List Token). AreSpans (drop 3 us) t.items rs) e k.spans_are), h.end_is ∙ sym f)
 
 -- ---- the order of the places
 
-pick : (q : Bool) (a b : ℕ) (xs ys : List ℕ) → Rise a xs b → Rise a ys b → Rise a (cond q xs ys) b
-pick true a b xs ys h k = h
-pick false a b xs ys h k = k
+items_spelled : {tokens : List Lexeme} {t : WrittenText} → SpellsTheory tokens t → AreItemsToEnd (drop 3 tokens) t.items
+items_spelled (theory h k) = k
 
--- each token ends behind the one before it
-rises : {size : ℕ} {bytes : List ℕ} {ts : List Token} (open' : Bool) (a b : ℕ) → AreTokens size bytes ts → a ≤ b → b + length bytes ≤ size → Rise a (closing open' ts) (place_behind is_any b ts)
-rises open' a b (no_more e) le in_text = le
-rises true a b (last {t = t} n e) le in_text = let k = n.end in let lt = next_shorter n in let c : a < t.end = omega arith in pick (is_quote t.lexeme) _ _ _ _ (c, omega arith) (omega arith)
-rises false a b (last {t = t} n e) le in_text = let k = n.end in let lt = next_shorter n in let c : a ≤ t.end = omega arith in pick (is_quote t.lexeme) _ _ _ _ c c
-rises true a b (next {t = t} n e h) le in_text =
-    let k = n.end in
-    let lt = next_shorter n in
-    let c : a < t.end = omega arith in
-    pick (is_quote t.lexeme) _ _ _ _ (c, rises false t.end t.end h (omega arith) (omega arith)) (rises true a t.end h (omega arith) (omega arith))
-rises false a b (next {t = t} n e h) le in_text =
-    let k = n.end in
-    let lt = next_shorter n in
-    let c : a ≤ t.end = omega arith in
-    pick (is_quote t.lexeme) _ _ _ _ (rises true a t.end h c (omega arith)) (rises false a t.end h c (omega arith))
-
-pub places_ordered : {text : List ℕ} {ts : List Token} {ps : List ℕ} {b : ℕ} → AreTokens (length text) text ts → ps ≡ closing false ts → b ≡ behind_all ts → Rise 0 ps b × (b ≤ length text)
-places_ordered {text} {ts} h e f =
-    let o = places_in_order is_quote 0 0 h (omega arith) (omega arith) in
-    (rw (e, f) (rises false 0 0 h (omega arith) (omega arith)), rw f (o.1))
+pub places_ordered : {text : List ℕ} {ts : List Token} {t : WrittenText} {spans : List Span} {b : ℕ} → AreTokens (length text) text ts → SpellsTheory (lexemes ts) t → AreSpans (drop 3 ts) t.items spans → b ≡ behind_all ts → Rise text 0 spans b × (b ≤ length text)
+places_ordered {text} {ts} {t} {spans} h k s e =
+    let o = places_in_order is_any 0 0 h (omega arith) (omega arith) in
+    let r = rising 0 0 h (omega arith) (omega arith) in
+    let i : AreItemsToEnd (lexemes (drop 3 ts)) t.items = subst (λ (us : List Lexeme). AreItemsToEnd us t.items) (drop-map (λ (t : Token). t.lexeme) 3 ts) (items_spelled k) in
+    (subst (λ (a : ℕ). Rise text 0 spans a) (sym e) (rise text s i refl (dropped 3 ts r.0)), rw e o.1)
 
 pub ruleset texts = (text_of, text_no_theory, text_no_tokens, text_places, places_ordered)

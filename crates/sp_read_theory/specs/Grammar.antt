@@ -1,17 +1,19 @@
 -- The grammar of theories without an adversary, line by line: which tokens spell which theory. `SpellsX tokens x rest` says that the tokens
 -- begin with a spelling of x, and that the rest follows. Below stand facts and formulas (sp_read_parts, specs/Grammar.antt).
--- Comments and the proofs below lemmas are not in it. Source: Tamarin manual, "Syntax description".
-use Rattle.std.specs.Prelude.{ℕ, List, [], ◌∷◌, codes}
+-- Proofs have a grammar of their own (sp_read_proof, specs/Grammar.antt). Source: Tamarin manual, "Syntax description".
+use Rattle.std.specs.Prelude.{ℕ, List, [], ◌∷◌, Option, Some, None, codes}
 use Rattle.sp_lex.specs.declared.token.Sign.TheVariants as s
 use Rattle.sp_lex.specs.Lexeme.{Lexeme, word, sign}
 use Rattle.sp_spec.specs.Rule.{Fact}
 use Rattle.sp_spec.specs.Formula.{Written, Formula}
 use Rattle.sp_spec.specs.Theory.{TraceKind, all_traces, exists_trace, Lemma}
-use Rattle.sp_spec.specs.Written.{WrittenRule, WrittenTheory}
+use Rattle.sp_spec.specs.Written.{WrittenRule}
 use Rattle.sp_read_parts.specs.Names.{IsName}
 use Rattle.sp_read_parts.specs.Lists.{AreItems}
 use Rattle.sp_read_parts.specs.Shapes.{rule_of}
 use Rattle.sp_read_parts.specs.Grammar.{SpellsFact, SpellsFormula}
+use Rattle.sp_written.specs.Text.{WrittenProof, Item, rule_item, lemma_item, WrittenText}
+use Rattle.sp_read_proof.specs.Grammar.{SpellsProof}
 
 -- facts: `[` fact,* `]`
 pub data SpellsFacts : List Lexeme → List (Fact Written) → List Lexeme → Type 0 where
@@ -38,13 +40,18 @@ pub data SpellsLemma : List Lexeme → Lemma → List Lexeme → Type 0 where
   lemma : {w : List ℕ} {kind : TraceKind} {f : Formula} {tokens body rest : List Lexeme} → IsName w → SpellsKind tokens kind (sign s.Quote ∷ body) → SpellsFormula 0 body f (sign s.Quote ∷ rest)
       → SpellsLemma (word (codes "lemma") ∷ word w ∷ sign s.Colon ∷ tokens) (record { name = w; kind = kind; formula = f }) rest
 
--- item*, each a rule or a lemma
-pub data SpellsItems : List Lexeme → List WrittenRule → List Lemma → List Lexeme → Type 0 where
-  no_item : {rest : List Lexeme} → SpellsItems rest [] [] rest
-  rule_first : {r : WrittenRule} {rs : List WrittenRule} {ls : List Lemma} {tokens mid rest : List Lexeme} → SpellsRule tokens r mid → SpellsItems mid rs ls rest → SpellsItems tokens (r ∷ rs) ls rest
-  lemma_first : {l : Lemma} {rs : List WrittenRule} {ls : List Lemma} {tokens mid rest : List Lexeme} → SpellsLemma tokens l mid → SpellsItems mid rs ls rest → SpellsItems tokens rs (l ∷ ls) rest
+-- proof?
+pub data SpellsProofPart : List Lexeme → Option WrittenProof → List Lexeme → Type 0 where
+  no_proof : {rest : List Lexeme} → SpellsProofPart rest None rest
+  a_proof : {p : WrittenProof} {tokens rest : List Lexeme} → SpellsProof tokens p rest → SpellsProofPart tokens (Some p) rest
+
+-- item*, each a rule, or a lemma and proof?
+pub data SpellsItems : List Lexeme → List Item → List Lexeme → Type 0 where
+  no_item : {rest : List Lexeme} → SpellsItems rest [] rest
+  rule_first : {r : WrittenRule} {items : List Item} {tokens mid rest : List Lexeme} → SpellsRule tokens r mid → SpellsItems mid items rest → SpellsItems tokens (rule_item r ∷ items) rest
+  lemma_first : {l : Lemma} {p : Option WrittenProof} {items : List Item} {tokens behind mid rest : List Lexeme} → SpellsLemma tokens l behind → SpellsProofPart behind p mid → SpellsItems mid items rest → SpellsItems tokens (lemma_item l p ∷ items) rest
 
 -- theory: `theory` name `begin` item* `end`
-pub data SpellsTheory : List Lexeme → WrittenTheory → Type 0 where
-  theory : {w : List ℕ} {rs : List WrittenRule} {ls : List Lemma} {tokens : List Lexeme} → IsName w → SpellsItems tokens rs ls (word (codes "end") ∷ [])
-      → SpellsTheory (word (codes "theory") ∷ word w ∷ word (codes "begin") ∷ tokens) (record { name = w; rules = rs; restrictions = []; lemmas = ls })
+pub data SpellsTheory : List Lexeme → WrittenText → Type 0 where
+  theory : {w : List ℕ} {items : List Item} {tokens : List Lexeme} → IsName w → SpellsItems tokens items (word (codes "end") ∷ [])
+      → SpellsTheory (word (codes "theory") ∷ word w ∷ word (codes "begin") ∷ tokens) (record { name = w; items = items })

@@ -1,11 +1,17 @@
 -- The opening of a theory, its items up to the end, and the parts of an item, as they are read.
-use Rattle.std.specs.Prelude.{◌≡◌, ℕ, List, [], ◌∷◌, codes}
+use Rattle.std.specs.Prelude.{◌≡◌, ℕ, List, [], ◌∷◌, Option, Some, None, codes}
 use Rattle.sp_lex.specs.declared.token.Sign.TheVariants as s
-use Rattle.sp_lex.specs.Lexeme.{Lexeme, word, sign}
+use Rattle.sp_lex.specs.Lexeme.{Lexeme, word, sign, Token}
+use Rattle.sp_lex.specs.Lex.{lexemes}
 use Rattle.sp_spec.specs.Theory.{TraceKind, Lemma}
-use Rattle.sp_spec.specs.Written.{WrittenRule, WrittenTheory}
+use Rattle.sp_spec.specs.Written.{WrittenRule}
 use Rattle.sp_read_parts.specs.Names.{IsName}
-use Rattle.sp_read_theory.specs.Grammar.{SpellsKind, SpellsItems, SpellsTheory}
+use Rattle.sp_read_parts.specs.Lists.{NoReading}
+use Rattle.sp_written.specs.Text.{WrittenProof, Item, rule_item, lemma_item, WrittenText}
+use Rattle.sp_written.specs.declared.theory.Span.{Span}
+use Rattle.sp_read_proof.specs.Grammar.{SpellsProof}
+use Rattle.sp_read_theory.specs.Grammar.{SpellsRule, SpellsKind, SpellsLemma, SpellsProofPart, SpellsItems, SpellsTheory}
+use Rattle.sp_read_theory.specs.Places.{IsBehind, EndsAt, EndsWith}
 
 -- `theory`, a name, and `begin`
 pub data IsOpening : List Lexeme → List ℕ → List Lexeme → Type 0 where
@@ -27,16 +33,38 @@ pub record NotDashed (a b : List ℕ) (tokens : List Lexeme) : Type 0 where
 abbrev pub IsKind : List Lexeme → TraceKind → List Lexeme → Type 0
 IsKind tokens kind rest = SpellsKind tokens kind (sign s.Quote ∷ rest)
 
+-- a proof stands there if any begins there
+abbrev pub IsGreedy : List Lexeme → Option WrittenProof → Type 0
+IsGreedy tokens None = NoReading SpellsProof tokens
+IsGreedy tokens (Some p) = Unit {0}
+
+-- a proof if one begins there, and the span that begins behind the token before
+pub record ReadsProofPart (behind : List Token) (p : Option WrittenProof) (span : Span) (rest : List Token) : Type 0 where
+  pub spells : SpellsProofPart (lexemes behind) p (lexemes rest)
+  pub greedy : IsGreedy (lexemes behind) p
+  pub ends : EndsAt behind rest p span
+
+-- a rule, or a lemma with its proof if one begins behind it, and the span of that
+pub data ReadsItem : List Token → Item → List Span → List Token → Type 0 where
+  a_rule : {r : WrittenRule} {tokens rest : List Token} → SpellsRule (lexemes tokens) r (lexemes rest) → EndsWith tokens rest → ReadsItem tokens (rule_item r) [] rest
+  a_lemma : {l : Lemma} {p : Option WrittenProof} {span : Span} {tokens behind rest : List Token}
+      → SpellsLemma (lexemes tokens) l (lexemes behind) → IsBehind tokens behind span.from → ReadsProofPart behind p span rest → ReadsItem tokens (lemma_item l p) (span ∷ []) rest
+
+-- neither a rule nor a lemma begins there
+pub record NoItem (tokens : List Lexeme) : Type 0 where
+  pub no_rule : NoReading SpellsRule tokens
+  pub no_lemma : NoReading SpellsLemma tokens
+
 -- the word `end`, and nothing behind it
 abbrev pub the_end : List Lexeme
 the_end = word (codes "end") ∷ []
 
 -- items, and the end
-abbrev pub AreItemsToEnd : List Lexeme → List WrittenRule → List Lemma → Type 0
-AreItemsToEnd tokens rs ls = SpellsItems tokens rs ls the_end
+abbrev pub AreItemsToEnd : List Lexeme → List Item → Type 0
+AreItemsToEnd tokens items = SpellsItems tokens items the_end
 
 pub record NoItems (tokens : List Lexeme) : Type 0 where
-  pub none : (rs : List WrittenRule) (ls : List Lemma) → AreItemsToEnd tokens rs ls → ⊥
+  pub none : (items : List Item) → AreItemsToEnd tokens items → ⊥
 
 pub record NoTheory (tokens : List Lexeme) : Type 0 where
-  pub none : (theory : WrittenTheory) → SpellsTheory tokens theory → ⊥
+  pub none : (theory : WrittenText) → SpellsTheory tokens theory → ⊥

@@ -1,6 +1,6 @@
 pub mod Grammar
-pub mod Items
 pub mod Places
+pub mod Items
 pub mod Views
 pub mod Text
 pub mod Laws

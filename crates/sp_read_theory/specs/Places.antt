@@ -1,15 +1,49 @@
--- Where the formulas of a text end. Double quotes come in pairs: one opens a formula, the next closes it.
-use Rattle.std.specs.Prelude.{ℕ, ◌<◌, ◌≤◌, Bool, true, false, if◌then◌else◌, List, [], ◌∷◌}
+-- Where the proofs of a text's lemmas stand.
+use Rattle.std.specs.Prelude.{◌≡◌, ℕ, ◌+◌, ◌≤◌, Bool, false, ◌==◌, if◌then◌else◌, List, [], ◌∷◌, ◌++◌, Option, Some, None, drop}
 use Rattle.sp_lex.specs.Lexeme.{Token}
-use Rattle.sp_lex.specs.Places.{is_quote}
+use Rattle.sp_lex.specs.Lex.{lexemes}
+use Rattle.sp_spec.specs.Theory.{Lemma}
+use Rattle.sp_spec.specs.Written.{WrittenRule}
+use Rattle.sp_written.specs.Text.{WrittenProof, Item, rule_item, lemma_item}
+use Rattle.sp_written.specs.declared.theory.Span.{Span}
+use Rattle.sp_read_theory.specs.Grammar.{SpellsRule, SpellsLemma, SpellsProofPart}
 
--- the places behind the closing quotes, the first quote being one if a formula is open
-abbrev pub closing : Bool → List Token → List ℕ
-closing open' [] = []
-closing true (t ∷ ts) = if is_quote t.lexeme then t.end ∷ closing false ts else closing true ts
-closing false (t ∷ ts) = if is_quote t.lexeme then closing true ts else closing false ts
+-- the place behind the last of these tokens before the others
+pub record IsBehind (tokens others : List Token) (place : ℕ) : Type 0 where
+  pub before : List Token
+  pub last : Token
+  pub are : tokens ≡ before ++ last ∷ others
+  pub place_is : place ≡ last.end
 
--- the places rise, from this number, and none is beyond the end
-abbrev pub Rise : ℕ → List ℕ → ℕ → Type 0
-Rise low [] end = low ≤ end
-Rise low (place ∷ places) end = (low < place) × Rise place places end
+-- from behind the lemma's closing quote to behind its proof; where it has none, that is the same place
+abbrev pub EndsAt : List Token → List Token → Option WrittenProof → Span → Type 0
+EndsAt behind others None span = (others ≡ behind) × (span.to ≡ span.from)
+EndsAt behind others (Some p) span = IsBehind behind others span.to
+
+-- the tokens end with the others
+abbrev pub EndsWith : List Token → List Token → Type 0
+EndsWith tokens others = (before : List Token) × (tokens ≡ before ++ others)
+
+-- where the tokens spell these items, one span for each lemma
+pub data AreSpans : List Token → List Item → List Span → Type 0 where
+  no_span : {tokens : List Token} → AreSpans tokens [] []
+  past_rule : {r : WrittenRule} {items : List Item} {spans : List Span} {tokens mid : List Token} → SpellsRule (lexemes tokens) r (lexemes mid) → EndsWith tokens mid → AreSpans mid items spans → AreSpans tokens (rule_item r ∷ items) spans
+  past_lemma : {l : Lemma} {p : Option WrittenProof} {items : List Item} {span : Span} {spans : List Span} {tokens behind mid : List Token}
+      → SpellsLemma (lexemes tokens) l (lexemes behind) → IsBehind tokens behind span.from
+      → SpellsProofPart (lexemes behind) p (lexemes mid) → EndsAt behind mid p span
+      → AreSpans mid items spans → AreSpans tokens (lemma_item l p ∷ items) (span ∷ spans)
+
+-- ---- the text behind a proof
+
+abbrev pub is_feed : List ℕ → Bool
+is_feed [] = false
+is_feed (b ∷ bytes) = b == 10
+
+-- where the text goes on when the proof is taken out, with a line feed directly behind it
+abbrev pub goes_on : List ℕ → Span → ℕ
+goes_on text span = if span.to == span.from then span.to else if is_feed (drop span.to text) then span.to + 1 else span.to
+
+-- the spans stand one behind the other, from this number on, and none reaches beyond the end
+abbrev pub Rise : List ℕ → ℕ → List Span → ℕ → Type 0
+Rise text low [] end = low ≤ end
+Rise text low (span ∷ spans) end = (low ≤ span.from) × (span.from ≤ span.to) × Rise text (goes_on text span) spans end

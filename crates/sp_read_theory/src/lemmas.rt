@@ -1,18 +1,20 @@
-ghost use Rattle.std.specs.Prelude.{◌≡◌, ◌∷◌, MatchOption, IfSome, IfOk, ◌≤◌, ◌<◌, ◌-◌, length, drop, map, true, false, codes};
+ghost use Rattle.std.specs.Prelude.{◌≡◌, [], ◌∷◌, MatchOption, IfSome, IfOk, OnOk, None, option_map, ◌≤◌, ◌<◌, ◌-◌, length, drop, map, codes};
 ghost use Rattle.sp_lex.specs.Views.{tokens_of};
 ghost use Rattle.sp_lex.specs.declared.token.Token as lexer;
+ghost use Rattle.sp_written.specs.Text.{lemma_item};
 ghost use Rattle.sp_read_parts.specs.Lists.{NoReading};
 ghost use Rattle.sp_read_theory.specs.Grammar.{SpellsLemma};
-ghost use Rattle.sp_read_theory.specs.Items.{Dashed, NotDashed, IsKind};
-ghost use Rattle.sp_read_theory.specs.Places.{closing};
+ghost use Rattle.sp_read_theory.specs.Items.{Dashed, NotDashed, IsKind, ReadsProofPart, ReadsItem};
+ghost use Rattle.sp_read_theory.specs.Places.{IsBehind};
 ghost use Rattle.sp_read_theory.specs.Views as view;
 ghost use Rattle.sp_read_theory.specs.Views.{seen_from};
 
 use crate::rules::header;
-use crate::written::{TraceKind, WrittenLemma};
 use sp_lex::{Sign, Token};
 use sp_read_parts::cursor::{after, behind};
 use sp_read_parts::formulas::formula;
+use sp_read_proof::proof;
+use sp_written::{Span, TraceKind, WrittenLemma, WrittenProof};
 use std::alloc::{AllocError, Global};
 
 /// The place behind two words with a dash between them and a double quote, if they stand first.
@@ -53,17 +55,17 @@ fn place_before(tokens: &[Token], rest: usize) -> usize
     tokens[rest - 1].end
 }
 
-/// A lemma, and the place behind it.
-#[tactic(auto, using(crate::proofs::LemmaParts::whole_lemmas))]
-pub fn lemma<'a>(
+/// A lemma without its proof, and the place behind it.
+#[tactic(auto, using(crate::proofs::LemmaParts::whole_lemmas, crate::proofs::Suffix::is_behind))]
+fn statement<'a>(
     alloc: Global,
     tokens: &[Token<'a>],
     at: usize,
 ) -> Result<Option<(WrittenLemma<'a>, usize)>, AllocError>
     ensures value { IfOk result (λ o. MatchOption o (NoReading SpellsLemma (seen_from tokens.now at)) (λ x. SpellsLemma (seen_from tokens.now at) (view.lemma x.0) (seen_from tokens.now x.1))) }
     ensures further { IfOk result (λ o. IfSome o (λ x. (at < x.1) × (x.1 ≤ length tokens.now))) }
-    // Its closing quote is the next that closes a formula.
-    ensures place { IfOk result (λ o. IfSome o (λ x. closing false (tokens_of (drop at tokens.now)) ≡ x.0.behind ∷ closing false (tokens_of (drop x.1 tokens.now)))) }
+    // Its proof is to stand directly behind it.
+    ensures place { IfOk result (λ o. IfSome o (λ x. IsBehind (tokens_of (drop at tokens.now)) (tokens_of (drop x.1 tokens.now)) x.0.span.from)) }
 {
     let Some((name, next)) = header("lemma", tokens, at) else {
         return Ok(None);
@@ -74,12 +76,65 @@ pub fn lemma<'a>(
     let Some((formula, rest)) = formula(alloc, Sign::Quote, 0, tokens, body)? else {
         return Ok(None);
     };
+    let place = place_before(tokens, rest);
     Ok(Some((
         WrittenLemma {
             name,
             kind,
             formula,
-            behind: place_before(tokens, rest),
+            proof: None,
+            span: Span {
+                from: place,
+                to: place,
+            },
+        },
+        rest,
+    )))
+}
+
+/// The proof of a lemma, if one begins here, with its span, and the place behind it.
+#[tactic(auto, using(crate::proofs::LemmaParts::proof_parts, crate::proofs::Suffix::is_behind))]
+fn proof_part<'a>(
+    alloc: Global,
+    tokens: &[Token<'a>],
+    from: usize,
+    at: usize,
+) -> Result<(Option<WrittenProof<'a>>, Span, usize), AllocError>
+    requires { at ≤ length tokens.now }
+    ensures value { IfOk result (λ x. ReadsProofPart (tokens_of (drop at tokens.now)) (option_map view.proof x.0) x.1 (tokens_of (drop x.2 tokens.now))) }
+    ensures from { IfOk result (λ x. x.1.from ≡ from) }
+    ensures further { IfOk result (λ x. (at ≤ x.2) × (x.2 ≤ length tokens.now)) }
+{
+    match proof(alloc, tokens, at)? {
+        Some((found, rest)) => {
+            let to = place_before(tokens, rest);
+            Ok((Some(found), Span { from, to }, rest))
+        }
+        None => Ok((None, Span { from, to: from }, at)),
+    }
+}
+
+/// A lemma with its proof, if one begins behind it, and the place behind both.
+#[tactic(auto, using(crate::proofs::LemmaParts::proved_lemmas))]
+pub fn lemma<'a>(
+    alloc: Global,
+    tokens: &[Token<'a>],
+    at: usize,
+) -> Result<Option<(WrittenLemma<'a>, usize)>, AllocError>
+    ensures value { IfOk result (λ o. MatchOption o (NoReading SpellsLemma (seen_from tokens.now at)) (λ x. ReadsItem (tokens_of (drop at tokens.now)) (lemma_item (view.lemma x.0) (option_map view.proof x.0.proof)) (x.0.span ∷ []) (tokens_of (drop x.1 tokens.now)))) }
+    ensures further { IfOk result (λ o. IfSome o (λ x. (at < x.1) × (x.1 ≤ length tokens.now))) }
+{
+    let Some((stated, behind)) = statement(alloc, tokens, at)? else {
+        return Ok(None);
+    };
+    let (proof, span, rest) = proof_part(alloc, tokens, stated.span.from, behind)?;
+    Ok(Some((
+        WrittenLemma {
+            name: stated.name,
+            kind: stated.kind,
+            formula: stated.formula,
+            proof,
+            span,
         },
         rest,
     )))

@@ -1,22 +1,20 @@
-// Reads theories: rules and lemmas in any order, lemmas with their kind of trace, formulas of the whole grammar.
-// Below stand sp_spec (theories as they are written), sp_lex (tokens) and sp_read_parts (terms, facts and formulas); what makes rules and formulas in memory of a theory stands above.
-// Carried here: the promise that texts are read exactly. What is read is what the text says by the grammar (specs/Grammar.antt), and what is not read says nothing.
-// A theory is read with the places where proofs of its lemmas are to stand and where its text ends.
+// Reads theories: rules and lemmas in any order, lemmas with their kind of trace, and the proofs that stand below lemmas.
+// Below stand tokens (sp_lex), terms, facts and formulas (sp_read_parts), theories in memory (sp_written), and proofs (sp_read_proof);
+// what makes rules and formulas in memory of a theory stands above.
+// Carried here: the promise that texts are read exactly. What is read is what the text says by the grammar (specs/Grammar.antt), in its
+// order, and what is not read says nothing. A theory is read with the spans of the proofs of its lemmas, and the place where its text ends.
 #![tactic(auto)]
 
 mod items;
 mod lemmas;
 mod read;
 mod rules;
-mod written;
 
 ghost use Rattle.sp_read_theory.specs.Laws.{TextsSayOneTheory};
 
 pub use read::read_theory;
-pub use sp_read_parts::{Mark, WrittenFact, WrittenTerm, WrittenVariable};
-pub use written::{ReadTheory, TraceKind, WrittenLemma, WrittenRule};
 
-/// Tokens spell one theory, and so a text says one.
+/// Tokens spell one theory, and so a text says one, with its proofs at one place each.
 pub fn texts_say_one_theory()
     ensures { TextsSayOneTheory }
 {}

@@ -1,17 +1,17 @@
-ghost use Rattle.std.specs.Prelude.{◌≡◌, MatchOption, IfSome, IfOk, ◌≤◌, length, false};
+ghost use Rattle.std.specs.Prelude.{◌≡◌, MatchOption, IfSome, IfOk, ◌≤◌, length, drop};
 ghost use Rattle.sp_lex.specs.Places as places;
 ghost use Rattle.sp_lex.specs.Views.{tokens_of};
 ghost use Rattle.sp_read_theory.specs.Grammar.{SpellsTheory};
 ghost use Rattle.sp_read_theory.specs.Items.{NoTheory};
-ghost use Rattle.sp_read_theory.specs.Places.{closing, Rise};
+ghost use Rattle.sp_read_theory.specs.Places.{AreSpans, Rise};
 ghost use Rattle.sp_read_theory.specs.Text.{IsTextOf, IsNoText, ArePlaces};
 ghost use Rattle.sp_read_theory.specs.Views as view;
 ghost use Rattle.sp_read_theory.specs.Views.{seen};
 
 use crate::items::items;
 use crate::rules::opening;
-use crate::written::ReadTheory;
 use sp_lex::{LexError, Token, tokens};
+use sp_written::ReadTheory;
 use std::alloc::{AllocError, Global};
 
 /// The place behind the last token.
@@ -32,19 +32,18 @@ fn read_tokens<'a>(
     tokens: &[Token<'a>],
 ) -> Result<Option<ReadTheory<'a>>, AllocError>
     ensures value { IfOk result (λ o. MatchOption o (NoTheory (seen tokens.now)) (λ r. SpellsTheory (seen tokens.now) (view.theory r))) }
-    ensures lemmas { IfOk result (λ o. IfSome o (λ r. view.places r.lemmas.items ≡ closing false (tokens_of tokens.now))) }
-    ensures theory { IfOk result (λ o. IfSome o (λ r. r.behind_end ≡ places.behind_all (tokens_of tokens.now))) }
+    ensures spans { IfOk result (λ o. IfSome o (λ r. AreSpans (drop 3 (tokens_of tokens.now)) (view.items r.items.items) (view.spans r.items.items))) }
+    ensures last { IfOk result (λ o. IfSome o (λ r. r.behind_end ≡ places.behind_all (tokens_of tokens.now))) }
 {
     let Some((name, body)) = opening(tokens, 0) else {
         return Ok(None);
     };
-    let Some((rules, lemmas)) = items(alloc, tokens, body)? else {
+    let Some(items) = items(alloc, tokens, body)? else {
         return Ok(None);
     };
     Ok(Some(ReadTheory {
         name,
-        rules,
-        lemmas,
+        items,
         behind_end: behind_all(tokens),
     }))
 }
@@ -60,8 +59,8 @@ fn read_tokens<'a>(
 pub fn read_theory<'a>(alloc: Global, text: &'a [u8]) -> Result<Option<ReadTheory<'a>>, AllocError>
     // What is read is written there, and where nothing is read nothing is written.
     ensures value { IfOk result (λ o. MatchOption o (IsNoText text.now) (λ r. IsTextOf text.now (view.theory r))) }
-    ensures places { IfOk result (λ o. IfSome o (λ r. ArePlaces text.now (view.places r.lemmas.items) r.behind_end)) }
-    ensures ordered { IfOk result (λ o. IfSome o (λ r. Rise 0 (view.places r.lemmas.items) r.behind_end × (r.behind_end ≤ length text.now))) }
+    ensures places { IfOk result (λ o. IfSome o (λ r. ArePlaces text.now (view.theory r) (view.spans r.items.items) r.behind_end)) }
+    ensures ordered { IfOk result (λ o. IfSome o (λ r. Rise text.now 0 (view.spans r.items.items) r.behind_end × (r.behind_end ≤ length text.now))) }
 {
     match tokens(alloc, text) {
         Ok(found) => {

@@ -5,12 +5,11 @@ ghost use Rattle.sp_read_theory.specs.Items.{IsOpening, IsHeader};
 ghost use Rattle.sp_read_theory.specs.Views as view;
 ghost use Rattle.sp_read_theory.specs.Views.{seen_from};
 
-use crate::written::WrittenRule;
 use sp_lex::{Sign, Token};
-use sp_read_parts::WrittenFact;
 use sp_read_parts::cursor::{after, behind};
 use sp_read_parts::facts::fact_list;
 use sp_read_parts::terms::name;
+use sp_read_parts::{WrittenFact, WrittenRule};
 use std::alloc::{AllocError, Global};
 
 /// Facts in their brackets, and the place behind them.

@@ -1,0 +1,78 @@
+-- What a proof begins with.
+use Rattle.std.proofs.Common.{◌≡◌, ℕ, Bool, true, false, true≢false, List, [], ◌∷◌, codes, refl, sym, ap, ◌∙◌}
+use Rattle.std.specs.Prelude.{◌||◌}
+use Rattle.std.specs.Str.{bytes_eq}
+use Rattle.sp_lex.specs.declared.token.Sign.{Sign}
+use Rattle.sp_lex.specs.Lexeme.{Lexeme, word, sign}
+use Rattle.sp_written.specs.Text.{Method, WrittenProof}
+use Rattle.sp_read_proof.specs.Grammar.{is_method, SpellsMethod, by_word, by_goal, SpellsProof, solved, by_method, method_proof, method_cases}
+use Rattle.sp_read_proof.proofs.Methods.{method_word}
+
+-- the words with which proofs begin
+abbrev pub begins_proof : List ℕ → Bool
+begins_proof w = bytes_eq w (codes "SOLVED") || bytes_eq w (codes "by") || is_method w
+
+or_last : (a b c : Bool) → c ≡ true → (a || b || c) ≡ true
+or_last true b c h = refl
+or_last false true c h = refl
+or_last false false c h = h
+
+begins_solved : begins_proof (codes "SOLVED") ≡ true
+begins_solved = refl
+
+begins_by : begins_proof (codes "by") ≡ true
+begins_by = refl
+
+begins_method : (w : List ℕ) → is_method w ≡ true → begins_proof w ≡ true
+begins_method w h = or_last (bytes_eq w (codes "SOLVED")) (bytes_eq w (codes "by")) (is_method w) h
+
+-- no proof begins with another word
+pub proof_word : {w : List ℕ} {p : WrittenProof} {tokens mid rest : List Lexeme} → SpellsProof tokens p rest → tokens ≡ word w ∷ mid → begins_proof w ≡ true
+proof_word {w} solved e = let f : w ≡ codes "SOLVED" = cc in ap begins_proof f ∙ begins_solved
+proof_word {w} (by_method h) e = let f : w ≡ codes "by" = cc in ap begins_proof f ∙ begins_by
+proof_word {w} (method_proof h k) e = begins_method w (method_word h e).0
+proof_word {w} (method_cases h k) e = begins_method w (method_word h e).0
+
+rule_begins_none : begins_proof (codes "rule") ≡ false
+unfolding is_method
+rule_begins_none = refl
+
+lemma_begins_none : begins_proof (codes "lemma") ≡ false
+unfolding is_method
+lemma_begins_none = refl
+
+end_begins_none : begins_proof (codes "end") ≡ false
+unfolding is_method
+end_begins_none = refl
+
+-- nor with an item of a theory or with its end
+pub proof_not_rule : {p : WrittenProof} {tokens mid rest : List Lexeme} → SpellsProof tokens p rest → tokens ≡ word (codes "rule") ∷ mid → ⊥
+proof_not_rule h e = true≢false (sym (proof_word h e) ∙ rule_begins_none)
+
+pub proof_not_lemma : {p : WrittenProof} {tokens mid rest : List Lexeme} → SpellsProof tokens p rest → tokens ≡ word (codes "lemma") ∷ mid → ⊥
+proof_not_lemma h e = true≢false (sym (proof_word h e) ∙ lemma_begins_none)
+
+pub proof_not_end : {p : WrittenProof} {tokens mid rest : List Lexeme} → SpellsProof tokens p rest → tokens ≡ word (codes "end") ∷ mid → ⊥
+proof_not_end h e = true≢false (sym (proof_word h e) ∙ end_begins_none)
+
+method_some : {x : Method} {tokens rest : List Lexeme} → SpellsMethod tokens x rest → tokens ≡ [] → ⊥
+method_some (by_word h) e = cc
+method_some by_goal e = cc
+
+method_no_sign : {s : Sign} {x : Method} {tokens mid rest : List Lexeme} → SpellsMethod tokens x rest → tokens ≡ sign s ∷ mid → ⊥
+method_no_sign (by_word h) e = cc
+method_no_sign by_goal e = cc
+
+-- something stands where a proof does
+pub proof_not_nil : {p : WrittenProof} {tokens rest : List Lexeme} → SpellsProof tokens p rest → tokens ≡ [] → ⊥
+proof_not_nil solved e = cc
+proof_not_nil (by_method h) e = cc
+proof_not_nil (method_proof h k) e = method_some h e
+proof_not_nil (method_cases h k) e = method_some h e
+
+-- no proof begins with a sign
+pub proof_not_sign : {s : Sign} {p : WrittenProof} {tokens mid rest : List Lexeme} → SpellsProof tokens p rest → tokens ≡ sign s ∷ mid → ⊥
+proof_not_sign solved e = cc
+proof_not_sign (by_method h) e = cc
+proof_not_sign (method_proof h k) e = method_no_sign h e
+proof_not_sign (method_cases h k) e = method_no_sign h e

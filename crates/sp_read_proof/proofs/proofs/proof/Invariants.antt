@@ -1,0 +1,15 @@
+use Rattle.std.proofs.Common.{◌-◌, ◌≤◌, length}
+use Rattle.sp_read_parts.specs.Views.{seen_from}
+use Rattle.sp_read_proof.specs.Grammar.{SpellsProof}
+use Rattle.sp_read_proof.specs.Frames.{Awaits, Same}
+use Rattle.sp_read_proof.specs.View.{frames_of}
+use Rattle.sp_read_proof.proofs.proofs.proof.Given as goal
+
+abbrev pub invariant-loop-first : goal.invariant-loop-first
+invariant-loop-first l = record {
+  same : Same SpellsProof (seen_from l.tokens l.at) (Awaits (frames_of l.frames.items)) (seen_from l.tokens l.rest);
+  further : l.at ≤ l.rest;
+}
+
+abbrev pub decreases-loop-first : goal.decreases-loop-first
+decreases-loop-first l = length l.tokens - l.rest

@@ -1,0 +1,9 @@
+-- Tokens spell one proof.
+use Rattle.std.specs.Prelude.{◌≡◌, List}
+use Rattle.sp_lex.specs.Lexeme.{Lexeme}
+use Rattle.sp_written.specs.Text.{WrittenProof}
+use Rattle.sp_read_proof.specs.Grammar.{SpellsProof}
+
+-- one proof stands first, and one rest follows it
+pub record ProofsAreOne : Type 0 where
+  pub one : (tokens r q : List Lexeme) (p u : WrittenProof) → SpellsProof tokens p r → SpellsProof tokens u q → (p ≡ u) × (r ≡ q)
