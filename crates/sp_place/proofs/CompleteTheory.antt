@@ -1,0 +1,162 @@
+-- The proofs and the theories of the grammar are in the table.
+use Rattle.std.proofs.Common.{◌≡◌, ℕ, ◌==◌, eq-eqb, Bool, true, false, ◌||◌, List, [], ◌∷◌, codes, refl, sym, subst, bytes_eq}
+use Rattle.sp_lex.specs.declared.token.Sign.{Sign}
+use Rattle.sp_lex.specs.declared.token.Sign.TheVariants as s
+use Rattle.sp_lex.specs.Lexeme.{Lexeme, word, sign}
+use Rattle.sp_spec.specs.Rule.{Fact}
+use Rattle.sp_spec.specs.Formula.{Written}
+use Rattle.sp_spec.specs.Theory.{TraceKind}
+use Rattle.sp_read_parts.specs.Lists.{AreParts, last, next as next_part, AreItems, empty, some}
+use Rattle.sp_read_parts.specs.Grammar.{SpellsFact, linear, persistent}
+use Rattle.sp_written.specs.Text.{Method, WrittenProof, WrittenCases, Item, WrittenText}
+use Rattle.sp_read_proof.specs.Grammar as p
+use Rattle.sp_read_proof.specs.Grammar.{is_method, SpellsMethod, SpellsProof, SpellsMore}
+use Rattle.sp_read_theory.specs.Grammar as g
+use Rattle.sp_read_theory.specs.Grammar.{SpellsFacts, SpellsArrow, SpellsKind, SpellsItems, SpellsTheory}
+use Rattle.sp_place.specs.declared.awaited.Awaited.TheVariants as a
+use Rattle.sp_place.specs.Table.{next, stuck, code, is_sign, is_item}
+use Rattle.sp_place.specs.Language.{Has, by_token, by_parts, HasAll, all_had, and_all}
+use Rattle.sp_place.proofs.Tokens.{same_word}
+use Rattle.sp_place.proofs.Had.{no_move}
+use Rattle.sp_place.proofs.CompleteParts.{one_had, Without, without, differ, has_name, has_fact}
+use Rattle.sp_place.proofs.CompleteFormulas.{has_quoted}
+
+-- ---- words
+
+solved_no_method : is_method (codes "SOLVED") ≡ false
+unfolding is_method
+solved_no_method = refl
+
+by_no_method : is_method (codes "by") ≡ false
+unfolding is_method
+by_no_method = refl
+
+-- a method is no word that is none
+method_differs : (w v : List ℕ) → is_method w ≡ true → is_method v ≡ false → bytes_eq w v ≡ false
+method_differs w v e d = differ (bytes_eq w v) (λ h. let i : is_method v ≡ true = subst (λ (u : List ℕ). is_method u ≡ true) (same_word w v h) e in let none : ⊥ = cc in none)
+
+case_stuck : next a.Proof (word (codes "case")) ≡ stuck
+unfolding is_method
+case_stuck = refl
+
+rule_stuck : next a.Proof (word (codes "rule")) ≡ stuck
+unfolding is_method
+rule_stuck = refl
+
+lemma_stuck : next a.Proof (word (codes "lemma")) ≡ stuck
+unfolding is_method
+lemma_stuck = refl
+
+end_stuck : next a.Proof (word (codes "end")) ≡ stuck
+unfolding is_method
+end_stuck = refl
+
+-- ---- proofs
+
+has_method : {x : Method} {tokens rest : List Lexeme} → SpellsMethod tokens x rest → Has a.Method tokens rest
+has_method (p.by_word e) = by_token (rw e refl) all_had
+has_method p.by_goal = by_token refl all_had
+
+method_first : {x : Method} {tokens mid rest : List Lexeme} → SpellsMethod tokens x mid → Has a.Behind mid rest → Has a.Proof tokens rest
+method_first (p.by_word {w = w} e) h = by_token (rw (method_differs w (codes "SOLVED") e solved_no_method, method_differs w (codes "by") e by_no_method, e) refl) (one_had {part = a.Behind} h)
+method_first p.by_goal h = by_token refl (one_had h)
+
+behind_of_proof : (tokens : List Lexeme) {rest : List Lexeme} → Has a.Proof tokens rest → Has a.Behind tokens rest
+behind_of_proof [] h = elim h [ ]
+behind_of_proof (word w ∷ tokens) {rest} h = at (bytes_eq w (codes "case")) refl
+  where
+    at : (b : Bool) → bytes_eq w (codes "case") ≡ b → Has a.Behind (word w ∷ tokens) rest
+    at true e = absurd (no_move a.Proof (word (codes "case")) case_stuck (subst (λ (u : List ℕ). Has a.Proof (word u ∷ tokens) rest) (same_word w (codes "case") e) h))
+    at false e = by_parts (rw e refl) (one_had {part = a.Proof} h)
+behind_of_proof (x ∷ tokens) h = by_parts refl (one_had {part = a.Proof} h)
+
+mutual
+  has_proof : {q : WrittenProof} {tokens rest : List Lexeme} → SpellsProof tokens q rest → Has a.Proof tokens rest
+  has_proof p.solved = by_token refl all_had
+  has_proof (p.by_method m) = by_token refl (one_had (has_method m))
+  has_proof (p.method_proof {mid = mid} m h) = method_first m (behind_of_proof mid (has_proof h))
+  has_proof (p.method_cases m (p.case n h l)) = method_first m (by_token refl (and_all (has_name n) (and_all (has_proof h) (one_had (has_more l)))))
+
+  has_more : {cs : WrittenCases} {tokens rest : List Lexeme} → SpellsMore tokens cs rest → Has a.Cases tokens rest
+  has_more p.qed = by_token refl all_had
+  has_more (p.next (p.case n h l)) = by_token refl (and_all {part = a.Case} (by_token refl all_had) (and_all (has_name n) (and_all (has_proof h) (one_had (has_more l)))))
+
+-- ---- facts of a rule
+
+-- a sign that closes facts
+record Closes (y : Sign) : Type 0 where
+  no_bang : (code s.Bang == code y) ≡ false
+  no_comma : (code y == code s.Comma) ≡ false
+
+facts_left : {y : Sign} {tokens rest : List Lexeme} {fs : List (Fact Written)} → Closes y → AreParts (SpellsFact 0) s.Comma y tokens fs rest → HasAll (a.Fact 0 ∷ a.MoreFacts y ∷ []) tokens rest
+facts_left {y} c (last h) = and_all (has_fact h) (one_had {part = a.MoreFacts y} (by_token (rw (c.no_comma, eq-eqb (code y) (code y) refl) refl) all_had))
+facts_left {y} c (next_part h k) = and_all (has_fact h) (one_had {part = a.MoreFacts y} (by_token refl (facts_left c k)))
+
+fact_begins : {y : Sign} {tokens rest : List Lexeme} {f : Fact Written} → Closes y → SpellsFact 0 tokens f rest → Without (is_sign y) tokens
+fact_begins c (linear e lt h) = without refl
+fact_begins c (persistent e lt h) = without c.no_bang
+
+facts_begin : {y : Sign} {tokens rest : List Lexeme} {fs : List (Fact Written)} → Closes y → AreParts (SpellsFact 0) s.Comma y tokens fs rest → Without (is_sign y) tokens
+facts_begin c (last h) = fact_begins c h
+facts_begin c (next_part h k) = fact_begins c h
+
+some_facts : {y : Sign} {tokens rest : List Lexeme} → Without (is_sign y) tokens → HasAll (a.Fact 0 ∷ a.MoreFacts y ∷ []) tokens rest → Has (a.Facts y) tokens rest
+some_facts (without e) h = by_parts (rw e refl) h
+
+has_facts : {y : Sign} {tokens rest : List Lexeme} {fs : List (Fact Written)} → Closes y → AreItems (SpellsFact 0) y tokens fs rest → Has (a.Facts y) tokens rest
+has_facts {y} c empty = by_token (rw (eq-eqb (code y) (code y) refl) refl) all_had
+has_facts c (some h) = some_facts (facts_begin c h) (facts_left c h)
+
+has_fact_list : {tokens rest : List Lexeme} {fs : List (Fact Written)} → SpellsFacts tokens fs rest → Has a.FactList tokens rest
+has_fact_list (g.facts h) = by_token refl (one_had (has_facts (record { no_bang = refl; no_comma = refl }) h))
+
+has_arrow : {tokens rest : List Lexeme} {fs : List (Fact Written)} → SpellsArrow tokens fs rest → Has a.Arrow tokens rest
+has_arrow g.unlabelled = by_token refl all_had
+has_arrow (g.labelled h) = by_token refl (one_had (has_facts (record { no_bang = refl; no_comma = refl }) h))
+
+-- ---- items
+
+has_kind : {tokens rest : List Lexeme} {k : TraceKind} → SpellsKind tokens k (sign s.Quote ∷ rest) → Has a.Kind tokens rest
+has_kind g.no_kind = by_token refl all_had
+has_kind g.all_kind = by_token refl (and_all (by_token refl all_had) (and_all (by_token refl all_had) (one_had (by_token refl all_had))))
+has_kind g.exists_kind = by_token refl (and_all (by_token refl all_had) (and_all (by_token refl all_had) (one_had (by_token refl all_had))))
+
+item_or_stuck : (b c d : Bool) → (b || c || d) ≡ false → (b ≡ false) × (c ≡ false) × (d ≡ false)
+item_or_stuck true c d e = absurd (let none : ⊥ = cc in none)
+item_or_stuck false true d e = absurd (let none : ⊥ = cc in none)
+item_or_stuck false false d e = (refl, refl, e)
+
+no_item_stuck : (w : List ℕ) → is_item (word w) ≡ false → next a.Items (word w) ≡ stuck
+no_item_stuck w e = let i = item_or_stuck (bytes_eq w (codes "rule")) (bytes_eq w (codes "lemma")) (bytes_eq w (codes "end")) e in rw (i.0, i.1, i.2) refl
+
+below_of_items : (tokens : List Lexeme) {rest : List Lexeme} → Has a.Items tokens rest → Has a.Below tokens rest
+below_of_items [] h = elim h [ ]
+below_of_items (word w ∷ tokens) {rest} h = at (is_item (word w)) refl
+  where
+    at : (b : Bool) → is_item (word w) ≡ b → Has a.Below (word w ∷ tokens) rest
+    at true e = by_parts (rw e refl) (one_had {part = a.Items} h)
+    at false e = absurd (no_move a.Items (word w) (no_item_stuck w e) h)
+below_of_items (x ∷ tokens) h = absurd (no_move a.Items x refl h)
+
+stuck_differs : (v w : List ℕ) {tokens rest : List Lexeme} → next a.Proof (word v) ≡ stuck → Has a.Proof (word w ∷ tokens) rest → bytes_eq w v ≡ false
+stuck_differs v w {tokens} {rest} d h = differ (bytes_eq w v) (λ i. no_move a.Proof (word v) d (subst (λ (u : List ℕ). Has a.Proof (word u ∷ tokens) rest) (same_word w v i) h))
+
+proof_no_item : (w : List ℕ) {tokens rest : List Lexeme} → Has a.Proof (word w ∷ tokens) rest → is_item (word w) ≡ false
+proof_no_item w h = rw (stuck_differs (codes "rule") w rule_stuck h, stuck_differs (codes "lemma") w lemma_stuck h, stuck_differs (codes "end") w end_stuck h) refl
+
+below_of_proof : (tokens : List Lexeme) {mid rest : List Lexeme} → Has a.Proof tokens mid → Has a.Items mid rest → Has a.Below tokens rest
+below_of_proof [] h i = elim h [ ]
+below_of_proof (word w ∷ tokens) h i = by_parts (rw (proof_no_item w h) refl) (and_all {part = a.Proof} h (one_had {part = a.Items} i))
+below_of_proof (x ∷ tokens) h i = by_parts refl (and_all {part = a.Proof} h (one_had {part = a.Items} i))
+
+items_had : {tokens end rest : List Lexeme} {items : List Item} → SpellsItems tokens items end → end ≡ word (codes "end") ∷ rest → Has a.Items tokens rest
+items_had {rest = rest} g.no_item e = subst (λ (ts : List Lexeme). Has a.Items ts rest) (sym e) (by_token refl all_had)
+items_had (g.rule_first (g.rule n i j k) l) e =
+    by_token refl (and_all (has_name n) (and_all (by_token refl all_had) (and_all (has_fact_list i) (and_all (has_arrow j) (and_all (has_fact_list k) (one_had (items_had l e)))))))
+items_had (g.lemma_first {mid = mid} (g.lemma n k f) g.no_proof l) e =
+    by_token refl (and_all (has_name n) (and_all (by_token refl all_had) (and_all (has_kind k) (has_quoted f (one_had (below_of_items mid (items_had l e)))))))
+items_had (g.lemma_first {behind = behind} (g.lemma n k f) (g.a_proof q) l) e =
+    by_token refl (and_all (has_name n) (and_all (by_token refl all_had) (and_all (has_kind k) (has_quoted f (one_had (below_of_proof behind (has_proof q) (items_had l e)))))))
+
+pub has_theory : {tokens : List Lexeme} {t : WrittenText} → SpellsTheory tokens t → Has a.Theory tokens []
+has_theory (g.theory n h) = by_token refl (and_all (has_name n) (and_all (by_token refl all_had) (one_had (items_had h refl))))

@@ -1,0 +1,102 @@
+-- Each part of a text in the grammar.
+use Rattle.std.proofs.Common.{◌≡◌, ℕ, ◌⊎◌, Bool, true, false, if◌then◌else◌, nat_lt, ◌<◌, ltb-true, List, [], ◌∷◌, Option, codes, refl, sym, subst}
+use Rattle.sp_lex.specs.declared.token.Sign.TheVariants as s
+use Rattle.sp_lex.specs.Lexeme.{Lexeme, word, sign}
+use Rattle.sp_spec.specs.Theory.{TraceKind}
+use Rattle.sp_read_parts.specs.Names.{IsName, names_fact}
+use Rattle.sp_read_parts.specs.Lists.{AreItems}
+use Rattle.sp_read_parts.specs.Grammar.{SpellsVariable, SpellsTerm, SpellsFact, SpellsUnit, SpellsNegation}
+use Rattle.sp_written.specs.Text.{WrittenProof, WrittenCases, Item}
+use Rattle.sp_read_proof.specs.Grammar.{SpellsMethod, SpellsProof, SpellsCases, SpellsMore}
+use Rattle.sp_read_theory.specs.Grammar.{SpellsFacts, SpellsArrow, SpellsKind, SpellsProofPart, SpellsItems}
+use Rattle.sp_place.specs.declared.awaited.Awaited.{Awaited}
+use Rattle.sp_place.specs.declared.awaited.Awaited.TheVariants as a
+use Rattle.sp_place.specs.Table.{Move, takes, becomes, stuck, single, nests}
+use Rattle.sp_place.proofs.Meaning.{Spelled, OneSign, OneWord, OneName, OneSort, ThisWord, SortPart, AfterPart, OpenedArguments, AfterBinder, MoreOf, TwiceOf, ClosedOf, SideOf, OrderOf, BareOf, NamedOf, StartOf}
+
+-- items, and the word `end`
+abbrev pub ItemsOf : List Lexeme → List Lexeme → Type 0
+ItemsOf tokens rest = (items : List Item) × SpellsItems tokens items (word (codes "end") ∷ rest)
+
+pub data TheoryOf : List Lexeme → List Lexeme → Type 0 where
+  theory_of : {w : List ℕ} {items : List Item} {tokens rest : List Lexeme} → IsName w → SpellsItems tokens items (word (codes "end") ∷ rest) → TheoryOf (word (codes "theory") ∷ word w ∷ word (codes "begin") ∷ tokens) rest
+
+abbrev pub KindOf : List Lexeme → List Lexeme → Type 0
+KindOf tokens rest = (k : TraceKind) × SpellsKind tokens k (sign s.Quote ∷ rest)
+
+-- behind a lemma
+pub data BelowOf : List Lexeme → List Lexeme → Type 0 where
+  below : {p : Option WrittenProof} {items : List Item} {tokens mid rest : List Lexeme} → SpellsProofPart tokens p mid → SpellsItems mid items (word (codes "end") ∷ rest) → BelowOf tokens rest
+
+-- behind a method
+pub data BehindOf : List Lexeme → List Lexeme → Type 0 where
+  lone : {p : WrittenProof} {tokens rest : List Lexeme} → SpellsProof tokens p rest → BehindOf tokens rest
+  among : {cs : WrittenCases} {tokens rest : List Lexeme} → SpellsCases tokens cs rest → BehindOf tokens rest
+
+abbrev pub Means : Awaited → List Lexeme → List Lexeme → Type 0
+Means (a.Exactly y) tokens rest = OneSign y tokens rest
+Means a.Name tokens rest = OneName tokens rest
+Means a.Sort tokens rest = OneSort tokens rest
+Means a.FactName tokens rest = OneWord names_fact tokens rest
+Means a.Sorted tokens rest = SortPart tokens rest
+Means a.Variable tokens rest = Spelled SpellsVariable tokens rest
+Means (a.Term n) tokens rest = Spelled (SpellsTerm n) tokens rest
+Means (a.Arguments n) tokens rest = Spelled (AreItems (SpellsTerm n) s.Close) tokens rest
+Means (a.MoreArguments n) tokens rest = AfterPart (SpellsTerm n) s.Close tokens rest
+Means (a.Fact n) tokens rest = Spelled (SpellsFact n) tokens rest
+Means (a.Opened n) tokens rest = OpenedArguments n tokens rest
+Means a.Binders tokens rest = AfterBinder tokens rest
+Means (a.Negation n k) tokens rest = StartOf SpellsNegation n k tokens rest
+Means (a.Unit n k) tokens rest = StartOf SpellsUnit n k tokens rest
+Means (a.Side n k) tokens rest = SideOf n k tokens rest
+Means (a.Order n k) tokens rest = OrderOf n k tokens rest
+Means (a.Bare n k) tokens rest = BareOf n k tokens rest
+Means (a.Named n k) tokens rest = NamedOf n k tokens rest
+Means (a.Truth n k) tokens rest = NamedOf n k tokens rest ⊎ ClosedOf n k tokens rest
+Means (a.Both n k) tokens rest = SideOf n k tokens rest ⊎ ClosedOf n k tokens rest
+Means (a.Closing n k) tokens rest = ClosedOf n k tokens rest
+Means (a.More n) tokens rest = MoreOf n tokens rest
+Means (a.Twice n) tokens rest = TwiceOf n tokens rest
+Means a.Theory tokens rest = TheoryOf tokens rest
+Means a.Begin tokens rest = ThisWord (codes "begin") tokens rest
+Means a.Items tokens rest = ItemsOf tokens rest
+Means a.FactList tokens rest = Spelled SpellsFacts tokens rest
+Means (a.Facts y) tokens rest = Spelled (AreItems (SpellsFact 0) y) tokens rest
+Means (a.MoreFacts y) tokens rest = AfterPart (SpellsFact 0) y tokens rest
+Means a.Arrow tokens rest = Spelled SpellsArrow tokens rest
+Means a.Kind tokens rest = KindOf tokens rest
+Means a.Traces tokens rest = ThisWord (codes "traces") tokens rest
+Means a.Trace tokens rest = ThisWord (codes "trace") tokens rest
+Means a.Below tokens rest = BelowOf tokens rest
+Means a.Proof tokens rest = Spelled SpellsProof tokens rest
+Means a.Behind tokens rest = BehindOf tokens rest
+Means a.Case tokens rest = ThisWord (codes "case") tokens rest
+Means a.Cases tokens rest = Spelled SpellsMore tokens rest
+Means a.Method tokens rest = Spelled SpellsMethod tokens rest
+
+pub data MeansAll : List Awaited → List Lexeme → List Lexeme → Type 0 where
+  nothing : {rest : List Lexeme} → MeansAll [] rest rest
+  and_then : {part : Awaited} {parts : List Awaited} {tokens mid rest : List Lexeme} → Means part tokens mid → MeansAll parts mid rest → MeansAll (part ∷ parts) tokens rest
+
+-- what the move leads to, the grammar has
+abbrev pub Sound : Awaited → Lexeme → Move → Type 0
+Sound part x (takes parts) = (tokens rest : List Lexeme) → MeansAll parts tokens rest → Means part (x ∷ tokens) rest
+Sound part x (becomes parts) = (tokens rest : List Lexeme) → MeansAll parts (x ∷ tokens) rest → Means part (x ∷ tokens) rest
+Sound part x stuck = Unit {0}
+
+pub by_if : (P : Move → Type 0) (b : Bool) (m o : Move) → (b ≡ true → P m) → (b ≡ false → P o) → P (if b then m else o)
+by_if P true m o f g = f refl
+by_if P false m o f g = g refl
+
+pub by_nests : (P : Move → Type 0) (n : ℕ) (m : Move) → P stuck → (n < 128 → P m) → P (nests n m)
+by_nests P n m p f = by_if P (nat_lt n 128) m stuck (λ e. f (ltb-true n 128 e)) (λ e. p)
+
+pub nothing_is : {tokens rest : List Lexeme} → MeansAll [] tokens rest → tokens ≡ rest
+nothing_is nothing = refl
+
+pub one_is : {part : Awaited} {tokens rest : List Lexeme} → MeansAll (part ∷ []) tokens rest → Means part tokens rest
+one_is {part} {tokens} (and_then h n) = subst (λ (r : List Lexeme). Means part tokens r) (nothing_is n) h
+
+pub by_single : (part : Awaited) (x : Lexeme) (b : Bool) → (b ≡ true → (rest : List Lexeme) → Means part (x ∷ rest) rest) → Sound part x (single b)
+by_single part x true f = λ tokens rest h. subst (λ (l : List Lexeme). Means part (x ∷ l) rest) (sym (nothing_is h)) (f refl rest)
+by_single part x false f = tt

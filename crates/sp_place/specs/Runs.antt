@@ -1,0 +1,31 @@
+-- How far the tokens of a text go.
+use Rattle.std.specs.Prelude.{◌≡◌, List, [], ◌∷◌, ◌++◌}
+use Rattle.sp_lex.specs.Lexeme.{Lexeme, Token}
+use Rattle.sp_lex.specs.Lex.{lexemes}
+use Rattle.sp_written.specs.Text.{WrittenText}
+use Rattle.sp_read_theory.specs.Grammar.{SpellsTheory}
+use Rattle.sp_place.specs.declared.awaited.Awaited.{Awaited}
+use Rattle.sp_place.specs.declared.awaited.Awaited.TheVariants as a
+use Rattle.sp_place.specs.declared.refused.Run.{Run}
+use Rattle.sp_place.specs.declared.refused.Run.TheVariants.{Wrong, Left, Whole}
+use Rattle.sp_place.specs.Language.{HasAll}
+use Rattle.sp_place.specs.Stack.{Good}
+use Rattle.sp_place.specs.Refused.{Begin, IsFirstWrong}
+
+-- the tokens before the rest are taken, and these parts are left of a theory
+pub record Reached (tokens rest : List Token) (parts : List Awaited) : Type 0 where
+  pub before : List Token
+  pub are : tokens ≡ before ++ rest
+  pub goes : (more : List Lexeme) → HasAll parts more [] → HasAll (a.Theory ∷ []) (lexemes before ++ more) []
+  pub comes : (more : List Lexeme) → HasAll (a.Theory ∷ []) (lexemes before ++ more) [] → HasAll parts more []
+  pub good : Good parts
+
+-- the tokens begin a theory, and are none
+pub record IsLeft (tokens : List Token) : Type 0 where
+  pub begins : Begin (lexemes tokens)
+  pub none : (theory : WrittenText) → SpellsTheory (lexemes tokens) theory → ⊥
+
+abbrev pub RunsTo : List Token → Run → Type 0
+RunsTo tokens (Wrong place) = IsFirstWrong tokens place
+RunsTo tokens Left = IsLeft tokens
+RunsTo tokens Whole = (theory : WrittenText) × SpellsTheory (lexemes tokens) theory

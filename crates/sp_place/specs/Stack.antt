@@ -1,0 +1,50 @@
+-- The parts that a text still has to have, the first one first: which lists of them come up. From such a list a text can be ended:
+-- no nesting is too deep for its parts, and behind a part of a formula stands what closes the formula.
+use Rattle.std.specs.Prelude.{◌≡◌, ◌≤◌, ◌<◌, ◌==◌, Bool, true, false, List, [], ◌∷◌}
+use Rattle.sp_lex.specs.declared.token.Sign.{Sign}
+use Rattle.sp_lex.specs.declared.token.Sign.TheVariants as s
+use Rattle.sp_place.specs.declared.awaited.Awaited.{Awaited}
+use Rattle.sp_place.specs.declared.awaited.Awaited.TheVariants as a
+use Rattle.sp_place.specs.Table.{code, deep}
+
+abbrev pub is_closing : Sign → Bool
+is_closing s.Close = true
+is_closing s.Quote = true
+is_closing _ = false
+
+-- whether these begin with what closes a formula, where those behind the first do so or not
+abbrev pub closes_first : Awaited → Bool → Bool
+closes_first (a.Exactly y) b = is_closing y
+closes_first (a.Closing n k) b = b
+closes_first (a.More n) b = b
+closes_first (a.Twice n) b = b
+closes_first _ b = false
+
+abbrev pub is_closed : List Awaited → Bool
+is_closed [] = false
+is_closed (part ∷ parts) = closes_first part (is_closed parts)
+
+abbrev pub Fits : Awaited → Bool → Type 0
+Fits (a.Term n) b = n ≤ 128
+Fits (a.Arguments n) b = n ≤ 128
+Fits (a.MoreArguments n) b = n ≤ 128
+Fits (a.Fact n) b = n < 128
+Fits (a.Opened n) b = n < 128
+Fits (a.Negation n k) b = (deep n k ≤ 128) × (b ≡ true)
+Fits (a.Unit n k) b = (deep n k ≤ 128) × (b ≡ true)
+Fits (a.Side n k) b = (deep n k ≤ 128) × (b ≡ true)
+Fits (a.Order n k) b = (deep n k ≤ 128) × (b ≡ true)
+Fits (a.Bare n k) b = (deep n k ≤ 128) × (b ≡ true)
+Fits (a.Named n k) b = (deep n k ≤ 128) × (b ≡ true)
+Fits (a.Truth n k) b = (deep n k ≤ 128) × (b ≡ true)
+Fits (a.Both n k) b = (deep n k ≤ 128) × (b ≡ true)
+Fits (a.Closing n k) b = (deep n k ≤ 128) × (b ≡ true)
+Fits (a.More n) b = (n ≤ 128) × (b ≡ true)
+Fits (a.Twice n) b = (n ≤ 128) × (b ≡ true)
+Fits (a.Facts y) b = (code y == code s.Comma) ≡ false
+Fits (a.MoreFacts y) b = (code y == code s.Comma) ≡ false
+Fits _ b = Unit {0}
+
+abbrev pub Good : List Awaited → Type 0
+Good [] = Unit {0}
+Good (part ∷ parts) = Fits part (is_closed parts) × Good parts

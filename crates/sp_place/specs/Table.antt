@@ -1,0 +1,318 @@
+-- What a text may go on with: the parts that it still has to have, and what a token does to the first of them. Each token takes away
+-- the first part and puts its remainder there, or the first part becomes others, or may be empty, and then these meet the token.
+use Rattle.std.specs.Prelude.{ℕ, zero, suc, ◌+◌, ◌==◌, nat_lt, Bool, true, false, not, ◌||◌, is_some, if◌then◌else◌, List, [], ◌∷◌, codes}
+use Rattle.std.specs.Str.{bytes_eq}
+use Rattle.sp_lex.specs.declared.token.Sign.{Sign}
+use Rattle.sp_lex.specs.declared.token.Sign.TheVariants as s
+use Rattle.sp_lex.specs.Lexeme.{Lexeme, word, constant, sign, solve}
+use Rattle.sp_read_parts.specs.Names.{is_reserved, names_fact, mark_of, mark_at}
+use Rattle.sp_read_proof.specs.Grammar.{is_method}
+use Rattle.sp_place.specs.declared.awaited.Awaited.{Awaited}
+use Rattle.sp_place.specs.declared.awaited.Awaited.TheVariants as a
+
+-- the token is taken, and these parts follow; the part becomes these parts; the token is wrong
+pub data Move : Type 0 where
+  takes : List Awaited → Move
+  becomes : List Awaited → Move
+  stuck : Move
+
+-- ---- tokens
+
+abbrev pub code : Sign → ℕ
+code s.Open = 0
+code s.Close = 1
+code s.OpenList = 2
+code s.CloseList = 3
+code s.OpenArrow = 4
+code s.CloseArrow = 5
+code s.Arrow = 6
+code s.Implies = 7
+code s.Iff = 8
+code s.Comma = 9
+code s.Colon = 10
+code s.Dot = 11
+code s.Quote = 12
+code s.Bang = 13
+code s.Tilde = 14
+code s.Dollar = 15
+code s.Hash = 16
+code s.At = 17
+code s.And = 18
+code s.Or = 19
+code s.Equals = 20
+code s.Less = 21
+code s.Dash = 22
+
+abbrev pub is_sign : Sign → Lexeme → Bool
+is_sign x (word w) = false
+is_sign x (constant c) = false
+is_sign x (sign y) = code y == code x
+is_sign x (solve g) = false
+
+abbrev pub is_word : List ℕ → Lexeme → Bool
+is_word v (word w) = bytes_eq w v
+is_word v (constant c) = false
+is_word v (sign y) = false
+is_word v (solve g) = false
+
+abbrev pub is_constant : Lexeme → Bool
+is_constant (word w) = false
+is_constant (constant c) = true
+is_constant (sign y) = false
+is_constant (solve g) = false
+
+abbrev pub is_mark : Lexeme → Bool
+is_mark (word w) = false
+is_mark (constant c) = false
+is_mark (sign y) = is_some (mark_at y)
+is_mark (solve g) = false
+
+-- a word that passes the test
+abbrev pub is_such : (List ℕ → Bool) → Lexeme → Bool
+is_such p (word w) = p w
+is_such p (constant c) = false
+is_such p (sign y) = false
+is_such p (solve g) = false
+
+abbrev pub is_name : Lexeme → Bool
+is_name x = is_such (λ w. not (is_reserved w)) x
+
+abbrev pub is_fact_name : Lexeme → Bool
+is_fact_name x = is_such names_fact x
+
+abbrev pub is_sort : Lexeme → Bool
+is_sort x = is_such (λ w. is_some (mark_of w)) x
+
+abbrev pub is_step : Lexeme → Bool
+is_step (word w) = is_method w
+is_step (constant c) = false
+is_step (sign y) = false
+is_step (solve g) = true
+
+-- ---- moves
+
+abbrev pub single : Bool → Move
+single b = if b then takes [] else stuck
+
+-- what opens a nesting is wrong at nesting 128
+abbrev pub nests : ℕ → Move → Move
+nests n x = if nat_lt n 128 then x else stuck
+
+-- the nesting inside so many brackets
+abbrev pub deep : ℕ → ℕ → ℕ
+deep n zero = n
+deep n (suc k) = deep n k + 1
+
+-- ---- variables, terms and facts
+
+abbrev pub variable_move : List Awaited → Lexeme → Move
+variable_move more x =
+    if is_mark x then takes (a.Name ∷ more)
+    else if is_name x then takes (a.Sorted ∷ more)
+    else stuck
+
+abbrev pub sorted_move : Lexeme → Move
+sorted_move x = if is_sign s.Colon x then takes (a.Sort ∷ []) else becomes []
+
+abbrev pub term_move : ℕ → Lexeme → Move
+term_move n x =
+    if is_constant x then takes []
+    else if is_sign s.Open x then nests n (takes (a.Term (n + 1) ∷ a.Exactly s.Close ∷ []))
+    else becomes (a.Variable ∷ [])
+
+abbrev pub arguments_move : ℕ → Lexeme → Move
+arguments_move n x = if is_sign s.Close x then takes [] else becomes (a.Term n ∷ a.MoreArguments n ∷ [])
+
+abbrev pub more_arguments_move : ℕ → Lexeme → Move
+more_arguments_move n x =
+    if is_sign s.Comma x then takes (a.Term n ∷ a.MoreArguments n ∷ [])
+    else if is_sign s.Close x then takes []
+    else stuck
+
+abbrev pub fact_move : ℕ → Lexeme → Move
+fact_move n x =
+    if is_sign s.Bang x then takes (a.FactName ∷ a.Opened n ∷ [])
+    else if is_fact_name x then takes (a.Opened n ∷ [])
+    else stuck
+
+abbrev pub opened_move : ℕ → Lexeme → Move
+opened_move n x = if is_sign s.Open x then nests n (takes (a.Arguments (n + 1) ∷ [])) else stuck
+
+abbrev pub binders_move : Lexeme → Move
+binders_move x = if is_sign s.Dot x then takes [] else variable_move (a.Binders ∷ []) x
+
+-- ---- formulas
+
+abbrev pub negation_move : ℕ → ℕ → Lexeme → Move
+negation_move n k x = if is_word (codes "not") x then takes (a.Unit (deep n k) 0 ∷ a.Closing n k ∷ []) else becomes (a.Unit n k ∷ [])
+
+abbrev pub is_quantifier : Lexeme → Bool
+is_quantifier x = is_word (codes "All") x || is_word (codes "Ex") x
+
+abbrev pub is_truth : Lexeme → Bool
+is_truth x = is_word (codes "T") x || is_word (codes "F") x
+
+abbrev pub word_move : ℕ → ℕ → Lexeme → Move
+word_move n k x =
+    if is_quantifier x then nests (deep n k) (takes (a.Variable ∷ a.Binders ∷ a.Negation (deep n k + 1) 0 ∷ a.More (deep n k + 1) ∷ a.Twice (deep n k + 1) ∷ a.Closing n k ∷ []))
+    else if is_truth x then takes (a.Truth n k ∷ [])
+    else if is_fact_name x then takes (a.Named n k ∷ [])
+    else if is_name x then takes (a.Bare n k ∷ [])
+    else stuck
+
+abbrev pub unit_move : ℕ → ℕ → Lexeme → Move
+unit_move n k x =
+    if is_sign s.Open x then nests (deep n k) (takes (a.Negation n (suc k) ∷ []))
+    else if is_constant x then takes (a.Side n k ∷ [])
+    else if is_mark x then takes (a.Name ∷ a.Order n k ∷ [])
+    else if is_sign s.Bang x then nests (deep n k) (takes (a.FactName ∷ a.Opened (deep n k) ∷ a.Exactly s.At ∷ a.Variable ∷ a.Closing n k ∷ []))
+    else word_move n k x
+
+abbrev pub side_closed : ℕ → ℕ → Move
+side_closed n zero = stuck
+side_closed n (suc k) = takes (a.Side n k ∷ [])
+
+abbrev pub side_move : ℕ → ℕ → Lexeme → Move
+side_move n k x =
+    if is_sign s.Equals x then takes (a.Term (deep n k) ∷ a.Closing n k ∷ [])
+    else if is_sign s.Close x then side_closed n k
+    else stuck
+
+abbrev pub order_move : ℕ → ℕ → Lexeme → Move
+order_move n k x = if is_sign s.Less x then takes (a.Variable ∷ a.Closing n k ∷ []) else becomes (a.Side n k ∷ [])
+
+abbrev pub bare_move : ℕ → ℕ → Lexeme → Move
+bare_move n k x = if is_sign s.Colon x then takes (a.Sort ∷ a.Order n k ∷ []) else becomes (a.Order n k ∷ [])
+
+abbrev pub named_move : ℕ → ℕ → Lexeme → Move
+named_move n k x =
+    if is_sign s.Open x then nests (deep n k) (takes (a.Arguments (deep n k + 1) ∷ a.Exactly s.At ∷ a.Variable ∷ a.Closing n k ∷ []))
+    else becomes (a.Bare n k ∷ [])
+
+abbrev pub truth_move : ℕ → ℕ → Lexeme → Move
+truth_move n k x =
+    if is_sign s.Colon x || is_sign s.Open x || is_sign s.Less x then becomes (a.Named n k ∷ [])
+    else becomes (a.Both n k ∷ [])
+
+abbrev pub both_closed : ℕ → ℕ → Move
+both_closed n zero = becomes (a.Closing n zero ∷ [])
+both_closed n (suc k) = takes (a.Both n k ∷ [])
+
+abbrev pub both_move : ℕ → ℕ → Lexeme → Move
+both_move n k x =
+    if is_sign s.Equals x then becomes (a.Side n k ∷ [])
+    else if is_sign s.Close x then both_closed n k
+    else becomes (a.Closing n k ∷ [])
+
+abbrev pub closing_move : ℕ → ℕ → Move
+closing_move n zero = becomes []
+closing_move n (suc k) = becomes (a.More (deep n k + 1) ∷ a.Twice (deep n k + 1) ∷ a.Exactly s.Close ∷ a.Closing n k ∷ [])
+
+abbrev pub more_move : ℕ → Lexeme → Move
+more_move n x =
+    if is_sign s.And x || is_sign s.Or x then takes (a.Negation n 0 ∷ a.More n ∷ [])
+    else if is_sign s.Implies x then nests n (takes (a.Negation (n + 1) 0 ∷ a.More (n + 1) ∷ []))
+    else becomes []
+
+abbrev pub twice_move : ℕ → Lexeme → Move
+twice_move n x = if is_sign s.Iff x then takes (a.Negation n 0 ∷ a.More n ∷ []) else becomes []
+
+-- ---- proofs
+
+abbrev pub proof_move : Lexeme → Move
+proof_move x =
+    if is_word (codes "SOLVED") x then takes []
+    else if is_word (codes "by") x then takes (a.Method ∷ [])
+    else if is_step x then takes (a.Behind ∷ [])
+    else stuck
+
+abbrev pub behind_move : Lexeme → Move
+behind_move x = if is_word (codes "case") x then takes (a.Name ∷ a.Proof ∷ a.Cases ∷ []) else becomes (a.Proof ∷ [])
+
+abbrev pub cases_move : Lexeme → Move
+cases_move x =
+    if is_word (codes "qed") x then takes []
+    else if is_word (codes "next") x then takes (a.Case ∷ a.Name ∷ a.Proof ∷ a.Cases ∷ [])
+    else stuck
+
+-- ---- theories
+
+abbrev pub theory_move : Lexeme → Move
+theory_move x = if is_word (codes "theory") x then takes (a.Name ∷ a.Begin ∷ a.Items ∷ []) else stuck
+
+abbrev pub items_move : Lexeme → Move
+items_move x =
+    if is_word (codes "rule") x then takes (a.Name ∷ a.Exactly s.Colon ∷ a.FactList ∷ a.Arrow ∷ a.FactList ∷ a.Items ∷ [])
+    else if is_word (codes "lemma") x then takes (a.Name ∷ a.Exactly s.Colon ∷ a.Kind ∷ a.Negation 0 0 ∷ a.More 0 ∷ a.Twice 0 ∷ a.Exactly s.Quote ∷ a.Below ∷ [])
+    else single (is_word (codes "end") x)
+
+abbrev pub fact_list_move : Lexeme → Move
+fact_list_move x = if is_sign s.OpenList x then takes (a.Facts s.CloseList ∷ []) else stuck
+
+abbrev pub facts_move : Sign → Lexeme → Move
+facts_move y x = if is_sign y x then takes [] else becomes (a.Fact 0 ∷ a.MoreFacts y ∷ [])
+
+abbrev pub more_facts_move : Sign → Lexeme → Move
+more_facts_move y x = if is_sign s.Comma x then takes (a.Fact 0 ∷ a.MoreFacts y ∷ []) else single (is_sign y x)
+
+abbrev pub arrow_move : Lexeme → Move
+arrow_move x =
+    if is_sign s.Arrow x then takes []
+    else if is_sign s.OpenArrow x then takes (a.Facts s.CloseArrow ∷ [])
+    else stuck
+
+abbrev pub kind_move : Lexeme → Move
+kind_move x =
+    if is_sign s.Quote x then takes []
+    else if is_word (codes "all") x then takes (a.Exactly s.Dash ∷ a.Traces ∷ a.Exactly s.Quote ∷ [])
+    else if is_word (codes "exists") x then takes (a.Exactly s.Dash ∷ a.Trace ∷ a.Exactly s.Quote ∷ [])
+    else stuck
+
+abbrev pub is_item : Lexeme → Bool
+is_item x = is_word (codes "rule") x || is_word (codes "lemma") x || is_word (codes "end") x
+
+abbrev pub below_move : Lexeme → Move
+below_move x = if is_item x then becomes (a.Items ∷ []) else becomes (a.Proof ∷ a.Items ∷ [])
+
+-- ---- all
+
+abbrev pub next : Awaited → Lexeme → Move
+next (a.Exactly y) x = single (is_sign y x)
+next a.Name x = single (is_name x)
+next a.Sort x = single (is_sort x)
+next a.FactName x = single (is_fact_name x)
+next a.Sorted x = sorted_move x
+next a.Variable x = variable_move [] x
+next (a.Term n) x = term_move n x
+next (a.Arguments n) x = arguments_move n x
+next (a.MoreArguments n) x = more_arguments_move n x
+next (a.Fact n) x = fact_move n x
+next (a.Opened n) x = opened_move n x
+next a.Binders x = binders_move x
+next (a.Negation n k) x = negation_move n k x
+next (a.Unit n k) x = unit_move n k x
+next (a.Side n k) x = side_move n k x
+next (a.Order n k) x = order_move n k x
+next (a.Bare n k) x = bare_move n k x
+next (a.Named n k) x = named_move n k x
+next (a.Truth n k) x = truth_move n k x
+next (a.Both n k) x = both_move n k x
+next (a.Closing n k) x = closing_move n k
+next (a.More n) x = more_move n x
+next (a.Twice n) x = twice_move n x
+next a.Theory x = theory_move x
+next a.Begin x = single (is_word (codes "begin") x)
+next a.Items x = items_move x
+next a.FactList x = fact_list_move x
+next (a.Facts y) x = facts_move y x
+next (a.MoreFacts y) x = more_facts_move y x
+next a.Arrow x = arrow_move x
+next a.Kind x = kind_move x
+next a.Traces x = single (is_word (codes "traces") x)
+next a.Trace x = single (is_word (codes "trace") x)
+next a.Below x = below_move x
+next a.Proof x = proof_move x
+next a.Behind x = behind_move x
+next a.Case x = single (is_word (codes "case") x)
+next a.Cases x = cases_move x
+next a.Method x = single (is_step x)

@@ -1,0 +1,77 @@
+use sp_lex::Sign;
+
+/// A part that a text still has to have at a place of it. The numbers are the nesting; where there are two, the nesting of a unit of a
+/// formula and the brackets behind its beginning that hold nothing but what was read since, so that they may hold a term or a formula.
+#[derive(Clone, Copy)]
+pub enum Awaited {
+    /// This sign.
+    Exactly(Sign),
+    Name,
+    /// The word of a sort.
+    Sort,
+    /// The name of a fact.
+    FactName,
+    /// Behind the name of a variable: `:` and a sort, or nothing.
+    Sorted,
+    Variable,
+    Term(u32),
+    /// Behind the bracket of a fact.
+    Arguments(u32),
+    /// Behind an argument of a fact.
+    MoreArguments(u32),
+    Fact(u32),
+    /// The arguments of a fact, from the bracket on.
+    Opened(u32),
+    /// Behind a variable of a quantifier.
+    Binders,
+    /// A unit, or `not` and a unit.
+    Negation(u32, u32),
+    Unit(u32, u32),
+    /// Behind a term.
+    Side(u32, u32),
+    /// Behind a variable.
+    Order(u32, u32),
+    /// Behind a name that stands alone.
+    Bare(u32, u32),
+    /// Behind a name that may name a fact.
+    Named(u32, u32),
+    /// Behind `T` or `F`.
+    Truth(u32, u32),
+    /// Behind what is a term and a unit.
+    Both(u32, u32),
+    /// Behind a unit, up to the last of the brackets.
+    Closing(u32, u32),
+    /// Behind a unit, up to the end of the implication.
+    More(u32),
+    /// Behind an implication.
+    Twice(u32),
+    Theory,
+    /// The word `begin`.
+    Begin,
+    /// Items, and the word `end`.
+    Items,
+    /// Facts in brackets.
+    FactList,
+    /// Facts up to this sign.
+    Facts(Sign),
+    /// Behind a fact of such a list.
+    MoreFacts(Sign),
+    Arrow,
+    /// The kind of a lemma, and the quote behind it.
+    Kind,
+    /// The word `traces`.
+    Traces,
+    /// The word `trace`.
+    Trace,
+    /// Behind a lemma: its proof or none, items, and the word `end`.
+    Below,
+    Proof,
+    /// Behind a method.
+    Behind,
+    /// The word `case`.
+    Case,
+    /// Behind a case.
+    Cases,
+    /// The method behind `by`.
+    Method,
+}

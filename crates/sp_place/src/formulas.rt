@@ -1,0 +1,222 @@
+// What a token does to the parts of formulas. Of two numbers the first is the nesting of a unit, the second the brackets inside of it that
+// are open.
+
+ghost use Rattle.std.specs.Prelude.{◌≡◌, ◌≤◌};
+ghost use Rattle.sp_lex.specs.Views.{lexeme_of};
+ghost use Rattle.sp_place.specs.Table as spec;
+ghost use Rattle.sp_place.specs.Views.{move_of};
+
+use crate::awaited::Awaited;
+use crate::lexemes::{is_constant, is_fact_name, is_mark, is_name, is_sign, is_word};
+use crate::moves::{Few, Move};
+use crate::terms::{LIMIT, nests};
+use sp_lex::{Lexeme, Sign};
+
+/// The nesting inside of the brackets.
+#[tactic(auto, using(crate::proofs::Depth::deep_sum))]
+fn deep(n: u32, k: u32) -> u32
+    requires { spec.deep n k ≤ LIMIT }
+    ensures { result ≡ spec.deep n k }
+{
+    n + k
+}
+
+pub fn negation<'a>(n: u32, k: u32, x: Lexeme<'a>) -> Move
+    requires { spec.deep n k ≤ LIMIT }
+    ensures { move_of result ≡ spec.negation_move n k (lexeme_of x.entry) }
+{
+    if is_word("not", x) {
+        Move::Takes(Few::Two(Awaited::Unit(deep(n, k), 0), Awaited::Closing(n, k)))
+    } else {
+        Move::Becomes(Few::One(Awaited::Unit(n, k)))
+    }
+}
+
+/// A unit that begins with a word.
+fn word<'a>(n: u32, k: u32, x: Lexeme<'a>) -> Move
+    requires { spec.deep n k ≤ LIMIT }
+    ensures { move_of result ≡ spec.word_move n k (lexeme_of x.entry) }
+{
+    if is_word("All", x) || is_word("Ex", x) {
+        let m = deep(n, k);
+        let body = Few::Six(
+            Awaited::Variable,
+            Awaited::Binders,
+            Awaited::Negation(m + 1, 0),
+            Awaited::More(m + 1),
+            Awaited::Twice(m + 1),
+            Awaited::Closing(n, k),
+        );
+        nests(m, Move::Takes(body))
+    } else if is_word("T", x) || is_word("F", x) {
+        Move::Takes(Few::One(Awaited::Truth(n, k)))
+    } else if is_fact_name(x) {
+        Move::Takes(Few::One(Awaited::Named(n, k)))
+    } else if is_name(x) {
+        Move::Takes(Few::One(Awaited::Bare(n, k)))
+    } else {
+        Move::Stuck
+    }
+}
+
+#[tactic(auto, using(crate::proofs::Depth::deep_sum))]
+pub fn unit<'a>(n: u32, k: u32, x: Lexeme<'a>) -> Move
+    requires { spec.deep n k ≤ LIMIT }
+    ensures { move_of result ≡ spec.unit_move n k (lexeme_of x.entry) }
+{
+    let m = deep(n, k);
+    if is_sign(Sign::Open, x) {
+        nests(m, Move::Takes(Few::One(Awaited::Negation(n, k + 1))))
+    } else if is_constant(x) {
+        Move::Takes(Few::One(Awaited::Side(n, k)))
+    } else if is_mark(x) {
+        Move::Takes(Few::Two(Awaited::Name, Awaited::Order(n, k)))
+    } else if is_sign(Sign::Bang, x) {
+        let persistent = Few::Five(
+            Awaited::FactName,
+            Awaited::Opened(m),
+            Awaited::Exactly(Sign::At),
+            Awaited::Variable,
+            Awaited::Closing(n, k),
+        );
+        nests(m, Move::Takes(persistent))
+    } else {
+        word(n, k, x)
+    }
+}
+
+fn side_closed(n: u32, k: u32) -> Move
+    ensures { move_of result ≡ spec.side_closed n k }
+{
+    if k == 0 {
+        Move::Stuck
+    } else {
+        Move::Takes(Few::One(Awaited::Side(n, k - 1)))
+    }
+}
+
+pub fn side<'a>(n: u32, k: u32, x: Lexeme<'a>) -> Move
+    requires { spec.deep n k ≤ LIMIT }
+    ensures { move_of result ≡ spec.side_move n k (lexeme_of x.entry) }
+{
+    if is_sign(Sign::Equals, x) {
+        Move::Takes(Few::Two(Awaited::Term(deep(n, k)), Awaited::Closing(n, k)))
+    } else if is_sign(Sign::Close, x) {
+        side_closed(n, k)
+    } else {
+        Move::Stuck
+    }
+}
+
+pub fn order<'a>(n: u32, k: u32, x: Lexeme<'a>) -> Move
+    ensures { move_of result ≡ spec.order_move n k (lexeme_of x.entry) }
+{
+    if is_sign(Sign::Less, x) {
+        Move::Takes(Few::Two(Awaited::Variable, Awaited::Closing(n, k)))
+    } else {
+        Move::Becomes(Few::One(Awaited::Side(n, k)))
+    }
+}
+
+pub fn bare<'a>(n: u32, k: u32, x: Lexeme<'a>) -> Move
+    ensures { move_of result ≡ spec.bare_move n k (lexeme_of x.entry) }
+{
+    if is_sign(Sign::Colon, x) {
+        Move::Takes(Few::Two(Awaited::Sort, Awaited::Order(n, k)))
+    } else {
+        Move::Becomes(Few::One(Awaited::Order(n, k)))
+    }
+}
+
+pub fn named<'a>(n: u32, k: u32, x: Lexeme<'a>) -> Move
+    requires { spec.deep n k ≤ LIMIT }
+    ensures { move_of result ≡ spec.named_move n k (lexeme_of x.entry) }
+{
+    if is_sign(Sign::Open, x) {
+        let m = deep(n, k);
+        let action = Few::Four(
+            Awaited::Arguments(m + 1),
+            Awaited::Exactly(Sign::At),
+            Awaited::Variable,
+            Awaited::Closing(n, k),
+        );
+        nests(m, Move::Takes(action))
+    } else {
+        Move::Becomes(Few::One(Awaited::Bare(n, k)))
+    }
+}
+
+pub fn truth<'a>(n: u32, k: u32, x: Lexeme<'a>) -> Move
+    ensures { move_of result ≡ spec.truth_move n k (lexeme_of x.entry) }
+{
+    if is_sign(Sign::Colon, x) || is_sign(Sign::Open, x) || is_sign(Sign::Less, x) {
+        Move::Becomes(Few::One(Awaited::Named(n, k)))
+    } else {
+        Move::Becomes(Few::One(Awaited::Both(n, k)))
+    }
+}
+
+fn both_closed(n: u32, k: u32) -> Move
+    ensures { move_of result ≡ spec.both_closed n k }
+{
+    if k == 0 {
+        Move::Becomes(Few::One(Awaited::Closing(n, 0)))
+    } else {
+        Move::Takes(Few::One(Awaited::Both(n, k - 1)))
+    }
+}
+
+pub fn both<'a>(n: u32, k: u32, x: Lexeme<'a>) -> Move
+    ensures { move_of result ≡ spec.both_move n k (lexeme_of x.entry) }
+{
+    if is_sign(Sign::Equals, x) {
+        Move::Becomes(Few::One(Awaited::Side(n, k)))
+    } else if is_sign(Sign::Close, x) {
+        both_closed(n, k)
+    } else {
+        Move::Becomes(Few::One(Awaited::Closing(n, k)))
+    }
+}
+
+pub fn closing(n: u32, k: u32) -> Move
+    requires { spec.deep n k ≤ LIMIT }
+    ensures { move_of result ≡ spec.closing_move n k }
+{
+    if k == 0 {
+        Move::Becomes(Few::Zero)
+    } else {
+        let m = deep(n, k);
+        Move::Becomes(Few::Four(
+            Awaited::More(m),
+            Awaited::Twice(m),
+            Awaited::Exactly(Sign::Close),
+            Awaited::Closing(n, k - 1),
+        ))
+    }
+}
+
+pub fn more<'a>(n: u32, x: Lexeme<'a>) -> Move
+    requires { n ≤ LIMIT }
+    ensures { move_of result ≡ spec.more_move n (lexeme_of x.entry) }
+{
+    if is_sign(Sign::And, x) || is_sign(Sign::Or, x) {
+        Move::Takes(Few::Two(Awaited::Negation(n, 0), Awaited::More(n)))
+    } else if is_sign(Sign::Implies, x) {
+        nests(
+            n,
+            Move::Takes(Few::Two(Awaited::Negation(n + 1, 0), Awaited::More(n + 1))),
+        )
+    } else {
+        Move::Becomes(Few::Zero)
+    }
+}
+
+pub fn twice<'a>(n: u32, x: Lexeme<'a>) -> Move
+    ensures { move_of result ≡ spec.twice_move n (lexeme_of x.entry) }
+{
+    if is_sign(Sign::Iff, x) {
+        Move::Takes(Few::Two(Awaited::Negation(n, 0), Awaited::More(n)))
+    } else {
+        Move::Becomes(Few::Zero)
+    }
+}

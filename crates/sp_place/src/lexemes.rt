@@ -1,0 +1,142 @@
+// Tests on tokens.
+
+ghost use Rattle.std.specs.Prelude.{◌≡◌};
+ghost use Rattle.sp_lex.specs.Views.{lexeme_of};
+ghost use Rattle.sp_place.specs.Table as spec;
+ghost use Rattle.sp_read_proof.specs.Grammar as proofs;
+
+use sp_lex::{Lexeme, Sign};
+use sp_read_parts::words::{is_reserved, mark_at, mark_of, names_fact};
+
+fn code(sign: Sign) -> u8
+    ensures { result ≡ spec.code sign }
+{
+    match sign {
+        Sign::Open => 0,
+        Sign::Close => 1,
+        Sign::OpenList => 2,
+        Sign::CloseList => 3,
+        Sign::OpenArrow => 4,
+        Sign::CloseArrow => 5,
+        Sign::Arrow => 6,
+        Sign::Implies => 7,
+        Sign::Iff => 8,
+        Sign::Comma => 9,
+        Sign::Colon => 10,
+        Sign::Dot => 11,
+        Sign::Quote => 12,
+        Sign::Bang => 13,
+        Sign::Tilde => 14,
+        Sign::Dollar => 15,
+        Sign::Hash => 16,
+        Sign::At => 17,
+        Sign::And => 18,
+        Sign::Or => 19,
+        Sign::Equals => 20,
+        Sign::Less => 21,
+        Sign::Dash => 22,
+    }
+}
+
+/// Whether it is this sign.
+pub fn is_sign<'a>(wanted: Sign, lexeme: Lexeme<'a>) -> bool
+    ensures { result ≡ spec.is_sign wanted (lexeme_of lexeme.entry) }
+{
+    match lexeme {
+        Lexeme::Sign(found) => code(found) == code(wanted),
+        Lexeme::Word(_) => false,
+        Lexeme::Constant(_) => false,
+        Lexeme::Solve(_) => false,
+    }
+}
+
+/// Whether it is this word.
+pub fn is_word<'a>(wanted: &str, lexeme: Lexeme<'a>) -> bool
+    ensures { result ≡ spec.is_word wanted.now (lexeme_of lexeme.entry) }
+{
+    match lexeme {
+        Lexeme::Word(found) => found == wanted,
+        Lexeme::Sign(_) => false,
+        Lexeme::Constant(_) => false,
+        Lexeme::Solve(_) => false,
+    }
+}
+
+/// Whether it is a constant.
+pub fn is_constant<'a>(lexeme: Lexeme<'a>) -> bool
+    ensures { result ≡ spec.is_constant (lexeme_of lexeme.entry) }
+{
+    match lexeme {
+        Lexeme::Constant(_) => true,
+        Lexeme::Word(_) => false,
+        Lexeme::Sign(_) => false,
+        Lexeme::Solve(_) => false,
+    }
+}
+
+/// Whether it is a sign before the name of a variable.
+pub fn is_mark<'a>(lexeme: Lexeme<'a>) -> bool
+    ensures { result ≡ spec.is_mark (lexeme_of lexeme.entry) }
+{
+    match lexeme {
+        Lexeme::Sign(found) => mark_at(found).is_some(),
+        Lexeme::Word(_) => false,
+        Lexeme::Constant(_) => false,
+        Lexeme::Solve(_) => false,
+    }
+}
+
+/// Whether it is a name.
+pub fn is_name<'a>(lexeme: Lexeme<'a>) -> bool
+    ensures { result ≡ spec.is_name (lexeme_of lexeme.entry) }
+{
+    match lexeme {
+        Lexeme::Word(found) => !is_reserved(found),
+        Lexeme::Sign(_) => false,
+        Lexeme::Constant(_) => false,
+        Lexeme::Solve(_) => false,
+    }
+}
+
+/// Whether it is the name of a fact.
+pub fn is_fact_name<'a>(lexeme: Lexeme<'a>) -> bool
+    ensures { result ≡ spec.is_fact_name (lexeme_of lexeme.entry) }
+{
+    match lexeme {
+        Lexeme::Word(found) => names_fact(found),
+        Lexeme::Sign(_) => false,
+        Lexeme::Constant(_) => false,
+        Lexeme::Solve(_) => false,
+    }
+}
+
+/// Whether it is the word of a sort.
+pub fn is_sort<'a>(lexeme: Lexeme<'a>) -> bool
+    ensures { result ≡ spec.is_sort (lexeme_of lexeme.entry) }
+{
+    match lexeme {
+        Lexeme::Word(found) => mark_of(found).is_some(),
+        Lexeme::Sign(_) => false,
+        Lexeme::Constant(_) => false,
+        Lexeme::Solve(_) => false,
+    }
+}
+
+#[tactic(auto, unfolding(sp_read_proof::specs::Grammar::is_method))]
+fn is_method(word: &str) -> bool
+    ensures { result ≡ proofs.is_method word.now }
+{
+    word == "simplify" || word == "induction" || word == "contradiction" || word == "sorry"
+}
+
+/// Whether it is a method.
+pub fn is_step<'a>(lexeme: Lexeme<'a>) -> bool
+    ensures { result ≡ spec.is_step (lexeme_of lexeme.entry) }
+{
+    match lexeme {
+        Lexeme::Word(found) => is_method(found),
+        Lexeme::Solve(_) => true,
+        Lexeme::Sign(_) => false,
+        Lexeme::Constant(_) => false,
+    }
+}

@@ -1,0 +1,133 @@
+// What a token does to variables, terms and facts.
+
+ghost use Rattle.std.specs.Prelude.{◌≡◌, [], ◌∷◌, ◌≤◌};
+ghost use Rattle.sp_lex.specs.Views.{lexeme_of};
+ghost use Rattle.sp_place.specs.declared.awaited.Awaited.TheVariants as a;
+ghost use Rattle.sp_place.specs.Table as spec;
+ghost use Rattle.sp_place.specs.Views.{move_of};
+
+use crate::awaited::Awaited;
+use crate::lexemes::{is_constant, is_fact_name, is_mark, is_name, is_sign};
+use crate::moves::{Few, Move};
+use sp_lex::{Lexeme, Sign};
+
+/// The deepest nesting of a token.
+pub const LIMIT: u32 = 128;
+
+/// A part that is one token.
+pub fn single(holds: bool) -> Move
+    ensures { move_of result ≡ spec.single holds }
+{
+    if holds {
+        Move::Takes(Few::Zero)
+    } else {
+        Move::Stuck
+    }
+}
+
+/// What opens a nesting is wrong where the nesting is too deep.
+pub fn nests(nesting: u32, inside: Move) -> Move
+    ensures { move_of result ≡ spec.nests nesting (move_of inside) }
+{
+    if nesting < LIMIT { inside } else { Move::Stuck }
+}
+
+pub fn sorted<'a>(x: Lexeme<'a>) -> Move
+    ensures { move_of result ≡ spec.sorted_move (lexeme_of x.entry) }
+{
+    if is_sign(Sign::Colon, x) {
+        Move::Takes(Few::One(Awaited::Sort))
+    } else {
+        Move::Becomes(Few::Zero)
+    }
+}
+
+pub fn variable<'a>(x: Lexeme<'a>) -> Move
+    ensures { move_of result ≡ spec.variable_move [] (lexeme_of x.entry) }
+{
+    if is_mark(x) {
+        Move::Takes(Few::One(Awaited::Name))
+    } else if is_name(x) {
+        Move::Takes(Few::One(Awaited::Sorted))
+    } else {
+        Move::Stuck
+    }
+}
+
+pub fn term<'a>(nesting: u32, x: Lexeme<'a>) -> Move
+    requires { nesting ≤ LIMIT }
+    ensures { move_of result ≡ spec.term_move nesting (lexeme_of x.entry) }
+{
+    if is_constant(x) {
+        Move::Takes(Few::Zero)
+    } else if is_sign(Sign::Open, x) {
+        nests(
+            nesting,
+            Move::Takes(Few::Two(Awaited::Term(nesting + 1), Awaited::Exactly(Sign::Close))),
+        )
+    } else {
+        Move::Becomes(Few::One(Awaited::Variable))
+    }
+}
+
+pub fn arguments<'a>(nesting: u32, x: Lexeme<'a>) -> Move
+    ensures { move_of result ≡ spec.arguments_move nesting (lexeme_of x.entry) }
+{
+    if is_sign(Sign::Close, x) {
+        Move::Takes(Few::Zero)
+    } else {
+        Move::Becomes(Few::Two(Awaited::Term(nesting), Awaited::MoreArguments(nesting)))
+    }
+}
+
+pub fn more_arguments<'a>(nesting: u32, x: Lexeme<'a>) -> Move
+    ensures { move_of result ≡ spec.more_arguments_move nesting (lexeme_of x.entry) }
+{
+    if is_sign(Sign::Comma, x) {
+        Move::Takes(Few::Two(Awaited::Term(nesting), Awaited::MoreArguments(nesting)))
+    } else if is_sign(Sign::Close, x) {
+        Move::Takes(Few::Zero)
+    } else {
+        Move::Stuck
+    }
+}
+
+pub fn fact<'a>(nesting: u32, x: Lexeme<'a>) -> Move
+    ensures { move_of result ≡ spec.fact_move nesting (lexeme_of x.entry) }
+{
+    if is_sign(Sign::Bang, x) {
+        Move::Takes(Few::Two(Awaited::FactName, Awaited::Opened(nesting)))
+    } else if is_fact_name(x) {
+        Move::Takes(Few::One(Awaited::Opened(nesting)))
+    } else {
+        Move::Stuck
+    }
+}
+
+pub fn opened<'a>(nesting: u32, x: Lexeme<'a>) -> Move
+    requires { nesting ≤ LIMIT }
+    ensures { move_of result ≡ spec.opened_move nesting (lexeme_of x.entry) }
+{
+    if is_sign(Sign::Open, x) {
+        nests(
+            nesting,
+            Move::Takes(Few::One(Awaited::Arguments(nesting + 1))),
+        )
+    } else {
+        Move::Stuck
+    }
+}
+
+pub fn binders<'a>(x: Lexeme<'a>) -> Move
+    ensures { move_of result ≡ spec.binders_move (lexeme_of x.entry) }
+{
+    if is_sign(Sign::Dot, x) {
+        Move::Takes(Few::Zero)
+    } else if is_mark(x) {
+        Move::Takes(Few::Two(Awaited::Name, Awaited::Binders))
+    } else if is_name(x) {
+        Move::Takes(Few::Two(Awaited::Sorted, Awaited::Binders))
+    } else {
+        Move::Stuck
+    }
+}

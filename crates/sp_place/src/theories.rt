@@ -1,0 +1,160 @@
+// What a token does to the parts of theories and proofs.
+
+ghost use Rattle.std.specs.Prelude.{◌≡◌};
+ghost use Rattle.sp_lex.specs.Views.{lexeme_of};
+ghost use Rattle.sp_place.specs.Table as spec;
+ghost use Rattle.sp_place.specs.Views.{move_of};
+
+use crate::awaited::Awaited;
+use crate::lexemes::{is_sign, is_step, is_word};
+use crate::moves::{Few, Move};
+use crate::terms::single;
+use sp_lex::{Lexeme, Sign};
+
+pub fn theory<'a>(x: Lexeme<'a>) -> Move
+    ensures { move_of result ≡ spec.theory_move (lexeme_of x.entry) }
+{
+    if is_word("theory", x) {
+        Move::Takes(Few::Three(Awaited::Name, Awaited::Begin, Awaited::Items))
+    } else {
+        Move::Stuck
+    }
+}
+
+pub fn items<'a>(x: Lexeme<'a>) -> Move
+    ensures { move_of result ≡ spec.items_move (lexeme_of x.entry) }
+{
+    if is_word("rule", x) {
+        Move::Takes(Few::Six(
+            Awaited::Name,
+            Awaited::Exactly(Sign::Colon),
+            Awaited::FactList,
+            Awaited::Arrow,
+            Awaited::FactList,
+            Awaited::Items,
+        ))
+    } else if is_word("lemma", x) {
+        Move::Takes(Few::Eight(
+            Awaited::Name,
+            Awaited::Exactly(Sign::Colon),
+            Awaited::Kind,
+            Awaited::Negation(0, 0),
+            Awaited::More(0),
+            Awaited::Twice(0),
+            Awaited::Exactly(Sign::Quote),
+            Awaited::Below,
+        ))
+    } else {
+        single(is_word("end", x))
+    }
+}
+
+pub fn fact_list<'a>(x: Lexeme<'a>) -> Move
+    ensures { move_of result ≡ spec.fact_list_move (lexeme_of x.entry) }
+{
+    if is_sign(Sign::OpenList, x) {
+        Move::Takes(Few::One(Awaited::Facts(Sign::CloseList)))
+    } else {
+        Move::Stuck
+    }
+}
+
+pub fn facts<'a>(close: Sign, x: Lexeme<'a>) -> Move
+    ensures { move_of result ≡ spec.facts_move close (lexeme_of x.entry) }
+{
+    if is_sign(close, x) {
+        Move::Takes(Few::Zero)
+    } else {
+        Move::Becomes(Few::Two(Awaited::Fact(0), Awaited::MoreFacts(close)))
+    }
+}
+
+pub fn more_facts<'a>(close: Sign, x: Lexeme<'a>) -> Move
+    ensures { move_of result ≡ spec.more_facts_move close (lexeme_of x.entry) }
+{
+    if is_sign(Sign::Comma, x) {
+        Move::Takes(Few::Two(Awaited::Fact(0), Awaited::MoreFacts(close)))
+    } else {
+        single(is_sign(close, x))
+    }
+}
+
+pub fn arrow<'a>(x: Lexeme<'a>) -> Move
+    ensures { move_of result ≡ spec.arrow_move (lexeme_of x.entry) }
+{
+    if is_sign(Sign::Arrow, x) {
+        Move::Takes(Few::Zero)
+    } else if is_sign(Sign::OpenArrow, x) {
+        Move::Takes(Few::One(Awaited::Facts(Sign::CloseArrow)))
+    } else {
+        Move::Stuck
+    }
+}
+
+pub fn kind<'a>(x: Lexeme<'a>) -> Move
+    ensures { move_of result ≡ spec.kind_move (lexeme_of x.entry) }
+{
+    if is_sign(Sign::Quote, x) {
+        Move::Takes(Few::Zero)
+    } else if is_word("all", x) {
+        Move::Takes(Few::Three(
+            Awaited::Exactly(Sign::Dash),
+            Awaited::Traces,
+            Awaited::Exactly(Sign::Quote),
+        ))
+    } else if is_word("exists", x) {
+        Move::Takes(Few::Three(
+            Awaited::Exactly(Sign::Dash),
+            Awaited::Trace,
+            Awaited::Exactly(Sign::Quote),
+        ))
+    } else {
+        Move::Stuck
+    }
+}
+
+pub fn below<'a>(x: Lexeme<'a>) -> Move
+    ensures { move_of result ≡ spec.below_move (lexeme_of x.entry) }
+{
+    if is_word("rule", x) || is_word("lemma", x) || is_word("end", x) {
+        Move::Becomes(Few::One(Awaited::Items))
+    } else {
+        Move::Becomes(Few::Two(Awaited::Proof, Awaited::Items))
+    }
+}
+
+pub fn proof<'a>(x: Lexeme<'a>) -> Move
+    ensures { move_of result ≡ spec.proof_move (lexeme_of x.entry) }
+{
+    if is_word("SOLVED", x) {
+        Move::Takes(Few::Zero)
+    } else if is_word("by", x) {
+        Move::Takes(Few::One(Awaited::Method))
+    } else if is_step(x) {
+        Move::Takes(Few::One(Awaited::Behind))
+    } else {
+        Move::Stuck
+    }
+}
+
+pub fn behind<'a>(x: Lexeme<'a>) -> Move
+    ensures { move_of result ≡ spec.behind_move (lexeme_of x.entry) }
+{
+    if is_word("case", x) {
+        Move::Takes(Few::Three(Awaited::Name, Awaited::Proof, Awaited::Cases))
+    } else {
+        Move::Becomes(Few::One(Awaited::Proof))
+    }
+}
+
+pub fn cases<'a>(x: Lexeme<'a>) -> Move
+    ensures { move_of result ≡ spec.cases_move (lexeme_of x.entry) }
+{
+    if is_word("qed", x) {
+        Move::Takes(Few::Zero)
+    } else if is_word("next", x) {
+        Move::Takes(Few::Four(Awaited::Case, Awaited::Name, Awaited::Proof, Awaited::Cases))
+    } else {
+        Move::Stuck
+    }
+}
