@@ -1,16 +1,15 @@
 // The move that is chosen for a system.
 
-ghost use Rattle.std.specs.Prelude.{◌≡◌, List, map, IfOk};
+ghost use Rattle.std.specs.Prelude.{◌≡◌, List, IfOk};
 ghost use Rattle.sp_spec.specs.Rule as spec_rule;
-ghost use Rattle.sp_rule.specs.View.{rule_of};
 ghost use Rattle.sp_system.specs.SystemView.{system_of};
-ghost use Rattle.sp_moves.specs.View.{move_of};
+ghost use Rattle.sp_moves.specs.View.{book_of, move_of};
 ghost use Rattle.sp_check.specs.Growth as growth;
 
 use sp_moves::action::is_solvable;
+use sp_moves::book::RuleBook;
 use sp_moves::moves::Move;
 use sp_rows::simplify::{by_rows, is_contradictory};
-use sp_rule::Rule;
 use sp_system::system::System;
 use std::alloc::{AllocError, Global};
 
@@ -19,8 +18,8 @@ use std::alloc::{AllocError, Global};
 /// # Errors
 ///
 /// `AllocError` where memory is wanting, or no number is left for a new variable.
-pub fn choice(alloc: Global, rules: &Vec<Rule>, system: &System) -> Result<Move, AllocError>
-    ensures { IfOk result (λ m. move_of m ≡ growth.choice (map rule_of rules.now.items) (system_of system.now)) }
+pub fn choice(alloc: Global, rules: &RuleBook, system: &System) -> Result<Move, AllocError>
+    ensures { IfOk result (λ m. move_of m ≡ growth.choice (book_of rules.now) (system_of system.now)) }
 {
     if is_contradictory(alloc, system)? {
         return Ok(Move::Contradiction);

@@ -2,6 +2,7 @@ use super::*;
 use crate::class::least_class;
 use sp_fact::fact::{Action, Facts};
 use sp_formula::formula::{Atom, Binder, Formula, FormulaAction, FormulaTerm, Moment};
+use sp_moves::book::RuleBook;
 use sp_moves::moves::Move;
 use sp_rule::Rule;
 use sp_system::system::System;
@@ -10,7 +11,7 @@ use std::alloc::{AllocError, Global};
 use std::test::Fail;
 
 // the rule R with the action A('c')
-fn rules(alloc: Global) -> Result<Vec<Rule>, AllocError> {
+fn rules(alloc: Global) -> Result<RuleBook, AllocError> {
     let mut args = Vec::new(alloc);
     args.push(Term::Constant(Name::new(alloc, "c")?))?;
     let mut actions = Vec::new(alloc);
@@ -29,7 +30,7 @@ fn rules(alloc: Global) -> Result<Vec<Rule>, AllocError> {
         variables: Vec::new(alloc),
         facts,
     })?;
-    Ok(rules)
+    RuleBook::new(alloc, rules)
 }
 
 fn action(alloc: Global, argument: FormulaTerm, time: Moment) -> Result<Atom, AllocError> {

@@ -1,2 +1,3 @@
 pub mod ByAction
 pub mod PassedOver
+pub mod Listed

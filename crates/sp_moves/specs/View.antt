@@ -1,10 +1,13 @@
--- The moves and cases that those in memory stand for.
-use Rattle.std.specs.Prelude.{string_bytes}
+-- The moves, cases and rules that those in memory stand for.
+use Rattle.std.specs.Prelude.{List, map, string_bytes}
+use Rattle.sp_spec.specs.Rule.{Rule}
+use Rattle.sp_rule.specs.View.{rule_of}
 use Rattle.sp_system.specs.SystemView.{system_of}
 use Rattle.sp_step.specs.Moves as spec
 use Rattle.sp_moves.specs.declared.moves.Move.{Move}
 use Rattle.sp_moves.specs.declared.moves.Move.TheVariants.{Simplify, Contradiction, Unproved, Action}
 use Rattle.sp_moves.specs.declared.moves.Case.{Case}
+use Rattle.sp_moves.specs.declared.book.RuleBook.{RuleBook}
 
 abbrev pub move_of : Move → spec.Move
 move_of Simplify = spec.simplify
@@ -14,3 +17,7 @@ move_of (Action k) = spec.action k
 
 abbrev pub case_of : Case → spec.Case
 case_of c = record { name = string_bytes c.name; system = system_of c.system }
+
+-- the rules of a book
+abbrev pub book_of : RuleBook → List Rule
+book_of b = map rule_of b.rules.items

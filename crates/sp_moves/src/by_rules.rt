@@ -1,14 +1,15 @@
 // An action at a new step of some rule.
 
-ghost use Rattle.std.specs.Prelude.{◌≡◌, IfOk, map};
+ghost use Rattle.std.specs.Prelude.{◌≡◌, IfOk, map, slice_get};
 ghost use Rattle.sp_rule.specs.View.{rule_of};
-ghost use Rattle.sp_term.specs.View.{name_of};
 ghost use Rattle.sp_fact.specs.View.{action_of};
 ghost use Rattle.sp_system.specs.SystemView.{system_of};
 ghost use Rattle.sp_step.specs.Moves as spec;
-ghost use Rattle.sp_moves.specs.View.{case_of};
-ghost use Rattle.sp_moves.specs.Sought.{by_rule, has_action};
+ghost use Rattle.sp_moves.specs.View.{book_of, case_of};
+ghost use Rattle.sp_moves.specs.Sought.{by_rule};
+ghost use Rattle.sp_moves.specs.Book.{by_found};
 
+use crate::book::RuleBook;
 use crate::moves::Case;
 use crate::named::named;
 use crate::renamed::renamed;
@@ -16,7 +17,6 @@ use crate::where_same::by_actions;
 use sp_fact::fact::Action;
 use sp_rule::Rule;
 use sp_system::system::{Event, System};
-use sp_term::term::Name;
 use std::alloc::{AllocError, Global};
 
 /// The system with one more event: a step of the rule at the time, over variables that are new.
@@ -43,19 +43,6 @@ pub fn with_step(
     Ok(made)
 }
 
-/// Whether one of the actions has this name.
-fn has_action(symbol: &Name, actions: &Vec<Action>) -> bool
-    ensures { result ≡ has_action (name_of symbol.now) (map action_of actions.now.items) }
-{
-    for action in actions {
-        if *symbol == action.symbol {
-            return true;
-        }
-    }
-    false
-}
-
-// A rule without an action of this name, as most are, is passed over before anything is copied.
 fn by_rule(
     alloc: Global,
     system: &System,
@@ -65,9 +52,6 @@ fn by_rule(
 ) -> Result<Vec<Case>, AllocError>
     ensures { IfOk result (λ cs. map case_of cs.items ≡ by_rule (rule_of rule.now) (system_of system.now) time (action_of action.now)) }
 {
-    if !has_action(&action.symbol, &rule.facts.actions) {
-        return Ok(Vec::new(alloc));
-    }
     let facts = renamed(alloc, system.next, &rule.facts)?;
     let stepped = with_step(alloc, system, time, rule)?;
     let systems = by_actions(alloc, &stepped, action, &facts.actions)?;
@@ -75,23 +59,40 @@ fn by_rule(
     Ok(made)
 }
 
+fn by_place(
+    alloc: Global,
+    rules: &RuleBook,
+    system: &System,
+    time: u128,
+    action: &Action,
+    place: usize,
+) -> Result<Vec<Case>, AllocError>
+    ensures { IfOk result (λ cs. map case_of cs.items ≡ by_found (slice_get (book_of rules.now) place) (system_of system.now) time (action_of action.now)) }
+{
+    match rules.rules.get(place) {
+        Some(rule) => by_rule(alloc, system, time, action, rule),
+        None => Ok(Vec::new(alloc)),
+    }
+}
+
 /// The cases of a new step of each rule at the time, whose action is this one.
 ///
 /// # Errors
 ///
 /// `AllocError` where memory is wanting, or no number is left.
+// A rule without an action of this name, as most are, gives no case and isn't looked at.
 pub fn by_each(
     alloc: Global,
-    rules: &Vec<Rule>,
+    rules: &RuleBook,
     system: &System,
     time: u128,
     action: &Action,
 ) -> Result<Vec<Case>, AllocError>
-    ensures { IfOk result (λ cs. map case_of cs.items ≡ spec.by_each (map rule_of rules.now.items) (system_of system.now) time (action_of action.now)) }
+    ensures { IfOk result (λ cs. map case_of cs.items ≡ spec.by_each (book_of rules.now) (system_of system.now) time (action_of action.now)) }
 {
     let mut made = Vec::new(alloc);
-    for rule in rules {
-        let mut cases = by_rule(alloc, system, time, action, rule)?;
+    for place in rules.places(&action.symbol) {
+        let mut cases = by_place(alloc, rules, system, time, action, *place)?;
         made.append(&mut cases)?;
     }
     Ok(made)

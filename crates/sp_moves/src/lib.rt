@@ -6,6 +6,7 @@
 
 pub mod action;
 mod at_event;
+pub mod book;
 mod by_rules;
 pub mod moves;
 mod named;

@@ -1,14 +1,13 @@
 // Moves and cases.
 
 ghost use Rattle.std.specs.Prelude.{◌≡◌, [], IfOk, map, option_map};
-ghost use Rattle.sp_rule.specs.View.{rule_of};
 ghost use Rattle.sp_system.specs.SystemView.{system_of};
 ghost use Rattle.sp_step.specs.Moves as spec;
-ghost use Rattle.sp_moves.specs.View.{move_of, case_of};
+ghost use Rattle.sp_moves.specs.View.{book_of, move_of, case_of};
 
+use crate::book::RuleBook;
 use crate::solving::solving_action;
 use sp_rows::simplify::{by_rows, is_contradictory, simplified};
-use sp_rule::Rule;
 use sp_system::system::System;
 use std::alloc::{AllocError, Global};
 
@@ -50,11 +49,11 @@ fn unsimplified(alloc: Global, system: &System) -> Result<Option<Vec<Case>>, All
 
 fn raw_cases(
     alloc: Global,
-    rules: &Vec<Rule>,
+    rules: &RuleBook,
     system: &System,
     chosen: Move,
 ) -> Result<Option<Vec<Case>>, AllocError>
-    ensures { IfOk result (λ o. option_map (λ cs. map case_of cs.items) o ≡ spec.raw_cases (map rule_of rules.now.items) (system_of system.now) (move_of chosen)) }
+    ensures { IfOk result (λ o. option_map (λ cs. map case_of cs.items) o ≡ spec.raw_cases (book_of rules.now) (system_of system.now) (move_of chosen)) }
 {
     match chosen {
         Move::Simplify => unsimplified(alloc, system),
@@ -89,11 +88,11 @@ fn simple_cases(alloc: Global, cases: Vec<Case>) -> Result<Vec<Case>, AllocError
 /// `AllocError` where memory is wanting, or no number is left for a new variable.
 pub fn cases(
     alloc: Global,
-    rules: &Vec<Rule>,
+    rules: &RuleBook,
     system: &System,
     chosen: Move,
 ) -> Result<Option<Vec<Case>>, AllocError>
-    ensures { IfOk result (λ o. option_map (λ cs. map case_of cs.items) o ≡ spec.cases (map rule_of rules.now.items) (system_of system.now) (move_of chosen)) }
+    ensures { IfOk result (λ o. option_map (λ cs. map case_of cs.items) o ≡ spec.cases (book_of rules.now) (system_of system.now) (move_of chosen)) }
 {
     let Some(raw) = raw_cases(alloc, rules, system, chosen)? else {
         return Ok(None);

@@ -1,4 +1,5 @@
 use crate::action::is_solvable;
+use crate::book::RuleBook;
 use crate::moves::{Case, Move, cases};
 use crate::solving::solving_action;
 use sp_fact::fact::{Action, Facts};
@@ -53,7 +54,7 @@ fn rule(alloc: Global, name: &str, sort: Sort, actions: Vec<Action>) -> Result<R
 }
 
 // One: A(~x); Other: B(x); Three: B(x), A(x), A('c').
-fn rules(alloc: Global) -> Result<Vec<Rule>, AllocError> {
+fn rules(alloc: Global) -> Result<RuleBook, AllocError> {
     let mut one = Vec::new(alloc);
     one.push(action(alloc, "A", variable(Sort::Fresh, 0))?)?;
     let mut other = Vec::new(alloc);
@@ -62,7 +63,7 @@ fn rules(alloc: Global) -> Result<Vec<Rule>, AllocError> {
     rules.push(rule(alloc, "One", Sort::Fresh, one)?)?;
     rules.push(rule(alloc, "Other", Sort::Msg, other)?)?;
     rules.push(rule(alloc, "Three", Sort::Msg, three_actions(alloc, 0)?)?)?;
-    Ok(rules)
+    RuleBook::new(alloc, rules)
 }
 
 // The action of the name over the variable of number 0, at the time 5.
