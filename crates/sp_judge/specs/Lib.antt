@@ -1,0 +1,5 @@
+pub mod Judging
+pub mod Laws
+pub mod Rejected
+pub mod Skeleton
+pub mod View
