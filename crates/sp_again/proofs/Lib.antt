@@ -1,0 +1,10 @@
+pub mod Ends
+pub mod Local
+pub mod Moving
+pub mod Reached
+pub mod Stops
+pub mod Places
+pub mod Stretches
+pub mod Items
+pub mod Replaced
+pub mod Named

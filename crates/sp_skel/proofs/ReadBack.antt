@@ -1,0 +1,143 @@
+-- The text of a tree is read back as the tree.
+use Rattle.std.proofs.Common.{◌≡◌, ℕ, suc, zero, ◌≤◌, Bool, true, false, List, [], ◌∷◌, ◌++◌, length, codes, refl, sym, ap, subst, ◌∙◌, append_assoc}
+use Rattle.std.specs.Prelude.{decimal, ◌||◌}
+use Rattle.std.specs.Str.{bytes_eq}
+use Rattle.sp_lex.specs.Lexeme.{Lexeme, word, Token}
+use Rattle.sp_lex.specs.Lex.{is_end, is_solve, skip, AreTokens, lexemes}
+use Rattle.sp_read_parts.specs.Names.{is_reserved, IsName}
+use Rattle.sp_step.specs.Moves.{Move, simplify, contradiction, unproved, action}
+use Rattle.sp_check.specs.Tree.{Tree, node, Branches, no_branch, branch}
+use Rattle.sp_text.specs.TreeText.{indent, line, move_text, tree_text, cases_text}
+use Rattle.sp_read_proof.specs.Grammar.{SpellsProof}
+use Rattle.sp_skel.specs.Laws.{ReadsBack}
+use Rattle.sp_skel.specs.Spelling.{IsWord, move_spelled, spelled, cases_spelled, as_written, HasPlace, IsReadable, AreReadable}
+use Rattle.sp_skel.proofs.Blanks.{Lexes, lexes_blank, space, line_end, lexes_word, lexes_goal}
+use Rattle.sp_skel.proofs.Spelled.{HaveCase, tree_spells, tree_says}
+
+lexes_at : {size : ℕ} {bytes others : List ℕ} {xs : List Lexeme} → bytes ≡ others → Lexes size others xs → Lexes size bytes xs
+lexes_at {size} {xs = xs} e l = subst (λ (b : List ℕ). Lexes size b xs) (sym e) l
+
+-- ---- names
+
+or_left : (x y : Bool) → (x || y) ≡ false → x ≡ false
+or_left true y h = h
+or_left false y h = refl
+
+or_right : (x y : Bool) → (x || y) ≡ false → y ≡ false
+or_right true y h = absurd (let none : ⊥ = cc in none)
+or_right false y h = h
+
+first_of : (a b c d e f g h : Bool) → (a || b || c || d || e || f || g || h) ≡ false → a ≡ false
+first_of true b c d e f g h i = i
+first_of false b c d e f g h i = refl
+
+name_goes_on : (w : List ℕ) → IsName w → is_end (word w) ≡ false
+unfolding is_reserved
+name_goes_on w h =
+    first_of (bytes_eq w (codes "end")) (bytes_eq w (codes "let")) (bytes_eq w (codes "in")) (bytes_eq w (codes "not")) (bytes_eq w (codes "All")) (bytes_eq w (codes "Ex")) (bytes_eq w (codes "last")) (bytes_eq w (codes "solve")) h
+
+name_no_goal : (w : List ℕ) → IsName w → is_solve (word w) ≡ false
+unfolding is_reserved
+name_no_goal w h =
+    or_right (bytes_eq w (codes "end") || bytes_eq w (codes "let") || bytes_eq w (codes "in") || bytes_eq w (codes "not") || bytes_eq w (codes "All") || bytes_eq w (codes "Ex") || bytes_eq w (codes "last")) (bytes_eq w (codes "solve")) h
+
+-- ---- words of moves and cases
+
+word_simplify : IsWord (codes "simplify")
+unfolding skip
+word_simplify = (refl, refl)
+
+word_contradiction : IsWord (codes "contradiction")
+unfolding skip
+word_contradiction = (refl, refl)
+
+word_sorry : IsWord (codes "sorry")
+unfolding skip
+word_sorry = (refl, refl)
+
+word_by : IsWord (codes "by")
+unfolding skip
+word_by = (refl, refl)
+
+word_case : IsWord (codes "case")
+unfolding skip
+word_case = (refl, refl)
+
+word_next : IsWord (codes "next")
+unfolding skip
+word_next = (refl, refl)
+
+word_qed : IsWord (codes "qed")
+unfolding skip
+word_qed = (refl, refl)
+
+lexes_move : {size : ℕ} {xs : List Lexeme} (m : Move) (rest : List ℕ) → HasPlace m → Lexes size (10 ∷ rest) xs → Lexes size (move_text m ++ 10 ∷ rest) (move_spelled m ∷ xs)
+lexes_move simplify rest h l = lexes_word (codes "simplify") 10 rest word_simplify line_end refl refl l
+lexes_move contradiction rest h l = lexes_word (codes "contradiction") 10 rest word_contradiction line_end refl refl l
+lexes_move unproved rest h l = lexes_word (codes "sorry") 10 rest word_sorry line_end refl refl l
+lexes_move (action k) rest h l =
+    lexes_at (ap (λ (bytes : List ℕ). codes "solve( action " ++ bytes) (append_assoc (decimal k) (codes " )") (10 ∷ rest) ∙ sym (append_assoc (decimal k) (codes " ") (41 ∷ 10 ∷ rest))))
+    (lexes_goal k (10 ∷ rest) h l)
+
+lexes_by : {size : ℕ} {xs : List Lexeme} (m : Move) (rest : List ℕ) → HasPlace m → Lexes size (10 ∷ rest) xs → Lexes size ((codes "by " ++ move_text m) ++ 10 ∷ rest) (word (codes "by") ∷ move_spelled m ∷ xs)
+lexes_by m rest h l = lexes_word (codes "by") 32 (move_text m ++ 10 ∷ rest) word_by space refl refl (lexes_blank 32 refl (lexes_move m rest h l))
+
+lexes_case : {size : ℕ} {xs : List Lexeme} (n rest : List ℕ) → IsName n → IsWord n → Lexes size (10 ∷ rest) xs → Lexes size ((codes "case " ++ n) ++ 10 ∷ rest) (word (codes "case") ∷ word n ∷ xs)
+lexes_case n rest h w l =
+    lexes_word (codes "case") 32 (n ++ 10 ∷ rest) word_case space refl refl (lexes_blank 32 refl (lexes_word n 10 rest w line_end (name_goes_on n h) (name_no_goal n h) l))
+
+-- ---- lines
+
+lexes_indent : {size : ℕ} {bytes : List ℕ} {xs : List Lexeme} (depth : ℕ) → Lexes size bytes xs → Lexes size (indent depth ++ bytes) xs
+lexes_indent zero l = l
+lexes_indent (suc depth) l = lexes_blank 32 refl (lexes_blank 32 refl (lexes_indent depth l))
+
+lexes_line : {size : ℕ} {xs : List Lexeme} (depth : ℕ) (words rest : List ℕ) → Lexes size (words ++ 10 ∷ rest) xs → Lexes size (line depth words ++ rest) xs
+lexes_line depth words rest l =
+    lexes_at (append_assoc (indent depth) (words ++ codes "\n") rest ∙ ap (λ (bytes : List ℕ). indent depth ++ bytes) (append_assoc words (codes "\n") rest)) (lexes_indent depth l)
+
+-- a line, and what follows it
+lexes_behind : {size : ℕ} {xs : List Lexeme} (depth : ℕ) (words more rest : List ℕ) → Lexes size (words ++ 10 ∷ (more ++ rest)) xs → Lexes size ((line depth words ++ more) ++ rest) xs
+lexes_behind depth words more rest l = lexes_at (append_assoc (line depth words) more rest) (lexes_line depth words (more ++ rest) l)
+
+-- ---- trees
+
+mutual
+  pub lexes_tree : {size : ℕ} {xs : List Lexeme} (depth : ℕ) (t : Tree) (rest : List ℕ) → IsReadable t → Lexes size rest xs → Lexes size (tree_text depth t ++ rest) (spelled t xs)
+  lexes_tree depth (node m no_branch) rest h l = lexes_line depth (codes "by " ++ move_text m) rest (lexes_by m rest h (lexes_blank 10 refl l))
+  lexes_tree depth (node m (branch [] t no_branch)) rest h l =
+      lexes_behind depth (move_text m) (tree_text depth t) rest (lexes_move m (tree_text depth t ++ rest) h.0 (lexes_blank 10 refl (lexes_tree depth t rest h.1 l)))
+  lexes_tree depth (node m (branch [] t (branch n u bs))) rest h l =
+      lexes_behind depth (move_text m) (cases_text depth (branch [] t (branch n u bs))) rest
+      (lexes_move m (cases_text depth (branch [] t (branch n u bs)) ++ rest) h.0 (lexes_blank 10 refl (lexes_cases depth (branch [] t (branch n u bs)) rest tt h.1 l)))
+  lexes_tree depth (node m (branch (b ∷ name) t bs)) rest h l =
+      lexes_behind depth (move_text m) (cases_text depth (branch (b ∷ name) t bs)) rest
+      (lexes_move m (cases_text depth (branch (b ∷ name) t bs) ++ rest) h.0 (lexes_blank 10 refl (lexes_cases depth (branch (b ∷ name) t bs) rest tt h.1 l)))
+
+  pub lexes_cases : {size : ℕ} {xs : List Lexeme} (depth : ℕ) (bs : Branches) (rest : List ℕ) → HaveCase bs → AreReadable bs → Lexes size rest xs → Lexes size (cases_text depth bs ++ rest) (cases_spelled bs xs)
+  lexes_cases depth no_branch rest some h l = absurd some
+  lexes_cases depth (branch n t no_branch) rest some h l =
+      let end = line depth (codes "qed") in
+      lexes_behind (suc depth) (codes "case " ++ n) (tree_text (suc depth) t ++ end) rest
+      (lexes_case n ((tree_text (suc depth) t ++ end) ++ rest) h.0 h.1 (lexes_blank 10 refl
+      (lexes_at (append_assoc (tree_text (suc depth) t) end rest) (lexes_tree (suc depth) t (end ++ rest) h.2 (lexes_line depth (codes "qed") rest (lexes_word (codes "qed") 10 rest word_qed line_end refl refl (lexes_blank 10 refl l)))))))
+  lexes_cases depth (branch n t (branch m u bs)) rest some h l =
+      let end = line depth (codes "next") ++ cases_text depth (branch m u bs) in
+      let more = cases_text depth (branch m u bs) ++ rest in
+      lexes_behind (suc depth) (codes "case " ++ n) (tree_text (suc depth) t ++ end) rest
+      (lexes_case n ((tree_text (suc depth) t ++ end) ++ rest) h.0 h.1 (lexes_blank 10 refl
+      (lexes_at (append_assoc (tree_text (suc depth) t) end rest) (lexes_tree (suc depth) t (end ++ rest) h.2
+      (lexes_behind depth (codes "next") (cases_text depth (branch m u bs)) rest (lexes_word (codes "next") 10 more word_next line_end refl refl (lexes_blank 10 refl (lexes_cases depth (branch m u bs) rest tt h.3 l))))))))
+
+pub reads_back : (depth size : ℕ) (t : Tree) (rest : List ℕ) (us : List Token) → IsReadable t → length (tree_text depth t ++ rest) ≤ size → AreTokens size rest us → ReadsBack size (tree_text depth t ++ rest) t (lexemes us)
+reads_back depth size t rest us h le cut =
+    let behind : Lexes size rest (lexemes us) = record { cut = λ fits. record { tokens = us; cut = cut; are = refl } } in
+    let all = (lexes_tree depth t rest h behind).cut le in
+    record {
+      tokens = all.tokens;
+      cut = all.cut;
+      proof = as_written t;
+      proof_is = refl;
+      spelled = subst (λ (xs : List Lexeme). SpellsProof xs (as_written t) (lexemes us)) (sym all.are) (tree_spells t h (lexemes us));
+      is = tree_says t h;
+    }

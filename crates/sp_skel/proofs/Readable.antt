@@ -1,0 +1,152 @@
+-- The cases of accepted trees have names, or are alone.
+use Rattle.std.proofs.Common.{◌≡◌, ℕ, suc, Bool, true, false, if◌then◌else◌, List, [], ◌∷◌, ◌++◌, codes, map, Option, Some, None, option_map, refl, sym, ap, subst, ◌∙◌, ◌⊎◌, inl, inr}
+use Rattle.std.specs.Prelude.{decimal, is_some, slice_get}
+use Rattle.sp_spec.specs.Term.{Variable}
+use Rattle.sp_spec.specs.Rule.{Action, Rule}
+use Rattle.sp_spec.specs.Guarded.{Guarded}
+use Rattle.sp_system.specs.System.{System, Event}
+use Rattle.sp_step.specs.Rows.{happening_actions, rows, by_rows, is_contradictory}
+use Rattle.sp_step.specs.Moves.{Move, simplify, contradiction, unproved, action, Case, where_same, case_if, at_event, renamed, with_step, by_actions, numbered, named, by_each, event_at, action_cases, solving_action, raw_cases, simple_case, cases}
+use Rattle.sp_check.specs.Tree.{Tree, node, Branches, no_branch, branch, IsAccepted, AreAccepted}
+use Rattle.sp_check.specs.Growth.{grown_tree}
+use Rattle.sp_check.proofs.Growing.{grown_tree_accepted}
+use Rattle.sp_moves.specs.Sought.{sought}
+use Rattle.sp_moves.proofs.ByAction.{sought_cases, solves}
+use Rattle.sp_read_parts.specs.Names.{IsName}
+use Rattle.sp_skel.specs.Spelling.{IsWord, HasPlace, IsReadable, AreReadable, HavePlaces, AllHavePlaces, AreNamed}
+use Rattle.sp_skel.proofs.CaseNames.{at_named, case_named}
+
+-- ---- cases with names
+
+abbrev pub CasesNamed : List Case → Type 0
+CasesNamed [] = Unit {0}
+CasesNamed (c ∷ cs) = IsName c.name × IsWord c.name × CasesNamed cs
+
+named_append : (xs ys : List Case) → CasesNamed xs → CasesNamed ys → CasesNamed (xs ++ ys)
+named_append [] ys h k = k
+named_append (c ∷ xs) ys h k = (h.0, h.1, named_append xs ys h.2 k)
+
+if_named : (name : List ℕ) (o : Option System) → IsName name × IsWord name → CasesNamed (case_if name o)
+if_named name None h = tt
+if_named name (Some s) h = (h.0, h.1, tt)
+
+event_named : (s : System) (a : Action Variable) (n : ℕ) (bs : List (Action Variable)) → CasesNamed (at_event s a n bs)
+event_named s a n [] = tt
+event_named s a n (b ∷ bs) =
+    named_append (case_if (codes "at_" ++ decimal n) (where_same s a b)) (at_event s a (suc n) bs) (if_named (codes "at_" ++ decimal n) (where_same s a b) (at_named n)) (event_named s a (suc n) bs)
+
+numbered_named : (name : List ℕ) (k : ℕ) (systems : List System) → IsWord name → CasesNamed (numbered name k systems)
+numbered_named name k [] h = tt
+numbered_named name k (s ∷ systems) h = let n = case_named name k h in (n.0, n.1, numbered_named name (suc k) systems h)
+
+rule_named : (name : List ℕ) (systems : List System) → IsName name → IsWord name → CasesNamed (named name systems)
+rule_named name [] h w = tt
+rule_named name (s ∷ []) h w = (h, w, tt)
+rule_named name (s ∷ t ∷ systems) h w = numbered_named name 1 (s ∷ t ∷ systems) w
+
+each_named : (rules : List Rule) (s : System) (i : ℕ) (a : Action Variable) → AreNamed rules → CasesNamed (by_each rules s i a)
+each_named [] s i a h = tt
+each_named (r ∷ rules) s i a h =
+    let made = by_actions (with_step s i r) a (renamed s.next r.facts).actions in
+    named_append (named r.name made) (by_each rules s i a) (rule_named r.name made h.0 h.1) (each_named rules s i a h.2)
+
+action_named : (rules : List Rule) (s : System) (i : ℕ) (a : Action Variable) (o : Option Event) → AreNamed rules → CasesNamed (action_cases rules s i a o)
+action_named rules s i a (Some e) h = event_named s a 0 (happening_actions e.happening)
+action_named rules s i a None h = each_named rules s i a h
+
+-- ---- the cases of a move
+
+-- one case, without a name
+record OnlyUnnamed (cs : List Case) : Type 0 where
+  system : System
+  is : cs ≡ record { name = []; system = system } ∷ []
+
+abbrev Fine : List Case → Type 0
+Fine cs = CasesNamed cs ⊎ OnlyUnnamed cs
+
+fine_nothing : (cs : List Case) → [] ≡ cs → Fine cs
+fine_nothing cs e = inl (subst CasesNamed e tt)
+
+sought_fine : (rules : List Rule) (s : System) (o : Option (ℕ × Action Variable)) (cs : List Case) → AreNamed rules → option_map (sought_cases rules s) o ≡ Some cs → Fine cs
+sought_fine rules s None cs h e = absurd (let none : ⊥ = cc in none)
+sought_fine rules s (Some p) cs h e =
+    let f : sought_cases rules s p ≡ cs = cc in
+    inl (subst CasesNamed f (action_named rules s p.0 p.1 (event_at p.0 s.events) h))
+
+solving_fine : (rules : List Rule) (s : System) (o : Option Guarded) (cs : List Case) → AreNamed rules → solving_action rules s o ≡ Some cs → Fine cs
+solving_fine rules s None cs h e = absurd (let none : ⊥ = cc in none)
+solving_fine rules s (Some f) cs h e = sought_fine rules s (sought f) cs h (rw (solves rules s f) at e)
+
+raw_fine : (rules : List Rule) (s : System) (move : Move) (cs : List Case) → AreNamed rules → raw_cases rules s move ≡ Some cs → Fine cs
+raw_fine rules s simplify cs h e = at (is_some (by_rows rows s)) e
+  where
+    at : (b : Bool) → (if b then Some (record { name = []; system = s } ∷ []) else None) ≡ Some cs → Fine cs
+    at true e = inr (record { system = s; is = let f : cs ≡ record { name = []; system = s } ∷ [] = cc in f })
+    at false e = absurd (let none : ⊥ = cc in none)
+raw_fine rules s contradiction cs h e = at (is_contradictory s) e
+  where
+    at : (b : Bool) → (if b then Some [] else None) ≡ Some cs → Fine cs
+    at true e = fine_nothing cs (let f : [] ≡ cs = cc in f)
+    at false e = absurd (let none : ⊥ = cc in none)
+raw_fine rules s unproved cs h e = fine_nothing cs (let f : [] ≡ cs = cc in f)
+raw_fine rules s (action k) cs h e = solving_fine rules s (slice_get s.formulas k) cs h e
+
+simple_named : (cs : List Case) → CasesNamed cs → CasesNamed (map simple_case cs)
+simple_named [] h = tt
+simple_named (c ∷ cs) h = (h.0, h.1, simple_named cs h.2)
+
+simple_fine : (raw cs : List Case) → Fine raw → map simple_case raw ≡ cs → Fine cs
+simple_fine raw cs (inl h) e = inl (subst CasesNamed e (simple_named raw h))
+simple_fine raw cs (inr h) e = inr (record { system = (simple_case (record { name = []; system = h.system })).system; is = sym e ∙ ap (map simple_case) h.is })
+
+move_fine : (rules : List Rule) (s : System) (move : Move) (cs : List Case) → AreNamed rules → cases rules s move ≡ Some cs → Fine cs
+move_fine rules s move cs h e = at (raw_cases rules s move) refl e
+  where
+    at : (o : Option (List Case)) → raw_cases rules s move ≡ o → option_map (map simple_case) o ≡ Some cs → Fine cs
+    at None r k = absurd (let none : ⊥ = cc in none)
+    at (Some raw) r k = simple_fine raw cs (raw_fine rules s move raw h r) (let f : map simple_case raw ≡ cs = cc in f)
+
+-- ---- trees
+
+abbrev pub TreesReadable : Branches → Type 0
+TreesReadable no_branch = Unit {0}
+TreesReadable (branch n t bs) = IsReadable t × TreesReadable bs
+
+node_named : (m : Move) (bs : Branches) → HasPlace m → AreReadable bs → IsReadable (node m bs)
+node_named m no_branch p r = p
+node_named m (branch [] t no_branch) p r = absurd r.1
+node_named m (branch [] t (branch n u bs)) p r = absurd r.1
+node_named m (branch (b ∷ name) t bs) p r = (p, r)
+
+all_named : (rules : List Rule) (cs : List Case) (bs : Branches) → CasesNamed cs → AreAccepted rules (Some cs) bs → TreesReadable bs → AreReadable bs
+all_named rules [] no_branch n h r = tt
+all_named rules [] (branch name t bs) n h r = absurd h
+all_named rules (c ∷ cs) no_branch n h r = absurd h
+all_named rules (c ∷ cs) (branch name t bs) n h r = (subst IsName (sym h.0) n.0, subst IsWord (sym h.0) n.1, r.0, all_named rules cs bs n.2 h.2 r.1)
+
+only_unnamed : (rules : List Rule) (m : Move) (s : System) (bs : Branches) → HasPlace m → AreAccepted rules (Some (record { name = []; system = s } ∷ [])) bs → TreesReadable bs → IsReadable (node m bs)
+only_unnamed rules m s no_branch p h r = absurd h
+only_unnamed rules m s (branch name t no_branch) p h r = subst (λ (n : List ℕ). IsReadable (node m (branch n t no_branch))) (sym h.0) (p, r.0)
+only_unnamed rules m s (branch name t (branch n u bs)) p h r = absurd h.2
+
+node_fine : (rules : List Rule) (m : Move) (bs : Branches) (o : Option (List Case)) → ((cs : List Case) → o ≡ Some cs → Fine cs) → HasPlace m → AreAccepted rules o bs → TreesReadable bs → IsReadable (node m bs)
+node_fine rules m bs None f p h r = absurd h
+node_fine rules m bs (Some cs) f p h r = at (f cs refl)
+  where
+    at : Fine cs → IsReadable (node m bs)
+    at (inl n) = node_named m bs p (all_named rules cs bs n h r)
+    at (inr u) = only_unnamed rules m u.system bs p (subst (λ (ds : List Case). AreAccepted rules (Some ds) bs) u.is h) r
+
+mutual
+  pub tree_readable : (rules : List Rule) (s : System) (t : Tree) → AreNamed rules → HavePlaces t → IsAccepted rules s t → IsReadable t
+  tree_readable rules s (node m bs) n p h = node_fine rules m bs (cases rules s m) (λ cs e. move_fine rules s m cs n e) p.0 h (trees_readable rules (cases rules s m) bs n p.1 h)
+
+  trees_readable : (rules : List Rule) (o : Option (List Case)) (bs : Branches) → AreNamed rules → AllHavePlaces bs → AreAccepted rules o bs → TreesReadable bs
+  trees_readable rules None bs n p h = absurd h
+  trees_readable rules (Some []) no_branch n p h = tt
+  trees_readable rules (Some []) (branch name t bs) n p h = absurd h
+  trees_readable rules (Some (c ∷ cs)) no_branch n p h = absurd h
+  trees_readable rules (Some (c ∷ cs)) (branch name t bs) n p h = (tree_readable rules c.system t n p.0 h.1, trees_readable rules (Some cs) bs n p.1 h.2)
+
+pub grown_readable : (rules : List Rule) (s : System) (budget : ℕ) → AreNamed rules → HavePlaces (grown_tree rules s budget) → IsReadable (grown_tree rules s budget)
+grown_readable rules s budget n p = tree_readable rules s (grown_tree rules s budget) n p (grown_tree_accepted rules s budget)

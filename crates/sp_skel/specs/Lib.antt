@@ -1,0 +1,4 @@
+pub mod Laws
+pub mod MoveTexts
+pub mod Spelling
+pub mod Steps

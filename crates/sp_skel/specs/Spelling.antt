@@ -1,0 +1,81 @@
+-- The lexemes that the text of a tree spells, and which trees are read back from their texts. Source: Tamarin manual, "Proofs".
+use Rattle.std.specs.Prelude.{◌≡◌, ℕ, ◌^◌, ◌<◌, true, List, [], ◌∷◌, ◌++◌, codes, decimal}
+use Rattle.sp_lex.specs.declared.token.Class.TheVariants as class
+use Rattle.std.specs.Char.{is_ascii_alphanumeric}
+use Rattle.sp_lex.specs.Lex.{skip}
+use Rattle.sp_lex.specs.Lexeme.{Lexeme, word, solve}
+use Rattle.sp_read_parts.specs.Names.{IsName}
+use Rattle.sp_step.specs.Moves.{Move, simplify, contradiction, unproved, action}
+use Rattle.sp_spec.specs.Rule.{Rule}
+use Rattle.sp_check.specs.Tree.{Tree, node, Branches, no_branch, branch}
+use Rattle.sp_written.specs.Text.{Method, said, goal, WrittenProof, step, WrittenCases, no_case, then_case}
+
+abbrev pub move_spelled : Move → Lexeme
+move_spelled simplify = word (codes "simplify")
+move_spelled contradiction = word (codes "contradiction")
+move_spelled unproved = word (codes "sorry")
+move_spelled (action k) = solve (codes " action " ++ (decimal k ++ codes " "))
+
+-- a tree, and the cases behind a move, before these lexemes
+abbrev mutual
+  pub spelled : Tree → List Lexeme → List Lexeme
+  spelled (node move no_branch) rest = word (codes "by") ∷ move_spelled move ∷ rest
+  spelled (node move (branch [] tree no_branch)) rest = move_spelled move ∷ spelled tree rest
+  spelled (node move (branch name tree branches)) rest = move_spelled move ∷ cases_spelled (branch name tree branches) rest
+
+  pub cases_spelled : Branches → List Lexeme → List Lexeme
+  cases_spelled no_branch rest = rest
+  cases_spelled (branch name tree no_branch) rest = word (codes "case") ∷ word name ∷ spelled tree (word (codes "qed") ∷ rest)
+  cases_spelled (branch name tree branches) rest = word (codes "case") ∷ word name ∷ spelled tree (word (codes "next") ∷ cases_spelled branches rest)
+
+abbrev pub move_said : Move → Method
+move_said simplify = said (codes "simplify")
+move_said contradiction = said (codes "contradiction")
+move_said unproved = said (codes "sorry")
+move_said (action k) = goal (codes " action " ++ (decimal k ++ codes " "))
+
+-- the tree as it is written
+abbrev mutual
+  pub as_written : Tree → WrittenProof
+  as_written (node move branches) = step (move_said move) (all_as_written branches)
+
+  pub all_as_written : Branches → WrittenCases
+  all_as_written no_branch = no_case
+  all_as_written (branch name tree branches) = then_case name (as_written tree) (all_as_written branches)
+
+-- places of actions are those of lists in memory
+abbrev pub HasPlace : Move → Type 0
+HasPlace simplify = Unit {0}
+HasPlace contradiction = Unit {0}
+HasPlace unproved = Unit {0}
+HasPlace (action k) = k < 2 ^ 64
+
+-- the bytes are one word
+abbrev pub IsWord : List ℕ → Type 0
+IsWord [] = ⊥
+IsWord (b ∷ bytes) = (is_ascii_alphanumeric b ≡ true) × (skip class.Word bytes ≡ [])
+
+-- Each case has a name, or it is its node's only one and has none.
+abbrev mutual
+  pub IsReadable : Tree → Type 0
+  IsReadable (node move no_branch) = HasPlace move
+  IsReadable (node move (branch [] tree no_branch)) = HasPlace move × IsReadable tree
+  IsReadable (node move (branch name tree branches)) = HasPlace move × AreReadable (branch name tree branches)
+
+  pub AreReadable : Branches → Type 0
+  AreReadable no_branch = Unit {0}
+  AreReadable (branch name tree branches) = IsName name × IsWord name × IsReadable tree × AreReadable branches
+
+-- each action of the tree has a place
+abbrev mutual
+  pub HavePlaces : Tree → Type 0
+  HavePlaces (node move branches) = HasPlace move × AllHavePlaces branches
+
+  pub AllHavePlaces : Branches → Type 0
+  AllHavePlaces no_branch = Unit {0}
+  AllHavePlaces (branch name tree branches) = HavePlaces tree × AllHavePlaces branches
+
+-- the rules have names as they stand in a text
+abbrev pub AreNamed : List Rule → Type 0
+AreNamed [] = Unit {0}
+AreNamed (r ∷ rules) = IsName r.name × IsWord r.name × AreNamed rules

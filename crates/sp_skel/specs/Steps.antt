@@ -1,0 +1,45 @@
+-- What the methods of a proof say. Source: Tamarin manual, "Proofs".
+use Rattle.std.specs.Prelude.{ℕ, ◌^◌, ◌||◌, nat_lt, if◌then◌else◌, List, Option, Some, None, codes}
+use Rattle.std.specs.Str.{bytes_eq}
+use Rattle.sp_step.specs.Moves.{simplify, contradiction, unproved, action}
+use Rattle.sp_written.specs.Text.{Method, said, goal, WrittenProof, step, WrittenCases, no_case, then_case}
+use Rattle.sp_judge.specs.Skeleton.{Step, known, unbuilt, unknown, Skeleton, node_read, BranchesRead, none_read, branch_read}
+use Rattle.sp_skel.specs.MoveTexts.{trimmed, first_word, other_words, only_number, is_unbuilt}
+
+-- what a word says
+unfoldable pub step_of_word : List ℕ → Step
+step_of_word w =
+    if bytes_eq w (codes "simplify") then known simplify
+    else if bytes_eq w (codes "contradiction") then known contradiction
+    else if bytes_eq w (codes "sorry") then known unproved
+    else if bytes_eq w (codes "induction") || bytes_eq w (codes "SOLVED") then unbuilt w
+    else unknown w
+
+-- At a place beyond those of lists there is no formula, and so no instance.
+abbrev pub action_step : List ℕ → Option ℕ → Step
+action_step text None = unknown text
+action_step text (Some k) = if nat_lt k (2 ^ 64) then known (action k) else unbuilt text
+
+unfoldable pub trimmed_step : List ℕ → Step
+trimmed_step text =
+    if bytes_eq (first_word text) (codes "action") then action_step text (only_number (other_words text))
+    else if is_unbuilt (first_word text) (other_words text) then unbuilt text
+    else unknown text
+
+-- what stands between the brackets of `solve( )`
+abbrev pub step_of_text : List ℕ → Step
+step_of_text text = trimmed_step (trimmed text)
+
+-- what a method says
+abbrev pub step_said : Method → Step
+step_said (said w) = step_of_word w
+step_said (goal text) = step_of_text text
+
+-- the tree that a written proof says
+abbrev mutual
+  pub skeleton : WrittenProof → Skeleton
+  skeleton (step x cs) = node_read (step_said x) (branches cs)
+
+  pub branches : WrittenCases → BranchesRead
+  branches no_case = none_read
+  branches (then_case name p cs) = branch_read name (skeleton p) (branches cs)
