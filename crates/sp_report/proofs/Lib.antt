@@ -1,0 +1,11 @@
+pub mod Nothing
+pub mod RuleSorts
+pub mod RuleClean
+pub mod NamesClean
+pub mod FormulaClean
+pub mod ReportClean
+pub mod Telling
+pub mod Using
+pub mod Formulas
+pub mod Stepping
+pub mod NamesBefore
