@@ -1,4 +1,5 @@
-// The outside: where texts come from (`Library`) and where answers go (`Sink`), with a form of each in memory.
+// The outside: where texts come from (`Library`) and where answers go (`Sink`), with a form of each in memory, and
+// one of each that never fails.
 // Nothing stands below it. Above it stand the top call, which is proved over any library and any sink, and the
 // program, which brings files and the terminal.
 // It promises that a call ends by a fault only where a count of faults rose, that a fetch gives exactly what the
@@ -12,9 +13,11 @@ use std::alloc::{AllocError, Global};
 
 mod mem_library;
 mod mem_sink;
+mod sure;
 
 pub use mem_library::MemLibrary;
 pub use mem_sink::MemSink;
+pub use sure::{SureLibrary, SureSink};
 
 /// Why a fetch gave no bytes.
 #[derive(Clone, Copy, Debug, PartialEq, Eq)]
