@@ -3,6 +3,8 @@ pub mod Theories
 pub mod Right
 pub mod AnswersOne
 pub mod Posed
-pub mod Verdicts
 pub mod Writing
 pub mod Outcomes
+pub mod Verdicts
+pub mod Items
+pub mod Again

@@ -6,7 +6,8 @@ use Rattle.sp_spec.specs.Term.{Term}
 use Rattle.sp_spec.specs.Rule.{Fact}
 use Rattle.sp_spec.specs.Formula.{Written, Formula}
 use Rattle.sp_spec.specs.Theory.{Lemma}
-use Rattle.sp_spec.specs.Written.{WrittenRule, WrittenTheory}
+use Rattle.sp_spec.specs.Written.{WrittenRule}
+use Rattle.sp_written.specs.Text.{Item, WrittenText, rules_in, lemmas_in}
 use Rattle.sp_read_parts.specs.Shapes.{row, action_of, quantified}
 use Rattle.sp_read_parts.specs.Grammar.{SpellsTerm, fixed, variable, brackets, SpellsFact, linear, persistent, quantified_some, SpellsUnit, bracketed, every, there_is, true_unit, false_unit, action, equation, order, SpellsNegation, plain_unit, negated, SpellsConjunction, conjunction, SpellsAnds, no_more_and, and_then, SpellsDisjunction, disjunction, SpellsOrs, no_more_or, or_then, SpellsImplication, alone, implication, SpellsFormula, one, two, SpellsReach, reach_one, reach_two}
 use Rattle.sp_read_theory.specs.Grammar.{SpellsFacts, facts, SpellsArrow, unlabelled, labelled, SpellsRule, rule, SpellsLemma, lemma, SpellsItems, no_item, rule_first, lemma_first, SpellsTheory, theory}
@@ -104,10 +105,10 @@ pub record AreFirst (rules : List WrittenRule) (lemmas : List Lemma) : Type 0 wh
 lemma_spelled : {l : Lemma} {tokens rest : List Lexeme} → SpellsLemma tokens l rest → IsPlainFormula l.formula
 lemma_spelled (lemma name kind f) = formula_spelled f
 
-items_spelled : {rs : List WrittenRule} {ls : List Lemma} {tokens rest : List Lexeme} → SpellsItems tokens rs ls rest → AreFirst rs ls
+items_spelled : {items : List Item} {tokens rest : List Lexeme} → SpellsItems tokens items rest → AreFirst (rules_in items) (lemmas_in items)
 items_spelled no_item = record { rules_are = tt; lemmas_are = tt }
 items_spelled (rule_first r more) = let m = items_spelled more in record { rules_are = (rule_spelled r, m.rules_are); lemmas_are = m.lemmas_are }
-items_spelled (lemma_first l more) = let m = items_spelled more in record { rules_are = m.rules_are; lemmas_are = (lemma_spelled l, m.lemmas_are) }
+items_spelled (lemma_first l p more) = let m = items_spelled more in record { rules_are = m.rules_are; lemmas_are = (lemma_spelled l, m.lemmas_are) }
 
-pub theory_spelled : {tokens : List Lexeme} {t : WrittenTheory} → SpellsTheory tokens t → AreFirst t.rules t.lemmas
+pub theory_spelled : {tokens : List Lexeme} {t : WrittenText} → SpellsTheory tokens t → AreFirst (rules_in t.items) (lemmas_in t.items)
 theory_spelled (theory name items) = items_spelled items

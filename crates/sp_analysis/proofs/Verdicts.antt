@@ -1,12 +1,11 @@
 -- The verdict by the test whether a leaf is open.
 use Rattle.std.proofs.Common.{◌≡◌, ◌↔◌, IsTrue, Bool, true, false, true≢false, refl, sym, ap, ◌∙◌}
-use Rattle.sp_spec.specs.Theory.{TraceKind, all_traces, exists_trace}
+use Rattle.sp_spec.specs.Theory.{TraceKind}
 use Rattle.sp_check.specs.Tree.{Tree, IsFinished}
 use Rattle.sp_grow.specs.Finished.{finished}
 use Rattle.sp_grow.proofs.Finished.{finished_decides}
-use Rattle.sp_analysis.specs.Tried.{verdict_of}
-use Rattle.sp_analysis.specs.declared.verdict.Verdict.{Verdict}
-use Rattle.sp_analysis.specs.declared.verdict.Verdict.TheVariants.{Incomplete}
+use Rattle.sp_analysis.specs.Verdict.{Verdict, incomplete}
+use Rattle.sp_analysis.specs.Asked.{shown, by_leaves}
 
 told : (b : Bool) (t : Tree) → IsTrue b ↔ IsFinished t → b ≡ finished t
 told true t h = sym ((finished_decides t).1 (h.0 refl))
@@ -16,12 +15,8 @@ told false t h = at (finished t) refl
     at true e = absurd (true≢false (sym (h.1 ((finished_decides t).0 e))))
     at false e = sym e
 
-pub when_finished : (kind : TraceKind) (b : Bool) (t : Tree) (v : Verdict) → IsTrue b ↔ IsFinished t → b ≡ true → v ≡ verdict_of kind true → v ≡ verdict_of kind (finished t)
-when_finished kind b t v h e is = is ∙ ap (verdict_of kind) (sym e ∙ told b t h)
+pub when_finished : (kind : TraceKind) (b : Bool) (t : Tree) (v : Verdict) → IsTrue b ↔ IsFinished t → b ≡ true → v ≡ shown kind → v ≡ by_leaves kind (finished t)
+when_finished kind b t v h e is = is ∙ ap (by_leaves kind) (sym e ∙ told b t h)
 
-open_one : (kind : TraceKind) → Incomplete ≡ verdict_of kind false
-open_one all_traces = refl
-open_one exists_trace = refl
-
-pub when_open : (kind : TraceKind) (b : Bool) (t : Tree) → IsTrue b ↔ IsFinished t → b ≡ false → Incomplete ≡ verdict_of kind (finished t)
-when_open kind b t h e = open_one kind ∙ ap (verdict_of kind) (sym e ∙ told b t h)
+pub when_open : (kind : TraceKind) (b : Bool) (t : Tree) → IsTrue b ↔ IsFinished t → b ≡ false → incomplete ≡ by_leaves kind (finished t)
+when_open kind b t h e = ap (by_leaves kind) (sym e ∙ told b t h)

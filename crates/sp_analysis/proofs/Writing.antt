@@ -1,8 +1,9 @@
 -- One more lemma is written.
 use Rattle.std.proofs.Common.{◌≡◌, ◌<◌, ◌≤◌, ◌+◌, ℕ, suc, arith, List, [], ◌∷◌, ◌++◌, map, codes, length, get_or, drop, drop-cons, sym, ap, ◌∙◌, subst, append_assoc}
-use Rattle.sp_read_theory.specs.Places.{Rise}
-use Rattle.sp_analysis.specs.Analysis.{between}
-use Rattle.sp_analysis.specs.Tried.{kept_of, line_of, lines, spliced}
+use Rattle.sp_written.specs.declared.theory.Span.{Span}
+use Rattle.sp_read_theory.specs.Places.{Rise, goes_on}
+use Rattle.sp_again.specs.Again.{between}
+use Rattle.sp_analysis.specs.Asked.{kept_of, line_of, lines, spliced}
 use Rattle.sp_analysis.specs.declared.tried.Tried.{Tried}
 
 pub next_of : {A : Type 0} (xs : List A) (place : ℕ) (x : A) → place < length xs → x ≡ get_or xs place x → drop place xs ≡ x ∷ drop (place + 1) xs
@@ -12,12 +13,12 @@ next_of {A = A} xs place x below is =
 
 pub proof_written : (out more all text proof : List ℕ) (start end place : ℕ) (ts : List Tried) (t : Tried) → place < length ts → t ≡ get_or ts place t
     → out ++ spliced text start (map kept_of (drop place ts)) end ≡ all → proof ≡ (kept_of t).proof
-    → more ≡ out ++ (between start t.behind text ++ (codes "\n" ++ proof)) → more ++ spliced text t.behind (map kept_of (drop (place + 1) ts)) end ≡ all
+    → more ≡ out ++ (between start t.span.from text ++ (codes "\n" ++ proof)) → more ++ spliced text (goes_on text t.span) (map kept_of (drop (place + 1) ts)) end ≡ all
 proof_written out more all text proof start end place ts t below is so proof_is more_is =
-    let rest = spliced text t.behind (map kept_of (drop (place + 1) ts)) end in
+    let rest = spliced text (goes_on text t.span) (map kept_of (drop (place + 1) ts)) end in
     let k = kept_of t in
-    ap (λ (xs : List ℕ). xs ++ rest) (more_is ∙ ap (λ (b : List ℕ). out ++ (between start t.behind text ++ (codes "\n" ++ b))) proof_is)
-    ∙ joined out (between start t.behind text) (codes "\n") k.proof rest
+    ap (λ (xs : List ℕ). xs ++ rest) (more_is ∙ ap (λ (b : List ℕ). out ++ (between start t.span.from text ++ (codes "\n" ++ b))) proof_is)
+    ∙ joined out (between start t.span.from text) (codes "\n") k.proof rest
     ∙ sym (ap (λ (us : List Tried). out ++ spliced text start (map kept_of us) end) (next_of ts place t below is)) ∙ so
   where
     joined : (a b c d e : List ℕ) → (a ++ (b ++ (c ++ d))) ++ e ≡ a ++ (b ++ (c ++ (d ++ e)))
@@ -39,17 +40,31 @@ pub next_in : (walked ts : List Tried) (place : ℕ) (t : Tried) → walked ≡ 
 next_in walked ts place t same below is = subst (λ (us : List Tried). IsNext us place t) same (record { below = below; is = is })
 
 -- where the next proof stands
-pub record Next (start behind end : ℕ) (ts : List Tried) (place : ℕ) : Type 0 where
-  pub later : start < behind
-  pub within : behind ≤ end
-  pub rise : Rise behind (map (λ (u : Tried). u.behind) (drop (place + 1) ts)) end
+pub record Next (text : List ℕ) (start : ℕ) (span : Span) (end : ℕ) (ts : List Tried) (place : ℕ) : Type 0 where
+  pub later : start ≤ span.from
+  pub ordered : span.from ≤ span.to
+  pub within : goes_on text span ≤ end
+  pub reached : span.to ≤ goes_on text span
+  pub rise : Rise text (goes_on text span) (map (λ (u : Tried). u.span) (drop (place + 1) ts)) end
 
-pub low_end : (low : ℕ) (places : List ℕ) (end : ℕ) → Rise low places end → low ≤ end
-low_end low [] end h = h
-low_end low (place ∷ places) end h = let later = low_end place places end h.1 in omega (arith, h.0, later)
+pub goes_further : (text : List ℕ) (span : Span) → span.to ≤ goes_on text span
+goes_further text span = grind arith
 
-pub next_place : (start end place : ℕ) (ts : List Tried) (t : Tried) → place < length ts → t ≡ get_or ts place t
-    → Rise start (map (λ (u : Tried). u.behind) (drop place ts)) end → Next start t.behind end ts place
-next_place start end place ts t below is rise =
-    let h = subst (λ (us : List Tried). Rise start (map (λ (u : Tried). u.behind) us) end) (next_of ts place t below is) rise in
-    record { later = h.0; within = low_end t.behind (map (λ (u : Tried). u.behind) (drop (place + 1) ts)) end h.1; rise = h.1 }
+pub low_end : (text : List ℕ) (low : ℕ) (spans : List Span) (end : ℕ) → Rise text low spans end → low ≤ end
+low_end text low [] end h = h
+low_end text low (span ∷ spans) end h =
+    let later = low_end text (goes_on text span) spans end h.2 in
+    let further = goes_further text span in
+    omega (arith, h.0, h.1, further, later)
+
+pub next_place : (text : List ℕ) (start end place : ℕ) (ts : List Tried) (t : Tried) → place < length ts → t ≡ get_or ts place t
+    → Rise text start (map (λ (u : Tried). u.span) (drop place ts)) end → Next text start t.span end ts place
+next_place text start end place ts t below is rise =
+    let h = subst (λ (us : List Tried). Rise text start (map (λ (u : Tried). u.span) us) end) (next_of ts place t below is) rise in
+    record {
+      later = h.0;
+      ordered = h.1;
+      within = low_end text (goes_on text t.span) (map (λ (u : Tried). u.span) (drop (place + 1) ts)) end h.2;
+      reached = goes_further text t.span;
+      rise = h.2;
+    }

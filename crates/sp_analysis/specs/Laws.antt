@@ -1,28 +1,59 @@
 -- What verdicts mean, and that each text has one answer.
-use Rattle.std.specs.Prelude.{◌≡◌, List, ℕ}
+use Rattle.std.specs.Prelude.{◌≡◌, ◌↔◌, List, ℕ, map}
 use Rattle.sp_spec.specs.Lists.{Every}
 use Rattle.sp_spec.specs.Theory.{TraceKind, all_traces, exists_trace, Theory, Lemma}
 use Rattle.sp_spec.specs.Written.{theory_of}
 use Rattle.sp_spec.specs.Verdict.{HoldsInAll, HoldsInNone}
-use Rattle.sp_analysis.specs.Problem.{PosesNothing}
-use Rattle.sp_analysis.specs.Analysis.{Outcome, IsAnalysis}
-use Rattle.sp_analysis.specs.declared.verdict.Verdict.{Verdict}
-use Rattle.sp_analysis.specs.declared.verdict.Verdict.TheVariants.{Verified, Falsified, Incomplete}
+use Rattle.sp_judge.specs.Rejected.{Clause, ReadIsAccepted}
+use Rattle.sp_written.specs.Text.{theory_in}
+use Rattle.sp_place.specs.Refused.{IsRefusedAt}
+use Rattle.sp_analysis.specs.Problem.{IsReported}
+use Rattle.sp_analysis.specs.Verdict.{Verdict, verified, falsified, incomplete, rejected}
+use Rattle.sp_skel.specs.Spelling.{HavePlaces}
+use Rattle.sp_analysis.specs.Analysis.{Outcome, summary, IsAnalysis}
+use Rattle.sp_analysis.specs.Checking.{Judged, IsChecking}
 
--- Verified: every execution satisfies the lemma. Falsified, of a lemma on some trace: no execution does. An incomplete analysis says nothing.
+-- Verified: every execution satisfies the lemma. Falsified, of a lemma on some trace: no execution does. An incomplete analysis and a
+-- rejected proof say nothing of executions.
 abbrev pub Means : Theory → TraceKind → Verdict → Lemma → Type 0
-Means theory all_traces Verified lemma = HoldsInAll theory lemma
-Means theory all_traces Falsified lemma = ⊥
-Means theory exists_trace Falsified lemma = HoldsInNone theory lemma
-Means theory exists_trace Verified lemma = ⊥
-Means theory kind Incomplete lemma = Unit {0}
+Means theory all_traces verified lemma = HoldsInAll theory lemma
+Means theory all_traces falsified lemma = ⊥
+Means theory all_traces incomplete lemma = Unit {0}
+Means theory all_traces (rejected step clause) lemma = Unit {0}
+Means theory exists_trace verified lemma = ⊥
+Means theory exists_trace falsified lemma = HoldsInNone theory lemma
+Means theory exists_trace incomplete lemma = Unit {0}
+Means theory exists_trace (rejected step clause) lemma = Unit {0}
+
+abbrev pub IsRejected : Verdict → Type 0
+IsRejected verdict = (step : ℕ) × (clause : Clause) × (verdict ≡ rejected step clause)
+
+-- What is said of a lemma whose proof was checked is so, and its proof is accepted exactly where it isn't rejected: each step is a move,
+-- and an instance of it, and has its cases, by name and in order.
+pub record JudgedRightly (theory : Theory) (j : Judged) : Type 0 where
+  pub means : Means theory j.lemma.kind j.verdict j.lemma
+  pub accepts : (IsRejected j.verdict → ⊥) ↔ ReadIsAccepted theory.rules j.root j.proof
 
 -- What is written of a lemma is so, steps of the adversary included.
 pub record VerdictsAreRight : Type 0 where
   pub right : (text written : List ℕ) (outcomes : List Outcome) (a : IsAnalysis text written outcomes)
-      → Every (λ (o : Outcome). Means (theory_of a.theory) o.lemma.kind o.verdict o.lemma) outcomes
+      → Every (λ (o : Outcome). Means (theory_of (theory_in a.theory)) o.lemma.kind o.verdict o.lemma) outcomes
+  pub judged_right : (text written : List ℕ) (judged : List Judged) (c : IsChecking text written judged)
+      → Every (JudgedRightly (theory_of (theory_in c.theory))) judged
 
--- Of a text one thing is written; and of a text that poses nothing nothing is.
+-- Of a text one thing is written, by each command; and only one of three things comes of it: it is refused, reported on, or done with.
 pub record AnswersAreOne : Type 0 where
   pub one : (text written other : List ℕ) (outcomes others : List Outcome) → IsAnalysis text written outcomes → IsAnalysis text other others → (written ≡ other) × (outcomes ≡ others)
-  pub none : (text written : List ℕ) (outcomes : List Outcome) → PosesNothing text → IsAnalysis text written outcomes → ⊥
+  pub one_check : (text written other : List ℕ) (judged others : List Judged) → IsChecking text written judged → IsChecking text other others → (written ≡ other) × (judged ≡ others)
+  pub one_report : (text lines other : List ℕ) → IsReported text lines → IsReported text other → lines ≡ other
+  pub refused : (text lines : List ℕ) (place : ℕ) → IsRefusedAt text place → IsReported text lines → ⊥
+  pub no_analysis : (text written : List ℕ) (place : ℕ) (outcomes : List Outcome) → IsRefusedAt text place → IsAnalysis text written outcomes → ⊥
+  pub no_checking : (text written : List ℕ) (place : ℕ) (judged : List Judged) → IsRefusedAt text place → IsChecking text written judged → ⊥
+  pub not_analysed : (text lines written : List ℕ) (outcomes : List Outcome) → IsReported text lines → IsAnalysis text written outcomes → ⊥
+  pub not_checked : (text lines written : List ℕ) (judged : List Judged) → IsReported text lines → IsChecking text written judged → ⊥
+
+-- What is written of a text whose lemmas were tried is checked as they were tried: each lemma gets the same line and the same verdict. The
+-- places of actions are those of lists in memory, as they are in each tree that is grown there.
+pub record WrittenIsChecked : Type 0 where
+  pub checked : (text written : List ℕ) (outcomes : List Outcome) → IsAnalysis text written outcomes → Every (λ (o : Outcome). HavePlaces o.tree) outcomes
+      → (judged : List Judged) × IsChecking written (summary outcomes) judged × (map (λ (j : Judged). j.verdict) judged ≡ map (λ (o : Outcome). o.verdict) outcomes)

@@ -1,5 +1,9 @@
-pub mod Tests
 pub mod Problem
+pub mod Verdict
 pub mod Analysis
+pub mod Checking
+pub mod View
+pub mod Replies
+pub mod Posed
 pub mod Laws
-pub mod Tried
+pub mod Asked

@@ -1,32 +1,30 @@
 -- What a text sets out to prove.
-use Rattle.std.specs.Prelude.{◌≡◌, List, ℕ, map, false, Some}
-use Rattle.sp_spec.specs.Lists.{Every, Distinct}
+use Rattle.std.specs.Prelude.{◌≡◌, List, ℕ}
 use Rattle.sp_spec.specs.Rule.{Rule}
-use Rattle.sp_spec.specs.Theory.{TraceKind, all_traces, exists_trace, Lemma}
-use Rattle.sp_spec.specs.Written.{WrittenRule, WrittenTheory}
-use Rattle.sp_spec.specs.Findings.{rule_is_wrong}
+use Rattle.sp_spec.specs.Theory.{TraceKind, all_traces, exists_trace}
 use Rattle.sp_spec.specs.Guarded.{Guarded}
 use Rattle.sp_law_guard.specs.GuardedForm.{negate}
 use Rattle.sp_check.specs.Tree.{Tree}
 use Rattle.sp_check.specs.Root.{root}
 use Rattle.sp_check.specs.Growth.{grown_tree}
-use Rattle.sp_law_guard.specs.CheckedForm.{checked_form}
+use Rattle.sp_written.specs.Text.{WrittenText, theory_in}
 use Rattle.sp_read_theory.specs.Text.{IsTextOf}
+use Rattle.sp_report.specs.Report.{report}
+use Rattle.sp_report.specs.Laws.{IsWellFormed}
 
--- The text says the theory, and there are no fatal findings on it: no two rules and no two lemmas have one name, nothing is wrong with a
--- rule, and each lemma has a guarded form without findings.
-pub record Poses (text : List ℕ) (theory : WrittenTheory) : Type 0 where
+-- the text says the theory, and there are no fatal findings on it
+pub record Poses (text : List ℕ) (theory : WrittenText) : Type 0 where
   pub says : IsTextOf text theory
-  pub rule_names : Distinct (map (λ (r : WrittenRule). r.name) theory.rules)
-  pub lemma_names : Distinct (map (λ (l : Lemma). l.name) theory.lemmas)
-  pub rules : Every (λ (r : WrittenRule). rule_is_wrong r ≡ false) theory.rules
-  pub lemmas : Every (λ (l : Lemma). (g : Guarded) × (checked_form l.formula ≡ Some g)) theory.lemmas
+  pub fine : IsWellFormed (theory_in theory)
 
--- the text says no theory, or one with fatal findings
-pub record PosesNothing (text : List ℕ) : Type 0 where
-  pub nothing : (theory : WrittenTheory) → Poses text theory → ⊥
+-- the text says a theory on which there are findings, and the report on it is this
+pub record IsReported (text lines : List ℕ) : Type 0 where
+  pub theory : WrittenText
+  pub says : IsTextOf text theory
+  pub wrong : IsWellFormed (theory_in theory) → ⊥
+  pub lines_are : lines ≡ report theory
 
--- how many moves a proof may have
+-- how many moves a proof may have that is grown
 abbrev pub budget : ℕ
 budget = 10000
 

@@ -1,20 +1,19 @@
-// What is written of a text: it is read, its rules and lemmas are looked at, a proof is grown for each lemma, and the text is written with
-// the proofs and the verdicts. Below stand the reader (sp_read_theory), findings (sp_finding), guarded forms (sp_guard), rules in memory
-// (sp_rule), growth (sp_grow) and the text of trees (sp_text); above stands the top call.
-// Carried here: the promise that what is written of a lemma is so.
+// What comes of a text: it is read, its rules and lemmas are looked at, and a proof is grown for each lemma, or the one below it is checked.
+// Below stand the reader (sp_read_theory, sp_place), findings (sp_report), guarded forms (sp_guard), rules in memory (sp_rule), growth
+// (sp_grow) and the text of trees (sp_text), and the judge of trees that were read (sp_skel, sp_judge); above stands the top call.
+// Carried here: the promise that what is written of a lemma is so, and that a proof is accepted exactly where each step is an instance.
 #![tactic(auto)]
 
-mod names;
 mod problem;
-mod prove;
+mod replies;
 mod tried;
 mod verdict;
 mod written;
 
-ghost use Rattle.sp_analysis.specs.Laws.{VerdictsAreRight, AnswersAreOne};
+ghost use Rattle.sp_analysis.specs.Laws.{VerdictsAreRight, AnswersAreOne, WrittenIsChecked};
 
-pub use prove::analyse;
-pub use verdict::{Analysis, Verdict};
+pub use replies::{Command, Reply, answer};
+pub use verdict::Verdict;
 
 /// What is written of a lemma is so.
 pub fn verdicts_are_right()
@@ -24,6 +23,11 @@ pub fn verdicts_are_right()
 /// Of a text one thing is written.
 pub fn answers_are_one()
     ensures { AnswersAreOne }
+{}
+
+/// What is written where lemmas are tried is checked as they were tried.
+pub fn written_is_checked()
+    ensures { WrittenIsChecked }
 {}
 
 #[cfg(test)]

@@ -30,21 +30,52 @@ none (exists-trace): falsified - no trace found (2 steps)
 once (all-traces): verified (4 steps)
 */
 ";
-    let found = analyse(rt.alloc(), text)?.ok_or("nothing is posed")?;
-    assert_eq!(rt; found.written.as_slice(), wanted.as_slice());
+    let Reply::Done(written, verdicts) = answer(rt.alloc(), Command::Prove, text)? else {
+        return Err("nothing is posed".into());
+    };
+    assert_eq!(rt; written.as_slice(), wanted.as_slice());
     assert_eq!(rt;
-        found.verdicts.as_slice(),
+        verdicts.as_slice(),
         [Verdict::Falsified, Verdict::Verified].as_slice()
     );
     Ok(())
 }
 
 #[test]
-fn finds_names_used_twice(rt: HostRuntime) -> Result<(), Fail> {
+fn checks_the_proofs_that_stand_there(rt: HostRuntime) -> Result<(), Fail> {
+    let text = b"theory R begin
+lemma open: \"All x #i. A(x)@i ==> F\"
+lemma none: exists-trace \"Ex x #i. B(x)@i\" simplify by solve(action 0)
+lemma other: exists-trace \"Ex x #i. B(x)@i\" simplify by contradiction
+end";
+    let wanted = b"open (all-traces): analysis incomplete (0 steps)
+none (exists-trace): falsified - no trace found (2 steps)
+other (exists-trace): rejected at step 2 (instance)
+";
+    let Reply::Done(written, verdicts) = answer(rt.alloc(), Command::Check, text)? else {
+        return Err("nothing is posed".into());
+    };
+    assert_eq!(rt; written.as_slice(), wanted.as_slice());
+    assert_eq!(rt; verdicts.len(), 3);
+    Ok(())
+}
+
+#[test]
+fn tells_findings_and_places(rt: HostRuntime) -> Result<(), Fail> {
     let text = b"theory R begin
 lemma same: \"All x #i. A(x)@i ==> F\"
 lemma same: \"All x #i. B(x)@i ==> F\"
 end";
-    assert!(rt; analyse(rt.alloc(), text)?.is_none());
+    let Reply::Reported(lines) = answer(rt.alloc(), Command::Prove, text)? else {
+        return Err("nothing is wrong".into());
+    };
+    assert_eq!(rt;
+        lines.as_slice(),
+        b"fatal: name same used twice\n".as_slice()
+    );
+    let Reply::Refused(place) = answer(rt.alloc(), Command::Check, b"theory R begin lemma")? else {
+        return Err("a theory is said".into());
+    };
+    assert_eq!(rt; place, 20);
     Ok(())
 }

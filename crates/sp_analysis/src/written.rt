@@ -1,15 +1,35 @@
-// The text with the proofs and the summary.
+// The text with the proofs, and the summary.
 
 ghost use Rattle.std.specs.Prelude.{◌≡◌, ◌≤◌, ◌++◌, IfOk, OnOk, codes, length, map, string_bytes};
+ghost use Rattle.sp_judge.specs.View.{clause_of};
+ghost use Rattle.sp_written.specs.Views as view;
+ghost use Rattle.sp_read_theory.specs.Places as places;
 ghost use Rattle.sp_read_theory.specs.Places.{Rise};
-ghost use Rattle.sp_read_theory.specs.Views as view;
-ghost use Rattle.sp_analysis.specs.Analysis as spec;
-ghost use Rattle.sp_analysis.specs.Tried as keep;
+ghost use Rattle.sp_analysis.specs.Verdict as spec;
+ghost use Rattle.sp_again.specs.Again.{between};
+ghost use Rattle.sp_analysis.specs.View.{verdict_of};
+ghost use Rattle.sp_analysis.specs.Asked as keep;
 
+use crate::replies::Command;
 use crate::tried::Tried;
 use crate::verdict::Verdict;
-use sp_read_theory::TraceKind;
+use sp_judge::Clause;
+use sp_written::{Span, TraceKind};
 use std::alloc::{AllocError, Global};
+
+/// Where the text goes on when the proof is taken out, with a line feed directly behind it.
+fn goes_on(text: &[u8], span: Span) -> usize
+    requires { span.to ≤ length text.now }
+    ensures { result ≡ places.goes_on text.now span }
+{
+    if span.to == span.from {
+        return span.to;
+    }
+    match &text[span.to..] {
+        [b'\n', ..] => span.to + 1,
+        _ => span.to,
+    }
+}
 
 /// Puts what stands between two places at the end, and a proof behind it.
 fn write_proof(
@@ -21,28 +41,28 @@ fn write_proof(
 ) -> Result<(), AllocError>
     requires start { start ≤ behind }
     requires end { behind ≤ length text.now }
-    ensures { OnOk result (out.new.items ≡ out.old.items ++ (spec.between start behind text.now ++ (codes "\n" ++ proof.now))) }
+    ensures { OnOk result (out.new.items ≡ out.old.items ++ (between start behind text.now ++ (codes "\n" ++ proof.now))) }
 {
     out.extend_from_slice(&text[start..behind])?;
     out.extend_from_slice(b"\n")?;
     out.extend_from_slice(proof.as_bytes())
 }
 
-/// Puts the text up to `end` at the end, with each proof behind its lemma.
+/// Puts the text up to `end` at the end, with each proof in its place.
 fn write_proofs(
     out: &mut Vec<u8>,
     text: &[u8],
     lemmas: &Vec<Tried>,
     end: usize,
 ) -> Result<(), AllocError>
-    requires rise { Rise 0 (map (λ t. t.behind) lemmas.now.items) end }
+    requires rise { Rise text.now 0 (map (λ t. t.span) lemmas.now.items) end }
     requires end { end ≤ length text.now }
     ensures { OnOk result (out.new.items ≡ out.old.items ++ keep.spliced text.now 0 (map keep.kept_of lemmas.now.items) end) }
 {
     let mut start = 0;
     for lemma in lemmas {
-        write_proof(out, text, start, lemma.behind, &lemma.proof)?;
-        start = lemma.behind;
+        write_proof(out, text, start, lemma.span.from, &lemma.proof)?;
+        start = goes_on(text, lemma.span);
     }
     out.extend_from_slice(&text[start..end])
 }
@@ -57,14 +77,29 @@ fn kind_text(kind: TraceKind) -> &'static str
     }
 }
 
-/// The words of a verdict.
-fn verdict_text(verdict: Verdict) -> &'static str
-    ensures { result.now ≡ spec.verdict_text verdict }
+/// The word of a clause.
+fn clause_text(clause: Clause) -> &'static str
+    ensures { result.now ≡ spec.clause_text (clause_of clause) }
+{
+    match clause {
+        Clause::Move => "move",
+        Clause::Instance => "instance",
+        Clause::Cases => "cases",
+    }
+}
+
+/// The words of a verdict, with the number of the proof's steps.
+fn verdict_text(alloc: Global, verdict: Verdict, steps: u64) -> Result<String, AllocError>
+    ensures { IfOk result (λ text. string_bytes text ≡ spec.verdict_text (verdict_of verdict) steps) }
 {
     match verdict {
-        Verdict::Verified => "verified",
-        Verdict::Falsified => "falsified - no trace found",
-        Verdict::Incomplete => "analysis incomplete",
+        Verdict::Verified => format!(in alloc; "verified ({steps} steps)\n"),
+        Verdict::Falsified => { format!(in alloc; "falsified - no trace found ({steps} steps)\n") }
+        Verdict::Incomplete => format!(in alloc; "analysis incomplete ({steps} steps)\n"),
+        Verdict::Rejected(step, clause) => {
+            let word = clause_text(clause);
+            format!(in alloc; "rejected at step {step} ({word})\n")
+        }
     }
 }
 
@@ -74,9 +109,8 @@ fn summary_line(alloc: Global, lemma: &Tried) -> Result<String, AllocError>
 {
     let name = lemma.name;
     let kind = kind_text(lemma.kind);
-    let words = verdict_text(lemma.verdict);
-    let steps = lemma.steps;
-    let line = format!(in alloc; "{name} ({kind}): {words} ({steps} steps)\n")?;
+    let words = verdict_text(alloc, lemma.verdict, lemma.steps)?;
+    let line = format!(in alloc; "{name} ({kind}): {words}")?;
     Ok(line)
 }
 
@@ -92,17 +126,13 @@ fn write_summary(alloc: Global, out: &mut Vec<u8>, lemmas: &Vec<Tried>) -> Resul
 }
 
 /// The text up to `end`, with each proof behind its lemma, and the summary in a comment.
-///
-/// # Errors
-///
-/// `AllocError` where memory is wanting.
-pub fn analysed_text(
+fn analysed_text(
     alloc: Global,
     text: &[u8],
     lemmas: &Vec<Tried>,
     end: usize,
 ) -> Result<Vec<u8>, AllocError>
-    requires rise { Rise 0 (map (λ t. t.behind) lemmas.now.items) end }
+    requires rise { Rise text.now 0 (map (λ t. t.span) lemmas.now.items) end }
     requires end { end ≤ length text.now }
     ensures { IfOk result (λ written. written.items ≡ keep.kept_text text.now (map keep.kept_of lemmas.now.items) end) }
 {
@@ -112,6 +142,37 @@ pub fn analysed_text(
     write_summary(alloc, &mut written, lemmas)?;
     written.extend_from_slice(b"*/\n")?;
     Ok(written)
+}
+
+/// The summary alone.
+fn summary(alloc: Global, lemmas: &Vec<Tried>) -> Result<Vec<u8>, AllocError>
+    ensures { IfOk result (λ written. written.items ≡ keep.lines (map keep.kept_of lemmas.now.items)) }
+{
+    let mut written = Vec::new(alloc);
+    write_summary(alloc, &mut written, lemmas)?;
+    Ok(written)
+}
+
+/// What is written by the command.
+///
+/// # Errors
+///
+/// `AllocError` where memory is wanting.
+pub fn written_by(
+    alloc: Global,
+    command: Command,
+    text: &[u8],
+    lemmas: &Vec<Tried>,
+    end: usize,
+) -> Result<Vec<u8>, AllocError>
+    requires rise { Rise text.now 0 (map (λ t. t.span) lemmas.now.items) end }
+    requires end { end ≤ length text.now }
+    ensures { IfOk result (λ written. written.items ≡ keep.written_by command text.now (map keep.kept_of lemmas.now.items) end) }
+{
+    match command {
+        Command::Prove => analysed_text(alloc, text, lemmas, end),
+        Command::Check => summary(alloc, lemmas),
+    }
 }
 
 /// The verdicts in their order.

@@ -2,12 +2,16 @@
 use Rattle.std.proofs.Common.{◌≡◌, ◌≢◌, ℕ, Bool, true, false, if◌then◌else◌, List, inl, inr, refl, sym, ap, ◌∙◌, subst}
 use Rattle.std.specs.List.{list_any}
 use Rattle.sp_analysis.specs.Analysis.{Outcome}
-use Rattle.sp_analysis.specs.declared.verdict.Verdict.{Verdict}
+use Rattle.sp_analysis.specs.Verdict.{Verdict}
+use Rattle.sp_analysis.specs.Checking.{Judged}
+use Rattle.sp_analysis.specs.declared.replies.Command.{Command}
+use Rattle.sp_analysis.specs.declared.replies.Command.TheVariants.{Prove, Check}
+use Rattle.sp_analysis.proofs.Right.{verdicts_are_right_lem}
 use Rattle.sp_analysis.proofs.AnswersOne.{answers_are_one_lem}
-use Rattle.sp_top.specs.Answer.{TextAnswer, IsTried, is_falsified, is_incomplete, status_of, verdicts_of}
-use Rattle.sp_top.specs.Run.{HasVerdicts}
+use Rattle.sp_top.specs.Answer.{IsRefusal, IsReport, IsDoneWith, TextAnswer, is_rejected, is_falsified, is_incomplete, status_of, verdicts_of, verdicts_on}
+use Rattle.sp_top.specs.Run.{HasVerdicts, DoneRightly}
 use Rattle.sp_top.specs.declared.Status.{Status}
-use Rattle.sp_top.specs.declared.Status.TheVariants.{Fine, Falsified, Incomplete, Refused, Usage, ReadFault, WriteFault, NoMemory, TooLong}
+use Rattle.sp_top.specs.declared.Status.TheVariants.{Fine, Falsified, Incomplete, Rejected, Refused, Usage, ReadFault, WriteFault, NoMemory, TooLong}
 
 -- none of the statuses that come in place of a text's answer
 pub record IsTextStatus (status : Status) : Type 0 where
@@ -29,42 +33,88 @@ falsified_status = record { usage = λ e. cc; read_fault = λ e. cc; write_fault
 incomplete_status : IsTextStatus Incomplete
 incomplete_status = record { usage = λ e. cc; read_fault = λ e. cc; write_fault = λ e. cc; no_memory = λ e. cc; too_long = λ e. cc }
 
+rejected_status : IsTextStatus Rejected
+rejected_status = record { usage = λ e. cc; read_fault = λ e. cc; write_fault = λ e. cc; no_memory = λ e. cc; too_long = λ e. cc }
+
 -- a status with verdicts is that of a text's answer
 pub verdicts_status : (status : Status) → HasVerdicts status → IsTextStatus status
 verdicts_status status (inl e) = subst IsTextStatus (sym e) fine_status
 verdicts_status status (inr (inl e)) = subst IsTextStatus (sym e) falsified_status
-verdicts_status status (inr (inr e)) = subst IsTextStatus (sym e) incomplete_status
+verdicts_status status (inr (inr (inl e))) = subst IsTextStatus (sym e) incomplete_status
+verdicts_status status (inr (inr (inr e))) = subst IsTextStatus (sym e) rejected_status
 
 -- and no refusal
 verdicts_or_refused : (status : Status) → HasVerdicts status → status ≢ Refused
 verdicts_or_refused status (inl e) r = let f : Fine ≡ Refused = sym e ∙ r in cc
 verdicts_or_refused status (inr (inl e)) r = let f : Falsified ≡ Refused = sym e ∙ r in cc
-verdicts_or_refused status (inr (inr e)) r = let f : Incomplete ≡ Refused = sym e ∙ r in cc
+verdicts_or_refused status (inr (inr (inl e))) r = let f : Incomplete ≡ Refused = sym e ∙ r in cc
+verdicts_or_refused status (inr (inr (inr e))) r = let f : Rejected ≡ Refused = sym e ∙ r in cc
 
-chosen : (some_falsified some_incomplete : Bool) → HasVerdicts (if some_falsified then Falsified else if some_incomplete then Incomplete else Fine)
-chosen true b = inr (inl refl)
-chosen false true = inr (inr refl)
-chosen false false = inl refl
+chosen : (some_rejected some_falsified some_incomplete : Bool) → HasVerdicts (if some_rejected then Rejected else if some_falsified then Falsified else if some_incomplete then Incomplete else Fine)
+chosen true a b = inr (inr (inr refl))
+chosen false true b = inr (inl refl)
+chosen false false true = inr (inr (inl refl))
+chosen false false false = inl refl
 
--- verdicts end with one of the three
+-- verdicts end with one of the four
 status_of_verdicts : (vs : List Verdict) → HasVerdicts (status_of vs)
-status_of_verdicts vs = chosen (list_any is_falsified vs) (list_any is_incomplete vs)
+status_of_verdicts vs = chosen (list_any is_rejected vs) (list_any is_falsified vs) (list_any is_incomplete vs)
 
-pub text_status : (bytes text : List ℕ) (status : Status) → TextAnswer bytes text status → IsTextStatus status
-text_status bytes text status (inl refusal) = subst IsTextStatus (sym refusal.status_is) refused_status
-text_status bytes text status (inr answer) =
-    subst IsTextStatus (sym answer.status_is) (verdicts_status (status_of (verdicts_of answer.outcomes)) (status_of_verdicts (verdicts_of answer.outcomes)))
+done_status : (command : Command) (bytes text : List ℕ) (status : Status) → IsDoneWith command bytes text status → HasVerdicts status
+done_status Prove bytes text status a = subst HasVerdicts (sym a.status_is) (status_of_verdicts (verdicts_of a.outcomes))
+done_status Check bytes text status a = subst HasVerdicts (sym a.status_is) (status_of_verdicts (verdicts_on a.judged))
 
--- a text has one status
-pub status_is_one : (bytes text other : List ℕ) (status another : Status) → TextAnswer bytes text status → TextAnswer bytes other another → another ≡ status
-status_is_one bytes text other status another (inl r) (inl q) = q.status_is ∙ sym r.status_is
-status_is_one bytes text other status another (inl r) (inr a) = absurd (answers_are_one_lem.none bytes other a.outcomes r.nothing a.analysis)
-status_is_one bytes text other status another (inr a) (inl r) = absurd (answers_are_one_lem.none bytes text a.outcomes r.nothing a.analysis)
-status_is_one bytes text other status another (inr a) (inr b) =
+pub text_status : (command : Command) (bytes text : List ℕ) (status : Status) → TextAnswer command bytes text status → IsTextStatus status
+text_status command bytes text status (inl refusal) = subst IsTextStatus (sym refusal.status_is) refused_status
+text_status command bytes text status (inr (inl report)) = subst IsTextStatus (sym report.status_is) refused_status
+text_status command bytes text status (inr (inr done)) = verdicts_status status (done_status command bytes text status done)
+
+-- a text that is refused or reported on isn't done with
+refused_or_done : (command : Command) (bytes text other : List ℕ) (status another : Status) → IsRefusal bytes text status → IsDoneWith command bytes other another → ⊥
+refused_or_done Prove bytes text other status another r a = answers_are_one_lem.no_analysis bytes other r.place a.outcomes r.refused a.analysis
+refused_or_done Check bytes text other status another r a = answers_are_one_lem.no_checking bytes other r.place a.judged r.refused a.checking
+
+reported_or_done : (command : Command) (bytes text other : List ℕ) (status another : Status) → IsReport bytes text status → IsDoneWith command bytes other another → ⊥
+reported_or_done Prove bytes text other status another r a = answers_are_one_lem.not_analysed bytes text other a.outcomes r.report a.analysis
+reported_or_done Check bytes text other status another r a = answers_are_one_lem.not_checked bytes text other a.judged r.report a.checking
+
+done_is_one : (command : Command) (bytes text other : List ℕ) (status another : Status) → IsDoneWith command bytes text status → IsDoneWith command bytes other another → another ≡ status
+done_is_one Prove bytes text other status another a b =
     let same = (answers_are_one_lem.one bytes other text b.outcomes a.outcomes b.analysis a.analysis).1 in
     b.status_is ∙ ap (λ (os : List Outcome). status_of (verdicts_of os)) same ∙ sym a.status_is
+done_is_one Check bytes text other status another a b =
+    let same = (answers_are_one_lem.one_check bytes other text b.judged a.judged b.checking a.checking).1 in
+    b.status_is ∙ ap (λ (js : List Judged). status_of (verdicts_on js)) same ∙ sym a.status_is
 
--- what has verdicts is tried
-pub verdicts_are_tried : (bytes text : List ℕ) (status : Status) → HasVerdicts status → TextAnswer bytes text status → IsTried bytes text status
-verdicts_are_tried bytes text status h (inl r) = absurd (verdicts_or_refused status h r.status_is)
-verdicts_are_tried bytes text status h (inr a) = a
+-- a text has one status, by each command
+pub status_is_one : (command : Command) (bytes text other : List ℕ) (status another : Status) → TextAnswer command bytes text status → TextAnswer command bytes other another → another ≡ status
+status_is_one command bytes text other status another (inl r) (inl q) = q.status_is ∙ sym r.status_is
+status_is_one command bytes text other status another (inl r) (inr (inl q)) = q.status_is ∙ sym r.status_is
+status_is_one command bytes text other status another (inl r) (inr (inr a)) = absurd (refused_or_done command bytes text other status another r a)
+status_is_one command bytes text other status another (inr (inl r)) (inl q) = q.status_is ∙ sym r.status_is
+status_is_one command bytes text other status another (inr (inl r)) (inr (inl q)) = q.status_is ∙ sym r.status_is
+status_is_one command bytes text other status another (inr (inl r)) (inr (inr a)) = absurd (reported_or_done command bytes text other status another r a)
+status_is_one command bytes text other status another (inr (inr a)) (inl r) = absurd (refused_or_done command bytes other text another status r a)
+status_is_one command bytes text other status another (inr (inr a)) (inr (inl r)) = absurd (reported_or_done command bytes other text another status r a)
+status_is_one command bytes text other status another (inr (inr a)) (inr (inr b)) = done_is_one command bytes text other status another a b
+
+-- what has verdicts is done with
+pub verdicts_are_done : (command : Command) (bytes text : List ℕ) (status : Status) → HasVerdicts status → TextAnswer command bytes text status → IsDoneWith command bytes text status
+verdicts_are_done command bytes text status h (inl r) = absurd (verdicts_or_refused status h r.status_is)
+verdicts_are_done command bytes text status h (inr (inl r)) = absurd (verdicts_or_refused status h r.status_is)
+verdicts_are_done command bytes text status h (inr (inr a)) = a
+
+-- and what is said is so
+pub done_rightly : (command : Command) (bytes text : List ℕ) (status : Status) → IsDoneWith command bytes text status → DoneRightly command bytes text status
+done_rightly Prove bytes text status a = record {
+  outcomes = a.outcomes;
+  analysis = a.analysis;
+  status_is = a.status_is;
+  right = verdicts_are_right_lem.right bytes text a.outcomes a.analysis;
+}
+done_rightly Check bytes text status a = record {
+  judged = a.judged;
+  checking = a.checking;
+  status_is = a.status_is;
+  right = verdicts_are_right_lem.judged_right bytes text a.judged a.checking;
+}

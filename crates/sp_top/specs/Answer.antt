@@ -1,44 +1,71 @@
 -- What is answered to the words of a command: a text that is written, and a status.
-use Rattle.std.specs.Prelude.{◌≡◌, ◌⊎◌, ◌≤◌, ◌<◌, ℕ, Bool, true, false, List, map, Option, Some, None, IsSomeAnd, if◌then◌else◌, length, codes}
+use Rattle.std.specs.Prelude.{◌≡◌, ◌⊎◌, ◌≤◌, ◌<◌, ℕ, Bool, true, false, List, ◌++◌, map, Option, Some, None, IsSomeAnd, if◌then◌else◌, length, codes, decimal}
 use Rattle.std.specs.List.{list_any}
 use Rattle.std.specs.Option.{ForSome}
 use Rattle.sp_io.specs.Told.{Rose}
 use Rattle.sp_top.specs.Command.{IsLine, IsNoLine}
 use Rattle.sp_top.specs.declared.Status.{Status}
-use Rattle.sp_top.specs.declared.Status.TheVariants.{Fine, Falsified, Incomplete, Refused, Usage, ReadFault, TooLong}
-use Rattle.sp_analysis.specs.Problem.{PosesNothing}
+use Rattle.sp_top.specs.declared.Status.TheVariants.{Fine, Falsified, Incomplete, Rejected, Refused, Usage, ReadFault, TooLong}
+use Rattle.sp_top.specs.declared.Wanted.{Wanted}
+use Rattle.sp_top.specs.declared.Wanted.TheVariants as wanted
+use Rattle.sp_place.specs.Refused.{IsRefusedAt}
+use Rattle.sp_analysis.specs.Problem.{IsReported}
+use Rattle.sp_analysis.specs.Verdict.{Verdict, verified, falsified, incomplete, rejected}
 use Rattle.sp_analysis.specs.Analysis.{Outcome, IsAnalysis}
-use Rattle.sp_analysis.specs.declared.verdict.Verdict.{Verdict}
-use Rattle.sp_analysis.specs.declared.verdict.Verdict.TheVariants as verdict
+use Rattle.sp_analysis.specs.Checking.{Judged, IsChecking}
+use Rattle.sp_analysis.specs.declared.replies.Command.{Command}
+use Rattle.sp_analysis.specs.declared.replies.Command.TheVariants.{Prove, Check}
 
 -- how many bytes a text may have
 abbrev pub text_limit : ℕ
 text_limit = 1048576
 
--- the text says no theory, or one with fatal findings
+-- the text says no theory, and is refused at a place
 pub record IsRefusal (bytes text : List ℕ) (status : Status) : Type 0 where
-  pub nothing : PosesNothing bytes
-  pub text_is : text ≡ codes "refused: text at byte 0\n"
+  pub place : ℕ
+  pub refused : IsRefusedAt bytes place
+  pub text_is : text ≡ codes "refused: text at byte " ++ (decimal place ++ codes "\n")
+  pub status_is : status ≡ Refused
+
+-- the text says a theory with fatal findings, and these are their lines
+pub record IsReport (bytes text : List ℕ) (status : Status) : Type 0 where
+  pub report : IsReported bytes text
   pub status_is : status ≡ Refused
 
 abbrev pub is_falsified : Verdict → Bool
-is_falsified verdict.Falsified = true
-is_falsified verdict.Verified = false
-is_falsified verdict.Incomplete = false
+is_falsified verified = false
+is_falsified falsified = true
+is_falsified incomplete = false
+is_falsified (rejected step clause) = false
 
 abbrev pub is_incomplete : Verdict → Bool
-is_incomplete verdict.Incomplete = true
-is_incomplete verdict.Verified = false
-is_incomplete verdict.Falsified = false
+is_incomplete verified = false
+is_incomplete falsified = false
+is_incomplete incomplete = true
+is_incomplete (rejected step clause) = false
 
--- Falsified where some lemma is falsified, else Incomplete where the analysis of some lemma is incomplete, else Fine: all are verified, or
--- there are none.
+abbrev pub is_rejected : Verdict → Bool
+is_rejected verified = false
+is_rejected falsified = false
+is_rejected incomplete = false
+is_rejected (rejected step clause) = true
+
+abbrev pub is_wanted : Wanted → Verdict → Bool
+is_wanted wanted.Rejected = is_rejected
+is_wanted wanted.Falsified = is_falsified
+is_wanted wanted.Incomplete = is_incomplete
+
+-- Rejected where some proof is rejected, else Falsified where some lemma is falsified, else Incomplete where the analysis of some lemma is
+-- incomplete, else Fine: all are verified, or there are none.
 abbrev pub status_of : List Verdict → Status
-status_of vs = if list_any is_falsified vs then Falsified else if list_any is_incomplete vs then Incomplete else Fine
+status_of vs = if list_any is_rejected vs then Rejected else if list_any is_falsified vs then Falsified else if list_any is_incomplete vs then Incomplete else Fine
 
 -- what is said of each lemma
 abbrev pub verdicts_of : List Outcome → List Verdict
 verdicts_of os = map (λ (o : Outcome). o.verdict) os
+
+abbrev pub verdicts_on : List Judged → List Verdict
+verdicts_on js = map (λ (j : Judged). j.verdict) js
 
 -- the text with the proof that is grown for each of its lemmas, and what is said of them
 pub record IsTried (bytes text : List ℕ) (status : Status) : Type 0 where
@@ -46,9 +73,19 @@ pub record IsTried (bytes text : List ℕ) (status : Status) : Type 0 where
   pub analysis : IsAnalysis bytes text outcomes
   pub status_is : status ≡ status_of (verdicts_of outcomes)
 
+-- what is said of each lemma by the proof that stands below it
+pub record IsChecked (bytes text : List ℕ) (status : Status) : Type 0 where
+  pub judged : List Judged
+  pub checking : IsChecking bytes text judged
+  pub status_is : status ≡ status_of (verdicts_on judged)
+
+abbrev pub IsDoneWith : Command → List ℕ → List ℕ → Status → Type 0
+IsDoneWith Prove bytes text status = IsTried bytes text status
+IsDoneWith Check bytes text status = IsChecked bytes text status
+
 -- what is answered to the bytes of a text
-abbrev pub TextAnswer : List ℕ → List ℕ → Status → Type 0
-TextAnswer bytes text status = IsRefusal bytes text status ⊎ IsTried bytes text status
+abbrev pub TextAnswer : Command → List ℕ → List ℕ → Status → Type 0
+TextAnswer command bytes text status = IsRefusal bytes text status ⊎ IsReport bytes text status ⊎ IsDoneWith command bytes text status
 
 -- whatever is told is more bytes than a text may have
 abbrev pub MayBeTooLong : Option (Option (List ℕ)) → Type 0
@@ -77,16 +114,22 @@ pub record IsTooLong (told : Option (Option (List ℕ))) (text : List ℕ) (stat
   pub status_is : status ≡ TooLong
 
 -- FILE has a text, and this is what is answered to it
-pub record IsTextAnswer (told : Option (Option (List ℕ))) (text : List ℕ) (status : Status) : Type 0 where
+pub record IsTextAnswer (command : Command) (told : Option (Option (List ℕ))) (text : List ℕ) (status : Status) : Type 0 where
   pub bytes : List ℕ
   pub agrees : MayBeText told bytes
-  pub answer : TextAnswer bytes text status
+  pub answer : TextAnswer command bytes text status
 
 -- what is answered to FILE, by what is told of it and the library's count of faults before and now
-abbrev pub IsFileAnswer : Option (Option (List ℕ)) → ℕ → ℕ → List ℕ → Status → Type 0
-IsFileAnswer told before now text status = IsReadFault told before now text status ⊎ IsTooLong told text status ⊎ IsTextAnswer told text status
+abbrev pub IsFileAnswer : Command → Option (Option (List ℕ)) → ℕ → ℕ → List ℕ → Status → Type 0
+IsFileAnswer command told before now text status = IsReadFault told before now text status ⊎ IsTooLong told text status ⊎ IsTextAnswer command told text status
+
+-- the answer to a line of the command
+pub record IsLineAnswer (words : List (List ℕ)) (holds : List ℕ → Option (Option (List ℕ))) (before now : ℕ) (text : List ℕ) (status : Status) : Type 0 where
+  pub command : Command
+  pub file : List ℕ
+  pub line : IsLine words command file
+  pub answer : IsFileAnswer command (holds file) before now text status
 
 -- the whole answer to the words
 abbrev pub IsAnswer : List (List ℕ) → (List ℕ → Option (Option (List ℕ))) → ℕ → ℕ → List ℕ → Status → Type 0
-IsAnswer words holds before now text status =
-    IsUsage words text status ⊎ ((file : List ℕ) × IsLine words file × IsFileAnswer (holds file) before now text status)
+IsAnswer words holds before now text status = IsUsage words text status ⊎ IsLineAnswer words holds before now text status

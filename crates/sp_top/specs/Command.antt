@@ -1,14 +1,20 @@
 -- Which words are a line of the command.
 use Rattle.std.specs.Prelude.{◌≡◌, ◌≢◌, ◌⊎◌, ℕ, List, [], ◌∷◌, codes}
+use Rattle.sp_analysis.specs.declared.replies.Command.{Command}
+use Rattle.sp_analysis.specs.declared.replies.Command.TheVariants.{Prove, Check}
 
 -- `-`, or what doesn't begin with it
 abbrev pub IsFile : List ℕ → Type 0
 IsFile file = (file ≡ codes "-") ⊎ ((rest : List ℕ) → file ≢ 45 ∷ rest)
 
--- the words ask to prove this file
-abbrev pub IsLine : List (List ℕ) → List ℕ → Type 0
-IsLine words file = IsFile file × (program : List ℕ) × (words ≡ program ∷ codes "prove" ∷ file ∷ [])
+abbrev pub command_word : Command → List ℕ
+command_word Prove = codes "prove"
+command_word Check = codes "check"
+
+-- the words ask to do this with the file
+abbrev pub IsLine : List (List ℕ) → Command → List ℕ → Type 0
+IsLine words command file = IsFile file × (program : List ℕ) × (words ≡ program ∷ command_word command ∷ file ∷ [])
 
 -- the words are no line of the command
 abbrev pub IsNoLine : List (List ℕ) → Type 0
-IsNoLine words = (file : List ℕ) → ¬ IsLine words file
+IsNoLine words = (command : Command) (file : List ℕ) → ¬ IsLine words command file

@@ -1,14 +1,18 @@
 -- What the top call promises, clause by clause. `before` and `now` are a count of faults before and after the call.
 use Rattle.std.specs.Prelude.{◌≡◌, ◌≢◌, ◌⊎◌, ◌≤◌, ◌<◌, ℕ, List, [], ◌∷◌, Option, Some, None, length}
 use Rattle.sp_io.specs.Told.{Rose, extended, IsExtendedByPrefix}
-use Rattle.sp_top.specs.Answer.{text_limit, status_of, verdicts_of, TextAnswer, MayBeTooLong, MayBeText, IsAnswer}
+use Rattle.sp_top.specs.Answer.{text_limit, status_of, verdicts_of, verdicts_on, TextAnswer, MayBeTooLong, MayBeText, IsAnswer}
 use Rattle.sp_top.specs.Command.{IsLine, IsNoLine}
 use Rattle.sp_top.specs.declared.Status.{Status}
-use Rattle.sp_top.specs.declared.Status.TheVariants.{Fine, Falsified, Incomplete, Usage, ReadFault, WriteFault, NoMemory, TooLong}
+use Rattle.sp_top.specs.declared.Status.TheVariants.{Fine, Falsified, Incomplete, Rejected, Usage, ReadFault, WriteFault, NoMemory, TooLong}
 use Rattle.sp_spec.specs.Lists.{Every}
 use Rattle.sp_spec.specs.Written.{theory_of}
 use Rattle.sp_analysis.specs.Analysis.{Outcome, IsAnalysis}
-use Rattle.sp_analysis.specs.Laws.{Means}
+use Rattle.sp_written.specs.Text.{theory_in}
+use Rattle.sp_analysis.specs.Checking.{Judged, IsChecking}
+use Rattle.sp_analysis.specs.Laws.{Means, JudgedRightly}
+use Rattle.sp_analysis.specs.declared.replies.Command.{Command}
+use Rattle.sp_analysis.specs.declared.replies.Command.TheVariants.{Prove, Check}
 
 -- a fault of the sink or want of memory came before another cause could show
 abbrev pub IsCutShort : Status → Type 0
@@ -16,42 +20,59 @@ IsCutShort status = (status ≡ WriteFault) ⊎ (status ≡ NoMemory)
 
 -- the answer has verdicts on the lemmas of the text
 abbrev pub HasVerdicts : Status → Type 0
-HasVerdicts status = (status ≡ Fine) ⊎ (status ≡ Falsified) ⊎ (status ≡ Incomplete)
+HasVerdicts status = (status ≡ Fine) ⊎ (status ≡ Falsified) ⊎ (status ≡ Incomplete) ⊎ (status ≡ Rejected)
 
 -- Usage comes exactly where the words are no line of the command
 pub record UsageExactly (words : List (List ℕ)) (status : Status) : Type 0 where
   pub cause : status ≡ Usage → IsNoLine words
   pub comes : IsNoLine words → ¬ IsCutShort status → status ≡ Usage
 
+-- Each lemma of the text is tried, and each verdict is so: a lemma that is verified holds in every execution of the theory that the text
+-- says, steps of the adversary included; one on some trace that is falsified holds in none.
+pub record TriedRightly (bytes answer : List ℕ) (status : Status) : Type 0 where
+  pub outcomes : List Outcome
+  pub analysis : IsAnalysis bytes answer outcomes
+  pub status_is : status ≡ status_of (verdicts_of outcomes)
+  pub right : Every (λ (o : Outcome). Means (theory_of (theory_in analysis.theory)) o.lemma.kind o.verdict o.lemma) outcomes
+
+-- The proof of each lemma is checked, each verdict is so, and a proof is accepted exactly where its every step is an instance of a move, with
+-- the cases of that move.
+pub record CheckedRightly (bytes answer : List ℕ) (status : Status) : Type 0 where
+  pub judged : List Judged
+  pub checking : IsChecking bytes answer judged
+  pub status_is : status ≡ status_of (verdicts_on judged)
+  pub right : Every (JudgedRightly (theory_of (theory_in checking.theory))) judged
+
+abbrev pub DoneRightly : Command → List ℕ → List ℕ → Status → Type 0
+DoneRightly Prove bytes answer status = TriedRightly bytes answer status
+DoneRightly Check bytes answer status = CheckedRightly bytes answer status
+
 module _ (words : List (List ℕ)) (holds : List ℕ → Option (Option (List ℕ))) where
   -- ReadFault comes only where the count of faults rose or absence is told, and always where absence is told
   pub record ReadFaultExactly (before now : ℕ) (status : Status) : Type 0 where
-    pub cause : status ≡ ReadFault → (file : List ℕ) × IsLine words file × (Rose before now ⊎ (holds file ≡ Some None))
-    pub comes : (file : List ℕ) → IsLine words file → holds file ≡ Some None → ¬ IsCutShort status → status ≡ ReadFault
+    pub cause : status ≡ ReadFault → (command : Command) × (file : List ℕ) × IsLine words command file × (Rose before now ⊎ (holds file ≡ Some None))
+    pub comes : (command : Command) (file : List ℕ) → IsLine words command file → holds file ≡ Some None → ¬ IsCutShort status → status ≡ ReadFault
 
   -- TooLong comes exactly where the bytes held under FILE are more than the limit
   pub record TooLongExactly (status : Status) : Type 0 where
-    pub cause : status ≡ TooLong → (file : List ℕ) × IsLine words file × MayBeTooLong (holds file)
-    pub comes : (file bytes : List ℕ) → IsLine words file → holds file ≡ Some (Some bytes) → text_limit < length bytes
+    pub cause : status ≡ TooLong → (command : Command) × (file : List ℕ) × IsLine words command file × MayBeTooLong (holds file)
+    pub comes : (command : Command) (file bytes : List ℕ) → IsLine words command file → holds file ≡ Some (Some bytes) → text_limit < length bytes
         → ¬ IsCutShort status → status ≢ ReadFault → status ≡ TooLong
 
-  -- Fine, Falsified, Incomplete and Refused come exactly where the answer to the text has them
+  -- Fine, Falsified, Incomplete, Rejected and Refused come exactly where the answer to the text has them
   pub record AnswersExactly (kind status : Status) : Type 0 where
-    pub cause : status ≡ kind → (file bytes text : List ℕ) × IsLine words file × MayBeText (holds file) bytes × TextAnswer bytes text kind
-    pub comes : (file bytes text : List ℕ) → IsLine words file → holds file ≡ Some (Some bytes) → length bytes ≤ text_limit → TextAnswer bytes text kind
+    pub cause : status ≡ kind → (command : Command) × (file bytes text : List ℕ) × IsLine words command file × MayBeText (holds file) bytes × TextAnswer command bytes text kind
+    pub comes : (command : Command) (file bytes text : List ℕ) → IsLine words command file → holds file ≡ Some (Some bytes) → length bytes ≤ text_limit → TextAnswer command bytes text kind
         → ¬ IsCutShort status → status ≢ ReadFault → status ≡ kind
 
-  -- The answer is the analysis of the bytes that FILE holds, and each verdict in it is so: a lemma that is verified holds in every
-  -- execution of the theory that the text says, steps of the adversary included; one on some trace that is falsified holds in none.
+  -- the answer is that of the command to the bytes that FILE holds, and what it says of each lemma is so
   pub record IsRight (answer : List ℕ) (status : Status) : Type 0 where
+    pub command : Command
     pub file : List ℕ
     pub bytes : List ℕ
-    pub line : IsLine words file
+    pub line : IsLine words command file
     pub text : MayBeText (holds file) bytes
-    pub outcomes : List Outcome
-    pub analysis : IsAnalysis bytes answer outcomes
-    pub status_is : status ≡ status_of (verdicts_of outcomes)
-    pub right : Every (λ (o : Outcome). Means (theory_of analysis.theory) o.lemma.kind o.verdict o.lemma) outcomes
+    pub right : DoneRightly command bytes answer status
 
   -- The headline: what is written of each lemma is so. Where the sink failed, this is said of the answer of which a prefix stands.
   pub record VerdictsHold (before now : ℕ) (old new : Option (List ℕ)) (status : Status) : Type 0 where
@@ -68,8 +89,8 @@ module _ (words : List (List ℕ)) (holds : List ℕ → Option (Option (List �
 
   -- a text that is told and within the limit gets its answer, but for faults and want of memory
   pub record IsComplete (before now sink_before sink_now : ℕ) (old new : Option (List ℕ)) (status : Status) : Type 0 where
-    pub complete : (file bytes : List ℕ) → IsLine words file → holds file ≡ Some (Some bytes) → length bytes ≤ text_limit
-        → ¬ Rose before now → ¬ Rose sink_before sink_now → (status ≡ NoMemory) ⊎ ((text : List ℕ) × TextAnswer bytes text status × (new ≡ extended old text))
+    pub complete : (command : Command) (file bytes : List ℕ) → IsLine words command file → holds file ≡ Some (Some bytes) → length bytes ≤ text_limit
+        → ¬ Rose before now → ¬ Rose sink_before sink_now → (status ≡ NoMemory) ⊎ ((text : List ℕ) × TextAnswer command bytes text status × (new ≡ extended old text))
 
 -- WriteFault comes only where the sink's count of faults rose
 pub record WriteFaultOnly (before now : ℕ) (status : Status) : Type 0 where
@@ -83,5 +104,5 @@ pub record WritesNothing (before now : ℕ) (old new : Option (List ℕ)) (statu
 -- FILE alone is fetched, and but for want of memory once; where the words are no line nothing is
 pub record AsksFileOnce (words : List (List ℕ)) (old new : Option (List (List ℕ))) (status : Status) : Type 0 where
   pub no_line : IsNoLine words → new ≡ old
-  pub at_most : (file : List ℕ) → IsLine words file → (new ≡ old) ⊎ (new ≡ extended old (file ∷ []))
-  pub once : (file : List ℕ) → IsLine words file → status ≢ NoMemory → new ≡ extended old (file ∷ [])
+  pub at_most : (command : Command) (file : List ℕ) → IsLine words command file → (new ≡ old) ⊎ (new ≡ extended old (file ∷ []))
+  pub once : (command : Command) (file : List ℕ) → IsLine words command file → status ≢ NoMemory → new ≡ extended old (file ∷ [])

@@ -1,22 +1,27 @@
 // The top call: from the words of a command to the text that is written and the status.
-// It stands on `sp_analysis`, which tries the lemmas of a text, and on `sp_io`, which brings the library that texts come from and the sink
+// It stands on `sp_analysis`, which tries the lemmas of a text or checks their proofs, and on `sp_io`, which brings the library that texts come from and the sink
 // that answers go to. The program stands above it and only makes the words, the library and the sink.
 // It promises that what is written of each lemma is so, that each status comes by its cause alone, that what is written is the whole
 // answer or, after a fault of the sink, a prefix of that very answer, and that FILE alone is fetched, once.
 #![tactic(auto)]
 
-ghost use Rattle.std.specs.Prelude.{◌≡◌, ◌⊎◌, [], ◌∷◌, ℕ, List, OnOk, IfOk};
+ghost use Rattle.std.specs.Prelude.{◌≡◌, ◌⊎◌, ◌++◌, [], ◌∷◌, ℕ, List, OnOk, IfOk, map, codes, decimal};
+ghost use Rattle.std.specs.List.{list_any};
 ghost use Rattle.sp_io.specs.Told.{extended};
 ghost use Rattle.sp_top.specs.Answer as answer;
 ghost use Rattle.sp_top.specs.Answer.{TextAnswer, IsFileAnswer, IsAnswer};
 ghost use Rattle.sp_top.specs.Command.{IsLine, IsNoLine};
 ghost use Rattle.sp_top.specs.Run.{UsageExactly, ReadFaultExactly, TooLongExactly, AnswersExactly, VerdictsHold, WritesWhole, WritesPrefix, IsComplete, WriteFaultOnly, WritesNothing, AsksFileOnce};
-ghost use Rattle.sp_top.specs.declared.Status.TheVariants.{Fine, Falsified, Incomplete, Refused};
+ghost use Rattle.sp_top.specs.declared.Status.TheVariants.{Fine, Falsified, Incomplete, Rejected, Refused};
+ghost use Rattle.sp_analysis.specs.View.{verdict_of};
+ghost use Rattle.sp_analysis.specs.declared.replies.Command.{Command};
 
-use sp_analysis::{Verdict, analyse};
+use sp_analysis::{Command, Reply, Verdict};
 use sp_io::{FetchFail, Library, Sink, write_whole};
 use std::alloc::{AllocError, Global};
 
+#[cfg(test)]
+mod check_tests;
 #[cfg(test)]
 mod tests;
 mod words;
@@ -60,45 +65,89 @@ fn fixed(alloc: Global, text: &[u8], status: Status) -> Result<(Vec<u8>, Status)
     Ok((text, status))
 }
 
-/// The status that the verdicts on a text's lemmas end with.
-fn status_of(verdicts: &[Verdict]) -> Status
-    ensures { result ≡ answer.status_of verdicts.now }
+/// A verdict for which a status of its own stands.
+#[derive(Clone, Copy)]
+enum Wanted {
+    Rejected,
+    Falsified,
+    Incomplete,
+}
+
+/// Whether the verdict is such a one.
+fn is_wanted(wanted: Wanted, verdict: Verdict) -> bool
+    ensures { result ≡ answer.is_wanted wanted (verdict_of verdict) }
 {
-    if verdicts.contains(&Verdict::Falsified) {
+    match wanted {
+        Wanted::Rejected => matches!(verdict, Verdict::Rejected(_, _)),
+        Wanted::Falsified => matches!(verdict, Verdict::Falsified),
+        Wanted::Incomplete => matches!(verdict, Verdict::Incomplete),
+    }
+}
+
+/// Whether one of the verdicts is such a one.
+fn some_is(wanted: Wanted, verdicts: &Vec<Verdict>) -> bool
+    ensures { result ≡ list_any (answer.is_wanted wanted) (map verdict_of verdicts.now.items) }
+{
+    for verdict in verdicts {
+        if is_wanted(wanted, *verdict) {
+            return true;
+        }
+    }
+    false
+}
+
+/// The status that the verdicts on a text's lemmas end with.
+fn status_of(verdicts: &Vec<Verdict>) -> Status
+    ensures { result ≡ answer.status_of (map verdict_of verdicts.now.items) }
+{
+    if some_is(Wanted::Rejected, verdicts) {
+        Status::Rejected
+    } else if some_is(Wanted::Falsified, verdicts) {
         Status::Falsified
-    } else if verdicts.contains(&Verdict::Incomplete) {
+    } else if some_is(Wanted::Incomplete, verdicts) {
         Status::Incomplete
     } else {
         Status::Fine
     }
 }
 
+/// The refusal of a text at a place.
+fn refusal(alloc: Global, place: usize) -> Result<(Vec<u8>, Status), AllocError>
+    ensures text { IfOk result (λ answer. answer.0.items ≡ codes "refused: text at byte " ++ (decimal place ++ codes "\n")) }
+    ensures status { IfOk result (λ answer. answer.1 ≡ Refused) }
+{
+    let line = format!(in alloc; "refused: text at byte {place}\n")?;
+    fixed(alloc, line.as_bytes(), Status::Refused)
+}
+
 /// The whole answer to the bytes of a text.
 #[tactic(auto, using(crate::proofs::Answered::answers))]
-fn answer(alloc: Global, bytes: &[u8]) -> Result<(Vec<u8>, Status), AllocError>
-    ensures { IfOk result (λ answer. TextAnswer bytes.now answer.0.items answer.1) }
+fn answer(alloc: Global, command: Command, bytes: &[u8]) -> Result<(Vec<u8>, Status), AllocError>
+    ensures { IfOk result (λ answer. TextAnswer command bytes.now answer.0.items answer.1) }
 {
-    match analyse(alloc, bytes)? {
-        Some(analysis) => {
-            let status = status_of(&analysis.verdicts);
-            Ok((analysis.written, status))
+    match sp_analysis::answer(alloc, command, bytes)? {
+        Reply::Refused(place) => refusal(alloc, place),
+        Reply::Reported(lines) => Ok((lines, Status::Refused)),
+        Reply::Done(written, verdicts) => {
+            let status = status_of(&verdicts);
+            Ok((written, status))
         }
-        None => fixed(alloc, b"refused: text at byte 0\n", Status::Refused),
     }
 }
 
 /// The whole answer to FILE, which is fetched once.
 fn answer_file<L: Library>(
     alloc: Global,
+    command: Command,
     file: &str,
     library: &mut L,
 ) -> Result<(Vec<u8>, Status), AllocError>
-    ensures answer { IfOk result (λ answer. IsFileAnswer (L.holds library.old file.now) (L.faults library.old) (L.faults library.new) answer.0.items answer.1) }
+    ensures answer { IfOk result (λ answer. IsFileAnswer command (L.holds library.old file.now) (L.faults library.old) (L.faults library.new) answer.0.items answer.1) }
     ensures asked { (L.asked library.new ≡ L.asked library.old) ⊎ (L.asked library.new ≡ extended (L.asked library.old) (file.now ∷ [])) }
     ensures asked_once { OnOk result (L.asked library.new ≡ extended (L.asked library.old) (file.now ∷ [])) }
 {
     match library.fetch(alloc, file, TEXT_LIMIT) {
-        Ok(bytes) => answer(alloc, &bytes),
+        Ok(bytes) => answer(alloc, command, &bytes),
         Err(FetchFail::Failed) | Err(FetchFail::Missing) => fixed(
             alloc,
             b"refused: read fault\n",
@@ -121,11 +170,11 @@ fn respond<L: Library>(
 ) -> Result<(Vec<u8>, Status), AllocError>
     ensures answer { IfOk result (λ answer. IsAnswer words.now (L.holds library.old) (L.faults library.old) (L.faults library.new) answer.0.items answer.1) }
     ensures no_line { IsNoLine words.now → L.asked library.new ≡ L.asked library.old }
-    ensures asked { (file : List ℕ) → IsLine words.now file → (L.asked library.new ≡ L.asked library.old) ⊎ (L.asked library.new ≡ extended (L.asked library.old) (file ∷ [])) }
-    ensures asked_once { OnOk result ((file : List ℕ) → IsLine words.now file → L.asked library.new ≡ extended (L.asked library.old) (file ∷ [])) }
+    ensures asked { (command : Command) (file : List ℕ) → IsLine words.now command file → (L.asked library.new ≡ L.asked library.old) ⊎ (L.asked library.new ≡ extended (L.asked library.old) (file ∷ [])) }
+    ensures asked_once { OnOk result ((command : Command) (file : List ℕ) → IsLine words.now command file → L.asked library.new ≡ extended (L.asked library.old) (file ∷ [])) }
 {
-    match words.file() {
-        Some(file) => answer_file(alloc, file, library),
+    match words.line() {
+        Some((command, file)) => answer_file(alloc, command, file, library),
         None => fixed(alloc, b"refused: usage\n", Status::Usage),
     }
 }
@@ -142,13 +191,15 @@ pub fn run<L: Library, K: Sink>(
     ensures read_fault { ReadFaultExactly words.now (L.holds library.old) (L.faults library.old) (L.faults library.new) result }
     ensures too_long { TooLongExactly words.now (L.holds library.old) result }
     ensures refused { AnswersExactly words.now (L.holds library.old) Refused result }
+    ensures rejected { AnswersExactly words.now (L.holds library.old) Rejected result }
     ensures falsified { AnswersExactly words.now (L.holds library.old) Falsified result }
     ensures incomplete { AnswersExactly words.now (L.holds library.old) Incomplete result }
     ensures fine { AnswersExactly words.now (L.holds library.old) Fine result }
     ensures write_fault { WriteFaultOnly (K.faults out.old) (K.faults out.new) result }
 
     // The headline: what is written of each lemma is so. A lemma that is verified holds in every execution, steps of the adversary
-    // included, and one on some trace that is falsified holds in none.
+    // included, and one on some trace that is falsified holds in none; a proof that is checked is accepted exactly where its every step is
+    // an instance of a move, with the cases of that move.
     ensures headline { VerdictsHold words.now (L.holds library.old) (L.faults library.old) (L.faults library.new) (K.written out.old) (K.written out.new) result }
     // What stands written is the whole answer, or a prefix of it, or nothing.
     ensures whole { WritesWhole words.now (L.holds library.old) (L.faults library.old) (L.faults library.new) (K.written out.old) (K.written out.new) result }

@@ -13,6 +13,17 @@ fn words_of(alloc: Global, line: &str) -> Result<Words, AllocError> {
     Ok(words)
 }
 
+/// A theory behind a comment, which with it has as many bytes as a text may have.
+fn padded(alloc: Global) -> Result<Vec<u8>, AllocError> {
+    let theory = b"*/ theory P begin end";
+    let mut text = vec![in alloc; b'/', b'*']?;
+    for _ in 0..TEXT_LIMIT - 23 {
+        text.push(b'x')?;
+    }
+    text.extend_from_slice(theory)?;
+    Ok(text)
+}
+
 /// A library with a short text, one of the limit, one beyond it, and theories with findings.
 fn library(alloc: Global) -> Result<MemLibrary, AllocError> {
     let mut library = MemLibrary::new(alloc);
@@ -33,7 +44,9 @@ fn library(alloc: Global) -> Result<MemLibrary, AllocError> {
         "two_lemmas",
         b"theory R1 begin lemma one: \"T\" lemma one: exists-trace \"F\" end",
     )?;
-    let mut text = vec![in alloc; b'x'; TEXT_LIMIT]?;
+    library.put("empty", b"")?;
+    library.put("open", b"theory X begin /* ab")?;
+    let mut text = padded(alloc)?;
     library.put("limit", &text)?;
     text.push(b'x')?;
     library.put("long", &text)?;
@@ -46,14 +59,25 @@ fn answers_have_their_causes(rt: HostRuntime) -> Result<(), Fail> {
     for (line, status, answer) in [
         ("spthy prove", 5, "refused: usage\n"),
         ("spthy prove short more", 5, "refused: usage\n"),
-        ("spthy check short", 5, "refused: usage\n"),
+        ("spthy look short", 5, "refused: usage\n"),
         ("spthy prove -x", 5, "refused: usage\n"),
-        ("spthy prove wrong", 4, "refused: text at byte 0\n"),
-        ("spthy prove unguarded", 4, "refused: text at byte 0\n"),
-        ("spthy prove two_rules", 4, "refused: text at byte 0\n"),
-        ("spthy prove two_lemmas", 4, "refused: text at byte 0\n"),
+        (
+            "spthy prove wrong",
+            4,
+            "fatal: rule Make: variable k not bound\n",
+        ),
+        (
+            "spthy check unguarded",
+            4,
+            "fatal: formula once: variable y not guarded\n",
+        ),
+        ("spthy prove two_rules", 4, "fatal: name Make used twice\n"),
+        ("spthy check two_lemmas", 4, "fatal: name one used twice\n"),
         ("spthy prove short", 4, "refused: text at byte 0\n"),
-        ("spthy prove limit", 4, "refused: text at byte 0\n"),
+        ("spthy check short", 4, "refused: text at byte 0\n"),
+        ("spthy prove empty", 4, "refused: text at byte 0\n"),
+        ("spthy prove open", 4, "refused: text at byte 15\n"),
+        ("spthy check limit", 0, ""),
         (
             "spthy prove long",
             9,

@@ -1,6 +1,8 @@
 ghost use Rattle.std.specs.Prelude.{◌≡◌, ◌++◌, ◌↔◌, List, [], ◌∷◌, ℕ, map, string_bytes, OnOk, OnErr, MatchOption, IsTrue};
-ghost use Rattle.sp_top.specs.Command.{IsFile, IsLine, IsNoLine};
+ghost use Rattle.sp_top.specs.Command.{IsFile, IsLine, IsNoLine, command_word};
+ghost use Rattle.sp_analysis.specs.declared.replies.Command.{Command};
 
+use sp_analysis::Command;
 use std::alloc::{AllocError, Global};
 use std::marker::Model;
 
@@ -38,15 +40,31 @@ impl Words {
         Ok(())
     }
 
-    /// The file that the words ask to prove, where they are a line of the command.
-    pub(crate) fn file(&self) -> Option<&str>
-        ensures { MatchOption result (IsNoLine self.now) (λ file. IsLine self.now file.now) }
+    /// What the words ask to do, and with which file, where they are a line of the command.
+    pub(crate) fn line(&self) -> Option<(Command, &str)>
+        ensures { MatchOption result (IsNoLine self.now) (λ line. IsLine self.now line.0 line.1.now) }
     {
-        if self.texts.len() != 3 || self.texts[1].as_str() != "prove" {
+        if self.texts.len() != 3 {
             return None;
         }
+        let command = command_of(self.texts[1].as_str())?;
         let file = self.texts[2].as_str();
-        if is_file(file) { Some(file) } else { None }
+        if is_file(file) {
+            Some((command, file))
+        } else {
+            None
+        }
+    }
+}
+
+/// The command of this name.
+fn command_of(word: &str) -> Option<Command>
+    ensures { MatchOption result ((command : Command) → ¬ (word.now ≡ command_word command)) (λ command. word.now ≡ command_word command) }
+{
+    match word {
+        "prove" => Some(Command::Prove),
+        "check" => Some(Command::Check),
+        _ => None,
     }
 }
 

@@ -15,11 +15,14 @@ returns-in-Ok-write_whole-clause-too_long g c = too_long_exactly c.args.words.no
 pub returns-in-Ok-write_whole-clause-refused : goal.returns-in-Ok-write_whole-clause-refused
 returns-in-Ok-write_whole-clause-refused g c = answers_exactly c.args.words.now _ _ _ _ _ refused_status (inr (c.in-Ok.answer.0.items, c.in-Ok.ensures.answer))
 
+pub returns-in-Ok-write_whole-clause-rejected : goal.returns-in-Ok-write_whole-clause-rejected
+returns-in-Ok-write_whole-clause-rejected g c = answers_exactly c.args.words.now _ _ _ _ _ (verdicts_status _ (inr (inr (inr refl)))) (inr (c.in-Ok.answer.0.items, c.in-Ok.ensures.answer))
+
 pub returns-in-Ok-write_whole-clause-falsified : goal.returns-in-Ok-write_whole-clause-falsified
 returns-in-Ok-write_whole-clause-falsified g c = answers_exactly c.args.words.now _ _ _ _ _ (verdicts_status _ (inr (inl refl))) (inr (c.in-Ok.answer.0.items, c.in-Ok.ensures.answer))
 
 pub returns-in-Ok-write_whole-clause-incomplete : goal.returns-in-Ok-write_whole-clause-incomplete
-returns-in-Ok-write_whole-clause-incomplete g c = answers_exactly c.args.words.now _ _ _ _ _ (verdicts_status _ (inr (inr refl))) (inr (c.in-Ok.answer.0.items, c.in-Ok.ensures.answer))
+returns-in-Ok-write_whole-clause-incomplete g c = answers_exactly c.args.words.now _ _ _ _ _ (verdicts_status _ (inr (inr (inl refl)))) (inr (c.in-Ok.answer.0.items, c.in-Ok.ensures.answer))
 
 pub returns-in-Ok-write_whole-clause-fine : goal.returns-in-Ok-write_whole-clause-fine
 returns-in-Ok-write_whole-clause-fine g c = answers_exactly c.args.words.now _ _ _ _ _ (verdicts_status _ (inl refl)) (inr (c.in-Ok.answer.0.items, c.in-Ok.ensures.answer))
@@ -29,12 +32,12 @@ returns-in-Ok-write_whole-clause-headline g c = headline c.args.words.now _ _ _ 
 
 pub returns-in-Ok-write_whole-clause-completeness : goal.returns-in-Ok-write_whole-clause-completeness
 returns-in-Ok-write_whole-clause-completeness g c = record {
-  complete = λ file bytes line told within still sink_still.
+  complete = λ command file bytes line told within still sink_still.
       let text = c.in-Ok.answer.0.items in
-      let answer = answer_of_line c.args.words.now (g.L.Library.holds c.args.library.now) _ _ text file c.in-Ok.answer.1 line c.in-Ok.ensures.answer in
+      let answer = answer_of_line c.args.words.now (g.L.Library.holds c.args.library.now) _ _ text command file c.in-Ok.answer.1 line c.in-Ok.ensures.answer in
       inr (
         text,
-        text_is_answered c.args.words.now (g.L.Library.holds c.args.library.now) _ _ text file bytes c.in-Ok.answer.1 answer told within still,
+        text_is_answered c.args.words.now (g.L.Library.holds c.args.library.now) _ _ text command file bytes c.in-Ok.answer.1 answer told within still,
         rw c.deref.ensures.value at c.in-Ok-write_whole.ensures.all,
       );
 }
@@ -54,3 +57,17 @@ returns-in-Err-clause-headline g c = headline_short c.args.words.now _ _ _ _ _ _
 
 pub returns-clause-headline : goal.returns-clause-headline
 returns-clause-headline g c = headline_short c.args.words.now _ _ _ _ _ _ (inl refl)
+
+pub returns-in-Ok-write_whole-clause-asked : goal.returns-in-Ok-write_whole-clause-asked
+returns-in-Ok-write_whole-clause-asked g c = record {
+  no_line = c.respond.ensures.no_line;
+  at_most = c.respond.ensures.asked;
+  once = λ command file line memory. c.in-Ok.ensures.asked_once command file line;
+}
+
+pub returns-clause-asked : goal.returns-clause-asked
+returns-clause-asked g c = record {
+  no_line = c.respond.ensures.no_line;
+  at_most = c.respond.ensures.asked;
+  once = λ command file line memory. c.in-Ok.ensures.asked_once command file line;
+}

@@ -1,0 +1,34 @@
+-- What is answered to a text, by what is to be done with it.
+use Rattle.std.specs.Prelude.{◌≡◌, ℕ, List, map}
+use Rattle.sp_place.specs.Refused.{IsRefusedAt}
+use Rattle.sp_analysis.specs.Problem.{IsReported}
+use Rattle.sp_analysis.specs.Verdict.{Verdict}
+use Rattle.sp_analysis.specs.Analysis.{Outcome, IsAnalysis}
+use Rattle.sp_analysis.specs.Checking.{Judged, IsChecking}
+use Rattle.sp_analysis.specs.View.{verdict_of}
+use Rattle.sp_analysis.specs.declared.replies.Command.{Command}
+use Rattle.sp_analysis.specs.declared.replies.Command.TheVariants.{Prove, Check}
+use Rattle.sp_analysis.specs.declared.replies.Reply.{Reply}
+use Rattle.sp_analysis.specs.declared.replies.Reply.TheVariants.{Refused, Reported, Done}
+
+-- what is written where each lemma is tried, and what is said of them
+pub record IsAnalysed (text written : List ℕ) (verdicts : List Verdict) : Type 0 where
+  pub outcomes : List Outcome
+  pub analysis : IsAnalysis text written outcomes
+  pub verdicts_are : verdicts ≡ map (λ (o : Outcome). o.verdict) outcomes
+
+-- what is written where each proof is checked, and what is said of them
+pub record IsChecked (text written : List ℕ) (verdicts : List Verdict) : Type 0 where
+  pub judged : List Judged
+  pub checking : IsChecking text written judged
+  pub verdicts_are : verdicts ≡ map (λ (j : Judged). j.verdict) judged
+
+abbrev pub IsDone : Command → List ℕ → List ℕ → List Verdict → Type 0
+IsDone Prove text written verdicts = IsAnalysed text written verdicts
+IsDone Check text written verdicts = IsChecked text written verdicts
+
+-- the text is refused at a place, or has findings, or is done with
+abbrev pub IsReplyTo : Command → List ℕ → Reply → Type 0
+IsReplyTo command text (Refused place) = IsRefusedAt text place
+IsReplyTo command text (Reported lines) = IsReported text lines.items
+IsReplyTo command text (Done written verdicts) = IsDone command text written.items (map verdict_of verdicts.items)
