@@ -1,0 +1,81 @@
+-- What ground_of terms, facts, traces, steps and signatures in memory stand for.
+use Rattle.std.specs.Prelude.{ℕ, List, [], ◌∷◌, ◌++◌, map}
+use Rattle.sp_spec.specs.Term.{constant, name, app, none, more, Ground, Grounds}
+use Rattle.sp_spec.specs.Rule as rule
+use Rattle.sp_spec.specs.Signature as signature
+use Rattle.sp_spec.specs.Execution as execution
+use Rattle.sp_spec.specs.Execution.{make_fresh, use_rule, take_out, put_in, know_public, make_own, apply_symbol}
+use Rattle.sp_term.specs.View.{name_of, view}
+use Rattle.sp_ground.specs.declared.term.GroundTerm.{GroundTerm, fold-GroundTerm}
+use Rattle.sp_ground.specs.declared.term.GroundTerm.TheOpen.{GroundTerm-F}
+use Rattle.sp_ground.specs.declared.fact.GroundFact.{GroundFact}
+use Rattle.sp_ground.specs.declared.fact.GroundAction.{GroundAction}
+use Rattle.sp_ground.specs.declared.fact.GroundFacts.{GroundFacts}
+use Rattle.sp_ground.specs.declared.fact.Trace.{Trace}
+use Rattle.sp_ground.specs.declared.step.Given.{Given}
+use Rattle.sp_ground.specs.declared.step.Step.{Step}
+use Rattle.sp_ground.specs.declared.step.Step.TheVariants.{MakeFresh, UseRule, TakeOut, PutIn, KnowPublic, MakeOwn, ApplySymbol}
+use Rattle.sp_ground.specs.declared.signature.Symbol.{Symbol}
+use Rattle.sp_ground.specs.declared.signature.Equation.{Equation}
+use Rattle.sp_ground.specs.declared.signature.Signature.{Signature}
+
+abbrev pub row : List Ground → Grounds
+row [] = none
+row (t ∷ ts) = more t (row ts)
+
+-- one level, with each term inside already seen
+abbrev pub ground_step : GroundTerm-F Ground → Ground
+ground_step (GroundTerm-F.Constant c) = constant (name_of c)
+ground_step (GroundTerm-F.FreshName n) = name n
+ground_step (GroundTerm-F.App f ts) = app (name_of f) (row ts.value.items)
+
+abbrev pub ground_of : GroundTerm → Ground
+ground_of = fold-GroundTerm Ground ground_step
+
+abbrev pub grounds_of : List GroundTerm → Grounds
+grounds_of ts = row (map ground_of ts)
+
+abbrev pub ground_fact : GroundFact → rule.Fact ⊥
+ground_fact f = record { symbol = name_of f.symbol; persistent = f.persistent; args = grounds_of f.args.items }
+
+abbrev pub ground_action : GroundAction → rule.Action ⊥
+ground_action a = record { symbol = name_of a.symbol; args = grounds_of a.args.items }
+
+abbrev pub ground_facts : GroundFacts → rule.Facts ⊥
+ground_facts f = record {
+  premises = map ground_fact f.premises.items;
+  actions = map ground_action f.actions.items;
+  conclusions = map ground_fact f.conclusions.items;
+}
+
+-- the entries, the oldest first
+abbrev pub entries_of : Trace → List (List (rule.Action ⊥))
+entries_of t = map (λ entry. map ground_action entry.items) t.entries.items
+
+abbrev pub newest_first : {A : Type 0} → List A → List A
+newest_first [] = []
+newest_first (x ∷ xs) = newest_first xs ++ x ∷ []
+
+abbrev pub trace_of : Trace → execution.Trace
+trace_of t = newest_first (entries_of t)
+
+abbrev pub given_of : Given → List ℕ × Ground
+given_of g = (name_of g.variable, ground_of g.value)
+
+abbrev pub step_of : Step → execution.Step
+step_of (MakeFresh t) = make_fresh (ground_of t)
+step_of (UseRule r given) = use_rule (name_of r) (map given_of given.items)
+step_of (TakeOut t) = take_out (ground_of t)
+step_of (PutIn t) = put_in (ground_of t)
+step_of (KnowPublic t) = know_public (ground_of t)
+step_of (MakeOwn t) = make_own (ground_of t)
+step_of (ApplySymbol f ts) = apply_symbol (name_of f) (grounds_of ts.items)
+
+abbrev pub symbol_of : Symbol → signature.Symbol
+symbol_of s = record { name = name_of s.name; arity = s.arity; private = s.private }
+
+abbrev pub equation_of : Equation → signature.Equation
+equation_of e = record { left = view e.left; right = view e.right }
+
+abbrev pub signature_of : Signature → signature.Signature
+signature_of s = record { symbols = map symbol_of s.symbols.items; equations = map equation_of s.equations.items }

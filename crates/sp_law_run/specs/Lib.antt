@@ -1,0 +1,5 @@
+pub mod NormalStep
+pub mod Right
+pub mod Taken
+pub mod Given
+pub mod Laws

@@ -1,0 +1,23 @@
+use Rattle.std.proofs.Common.{◌++◌, sym, ap, ◌∙◌, string_bytes}
+use Rattle.std.proofs.lemmas.Result.{on_ok_weaker}
+use Rattle.sp_spec.specs.Term.{Ground, app}
+use Rattle.sp_term.specs.View.{name_of}
+use Rattle.sp_ground.specs.View.{ground_of, grounds_of}
+use Rattle.sp_ground.specs.Text.{text_at}
+use Rattle.sp_ground.proofs.Applied.{ground_app}
+use Rattle.sp_show.proofs.Texts.{written_application}
+use Rattle.sp_show.proofs.term.+text.Goals as goal
+
+pub write_at-returns-in_ok-write_row-in-App : goal.write_at-returns-in_ok-write_row-in-App
+write_at-returns-in_ok-write_row-in-App t c =
+    let old = string_bytes c.args.out.now in
+    let f = name_of c.in-App.symbol in
+    let row = c.deref-terms.result.now in
+    on_ok_weaker c.write_closing.result
+    (λ h.
+    written_application old (string_bytes c.write_opening.new.out) (string_bytes c.write_row.new.out) (string_bytes c.write_closing.new.out)
+    c.args.ends f (grounds_of row.items) c.is_pair.result c.is_pair.ensures
+    c.in_ok-write_opening-in-App.ensures c.in_ok-write_row-in-App.ensures h
+    ∙ ap (λ (u : Ground). old ++ text_at c.args.ends u)
+    (ap (λ v. app f (grounds_of v.items)) c.deref-terms.ensures ∙ sym (ap ground_of c.in-App.is ∙ ground_app c.in-App.symbol c.in-App.shared)))
+    c.write_closing.ensures
