@@ -1,0 +1,4 @@
+mod Slots
+mod Values
+mod Patterns
+mod Traces

@@ -1,0 +1,13 @@
+pub mod Slots
+pub mod Matched
+pub mod Actions
+pub mod Terms
+pub mod Equalities
+pub mod Ranges
+pub mod Atoms
+pub mod Entered
+pub mod Full
+pub mod Candidates
+pub mod Right
+pub mod PlainForms
+pub mod Told
