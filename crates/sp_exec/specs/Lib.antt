@@ -1,0 +1,5 @@
+pub mod Next
+pub mod Replay
+pub mod View
+pub mod Laws
+pub mod Example
