@@ -15,20 +15,21 @@ use Rattle.sp_judge.specs.Skeleton as read
 use Rattle.sp_judge.proofs.Right.{judgements_right}
 use Rattle.sp_written.specs.Text.{Item, rule_item, lemma_item, WrittenText, lemmas_in, theory_in}
 use Rattle.sp_read_theory.specs.Text.{IsTextOf}
+use Rattle.sp_text.specs.Places.{HavePlaces}
 use Rattle.sp_skel.specs.Steps.{skeleton}
-use Rattle.sp_skel.specs.Spelling.{as_written, IsReadable, HavePlaces, AreNamed}
+use Rattle.sp_skel.specs.Spelling.{as_written, IsReadable, AreNamed}
 use Rattle.sp_skel.proofs.Readable.{grown_readable}
 use Rattle.sp_again.proofs.Named.{rules_named}
 use Rattle.sp_skel.proofs.Spelled.{tree_says}
 use Rattle.sp_again.specs.Again.{with_trees}
 use Rattle.sp_again.proofs.Items.{read_again}
-use Rattle.sp_again.proofs.Replaced.{each_lemma, same_theory}
+use Rattle.sp_again.proofs.Replaced.{each_lemma, same_theory, trees_proofs}
 use Rattle.sp_report.specs.Laws.{IsWellFormed}
-use Rattle.sp_analysis.specs.Problem.{budget, sought}
+use Rattle.sp_analysis.specs.Sought.{budget, sought}
 use Rattle.sp_analysis.specs.Verdict.{Verdict, verified, falsified, incomplete, rejected, summary_line}
 use Rattle.sp_analysis.specs.Analysis.{IsVerdictOf, Outcome, summary, trees_of, IsOutcome, AreOutcomes, IsAnalysis}
-use Rattle.sp_analysis.specs.Checking.{counted, IsVerdictOn, Judged, checked_text, IsJudged, AreJudged, IsChecking}
-use Rattle.sp_analysis.specs.Laws.{WrittenIsChecked}
+use Rattle.sp_analysis.specs.Checking.{counted, IsVerdictOn, Judged, checked_text, IsJudged, AreJudged}
+use Rattle.sp_analysis.specs.Laws.{IsCheckedAgain, WrittenIsChecked}
 
 -- ---- one lemma
 
@@ -125,25 +126,26 @@ all_readable rules (l ∷ ls) (o ∷ os) n h p =
 pub written_is_checked_lem : WrittenIsChecked
 written_is_checked_lem = record { checked = checked }
   where
-    checked : (text written : List ℕ) (outcomes : List Outcome) → IsAnalysis text written outcomes → Every (λ (o : Outcome). HavePlaces o.tree) outcomes
-        → (judged : List Judged) × IsChecking written (summary outcomes) judged × (map (λ (j : Judged). j.verdict) judged ≡ map (λ (o : Outcome). o.verdict) outcomes)
-    checked text written outcomes a p =
+    checked : (text written : List ℕ) (outcomes : List Outcome) (a : IsAnalysis text written outcomes) → IsCheckedAgain a.theory written outcomes
+    checked text written outcomes a =
         let theory = theory_in a.theory in
         let rules = (theory_of theory).rules in
-        let r = all_readable rules theory.lemmas outcomes (rules_named text a.theory a.poses.says) a.outcomes_are p in
+        let r = all_readable rules theory.lemmas outcomes (rules_named text a.theory a.poses.says) a.outcomes_are a.places in
         let trees = trees_of outcomes in
         let again : WrittenText = record { name = a.theory.name; items = with_trees a.theory.items trees } in
         let same : theory_in again ≡ theory = same_theory a.theory trees in
         let many : length trees ≡ length a.spans =
         length-map outcomes (λ (o : Outcome). o.tree) ∙ as_many rules theory.lemmas outcomes a.outcomes_are ∙ sym (each_lemma text a.theory a.spans a.behind_end a.places_are) in
         let says = read_again text a.theory a.spans a.behind_end trees (codes "/*\n" ++ (summary outcomes ++ codes "*/\n")) a.poses.says a.places_are (trees_readable outcomes r) many in
-        let js = all_again rules theory.lemmas outcomes a.outcomes_are in (
-          js,
-          record {
+        record {
+          judged = all_again rules theory.lemmas outcomes a.outcomes_are;
+          checking = record {
             theory = again;
             poses = record { says = subst (λ (bytes : List ℕ). IsTextOf bytes again) (sym a.written_is) says; fine = subst IsWellFormed (sym same) a.poses.fine };
-            judged_are = subst (λ (t : WrittenTheory). AreJudged (theory_of t).rules again.items js) (sym same) (are_again rules a.theory.items outcomes a.outcomes_are r);
+            judged_are = subst (λ (t : WrittenTheory). AreJudged (theory_of t).rules again.items (all_again rules theory.lemmas outcomes a.outcomes_are)) (sym same) (are_again rules a.theory.items outcomes a.outcomes_are r);
             written_is = lines_again rules theory.lemmas outcomes a.outcomes_are r;
-          },
-          verdicts_again rules theory.lemmas outcomes a.outcomes_are,
-        )
+          };
+          same_theory = same;
+          proofs = trees_proofs text a.theory a.spans a.behind_end trees a.places_are many;
+          verdicts = verdicts_again rules theory.lemmas outcomes a.outcomes_are;
+        }

@@ -16,13 +16,12 @@ use Rattle.sp_written.specs.Text.{WrittenProof, Item, rule_item, lemma_item, Wri
 use Rattle.sp_written.specs.declared.theory.Span.{Span}
 use Rattle.sp_read_theory.specs.Text.{ArePlaces}
 use Rattle.sp_read_theory.proofs.Whole.{text_one, places_one}
-use Rattle.sp_report.specs.Report.{report}
-use Rattle.sp_report.specs.Laws.{IsWellFormed}
-use Rattle.sp_analysis.specs.Problem.{Poses, IsReported, sought, proof_tree}
+use Rattle.sp_pose.proofs.One.{one_report, not_posed}
+use Rattle.sp_analysis.specs.Sought.{sought, proof_tree}
 use Rattle.sp_analysis.specs.Verdict.{Verdict, verified, falsified, incomplete, rejected}
 use Rattle.sp_analysis.specs.Analysis.{IsVerdictOf, Outcome, IsOutcome, AreOutcomes, analysed_text, IsAnalysis}
 use Rattle.sp_analysis.specs.Checking.{Judged, checked_text, IsVerdictOn, IsJudged, AreJudged, IsChecking}
-use Rattle.sp_analysis.specs.Asked.{by_leaves, by_judgement}
+use Rattle.sp_analysis.specs.Kept.{by_leaves, by_judgement}
 use Rattle.sp_analysis.specs.Laws.{AnswersAreOne}
 
 -- ---- verdicts
@@ -122,13 +121,6 @@ one_check text written other js others a b =
     subst (λ (t : WrittenText). AreJudged (theory_of (theory_in t)).rules t.items js) theory a.judged_are in
     let same = same_all_judged (theory_of (theory_in b.theory)).rules b.theory.items js others all b.judged_are in
     (a.written_is ∙ ap checked_text same ∙ sym b.written_is, same)
-
-one_report : (text lines other : List ℕ) → IsReported text lines → IsReported text other → lines ≡ other
-one_report text lines other a b = a.lines_are ∙ ap report (text_one a.says b.says) ∙ sym b.lines_are
-
--- there are findings on what is said, or there are none
-not_posed : {text lines : List ℕ} {theory : WrittenText} → IsReported text lines → Poses text theory → ⊥
-not_posed r p = r.wrong (subst (λ (t : WrittenText). IsWellFormed (theory_in t)) (text_one p.says r.says) p.fine)
 
 pub answers_are_one_lem : AnswersAreOne
 answers_are_one_lem = record {

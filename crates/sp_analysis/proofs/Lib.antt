@@ -1,10 +1,6 @@
-pub mod Named
-pub mod Theories
 pub mod Right
 pub mod AnswersOne
-pub mod Posed
 pub mod Writing
 pub mod Outcomes
 pub mod Verdicts
-pub mod Items
 pub mod Again

@@ -1,6 +1,7 @@
 -- What the code keeps of the lemmas is what their outcomes say.
 use Rattle.std.proofs.Math.Nat.{min-eq_left}
-use Rattle.std.proofs.Common.{◌≡◌, ◌≤◌, ℕ, ◌^◌, ◌-◌, min, arith, Bool, true, false, List, [], ◌∷◌, ◌++◌, map, codes, Option, Some, None, option_map, option_and_then, refl, sym, ap, ap₂, ◌∙◌, subst, true≢false}
+use Rattle.std.proofs.Common.{◌≡◌, ◌≤◌, ℕ, ◌^◌, ◌-◌, min, arith, Bool, true, false, List, [], ◌∷◌, ◌++◌, map, codes, Some, option_map, refl, sym, ap, ap₂, ◌∙◌, subst, true≢false}
+use Rattle.sp_spec.specs.Lists.{Every}
 use Rattle.sp_spec.specs.Rule.{Rule}
 use Rattle.sp_spec.specs.Theory.{TraceKind, all_traces, exists_trace, Lemma}
 use Rattle.sp_spec.specs.Guarded.{Guarded}
@@ -17,6 +18,7 @@ use Rattle.sp_judge.specs.Judging.{Judgement, judgement}
 use Rattle.sp_judge.specs.Skeleton.{Skeleton}
 use Rattle.sp_judge.proofs.Right.{judgements_right}
 use Rattle.sp_moves.specs.View.{book_of}
+use Rattle.sp_text.specs.Places.{HavePlaces}
 use Rattle.sp_text.specs.TreeText.{tree_text}
 use Rattle.sp_written.specs.Text.{lemmas_in}
 use Rattle.sp_written.specs.Views as view
@@ -26,49 +28,23 @@ use Rattle.sp_written.specs.declared.theory.Span.{Span}
 use Rattle.sp_written.specs.declared.theory.WrittenLemma.{WrittenLemma}
 use Rattle.sp_read_theory.specs.Places.{Rise, goes_on}
 use Rattle.sp_again.specs.Again.{between, replaced}
-use Rattle.sp_analysis.specs.Problem.{budget, sought, proof_tree}
+use Rattle.sp_pose.proofs.Forms.{AreForms, asked_list, has_forms, lemmas_same}
+use Rattle.sp_analysis.specs.Sought.{budget, sought, proof_tree}
 use Rattle.sp_analysis.specs.Verdict.{Verdict}
 use Rattle.sp_analysis.specs.Analysis.{IsVerdictOf, Outcome, summary, trees_of, IsOutcome, AreOutcomes}
 use Rattle.sp_analysis.specs.Checking.{proof_read, IsVerdictOn, Judged, checked_text, IsJudged, AreJudged}
-use Rattle.sp_analysis.specs.Asked.{Asked, asked_of, asked_with, lemmas_read, all_asked, Kept, kept_of, by_leaves, by_judgement, due, dues, line_of, lines, spliced, kept_text, written_by}
+use Rattle.sp_pose.specs.Asked.{Asked, asked_of, asked_with, lemmas_read}
+use Rattle.sp_analysis.specs.Kept.{Kept, kept_of, by_leaves, by_judgement, due, dues, IsNameable, line_of, lines, spliced, kept_text, written_by}
 use Rattle.sp_analysis.specs.View.{verdict_of}
-use Rattle.sp_analysis.specs.Posed.{IsPosedBy}
+use Rattle.sp_pose.specs.Posed.{IsPosedBy}
 use Rattle.sp_analysis.specs.Replies.{IsAnalysed, IsChecked, IsDone}
-use Rattle.sp_analysis.specs.declared.problem.Problem.{Problem}
+use Rattle.sp_pose.specs.declared.problem.Problem.{Problem}
 use Rattle.sp_analysis.specs.declared.replies.Command.{Command}
 use Rattle.sp_analysis.specs.declared.replies.Command.TheVariants.{Prove, Check}
 use Rattle.sp_analysis.specs.declared.tried.Tried.{Tried}
 use Rattle.sp_analysis.specs.declared.verdict.Verdict as memory
 
--- ---- lemmas and their guarded forms
-
-abbrev AreForms : List WrittenLemma → List Guarded → Type 0
-AreForms [] [] = Unit {0}
-AreForms [] (g ∷ gs) = ⊥
-AreForms (l ∷ ls) [] = ⊥
-AreForms (l ∷ ls) (g ∷ gs) = (checked_form (formula l.formula) ≡ Some g) × AreForms ls gs
-
-abbrev asked_list : List WrittenLemma → List Guarded → List Asked
-asked_list (l ∷ ls) (g ∷ gs) = asked_with l g ∷ asked_list ls gs
-asked_list ls gs = []
-
-record HasForms (ls : List WrittenLemma) (as' : List Asked) : Type 0 where
-  forms : List Guarded
-  are : AreForms ls forms
-  is : as' ≡ asked_list ls forms
-
-has_forms : (ls : List WrittenLemma) (as' : List Asked) → all_asked ls ≡ Some as' → HasForms ls as'
-has_forms [] as' e = record { forms = []; are = tt; is = cc }
-has_forms (l ∷ ls) as' e = at (checked_form (formula l.formula)) refl (all_asked ls) refl e (λ bs k. has_forms ls bs k)
-  where
-    at : (o : Option Guarded) → checked_form (formula l.formula) ≡ o → (later : Option (List Asked)) → all_asked ls ≡ later
-        → option_and_then (λ (g : Guarded). option_map (λ (bs : List Asked). asked_with l g ∷ bs) later) o ≡ Some as' → ((bs : List Asked) → all_asked ls ≡ Some bs → HasForms ls bs) → HasForms (l ∷ ls) as'
-    at None is later k e again = absurd cc
-    at (Some g) is None k e again = absurd cc
-    at (Some g) is (Some bs) k e again =
-        let h = again bs k in
-        let same : asked_with l g ∷ bs ≡ as' = cc in
-        record { forms = g ∷ h.forms; are = (is, h.are); is = sym same ∙ ap (λ (cs : List Asked). asked_with l g ∷ cs) h.is }
+-- ---- where proofs stand
 
 abbrev spans_of : List WrittenLemma → List Span
 spans_of ls = map (λ (l : WrittenLemma). l.span) ls
@@ -77,11 +53,6 @@ spans_read : (xs : List Item) → view.spans xs ≡ spans_of (lemmas_read xs)
 spans_read [] = refl
 spans_read (i.Rule r ∷ xs) = spans_read xs
 spans_read (i.Lemma l ∷ xs) = ap (λ (ss : List Span). l.span ∷ ss) (spans_read xs)
-
-lemmas_same : (xs : List Item) → lemmas_in (view.items xs) ≡ map view.lemma (lemmas_read xs)
-lemmas_same [] = refl
-lemmas_same (i.Rule r ∷ xs) = lemmas_same xs
-lemmas_same (i.Lemma l ∷ xs) = ap (λ (ls : List Lemma). view.lemma l ∷ ls) (lemmas_same xs)
 
 abbrev kept_spans : List Kept → List Span
 kept_spans ks = map (λ (k : Kept). k.span) ks
@@ -166,6 +137,11 @@ verdicts_same rules [] gs = refl
 verdicts_same rules (l ∷ ls) [] = refl
 verdicts_same rules (l ∷ ls) (g ∷ gs) = ap (λ (vs : List Verdict). (outcome_of rules l g).verdict ∷ vs) (verdicts_same rules ls gs)
 
+outcomes_placed : (rules : List Rule) (ls : List WrittenLemma) (gs : List Guarded) → Every (IsNameable Prove rules) (asked_list ls gs) → Every (λ (o : Outcome). HavePlaces o.tree) (outcomes_of rules ls gs)
+outcomes_placed rules [] gs h = tt
+outcomes_placed rules (l ∷ ls) [] h = tt
+outcomes_placed rules (l ∷ ls) (g ∷ gs) h = (h.0, outcomes_placed rules ls gs h.1)
+
 -- ---- lemmas whose proofs are checked
 
 abbrev judged_of : List Rule → WrittenLemma → Guarded → Judged
@@ -217,9 +193,9 @@ abbrev verdicts_in : List Tried → List memory.Verdict
 verdicts_in ts = map (λ (t : Tried). t.verdict) ts
 
 analysed : {text : List ℕ} (p : Problem) (ts : List Tried) (written : List ℕ) (verdicts : List memory.Verdict) → IsPosedBy text p
-    → map kept_of ts ≡ dues Prove (book_of p.rules) (map asked_of p.lemmas.items) → written ≡ written_by Prove text (map kept_of ts) p.behind_end → verdicts ≡ verdicts_in ts
+    → map kept_of ts ≡ dues Prove (book_of p.rules) (map asked_of p.lemmas.items) → Every (IsNameable Prove (book_of p.rules)) (map asked_of p.lemmas.items) → written ≡ written_by Prove text (map kept_of ts) p.behind_end → verdicts ≡ verdicts_in ts
     → IsAnalysed text written (map verdict_of verdicts)
-analysed {text} p ts written verdicts posed kept written_is verdicts_are =
+analysed {text} p ts written verdicts posed kept nameable written_is verdicts_are =
     let xs = posed.theory.items.items in
     let ls = lemmas_read xs in
     let rules = book_of p.rules in
@@ -234,6 +210,7 @@ analysed {text} p ts written verdicts posed kept written_is verdicts_are =
         theory = view.theory posed.theory;
         poses = posed.poses;
         outcomes_are = subst (λ (rs : List Rule). AreOutcomes rs (lemmas_in (view.items xs)) os) posed.rules_are right;
+        places = outcomes_placed rules ls h.forms (subst (λ (as' : List Asked). Every (IsNameable Prove rules) as') h.is nameable);
         spans = view.spans xs;
         behind_end = p.behind_end;
         places_are = posed.places_are;
@@ -265,10 +242,10 @@ checked {text} p ts written verdicts posed kept written_is verdicts_are =
     }
 
 pub is_done : {text : List ℕ} (command : Command) (p : Problem) (ts : List Tried) (written : List ℕ) (verdicts : List memory.Verdict) → IsPosedBy text p
-    → map kept_of ts ≡ dues command (book_of p.rules) (map asked_of p.lemmas.items) → written ≡ written_by command text (map kept_of ts) p.behind_end → verdicts ≡ verdicts_in ts
+    → map kept_of ts ≡ dues command (book_of p.rules) (map asked_of p.lemmas.items) → Every (IsNameable command (book_of p.rules)) (map asked_of p.lemmas.items) → written ≡ written_by command text (map kept_of ts) p.behind_end → verdicts ≡ verdicts_in ts
     → IsDone command text written (map verdict_of verdicts)
-is_done Prove p ts written verdicts posed kept written_is verdicts_are = analysed p ts written verdicts posed kept written_is verdicts_are
-is_done Check p ts written verdicts posed kept written_is verdicts_are = checked p ts written verdicts posed kept written_is verdicts_are
+is_done Prove p ts written verdicts posed kept nameable written_is verdicts_are = analysed p ts written verdicts posed kept nameable written_is verdicts_are
+is_done Check p ts written verdicts posed kept nameable written_is verdicts_are = checked p ts written verdicts posed kept written_is verdicts_are
 
 -- ---- what a tree that was grown gives is due
 

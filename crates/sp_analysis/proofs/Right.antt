@@ -13,7 +13,7 @@ use Rattle.sp_check.specs.Root.{root}
 use Rattle.sp_check.specs.PlainTheory.{IsPlainFormula}
 use Rattle.sp_check.proofs.AllShown.{lemmas_are_shown_lem}
 use Rattle.sp_check.proofs.Growing.{grown_tree_accepted}
-use Rattle.sp_analysis.specs.Problem.{budget, sought, proof_tree}
+use Rattle.sp_analysis.specs.Sought.{budget, sought, proof_tree}
 use Rattle.sp_analysis.specs.Analysis.{IsVerdictOf, Outcome, IsOutcome, AreOutcomes}
 use Rattle.sp_analysis.specs.Laws.{Means, IsRejected, JudgedRightly, VerdictsAreRight}
 use Rattle.sp_analysis.specs.Verdict.{Verdict, verified, falsified, incomplete, rejected}
@@ -23,7 +23,7 @@ use Rattle.sp_judge.specs.Skeleton.{Skeleton}
 use Rattle.sp_judge.specs.Rejected.{ReadIsAccepted}
 use Rattle.sp_judge.proofs.Right.{judgements_right}
 use Rattle.sp_written.specs.Text.{WrittenProof, Item, rule_item, lemma_item, lemmas_in, theory_in}
-use Rattle.sp_analysis.proofs.Theories.{AreFirst, theory_spelled}
+use Rattle.sp_pose.proofs.Theories.{AreFirst, theory_spelled}
 
 first_false : (a b : Bool) → (a || b) ≡ false → a ≡ false
 first_false false b e = refl

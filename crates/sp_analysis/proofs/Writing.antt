@@ -1,15 +1,11 @@
 -- One more lemma is written.
-use Rattle.std.proofs.Common.{◌≡◌, ◌<◌, ◌≤◌, ◌+◌, ℕ, suc, arith, List, [], ◌∷◌, ◌++◌, map, codes, length, get_or, drop, drop-cons, sym, ap, ◌∙◌, subst, append_assoc}
+use Rattle.std.proofs.Common.{◌≡◌, ◌<◌, ◌≤◌, ◌+◌, ℕ, arith, List, [], ◌∷◌, ◌++◌, map, codes, length, get_or, drop, sym, ap, ◌∙◌, subst, append_assoc}
 use Rattle.sp_written.specs.declared.theory.Span.{Span}
 use Rattle.sp_read_theory.specs.Places.{Rise, goes_on}
 use Rattle.sp_again.specs.Again.{between}
-use Rattle.sp_analysis.specs.Asked.{kept_of, line_of, lines, spliced}
+use Rattle.sp_pose.proofs.Items.{next_of}
+use Rattle.sp_analysis.specs.Kept.{kept_of, line_of, lines, spliced}
 use Rattle.sp_analysis.specs.declared.tried.Tried.{Tried}
-
-pub next_of : {A : Type 0} (xs : List A) (place : ℕ) (x : A) → place < length xs → x ≡ get_or xs place x → drop place xs ≡ x ∷ drop (place + 1) xs
-next_of {A = A} xs place x below is =
-    let next : place + 1 ≡ suc place = omega arith in
-    drop-cons xs place x below ∙ ap (λ (y : A). y ∷ drop (suc place) xs) (sym is) ∙ ap (λ (n : ℕ). x ∷ drop n xs) (sym next)
 
 pub proof_written : (out more all text proof : List ℕ) (start end place : ℕ) (ts : List Tried) (t : Tried) → place < length ts → t ≡ get_or ts place t
     → out ++ spliced text start (map kept_of (drop place ts)) end ≡ all → proof ≡ (kept_of t).proof

@@ -1,17 +1,20 @@
 -- What is written of a text whose lemmas have been tried: the text with a proof tree behind each lemma's formula, and a comment with the
 -- verdicts. Source of the shape: Tamarin manual, "Proofs" and "Output"; the words are this project's own.
 use Rattle.std.specs.Prelude.{◌≡◌, ℕ, Some, List, [], ◌∷◌, ◌++◌, map, codes}
+use Rattle.sp_spec.specs.Lists.{Every}
 use Rattle.sp_spec.specs.Theory.{TraceKind, all_traces, exists_trace, Lemma}
 use Rattle.sp_spec.specs.Rule.{Rule}
 use Rattle.sp_spec.specs.Written.{theory_of}
 use Rattle.sp_spec.specs.Guarded.{Guarded}
 use Rattle.sp_law_guard.specs.CheckedForm.{checked_form}
 use Rattle.sp_check.specs.Tree.{Tree, IsFinished, steps}
+use Rattle.sp_text.specs.Places.{HavePlaces}
 use Rattle.sp_written.specs.Text.{WrittenText, theory_in}
 use Rattle.sp_written.specs.declared.theory.Span.{Span}
 use Rattle.sp_read_theory.specs.Text.{ArePlaces}
 use Rattle.sp_again.specs.Again.{replaced}
-use Rattle.sp_analysis.specs.Problem.{Poses, proof_tree}
+use Rattle.sp_pose.specs.Problem.{Poses}
+use Rattle.sp_analysis.specs.Sought.{proof_tree}
 use Rattle.sp_analysis.specs.Verdict.{Verdict, verified, falsified, incomplete, rejected, summary_line}
 
 -- Where no leaf of the tree is left open, nothing breaks a lemma on all traces, and nothing satisfies one on some trace.
@@ -58,11 +61,13 @@ AreOutcomes rules [] (o ∷ os) = ⊥
 AreOutcomes rules (l ∷ ls) [] = ⊥
 AreOutcomes rules (l ∷ ls) (o ∷ os) = IsOutcome rules l o × AreOutcomes rules ls os
 
--- each lemma that the text poses is tried, and its proof and its verdict stand in what is written
+-- Each lemma that the text poses is tried, and its proof and its verdict stand in what is written. Each place that a proof names is one that a
+-- text can name.
 pub record IsAnalysis (text written : List ℕ) (outcomes : List Outcome) : Type 0 where
   pub theory : WrittenText
   pub poses : Poses text theory
   pub outcomes_are : AreOutcomes (theory_of (theory_in theory)).rules (theory_in theory).lemmas outcomes
+  pub places : Every (λ (o : Outcome). HavePlaces o.tree) outcomes
   pub spans : List Span
   pub behind_end : ℕ
   pub places_are : ArePlaces text theory spans behind_end

@@ -14,7 +14,8 @@ use Rattle.sp_judge.specs.Skeleton.{Skeleton, node_read, none_read, known, tree_
 use Rattle.sp_judge.specs.Rejected.{IsRejectedAt}
 use Rattle.sp_written.specs.Text.{WrittenProof, Item, rule_item, lemma_item, WrittenText, theory_in}
 use Rattle.sp_skel.specs.Steps.{skeleton}
-use Rattle.sp_analysis.specs.Problem.{Poses, sought}
+use Rattle.sp_pose.specs.Problem.{Poses}
+use Rattle.sp_analysis.specs.Sought.{sought}
 use Rattle.sp_analysis.specs.Verdict.{Verdict, verified, falsified, incomplete, rejected, summary_line}
 
 -- the tree that the proof of a lemma says

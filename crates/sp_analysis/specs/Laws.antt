@@ -1,16 +1,17 @@
 -- What verdicts mean, and that each text has one answer.
-use Rattle.std.specs.Prelude.{◌≡◌, ◌↔◌, List, ℕ, map}
+use Rattle.std.specs.Prelude.{◌≡◌, ◌↔◌, List, ℕ, Some, map}
 use Rattle.sp_spec.specs.Lists.{Every}
 use Rattle.sp_spec.specs.Theory.{TraceKind, all_traces, exists_trace, Theory, Lemma}
 use Rattle.sp_spec.specs.Written.{theory_of}
 use Rattle.sp_spec.specs.Verdict.{HoldsInAll, HoldsInNone}
 use Rattle.sp_judge.specs.Rejected.{Clause, ReadIsAccepted}
-use Rattle.sp_written.specs.Text.{theory_in}
+use Rattle.sp_check.specs.Tree.{Tree}
+use Rattle.sp_written.specs.Text.{WrittenText, theory_in, proofs_in}
+use Rattle.sp_skel.specs.Spelling.{as_written}
 use Rattle.sp_place.specs.Refused.{IsRefusedAt}
-use Rattle.sp_analysis.specs.Problem.{IsReported}
+use Rattle.sp_pose.specs.Problem.{IsReported}
 use Rattle.sp_analysis.specs.Verdict.{Verdict, verified, falsified, incomplete, rejected}
-use Rattle.sp_skel.specs.Spelling.{HavePlaces}
-use Rattle.sp_analysis.specs.Analysis.{Outcome, summary, IsAnalysis}
+use Rattle.sp_analysis.specs.Analysis.{Outcome, summary, trees_of, IsAnalysis}
 use Rattle.sp_analysis.specs.Checking.{Judged, IsChecking}
 
 -- Verified: every execution satisfies the lemma. Falsified, of a lemma on some trace: no execution does. An incomplete analysis and a
@@ -52,8 +53,15 @@ pub record AnswersAreOne : Type 0 where
   pub not_analysed : (text lines written : List ℕ) (outcomes : List Outcome) → IsReported text lines → IsAnalysis text written outcomes → ⊥
   pub not_checked : (text lines written : List ℕ) (judged : List Judged) → IsReported text lines → IsChecking text written judged → ⊥
 
--- What is written of a text whose lemmas were tried is checked as they were tried: each lemma gets the same line and the same verdict. The
--- places of actions are those of lists in memory, as they are in each tree that is grown there.
+-- What was written says the same theory, and the trees that were grown are its proofs; checked, each lemma gets the same line and the same
+-- verdict.
+pub record IsCheckedAgain (theory : WrittenText) (written : List ℕ) (outcomes : List Outcome) : Type 0 where
+  pub judged : List Judged
+  pub checking : IsChecking written (summary outcomes) judged
+  pub same_theory : theory_in checking.theory ≡ theory_in theory
+  pub proofs : proofs_in checking.theory.items ≡ map (λ (t : Tree). Some (as_written t)) (trees_of outcomes)
+  pub verdicts : map (λ (j : Judged). j.verdict) judged ≡ map (λ (o : Outcome). o.verdict) outcomes
+
+-- What is written of a text whose lemmas were tried is checked as they were tried.
 pub record WrittenIsChecked : Type 0 where
-  pub checked : (text written : List ℕ) (outcomes : List Outcome) → IsAnalysis text written outcomes → Every (λ (o : Outcome). HavePlaces o.tree) outcomes
-      → (judged : List Judged) × IsChecking written (summary outcomes) judged × (map (λ (j : Judged). j.verdict) judged ≡ map (λ (o : Outcome). o.verdict) outcomes)
+  pub checked : (text written : List ℕ) (outcomes : List Outcome) (a : IsAnalysis text written outcomes) → IsCheckedAgain a.theory written outcomes

@@ -1,9 +1,8 @@
-pub mod Problem
+pub mod Sought
 pub mod Verdict
 pub mod Analysis
 pub mod Checking
 pub mod View
 pub mod Replies
-pub mod Posed
 pub mod Laws
-pub mod Asked
+pub mod Kept

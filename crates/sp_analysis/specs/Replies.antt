@@ -1,7 +1,7 @@
 -- What is answered to a text, by what is to be done with it.
 use Rattle.std.specs.Prelude.{◌≡◌, ℕ, List, map}
 use Rattle.sp_place.specs.Refused.{IsRefusedAt}
-use Rattle.sp_analysis.specs.Problem.{IsReported}
+use Rattle.sp_pose.specs.Problem.{IsReported}
 use Rattle.sp_analysis.specs.Verdict.{Verdict}
 use Rattle.sp_analysis.specs.Analysis.{Outcome, IsAnalysis}
 use Rattle.sp_analysis.specs.Checking.{Judged, IsChecking}

@@ -1,6 +1,7 @@
 -- What is said of lemmas, in words. Source of the shape: Tamarin manual, "Output"; the words are this project's own.
 use Rattle.std.specs.Prelude.{ℕ, List, ◌++◌, codes, decimal}
-use Rattle.sp_spec.specs.Theory.{TraceKind, all_traces, exists_trace}
+use Rattle.sp_spec.specs.Theory.{TraceKind}
+use Rattle.sp_pose.specs.Kind.{kind_text}
 use Rattle.sp_judge.specs.Rejected.{Clause, clause_move, clause_instance, clause_cases}
 
 -- The lemma holds in every execution, or holds in none; its proof is open; or its proof is rejected at this step, by this clause.
@@ -9,10 +10,6 @@ pub data Verdict : Type 0 where
   falsified : Verdict
   incomplete : Verdict
   rejected : ℕ → Clause → Verdict
-
-abbrev pub kind_text : TraceKind → List ℕ
-kind_text all_traces = codes "all-traces"
-kind_text exists_trace = codes "exists-trace"
 
 abbrev pub clause_text : Clause → List ℕ
 clause_text clause_move = codes "move"

@@ -1,10 +1,9 @@
-// What comes of a text: it is read, its rules and lemmas are looked at, and a proof is grown for each lemma, or the one below it is checked.
-// Below stand the reader (sp_read_theory, sp_place), findings (sp_report), guarded forms (sp_guard), rules in memory (sp_rule), growth
-// (sp_grow) and the text of trees (sp_text), and the judge of trees that were read (sp_skel, sp_judge); above stands the top call.
+// What comes of a text whose lemmas are to be proved: a proof is grown for each lemma, or the one below it is checked.
+// Below stand what a text poses (sp_pose), growth (sp_grow) and the text of trees (sp_text), and the judge of trees that were read (sp_skel,
+// sp_judge); above stands the top call.
 // Carried here: the promise that what is written of a lemma is so, and that a proof is accepted exactly where each step is an instance.
 #![tactic(auto)]
 
-mod problem;
 mod replies;
 mod tried;
 mod verdict;

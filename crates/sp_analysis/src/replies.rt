@@ -1,13 +1,13 @@
 // What comes of a text.
 
 ghost use Rattle.std.specs.Prelude.{IfOk};
-ghost use Rattle.sp_analysis.specs.Posed.{IsPosedBy};
+ghost use Rattle.sp_pose.specs.Posed.{IsPosedBy};
 ghost use Rattle.sp_analysis.specs.Replies.{IsReplyTo};
 
-use crate::problem::{Problem, Read, posed_by};
 use crate::tried::all_tried;
 use crate::verdict::Verdict;
 use crate::written::{verdicts, written_by};
+use sp_pose::{Problem, Read, posed_by};
 use std::alloc::{AllocError, Global};
 
 /// What is to be done with a text.

@@ -1,6 +1,7 @@
 // What comes of a lemma: a proof is grown for it, or the one below it is checked, and tells the verdict.
 
-ghost use Rattle.std.specs.Prelude.{◌≡◌, IfOk, map, option_map};
+ghost use Rattle.std.specs.Prelude.{◌≡◌, IfOk, OnOk, map, option_map};
+ghost use Rattle.sp_spec.specs.Lists.{Every};
 ghost use Rattle.sp_written.specs.Views as view;
 ghost use Rattle.sp_formula.specs.FormulaView.{formula_of};
 ghost use Rattle.sp_moves.specs.View.{book_of};
@@ -9,12 +10,12 @@ ghost use Rattle.sp_check.specs.Root as check;
 ghost use Rattle.sp_grow.specs.Finished.{finished};
 ghost use Rattle.sp_grow.specs.View.{tree_of};
 ghost use Rattle.sp_judge.specs.View.{skeleton_of, judgement_of};
-ghost use Rattle.sp_analysis.specs.Problem as spec;
+ghost use Rattle.sp_analysis.specs.Sought as spec;
 ghost use Rattle.sp_analysis.specs.Checking.{proof_read};
 ghost use Rattle.sp_analysis.specs.View.{verdict_of};
-ghost use Rattle.sp_analysis.specs.Asked as keep;
+ghost use Rattle.sp_pose.specs.Asked as ask;
+ghost use Rattle.sp_analysis.specs.Kept as keep;
 
-use crate::problem::GuardedLemma;
 use crate::replies::Command;
 use crate::verdict::Verdict;
 use sp_formula::formula::Formula;
@@ -23,6 +24,7 @@ use sp_guard::negate::negate;
 use sp_judge::{Judgement, Skeleton, Step, judge};
 use sp_moves::book::RuleBook;
 use sp_moves::moves::Move;
+use sp_pose::GuardedLemma;
 use sp_skel::skeleton;
 use sp_system::system::System;
 use sp_text::tree_text;
@@ -128,7 +130,8 @@ fn try_lemma<'a>(
     rules: &RuleBook,
     lemma: GuardedLemma<'a>,
 ) -> Result<Tried<'a>, AllocError>
-    ensures { IfOk result (λ t. keep.kept_of t ≡ keep.due Command.Prove (book_of rules.now) (keep.asked_of lemma.entry)) }
+    ensures due { IfOk result (λ t. keep.kept_of t ≡ keep.due Command.Prove (book_of rules.now) (ask.asked_of lemma.entry)) }
+    ensures places { OnOk result (keep.IsNameable Command.Prove (book_of rules.now) (ask.asked_of lemma.entry)) }
 {
     let GuardedLemma {
         name,
@@ -170,7 +173,7 @@ fn judge_lemma<'a>(
     rules: &RuleBook,
     lemma: GuardedLemma<'a>,
 ) -> Result<Tried<'a>, AllocError>
-    ensures { IfOk result (λ t. keep.kept_of t ≡ keep.due Command.Check (book_of rules.now) (keep.asked_of lemma.entry)) }
+    ensures { IfOk result (λ t. keep.kept_of t ≡ keep.due Command.Check (book_of rules.now) (ask.asked_of lemma.entry)) }
 {
     let GuardedLemma {
         name,
@@ -202,7 +205,8 @@ fn outcome<'a>(
     rules: &RuleBook,
     lemma: GuardedLemma<'a>,
 ) -> Result<Tried<'a>, AllocError>
-    ensures { IfOk result (λ t. keep.kept_of t ≡ keep.due command (book_of rules.now) (keep.asked_of lemma.entry)) }
+    ensures due { IfOk result (λ t. keep.kept_of t ≡ keep.due command (book_of rules.now) (ask.asked_of lemma.entry)) }
+    ensures places { OnOk result (keep.IsNameable command (book_of rules.now) (ask.asked_of lemma.entry)) }
 {
     match command {
         Command::Prove => try_lemma(alloc, rules, lemma),
@@ -221,7 +225,8 @@ pub fn all_tried<'a>(
     rules: &RuleBook,
     lemmas: Vec<GuardedLemma<'a>>,
 ) -> Result<Vec<Tried<'a>>, AllocError>
-    ensures { IfOk result (λ ts. map keep.kept_of ts.items ≡ keep.dues command (book_of rules.now) (map keep.asked_of lemmas.entry.items)) }
+    ensures due { IfOk result (λ ts. map keep.kept_of ts.items ≡ keep.dues command (book_of rules.now) (map ask.asked_of lemmas.entry.items)) }
+    ensures places { OnOk result (Every (keep.IsNameable command (book_of rules.now)) (map ask.asked_of lemmas.entry.items)) }
 {
     let mut made = Vec::with_capacity(alloc, lemmas.len())?;
     for lemma in lemmas {

@@ -8,12 +8,13 @@ ghost use Rattle.sp_read_theory.specs.Places.{Rise};
 ghost use Rattle.sp_analysis.specs.Verdict as spec;
 ghost use Rattle.sp_again.specs.Again.{between};
 ghost use Rattle.sp_analysis.specs.View.{verdict_of};
-ghost use Rattle.sp_analysis.specs.Asked as keep;
+ghost use Rattle.sp_analysis.specs.Kept as keep;
 
 use crate::replies::Command;
 use crate::tried::Tried;
 use crate::verdict::Verdict;
 use sp_judge::Clause;
+use sp_pose::kind_text;
 use sp_written::{Span, TraceKind};
 use std::alloc::{AllocError, Global};
 
@@ -65,16 +66,6 @@ fn write_proofs(
         start = goes_on(text, lemma.span);
     }
     out.extend_from_slice(&text[start..end])
-}
-
-/// The words of a kind.
-fn kind_text(kind: TraceKind) -> &'static str
-    ensures { result.now ≡ spec.kind_text (view.kind kind) }
-{
-    match kind {
-        TraceKind::AllTraces => "all-traces",
-        TraceKind::ExistsTrace => "exists-trace",
-    }
 }
 
 /// The word of a clause.

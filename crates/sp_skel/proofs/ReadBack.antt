@@ -10,7 +10,8 @@ use Rattle.sp_check.specs.Tree.{Tree, node, Branches, no_branch, branch}
 use Rattle.sp_text.specs.TreeText.{indent, line, move_text, tree_text, cases_text}
 use Rattle.sp_read_proof.specs.Grammar.{SpellsProof}
 use Rattle.sp_skel.specs.Laws.{ReadsBack}
-use Rattle.sp_skel.specs.Spelling.{IsWord, move_spelled, spelled, cases_spelled, as_written, HasPlace, IsReadable, AreReadable}
+use Rattle.sp_text.specs.Places.{HasPlace}
+use Rattle.sp_skel.specs.Spelling.{IsWord, move_spelled, spelled, cases_spelled, as_written, IsReadable, AreReadable}
 use Rattle.sp_skel.proofs.Blanks.{Lexes, lexes_blank, space, line_end, lexes_word, lexes_goal}
 use Rattle.sp_skel.proofs.Spelled.{HaveCase, tree_spells, tree_says}
 

@@ -13,7 +13,8 @@ use Rattle.sp_check.proofs.Growing.{grown_tree_accepted}
 use Rattle.sp_moves.specs.Sought.{sought}
 use Rattle.sp_moves.proofs.ByAction.{sought_cases, solves}
 use Rattle.sp_read_parts.specs.Names.{IsName}
-use Rattle.sp_skel.specs.Spelling.{IsWord, HasPlace, IsReadable, AreReadable, HavePlaces, AllHavePlaces, AreNamed}
+use Rattle.sp_text.specs.Places.{HasPlace, HavePlaces, AllHavePlaces}
+use Rattle.sp_skel.specs.Spelling.{IsWord, IsReadable, AreReadable, AreNamed}
 use Rattle.sp_skel.proofs.CaseNames.{at_named, case_named}
 
 -- ---- cases with names

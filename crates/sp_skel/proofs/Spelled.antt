@@ -6,7 +6,8 @@ use Rattle.sp_check.specs.Tree.{Tree, node, Branches, no_branch, branch}
 use Rattle.sp_judge.specs.Skeleton.{known, tree_of, branches_of}
 use Rattle.sp_read_proof.specs.Grammar.{is_method, SpellsMethod, by_word, by_goal, SpellsProof, by_method, method_proof, method_cases, SpellsCases, case, qed, next}
 use Rattle.sp_skel.specs.Steps.{step_of_word, step_said, skeleton, branches}
-use Rattle.sp_skel.specs.Spelling.{move_spelled, spelled, cases_spelled, move_said, as_written, all_as_written, HasPlace, IsReadable, AreReadable}
+use Rattle.sp_text.specs.Places.{HasPlace}
+use Rattle.sp_skel.specs.Spelling.{move_spelled, spelled, cases_spelled, move_said, as_written, all_as_written, IsReadable, AreReadable}
 use Rattle.sp_skel.proofs.Decimals.{goal_text}
 
 -- ---- moves

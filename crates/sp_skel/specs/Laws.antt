@@ -11,7 +11,8 @@ use Rattle.sp_judge.specs.Skeleton.{tree_of}
 use Rattle.sp_written.specs.Text.{WrittenProof}
 use Rattle.sp_read_proof.specs.Grammar.{SpellsProof}
 use Rattle.sp_skel.specs.Steps.{skeleton}
-use Rattle.sp_skel.specs.Spelling.{as_written, IsReadable, HavePlaces, AreNamed}
+use Rattle.sp_text.specs.Places.{HavePlaces}
+use Rattle.sp_skel.specs.Spelling.{as_written, IsReadable, AreNamed}
 
 -- the last bytes of a text of this size begin with a proof that says the tree, and behind it follows the rest
 pub record ReadsBack (size : ℕ) (bytes : List ℕ) (t : Tree) (rest : List Lexeme) : Type 0 where

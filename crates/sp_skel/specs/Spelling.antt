@@ -8,6 +8,7 @@ use Rattle.sp_read_parts.specs.Names.{IsName}
 use Rattle.sp_step.specs.Moves.{Move, simplify, contradiction, unproved, action}
 use Rattle.sp_spec.specs.Rule.{Rule}
 use Rattle.sp_check.specs.Tree.{Tree, node, Branches, no_branch, branch}
+use Rattle.sp_text.specs.Places.{HasPlace}
 use Rattle.sp_written.specs.Text.{Method, said, goal, WrittenProof, step, WrittenCases, no_case, then_case}
 
 abbrev pub move_spelled : Move → Lexeme
@@ -43,13 +44,6 @@ abbrev mutual
   all_as_written no_branch = no_case
   all_as_written (branch name tree branches) = then_case name (as_written tree) (all_as_written branches)
 
--- places of actions are those of lists in memory
-abbrev pub HasPlace : Move → Type 0
-HasPlace simplify = Unit {0}
-HasPlace contradiction = Unit {0}
-HasPlace unproved = Unit {0}
-HasPlace (action k) = k < 2 ^ 64
-
 -- the bytes are one word
 abbrev pub IsWord : List ℕ → Type 0
 IsWord [] = ⊥
@@ -65,15 +59,6 @@ abbrev mutual
   pub AreReadable : Branches → Type 0
   AreReadable no_branch = Unit {0}
   AreReadable (branch name tree branches) = IsName name × IsWord name × IsReadable tree × AreReadable branches
-
--- each action of the tree has a place
-abbrev mutual
-  pub HavePlaces : Tree → Type 0
-  HavePlaces (node move branches) = HasPlace move × AllHavePlaces branches
-
-  pub AllHavePlaces : Branches → Type 0
-  AllHavePlaces no_branch = Unit {0}
-  AllHavePlaces (branch name tree branches) = HavePlaces tree × AllHavePlaces branches
 
 -- the rules have names as they stand in a text
 abbrev pub AreNamed : List Rule → Type 0

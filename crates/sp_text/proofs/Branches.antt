@@ -1,6 +1,6 @@
 -- The branches of a tree, one after the other, and the text of each.
-use Rattle.std.proofs.Common.{arith, ◌≡◌, ◌∙◌, refl, sym, ap, ℕ, suc, ◌+◌, ◌-◌, ◌<◌, Bool, true, false, true≢false, nat_eq, List, [], ◌∷◌, ◌++◌, codes, length, get_or, drop, drop-cons, length-drop, string_bytes, append_assoc}
-use Rattle.std.proofs.lemmas.List.{append-nil}
+use Rattle.std.proofs.Common.{arith, ◌≡◌, ◌∙◌, refl, sym, ap, ℕ, suc, ◌+◌, ◌-◌, ◌<◌, ◌≤◌, Bool, true, false, true≢false, nat_eq, List, [], ◌∷◌, ◌++◌, codes, length, get_or, drop, drop-cons, length-drop, subst, string_bytes, append_assoc}
+use Rattle.std.proofs.lemmas.List.{append-nil, drop_all}
 use Rattle.std.proofs.lemmas.Bool.Decides.{nat_tests}
 use Rattle.std.proofs.Math.Dec.{eqb-suc-zero}
 use Rattle.std.specs.declared.vec.Vec.{Vec}
@@ -17,6 +17,7 @@ use Rattle.sp_grow.specs.declared.tree.Tree.TheFolds.{fold_out-Branch, fold-roll
 use Rattle.sp_moves.specs.declared.moves.Move as memory
 use Rattle.sp_moves.specs.View.{move_of}
 use Rattle.sp_text.specs.Cases.{is_unnamed, words_behind}
+use Rattle.sp_text.specs.Places.{HavePlaces, AllHavePlaces}
 use Rattle.sp_text.specs.TreeText.{move_text, line, tree_text, cases_text}
 
 abbrev pub shown_of : List Branch → Branches
@@ -129,3 +130,27 @@ pub behind_move : (depth : ℕ) (m : Move) (out words mid new follows text : Lis
     → new ≡ mid ++ follows → new ≡ out ++ text
 behind_move depth m out words mid new follows text w e is f =
     f ∙ ap (λ (xs : List ℕ). xs ++ follows) (e ∙ ap (λ (xs : List ℕ). out ++ line depth xs) w) ∙ append_assoc out (line depth (move_text m)) follows ∙ ap (λ (xs : List ℕ). out ++ xs) (sym is)
+
+-- ---- the places that are named
+
+first_of : (place : ℕ) (bs : List Branch) (b : Branch) → place < length bs → b ≡ get_or bs place b → drop place bs ≡ b ∷ drop (place + 1) bs
+first_of place bs b below is =
+    let next : place + 1 ≡ suc place = omega arith in
+    drop-cons bs place b below ∙ ap (λ (c : Branch). c ∷ drop (suc place) bs) (sym is) ∙ ap (λ (n : ℕ). b ∷ drop n bs) (sym next)
+
+-- one more case, and what is left
+pub places_further : (place : ℕ) (bs : List Branch) (b : Branch) (whole : Branches) → place < length bs → b ≡ get_or bs place b → HavePlaces (tree_of b.tree)
+    → (AllHavePlaces (shown_of (drop place bs)) → AllHavePlaces whole) → AllHavePlaces (shown_of (drop (place + 1) bs)) → AllHavePlaces whole
+places_further place bs b whole below is has so rest =
+    so (subst AllHavePlaces (sym (ap shown_of (first_of place bs b below is) ∙ first_shown b (drop (place + 1) bs))) (has, rest))
+
+-- none is left
+pub no_places : (n : ℕ) (bs : List Branch) (whole : Branches) → (AllHavePlaces (shown_of (drop n bs)) → AllHavePlaces whole) → length bs ≤ n → AllHavePlaces whole
+no_places n bs whole so past = so (subst (λ (cs : List Branch). AllHavePlaces (shown_of cs)) (sym (drop_all n bs past)) tt)
+
+-- an only case without a name
+pub only_places : (bs : List Branch) (b : Branch) → b ≡ get_or bs 0 b → true ≡ is_unnamed (shown_of bs) → HavePlaces (tree_of b.tree) → AllHavePlaces (shown_of bs)
+only_places [] b is e has = absurd (true≢false e)
+only_places (a ∷ []) b is e has = subst AllHavePlaces (sym (first_shown a [])) (subst (λ (c : Branch). HavePlaces (tree_of c.tree)) is has, tt)
+only_places (a ∷ c ∷ bs) b is e has =
+    absurd (true≢false (e ∙ several (branch_of a).0 (shown (branch_of a).1) (branch_of c).0 (shown (branch_of c).1) (shown_of bs)))

@@ -1,2 +1,3 @@
 pub mod TreeText
 pub mod Cases
+pub mod Places

@@ -2,6 +2,7 @@
 
 ghost use Rattle.std.specs.Prelude.{◌≡◌, ◌++◌, IfOk, OnOk, string_bytes};
 ghost use Rattle.sp_moves.specs.View.{move_of};
+ghost use Rattle.sp_text.specs.Places.{HasPlace};
 ghost use Rattle.sp_text.specs.TreeText as spec;
 
 use sp_moves::moves::Move;
@@ -29,7 +30,8 @@ pub fn write_line(out: &mut String, depth: u64, start: &str, end: &str) -> Resul
 
 /// The text of a move.
 pub fn move_text(alloc: Global, chosen: Move) -> Result<String, AllocError>
-    ensures { IfOk result (λ t. string_bytes t ≡ spec.move_text (move_of chosen)) }
+    ensures text { IfOk result (λ t. string_bytes t ≡ spec.move_text (move_of chosen)) }
+    ensures place { OnOk result (HasPlace (move_of chosen)) }
 {
     match chosen {
         Move::Simplify => String::from_str(alloc, "simplify"),

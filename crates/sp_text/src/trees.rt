@@ -5,6 +5,7 @@ ghost use Rattle.sp_grow.specs.Kept.{shown_all};
 ghost use Rattle.sp_grow.specs.View.{branches_of, tree_of};
 ghost use Rattle.sp_text.specs.Cases as cases;
 ghost use Rattle.sp_text.specs.Cases.{words_behind};
+ghost use Rattle.sp_text.specs.Places.{HavePlaces, AllHavePlaces};
 ghost use Rattle.sp_text.specs.TreeText as spec;
 
 use crate::lines::{move_text, write_line};
@@ -32,7 +33,8 @@ fn write_behind(out: &mut String, depth: u64, is_last: bool) -> Result<(), Alloc
 /// Puts the text of the tree at the end.
 #[cycle(text)]
 fn write_tree(alloc: Global, out: &mut String, depth: u64, tree: &Tree) -> Result<(), AllocError>
-    ensures { OnOk result (string_bytes out.new ≡ string_bytes out.old ++ spec.tree_text depth (tree_of tree.now)) }
+    ensures text { OnOk result (string_bytes out.new ≡ string_bytes out.old ++ spec.tree_text depth (tree_of tree.now)) }
+    ensures places { OnOk result (HavePlaces (tree_of tree.now)) }
 {
     match tree {
         Tree::Open(_) => write_line(out, depth, "by ", "sorry"),
@@ -58,7 +60,8 @@ fn write_cases(
     depth: u64,
     branches: &Vec<Branch>,
 ) -> Result<(), AllocError>
-    ensures { OnOk result (string_bytes out.new ≡ string_bytes out.old ++ spec.cases_text depth (shown_all (branches_of branches.now.items))) }
+    ensures text { OnOk result (string_bytes out.new ≡ string_bytes out.old ++ spec.cases_text depth (shown_all (branches_of branches.now.items))) }
+    ensures places { OnOk result (AllHavePlaces (shown_all (branches_of branches.now.items))) }
 {
     let Some(inside) = depth.checked_add(1) else {
         return Err(AllocError);
@@ -71,13 +74,14 @@ fn write_cases(
     Ok(())
 }
 
-/// The text of a proof tree.
+/// The text of a proof tree. The places that it names are those of lists in memory, so each is read back.
 ///
 /// # Errors
 ///
 /// `AllocError` where memory is wanting.
 pub fn tree_text(alloc: Global, tree: &Tree) -> Result<String, AllocError>
-    ensures { IfOk result (λ text. string_bytes text ≡ spec.tree_text 0 (tree_of tree.now)) }
+    ensures text { IfOk result (λ text. string_bytes text ≡ spec.tree_text 0 (tree_of tree.now)) }
+    ensures places { OnOk result (HavePlaces (tree_of tree.now)) }
 {
     let mut out = String::new(alloc);
     write_tree(alloc, &mut out, 0, tree)?;

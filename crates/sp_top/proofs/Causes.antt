@@ -4,8 +4,8 @@ use Rattle.sp_io.specs.Told.{Rose, extended}
 use Rattle.sp_top.specs.Answer.{text_limit, TextAnswer, MayBeTooLong, MayBeText, IsFileAnswer, IsLineAnswer, IsAnswer}
 use Rattle.sp_top.specs.Command.{command_word, IsLine, IsNoLine}
 use Rattle.sp_top.specs.Run.{IsCutShort, UsageExactly, ReadFaultExactly, TooLongExactly, AnswersExactly, HasVerdicts, IsRight, VerdictsHold}
-use Rattle.sp_analysis.specs.declared.replies.Command.{Command}
-use Rattle.sp_analysis.specs.declared.replies.Command.TheVariants.{Prove, Check}
+use Rattle.sp_top.specs.declared.words.Command.{Command}
+use Rattle.sp_top.specs.declared.words.Command.TheVariants.{Prove, Check, Replay}
 use Rattle.sp_top.proofs.TextStatus.{IsTextStatus, text_status, verdicts_status, status_is_one, verdicts_are_done, done_rightly}
 use Rattle.sp_top.specs.declared.Status.{Status}
 use Rattle.sp_top.specs.declared.Status.TheVariants.{Usage, ReadFault, WriteFault, NoMemory, TooLong}
@@ -17,8 +17,13 @@ first_byte (b ∷ bytes) = b
 same_command : (command other : Command) → command_word command ≡ command_word other → command ≡ other
 same_command Prove Prove e = refl
 same_command Prove Check e = let f : 112 ≡ 99 = ap first_byte e in absurd (omega (arith, f))
+same_command Prove Replay e = let f : 112 ≡ 114 = ap first_byte e in absurd (omega (arith, f))
 same_command Check Prove e = let f : 99 ≡ 112 = ap first_byte e in absurd (omega (arith, f))
 same_command Check Check e = refl
+same_command Check Replay e = let f : 99 ≡ 114 = ap first_byte e in absurd (omega (arith, f))
+same_command Replay Prove e = let f : 114 ≡ 112 = ap first_byte e in absurd (omega (arith, f))
+same_command Replay Check e = let f : 114 ≡ 99 = ap first_byte e in absurd (omega (arith, f))
+same_command Replay Replay e = refl
 
 -- a line names one command and one file
 pub line_names_one : (words : List (List ℕ)) (command other_command : Command) (file other : List ℕ) → IsLine words command file → IsLine words other_command other → (command ≡ other_command) × (file ≡ other)

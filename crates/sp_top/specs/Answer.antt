@@ -1,5 +1,5 @@
 -- What is answered to the words of a command: a text that is written, and a status.
-use Rattle.std.specs.Prelude.{◌≡◌, ◌⊎◌, ◌≤◌, ◌<◌, ℕ, Bool, true, false, List, ◌++◌, map, Option, Some, None, IsSomeAnd, if◌then◌else◌, length, codes, decimal}
+use Rattle.std.specs.Prelude.{◌≡◌, ◌⊎◌, ◌≤◌, ◌<◌, ℕ, suc, Bool, true, false, List, ◌++◌, map, Option, Some, None, IsSomeAnd, if◌then◌else◌, length, codes, decimal}
 use Rattle.std.specs.List.{list_any}
 use Rattle.std.specs.Option.{ForSome}
 use Rattle.sp_io.specs.Told.{Rose}
@@ -9,12 +9,15 @@ use Rattle.sp_top.specs.declared.Status.TheVariants.{Fine, Falsified, Incomplete
 use Rattle.sp_top.specs.declared.Wanted.{Wanted}
 use Rattle.sp_top.specs.declared.Wanted.TheVariants as wanted
 use Rattle.sp_place.specs.Refused.{IsRefusedAt}
-use Rattle.sp_analysis.specs.Problem.{IsReported}
+use Rattle.sp_pose.specs.Problem.{IsReported}
 use Rattle.sp_analysis.specs.Verdict.{Verdict, verified, falsified, incomplete, rejected}
 use Rattle.sp_analysis.specs.Analysis.{Outcome, IsAnalysis}
 use Rattle.sp_analysis.specs.Checking.{Judged, IsChecking}
-use Rattle.sp_analysis.specs.declared.replies.Command.{Command}
-use Rattle.sp_analysis.specs.declared.replies.Command.TheVariants.{Prove, Check}
+use Rattle.sp_spec.specs.Execution.{Cause}
+use Rattle.sp_exec.specs.Replay.{rank}
+use Rattle.sp_replay.specs.Replay.{IsUnread, IsStopped, IsReplay}
+use Rattle.sp_top.specs.declared.words.Command.{Command}
+use Rattle.sp_top.specs.declared.words.Command.TheVariants.{Prove, Check, Replay}
 
 -- how many bytes a text may have
 abbrev pub text_limit : ℕ
@@ -79,13 +82,39 @@ pub record IsChecked (bytes text : List ℕ) (status : Status) : Type 0 where
   pub checking : IsChecking bytes text judged
   pub status_is : status ≡ status_of (verdicts_on judged)
 
+-- a line behind the text is no step's
+pub record IsLineRefusal (command : Command) (bytes text : List ℕ) (status : Status) : Type 0 where
+  pub replays : command ≡ Replay
+  pub number : ℕ
+  pub unread : IsUnread bytes number
+  pub text_is : text ≡ codes "refused: line " ++ (decimal number ++ codes "\n")
+  pub status_is : status ≡ Refused
+
+-- a step can't be done; causes are numbered from 1
+pub record IsStepRefusal (bytes text : List ℕ) (status : Status) : Type 0 where
+  pub number : ℕ
+  pub cause : Cause
+  pub stopped : IsStopped bytes number cause
+  pub text_is : text ≡ codes "step " ++ (decimal number ++ (codes " refused (" ++ (decimal (suc (rank cause)) ++ codes ")\n")))
+  pub status_is : status ≡ Rejected
+
+-- the steps are an execution
+pub record IsReplayed (bytes text : List ℕ) (status : Status) : Type 0 where
+  pub replay : IsReplay bytes text
+  pub status_is : status ≡ Fine
+
 abbrev pub IsDoneWith : Command → List ℕ → List ℕ → Status → Type 0
 IsDoneWith Prove bytes text status = IsTried bytes text status
 IsDoneWith Check bytes text status = IsChecked bytes text status
+IsDoneWith Replay bytes text status = IsStepRefusal bytes text status ⊎ IsReplayed bytes text status
+
+-- the text, its theory or its lines are refused
+abbrev pub IsRefusedWith : Command → List ℕ → List ℕ → Status → Type 0
+IsRefusedWith command bytes text status = IsRefusal bytes text status ⊎ IsReport bytes text status ⊎ IsLineRefusal command bytes text status
 
 -- what is answered to the bytes of a text
 abbrev pub TextAnswer : Command → List ℕ → List ℕ → Status → Type 0
-TextAnswer command bytes text status = IsRefusal bytes text status ⊎ IsReport bytes text status ⊎ IsDoneWith command bytes text status
+TextAnswer command bytes text status = IsRefusedWith command bytes text status ⊎ IsDoneWith command bytes text status
 
 -- whatever is told is more bytes than a text may have
 abbrev pub MayBeTooLong : Option (Option (List ℕ)) → Type 0

@@ -1,7 +1,7 @@
 -- What the top call promises, clause by clause. `before` and `now` are a count of faults before and after the call.
 use Rattle.std.specs.Prelude.{◌≡◌, ◌≢◌, ◌⊎◌, ◌≤◌, ◌<◌, ℕ, List, [], ◌∷◌, Option, Some, None, length}
 use Rattle.sp_io.specs.Told.{Rose, extended, IsExtendedByPrefix}
-use Rattle.sp_top.specs.Answer.{text_limit, status_of, verdicts_of, verdicts_on, TextAnswer, MayBeTooLong, MayBeText, IsAnswer}
+use Rattle.sp_top.specs.Answer.{text_limit, status_of, verdicts_of, verdicts_on, IsStepRefusal, IsReplayed, TextAnswer, MayBeTooLong, MayBeText, IsAnswer}
 use Rattle.sp_top.specs.Command.{IsLine, IsNoLine}
 use Rattle.sp_top.specs.declared.Status.{Status}
 use Rattle.sp_top.specs.declared.Status.TheVariants.{Fine, Falsified, Incomplete, Rejected, Usage, ReadFault, WriteFault, NoMemory, TooLong}
@@ -10,15 +10,15 @@ use Rattle.sp_spec.specs.Written.{theory_of}
 use Rattle.sp_analysis.specs.Analysis.{Outcome, IsAnalysis}
 use Rattle.sp_written.specs.Text.{theory_in}
 use Rattle.sp_analysis.specs.Checking.{Judged, IsChecking}
-use Rattle.sp_analysis.specs.Laws.{Means, JudgedRightly}
-use Rattle.sp_analysis.specs.declared.replies.Command.{Command}
-use Rattle.sp_analysis.specs.declared.replies.Command.TheVariants.{Prove, Check}
+use Rattle.sp_analysis.specs.Laws.{Means, JudgedRightly, IsCheckedAgain}
+use Rattle.sp_top.specs.declared.words.Command.{Command}
+use Rattle.sp_top.specs.declared.words.Command.TheVariants.{Prove, Check, Replay}
 
 -- a fault of the sink or want of memory came before another cause could show
 abbrev pub IsCutShort : Status → Type 0
 IsCutShort status = (status ≡ WriteFault) ⊎ (status ≡ NoMemory)
 
--- the answer has verdicts on the lemmas of the text
+-- the answer has verdicts on the lemmas of the text, or tells what became of steps
 abbrev pub HasVerdicts : Status → Type 0
 HasVerdicts status = (status ≡ Fine) ⊎ (status ≡ Falsified) ⊎ (status ≡ Incomplete) ⊎ (status ≡ Rejected)
 
@@ -28,12 +28,14 @@ pub record UsageExactly (words : List (List ℕ)) (status : Status) : Type 0 whe
   pub comes : IsNoLine words → ¬ IsCutShort status → status ≡ Usage
 
 -- Each lemma of the text is tried, and each verdict is so: a lemma that is verified holds in every execution of the theory that the text
--- says, steps of the adversary included; one on some trace that is falsified holds in none.
+-- says, steps of the adversary included; one on some trace that is falsified holds in none. What is written says the same theory with the proofs
+-- that were grown, and is checked as it was tried.
 pub record TriedRightly (bytes answer : List ℕ) (status : Status) : Type 0 where
   pub outcomes : List Outcome
   pub analysis : IsAnalysis bytes answer outcomes
   pub status_is : status ≡ status_of (verdicts_of outcomes)
   pub right : Every (λ (o : Outcome). Means (theory_of (theory_in analysis.theory)) o.lemma.kind o.verdict o.lemma) outcomes
+  pub again : IsCheckedAgain analysis.theory answer outcomes
 
 -- The proof of each lemma is checked, each verdict is so, and a proof is accepted exactly where its every step is an instance of a move, with
 -- the cases of that move.
@@ -43,9 +45,11 @@ pub record CheckedRightly (bytes answer : List ℕ) (status : Status) : Type 0 w
   pub status_is : status ≡ status_of (verdicts_on judged)
   pub right : Every (JudgedRightly (theory_of (theory_in checking.theory))) judged
 
+-- The steps behind the text are an execution, whose trace is written with what is true over it, or the first that can't be done is named.
 abbrev pub DoneRightly : Command → List ℕ → List ℕ → Status → Type 0
 DoneRightly Prove bytes answer status = TriedRightly bytes answer status
 DoneRightly Check bytes answer status = CheckedRightly bytes answer status
+DoneRightly Replay bytes answer status = IsStepRefusal bytes answer status ⊎ IsReplayed bytes answer status
 
 module _ (words : List (List ℕ)) (holds : List ℕ → Option (Option (List ℕ))) where
   -- ReadFault comes only where the count of faults rose or absence is told, and always where absence is told

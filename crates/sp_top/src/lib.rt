@@ -1,32 +1,38 @@
 // The top call: from the words of a command to the text that is written and the status.
-// It stands on `sp_analysis`, which tries the lemmas of a text or checks their proofs, and on `sp_io`, which brings the library that texts come from and the sink
-// that answers go to. The program stands above it and only makes the words, the library and the sink.
+// Below stand what tries the lemmas of a text or checks their proofs (sp_analysis), what replays the steps behind it (sp_replay), and the library
+// that texts come from and the sink that answers go to (sp_io). The program stands above and only makes the words, the library and the sink.
 // It promises that what is written of each lemma is so, that each status comes by its cause alone, that what is written is the whole
 // answer or, after a fault of the sink, a prefix of that very answer, and that FILE alone is fetched, once.
 #![tactic(auto)]
 
-ghost use Rattle.std.specs.Prelude.{◌≡◌, ◌⊎◌, ◌++◌, [], ◌∷◌, ℕ, List, OnOk, IfOk, map, codes, decimal};
+ghost use Rattle.std.specs.Prelude.{◌≡◌, ◌⊎◌, ◌++◌, [], ◌∷◌, ℕ, suc, List, OnOk, IfOk, map, codes, decimal};
 ghost use Rattle.std.specs.List.{list_any};
 ghost use Rattle.sp_io.specs.Told.{extended};
 ghost use Rattle.sp_top.specs.Answer as answer;
 ghost use Rattle.sp_top.specs.Answer.{TextAnswer, IsFileAnswer, IsAnswer};
-ghost use Rattle.sp_top.specs.Command.{IsLine, IsNoLine};
+ghost use Rattle.sp_exec.specs.Replay.{rank};
+ghost use Rattle.sp_exec.specs.View.{cause_of};
+ghost use Rattle.sp_top.specs.Command.{IsLine, IsNoLine, of_proofs};
 ghost use Rattle.sp_top.specs.Run.{UsageExactly, ReadFaultExactly, TooLongExactly, AnswersExactly, VerdictsHold, WritesWhole, WritesPrefix, IsComplete, WriteFaultOnly, WritesNothing, AsksFileOnce};
 ghost use Rattle.sp_top.specs.declared.Status.TheVariants.{Fine, Falsified, Incomplete, Rejected, Refused};
 ghost use Rattle.sp_analysis.specs.View.{verdict_of};
-ghost use Rattle.sp_analysis.specs.declared.replies.Command.{Command};
+ghost use Rattle.sp_top.specs.declared.words.Command.{Command};
+ghost use Rattle.sp_top.specs.declared.words.Command.TheVariants.{Replay};
 
-use sp_analysis::{Command, Reply, Verdict};
+use sp_analysis::{Reply, Verdict};
 use sp_io::{FetchFail, Library, Sink, write_whole};
+use sp_replay::Cause;
 use std::alloc::{AllocError, Global};
 
 #[cfg(test)]
 mod check_tests;
 #[cfg(test)]
+mod replay_tests;
+#[cfg(test)]
 mod tests;
 mod words;
 
-pub use words::Words;
+pub use words::{Command, Words};
 
 /// How many bytes a text may have.
 const TEXT_LIMIT: usize = 1_048_576;
@@ -40,9 +46,9 @@ pub enum Status {
     Falsified = 1,
     /// Some lemma is incomplete.
     Incomplete = 2,
-    /// Some proof is rejected.
+    /// Some proof is rejected, or a step can't be done.
     Rejected = 3,
-    /// The text is refused.
+    /// The text is refused, or a line behind it.
     Refused = 4,
     /// The words are no line of the command.
     Usage = 5,
@@ -120,10 +126,71 @@ fn refusal(alloc: Global, place: usize) -> Result<(Vec<u8>, Status), AllocError>
     fixed(alloc, line.as_bytes(), Status::Refused)
 }
 
-/// The whole answer to the bytes of a text.
+/// The refusal of a line behind a text.
+fn line_refusal(alloc: Global, number: usize) -> Result<(Vec<u8>, Status), AllocError>
+    ensures text { IfOk result (λ answer. answer.0.items ≡ codes "refused: line " ++ (decimal number ++ codes "\n")) }
+    ensures status { IfOk result (λ answer. answer.1 ≡ Refused) }
+{
+    let line = format!(in alloc; "refused: line {number}\n")?;
+    fixed(alloc, line.as_bytes(), Status::Refused)
+}
+
+/// The number of a cause, from 1.
+fn cause_number(cause: Cause) -> u8
+    ensures { result ≡ suc (rank (cause_of cause)) }
+{
+    match cause {
+        Cause::NoSuchRule => 1,
+        Cause::NoInstance => 2,
+        Cause::PremiseAbsent => 3,
+        Cause::FreshNameTwice => 4,
+        Cause::WrongSort => 5,
+    }
+}
+
+/// The refusal of a step.
+fn step_refusal(alloc: Global, number: usize, cause: Cause) -> Result<(Vec<u8>, Status), AllocError>
+    ensures text { IfOk result (λ answer. answer.0.items ≡ codes "step " ++ (decimal number ++ (codes " refused (" ++ (decimal (suc (rank (cause_of cause))) ++ codes ")\n")))) }
+    ensures status { IfOk result (λ answer. answer.1 ≡ Rejected) }
+{
+    let cause = cause_number(cause);
+    let line = format!(in alloc; "step {number} refused ({cause})\n")?;
+    fixed(alloc, line.as_bytes(), Status::Rejected)
+}
+
+/// The whole answer to the bytes of a text whose lines are replayed.
 #[tactic(auto, using(crate::proofs::Answered::answers))]
+fn answer_steps(alloc: Global, bytes: &[u8]) -> Result<(Vec<u8>, Status), AllocError>
+    ensures { IfOk result (λ answer. TextAnswer Replay bytes.now answer.0.items answer.1) }
+{
+    match sp_replay::replayed(alloc, bytes)? {
+        sp_replay::Reply::Refused(place) => refusal(alloc, place),
+        sp_replay::Reply::Reported(lines) => Ok((lines, Status::Refused)),
+        sp_replay::Reply::Unread(number) => line_refusal(alloc, number),
+        sp_replay::Reply::Stopped(number, cause) => step_refusal(alloc, number, cause),
+        sp_replay::Reply::Done(written) => Ok((written, Status::Fine)),
+    }
+}
+
+/// The whole answer to the bytes of a text.
 fn answer(alloc: Global, command: Command, bytes: &[u8]) -> Result<(Vec<u8>, Status), AllocError>
     ensures { IfOk result (λ answer. TextAnswer command bytes.now answer.0.items answer.1) }
+{
+    match command {
+        Command::Prove => answer_proofs(alloc, sp_analysis::Command::Prove, bytes),
+        Command::Check => answer_proofs(alloc, sp_analysis::Command::Check, bytes),
+        Command::Replay => answer_steps(alloc, bytes),
+    }
+}
+
+/// The whole answer to the bytes of a text whose lemmas are proved, or their proofs checked.
+#[tactic(auto, using(crate::proofs::Answered::answers))]
+fn answer_proofs(
+    alloc: Global,
+    command: sp_analysis::Command,
+    bytes: &[u8],
+) -> Result<(Vec<u8>, Status), AllocError>
+    ensures { IfOk result (λ answer. TextAnswer (of_proofs command) bytes.now answer.0.items answer.1) }
 {
     match sp_analysis::answer(alloc, command, bytes)? {
         Reply::Refused(place) => refusal(alloc, place),

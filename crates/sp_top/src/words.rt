@@ -1,10 +1,19 @@
 ghost use Rattle.std.specs.Prelude.{◌≡◌, ◌++◌, ◌↔◌, List, [], ◌∷◌, ℕ, map, string_bytes, OnOk, OnErr, MatchOption, IsTrue};
 ghost use Rattle.sp_top.specs.Command.{IsFile, IsLine, IsNoLine, command_word};
-ghost use Rattle.sp_analysis.specs.declared.replies.Command.{Command};
 
-use sp_analysis::Command;
 use std::alloc::{AllocError, Global};
 use std::marker::Model;
+
+/// What the words ask to do with a text.
+#[derive(Clone, Copy, Debug, PartialEq, Eq)]
+pub enum Command {
+    /// A proof is grown for each lemma.
+    Prove,
+    /// The proof that stands below each lemma is checked.
+    Check,
+    /// The lines behind the theory are replayed as the steps of an execution.
+    Replay,
+}
 
 /// The words of a command, the program's name first.
 #[derive(Drop)]
@@ -64,6 +73,7 @@ fn command_of(word: &str) -> Option<Command>
     match word {
         "prove" => Some(Command::Prove),
         "check" => Some(Command::Check),
+        "replay" => Some(Command::Replay),
         _ => None,
     }
 }

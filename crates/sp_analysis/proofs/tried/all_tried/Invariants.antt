@@ -1,7 +1,11 @@
 use Rattle.std.proofs.Common.{◌≡◌, map}
+use Rattle.sp_spec.specs.Lists.{Every}
 use Rattle.sp_moves.specs.View.{book_of}
-use Rattle.sp_analysis.specs.Asked as keep
+use Rattle.sp_pose.specs.Asked as ask
+use Rattle.sp_analysis.specs.Kept as keep
 use Rattle.sp_analysis.proofs.tried.all_tried.Given as goal
 
 abbrev pub invariant-loop-lemma : goal.invariant-loop-lemma
-invariant-loop-lemma l = map keep.kept_of l.made.items ≡ keep.dues l.command (book_of l.rules) (map keep.asked_of l.yielded)
+invariant-loop-lemma l =
+    (map keep.kept_of l.made.items ≡ keep.dues l.command (book_of l.rules) (map ask.asked_of l.yielded))
+    × Every (keep.IsNameable l.command (book_of l.rules)) (map ask.asked_of l.yielded)

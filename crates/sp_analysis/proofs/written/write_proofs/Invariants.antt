@@ -1,6 +1,6 @@
 use Rattle.std.proofs.Common.{◌≡◌, ◌++◌, map, drop}
 use Rattle.sp_read_theory.specs.Places.{Rise}
-use Rattle.sp_analysis.specs.Asked as keep
+use Rattle.sp_analysis.specs.Kept as keep
 use Rattle.sp_analysis.proofs.written.write_proofs.Given as goal
 
 abbrev pub invariant-loop-lemma : goal.invariant-loop-lemma

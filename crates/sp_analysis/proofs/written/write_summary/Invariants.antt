@@ -1,5 +1,5 @@
 use Rattle.std.proofs.Common.{◌≡◌, ◌++◌, map, drop}
-use Rattle.sp_analysis.specs.Asked as keep
+use Rattle.sp_analysis.specs.Kept as keep
 use Rattle.sp_analysis.proofs.written.write_summary.Given as goal
 
 abbrev pub invariant-loop-lemma : goal.invariant-loop-lemma

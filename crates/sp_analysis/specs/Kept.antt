@@ -1,0 +1,100 @@
+-- What has to come of a lemma that is tried or whose proof is checked, what the code keeps of that, and what is written of it.
+use Rattle.std.specs.Prelude.{ℕ, Bool, true, false, List, [], ◌∷◌, ◌++◌, codes, map, string_bytes}
+use Rattle.sp_spec.specs.Rule.{Rule}
+use Rattle.sp_spec.specs.Theory.{TraceKind, all_traces, exists_trace}
+use Rattle.sp_check.specs.Root.{root}
+use Rattle.sp_check.specs.Tree.{steps}
+use Rattle.sp_grow.specs.Finished.{finished}
+use Rattle.sp_text.specs.Places.{HavePlaces}
+use Rattle.sp_text.specs.TreeText.{tree_text}
+use Rattle.sp_judge.specs.Judging as judging
+use Rattle.sp_judge.specs.Judging.{Judgement, judgement}
+use Rattle.sp_judge.specs.Skeleton as read
+use Rattle.sp_written.specs.Views as view
+use Rattle.sp_written.specs.declared.theory.Span.{Span}
+use Rattle.sp_read_theory.specs.Places.{goes_on}
+use Rattle.sp_pose.specs.Asked.{Asked}
+use Rattle.sp_analysis.specs.Sought.{sought, proof_tree}
+use Rattle.sp_analysis.specs.Verdict.{Verdict, verified, falsified, incomplete, rejected, summary_line}
+use Rattle.sp_again.specs.Again.{between}
+use Rattle.sp_analysis.specs.Checking.{proof_read, counted}
+use Rattle.sp_analysis.specs.View.{verdict_of}
+use Rattle.sp_analysis.specs.declared.tried.Tried.{Tried}
+use Rattle.sp_analysis.specs.declared.replies.Command.{Command}
+use Rattle.sp_analysis.specs.declared.replies.Command.TheVariants.{Prove, Check}
+
+-- what came of a lemma, and the text of the proof that was grown for it
+pub record Kept : Type 0 where
+  pub name : List ℕ
+  pub kind : TraceKind
+  pub verdict : Verdict
+  pub steps : ℕ
+  pub span : Span
+  pub proof : List ℕ
+
+abbrev pub kept_of : Tried → Kept
+kept_of t = record { name = t.name.now; kind = view.kind t.kind; verdict = verdict_of t.verdict; steps = t.steps; span = t.span; proof = string_bytes t.proof }
+
+-- what a proof without open leaves says
+abbrev pub shown : TraceKind → Verdict
+shown all_traces = verified
+shown exists_trace = falsified
+
+-- the verdict, by whether no leaf is left open
+abbrev pub by_leaves : TraceKind → Bool → Verdict
+by_leaves kind true = shown kind
+by_leaves kind false = incomplete
+
+abbrev pub by_judgement : TraceKind → Judgement → Verdict
+by_judgement kind (judging.rejected step clause) = rejected step clause
+by_judgement kind judging.finished = shown kind
+by_judgement kind judging.incomplete = incomplete
+
+-- what has to come of a lemma that is tried, and of one whose proof is checked
+abbrev pub due : Command → List Rule → Asked → Kept
+due Prove rules a = record {
+  name = a.name;
+  kind = a.kind;
+  verdict = by_leaves a.kind (finished (proof_tree rules a.kind a.form));
+  steps = steps (proof_tree rules a.kind a.form);
+  span = a.span;
+  proof = tree_text 0 (proof_tree rules a.kind a.form);
+}
+due Check rules a = record {
+  name = a.name;
+  kind = a.kind;
+  verdict = by_judgement a.kind (judgement rules (root (sought a.kind a.form)) (proof_read a.proof));
+  steps = counted (read.steps (proof_read a.proof));
+  span = a.span;
+  proof = [];
+}
+
+abbrev pub dues : Command → List Rule → List Asked → List Kept
+dues command rules ls = map (due command rules) ls
+
+-- each place that the grown proof names is one that a text can name
+abbrev pub IsNameable : Command → List Rule → Asked → Type 0
+IsNameable Prove rules a = HavePlaces (proof_tree rules a.kind a.form)
+IsNameable Check rules a = Unit {0}
+
+-- ---- what is written
+
+abbrev pub line_of : Kept → List ℕ
+line_of r = summary_line r.name r.kind r.verdict r.steps
+
+abbrev pub lines : List Kept → List ℕ
+lines [] = []
+lines (r ∷ rs) = line_of r ++ lines rs
+
+-- the text from one place to another, with each proof at its place
+abbrev pub spliced : List ℕ → ℕ → List Kept → ℕ → List ℕ
+spliced text start [] end = between start end text
+spliced text start (r ∷ rs) end = between start r.span.from text ++ (codes "\n" ++ (r.proof ++ spliced text (goes_on text r.span) rs end))
+
+-- the text up to its end with the proofs, and the summary in a comment
+abbrev pub kept_text : List ℕ → List Kept → ℕ → List ℕ
+kept_text text rs end = spliced text 0 rs end ++ (codes "\n/*\n" ++ (lines rs ++ codes "*/\n"))
+
+abbrev pub written_by : Command → List ℕ → List Kept → ℕ → List ℕ
+written_by Prove text rs end = kept_text text rs end
+written_by Check text rs end = lines rs

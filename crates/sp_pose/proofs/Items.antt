@@ -1,0 +1,59 @@
+-- Rules and lemmas among items, one after the other.
+use Rattle.std.proofs.Common.{◌≡◌, ◌<◌, ◌+◌, ℕ, suc, arith, List, [], ◌∷◌, ◌++◌, map, length, get_or, drop, drop-cons, Option, Some, None, option_map, option_and_then, refl, sym, ap, ◌∙◌, append_assoc}
+use Rattle.sp_spec.specs.Rule.{Rule}
+use Rattle.sp_spec.specs.Written as written
+use Rattle.sp_spec.specs.Guarded.{Guarded}
+use Rattle.sp_law_guard.specs.CheckedForm.{checked_form}
+use Rattle.sp_read_parts.specs.Formulas.{formula}
+use Rattle.sp_written.specs.Text.{rules_in}
+use Rattle.sp_written.specs.Views as view
+use Rattle.sp_written.specs.declared.theory.Item.{Item}
+use Rattle.sp_written.specs.declared.theory.Item.TheVariants as i
+use Rattle.sp_written.specs.declared.theory.WrittenLemma.{WrittenLemma}
+use Rattle.sp_pose.specs.Asked.{Asked, asked_with, asked_then, lemmas_read, all_asked}
+
+pub next_of : {A : Type 0} (xs : List A) (place : ℕ) (x : A) → place < length xs → x ≡ get_or xs place x → drop place xs ≡ x ∷ drop (place + 1) xs
+next_of {A = A} xs place x below is =
+    let next : place + 1 ≡ suc place = omega arith in
+    drop-cons xs place x below ∙ ap (λ (y : A). y ∷ drop (suc place) xs) (sym is) ∙ ap (λ (n : ℕ). x ∷ drop n xs) (sym next)
+
+-- ---- rules
+
+abbrev pub rules_read : List Item → List Rule
+rules_read xs = map written.rule_of (rules_in (view.items xs))
+
+first_rules : (x : Item) (xs : List Item) → rules_read (x ∷ xs) ≡ rules_read (x ∷ []) ++ rules_read xs
+first_rules (i.Rule r) xs = refl
+first_rules (i.Lemma l) xs = refl
+
+pub rule_pushed : (out more all : List Rule) (place : ℕ) (xs : List Item) (x : Item) → place < length xs → x ≡ get_or xs place x → out ++ rules_read (drop place xs) ≡ all
+    → more ≡ out ++ rules_read (x ∷ []) → more ++ rules_read (drop (place + 1) xs) ≡ all
+rule_pushed out more all place xs x below is so pushed =
+    let rest = drop (place + 1) xs in
+    ap (λ (rs : List Rule). rs ++ rules_read rest) pushed ∙ append_assoc out (rules_read (x ∷ [])) (rules_read rest)
+    ∙ ap (λ (rs : List Rule). out ++ rs) (sym (first_rules x rest)) ∙ sym (ap (λ (ys : List Item). out ++ rules_read ys) (next_of xs place x below is)) ∙ so
+
+-- ---- lemmas
+
+pub last_read : (xs : List Item) (x : Item) → lemmas_read (xs ++ x ∷ []) ≡ lemmas_read xs ++ lemmas_read (x ∷ [])
+last_read [] x = refl
+last_read (i.Rule r ∷ xs) x = last_read xs x
+last_read (i.Lemma l ∷ xs) x = ap (λ (ls : List WrittenLemma). l ∷ ls) (last_read xs x)
+
+pub last_asked : (ls : List WrittenLemma) (l : WrittenLemma) → all_asked (ls ++ l ∷ []) ≡ asked_then (all_asked ls) l
+last_asked [] l = at (checked_form (formula l.formula))
+  where
+    at : (o : Option Guarded) → option_and_then (λ (g : Guarded). option_map (λ (as' : List Asked). asked_with l g ∷ as') (Some [])) o ≡ option_map (λ (g : Guarded). [] ++ asked_with l g ∷ []) o
+    at None = refl
+    at (Some g) = refl
+last_asked (k ∷ ls) l =
+    ap (λ (o : Option (List Asked)). option_and_then (λ (g : Guarded). option_map (λ (as' : List Asked). asked_with k g ∷ as') o) (checked_form (formula k.formula))) (last_asked ls l)
+    ∙ at (checked_form (formula k.formula)) (all_asked ls) (checked_form (formula l.formula))
+  where
+    at : (first : Option Guarded) (others : Option (List Asked)) (last : Option Guarded)
+        → option_and_then (λ (g : Guarded). option_map (λ (as' : List Asked). asked_with k g ∷ as') (option_and_then (λ (as' : List Asked). option_map (λ (h : Guarded). as' ++ asked_with l h ∷ []) last) others)) first
+        ≡ option_and_then (λ (as' : List Asked). option_map (λ (h : Guarded). as' ++ asked_with l h ∷ []) last) (option_and_then (λ (g : Guarded). option_map (λ (as' : List Asked). asked_with k g ∷ as') others) first)
+    at None others last = refl
+    at (Some g) None last = refl
+    at (Some g) (Some as') None = refl
+    at (Some g) (Some as') (Some h) = refl

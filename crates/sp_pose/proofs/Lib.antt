@@ -1,0 +1,6 @@
+pub mod Items
+pub mod Posed
+pub mod Named
+pub mod Theories
+pub mod One
+pub mod Forms

@@ -1,0 +1,18 @@
+-- What a text sets out to prove.
+use Rattle.std.specs.Prelude.{◌≡◌, List, ℕ}
+use Rattle.sp_written.specs.Text.{WrittenText, theory_in}
+use Rattle.sp_read_theory.specs.Text.{IsTextOf}
+use Rattle.sp_report.specs.Report.{report}
+use Rattle.sp_report.specs.Laws.{IsWellFormed}
+
+-- the text says the theory, and there are no fatal findings on it
+pub record Poses (text : List ℕ) (theory : WrittenText) : Type 0 where
+  pub says : IsTextOf text theory
+  pub fine : IsWellFormed (theory_in theory)
+
+-- the text says a theory on which there are findings, and the report on it is this
+pub record IsReported (text lines : List ℕ) : Type 0 where
+  pub theory : WrittenText
+  pub says : IsTextOf text theory
+  pub wrong : IsWellFormed (theory_in theory) → ⊥
+  pub lines_are : lines ≡ report theory

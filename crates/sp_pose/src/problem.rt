@@ -1,0 +1,177 @@
+// What a text sets out to prove.
+
+ghost use Rattle.std.specs.Prelude.{◌≡◌, ◌∷◌, [], ◌++◌, Some, IfOk, OnOk, map, option_map};
+ghost use Rattle.sp_spec.specs.Written as written;
+ghost use Rattle.sp_rule.specs.View.{rule_of};
+ghost use Rattle.sp_moves.specs.View.{book_of};
+ghost use Rattle.sp_written.specs.Text.{rules_in};
+ghost use Rattle.sp_written.specs.Views as view;
+ghost use Rattle.sp_pose.specs.Asked.{asked_of, asked_then, lemmas_read, all_asked};
+ghost use Rattle.sp_pose.specs.Posed.{IsRead};
+
+use sp_formula::formula::Formula;
+use sp_guard::marks::checked_form;
+use sp_moves::book::RuleBook;
+use sp_place::refused_at;
+use sp_read_theory::read_theory;
+use sp_report::report;
+use sp_rule::{Rule, numbered};
+use sp_written::{Item, Span, TraceKind, WrittenLemma, WrittenProof};
+use std::alloc::{AllocError, Global};
+
+/// A lemma without fatal findings.
+#[derive(Drop)]
+pub struct GuardedLemma<'a> {
+    /// its name
+    pub name: &'a str,
+    /// whether it speaks of all traces, or of some
+    pub kind: TraceKind,
+    /// the guarded form of its formula
+    pub form: Formula,
+    /// the proof that stands below it
+    pub proof: Option<WrittenProof<'a>>,
+    /// where that stands, or is to stand
+    pub span: Span,
+}
+
+/// A theory without fatal findings.
+#[derive(Drop)]
+pub struct Problem<'a> {
+    /// its rules, with their variables numbered
+    pub rules: RuleBook,
+    /// its lemmas, with their guarded forms
+    pub lemmas: Vec<GuardedLemma<'a>>,
+    /// the place behind its word `end`
+    pub behind_end: usize,
+}
+
+/// What comes of reading a text.
+#[derive(Drop)]
+pub enum Read<'a> {
+    /// It says no theory, and is refused at this place.
+    Refused(usize),
+    /// There are findings on its theory, and these are their lines.
+    Reported(Vec<u8>),
+    /// There are none.
+    Posed(Problem<'a>),
+}
+
+/// Puts the item at the end, if it is a rule, with its variables numbered.
+fn push_rule(alloc: Global, rules: &mut Vec<Rule>, item: &Item) -> Result<(), AllocError>
+    ensures { OnOk result (map rule_of rules.new.items ≡ map rule_of rules.old.items ++ map written.rule_of (rules_in (view.item item.now ∷ []))) }
+{
+    match item {
+        Item::Rule(rule) => {
+            let made = numbered(alloc, rule)?;
+            rules.push(made)?;
+            Ok(())
+        }
+        Item::Lemma(_) => Ok(()),
+    }
+}
+
+/// The rules that are searched with.
+fn rule_book(alloc: Global, items: &Vec<Item>) -> Result<RuleBook, AllocError>
+    ensures { IfOk result (λ b. book_of b ≡ map written.rule_of (rules_in (view.items items.now.items))) }
+{
+    let mut rules = Vec::new(alloc);
+    for item in items {
+        push_rule(alloc, &mut rules, item)?;
+    }
+    let book = RuleBook::new(alloc, rules)?;
+    Ok(book)
+}
+
+/// Puts the item at the end, if it is a lemma.
+fn push_lemma<'a>(lemmas: &mut Vec<WrittenLemma<'a>>, item: Item<'a>) -> Result<(), AllocError>
+    ensures { OnOk result (lemmas.new.items ≡ lemmas.old.items ++ lemmas_read (item.entry ∷ [])) }
+{
+    match item {
+        Item::Rule(_) => Ok(()),
+        Item::Lemma(lemma) => {
+            lemmas.push(lemma)?;
+            Ok(())
+        }
+    }
+}
+
+/// The lemmas among the items.
+fn lemmas_of<'a>(alloc: Global, items: Vec<Item<'a>>) -> Result<Vec<WrittenLemma<'a>>, AllocError>
+    ensures { IfOk result (λ ls. ls.items ≡ lemmas_read items.entry.items) }
+{
+    let mut lemmas = Vec::new(alloc);
+    for item in items {
+        push_lemma(&mut lemmas, item)?;
+    }
+    Ok(lemmas)
+}
+
+/// The lemmas, and one more with its guarded form; none where it has none.
+fn with_lemma<'a>(
+    alloc: Global,
+    others: Option<Vec<GuardedLemma<'a>>>,
+    lemma: WrittenLemma<'a>,
+) -> Result<Option<Vec<GuardedLemma<'a>>>, AllocError>
+    ensures { IfOk result (λ o. option_map (λ ls. map asked_of ls.items) o ≡ asked_then (option_map (λ ls. map asked_of ls.items) others.entry) lemma.entry) }
+{
+    let Some(mut guarded) = others else {
+        return Ok(None);
+    };
+    let Some(form) = checked_form(alloc, &lemma.formula)? else {
+        return Ok(None);
+    };
+    guarded.push(GuardedLemma {
+        name: lemma.name,
+        kind: lemma.kind,
+        form,
+        proof: lemma.proof,
+        span: lemma.span,
+    })?;
+    Ok(Some(guarded))
+}
+
+/// The lemmas with their guarded forms; none where one has none.
+fn guarded_lemmas<'a>(
+    alloc: Global,
+    lemmas: Vec<WrittenLemma<'a>>,
+) -> Result<Option<Vec<GuardedLemma<'a>>>, AllocError>
+    ensures { IfOk result (λ o. option_map (λ ls. map asked_of ls.items) o ≡ all_asked lemmas.entry.items) }
+{
+    let mut guarded = Some(Vec::new(alloc));
+    for lemma in lemmas {
+        guarded = with_lemma(alloc, guarded, lemma)?;
+    }
+    Ok(guarded)
+}
+
+/// What comes of reading a text.
+///
+/// # Errors
+///
+/// `AllocError` where memory is wanting.
+#[tactic(auto, using(crate::proofs::Posed::posing))]
+pub fn posed_by<'a>(alloc: Global, text: &'a [u8]) -> Result<Read<'a>, AllocError>
+    ensures { IfOk result (IsRead text.now) }
+{
+    let Some(theory) = read_theory(alloc, text)? else {
+        let Some(place) = refused_at(alloc, text)? else {
+            unreachable!()
+        };
+        return Ok(Read::Refused(place));
+    };
+    let lines = report(alloc, &theory)?;
+    if !lines.is_empty() {
+        return Ok(Read::Reported(lines));
+    }
+    let rules = rule_book(alloc, &theory.items)?;
+    let behind_end = theory.behind_end;
+    let lemmas = lemmas_of(alloc, theory.items)?;
+    let Some(lemmas) = guarded_lemmas(alloc, lemmas)? else {
+        unreachable!()
+    };
+    Ok(Read::Posed(Problem {
+        rules,
+        lemmas,
+        behind_end,
+    }))
+}

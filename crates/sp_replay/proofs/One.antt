@@ -1,0 +1,140 @@
+-- Of a text whose lines are replayed one thing is answered.
+use Rattle.std.proofs.Common.{◌≡◌, Bool, true, false, ℕ, List, [], ◌∷◌, ◌++◌, refl, sym, ap, ap₂, ◌∙◌, subst}
+use Rattle.sp_spec.specs.Rule.{Action}
+use Rattle.sp_spec.specs.Signature.{Signature, pair_symbols}
+use Rattle.sp_spec.specs.Theory.{Lemma, signature_of}
+use Rattle.sp_spec.specs.Execution.{Step, Trace, Cause}
+use Rattle.sp_law_equal.proofs.Pairs.{pairs_convergent}
+use Rattle.sp_law_run.proofs.Runs.{runs_alike}
+use Rattle.sp_law_run.proofs.Written.{rules_right}
+use Rattle.sp_ground.specs.View.{newest_first}
+use Rattle.sp_ground.specs.Text.{trace_block}
+use Rattle.sp_steps.specs.Lines.{AreSteps, IsFirstUnread}
+use Rattle.sp_steps.proofs.Laws.{steps_are_one}
+use Rattle.sp_exec.specs.Replay.{IsReplayed, IsFirstFault}
+use Rattle.sp_exec.proofs.Replays.{one_trace, one_fault, no_execution}
+use Rattle.sp_written.specs.Text.{WrittenText, theory_in}
+use Rattle.sp_read_theory.specs.Text.{ArePlaces}
+use Rattle.sp_read_theory.proofs.Whole.{text_one, places_one}
+use Rattle.sp_pose.specs.Problem.{Poses}
+use Rattle.sp_pose.proofs.One.{not_posed}
+use Rattle.sp_replay.specs.Replay.{theory_said, lines_behind, HasLines, steps_done, IsUnread, IsStopped, IsMet, AreMet, met_lines, IsReplay}
+use Rattle.sp_replay.specs.Laws.{RepliesAreOne}
+use Rattle.sp_replay.proofs.Rules.{pairs_named}
+
+-- ---- one theory, and one list of lines
+
+same_lines : {text : List ℕ} {t u : WrittenText} {found others : List (List ℕ)} → HasLines text t found → HasLines text u others → (t ≡ u) × (found ≡ others)
+same_lines {text} {t} {u} {found} {others} a b =
+    let theory = text_one a.poses.says b.poses.says in
+    let places = places_one (subst (λ (w : WrittenText). ArePlaces text w a.spans a.behind_end) theory a.places_are) b.places_are in
+    (theory, a.lines_are ∙ ap (lines_behind text) places.1 ∙ sym b.lines_are)
+
+-- and one list of steps
+same_steps : {found others : List (List ℕ)} {xs ys : List Step} → found ≡ others → AreSteps pair_symbols found xs → AreSteps pair_symbols others ys → xs ≡ ys
+same_steps {found} {others} {xs} {ys} e a b = steps_are_one.one pair_symbols pairs_named others xs ys (subst (λ (ls : List (List ℕ)). AreSteps pair_symbols ls xs) e a) b
+
+read_or_unread : {found others : List (List ℕ)} {xs : List Step} {n : ℕ} → found ≡ others → AreSteps pair_symbols found xs → IsFirstUnread pair_symbols others n → ⊥
+read_or_unread {found} {others} {xs} {n} e a b = steps_are_one.apart pair_symbols pairs_named others xs n (subst (λ (ls : List (List ℕ)). AreSteps pair_symbols ls xs) e a) b
+
+-- ---- traces
+
+newest_last : {A : Type 0} (xs : List A) (y : A) → newest_first (xs ++ y ∷ []) ≡ y ∷ newest_first xs
+newest_last [] y = refl
+newest_last (x ∷ xs) y = ap (λ zs. zs ++ x ∷ []) (newest_last xs y)
+
+newest_twice : {A : Type 0} (xs : List A) → newest_first (newest_first xs) ≡ xs
+newest_twice [] = refl
+newest_twice (x ∷ xs) = newest_last (newest_first xs) x ∙ ap (λ zs. x ∷ zs) (newest_twice xs)
+
+same_entries : (xs ys : List (List (Action ⊥))) → newest_first xs ≡ newest_first ys → xs ≡ ys
+same_entries xs ys e = sym (newest_twice xs) ∙ ap newest_first e ∙ newest_twice ys
+
+-- ---- truth is told in one way
+
+met_one : (signature : Signature) (trace : Trace) (l : Lemma) (b c : Bool) → IsMet signature trace b l → IsMet signature trace c l → b ≡ c
+met_one signature trace l true true h k = refl
+met_one signature trace l true false h k = absurd (k h)
+met_one signature trace l false true h k = absurd (h k)
+met_one signature trace l false false h k = refl
+
+mets_one : (signature : Signature) (trace : Trace) (ls : List Lemma) (bs cs : List Bool) → AreMet signature trace ls bs → AreMet signature trace ls cs → bs ≡ cs
+mets_one signature trace [] [] [] h k = refl
+mets_one signature trace [] [] (c ∷ cs) h k = absurd k
+mets_one signature trace [] (b ∷ bs) cs h k = absurd h
+mets_one signature trace (l ∷ ls) [] cs h k = absurd h
+mets_one signature trace (l ∷ ls) (b ∷ bs) [] h k = absurd k
+mets_one signature trace (l ∷ ls) (b ∷ bs) (c ∷ cs) h k = ap₂ (λ (d : Bool) (ds : List Bool). d ∷ ds) (met_one signature trace l b c h.0 k.0) (mets_one signature trace ls bs cs h.1 k.1)
+
+-- what is done of a theory's steps
+record Told (theory : WrittenText) (steps : List Step) (entries : List (List (Action ⊥))) (met : List Bool) : Type 0 where
+  replayed : IsReplayed (theory_said theory) (steps_done (theory_said theory) steps) (newest_first entries)
+  met_are : AreMet (signature_of (theory_said theory)) replayed.shown (theory_said theory).lemmas met
+
+told_one : {text : List ℕ} {theory : WrittenText} {steps : List Step} {entries others : List (List (Action ⊥))} {met meets : List Bool} → Poses text theory
+    → Told theory steps entries met → Told theory steps others meets → (entries ≡ others) × (met ≡ meets)
+told_one {theory = theory} {steps = steps} {entries = entries} {others = others} {met = met} {meets = meets} poses a b =
+    let said = theory_said theory in
+    let ran = steps_done (theory_said theory) steps in
+    let right = rules_right (theory_in theory).rules poses.fine.rule_names in
+    let traces = one_trace said ran (newest_first entries) (newest_first others) a.replayed b.replayed in
+    let shown = (runs_alike said pairs_convergent right (newest_first ran) a.replayed.executed.0 b.replayed.executed.0 a.replayed.shown b.replayed.shown a.replayed.executed.1 b.replayed.executed.1).1 in
+    let over = subst (λ (t : Trace). AreMet (signature_of said) t said.lemmas met) shown a.met_are in
+    (same_entries entries others traces, mets_one (signature_of said) b.replayed.shown said.lemmas met meets over b.met_are)
+
+told_there : {text written : List ℕ} (a : IsReplay text written) {theory : WrittenText} {steps : List Step} → a.theory ≡ theory → a.steps ≡ steps → Told theory steps a.entries a.met
+told_there a {theory} {steps} e d =
+    subst (λ (t : WrittenText). Told t steps a.entries a.met) e
+    (subst (λ (xs : List Step). Told a.theory xs a.entries a.met) d (record { replayed = a.replayed; met_are = a.met_are }))
+
+-- ---- answers
+
+one_replay : (text written other : List ℕ) → IsReplay text written → IsReplay text other → written ≡ other
+one_replay text written other a b =
+    let same = same_lines a.has_lines b.has_lines in
+    let steps : a.steps ≡ b.steps = same_steps same.1 a.read b.read in
+    let told = told_one b.has_lines.poses (told_there a same.0 steps) (told_there b refl refl) in
+    let lemmas : (theory_said a.theory).lemmas ≡ (theory_said b.theory).lemmas = ap (λ (t : WrittenText). (theory_said t).lemmas) same.0 in
+    a.written_is
+    ∙ ap₂ (λ (es : List (List (Action ⊥))) (bs : List Bool). trace_block es ++ met_lines (theory_said a.theory).lemmas bs) told.0 told.1
+    ∙ ap (λ (ls : List Lemma). trace_block b.entries ++ met_lines ls b.met) lemmas
+    ∙ sym b.written_is
+
+fault_there : {text : List ℕ} {n : ℕ} {cause : Cause} (a : IsStopped text n cause) {theory : WrittenText} {steps : List Step} → a.theory ≡ theory → a.steps ≡ steps
+    → IsFirstFault (theory_said theory) (steps_done (theory_said theory) steps) n cause
+fault_there {n = n} {cause = cause} a {theory} {steps} e d =
+    subst (λ (t : WrittenText). IsFirstFault (theory_said t) (steps_done (theory_said t) steps) n cause) e
+    (subst (λ (xs : List Step). IsFirstFault (theory_said a.theory) (steps_done (theory_said a.theory) xs) n cause) d a.fault)
+
+one_stop : (text : List ℕ) (n m : ℕ) (cause other : Cause) → IsStopped text n cause → IsStopped text m other → (n ≡ m) × (cause ≡ other)
+one_stop text n m cause other a b =
+    let same = same_lines a.has_lines b.has_lines in
+    let steps : a.steps ≡ b.steps = same_steps same.1 a.read b.read in
+    one_fault (theory_said b.theory) (steps_done (theory_said b.theory) b.steps) n m cause other (fault_there a same.0 steps) b.fault
+
+replay_or_stop : (text written : List ℕ) (n : ℕ) (cause : Cause) → IsReplay text written → IsStopped text n cause → ⊥
+replay_or_stop text written n cause a b =
+    let same = same_lines b.has_lines a.has_lines in
+    let steps : b.steps ≡ a.steps = same_steps same.1 b.read a.read in
+    no_execution (theory_said a.theory) (steps_done (theory_said a.theory) a.steps) n cause (fault_there b same.0 steps) a.replayed.shown a.replayed.executed
+
+one_unread_line : (text : List ℕ) (n m : ℕ) → IsUnread text n → IsUnread text m → n ≡ m
+one_unread_line text n m a b =
+    let same = same_lines a.has_lines b.has_lines in
+    steps_are_one.one_unread pair_symbols pairs_named b.found n m (subst (λ (ls : List (List ℕ)). IsFirstUnread pair_symbols ls n) same.1 a.unread) b.unread
+
+pub replies_are_one_lem : RepliesAreOne
+replies_are_one_lem = record {
+  one = one_replay;
+  one_stopped = one_stop;
+  one_unread = one_unread_line;
+  done_or_stopped = replay_or_stop;
+  done_or_unread = λ text written n a b. read_or_unread (same_lines a.has_lines b.has_lines).1 a.read b.unread;
+  stopped_or_unread = λ text n m cause a b. read_or_unread (same_lines a.has_lines b.has_lines).1 a.read b.unread;
+  refused_or_done = λ text written place h a. h.nothing.none a.theory a.has_lines.poses.says;
+  refused_or_stopped = λ text place n cause h a. h.nothing.none a.theory a.has_lines.poses.says;
+  refused_or_unread = λ text place n h a. h.nothing.none a.theory a.has_lines.poses.says;
+  reported_or_done = λ text lines written r a. not_posed r a.has_lines.poses;
+  reported_or_stopped = λ text lines n cause r a. not_posed r a.has_lines.poses;
+  reported_or_unread = λ text lines n r a. not_posed r a.has_lines.poses;
+}

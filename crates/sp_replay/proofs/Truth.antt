@@ -1,0 +1,105 @@
+-- What is decided over the normal form of a trace is true over the trace.
+use Rattle.std.proofs.Common.{◌≡◌, true, List, [], ◌∷◌, map, Some, refl}
+use Rattle.std.specs.Prelude.{◌↔◌, IsTrue}
+use Rattle.sp_spec.specs.Lists.{Every}
+use Rattle.sp_spec.specs.Term.{Term, var, constant, name, app, Terms, none, more}
+use Rattle.sp_spec.specs.Signature.{Signature, AreOver}
+use Rattle.sp_spec.specs.Rule.{Action}
+use Rattle.sp_spec.specs.Formula.{Written, Formula, truth, falsity, happens, equals, precedes, not_so, both, either, implies, for_all, for_some}
+use Rattle.sp_spec.specs.Theory.{Theory, signature_of}
+use Rattle.sp_spec.specs.Execution.{Step, Trace, IsExecution}
+use Rattle.sp_spec.specs.Truth.{IsTrueOver}
+use Rattle.sp_spec.specs.Guarded.{Guarded}
+use Rattle.sp_law_equal.specs.Convergent.{AreConvergent, KeepSymbols}
+use Rattle.sp_law_equal.specs.Normal.{normal_action}
+use Rattle.sp_law_equal.proofs.Forms.{to_normal_all, are_normal}
+use Rattle.sp_law_truth.specs.Same.{SameActions, EqualTraces}
+use Rattle.sp_law_truth.proofs.ActsAlike.{equal_assignment}
+use Rattle.sp_law_truth.proofs.AsTrue.{as_turned, as_through}
+use Rattle.sp_law_truth.proofs.EqualTraces.{equal_same}
+use Rattle.sp_law_guard.specs.GuardedForm.{guarded_form}
+use Rattle.sp_law_guard.specs.IsGuarded.{is_guarded}
+use Rattle.sp_law_guard.proofs.Kept.{form_kept}
+use Rattle.sp_law_run.specs.NormalStep.{normal_trace}
+use Rattle.sp_law_run.specs.Right.{RulesAreOver}
+use Rattle.sp_law_run.specs.Laws.{IsTraceOver}
+use Rattle.sp_law_run.proofs.Over.{execution_over, normal_trace_over}
+use Rattle.sp_law_decide.specs.Deciding.{assignment_of, decided, empty}
+use Rattle.sp_law_decide.specs.Normal.{IsNormalAction, IsNormalTrace, HasPlainTerms, HasAtomicTerms, CanDecide}
+use Rattle.sp_law_decide.specs.Normal as decide
+use Rattle.sp_law_decide.proofs.PlainForms.{form_plain, atomic_plain}
+use Rattle.sp_law_decide.proofs.Told.{told}
+use Rattle.sp_check.specs.PlainTheory.{IsAtomic, AreAtomic, IsPlainFormula}
+
+-- ---- no symbol stands in a plain formula
+
+term_atomic : (t : Term Written) → IsAtomic t → decide.IsAtomic t
+term_atomic (var x) h = tt
+term_atomic (constant c) h = tt
+term_atomic (name n) h = tt
+term_atomic (app f ts) h = h
+
+terms_atomic : (ts : Terms Written) → AreAtomic ts → decide.AreAtomic ts
+terms_atomic none h = tt
+terms_atomic (more t ts) h = (term_atomic t h.0, terms_atomic ts h.1)
+
+formula_atomic : (f : Formula) → IsPlainFormula f → HasAtomicTerms f
+formula_atomic truth h = tt
+formula_atomic falsity h = tt
+formula_atomic (happens a i) h = terms_atomic a.args h.0
+formula_atomic (equals t u) h = (term_atomic t h.0, term_atomic u h.1)
+formula_atomic (precedes i j) h = tt
+formula_atomic (not_so f) h = formula_atomic f h
+formula_atomic (both f g) h = (formula_atomic f h.0, formula_atomic g h.1)
+formula_atomic (either f g) h = (formula_atomic f h.0, formula_atomic g h.1)
+formula_atomic (implies f g) h = (formula_atomic f h.0, formula_atomic g h.1)
+formula_atomic (for_all x f) h = formula_atomic f h
+formula_atomic (for_some x f) h = formula_atomic f h
+
+pub formula_plain : (signature : Signature) (f : Formula) → IsPlainFormula f → HasPlainTerms signature f
+formula_plain signature f h = atomic_plain signature f (formula_atomic f h)
+
+-- ---- a trace and its normal form
+
+module _ (signature : Signature) where
+  actions_equal : (actions : List (Action ⊥)) → SameActions signature.equations actions (map (normal_action signature.equations) actions)
+  actions_equal [] = tt
+  actions_equal (a ∷ actions) = ((refl, to_normal_all signature.equations a.args), actions_equal actions)
+
+  trace_equal : (trace : Trace) → EqualTraces signature.equations trace (normal_trace signature.equations trace)
+  trace_equal [] = tt
+  trace_equal (entry ∷ trace) = (actions_equal entry, trace_equal trace)
+
+  -- the normal form is normal, and over the symbols if the trace is
+  module _ (good : AreConvergent signature.equations) where
+    actions_normal : (actions : List (Action ⊥)) → Every (λ (a : Action ⊥). AreOver signature.symbols a.args) (map (normal_action signature.equations) actions)
+        → Every (IsNormalAction signature) (map (normal_action signature.equations) actions)
+    actions_normal [] h = tt
+    actions_normal (a ∷ actions) h = ((are_normal signature.equations good a.args, h.0), actions_normal actions h.1)
+
+    trace_normal : (trace : Trace) → IsTraceOver signature.symbols (normal_trace signature.equations trace) → IsNormalTrace signature (normal_trace signature.equations trace)
+    trace_normal [] h = tt
+    trace_normal (entry ∷ trace) h = (actions_normal entry h.0, trace_normal trace h.1)
+
+-- ---- truth over the trace of an execution
+
+module _ (theory : Theory) (good : AreConvergent (signature_of theory).equations) (keeps : KeepSymbols (signature_of theory).symbols (signature_of theory).equations)
+    (rules : RulesAreOver (signature_of theory).symbols theory.rules) (steps : List Step) (shown : Trace) (run : IsExecution theory steps shown) where
+  can_decide : (f : Formula) (g : Guarded) → HasPlainTerms (signature_of theory) f → guarded_form [] f ≡ Some g → is_guarded g ≡ true → CanDecide (signature_of theory) (normal_trace (signature_of theory).equations shown) g
+  can_decide f g plain e guarded = record {
+    convergent = good;
+    keeps = keeps;
+    normal = trace_normal (signature_of theory) good shown
+        (normal_trace_over (signature_of theory).symbols (signature_of theory).equations keeps shown (execution_over theory rules steps shown run));
+    plain = form_plain (signature_of theory) f g plain e;
+    guarded = guarded;
+  }
+
+  -- a formula is true over the trace exactly where its guarded form is decided to be true over the normal form
+  pub true_where_decided : (f : Formula) (g : Guarded) → HasPlainTerms (signature_of theory) f → guarded_form [] f ≡ Some g → is_guarded g ≡ true
+      → IsTrue (decided (normal_trace (signature_of theory).equations shown) empty g) ↔ IsTrueOver (signature_of theory) shown f
+  true_where_decided f g plain e guarded =
+      let t = normal_trace (signature_of theory).equations shown in
+      let same = equal_same (signature_of theory) shown t (trace_equal (signature_of theory) shown) (assignment_of empty) (assignment_of empty) (equal_assignment (signature_of theory).equations (assignment_of empty)) g in
+      as_through ((told t g).form (signature_of theory) (can_decide f g plain e guarded) f e (assignment_of empty))
+      (as_turned (as_through (form_kept (signature_of theory) shown f g e (assignment_of empty)) same))

@@ -1,0 +1,4 @@
+pub mod Replay
+pub mod View
+pub mod Held
+pub mod Laws

@@ -1,0 +1,97 @@
+-- What is written of a text whose lines behind its word `end` are replayed as steps. Source: CSF 2012, "Labeled multiset rewriting"
+-- (executions) and "Security properties" (truth over their traces); the words are this project's own.
+use Rattle.std.specs.Prelude.{◌≡◌, ℕ, Bool, true, false, ◌==◌, if◌then◌else◌, List, [], ◌∷◌, ◌++◌, drop, map, codes}
+use Rattle.sp_spec.specs.Rule.{Action}
+use Rattle.sp_spec.specs.Signature.{Signature}
+use Rattle.sp_spec.specs.Theory.{Theory, Lemma, signature_of}
+use Rattle.sp_spec.specs.Written.{theory_of}
+use Rattle.sp_spec.specs.Execution.{Step, Trace, Cause}
+use Rattle.sp_spec.specs.Truth.{IsTrueOver}
+use Rattle.sp_law_run.specs.NormalStep.{normal_step}
+use Rattle.sp_ground.specs.View.{newest_first}
+use Rattle.sp_ground.specs.Text.{trace_block}
+use Rattle.sp_steps.specs.Lines.{lines, AreSteps, IsFirstUnread}
+use Rattle.sp_exec.specs.Replay.{IsReplayed, IsFirstFault}
+use Rattle.sp_written.specs.Text.{WrittenText, theory_in}
+use Rattle.sp_written.specs.declared.theory.Span.{Span}
+use Rattle.sp_read_theory.specs.Text.{ArePlaces}
+use Rattle.sp_pose.specs.Problem.{Poses}
+use Rattle.sp_pose.specs.Kind.{kind_text}
+
+-- the theory that the text says
+abbrev pub theory_said : WrittenText → Theory
+theory_said t = theory_of (theory_in t)
+
+-- what stands behind the first line
+abbrev pub behind_line : List ℕ → List ℕ
+behind_line [] = []
+behind_line (b ∷ bytes) = if b == 10 then bytes else behind_line bytes
+
+-- the lines behind that of the word `end`
+abbrev pub lines_behind : List ℕ → ℕ → List (List ℕ)
+lines_behind text end = lines (behind_line (drop end text))
+
+-- the text says the theory, without fatal findings, and these lines stand behind it
+pub record HasLines (text : List ℕ) (theory : WrittenText) (found : List (List ℕ)) : Type 0 where
+  pub poses : Poses text theory
+  pub spans : List Span
+  pub behind_end : ℕ
+  pub places_are : ArePlaces text theory spans behind_end
+  pub lines_are : found ≡ lines_behind text behind_end
+
+-- replayed are the steps with each of their terms in normal form
+abbrev pub steps_done : Theory → List Step → List Step
+steps_done theory steps = map (normal_step (signature_of theory).equations) steps
+
+-- the line of this number, counted from 1 behind that of `end`, is the first that is neither blank nor a step's
+pub record IsUnread (text : List ℕ) (number : ℕ) : Type 0 where
+  pub theory : WrittenText
+  pub found : List (List ℕ)
+  pub has_lines : HasLines text theory found
+  pub unread : IsFirstUnread (signature_of (theory_said theory)).symbols found number
+
+-- the lines are those of steps, and the step of this number is the first that can't be done, for this cause
+pub record IsStopped (text : List ℕ) (number : ℕ) (cause : Cause) : Type 0 where
+  pub theory : WrittenText
+  pub found : List (List ℕ)
+  pub has_lines : HasLines text theory found
+  pub steps : List Step
+  pub read : AreSteps (signature_of (theory_said theory)).symbols found steps
+  pub fault : IsFirstFault (theory_said theory) (steps_done (theory_said theory) steps) number cause
+
+-- whether a lemma's formula is true over the trace
+abbrev pub IsMet : Signature → Trace → Bool → Lemma → Type 0
+IsMet signature trace true lemma = IsTrueOver signature trace lemma.formula
+IsMet signature trace false lemma = IsTrueOver signature trace lemma.formula → ⊥
+
+-- for each lemma, in the order of the text
+abbrev pub AreMet : Signature → Trace → List Lemma → List Bool → Type 0
+AreMet signature trace [] [] = Unit {0}
+AreMet signature trace [] (b ∷ bs) = ⊥
+AreMet signature trace (l ∷ ls) [] = ⊥
+AreMet signature trace (l ∷ ls) (b ∷ bs) = IsMet signature trace b l × AreMet signature trace ls bs
+
+abbrev pub met_text : Bool → List ℕ
+met_text true = codes "met\n"
+met_text false = codes "broken\n"
+
+abbrev pub met_line : Lemma → Bool → List ℕ
+met_line l b = l.name ++ (codes " (" ++ (kind_text l.kind ++ (codes "): " ++ met_text b)))
+
+abbrev pub met_lines : List Lemma → List Bool → List ℕ
+met_lines (l ∷ ls) (b ∷ bs) = met_line l b ++ met_lines ls bs
+met_lines ls bs = []
+
+-- The lines are those of steps, which are an execution; its trace in normal form is written, the oldest entry first, and for each lemma
+-- whether the formula is true over the trace.
+pub record IsReplay (text written : List ℕ) : Type 0 where
+  pub theory : WrittenText
+  pub found : List (List ℕ)
+  pub has_lines : HasLines text theory found
+  pub steps : List Step
+  pub read : AreSteps (signature_of (theory_said theory)).symbols found steps
+  pub entries : List (List (Action ⊥))
+  pub replayed : IsReplayed (theory_said theory) (steps_done (theory_said theory) steps) (newest_first entries)
+  pub met : List Bool
+  pub met_are : AreMet (signature_of (theory_said theory)) replayed.shown (theory_said theory).lemmas met
+  pub written_is : written ≡ trace_block entries ++ met_lines (theory_said theory).lemmas met

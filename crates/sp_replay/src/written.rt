@@ -1,0 +1,54 @@
+// The trace, and what is true over it.
+
+ghost use Rattle.std.specs.Prelude.{◌≡◌, ◌++◌, IfOk, OnOk, map};
+ghost use Rattle.sp_ground.specs.View.{entries_of, trace_of};
+ghost use Rattle.sp_ground.specs.Text.{trace_block};
+ghost use Rattle.sp_pose.specs.Asked.{asked_of};
+ghost use Rattle.sp_replay.specs.Held.{held_line, held_lines};
+ghost use Rattle.sp_replay.specs.Replay as spec;
+
+use sp_eval::truth::holds;
+use sp_ground::fact::Trace;
+use sp_pose::{GuardedLemma, kind_text};
+use sp_show::trace::trace_block;
+use std::alloc::{AllocError, Global};
+
+/// The words for a lemma that is true, or isn't.
+fn met_text(met: bool) -> &'static [u8]
+    ensures { result.now ≡ spec.met_text met }
+{
+    if met { b"met\n" } else { b"broken\n" }
+}
+
+/// Puts the line of a lemma at the end.
+fn write_lemma(
+    alloc: Global,
+    out: &mut Vec<u8>,
+    lemma: &GuardedLemma,
+    trace: &Trace,
+) -> Result<(), AllocError>
+    ensures { OnOk result (out.new.items ≡ out.old.items ++ held_line (trace_of trace.now) (asked_of lemma.now)) }
+{
+    let met = holds(alloc, &lemma.form, trace)?;
+    out.extend_from_slice(lemma.name.as_bytes())?;
+    out.extend_from_slice(b" (")?;
+    out.extend_from_slice(kind_text(lemma.kind).as_bytes())?;
+    out.extend_from_slice(b"): ")?;
+    out.extend_from_slice(met_text(met))
+}
+
+/// The block of the trace, and a line for each lemma.
+pub fn written_by(
+    alloc: Global,
+    lemmas: &Vec<GuardedLemma>,
+    trace: &Trace,
+) -> Result<Vec<u8>, AllocError>
+    ensures { IfOk result (λ text. text.items ≡ trace_block (entries_of trace.now) ++ held_lines (trace_of trace.now) (map asked_of lemmas.now.items)) }
+{
+    let block = trace_block(alloc, trace)?;
+    let mut out = Vec::from_slice(alloc, block.as_bytes())?;
+    for lemma in lemmas {
+        write_lemma(alloc, &mut out, lemma, trace)?;
+    }
+    Ok(out)
+}

@@ -1,0 +1,18 @@
+-- Trees whose moves a text can name: the places of their actions are those of lists in memory.
+use Rattle.std.specs.Prelude.{◌^◌, ◌<◌}
+use Rattle.sp_step.specs.Moves.{Move, simplify, contradiction, unproved, action}
+use Rattle.sp_check.specs.Tree.{Tree, node, Branches, no_branch, branch}
+
+abbrev pub HasPlace : Move → Type 0
+HasPlace simplify = Unit {0}
+HasPlace contradiction = Unit {0}
+HasPlace unproved = Unit {0}
+HasPlace (action k) = k < 2 ^ 64
+
+abbrev mutual
+  pub HavePlaces : Tree → Type 0
+  HavePlaces (node move branches) = HasPlace move × AllHavePlaces branches
+
+  pub AllHavePlaces : Branches → Type 0
+  AllHavePlaces no_branch = Unit {0}
+  AllHavePlaces (branch name tree branches) = HavePlaces tree × AllHavePlaces branches
