@@ -19,7 +19,7 @@ every_from P [] h = tt
 every_from P (x ∷ xs) h = (h x (inl refl), every_from P xs (λ y m. h y (inr m)))
 
 -- a variable of the bindings is found there with its value
-value_there : (w : Values) (bs : List Bound) → AgreeWith w bs → (b : Bound) → Member b bs → lookup bs b.0 ≡ Some (w b.0)
+pub value_there : (w : Values) (bs : List Bound) → AgreeWith w bs → (b : Bound) → Member b bs → lookup bs b.0 ≡ Some (w b.0)
 value_there w [] a b m = absurd m
 value_there w (c ∷ bs) a b m = by_test (same_variable c.0 b.0) refl (λ k. value_there w bs a.1 b k) m
   where

@@ -47,8 +47,10 @@ fn extend(pattern: &Term, term: &GroundTerm, found: &mut Values) -> Result<bool,
     }
 }
 
+/// Adds the bindings that the patterns want beside the terms, one beside each, to those that are there; what was added stays
+/// where the answer is no.
 #[cycle(matching)]
-fn extend_all(
+pub fn extend_all(
     patterns: &Vec<Term>,
     terms: &Vec<GroundTerm>,
     found: &mut Values,
