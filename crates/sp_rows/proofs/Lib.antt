@@ -9,5 +9,4 @@ pub mod Spends
 pub mod Searches
 pub mod Turns
 pub mod Openings
-pub mod Paths
 pub mod Sheltered

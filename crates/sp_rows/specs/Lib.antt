@@ -2,6 +2,5 @@ pub mod RowsView
 pub mod TwinsView
 pub mod SimplifyView
 pub mod OpeningView
-pub mod OrderView
 pub mod InsideView
 pub mod EquationView

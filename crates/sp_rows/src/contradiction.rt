@@ -5,8 +5,8 @@ ghost use Rattle.sp_formula.specs.FormulaView.{formula_of};
 ghost use Rattle.sp_system.specs.SystemView.{pair_of};
 ghost use Rattle.sp_step.specs.Rows as rows;
 
-use crate::before::is_before;
 use sp_formula::formula::{Atom, Formula, Moment};
+use sp_system::order::is_before;
 use sp_term::term::{Term, same};
 use std::alloc::{AllocError, Global};
 

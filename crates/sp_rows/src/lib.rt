@@ -5,7 +5,6 @@
 // That the rows lose no solution is said of the definitions, in sp_step.
 #![tactic(auto)]
 
-pub mod before;
 pub mod conjunction;
 pub mod contradiction;
 pub mod equation;

@@ -3,12 +3,13 @@
 ghost use Rattle.std.specs.Prelude.{◌≡◌, ◌||◌, ◌==◌, IfOk, option_map};
 ghost use Rattle.sp_formula.specs.FormulaView.{formula_of};
 ghost use Rattle.sp_system.specs.SystemView.{system_of};
+ghost use Rattle.sp_system.specs.Order as spec;
 ghost use Rattle.sp_step.specs.Rows as rows;
 ghost use Rattle.sp_rows.specs.RowsView.{ordering};
 
-use crate::before::is_before;
 use crate::spend::spend;
 use sp_formula::formula::{Atom, Formula, Moment};
+use sp_system::order::is_before;
 use sp_system::system::System;
 use std::alloc::{AllocError, Global};
 
@@ -19,7 +20,7 @@ fn are_apart(
     first: u128,
     second: u128,
 ) -> Result<bool, AllocError>
-    ensures { IfOk result (λ b. b ≡ (rows.is_before order.now.items first second || rows.is_before order.now.items second first)) }
+    ensures { IfOk result (λ b. b ≡ (spec.is_before order.now.items first second || spec.is_before order.now.items second first)) }
 {
     if is_before(alloc, order, first, second)? {
         return Ok(true);
@@ -34,7 +35,7 @@ fn is_not_before(
     first: u128,
     second: u128,
 ) -> Result<bool, AllocError>
-    ensures { IfOk result (λ b. b ≡ ((first == second) || rows.is_before order.now.items second first)) }
+    ensures { IfOk result (λ b. b ≡ ((first == second) || spec.is_before order.now.items second first)) }
 {
     if first == second {
         return Ok(true);

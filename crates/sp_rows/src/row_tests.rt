@@ -1,4 +1,3 @@
-use crate::before::{is_before, is_cyclic};
 use crate::conjunction::split;
 use crate::contradiction::{has_falsity, has_refuted, is_falsity};
 use crate::equation::{equate, fails_to_equate};
@@ -99,25 +98,6 @@ fn splits(rt: HostRuntime) -> Result<(), Fail> {
     assert!(rt; has_falsity(&made.formulas));
     assert_eq!(rt; sizes(split(alloc, &made))?, Some((0, 1, 2, 0)));
     assert!(rt; is_falsity(&Formula::Falsity));
-    Ok(())
-}
-
-#[test]
-fn follows_paths(rt: HostRuntime) -> Result<(), Fail> {
-    let alloc = rt.alloc();
-    let mut order = Vec::new(alloc);
-    order.push((2, 3))?;
-    order.push((1, 2))?;
-    order.push((3, 5))?;
-    let far = is_before(alloc, &order, 1, 5)?;
-    assert!(rt; far);
-    let back = is_before(alloc, &order, 3, 1)?;
-    assert!(rt; !back);
-    let cyclic = is_cyclic(alloc, &order)?;
-    assert!(rt; !cyclic);
-    order.push((5, 2))?;
-    let cyclic = is_cyclic(alloc, &order)?;
-    assert!(rt; cyclic);
     Ok(())
 }
 

@@ -5,7 +5,6 @@ ghost use Rattle.sp_system.specs.SystemView.{system_of};
 ghost use Rattle.sp_step.specs.Rows as rows;
 ghost use Rattle.sp_rows.specs.SimplifyView as spec;
 
-use crate::before::is_cyclic;
 use crate::conjunction::split;
 use crate::contradiction::{has_equal_pair, has_falsity, has_refuted};
 use crate::equation::{equate, fails_to_equate};
@@ -14,6 +13,7 @@ use crate::inequality::unequal;
 use crate::order::in_order;
 use crate::stands::action_stands;
 use crate::twins::{fails_to_merge, fresh_once};
+use sp_system::order::is_cyclic;
 use sp_system::system::System;
 use std::alloc::{AllocError, Global};
 

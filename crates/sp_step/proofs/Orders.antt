@@ -9,7 +9,8 @@ use Rattle.sp_spec.specs.Log.{Log}
 use Rattle.sp_spec.proofs.Lists.{every_append}
 use Rattle.sp_system.specs.System.{System, Valuation, FormulaHolds, IsBefore, Solves, InFormula, IsNumbered, Covers}
 use Rattle.sp_system.proofs.Solutions.{Under, TimeUnder}
-use Rattle.sp_step.specs.Rows.{first_formula, some_pair, path_within, is_before, nothing_if, order_of, ordered_at, in_order, is_refuted, has_refuted, begins_cycle, is_cyclic}
+use Rattle.sp_system.specs.Order.{some_pair, path_within, is_before, begins_cycle, is_cyclic}
+use Rattle.sp_step.specs.Rows.{first_formula, nothing_if, order_of, ordered_at, in_order, is_refuted, has_refuted}
 use Rattle.sp_step.proofs.Freed.{mapped}
 use Rattle.sp_step.proofs.Literals.{covers_by_itself}
 use Rattle.sp_step.proofs.Spending.{is_found, found_holds, spending_solves, spending_numbered}

@@ -5,9 +5,10 @@ use Rattle.sp_spec.specs.Theory.{Theory, signature_of}
 use Rattle.sp_spec.specs.Log.{Log}
 use Rattle.sp_law_equal.specs.Convergent.{AreConvergent, KeepSymbols}
 use Rattle.sp_system.specs.System.{System, Valuation, IsNumbered, Agrees, NoneSolved, Covers}
+use Rattle.sp_system.specs.Order.{is_cyclic}
 use Rattle.sp_system.specs.Laws.{UnifierIsRight}
 use Rattle.sp_system.proofs.Solutions.{agrees_then}
-use Rattle.sp_step.specs.Rows.{Row, row_split, row_open, row_equate, row_unequal, row_order, row_action_stands, row_fresh_once, rows, by_row, first_of, by_rows, has_falsity, has_equal_pair, has_refuted, is_cyclic, fails_to_equate, fails_to_merge, is_contradictory, goes_on, simplified_by}
+use Rattle.sp_step.specs.Rows.{Row, row_split, row_open, row_equate, row_unequal, row_order, row_action_stands, row_fresh_once, rows, by_row, first_of, by_rows, has_falsity, has_equal_pair, has_refuted, fails_to_equate, fails_to_merge, is_contradictory, goes_on, simplified_by}
 use Rattle.sp_step.specs.Laws.{HasNoSolution, ContradictionsHold, RowsCover}
 use Rattle.sp_step.proofs.Literals.{covers_by_itself, action_stands_covers, action_stands_numbered, unequal_covers, unequal_numbered, equal_pair_contradicts}
 use Rattle.sp_step.proofs.Splitting.{split_covers, split_numbered, some_falsity_contradicts}

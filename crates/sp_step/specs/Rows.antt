@@ -11,6 +11,7 @@ use Rattle.sp_spec.specs.Substitution.{Binding, bound_to}
 use Rattle.sp_spec.specs.Unifier.{Pair, mgu}
 use Rattle.sp_formula.specs.Change.{atom_changed, changed, opening}
 use Rattle.sp_system.specs.System.{Happening, rule_step, Event, System}
+use Rattle.sp_system.specs.Order.{is_before, is_cyclic}
 use Rattle.sp_system.specs.Equating.{time_replaced, system_changed, merging_pairs, unifier_of, smaller, larger, merged_system}
 
 -- a term of a formula that binds none of its variables is a term of the system
@@ -104,19 +105,7 @@ unequal_at s r =
 abbrev pub unequal : System → Option System
 unequal s = option_map (unequal_at s) (first_formula inequality_of s.formulas)
 
--- Order: of two times the one is before the other. From a time leads a path of order pairs to another: some pair begins at the one,
--- and ends at the other or at a time from which a shorter path leads there.
-abbrev pub some_pair : List (ℕ × ℕ) → ℕ → (ℕ → Bool) → Bool
-some_pair [] i leads = false
-some_pair (p ∷ pairs) i leads = (p.0 == i) && leads p.1 || some_pair pairs i leads
-
-abbrev pub path_within : ℕ → List (ℕ × ℕ) → ℕ → ℕ → Bool
-path_within zero order i j = false
-path_within (suc n) order i j = some_pair order i (λ k. (k == j) || path_within n order k j)
-
-abbrev pub is_before : List (ℕ × ℕ) → ℕ → ℕ → Bool
-is_before order i j = path_within (length order) order i j
-
+-- Order: of two times the one is before the other.
 -- a literal that the order pairs make true adds none
 abbrev pub nothing_if : Bool → Option (List (ℕ × ℕ))
 nothing_if b = if b then Some [] else None
@@ -279,7 +268,7 @@ abbrev pub by_rows : List Row → System → Option System
 by_rows [] s = None
 by_rows (row ∷ more_rows) s = first_of (by_row row s) (by_rows more_rows s)
 
--- Contradictions. Equal unequal pair: the two terms are the same.
+-- Contradictions (among them a cyclic order). Equal unequal pair: the two terms are the same.
 abbrev pub has_equal_pair : List Pair → Bool
 has_equal_pair [] = false
 has_equal_pair (p ∷ pairs) = alike p.0 p.1 || has_equal_pair pairs
@@ -302,14 +291,6 @@ is_refuted order f = false
 abbrev pub has_refuted : List (ℕ × ℕ) → List Guarded → Bool
 has_refuted order [] = false
 has_refuted order (f ∷ fs) = is_refuted order f || has_refuted order fs
-
--- Cyclic order: a time at which one of the pairs begins is before itself.
-abbrev pub begins_cycle : List (ℕ × ℕ) → List (ℕ × ℕ) → Bool
-begins_cycle order [] = false
-begins_cycle order (p ∷ pairs) = is_before order p.0 p.0 || begins_cycle order pairs
-
-abbrev pub is_cyclic : List (ℕ × ℕ) → Bool
-is_cyclic order = begins_cycle order order
 
 -- Failing unification: two terms, or the events at two times, can't be one as some formula says.
 abbrev pub equation_fails : System → Option Equation → Bool

@@ -9,3 +9,4 @@ pub mod Bindings
 pub mod Unifying
 pub mod Unifier
 pub mod Pairs
+pub mod Paths

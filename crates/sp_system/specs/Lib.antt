@@ -3,3 +3,5 @@ pub mod Equating
 pub mod Laws
 pub mod SystemView
 pub mod Pairs
+pub mod Order
+pub mod OrderView

@@ -1,3 +1,4 @@
+use crate::order::{is_before, is_cyclic};
 use crate::pairing::merging_pairs;
 use crate::system::{Event, System};
 use sp_fact::fact::{Action, Fact, Facts};
@@ -168,5 +169,24 @@ fn pairs(rt: HostRuntime) -> Result<(), Fail> {
     other.rule = name(alloc, "S")?;
     let is_none = merging_pairs(alloc, &left, &other)?.is_none();
     assert!(rt; is_none);
+    Ok(())
+}
+
+#[test]
+fn follows_paths(rt: HostRuntime) -> Result<(), Fail> {
+    let alloc = rt.alloc();
+    let mut order = Vec::new(alloc);
+    order.push((2, 3))?;
+    order.push((1, 2))?;
+    order.push((3, 5))?;
+    let far = is_before(alloc, &order, 1, 5)?;
+    assert!(rt; far);
+    let back = is_before(alloc, &order, 3, 1)?;
+    assert!(rt; !back);
+    let cyclic = is_cyclic(alloc, &order)?;
+    assert!(rt; !cyclic);
+    order.push((5, 2))?;
+    let cyclic = is_cyclic(alloc, &order)?;
+    assert!(rt; cyclic);
     Ok(())
 }

@@ -1,7 +1,7 @@
 -- A time is found in so many rounds where a path of so many pairs begins at it.
 use Rattle.std.proofs.Common.{◌≡◌, ℕ, zero, suc, List, [], ◌∷◌, ◌==◌, ◌||◌, ◌&&◌, Bool, true, false, refl, ap, ap₂, ◌∙◌}
-use Rattle.sp_step.specs.Rows.{some_pair, path_within}
-use Rattle.sp_rows.specs.OrderView.{among, put_if, leads, next_round, rounds}
+use Rattle.sp_system.specs.Order.{some_pair, path_within}
+use Rattle.sp_system.specs.OrderView.{among, put_if, leads, next_round, rounds}
 
 -- turned round: a last round after the others
 abbrev reaching : ℕ → List (ℕ × ℕ) → ℕ → List ℕ → List ℕ

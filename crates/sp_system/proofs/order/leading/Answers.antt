@@ -1,8 +1,8 @@
 use Rattle.std.proofs.Common.{◌≡◌, ◌-◌, ◌+◌, length, sym, ap, ◌∙◌, arith}
 use Rattle.std.specs.Cmp.Lexicographic.{same_text}
-use Rattle.sp_rows.specs.OrderView.{rounds}
-use Rattle.sp_rows.proofs.Paths.{nothing_new, one_round}
-use Rattle.sp_rows.proofs.before.leading.Goals as goal
+use Rattle.sp_system.specs.OrderView.{rounds}
+use Rattle.sp_system.proofs.Paths.{nothing_new, one_round}
+use Rattle.sp_system.proofs.order.leading.Goals as goal
 
 pub returns-then-eq : goal.returns-then-eq
 returns-then-eq c =

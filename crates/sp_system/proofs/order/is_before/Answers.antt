@@ -1,7 +1,7 @@
 use Rattle.std.proofs.Common.{length, ap, ◌∙◌}
-use Rattle.sp_rows.specs.OrderView.{among}
-use Rattle.sp_rows.proofs.Paths.{rounds-found}
-use Rattle.sp_rows.proofs.before.is_before.Goals as goal
+use Rattle.sp_system.specs.OrderView.{among}
+use Rattle.sp_system.proofs.Paths.{rounds-found}
+use Rattle.sp_system.proofs.order.is_before.Goals as goal
 
 pub returns : goal.returns
 returns c =

@@ -1,8 +1,8 @@
 // Whether a path of order pairs leads from one time to another.
 
 ghost use Rattle.std.specs.Prelude.{◌≡◌, [], IfOk, length};
-ghost use Rattle.sp_step.specs.Rows as rows;
-ghost use Rattle.sp_rows.specs.OrderView as view;
+ghost use Rattle.sp_system.specs.Order as spec;
+ghost use Rattle.sp_system.specs.OrderView as view;
 
 use std::alloc::{AllocError, Global};
 
@@ -67,7 +67,7 @@ pub fn is_before(
     first: u128,
     second: u128,
 ) -> Result<bool, AllocError>
-    ensures { IfOk result (λ b. b ≡ rows.is_before order.now.items first second) }
+    ensures { IfOk result (λ b. b ≡ spec.is_before order.now.items first second) }
 {
     let known = leading(alloc, order, second)?;
     Ok(is_among(first, &known))
@@ -79,7 +79,7 @@ pub fn is_before(
 ///
 /// `AllocError` where memory is wanting.
 pub fn is_cyclic(alloc: Global, order: &Vec<(u128, u128)>) -> Result<bool, AllocError>
-    ensures { IfOk result (λ b. b ≡ rows.is_cyclic order.now.items) }
+    ensures { IfOk result (λ b. b ≡ spec.is_cyclic order.now.items) }
 {
     for pair in order {
         if is_before(alloc, order, pair.0, pair.0)? {
