@@ -1,0 +1,164 @@
+-- Where matching finds bindings beside an instance, all values that agree with them make the pattern that instance.
+use Rattle.std.proofs.Common.{◌≡◌, ℕ, Bool, true, false, cond, List, [], ◌∷◌, ◌++◌, map, Option, Some, None, option_and_then, refl, sym, ap, ap₂, ◌∙◌, subst}
+use Rattle.std.specs.Str.{bytes_eq}
+use Rattle.std.proofs.lemmas.Bool.{and_parts, eqb-true}
+use Rattle.std.proofs.lemmas.Slice.Eq.{bytes_eq-Decides}
+use Rattle.sp_spec.specs.Term.{Variable, Term, var, constant, name, app, Terms, none, more, Ground, Grounds, Values, valued, valued_all}
+use Rattle.sp_spec.specs.Same.{same_variable, same_term}
+use Rattle.sp_spec.specs.Rule.{Fact, Action, Facts, fact_at, action_at, facts_at}
+use Rattle.sp_law_equal.specs.Matching.{Bound, lookup, has_sort, by_bound, matched, matched_all}
+use Rattle.sp_law_equal.proofs.Tests.{same_variable_decides, same_term_decides}
+use Rattle.sp_law_equal.proofs.Matches.{Agrees}
+use Rattle.sp_law_run.specs.Taken.{same_choice}
+use Rattle.sp_law_found.specs.Found.{matched_facts, matched_actions, matched_instance}
+use Rattle.sp_log.specs.Checking.{alike_facts, alike_actions, are_alike}
+
+-- values that agree with what is found fit, and agree with what was there
+abbrev Giving : (Values → Type 0) → List Bound → Option (List Bound) → Type 0
+Giving Fits bs None = Unit {0}
+Giving Fits bs (Some cs) = (v : Values) → Agrees v cs → Fits v × Agrees v bs
+
+-- a test, which leaves the bindings
+tested : (Fits : Values → Type 0) (bs : List Bound) (b : Bool) → (b ≡ true → (v : Values) → Agrees v bs → Fits v) → Giving Fits bs (cond b (Some bs) None)
+tested Fits bs true good = λ v a. (good refl v a, a)
+tested Fits bs false good = tt
+
+module _ (x : Variable) (t : Ground) where
+  old_stays : (bs : List Bound) (y : Variable) (u : Ground) → lookup bs y ≡ Some u → lookup (bs ++ (x, t) ∷ []) y ≡ Some u
+  old_stays [] y u e = absurd cc
+  old_stays (b ∷ bs) y u e = by_test (same_variable b.0 y) e (old_stays bs y u)
+    where
+      by_test : (c : Bool) → cond c (Some b.1) (lookup bs y) ≡ Some u → (lookup bs y ≡ Some u → lookup (bs ++ (x, t) ∷ []) y ≡ Some u)
+          → cond c (Some b.1) (lookup (bs ++ (x, t) ∷ []) y) ≡ Some u
+      by_test true e' next = e'
+      by_test false e' next = next e'
+
+  new_there : (bs : List Bound) → lookup bs x ≡ None → lookup (bs ++ (x, t) ∷ []) x ≡ Some t
+  new_there [] e = ap (λ c. cond c (Some t) None) ((same_variable_decides x x).1 refl)
+  new_there (b ∷ bs) e = by_test (same_variable b.0 x) e (new_there bs)
+    where
+      by_test : (c : Bool) → cond c (Some b.1) (lookup bs x) ≡ None → (lookup bs x ≡ None → lookup (bs ++ (x, t) ∷ []) x ≡ Some t)
+          → cond c (Some b.1) (lookup (bs ++ (x, t) ∷ []) x) ≡ Some t
+      by_test true e' next = absurd cc
+      by_test false e' next = next e'
+
+bound_gives : (o : Option Ground) (x : Variable) (t : Ground) (bs : List Bound) → lookup bs x ≡ o → Giving (λ v. v x ≡ t) bs (by_bound o x t bs)
+bound_gives (Some u) x t bs e = tested (λ v. v x ≡ t) bs (same_term u t) (λ s v a. a x u e ∙ (same_term_decides u t).0 s)
+bound_gives None x t bs e = by_test (has_sort x.sort t)
+  where
+    by_test : (c : Bool) → Giving (λ v. v x ≡ t) bs (cond c (Some (bs ++ (x, t) ∷ [])) None)
+    by_test true = λ v a. (a x t (new_there x t bs e), λ y u l. a y u (old_stays x t bs y u l))
+    by_test false = tt
+
+-- one part, then the others
+module _ (First Others Both : Values → Type 0) (join : (v : Values) → First v → Others v → Both v) where
+  in_turn : (bs : List Bound) (o : Option (List Bound)) (next : List Bound → Option (List Bound)) → Giving First bs o
+      → ((cs : List Bound) → Giving Others cs (next cs)) → Giving Both bs (option_and_then next o)
+  in_turn bs None next h k = tt
+  in_turn bs (Some cs) next h k = by_last (next cs) (k cs)
+    where
+      by_last : (p : Option (List Bound)) → Giving Others cs p → Giving Both bs p
+      by_last None m = tt
+      by_last (Some ds) m = λ v a. let b = m v a in let c = h v b.1 in (join v c.0 b.0, c.1)
+
+renamed : (Fits Fits' : Values → Type 0) (bs : List Bound) (o : Option (List Bound)) → ((v : Values) → Fits v → Fits' v) → Giving Fits bs o → Giving Fits' bs o
+renamed Fits Fits' bs None to h = tt
+renamed Fits Fits' bs (Some cs) to h = λ v a. let b = h v a in (to v b.0, b.1)
+
+mutual
+  matched_gives : (p : Term Variable) (t : Ground) (bs : List Bound) → Giving (λ v. valued v p ≡ t) bs (matched p t bs)
+  matched_gives (var x) t bs = bound_gives (lookup bs x) x t bs refl
+  matched_gives (constant c) (constant d) bs = tested (λ v. constant c ≡ constant d) bs (bytes_eq c d) (λ e v a. ap constant ((bytes_eq-Decides c d).0 e))
+  matched_gives (name m) (name n) bs = tested (λ v. name m ≡ name n) bs _ (λ e v a. ap name (eqb-true m n e))
+  matched_gives (app f ps) (app g ts) bs = by_test (bytes_eq f g) refl (matched_all_give ps ts bs)
+    where
+      by_test : (c : Bool) → bytes_eq f g ≡ c → Giving (λ v. valued_all v ps ≡ ts) bs (matched_all ps ts bs)
+          → Giving (λ v. app f (valued_all v ps) ≡ app g ts) bs (cond c (matched_all ps ts bs) None)
+      by_test true e h =
+          renamed (λ v. valued_all v ps ≡ ts) (λ v. app f (valued_all v ps) ≡ app g ts) bs (matched_all ps ts bs)
+          (λ v k. ap₂ app ((bytes_eq-Decides f g).0 e) k) h
+      by_test false e h = tt
+  matched_gives (constant c) (var y) bs = absurd y
+  matched_gives (constant c) (name n) bs = tt
+  matched_gives (constant c) (app g ts) bs = tt
+  matched_gives (name m) (var y) bs = absurd y
+  matched_gives (name m) (constant d) bs = tt
+  matched_gives (name m) (app g ts) bs = tt
+  matched_gives (app f ps) (var y) bs = absurd y
+  matched_gives (app f ps) (constant d) bs = tt
+  matched_gives (app f ps) (name n) bs = tt
+
+  matched_all_give : (ps : Terms Variable) (ts : Grounds) (bs : List Bound) → Giving (λ v. valued_all v ps ≡ ts) bs (matched_all ps ts bs)
+  matched_all_give none none bs = λ v a. (refl, a)
+  matched_all_give none (more t ts) bs = tt
+  matched_all_give (more p ps) none bs = tt
+  matched_all_give (more p ps) (more t ts) bs =
+      in_turn (λ v. valued v p ≡ t) (λ v. valued_all v ps ≡ ts) (λ v. more (valued v p) (valued_all v ps) ≡ more t ts)
+      (λ v a b. ap₂ more a b) bs (matched p t bs) (λ cs. matched_all ps ts cs) (matched_gives p t bs) (λ cs. matched_all_give ps ts cs)
+
+same_choice_tells : (b c : Bool) → same_choice b c ≡ true → b ≡ c
+same_choice_tells true c e = sym e
+same_choice_tells false true e = absurd cc
+same_choice_tells false false e = refl
+
+abbrev fact_of : List ℕ → Bool → Grounds → Fact ⊥
+fact_of s p ts = record { symbol = s; persistent = p; args = ts }
+
+abbrev action_of : List ℕ → Grounds → Action ⊥
+action_of s ts = record { symbol = s; args = ts }
+
+facts_give : (fs : List (Fact Variable)) (gs : List (Fact ⊥)) (bs : List Bound) → alike_facts fs gs ≡ true → Giving (λ v. map (fact_at v) fs ≡ gs) bs (matched_facts fs gs bs)
+facts_give [] [] bs e = λ v a. (refl, a)
+facts_give [] (g ∷ gs) bs e = tt
+facts_give (f ∷ fs) [] bs e = tt
+facts_give (f ∷ fs) (g ∷ gs) bs e =
+    let both = and_parts _ (alike_facts fs gs) e in
+    let kind = and_parts (bytes_eq f.symbol g.symbol) (same_choice f.persistent g.persistent) both.0 in
+    in_turn (λ v. valued_all v f.args ≡ g.args) (λ v. map (fact_at v) fs ≡ gs) (λ v. map (fact_at v) (f ∷ fs) ≡ g ∷ gs)
+    (λ v s t.
+    ap₂ (λ (h : Fact ⊥) (hs : List (Fact ⊥)). h ∷ hs)
+    (ap (λ x. fact_of x f.persistent (valued_all v f.args)) ((bytes_eq-Decides f.symbol g.symbol).0 kind.0)
+    ∙ ap (λ x. fact_of g.symbol x (valued_all v f.args)) (same_choice_tells f.persistent g.persistent kind.1)
+    ∙ ap (fact_of g.symbol g.persistent) s) t)
+    bs (matched_all f.args g.args bs) (λ cs. matched_facts fs gs cs) (matched_all_give f.args g.args bs) (λ cs. facts_give fs gs cs both.1)
+
+actions_give : (xs : List (Action Variable)) (ys : List (Action ⊥)) (bs : List Bound) → alike_actions xs ys ≡ true
+    → Giving (λ v. map (action_at v) xs ≡ ys) bs (matched_actions xs ys bs)
+actions_give [] [] bs e = λ v a. (refl, a)
+actions_give [] (y ∷ ys) bs e = tt
+actions_give (x ∷ xs) [] bs e = tt
+actions_give (x ∷ xs) (y ∷ ys) bs e =
+    let both = and_parts (bytes_eq x.symbol y.symbol) (alike_actions xs ys) e in
+    in_turn (λ v. valued_all v x.args ≡ y.args) (λ v. map (action_at v) xs ≡ ys) (λ v. map (action_at v) (x ∷ xs) ≡ y ∷ ys)
+    (λ v s t.
+    ap₂ (λ (h : Action ⊥) (hs : List (Action ⊥)). h ∷ hs)
+    (ap (λ z. action_of z (valued_all v x.args)) ((bytes_eq-Decides x.symbol y.symbol).0 both.0) ∙ ap (action_of y.symbol) s) t)
+    bs (matched_all x.args y.args bs) (λ cs. matched_actions xs ys cs) (matched_all_give x.args y.args bs) (λ cs. actions_give xs ys cs both.1)
+
+abbrev facts_of : List (Fact ⊥) → List (Action ⊥) → List (Fact ⊥) → Facts ⊥
+facts_of ps xs cs = record { premises = ps; actions = xs; conclusions = cs }
+
+abbrev Others : Facts Variable → Facts ⊥ → Values → Type 0
+Others p f v = (map (action_at v) p.actions ≡ f.actions) × (map (fact_at v) p.conclusions ≡ f.conclusions)
+
+giving : (p : Facts Variable) (f : Facts ⊥) → are_alike p f ≡ true → Giving (λ v. facts_at v p ≡ f) [] (matched_instance p f)
+giving p f e =
+    let both = and_parts (alike_facts p.premises f.premises) _ e in
+    let later = and_parts (alike_actions p.actions f.actions) (alike_facts p.conclusions f.conclusions) both.1 in
+    in_turn (λ v. map (fact_at v) p.premises ≡ f.premises) (Others p f) (λ v. facts_at v p ≡ f)
+    (λ v s t.
+    ap (λ (x : List (Fact ⊥)). facts_of x (map (action_at v) p.actions) (map (fact_at v) p.conclusions)) s
+    ∙ ap (λ (x : List (Action ⊥)). facts_of f.premises x (map (fact_at v) p.conclusions)) t.0
+    ∙ ap (facts_of f.premises f.actions) t.1)
+    [] (matched_facts p.premises f.premises [])
+    (λ bs. option_and_then (λ cs. matched_facts p.conclusions f.conclusions cs) (matched_actions p.actions f.actions bs))
+    (facts_give p.premises f.premises [] both.0)
+    (λ bs.
+    in_turn (λ v. map (action_at v) p.actions ≡ f.actions) (λ v. map (fact_at v) p.conclusions ≡ f.conclusions) (Others p f) (λ v s t. (s, t)) bs
+    (matched_actions p.actions f.actions bs) (λ cs. matched_facts p.conclusions f.conclusions cs) (actions_give p.actions f.actions bs later.0)
+    (λ cs. facts_give p.conclusions f.conclusions cs later.1))
+
+-- the values that are found make the rule's facts the instance
+pub found_gives : (p : Facts Variable) (f : Facts ⊥) → are_alike p f ≡ true → (bs : List Bound) → matched_instance p f ≡ Some bs
+    → (v : Values) → Agrees v bs → facts_at v p ≡ f
+found_gives p f e bs found v a = (subst (λ o. Giving (λ w. facts_at w p ≡ f) [] o) found (giving p f e) v a).0

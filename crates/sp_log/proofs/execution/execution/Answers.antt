@@ -1,0 +1,18 @@
+use Rattle.std.proofs.Common.{◌++◌, List, map, sym, ap, ◌∙◌}
+use Rattle.std.proofs.lemmas.List.{append-nil, at_drop_all}
+use Rattle.sp_log.specs.declared.log.Entry.{Entry}
+use Rattle.sp_ground.specs.View.{newest_first, step_of}
+use Rattle.sp_rule.specs.View.{rule_of}
+use Rattle.sp_log.specs.View.{entries_of, entry_of}
+use Rattle.sp_log.proofs.Orders.{steps_in, steps_newest}
+use Rattle.sp_log.proofs.execution.execution.Goals as goal
+
+pub returns : goal.returns
+returns c =
+    let rules = map rule_of c.args.rules.now.items in
+    let made = map step_of c.loop-entry.steps.items in
+    let all =
+    sym (append-nil made)
+    ∙ sym (at_drop_all (λ (xs : List Entry). made ++ steps_in rules (map entry_of xs)) c.deref-entry-items.result.now c.loop-entry.entry-index c.loop-entry-test.false)
+    ∙ c.loop-entry.invariant in
+    ap newest_first all ∙ steps_newest rules (entries_of c.args.log.now)

@@ -1,0 +1,16 @@
+use Rattle.std.proofs.Common.{sym, ◌∙◌, map, arith}
+use Rattle.sp_fact.specs.View.{action_of}
+use Rattle.sp_ground.specs.View.{ground_action}
+use Rattle.sp_norm.specs.Bounds.{bounds}
+use Rattle.sp_log.proofs.Uneven.{uneven_matched_actions, length_images}
+use Rattle.sp_log.proofs.instance.extend_actions.Goals as goal
+
+pub returns-then-len : goal.returns-then-len
+returns-then-len c =
+    let ps = c.args.patterns.now in
+    let fs = c.args.actions.now in
+    sym
+    (uneven_matched_actions (map action_of ps.items) (map ground_action fs.items) (bounds c.args.found.now)
+    (λ e.
+    let same_length = sym (length_images action_of ps.items) ∙ e ∙ length_images ground_action fs.items in
+    absurd (omega (arith, same_length, c.if-len.true, c.len.ensures, c.len-2.ensures, ps.ok.0, fs.ok.0))))

@@ -1,0 +1,15 @@
+use Rattle.std.proofs.Common.{sym, ◌∙◌, map, take, arith}
+use Rattle.sp_ground.specs.View.{ground_fact}
+use Rattle.sp_log.specs.View.{entry_of, source_of}
+use Rattle.sp_log.proofs.Uneven.{uneven_sources, length_images}
+use Rattle.sp_log.proofs.sources.have_sources.Goals as goal
+
+pub returns-then-len : goal.returns-then-len
+returns-then-len c =
+    let ps = c.args.premises.now in
+    let os = c.args.sources.now in
+    sym
+    (uneven_sources (map ground_fact ps.items) (map source_of os.items) (map entry_of (take c.args.number c.args.entries.now.items))
+    (λ e.
+    let same_length = sym (length_images ground_fact ps.items) ∙ e ∙ length_images source_of os.items in
+    absurd (omega (arith, same_length, c.if-len.true, c.len.ensures, c.len-2.ensures, ps.ok.0, os.ok.0))))

@@ -1,0 +1,22 @@
+-- What holds of the checking of logs of steps.
+use Rattle.std.specs.Prelude.{◌≡◌, ◌↔◌, ℕ, List, true}
+use Rattle.sp_spec.specs.Theory.{Theory, signature_of}
+use Rattle.sp_spec.specs.Log.{Entry}
+use Rattle.sp_ground.specs.View.{newest_first}
+use Rattle.sp_log.specs.declared.check.Clause.{Clause}
+use Rattle.sp_log.specs.declared.check.Checked.{Checked}
+use Rattle.sp_log.specs.Checking.{is_log}
+use Rattle.sp_log.specs.Meaning.{CanCheck, IsLogOfSteps, IsFirstBroken, IsChecked}
+
+-- Entries, the oldest first, pass the test exactly where they are a log of steps alone.
+pub record LogsAreChecked : Type 0 where
+  pub each : (theory : Theory) → CanCheck theory → (entries : List Entry)
+      → (is_log (signature_of theory) theory.rules entries ≡ true) ↔ IsLogOfSteps theory (newest_first entries)
+
+-- Of the same entries there is one answer: they are a log of steps, or one entry of theirs is the first that breaks a clause, with one least clause.
+pub record ChecksAreOne : Type 0 where
+  pub answers : (theory : Theory) (entries : List Entry) (answer other : Checked) → IsChecked theory entries answer → IsChecked theory entries other → answer ≡ other
+  pub faults : (theory : Theory) (entries : List Entry) (n m : ℕ) (clause other : Clause) → IsFirstBroken theory entries n clause
+      → IsFirstBroken theory entries m other → (n ≡ m) × (clause ≡ other)
+  pub excludes : (theory : Theory) (entries : List Entry) (n : ℕ) (clause : Clause) → IsFirstBroken theory entries n clause
+      → IsLogOfSteps theory (newest_first entries) → ⊥

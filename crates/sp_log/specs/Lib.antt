@@ -1,0 +1,4 @@
+pub mod View
+pub mod Checking
+pub mod Meaning
+pub mod Laws

@@ -1,0 +1,187 @@
+// Whether facts are an instance of a rule in normal form, by the values that they give to its variables.
+
+ghost use Rattle.std.specs.Prelude.{◌≡◌, IfOk, map, option_map};
+ghost use Rattle.sp_law_found.specs.Found.{matched_actions, matched_facts, matched_instance};
+ghost use Rattle.sp_term.specs.View.{name_of};
+ghost use Rattle.sp_fact.specs.View.{action_of, fact_of, facts_of};
+ghost use Rattle.sp_ground.specs.View.{ground_action, ground_fact, ground_facts, signature_of};
+ghost use Rattle.sp_norm.specs.Bounds.{answer, bound_of, bounds};
+ghost use Rattle.sp_rule.specs.View.{rule_of};
+ghost use Rattle.sp_log.specs.Checking as spec;
+
+use sp_fact::fact::{Action, Fact, Facts};
+use sp_ground::fact::{GroundAction, GroundFact, GroundFacts};
+use sp_ground::signature::Signature;
+use sp_ground::term::same;
+use sp_norm::matching::{extend_all, has_sort};
+use sp_norm::normal::normal;
+use sp_norm::over::is_over;
+use sp_norm::values::{Bound, Values};
+use sp_rule::Rule;
+use sp_term::term::Name;
+use std::alloc::{AllocError, Global};
+
+// Adds the bindings that the patterns want beside the facts.
+fn extend_facts(
+    patterns: &Vec<Fact>,
+    facts: &Vec<GroundFact>,
+    found: &mut Values,
+) -> Result<bool, AllocError>
+    ensures { IfOk result (λ b. answer b (bounds found.new)
+        ≡ matched_facts (map fact_of patterns.now.items) (map ground_fact facts.now.items) (bounds found.old)) }
+{
+    if patterns.len() != facts.len() {
+        return Ok(false);
+    }
+    for (pattern, fact) in patterns.iter().zip(facts) {
+        if !extend_all(&pattern.args, &fact.args, found)? {
+            return Ok(false);
+        }
+    }
+    Ok(true)
+}
+
+fn extend_actions(
+    patterns: &Vec<Action>,
+    actions: &Vec<GroundAction>,
+    found: &mut Values,
+) -> Result<bool, AllocError>
+    ensures { IfOk result (λ b. answer b (bounds found.new)
+        ≡ matched_actions (map action_of patterns.now.items) (map ground_action actions.now.items) (bounds found.old)) }
+{
+    if patterns.len() != actions.len() {
+        return Ok(false);
+    }
+    for (pattern, action) in patterns.iter().zip(actions) {
+        if !extend_all(&pattern.args, &action.args, found)? {
+            return Ok(false);
+        }
+    }
+    Ok(true)
+}
+
+/// The values that the facts give to the variables of the pattern, if some do.
+pub fn matched_values(
+    alloc: Global,
+    pattern: &Facts,
+    facts: &GroundFacts,
+) -> Result<Option<Values>, AllocError>
+    ensures { IfOk result (λ r. option_map bounds r ≡ matched_instance (facts_of pattern.now) (ground_facts facts.now)) }
+{
+    let mut found = Values::new(alloc);
+    if !extend_facts(&pattern.premises, &facts.premises, &mut found)? {
+        return Ok(None);
+    }
+    if !extend_actions(&pattern.actions, &facts.actions, &mut found)? {
+        return Ok(None);
+    }
+    if !extend_facts(&pattern.conclusions, &facts.conclusions, &mut found)? {
+        return Ok(None);
+    }
+    Ok(Some(found))
+}
+
+fn alike_facts(patterns: &Vec<Fact>, facts: &Vec<GroundFact>) -> bool
+    ensures { result ≡ spec.alike_facts (map fact_of patterns.now.items) (map ground_fact facts.now.items) }
+{
+    if patterns.len() != facts.len() {
+        return false;
+    }
+    for (pattern, fact) in patterns.iter().zip(facts) {
+        if pattern.symbol != fact.symbol || pattern.persistent != fact.persistent {
+            return false;
+        }
+    }
+    true
+}
+
+fn alike_actions(patterns: &Vec<Action>, actions: &Vec<GroundAction>) -> bool
+    ensures { result ≡ spec.alike_actions (map action_of patterns.now.items) (map ground_action actions.now.items) }
+{
+    if patterns.len() != actions.len() {
+        return false;
+    }
+    for (pattern, action) in patterns.iter().zip(actions) {
+        if pattern.symbol != action.symbol {
+            return false;
+        }
+    }
+    true
+}
+
+// Whether the facts have the names of the pattern's, one beside each.
+fn are_alike(pattern: &Facts, facts: &GroundFacts) -> bool
+    ensures { result ≡ spec.are_alike (facts_of pattern.now) (ground_facts facts.now) }
+{
+    alike_facts(&pattern.premises, &facts.premises)
+        && alike_actions(&pattern.actions, &facts.actions)
+        && alike_facts(&pattern.conclusions, &facts.conclusions)
+}
+
+// Whether the value is of its variable's sort, over the symbols, and in normal form.
+fn is_normal_value(alloc: Global, signature: &Signature, bound: &Bound) -> Result<bool, AllocError>
+    ensures { IfOk result (λ b. b ≡ spec.is_normal_value (signature_of signature.now) (bound_of bound.now)) }
+{
+    if !has_sort(bound.variable.sort, &bound.value) {
+        return Ok(false);
+    }
+    if !is_over(&signature.symbols, &bound.value) {
+        return Ok(false);
+    }
+    let normal_form = normal(alloc, &signature.equations, &bound.value)?;
+    Ok(same(&normal_form, &bound.value))
+}
+
+fn are_normal_values(
+    alloc: Global,
+    signature: &Signature,
+    values: &Values,
+) -> Result<bool, AllocError>
+    ensures { IfOk result (λ b. b ≡ spec.are_normal_values (signature_of signature.now) (bounds values.now)) }
+{
+    for bound in &values.bindings {
+        if !is_normal_value(alloc, signature, bound)? {
+            return Ok(false);
+        }
+    }
+    Ok(true)
+}
+
+fn is_instance(
+    alloc: Global,
+    signature: &Signature,
+    rule: &Rule,
+    facts: &GroundFacts,
+) -> Result<bool, AllocError>
+    ensures { IfOk result (λ b. b ≡ spec.is_instance (signature_of signature.now) (rule_of rule.now) (ground_facts facts.now)) }
+{
+    if !are_alike(&rule.facts, facts) {
+        return Ok(false);
+    }
+    match matched_values(alloc, &rule.facts, facts)? {
+        Some(values) => {
+            let are_normal = are_normal_values(alloc, signature, &values)?;
+            Ok(are_normal)
+        }
+        None => Ok(false),
+    }
+}
+
+/// Whether the facts are an instance, in normal form, of some rule of the name.
+pub fn is_instance_of_any(
+    alloc: Global,
+    signature: &Signature,
+    rules: &Vec<Rule>,
+    name: &Name,
+    facts: &GroundFacts,
+) -> Result<bool, AllocError>
+    ensures { IfOk result (λ b. b
+        ≡ spec.is_instance_of_any (signature_of signature.now) (map rule_of rules.now.items) (name_of name.now) (ground_facts facts.now)) }
+{
+    for rule in rules {
+        if rule.name == *name && is_instance(alloc, signature, rule, facts)? {
+            return Ok(true);
+        }
+    }
+    Ok(false)
+}
