@@ -1,0 +1,96 @@
+-- Names that are put behind others, each once.
+use Rattle.std.proofs.Common.{◌≡◌, ℕ, Bool, true, false, ◌||◌, if◌then◌else◌, List, [], ◌∷◌, ◌++◌, map, refl, sym, ap, ◌∙◌}
+use Rattle.std.specs.Str.{bytes_eq}
+use Rattle.std.proofs.lemmas.Slice.Eq.{bytes_eq-Decides}
+use Rattle.sp_spec.specs.Lists.{Every}
+use Rattle.sp_spec.proofs.Lists.{every_parts, every_append}
+use Rattle.sp_spec.specs.Rule.{Fact}
+use Rattle.sp_spec.specs.Formula.{Written, Formula}
+use Rattle.sp_spec.specs.Written.{is_listed}
+use Rattle.sp_read_parts.specs.Shapes.{quantified, action_of}
+use Rattle.sp_read_parts.specs.Grammar.{quantified_some}
+use Rattle.sp_constants.specs.Constants.{once_after, in_formula, in_facts, in_actions, in_terms}
+
+pub once_both : (xs : List (List ℕ)) (ls : List (List ℕ)) (ys : List (List ℕ)) → once_after (once_after ls xs) ys ≡ once_after ls (xs ++ ys)
+once_both [] ls ys = refl
+once_both (x ∷ xs) ls ys = once_both xs (if is_listed x ls then ls else ls ++ x ∷ []) ys
+
+-- ---- rules
+
+actions_as_facts : (fs : List (Fact Written)) → in_actions (map action_of fs) ≡ in_facts fs
+actions_as_facts [] = refl
+actions_as_facts (f ∷ fs) = ap (λ (xs : List (List ℕ)). in_terms f.args ++ xs) (actions_as_facts fs)
+
+pub seen_rule : (ps acts cs : List (Fact Written)) (a b c d : List (List ℕ)) → b ≡ once_after a (in_facts ps) → c ≡ once_after b (in_facts acts) → d ≡ once_after c (in_facts cs)
+    → d ≡ once_after a (in_facts ps ++ (in_actions (map action_of acts) ++ in_facts cs))
+seen_rule ps acts cs a b c d e k h =
+    h ∙ ap (λ (ls : List (List ℕ)). once_after ls (in_facts cs)) (k ∙ ap (once_after b) (sym (actions_as_facts acts)))
+    ∙ once_both (in_actions (map action_of acts)) b (in_facts cs)
+    ∙ ap (λ (ls : List (List ℕ)). once_after ls (in_actions (map action_of acts) ++ in_facts cs)) e
+    ∙ once_both (in_facts ps) a (in_actions (map action_of acts) ++ in_facts cs)
+
+-- ---- a name that stands goes on standing, and isn't put there again
+
+or_left : (a b : Bool) → a ≡ true → (a || b) ≡ true
+or_left true b e = refl
+or_left false b e = absurd cc
+
+or_right : (a b : Bool) → b ≡ true → (a || b) ≡ true
+or_right true b e = refl
+or_right false b e = e
+
+abbrev Stands : List (List ℕ) → List ℕ → Type 0
+Stands ls x = is_listed x ls ≡ true
+
+listed_more : (x : List ℕ) (ls more : List (List ℕ)) → is_listed x ls ≡ true → is_listed x (ls ++ more) ≡ true
+listed_more x [] more e = absurd cc
+listed_more x (y ∷ ys) more e = at (bytes_eq y x) e (listed_more x ys more)
+  where
+    at : (b : Bool) → (b || is_listed x ys) ≡ true → (is_listed x ys ≡ true → is_listed x (ys ++ more) ≡ true) → (b || is_listed x (ys ++ more)) ≡ true
+    at true k later = refl
+    at false k later = later k
+
+equal_names : (x : List ℕ) → bytes_eq x x ≡ true
+equal_names x = (bytes_eq-Decides x x).1 refl
+
+listed_last : (x : List ℕ) (ls : List (List ℕ)) → is_listed x (ls ++ x ∷ []) ≡ true
+listed_last x [] = or_left (bytes_eq x x) false (equal_names x)
+listed_last x (y ∷ ys) = or_right (bytes_eq y x) (is_listed x (ys ++ x ∷ [])) (listed_last x ys)
+
+kept_one : (b : Bool) (x y : List ℕ) (ls : List (List ℕ)) → is_listed x ls ≡ true → is_listed x (if b then ls else ls ++ y ∷ []) ≡ true
+kept_one true x y ls e = e
+kept_one false x y ls e = listed_more x ls (y ∷ []) e
+
+kept_standing : (x : List ℕ) (ys ls : List (List ℕ)) → is_listed x ls ≡ true → is_listed x (once_after ls ys) ≡ true
+kept_standing x [] ls e = e
+kept_standing x (y ∷ ys) ls e = kept_standing x ys (if is_listed y ls then ls else ls ++ y ∷ []) (kept_one (is_listed y ls) x y ls e)
+
+stands_now : (b : Bool) (x : List ℕ) (ls : List (List ℕ)) → is_listed x ls ≡ b → is_listed x (if b then ls else ls ++ x ∷ []) ≡ true
+stands_now true x ls e = e
+stands_now false x ls e = listed_last x ls
+
+all_stand : (xs ls : List (List ℕ)) → Every (Stands (once_after ls xs)) xs
+all_stand [] ls = tt
+all_stand (x ∷ xs) ls =
+    let now = if is_listed x ls then ls else ls ++ x ∷ [] in
+    (kept_standing x xs now (stands_now (is_listed x ls) x ls refl), all_stand xs now)
+
+not_again : (xs ls : List (List ℕ)) → Every (Stands ls) xs → once_after ls xs ≡ ls
+not_again [] ls h = refl
+not_again (x ∷ xs) ls h = ap (λ (b : Bool). once_after (if b then ls else ls ++ x ∷ []) xs) h.0 ∙ not_again xs ls h.1
+
+-- ---- formulas
+
+pub seen_equivalent : (ls xs ys : List (List ℕ)) → once_after (once_after ls xs) ys ≡ once_after ls ((xs ++ ys) ++ (ys ++ xs))
+seen_equivalent ls xs ys =
+    let stand = every_parts (Stands (once_after ls (xs ++ ys))) xs ys (all_stand (xs ++ ys) ls) in
+    once_both xs ls ys
+    ∙ sym (sym (once_both (xs ++ ys) ls (ys ++ xs)) ∙ not_again (ys ++ xs) (once_after ls (xs ++ ys)) (every_append (Stands (once_after ls (xs ++ ys))) ys xs stand.1 stand.0))
+
+pub seen_for_all : (xs : List Written) (f : Formula) → in_formula f ≡ in_formula (quantified xs f)
+seen_for_all [] f = refl
+seen_for_all (x ∷ xs) f = seen_for_all xs f
+
+pub seen_for_some : (xs : List Written) (f : Formula) → in_formula f ≡ in_formula (quantified_some xs f)
+seen_for_some [] f = refl
+seen_for_some (x ∷ xs) f = seen_for_some xs f
