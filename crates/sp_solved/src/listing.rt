@@ -1,0 +1,91 @@
+// Events one after the other, each behind those that the order puts before it.
+
+ghost use Rattle.std.specs.Prelude.{◌≡◌, IfOk, map, option_map};
+ghost use Rattle.sp_system.specs.SystemView.{event_of};
+ghost use Rattle.sp_solved.specs.Listing as spec;
+ghost use Rattle.sp_solved.specs.ListingView.{events_of, free_place};
+
+use sp_system::order::is_before;
+use sp_system::system::Event;
+use std::alloc::{AllocError, Global};
+
+/// Whether one of these events is before the time.
+fn some_before(
+    alloc: Global,
+    order: &Vec<(u128, u128)>,
+    events: &Vec<&Event>,
+    time: u128,
+) -> Result<bool, AllocError>
+    ensures { IfOk result (λ b. b ≡ spec.some_before order.now.items (events_of events.now.items) time) }
+{
+    for event in events {
+        if is_before(alloc, order, event.time, time)? {
+            return Ok(true);
+        }
+    }
+    Ok(false)
+}
+
+/// The place of the first event that none of those left is before.
+fn free_place(
+    alloc: Global,
+    order: &Vec<(u128, u128)>,
+    left: &Vec<&Event>,
+) -> Result<Option<usize>, AllocError>
+    ensures { IfOk result (λ o. o ≡ free_place order.now.items (events_of left.now.items) (events_of left.now.items)) }
+{
+    for (place, event) in left.iter().enumerate() {
+        if !some_before(alloc, order, left, event.time)? {
+            return Ok(Some(place));
+        }
+    }
+    Ok(None)
+}
+
+/// Takes the first event that none of those left is before.
+fn take_free<'a>(
+    alloc: Global,
+    order: &Vec<(u128, u128)>,
+    left: &mut Vec<&'a Event>,
+) -> Result<Option<&'a Event>, AllocError>
+    ensures { IfOk result (λ o. option_map (λ e. (event_of e.now, events_of left.new.items)) o ≡ spec.first_free order.now.items (events_of left.old.items) (events_of left.old.items)) }
+{
+    let Some(place) = free_place(alloc, order, left)? else {
+        return Ok(None);
+    };
+    Ok(Some(left.remove(place)))
+}
+
+/// References to the events.
+fn all<'a>(alloc: Global, events: &'a Vec<Event>) -> Result<Vec<&'a Event>, AllocError>
+    ensures { IfOk result (λ es. events_of es.items ≡ map event_of events.now.items) }
+{
+    let mut made = Vec::with_capacity(alloc, events.len())?;
+    for event in events {
+        made.push(event)?;
+    }
+    Ok(made)
+}
+
+/// The events in their order; none where events stand before each other.
+///
+/// # Errors
+///
+/// `AllocError` where memory is wanting.
+pub fn in_order<'a>(
+    alloc: Global,
+    order: &Vec<(u128, u128)>,
+    events: &'a Vec<Event>,
+) -> Result<Option<Vec<&'a Event>>, AllocError>
+    ensures { IfOk result (λ o. option_map (λ es. events_of es.items) o ≡ spec.in_order order.now.items (map event_of events.now.items)) }
+{
+    let mut left = all(alloc, events)?;
+    let mut listed = Vec::with_capacity(alloc, events.len())?;
+    for _ in 0..events.len() {
+        let Some(event) = take_free(alloc, order, &mut left)? else {
+            return Ok(None);
+        };
+        listed.push(event)?;
+    }
+    Ok(Some(listed))
+}
