@@ -4,3 +4,4 @@ pub mod Writing
 pub mod Outcomes
 pub mod Verdicts
 pub mod Again
+pub mod Blocks

@@ -1,22 +1,35 @@
 -- What is written of a lemma is so, and of a text one thing is written.
-use Rattle.std.proofs.Common.{◌≡◌, ◌↔◌, Bool, true, false, ◌||◌, List, [], ◌∷◌, Option, Some, refl, sym, subst}
+use Rattle.std.proofs.Common.{◌≡◌, ◌↔◌, ℕ, Bool, true, false, ◌||◌, ◌&&◌, List, [], ◌∷◌, Option, Some, None, option_and_then, refl, sym, ap, ◌∙◌, subst}
 use Rattle.sp_spec.specs.Lists.{Every}
 use Rattle.sp_spec.proofs.Lists.{every_weaken}
 use Rattle.sp_spec.specs.Rule.{Rule}
-use Rattle.sp_spec.specs.Theory.{TraceKind, all_traces, exists_trace, Lemma}
+use Rattle.sp_spec.specs.Signature.{Signature}
+use Rattle.sp_spec.specs.Log.{Entry, Log, log_trace}
+use Rattle.sp_spec.specs.Theory.{TraceKind, all_traces, exists_trace, Lemma, signature_of}
 use Rattle.sp_spec.specs.Written.{WrittenRule, WrittenTheory, theory_of, in_facts, in_actions, occurrences}
 use Rattle.sp_spec.specs.Findings.{has_wide_fact, has_wide_action, has_two_sorts, has_wrong_premise, has_fr, has_wrong_argument, has_unbound, rule_is_wrong}
 use Rattle.sp_spec.specs.Guarded.{Guarded}
 use Rattle.sp_law_guard.specs.GuardedForm.{negate}
 use Rattle.sp_law_guard.specs.CheckedForm.{checked_form}
-use Rattle.sp_check.specs.Root.{root}
+use Rattle.sp_law_decide.specs.Deciding.{decided, empty}
+use Rattle.sp_ground.specs.View.{newest_first}
+use Rattle.sp_log.specs.Checking.{is_log}
+use Rattle.sp_solved.specs.Candidate.{candidate}
+use Rattle.sp_solved.specs.Found.{is_sought, kept_if, found}
+use Rattle.sp_law_shown.specs.Shown.{IsSearched, FoundBreaks, FoundSatisfies}
+use Rattle.sp_step.specs.Moves.{Context}
+use Rattle.sp_check.specs.Tree.{Tree, IsAccepted, IsFinished, found_log}
 use Rattle.sp_check.specs.PlainTheory.{IsPlainFormula}
 use Rattle.sp_check.proofs.AllShown.{lemmas_are_shown_lem}
 use Rattle.sp_check.proofs.Growing.{grown_tree_accepted}
-use Rattle.sp_analysis.specs.Sought.{budget, sought, proof_tree}
-use Rattle.sp_analysis.specs.Analysis.{IsVerdictOf, Outcome, IsOutcome, AreOutcomes}
+use Rattle.sp_check.proofs.Logs.{log_found}
+use Rattle.sp_law_shown.proofs.Found.{found_logs_show_lem}
+use Rattle.sp_constants.specs.Constants.{constants_of}
+use Rattle.sp_report.specs.Laws.{IsWellFormed}
+use Rattle.sp_analysis.specs.Sought.{budget, start, setting_of, context_of}
+use Rattle.sp_analysis.specs.Analysis.{Outcome, IsOutcome, AreOutcomes}
 use Rattle.sp_analysis.specs.Laws.{Means, IsRejected, JudgedRightly, VerdictsAreRight}
-use Rattle.sp_analysis.specs.Verdict.{Verdict, verified, falsified, incomplete, rejected}
+use Rattle.sp_analysis.specs.Verdict.{Verdict, verified, falsified, incomplete, rejected, Says}
 use Rattle.sp_analysis.specs.Checking.{IsVerdictOn, Judged, IsJudged, AreJudged}
 use Rattle.sp_system.specs.System.{System}
 use Rattle.sp_judge.specs.Skeleton.{Skeleton}
@@ -48,68 +61,121 @@ no_fr rules e =
     rules e
 
 -- a proof isn't rejected exactly where it is accepted
-accepted_or_rejected : (rules : List Rule) (s : System) (k : Skeleton) (kind : TraceKind) (v : Verdict) → IsVerdictOn rules s k kind v → (IsRejected v → ⊥) ↔ ReadIsAccepted rules s k
-accepted_or_rejected rules s k all_traces verified (tree, is, accepted, finished) = (λ no. (tree, is, accepted), λ yes r. let e = r.2 in cc)
-accepted_or_rejected rules s k all_traces falsified v = absurd v
-accepted_or_rejected rules s k all_traces incomplete (tree, is, accepted, left) = (λ no. (tree, is, accepted), λ yes r. let e = r.2 in cc)
-accepted_or_rejected rules s k all_traces (rejected step clause) h = (λ no. absurd (no (step, clause, refl)), λ yes r. (judgements_right.rejects_the_others rules s k).1 (step, (clause, h)) yes)
-accepted_or_rejected rules s k exists_trace verified v = absurd v
-accepted_or_rejected rules s k exists_trace falsified (tree, is, accepted, finished) = (λ no. (tree, is, accepted), λ yes r. let e = r.2 in cc)
-accepted_or_rejected rules s k exists_trace incomplete (tree, is, accepted, left) = (λ no. (tree, is, accepted), λ yes r. let e = r.2 in cc)
-accepted_or_rejected rules s k exists_trace (rejected step clause) h = (λ no. absurd (no (step, clause, refl)), λ yes r. (judgements_right.rejects_the_others rules s k).1 (step, (clause, h)) yes)
+accepted_or_rejected : (context : Context) (s : System) (k : Skeleton) (kind : TraceKind) (v : Verdict) (log : Option Log) → IsVerdictOn context s k kind v log
+    → (IsRejected v → ⊥) ↔ ReadIsAccepted context s k
+accepted_or_rejected context s k kind (rejected step clause) log (h, n) =
+    (λ no. absurd (no (step, clause, refl)), λ yes r. (judgements_right.rejects_the_others context s k).1 (step, (clause, h)) yes)
+accepted_or_rejected context s k kind verified log (tree, is, accepted, n, h) = (λ no. (tree, is, accepted), λ yes r. let e = r.2 in cc)
+accepted_or_rejected context s k kind falsified log (tree, is, accepted, n, h) = (λ no. (tree, is, accepted), λ yes r. let e = r.2 in cc)
+accepted_or_rejected context s k kind incomplete log (tree, is, accepted, n, h) = (λ no. (tree, is, accepted), λ yes r. let e = r.2 in cc)
 
-module _ (theory : WrittenTheory) (first : AreFirst theory.rules theory.lemmas) (right : Every (λ (r : WrittenRule). rule_is_wrong r ≡ false) theory.rules) where
-  -- a tree that is grown is accepted, and shows what it says
-  shown : (l : Lemma) → IsPlainFormula l.formula → (g : Guarded) → checked_form l.formula ≡ Some g → (kind : TraceKind) (v : Verdict)
-      → IsVerdictOf kind v (proof_tree (theory_of theory).rules kind g) → Means (theory_of theory) kind v l
-  shown l f g e all_traces verified finished =
-      lemmas_are_shown_lem.all_traces theory first.rules_are (no_fr theory.rules right) l f g e (proof_tree (theory_of theory).rules all_traces g)
-      (grown_tree_accepted (theory_of theory).rules (root (negate g)) budget) finished
-  shown l f g e all_traces falsified v = v
-  shown l f g e all_traces incomplete v = tt
-  shown l f g e all_traces (rejected step clause) v = tt
-  shown l f g e exists_trace verified v = v
-  shown l f g e exists_trace falsified finished =
-      lemmas_are_shown_lem.exists_trace theory first.rules_are (no_fr theory.rules right) l f g e (proof_tree (theory_of theory).rules exists_trace g)
-      (grown_tree_accepted (theory_of theory).rules (root g) budget) finished
-  shown l f g e exists_trace incomplete v = tt
-  shown l f g e exists_trace (rejected step clause) v = tt
+-- a log that is found is one that passes both tests
+record IsFound (signature : Signature) (rules : List Rule) (f : Guarded) (log : Log) : Type 0 where
+  entries : List Entry
+  is_log : is_log signature rules entries ≡ true
+  is_true : decided (log_trace (newest_first entries)) empty f ≡ true
+  log_is : newest_first entries ≡ log
 
-  -- so does a tree that was read and is accepted
-  read_shown : (l : Lemma) → IsPlainFormula l.formula → (g : Guarded) → checked_form l.formula ≡ Some g → (kind : TraceKind) (k : Skeleton) (v : Verdict)
-      → IsVerdictOn (theory_of theory).rules (root (sought kind g)) k kind v → Means (theory_of theory) kind v l
-  read_shown l f g e all_traces k verified (tree, is, accepted, finished) = lemmas_are_shown_lem.all_traces theory first.rules_are (no_fr theory.rules right) l f g e tree accepted finished
-  read_shown l f g e all_traces k falsified v = v
-  read_shown l f g e all_traces k incomplete v = tt
-  read_shown l f g e all_traces k (rejected step clause) v = tt
-  read_shown l f g e exists_trace k verified v = v
-  read_shown l f g e exists_trace k falsified (tree, is, accepted, finished) = lemmas_are_shown_lem.exists_trace theory first.rules_are (no_fr theory.rules right) l f g e tree accepted finished
-  read_shown l f g e exists_trace k incomplete v = tt
-  read_shown l f g e exists_trace k (rejected step clause) v = tt
+both_true : (a b : Bool) → (a && b) ≡ true → (a ≡ true) × (b ≡ true)
+both_true true true e = (refl, refl)
+both_true true false e = absurd cc
+both_true false b e = absurd cc
 
-  judged_right : (l : Lemma) (p : Option WrittenProof) (j : Judged) → IsPlainFormula l.formula → IsJudged (theory_of theory).rules l p j → JudgedRightly (theory_of theory) j
-  judged_right l p j f h = record {
-    means =
-        subst (λ (m : Lemma). Means (theory_of theory) m.kind j.verdict m) (sym h.lemma_is)
-        (read_shown l f h.form h.form_is l.kind j.proof j.verdict (subst (λ (s : System). IsVerdictOn (theory_of theory).rules s j.proof l.kind j.verdict) h.root_is h.verdict_is));
-    accepts = accepted_or_rejected (theory_of theory).rules j.root j.proof l.kind j.verdict h.verdict_is;
-  }
+found_tested : (signature : Signature) (rules : List Rule) (constants : List (List ℕ)) (f : Guarded) (s : System) (log : Log) → found signature rules constants f s ≡ Some log
+    → IsFound signature rules f log
+found_tested signature rules constants f s log e = at (candidate constants s) e
+  where
+    kept : (entries : List Entry) (a b : Bool) → is_log signature rules entries ≡ a → decided (log_trace (newest_first entries)) empty f ≡ b → kept_if (a && b) entries ≡ Some log
+        → IsFound signature rules f log
+    kept entries true true h k l = record { entries = entries; is_log = h; is_true = k; log_is = let g : newest_first entries ≡ log = cc in g }
+    kept entries true false h k l = absurd cc
+    kept entries false b h k l = absurd cc
 
-  all_judged_right : (items : List Item) (js : List Judged) → Every (λ (l : Lemma). IsPlainFormula l.formula) (lemmas_in items) → AreJudged (theory_of theory).rules items js
-      → Every (JudgedRightly (theory_of theory)) js
+    at : (o : Option (List Entry)) → option_and_then (λ (entries : List Entry). kept_if (is_sought signature rules f entries) entries) o ≡ Some log → IsFound signature rules f log
+    at None h = absurd cc
+    at (Some entries) h = kept entries (is_log signature rules entries) (decided (log_trace (newest_first entries)) empty f) refl refl h
+
+module _ (theory : WrittenTheory) (first : AreFirst theory.rules theory.lemmas) (fine : IsWellFormed theory) (none : theory.restrictions ≡ []) where
+  searched : IsSearched theory
+  searched = record { plain = first.rules_are; rule_names = fine.rule_names; right = fine.rules; unrestricted = none }
+
+  breaks : (l : Lemma) → IsPlainFormula l.formula → (g : Guarded) → checked_form l.formula ≡ Some g → (s : System) (log : Log)
+      → found (signature_of (theory_of theory)) (theory_of theory).rules (constants_of theory) (negate g) s ≡ Some log → FoundBreaks (theory_of theory) l log
+  breaks l f g e s log is =
+      let h = found_tested (signature_of (theory_of theory)) (theory_of theory).rules (constants_of theory) (negate g) s log is in
+      subst (FoundBreaks (theory_of theory) l) h.log_is (found_logs_show_lem.breaks theory searched l f g e h.entries h.is_log h.is_true)
+
+  satisfies : (l : Lemma) → IsPlainFormula l.formula → (g : Guarded) → checked_form l.formula ≡ Some g → (s : System) (log : Log)
+      → found (signature_of (theory_of theory)) (theory_of theory).rules (constants_of theory) g s ≡ Some log → FoundSatisfies (theory_of theory) l log
+  satisfies l f g e s log is =
+      let h = found_tested (signature_of (theory_of theory)) (theory_of theory).rules (constants_of theory) g s log is in
+      subst (FoundSatisfies (theory_of theory) l) h.log_is (found_logs_show_lem.satisfies theory searched l f g e h.entries h.is_log h.is_true)
+
+  -- the log of a tree is one with which the search ends at some system
+  ended : (kind : TraceKind) (g : Guarded) (tree : Tree) (log : Log) → Some log ≡ found_log (context_of (setting_of theory) kind g) (start kind g) tree
+      → (s : System) × ((context_of (setting_of theory) kind g).found s ≡ Some log)
+  ended kind g tree log e = log_found (context_of (setting_of theory) kind g) tree (start kind g) log (sym e)
+
+  -- an accepted tree shows what it says
+  shown : (l : Lemma) → IsPlainFormula l.formula → (g : Guarded) → checked_form l.formula ≡ Some g → (kind : TraceKind) (v : Verdict) (log : Option Log) (tree : Tree)
+      → IsAccepted (context_of (setting_of theory) kind g) (start kind g) tree → log ≡ found_log (context_of (setting_of theory) kind g) (start kind g) tree
+      → Says kind v log (IsFinished tree) → Means (theory_of theory) kind v log l
+  shown l f g e all_traces verified None tree accepted is says =
+      lemmas_are_shown_lem.all_traces theory first.rules_are (no_fr theory.rules fine.rules) l f g e (context_of (setting_of theory) all_traces g) refl tree accepted says
+  shown l f g e all_traces verified (Some log) tree accepted is says = absurd says
+  shown l f g e all_traces falsified None tree accepted is says = absurd says
+  shown l f g e all_traces falsified (Some log) tree accepted is says =
+      let s = ended all_traces g tree log is in breaks l f g e s.0 log s.1
+  shown l f g e all_traces incomplete None tree accepted is says = tt
+  shown l f g e all_traces incomplete (Some log) tree accepted is says = absurd says
+  shown l f g e all_traces (rejected step clause) log tree accepted is says = absurd says
+  shown l f g e exists_trace verified None tree accepted is says = absurd says
+  shown l f g e exists_trace verified (Some log) tree accepted is says =
+      let s = ended exists_trace g tree log is in satisfies l f g e s.0 log s.1
+  shown l f g e exists_trace falsified None tree accepted is says =
+      lemmas_are_shown_lem.exists_trace theory first.rules_are (no_fr theory.rules fine.rules) l f g e (context_of (setting_of theory) exists_trace g) refl tree accepted says
+  shown l f g e exists_trace falsified (Some log) tree accepted is says = absurd says
+  shown l f g e exists_trace incomplete None tree accepted is says = tt
+  shown l f g e exists_trace incomplete (Some log) tree accepted is says = absurd says
+  shown l f g e exists_trace (rejected step clause) log tree accepted is says = absurd says
+
+  -- so does a proof that was read; one that is rejected shows nothing
+  read_shown : (l : Lemma) → IsPlainFormula l.formula → (g : Guarded) → checked_form l.formula ≡ Some g → (kind : TraceKind) (k : Skeleton) (v : Verdict) (log : Option Log)
+      → IsVerdictOn (context_of (setting_of theory) kind g) (start kind g) k kind v log → Means (theory_of theory) kind v log l
+  read_shown l f g e all_traces k (rejected step clause) None h = tt
+  read_shown l f g e exists_trace k (rejected step clause) None h = tt
+  read_shown l f g e kind k (rejected step clause) (Some log) (h, n) = absurd (let x : Some log ≡ None = n in cc)
+  read_shown l f g e kind k verified log (tree, is, accepted, n, says) = shown l f g e kind verified log tree accepted n says
+  read_shown l f g e kind k falsified log (tree, is, accepted, n, says) = shown l f g e kind falsified log tree accepted n says
+  read_shown l f g e kind k incomplete log (tree, is, accepted, n, says) = shown l f g e kind incomplete log tree accepted n says
+
+  judged_right : (l : Lemma) (p : Option WrittenProof) (j : Judged) → IsPlainFormula l.formula → IsJudged (setting_of theory) l p j → JudgedRightly theory j
+  judged_right l p j f h = subst (λ (x : Judged). JudgedRightly theory x) (with_lemma j h.lemma_is) (record {
+    means = read_shown l f j.form h.form_is l.kind j.proof j.verdict j.log h.verdict_is;
+    accepts = accepted_or_rejected (context_of (setting_of theory) l.kind j.form) (start l.kind j.form) j.proof l.kind j.verdict j.log h.verdict_is;
+  })
+    where
+      with_lemma : (j : Judged) → j.lemma ≡ l → record { lemma = l; form = j.form; proof = j.proof; log = j.log; verdict = j.verdict } ≡ j
+      with_lemma j e = ap (λ (m : Lemma). record { lemma = m; form = j.form; proof = j.proof; log = j.log; verdict = j.verdict }) (sym e)
+
+  all_judged_right : (items : List Item) (js : List Judged) → Every (λ (l : Lemma). IsPlainFormula l.formula) (lemmas_in items) → AreJudged (setting_of theory) items js
+      → Every (JudgedRightly theory) js
   all_judged_right [] [] f h = tt
   all_judged_right [] (j ∷ js) f h = absurd h
   all_judged_right (rule_item r ∷ items) js f h = all_judged_right items js f h
   all_judged_right (lemma_item l p ∷ items) [] f h = absurd h
   all_judged_right (lemma_item l p ∷ items) (j ∷ js) f h = (judged_right l p j f.0 h.0, all_judged_right items js f.1 h.1)
 
-  outcome_right : (l : Lemma) (o : Outcome) → IsPlainFormula l.formula → IsOutcome (theory_of theory).rules l o → Means (theory_of theory) o.lemma.kind o.verdict o.lemma
+  outcome_right : (l : Lemma) (o : Outcome) → IsPlainFormula l.formula → IsOutcome (setting_of theory) l o → Means (theory_of theory) o.lemma.kind o.verdict o.log o.lemma
   outcome_right l o f h =
-      subst (λ (m : Lemma). Means (theory_of theory) m.kind o.verdict m) (sym h.lemma_is)
-      (shown l f h.form h.form_is l.kind o.verdict (subst (IsVerdictOf l.kind o.verdict) h.tree_is h.verdict_is))
+      let context = context_of (setting_of theory) l.kind h.form in
+      let s = start l.kind h.form in
+      subst (λ (m : Lemma). Means (theory_of theory) m.kind o.verdict o.log m) (sym h.lemma_is)
+      (shown l f h.form h.form_is l.kind o.verdict o.log o.tree (subst (λ (t : Tree). IsAccepted context s t) (sym h.tree_is) (grown_tree_accepted context s budget))
+      (h.log_is ∙ ap (found_log context s) (sym h.tree_is)) h.verdict_is)
 
-  outcomes_right : (ls : List Lemma) (os : List Outcome) → Every (λ (l : Lemma). IsPlainFormula l.formula) ls → AreOutcomes (theory_of theory).rules ls os
-      → Every (λ (o : Outcome). Means (theory_of theory) o.lemma.kind o.verdict o.lemma) os
+  outcomes_right : (ls : List Lemma) (os : List Outcome) → Every (λ (l : Lemma). IsPlainFormula l.formula) ls → AreOutcomes (setting_of theory) ls os
+      → Every (λ (o : Outcome). Means (theory_of theory) o.lemma.kind o.verdict o.log o.lemma) os
   outcomes_right [] [] f h = tt
   outcomes_right [] (o ∷ os) f h = absurd h
   outcomes_right (l ∷ ls) [] f h = absurd h
@@ -119,8 +185,8 @@ pub verdicts_are_right_lem : VerdictsAreRight
 verdicts_are_right_lem = record {
   right = λ text written outcomes a.
       let first = theory_spelled a.poses.says.spells in
-      outcomes_right (theory_in a.theory) first a.poses.fine.rules (theory_in a.theory).lemmas outcomes first.lemmas_are a.outcomes_are;
+      outcomes_right (theory_in a.theory) first a.poses.fine refl (theory_in a.theory).lemmas outcomes first.lemmas_are a.outcomes_are;
   judged_right = λ text written judged c.
       let first = theory_spelled c.poses.says.spells in
-      all_judged_right (theory_in c.theory) first c.poses.fine.rules c.theory.items judged first.lemmas_are c.judged_are;
+      all_judged_right (theory_in c.theory) first c.poses.fine refl c.theory.items judged first.lemmas_are c.judged_are;
 }

@@ -4,7 +4,7 @@ use Rattle.sp_written.specs.declared.theory.Span.{Span}
 use Rattle.sp_read_theory.specs.Places.{Rise, goes_on}
 use Rattle.sp_again.specs.Again.{between}
 use Rattle.sp_pose.proofs.Items.{next_of}
-use Rattle.sp_analysis.specs.Kept.{kept_of, line_of, lines, spliced}
+use Rattle.sp_analysis.specs.Kept.{kept_of, spliced}
 use Rattle.sp_analysis.specs.declared.tried.Tried.{Tried}
 
 pub proof_written : (out more all text proof : List ℕ) (start end place : ℕ) (ts : List Tried) (t : Tried) → place < length ts → t ≡ get_or ts place t
@@ -19,13 +19,6 @@ proof_written out more all text proof start end place ts t below is so proof_is 
   where
     joined : (a b c d e : List ℕ) → (a ++ (b ++ (c ++ d))) ++ e ≡ a ++ (b ++ (c ++ (d ++ e)))
     joined a b c d e = append_assoc a (b ++ (c ++ d)) e ∙ ap (λ (xs : List ℕ). a ++ xs) (append_assoc b (c ++ d) e ∙ ap (λ (xs : List ℕ). b ++ xs) (append_assoc c d e))
-
-pub line_written : (out more all line : List ℕ) (place : ℕ) (ts : List Tried) (t : Tried) → place < length ts → t ≡ get_or ts place t
-    → out ++ lines (map kept_of (drop place ts)) ≡ all → line ≡ line_of (kept_of t) → more ≡ out ++ line → more ++ lines (map kept_of (drop (place + 1) ts)) ≡ all
-line_written out more all line place ts t below is so line_is more_is =
-    let rest = lines (map kept_of (drop (place + 1) ts)) in
-    ap (λ (xs : List ℕ). xs ++ rest) (more_is ∙ ap (λ (xs : List ℕ). out ++ xs) line_is) ∙ append_assoc out (line_of (kept_of t)) rest
-    ∙ sym (ap (λ (us : List Tried). out ++ lines (map kept_of us)) (next_of ts place t below is)) ∙ so
 
 -- the next lemma, of the lemmas as they are walked
 pub record IsNext (ts : List Tried) (place : ℕ) (t : Tried) : Type 0 where

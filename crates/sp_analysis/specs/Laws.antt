@@ -1,8 +1,9 @@
 -- What verdicts mean, and that each text has one answer.
-use Rattle.std.specs.Prelude.{◌≡◌, ◌↔◌, List, ℕ, Some, map}
+use Rattle.std.specs.Prelude.{◌≡◌, ◌↔◌, List, ℕ, Option, Some, None, map}
 use Rattle.sp_spec.specs.Lists.{Every}
 use Rattle.sp_spec.specs.Theory.{TraceKind, all_traces, exists_trace, Theory, Lemma}
-use Rattle.sp_spec.specs.Written.{theory_of}
+use Rattle.sp_spec.specs.Log.{Log}
+use Rattle.sp_spec.specs.Written.{WrittenTheory, theory_of}
 use Rattle.sp_spec.specs.Verdict.{HoldsInAll, HoldsInNone}
 use Rattle.sp_judge.specs.Rejected.{Clause, ReadIsAccepted}
 use Rattle.sp_check.specs.Tree.{Tree}
@@ -10,37 +11,39 @@ use Rattle.sp_written.specs.Text.{WrittenText, theory_in, proofs_in}
 use Rattle.sp_skel.specs.Spelling.{as_written}
 use Rattle.sp_place.specs.Refused.{IsRefusedAt}
 use Rattle.sp_pose.specs.Problem.{IsReported}
+use Rattle.sp_law_shown.specs.Shown.{FoundBreaks, FoundSatisfies}
+use Rattle.sp_analysis.specs.Sought.{context_of, setting_of, start}
 use Rattle.sp_analysis.specs.Verdict.{Verdict, verified, falsified, incomplete, rejected}
 use Rattle.sp_analysis.specs.Analysis.{Outcome, summary, trees_of, IsAnalysis}
 use Rattle.sp_analysis.specs.Checking.{Judged, IsChecking}
 
--- Verified: every execution satisfies the lemma. Falsified, of a lemma on some trace: no execution does. An incomplete analysis and a
--- rejected proof say nothing of executions.
-abbrev pub Means : Theory → TraceKind → Verdict → Lemma → Type 0
-Means theory all_traces verified lemma = HoldsInAll theory lemma
-Means theory all_traces falsified lemma = ⊥
-Means theory all_traces incomplete lemma = Unit {0}
-Means theory all_traces (rejected step clause) lemma = Unit {0}
-Means theory exists_trace verified lemma = ⊥
-Means theory exists_trace falsified lemma = HoldsInNone theory lemma
-Means theory exists_trace incomplete lemma = Unit {0}
-Means theory exists_trace (rejected step clause) lemma = Unit {0}
+-- Of a lemma on all traces: verified, every execution satisfies it; falsified, the log that was found stands for an execution that breaks
+-- it. Of one on some trace: verified, the log that was found stands for an execution that satisfies it; falsified, no execution does.
+-- An incomplete analysis and a rejected proof say nothing of executions.
+abbrev pub Means : Theory → TraceKind → Verdict → Option Log → Lemma → Type 0
+Means theory all_traces verified None lemma = HoldsInAll theory lemma
+Means theory all_traces falsified (Some log) lemma = FoundBreaks theory lemma log
+Means theory exists_trace verified (Some log) lemma = FoundSatisfies theory lemma log
+Means theory exists_trace falsified None lemma = HoldsInNone theory lemma
+Means theory kind incomplete None lemma = Unit {0}
+Means theory kind (rejected step clause) None lemma = Unit {0}
+Means theory kind verdict log lemma = ⊥
 
 abbrev pub IsRejected : Verdict → Type 0
 IsRejected verdict = (step : ℕ) × (clause : Clause) × (verdict ≡ rejected step clause)
 
 -- What is said of a lemma whose proof was checked is so, and its proof is accepted exactly where it isn't rejected: each step is a move,
 -- and an instance of it, and has its cases, by name and in order.
-pub record JudgedRightly (theory : Theory) (j : Judged) : Type 0 where
-  pub means : Means theory j.lemma.kind j.verdict j.lemma
-  pub accepts : (IsRejected j.verdict → ⊥) ↔ ReadIsAccepted theory.rules j.root j.proof
+pub record JudgedRightly (theory : WrittenTheory) (j : Judged) : Type 0 where
+  pub means : Means (theory_of theory) j.lemma.kind j.verdict j.log j.lemma
+  pub accepts : (IsRejected j.verdict → ⊥) ↔ ReadIsAccepted (context_of (setting_of theory) j.lemma.kind j.form) (start j.lemma.kind j.form) j.proof
 
 -- What is written of a lemma is so, steps of the adversary included.
 pub record VerdictsAreRight : Type 0 where
   pub right : (text written : List ℕ) (outcomes : List Outcome) (a : IsAnalysis text written outcomes)
-      → Every (λ (o : Outcome). Means (theory_of (theory_in a.theory)) o.lemma.kind o.verdict o.lemma) outcomes
+      → Every (λ (o : Outcome). Means (theory_of (theory_in a.theory)) o.lemma.kind o.verdict o.log o.lemma) outcomes
   pub judged_right : (text written : List ℕ) (judged : List Judged) (c : IsChecking text written judged)
-      → Every (JudgedRightly (theory_of (theory_in c.theory))) judged
+      → Every (JudgedRightly (theory_in c.theory)) judged
 
 -- Of a text one thing is written, by each command; and only one of three things comes of it: it is refused, reported on, or done with.
 pub record AnswersAreOne : Type 0 where
@@ -53,14 +56,15 @@ pub record AnswersAreOne : Type 0 where
   pub not_analysed : (text lines written : List ℕ) (outcomes : List Outcome) → IsReported text lines → IsAnalysis text written outcomes → ⊥
   pub not_checked : (text lines written : List ℕ) (judged : List Judged) → IsReported text lines → IsChecking text written judged → ⊥
 
--- What was written says the same theory, and the trees that were grown are its proofs; checked, each lemma gets the same line and the same
--- verdict.
+-- What was written says the same theory, and the trees that were grown are its proofs; checked, each lemma gets the same line, the same
+-- verdict and the same log.
 pub record IsCheckedAgain (theory : WrittenText) (written : List ℕ) (outcomes : List Outcome) : Type 0 where
   pub judged : List Judged
-  pub checking : IsChecking written (summary outcomes) judged
+  pub checking : IsChecking written (summary (theory_of (theory_in theory)).rules outcomes) judged
   pub same_theory : theory_in checking.theory ≡ theory_in theory
   pub proofs : proofs_in checking.theory.items ≡ map (λ (t : Tree). Some (as_written t)) (trees_of outcomes)
   pub verdicts : map (λ (j : Judged). j.verdict) judged ≡ map (λ (o : Outcome). o.verdict) outcomes
+  pub logs : map (λ (j : Judged). j.log) judged ≡ map (λ (o : Outcome). o.log) outcomes
 
 -- What is written of a text whose lemmas were tried is checked as they were tried.
 pub record WrittenIsChecked : Type 0 where

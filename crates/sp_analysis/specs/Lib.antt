@@ -1,5 +1,6 @@
 pub mod Sought
 pub mod Verdict
+pub mod Block
 pub mod Analysis
 pub mod Checking
 pub mod View

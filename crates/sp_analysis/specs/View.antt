@@ -1,6 +1,12 @@
--- The verdicts that those in memory stand for.
+-- The verdicts and settings that those in memory stand for.
+use Rattle.std.specs.Prelude.{map}
+use Rattle.sp_term.specs.View.{name_of}
+use Rattle.sp_ground.specs.View.{signature_of}
+use Rattle.sp_moves.specs.View.{book_of}
 use Rattle.sp_judge.specs.View.{clause_of}
+use Rattle.sp_analysis.specs.Sought as sought
 use Rattle.sp_analysis.specs.Verdict as spec
+use Rattle.sp_analysis.specs.declared.setting.Setting.{Setting}
 use Rattle.sp_analysis.specs.declared.verdict.Verdict.{Verdict}
 use Rattle.sp_analysis.specs.declared.verdict.Verdict.TheVariants.{Verified, Falsified, Incomplete, Rejected}
 
@@ -9,3 +15,6 @@ verdict_of Verified = spec.verified
 verdict_of Falsified = spec.falsified
 verdict_of Incomplete = spec.incomplete
 verdict_of (Rejected step clause) = spec.rejected step (clause_of clause)
+
+abbrev pub setting_in : Setting → sought.Setting
+setting_in s = record { signature = signature_of s.signature; rules = book_of s.rules; constants = map name_of s.constants.items }

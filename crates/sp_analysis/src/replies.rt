@@ -4,9 +4,11 @@ ghost use Rattle.std.specs.Prelude.{IfOk};
 ghost use Rattle.sp_pose.specs.Posed.{IsPosedBy};
 ghost use Rattle.sp_analysis.specs.Replies.{IsReplyTo};
 
+use crate::setting::Setting;
 use crate::tried::all_tried;
 use crate::verdict::Verdict;
 use crate::written::{verdicts, written_by};
+use sp_ground::signature::Signature;
 use sp_pose::{Problem, Read, posed_by};
 use std::alloc::{AllocError, Global};
 
@@ -37,10 +39,17 @@ fn done(alloc: Global, command: Command, text: &[u8], problem: Problem) -> Resul
 {
     let Problem {
         rules,
+        constants,
         lemmas,
         behind_end,
     } = problem;
-    let tried = all_tried(alloc, command, &rules, lemmas)?;
+    let signature = Signature::pairs(alloc)?;
+    let setting = Setting {
+        signature,
+        rules,
+        constants,
+    };
+    let tried = all_tried(alloc, command, &setting, lemmas)?;
     let written = written_by(alloc, command, text, &tried, behind_end)?;
     let verdicts = verdicts(alloc, &tried)?;
     Ok(Reply::Done(written, verdicts))

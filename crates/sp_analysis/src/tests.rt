@@ -7,6 +7,7 @@ fn writes_each_proof_and_verdict(rt: HostRuntime) -> Result<(), Fail> {
 lemma none: exists-trace \"Ex x #i. B(x)@i\"
 rule Make: [ Fr(~k) ] --[ A(~k) ]-> [ ]
 lemma once: \"All x #i #j. A(x)@i & A(x)@j ==> #i = #j\"
+lemma some: exists-trace \"Ex x #i. A(x)@i\"
 end behind";
     let wanted = b"theory R begin
 lemma none: exists-trace \"Ex x #i. B(x)@i\"
@@ -24,10 +25,24 @@ solve( action 0 )
   qed
 qed
 
+lemma some: exists-trace \"Ex x #i. A(x)@i\"
+simplify
+solve( action 0 )
+  case Make
+  SOLVED
+qed
+
 end
 /*
 none (exists-trace): falsified - no trace found (2 steps)
 once (all-traces): verified (4 steps)
+some (exists-trace): verified (3 steps)
+execution:
+fresh ~n1
+rule Make: k = ~n1
+trace:
+A(~n1)
+end of trace
 */
 ";
     let Reply::Done(written, verdicts) = answer(rt.alloc(), Command::Prove, text)? else {
@@ -36,7 +51,7 @@ once (all-traces): verified (4 steps)
     assert_eq!(rt; written.as_slice(), wanted.as_slice());
     assert_eq!(rt;
         verdicts.as_slice(),
-        [Verdict::Falsified, Verdict::Verified].as_slice()
+        [Verdict::Falsified, Verdict::Verified, Verdict::Verified].as_slice()
     );
     Ok(())
 }
@@ -47,16 +62,21 @@ fn checks_the_proofs_that_stand_there(rt: HostRuntime) -> Result<(), Fail> {
 lemma open: \"All x #i. A(x)@i ==> F\"
 lemma none: exists-trace \"Ex x #i. B(x)@i\" simplify by solve(action 0)
 lemma other: exists-trace \"Ex x #i. B(x)@i\" simplify by contradiction
+lemma never: \"F\" simplify SOLVED
 end";
     let wanted = b"open (all-traces): analysis incomplete (0 steps)
 none (exists-trace): falsified - no trace found (2 steps)
 other (exists-trace): rejected at step 2 (instance)
+never (all-traces): falsified - found trace (2 steps)
+execution:
+trace:
+end of trace
 ";
     let Reply::Done(written, verdicts) = answer(rt.alloc(), Command::Check, text)? else {
         return Err("nothing is posed".into());
     };
     assert_eq!(rt; written.as_slice(), wanted.as_slice());
-    assert_eq!(rt; verdicts.len(), 3);
+    assert_eq!(rt; verdicts.len(), 4);
     Ok(())
 }
 

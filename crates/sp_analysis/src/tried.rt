@@ -4,28 +4,34 @@ ghost use Rattle.std.specs.Prelude.{◌≡◌, IfOk, OnOk, map, option_map};
 ghost use Rattle.sp_spec.specs.Lists.{Every};
 ghost use Rattle.sp_written.specs.Views as view;
 ghost use Rattle.sp_formula.specs.FormulaView.{formula_of};
-ghost use Rattle.sp_moves.specs.View.{book_of};
+ghost use Rattle.sp_moves.specs.View as moves;
 ghost use Rattle.sp_system.specs.SystemView.{system_of};
 ghost use Rattle.sp_check.specs.Root as check;
 ghost use Rattle.sp_grow.specs.Finished.{finished};
-ghost use Rattle.sp_grow.specs.View.{tree_of};
+ghost use Rattle.sp_grow.specs.Kept.{log_in};
+ghost use Rattle.sp_grow.specs.View.{kept_of, tree_of};
+ghost use Rattle.sp_log.specs.View.{log_of};
 ghost use Rattle.sp_judge.specs.View.{skeleton_of, judgement_of};
 ghost use Rattle.sp_analysis.specs.Sought as spec;
 ghost use Rattle.sp_analysis.specs.Checking.{proof_read};
-ghost use Rattle.sp_analysis.specs.View.{verdict_of};
+ghost use Rattle.sp_analysis.specs.View.{setting_in, verdict_of};
 ghost use Rattle.sp_pose.specs.Asked as ask;
 ghost use Rattle.sp_analysis.specs.Kept as keep;
 
+use crate::block::block_of;
 use crate::replies::Command;
+use crate::setting::Setting;
 use crate::verdict::Verdict;
 use sp_formula::formula::Formula;
 use sp_grow::{Tree, grown_tree, is_finished, steps};
 use sp_guard::negate::negate;
 use sp_judge::{Judgement, Skeleton, Step, judge};
-use sp_moves::book::RuleBook;
+use sp_log::log::Log;
+use sp_moves::context::Context;
 use sp_moves::moves::Move;
 use sp_pose::GuardedLemma;
 use sp_skel::skeleton;
+use sp_solved::Sought;
 use sp_system::system::System;
 use sp_text::tree_text;
 use sp_written::{Span, TraceKind, WrittenProof};
@@ -49,6 +55,8 @@ pub struct Tried<'a> {
     pub span: Span,
     /// the text of the proof that was grown; empty where one was checked
     pub proof: String,
+    /// the block of the execution that was found; empty where none was
+    pub block: String,
 }
 
 /// The formula that a proof begins with.
@@ -62,11 +70,11 @@ fn sought(alloc: Global, kind: TraceKind, form: Formula) -> Result<Formula, Allo
 }
 
 /// The system in which a proof begins.
-fn root(alloc: Global, sought: Formula) -> Result<System, AllocError>
-    ensures { IfOk result (λ s. system_of s ≡ check.root (formula_of sought)) }
+fn root(alloc: Global, sought: &Formula) -> Result<System, AllocError>
+    ensures { IfOk result (λ s. system_of s ≡ check.root (formula_of sought.now)) }
 {
     let mut formulas = Vec::new(alloc);
-    formulas.push(sought)?;
+    formulas.push(sought.copy(alloc)?)?;
     Ok(System {
         events: Vec::new(alloc),
         formulas,
@@ -77,22 +85,21 @@ fn root(alloc: Global, sought: Formula) -> Result<System, AllocError>
     })
 }
 
-/// The proof tree that is grown for a lemma with this guarded form.
-fn proof_tree(
-    alloc: Global,
-    rules: &RuleBook,
-    kind: TraceKind,
-    form: Formula,
-) -> Result<Tree, AllocError>
-    ensures { IfOk result (λ t. tree_of t ≡ spec.proof_tree (book_of rules.now) (view.kind kind) (formula_of form)) }
+/// What the lemma's proof is made in: the search ends with a log over whose trace the formula is true.
+fn context_of<'a>(setting: &'a Setting, formula: &'a Formula) -> Context<'a>
+    ensures { moves.context_of result ≡ spec.context_with (setting_in setting.now) (formula_of formula.now) }
 {
-    let formula = sought(alloc, kind, form)?;
-    let root = root(alloc, formula)?;
-    let tree = grown_tree(alloc, rules, root, BUDGET)?;
-    Ok(tree)
+    Context {
+        rules: &setting.rules,
+        sought: Sought {
+            signature: &setting.signature,
+            constants: &setting.constants,
+            formula,
+        },
+    }
 }
 
-/// What a proof without open leaves says.
+/// What a finished proof says.
 fn shown(kind: TraceKind) -> Verdict
     ensures { verdict_of result ≡ keep.shown (view.kind kind) }
 {
@@ -102,7 +109,17 @@ fn shown(kind: TraceKind) -> Verdict
     }
 }
 
-/// What a tree that was grown says of its lemma.
+/// What a log says with which the search ends.
+fn found_says(kind: TraceKind) -> Verdict
+    ensures { verdict_of result ≡ keep.found_says (view.kind kind) }
+{
+    match kind {
+        TraceKind::AllTraces => Verdict::Falsified,
+        TraceKind::ExistsTrace => Verdict::Verified,
+    }
+}
+
+/// What a tree without a log says of its lemma.
 fn by_leaves(kind: TraceKind, tree: &Tree) -> Verdict
     ensures { verdict_of result ≡ keep.by_leaves (view.kind kind) (finished (tree_of tree.now)) }
 {
@@ -113,12 +130,23 @@ fn by_leaves(kind: TraceKind, tree: &Tree) -> Verdict
     }
 }
 
+/// What a tree that was grown says of its lemma.
+fn by_tree(kind: TraceKind, tree: &Tree) -> Verdict
+    ensures { verdict_of result ≡ keep.by_tree (view.kind kind) (log_in (kept_of tree.now)) (finished (tree_of tree.now)) }
+{
+    match tree.found_log() {
+        Some(_) => found_says(kind),
+        None => by_leaves(kind, tree),
+    }
+}
+
 /// What the judgement of a proof says of its lemma.
-fn by_judgement(kind: TraceKind, judgement: Judgement) -> Verdict
-    ensures { verdict_of result ≡ keep.by_judgement (view.kind kind) (judgement_of judgement) }
+fn by_judgement(kind: TraceKind, judgement: &Judgement) -> Verdict
+    ensures { verdict_of result ≡ keep.by_judgement (view.kind kind) (judgement_of judgement.now) }
 {
     match judgement {
-        Judgement::Rejected(step, clause) => Verdict::Rejected(step, clause),
+        Judgement::Rejected(step, clause) => Verdict::Rejected(*step, *clause),
+        Judgement::Found(_) => found_says(kind),
         Judgement::Finished => shown(kind),
         Judgement::Incomplete => Verdict::Incomplete,
     }
@@ -127,11 +155,11 @@ fn by_judgement(kind: TraceKind, judgement: Judgement) -> Verdict
 /// What comes of the lemma where a proof is grown for it.
 fn try_lemma<'a>(
     alloc: Global,
-    rules: &RuleBook,
+    setting: &Setting,
     lemma: GuardedLemma<'a>,
 ) -> Result<Tried<'a>, AllocError>
-    ensures due { IfOk result (λ t. keep.kept_of t ≡ keep.due Command.Prove (book_of rules.now) (ask.asked_of lemma.entry)) }
-    ensures places { OnOk result (keep.IsNameable Command.Prove (book_of rules.now) (ask.asked_of lemma.entry)) }
+    ensures due { IfOk result (λ t. keep.kept_of t ≡ keep.due Command.Prove (setting_in setting.now) (ask.asked_of lemma.entry)) }
+    ensures places { OnOk result (keep.IsNameable Command.Prove (setting_in setting.now) (ask.asked_of lemma.entry)) }
 {
     let GuardedLemma {
         name,
@@ -140,10 +168,14 @@ fn try_lemma<'a>(
         proof: _,
         span,
     } = lemma;
-    let tree = proof_tree(alloc, rules, kind, form)?;
-    let verdict = by_leaves(kind, &tree);
+    let formula = sought(alloc, kind, form)?;
+    let context = context_of(setting, &formula);
+    let root = root(alloc, &formula)?;
+    let tree = grown_tree(alloc, &context, root, BUDGET)?;
+    let verdict = by_tree(kind, &tree);
     let steps = steps(&tree);
     let proof = tree_text(alloc, &tree)?;
+    let block = block_of(alloc, &setting.rules, tree.found_log())?;
     Ok(Tried {
         name,
         kind,
@@ -151,6 +183,7 @@ fn try_lemma<'a>(
         steps,
         span,
         proof,
+        block,
     })
 }
 
@@ -167,13 +200,23 @@ fn read_proof(alloc: Global, proof: &Option<WrittenProof>) -> Result<Skeleton, A
     }
 }
 
+/// The log of a judgement, if it has one.
+fn judged_log(judgement: &Judgement) -> Option<&Log>
+    ensures { option_map (λ l. log_of l.now) result ≡ keep.judged_log (judgement_of judgement.now) }
+{
+    match judgement {
+        Judgement::Found(log) => Some(log),
+        _ => None,
+    }
+}
+
 /// What comes of the lemma where its proof is checked.
 fn judge_lemma<'a>(
     alloc: Global,
-    rules: &RuleBook,
+    setting: &Setting,
     lemma: GuardedLemma<'a>,
 ) -> Result<Tried<'a>, AllocError>
-    ensures { IfOk result (λ t. keep.kept_of t ≡ keep.due Command.Check (book_of rules.now) (ask.asked_of lemma.entry)) }
+    ensures { IfOk result (λ t. keep.kept_of t ≡ keep.due Command.Check (setting_in setting.now) (ask.asked_of lemma.entry)) }
 {
     let GuardedLemma {
         name,
@@ -184,10 +227,12 @@ fn judge_lemma<'a>(
     } = lemma;
     let tree = read_proof(alloc, &proof)?;
     let formula = sought(alloc, kind, form)?;
-    let root = root(alloc, formula)?;
-    let judgement = judge(alloc, rules, root, &tree)?;
-    let verdict = by_judgement(kind, judgement);
+    let context = context_of(setting, &formula);
+    let root = root(alloc, &formula)?;
+    let judgement = judge(alloc, &context, root, &tree)?;
+    let verdict = by_judgement(kind, &judgement);
     let steps = sp_judge::steps(&tree);
+    let block = block_of(alloc, &setting.rules, judged_log(&judgement))?;
     Ok(Tried {
         name,
         kind,
@@ -195,6 +240,7 @@ fn judge_lemma<'a>(
         steps,
         span,
         proof: String::new(alloc),
+        block,
     })
 }
 
@@ -202,15 +248,15 @@ fn judge_lemma<'a>(
 fn outcome<'a>(
     alloc: Global,
     command: Command,
-    rules: &RuleBook,
+    setting: &Setting,
     lemma: GuardedLemma<'a>,
 ) -> Result<Tried<'a>, AllocError>
-    ensures due { IfOk result (λ t. keep.kept_of t ≡ keep.due command (book_of rules.now) (ask.asked_of lemma.entry)) }
-    ensures places { OnOk result (keep.IsNameable command (book_of rules.now) (ask.asked_of lemma.entry)) }
+    ensures due { IfOk result (λ t. keep.kept_of t ≡ keep.due command (setting_in setting.now) (ask.asked_of lemma.entry)) }
+    ensures places { OnOk result (keep.IsNameable command (setting_in setting.now) (ask.asked_of lemma.entry)) }
 {
     match command {
-        Command::Prove => try_lemma(alloc, rules, lemma),
-        Command::Check => judge_lemma(alloc, rules, lemma),
+        Command::Prove => try_lemma(alloc, setting, lemma),
+        Command::Check => judge_lemma(alloc, setting, lemma),
     }
 }
 
@@ -222,15 +268,15 @@ fn outcome<'a>(
 pub fn all_tried<'a>(
     alloc: Global,
     command: Command,
-    rules: &RuleBook,
+    setting: &Setting,
     lemmas: Vec<GuardedLemma<'a>>,
 ) -> Result<Vec<Tried<'a>>, AllocError>
-    ensures due { IfOk result (λ ts. map keep.kept_of ts.items ≡ keep.dues command (book_of rules.now) (map ask.asked_of lemmas.entry.items)) }
-    ensures places { OnOk result (Every (keep.IsNameable command (book_of rules.now)) (map ask.asked_of lemmas.entry.items)) }
+    ensures due { IfOk result (λ ts. map keep.kept_of ts.items ≡ keep.dues command (setting_in setting.now) (map ask.asked_of lemmas.entry.items)) }
+    ensures places { OnOk result (Every (keep.IsNameable command (setting_in setting.now)) (map ask.asked_of lemmas.entry.items)) }
 {
     let mut made = Vec::with_capacity(alloc, lemmas.len())?;
     for lemma in lemmas {
-        made.push(outcome(alloc, command, rules, lemma)?)?;
+        made.push(outcome(alloc, command, setting, lemma)?)?;
     }
     Ok(made)
 }

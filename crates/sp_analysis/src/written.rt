@@ -79,13 +79,31 @@ fn clause_text(clause: Clause) -> &'static str
     }
 }
 
+/// What falsifies a lemma.
+fn falsified_text(kind: TraceKind) -> &'static str
+    ensures { result.now ≡ spec.falsified_text (view.kind kind) }
+{
+    match kind {
+        TraceKind::AllTraces => "falsified - found trace",
+        TraceKind::ExistsTrace => "falsified - no trace found",
+    }
+}
+
 /// The words of a verdict, with the number of the proof's steps.
-fn verdict_text(alloc: Global, verdict: Verdict, steps: u64) -> Result<String, AllocError>
-    ensures { IfOk result (λ text. string_bytes text ≡ spec.verdict_text (verdict_of verdict) steps) }
+fn verdict_text(
+    alloc: Global,
+    kind: TraceKind,
+    verdict: Verdict,
+    steps: u64,
+) -> Result<String, AllocError>
+    ensures { IfOk result (λ text. string_bytes text ≡ spec.verdict_text (view.kind kind) (verdict_of verdict) steps) }
 {
     match verdict {
         Verdict::Verified => format!(in alloc; "verified ({steps} steps)\n"),
-        Verdict::Falsified => { format!(in alloc; "falsified - no trace found ({steps} steps)\n") }
+        Verdict::Falsified => {
+            let words = falsified_text(kind);
+            format!(in alloc; "{words} ({steps} steps)\n")
+        }
         Verdict::Incomplete => format!(in alloc; "analysis incomplete ({steps} steps)\n"),
         Verdict::Rejected(step, clause) => {
             let word = clause_text(clause);
@@ -100,18 +118,19 @@ fn summary_line(alloc: Global, lemma: &Tried) -> Result<String, AllocError>
 {
     let name = lemma.name;
     let kind = kind_text(lemma.kind);
-    let words = verdict_text(alloc, lemma.verdict, lemma.steps)?;
+    let words = verdict_text(alloc, lemma.kind, lemma.verdict, lemma.steps)?;
     let line = format!(in alloc; "{name} ({kind}): {words}")?;
     Ok(line)
 }
 
-/// Puts a line for each lemma at the end.
+/// Puts a line for each lemma at the end, with the execution that was found behind it.
 fn write_summary(alloc: Global, out: &mut Vec<u8>, lemmas: &Vec<Tried>) -> Result<(), AllocError>
     ensures { OnOk result (out.new.items ≡ out.old.items ++ keep.lines (map keep.kept_of lemmas.now.items)) }
 {
     for lemma in lemmas {
         let line = summary_line(alloc, lemma)?;
         out.extend_from_slice(line.as_bytes())?;
+        out.extend_from_slice(lemma.block.as_bytes())?;
     }
     Ok(())
 }

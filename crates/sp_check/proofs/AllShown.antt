@@ -1,4 +1,4 @@
--- What accepted trees without open leaves show of lemmas.
+-- What finished trees show of lemmas.
 use Rattle.std.proofs.Common.{◌≡◌, List, [], ◌∷◌, Some, false, refl, inl, inr}
 use Rattle.sp_spec.specs.Lists.{Member, Every}
 use Rattle.sp_spec.specs.Theory.{Lemma, signature_of}
@@ -17,6 +17,7 @@ use Rattle.sp_law_guard.proofs.Kept.{form_kept}
 use Rattle.sp_law_guard.proofs.Turned.{turned}
 use Rattle.sp_law_erase.proofs.Erased.{executions_erase}
 use Rattle.sp_system.specs.System.{assignment}
+use Rattle.sp_step.specs.Moves.{Context}
 use Rattle.sp_step.specs.Laws.{IsPlainTheory}
 use Rattle.sp_step.proofs.Covering.{plain_moves_cover}
 use Rattle.sp_check.specs.Tree.{Tree, IsAccepted, IsFinished}
@@ -46,30 +47,30 @@ module _ (t : WrittenTheory) (rules : Every IsPlainRule t.rules) (fr : Every (λ
     plain = rules_plain (signature_of (theory_of t)).equations t.rules rules;
   }
 
-  -- a formula from which an accepted tree without open leaves grows is true in no execution
-  in_none : (h : Guarded) → IsRight h → (tree : Tree) → IsAccepted (theory_of t).rules (root h) tree → IsFinished tree
+  -- a formula from which a finished tree grows is true in no execution
+  in_none : (h : Guarded) → IsRight h → (context : Context) → context.rules ≡ (theory_of t).rules → (tree : Tree) → IsAccepted context (root h) tree → IsFinished tree
       → (steps : List Step) (trace : Trace) → IsExecution (theory_of t) steps trace → GuardedHolds (signature_of (theory_of t)) trace (assignment start) h → ⊥
-  in_none h right tree accepted finished steps trace execution holds =
+  in_none h right context rules_are tree accepted finished steps trace execution holds =
       let theory = theory_of t in
       let signature = signature_of theory in
       let r = executions_erase theory pairs_convergent (rules_leave_adversary t rules fr) steps trace execution in
       let equal = erased_shown signature.equations (action_names h) (right_not_send h right) trace (log_trace r.0) r.1.same_trace in
       let over_log = (equal_shown_same signature (action_names h) trace (log_trace r.0) equal (assignment start) h (right_timed h right) (every_itself (action_names h))).0 holds in
-      finished_tree theory (plain_moves_cover theory plain) tree (root h) (right_numbered h right) accepted finished r.0 r.1.is_log start (right_solved theory r.0 h right over_log)
+      finished_tree theory (plain_moves_cover theory plain) context rules_are tree (root h) (right_numbered h right) accepted finished r.0 r.1.is_log start (right_solved theory r.0 h right over_log)
 
   lemma_right : (lemma : Lemma) → IsPlainFormula lemma.formula → (g : Guarded) → checked_form lemma.formula ≡ Some g → IsRight g
   lemma_right lemma f g e = let c = form_checked lemma.formula g e in form_right lemma.formula g f c.0 c.1
 
 pub lemmas_are_shown_lem : LemmasAreShown
 lemmas_are_shown_lem = record {
-  all_traces = λ t rules fr lemma f g e tree accepted finished steps trace execution meets.
+  all_traces = λ t rules fr lemma f g e context rules_are tree accepted finished steps trace execution meets.
       let signature = signature_of (theory_of t) in
       let kept = form_kept signature trace lemma.formula g (form_checked lemma.formula g e).0 (assignment start) in
       stable_truth signature trace [] lemma.formula (λ broken.
-      in_none t rules fr _ (right_negation g (lemma_right t rules fr lemma f g e)) tree accepted finished steps trace execution
+      in_none t rules fr _ (right_negation g (lemma_right t rules fr lemma f g e)) context rules_are tree accepted finished steps trace execution
       ((turned signature trace g (assignment start)).1 (λ holds. broken (kept.1 holds))));
-  exists_trace = λ t rules fr lemma f g e tree accepted finished steps trace execution meets holds.
+  exists_trace = λ t rules fr lemma f g e context rules_are tree accepted finished steps trace execution meets holds.
       let signature = signature_of (theory_of t) in
       let kept = form_kept signature trace lemma.formula g (form_checked lemma.formula g e).0 (assignment start) in
-      in_none t rules fr g (lemma_right t rules fr lemma f g e) tree accepted finished steps trace execution (kept.0 holds);
+      in_none t rules fr g (lemma_right t rules fr lemma f g e) context rules_are tree accepted finished steps trace execution (kept.0 holds);
 }

@@ -7,3 +7,4 @@ pub mod WrittenRules
 pub mod Forms
 pub mod PlacedForms
 pub mod AllShown
+pub mod Logs

@@ -1,27 +1,28 @@
 -- How a tree is grown: this project's own search. One open leaf after the other is replaced by its chosen move.
-use Rattle.std.specs.Prelude.{ℕ, zero, suc, ◌+◌, ◌==◌, min, Bool, true, false, List, [], ◌∷◌, Option, Some, None, option_map, is_some, if◌then◌else◌}
-use Rattle.sp_spec.specs.Rule.{Rule}
+use Rattle.std.specs.Prelude.{ℕ, zero, suc, ◌+◌, ◌==◌, ◌||◌, min, Bool, true, false, List, [], ◌∷◌, Option, Some, None, option_map, is_some, if◌then◌else◌}
 use Rattle.sp_spec.specs.Guarded.{Guarded}
 use Rattle.sp_system.specs.System.{System}
 use Rattle.sp_step.specs.Rows.{rows, by_rows, is_contradictory}
-use Rattle.sp_step.specs.Moves.{Move, simplify, contradiction, unproved, action, Case, cases}
-use Rattle.sp_check.specs.Tree.{Tree, node, Branches, no_branch, branch}
+use Rattle.sp_step.specs.Moves.{Move, simplify, contradiction, unproved, solved, action, Context, Case, cases}
+use Rattle.sp_check.specs.Tree.{is_solved, Tree, node, Branches, no_branch, branch}
 
--- Choice: a contradiction, else simplification, else the action of the lowest place; none where none of them is an instance.
-abbrev pub first_action : List Rule → System → ℕ → List Guarded → Move
-first_action rules s k [] = unproved
-first_action rules s k (f ∷ fs) = if is_some (cases rules s (action k)) then action k else first_action rules s (suc k) fs
+-- Choice: a contradiction, else simplification, else the end of the search, else the action of the lowest place; none where none of them is an instance.
+abbrev pub first_action : Context → System → ℕ → List Guarded → Move
+first_action context s k [] = unproved
+first_action context s k (f ∷ fs) = if is_some (cases context s (action k)) then action k else first_action context s (suc k) fs
 
-abbrev pub choice : List Rule → System → Move
-choice rules s =
+abbrev pub choice : Context → System → Move
+choice context s =
     if is_contradictory s then contradiction
     else if is_some (by_rows rows s) then simplify
-    else first_action rules s 0 s.formulas
+    else if is_some (context.found s) then solved
+    else first_action context s 0 s.formulas
 
 -- The class of an open leaf is the rank of its chosen move and its depth; a leaf without a move has none.
 abbrev pub class_of : Move → ℕ → Option ℕ
 class_of contradiction depth = Some (1 + depth)
 class_of simplify depth = Some (2 + depth)
+class_of solved depth = Some (3 + depth)
 class_of (action k) depth = Some (5 + depth)
 class_of unproved depth = None
 
@@ -36,13 +37,13 @@ is_unproved move = false
 
 -- the least class of the tree's open leaves
 abbrev mutual
-  pub least_class : List Rule → ℕ → System → Tree → Option ℕ
-  least_class rules depth s (node move branches) =
-      if is_unproved move then class_of (choice rules s) depth else least_class_in rules (suc depth) (cases rules s move) branches
+  pub least_class : Context → ℕ → System → Tree → Option ℕ
+  least_class context depth s (node move branches) =
+      if is_unproved move then class_of (choice context s) depth else least_class_in context (suc depth) (cases context s move) branches
 
-  pub least_class_in : List Rule → ℕ → Option (List Case) → Branches → Option ℕ
-  least_class_in rules depth (Some (c ∷ cs)) (branch name tree branches) = least (least_class rules depth c.system tree) (least_class_in rules depth (Some cs) branches)
-  least_class_in rules depth cs branches = None
+  pub least_class_in : Context → ℕ → Option (List Case) → Branches → Option ℕ
+  least_class_in context depth (Some (c ∷ cs)) (branch name tree branches) = least (least_class context depth c.system tree) (least_class_in context depth (Some cs) branches)
+  least_class_in context depth cs branches = None
 
 -- an open leaf for each case
 abbrev pub leaves_for : List Case → Branches
@@ -58,8 +59,8 @@ has_class None k = false
 has_class (Some j) k = j == k
 
 -- the leaf replaced by its chosen move, with an open leaf at each case
-abbrev pub grown_leaf : List Rule → System → Move → Tree
-grown_leaf rules s move = node move (open_leaves (cases rules s move))
+abbrev pub grown_leaf : Context → System → Move → Tree
+grown_leaf context s move = node move (open_leaves (cases context s move))
 
 abbrev pub first_grown : List ℕ → Tree → Branches → Option Tree → Option Branches → Option Branches
 first_grown name tree branches (Some grown) later = Some (branch name grown branches)
@@ -67,29 +68,42 @@ first_grown name tree branches None later = option_map (branch name tree) later
 
 -- the first open leaf in preorder of this class is replaced; none if there is no such leaf
 abbrev mutual
-  pub grown_at : List Rule → ℕ → ℕ → System → Tree → Option Tree
-  grown_at rules k depth s (node move branches) =
+  pub grown_at : Context → ℕ → ℕ → System → Tree → Option Tree
+  grown_at context k depth s (node move branches) =
       if is_unproved move
-      then (if has_class (class_of (choice rules s) depth) k then Some (grown_leaf rules s (choice rules s)) else None)
-      else option_map (node move) (grown_in rules k (suc depth) (cases rules s move) branches)
+      then (if has_class (class_of (choice context s) depth) k then Some (grown_leaf context s (choice context s)) else None)
+      else option_map (node move) (grown_in context k (suc depth) (cases context s move) branches)
 
-  pub grown_in : List Rule → ℕ → ℕ → Option (List Case) → Branches → Option Branches
-  grown_in rules k depth (Some (c ∷ cs)) (branch name tree branches) =
-      first_grown name tree branches (grown_at rules k depth c.system tree) (grown_in rules k depth (Some cs) branches)
-  grown_in rules k depth cs branches = None
+  pub grown_in : Context → ℕ → ℕ → Option (List Case) → Branches → Option Branches
+  grown_in context k depth (Some (c ∷ cs)) (branch name tree branches) =
+      first_grown name tree branches (grown_at context k depth c.system tree) (grown_in context k depth (Some cs) branches)
+  grown_in context k depth cs branches = None
 
-abbrev pub grown_once : List Rule → System → Tree → Option ℕ → Option Tree
-grown_once rules s tree None = None
-grown_once rules s tree (Some k) = grown_at rules k 0 s tree
+-- whether the search ends at some leaf
+abbrev mutual
+  pub has_end : Tree → Bool
+  has_end (node move branches) = is_solved move || some_end branches
+
+  pub some_end : Branches → Bool
+  some_end no_branch = false
+  some_end (branch name tree branches) = has_end tree || some_end branches
+
+abbrev pub grown_by : Context → System → Tree → Option ℕ → Option Tree
+grown_by context s tree None = None
+grown_by context s tree (Some k) = grown_at context k 0 s tree
+
+-- one turn; none once the search has ended
+abbrev pub grown_once : Context → System → Tree → Option Tree
+grown_once context s tree = if has_end tree then None else grown_by context s tree (least_class context 0 s tree)
 
 abbrev pub go_on : (Tree → Tree) → Tree → Option Tree → Tree
 go_on again tree None = tree
 go_on again tree (Some grown) = again grown
 
--- the open leaf of least class, the first in preorder, is replaced, as often as the budget says and as there is one
-unfoldable pub grown : List Rule → System → ℕ → Tree → Tree
-grown rules s zero tree = tree
-grown rules s (suc budget) tree = go_on (grown rules s budget) tree (grown_once rules s tree (least_class rules 0 s tree))
+-- the open leaf of least class, the first in preorder, is replaced, as often as the budget says and as there is one, until the search ends
+unfoldable pub grown : Context → System → ℕ → Tree → Tree
+grown context s zero tree = tree
+grown context s (suc budget) tree = go_on (grown context s budget) tree (grown_once context s tree)
 
-abbrev pub grown_tree : List Rule → System → ℕ → Tree
-grown_tree rules s budget = grown rules s budget (node unproved no_branch)
+abbrev pub grown_tree : Context → System → ℕ → Tree
+grown_tree context s budget = grown context s budget (node unproved no_branch)

@@ -1,8 +1,8 @@
 -- Proof trees: which are accepted. Source: Tamarin manual, "Proofs".
-use Rattle.std.specs.Prelude.{◌≡◌, ℕ, ◌+◌, List, [], ◌∷◌, Option, Some, None}
-use Rattle.sp_spec.specs.Rule.{Rule}
+use Rattle.std.specs.Prelude.{◌≡◌, ℕ, ◌+◌, Bool, true, false, if◌then◌else◌, List, [], ◌∷◌, Option, Some, None}
+use Rattle.sp_spec.specs.Log.{Log}
 use Rattle.sp_system.specs.System.{System}
-use Rattle.sp_step.specs.Moves.{Move, unproved, Case, cases}
+use Rattle.sp_step.specs.Moves.{Move, unproved, solved, Context, Case, cases}
 
 -- a move, and a tree for each of its cases, by the case's name
 mutual
@@ -15,28 +15,47 @@ mutual
 
 -- At each node the move is an instance, and the branches are its cases in their order, each with a tree that is accepted for it.
 abbrev mutual
-  pub IsAccepted : List Rule → System → Tree → Type 0
-  IsAccepted rules s (node move branches) = AreAccepted rules (cases rules s move) branches
+  pub IsAccepted : Context → System → Tree → Type 0
+  IsAccepted context s (node move branches) = AreAccepted context (cases context s move) branches
 
-  pub AreAccepted : List Rule → Option (List Case) → Branches → Type 0
-  AreAccepted rules None branches = ⊥
-  AreAccepted rules (Some []) no_branch = Unit {0}
-  AreAccepted rules (Some []) (branch name tree branches) = ⊥
-  AreAccepted rules (Some (c ∷ cs)) no_branch = ⊥
-  AreAccepted rules (Some (c ∷ cs)) (branch name tree branches) = (name ≡ c.name) × IsAccepted rules c.system tree × AreAccepted rules (Some cs) branches
+  pub AreAccepted : Context → Option (List Case) → Branches → Type 0
+  AreAccepted context None branches = ⊥
+  AreAccepted context (Some []) no_branch = Unit {0}
+  AreAccepted context (Some []) (branch name tree branches) = ⊥
+  AreAccepted context (Some (c ∷ cs)) no_branch = ⊥
+  AreAccepted context (Some (c ∷ cs)) (branch name tree branches) = (name ≡ c.name) × IsAccepted context c.system tree × AreAccepted context (Some cs) branches
 
-abbrev pub IsOpen : Move → Type 0
-IsOpen unproved = Unit {0}
-IsOpen move = ⊥
+-- a leaf at which a solution may be left: an open one, or one with which the search ends
+abbrev pub IsLeft : Move → Type 0
+IsLeft unproved = Unit {0}
+IsLeft solved = Unit {0}
+IsLeft move = ⊥
 
--- no leaf is left open
+-- no such leaf is left
 abbrev mutual
   pub IsFinished : Tree → Type 0
-  IsFinished (node move branches) = (IsOpen move → ⊥) × AreFinished branches
+  IsFinished (node move branches) = (IsLeft move → ⊥) × AreFinished branches
 
   pub AreFinished : Branches → Type 0
   AreFinished no_branch = Unit {0}
   AreFinished (branch name tree branches) = IsFinished tree × AreFinished branches
+
+abbrev pub is_solved : Move → Bool
+is_solved solved = true
+is_solved move = false
+
+abbrev pub first_log : Option Log → Option Log → Option Log
+first_log (Some log) later = Some log
+first_log None later = later
+
+-- the log of the first leaf in preorder with which the search ends
+abbrev mutual
+  pub found_log : Context → System → Tree → Option Log
+  found_log context s (node move branches) = if is_solved move then context.found s else found_below context (cases context s move) branches
+
+  pub found_below : Context → Option (List Case) → Branches → Option Log
+  found_below context (Some (c ∷ cs)) (branch name tree branches) = first_log (found_log context c.system tree) (found_below context (Some cs) branches)
+  found_below context cs branches = None
 
 -- how many nodes aren't open leaves
 abbrev pub step_of : Move → ℕ

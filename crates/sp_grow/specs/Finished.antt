@@ -1,11 +1,15 @@
--- A test whether no leaf is open.
-use Rattle.std.specs.Prelude.{Bool, true, ◌&&◌, not}
-use Rattle.sp_check.specs.Tree.{Tree, node, Branches, no_branch, branch}
+-- A test whether no leaf is left at which a solution may be.
+use Rattle.std.specs.Prelude.{Bool, true, ◌&&◌, ◌||◌, not}
+use Rattle.sp_step.specs.Moves.{Move}
+use Rattle.sp_check.specs.Tree.{is_solved, Tree, node, Branches, no_branch, branch}
 use Rattle.sp_check.specs.Growth.{is_unproved}
+
+abbrev pub is_left : Move → Bool
+is_left move = is_unproved move || is_solved move
 
 abbrev mutual
   pub finished : Tree → Bool
-  finished (node move branches) = not (is_unproved move) && all_finished branches
+  finished (node move branches) = not (is_left move) && all_finished branches
 
   pub all_finished : Branches → Bool
   all_finished no_branch = true

@@ -1,15 +1,17 @@
 -- How trees in memory are grown, by the systems and moves that they hold.
-use Rattle.std.specs.Prelude.{ℕ, ◌+◌, Bool, true, false, List, map, Option, Some, None}
-use Rattle.sp_spec.specs.Rule.{Rule}
+use Rattle.std.specs.Prelude.{ℕ, ◌+◌, Bool, true, false, List, map, Option, Some, None, is_some, if◌then◌else◌}
+use Rattle.sp_spec.specs.Log.{Log}
 use Rattle.sp_system.specs.System.{System}
-use Rattle.sp_step.specs.Moves.{Move, Case, cases}
+use Rattle.sp_step.specs.Moves.{Move, solved, Context, Case, cases}
+use Rattle.sp_check.specs.Tree.{is_solved}
 use Rattle.sp_check.specs.Growth.{choice, class_of, least, has_class}
-use Rattle.sp_grow.specs.Kept.{Kept, leaf, inner, Keeps, nothing, also, all_kept}
+use Rattle.sp_grow.specs.Kept.{Kept, leaf, ended, inner, Keeps, nothing, also, all_kept, log_in}
 
 -- the least class of the open leaves
 abbrev mutual
   pub least_kept : ℕ → Kept → Option ℕ
   least_kept depth (leaf s move) = class_of move depth
+  least_kept depth (ended log) = None
   least_kept depth (inner move branches) = least_in (depth + 1) branches
 
   pub least_in : ℕ → Keeps → Option ℕ
@@ -17,27 +19,32 @@ abbrev mutual
   least_in depth (also name tree branches) = least (least_kept depth tree) (least_in depth branches)
 
 -- an open leaf with its chosen move
-abbrev pub open_leaf : List Rule → System → Kept
-open_leaf rules s = leaf s (choice rules s)
+abbrev pub open_leaf : Context → System → Kept
+open_leaf context s = leaf s (choice context s)
 
-abbrev pub leaf_at : List Rule → Case → List ℕ × Kept
-leaf_at rules c = (c.name, open_leaf rules c.system)
+abbrev pub leaf_at : Context → Case → List ℕ × Kept
+leaf_at context c = (c.name, open_leaf context c.system)
 
-abbrev pub leaves_at : List Rule → List Case → Keeps
-leaves_at rules cs = all_kept (map (leaf_at rules) cs)
+abbrev pub leaves_at : Context → List Case → Keeps
+leaves_at context cs = all_kept (map (leaf_at context) cs)
 
-abbrev pub leaves : List Rule → Option (List Case) → Keeps
-leaves rules None = nothing
-leaves rules (Some cs) = leaves_at rules cs
+abbrev pub leaves : Context → Option (List Case) → Keeps
+leaves context None = nothing
+leaves context (Some cs) = leaves_at context cs
+
+-- the leaf with which the search ends keeps its log
+abbrev pub ended_with : Option Log → Kept
+ended_with None = inner solved nothing
+ended_with (Some log) = ended log
 
 -- a leaf replaced by its move
-abbrev pub replaced : List Rule → System → Move → Kept
-replaced rules s move = inner move (leaves rules (cases rules s move))
+abbrev pub replaced : Context → System → Move → Kept
+replaced context s move = if is_solved move then ended_with (context.found s) else inner move (leaves context (cases context s move))
 
 -- what stands for a tree, and whether a leaf has been replaced by now
-abbrev pub opened : List Rule → System → Move → Bool → Kept × Bool
-opened rules s move true = (replaced rules s move, true)
-opened rules s move false = (leaf s move, false)
+abbrev pub opened : Context → System → Move → Bool → Kept × Bool
+opened context s move true = (replaced context s move, true)
+opened context s move false = (leaf s move, false)
 
 abbrev pub within : Move → Keeps × Bool → Kept × Bool
 within move r = (inner move r.0, r.1)
@@ -54,18 +61,19 @@ unless false tree r = r
 
 -- the first leaf of a class is replaced by its move, unless one has been replaced before
 abbrev mutual
-  pub grow : List Rule → ℕ → ℕ → Bool → Kept → Kept × Bool
-  grow rules k depth done (leaf s move) = unless done (leaf s move) (opened rules s move (has_class (class_of move depth) k))
-  grow rules k depth done (inner move branches) = unless done (inner move branches) (within move (grow_in rules k (depth + 1) false branches))
+  pub grow : Context → ℕ → ℕ → Bool → Kept → Kept × Bool
+  grow context k depth done (leaf s move) = unless done (leaf s move) (opened context s move (has_class (class_of move depth) k))
+  grow context k depth done (ended log) = unless done (ended log) (ended log, false)
+  grow context k depth done (inner move branches) = unless done (inner move branches) (within move (grow_in context k (depth + 1) false branches))
 
-  pub grow_in : List Rule → ℕ → ℕ → Bool → Keeps → Keeps × Bool
-  grow_in rules k depth done nothing = (nothing, done)
-  grow_in rules k depth done (also name tree branches) = next name (grow rules k depth done tree) (λ now. grow_in rules k depth now branches)
+  pub grow_in : Context → ℕ → ℕ → Bool → Keeps → Keeps × Bool
+  grow_in context k depth done nothing = (nothing, done)
+  grow_in context k depth done (also name tree branches) = next name (grow context k depth done tree) (λ now. grow_in context k depth now branches)
 
--- one turn
-abbrev pub turn_at : List Rule → Kept → Option ℕ → Kept × Bool
-turn_at rules tree None = (tree, false)
-turn_at rules tree (Some k) = grow rules k 0 false tree
+-- one turn; none once there is a log
+abbrev pub turn_at : Context → Kept → Option ℕ → Kept × Bool
+turn_at context tree None = (tree, false)
+turn_at context tree (Some k) = grow context k 0 false tree
 
-abbrev pub turn : List Rule → Kept → Kept × Bool
-turn rules tree = turn_at rules tree (least_kept 0 tree)
+abbrev pub turn : Context → Kept → Kept × Bool
+turn context tree = if is_some (log_in tree) then (tree, false) else turn_at context tree (least_kept 0 tree)

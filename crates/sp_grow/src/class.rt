@@ -21,6 +21,7 @@ pub fn class_of(chosen: Move, depth: u64) -> Result<Option<u64>, AllocError>
     match chosen {
         Move::Contradiction => sum(1, depth),
         Move::Simplify => sum(2, depth),
+        Move::Solved => sum(3, depth),
         Move::Action(_) => sum(5, depth),
         Move::Unproved => Ok(None),
     }
@@ -70,6 +71,7 @@ pub fn least_class(tree: &Tree, depth: u64) -> Result<Option<u64>, AllocError>
 {
     match tree {
         Tree::Open(leaf) => class_of(leaf.choice, depth),
+        Tree::Ended(_) => Ok(None),
         Tree::Node(_, branches) => {
             let next = deeper(depth)?;
             least_class_in(branches, next)

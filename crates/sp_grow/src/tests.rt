@@ -2,9 +2,12 @@ use super::*;
 use crate::class::least_class;
 use sp_fact::fact::{Action, Facts};
 use sp_formula::formula::{Atom, Binder, Formula, FormulaAction, FormulaTerm, Moment};
+use sp_ground::signature::Signature;
 use sp_moves::book::RuleBook;
+use sp_moves::context::Context;
 use sp_moves::moves::Move;
 use sp_rule::Rule;
+use sp_solved::Sought;
 use sp_system::system::System;
 use sp_term::term::{Name, Sort, Term};
 use std::alloc::{AllocError, Global};
@@ -31,6 +34,40 @@ fn rules(alloc: Global) -> Result<RuleBook, AllocError> {
         facts,
     })?;
     RuleBook::new(alloc, rules)
+}
+
+// what a context refers to
+#[derive(Drop)]
+struct Parts {
+    rules: RuleBook,
+    signature: Signature,
+    constants: Vec<Name>,
+    formula: Formula,
+}
+
+fn make_parts(alloc: Global, formula: Formula) -> Result<Parts, AllocError> {
+    Ok(Parts {
+        rules: rules(alloc)?,
+        signature: Signature {
+            symbols: Vec::new(alloc),
+            equations: Vec::new(alloc),
+        },
+        constants: Vec::new(alloc),
+        formula,
+    })
+}
+
+impl Parts {
+    fn context(&self) -> Context<'_> {
+        Context {
+            rules: &self.rules,
+            sought: Sought {
+                signature: &self.signature,
+                constants: &self.constants,
+                formula: &self.formula,
+            },
+        }
+    }
 }
 
 fn action(alloc: Global, argument: FormulaTerm, time: Moment) -> Result<Atom, AllocError> {
@@ -114,11 +151,24 @@ fn tells_of_trees(rt: HostRuntime) -> Result<(), Fail> {
     Ok(())
 }
 
-// how many steps a tree of this system and budget has, and whether it is finished
-fn grown(alloc: Global, formula: Formula, budget: u64) -> Result<(u64, bool), AllocError> {
+// What a grown tree is: how many steps it has, whether it is finished, and how many entries its log has.
+type Grown = (u64, bool, Option<usize>);
+
+// the tree of the system with this formula, grown where the log that is looked for makes the other one true
+fn grown(
+    alloc: Global,
+    formula: Formula,
+    sought: Formula,
+    budget: u64,
+) -> Result<Grown, AllocError> {
     let root = system(alloc, formula)?;
-    let tree = grown_tree(alloc, &rules(alloc)?, root, budget)?;
-    Ok((steps(&tree), is_finished(&tree)))
+    let parts = make_parts(alloc, sought)?;
+    let tree = grown_tree(alloc, &parts.context(), root, budget)?;
+    let entries = match tree.found_log() {
+        Some(log) => Some(log.entries.len()),
+        None => None,
+    };
+    Ok((steps(&tree), is_finished(&tree), entries))
 }
 
 #[test]
@@ -126,19 +176,33 @@ fn grows_to_a_proof(rt: HostRuntime) -> Result<(), Fail> {
     let alloc = rt.alloc();
     let wanted = [(0, false), (1, false), (2, true), (2, true)];
     for (i, row) in wanted.iter().enumerate() {
-        let found = grown(alloc, refuted(alloc)?, i as u64)?;
-        assert_eq!(rt; found, *row);
+        let found = grown(alloc, refuted(alloc)?, Formula::Truth, i as u64)?;
+        assert_eq!(rt; found, (row.0, row.1, None));
     }
     Ok(())
 }
 
 #[test]
-fn stops_without_a_move(rt: HostRuntime) -> Result<(), Fail> {
+fn grows_to_a_log(rt: HostRuntime) -> Result<(), Fail> {
     let alloc = rt.alloc();
-    let found = grown(alloc, wanted(alloc)?, 5)?;
-    assert_eq!(rt; found, (1, false));
+    for (sought, budget, row) in [
+        (Formula::Truth, 1, (1, false, None)),
+        (Formula::Truth, 2, (2, false, Some(1))),
+        (Formula::Truth, 5, (2, false, Some(1))),
+        (Formula::Falsity, 5, (1, false, None)),
+    ] {
+        let found = grown(alloc, wanted(alloc)?, sought, budget)?;
+        assert_eq!(rt; found, row);
+    }
+    Ok(())
+}
+
+#[test]
+fn chooses_an_action(rt: HostRuntime) -> Result<(), Fail> {
+    let alloc = rt.alloc();
     let root = system(alloc, wanted(alloc)?)?;
-    let chosen = choice(alloc, &rules(alloc)?, &root)?;
+    let parts = make_parts(alloc, Formula::Truth)?;
+    let chosen = choice(alloc, &parts.context(), &root)?;
     assert_eq!(rt; chosen, Move::Action(0));
     Ok(())
 }

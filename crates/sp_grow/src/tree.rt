@@ -1,13 +1,14 @@
-// Proof trees with the systems of their open leaves.
+// Proof trees with the systems of their open leaves, and the log with which the search ends.
 
-ghost use Rattle.std.specs.Prelude.{◌≡◌, ◌↔◌, ◌^◌, ◌-◌, min, IsTrue};
+ghost use Rattle.std.specs.Prelude.{◌≡◌, ◌↔◌, ◌^◌, ◌-◌, min, option_map, IsTrue};
 ghost use Rattle.sp_check.specs.Tree as spec;
-ghost use Rattle.sp_check.specs.Growth as growth;
-ghost use Rattle.sp_grow.specs.Kept.{shown_all};
-ghost use Rattle.sp_grow.specs.View.{tree_of, branches_of};
-ghost use Rattle.sp_grow.specs.Finished.{finished, all_finished};
+ghost use Rattle.sp_log.specs.View.{log_of};
+ghost use Rattle.sp_grow.specs.Kept.{log_in, log_among, shown_all};
+ghost use Rattle.sp_grow.specs.View.{kept_of, tree_of, branches_of};
+ghost use Rattle.sp_grow.specs.Finished.{finished, all_finished, is_left};
 ghost use Rattle.sp_moves.specs.View.{move_of};
 
+use sp_log::log::Log;
 use sp_moves::moves::Move;
 use sp_system::system::System;
 
@@ -36,43 +37,71 @@ pub struct Branch {
 pub enum Tree {
     /// an open leaf
     Open(Box<OpenLeaf>),
+    /// the search ends at this leaf, with this log
+    Ended(Box<Log>),
     /// a move, and a tree for each of its cases
     Node(Move, Vec<Branch>),
 }
 
-/// Whether the move leaves its system open.
-pub fn is_unproved(chosen: Move) -> bool
-    ensures { result ≡ growth.is_unproved (move_of chosen) }
+impl Tree {
+    /// The first log with which the search ends, if it ends.
+    #[cycle(log)]
+    pub fn found_log(&self) -> Option<&Log>
+        ensures { option_map (λ log. log_of log.now) result ≡ log_in (kept_of self.now) }
+    {
+        match self {
+            Tree::Open(_) => None,
+            Tree::Ended(log) => Some(log),
+            Tree::Node(_, branches) => log_below(branches),
+        }
+    }
+}
+
+#[cycle(log)]
+fn log_below(branches: &Vec<Branch>) -> Option<&Log>
+    ensures { option_map (λ log. log_of log.now) result ≡ log_among (branches_of branches.now.items) }
+{
+    for branch in branches {
+        if let Some(log) = branch.tree.found_log() {
+            return Some(log);
+        }
+    }
+    None
+}
+
+// Whether a system with this move may have a solution.
+fn is_left_by(chosen: Move) -> bool
+    ensures { result ≡ is_left (move_of chosen) }
 {
     match chosen {
-        Move::Unproved => true,
+        Move::Unproved | Move::Solved => true,
         _ => false,
     }
 }
 
-/// Whether no leaf is left open.
+/// Whether no leaf is left at which a solution may be: no open one, and none with which the search ends.
 pub fn is_finished(tree: &Tree) -> bool
     ensures { IsTrue result ↔ spec.IsFinished (tree_of tree.now) }
 {
-    has_no_open_leaf(tree)
+    leaves_none(tree)
 }
 
 #[cycle(finished)]
-fn has_no_open_leaf(tree: &Tree) -> bool
+fn leaves_none(tree: &Tree) -> bool
     ensures { result ≡ finished (tree_of tree.now) }
 {
     match tree {
-        Tree::Open(_) => false,
-        Tree::Node(chosen, branches) => !is_unproved(*chosen) && have_no_open_leaf(branches),
+        Tree::Open(_) | Tree::Ended(_) => false,
+        Tree::Node(chosen, branches) => !is_left_by(*chosen) && leave_none(branches),
     }
 }
 
 #[cycle(finished)]
-fn have_no_open_leaf(branches: &Vec<Branch>) -> bool
+fn leave_none(branches: &Vec<Branch>) -> bool
     ensures { result ≡ all_finished (shown_all (branches_of branches.now.items)) }
 {
     for branch in branches {
-        if !has_no_open_leaf(&branch.tree) {
+        if !leaves_none(&branch.tree) {
             return false;
         }
     }
@@ -86,6 +115,7 @@ pub fn steps(tree: &Tree) -> u64
 {
     match tree {
         Tree::Open(_) => 0,
+        Tree::Ended(_) => 1,
         Tree::Node(chosen, branches) => steps_of(*chosen).saturating_add(steps_in(branches)),
     }
 }

@@ -2,31 +2,34 @@
 use Rattle.std.proofs.Common.{◌≡◌, ℕ, List, Bool, true, false, Some, refl, sym, ap}
 use Rattle.std.specs.Prelude.{◌||◌}
 use Rattle.std.proofs.lemmas.Bool.{false≢true}
-use Rattle.sp_step.specs.Moves.{Move, simplify, contradiction, unproved, action}
-use Rattle.sp_check.specs.Tree.{Tree, node, Branches, no_branch, branch, IsOpen, IsFinished, AreFinished}
+use Rattle.sp_step.specs.Moves.{Move, simplify, contradiction, unproved, solved, action}
+use Rattle.sp_check.specs.Tree.{Tree, node, Branches, no_branch, branch, IsLeft, IsFinished, AreFinished, is_solved}
+use Rattle.sp_check.specs.Growth.{has_end, some_end}
 use Rattle.sp_check.specs.Tree as tree
 use Rattle.sp_judge.specs.Skeleton.{Step, known, Skeleton, node_read, BranchesRead, none_read, branch_read, tree_of, branches_of, steps, steps_in, is_open, has_open, some_open}
 use Rattle.sp_judge.proofs.Shape.{node_is, branch_is}
 
--- a test that fails exactly where P holds
-abbrev FailsWhere : Bool → Type 0 → Type 0
-FailsWhere b P = (b ≡ false → P) × (P → b ≡ false)
+-- P holds exactly where both tests fail
+abbrev Neither : Bool → Bool → Type 0 → Type 0
+Neither a b P = (a ≡ false → b ≡ false → P) × (P → a ≡ false)
 
-either : (P Q : Type 0) (a b : Bool) → FailsWhere a P → FailsWhere b Q → FailsWhere (a || b) (P × Q)
-either P Q true b f g = (λ e. (f.0 e, absurd (false≢true (sym e))), λ h. f.1 h.0)
-either P Q false b f g = (λ e. (f.0 refl, g.0 e), λ h. g.1 h.1)
+both : (P Q : Type 0) (a b c d : Bool) → Neither a b P → Neither c d Q → Neither (a || c) (b || d) (P × Q)
+both P Q true b c d f g = (λ e _. absurd (false≢true (sym e)), λ h. f.1 h.0)
+both P Q false true c d f g = (λ _ e. absurd (false≢true (sym e)), λ h. g.1 h.1)
+both P Q false false c d f g = (λ e l. (f.0 refl refl, g.0 e l), λ h. g.1 h.1)
 
-open_at : (move : Move) → FailsWhere (is_open (known move)) (IsOpen move → ⊥)
-open_at simplify = (λ _ h. h, λ _. refl)
-open_at contradiction = (λ _ h. h, λ _. refl)
-open_at unproved = (λ e. absurd (false≢true (sym e)), λ h. absurd (h tt))
-open_at (action k) = (λ _ h. h, λ _. refl)
+left_at : (move : Move) → Neither (is_open (known move)) (is_solved move) (IsLeft move → ⊥)
+left_at simplify = (λ _ _ h. h, λ _. refl)
+left_at contradiction = (λ _ _ h. h, λ _. refl)
+left_at unproved = (λ e _. absurd (false≢true (sym e)), λ h. absurd (h tt))
+left_at solved = (λ _ e. absurd (false≢true (sym e)), λ h. absurd (h tt))
+left_at (action k) = (λ _ _ h. h, λ _. refl)
 
 at_tree : (step : Step) (move : Move) (bs : BranchesRead) (t : Tree) (branches : Branches) → step ≡ known move → t ≡ node move branches
-    → FailsWhere (has_open (node_read (known move) bs)) (IsFinished (node move branches)) → FailsWhere (has_open (node_read step bs)) (IsFinished t)
+    → Neither (has_open (node_read (known move) bs)) (has_end (node move branches)) (IsFinished (node move branches)) → Neither (has_open (node_read step bs)) (has_end t) (IsFinished t)
 at_tree step move bs t branches e f h = rw (e, f) h
 
-at_branches : (bs : BranchesRead) (ts us : Branches) → ts ≡ us → FailsWhere (some_open bs) (AreFinished us) → FailsWhere (some_open bs) (AreFinished ts)
+at_branches : (bs : BranchesRead) (ts us : Branches) → ts ≡ us → Neither (some_open bs) (some_end us) (AreFinished us) → Neither (some_open bs) (some_end ts) (AreFinished ts)
 at_branches bs ts us e h = rw e h
 
 steps_at_tree : (step : Step) (move : Move) (bs : BranchesRead) (t : Tree) (branches : Branches) → step ≡ known move → t ≡ node move branches
@@ -38,19 +41,19 @@ steps_at_branches : (name : List ℕ) (k : Skeleton) (bs : BranchesRead) (ts : B
 steps_at_branches name k bs ts t us e f h = rw (e, f, h) refl
 
 mutual
-  pub has_open_tells : (k : Skeleton) (t : Tree) → tree_of k ≡ Some t → FailsWhere (has_open k) (IsFinished t)
-  has_open_tells (node_read step bs) t e =
+  pub left_tells : (k : Skeleton) (t : Tree) → tree_of k ≡ Some t → Neither (has_open k) (has_end t) (IsFinished t)
+  left_tells (node_read step bs) t e =
       let i = node_is step bs t e in
-      at_tree step i.move bs t i.branches i.step_is i.tree_is (either (IsOpen i.move → ⊥) (AreFinished i.branches) (is_open (known i.move)) (some_open bs) (open_at i.move) (some_open_tells bs i.branches i.branches_are))
+      at_tree step i.move bs t i.branches i.step_is i.tree_is (both (IsLeft i.move → ⊥) (AreFinished i.branches) (is_open (known i.move)) (is_solved i.move) (some_open bs) (some_end i.branches) (left_at i.move) (some_left_tells bs i.branches i.branches_are))
 
-  some_open_tells : (bs : BranchesRead) (ts : Branches) → branches_of bs ≡ Some ts → FailsWhere (some_open bs) (AreFinished ts)
-  some_open_tells none_read ts e =
+  some_left_tells : (bs : BranchesRead) (ts : Branches) → branches_of bs ≡ Some ts → Neither (some_open bs) (some_end ts) (AreFinished ts)
+  some_left_tells none_read ts e =
       let is : ts ≡ no_branch = cc in
-      at_branches none_read ts no_branch is (λ _. tt, λ _. refl)
-  some_open_tells (branch_read name k bs) ts e =
+      at_branches none_read ts no_branch is (λ _ _. tt, λ _. refl)
+  some_left_tells (branch_read name k bs) ts e =
       let i = branch_is name k bs ts e in
       at_branches (branch_read name k bs) ts (branch name i.tree i.branches) i.all_are
-      (either (IsFinished i.tree) (AreFinished i.branches) (has_open k) (some_open bs) (has_open_tells k i.tree i.read_is) (some_open_tells bs i.branches i.branches_are))
+      (both (IsFinished i.tree) (AreFinished i.branches) (has_open k) (has_end i.tree) (some_open bs) (some_end i.branches) (left_tells k i.tree i.read_is) (some_left_tells bs i.branches i.branches_are))
 
 mutual
   pub steps_are : (k : Skeleton) (t : Tree) → tree_of k ≡ Some t → steps k ≡ tree.steps t

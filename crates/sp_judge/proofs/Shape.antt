@@ -1,9 +1,9 @@
 -- Trees that are read, and the trees that they are.
-use Rattle.std.proofs.Common.{◌≡◌, ℕ, List, [], ◌∷◌, Option, Some, None, option_map, option_and_then, refl, sym, subst}
-use Rattle.sp_spec.specs.Rule.{Rule}
+use Rattle.std.proofs.Common.{◌≡◌, ℕ, false, List, [], ◌∷◌, Option, Some, None, option_map, option_and_then, refl, sym, subst}
+use Rattle.sp_spec.specs.Log.{Log}
 use Rattle.sp_system.specs.System.{System}
-use Rattle.sp_step.specs.Moves.{Move, Case, cases}
-use Rattle.sp_check.specs.Tree.{Tree, node, Branches, no_branch, branch, IsAccepted, AreAccepted}
+use Rattle.sp_step.specs.Moves.{Move, Context, Case, cases}
+use Rattle.sp_check.specs.Tree.{Tree, node, Branches, no_branch, branch, IsAccepted, AreAccepted, is_solved, first_log, found_log, found_below}
 use Rattle.sp_judge.specs.Skeleton.{Step, known, unbuilt, unknown, Skeleton, node_read, BranchesRead, none_read, branch_read, tree_of, branches_of}
 use Rattle.sp_judge.specs.Rejected.{case_names, branch_names, IsFine, ReadIsAccepted}
 
@@ -41,52 +41,59 @@ branch_is name k bs ts e = by_both (tree_of k) (branches_of bs) refl refl e
     by_both (Some t) (Some us) is are e = record { tree = t; branches = us; read_is = is; branches_are = are; all_are = cc }
 
 -- the branches stand for trees that are accepted for these cases
-abbrev pub ReadAreAccepted : List Rule → List Case → BranchesRead → Type 0
-ReadAreAccepted rules cs bs = (ts : Branches) × (branches_of bs ≡ Some ts) × AreAccepted rules (Some cs) ts
+abbrev pub ReadAreAccepted : Context → List Case → BranchesRead → Type 0
+ReadAreAccepted context cs bs = (ts : Branches) × (branches_of bs ≡ Some ts) × AreAccepted context (Some cs) ts
 
-pub first_accepted : (rules : List Rule) (c : Case) (cs : List Case) (name : List ℕ) (k : Skeleton) (bs : BranchesRead) → ReadAreAccepted rules (c ∷ cs) (branch_read name k bs)
-    → (name ≡ c.name) × ReadIsAccepted rules c.system k × ReadAreAccepted rules cs bs
-first_accepted rules c cs name k bs h =
+pub first_accepted : (context : Context) (c : Case) (cs : List Case) (name : List ℕ) (k : Skeleton) (bs : BranchesRead) → ReadAreAccepted context (c ∷ cs) (branch_read name k bs)
+    → (name ≡ c.name) × ReadIsAccepted context c.system k × ReadAreAccepted context cs bs
+first_accepted context c cs name k bs h =
     let i = branch_is name k bs h.0 h.1 in
-    let a = subst (AreAccepted rules (Some (c ∷ cs))) i.all_are h.2 in
+    let a = subst (AreAccepted context (Some (c ∷ cs))) i.all_are h.2 in
     (a.0, (i.tree, i.read_is, a.1), (i.branches, i.branches_are, a.2))
 
-pub more_accepted : (rules : List Rule) (c : Case) (cs : List Case) (name : List ℕ) (k : Skeleton) (bs : BranchesRead) → name ≡ c.name → ReadIsAccepted rules c.system k
-    → ReadAreAccepted rules cs bs → ReadAreAccepted rules (c ∷ cs) (branch_read name k bs)
-more_accepted rules c cs name k bs e h hs = (branch name h.0 hs.0, rw (h.1, hs.1) refl, (e, h.2, hs.2))
-
 -- accepted branches have the names of the cases
-pub accepted_named : (rules : List Rule) (cs : List Case) (bs : BranchesRead) → ReadAreAccepted rules cs bs → branch_names bs ≡ case_names cs
-accepted_named rules [] none_read h = refl
-accepted_named rules [] (branch_read name k bs) h =
+pub accepted_named : (context : Context) (cs : List Case) (bs : BranchesRead) → ReadAreAccepted context cs bs → branch_names bs ≡ case_names cs
+accepted_named context [] none_read h = refl
+accepted_named context [] (branch_read name k bs) h =
     let i = branch_is name k bs h.0 h.1 in
-    absurd (subst (AreAccepted rules (Some [])) i.all_are h.2)
-accepted_named rules (c ∷ cs) none_read h =
+    absurd (subst (AreAccepted context (Some [])) i.all_are h.2)
+accepted_named context (c ∷ cs) none_read h =
     let is : no_branch ≡ h.0 = (let e = h.1 in cc) in
-    absurd (subst (AreAccepted rules (Some (c ∷ cs))) (sym is) h.2)
-accepted_named rules (c ∷ cs) (branch_read name k bs) h =
-    let a = first_accepted rules c cs name k bs h in
+    absurd (subst (AreAccepted context (Some (c ∷ cs))) (sym is) h.2)
+accepted_named context (c ∷ cs) (branch_read name k bs) h =
+    let a = first_accepted context c cs name k bs h in
     let first = a.0 in
-    let others = accepted_named rules cs bs a.2 in
+    let others = accepted_named context cs bs a.2 in
     cc
 
 -- an accepted node is fine, and its branches are accepted
-pub accepted_node : (rules : List Rule) (s : System) (step : Step) (bs : BranchesRead) → ReadIsAccepted rules s (node_read step bs)
-    → (cs : List Case) × IsFine rules s step bs cs × ReadAreAccepted rules cs bs
-accepted_node rules s step bs h =
+pub accepted_node : (context : Context) (s : System) (step : Step) (bs : BranchesRead) → ReadIsAccepted context s (node_read step bs)
+    → (cs : List Case) × IsFine context s step bs cs × ReadAreAccepted context cs bs
+accepted_node context s step bs h =
     let i = node_is step bs h.0 h.1 in
-    at_node i (cases rules s i.move) refl (subst (IsAccepted rules s) i.tree_is h.2)
+    at_node i (cases context s i.move) refl (subst (IsAccepted context s) i.tree_is h.2)
   where
-    at_node : (i : NodeIs step bs h.0) (o : Option (List Case)) → cases rules s i.move ≡ o → AreAccepted rules o i.branches
-        → (cs : List Case) × IsFine rules s step bs cs × ReadAreAccepted rules cs bs
+    at_node : (i : NodeIs step bs h.0) (o : Option (List Case)) → cases context s i.move ≡ o → AreAccepted context o i.branches
+        → (cs : List Case) × IsFine context s step bs cs × ReadAreAccepted context cs bs
     at_node i None e a = absurd a
     at_node i (Some cs) e a =
-        let below : ReadAreAccepted rules cs bs = (i.branches, i.branches_are, a) in
-        (cs, (rw i.step_is e, accepted_named rules cs bs below), below)
+        let below : ReadAreAccepted context cs bs = (i.branches, i.branches_are, a) in
+        (cs, (rw i.step_is e, accepted_named context cs bs below), below)
 
--- a fine node with accepted branches is accepted
-pub node_accepted : (rules : List Rule) (s : System) (move : Move) (bs : BranchesRead) (cs : List Case) → cases rules s move ≡ Some cs → ReadAreAccepted rules cs bs
-    → ReadIsAccepted rules s (node_read (known move) bs)
-node_accepted rules s move bs cs e h =
-    let P : Option (List Case) → Type 0 = λ o. AreAccepted rules o h.0 in
-    (node move h.0, rw h.1 refl, subst P (sym e) h.2)
+-- the tree is accepted, with this log; the branches are for these cases, with this log
+abbrev pub ReadHas : Context → System → Skeleton → Option Log → Type 0
+ReadHas context s k o = (t : Tree) × (tree_of k ≡ Some t) × IsAccepted context s t × (found_log context s t ≡ o)
+
+abbrev pub ReadHave : Context → List Case → BranchesRead → Option Log → Type 0
+ReadHave context cs bs o = (ts : Branches) × (branches_of bs ≡ Some ts) × AreAccepted context (Some cs) ts × (found_below context (Some cs) ts ≡ o)
+
+pub more_have : (context : Context) (c : Case) (cs : List Case) (name : List ℕ) (k : Skeleton) (bs : BranchesRead) (o later : Option Log) → name ≡ c.name → ReadHas context c.system k o
+    → ReadHave context cs bs later → ReadHave context (c ∷ cs) (branch_read name k bs) (first_log o later)
+more_have context c cs name k bs o later e h hs = (branch name h.0 hs.0, rw (h.1, hs.1) refl, (e, h.2, hs.2), rw (h.3, hs.3) refl)
+
+-- a fine node at which the search doesn't end, with accepted branches
+pub node_has : (context : Context) (s : System) (move : Move) → is_solved move ≡ false → (bs : BranchesRead) (cs : List Case) (o : Option Log) → cases context s move ≡ Some cs
+    → ReadHave context cs bs o → ReadHas context s (node_read (known move) bs) o
+node_has context s move goes_on bs cs o e h =
+    let P : Option (List Case) → Type 0 = λ o. AreAccepted context o h.0 in
+    (node move h.0, rw h.1 refl, subst P (sym e) h.2, rw (goes_on, e) h.3)

@@ -1,9 +1,8 @@
 -- Which trees that were read are accepted, and where the others are rejected. Source: Tamarin manual, "Proofs" (a proof that is read is
 -- checked step by step); that its first step that fails is told, and by which clause, is this project's own.
 use Rattle.std.specs.Prelude.{◌≡◌, ◌⊎◌, ℕ, ◌+◌, List, [], ◌∷◌, map, Option, Some, None}
-use Rattle.sp_spec.specs.Rule.{Rule}
 use Rattle.sp_system.specs.System.{System}
-use Rattle.sp_step.specs.Moves.{Case, cases}
+use Rattle.sp_step.specs.Moves.{Context, Case, cases}
 use Rattle.sp_check.specs.Tree.{Tree, IsAccepted}
 use Rattle.sp_judge.specs.Skeleton.{Step, known, unbuilt, unknown, Skeleton, node_read, BranchesRead, none_read, branch_read, tree_of, nodes}
 
@@ -20,10 +19,10 @@ IsMove (unbuilt text) = Unit {0}
 IsMove (unknown text) = ⊥
 
 -- the cases of what a node says; none where it is no instance
-abbrev pub step_cases : List Rule → System → Step → Option (List Case)
-step_cases rules s (known move) = cases rules s move
-step_cases rules s (unbuilt text) = None
-step_cases rules s (unknown text) = None
+abbrev pub step_cases : Context → System → Step → Option (List Case)
+step_cases context s (known move) = cases context s move
+step_cases context s (unbuilt text) = None
+step_cases context s (unknown text) = None
 
 abbrev pub case_names : List Case → List (List ℕ)
 case_names cs = map (λ c. c.name) cs
@@ -33,30 +32,30 @@ branch_names none_read = []
 branch_names (branch_read name k branches) = name ∷ branch_names branches
 
 -- the node, without what stands below it, is fine, and these are its cases
-abbrev pub IsFine : List Rule → System → Step → BranchesRead → List Case → Type 0
-IsFine rules s step branches cs = (step_cases rules s step ≡ Some cs) × (branch_names branches ≡ case_names cs)
+abbrev pub IsFine : Context → System → Step → BranchesRead → List Case → Type 0
+IsFine context s step branches cs = (step_cases context s step ≡ Some cs) × (branch_names branches ≡ case_names cs)
 
 -- the node, without what stands below it, fails of this clause, and of none before it
-abbrev pub FailsFirst : List Rule → System → Step → BranchesRead → Clause → Type 0
-FailsFirst rules s step branches clause_move = IsMove step → ⊥
-FailsFirst rules s step branches clause_instance = IsMove step × (step_cases rules s step ≡ None)
-FailsFirst rules s step branches clause_cases = (cs : List Case) × IsMove step × (step_cases rules s step ≡ Some cs) × (branch_names branches ≡ case_names cs → ⊥)
+abbrev pub FailsFirst : Context → System → Step → BranchesRead → Clause → Type 0
+FailsFirst context s step branches clause_move = IsMove step → ⊥
+FailsFirst context s step branches clause_instance = IsMove step × (step_cases context s step ≡ None)
+FailsFirst context s step branches clause_cases = (cs : List Case) × IsMove step × (step_cases context s step ≡ Some cs) × (branch_names branches ≡ case_names cs → ⊥)
 
 -- each node says a known move, and as a tree it is accepted
-abbrev pub ReadIsAccepted : List Rule → System → Skeleton → Type 0
-ReadIsAccepted rules s k = (t : Tree) × (tree_of k ≡ Some t) × IsAccepted rules s t
+abbrev pub ReadIsAccepted : Context → System → Skeleton → Type 0
+ReadIsAccepted context s k = (t : Tree) × (tree_of k ≡ Some t) × IsAccepted context s t
 
 -- The node of this number, counted from 1 in preorder, is the first that fails, and this is the first clause that it fails of: the root
 -- fails; or it is fine, and below it the first branch that isn't accepted has the node, behind all nodes of the branches before it.
 abbrev mutual
-  pub IsRejectedAt : List Rule → System → Skeleton → ℕ → Clause → Type 0
-  IsRejectedAt rules s (node_read step branches) n clause =
-      ((n ≡ 1) × FailsFirst rules s step branches clause)
-      ⊎ ((cs : List Case) × (m : ℕ) × IsFine rules s step branches cs × (n ≡ 1 + m) × AreRejectedAt rules cs branches m clause)
+  pub IsRejectedAt : Context → System → Skeleton → ℕ → Clause → Type 0
+  IsRejectedAt context s (node_read step branches) n clause =
+      ((n ≡ 1) × FailsFirst context s step branches clause)
+      ⊎ ((cs : List Case) × (m : ℕ) × IsFine context s step branches cs × (n ≡ 1 + m) × AreRejectedAt context cs branches m clause)
 
-  pub AreRejectedAt : List Rule → List Case → BranchesRead → ℕ → Clause → Type 0
-  AreRejectedAt rules [] branches n clause = ⊥
-  AreRejectedAt rules (c ∷ cs) none_read n clause = ⊥
-  AreRejectedAt rules (c ∷ cs) (branch_read name k branches) n clause =
-      IsRejectedAt rules c.system k n clause
-      ⊎ ((m : ℕ) × ReadIsAccepted rules c.system k × (n ≡ nodes k + m) × AreRejectedAt rules cs branches m clause)
+  pub AreRejectedAt : Context → List Case → BranchesRead → ℕ → Clause → Type 0
+  AreRejectedAt context [] branches n clause = ⊥
+  AreRejectedAt context (c ∷ cs) none_read n clause = ⊥
+  AreRejectedAt context (c ∷ cs) (branch_read name k branches) n clause =
+      IsRejectedAt context c.system k n clause
+      ⊎ ((m : ℕ) × ReadIsAccepted context c.system k × (n ≡ nodes k + m) × AreRejectedAt context cs branches m clause)

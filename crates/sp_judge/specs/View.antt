@@ -1,5 +1,6 @@
 -- The trees and judgements that those in memory stand for.
-use Rattle.std.specs.Prelude.{ℕ, List, [], ◌∷◌, map, string_bytes}
+use Rattle.std.specs.Prelude.{ℕ, List, [], ◌∷◌, map, option_map, string_bytes}
+use Rattle.sp_log.specs.View.{log_of}
 use Rattle.sp_moves.specs.View.{move_of, case_of}
 use Rattle.sp_judge.specs.Skeleton as spec
 use Rattle.sp_judge.specs.Rejected as clause
@@ -13,9 +14,9 @@ use Rattle.sp_judge.specs.declared.skeleton.Branch.TheOpen.{Skeleton-F, Branch-F
 use Rattle.sp_judge.specs.declared.judging.Clause.{Clause}
 use Rattle.sp_judge.specs.declared.judging.Clause.TheVariants.{Move, Instance, Cases}
 use Rattle.sp_judge.specs.declared.judging.Judgement.{Judgement}
-use Rattle.sp_judge.specs.declared.judging.Judgement.TheVariants.{Rejected, Finished, Incomplete}
+use Rattle.sp_judge.specs.declared.judging.Judgement.TheVariants.{Rejected, Found, Finished, Incomplete}
 use Rattle.sp_judge.specs.declared.judging.Checked.{Checked}
-use Rattle.sp_judge.specs.declared.judging.Checked.TheVariants.{Fails, LeadsTo}
+use Rattle.sp_judge.specs.declared.judging.Checked.TheVariants.{Fails, LeadsTo, EndsWith}
 use Rattle.sp_judge.specs.declared.judging.Walked.{Walked}
 use Rattle.sp_judge.specs.declared.judging.Walked.TheVariants.{Passed, Stopped}
 
@@ -51,13 +52,15 @@ clause_of Cases = clause.clause_cases
 
 abbrev pub judgement_of : Judgement → judging.Judgement
 judgement_of (Rejected n c) = judging.rejected n (clause_of c)
+judgement_of (Found log) = judging.found (log_of log)
 judgement_of Finished = judging.finished
 judgement_of Incomplete = judging.incomplete
 
 abbrev pub checked_of : Checked → judging.Checked
 checked_of (Fails c) = judging.fails (clause_of c)
 checked_of (LeadsTo cs) = judging.leads_to (map case_of cs.items)
+checked_of (EndsWith log) = judging.ends_with (log_of log)
 
 abbrev pub walked_of : Walked → judging.Walked
-walked_of (Passed n) = judging.passed n
+walked_of (Passed met) = judging.passed met.nodes (option_map log_of met.log)
 walked_of (Stopped n c) = judging.stopped n (clause_of c)

@@ -1,11 +1,11 @@
 // Moves and cases.
 
-ghost use Rattle.std.specs.Prelude.{◌≡◌, [], IfOk, map, option_map};
+ghost use Rattle.std.specs.Prelude.{◌≡◌, IfOk, map, option_map};
 ghost use Rattle.sp_system.specs.SystemView.{system_of};
 ghost use Rattle.sp_step.specs.Moves as spec;
-ghost use Rattle.sp_moves.specs.View.{book_of, move_of, case_of};
+ghost use Rattle.sp_moves.specs.View.{context_of, move_of, case_of};
 
-use crate::book::RuleBook;
+use crate::context::Context;
 use crate::solving::solving_action;
 use sp_rows::simplify::{by_rows, is_contradictory, simplified};
 use sp_system::system::System;
@@ -20,6 +20,8 @@ pub enum Move {
     Contradiction,
     /// an open leaf
     Unproved,
+    /// the search ends here: a log has been found
+    Solved,
     /// the formula at this position is an action, and its event is looked for
     Action(usize),
 }
@@ -35,7 +37,7 @@ pub struct Case {
 
 // The system itself, if some elementary move applies.
 fn unsimplified(alloc: Global, system: &System) -> Result<Option<Vec<Case>>, AllocError>
-    ensures { IfOk result (λ o. option_map (λ cs. map case_of cs.items) o ≡ spec.raw_cases [] (system_of system.now) spec.simplify) }
+    ensures { IfOk result (λ o. (context : spec.Context) → option_map (λ cs. map case_of cs.items) o ≡ spec.raw_cases context (system_of system.now) spec.simplify) }
 {
     if by_rows(alloc, system)?.is_none() {
         return Ok(None);
@@ -47,16 +49,30 @@ fn unsimplified(alloc: Global, system: &System) -> Result<Option<Vec<Case>>, All
     Ok(Some(made))
 }
 
+// No case, if the search ends at the system.
+fn ended(alloc: Global, context: &Context, system: &System) -> Result<Option<Vec<Case>>, AllocError>
+    ensures { IfOk result (λ o. option_map (λ cs. map case_of cs.items) o ≡ spec.raw_cases (context_of context.now) (system_of system.now) spec.solved) }
+{
+    if context.ends(alloc, system)? {
+        Ok(Some(Vec::new(alloc)))
+    } else {
+        Ok(None)
+    }
+}
+
 fn raw_cases(
     alloc: Global,
-    rules: &RuleBook,
+    context: &Context,
     system: &System,
     chosen: Move,
 ) -> Result<Option<Vec<Case>>, AllocError>
-    ensures { IfOk result (λ o. option_map (λ cs. map case_of cs.items) o ≡ spec.raw_cases (book_of rules.now) (system_of system.now) (move_of chosen)) }
+    ensures { IfOk result (λ o. option_map (λ cs. map case_of cs.items) o ≡ spec.raw_cases (context_of context.now) (system_of system.now) (move_of chosen)) }
 {
     match chosen {
-        Move::Simplify => unsimplified(alloc, system),
+        Move::Simplify => {
+            let made = unsimplified(alloc, system)?;
+            Ok(made)
+        }
         Move::Contradiction => {
             if is_contradictory(alloc, system)? {
                 Ok(Some(Vec::new(alloc)))
@@ -65,7 +81,8 @@ fn raw_cases(
             }
         }
         Move::Unproved => Ok(Some(Vec::new(alloc))),
-        Move::Action(position) => solving_action(alloc, rules, system, position),
+        Move::Solved => ended(alloc, context, system),
+        Move::Action(position) => solving_action(alloc, context.rules, system, position),
     }
 }
 
@@ -88,13 +105,13 @@ fn simple_cases(alloc: Global, cases: Vec<Case>) -> Result<Vec<Case>, AllocError
 /// `AllocError` where memory is wanting, or no number is left for a new variable.
 pub fn cases(
     alloc: Global,
-    rules: &RuleBook,
+    context: &Context,
     system: &System,
     chosen: Move,
 ) -> Result<Option<Vec<Case>>, AllocError>
-    ensures { IfOk result (λ o. option_map (λ cs. map case_of cs.items) o ≡ spec.cases (book_of rules.now) (system_of system.now) (move_of chosen)) }
+    ensures { IfOk result (λ o. option_map (λ cs. map case_of cs.items) o ≡ spec.cases (context_of context.now) (system_of system.now) (move_of chosen)) }
 {
-    let Some(raw) = raw_cases(alloc, rules, system, chosen)? else {
+    let Some(raw) = raw_cases(alloc, context, system, chosen)? else {
         return Ok(None);
     };
     let made = simple_cases(alloc, raw)?;

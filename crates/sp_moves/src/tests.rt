@@ -1,10 +1,13 @@
 use crate::action::is_solvable;
 use crate::book::RuleBook;
+use crate::context::Context;
 use crate::moves::{Case, Move, cases};
 use crate::solving::solving_action;
 use sp_fact::fact::{Action, Facts};
 use sp_formula::formula::{Atom, Formula, FormulaAction, FormulaTerm, Moment};
+use sp_ground::signature::Signature;
 use sp_rule::{Declared, Rule};
+use sp_solved::Sought;
 use sp_system::system::{Event, System};
 use sp_term::term::{Name, Sort, Term, Variable};
 use std::alloc::{AllocError, Global};
@@ -64,6 +67,40 @@ fn rules(alloc: Global) -> Result<RuleBook, AllocError> {
     rules.push(rule(alloc, "Other", Sort::Msg, other)?)?;
     rules.push(rule(alloc, "Three", Sort::Msg, three_actions(alloc, 0)?)?)?;
     RuleBook::new(alloc, rules)
+}
+
+// What a context refers to.
+#[derive(Drop)]
+struct Parts {
+    rules: RuleBook,
+    signature: Signature,
+    constants: Vec<Name>,
+    formula: Formula,
+}
+
+fn make_parts(alloc: Global, formula: Formula) -> Result<Parts, AllocError> {
+    Ok(Parts {
+        rules: rules(alloc)?,
+        signature: Signature {
+            symbols: Vec::new(alloc),
+            equations: Vec::new(alloc),
+        },
+        constants: Vec::new(alloc),
+        formula,
+    })
+}
+
+impl Parts {
+    fn context(&self) -> Context<'_> {
+        Context {
+            rules: &self.rules,
+            sought: Sought {
+                signature: &self.signature,
+                constants: &self.constants,
+                formula: &self.formula,
+            },
+        }
+    }
 }
 
 // The action of the name over the variable of number 0, at the time 5.
@@ -141,19 +178,42 @@ fn tries_each_action_of_the_event(rt: HostRuntime) -> Result<(), Fail> {
 #[test]
 fn is_no_instance(rt: HostRuntime) -> Result<(), Fail> {
     let alloc = rt.alloc();
-    let rules = rules(alloc)?;
+    let parts = make_parts(alloc, Formula::Truth)?;
+    let context = parts.context();
     let system = system(alloc)?;
     let looked_for = is_solvable(alloc, &formula(alloc, "A")?)?;
     assert!(rt; looked_for);
     let sent = is_solvable(alloc, &formula(alloc, "K")?)?;
     assert!(rt; !sent);
     for position in 1..3 {
-        let is_none = cases(alloc, &rules, &system, Move::Action(position))?.is_none();
+        let is_none = cases(alloc, &context, &system, Move::Action(position))?.is_none();
         assert!(rt; is_none);
     }
-    match cases(alloc, &rules, &system, Move::Unproved)? {
+    match cases(alloc, &context, &system, Move::Unproved)? {
         None => assert!(rt; false),
         Some(found) => assert!(rt; found.is_empty()),
+    }
+    Ok(())
+}
+
+// What is sought, and the formulas of a system without events: the log without entries is the only one that it suggests, and only where no
+// action waits for its event.
+#[test]
+fn ends_with_a_log(rt: HostRuntime) -> Result<(), Fail> {
+    let alloc = rt.alloc();
+    for (sought, has_formulas, ends) in [
+        (Formula::Truth, false, true),
+        (Formula::Falsity, false, false),
+        (Formula::Truth, true, false),
+    ] {
+        let parts = make_parts(alloc, sought)?;
+        let context = parts.context();
+        let mut system = system(alloc)?;
+        if !has_formulas {
+            system.formulas = Vec::new(alloc);
+        }
+        let found = cases(alloc, &context, &system, Move::Solved)?;
+        assert_eq!(rt; found.is_some(), ends);
     }
     Ok(())
 }

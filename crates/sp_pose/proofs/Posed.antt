@@ -6,7 +6,9 @@ use Rattle.sp_spec.specs.Theory.{Lemma}
 use Rattle.sp_spec.specs.Written.{theory_of}
 use Rattle.sp_spec.specs.Guarded.{Guarded}
 use Rattle.sp_law_guard.specs.CheckedForm.{checked_form}
+use Rattle.sp_term.specs.View.{name_of}
 use Rattle.sp_moves.specs.View.{book_of}
+use Rattle.sp_constants.specs.Constants.{constants_of}
 use Rattle.sp_written.specs.Text.{lemmas_in, theory_in}
 use Rattle.sp_written.specs.Views as view
 use Rattle.sp_written.specs.declared.theory.Item.{Item}
@@ -54,9 +56,9 @@ pub forms_there : {text lines : List ℕ} (r : ReadTheory) → IsTextOf text (vi
 forms_there r h e none k = asked_some r.items.items (poses r h e none).fine.lemmas k
 
 pub posed : {text lines : List ℕ} (r : ReadTheory) (p : Problem) → IsTextOf text (view.theory r) → lines ≡ report (view.theory r) → lines ≡ []
-    → book_of p.rules ≡ (theory_of (theory_in (view.theory r))).rules → all_asked (lemmas_read r.items.items) ≡ Some (map asked_of p.lemmas.items)
+    → book_of p.rules ≡ (theory_of (theory_in (view.theory r))).rules → map name_of p.constants.items ≡ constants_of (theory_in (view.theory r)) → all_asked (lemmas_read r.items.items) ≡ Some (map asked_of p.lemmas.items)
     → ArePlaces text (view.theory r) (view.spans r.items.items) p.behind_end → Rise text 0 (view.spans r.items.items) p.behind_end → p.behind_end ≤ length text → IsPosedBy text p
-posed r p h e none rules lemmas places rise within =
-    record { theory = r; poses = poses r h e none; rules_are = rules; lemmas_are = lemmas; places_are = places; rise = rise; within = within }
+posed r p h e none rules constants lemmas places rise within =
+    record { theory = r; poses = poses r h e none; rules_are = rules; constants_are = constants; lemmas_are = lemmas; places_are = places; rise = rise; within = within }
 
 pub ruleset posing = (reported)

@@ -9,6 +9,7 @@ ghost use Rattle.sp_written.specs.Views as view;
 ghost use Rattle.sp_pose.specs.Asked.{asked_of, asked_then, lemmas_read, all_asked};
 ghost use Rattle.sp_pose.specs.Posed.{IsRead};
 
+use sp_constants::constants;
 use sp_formula::formula::Formula;
 use sp_guard::marks::checked_form;
 use sp_moves::book::RuleBook;
@@ -16,6 +17,7 @@ use sp_place::refused_at;
 use sp_read_theory::read_theory;
 use sp_report::report;
 use sp_rule::{Rule, numbered};
+use sp_term::term::Name;
 use sp_written::{Item, Span, TraceKind, WrittenLemma, WrittenProof};
 use std::alloc::{AllocError, Global};
 
@@ -39,6 +41,8 @@ pub struct GuardedLemma<'a> {
 pub struct Problem<'a> {
     /// its rules, with their variables numbered
     pub rules: RuleBook,
+    /// its public names, each once
+    pub constants: Vec<Name>,
     /// its lemmas, with their guarded forms
     pub lemmas: Vec<GuardedLemma<'a>>,
     /// the place behind its word `end`
@@ -164,6 +168,7 @@ pub fn posed_by<'a>(alloc: Global, text: &'a [u8]) -> Result<Read<'a>, AllocErro
         return Ok(Read::Reported(lines));
     }
     let rules = rule_book(alloc, &theory.items)?;
+    let constants = constants(alloc, &theory)?;
     let behind_end = theory.behind_end;
     let lemmas = lemmas_of(alloc, theory.items)?;
     let Some(lemmas) = guarded_lemmas(alloc, lemmas)? else {
@@ -171,6 +176,7 @@ pub fn posed_by<'a>(alloc: Global, text: &'a [u8]) -> Result<Read<'a>, AllocErro
     };
     Ok(Read::Posed(Problem {
         rules,
+        constants,
         lemmas,
         behind_end,
     }))

@@ -5,13 +5,13 @@ use Rattle.std.specs.Str.{bytes_eq}
 use Rattle.sp_lex.specs.Lexeme.{Lexeme, word, Token}
 use Rattle.sp_lex.specs.Lex.{is_end, is_solve, skip, AreTokens, lexemes}
 use Rattle.sp_read_parts.specs.Names.{is_reserved, IsName}
-use Rattle.sp_step.specs.Moves.{Move, simplify, contradiction, unproved, action}
+use Rattle.sp_step.specs.Moves.{Move, simplify, contradiction, unproved, solved, action}
 use Rattle.sp_check.specs.Tree.{Tree, node, Branches, no_branch, branch}
-use Rattle.sp_text.specs.TreeText.{indent, line, move_text, tree_text, cases_text}
+use Rattle.sp_text.specs.TreeText.{indent, line, move_text, leading, tree_text, cases_text}
 use Rattle.sp_read_proof.specs.Grammar.{SpellsProof}
 use Rattle.sp_skel.specs.Laws.{ReadsBack}
 use Rattle.sp_text.specs.Places.{HasPlace}
-use Rattle.sp_skel.specs.Spelling.{IsWord, move_spelled, spelled, cases_spelled, as_written, IsReadable, AreReadable}
+use Rattle.sp_skel.specs.Spelling.{IsWord, move_spelled, behind_by, spelled, cases_spelled, as_written, IsReadable, AreReadable}
 use Rattle.sp_skel.proofs.Blanks.{Lexes, lexes_blank, space, line_end, lexes_word, lexes_goal}
 use Rattle.sp_skel.proofs.Spelled.{HaveCase, tree_spells, tree_says}
 
@@ -56,6 +56,10 @@ word_sorry : IsWord (codes "sorry")
 unfolding skip
 word_sorry = (refl, refl)
 
+word_solved : IsWord (codes "SOLVED")
+unfolding skip
+word_solved = (refl, refl)
+
 word_by : IsWord (codes "by")
 unfolding skip
 word_by = (refl, refl)
@@ -76,12 +80,21 @@ lexes_move : {size : ℕ} {xs : List Lexeme} (m : Move) (rest : List ℕ) → Ha
 lexes_move simplify rest h l = lexes_word (codes "simplify") 10 rest word_simplify line_end refl refl l
 lexes_move contradiction rest h l = lexes_word (codes "contradiction") 10 rest word_contradiction line_end refl refl l
 lexes_move unproved rest h l = lexes_word (codes "sorry") 10 rest word_sorry line_end refl refl l
+lexes_move solved rest h l = lexes_word (codes "SOLVED") 10 rest word_solved line_end refl refl l
 lexes_move (action k) rest h l =
     lexes_at (ap (λ (bytes : List ℕ). codes "solve( action " ++ bytes) (append_assoc (decimal k) (codes " )") (10 ∷ rest) ∙ sym (append_assoc (decimal k) (codes " ") (41 ∷ 10 ∷ rest))))
     (lexes_goal k (10 ∷ rest) h l)
 
 lexes_by : {size : ℕ} {xs : List Lexeme} (m : Move) (rest : List ℕ) → HasPlace m → Lexes size (10 ∷ rest) xs → Lexes size ((codes "by " ++ move_text m) ++ 10 ∷ rest) (word (codes "by") ∷ move_spelled m ∷ xs)
 lexes_by m rest h l = lexes_word (codes "by") 32 (move_text m ++ 10 ∷ rest) word_by space refl refl (lexes_blank 32 refl (lexes_move m rest h l))
+
+-- a move without cases
+lexes_leaf : {size : ℕ} {xs : List Lexeme} (m : Move) (rest : List ℕ) → HasPlace m → Lexes size (10 ∷ rest) xs → Lexes size ((leading m ++ move_text m) ++ 10 ∷ rest) (behind_by m (move_spelled m ∷ xs))
+lexes_leaf simplify rest h l = lexes_by simplify rest h l
+lexes_leaf contradiction rest h l = lexes_by contradiction rest h l
+lexes_leaf unproved rest h l = lexes_by unproved rest h l
+lexes_leaf solved rest h l = lexes_move solved rest h l
+lexes_leaf (action k) rest h l = lexes_by (action k) rest h l
 
 lexes_case : {size : ℕ} {xs : List Lexeme} (n rest : List ℕ) → IsName n → IsWord n → Lexes size (10 ∷ rest) xs → Lexes size ((codes "case " ++ n) ++ 10 ∷ rest) (word (codes "case") ∷ word n ∷ xs)
 lexes_case n rest h w l =
@@ -105,15 +118,15 @@ lexes_behind depth words more rest l = lexes_at (append_assoc (line depth words)
 
 mutual
   pub lexes_tree : {size : ℕ} {xs : List Lexeme} (depth : ℕ) (t : Tree) (rest : List ℕ) → IsReadable t → Lexes size rest xs → Lexes size (tree_text depth t ++ rest) (spelled t xs)
-  lexes_tree depth (node m no_branch) rest h l = lexes_line depth (codes "by " ++ move_text m) rest (lexes_by m rest h (lexes_blank 10 refl l))
+  lexes_tree depth (node m no_branch) rest h l = lexes_line depth (leading m ++ move_text m) rest (lexes_leaf m rest h (lexes_blank 10 refl l))
   lexes_tree depth (node m (branch [] t no_branch)) rest h l =
-      lexes_behind depth (move_text m) (tree_text depth t) rest (lexes_move m (tree_text depth t ++ rest) h.0 (lexes_blank 10 refl (lexes_tree depth t rest h.1 l)))
+      lexes_behind depth (move_text m) (tree_text depth t) rest (lexes_move m (tree_text depth t ++ rest) h.0 (lexes_blank 10 refl (lexes_tree depth t rest h.2 l)))
   lexes_tree depth (node m (branch [] t (branch n u bs))) rest h l =
       lexes_behind depth (move_text m) (cases_text depth (branch [] t (branch n u bs))) rest
-      (lexes_move m (cases_text depth (branch [] t (branch n u bs)) ++ rest) h.0 (lexes_blank 10 refl (lexes_cases depth (branch [] t (branch n u bs)) rest tt h.1 l)))
+      (lexes_move m (cases_text depth (branch [] t (branch n u bs)) ++ rest) h.0 (lexes_blank 10 refl (lexes_cases depth (branch [] t (branch n u bs)) rest tt h.2 l)))
   lexes_tree depth (node m (branch (b ∷ name) t bs)) rest h l =
       lexes_behind depth (move_text m) (cases_text depth (branch (b ∷ name) t bs)) rest
-      (lexes_move m (cases_text depth (branch (b ∷ name) t bs) ++ rest) h.0 (lexes_blank 10 refl (lexes_cases depth (branch (b ∷ name) t bs) rest tt h.1 l)))
+      (lexes_move m (cases_text depth (branch (b ∷ name) t bs) ++ rest) h.0 (lexes_blank 10 refl (lexes_cases depth (branch (b ∷ name) t bs) rest tt h.2 l)))
 
   pub lexes_cases : {size : ℕ} {xs : List Lexeme} (depth : ℕ) (bs : Branches) (rest : List ℕ) → HaveCase bs → AreReadable bs → Lexes size rest xs → Lexes size (cases_text depth bs ++ rest) (cases_spelled bs xs)
   lexes_cases depth no_branch rest some h l = absurd some

@@ -4,9 +4,10 @@ use Rattle.std.specs.Prelude.{decimal, is_some, slice_get}
 use Rattle.sp_spec.specs.Term.{Variable}
 use Rattle.sp_spec.specs.Rule.{Action, Rule}
 use Rattle.sp_spec.specs.Guarded.{Guarded}
+use Rattle.sp_spec.specs.Log.{Log}
 use Rattle.sp_system.specs.System.{System, Event}
 use Rattle.sp_step.specs.Rows.{happening_actions, rows, by_rows, is_contradictory}
-use Rattle.sp_step.specs.Moves.{Move, simplify, contradiction, unproved, action, Case, where_same, case_if, at_event, renamed, with_step, by_actions, numbered, named, by_each, event_at, action_cases, solving_action, raw_cases, simple_case, cases}
+use Rattle.sp_step.specs.Moves.{Move, simplify, contradiction, unproved, solved, action, Context, Case, where_same, case_if, at_event, renamed, with_step, by_actions, numbered, named, by_each, event_at, action_cases, solving_action, raw_cases, simple_case, cases}
 use Rattle.sp_check.specs.Tree.{Tree, node, Branches, no_branch, branch, IsAccepted, AreAccepted}
 use Rattle.sp_check.specs.Growth.{grown_tree}
 use Rattle.sp_check.proofs.Growing.{grown_tree_accepted}
@@ -14,7 +15,7 @@ use Rattle.sp_moves.specs.Sought.{sought}
 use Rattle.sp_moves.proofs.ByAction.{sought_cases, solves}
 use Rattle.sp_read_parts.specs.Names.{IsName}
 use Rattle.sp_text.specs.Places.{HasPlace, HavePlaces, AllHavePlaces}
-use Rattle.sp_skel.specs.Spelling.{IsWord, IsReadable, AreReadable, AreNamed}
+use Rattle.sp_skel.specs.Spelling.{IsWord, IsReadable, AreReadable, MayHaveCases, AreNamed}
 use Rattle.sp_skel.proofs.CaseNames.{at_named, case_named}
 
 -- ---- cases with names
@@ -78,19 +79,24 @@ solving_fine : (rules : List Rule) (s : System) (o : Option Guarded) (cs : List 
 solving_fine rules s None cs h e = absurd (let none : ⊥ = cc in none)
 solving_fine rules s (Some f) cs h e = sought_fine rules s (sought f) cs h (rw (solves rules s f) at e)
 
-raw_fine : (rules : List Rule) (s : System) (move : Move) (cs : List Case) → AreNamed rules → raw_cases rules s move ≡ Some cs → Fine cs
-raw_fine rules s simplify cs h e = at (is_some (by_rows rows s)) e
+raw_fine : (context : Context) (s : System) (move : Move) (cs : List Case) → AreNamed context.rules → raw_cases context s move ≡ Some cs → Fine cs
+raw_fine context s simplify cs h e = at (is_some (by_rows rows s)) e
   where
     at : (b : Bool) → (if b then Some (record { name = []; system = s } ∷ []) else None) ≡ Some cs → Fine cs
     at true e = inr (record { system = s; is = let f : cs ≡ record { name = []; system = s } ∷ [] = cc in f })
     at false e = absurd (let none : ⊥ = cc in none)
-raw_fine rules s contradiction cs h e = at (is_contradictory s) e
+raw_fine context s contradiction cs h e = at (is_contradictory s) e
   where
     at : (b : Bool) → (if b then Some [] else None) ≡ Some cs → Fine cs
     at true e = fine_nothing cs (let f : [] ≡ cs = cc in f)
     at false e = absurd (let none : ⊥ = cc in none)
-raw_fine rules s unproved cs h e = fine_nothing cs (let f : [] ≡ cs = cc in f)
-raw_fine rules s (action k) cs h e = solving_fine rules s (slice_get s.formulas k) cs h e
+raw_fine context s unproved cs h e = fine_nothing cs (let f : [] ≡ cs = cc in f)
+raw_fine context s solved cs h e = at (is_some (context.found s)) e
+  where
+    at : (b : Bool) → (if b then Some [] else None) ≡ Some cs → Fine cs
+    at true e = fine_nothing cs (let f : [] ≡ cs = cc in f)
+    at false e = absurd (let none : ⊥ = cc in none)
+raw_fine context s (action k) cs h e = solving_fine context.rules s (slice_get s.formulas k) cs h e
 
 simple_named : (cs : List Case) → CasesNamed cs → CasesNamed (map simple_case cs)
 simple_named [] h = tt
@@ -100,12 +106,12 @@ simple_fine : (raw cs : List Case) → Fine raw → map simple_case raw ≡ cs �
 simple_fine raw cs (inl h) e = inl (subst CasesNamed e (simple_named raw h))
 simple_fine raw cs (inr h) e = inr (record { system = (simple_case (record { name = []; system = h.system })).system; is = sym e ∙ ap (map simple_case) h.is })
 
-move_fine : (rules : List Rule) (s : System) (move : Move) (cs : List Case) → AreNamed rules → cases rules s move ≡ Some cs → Fine cs
-move_fine rules s move cs h e = at (raw_cases rules s move) refl e
+move_fine : (context : Context) (s : System) (move : Move) (cs : List Case) → AreNamed context.rules → cases context s move ≡ Some cs → Fine cs
+move_fine context s move cs h e = at (raw_cases context s move) refl e
   where
-    at : (o : Option (List Case)) → raw_cases rules s move ≡ o → option_map (map simple_case) o ≡ Some cs → Fine cs
+    at : (o : Option (List Case)) → raw_cases context s move ≡ o → option_map (map simple_case) o ≡ Some cs → Fine cs
     at None r k = absurd (let none : ⊥ = cc in none)
-    at (Some raw) r k = simple_fine raw cs (raw_fine rules s move raw h r) (let f : map simple_case raw ≡ cs = cc in f)
+    at (Some raw) r k = simple_fine raw cs (raw_fine context s move raw h r) (let f : map simple_case raw ≡ cs = cc in f)
 
 -- ---- trees
 
@@ -113,41 +119,51 @@ abbrev pub TreesReadable : Branches → Type 0
 TreesReadable no_branch = Unit {0}
 TreesReadable (branch n t bs) = IsReadable t × TreesReadable bs
 
-node_named : (m : Move) (bs : Branches) → HasPlace m → AreReadable bs → IsReadable (node m bs)
-node_named m no_branch p r = p
-node_named m (branch [] t no_branch) p r = absurd r.1
-node_named m (branch [] t (branch n u bs)) p r = absurd r.1
-node_named m (branch (b ∷ name) t bs) p r = (p, r)
+node_named : (m : Move) (bs : Branches) → HasPlace m → MayHaveCases m → AreReadable bs → IsReadable (node m bs)
+node_named m no_branch p may r = p
+node_named m (branch [] t no_branch) p may r = absurd r.1
+node_named m (branch [] t (branch n u bs)) p may r = absurd r.1
+node_named m (branch (b ∷ name) t bs) p may r = (p, may, r)
 
-all_named : (rules : List Rule) (cs : List Case) (bs : Branches) → CasesNamed cs → AreAccepted rules (Some cs) bs → TreesReadable bs → AreReadable bs
-all_named rules [] no_branch n h r = tt
-all_named rules [] (branch name t bs) n h r = absurd h
-all_named rules (c ∷ cs) no_branch n h r = absurd h
-all_named rules (c ∷ cs) (branch name t bs) n h r = (subst IsName (sym h.0) n.0, subst IsWord (sym h.0) n.1, r.0, all_named rules cs bs n.2 h.2 r.1)
+all_named : (context : Context) (cs : List Case) (bs : Branches) → CasesNamed cs → AreAccepted context (Some cs) bs → TreesReadable bs → AreReadable bs
+all_named context [] no_branch n h r = tt
+all_named context [] (branch name t bs) n h r = absurd h
+all_named context (c ∷ cs) no_branch n h r = absurd h
+all_named context (c ∷ cs) (branch name t bs) n h r = (subst IsName (sym h.0) n.0, subst IsWord (sym h.0) n.1, r.0, all_named context cs bs n.2 h.2 r.1)
 
-only_unnamed : (rules : List Rule) (m : Move) (s : System) (bs : Branches) → HasPlace m → AreAccepted rules (Some (record { name = []; system = s } ∷ [])) bs → TreesReadable bs → IsReadable (node m bs)
-only_unnamed rules m s no_branch p h r = absurd h
-only_unnamed rules m s (branch name t no_branch) p h r = subst (λ (n : List ℕ). IsReadable (node m (branch n t no_branch))) (sym h.0) (p, r.0)
-only_unnamed rules m s (branch name t (branch n u bs)) p h r = absurd h.2
+only_unnamed : (context : Context) (m : Move) (s : System) (bs : Branches) → HasPlace m → MayHaveCases m → AreAccepted context (Some (record { name = []; system = s } ∷ [])) bs → TreesReadable bs → IsReadable (node m bs)
+only_unnamed context m s no_branch p may h r = absurd h
+only_unnamed context m s (branch name t no_branch) p may h r = subst (λ (n : List ℕ). IsReadable (node m (branch n t no_branch))) (sym h.0) (p, may, r.0)
+only_unnamed context m s (branch name t (branch n u bs)) p may h r = absurd h.2
 
-node_fine : (rules : List Rule) (m : Move) (bs : Branches) (o : Option (List Case)) → ((cs : List Case) → o ≡ Some cs → Fine cs) → HasPlace m → AreAccepted rules o bs → TreesReadable bs → IsReadable (node m bs)
-node_fine rules m bs None f p h r = absurd h
-node_fine rules m bs (Some cs) f p h r = at (f cs refl)
+node_fine : (context : Context) (m : Move) (bs : Branches) (o : Option (List Case)) → ((cs : List Case) → o ≡ Some cs → Fine cs) → HasPlace m → MayHaveCases m → AreAccepted context o bs → TreesReadable bs → IsReadable (node m bs)
+node_fine context m bs None f p may h r = absurd h
+node_fine context m bs (Some cs) f p may h r = at (f cs refl)
   where
     at : Fine cs → IsReadable (node m bs)
-    at (inl n) = node_named m bs p (all_named rules cs bs n h r)
-    at (inr u) = only_unnamed rules m u.system bs p (subst (λ (ds : List Case). AreAccepted rules (Some ds) bs) u.is h) r
+    at (inl n) = node_named m bs p may (all_named context cs bs n h r)
+    at (inr u) = only_unnamed context m u.system bs p may (subst (λ (ds : List Case). AreAccepted context (Some ds) bs) u.is h) r
+
+-- where the search ends no case is left
+end_fine : (context : Context) (o : Option Log) (bs : Branches) → AreAccepted context (option_map (map simple_case) (if is_some o then Some [] else None)) bs → IsReadable (node solved bs)
+end_fine context None bs h = absurd h
+end_fine context (Some log) no_branch h = tt
+end_fine context (Some log) (branch name t bs) h = absurd h
 
 mutual
-  pub tree_readable : (rules : List Rule) (s : System) (t : Tree) → AreNamed rules → HavePlaces t → IsAccepted rules s t → IsReadable t
-  tree_readable rules s (node m bs) n p h = node_fine rules m bs (cases rules s m) (λ cs e. move_fine rules s m cs n e) p.0 h (trees_readable rules (cases rules s m) bs n p.1 h)
+  pub tree_readable : (context : Context) (s : System) (t : Tree) → AreNamed context.rules → HavePlaces t → IsAccepted context s t → IsReadable t
+  tree_readable context s (node solved bs) n p h = end_fine context (context.found s) bs h
+  tree_readable context s (node simplify bs) n p h = node_fine context simplify bs (cases context s simplify) (λ cs e. move_fine context s simplify cs n e) p.0 tt h (trees_readable context (cases context s simplify) bs n p.1 h)
+  tree_readable context s (node contradiction bs) n p h = node_fine context contradiction bs (cases context s contradiction) (λ cs e. move_fine context s contradiction cs n e) p.0 tt h (trees_readable context (cases context s contradiction) bs n p.1 h)
+  tree_readable context s (node unproved bs) n p h = node_fine context unproved bs (cases context s unproved) (λ cs e. move_fine context s unproved cs n e) p.0 tt h (trees_readable context (cases context s unproved) bs n p.1 h)
+  tree_readable context s (node (action k) bs) n p h = node_fine context (action k) bs (cases context s (action k)) (λ cs e. move_fine context s (action k) cs n e) p.0 tt h (trees_readable context (cases context s (action k)) bs n p.1 h)
 
-  trees_readable : (rules : List Rule) (o : Option (List Case)) (bs : Branches) → AreNamed rules → AllHavePlaces bs → AreAccepted rules o bs → TreesReadable bs
-  trees_readable rules None bs n p h = absurd h
-  trees_readable rules (Some []) no_branch n p h = tt
-  trees_readable rules (Some []) (branch name t bs) n p h = absurd h
-  trees_readable rules (Some (c ∷ cs)) no_branch n p h = absurd h
-  trees_readable rules (Some (c ∷ cs)) (branch name t bs) n p h = (tree_readable rules c.system t n p.0 h.1, trees_readable rules (Some cs) bs n p.1 h.2)
+  trees_readable : (context : Context) (o : Option (List Case)) (bs : Branches) → AreNamed context.rules → AllHavePlaces bs → AreAccepted context o bs → TreesReadable bs
+  trees_readable context None bs n p h = absurd h
+  trees_readable context (Some []) no_branch n p h = tt
+  trees_readable context (Some []) (branch name t bs) n p h = absurd h
+  trees_readable context (Some (c ∷ cs)) no_branch n p h = absurd h
+  trees_readable context (Some (c ∷ cs)) (branch name t bs) n p h = (tree_readable context c.system t n p.0 h.1, trees_readable context (Some cs) bs n p.1 h.2)
 
-pub grown_readable : (rules : List Rule) (s : System) (budget : ℕ) → AreNamed rules → HavePlaces (grown_tree rules s budget) → IsReadable (grown_tree rules s budget)
-grown_readable rules s budget n p = tree_readable rules s (grown_tree rules s budget) n p (grown_tree_accepted rules s budget)
+pub grown_readable : (context : Context) (s : System) (budget : ℕ) → AreNamed context.rules → HavePlaces (grown_tree context s budget) → IsReadable (grown_tree context s budget)
+grown_readable context s budget n p = tree_readable context s (grown_tree context s budget) n p (grown_tree_accepted context s budget)

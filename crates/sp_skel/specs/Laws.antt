@@ -2,8 +2,8 @@
 use Rattle.std.specs.Prelude.{◌≡◌, ℕ, ◌≤◌, List, ◌++◌, length, Some}
 use Rattle.sp_lex.specs.Lexeme.{Lexeme, Token}
 use Rattle.sp_lex.specs.Lex.{AreTokens, lexemes}
-use Rattle.sp_spec.specs.Rule.{Rule}
 use Rattle.sp_system.specs.System.{System}
+use Rattle.sp_step.specs.Moves.{Context}
 use Rattle.sp_check.specs.Tree.{Tree, IsAccepted}
 use Rattle.sp_check.specs.Growth.{grown_tree}
 use Rattle.sp_text.specs.TreeText.{tree_text}
@@ -30,5 +30,5 @@ pub record TreesAreReadBack : Type 0 where
 
 -- Where the rules have names and each action has a place, the cases of accepted trees have names, or are alone, and so with grown trees.
 pub record AcceptedTreesAreReadable : Type 0 where
-  pub accepted : (rules : List Rule) (s : System) (t : Tree) → AreNamed rules → HavePlaces t → IsAccepted rules s t → IsReadable t
-  pub grown : (rules : List Rule) (s : System) (budget : ℕ) → AreNamed rules → HavePlaces (grown_tree rules s budget) → IsReadable (grown_tree rules s budget)
+  pub accepted : (context : Context) (s : System) (t : Tree) → AreNamed context.rules → HavePlaces t → IsAccepted context s t → IsReadable t
+  pub grown : (context : Context) (s : System) (budget : ℕ) → AreNamed context.rules → HavePlaces (grown_tree context s budget) → IsReadable (grown_tree context s budget)

@@ -1,11 +1,11 @@
 -- The lexemes that the text of a tree spells, and which trees are read back from their texts. Source: Tamarin manual, "Proofs".
-use Rattle.std.specs.Prelude.{◌≡◌, ℕ, ◌^◌, ◌<◌, true, List, [], ◌∷◌, ◌++◌, codes, decimal}
+use Rattle.std.specs.Prelude.{◌≡◌, ℕ, true, List, [], ◌∷◌, ◌++◌, codes, decimal}
 use Rattle.sp_lex.specs.declared.token.Class.TheVariants as class
 use Rattle.std.specs.Char.{is_ascii_alphanumeric}
 use Rattle.sp_lex.specs.Lex.{skip}
 use Rattle.sp_lex.specs.Lexeme.{Lexeme, word, solve}
 use Rattle.sp_read_parts.specs.Names.{IsName}
-use Rattle.sp_step.specs.Moves.{Move, simplify, contradiction, unproved, action}
+use Rattle.sp_step.specs.Moves.{Move, simplify, contradiction, unproved, solved, action}
 use Rattle.sp_spec.specs.Rule.{Rule}
 use Rattle.sp_check.specs.Tree.{Tree, node, Branches, no_branch, branch}
 use Rattle.sp_text.specs.Places.{HasPlace}
@@ -15,12 +15,18 @@ abbrev pub move_spelled : Move → Lexeme
 move_spelled simplify = word (codes "simplify")
 move_spelled contradiction = word (codes "contradiction")
 move_spelled unproved = word (codes "sorry")
+move_spelled solved = word (codes "SOLVED")
 move_spelled (action k) = solve (codes " action " ++ (decimal k ++ codes " "))
+
+-- behind the word before a move without cases: the end of the search stands alone
+abbrev pub behind_by : Move → List Lexeme → List Lexeme
+behind_by solved rest = rest
+behind_by move rest = word (codes "by") ∷ rest
 
 -- a tree, and the cases behind a move, before these lexemes
 abbrev mutual
   pub spelled : Tree → List Lexeme → List Lexeme
-  spelled (node move no_branch) rest = word (codes "by") ∷ move_spelled move ∷ rest
+  spelled (node move no_branch) rest = behind_by move (move_spelled move ∷ rest)
   spelled (node move (branch [] tree no_branch)) rest = move_spelled move ∷ spelled tree rest
   spelled (node move (branch name tree branches)) rest = move_spelled move ∷ cases_spelled (branch name tree branches) rest
 
@@ -33,6 +39,7 @@ abbrev pub move_said : Move → Method
 move_said simplify = said (codes "simplify")
 move_said contradiction = said (codes "contradiction")
 move_said unproved = said (codes "sorry")
+move_said solved = said (codes "SOLVED")
 move_said (action k) = goal (codes " action " ++ (decimal k ++ codes " "))
 
 -- the tree as it is written
@@ -49,12 +56,17 @@ abbrev pub IsWord : List ℕ → Type 0
 IsWord [] = ⊥
 IsWord (b ∷ bytes) = (is_ascii_alphanumeric b ≡ true) × (skip class.Word bytes ≡ [])
 
+-- where the search ends there are no cases
+abbrev pub MayHaveCases : Move → Type 0
+MayHaveCases solved = ⊥
+MayHaveCases move = Unit {0}
+
 -- Each case has a name, or it is its node's only one and has none.
 abbrev mutual
   pub IsReadable : Tree → Type 0
   IsReadable (node move no_branch) = HasPlace move
-  IsReadable (node move (branch [] tree no_branch)) = HasPlace move × IsReadable tree
-  IsReadable (node move (branch name tree branches)) = HasPlace move × AreReadable (branch name tree branches)
+  IsReadable (node move (branch [] tree no_branch)) = HasPlace move × MayHaveCases move × IsReadable tree
+  IsReadable (node move (branch name tree branches)) = HasPlace move × MayHaveCases move × AreReadable (branch name tree branches)
 
   pub AreReadable : Branches → Type 0
   AreReadable no_branch = Unit {0}

@@ -1,7 +1,7 @@
 -- What the methods of a proof say. Source: Tamarin manual, "Proofs".
-use Rattle.std.specs.Prelude.{ℕ, ◌^◌, ◌||◌, nat_lt, if◌then◌else◌, List, Option, Some, None, codes}
+use Rattle.std.specs.Prelude.{ℕ, ◌^◌, nat_lt, if◌then◌else◌, List, Option, Some, None, codes}
 use Rattle.std.specs.Str.{bytes_eq}
-use Rattle.sp_step.specs.Moves.{simplify, contradiction, unproved, action}
+use Rattle.sp_step.specs.Moves.{simplify, contradiction, unproved, solved, action}
 use Rattle.sp_written.specs.Text.{Method, said, goal, WrittenProof, step, WrittenCases, no_case, then_case}
 use Rattle.sp_judge.specs.Skeleton.{Step, known, unbuilt, unknown, Skeleton, node_read, BranchesRead, none_read, branch_read}
 use Rattle.sp_skel.specs.MoveTexts.{trimmed, first_word, other_words, only_number, is_unbuilt}
@@ -12,7 +12,8 @@ step_of_word w =
     if bytes_eq w (codes "simplify") then known simplify
     else if bytes_eq w (codes "contradiction") then known contradiction
     else if bytes_eq w (codes "sorry") then known unproved
-    else if bytes_eq w (codes "induction") || bytes_eq w (codes "SOLVED") then unbuilt w
+    else if bytes_eq w (codes "SOLVED") then known solved
+    else if bytes_eq w (codes "induction") then unbuilt w
     else unknown w
 
 -- At a place beyond those of lists there is no formula, and so no instance.

@@ -22,7 +22,9 @@ fn step_of_word(alloc: Global, word: &str) -> Result<Step, AllocError>
         Ok(Step::Known(Move::Contradiction))
     } else if word == "sorry" {
         Ok(Step::Known(Move::Unproved))
-    } else if word == "induction" || word == "SOLVED" {
+    } else if word == "SOLVED" {
+        Ok(Step::Known(Move::Solved))
+    } else if word == "induction" {
         let text = word.as_bytes().to_vec(alloc)?;
         Ok(Step::Unbuilt(text))
     } else {

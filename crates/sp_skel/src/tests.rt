@@ -11,6 +11,7 @@ fn write_step(alloc: Global, out: &mut String, step: &Step) -> Result<(), AllocE
         Step::Known(Move::Simplify) => out.push_str("simplify"),
         Step::Known(Move::Contradiction) => out.push_str("contradiction"),
         Step::Known(Move::Unproved) => out.push_str("sorry"),
+        Step::Known(Move::Solved) => out.push_str("SOLVED"),
         Step::Known(Move::Action(place)) => {
             let text = format!(in alloc; "action {place}")?;
             out.push_str(&text)
@@ -64,7 +65,7 @@ fn read(alloc: Global, text: &str) -> Result<Option<(String, usize)>, AllocError
 fn trees_of_proofs_are_said(rt: HostRuntime) -> Result<(), Fail> {
     let alloc = rt.alloc();
     for (text, tree, count) in [
-        ("SOLVED", "unbuilt SOLVED", 1),
+        ("SOLVED", "SOLVED", 1),
         ("by sorry", "sorry", 2),
         ("by induction lemma", "unbuilt induction", 2),
         (
@@ -79,7 +80,7 @@ fn trees_of_proofs_are_said(rt: HostRuntime) -> Result<(), Fail> {
         ),
         (
             "solve( action 1 )\n  case R.1_done\n  SOLVED\nnext\n  case case\n  by sorry\nnext case qed by simplify qed qed",
-            "action 1 [R.1_done: unbuilt SOLVED] [case: sorry] [qed: simplify]",
+            "action 1 [R.1_done: SOLVED] [case: sorry] [qed: simplify]",
             15,
         ),
     ] {

@@ -18,7 +18,7 @@ use Rattle.sp_system.proofs.Numbers.{each_weaken_all}
 use Rattle.sp_system.proofs.Merging.{action_under}
 use Rattle.sp_system.proofs.Solutions.{Under, TimeUnder, agrees_then, change_numbered}
 use Rattle.sp_step.specs.Rows.{freed_action, happening_actions, rows, by_rows, is_contradictory}
-use Rattle.sp_step.specs.Moves.{Move, simplify, contradiction, unproved, action, Case, where_same, renamed, with_step, system_if, by_actions, named, by_each, event_at, action_cases, action_at_time, is_adversary, solving_action, raw_cases, simple_case}
+use Rattle.sp_step.specs.Moves.{Move, simplify, contradiction, unproved, solved, action, Context, Case, where_same, renamed, with_step, system_if, by_actions, named, by_each, event_at, action_cases, action_at_time, is_adversary, solving_action, raw_cases, simple_case}
 use Rattle.sp_step.specs.Laws.{RulesAreNumbered, RulesArePlain, systems_of, MovesCover}
 use Rattle.sp_step.proofs.Freed.{mapped, freed_action_in}
 use Rattle.sp_step.proofs.Twins.{unifier_within}
@@ -145,34 +145,44 @@ module _ (right : UnifierIsRight) (theory : Theory) (good : AreConvergent (signa
           at_event_solved right theory good keeps rules_numbered rules_plain s n f a freed i iu au own log is v h d found.0 found.1 y.2 (v.times i) refl y.0 y.1 y.3 normal_f y.4
           (subst (NoneSolved theory log v s.next) (at_event_systems s a 0 (happening_actions d.happening)) none)
 
+  by_rules : (context : Context) → context.rules ≡ theory.rules → (s : System) (k : ℕ) (cs : List Case) → solving_action context.rules s (slice_get s.formulas k) ≡ Some cs
+      → solving_action theory.rules s (slice_get s.formulas k) ≡ Some cs
+  by_rules context r s k cs e = subst (λ (rules : List Rule). solving_action rules s (slice_get s.formulas k) ≡ Some cs) r e
+
   -- before the cases are simplified
-  raw_numbered : (s : System) (move : Move) (cs : List Case) → raw_cases theory.rules s move ≡ Some cs → IsNumbered s → Every (Later s.next) (systems_of cs)
-  raw_numbered s simplify cs e n = at (is_some (by_rows rows s)) e
+  raw_numbered : (context : Context) → context.rules ≡ theory.rules → (s : System) (move : Move) (cs : List Case) → raw_cases context s move ≡ Some cs → IsNumbered s → Every (Later s.next) (systems_of cs)
+  raw_numbered context r s simplify cs e n = at (is_some (by_rows rows s)) e
     where
       at : (b : Bool) → (if b then Some (record { name = []; system = s } ∷ []) else None) ≡ Some cs → Every (Later s.next) (systems_of cs)
       at true k = let one : Case = record { name = []; system = s } in let g : one ∷ [] ≡ cs = cc in subst (λ (x : List Case). Every (Later s.next) (systems_of x)) g ((n, le_refl s.next), tt)
       at false k = absurd cc
-  raw_numbered s contradiction cs e n = at (is_contradictory s) e
+  raw_numbered context r s contradiction cs e n = at (is_contradictory s) e
     where
       at : (b : Bool) → (if b then Some [] else None) ≡ Some cs → Every (Later s.next) (systems_of cs)
       at true k = let none : List Case = [] in let g : none ≡ cs = cc in subst (λ (x : List Case). Every (Later s.next) (systems_of x)) g tt
       at false k = absurd cc
-  raw_numbered s unproved cs e n = let none : List Case = [] in let g : none ≡ cs = cc in subst (λ (x : List Case). Every (Later s.next) (systems_of x)) g tt
-  raw_numbered s (action k) cs e n = action_numbered s n k cs e
+  raw_numbered context r s unproved cs e n = let none : List Case = [] in let g : none ≡ cs = cc in subst (λ (x : List Case). Every (Later s.next) (systems_of x)) g tt
+  raw_numbered context r s solved cs e n = at (is_some (context.found s)) e
+    where
+      at : (b : Bool) → (if b then Some [] else None) ≡ Some cs → Every (Later s.next) (systems_of cs)
+      at true k = let none : List Case = [] in let g : none ≡ cs = cc in subst (λ (x : List Case). Every (Later s.next) (systems_of x)) g tt
+      at false k = absurd cc
+  raw_numbered context r s (action k) cs e n = action_numbered s n k cs (by_rules context r s k cs e)
 
-  raw_covers : (s : System) (move : Move) (cs : List Case) → raw_cases theory.rules s move ≡ Some cs → (move ≡ unproved → ⊥) → IsNumbered s → Covers theory s (systems_of cs)
-  raw_covers s simplify cs e not_open n = at (is_some (by_rows rows s)) e
+  raw_covers : (context : Context) → context.rules ≡ theory.rules → (s : System) (move : Move) (cs : List Case) → raw_cases context s move ≡ Some cs → (move ≡ unproved → ⊥) → (move ≡ solved → ⊥) → IsNumbered s → Covers theory s (systems_of cs)
+  raw_covers context r s simplify cs e not_open not_end n = at (is_some (by_rows rows s)) e
     where
       at : (b : Bool) → (if b then Some (record { name = []; system = s } ∷ []) else None) ≡ Some cs → Covers theory s (systems_of cs)
       at true k = let one : Case = record { name = []; system = s } in let g : one ∷ [] ≡ cs = cc in subst (λ (x : List Case). Covers theory s (systems_of x)) g (covers_itself theory s)
       at false k = absurd cc
-  raw_covers s contradiction cs e not_open n = at (is_contradictory s) refl e
+  raw_covers context r s contradiction cs e not_open not_end n = at (is_contradictory s) refl e
     where
       at : (b : Bool) → is_contradictory s ≡ b → (if b then Some [] else None) ≡ Some cs → Covers theory s (systems_of cs)
       at true c k = record { covers = λ log is v h none. no_solution right theory good keeps equal_truth s c n log is v h }
       at false c k = absurd cc
-  raw_covers s unproved cs e not_open n = absurd (not_open refl)
-  raw_covers s (action k) cs e not_open n = action_covers s n k cs e
+  raw_covers context r s unproved cs e not_open not_end n = absurd (not_open refl)
+  raw_covers context r s solved cs e not_open not_end n = absurd (not_end refl)
+  raw_covers context r s (action k) cs e not_open not_end n = action_covers s n k cs (by_rules context r s k cs e)
 
   -- the cases, each simplified
   simple_numbered : (n : ℕ) (cs : List Case) → Every (Later n) (systems_of cs) → Every (λ (c : Case). IsNumbered c.system × (n ≤ c.system.next)) (map simple_case cs)
@@ -189,13 +199,13 @@ module _ (right : UnifierIsRight) (theory : Theory) (good : AreConvergent (signa
 
   pub moves_cover : MovesCover theory
   moves_cover = record {
-    numbered = λ s move cs e n.
-        let r = mapped (map simple_case) (raw_cases theory.rules s move) cs e in
-        subst (Every (λ (c : Case). IsNumbered c.system × (s.next ≤ c.system.next))) (sym r.2) (simple_numbered s.next r.0 (raw_numbered s move r.0 r.1 n));
-    covers = λ s move cs e not_open n.
-        let r = mapped (map simple_case) (raw_cases theory.rules s move) cs e in
-        let raw = raw_covers s move r.0 r.1 not_open n in
-        let num = raw_numbered s move r.0 r.1 n in
+    numbered = λ context rs s move cs e n.
+        let r = mapped (map simple_case) (raw_cases context s move) cs e in
+        subst (Every (λ (c : Case). IsNumbered c.system × (s.next ≤ c.system.next))) (sym r.2) (simple_numbered s.next r.0 (raw_numbered context rs s move r.0 r.1 n));
+    covers = λ context rs s move cs e not_open not_end n.
+        let r = mapped (map simple_case) (raw_cases context s move) cs e in
+        let raw = raw_covers context rs s move r.0 r.1 not_open not_end n in
+        let num = raw_numbered context rs s move r.0 r.1 n in
         subst (λ (x : List Case). Covers theory s (systems_of x)) (sym r.2)
         (record { covers = λ log is v h none. raw.covers log is v h (simple_solved log is s.next v r.0 num none) });
   }

@@ -9,7 +9,7 @@ use Rattle.sp_spec.specs.Log.{Log, IsLog}
 use Rattle.sp_law_equal.specs.Convergent.{AreConvergent, KeepSymbols, ArePlain}
 use Rattle.sp_system.specs.System.{System, Valuation, Solves, InFacts, IsNumbered, Covers}
 use Rattle.sp_step.specs.Rows.{Row, by_row, is_contradictory}
-use Rattle.sp_step.specs.Moves.{Move, unproved, Case, cases}
+use Rattle.sp_step.specs.Moves.{Move, unproved, solved, Context, Case, cases}
 
 -- a rule's variables have the numbers below the length of their list
 abbrev pub RulesAreNumbered : List Rule → Type 0
@@ -40,10 +40,12 @@ pub record RowsCover (theory : Theory) : Type 0 where
 abbrev pub systems_of : List Case → List System
 systems_of cs = map (λ c. c.system) cs
 
--- so does each move that isn't an open leaf, with all its cases
+-- so does each move with all its cases, but for an open leaf and for one with which the search ends
 pub record MovesCover (theory : Theory) : Type 0 where
-  pub numbered : (s : System) (move : Move) (cs : List Case) → cases theory.rules s move ≡ Some cs → IsNumbered s → Every (λ (c : Case). IsNumbered c.system × (s.next ≤ c.system.next)) cs
-  pub covers : (s : System) (move : Move) (cs : List Case) → cases theory.rules s move ≡ Some cs → (move ≡ unproved → ⊥) → IsNumbered s → Covers theory s (systems_of cs)
+  pub numbered : (context : Context) → context.rules ≡ theory.rules → (s : System) (move : Move) (cs : List Case)
+      → cases context s move ≡ Some cs → IsNumbered s → Every (λ (c : Case). IsNumbered c.system × (s.next ≤ c.system.next)) cs
+  pub covers : (context : Context) → context.rules ≡ theory.rules → (s : System) (move : Move) (cs : List Case)
+      → cases context s move ≡ Some cs → (move ≡ unproved → ⊥) → (move ≡ solved → ⊥) → IsNumbered s → Covers theory s (systems_of cs)
 
 -- What is asked of a theory: its equations may be read from left to right and bring in no new symbols, its rules' variables are
 -- numbered, and no destructor stands in a rule.

@@ -4,6 +4,7 @@ use Rattle.std.specs.Prelude.{ℕ, suc, ◌+◌, ◌==◌, ◌||◌, Bool, if◌
 use Rattle.sp_spec.specs.Term.{Variable, var}
 use Rattle.sp_spec.specs.Rule.{Action, Facts, Rule, facts_at}
 use Rattle.sp_spec.specs.Guarded.{Guarded, holds, acts, free_time}
+use Rattle.sp_spec.specs.Log.{Log}
 use Rattle.sp_spec.specs.Substitution.{bound_to}
 use Rattle.sp_system.specs.System.{rule_step, Event, System}
 use Rattle.sp_system.specs.Equating.{action_pair, unifier_of, system_changed}
@@ -13,7 +14,14 @@ pub data Move : Type 0 where
   simplify : Move
   contradiction : Move
   unproved : Move
+  -- the search ends here: a log has been found
+  solved : Move
   action : ℕ → Move
+
+-- What a proof is made in: the theory's rules, and of each system the log with which the search ends there, if it has one.
+pub record Context : Type 0 where
+  pub rules : List Rule
+  pub found : System → Option Log
 
 -- a case without a name has the empty one
 pub record Case : Type 0 where
@@ -93,14 +101,15 @@ solving_action rules s (Some (holds (acts a (free_time i)))) = if is_adversary a
 solving_action rules s f = None
 
 -- the cases of a move before they are simplified; none where it is no instance
-abbrev pub raw_cases : List Rule → System → Move → Option (List Case)
-raw_cases rules s simplify = if is_some (by_rows rows s) then Some (record { name = []; system = s } ∷ []) else None
-raw_cases rules s contradiction = if is_contradictory s then Some [] else None
-raw_cases rules s unproved = Some []
-raw_cases rules s (action k) = solving_action rules s (slice_get s.formulas k)
+abbrev pub raw_cases : Context → System → Move → Option (List Case)
+raw_cases context s simplify = if is_some (by_rows rows s) then Some (record { name = []; system = s } ∷ []) else None
+raw_cases context s contradiction = if is_contradictory s then Some [] else None
+raw_cases context s unproved = Some []
+raw_cases context s solved = if is_some (context.found s) then Some [] else None
+raw_cases context s (action k) = solving_action context.rules s (slice_get s.formulas k)
 
 abbrev pub simple_case : Case → Case
 simple_case c = record { name = c.name; system = simplified c.system }
 
-abbrev pub cases : List Rule → System → Move → Option (List Case)
-cases rules s move = option_map (map simple_case) (raw_cases rules s move)
+abbrev pub cases : Context → System → Move → Option (List Case)
+cases context s move = option_map (map simple_case) (raw_cases context s move)

@@ -1,12 +1,13 @@
 -- Trees whose moves a text can name: the places of their actions are those of lists in memory.
 use Rattle.std.specs.Prelude.{◌^◌, ◌<◌}
-use Rattle.sp_step.specs.Moves.{Move, simplify, contradiction, unproved, action}
+use Rattle.sp_step.specs.Moves.{Move, simplify, contradiction, unproved, solved, action}
 use Rattle.sp_check.specs.Tree.{Tree, node, Branches, no_branch, branch}
 
 abbrev pub HasPlace : Move → Type 0
 HasPlace simplify = Unit {0}
 HasPlace contradiction = Unit {0}
 HasPlace unproved = Unit {0}
+HasPlace solved = Unit {0}
 HasPlace (action k) = k < 2 ^ 64
 
 abbrev mutual

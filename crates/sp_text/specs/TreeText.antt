@@ -1,6 +1,6 @@
 -- The text of a proof tree: a line for each move, and the cases of a move indented below it. The words are this project's own.
 use Rattle.std.specs.Prelude.{ℕ, zero, suc, List, [], ◌++◌, codes, decimal}
-use Rattle.sp_step.specs.Moves.{Move, simplify, contradiction, unproved, action}
+use Rattle.sp_step.specs.Moves.{Move, simplify, contradiction, unproved, solved, action}
 use Rattle.sp_check.specs.Tree.{Tree, node, Branches, no_branch, branch}
 
 -- two blanks for each case around it
@@ -15,12 +15,18 @@ abbrev pub move_text : Move → List ℕ
 move_text simplify = codes "simplify"
 move_text contradiction = codes "contradiction"
 move_text unproved = codes "sorry"
+move_text solved = codes "SOLVED"
 move_text (action k) = codes "solve( action " ++ (decimal k ++ codes " )")
 
--- a move without cases stands behind `by`; the tree of an only case without a name follows its move as it is
+-- what stands before the text of a move without cases: the end of the search stands alone
+abbrev pub leading : Move → List ℕ
+leading solved = []
+leading move = codes "by "
+
+-- a move without cases stands on a line of its own; the tree of an only case without a name follows its move as it is
 abbrev mutual
   pub tree_text : ℕ → Tree → List ℕ
-  tree_text depth (node move no_branch) = line depth (codes "by " ++ move_text move)
+  tree_text depth (node move no_branch) = line depth (leading move ++ move_text move)
   tree_text depth (node move (branch [] tree no_branch)) = line depth (move_text move) ++ tree_text depth tree
   tree_text depth (node move (branch name tree branches)) = line depth (move_text move) ++ cases_text depth (branch name tree branches)
 

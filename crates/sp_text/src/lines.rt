@@ -37,6 +37,17 @@ pub fn move_text(alloc: Global, chosen: Move) -> Result<String, AllocError>
         Move::Simplify => String::from_str(alloc, "simplify"),
         Move::Contradiction => String::from_str(alloc, "contradiction"),
         Move::Unproved => String::from_str(alloc, "sorry"),
+        Move::Solved => String::from_str(alloc, "SOLVED"),
         Move::Action(formula) => format!(in alloc; "solve( action {formula} )"),
+    }
+}
+
+/// What stands before the text of a move without cases.
+pub fn leading(chosen: Move) -> &'static str
+    ensures { result.now ≡ spec.leading (move_of chosen) }
+{
+    match chosen {
+        Move::Solved => "",
+        _ => "by ",
     }
 }

@@ -1,5 +1,6 @@
 use super::*;
 use sp_grow::{Branch, OpenLeaf, Tree};
+use sp_log::log::Log;
 use sp_moves::moves::Move;
 use sp_system::system::System;
 use std::alloc::{AllocError, Global};
@@ -66,6 +67,29 @@ fn writes_several_cases(rt: HostRuntime) -> Result<(), Fail> {
     case(alloc, &mut cases, "at_1", leaf(alloc, Move::Simplify))?;
     let tree = Tree::Node(Move::Action(3), cases);
     let wanted = "solve( action 3 )\n  case \n  by sorry\nnext\n  case at_1\n  by simplify\nqed\n";
+    assert_eq!(rt; tree_text(alloc, &tree)?.as_str(), wanted);
+    Ok(())
+}
+
+/// A leaf with which the search ends, whose log says nothing.
+fn ended(alloc: Global) -> Result<Tree, AllocError> {
+    let log = Log {
+        entries: Vec::new(alloc),
+    };
+    let boxed = Box::new(alloc, log)?;
+    Ok(Tree::Ended(boxed))
+}
+
+#[test]
+fn writes_the_end_alone(rt: HostRuntime) -> Result<(), Fail> {
+    let alloc = rt.alloc();
+    let below = over(alloc, Move::Simplify, "", ended(alloc)?)?;
+    let mut cases = Vec::new(alloc);
+    case(alloc, &mut cases, "One", below)?;
+    case(alloc, &mut cases, "Two", leaf(alloc, Move::Solved))?;
+    let tree = Tree::Node(Move::Action(0), cases);
+    let wanted =
+        "solve( action 0 )\n  case One\n  simplify\n  SOLVED\nnext\n  case Two\n  SOLVED\nqed\n";
     assert_eq!(rt; tree_text(alloc, &tree)?.as_str(), wanted);
     Ok(())
 }

@@ -8,7 +8,7 @@ ghost use Rattle.sp_text.specs.Cases.{words_behind};
 ghost use Rattle.sp_text.specs.Places.{HavePlaces, AllHavePlaces};
 ghost use Rattle.sp_text.specs.TreeText as spec;
 
-use crate::lines::{move_text, write_line};
+use crate::lines::{leading, move_text, write_line};
 use sp_grow::{Branch, Tree};
 use std::alloc::{AllocError, Global};
 
@@ -38,10 +38,11 @@ fn write_tree(alloc: Global, out: &mut String, depth: u64, tree: &Tree) -> Resul
 {
     match tree {
         Tree::Open(_) => write_line(out, depth, "by ", "sorry"),
+        Tree::Ended(_) => write_line(out, depth, "", "SOLVED"),
         Tree::Node(chosen, branches) => {
             let words = move_text(alloc, *chosen)?;
             if branches.is_empty() {
-                return write_line(out, depth, "by ", &words);
+                return write_line(out, depth, leading(*chosen), &words);
             }
             write_line(out, depth, "", &words)?;
             if is_unnamed(branches) {

@@ -27,14 +27,15 @@ pub record UsageExactly (words : List (List ℕ)) (status : Status) : Type 0 whe
   pub cause : status ≡ Usage → IsNoLine words
   pub comes : IsNoLine words → ¬ IsCutShort status → status ≡ Usage
 
--- Each lemma of the text is tried, and each verdict is so: a lemma that is verified holds in every execution of the theory that the text
--- says, steps of the adversary included; one on some trace that is falsified holds in none. What is written says the same theory with the proofs
--- that were grown, and is checked as it was tried.
+-- Each lemma of the text is tried, and each verdict is so. A lemma on all traces that is verified holds in every execution of the theory that
+-- the text says, steps of the adversary included, and one that is falsified is broken by the execution that is written behind its line. One
+-- on some trace that is verified is satisfied by that execution, and one that is falsified holds in none. What is written says the same theory
+-- with the proofs that were grown, and is checked as it was tried.
 pub record TriedRightly (bytes answer : List ℕ) (status : Status) : Type 0 where
   pub outcomes : List Outcome
   pub analysis : IsAnalysis bytes answer outcomes
   pub status_is : status ≡ status_of (verdicts_of outcomes)
-  pub right : Every (λ (o : Outcome). Means (theory_of (theory_in analysis.theory)) o.lemma.kind o.verdict o.lemma) outcomes
+  pub right : Every (λ (o : Outcome). Means (theory_of (theory_in analysis.theory)) o.lemma.kind o.verdict o.log o.lemma) outcomes
   pub again : IsCheckedAgain analysis.theory answer outcomes
 
 -- The proof of each lemma is checked, each verdict is so, and a proof is accepted exactly where its every step is an instance of a move, with
@@ -43,7 +44,7 @@ pub record CheckedRightly (bytes answer : List ℕ) (status : Status) : Type 0 w
   pub judged : List Judged
   pub checking : IsChecking bytes answer judged
   pub status_is : status ≡ status_of (verdicts_on judged)
-  pub right : Every (JudgedRightly (theory_of (theory_in checking.theory))) judged
+  pub right : Every (JudgedRightly (theory_in checking.theory)) judged
 
 -- The steps behind the text are an execution, whose trace is written with what is true over it, or the first that can't be done is named.
 abbrev pub DoneRightly : Command → List ℕ → List ℕ → Status → Type 0

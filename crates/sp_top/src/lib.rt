@@ -27,6 +27,8 @@ use std::alloc::{AllocError, Global};
 #[cfg(test)]
 mod check_tests;
 #[cfg(test)]
+mod found_tests;
+#[cfg(test)]
 mod replay_tests;
 #[cfg(test)]
 mod tests;
@@ -264,9 +266,10 @@ pub fn run<L: Library, K: Sink>(
     ensures fine { AnswersExactly words.now (L.holds library.old) Fine result }
     ensures write_fault { WriteFaultOnly (K.faults out.old) (K.faults out.new) result }
 
-    // The headline: what is written of each lemma is so. A lemma that is verified holds in every execution, steps of the adversary
-    // included, and one on some trace that is falsified holds in none; a proof that is checked is accepted exactly where its every step is
-    // an instance of a move, with the cases of that move.
+    // The headline: what is written of each lemma is so. A lemma on all traces that is verified holds in every execution, steps of the
+    // adversary included, and one that is falsified is broken by the execution that is written; one on some trace that is verified is
+    // satisfied by the execution that is written, and one that is falsified holds in none. A proof that is checked is accepted exactly where
+    // its every step is an instance of a move, with the cases of that move. What is replayed is told as it is.
     ensures headline { VerdictsHold words.now (L.holds library.old) (L.faults library.old) (L.faults library.new) (K.written out.old) (K.written out.new) result }
     // What stands written is the whole answer, or a prefix of it, or nothing.
     ensures whole { WritesWhole words.now (L.holds library.old) (L.faults library.old) (L.faults library.new) (K.written out.old) (K.written out.new) result }

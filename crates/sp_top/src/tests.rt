@@ -189,9 +189,9 @@ fn lemmas_are_tried(rt: HostRuntime) -> Result<(), Fail> {
         (
             MAKE,
             "All x y #i #j. A(x)@i & A(y)@j ==> #i = #j",
-            2,
-            "simplify\nsolve( action 0 )\n  case Make\n  solve( action 0 )\n    case Make\n    by sorry\n  qed\nqed\n",
-            "analysis incomplete (3 steps)",
+            1,
+            "simplify\nsolve( action 0 )\n  case Make\n  solve( action 0 )\n    case Make\n    SOLVED\n  qed\nqed\n",
+            "falsified - found trace (4 steps)\nexecution:\nfresh ~n1\nrule Make: k = ~n1\nfresh ~n2\nrule Make: k = ~n2\ntrace:\nA(~n1)\nA(~n2)\nend of trace",
         ),
         (
             TWO,
@@ -387,7 +387,7 @@ fn order_is_tried(rt: HostRuntime) -> Result<(), Fail> {
     assert_tried(&rt, rt.alloc(), ONE_RULE, &ORDER, 1)
 }
 
-/// True and false formulas, of which none is falsified.
+/// True and false formulas.
 const CONSTANTS: [Tried; 5] = [
     Tried {
         lemma: "always: \"T\"",
@@ -396,18 +396,18 @@ const CONSTANTS: [Tried; 5] = [
     },
     Tried {
         lemma: "some: exists-trace \"T\"",
-        tree: "simplify\nby sorry\n",
-        line: "some (exists-trace): analysis incomplete (1 steps)",
+        tree: "simplify\nSOLVED\n",
+        line: "some (exists-trace): verified (2 steps)\nexecution:\ntrace:\nend of trace",
     },
     Tried {
         lemma: "none: \"F\"",
-        tree: "simplify\nby sorry\n",
-        line: "none (all-traces): analysis incomplete (1 steps)",
+        tree: "simplify\nSOLVED\n",
+        line: "none (all-traces): falsified - found trace (2 steps)\nexecution:\ntrace:\nend of trace",
     },
     Tried {
         lemma: "nothing: \"All x #i. A(x)@i ==> F\"",
-        tree: "simplify\nsolve( action 0 )\n  case Make\n  by sorry\nqed\n",
-        line: "nothing (all-traces): analysis incomplete (2 steps)",
+        tree: "simplify\nsolve( action 0 )\n  case Make\n  SOLVED\nqed\n",
+        line: "nothing (all-traces): falsified - found trace (3 steps)\nexecution:\nfresh ~n1\nrule Make: k = ~n1\ntrace:\nA(~n1)\nend of trace",
     },
     Tried {
         lemma: "anything: \"All x #i. A(x)@i ==> T\"",
@@ -417,8 +417,23 @@ const CONSTANTS: [Tried; 5] = [
 ];
 
 #[test]
+fn constants_are_tried(rt: HostRuntime) -> Result<(), Fail> {
+    assert_tried(&rt, rt.alloc(), ONE_RULE, &CONSTANTS, 1)
+}
+
+/// A rule that takes what no other gives.
+const TAKING: &str = "rule Use: [ T(x) ] --[ U(x) ]-> [ ]\n";
+
+/// A step that can't be done, which the moves that are built don't show.
+const TAKEN: [Tried; 1] = [Tried {
+    lemma: "taken: \"All x #i. U(x)@i ==> F\"",
+    tree: "simplify\nsolve( action 0 )\n  case Use\n  by sorry\nqed\n",
+    line: "taken (all-traces): analysis incomplete (2 steps)",
+}];
+
+#[test]
 fn open_proofs_are_incomplete(rt: HostRuntime) -> Result<(), Fail> {
-    assert_tried(&rt, rt.alloc(), ONE_RULE, &CONSTANTS, 2)
+    assert_tried(&rt, rt.alloc(), TAKING, &TAKEN, 2)
 }
 
 /// A false formula that some trace is to satisfy.
@@ -488,31 +503,16 @@ qed
         tree: "simplify
 solve( action 0 )
   case First
-  solve( action 0 )
-    case at_0
-    by contradiction
-  qed
+  by sorry
 next
   case Second_case_1
-  solve( action 0 )
-    case at_0
-    by contradiction
-  next
-    case at_1
-    by sorry
-  qed
+  SOLVED
 next
   case Second_case_2
-  solve( action 0 )
-    case at_0
-    by sorry
-  next
-    case at_1
-    by contradiction
-  qed
+  by sorry
 qed
 ",
-        line: "alone (all-traces): analysis incomplete (8 steps)",
+        line: "alone (all-traces): falsified - found trace (3 steps)\nexecution:\nfresh ~n1\nfresh ~n2\nrule Second: a = ~n1, b = ~n2\ntrace:\nA(~n1), A(~n2)\nend of trace",
     },
     Tried {
         lemma: "absent: exists-trace \"Ex x #i. B(x)@i\"",
@@ -530,10 +530,16 @@ fn cases_are_in_the_order_of_rules(rt: HostRuntime) -> Result<(), Fail> {
 const CONSTANT_RULES: &str = "rule Make: [ Fr(~k) ] --[ A(~k) ]-> [ ]
 rule Fixed: [ ] --[ B('c') ]-> [ ]
 rule Both: [ Fr(~k) ] --[ A(~k), B('d') ]-> [ ]
+rule Use: [ T(x) ] --[ U(x) ]-> [ ]
 ";
 
-/// What is falsified stands before what is left open.
-const FALSIFIED_FIRST: [Tried; 4] = [
+/// What is falsified counts before what is left open.
+const FALSIFIED_FIRST: [Tried; 5] = [
+    Tried {
+        lemma: "taken: \"All x #i. U(x)@i ==> F\"",
+        tree: "simplify\nsolve( action 0 )\n  case Use\n  by sorry\nqed\n",
+        line: "taken (all-traces): analysis incomplete (2 steps)",
+    },
     Tried {
         lemma: "never: exists-trace \"Ex #i. B('e')@i\"",
         tree: "simplify\nby solve( action 0 )\n",
@@ -547,10 +553,10 @@ solve( action 0 )
   by contradiction
 next
   case Both
-  by sorry
+  SOLVED
 qed
 ",
-        line: "fixed (all-traces): analysis incomplete (3 steps)",
+        line: "fixed (all-traces): falsified - found trace (4 steps)\nexecution:\nfresh ~n1\nrule Both: k = ~n1\ntrace:\nA(~n1), B('d')\nend of trace",
     },
     Tried {
         lemma: "shown: \"All x #i #j. A(x)@i & A(x)@j & B('c')@i ==> F\"",

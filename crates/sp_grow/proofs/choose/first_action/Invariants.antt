@@ -1,11 +1,11 @@
-use Rattle.std.proofs.Common.{◌≡◌, map, List, drop}
-use Rattle.sp_spec.specs.Rule as spec_rule
+use Rattle.std.proofs.Common.{◌≡◌, map, drop}
+use Rattle.sp_step.specs.Moves.{Context}
 use Rattle.sp_system.specs.SystemView.{system_of}
 use Rattle.sp_formula.specs.FormulaView.{formula_of}
 use Rattle.sp_check.specs.Growth.{first_action}
 use Rattle.sp_grow.proofs.choose.first_action.Given as goal
 
 abbrev pub invariant-loop-place : goal.invariant-loop-place
-invariant-loop-place l = (rules : List spec_rule.Rule) →
-    first_action rules (system_of l.system) l.place (map formula_of (drop l.place l.system.formulas.items))
-    ≡ first_action rules (system_of l.system) 0 (system_of l.system).formulas
+invariant-loop-place l = (context : Context) →
+    first_action context (system_of l.system) l.place (map formula_of (drop l.place l.system.formulas.items))
+    ≡ first_action context (system_of l.system) 0 (system_of l.system).formulas

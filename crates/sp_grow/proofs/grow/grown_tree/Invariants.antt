@@ -1,5 +1,5 @@
 use Rattle.std.proofs.Common.{◌≡◌, ◌-◌}
-use Rattle.sp_moves.specs.View.{book_of}
+use Rattle.sp_moves.specs.View.{context_of}
 use Rattle.sp_system.specs.SystemView.{system_of}
 use Rattle.sp_check.specs.Growth.{grown, grown_tree}
 use Rattle.sp_grow.specs.View.{kept_of, tree_of}
@@ -8,5 +8,5 @@ use Rattle.sp_grow.proofs.grow.grown_tree.Given as goal
 
 abbrev pub invariant-loop-turns : goal.invariant-loop-turns
 invariant-loop-turns l =
-    Belongs (book_of l.rules) (system_of l.fn.root) (kept_of l.tree)
-    × (grown (book_of l.rules) (system_of l.fn.root) (l.budget - l.turns) (tree_of l.tree) ≡ grown_tree (book_of l.rules) (system_of l.fn.root) l.budget)
+    Belongs (context_of l.context) (system_of l.fn.root) (kept_of l.tree)
+    × (grown (context_of l.context) (system_of l.fn.root) (l.budget - l.turns) (tree_of l.tree) ≡ grown_tree (context_of l.context) (system_of l.fn.root) l.budget)

@@ -3,4 +3,4 @@ use Rattle.sp_grow.proofs.Finished.{finished_tells}
 use Rattle.sp_grow.proofs.tree.is_finished.Goals as goal
 
 pub returns : goal.returns
-returns c = finished_tells c.has_no_open_leaf.result (tree_of c.args.tree.now) c.has_no_open_leaf.ensures
+returns c = finished_tells c.leaves_none.result (tree_of c.args.tree.now) c.leaves_none.ensures

@@ -21,5 +21,5 @@ returns c =
     let read = rw c.in-Some.is at c.in_ok-theory.ensures in
     let none : c.in_ok-lines.lines.items ≡ [] = no_lines c.in_ok-lines.lines.len c.in_ok-lines.lines.items c.if-not-is_empty.ensures c.in_ok-lines.lines.ok.0 in
     let found = rw c.in-Some-3.is at c.in_ok-lemmas-2.ensures in
-    posed c.in-Some.theory (record { rules = c.in_ok-rules.rules; lemmas = c.in-Some-3.lemmas; behind_end = c.in-Some.theory.behind_end }) read.value c.in_ok-lines.ensures none
-    c.in_ok-rules.ensures (sym (found ∙ ap all_asked c.in_ok-lemmas.ensures)) read.places read.ordered.0 read.ordered.1
+    posed c.in-Some.theory (record { rules = c.in_ok-rules.rules; constants = c.in_ok-constants.constants; lemmas = c.in-Some-3.lemmas; behind_end = c.in-Some.theory.behind_end }) read.value c.in_ok-lines.ensures none
+    c.in_ok-rules.ensures c.in_ok-constants.ensures (sym (found ∙ ap all_asked c.in_ok-lemmas.ensures)) read.places read.ordered.0 read.ordered.1

@@ -1,0 +1,23 @@
+-- The block of an execution is written.
+use Rattle.std.proofs.Common.{◌≡◌, ℕ, List, ◌++◌, codes, sym, ap, ap₂, ◌∙◌, append_assoc}
+use Rattle.sp_spec.specs.Rule.{Rule, Action}
+use Rattle.sp_spec.specs.Execution.{Step}
+use Rattle.sp_spec.specs.Log.{Log, visible_trace}
+use Rattle.sp_law_found.specs.Found.{execution_of}
+use Rattle.sp_ground.specs.View.{newest_first}
+use Rattle.sp_ground.specs.Text.{trace_block}
+use Rattle.sp_log.proofs.Orders.{newest_twice}
+use Rattle.sp_analysis.specs.Block.{oldest_first, steps_text, found_block}
+
+-- what stands the newest first, turned round
+turned : {A : Type 0} (xs ys : List A) → newest_first xs ≡ ys → xs ≡ oldest_first ys
+turned xs ys e = sym (newest_twice xs) ∙ ap newest_first e
+
+pub block_written : (rules : List Rule) (log : Log) (steps : List Step) (entries : List (List (Action ⊥))) (first second all block : List ℕ) → newest_first steps ≡ execution_of rules log
+    → newest_first entries ≡ visible_trace log → first ≡ codes "execution:\n" → second ≡ first ++ steps_text steps → block ≡ trace_block entries → all ≡ second ++ block
+    → all ≡ found_block rules log
+block_written rules log steps entries first second all block steps_are entries_are first_is second_is block_is all_is =
+    all_is ∙ ap₂ (λ (a b : List ℕ). a ++ b) (second_is ∙ ap (λ (a : List ℕ). a ++ steps_text steps) first_is) block_is
+    ∙ append_assoc (codes "execution:\n") (steps_text steps) (trace_block entries)
+    ∙ ap₂ (λ (ss : List Step) (es : List (List (Action ⊥))). codes "execution:\n" ++ (steps_text ss ++ trace_block es)) (turned steps (execution_of rules log) steps_are)
+    (turned entries (visible_trace log) entries_are)

@@ -1,0 +1,8 @@
+use Rattle.std.proofs.Common.{◌≡◌, ◌++◌, map, drop, string_bytes}
+use Rattle.sp_ground.specs.View.{step_of}
+use Rattle.sp_analysis.specs.Block as spec
+use Rattle.sp_analysis.proofs.block.write_steps.Given as goal
+
+abbrev pub invariant-loop-step : goal.invariant-loop-step
+invariant-loop-step l =
+    string_bytes l.out ++ spec.steps_text (map step_of (drop l.step-index l.steps.items)) ≡ string_bytes l.fn.out ++ spec.steps_text (map step_of l.steps.items)

@@ -1,0 +1,21 @@
+use Rattle.std.proofs.Common.{string_bytes, ap, ◌∙◌}
+use Rattle.sp_formula.specs.FormulaView.{formula_of}
+use Rattle.sp_system.specs.SystemView.{system_of}
+use Rattle.sp_moves.specs.View as moves
+use Rattle.sp_judge.specs.View.{skeleton_of, judgement_of}
+use Rattle.sp_pose.specs.Asked as ask
+use Rattle.sp_analysis.specs.Block.{block_of}
+use Rattle.sp_analysis.specs.View.{setting_in, verdict_of}
+use Rattle.sp_analysis.proofs.Outcomes.{judged_as, judged_due}
+use Rattle.sp_analysis.proofs.tried.judge_lemma.Goals as goal
+
+pub returns : goal.returns
+returns c =
+    let setting = setting_in c.args.setting.now in
+    let asked = ask.asked_of c.args.lemma in
+    let tree = skeleton_of c.in_ok-tree.tree in
+    let judgement = judgement_of c.in_ok-judgement.judgement in
+    let judged = judged_as setting asked (moves.context_of c.context_of-context.result) (formula_of c.in_ok-formula.formula) (system_of c.in_ok-root.root) tree judgement
+    c.in_ok-formula.ensures c.context_of-context.ensures c.in_ok-root.ensures c.in_ok-tree.ensures c.in_ok-judgement.ensures in
+    judged_due setting asked tree judgement c.in_ok-tree.ensures judged (verdict_of c.by_judgement-verdict.result) c.steps-steps.result (string_bytes c.new.result) (string_bytes c.in_ok-block.block)
+    c.by_judgement-verdict.ensures c.steps-steps.ensures c.new.ensures.bytes (c.in_ok-block.ensures ∙ ap (block_of setting.rules) c.judged_log.ensures)

@@ -1,0 +1,26 @@
+-- The block of an execution that was found. Source of the shape: Tamarin manual, "Output" (the trace that is found); the words are this
+-- project's own.
+use Rattle.std.specs.Prelude.{ℕ, List, [], ◌∷◌, ◌++◌, codes, Option, Some, None}
+use Rattle.sp_spec.specs.Rule.{Rule}
+use Rattle.sp_spec.specs.Execution.{Step}
+use Rattle.sp_spec.specs.Log.{Log, visible_trace}
+use Rattle.sp_law_found.specs.Found.{execution_of}
+use Rattle.sp_ground.specs.View.{newest_first}
+use Rattle.sp_ground.specs.Text.{step_text, trace_block}
+
+-- the order turned round: of what stands the newest first, the oldest first
+abbrev pub oldest_first : {A : Type 0} → List A → List A
+oldest_first xs = newest_first xs
+
+-- each step on a line
+abbrev pub steps_text : List Step → List ℕ
+steps_text [] = []
+steps_text (step ∷ steps) = step_text step ++ (codes "\n" ++ steps_text steps)
+
+-- the steps that the log stands for, and its trace
+abbrev pub found_block : List Rule → Log → List ℕ
+found_block rules log = codes "execution:\n" ++ (steps_text (oldest_first (execution_of rules log)) ++ trace_block (oldest_first (visible_trace log)))
+
+abbrev pub block_of : List Rule → Option Log → List ℕ
+block_of rules None = []
+block_of rules (Some log) = found_block rules log

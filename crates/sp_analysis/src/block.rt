@@ -1,0 +1,55 @@
+// The block of an execution that was found.
+
+ghost use Rattle.std.specs.Prelude.{◌≡◌, ◌++◌, IfOk, OnOk, map, option_map, string_bytes};
+ghost use Rattle.sp_moves.specs.View.{book_of};
+ghost use Rattle.sp_ground.specs.View.{step_of};
+ghost use Rattle.sp_log.specs.View.{log_of};
+ghost use Rattle.sp_analysis.specs.Block as spec;
+
+use sp_ground::step::Step;
+use sp_log::execution::execution;
+use sp_log::log::Log;
+use sp_log::trace::visible_trace;
+use sp_moves::book::RuleBook;
+use sp_show::step::step_line;
+use sp_show::trace::trace_block;
+use std::alloc::{AllocError, Global};
+
+/// Puts each step on a line.
+fn write_steps(alloc: Global, out: &mut String, steps: &Vec<Step>) -> Result<(), AllocError>
+    ensures { OnOk result (string_bytes out.new ≡ string_bytes out.old ++ spec.steps_text (map step_of steps.now.items)) }
+{
+    for step in steps {
+        let line = step_line(alloc, step)?;
+        out.push_str(line.as_str())?;
+        out.push_str("\n")?;
+    }
+    Ok(())
+}
+
+/// The block of the execution that the log stands for.
+fn found_block(alloc: Global, rules: &RuleBook, log: &Log) -> Result<String, AllocError>
+    ensures { IfOk result (λ text. string_bytes text ≡ spec.found_block (book_of rules.now) (log_of log.now)) }
+{
+    let steps = execution(alloc, &rules.rules, log)?;
+    let trace = visible_trace(alloc, log)?;
+    let mut out = String::from_str(alloc, "execution:\n")?;
+    write_steps(alloc, &mut out, &steps)?;
+    let block = trace_block(alloc, &trace)?;
+    out.push_str(block.as_str())?;
+    Ok(out)
+}
+
+/// The block of the execution that was found; nothing where none was.
+///
+/// # Errors
+///
+/// `AllocError` where memory is wanting.
+pub fn block_of(alloc: Global, rules: &RuleBook, log: Option<&Log>) -> Result<String, AllocError>
+    ensures { IfOk result (λ text. string_bytes text ≡ spec.block_of (book_of rules.now) (option_map (λ l. log_of l.now) log.entry)) }
+{
+    match log {
+        Some(log) => found_block(alloc, rules, log),
+        None => Ok(String::new(alloc)),
+    }
+}

@@ -1,0 +1,16 @@
+// What the proofs of a theory's lemmas have in common.
+
+use sp_ground::signature::Signature;
+use sp_moves::book::RuleBook;
+use sp_term::term::Name;
+
+/// What the proofs of a theory's lemmas have in common.
+#[derive(Drop)]
+pub struct Setting {
+    /// the symbols and the equations of the theory
+    pub signature: Signature,
+    /// its rules
+    pub rules: RuleBook,
+    /// the public names that stand in it
+    pub constants: Vec<Name>,
+}

@@ -1,0 +1,151 @@
+-- What was found true over the trace of a log of steps is true over it, and over the trace of its execution.
+use Rattle.std.proofs.Common.{◌≡◌, ℕ, zero, true, List, [], ◌∷◌, Some, refl, sym, subst, inl, inr}
+use Rattle.std.specs.Prelude.{◌↔◌}
+use Rattle.sp_spec.specs.Lists.{Member, Every}
+use Rattle.sp_spec.specs.Term.{Term, var, constant, name, app, Terms, none, more}
+use Rattle.sp_spec.specs.Signature.{Signature}
+use Rattle.sp_spec.specs.Theory.{Restriction, Lemma, Theory, signature_of}
+use Rattle.sp_spec.specs.Written.{WrittenTheory, theory_of}
+use Rattle.sp_spec.specs.Execution.{Trace, IsExecution}
+use Rattle.sp_spec.specs.Truth.{IsTrueOver}
+use Rattle.sp_spec.specs.Verdict.{MeetsRestrictions}
+use Rattle.sp_spec.specs.Guarded.{Place, Atom, acts, same, same_time, before, last, Guarded, Guardeds, truth, falsity, holds, fails, all_of, one_of, some, every, no_more, and_then, GuardedHolds}
+use Rattle.sp_spec.specs.Log.{Entry, Log, log_trace, visible_trace}
+use Rattle.sp_law_equal.proofs.Pairs.{pairs_convergent, pairs_keep_symbols}
+use Rattle.sp_law_truth.specs.Shown.{times_within, action_names}
+use Rattle.sp_law_truth.proofs.Shown.{equal_shown_same}
+use Rattle.sp_law_guard.specs.GuardedForm.{negate}
+use Rattle.sp_law_guard.specs.CheckedForm.{checked_form}
+use Rattle.sp_law_guard.proofs.Throughout.{Throughout, ThroughoutEach}
+use Rattle.sp_law_guard.proofs.Checked.{form_checked}
+use Rattle.sp_law_guard.proofs.Kept.{form_kept}
+use Rattle.sp_law_guard.proofs.Turned.{turned}
+use Rattle.sp_law_decide.specs.Deciding.{assignment_of, decided, empty}
+use Rattle.sp_law_decide.specs.Normal.{IsPlainTerm, ArePlainTerms, IsPlainAtom, IsPlain, ArePlain, CanDecide}
+use Rattle.sp_law_decide.proofs.Told.{told}
+use Rattle.sp_law_run.proofs.Over.{execution_over}
+use Rattle.sp_law_found.specs.Found.{execution_of}
+use Rattle.sp_law_found.proofs.Runs.{log_runs}
+use Rattle.sp_ground.specs.View.{newest_first}
+use Rattle.sp_check.specs.PlainTheory.{IsPlainFormula}
+use Rattle.sp_check.proofs.Flat.{FlatTerm, FlatTerms}
+use Rattle.sp_check.proofs.Forms.{RightAtom, IsRight, right_negation, right_timed}
+use Rattle.sp_check.proofs.PlacedForms.{form_right}
+use Rattle.sp_log.specs.Checking.{is_log}
+use Rattle.sp_log.specs.Meaning.{IsLogOfSteps}
+use Rattle.sp_log.proofs.Checks.{log_decides}
+use Rattle.sp_law_shown.specs.Shown.{IsSearched, FoundBreaks, FoundSatisfies}
+use Rattle.sp_law_shown.specs.Laws.{FoundLogsShow}
+use Rattle.sp_law_shown.proofs.Executable.{executable, checkable}
+use Rattle.sp_law_shown.proofs.Traces.{plain_rules_over, normal_trace, visible_equal}
+
+-- ---- no symbol stands in flat atoms
+
+module _ (signature : Signature) where
+  flat_plain : (t : Term Place) → FlatTerm t → IsPlainTerm signature t
+  flat_plain (var p) h = tt
+  flat_plain (constant c) h = tt
+  flat_plain (name n) h = tt
+  flat_plain (app f ts) h = absurd h
+
+  flat_all_plain : (ts : Terms Place) → FlatTerms ts → ArePlainTerms signature ts
+  flat_all_plain none h = tt
+  flat_all_plain (more t ts) h = (flat_plain t h.0, flat_all_plain ts h.1)
+
+  atom_plain : (n : ℕ) (a : Atom) → RightAtom n a → IsPlainAtom signature a
+  atom_plain n (acts a i) h = flat_all_plain a.args h.0.0
+  atom_plain n (same t u) h = (flat_plain t h.0.0, flat_plain u h.0.1)
+  atom_plain n (same_time i j) h = tt
+  atom_plain n (before i j) h = tt
+  atom_plain n (last i) h = tt
+
+  guard_plain : (n : ℕ) (atoms : List Atom) → Every (RightAtom n) atoms → Every (IsPlainAtom signature) atoms
+  guard_plain n [] h = tt
+  guard_plain n (a ∷ atoms) h = (atom_plain n a h.0, guard_plain n atoms h.1)
+
+  mutual
+    right_plain : (n : ℕ) (g : Guarded) → Throughout RightAtom n g → IsPlain signature g
+    right_plain n truth h = tt
+    right_plain n falsity h = tt
+    right_plain n (holds a) h = atom_plain n a h
+    right_plain n (fails a) h = atom_plain n a h
+    right_plain n (all_of gs) h = each_plain n gs h
+    right_plain n (one_of gs) h = each_plain n gs h
+    right_plain n (some bs guard g) h = (guard_plain (times_within bs n) guard h.0, right_plain (times_within bs n) g h.1)
+    right_plain n (every bs guard g) h = (guard_plain (times_within bs n) guard h.0, right_plain (times_within bs n) g h.1)
+
+    each_plain : (n : ℕ) (gs : Guardeds) → ThroughoutEach RightAtom n gs → ArePlain signature gs
+    each_plain n no_more h = tt
+    each_plain n (and_then g gs) h = (right_plain n g h.0, each_plain n gs h.1)
+
+each_among : {A : Type 0} (xs ys : List A) → ((x : A) → Member x xs → Member x ys) → Every (λ x. Member x ys) xs
+each_among [] ys h = tt
+each_among (x ∷ xs) ys h = (h x (inl refl), each_among xs ys (λ z m. h z (inr m)))
+
+-- ---- truth
+
+module _ (t : WrittenTheory) (s : IsSearched t) (log : Log) (is : IsLogOfSteps (theory_of t) log) where
+  abbrev theory : Theory
+  theory = theory_of t
+
+  abbrev signature : Signature
+  signature = signature_of theory
+
+  executed : IsExecution theory (execution_of theory.rules log) (visible_trace log)
+  executed = log_runs theory (executable t s) log is.0 is.1
+
+  unrestricted : (trace : Trace) → MeetsRestrictions theory trace
+  unrestricted trace = subst (λ (rs : List Restriction). Every (λ (r : Restriction). IsTrueOver signature trace r.formula) rs) (sym s.unrestricted) tt
+
+  module _ (g : Guarded) (right : IsRight g) where
+    can_decide : CanDecide signature (log_trace log) g
+    can_decide = record {
+      convergent = pairs_convergent;
+      keeps = pairs_keep_symbols signature.symbols;
+      normal = normal_trace theory log is.0 is.1 (execution_over theory (plain_rules_over signature.symbols t.rules s.plain) (execution_of theory.rules log) (visible_trace log) executed);
+      plain = right_plain signature zero g right.each;
+      guarded = right.guarded;
+    }
+
+    over_log : decided (log_trace log) empty g ≡ true → GuardedHolds signature (log_trace log) (assignment_of empty) g
+    over_log e = ((told (log_trace log) g).guarded signature can_decide).0 e
+
+    over_steps : decided (log_trace log) empty g ≡ true → GuardedHolds signature (visible_trace log) (assignment_of empty) g
+    over_steps e =
+        (equal_shown_same signature (action_names g) (log_trace log) (visible_trace log) (visible_equal signature.equations (action_names g) log is.1)
+        (assignment_of empty) g (right_timed g right) (each_among (action_names g) (action_names g) (λ x m. m))).0 (over_log e)
+
+  module _ (lemma : Lemma) (plain : IsPlainFormula lemma.formula) (g : Guarded) (form : checked_form lemma.formula ≡ Some g) where
+    right : IsRight g
+    right = let c = form_checked lemma.formula g form in form_right lemma.formula g plain c.0 c.1
+
+    kept : (trace : Trace) → IsTrueOver signature trace lemma.formula ↔ GuardedHolds signature trace (assignment_of empty) g
+    kept trace = form_kept signature trace lemma.formula g (form_checked lemma.formula g form).0 (assignment_of empty)
+
+    not_true : (trace : Trace) → GuardedHolds signature trace (assignment_of empty) (negate g) → IsTrueOver signature trace lemma.formula → ⊥
+    not_true trace h true_there = (turned signature trace g (assignment_of empty)).0 h ((kept trace).0 true_there)
+
+    breaks : decided (log_trace log) empty (negate g) ≡ true → FoundBreaks theory lemma log
+    breaks e = record {
+      by_log = (is.0, unrestricted (log_trace log), not_true (log_trace log) (over_log (negate g) (right_negation g right) e));
+      executed = executed;
+      by_steps =
+          (visible_trace log, executed, unrestricted (visible_trace log), not_true (visible_trace log) (over_steps (negate g) (right_negation g right) e));
+    }
+
+    satisfies : decided (log_trace log) empty g ≡ true → FoundSatisfies theory lemma log
+    satisfies e = record {
+      by_log = (is.0, unrestricted (log_trace log), (kept (log_trace log)).1 (over_log g right e));
+      executed = executed;
+      by_steps = (visible_trace log, executed, unrestricted (visible_trace log), (kept (visible_trace log)).1 (over_steps g right e));
+    }
+
+is_log_of_steps : (t : WrittenTheory) → IsSearched t → (entries : List Entry) → is_log (signature_of (theory_of t)) (theory_of t).rules entries ≡ true
+    → IsLogOfSteps (theory_of t) (newest_first entries)
+is_log_of_steps t s entries e = (log_decides (theory_of t) (checkable t s) entries).0 e
+
+pub found_logs_show_lem : FoundLogsShow
+found_logs_show_lem = record {
+  breaks = λ t s lemma plain g form entries e found. breaks t s (newest_first entries) (is_log_of_steps t s entries e) lemma plain g form found;
+  satisfies = λ t s lemma plain g form entries e found. satisfies t s (newest_first entries) (is_log_of_steps t s entries e) lemma plain g form found;
+}

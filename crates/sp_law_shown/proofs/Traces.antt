@@ -1,0 +1,113 @@
+-- The trace of a log of steps is in normal form and over the signature, and the visible trace shows as much of it.
+use Rattle.std.proofs.Common.{◌≡◌, ℕ, List, [], ◌∷◌, map, refl, sym, ap, ◌∙◌, subst}
+use Rattle.sp_spec.specs.Lists.{Every}
+use Rattle.sp_spec.proofs.Lists.{every_both, every_weaken}
+use Rattle.sp_spec.specs.Term.{Term, var, constant, name, app, Terms, none, more, Grounds}
+use Rattle.sp_spec.specs.Signature.{Symbol, Equation, AreOver}
+use Rattle.sp_spec.specs.Equal.{end, EqualAll, AreNormal}
+use Rattle.sp_spec.specs.Rule.{Action, AreNormalActions}
+use Rattle.sp_spec.specs.Formula.{Written}
+use Rattle.sp_spec.specs.Theory.{Theory, signature_of}
+use Rattle.sp_spec.specs.Written.{WrittenRule, rule_of}
+use Rattle.sp_spec.specs.Execution.{Trace, with_entry}
+use Rattle.sp_spec.specs.Log.{Log, step, send, learn, log_trace, visible_trace, IsLog}
+use Rattle.sp_law_truth.specs.Same.{SameActions, EqualTraces}
+use Rattle.sp_law_truth.specs.Shown.{only_actions, shown}
+use Rattle.sp_law_decide.specs.Normal.{IsNormalAction, IsNormalTrace}
+use Rattle.sp_law_run.specs.Right.{IsTermOver, AreTermsOver, OfArguments, RulesAreOver}
+use Rattle.sp_law_run.specs.Laws.{IsTraceOver}
+use Rattle.sp_law_run.proofs.Written.{rules_over}
+use Rattle.sp_law_erase.specs.Adversary.{HasStepsAlone}
+use Rattle.sp_check.specs.PlainTheory.{IsAtomic, AreAtomic, IsPlainFact, IsPlainAction, IsPlainRule}
+
+-- ---- no symbol stands in a plain rule
+
+module _ (symbols : List Symbol) where
+  atomic_over : (t : Term Written) → IsAtomic t → IsTermOver symbols t
+  atomic_over (var x) h = tt
+  atomic_over (constant c) h = tt
+  atomic_over (name n) h = tt
+  atomic_over (app f ts) h = absurd h
+
+  atomics_over : (ts : Terms Written) → AreAtomic ts → AreTermsOver symbols ts
+  atomics_over none h = tt
+  atomics_over (more t ts) h = (atomic_over t h.0, atomics_over ts h.1)
+
+  rule_over : (r : WrittenRule) → IsPlainRule r → OfArguments (AreTermsOver symbols) r.facts
+  rule_over r h = record {
+    premises = every_weaken IsPlainFact _ (λ f k. atomics_over f.args k.0) r.facts.premises h.premises;
+    actions = every_weaken IsPlainAction _ (λ a k. atomics_over a.args k.0) r.facts.actions h.actions;
+    conclusions = every_weaken IsPlainFact _ (λ f k. atomics_over f.args k.0) r.facts.conclusions h.conclusions;
+  }
+
+  pub plain_rules_over : (rs : List WrittenRule) → Every IsPlainRule rs → RulesAreOver symbols (map rule_of rs)
+  plain_rules_over rs h = rules_over symbols rs (every_weaken IsPlainRule _ rule_over rs h)
+
+-- ---- normal forms
+
+actions_normal : (es : List Equation) (xs ys : List (Action ⊥)) → AreNormalActions es xs ys → Every (λ (a : Action ⊥). AreNormal es a.args) ys
+actions_normal es [] [] h = tt
+actions_normal es [] (y ∷ ys) h = absurd h
+actions_normal es (x ∷ xs) [] h = absurd h
+actions_normal es (x ∷ xs) (y ∷ ys) h = (h.1.1, actions_normal es xs ys h.2)
+
+module _ (theory : Theory) where
+  trace_normal : (log : Log) → IsLog theory log → HasStepsAlone log → Every (Every (λ (a : Action ⊥). AreNormal (signature_of theory).equations a.args)) (log_trace log)
+  trace_normal [] h alone = tt
+  trace_normal (step r facts os ∷ past) h alone =
+      (actions_normal (signature_of theory).equations _ facts.actions h.1.0.5.actions, trace_normal past h.0 alone.1)
+  trace_normal (send m ∷ past) h alone = absurd alone.0
+  trace_normal (learn m how ∷ past) h alone = absurd alone.0
+
+-- entries without actions have nothing that isn't over the symbols
+entry_parts : (symbols : List Symbol) (actions : List (Action ⊥)) (trace : Trace) → IsTraceOver symbols (with_entry actions trace)
+    → Every (λ (a : Action ⊥). AreOver symbols a.args) actions × IsTraceOver symbols trace
+entry_parts symbols [] trace h = (tt, h)
+entry_parts symbols (a ∷ actions) trace h = (h.0, h.1)
+
+trace_over : (symbols : List Symbol) (log : Log) → HasStepsAlone log → IsTraceOver symbols (visible_trace log) → IsTraceOver symbols (log_trace log)
+trace_over symbols [] alone h = tt
+trace_over symbols (step r facts os ∷ past) alone h =
+    let parts = entry_parts symbols facts.actions (visible_trace past) h in (parts.0, trace_over symbols past alone.1 parts.1)
+trace_over symbols (send m ∷ past) alone h = absurd alone.0
+trace_over symbols (learn m how ∷ past) alone h = absurd alone.0
+
+pub normal_trace : (theory : Theory) (log : Log) → IsLog theory log → HasStepsAlone log → IsTraceOver (signature_of theory).symbols (visible_trace log)
+    → IsNormalTrace (signature_of theory) (log_trace log)
+normal_trace theory log h alone over =
+    every_both (Every (λ (a : Action ⊥). AreNormal (signature_of theory).equations a.args)) (Every (λ (a : Action ⊥). AreOver (signature_of theory).symbols a.args))
+    (Every (IsNormalAction (signature_of theory)))
+    (λ entry n o. every_both (λ (a : Action ⊥). AreNormal (signature_of theory).equations a.args) (λ (a : Action ⊥). AreOver (signature_of theory).symbols a.args)
+    (IsNormalAction (signature_of theory)) (λ a k l. (k, l)) entry n o)
+    (log_trace log) (trace_normal theory log h alone) (trace_over (signature_of theory).symbols log alone over)
+
+-- ---- what is shown
+
+entry_shown : (names : List (List ℕ)) (actions : List (Action ⊥)) (trace : Trace)
+    → shown names (with_entry actions trace) ≡ with_entry (only_actions names actions) (shown names trace)
+entry_shown names [] trace = refl
+entry_shown names (a ∷ actions) trace = refl
+
+pub visible_shown : (names : List (List ℕ)) (log : Log) → HasStepsAlone log → shown names (log_trace log) ≡ shown names (visible_trace log)
+visible_shown names [] alone = refl
+visible_shown names (step r facts os ∷ past) alone =
+    ap (with_entry (only_actions names facts.actions)) (visible_shown names past alone.1) ∙ sym (entry_shown names facts.actions (visible_trace past))
+visible_shown names (send m ∷ past) alone = absurd alone.0
+visible_shown names (learn m how ∷ past) alone = absurd alone.0
+
+module _ (es : List Equation) where
+  equal_itself : (ts : Grounds) → EqualAll es ts ts
+  equal_itself none = tt
+  equal_itself (more t ts) = (end, equal_itself ts)
+
+  actions_itself : (xs : List (Action ⊥)) → SameActions es xs xs
+  actions_itself [] = tt
+  actions_itself (x ∷ xs) = ((refl, equal_itself x.args), actions_itself xs)
+
+  trace_itself : (trace : Trace) → EqualTraces es trace trace
+  trace_itself [] = tt
+  trace_itself (entry ∷ trace) = (actions_itself entry, trace_itself trace)
+
+  pub visible_equal : (names : List (List ℕ)) (log : Log) → HasStepsAlone log → EqualTraces es (shown names (log_trace log)) (shown names (visible_trace log))
+  visible_equal names log alone =
+      subst (λ (trace : Trace). EqualTraces es (shown names (log_trace log)) trace) (visible_shown names log alone) (trace_itself (shown names (log_trace log)))

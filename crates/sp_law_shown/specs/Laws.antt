@@ -1,0 +1,25 @@
+-- What holds of logs that were found.
+use Rattle.std.specs.Prelude.{◌≡◌, List, Some, true}
+use Rattle.sp_spec.specs.Theory.{Lemma, signature_of}
+use Rattle.sp_spec.specs.Written.{WrittenTheory, theory_of}
+use Rattle.sp_spec.specs.Guarded.{Guarded}
+use Rattle.sp_spec.specs.Log.{Entry, log_trace}
+use Rattle.sp_law_guard.specs.GuardedForm.{negate}
+use Rattle.sp_law_guard.specs.CheckedForm.{checked_form}
+use Rattle.sp_law_decide.specs.Deciding.{decided, empty}
+use Rattle.sp_ground.specs.View.{newest_first}
+use Rattle.sp_check.specs.PlainTheory.{IsPlainFormula}
+use Rattle.sp_log.specs.Checking.{is_log}
+use Rattle.sp_law_shown.specs.Shown.{IsSearched, FoundBreaks, FoundSatisfies}
+
+-- Of entries, the oldest first, that pass the test of logs: where the negation of the lemma's guarded form is found true over the log's trace, the
+-- log breaks the lemma; where the form is found true, the log satisfies it.
+pub record FoundLogsShow : Type 0 where
+  pub breaks : (theory : WrittenTheory) → IsSearched theory → (lemma : Lemma) → IsPlainFormula lemma.formula
+      → (g : Guarded) → checked_form lemma.formula ≡ Some g
+      → (entries : List Entry) → is_log (signature_of (theory_of theory)) (theory_of theory).rules entries ≡ true
+      → decided (log_trace (newest_first entries)) empty (negate g) ≡ true → FoundBreaks (theory_of theory) lemma (newest_first entries)
+  pub satisfies : (theory : WrittenTheory) → IsSearched theory → (lemma : Lemma) → IsPlainFormula lemma.formula
+      → (g : Guarded) → checked_form lemma.formula ≡ Some g
+      → (entries : List Entry) → is_log (signature_of (theory_of theory)) (theory_of theory).rules entries ≡ true
+      → decided (log_trace (newest_first entries)) empty g ≡ true → FoundSatisfies (theory_of theory) lemma (newest_first entries)
