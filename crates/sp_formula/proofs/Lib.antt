@@ -2,3 +2,4 @@ pub mod Values
 pub mod Rows
 pub mod FreeChanges
 pub mod Formulas
+pub mod SameParts

@@ -5,5 +5,6 @@
 #![tactic(auto)]
 
 pub mod formula;
+pub mod same;
 #[cfg(test)]
 mod tests;

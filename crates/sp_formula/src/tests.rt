@@ -1,4 +1,5 @@
 use crate::formula::{Atom, Binder, Formula, FormulaAction, FormulaTerm, Moment};
+use crate::same::same_formula;
 use sp_term::subst::Subst;
 use sp_term::term::{Name, Sort};
 use std::alloc::{AllocError, Global};
@@ -64,5 +65,34 @@ fn changes_within(rt: HostRuntime) -> Result<(), Fail> {
     assert_eq!(rt; times_within(&copied), (2, 3, 2));
     let changed = given.changed(alloc, &Subst::new(alloc), 1, 2)?;
     assert_eq!(rt; times_within(&changed), (1, 3, 1));
+    Ok(())
+}
+
+// there is a message of the sort such that A of what stands at the place happens at 2
+fn some_message(alloc: Global, sort: Sort, place: u64) -> Result<Formula, AllocError> {
+    let mut binders = Vec::new(alloc);
+    binders.push(Binder::Message(sort))?;
+    let mut args = Vec::new(alloc);
+    args.push(FormulaTerm::Bound(place))?;
+    let symbol = name(alloc, "A")?;
+    let mut guard = Vec::new(alloc);
+    guard.push(Atom::Acts(FormulaAction { symbol, args }, Moment::Free(2)))?;
+    let body = Box::new(alloc, Formula::Truth)?;
+    Ok(Formula::Exists(binders, guard, body))
+}
+
+#[test]
+fn tells_formulas_apart(rt: HostRuntime) -> Result<(), Fail> {
+    let alloc = rt.alloc();
+    let given = some_message(alloc, Sort::Pub, 0)?;
+    let cases = [
+        (some_message(alloc, Sort::Pub, 0)?, true),
+        (some_message(alloc, Sort::Fresh, 0)?, false),
+        (some_message(alloc, Sort::Pub, 1)?, false),
+        (nested(alloc)?, false),
+    ];
+    for case in &cases {
+        assert_eq!(rt; same_formula(&given, &case.0), case.1);
+    }
     Ok(())
 }

@@ -1,0 +1,10 @@
+use Rattle.std.proofs.Common.{◌≡◌, length, map}
+use Rattle.std.specs.Slice.Iter.{iter_rest}
+use Rattle.sp_formula.specs.FormulaView.{guardeds_of, formula_of}
+use Rattle.sp_formula.specs.SameFormula.{same_formulas}
+use Rattle.sp_formula.proofs.same.+same_formula.Given as goal
+
+abbrev pub invariant-same_formulas-loop-f : goal.invariant-same_formulas-loop-f
+invariant-same_formulas-loop-f l =
+    (same_formulas (guardeds_of (map formula_of l.left.items)) (guardeds_of (map formula_of l.right.items)) ≡ same_formulas (guardeds_of (map formula_of (iter_rest l.f-iterator.a))) (guardeds_of (map formula_of (iter_rest l.f-iterator.b))))
+    × (length (iter_rest l.f-iterator.a) ≡ length (iter_rest l.f-iterator.b))
