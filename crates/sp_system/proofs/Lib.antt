@@ -10,3 +10,4 @@ pub mod Unifying
 pub mod Unifier
 pub mod Pairs
 pub mod Paths
+pub mod Noted

@@ -1,19 +1,19 @@
 -- What keeps a solution: values that agree on the numbers of the system, and replacing that changes no value.
-use Rattle.std.proofs.Common.{◌≡◌, ◌≤◌, ◌<◌, ℕ, List, [], ◌∷◌, map, length, refl, sym, ◌∙◌, subst, lt_of_lt_of_le}
-use Rattle.sp_spec.specs.Lists.{Every, AtPosition}
+use Rattle.std.proofs.Common.{◌≡◌, ◌≤◌, ◌<◌, ℕ, List, [], ◌∷◌, map, length, refl, sym, ◌∙◌, subst, lt_of_lt_of_le, Bool, true, false, if◌then◌else◌, ◌++◌}
+use Rattle.sp_spec.specs.Lists.{Every, AtPlace, AtPosition}
 use Rattle.sp_spec.specs.Term.{Variable, Term, valued}
 use Rattle.sp_spec.specs.Signature.{IsValuation}
 use Rattle.sp_spec.specs.Equal.{IsNormal}
 use Rattle.sp_spec.specs.Rule.{Facts, facts_at}
 use Rattle.sp_spec.specs.Theory.{Theory, signature_of}
 use Rattle.sp_spec.specs.Guarded.{Guarded}
-use Rattle.sp_spec.specs.Log.{Log, step, log_trace}
+use Rattle.sp_spec.specs.Log.{Log, conclusion, step, log_trace}
 use Rattle.sp_spec.specs.Substitution.{Binding, bound_to, Fixes}
 use Rattle.sp_spec.specs.Unifier.{Pair}
 use Rattle.sp_formula.specs.Change.{free_change, changed}
-use Rattle.sp_system.specs.System.{Happening, rule_step, Event, System, Valuation, assignment, HappensAt, HappensIn, FormulaHolds, AreUnequal, IsBefore, Solves, EachVariable, InFormula, InHappening, InEvent, IsNumbered, Agrees}
-use Rattle.sp_system.specs.Equating.{happening_changed, event_changed, pair_changed, order_changed, system_changed}
-use Rattle.sp_spec.proofs.Lists.{every_map, every_both}
+use Rattle.sp_system.specs.System.{Happening, rule_step, Event, Link, System, Valuation, assignment, LinkHolds, HappensAt, HappensIn, FormulaHolds, AreUnequal, IsBefore, Solves, EachVariable, InFormula, InHappening, InEvent, IsNumbered, Agrees}
+use Rattle.sp_system.specs.Equating.{happening_changed, event_changed, pair_changed, link_changed, has_link, with_links, order_changed, system_changed}
+use Rattle.sp_spec.proofs.Lists.{every_map, every_both, every_append}
 use Rattle.sp_system.proofs.Facts.{valued_same, facts_same, fixed_term, fixed_facts}
 use Rattle.sp_system.proofs.Numbers.{each_weaken, facts_weaken, PutsIn, changed_in, each_valued, facts_valued}
 use Rattle.sp_system.proofs.Changing.{Reads, changed_same, settled_same}
@@ -60,6 +60,15 @@ module _ (limit : ℕ) (v w : Valuation) (a : Agrees limit v w) (theory : Theory
     subst (IsNormal (signature_of theory).equations) (sym (agree_term p.1 b.1)) h.2,
   )
 
+  pub agree_link : (l : Link) → TimeUnder limit l.from × TimeUnder limit l.to → LinkHolds log v l → LinkHolds log w l
+  agree_link l b h = (
+    h.0,
+    h.1,
+    h.2,
+    subst (λ (q : ℕ). AtPosition log q (step h.0 h.1 h.2)) (sym (a.times l.to b.1)) h.3,
+    subst (λ (q : ℕ). AtPlace h.2 l.premise (conclusion q l.conclusion)) (sym (a.times l.from b.0)) h.4,
+  )
+
   pub agree_order : (p : ℕ × ℕ) → TimeUnder limit p.0 × TimeUnder limit p.1 → IsBefore v p → IsBefore w p
   agree_order p b h = subst (λ (q : ℕ). w.times p.0 < q) (sym (a.times p.1 b.1)) (subst (λ (q : ℕ). q < v.times p.1) (sym (a.times p.0 b.0)) h)
 
@@ -73,8 +82,18 @@ agree_solves theory log s v w n a normal sorts h = record {
   formulas = every_both _ _ _ (agree_formula s.next v w a theory log) s.formulas n.formulas h.formulas;
   spent = every_both _ _ _ (agree_formula s.next v w a theory log) s.spent n.spent h.spent;
   unequal = every_both _ _ _ (agree_unequal s.next v w a theory log) s.unequal n.unequal h.unequal;
+  links = every_both _ _ _ (agree_link s.next v w a theory log) s.links n.links h.links;
   order = every_both _ _ _ (agree_order s.next v w a theory log) s.order n.order h.order;
 }
+
+-- what holds of some links and of others holds where equal ones are one
+pub every_link : (P : Link → Type 0) (kept ls : List Link) → Every P kept → Every P ls → Every P (with_links kept ls)
+every_link P kept [] k h = k
+every_link P kept (l ∷ ls) k h = every_link P (if has_link kept l then kept else kept ++ l ∷ []) ls (at (has_link kept l)) h.1
+  where
+    at : (b : Bool) → Every P (if b then kept else kept ++ l ∷ [])
+    at true = k
+    at false = every_append P kept (l ∷ []) k (h.0, tt)
 
 -- replacing that the values fix
 module _ (theory : Theory) (log : Log) (v : Valuation) (bs : List Binding) (fixes : Fixes v.terms bs) (times : ℕ → ℕ) (same_times : (i : ℕ) → v.times (times i) ≡ v.times i) where
@@ -105,6 +124,15 @@ module _ (theory : Theory) (log : Log) (v : Valuation) (bs : List Binding) (fixe
   change_order : (p : ℕ × ℕ) → IsBefore v p → IsBefore v (order_changed times p)
   change_order p h = subst (λ (q : ℕ). v.times (times p.0) < q) (sym (same_times p.1)) (subst (λ (q : ℕ). q < v.times p.1) (sym (same_times p.0)) h)
 
+  change_link : (l : Link) → LinkHolds log v l → LinkHolds log v (link_changed times l)
+  change_link l h = (
+    h.0,
+    h.1,
+    h.2,
+    subst (λ (q : ℕ). AtPosition log q (step h.0 h.1 h.2)) (sym (same_times l.to)) h.3,
+    subst (λ (q : ℕ). AtPlace h.2 l.premise (conclusion q l.conclusion)) (sym (same_times l.from)) h.4,
+  )
+
   change_formulas : (A : Variable → Type 0) (B : ℕ → Type 0) (fs : List Guarded) → Every (InFormula A B) fs → Every (FormulaHolds theory log v) fs
       → Every (FormulaHolds theory log v) (map (changed (free_change (bound_to bs) times)) fs)
   change_formulas A B [] n h = tt
@@ -119,6 +147,7 @@ module _ (theory : Theory) (log : Log) (v : Valuation) (bs : List Binding) (fixe
     formulas = change_formulas (Under s.next) (TimeUnder s.next) s.formulas n.formulas h.formulas;
     spent = change_formulas (Under s.next) (TimeUnder s.next) s.spent n.spent h.spent;
     unequal = every_map _ _ (pair_changed (bound_to bs)) change_unequal s.unequal h.unequal;
+    links = every_link (LinkHolds log v) [] (map (link_changed times) s.links) tt (every_map _ _ (link_changed times) change_link s.links h.links);
     order = every_map _ _ (order_changed times) change_order s.order h.order;
   }
 
@@ -143,6 +172,9 @@ module _ (n : ℕ) (bs : List Binding) (within : (x : Variable) → Under n x �
         unequal = subst (λ (m : ℕ). Every (λ (p : Pair). EachVariable (Under m) p.0 × EachVariable (Under m) p.1) (map (pair_changed (bound_to bs)) s.unequal)) (sym e)
             (every_map _ _ (pair_changed (bound_to bs)) (λ p b. (each_valued _ _ (bound_to bs) within p.0 b.0, each_valued _ _ (bound_to bs) within p.1 b.1)) s.unequal
             (subst (λ (m : ℕ). Every (λ (p : Pair). EachVariable (Under m) p.0 × EachVariable (Under m) p.1) s.unequal) e k.unequal));
+        links = subst (λ (m : ℕ). Every (λ (l : Link). (l.from < m) × (l.to < m)) (with_links [] (map (link_changed times) s.links))) (sym e)
+            (every_link _ [] (map (link_changed times) s.links) tt (every_map _ _ (link_changed times) (λ l b. (times_within l.from b.0, times_within l.to b.1)) s.links
+            (subst (λ (m : ℕ). Every (λ (l : Link). (l.from < m) × (l.to < m)) s.links) e k.links)));
         order = subst (λ (m : ℕ). Every (λ (p : ℕ × ℕ). (p.0 < m) × (p.1 < m)) (map (order_changed times) s.order)) (sym e)
             (every_map _ _ (order_changed times) (λ p b. (times_within p.0 b.0, times_within p.1 b.1)) s.order (subst (λ (m : ℕ). Every (λ (p : ℕ × ℕ). (p.0 < m) × (p.1 < m)) s.order) e k.order));
       }

@@ -1,5 +1,5 @@
 -- Putting terms for variables and one time for another throughout a system, and making two events one.
-use Rattle.std.specs.Prelude.{ℕ, ◌&&◌, nat_lt, List, [], ◌∷◌, ◌++◌, map, Bool, true, false, if◌then◌else◌, Option, Some, None, option_map, option_and_then}
+use Rattle.std.specs.Prelude.{ℕ, ◌&&◌, ◌||◌, nat_lt, ◌==◌, List, [], ◌∷◌, ◌++◌, map, Bool, true, false, if◌then◌else◌, Option, Some, None, option_map, option_and_then}
 use Rattle.std.specs.Str.{bytes_eq}
 use Rattle.sp_spec.specs.Term.{Variable, Term, Terms, none, more, valued}
 use Rattle.sp_spec.specs.Rule.{Fact, Action, facts_at}
@@ -7,7 +7,7 @@ use Rattle.sp_spec.specs.Substitution.{Binding, bound_to}
 use Rattle.sp_spec.specs.Unifier.{Pair, mgu}
 use Rattle.sp_formula.specs.Change.{free_change, changed}
 pub use Rattle.sp_formula.specs.Change.{time_replaced}
-use Rattle.sp_system.specs.System.{Happening, rule_step, Event, System}
+use Rattle.sp_system.specs.System.{Happening, rule_step, Event, Link, System}
 
 abbrev pub happening_changed : (Variable → Term Variable) → Happening → Happening
 happening_changed terms (rule_step r facts) = rule_step r (facts_at terms facts)
@@ -21,12 +21,31 @@ pair_changed terms p = (valued terms p.0, valued terms p.1)
 abbrev pub order_changed : (ℕ → ℕ) → ℕ × ℕ → ℕ × ℕ
 order_changed times p = (times p.0, times p.1)
 
+abbrev pub link_changed : (ℕ → ℕ) → Link → Link
+link_changed times l = record { from = times l.from; conclusion = l.conclusion; to = times l.to; premise = l.premise }
+
+abbrev pub same_source : Link → Link → Bool
+same_source l m = (l.from == m.from) && (l.conclusion == m.conclusion)
+
+abbrev pub same_premise : Link → Link → Bool
+same_premise l m = (l.to == m.to) && (l.premise == m.premise)
+
+abbrev pub has_link : List Link → Link → Bool
+has_link [] l = false
+has_link (m ∷ ms) l = same_source m l && same_premise m l || has_link ms l
+
+-- these links and, behind them, each of the others that isn't there yet: equal links are one
+abbrev pub with_links : List Link → List Link → List Link
+with_links kept [] = kept
+with_links kept (l ∷ ls) = with_links (if has_link kept l then kept else kept ++ l ∷ []) ls
+
 abbrev pub system_changed : (Variable → Term Variable) → (ℕ → ℕ) → System → System
 system_changed terms times s = record {
   events = map (event_changed terms times) s.events;
   formulas = map (changed (free_change terms times)) s.formulas;
   spent = map (changed (free_change terms times)) s.spent;
   unequal = map (pair_changed terms) s.unequal;
+  links = with_links [] (map (link_changed times) s.links);
   order = map (order_changed times) s.order;
   next = s.next;
 }
@@ -85,4 +104,4 @@ larger i j = if nat_lt j i then i else j
 abbrev pub merged_system : System → List Event → Event → Event → List Binding → System
 merged_system s others a b bs =
     system_changed (bound_to bs) (time_replaced (smaller a.time b.time) (larger a.time b.time))
-    (record { events = others; formulas = s.formulas; spent = s.spent; unequal = s.unequal; order = s.order; next = s.next })
+    (record { events = others; formulas = s.formulas; spent = s.spent; unequal = s.unequal; links = s.links; order = s.order; next = s.next })

@@ -5,3 +5,4 @@ pub mod SystemView
 pub mod Pairs
 pub mod Order
 pub mod OrderView
+pub mod ClosedView

@@ -1,23 +1,34 @@
 -- Constraint systems and their solutions. Source: CSF 2012, "Constraint solving" (constraint systems and their models);
 -- Schmidt's thesis, chapter 3; Meier's thesis, chapter 3.
 use Rattle.std.specs.Prelude.{◌≡◌, ◌<◌, ℕ, List, [], ◌∷◌, length}
-use Rattle.sp_spec.specs.Lists.{Every, AtPosition}
+use Rattle.sp_spec.specs.Lists.{Every, AtPlace, AtPosition}
 use Rattle.sp_spec.specs.Term.{Variable, Term, var, constant, name, app, Terms, none, more, Ground, Values, valued}
 use Rattle.sp_spec.specs.Signature.{Signature, IsValue, IsValuation}
 use Rattle.sp_spec.specs.Equal.{IsNormal, AreNormal}
 use Rattle.sp_spec.specs.Rule.{Fact, Action, Facts, facts_at}
 use Rattle.sp_spec.specs.Theory.{Theory, signature_of}
 use Rattle.sp_spec.specs.Guarded.{Place, free, bound, Time, free_time, bound_time, Binder, message, time, Atom, acts, same, same_time, before, last, Guarded, truth, falsity, holds, fails, all_of, one_of, some, every, Guardeds, no_more, and_then, Assignment, with_term, with_time, time_in, term_in, action_in, GuardedHolds}
-use Rattle.sp_spec.specs.Log.{Log, step, Source, IsLog, log_trace}
+use Rattle.sp_spec.specs.Log.{Log, step, Source, conclusion, IsLog, log_trace}
 
 -- what happens at an event
 pub data Happening : Type 0 where
   -- a rule, by its name, with these facts
   rule_step : List ℕ → Facts Variable → Happening
 
+abbrev pub happening_premises : Happening → List (Fact Variable)
+happening_premises (rule_step r facts) = facts.premises
+
 pub record Event : Type 0 where
   pub time : ℕ
   pub happening : Happening
+
+-- Where a premise comes from: what an event concludes at a place is the premise at a place of another event. The events are told by their
+-- times, and places are counted from 0.
+pub record Link : Type 0 where
+  pub from : ℕ
+  pub conclusion : ℕ
+  pub to : ℕ
+  pub premise : ℕ
 
 -- Message variables and times share the numbers; the next one is used by nothing yet. Spent formulas hold too. Of an order pair the
 -- first time is before the second.
@@ -26,6 +37,7 @@ pub record System : Type 0 where
   pub formulas : List Guarded
   pub spent : List Guarded
   pub unequal : List (Term Variable × Term Variable)
+  pub links : List Link
   pub order : List (ℕ × ℕ)
   pub next : ℕ
 
@@ -43,6 +55,12 @@ HappensAt log p v (rule_step r facts) = (sources : List Source) × AtPosition lo
 
 abbrev pub HappensIn : Log → Valuation → Event → Type 0
 HappensIn log v e = HappensAt log (v.times e.time) v.terms e.happening
+
+-- the entry of the log at the later time names as the source of that premise that conclusion of the entry at the earlier one
+abbrev pub LinkHolds : Log → Valuation → Link → Type 0
+LinkHolds log v l =
+    (r : List ℕ) × (facts : Facts ⊥) × (sources : List Source) × AtPosition log (v.times l.to) (step r facts sources)
+    × AtPlace sources l.premise (conclusion (v.times l.from) l.conclusion)
 
 -- for all values of the binders, normal ones and positions
 abbrev pub EachNormal : Signature → ℕ → List Binder → (Assignment → Type 0) → Assignment → Type 0
@@ -97,6 +115,7 @@ pub record Solves (theory : Theory) (log : Log) (v : Valuation) (s : System) : T
   pub formulas : Every (FormulaHolds theory log v) s.formulas
   pub spent : Every (FormulaHolds theory log v) s.spent
   pub unequal : Every (AreUnequal theory v) s.unequal
+  pub links : Every (LinkHolds log v) s.links
   pub order : Every (IsBefore v) s.order
 
 -- it holds of each variable in the term
@@ -159,6 +178,7 @@ pub record IsNumbered (s : System) : Type 0 where
   pub formulas : Every (InFormula (λ x. x.number < s.next) (λ i. i < s.next)) s.formulas
   pub spent : Every (InFormula (λ x. x.number < s.next) (λ i. i < s.next)) s.spent
   pub unequal : Every (λ (p : Term Variable × Term Variable). EachVariable (λ x. x.number < s.next) p.0 × EachVariable (λ x. x.number < s.next) p.1) s.unequal
+  pub links : Every (λ (l : Link). (l.from < s.next) × (l.to < s.next)) s.links
   pub order : Every (λ (p : ℕ × ℕ). (p.0 < s.next) × (p.1 < s.next)) s.order
 
 -- the valuations agree on the numbers below the limit

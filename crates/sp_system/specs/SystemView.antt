@@ -8,10 +8,14 @@ use Rattle.sp_system.specs.System as spec
 use Rattle.sp_fact.specs.View.{facts_of}
 use Rattle.sp_formula.specs.FormulaView.{formula_of}
 use Rattle.sp_system.specs.declared.system.Event.{Event}
+use Rattle.sp_system.specs.declared.system.Link.{Link}
 use Rattle.sp_system.specs.declared.system.System.{System}
 
 abbrev pub event_of : Event → spec.Event
 event_of e = record { time = e.time; happening = rule_step (name_of e.rule) (facts_of e.facts) }
+
+abbrev pub link_of : Link → spec.Link
+link_of l = record { from = l.from; conclusion = l.conclusion; to = l.to; premise = l.premise }
 
 abbrev pub pair_of : Term × Term → Pair
 pair_of p = (view p.0, view p.1)
@@ -22,6 +26,7 @@ system_of s = record {
   formulas = map formula_of s.formulas.items;
   spent = map formula_of s.spent.items;
   unequal = map pair_of s.unequal.items;
+  links = map link_of s.links.items;
   order = s.order.items;
   next = s.next;
 }

@@ -7,6 +7,7 @@
 
 ghost use Rattle.sp_system.specs.Laws.{UnifierIsRight};
 
+pub mod closed;
 pub mod order;
 pub mod pairing;
 pub mod system;

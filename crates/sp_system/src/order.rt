@@ -6,7 +6,7 @@ ghost use Rattle.sp_system.specs.OrderView as view;
 
 use std::alloc::{AllocError, Global};
 
-fn is_among(time: u128, times: &Vec<u128>) -> bool
+pub(crate) fn is_among(time: u128, times: &Vec<u128>) -> bool
     ensures { result ≡ view.among time times.now.items }
 {
     for other in times {
@@ -42,7 +42,11 @@ fn next_round(
 }
 
 // All times from which a path leads to the goal. A round that finds nothing new is the last one.
-fn leading(alloc: Global, order: &Vec<(u128, u128)>, goal: u128) -> Result<Vec<u128>, AllocError>
+pub(crate) fn leading(
+    alloc: Global,
+    order: &Vec<(u128, u128)>,
+    goal: u128,
+) -> Result<Vec<u128>, AllocError>
     ensures { IfOk result (λ ks. ks.items ≡ view.rounds (length order.now.items) order.now.items goal []) }
 {
     let mut known = Vec::new(alloc);

@@ -32,7 +32,8 @@ pub fn argument_pairs(
     Ok(Some(made))
 }
 
-fn fact_pair(
+/// The pairs that make the facts the same, if their names agree.
+pub fn fact_pair(
     alloc: Global,
     left: &Fact,
     right: &Fact,

@@ -1,10 +1,10 @@
 // Systems in memory.
 
-ghost use Rattle.std.specs.Prelude.{◌≡◌, IfOk, map};
+ghost use Rattle.std.specs.Prelude.{◌≡◌, [], ◌∷◌, ◌++◌, if◌then◌else◌, IfOk, drop, map};
 ghost use Rattle.sp_spec.specs.Substitution.{bound_to};
 ghost use Rattle.sp_term.specs.Bindings.{bindings};
-ghost use Rattle.sp_system.specs.Equating.{time_replaced, event_changed, pair_changed, order_changed, system_changed};
-ghost use Rattle.sp_system.specs.SystemView.{event_of, pair_of, system_of};
+ghost use Rattle.sp_system.specs.Equating.{time_replaced, event_changed, pair_changed, link_changed, same_source, same_premise, has_link, with_links, order_changed, system_changed};
+ghost use Rattle.sp_system.specs.SystemView.{event_of, pair_of, link_of, system_of};
 
 use sp_fact::fact::Facts;
 use sp_formula::formula::{Formula, changed_formulas, copy_formulas};
@@ -23,6 +23,19 @@ pub struct Event {
     pub facts: Facts,
 }
 
+/// Where a premise comes from: what one event concludes is a premise of another.
+#[derive(Clone, Copy, Debug, PartialEq, Eq)]
+pub struct Link {
+    /// the time of the event that concludes it
+    pub from: u128,
+    /// the place of the conclusion there, from 0
+    pub conclusion: usize,
+    /// the time of the event that takes it
+    pub to: u128,
+    /// the place of the premise there, from 0
+    pub premise: usize,
+}
+
 /// What a log has to satisfy.
 #[derive(Debug, Drop)]
 pub struct System {
@@ -34,6 +47,8 @@ pub struct System {
     pub spent: Vec<Formula>,
     /// the pairs of terms with different values
     pub unequal: Vec<(Term, Term)>,
+    /// the sources of premises
+    pub links: Vec<Link>,
     /// the pairs of times of which the first is before the second
     pub order: Vec<(u128, u128)>,
     /// a number above those of all variables and times
@@ -141,7 +156,78 @@ fn changed_pairs(
     Ok(made)
 }
 
-fn copy_order(alloc: Global, pairs: &Vec<(u128, u128)>) -> Result<Vec<(u128, u128)>, AllocError>
+impl Link {
+    /// Whether the links have one source.
+    pub fn same_source(self, other: Link) -> bool
+        ensures { result ≡ same_source (link_of self) (link_of other) }
+    {
+        self.from == other.from && self.conclusion == other.conclusion
+    }
+
+    /// Whether the links lead to one premise.
+    pub fn same_premise(self, other: Link) -> bool
+        ensures { result ≡ same_premise (link_of self) (link_of other) }
+    {
+        self.to == other.to && self.premise == other.premise
+    }
+
+    // The link with `small` in place of `large`.
+    fn changed(self, small: u128, large: u128) -> Link
+        ensures { link_of result ≡ link_changed (time_replaced small large) (link_of self) }
+    {
+        Link {
+            from: changed_time(small, large, self.from),
+            conclusion: self.conclusion,
+            to: changed_time(small, large, self.to),
+            premise: self.premise,
+        }
+    }
+}
+
+fn copy_links(alloc: Global, links: &Vec<Link>) -> Result<Vec<Link>, AllocError>
+    ensures { IfOk result (λ ls. map link_of ls.items ≡ map link_of links.now.items) }
+{
+    let mut made = Vec::with_capacity(alloc, links.len())?;
+    for link in links {
+        made.push(*link)?;
+    }
+    Ok(made)
+}
+
+fn has_link(links: &Vec<Link>, link: Link) -> bool
+    ensures { result ≡ has_link (map link_of links.now.items) (link_of link) }
+{
+    for other in links {
+        if other.same_source(link) && other.same_premise(link) {
+            return true;
+        }
+    }
+    false
+}
+
+// Links that become equal are one.
+fn changed_links(
+    alloc: Global,
+    small: u128,
+    large: u128,
+    links: &Vec<Link>,
+) -> Result<Vec<Link>, AllocError>
+    ensures { IfOk result (λ ls. map link_of ls.items ≡ with_links [] (map (link_changed (time_replaced small large)) (map link_of links.now.items))) }
+{
+    let mut made = Vec::with_capacity(alloc, links.len())?;
+    for link in links {
+        let link = link.changed(small, large);
+        if !has_link(&made, link) {
+            made.push(link)?;
+        }
+    }
+    Ok(made)
+}
+
+pub(crate) fn copy_order(
+    alloc: Global,
+    pairs: &Vec<(u128, u128)>,
+) -> Result<Vec<(u128, u128)>, AllocError>
     ensures { IfOk result (λ ps. ps.items ≡ pairs.now.items) }
 {
     let mut made = Vec::with_capacity(alloc, pairs.len())?;
@@ -183,12 +269,14 @@ impl System {
         let formulas = copy_formulas(alloc, &self.formulas)?;
         let spent = copy_formulas(alloc, &self.spent)?;
         let unequal = copy_pairs(alloc, &self.unequal)?;
+        let links = copy_links(alloc, &self.links)?;
         let order = copy_order(alloc, &self.order)?;
         Ok(System {
             events,
             formulas,
             spent,
             unequal,
+            links,
             order,
             next: self.next,
         })
@@ -208,12 +296,14 @@ impl System {
         let formulas = changed_formulas(alloc, subst, small, large, &self.formulas)?;
         let spent = changed_formulas(alloc, subst, small, large, &self.spent)?;
         let unequal = changed_pairs(alloc, subst, &self.unequal)?;
+        let links = changed_links(alloc, small, large, &self.links)?;
         let order = changed_order(alloc, small, large, &self.order)?;
         Ok(System {
             events,
             formulas,
             spent,
             unequal,
+            links,
             order,
             next: self.next,
         })

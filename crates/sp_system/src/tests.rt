@@ -1,6 +1,6 @@
 use crate::order::{is_before, is_cyclic};
 use crate::pairing::merging_pairs;
-use crate::system::{Event, System};
+use crate::system::{Event, Link, System};
 use sp_fact::fact::{Action, Fact, Facts};
 use sp_formula::formula::{Atom, Binder, Formula, FormulaAction, FormulaTerm, Moment};
 use sp_term::subst::Subst;
@@ -74,6 +74,15 @@ fn formula(alloc: Global) -> Result<Formula, AllocError> {
     Ok(Formula::Exists(binders, guard, Box::new(alloc, body)?))
 }
 
+fn link(from: u128, to: u128) -> Link {
+    Link {
+        from,
+        conclusion: 0,
+        to,
+        premise: 1,
+    }
+}
+
 fn system(alloc: Global) -> Result<System, AllocError> {
     let mut events = Vec::new(alloc);
     events.push(event(alloc, 2, Term::Var(variable(0)))?)?;
@@ -85,11 +94,15 @@ fn system(alloc: Global) -> Result<System, AllocError> {
     unequal.push((Term::Var(variable(0)), Term::Var(variable(1))))?;
     let mut order = Vec::new(alloc);
     order.push((2, 3))?;
+    let mut links = Vec::new(alloc);
+    links.push(link(2, 3))?;
+    links.push(link(2, 2))?;
     Ok(System {
         events,
         formulas,
         spent: Vec::new(alloc),
         unequal,
+        links,
         order,
         next: 4,
     })
@@ -141,6 +154,11 @@ fn changes(rt: HostRuntime) -> Result<(), Fail> {
     assert!(rt; is_replaced);
     let order_is_replaced = order_is(&changed, 2, 2);
     assert!(rt; order_is_replaced);
+    // the two links become equal, and are one
+    let links = changed.links.len();
+    assert_eq!(rt; links, 1);
+    let is_linked = changed.links.first() == Some(&link(2, 2));
+    assert!(rt; is_linked);
     let made = given.with_terms(alloc, &subst)?;
     let is_made = body_is_changed(&made);
     assert!(rt; is_made);
@@ -188,5 +206,28 @@ fn follows_paths(rt: HostRuntime) -> Result<(), Fail> {
     order.push((5, 2))?;
     let cyclic = is_cyclic(alloc, &order)?;
     assert!(rt; cyclic);
+    Ok(())
+}
+
+// 1 and 4 are before 2, and 2 before 3
+#[test]
+fn a_closed_order_is_asked_often(rt: HostRuntime) -> Result<(), Fail> {
+    let alloc = rt.alloc();
+    let mut made = system(alloc)?;
+    made.order = Vec::new(alloc);
+    made.order.push((2, 3))?;
+    made.order.push((1, 2))?;
+    made.order.push((4, 2))?;
+    let closed = made.close_order(alloc)?;
+    assert!(rt; closed.before(1, 3));
+    assert!(rt; closed.before(4, 3));
+    assert!(rt; !closed.before(1, 4));
+    assert!(rt; !closed.before(3, 1));
+    assert!(rt; !closed.has_cycle());
+    made.order.push((3, 4))?;
+    let closed = made.close_order(alloc)?;
+    assert!(rt; closed.before(4, 4));
+    assert!(rt; !closed.before(1, 1));
+    assert!(rt; closed.has_cycle());
     Ok(())
 }
