@@ -19,8 +19,8 @@ use Rattle.sp_spec.proofs.Lists.{every_parts, every_member, member_mapped, posit
 use Rattle.sp_system.proofs.Facts.{action_same}
 use Rattle.sp_system.proofs.Numbers.{each_weaken_all}
 use Rattle.sp_system.proofs.Solutions.{Under, TimeUnder, agrees_itself}
-use Rattle.sp_step.specs.Rows.{freed_action, happening_actions}
-use Rattle.sp_step.specs.Moves.{renamed, with_step, by_actions, named, by_each, event_at, is_adversary}
+use Rattle.sp_step.specs.Rows.{freed_action, event_at, happening_actions}
+use Rattle.sp_step.specs.Moves.{renamed, with_step, by_actions, named, by_each, is_adversary}
 use Rattle.sp_step.specs.Laws.{RulesAreNumbered, RulesArePlain, systems_of}
 use Rattle.sp_step.proofs.Freed.{freed_action_value}
 use Rattle.sp_step.proofs.Entries.{traced, entry_is_step, step_action_normal, same_normal_action, plain_step, beside, beside_agrees}

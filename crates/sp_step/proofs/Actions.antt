@@ -77,10 +77,10 @@ module _ (theory : Theory) (s : System) (r : Rule) (i : ℕ) (i_under : i < s.ne
   pub step_numbered : IsNumbered s → IsNumbered (with_step s i r)
   step_numbered n =
       let next = s.next + length r.variables in
-      let wide : System = record { events = s.events; formulas = s.formulas; spent = s.spent; unequal = s.unequal; order = s.order; next = next } in
-      let m : IsNumbered wide = weaken_numbered s wide next (omega arith) refl refl refl refl refl refl n in
+      let wide : System = record { events = s.events; formulas = s.formulas; spent = s.spent; unequal = s.unequal; links = s.links; order = s.order; next = next } in
+      let m : IsNumbered wide = weaken_numbered s wide next (omega arith) refl refl refl refl refl refl refl n in
       let time : i < next = omega (arith, i_under) in
-      record { events = every_append (InEvent (Under next) (TimeUnder next)) s.events (record { time = i; happening = rule_step r.name (renamed s.next r.facts) } ∷ []) m.events ((time, renamed_under), tt); formulas = m.formulas; spent = m.spent; unequal = m.unequal; order = m.order }
+      record { events = every_append (InEvent (Under next) (TimeUnder next)) s.events (record { time = i; happening = rule_step r.name (renamed s.next r.facts) } ∷ []) m.events ((time, renamed_under), tt); formulas = m.formulas; spent = m.spent; unequal = m.unequal; links = m.links; order = m.order }
 
   module _ (log : Log) (v : Valuation) (h : Solves theory log v s) (n : IsNumbered s) (w : Values) (sorts : IsValuation (signature_of theory) w) (are_normal : (x : Variable) → IsNormal (signature_of theory).equations (w x))
       (sources : List Source) (there : AtPosition log (v.times i) (step r.name (facts_at w r.facts) sources)) where
@@ -104,5 +104,6 @@ module _ (theory : Theory) (s : System) (r : Rule) (i : ℕ) (i_under : i < s.ne
           formulas = old.formulas;
           spent = old.spent;
           unequal = old.unequal;
+          links = old.links;
           order = old.order;
         }

@@ -74,6 +74,23 @@ at_one v i j one e d k =
     (or_cases (nat_eq e.time i && nat_eq d.time j) (nat_eq e.time j && nat_eq d.time i) k)
 
 module _ (right : UnifierIsRight) (s : System) (n : IsNumbered s) where
+  -- where two times have one position, the system in which they are one has the same solution
+  pub times_solved : (theory : Theory) (log : Log) (v : Valuation) → Solves theory log v s → (i j : ℕ) → v.times i ≡ v.times j → SolvedBy theory log v (times_equated s i j (twins_by (at_times i j) s.events))
+  times_solved theory log v h i j one = at (twins_by (at_times i j) s.events) refl
+    where
+      at : (o : Option Twins) → twins_by (at_times i j) s.events ≡ o → SolvedBy theory log v (times_equated s i j o)
+      at None k = change_solves theory log v [] (Fixes-none v.terms) (time_replaced (smaller i j) (larger i j)) (replaced_same v.times i j one) s n h
+      at (Some r) k =
+          let solved = twins_are (at_times i j) (HappensIn log v) s.events r k h.events in
+          merged_solved right (at_times i j) s n r k theory log v h (at_one v i j one r.first r.second solved.one)
+
+  pub times_numbered : (i j : ℕ) → i < s.next → j < s.next → NumberedFrom s.next (times_equated s i j (twins_by (at_times i j) s.events))
+  times_numbered i j a b = at (twins_by (at_times i j) s.events) refl
+    where
+      at : (o : Option Twins) → twins_by (at_times i j) s.events ≡ o → NumberedFrom s.next (times_equated s i j o)
+      at None k = (change_numbered s.next [] (λ x l. l) (time_replaced (smaller i j) (larger i j)) (replaced_under s.next i j a b) s refl n, le_refl s.next)
+      at (Some r) k = merged_numbered right (at_times i j) s n r k
+
   -- a solution in which the equation holds is one after the equating
   equated_solved : (theory : Theory) (log : Log) (v : Valuation) → Solves theory log v s → (e : Equation) → EquationHolds v e → SolvedBy theory log v (equated s e)
   equated_solved theory log v h (equal_terms p) one = at (mgu (p ∷ [])) refl
@@ -81,14 +98,11 @@ module _ (right : UnifierIsRight) (s : System) (n : IsNumbered s) where
       at : (o : Option (List Binding)) → mgu (p ∷ []) ≡ o → SolvedBy theory log v (option_map (λ bs. system_changed (bound_to bs) (λ i. i) s) o)
       at None k = right.none (p ∷ []) k v.terms (respects theory log v s h) (one, tt)
       at (Some bs) k = change_solves theory log v bs (right.fixes (p ∷ []) bs k v.terms (respects theory log v s h) (one, tt)) (λ i. i) (λ i. refl) s n h
-  equated_solved theory log v h (equal_times i j) one = at (nat_eq i j) (twins_by (at_times i j) s.events) refl
+  equated_solved theory log v h (equal_times i j) one = at (nat_eq i j)
     where
-      at : (b : Bool) (o : Option Twins) → twins_by (at_times i j) s.events ≡ o → SolvedBy theory log v (if b then Some s else times_equated s i j o)
-      at true o k = h
-      at false None k = change_solves theory log v [] (Fixes-none v.terms) (time_replaced (smaller i j) (larger i j)) (replaced_same v.times i j one) s n h
-      at false (Some r) k =
-          let solved = twins_are (at_times i j) (HappensIn log v) s.events r k h.events in
-          merged_solved right (at_times i j) s n r k theory log v h (at_one v i j one r.first r.second solved.one)
+      at : (b : Bool) → SolvedBy theory log v (if b then Some s else times_equated s i j (twins_by (at_times i j) s.events))
+      at true = h
+      at false = times_solved theory log v h i j one
 
   equated_numbered : (e : Equation) → EquationUnder s.next e → NumberedFrom s.next (equated s e)
   equated_numbered (equal_terms p) u = at (mgu (p ∷ [])) refl
@@ -96,12 +110,16 @@ module _ (right : UnifierIsRight) (s : System) (n : IsNumbered s) where
       at : (o : Option (List Binding)) → mgu (p ∷ []) ≡ o → NumberedFrom s.next (option_map (λ bs. system_changed (bound_to bs) (λ i. i) s) o)
       at None k = tt
       at (Some bs) k = (change_numbered s.next bs (right.within (p ∷ []) bs k s.next (u, tt)) (λ i. i) (λ i l. l) s refl n, le_refl s.next)
-  equated_numbered (equal_times i j) u = at (nat_eq i j) (twins_by (at_times i j) s.events) refl
+  equated_numbered (equal_times i j) u = at (nat_eq i j)
     where
-      at : (b : Bool) (o : Option Twins) → twins_by (at_times i j) s.events ≡ o → NumberedFrom s.next (if b then Some s else times_equated s i j o)
-      at true o k = (n, le_refl s.next)
-      at false None k = (change_numbered s.next [] (λ x l. l) (time_replaced (smaller i j) (larger i j)) (replaced_under s.next i j u.0 u.1) s refl n, le_refl s.next)
-      at false (Some r) k = merged_numbered right (at_times i j) s n r k
+      at : (b : Bool) → NumberedFrom s.next (if b then Some s else times_equated s i j (twins_by (at_times i j) s.events))
+      at true = (n, le_refl s.next)
+      at false = times_numbered i j u.0 u.1
+
+-- a system that has a solution is there
+pub not_none : (theory : Theory) (log : Log) (v : Valuation) (o : Option System) → is_none o ≡ true → SolvedBy theory log v o → ⊥
+not_none theory log v None a b = b
+not_none theory log v (Some t) a b = cc
 
 module _ (right : UnifierIsRight) where
   pub equate_covers : (theory : Theory) → AreConvergent (signature_of theory).equations → (s t : System) → equate s ≡ Some t → IsNumbered s → Covers theory s (t ∷ [])
@@ -126,11 +144,7 @@ module _ (right : UnifierIsRight) where
   module _ (theory : Theory) (good : AreConvergent (signature_of theory).equations) (s : System) (n : IsNumbered s) (log : Log) (v : Valuation) (h : Solves theory log v s) where
     fails_contradicts : (f : Guarded) (o : Option Equation) → equation_of f ≡ o → equation_fails s o ≡ true → FormulaHolds theory log v f → ⊥
     fails_contradicts f None k e l = absurd cc
-    fails_contradicts f (Some q) k e l = at (equated s q) e (equated_solved right s n theory log v h q (equation_holds theory good log v f q k l))
-      where
-        at : (o : Option System) → is_none o ≡ true → SolvedBy theory log v o → ⊥
-        at None a b = b
-        at (Some t) a b = cc
+    fails_contradicts f (Some q) k e l = not_none theory log v (equated s q) e (equated_solved right s n theory log v h q (equation_holds theory good log v f q k l))
 
     pub some_fails_contradicts : (fs : List Guarded) → fails_to_equate s fs ≡ true → Every (FormulaHolds theory log v) fs → ⊥
     some_fails_contradicts [] e k = absurd cc

@@ -1,21 +1,22 @@
 -- Two events that use the same Fr are one entry of the log: the row makes them one, and where it can't there is no solution.
 use Rattle.std.proofs.Common.{◌≡◌, ◌≤◌, ℕ, Bool, true, false, if◌then◌else◌, List, [], ◌∷◌, ◌++◌, map, Option, Some, None, is_none, refl, sym, ap, ◌∙◌, subst, inl, inr, ⊎_elim}
 use Rattle.std.proofs.lemmas.Bool.{or_cases, and_parts}
-use Rattle.sp_spec.specs.Lists.{Member, Every, AtPosition}
+use Rattle.sp_spec.specs.Lists.{Member, Every, Distinct, AtPosition}
 use Rattle.sp_spec.specs.Term.{Variable, Term, Terms, none, more, Ground, Values, valued, valued_all}
 use Rattle.sp_spec.specs.Rule.{Fact, fact_at, facts_at}
 use Rattle.sp_spec.specs.Theory.{Theory}
 use Rattle.sp_spec.specs.Same.{alike}
 use Rattle.sp_spec.specs.Substitution.{Binding}
 use Rattle.sp_spec.specs.Log.{Log, Entry, step, IsLog, is_fr, first_arg, fresh_of, fresh_uses, all_fresh_uses}
-use Rattle.sp_spec.proofs.Lists.{member_left, member_right, distinct_apart}
+use Rattle.sp_spec.proofs.Lists.{member_map, member_left, member_right, distinct_apart}
 use Rattle.sp_system.specs.System.{Happening, rule_step, Event, System, Valuation, HappensAt, HappensIn, Solves, InEvent, IsNumbered, Covers}
 use Rattle.sp_system.specs.Laws.{UnifierIsRight}
 use Rattle.sp_system.specs.Equating.{merging_pairs, unifier_of}
 use Rattle.sp_system.proofs.Solutions.{Under, TimeUnder}
-use Rattle.sp_step.specs.Rows.{first_term, fresh_terms, happening_fresh, stands_in, share_one, shares_fresh, first_twins, merged_twins, fresh_once, cannot_merge, fails_with, fails_to_merge}
+use Rattle.sp_step.specs.Rows.{first_term, fresh_terms, happening_fresh, stands_in, share_one, repeats, shares_fresh, takes_fr_twice, first_twins, merged_twins, fresh_once, cannot_merge, fails_with, fails_to_merge}
 use Rattle.sp_step.proofs.Freed.{then_some}
 use Rattle.sp_step.proofs.Literals.{alike_same, covers_by_itself}
+use Rattle.sp_step.proofs.Sources.{distinct_left}
 use Rattle.sp_step.proofs.Twins.{twins_are, one_happening, respects, unifier_there, SolvedBy, NumberedFrom, merged_solved, merged_numbered}
 
 -- the Fr that an entry of the log uses is among those that the log uses
@@ -25,7 +26,7 @@ uses_among (d ∷ log) p e t (inl a) m = member_left t (fresh_uses d) (all_fresh
 uses_among (d ∷ log) p e t (inr a) m = member_right t (fresh_uses d) (all_fresh_uses log) (uses_among log p e t a m)
 
 -- two entries that use one Fr are at one position
-one_position : (theory : Theory) (log : Log) → IsLog theory log → (p q : ℕ) (d e : Entry) (t : Ground) → AtPosition log p d → AtPosition log q e → Member t (fresh_uses d) → Member t (fresh_uses e) → p ≡ q
+pub one_position : (theory : Theory) (log : Log) → IsLog theory log → (p q : ℕ) (d e : Entry) (t : Ground) → AtPosition log p d → AtPosition log q e → Member t (fresh_uses d) → Member t (fresh_uses e) → p ≡ q
 one_position theory [] is p q d e t a b m k = absurd a
 one_position theory (z ∷ log) is p q d e t (inl a) (inl b) m k = a.0 ∙ sym b.0
 one_position theory (z ∷ log) is p q d e t (inl a) (inr b) m k =
@@ -34,17 +35,19 @@ one_position theory (z ∷ log) is p q d e t (inr a) (inl b) m k =
     absurd (distinct_apart t (fresh_uses z) (all_fresh_uses log) is.2 (subst (λ (x : Entry). Member t (fresh_uses x)) (sym b.1) k) (uses_among log p d t a m))
 one_position theory (z ∷ log) is p q d e t (inr a) (inr b) m k = one_position theory log is.0 p q d e t a b m k
 
--- the values of the terms whose Fr the premises use are the names that the instance uses
-fresh_member : (v : Values) (t : Term Variable) (fs : List (Fact Variable)) → Member t (fresh_terms fs) → Member (valued v t) (fresh_of (map (fact_at v) fs))
-fresh_member v t [] m = absurd m
-fresh_member v t (f ∷ fs) m = at (is_fr f) (f.args) m (λ k. fresh_member v t fs k)
+-- the names that the instance uses are the values of the terms whose Fr the premises use
+pub fresh_values : (v : Values) (fs : List (Fact Variable)) → fresh_of (map (fact_at v) fs) ≡ map (valued v) (fresh_terms fs)
+fresh_values v [] = refl
+fresh_values v (f ∷ fs) = at (is_fr f) f.args (fresh_values v fs)
   where
-    at : (b : Bool) (ts : Terms Variable) → Member t ((if b then first_term ts else []) ++ fresh_terms fs) → (Member t (fresh_terms fs) → Member (valued v t) (fresh_of (map (fact_at v) fs)))
-        → Member (valued v t) ((if b then first_arg (valued_all v ts) else []) ++ fresh_of (map (fact_at v) fs))
-    at true none k later = later k
-    at true (more u us) (inl k) later = inl (ap (valued v) k)
-    at true (more u us) (inr k) later = inr (later k)
-    at false ts k later = later k
+    at : (b : Bool) (ts : Terms Variable) → fresh_of (map (fact_at v) fs) ≡ map (valued v) (fresh_terms fs)
+        → (if b then first_arg (valued_all v ts) else []) ++ fresh_of (map (fact_at v) fs) ≡ map (valued v) ((if b then first_term ts else []) ++ fresh_terms fs)
+    at true none rest = rest
+    at true (more t ts) rest = ap (λ (xs : List Ground). valued v t ∷ xs) rest
+    at false ts rest = rest
+
+pub fresh_member : (v : Values) (t : Term Variable) (fs : List (Fact Variable)) → Member t (fresh_terms fs) → Member (valued v t) (fresh_of (map (fact_at v) fs))
+fresh_member v t fs m = subst (Member (valued v t)) (sym (fresh_values v fs)) (member_map (valued v) t (fresh_terms fs) m)
 
 stands_member : (t : Term Variable) (us : List (Term Variable)) → stands_in t us ≡ true → Member t us
 stands_member t [] e = absurd cc
@@ -105,3 +108,26 @@ module _ (right : UnifierIsRight) (theory : Theory) where
 
   pub merge_contradicts : (s : System) → fails_to_merge s.events ≡ true → IsNumbered s → (log : Log) → IsLog theory log → (v : Valuation) → Solves theory log v s → ⊥
   merge_contradicts s e n log is v h = some_contradict s log is v h s.events e h.events n.events
+
+-- Source used twice: an entry uses no Fr twice.
+entry_distinct : (theory : Theory) (log : Log) → IsLog theory log → (p : ℕ) (e : Entry) → AtPosition log p e → Distinct (fresh_uses e)
+entry_distinct theory [] is p e a = absurd a
+entry_distinct theory (d ∷ log) is p e (inl a) = subst (λ (x : Entry). Distinct (fresh_uses x)) a.1 (distinct_left (fresh_uses d) (all_fresh_uses log) is.2)
+entry_distinct theory (d ∷ log) is p e (inr a) = entry_distinct theory log is.0 p e a
+
+repeats_contradicts : (v : Values) (ts : List (Term Variable)) → repeats ts ≡ true → Distinct (map (valued v) ts) → ⊥
+repeats_contradicts v [] e d = absurd cc
+repeats_contradicts v (t ∷ ts) e d =
+    ⊎_elim (λ k. d.0 (member_map (valued v) t ts (stands_member t ts k))) (λ k. repeats_contradicts v ts k d.1) (or_cases (stands_in t ts) (repeats ts) e)
+
+fr_contradicts : (theory : Theory) (log : Log) → IsLog theory log → (v : Values) (p : ℕ) (a : Happening) → HappensAt log p v a → repeats (happening_fresh a) ≡ true → ⊥
+fr_contradicts theory log is v p (rule_step r f) h e =
+    repeats_contradicts v (fresh_terms f.premises) e (subst Distinct (fresh_values v f.premises) (entry_distinct theory log is p (step r (facts_at v f) h.0) h.1))
+
+pub fr_twice_contradicts : (theory : Theory) (log : Log) → IsLog theory log → (v : Valuation) (es : List Event) → takes_fr_twice es ≡ true → Every (HappensIn log v) es → ⊥
+fr_twice_contradicts theory log is v [] e h = absurd cc
+fr_twice_contradicts theory log is v (d ∷ es) e h =
+    ⊎_elim
+    (λ k. fr_contradicts theory log is v.terms (v.times d.time) d.happening h.0 k)
+    (λ k. fr_twice_contradicts theory log is v es k h.1)
+    (or_cases (repeats (happening_fresh d.happening)) (takes_fr_twice es) e)

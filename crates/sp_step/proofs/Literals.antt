@@ -97,6 +97,7 @@ unequal_covers theory s t e =
       formulas = u.formulas;
       spent = u.spent;
       unequal = kept_each (AreUnequal theory v) s.unequal r.0.picked (mgu (r.0.picked ∷ [])) h.unequal p;
+      links = u.links;
       order = u.order;
     }))
 
@@ -113,6 +114,7 @@ unequal_numbered s t e n =
         formulas = u.formulas;
         spent = u.spent;
         unequal = kept_each _ s.unequal r.0.picked (mgu (r.0.picked ∷ [])) n.unequal p;
+        links = u.links;
         order = u.order;
       },
       le_refl s.next,

@@ -17,14 +17,16 @@ use Rattle.sp_spec.proofs.Lists.{every_append, every_parts, every_member, every_
 use Rattle.sp_system.proofs.Numbers.{each_weaken_all}
 use Rattle.sp_system.proofs.Merging.{action_under}
 use Rattle.sp_system.proofs.Solutions.{Under, TimeUnder, agrees_then, change_numbered}
-use Rattle.sp_step.specs.Rows.{freed_action, happening_actions, rows, by_rows, is_contradictory}
-use Rattle.sp_step.specs.Moves.{Move, simplify, contradiction, unproved, solved, action, Context, Case, where_same, renamed, with_step, system_if, by_actions, named, by_each, event_at, action_cases, action_at_time, is_adversary, solving_action, raw_cases, simple_case}
-use Rattle.sp_step.specs.Laws.{RulesAreNumbered, RulesArePlain, systems_of, MovesCover}
+use Rattle.sp_step.specs.Rows.{freed_action, event_at, happening_actions, rows, by_rows, is_contradictory}
+use Rattle.sp_step.specs.Moves.{Move, simplify, contradiction, unproved, solved, or, action, premise, Context, Case, where_same, renamed, with_step, system_if, by_actions, named, by_each, action_cases, open_premise, premise_cases, action_at_time, is_adversary, solving_action, raw_cases, simple_case}
+use Rattle.sp_step.specs.Laws.{ActionsAreOver, RulesAreNumbered, RulesArePlain, IsClosedRule, systems_of, MovesCover}
 use Rattle.sp_step.proofs.Freed.{mapped, freed_action_in}
-use Rattle.sp_step.proofs.Twins.{unifier_within}
+use Rattle.sp_step.proofs.Twins.{unifier_within, Later}
 use Rattle.sp_step.proofs.Opened.{EqualTruth}
+use Rattle.sp_step.proofs.Parts.{or_covers, or_numbered}
 use Rattle.sp_step.proofs.Actions.{named_systems, systems_append, at_event_systems, step_numbered}
 use Rattle.sp_step.proofs.ActionCovers.{event_found, at_event_solved, new_step_solved}
+use Rattle.sp_step.proofs.Givers.{premise_numbered, premise_covers}
 use Rattle.sp_step.proofs.Simplifying.{no_solution, simplified_follows, covers_itself}
 
 -- a solved action: the formula, its time and its terms
@@ -64,9 +66,6 @@ at_place rules s k cs e = at (slice_get s.formulas k) refl e
     at None h l = absurd cc
     at (Some f) h l = (f, h, solving rules s f cs l)
 
-abbrev pub Later : ℕ → System → Type 0
-Later n t = IsNumbered t × (n ≤ t.next)
-
 module _ (right : UnifierIsRight) where
   same_numbered : (base : ℕ) (s : System) → base ≤ s.next → IsNumbered s → (a : Action Variable) (bs : List (Action Variable)) → EachVariables (Under s.next) a.args → Every (λ (b : Action Variable). EachVariables (Under s.next) b.args) bs
       → Every (Later base) (by_actions s a bs)
@@ -85,7 +84,8 @@ every_system P [] h = tt
 every_system P (c ∷ cs) h = (h.0, every_system P cs h.1)
 
 module _ (right : UnifierIsRight) (theory : Theory) (good : AreConvergent (signature_of theory).equations) (keeps : KeepSymbols (signature_of theory).symbols (signature_of theory).equations)
-    (rules_numbered : RulesAreNumbered theory.rules) (rules_plain : RulesArePlain (signature_of theory).equations theory.rules) (equal_truth : EqualTruth) where
+    (rules_numbered : RulesAreNumbered theory.rules) (rules_plain : RulesArePlain (signature_of theory).equations theory.rules) (rules_closed : Every IsClosedRule theory.rules)
+    (over : ActionsAreOver theory) (equal_truth : EqualTruth) where
   by_each_numbered : (rules : List Rule) → RulesAreNumbered rules → (s : System) → IsNumbered s → (i : ℕ) → i < s.next → (a : Action Variable) → EachVariables (Under s.next) a.args
       → Every (Later s.next) (systems_of (by_each rules s i a))
   by_each_numbered [] k s n i iu a au = tt
@@ -149,6 +149,10 @@ module _ (right : UnifierIsRight) (theory : Theory) (good : AreConvergent (signa
       → solving_action theory.rules s (slice_get s.formulas k) ≡ Some cs
   by_rules context r s k cs e = subst (λ (rules : List Rule). solving_action rules s (slice_get s.formulas k) ≡ Some cs) r e
 
+  by_givers : (context : Context) → context.rules ≡ theory.rules → (s : System) (i p : ℕ) (cs : List Case) → premise_cases context.rules s i p (open_premise s i p) ≡ Some cs
+      → premise_cases theory.rules s i p (open_premise s i p) ≡ Some cs
+  by_givers context r s i p cs e = subst (λ (rules : List Rule). premise_cases rules s i p (open_premise s i p) ≡ Some cs) r e
+
   -- before the cases are simplified
   raw_numbered : (context : Context) → context.rules ≡ theory.rules → (s : System) (move : Move) (cs : List Case) → raw_cases context s move ≡ Some cs → IsNumbered s → Every (Later s.next) (systems_of cs)
   raw_numbered context r s simplify cs e n = at (is_some (by_rows rows s)) e
@@ -167,7 +171,9 @@ module _ (right : UnifierIsRight) (theory : Theory) (good : AreConvergent (signa
       at : (b : Bool) → (if b then Some [] else None) ≡ Some cs → Every (Later s.next) (systems_of cs)
       at true k = let none : List Case = [] in let g : none ≡ cs = cc in subst (λ (x : List Case). Every (Later s.next) (systems_of x)) g tt
       at false k = absurd cc
+  raw_numbered context r s (or k) cs e n = or_numbered s n k cs e
   raw_numbered context r s (action k) cs e n = action_numbered s n k cs (by_rules context r s k cs e)
+  raw_numbered context r s (premise i p) cs e n = premise_numbered right theory good keeps rules_numbered rules_plain s n i p cs (by_givers context r s i p cs e)
 
   raw_covers : (context : Context) → context.rules ≡ theory.rules → (s : System) (move : Move) (cs : List Case) → raw_cases context s move ≡ Some cs → (move ≡ unproved → ⊥) → (move ≡ solved → ⊥) → IsNumbered s → Covers theory s (systems_of cs)
   raw_covers context r s simplify cs e not_open not_end n = at (is_some (by_rows rows s)) e
@@ -178,23 +184,25 @@ module _ (right : UnifierIsRight) (theory : Theory) (good : AreConvergent (signa
   raw_covers context r s contradiction cs e not_open not_end n = at (is_contradictory s) refl e
     where
       at : (b : Bool) → is_contradictory s ≡ b → (if b then Some [] else None) ≡ Some cs → Covers theory s (systems_of cs)
-      at true c k = record { covers = λ log is v h none. no_solution right theory good keeps equal_truth s c n log is v h }
+      at true c k = record { covers = λ log is v h none. no_solution right theory good keeps rules_plain rules_closed over equal_truth s c n log is v h }
       at false c k = absurd cc
   raw_covers context r s unproved cs e not_open not_end n = absurd (not_open refl)
   raw_covers context r s solved cs e not_open not_end n = absurd (not_end refl)
+  raw_covers context r s (or k) cs e not_open not_end n = or_covers theory s k cs e
   raw_covers context r s (action k) cs e not_open not_end n = action_covers s n k cs (by_rules context r s k cs e)
+  raw_covers context r s (premise i p) cs e not_open not_end n = premise_covers right theory good keeps rules_numbered rules_plain s n i p cs (by_givers context r s i p cs e)
 
   -- the cases, each simplified
   simple_numbered : (n : ℕ) (cs : List Case) → Every (Later n) (systems_of cs) → Every (λ (c : Case). IsNumbered c.system × (n ≤ c.system.next)) (map simple_case cs)
   simple_numbered n [] h = tt
   simple_numbered n (c ∷ cs) h =
-      let f = simplified_follows right theory good keeps equal_truth 10000 c.system h.0.0 in
+      let f = simplified_follows right theory good keeps rules_plain rules_closed over equal_truth 10000 c.system h.0.0 in
       ((f.0.0, le_trans h.0.1 f.0.1), simple_numbered n cs h.1)
 
   simple_solved : (log : Log) → IsLog theory log → (n : ℕ) (v : Valuation) (cs : List Case) → Every (Later n) (systems_of cs) → NoneSolved theory log v n (systems_of (map simple_case cs)) → NoneSolved theory log v n (systems_of cs)
   simple_solved log is n v [] h none = tt
   simple_solved log is n v (c ∷ cs) h none =
-      let f = simplified_follows right theory good keeps equal_truth 10000 c.system h.0.0 in
+      let f = simplified_follows right theory good keeps rules_plain rules_closed over equal_truth 10000 c.system h.0.0 in
       ((λ w a k. f.1.covers log is w k ((λ x b l. none.0 x (agrees_then n c.system.next v w x h.0.1 a b) l), tt)), simple_solved log is n v cs h.1 none.1)
 
   pub moves_cover : MovesCover theory

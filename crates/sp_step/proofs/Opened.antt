@@ -131,5 +131,5 @@ module _ (theory : Theory) (good : AreConvergent (signature_of theory).equations
             let old = agree_solves theory log s v w n a o.normal_values o.sorts h in
             let new = new_hold log s.next (s.next + length r.picked.binders) (opening r.picked.binders s.next) w m o r.picked.guard r.picked.body i.0 i.1 p in
             let u = spending_solves existential_of theory log w s r found (map (λ b. holds (atom_changed (opening r.picked.binders s.next) b)) r.picked.guard ++ changed (opening r.picked.binders s.next) r.picked.body ∷ []) new old in
-            none.0 w a (subst (Solves theory log w) (sym q.2) (record { sorts = u.sorts; normal = u.normal; events = u.events; formulas = u.formulas; spent = u.spent; unequal = u.unequal; order = u.order })));
+            none.0 w a (subst (Solves theory log w) (sym q.2) (record { sorts = u.sorts; normal = u.normal; events = u.events; formulas = u.formulas; spent = u.spent; unequal = u.unequal; links = u.links; order = u.order })));
       }

@@ -5,7 +5,7 @@ use Rattle.sp_spec.specs.Term.{Variable, var}
 use Rattle.sp_spec.specs.Guarded.{free, free_time, Binder, message, time, Atom, Guarded, truth, falsity, holds, fails, all_of, one_of, some, every, pushed}
 use Rattle.sp_spec.specs.Unifier.{Pair}
 use Rattle.sp_formula.specs.Change.{Change, atom_changed, changed, opened, opening, free_change}
-use Rattle.sp_system.specs.System.{System, EachVariable, AtFree, AtFreeTime, InAtom, InFormula, InEvent, IsNumbered}
+use Rattle.sp_system.specs.System.{Link, System, EachVariable, AtFree, AtFreeTime, InAtom, InFormula, InEvent, IsNumbered}
 use Rattle.sp_spec.proofs.Lists.{every_append, every_map, every_weaken}
 use Rattle.sp_system.proofs.Numbers.{PutsIn, atom_changed_in, changed_in, formula_weaken, event_weaken, each_weaken}
 use Rattle.sp_system.proofs.Solutions.{Under, TimeUnder}
@@ -14,13 +14,15 @@ use Rattle.sp_step.proofs.Freed.{mapped}
 use Rattle.sp_step.proofs.Opening.{more_place, more_time}
 use Rattle.sp_step.proofs.Spending.{is_found, found_holds, spending_numbered}
 
-pub weaken_numbered : (s t : System) (n : ℕ) → s.next ≤ n → t.events ≡ s.events → t.formulas ≡ s.formulas → t.spent ≡ s.spent → t.unequal ≡ s.unequal → t.order ≡ s.order → t.next ≡ n → IsNumbered s → IsNumbered t
-weaken_numbered s t n le e f p u o x k = record {
+pub weaken_numbered : (s t : System) (n : ℕ) → s.next ≤ n → t.events ≡ s.events → t.formulas ≡ s.formulas → t.spent ≡ s.spent → t.unequal ≡ s.unequal → t.links ≡ s.links → t.order ≡ s.order → t.next ≡ n → IsNumbered s → IsNumbered t
+weaken_numbered s t n le e f p u z o x k = record {
   events = subst (λ (m : ℕ). Every (InEvent (Under m) (TimeUnder m)) t.events) (sym x) (subst (Every (InEvent (Under n) (TimeUnder n))) (sym e) (every_weaken _ _ (event_weaken _ _ _ _ (λ y h. lt_of_lt_of_le h le) (λ i h. lt_of_lt_of_le h le)) s.events k.events));
   formulas = subst (λ (m : ℕ). Every (InFormula (Under m) (TimeUnder m)) t.formulas) (sym x) (subst (Every (InFormula (Under n) (TimeUnder n))) (sym f) (every_weaken _ _ (formula_weaken _ _ _ _ (λ y h. lt_of_lt_of_le h le) (λ i h. lt_of_lt_of_le h le)) s.formulas k.formulas));
   spent = subst (λ (m : ℕ). Every (InFormula (Under m) (TimeUnder m)) t.spent) (sym x) (subst (Every (InFormula (Under n) (TimeUnder n))) (sym p) (every_weaken _ _ (formula_weaken _ _ _ _ (λ y h. lt_of_lt_of_le h le) (λ i h. lt_of_lt_of_le h le)) s.spent k.spent));
   unequal = subst (λ (m : ℕ). Every (λ (q : Pair). EachVariable (Under m) q.0 × EachVariable (Under m) q.1) t.unequal) (sym x)
       (subst (Every (λ (q : Pair). EachVariable (Under n) q.0 × EachVariable (Under n) q.1)) (sym u) (every_weaken _ _ (λ q b. (each_weaken (Under s.next) (Under n) (λ y h. lt_of_lt_of_le h le) q.0 b.0, each_weaken (Under s.next) (Under n) (λ y h. lt_of_lt_of_le h le) q.1 b.1)) s.unequal k.unequal));
+  links = subst (λ (m : ℕ). Every (λ (l : Link). (l.from < m) × (l.to < m)) t.links) (sym x)
+      (subst (Every (λ (l : Link). (l.from < n) × (l.to < n))) (sym z) (every_weaken _ _ (λ l b. (lt_of_lt_of_le b.0 le, lt_of_lt_of_le b.1 le)) s.links k.links));
   order = subst (λ (m : ℕ). Every (λ (q : ℕ × ℕ). (q.0 < m) × (q.1 < m)) t.order) (sym x)
       (subst (Every (λ (q : ℕ × ℕ). (q.0 < n) × (q.1 < n))) (sym o) (every_weaken _ _ (λ q b. (lt_of_lt_of_le b.0 le, lt_of_lt_of_le b.1 le)) s.order k.order));
 }
@@ -85,12 +87,12 @@ open_existential_numbered s t e n =
     let next = s.next + length r.picked.binders in
     let found = is_found existential_of s.formulas r q.1 in
     let i = subst (InFormula (Under s.next) (TimeUnder s.next)) (found_formula r.formula r.picked found.picks) (found_holds existential_of s.formulas r found (InFormula (Under s.next) (TimeUnder s.next)) n.formulas) in
-    let wide : System = record { events = s.events; formulas = s.formulas; spent = s.spent; unequal = s.unequal; order = s.order; next = next } in
-    let m : IsNumbered wide = weaken_numbered s wide next (omega arith) refl refl refl refl refl refl n in
+    let wide : System = record { events = s.events; formulas = s.formulas; spent = s.spent; unequal = s.unequal; links = s.links; order = s.order; next = next } in
+    let m : IsNumbered wide = weaken_numbered s wide next (omega arith) refl refl refl refl refl refl refl n in
     let c = opening r.picked.binders s.next in
     let puts = opening_puts s.next r.picked.binders in
     let new = every_append (InFormula (Under next) (TimeUnder next)) (map (λ a. holds (atom_changed c a)) r.picked.guard) (changed c r.picked.body ∷ [])
     (atoms_in _ _ _ _ c puts r.picked.guard i.0) (changed_in _ _ _ _ c puts r.picked.body i.1, tt) in
     let k = spending_numbered existential_of wide r found (map (λ a. holds (atom_changed c a)) r.picked.guard ++ changed c r.picked.body ∷ []) new m in
     let P : System → Type 0 = λ w. IsNumbered w × (s.next ≤ w.next) in
-    subst P (sym q.2) (record { events = k.events; formulas = k.formulas; spent = k.spent; unequal = k.unequal; order = k.order }, omega arith)
+    subst P (sym q.2) (record { events = k.events; formulas = k.formulas; spent = k.spent; unequal = k.unequal; links = k.links; order = k.order }, omega arith)

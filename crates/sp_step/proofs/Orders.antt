@@ -93,6 +93,7 @@ in_order_covers theory s t e =
       formulas = u.formulas;
       spent = u.spent;
       unequal = u.unequal;
+      links = u.links;
       order = every_append (IsBefore v) s.order r.0.picked h.order pairs;
     }))
 
@@ -109,6 +110,7 @@ in_order_numbered s t e n =
         formulas = u.formulas;
         spent = u.spent;
         unequal = u.unequal;
+        links = u.links;
         order = every_append (BothUnder s.next) s.order r.0.picked n.order pairs;
       },
       le_refl s.next,

@@ -49,6 +49,7 @@ spending_solves pick theory log v s r found new k h = record {
   formulas = others_hold pick s.formulas r found (FormulaHolds theory log v) new h.formulas k;
   spent = every_append (FormulaHolds theory log v) s.spent (r.formula ∷ []) h.spent (found_holds pick s.formulas r found (FormulaHolds theory log v) h.formulas, tt);
   unequal = h.unequal;
+  links = h.links;
   order = h.order;
 }
 
@@ -59,5 +60,6 @@ spending_numbered pick s r found new k h = record {
   formulas = others_hold pick s.formulas r found (InFormula (Under s.next) (TimeUnder s.next)) new h.formulas k;
   spent = every_append (InFormula (Under s.next) (TimeUnder s.next)) s.spent (r.formula ∷ []) h.spent (found_holds pick s.formulas r found (InFormula (Under s.next) (TimeUnder s.next)) h.formulas, tt);
   unequal = h.unequal;
+  links = h.links;
   order = h.order;
 }

@@ -124,20 +124,24 @@ abbrev pub SolvedBy : Theory → Log → Valuation → Option System → Type 0
 SolvedBy theory log v None = ⊥
 SolvedBy theory log v (Some t) = Solves theory log v t
 
--- if there is a system, its numbers are below the next one, which is no smaller than before
+-- the system's numbers are below its next one, which is no smaller than before
+abbrev pub Later : ℕ → System → Type 0
+Later n t = IsNumbered t × (n ≤ t.next)
+
+-- so they are if there is a system
 abbrev pub NumberedFrom : ℕ → Option System → Type 0
 NumberedFrom n None = Unit {0}
-NumberedFrom n (Some t) = IsNumbered t × (n ≤ t.next)
+NumberedFrom n (Some t) = Later n t
 
 module _ (right : UnifierIsRight) (are_one : Event → Event → Bool) (s : System) (n : IsNumbered s) (r : Twins) (found : twins_by are_one s.events ≡ Some r) where
   abbrev without : System
-  without = record { events = r.others; formulas = s.formulas; spent = s.spent; unequal = s.unequal; order = s.order; next = s.next }
+  without = record { events = r.others; formulas = s.formulas; spent = s.spent; unequal = s.unequal; links = s.links; order = s.order; next = s.next }
 
   twins_numbered : AreTwins are_one (InEvent (Under s.next) (TimeUnder s.next)) r
   twins_numbered = twins_are are_one (InEvent (Under s.next) (TimeUnder s.next)) s.events r found n.events
 
   without_numbered : IsNumbered without
-  without_numbered = record { events = twins_numbered.others; formulas = n.formulas; spent = n.spent; unequal = n.unequal; order = n.order }
+  without_numbered = record { events = twins_numbered.others; formulas = n.formulas; spent = n.spent; unequal = n.unequal; links = n.links; order = n.order }
 
   -- where the twins have one position, both made one have the same solution
   pub merged_solved : (theory : Theory) (log : Log) (v : Valuation) → Solves theory log v s → v.times r.first.time ≡ v.times r.second.time → SolvedBy theory log v (merged_twins s r)
@@ -150,7 +154,7 @@ module _ (right : UnifierIsRight) (are_one : Event → Event → Bool) (s : Syst
       paired = one_happening log v.terms s.next (v.times r.first.time) (v.times r.second.time) r.first.happening r.second.happening same solved.first solved.second twins_numbered.first.1 twins_numbered.second.1
 
       without_solved : Solves theory log v without
-      without_solved = record { sorts = h.sorts; normal = h.normal; events = solved.others; formulas = h.formulas; spent = h.spent; unequal = h.unequal; order = h.order }
+      without_solved = record { sorts = h.sorts; normal = h.normal; events = solved.others; formulas = h.formulas; spent = h.spent; unequal = h.unequal; links = h.links; order = h.order }
 
       at : (o : Option (List Binding)) → unifier_of (merging_pairs r.first.happening r.second.happening) ≡ o → SolvedBy theory log v (option_map (merged_system s r.others r.first r.second) o)
       at None k = unifier_there right v.terms s.next (merging_pairs r.first.happening r.second.happening) (respects theory log v s h) paired k

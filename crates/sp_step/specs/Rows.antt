@@ -1,18 +1,20 @@
 -- Contradictions and elementary moves. Source: CSF 2012, "Constraint solving" (the simplification rules); Meier's thesis, chapter 3.
 -- The elementary moves are in the order in which they are tried; each is done at its lowest position.
-use Rattle.std.specs.Prelude.{ℕ, zero, suc, ◌+◌, ◌==◌, ◌&&◌, ◌||◌, Bool, true, false, if◌then◌else◌, List, [], ◌∷◌, ◌++◌, map, length, Option, Some, None, option_map, option_and_then, is_none}
+use Rattle.std.specs.Prelude.{ℕ, zero, suc, ◌+◌, ◌==◌, ◌&&◌, ◌||◌, not, Bool, true, false, if◌then◌else◌, List, [], ◌∷◌, ◌++◌, map, length, slice_get, Option, Some, None, option_map, option_and_then, is_none}
 use Rattle.std.specs.Str.{bytes_eq}
 use Rattle.sp_spec.specs.Term.{Variable, Term, var, constant, name, app, Terms, none, more}
 use Rattle.sp_spec.specs.Rule.{Fact, Action}
-use Rattle.sp_spec.specs.Guarded.{Place, free, bound, free_time, Binder, Atom, acts, same, same_time, before, Guarded, truth, falsity, holds, fails, all_of, some, Guardeds, no_more, and_then}
+use Rattle.sp_spec.specs.Guarded.{Place, free, bound, free_time, Binder, Atom, acts, same, same_time, before, Guarded, truth, falsity, holds, fails, all_of, one_of, some, every, Guardeds, no_more, and_then}
 use Rattle.sp_spec.specs.Same.{alike, alike_all}
 use Rattle.sp_spec.specs.Log.{is_fr}
 use Rattle.sp_spec.specs.Substitution.{Binding, bound_to}
 use Rattle.sp_spec.specs.Unifier.{Pair, mgu}
 use Rattle.sp_formula.specs.Change.{atom_changed, changed, opening}
-use Rattle.sp_system.specs.System.{Happening, rule_step, Event, System}
+use Rattle.sp_formula.specs.SameFormula.{same_formula}
+use Rattle.sp_step.specs.Instances.{Slots, empty_slots, matched_action, instance_by}
+use Rattle.sp_system.specs.System.{Happening, rule_step, Event, Link, System, happening_premises}
 use Rattle.sp_system.specs.Order.{is_before, is_cyclic}
-use Rattle.sp_system.specs.Equating.{time_replaced, system_changed, merging_pairs, unifier_of, smaller, larger, merged_system}
+use Rattle.sp_system.specs.Equating.{time_replaced, system_changed, merging_pairs, unifier_of, smaller, larger, merged_system, same_source, same_premise}
 
 -- a term of a formula that binds none of its variables is a term of the system
 abbrev mutual
@@ -50,7 +52,7 @@ first_formula pick (f ∷ fs) = found_at f fs (pick f) (first_formula pick fs)
 
 -- the formula is spent, and these stand in its place
 abbrev pub spending : {A : Type 0} → System → Found A → List Guarded → System
-spending s r fs = record { events = s.events; formulas = r.front ++ (fs ++ r.back); spent = s.spent ++ r.formula ∷ []; unequal = s.unequal; order = s.order; next = s.next }
+spending s r fs = record { events = s.events; formulas = r.front ++ (fs ++ r.back); spent = s.spent ++ r.formula ∷ []; unequal = s.unequal; links = s.links; order = s.order; next = s.next }
 
 -- Split: the parts of a conjunction stand in its place, and truth has none.
 abbrev pub parts_of : Guardeds → List Guarded
@@ -80,7 +82,7 @@ opened_at s r =
     let e = r.picked in
     let c = opening e.binders s.next in
     let t = spending s r (map (λ a. holds (atom_changed c a)) e.guard ++ changed c e.body ∷ []) in
-    record { events = t.events; formulas = t.formulas; spent = t.spent; unequal = t.unequal; order = t.order; next = s.next + length e.binders }
+    record { events = t.events; formulas = t.formulas; spent = t.spent; unequal = t.unequal; links = t.links; order = t.order; next = s.next + length e.binders }
 
 abbrev pub open_existential : System → Option System
 open_existential s = option_map (opened_at s) (first_formula existential_of s.formulas)
@@ -100,7 +102,7 @@ kept_unequal unequal p None = unequal
 abbrev pub unequal_at : System → Found Pair → System
 unequal_at s r =
     let t = spending s r [] in
-    record { events = t.events; formulas = t.formulas; spent = t.spent; unequal = kept_unequal s.unequal r.picked (mgu (r.picked ∷ [])); order = t.order; next = s.next }
+    record { events = t.events; formulas = t.formulas; spent = t.spent; unequal = kept_unequal s.unequal r.picked (mgu (r.picked ∷ [])); links = t.links; order = t.order; next = s.next }
 
 abbrev pub unequal : System → Option System
 unequal s = option_map (unequal_at s) (first_formula inequality_of s.formulas)
@@ -120,7 +122,7 @@ order_of order f = None
 abbrev pub ordered_at : System → Found (List (ℕ × ℕ)) → System
 ordered_at s r =
     let t = spending s r [] in
-    record { events = t.events; formulas = t.formulas; spent = t.spent; unequal = t.unequal; order = s.order ++ r.picked; next = s.next }
+    record { events = t.events; formulas = t.formulas; spent = t.spent; unequal = t.unequal; links = t.links; order = s.order ++ r.picked; next = s.next }
 
 abbrev pub in_order : System → Option System
 in_order s = option_map (ordered_at s) (first_formula (order_of s.order) s.formulas)
@@ -237,6 +239,159 @@ equated s (equal_times i j) = if i == j then Some s else times_equated s i j (tw
 abbrev pub equate : System → Option System
 equate s = option_and_then (λ r. equated (spending s r []) r.picked) (first_formula equation_of s.formulas)
 
+-- Linear source once: two premises that have one linear source are one premise, so their times are one; and so are the times of two events
+-- that give one premise. The premises come first.
+abbrev pub event_at : ℕ → List Event → Option Event
+event_at i [] = None
+event_at i (e ∷ es) = if e.time == i then Some e else event_at i es
+
+-- the premise at a place of the event at a time
+abbrev pub premise_at : List Event → ℕ → ℕ → Option (Fact Variable)
+premise_at events i p = option_and_then (λ (e : Event). slice_get (happening_premises e.happening) p) (event_at i events)
+
+abbrev pub is_linear : Option (Fact Variable) → Bool
+is_linear None = false
+is_linear (Some f) = not f.persistent
+
+-- the links have one source, which is linear
+abbrev pub one_taken : List Event → Link → Link → Bool
+one_taken events l m = same_source l m && is_linear (premise_at events l.to l.premise)
+
+-- two links whose premises have to be one, and two whose sources have to be one, while their times differ
+abbrev pub takers_apart : List Event → Link → Link → Bool
+takers_apart events l m = one_taken events l m && not (l.to == m.to)
+
+abbrev pub givers_apart : Link → Link → Bool
+givers_apart l m = same_premise l m && not (l.from == m.from)
+
+-- the first two, in the order of the list
+abbrev pub or_else : {A : Type 0} → Option A → Option A → Option A
+or_else (Some a) later = Some a
+or_else None later = later
+
+abbrev pub first_with : (Link → Link → Bool) → Link → List Link → Option (Link × Link)
+first_with test l [] = None
+first_with test l (m ∷ ms) = if test l m then Some (l, m) else first_with test l ms
+
+abbrev pub first_two : (Link → Link → Bool) → List Link → Option (Link × Link)
+first_two test [] = None
+first_two test (l ∷ ls) = or_else (first_with test l ls) (first_two test ls)
+
+abbrev pub takers : Link × Link → ℕ × ℕ
+takers p = (p.0.to, p.1.to)
+
+abbrev pub givers : Link × Link → ℕ × ℕ
+givers p = (p.0.from, p.1.from)
+
+abbrev pub times_of_links : List Event → List Link → Option (ℕ × ℕ)
+times_of_links events links = or_else (option_map takers (first_two (takers_apart events) links)) (option_map givers (first_two givers_apart links))
+
+-- the system in which these times are one
+abbrev pub made_one : System → ℕ × ℕ → Option System
+made_one s p = times_equated s p.0 p.1 (twins_by (at_times p.0 p.1) s.events)
+
+abbrev pub linear_once : System → Option System
+linear_once s = option_and_then (made_one s) (times_of_links s.events s.links)
+
+-- Disjunction: one with a part that is true, or among the formulas, or spent, is spent. Else a part that is false is left out. What is left
+-- of the parts stands in its place, where it is one part alone that part.
+abbrev pub is_a_formula : List Guarded → Guarded → Bool
+is_a_formula [] f = false
+is_a_formula (g ∷ gs) f = same_formula g f || is_a_formula gs f
+
+abbrev pub is_truth : Guarded → Bool
+is_truth truth = true
+is_truth f = false
+
+abbrev pub is_known : System → Guarded → Bool
+is_known s f = is_truth f || (is_a_formula s.formulas f || is_a_formula s.spent f)
+
+abbrev pub some_known : System → Guardeds → Bool
+some_known s no_more = false
+some_known s (and_then f fs) = is_known s f || some_known s fs
+
+abbrev pub without_false : Guardeds → Option Guardeds
+without_false no_more = None
+without_false (and_then falsity fs) = Some fs
+without_false (and_then f fs) = option_map (and_then f) (without_false fs)
+
+abbrev pub disjunction_of : Guardeds → Guarded
+disjunction_of no_more = falsity
+disjunction_of (and_then f no_more) = f
+disjunction_of fs = one_of fs
+
+-- what stands in the place of the disjunction
+abbrev pub instead_of : System → Guarded → Option (List Guarded)
+instead_of s (one_of fs) = if some_known s fs then Some [] else option_map (λ gs. disjunction_of gs ∷ []) (without_false fs)
+instead_of s f = None
+
+abbrev pub disjunction : System → Option System
+disjunction s = option_map (λ r. spending s r r.picked) (first_formula (instead_of s) s.formulas)
+
+-- Fresh comes first: an event that uses the Fr of a term is before each event, itself included, that has the term in a premise other than
+-- an Fr. (Of two events with one Fr, fresh once makes one.) All that is missing for one Fr is added at once.
+abbrev mutual
+  pub occurs_in : Term Variable → Term Variable → Bool
+  occurs_in t (var x) = alike t (var x)
+  occurs_in t (constant c) = alike t (constant c)
+  occurs_in t (name n) = alike t (name n)
+  occurs_in t (app f us) = alike t (app f us) || occurs_among t us
+
+  pub occurs_among : Term Variable → Terms Variable → Bool
+  occurs_among t none = false
+  occurs_among t (more u us) = occurs_in t u || occurs_among t us
+
+abbrev pub has_taken : Term Variable → List (Fact Variable) → Bool
+has_taken t [] = false
+has_taken t (f ∷ fs) = (not (is_fr f) && occurs_among t f.args) || has_taken t fs
+
+abbrev pub is_missing : List (ℕ × ℕ) → ℕ → Term Variable → Event → Bool
+is_missing order i t e = has_taken t (happening_premises e.happening) && not (is_before order i e.time)
+
+abbrev pub missing_pairs : List (ℕ × ℕ) → ℕ → Term Variable → List Event → List (ℕ × ℕ)
+missing_pairs order i t [] = []
+missing_pairs order i t (e ∷ es) = if is_missing order i t e then (i, e.time) ∷ missing_pairs order i t es else missing_pairs order i t es
+
+abbrev pub if_any : List (ℕ × ℕ) → Option (List (ℕ × ℕ))
+if_any [] = None
+if_any (p ∷ pairs) = Some (p ∷ pairs)
+
+abbrev pub first_some : {A B : Type 0} → (A → Option B) → List A → Option B
+first_some pick [] = None
+first_some pick (x ∷ xs) = or_else (pick x) (first_some pick xs)
+
+abbrev pub missing_behind : System → Event → Option (List (ℕ × ℕ))
+missing_behind s e = first_some (λ t. if_any (missing_pairs s.order e.time t s.events)) (happening_fresh e.happening)
+
+abbrev pub with_order : System → List (ℕ × ℕ) → System
+with_order s pairs = record { events = s.events; formulas = s.formulas; spent = s.spent; unequal = s.unequal; links = s.links; order = s.order ++ pairs; next = s.next }
+
+abbrev pub fresh_first : System → Option System
+fresh_first s = option_map (with_order s) (first_some (missing_behind s) s.events)
+
+-- Instantiate a universal: the body's first instance that is neither a formula nor spent. The guard's actions are matched in order, each
+-- with the actions of the events in their order.
+abbrev pub first_match : List Event → (Slots → Option Guarded) → List Atom → Slots → Option Guarded
+first_match events finish [] s = finish s
+first_match events finish (acts a i ∷ atoms) s =
+    first_some (λ (e : Event). first_some (λ b. option_and_then (first_match events finish atoms) (matched_action s a i b e.time)) (happening_actions e.happening)) events
+first_match events finish (atom ∷ atoms) s = first_match events finish atoms s
+
+abbrev pub if_new : System → Option Guarded → Option Guarded
+if_new s None = None
+if_new s (Some f) = if is_a_formula s.formulas f || is_a_formula s.spent f then None else Some f
+
+abbrev pub new_instance : System → Guarded → Option Guarded
+new_instance s (every bs guard f) =
+    first_match s.events (λ slots. if_new s (instance_by guard f slots)) guard (empty_slots bs (record { terms = []; times = [] }))
+new_instance s f = None
+
+abbrev pub with_formula : System → Guarded → System
+with_formula s f = record { events = s.events; formulas = s.formulas ++ f ∷ []; spent = s.spent; unequal = s.unequal; links = s.links; order = s.order; next = s.next }
+
+abbrev pub instantiate : System → Option System
+instantiate s = option_map (with_formula s) (first_some (new_instance s) s.formulas)
+
 -- the elementary moves, in their order
 pub data Row : Type 0 where
   row_split : Row
@@ -245,10 +400,14 @@ pub data Row : Type 0 where
   row_unequal : Row
   row_order : Row
   row_action_stands : Row
+  row_disjunction : Row
+  row_linear_once : Row
   row_fresh_once : Row
+  row_fresh_first : Row
+  row_instantiate : Row
 
 abbrev pub rows : List Row
-rows = row_split ∷ row_open ∷ row_equate ∷ row_unequal ∷ row_order ∷ row_action_stands ∷ row_fresh_once ∷ []
+rows = row_split ∷ row_open ∷ row_equate ∷ row_unequal ∷ row_order ∷ row_action_stands ∷ row_disjunction ∷ row_linear_once ∷ row_fresh_once ∷ row_fresh_first ∷ row_instantiate ∷ []
 
 abbrev pub by_row : Row → System → Option System
 by_row row_split s = split s
@@ -257,7 +416,11 @@ by_row row_equate s = equate s
 by_row row_unequal s = unequal s
 by_row row_order s = in_order s
 by_row row_action_stands s = action_stands s
+by_row row_disjunction s = disjunction s
+by_row row_linear_once s = linear_once s
 by_row row_fresh_once s = fresh_once s
+by_row row_fresh_first s = fresh_first s
+by_row row_instantiate s = instantiate s
 
 abbrev pub first_of : Option System → Option System → Option System
 first_of (Some t) later = Some t
@@ -313,9 +476,42 @@ abbrev pub fails_to_merge : List Event → Bool
 fails_to_merge [] = false
 fails_to_merge (e ∷ es) = fails_with e es || fails_to_merge es
 
+-- The same of links: two of them make two times one whose events can't be one.
+abbrev pub some_with : (Link → Link → Bool) → Link → List Link → Bool
+some_with test l [] = false
+some_with test l (m ∷ ms) = test l m || some_with test l ms
+
+abbrev pub some_two : (Link → Link → Bool) → List Link → Bool
+some_two test [] = false
+some_two test (l ∷ ls) = some_with test l ls || some_two test ls
+
+abbrev pub cannot_link : System → Link → Link → Bool
+cannot_link s l m =
+    takers_apart s.events l m && is_none (made_one s (takers (l, m))) || givers_apart l m && is_none (made_one s (givers (l, m)))
+
+abbrev pub fails_to_link : System → Bool
+fails_to_link s = some_two (cannot_link s) s.links
+
+-- Source used twice: two premises of one event have one linear source, one premise has two conclusions of one event, or two premises of
+-- one event are the same Fr.
+abbrev pub used_twice : List Event → Link → Link → Bool
+used_twice events l m =
+    one_taken events l m && (l.to == m.to) && not (l.premise == m.premise) || same_premise l m && (l.from == m.from) && not (l.conclusion == m.conclusion)
+
+abbrev pub repeats : List (Term Variable) → Bool
+repeats [] = false
+repeats (t ∷ ts) = stands_in t ts || repeats ts
+
+abbrev pub takes_fr_twice : List Event → Bool
+takes_fr_twice [] = false
+takes_fr_twice (e ∷ es) = repeats (happening_fresh e.happening) || takes_fr_twice es
+
+abbrev pub has_source_twice : System → Bool
+has_source_twice s = some_two (used_twice s.events) s.links || takes_fr_twice s.events
+
 abbrev pub is_contradictory : System → Bool
 is_contradictory s =
-    has_falsity s.formulas || (has_equal_pair s.unequal || (has_refuted s.order s.formulas || (is_cyclic s.order || (fails_to_equate s s.formulas || fails_to_merge s.events))))
+    has_falsity s.formulas || (has_equal_pair s.unequal || (has_refuted s.order s.formulas || (is_cyclic s.order || (has_source_twice s || (fails_to_equate s s.formulas || (fails_to_link s || fails_to_merge s.events))))))
 
 -- Simplification: contradictions are looked for before each elementary move.
 abbrev pub goes_on : Bool → Option System → (System → System) → System → System
