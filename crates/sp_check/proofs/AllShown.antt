@@ -3,7 +3,7 @@ use Rattle.std.proofs.Common.{◌≡◌, List, [], ◌∷◌, Some, false, refl,
 use Rattle.sp_spec.specs.Lists.{Member, Every}
 use Rattle.sp_spec.specs.Theory.{Lemma, signature_of}
 use Rattle.sp_spec.specs.Written.{WrittenRule, WrittenTheory, theory_of}
-use Rattle.sp_spec.specs.Findings.{has_fr}
+use Rattle.sp_spec.specs.Findings.{rule_is_wrong}
 use Rattle.sp_spec.specs.Execution.{Step, Trace, IsExecution}
 use Rattle.sp_spec.specs.Guarded.{Guarded, GuardedHolds}
 use Rattle.sp_spec.specs.Log.{log_trace}
@@ -27,7 +27,8 @@ use Rattle.sp_check.specs.Laws.{LemmasAreShown}
 use Rattle.sp_check.proofs.Trees.{finished_tree}
 use Rattle.sp_check.proofs.Shown.{erased_shown}
 use Rattle.sp_check.proofs.Starts.{start}
-use Rattle.sp_check.proofs.WrittenRules.{rules_numbered, rules_plain, rules_leave_adversary}
+use Rattle.sp_check.proofs.WrittenRules.{rules_numbered, rules_plain, rules_over, rules_leave_adversary}
+use Rattle.sp_check.proofs.ClosedRules.{none_concluded, rules_closed}
 use Rattle.sp_check.proofs.Forms.{IsRight, right_negation, right_timed, right_not_send, right_numbered, right_solved}
 use Rattle.sp_check.proofs.PlacedForms.{form_right}
 
@@ -38,13 +39,15 @@ each_among (x ∷ xs) ys h = (h x (inl refl), each_among xs ys (λ z m. h z (inr
 every_itself : {A : Type 0} (xs : List A) → Every (λ x. Member x xs) xs
 every_itself xs = each_among xs xs (λ x m. m)
 
-module _ (t : WrittenTheory) (rules : Every IsPlainRule t.rules) (fr : Every (λ (r : WrittenRule). has_fr r.facts.conclusions ≡ false) t.rules) where
+module _ (t : WrittenTheory) (rules : Every IsPlainRule t.rules) (clean : Every (λ (r : WrittenRule). rule_is_wrong r ≡ false) t.rules) where
   plain : IsPlainTheory (theory_of t)
   plain = record {
     convergent = pairs_convergent;
     keeps = pairs_keep_symbols (signature_of (theory_of t)).symbols;
     numbered = rules_numbered t.rules;
     plain = rules_plain (signature_of (theory_of t)).equations t.rules rules;
+    over = rules_over t rules;
+    closed = rules_closed t.rules rules clean;
   }
 
   -- a formula from which a finished tree grows is true in no execution
@@ -53,7 +56,7 @@ module _ (t : WrittenTheory) (rules : Every IsPlainRule t.rules) (fr : Every (λ
   in_none h right context rules_are tree accepted finished steps trace execution holds =
       let theory = theory_of t in
       let signature = signature_of theory in
-      let r = executions_erase theory pairs_convergent (rules_leave_adversary t rules fr) steps trace execution in
+      let r = executions_erase theory pairs_convergent (rules_leave_adversary t rules (none_concluded t.rules clean)) steps trace execution in
       let equal = erased_shown signature.equations (action_names h) (right_not_send h right) trace (log_trace r.0) r.1.same_trace in
       let over_log = (equal_shown_same signature (action_names h) trace (log_trace r.0) equal (assignment start) h (right_timed h right) (every_itself (action_names h))).0 holds in
       finished_tree theory (plain_moves_cover theory plain) context rules_are tree (root h) (right_numbered h right) accepted finished r.0 r.1.is_log start (right_solved theory r.0 h right over_log)
@@ -63,14 +66,14 @@ module _ (t : WrittenTheory) (rules : Every IsPlainRule t.rules) (fr : Every (λ
 
 pub lemmas_are_shown_lem : LemmasAreShown
 lemmas_are_shown_lem = record {
-  all_traces = λ t rules fr lemma f g e context rules_are tree accepted finished steps trace execution meets.
+  all_traces = λ t rules clean lemma f g e context rules_are tree accepted finished steps trace execution meets.
       let signature = signature_of (theory_of t) in
       let kept = form_kept signature trace lemma.formula g (form_checked lemma.formula g e).0 (assignment start) in
       stable_truth signature trace [] lemma.formula (λ broken.
-      in_none t rules fr _ (right_negation g (lemma_right t rules fr lemma f g e)) context rules_are tree accepted finished steps trace execution
+      in_none t rules clean _ (right_negation g (lemma_right t rules clean lemma f g e)) context rules_are tree accepted finished steps trace execution
       ((turned signature trace g (assignment start)).1 (λ holds. broken (kept.1 holds))));
-  exists_trace = λ t rules fr lemma f g e context rules_are tree accepted finished steps trace execution meets holds.
+  exists_trace = λ t rules clean lemma f g e context rules_are tree accepted finished steps trace execution meets holds.
       let signature = signature_of (theory_of t) in
       let kept = form_kept signature trace lemma.formula g (form_checked lemma.formula g e).0 (assignment start) in
-      in_none t rules fr g (lemma_right t rules fr lemma f g e) context rules_are tree accepted finished steps trace execution (kept.0 holds);
+      in_none t rules clean g (lemma_right t rules clean lemma f g e) context rules_are tree accepted finished steps trace execution (kept.0 holds);
 }

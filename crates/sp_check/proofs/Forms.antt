@@ -104,7 +104,7 @@ right_flat : (h : Guarded) → IsRight h → Throughout FlatAtom zero h
 right_flat h r = throughout_weaken RightAtom FlatAtom (λ n a p. p.0) zero h r.each
 
 pub right_numbered : (h : Guarded) → IsRight h → IsNumbered (root h)
-right_numbered h r = record { events = tt; formulas = (flat_in (λ x. x.number < zero) (λ i. i < zero) zero h (right_flat h r), tt); spent = tt; unequal = tt; order = tt }
+right_numbered h r = record { events = tt; formulas = (flat_in (λ x. x.number < zero) (λ i. i < zero) zero h (right_flat h r), tt); spent = tt; unequal = tt; links = tt; order = tt }
 
 pub right_solved : (theory : Theory) (log : Log) (h : Guarded) → IsRight h → GuardedHolds (signature_of theory) (log_trace log) (assignment start) h → Solves theory log start (root h)
 right_solved theory log h r true_there = record {
@@ -120,5 +120,6 @@ right_solved theory log h r true_there = record {
   );
   spent = tt;
   unequal = tt;
+  links = tt;
   order = tt;
 }

@@ -3,27 +3,46 @@ use Rattle.std.proofs.Common.{◌≡◌, ◌≤◌, ℕ, zero, suc, ◌+◌, Boo
 use Rattle.std.proofs.lemmas.Bool.{cond_both}
 use Rattle.std.proofs.lemmas.Option.{IfSome_then}
 use Rattle.sp_spec.specs.Guarded.{Guarded}
-use Rattle.sp_system.specs.System.{System}
+use Rattle.sp_spec.specs.Term.{Variable}
+use Rattle.sp_spec.specs.Rule.{Fact}
+use Rattle.sp_system.specs.System.{Event, System, happening_premises}
 use Rattle.sp_step.specs.Rows.{rows, by_rows, is_contradictory}
-use Rattle.sp_step.specs.Moves.{Move, simplify, contradiction, unproved, solved, action, Context, Case, cases}
+use Rattle.sp_step.specs.Moves.{Move, simplify, contradiction, unproved, solved, or, action, premise, Context, Case, cases}
 use Rattle.sp_check.specs.Tree.{Tree, node, Branches, no_branch, branch, IsAccepted, AreAccepted, step_of, steps, steps_in}
-use Rattle.sp_check.specs.Growth.{first_action, choice, least_class, class_of, has_class, is_unproved, leaves_for, open_leaves, grown_leaf, first_grown, grown_at, grown_in, has_end, grown_by, grown_once, go_on, grown, grown_tree}
+use Rattle.sp_check.specs.Growth.{premise_from, first_premise, first_action, first_disjunction, choice, least_class, class_of, has_class, is_unproved, leaves_for, open_leaves, grown_leaf, first_grown, grown_at, grown_in, has_end, grown_by, grown_once, go_on, grown, grown_tree}
 
 abbrev HasCases : Context → System → Move → Type 0
 HasCases context s move = is_some (cases context s move) ≡ true
 
+HasCases-premise_from : (context : Context) (s : System) (i p : ℕ) (fs : List (Fact Variable)) (later : Move) → HasCases context s later → HasCases context s (premise_from context s i p fs later)
+HasCases-premise_from context s i p [] later h = h
+HasCases-premise_from context s i p (f ∷ fs) later h =
+    cond_both (is_some (cases context s (premise i p))) (premise i p) (premise_from context s i (suc p) fs later) (HasCases context s)
+    (λ e. e) (λ _. HasCases-premise_from context s i (suc p) fs later h)
+
+HasCases-first_premise : (context : Context) (s : System) (events : List Event) → HasCases context s (first_premise context s events)
+HasCases-first_premise context s [] = refl
+HasCases-first_premise context s (e ∷ events) =
+    HasCases-premise_from context s e.time 0 (happening_premises e.happening) (first_premise context s events) (HasCases-first_premise context s events)
+
 HasCases-first_action : (context : Context) (s : System) (k : ℕ) (fs : List Guarded) → HasCases context s (first_action context s k fs)
-HasCases-first_action context s k [] = refl
+HasCases-first_action context s k [] = HasCases-first_premise context s s.events
 HasCases-first_action context s k (f ∷ fs) =
     cond_both (is_some (cases context s (action k))) (action k) (first_action context s (suc k) fs) (HasCases context s)
     (λ e. e) (λ _. HasCases-first_action context s (suc k) fs)
+
+HasCases-first_disjunction : (context : Context) (s : System) (k : ℕ) (fs : List Guarded) → HasCases context s (first_disjunction context s k fs)
+HasCases-first_disjunction context s k [] = HasCases-first_action context s 0 s.formulas
+HasCases-first_disjunction context s k (f ∷ fs) =
+    cond_both (is_some (cases context s (or k))) (or k) (first_disjunction context s (suc k) fs) (HasCases context s)
+    (λ e. e) (λ _. HasCases-first_disjunction context s (suc k) fs)
 
 HasCases-choice : (context : Context) (s : System) → HasCases context s (choice context s)
 HasCases-choice context s =
     cond_both (is_contradictory s) contradiction _ (HasCases context s)
     (λ e. rw e refl)
     (λ _. cond_both (is_some (by_rows rows s)) simplify _ (HasCases context s) (λ e. rw e refl)
-    (λ _. cond_both (is_some (context.found s)) solved _ (HasCases context s) (λ e. rw e refl) (λ _. HasCases-first_action context s 0 s.formulas)))
+    (λ _. cond_both (is_some (context.found s)) solved _ (HasCases context s) (λ e. rw e refl) (λ _. HasCases-first_disjunction context s 0 s.formulas)))
 
 -- the chosen move is an instance
 pub choice_is_instance : (context : Context) (s : System) → cases context s (choice context s) ≡ None → ⊥
@@ -57,7 +76,9 @@ step_of_one simplify = omega arith
 step_of_one contradiction = omega arith
 step_of_one unproved = omega arith
 step_of_one solved = omega arith
+step_of_one (or k) = omega arith
 step_of_one (action k) = omega arith
+step_of_one (premise i p) = omega arith
 
 grown_leaf_steps : (context : Context) (s : System) (move : Move) → steps (grown_leaf context s move) ≤ 1
 grown_leaf_steps context s move = omega (arith, step_of_one move, open_leaves_steps (cases context s move))

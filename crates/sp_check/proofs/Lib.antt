@@ -4,6 +4,8 @@ pub mod Flat
 pub mod Shown
 pub mod Starts
 pub mod WrittenRules
+pub mod FreshRules
+pub mod ClosedRules
 pub mod Forms
 pub mod PlacedForms
 pub mod AllShown

@@ -4,18 +4,19 @@ use Rattle.std.proofs.Common.{◌≡◌, ◌<◌, ℕ, zero, suc, Bool, true, fa
 use Rattle.std.proofs.lemmas.Bool.{or_cases, or_left, or_right, or_parts}
 use Rattle.std.proofs.lemmas.Slice.Eq.{bytes_eq-Decides}
 use Rattle.sp_spec.specs.Lists.{Member, Every}
-use Rattle.sp_spec.specs.Term.{Variable, Term, var, constant, name, app, Terms, none, more, valued, valued_all}
-use Rattle.sp_spec.specs.Signature.{Equation}
-use Rattle.sp_spec.specs.Rule.{Fact, Action, Facts, Declared, Rule, fact_at, action_at}
+use Rattle.sp_spec.specs.Term.{Variable, Term, var, constant, name, app, Terms, none, more, Values, valued, valued_all}
+use Rattle.sp_spec.specs.Signature.{Symbol, Equation, IsOver, AreOver}
+use Rattle.sp_spec.specs.Rule.{Fact, Action, Facts, Declared, Rule, fact_at, action_at, facts_at}
 use Rattle.sp_spec.specs.Formula.{Written}
 use Rattle.sp_spec.specs.Written.{WrittenRule, WrittenTheory, in_term, in_terms, in_facts, in_actions, occurrences, is_listed, names_after, rule_names, place_of, numbered_in, sort_in, rule_of, theory_of}
+use Rattle.sp_spec.specs.Theory.{signature_of}
 use Rattle.sp_spec.specs.Findings.{is_fr_named, has_fr}
 use Rattle.sp_law_equal.specs.Convergent.{IsPlain, ArePlain}
 use Rattle.sp_law_erase.specs.Adversary.{adversary_facts, adversary_names, NeedsNoAdversary}
 use Rattle.sp_system.specs.System.{EachVariable, EachVariables, InFacts}
 use Rattle.sp_spec.proofs.Lists.{every_map, every_member, member_mapped}
 use Rattle.sp_system.proofs.Numbers.{facts_valued}
-use Rattle.sp_step.specs.Laws.{FactsArePlain, RulesArePlain, RulesAreNumbered}
+use Rattle.sp_step.specs.Laws.{ActionsAreOver, FactsArePlain, RulesArePlain, RulesAreNumbered}
 use Rattle.sp_check.specs.PlainTheory.{IsAtomic, AreAtomic, IsPlainFact, IsPlainAction, IsPlainRule}
 
 -- names that are listed
@@ -81,7 +82,7 @@ module _ (P : Written → Type 0) where
     terms_each none h = tt
     terms_each (more t ts) h = (term_each t (front (in_term t) (in_terms ts) h), terms_each ts (back (in_term t) (in_terms ts) h))
 
-  facts_each : (fs : List (Fact Written)) → Every P (in_facts fs) → Every (λ (f : Fact Written). EachVariables P f.args) fs
+  pub facts_each : (fs : List (Fact Written)) → Every P (in_facts fs) → Every (λ (f : Fact Written). EachVariables P f.args) fs
   facts_each [] h = tt
   facts_each (f ∷ fs) h = (terms_each f.args (front (in_terms f.args) (in_facts fs) h), facts_each fs (back (in_terms f.args) (in_facts fs) h))
 
@@ -137,6 +138,30 @@ rule_plain es r h = record {
 pub rules_plain : (es : List Equation) (rs : List WrittenRule) → Every IsPlainRule rs → RulesArePlain es (map rule_of rs)
 rules_plain es [] h = tt
 rules_plain es (r ∷ rs) h = (rule_plain es r h.0, rules_plain es rs h.1)
+
+-- no symbol stands in them, so the actions of their instances are over any signature
+module _ (symbols : List Symbol) (v : Written → Term Variable) (w : Values) (over : (x : Written) → IsOver symbols (valued w (v x))) where
+  atomic_over : (t : Term Written) → IsAtomic t → IsOver symbols (valued w (valued v t))
+  atomic_over (var x) h = over x
+  atomic_over (constant c) h = tt
+  atomic_over (name n) h = absurd h
+  atomic_over (app f ts) h = absurd h
+
+  atomics_over : (ts : Terms Written) → AreAtomic ts → AreOver symbols (valued_all w (valued_all v ts))
+  atomics_over none h = tt
+  atomics_over (more t ts) h = (atomic_over t h.0, atomics_over ts h.1)
+
+  actions_over : (xs : List (Action Written)) → Every IsPlainAction xs → Every (λ (a : Action ⊥). AreOver symbols a.args) (map (action_at w) (map (action_at v) xs))
+  actions_over xs h =
+      every_map (λ (b : Action Variable). AreOver symbols (valued_all w b.args)) _ (action_at w) (λ b k. k) (map (action_at v) xs)
+      (every_map IsPlainAction _ (action_at v) (λ a k. atomics_over a.args k.0) xs h)
+
+pub rules_over : (t : WrittenTheory) → Every IsPlainRule t.rules → ActionsAreOver (theory_of t)
+rules_over t h r m w sorts =
+    let symbols = (signature_of (theory_of t)).symbols in
+    let q = member_mapped rule_of r t.rules m in
+    subst (λ (x : Rule). Every (λ (a : Action ⊥). AreOver symbols a.args) (facts_at w x.facts).actions) q.2
+    (actions_over symbols (numbered_in q.0.facts) w (λ x. (sorts _).1) q.0.facts.actions (every_member IsPlainRule t.rules q.0 q.1 h).actions)
 
 -- they leave the adversary alone
 among : (s : List ℕ) → Member s adversary_facts → Member s adversary_names

@@ -1,29 +1,49 @@
 -- How a tree is grown: this project's own search. One open leaf after the other is replaced by its chosen move.
 use Rattle.std.specs.Prelude.{ℕ, zero, suc, ◌+◌, ◌==◌, ◌||◌, min, Bool, true, false, List, [], ◌∷◌, Option, Some, None, option_map, is_some, if◌then◌else◌}
+use Rattle.sp_spec.specs.Term.{Variable}
 use Rattle.sp_spec.specs.Guarded.{Guarded}
-use Rattle.sp_system.specs.System.{System}
+use Rattle.sp_spec.specs.Rule.{Fact}
+use Rattle.sp_system.specs.System.{Event, System, happening_premises}
 use Rattle.sp_step.specs.Rows.{rows, by_rows, is_contradictory}
-use Rattle.sp_step.specs.Moves.{Move, simplify, contradiction, unproved, solved, action, Context, Case, cases}
+use Rattle.sp_step.specs.Moves.{Move, simplify, contradiction, unproved, solved, or, action, premise, Context, Case, cases}
 use Rattle.sp_check.specs.Tree.{is_solved, Tree, node, Branches, no_branch, branch}
 
--- Choice: a contradiction, else simplification, else the end of the search, else the action of the lowest place; none where none of them is an instance.
+-- Choice: a contradiction, else simplification, else the end of the search, else the parts of the disjunction of the lowest place, else the
+-- action of the lowest place, else the first premise of the first event that is an instance; none where none of them is one.
+abbrev pub is_instance : Context → System → Move → Bool
+is_instance context s move = is_some (cases context s move)
+
+abbrev pub premise_from : Context → System → ℕ → ℕ → List (Fact Variable) → Move → Move
+premise_from context s i p [] later = later
+premise_from context s i p (f ∷ fs) later = if is_instance context s (premise i p) then premise i p else premise_from context s i (suc p) fs later
+
+abbrev pub first_premise : Context → System → List Event → Move
+first_premise context s [] = unproved
+first_premise context s (e ∷ events) = premise_from context s e.time 0 (happening_premises e.happening) (first_premise context s events)
+
 abbrev pub first_action : Context → System → ℕ → List Guarded → Move
-first_action context s k [] = unproved
-first_action context s k (f ∷ fs) = if is_some (cases context s (action k)) then action k else first_action context s (suc k) fs
+first_action context s k [] = first_premise context s s.events
+first_action context s k (f ∷ fs) = if is_instance context s (action k) then action k else first_action context s (suc k) fs
+
+abbrev pub first_disjunction : Context → System → ℕ → List Guarded → Move
+first_disjunction context s k [] = first_action context s 0 s.formulas
+first_disjunction context s k (f ∷ fs) = if is_instance context s (or k) then or k else first_disjunction context s (suc k) fs
 
 abbrev pub choice : Context → System → Move
 choice context s =
     if is_contradictory s then contradiction
     else if is_some (by_rows rows s) then simplify
     else if is_some (context.found s) then solved
-    else first_action context s 0 s.formulas
+    else first_disjunction context s 0 s.formulas
 
 -- The class of an open leaf is the rank of its chosen move and its depth; a leaf without a move has none.
 abbrev pub class_of : Move → ℕ → Option ℕ
 class_of contradiction depth = Some (1 + depth)
 class_of simplify depth = Some (2 + depth)
 class_of solved depth = Some (3 + depth)
+class_of (or k) depth = Some (4 + depth)
 class_of (action k) depth = Some (5 + depth)
+class_of (premise i p) depth = Some (7 + depth)
 class_of unproved depth = None
 
 abbrev pub least : Option ℕ → Option ℕ → Option ℕ

@@ -3,7 +3,7 @@ use Rattle.std.specs.Prelude.{◌≡◌, ℕ, ◌≤◌, Some, None, true, false
 use Rattle.sp_spec.specs.Lists.{Every}
 use Rattle.sp_spec.specs.Theory.{Theory, Lemma}
 use Rattle.sp_spec.specs.Written.{WrittenRule, WrittenTheory, theory_of}
-use Rattle.sp_spec.specs.Findings.{has_fr}
+use Rattle.sp_spec.specs.Findings.{rule_is_wrong}
 use Rattle.sp_spec.specs.Guarded.{Guarded}
 use Rattle.sp_spec.specs.Log.{Log}
 use Rattle.sp_spec.specs.Verdict.{HoldsInAll, HoldsInNone}
@@ -30,13 +30,13 @@ pub record AcceptedTreesShow : Type 0 where
   pub ends : (context : Context) (s : System) (tree : Tree) → IsAccepted context s tree → has_end tree ≡ true → (log : Log) × (found_log context s tree ≡ Some log)
   pub no_end : (context : Context) (s : System) (tree : Tree) → has_end tree ≡ false → found_log context s tree ≡ None
 
--- What a finished tree shows of a lemma, steps of the adversary included. From the negation of the lemma's guarded
+-- What a finished tree shows of a lemma of a theory without findings on its rules, steps of the adversary included. From the negation of the lemma's guarded
 -- form: every execution satisfies the lemma. From the guarded form: no execution does.
 pub record LemmasAreShown : Type 0 where
-  pub all_traces : (theory : WrittenTheory) → Every IsPlainRule theory.rules → Every (λ (r : WrittenRule). has_fr r.facts.conclusions ≡ false) theory.rules
+  pub all_traces : (theory : WrittenTheory) → Every IsPlainRule theory.rules → Every (λ (r : WrittenRule). rule_is_wrong r ≡ false) theory.rules
       → (lemma : Lemma) → IsPlainFormula lemma.formula → (g : Guarded) → checked_form lemma.formula ≡ Some g
       → (context : Context) → context.rules ≡ (theory_of theory).rules → (tree : Tree) → IsAccepted context (root (negate g)) tree → IsFinished tree → HoldsInAll (theory_of theory) lemma
-  pub exists_trace : (theory : WrittenTheory) → Every IsPlainRule theory.rules → Every (λ (r : WrittenRule). has_fr r.facts.conclusions ≡ false) theory.rules
+  pub exists_trace : (theory : WrittenTheory) → Every IsPlainRule theory.rules → Every (λ (r : WrittenRule). rule_is_wrong r ≡ false) theory.rules
       → (lemma : Lemma) → IsPlainFormula lemma.formula → (g : Guarded) → checked_form lemma.formula ≡ Some g
       → (context : Context) → context.rules ≡ (theory_of theory).rules → (tree : Tree) → IsAccepted context (root g) tree → IsFinished tree → HoldsInNone (theory_of theory) lemma
 

@@ -4,4 +4,4 @@ use Rattle.sp_spec.specs.Guarded.{Guarded}
 use Rattle.sp_system.specs.System.{System}
 
 abbrev pub root : Guarded → System
-root f = record { events = []; formulas = f ∷ []; spent = []; unequal = []; order = []; next = 0 }
+root f = record { events = []; formulas = f ∷ []; spent = []; unequal = []; links = []; order = []; next = 0 }
