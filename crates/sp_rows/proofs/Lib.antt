@@ -10,3 +10,8 @@ pub mod Searches
 pub mod Turns
 pub mod Openings
 pub mod Sheltered
+pub mod SlotValues
+pub mod Matchings
+pub mod LinkSearches
+pub mod Parts
+pub mod FreshTerms

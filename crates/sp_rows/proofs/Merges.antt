@@ -8,22 +8,22 @@ use Rattle.sp_system.specs.Equating.{event_changed, system_changed}
 use Rattle.sp_system.specs.declared.system.Event.{Event}
 use Rattle.sp_system.specs.declared.system.System.{System}
 use Rattle.sp_formula.specs.FormulaView.{formula_of}
-use Rattle.sp_system.specs.SystemView.{event_of, pair_of, system_of}
+use Rattle.sp_system.specs.SystemView.{event_of, pair_of, link_of, system_of}
 use Rattle.sp_rows.specs.TwinsView.{head_of, twins, twins_there}
 
-cut : {A : Type 0} → ℕ → List A → List A
+unfoldable pub cut : {A : Type 0} → ℕ → List A → List A
 cut j xs = take j xs ++ drop (suc j) xs
 
-cut_map : {A B : Type 0} (f : A → B) (j : ℕ) (xs : List A) → map f (cut j xs) ≡ cut j (map f xs)
+pub cut_map : {A B : Type 0} (f : A → B) (j : ℕ) (xs : List A) → map f (cut j xs) ≡ cut j (map f xs)
 unfolding cut
 cut_map {B = B} f j xs = map-append f (take j xs) (drop (suc j) xs) ∙ ap₂ (λ (left right : List B). left ++ right) (sym (take-map f j xs)) (sym (drop-map f (suc j) xs))
 
 pub merges : (m : System) (s : spec.System) (terms : Variable → Term Variable) (times : ℕ → ℕ) (es : List Event) (j : ℕ) → system_of m ≡ system_changed terms times s → es ≡ remove m.events.items j
-    → (record { events = map event_of es; formulas = map formula_of m.formulas.items; spent = map formula_of m.spent.items; unequal = map pair_of m.unequal.items; order = m.order.items; next = m.next })
-    ≡ system_changed terms times (record { events = take j s.events ++ drop (suc j) s.events; formulas = s.formulas; spent = s.spent; unequal = s.unequal; order = s.order; next = s.next })
+    → (record { events = map event_of es; formulas = map formula_of m.formulas.items; spent = map formula_of m.spent.items; unequal = map pair_of m.unequal.items; links = map link_of m.links.items; order = m.order.items; next = m.next })
+    ≡ system_changed terms times (record { events = take j s.events ++ drop (suc j) s.events; formulas = s.formulas; spent = s.spent; unequal = s.unequal; links = s.links; order = s.order; next = s.next })
 unfolding cut
 merges m s terms times es j e removed =
-    let with_events : List spec.Event → spec.System → spec.System = λ xs t. record { events = xs; formulas = t.formulas; spent = t.spent; unequal = t.unequal; order = t.order; next = t.next } in
+    let with_events : List spec.Event → spec.System → spec.System = λ xs t. record { events = xs; formulas = t.formulas; spent = t.spent; unequal = t.unequal; links = t.links; order = t.order; next = t.next } in
     ap (λ (xs : List Event). with_events (map event_of xs) (system_of m)) removed
     ∙ ap (λ (xs : List spec.Event). with_events xs (system_of m)) (cut_map event_of j m.events.items)
     ∙ ap (λ (t : spec.System). with_events (cut j t.events) t) e

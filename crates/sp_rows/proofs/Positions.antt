@@ -3,8 +3,8 @@ use Rattle.std.proofs.Common.{◌≡◌, ℕ, suc, List, [], ◌∷◌, ◌++◌
 use Rattle.sp_spec.specs.Guarded.{Guarded, holds}
 use Rattle.sp_system.specs.System.{System}
 use Rattle.sp_formula.specs.Change.{atom_changed, changed, opening}
-use Rattle.sp_step.specs.Rows.{Found, found_at, first_formula, spending, split_of, split, order_of, in_order, inequality_of, unequal, Equation, equation_of, equated, equate, standing_of, action_stands, existential_of, open_existential}
-use Rattle.sp_rows.specs.RowsView.{position_at, position_of, spending_at, keeping, ordering}
+use Rattle.sp_step.specs.Rows.{Found, found_at, first_formula, spending, split_of, split, instead_of, disjunction, order_of, in_order, with_order, inequality_of, unequal, Equation, equation_of, equated, equate, standing_of, action_stands, existential_of, open_existential}
+use Rattle.sp_rows.specs.RowsView.{position_at, position_of, spending_at, keeping}
 use Rattle.sp_rows.specs.OpeningView.{opening_at}
 
 -- what is found is what stands at the position
@@ -33,7 +33,7 @@ is_there pick (f ∷ fs) = there f fs (pick f) (first_formula pick fs) (position
 
 spent_there : {A : Type 0} (s : System) (r : Found A) (p : ℕ × A) (fs : List Guarded) → Stands s.formulas r p → spending s r fs ≡ spending_at s p.0 fs
 spent_there s r p fs h =
-    let made : List Guarded → List Guarded → System = λ gs ds. record { events = s.events; formulas = gs; spent = s.spent ++ ds; unequal = s.unequal; order = s.order; next = s.next } in
+    let made : List Guarded → List Guarded → System = λ gs ds. record { events = s.events; formulas = gs; spent = s.spent ++ ds; unequal = s.unequal; links = s.links; order = s.order; next = s.next } in
     ap₂ made (ap₂ (λ (xs ys : List Guarded). xs ++ (fs ++ ys)) h.front h.back) h.formula
 
 -- a row that spends the formula and goes on with what it picked of it
@@ -64,13 +64,16 @@ place_counts s (Some p) = refl
 pub open_existential-there : (s : System) → open_existential s ≡ option_map (λ p. opening_at s p.0 p.1) (position_of existential_of s.formulas)
 open_existential-there s =
     spends existential_of (λ e. let c = opening e.binders s.next in map (λ a. holds (atom_changed c a)) e.guard ++ changed c e.body ∷ [])
-    (λ t e. record { events = t.events; formulas = t.formulas; spent = t.spent; unequal = t.unequal; order = t.order; next = s.next + length e.binders }) s
+    (λ t e. record { events = t.events; formulas = t.formulas; spent = t.spent; unequal = t.unequal; links = t.links; order = t.order; next = s.next + length e.binders }) s
 
 pub split-there : (s : System) → split s ≡ option_map (λ p. spending_at s p.0 p.1) (position_of split_of s.formulas)
 split-there s = spends split_of (λ fs. fs) (λ t fs. t) s
 
-pub in_order-there : (s : System) → in_order s ≡ option_map (λ p. ordering (spending_at s p.0 []) p.1) (position_of (order_of s.order) s.formulas)
-in_order-there s = spends (order_of s.order) (λ ps. []) ordering s
+pub disjunction-there : (s : System) → disjunction s ≡ option_map (λ p. spending_at s p.0 p.1) (position_of (instead_of s) s.formulas)
+disjunction-there s = spends (instead_of s) (λ fs. fs) (λ t fs. t) s
+
+pub in_order-there : (s : System) → in_order s ≡ option_map (λ p. with_order (spending_at s p.0 []) p.1) (position_of (order_of s.order) s.formulas)
+in_order-there s = spends (order_of s.order) (λ ps. []) with_order s
 
 -- what may fail after the formula is spent
 abbrev pub joined : Option (Option System) → Option System

@@ -7,7 +7,7 @@ use Rattle.sp_system.specs.System as spec
 use Rattle.sp_formula.specs.declared.formula.Formula.{Formula}
 use Rattle.sp_system.specs.declared.system.System.{System}
 use Rattle.sp_formula.specs.FormulaView.{formula_of}
-use Rattle.sp_system.specs.SystemView.{event_of, pair_of, system_of}
+use Rattle.sp_system.specs.SystemView.{event_of, pair_of, link_of, system_of}
 use Rattle.sp_rows.specs.RowsView.{spending_at}
 
 pub as_many : (m s : System) → system_of m ≡ system_of s → length m.formulas.items ≡ length s.formulas.items
@@ -32,9 +32,9 @@ put_between fs gs k =
 
 pub spends_one : (m s : System) (fs gs spent : List Formula) (k : ℕ) (f : Formula) → system_of m ≡ system_of s → k < length s.formulas.items → f ≡ slice_index_or (drop k m.formulas.items) 0 f
     → fs ≡ (take k m.formulas.items ++ gs) ++ remove (drop k m.formulas.items) 0 → spent ≡ m.spent.items ++ f ∷ []
-    → (record { events = map event_of m.events.items; formulas = map formula_of fs; spent = map formula_of spent; unequal = map pair_of m.unequal.items; order = m.order.items; next = m.next }) ≡ spending_at (system_of s) k (map formula_of gs)
+    → (record { events = map event_of m.events.items; formulas = map formula_of fs; spent = map formula_of spent; unequal = map pair_of m.unequal.items; links = map link_of m.links.items; order = m.order.items; next = m.next }) ≡ spending_at (system_of s) k (map formula_of gs)
 spends_one m s fs gs spent k f e h is built grown =
-    let made : List Guarded → List Guarded → spec.System = λ xs ys. record { events = map event_of m.events.items; formulas = xs; spent = ys; unequal = map pair_of m.unequal.items; order = m.order.items; next = m.next } in
+    let made : List Guarded → List Guarded → spec.System = λ xs ys. record { events = map event_of m.events.items; formulas = xs; spent = ys; unequal = map pair_of m.unequal.items; links = map link_of m.links.items; order = m.order.items; next = m.next } in
     let many = as_many m s e in
     ap₂ made
     (ap (map formula_of) built ∙ put_between m.formulas.items gs k)

@@ -4,3 +4,9 @@ pub mod SimplifyView
 pub mod OpeningView
 pub mod InsideView
 pub mod EquationView
+pub mod SlotsView
+pub mod LinksView
+pub mod PartsView
+pub mod FreshView
+pub mod MatchesView
+pub mod ReduceView

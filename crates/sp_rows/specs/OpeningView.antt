@@ -1,33 +1,33 @@
--- What stands for the variables of an existential formula that is opened.
+-- What stands for the variables that a formula binds: values, and new variables where it is opened.
 use Rattle.std.specs.Prelude.{ℕ, ◌+◌, List, [], ◌∷◌, ◌++◌, map, length}
 use Rattle.sp_spec.specs.Term.{Term, var}
 use Rattle.sp_spec.specs.Guarded.{Place, free, bound, free_time, bound_time, Binder, message, time, holds, pushed}
-use Rattle.sp_term.specs.View.{variable_of}
-use Rattle.sp_term.specs.declared.term.Variable.{Variable}
+use Rattle.sp_term.specs.View.{view}
+use Rattle.sp_term.specs.declared.term.Term as memory_term
 use Rattle.sp_system.specs.System.{System}
-use Rattle.sp_formula.specs.Change.{Change, atom_changed, changed, opening}
+use Rattle.sp_formula.specs.Change.{Change, placed, atom_changed, changed, opening}
 use Rattle.sp_formula.specs.FormulaView.{atom_of, binder_of, formula_of}
 use Rattle.sp_formula.specs.declared.formula.Atom as memory_atom
 use Rattle.sp_formula.specs.declared.formula.Binder as memory_binder
 use Rattle.sp_formula.specs.declared.formula.Formula.{Formula}
 use Rattle.sp_step.specs.Rows as rows
 use Rattle.sp_rows.specs.RowsView.{spending_at}
-use Rattle.sp_rows.specs.declared.opening.NewVariables.{NewVariables}
+use Rattle.sp_rows.specs.declared.opening.Values.{Values}
 
 -- one after another, so that the last one is the innermost
 abbrev pub pushed_all : {A : Type 0} → List A → (ℕ → A) → ℕ → A
 pushed_all [] f = f
 pushed_all (a ∷ as_rest) f = pushed_all as_rest (pushed a f)
 
-abbrev pub variable_place : Variable → Term Place
-variable_place x = var (free (variable_of x))
+abbrev pub value_place : memory_term.Term → Term Place
+value_place t = placed (view t)
 
--- what the variables made so far stand for; what is bound beyond them stays
-abbrev pub change_of : NewVariables → Change
+-- what the values stand for; what is bound beyond them stays
+abbrev pub change_of : Values → Change
 change_of v = record {
   terms = var;
   times = λ i. i;
-  bound_terms = pushed_all (map variable_place v.messages.items) (λ k. var (bound k));
+  bound_terms = pushed_all (map value_place v.messages.items) (λ k. var (bound k));
   bound_times = pushed_all (map free_time v.times.items) bound_time;
 }
 
@@ -44,4 +44,4 @@ abbrev pub opening_at : System → ℕ → rows.Existential → System
 opening_at s k e =
     let c = opening e.binders s.next in
     let t = spending_at s k (map (λ a. holds (atom_changed c a)) e.guard ++ changed c e.body ∷ []) in
-    record { events = t.events; formulas = t.formulas; spent = t.spent; unequal = t.unequal; order = t.order; next = s.next + length e.binders }
+    record { events = t.events; formulas = t.formulas; spent = t.spent; unequal = t.unequal; links = t.links; order = t.order; next = s.next + length e.binders }

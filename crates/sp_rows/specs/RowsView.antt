@@ -24,14 +24,11 @@ spending_at s k fs = record {
   formulas = take k s.formulas ++ (fs ++ drop (suc k) s.formulas);
   spent = s.spent ++ take 1 (drop k s.formulas);
   unequal = s.unequal;
+  links = s.links;
   order = s.order;
   next = s.next;
 }
 
 -- the pair is kept if it has a unifier
 abbrev pub keeping : System → Pair → System
-keeping s p = record { events = s.events; formulas = s.formulas; spent = s.spent; unequal = kept_unequal s.unequal p (mgu (p ∷ [])); order = s.order; next = s.next }
-
--- with these order pairs too
-abbrev pub ordering : System → List (ℕ × ℕ) → System
-ordering s ps = record { events = s.events; formulas = s.formulas; spent = s.spent; unequal = s.unequal; order = s.order ++ ps; next = s.next }
+keeping s p = record { events = s.events; formulas = s.formulas; spent = s.spent; unequal = kept_unequal s.unequal p (mgu (p ∷ [])); links = s.links; order = s.order; next = s.next }

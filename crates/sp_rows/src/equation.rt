@@ -59,8 +59,12 @@ fn terms_equated(
     Ok(Some(made))
 }
 
-// The system in which two times are the same, if the events at them can be.
-fn times_equated(
+/// The system in which two times are the same, if the events at them can be.
+///
+/// # Errors
+///
+/// `AllocError` where memory is wanting.
+pub fn times_equated(
     alloc: Global,
     system: &System,
     first: u128,

@@ -8,7 +8,7 @@ ghost use Rattle.sp_system.specs.SystemView.{system_of};
 ghost use Rattle.sp_step.specs.Rows as rows;
 ghost use Rattle.sp_rows.specs.OpeningView.{change_of, opening_at, parts_of};
 
-use crate::opening::NewVariables;
+use crate::opening::{NewVariables, Values};
 use crate::spend::spend_for;
 use sp_formula::formula::{Atom, Binder, Formula};
 use sp_system::system::System;
@@ -17,7 +17,7 @@ use std::alloc::{AllocError, Global};
 // The guard and then the body, over the new variables.
 fn opened_parts(
     alloc: Global,
-    variables: &NewVariables,
+    variables: &Values,
     guard: &Vec<Atom>,
     body: &Formula,
 ) -> Result<Vec<Formula>, AllocError>
@@ -44,7 +44,7 @@ fn open_at(
     ensures { IfOk result (λ s. system_of s ≡ opening_at (system_of system.now) position (parts_of binders.now.items guard.now.items body.now)) }
 {
     let variables = NewVariables::of(alloc, binders, system.next)?;
-    let parts = opened_parts(alloc, &variables, guard, body)?;
+    let parts = opened_parts(alloc, &variables.values, guard, body)?;
     let mut made = spend_for(alloc, system, position, parts)?;
     made.next = variables.next;
     Ok(made)

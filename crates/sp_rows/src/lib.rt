@@ -7,15 +7,24 @@
 
 pub mod conjunction;
 pub mod contradiction;
+pub mod disjunction;
 pub mod equation;
 pub mod existential;
+pub mod fresh_first;
 pub mod inequality;
 pub mod inside;
+#[cfg(test)]
+mod instance_tests;
+pub mod instances;
+pub mod links;
+pub mod matching;
 pub mod opening;
 pub mod order;
+pub mod reduce;
 #[cfg(test)]
 mod row_tests;
 pub mod simplify;
+pub mod slots;
 pub mod spend;
 pub mod stands;
 #[cfg(test)]

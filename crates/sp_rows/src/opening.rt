@@ -1,10 +1,12 @@
-// New variables for the binders of an existential formula, and what they put into its guard and its body.
+// Values for what a formula binds, and what they put into it; among them new variables for the binders of an existential formula.
 
 ghost use Rattle.std.specs.Prelude.{◌≡◌, ◌+◌, IfOk, length, map};
 ghost use Rattle.sp_spec.specs.Term.{valued, valued_all};
 ghost use Rattle.sp_spec.specs.Rule.{action_at};
+ghost use Rattle.sp_term.specs.View.{view};
 ghost use Rattle.sp_formula.specs.Change.{place_changed, time_changed, atom_changed, changed, opening};
 ghost use Rattle.sp_formula.specs.FormulaView.{placed_term, placed_terms, placed_action, moment_of, atom_of, binder_of, formula_of};
+ghost use Rattle.sp_step.specs.Instances.{instance};
 ghost use Rattle.sp_rows.specs.InsideView.{inside_of};
 ghost use Rattle.sp_rows.specs.OpeningView.{change_of, put};
 
@@ -15,13 +17,20 @@ use sp_formula::formula::{
 use sp_term::term::{Term, Variable, copy};
 use std::alloc::{AllocError, Global};
 
-/// New variables for binders, in the order of the binders: the innermost is the last one.
+/// What stands for the variables that binders bind, in the order of the binders: the innermost is the last one.
+#[derive(Debug, Drop)]
+pub struct Values {
+    /// for those of messages
+    pub messages: Vec<Term>,
+    /// for those of times
+    pub times: Vec<u128>,
+}
+
+/// New variables for binders.
 #[derive(Debug, Drop)]
 pub struct NewVariables {
-    /// those of messages
-    pub messages: Vec<Variable>,
-    /// those of times
-    pub times: Vec<u128>,
+    /// what stands for the variables that are bound
+    pub values: Values,
     /// the number of the next one
     pub next: u128,
 }
@@ -29,7 +38,7 @@ pub struct NewVariables {
 impl NewVariables {
     // With a variable for one more binder.
     fn with(self, binder: Binder) -> Result<NewVariables, AllocError>
-        ensures change { IfOk result (λ v. change_of v ≡ put (binder_of binder) self.next (change_of self)) }
+        ensures change { IfOk result (λ v. change_of v.values ≡ put (binder_of binder) self.next (change_of self.values)) }
         ensures next { IfOk result (λ v. v.next ≡ self.next + 1) }
     {
         let number = self.next;
@@ -37,17 +46,17 @@ impl NewVariables {
             return Err(AllocError);
         };
         let mut made = NewVariables {
-            messages: self.messages,
-            times: self.times,
+            values: self.values,
             next,
         };
         match binder {
             Binder::Message(sort) => {
-                made.messages.push(Variable { sort, number })?;
+                let variable = Term::Var(Variable { sort, number });
+                made.values.messages.push(variable)?;
                 Ok(made)
             }
             Binder::Time => {
-                made.times.push(number)?;
+                made.values.times.push(number)?;
                 Ok(made)
             }
         }
@@ -59,33 +68,44 @@ impl NewVariables {
     ///
     /// `AllocError` where memory is wanting, or no number is left.
     pub fn of(alloc: Global, binders: &Vec<Binder>, next: u128) -> Result<NewVariables, AllocError>
-        ensures change { IfOk result (λ v. change_of v ≡ opening (map binder_of binders.now.items) next) }
+        ensures change { IfOk result (λ v. change_of v.values ≡ opening (map binder_of binders.now.items) next) }
         ensures next { IfOk result (λ v. v.next ≡ next + length binders.now.items) }
     {
-        let mut made = NewVariables {
+        let values = Values {
             messages: Vec::new(alloc),
             times: Vec::new(alloc),
-            next,
         };
+        let mut made = NewVariables { values, next };
         for binder in binders {
             made = made.with(*binder)?;
         }
         Ok(made)
     }
+}
 
-    fn message(&self, inside: Inside, place: u64) -> FormulaTerm
-        ensures { placed_term result ≡ (inside_of inside (change_of self.now)).bound_terms place }
+impl Values {
+    /// These values, which are given with the innermost first.
+    pub fn innermost_first(mut messages: Vec<Term>, mut times: Vec<u128>) -> Values
+        ensures { change_of result ≡ instance (map view messages.items) times.items }
+    {
+        messages.reverse();
+        times.reverse();
+        Values { messages, times }
+    }
+
+    fn message(&self, inside: Inside, place: u64) -> Result<FormulaTerm, AllocError>
+        ensures { IfOk result (λ t. placed_term t ≡ (inside_of inside (change_of self.now)).bound_terms place) }
     {
         if place < inside.messages {
-            return FormulaTerm::Bound(place);
+            return Ok(FormulaTerm::Bound(place));
         }
         let beyond = place - inside.messages;
         let count = self.messages.len() as u64;
         if beyond < count {
-            let variable = self.messages[(count - 1 - beyond) as usize];
-            FormulaTerm::Free(Term::Var(variable))
+            let value = copy(&self.messages[(count - 1 - beyond) as usize])?;
+            Ok(FormulaTerm::Free(value))
         } else {
-            FormulaTerm::Bound(place - count)
+            Ok(FormulaTerm::Bound(place - count))
         }
     }
 
@@ -108,7 +128,7 @@ impl NewVariables {
         ensures { IfOk result (λ t. placed_term t ≡ valued (place_changed (inside_of inside (change_of self.now))) (placed_term term.now)) }
     {
         match term {
-            FormulaTerm::Bound(place) => Ok(self.message(inside, *place)),
+            FormulaTerm::Bound(place) => self.message(inside, *place),
             FormulaTerm::Free(term) => Ok(FormulaTerm::Free(copy(term)?)),
         }
     }
@@ -259,7 +279,7 @@ impl NewVariables {
         Ok(made)
     }
 
-    /// The atom with these variables in place of those that were bound.
+    /// The atom with these values in place of those that were bound.
     ///
     /// # Errors
     ///
@@ -275,7 +295,7 @@ impl NewVariables {
         Ok(made)
     }
 
-    /// The formula with these variables in place of those that were bound outside it.
+    /// The formula with these values in place of those that were bound outside it.
     ///
     /// # Errors
     ///

@@ -5,7 +5,6 @@ ghost use Rattle.sp_formula.specs.FormulaView.{formula_of};
 ghost use Rattle.sp_system.specs.SystemView.{system_of};
 ghost use Rattle.sp_system.specs.Order as spec;
 ghost use Rattle.sp_step.specs.Rows as rows;
-ghost use Rattle.sp_rows.specs.RowsView.{ordering};
 
 use crate::spend::spend;
 use sp_formula::formula::{Atom, Formula, Moment};
@@ -75,8 +74,9 @@ fn order_of(
     }
 }
 
-fn with_order(mut system: System, mut pairs: Vec<(u128, u128)>) -> Result<System, AllocError>
-    ensures { IfOk result (λ s. system_of s ≡ ordering (system_of system) pairs.items) }
+/// The system with these order pairs too.
+pub fn with_order(mut system: System, mut pairs: Vec<(u128, u128)>) -> Result<System, AllocError>
+    ensures { IfOk result (λ s. system_of s ≡ rows.with_order (system_of system) pairs.items) }
 {
     system.order.append(&mut pairs)?;
     Ok(system)

@@ -1,13 +1,15 @@
 use crate::conjunction::split;
 use crate::contradiction::{has_falsity, has_refuted, is_falsity};
+use crate::disjunction::disjunction;
 use crate::equation::{equate, fails_to_equate};
 use crate::inequality::{freed, freed_pair};
+use crate::links::{fails_to_link, has_source_twice, linear_once};
 use crate::order::in_order;
 use crate::simplify::simplified;
-use crate::twins::{Twinship, fails_to_merge, merge_twins, ordered};
+use crate::twins::{Twinship, fails_to_merge, merge_twins, ordered, takes_fr_twice};
 use sp_fact::fact::{Fact, Facts};
 use sp_formula::formula::{Atom, Formula, FormulaTerm, Moment};
-use sp_system::system::{Event, System};
+use sp_system::system::{Event, Link, System};
 use sp_term::term::{Name, Sort, Term, Variable};
 use std::alloc::{AllocError, Global};
 use std::test::Fail;
@@ -45,6 +47,7 @@ fn system(alloc: Global, formulas: Vec<Formula>) -> System {
         formulas,
         spent: Vec::new(alloc),
         unequal: Vec::new(alloc),
+        links: Vec::new(alloc),
         order: Vec::new(alloc),
         next: 9,
     }
@@ -195,5 +198,94 @@ fn looks_at_all_pairs_of_events(rt: HostRuntime) -> Result<(), Fail> {
     events.push(event(alloc, 4, "S", &[1])?)?;
     let fails = fails_to_merge(alloc, &events)?;
     assert!(rt; fails);
+    Ok(())
+}
+
+fn link(from: u128, conclusion: usize, to: u128, premise: usize) -> Link {
+    Link {
+        from,
+        conclusion,
+        to,
+        premise,
+    }
+}
+
+// events of one rule at the times 1, 2 and 3, each with one linear premise
+fn linked(alloc: Global, first: Link, second: Link) -> Result<System, AllocError> {
+    let mut made = system(alloc, Vec::new(alloc));
+    made.events.push(event(alloc, 1, "R", &[0])?)?;
+    made.events.push(event(alloc, 2, "R", &[1])?)?;
+    made.events.push(event(alloc, 3, "R", &[2])?)?;
+    made.links.push(first)?;
+    made.links.push(second)?;
+    Ok(made)
+}
+
+#[test]
+fn takes_a_linear_source_once(rt: HostRuntime) -> Result<(), Fail> {
+    let alloc = rt.alloc();
+    let mut given = linked(alloc, link(1, 0, 2, 0), link(1, 0, 3, 0))?;
+    assert_eq!(rt; sizes(linear_once(alloc, &given))?, Some((2, 0, 0, 0)));
+    let fails = fails_to_link(alloc, &given)?;
+    assert!(rt; !fails);
+    let _last = given.events.pop();
+    given.events.push(event(alloc, 3, "S", &[2])?)?;
+    assert_eq!(rt; sizes(linear_once(alloc, &given))?, None);
+    let fails = fails_to_link(alloc, &given)?;
+    assert!(rt; fails);
+    let other = linked(alloc, link(1, 0, 2, 0), link(1, 1, 3, 0))?;
+    assert_eq!(rt; sizes(linear_once(alloc, &other))?, None);
+    Ok(())
+}
+
+#[test]
+fn gives_a_premise_once(rt: HostRuntime) -> Result<(), Fail> {
+    let alloc = rt.alloc();
+    let given = linked(alloc, link(1, 0, 3, 0), link(2, 0, 3, 0))?;
+    assert_eq!(rt; sizes(linear_once(alloc, &given))?, Some((2, 0, 0, 0)));
+    let Some(made) = linear_once(alloc, &given)? else {
+        return Ok(());
+    };
+    assert_eq!(rt; (made.events.len(), made.links.len()), (2, 1));
+    assert!(rt; !has_source_twice(&made));
+    Ok(())
+}
+
+#[test]
+fn sees_a_source_used_twice(rt: HostRuntime) -> Result<(), Fail> {
+    let alloc = rt.alloc();
+    let mut given = linked(alloc, link(1, 0, 2, 0), link(1, 0, 2, 1))?;
+    assert!(rt; has_source_twice(&given));
+    let _last = given.links.pop();
+    assert!(rt; !has_source_twice(&given));
+    given.links.push(link(1, 1, 2, 0))?;
+    assert!(rt; has_source_twice(&given));
+    let _last = given.links.pop();
+    given.events.push(event(alloc, 4, "R", &[5, 6, 5])?)?;
+    assert!(rt; has_source_twice(&given));
+    assert!(rt; takes_fr_twice(&given.events));
+    Ok(())
+}
+
+#[test]
+fn does_disjunctions(rt: HostRuntime) -> Result<(), Fail> {
+    let alloc = rt.alloc();
+    let mut parts = Vec::new(alloc);
+    parts.push(Formula::Holds(before(1, 2)))?;
+    parts.push(Formula::Falsity)?;
+    let mut given = one(alloc, Formula::OneOf(parts))?;
+    assert_eq!(rt; sizes(disjunction(alloc, &given))?, Some((0, 1, 1, 0)));
+    let Some(made) = disjunction(alloc, &given)? else {
+        return Ok(());
+    };
+    // one part is left, and is itself
+    assert_eq!(rt; sizes(in_order(alloc, &made))?, Some((0, 0, 2, 1)));
+    given.spent.push(Formula::Holds(before(1, 2)))?;
+    assert_eq!(rt; sizes(disjunction(alloc, &given))?, Some((0, 0, 2, 0)));
+    let mut parts = Vec::new(alloc);
+    parts.push(Formula::Holds(before(1, 2)))?;
+    parts.push(Formula::Holds(before(2, 1)))?;
+    let open = one(alloc, Formula::OneOf(parts))?;
+    assert_eq!(rt; sizes(disjunction(alloc, &open))?, None);
     Ok(())
 }

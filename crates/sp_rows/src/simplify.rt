@@ -7,9 +7,13 @@ ghost use Rattle.sp_rows.specs.SimplifyView as spec;
 
 use crate::conjunction::split;
 use crate::contradiction::{has_equal_pair, has_falsity, has_refuted};
+use crate::disjunction::disjunction;
 use crate::equation::{equate, fails_to_equate};
 use crate::existential::open_existential;
+use crate::fresh_first::fresh_first;
 use crate::inequality::unequal;
+use crate::instances::instantiate;
+use crate::links::{fails_to_link, has_source_twice, linear_once};
 use crate::order::in_order;
 use crate::stands::action_stands;
 use crate::twins::{fails_to_merge, fresh_once};
@@ -43,7 +47,19 @@ pub fn by_rows(alloc: Global, system: &System) -> Result<Option<System>, AllocEr
     if let Some(made) = action_stands(alloc, system)? {
         return Ok(Some(made));
     }
-    let made = fresh_once(alloc, system)?;
+    if let Some(made) = disjunction(alloc, system)? {
+        return Ok(Some(made));
+    }
+    if let Some(made) = linear_once(alloc, system)? {
+        return Ok(Some(made));
+    }
+    if let Some(made) = fresh_once(alloc, system)? {
+        return Ok(Some(made));
+    }
+    if let Some(made) = fresh_first(alloc, system)? {
+        return Ok(Some(made));
+    }
+    let made = instantiate(alloc, system)?;
     Ok(made)
 }
 
@@ -61,7 +77,10 @@ pub fn is_contradictory(alloc: Global, system: &System) -> Result<bool, AllocErr
     if has_refuted(alloc, &system.order, &system.formulas)? || is_cyclic(alloc, &system.order)? {
         return Ok(true);
     }
-    if fails_to_equate(alloc, system)? {
+    if has_source_twice(system) || fails_to_equate(alloc, system)? {
+        return Ok(true);
+    }
+    if fails_to_link(alloc, system)? {
         return Ok(true);
     }
     fails_to_merge(alloc, &system.events)

@@ -85,6 +85,7 @@ fn system(alloc: Global, second_rule: &str) -> Result<System, AllocError> {
         formulas,
         spent: Vec::new(alloc),
         unequal: Vec::new(alloc),
+        links: Vec::new(alloc),
         order: Vec::new(alloc),
         next: 4,
     })

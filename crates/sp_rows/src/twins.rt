@@ -26,14 +26,15 @@ pub enum Twinship {
     AtTimes(u128, u128),
 }
 
-fn is_fresh(fact: &Fact) -> bool
+/// Whether the fact is the Fr of a name.
+pub fn is_fresh(fact: &Fact) -> bool
     ensures { result ≡ is_fr (fact_of fact.now) }
 {
     fact.symbol.text.as_str() == "Fr" && !fact.persistent
 }
 
-// The term whose Fr the premise uses.
-fn fresh_term(fact: &Fact) -> Option<&Term>
+/// The term whose Fr the premise uses.
+pub fn fresh_term(fact: &Fact) -> Option<&Term>
     ensures { option_map (λ t. view t.now) result ≡ fresh_one (fact_of fact.now) }
 {
     if is_fresh(fact) {
@@ -43,12 +44,13 @@ fn fresh_term(fact: &Fact) -> Option<&Term>
     }
 }
 
-// Whether some of these premises use the Fr of the term.
-fn stands_in(term: &Term, premises: &Vec<Fact>) -> bool
-    ensures { result ≡ rows.stands_in (view term.now) (rows.fresh_terms (map fact_of premises.now.items)) }
+// Whether some of the premises from `start` on use the Fr of the term.
+fn stands_in(term: &Term, premises: &Vec<Fact>, start: usize) -> bool
+    requires { start ≤ length premises.now.items }
+    ensures { result ≡ rows.stands_in (view term.now) (rows.fresh_terms (map fact_of (drop start premises.now.items))) }
 {
-    for premise in premises {
-        if let Some(other) = fresh_term(premise) {
+    for position in start..premises.len() {
+        if let Some(other) = fresh_term(&premises[position]) {
             if same(term, other) {
                 return true;
             }
@@ -63,7 +65,7 @@ fn shares(left: &Vec<Fact>, right: &Vec<Fact>) -> bool
 {
     for premise in left {
         if let Some(term) = fresh_term(premise) {
-            if stands_in(term, right) {
+            if stands_in(term, right, 0) {
                 return true;
             }
         }
@@ -241,4 +243,30 @@ pub fn fails_to_merge(alloc: Global, events: &Vec<Event>) -> Result<bool, AllocE
         }
     }
     Ok(false)
+}
+
+// Whether some two of the premises are the same Fr.
+fn repeats(premises: &Vec<Fact>) -> bool
+    ensures { result ≡ rows.repeats (rows.fresh_terms (map fact_of premises.now.items)) }
+{
+    for (position, premise) in premises.iter().enumerate() {
+        if let Some(term) = fresh_term(premise) {
+            if stands_in(term, premises, position + 1) {
+                return true;
+            }
+        }
+    }
+    false
+}
+
+/// Whether two premises of one event are the same Fr.
+pub fn takes_fr_twice(events: &Vec<Event>) -> bool
+    ensures { result ≡ rows.takes_fr_twice (map event_of events.now.items) }
+{
+    for event in events {
+        if repeats(&event.facts.premises) {
+            return true;
+        }
+    }
+    false
 }

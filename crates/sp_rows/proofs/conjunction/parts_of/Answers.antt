@@ -1,14 +1,10 @@
-use Rattle.std.proofs.Common.{◌≡◌, List, [], ◌∷◌, Some, map, refl, sym, ap, ◌∙◌}
-use Rattle.sp_spec.specs.Guarded.{Guarded}
+use Rattle.std.proofs.Common.{Some, map, sym, ap, ◌∙◌}
 use Rattle.sp_formula.specs.declared.formula.Formula.{Formula}
-use Rattle.sp_formula.specs.FormulaView.{guardeds_of, formula_of}
+use Rattle.sp_formula.specs.FormulaView.{formula_of}
 use Rattle.sp_formula.proofs.Formulas.{all_shown}
 use Rattle.sp_step.specs.Rows as rows
+use Rattle.sp_rows.proofs.Parts.{listed}
 use Rattle.sp_rows.proofs.conjunction.parts_of.Goals as goal
-
-listed : (fs : List Guarded) → rows.parts_of (guardeds_of fs) ≡ fs
-listed [] = refl
-listed (f ∷ fs) = ap (λ (gs : List Guarded). f ∷ gs) (listed fs)
 
 pub returns-in_ok-parts-in-AllOf : goal.returns-in_ok-parts-in-AllOf
 returns-in_ok-parts-in-AllOf c =

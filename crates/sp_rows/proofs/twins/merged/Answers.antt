@@ -42,7 +42,7 @@ returns c =
     let a = event_of c.args.left.now in
     let b = event_of c.args.right.now in
     let others = (twins a b s.events c.args.second).others in
-    let t : spec.System = record { events = others; formulas = s.formulas; spent = s.spent; unequal = s.unequal; order = s.order; next = s.next } in
+    let t : spec.System = record { events = others; formulas = s.formulas; spent = s.spent; unequal = s.unequal; links = s.links; order = s.order; next = s.next } in
     let bs = bindings c.in-Some-2.subst in
     let times = c.ordered-small.result in
     ap Some

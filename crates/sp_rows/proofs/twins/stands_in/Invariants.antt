@@ -4,5 +4,7 @@ use Rattle.sp_fact.specs.View.{fact_of}
 use Rattle.sp_step.specs.Rows as rows
 use Rattle.sp_rows.proofs.twins.stands_in.Given as goal
 
-abbrev pub invariant-loop-premise : goal.invariant-loop-premise
-invariant-loop-premise l = rows.stands_in (view l.term) (rows.fresh_terms (map fact_of l.premises.items)) ≡ rows.stands_in (view l.term) (rows.fresh_terms (map fact_of (drop l.premise-index l.premise-items)))
+abbrev pub invariant-loop-position : goal.invariant-loop-position
+invariant-loop-position l =
+    rows.stands_in (view l.term) (rows.fresh_terms (map fact_of (drop l.start l.premises.items)))
+    ≡ rows.stands_in (view l.term) (rows.fresh_terms (map fact_of (drop l.position l.premises.items)))

@@ -1,0 +1,10 @@
+use Rattle.std.proofs.Common.{◌≡◌, map, drop}
+use Rattle.sp_formula.specs.FormulaView.{formula_of}
+use Rattle.sp_system.specs.SystemView.{system_of}
+use Rattle.sp_step.specs.Rows as rows
+use Rattle.sp_rows.proofs.instances.first_instance.Given as goal
+
+abbrev pub invariant-loop-formula : goal.invariant-loop-formula
+invariant-loop-formula l =
+    rows.first_some (rows.new_instance (system_of l.system)) (map formula_of l.system.formulas.items)
+    ≡ rows.first_some (rows.new_instance (system_of l.system)) (map formula_of (drop l.formula-index l.formula-items))

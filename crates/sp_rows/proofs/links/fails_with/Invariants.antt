@@ -1,0 +1,9 @@
+use Rattle.std.proofs.Common.{◌≡◌, map, drop}
+use Rattle.sp_system.specs.SystemView.{link_of, system_of}
+use Rattle.sp_step.specs.Rows.{cannot_link, some_with}
+use Rattle.sp_rows.proofs.links.fails_with.Given as goal
+
+abbrev pub invariant-loop-position : goal.invariant-loop-position
+invariant-loop-position l =
+    let test = cannot_link (system_of l.system) in
+    some_with test (link_of l.link) (map link_of (drop l.start l.system.links.items)) ≡ some_with test (link_of l.link) (map link_of (drop l.position l.system.links.items))

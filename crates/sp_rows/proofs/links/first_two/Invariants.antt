@@ -1,0 +1,11 @@
+use Rattle.std.proofs.Common.{◌≡◌, map}
+use Rattle.sp_system.specs.SystemView.{event_of, link_of}
+use Rattle.sp_step.specs.Rows.{first_two}
+use Rattle.sp_rows.specs.LinksView.{clash}
+use Rattle.sp_rows.proofs.LinkSearches.{links_left}
+use Rattle.sp_rows.proofs.links.first_two.Given as goal
+
+abbrev pub invariant-loop-position : goal.invariant-loop-position
+invariant-loop-position l =
+    let test = clash l.how (map event_of l.events.items) in
+    first_two test (map link_of l.links.items) ≡ links_left test l.links.items l.position
