@@ -1,3 +1,4 @@
 pub mod Paths
 pub mod Least
+pub mod Sources
 pub mod Ready

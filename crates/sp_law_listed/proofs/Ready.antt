@@ -1,43 +1,20 @@
--- A system is ready exactly where its premises are Fr, its actions have events, and its order has no cycle.
-use Rattle.std.proofs.Common.{◌≡◌, ⊎_elim, ℕ, Bool, true, false, not, ◌&&◌, ◌||◌, ◌==◌, if◌then◌else◌, List, [], ◌∷◌, length, Some, None, option_map, inl, inr, refl, sym, ap, ◌∙◌, subst}
+-- A system suggests a log exactly where it is listable.
+use Rattle.std.proofs.Common.{◌≡◌, ⊎_elim, ℕ, Bool, true, false, not, ◌||◌, ◌==◌, if◌then◌else◌, List, [], ◌∷◌, length, Option, Some, None, option_and_then, inl, inr, refl, sym, ap, ◌∙◌, subst}
 use Rattle.std.proofs.lemmas.Bool.{or_cases, and_parts, and_from, eqb-true, eq-eqb}
-use Rattle.sp_spec.specs.Lists.{Member}
-use Rattle.sp_spec.specs.Term.{Variable}
-use Rattle.sp_spec.specs.Rule.{Fact, Action, Facts}
+use Rattle.sp_spec.specs.Lists.{Member, Every}
+use Rattle.sp_spec.proofs.Lists.{every_member}
+use Rattle.sp_spec.specs.Rule.{Action}
 use Rattle.sp_spec.specs.Guarded.{Place, Atom, free_time, bound_time, acts, same, same_time, before, last, Guarded, truth, falsity, holds, fails, all_of, one_of, some, every}
-use Rattle.sp_spec.specs.Log.{Entry, is_fr}
-use Rattle.sp_system.specs.System.{Happening, rule_step, Event, System}
+use Rattle.sp_spec.specs.Log.{Entry}
+use Rattle.sp_system.specs.System.{Event, System}
 use Rattle.sp_system.specs.Order.{is_cyclic}
 use Rattle.sp_solved.specs.Listing.{in_order}
-use Rattle.sp_solved.specs.Candidate.{are_fr, takes_fr_alone, all_take_fr_alone, has_event, has_place, have_places, is_ready, logged, candidate}
-use Rattle.sp_law_listed.specs.Laws.{IsListable}
+use Rattle.sp_solved.specs.Candidate.{has_event, has_place, have_places, is_ready, place_of, logged, candidate}
+use Rattle.sp_solved.specs.Naming.{values_of}
+use Rattle.sp_solved.proofs.Listed.{every_listed, every_left}
+use Rattle.sp_law_listed.specs.Laws.{HasGiver, IsListable}
 use Rattle.sp_law_listed.proofs.Least.{all_are_listed}
-
--- ---- premises
-
-each_is_fr : (fs : List (Fact Variable)) → are_fr fs ≡ true → (f : Fact Variable) → Member f fs → is_fr f ≡ true
-each_is_fr [] e f m = absurd m
-each_is_fr (g ∷ fs) e f (inl s) = ap is_fr (sym s) ∙ (and_parts (is_fr g) (are_fr fs) e).0
-each_is_fr (g ∷ fs) e f (inr m) = each_is_fr fs (and_parts (is_fr g) (are_fr fs) e).1 f m
-
-all_are_fr : (fs : List (Fact Variable)) → ((f : Fact Variable) → Member f fs → is_fr f ≡ true) → are_fr fs ≡ true
-all_are_fr [] h = refl
-all_are_fr (g ∷ fs) h = and_from (is_fr g) (are_fr fs) (h g (inl refl)) (all_are_fr fs (λ f m. h f (inr m)))
-
-takes_fr : (x : Happening) → takes_fr_alone x ≡ true → (r : List ℕ) (facts : Facts Variable) → x ≡ rule_step r facts → (f : Fact Variable) → Member f facts.premises → is_fr f ≡ true
-takes_fr x e r facts s f m = each_is_fr facts.premises (ap takes_fr_alone (sym s) ∙ e) f m
-
-alone : (x : Happening) → ((r : List ℕ) (facts : Facts Variable) → x ≡ rule_step r facts → (f : Fact Variable) → Member f facts.premises → is_fr f ≡ true) → takes_fr_alone x ≡ true
-alone (rule_step r facts) h = all_are_fr facts.premises (h r facts refl)
-
-each_takes_fr : (es : List Event) → all_take_fr_alone es ≡ true → (e : Event) → Member e es → takes_fr_alone e.happening ≡ true
-each_takes_fr [] h e m = absurd m
-each_takes_fr (d ∷ es) h e (inl s) = ap (λ (a : Event). takes_fr_alone a.happening) (sym s) ∙ (and_parts (takes_fr_alone d.happening) (all_take_fr_alone es) h).0
-each_takes_fr (d ∷ es) h e (inr m) = each_takes_fr es (and_parts (takes_fr_alone d.happening) (all_take_fr_alone es) h).1 e m
-
-all_take_fr : (es : List Event) → ((e : Event) → Member e es → takes_fr_alone e.happening ≡ true) → all_take_fr_alone es ≡ true
-all_take_fr [] h = refl
-all_take_fr (d ∷ es) h = and_from (takes_fr_alone d.happening) (all_take_fr_alone es) (h d (inl refl)) (all_take_fr es (λ e m. h e (inr m)))
+use Rattle.sp_law_listed.proofs.Sources.{place_there, there_place, IsLinked, HasSources, event_sourced, sourced_premise, entries_there, there_entries}
 
 -- ---- actions
 
@@ -92,34 +69,63 @@ not_so : (b : Bool) → not b ≡ true → b ≡ false
 not_so true e = absurd cc
 not_so false e = refl
 
-ready_listable : (s : System) → is_ready s ≡ true → IsListable s
-ready_listable s e =
-    let both = and_parts (all_take_fr_alone s.events && have_places s.events s.formulas) (not (is_cyclic s.order)) e in
-    let parts = and_parts (all_take_fr_alone s.events) (have_places s.events s.formulas) both.0 in
-    record {
-      fresh = λ d m r facts is f k. takes_fr d.happening (each_takes_fr s.events parts.0 d m) r facts is f k;
-      placed = λ a i m. event_there s.events i (each_has_place s.events s.formulas parts.1 (holds (acts a (free_time i))) m);
-      acyclic = not_so (is_cyclic s.order) both.1;
-    }
+every_own : {A : Type 0} (P : A → Type 0) (xs : List A) → ((x : A) → Member x xs → P x) → Every P xs
+every_own P [] h = tt
+every_own P (x ∷ xs) h = (h x (inl refl), every_own P xs (λ y m. h y (inr m)))
 
 listable_ready : (s : System) → IsListable s → is_ready s ≡ true
 listable_ready s h =
-    let takes : all_take_fr_alone s.events ≡ true = all_take_fr s.events (λ d m. alone d.happening (λ r facts is f k. h.fresh d m r facts is f k)) in
-    let places : have_places s.events s.formulas ≡ true =
-    all_have_places s.events s.formulas (λ f m. placed s.events f (λ b i is. h.placed b i (subst (λ (g : Guarded). Member g s.formulas) is m))) in
-    and_from (all_take_fr_alone s.events && have_places s.events s.formulas) (not (is_cyclic s.order))
-    (and_from (all_take_fr_alone s.events) (have_places s.events s.formulas) takes places) (ap not h.acyclic)
+    and_from (have_places s.events s.formulas) (not (is_cyclic s.order))
+    (all_have_places s.events s.formulas (λ f m. placed s.events f (λ b i is. h.placed b i (subst (λ (g : Guarded). Member g s.formulas) is m)))) (ap not h.acyclic)
+
+module _ (s : System) (listed : List Event) (is_order : in_order s.order s.events ≡ Some listed) where
+  abbrev IsPlaced : Event → Type 0
+  IsPlaced d = (q : ℕ) × (place_of d.time listed ≡ Some q)
+
+  -- each event is listed, and each that is listed is an event
+  each_placed : (d : Event) → Member d s.events → IsPlaced d
+  each_placed d m =
+      every_member IsPlaced s.events d m (every_left IsPlaced s.order (length s.events) s.events listed refl is_order (every_own IsPlaced listed (λ e k. place_there e.time listed e k refl)))
+
+  each_there : (d : Event) → Member d listed → Member d s.events
+  each_there d m =
+      every_member (λ e. Member e s.events) listed d m (every_listed (λ e. Member e s.events) s.order (length s.events) s.events listed is_order (every_own (λ e. Member e s.events) s.events (λ e k. k)))
+
+  giver_linked : (i p : ℕ) → HasGiver s i p → IsLinked listed s.links i p
+  giver_linked i p h = let r = each_placed h.2 h.3 in (h.0, h.1, r.0, ap (λ (t : ℕ). place_of t listed) (sym h.4) ∙ r.1)
+
+  linked_giver : (i p : ℕ) → IsLinked listed s.links i p → HasGiver s i p
+  linked_giver i p h = let l = h.0 in let r = there_place l.from listed h.2 h.3 in (l, h.1, r.0, each_there r.0 r.1, r.2)
+
+  listable_sources : IsListable s → Every (HasSources listed s.links) listed
+  listable_sources h =
+      every_listed (HasSources listed s.links) s.order (length s.events) s.events listed is_order
+      (every_own (HasSources listed s.links) s.events (λ e m. event_sourced listed s.links e (λ p f at k. giver_linked e.time p (h.given e m p f at k))))
+
+  sources_listable : is_ready s ≡ true → Every (HasSources listed s.links) listed → IsListable s
+  sources_listable e each =
+      let both = and_parts (have_places s.events s.formulas) (not (is_cyclic s.order)) e in
+      let were = every_left (HasSources listed s.links) s.order (length s.events) s.events listed refl is_order each in
+      record {
+        given = λ d m p f at k. linked_giver d.time p (sourced_premise listed s.links d (every_member (HasSources listed s.links) s.events d m were) p f at k);
+        placed = λ a i m. event_there s.events i (each_has_place s.events s.formulas both.0 (holds (acts a (free_time i))) m);
+        acyclic = not_so (is_cyclic s.order) both.1;
+      }
 
 pub suggests : (constants : List (List ℕ)) (s : System) → IsListable s → (entries : List Entry) × (candidate constants s ≡ Some entries)
 suggests constants s h =
-    let r = all_are_listed s.order h.acyclic (length s.events) s.events refl in (
-      logged constants r.0,
-      ap (λ (b : Bool). if b then option_map (logged constants) (in_order s.order s.events) else None) (listable_ready s h) ∙ ap (option_map (logged constants)) r.1,
+    let r = all_are_listed s.order h.acyclic (length s.events) s.events refl in
+    let listed = r.0 in
+    let made = entries_there listed s.links (values_of constants listed) listed (listable_sources s listed r.1 h) in (
+      made.0,
+      ap (λ (b : Bool). if b then option_and_then (logged constants s.links) (in_order s.order s.events) else None) (listable_ready s h)
+          ∙ ap (option_and_then (logged constants s.links)) r.1 ∙ made.1,
     )
 
 pub suggests_alone : (constants : List (List ℕ)) (s : System) (entries : List Entry) → candidate constants s ≡ Some entries → IsListable s
-suggests_alone constants s entries e = at (is_ready s) refl e
+suggests_alone constants s entries e = at (is_ready s) (in_order s.order s.events) refl refl e
   where
-    at : (b : Bool) → is_ready s ≡ b → (if b then option_map (logged constants) (in_order s.order s.events) else None) ≡ Some entries → IsListable s
-    at true k l = ready_listable s k
-    at false k l = absurd cc
+    at : (b : Bool) (o : Option (List Event)) → is_ready s ≡ b → in_order s.order s.events ≡ o → (if b then option_and_then (logged constants s.links) o else None) ≡ Some entries → IsListable s
+    at true (Some listed) k l m = sources_listable s listed l k (there_entries listed s.links (values_of constants listed) listed entries m)
+    at true None k l m = absurd cc
+    at false o k l m = absurd cc

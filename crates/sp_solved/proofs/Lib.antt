@@ -1,3 +1,4 @@
+pub mod Firsts
 pub mod Listed
 pub mod Free
 pub mod Names
@@ -5,3 +6,4 @@ pub mod Stepping
 pub mod Giving
 pub mod Rounds
 pub mod Constant
+pub mod Entries

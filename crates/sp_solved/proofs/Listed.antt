@@ -90,7 +90,7 @@ all_listed order (suc n) left listed h k =
     subst (λ (es : List Event). IsPermutation left es) (sym r.begins) left_is
 
 -- what holds of each event holds of each that is listed
-every_listed : (P : Event → Type 0) (order : List (ℕ × ℕ)) (n : ℕ) (left listed : List Event) → one_by_one n order left ≡ Some listed → Every P left → Every P listed
+pub every_listed : (P : Event → Type 0) (order : List (ℕ × ℕ)) (n : ℕ) (left listed : List Event) → one_by_one n order left ≡ Some listed → Every P left → Every P listed
 every_listed P order zero left listed k h = subst (Every P) (let none : List Event = [] in let g : none ≡ listed = cc in g) tt
 every_listed P order (suc n) left listed k h =
     let r = next order n left listed k in
@@ -98,6 +98,19 @@ every_listed P order (suc n) left listed k h =
     let parts = every_parts P t.front (r.event ∷ t.back) (subst (Every P) t.were h) in
     let others : Every P r.others = subst (Every P) (sym t.are) (every_append P t.front t.back parts.0 parts.1.1) in
     subst (Every P) (sym r.begins) (parts.1.0, every_listed P order n r.others r.rest r.then_listed others)
+
+-- and what holds of each that is listed held of each event
+pub every_left : (P : Event → Type 0) (order : List (ℕ × ℕ)) (n : ℕ) (left listed : List Event) → length left ≡ n → one_by_one n order left ≡ Some listed → Every P listed → Every P left
+every_left P order zero [] listed h k each = tt
+every_left P order zero (e ∷ es) listed h k each = absurd (omega arith)
+every_left P order (suc n) left listed h k each =
+    let r = next order n left listed k in
+    let t = taken order left left r.event r.others r.is in
+    let count : length r.others ≡ n = ap length t.are ∙ (let m = length_middle t.front r.event t.back in let w = ap length t.were in omega arith) in
+    let parts : P r.event × Every P r.rest = subst (Every P) r.begins each in
+    let others : Every P (t.front ++ t.back) = subst (Every P) t.are (every_left P order n r.others r.rest count r.then_listed parts.1) in
+    let around = every_parts P t.front t.back others in
+    subst (Every P) (sym t.were) (every_append P t.front (r.event ∷ t.back) around.0 (parts.0, around.1))
 
 none_before : (order : List (ℕ × ℕ)) (es : List Event) (i : ℕ) → some_before order es i ≡ false → Every (λ (f : Event). is_before order f.time i ≡ false) es
 none_before order [] i k = tt

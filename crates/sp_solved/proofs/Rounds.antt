@@ -1,5 +1,5 @@
 -- Rounds in which events are taken.
-use Rattle.std.proofs.Common.{◌≡◌, ◌<◌, ◌+◌, ◌-◌, ℕ, suc, List, [], ◌∷◌, ◌++◌, Option, Some, None, option_map, option_and_then, refl, sym, ap, ◌∙◌, arith, append_assoc}
+use Rattle.std.proofs.Common.{◌≡◌, ◌<◌, ◌+◌, ◌-◌, ℕ, suc, List, [], ◌∷◌, ◌++◌, Option, Some, None, option_map, option_and_then, sym, ap, ◌∙◌, arith}
 use Rattle.std.proofs.lemmas.List.{map-append}
 use denote.Ref.{Bor}
 use Rattle.sp_system.specs.System as spec
@@ -7,13 +7,10 @@ use Rattle.sp_system.specs.SystemView.{event_of}
 use Rattle.sp_system.specs.declared.system.Event.{Event}
 use Rattle.sp_solved.specs.Listing.{first_free, one_by_one}
 use Rattle.sp_solved.specs.ListingView.{events_of}
+use Rattle.sp_solved.proofs.Firsts.{behind, regrouped}
 
--- those that are listed, and then these
-abbrev behind : List spec.Event → Option (List spec.Event) → Option (List spec.Event)
-behind listed o = option_map (λ (es : List spec.Event). listed ++ es) o
-
-abbrev with_first : (List spec.Event → Option (List spec.Event)) → Option (spec.Event × List spec.Event) → Option (List spec.Event)
-with_first later o = option_and_then (λ (p : spec.Event × List spec.Event). option_map (λ (es : List spec.Event). p.0 ∷ es) (later p.1)) o
+abbrev in_round : (List spec.Event → Option (List spec.Event)) → Option (spec.Event × List spec.Event) → Option (List spec.Event)
+in_round later o = option_and_then (λ (p : spec.Event × List spec.Event). option_map (λ (es : List spec.Event). p.0 ∷ es) (later p.1)) o
 
 one_less : (total i : ℕ) → i < total → total - i ≡ suc (total - (i + 1))
 one_less total i h = omega arith
@@ -23,12 +20,8 @@ pub stuck : (order : List (ℕ × ℕ)) (total i : ℕ) (left listed : List spec
 stuck order total i left listed target h e inv =
     sym
     (ap (λ (n : ℕ). behind listed (one_by_one n order left)) (one_less total i h)
-    ∙ ap (λ (o : Option (spec.Event × List spec.Event)). behind listed (with_first (one_by_one (total - (i + 1)) order) o)) e)
+    ∙ ap (λ (o : Option (spec.Event × List spec.Event)). behind listed (in_round (one_by_one (total - (i + 1)) order) o)) e)
     ∙ inv
-
-regrouped : (listed : List spec.Event) (e : spec.Event) (o : Option (List spec.Event)) → behind (listed ++ e ∷ []) o ≡ behind listed (option_map (λ (es : List spec.Event). e ∷ es) o)
-regrouped listed e None = refl
-regrouped listed e (Some es) = ap Some (append_assoc listed (e ∷ []) es)
 
 pub one_taken : (order : List (ℕ × ℕ)) (total i : ℕ) (left others : List spec.Event) (listed now : List (Bor Event)) (e : Bor Event) (target : Option (List spec.Event)) → i < total
     → first_free order left left ≡ Some (event_of e.now, others) → now ≡ listed ++ e ∷ []
@@ -37,6 +30,6 @@ one_taken order total i left others listed now e target h taken put inv =
     ap (λ (es : List (Bor Event)). behind (events_of es) (one_by_one (total - (i + 1)) order others)) put
     ∙ ap (λ (es : List spec.Event). behind es (one_by_one (total - (i + 1)) order others)) (map-append (λ (d : Bor Event). event_of d.now) listed (e ∷ []))
     ∙ regrouped (events_of listed) (event_of e.now) (one_by_one (total - (i + 1)) order others)
-    ∙ ap (λ (o : Option (spec.Event × List spec.Event)). behind (events_of listed) (with_first (one_by_one (total - (i + 1)) order) o)) (sym taken)
+    ∙ ap (λ (o : Option (spec.Event × List spec.Event)). behind (events_of listed) (in_round (one_by_one (total - (i + 1)) order) o)) (sym taken)
     ∙ ap (λ (n : ℕ). behind (events_of listed) (one_by_one n order left)) (sym (one_less total i h))
     ∙ inv

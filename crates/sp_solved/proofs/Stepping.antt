@@ -14,12 +14,16 @@ seen_three xs ys zs a b c d e f g =
 pub next_item : {A : Type 0} (xs : List A) (i : ℕ) (x : A) → i < length xs → x ≡ get_or xs i x → drop i xs ≡ x ∷ drop (i + 1) xs
 next_item {A = A} xs i x h e = rw (add-one) (drop-cons xs i x h ∙ ap (λ (y : A). y ∷ drop (suc i) xs) (sym e))
 
+-- so it is in a list that is read as another
+pub next_there : {A : Type 0} (ys xs : List A) (i : ℕ) (x : A) → ys ≡ xs → i < length ys → x ≡ get_or ys i x → drop i xs ≡ x ∷ drop (i + 1) xs
+next_there {A = A} ys xs i x same h e = ap (drop i) (sym same) ∙ next_item ys i x h e ∙ ap (λ (zs : List A). x ∷ drop (i + 1) zs) same
+
 -- the variables of an element are put at the end, and those of the others are left
 pub next : {A : Type 0} (each : A → List Variable) (flat : List A → List Variable) → ((x : A) (xs : List A) → flat (x ∷ xs) ≡ each x ++ flat xs)
     → (ys xs : List A) (i : ℕ) (x : A) (a b target : List Variable) → ys ≡ xs → i < length ys → x ≡ get_or ys i x → b ≡ once_after a (each x)
     → once_after a (flat (drop i xs)) ≡ target → once_after b (flat (drop (i + 1) xs)) ≡ target
 next {A = A} each flat begins ys xs i x a b target same h e seen inv =
-    let there : drop i xs ≡ x ∷ drop (i + 1) xs = ap (drop i) (sym same) ∙ next_item ys i x h e ∙ ap (λ (zs : List A). x ∷ drop (i + 1) zs) same in
+    let there = next_there ys xs i x same h e in
     ap (λ (ls : List Variable). once_after ls (flat (drop (i + 1) xs))) seen
     ∙ once_both (each x) a (flat (drop (i + 1) xs))
     ∙ ap (once_after a) (sym (begins x (drop (i + 1) xs)))

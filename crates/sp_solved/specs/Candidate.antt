@@ -1,28 +1,16 @@
 -- The log that a solved system suggests: its events one after the other, each behind those that the order puts before it, with names for
 -- the variables that are left. Source: CSF 2012, "Constraint solving" (extracting an attack from a solved system).
-use Rattle.std.specs.Prelude.{ℕ, ◌==◌, Bool, true, false, not, ◌&&◌, ◌||◌, if◌then◌else◌, List, [], ◌∷◌, map, Option, None, option_map}
+use Rattle.std.specs.Prelude.{ℕ, suc, ◌==◌, Bool, true, false, not, ◌&&◌, ◌||◌, if◌then◌else◌, List, [], ◌∷◌, Option, Some, None, option_map, option_and_then}
 use Rattle.sp_spec.specs.Term.{Variable, Values}
 use Rattle.sp_spec.specs.Rule.{Fact, facts_at}
 use Rattle.sp_spec.specs.Guarded.{Guarded, holds, acts, free_time}
-use Rattle.sp_spec.specs.Log.{Entry, step, fresh_rule, is_fr}
-use Rattle.sp_system.specs.System.{Happening, rule_step, Event, System}
+use Rattle.sp_spec.specs.Log.{Entry, step, Source, fresh_rule, conclusion, is_fr}
+use Rattle.sp_system.specs.System.{Happening, rule_step, Event, Link, System, happening_premises}
 use Rattle.sp_system.specs.Order.{is_cyclic}
 use Rattle.sp_solved.specs.Listing.{in_order}
 use Rattle.sp_solved.specs.Naming.{values_of}
 
 -- ---- which systems suggest one
-
--- nothing but Fr is taken: no other premise has a source
-abbrev pub are_fr : List (Fact Variable) → Bool
-are_fr [] = true
-are_fr (f ∷ fs) = is_fr f && are_fr fs
-
-abbrev pub takes_fr_alone : Happening → Bool
-takes_fr_alone (rule_step r facts) = are_fr facts.premises
-
-abbrev pub all_take_fr_alone : List Event → Bool
-all_take_fr_alone [] = true
-all_take_fr_alone (e ∷ es) = takes_fr_alone e.happening && all_take_fr_alone es
 
 abbrev pub has_event : List Event → ℕ → Bool
 has_event [] i = false
@@ -38,17 +26,52 @@ have_places events [] = true
 have_places events (f ∷ fs) = has_place events f && have_places events fs
 
 abbrev pub is_ready : System → Bool
-is_ready s = all_take_fr_alone s.events && have_places s.events s.formulas && not (is_cyclic s.order)
+is_ready s = have_places s.events s.formulas && not (is_cyclic s.order)
 
 -- ---- the log
 
--- each Fr is from the fresh rule
-abbrev pub entry_at : Values → Happening → Entry
-entry_at v (rule_step r facts) = step r (facts_at v facts) (map (λ (f : Fact Variable). fresh_rule) facts.premises)
+-- the place of an event in the list, by its time
+abbrev pub place_of : ℕ → List Event → Option ℕ
+place_of i [] = None
+place_of i (e ∷ es) = if e.time == i then Some 0 else option_map suc (place_of i es)
 
-abbrev pub logged : List (List ℕ) → List Event → List Entry
-logged constants events = map (λ (e : Event). entry_at (values_of constants events) e.happening) events
+-- the first link to a premise
+abbrev pub first_link : List Link → ℕ → ℕ → Option Link
+first_link [] i p = None
+first_link (l ∷ ls) i p = if (l.to == i) && (l.premise == p) then Some l else first_link ls i p
+
+-- the source that a link says: a conclusion of an event of the list
+abbrev pub given_by : List Event → Link → Option Source
+given_by listed l = option_map (λ q. conclusion q l.conclusion) (place_of l.from listed)
+
+abbrev pub linked_source : List Event → List Link → ℕ → ℕ → Option Source
+linked_source listed links i p = option_and_then (given_by listed) (first_link links i p)
+
+-- each Fr is from the fresh rule, and each other premise from where its link says
+abbrev pub source_of : List Event → List Link → ℕ → ℕ → Fact Variable → Option Source
+source_of listed links i p f = if is_fr f then Some fresh_rule else linked_source listed links i p
+
+-- those of the premises from a place on; none if one of them has none
+abbrev pub sources_from : List Event → List Link → ℕ → ℕ → List (Fact Variable) → Option (List Source)
+sources_from listed links i p [] = Some []
+sources_from listed links i p (f ∷ fs) =
+    option_and_then (λ source. option_map (λ sources. source ∷ sources) (sources_from listed links i (suc p) fs)) (source_of listed links i p f)
+
+abbrev pub entry_at : Values → Happening → List Source → Entry
+entry_at v (rule_step r facts) sources = step r (facts_at v facts) sources
+
+abbrev pub event_sources : List Event → List Link → Event → Option (List Source)
+event_sources listed links e = sources_from listed links e.time 0 (happening_premises e.happening)
+
+-- an entry for each of these events of the list
+abbrev pub entries_of : List Event → List Link → Values → List Event → Option (List Entry)
+entries_of listed links v [] = Some []
+entries_of listed links v (e ∷ es) =
+    option_and_then (λ sources. option_map (λ entries. entry_at v e.happening sources ∷ entries) (entries_of listed links v es)) (event_sources listed links e)
+
+abbrev pub logged : List (List ℕ) → List Link → List Event → Option (List Entry)
+logged constants links events = entries_of events links (values_of constants events) events
 
 -- the oldest first; the names are those of the theory's constants
 abbrev pub candidate : List (List ℕ) → System → Option (List Entry)
-candidate constants s = if is_ready s then option_map (logged constants) (in_order s.order s.events) else None
+candidate constants s = if is_ready s then option_and_then (logged constants s.links) (in_order s.order s.events) else None

@@ -1,13 +1,12 @@
 // The log that a system suggests.
 
 ghost use Rattle.std.specs.Prelude.{◌≡◌, ◌&&◌, not, IfOk, map, option_map};
-ghost use Rattle.sp_spec.specs.Log.{fresh_rule, is_fr};
 ghost use Rattle.sp_term.specs.View.{name_of};
 ghost use Rattle.sp_fact.specs.View.{fact_of};
 ghost use Rattle.sp_formula.specs.FormulaView.{formula_of};
 ghost use Rattle.sp_law_equal.specs.Matching.{value_in};
 ghost use Rattle.sp_norm.specs.Bounds.{bounds};
-ghost use Rattle.sp_system.specs.SystemView.{event_of, system_of};
+ghost use Rattle.sp_system.specs.SystemView.{event_of, link_of, system_of};
 ghost use Rattle.sp_log.specs.View.{entries_of, entry_of, source_of};
 ghost use Rattle.sp_solved.specs.ListingView.{events_of};
 ghost use Rattle.sp_solved.specs.Candidate as spec;
@@ -20,33 +19,9 @@ use sp_log::log::{Entry, Log, Source};
 use sp_norm::instance::facts_value;
 use sp_norm::values::Values;
 use sp_system::order::is_cyclic;
-use sp_system::system::{Event, System};
+use sp_system::system::{Event, Link, System};
 use sp_term::term::Name;
 use std::alloc::{AllocError, Global};
-
-/// Whether the facts are Fr all.
-fn are_fr(facts: &Vec<Fact>) -> bool
-    ensures { result ≡ spec.are_fr (map fact_of facts.now.items) }
-{
-    for fact in facts {
-        if fact.symbol.text.as_str() != "Fr" || fact.persistent {
-            return false;
-        }
-    }
-    true
-}
-
-/// Whether the events take nothing but Fr.
-fn all_take_fr_alone(events: &Vec<Event>) -> bool
-    ensures { result ≡ spec.all_take_fr_alone (map event_of events.now.items) }
-{
-    for event in events {
-        if !are_fr(&event.facts.premises) {
-            return false;
-        }
-    }
-    true
-}
 
 /// Whether one of the events is at the time.
 fn has_event(events: &Vec<Event>, time: u128) -> bool
@@ -86,31 +61,97 @@ fn have_places(events: &Vec<Event>, formulas: &Vec<Formula>) -> bool
 fn is_ready(alloc: Global, system: &System) -> Result<bool, AllocError>
     ensures { IfOk result (λ b. b ≡ spec.is_ready (system_of system.now)) }
 {
-    if !all_take_fr_alone(&system.events) || !have_places(&system.events, &system.formulas) {
+    if !have_places(&system.events, &system.formulas) {
         return Ok(false);
     }
     let cyclic = is_cyclic(alloc, &system.order)?;
     Ok(!cyclic)
 }
 
-/// As many sources as premises, each the fresh rule.
-fn fresh_sources(alloc: Global, premises: &Vec<Fact>) -> Result<Vec<Source>, AllocError>
-    ensures { IfOk result (λ ss. map source_of ss.items ≡ map (λ f. fresh_rule) (map fact_of premises.now.items)) }
+/// The place among the events of the first one at the time.
+fn place_of(events: &Vec<&Event>, time: u128) -> Option<usize>
+    ensures { result ≡ spec.place_of time (events_of events.now.items) }
 {
-    let mut made = Vec::with_capacity(alloc, premises.len())?;
-    for _ in premises {
-        made.push(Source::FreshRule)?;
+    for (place, event) in events.iter().enumerate() {
+        if event.time == time {
+            return Some(place);
+        }
     }
-    Ok(made)
+    None
 }
 
-/// The entry of an event under these values.
-fn entry(alloc: Global, values: &Values, event: &Event) -> Result<Entry, AllocError>
-    ensures { IfOk result (λ e. entry_of e ≡ spec.entry_at (value_in (bounds values.now)) (event_of event.now).happening) }
+/// The first link to the premise of this place at the time.
+fn first_link(links: &Vec<Link>, time: u128, premise: usize) -> Option<Link>
+    ensures { option_map link_of result ≡ spec.first_link (map link_of links.now.items) time premise }
+{
+    for link in links {
+        if link.to == time && link.premise == premise {
+            return Some(*link);
+        }
+    }
+    None
+}
+
+/// The source that a link says of the premise: a conclusion of one of the listed events.
+fn linked_source(
+    listed: &Vec<&Event>,
+    links: &Vec<Link>,
+    time: u128,
+    premise: usize,
+) -> Option<Source>
+    ensures { option_map source_of result ≡ spec.linked_source (events_of listed.now.items) (map link_of links.now.items) time premise }
+{
+    let link = first_link(links, time, premise)?;
+    let place = place_of(listed, link.from)?;
+    Some(Source::Conclusion(place, link.conclusion))
+}
+
+/// Where a premise comes from: the fresh rule for an Fr, and what its link says for any other.
+fn source(
+    listed: &Vec<&Event>,
+    links: &Vec<Link>,
+    time: u128,
+    premise: usize,
+    fact: &Fact,
+) -> Option<Source>
+    ensures { option_map source_of result ≡ spec.source_of (events_of listed.now.items) (map link_of links.now.items) time premise (fact_of fact.now) }
+{
+    if fact.symbol.text.as_str() == "Fr" && !fact.persistent {
+        return Some(Source::FreshRule);
+    }
+    linked_source(listed, links, time, premise)
+}
+
+/// The sources of the event's premises, if each has one.
+fn event_sources(
+    alloc: Global,
+    listed: &Vec<&Event>,
+    links: &Vec<Link>,
+    event: &Event,
+) -> Result<Option<Vec<Source>>, AllocError>
+    ensures { IfOk result (λ o. option_map (λ ss. map source_of ss.items) o ≡ spec.event_sources (events_of listed.now.items) (map link_of links.now.items) (event_of event.now)) }
+{
+    let mut made = Vec::with_capacity(alloc, event.facts.premises.len())?;
+    for (premise, fact) in event.facts.premises.iter().enumerate() {
+        let Some(source) = source(listed, links, event.time, premise, fact) else {
+            return Ok(None);
+        };
+        made.push(source)?;
+    }
+    Ok(Some(made))
+}
+
+/// The entry of an event under these values, with these sources.
+fn entry(
+    alloc: Global,
+    values: &Values,
+    event: &Event,
+    sources: Vec<Source>,
+) -> Result<Entry, AllocError>
+    ensures { IfOk result (λ e. entry_of e ≡ spec.entry_at (value_in (bounds values.now)) (event_of event.now).happening (map source_of sources.items)) }
 {
     let rule = event.rule.copy()?;
     let facts = facts_value(alloc, values, &event.facts)?;
-    let sources = fresh_sources(alloc, &event.facts.premises)?;
     Ok(Entry {
         rule,
         facts,
@@ -118,20 +159,24 @@ fn entry(alloc: Global, values: &Values, event: &Event) -> Result<Entry, AllocEr
     })
 }
 
-/// The entries of the events.
+/// The entries of the events, if each of their premises has a source.
 fn entries(
     alloc: Global,
     constants: &Vec<Name>,
+    links: &Vec<Link>,
     events: &Vec<&Event>,
-) -> Result<Vec<Entry>, AllocError>
-    ensures { IfOk result (λ es. map entry_of es.items ≡ spec.logged (map name_of constants.now.items) (events_of events.now.items)) }
+) -> Result<Option<Vec<Entry>>, AllocError>
+    ensures { IfOk result (λ o. option_map (λ es. map entry_of es.items) o ≡ spec.logged (map name_of constants.now.items) (map link_of links.now.items) (events_of events.now.items)) }
 {
     let values = named(alloc, constants, events)?;
     let mut made = Vec::with_capacity(alloc, events.len())?;
     for event in events {
-        made.push(entry(alloc, &values, event)?)?;
+        let Some(sources) = event_sources(alloc, events, links, event)? else {
+            return Ok(None);
+        };
+        made.push(entry(alloc, &values, event, sources)?)?;
     }
-    Ok(made)
+    Ok(Some(made))
 }
 
 /// The log that the system suggests, if it suggests one; its names aren't among the constants.
@@ -152,6 +197,8 @@ pub fn candidate(
     let Some(events) = in_order(alloc, &system.order, &system.events)? else {
         return Ok(None);
     };
-    let entries = entries(alloc, constants, &events)?;
+    let Some(entries) = entries(alloc, constants, &system.links, &events)? else {
+        return Ok(None);
+    };
     Ok(Some(Log { entries }))
 }

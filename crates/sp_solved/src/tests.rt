@@ -3,9 +3,9 @@ use sp_fact::fact::{Action, Fact, Facts};
 use sp_formula::formula::{Atom, Formula, FormulaAction, Moment};
 use sp_ground::signature::Signature;
 use sp_ground::term::GroundTerm;
-use sp_log::log::Log;
+use sp_log::log::{Log, Source};
 use sp_rule::{Declared, Rule};
-use sp_system::system::{Event, System};
+use sp_system::system::{Event, Link, System};
 use sp_term::term::{Name, Sort, Term, Variable};
 use std::alloc::{AllocError, Global};
 use std::test::Fail;
@@ -19,10 +19,12 @@ struct Step<'a> {
     variables: &'a [(Sort, u128)],
 }
 
-/// A system, the theory's constants, and the log that is wanted: each rule with the arguments of its action.
+/// A system, the theory's constants, and the log that is wanted: each rule with the arguments of its action, and the sources that aren't
+/// the fresh rule.
 #[derive(Clone, Copy)]
 struct Case<'a> {
     steps: &'a [Step<'a>],
+    links: &'a [Link],
     order: &'a [(u128, u128)],
     acts_at: Option<u128>,
     constants: &'a [&'a str],
@@ -86,6 +88,10 @@ fn system(alloc: Global, case: &Case) -> Result<System, AllocError> {
         let action = FormulaAction { symbol, args };
         formulas.push(Formula::Holds(Atom::Acts(action, Moment::Free(time))))?;
     }
+    let mut links = Vec::new(alloc);
+    for link in case.links {
+        links.push(*link)?;
+    }
     let mut order = Vec::new(alloc);
     for pair in case.order {
         order.push(*pair)?;
@@ -95,6 +101,7 @@ fn system(alloc: Global, case: &Case) -> Result<System, AllocError> {
         formulas,
         spent: Vec::new(alloc),
         unequal: Vec::new(alloc),
+        links,
         order,
         next: 100,
     })
@@ -137,6 +144,12 @@ fn text_of(alloc: Global, log: &Option<Log>) -> Result<String, Fail> {
                 put_term(&mut text, term)?;
             }
         }
+        for source in &entry.sources {
+            if let Source::Conclusion(giver, place) = source {
+                let words = format!(in alloc; " from {giver}.{place}")?;
+                text.push_str(words.as_str())?;
+            }
+        }
         text.push_str(";")?;
     }
     Ok(text)
@@ -170,6 +183,14 @@ const TAKING: Step<'static> = Step {
     variables: &[(Sort::Msg, 1)],
 };
 
+// SECOND gives what TAKING takes
+const LINK: Link = Link {
+    from: 3,
+    conclusion: 0,
+    to: 4,
+    premise: 0,
+};
+
 fn wanting<'a>(
     steps: &'a [Step<'a>],
     order: &'a [(u128, u128)],
@@ -179,6 +200,7 @@ fn wanting<'a>(
 ) -> Case<'a> {
     Case {
         steps,
+        links: &[],
         order,
         acts_at,
         constants,
@@ -218,6 +240,14 @@ fn suggests_logs(rt: HostRuntime) -> Result<(), Fail> {
         wanting(&[FIRST], &[], Some(6), &[], "none"),
         wanting(&[FIRST, TAKING], &[], None, &[], "none"),
         wanting(&[FIRST], &[(8, 9), (9, 8)], None, &[], "none"),
+        Case {
+            steps: &[TAKING, FIRST, SECOND],
+            links: &[LINK],
+            order: &[(5, 3), (3, 4)],
+            acts_at: None,
+            constants: &[],
+            wanted: "P 'a1' 'a2';Q ~n1 'a1';S 'a1' from 1.0;",
+        },
     ];
     for case in &cases {
         let constants = names(alloc, case.constants)?;
