@@ -1,13 +1,11 @@
 -- What is written of a lemma is so, and of a text one thing is written.
-use Rattle.std.proofs.Common.{◌≡◌, ◌↔◌, ℕ, Bool, true, false, ◌||◌, ◌&&◌, List, [], ◌∷◌, Option, Some, None, option_and_then, refl, sym, ap, ◌∙◌, subst}
+use Rattle.std.proofs.Common.{◌≡◌, ◌↔◌, ℕ, Bool, true, false, ◌&&◌, List, [], ◌∷◌, Option, Some, None, option_and_then, refl, sym, ap, ◌∙◌, subst}
 use Rattle.sp_spec.specs.Lists.{Every}
-use Rattle.sp_spec.proofs.Lists.{every_weaken}
 use Rattle.sp_spec.specs.Rule.{Rule}
 use Rattle.sp_spec.specs.Signature.{Signature}
 use Rattle.sp_spec.specs.Log.{Entry, Log, log_trace}
 use Rattle.sp_spec.specs.Theory.{TraceKind, all_traces, exists_trace, Lemma, signature_of}
-use Rattle.sp_spec.specs.Written.{WrittenRule, WrittenTheory, theory_of, in_facts, in_actions, occurrences}
-use Rattle.sp_spec.specs.Findings.{has_wide_fact, has_wide_action, has_two_sorts, has_wrong_premise, has_fr, has_wrong_argument, has_unbound, rule_is_wrong}
+use Rattle.sp_spec.specs.Written.{WrittenTheory, theory_of}
 use Rattle.sp_spec.specs.Guarded.{Guarded}
 use Rattle.sp_law_guard.specs.GuardedForm.{negate}
 use Rattle.sp_law_guard.specs.CheckedForm.{checked_form}
@@ -37,28 +35,6 @@ use Rattle.sp_judge.specs.Rejected.{ReadIsAccepted}
 use Rattle.sp_judge.proofs.Right.{judgements_right}
 use Rattle.sp_written.specs.Text.{WrittenProof, Item, rule_item, lemma_item, lemmas_in, theory_in}
 use Rattle.sp_pose.proofs.Theories.{AreFirst, theory_spelled}
-
-first_false : (a b : Bool) → (a || b) ≡ false → a ≡ false
-first_false false b e = refl
-first_false true b e = absurd cc
-
-fourth_false : (a b c d e : Bool) → (a || (b || (c || (d || e)))) ≡ false → d ≡ false
-fourth_false false false false d e h = first_false d e h
-fourth_false true b c d e h = absurd cc
-fourth_false false true c d e h = absurd cc
-fourth_false false false true d e h = absurd cc
-
-no_fr : (rules : List WrittenRule) → Every (λ (r : WrittenRule). rule_is_wrong r ≡ false) rules → Every (λ (r : WrittenRule). has_fr r.facts.conclusions ≡ false) rules
-no_fr rules e =
-    every_weaken (λ (r : WrittenRule). rule_is_wrong r ≡ false) (λ (r : WrittenRule). has_fr r.facts.conclusions ≡ false)
-    (λ r h. fourth_false
-    (has_wide_fact r.facts.premises || (has_wide_action r.facts.actions || has_wide_fact r.facts.conclusions))
-    (has_two_sorts r.facts (occurrences r.facts))
-    (has_wrong_premise r.facts.premises)
-    (has_fr r.facts.conclusions)
-    (has_wrong_argument r.facts.premises || (has_unbound r.facts (in_actions r.facts.actions) || has_unbound r.facts (in_facts r.facts.conclusions)))
-    h)
-    rules e
 
 -- a proof isn't rejected exactly where it is accepted
 accepted_or_rejected : (context : Context) (s : System) (k : Skeleton) (kind : TraceKind) (v : Verdict) (log : Option Log) → IsVerdictOn context s k kind v log
@@ -121,7 +97,7 @@ module _ (theory : WrittenTheory) (first : AreFirst theory.rules theory.lemmas) 
       → IsAccepted (context_of (setting_of theory) kind g) (start kind g) tree → log ≡ found_log (context_of (setting_of theory) kind g) (start kind g) tree
       → Says kind v log (IsFinished tree) → Means (theory_of theory) kind v log l
   shown l f g e all_traces verified None tree accepted is says =
-      lemmas_are_shown_lem.all_traces theory first.rules_are (no_fr theory.rules fine.rules) l f g e (context_of (setting_of theory) all_traces g) refl tree accepted says
+      lemmas_are_shown_lem.all_traces theory first.rules_are fine.rules l f g e (context_of (setting_of theory) all_traces g) refl tree accepted says
   shown l f g e all_traces verified (Some log) tree accepted is says = absurd says
   shown l f g e all_traces falsified None tree accepted is says = absurd says
   shown l f g e all_traces falsified (Some log) tree accepted is says =
@@ -133,7 +109,7 @@ module _ (theory : WrittenTheory) (first : AreFirst theory.rules theory.lemmas) 
   shown l f g e exists_trace verified (Some log) tree accepted is says =
       let s = ended exists_trace g tree log is in satisfies l f g e s.0 log s.1
   shown l f g e exists_trace falsified None tree accepted is says =
-      lemmas_are_shown_lem.exists_trace theory first.rules_are (no_fr theory.rules fine.rules) l f g e (context_of (setting_of theory) exists_trace g) refl tree accepted says
+      lemmas_are_shown_lem.exists_trace theory first.rules_are fine.rules l f g e (context_of (setting_of theory) exists_trace g) refl tree accepted says
   shown l f g e exists_trace falsified (Some log) tree accepted is says = absurd says
   shown l f g e exists_trace incomplete None tree accepted is says = tt
   shown l f g e exists_trace incomplete (Some log) tree accepted is says = absurd says

@@ -80,6 +80,7 @@ fn root(alloc: Global, sought: &Formula) -> Result<System, AllocError>
         formulas,
         spent: Vec::new(alloc),
         unequal: Vec::new(alloc),
+        links: Vec::new(alloc),
         order: Vec::new(alloc),
         next: 0,
     })

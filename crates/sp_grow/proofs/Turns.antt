@@ -2,12 +2,14 @@
 use Rattle.std.proofs.Common.{◌≡◌, ◌∙◌, ℕ, suc, ◌+◌, Bool, true, false, List, [], ◌∷◌, map, Option, Some, None, refl, sym, ap, subst, add-one, true≢false}
 use Rattle.std.specs.Prelude.{option_map, is_some, if◌then◌else◌}
 use Rattle.sp_spec.specs.Guarded.{Guarded}
-use Rattle.sp_system.specs.System.{System}
-use Rattle.sp_step.specs.Moves.{Move, simplify, contradiction, unproved, solved, action, Context, Case, simple_case, cases}
+use Rattle.sp_spec.specs.Term.{Variable}
+use Rattle.sp_spec.specs.Rule.{Fact}
+use Rattle.sp_system.specs.System.{Event, System, happening_premises}
+use Rattle.sp_step.specs.Moves.{Move, simplify, contradiction, unproved, solved, or, action, premise, Context, Case, simple_case, cases}
 use Rattle.sp_step.specs.Rows.{rows, by_rows, is_contradictory}
 use Rattle.sp_spec.specs.Log.{Log}
 use Rattle.sp_check.specs.Tree.{is_solved, Tree, node, Branches, no_branch, branch}
-use Rattle.sp_check.specs.Growth.{first_action, choice, class_of, has_class, is_unproved, least_class, least_class_in, grown_at, grown_in, open_leaves, leaves_for, grown_leaf, first_grown}
+use Rattle.sp_check.specs.Growth.{premise_from, first_premise, first_action, first_disjunction, choice, class_of, has_class, is_unproved, least_class, least_class_in, grown_at, grown_in, open_leaves, leaves_for, grown_leaf, first_grown}
 use Rattle.sp_grow.specs.Kept.{Kept, leaf, ended, inner, Keeps, nothing, also, shown, shown_all}
 use Rattle.sp_grow.specs.Growing.{least_kept, least_in, leaves_at, leaves, ended_with, replaced, opened, behind, grow, grow_in}
 
@@ -70,12 +72,32 @@ leaves_belong context (Some cs) = each cs
     each [] = tt
     each (c ∷ cs) = ((refl, refl), each cs)
 
--- the action of the lowest place is no end
+-- a premise, a disjunction or an action that is chosen is no end
+no_end_from : (context : Context) (s : System) (i p : ℕ) (fs : List (Fact Variable)) (later : Move) → is_solved later ≡ false → is_solved (premise_from context s i p fs later) ≡ false
+no_end_from context s i p [] later e = e
+no_end_from context s i p (f ∷ fs) later e = by_first (is_some (cases context s (premise i p))) (premise_from context s i (suc p) fs later) (no_end_from context s i (suc p) fs later e)
+  where
+    by_first : (b : Bool) (m : Move) → is_solved m ≡ false → is_solved (if b then premise i p else m) ≡ false
+    by_first true m e = refl
+    by_first false m e = e
+
+no_end_premise : (context : Context) (s : System) (events : List Event) → is_solved (first_premise context s events) ≡ false
+no_end_premise context s [] = refl
+no_end_premise context s (e ∷ events) = no_end_from context s e.time 0 (happening_premises e.happening) (first_premise context s events) (no_end_premise context s events)
+
 no_end_first : (context : Context) (s : System) (k : ℕ) (fs : List Guarded) → is_solved (first_action context s k fs) ≡ false
-no_end_first context s k [] = refl
+no_end_first context s k [] = no_end_premise context s s.events
 no_end_first context s k (f ∷ fs) = by_first (is_some (cases context s (action k))) (first_action context s (suc k) fs) (no_end_first context s (suc k) fs)
   where
     by_first : (b : Bool) (m : Move) → is_solved m ≡ false → is_solved (if b then action k else m) ≡ false
+    by_first true m e = refl
+    by_first false m e = e
+
+no_end_disjunction : (context : Context) (s : System) (k : ℕ) (fs : List Guarded) → is_solved (first_disjunction context s k fs) ≡ false
+no_end_disjunction context s k [] = no_end_first context s 0 s.formulas
+no_end_disjunction context s k (f ∷ fs) = by_first (is_some (cases context s (or k))) (first_disjunction context s (suc k) fs) (no_end_disjunction context s (suc k) fs)
+  where
+    by_first : (b : Bool) (m : Move) → is_solved m ≡ false → is_solved (if b then or k else m) ≡ false
     by_first true m e = refl
     by_first false m e = e
 
@@ -88,7 +110,7 @@ by_choice false false false m n e = absurd (true≢false (ap is_solved e ∙ n))
 -- where the end of the search is chosen, there is a log
 has_log : (context : Context) (s : System) → solved ≡ choice context s → is_some (context.found s) ≡ true
 has_log context s e =
-    by_choice (is_contradictory s) (is_some (by_rows rows s)) (is_some (context.found s)) (first_action context s 0 s.formulas) (no_end_first context s 0 s.formulas) e
+    by_choice (is_contradictory s) (is_some (by_rows rows s)) (is_some (context.found s)) (first_disjunction context s 0 s.formulas) (no_end_disjunction context s 0 s.formulas) e
 
 ended_shows : (o : Option Log) → shown (ended_with o) ≡ node solved (open_leaves (option_map (map simple_case) (let r : Option (List Case) = if is_some o then Some [] else None in r)))
 ended_shows None = refl
@@ -99,7 +121,9 @@ replaced_shows context s simplify = ap (node simplify) (leaves_show context (cas
 replaced_shows context s contradiction = ap (node contradiction) (leaves_show context (cases context s contradiction))
 replaced_shows context s unproved = ap (node unproved) (leaves_show context (cases context s unproved))
 replaced_shows context s solved = ended_shows (context.found s)
+replaced_shows context s (or k) = ap (node (or k)) (leaves_show context (cases context s (or k)))
 replaced_shows context s (action k) = ap (node (action k)) (leaves_show context (cases context s (action k)))
+replaced_shows context s (premise i p) = ap (node (premise i p)) (leaves_show context (cases context s (premise i p)))
 
 ended_belongs : (context : Context) (s : System) (o : Option Log) → context.found s ≡ o → is_some o ≡ true → Belongs context s (ended_with o)
 ended_belongs context s None e some = absurd (true≢false (sym some))
@@ -110,7 +134,9 @@ replaced_belongs context s simplify depth k is e = (refl, refl, leaves_belong co
 replaced_belongs context s contradiction depth k is e = (refl, refl, leaves_belong context (cases context s contradiction))
 replaced_belongs context s unproved depth k is e = absurd (true≢false (sym e))
 replaced_belongs context s solved depth k is e = ended_belongs context s (context.found s) refl (has_log context s is)
+replaced_belongs context s (or n) depth k is e = (refl, refl, leaves_belong context (cases context s (or n)))
 replaced_belongs context s (action n) depth k is e = (refl, refl, leaves_belong context (cases context s (action n)))
+replaced_belongs context s (premise i p) depth k is e = (refl, refl, leaves_belong context (cases context s (premise i p)))
 
 leaf_becomes : (context : Context) (k depth : ℕ) (s : System) (m : Move) (b : Bool) → has_class (class_of m depth) k ≡ b
     → Became (node unproved no_branch) (shown (opened context s m b).0) (opened context s m b).1 (if b then Some (grown_leaf context s m) else None)

@@ -22,7 +22,9 @@ pub fn class_of(chosen: Move, depth: u64) -> Result<Option<u64>, AllocError>
         Move::Contradiction => sum(1, depth),
         Move::Simplify => sum(2, depth),
         Move::Solved => sum(3, depth),
+        Move::Or(_) => sum(4, depth),
         Move::Action(_) => sum(5, depth),
+        Move::Premise(_) => sum(7, depth),
         Move::Unproved => Ok(None),
     }
 }

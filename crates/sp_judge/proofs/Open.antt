@@ -2,7 +2,7 @@
 use Rattle.std.proofs.Common.{◌≡◌, ℕ, List, Bool, true, false, Some, refl, sym, ap}
 use Rattle.std.specs.Prelude.{◌||◌}
 use Rattle.std.proofs.lemmas.Bool.{false≢true}
-use Rattle.sp_step.specs.Moves.{Move, simplify, contradiction, unproved, solved, action}
+use Rattle.sp_step.specs.Moves.{Move, simplify, contradiction, unproved, solved, or, action, premise}
 use Rattle.sp_check.specs.Tree.{Tree, node, Branches, no_branch, branch, IsLeft, IsFinished, AreFinished, is_solved}
 use Rattle.sp_check.specs.Growth.{has_end, some_end}
 use Rattle.sp_check.specs.Tree as tree
@@ -23,7 +23,9 @@ left_at simplify = (λ _ _ h. h, λ _. refl)
 left_at contradiction = (λ _ _ h. h, λ _. refl)
 left_at unproved = (λ e _. absurd (false≢true (sym e)), λ h. absurd (h tt))
 left_at solved = (λ _ e. absurd (false≢true (sym e)), λ h. absurd (h tt))
+left_at (or k) = (λ _ _ h. h, λ _. refl)
 left_at (action k) = (λ _ _ h. h, λ _. refl)
+left_at (premise i p) = (λ _ _ h. h, λ _. refl)
 
 at_tree : (step : Step) (move : Move) (bs : BranchesRead) (t : Tree) (branches : Branches) → step ≡ known move → t ≡ node move branches
     → Neither (has_open (node_read (known move) bs)) (has_end (node move branches)) (IsFinished (node move branches)) → Neither (has_open (node_read step bs)) (has_end t) (IsFinished t)

@@ -3,7 +3,7 @@ use Rattle.std.proofs.Common.{◌≡◌, ℕ, ◌+◌, Bool, true, false, if◌t
 use Rattle.std.proofs.lemmas.Bool.{false≢true}
 use Rattle.sp_spec.specs.Log.{Log}
 use Rattle.sp_system.specs.System.{System}
-use Rattle.sp_step.specs.Moves.{Move, simplify, contradiction, unproved, solved, action, Context, Case, cases}
+use Rattle.sp_step.specs.Moves.{Move, simplify, contradiction, unproved, solved, or, action, premise, Context, Case, cases}
 use Rattle.sp_check.specs.Tree.{node, no_branch, IsAccepted, AreAccepted, is_solved, first_log}
 use Rattle.sp_judge.specs.Skeleton.{known, unbuilt, unknown, Skeleton, node_read, BranchesRead, none_read, branch_read, nodes, nodes_in}
 use Rattle.sp_judge.specs.Rejected.{clause_cases, case_names, branch_names, IsRejectedAt, AreRejectedAt}
@@ -85,7 +85,9 @@ mutual
   walk_tells context before met s (node_read (known simplify) bs) = cases_tell context before met s simplify refl bs (λ cs names. branches_tell context (before + 1) met cs bs names) (cases context s simplify) refl
   walk_tells context before met s (node_read (known contradiction) bs) = cases_tell context before met s contradiction refl bs (λ cs names. branches_tell context (before + 1) met cs bs names) (cases context s contradiction) refl
   walk_tells context before met s (node_read (known unproved) bs) = cases_tell context before met s unproved refl bs (λ cs names. branches_tell context (before + 1) met cs bs names) (cases context s unproved) refl
+  walk_tells context before met s (node_read (known (or i)) bs) = cases_tell context before met s (or i) refl bs (λ cs names. branches_tell context (before + 1) met cs bs names) (cases context s (or i)) refl
   walk_tells context before met s (node_read (known (action i)) bs) = cases_tell context before met s (action i) refl bs (λ cs names. branches_tell context (before + 1) met cs bs names) (cases context s (action i)) refl
+  walk_tells context before met s (node_read (known (premise i p)) bs) = cases_tell context before met s (premise i p) refl bs (λ cs names. branches_tell context (before + 1) met cs bs names) (cases context s (premise i p)) refl
   walk_tells context before met s (node_read (unbuilt text) bs) = (1, refl, inl (refl, (tt, refl)))
   walk_tells context before met s (node_read (unknown text) bs) = (1, refl, inl (refl, λ h. h))
 

@@ -99,6 +99,7 @@ fn system(alloc: Global, formula: Formula) -> Result<System, AllocError> {
         formulas,
         spent: Vec::new(alloc),
         unequal: Vec::new(alloc),
+        links: Vec::new(alloc),
         order: Vec::new(alloc),
         next: 0,
     })

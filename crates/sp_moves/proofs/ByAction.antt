@@ -4,8 +4,8 @@ use Rattle.sp_spec.specs.Term.{Variable}
 use Rattle.sp_spec.specs.Rule.{Action, Rule}
 use Rattle.sp_spec.specs.Guarded.{Guarded, truth, falsity, holds, fails, all_of, one_of, some, every, acts, same, same_time, before, last, free_time, bound_time}
 use Rattle.sp_system.specs.System.{System}
-use Rattle.sp_step.specs.Rows.{freed_action}
-use Rattle.sp_step.specs.Moves.{Case, is_adversary, action_at_time, action_cases, event_at, solving_action}
+use Rattle.sp_step.specs.Rows.{freed_action, event_at}
+use Rattle.sp_step.specs.Moves.{Case, is_adversary, action_at_time, action_cases, solving_action}
 use Rattle.sp_moves.specs.Sought.{timed, sought}
 use Rattle.std.specs.Prelude.{if◌then◌else◌}
 

@@ -1,3 +1,4 @@
 pub mod ByAction
 pub mod PassedOver
 pub mod Listed
+pub mod Parts

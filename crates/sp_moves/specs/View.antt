@@ -9,7 +9,7 @@ use Rattle.sp_solved.specs.Found.{found}
 use Rattle.sp_system.specs.SystemView.{system_of}
 use Rattle.sp_step.specs.Moves as spec
 use Rattle.sp_moves.specs.declared.moves.Move.{Move}
-use Rattle.sp_moves.specs.declared.moves.Move.TheVariants.{Simplify, Contradiction, Unproved, Solved, Action}
+use Rattle.sp_moves.specs.declared.moves.Move.TheVariants.{Simplify, Contradiction, Unproved, Solved, Or, Action, Premise}
 use Rattle.sp_moves.specs.declared.moves.Case.{Case}
 use Rattle.sp_moves.specs.declared.book.RuleBook.{RuleBook}
 use Rattle.sp_moves.specs.declared.context.Context.{Context}
@@ -19,7 +19,9 @@ move_of Simplify = spec.simplify
 move_of Contradiction = spec.contradiction
 move_of Unproved = spec.unproved
 move_of Solved = spec.solved
+move_of (Or k) = spec.or k
 move_of (Action k) = spec.action k
+move_of (Premise p) = spec.premise p.time p.place
 
 abbrev pub case_of : Case → spec.Case
 case_of c = record { name = string_bytes c.name; system = system_of c.system }

@@ -1,28 +1,16 @@
 // An action at an event that the system has.
 
-ghost use Rattle.std.specs.Prelude.{◌≡◌, IfOk, ◌++◌, codes, decimal, map, option_map, string_bytes};
+ghost use Rattle.std.specs.Prelude.{◌≡◌, IfOk, ◌++◌, codes, decimal, map, string_bytes};
 ghost use Rattle.sp_fact.specs.View.{action_of};
-ghost use Rattle.sp_system.specs.SystemView.{event_of, system_of};
+ghost use Rattle.sp_system.specs.SystemView.{system_of};
 ghost use Rattle.sp_step.specs.Moves as spec;
 ghost use Rattle.sp_moves.specs.View.{case_of};
 
 use crate::moves::Case;
 use crate::where_same::where_same;
 use sp_fact::fact::Action;
-use sp_system::system::{Event, System};
+use sp_system::system::System;
 use std::alloc::{AllocError, Global};
-
-/// The event of this time.
-pub fn event_at(time: u128, events: &Vec<Event>) -> Option<&Event>
-    ensures { option_map (λ e. event_of e.now) result ≡ spec.event_at time (map event_of events.now.items) }
-{
-    for event in events {
-        if event.time == time {
-            return Some(event);
-        }
-    }
-    None
-}
 
 fn name_at(alloc: Global, place: usize) -> Result<String, AllocError>
     ensures { IfOk result (λ n. string_bytes n ≡ codes "at_" ++ decimal place) }

@@ -9,8 +9,10 @@ mod at_event;
 pub mod book;
 mod by_rules;
 pub mod context;
+pub mod giver;
 pub mod moves;
 mod named;
+pub mod part;
 mod renamed;
 mod solving;
 #[cfg(test)]

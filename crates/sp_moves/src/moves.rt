@@ -6,6 +6,8 @@ ghost use Rattle.sp_step.specs.Moves as spec;
 ghost use Rattle.sp_moves.specs.View.{context_of, move_of, case_of};
 
 use crate::context::Context;
+use crate::giver::{Premise, premise_cases};
+use crate::part::or_cases;
 use crate::solving::solving_action;
 use sp_rows::simplify::{by_rows, is_contradictory, simplified};
 use sp_system::system::System;
@@ -22,8 +24,12 @@ pub enum Move {
     Unproved,
     /// the search ends here: a log has been found
     Solved,
+    /// the formula at this position is a disjunction, and each of its parts is a case
+    Or(usize),
     /// the formula at this position is an action, and its event is looked for
     Action(usize),
+    /// the source of this premise is looked for
+    Premise(Premise),
 }
 
 /// One of the systems that a move leads to.
@@ -82,7 +88,9 @@ fn raw_cases(
         }
         Move::Unproved => Ok(Some(Vec::new(alloc))),
         Move::Solved => ended(alloc, context, system),
+        Move::Or(position) => or_cases(alloc, system, position),
         Move::Action(position) => solving_action(alloc, context.rules, system, position),
+        Move::Premise(premise) => premise_cases(alloc, context.rules, system, premise),
     }
 }
 

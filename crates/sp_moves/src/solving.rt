@@ -4,16 +4,18 @@ ghost use Rattle.std.specs.Prelude.{◌≡◌, Some, IfOk, map, option_map, slic
 ghost use Rattle.sp_fact.specs.View.{action_of};
 ghost use Rattle.sp_formula.specs.FormulaView.{formula_of};
 ghost use Rattle.sp_system.specs.SystemView.{system_of};
+ghost use Rattle.sp_step.specs.Rows as rows;
 ghost use Rattle.sp_step.specs.Moves as spec;
 ghost use Rattle.sp_moves.specs.View.{book_of, case_of};
 
 use crate::action::sought;
-use crate::at_event::{at_event, event_at};
+use crate::at_event::at_event;
 use crate::book::RuleBook;
 use crate::by_rules::by_each;
 use crate::moves::Case;
 use sp_fact::fact::Action;
 use sp_formula::formula::Formula;
+use sp_rows::links::event_at;
 use sp_system::system::System;
 use std::alloc::{AllocError, Global};
 
@@ -25,7 +27,7 @@ fn action_cases(
     action: &Action,
 ) -> Result<Vec<Case>, AllocError>
     ensures { IfOk result (λ cs. map case_of cs.items ≡ spec.action_cases (book_of rules.now) (system_of system.now) time (action_of action.now)
-        (spec.event_at time (system_of system.now).events)) }
+        (rows.event_at time (system_of system.now).events)) }
 {
     match event_at(time, &system.events) {
         Some(event) => at_event(alloc, system, action, &event.facts.actions),

@@ -1,14 +1,16 @@
 use crate::action::is_solvable;
 use crate::book::RuleBook;
 use crate::context::Context;
+use crate::giver::{Premise, open_premise, premise_cases};
 use crate::moves::{Case, Move, cases};
+use crate::part::{is_disjunction, or_cases};
 use crate::solving::solving_action;
-use sp_fact::fact::{Action, Facts};
+use sp_fact::fact::{Action, Fact, Facts};
 use sp_formula::formula::{Atom, Formula, FormulaAction, FormulaTerm, Moment};
 use sp_ground::signature::Signature;
 use sp_rule::{Declared, Rule};
 use sp_solved::Sought;
-use sp_system::system::{Event, System};
+use sp_system::system::{Event, Link, System};
 use sp_term::term::{Name, Sort, Term, Variable};
 use std::alloc::{AllocError, Global};
 use std::test::Fail;
@@ -120,6 +122,7 @@ fn system(alloc: Global) -> Result<System, AllocError> {
         formulas,
         spent: Vec::new(alloc),
         unequal: Vec::new(alloc),
+        links: Vec::new(alloc),
         order: Vec::new(alloc),
         next: 6,
     })
@@ -214,6 +217,130 @@ fn ends_with_a_log(rt: HostRuntime) -> Result<(), Fail> {
         }
         let found = cases(alloc, &context, &system, Move::Solved)?;
         assert_eq!(rt; found.is_some(), ends);
+    }
+    Ok(())
+}
+
+// The system of an action and a disjunction of two parts.
+fn split(alloc: Global) -> Result<System, AllocError> {
+    let mut system = system(alloc)?;
+    let mut parts = Vec::new(alloc);
+    parts.push(Formula::Truth)?;
+    parts.push(formula(alloc, "B")?)?;
+    system.formulas.push(Formula::OneOf(parts))?;
+    Ok(system)
+}
+
+#[test]
+fn tries_each_part(rt: HostRuntime) -> Result<(), Fail> {
+    let alloc = rt.alloc();
+    let system = split(alloc)?;
+    let is_none = or_cases(alloc, &system, 0)?.is_none();
+    assert!(rt; is_none);
+    match or_cases(alloc, &system, 2)? {
+        None => assert!(rt; false),
+        Some(found) => {
+            let names = names(alloc, &found)?;
+            assert_eq!(rt; names.as_str(), "case_1 case_2 ");
+            for case in &found {
+                assert_eq!(rt; case.system.formulas.len(), 3);
+                assert_eq!(rt; case.system.spent.len(), 1);
+                let is_left = case.system.formulas.iter().any(|f| is_disjunction(f));
+                assert!(rt; !is_left);
+            }
+        }
+    }
+    Ok(())
+}
+
+fn fact(alloc: Global, symbol: &str, persistent: bool, term: Term) -> Result<Fact, AllocError> {
+    let mut args = Vec::new(alloc);
+    args.push(term)?;
+    let symbol = Name::new(alloc, symbol)?;
+    Ok(Fact {
+        symbol,
+        persistent,
+        args,
+    })
+}
+
+// Concludes S('c'), !T(x), T(x) and T('c') of a message x.
+fn giver(alloc: Global, name: &str) -> Result<Rule, AllocError> {
+    let mut made = rule(alloc, name, Sort::Msg, Vec::new(alloc))?;
+    for (symbol, persistent, is_constant) in [
+        ("S", false, true),
+        ("T", true, false),
+        ("T", false, false),
+        ("T", false, true),
+    ] {
+        let term = if is_constant {
+            Term::Constant(Name::new(alloc, "c")?)
+        } else {
+            variable(Sort::Msg, 0)
+        };
+        let given = fact(alloc, symbol, persistent, term)?;
+        made.facts.conclusions.push(given)?;
+    }
+    Ok(made)
+}
+
+// A step at the time 5 with the premises Fr(~1), In(x), T(x) and T(x), of which the last one has a link.
+fn taking(alloc: Global) -> Result<System, AllocError> {
+    let mut made = system(alloc)?;
+    let mut taker = facts(alloc, Vec::new(alloc));
+    let name = variable(Sort::Fresh, 1);
+    taker.premises.push(fact(alloc, "Fr", false, name)?)?;
+    for symbol in ["In", "T", "T"] {
+        let premise = fact(alloc, symbol, false, variable(Sort::Msg, 0))?;
+        taker.premises.push(premise)?;
+    }
+    let rule = Name::new(alloc, "Take")?;
+    made.events.push(Event {
+        time: 5,
+        rule,
+        facts: taker,
+    })?;
+    made.links.push(Link {
+        from: 4,
+        conclusion: 0,
+        to: 5,
+        premise: 3,
+    })?;
+    Ok(made)
+}
+
+#[test]
+fn looks_for_each_giver(rt: HostRuntime) -> Result<(), Fail> {
+    let alloc = rt.alloc();
+    let mut rules = Vec::new(alloc);
+    rules.push(giver(alloc, "Give")?)?;
+    rules.push(rule(alloc, "Other", Sort::Msg, Vec::new(alloc))?)?;
+    let rules = RuleBook::new(alloc, rules)?;
+    let system = taking(alloc)?;
+    for place in [0, 1, 3, 4] {
+        let is_open = open_premise(&system, Premise { time: 5, place }).is_some();
+        assert!(rt; !is_open, "{place}");
+    }
+    match premise_cases(alloc, &rules, &system, Premise { time: 5, place: 2 })? {
+        None => assert!(rt; false),
+        Some(found) => {
+            let names = names(alloc, &found)?;
+            assert_eq!(rt; names.as_str(), "Give_case_1 Give_case_2 ");
+            for (case, conclusion) in found.iter().zip([2, 3]) {
+                // the giver is at the time 6, and its variable has the number 7
+                assert_eq!(rt; case.system.next, 8);
+                let link = Link {
+                    from: 6,
+                    conclusion,
+                    to: 5,
+                    premise: 2,
+                };
+                let is_linked = case.system.links.last() == Some(&link);
+                assert!(rt; is_linked);
+                let is_before = case.system.order.last() == Some(&(6, 5));
+                assert!(rt; is_before);
+            }
+        }
     }
     Ok(())
 }

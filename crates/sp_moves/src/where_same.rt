@@ -1,15 +1,44 @@
-// A system in which two actions are one.
+// A system in which two actions, or two facts, are one.
 
 ghost use Rattle.std.specs.Prelude.{◌≡◌, IfOk, map, option_map};
-ghost use Rattle.sp_fact.specs.View.{action_of};
-ghost use Rattle.sp_system.specs.SystemView.{system_of};
+ghost use Rattle.sp_term.specs.Bindings.{bindings};
+ghost use Rattle.sp_fact.specs.View.{action_of, fact_of};
+ghost use Rattle.sp_system.specs.Equating.{unifier_of};
+ghost use Rattle.sp_system.specs.Pairs as pairs;
+ghost use Rattle.sp_system.specs.SystemView.{pair_of, system_of};
 ghost use Rattle.sp_step.specs.Moves as spec;
 
-use sp_fact::fact::Action;
-use sp_system::pairing::action_pair;
+use sp_fact::fact::{Action, Fact};
+use sp_system::pairing::{action_pair, fact_pair};
 use sp_system::system::System;
+use sp_term::subst::Subst;
+use sp_term::term::Term;
 use sp_unify::unify::mgu;
 use std::alloc::{AllocError, Global};
+
+// The unifier of the pairs, if there are pairs and they have one.
+fn unifier_of(alloc: Global, pairs: Option<Vec<(Term, Term)>>) -> Result<Option<Subst>, AllocError>
+    ensures { IfOk result (λ o. option_map bindings o ≡ unifier_of (option_map (λ ps. map pair_of ps.items) pairs)) }
+{
+    let Some(pairs) = pairs else {
+        return Ok(None);
+    };
+    let subst = mgu(alloc, &pairs)?;
+    Ok(subst)
+}
+
+/// What makes the two facts the same, if they can be.
+///
+/// # Errors
+///
+/// `AllocError` where memory is wanting.
+pub fn fact_unifier(alloc: Global, left: &Fact, right: &Fact) -> Result<Option<Subst>, AllocError>
+    ensures { IfOk result (λ o. option_map bindings o ≡ unifier_of (pairs.fact_pair (fact_of left.now) (fact_of right.now))) }
+{
+    let pairs = fact_pair(alloc, left, right)?;
+    let subst = unifier_of(alloc, pairs)?;
+    Ok(subst)
+}
 
 /// The system in which the two actions are the same, if they can be.
 ///
@@ -24,10 +53,8 @@ pub fn where_same(
 ) -> Result<Option<System>, AllocError>
     ensures { IfOk result (λ o. option_map system_of o ≡ spec.where_same (system_of system.now) (action_of left.now) (action_of right.now)) }
 {
-    let Some(pairs) = action_pair(alloc, left, right)? else {
-        return Ok(None);
-    };
-    let Some(subst) = mgu(alloc, &pairs)? else {
+    let pairs = action_pair(alloc, left, right)?;
+    let Some(subst) = unifier_of(alloc, pairs)? else {
         return Ok(None);
     };
     let made = system.with_terms(alloc, &subst)?;

@@ -6,7 +6,7 @@ use Rattle.std.proofs.lemmas.Bool.{ne_eqb}
 use Rattle.sp_lex.specs.declared.token.Class.TheVariants as class
 use Rattle.sp_lex.specs.Lexeme.{Lexeme, word, solve, Token}
 use Rattle.sp_lex.specs.Lex.{is_blank, is_in, is_first, is_digit, skip, nothing, past, gap, no_gap, gap_then, token, piece, is_end, is_solve, Reads, plain, goal, to_closing, closed_by, solve_piece, IsNext, AreTokens, no_more, last, next, lexemes}
-use Rattle.sp_skel.specs.Spelling.{IsWord}
+use Rattle.sp_skel.specs.Spelling.{IsWord, premise_goal}
 use Rattle.sp_skel.specs.MoveTexts.{are_digits}
 use Rattle.sp_skel.proofs.Decimals.{before_rest, and_left, and_right, least, is_other, decimal_are_digits}
 
@@ -126,29 +126,58 @@ closing_action : (bytes : List ℕ) → to_closing false 0 (codes " action " ++ 
 unfolding to_closing
 closing_action bytes = refl
 
+closing_or : (bytes : List ℕ) → to_closing false 0 (codes " or " ++ bytes) ≡ to_closing false 0 bytes
+unfolding to_closing
+closing_or bytes = refl
+
+closing_premise : (bytes : List ℕ) → to_closing false 0 (codes " premise " ++ bytes) ≡ to_closing false 0 bytes
+unfolding to_closing
+closing_premise bytes = refl
+
+closing_space : (bytes : List ℕ) → to_closing false 0 (32 ∷ bytes) ≡ to_closing false 0 bytes
+unfolding to_closing
+closing_space bytes = refl
+
 closing_end : (bytes : List ℕ) → to_closing false 0 (32 ∷ 41 ∷ bytes) ≡ Some (41 ∷ bytes)
 unfolding to_closing
 closing_end bytes = refl
 
-abbrev pub action_goal : ℕ → List ℕ
-action_goal k = codes " action " ++ (decimal k ++ codes " ")
+-- what stands inside the brackets is closed by the one behind it
+abbrev pub Closes : List ℕ → Type 0
+Closes inside = (rest : List ℕ) → to_closing false 0 (inside ++ 41 ∷ rest) ≡ Some (41 ∷ rest)
 
-closing_goal : (k : ℕ) (rest : List ℕ) → k < 2 ^ 64 → to_closing false 0 (action_goal k ++ 41 ∷ rest) ≡ Some (41 ∷ rest)
-closing_goal k rest h =
-    ap (λ (bytes : List ℕ). to_closing false 0 (codes " action " ++ bytes)) (append_assoc (decimal k) (codes " ") (41 ∷ rest))
-    ∙ closing_action (decimal k ++ 32 ∷ 41 ∷ rest) ∙ closing_digits (decimal k) (32 ∷ 41 ∷ rest) (decimal_are_digits k h) ∙ closing_end rest
+-- words, digits and a space
+closes_behind : (words : List ℕ) → ((bytes : List ℕ) → to_closing false 0 (words ++ bytes) ≡ to_closing false 0 bytes) → (k : ℕ) → k < 2 ^ 128 → Closes (words ++ (decimal k ++ codes " "))
+closes_behind words passes k h rest =
+    ap (to_closing false 0) (append_assoc words (decimal k ++ codes " ") (41 ∷ rest) ∙ ap (λ (bytes : List ℕ). words ++ bytes) (append_assoc (decimal k) (codes " ") (41 ∷ rest)))
+    ∙ passes (decimal k ++ 32 ∷ 41 ∷ rest) ∙ closing_digits (decimal k) (32 ∷ 41 ∷ rest) (decimal_are_digits k h) ∙ closing_end rest
 
-solve_goal : (k : ℕ) (rest : List ℕ) → k < 2 ^ 64 → solve_piece (action_goal k ++ 41 ∷ rest) ≡ token (solve (action_goal k)) rest
-solve_goal k rest h =
-    ap (closed_by (action_goal k ++ 41 ∷ rest)) (closing_goal k rest h) ∙ ap (λ (xs : List ℕ). token (solve xs) rest) (before_rest (action_goal k) (41 ∷ rest))
+pub closes_action : (k : ℕ) → k < 2 ^ 64 → Closes (codes " action " ++ (decimal k ++ codes " "))
+closes_action k h = closes_behind (codes " action ") closing_action k (omega arith)
+
+pub closes_or : (k : ℕ) → k < 2 ^ 64 → Closes (codes " or " ++ (decimal k ++ codes " "))
+closes_or k h = closes_behind (codes " or ") closing_or k (omega arith)
+
+pub closes_premise : (i p : ℕ) → i < 2 ^ 128 → p < 2 ^ 64 → Closes (premise_goal i p)
+closes_premise i p h k rest =
+    let words = codes " premise " ++ (decimal i ++ codes " ") in
+    let passes : (bytes : List ℕ) → to_closing false 0 (words ++ bytes) ≡ to_closing false 0 bytes = λ bytes.
+    ap (λ (xs : List ℕ). to_closing false 0 (codes " premise " ++ xs)) (append_assoc (decimal i) (codes " ") bytes)
+    ∙ closing_premise (decimal i ++ 32 ∷ bytes) ∙ closing_digits (decimal i) (32 ∷ bytes) (decimal_are_digits i h) ∙ closing_space bytes in
+    let joined : premise_goal i p ≡ words ++ (decimal p ++ codes " ") = ap (λ (xs : List ℕ). codes " premise " ++ xs) (sym (append_assoc (decimal i) (codes " ") (decimal p ++ codes " "))) in
+    ap (λ (inside : List ℕ). to_closing false 0 (inside ++ 41 ∷ rest)) joined ∙ closes_behind words passes p (omega arith) rest
+
+solve_goal : (inside rest : List ℕ) → Closes inside → solve_piece (inside ++ 41 ∷ rest) ≡ token (solve inside) rest
+solve_goal inside rest closes =
+    ap (closed_by (inside ++ 41 ∷ rest)) (closes rest) ∙ ap (λ (xs : List ℕ). token (solve xs) rest) (before_rest inside (41 ∷ rest))
 
 is_word_solve : IsWord (codes "solve")
 unfolding skip
 is_word_solve = (refl, refl)
 
-pub lexes_goal : {size : ℕ} {xs : List Lexeme} (k : ℕ) (rest : List ℕ) → k < 2 ^ 64 → Lexes size rest xs → Lexes size (codes "solve" ++ 40 ∷ (action_goal k ++ 41 ∷ rest)) (solve (action_goal k) ∷ xs)
-lexes_goal k rest h l =
-    let inside = action_goal k ++ 41 ∷ rest in
-    lexes_token (codes "solve" ++ 40 ∷ inside) rest (gap_word 115 (codes "olve" ++ 40 ∷ inside) refl)
-    (goal (piece_word (codes "solve") 40 inside is_word_solve bracket_ends) refl (no_gap (gap_bracket inside)) (solve_goal k rest h)) refl
-    (omega (arith, length-append (action_goal k) (41 ∷ rest))) l
+pub lexes_goal : {size : ℕ} {xs : List Lexeme} (inside rest : List ℕ) → Closes inside → Lexes size rest xs → Lexes size (codes "solve" ++ 40 ∷ (inside ++ 41 ∷ rest)) (solve inside ∷ xs)
+lexes_goal inside rest closes l =
+    let all = inside ++ 41 ∷ rest in
+    lexes_token (codes "solve" ++ 40 ∷ all) rest (gap_word 115 (codes "olve" ++ 40 ∷ all) refl)
+    (goal (piece_word (codes "solve") 40 all is_word_solve bracket_ends) refl (no_gap (gap_bracket all)) (solve_goal inside rest closes)) refl
+    (omega (arith, length-append inside (41 ∷ rest))) l

@@ -71,6 +71,13 @@ case_digits ds = refl
 at_word : (ds : List ℕ) → are_digits ds ≡ true → IsWord (codes "at_" ++ ds)
 at_word ds h = (refl, at_digits ds ∙ skip_digits ds h)
 
+part_digits : (ds : List ℕ) → skip class.Word (codes "ase_" ++ ds) ≡ skip class.Word ds
+unfolding skip
+part_digits ds = refl
+
+part_word : (ds : List ℕ) → are_digits ds ≡ true → IsWord (codes "case_" ++ ds)
+part_word ds h = (refl, part_digits ds ∙ skip_digits ds h)
+
 case_word : (n ds : List ℕ) → IsWord n → are_digits ds ≡ true → IsWord (n ++ (codes "_case_" ++ ds))
 case_word [] ds h d = absurd h
 case_word (c ∷ w) ds h d = (h.0, skip_onto w (codes "_case_" ++ ds) h.1 refl ∙ case_digits ds ∙ skip_digits ds d)
@@ -110,6 +117,9 @@ named_behind w rest =
 
 pub at_named : (n : ℕ) → IsName (codes "at_" ++ decimal n) × IsWord (codes "at_" ++ decimal n)
 at_named n = (named_behind (codes "at") (decimal n), at_word (decimal n) (all_digits n))
+
+pub part_named : (n : ℕ) → IsName (codes "case_" ++ decimal n) × IsWord (codes "case_" ++ decimal n)
+part_named n = (named_behind (codes "case") (decimal n), part_word (decimal n) (all_digits n))
 
 pub case_named : (name : List ℕ) (k : ℕ) → IsWord name → IsName (name ++ (codes "_case_" ++ decimal k)) × IsWord (name ++ (codes "_case_" ++ decimal k))
 case_named name k h = (named_behind name (codes "case_" ++ decimal k), case_word name (decimal k) h (all_digits k))

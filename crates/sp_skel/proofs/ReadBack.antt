@@ -5,14 +5,14 @@ use Rattle.std.specs.Str.{bytes_eq}
 use Rattle.sp_lex.specs.Lexeme.{Lexeme, word, Token}
 use Rattle.sp_lex.specs.Lex.{is_end, is_solve, skip, AreTokens, lexemes}
 use Rattle.sp_read_parts.specs.Names.{is_reserved, IsName}
-use Rattle.sp_step.specs.Moves.{Move, simplify, contradiction, unproved, solved, action}
+use Rattle.sp_step.specs.Moves.{Move, simplify, contradiction, unproved, solved, or, action, premise}
 use Rattle.sp_check.specs.Tree.{Tree, node, Branches, no_branch, branch}
 use Rattle.sp_text.specs.TreeText.{indent, line, move_text, leading, tree_text, cases_text}
 use Rattle.sp_read_proof.specs.Grammar.{SpellsProof}
 use Rattle.sp_skel.specs.Laws.{ReadsBack}
 use Rattle.sp_text.specs.Places.{HasPlace}
-use Rattle.sp_skel.specs.Spelling.{IsWord, move_spelled, behind_by, spelled, cases_spelled, as_written, IsReadable, AreReadable}
-use Rattle.sp_skel.proofs.Blanks.{Lexes, lexes_blank, space, line_end, lexes_word, lexes_goal}
+use Rattle.sp_skel.specs.Spelling.{IsWord, premise_goal, move_spelled, behind_by, spelled, cases_spelled, as_written, IsReadable, AreReadable}
+use Rattle.sp_skel.proofs.Blanks.{Lexes, lexes_blank, space, line_end, lexes_word, closes_action, closes_or, closes_premise, lexes_goal}
 use Rattle.sp_skel.proofs.Spelled.{HaveCase, tree_spells, tree_says}
 
 lexes_at : {size : ℕ} {bytes others : List ℕ} {xs : List Lexeme} → bytes ≡ others → Lexes size others xs → Lexes size bytes xs
@@ -76,14 +76,26 @@ word_qed : IsWord (codes "qed")
 unfolding skip
 word_qed = (refl, refl)
 
+-- the bracket and the line's end stand behind the premise's place
+premise_ends : (i p : ℕ) (rest : List ℕ) → (decimal i ++ (codes " " ++ (decimal p ++ codes " )"))) ++ 10 ∷ rest ≡ (decimal i ++ (codes " " ++ (decimal p ++ codes " "))) ++ 41 ∷ 10 ∷ rest
+premise_ends i p rest =
+    append_assoc (decimal i) (32 ∷ (decimal p ++ codes " )")) (10 ∷ rest)
+    ∙ ap (λ (bytes : List ℕ). decimal i ++ 32 ∷ bytes) (append_assoc (decimal p) (codes " )") (10 ∷ rest) ∙ sym (append_assoc (decimal p) (codes " ") (41 ∷ 10 ∷ rest)))
+    ∙ sym (append_assoc (decimal i) (32 ∷ (decimal p ++ codes " ")) (41 ∷ 10 ∷ rest))
+
 lexes_move : {size : ℕ} {xs : List Lexeme} (m : Move) (rest : List ℕ) → HasPlace m → Lexes size (10 ∷ rest) xs → Lexes size (move_text m ++ 10 ∷ rest) (move_spelled m ∷ xs)
 lexes_move simplify rest h l = lexes_word (codes "simplify") 10 rest word_simplify line_end refl refl l
 lexes_move contradiction rest h l = lexes_word (codes "contradiction") 10 rest word_contradiction line_end refl refl l
 lexes_move unproved rest h l = lexes_word (codes "sorry") 10 rest word_sorry line_end refl refl l
 lexes_move solved rest h l = lexes_word (codes "SOLVED") 10 rest word_solved line_end refl refl l
+lexes_move (or k) rest h l =
+    lexes_at (ap (λ (bytes : List ℕ). codes "solve( or " ++ bytes) (append_assoc (decimal k) (codes " )") (10 ∷ rest) ∙ sym (append_assoc (decimal k) (codes " ") (41 ∷ 10 ∷ rest))))
+    (lexes_goal (codes " or " ++ (decimal k ++ codes " ")) (10 ∷ rest) (closes_or k h) l)
 lexes_move (action k) rest h l =
     lexes_at (ap (λ (bytes : List ℕ). codes "solve( action " ++ bytes) (append_assoc (decimal k) (codes " )") (10 ∷ rest) ∙ sym (append_assoc (decimal k) (codes " ") (41 ∷ 10 ∷ rest))))
-    (lexes_goal k (10 ∷ rest) h l)
+    (lexes_goal (codes " action " ++ (decimal k ++ codes " ")) (10 ∷ rest) (closes_action k h) l)
+lexes_move (premise i p) rest h l =
+    lexes_at (ap (λ (bytes : List ℕ). codes "solve( premise " ++ bytes) (premise_ends i p rest)) (lexes_goal (premise_goal i p) (10 ∷ rest) (closes_premise i p h.0 h.1) l)
 
 lexes_by : {size : ℕ} {xs : List Lexeme} (m : Move) (rest : List ℕ) → HasPlace m → Lexes size (10 ∷ rest) xs → Lexes size ((codes "by " ++ move_text m) ++ 10 ∷ rest) (word (codes "by") ∷ move_spelled m ∷ xs)
 lexes_by m rest h l = lexes_word (codes "by") 32 (move_text m ++ 10 ∷ rest) word_by space refl refl (lexes_blank 32 refl (lexes_move m rest h l))
@@ -94,7 +106,9 @@ lexes_leaf simplify rest h l = lexes_by simplify rest h l
 lexes_leaf contradiction rest h l = lexes_by contradiction rest h l
 lexes_leaf unproved rest h l = lexes_by unproved rest h l
 lexes_leaf solved rest h l = lexes_move solved rest h l
+lexes_leaf (or k) rest h l = lexes_by (or k) rest h l
 lexes_leaf (action k) rest h l = lexes_by (action k) rest h l
+lexes_leaf (premise i p) rest h l = lexes_by (premise i p) rest h l
 
 lexes_case : {size : ℕ} {xs : List Lexeme} (n rest : List ℕ) → IsName n → IsWord n → Lexes size (10 ∷ rest) xs → Lexes size ((codes "case " ++ n) ++ 10 ∷ rest) (word (codes "case") ∷ word n ∷ xs)
 lexes_case n rest h w l =

@@ -2,12 +2,12 @@
 use Rattle.std.proofs.Common.{◌≡◌, ℕ, suc, Bool, true, false, if◌then◌else◌, List, [], ◌∷◌, ◌++◌, codes, map, Option, Some, None, option_map, refl, sym, ap, subst, ◌∙◌, ◌⊎◌, inl, inr}
 use Rattle.std.specs.Prelude.{decimal, is_some, slice_get}
 use Rattle.sp_spec.specs.Term.{Variable}
-use Rattle.sp_spec.specs.Rule.{Action, Rule}
-use Rattle.sp_spec.specs.Guarded.{Guarded}
+use Rattle.sp_spec.specs.Rule.{Fact, Action, Rule}
+use Rattle.sp_spec.specs.Guarded.{Guarded, Guardeds, no_more, and_then}
 use Rattle.sp_spec.specs.Log.{Log}
 use Rattle.sp_system.specs.System.{System, Event}
-use Rattle.sp_step.specs.Rows.{happening_actions, rows, by_rows, is_contradictory}
-use Rattle.sp_step.specs.Moves.{Move, simplify, contradiction, unproved, solved, action, Context, Case, where_same, case_if, at_event, renamed, with_step, by_actions, numbered, named, by_each, event_at, action_cases, solving_action, raw_cases, simple_case, cases}
+use Rattle.sp_step.specs.Rows.{Found, spending, event_at, happening_actions, rows, by_rows, is_contradictory}
+use Rattle.sp_step.specs.Moves.{Move, simplify, contradiction, unproved, solved, or, action, premise, Context, Case, where_same, case_if, at_event, renamed, with_step, by_actions, numbered, named, by_each, by_part, disjunction_at, or_cases, with_giver, by_conclusions, by_each_giver, open_premise, premise_cases, action_cases, solving_action, raw_cases, simple_case, cases}
 use Rattle.sp_check.specs.Tree.{Tree, node, Branches, no_branch, branch, IsAccepted, AreAccepted}
 use Rattle.sp_check.specs.Growth.{grown_tree}
 use Rattle.sp_check.proofs.Growing.{grown_tree_accepted}
@@ -16,7 +16,7 @@ use Rattle.sp_moves.proofs.ByAction.{sought_cases, solves}
 use Rattle.sp_read_parts.specs.Names.{IsName}
 use Rattle.sp_text.specs.Places.{HasPlace, HavePlaces, AllHavePlaces}
 use Rattle.sp_skel.specs.Spelling.{IsWord, IsReadable, AreReadable, MayHaveCases, AreNamed}
-use Rattle.sp_skel.proofs.CaseNames.{at_named, case_named}
+use Rattle.sp_skel.proofs.CaseNames.{at_named, part_named, case_named}
 
 -- ---- cases with names
 
@@ -52,6 +52,16 @@ each_named (r ∷ rules) s i a h =
     let made = by_actions (with_step s i r) a (renamed s.next r.facts).actions in
     named_append (named r.name made) (by_each rules s i a) (rule_named r.name made h.0 h.1) (each_named rules s i a h.2)
 
+part_cases_named : (s : System) (r : Found Guardeds) (k : ℕ) (fs : Guardeds) → CasesNamed (by_part s r k fs)
+part_cases_named s r k no_more = tt
+part_cases_named s r k (and_then f fs) = let n = part_named k in (n.0, n.1, part_cases_named s r (suc k) fs)
+
+givers_named : (rules : List Rule) (s : System) (i p : ℕ) (f : Fact Variable) → AreNamed rules → CasesNamed (by_each_giver rules s i p f)
+givers_named [] s i p f h = tt
+givers_named (r ∷ rules) s i p f h =
+    let made = by_conclusions s i p f r 0 (renamed (suc s.next) r.facts).conclusions in
+    named_append (named r.name made) (by_each_giver rules s i p f) (rule_named r.name made h.0 h.1) (givers_named rules s i p f h.2)
+
 action_named : (rules : List Rule) (s : System) (i : ℕ) (a : Action Variable) (o : Option Event) → AreNamed rules → CasesNamed (action_cases rules s i a o)
 action_named rules s i a (Some e) h = event_named s a 0 (happening_actions e.happening)
 action_named rules s i a None h = each_named rules s i a h
@@ -79,6 +89,14 @@ solving_fine : (rules : List Rule) (s : System) (o : Option Guarded) (cs : List 
 solving_fine rules s None cs h e = absurd (let none : ⊥ = cc in none)
 solving_fine rules s (Some f) cs h e = sought_fine rules s (sought f) cs h (rw (solves rules s f) at e)
 
+or_fine : (s : System) (o : Option (Found Guardeds)) (cs : List Case) → or_cases s o ≡ Some cs → Fine cs
+or_fine s None cs e = absurd (let none : ⊥ = cc in none)
+or_fine s (Some r) cs e = let f : by_part s r 1 r.picked ≡ cs = cc in inl (subst CasesNamed f (part_cases_named s r 1 r.picked))
+
+premise_fine : (rules : List Rule) (s : System) (i p : ℕ) (o : Option (Fact Variable)) (cs : List Case) → AreNamed rules → premise_cases rules s i p o ≡ Some cs → Fine cs
+premise_fine rules s i p None cs h e = absurd (let none : ⊥ = cc in none)
+premise_fine rules s i p (Some f) cs h e = let g : by_each_giver rules s i p f ≡ cs = cc in inl (subst CasesNamed g (givers_named rules s i p f h))
+
 raw_fine : (context : Context) (s : System) (move : Move) (cs : List Case) → AreNamed context.rules → raw_cases context s move ≡ Some cs → Fine cs
 raw_fine context s simplify cs h e = at (is_some (by_rows rows s)) e
   where
@@ -96,6 +114,8 @@ raw_fine context s solved cs h e = at (is_some (context.found s)) e
     at : (b : Bool) → (if b then Some [] else None) ≡ Some cs → Fine cs
     at true e = fine_nothing cs (let f : [] ≡ cs = cc in f)
     at false e = absurd (let none : ⊥ = cc in none)
+raw_fine context s (or k) cs h e = or_fine s (disjunction_at k s.formulas) cs e
+raw_fine context s (premise i p) cs h e = premise_fine context.rules s i p (open_premise s i p) cs h e
 raw_fine context s (action k) cs h e = solving_fine context.rules s (slice_get s.formulas k) cs h e
 
 simple_named : (cs : List Case) → CasesNamed cs → CasesNamed (map simple_case cs)
@@ -156,7 +176,9 @@ mutual
   tree_readable context s (node simplify bs) n p h = node_fine context simplify bs (cases context s simplify) (λ cs e. move_fine context s simplify cs n e) p.0 tt h (trees_readable context (cases context s simplify) bs n p.1 h)
   tree_readable context s (node contradiction bs) n p h = node_fine context contradiction bs (cases context s contradiction) (λ cs e. move_fine context s contradiction cs n e) p.0 tt h (trees_readable context (cases context s contradiction) bs n p.1 h)
   tree_readable context s (node unproved bs) n p h = node_fine context unproved bs (cases context s unproved) (λ cs e. move_fine context s unproved cs n e) p.0 tt h (trees_readable context (cases context s unproved) bs n p.1 h)
+  tree_readable context s (node (or k) bs) n p h = node_fine context (or k) bs (cases context s (or k)) (λ cs e. move_fine context s (or k) cs n e) p.0 tt h (trees_readable context (cases context s (or k)) bs n p.1 h)
   tree_readable context s (node (action k) bs) n p h = node_fine context (action k) bs (cases context s (action k)) (λ cs e. move_fine context s (action k) cs n e) p.0 tt h (trees_readable context (cases context s (action k)) bs n p.1 h)
+  tree_readable context s (node (premise i k) bs) n p h = node_fine context (premise i k) bs (cases context s (premise i k)) (λ cs e. move_fine context s (premise i k) cs n e) p.0 tt h (trees_readable context (cases context s (premise i k)) bs n p.1 h)
 
   trees_readable : (context : Context) (o : Option (List Case)) (bs : Branches) → AreNamed context.rules → AllHavePlaces bs → AreAccepted context o bs → TreesReadable bs
   trees_readable context None bs n p h = absurd h

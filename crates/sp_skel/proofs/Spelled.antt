@@ -1,7 +1,7 @@
 -- The lexemes of a tree's text spell a proof, and the proof says the tree.
 use Rattle.std.proofs.Common.{◌≡◌, true, List, [], ◌∷◌, Some, codes, refl}
 use Rattle.sp_lex.specs.Lexeme.{Lexeme, word}
-use Rattle.sp_step.specs.Moves.{Move, simplify, contradiction, unproved, solved, action}
+use Rattle.sp_step.specs.Moves.{Move, simplify, contradiction, unproved, solved, or, action, premise}
 use Rattle.sp_check.specs.Tree.{Tree, node, Branches, no_branch, branch}
 use Rattle.sp_judge.specs.Skeleton.{known, tree_of, branches_of}
 use Rattle.sp_read_proof.specs.Grammar as grammar
@@ -9,7 +9,7 @@ use Rattle.sp_read_proof.specs.Grammar.{is_method, SpellsMethod, by_word, by_goa
 use Rattle.sp_skel.specs.Steps.{step_of_word, step_said, skeleton, branches}
 use Rattle.sp_text.specs.Places.{HasPlace}
 use Rattle.sp_skel.specs.Spelling.{move_spelled, spelled, cases_spelled, move_said, as_written, all_as_written, MayHaveCases, IsReadable, AreReadable}
-use Rattle.sp_skel.proofs.Decimals.{goal_text}
+use Rattle.sp_skel.proofs.Decimals.{or_goal_says, action_goal_says, premise_goal_says}
 
 -- ---- moves
 
@@ -30,14 +30,18 @@ move_spells simplify h rest = by_word method_simplify
 move_spells contradiction h rest = by_word method_contradiction
 move_spells unproved h rest = by_word method_sorry
 move_spells solved h rest = absurd h
+move_spells (or k) h rest = by_goal
 move_spells (action k) h rest = by_goal
+move_spells (premise i p) h rest = by_goal
 
 leaf_spells : (m : Move) (rest : List Lexeme) → SpellsProof (spelled (node m no_branch) rest) (as_written (node m no_branch)) rest
 leaf_spells simplify rest = by_method (move_spells simplify tt rest)
 leaf_spells contradiction rest = by_method (move_spells contradiction tt rest)
 leaf_spells unproved rest = by_method (move_spells unproved tt rest)
 leaf_spells solved rest = grammar.solved
+leaf_spells (or k) rest = by_method (move_spells (or k) tt rest)
 leaf_spells (action k) rest = by_method (move_spells (action k) tt rest)
+leaf_spells (premise i p) rest = by_method (move_spells (premise i p) tt rest)
 
 says_simplify : step_of_word (codes "simplify") ≡ known simplify
 unfolding step_of_word
@@ -60,7 +64,9 @@ move_says simplify h = says_simplify
 move_says contradiction h = says_contradiction
 move_says unproved h = says_sorry
 move_says solved h = says_solved
-move_says (action k) h = goal_text k h
+move_says (or k) h = or_goal_says k h
+move_says (action k) h = action_goal_says k h
+move_says (premise i p) h = premise_goal_says i p h.0 h.1
 
 -- ---- trees
 

@@ -1,6 +1,6 @@
 -- The texts of moves as they stand between the brackets of `solve( )`: a word, and what it needs, with one space between two of them.
 -- Blanks around are no part of a text. Source: Tamarin manual, "Proofs" (goals are written in `solve( )`); the words are this project's own.
-use Rattle.std.specs.Prelude.{ℕ, ◌+◌, ◌-◌, ◌*◌, ◌^◌, Bool, true, false, not, ◌&&◌, ◌||◌, ◌==◌, nat_lt, if◌then◌else◌, List, [], ◌∷◌, reverse, Option, Some, None, is_some, codes}
+use Rattle.std.specs.Prelude.{ℕ, ◌+◌, ◌-◌, ◌*◌, ◌^◌, Bool, true, false, not, ◌&&◌, ◌||◌, ◌==◌, nat_lt, if◌then◌else◌, List, [], ◌∷◌, reverse, Option, Some, None, is_some, option_map, option_and_then, codes}
 use Rattle.std.specs.Str.{bytes_eq}
 use Rattle.sp_lex.specs.Lex.{is_blank, is_digit, is_constant_byte, before}
 
@@ -91,9 +91,9 @@ abbrev pub only_number : Option (List ℕ) → Option ℕ
 only_number None = None
 only_number (Some text) = if is_some (other_words text) then None else number_of (first_word text)
 
-abbrev pub are_two_numbers : Option (List ℕ) → Bool
-are_two_numbers None = false
-are_two_numbers (Some text) = is_number (first_word text) && is_some (only_number (other_words text))
+abbrev pub two_numbers : Option (List ℕ) → Option (ℕ × ℕ)
+two_numbers None = None
+two_numbers (Some text) = option_and_then (λ i. option_map (λ p. (i, p)) (only_number (other_words text))) (number_of (first_word text))
 
 abbrev pub is_last : (List ℕ → Bool) → Option (List ℕ) → Bool
 is_last p None = false
@@ -113,7 +113,7 @@ are_sides (Some text) =
 unfoldable pub is_unbuilt : List ℕ → Option (List ℕ) → Bool
 is_unbuilt word others =
     if bytes_eq word (codes "more") || bytes_eq word (codes "finish") then not (is_some others)
-    else if bytes_eq word (codes "or") || bytes_eq word (codes "know") || bytes_eq word (codes "chain") || bytes_eq word (codes "source") || bytes_eq word (codes "top") then is_some (only_number others)
-    else if bytes_eq word (codes "premise") || bytes_eq word (codes "compare") then are_two_numbers others
+    else if bytes_eq word (codes "know") || bytes_eq word (codes "chain") || bytes_eq word (codes "source") || bytes_eq word (codes "top") then is_some (only_number others)
+    else if bytes_eq word (codes "compare") then is_some (two_numbers others)
     else if bytes_eq word (codes "same") then are_sides others
     else false

@@ -5,18 +5,24 @@ use Rattle.std.specs.Char.{is_ascii_alphanumeric}
 use Rattle.sp_lex.specs.Lex.{skip}
 use Rattle.sp_lex.specs.Lexeme.{Lexeme, word, solve}
 use Rattle.sp_read_parts.specs.Names.{IsName}
-use Rattle.sp_step.specs.Moves.{Move, simplify, contradiction, unproved, solved, action}
+use Rattle.sp_step.specs.Moves.{Move, simplify, contradiction, unproved, solved, or, action, premise}
 use Rattle.sp_spec.specs.Rule.{Rule}
 use Rattle.sp_check.specs.Tree.{Tree, node, Branches, no_branch, branch}
 use Rattle.sp_text.specs.Places.{HasPlace}
 use Rattle.sp_written.specs.Text.{Method, said, goal, WrittenProof, step, WrittenCases, no_case, then_case}
+
+-- what stands between the brackets for a premise
+abbrev pub premise_goal : ℕ → ℕ → List ℕ
+premise_goal i p = codes " premise " ++ (decimal i ++ (codes " " ++ (decimal p ++ codes " ")))
 
 abbrev pub move_spelled : Move → Lexeme
 move_spelled simplify = word (codes "simplify")
 move_spelled contradiction = word (codes "contradiction")
 move_spelled unproved = word (codes "sorry")
 move_spelled solved = word (codes "SOLVED")
+move_spelled (or k) = solve (codes " or " ++ (decimal k ++ codes " "))
 move_spelled (action k) = solve (codes " action " ++ (decimal k ++ codes " "))
+move_spelled (premise i p) = solve (premise_goal i p)
 
 -- behind the word before a move without cases: the end of the search stands alone
 abbrev pub behind_by : Move → List Lexeme → List Lexeme
@@ -40,7 +46,9 @@ move_said simplify = said (codes "simplify")
 move_said contradiction = said (codes "contradiction")
 move_said unproved = said (codes "sorry")
 move_said solved = said (codes "SOLVED")
+move_said (or k) = goal (codes " or " ++ (decimal k ++ codes " "))
 move_said (action k) = goal (codes " action " ++ (decimal k ++ codes " "))
+move_said (premise i p) = goal (premise_goal i p)
 
 -- the tree as it is written
 abbrev mutual

@@ -1,10 +1,10 @@
 -- What the methods of a proof say. Source: Tamarin manual, "Proofs".
 use Rattle.std.specs.Prelude.{ℕ, ◌^◌, nat_lt, if◌then◌else◌, List, Option, Some, None, codes}
 use Rattle.std.specs.Str.{bytes_eq}
-use Rattle.sp_step.specs.Moves.{simplify, contradiction, unproved, solved, action}
+use Rattle.sp_step.specs.Moves.{Move, simplify, contradiction, unproved, solved, or, action, premise}
 use Rattle.sp_written.specs.Text.{Method, said, goal, WrittenProof, step, WrittenCases, no_case, then_case}
 use Rattle.sp_judge.specs.Skeleton.{Step, known, unbuilt, unknown, Skeleton, node_read, BranchesRead, none_read, branch_read}
-use Rattle.sp_skel.specs.MoveTexts.{trimmed, first_word, other_words, only_number, is_unbuilt}
+use Rattle.sp_skel.specs.MoveTexts.{trimmed, first_word, other_words, only_number, two_numbers, is_unbuilt}
 
 -- what a word says
 unfoldable pub step_of_word : List ℕ → Step
@@ -16,14 +16,20 @@ step_of_word w =
     else if bytes_eq w (codes "induction") then unbuilt w
     else unknown w
 
--- At a place beyond those of lists there is no formula, and so no instance.
-abbrev pub action_step : List ℕ → Option ℕ → Step
-action_step text None = unknown text
-action_step text (Some k) = if nat_lt k (2 ^ 64) then known (action k) else unbuilt text
+-- At a place beyond those of lists there is no formula and no premise, and so no instance.
+abbrev pub formula_step : (ℕ → Move) → List ℕ → Option ℕ → Step
+formula_step move text None = unknown text
+formula_step move text (Some k) = if nat_lt k (2 ^ 64) then known (move k) else unbuilt text
+
+abbrev pub premise_step : List ℕ → Option (ℕ × ℕ) → Step
+premise_step text None = unknown text
+premise_step text (Some x) = if nat_lt x.1 (2 ^ 64) then known (premise x.0 x.1) else unbuilt text
 
 unfoldable pub trimmed_step : List ℕ → Step
 trimmed_step text =
-    if bytes_eq (first_word text) (codes "action") then action_step text (only_number (other_words text))
+    if bytes_eq (first_word text) (codes "action") then formula_step action text (only_number (other_words text))
+    else if bytes_eq (first_word text) (codes "or") then formula_step or text (only_number (other_words text))
+    else if bytes_eq (first_word text) (codes "premise") then premise_step text (two_numbers (other_words text))
     else if is_unbuilt (first_word text) (other_words text) then unbuilt text
     else unknown text
 

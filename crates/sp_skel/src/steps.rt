@@ -1,12 +1,14 @@
 // What the methods of a proof say.
 
-ghost use Rattle.std.specs.Prelude.{◌≡◌, IfOk, MatchOption};
+ghost use Rattle.std.specs.Prelude.{◌≡◌, ◌^◌, IfOk, MatchOption, Some, None, if◌then◌else◌, nat_lt};
+ghost use Rattle.sp_step.specs.Moves as moves;
 ghost use Rattle.sp_written.specs.Views as view;
 ghost use Rattle.sp_judge.specs.View.{step_of};
 ghost use Rattle.sp_skel.specs.Steps as spec;
 
-use crate::texts::{first_word, is, is_unbuilt, only_number, other_words, trimmed};
+use crate::texts::{first_word, is, is_unbuilt, only_number, other_words, trimmed, two_numbers};
 use sp_judge::Step;
+use sp_moves::giver::Premise;
 use sp_moves::moves::Move;
 use sp_written::Method;
 use std::alloc::{AllocError, Global};
@@ -33,23 +35,52 @@ fn step_of_word(alloc: Global, word: &str) -> Result<Step, AllocError>
     }
 }
 
-/// The move that looks for the action at this place.
-fn action_step(alloc: Global, text: &[u8], place: Option<u128>) -> Result<Step, AllocError>
-    ensures { IfOk result (λ x. step_of x ≡ spec.action_step text.now place) }
+// The place of a list that a number is, if it is one.
+fn place(number: u128) -> Option<usize>
+    ensures { result ≡ (if nat_lt number (2 ^ 64) then Some number else None) }
 {
-    match place {
-        Some(number) => {
-            if number < 1 << 64 {
-                Ok(Step::Known(Move::Action(number as usize)))
-            } else {
-                let text = text.to_vec(alloc)?;
-                Ok(Step::Unbuilt(text))
-            }
-        }
-        None => {
-            let text = text.to_vec(alloc)?;
-            Ok(Step::Unknown(text))
-        }
+    if number < 1 << 64 {
+        Some(number as usize)
+    } else {
+        None
+    }
+}
+
+/// The move on the formula at this place.
+fn formula_step(
+    alloc: Global,
+    text: &[u8],
+    number: Option<u128>,
+    splits: bool,
+) -> Result<Step, AllocError>
+    ensures { IfOk result (λ x. step_of x ≡ spec.formula_step (if splits then moves.or else moves.action) text.now number) }
+{
+    let text = text.to_vec(alloc)?;
+    let Some(number) = number else {
+        return Ok(Step::Unknown(text));
+    };
+    match place(number) {
+        Some(place) if splits => Ok(Step::Known(Move::Or(place))),
+        Some(place) => Ok(Step::Known(Move::Action(place))),
+        None => Ok(Step::Unbuilt(text)),
+    }
+}
+
+/// The move on the premise of this time and place.
+fn premise_step(
+    alloc: Global,
+    text: &[u8],
+    numbers: Option<(u128, u128)>,
+) -> Result<Step, AllocError>
+    ensures { IfOk result (λ x. step_of x ≡ spec.premise_step text.now numbers) }
+{
+    let text = text.to_vec(alloc)?;
+    let Some((time, number)) = numbers else {
+        return Ok(Step::Unknown(text));
+    };
+    match place(number) {
+        Some(place) => Ok(Step::Known(Move::Premise(Premise { time, place }))),
+        None => Ok(Step::Unbuilt(text)),
     }
 }
 
@@ -62,7 +93,13 @@ fn step_of_text(alloc: Global, text: &[u8]) -> Result<Step, AllocError>
     let word = first_word(inside);
     let others = other_words(inside);
     if is(word, "action") {
-        return action_step(alloc, inside, only_number(others));
+        return formula_step(alloc, inside, only_number(others), false);
+    }
+    if is(word, "or") {
+        return formula_step(alloc, inside, only_number(others), true);
+    }
+    if is(word, "premise") {
+        return premise_step(alloc, inside, two_numbers(others));
     }
     let owned = inside.to_vec(alloc)?;
     if is_unbuilt(word, others) {

@@ -12,6 +12,14 @@ fn write_step(alloc: Global, out: &mut String, step: &Step) -> Result<(), AllocE
         Step::Known(Move::Contradiction) => out.push_str("contradiction"),
         Step::Known(Move::Unproved) => out.push_str("sorry"),
         Step::Known(Move::Solved) => out.push_str("SOLVED"),
+        Step::Known(Move::Or(place)) => {
+            let text = format!(in alloc; "or {place}")?;
+            out.push_str(&text)
+        }
+        Step::Known(Move::Premise(premise)) => {
+            let text = format!(in alloc; "premise {} {}", premise.time, premise.place)?;
+            out.push_str(&text)
+        }
         Step::Known(Move::Action(place)) => {
             let text = format!(in alloc; "action {place}")?;
             out.push_str(&text)
@@ -122,14 +130,27 @@ fn texts_of_moves_are_told(rt: HostRuntime) -> Result<(), Fail> {
         ("by solve( action 1 2 )", "unknown action 1 2"),
         ("by solve( Action 1 )", "unknown Action 1"),
         ("by solve( )", "unknown "),
-        ("by solve( or 12 )", "unbuilt or 12"),
+        ("by solve( or 12 )", "or 12"),
+        (
+            "by solve( or 18446744073709551616 )",
+            "unbuilt or 18446744073709551616",
+        ),
         ("by solve( or )", "unknown or"),
         ("by solve( know 0 )", "unbuilt know 0"),
         ("by solve( chain 0 )", "unbuilt chain 0"),
         ("by solve( source 0 )", "unbuilt source 0"),
         ("by solve( top 0 )", "unbuilt top 0"),
         ("by solve( top 0 0 )", "unknown top 0 0"),
-        ("by solve( premise 0 1 )", "unbuilt premise 0 1"),
+        ("by solve( premise 20 1 )", "premise 20 1"),
+        (
+            "by solve( premise 340282366920938463463374607431768211455 0 )",
+            "premise 340282366920938463463374607431768211455 0",
+        ),
+        (
+            "by solve( premise 0 18446744073709551616 )",
+            "unbuilt premise 0 18446744073709551616",
+        ),
+        ("by solve( premise 0 01 )", "unknown premise 0 01"),
         ("by solve( premise 0 )", "unknown premise 0"),
         ("by solve( premise 0 1 2 )", "unknown premise 0 1 2"),
         ("by solve( compare 1 0 )", "unbuilt compare 1 0"),

@@ -213,15 +213,14 @@ pub fn only_number(text: Option<&[u8]>) -> Option<u128>
     }
 }
 
-fn are_two_numbers(text: Option<&[u8]>) -> bool
-    ensures { result ≡ spec.are_two_numbers (option_map (λ x. x.now) text.entry) }
+/// The two numbers, if they stand alone.
+pub fn two_numbers(text: Option<&[u8]>) -> Option<(u128, u128)>
+    ensures { result ≡ spec.two_numbers (option_map (λ x. x.now) text.entry) }
 {
-    match text {
-        Some(words) => {
-            number_of(first_word(words)).is_some() && only_number(other_words(words)).is_some()
-        }
-        None => false,
-    }
+    let words = text?;
+    let first = number_of(first_word(words))?;
+    let second = only_number(other_words(words))?;
+    Some((first, second))
 }
 
 fn is_last_variable(text: Option<&[u8]>) -> bool
@@ -267,15 +266,10 @@ pub fn is_unbuilt(word: &[u8], others: Option<&[u8]>) -> bool
 {
     if is(word, "more") || is(word, "finish") {
         !others.is_some()
-    } else if is(word, "or")
-        || is(word, "know")
-        || is(word, "chain")
-        || is(word, "source")
-        || is(word, "top")
-    {
+    } else if is(word, "know") || is(word, "chain") || is(word, "source") || is(word, "top") {
         only_number(others).is_some()
-    } else if is(word, "premise") || is(word, "compare") {
-        are_two_numbers(others)
+    } else if is(word, "compare") {
+        two_numbers(others).is_some()
     } else if is(word, "same") {
         are_sides(others)
     } else {

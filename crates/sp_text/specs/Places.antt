@@ -1,6 +1,6 @@
--- Trees whose moves a text can name: the places of their actions are those of lists in memory.
+-- Trees whose moves a text can name: the places in them are those of lists in memory, and the times those of systems in memory.
 use Rattle.std.specs.Prelude.{◌^◌, ◌<◌}
-use Rattle.sp_step.specs.Moves.{Move, simplify, contradiction, unproved, solved, action}
+use Rattle.sp_step.specs.Moves.{Move, simplify, contradiction, unproved, solved, or, action, premise}
 use Rattle.sp_check.specs.Tree.{Tree, node, Branches, no_branch, branch}
 
 abbrev pub HasPlace : Move → Type 0
@@ -8,7 +8,9 @@ HasPlace simplify = Unit {0}
 HasPlace contradiction = Unit {0}
 HasPlace unproved = Unit {0}
 HasPlace solved = Unit {0}
+HasPlace (or k) = k < 2 ^ 64
 HasPlace (action k) = k < 2 ^ 64
+HasPlace (premise i p) = (i < 2 ^ 128) × (p < 2 ^ 64)
 
 abbrev mutual
   pub HavePlaces : Tree → Type 0

@@ -1,6 +1,6 @@
 -- The text of a proof tree: a line for each move, and the cases of a move indented below it. The words are this project's own.
 use Rattle.std.specs.Prelude.{ℕ, zero, suc, List, [], ◌++◌, codes, decimal}
-use Rattle.sp_step.specs.Moves.{Move, simplify, contradiction, unproved, solved, action}
+use Rattle.sp_step.specs.Moves.{Move, simplify, contradiction, unproved, solved, or, action, premise}
 use Rattle.sp_check.specs.Tree.{Tree, node, Branches, no_branch, branch}
 
 -- two blanks for each case around it
@@ -16,7 +16,9 @@ move_text simplify = codes "simplify"
 move_text contradiction = codes "contradiction"
 move_text unproved = codes "sorry"
 move_text solved = codes "SOLVED"
+move_text (or k) = codes "solve( or " ++ (decimal k ++ codes " )")
 move_text (action k) = codes "solve( action " ++ (decimal k ++ codes " )")
+move_text (premise i p) = codes "solve( premise " ++ (decimal i ++ (codes " " ++ (decimal p ++ codes " )")))
 
 -- what stands before the text of a move without cases: the end of the search stands alone
 abbrev pub leading : Move → List ℕ

@@ -1,10 +1,12 @@
 // Lines of a text, and the texts of moves.
 
 ghost use Rattle.std.specs.Prelude.{◌≡◌, ◌++◌, IfOk, OnOk, string_bytes};
+ghost use Rattle.sp_step.specs.Moves as moves;
 ghost use Rattle.sp_moves.specs.View.{move_of};
 ghost use Rattle.sp_text.specs.Places.{HasPlace};
 ghost use Rattle.sp_text.specs.TreeText as spec;
 
+use sp_moves::giver::Premise;
 use sp_moves::moves::Move;
 use std::alloc::{AllocError, Global};
 
@@ -28,6 +30,13 @@ pub fn write_line(out: &mut String, depth: u64, start: &str, end: &str) -> Resul
     out.push_str("\n")
 }
 
+fn premise_text(alloc: Global, premise: Premise) -> Result<String, AllocError>
+    ensures { IfOk result (λ t. string_bytes t ≡ spec.move_text (moves.premise premise.time premise.place)) }
+{
+    let Premise { time, place } = premise;
+    format!(in alloc; "solve( premise {time} {place} )")
+}
+
 /// The text of a move.
 pub fn move_text(alloc: Global, chosen: Move) -> Result<String, AllocError>
     ensures text { IfOk result (λ t. string_bytes t ≡ spec.move_text (move_of chosen)) }
@@ -38,7 +47,9 @@ pub fn move_text(alloc: Global, chosen: Move) -> Result<String, AllocError>
         Move::Contradiction => String::from_str(alloc, "contradiction"),
         Move::Unproved => String::from_str(alloc, "sorry"),
         Move::Solved => String::from_str(alloc, "SOLVED"),
+        Move::Or(formula) => format!(in alloc; "solve( or {formula} )"),
         Move::Action(formula) => format!(in alloc; "solve( action {formula} )"),
+        Move::Premise(premise) => premise_text(alloc, premise),
     }
 }
 

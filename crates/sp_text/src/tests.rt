@@ -1,6 +1,7 @@
 use super::*;
 use sp_grow::{Branch, OpenLeaf, Tree};
 use sp_log::log::Log;
+use sp_moves::giver::Premise;
 use sp_moves::moves::Move;
 use sp_system::system::System;
 use std::alloc::{AllocError, Global};
@@ -17,6 +18,7 @@ fn open(alloc: Global) -> Result<Tree, AllocError> {
         formulas: Vec::new(alloc),
         spent: Vec::new(alloc),
         unequal: Vec::new(alloc),
+        links: Vec::new(alloc),
         order: Vec::new(alloc),
         next: 0,
     };
@@ -65,8 +67,16 @@ fn writes_several_cases(rt: HostRuntime) -> Result<(), Fail> {
     let mut cases = Vec::new(alloc);
     case(alloc, &mut cases, "", open(alloc)?)?;
     case(alloc, &mut cases, "at_1", leaf(alloc, Move::Simplify))?;
-    let tree = Tree::Node(Move::Action(3), cases);
-    let wanted = "solve( action 3 )\n  case \n  by sorry\nnext\n  case at_1\n  by simplify\nqed\n";
+    let premise = Premise { time: 20, place: 1 };
+    case(
+        alloc,
+        &mut cases,
+        "Give",
+        leaf(alloc, Move::Premise(premise)),
+    )?;
+    let tree = Tree::Node(Move::Or(3), cases);
+    let wanted =
+        "solve( or 3 )\n  case \n  by sorry\nnext\n  case at_1\n  by simplify\nnext\n  case Give\n  by solve( premise 20 1 )\nqed\n";
     assert_eq!(rt; tree_text(alloc, &tree)?.as_str(), wanted);
     Ok(())
 }

@@ -1,7 +1,0 @@
-use Rattle.std.proofs.Common.{◌≡◌, map, drop}
-use Rattle.sp_system.specs.SystemView.{event_of}
-use Rattle.sp_step.specs.Moves as spec
-use Rattle.sp_moves.proofs.at_event.event_at.Given as goal
-
-abbrev pub invariant-loop-event : goal.invariant-loop-event
-invariant-loop-event l = spec.event_at l.time (map event_of l.events.items) ≡ spec.event_at l.time (map event_of (drop l.event-index l.event-items))
