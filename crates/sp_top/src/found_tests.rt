@@ -46,11 +46,28 @@ const MAKE_TWICE: &str =
 const BOTH_ALONE: &str =
     "simplify\nsolve( action 0 )\n  case Fixed\n  by contradiction\nnext\n  case Both\n  SOLVED\nqed\n";
 
+/// A persistent source serves twice: fresh once makes the two steps of Make one.
+const USE_TWICE: &str = "simplify
+solve( action 0 )
+  case Use
+  solve( action 0 )
+    case Use
+    solve( premise 1 0 )
+      case Make
+      solve( premise 2 0 )
+        case Make
+        SOLVED
+      qed
+    qed
+  qed
+qed
+";
+
 const TWO_STEPS: &str = "fresh ~n1\nrule Make: k = ~n1\nfresh ~n2\nrule Make: k = ~n2\n";
 
 /// Lemmas of both kinds, verified and falsified by an execution: no step; one step and two; steps in another order than that in which they
 /// were looked for; values of public variables, which are none of the theory's names; the first of two leaves.
-const FOUND: [Found; 10] = [
+const FOUND: [Found; 11] = [
     Found {
         rules: MAKE,
         lemma: "some: exists-trace \"Ex x #i. A(x)@i\"",
@@ -149,6 +166,16 @@ const FOUND: [Found; 10] = [
         steps: "fresh ~n1\nfresh ~n2\nrule Second: a = ~n1, b = ~n2\n",
         trace: "A(~n1), A(~n2)\n",
         replayed: "single (all-traces): broken\n",
+        status: 1,
+    },
+    Found {
+        rules: "rule Make: [ Fr(~x) ] --> [ !T(~x) ]\nrule Use: [ !T(x) ] --[ U(x) ]-> [ ]\n",
+        lemma: "once: \"All x #i #j. U(x)@i & U(x)@j ==> #i = #j\"",
+        proof: USE_TWICE,
+        line: "once (all-traces): falsified - found trace (6 steps)\n",
+        steps: "fresh ~n1\nrule Make: x = ~n1\nrule Use: x = ~n1\nrule Use: x = ~n1\n",
+        trace: "U(~n1)\nU(~n1)\n",
+        replayed: "once (all-traces): broken\n",
         status: 1,
     },
 ];

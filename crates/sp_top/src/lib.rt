@@ -31,6 +31,8 @@ mod found_tests;
 #[cfg(test)]
 mod replay_tests;
 #[cfg(test)]
+mod stateful_tests;
+#[cfg(test)]
 mod tests;
 mod words;
 

@@ -421,19 +421,20 @@ fn constants_are_tried(rt: HostRuntime) -> Result<(), Fail> {
     assert_tried(&rt, rt.alloc(), ONE_RULE, &CONSTANTS, 1)
 }
 
-/// A rule that takes what no other gives.
-const TAKING: &str = "rule Use: [ T(x) ] --[ U(x) ]-> [ ]\n";
+/// Two rules with an action each.
+const TWO_ACTIONS: &str =
+    "rule First: [ ] --[ A('c') ]-> [ ]\nrule Other: [ ] --[ B('c') ]-> [ ]\n";
 
-/// A step that can't be done, which the moves that are built don't show.
-const TAKEN: [Tried; 1] = [Tried {
-    lemma: "taken: \"All x #i. U(x)@i ==> F\"",
-    tree: "simplify\nsolve( action 0 )\n  case Use\n  by sorry\nqed\n",
-    line: "taken (all-traces): analysis incomplete (2 steps)",
+/// Two times whose order is left open, which no move that is built compares: in the log that is suggested the first is before the second.
+const TURNED: [Tried; 1] = [Tried {
+    lemma: "turned: exists-trace \"Ex #i #j. A('c')@i & B('c')@j & not (#i < #j)\"",
+    tree: "simplify\nsolve( action 0 )\n  case First\n  solve( action 0 )\n    case Other\n    by sorry\n  qed\nqed\n",
+    line: "turned (exists-trace): analysis incomplete (3 steps)",
 }];
 
 #[test]
 fn open_proofs_are_incomplete(rt: HostRuntime) -> Result<(), Fail> {
-    assert_tried(&rt, rt.alloc(), TAKING, &TAKEN, 2)
+    assert_tried(&rt, rt.alloc(), TWO_ACTIONS, &TURNED, 2)
 }
 
 /// A false formula that some trace is to satisfy.
@@ -530,15 +531,28 @@ fn cases_are_in_the_order_of_rules(rt: HostRuntime) -> Result<(), Fail> {
 const CONSTANT_RULES: &str = "rule Make: [ Fr(~k) ] --[ A(~k) ]-> [ ]
 rule Fixed: [ ] --[ B('c') ]-> [ ]
 rule Both: [ Fr(~k) ] --[ A(~k), B('d') ]-> [ ]
-rule Use: [ T(x) ] --[ U(x) ]-> [ ]
 ";
 
 /// What is falsified counts before what is left open.
 const FALSIFIED_FIRST: [Tried; 5] = [
     Tried {
-        lemma: "taken: \"All x #i. U(x)@i ==> F\"",
-        tree: "simplify\nsolve( action 0 )\n  case Use\n  by sorry\nqed\n",
-        line: "taken (all-traces): analysis incomplete (2 steps)",
+        lemma: "left: exists-trace \"Ex x #i #j. A(x)@i & B('c')@j & not (#i < #j)\"",
+        tree: "simplify
+solve( action 0 )
+  case Make
+  solve( action 0 )
+    case Fixed
+    by sorry
+  qed
+next
+  case Both
+  solve( action 0 )
+    case Fixed
+    by sorry
+  qed
+qed
+",
+        line: "left (exists-trace): analysis incomplete (4 steps)",
     },
     Tried {
         lemma: "never: exists-trace \"Ex #i. B('e')@i\"",
