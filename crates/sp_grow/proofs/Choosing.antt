@@ -13,8 +13,8 @@ use Rattle.sp_formula.specs.FormulaView.{formula_of}
 use Rattle.sp_formula.specs.declared.formula.Formula.{Formula}
 use Rattle.sp_step.specs.Moves.{Move, or, action, premise, Context, Case, simple_case, cases, solving_action, disjunction_at, or_cases, open_premise, premise_cases}
 use Rattle.sp_check.specs.Growth.{premise_from, first_premise, first_action, first_disjunction}
-use Rattle.sp_moves.specs.Parts.{disjuncts, by_parts}
-use Rattle.sp_moves.proofs.Parts.{parts_at}
+use Rattle.sp_moves_formula.specs.Parts.{disjuncts, by_parts}
+use Rattle.sp_moves_formula.proofs.Parts.{parts_at}
 use Rattle.sp_grow.specs.Choosing.{open_from}
 
 is_some_mapped : (o : Option (List Case)) → is_some (option_map (map simple_case) o) ≡ is_some o

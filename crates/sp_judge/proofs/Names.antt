@@ -7,7 +7,7 @@ use Rattle.std.proofs.lemmas.Bool.{false≢true}
 use Rattle.std.proofs.lemmas.Bool.Decides.{Decides-and}
 use Rattle.std.proofs.lemmas.Slice.Eq.{bytes_eq-Decides}
 use Rattle.sp_step.specs.Moves.{Case}
-use Rattle.sp_moves.specs.declared.moves.Case as memory
+use Rattle.sp_moves_formula.specs.declared.moves.Case as memory
 use Rattle.sp_moves.specs.View.{case_of}
 use Rattle.sp_judge.specs.declared.skeleton.Branch.{Branch}
 use Rattle.sp_judge.specs.View.{all_branches, branch_of, branches_of}

@@ -1,4 +1,1 @@
-pub mod ByAction
-pub mod PassedOver
-pub mod Listed
-pub mod Parts
+pub mod Exact

@@ -6,40 +6,13 @@ ghost use Rattle.sp_step.specs.Moves as spec;
 ghost use Rattle.sp_moves.specs.View.{context_of, move_of, case_of};
 
 use crate::context::Context;
-use crate::giver::{Premise, premise_cases};
-use crate::part::or_cases;
-use crate::solving::solving_action;
+pub use sp_moves_formula::moves::{Case, Move};
+use sp_moves_formula::part::or_cases;
+use sp_moves_formula::solving::solving_action;
+use sp_moves_graph::giver::premise_cases;
 use sp_rows::simplify::{by_rows, is_contradictory, simplified};
 use sp_system::system::System;
 use std::alloc::{AllocError, Global};
-
-/// What is done at a node of a proof tree.
-#[derive(Clone, Copy, Debug, PartialEq, Eq)]
-pub enum Move {
-    /// elementary moves
-    Simplify,
-    /// the system has no solution
-    Contradiction,
-    /// an open leaf
-    Unproved,
-    /// the search ends here: a log has been found
-    Solved,
-    /// the formula at this position is a disjunction, and each of its parts is a case
-    Or(usize),
-    /// the formula at this position is an action, and its event is looked for
-    Action(usize),
-    /// the source of this premise is looked for
-    Premise(Premise),
-}
-
-/// One of the systems that a move leads to.
-#[derive(Debug, Drop)]
-pub struct Case {
-    /// its name; empty where a move has one case alone
-    pub name: String,
-    /// the system
-    pub system: System,
-}
 
 // The system itself, if some elementary move applies.
 fn unsimplified(alloc: Global, system: &System) -> Result<Option<Vec<Case>>, AllocError>

@@ -11,8 +11,8 @@ use Rattle.sp_step.specs.Moves.{Move, simplify, contradiction, unproved, solved,
 use Rattle.sp_check.specs.Tree.{Tree, node, Branches, no_branch, branch, IsAccepted, AreAccepted}
 use Rattle.sp_check.specs.Growth.{grown_tree}
 use Rattle.sp_check.proofs.Growing.{grown_tree_accepted}
-use Rattle.sp_moves.specs.Sought.{sought}
-use Rattle.sp_moves.proofs.ByAction.{sought_cases, solves}
+use Rattle.sp_moves_formula.specs.Sought.{sought}
+use Rattle.sp_moves_formula.proofs.ByAction.{sought_cases, solves}
 use Rattle.sp_read_parts.specs.Names.{IsName}
 use Rattle.sp_text.specs.Places.{HasPlace, HavePlaces, AllHavePlaces}
 use Rattle.sp_skel.specs.Spelling.{IsWord, IsReadable, AreReadable, MayHaveCases, AreNamed}

@@ -14,7 +14,7 @@ use Rattle.sp_grow.specs.declared.tree.Branch.{Branch}
 use Rattle.sp_grow.specs.declared.tree.Tree.TheVariants.{Node, rolls-Node}
 use Rattle.sp_grow.specs.declared.tree.Tree.TheOpen.{Tree-F}
 use Rattle.sp_grow.specs.declared.tree.Tree.TheFolds.{fold_out-Branch, fold-roll-Tree}
-use Rattle.sp_moves.specs.declared.moves.Move as memory
+use Rattle.sp_moves_formula.specs.declared.moves.Move as memory
 use Rattle.sp_moves.specs.View.{move_of}
 use Rattle.sp_text.specs.Cases.{is_unnamed, words_behind}
 use Rattle.sp_text.specs.Places.{HavePlaces, AllHavePlaces}

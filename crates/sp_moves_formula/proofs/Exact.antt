@@ -1,0 +1,68 @@
+-- A move that takes up a formula has cases exactly where no clause of its condition fails.
+use Rattle.std.proofs.Common.{◌≡◌, ℕ, Bool, true, false, if◌then◌else◌, List, Option, Some, None, option_map, option_and_then, is_none, is_some, slice_get, refl, sym, ap, ◌∙◌}
+use Rattle.sp_spec.specs.Term.{Variable}
+use Rattle.sp_spec.specs.Rule.{Action, Rule}
+use Rattle.sp_spec.specs.Guarded.{Guarded, truth, falsity, holds, fails, all_of, one_of, some, every, acts, same, same_time, before, last, free_time, bound_time}
+use Rattle.sp_system.specs.System.{System}
+use Rattle.sp_step.specs.Rows.{freed_action}
+use Rattle.sp_step.specs.Moves.{Move, simplify, contradiction, unproved, solved, or, action, premise, Case, is_adversary, action_at_time, solving_action}
+use Rattle.sp_moves_formula.specs.WhyNot.{Clause, condition, why_no_disjunction, why_not_freed, why_no_action, why_not_formula, formula_cases, HasCases}
+use Rattle.sp_moves_formula.specs.Parts.{disjuncts, by_parts}
+use Rattle.sp_moves_formula.proofs.Parts.{parts_at}
+
+by_freed : (rules : List Rule) (s : System) (i : ℕ) (symbol : List ℕ) (o : Option (Action Variable)) (b : Bool) → is_adversary symbol ≡ b
+    → is_none (why_not_freed symbol o) ≡ is_some (let r : Option (List Case) = if b then None else action_at_time rules s i o in r)
+by_freed rules s i symbol None true e = refl
+by_freed rules s i symbol None false e = refl
+by_freed rules s i symbol (Some a) true e = ap (λ (b : Bool). is_none (let r : Option Clause = if b then Some condition else None in r)) e
+by_freed rules s i symbol (Some a) false e = ap (λ (b : Bool). is_none (let r : Option Clause = if b then Some condition else None in r)) e
+
+by_formula : (rules : List Rule) (s : System) (f : Guarded) → is_none (why_no_action (Some f)) ≡ is_some (solving_action rules s (Some f))
+by_formula rules s truth = refl
+by_formula rules s falsity = refl
+by_formula rules s (holds (acts a (free_time i))) = by_freed rules s i a.symbol (freed_action a) (is_adversary a.symbol) refl
+by_formula rules s (holds (acts a (bound_time k))) = refl
+by_formula rules s (holds (same t u)) = refl
+by_formula rules s (holds (same_time i j)) = refl
+by_formula rules s (holds (before i j)) = refl
+by_formula rules s (holds (last i)) = refl
+by_formula rules s (fails a) = refl
+by_formula rules s (all_of fs) = refl
+by_formula rules s (one_of fs) = refl
+by_formula rules s (some bs guard f) = refl
+by_formula rules s (every bs guard f) = refl
+
+by_place : (rules : List Rule) (s : System) (o : Option Guarded) → is_none (why_no_action o) ≡ is_some (solving_action rules s o)
+by_place rules s None = refl
+by_place rules s (Some f) = by_formula rules s f
+
+by_disjunction : (s : System) (k : ℕ) (o : Option Guarded) → is_none (why_no_disjunction o) ≡ is_some (option_map (by_parts s k 1) (option_and_then disjuncts o))
+by_disjunction s k None = refl
+by_disjunction s k (Some (one_of fs)) = refl
+by_disjunction s k (Some truth) = refl
+by_disjunction s k (Some falsity) = refl
+by_disjunction s k (Some (holds a)) = refl
+by_disjunction s k (Some (fails a)) = refl
+by_disjunction s k (Some (all_of fs)) = refl
+by_disjunction s k (Some (some bs guard f)) = refl
+by_disjunction s k (Some (every bs guard f)) = refl
+
+pub exactly : (rules : List Rule) (s : System) (m : Move) → HasCases (why_not_formula s m) (formula_cases rules s m)
+exactly rules s simplify = record { exact = refl }
+exactly rules s contradiction = record { exact = refl }
+exactly rules s unproved = record { exact = refl }
+exactly rules s solved = record { exact = refl }
+exactly rules s (or k) = record { exact = by_disjunction s k (slice_get s.formulas k) ∙ ap is_some (sym (parts_at s k)) }
+exactly rules s (action k) = record { exact = by_place rules s (slice_get s.formulas k) }
+exactly rules s (premise i p) = record { exact = refl }
+
+differ : true ≡ false → ⊥
+differ e = absurd cc
+
+-- where there are cases no clause fails, and where there are none one does
+pub some_there : (why : Option Clause) (cases : Option (List Case)) (cs : List Case) → HasCases why cases → Some cs ≡ cases → None ≡ why
+some_there None cases cs h e = refl
+some_there (Some c) cases cs h e = absurd (differ (sym (h.exact ∙ ap is_some (sym e))))
+
+pub none_there : (why : Option Clause) (cases : Option (List Case)) → HasCases why cases → None ≡ cases → None ≡ why → ⊥
+none_there why cases h e w = differ (ap is_none w ∙ h.exact ∙ ap is_some (sym e))

@@ -1,0 +1,5 @@
+pub mod ByAction
+pub mod PassedOver
+pub mod Listed
+pub mod Parts
+pub mod Exact

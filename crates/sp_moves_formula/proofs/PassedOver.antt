@@ -1,0 +1,32 @@
+-- A rule without an action of the name that is looked for gives no case.
+use Rattle.std.proofs.Common.{◌≡◌, ℕ, Bool, true, false, ◌||◌, List, [], ◌∷◌, ◌++◌, map, Option, None, option_map, refl, ap, ◌∙◌, if◌then◌else◌}
+use Rattle.std.specs.Str.{bytes_eq}
+use Rattle.sp_spec.specs.Term.{Variable, Term}
+use Rattle.sp_spec.specs.Rule.{Action, Rule, action_at}
+use Rattle.sp_spec.specs.Substitution.{bound_to}
+use Rattle.sp_spec.specs.Unifier.{Pair}
+use Rattle.sp_system.specs.System.{System}
+use Rattle.sp_system.specs.Equating.{argument_pairs, unifier_of, system_changed}
+use Rattle.sp_step.specs.Moves.{by_actions, system_if, with_step, named}
+use Rattle.sp_moves_formula.specs.Sought.{shifted, by_rule, has_action}
+
+either_false : (a b : Bool) → (a || b) ≡ false → (a ≡ false) × (b ≡ false)
+either_false false b e = (refl, e)
+either_false true b e = absurd cc
+
+-- the systems in which two actions are one, where their names differ
+other_name : (s : System) (b : Bool) (pairs : Option (List Pair)) (rest : List System) → b ≡ false
+    → system_if (option_map (λ bs. system_changed (bound_to bs) (λ i. i) s) (unifier_of (if b then pairs else None))) ++ rest ≡ rest
+other_name s false pairs rest e = refl
+other_name s true pairs rest e = absurd cc
+
+none_acts : (s : System) (a : Action Variable) (v : Variable → Term Variable) (actions : List (Action Variable)) → has_action a.symbol actions ≡ false
+    → by_actions s a (map (action_at v) actions) ≡ []
+none_acts s a v [] e = refl
+none_acts s a v (b ∷ actions) e =
+    let parts = either_false (bytes_eq a.symbol b.symbol) (has_action a.symbol actions) e in
+    other_name s (bytes_eq a.symbol b.symbol) (argument_pairs a.args (action_at v b).args) (by_actions s a (map (action_at v) actions)) parts.0
+    ∙ none_acts s a v actions parts.1
+
+pub no_case : (r : Rule) (s : System) (i : ℕ) (a : Action Variable) → has_action a.symbol r.facts.actions ≡ false → by_rule r s i a ≡ []
+no_case r s i a e = ap (named r.name) (none_acts (with_step s i r) a (shifted s.next) r.facts.actions e)

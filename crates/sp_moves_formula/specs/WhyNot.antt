@@ -1,0 +1,50 @@
+-- Why a move is no instance, and the cases of the moves that take up a formula.
+use Rattle.std.specs.Prelude.{◌≡◌, ℕ, if◌then◌else◌, List, Option, Some, None, is_none, is_some, slice_get}
+use Rattle.sp_spec.specs.Term.{Variable}
+use Rattle.sp_spec.specs.Rule.{Action, Rule}
+use Rattle.sp_spec.specs.Guarded.{Guarded, holds, acts, one_of, free_time}
+use Rattle.sp_system.specs.System.{System}
+use Rattle.sp_step.specs.Rows.{freed_action}
+use Rattle.sp_step.specs.Moves.{Move, or, action, Case, is_adversary, disjunction_at, or_cases, solving_action}
+
+-- What fails of a move's condition: of these the first that does.
+pub data Clause : Type 0 where
+  -- the move is none of those that are asked about
+  another_crate : Clause
+  -- a position, a time or a premise that the move names isn't in the system
+  absent : Clause
+  -- what stands there isn't of the kind that the move asks for
+  other_kind : Clause
+  -- the rest of the condition
+  condition : Clause
+
+abbrev pub why_no_disjunction : Option Guarded → Option Clause
+why_no_disjunction None = Some absent
+why_no_disjunction (Some (one_of fs)) = None
+why_no_disjunction (Some f) = Some other_kind
+
+-- the adversary's actions are of the kind, and no instance
+abbrev pub why_not_freed : List ℕ → Option (Action Variable) → Option Clause
+why_not_freed symbol None = Some other_kind
+why_not_freed symbol (Some a) = if is_adversary symbol then Some condition else None
+
+-- the move asks for an action at a time of the system, over terms of the system
+abbrev pub why_no_action : Option Guarded → Option Clause
+why_no_action None = Some absent
+why_no_action (Some (holds (acts a (free_time i)))) = why_not_freed a.symbol (freed_action a)
+why_no_action (Some f) = Some other_kind
+
+abbrev pub why_not_formula : System → Move → Option Clause
+why_not_formula s (or k) = why_no_disjunction (slice_get s.formulas k)
+why_not_formula s (action k) = why_no_action (slice_get s.formulas k)
+why_not_formula s move = Some another_crate
+
+-- the cases of such a move before they are simplified; none where it is no instance
+abbrev pub formula_cases : List Rule → System → Move → Option (List Case)
+formula_cases rules s (or k) = or_cases s (disjunction_at k s.formulas)
+formula_cases rules s (action k) = solving_action rules s (slice_get s.formulas k)
+formula_cases rules s move = None
+
+-- no clause fails exactly where there are cases
+pub record HasCases (why : Option Clause) (cases : Option (List Case)) : Type 0 where
+  pub exact : is_none why ≡ is_some cases

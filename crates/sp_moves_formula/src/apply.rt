@@ -1,0 +1,126 @@
+// The cases of a move, or why it is no instance.
+
+ghost use Rattle.std.specs.Prelude.{◌≡◌, Some, IfOk, map, option_map};
+ghost use Rattle.sp_formula.specs.FormulaView.{formula_of};
+ghost use Rattle.sp_system.specs.SystemView.{system_of};
+ghost use Rattle.sp_moves_formula.specs.View.{book_of, case_of, move_of};
+ghost use Rattle.sp_moves_formula.specs.WhyNot.{HasCases, why_no_disjunction, why_no_action, why_not_formula, formula_cases};
+ghost use Rattle.sp_moves_formula.specs.Applied.{clause_of, cases_of, failing};
+
+use crate::action::is_adversary;
+use crate::book::RuleBook;
+use crate::moves::{Case, Move};
+use crate::part::or_cases;
+use crate::solving::solving_action;
+use sp_formula::formula::{Atom, Formula, FormulaAction, Moment};
+use sp_rows::stands::freed_action;
+use sp_system::system::System;
+use std::alloc::{AllocError, Global};
+
+/// What fails of a move's condition: the first of these that does.
+#[derive(Clone, Copy, Debug, PartialEq, Eq)]
+pub enum Clause {
+    /// the move is none of those that the call applies
+    AnotherCrate,
+    /// a position, a time or a premise that the move names isn't in the system
+    Absent,
+    /// what stands there isn't of the kind that the move asks for
+    OtherKind,
+    /// the rest of the move's condition fails
+    Condition,
+}
+
+/// What applying a move gives.
+#[derive(Debug, Drop)]
+pub enum Applied {
+    /// its cases
+    Cases(Vec<Case>),
+    /// no cases, since it is no instance
+    NotAnInstance(Clause),
+}
+
+fn why_no_disjunction(formula: &Formula) -> Option<Clause>
+    ensures { option_map clause_of result ≡ why_no_disjunction (Some (formula_of formula.now)) }
+{
+    match formula {
+        Formula::OneOf(_) => None,
+        _ => Some(Clause::OtherKind),
+    }
+}
+
+fn why_no_action(alloc: Global, formula: &Formula) -> Result<Option<Clause>, AllocError>
+    ensures { IfOk result (λ o. option_map clause_of o ≡ why_no_action (Some (formula_of formula.now))) }
+{
+    match formula {
+        Formula::Holds(Atom::Acts(action, Moment::Free(_))) => {
+            if freed_action(alloc, action)?.is_none() {
+                return Ok(Some(Clause::OtherKind));
+            }
+            if is_adversary(&action.symbol) {
+                return Ok(Some(Clause::Condition));
+            }
+            Ok(None)
+        }
+        _ => Ok(Some(Clause::OtherKind)),
+    }
+}
+
+/// Why a move that takes up a formula is no instance, if it is none.
+///
+/// # Errors
+///
+/// `AllocError` where memory is wanting.
+pub fn why_not(alloc: Global, system: &System, chosen: Move) -> Result<Option<Clause>, AllocError>
+    ensures { IfOk result (λ o. option_map clause_of o ≡ why_not_formula (system_of system.now) (move_of chosen)) }
+{
+    match chosen {
+        Move::Or(position) => match system.formulas.get(position) {
+            Some(formula) => Ok(why_no_disjunction(formula)),
+            None => Ok(Some(Clause::Absent)),
+        },
+        Move::Action(position) => match system.formulas.get(position) {
+            Some(formula) => why_no_action(alloc, formula),
+            None => Ok(Some(Clause::Absent)),
+        },
+        _ => Ok(Some(Clause::AnotherCrate)),
+    }
+}
+
+fn cases(
+    alloc: Global,
+    rules: &RuleBook,
+    system: &System,
+    chosen: Move,
+) -> Result<Option<Vec<Case>>, AllocError>
+    ensures { IfOk result (λ o. option_map (λ cs. map case_of cs.items) o ≡ formula_cases (book_of rules.now) (system_of system.now) (move_of chosen)) }
+{
+    match chosen {
+        Move::Or(position) => or_cases(alloc, system, position),
+        Move::Action(position) => solving_action(alloc, rules, system, position),
+        _ => Ok(None),
+    }
+}
+
+/// The cases of a move that takes up a formula, before they are simplified, or why it is no instance.
+///
+/// # Errors
+///
+/// `AllocError` where memory is wanting, or no number is left.
+pub fn apply(
+    alloc: Global,
+    rules: &RuleBook,
+    system: &System,
+    chosen: Move,
+) -> Result<Applied, AllocError>
+    ensures why { IfOk result (λ a. failing a ≡ why_not_formula (system_of system.now) (move_of chosen)) }
+    ensures gives { IfOk result (λ a. cases_of a ≡ formula_cases (book_of rules.now) (system_of system.now) (move_of chosen)) }
+    ensures exact { HasCases (why_not_formula (system_of system.now) (move_of chosen)) (formula_cases (book_of rules.now) (system_of system.now) (move_of chosen)) }
+{
+    match cases(alloc, rules, system, chosen)? {
+        Some(cases) => Ok(Applied::Cases(cases)),
+        None => match why_not(alloc, system, chosen)? {
+            Some(clause) => Ok(Applied::NotAnInstance(clause)),
+            None => unreachable!(),
+        },
+    }
+}

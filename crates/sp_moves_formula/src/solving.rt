@@ -1,0 +1,74 @@
+// The cases of an action: at its event, or at a new step of some rule.
+
+ghost use Rattle.std.specs.Prelude.{◌≡◌, Some, IfOk, map, option_map, slice_get};
+ghost use Rattle.sp_fact.specs.View.{action_of};
+ghost use Rattle.sp_formula.specs.FormulaView.{formula_of};
+ghost use Rattle.sp_system.specs.SystemView.{system_of};
+ghost use Rattle.sp_step.specs.Rows as rows;
+ghost use Rattle.sp_step.specs.Moves as spec;
+ghost use Rattle.sp_moves_formula.specs.View.{book_of, case_of};
+
+use crate::action::sought;
+use crate::at_event::at_event;
+use crate::book::RuleBook;
+use crate::by_rules::by_each;
+use crate::moves::Case;
+use sp_fact::fact::Action;
+use sp_formula::formula::Formula;
+use sp_rows::links::event_at;
+use sp_system::system::System;
+use std::alloc::{AllocError, Global};
+
+fn action_cases(
+    alloc: Global,
+    rules: &RuleBook,
+    system: &System,
+    time: u128,
+    action: &Action,
+) -> Result<Vec<Case>, AllocError>
+    ensures { IfOk result (λ cs. map case_of cs.items ≡ spec.action_cases (book_of rules.now) (system_of system.now) time (action_of action.now)
+        (rows.event_at time (system_of system.now).events)) }
+{
+    match event_at(time, &system.events) {
+        Some(event) => at_event(alloc, system, action, &event.facts.actions),
+        None => by_each(alloc, rules, system, time, action),
+    }
+}
+
+// The cases of the action that the formula is.
+#[tactic(auto, using(crate::proofs::ByAction::solves))]
+fn solving(
+    alloc: Global,
+    rules: &RuleBook,
+    system: &System,
+    formula: &Formula,
+) -> Result<Option<Vec<Case>>, AllocError>
+    ensures { IfOk result (λ o. option_map (λ cs. map case_of cs.items) o
+        ≡ spec.solving_action (book_of rules.now) (system_of system.now) (Some (formula_of formula.now))) }
+{
+    let Some((time, action)) = sought(alloc, formula)? else {
+        return Ok(None);
+    };
+    let made = action_cases(alloc, rules, system, time, &action)?;
+    Ok(Some(made))
+}
+
+/// The cases of the action that stands at the position, before they are simplified; none where there is no action to look for.
+///
+/// # Errors
+///
+/// `AllocError` where memory is wanting, or no number is left.
+pub fn solving_action(
+    alloc: Global,
+    rules: &RuleBook,
+    system: &System,
+    position: usize,
+) -> Result<Option<Vec<Case>>, AllocError>
+    ensures { IfOk result (λ o. option_map (λ cs. map case_of cs.items) o
+        ≡ spec.solving_action (book_of rules.now) (system_of system.now) (slice_get (system_of system.now).formulas position)) }
+{
+    match system.formulas.get(position) {
+        Some(formula) => solving(alloc, rules, system, formula),
+        None => Ok(None),
+    }
+}

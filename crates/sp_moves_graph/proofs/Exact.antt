@@ -1,0 +1,72 @@
+-- A move on a premise has cases exactly where no clause of its condition fails.
+use Rattle.std.proofs.Common.{◌≡◌, ℕ, Bool, true, false, ◌||◌, ◌==◌, if◌then◌else◌, List, [], ◌∷◌, Option, Some, None, option_and_then, is_none, is_some, slice_get, refl, sym, ap, ◌∙◌}
+use Rattle.sp_spec.specs.Term.{Variable}
+use Rattle.sp_spec.specs.Rule.{Fact, Rule}
+use Rattle.sp_spec.specs.Log.{is_fr}
+use Rattle.sp_spec.specs.Guarded.{Guarded}
+use Rattle.sp_formula.specs.FormulaView.{guardeds_of}
+use Rattle.sp_system.specs.System.{happening_premises, Event, System}
+use Rattle.sp_step.specs.Rows.{event_at}
+use Rattle.sp_step.specs.Moves.{Move, simplify, contradiction, unproved, solved, or, action, premise, is_in, is_linked, of_a_step, open_premise, premise_cases}
+use Rattle.sp_moves_formula.specs.WhyNot.{Clause, absent, condition, HasCases}
+use Rattle.sp_moves_graph.specs.Times.{formula_has, one_has, formulas_have, events_have, has_time}
+use Rattle.sp_moves_graph.specs.WhyNot.{why_not_open, why_not_of, why_not_graph, graph_cases}
+
+-- an event's time is in the system
+no_event : (i : ℕ) (es : List Event) → events_have i es ≡ false → event_at i es ≡ None
+no_event i [] e = refl
+no_event i (x ∷ es) e = at (x.time == i) e (no_event i es)
+  where
+    at : (b : Bool) → (b || events_have i es) ≡ false → (events_have i es ≡ false → event_at i es ≡ None) → (let r : Option Event = if b then Some x else event_at i es in r) ≡ None
+    at true h later = absurd cc
+    at false h later = later h
+
+none_left : (a b : Bool) → (a || b) ≡ false → a ≡ false
+none_left false b e = refl
+none_left true b e = absurd cc
+
+by_fact : (rules : List Rule) (s : System) (i p : ℕ) (f : Fact Variable) (linked closed : Bool)
+    → is_none (let r : Option Clause = if linked || closed then Some condition else None in r)
+    ≡ is_some (premise_cases rules s i p (let r : Option (Fact Variable) = if linked then None else (if closed then None else Some f) in r))
+by_fact rules s i p f true closed = refl
+by_fact rules s i p f false true = refl
+by_fact rules s i p f false false = refl
+
+nothing_there : (rules : List Rule) (s : System) (i p : ℕ) (linked : Bool) → is_some (premise_cases rules s i p (let r : Option (Fact Variable) = if linked then None else None in r)) ≡ false
+nothing_there rules s i p true = refl
+nothing_there rules s i p false = refl
+
+by_premise : (rules : List Rule) (s : System) (i p : ℕ) (o : Option (Fact Variable))
+    → is_none (why_not_open s i p o) ≡ is_some (premise_cases rules s i p (let r : Option (Fact Variable) = if is_linked s.links i p then None else of_a_step o in r))
+by_premise rules s i p None = sym (nothing_there rules s i p (is_linked s.links i p))
+by_premise rules s i p (Some f) = by_fact rules s i p f (is_linked s.links i p) (is_fr f || is_in f)
+
+-- the premise at a place of the event that is found
+abbrev of_event : ℕ → Option Event → Option (Fact Variable)
+of_event p o = option_and_then (λ (e : Event). slice_get (happening_premises e.happening) p) o
+
+by_event : (rules : List Rule) (s : System) (i p : ℕ) (o : Option Event)
+    → is_none (why_not_of s i p o) ≡ is_some (premise_cases rules s i p (let r : Option (Fact Variable) = if is_linked s.links i p then None else of_a_step (of_event p o) in r))
+by_event rules s i p None = sym (nothing_there rules s i p (is_linked s.links i p))
+by_event rules s i p (Some e) = by_premise rules s i p (slice_get (happening_premises e.happening) p)
+
+by_time : (rules : List Rule) (s : System) (i p : ℕ) (b : Bool) → has_time i s ≡ b
+    → is_none (let r : Option Clause = if b then why_not_of s i p (event_at i s.events) else Some absent in r) ≡ is_some (premise_cases rules s i p (open_premise s i p))
+by_time rules s i p true e = by_event rules s i p (event_at i s.events)
+by_time rules s i p false e =
+    let gone : event_at i s.events ≡ None = no_event i s.events (none_left (events_have i s.events) _ e) in
+    sym (ap (λ (o : Option Event). is_some (premise_cases rules s i p (let r : Option (Fact Variable) = if is_linked s.links i p then None else of_a_step (of_event p o) in r))) gone
+    ∙ nothing_there rules s i p (is_linked s.links i p))
+
+pub exactly : (rules : List Rule) (s : System) (m : Move) → HasCases (why_not_graph s m) (graph_cases rules s m)
+exactly rules s simplify = record { exact = refl }
+exactly rules s contradiction = record { exact = refl }
+exactly rules s unproved = record { exact = refl }
+exactly rules s solved = record { exact = refl }
+exactly rules s (or k) = record { exact = refl }
+exactly rules s (action k) = record { exact = refl }
+exactly rules s (premise i p) = record { exact = by_time rules s i p (has_time i s) refl }
+
+pub one_of_listed : (i : ℕ) (fs : List Guarded) → one_has i (guardeds_of fs) ≡ formulas_have i fs
+one_of_listed i [] = refl
+one_of_listed i (f ∷ fs) = ap (λ (b : Bool). formula_has i f || b) (one_of_listed i fs)

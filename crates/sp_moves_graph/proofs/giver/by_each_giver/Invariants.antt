@@ -1,0 +1,12 @@
+use Rattle.std.proofs.Common.{◌≡◌, ◌++◌, map, drop}
+use Rattle.sp_rule.specs.View.{rule_of}
+use Rattle.sp_fact.specs.View.{fact_of}
+use Rattle.sp_system.specs.SystemView.{system_of}
+use Rattle.sp_step.specs.Moves as spec
+use Rattle.sp_moves_formula.specs.View.{book_of, case_of}
+use Rattle.sp_moves_graph.proofs.giver.by_each_giver.Given as goal
+
+abbrev pub invariant-loop-rule : goal.invariant-loop-rule
+invariant-loop-rule l =
+    map case_of l.made.items ++ spec.by_each_giver (map rule_of (drop l.rule-index l.rule-items)) (system_of l.system) l.premise.time l.premise.place (fact_of l.fact)
+    ≡ spec.by_each_giver (book_of l.rules) (system_of l.system) l.premise.time l.premise.place (fact_of l.fact)

@@ -1,0 +1,98 @@
+// The cases of a move on a premise, or why it is no instance.
+
+ghost use Rattle.std.specs.Prelude.{◌≡◌, ◌||◌, Some, IfOk, map, option_map};
+ghost use Rattle.sp_fact.specs.View.{fact_of};
+ghost use Rattle.sp_spec.specs.Log.{is_fr};
+ghost use Rattle.sp_system.specs.SystemView.{event_of, system_of};
+ghost use Rattle.sp_step.specs.Moves as spec;
+ghost use Rattle.sp_moves_formula.specs.View.{book_of, case_of, move_of};
+ghost use Rattle.sp_moves_formula.specs.Applied.{clause_of, cases_of, failing};
+ghost use Rattle.sp_moves_formula.specs.WhyNot.{HasCases};
+ghost use Rattle.sp_moves_graph.specs.WhyNot.{why_not_of, why_not_graph, graph_cases};
+
+use crate::giver::{is_linked, is_received, premise_cases};
+use crate::times::has_time;
+use sp_fact::fact::Fact;
+pub use sp_moves_formula::apply::{Applied, Clause};
+use sp_moves_formula::book::RuleBook;
+use sp_moves_formula::moves::{Case, Move, Premise};
+use sp_rows::links::event_at;
+use sp_rows::twins::is_fresh;
+use sp_system::system::{Event, System};
+use std::alloc::{AllocError, Global};
+
+// Whether the premise needs no step for its source.
+fn is_closed(system: &System, premise: Premise, fact: &Fact) -> bool
+    ensures { result ≡ (spec.is_linked (system_of system.now).links premise.time premise.place || (is_fr (fact_of fact.now) || spec.is_in (fact_of fact.now))) }
+{
+    is_linked(&system.links, premise) || is_fresh(fact) || is_received(fact)
+}
+
+fn why_not_of(system: &System, premise: Premise, event: &Event) -> Option<Clause>
+    ensures { option_map clause_of result ≡ why_not_of (system_of system.now) premise.time premise.place (Some (event_of event.now)) }
+{
+    match event.facts.premises.get(premise.place) {
+        None => Some(Clause::Absent),
+        Some(fact) => {
+            if is_closed(system, premise, fact) {
+                Some(Clause::Condition)
+            } else {
+                None
+            }
+        }
+    }
+}
+
+/// Why a move that takes up a premise is no instance, if it is none.
+pub fn why_not(system: &System, chosen: Move) -> Option<Clause>
+    ensures { option_map clause_of result ≡ why_not_graph (system_of system.now) (move_of chosen) }
+{
+    let Move::Premise(premise) = chosen else {
+        return Some(Clause::AnotherCrate);
+    };
+    if !has_time(premise.time, system) {
+        return Some(Clause::Absent);
+    }
+    match event_at(premise.time, &system.events) {
+        Some(event) => why_not_of(system, premise, event),
+        None => Some(Clause::OtherKind),
+    }
+}
+
+fn cases(
+    alloc: Global,
+    rules: &RuleBook,
+    system: &System,
+    chosen: Move,
+) -> Result<Option<Vec<Case>>, AllocError>
+    ensures { IfOk result (λ o. option_map (λ cs. map case_of cs.items) o ≡ graph_cases (book_of rules.now) (system_of system.now) (move_of chosen)) }
+{
+    match chosen {
+        Move::Premise(premise) => premise_cases(alloc, rules, system, premise),
+        _ => Ok(None),
+    }
+}
+
+/// The cases of a move that takes up a premise, before they are simplified, or why it is no instance.
+///
+/// # Errors
+///
+/// `AllocError` where memory is wanting, or no number is left.
+pub fn apply(
+    alloc: Global,
+    rules: &RuleBook,
+    system: &System,
+    chosen: Move,
+) -> Result<Applied, AllocError>
+    ensures why { IfOk result (λ a. failing a ≡ why_not_graph (system_of system.now) (move_of chosen)) }
+    ensures gives { IfOk result (λ a. cases_of a ≡ graph_cases (book_of rules.now) (system_of system.now) (move_of chosen)) }
+    ensures exact { HasCases (why_not_graph (system_of system.now) (move_of chosen)) (graph_cases (book_of rules.now) (system_of system.now) (move_of chosen)) }
+{
+    match cases(alloc, rules, system, chosen)? {
+        Some(cases) => Ok(Applied::Cases(cases)),
+        None => match why_not(system, chosen) {
+            Some(clause) => Ok(Applied::NotAnInstance(clause)),
+            None => unreachable!(),
+        },
+    }
+}
