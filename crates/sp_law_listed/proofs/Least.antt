@@ -5,7 +5,7 @@ use Rattle.sp_system.specs.System.{Event}
 use Rattle.sp_system.specs.Order.{is_before, is_cyclic}
 use Rattle.sp_solved.specs.Listing.{some_before, passed, first_free, one_by_one}
 use Rattle.sp_solved.proofs.Listed.{taken, length_middle}
-use Rattle.sp_law_listed.proofs.Paths.{before_before, not_before_itself}
+use Rattle.sp_system.proofs.ShortPaths.{before_before, not_before_itself}
 
 -- none of them is before the event
 abbrev NoneBefore : List (ℕ × ℕ) → Event → List Event → Type 0

@@ -1,4 +1,3 @@
-pub mod Paths
 pub mod Least
 pub mod Sources
 pub mod Ready

@@ -5,55 +5,42 @@ ghost use Rattle.sp_system.specs.SystemView.{event_of};
 ghost use Rattle.sp_solved.specs.Listing as spec;
 ghost use Rattle.sp_solved.specs.ListingView.{events_of, free_place};
 
-use sp_system::order::is_before;
+use sp_system::closed::ClosedOrder;
 use sp_system::system::Event;
 use std::alloc::{AllocError, Global};
 
 /// Whether one of these events is before the time.
-fn some_before(
-    alloc: Global,
-    order: &Vec<(u128, u128)>,
-    events: &Vec<&Event>,
-    time: u128,
-) -> Result<bool, AllocError>
-    ensures { IfOk result (λ b. b ≡ spec.some_before order.now.items (events_of events.now.items) time) }
+fn some_before(order: &ClosedOrder, events: &Vec<&Event>, time: u128) -> bool
+    ensures { result ≡ spec.some_before order.now.pairs.items (events_of events.now.items) time }
 {
     for event in events {
-        if is_before(alloc, order, event.time, time)? {
-            return Ok(true);
+        if order.before(event.time, time) {
+            return true;
         }
     }
-    Ok(false)
+    false
 }
 
 /// The place of the first event that none of those left is before.
-fn free_place(
-    alloc: Global,
-    order: &Vec<(u128, u128)>,
-    left: &Vec<&Event>,
-) -> Result<Option<usize>, AllocError>
-    ensures { IfOk result (λ o. o ≡ free_place order.now.items (events_of left.now.items) (events_of left.now.items)) }
+fn free_place(order: &ClosedOrder, left: &Vec<&Event>) -> Option<usize>
+    ensures { result ≡ free_place order.now.pairs.items (events_of left.now.items) (events_of left.now.items) }
 {
     for (place, event) in left.iter().enumerate() {
-        if !some_before(alloc, order, left, event.time)? {
-            return Ok(Some(place));
+        if !some_before(order, left, event.time) {
+            return Some(place);
         }
     }
-    Ok(None)
+    None
 }
 
 /// Takes the first event that none of those left is before.
-fn take_free<'a>(
-    alloc: Global,
-    order: &Vec<(u128, u128)>,
-    left: &mut Vec<&'a Event>,
-) -> Result<Option<&'a Event>, AllocError>
-    ensures { IfOk result (λ o. option_map (λ e. (event_of e.now, events_of left.new.items)) o ≡ spec.first_free order.now.items (events_of left.old.items) (events_of left.old.items)) }
+fn take_free<'a>(order: &ClosedOrder, left: &mut Vec<&'a Event>) -> Option<&'a Event>
+    ensures { option_map (λ e. (event_of e.now, events_of left.new.items)) result ≡ spec.first_free order.now.pairs.items (events_of left.old.items) (events_of left.old.items) }
 {
-    let Some(place) = free_place(alloc, order, left)? else {
-        return Ok(None);
+    let Some(place) = free_place(order, left) else {
+        return None;
     };
-    Ok(Some(left.remove(place)))
+    Some(left.remove(place))
 }
 
 /// References to the events.
@@ -74,15 +61,15 @@ fn all<'a>(alloc: Global, events: &'a Vec<Event>) -> Result<Vec<&'a Event>, Allo
 /// `AllocError` where memory is wanting.
 pub fn in_order<'a>(
     alloc: Global,
-    order: &Vec<(u128, u128)>,
+    order: &ClosedOrder,
     events: &'a Vec<Event>,
 ) -> Result<Option<Vec<&'a Event>>, AllocError>
-    ensures { IfOk result (λ o. option_map (λ es. events_of es.items) o ≡ spec.in_order order.now.items (map event_of events.now.items)) }
+    ensures { IfOk result (λ o. option_map (λ es. events_of es.items) o ≡ spec.in_order order.now.pairs.items (map event_of events.now.items)) }
 {
     let mut left = all(alloc, events)?;
     let mut listed = Vec::with_capacity(alloc, events.len())?;
     for _ in 0..events.len() {
-        let Some(event) = take_free(alloc, order, &mut left)? else {
+        let Some(event) = take_free(order, &mut left) else {
             return Ok(None);
         };
         listed.push(event)?;

@@ -194,7 +194,8 @@ pub fn candidate(
     if !is_ready(alloc, system)? {
         return Ok(None);
     }
-    let Some(events) = in_order(alloc, &system.order, &system.events)? else {
+    let order = system.close_order(alloc)?;
+    let Some(events) = in_order(alloc, &order, &system.events)? else {
         return Ok(None);
     };
     let Some(entries) = entries(alloc, constants, &system.links, &events)? else {

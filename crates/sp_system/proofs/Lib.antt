@@ -9,5 +9,7 @@ pub mod Bindings
 pub mod Unifying
 pub mod Unifier
 pub mod Pairs
+pub mod ShortPaths
 pub mod Paths
+pub mod Peeled
 pub mod Noted

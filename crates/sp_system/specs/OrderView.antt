@@ -1,23 +1,34 @@
--- The times from which a path of order pairs leads to a time, in rounds: in each, those at which a pair begins that ends at the time, or
--- at one from which a path is known.
-use Rattle.std.specs.Prelude.{ℕ, zero, suc, List, [], ◌∷◌, ◌==◌, ◌||◌, Bool, false, if◌then◌else◌}
+-- The times from which a path of order pairs leads to a time, in rounds over the pairs: in each, those at which a pair begins that ends at
+-- the time, or at one from which a path is known by then.
+use Rattle.std.specs.Prelude.{ℕ, zero, suc, List, [], ◌∷◌, ◌++◌, ◌==◌, ◌&&◌, ◌||◌, not, Bool, false, if◌then◌else◌}
 
 abbrev pub among : ℕ → List ℕ → Bool
 among i [] = false
 among i (k ∷ ks) = (k == i) || among i ks
 
-abbrev pub put_if : Bool → ℕ → List ℕ → List ℕ
-put_if b i ks = if b then i ∷ ks else ks
-
 -- whether a pair that ends here leads to the time
 abbrev pub leads : ℕ → List ℕ → ℕ → Bool
 leads j ks k = (k == j) || among k ks
 
+-- a pair's beginning is known, once, if the pair leads to the time
+abbrev pub known_by : ℕ × ℕ → ℕ → List ℕ → List ℕ
+known_by p j ks = if leads j ks p.1 && not (among p.0 ks) then ks ++ p.0 ∷ [] else ks
+
 abbrev pub next_round : List (ℕ × ℕ) → ℕ → List ℕ → List ℕ
-next_round [] j ks = []
-next_round (p ∷ pairs) j ks = put_if (leads j ks p.1) p.0 (next_round pairs j ks)
+next_round [] j ks = ks
+next_round (p ∷ pairs) j ks = next_round pairs j (known_by p j ks)
 
 -- so many rounds more
 abbrev pub rounds : ℕ → List (ℕ × ℕ) → ℕ → List ℕ → List ℕ
 rounds zero order j ks = ks
 rounds (suc n) order j ks = rounds n order j (next_round order j ks)
+
+-- one of these pairs begins at the time
+abbrev pub begins_at : ℕ → List (ℕ × ℕ) → Bool
+begins_at i [] = false
+begins_at i (p ∷ pairs) = (p.0 == i) || begins_at i pairs
+
+-- the pairs that are kept, and of the others those that end where one begins that is left by then
+abbrev pub peeled : List (ℕ × ℕ) → List (ℕ × ℕ) → List (ℕ × ℕ)
+peeled kept [] = kept
+peeled kept (p ∷ rest) = if begins_at p.1 kept || begins_at p.1 (p ∷ rest) then peeled (kept ++ p ∷ []) rest else peeled kept rest

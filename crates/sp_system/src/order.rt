@@ -1,9 +1,10 @@
 // Whether a path of order pairs leads from one time to another.
 
-ghost use Rattle.std.specs.Prelude.{◌≡◌, [], IfOk, length};
+ghost use Rattle.std.specs.Prelude.{◌≡◌, [], IfOk, OnOk, length};
 ghost use Rattle.sp_system.specs.Order as spec;
 ghost use Rattle.sp_system.specs.OrderView as view;
 
+use crate::system::copy_order;
 use std::alloc::{AllocError, Global};
 
 pub(crate) fn is_among(time: u128, times: &Vec<u128>) -> bool
@@ -23,22 +24,16 @@ fn leads(goal: u128, known: &Vec<u128>, time: u128) -> bool
     time == goal || is_among(time, known)
 }
 
-// The times at which a pair begins that ends at the goal, or at a time from which a path to it is known.
-fn next_round(
-    alloc: Global,
-    order: &Vec<(u128, u128)>,
-    goal: u128,
-    known: &Vec<u128>,
-) -> Result<Vec<u128>, AllocError>
-    ensures { IfOk result (λ ks. ks.items ≡ view.next_round order.now.items goal known.now.items) }
+// Adds the times at which a pair begins that ends at the goal, or at a time from which a path to it is known by then.
+fn go_round(goal: u128, order: &Vec<(u128, u128)>, known: &mut Vec<u128>) -> Result<(), AllocError>
+    ensures { OnOk result (known.new.items ≡ view.next_round order.now.items goal known.old.items) }
 {
-    let mut made = Vec::new(alloc);
     for pair in order {
-        if leads(goal, known, pair.1) {
-            made.push(pair.0)?;
+        if leads(goal, known, pair.1) && !is_among(pair.0, known) {
+            known.push(pair.0)?;
         }
     }
-    Ok(made)
+    Ok(())
 }
 
 // All times from which a path leads to the goal. A round that finds nothing new is the last one.
@@ -51,11 +46,11 @@ pub(crate) fn leading(
 {
     let mut known = Vec::new(alloc);
     for round in 0..order.len() {
-        let next = next_round(alloc, order, goal, &known)?;
-        if next == known {
+        let before = known.len();
+        go_round(goal, order, &mut known)?;
+        if known.len() == before {
             return Ok(known);
         }
-        known = next;
     }
     Ok(known)
 }
@@ -77,6 +72,32 @@ pub fn is_before(
     Ok(is_among(first, &known))
 }
 
+fn begins_at(time: u128, pairs: &[(u128, u128)]) -> bool
+    ensures { result ≡ view.begins_at time pairs.now }
+{
+    for pair in pairs {
+        if pair.0 == time {
+            return true;
+        }
+    }
+    false
+}
+
+// The pairs but for those that end where none begins that is left by then: they are on no cycle.
+fn peeled(alloc: Global, pairs: &Vec<(u128, u128)>) -> Result<Vec<(u128, u128)>, AllocError>
+    ensures { IfOk result (λ ps. ps.items ≡ view.peeled [] pairs.now.items) }
+{
+    let mut kept = Vec::new(alloc);
+    let mut rest = pairs.as_slice();
+    while let [pair, behind @ ..] = rest {
+        if begins_at(pair.1, &kept) || begins_at(pair.1, rest) {
+            kept.push(*pair)?;
+        }
+        rest = behind;
+    }
+    Ok(kept)
+}
+
 /// Whether a time is before itself.
 ///
 /// # Errors
@@ -85,10 +106,13 @@ pub fn is_before(
 pub fn is_cyclic(alloc: Global, order: &Vec<(u128, u128)>) -> Result<bool, AllocError>
     ensures { IfOk result (λ b. b ≡ spec.is_cyclic order.now.items) }
 {
-    for pair in order {
-        if is_before(alloc, order, pair.0, pair.0)? {
+    let mut left = copy_order(alloc, order)?;
+    while !left.is_empty() {
+        let next = peeled(alloc, &left)?;
+        if next.len() == left.len() {
             return Ok(true);
         }
+        left = next;
     }
     Ok(false)
 }

@@ -4,11 +4,11 @@ use Rattle.std.proofs.lemmas.Bool.{or_cases, and_parts, and_from, eqb-true, eq-e
 use Rattle.sp_spec.specs.Lists.{Member}
 use Rattle.sp_system.specs.Order.{some_pair, path_within, is_before, begins_cycle, is_cyclic}
 
-abbrev Pairs : Type 0
+abbrev pub Pairs : Type 0
 Pairs = List (ℕ × ℕ)
 
 -- a path of some length
-data Path (order : Pairs) : ℕ → ℕ → Type 0 where
+pub data Path (order : Pairs) : ℕ → ℕ → Type 0 where
   last_pair : {i j : ℕ} → (p : ℕ × ℕ) → Member p order → p.0 ≡ i → p.1 ≡ j → Path order i j
   then_path : {i j : ℕ} → (p : ℕ × ℕ) → Member p order → p.0 ≡ i → Path order p.1 j → Path order i j
 
@@ -18,7 +18,7 @@ path_path order i j k (then_path p m b v) w = then_path p m b (path_path order p
 
 -- ---- a path within so many pairs, and a path
 
-some_pair_is : (pairs : Pairs) (i : ℕ) (leads : ℕ → Bool) → some_pair pairs i leads ≡ true → (p : ℕ × ℕ) × Member p pairs × (p.0 ≡ i) × (leads p.1 ≡ true)
+pub some_pair_is : (pairs : Pairs) (i : ℕ) (leads : ℕ → Bool) → some_pair pairs i leads ≡ true → (p : ℕ × ℕ) × Member p pairs × (p.0 ≡ i) × (leads p.1 ≡ true)
 some_pair_is [] i leads e = absurd cc
 some_pair_is (p ∷ pairs) i leads e =
     ⊎_elim
@@ -41,7 +41,7 @@ is_some_pair (q ∷ pairs) i leads p (inl m) b e =
     (and_from (nat_eq q.0 i) (leads q.1) (eq-eqb q.0 i (ap (λ (r : ℕ × ℕ). r.0) m ∙ b)) (ap (λ (r : ℕ × ℕ). leads r.1) m ∙ e))
 is_some_pair (q ∷ pairs) i leads p (inr m) b e = or_right (nat_eq q.0 i && leads q.1) (some_pair pairs i leads) (is_some_pair pairs i leads p m b e)
 
-path_of : (n : ℕ) (order : Pairs) (i j : ℕ) → path_within n order i j ≡ true → Path order i j
+pub path_of : (n : ℕ) (order : Pairs) (i j : ℕ) → path_within n order i j ≡ true → Path order i j
 path_of zero order i j e = absurd cc
 path_of (suc n) order i j e =
     let r = some_pair_is order i (λ k. (k == j) || path_within n order k j) e in
@@ -137,7 +137,7 @@ start order i j (last_pair p m b e) = record { pair = p; there = m; begins = b; 
 start order i j (then_path p m b w) =
     record { pair = p; there = m; begins = b; goes_on = ⊎_elim (λ (v : Path (without p order) p.1 j). inr v) (λ (v : (p.1 ≡ j) ⊎ Path (without p order) p.1 j). v) (behind_last p order p.1 j w) }
 
-short : (n : ℕ) (order : Pairs) → length order ≤ n → (i j : ℕ) → Path order i j → path_within n order i j ≡ true
+pub short : (n : ℕ) (order : Pairs) → length order ≤ n → (i j : ℕ) → Path order i j → path_within n order i j ≡ true
 short zero order h i j w = let s = start order i j w in let f = fewer s.pair order s.there in absurd (omega arith)
 short (suc n) order h i j w =
     let s = start order i j w in
