@@ -2,15 +2,12 @@
 use Rattle.std.proofs.Common.{◌≡◌, ℕ, zero, suc, ◌+◌, ◌-◌, ◌<◌, ◌≤◌, Bool, true, false, cond, List, [], ◌∷◌, ◌++◌, length, drop, Option, Some, None, refl, sym, ap, subst, ◌∙◌, append_assoc, length-append, arith}
 use Rattle.std.specs.Prelude.{◌&&◌, ◌==◌, nat_lt}
 use Rattle.std.specs.Char.{is_ascii_alphanumeric}
-use Rattle.sp_lex.specs.declared.token.Class.{Class}
-use Rattle.sp_lex.specs.declared.token.Class.TheVariants as class
-use Rattle.sp_lex.specs.declared.token.FaultKind.{FaultKind}
-use Rattle.sp_lex.specs.declared.token.Mark.{Mark}
-use Rattle.sp_lex.specs.declared.token.Mark.TheVariants.{Opens, Closes, Neither}
-use Rattle.sp_lex.specs.declared.token.Sign.{Sign}
-use Rattle.sp_lex.specs.declared.token.Sign.TheVariants as s
-use Rattle.sp_lex.specs.Lexeme.{Lexeme, word, constant, sign, solve, Token}
-use Rattle.sp_lex.specs.Lex.{is_in, is_first, skip, before, by_mark, comment_mark, after_comment, Step, nothing, past, past_comment, gap, Skips, no_gap, gap_then, Piece, token, no_token, short_sign, short_piece, first_sign, piece, is_quoted, bracket, to_closing, closed_by, Reads, plain, bare, goal, IsNext}
+use Rattle.sp_spec_text.specs.Bytes.{Class, FaultKind, Mark, Opens, Closes, Neither}
+use Rattle.sp_spec_text.specs.Bytes as class
+use Rattle.sp_spec_text.specs.Signs.{Sign}
+use Rattle.sp_spec_text.specs.Signs as s
+use Rattle.sp_spec_text.specs.Token.{Lexeme, word, constant, sign, solve, Token}
+use Rattle.sp_spec_text.specs.Lex.{is_in, is_first, skip, before, by_mark, comment_mark, after_comment, Step, nothing, past, past_comment, gap, Skips, no_gap, gap_then, Piece, token, no_token, short_sign, short_piece, first_sign, piece, is_quoted, bracket, to_closing, closed_by, Reads, plain, bare, goal, IsNext}
 
 -- the bytes end with these
 abbrev pub Ends : List ℕ → List ℕ → Type 0

@@ -4,21 +4,19 @@ use Rattle.std.proofs.lemmas.List.{append_cancel_right, map-append}
 use Rattle.sp_spec.specs.Lists.{Every}
 use Rattle.sp_spec.specs.Theory.{Lemma}
 use Rattle.sp_spec.specs.Written.{WrittenRule}
-use Rattle.sp_lex.specs.declared.token.Sign.TheVariants as s
-use Rattle.sp_lex.specs.Lexeme.{Lexeme, word, sign, Token}
-use Rattle.sp_lex.specs.Lex.{AreTokens, is_end, lexemes}
-use Rattle.sp_lex.specs.Places.{place_behind, is_any}
+use Rattle.sp_spec_text.specs.Signs as s
+use Rattle.sp_spec_text.specs.Token.{Lexeme, word, sign, Token}
+use Rattle.sp_spec_text.specs.Lex.{AreTokens, is_end, lexemes}
+use Rattle.sp_spec_text.specs.Ends.{place_behind, is_any}
 use Rattle.sp_lex.proofs.One.{tokens_one}
-use Rattle.sp_read_parts.specs.Names.{IsName}
+use Rattle.sp_spec_text.specs.Names.{IsName}
 use Rattle.sp_check.specs.Tree.{Tree}
-use Rattle.sp_written.specs.Text.{WrittenProof, Item, WrittenText}
-use Rattle.sp_written.specs.declared.theory.Span.{Span}
-use Rattle.sp_read_proof.proofs.One.{proof_one}
-use Rattle.sp_read_theory.specs.Grammar as g
-use Rattle.sp_read_theory.specs.Grammar.{SpellsRule, SpellsLemma, SpellsProofPart, SpellsItems, SpellsTheory}
+use Rattle.sp_spec_text.specs.Written.{WrittenProof, Item, WrittenText}
+use Rattle.sp_spec_text.specs.Spans.{Span, EndsAt, AreSpans, no_span, past_rule, past_lemma}
+use Rattle.sp_spec_text.specs.Theories as g
+use Rattle.sp_spec_text.specs.Theories.{SpellsRule, SpellsLemma, SpellsProofPart, SpellsItems, SpellsTheory}
 use Rattle.sp_read_theory.specs.Items.{the_end}
-use Rattle.sp_read_theory.specs.Places.{EndsAt, AreSpans, no_span, past_rule, past_lemma}
-use Rattle.sp_read_theory.specs.Text.{IsTextOf, ArePlaces}
+use Rattle.sp_spec_text.specs.Texts.{IsTextOf, ArePlaces}
 use Rattle.sp_read_theory.proofs.One.{rules_one, lemmas_one}
 use Rattle.sp_skel.specs.Spelling.{spelled, IsReadable}
 use Rattle.sp_skel.proofs.Spelled.{tree_spells}
@@ -30,6 +28,7 @@ use Rattle.sp_again.proofs.Moving.{front_of, move_rule, move_lemma, name_plain}
 use Rattle.sp_again.proofs.Reached.{parted}
 use Rattle.sp_again.proofs.Places.{At, at_start, Claim, Again, settle, extend}
 use Rattle.sp_again.proofs.Stretches.{claim_end, claim_lemma, after_other, onwards}
+use Rattle.sp_read_theory.proofs.Spans.{proof_rest}
 
 -- ---- the tokens of an item
 
@@ -122,10 +121,6 @@ end_later {us = us} e first f = record { from = place_behind is_any e.from first
 end_behind : {behind others : List Token} {end : ℕ} (p : Option WrittenProof) (span : Span) → EndsAt behind others p span → EndAt behind end → EndAt others end
 end_behind None span h e = end_later e [] (sym h.0)
 end_behind {others = us} (Some p) span h e = end_later e (h.before ++ h.last ∷ []) (h.are ∙ sym (append_assoc h.before (h.last ∷ []) us))
-
-proof_rest : {tokens x y : List Lexeme} {p : Option WrittenProof} → SpellsProofPart tokens p x → SpellsProofPart tokens p y → x ≡ y
-proof_rest g.no_proof g.no_proof = refl
-proof_rest (g.a_proof h) (g.a_proof k) = (proof_one h k).1
 
 -- ---- the items
 

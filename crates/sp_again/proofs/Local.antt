@@ -5,16 +5,12 @@ use Rattle.std.specs.Str.{bytes_eq}
 use Rattle.std.specs.Char.{is_ascii_alphanumeric}
 use Rattle.std.proofs.lemmas.Bool.Decides.{nat_tests}
 use Rattle.std.proofs.lemmas.List.{append_cancel_right}
-use Rattle.sp_lex.specs.declared.token.Class.{Class}
-use Rattle.sp_lex.specs.declared.token.Class.TheVariants as class
-use Rattle.sp_lex.specs.declared.token.FaultKind.{FaultKind}
-use Rattle.sp_lex.specs.declared.token.FaultKind.TheVariants.{NoConstant}
-use Rattle.sp_lex.specs.declared.token.Mark.{Mark}
-use Rattle.sp_lex.specs.declared.token.Mark.TheVariants.{Opens, Closes, Neither}
-use Rattle.sp_lex.specs.declared.token.Sign.{Sign}
-use Rattle.sp_lex.specs.declared.token.Sign.TheVariants as s
-use Rattle.sp_lex.specs.Lexeme.{Lexeme, word, constant, sign, solve}
-use Rattle.sp_lex.specs.Lex.{is_blank, is_in, is_first, is_digit, skip, begins, before, by_mark, comment_mark, after_comment, nothing, past, past_comment, gap, Skips, no_gap, gap_then, Piece, token, no_token, close_constant, short_sign, short_piece, first_short, first_sign, piece, is_end}
+use Rattle.sp_spec_text.specs.Bytes.{Class, FaultKind, NoConstant, Mark, Opens, Closes, Neither}
+use Rattle.sp_spec_text.specs.Bytes as class
+use Rattle.sp_spec_text.specs.Signs.{Sign}
+use Rattle.sp_spec_text.specs.Signs as s
+use Rattle.sp_spec_text.specs.Token.{Lexeme, word, constant, sign, solve}
+use Rattle.sp_spec_text.specs.Lex.{is_blank, is_in, is_first, is_digit, skip, begins, before, by_mark, comment_mark, after_comment, nothing, past, past_comment, gap, Skips, no_gap, gap_then, Piece, token, no_token, close_constant, short_sign, short_piece, first_short, first_sign, piece, is_end}
 use Rattle.sp_skel.proofs.Decimals.{before_rest}
 use Rattle.sp_again.proofs.Ends.{Ends, ends_more, behind_ends, ends_behind, not_behind, skip_ends, comment_behind, gap_behind, skips_ends, piece_behind}
 

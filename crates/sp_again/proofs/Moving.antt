@@ -4,21 +4,21 @@ use Rattle.std.specs.Prelude.{not, ◌&&◌, ◌||◌}
 use Rattle.std.specs.Str.{bytes_eq}
 use Rattle.std.proofs.lemmas.Slice.Eq.{bytes_eq-Decides}
 use Rattle.sp_spec.specs.Lists.{Every}
-use Rattle.sp_lex.specs.declared.token.Sign.{Sign}
-use Rattle.sp_lex.specs.declared.token.Sign.TheVariants as s
-use Rattle.sp_lex.specs.Lexeme.{Lexeme, word, constant, sign}
+use Rattle.sp_spec_text.specs.Signs.{Sign}
+use Rattle.sp_spec_text.specs.Signs as s
+use Rattle.sp_spec_text.specs.Token.{Lexeme, word, constant, sign}
 use Rattle.sp_spec.specs.Term.{Term}
 use Rattle.sp_spec.specs.Rule.{Fact}
 use Rattle.sp_spec.specs.Formula.{Mark, Written, Formula}
 use Rattle.sp_spec.specs.Theory.{TraceKind, Lemma}
 use Rattle.sp_spec.specs.Written.{WrittenRule}
-use Rattle.sp_read_parts.specs.Names.{is_reserved, IsName, is_capital, is_adversarial, names_fact, mark_of}
-use Rattle.sp_read_parts.specs.Lists as l
-use Rattle.sp_read_parts.specs.Lists.{IsNotFirst, AreParts, AreItems}
-use Rattle.sp_read_parts.specs.Grammar as g
-use Rattle.sp_read_parts.specs.Grammar.{SpellsVariable, SpellsTerm, SpellsFact, SpellsBinders, NoSign, SpellsUnit, SpellsNegation, SpellsConjunction, SpellsAnds, SpellsDisjunction, SpellsOrs, SpellsImplication, SpellsFormula, SpellsReach}
-use Rattle.sp_read_theory.specs.Grammar as t
-use Rattle.sp_read_theory.specs.Grammar.{SpellsFacts, SpellsArrow, SpellsRule, SpellsKind, SpellsLemma}
+use Rattle.sp_spec_text.specs.Names.{is_reserved, IsName, is_capital, is_adversarial, names_fact, mark_of}
+use Rattle.sp_spec_text.specs.Lists as l
+use Rattle.sp_spec_text.specs.Lists.{IsNotFirst, AreParts, AreItems}
+use Rattle.sp_spec_text.specs.Formulas as g
+use Rattle.sp_spec_text.specs.Formulas.{SpellsVariable, SpellsTerm, SpellsFact, SpellsBinders, NoSign, SpellsUnit, SpellsNegation, SpellsConjunction, SpellsAnds, SpellsDisjunction, SpellsOrs, SpellsImplication, SpellsFormula, SpellsReach}
+use Rattle.sp_spec_text.specs.Theories as t
+use Rattle.sp_spec_text.specs.Theories.{SpellsFacts, SpellsArrow, SpellsRule, SpellsKind, SpellsLemma}
 use Rattle.sp_again.proofs.Local.{IsPlain}
 
 -- the same tokens before these and those

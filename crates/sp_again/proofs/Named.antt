@@ -3,22 +3,22 @@ use Rattle.std.proofs.Common.{◌≡◌, ℕ, Bool, true, false, cond, List, [],
 use Rattle.std.specs.Prelude.{◌&&◌, ◌||◌, ◌==◌, nat_lt}
 use Rattle.std.specs.Char.{is_ascii_alphanumeric}
 use Rattle.std.specs.Int.{is_in_range}
-use Rattle.sp_lex.specs.declared.token.Class.TheVariants as class
-use Rattle.sp_lex.specs.declared.token.FaultKind.{FaultKind}
-use Rattle.sp_lex.specs.declared.token.Sign.{Sign}
-use Rattle.sp_lex.specs.declared.token.Sign.TheVariants as s
-use Rattle.sp_lex.specs.Lexeme.{Lexeme, word, constant, sign, solve, Token}
-use Rattle.sp_lex.specs.Lex.{is_in, is_first, is_digit, skip, before, Piece, token, no_token, short_sign, short_piece, first_sign, piece, to_closing, closed_by, Reads, plain, bare, goal, AreTokens, no_more, last, next, lexemes}
+use Rattle.sp_spec_text.specs.Bytes as class
+use Rattle.sp_spec_text.specs.Bytes.{FaultKind}
+use Rattle.sp_spec_text.specs.Signs.{Sign}
+use Rattle.sp_spec_text.specs.Signs as s
+use Rattle.sp_spec_text.specs.Token.{Lexeme, word, constant, sign, solve, Token}
+use Rattle.sp_spec_text.specs.Lex.{is_in, is_first, is_digit, skip, before, Piece, token, no_token, short_sign, short_piece, first_sign, piece, to_closing, closed_by, Reads, plain, bare, goal, AreTokens, no_more, last, next, lexemes}
 use Rattle.sp_spec.specs.Lists.{Every}
 use Rattle.sp_spec.specs.Theory.{Lemma}
 use Rattle.sp_spec.specs.Written.{WrittenRule, rule_of, theory_of}
-use Rattle.sp_written.specs.Text.{WrittenProof, WrittenCases, Method, Item, rules_in, WrittenText, theory_in}
-use Rattle.sp_read_parts.specs.Names.{IsName}
-use Rattle.sp_read_proof.specs.Grammar as p
-use Rattle.sp_read_proof.specs.Grammar.{SpellsMethod, SpellsProof, SpellsCases, SpellsMore}
-use Rattle.sp_read_theory.specs.Grammar as g
-use Rattle.sp_read_theory.specs.Grammar.{SpellsRule, SpellsLemma, SpellsProofPart, SpellsItems, SpellsTheory}
-use Rattle.sp_read_theory.specs.Text.{IsTextOf}
+use Rattle.sp_spec_text.specs.Written.{WrittenProof, WrittenCases, Method, Item, rules_in, WrittenText, theory_in}
+use Rattle.sp_spec_text.specs.Names.{IsName}
+use Rattle.sp_spec_text.specs.Proofs as p
+use Rattle.sp_spec_text.specs.Proofs.{SpellsMethod, SpellsProof, SpellsCases, SpellsMore}
+use Rattle.sp_spec_text.specs.Theories as g
+use Rattle.sp_spec_text.specs.Theories.{SpellsRule, SpellsLemma, SpellsProofPart, SpellsItems, SpellsTheory}
+use Rattle.sp_spec_text.specs.Texts.{IsTextOf}
 use Rattle.sp_skel.specs.Spelling.{IsWord, AreNamed}
 use Rattle.sp_skel.proofs.Decimals.{before_rest}
 use Rattle.sp_again.proofs.Moving.{front_of, move_rule, move_lemma}

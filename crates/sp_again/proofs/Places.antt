@@ -2,10 +2,10 @@
 use Rattle.std.proofs.Common.{◌≡◌, ℕ, ◌+◌, ◌-◌, List, [], ◌∷◌, ◌++◌, length, take, drop, refl, sym, ap, subst, ◌∙◌, append_assoc, length-append, arith}
 use Rattle.std.proofs.Math.Seq.{drop-append_seam}
 use Rattle.sp_spec.specs.Lists.{Every}
-use Rattle.sp_lex.specs.Lexeme.{Lexeme, Token}
-use Rattle.sp_lex.specs.Lex.{lexemes}
+use Rattle.sp_spec_text.specs.Token.{Lexeme, Token}
+use Rattle.sp_spec_text.specs.Lex.{lexemes}
 use Rattle.sp_check.specs.Tree.{Tree}
-use Rattle.sp_written.specs.declared.theory.Span.{Span}
+use Rattle.sp_spec_text.specs.Spans.{Span}
 use Rattle.sp_skel.proofs.Blanks.{Lexes}
 use Rattle.sp_skel.proofs.Decimals.{before_rest}
 use Rattle.sp_again.specs.Again.{between, replaced}

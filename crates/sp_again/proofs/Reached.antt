@@ -1,8 +1,8 @@
 -- Tokens up to a place in a text, and the lexemes that are cut off there.
 use Rattle.std.proofs.Common.{◌≡◌, ℕ, ◌-◌, ◌≤◌, false, true≢false, List, [], ◌∷◌, ◌++◌, length, Option, Some, None, refl, sym, ap, subst, ◌∙◌, length-append, arith}
 use Rattle.sp_spec.specs.Lists.{Every}
-use Rattle.sp_lex.specs.Lexeme.{Lexeme, word, constant, sign, solve, Token}
-use Rattle.sp_lex.specs.Lex.{before, past, gap, Skips, no_gap, gap_then, Piece, token, piece, is_end, is_solve, to_closing, closed_by, Reads, plain, bare, goal, IsNext, AreTokens, no_more, last, next, lexemes}
+use Rattle.sp_spec_text.specs.Token.{Lexeme, word, constant, sign, solve, Token}
+use Rattle.sp_spec_text.specs.Lex.{before, past, gap, Skips, no_gap, gap_then, Piece, token, piece, is_end, is_solve, to_closing, closed_by, Reads, plain, bare, goal, IsNext, AreTokens, no_more, last, next, lexemes}
 use Rattle.sp_lex.proofs.Gaps.{skips_shorter}
 use Rattle.sp_skel.proofs.Blanks.{Lexes}
 use Rattle.sp_again.proofs.Ends.{Ends, ends_all, ends_behind, next_ends, behind_ends, piece_behind}

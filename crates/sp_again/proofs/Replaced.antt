@@ -2,12 +2,11 @@
 use Rattle.std.proofs.Common.{◌≡◌, ℕ, suc, List, [], ◌∷◌, Option, Some, length, map, refl, ap, arith}
 use Rattle.sp_spec.specs.Theory.{Lemma}
 use Rattle.sp_spec.specs.Written.{WrittenRule}
-use Rattle.sp_lex.specs.Lexeme.{Token}
+use Rattle.sp_spec_text.specs.Token.{Token}
 use Rattle.sp_check.specs.Tree.{Tree}
-use Rattle.sp_written.specs.Text.{WrittenProof, Item, rule_item, lemma_item, WrittenText, rules_in, lemmas_in, proofs_in, theory_in}
-use Rattle.sp_written.specs.declared.theory.Span.{Span}
-use Rattle.sp_read_theory.specs.Places.{AreSpans, no_span, past_rule, past_lemma}
-use Rattle.sp_read_theory.specs.Text.{ArePlaces}
+use Rattle.sp_spec_text.specs.Written.{WrittenProof, Item, rule_item, lemma_item, WrittenText, rules_in, lemmas_in, proofs_in, theory_in}
+use Rattle.sp_spec_text.specs.Spans.{Span, AreSpans, no_span, past_rule, past_lemma}
+use Rattle.sp_spec_text.specs.Texts.{ArePlaces}
 use Rattle.sp_skel.specs.Spelling.{as_written}
 use Rattle.sp_again.specs.Again.{with_trees}
 

@@ -3,13 +3,12 @@ use Rattle.std.proofs.Common.{◌≡◌, ℕ, ◌-◌, Bool, true, false, cond, 
 use Rattle.std.specs.Prelude.{◌&&◌, ◌==◌, nat_lt}
 use Rattle.std.specs.Char.{is_ascii_alphanumeric}
 use Rattle.std.proofs.lemmas.Bool.{eqb-true}
-use Rattle.sp_lex.specs.declared.token.Class.{Class}
-use Rattle.sp_lex.specs.declared.token.Class.TheVariants as class
-use Rattle.sp_lex.specs.declared.token.FaultKind.TheVariants.{NoConstant}
-use Rattle.sp_lex.specs.declared.token.Sign.{Sign}
-use Rattle.sp_lex.specs.declared.token.Sign.TheVariants as s
-use Rattle.sp_lex.specs.Lexeme.{Lexeme, word, constant, sign, Token}
-use Rattle.sp_lex.specs.Lex.{is_in, is_first, skip, begins, before, nothing, past, gap, Skips, no_gap, gap_then, token, no_token, close_constant, short_sign, short_piece, first_sign, piece, plain, AreTokens, no_more, last, next}
+use Rattle.sp_spec_text.specs.Bytes.{Class, NoConstant}
+use Rattle.sp_spec_text.specs.Bytes as class
+use Rattle.sp_spec_text.specs.Signs.{Sign}
+use Rattle.sp_spec_text.specs.Signs as s
+use Rattle.sp_spec_text.specs.Token.{Lexeme, word, constant, sign, Token}
+use Rattle.sp_spec_text.specs.Lex.{is_in, is_first, skip, begins, before, nothing, past, gap, Skips, no_gap, gap_then, token, no_token, close_constant, short_sign, short_piece, first_sign, piece, plain, AreTokens, no_more, last, next}
 use Rattle.sp_skel.proofs.Blanks.{Lexes}
 use Rattle.sp_skel.proofs.Decimals.{before_rest}
 use Rattle.sp_again.proofs.Ends.{skip_ends, ends_more}

@@ -3,16 +3,15 @@ use Rattle.std.proofs.Common.{◌≡◌, ℕ, ◌+◌, Bool, true, false, true�
 use Rattle.std.specs.Prelude.{◌==◌}
 use Rattle.std.proofs.lemmas.Bool.{eqb-true}
 use Rattle.sp_spec.specs.Lists.{Every}
-use Rattle.sp_lex.specs.declared.token.Sign.TheVariants as s
-use Rattle.sp_lex.specs.Lexeme.{Lexeme, word, sign, Token}
-use Rattle.sp_lex.specs.Lex.{Skips, token, piece, is_end, IsNext, AreTokens, no_more, last, next, lexemes}
-use Rattle.sp_lex.specs.Places.{place_behind, is_any}
+use Rattle.sp_spec_text.specs.Signs as s
+use Rattle.sp_spec_text.specs.Token.{Lexeme, word, sign, Token}
+use Rattle.sp_spec_text.specs.Lex.{Skips, token, piece, is_end, IsNext, AreTokens, no_more, last, next, lexemes}
+use Rattle.sp_spec_text.specs.Ends.{place_behind, is_any}
 use Rattle.sp_check.specs.Tree.{Tree}
 use Rattle.sp_text.specs.TreeText.{tree_text}
-use Rattle.sp_written.specs.Text.{WrittenProof}
-use Rattle.sp_written.specs.declared.theory.Span.{Span}
+use Rattle.sp_spec_text.specs.Written.{WrittenProof}
+use Rattle.sp_spec_text.specs.Spans.{Span, EndsAt, is_feed, goes_on}
 use Rattle.sp_read_theory.specs.Items.{the_end}
-use Rattle.sp_read_theory.specs.Places.{EndsAt, is_feed, goes_on}
 use Rattle.sp_skel.specs.Spelling.{spelled, IsReadable}
 use Rattle.sp_skel.proofs.Blanks.{Lexes, lexes_blank}
 use Rattle.sp_skel.proofs.ReadBack.{lexes_tree}

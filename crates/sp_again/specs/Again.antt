@@ -2,9 +2,8 @@
 use Rattle.std.specs.Prelude.{ℕ, ◌-◌, List, [], ◌∷◌, ◌++◌, Some, take, drop, codes}
 use Rattle.sp_check.specs.Tree.{Tree}
 use Rattle.sp_text.specs.TreeText.{tree_text}
-use Rattle.sp_written.specs.Text.{Item, rule_item, lemma_item}
-use Rattle.sp_written.specs.declared.theory.Span.{Span}
-use Rattle.sp_read_theory.specs.Places.{goes_on}
+use Rattle.sp_spec_text.specs.Written.{Item, rule_item, lemma_item}
+use Rattle.sp_spec_text.specs.Spans.{Span, goes_on}
 use Rattle.sp_skel.specs.Spelling.{as_written}
 
 -- what stands between two places

@@ -2,9 +2,9 @@
 use Rattle.std.specs.Prelude.{◌≡◌, ℕ, List, ◌++◌, Some, length, map, codes}
 use Rattle.sp_spec.specs.Lists.{Every}
 use Rattle.sp_check.specs.Tree.{Tree}
-use Rattle.sp_written.specs.Text.{WrittenText, lemmas_in, proofs_in, theory_in}
-use Rattle.sp_written.specs.declared.theory.Span.{Span}
-use Rattle.sp_read_theory.specs.Text.{IsTextOf, ArePlaces}
+use Rattle.sp_spec_text.specs.Written.{WrittenText, lemmas_in, proofs_in, theory_in}
+use Rattle.sp_spec_text.specs.Spans.{Span}
+use Rattle.sp_spec_text.specs.Texts.{IsTextOf, ArePlaces}
 use Rattle.sp_skel.specs.Spelling.{as_written, IsReadable}
 use Rattle.sp_again.specs.Again.{replaced, with_trees}
 

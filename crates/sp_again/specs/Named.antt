@@ -1,8 +1,8 @@
 -- The rules of a text's theory have names as they stand in a text.
 use Rattle.std.specs.Prelude.{ℕ, List}
 use Rattle.sp_spec.specs.Written.{theory_of}
-use Rattle.sp_written.specs.Text.{WrittenText, theory_in}
-use Rattle.sp_read_theory.specs.Text.{IsTextOf}
+use Rattle.sp_spec_text.specs.Written.{WrittenText, theory_in}
+use Rattle.sp_spec_text.specs.Texts.{IsTextOf}
 use Rattle.sp_skel.specs.Spelling.{AreNamed}
 
 pub record RulesAreNamed : Type 0 where

@@ -10,11 +10,11 @@ use Rattle.sp_system.specs.System.{System}
 use Rattle.sp_step.specs.Moves.{Context}
 use Rattle.sp_check.specs.Tree.{Tree, IsAccepted, IsFinished, found_log, steps}
 use Rattle.sp_check.proofs.Growing.{grown_tree_accepted, grown_tree_steps}
-use Rattle.sp_judge.specs.Skeleton.{Skeleton, tree_of}
+use Rattle.sp_judge.specs.Skeleton.{tree_of}
 use Rattle.sp_judge.specs.Skeleton as read
 use Rattle.sp_judge.proofs.Right.{judgements_right}
-use Rattle.sp_written.specs.Text.{Item, rule_item, lemma_item, WrittenText, lemmas_in, theory_in}
-use Rattle.sp_read_theory.specs.Text.{IsTextOf}
+use Rattle.sp_spec_text.specs.Written.{Item, rule_item, lemma_item, WrittenText, lemmas_in, theory_in}
+use Rattle.sp_spec_text.specs.Texts.{IsTextOf}
 use Rattle.sp_text.specs.Places.{HavePlaces}
 use Rattle.sp_skel.specs.Steps.{skeleton}
 use Rattle.sp_skel.specs.Spelling.{as_written, IsReadable, AreNamed}
@@ -24,9 +24,9 @@ use Rattle.sp_skel.proofs.Spelled.{tree_says}
 use Rattle.sp_again.specs.Again.{with_trees}
 use Rattle.sp_again.proofs.Items.{read_again}
 use Rattle.sp_again.proofs.Replaced.{each_lemma, same_theory, trees_proofs}
-use Rattle.sp_report.specs.Laws.{IsWellFormed}
+use Rattle.sp_wf.specs.Laws.{IsWellFormed}
 use Rattle.sp_analysis.specs.Sought.{budget, start, Setting, setting_of, context_of}
-use Rattle.sp_analysis.specs.Verdict.{Verdict, verified, falsified, incomplete, rejected, Says, summary_line}
+use Rattle.sp_spec_text.specs.Verdict.{Verdict, verified, falsified, incomplete, rejected, Says, summary_line}
 use Rattle.sp_analysis.specs.Block.{block_of}
 use Rattle.sp_analysis.specs.Analysis.{Outcome, summary, trees_of, IsOutcome, AreOutcomes, IsAnalysis}
 use Rattle.sp_analysis.specs.Checking.{counted, IsVerdictOn, Judged, checked_text, IsJudged, AreJudged}

@@ -1,5 +1,5 @@
 -- Of a text one thing is written.
-use Rattle.std.proofs.Common.{◌≡◌, ℕ, Bool, true, false, List, [], ◌∷◌, Option, Some, None, refl, sym, ap, ap₂, ◌∙◌, subst}
+use Rattle.std.proofs.Common.{◌≡◌, ℕ, true, false, List, [], ◌∷◌, Option, Some, None, refl, sym, ap, ap₂, ◌∙◌, subst}
 use Rattle.sp_spec.specs.Log.{Log}
 use Rattle.sp_spec.specs.Theory.{TraceKind, all_traces, exists_trace, Lemma}
 use Rattle.sp_spec.specs.Written.{theory_of}
@@ -13,23 +13,20 @@ use Rattle.sp_judge.specs.Judging as judging
 use Rattle.sp_judge.specs.Judging.{Judgement, judgement}
 use Rattle.sp_judge.specs.Skeleton.{Skeleton, tree_of}
 use Rattle.sp_judge.proofs.Right.{judgements_right}
-use Rattle.sp_written.specs.Text.{WrittenProof, Item, rule_item, lemma_item, WrittenText, theory_in}
-use Rattle.sp_written.specs.declared.theory.Span.{Span}
-use Rattle.sp_read_theory.specs.Text.{ArePlaces}
+use Rattle.sp_spec_text.specs.Written.{WrittenProof, Item, rule_item, lemma_item, WrittenText, theory_in}
+use Rattle.sp_spec_text.specs.Spans.{Span}
+use Rattle.sp_spec_text.specs.Texts.{ArePlaces}
 use Rattle.sp_read_theory.proofs.Whole.{text_one, places_one}
 use Rattle.sp_pose.proofs.One.{one_report, not_posed}
 use Rattle.sp_analysis.specs.Sought.{Setting, setting_of, context_of, start, proof_tree, grown_log}
-use Rattle.sp_analysis.specs.Verdict.{Verdict, verified, falsified, incomplete, rejected, Says}
+use Rattle.sp_spec_text.specs.Verdict.{Verdict, verified, falsified, incomplete, rejected, Says}
 use Rattle.sp_analysis.specs.Analysis.{Outcome, IsOutcome, AreOutcomes, analysed_text, IsAnalysis}
 use Rattle.sp_analysis.specs.Checking.{Judged, checked_text, IsVerdictOn, IsJudged, AreJudged, IsChecking}
 use Rattle.sp_analysis.specs.Kept.{by_leaves, by_tree, by_judgement, judged_log}
 use Rattle.sp_analysis.specs.Laws.{AnswersAreOne}
+use Rattle.std.proofs.lemmas.Bool.{false_from_ne_true}
 
 -- ---- verdicts
-
-not_true : (b : Bool) → (b ≡ true → ⊥) → b ≡ false
-not_true true h = absurd (h refl)
-not_true false h = refl
 
 -- the verdict of a tree that was grown is told by its log and its leaves
 pub by_its_tree : (kind : TraceKind) (tree : Tree) (v : Verdict) (log : Option Log) → Says kind v log (IsFinished tree) → v ≡ by_tree kind log (finished tree)
@@ -37,14 +34,14 @@ by_its_tree all_traces tree verified None h = sym (ap (by_leaves all_traces) ((f
 by_its_tree all_traces tree verified (Some log) h = absurd h
 by_its_tree all_traces tree falsified None h = absurd h
 by_its_tree all_traces tree falsified (Some log) h = refl
-by_its_tree all_traces tree incomplete None h = sym (ap (by_leaves all_traces) (not_true (finished tree) (λ e. h ((finished_decides tree).0 e))))
+by_its_tree all_traces tree incomplete None h = sym (ap (by_leaves all_traces) (false_from_ne_true (finished tree) (λ e. h ((finished_decides tree).0 e))))
 by_its_tree all_traces tree incomplete (Some log) h = absurd h
 by_its_tree all_traces tree (rejected step clause) log h = absurd h
 by_its_tree exists_trace tree verified None h = absurd h
 by_its_tree exists_trace tree verified (Some log) h = refl
 by_its_tree exists_trace tree falsified None h = sym (ap (by_leaves exists_trace) ((finished_decides tree).1 h))
 by_its_tree exists_trace tree falsified (Some log) h = absurd h
-by_its_tree exists_trace tree incomplete None h = sym (ap (by_leaves exists_trace) (not_true (finished tree) (λ e. h ((finished_decides tree).0 e))))
+by_its_tree exists_trace tree incomplete None h = sym (ap (by_leaves exists_trace) (false_from_ne_true (finished tree) (λ e. h ((finished_decides tree).0 e))))
 by_its_tree exists_trace tree incomplete (Some log) h = absurd h
 by_its_tree exists_trace tree (rejected step clause) log h = absurd h
 

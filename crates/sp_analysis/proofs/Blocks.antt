@@ -4,9 +4,9 @@ use Rattle.sp_spec.specs.Rule.{Rule, Action}
 use Rattle.sp_spec.specs.Execution.{Step}
 use Rattle.sp_spec.specs.Log.{Log, visible_trace}
 use Rattle.sp_law_found.specs.Found.{execution_of}
-use Rattle.sp_ground.specs.View.{newest_first}
-use Rattle.sp_ground.specs.Text.{trace_block}
-use Rattle.sp_log.proofs.Orders.{newest_twice}
+use Rattle.sp_spec.specs.Lists.{newest_first}
+use Rattle.sp_spec_text.specs.Printed.{trace_block}
+use Rattle.sp_spec.proofs.Lists.{newest_twice}
 use Rattle.sp_analysis.specs.Block.{oldest_first, steps_text, found_block}
 
 -- what stands the newest first, turned round

@@ -26,20 +26,20 @@ use Rattle.sp_judge.specs.Skeleton.{Skeleton, tree_of}
 use Rattle.sp_judge.proofs.Right.{judgements_right}
 use Rattle.sp_constants.specs.Constants.{constants_of}
 use Rattle.sp_term.specs.View.{name_of}
-use Rattle.sp_moves.specs.View.{book_of}
+use Rattle.sp_fact.specs.BookView.{book_of}
 use Rattle.sp_text.specs.Places.{HavePlaces}
 use Rattle.sp_text.specs.TreeText.{tree_text}
-use Rattle.sp_written.specs.Text.{lemmas_in, theory_in}
+use Rattle.sp_spec_text.specs.Written.{lemmas_in, theory_in}
 use Rattle.sp_written.specs.Views as view
 use Rattle.sp_written.specs.declared.theory.Item.{Item}
 use Rattle.sp_written.specs.declared.theory.Item.TheVariants as i
-use Rattle.sp_written.specs.declared.theory.Span.{Span}
+use Rattle.sp_spec_text.specs.Spans.{Span}
 use Rattle.sp_written.specs.declared.theory.WrittenLemma.{WrittenLemma}
-use Rattle.sp_read_theory.specs.Places.{Rise, goes_on}
+use Rattle.sp_spec_text.specs.Spans.{Rise, goes_on}
 use Rattle.sp_again.specs.Again.{between, replaced}
 use Rattle.sp_pose.proofs.Forms.{AreForms, asked_list, has_forms, lemmas_same}
 use Rattle.sp_analysis.specs.Sought.{budget, sought, start, Setting, setting_of, context_with, context_of, proof_tree, grown_log}
-use Rattle.sp_analysis.specs.Verdict.{Verdict, Says}
+use Rattle.sp_spec_text.specs.Verdict.{Verdict, Says}
 use Rattle.sp_analysis.specs.Block.{block_of}
 use Rattle.sp_analysis.specs.Analysis.{Outcome, summary, trees_of, analysed_text, IsOutcome, AreOutcomes}
 use Rattle.sp_analysis.specs.Checking.{proof_read, counted, IsVerdictOn, Judged, checked_text, IsJudged, AreJudged}
@@ -57,17 +57,17 @@ use Rattle.sp_analysis.specs.declared.verdict.Verdict as memory
 -- ---- where proofs stand
 
 abbrev spans_of : List WrittenLemma → List Span
-spans_of ls = map (λ (l : WrittenLemma). l.span) ls
+spans_of ls = map (λ (l : WrittenLemma). view.span_of l.span) ls
 
 spans_read : (xs : List Item) → view.spans xs ≡ spans_of (lemmas_read xs)
 spans_read [] = refl
 spans_read (i.Rule r ∷ xs) = spans_read xs
-spans_read (i.Lemma l ∷ xs) = ap (λ (ss : List Span). l.span ∷ ss) (spans_read xs)
+spans_read (i.Lemma l ∷ xs) = ap (λ (ss : List Span). view.span_of l.span ∷ ss) (spans_read xs)
 
 abbrev kept_spans : List Kept → List Span
 kept_spans ks = map (λ (k : Kept). k.span) ks
 
-due_span : (command : Command) (setting : Setting) (l : WrittenLemma) (g : Guarded) → (due command setting (asked_with l g)).span ≡ l.span
+due_span : (command : Command) (setting : Setting) (l : WrittenLemma) (g : Guarded) → (due command setting (asked_with l g)).span ≡ view.span_of l.span
 due_span Prove setting l g = refl
 due_span Check setting l g = refl
 
@@ -77,9 +77,9 @@ due_spans command setting [] (g ∷ gs) h = absurd h
 due_spans command setting (l ∷ ls) [] h = absurd h
 due_spans command setting (l ∷ ls) (g ∷ gs) h = ap₂ (λ (s : Span) (ss : List Span). s ∷ ss) (due_span command setting l g) (due_spans command setting ls gs h.1)
 
-tried_spans : (ts : List Tried) → kept_spans (map kept_of ts) ≡ map (λ (t : Tried). t.span) ts
+tried_spans : (ts : List Tried) → kept_spans (map kept_of ts) ≡ map (λ (t : Tried). view.span_of t.span) ts
 tried_spans [] = refl
-tried_spans (t ∷ ts) = ap (λ (ss : List Span). t.span ∷ ss) (tried_spans ts)
+tried_spans (t ∷ ts) = ap (λ (ss : List Span). view.span_of t.span ∷ ss) (tried_spans ts)
 
 abbrev kept_verdicts : List Kept → List Verdict
 kept_verdicts ks = map (λ (k : Kept). k.verdict) ks
@@ -90,11 +90,11 @@ tried_verdicts (t ∷ ts) = ap (λ (vs : List Verdict). verdict_of t.verdict ∷
 
 -- the proofs are put where they stand
 pub rise_tried : {text : List ℕ} (command : Command) (setting : Setting) (p : Problem) (ts : List Tried) → IsPosedBy text p → map kept_of ts ≡ dues command setting (map asked_of p.lemmas.items)
-    → Rise text 0 (map (λ (t : Tried). t.span) ts) p.behind_end
+    → Rise text 0 (map (λ (t : Tried). view.span_of t.span) ts) p.behind_end
 rise_tried {text} command setting p ts posed kept =
     let xs = posed.theory.items.items in
     let h = has_forms (lemmas_read xs) (map asked_of p.lemmas.items) posed.lemmas_are in
-    let same : view.spans xs ≡ map (λ (t : Tried). t.span) ts =
+    let same : view.spans xs ≡ map (λ (t : Tried). view.span_of t.span) ts =
     spans_read xs ∙ sym (due_spans command setting (lemmas_read xs) h.forms h.are) ∙ ap (λ (as' : List Asked). kept_spans (dues command setting as')) (sym h.is)
     ∙ ap kept_spans (sym kept) ∙ tried_spans ts in
     subst (λ (ss : List Span). Rise text 0 ss p.behind_end) same posed.rise
@@ -146,7 +146,7 @@ proofs_same : (setting : Setting) (text : List ℕ) (start end : ℕ) (ls : List
 proofs_same setting text start end [] gs = refl
 proofs_same setting text start end (l ∷ ls) [] = refl
 proofs_same setting text start end (l ∷ ls) (g ∷ gs) =
-    ap (λ (rest : List ℕ). between start l.span.from text ++ (codes "\n" ++ (tree_text 0 (proof_tree setting (view.kind l.kind) g) ++ rest))) (proofs_same setting text (goes_on text l.span) end ls gs)
+    ap (λ (rest : List ℕ). between start l.span.from text ++ (codes "\n" ++ (tree_text 0 (proof_tree setting (view.kind l.kind) g) ++ rest))) (proofs_same setting text (goes_on text (view.span_of l.span)) end ls gs)
 
 lines_same : (setting : Setting) (ls : List WrittenLemma) (gs : List Guarded) → lines (dues Prove setting (asked_list ls gs)) ≡ summary setting.rules (outcomes_of setting ls gs)
 lines_same setting [] gs = refl

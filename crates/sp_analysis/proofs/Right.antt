@@ -1,6 +1,6 @@
 -- What is written of a lemma is so, and of a text one thing is written.
 use Rattle.std.proofs.Common.{◌≡◌, ◌↔◌, ℕ, Bool, true, false, ◌&&◌, List, [], ◌∷◌, Option, Some, None, option_and_then, refl, sym, ap, ◌∙◌, subst}
-use Rattle.sp_spec.specs.Lists.{Every}
+use Rattle.sp_spec.specs.Lists.{Every, newest_first}
 use Rattle.sp_spec.specs.Rule.{Rule}
 use Rattle.sp_spec.specs.Signature.{Signature}
 use Rattle.sp_spec.specs.Log.{Entry, Log, log_trace}
@@ -10,7 +10,6 @@ use Rattle.sp_spec.specs.Guarded.{Guarded}
 use Rattle.sp_law_guard.specs.GuardedForm.{negate}
 use Rattle.sp_law_guard.specs.CheckedForm.{checked_form}
 use Rattle.sp_law_decide.specs.Deciding.{decided, empty}
-use Rattle.sp_ground.specs.View.{newest_first}
 use Rattle.sp_log.specs.Checking.{is_log}
 use Rattle.sp_solved.specs.Candidate.{candidate}
 use Rattle.sp_solved.specs.Found.{is_sought, kept_if, found}
@@ -23,17 +22,17 @@ use Rattle.sp_check.proofs.Growing.{grown_tree_accepted}
 use Rattle.sp_check.proofs.Logs.{log_found}
 use Rattle.sp_law_shown.proofs.Found.{found_logs_show_lem}
 use Rattle.sp_constants.specs.Constants.{constants_of}
-use Rattle.sp_report.specs.Laws.{IsWellFormed}
+use Rattle.sp_wf.specs.Laws.{IsWellFormed}
 use Rattle.sp_analysis.specs.Sought.{budget, start, setting_of, context_of}
 use Rattle.sp_analysis.specs.Analysis.{Outcome, IsOutcome, AreOutcomes}
 use Rattle.sp_analysis.specs.Laws.{Means, IsRejected, JudgedRightly, VerdictsAreRight}
-use Rattle.sp_analysis.specs.Verdict.{Verdict, verified, falsified, incomplete, rejected, Says}
+use Rattle.sp_spec_text.specs.Verdict.{Verdict, verified, falsified, incomplete, rejected, Says}
 use Rattle.sp_analysis.specs.Checking.{IsVerdictOn, Judged, IsJudged, AreJudged}
 use Rattle.sp_system.specs.System.{System}
 use Rattle.sp_judge.specs.Skeleton.{Skeleton}
 use Rattle.sp_judge.specs.Rejected.{ReadIsAccepted}
 use Rattle.sp_judge.proofs.Right.{judgements_right}
-use Rattle.sp_written.specs.Text.{WrittenProof, Item, rule_item, lemma_item, lemmas_in, theory_in}
+use Rattle.sp_spec_text.specs.Written.{WrittenProof, Item, rule_item, lemma_item, lemmas_in, theory_in}
 use Rattle.sp_pose.proofs.Theories.{AreFirst, theory_spelled}
 
 -- a proof isn't rejected exactly where it is accepted
@@ -51,11 +50,6 @@ record IsFound (signature : Signature) (rules : List Rule) (f : Guarded) (log : 
   is_log : is_log signature rules entries ≡ true
   is_true : decided (log_trace (newest_first entries)) empty f ≡ true
   log_is : newest_first entries ≡ log
-
-both_true : (a b : Bool) → (a && b) ≡ true → (a ≡ true) × (b ≡ true)
-both_true true true e = (refl, refl)
-both_true true false e = absurd cc
-both_true false b e = absurd cc
 
 found_tested : (signature : Signature) (rules : List Rule) (constants : List (List ℕ)) (f : Guarded) (s : System) (log : Log) → found signature rules constants f s ≡ Some log
     → IsFound signature rules f log

@@ -4,7 +4,7 @@ use Rattle.sp_spec.specs.Theory.{TraceKind}
 use Rattle.sp_check.specs.Tree.{Tree, IsFinished}
 use Rattle.sp_grow.specs.Finished.{finished}
 use Rattle.sp_grow.proofs.Finished.{finished_decides}
-use Rattle.sp_analysis.specs.Verdict.{Verdict, incomplete}
+use Rattle.sp_spec_text.specs.Verdict.{Verdict, incomplete}
 use Rattle.sp_analysis.specs.Kept.{shown, by_leaves}
 
 told : (b : Bool) (t : Tree) → IsTrue b ↔ IsFinished t → b ≡ finished t

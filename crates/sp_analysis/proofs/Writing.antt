@@ -1,21 +1,22 @@
 -- One more lemma is written.
 use Rattle.std.proofs.Common.{◌≡◌, ◌<◌, ◌≤◌, ◌+◌, ℕ, arith, List, [], ◌∷◌, ◌++◌, map, codes, length, get_or, drop, sym, ap, ◌∙◌, subst, append_assoc}
-use Rattle.sp_written.specs.declared.theory.Span.{Span}
-use Rattle.sp_read_theory.specs.Places.{Rise, goes_on}
+use Rattle.sp_spec_text.specs.Spans.{Span}
+use Rattle.sp_spec_text.specs.Spans.{Rise, goes_on}
+use Rattle.sp_written.specs.Views as view
 use Rattle.sp_again.specs.Again.{between}
-use Rattle.sp_pose.proofs.Items.{next_of}
+use Rattle.sp_spec.proofs.Lists.{next_item}
 use Rattle.sp_analysis.specs.Kept.{kept_of, spliced}
 use Rattle.sp_analysis.specs.declared.tried.Tried.{Tried}
 
 pub proof_written : (out more all text proof : List ℕ) (start end place : ℕ) (ts : List Tried) (t : Tried) → place < length ts → t ≡ get_or ts place t
     → out ++ spliced text start (map kept_of (drop place ts)) end ≡ all → proof ≡ (kept_of t).proof
-    → more ≡ out ++ (between start t.span.from text ++ (codes "\n" ++ proof)) → more ++ spliced text (goes_on text t.span) (map kept_of (drop (place + 1) ts)) end ≡ all
+    → more ≡ out ++ (between start t.span.from text ++ (codes "\n" ++ proof)) → more ++ spliced text (goes_on text (view.span_of t.span)) (map kept_of (drop (place + 1) ts)) end ≡ all
 proof_written out more all text proof start end place ts t below is so proof_is more_is =
-    let rest = spliced text (goes_on text t.span) (map kept_of (drop (place + 1) ts)) end in
+    let rest = spliced text (goes_on text (view.span_of t.span)) (map kept_of (drop (place + 1) ts)) end in
     let k = kept_of t in
     ap (λ (xs : List ℕ). xs ++ rest) (more_is ∙ ap (λ (b : List ℕ). out ++ (between start t.span.from text ++ (codes "\n" ++ b))) proof_is)
     ∙ joined out (between start t.span.from text) (codes "\n") k.proof rest
-    ∙ sym (ap (λ (us : List Tried). out ++ spliced text start (map kept_of us) end) (next_of ts place t below is)) ∙ so
+    ∙ sym (ap (λ (us : List Tried). out ++ spliced text start (map kept_of us) end) (next_item ts place t below is)) ∙ so
   where
     joined : (a b c d e : List ℕ) → (a ++ (b ++ (c ++ d))) ++ e ≡ a ++ (b ++ (c ++ (d ++ e)))
     joined a b c d e = append_assoc a (b ++ (c ++ d)) e ∙ ap (λ (xs : List ℕ). a ++ xs) (append_assoc b (c ++ d) e ∙ ap (λ (xs : List ℕ). b ++ xs) (append_assoc c d e))
@@ -34,7 +35,7 @@ pub record Next (text : List ℕ) (start : ℕ) (span : Span) (end : ℕ) (ts : 
   pub ordered : span.from ≤ span.to
   pub within : goes_on text span ≤ end
   pub reached : span.to ≤ goes_on text span
-  pub rise : Rise text (goes_on text span) (map (λ (u : Tried). u.span) (drop (place + 1) ts)) end
+  pub rise : Rise text (goes_on text span) (map (λ (u : Tried). view.span_of u.span) (drop (place + 1) ts)) end
 
 pub goes_further : (text : List ℕ) (span : Span) → span.to ≤ goes_on text span
 goes_further text span = grind arith
@@ -47,13 +48,13 @@ low_end text low (span ∷ spans) end h =
     omega (arith, h.0, h.1, further, later)
 
 pub next_place : (text : List ℕ) (start end place : ℕ) (ts : List Tried) (t : Tried) → place < length ts → t ≡ get_or ts place t
-    → Rise text start (map (λ (u : Tried). u.span) (drop place ts)) end → Next text start t.span end ts place
+    → Rise text start (map (λ (u : Tried). view.span_of u.span) (drop place ts)) end → Next text start (view.span_of t.span) end ts place
 next_place text start end place ts t below is rise =
-    let h = subst (λ (us : List Tried). Rise text start (map (λ (u : Tried). u.span) us) end) (next_of ts place t below is) rise in
+    let h = subst (λ (us : List Tried). Rise text start (map (λ (u : Tried). view.span_of u.span) us) end) (next_item ts place t below is) rise in
     record {
       later = h.0;
       ordered = h.1;
-      within = low_end text (goes_on text t.span) (map (λ (u : Tried). u.span) (drop (place + 1) ts)) end h.2;
-      reached = goes_further text t.span;
+      within = low_end text (goes_on text (view.span_of t.span)) (map (λ (u : Tried). view.span_of u.span) (drop (place + 1) ts)) end h.2;
+      reached = goes_further text (view.span_of t.span);
       rise = h.2;
     }

@@ -10,13 +10,13 @@ use Rattle.sp_spec.specs.Log.{Log}
 use Rattle.sp_law_guard.specs.CheckedForm.{checked_form}
 use Rattle.sp_check.specs.Tree.{Tree, IsFinished, steps}
 use Rattle.sp_text.specs.Places.{HavePlaces}
-use Rattle.sp_written.specs.Text.{WrittenText, theory_in}
-use Rattle.sp_written.specs.declared.theory.Span.{Span}
-use Rattle.sp_read_theory.specs.Text.{ArePlaces}
+use Rattle.sp_spec_text.specs.Written.{WrittenText, theory_in}
+use Rattle.sp_spec_text.specs.Spans.{Span}
+use Rattle.sp_spec_text.specs.Texts.{ArePlaces}
 use Rattle.sp_again.specs.Again.{replaced}
 use Rattle.sp_pose.specs.Problem.{Poses}
 use Rattle.sp_analysis.specs.Sought.{Setting, setting_of, proof_tree, grown_log}
-use Rattle.sp_analysis.specs.Verdict.{Verdict, Says, summary_line}
+use Rattle.sp_spec_text.specs.Verdict.{Verdict, Says, summary_line}
 use Rattle.sp_analysis.specs.Block.{block_of}
 
 -- what came of a lemma; with the log with which the search ended, if it did

@@ -5,8 +5,8 @@ use Rattle.sp_spec.specs.Rule.{Rule}
 use Rattle.sp_spec.specs.Execution.{Step}
 use Rattle.sp_spec.specs.Log.{Log, visible_trace}
 use Rattle.sp_law_found.specs.Found.{execution_of}
-use Rattle.sp_ground.specs.View.{newest_first}
-use Rattle.sp_ground.specs.Text.{step_text, trace_block}
+use Rattle.sp_spec.specs.Lists.{newest_first}
+use Rattle.sp_spec_text.specs.Printed.{step_text, trace_block}
 
 -- the order turned round: of what stands the newest first, the oldest first
 abbrev pub oldest_first : {A : Type 0} → List A → List A

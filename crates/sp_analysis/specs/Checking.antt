@@ -13,11 +13,11 @@ use Rattle.sp_step.specs.Moves.{Context, unproved}
 use Rattle.sp_check.specs.Tree.{Tree, IsAccepted, IsFinished, found_log}
 use Rattle.sp_judge.specs.Skeleton.{Skeleton, node_read, none_read, known, tree_of, steps}
 use Rattle.sp_judge.specs.Rejected.{IsRejectedAt}
-use Rattle.sp_written.specs.Text.{WrittenProof, Item, rule_item, lemma_item, WrittenText, theory_in}
+use Rattle.sp_spec_text.specs.Written.{WrittenProof, Item, rule_item, lemma_item, WrittenText, theory_in}
 use Rattle.sp_skel.specs.Steps.{skeleton}
 use Rattle.sp_pose.specs.Problem.{Poses}
 use Rattle.sp_analysis.specs.Sought.{Setting, setting_of, context_of, start}
-use Rattle.sp_analysis.specs.Verdict.{Verdict, rejected, Says, summary_line}
+use Rattle.sp_spec_text.specs.Verdict.{Verdict, rejected, Says, summary_line}
 use Rattle.sp_analysis.specs.Block.{block_of}
 
 -- the tree that the proof of a lemma says

@@ -10,11 +10,11 @@ use Rattle.sp_judge.specs.Judging as judging
 use Rattle.sp_judge.specs.Judging.{Judgement, judgement}
 use Rattle.sp_judge.specs.Skeleton as read
 use Rattle.sp_written.specs.Views as view
-use Rattle.sp_written.specs.declared.theory.Span.{Span}
-use Rattle.sp_read_theory.specs.Places.{goes_on}
+use Rattle.sp_spec_text.specs.Spans.{Span}
+use Rattle.sp_spec_text.specs.Spans.{goes_on}
 use Rattle.sp_pose.specs.Asked.{Asked}
 use Rattle.sp_analysis.specs.Sought.{Setting, context_of, start, proof_tree, grown_log}
-use Rattle.sp_analysis.specs.Verdict.{Verdict, verified, falsified, incomplete, rejected, summary_line}
+use Rattle.sp_spec_text.specs.Verdict.{Verdict, verified, falsified, incomplete, rejected, summary_line}
 use Rattle.sp_analysis.specs.Block.{block_of}
 use Rattle.sp_again.specs.Again.{between}
 use Rattle.sp_analysis.specs.Checking.{proof_read, counted}
@@ -34,7 +34,7 @@ pub record Kept : Type 0 where
   pub block : List ℕ
 
 abbrev pub kept_of : Tried → Kept
-kept_of t = record { name = t.name.now; kind = view.kind t.kind; verdict = verdict_of t.verdict; steps = t.steps; span = t.span; proof = string_bytes t.proof; block = string_bytes t.block }
+kept_of t = record { name = t.name.now; kind = view.kind t.kind; verdict = verdict_of t.verdict; steps = t.steps; span = view.span_of t.span; proof = string_bytes t.proof; block = string_bytes t.block }
 
 -- what a finished proof says
 abbrev pub shown : TraceKind → Verdict

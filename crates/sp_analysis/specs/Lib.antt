@@ -1,5 +1,4 @@
 pub mod Sought
-pub mod Verdict
 pub mod Block
 pub mod Analysis
 pub mod Checking

@@ -2,7 +2,7 @@
 use Rattle.std.specs.Prelude.{◌≡◌, ℕ, List, map}
 use Rattle.sp_place.specs.Refused.{IsRefusedAt}
 use Rattle.sp_pose.specs.Problem.{IsReported}
-use Rattle.sp_analysis.specs.Verdict.{Verdict}
+use Rattle.sp_spec_text.specs.Verdict.{Verdict}
 use Rattle.sp_analysis.specs.Analysis.{Outcome, IsAnalysis}
 use Rattle.sp_analysis.specs.Checking.{Judged, IsChecking}
 use Rattle.sp_analysis.specs.View.{verdict_of}

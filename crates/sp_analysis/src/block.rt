@@ -1,16 +1,16 @@
 // The block of an execution that was found.
 
 ghost use Rattle.std.specs.Prelude.{◌≡◌, ◌++◌, IfOk, OnOk, map, option_map, string_bytes};
-ghost use Rattle.sp_moves.specs.View.{book_of};
+ghost use Rattle.sp_fact.specs.BookView.{book_of};
 ghost use Rattle.sp_ground.specs.View.{step_of};
 ghost use Rattle.sp_log.specs.View.{log_of};
 ghost use Rattle.sp_analysis.specs.Block as spec;
 
+use sp_fact::book::RuleBook;
 use sp_ground::step::Step;
 use sp_log::execution::execution;
 use sp_log::log::Log;
 use sp_log::trace::visible_trace;
-use sp_moves::book::RuleBook;
 use sp_show::step::step_line;
 use sp_show::trace::trace_block;
 use std::alloc::{AllocError, Global};

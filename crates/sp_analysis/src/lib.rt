@@ -31,6 +31,3 @@ pub fn answers_are_one()
 pub fn written_is_checked()
     ensures { WrittenIsChecked }
 {}
-
-#[cfg(test)]
-mod tests;

@@ -1,7 +1,7 @@
 // What the proofs of a theory's lemmas have in common.
 
+use sp_fact::book::RuleBook;
 use sp_ground::signature::Signature;
-use sp_moves::book::RuleBook;
 use sp_term::term::Name;
 
 /// What the proofs of a theory's lemmas have in common.

@@ -3,9 +3,9 @@
 ghost use Rattle.std.specs.Prelude.{◌≡◌, ◌≤◌, ◌++◌, IfOk, OnOk, codes, length, map, string_bytes};
 ghost use Rattle.sp_judge.specs.View.{clause_of};
 ghost use Rattle.sp_written.specs.Views as view;
-ghost use Rattle.sp_read_theory.specs.Places as places;
-ghost use Rattle.sp_read_theory.specs.Places.{Rise};
-ghost use Rattle.sp_analysis.specs.Verdict as spec;
+ghost use Rattle.sp_spec_text.specs.Spans as places;
+ghost use Rattle.sp_spec_text.specs.Spans.{Rise};
+ghost use Rattle.sp_spec_text.specs.Verdict as spec;
 ghost use Rattle.sp_again.specs.Again.{between};
 ghost use Rattle.sp_analysis.specs.View.{verdict_of};
 ghost use Rattle.sp_analysis.specs.Kept as keep;
@@ -21,7 +21,7 @@ use std::alloc::{AllocError, Global};
 /// Where the text goes on when the proof is taken out, with a line feed directly behind it.
 fn goes_on(text: &[u8], span: Span) -> usize
     requires { span.to ≤ length text.now }
-    ensures { result ≡ places.goes_on text.now span }
+    ensures { result ≡ places.goes_on text.now (view.span_of span) }
 {
     if span.to == span.from {
         return span.to;
@@ -56,7 +56,7 @@ fn write_proofs(
     lemmas: &Vec<Tried>,
     end: usize,
 ) -> Result<(), AllocError>
-    requires rise { Rise text.now 0 (map (λ t. t.span) lemmas.now.items) end }
+    requires rise { Rise text.now 0 (map (λ t. view.span_of t.span) lemmas.now.items) end }
     requires end { end ≤ length text.now }
     ensures { OnOk result (out.new.items ≡ out.old.items ++ keep.spliced text.now 0 (map keep.kept_of lemmas.now.items) end) }
 {
@@ -142,7 +142,7 @@ fn analysed_text(
     lemmas: &Vec<Tried>,
     end: usize,
 ) -> Result<Vec<u8>, AllocError>
-    requires rise { Rise text.now 0 (map (λ t. t.span) lemmas.now.items) end }
+    requires rise { Rise text.now 0 (map (λ t. view.span_of t.span) lemmas.now.items) end }
     requires end { end ≤ length text.now }
     ensures { IfOk result (λ written. written.items ≡ keep.kept_text text.now (map keep.kept_of lemmas.now.items) end) }
 {
@@ -175,7 +175,7 @@ pub fn written_by(
     lemmas: &Vec<Tried>,
     end: usize,
 ) -> Result<Vec<u8>, AllocError>
-    requires rise { Rise text.now 0 (map (λ t. t.span) lemmas.now.items) end }
+    requires rise { Rise text.now 0 (map (λ t. view.span_of t.span) lemmas.now.items) end }
     requires end { end ≤ length text.now }
     ensures { IfOk result (λ written. written.items ≡ keep.written_by command text.now (map keep.kept_of lemmas.now.items) end) }
 {

@@ -1,6 +1,6 @@
 -- What finished trees show of lemmas.
-use Rattle.std.proofs.Common.{◌≡◌, List, [], ◌∷◌, Some, false, refl, inl, inr}
-use Rattle.sp_spec.specs.Lists.{Member, Every}
+use Rattle.std.proofs.Common.{◌≡◌, List, [], ◌∷◌, Some, false}
+use Rattle.sp_spec.specs.Lists.{Every}
 use Rattle.sp_spec.specs.Theory.{Lemma, signature_of}
 use Rattle.sp_spec.specs.Written.{WrittenRule, WrittenTheory, theory_of}
 use Rattle.sp_spec.specs.Findings.{rule_is_wrong}
@@ -31,13 +31,7 @@ use Rattle.sp_check.proofs.WrittenRules.{rules_numbered, rules_plain, rules_over
 use Rattle.sp_check.proofs.ClosedRules.{none_concluded, rules_closed}
 use Rattle.sp_check.proofs.Forms.{IsRight, right_negation, right_timed, right_not_send, right_numbered, right_solved}
 use Rattle.sp_check.proofs.PlacedForms.{form_right}
-
-each_among : {A : Type 0} (xs ys : List A) → ((x : A) → Member x xs → Member x ys) → Every (λ x. Member x ys) xs
-each_among [] ys h = tt
-each_among (x ∷ xs) ys h = (h x (inl refl), each_among xs ys (λ z m. h z (inr m)))
-
-every_itself : {A : Type 0} (xs : List A) → Every (λ x. Member x xs) xs
-every_itself xs = each_among xs xs (λ x m. m)
+use Rattle.sp_spec.proofs.Lists.{every_itself}
 
 module _ (t : WrittenTheory) (rules : Every IsPlainRule t.rules) (clean : Every (λ (r : WrittenRule). rule_is_wrong r ≡ false) t.rules) where
   plain : IsPlainTheory (theory_of t)

@@ -4,17 +4,16 @@ use Rattle.std.proofs.Common.{◌≡◌, ◌⊎◌, ℕ, Bool, true, false, not,
 use Rattle.std.proofs.lemmas.Bool.{or_cases, or_left, or_right, or_parts}
 use Rattle.std.proofs.lemmas.Slice.Eq.{bytes_eq-Decides}
 use Rattle.sp_spec.specs.Lists.{Every}
-use Rattle.sp_spec.specs.Term.{Sort, Msg, Fresh, Pub, Variable, Term, var, constant, name, app, Terms, none, more, valued, valued_all}
+use Rattle.sp_spec.specs.Term.{Sort, Msg, Fresh, Pub, Variable, Term, var, constant, name, app, Terms, none, more, valued, valued_all, EachVariable, EachVariables}
 use Rattle.sp_spec.specs.Rule.{Fact, Facts, fact_at}
 use Rattle.sp_spec.specs.Formula.{Written}
 use Rattle.sp_spec.specs.Written.{WrittenRule, in_term, in_terms, in_facts, in_actions, occurrences, rule_names, place_of, numbered_in, sort_in, rule_of}
 use Rattle.sp_spec.specs.Findings.{has_wide_fact, has_wide_action, has_two_sorts, has_wrong_premise, has_fr, has_wrong_argument, is_pub, is_named, has_unbound, rule_is_wrong}
 use Rattle.sp_spec.proofs.Lists.{every_map, every_weaken}
-use Rattle.sp_system.specs.System.{EachVariable, EachVariables}
 use Rattle.sp_step.specs.Moves.{is_in}
 use Rattle.sp_step.specs.Laws.{StandsIn, StandsAmong, HasVariable, IsNameless, AreNameless, IsClosedRule}
 use Rattle.sp_check.specs.PlainTheory.{IsAtomic, AreAtomic, IsPlainFact, IsPlainRule}
-use Rattle.sp_check.proofs.WrittenRules.{facts_each}
+use Rattle.sp_spec.proofs.Occurrences.{facts_each}
 use Rattle.sp_check.proofs.FreshRules.{fresh_premises}
 
 -- no message is taken in

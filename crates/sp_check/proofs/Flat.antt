@@ -1,12 +1,12 @@
 -- Flat atoms: variables that are bound, and constants. So they are settled, closed, and at times that are bound.
 use Rattle.std.proofs.Common.{◌<◌, ℕ, zero, suc, List, [], ◌∷◌, arith}
 use Rattle.sp_spec.specs.Lists.{Every}
-use Rattle.sp_spec.specs.Term.{Variable, Term, var, constant, name, app, Terms, none, more, Ground, valued_all}
+use Rattle.sp_spec.specs.Term.{Variable, Term, var, constant, name, app, Terms, none, more, Ground, valued_all, EachVariable, EachVariables}
 use Rattle.sp_spec.specs.Signature.{Equation, Signature}
 use Rattle.sp_spec.specs.Equal.{IsNormal, AreNormal}
 use Rattle.sp_spec.specs.Guarded.{Place, free, bound, Time, free_time, bound_time, Binder, message, time, Atom, acts, same, same_time, before, last, Assignment, with_term, with_time, pushed, place_in, term_in, time_in}
 use Rattle.sp_law_truth.specs.Shown.{times_within, IsBound, IsTimedAtom, AreTimedAtoms}
-use Rattle.sp_system.specs.System.{EachVariable, EachVariables, AtFree, AtFreeTime, InAtom, EachNormal, AtomSettled}
+use Rattle.sp_system.specs.System.{AtFree, AtFreeTime, InAtom, EachNormal, AtomSettled}
 
 abbrev pub FlatTerm : Term Place → Type 0
 FlatTerm (var (bound k)) = Unit {0}

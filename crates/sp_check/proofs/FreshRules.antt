@@ -4,15 +4,11 @@ use Rattle.std.proofs.lemmas.Bool.{and_parts, or_parts, or_left, or_right, and_f
 use Rattle.std.proofs.lemmas.Slice.Eq.{bytes_eq-Decides}
 use Rattle.sp_spec.specs.Lists.{Member, Every}
 use Rattle.sp_spec.specs.Term.{Fresh, Pub, Msg, Variable, var, constant, name, app, Terms, none, more, valued_all}
-use Rattle.sp_spec.specs.Rule.{Fact, Facts, fact_at}
+use Rattle.sp_spec.specs.Rule.{Fact, Facts, fact_at, IsFreshVariable}
 use Rattle.sp_spec.specs.Formula.{Written}
 use Rattle.sp_spec.specs.Written.{occurrences, is_argument, is_fr_argument, is_written, sort_in, numbered_in}
 use Rattle.sp_spec.specs.Findings.{is_fr_named, is_one, is_fresh_variable, has_wrong_premise, has_wrong_argument}
 use Rattle.sp_spec.specs.Log.{is_fr}
-
--- one variable of sort fresh, and nothing else
-abbrev TakesFresh : Terms Variable → Type 0
-TakesFresh ts = (x : Variable) × (x.sort ≡ Fresh) × (ts ≡ more (var x) none)
 
 argument_there : (x : List ℕ) (fs : List (Fact Written)) (f : Fact Written) → Member f fs → is_fr_named f ≡ true → is_argument x f.args ≡ true
     → is_fr_argument x fs ≡ true
@@ -39,7 +35,7 @@ module _ (facts : Facts Written) (f : Fact Written) (m : Member f facts.premises
   not_one ts one e = true≢false (sym (ap (λ (b : Bool). f.persistent || not b) one ∙ or_true f.persistent) ∙ e)
 
   fresh_args : (ts : Terms Written) → f.args ≡ ts → is_fr_named f ≡ true → (is_fr_named f && Wrong ts) ≡ false
-      → (is_fr_named f && is_one ts && not (is_fresh_variable ts)) ≡ false → TakesFresh (valued_all (numbered_in facts) ts)
+      → (is_fr_named f && is_one ts && not (is_fresh_variable ts)) ≡ false → IsFreshVariable (valued_all (numbered_in facts) ts)
   fresh_args none is e wrong other = absurd (not_one none refl (sym (ap (λ (b : Bool). b && Wrong none) e) ∙ wrong))
   fresh_args (more t (more u ts)) is e wrong other =
       absurd (not_one (more t (more u ts)) refl (sym (ap (λ (b : Bool). b && Wrong (more t (more u ts))) e) ∙ wrong))
@@ -52,7 +48,7 @@ module _ (facts : Facts Written) (f : Fact Written) (m : Member f facts.premises
 
 pub fresh_premises : (facts : Facts Written) (fs : List (Fact Written)) → ((f : Fact Written) → Member f fs → Member f facts.premises)
     → has_wrong_premise fs ≡ false → has_wrong_argument fs ≡ false
-    → Every (λ (f : Fact Variable). is_fr f ≡ true → TakesFresh f.args) (map (fact_at (numbered_in facts)) fs)
+    → Every (λ (f : Fact Variable). is_fr f ≡ true → IsFreshVariable f.args) (map (fact_at (numbered_in facts)) fs)
 fresh_premises facts [] among wrong other = tt
 fresh_premises facts (f ∷ fs) among wrong other =
     let premise = or_parts (is_fr_named f && (f.persistent || not (is_one f.args))) (has_wrong_premise fs) wrong in

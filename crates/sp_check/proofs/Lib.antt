@@ -10,3 +10,4 @@ pub mod Forms
 pub mod PlacedForms
 pub mod AllShown
 pub mod Logs
+pub mod PlainOver

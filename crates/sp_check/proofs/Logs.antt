@@ -1,6 +1,6 @@
 -- The log of a tree: where it comes from, and when there is one.
 use Rattle.std.proofs.Common.{◌≡◌, ⊎_elim, Bool, true, false, if◌then◌else◌, ◌||◌, List, [], ◌∷◌, map, Option, Some, None, option_map, is_some, refl, ap, ◌∙◌}
-use Rattle.std.proofs.lemmas.Bool.{or_cases}
+use Rattle.std.proofs.lemmas.Bool.{or_cases, or_parts}
 use Rattle.sp_spec.specs.Log.{Log}
 use Rattle.sp_system.specs.System.{System}
 use Rattle.sp_step.specs.Moves.{simplify, contradiction, unproved, solved, or, action, premise, Context, Case, simple_case, cases}
@@ -75,11 +75,6 @@ module _ (context : Context) where
 first_none : (o later : Option Log) → o ≡ None → later ≡ None → first_log o later ≡ None
 first_none o later h k = ap (λ (x : Option Log). first_log x later) h ∙ k
 
--- where the search ends nowhere, there is none
-or_none : (a b : Bool) → (a || b) ≡ false → (a ≡ false) × (b ≡ false)
-or_none true b e = absurd cc
-or_none false b e = (refl, e)
-
 module _ (context : Context) where
   mutual
     pub no_log : (tree : Tree) (s : System) → has_end tree ≡ false → found_log context s tree ≡ None
@@ -98,7 +93,7 @@ module _ (context : Context) where
     no_log_below (branch name tree branches) None e = refl
     no_log_below (branch name tree branches) (Some []) e = refl
     no_log_below (branch name tree branches) (Some (c ∷ cs)) e =
-        let k = or_none (has_end tree) (some_end branches) e in
+        let k = or_parts (has_end tree) (some_end branches) e in
         first_none (found_log context c.system tree) (found_below context (Some cs) branches) (no_log tree c.system k.0) (no_log_below branches (Some cs) k.1)
 
 -- a finished tree ends the search nowhere

@@ -6,7 +6,7 @@ use Rattle.sp_spec.specs.Guarded.{Place, bound, Time, free_time, bound_time, Gua
 use Rattle.sp_law_truth.specs.Shown.{IsBound}
 use Rattle.sp_law_guard.specs.GuardedForm.{Meant, a_message, a_time, meant, message_place, placed_term, placed_terms, guarded_form}
 use Rattle.sp_law_guard.specs.IsGuarded.{is_guarded}
-use Rattle.sp_law_guard.proofs.Options.{mapped, then_some}
+use Rattle.sp_spec.proofs.Options.{mapped, then_some}
 use Rattle.sp_law_guard.proofs.Places.{action_made, order_made, equality_made}
 use Rattle.sp_law_guard.proofs.Throughout.{times_bound, OfFormulas, OfAtoms, form_throughout}
 use Rattle.sp_check.specs.PlainTheory.{IsAtomic, AreAtomic, IsPlainFormula}

@@ -4,25 +4,26 @@ use Rattle.std.proofs.lemmas.Slice.Eq.{bytes_eq-Decides}
 use Rattle.sp_spec.specs.Signature.{Equation}
 use Rattle.sp_spec.specs.Rule.{Action}
 use Rattle.sp_spec.specs.Execution.{Trace, with_entry}
-use Rattle.sp_law_truth.specs.Shown.{is_among, only_actions, only, without_empty, shown}
+use Rattle.sp_law_truth.specs.Shown.{only_actions, only, without_empty, shown}
+use Rattle.sp_spec.specs.Lists.{is_listed}
 use Rattle.sp_law_truth.specs.Same.{SameActions, EqualTraces}
 use Rattle.sp_law_erase.specs.Traces.{is_send, without_send, without_sends}
 
 -- the action of sending isn't named
 abbrev pub NamesNoSend : List (List ℕ) → Type 0
-NamesNoSend names = is_among (codes "K") names ≡ false
+NamesNoSend names = is_listed (codes "K") names ≡ false
 
-send_left_out : (names : List (List ℕ)) → NamesNoSend names → (a : Action ⊥) → is_send a ≡ true → is_among a.symbol names ≡ false
-send_left_out names n a e = let k : a.symbol ≡ codes "K" = (bytes_eq-Decides a.symbol (codes "K")).0 e in ap (λ (s : List ℕ). is_among s names) k ∙ n
+send_left_out : (names : List (List ℕ)) → NamesNoSend names → (a : Action ⊥) → is_send a ≡ true → is_listed a.symbol names ≡ false
+send_left_out names n a e = let k : a.symbol ≡ codes "K" = (bytes_eq-Decides a.symbol (codes "K")).0 e in ap (λ (s : List ℕ). is_listed s names) k ∙ n
 
 only_without_send : (names : List (List ℕ)) → NamesNoSend names → (actions : List (Action ⊥)) → only_actions names (without_send actions) ≡ only_actions names actions
 only_without_send names n [] = refl
 only_without_send names n (a ∷ actions) = at (is_send a) refl (only_without_send names n actions)
   where
     at : (b : Bool) → is_send a ≡ b → only_actions names (without_send actions) ≡ only_actions names actions
-        → only_actions names (if b then without_send actions else a ∷ without_send actions) ≡ (if is_among a.symbol names then a ∷ only_actions names actions else only_actions names actions)
+        → only_actions names (if b then without_send actions else a ∷ without_send actions) ≡ (if is_listed a.symbol names then a ∷ only_actions names actions else only_actions names actions)
     at true k h = rw (send_left_out names n a k) h
-    at false k h = ap (λ (xs : List (Action ⊥)). if is_among a.symbol names then a ∷ xs else xs) h
+    at false k h = ap (λ (xs : List (Action ⊥)). if is_listed a.symbol names then a ∷ xs else xs) h
 
 only_without_sends : (names : List (List ℕ)) → NamesNoSend names → (trace : Trace) → only names (without_sends trace) ≡ only names trace
 only_without_sends names n [] = refl
@@ -40,7 +41,7 @@ module _ (es : List Equation) (names : List (List ℕ)) where
   same_only [] [] h = tt
   same_only [] (y ∷ ys) h = absurd h
   same_only (x ∷ xs) [] h = absurd h
-  same_only (x ∷ xs) (y ∷ ys) h = at (is_among x.symbol names) (is_among y.symbol names) (ap (λ (s : List ℕ). is_among s names) h.0.0) (same_only xs ys h.1)
+  same_only (x ∷ xs) (y ∷ ys) h = at (is_listed x.symbol names) (is_listed y.symbol names) (ap (λ (s : List ℕ). is_listed s names) h.0.0) (same_only xs ys h.1)
     where
       at : (b c : Bool) → b ≡ c → SameActions es (only_actions names xs) (only_actions names ys)
           → SameActions es (if b then x ∷ only_actions names xs else only_actions names xs) (if c then y ∷ only_actions names ys else only_actions names ys)

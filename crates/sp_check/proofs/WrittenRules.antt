@@ -1,57 +1,23 @@
 -- A written rule of a plain theory stands for a rule whose variables are numbered, without destructors, that leaves the adversary
 -- alone.
-use Rattle.std.proofs.Common.{◌≡◌, ◌<◌, ℕ, zero, suc, Bool, true, false, ◌||◌, if◌then◌else◌, List, [], ◌∷◌, ◌++◌, map, length, codes, refl, sym, ap, subst, inl, inr, arith, bytes_eq, ⊎_elim}
-use Rattle.std.proofs.lemmas.Bool.{or_cases, or_left, or_right, or_parts}
+use Rattle.std.proofs.Common.{◌≡◌, ◌<◌, ℕ, zero, suc, Bool, true, false, ◌||◌, if◌then◌else◌, List, [], ◌∷◌, ◌++◌, map, length, codes, sym, ap, subst, inl, inr, arith, bytes_eq, ⊎_elim}
+use Rattle.std.proofs.lemmas.Bool.{or_parts}
 use Rattle.std.proofs.lemmas.Slice.Eq.{bytes_eq-Decides}
 use Rattle.sp_spec.specs.Lists.{Member, Every}
 use Rattle.sp_spec.specs.Term.{Variable, Term, var, constant, name, app, Terms, none, more, Values, valued, valued_all}
 use Rattle.sp_spec.specs.Signature.{Symbol, Equation, IsOver, AreOver}
-use Rattle.sp_spec.specs.Rule.{Fact, Action, Facts, Declared, Rule, fact_at, action_at, facts_at}
+use Rattle.sp_spec.specs.Rule.{Fact, Action, Facts, Declared, Rule, fact_at, action_at, facts_at, InFacts}
 use Rattle.sp_spec.specs.Formula.{Written}
-use Rattle.sp_spec.specs.Written.{WrittenRule, WrittenTheory, in_term, in_terms, in_facts, in_actions, occurrences, is_listed, names_after, rule_names, place_of, numbered_in, sort_in, rule_of, theory_of}
+use Rattle.sp_spec.specs.Written.{WrittenRule, WrittenTheory, occurrences, is_listed, rule_names, place_of, numbered_in, sort_in, rule_of, theory_of}
 use Rattle.sp_spec.specs.Theory.{signature_of}
 use Rattle.sp_spec.specs.Findings.{is_fr_named, has_fr}
+use Rattle.sp_spec.proofs.Occurrences.{occurrences_each, names_have}
 use Rattle.sp_law_equal.specs.Convergent.{IsPlain, ArePlain}
 use Rattle.sp_law_erase.specs.Adversary.{adversary_facts, adversary_names, NeedsNoAdversary}
-use Rattle.sp_system.specs.System.{EachVariable, EachVariables, InFacts}
-use Rattle.sp_spec.proofs.Lists.{every_map, every_member, member_mapped}
+use Rattle.sp_spec.proofs.Lists.{every_map, every_member, member_mapped, length_map}
 use Rattle.sp_system.proofs.Numbers.{facts_valued}
 use Rattle.sp_step.specs.Laws.{ActionsAreOver, FactsArePlain, RulesArePlain, RulesAreNumbered}
 use Rattle.sp_check.specs.PlainTheory.{IsAtomic, AreAtomic, IsPlainFact, IsPlainAction, IsPlainRule}
-
--- names that are listed
-listed_append : (x : List ℕ) (xs ys : List (List ℕ)) → is_listed x xs ≡ true → is_listed x (xs ++ ys) ≡ true
-listed_append x [] ys e = absurd cc
-listed_append x (z ∷ xs) ys e = ⊎_elim (λ h. or_left (bytes_eq z x) (is_listed x (xs ++ ys)) h) (λ h. or_right (bytes_eq z x) (is_listed x (xs ++ ys)) (listed_append x xs ys h)) (or_cases (bytes_eq z x) (is_listed x xs) e)
-
-listed_last : (x : List ℕ) (xs : List (List ℕ)) → is_listed x (xs ++ x ∷ []) ≡ true
-listed_last x [] = or_left (bytes_eq x x) false ((bytes_eq-Decides x x).1 refl)
-listed_last x (z ∷ xs) = or_right (bytes_eq z x) (is_listed x (xs ++ x ∷ [])) (listed_last x xs)
-
-abbrev seen_then : List (List ℕ) → Written → List (List ℕ)
-seen_then seen x = if is_listed x.name seen then seen else seen ++ x.name ∷ []
-
-listed_then : (y : List ℕ) (seen : List (List ℕ)) (x : Written) → is_listed y seen ≡ true → is_listed y (seen_then seen x) ≡ true
-listed_then y seen x e = at (is_listed x.name seen)
-  where
-    at : (b : Bool) → is_listed y (if b then seen else seen ++ x.name ∷ []) ≡ true
-    at true = e
-    at false = listed_append y seen (x.name ∷ []) e
-
-listed_here : (seen : List (List ℕ)) (x : Written) → is_listed x.name (seen_then seen x) ≡ true
-listed_here seen x = at (is_listed x.name seen) refl
-  where
-    at : (b : Bool) → is_listed x.name seen ≡ b → is_listed x.name (if b then seen else seen ++ x.name ∷ []) ≡ true
-    at true e = e
-    at false e = listed_last x.name seen
-
-names_keep : (y : List ℕ) (seen : List (List ℕ)) (xs : List Written) → is_listed y seen ≡ true → is_listed y (names_after seen xs) ≡ true
-names_keep y seen [] e = e
-names_keep y seen (x ∷ xs) e = names_keep y (seen_then seen x) xs (listed_then y seen x e)
-
-names_have : (seen : List (List ℕ)) (xs : List Written) → Every (λ (x : Written). is_listed x.name (names_after seen xs) ≡ true) xs
-names_have seen [] = tt
-names_have seen (x ∷ xs) = (names_keep x.name (seen_then seen x) xs (listed_here seen x), names_have (seen_then seen x) xs)
 
 place_under : (x : List ℕ) (xs : List (List ℕ)) → is_listed x xs ≡ true → place_of x xs < length xs
 place_under x [] e = absurd cc
@@ -60,48 +26,6 @@ place_under x (z ∷ xs) e = at (bytes_eq z x) e (λ h. place_under x xs h)
     at : (b : Bool) → (b || is_listed x xs) ≡ true → (is_listed x xs ≡ true → place_of x xs < length xs) → (if b then zero else suc (place_of x xs)) < suc (length xs)
     at true h later = omega arith
     at false h later = let l = later h in omega (arith, l)
-
--- what holds of each occurrence holds of each variable of the facts
-module _ (P : Written → Type 0) where
-  front : (xs ys : List Written) → Every P (xs ++ ys) → Every P xs
-  front [] ys h = tt
-  front (x ∷ xs) ys h = (h.0, front xs ys h.1)
-
-  back : (xs ys : List Written) → Every P (xs ++ ys) → Every P ys
-  back [] ys h = h
-  back (x ∷ xs) ys h = back xs ys h.1
-
-  mutual
-    term_each : (t : Term Written) → Every P (in_term t) → EachVariable P t
-    term_each (var x) h = h.0
-    term_each (constant c) h = tt
-    term_each (name n) h = tt
-    term_each (app f ts) h = terms_each ts h
-
-    terms_each : (ts : Terms Written) → Every P (in_terms ts) → EachVariables P ts
-    terms_each none h = tt
-    terms_each (more t ts) h = (term_each t (front (in_term t) (in_terms ts) h), terms_each ts (back (in_term t) (in_terms ts) h))
-
-  pub facts_each : (fs : List (Fact Written)) → Every P (in_facts fs) → Every (λ (f : Fact Written). EachVariables P f.args) fs
-  facts_each [] h = tt
-  facts_each (f ∷ fs) h = (terms_each f.args (front (in_terms f.args) (in_facts fs) h), facts_each fs (back (in_terms f.args) (in_facts fs) h))
-
-  actions_each : (xs : List (Action Written)) → Every P (in_actions xs) → Every (λ (a : Action Written). EachVariables P a.args) xs
-  actions_each [] h = tt
-  actions_each (a ∷ xs) h = (terms_each a.args (front (in_terms a.args) (in_actions xs) h), actions_each xs (back (in_terms a.args) (in_actions xs) h))
-
-  occurrences_each : (facts : Facts Written) → Every P (occurrences facts) → InFacts P facts
-  occurrences_each facts h =
-      let behind = back (in_facts facts.premises) (in_actions facts.actions ++ in_facts facts.conclusions) h in
-      record {
-        premises = facts_each facts.premises (front (in_facts facts.premises) (in_actions facts.actions ++ in_facts facts.conclusions) h);
-        actions = actions_each facts.actions (front (in_actions facts.actions) (in_facts facts.conclusions) behind);
-        conclusions = facts_each facts.conclusions (back (in_actions facts.actions) (in_facts facts.conclusions) behind);
-      }
-
-length_map : {A B : Type 0} (f : A → B) (xs : List A) → length (map f xs) ≡ length xs
-length_map f [] = refl
-length_map f (x ∷ xs) = ap suc (length_map f xs)
 
 -- the variables are numbered
 rule_numbered : (r : WrittenRule) → InFacts (λ x. x.number < length (rule_of r).variables) (rule_of r).facts

@@ -1,15 +1,14 @@
 -- Names that are put behind others, each once.
-use Rattle.std.proofs.Common.{◌≡◌, ℕ, Bool, true, false, ◌||◌, if◌then◌else◌, List, [], ◌∷◌, ◌++◌, map, refl, sym, ap, ◌∙◌}
-use Rattle.std.specs.Str.{bytes_eq}
-use Rattle.std.proofs.lemmas.Slice.Eq.{bytes_eq-Decides}
+use Rattle.std.proofs.Common.{◌≡◌, ℕ, Bool, true, ◌||◌, if◌then◌else◌, List, [], ◌∷◌, ◌++◌, map, refl, sym, ap, ◌∙◌}
 use Rattle.sp_spec.specs.Lists.{Every}
 use Rattle.sp_spec.proofs.Lists.{every_parts, every_append}
 use Rattle.sp_spec.specs.Rule.{Fact}
 use Rattle.sp_spec.specs.Formula.{Written, Formula}
 use Rattle.sp_spec.specs.Written.{is_listed}
-use Rattle.sp_read_parts.specs.Shapes.{quantified, action_of}
-use Rattle.sp_read_parts.specs.Grammar.{quantified_some}
+use Rattle.sp_spec_text.specs.Shapes.{quantified, action_of}
+use Rattle.sp_spec_text.specs.Formulas.{quantified_some}
 use Rattle.sp_constants.specs.Constants.{once_after, in_formula, in_facts, in_actions, in_terms}
+use Rattle.sp_spec.proofs.Listed.{listed_then, listed_now}
 
 pub once_both : (xs : List (List ℕ)) (ls : List (List ℕ)) (ys : List (List ℕ)) → once_after (once_after ls xs) ys ≡ once_after ls (xs ++ ys)
 once_both [] ls ys = refl
@@ -31,49 +30,18 @@ seen_rule ps acts cs a b c d e k h =
 
 -- ---- a name that stands goes on standing, and isn't put there again
 
-or_left : (a b : Bool) → a ≡ true → (a || b) ≡ true
-or_left true b e = refl
-or_left false b e = absurd cc
-
-or_right : (a b : Bool) → b ≡ true → (a || b) ≡ true
-or_right true b e = refl
-or_right false b e = e
-
 abbrev Stands : List (List ℕ) → List ℕ → Type 0
 Stands ls x = is_listed x ls ≡ true
 
-listed_more : (x : List ℕ) (ls more : List (List ℕ)) → is_listed x ls ≡ true → is_listed x (ls ++ more) ≡ true
-listed_more x [] more e = absurd cc
-listed_more x (y ∷ ys) more e = at (bytes_eq y x) e (listed_more x ys more)
-  where
-    at : (b : Bool) → (b || is_listed x ys) ≡ true → (is_listed x ys ≡ true → is_listed x (ys ++ more) ≡ true) → (b || is_listed x (ys ++ more)) ≡ true
-    at true k later = refl
-    at false k later = later k
-
-equal_names : (x : List ℕ) → bytes_eq x x ≡ true
-equal_names x = (bytes_eq-Decides x x).1 refl
-
-listed_last : (x : List ℕ) (ls : List (List ℕ)) → is_listed x (ls ++ x ∷ []) ≡ true
-listed_last x [] = or_left (bytes_eq x x) false (equal_names x)
-listed_last x (y ∷ ys) = or_right (bytes_eq y x) (is_listed x (ys ++ x ∷ [])) (listed_last x ys)
-
-kept_one : (b : Bool) (x y : List ℕ) (ls : List (List ℕ)) → is_listed x ls ≡ true → is_listed x (if b then ls else ls ++ y ∷ []) ≡ true
-kept_one true x y ls e = e
-kept_one false x y ls e = listed_more x ls (y ∷ []) e
-
 kept_standing : (x : List ℕ) (ys ls : List (List ℕ)) → is_listed x ls ≡ true → is_listed x (once_after ls ys) ≡ true
 kept_standing x [] ls e = e
-kept_standing x (y ∷ ys) ls e = kept_standing x ys (if is_listed y ls then ls else ls ++ y ∷ []) (kept_one (is_listed y ls) x y ls e)
-
-stands_now : (b : Bool) (x : List ℕ) (ls : List (List ℕ)) → is_listed x ls ≡ b → is_listed x (if b then ls else ls ++ x ∷ []) ≡ true
-stands_now true x ls e = e
-stands_now false x ls e = listed_last x ls
+kept_standing x (y ∷ ys) ls e = kept_standing x ys (if is_listed y ls then ls else ls ++ y ∷ []) (listed_then (is_listed y ls) x y ls e)
 
 all_stand : (xs ls : List (List ℕ)) → Every (Stands (once_after ls xs)) xs
 all_stand [] ls = tt
 all_stand (x ∷ xs) ls =
     let now = if is_listed x ls then ls else ls ++ x ∷ [] in
-    (kept_standing x xs now (stands_now (is_listed x ls) x ls refl), all_stand xs now)
+    (kept_standing x xs now (listed_now (is_listed x ls) x ls refl), all_stand xs now)
 
 not_again : (xs ls : List (List ℕ)) → Every (Stands ls) xs → once_after ls xs ≡ ls
 not_again [] ls h = refl

@@ -1,15 +1,13 @@
 -- One element after the other.
-use Rattle.std.proofs.Common.{◌≡◌, ℕ, suc, ◌+◌, ◌<◌, List, [], ◌∷◌, ◌++◌, drop, length, get_or, refl, sym, ap, ◌∙◌, add-one, drop-cons}
+use Rattle.std.proofs.Common.{◌≡◌, ℕ, ◌+◌, ◌<◌, List, [], ◌∷◌, ◌++◌, drop, length, get_or, refl, sym, ap, ◌∙◌}
 use Rattle.std.proofs.lemmas.List.{append-nil}
-use Rattle.sp_written.specs.Text.{rules_in, lemmas_in}
+use Rattle.sp_spec_text.specs.Written.{rules_in, lemmas_in}
 use Rattle.sp_written.specs.Views as view
 use Rattle.sp_written.specs.declared.theory.Item.{Item}
 use Rattle.sp_written.specs.declared.theory.Item.TheVariants as i
 use Rattle.sp_constants.specs.Constants.{once_after, in_rules, in_lemmas}
 use Rattle.sp_constants.proofs.Once.{once_both}
-
-next_item : {A : Type 0} (xs : List A) (i : ℕ) (x : A) → i < length xs → x ≡ get_or xs i x → drop i xs ≡ x ∷ drop (i + 1) xs
-next_item {A = A} xs i x h e = rw (add-one) (drop-cons xs i x h ∙ ap (λ (y : A). y ∷ drop (suc i) xs) (sym e))
+use Rattle.sp_spec.proofs.Lists.{next_item}
 
 -- the names of an element are put at the end, and those of the others are left
 pub next : {A : Type 0} (each : A → List (List ℕ)) (flat : List A → List (List ℕ)) → ((x : A) (xs : List A) → flat (x ∷ xs) ≡ each x ++ flat xs)

@@ -7,6 +7,3 @@
 mod public_names;
 
 pub use public_names::constants;
-
-#[cfg(test)]
-mod tests;

@@ -3,10 +3,10 @@
 ghost use Rattle.std.specs.Prelude.{◌≡◌, ◌∷◌, [], ◌++◌, IfOk, OnOk, map, if◌then◌else◌};
 ghost use Rattle.sp_spec.specs.Written.{is_listed};
 ghost use Rattle.sp_term.specs.View.{name_of};
-ghost use Rattle.sp_read_parts.specs.Shapes.{row};
+ghost use Rattle.sp_spec_text.specs.Shapes.{row};
 ghost use Rattle.sp_read_parts.specs.Views as parts;
 ghost use Rattle.sp_read_parts.specs.Formulas as written;
-ghost use Rattle.sp_written.specs.Text.{rules_in, lemmas_in, theory_in};
+ghost use Rattle.sp_spec_text.specs.Written.{rules_in, lemmas_in, theory_in};
 ghost use Rattle.sp_written.specs.Views as view;
 ghost use Rattle.sp_constants.specs.Constants as spec;
 ghost use Rattle.sp_constants.specs.Constants.{once_after};

@@ -85,10 +85,6 @@ module _ {K A X : Type 0} (view : X → Slot K A) where
   beyond_filled (y ∷ xs) zero l = absurd (omega (arith, l))
   beyond_filled (y ∷ xs) (suc k) l = beyond_filled xs k (omega (arith, l))
 
-pub map_length : {A B : Type 0} (f : A → B) (xs : List A) → length (map f xs) ≡ length xs
-map_length f [] = refl
-map_length f (x ∷ xs) = ap (λ k. suc k) (map_length f xs)
-
 pub is_some_mapped : {A B : Type 0} (f : A → B) (o : Option A) → is_some o ≡ is_some (option_map f o)
 is_some_mapped f None = refl
 is_some_mapped f (Some x) = refl

@@ -6,7 +6,7 @@ use Rattle.sp_spec.specs.Rule.{Action}
 use Rattle.sp_spec.specs.Execution.{Trace}
 use Rattle.sp_spec.specs.Guarded.{Place, Time, Atom}
 use Rattle.sp_law_decide.specs.Deciding.{Environment, by_entry, by_trace, is_among, is_at, by_equalities, with_times, each_by_equalities}
-use Rattle.sp_ground.specs.View.{newest_first}
+use Rattle.sp_spec.specs.Lists.{newest_first}
 use Rattle.sp_eval.specs.declared.environment.Environment as memory
 use Rattle.sp_eval.specs.View.{environment_of, environments_of}
 

@@ -9,7 +9,5 @@ mod atom;
 mod environment;
 mod equality;
 mod matching;
-#[cfg(test)]
-mod tests;
 pub mod truth;
 mod value;

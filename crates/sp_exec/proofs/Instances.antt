@@ -6,7 +6,7 @@ use Rattle.sp_spec.specs.Lists.{Member}
 use Rattle.sp_spec.proofs.Lists.{every_member}
 use Rattle.sp_spec.specs.Term.{Msg, Fresh, Pub, Ground, Grounds, app, count, Values}
 use Rattle.sp_spec.specs.Signature.{Symbol, Signature, HasPublic}
-use Rattle.sp_spec.specs.Rule.{Facts, Rule, knows, Gives}
+use Rattle.sp_spec.specs.Rule.{Facts, Rule, knows, Gives, rule_named}
 use Rattle.sp_spec.specs.Theory.{Theory, signature_of}
 use Rattle.sp_spec.specs.Execution.{Step, make_fresh, use_rule, take_out, put_in, know_public, make_own, apply_symbol, known_all, State, IsNamed, IsInstance, HasSorts, Cause, no_such_rule, no_instance, premise_absent, fresh_name_twice, wrong_sort, IsNoStep}
 use Rattle.sp_law_equal.specs.Matching.{Bound, value_in}
@@ -16,7 +16,7 @@ use Rattle.sp_law_run.proofs.Bindings.{bound_gives, gives_bound, own_values}
 use Rattle.sp_law_run.proofs.Instances.{one_rule, values_valuation, valuation_values}
 use Rattle.sp_norm.specs.Over.{any_public, all_over}
 use Rattle.sp_norm.proofs.Symbols.{any_public_decides, all_over_decides}
-use Rattle.sp_exec.specs.Next.{Instance, named, are_values, of_facts, of_values, of_rule, instance_of}
+use Rattle.sp_exec.specs.Next.{Instance, are_values, of_facts, of_values, of_rule, instance_of}
 use Rattle.sp_exec.specs.Replay.{rank}
 use Rattle.sp_exec.proofs.Told.{named_some, named_none, is_value_decides, are_values_decides}
 
@@ -115,7 +115,7 @@ module _ (theory : Theory) where
           both_ways (are_values symbols bs) t ((are_values_decides signature bs).1 (valuation_values signature bs v agree s));
     }
 
-    by_rule : (x : List ℕ) (given : List (List ℕ × Ground)) (o : Option Rule) → named x theory.rules ≡ o →
+    by_rule : (x : List ℕ) (given : List (List ℕ × Ground)) (o : Option Rule) → rule_named x theory.rules ≡ o →
         IsRightInstance theory (use_rule x given) (of_rule symbols o given)
     by_rule x given None e = λ state. record { fails = λ k. named_none x theory.rules e k.0 k.1 k.2; least = λ c l. absurd (omega arith) }
     by_rule x given (Some r) e = let h = named_some x theory.rules r e in by_values x given r h.0 h.1 (bound_by r.variables given) refl
@@ -123,7 +123,7 @@ module _ (theory : Theory) where
     -- the instance of a step is the one of the definition, or the cause is the least
     pub instance_right : (step : Step) → IsRightInstance theory step (instance_of signature theory.rules step)
     instance_right (make_fresh t) = plain (make_fresh t) _ tt refl (λ v. is_value_decides signature Fresh t)
-    instance_right (use_rule x given) = by_rule x given (named x theory.rules) refl
+    instance_right (use_rule x given) = by_rule x given (rule_named x theory.rules) refl
     instance_right (take_out t) = plain (take_out t) _ tt refl (λ v. is_value_decides signature Msg t)
     instance_right (put_in t) = plain (put_in t) _ tt refl (λ v. is_value_decides signature Msg t)
     instance_right (know_public t) = plain (know_public t) _ tt refl (λ v. is_value_decides signature Pub t)

@@ -4,4 +4,3 @@ pub mod Instances
 pub mod Steps
 pub mod Reached
 pub mod Replays
-pub mod Example

@@ -4,6 +4,7 @@ use Rattle.sp_spec.specs.Term.{count}
 use Rattle.sp_law_run.proofs.Taking.{map_append}
 use Rattle.sp_ground.specs.declared.term.GroundTerm.{GroundTerm}
 use Rattle.sp_ground.specs.View.{grounds_of}
+use Rattle.sp_spec.proofs.Lists.{length_map}
 
 -- what is answered for the rest, behind these
 abbrev pub behind : {A : Type 0} → List A → Option (List A) → Option (List A)
@@ -42,10 +43,6 @@ length_take : {A : Type 0} (xs : List A) (i : ℕ) → i < length xs → length 
 length_take [] i l = absurd (omega arith)
 length_take (y ∷ ys) zero l = refl
 length_take (y ∷ ys) (suc i) l = ap suc (length_take ys i (omega arith))
-
-length_map : {A B : Type 0} (f : A → B) (xs : List A) → length (map f xs) ≡ length xs
-length_map f [] = refl
-length_map f (x ∷ xs) = ap suc (length_map f xs)
 
 -- the same of the images, under one function after another
 module _ {A B C : Type 0} (f : A → B) (g : B → C) where

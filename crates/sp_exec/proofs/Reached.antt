@@ -1,6 +1,6 @@
 -- What is reached by steps, one after the other, follows each state to which they lead.
 use Rattle.std.proofs.Common.{◌≡◌, ◌<◌, ◌≤◌, ◌+◌, ℕ, suc, take, drop, get_or, arith, List, [], ◌∷◌, ◌++◌, Result, Ok, Err, refl, sym, ap, ap₂, ◌∙◌, subst, map, length}
-use Rattle.sp_spec.specs.Lists.{Member}
+use Rattle.sp_spec.specs.Lists.{Member, newest_first}
 use Rattle.sp_spec.specs.Term.{Ground}
 use Rattle.sp_spec.specs.Signature.{Equation, Signature}
 use Rattle.sp_spec.specs.Rule.{Rule}
@@ -12,12 +12,12 @@ use Rattle.sp_law_run.specs.Right.{AreRight}
 use Rattle.sp_law_run.proofs.Counted.{same_facts_itself, same_facts_then}
 use Rattle.sp_law_run.proofs.Taking.{normals}
 use Rattle.sp_law_run.proofs.Runs.{runs_alike}
-use Rattle.sp_ground.specs.View.{newest_first}
 use Rattle.sp_exec.proofs.Lists.{images, images_at, images_more, images_all, images_before}
 use Rattle.sp_exec.specs.Next.{Reached, nothing, next}
 use Rattle.sp_exec.specs.Replay.{IsReplayed, IsFirstFault}
 use Rattle.sp_exec.proofs.Instances.{IsFault}
-use Rattle.sp_exec.proofs.Steps.{newest_added, Follows, IsRightNext, next_right}
+use Rattle.sp_exec.proofs.Steps.{Follows, IsRightNext, next_right}
+use Rattle.sp_spec.proofs.Lists.{newest_last}
 
 -- the steps, the oldest first, are an execution, and this follows its state
 pub record Reaches (theory : Theory) (steps : List Step) (m : Reached) : Type 0 where
@@ -57,7 +57,7 @@ module _ (theory : Theory) (good : AreConvergent (signature_of theory).equations
       record {
         state = n.1;
         trace = shown;
-        runs = subst (λ (zs : List Step). Runs theory zs n.1 shown) (sym (newest_added steps step)) (r.state, r.trace, n.0, r.runs, n.2, refl);
+        runs = subst (λ (zs : List Step). Runs theory zs n.1 shown) (sym (newest_last steps step)) (r.state, r.trace, n.0, r.runs, n.2, refl);
         follows = n.3;
       }
 

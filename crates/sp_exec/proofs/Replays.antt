@@ -1,16 +1,12 @@
 -- Of the same steps there is one answer.
 use Rattle.std.proofs.Common.{◌≡◌, ◌<◌, ⊎_elim, ℕ, zero, suc, List, [], ◌∷◌, ◌++◌, refl, sym, ap, ◌∙◌, subst, length, append_assoc, arith}
 use Rattle.std.proofs.lemmas.Bool.{cases_order}
-use Rattle.std.proofs.lemmas.List.{append-nil}
 use Rattle.sp_spec.specs.Rule.{Facts}
 use Rattle.sp_spec.specs.Theory.{Theory}
 use Rattle.sp_spec.specs.Execution.{Step, State, Trace, Leads, Runs, IsExecution, Cause, no_such_rule, no_instance, premise_absent, fresh_name_twice, wrong_sort, IsNoStep}
-use Rattle.sp_ground.specs.View.{newest_first}
+use Rattle.sp_spec.specs.Lists.{newest_first}
 use Rattle.sp_exec.specs.Replay.{rank, IsReplayed, IsFirstFault}
-
-newest_append : {A : Type 0} (xs ys : List A) → newest_first (xs ++ ys) ≡ newest_first ys ++ newest_first xs
-newest_append [] ys = sym (append-nil (newest_first ys))
-newest_append (x ∷ xs) ys = ap (λ zs. zs ++ x ∷ []) (newest_append xs ys) ∙ append_assoc (newest_first ys) (newest_first xs) (x ∷ [])
+use Rattle.sp_spec.proofs.Lists.{newest_append}
 
 -- a step that is done fails for no cause
 leads_without : (theory : Theory) (step : Step) (facts : Facts ⊥) (before after : State) → Leads theory step facts before after → (cause : Cause) →

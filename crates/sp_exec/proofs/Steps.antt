@@ -1,7 +1,7 @@
 -- A step on the normal facts is one of the definition, on each state that they follow.
 use Rattle.std.proofs.Common.{◌≡◌, ◌<◌, ⊎_elim, List, [], ◌∷◌, ◌++◌, Bool, true, false, Option, Some, None, Result, Ok, Err, if◌then◌else◌, inl, inr, refl, sym, ap, ◌∙◌, subst, map, arith}
-use Rattle.sp_spec.specs.Lists.{Member}
-use Rattle.sp_spec.proofs.Lists.{member_left, member_right, member_either}
+use Rattle.sp_spec.specs.Lists.{Member, newest_first}
+use Rattle.sp_spec.proofs.Lists.{member_left, member_right, member_either, newest_last}
 use Rattle.sp_spec.specs.Term.{Ground}
 use Rattle.sp_spec.specs.Signature.{Equation}
 use Rattle.sp_spec.specs.Rule.{Fact, Action, Facts}
@@ -16,15 +16,10 @@ use Rattle.sp_law_run.proofs.Counted.{same_facts_added}
 use Rattle.sp_law_run.proofs.Taking.{map_append, normals, takes_taken, taken_takes}
 use Rattle.sp_law_run.proofs.Instances.{one_instance}
 use Rattle.sp_law_run.proofs.Runs.{after}
-use Rattle.sp_ground.specs.View.{newest_first}
 use Rattle.sp_exec.specs.Next.{Reached, Instance, instance_of, is_made_twice, made_after, entries_after, reached_after, by_rest, by_instance, next}
 use Rattle.sp_exec.specs.Replay.{rank}
 use Rattle.sp_exec.proofs.Told.{made_twice, made_once}
 use Rattle.sp_exec.proofs.Instances.{IsFault, HasInstance, IsRightInstance, instance_right}
-
-pub newest_added : {A : Type 0} (xs : List A) (x : A) → newest_first (xs ++ x ∷ []) ≡ x ∷ newest_first xs
-newest_added [] x = refl
-newest_added (y ∷ xs) x = ap (λ zs. zs ++ y ∷ []) (newest_added xs x)
 
 -- what was reached follows the state and the trace: it has their normal forms
 pub record Follows (es : List Equation) (m : Reached) (s : State) (trace : Trace) : Type 0 where
@@ -41,7 +36,7 @@ IsRightNext theory step s trace (Ok m) =
 entry_shown : (es : List Equation) (actions : List (Action ⊥)) (entries : List (List (Action ⊥))) (trace : Trace) → newest_first entries ≡ normal_trace es trace →
     newest_first (entries_after (map (normal_action es) actions) entries) ≡ normal_trace es (with_entry actions trace)
 entry_shown es [] entries trace h = h
-entry_shown es (a ∷ actions) entries trace h = newest_added entries (map (normal_action es) (a ∷ actions)) ∙ ap (λ zs. map (normal_action es) (a ∷ actions) ∷ zs) h
+entry_shown es (a ∷ actions) entries trace h = newest_last entries (map (normal_action es) (a ∷ actions)) ∙ ap (λ zs. map (normal_action es) (a ∷ actions) ∷ zs) h
 
 added_there : (x t : Ground) (xs ys : List Ground) → (Member t xs → Member t ys) → Member t (xs ++ x ∷ []) → Member t (x ∷ ys)
 added_there x t xs ys h m = ⊎_elim (λ a. inr (h a)) (λ b. ⊎_elim (λ e. inl e) (λ n. absurd n) b) (member_either t xs (x ∷ []) m)

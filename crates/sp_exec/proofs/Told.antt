@@ -8,32 +8,33 @@ use Rattle.sp_spec.specs.Lists.{Member}
 use Rattle.sp_spec.specs.Same.{same_term}
 use Rattle.sp_spec.specs.Term.{Sort, Ground}
 use Rattle.sp_spec.specs.Signature.{Signature, IsValue}
-use Rattle.sp_spec.specs.Rule.{Rule}
+use Rattle.sp_spec.specs.Rule.{Rule, rule_named}
 use Rattle.sp_spec.specs.Execution.{Step, make_fresh, use_rule, take_out, put_in, know_public, make_own, apply_symbol, State, IsNew}
 use Rattle.sp_law_equal.specs.Matching.{Bound, has_sort}
-use Rattle.sp_law_equal.proofs.Tests.{same_term_decides, has_sort_decides}
+use Rattle.sp_spec.proofs.Same.{same_term_decides}
+use Rattle.sp_law_equal.proofs.Tests.{has_sort_decides}
 use Rattle.sp_law_run.proofs.Instances.{AreValues}
 use Rattle.sp_norm.specs.Over.{over}
 use Rattle.sp_norm.proofs.Symbols.{over_decides}
-use Rattle.sp_exec.specs.Next.{named, is_value, are_values, is_made, is_made_twice}
+use Rattle.sp_exec.specs.Next.{is_value, are_values, is_made, is_made_twice}
 
 -- a rule that is found is one of the rules, and has the name
-pub named_some : (x : List ℕ) (rules : List Rule) (r : Rule) → named x rules ≡ Some r → Member r rules × (r.name ≡ x)
+pub named_some : (x : List ℕ) (rules : List Rule) (r : Rule) → rule_named x rules ≡ Some r → Member r rules × (r.name ≡ x)
 named_some x [] r e = absurd cc
 named_some x (q ∷ rules) r e = by_test (bytes_eq q.name x) (λ t. (bytes_eq-Decides q.name x).0 t) e (λ k. named_some x rules r k)
   where
-    by_test : (b : Bool) → (b ≡ true → q.name ≡ x) → (if b then Some q else named x rules) ≡ Some r → (named x rules ≡ Some r → Member r rules × (r.name ≡ x))
+    by_test : (b : Bool) → (b ≡ true → q.name ≡ x) → (if b then Some q else rule_named x rules) ≡ Some r → (rule_named x rules ≡ Some r → Member r rules × (r.name ≡ x))
         → Member r (q ∷ rules) × (r.name ≡ x)
     by_test true t e k = let same : q ≡ r = cc in (inl same, ap (λ (z : Rule). z.name) (sym same) ∙ t refl)
     by_test false t e k = let h = k e in (inr h.0, h.1)
 
 -- a rule that isn't found isn't there
-pub named_none : (x : List ℕ) (rules : List Rule) → named x rules ≡ None → (r : Rule) → Member r rules → r.name ≡ x → ⊥
+pub named_none : (x : List ℕ) (rules : List Rule) → rule_named x rules ≡ None → (r : Rule) → Member r rules → r.name ≡ x → ⊥
 named_none x [] e r m n = m
 named_none x (q ∷ rules) e r m n =
     by_test (bytes_eq q.name x) (λ t. (bytes_eq-Decides q.name x).1 t) e (λ k l. named_none x rules k r l n) m
   where
-    by_test : (b : Bool) → (q.name ≡ x → b ≡ true) → (if b then Some q else named x rules) ≡ None → (named x rules ≡ None → Member r rules → ⊥) → Member r (q ∷ rules) → ⊥
+    by_test : (b : Bool) → (q.name ≡ x → b ≡ true) → (if b then Some q else rule_named x rules) ≡ None → (rule_named x rules ≡ None → Member r rules → ⊥) → Member r (q ∷ rules) → ⊥
     by_test true t e k m = absurd cc
     by_test false t e k (inl m) = both_ways false refl (t (ap (λ (z : Rule). z.name) m ∙ n))
     by_test false t e k (inr m) = k e m

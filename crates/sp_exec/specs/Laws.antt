@@ -2,7 +2,7 @@
 use Rattle.std.specs.Prelude.{◌≡◌, ℕ, List}
 use Rattle.sp_spec.specs.Theory.{Theory}
 use Rattle.sp_spec.specs.Execution.{Step, Trace, IsExecution, Cause}
-use Rattle.sp_ground.specs.View.{newest_first}
+use Rattle.sp_spec.specs.Lists.{newest_first}
 use Rattle.sp_exec.specs.Replay.{IsReplayed, IsFirstFault}
 
 -- Of the same steps there is one answer: one trace, or one first fault with one cause, and then they are no execution.

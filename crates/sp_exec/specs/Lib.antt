@@ -2,4 +2,3 @@ pub mod Next
 pub mod Replay
 pub mod View
 pub mod Laws
-pub mod Example

@@ -1,10 +1,9 @@
 -- How steps are replayed, on a state whose facts are in normal form.
 use Rattle.std.specs.Prelude.{ℕ, Bool, true, false, ◌&&◌, ◌||◌, if◌then◌else◌, List, [], ◌∷◌, ◌++◌, Option, Some, None, Result, Ok, Err}
-use Rattle.std.specs.Str.{bytes_eq}
 use Rattle.sp_spec.specs.Same.{same_term}
 use Rattle.sp_spec.specs.Term.{Sort, Msg, Fresh, Pub, app, Ground, Grounds, count}
 use Rattle.sp_spec.specs.Signature.{Symbol, Signature}
-use Rattle.sp_spec.specs.Rule.{Fact, Action, Facts, Rule, facts_at, fr, in_of, out_of, knows, sends}
+use Rattle.sp_spec.specs.Rule.{Fact, Action, Facts, Rule, rule_named, facts_at, fr, in_of, out_of, knows, sends}
 use Rattle.sp_spec.specs.Execution.{Step, make_fresh, use_rule, take_out, put_in, know_public, make_own, apply_symbol, known_all, Cause, no_such_rule, no_instance, premise_absent, fresh_name_twice, wrong_sort}
 use Rattle.sp_law_equal.specs.Matching.{Bound, value_in, has_sort}
 use Rattle.sp_law_equal.specs.Normal.{normal_facts}
@@ -25,11 +24,6 @@ nothing = record { facts = []; made = []; entries = [] }
 pub record Instance : Type 0 where
   pub facts : Facts ⊥
   pub sorted : Bool
-
--- the first rule of the name
-abbrev pub named : List ℕ → List Rule → Option Rule
-named x [] = None
-named x (r ∷ rs) = if bytes_eq r.name x then Some r else named x rs
 
 abbrev pub is_value : List Symbol → Sort → Ground → Bool
 is_value symbols sort t = has_sort sort t && over symbols t
@@ -57,7 +51,7 @@ of_symbol symbols f ts =
 -- the instance of the step, or why there is none
 abbrev pub instance_of : Signature → List Rule → Step → Result Instance Cause
 instance_of signature rules (make_fresh t) = of_facts [] [] (fr t ∷ []) (is_value signature.symbols Fresh t)
-instance_of signature rules (use_rule name given) = of_rule signature.symbols (named name rules) given
+instance_of signature rules (use_rule name given) = of_rule signature.symbols (rule_named name rules) given
 instance_of signature rules (take_out t) = of_facts (out_of t ∷ []) [] (knows t ∷ []) (is_value signature.symbols Msg t)
 instance_of signature rules (put_in t) = of_facts (knows t ∷ []) (sends t ∷ []) (in_of t ∷ []) (is_value signature.symbols Msg t)
 instance_of signature rules (know_public t) = of_facts [] [] (knows t ∷ []) (is_value signature.symbols Pub t)

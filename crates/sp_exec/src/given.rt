@@ -5,16 +5,16 @@ ghost use Rattle.sp_law_run.specs.Given as spec;
 ghost use Rattle.sp_term.specs.View.{name_of, sort_of};
 ghost use Rattle.sp_ground.specs.View.{given_of, ground_of, symbol_of};
 ghost use Rattle.sp_norm.specs.Bounds.{bounds};
-ghost use Rattle.sp_rule.specs.View.{declared_of};
+ghost use Rattle.sp_fact.specs.View.{declared_of};
 ghost use Rattle.sp_exec.specs.Next as next;
 
+use sp_fact::rule::Declared;
 use sp_ground::signature::Symbol;
 use sp_ground::step::Given;
 use sp_ground::term::{GroundTerm, copy};
 use sp_norm::matching::has_sort;
 use sp_norm::over::is_over;
 use sp_norm::values::Values;
-use sp_rule::Declared;
 use sp_term::term::{Name, Sort, Variable};
 use std::alloc::{AllocError, Global};
 

@@ -2,23 +2,24 @@
 
 ghost use Rattle.std.specs.Prelude.{◌≡◌, ◌∷◌, [], ◌++◌, IfOk, map, option_map};
 ghost use Rattle.sp_spec.specs.Term.{app, more, none};
+ghost use Rattle.sp_spec.specs.Rule as spec;
 ghost use Rattle.sp_spec.specs.Rule.{in_of, knows, sends};
 ghost use Rattle.sp_spec.specs.Execution as execution;
 ghost use Rattle.sp_term.specs.View.{name_of};
 ghost use Rattle.sp_ground.specs.View.{given_of, ground_action, ground_fact, ground_of, grounds_of, signature_of, step_of, symbol_of};
-ghost use Rattle.sp_rule.specs.View.{rule_of};
+ghost use Rattle.sp_fact.specs.View.{rule_of};
 ghost use Rattle.sp_exec.specs.Next as next;
 ghost use Rattle.sp_exec.specs.View.{answer_of};
 
 use crate::cause::Cause;
 use crate::given::{are_values, bound_by, is_value};
+use sp_fact::rule::Rule;
 use sp_ground::fact::{GroundAction, GroundFact, GroundFacts};
 use sp_ground::signature::{Signature, Symbol};
 use sp_ground::step::{Given, Step};
 use sp_ground::term::{GroundTerm, copy, copy_all};
 use sp_norm::instance::facts_value;
 use sp_norm::over::{are_over, has_public};
-use sp_rule::Rule;
 use sp_term::term::{Name, Sort};
 use std::alloc::{AllocError, Global};
 use std::rc::Rc;
@@ -34,7 +35,7 @@ pub struct Instance {
 
 /// The first rule of the name.
 fn named<'a>(rules: &'a Vec<Rule>, name: &Name) -> Option<&'a Rule>
-    ensures { option_map (λ r. rule_of r.now) result ≡ next.named (name_of name.now) (map rule_of rules.now.items) }
+    ensures { option_map (λ r. rule_of r.now) result ≡ spec.rule_named (name_of name.now) (map rule_of rules.now.items) }
 {
     for rule in rules {
         if rule.name == *name {
@@ -52,7 +53,7 @@ fn of_rule(
     name: &Name,
     given: &Vec<Given>,
 ) -> Result<Result<Instance, Cause>, AllocError>
-    ensures { IfOk result (λ r. answer_of r ≡ next.of_rule (map symbol_of symbols.now.items) (next.named (name_of name.now) (map rule_of rules.now.items)) (map given_of given.now.items)) }
+    ensures { IfOk result (λ r. answer_of r ≡ next.of_rule (map symbol_of symbols.now.items) (spec.rule_named (name_of name.now) (map rule_of rules.now.items)) (map given_of given.now.items)) }
 {
     match named(rules, name) {
         None => Ok(Err(Cause::NoSuchRule)),

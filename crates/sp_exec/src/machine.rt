@@ -4,20 +4,20 @@ ghost use Rattle.std.specs.Prelude.{◌≡◌, ◌++◌, IfOk, OnOk, map};
 ghost use Rattle.sp_law_equal.specs.Normal.{normal_facts};
 ghost use Rattle.sp_law_run.specs.NormalStep.{normal_step};
 ghost use Rattle.sp_ground.specs.View.{equation_of, ground_action, ground_fact, ground_facts, ground_of, signature_of, step_of};
-ghost use Rattle.sp_rule.specs.View.{rule_of};
+ghost use Rattle.sp_fact.specs.View.{rule_of};
 ghost use Rattle.sp_exec.specs.Next as spec;
 ghost use Rattle.sp_exec.specs.View.{instance_in, outcome_of, reached_by};
 
 use crate::cause::Cause;
 use crate::instance::{Instance, instance_of};
 use crate::taking::take_all;
+use sp_fact::rule::Rule;
 use sp_ground::fact::{GroundAction, GroundFact};
 use sp_ground::signature::{Equation, Signature};
 use sp_ground::step::Step;
 use sp_ground::term::{GroundTerm, copy, same};
 use sp_norm::normal::normal_facts;
 use sp_norm::step::normal_step;
-use sp_rule::Rule;
 use std::alloc::{AllocError, Global};
 
 /// What was reached: the facts in normal form, the fresh names made, and the entries of the trace, each the oldest first.

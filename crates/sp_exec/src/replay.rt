@@ -6,16 +6,16 @@ ghost use Rattle.sp_law_equal.specs.Convergent.{AreConvergent};
 ghost use Rattle.sp_law_run.specs.NormalStep.{normal_step};
 ghost use Rattle.sp_law_run.specs.Right.{AreRight};
 ghost use Rattle.sp_ground.specs.View.{signature_of, step_of};
-ghost use Rattle.sp_rule.specs.View.{rule_of};
+ghost use Rattle.sp_fact.specs.View.{rule_of};
 ghost use Rattle.sp_exec.specs.Laws.{ReplaysAreOne};
 ghost use Rattle.sp_exec.specs.Replay.{IsReplay};
 
 use crate::cause::Cause;
 use crate::machine::Machine;
+use sp_fact::rule::Rule;
 use sp_ground::fact::Trace;
 use sp_ground::signature::Signature;
 use sp_ground::step::Step;
-use sp_rule::Rule;
 use std::alloc::{AllocError, Global};
 
 /// What comes of the steps.

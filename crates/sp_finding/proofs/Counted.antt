@@ -4,7 +4,7 @@ use Rattle.sp_spec.specs.Term.{count}
 use Rattle.sp_spec.specs.Rule.{Fact}
 use Rattle.sp_spec.specs.Formula.{Written}
 use Rattle.sp_spec.specs.Findings.{is_wide, has_wide_fact, has_wide_action, is_one, is_fresh_variable}
-use Rattle.sp_read_parts.specs.Shapes.{action_of, row}
+use Rattle.sp_spec_text.specs.Shapes.{action_of, row}
 use Rattle.sp_read_parts.specs.Views.{term}
 use Rattle.sp_read_parts.specs.declared.written.WrittenTerm.{WrittenTerm}
 

@@ -4,7 +4,7 @@ use Rattle.std.proofs.lemmas.List.{append_assoc}
 use Rattle.sp_spec.specs.Rule.{Fact}
 use Rattle.sp_spec.specs.Formula.{Written}
 use Rattle.sp_spec.specs.Written.{in_facts, in_actions, in_terms, is_argument}
-use Rattle.sp_read_parts.specs.Shapes.{action_of, row}
+use Rattle.sp_spec_text.specs.Shapes.{action_of, row}
 use Rattle.sp_read_parts.specs.Views.{term}
 use Rattle.sp_read_parts.specs.declared.written.WrittenTerm.{WrittenTerm}
 use Rattle.sp_read_parts.specs.declared.written.WrittenTerm.TheVariants as v

@@ -11,6 +11,3 @@ mod variables;
 
 pub use rule::rule_is_wrong;
 pub use variables::{occurrences, sort_in};
-
-#[cfg(test)]
-mod tests;

@@ -6,5 +6,3 @@
 
 pub mod formula;
 pub mod same;
-#[cfg(test)]
-mod tests;

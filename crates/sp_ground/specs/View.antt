@@ -1,5 +1,6 @@
 -- What ground_of terms, facts, traces, steps and signatures in memory stand for.
 use Rattle.std.specs.Prelude.{ℕ, List, [], ◌∷◌, ◌++◌, map}
+use Rattle.sp_spec.specs.Lists.{newest_first}
 use Rattle.sp_spec.specs.Term.{constant, name, app, none, more, Ground, Grounds}
 use Rattle.sp_spec.specs.Rule as rule
 use Rattle.sp_spec.specs.Signature as signature
@@ -51,10 +52,6 @@ ground_facts f = record {
 -- the entries, the oldest first
 abbrev pub entries_of : Trace → List (List (rule.Action ⊥))
 entries_of t = map (λ entry. map ground_action entry.items) t.entries.items
-
-abbrev pub newest_first : {A : Type 0} → List A → List A
-newest_first [] = []
-newest_first (x ∷ xs) = newest_first xs ++ x ∷ []
 
 abbrev pub trace_of : Trace → execution.Trace
 trace_of t = newest_first (entries_of t)

@@ -13,6 +13,3 @@ mod tree;
 pub use choose::choice;
 pub use grow::grown_tree;
 pub use tree::{Branch, OpenLeaf, Tree, is_finished, steps};
-
-#[cfg(test)]
-mod tests;

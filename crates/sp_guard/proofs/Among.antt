@@ -4,7 +4,7 @@ use Rattle.sp_spec.specs.Term.{Term, Terms, more}
 use Rattle.sp_spec.specs.Formula.{Written}
 use Rattle.sp_spec.specs.Guarded.{Place}
 use Rattle.sp_read_parts.specs.declared.written.WrittenTerm.{WrittenTerm}
-use Rattle.sp_read_parts.specs.Shapes.{row}
+use Rattle.sp_spec_text.specs.Shapes.{row}
 use Rattle.sp_read_parts.specs.Views.{term}
 use Rattle.sp_formula.specs.FormulaView.{row_of}
 use Rattle.sp_law_guard.specs.GuardedForm.{placed_term, placed_terms}

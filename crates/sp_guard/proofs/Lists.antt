@@ -1,5 +1,5 @@
 -- Lists that are looked through from the outermost binder to the innermost, and answers gathered one after the other.
-use Rattle.std.proofs.Common.{arith, ◌≡◌, ◌+◌, ◌<◌, ◌∙◌, refl, ap, ℕ, suc, List, [], ◌∷◌, ◌++◌, length, map, take, get_or, Option, Some, option_map, if◌then◌else◌}
+use Rattle.std.proofs.Common.{arith, ◌≡◌, ◌+◌, ◌<◌, ◌∙◌, ap, ℕ, suc, List, [], ◌∷◌, ◌++◌, length, map, take, get_or, Option, Some, option_map, if◌then◌else◌}
 use Rattle.std.specs.Str.{bytes_eq}
 use Rattle.std.proofs.Math.Seq.{take-suc}
 use mathlib.Core.List.{map-append}
@@ -10,7 +10,9 @@ use Rattle.sp_read_parts.specs.declared.written.WrittenTerm.TheVariants.{Variabl
 use Rattle.sp_read_parts.specs.declared.written.WrittenVariable.{WrittenVariable}
 use Rattle.sp_read_parts.specs.Views.{variable}
 use Rattle.sp_law_guard.specs.GuardedForm.{Meant, binder_meant, past_binder, meant}
-use Rattle.sp_guard.specs.View.{reversed, innermost_first}
+use Rattle.sp_guard.specs.View.{innermost_first}
+use Rattle.sp_spec.specs.Lists.{newest_first}
+use Rattle.sp_spec.proofs.Lists.{newest_last}
 
 -- what stands behind the end of a list
 abbrev pub none_written : WrittenVariable
@@ -18,10 +20,6 @@ none_written = record { name = record { ref_ptr = (0, 0); now = [] }; mark = Bar
 
 abbrev pub no_term : WrittenTerm
 no_term = Variable none_written
-
-pub reversed_more : {A : Type 0} → (xs : List A) → (x : A) → reversed (xs ++ x ∷ []) ≡ x ∷ reversed xs
-reversed_more [] x = refl
-reversed_more (y ∷ ys) x = ap (λ zs. zs ++ y ∷ []) (reversed_more ys x)
 
 -- what a name means inside one more binder
 abbrev pub inside : List ℕ → Written → Option Meant → Option Meant
@@ -34,5 +32,5 @@ meant_more x bs i d below =
     let next : i + 1 ≡ suc i = omega arith in
     ap (λ (n : ℕ). meant (innermost_first (take n bs)) x) next
     ∙ ap (λ (cs : List WrittenVariable). meant (innermost_first cs) x) (take-suc bs i d below)
-    ∙ ap (λ (cs : List Written). meant (reversed cs) x) (map-append variable (take i bs) (b ∷ []))
-    ∙ ap (λ (cs : List Written). meant cs x) (reversed_more (map variable (take i bs)) (variable b))
+    ∙ ap (λ (cs : List Written). meant (newest_first cs) x) (map-append variable (take i bs) (b ∷ []))
+    ∙ ap (λ (cs : List Written). meant cs x) (newest_last (map variable (take i bs)) (variable b))

@@ -5,12 +5,13 @@ use Rattle.sp_spec.specs.Term.{count}
 use Rattle.sp_spec.specs.Findings.{is_wide}
 use Rattle.sp_read_parts.specs.declared.written.WrittenTerm.{WrittenTerm}
 use Rattle.sp_read_parts.specs.declared.written.WrittenVariable.{WrittenVariable}
-use Rattle.sp_read_parts.specs.Shapes.{row, quantified}
-use Rattle.sp_read_parts.specs.Grammar.{quantified_some}
+use Rattle.sp_spec_text.specs.Shapes.{row, quantified}
+use Rattle.sp_spec_text.specs.Formulas.{quantified_some}
 use Rattle.sp_read_parts.specs.Views.{term, variable}
 use Rattle.sp_law_guard.specs.GuardedForm.{meant}
 use Rattle.sp_law_guard.specs.CheckedForm.{fits, each_fits, marks_fit, has_wide}
-use Rattle.sp_guard.specs.View.{reversed, innermost_first}
+use Rattle.sp_guard.specs.View.{innermost_first}
+use Rattle.sp_spec.specs.Lists.{newest_first}
 use Rattle.sp_guard.proofs.QuantifiedForm.{regrouped, inside}
 
 pub one_fits : (x : Bool) → x && true ≡ x
@@ -44,11 +45,11 @@ either_way true y = refl
 either_way false true = refl
 either_way false false = refl
 
-all_fit : (bs xs : List Written) (f : Formula) → marks_fit (reversed xs ++ bs) f ≡ marks_fit bs (quantified xs f)
+all_fit : (bs xs : List Written) (f : Formula) → marks_fit (newest_first xs ++ bs) f ≡ marks_fit bs (quantified xs f)
 all_fit bs [] f = refl
 all_fit bs (x ∷ xs) f = ap (λ (cs : List Written). marks_fit cs f) (regrouped xs bs x) ∙ all_fit (x ∷ bs) xs f
 
-some_fit : (bs xs : List Written) (f : Formula) → marks_fit (reversed xs ++ bs) f ≡ marks_fit bs (quantified_some xs f)
+some_fit : (bs xs : List Written) (f : Formula) → marks_fit (newest_first xs ++ bs) f ≡ marks_fit bs (quantified_some xs f)
 some_fit bs [] f = refl
 some_fit bs (x ∷ xs) f = ap (λ (cs : List Written). marks_fit cs f) (regrouped xs bs x) ∙ some_fit (x ∷ bs) xs f
 

@@ -3,8 +3,8 @@ use Rattle.std.proofs.Common.{arith, ◌≡◌, ◌⊎◌, ◌≤◌, refl, sym,
 use Rattle.std.specs.Option.{option_or}
 use Rattle.sp_spec.specs.Formula.{Written, Formula}
 use Rattle.sp_spec.specs.Guarded.{Atom}
-use Rattle.sp_read_parts.specs.Shapes.{quantified}
-use Rattle.sp_read_parts.specs.Grammar.{quantified_some}
+use Rattle.sp_spec_text.specs.Shapes.{quantified}
+use Rattle.sp_spec_text.specs.Formulas.{quantified_some}
 use Rattle.sp_read_parts.specs.Views.{variable}
 use Rattle.sp_read_parts.specs.declared.written.WrittenVariable.{WrittenVariable}
 use Rattle.sp_formula.specs.FormulaView.{binder_of}

@@ -6,10 +6,10 @@ use Rattle.std.proofs.Math.Bool.{and_assoc, and-true}
 use Rattle.sp_spec.specs.Formula.{Written, Formula, truth, falsity, happens, equals, precedes, not_so, both, either, implies, for_all, for_some}
 use Rattle.sp_spec.specs.Guarded.{Binder, message, time, Atom, acts, same, same_time, before, last, Guarded, Guardeds, holds, fails, all_of, one_of, some, every, no_more, and_then}
 use Rattle.sp_spec.specs.Guarded as guarded
-use Rattle.sp_read_parts.specs.Grammar.{equivalent}
+use Rattle.sp_spec_text.specs.Formulas.{equivalent}
 use Rattle.sp_law_guard.specs.GuardedForm.{meant, time_place, placed_action, term_time, acts_at, before_at, equality_at, binder_of, listed, parts_of, conjuncts, disjuncts, conjunction, disjunction, negated_atom, negate, negate_each, guard_in, rest_in, body_of, existential, guarded_form}
 use Rattle.sp_law_guard.specs.IsGuarded.{message_guarded, messages_in, each_guarded, is_guarded, are_guarded}
-use Rattle.sp_law_guard.proofs.Options.{mapped}
+use Rattle.sp_spec.proofs.Options.{mapped}
 use Rattle.sp_law_guard.proofs.Kept.{joined_forms}
 use Rattle.sp_guard.specs.Unguarded.{Above, nothing_above, turned, one_more, below_some, below_all, first_guarded, outermost_guarded, named_unless, unguarded, first_unguarded, UnguardedIsTold}
 

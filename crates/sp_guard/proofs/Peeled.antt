@@ -3,15 +3,16 @@ use Rattle.std.proofs.Common.{◌≡◌, refl, sym, ap, ap₂, subst, ◌∙◌,
 use Rattle.std.specs.Option.{option_or}
 use Rattle.sp_spec.specs.Formula.{Written, Formula, for_all, for_some}
 use Rattle.sp_spec.specs.Guarded.{Binder, message, time, Atom, Guarded, truth, falsity, holds, fails, all_of, one_of, some, every}
-use Rattle.sp_read_parts.specs.Shapes.{quantified}
-use Rattle.sp_read_parts.specs.Grammar.{quantified_some}
-use Rattle.sp_guard.specs.View.{reversed}
+use Rattle.sp_spec_text.specs.Shapes.{quantified}
+use Rattle.sp_spec_text.specs.Formulas.{quantified_some}
+use Rattle.sp_spec.specs.Lists.{newest_first}
 use Rattle.sp_law_guard.specs.GuardedForm.{binder_of, conjuncts, guard_in, rest_in, body_of, negate, existential, guarded_form}
 use Rattle.sp_law_guard.specs.IsGuarded.{message_guarded, messages_in}
 use Rattle.sp_guard.specs.Unguarded.{Above, turned, one_more, below_some, below_all, first_guarded, outermost_guarded, named_unless, unguarded}
 use Rattle.sp_guard.specs.FirstNamed.{named_in, named_in_form, below_each}
 use Rattle.sp_guard.proofs.QuantifiedForm.{regrouped}
 use Rattle.sp_guard.proofs.NoneUnguarded.{one_within}
+use Rattle.sp_guard.specs.Bound.{for_all_form, for_some_form}
 
 abbrev Name : Type 0
 Name = Option (List ℕ)
@@ -59,12 +60,6 @@ existential_is : (b : Binder) (g : Guarded) → IsSome b (existential b g)
 existential_is b (some bs guard g) = record { others = bs; guard = guard; body = g; is = refl }
 existential_is b g = record { others = []; guard = guard_in (conjuncts g); body = body_of (rest_in (conjuncts g)); is = refl }
 
-abbrev some_of : Written → Guarded → Guarded
-some_of x g = existential (binder_of x.mark) g
-
-abbrev all_of_each : Written → Guarded → Guarded
-all_of_each x g = negate (existential (binder_of x.mark) (negate g))
-
 abbrev Peels : ℕ → Written → List Written → Option Guarded → Option Guarded → Type 0
 Peels n x xs outer inner = named_unless x (outermost_guarded n outer) (named_in_form (one_more (binder_of x.mark) n) inner xs) ≡ named_in_form n outer (x ∷ xs)
 
@@ -75,30 +70,30 @@ last_peels n x bs guard o =
     let b = binder_of x.mark in
     ap (named_unless x (first_guarded n guard (b ∷ bs))) (no_names (one_more b n) o ∙ sym (none_left (one_more b n + messages_in bs) guard bs)) ∙ one_named n guard b bs x []
 
-some_last : (n : ℕ) (x : Written) (o : Option Guarded) → Peels n x [] (option_map (some_of x) o) o
+some_last : (n : ℕ) (x : Written) (o : Option Guarded) → Peels n x [] (option_map (for_some_form x) o) o
 some_last n x None = refl
 some_last n x (Some g) =
     let r = existential_is (binder_of x.mark) g in
     subst (λ (h : Guarded). Peels n x [] (Some h) (Some g)) (sym r.is) (last_peels n x r.others r.guard (Some g))
 
-all_last : (n : ℕ) (x : Written) (o : Option Guarded) → Peels n x [] (option_map (all_of_each x) o) o
+all_last : (n : ℕ) (x : Written) (o : Option Guarded) → Peels n x [] (option_map (for_all_form x) o) o
 all_last n x None = refl
 all_last n x (Some g) =
     let r = existential_is (binder_of x.mark) (negate g) in
     subst (λ (h : Guarded). Peels n x [] (Some (negate h)) (Some g)) (sym r.is) (last_peels n x r.others r.guard (Some g))
 
 -- a name before others
-some_more : (n : ℕ) (x y : Written) (ys : List Written) (o : Option Guarded) → Peels n x (y ∷ ys) (option_map (some_of x) (option_map (some_of y) o)) (option_map (some_of y) o)
+some_more : (n : ℕ) (x y : Written) (ys : List Written) (o : Option Guarded) → Peels n x (y ∷ ys) (option_map (for_some_form x) (option_map (for_some_form y) o)) (option_map (for_some_form y) o)
 some_more n x y ys None = refl
 some_more n x y ys (Some g) =
     let r = existential_is (binder_of y.mark) g in
-    subst (λ (h : Guarded). Peels n x (y ∷ ys) (Some (some_of x h)) (Some h)) (sym r.is) (one_named n r.guard (binder_of x.mark) (binder_of y.mark ∷ r.others) x (y ∷ ys))
+    subst (λ (h : Guarded). Peels n x (y ∷ ys) (Some (for_some_form x h)) (Some h)) (sym r.is) (one_named n r.guard (binder_of x.mark) (binder_of y.mark ∷ r.others) x (y ∷ ys))
 
-all_more : (n : ℕ) (x y : Written) (ys : List Written) (o : Option Guarded) → Peels n x (y ∷ ys) (option_map (all_of_each x) (option_map (all_of_each y) o)) (option_map (all_of_each y) o)
+all_more : (n : ℕ) (x y : Written) (ys : List Written) (o : Option Guarded) → Peels n x (y ∷ ys) (option_map (for_all_form x) (option_map (for_all_form y) o)) (option_map (for_all_form y) o)
 all_more n x y ys None = refl
 all_more n x y ys (Some g) =
     let r = existential_is (binder_of y.mark) (negate g) in
-    subst (λ (h : Guarded). Peels n x (y ∷ ys) (Some (all_of_each x (negate h))) (Some (negate h))) (sym r.is) (one_named n r.guard (binder_of x.mark) (binder_of y.mark ∷ r.others) x (y ∷ ys))
+    subst (λ (h : Guarded). Peels n x (y ∷ ys) (Some (for_all_form x (negate h))) (Some (negate h))) (sym r.is) (one_named n r.guard (binder_of x.mark) (binder_of y.mark ∷ r.others) x (y ∷ ys))
 
 some_peels : (bs : List Written) (n : ℕ) (x : Written) (xs : List Written) (f : Formula) → Peels n x xs (guarded_form bs (for_some x (quantified_some xs f))) (guarded_form (x ∷ bs) (quantified_some xs f))
 some_peels bs n x [] f = some_last n x (guarded_form (x ∷ bs) f)
@@ -110,7 +105,7 @@ all_peels bs n x (y ∷ ys) f = all_more n x y ys (guarded_form (y ∷ x ∷ bs)
 
 -- one name after the other
 pub some_peeled : (bs : List Written) (above : Above) (xs : List Written) (f : Formula)
-    → unguarded bs above (quantified_some xs f) ≡ option_or (named_in_form above.of_some (guarded_form bs (quantified_some xs f)) xs) (unguarded (reversed xs ++ bs) (below_each xs above) f)
+    → unguarded bs above (quantified_some xs f) ≡ option_or (named_in_form above.of_some (guarded_form bs (quantified_some xs f)) xs) (unguarded (newest_first xs ++ bs) (below_each xs above) f)
 some_peeled bs above [] f = ap (λ (o : Name). option_or o (unguarded bs above f)) (sym (no_names above.of_some (guarded_form bs f)))
 some_peeled bs above (x ∷ xs) f =
     let outer = guarded_form bs (for_some x (quantified_some xs f)) in
@@ -118,11 +113,11 @@ some_peeled bs above (x ∷ xs) f =
     let below = below_each xs (below_some x above) in
     let guarded = outermost_guarded above.of_some outer in
     ap (named_unless x guarded) (some_peeled (x ∷ bs) (below_some x above) xs f)
-    ∙ unless_or x guarded first (unguarded (reversed xs ++ (x ∷ bs)) below f)
+    ∙ unless_or x guarded first (unguarded (newest_first xs ++ (x ∷ bs)) below f)
     ∙ ap₂ (λ (o p : Name). option_or o p) (some_peels bs above.of_some x xs f) (ap (λ (cs : List Written). unguarded cs below f) (sym (regrouped xs bs x)))
 
 pub all_peeled : (bs : List Written) (above : Above) (xs : List Written) (f : Formula)
-    → unguarded bs above (quantified xs f) ≡ option_or (named_in_form above.of_all (guarded_form bs (quantified xs f)) xs) (unguarded (reversed xs ++ bs) (turned (below_each xs (turned above))) f)
+    → unguarded bs above (quantified xs f) ≡ option_or (named_in_form above.of_all (guarded_form bs (quantified xs f)) xs) (unguarded (newest_first xs ++ bs) (turned (below_each xs (turned above))) f)
 all_peeled bs above [] f = ap (λ (o : Name). option_or o (unguarded bs above f)) (sym (no_names above.of_all (guarded_form bs f)))
 all_peeled bs above (x ∷ xs) f =
     let outer = guarded_form bs (for_all x (quantified xs f)) in
@@ -130,5 +125,5 @@ all_peeled bs above (x ∷ xs) f =
     let below = turned (below_each xs (below_some x (turned above))) in
     let guarded = outermost_guarded above.of_all outer in
     ap (named_unless x guarded) (all_peeled (x ∷ bs) (below_all x above) xs f)
-    ∙ unless_or x guarded first (unguarded (reversed xs ++ (x ∷ bs)) below f)
+    ∙ unless_or x guarded first (unguarded (newest_first xs ++ (x ∷ bs)) below f)
     ∙ ap₂ (λ (o p : Name). option_or o p) (all_peels bs above.of_all x xs f) (ap (λ (cs : List Written). unguarded cs below f) (sym (regrouped xs bs x)))

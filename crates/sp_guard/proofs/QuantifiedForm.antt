@@ -1,16 +1,17 @@
 -- The guarded form of several quantifiers in a row.
 use Rattle.std.proofs.Common.{◌≡◌, refl, sym, ap, ◌∙◌, List, [], ◌∷◌, ◌++◌, map, append_assoc, Option, Some, None, option_map}
-use Rattle.std.proofs.lemmas.List.{append-nil}
 use mathlib.Core.List.{map-append}
 use Rattle.sp_spec.specs.Formula.{Written, Formula}
 use Rattle.sp_spec.specs.Guarded.{Guarded}
-use Rattle.sp_read_parts.specs.Shapes.{quantified}
-use Rattle.sp_read_parts.specs.Grammar.{quantified_some}
+use Rattle.sp_spec_text.specs.Shapes.{quantified}
+use Rattle.sp_spec_text.specs.Formulas.{quantified_some}
 use Rattle.sp_read_parts.specs.Views.{variable}
 use Rattle.sp_read_parts.specs.declared.written.WrittenVariable.{WrittenVariable}
 use Rattle.sp_law_guard.specs.GuardedForm.{guarded_form}
-use Rattle.sp_guard.specs.View.{reversed, innermost_first}
+use Rattle.sp_guard.specs.View.{innermost_first}
+use Rattle.sp_spec.specs.Lists.{newest_first}
 use Rattle.sp_guard.specs.Bound.{for_all_form, for_some_form, each_bound}
+use Rattle.sp_spec.proofs.Lists.{newest_append}
 
 map_same : (o : Option Guarded) (g : Guarded → Guarded) → ((x : Guarded) → g x ≡ x) → option_map g o ≡ o
 map_same None g h = refl
@@ -20,29 +21,25 @@ map_twice : (o : Option Guarded) (g h : Guarded → Guarded) → option_map g (o
 map_twice None g h = refl
 map_twice (Some x) g h = refl
 
-pub regrouped : (xs bs : List Written) (x : Written) → (reversed xs ++ x ∷ []) ++ bs ≡ reversed xs ++ (x ∷ bs)
-regrouped xs bs x = append_assoc (reversed xs) (x ∷ []) bs
+pub regrouped : (xs bs : List Written) (x : Written) → (newest_first xs ++ x ∷ []) ++ bs ≡ newest_first xs ++ (x ∷ bs)
+regrouped xs bs x = append_assoc (newest_first xs) (x ∷ []) bs
 
-reversed_both : (xs ys : List Written) → reversed (xs ++ ys) ≡ reversed ys ++ reversed xs
-reversed_both [] ys = sym (append-nil (reversed ys))
-reversed_both (x ∷ xs) ys = ap (λ (zs : List Written). zs ++ x ∷ []) (reversed_both xs ys) ∙ append_assoc (reversed ys) (reversed xs) (x ∷ [])
-
-all_in_row : (bs xs : List Written) (f : Formula) → option_map (each_bound for_all_form xs) (guarded_form (reversed xs ++ bs) f) ≡ guarded_form bs (quantified xs f)
+all_in_row : (bs xs : List Written) (f : Formula) → option_map (each_bound for_all_form xs) (guarded_form (newest_first xs ++ bs) f) ≡ guarded_form bs (quantified xs f)
 all_in_row bs [] f = map_same (guarded_form bs f) (λ g. g) (λ g. refl)
 all_in_row bs (x ∷ xs) f =
-    sym (map_twice (guarded_form ((reversed xs ++ x ∷ []) ++ bs) f) (for_all_form x) (each_bound for_all_form xs))
+    sym (map_twice (guarded_form ((newest_first xs ++ x ∷ []) ++ bs) f) (for_all_form x) (each_bound for_all_form xs))
     ∙ ap (λ (cs : List Written). option_map (for_all_form x) (option_map (each_bound for_all_form xs) (guarded_form cs f))) (regrouped xs bs x)
     ∙ ap (option_map (for_all_form x)) (all_in_row (x ∷ bs) xs f)
 
-some_in_row : (bs xs : List Written) (f : Formula) → option_map (each_bound for_some_form xs) (guarded_form (reversed xs ++ bs) f) ≡ guarded_form bs (quantified_some xs f)
+some_in_row : (bs xs : List Written) (f : Formula) → option_map (each_bound for_some_form xs) (guarded_form (newest_first xs ++ bs) f) ≡ guarded_form bs (quantified_some xs f)
 some_in_row bs [] f = map_same (guarded_form bs f) (λ g. g) (λ g. refl)
 some_in_row bs (x ∷ xs) f =
-    sym (map_twice (guarded_form ((reversed xs ++ x ∷ []) ++ bs) f) (for_some_form x) (each_bound for_some_form xs))
+    sym (map_twice (guarded_form ((newest_first xs ++ x ∷ []) ++ bs) f) (for_some_form x) (each_bound for_some_form xs))
     ∙ ap (λ (cs : List Written). option_map (for_some_form x) (option_map (each_bound for_some_form xs) (guarded_form cs f))) (regrouped xs bs x)
     ∙ ap (option_map (for_some_form x)) (some_in_row (x ∷ bs) xs f)
 
-pub inside : (bs vs : List WrittenVariable) → innermost_first (bs ++ vs) ≡ reversed (map variable vs) ++ innermost_first bs
-inside bs vs = ap (λ (cs : List Written). reversed cs) (map-append variable bs vs) ∙ reversed_both (map variable bs) (map variable vs)
+pub inside : (bs vs : List WrittenVariable) → innermost_first (bs ++ vs) ≡ newest_first (map variable vs) ++ innermost_first bs
+inside bs vs = ap (λ (cs : List Written). newest_first cs) (map-append variable bs vs) ∙ newest_append (map variable bs) (map variable vs)
 
 pub all_within : (bs vs all : List WrittenVariable) (f : Formula) (o : Option Guarded) → all ≡ bs ++ vs → o ≡ guarded_form (innermost_first all) f
     → option_map (each_bound for_all_form (map variable vs)) o ≡ guarded_form (innermost_first bs) (quantified (map variable vs) f)

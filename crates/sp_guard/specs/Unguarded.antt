@@ -5,7 +5,7 @@ use Rattle.std.specs.Prelude.{◌≡◌, ◌↔◌, ℕ, zero, suc, ◌+◌, Boo
 use Rattle.std.specs.Option.{option_or}
 use Rattle.sp_spec.specs.Formula.{Written, Formula, truth, falsity, happens, equals, precedes, not_so, both, either, implies, for_all, for_some}
 use Rattle.sp_spec.specs.Guarded.{Binder, message, time, Atom, Guarded, some, every}
-use Rattle.sp_read_parts.specs.Grammar.{equivalent}
+use Rattle.sp_spec_text.specs.Formulas.{equivalent}
 use Rattle.sp_law_guard.specs.GuardedForm.{binder_of, guarded_form}
 use Rattle.sp_law_guard.specs.IsGuarded.{message_guarded, time_guarded, messages_in, times_in, is_guarded}
 

@@ -1,5 +1,6 @@
 -- What meanings in memory stand for among the guarded forms, and binders as names are looked for among them.
-use Rattle.std.specs.Prelude.{ℕ, List, [], ◌∷◌, ◌++◌, map}
+use Rattle.std.specs.Prelude.{ℕ, List, map}
+use Rattle.sp_spec.specs.Lists.{newest_first}
 use Rattle.sp_spec.specs.Formula.{Written}
 use Rattle.sp_read_parts.specs.Views.{mark, variable}
 use Rattle.sp_read_parts.specs.declared.written.WrittenVariable.{WrittenVariable}
@@ -15,10 +16,6 @@ abbrev pub place_of : Meaning → ℕ
 place_of (Message m k) = k
 place_of (Time k) = k
 
-abbrev pub reversed : {A : Type 0} → List A → List A
-reversed [] = []
-reversed (x ∷ xs) = reversed xs ++ x ∷ []
-
 -- the innermost first
 abbrev pub innermost_first : List WrittenVariable → List Written
-innermost_first binders = reversed (map variable binders)
+innermost_first binders = newest_first (map variable binders)

@@ -2,8 +2,8 @@
 
 ghost use Rattle.std.specs.Prelude.{◌≡◌, ◌++◌, IfOk, map, option_map};
 ghost use Rattle.sp_spec.specs.Guarded.{holds};
-ghost use Rattle.sp_read_parts.specs.Shapes.{quantified};
-ghost use Rattle.sp_read_parts.specs.Grammar.{quantified_some};
+ghost use Rattle.sp_spec_text.specs.Shapes.{quantified};
+ghost use Rattle.sp_spec_text.specs.Formulas.{quantified_some};
 ghost use Rattle.sp_read_parts.specs.Views as view;
 ghost use Rattle.sp_read_parts.specs.Formulas as written;
 ghost use Rattle.sp_formula.specs.FormulaView.{atom_of, formula_of};

@@ -13,8 +13,4 @@ pub mod marks;
 pub mod meaning;
 pub mod negate;
 pub mod place;
-#[cfg(test)]
-mod tests;
 pub mod unguarded;
-#[cfg(test)]
-mod unguarded_tests;

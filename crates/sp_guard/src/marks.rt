@@ -3,8 +3,8 @@
 ghost use Rattle.std.specs.Prelude.{◌≡◌, [], ◌∷◌, ◌++◌, ◌&&◌, not, IfOk, map, option_map};
 ghost use Rattle.sp_spec.specs.Written.{in_term, in_terms};
 ghost use Rattle.sp_spec.specs.Findings.{is_wide};
-ghost use Rattle.sp_read_parts.specs.Shapes.{row, quantified};
-ghost use Rattle.sp_read_parts.specs.Grammar.{quantified_some};
+ghost use Rattle.sp_spec_text.specs.Shapes.{row, quantified};
+ghost use Rattle.sp_spec_text.specs.Formulas.{quantified_some};
 ghost use Rattle.sp_read_parts.specs.Views as view;
 ghost use Rattle.sp_read_parts.specs.Formulas as written;
 ghost use Rattle.sp_formula.specs.FormulaView.{formula_of};

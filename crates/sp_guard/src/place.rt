@@ -1,7 +1,7 @@
 // The atoms of a formula, with each name in the place that it means.
 
 ghost use Rattle.std.specs.Prelude.{◌≡◌, IfOk, map, option_map};
-ghost use Rattle.sp_read_parts.specs.Shapes.{row, action_of};
+ghost use Rattle.sp_spec_text.specs.Shapes.{row, action_of};
 ghost use Rattle.sp_read_parts.specs.Views as view;
 ghost use Rattle.sp_formula.specs.FormulaView.{placed_term, placed_terms, moment_of, atom_of, binder_of};
 ghost use Rattle.sp_law_guard.specs.GuardedForm as spec;

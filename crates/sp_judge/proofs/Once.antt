@@ -3,7 +3,8 @@ use Rattle.std.proofs.Common.{◌≡◌, ◌<◌, ◌≤◌, ◌+◌, ℕ, List,
 use Rattle.sp_system.specs.System.{System}
 use Rattle.sp_step.specs.Moves.{Context, Case}
 use Rattle.sp_judge.specs.Skeleton.{Step, known, unbuilt, unknown, Skeleton, node_read, BranchesRead, none_read, branch_read, nodes, nodes_in}
-use Rattle.sp_judge.specs.Rejected.{Clause, clause_move, clause_instance, clause_cases, IsMove, step_cases, case_names, IsFine, FailsFirst, ReadIsAccepted, IsRejectedAt, AreRejectedAt}
+use Rattle.sp_judge.specs.Rejected.{IsMove, step_cases, case_names, IsFine, FailsFirst, ReadIsAccepted, IsRejectedAt, AreRejectedAt}
+use Rattle.sp_spec_text.specs.Verdict.{Clause, clause_move, clause_instance, clause_cases}
 use Rattle.sp_judge.proofs.Shape.{ReadAreAccepted, first_accepted, accepted_node}
 
 move_of_cases : (context : Context) (s : System) (step : Step) (cs : List Case) → step_cases context s step ≡ Some cs → IsMove step

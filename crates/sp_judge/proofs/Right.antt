@@ -8,7 +8,8 @@ use Rattle.sp_check.specs.Tree.{Tree, IsAccepted, IsFinished, found_log}
 use Rattle.sp_check.specs.Growth.{has_end}
 use Rattle.sp_check.proofs.Logs.{log_at_end, no_log, finished_no_end}
 use Rattle.sp_judge.specs.Skeleton.{Skeleton, tree_of, has_open}
-use Rattle.sp_judge.specs.Rejected.{Clause, ReadIsAccepted, IsRejectedAt}
+use Rattle.sp_judge.specs.Rejected.{ReadIsAccepted, IsRejectedAt}
+use Rattle.sp_spec_text.specs.Verdict.{Clause}
 use Rattle.sp_judge.specs.Judging.{Judgement, rejected, found, finished, incomplete, Walked, passed, stopped, walk, judged, judgement}
 use Rattle.sp_judge.specs.Laws.{JudgementsAreRight}
 use Rattle.sp_judge.proofs.Walking.{WalkTells, walk_tells}

@@ -6,7 +6,8 @@ use Rattle.sp_system.specs.System.{System}
 use Rattle.sp_step.specs.Moves.{Move, simplify, contradiction, unproved, solved, or, action, premise, Context, Case, cases}
 use Rattle.sp_check.specs.Tree.{node, no_branch, IsAccepted, AreAccepted, is_solved, first_log}
 use Rattle.sp_judge.specs.Skeleton.{known, unbuilt, unknown, Skeleton, node_read, BranchesRead, none_read, branch_read, nodes, nodes_in}
-use Rattle.sp_judge.specs.Rejected.{clause_cases, case_names, branch_names, IsRejectedAt, AreRejectedAt}
+use Rattle.sp_judge.specs.Rejected.{case_names, branch_names, IsRejectedAt, AreRejectedAt}
+use Rattle.sp_spec_text.specs.Verdict.{clause_cases}
 use Rattle.sp_judge.specs.Judging.{are_named, fails, leads_to, cases_checked, log_checked, Walked, passed, stopped, walked_on, walk, walk_checked}
 use Rattle.sp_judge.proofs.Names.{named_decides}
 use Rattle.sp_judge.proofs.Shape.{ReadHas, ReadHave, more_have, node_has}

@@ -5,7 +5,7 @@ use Rattle.sp_system.specs.System.{System}
 use Rattle.sp_step.specs.Moves.{Move, Context, Case, cases}
 use Rattle.sp_check.specs.Tree.{is_solved, first_log}
 use Rattle.sp_judge.specs.Skeleton.{Step, known, unbuilt, unknown, Skeleton, node_read, BranchesRead, none_read, branch_read, has_open}
-use Rattle.sp_judge.specs.Rejected.{Clause, clause_move, clause_instance, clause_cases}
+use Rattle.sp_spec_text.specs.Verdict.{Clause, clause_move, clause_instance, clause_cases}
 
 -- What comes of a tree: the number of the step that is rejected, and the clause that it fails of; else the log of the first leaf with
 -- which the search ends; else whether it has no open leaf.

@@ -6,7 +6,8 @@ use Rattle.sp_step.specs.Moves.{Context}
 use Rattle.sp_check.specs.Tree.{Tree, IsAccepted, IsFinished, found_log}
 use Rattle.sp_check.specs.Tree as tree
 use Rattle.sp_judge.specs.Skeleton.{Skeleton, tree_of, nodes, steps}
-use Rattle.sp_judge.specs.Rejected.{Clause, ReadIsAccepted, IsRejectedAt}
+use Rattle.sp_judge.specs.Rejected.{ReadIsAccepted, IsRejectedAt}
+use Rattle.sp_spec_text.specs.Verdict.{Clause}
 use Rattle.sp_judge.specs.Judging.{rejected, found, finished, incomplete, judgement}
 
 -- Judgements of trees that were read. A tree is rejected at its first step that fails, with the first clause that this step fails of,

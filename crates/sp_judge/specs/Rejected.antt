@@ -5,13 +5,7 @@ use Rattle.sp_system.specs.System.{System}
 use Rattle.sp_step.specs.Moves.{Context, Case, cases}
 use Rattle.sp_check.specs.Tree.{Tree, IsAccepted}
 use Rattle.sp_judge.specs.Skeleton.{Step, known, unbuilt, unknown, Skeleton, node_read, BranchesRead, none_read, branch_read, tree_of, nodes}
-
--- What a node can fail of, in the order in which it is told: its text is no move's; its move is no instance; its branches don't have
--- the names of the move's cases, one by one in their order.
-pub data Clause : Type 0 where
-  clause_move : Clause
-  clause_instance : Clause
-  clause_cases : Clause
+use Rattle.sp_spec_text.specs.Verdict.{Clause, clause_move, clause_instance, clause_cases}
 
 abbrev pub IsMove : Step → Type 0
 IsMove (known move) = Unit {0}

@@ -3,7 +3,7 @@ use Rattle.std.specs.Prelude.{ℕ, List, [], ◌∷◌, map, option_map, string_
 use Rattle.sp_log.specs.View.{log_of}
 use Rattle.sp_moves.specs.View.{move_of, case_of}
 use Rattle.sp_judge.specs.Skeleton as spec
-use Rattle.sp_judge.specs.Rejected as clause
+use Rattle.sp_spec_text.specs.Verdict as clause
 use Rattle.sp_judge.specs.Judging as judging
 use Rattle.sp_judge.specs.declared.skeleton.Step.{Step}
 use Rattle.sp_judge.specs.declared.skeleton.Step.TheVariants.{Known, Unbuilt, Unknown}

@@ -17,6 +17,3 @@ pub use skeleton::{Branch, Skeleton, Step, has_open, steps};
 pub fn judgements_are_right()
     ensures { JudgementsAreRight }
 {}
-
-#[cfg(test)]
-mod tests;

@@ -1,5 +1,5 @@
 -- Tests tell the truth of atoms, at normal values and over a normal trace.
-use Rattle.std.proofs.Common.{◌≡◌, ⊎_elim, inl, inr, ℕ, suc, Bool, true, false, ◌==◌, if◌then◌else◌, List, [], ◌∷◌, length, refl, sym, ap, ap₂, subst, arith}
+use Rattle.std.proofs.Common.{◌≡◌, ⊎_elim, inl, inr, ℕ, suc, Bool, true, false, ◌==◌, if◌then◌else◌, List, [], ◌∷◌, length, refl, sym, ap, subst, arith}
 use Rattle.std.specs.Bool.{Decides}
 use Rattle.std.specs.Str.{bytes_eq}
 use Rattle.std.proofs.lemmas.Bool.{eqb-true, eqb-false, eq-eqb, ltb-true, lt-ltb}
@@ -7,7 +7,6 @@ use Rattle.std.proofs.lemmas.Bool.Decides.{Decides-and, Decides-or}
 use Rattle.std.proofs.lemmas.Slice.Eq.{bytes_eq-Decides}
 use Rattle.sp_spec.specs.Lists.{Member, Every, AtPosition, Classically}
 use Rattle.sp_spec.proofs.Lists.{position_below}
-use Rattle.sp_spec.specs.Term.{Grounds}
 use Rattle.sp_spec.specs.Signature.{Signature}
 use Rattle.sp_spec.specs.Equal.{AreNormal}
 use Rattle.sp_spec.specs.Rule.{Action, SameAction}
@@ -16,13 +15,14 @@ use Rattle.sp_spec.specs.Execution.{Trace}
 use Rattle.sp_spec.specs.Truth.{Acts}
 use Rattle.sp_spec.specs.Guarded.{Place, Atom, acts, same, same_time, before, last, Assignment, place_in, term_in, action_in, time_in, AtomHolds, AtomsHold}
 use Rattle.sp_law_equal.specs.Convergent.{AreConvergent}
-use Rattle.sp_law_equal.proofs.Tests.{same_term_decides, same_terms_decides}
+use Rattle.sp_spec.proofs.Same.{same_term_decides, same_terms_decides}
 use Rattle.sp_law_equal.proofs.Values.{equal_normal_same, equal_all_normal_same}
 use Rattle.sp_law_equal.proofs.Chains.{equal_from, same_action_refl}
 use Rattle.sp_law_decide.specs.Deciding.{same_action, is_among, is_at, atom_true, atoms_true}
 use Rattle.sp_law_decide.specs.Normal.{IsNormalAction, IsNormalTrace, IsPlainAtom}
 use Rattle.sp_law_decide.proofs.Matched.{IsNormalValue}
 use Rattle.sp_law_decide.proofs.Terms.{plain_normal, plain_all_normal}
+use Rattle.sp_spec.proofs.Facts.{same_action_parts}
 
 pub stable_true : (b : Bool) → Classically (b ≡ true) → b ≡ true
 stable_true true h = refl
@@ -35,14 +35,9 @@ decides_classically b d = (λ e none. none (d.0 e), λ h. stable_true b (λ n. h
 pub decides_as : {P Q : Type 0} (b : Bool) → (P → Q) → (Q → P) → Decides b P → Decides b Q
 decides_as b f g d = (λ e. f (d.0 e), λ q. d.1 (g q))
 
-same_parts : (a b : Action ⊥) → a.symbol ≡ b.symbol → a.args ≡ b.args → a ≡ b
-same_parts a b s e =
-    let made : List ℕ → Grounds → Action ⊥ = λ f ts. record { symbol = f; args = ts } in
-    ap₂ made s e
-
 same_action_decides : (a b : Action ⊥) → Decides (same_action a b) (a ≡ b)
 same_action_decides a b =
-    decides_as (same_action a b) (λ h. same_parts a b h.0 h.1) (λ e. (ap (λ (x : Action ⊥). x.symbol) e, ap (λ (x : Action ⊥). x.args) e))
+    decides_as (same_action a b) (λ h. same_action_parts a b h.0 h.1) (λ e. (ap (λ (x : Action ⊥). x.symbol) e, ap (λ (x : Action ⊥). x.args) e))
     (Decides-and (bytes_eq a.symbol b.symbol) (same_terms a.args b.args) (bytes_eq-Decides a.symbol b.symbol) (same_terms_decides a.args b.args))
 
 among_decides : (a : Action ⊥) (entry : List (Action ⊥)) → Decides (is_among a entry) (Member a entry)
@@ -81,7 +76,7 @@ module _ (signature : Signature) (good : AreConvergent signature.equations) wher
       ⊎_elim
       (λ k.
       let e' : SameAction signature.equations a b = subst (λ (x : Action ⊥). SameAction signature.equations a x) (sym k) e in
-      inl (same_parts b a (sym e'.0) (sym (equal_all_normal_same signature.equations good a.args b.args h normal.0.0 e'.1))))
+      inl (same_action_parts b a (sym e'.0) (sym (equal_all_normal_same signature.equations good a.args b.args h normal.0.0 e'.1))))
       (λ k. inr (member_same a h entry normal.1 shown k e)) m
 
   acts_stand : (trace : Trace) → IsNormalTrace signature trace → (p : ℕ) (a : Action ⊥) → AreNormal signature.equations a.args

@@ -5,17 +5,15 @@ use Rattle.std.proofs.Math.Path.{fun_ext}
 use Rattle.std.proofs.lemmas.Bool.{and_parts}
 use Rattle.sp_spec.specs.Lists.{Member, Every}
 use Rattle.sp_spec.specs.Term.{Ground, Values}
-use Rattle.sp_spec.specs.Signature.{Equation, Signature}
-use Rattle.sp_spec.specs.Rule.{SameAction}
+use Rattle.sp_spec.specs.Signature.{Signature}
 use Rattle.sp_spec.specs.Execution.{Trace}
 use Rattle.sp_spec.specs.Guarded.{Place, free, bound, Binder, Atom, acts, same, same_time, before, last, Guarded, truth, some, Assignment, place_in, term_in, action_in, time_in, AtomsHold, GuardedHolds}
 use Rattle.sp_law_equal.specs.Convergent.{AreConvergent, KeepSymbols}
 use Rattle.sp_law_equal.specs.Normal.{normal}
-use Rattle.sp_law_equal.specs.Pointwise.{EachWith}
-use Rattle.sp_law_equal.proofs.Tests.{same_term_decides}
-use Rattle.sp_law_equal.proofs.Chains.{equal_from, same_action_refl}
+use Rattle.sp_spec.proofs.Same.{same_term_decides}
+use Rattle.sp_law_equal.proofs.Chains.{equal_from}
 use Rattle.sp_law_equal.proofs.Forms.{normal_of_normal, to_normal}
-use Rattle.sp_law_truth.specs.Same.{SameActions, EqualTraces, EqualAssignments}
+use Rattle.sp_law_truth.specs.Same.{EqualAssignments}
 use Rattle.sp_law_truth.proofs.EqualTraces.{equal_same}
 use Rattle.sp_law_guard.specs.IsGuarded.{messages_in, each_guarded}
 use Rattle.sp_law_decide.specs.Deciding.{nothing, value_at, Environment, assignment_of, entered, by_actions, candidates, atom_true, atoms_true}
@@ -29,6 +27,7 @@ use Rattle.sp_law_decide.proofs.Ranges.{Arises, arises_terms, arises_times, assi
 use Rattle.sp_law_decide.proofs.Atoms.{at_decides, atoms_decide}
 use Rattle.sp_law_decide.proofs.Entered.{FitsIn, fits_outside, arises_outside, normalized, fits_entered}
 use Rattle.sp_law_decide.proofs.Full.{IsReady, Follows, candidate_ready}
+use Rattle.sp_law_truth.proofs.Itself.{trace_itself}
 
 same_assigned : (a b : Assignment) → a.terms ≡ b.terms → a.times ≡ b.times → a.bound_terms ≡ b.bound_terms → a.bound_times ≡ b.bound_times → a ≡ b
 same_assigned a b e f g h =
@@ -36,13 +35,6 @@ same_assigned a b e f g h =
     ∙ ap (λ (x : ℕ → ℕ). assigned b.terms x a.bound_terms a.bound_times) f
     ∙ ap (λ (x : ℕ → Ground). assigned b.terms b.times x a.bound_times) g
     ∙ ap (λ (x : ℕ → ℕ). assigned b.terms b.times b.bound_terms x) h
-
-each_same : {A : Type 0} (R : A → A → Type 0) → ((x : A) → R x x) → (xs : List A) → EachWith R xs xs
-each_same R h [] = tt
-each_same R h (x ∷ xs) = (h x, each_same R h xs)
-
-pub trace_same : (es : List Equation) (trace : Trace) → EqualTraces es trace trace
-trace_same es trace = each_same (SameActions es) (each_same (SameAction es) (same_action_refl es)) trace
 
 module _ (signature : Signature) (n : ℕ) where
   -- what fits an environment with all its values is what it assigns
@@ -91,7 +83,7 @@ module _ (signature : Signature) (n : ℕ) where
           → (GuardedHolds signature trace w g → GuardedHolds signature trace (normalized signature n good keeps w) g)
           × (GuardedHolds signature trace (normalized signature n good keeps w) g → GuardedHolds signature trace w g)
       normalized_holds bs env w a g =
-          let r = equal_same signature trace trace (trace_same signature.equations trace) w (normalized signature n good keeps w) (equal_normalized bs env w a) g in
+          let r = equal_same signature trace trace (trace_itself signature.equations trace) w (normalized signature n good keeps w) (equal_normalized bs env w a) g in
           (r.0, r.1)
 
       normal_places : (env : Environment) (w : Assignment) → FitsIn signature n env (normalized signature n good keeps w) → (p : Place) → IsNormalValue signature (place_in (normalized signature n good keeps w) p)

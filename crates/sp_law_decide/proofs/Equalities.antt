@@ -8,7 +8,7 @@ use Rattle.sp_spec.specs.Signature.{Signature}
 use Rattle.sp_spec.specs.Guarded.{Place, free, bound, Atom, acts, same, same_time, before, last}
 use Rattle.sp_law_equal.specs.Convergent.{AreConvergent}
 use Rattle.sp_law_guard.specs.IsGuarded.{is_variable, is_given, by_equality}
-use Rattle.sp_law_guard.proofs.Options.{then_some}
+use Rattle.sp_spec.proofs.Options.{then_some}
 use Rattle.sp_law_decide.specs.Deciding.{nothing, Environment, environment, is_filled, with_message, is_known, term_value, given_to, by_equalities, with_times, each_by_equalities}
 use Rattle.sp_law_decide.specs.Normal.{IsPlainTerm, IsPlainAtom}
 use Rattle.sp_law_decide.proofs.Slots.{AreGood, grown_same, grown_twice}

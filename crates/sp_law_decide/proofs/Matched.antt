@@ -10,9 +10,10 @@ use Rattle.sp_spec.specs.Signature.{Signature, HasSort, IsOver, AreOver}
 use Rattle.sp_spec.specs.Equal.{IsNormal, AreNormal}
 use Rattle.sp_spec.specs.Guarded.{Place, free, bound, Time, free_time, bound_time}
 use Rattle.sp_law_equal.specs.Matching.{has_sort}
-use Rattle.sp_law_equal.proofs.Tests.{same_term_decides, has_sort_decides}
+use Rattle.sp_spec.proofs.Same.{same_term_decides}
+use Rattle.sp_law_equal.proofs.Tests.{has_sort_decides}
 use Rattle.sp_law_guard.specs.IsGuarded.{stands_in, stands_among, is_time_place}
-use Rattle.sp_law_guard.proofs.Options.{then_some}
+use Rattle.sp_spec.proofs.Options.{then_some}
 use Rattle.sp_law_decide.specs.Deciding.{Slot, nothing, is_filled, with_message, matched_place, matched, matched_all, matched_time}
 use Rattle.sp_law_decide.proofs.Slots.{if_some, then_if, Fits, Grown, grown_same, grown_twice, filled_grown, filled_found}
 

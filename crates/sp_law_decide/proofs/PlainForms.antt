@@ -7,7 +7,7 @@ use Rattle.sp_spec.specs.Guarded.{Place, bound, Atom, Guarded, Guardeds, holds, 
 use Rattle.sp_spec.specs.Guarded as guarded
 use Rattle.sp_law_truth.specs.Shown.{times_within}
 use Rattle.sp_law_guard.specs.GuardedForm.{Meant, a_message, a_time, meant, message_place, placed_term, placed_terms, guarded_form}
-use Rattle.sp_law_guard.proofs.Options.{mapped, then_some}
+use Rattle.sp_spec.proofs.Options.{mapped, then_some}
 use Rattle.sp_law_guard.proofs.Places.{action_made, order_made, equality_made}
 use Rattle.sp_law_guard.proofs.Throughout.{Throughout, ThroughoutEach, OfFormulas, OfAtoms, form_throughout}
 use Rattle.sp_law_decide.specs.Normal.{IsPlainTerm, ArePlainTerms, IsPlainAtom, IsPlain, ArePlain, HasPlainTerms, IsAtomic, AreAtomic, HasAtomicTerms}

@@ -1,7 +1,7 @@
 -- What comes of giving slots values: the values that still fit, and the places that have a value.
 use Rattle.std.proofs.Common.{◌≡◌, ℕ, zero, suc, Bool, true, false, if◌then◌else◌, List, [], ◌∷◌, Option, Some, None, is_some, unwrap_or, option_map, refl, sym, ap, ◌∙◌, subst}
 use Rattle.std.specs.Bool.{Decides}
-use Rattle.sp_law_guard.proofs.Options.{mapped}
+use Rattle.sp_spec.proofs.Options.{mapped}
 use Rattle.sp_law_decide.specs.Deciding.{Slot, slot, value_at, is_filled, slot_with, filled}
 
 -- what is there under a test

@@ -11,7 +11,7 @@ use Rattle.sp_spec.specs.Same.{same_term, same_terms}
 use Rattle.sp_law_equal.specs.Matching.{Bound, IsMatch, NoneMatches, matched}
 use Rattle.sp_law_equal.specs.Convergent.{AreConvergent}
 use Rattle.sp_law_equal.specs.Normal.{normal, normal_all}
-use Rattle.sp_law_equal.proofs.Tests.{same_term_decides, same_terms_decides}
+use Rattle.sp_spec.proofs.Same.{same_term_decides, same_terms_decides}
 use Rattle.sp_law_equal.proofs.Matches.{is_match, none_matches}
 use Rattle.sp_law_equal.proofs.Forms.{decides, decides_all, is_normal, normal_of_normal}
 

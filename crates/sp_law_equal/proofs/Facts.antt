@@ -1,6 +1,6 @@
 -- The normal forms of facts, actions and instances of rules: there is one, and only one.
-use Rattle.std.proofs.Common.{◌≡◌, ◌↔◌, ℕ, List, [], ◌∷◌, map, Bool, refl, sym, ap, ap₂, ◌∙◌}
-use Rattle.sp_spec.specs.Term.{Grounds, Ground}
+use Rattle.std.proofs.Common.{◌≡◌, ◌↔◌, List, [], ◌∷◌, map, refl, sym, ap, ap₂, ◌∙◌}
+use Rattle.sp_spec.specs.Term.{Ground}
 use Rattle.sp_spec.specs.Signature.{Equation}
 use Rattle.sp_spec.specs.Equal.{AreNormalFormsOf}
 use Rattle.sp_spec.specs.Rule.{Fact, Action, Facts, fact_at, action_at, facts_at, SameFact, SameAction, AreNormalFacts, AreNormalActions, IsNormalFormOf}
@@ -11,22 +11,7 @@ use Rattle.sp_law_equal.specs.Pointwise.{EachWith, AreSameFacts}
 use Rattle.sp_law_equal.proofs.Pointwise.{map_same}
 use Rattle.sp_law_equal.proofs.Forms.{equal_all_normal, decides_all}
 use Rattle.sp_law_equal.proofs.Values.{normal_forms, normal_forms_same, normal_value_all}
-
-abbrev made_fact : List ℕ → Bool → Grounds → Fact ⊥
-made_fact f p ts = record { symbol = f; persistent = p; args = ts }
-
-abbrev made_action : List ℕ → Grounds → Action ⊥
-made_action f ts = record { symbol = f; args = ts }
-
-abbrev made_facts : List (Fact ⊥) → List (Action ⊥) → List (Fact ⊥) → Facts ⊥
-made_facts ps as' cs = record { premises = ps; actions = as'; conclusions = cs }
-
-same_parts : (f g : Fact ⊥) → f.symbol ≡ g.symbol → f.persistent ≡ g.persistent → f.args ≡ g.args → f ≡ g
-same_parts f g s p a =
-    ap (λ x. made_fact x f.persistent f.args) s ∙ ap (λ x. made_fact g.symbol x f.args) p ∙ ap (made_fact g.symbol g.persistent) a
-
-same_action_parts : (a b : Action ⊥) → a.symbol ≡ b.symbol → a.args ≡ b.args → a ≡ b
-same_action_parts a b s e = ap (λ x. made_action x a.args) s ∙ ap (made_action b.symbol) e
+use Rattle.sp_spec.proofs.Facts.{same_fact_parts, same_action_parts, made_fact, made_action, made_facts}
 
 same_facts_parts : (f g : Facts ⊥) → f.premises ≡ g.premises → f.actions ≡ g.actions → f.conclusions ≡ g.conclusions → f ≡ g
 same_facts_parts f g p a c =
@@ -53,7 +38,7 @@ module _ (es : List Equation) (good : AreConvergent es) where
   }
 
   normal_fact_only : (f g : Fact ⊥) → f.symbol ≡ g.symbol → f.persistent ≡ g.persistent → AreNormalFormsOf es f.args g.args → g ≡ normal_fact es f
-  normal_fact_only f g s p h = same_parts g (normal_fact es f) (sym s) (sym p) (normal_forms_same es good f.args g.args h)
+  normal_fact_only f g s p h = same_fact_parts g (normal_fact es f) (sym s) (sym p) (normal_forms_same es good f.args g.args h)
 
   normal_action_only : (a b : Action ⊥) → a.symbol ≡ b.symbol → AreNormalFormsOf es a.args b.args → b ≡ normal_action es a
   normal_action_only a b s h = same_action_parts b (normal_action es a) (sym s) (normal_forms_same es good a.args b.args h)
@@ -81,7 +66,7 @@ module _ (es : List Equation) (good : AreConvergent es) where
   -- facts are the same where their normal forms are
   pub same_fact_decides : (f g : Fact ⊥) → SameFact es f g ↔ (normal_fact es f ≡ normal_fact es g)
   same_fact_decides f g = (
-    λ h. same_parts (normal_fact es f) (normal_fact es g) h.0 h.1 (equal_all_normal es good f.args g.args h.2),
+    λ h. same_fact_parts (normal_fact es f) (normal_fact es g) h.0 h.1 (equal_all_normal es good f.args g.args h.2),
     λ e. (ap (λ x. x.symbol) e, ap (λ x. x.persistent) e, (decides_all es good f.args g.args).1 (ap (λ x. x.args) e)),
   )
 

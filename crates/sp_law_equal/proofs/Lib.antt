@@ -9,3 +9,4 @@ pub mod Pairs
 pub mod Over
 pub mod Facts
 pub mod Decided
+pub mod PlainFacts

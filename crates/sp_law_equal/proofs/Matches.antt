@@ -8,7 +8,8 @@ use Rattle.sp_spec.specs.Term.{Sort, Msg, Fresh, Pub, Variable, Term, var, const
 use Rattle.sp_spec.specs.Signature.{HasSort, RespectsSorts}
 use Rattle.sp_spec.specs.Same.{same_variable, same_term}
 use Rattle.sp_law_equal.specs.Matching.{Bound, lookup, any_of, value_in, IsMatch, NoneMatches, has_sort, by_bound, matched, matched_all}
-use Rattle.sp_law_equal.proofs.Tests.{same_variable_decides, same_term_decides, has_sort_decides}
+use Rattle.sp_spec.proofs.Same.{same_variable_decides, same_term_decides}
+use Rattle.sp_law_equal.proofs.Tests.{has_sort_decides}
 
 -- the values are those of the bindings, where these have one
 abbrev pub Agrees : Values → List Bound → Type 0
@@ -28,7 +29,7 @@ tested Fits bs true good bad = (λ v a. (good refl v a, a), λ v r a f. a, λ s.
 tested Fits bs false good bad = λ v r a f. bad refl v a f
 
 module _ (x : Variable) (t : Ground) where
-  old_stays : (bs : List Bound) (y : Variable) (u : Ground) → lookup bs y ≡ Some u → lookup (bs ++ (x, t) ∷ []) y ≡ Some u
+  pub old_stays : (bs : List Bound) (y : Variable) (u : Ground) → lookup bs y ≡ Some u → lookup (bs ++ (x, t) ∷ []) y ≡ Some u
   old_stays [] y u e = absurd cc
   old_stays (b ∷ bs) y u e = by_test (same_variable b.0 y) e (old_stays bs y u)
     where
@@ -37,7 +38,7 @@ module _ (x : Variable) (t : Ground) where
       by_test true e' next = e'
       by_test false e' next = next e'
 
-  new_there : (bs : List Bound) → lookup bs x ≡ None → lookup (bs ++ (x, t) ∷ []) x ≡ Some t
+  pub new_there : (bs : List Bound) → lookup bs x ≡ None → lookup (bs ++ (x, t) ∷ []) x ≡ Some t
   new_there [] e = ap (λ c. cond c (Some t) None) ((same_variable_decides x x).1 refl)
   new_there (b ∷ bs) e = by_test (same_variable b.0 x) e (new_there bs)
     where
@@ -59,7 +60,7 @@ module _ (x : Variable) (t : Ground) where
       by_test true e' next = inl e'
       by_test false e' next = next e'
 
-any_has_sort : (s : Sort) → HasSort s (any_of s)
+pub any_has_sort : (s : Sort) → HasSort s (any_of s)
 any_has_sort Msg = tt
 any_has_sort Fresh = tt
 any_has_sort Pub = tt

@@ -1,8 +1,7 @@
 -- An execution of a theory that needs no adversary has a log of steps alone, which shows its trace.
 use Rattle.std.proofs.Common.{◌≡◌, ⊎_elim, inl, inr, ℕ, List, [], ◌∷◌, ◌++◌, refl, sym, ap, ◌∙◌, subst}
 use Rattle.sp_spec.specs.Lists.{Member, Distinct}
-use Rattle.sp_spec.specs.Term.{Fresh, var, constant, name, app, Ground}
-use Rattle.sp_spec.specs.Signature.{HasSort}
+use Rattle.sp_spec.specs.Term.{name, app, Ground}
 use Rattle.sp_spec.specs.Rule.{Fact, Action, Facts, facts_at, fr, in_of, out_of, knows, sends}
 use Rattle.sp_spec.specs.Theory.{Theory, signature_of}
 use Rattle.sp_spec.specs.Execution.{Step, make_fresh, use_rule, take_out, put_in, know_public, make_own, apply_symbol, State, known_all, Takes, Leads, made_by, Trace, with_entry, Runs, IsExecution}
@@ -17,12 +16,7 @@ use Rattle.sp_law_erase.proofs.Rearranged.{keeps_distinct, keeps_rest}
 use Rattle.sp_law_erase.proofs.Origins.{taken}
 use Rattle.sp_law_erase.proofs.Sources.{no_fresh_share, adversary_is_not_fr}
 use Rattle.sp_law_erase.proofs.Steps.{Erased, rule_step}
-
-is_name : (t : Ground) → HasSort Fresh t → (n : ℕ) × (t ≡ name n)
-is_name (var x) h = absurd x
-is_name (constant c) h = absurd h
-is_name (name n) h = (n, refl)
-is_name (app f ts) h = absurd h
+use Rattle.sp_spec.proofs.Sorts.{is_name}
 
 module _ (theory : Theory) where
   module _ (log : Log) (facts : List (Fact ⊥)) (made : List Ground) (earlier : Trace) (old : Erased theory facts made earlier log) where

@@ -8,9 +8,11 @@ use Rattle.sp_spec.specs.Same.{same_variable, same_term}
 use Rattle.sp_spec.specs.Signature.{RespectsSorts}
 use Rattle.sp_spec.specs.Rule.{Fact, Action, Facts, fact_at, action_at, facts_at}
 use Rattle.sp_law_equal.specs.Matching.{Bound, lookup, by_bound, matched, matched_all}
-use Rattle.sp_law_equal.proofs.Tests.{same_variable_decides, same_term_decides, has_sort_decides}
+use Rattle.sp_spec.proofs.Same.{same_variable_decides, same_term_decides}
+use Rattle.sp_law_equal.proofs.Tests.{has_sort_decides}
 use Rattle.sp_law_run.specs.Given.{AgreeWith}
 use Rattle.sp_law_found.specs.Found.{matched_facts, matched_actions, matched_instance}
+use Rattle.sp_spec.proofs.Facts.{made_facts}
 
 -- values that agree with the bindings have what is found for a variable
 pub lookup_agrees : (v : Values) (bs : List Bound) (x : Variable) (u : Ground) → lookup bs x ≡ Some u → AgreeWith v bs → v x ≡ u
@@ -26,9 +28,6 @@ fact_of f ts = record { symbol = f.symbol; persistent = f.persistent; args = ts 
 
 abbrev pub action_of : Action Variable → Grounds → Action ⊥
 action_of a ts = record { symbol = a.symbol; args = ts }
-
-abbrev pub facts_of : List (Fact ⊥) → List (Action ⊥) → List (Fact ⊥) → Facts ⊥
-facts_of ps xs cs = record { premises = ps; actions = xs; conclusions = cs }
 
 module _ (w : Values) where
   -- bindings are found with which the values agree, and all that agree with them are the same
@@ -129,9 +128,9 @@ module _ (w : Values) where
         let conclusions = map (fact_at w) p.conclusions in
         then_fits (SamePremises p) (SameOthers p) (λ v. facts_at v p ≡ facts_at w p)
         (λ v s t.
-        ap (λ (x : List (Fact ⊥)). facts_of x (map (action_at v) p.actions) (map (fact_at v) p.conclusions)) s
-        ∙ ap (λ (x : List (Action ⊥)). facts_of premises x (map (fact_at v) p.conclusions)) t.0
-        ∙ ap (facts_of premises actions) t.1)
+        ap (λ (x : List (Fact ⊥)). made_facts x (map (action_at v) p.actions) (map (fact_at v) p.conclusions)) s
+        ∙ ap (λ (x : List (Action ⊥)). made_facts premises x (map (fact_at v) p.conclusions)) t.0
+        ∙ ap (made_facts premises actions) t.1)
         [] (matched_facts p.premises premises [])
         (λ bs. option_and_then (λ cs. matched_facts p.conclusions conclusions cs) (matched_actions p.actions actions bs))
         (facts_fit p.premises [] tt)

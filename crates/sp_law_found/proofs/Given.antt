@@ -1,22 +1,18 @@
 -- The values that bindings give to all variables: they are a valuation, agree with the bindings, and are given by the variables' names.
-use Rattle.std.proofs.Common.{◌≡◌, ◌⊎◌, ⊎_elim, ℕ, suc, Bool, true, false, cond, List, [], ◌∷◌, map, Option, Some, None, option_map, option_and_then, unwrap_or, inl, inr, refl, sym, ap, ◌∙◌, subst, true≢false}
+use Rattle.std.proofs.Common.{◌≡◌, ◌⊎◌, ⊎_elim, ℕ, suc, Bool, true, false, cond, List, [], ◌∷◌, map, Option, Some, None, option_map, option_and_then, unwrap_or, refl, sym, ap, ◌∙◌, subst, true≢false}
 use Rattle.std.specs.Str.{bytes_eq}
 use Rattle.std.proofs.lemmas.Slice.Eq.{bytes_eq-Decides}
-use Rattle.sp_spec.specs.Lists.{Member, Every, Distinct}
-use Rattle.sp_spec.proofs.Lists.{every_member, member_map}
+use Rattle.sp_spec.specs.Lists.{Member, Distinct}
+use Rattle.sp_spec.proofs.Lists.{every_member, member_map, every_from}
 use Rattle.sp_spec.specs.Term.{Sort, Msg, Fresh, Pub, Ground, Values}
 use Rattle.sp_spec.specs.Same.{same_variable}
 use Rattle.sp_spec.specs.Signature.{Signature, IsValue, IsValuation}
-use Rattle.sp_spec.specs.Rule.{Facts, Declared, Rule, Gives}
+use Rattle.sp_spec.specs.Rule.{Facts, Declared, Rule, Gives, rule_named}
 use Rattle.sp_law_equal.specs.Matching.{Bound, lookup}
-use Rattle.sp_law_equal.proofs.Tests.{same_variable_decides}
+use Rattle.sp_spec.proofs.Same.{same_variable_decides}
 use Rattle.sp_law_run.specs.Given.{AgreeWith}
-use Rattle.sp_law_found.specs.Found.{matched_instance, stand_in, bound_or_any, given_from, given_of, rule_named, given_by}
+use Rattle.sp_law_found.specs.Found.{matched_instance, stand_in, bound_or_any, given_from, given_of, given_by}
 use Rattle.sp_law_found.proofs.Fitting.{lookup_agrees}
-
-every_from : {A : Type 0} (P : A → Type 0) (xs : List A) → ((x : A) → Member x xs → P x) → Every P xs
-every_from P [] h = tt
-every_from P (x ∷ xs) h = (h x (inl refl), every_from P xs (λ y m. h y (inr m)))
 
 -- a variable of the bindings is found there with its value
 pub value_there : (w : Values) (bs : List Bound) → AgreeWith w bs → (b : Bound) → Member b bs → lookup bs b.0 ≡ Some (w b.0)

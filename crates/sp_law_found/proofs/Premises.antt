@@ -1,18 +1,19 @@
 -- The premises of an entry: those named Fr are over fresh names, each used once, and the others are conclusions of the log that no entry has taken.
-use Rattle.std.proofs.Common.{◌≡◌, ⊎_elim, ℕ, Bool, true, false, not, if◌then◌else◌, List, [], ◌∷◌, ◌++◌, map, inl, inr, refl, sym, ap, ◌∙◌, subst}
+use Rattle.std.proofs.Common.{◌≡◌, ⊎_elim, ℕ, Bool, true, false, not, if◌then◌else◌, List, [], ◌∷◌, ◌++◌, map, inl, inr, refl, sym, ap, subst}
 use Rattle.std.specs.Prelude.{codes}
 use Rattle.std.specs.Str.{bytes_eq}
 use Rattle.std.proofs.lemmas.Bool.{and_parts}
 use Rattle.std.proofs.lemmas.Slice.Eq.{bytes_eq-Decides}
 use Rattle.sp_spec.specs.Lists.{Member, Every, Distinct, AtPosition}
 use Rattle.sp_spec.proofs.Lists.{member_right, distinct_right}
-use Rattle.sp_spec.specs.Term.{Fresh, Variable, Ground, Grounds, Values, valued_all}
+use Rattle.sp_spec.specs.Term.{Fresh, Variable, Ground, Values, valued_all}
 use Rattle.sp_spec.specs.Signature.{HasSort, RespectsSorts}
-use Rattle.sp_spec.specs.Rule.{Fact, fact_at, fr}
+use Rattle.sp_spec.specs.Rule.{Fact, fact_at, fr, IsFreshVariable}
 use Rattle.sp_spec.specs.Log.{Source, fresh_rule, conclusion, Entry, Log, Concludes, is_fr, first_arg, fresh_of, linear_sources, all_sources, HasSources}
 use Rattle.sp_law_erase.proofs.Origins.{source_share, fresh_share, linear_cons}
-use Rattle.sp_law_found.specs.Executable.{IsFreshVariable}
 use Rattle.sp_law_found.proofs.Labels.{Labelled, labelled, Apart}
+use Rattle.sp_spec.proofs.Facts.{same_fact_parts}
+use Rattle.sp_spec.proofs.Bools.{denied}
 
 -- ---- fresh names
 
@@ -22,17 +23,6 @@ IsOfFresh f = is_fr f ≡ true → (t : Ground) × HasSort Fresh t × (f ≡ fr 
 
 abbrev pub AreOfFresh : List (Fact ⊥) → Type 0
 AreOfFresh fs = Every IsOfFresh fs
-
-is_linear : (b : Bool) → not b ≡ true → b ≡ false
-is_linear true e = absurd cc
-is_linear false e = refl
-
-abbrev made_fact : List ℕ → Bool → Grounds → Fact ⊥
-made_fact f p ts = record { symbol = f; persistent = p; args = ts }
-
-same_parts : (f g : Fact ⊥) → f.symbol ≡ g.symbol → f.persistent ≡ g.persistent → f.args ≡ g.args → f ≡ g
-same_parts f g s p a =
-    ap (λ x. made_fact x f.persistent f.args) s ∙ ap (λ x. made_fact g.symbol x f.args) p ∙ ap (made_fact g.symbol g.persistent) a
 
 -- so it is where the rule has a fresh variable there
 pub of_fresh : (w : Values) → RespectsSorts w → (fs : List (Fact Variable)) → Every (λ (f : Fact Variable). is_fr f ≡ true → IsFreshVariable f.args) fs → AreOfFresh (map (fact_at w) fs)
@@ -45,7 +35,7 @@ of_fresh w respects (f ∷ fs) h = (one, of_fresh w respects fs h.1)
         let both = and_parts (bytes_eq f.symbol (codes "Fr")) (not f.persistent) e in (
           w x.0,
           subst (λ s. HasSort s (w x.0)) x.1 (respects x.0),
-          same_parts (fact_at w f) (fr (w x.0)) ((bytes_eq-Decides f.symbol (codes "Fr")).0 both.0) (is_linear f.persistent both.1) (ap (valued_all w) x.2),
+          same_fact_parts (fact_at w f) (fr (w x.0)) ((bytes_eq-Decides f.symbol (codes "Fr")).0 both.0) (denied f.persistent both.1) (ap (valued_all w) x.2),
         )
 
 pub fresh_sorts : (fs : List (Fact ⊥)) → AreOfFresh fs → Every (λ (t : Ground). HasSort Fresh t) (fresh_of fs)

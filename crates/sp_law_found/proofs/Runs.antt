@@ -1,16 +1,15 @@
 -- Each entry of a log of steps can be done as its rule, behind its fresh names, and what is kept along the log.
 use Rattle.std.proofs.Common.{◌≡◌, ⊎_elim, ℕ, zero, suc, ◌+◌, false, List, [], ◌∷◌, ◌++◌, length, Some, unwrap_or, inl, inr, refl, sym, ap, ◌∙◌, subst, arith}
 use Rattle.sp_spec.specs.Lists.{Member, Distinct, AtPlace, AtPosition}
-use Rattle.sp_spec.proofs.Lists.{every_member, member_left, member_right, distinct_apart}
+use Rattle.sp_spec.proofs.Lists.{every_member, member_left, member_right, distinct_apart, distinct_left}
 use Rattle.sp_spec.specs.Term.{Ground, Values}
 use Rattle.sp_spec.specs.Signature.{Equation, IsValuation}
-use Rattle.sp_spec.specs.Rule.{Fact, Facts, Rule, facts_at, IsNormalFormOf, Gives}
+use Rattle.sp_spec.specs.Rule.{Fact, Facts, Rule, facts_at, IsNormalFormOf, Gives, OfArguments}
 use Rattle.sp_spec.specs.Theory.{Theory, signature_of}
 use Rattle.sp_spec.specs.Execution.{use_rule, State, Takes, IsInstance, Leads, Runs, IsExecution}
 use Rattle.sp_spec.specs.Log.{Source, conclusion, Entry, step, send, learn, Log, Concludes, fresh_of, all_fresh_uses, linear_sources, all_sources, HasSources, IsLog, visible_trace}
 use Rattle.sp_law_equal.specs.Convergent.{ArePlain}
 use Rattle.sp_law_equal.proofs.Forms.{normals}
-use Rattle.sp_law_run.specs.Right.{OfArguments}
 use Rattle.sp_law_run.proofs.Taking.{map_append}
 use Rattle.sp_law_erase.specs.Adversary.{HasStepsAlone}
 use Rattle.sp_law_found.specs.Found.{matched_instance, bound_or_any, given_of, given_by, fresh_steps, execution_of}
@@ -21,10 +20,6 @@ use Rattle.sp_law_found.proofs.Plain.{plain_instance, normal_valuation}
 use Rattle.sp_law_found.proofs.Labels.{Labelled, facts_in, labelled, labelled_facts, Taking, take_all}
 use Rattle.sp_law_found.proofs.Premises.{AreOfFresh, of_fresh, fresh_sorts, linear_member, premises_apart, HasConclusions, premises_there}
 use Rattle.sp_law_found.proofs.FreshRuns.{state_of, with_fresh, with_made, fresh_keeps, fresh_there, made_either, run_fresh}
-
-distinct_left : {A : Type 0} (xs ys : List A) → Distinct (xs ++ ys) → Distinct xs
-distinct_left [] ys d = tt
-distinct_left (x ∷ xs) ys d = ((λ m. d.0 (member_left x xs ys m)), distinct_left xs ys d.1)
 
 -- the conclusions of the entry at position p, from the k-th on
 abbrev concluded : ℕ → ℕ → List (Fact ⊥) → List Labelled

@@ -13,7 +13,7 @@ use Rattle.sp_spec.specs.Guarded as guarded
 use Rattle.sp_law_truth.proofs.StableGuarded.{stable_guarded}
 use Rattle.sp_law_truth.proofs.AsTrue.{as_both, as_either, as_implies, as_not, as_classically, as_turned, as_through}
 use Rattle.sp_law_guard.specs.GuardedForm.{meant, time_place, placed_term, placed_action, term_time, acts_at, before_at, same_at, equality_at, binder_of, conjunction, disjunction, negate, existential, both_forms, guarded_form}
-use Rattle.sp_law_guard.proofs.Options.{mapped}
+use Rattle.sp_spec.proofs.Options.{mapped}
 use Rattle.sp_law_guard.proofs.Values.{each_not}
 use Rattle.sp_law_guard.proofs.Turned.{turned}
 use Rattle.sp_law_guard.proofs.Meant.{Corresponds, corresponds_message, corresponds_time, action_read, time_read, term_time_read, value_read}

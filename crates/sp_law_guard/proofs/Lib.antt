@@ -1,4 +1,3 @@
-pub mod Options
 pub mod Values
 pub mod Turned
 pub mod Meant

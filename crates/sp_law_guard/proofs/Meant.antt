@@ -6,7 +6,7 @@ use Rattle.sp_spec.specs.Formula.{Mark, bare, of_sort, of_time, Written}
 use Rattle.sp_spec.specs.Truth.{Value, message, position, Environment, value_of, message_of, value_in}
 use Rattle.sp_spec.specs.Guarded.{Place, bound, Time, bound_time, Assignment, with_term, with_time, place_in, term_in, action_in, time_in}
 use Rattle.sp_law_guard.specs.GuardedForm.{Meant, a_message, a_time, binder_meant, past_binder, meant, message_place, time_place, placed_term, placed_terms, placed_action, term_time}
-use Rattle.sp_law_guard.proofs.Options.{mapped, then_some}
+use Rattle.sp_spec.proofs.Options.{mapped, then_some}
 
 -- what is meant has the value that the binder has
 abbrev pub Means : Assignment → Meant → Value → Type 0

@@ -1,18 +1,14 @@
 -- A guarded form speaks of the formula's actions alone.
-use Rattle.std.proofs.Common.{◌≡◌, ℕ, List, [], ◌∷◌, Some, inl, inr, refl, sym, subst}
+use Rattle.std.proofs.Common.{◌≡◌, ℕ, List, [], ◌∷◌, Some, sym, subst}
 use Rattle.sp_spec.specs.Lists.{Member, Every}
 use Rattle.sp_spec.specs.Formula.{Formula}
 use Rattle.sp_spec.specs.Guarded.{Atom, Guarded, Guardeds, truth, falsity, holds, fails, all_of, one_of, some, every, no_more, and_then}
-use Rattle.sp_spec.proofs.Lists.{every_append, every_parts, every_weaken}
+use Rattle.sp_spec.proofs.Lists.{every_append, every_parts, every_itself}
 use Rattle.sp_law_truth.specs.Shown.{times_within, atom_names, guard_names, action_names, all_action_names}
 use Rattle.sp_law_guard.specs.GuardedForm.{guarded_form}
 use Rattle.sp_law_guard.specs.Symbols.{symbols_of}
 use Rattle.sp_law_guard.proofs.Throughout.{Throughout, ThroughoutEach, OfFormulas, OfAtoms, form_throughout}
 use Rattle.sp_law_guard.proofs.Places.{action_made, order_made, equality_made}
-
-pub members : {A : Type 0} (xs : List A) → Every (λ x. Member x xs) xs
-members [] = tt
-members (x ∷ xs) = (inl refl, every_weaken (λ y. Member y xs) (λ y. Member y (x ∷ xs)) (λ y m. inr m) xs (members xs))
 
 module _ (IsNamed : List ℕ → Type 0) where
   abbrev pub OfNames : ℕ → Atom → Type 0
@@ -60,4 +56,4 @@ module _ (IsNamed : List ℕ → Type 0) where
 pub form_named : (f : Formula) (g : Guarded) → guarded_form [] f ≡ Some g → Every (λ s. Member s (symbols_of f)) (action_names g)
 form_named f g e =
     let IsNamed : List ℕ → Type 0 = λ s. Member s (symbols_of f) in
-    named IsNamed 0 g (form_throughout (OfNames IsNamed) (AreNamed IsNamed) (named_parts IsNamed) (named_atoms IsNamed) [] f g (members (symbols_of f)) e)
+    named IsNamed 0 g (form_throughout (OfNames IsNamed) (AreNamed IsNamed) (named_parts IsNamed) (named_atoms IsNamed) [] f g (every_itself (symbols_of f)) e)

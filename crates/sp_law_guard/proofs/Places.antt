@@ -7,7 +7,7 @@ use Rattle.sp_spec.specs.Guarded.{Place, bound, Time, bound_time, Atom, acts, sa
 use Rattle.sp_law_truth.specs.Shown.{times_within, IsBound}
 use Rattle.sp_law_guard.specs.GuardedForm.{Meant, a_message, a_time, binder_meant, past_binder, meant, message_place, time_place, placed_term, placed_terms, placed_action, acts_at, before_at, same_at, term_time, equality_at, binder_of}
 use Rattle.sp_law_guard.specs.Closed.{IsClosedTerm, AreClosedTerms}
-use Rattle.sp_law_guard.proofs.Options.{mapped, then_some}
+use Rattle.sp_spec.proofs.Options.{mapped, then_some}
 use Rattle.sp_law_guard.proofs.Throughout.{times_bound}
 
 -- one of n times

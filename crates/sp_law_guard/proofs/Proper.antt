@@ -7,7 +7,7 @@ use Rattle.sp_law_truth.proofs.AsTrue.{as_itself, as_both}
 use Rattle.std.specs.Prelude.{◌↔◌}
 use Rattle.sp_law_guard.specs.GuardedForm.{meant, time_place, placed_action, term_time, acts_at, before_at, equality_at, binder_of, conjunction, disjunction, negated_atom, negate, negate_each, existential, guarded_form}
 use Rattle.sp_law_guard.specs.Proper.{IsNoAction, IsProper, AreProper}
-use Rattle.sp_law_guard.proofs.Options.{mapped}
+use Rattle.sp_spec.proofs.Options.{mapped}
 use Rattle.sp_law_guard.proofs.Kept.{joined_forms}
 use Rattle.sp_law_guard.proofs.Parts.{EachIs, IsOfParts, conjunction_is, disjunction_is, quantified_is}
 

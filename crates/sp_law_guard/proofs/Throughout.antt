@@ -11,7 +11,7 @@ use Rattle.sp_spec.proofs.Lists.{every_weaken}
 use Rattle.sp_law_truth.specs.Shown.{times_within}
 use Rattle.sp_law_truth.proofs.AsTrue.{as_itself, as_both}
 use Rattle.sp_law_guard.specs.GuardedForm.{meant, time_place, placed_action, term_time, acts_at, before_at, equality_at, binder_of, guard_in, rest_in, body_of, conjuncts, conjunction, disjunction, negated_atom, negate, negate_each, existential, guarded_form}
-use Rattle.sp_law_guard.proofs.Options.{mapped}
+use Rattle.sp_spec.proofs.Options.{mapped}
 use Rattle.sp_law_guard.proofs.Kept.{joined_forms}
 use Rattle.sp_law_guard.proofs.Parts.{EachIs, IsOfParts, conjuncts_are, conjunction_is, disjunction_is, quantified_is}
 

@@ -1,6 +1,6 @@
 -- Each time of a guarded form is bound, and where the form is guarded it stands in an action.
-use Rattle.std.proofs.Common.{◌≡◌, ◌⊎◌, ℕ, zero, suc, ◌+◌, Bool, true, false, ◌||◌, List, [], ◌∷◌, Some, inl, inr, refl, sym, subst, arith}
-use Rattle.std.proofs.lemmas.Bool.{and_parts, eqb-true}
+use Rattle.std.proofs.Common.{◌≡◌, ◌⊎◌, ℕ, zero, suc, ◌+◌, true, List, [], ◌∷◌, Some, inl, inr, sym, subst, arith}
+use Rattle.std.proofs.lemmas.Bool.{and_parts, eqb-true, or_cases}
 use Rattle.sp_spec.specs.Lists.{Every}
 use Rattle.sp_spec.specs.Formula.{Formula}
 use Rattle.sp_spec.specs.Guarded.{Time, free_time, bound_time, Binder, message, time, Atom, acts, same, same_time, before, last, Guarded, Guardeds, truth, falsity, holds, fails, all_of, one_of, some, every, no_more, and_then}
@@ -23,17 +23,13 @@ times_counted [] n = omega arith
 times_counted (message sort ∷ bs) n = times_counted bs n
 times_counted (time ∷ bs) n = let e = times_counted bs (suc n) in omega (arith, e)
 
-either_true : (x y : Bool) → (x || y) ≡ true → (x ≡ true) ⊎ (y ≡ true)
-either_true true y e = inl refl
-either_true false y e = inr e
-
 time_place_is : (k : ℕ) (i : Time) (a : _) → is_time_place k i ≡ true → IsActionAt k (acts a i)
 time_place_is k (free_time i) a e = absurd cc
 time_place_is k (bound_time j) a e = eqb-true j k e
 
 action_at_time : (k : ℕ) (guard : List Atom) → time_guarded guard k ≡ true → HasActionAt k guard
 action_at_time k [] e = absurd cc
-action_at_time k (acts a i ∷ guard) e = at (either_true (is_time_place k i) (time_guarded guard k) e) (action_at_time k guard)
+action_at_time k (acts a i ∷ guard) e = at (or_cases (is_time_place k i) (time_guarded guard k) e) (action_at_time k guard)
   where
     at : (is_time_place k i ≡ true) ⊎ (time_guarded guard k ≡ true) → (time_guarded guard k ≡ true → HasActionAt k guard) → HasActionAt k (acts a i ∷ guard)
     at (inl e) below = inl (time_place_is k i a e)

@@ -1,8 +1,8 @@
 -- A system suggests a log exactly where it is listable.
 use Rattle.std.proofs.Common.{◌≡◌, ⊎_elim, ℕ, Bool, true, false, not, ◌||◌, ◌==◌, if◌then◌else◌, List, [], ◌∷◌, length, Option, Some, None, option_and_then, inl, inr, refl, sym, ap, ◌∙◌, subst}
-use Rattle.std.proofs.lemmas.Bool.{or_cases, and_parts, and_from, eqb-true, eq-eqb}
+use Rattle.std.proofs.lemmas.Bool.{or_cases, and_parts, and_from, eqb-true, eq-eqb, or_right, or_left}
 use Rattle.sp_spec.specs.Lists.{Member, Every}
-use Rattle.sp_spec.proofs.Lists.{every_member}
+use Rattle.sp_spec.proofs.Lists.{every_member, every_from}
 use Rattle.sp_spec.specs.Rule.{Action}
 use Rattle.sp_spec.specs.Guarded.{Place, Atom, free_time, bound_time, acts, same, same_time, before, last, Guarded, truth, falsity, holds, fails, all_of, one_of, some, every}
 use Rattle.sp_spec.specs.Log.{Entry}
@@ -15,6 +15,7 @@ use Rattle.sp_solved.proofs.Listed.{every_listed, every_left}
 use Rattle.sp_law_listed.specs.Laws.{HasGiver, IsListable}
 use Rattle.sp_law_listed.proofs.Least.{all_are_listed}
 use Rattle.sp_law_listed.proofs.Sources.{place_there, there_place, IsLinked, HasSources, event_sourced, sourced_premise, entries_there, there_entries}
+use Rattle.sp_spec.proofs.Bools.{denied}
 
 -- ---- actions
 
@@ -22,14 +23,6 @@ event_there : (es : List Event) (i : ℕ) → has_event es i ≡ true → (e : E
 event_there [] i h = absurd cc
 event_there (d ∷ es) i h =
     ⊎_elim (λ k. (d, inl refl, eqb-true d.time i k)) (λ k. let r = event_there es i k in (r.0, inr r.1, r.2)) (or_cases (d.time == i) (has_event es i) h)
-
-or_left : (a b : Bool) → a ≡ true → (a || b) ≡ true
-or_left true b e = refl
-or_left false b e = absurd cc
-
-or_right : (a b : Bool) → b ≡ true → (a || b) ≡ true
-or_right true b e = refl
-or_right false b e = e
 
 there_event : (es : List Event) (i : ℕ) (e : Event) → Member e es → e.time ≡ i → has_event es i ≡ true
 there_event [] i e m t = absurd m
@@ -65,14 +58,6 @@ placed es (every bs guard f) h = refl
 
 -- ---- systems
 
-not_so : (b : Bool) → not b ≡ true → b ≡ false
-not_so true e = absurd cc
-not_so false e = refl
-
-every_own : {A : Type 0} (P : A → Type 0) (xs : List A) → ((x : A) → Member x xs → P x) → Every P xs
-every_own P [] h = tt
-every_own P (x ∷ xs) h = (h x (inl refl), every_own P xs (λ y m. h y (inr m)))
-
 listable_ready : (s : System) → IsListable s → is_ready s ≡ true
 listable_ready s h =
     and_from (have_places s.events s.formulas) (not (is_cyclic s.order))
@@ -85,11 +70,11 @@ module _ (s : System) (listed : List Event) (is_order : in_order s.order s.event
   -- each event is listed, and each that is listed is an event
   each_placed : (d : Event) → Member d s.events → IsPlaced d
   each_placed d m =
-      every_member IsPlaced s.events d m (every_left IsPlaced s.order (length s.events) s.events listed refl is_order (every_own IsPlaced listed (λ e k. place_there e.time listed e k refl)))
+      every_member IsPlaced s.events d m (every_left IsPlaced s.order (length s.events) s.events listed refl is_order (every_from IsPlaced listed (λ e k. place_there e.time listed e k refl)))
 
   each_there : (d : Event) → Member d listed → Member d s.events
   each_there d m =
-      every_member (λ e. Member e s.events) listed d m (every_listed (λ e. Member e s.events) s.order (length s.events) s.events listed is_order (every_own (λ e. Member e s.events) s.events (λ e k. k)))
+      every_member (λ e. Member e s.events) listed d m (every_listed (λ e. Member e s.events) s.order (length s.events) s.events listed is_order (every_from (λ e. Member e s.events) s.events (λ e k. k)))
 
   giver_linked : (i p : ℕ) → HasGiver s i p → IsLinked listed s.links i p
   giver_linked i p h = let r = each_placed h.2 h.3 in (h.0, h.1, r.0, ap (λ (t : ℕ). place_of t listed) (sym h.4) ∙ r.1)
@@ -100,7 +85,7 @@ module _ (s : System) (listed : List Event) (is_order : in_order s.order s.event
   listable_sources : IsListable s → Every (HasSources listed s.links) listed
   listable_sources h =
       every_listed (HasSources listed s.links) s.order (length s.events) s.events listed is_order
-      (every_own (HasSources listed s.links) s.events (λ e m. event_sourced listed s.links e (λ p f at k. giver_linked e.time p (h.given e m p f at k))))
+      (every_from (HasSources listed s.links) s.events (λ e m. event_sourced listed s.links e (λ p f at k. giver_linked e.time p (h.given e m p f at k))))
 
   sources_listable : is_ready s ≡ true → Every (HasSources listed s.links) listed → IsListable s
   sources_listable e each =
@@ -109,7 +94,7 @@ module _ (s : System) (listed : List Event) (is_order : in_order s.order s.event
       record {
         given = λ d m p f at k. linked_giver d.time p (sourced_premise listed s.links d (every_member (HasSources listed s.links) s.events d m were) p f at k);
         placed = λ a i m. event_there s.events i (each_has_place s.events s.formulas both.0 (holds (acts a (free_time i))) m);
-        acyclic = not_so (is_cyclic s.order) both.1;
+        acyclic = denied (is_cyclic s.order) both.1;
       }
 
 pub suggests : (constants : List (List ℕ)) (s : System) → IsListable s → (entries : List Entry) × (candidate constants s ≡ Some entries)

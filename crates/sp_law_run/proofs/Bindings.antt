@@ -1,17 +1,18 @@
 -- The values that a step gives to a rule's variables are those of the function, and they are one.
-use Rattle.std.proofs.Common.{◌≡◌, ⊎_elim, ◌+◌, ◌≤◌, ℕ, zero, suc, List, [], ◌∷◌, ◌++◌, Bool, true, false, Option, Some, None, option_map, option_and_then, inl, inr, refl, sym, ap, ap₂, ◌∙◌, subst, map, length, arith}
+use Rattle.std.proofs.Common.{◌≡◌, ⊎_elim, ◌+◌, ◌≤◌, ℕ, zero, suc, List, [], ◌∷◌, ◌++◌, Option, Some, None, option_map, option_and_then, inl, inr, refl, sym, ap, ap₂, ◌∙◌, subst, map, length, arith}
 use Rattle.std.proofs.lemmas.Option.{option_and_then_some}
 use Rattle.std.proofs.lemmas.Slice.Eq.{bytes_eq-Decides}
 use Rattle.std.specs.Str.{bytes_eq}
 use Rattle.sp_spec.specs.Lists.{Member, Every, Distinct, AtPlace}
-use Rattle.sp_spec.proofs.Lists.{member_left, member_right, member_either, every_weaken, every_both}
+use Rattle.sp_spec.proofs.Lists.{member_left, member_right, member_either, every_weaken, every_both, every_from}
 use Rattle.sp_spec.specs.Term.{Variable, Ground, Values}
 use Rattle.sp_spec.specs.Same.{same_variable}
 use Rattle.sp_spec.specs.Rule.{Declared, Gives}
 use Rattle.sp_law_equal.specs.Matching.{Bound, value_in}
-use Rattle.sp_law_equal.proofs.Tests.{same_variable_decides}
+use Rattle.sp_spec.proofs.Same.{same_variable_decides}
 use Rattle.sp_law_equal.proofs.Decided.{same_text_or_not}
 use Rattle.sp_law_run.specs.Given.{variable_at, given_value, bound_from, AgreeWith}
+use Rattle.std.proofs.lemmas.Bool.{false_from_ne_true}
 
 abbrev Given : Type 0
 Given = List ℕ × Ground
@@ -19,15 +20,11 @@ Given = List ℕ × Ground
 abbrev pub names : List Declared → List (List ℕ)
 names ds = map (λ (d : Declared). d.name) ds
 
-not_true : (b : Bool) → (b ≡ true → ⊥) → b ≡ false
-not_true true h = absurd (h refl)
-not_true false h = refl
-
 value_here : (x : List ℕ) (g : Given) (gs : List Given) → g.0 ≡ x → given_value x (g ∷ gs) ≡ Some g.1
 value_here x g gs e = let t = (bytes_eq-Decides g.0 x).1 e in rw t refl
 
 value_there : (x : List ℕ) (g : Given) (gs : List Given) → (g.0 ≡ x → ⊥) → given_value x (g ∷ gs) ≡ given_value x gs
-value_there x g gs n = let t = not_true (bytes_eq g.0 x) (λ e. n ((bytes_eq-Decides g.0 x).0 e)) in rw t refl
+value_there x g gs n = let t = false_from_ne_true (bytes_eq g.0 x) (λ e. n ((bytes_eq-Decides g.0 x).0 e)) in rw t refl
 
 -- a value that is given to another name may be left out
 value_other : (x y : List ℕ) (t : Ground) → (x ≡ y → ⊥) → (front back : List Given) → given_value y (front ++ (x, t) ∷ back) ≡ given_value y (front ++ back)
@@ -124,10 +121,6 @@ given_names k (d ∷ ds) given v h g m =
     (λ b. ⊎_elim (λ e. inl (ap (λ (z : Given). z.0) e)) (λ n. others (member_right g front back n)) b)
     (member_either g front ((d.name, v (variable_at k d)) ∷ back) m')
 
-every_from : {A : Type 0} (P : A → Type 0) (xs : List A) → ((x : A) → Member x xs → P x) → Every P xs
-every_from P [] h = tt
-every_from P (x ∷ xs) h = (h x (inl refl), every_from P xs (λ y m. h y (inr m)))
-
 -- values that the function finds
 pub record Bindings (k : ℕ) (ds : List Declared) (given : List Given) (v : Values) : Type 0 where
   pub bindings : List Bound
@@ -183,7 +176,7 @@ above k (d ∷ ds) given bs e =
     (let first : k ≤ k = omega arith in (first, every_weaken (λ (b : Bound). suc k ≤ b.0.number) (λ (b : Bound). k ≤ b.0.number) (λ b l. omega (arith, l)) p.others h))
 
 value_of_other : (b : Bound) (bs : List Bound) (x : Variable) → (b.0 ≡ x → ⊥) → value_in (b ∷ bs) x ≡ value_in bs x
-value_of_other b bs x n = let t = not_true (same_variable b.0 x) (λ e. n ((same_variable_decides b.0 x).0 e)) in rw t refl
+value_of_other b bs x n = let t = false_from_ne_true (same_variable b.0 x) (λ e. n ((same_variable_decides b.0 x).0 e)) in rw t refl
 
 value_of_first : (x : Variable) (t : Ground) (bs : List Bound) → value_in ((x, t) ∷ bs) x ≡ t
 value_of_first x t bs = let e = (same_variable_decides x x).1 refl in rw e refl

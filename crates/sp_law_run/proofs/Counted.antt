@@ -1,28 +1,21 @@
 -- How often a fact stands in a list.
 use Rattle.std.proofs.Common.{◌≡◌, ◌<◌, ◌+◌, ◌⊎◌, ⊎_elim, ℕ, zero, suc, List, [], ◌∷◌, ◌++◌, Bool, true, false, Option, Some, None, option_map, refl, sym, ap, ◌∙◌, subst, map, arith}
-use Rattle.std.proofs.lemmas.Bool.{and_parts, and_from}
+use Rattle.std.proofs.lemmas.Bool.{and_parts, and_from, false_from_ne_true}
 use Rattle.std.proofs.lemmas.Slice.Eq.{bytes_eq-Decides}
 use Rattle.std.specs.Bool.{Decides}
 use Rattle.std.specs.Str.{bytes_eq}
-use Rattle.sp_spec.specs.Term.{Grounds}
 use Rattle.sp_spec.specs.Same.{same_terms}
 use Rattle.sp_spec.specs.Rule.{Fact}
-use Rattle.sp_law_equal.proofs.Tests.{same_terms_decides}
+use Rattle.sp_spec.proofs.Same.{same_terms_decides}
 use Rattle.sp_law_equal.proofs.Decided.{or_not}
 use Rattle.sp_law_run.specs.Taken.{same_choice, same_fact, times, SameFacts, removed}
+use Rattle.sp_spec.proofs.Facts.{same_fact_parts}
 
 same_choice_decides : (b c : Bool) → Decides (same_choice b c) (b ≡ c)
 same_choice_decides true true = (λ e. refl, λ e. refl)
 same_choice_decides true false = (λ e. absurd cc, λ e. absurd cc)
 same_choice_decides false true = (λ e. absurd cc, λ e. absurd cc)
 same_choice_decides false false = (λ e. refl, λ e. refl)
-
-abbrev made_fact : List ℕ → Bool → Grounds → Fact ⊥
-made_fact f p ts = record { symbol = f; persistent = p; args = ts }
-
-same_parts : (f g : Fact ⊥) → f.symbol ≡ g.symbol → f.persistent ≡ g.persistent → f.args ≡ g.args → f ≡ g
-same_parts f g s p a =
-    ap (λ x. made_fact x f.persistent f.args) s ∙ ap (λ x. made_fact g.symbol x f.args) p ∙ ap (made_fact g.symbol g.persistent) a
 
 pub same_fact_tells : (f g : Fact ⊥) → Decides (same_fact f g) (f ≡ g)
 same_fact_tells f g =
@@ -31,22 +24,18 @@ same_fact_tells f g =
     let args = same_terms_decides f.args g.args in (
       λ e. let both = and_parts (bytes_eq f.symbol g.symbol) _ e in
           let rest = and_parts (same_choice f.persistent g.persistent) (same_terms f.args g.args) both.1 in
-          same_parts f g (symbols.0 both.0) (choices.0 rest.0) (args.0 rest.1),
+          same_fact_parts f g (symbols.0 both.0) (choices.0 rest.0) (args.0 rest.1),
       λ e. and_from _ _ (symbols.1 (ap (λ x. x.symbol) e)) (and_from _ _ (choices.1 (ap (λ x. x.persistent) e)) (args.1 (ap (λ x. x.args) e))),
     )
 
 pub same_or_not : (f g : Fact ⊥) → (f ≡ g) ⊎ (f ≡ g → ⊥)
 same_or_not f g = or_not (same_fact f g) (same_fact_tells f g)
 
-not_true : (b : Bool) → (b ≡ true → ⊥) → b ≡ false
-not_true true h = absurd (h refl)
-not_true false h = refl
-
 pub times_here : (f g : Fact ⊥) (gs : List (Fact ⊥)) → f ≡ g → times f (g ∷ gs) ≡ suc (times f gs)
 times_here f g gs e = let t = (same_fact_tells f g).1 e in rw t refl
 
 pub times_there : (f g : Fact ⊥) (gs : List (Fact ⊥)) → (f ≡ g → ⊥) → times f (g ∷ gs) ≡ times f gs
-times_there f g gs n = let t = not_true (same_fact f g) (λ e. n ((same_fact_tells f g).0 e)) in rw t refl
+times_there f g gs n = let t = false_from_ne_true (same_fact f g) (λ e. n ((same_fact_tells f g).0 e)) in rw t refl
 
 pub times_append : (f : Fact ⊥) (xs ys : List (Fact ⊥)) → times f (xs ++ ys) ≡ times f xs + times f ys
 times_append f [] ys = omega arith
@@ -81,7 +70,7 @@ removed_none f [] e = refl
 removed_none f (x ∷ xs) e =
     ⊎_elim
     (λ s. let t = (same_fact_tells f x).1 s in absurd (let k = rw t at e in cc))
-    (λ n. let t = not_true (same_fact f x) (λ s. n ((same_fact_tells f x).0 s)) in
+    (λ n. let t = false_from_ne_true (same_fact f x) (λ s. n ((same_fact_tells f x).0 s)) in
     let k = rw t at e in times_there f x xs n ∙ removed_none f xs (map_none (removed f xs) k))
     (same_or_not f x)
   where
@@ -101,7 +90,7 @@ removed_some f (x ∷ xs) ys e g =
     (λ s. let t = (same_fact_tells f x).1 s in let k = rw t at e in
     let left : xs ≡ ys = cc in
     let both : x ∷ xs ≡ f ∷ ys = cc in ap (times g) both)
-    (λ n. let t = not_true (same_fact f x) (λ s. n ((same_fact_tells f x).0 s)) in
+    (λ n. let t = false_from_ne_true (same_fact f x) (λ s. n ((same_fact_tells f x).0 s)) in
     let k = rw t at e in
     let r = map_some x ys (removed f xs) k in
     let h = removed_some f xs r.0 r.1 g in

@@ -2,15 +2,15 @@
 use Rattle.std.proofs.Common.{◌≡◌, ℕ, zero, List, [], ◌∷◌, Bool, true, false, if◌then◌else◌, Some, unwrap_or, inl, inr, refl, sym, ap, ◌∙◌, subst, map, arith}
 use Rattle.sp_spec.specs.Lists.{Member, Every, Distinct}
 use Rattle.sp_spec.proofs.Lists.{every_member, member_map, map_each, every_weaken}
-use Rattle.sp_spec.specs.Term.{Sort, Msg, Fresh, Pub, Variable, Term, var, constant, name, app, Terms, none, more, Ground, Grounds, Values, valued, valued_all}
+use Rattle.sp_spec.specs.Term.{Sort, Msg, Fresh, Pub, Variable, Term, var, constant, name, app, Terms, none, more, Ground, Grounds, Values, valued, valued_all, EachVariable, EachVariables}
 use Rattle.sp_spec.specs.Same.{same_variable}
 use Rattle.sp_spec.specs.Signature.{Signature, IsValue, IsValuation}
-use Rattle.sp_spec.specs.Rule.{Fact, Action, Facts, Rule, fact_at, action_at, facts_at, Gives}
+use Rattle.sp_spec.specs.Rule.{Fact, Action, Facts, Rule, fact_at, action_at, facts_at, Gives, OfArguments}
 use Rattle.sp_spec.specs.Theory.{Theory}
 use Rattle.sp_spec.specs.Execution.{Step, make_fresh, use_rule, take_out, put_in, know_public, make_own, apply_symbol, IsInstance}
 use Rattle.sp_law_equal.specs.Matching.{Bound, lookup, value_in, any_of}
-use Rattle.sp_law_equal.proofs.Tests.{same_variable_decides, same_fields}
-use Rattle.sp_law_run.specs.Right.{Throughout, ThroughoutAll, OfArguments, IsDeclared, IsRight, AreRight}
+use Rattle.sp_spec.proofs.Same.{same_variable_decides, same_fields}
+use Rattle.sp_law_run.specs.Right.{IsDeclared, IsRight, AreRight}
 use Rattle.sp_law_run.specs.Given.{variable_at, bound_from, AgreeWith}
 use Rattle.sp_law_run.proofs.Bindings.{gives_bound, agree_declared}
 
@@ -27,13 +27,13 @@ one_rule (p ∷ ps) r q d (inr m) (inr k) e = one_rule ps r q d.1 m k e
 -- terms have one value where the values of their variables agree
 module _ (v w : Values) (P : Variable → Type 0) (agree : (x : Variable) → P x → v x ≡ w x) where
   mutual
-    same_value : (t : Term Variable) → Throughout P t → valued v t ≡ valued w t
+    same_value : (t : Term Variable) → EachVariable P t → valued v t ≡ valued w t
     same_value (var x) h = agree x h
     same_value (constant c) h = refl
     same_value (name n) h = refl
     same_value (app f ts) h = ap (app f) (same_values ts h)
 
-    same_values : (ts : Terms Variable) → ThroughoutAll P ts → valued_all v ts ≡ valued_all w ts
+    same_values : (ts : Terms Variable) → EachVariables P ts → valued_all v ts ≡ valued_all w ts
     same_values none h = refl
     same_values (more t ts) h = cc (same_value t h.0, same_values ts h.1)
 
@@ -43,17 +43,17 @@ module _ (v w : Values) (P : Variable → Type 0) (agree : (x : Variable) → P 
   abbrev made_action : Action Variable → Grounds → Action ⊥
   made_action a ts = record { symbol = a.symbol; args = ts }
 
-  same_facts : (fs : List (Fact Variable)) → Every (λ (f : Fact Variable). ThroughoutAll P f.args) fs → map (fact_at v) fs ≡ map (fact_at w) fs
+  same_facts : (fs : List (Fact Variable)) → Every (λ (f : Fact Variable). EachVariables P f.args) fs → map (fact_at v) fs ≡ map (fact_at w) fs
   same_facts fs h =
       map_each (fact_at v) (fact_at w) fs
-      (every_weaken (λ (f : Fact Variable). ThroughoutAll P f.args) (λ (f : Fact Variable). fact_at v f ≡ fact_at w f) (λ f k. ap (made_fact f) (same_values f.args k)) fs h)
+      (every_weaken (λ (f : Fact Variable). EachVariables P f.args) (λ (f : Fact Variable). fact_at v f ≡ fact_at w f) (λ f k. ap (made_fact f) (same_values f.args k)) fs h)
 
-  same_actions : (xs : List (Action Variable)) → Every (λ (a : Action Variable). ThroughoutAll P a.args) xs → map (action_at v) xs ≡ map (action_at w) xs
+  same_actions : (xs : List (Action Variable)) → Every (λ (a : Action Variable). EachVariables P a.args) xs → map (action_at v) xs ≡ map (action_at w) xs
   same_actions xs h =
       map_each (action_at v) (action_at w) xs
-      (every_weaken (λ (a : Action Variable). ThroughoutAll P a.args) (λ (a : Action Variable). action_at v a ≡ action_at w a) (λ a k. ap (made_action a) (same_values a.args k)) xs h)
+      (every_weaken (λ (a : Action Variable). EachVariables P a.args) (λ (a : Action Variable). action_at v a ≡ action_at w a) (λ a k. ap (made_action a) (same_values a.args k)) xs h)
 
-  pub same_instance_facts : (facts : Facts Variable) → OfArguments (ThroughoutAll P) facts → facts_at v facts ≡ facts_at w facts
+  pub same_instance_facts : (facts : Facts Variable) → OfArguments (EachVariables P) facts → facts_at v facts ≡ facts_at w facts
   same_instance_facts facts h =
       let made : List (Fact ⊥) → List (Action ⊥) → List (Fact ⊥) → Facts ⊥ = λ p a c. record { premises = p; actions = a; conclusions = c } in
       let p = same_facts facts.premises h.premises in

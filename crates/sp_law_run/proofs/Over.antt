@@ -4,14 +4,14 @@ use Rattle.sp_spec.specs.Lists.{Every}
 use Rattle.sp_spec.proofs.Lists.{every_member, every_map}
 use Rattle.sp_spec.specs.Term.{Variable, Term, var, constant, name, app, Terms, none, more, Values, count, valued, valued_all}
 use Rattle.sp_spec.specs.Signature.{Symbol, Equation, HasSymbol, IsOver, AreOver}
-use Rattle.sp_spec.specs.Rule.{Action, Facts, Rule, action_at}
+use Rattle.sp_spec.specs.Rule.{Action, Facts, Rule, action_at, OfArguments}
 use Rattle.sp_spec.specs.Theory.{Theory, signature_of}
 use Rattle.sp_spec.specs.Execution.{Step, make_fresh, use_rule, take_out, put_in, know_public, make_own, apply_symbol, State, Trace, IsInstance, HasSorts, with_entry, Runs, IsExecution}
 use Rattle.sp_law_equal.specs.Convergent.{KeepSymbols}
 use Rattle.sp_law_equal.specs.Normal.{normal_action}
 use Rattle.sp_law_equal.proofs.Over.{normal_all_over}
 use Rattle.sp_law_run.specs.NormalStep.{normal_trace}
-use Rattle.sp_law_run.specs.Right.{IsTermOver, AreTermsOver, OfArguments, RulesAreOver}
+use Rattle.sp_law_run.specs.Right.{IsTermOver, AreTermsOver, RulesAreOver}
 use Rattle.sp_law_run.specs.Laws.{IsTraceOver}
 
 count_valued : (v : Values) (ts : Terms Variable) → count (valued_all v ts) ≡ count ts

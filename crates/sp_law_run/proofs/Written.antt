@@ -1,31 +1,18 @@
 -- The rules that a text writes have each variable declared at its number, and no two variables of one name.
 use Rattle.std.proofs.Common.{◌≡◌, ⊎_elim, ℕ, zero, suc, Bool, true, false, ◌||◌, if◌then◌else◌, List, [], ◌∷◌, ◌++◌, map, inl, inr, refl, sym, ap, subst}
-use Rattle.std.proofs.lemmas.Bool.{or_cases, or_left, or_right, both_ways}
+use Rattle.std.proofs.lemmas.Bool.{both_ways}
 use Rattle.std.proofs.lemmas.Slice.Eq.{bytes_eq-Decides}
 use Rattle.std.specs.Str.{bytes_eq}
 use Rattle.sp_spec.specs.Lists.{Member, Every, Distinct, AtPlace}
-use Rattle.sp_spec.proofs.Lists.{every_map, every_parts, member_either, place_map, map-map}
-use Rattle.sp_spec.specs.Term.{Variable, Term, var, constant, name, app, Terms, none, more, count, valued, valued_all}
+use Rattle.sp_spec.proofs.Lists.{every_map, member_either, place_map, map-map}
+use Rattle.sp_spec.specs.Term.{Variable, Term, var, constant, name, app, Terms, none, more, count, valued, valued_all, EachVariable, EachVariables}
 use Rattle.sp_spec.specs.Signature.{Symbol, HasSymbol}
-use Rattle.sp_spec.specs.Rule.{Fact, Action, Facts, Declared, Rule, fact_at, action_at, facts_at}
+use Rattle.sp_spec.specs.Rule.{Fact, Action, Facts, Declared, Rule, fact_at, action_at, facts_at, OfArguments}
 use Rattle.sp_spec.specs.Formula.{Written}
-use Rattle.sp_spec.specs.Written.{WrittenRule, in_term, in_terms, in_facts, in_actions, occurrences, is_listed, names_after, rule_names, place_of, numbered_in, sort_in, rule_of}
-use Rattle.sp_law_run.specs.Right.{Throughout, ThroughoutAll, IsTermOver, AreTermsOver, OfArguments, IsDeclared, IsRight, AreRight, RulesAreOver}
-
-listed_append : (x : List ℕ) (xs ys : List (List ℕ)) → is_listed x xs ≡ true → is_listed x (xs ++ ys) ≡ true
-listed_append x [] ys e = absurd cc
-listed_append x (z ∷ xs) ys e =
-    ⊎_elim (λ h. or_left (bytes_eq z x) (is_listed x (xs ++ ys)) h) (λ h. or_right (bytes_eq z x) (is_listed x (xs ++ ys)) (listed_append x xs ys h))
-    (or_cases (bytes_eq z x) (is_listed x xs) e)
-
-listed_last : (x : List ℕ) (xs : List (List ℕ)) → is_listed x (xs ++ x ∷ []) ≡ true
-listed_last x [] = or_left (bytes_eq x x) false ((bytes_eq-Decides x x).1 refl)
-listed_last x (z ∷ xs) = or_right (bytes_eq z x) (is_listed x (xs ++ x ∷ [])) (listed_last x xs)
-
-listed_member : (x : List ℕ) (xs : List (List ℕ)) → Member x xs → is_listed x xs ≡ true
-listed_member x [] m = absurd m
-listed_member x (z ∷ xs) m =
-    ⊎_elim (λ e. or_left (bytes_eq z x) (is_listed x xs) ((bytes_eq-Decides z x).1 e)) (λ n. or_right (bytes_eq z x) (is_listed x xs) (listed_member x xs n)) m
+use Rattle.sp_spec.specs.Written.{WrittenRule, occurrences, is_listed, names_after, rule_names, place_of, numbered_in, sort_in, rule_of}
+use Rattle.sp_spec.proofs.Occurrences.{occurrences_each, names_have}
+use Rattle.sp_law_run.specs.Right.{IsTermOver, AreTermsOver, IsDeclared, IsRight, AreRight, RulesAreOver}
+use Rattle.sp_spec.proofs.Listed.{listed_member}
 
 distinct_last : (x : List ℕ) (xs : List (List ℕ)) → Distinct xs → (Member x xs → ⊥) → Distinct (xs ++ x ∷ [])
 distinct_last x [] d n = ((λ m. m), tt)
@@ -37,26 +24,9 @@ distinct_last x (z ∷ xs) d n = (
 abbrev seen_then : Bool → List (List ℕ) → Written → List (List ℕ)
 seen_then b seen x = if b then seen else seen ++ x.name ∷ []
 
-listed_then : (b : Bool) (y : List ℕ) (seen : List (List ℕ)) (x : Written) → is_listed y seen ≡ true → is_listed y (seen_then b seen x) ≡ true
-listed_then true y seen x e = e
-listed_then false y seen x e = listed_append y seen (x.name ∷ []) e
-
-listed_here : (b : Bool) (seen : List (List ℕ)) (x : Written) → is_listed x.name seen ≡ b → is_listed x.name (seen_then b seen x) ≡ true
-listed_here true seen x e = e
-listed_here false seen x e = listed_last x.name seen
-
 distinct_then : (b : Bool) (seen : List (List ℕ)) (x : Written) → is_listed x.name seen ≡ b → Distinct seen → Distinct (seen_then b seen x)
 distinct_then true seen x e d = d
 distinct_then false seen x e d = distinct_last x.name seen d (λ m. both_ways (is_listed x.name seen) e (listed_member x.name seen m))
-
-names_keep : (y : List ℕ) (seen : List (List ℕ)) (xs : List Written) → is_listed y seen ≡ true → is_listed y (names_after seen xs) ≡ true
-names_keep y seen [] e = e
-names_keep y seen (x ∷ xs) e = let b = is_listed x.name seen in names_keep y (seen_then b seen x) xs (listed_then b y seen x e)
-
-names_have : (seen : List (List ℕ)) (xs : List Written) → Every (λ (x : Written). is_listed x.name (names_after seen xs) ≡ true) xs
-names_have seen [] = tt
-names_have seen (x ∷ xs) =
-    let b = is_listed x.name seen in (names_keep x.name (seen_then b seen x) xs (listed_here b seen x refl), names_have (seen_then b seen x) xs)
 
 names_distinct : (seen : List (List ℕ)) (xs : List Written) → Distinct seen → Distinct (names_after seen xs)
 names_distinct seen [] d = d
@@ -72,37 +42,6 @@ place_there x (z ∷ xs) e = at (bytes_eq z x) (λ h. (bytes_eq-Decides z x).0 h
     at true h e later = h refl
     at false h e later = later e
 
--- what holds of each occurrence holds throughout the facts
-module _ (P : Written → Type 0) where
-  mutual
-    term_each : (t : Term Written) → Every P (in_term t) → Throughout P t
-    term_each (var x) h = h.0
-    term_each (constant c) h = tt
-    term_each (name n) h = tt
-    term_each (app f ts) h = terms_each ts h
-
-    terms_each : (ts : Terms Written) → Every P (in_terms ts) → ThroughoutAll P ts
-    terms_each none h = tt
-    terms_each (more t ts) h = let both = every_parts P (in_term t) (in_terms ts) h in (term_each t both.0, terms_each ts both.1)
-
-  facts_each : (fs : List (Fact Written)) → Every P (in_facts fs) → Every (λ (f : Fact Written). ThroughoutAll P f.args) fs
-  facts_each [] h = tt
-  facts_each (f ∷ fs) h = let both = every_parts P (in_terms f.args) (in_facts fs) h in (terms_each f.args both.0, facts_each fs both.1)
-
-  actions_each : (xs : List (Action Written)) → Every P (in_actions xs) → Every (λ (a : Action Written). ThroughoutAll P a.args) xs
-  actions_each [] h = tt
-  actions_each (a ∷ xs) h = let both = every_parts P (in_terms a.args) (in_actions xs) h in (terms_each a.args both.0, actions_each xs both.1)
-
-  occurrences_each : (facts : Facts Written) → Every P (occurrences facts) → OfArguments (ThroughoutAll P) facts
-  occurrences_each facts h =
-      let first = every_parts P (in_facts facts.premises) (in_actions facts.actions ++ in_facts facts.conclusions) h in
-      let second = every_parts P (in_actions facts.actions) (in_facts facts.conclusions) first.1 in
-      record {
-        premises = facts_each facts.premises first.0;
-        actions = actions_each facts.actions second.0;
-        conclusions = facts_each facts.conclusions second.1;
-      }
-
 -- what holds of the arguments holds of them with terms put for their variables
 arguments_valued : (P : Terms Written → Type 0) (Q : Terms Variable → Type 0) (v : Written → Term Variable) → ((ts : Terms Written) → P ts → Q (valued_all v ts)) →
     (facts : Facts Written) → OfArguments P facts → OfArguments Q (facts_at v facts)
@@ -112,17 +51,17 @@ arguments_valued P Q v h facts k = record {
   conclusions = every_map (λ (f : Fact Written). P f.args) (λ (f : Fact Variable). Q f.args) (fact_at v) (λ f p. h f.args p) facts.conclusions k.conclusions;
 }
 
-module _ (P : Written → Type 0) (Q : Variable → Type 0) (v : Written → Term Variable) (gives : (x : Written) → P x → Throughout Q (v x)) where
+module _ (P : Written → Type 0) (Q : Variable → Type 0) (v : Written → Term Variable) (gives : (x : Written) → P x → EachVariable Q (v x)) where
   mutual
-    throughout_valued : (t : Term Written) → Throughout P t → Throughout Q (valued v t)
-    throughout_valued (var x) h = gives x h
-    throughout_valued (constant c) h = tt
-    throughout_valued (name n) h = tt
-    throughout_valued (app f ts) h = throughout_all_valued ts h
+    each_valued : (t : Term Written) → EachVariable P t → EachVariable Q (valued v t)
+    each_valued (var x) h = gives x h
+    each_valued (constant c) h = tt
+    each_valued (name n) h = tt
+    each_valued (app f ts) h = each_valued_all ts h
 
-    throughout_all_valued : (ts : Terms Written) → ThroughoutAll P ts → ThroughoutAll Q (valued_all v ts)
-    throughout_all_valued none h = tt
-    throughout_all_valued (more t ts) h = (throughout_valued t h.0, throughout_all_valued ts h.1)
+    each_valued_all : (ts : Terms Written) → EachVariables P ts → EachVariables Q (valued_all v ts)
+    each_valued_all none h = tt
+    each_valued_all (more t ts) h = (each_valued t h.0, each_valued_all ts h.1)
 
 rule_right : (r : WrittenRule) → IsRight (rule_of r)
 rule_right r =
@@ -131,8 +70,8 @@ rule_right r =
     let IsListed : Written → Type 0 = λ y. is_listed y.name listed ≡ true in
     let names_again : map (λ (d : Declared). d.name) (map declared listed) ≡ listed = same_names declared listed (λ x. refl) in
     record {
-      declared = arguments_valued (ThroughoutAll IsListed) (ThroughoutAll (IsDeclared (map declared listed))) (numbered_in r.facts)
-          (throughout_all_valued IsListed (IsDeclared (map declared listed)) (numbered_in r.facts)
+      declared = arguments_valued (EachVariables IsListed) (EachVariables (IsDeclared (map declared listed))) (numbered_in r.facts)
+          (each_valued_all IsListed (IsDeclared (map declared listed)) (numbered_in r.facts)
           (λ y h. (declared y.name, place_map declared listed (place_of y.name listed) y.name (place_there y.name listed h), refl)))
           r.facts (occurrences_each IsListed r.facts (names_have [] (occurrences r.facts)));
       distinct = subst (λ (xs : List (List ℕ)). Distinct xs) (sym names_again) (names_distinct [] (occurrences r.facts) tt);

@@ -2,14 +2,14 @@
 use Rattle.std.specs.Prelude.{◌≡◌, List, map, Some}
 use Rattle.sp_spec.specs.Lists.{Every, Distinct}
 use Rattle.sp_spec.specs.Signature.{Symbol, Equation, AreOver}
-use Rattle.sp_spec.specs.Rule.{Fact, Action}
+use Rattle.sp_spec.specs.Rule.{Fact, Action, OfArguments}
 use Rattle.sp_spec.specs.Theory.{Theory, signature_of}
 use Rattle.sp_spec.specs.Written.{WrittenRule, rule_of}
 use Rattle.sp_spec.specs.Execution.{Step, State, Trace, Takes, Runs, IsExecution}
 use Rattle.sp_law_equal.specs.Convergent.{AreConvergent, KeepSymbols}
 use Rattle.sp_law_equal.specs.Normal.{normal_fact}
 use Rattle.sp_law_run.specs.NormalStep.{normal_trace}
-use Rattle.sp_law_run.specs.Right.{AreTermsOver, OfArguments, AreRight, RulesAreOver}
+use Rattle.sp_law_run.specs.Right.{AreTermsOver, AreRight, RulesAreOver}
 use Rattle.sp_law_run.specs.Taken.{SameFacts, taken}
 
 -- Over convergent equations facts can be taken from a state exactly where their normal forms can be taken, each from the first place where it

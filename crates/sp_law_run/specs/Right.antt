@@ -2,21 +2,9 @@
 -- Source: Tamarin manual, "Model specification using rules".
 use Rattle.std.specs.Prelude.{◌≡◌, List, map}
 use Rattle.sp_spec.specs.Lists.{Every, Distinct, AtPlace}
-use Rattle.sp_spec.specs.Term.{Variable, Term, var, constant, name, app, Terms, none, more, count}
+use Rattle.sp_spec.specs.Term.{Variable, Term, var, constant, name, app, Terms, none, more, count, EachVariables}
 use Rattle.sp_spec.specs.Signature.{Symbol, HasSymbol}
-use Rattle.sp_spec.specs.Rule.{Fact, Action, Facts, Declared, Rule}
-
--- it holds of each variable that stands in the term
-abbrev mutual
-  pub Throughout : {V : Type 0} → (V → Type 0) → Term V → Type 0
-  Throughout P (var x) = P x
-  Throughout P (constant c) = Unit {0}
-  Throughout P (name n) = Unit {0}
-  Throughout P (app f ts) = ThroughoutAll P ts
-
-  pub ThroughoutAll : {V : Type 0} → (V → Type 0) → Terms V → Type 0
-  ThroughoutAll P none = Unit {0}
-  ThroughoutAll P (more t ts) = Throughout P t × ThroughoutAll P ts
+use Rattle.sp_spec.specs.Rule.{Declared, Rule, OfArguments}
 
 -- each symbol of the term is one of these, over as many arguments as its arity
 abbrev mutual
@@ -30,19 +18,13 @@ abbrev mutual
   AreTermsOver symbols none = Unit {0}
   AreTermsOver symbols (more t ts) = IsTermOver symbols t × AreTermsOver symbols ts
 
--- it holds of the arguments of each fact and each action
-pub record OfArguments {V : Type 0} (P : Terms V → Type 0) (facts : Facts V) : Type 0 where
-  pub premises : Every (λ (f : Fact V). P f.args) facts.premises
-  pub actions : Every (λ (a : Action V). P a.args) facts.actions
-  pub conclusions : Every (λ (f : Fact V). P f.args) facts.conclusions
-
 -- the variable stands in the list at its number, with its sort
 abbrev pub IsDeclared : List Declared → Variable → Type 0
 IsDeclared variables x = (d : Declared) × AtPlace variables x.number d × (d.sort ≡ x.sort)
 
 -- each variable of the rule is declared, and no two have one name
 pub record IsRight (r : Rule) : Type 0 where
-  pub declared : OfArguments (ThroughoutAll (IsDeclared r.variables)) r.facts
+  pub declared : OfArguments (EachVariables (IsDeclared r.variables)) r.facts
   pub distinct : Distinct (map (λ (d : Declared). d.name) r.variables)
 
 -- the rules are right, and no two have one name

@@ -1,12 +1,11 @@
 -- The logs of steps of a theory that is searched are executions.
 use Rattle.sp_spec.specs.Lists.{Every}
 use Rattle.sp_spec.proofs.Lists.{every_weaken}
-use Rattle.sp_spec.specs.Rule.{Rule}
+use Rattle.sp_spec.specs.Rule.{Rule, OfArguments}
 use Rattle.sp_spec.specs.Theory.{signature_of}
 use Rattle.sp_spec.specs.Written.{WrittenTheory, theory_of}
 use Rattle.sp_law_equal.specs.Convergent.{ArePlain}
 use Rattle.sp_law_equal.proofs.Pairs.{pairs_convergent, pairs_keep_symbols}
-use Rattle.sp_law_run.specs.Right.{OfArguments}
 use Rattle.sp_law_run.proofs.Written.{rules_right}
 use Rattle.sp_law_found.specs.Executable.{TakesFreshNames, IsExecutable}
 use Rattle.sp_step.specs.Laws.{FactsArePlain, IsClosedRule}

@@ -1,7 +1,7 @@
 -- What was found true over the trace of a log of steps is true over it, and over the trace of its execution.
-use Rattle.std.proofs.Common.{◌≡◌, ℕ, zero, true, List, [], ◌∷◌, Some, refl, sym, subst, inl, inr}
+use Rattle.std.proofs.Common.{◌≡◌, ℕ, zero, true, List, [], ◌∷◌, Some, sym, subst}
 use Rattle.std.specs.Prelude.{◌↔◌}
-use Rattle.sp_spec.specs.Lists.{Member, Every}
+use Rattle.sp_spec.specs.Lists.{Every, newest_first}
 use Rattle.sp_spec.specs.Term.{Term, var, constant, name, app, Terms, none, more}
 use Rattle.sp_spec.specs.Signature.{Signature}
 use Rattle.sp_spec.specs.Theory.{Restriction, Lemma, Theory, signature_of}
@@ -26,7 +26,6 @@ use Rattle.sp_law_decide.proofs.Told.{told}
 use Rattle.sp_law_run.proofs.Over.{execution_over}
 use Rattle.sp_law_found.specs.Found.{execution_of}
 use Rattle.sp_law_found.proofs.Runs.{log_runs}
-use Rattle.sp_ground.specs.View.{newest_first}
 use Rattle.sp_check.specs.PlainTheory.{IsPlainFormula}
 use Rattle.sp_check.proofs.Flat.{FlatTerm, FlatTerms}
 use Rattle.sp_check.proofs.Forms.{RightAtom, IsRight, right_negation, right_timed}
@@ -37,7 +36,9 @@ use Rattle.sp_log.proofs.Checks.{log_decides}
 use Rattle.sp_law_shown.specs.Shown.{IsSearched, FoundBreaks, FoundSatisfies}
 use Rattle.sp_law_shown.specs.Laws.{FoundLogsShow}
 use Rattle.sp_law_shown.proofs.Executable.{executable, checkable}
-use Rattle.sp_law_shown.proofs.Traces.{plain_rules_over, normal_trace, visible_equal}
+use Rattle.sp_law_shown.proofs.Traces.{normal_trace, visible_equal}
+use Rattle.sp_check.proofs.PlainOver.{plain_rules_over}
+use Rattle.sp_spec.proofs.Lists.{each_among}
 
 -- ---- no symbol stands in flat atoms
 
@@ -77,10 +78,6 @@ module _ (signature : Signature) where
     each_plain : (n : ℕ) (gs : Guardeds) → ThroughoutEach RightAtom n gs → ArePlain signature gs
     each_plain n no_more h = tt
     each_plain n (and_then g gs) h = (right_plain n g h.0, each_plain n gs h.1)
-
-each_among : {A : Type 0} (xs ys : List A) → ((x : A) → Member x xs → Member x ys) → Every (λ x. Member x ys) xs
-each_among [] ys h = tt
-each_among (x ∷ xs) ys h = (h x (inl refl), each_among xs ys (λ z m. h z (inr m)))
 
 -- ---- truth
 

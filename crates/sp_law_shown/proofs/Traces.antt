@@ -1,47 +1,20 @@
 -- The trace of a log of steps is in normal form and over the signature, and the visible trace shows as much of it.
-use Rattle.std.proofs.Common.{◌≡◌, ℕ, List, [], ◌∷◌, map, refl, sym, ap, ◌∙◌, subst}
+use Rattle.std.proofs.Common.{◌≡◌, ℕ, List, [], ◌∷◌, refl, sym, ap, ◌∙◌, subst}
 use Rattle.sp_spec.specs.Lists.{Every}
-use Rattle.sp_spec.proofs.Lists.{every_both, every_weaken}
-use Rattle.sp_spec.specs.Term.{Term, var, constant, name, app, Terms, none, more, Grounds}
+use Rattle.sp_spec.proofs.Lists.{every_both}
+use Rattle.sp_spec.specs.Term.{name}
 use Rattle.sp_spec.specs.Signature.{Symbol, Equation, AreOver}
-use Rattle.sp_spec.specs.Equal.{end, EqualAll, AreNormal}
+use Rattle.sp_spec.specs.Equal.{end, AreNormal}
 use Rattle.sp_spec.specs.Rule.{Action, AreNormalActions}
-use Rattle.sp_spec.specs.Formula.{Written}
 use Rattle.sp_spec.specs.Theory.{Theory, signature_of}
-use Rattle.sp_spec.specs.Written.{WrittenRule, rule_of}
 use Rattle.sp_spec.specs.Execution.{Trace, with_entry}
 use Rattle.sp_spec.specs.Log.{Log, step, send, learn, log_trace, visible_trace, IsLog}
-use Rattle.sp_law_truth.specs.Same.{SameActions, EqualTraces}
+use Rattle.sp_law_truth.specs.Same.{EqualTraces}
 use Rattle.sp_law_truth.specs.Shown.{only_actions, shown}
 use Rattle.sp_law_decide.specs.Normal.{IsNormalAction, IsNormalTrace}
-use Rattle.sp_law_run.specs.Right.{IsTermOver, AreTermsOver, OfArguments, RulesAreOver}
 use Rattle.sp_law_run.specs.Laws.{IsTraceOver}
-use Rattle.sp_law_run.proofs.Written.{rules_over}
 use Rattle.sp_law_erase.specs.Adversary.{HasStepsAlone}
-use Rattle.sp_check.specs.PlainTheory.{IsAtomic, AreAtomic, IsPlainFact, IsPlainAction, IsPlainRule}
-
--- ---- no symbol stands in a plain rule
-
-module _ (symbols : List Symbol) where
-  atomic_over : (t : Term Written) → IsAtomic t → IsTermOver symbols t
-  atomic_over (var x) h = tt
-  atomic_over (constant c) h = tt
-  atomic_over (name n) h = tt
-  atomic_over (app f ts) h = absurd h
-
-  atomics_over : (ts : Terms Written) → AreAtomic ts → AreTermsOver symbols ts
-  atomics_over none h = tt
-  atomics_over (more t ts) h = (atomic_over t h.0, atomics_over ts h.1)
-
-  rule_over : (r : WrittenRule) → IsPlainRule r → OfArguments (AreTermsOver symbols) r.facts
-  rule_over r h = record {
-    premises = every_weaken IsPlainFact _ (λ f k. atomics_over f.args k.0) r.facts.premises h.premises;
-    actions = every_weaken IsPlainAction _ (λ a k. atomics_over a.args k.0) r.facts.actions h.actions;
-    conclusions = every_weaken IsPlainFact _ (λ f k. atomics_over f.args k.0) r.facts.conclusions h.conclusions;
-  }
-
-  pub plain_rules_over : (rs : List WrittenRule) → Every IsPlainRule rs → RulesAreOver symbols (map rule_of rs)
-  plain_rules_over rs h = rules_over symbols rs (every_weaken IsPlainRule _ rule_over rs h)
+use Rattle.sp_law_truth.proofs.Itself.{trace_itself}
 
 -- ---- normal forms
 
@@ -96,18 +69,6 @@ visible_shown names (send m ∷ past) alone = absurd alone.0
 visible_shown names (learn m how ∷ past) alone = absurd alone.0
 
 module _ (es : List Equation) where
-  equal_itself : (ts : Grounds) → EqualAll es ts ts
-  equal_itself none = tt
-  equal_itself (more t ts) = (end, equal_itself ts)
-
-  actions_itself : (xs : List (Action ⊥)) → SameActions es xs xs
-  actions_itself [] = tt
-  actions_itself (x ∷ xs) = ((refl, equal_itself x.args), actions_itself xs)
-
-  trace_itself : (trace : Trace) → EqualTraces es trace trace
-  trace_itself [] = tt
-  trace_itself (entry ∷ trace) = (actions_itself entry, trace_itself trace)
-
   pub visible_equal : (names : List (List ℕ)) (log : Log) → HasStepsAlone log → EqualTraces es (shown names (log_trace log)) (shown names (visible_trace log))
   visible_equal names log alone =
-      subst (λ (trace : Trace). EqualTraces es (shown names (log_trace log)) trace) (visible_shown names log alone) (trace_itself (shown names (log_trace log)))
+      subst (λ (trace : Trace). EqualTraces es (shown names (log_trace log)) trace) (visible_shown names log alone) (trace_itself es (shown names (log_trace log)))

@@ -7,7 +7,7 @@ use Rattle.sp_spec.specs.Log.{Entry, log_trace}
 use Rattle.sp_law_guard.specs.GuardedForm.{negate}
 use Rattle.sp_law_guard.specs.CheckedForm.{checked_form}
 use Rattle.sp_law_decide.specs.Deciding.{decided, empty}
-use Rattle.sp_ground.specs.View.{newest_first}
+use Rattle.sp_spec.specs.Lists.{newest_first}
 use Rattle.sp_check.specs.PlainTheory.{IsPlainFormula}
 use Rattle.sp_log.specs.Checking.{is_log}
 use Rattle.sp_law_shown.specs.Shown.{IsSearched, FoundBreaks, FoundSatisfies}

@@ -7,3 +7,4 @@ pub mod ActsAlike
 pub mod Only
 pub mod EqualTraces
 pub mod Shown
+pub mod Itself

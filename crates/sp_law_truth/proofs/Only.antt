@@ -3,30 +3,22 @@ use Rattle.std.proofs.Common.{◌≡◌, ℕ, Bool, true, false, cond, ◌||◌,
 use Rattle.std.specs.Prelude.{◌↔◌}
 use Rattle.std.specs.Str.{bytes_eq}
 use Rattle.std.proofs.lemmas.Slice.Eq.{bytes_eq-Decides}
-use Rattle.sp_spec.specs.Lists.{Member, Every, AtPosition}
+use Rattle.sp_spec.specs.Lists.{Member, Every, AtPosition, is_listed}
 use Rattle.sp_spec.specs.Signature.{Equation, Signature}
 use Rattle.sp_spec.specs.Rule.{Action, SameAction}
 use Rattle.sp_spec.specs.Execution.{Trace}
 use Rattle.sp_spec.specs.Truth.{Acts}
 use Rattle.sp_spec.specs.Guarded.{Guarded, Assignment, GuardedHolds}
-use Rattle.sp_law_truth.specs.Shown.{is_among, only_actions, only, action_names}
+use Rattle.sp_law_truth.specs.Shown.{only_actions, only, action_names}
 use Rattle.sp_law_equal.proofs.Chains.{same_action_sym, same_action_trans}
 use Rattle.sp_law_truth.proofs.ActsAlike.{ActsAlike, equal_assignment, formula_alike}
+use Rattle.sp_spec.proofs.Listed.{listed_member}
 
-pub member_is_among : (s : List ℕ) (names : List (List ℕ)) → Member s names → is_among s names ≡ true
-member_is_among s [] m = absurd m
-member_is_among s (name ∷ names) (inl e) = rw ((bytes_eq-Decides name s).1 e) refl
-member_is_among s (name ∷ names) (inr m) = at (bytes_eq name s) (member_is_among s names m)
-  where
-    at : (b : Bool) → is_among s names ≡ true → (b || is_among s names) ≡ true
-    at true h = refl
-    at false h = h
-
-pub is_among_member : (s : List ℕ) (names : List (List ℕ)) → is_among s names ≡ true → Member s names
+pub is_among_member : (s : List ℕ) (names : List (List ℕ)) → is_listed s names ≡ true → Member s names
 is_among_member s [] h = cc
 is_among_member s (name ∷ names) h = at (bytes_eq name s) refl h (is_among_member s names)
   where
-    at : (b : Bool) → bytes_eq name s ≡ b → (b || is_among s names) ≡ true → (is_among s names ≡ true → Member s names) → Member s (name ∷ names)
+    at : (b : Bool) → bytes_eq name s ≡ b → (b || is_listed s names) ≡ true → (is_listed s names ≡ true → Member s names) → Member s (name ∷ names)
     at true e h below = inl ((bytes_eq-Decides name s).0 e)
     at false e h below = inr (below h)
 
@@ -48,8 +40,8 @@ position_only names (e ∷ trace) p kept (inr h) = let r = position_only names t
 
 pub only_member : (names : List (List ℕ)) (actions : List (Action ⊥)) (a : Action ⊥) → Member a.symbol names → Member a actions → Member a (only_actions names actions)
 only_member names [] a named m = absurd m
-only_member names (b ∷ actions) a named (inl e) = rw (ap (λ (x : Action ⊥). is_among x.symbol names) e ∙ member_is_among a.symbol names named) (inl e)
-only_member names (b ∷ actions) a named (inr m) = at (is_among b.symbol names) (only_member names actions a named m)
+only_member names (b ∷ actions) a named (inl e) = rw (ap (λ (x : Action ⊥). is_listed x.symbol names) e ∙ listed_member a.symbol names named) (inl e)
+only_member names (b ∷ actions) a named (inr m) = at (is_listed b.symbol names) (only_member names actions a named m)
   where
     at : (t : Bool) → Member a (only_actions names actions) → Member a (cond t (b ∷ only_actions names actions) (only_actions names actions))
     at true h = inr h
@@ -57,7 +49,7 @@ only_member names (b ∷ actions) a named (inr m) = at (is_among b.symbol names)
 
 pub member_only : (names : List (List ℕ)) (actions : List (Action ⊥)) (a : Action ⊥) → Member a (only_actions names actions) → Member a actions
 member_only names [] a m = absurd m
-member_only names (b ∷ actions) a m = at (is_among b.symbol names) m (member_only names actions a)
+member_only names (b ∷ actions) a m = at (is_listed b.symbol names) m (member_only names actions a)
   where
     at : (t : Bool) → Member a (cond t (b ∷ only_actions names actions) (only_actions names actions)) → (Member a (only_actions names actions) → Member a actions) → Member a (b ∷ actions)
     at true (inl e) below = inl e

@@ -1,18 +1,14 @@
 -- What a formula doesn't see of a trace: actions that it doesn't name, and entries without actions.
-use Rattle.std.specs.Prelude.{◌≡◌, ◌⊎◌, ◌<◌, ℕ, zero, suc, Bool, false, ◌||◌, if◌then◌else◌, List, [], ◌∷◌, ◌++◌}
-use Rattle.std.specs.Str.{bytes_eq}
+use Rattle.std.specs.Prelude.{◌≡◌, ◌⊎◌, ◌<◌, ℕ, zero, suc, if◌then◌else◌, List, [], ◌∷◌, ◌++◌}
+use Rattle.sp_spec.specs.Lists.{is_listed}
 use Rattle.sp_spec.specs.Rule.{Action}
 use Rattle.sp_spec.specs.Execution.{Trace, with_entry}
 use Rattle.sp_spec.specs.Guarded.{Time, free_time, bound_time, Binder, message, time, Atom, acts, same, same_time, before, last, Guarded, Guardeds, truth, falsity, holds, fails, all_of, one_of, some, every, no_more, and_then}
 
-abbrev pub is_among : List ℕ → List (List ℕ) → Bool
-is_among s [] = false
-is_among s (name ∷ names) = bytes_eq name s || is_among s names
-
 -- those whose symbols are among the names
 abbrev pub only_actions : List (List ℕ) → List (Action ⊥) → List (Action ⊥)
 only_actions names [] = []
-only_actions names (action ∷ actions) = if is_among action.symbol names then action ∷ only_actions names actions else only_actions names actions
+only_actions names (action ∷ actions) = if is_listed action.symbol names then action ∷ only_actions names actions else only_actions names actions
 
 -- the positions stay, though entries become empty
 abbrev pub only : List (List ℕ) → Trace → Trace

@@ -1,4 +1,4 @@
--- How many of the pairs' variables pass a test, how many there are, and which.
+-- How many of the pairs' in_term pass a test, how many there are, and which.
 use Rattle.std.proofs.Common.{◌≡◌, ℕ, ◌≤◌, ◌<◌, Bool, true, false, ◌||◌, cond, List, [], ◌∷◌, ◌++◌, length, length-append, refl, sym, ap, ap₂, ◌∙◌, arith, ⊎_elim, true≢false}
 use Rattle.std.proofs.lemmas.Bool.{or_cases}
 use Rattle.std.specs.List.{filter}
@@ -6,10 +6,11 @@ use Rattle.sp_spec.specs.Term.{Variable, Term, var, constant, name, app, Terms, 
 use Rattle.sp_spec.specs.Same.{same_variable}
 use Rattle.sp_spec.specs.Substitution.{bound_to}
 use Rattle.sp_spec.specs.Unifier.{Pair, occurs, occurs_in, occurrences, occurrences_in, occurrences_of}
-use Rattle.sp_law_equal.proofs.Tests.{same_variable_decides}
-use Rattle.sp_law_unify.specs.Progress.{variables, variables_in, variables_of, listed, occurs_under}
+use Rattle.sp_spec.proofs.Same.{same_variable_decides}
+use Rattle.sp_law_unify.specs.Progress.{variables_of, listed, occurs_under}
+use Rattle.sp_spec.specs.Term.{in_term, in_terms}
 
--- The one test holds of fewer variables of a list than the other, where it holds of no more and not of one of them.
+-- The one test holds of fewer in_term of a list than the other, where it holds of no more and not of one of them.
 module _ (p q : Variable → Bool) (implies : (y : Variable) → p y ≡ true → q y ≡ true) where
   abbrev passed : (Variable → Bool) → List Variable → ℕ
   passed test ys = length (filter test ys)
@@ -47,25 +48,25 @@ module _ (p q : Variable → Bool) (implies : (y : Variable) → p y ≡ true �
       later false false h lt = lt
 
 mutual
-  occurrences-length : (t : Term Variable) → length (variables t) ≡ occurrences t
+  occurrences-length : (t : Term Variable) → length (in_term t) ≡ occurrences t
   occurrences-length (var x) = refl
   occurrences-length (constant c) = refl
   occurrences-length (name n) = refl
   occurrences-length (app f ts) = occurrences_in-length ts
 
-  occurrences_in-length : (ts : Terms Variable) → length (variables_in ts) ≡ occurrences_in ts
+  occurrences_in-length : (ts : Terms Variable) → length (in_terms ts) ≡ occurrences_in ts
   occurrences_in-length none = refl
   occurrences_in-length (more t ts) =
-      omega (arith, length-append (variables t) (variables_in ts), occurrences-length t, occurrences_in-length ts)
+      omega (arith, length-append (in_term t) (in_terms ts), occurrences-length t, occurrences_in-length ts)
 
--- the variables of the pairs are as many as the definition counts
+-- the in_term of the pairs are as many as the definition counts
 pub occurrences_of-length : (pairs : List Pair) → length (variables_of pairs) ≡ occurrences_of pairs
 occurrences_of-length [] = refl
 occurrences_of-length (p ∷ pairs) =
     omega (
       arith,
-      length-append (variables p.0 ++ variables p.1) (variables_of pairs),
-      length-append (variables p.0) (variables p.1),
+      length-append (in_term p.0 ++ in_term p.1) (variables_of pairs),
+      length-append (in_term p.0) (in_term p.1),
       occurrences-length p.0,
       occurrences-length p.1,
       occurrences_of-length pairs,
@@ -81,7 +82,7 @@ module _ (x : Variable) where
       at false e = e
 
   mutual
-    listed-occurs : (t : Term Variable) → listed x (variables t) ≡ occurs x (valued (bound_to []) t)
+    listed-occurs : (t : Term Variable) → listed x (in_term t) ≡ occurs x (valued (bound_to []) t)
     listed-occurs (var y) = at (same_variable x y)
       where
         at : (a : Bool) → (a || false) ≡ a
@@ -91,13 +92,13 @@ module _ (x : Variable) where
     listed-occurs (name n) = refl
     listed-occurs (app f ts) = listed-occurs_in ts
 
-    listed-occurs_in : (ts : Terms Variable) → listed x (variables_in ts) ≡ occurs_in x (valued_all (bound_to []) ts)
+    listed-occurs_in : (ts : Terms Variable) → listed x (in_terms ts) ≡ occurs_in x (valued_all (bound_to []) ts)
     listed-occurs_in none = refl
-    listed-occurs_in (more t ts) = listed-append (variables t) (variables_in ts) ∙ ap₂ ◌||◌ (listed-occurs t) (listed-occurs_in ts)
+    listed-occurs_in (more t ts) = listed-append (in_term t) (in_terms ts) ∙ ap₂ ◌||◌ (listed-occurs t) (listed-occurs_in ts)
 
-  -- without bindings the listed variables are those that occur
+  -- without bindings the listed in_term are those that occur
   pub listed-occurs_under : (pairs : List Pair) → listed x (variables_of pairs) ≡ occurs_under [] pairs x
   listed-occurs_under [] = refl
   listed-occurs_under (p ∷ pairs) =
-      listed-append (variables p.0 ++ variables p.1) (variables_of pairs)
-      ∙ ap₂ ◌||◌ (listed-append (variables p.0) (variables p.1) ∙ ap₂ ◌||◌ (listed-occurs p.0) (listed-occurs p.1)) (listed-occurs_under pairs)
+      listed-append (in_term p.0 ++ in_term p.1) (variables_of pairs)
+      ∙ ap₂ ◌||◌ (listed-append (in_term p.0) (in_term p.1) ∙ ap₂ ◌||◌ (listed-occurs p.0) (listed-occurs p.1)) (listed-occurs_under pairs)

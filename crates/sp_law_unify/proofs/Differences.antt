@@ -6,7 +6,7 @@ use Rattle.std.specs.Str.{bytes_eq}
 use Rattle.sp_spec.specs.Term.{Sort, Msg, Fresh, Pub, Variable, Term, var, constant, name, app, Terms, none, more, valued, valued_all}
 use Rattle.sp_spec.specs.Same.{same_variable}
 use Rattle.sp_spec.specs.Unifier.{Difference, no_difference, clash, binding, occurs, may_stand, with_term, by_number, by_sorts, with_variable, or_then, difference, differences}
-use Rattle.sp_law_equal.proofs.Tests.{same_fields, same_variable_decides}
+use Rattle.sp_spec.proofs.Same.{same_fields, same_variable_decides}
 use Rattle.sp_law_unify.specs.MostGeneral.{IsOfSort, Precedes}
 use Rattle.sp_law_unify.proofs.Values.{IsNoVariable, no_part}
 use Rattle.sp_law_unify.proofs.Sorts.{AreSorts, same_sort_stands, may_stand_is, may_stand_by_value}

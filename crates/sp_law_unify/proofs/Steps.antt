@@ -6,7 +6,7 @@ use Rattle.sp_spec.specs.Term.{Sort, Msg, Fresh, Pub, Variable, Term, var, const
 use Rattle.sp_spec.specs.Same.{same_variable}
 use Rattle.sp_spec.specs.Substitution.{Binding, lookup, bound_to, followed_by}
 use Rattle.sp_spec.specs.Unifier.{Pair, Difference, no_difference, clash, binding, occurs, occurs_in, may_stand, with_term, by_number, by_sorts, with_variable, or_then, difference, differences, first_difference}
-use Rattle.sp_law_equal.proofs.Tests.{same_variable_decides}
+use Rattle.sp_spec.proofs.Same.{same_variable_decides}
 use Rattle.sp_law_unify.specs.Progress.{occurs_under}
 
 -- the test tells the variables apart in either order

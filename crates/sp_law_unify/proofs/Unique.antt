@@ -1,13 +1,13 @@
 -- Two most general unifiers are one, and the unifier of the definition is one.
 use Rattle.std.proofs.Common.{◌≡◌, List, Option, Some, None, ◌⊎◌, ⊎_elim, refl, sym, ap, ◌∙◌, subst, arith}
-use Rattle.sp_spec.specs.Term.{Sort, Msg, Fresh, Pub, Variable, Term, var, constant, name, app, Terms, none, more, Values, valued, valued_all}
-use Rattle.sp_spec.specs.Signature.{HasSort}
+use Rattle.sp_spec.specs.Term.{Variable, Term, var, constant, name, app, Terms, none, more, Values, valued, valued_all}
 use Rattle.sp_spec.specs.Substitution.{Binding, bound_to}
 use Rattle.sp_spec.specs.Unifier.{Pair, mgu}
 use Rattle.sp_law_equal.specs.Matching.{any_of}
 use Rattle.sp_law_unify.specs.MostGeneral.{Substitution, AreSolution, values_after, Precedes, IsMostGeneral, HaveNoSolution}
 use Rattle.sp_law_unify.specs.Laws.{UnifierIsMostGeneral, MostGeneralIsOne}
 use Rattle.sp_law_unify.proofs.Finding.{Answers, answers}
+use Rattle.sp_law_equal.proofs.Matches.{any_has_sort}
 
 not_both : (x y : Variable) → Precedes y x → Precedes x y → ⊥
 not_both x y h k =
@@ -56,11 +56,6 @@ one_most_general pairs bs cs h k x =
 -- the values after a most general unifier, where each variable left has some value of its sort
 abbrev some_values : Values
 some_values x = any_of x.sort
-
-any_has_sort : (s : Sort) → HasSort s (any_of s)
-any_has_sort Msg = tt
-any_has_sort Fresh = tt
-any_has_sort Pub = tt
 
 has_solution : (pairs : List Pair) (bs : List Binding) → IsMostGeneral pairs bs → (v : Values) × AreSolution pairs v
 has_solution pairs bs h = (values_after bs some_values, h.gives some_values (λ x. any_has_sort x.sort))

@@ -5,7 +5,7 @@ use Rattle.sp_spec.specs.Term.{Variable, Term, var, constant, name, app, Terms, 
 use Rattle.sp_spec.specs.Substitution.{Binding, lookup, bound_to, followed_by}
 use Rattle.sp_spec.specs.Same.{same_variable}
 use Rattle.sp_spec.specs.Unifier.{occurs, occurs_in}
-use Rattle.sp_law_equal.proofs.Tests.{same_variable_decides}
+use Rattle.sp_spec.proofs.Same.{same_variable_decides}
 
 module _ {U V W : Type 0} (v : V → Term W) (s : U → Term V) (w : U → Term W) (then : (x : U) → w x ≡ valued v (s x)) where
   mutual

@@ -5,7 +5,7 @@ use Rattle.std.proofs.lemmas.List.Sums.{count_by-le-length, length-filter}
 use Rattle.sp_spec.specs.Term.{Variable, Term}
 use Rattle.sp_spec.specs.Substitution.{Binding, followed_by}
 use Rattle.sp_spec.specs.Unifier.{Pair, Difference, no_difference, clash, binding, first_difference, occurrences_of, go_on, unified, mgu}
-use Rattle.sp_law_equal.proofs.Tests.{same_variable_decides}
+use Rattle.sp_spec.proofs.Same.{same_variable_decides}
 use Rattle.sp_law_unify.specs.Progress.{variables_of, listed, occurs_under, left_over}
 use Rattle.sp_law_unify.proofs.Steps.{Each, Tells, Binds, first_difference_tells, Stays, stays}
 use Rattle.sp_law_unify.proofs.Counts.{fewer, occurrences_of-length, listed-occurs_under}

@@ -2,10 +2,10 @@
 use Rattle.std.proofs.Common.{◌≡◌, ◌≢◌, ℕ, ◌+◌, ◌-◌, ◌<◌, ◌≤◌, Bool, true, false, cond, List, [], ◌∷◌, length, drop, Option, Some, None, refl, sym, ap, subst, ◌∙◌, length-drop, arith}
 use Rattle.std.specs.Prelude.{◌==◌}
 use Rattle.std.proofs.lemmas.Bool.{ne_eqb}
-use Rattle.sp_lex.specs.declared.token.Class.TheVariants as class
-use Rattle.sp_lex.specs.declared.token.Mark.{Mark}
-use Rattle.sp_lex.specs.declared.token.Mark.TheVariants.{Opens, Closes, Neither}
-use Rattle.sp_lex.specs.Lex.{skip, by_mark, comment_mark, after_comment, Step, nothing, past, unclosed, past_comment, gap, Skips, no_gap, gap_then, IsUnclosed, first, behind}
+use Rattle.sp_spec_text.specs.Bytes as class
+use Rattle.sp_spec_text.specs.Bytes.{Mark}
+use Rattle.sp_spec_text.specs.Bytes.{Opens, Closes, Neither}
+use Rattle.sp_spec_text.specs.Lex.{skip, by_mark, comment_mark, after_comment, Step, nothing, past, unclosed, past_comment, gap, Skips, no_gap, gap_then, IsUnclosed, first, behind}
 use Rattle.sp_lex.proofs.Pieces.{skip_shorter}
 
 -- ---- comments in brackets

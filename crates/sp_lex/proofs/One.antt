@@ -1,9 +1,9 @@
 -- A text has one list of tokens, or one first fault, and not both.
 use Rattle.std.proofs.Common.{◌≡◌, ℕ, ◌+◌, true, false, List, [], ◌∷◌, length, refl, sym, ap, subst, ◌∙◌, arith}
-use Rattle.sp_lex.specs.declared.token.FaultKind.{FaultKind}
-use Rattle.sp_lex.specs.declared.token.FaultKind.TheVariants.{NoToken}
-use Rattle.sp_lex.specs.Lexeme.{Lexeme, Token}
-use Rattle.sp_lex.specs.Lex.{Piece, piece, token, no_token, first_sign, is_end, Skips, IsUnclosed, Reads, plain, bare, goal, IsNext, AreTokens, no_more, last, next, AreTokensBefore, left_open, here, later, IsFault}
+use Rattle.sp_spec_text.specs.Bytes.{FaultKind}
+use Rattle.sp_spec_text.specs.Bytes.{NoToken}
+use Rattle.sp_spec_text.specs.Token.{Lexeme, Token}
+use Rattle.sp_spec_text.specs.Lex.{Piece, piece, token, no_token, first_sign, is_end, Skips, IsUnclosed, Reads, plain, bare, goal, IsNext, AreTokens, no_more, last, next, AreTokensBefore, left_open, here, later, IsFault}
 use Rattle.sp_lex.proofs.Gaps.{skips_one, skips_closed, unclosed_one}
 use Rattle.sp_lex.proofs.Solve.{reads_one}
 

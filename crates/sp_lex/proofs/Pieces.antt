@@ -6,9 +6,9 @@ use Rattle.std.proofs.lemmas.Str.{IsUtf8-from_ascii, IsAscii-append}
 use Rattle.std.proofs.lemmas.Str.Ascii.{IsAscii-nil}
 use Rattle.std.specs.Char.{is_ascii_alphanumeric}
 use Rattle.std.specs.Int.{is_in_range}
-use Rattle.sp_lex.specs.declared.token.Class.{Class}
-use Rattle.sp_lex.specs.declared.token.Class.TheVariants as class
-use Rattle.sp_lex.specs.Lex.{is_in, is_digit, is_first, skip, before}
+use Rattle.sp_spec_text.specs.Bytes.{Class}
+use Rattle.sp_spec_text.specs.Bytes as class
+use Rattle.sp_spec_text.specs.Lex.{is_in, is_digit, is_first, skip, before}
 
 pub skip_more : (k : Class) {rest after total : List ℕ} {b : ℕ} → skip k rest ≡ total → rest ≡ b ∷ after → is_in k b after ≡ true → skip k after ≡ total
 unfolding skip

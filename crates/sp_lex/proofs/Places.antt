@@ -2,13 +2,13 @@
 use Rattle.std.proofs.Common.{◌≡◌, ℕ, ◌+◌, ◌<◌, ◌≤◌, Bool, true, false, cond, List, [], ◌∷◌, length, drop, Option, Some, None, refl, ap, subst, length-drop, arith}
 use Rattle.std.specs.Prelude.{◌&&◌, ◌==◌, nat_lt}
 use Rattle.std.specs.Char.{is_ascii_alphanumeric}
-use Rattle.sp_lex.specs.declared.token.Sign.{Sign}
-use Rattle.sp_lex.specs.declared.token.FaultKind.{FaultKind}
-use Rattle.sp_lex.specs.declared.token.Class.TheVariants as class
-use Rattle.sp_lex.specs.declared.token.Sign.TheVariants as s
-use Rattle.sp_lex.specs.Lexeme.{Lexeme, word, constant, sign, solve, Token}
-use Rattle.sp_lex.specs.Lex.{skip, Piece, token, no_token, short_sign, short_piece, first_short, first_sign, piece, before, is_first, to_closing, closed_by, Reads, plain, bare, goal, IsNext, AreTokens, no_more, last, next}
-use Rattle.sp_lex.specs.Places.{place_behind, is_any}
+use Rattle.sp_spec_text.specs.Signs.{Sign}
+use Rattle.sp_spec_text.specs.Bytes.{FaultKind}
+use Rattle.sp_spec_text.specs.Bytes as class
+use Rattle.sp_spec_text.specs.Signs as s
+use Rattle.sp_spec_text.specs.Token.{Lexeme, word, constant, sign, solve, Token}
+use Rattle.sp_spec_text.specs.Lex.{skip, Piece, token, no_token, short_sign, short_piece, first_short, first_sign, piece, before, is_first, to_closing, closed_by, Reads, plain, bare, goal, IsNext, AreTokens, no_more, last, next}
+use Rattle.sp_spec_text.specs.Ends.{place_behind, is_any}
 use Rattle.sp_lex.proofs.Pieces.{skip_shorter}
 use Rattle.sp_lex.proofs.Gaps.{LeavesMost, skips_shorter}
 use Rattle.sp_lex.proofs.Solve.{closing_leaves}

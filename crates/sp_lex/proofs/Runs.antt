@@ -1,9 +1,9 @@
 -- What is cut off, token by token.
 use Rattle.std.proofs.Common.{◌≡◌, ℕ, ◌-◌, ◌<◌, ◌≤◌, true, false, List, [], ◌∷◌, ◌++◌, length, subst, append-nil, append_assoc, arith}
-use Rattle.sp_lex.specs.declared.token.FaultKind.{FaultKind}
-use Rattle.sp_lex.specs.declared.token.FaultKind.TheVariants.{OpenComment}
-use Rattle.sp_lex.specs.Lexeme.{Token}
-use Rattle.sp_lex.specs.Lex.{token, no_token, is_end, Skips, IsUnclosed, Reads, IsNext, AreTokens, no_more, last, next, AreTokensBefore, left_open, here, later}
+use Rattle.sp_spec_text.specs.Bytes.{FaultKind}
+use Rattle.sp_spec_text.specs.Bytes.{OpenComment}
+use Rattle.sp_spec_text.specs.Token.{Token}
+use Rattle.sp_spec_text.specs.Lex.{token, no_token, is_end, Skips, IsUnclosed, Reads, IsNext, AreTokens, no_more, last, next, AreTokensBefore, left_open, here, later}
 
 -- these tokens stand before the rest, and none of them is `end`
 pub record Cut (text : List ℕ) (found : List Token) (rest : List ℕ) : Type 0 where

@@ -2,9 +2,9 @@
 use Rattle.std.proofs.Common.{◌≡◌, ◌≢◌, ℕ, ◌+◌, ◌-◌, ◌≤◌, Bool, true, false, List, [], ◌∷◌, length, Option, Some, refl, sym, ap, subst, ◌∙◌, arith}
 use Rattle.std.specs.Prelude.{◌==◌}
 use Rattle.std.proofs.lemmas.Bool.{ne_eqb}
-use Rattle.sp_lex.specs.declared.token.Mark.TheVariants.{Opens, Closes, Neither}
-use Rattle.sp_lex.specs.Lexeme.{Lexeme}
-use Rattle.sp_lex.specs.Lex.{is_first, piece, Piece, token, no_token, is_quoted, bracket, to_closing, solve_piece, is_solve, is_solve_word, Skips, IsUnclosed, NoBracket, other, open_comment, Reads, plain, bare, goal}
+use Rattle.sp_spec_text.specs.Bytes.{Opens, Closes, Neither}
+use Rattle.sp_spec_text.specs.Token.{Lexeme}
+use Rattle.sp_spec_text.specs.Lex.{is_first, piece, Piece, token, no_token, is_quoted, bracket, to_closing, solve_piece, is_solve, is_solve_word, Skips, IsUnclosed, NoBracket, other, open_comment, Reads, plain, bare, goal}
 use Rattle.sp_lex.proofs.Gaps.{LeavesMost, leaves_none, leaves_some, leaves_more, either, any_mark, skips_one, skips_closed}
 
 closing_at : (quoted : Bool) (depth : ℕ) {b : ℕ} {rest after : List ℕ} {total : Option (List ℕ)} → to_closing quoted depth rest ≡ total → rest ≡ b ∷ after → to_closing quoted depth (b ∷ after) ≡ total

@@ -1,8 +1,8 @@
 -- A text has one list of tokens, or one first fault, and not both.
 use Rattle.std.specs.Prelude.{◌≡◌, ℕ, List, length}
-use Rattle.sp_lex.specs.declared.token.FaultKind.{FaultKind}
-use Rattle.sp_lex.specs.Lexeme.{Token}
-use Rattle.sp_lex.specs.Lex.{AreTokens, AreTokensBefore, IsFault}
+use Rattle.sp_spec_text.specs.Bytes.{FaultKind}
+use Rattle.sp_spec_text.specs.Token.{Token}
+use Rattle.sp_spec_text.specs.Lex.{AreTokens, AreTokensBefore, IsFault}
 
 pub record TextsAreCutOneWay : Type 0 where
   pub tokens : (text : List ℕ) (ts us : List Token) → AreTokens (length text) text ts → AreTokens (length text) text us → ts ≡ us

@@ -1,7 +1,8 @@
 ghost use Rattle.std.specs.Prelude.{◌≡◌, [], ◌∷◌, MatchOption, option_map, IsUtf8, false, if◌then◌else◌, drop, length, IfSome, IfOk, OnOk, MatchResult, ◌≤◌, ◌<◌, ◌+◌, ◌++◌, Some, None};
-ghost use Rattle.sp_lex.specs.Lex as spec;
-ghost use Rattle.sp_lex.specs.Lex.{begins, close_constant, first_sign, solve_piece, Skips, IsUnclosed, NoBracket, Reads, AreTokens};
-ghost use Rattle.sp_lex.specs.Views.{found, step, Takes, Passes, IsScanned, IsFaultOf, lexeme_of, token_of, tokens_of};
+ghost use Rattle.sp_spec_text.specs.Lex as spec;
+ghost use Rattle.sp_spec_text.specs.Lex.{begins, close_constant, first_sign, solve_piece, Skips, IsUnclosed, NoBracket, Reads, AreTokens};
+ghost use Rattle.sp_spec_text.specs.Bytes as kinds;
+ghost use Rattle.sp_lex.specs.Views.{sign_of, class_of, mark_of, found, step, Takes, Passes, IsScanned, IsFaultOf, lexeme_of, token_of, tokens_of};
 
 use crate::token::{
     Class, FaultKind, Found, Gap, LexError, LexFault, Lexeme, Mark, Scanned, Sign, Token,
@@ -47,7 +48,7 @@ fn begins_with_digit(text: &[u8]) -> bool
 
 /// Whether a piece of the class goes on with this byte before these.
 fn is_in(class: Class, byte: u8, after: &[u8]) -> bool
-    ensures { result ≡ spec.is_in class byte after.now }
+    ensures { result ≡ spec.is_in (class_of class) byte after.now }
 {
     match class {
         Class::Constant => is_constant_byte(byte),
@@ -58,7 +59,7 @@ fn is_in(class: Class, byte: u8, after: &[u8]) -> bool
 
 /// The bytes from the first on with which no piece of the class goes on.
 fn skip(class: Class, text: &[u8]) -> &[u8]
-    ensures value { result.now ≡ spec.skip class text.now }
+    ensures value { result.now ≡ spec.skip (class_of class) text.now }
     ensures shorter { length result.now ≤ length text.now }
 {
     let mut rest = text;
@@ -104,9 +105,9 @@ fn after<'a>(text: &'a [u8], sign: &[u8]) -> Option<&'a [u8]>
 }
 
 /// The sign of one byte.
-#[tactic(auto, unfolding(crate::specs::Lex::short_sign))]
+#[tactic(auto, unfolding(sp_spec_text::specs::Lex::short_sign))]
 fn short_sign(byte: u8) -> Option<Sign>
-    ensures { result ≡ spec.short_sign byte }
+    ensures { option_map sign_of result ≡ spec.short_sign byte }
 {
     match byte {
         b'(' => Some(Sign::Open),
@@ -146,7 +147,7 @@ fn first_short(text: &[u8]) -> Found
 }
 
 /// The sign that stands first, the longest if there are several.
-#[tactic(auto, unfolding(crate::specs::Lex::first_sign))]
+#[tactic(auto, unfolding(sp_spec_text::specs::Lex::first_sign))]
 fn sign(text: &[u8]) -> Found
     ensures value { found result ≡ first_sign text.now }
     ensures shorter { Takes result text.now }
@@ -169,7 +170,7 @@ fn sign(text: &[u8]) -> Found
 /// A constant behind its first quote.
 #[tactic(auto, using(crate::proofs::Pieces::pieces))]
 fn constant(body: &[u8]) -> Found
-    ensures value { found result ≡ close_constant body.now (spec.skip Class.Constant body.now) }
+    ensures value { found result ≡ close_constant body.now (spec.skip kinds.Constant body.now) }
     ensures shorter { Takes result body.now }
 {
     let rest = skip(Class::Constant, body);
@@ -183,7 +184,7 @@ fn constant(body: &[u8]) -> Found
 }
 
 /// The word, constant or sign that begins here.
-#[tactic(auto, using(crate::proofs::Pieces::pieces), unfolding(crate::specs::Lex::piece))]
+#[tactic(auto, using(crate::proofs::Pieces::pieces), unfolding(sp_spec_text::specs::Lex::piece))]
 fn piece(text: &[u8]) -> Found
     ensures value { found result ≡ spec.piece text.now }
     ensures shorter { Takes result text.now }
@@ -202,7 +203,7 @@ fn piece(text: &[u8]) -> Found
 
 /// What two bytes of a comment do to the comments that are open.
 fn comment_mark(first: u8, second: u8) -> Mark
-    ensures { result ≡ spec.comment_mark first second }
+    ensures { mark_of result ≡ spec.comment_mark first second }
 {
     if first == b'/' && second == b'*' {
         Mark::Opens
@@ -214,7 +215,7 @@ fn comment_mark(first: u8, second: u8) -> Mark
 }
 
 /// What follows a comment, from behind its first `/*`, if it is closed.
-#[tactic(auto, using(crate::proofs::Gaps::comments), unfolding(crate::specs::Lex::after_comment))]
+#[tactic(auto, using(crate::proofs::Gaps::comments), unfolding(sp_spec_text::specs::Lex::after_comment))]
 fn after_comment(text: &[u8]) -> Option<&[u8]>
     ensures value { option_map (λ x. x.now) result ≡ spec.after_comment 0 text.now }
     ensures shorter { IfSome result (λ x. length x.now ≤ length text.now) }
@@ -246,7 +247,7 @@ fn after_comment(text: &[u8]) -> Option<&[u8]>
 }
 
 /// The blank or the comment that begins here.
-#[tactic(auto, unfolding(crate::specs::Lex::gap))]
+#[tactic(auto, unfolding(sp_spec_text::specs::Lex::gap))]
 fn gap(text: &[u8]) -> Gap
     ensures value { step result ≡ spec.gap text.now }
     ensures shorter { Passes result text.now }
@@ -296,7 +297,7 @@ fn is_quoted(quoted: bool, byte: u8, after: &[u8]) -> bool
 
 /// What a byte does to the brackets that are open.
 fn bracket(quoted: bool, byte: u8) -> Mark
-    ensures { result ≡ spec.bracket quoted byte }
+    ensures { mark_of result ≡ spec.bracket quoted byte }
 {
     if quoted {
         Mark::Neither
@@ -310,7 +311,7 @@ fn bracket(quoted: bool, byte: u8) -> Mark
 }
 
 /// The bytes from the bracket on that closes a `solve(`, from behind that, if there is one.
-#[tactic(auto, using(crate::proofs::Solve::closings), unfolding(crate::specs::Lex::to_closing))]
+#[tactic(auto, using(crate::proofs::Solve::closings), unfolding(sp_spec_text::specs::Lex::to_closing))]
 fn to_closing(text: &[u8]) -> Option<&[u8]>
     ensures value { option_map (λ x. x.now) result ≡ spec.to_closing false 0 text.now }
     ensures shorter { IfSome result (λ x. (0 < length x.now) × (length x.now ≤ length text.now)) }

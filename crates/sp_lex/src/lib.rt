@@ -1,7 +1,8 @@
 // Cuts a text into tokens, up to its first word `end`.
-// Below stands sp_spec; the readers of theories stand above, and see tokens alone.
+// Below stands what tokens are (sp_spec_text); the readers of theories stand above, and see tokens alone.
 // Carried here: the part of "texts are read exactly" that concerns bytes: a text has one list of tokens, or one first fault.
-// The language's pieces are functions in specs/Lex.antt, the lists of tokens a relation over them.
+// The language's pieces are functions in sp_spec_text, specs/Lex.antt, the lists of tokens a relation over them;
+// specs/Views.antt here says what the values in memory stand for.
 // Comments nest, and what stands between the brackets of `solve( )` is one token.
 // A token shows its text, and where it begins and ends; a fault its kind, and where it begins.
 #![tactic(auto)]
@@ -18,6 +19,3 @@ pub use token::{FaultKind, LexError, LexFault, Lexeme, Scanned, Sign, Token};
 pub fn texts_are_cut_one_way()
     ensures { TextsAreCutOneWay }
 {}
-
-#[cfg(test)]
-mod tests;

@@ -3,12 +3,11 @@ use Rattle.std.proofs.Common.{◌≡◌, ◌<◌, ⊎_elim, ℕ, zero, suc, Bool
 use Rattle.std.specs.Bool.{Decides}
 use Rattle.std.proofs.lemmas.List.{append-nil}
 use Rattle.std.proofs.lemmas.Bool.{and_parts, and_from, cases_order}
-use Rattle.sp_spec.specs.Lists.{Distinct}
+use Rattle.sp_spec.specs.Lists.{Distinct, newest_first}
 use Rattle.sp_spec.specs.Same.{same_term}
 use Rattle.sp_spec.specs.Theory.{Theory, signature_of}
 use Rattle.sp_spec.specs.Log.{Entry, step, send, learn, Log, fresh_uses, all_fresh_uses, sources_of, all_sources, IsLog}
-use Rattle.sp_law_equal.proofs.Tests.{same_term_decides}
-use Rattle.sp_ground.specs.View.{newest_first}
+use Rattle.sp_spec.proofs.Same.{same_term_decides}
 use Rattle.sp_log.specs.declared.check.Clause.{Clause}
 use Rattle.sp_log.specs.declared.check.Clause.TheVariants.{Instance, Sources, Freshness}
 use Rattle.sp_log.specs.declared.check.Checked.{Checked}
@@ -18,10 +17,7 @@ use Rattle.sp_log.specs.Meaning.{CanCheck, PremisesHaveSources, Keeps, rank, IsL
 use Rattle.sp_log.proofs.Instances.{any_decides}
 use Rattle.sp_log.proofs.Premises.{sources_decide, same_source_decides}
 use Rattle.sp_log.proofs.New.{new_decides}
-
-pub newest_append : {A : Type 0} (xs ys : List A) → newest_first (xs ++ ys) ≡ newest_first ys ++ newest_first xs
-newest_append [] ys = sym (append-nil (newest_first ys))
-newest_append (x ∷ xs) ys = ap (λ zs. zs ++ x ∷ []) (newest_append xs ys) ∙ append_assoc (newest_first ys) (newest_first xs) (x ∷ [])
+use Rattle.sp_spec.proofs.Lists.{newest_append}
 
 module _ (theory : Theory) where
   log_fresh : (log : Log) → IsLog theory log → Distinct (all_fresh_uses log)

@@ -4,14 +4,16 @@ use Rattle.std.specs.Str.{bytes_eq}
 use Rattle.std.proofs.lemmas.Bool.{and_parts, eqb-true}
 use Rattle.std.proofs.lemmas.Slice.Eq.{bytes_eq-Decides}
 use Rattle.sp_spec.specs.Term.{Variable, Term, var, constant, name, app, Terms, none, more, Ground, Grounds, Values, valued, valued_all}
-use Rattle.sp_spec.specs.Same.{same_variable, same_term}
+use Rattle.sp_spec.specs.Same.{same_term}
 use Rattle.sp_spec.specs.Rule.{Fact, Action, Facts, fact_at, action_at, facts_at}
 use Rattle.sp_law_equal.specs.Matching.{Bound, lookup, has_sort, by_bound, matched, matched_all}
-use Rattle.sp_law_equal.proofs.Tests.{same_variable_decides, same_term_decides}
+use Rattle.sp_spec.proofs.Same.{same_term_decides}
 use Rattle.sp_law_equal.proofs.Matches.{Agrees}
 use Rattle.sp_law_run.specs.Taken.{same_choice}
 use Rattle.sp_law_found.specs.Found.{matched_facts, matched_actions, matched_instance}
 use Rattle.sp_log.specs.Checking.{alike_facts, alike_actions, are_alike}
+use Rattle.sp_spec.proofs.Facts.{made_facts, made_fact, made_action}
+use Rattle.sp_law_equal.proofs.Matches.{old_stays, new_there}
 
 -- values that agree with what is found fit, and agree with what was there
 abbrev Giving : (Values → Type 0) → List Bound → Option (List Bound) → Type 0
@@ -22,25 +24,6 @@ Giving Fits bs (Some cs) = (v : Values) → Agrees v cs → Fits v × Agrees v b
 tested : (Fits : Values → Type 0) (bs : List Bound) (b : Bool) → (b ≡ true → (v : Values) → Agrees v bs → Fits v) → Giving Fits bs (cond b (Some bs) None)
 tested Fits bs true good = λ v a. (good refl v a, a)
 tested Fits bs false good = tt
-
-module _ (x : Variable) (t : Ground) where
-  old_stays : (bs : List Bound) (y : Variable) (u : Ground) → lookup bs y ≡ Some u → lookup (bs ++ (x, t) ∷ []) y ≡ Some u
-  old_stays [] y u e = absurd cc
-  old_stays (b ∷ bs) y u e = by_test (same_variable b.0 y) e (old_stays bs y u)
-    where
-      by_test : (c : Bool) → cond c (Some b.1) (lookup bs y) ≡ Some u → (lookup bs y ≡ Some u → lookup (bs ++ (x, t) ∷ []) y ≡ Some u)
-          → cond c (Some b.1) (lookup (bs ++ (x, t) ∷ []) y) ≡ Some u
-      by_test true e' next = e'
-      by_test false e' next = next e'
-
-  new_there : (bs : List Bound) → lookup bs x ≡ None → lookup (bs ++ (x, t) ∷ []) x ≡ Some t
-  new_there [] e = ap (λ c. cond c (Some t) None) ((same_variable_decides x x).1 refl)
-  new_there (b ∷ bs) e = by_test (same_variable b.0 x) e (new_there bs)
-    where
-      by_test : (c : Bool) → cond c (Some b.1) (lookup bs x) ≡ None → (lookup bs x ≡ None → lookup (bs ++ (x, t) ∷ []) x ≡ Some t)
-          → cond c (Some b.1) (lookup (bs ++ (x, t) ∷ []) x) ≡ Some t
-      by_test true e' next = absurd cc
-      by_test false e' next = next e'
 
 bound_gives : (o : Option Ground) (x : Variable) (t : Ground) (bs : List Bound) → lookup bs x ≡ o → Giving (λ v. v x ≡ t) bs (by_bound o x t bs)
 bound_gives (Some u) x t bs e = tested (λ v. v x ≡ t) bs (same_term u t) (λ s v a. a x u e ∙ (same_term_decides u t).0 s)
@@ -101,12 +84,6 @@ same_choice_tells true c e = sym e
 same_choice_tells false true e = absurd cc
 same_choice_tells false false e = refl
 
-abbrev fact_of : List ℕ → Bool → Grounds → Fact ⊥
-fact_of s p ts = record { symbol = s; persistent = p; args = ts }
-
-abbrev action_of : List ℕ → Grounds → Action ⊥
-action_of s ts = record { symbol = s; args = ts }
-
 facts_give : (fs : List (Fact Variable)) (gs : List (Fact ⊥)) (bs : List Bound) → alike_facts fs gs ≡ true → Giving (λ v. map (fact_at v) fs ≡ gs) bs (matched_facts fs gs bs)
 facts_give [] [] bs e = λ v a. (refl, a)
 facts_give [] (g ∷ gs) bs e = tt
@@ -117,9 +94,9 @@ facts_give (f ∷ fs) (g ∷ gs) bs e =
     in_turn (λ v. valued_all v f.args ≡ g.args) (λ v. map (fact_at v) fs ≡ gs) (λ v. map (fact_at v) (f ∷ fs) ≡ g ∷ gs)
     (λ v s t.
     ap₂ (λ (h : Fact ⊥) (hs : List (Fact ⊥)). h ∷ hs)
-    (ap (λ x. fact_of x f.persistent (valued_all v f.args)) ((bytes_eq-Decides f.symbol g.symbol).0 kind.0)
-    ∙ ap (λ x. fact_of g.symbol x (valued_all v f.args)) (same_choice_tells f.persistent g.persistent kind.1)
-    ∙ ap (fact_of g.symbol g.persistent) s) t)
+    (ap (λ x. made_fact x f.persistent (valued_all v f.args)) ((bytes_eq-Decides f.symbol g.symbol).0 kind.0)
+    ∙ ap (λ x. made_fact g.symbol x (valued_all v f.args)) (same_choice_tells f.persistent g.persistent kind.1)
+    ∙ ap (made_fact g.symbol g.persistent) s) t)
     bs (matched_all f.args g.args bs) (λ cs. matched_facts fs gs cs) (matched_all_give f.args g.args bs) (λ cs. facts_give fs gs cs both.1)
 
 actions_give : (xs : List (Action Variable)) (ys : List (Action ⊥)) (bs : List Bound) → alike_actions xs ys ≡ true
@@ -132,11 +109,8 @@ actions_give (x ∷ xs) (y ∷ ys) bs e =
     in_turn (λ v. valued_all v x.args ≡ y.args) (λ v. map (action_at v) xs ≡ ys) (λ v. map (action_at v) (x ∷ xs) ≡ y ∷ ys)
     (λ v s t.
     ap₂ (λ (h : Action ⊥) (hs : List (Action ⊥)). h ∷ hs)
-    (ap (λ z. action_of z (valued_all v x.args)) ((bytes_eq-Decides x.symbol y.symbol).0 both.0) ∙ ap (action_of y.symbol) s) t)
+    (ap (λ z. made_action z (valued_all v x.args)) ((bytes_eq-Decides x.symbol y.symbol).0 both.0) ∙ ap (made_action y.symbol) s) t)
     bs (matched_all x.args y.args bs) (λ cs. matched_actions xs ys cs) (matched_all_give x.args y.args bs) (λ cs. actions_give xs ys cs both.1)
-
-abbrev facts_of : List (Fact ⊥) → List (Action ⊥) → List (Fact ⊥) → Facts ⊥
-facts_of ps xs cs = record { premises = ps; actions = xs; conclusions = cs }
 
 abbrev Others : Facts Variable → Facts ⊥ → Values → Type 0
 Others p f v = (map (action_at v) p.actions ≡ f.actions) × (map (fact_at v) p.conclusions ≡ f.conclusions)
@@ -147,9 +121,9 @@ giving p f e =
     let later = and_parts (alike_actions p.actions f.actions) (alike_facts p.conclusions f.conclusions) both.1 in
     in_turn (λ v. map (fact_at v) p.premises ≡ f.premises) (Others p f) (λ v. facts_at v p ≡ f)
     (λ v s t.
-    ap (λ (x : List (Fact ⊥)). facts_of x (map (action_at v) p.actions) (map (fact_at v) p.conclusions)) s
-    ∙ ap (λ (x : List (Action ⊥)). facts_of f.premises x (map (fact_at v) p.conclusions)) t.0
-    ∙ ap (facts_of f.premises f.actions) t.1)
+    ap (λ (x : List (Fact ⊥)). made_facts x (map (action_at v) p.actions) (map (fact_at v) p.conclusions)) s
+    ∙ ap (λ (x : List (Action ⊥)). made_facts f.premises x (map (fact_at v) p.conclusions)) t.0
+    ∙ ap (made_facts f.premises f.actions) t.1)
     [] (matched_facts p.premises f.premises [])
     (λ bs. option_and_then (λ cs. matched_facts p.conclusions f.conclusions cs) (matched_actions p.actions f.actions bs))
     (facts_give p.premises f.premises [] both.0)

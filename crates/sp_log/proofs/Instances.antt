@@ -5,18 +5,18 @@ use Rattle.std.specs.Str.{bytes_eq}
 use Rattle.std.proofs.lemmas.Bool.{and_parts, and_from, or_cases, or_left, or_right}
 use Rattle.std.proofs.lemmas.Slice.Eq.{bytes_eq-Decides}
 use Rattle.sp_spec.specs.Lists.{Member, Every}
-use Rattle.sp_spec.specs.Term.{Sort, Msg, Fresh, Pub, Variable, Term, var, constant, name, app, Terms, none, more, Ground, Grounds, Values, valued, valued_all}
+use Rattle.sp_spec.specs.Term.{Sort, Msg, Fresh, Pub, Variable, Term, var, constant, name, app, Terms, none, more, Ground, Values, valued, valued_all}
 use Rattle.sp_spec.specs.Same.{same_variable, same_term}
 use Rattle.sp_spec.specs.Signature.{Signature, Equation, IsValue, IsValuation}
-use Rattle.sp_spec.specs.Equal.{end, EqualAll, IsNormal, AreNormal}
-use Rattle.sp_spec.specs.Rule.{Fact, Action, Facts, Rule, fact_at, action_at, facts_at, AreNormalFacts, AreNormalActions, IsNormalFormOf}
+use Rattle.sp_spec.specs.Equal.{IsNormal, AreNormal}
+use Rattle.sp_spec.specs.Rule.{Fact, Action, Facts, Rule, fact_at, action_at, facts_at, AreNormalFacts, AreNormalActions, IsNormalFormOf, OfArguments}
 use Rattle.sp_law_equal.specs.Convergent.{AreConvergent, KeepSymbols, IsPlain, ArePlain}
 use Rattle.sp_law_equal.specs.Matching.{Bound, lookup, any_of, value_in, has_sort}
 use Rattle.sp_law_equal.specs.Normal.{normal}
-use Rattle.sp_law_equal.proofs.Tests.{same_variable_decides, same_term_decides, has_sort_decides}
+use Rattle.sp_spec.proofs.Same.{same_variable_decides, same_term_decides}
+use Rattle.sp_law_equal.proofs.Tests.{has_sort_decides}
 use Rattle.sp_law_equal.proofs.Forms.{normals, is_normal, normal_of_normal, plain_matches_none}
 use Rattle.sp_law_run.specs.Given.{AgreeWith}
-use Rattle.sp_law_run.specs.Right.{OfArguments}
 use Rattle.sp_law_run.specs.Taken.{same_choice}
 use Rattle.sp_law_found.specs.Found.{matched_instance}
 use Rattle.sp_law_found.proofs.Fitting.{instance_fits}
@@ -25,12 +25,9 @@ use Rattle.sp_norm.specs.Over.{over}
 use Rattle.sp_norm.proofs.Symbols.{over_decides}
 use Rattle.sp_log.specs.Checking.{is_normal_value, are_normal_values, give_normal_values, alike_facts, alike_actions, are_alike, is_instance, is_instance_of_any}
 use Rattle.sp_log.proofs.Giving.{found_gives}
+use Rattle.sp_law_equal.proofs.Chains.{equal_all_refl}
 
 -- ---- normal forms of instances of plain terms
-
-equal_itself : (es : List Equation) (ts : Grounds) → EqualAll es ts ts
-equal_itself es none = tt
-equal_itself es (more t ts) = (end, equal_itself es ts)
 
 module _ (es : List Equation) (good : AreConvergent es) (v : Values) (normal_values : (x : Variable) → IsNormal es (v x)) where
   mutual
@@ -46,12 +43,12 @@ module _ (es : List Equation) (good : AreConvergent es) (v : Values) (normal_val
 
   facts_are_normal : (fs : List (Fact Variable)) → Every (λ (f : Fact Variable). ArePlain es f.args) fs → AreNormalFacts es (map (fact_at v) fs) (map (fact_at v) fs)
   facts_are_normal [] h = tt
-  facts_are_normal (f ∷ fs) h = (refl, refl, (equal_itself es (valued_all v f.args), plain_are_normal f.args h.0), facts_are_normal fs h.1)
+  facts_are_normal (f ∷ fs) h = (refl, refl, (equal_all_refl es (valued_all v f.args), plain_are_normal f.args h.0), facts_are_normal fs h.1)
 
   actions_are_normal : (xs : List (Action Variable)) → Every (λ (a : Action Variable). ArePlain es a.args) xs
       → AreNormalActions es (map (action_at v) xs) (map (action_at v) xs)
   actions_are_normal [] h = tt
-  actions_are_normal (a ∷ xs) h = (refl, (equal_itself es (valued_all v a.args), plain_are_normal a.args h.0), actions_are_normal xs h.1)
+  actions_are_normal (a ∷ xs) h = (refl, (equal_all_refl es (valued_all v a.args), plain_are_normal a.args h.0), actions_are_normal xs h.1)
 
   instance_is_normal : (p : Facts Variable) → OfArguments (ArePlain es) p → IsNormalFormOf es (facts_at v p) (facts_at v p)
   instance_is_normal p h = record {

@@ -2,10 +2,9 @@
 use Rattle.std.proofs.Common.{◌≡◌, ⊎_elim, Bool, true, false, not, List, [], ◌∷◌, ◌++◌, inl, inr, refl, sym, ap, ◌∙◌, subst, append_assoc, true≢false}
 use Rattle.std.specs.Bool.{Decides}
 use Rattle.std.proofs.lemmas.Bool.{and_parts, and_from, or_cases, or_left, or_right}
-use Rattle.sp_spec.specs.Lists.{Member, Distinct}
-use Rattle.sp_spec.proofs.Lists.{member_left, member_right, member_either, distinct_apart}
+use Rattle.sp_spec.specs.Lists.{Member, Distinct, newest_first}
+use Rattle.sp_spec.proofs.Lists.{member_left, member_right, member_either, distinct_apart, distinct_left}
 use Rattle.sp_spec.specs.Log.{Entry}
-use Rattle.sp_ground.specs.View.{newest_first}
 use Rattle.sp_log.specs.Checking.{is_one_of, are_new}
 
 -- none of them stands there, and none of them twice
@@ -63,10 +62,6 @@ distinct_joined (x ∷ xs) ys d e h = (
   distinct_joined xs ys d.1 e (λ y m k. h y (inr m) k),
 )
 
-distinct_front : {A : Type 0} (xs ys : List A) → Distinct (xs ++ ys) → Distinct xs
-distinct_front [] ys d = tt
-distinct_front (x ∷ xs) ys d = ((λ m. d.0 (member_left x xs ys m)), distinct_front xs ys d.1)
-
 -- of what each entry uses, and of all that a log's entries use
 module _ {A : Type 0} (uses : Entry → List A) (all : List Entry → List A) (nothing : all [] ≡ [])
     (parts : (e : Entry) (es : List Entry) → all (e ∷ es) ≡ uses e ++ all es) where
@@ -113,6 +108,6 @@ module _ {A : Type 0} (uses : Entry → List A) (all : List Entry → List A) (n
           let whole = subst (λ (zs : List A). Distinct zs) (parts e (newest_first earlier)) h in
           new_from same decides (all earlier) (uses e) (record {
             apart = λ u m k. distinct_apart u (uses e) (all (newest_first earlier)) whole m (newest_uses earlier u k);
-            once = distinct_front (uses e) (all (newest_first earlier)) whole;
+            once = distinct_left (uses e) (all (newest_first earlier)) whole;
           }),
     )

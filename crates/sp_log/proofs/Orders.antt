@@ -6,12 +6,8 @@ use Rattle.sp_spec.specs.Rule.{Action, Rule, sends}
 use Rattle.sp_spec.specs.Execution.{Step, make_fresh, Trace, with_entry}
 use Rattle.sp_spec.specs.Log.{Entry, step, send, learn, Log, entry_actions, log_trace, visible_trace}
 use Rattle.sp_law_found.specs.Found.{fresh_steps, entry_steps, execution_of}
-use Rattle.sp_ground.specs.View.{newest_first}
-use Rattle.sp_log.proofs.Checks.{newest_append}
-
-pub newest_twice : {A : Type 0} (xs : List A) → newest_first (newest_first xs) ≡ xs
-newest_twice [] = refl
-newest_twice (x ∷ xs) = newest_append (newest_first xs) (x ∷ []) ∙ ap (λ ys. x ∷ ys) (newest_twice xs)
+use Rattle.sp_spec.specs.Lists.{newest_first}
+use Rattle.sp_spec.proofs.Lists.{newest_twice, newest_append}
 
 -- ---- executions
 

@@ -2,20 +2,15 @@
 use Rattle.std.proofs.Common.{◌≡◌, ℕ, zero, suc, Bool, true, false, not, List, [], ◌∷◌, ◌++◌, length, slice_get, Option, Some, None, inl, inr, refl, sym, ap, ◌∙◌, subst, arith}
 use Rattle.std.specs.Bool.{Decides}
 use Rattle.std.proofs.lemmas.Bool.{and_parts, and_from, eqb-true, eq-eqb}
-use Rattle.sp_spec.specs.Lists.{AtPlace, AtPosition}
+use Rattle.sp_spec.specs.Lists.{AtPlace, AtPosition, newest_first}
 use Rattle.sp_spec.specs.Rule.{Fact, in_of}
 use Rattle.sp_spec.specs.Log.{Source, fresh_rule, conclusion, Entry, step, send, learn, Log, is_fr, Concludes, HasSources}
 use Rattle.sp_law_run.specs.Taken.{same_fact}
 use Rattle.sp_law_run.proofs.Counted.{same_fact_tells}
-use Rattle.sp_ground.specs.View.{newest_first}
 use Rattle.sp_log.specs.Checking.{is_fact, concludes, has_source, have_sources, same_source}
+use Rattle.sp_spec.proofs.Lists.{place_got}
 
 -- ---- places and positions
-
-place_there : {A : Type 0} (xs : List A) (k : ℕ) (x : A) → slice_get xs k ≡ Some x → AtPlace xs k x
-place_there [] k x e = absurd cc
-place_there (y ∷ ys) zero x e = cc
-place_there (y ∷ ys) (suc k) x e = place_there ys k x e
 
 place_found : {A : Type 0} (xs : List A) (k : ℕ) (x : A) → AtPlace xs k x → slice_get xs k ≡ Some x
 place_found [] k x a = absurd a
@@ -71,7 +66,7 @@ is_fact_from None f e = absurd cc
 is_fact_from (Some g) f e = (same_fact_tells g f).1 cc
 
 entry_tells : (e : Entry) (k : ℕ) (f : Fact ⊥) → concludes (Some e) k f ≡ true → Concludes e k f
-entry_tells (step r facts sources) k f h = place_there facts.conclusions k f (is_fact_tells (slice_get facts.conclusions k) f h)
+entry_tells (step r facts sources) k f h = place_got facts.conclusions k f (is_fact_tells (slice_get facts.conclusions k) f h)
 entry_tells (send m) k f h = let both = and_parts _ (same_fact f (in_of m)) h in (eqb-true k zero both.0, (same_fact_tells f (in_of m)).0 both.1)
 entry_tells (learn m how) k f h = absurd cc
 

@@ -2,7 +2,7 @@
 use Rattle.std.specs.Prelude.{◌≡◌, ◌↔◌, ℕ, List, true}
 use Rattle.sp_spec.specs.Theory.{Theory, signature_of}
 use Rattle.sp_spec.specs.Log.{Entry}
-use Rattle.sp_ground.specs.View.{newest_first}
+use Rattle.sp_spec.specs.Lists.{newest_first}
 use Rattle.sp_log.specs.declared.check.Clause.{Clause}
 use Rattle.sp_log.specs.declared.check.Checked.{Checked}
 use Rattle.sp_log.specs.Checking.{is_log}

@@ -1,16 +1,14 @@
 -- What the checking of a log of steps answers: that it is a log, or its first entry that is none behind those before it, and the least clause of the
 -- definition that this entry breaks.
 use Rattle.std.specs.Prelude.{◌≡◌, ◌<◌, ℕ, List, ◌∷◌, ◌++◌, length}
-use Rattle.sp_spec.specs.Lists.{Member, Every, Distinct}
+use Rattle.sp_spec.specs.Lists.{Member, Every, Distinct, newest_first}
 use Rattle.sp_spec.specs.Term.{Values}
 use Rattle.sp_spec.specs.Signature.{IsValuation}
-use Rattle.sp_spec.specs.Rule.{Rule, facts_at, IsNormalFormOf}
+use Rattle.sp_spec.specs.Rule.{Rule, facts_at, IsNormalFormOf, OfArguments}
 use Rattle.sp_spec.specs.Theory.{Theory, signature_of}
 use Rattle.sp_spec.specs.Log.{Entry, step, send, learn, Log, HasSources, all_fresh_uses, all_sources, IsLog}
 use Rattle.sp_law_equal.specs.Convergent.{AreConvergent, KeepSymbols, ArePlain}
-use Rattle.sp_law_run.specs.Right.{OfArguments}
 use Rattle.sp_law_erase.specs.Adversary.{HasStepsAlone}
-use Rattle.sp_ground.specs.View.{newest_first}
 use Rattle.sp_log.specs.declared.check.Clause.{Clause}
 use Rattle.sp_log.specs.declared.check.Clause.TheVariants.{Instance, Sources, Freshness}
 use Rattle.sp_log.specs.declared.check.Checked.{Checked}

@@ -5,7 +5,7 @@ ghost use Rattle.sp_spec.specs.Log.{fresh_uses, sources_of};
 ghost use Rattle.sp_spec.specs.Same.{same_term};
 ghost use Rattle.sp_spec.specs.Theory as spec_theory;
 ghost use Rattle.sp_ground.specs.View.{ground_of, signature_of};
-ghost use Rattle.sp_rule.specs.View.{rule_of};
+ghost use Rattle.sp_fact.specs.View.{rule_of};
 ghost use Rattle.sp_log.specs.Checking as spec;
 ghost use Rattle.sp_log.specs.Laws.{ChecksAreOne, LogsAreChecked};
 ghost use Rattle.sp_log.specs.Meaning.{CanCheck, IsChecked};
@@ -15,9 +15,9 @@ use crate::instance::is_instance_of_any;
 use crate::log::{Entry, Log, Source};
 use crate::names::{fresh_names, use_names};
 use crate::sources::{have_sources, linear_sources, name_sources};
+use sp_fact::rule::Rule;
 use sp_ground::signature::Signature;
 use sp_ground::term::GroundTerm;
-use sp_rule::Rule;
 use std::alloc::{AllocError, Global};
 
 /// What a log owes of each entry, by the definition of logs.

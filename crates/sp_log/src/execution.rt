@@ -3,21 +3,23 @@
 ghost use Rattle.std.specs.Prelude.{◌≡◌, ◌++◌, [], IfOk, OnOk, map, option_map, unwrap_or};
 ghost use Rattle.sp_spec.specs.Execution.{make_fresh};
 ghost use Rattle.sp_spec.specs.Log.{fresh_of};
+ghost use Rattle.sp_spec.specs.Rule as spec;
 ghost use Rattle.sp_law_found.specs.Found as found;
 ghost use Rattle.sp_term.specs.View.{name_of, sort_of, variable_of};
-ghost use Rattle.sp_ground.specs.View.{given_of, ground_fact, ground_facts, ground_of, newest_first, step_of};
+ghost use Rattle.sp_ground.specs.View.{given_of, ground_fact, ground_facts, ground_of, step_of};
+ghost use Rattle.sp_spec.specs.Lists.{newest_first};
 ghost use Rattle.sp_norm.specs.Bounds.{bounds};
-ghost use Rattle.sp_rule.specs.View.{rule_of};
+ghost use Rattle.sp_fact.specs.View.{rule_of};
 ghost use Rattle.sp_log.specs.View.{entry_of, log_of};
 
 use crate::instance::matched_values;
 use crate::log::{Entry, Log};
 use crate::names::fresh_names;
+use sp_fact::rule::Rule;
 use sp_ground::fact::{GroundFact, GroundFacts};
 use sp_ground::step::{Given, Step};
 use sp_ground::term::{GroundTerm, copy};
 use sp_norm::values::Values;
-use sp_rule::Rule;
 use sp_term::term::{Name, Sort, Variable};
 use std::alloc::{AllocError, Global};
 
@@ -70,7 +72,7 @@ fn given_of(alloc: Global, rule: &Rule, values: &Values) -> Result<Vec<Given>, A
 
 // The first rule of the name.
 fn rule_named<'a>(rules: &'a Vec<Rule>, name: &Name) -> Option<&'a Rule>
-    ensures { option_map (λ r. rule_of r.now) result ≡ found.rule_named (name_of name.now) (map rule_of rules.now.items) }
+    ensures { option_map (λ r. rule_of r.now) result ≡ spec.rule_named (name_of name.now) (map rule_of rules.now.items) }
 {
     for rule in rules {
         if rule.name == *name {

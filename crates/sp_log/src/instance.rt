@@ -3,13 +3,13 @@
 ghost use Rattle.std.specs.Prelude.{◌≡◌, IfOk, map, option_map};
 ghost use Rattle.sp_law_found.specs.Found.{matched_actions, matched_facts, matched_instance};
 ghost use Rattle.sp_term.specs.View.{name_of};
-ghost use Rattle.sp_fact.specs.View.{action_of, fact_of, facts_of};
+ghost use Rattle.sp_fact.specs.View.{action_of, fact_of, facts_of, rule_of};
 ghost use Rattle.sp_ground.specs.View.{ground_action, ground_fact, ground_facts, signature_of};
 ghost use Rattle.sp_norm.specs.Bounds.{answer, bound_of, bounds};
-ghost use Rattle.sp_rule.specs.View.{rule_of};
 ghost use Rattle.sp_log.specs.Checking as spec;
 
 use sp_fact::fact::{Action, Fact, Facts};
+use sp_fact::rule::Rule;
 use sp_ground::fact::{GroundAction, GroundFact, GroundFacts};
 use sp_ground::signature::Signature;
 use sp_ground::term::same;
@@ -17,7 +17,6 @@ use sp_norm::matching::{extend_all, has_sort};
 use sp_norm::normal::normal;
 use sp_norm::over::is_over;
 use sp_norm::values::{Bound, Values};
-use sp_rule::Rule;
 use sp_term::term::Name;
 use std::alloc::{AllocError, Global};
 

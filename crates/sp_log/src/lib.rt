@@ -1,6 +1,6 @@
 // Learning logs whose entries are steps of rules, in memory.
 // Below stand their definition (sp_spec), the law that such a log stands for an execution (sp_law_found), ground facts (sp_ground), matching
-// and instances in normal form (sp_norm), and rules (sp_rule); above stands the search for logs that solve a system.
+// and instances in normal form (sp_norm), and rules (sp_fact); above stands the search for logs that solve a system.
 // Carried here: a log is checked exactly as it is defined, with the first entry and the least clause that fail, and it gives its execution
 // and its traces.
 #![tactic(auto)]
@@ -12,6 +12,4 @@ mod instance;
 pub mod log;
 mod names;
 mod sources;
-#[cfg(test)]
-mod tests;
 pub mod trace;

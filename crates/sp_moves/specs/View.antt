@@ -6,7 +6,8 @@ use Rattle.sp_ground.specs.View.{signature_of}
 use Rattle.sp_solved.specs.Found.{found}
 use Rattle.sp_step.specs.Moves as spec
 use Rattle.sp_moves.specs.declared.context.Context.{Context}
-pub use Rattle.sp_moves_formula.specs.View.{move_of, case_of, book_of}
+use Rattle.sp_fact.specs.BookView.{book_of}
+pub use Rattle.sp_moves_formula.specs.View.{move_of, case_of}
 
 -- the search in a context ends with the log that is looked for
 abbrev pub context_of : Context → spec.Context

@@ -5,8 +5,8 @@ ghost use Rattle.sp_system.specs.SystemView.{system_of};
 ghost use Rattle.sp_log.specs.View.{log_of};
 ghost use Rattle.sp_moves.specs.View.{context_of};
 
+use sp_fact::book::RuleBook;
 use sp_log::log::Log;
-use sp_moves_formula::book::RuleBook;
 use sp_solved::{Sought, found};
 use sp_system::system::System;
 use std::alloc::{AllocError, Global};

@@ -5,11 +5,9 @@
 // Carried here: the promise that no case of a move is left out.
 #![tactic(auto)]
 
-pub use sp_moves_formula::{action, book, part};
+pub use sp_moves_formula::{action, part};
 pub use sp_moves_graph::giver;
 
 pub mod apply;
 pub mod context;
 pub mod moves;
-#[cfg(test)]
-mod tests;

@@ -8,11 +8,9 @@ use Rattle.sp_spec.specs.Unifier.{Pair}
 use Rattle.sp_system.specs.System.{System}
 use Rattle.sp_system.specs.Equating.{argument_pairs, unifier_of, system_changed}
 use Rattle.sp_step.specs.Moves.{by_actions, system_if, with_step, named}
-use Rattle.sp_moves_formula.specs.Sought.{shifted, by_rule, has_action}
-
-either_false : (a b : Bool) → (a || b) ≡ false → (a ≡ false) × (b ≡ false)
-either_false false b e = (refl, e)
-either_false true b e = absurd cc
+use Rattle.sp_moves_formula.specs.Sought.{shifted, by_rule}
+use Rattle.sp_fact.specs.Book.{has_action}
+use Rattle.std.proofs.lemmas.Bool.{or_parts}
 
 -- the systems in which two actions are one, where their names differ
 other_name : (s : System) (b : Bool) (pairs : Option (List Pair)) (rest : List System) → b ≡ false
@@ -24,7 +22,7 @@ none_acts : (s : System) (a : Action Variable) (v : Variable → Term Variable) 
     → by_actions s a (map (action_at v) actions) ≡ []
 none_acts s a v [] e = refl
 none_acts s a v (b ∷ actions) e =
-    let parts = either_false (bytes_eq a.symbol b.symbol) (has_action a.symbol actions) e in
+    let parts = or_parts (bytes_eq a.symbol b.symbol) (has_action a.symbol actions) e in
     other_name s (bytes_eq a.symbol b.symbol) (argument_pairs a.args (action_at v b).args) (by_actions s a (map (action_at v) actions)) parts.0
     ∙ none_acts s a v actions parts.1
 

@@ -1,5 +1,5 @@
 -- What the functions of this crate give, in parts of the written move.
-use Rattle.std.specs.Prelude.{ℕ, ◌+◌, Bool, false, ◌||◌, List, [], ◌∷◌, if◌then◌else◌, Option, None, option_map, bytes_eq}
+use Rattle.std.specs.Prelude.{ℕ, ◌+◌, List, [], ◌∷◌, if◌then◌else◌, Option, None, option_map}
 use Rattle.sp_spec.specs.Term.{Variable, Term, var}
 use Rattle.sp_spec.specs.Rule.{Action, Rule}
 use Rattle.sp_spec.specs.Guarded.{Guarded, holds, acts, free_time}
@@ -23,8 +23,3 @@ shifted next x = var (record { sort = x.sort; number = next + x.number })
 -- the cases of a new step of one rule
 abbrev pub by_rule : Rule → System → ℕ → Action Variable → List Case
 by_rule r s i a = named r.name (by_actions (with_step s i r) a (renamed s.next r.facts).actions)
-
--- one of the actions has this name
-abbrev pub has_action : List ℕ → List (Action Variable) → Bool
-has_action symbol [] = false
-has_action symbol (a ∷ actions) = bytes_eq symbol a.symbol || has_action symbol actions

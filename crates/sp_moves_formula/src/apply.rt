@@ -3,15 +3,16 @@
 ghost use Rattle.std.specs.Prelude.{◌≡◌, Some, IfOk, map, option_map};
 ghost use Rattle.sp_formula.specs.FormulaView.{formula_of};
 ghost use Rattle.sp_system.specs.SystemView.{system_of};
-ghost use Rattle.sp_moves_formula.specs.View.{book_of, case_of, move_of};
+ghost use Rattle.sp_moves_formula.specs.View.{case_of, move_of};
+ghost use Rattle.sp_fact.specs.BookView.{book_of};
 ghost use Rattle.sp_moves_formula.specs.WhyNot.{HasCases, why_no_disjunction, why_no_action, why_not_formula, formula_cases};
 ghost use Rattle.sp_moves_formula.specs.Applied.{clause_of, cases_of, failing};
 
 use crate::action::is_adversary;
-use crate::book::RuleBook;
 use crate::moves::{Case, Move};
 use crate::part::or_cases;
 use crate::solving::solving_action;
+use sp_fact::book::RuleBook;
 use sp_formula::formula::{Atom, Formula, FormulaAction, Moment};
 use sp_rows::stands::freed_action;
 use sp_system::system::System;

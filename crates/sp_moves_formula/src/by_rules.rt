@@ -1,21 +1,21 @@
 // An action at a new step of some rule.
 
 ghost use Rattle.std.specs.Prelude.{◌≡◌, IfOk, map, slice_get};
-ghost use Rattle.sp_rule.specs.View.{rule_of};
-ghost use Rattle.sp_fact.specs.View.{action_of};
+ghost use Rattle.sp_fact.specs.View.{rule_of, action_of};
+ghost use Rattle.sp_fact.specs.BookView.{book_of};
 ghost use Rattle.sp_system.specs.SystemView.{system_of};
 ghost use Rattle.sp_step.specs.Moves as spec;
-ghost use Rattle.sp_moves_formula.specs.View.{book_of, case_of};
+ghost use Rattle.sp_moves_formula.specs.View.{case_of};
 ghost use Rattle.sp_moves_formula.specs.Sought.{by_rule};
 ghost use Rattle.sp_moves_formula.specs.Book.{by_found};
 
-use crate::book::RuleBook;
 use crate::moves::Case;
 use crate::named::named;
 use crate::renamed::renamed;
 use crate::where_same::by_actions;
+use sp_fact::book::RuleBook;
 use sp_fact::fact::Action;
-use sp_rule::Rule;
+use sp_fact::rule::Rule;
 use sp_system::system::{Event, System};
 use std::alloc::{AllocError, Global};
 

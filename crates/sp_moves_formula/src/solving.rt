@@ -2,17 +2,18 @@
 
 ghost use Rattle.std.specs.Prelude.{◌≡◌, Some, IfOk, map, option_map, slice_get};
 ghost use Rattle.sp_fact.specs.View.{action_of};
+ghost use Rattle.sp_fact.specs.BookView.{book_of};
 ghost use Rattle.sp_formula.specs.FormulaView.{formula_of};
 ghost use Rattle.sp_system.specs.SystemView.{system_of};
 ghost use Rattle.sp_step.specs.Rows as rows;
 ghost use Rattle.sp_step.specs.Moves as spec;
-ghost use Rattle.sp_moves_formula.specs.View.{book_of, case_of};
+ghost use Rattle.sp_moves_formula.specs.View.{case_of};
 
 use crate::action::sought;
 use crate::at_event::at_event;
-use crate::book::RuleBook;
 use crate::by_rules::by_each;
 use crate::moves::Case;
+use sp_fact::book::RuleBook;
 use sp_fact::fact::Action;
 use sp_formula::formula::Formula;
 use sp_rows::links::event_at;

@@ -1,15 +1,16 @@
 // The steps that may give a premise.
 
 ghost use Rattle.std.specs.Prelude.{◌≡◌, ◌+◌, suc, IfOk, length, map, option_map};
-ghost use Rattle.sp_rule.specs.View.{rule_of};
-ghost use Rattle.sp_fact.specs.View.{fact_of};
+ghost use Rattle.sp_fact.specs.View.{rule_of, fact_of};
+ghost use Rattle.sp_fact.specs.BookView.{book_of};
 ghost use Rattle.sp_system.specs.SystemView.{link_of, system_of};
 ghost use Rattle.sp_step.specs.Moves as spec;
-ghost use Rattle.sp_moves_formula.specs.View.{book_of, case_of};
+ghost use Rattle.sp_moves_formula.specs.View.{case_of};
 ghost use Rattle.sp_moves_graph.specs.Givers.{by_giver};
 
+use sp_fact::book::RuleBook;
 use sp_fact::fact::Fact;
-use sp_moves_formula::book::RuleBook;
+use sp_fact::rule::Rule;
 use sp_moves_formula::moves::Case;
 pub use sp_moves_formula::moves::Premise;
 use sp_moves_formula::named::named;
@@ -17,7 +18,6 @@ use sp_moves_formula::renamed::renamed;
 use sp_moves_formula::where_same::fact_unifier;
 use sp_rows::links::premise_at;
 use sp_rows::twins::is_fresh;
-use sp_rule::Rule;
 use sp_system::system::{Event, Link, System};
 use std::alloc::{AllocError, Global};
 

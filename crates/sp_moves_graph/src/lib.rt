@@ -9,6 +9,4 @@ pub use sp_rows::reduce;
 
 pub mod apply;
 pub mod giver;
-#[cfg(test)]
-mod tests;
 pub mod times;

@@ -9,6 +9,7 @@ use Rattle.sp_ground.specs.declared.term.GroundTerm.{GroundTerm}
 use Rattle.sp_ground.specs.View.{grounds_of}
 use Rattle.sp_ground.proofs.Lists.{count-grounds}
 use Rattle.sp_norm.specs.Over.{is_symbol, any_symbol, any_public, over, all_over}
+use Rattle.sp_spec.proofs.Bools.{denied}
 
 abbrev made : List ℕ → ℕ → Bool → Symbol
 made f n p = record { name = f; arity = n; private = p }
@@ -36,15 +37,11 @@ any_symbol_from (s ∷ symbols) f n h =
 pub any_symbol_decides : (symbols : List Symbol) (f : List ℕ) (n : ℕ) → Decides (any_symbol symbols f n) (HasSymbol symbols f n)
 any_symbol_decides symbols f n = (any_symbol_tells symbols f n, any_symbol_from symbols f n)
 
-not_private : (b : Bool) → not b ≡ true → b ≡ false
-not_private true e = absurd cc
-not_private false e = refl
-
 any_public_tells : (symbols : List Symbol) (f : List ℕ) (n : ℕ) → any_public symbols f n ≡ true → HasPublic symbols f n
 any_public_tells [] f n e = absurd cc
 any_public_tells (s ∷ symbols) f n e =
     ⊎_elim
-    (λ h. let both = and_parts (is_symbol s f n) (not s.private) h in inl (is_symbol_tells s f n both.0 ∙ ap (made f n) (not_private s.private both.1)))
+    (λ h. let both = and_parts (is_symbol s f n) (not s.private) h in inl (is_symbol_tells s f n both.0 ∙ ap (made f n) (denied s.private both.1)))
     (λ h. inr (any_public_tells symbols f n h))
     (or_cases (is_symbol s f n && not s.private) (any_public symbols f n) e)
 

@@ -10,6 +10,4 @@ pub mod matching;
 pub mod normal;
 pub mod over;
 pub mod step;
-#[cfg(test)]
-mod tests;
 pub mod values;

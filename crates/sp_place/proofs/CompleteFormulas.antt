@@ -1,20 +1,21 @@
 -- The formulas of the grammar are in the table.
 use Rattle.std.proofs.Common.{◌≡◌, ℕ, suc, ◌+◌, ◌<◌, ◌==◌, lt-ltb, Bool, true, false, List, [], ◌∷◌, refl, sym, ap, subst, ◌∙◌}
-use Rattle.sp_lex.specs.declared.token.Sign.{Sign}
-use Rattle.sp_lex.specs.declared.token.Sign.TheVariants as s
-use Rattle.sp_lex.specs.Lexeme.{Lexeme, word, constant, sign, solve}
+use Rattle.sp_spec_text.specs.Signs.{Sign}
+use Rattle.sp_spec_text.specs.Signs as s
+use Rattle.sp_spec_text.specs.Token.{Lexeme, word, constant, sign, solve}
 use Rattle.sp_spec.specs.Term.{Term}
 use Rattle.sp_spec.specs.Formula.{Written, Formula}
-use Rattle.sp_read_parts.specs.Names.{names_fact}
-use Rattle.sp_read_parts.specs.Lists.{IsNotFirst, AreItems}
-use Rattle.sp_read_parts.specs.Grammar as g
-use Rattle.sp_read_parts.specs.Grammar.{SpellsVariable, SpellsTerm, NoSign, SpellsUnit, SpellsNegation, SpellsConjunction, SpellsAnds, SpellsDisjunction, SpellsOrs, SpellsImplication, SpellsFormula, SpellsReach}
-use Rattle.sp_place.specs.declared.awaited.Awaited.{Awaited}
-use Rattle.sp_place.specs.declared.awaited.Awaited.TheVariants as a
+use Rattle.sp_spec_text.specs.Names.{names_fact}
+use Rattle.sp_spec_text.specs.Lists.{IsNotFirst, AreItems}
+use Rattle.sp_spec_text.specs.Formulas as g
+use Rattle.sp_spec_text.specs.Formulas.{SpellsVariable, SpellsTerm, NoSign, SpellsUnit, SpellsNegation, SpellsConjunction, SpellsAnds, SpellsDisjunction, SpellsOrs, SpellsImplication, SpellsFormula, SpellsReach}
+use Rattle.sp_place.specs.Parts.{Awaited}
+use Rattle.sp_place.specs.Parts as a
 use Rattle.sp_place.specs.Table.{code, deep, is_sign}
 use Rattle.sp_place.specs.Language.{Has, by_token, by_parts, HasAll, all_had, and_all}
 use Rattle.sp_place.proofs.Tokens.{same_sign, fact_is_name}
-use Rattle.sp_place.proofs.CompleteParts.{one_had, Without, without, differ, has_fact_name, has_variable, has_term, has_arguments, has_opened, has_binders}
+use Rattle.sp_place.proofs.CompleteParts.{one_had, Without, without, has_fact_name, has_variable, has_term, has_arguments, has_opened, has_binders}
+use Rattle.std.proofs.lemmas.Bool.{false_from_ne_true}
 use Rattle.sp_place.proofs.CompleteUnits.{Untailed, untailed, no_colon, more_left, closing_left, closing_none, truth_of_closing, unit_word, negation_of_unit, with_less, with_equals, unit_of_variable, opens, unit_of_term}
 
 -- ---- what may follow
@@ -26,7 +27,7 @@ pub data Unjoined : List Lexeme → Type 0 where
 sign_differs : (z : Sign) (x : Lexeme) (tokens : List Lexeme) → IsNotFirst (sign z) (x ∷ tokens) → is_sign z x ≡ false
 sign_differs z (word w) tokens d = refl
 sign_differs z (constant c) tokens d = refl
-sign_differs z (sign y) tokens d = differ (code y == code z) (λ h. d tokens (ap (λ (u : Sign). sign u ∷ tokens) (same_sign y z h)))
+sign_differs z (sign y) tokens d = false_from_ne_true (code y == code z) (λ h. d tokens (ap (λ (u : Sign). sign u ∷ tokens) (same_sign y z h)))
 sign_differs z (solve t) tokens d = refl
 
 unjoined_of : {tokens : List Lexeme} → Untailed tokens → NoSign tokens → Unjoined tokens

@@ -1,20 +1,21 @@
 -- The variables, terms and facts of the grammar are in the table.
 use Rattle.std.proofs.Common.{◌≡◌, ℕ, ◌+◌, ◌<◌, ◌==◌, lt-ltb, Bool, true, false, List, [], ◌∷◌, Some, None, refl, subst}
-use Rattle.sp_lex.specs.declared.token.Sign.{Sign}
-use Rattle.sp_lex.specs.declared.token.Sign.TheVariants as s
-use Rattle.sp_lex.specs.Lexeme.{Lexeme, word, sign}
+use Rattle.sp_spec_text.specs.Signs.{Sign}
+use Rattle.sp_spec_text.specs.Signs as s
+use Rattle.sp_spec_text.specs.Token.{Lexeme, word, sign}
 use Rattle.sp_spec.specs.Term.{Term}
 use Rattle.sp_spec.specs.Rule.{Fact}
 use Rattle.sp_spec.specs.Formula.{Mark, Written}
-use Rattle.sp_read_parts.specs.Names.{IsName, names_fact, mark_of, mark_at}
-use Rattle.sp_read_parts.specs.Lists.{AreParts, last, next as next_part, AreItems, empty, some}
-use Rattle.sp_read_parts.specs.Grammar as g
-use Rattle.sp_read_parts.specs.Grammar.{SpellsVariable, SpellsTerm, SpellsFact, SpellsBinders}
-use Rattle.sp_place.specs.declared.awaited.Awaited.{Awaited}
-use Rattle.sp_place.specs.declared.awaited.Awaited.TheVariants as a
+use Rattle.sp_spec_text.specs.Names.{IsName, names_fact, mark_of, mark_at}
+use Rattle.sp_spec_text.specs.Lists.{AreParts, last, next as next_part, AreItems, empty, some}
+use Rattle.sp_spec_text.specs.Formulas as g
+use Rattle.sp_spec_text.specs.Formulas.{SpellsVariable, SpellsTerm, SpellsFact, SpellsBinders}
+use Rattle.sp_place.specs.Parts.{Awaited}
+use Rattle.sp_place.specs.Parts as a
 use Rattle.sp_place.specs.Table.{code, is_sign}
 use Rattle.sp_place.specs.Language.{Has, by_token, by_parts, HasAll, all_had, and_all}
 use Rattle.sp_place.proofs.Tokens.{same_sign, is_some_of}
+use Rattle.std.proofs.lemmas.Bool.{false_from_ne_true}
 
 pub one_had : {part : Awaited} {tokens rest : List Lexeme} → Has part tokens rest → HasAll (part ∷ []) tokens rest
 one_had h = and_all h all_had
@@ -23,16 +24,12 @@ one_had h = and_all h all_had
 pub data Without (p : Lexeme → Bool) : List Lexeme → Type 0 where
   without : {x : Lexeme} {tokens : List Lexeme} → p x ≡ false → Without p (x ∷ tokens)
 
-pub differ : (b : Bool) → (b ≡ true → ⊥) → b ≡ false
-differ true d = absurd (d refl)
-differ false d = refl
-
 marks_differ : {y z : Sign} {m : Mark} → mark_at y ≡ Some m → mark_at z ≡ None → y ≡ z → ⊥
 marks_differ {y} {z} {m} e d f = let i : mark_at z ≡ Some m = subst (λ (u : Sign). mark_at u ≡ Some m) f e in cc
 
 -- the sign before a variable is no other sign
 pub no_mark : {m : Mark} (y z : Sign) → mark_at y ≡ Some m → mark_at z ≡ None → (code y == code z) ≡ false
-no_mark y z e d = differ (code y == code z) (λ h. marks_differ e d (same_sign y z h))
+no_mark y z e d = false_from_ne_true (code y == code z) (λ h. marks_differ e d (same_sign y z h))
 
 -- ---- single tokens
 

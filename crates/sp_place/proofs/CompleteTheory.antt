@@ -1,24 +1,25 @@
 -- The proofs and the theories of the grammar are in the table.
 use Rattle.std.proofs.Common.{◌≡◌, ℕ, ◌==◌, eq-eqb, Bool, true, false, ◌||◌, List, [], ◌∷◌, codes, refl, sym, subst, bytes_eq}
-use Rattle.sp_lex.specs.declared.token.Sign.{Sign}
-use Rattle.sp_lex.specs.declared.token.Sign.TheVariants as s
-use Rattle.sp_lex.specs.Lexeme.{Lexeme, word, sign}
+use Rattle.sp_spec_text.specs.Signs.{Sign}
+use Rattle.sp_spec_text.specs.Signs as s
+use Rattle.sp_spec_text.specs.Token.{Lexeme, word, sign}
 use Rattle.sp_spec.specs.Rule.{Fact}
 use Rattle.sp_spec.specs.Formula.{Written}
 use Rattle.sp_spec.specs.Theory.{TraceKind}
-use Rattle.sp_read_parts.specs.Lists.{AreParts, last, next as next_part, AreItems, empty, some}
-use Rattle.sp_read_parts.specs.Grammar.{SpellsFact, linear, persistent}
-use Rattle.sp_written.specs.Text.{Method, WrittenProof, WrittenCases, Item, WrittenText}
-use Rattle.sp_read_proof.specs.Grammar as p
-use Rattle.sp_read_proof.specs.Grammar.{is_method, SpellsMethod, SpellsProof, SpellsMore}
-use Rattle.sp_read_theory.specs.Grammar as g
-use Rattle.sp_read_theory.specs.Grammar.{SpellsFacts, SpellsArrow, SpellsKind, SpellsItems, SpellsTheory}
-use Rattle.sp_place.specs.declared.awaited.Awaited.TheVariants as a
+use Rattle.sp_spec_text.specs.Lists.{AreParts, last, next as next_part, AreItems, empty, some}
+use Rattle.sp_spec_text.specs.Formulas.{SpellsFact, linear, persistent}
+use Rattle.sp_spec_text.specs.Written.{Method, WrittenProof, WrittenCases, Item, WrittenText}
+use Rattle.sp_spec_text.specs.Proofs as p
+use Rattle.sp_spec_text.specs.Proofs.{is_method, SpellsMethod, SpellsProof, SpellsMore}
+use Rattle.sp_spec_text.specs.Theories as g
+use Rattle.sp_spec_text.specs.Theories.{SpellsFacts, SpellsArrow, SpellsKind, SpellsItems, SpellsTheory}
+use Rattle.sp_place.specs.Parts as a
 use Rattle.sp_place.specs.Table.{next, stuck, code, is_sign, is_item}
 use Rattle.sp_place.specs.Language.{Has, by_token, by_parts, HasAll, all_had, and_all}
 use Rattle.sp_place.proofs.Tokens.{same_word}
 use Rattle.sp_place.proofs.Had.{no_move}
-use Rattle.sp_place.proofs.CompleteParts.{one_had, Without, without, differ, has_name, has_fact}
+use Rattle.sp_place.proofs.CompleteParts.{one_had, Without, without, has_name, has_fact}
+use Rattle.std.proofs.lemmas.Bool.{false_from_ne_true}
 use Rattle.sp_place.proofs.CompleteFormulas.{has_quoted}
 
 -- ---- words
@@ -33,7 +34,7 @@ by_no_method = refl
 
 -- a method is no word that is none
 method_differs : (w v : List ℕ) → is_method w ≡ true → is_method v ≡ false → bytes_eq w v ≡ false
-method_differs w v e d = differ (bytes_eq w v) (λ h. let i : is_method v ≡ true = subst (λ (u : List ℕ). is_method u ≡ true) (same_word w v h) e in let none : ⊥ = cc in none)
+method_differs w v e d = false_from_ne_true (bytes_eq w v) (λ h. let i : is_method v ≡ true = subst (λ (u : List ℕ). is_method u ≡ true) (same_word w v h) e in let none : ⊥ = cc in none)
 
 case_stuck : next a.Proof (word (codes "case")) ≡ stuck
 unfolding is_method
@@ -139,7 +140,7 @@ below_of_items (word w ∷ tokens) {rest} h = at (is_item (word w)) refl
 below_of_items (x ∷ tokens) h = absurd (no_move a.Items x refl h)
 
 stuck_differs : (v w : List ℕ) {tokens rest : List Lexeme} → next a.Proof (word v) ≡ stuck → Has a.Proof (word w ∷ tokens) rest → bytes_eq w v ≡ false
-stuck_differs v w {tokens} {rest} d h = differ (bytes_eq w v) (λ i. no_move a.Proof (word v) d (subst (λ (u : List ℕ). Has a.Proof (word u ∷ tokens) rest) (same_word w v i) h))
+stuck_differs v w {tokens} {rest} d h = false_from_ne_true (bytes_eq w v) (λ i. no_move a.Proof (word v) d (subst (λ (u : List ℕ). Has a.Proof (word u ∷ tokens) rest) (same_word w v i) h))
 
 proof_no_item : (w : List ℕ) {tokens rest : List Lexeme} → Has a.Proof (word w ∷ tokens) rest → is_item (word w) ≡ false
 proof_no_item w h = rw (stuck_differs (codes "rule") w rule_stuck h, stuck_differs (codes "lemma") w lemma_stuck h, stuck_differs (codes "end") w end_stuck h) refl

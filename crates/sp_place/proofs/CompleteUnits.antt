@@ -1,20 +1,21 @@
 -- What begins a unit of the grammar is in the table, with what stands behind it.
 use Rattle.std.proofs.Common.{◌≡◌, ℕ, zero, suc, ◌+◌, ◌<◌, ◌⊎◌, inl, inr, nat_lt, lt-ltb, Bool, true, false, List, [], ◌∷◌, codes, refl, sym, ap, subst, bytes_eq}
-use Rattle.sp_lex.specs.declared.token.Sign.TheVariants as s
-use Rattle.sp_lex.specs.Lexeme.{Lexeme, word, sign}
+use Rattle.sp_spec_text.specs.Signs as s
+use Rattle.sp_spec_text.specs.Token.{Lexeme, word, sign}
 use Rattle.sp_spec.specs.Term.{Term}
 use Rattle.sp_spec.specs.Formula.{Written}
-use Rattle.sp_read_parts.specs.Names.{IsName, is_reserved, names_fact}
-use Rattle.sp_read_parts.specs.Grammar as g
-use Rattle.sp_read_parts.specs.Grammar.{SpellsVariable, SpellsTerm}
-use Rattle.sp_place.specs.declared.awaited.Awaited.TheVariants as a
+use Rattle.sp_spec_text.specs.Names.{IsName, is_reserved, names_fact}
+use Rattle.sp_spec_text.specs.Formulas as g
+use Rattle.sp_spec_text.specs.Formulas.{SpellsVariable, SpellsTerm}
+use Rattle.sp_place.specs.Parts as a
 use Rattle.sp_place.specs.Table.{next, stuck, deep, is_sign, is_quantifier, is_truth}
 use Rattle.sp_place.specs.Language.{Has, by_token, by_parts, HasAll, all_had, and_all}
 use Rattle.sp_place.proofs.Tokens.{either_word, same_word, is_some_of}
 use Rattle.sp_place.proofs.Meaning.{MoreOf, no_more, more_and, more_or, more_then, TwiceOf, once, twice, ClosedOf}
 use Rattle.sp_place.proofs.SoundTheory.{has_means}
 use Rattle.sp_place.proofs.Had.{taken, become, no_move, none_left, one_of}
-use Rattle.sp_place.proofs.CompleteParts.{one_had, Without, without, differ, no_mark, has_name, has_sort}
+use Rattle.sp_place.proofs.CompleteParts.{one_had, Without, without, no_mark, has_name, has_sort}
+use Rattle.std.proofs.lemmas.Bool.{false_from_ne_true}
 
 -- ---- what may follow
 
@@ -120,7 +121,7 @@ reserved_not : {w v : List ℕ} → is_reserved v ≡ true → w ≡ v → IsNam
 reserved_not {w} {v} e d n = let i : is_reserved v ≡ false = subst (λ (u : List ℕ). is_reserved u ≡ false) d n in let none : ⊥ = cc in none
 
 no_quantifier : (w : List ℕ) → IsName w → is_quantifier (word w) ≡ false
-no_quantifier w n = differ (is_quantifier (word w)) (λ h. at (either_word w (codes "All") (codes "Ex") h))
+no_quantifier w n = false_from_ne_true (is_quantifier (word w)) (λ h. at (either_word w (codes "All") (codes "Ex") h))
   where
     at : (w ≡ codes "All") ⊎ (w ≡ codes "Ex") → ⊥
     at (inl e) = reserved_not all_reserved e n

@@ -1,7 +1,7 @@
 -- A part that is had is had by the move of the table.
 use Rattle.std.proofs.Common.{◌≡◌, List, [], ◌∷◌, refl, subst}
-use Rattle.sp_lex.specs.Lexeme.{Lexeme}
-use Rattle.sp_place.specs.declared.awaited.Awaited.{Awaited}
+use Rattle.sp_spec_text.specs.Token.{Lexeme}
+use Rattle.sp_place.specs.Parts.{Awaited}
 use Rattle.sp_place.specs.Table.{next, takes, becomes, stuck}
 use Rattle.sp_place.specs.Language.{Has, by_token, by_parts, HasAll, all_had, and_all}
 

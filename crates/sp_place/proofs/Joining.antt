@@ -1,9 +1,9 @@
 -- What stands behind a negation makes with it an implication, a formula, and a formula that reaches as far as it can.
 use Rattle.std.proofs.Common.{ℕ, ◌+◌, ◌<◌, List, ◌∷◌}
-use Rattle.sp_lex.specs.declared.token.Sign.TheVariants as s
-use Rattle.sp_lex.specs.Lexeme.{Lexeme, sign}
+use Rattle.sp_spec_text.specs.Signs as s
+use Rattle.sp_spec_text.specs.Token.{Lexeme, sign}
 use Rattle.sp_spec.specs.Formula.{Formula, both, either, implies}
-use Rattle.sp_read_parts.specs.Grammar.{NoSign, equivalent, SpellsNegation, conjunction, SpellsAnds, no_more_and, and_then, disjunction, SpellsOrs, no_more_or, or_then, SpellsImplication, alone, implication, SpellsFormula, one, two, SpellsDisjunction, SpellsReach, reach_one, reach_two}
+use Rattle.sp_spec_text.specs.Formulas.{NoSign, equivalent, SpellsNegation, conjunction, SpellsAnds, no_more_and, and_then, disjunction, SpellsOrs, no_more_or, or_then, SpellsImplication, alone, implication, SpellsFormula, one, two, SpellsDisjunction, SpellsReach, reach_one, reach_two}
 use Rattle.sp_place.proofs.Meaning.{Spelled, MoreOf, no_more, more_and, more_or, more_then, TwiceOf, once, twice}
 
 data Arrowed : ℕ → List Lexeme → List Lexeme → Type 0 where

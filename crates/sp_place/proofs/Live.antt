@@ -1,11 +1,11 @@
 -- Each good list of parts is had by some tokens.
 use Rattle.std.proofs.Common.{◌≡◌, ℕ, zero, suc, ◌+◌, ◌<◌, ◌==◌, lt-ltb, eq-eqb, Bool, true, false, List, [], ◌∷◌, codes, refl}
-use Rattle.sp_lex.specs.declared.token.Sign.{Sign}
-use Rattle.sp_lex.specs.declared.token.Sign.TheVariants as s
-use Rattle.sp_lex.specs.Lexeme.{Lexeme, word, constant, sign, solve}
-use Rattle.sp_read_parts.specs.Names.{IsName, is_reserved, is_adversarial, names_fact, mark_of}
-use Rattle.sp_place.specs.declared.awaited.Awaited.{Awaited}
-use Rattle.sp_place.specs.declared.awaited.Awaited.TheVariants as a
+use Rattle.sp_spec_text.specs.Signs.{Sign}
+use Rattle.sp_spec_text.specs.Signs as s
+use Rattle.sp_spec_text.specs.Token.{Lexeme, word, constant, sign, solve}
+use Rattle.sp_spec_text.specs.Names.{IsName, is_reserved, is_adversarial, names_fact, mark_of}
+use Rattle.sp_place.specs.Parts.{Awaited}
+use Rattle.sp_place.specs.Parts as a
 use Rattle.sp_place.specs.Table.{next, takes, deep, code}
 use Rattle.sp_place.specs.Language.{Has, by_token, by_parts, HasAll, all_had, and_all}
 use Rattle.sp_place.specs.Stack.{is_closing, closes_first, is_closed, Fits, Good}

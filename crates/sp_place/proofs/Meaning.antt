@@ -1,13 +1,13 @@
 -- What the parts of a text are in the grammar, whatever they say.
 use Rattle.std.proofs.Common.{◌≡◌, ℕ, zero, suc, ◌+◌, ◌<◌, ◌⊎◌, Bool, true, not, is_some, List, ◌∷◌, Some, bytes_eq}
-use Rattle.sp_lex.specs.declared.token.Sign.{Sign}
-use Rattle.sp_lex.specs.declared.token.Sign.TheVariants as s
-use Rattle.sp_lex.specs.Lexeme.{Lexeme, word, sign}
+use Rattle.sp_spec_text.specs.Signs.{Sign}
+use Rattle.sp_spec_text.specs.Signs as s
+use Rattle.sp_spec_text.specs.Token.{Lexeme, word, sign}
 use Rattle.sp_spec.specs.Term.{Term}
 use Rattle.sp_spec.specs.Formula.{Mark, Written, Formula}
-use Rattle.sp_read_parts.specs.Names.{is_reserved, mark_of}
-use Rattle.sp_read_parts.specs.Lists.{IsNotFirst, AreParts, AreItems}
-use Rattle.sp_read_parts.specs.Grammar.{SpellsVariable, SpellsTerm, SpellsBinders, SpellsNegation, NoSign}
+use Rattle.sp_spec_text.specs.Names.{is_reserved, mark_of}
+use Rattle.sp_spec_text.specs.Lists.{IsNotFirst, AreParts, AreItems}
+use Rattle.sp_spec_text.specs.Formulas.{SpellsVariable, SpellsTerm, SpellsBinders, SpellsNegation, NoSign}
 use Rattle.sp_place.specs.Table.{deep}
 
 -- the tokens begin with something that R spells

@@ -1,16 +1,16 @@
 -- Each part of a text in the grammar.
 use Rattle.std.proofs.Common.{◌≡◌, ℕ, ◌⊎◌, Bool, true, false, if◌then◌else◌, nat_lt, ◌<◌, ltb-true, List, [], ◌∷◌, Option, codes, refl, sym, subst}
-use Rattle.sp_lex.specs.declared.token.Sign.TheVariants as s
-use Rattle.sp_lex.specs.Lexeme.{Lexeme, word, sign}
+use Rattle.sp_spec_text.specs.Signs as s
+use Rattle.sp_spec_text.specs.Token.{Lexeme, word, sign}
 use Rattle.sp_spec.specs.Theory.{TraceKind}
-use Rattle.sp_read_parts.specs.Names.{IsName, names_fact}
-use Rattle.sp_read_parts.specs.Lists.{AreItems}
-use Rattle.sp_read_parts.specs.Grammar.{SpellsVariable, SpellsTerm, SpellsFact, SpellsUnit, SpellsNegation}
-use Rattle.sp_written.specs.Text.{WrittenProof, WrittenCases, Item}
-use Rattle.sp_read_proof.specs.Grammar.{SpellsMethod, SpellsProof, SpellsCases, SpellsMore}
-use Rattle.sp_read_theory.specs.Grammar.{SpellsFacts, SpellsArrow, SpellsKind, SpellsProofPart, SpellsItems}
-use Rattle.sp_place.specs.declared.awaited.Awaited.{Awaited}
-use Rattle.sp_place.specs.declared.awaited.Awaited.TheVariants as a
+use Rattle.sp_spec_text.specs.Names.{IsName, names_fact}
+use Rattle.sp_spec_text.specs.Lists.{AreItems}
+use Rattle.sp_spec_text.specs.Formulas.{SpellsVariable, SpellsTerm, SpellsFact, SpellsUnit, SpellsNegation}
+use Rattle.sp_spec_text.specs.Written.{WrittenProof, WrittenCases, Item}
+use Rattle.sp_spec_text.specs.Proofs.{SpellsMethod, SpellsProof, SpellsCases, SpellsMore}
+use Rattle.sp_spec_text.specs.Theories.{SpellsFacts, SpellsArrow, SpellsKind, SpellsProofPart, SpellsItems}
+use Rattle.sp_place.specs.Parts.{Awaited}
+use Rattle.sp_place.specs.Parts as a
 use Rattle.sp_place.specs.Table.{Move, takes, becomes, stuck, single, nests}
 use Rattle.sp_place.proofs.Meaning.{Spelled, OneSign, OneWord, OneName, OneSort, ThisWord, SortPart, AfterPart, OpenedArguments, AfterBinder, MoreOf, TwiceOf, ClosedOf, SideOf, OrderOf, BareOf, NamedOf, StartOf}
 

@@ -1,14 +1,14 @@
 -- Where a text is refused, and that it is refused at one place.
 use Rattle.std.proofs.Common.{◌≡◌, ◌⊎◌, inl, inr, ℕ, List, [], ◌∷◌, ◌++◌, length, Option, Some, None, refl, sym, ap, subst, ◌∙◌, append_assoc, append-nil}
-use Rattle.sp_lex.specs.declared.token.FaultKind.{FaultKind}
+use Rattle.sp_spec_text.specs.Bytes.{FaultKind}
 use Rattle.sp_lex.specs.declared.token.LexFault.{LexFault}
-use Rattle.sp_lex.specs.Lexeme.{Lexeme, Token}
-use Rattle.sp_lex.specs.Lex.{AreTokens, AreTokensBefore, lexemes}
+use Rattle.sp_spec_text.specs.Token.{Lexeme, Token}
+use Rattle.sp_spec_text.specs.Lex.{AreTokens, AreTokensBefore, lexemes}
 use Rattle.sp_lex.specs.Views.{IsScanned}
 use Rattle.sp_lex.proofs.One.{tokens_one, before_one, not_both}
-use Rattle.sp_written.specs.Text.{WrittenText}
-use Rattle.sp_read_theory.specs.Grammar.{SpellsTheory}
-use Rattle.sp_read_theory.specs.Text.{IsTextOf, IsNoText}
+use Rattle.sp_spec_text.specs.Written.{WrittenText}
+use Rattle.sp_spec_text.specs.Theories.{SpellsTheory}
+use Rattle.sp_spec_text.specs.Texts.{IsTextOf, IsNoText}
 use Rattle.sp_place.specs.Refused.{Begin, StopsAt, whole, broken, IsFirstWrong, IsRefusedAt}
 use Rattle.sp_place.specs.Runs.{IsLeft}
 
@@ -48,8 +48,8 @@ refused_wrong {text} {tokens} None h w = record {
 }
 refused_wrong {tokens = tokens} (Some f) h w = record { nothing = fault_nothing h; tokens = tokens; stop = f.place; stops = broken h; first = inl w }
 
-pub refused_fault : {text : List ℕ} {tokens : List Token} {fault : LexFault} → AreTokensBefore (length text) text tokens fault.place fault.kind → Begin (lexemes tokens) → IsRefusedAt text fault.place
-refused_fault {tokens = tokens} {fault = f} h b = record { nothing = fault_nothing h; tokens = tokens; stop = f.place; stops = broken h; first = inr (b, refl) }
+pub refused_fault : {text : List ℕ} {tokens : List Token} {place : ℕ} {kind : FaultKind} → AreTokensBefore (length text) text tokens place kind → Begin (lexemes tokens) → IsRefusedAt text place
+refused_fault {tokens = tokens} {place = place} h b = record { nothing = fault_nothing h; tokens = tokens; stop = place; stops = broken h; first = inr (b, refl) }
 
 pub refused_end : {text : List ℕ} {tokens : List Token} → AreTokens (length text) text tokens → IsLeft tokens → IsRefusedAt text (length text)
 refused_end {text} {tokens} h l = record { nothing = spells_nothing h l.none; tokens = tokens; stop = length text; stops = whole h; first = inr (l.begins, refl) }

@@ -1,11 +1,11 @@
 -- The tokens of a text are taken one after the other: up to the first wrong one, or up to the last.
 use Rattle.std.proofs.Common.{◌≡◌, List, [], ◌∷◌, ◌++◌, refl, sym, ap, subst, ◌∙◌, append_assoc, append-nil}
-use Rattle.sp_lex.specs.Lexeme.{Lexeme, Token}
-use Rattle.sp_lex.specs.Lex.{lexemes}
-use Rattle.sp_written.specs.Text.{WrittenText}
-use Rattle.sp_read_theory.specs.Grammar.{SpellsTheory, theory}
-use Rattle.sp_place.specs.declared.awaited.Awaited.{Awaited}
-use Rattle.sp_place.specs.declared.awaited.Awaited.TheVariants as a
+use Rattle.sp_spec_text.specs.Token.{Lexeme, Token}
+use Rattle.sp_spec_text.specs.Lex.{lexemes}
+use Rattle.sp_spec_text.specs.Written.{WrittenText}
+use Rattle.sp_spec_text.specs.Theories.{SpellsTheory, theory}
+use Rattle.sp_place.specs.Parts.{Awaited}
+use Rattle.sp_place.specs.Parts as a
 use Rattle.sp_place.specs.Language.{HasAll, all_had, and_all}
 use Rattle.sp_place.specs.Stack.{Good}
 use Rattle.sp_place.specs.Texts.{Follows, Refuses}

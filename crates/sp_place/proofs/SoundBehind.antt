@@ -1,12 +1,12 @@
 -- What the table says of what stands behind the parts of a formula, the grammar says.
 use Rattle.std.proofs.Common.{◌≡◌, ℕ, zero, suc, ◌+◌, ◌<◌, ◌⊎◌, inl, inr, List, [], ◌∷◌, codes, sym, subst, bytes_eq}
-use Rattle.sp_lex.specs.declared.token.Sign.TheVariants as s
-use Rattle.sp_lex.specs.Lexeme.{Lexeme, word, sign}
-use Rattle.sp_read_parts.specs.Names.{mark_of}
-use Rattle.sp_read_parts.specs.Lists.{IsNotFirst}
-use Rattle.sp_read_parts.specs.Grammar as g
-use Rattle.sp_read_parts.specs.Grammar.{SpellsVariable, SpellsTerm, SpellsFact, SpellsBinders, SpellsUnit, SpellsNegation, NoSign}
-use Rattle.sp_place.specs.declared.awaited.Awaited.TheVariants as a
+use Rattle.sp_spec_text.specs.Signs as s
+use Rattle.sp_spec_text.specs.Token.{Lexeme, word, sign}
+use Rattle.sp_spec_text.specs.Names.{mark_of}
+use Rattle.sp_spec_text.specs.Lists.{IsNotFirst}
+use Rattle.sp_spec_text.specs.Formulas as g
+use Rattle.sp_spec_text.specs.Formulas.{SpellsUnit, SpellsNegation, NoSign}
+use Rattle.sp_place.specs.Parts as a
 use Rattle.sp_place.specs.Table.{takes, becomes, deep, negation_move, side_closed, side_move, order_move, bare_move, named_move, truth_move, both_closed, both_move, closing_move, more_move, twice_move}
 use Rattle.sp_place.proofs.Meaning.{one_sign, one_word, led, MoreOf, no_more, more_and, more_or, more_then, TwiceOf, once, twice, ClosedOf, Equated, equated, SideOf, OrderOf, less, as_term, BareOf, of_sort, of_none, NamedOf, as_fact, as_name, StartOf, formula_first, term_first}
 use Rattle.sp_place.proofs.Tokens.{same_word, some_is}

@@ -1,13 +1,13 @@
 -- What the table says of formulas, the grammar says.
 use Rattle.std.proofs.Common.{◌≡◌, ℕ, zero, suc, ◌+◌, ◌<◌, ◌⊎◌, inl, inr, true, not, List, [], ◌∷◌, Some, codes, refl, sym, subst}
-use Rattle.sp_lex.specs.declared.token.Sign.{Sign}
-use Rattle.sp_lex.specs.declared.token.Sign.TheVariants as s
-use Rattle.sp_lex.specs.Lexeme.{Lexeme, word, constant, sign}
+use Rattle.sp_spec_text.specs.Signs.{Sign}
+use Rattle.sp_spec_text.specs.Signs as s
+use Rattle.sp_spec_text.specs.Token.{Lexeme, word, constant, sign}
 use Rattle.sp_spec.specs.Formula.{Mark, Written, Formula, equals}
-use Rattle.sp_read_parts.specs.Names.{IsName, is_reserved, names_fact, mark_at}
-use Rattle.sp_read_parts.specs.Grammar as g
-use Rattle.sp_read_parts.specs.Grammar.{SpellsVariable, SpellsTerm, SpellsFact, SpellsBinders, SpellsUnit, SpellsNegation, NoSign}
-use Rattle.sp_place.specs.declared.awaited.Awaited.TheVariants as a
+use Rattle.sp_spec_text.specs.Names.{IsName, is_reserved, names_fact, mark_at}
+use Rattle.sp_spec_text.specs.Formulas as g
+use Rattle.sp_spec_text.specs.Formulas.{SpellsVariable, SpellsUnit, SpellsNegation}
+use Rattle.sp_place.specs.Parts as a
 use Rattle.sp_place.specs.Table.{Move, takes, stuck, deep, is_quantifier, is_truth, word_move, unit_move, nests}
 use Rattle.sp_place.proofs.Meaning.{Spelled, one_sign, one_word, led, opened, OneClosed, ClosedOf, equated, OrderOf, less, as_term, BareOf, of_sort, of_none, NamedOf, as_fact, as_name, StartOf, formula_first, term_first}
 use Rattle.sp_place.proofs.Joining.{formula_of, reach_of}

@@ -1,16 +1,16 @@
 -- What the table says of terms, facts and formulas, the grammar says.
 use Rattle.std.proofs.Common.{◌≡◌, ℕ, ◌+◌, ◌<◌, true, not, List, [], ◌∷◌, Some, refl, sym, subst, is_some, ◌==◌}
-use Rattle.sp_lex.specs.declared.token.Sign.{Sign}
-use Rattle.sp_lex.specs.declared.token.Sign.TheVariants as s
-use Rattle.sp_lex.specs.Lexeme.{Lexeme, word, constant, sign, solve}
+use Rattle.sp_spec_text.specs.Signs.{Sign}
+use Rattle.sp_spec_text.specs.Signs as s
+use Rattle.sp_spec_text.specs.Token.{Lexeme, word, constant, sign, solve}
 use Rattle.sp_spec.specs.Term.{Term}
 use Rattle.sp_spec.specs.Term as t
 use Rattle.sp_spec.specs.Formula.{Mark, Written}
-use Rattle.sp_read_parts.specs.Names.{IsName, is_reserved, names_fact, mark_of, mark_at}
-use Rattle.sp_read_parts.specs.Lists.{AreParts, last, next as next_part, AreItems, empty, some}
-use Rattle.sp_read_parts.specs.Grammar as g
-use Rattle.sp_read_parts.specs.Grammar.{SpellsVariable, SpellsTerm, SpellsFact, SpellsBinders, SpellsUnit, SpellsNegation, NoSign}
-use Rattle.sp_place.specs.declared.awaited.Awaited.TheVariants as a
+use Rattle.sp_spec_text.specs.Names.{IsName, is_reserved, names_fact, mark_of, mark_at}
+use Rattle.sp_spec_text.specs.Lists.{AreParts, last, next as next_part, AreItems, empty, some}
+use Rattle.sp_spec_text.specs.Formulas as g
+use Rattle.sp_spec_text.specs.Formulas.{SpellsVariable, SpellsTerm, SpellsFact, SpellsBinders}
+use Rattle.sp_place.specs.Parts as a
 use Rattle.sp_place.specs.Table.{next, takes, stuck, code, variable_move, sorted_move, term_move, arguments_move, more_arguments_move, fact_move, opened_move, binders_move}
 use Rattle.sp_place.proofs.Meaning.{Spelled, OneSign, one_sign, one_word, OneName, SortPart, unsorted, sorted, AfterPart, no_part, a_part, OpenedArguments, opened, AfterBinder, no_binder, a_binder}
 use Rattle.sp_place.proofs.Tokens.{same_sign, name_is, some_is}

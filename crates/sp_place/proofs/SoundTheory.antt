@@ -1,18 +1,18 @@
 -- What the table says of proofs and theories, the grammar says; and so does what is made of the table.
 use Rattle.std.proofs.Common.{◌≡◌, ℕ, true, ◌==◌, List, [], ◌∷◌, codes, refl, sym, subst, bytes_eq}
-use Rattle.sp_lex.specs.declared.token.Sign.{Sign}
-use Rattle.sp_lex.specs.declared.token.Sign.TheVariants as s
-use Rattle.sp_lex.specs.Lexeme.{Lexeme, word, sign, solve}
+use Rattle.sp_spec_text.specs.Signs.{Sign}
+use Rattle.sp_spec_text.specs.Signs as s
+use Rattle.sp_spec_text.specs.Token.{Lexeme, word, sign, solve}
 use Rattle.sp_spec.specs.Theory.{all_traces}
-use Rattle.sp_read_parts.specs.Lists.{AreItems, empty}
-use Rattle.sp_read_parts.specs.Grammar.{SpellsFact}
-use Rattle.sp_written.specs.Text.{Method, said, goal}
-use Rattle.sp_read_proof.specs.Grammar as p
-use Rattle.sp_read_proof.specs.Grammar.{is_method, SpellsMethod, SpellsProof, SpellsMore}
-use Rattle.sp_read_theory.specs.Grammar as g
-use Rattle.sp_read_theory.specs.Grammar.{SpellsFacts, SpellsArrow}
-use Rattle.sp_place.specs.declared.awaited.Awaited.{Awaited}
-use Rattle.sp_place.specs.declared.awaited.Awaited.TheVariants as a
+use Rattle.sp_spec_text.specs.Lists.{AreItems, empty}
+use Rattle.sp_spec_text.specs.Formulas.{SpellsFact}
+use Rattle.sp_spec_text.specs.Written.{Method, said, goal}
+use Rattle.sp_spec_text.specs.Proofs as p
+use Rattle.sp_spec_text.specs.Proofs.{is_method, SpellsMethod, SpellsProof, SpellsMore}
+use Rattle.sp_spec_text.specs.Theories as g
+use Rattle.sp_spec_text.specs.Theories.{SpellsFacts, SpellsArrow}
+use Rattle.sp_place.specs.Parts.{Awaited}
+use Rattle.sp_place.specs.Parts as a
 use Rattle.sp_place.specs.Table.{next, Move, takes, becomes, stuck, single, code, is_item, proof_move, behind_move, cases_move, theory_move, items_move, fact_list_move, facts_move, more_facts_move, arrow_move, kind_move, below_move}
 use Rattle.sp_place.specs.Language.{Has, by_token, by_parts, HasAll, all_had, and_all}
 use Rattle.sp_place.proofs.Meaning.{Spelled, one_sign, one_word, AfterPart, no_part, a_part}

@@ -1,9 +1,9 @@
 -- A token is taken step by step: each step keeps what texts go on from the token on.
 use Rattle.std.proofs.Common.{◌≡◌, ◌<◌, Bool, true, List, [], ◌∷◌, ◌++◌, refl, sym, ap, subst, length, reverse, MatchBool, ◌==◌, eqb-true, eq-eqb, false, arith}
 use Rattle.std.proofs.lemmas.List.{length-reverse, nil_from_length}
-use Rattle.sp_lex.specs.Lexeme.{Lexeme}
-use Rattle.sp_place.specs.declared.awaited.Awaited.{Awaited}
-use Rattle.sp_place.specs.declared.awaited.Awaited.TheVariants as a
+use Rattle.sp_spec_text.specs.Token.{Lexeme}
+use Rattle.sp_place.specs.Parts.{Awaited}
+use Rattle.sp_place.specs.Parts as a
 use Rattle.sp_place.specs.Table.{takes, becomes, stuck, next}
 use Rattle.sp_place.specs.Language.{by_token, by_parts, HasAll, all_had, and_all}
 use Rattle.sp_place.specs.Stack.{is_closed, Fits, Good}

@@ -1,10 +1,11 @@
 -- What the tests on tokens say.
 use Rattle.std.proofs.Common.{◌≡◌, ℕ, ◌==◌, eqb-true, if◌then◌else◌, ◌⊎◌, inl, inr, Bool, true, false, not, ◌&&◌, ◌||◌, is_some, List, Option, Some, None, codes, refl, sym, ap, ◌∙◌, bytes_eq}
 use Rattle.std.proofs.lemmas.Slice.Eq.{bytes_eq-Decides}
-use Rattle.sp_lex.specs.declared.token.Sign.{Sign}
-use Rattle.sp_lex.specs.declared.token.Sign.TheVariants as s
-use Rattle.sp_read_parts.specs.Names.{is_reserved, is_capital, is_adversarial, names_fact}
+use Rattle.sp_spec_text.specs.Signs.{Sign}
+use Rattle.sp_spec_text.specs.Signs as s
+use Rattle.sp_spec_text.specs.Names.{is_reserved, is_capital, is_adversarial, names_fact}
 use Rattle.sp_place.specs.Table.{code}
+use Rattle.std.proofs.lemmas.Bool.{or_cases}
 
 decode : ℕ → Sign
 decode n =
@@ -47,12 +48,8 @@ same_sign x y e = sym (decoded x) ∙ ap decode (eqb-true (code x) (code y) e) �
 pub same_word : (w v : List ℕ) → bytes_eq w v ≡ true → w ≡ v
 same_word w v e = (bytes_eq-Decides w v).0 e
 
-pub or_either : (b c : Bool) → (b || c) ≡ true → (b ≡ true) ⊎ (c ≡ true)
-or_either true c e = inl refl
-or_either false c e = inr e
-
 pub either_word : (w v u : List ℕ) → (bytes_eq w v || bytes_eq w u) ≡ true → (w ≡ v) ⊎ (w ≡ u)
-either_word w v u e = at (or_either (bytes_eq w v) (bytes_eq w u) e)
+either_word w v u e = at (or_cases (bytes_eq w v) (bytes_eq w u) e)
   where
     at : (bytes_eq w v ≡ true) ⊎ (bytes_eq w u ≡ true) → (w ≡ v) ⊎ (w ≡ u)
     at (inl i) = inl (same_word w v i)

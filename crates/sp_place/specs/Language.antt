@@ -1,7 +1,7 @@
 -- The tokens that parts consist of, as the table of moves says it.
 use Rattle.std.specs.Prelude.{◌≡◌, List, [], ◌∷◌}
-use Rattle.sp_lex.specs.Lexeme.{Lexeme}
-use Rattle.sp_place.specs.declared.awaited.Awaited.{Awaited}
+use Rattle.sp_spec_text.specs.Token.{Lexeme}
+use Rattle.sp_place.specs.Parts.{Awaited}
 use Rattle.sp_place.specs.Table.{takes, becomes, next}
 
 mutual

@@ -1,12 +1,12 @@
 -- Where a text is refused: at its first token that no text of the grammar has behind the tokens before it. Where there is none, that is
 -- the place of the text's lexical fault, or its length.
 use Rattle.std.specs.Prelude.{◌≡◌, ◌⊎◌, ℕ, List, [], ◌∷◌, ◌++◌, length}
-use Rattle.sp_lex.specs.declared.token.FaultKind.{FaultKind}
-use Rattle.sp_lex.specs.Lexeme.{Lexeme, Token}
-use Rattle.sp_lex.specs.Lex.{AreTokens, AreTokensBefore, lexemes}
-use Rattle.sp_written.specs.Text.{WrittenText}
-use Rattle.sp_read_theory.specs.Grammar.{SpellsTheory}
-use Rattle.sp_read_theory.specs.Text.{IsNoText}
+use Rattle.sp_spec_text.specs.Bytes.{FaultKind}
+use Rattle.sp_spec_text.specs.Token.{Lexeme, Token}
+use Rattle.sp_spec_text.specs.Lex.{AreTokens, AreTokensBefore, lexemes}
+use Rattle.sp_spec_text.specs.Written.{WrittenText}
+use Rattle.sp_spec_text.specs.Theories.{SpellsTheory}
+use Rattle.sp_spec_text.specs.Texts.{IsNoText}
 
 -- these tokens begin a text of the grammar
 abbrev pub Begin : List Lexeme → Type 0

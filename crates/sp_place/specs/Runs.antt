@@ -1,11 +1,11 @@
 -- How far the tokens of a text go.
 use Rattle.std.specs.Prelude.{◌≡◌, List, [], ◌∷◌, ◌++◌}
-use Rattle.sp_lex.specs.Lexeme.{Lexeme, Token}
-use Rattle.sp_lex.specs.Lex.{lexemes}
-use Rattle.sp_written.specs.Text.{WrittenText}
-use Rattle.sp_read_theory.specs.Grammar.{SpellsTheory}
-use Rattle.sp_place.specs.declared.awaited.Awaited.{Awaited}
-use Rattle.sp_place.specs.declared.awaited.Awaited.TheVariants as a
+use Rattle.sp_spec_text.specs.Token.{Lexeme, Token}
+use Rattle.sp_spec_text.specs.Lex.{lexemes}
+use Rattle.sp_spec_text.specs.Written.{WrittenText}
+use Rattle.sp_spec_text.specs.Theories.{SpellsTheory}
+use Rattle.sp_place.specs.Parts.{Awaited}
+use Rattle.sp_place.specs.Parts as a
 use Rattle.sp_place.specs.declared.refused.Run.{Run}
 use Rattle.sp_place.specs.declared.refused.Run.TheVariants.{Wrong, Left, Whole}
 use Rattle.sp_place.specs.Language.{HasAll}

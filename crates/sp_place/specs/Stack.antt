@@ -1,10 +1,10 @@
 -- The parts that a text still has to have, the first one first: which lists of them come up. From such a list a text can be ended:
 -- no nesting is too deep for its parts, and behind a part of a formula stands what closes the formula.
 use Rattle.std.specs.Prelude.{◌≡◌, ◌≤◌, ◌<◌, ◌==◌, Bool, true, false, List, [], ◌∷◌}
-use Rattle.sp_lex.specs.declared.token.Sign.{Sign}
-use Rattle.sp_lex.specs.declared.token.Sign.TheVariants as s
-use Rattle.sp_place.specs.declared.awaited.Awaited.{Awaited}
-use Rattle.sp_place.specs.declared.awaited.Awaited.TheVariants as a
+use Rattle.sp_spec_text.specs.Signs.{Sign}
+use Rattle.sp_spec_text.specs.Signs as s
+use Rattle.sp_place.specs.Parts.{Awaited}
+use Rattle.sp_place.specs.Parts as a
 use Rattle.sp_place.specs.Table.{code, deep}
 
 abbrev pub is_closing : Sign → Bool

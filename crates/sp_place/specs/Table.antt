@@ -2,13 +2,13 @@
 -- the first part and puts its remainder there, or the first part becomes others, or may be empty, and then these meet the token.
 use Rattle.std.specs.Prelude.{ℕ, zero, suc, ◌+◌, ◌==◌, nat_lt, Bool, true, false, not, ◌||◌, is_some, if◌then◌else◌, List, [], ◌∷◌, codes}
 use Rattle.std.specs.Str.{bytes_eq}
-use Rattle.sp_lex.specs.declared.token.Sign.{Sign}
-use Rattle.sp_lex.specs.declared.token.Sign.TheVariants as s
-use Rattle.sp_lex.specs.Lexeme.{Lexeme, word, constant, sign, solve}
-use Rattle.sp_read_parts.specs.Names.{is_reserved, names_fact, mark_of, mark_at}
-use Rattle.sp_read_proof.specs.Grammar.{is_method}
-use Rattle.sp_place.specs.declared.awaited.Awaited.{Awaited}
-use Rattle.sp_place.specs.declared.awaited.Awaited.TheVariants as a
+use Rattle.sp_spec_text.specs.Signs.{Sign}
+use Rattle.sp_spec_text.specs.Signs as s
+use Rattle.sp_spec_text.specs.Token.{Lexeme, word, constant, sign, solve}
+use Rattle.sp_spec_text.specs.Names.{is_reserved, names_fact, mark_of, mark_at}
+use Rattle.sp_spec_text.specs.Proofs.{is_method}
+use Rattle.sp_place.specs.Parts.{Awaited}
+use Rattle.sp_place.specs.Parts as a
 
 -- the token is taken, and these parts follow; the part becomes these parts; the token is wrong
 pub data Move : Type 0 where

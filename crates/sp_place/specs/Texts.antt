@@ -1,7 +1,7 @@
 -- What a token does to the parts that a text still has to have.
 use Rattle.std.specs.Prelude.{List, [], ◌∷◌}
-use Rattle.sp_lex.specs.Lexeme.{Lexeme}
-use Rattle.sp_place.specs.declared.awaited.Awaited.{Awaited}
+use Rattle.sp_spec_text.specs.Token.{Lexeme}
+use Rattle.sp_place.specs.Parts.{Awaited}
 use Rattle.sp_place.specs.Language.{HasAll}
 use Rattle.sp_place.specs.Stack.{Good}
 

@@ -1,15 +1,15 @@
 // Tests on tokens.
 
 ghost use Rattle.std.specs.Prelude.{◌≡◌};
-ghost use Rattle.sp_lex.specs.Views.{lexeme_of};
+ghost use Rattle.sp_lex.specs.Views.{lexeme_of, sign_of};
 ghost use Rattle.sp_place.specs.Table as spec;
-ghost use Rattle.sp_read_proof.specs.Grammar as proofs;
+ghost use Rattle.sp_spec_text.specs.Proofs as proofs;
 
 use sp_lex::{Lexeme, Sign};
 use sp_read_parts::words::{is_reserved, mark_at, mark_of, names_fact};
 
 fn code(sign: Sign) -> u8
-    ensures { result ≡ spec.code sign }
+    ensures { result ≡ spec.code (sign_of sign) }
 {
     match sign {
         Sign::Open => 0,
@@ -40,7 +40,7 @@ fn code(sign: Sign) -> u8
 
 /// Whether it is this sign.
 pub fn is_sign<'a>(wanted: Sign, lexeme: Lexeme<'a>) -> bool
-    ensures { result ≡ spec.is_sign wanted (lexeme_of lexeme.entry) }
+    ensures { result ≡ spec.is_sign (sign_of wanted) (lexeme_of lexeme.entry) }
 {
     match lexeme {
         Lexeme::Sign(found) => code(found) == code(wanted),
@@ -122,7 +122,7 @@ pub fn is_sort<'a>(lexeme: Lexeme<'a>) -> bool
     }
 }
 
-#[tactic(auto, unfolding(sp_read_proof::specs::Grammar::is_method))]
+#[tactic(auto, unfolding(sp_spec_text::specs::Proofs::is_method))]
 fn is_method(word: &str) -> bool
     ensures { result ≡ proofs.is_method word.now }
 {

@@ -2,8 +2,8 @@
 
 ghost use Rattle.std.specs.Prelude.{◌≡◌, [], ◌∷◌, ◌<◌, ◌≤◌, drop, length, IfOk, MatchOption, IfSome};
 ghost use Rattle.sp_lex.specs.Views.{token_of, tokens_of};
-ghost use Rattle.sp_written.specs.Text.{WrittenText};
-ghost use Rattle.sp_read_theory.specs.Text.{IsTextOf};
+ghost use Rattle.sp_spec_text.specs.Written.{WrittenText};
+ghost use Rattle.sp_spec_text.specs.Texts.{IsTextOf};
 ghost use Rattle.sp_place.specs.Refused.{IsRefusedAt};
 ghost use Rattle.sp_place.specs.Runs.{RunsTo};
 

@@ -2,11 +2,11 @@
 
 ghost use Rattle.std.specs.Prelude.{◌≡◌, ◌∷◌, ◌++◌, true, IfOk, OnOk, MatchOption, [], MatchBool};
 ghost use Rattle.sp_lex.specs.Views.{lexeme_of};
-ghost use Rattle.sp_place.specs.declared.awaited.Awaited.TheVariants as a;
+ghost use Rattle.sp_place.specs.Parts as a;
 ghost use Rattle.sp_place.specs.Stack.{Fits, Good};
 ghost use Rattle.sp_place.specs.Table as spec;
 ghost use Rattle.sp_place.specs.Texts.{Follows, Refuses};
-ghost use Rattle.sp_place.specs.Views.{few_of, move_of, parts_of};
+ghost use Rattle.sp_place.specs.Views.{all_of, awaited_of, few_of, move_of, parts_of};
 
 use crate::awaited::Awaited;
 use crate::lexemes::{is_fact_name, is_name, is_sign, is_sort, is_step, is_word};
@@ -18,8 +18,8 @@ use std::alloc::{AllocError, Global};
 
 /// What the token does to this part.
 fn next<'a>(part: Awaited, x: Lexeme<'a>) -> Move
-    requires { Fits part true }
-    ensures { move_of result ≡ spec.next part (lexeme_of x.entry) }
+    requires { Fits (awaited_of part) true }
+    ensures { move_of result ≡ spec.next (awaited_of part) (lexeme_of x.entry) }
 {
     match part {
         Awaited::Exactly(sign) => single(is_sign(sign, x)),
@@ -66,7 +66,7 @@ fn next<'a>(part: Awaited, x: Lexeme<'a>) -> Move
 
 /// Puts a part before the others.
 fn push(parts: &mut Vec<Awaited>, part: Awaited) -> Result<(), AllocError>
-    ensures { OnOk result (parts_of parts.new.items ≡ part ∷ parts_of parts.old.items) }
+    ensures { OnOk result (parts_of parts.new.items ≡ awaited_of part ∷ parts_of parts.old.items) }
 {
     parts.push(part)?;
     Ok(())
@@ -74,13 +74,13 @@ fn push(parts: &mut Vec<Awaited>, part: Awaited) -> Result<(), AllocError>
 
 /// Takes the first part.
 fn pop(parts: &mut Vec<Awaited>) -> Option<Awaited>
-    ensures { MatchOption result (parts_of parts.old.items ≡ []) (λ p. parts_of parts.old.items ≡ p ∷ parts_of parts.new.items) }
+    ensures { MatchOption result (parts_of parts.old.items ≡ []) (λ p. parts_of parts.old.items ≡ awaited_of p ∷ parts_of parts.new.items) }
 {
     parts.pop()
 }
 
 fn push_two(parts: &mut Vec<Awaited>, p: Awaited, q: Awaited) -> Result<(), AllocError>
-    ensures { OnOk result (parts_of parts.new.items ≡ p ∷ q ∷ parts_of parts.old.items) }
+    ensures { OnOk result (parts_of parts.new.items ≡ awaited_of p ∷ awaited_of q ∷ parts_of parts.old.items) }
 {
     push(parts, q)?;
     push(parts, p)
@@ -93,7 +93,7 @@ fn push_four(
     r: Awaited,
     s: Awaited,
 ) -> Result<(), AllocError>
-    ensures { OnOk result (parts_of parts.new.items ≡ p ∷ q ∷ r ∷ s ∷ parts_of parts.old.items) }
+    ensures { OnOk result (parts_of parts.new.items ≡ awaited_of p ∷ awaited_of q ∷ awaited_of r ∷ awaited_of s ∷ parts_of parts.old.items) }
 {
     push_two(parts, r, s)?;
     push_two(parts, p, q)
@@ -101,7 +101,7 @@ fn push_four(
 
 /// Puts parts before the others.
 fn put(parts: &mut Vec<Awaited>, few: Few) -> Result<(), AllocError>
-    ensures { OnOk result (parts_of parts.new.items ≡ few_of few ++ parts_of parts.old.items) }
+    ensures { OnOk result (parts_of parts.new.items ≡ all_of (few_of few) ++ parts_of parts.old.items) }
 {
     match few {
         Few::Zero => Ok(()),

@@ -2,7 +2,6 @@
 
 ghost use Rattle.std.specs.Prelude.{◌≡◌, [], ◌∷◌, ◌≤◌};
 ghost use Rattle.sp_lex.specs.Views.{lexeme_of};
-ghost use Rattle.sp_place.specs.declared.awaited.Awaited.TheVariants as a;
 ghost use Rattle.sp_place.specs.Table as spec;
 ghost use Rattle.sp_place.specs.Views.{move_of};
 

@@ -1,7 +1,7 @@
 // What a token does to the parts of theories and proofs.
 
 ghost use Rattle.std.specs.Prelude.{◌≡◌};
-ghost use Rattle.sp_lex.specs.Views.{lexeme_of};
+ghost use Rattle.sp_lex.specs.Views.{lexeme_of, sign_of};
 ghost use Rattle.sp_place.specs.Table as spec;
 ghost use Rattle.sp_place.specs.Views.{move_of};
 
@@ -60,7 +60,7 @@ pub fn fact_list<'a>(x: Lexeme<'a>) -> Move
 }
 
 pub fn facts<'a>(close: Sign, x: Lexeme<'a>) -> Move
-    ensures { move_of result ≡ spec.facts_move close (lexeme_of x.entry) }
+    ensures { move_of result ≡ spec.facts_move (sign_of close) (lexeme_of x.entry) }
 {
     if is_sign(close, x) {
         Move::Takes(Few::Zero)
@@ -70,7 +70,7 @@ pub fn facts<'a>(close: Sign, x: Lexeme<'a>) -> Move
 }
 
 pub fn more_facts<'a>(close: Sign, x: Lexeme<'a>) -> Move
-    ensures { move_of result ≡ spec.more_facts_move close (lexeme_of x.entry) }
+    ensures { move_of result ≡ spec.more_facts_move (sign_of close) (lexeme_of x.entry) }
 {
     if is_sign(Sign::Comma, x) {
         Move::Takes(Few::Two(Awaited::Fact(0), Awaited::MoreFacts(close)))

@@ -4,7 +4,7 @@ use Rattle.sp_spec.specs.Theory.{Lemma}
 use Rattle.sp_spec.specs.Guarded.{Guarded}
 use Rattle.sp_law_guard.specs.CheckedForm.{checked_form}
 use Rattle.sp_read_parts.specs.Formulas.{formula}
-use Rattle.sp_written.specs.Text.{lemmas_in}
+use Rattle.sp_spec_text.specs.Written.{lemmas_in}
 use Rattle.sp_written.specs.Views as view
 use Rattle.sp_written.specs.declared.theory.Item.{Item}
 use Rattle.sp_written.specs.declared.theory.Item.TheVariants as i

@@ -1,21 +1,17 @@
 -- Rules and lemmas among items, one after the other.
-use Rattle.std.proofs.Common.{◌≡◌, ◌<◌, ◌+◌, ℕ, suc, arith, List, [], ◌∷◌, ◌++◌, map, length, get_or, drop, drop-cons, Option, Some, None, option_map, option_and_then, refl, sym, ap, ◌∙◌, append_assoc}
+use Rattle.std.proofs.Common.{◌≡◌, ◌<◌, ◌+◌, ℕ, List, [], ◌∷◌, ◌++◌, map, length, get_or, drop, Option, Some, None, option_map, option_and_then, refl, sym, ap, ◌∙◌, append_assoc}
 use Rattle.sp_spec.specs.Rule.{Rule}
 use Rattle.sp_spec.specs.Written as written
 use Rattle.sp_spec.specs.Guarded.{Guarded}
 use Rattle.sp_law_guard.specs.CheckedForm.{checked_form}
 use Rattle.sp_read_parts.specs.Formulas.{formula}
-use Rattle.sp_written.specs.Text.{rules_in}
+use Rattle.sp_spec_text.specs.Written.{rules_in}
 use Rattle.sp_written.specs.Views as view
 use Rattle.sp_written.specs.declared.theory.Item.{Item}
 use Rattle.sp_written.specs.declared.theory.Item.TheVariants as i
 use Rattle.sp_written.specs.declared.theory.WrittenLemma.{WrittenLemma}
 use Rattle.sp_pose.specs.Asked.{Asked, asked_with, asked_then, lemmas_read, all_asked}
-
-pub next_of : {A : Type 0} (xs : List A) (place : ℕ) (x : A) → place < length xs → x ≡ get_or xs place x → drop place xs ≡ x ∷ drop (place + 1) xs
-next_of {A = A} xs place x below is =
-    let next : place + 1 ≡ suc place = omega arith in
-    drop-cons xs place x below ∙ ap (λ (y : A). y ∷ drop (suc place) xs) (sym is) ∙ ap (λ (n : ℕ). x ∷ drop n xs) (sym next)
+use Rattle.sp_spec.proofs.Lists.{next_item}
 
 -- ---- rules
 
@@ -31,7 +27,7 @@ pub rule_pushed : (out more all : List Rule) (place : ℕ) (xs : List Item) (x :
 rule_pushed out more all place xs x below is so pushed =
     let rest = drop (place + 1) xs in
     ap (λ (rs : List Rule). rs ++ rules_read rest) pushed ∙ append_assoc out (rules_read (x ∷ [])) (rules_read rest)
-    ∙ ap (λ (rs : List Rule). out ++ rs) (sym (first_rules x rest)) ∙ sym (ap (λ (ys : List Item). out ++ rules_read ys) (next_of xs place x below is)) ∙ so
+    ∙ ap (λ (rs : List Rule). out ++ rs) (sym (first_rules x rest)) ∙ sym (ap (λ (ys : List Item). out ++ rules_read ys) (next_item xs place x below is)) ∙ so
 
 -- ---- lemmas
 

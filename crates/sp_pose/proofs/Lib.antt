@@ -4,3 +4,4 @@ pub mod Named
 pub mod Theories
 pub mod One
 pub mod Forms
+pub mod Each

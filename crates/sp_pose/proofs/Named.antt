@@ -1,11 +1,11 @@
 -- What the grammar spells in a list, and the names of facts, of which none is the adversary's.
 use Rattle.std.proofs.Common.{◌≡◌, ℕ, Bool, true, false, not, ◌&&◌, List, inl, inr, refl, sym, ◌∙◌, subst, true≢false}
-use Rattle.sp_lex.specs.Lexeme.{Lexeme}
-use Rattle.sp_lex.specs.declared.token.Sign.{Sign}
+use Rattle.sp_spec_text.specs.Token.{Lexeme}
+use Rattle.sp_spec_text.specs.Signs.{Sign}
 use Rattle.sp_spec.specs.Lists.{Member, Every}
 use Rattle.sp_law_erase.specs.Adversary.{adversary_names}
-use Rattle.sp_read_parts.specs.Lists.{AreParts, last, next, AreItems, empty, some}
-use Rattle.sp_read_parts.specs.Names.{is_capital, is_reserved, is_adversarial, names_fact}
+use Rattle.sp_spec_text.specs.Lists.{AreParts, last, next, AreItems, empty, some}
+use Rattle.sp_spec_text.specs.Names.{is_capital, is_reserved, is_adversarial, names_fact}
 
 last_fails : (b c d : Bool) → (b && not c && not d) ≡ true → d ≡ false
 last_fails true false false e = refl

@@ -1,9 +1,9 @@
 -- A text is reported on in one way, and isn't posed then.
 use Rattle.std.proofs.Common.{◌≡◌, ℕ, List, sym, ap, ◌∙◌, subst}
-use Rattle.sp_written.specs.Text.{WrittenText, theory_in}
+use Rattle.sp_spec_text.specs.Written.{WrittenText, theory_in}
 use Rattle.sp_read_theory.proofs.Whole.{text_one}
-use Rattle.sp_report.specs.Report.{report}
-use Rattle.sp_report.specs.Laws.{IsWellFormed}
+use Rattle.sp_wf.specs.Report.{report}
+use Rattle.sp_wf.specs.Laws.{IsWellFormed}
 use Rattle.sp_pose.specs.Problem.{Poses, IsReported}
 
 pub one_report : (text lines other : List ℕ) → IsReported text lines → IsReported text other → lines ≡ other

@@ -5,23 +5,23 @@ use Rattle.sp_spec.specs.Lists.{Every}
 use Rattle.sp_spec.specs.Theory.{Lemma}
 use Rattle.sp_spec.specs.Written.{theory_of}
 use Rattle.sp_spec.specs.Guarded.{Guarded}
-use Rattle.sp_law_guard.specs.CheckedForm.{checked_form}
 use Rattle.sp_term.specs.View.{name_of}
-use Rattle.sp_moves.specs.View.{book_of}
+use Rattle.sp_fact.specs.BookView.{book_of}
 use Rattle.sp_constants.specs.Constants.{constants_of}
-use Rattle.sp_written.specs.Text.{lemmas_in, theory_in}
+use Rattle.sp_spec_text.specs.Written.{lemmas_in, theory_in}
 use Rattle.sp_written.specs.Views as view
 use Rattle.sp_written.specs.declared.theory.Item.{Item}
 use Rattle.sp_written.specs.declared.theory.Item.TheVariants as i
 use Rattle.sp_written.specs.declared.theory.ReadTheory.{ReadTheory}
-use Rattle.sp_read_theory.specs.Places.{Rise}
-use Rattle.sp_read_theory.specs.Text.{IsTextOf, ArePlaces}
-use Rattle.sp_report.specs.Report.{report}
-use Rattle.sp_report.proofs.ReportClean.{report_is_right}
+use Rattle.sp_spec_text.specs.Spans.{Rise}
+use Rattle.sp_spec_text.specs.Texts.{IsTextOf, ArePlaces}
+use Rattle.sp_wf.specs.Report.{report}
+use Rattle.sp_wf.proofs.ReportClean.{report_is_right}
 use Rattle.sp_pose.specs.Problem.{Poses, IsReported}
 use Rattle.sp_pose.specs.Asked.{Asked, asked_of, asked_with, lemmas_read, all_asked}
 use Rattle.sp_pose.specs.Posed.{IsPosedBy}
 use Rattle.sp_pose.specs.declared.problem.Problem.{Problem}
+use Rattle.sp_wf.proofs.ReportClean.{HasForm}
 
 -- lines are those of findings, where there are any
 pub reported : {text lines : List ℕ} (r : ReadTheory) → IsTextOf text (view.theory r) → lines ≡ report (view.theory r) → (lines ≡ [] → ⊥) → IsReported text lines
@@ -34,9 +34,6 @@ poses r h e none = record { says = h; fine = (report_is_right.no_line (view.theo
 -- a list without entries
 pub no_lines : (n : ℕ) (xs : List ℕ) → true ≡ nat_eq n 0 → n ≡ length xs → xs ≡ []
 no_lines n xs e f = nil_from_length xs (grind (arith, e, f))
-
-abbrev HasForm : Lemma → Type 0
-HasForm l = (g : Guarded) × (checked_form l.formula ≡ Some g)
 
 -- each lemma of a well-formed theory has a guarded form
 asked_some : (xs : List Item) → Every HasForm (lemmas_in (view.items xs)) → all_asked (lemmas_read xs) ≡ None → ⊥

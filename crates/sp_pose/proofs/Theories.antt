@@ -1,16 +1,16 @@
 -- What the grammar spells has variables and public names for terms, and names nothing of the adversary's.
 use Rattle.std.proofs.Common.{ℕ, List, [], ◌∷◌, map}
-use Rattle.sp_lex.specs.Lexeme.{Lexeme}
+use Rattle.sp_spec_text.specs.Token.{Lexeme}
 use Rattle.sp_spec.specs.Lists.{Every}
 use Rattle.sp_spec.specs.Term.{Term}
 use Rattle.sp_spec.specs.Rule.{Fact}
 use Rattle.sp_spec.specs.Formula.{Written, Formula}
 use Rattle.sp_spec.specs.Theory.{Lemma}
 use Rattle.sp_spec.specs.Written.{WrittenRule}
-use Rattle.sp_written.specs.Text.{Item, WrittenText, rules_in, lemmas_in}
-use Rattle.sp_read_parts.specs.Shapes.{row, action_of, quantified}
-use Rattle.sp_read_parts.specs.Grammar.{SpellsTerm, fixed, variable, brackets, SpellsFact, linear, persistent, quantified_some, SpellsUnit, bracketed, every, there_is, true_unit, false_unit, action, equation, order, SpellsNegation, plain_unit, negated, SpellsConjunction, conjunction, SpellsAnds, no_more_and, and_then, SpellsDisjunction, disjunction, SpellsOrs, no_more_or, or_then, SpellsImplication, alone, implication, SpellsFormula, one, two, SpellsReach, reach_one, reach_two}
-use Rattle.sp_read_theory.specs.Grammar.{SpellsFacts, facts, SpellsArrow, unlabelled, labelled, SpellsRule, rule, SpellsLemma, lemma, SpellsItems, no_item, rule_first, lemma_first, SpellsTheory, theory}
+use Rattle.sp_spec_text.specs.Written.{Item, WrittenText, rules_in, lemmas_in}
+use Rattle.sp_spec_text.specs.Shapes.{row, action_of, quantified}
+use Rattle.sp_spec_text.specs.Formulas.{SpellsTerm, fixed, variable, brackets, SpellsFact, linear, persistent, quantified_some, SpellsUnit, bracketed, every, there_is, true_unit, false_unit, action, equation, order, SpellsNegation, plain_unit, negated, SpellsConjunction, conjunction, SpellsAnds, no_more_and, and_then, SpellsDisjunction, disjunction, SpellsOrs, no_more_or, or_then, SpellsImplication, alone, implication, SpellsFormula, one, two, SpellsReach, reach_one, reach_two}
+use Rattle.sp_spec_text.specs.Theories.{SpellsFacts, facts, SpellsArrow, unlabelled, labelled, SpellsRule, rule, SpellsLemma, lemma, SpellsItems, no_item, rule_first, lemma_first, SpellsTheory, theory}
 use Rattle.sp_check.specs.PlainTheory.{IsAtomic, AreAtomic, IsPlainFact, IsPlainAction, IsPlainRule, IsPlainFormula}
 use Rattle.sp_pose.proofs.Named.{no_adversary, every_item}
 

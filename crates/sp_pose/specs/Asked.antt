@@ -5,9 +5,9 @@ use Rattle.sp_spec.specs.Guarded.{Guarded}
 use Rattle.sp_law_guard.specs.CheckedForm.{checked_form}
 use Rattle.sp_formula.specs.FormulaView.{formula_of}
 use Rattle.sp_read_parts.specs.Formulas.{formula}
-use Rattle.sp_written.specs.Text.{WrittenProof}
+use Rattle.sp_spec_text.specs.Written.{WrittenProof}
 use Rattle.sp_written.specs.Views as view
-use Rattle.sp_written.specs.declared.theory.Span.{Span}
+use Rattle.sp_spec_text.specs.Spans.{Span}
 use Rattle.sp_written.specs.declared.theory.Item.{Item}
 use Rattle.sp_written.specs.declared.theory.Item.TheVariants as i
 use Rattle.sp_written.specs.declared.theory.WrittenLemma.{WrittenLemma}
@@ -22,11 +22,11 @@ pub record Asked : Type 0 where
   pub span : Span
 
 abbrev pub asked_of : GuardedLemma → Asked
-asked_of l = record { name = l.name.now; kind = view.kind l.kind; form = formula_of l.form; proof = option_map view.proof l.proof; span = l.span }
+asked_of l = record { name = l.name.now; kind = view.kind l.kind; form = formula_of l.form; proof = option_map view.proof l.proof; span = view.span_of l.span }
 
 -- a lemma that was read, with this guarded form
 abbrev pub asked_with : WrittenLemma → Guarded → Asked
-asked_with l g = record { name = l.name.now; kind = view.kind l.kind; form = g; proof = option_map view.proof l.proof; span = l.span }
+asked_with l g = record { name = l.name.now; kind = view.kind l.kind; form = g; proof = option_map view.proof l.proof; span = view.span_of l.span }
 
 -- the lemmas among the items that were read
 abbrev pub lemmas_read : List Item → List WrittenLemma

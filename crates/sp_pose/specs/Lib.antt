@@ -1,4 +1,4 @@
 pub mod Problem
 pub mod Asked
 pub mod Posed
-pub mod Kind
+pub mod Numbering

@@ -2,13 +2,13 @@
 use Rattle.std.specs.Prelude.{◌≡◌, ◌≤◌, ℕ, List, Some, map, length}
 use Rattle.sp_spec.specs.Written.{theory_of}
 use Rattle.sp_term.specs.View.{name_of}
-use Rattle.sp_moves.specs.View.{book_of}
+use Rattle.sp_fact.specs.BookView.{book_of}
 use Rattle.sp_constants.specs.Constants.{constants_of}
-use Rattle.sp_written.specs.Text.{theory_in}
+use Rattle.sp_spec_text.specs.Written.{theory_in}
 use Rattle.sp_written.specs.Views as view
 use Rattle.sp_written.specs.declared.theory.ReadTheory.{ReadTheory}
-use Rattle.sp_read_theory.specs.Places.{Rise}
-use Rattle.sp_read_theory.specs.Text.{ArePlaces}
+use Rattle.sp_spec_text.specs.Spans.{Rise}
+use Rattle.sp_spec_text.specs.Texts.{ArePlaces}
 use Rattle.sp_place.specs.Refused.{IsRefusedAt}
 use Rattle.sp_pose.specs.Problem.{Poses, IsReported}
 use Rattle.sp_pose.specs.Asked.{asked_of, lemmas_read, all_asked}

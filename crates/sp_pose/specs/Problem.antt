@@ -1,9 +1,9 @@
 -- What a text sets out to prove.
 use Rattle.std.specs.Prelude.{◌≡◌, List, ℕ}
-use Rattle.sp_written.specs.Text.{WrittenText, theory_in}
-use Rattle.sp_read_theory.specs.Text.{IsTextOf}
-use Rattle.sp_report.specs.Report.{report}
-use Rattle.sp_report.specs.Laws.{IsWellFormed}
+use Rattle.sp_spec_text.specs.Written.{WrittenText, theory_in}
+use Rattle.sp_spec_text.specs.Texts.{IsTextOf}
+use Rattle.sp_wf.specs.Report.{report}
+use Rattle.sp_wf.specs.Laws.{IsWellFormed}
 
 -- the text says the theory, and there are no fatal findings on it
 pub record Poses (text : List ℕ) (theory : WrittenText) : Type 0 where

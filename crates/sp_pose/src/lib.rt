@@ -1,15 +1,15 @@
 // What a text sets out to prove: it is read, and its rules and lemmas are looked at.
-// Below stand the reader (sp_read_theory), the place of what it refuses (sp_place), findings (sp_report), guarded forms (sp_guard), public
-// names (sp_constants) and rules in memory (sp_rule, sp_moves); above stand what is proved and checked (sp_analysis) and what is replayed (sp_replay).
-// Carried here: the promise that a text is refused at its place, or reported on by its findings, or that its rules, public names and lemmas are
-// those that it says, each lemma by its guarded form.
+// Below stand the reader (sp_read_theory), the place of what it refuses (sp_place), findings (sp_wf), guarded forms (sp_guard), public
+// names (sp_constants) and rules in memory (sp_fact); above stand what is proved and checked (sp_analysis) and what is replayed (sp_replay).
+// Carried here: the promise that a text is refused at its place, or reported on by its findings, or that its rules, with their variables numbered, public
+// names and lemmas are those that it says, each lemma by its guarded form.
 #![tactic(auto)]
 
 mod kind;
+mod names;
+mod numbering;
 mod problem;
 
 pub use kind::kind_text;
+pub use numbering::numbered;
 pub use problem::{GuardedLemma, Problem, Read, posed_by};
-
-#[cfg(test)]
-mod tests;

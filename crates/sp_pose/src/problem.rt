@@ -2,22 +2,23 @@
 
 ghost use Rattle.std.specs.Prelude.{◌≡◌, ◌∷◌, [], ◌++◌, Some, IfOk, OnOk, map, option_map};
 ghost use Rattle.sp_spec.specs.Written as written;
-ghost use Rattle.sp_rule.specs.View.{rule_of};
-ghost use Rattle.sp_moves.specs.View.{book_of};
-ghost use Rattle.sp_written.specs.Text.{rules_in};
+ghost use Rattle.sp_fact.specs.View.{rule_of};
+ghost use Rattle.sp_fact.specs.BookView.{book_of};
+ghost use Rattle.sp_spec_text.specs.Written.{rules_in};
 ghost use Rattle.sp_written.specs.Views as view;
 ghost use Rattle.sp_pose.specs.Asked.{asked_of, asked_then, lemmas_read, all_asked};
 ghost use Rattle.sp_pose.specs.Posed.{IsRead};
 
+use crate::numbering::numbered;
 use sp_constants::constants;
+use sp_fact::book::RuleBook;
+use sp_fact::rule::Rule;
 use sp_formula::formula::Formula;
 use sp_guard::marks::checked_form;
-use sp_moves::book::RuleBook;
 use sp_place::refused_at;
 use sp_read_theory::read_theory;
-use sp_report::report;
-use sp_rule::{Rule, numbered};
 use sp_term::term::Name;
+use sp_wf::report;
 use sp_written::{Item, Span, TraceKind, WrittenLemma, WrittenProof};
 use std::alloc::{AllocError, Global};
 

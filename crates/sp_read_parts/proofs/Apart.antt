@@ -1,13 +1,13 @@
 -- What begins as one kind of formula begins as no other kind.
 use Rattle.std.proofs.Common.{◌≡◌, ℕ, ◌+◌, Bool, true, false, not, ◌&&◌, List, ◌∷◌, None, codes, refl, sym, ◌∙◌}
-use Rattle.sp_lex.specs.declared.token.Sign.{Sign}
-use Rattle.sp_lex.specs.declared.token.Sign.TheVariants as s
-use Rattle.sp_lex.specs.Lexeme.{Lexeme, word, sign}
+use Rattle.sp_spec_text.specs.Signs.{Sign}
+use Rattle.sp_spec_text.specs.Signs as s
+use Rattle.sp_spec_text.specs.Token.{Lexeme, word, sign}
 use Rattle.sp_spec.specs.Term.{Term}
 use Rattle.sp_spec.specs.Rule.{Fact}
 use Rattle.sp_spec.specs.Formula.{Written, Formula}
-use Rattle.sp_read_parts.specs.Names.{is_reserved, is_capital, is_adversarial, names_fact, mark_at}
-use Rattle.sp_read_parts.specs.Lists.{IsNotFirst, NoReading}
+use Rattle.sp_spec_text.specs.Names.{is_reserved, is_capital, is_adversarial, names_fact, mark_at}
+use Rattle.sp_spec_text.specs.Lists.{IsNotFirst, NoReading}
 use Rattle.sp_read_parts.specs.Parts as f
 use Rattle.sp_read_parts.specs.Parts.{IsVariable, IsTerm, IsFact}
 use Rattle.sp_read_parts.specs.Reading.{two_sides, first, second, IsEquality, IsOrder, IsAction, IsConstant, true_word, false_word, IsAtom, all_word, ex_word, Joint, conjoint, disjoint, sign_of, Part, a_whole, Reads, grouped, bound, shallow, from_group, from_binding, positive, negative, chained, lone, implying, single, double, ended, went}

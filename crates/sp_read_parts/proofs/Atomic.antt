@@ -1,12 +1,12 @@
 -- Formulas without formulas in them: each is read in one way, and each way to get stuck leaves no reading.
 use Rattle.std.proofs.Common.{◌≡◌, ℕ, ◌≤◌, List, ◌∷◌, codes, refl, sym, ap, subst, arith}
-use Rattle.sp_lex.specs.declared.token.Sign.{Sign}
-use Rattle.sp_lex.specs.Lexeme.{Lexeme, word, sign}
+use Rattle.sp_spec_text.specs.Signs.{Sign}
+use Rattle.sp_spec_text.specs.Token.{Lexeme, word, sign}
 use Rattle.sp_spec.specs.Rule.{Fact}
 use Rattle.sp_spec.specs.Formula.{Written, Formula, truth, falsity}
-use Rattle.sp_read_parts.specs.Lists.{IsNotFirst, NoReading}
+use Rattle.sp_spec_text.specs.Lists.{IsNotFirst, NoReading}
 use Rattle.sp_read_parts.specs.Parts.{IsVariable, arguments, named, IsFact, linear, persistent, AreBinders}
-use Rattle.sp_read_parts.specs.Reading.{Infix, two_sides, OrElse, first, second, IsEquality, IsOrder, happening_of, IsAction, IsConstant, true_word, false_word, IsAtom, IsQuantifier, all_word, ex_word}
+use Rattle.sp_read_parts.specs.Reading.{Infix, two_sides, OrElse, first, second, IsAction, IsConstant, true_word, false_word, IsAtom}
 use Rattle.sp_read_parts.proofs.One.{One, terms, facts', variable_one, binders_one}
 
 pub variables' : One IsVariable

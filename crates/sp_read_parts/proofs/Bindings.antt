@@ -1,9 +1,9 @@
 -- Binders that are read one after the other.
 use Rattle.std.proofs.Common.{◌≡◌, List, [], ◌∷◌, ◌++◌, sym, subst, append_assoc}
-use Rattle.sp_lex.specs.declared.token.Sign.TheVariants as s
-use Rattle.sp_lex.specs.Lexeme.{Lexeme, sign}
+use Rattle.sp_spec_text.specs.Signs as s
+use Rattle.sp_spec_text.specs.Token.{Lexeme, sign}
 use Rattle.sp_spec.specs.Formula.{Written}
-use Rattle.sp_read_parts.specs.Lists.{IsNotFirst, NoReading}
+use Rattle.sp_spec_text.specs.Lists.{IsNotFirst, NoReading}
 use Rattle.sp_read_parts.specs.Parts.{IsVariable, AreBinders, one_binder, more_binders}
 use Rattle.sp_read_parts.proofs.One.{variable_one}
 

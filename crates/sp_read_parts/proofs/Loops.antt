@@ -1,9 +1,9 @@
 -- Parts that are read one after the other.
 use Rattle.std.proofs.Common.{◌≡◌, List, [], ◌∷◌, ◌++◌, refl, subst, append_assoc}
-use Rattle.sp_lex.specs.declared.token.Sign.{Sign}
-use Rattle.sp_lex.specs.declared.token.Sign.TheVariants as s
-use Rattle.sp_lex.specs.Lexeme.{Lexeme, sign}
-use Rattle.sp_read_parts.specs.Lists.{IsNotFirst, NoReading, AreParts, last, next, AreItems, empty, some}
+use Rattle.sp_spec_text.specs.Signs.{Sign}
+use Rattle.sp_spec_text.specs.Signs as s
+use Rattle.sp_spec_text.specs.Token.{Lexeme, sign}
+use Rattle.sp_spec_text.specs.Lists.{IsNotFirst, NoReading, AreParts, last, next, AreItems, empty, some}
 use Rattle.sp_read_parts.proofs.One.{One}
 
 -- these parts, each with the sign behind it, stand before the rest

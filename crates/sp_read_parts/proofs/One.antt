@@ -1,14 +1,14 @@
 -- Each part is read in one way.
 use Rattle.std.proofs.Common.{◌≡◌, ℕ, Bool, List, [], ◌∷◌, Option, Some, None, refl, sym, ap, subst, ◌∙◌}
-use Rattle.sp_lex.specs.declared.token.Sign.{Sign}
-use Rattle.sp_lex.specs.declared.token.Sign.TheVariants as s
-use Rattle.sp_lex.specs.Lexeme.{Lexeme, constant, sign, solve}
+use Rattle.sp_spec_text.specs.Signs.{Sign}
+use Rattle.sp_spec_text.specs.Signs as s
+use Rattle.sp_spec_text.specs.Token.{Lexeme, constant, sign, solve}
 use Rattle.sp_spec.specs.Term.{Term, var}
 use Rattle.sp_spec.specs.Rule.{Fact}
 use Rattle.sp_spec.specs.Formula.{Mark, Written}
-use Rattle.sp_read_parts.specs.Names.{mark_at}
-use Rattle.sp_read_parts.specs.Lists.{AreParts, last, next, AreItems, empty, some}
-use Rattle.sp_read_parts.specs.Shapes.{written, fact}
+use Rattle.sp_spec_text.specs.Names.{mark_at}
+use Rattle.sp_spec_text.specs.Lists.{AreParts, last, next, AreItems, empty, some}
+use Rattle.sp_spec_text.specs.Shapes.{written, fact}
 use Rattle.sp_read_parts.specs.Parts.{IsNameFirst, name, IsSort, sort, IsVariable, marked, sorted, plain, IsPlainTerm, variable, fixed, IsTerm, unbracketed, brackets, AreArguments, arguments, IsNamedFact, named, IsFact, linear, persistent, AreBinders, one_binder, more_binders}
 
 -- what is read, and what follows it, are fixed by the tokens

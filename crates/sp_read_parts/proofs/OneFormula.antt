@@ -1,8 +1,8 @@
 -- Whole formulas: each part is read in one way, and each way to get stuck leaves no reading.
 use Rattle.std.proofs.Common.{◌≡◌, ℕ, ◌+◌, Bool, true, false, List, ◌∷◌, codes, refl, sym, ap, subst}
-use Rattle.sp_lex.specs.Lexeme.{Lexeme, word}
+use Rattle.sp_spec_text.specs.Token.{Lexeme, word}
 use Rattle.sp_spec.specs.Formula.{Formula, not_so}
-use Rattle.sp_read_parts.specs.Lists.{IsNotFirst, NoReading}
+use Rattle.sp_spec_text.specs.Lists.{IsNotFirst, NoReading}
 use Rattle.sp_read_parts.specs.Parts.{AreBinders}
 use Rattle.sp_read_parts.specs.Reading.{IsQuantifier, all_word, ex_word, Joint, join, Part, a_group, a_binding, an_implication, a_whole, below, Reads, grouped, bound, shallow, from_group, from_binding, positive, negative, chained, lone, implying, single, double, GoesOn, ended, went}
 use Rattle.sp_read_parts.proofs.One.{One, binders_one}

@@ -1,7 +1,7 @@
 -- Parts one behind the other: where one of them is missing, there is no reading of the whole.
 use Rattle.std.proofs.Common.{◌≡◌, List, ◌∷◌, refl, sym, subst, ◌∙◌}
-use Rattle.sp_lex.specs.Lexeme.{Lexeme}
-use Rattle.sp_read_parts.specs.Lists.{IsNotFirst, NoReading}
+use Rattle.sp_spec_text.specs.Token.{Lexeme}
+use Rattle.sp_spec_text.specs.Lists.{IsNotFirst, NoReading}
 use Rattle.sp_read_parts.proofs.One.{One}
 
 -- this token

@@ -1,15 +1,15 @@
 -- Each part that is read is spelled so by the grammar.
 use Rattle.std.proofs.Common.{ℕ, List}
-use Rattle.sp_lex.specs.declared.token.Sign.{Sign}
-use Rattle.sp_lex.specs.Lexeme.{Lexeme}
+use Rattle.sp_spec_text.specs.Signs.{Sign}
+use Rattle.sp_spec_text.specs.Token.{Lexeme}
 use Rattle.sp_spec.specs.Term.{Term}
 use Rattle.sp_spec.specs.Rule.{Fact}
 use Rattle.sp_spec.specs.Formula.{Written}
-use Rattle.sp_read_parts.specs.Lists.{AreParts, last, next, AreItems, empty, some}
+use Rattle.sp_spec_text.specs.Lists.{AreParts, last, next, AreItems, empty, some}
 use Rattle.sp_read_parts.specs.Parts as f
 use Rattle.sp_read_parts.specs.Parts.{IsVariable, IsTerm, IsFact, AreBinders}
-use Rattle.sp_read_parts.specs.Grammar as g
-use Rattle.sp_read_parts.specs.Grammar.{SpellsVariable, SpellsTerm, SpellsFact, SpellsBinders}
+use Rattle.sp_spec_text.specs.Formulas as g
+use Rattle.sp_spec_text.specs.Formulas.{SpellsVariable, SpellsTerm, SpellsFact, SpellsBinders}
 
 pub variable_spelled : {tokens rest : List Lexeme} {v : Written} → IsVariable tokens v rest → SpellsVariable tokens v rest
 variable_spelled (f.marked e (f.name h)) = g.marked e h

@@ -1,15 +1,15 @@
 -- What a part begins with says which way it is read; each way to get stuck leaves no reading.
 use Rattle.std.proofs.Common.{◌≡◌, ℕ, ◌+◌, ◌<◌, ◌≤◌, Bool, true, false, List, [], ◌∷◌, Some, None, refl, sym, ap, subst, ◌∙◌, arith}
-use Rattle.sp_lex.specs.declared.token.Sign.{Sign}
-use Rattle.sp_lex.specs.declared.token.Sign.TheVariants as s
-use Rattle.sp_lex.specs.Lexeme.{Lexeme, word, constant, sign, solve}
+use Rattle.sp_spec_text.specs.Signs.{Sign}
+use Rattle.sp_spec_text.specs.Signs as s
+use Rattle.sp_spec_text.specs.Token.{Lexeme, word, constant, sign, solve}
 use Rattle.sp_spec.specs.Term.{Term, var}
 use Rattle.sp_spec.specs.Term as t
 use Rattle.sp_spec.specs.Rule.{Fact}
 use Rattle.sp_spec.specs.Formula.{Mark, Written}
-use Rattle.sp_read_parts.specs.Names.{IsName, names_fact, mark_of, mark_at}
-use Rattle.sp_read_parts.specs.Lists.{IsNotFirst, IsNoWord, NoReading, AreItems}
-use Rattle.sp_read_parts.specs.Shapes.{written, fact}
+use Rattle.sp_spec_text.specs.Names.{IsName, names_fact, mark_of, mark_at}
+use Rattle.sp_spec_text.specs.Lists.{IsNotFirst, IsNoWord, NoReading, AreItems}
+use Rattle.sp_spec_text.specs.Shapes.{written, fact}
 use Rattle.sp_read_parts.specs.Parts.{IsNameFirst, name, IsSort, sort, IsVariable, marked, sorted, plain, IsPlainTerm, variable, fixed, IsTerm, unbracketed, brackets, AreArguments, arguments, IsNamedFact, named, IsFact, linear, persistent}
 use Rattle.sp_read_parts.proofs.One.{variable_constant, variable_solve, variable_sign, plain_sign, term_one}
 

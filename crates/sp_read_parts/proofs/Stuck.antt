@@ -1,11 +1,11 @@
 -- What a part of a formula begins with says which way it is read; each way to get stuck leaves no reading.
 use Rattle.std.proofs.Common.{◌≡◌, ℕ, ◌+◌, ◌<◌, ◌≤◌, Bool, List, ◌∷◌, codes, refl, sym, subst, arith}
-use Rattle.sp_lex.specs.declared.token.Sign.TheVariants as s
-use Rattle.sp_lex.specs.Lexeme.{Lexeme, word, sign}
+use Rattle.sp_spec_text.specs.Signs as s
+use Rattle.sp_spec_text.specs.Token.{Lexeme, word, sign}
 use Rattle.sp_spec.specs.Formula.{Written, Formula, not_so, implies}
-use Rattle.sp_read_parts.specs.Lists.{IsNotFirst, NoReading}
+use Rattle.sp_spec_text.specs.Lists.{IsNotFirst, NoReading}
 use Rattle.sp_read_parts.specs.Parts.{AreBinders}
-use Rattle.sp_read_parts.specs.Grammar.{equivalent}
+use Rattle.sp_spec_text.specs.Formulas.{equivalent}
 use Rattle.sp_read_parts.specs.Reading.{IsAtom, IsQuantifier, bind, Joint, disjoint, sign_of, join, a_group, a_binding, a_unit, a_negation, a_chain, an_implication, a_whole, below, Reads, grouped, bound, shallow, from_group, from_binding, positive, negative, chained, lone, implying, single, double, GoesOn, ended, went}
 use Rattle.sp_read_parts.proofs.One.{binders_one}
 use Rattle.sp_read_parts.proofs.OneFormula.{quantifier_one, reads_one}

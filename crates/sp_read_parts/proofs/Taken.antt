@@ -1,17 +1,17 @@
 -- What the grammar spells, where no sign follows by which it could go on, is read.
 use Rattle.std.proofs.Common.{◌≡◌, ℕ, List, ◌∷◌, true, false, Some, codes, refl, sym, ap, subst, arith}
-use Rattle.sp_lex.specs.declared.token.Sign.{Sign}
-use Rattle.sp_lex.specs.declared.token.Sign.TheVariants as s
-use Rattle.sp_lex.specs.Lexeme.{Lexeme, word, sign}
+use Rattle.sp_spec_text.specs.Signs.{Sign}
+use Rattle.sp_spec_text.specs.Signs as s
+use Rattle.sp_spec_text.specs.Token.{Lexeme, word, sign}
 use Rattle.sp_spec.specs.Term.{Term}
 use Rattle.sp_spec.specs.Rule.{Fact}
 use Rattle.sp_spec.specs.Formula.{Written, Formula}
-use Rattle.sp_read_parts.specs.Names.{is_reserved, mark_at}
-use Rattle.sp_read_parts.specs.Lists.{IsNotFirst, NoReading, AreParts, last, next, AreItems, empty, some}
+use Rattle.sp_spec_text.specs.Names.{is_reserved, mark_at}
+use Rattle.sp_spec_text.specs.Lists.{IsNotFirst, NoReading, AreParts, last, next, AreItems, empty, some}
 use Rattle.sp_read_parts.specs.Parts as f
 use Rattle.sp_read_parts.specs.Parts.{IsVariable, IsTerm, IsFact, AreBinders}
-use Rattle.sp_read_parts.specs.Grammar as g
-use Rattle.sp_read_parts.specs.Grammar.{SpellsVariable, SpellsTerm, SpellsFact, SpellsBinders, NoSign, SpellsUnit, SpellsNegation, SpellsConjunction, SpellsAnds, SpellsDisjunction, SpellsOrs, SpellsImplication, SpellsFormula, SpellsReach}
+use Rattle.sp_spec_text.specs.Formulas as g
+use Rattle.sp_spec_text.specs.Formulas.{SpellsVariable, SpellsTerm, SpellsFact, SpellsBinders, NoSign, SpellsUnit, SpellsNegation, SpellsConjunction, SpellsAnds, SpellsDisjunction, SpellsOrs, SpellsImplication, SpellsFormula, SpellsReach}
 use Rattle.sp_read_parts.specs.Reading.{two_sides, first, second, true_word, false_word, all_word, ex_word, conjoint, disjoint, a_unit, a_negation, a_chain, an_implication, a_whole, Reads, grouped, bound, shallow, from_group, from_binding, positive, negative, chained, lone, implying, single, double, GoesOn, ended, went}
 use Rattle.sp_read_parts.specs.Closed.{Closes, IsClosed}
 use Rattle.sp_read_parts.proofs.Atomic.{first_byte, no_constant, or_else_none}

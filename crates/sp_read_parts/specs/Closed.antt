@@ -1,10 +1,10 @@
 -- Formulas up to a closing sign, which is how they stand in a text.
 use Rattle.std.specs.Prelude.{◌≡◌, ℕ, List, ◌∷◌}
-use Rattle.sp_lex.specs.declared.token.Sign.{Sign}
-use Rattle.sp_lex.specs.declared.token.Sign.TheVariants as s
-use Rattle.sp_lex.specs.Lexeme.{Lexeme, sign}
+use Rattle.sp_spec_text.specs.Signs.{Sign}
+use Rattle.sp_spec_text.specs.Signs as s
+use Rattle.sp_spec_text.specs.Token.{Lexeme, sign}
 use Rattle.sp_spec.specs.Formula.{Formula}
-use Rattle.sp_read_parts.specs.Grammar.{SpellsFormula}
+use Rattle.sp_spec_text.specs.Formulas.{SpellsFormula}
 
 -- a closing sign behind a formula: `)` or `"`
 abbrev pub Closes : Sign → Type 0

@@ -2,8 +2,8 @@
 use Rattle.std.specs.Prelude.{map}
 use Rattle.sp_spec.specs.Formula as f
 use Rattle.sp_spec.specs.Formula.{Formula}
-use Rattle.sp_read_parts.specs.Shapes.{quantified}
-use Rattle.sp_read_parts.specs.Grammar.{quantified_some, equivalent}
+use Rattle.sp_spec_text.specs.Shapes.{quantified}
+use Rattle.sp_spec_text.specs.Formulas.{quantified_some, equivalent}
 use Rattle.sp_read_parts.specs.Reading.{happening_of}
 use Rattle.sp_read_parts.specs.Views.{variable, term, fact_of}
 use Rattle.sp_read_parts.specs.declared.written.ReadFormula.{ReadFormula}

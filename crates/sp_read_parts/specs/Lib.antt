@@ -1,8 +1,4 @@
-pub mod Names
-pub mod Lists
-pub mod Shapes
 pub mod Parts
-pub mod Grammar
 pub mod Views
 pub mod Reading
 pub mod Closed

@@ -1,16 +1,16 @@
 -- The parts of theories as they are read: with these tokens before them, and no others, each is read in one way.
 -- `R tokens x rest` says that the tokens begin with x, which R reads, and that the rest follows. Source: Tamarin manual, "Syntax description".
 use Rattle.std.specs.Prelude.{◌≡◌, ℕ, ◌+◌, ◌<◌, Bool, true, false, List, [], ◌∷◌, Some}
-use Rattle.sp_lex.specs.declared.token.Sign.{Sign}
-use Rattle.sp_lex.specs.declared.token.Sign.TheVariants as s
-use Rattle.sp_lex.specs.Lexeme.{Lexeme, word, constant, sign}
+use Rattle.sp_spec_text.specs.Signs.{Sign}
+use Rattle.sp_spec_text.specs.Signs as s
+use Rattle.sp_spec_text.specs.Token.{Lexeme, word, constant, sign}
 use Rattle.sp_spec.specs.Term.{Term, var}
 use Rattle.sp_spec.specs.Term as t
 use Rattle.sp_spec.specs.Rule.{Fact}
 use Rattle.sp_spec.specs.Formula.{Mark, bare, Written}
-use Rattle.sp_read_parts.specs.Names.{IsName, names_fact, mark_of, mark_at}
-use Rattle.sp_read_parts.specs.Lists.{IsNotFirst, AreItems}
-use Rattle.sp_read_parts.specs.Shapes.{written, fact}
+use Rattle.sp_spec_text.specs.Names.{IsName, names_fact, mark_of, mark_at}
+use Rattle.sp_spec_text.specs.Lists.{IsNotFirst, AreItems}
+use Rattle.sp_spec_text.specs.Shapes.{written, fact}
 
 pub data IsNameFirst : List Lexeme → List ℕ → List Lexeme → Type 0 where
   name : {w : List ℕ} {rest : List Lexeme} → IsName w → IsNameFirst (word w ∷ rest) w rest

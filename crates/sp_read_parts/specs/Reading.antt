@@ -1,15 +1,15 @@
 -- Formulas as a reader from the left takes them: a part reaches as far as it can, and of several ways to begin the first that can be read
 -- is taken. So each text is read in one way. Before a closing sign it is the reading of the grammar.
 use Rattle.std.specs.Prelude.{◌≡◌, ℕ, ◌+◌, ◌<◌, Bool, true, false, List, ◌∷◌, codes}
-use Rattle.sp_lex.specs.declared.token.Sign.{Sign}
-use Rattle.sp_lex.specs.declared.token.Sign.TheVariants as s
-use Rattle.sp_lex.specs.Lexeme.{Lexeme, word, sign}
+use Rattle.sp_spec_text.specs.Signs.{Sign}
+use Rattle.sp_spec_text.specs.Signs as s
+use Rattle.sp_spec_text.specs.Token.{Lexeme, word, sign}
 use Rattle.sp_spec.specs.Rule.{Fact}
 use Rattle.sp_spec.specs.Formula.{Written, Formula, truth, falsity, happens, equals, precedes, not_so, both, either, implies}
-use Rattle.sp_read_parts.specs.Lists.{IsNotFirst, NoReading}
-use Rattle.sp_read_parts.specs.Shapes.{action_of, quantified}
+use Rattle.sp_spec_text.specs.Lists.{IsNotFirst, NoReading}
+use Rattle.sp_spec_text.specs.Shapes.{action_of, quantified}
 use Rattle.sp_read_parts.specs.Parts.{IsVariable, IsTerm, IsFact, AreBinders}
-use Rattle.sp_read_parts.specs.Grammar.{quantified_some, equivalent}
+use Rattle.sp_spec_text.specs.Formulas.{quantified_some, equivalent}
 
 -- two sides, and this sign between them
 pub data Infix {A B : Type 0} (P : List Lexeme → A → List Lexeme → Type 0) (x : Sign) (Q : List Lexeme → B → List Lexeme → Type 0) (f : A → B → Formula) : List Lexeme → Formula → List Lexeme → Type 0 where

@@ -1,8 +1,8 @@
 -- What the code's values stand for.
 use Rattle.std.specs.Prelude.{ℕ, List, map, drop}
 use Rattle.sp_lex.specs.declared.token.Token as lexer
-use Rattle.sp_lex.specs.Lexeme.{Lexeme}
-use Rattle.sp_lex.specs.Lex.{lexemes}
+use Rattle.sp_spec_text.specs.Token.{Lexeme}
+use Rattle.sp_spec_text.specs.Lex.{lexemes}
 use Rattle.sp_lex.specs.Views.{tokens_of}
 use Rattle.sp_spec.specs.Term.{Fresh, Pub, Msg, Term, var}
 use Rattle.sp_spec.specs.Term as t
@@ -10,7 +10,7 @@ use Rattle.sp_spec.specs.Rule.{Fact}
 use Rattle.sp_spec.specs.Formula as f
 use Rattle.sp_spec.specs.Formula.{Written}
 use Rattle.sp_spec.specs.Written as spec
-use Rattle.sp_read_parts.specs.Shapes.{written, fact, rule_of}
+use Rattle.sp_spec_text.specs.Shapes.{written, fact, rule_of}
 use Rattle.sp_read_parts.specs.declared.written.Mark.{Mark}
 use Rattle.sp_read_parts.specs.declared.written.Mark.TheVariants as m
 use Rattle.sp_read_parts.specs.declared.written.WrittenVariable.{WrittenVariable}

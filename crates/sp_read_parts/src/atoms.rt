@@ -1,5 +1,5 @@
 ghost use Rattle.std.specs.Prelude.{◌≡◌, MatchOption, IfSome, IfOk, ◌≤◌, ◌<◌, length};
-ghost use Rattle.sp_read_parts.specs.Lists.{NoReading};
+ghost use Rattle.sp_spec_text.specs.Lists.{NoReading};
 ghost use Rattle.sp_read_parts.specs.Reading.{IsEquality, IsOrder, IsAction, IsConstant, IsAtom};
 ghost use Rattle.sp_read_parts.specs.Views.{seen_from};
 ghost use Rattle.sp_read_parts.specs.Formulas as view;

@@ -1,5 +1,5 @@
 ghost use Rattle.std.specs.Prelude.{◌≡◌, [], ◌∷◌, MatchOption, IfSome, IfOk, OnOk, map, ◌++◌, ◌≤◌, ◌<◌, length};
-ghost use Rattle.sp_read_parts.specs.Lists.{NoReading};
+ghost use Rattle.sp_spec_text.specs.Lists.{NoReading};
 ghost use Rattle.sp_read_parts.specs.Parts.{AreBinders};
 ghost use Rattle.sp_read_parts.specs.Views as view;
 ghost use Rattle.sp_read_parts.specs.Views.{seen_from};

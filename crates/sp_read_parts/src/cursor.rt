@@ -1,7 +1,8 @@
+ghost use Rattle.sp_lex.specs.Views.{sign_of};
 ghost use Rattle.std.specs.Prelude.{◌≡◌, [], ◌∷◌, MatchOption, IfSome, ◌≤◌, ◌<◌, length};
-ghost use Rattle.sp_lex.specs.Lexeme.{word, sign};
+ghost use Rattle.sp_spec_text.specs.Token.{word, sign};
 ghost use Rattle.sp_lex.specs.Views.{lexeme_of};
-ghost use Rattle.sp_read_parts.specs.Lists.{IsNotFirst, IsNoWord};
+ghost use Rattle.sp_spec_text.specs.Lists.{IsNotFirst, IsNoWord};
 ghost use Rattle.sp_read_parts.specs.Views.{seen_from};
 
 use sp_lex::{Lexeme, Sign, Token};
@@ -20,7 +21,7 @@ pub fn split<'a>(tokens: &[Token<'a>], at: usize) -> Option<(Lexeme<'a>, usize)>
 
 /// The tokens behind this sign, if it stands first.
 pub fn after<'a>(wanted: Sign, tokens: &[Token<'a>], at: usize) -> Option<usize>
-    ensures value { MatchOption result (IsNotFirst (sign wanted) (seen_from tokens.now at)) (λ rest. seen_from tokens.now at ≡ sign wanted ∷ seen_from tokens.now rest) }
+    ensures value { MatchOption result (IsNotFirst (sign (sign_of wanted)) (seen_from tokens.now at)) (λ rest. seen_from tokens.now at ≡ sign (sign_of wanted) ∷ seen_from tokens.now rest) }
     ensures further { IfSome result (λ rest. (at < rest) × (rest ≤ length tokens.now)) }
 {
     match split(tokens, at) {

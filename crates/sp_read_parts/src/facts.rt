@@ -1,5 +1,7 @@
+ghost use Rattle.sp_lex.specs.Views.{sign_of};
+ghost use Rattle.sp_spec_text.specs.Signs as signs;
 ghost use Rattle.std.specs.Prelude.{◌≡◌, [], ◌∷◌, MatchOption, IfSome, IfOk, OnOk, map, ◌++◌, ◌≤◌, ◌<◌, length};
-ghost use Rattle.sp_read_parts.specs.Lists.{NoReading, AreParts, AreItems};
+ghost use Rattle.sp_spec_text.specs.Lists.{NoReading, AreParts, AreItems};
 ghost use Rattle.sp_read_parts.specs.Parts.{AreArguments, IsNamedFact, IsFact};
 ghost use Rattle.sp_read_parts.specs.Views as view;
 ghost use Rattle.sp_read_parts.specs.Views.{seen_from};
@@ -98,8 +100,8 @@ fn facts<'a>(
     tokens: &[Token<'a>],
     at: usize,
 ) -> Result<Option<(Vec<WrittenFact<'a>>, usize)>, AllocError>
-    requires { Sign.Comma ≡ close → ⊥ }
-    ensures value { IfOk result (λ o. MatchOption o (NoReading (AreParts (IsFact 0) Sign.Comma close) (seen_from tokens.now at)) (λ x. AreParts (IsFact 0) Sign.Comma close (seen_from tokens.now at) (view.facts_of x.0.items) (seen_from tokens.now x.1))) }
+    requires { signs.Comma ≡ sign_of close → ⊥ }
+    ensures value { IfOk result (λ o. MatchOption o (NoReading (AreParts (IsFact 0) signs.Comma (sign_of close)) (seen_from tokens.now at)) (λ x. AreParts (IsFact 0) signs.Comma (sign_of close) (seen_from tokens.now at) (view.facts_of x.0.items) (seen_from tokens.now x.1))) }
     ensures further { IfOk result (λ o. IfSome o (λ x. (at < x.1) × (x.1 ≤ length tokens.now))) }
 {
     let mut found = Vec::new(alloc);
@@ -127,8 +129,8 @@ pub fn fact_list<'a>(
     tokens: &[Token<'a>],
     at: usize,
 ) -> Result<Option<(Vec<WrittenFact<'a>>, usize)>, AllocError>
-    requires { Sign.Comma ≡ close → ⊥ }
-    ensures value { IfOk result (λ o. MatchOption o (NoReading (AreItems (IsFact 0) close) (seen_from tokens.now at)) (λ x. AreItems (IsFact 0) close (seen_from tokens.now at) (view.facts_of x.0.items) (seen_from tokens.now x.1))) }
+    requires { signs.Comma ≡ sign_of close → ⊥ }
+    ensures value { IfOk result (λ o. MatchOption o (NoReading (AreItems (IsFact 0) (sign_of close)) (seen_from tokens.now at)) (λ x. AreItems (IsFact 0) (sign_of close) (seen_from tokens.now at) (view.facts_of x.0.items) (seen_from tokens.now x.1))) }
     ensures further { IfOk result (λ o. IfSome o (λ x. (at < x.1) × (x.1 ≤ length tokens.now))) }
 {
     match after(close, tokens, at) {

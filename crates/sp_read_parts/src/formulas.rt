@@ -1,7 +1,8 @@
+ghost use Rattle.sp_lex.specs.Views.{sign_of};
 ghost use Rattle.std.specs.Prelude.{◌≡◌, MatchOption, IfSome, IfOk, map, ◌≤◌, ◌<◌, length};
 ghost use Rattle.sp_spec.specs.Formula.{not_so, both, either, implies};
-ghost use Rattle.sp_read_parts.specs.Lists.{NoReading};
-ghost use Rattle.sp_read_parts.specs.Grammar.{equivalent};
+ghost use Rattle.sp_spec_text.specs.Lists.{NoReading};
+ghost use Rattle.sp_spec_text.specs.Formulas.{equivalent};
 ghost use Rattle.sp_read_parts.specs.Reading.{IsQuantifier, bind, conjoint, disjoint, a_group, a_binding, a_unit, a_negation, a_chain, an_implication, a_whole, Reads};
 ghost use Rattle.sp_read_parts.specs.Closed.{Closes, IsClosed};
 ghost use Rattle.sp_read_parts.specs.Views as parts;
@@ -336,9 +337,9 @@ pub fn formula<'a>(
     at: usize,
 ) -> Result<Option<(ReadFormula<'a>, usize)>, AllocError>
     requires nested { nesting ≤ LIMIT }
-    requires closing { Closes close }
+    requires closing { Closes (sign_of close) }
     // What is read is spelled there, and where nothing is read nothing is spelled.
-    ensures value { IfOk result (λ o. MatchOption o (NoReading (IsClosed nesting close) (seen_from tokens.now at)) (λ x. IsClosed nesting close (seen_from tokens.now at) (view.formula x.0) (seen_from tokens.now x.1))) }
+    ensures value { IfOk result (λ o. MatchOption o (NoReading (IsClosed nesting (sign_of close)) (seen_from tokens.now at)) (λ x. IsClosed nesting (sign_of close) (seen_from tokens.now at) (view.formula x.0) (seen_from tokens.now x.1))) }
     ensures further { IfOk result (λ o. IfSome o (λ x. (at < x.1) × (x.1 ≤ length tokens.now))) }
 {
     let Some((found, ahead)) = whole(alloc, nesting, tokens, at)? else {

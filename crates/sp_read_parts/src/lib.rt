@@ -1,8 +1,9 @@
 // Reads variables, terms, facts and formulas from tokens; what a rule is in memory stands here too.
-// Below stand sp_spec (what is written) and sp_lex (tokens); theories are read above (sp_read_theory).
-// Carried here: the promise that texts are read exactly, for the parts of a theory. The grammar is specs/Grammar.antt, and
-// what a reader gives is spelled there by the tokens that it takes; where it gives nothing, no text of the grammar stands there.
-// Formulas are read as far as they reach (specs/Reading.antt), which before a closing sign is what the grammar says (specs/Closed.antt).
+// Below stand sp_spec (what is written), sp_spec_text (the grammar) and sp_lex (tokens); theories are read above (sp_read_theory).
+// Carried here: the promise that texts are read exactly, for the parts of a theory. The grammar is sp_spec_text's (specs/Names.antt,
+// specs/Formulas.antt), and what a reader gives is spelled there by the tokens that it takes; where it gives nothing, no text of the
+// grammar stands there. Terms and facts are read by specs/Parts.antt, formulas as far as they reach (specs/Reading.antt), which before a
+// closing sign is what the grammar says (specs/Closed.antt).
 #![tactic(auto)]
 
 mod atoms;
@@ -22,6 +23,3 @@ pub use written::{Mark, ReadFormula, WrittenFact, WrittenRule, WrittenTerm, Writ
 pub fn closed_formulas_are_one()
     ensures { ClosedFormulasAreOne }
 {}
-
-#[cfg(test)]
-mod tests;

@@ -1,5 +1,6 @@
+ghost use Rattle.sp_spec_text.specs.Signs as signs;
 ghost use Rattle.std.specs.Prelude.{◌≡◌, [], ◌∷◌, MatchOption, IfSome, IfOk, OnOk, map, ◌++◌, ◌≤◌, ◌<◌, length};
-ghost use Rattle.sp_read_parts.specs.Lists.{NoReading, AreParts, AreItems};
+ghost use Rattle.sp_spec_text.specs.Lists.{NoReading, AreParts, AreItems};
 ghost use Rattle.sp_read_parts.specs.Parts.{IsNameFirst, IsSort, IsVariable, IsPlainTerm, IsTerm};
 ghost use Rattle.sp_read_parts.specs.Views as view;
 ghost use Rattle.sp_read_parts.specs.Views.{seen_from};
@@ -130,7 +131,7 @@ pub fn terms<'a>(
     at: usize,
 ) -> Result<Option<(Vec<WrittenTerm<'a>>, usize)>, AllocError>
     requires { nesting ≤ LIMIT }
-    ensures value { IfOk result (λ o. MatchOption o (NoReading (AreParts (IsTerm nesting) Sign.Comma Sign.Close) (seen_from tokens.now at)) (λ x. AreParts (IsTerm nesting) Sign.Comma Sign.Close (seen_from tokens.now at) (map view.term x.0.items) (seen_from tokens.now x.1))) }
+    ensures value { IfOk result (λ o. MatchOption o (NoReading (AreParts (IsTerm nesting) signs.Comma signs.Close) (seen_from tokens.now at)) (λ x. AreParts (IsTerm nesting) signs.Comma signs.Close (seen_from tokens.now at) (map view.term x.0.items) (seen_from tokens.now x.1))) }
     ensures further { IfOk result (λ o. IfSome o (λ x. (at < x.1) × (x.1 ≤ length tokens.now))) }
 {
     let mut found = Vec::new(alloc);
@@ -159,7 +160,7 @@ pub fn term_list<'a>(
     at: usize,
 ) -> Result<Option<(Vec<WrittenTerm<'a>>, usize)>, AllocError>
     requires { nesting ≤ LIMIT }
-    ensures value { IfOk result (λ o. MatchOption o (NoReading (AreItems (IsTerm nesting) Sign.Close) (seen_from tokens.now at)) (λ x. AreItems (IsTerm nesting) Sign.Close (seen_from tokens.now at) (map view.term x.0.items) (seen_from tokens.now x.1))) }
+    ensures value { IfOk result (λ o. MatchOption o (NoReading (AreItems (IsTerm nesting) signs.Close) (seen_from tokens.now at)) (λ x. AreItems (IsTerm nesting) signs.Close (seen_from tokens.now at) (map view.term x.0.items) (seen_from tokens.now x.1))) }
     ensures further { IfOk result (λ o. IfSome o (λ x. (at < x.1) × (x.1 ≤ length tokens.now))) }
 {
     match after(Sign::Close, tokens, at) {

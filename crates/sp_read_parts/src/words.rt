@@ -1,12 +1,13 @@
+ghost use Rattle.sp_lex.specs.Views.{sign_of};
 ghost use Rattle.std.specs.Prelude.{◌≡◌, option_map};
-ghost use Rattle.sp_read_parts.specs.Names as names;
+ghost use Rattle.sp_spec_text.specs.Names as names;
 ghost use Rattle.sp_read_parts.specs.Views as view;
 
 use crate::written::Mark;
 use sp_lex::Sign;
 
 /// Whether a word is no name anywhere.
-#[tactic(auto, unfolding(crate::specs::Names::is_reserved))]
+#[tactic(auto, unfolding(sp_spec_text::specs::Names::is_reserved))]
 pub fn is_reserved(word: &str) -> bool
     ensures { result ≡ names.is_reserved word.now }
 {
@@ -21,7 +22,7 @@ pub fn is_reserved(word: &str) -> bool
 }
 
 /// Whether only the adversary's rules speak of facts of this name.
-#[tactic(auto, unfolding(crate::specs::Names::is_adversarial))]
+#[tactic(auto, unfolding(sp_spec_text::specs::Names::is_adversarial))]
 pub fn is_adversarial(word: &str) -> bool
     ensures { result ≡ names.is_adversarial word.now }
 {
@@ -46,7 +47,7 @@ pub fn names_fact(word: &str) -> bool
 }
 
 /// The mark that this word is, behind the colon of a variable.
-#[tactic(auto, unfolding(crate::specs::Names::mark_of))]
+#[tactic(auto, unfolding(sp_spec_text::specs::Names::mark_of))]
 pub fn mark_of(word: &str) -> Option<Mark>
     ensures { option_map view.mark result ≡ names.mark_of word.now }
 {
@@ -65,7 +66,7 @@ pub fn mark_of(word: &str) -> Option<Mark>
 
 /// The mark that this sign is, before the name of a variable.
 pub fn mark_at(sign: Sign) -> Option<Mark>
-    ensures { option_map view.mark result ≡ names.mark_at sign }
+    ensures { option_map view.mark result ≡ names.mark_at (sign_of sign) }
 {
     match sign {
         Sign::Tilde => Some(Mark::Fresh),

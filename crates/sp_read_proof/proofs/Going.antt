@@ -1,11 +1,11 @@
 -- Proofs that are read in part: each step keeps what can be read from the start.
 use Rattle.std.proofs.Common.{◌≡◌, ℕ, List, [], ◌∷◌, ◌++◌, codes, refl, sym, ap, subst, ◌∙◌}
-use Rattle.sp_lex.specs.Lexeme.{Lexeme, word}
-use Rattle.sp_read_parts.specs.Lists.{NoReading}
+use Rattle.sp_spec_text.specs.Token.{Lexeme, word}
+use Rattle.sp_spec_text.specs.Lists.{NoReading}
 use Rattle.sp_read_parts.specs.Parts.{IsNameFirst, name}
-use Rattle.sp_written.specs.Text.{Method, WrittenProof, step, WrittenCases, no_case, then_case}
+use Rattle.sp_spec_text.specs.Written.{Method, WrittenProof, step, WrittenCases, no_case, then_case}
 use Rattle.sp_written.specs.Views.{all_cases}
-use Rattle.sp_read_proof.specs.Grammar.{SpellsProof, SpellsCases, case, SpellsMore, qed, next}
+use Rattle.sp_spec_text.specs.Proofs.{SpellsProof, SpellsCases, case, SpellsMore, qed, next}
 use Rattle.sp_read_proof.specs.Lines.{leaf, alone, cases, IsLine, ended, another, IsBehind, qed_line, next_line}
 use Rattle.sp_read_proof.specs.Frames.{Frame, lone, among, joined, Completes, whole, behind_lone, behind_more, Awaits, Same}
 use Rattle.sp_read_proof.proofs.Parted.{behind_line, line_before, has_line}

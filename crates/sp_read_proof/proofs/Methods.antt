@@ -1,12 +1,12 @@
 -- What a line begins with says which way it is read; each way to get stuck leaves no reading.
 use Rattle.std.proofs.Common.{◌≡◌, ℕ, true, false, true≢false, List, [], ◌∷◌, codes, refl, sym, ap, subst, ◌∙◌}
-use Rattle.sp_lex.specs.declared.token.Sign.{Sign}
-use Rattle.sp_lex.specs.Lexeme.{Lexeme, word, constant, sign, solve}
-use Rattle.sp_read_parts.specs.Lists.{IsNotFirst, NoReading}
+use Rattle.sp_spec_text.specs.Signs.{Sign}
+use Rattle.sp_spec_text.specs.Token.{Lexeme, word, constant, sign, solve}
+use Rattle.sp_spec_text.specs.Lists.{IsNotFirst, NoReading}
 use Rattle.sp_read_parts.specs.Parts.{IsNameFirst}
-use Rattle.sp_written.specs.Text.{Method, said, goal}
-use Rattle.sp_read_proof.specs.Grammar.{is_method, SpellsMethod, by_word, by_goal}
-use Rattle.sp_read_proof.specs.Lines.{Line, leaf, alone, cases, IsLine, solved_line, by_line, move_line, case_line, Behind, ended, another, IsBehind, qed_line, next_line}
+use Rattle.sp_spec_text.specs.Written.{Method, said, goal}
+use Rattle.sp_spec_text.specs.Proofs.{is_method, SpellsMethod, by_word, by_goal}
+use Rattle.sp_read_proof.specs.Lines.{Line, leaf, cases, IsLine, solved_line, by_line, move_line, case_line, Behind, ended, another, IsBehind, qed_line, next_line}
 
 -- ---- methods
 

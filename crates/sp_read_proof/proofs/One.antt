@@ -1,8 +1,8 @@
 -- Tokens spell one proof.
 use Rattle.std.proofs.Common.{◌≡◌, ℕ, List, [], ◌∷◌, codes, refl, sym, ap, subst, ◌∙◌}
-use Rattle.sp_lex.specs.Lexeme.{Lexeme, word}
-use Rattle.sp_written.specs.Text.{Method, WrittenProof, step, WrittenCases, no_case, then_case}
-use Rattle.sp_read_proof.specs.Grammar.{SpellsMethod, SpellsProof, solved, by_method, method_proof, method_cases, SpellsCases, case, SpellsMore, qed, next}
+use Rattle.sp_spec_text.specs.Token.{Lexeme, word}
+use Rattle.sp_spec_text.specs.Written.{Method, WrittenProof, step, WrittenCases, no_case, then_case}
+use Rattle.sp_spec_text.specs.Proofs.{SpellsMethod, SpellsProof, solved, by_method, method_proof, method_cases, SpellsCases, case, SpellsMore, qed, next}
 use Rattle.sp_read_proof.proofs.Methods.{method_one, method_not_solved, method_not_by}
 use Rattle.sp_read_proof.proofs.Parted.{cases_at, proof_not_case, behind_solved, behind_by, behind_move}
 

@@ -1,10 +1,10 @@
 -- Proofs that are read in part, line by line.
 use Rattle.std.proofs.Common.{◌≡◌, ℕ, List, [], ◌∷◌, codes, refl, sym, ap, subst, ◌∙◌}
-use Rattle.sp_lex.specs.Lexeme.{Lexeme, word}
-use Rattle.sp_read_parts.specs.Lists.{IsNotFirst, NoReading}
+use Rattle.sp_spec_text.specs.Token.{Lexeme, word}
+use Rattle.sp_spec_text.specs.Lists.{IsNotFirst, NoReading}
 use Rattle.sp_read_parts.specs.Parts.{IsNameFirst, name}
-use Rattle.sp_written.specs.Text.{Method, said, WrittenProof, step, WrittenCases, no_case, then_case}
-use Rattle.sp_read_proof.specs.Grammar.{SpellsMethod, SpellsProof, solved, by_method, method_proof, method_cases, SpellsCases, case, SpellsMore}
+use Rattle.sp_spec_text.specs.Written.{Method, said, WrittenProof, step, WrittenCases, no_case, then_case}
+use Rattle.sp_spec_text.specs.Proofs.{SpellsMethod, SpellsProof, solved, by_method, method_proof, method_cases, SpellsCases, case, SpellsMore}
 use Rattle.sp_read_proof.specs.Lines.{Line, leaf, alone, cases, IsLine, solved_line, by_line, move_line, case_line}
 use Rattle.sp_read_proof.proofs.Methods.{method_one, method_not_solved, method_not_by, method_not_case}
 

@@ -2,10 +2,10 @@
 use Rattle.std.proofs.Common.{◌≡◌, ℕ, Bool, true, false, true≢false, List, [], ◌∷◌, codes, refl, sym, ap, ◌∙◌}
 use Rattle.std.specs.Prelude.{◌||◌}
 use Rattle.std.specs.Str.{bytes_eq}
-use Rattle.sp_lex.specs.declared.token.Sign.{Sign}
-use Rattle.sp_lex.specs.Lexeme.{Lexeme, word, sign}
-use Rattle.sp_written.specs.Text.{Method, WrittenProof}
-use Rattle.sp_read_proof.specs.Grammar.{is_method, SpellsMethod, by_word, by_goal, SpellsProof, solved, by_method, method_proof, method_cases}
+use Rattle.sp_spec_text.specs.Signs.{Sign}
+use Rattle.sp_spec_text.specs.Token.{Lexeme, word, sign}
+use Rattle.sp_spec_text.specs.Written.{Method, WrittenProof}
+use Rattle.sp_spec_text.specs.Proofs.{is_method, SpellsMethod, by_word, by_goal, SpellsProof, solved, by_method, method_proof, method_cases}
 use Rattle.sp_read_proof.proofs.Methods.{method_word}
 
 -- the words with which proofs begin

@@ -1,8 +1,8 @@
 -- Proofs that are read in part: the methods of which a case is being read, innermost first. Source: Tamarin manual, "Proofs".
 use Rattle.std.specs.Prelude.{ℕ, List, [], ◌∷◌}
-use Rattle.sp_lex.specs.Lexeme.{Lexeme}
-use Rattle.sp_written.specs.Text.{Method, WrittenProof, step, WrittenCases, no_case, then_case}
-use Rattle.sp_read_proof.specs.Grammar.{SpellsProof, SpellsMore}
+use Rattle.sp_spec_text.specs.Token.{Lexeme}
+use Rattle.sp_spec_text.specs.Written.{Method, WrittenProof, step, WrittenCases, no_case, then_case}
+use Rattle.sp_spec_text.specs.Proofs.{SpellsProof, SpellsMore}
 
 -- a method whose only case, without a name, is being read; a method with the cases that are read, and the name of the one that is being read
 pub data Frame : Type 0 where

@@ -1,8 +1,8 @@
 -- Tokens spell one proof.
 use Rattle.std.specs.Prelude.{◌≡◌, List}
-use Rattle.sp_lex.specs.Lexeme.{Lexeme}
-use Rattle.sp_written.specs.Text.{WrittenProof}
-use Rattle.sp_read_proof.specs.Grammar.{SpellsProof}
+use Rattle.sp_spec_text.specs.Token.{Lexeme}
+use Rattle.sp_spec_text.specs.Written.{WrittenProof}
+use Rattle.sp_spec_text.specs.Proofs.{SpellsProof}
 
 -- one proof stands first, and one rest follows it
 pub record ProofsAreOne : Type 0 where

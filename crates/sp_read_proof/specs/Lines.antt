@@ -1,11 +1,11 @@
 -- The lines of a proof as they are read, one after the other. `R tokens x rest` says that the tokens begin with x, which R reads, and
 -- that the rest follows. Source: Tamarin manual, "Proofs".
 use Rattle.std.specs.Prelude.{ℕ, List, ◌∷◌, codes}
-use Rattle.sp_lex.specs.Lexeme.{Lexeme, word}
-use Rattle.sp_read_parts.specs.Lists.{IsNotFirst}
+use Rattle.sp_spec_text.specs.Token.{Lexeme, word}
+use Rattle.sp_spec_text.specs.Lists.{IsNotFirst}
 use Rattle.sp_read_parts.specs.Parts.{IsNameFirst}
-use Rattle.sp_written.specs.Text.{Method, said}
-use Rattle.sp_read_proof.specs.Grammar.{SpellsMethod}
+use Rattle.sp_spec_text.specs.Written.{Method, said}
+use Rattle.sp_spec_text.specs.Proofs.{SpellsMethod}
 
 -- a leaf; a method whose only case follows as it is; a method, and the name of its first case
 pub data Line : Type 0 where

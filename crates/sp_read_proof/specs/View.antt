@@ -2,7 +2,7 @@
 use Rattle.std.specs.Prelude.{ℕ, List, map, reverse}
 use Rattle.sp_lex.specs.declared.token.Token.{Token}
 use Rattle.sp_read_parts.specs.Views.{seen_from}
-use Rattle.sp_written.specs.Text.{WrittenProof}
+use Rattle.sp_spec_text.specs.Written.{WrittenProof}
 use Rattle.sp_written.specs.Views.{method, proof, case_of}
 use Rattle.sp_read_proof.specs.Lines as lines
 use Rattle.sp_read_proof.specs.Frames as frames

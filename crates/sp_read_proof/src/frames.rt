@@ -1,7 +1,7 @@
 // Proofs that are read in part.
 
 ghost use Rattle.std.specs.Prelude.{◌≡◌, [], ◌∷◌, ◌++◌, IfOk, OnOk, MatchOption, map};
-ghost use Rattle.sp_written.specs.Text.{step, no_case, then_case};
+ghost use Rattle.sp_spec_text.specs.Written.{step, no_case, then_case};
 ghost use Rattle.sp_written.specs.Views as view;
 ghost use Rattle.sp_read_proof.specs.View.{frame_of, frames_of};
 

@@ -1,7 +1,7 @@
 // Reads the proofs that stand in texts.
 // Below stand tokens (sp_lex), the cursor over them (sp_read_parts), and proofs as they are written (sp_written), where a step is a word
 // or the text of a goal and is not understood yet. The reader of theories (sp_read_theory) and what says trees of them (sp_skel) stand above.
-// The grammar is specs/Grammar.antt, over lexemes.
+// The grammar is sp_spec_text's (specs/Proofs.antt), over lexemes.
 // Carried here: the promise that proofs are read exactly. What is read is spelled by the tokens that it takes; where nothing is read, no
 // proof stands there; and tokens spell one proof. Proofs are read line by line (specs/Lines.antt, specs/Frames.antt), without a recursion.
 #![tactic(auto)]
@@ -18,6 +18,3 @@ pub use proofs::proof;
 pub fn proofs_are_one()
     ensures { ProofsAreOne }
 {}
-
-#[cfg(test)]
-mod tests;

@@ -1,11 +1,11 @@
 // The lines of a proof.
 
 ghost use Rattle.std.specs.Prelude.{◌≡◌, MatchOption, IfSome, ◌≤◌, ◌<◌, length};
-ghost use Rattle.sp_read_parts.specs.Lists.{NoReading};
+ghost use Rattle.sp_spec_text.specs.Lists.{NoReading};
 ghost use Rattle.sp_read_parts.specs.Views.{seen_from};
 ghost use Rattle.sp_written.specs.Views as written;
-ghost use Rattle.sp_read_proof.specs.Grammar as grammar;
-ghost use Rattle.sp_read_proof.specs.Grammar.{SpellsMethod};
+ghost use Rattle.sp_spec_text.specs.Proofs as grammar;
+ghost use Rattle.sp_spec_text.specs.Proofs.{SpellsMethod};
 ghost use Rattle.sp_read_proof.specs.Lines.{IsLine, IsBehind};
 ghost use Rattle.sp_read_proof.specs.View as view;
 
@@ -16,7 +16,7 @@ use sp_read_parts::terms::name;
 use sp_written::Method;
 
 /// Whether the word is a method.
-#[tactic(auto, unfolding(crate::specs::Grammar::is_method))]
+#[tactic(auto, unfolding(sp_spec_text::specs::Proofs::is_method))]
 fn is_method(word: &str) -> bool
     ensures { result ≡ grammar.is_method word.now }
 {

@@ -1,10 +1,10 @@
 // Proofs, read line by line. The methods of which a case is being read stand in a list, so that proofs nest without a limit.
 
 ghost use Rattle.std.specs.Prelude.{◌≡◌, MatchOption, IfSome, IfOk, ◌≤◌, ◌<◌, length};
-ghost use Rattle.sp_read_parts.specs.Lists.{NoReading};
+ghost use Rattle.sp_spec_text.specs.Lists.{NoReading};
 ghost use Rattle.sp_read_parts.specs.Views.{seen_from};
 ghost use Rattle.sp_written.specs.Views as view;
-ghost use Rattle.sp_read_proof.specs.Grammar.{SpellsProof};
+ghost use Rattle.sp_spec_text.specs.Proofs.{SpellsProof};
 ghost use Rattle.sp_read_proof.specs.Frames.{Completes};
 ghost use Rattle.sp_read_proof.specs.View.{frames_of, ClosesTo, place_of};
 

@@ -1,17 +1,17 @@
 -- Items that are read one after the other.
 use Rattle.std.proofs.Common.{◌≡◌, List, [], ◌∷◌, ◌++◌, codes, refl, ap, subst, ◌∙◌, append_assoc}
 use Rattle.std.proofs.lemmas.List.{append-nil}
-use Rattle.sp_lex.specs.Lexeme.{Lexeme, word, Token}
-use Rattle.sp_lex.specs.Lex.{lexemes}
+use Rattle.sp_spec_text.specs.Token.{Lexeme, word, Token}
+use Rattle.sp_spec_text.specs.Lex.{lexemes}
 use Rattle.sp_spec.specs.Written.{WrittenRule}
-use Rattle.sp_written.specs.Text.{Item, rule_item}
+use Rattle.sp_spec_text.specs.Written.{Item, rule_item}
 use Rattle.sp_written.specs.declared.theory.Item as rust
 use Rattle.sp_written.specs.declared.theory.Item.TheVariants as i
-use Rattle.sp_written.specs.declared.theory.Span.{Span}
-use Rattle.sp_read_parts.specs.Lists.{IsNotFirst, NoReading}
-use Rattle.sp_read_theory.specs.Grammar.{SpellsRule, SpellsLemma, SpellsItems, no_item, rule_first, lemma_first}
+use Rattle.sp_spec_text.specs.Spans.{Span}
+use Rattle.sp_spec_text.specs.Lists.{IsNotFirst, NoReading}
+use Rattle.sp_spec_text.specs.Theories.{SpellsRule, SpellsLemma, SpellsItems, no_item, rule_first, lemma_first}
 use Rattle.sp_read_theory.specs.Items.{ReadsItem, a_rule, a_lemma, NoItem, the_end, AreItemsToEnd, NoItems}
-use Rattle.sp_read_theory.specs.Places.{EndsWith, AreSpans, no_span, past_rule, past_lemma}
+use Rattle.sp_spec_text.specs.Spans.{EndsWith, AreSpans, no_span, past_rule, past_lemma}
 use Rattle.sp_read_theory.specs.Views as view
 use Rattle.sp_read_theory.proofs.One.{rule_not_end, lemma_not_end, Behind, behind_rule, behind_lemma}
 use Rattle.sp_read_theory.proofs.Suffix.{ends_with}
@@ -50,7 +50,7 @@ gone_item {x = x} g r = record {
 pub spans_more : (xs ys : List rust.Item) → view.spans (xs ++ ys) ≡ view.spans xs ++ view.spans ys
 spans_more [] ys = refl
 spans_more (i.Rule r ∷ xs) ys = spans_more xs ys
-spans_more (i.Lemma l ∷ xs) ys = ap (λ (ss : List Span). l.span ∷ ss) (spans_more xs ys)
+spans_more (i.Lemma l ∷ xs) ys = ap (λ (ss : List Span). view.span_of l.span ∷ ss) (spans_more xs ys)
 
 pub rule_item_at : {r : WrittenRule} {tokens rest : List Token} → SpellsRule (lexemes tokens) r (lexemes rest) → EndsWith tokens rest → ReadsItem tokens (rule_item r) [] rest
 rule_item_at h e = a_rule h e

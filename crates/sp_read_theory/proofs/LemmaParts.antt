@@ -1,21 +1,21 @@
 -- Lemmas from their parts, with their proofs, and each part that may be missing.
 use Rattle.std.proofs.Common.{◌≡◌, ℕ, List, [], ◌∷◌, Option, Some, None, codes, refl, sym, subst, ◌∙◌}
-use Rattle.sp_lex.specs.declared.token.Sign.TheVariants as s
-use Rattle.sp_lex.specs.Lexeme.{Lexeme, word, sign, Token}
-use Rattle.sp_lex.specs.Lex.{lexemes}
+use Rattle.sp_spec_text.specs.Signs as s
+use Rattle.sp_spec_text.specs.Token.{Lexeme, word, sign, Token}
+use Rattle.sp_spec_text.specs.Lex.{lexemes}
 use Rattle.sp_spec.specs.Formula.{Formula}
 use Rattle.sp_spec.specs.Theory.{TraceKind, all_traces, exists_trace, Lemma}
-use Rattle.sp_read_parts.specs.Lists.{IsNotFirst, NoReading}
+use Rattle.sp_spec_text.specs.Lists.{IsNotFirst, NoReading}
 use Rattle.sp_read_parts.specs.Closed.{IsClosed}
 use Rattle.sp_read_parts.proofs.One.{One}
 use Rattle.sp_read_parts.proofs.Sequence.{Then, no_first, no_second, Becomes, no_whole}
-use Rattle.sp_written.specs.Text.{WrittenProof, lemma_item}
-use Rattle.sp_written.specs.declared.theory.Span.{Span}
-use Rattle.sp_read_proof.specs.Grammar.{SpellsProof}
-use Rattle.sp_read_theory.specs.Grammar as g
-use Rattle.sp_read_theory.specs.Grammar.{SpellsKind, SpellsLemma}
+use Rattle.sp_spec_text.specs.Written.{WrittenProof, lemma_item}
+use Rattle.sp_spec_text.specs.Spans.{Span}
+use Rattle.sp_spec_text.specs.Proofs.{SpellsProof}
+use Rattle.sp_spec_text.specs.Theories as g
+use Rattle.sp_spec_text.specs.Theories.{SpellsKind, SpellsLemma}
 use Rattle.sp_read_theory.specs.Items.{IsHeader, header, Dashed, NotDashed, IsKind, ReadsProofPart, ReadsItem, a_lemma}
-use Rattle.sp_read_theory.specs.Places.{IsBehind}
+use Rattle.sp_spec_text.specs.Spans.{IsBehind}
 use Rattle.sp_read_theory.proofs.One.{header_one, kinds}
 
 -- ---- two words and a dash

@@ -1,27 +1,27 @@
 -- Tokens spell one theory.
 use Rattle.std.proofs.Common.{◌≡◌, ℕ, List, [], ◌∷◌, Option, Some, codes, refl, sym, ap, subst, arith}
-use Rattle.sp_lex.specs.declared.token.Sign.{Sign}
-use Rattle.sp_lex.specs.declared.token.Sign.TheVariants as s
-use Rattle.sp_lex.specs.Lexeme.{Lexeme, word, sign}
+use Rattle.sp_spec_text.specs.Signs.{Sign}
+use Rattle.sp_spec_text.specs.Signs as s
+use Rattle.sp_spec_text.specs.Token.{Lexeme, word, sign}
 use Rattle.sp_spec.specs.Rule.{Fact}
 use Rattle.sp_spec.specs.Formula.{Written, Formula}
 use Rattle.sp_spec.specs.Theory.{TraceKind, Lemma}
 use Rattle.sp_spec.specs.Written.{WrittenRule}
-use Rattle.sp_read_parts.specs.Lists.{AreItems}
+use Rattle.sp_spec_text.specs.Lists.{AreItems}
 use Rattle.sp_read_parts.specs.Parts.{IsFact}
-use Rattle.sp_read_parts.specs.Shapes.{rule_of}
-use Rattle.sp_read_parts.specs.Grammar.{SpellsFact}
+use Rattle.sp_spec_text.specs.Shapes.{rule_of}
+use Rattle.sp_spec_text.specs.Formulas.{SpellsFact}
 use Rattle.sp_read_parts.specs.Closed.{IsClosed}
 use Rattle.sp_read_parts.proofs.One as parts
 use Rattle.sp_read_parts.proofs.One.{One, fact_sign, facts'}
 use Rattle.sp_read_parts.proofs.Spelled.{items_spelled, fact_spelled}
 use Rattle.sp_read_parts.proofs.Taken.{fact_taken, closed_one}
-use Rattle.sp_written.specs.Text.{WrittenProof, Item, rule_item, lemma_item, WrittenText}
-use Rattle.sp_read_proof.specs.Grammar.{SpellsProof}
+use Rattle.sp_spec_text.specs.Written.{WrittenProof, Item, rule_item, lemma_item, WrittenText}
+use Rattle.sp_spec_text.specs.Proofs.{SpellsProof}
 use Rattle.sp_read_proof.proofs.One.{proof_one}
 use Rattle.sp_read_proof.proofs.Starts.{proof_not_rule, proof_not_lemma, proof_not_end}
-use Rattle.sp_read_theory.specs.Grammar as g
-use Rattle.sp_read_theory.specs.Grammar.{SpellsFacts, SpellsArrow, SpellsRule, SpellsKind, SpellsLemma, SpellsProofPart, SpellsItems, SpellsTheory}
+use Rattle.sp_spec_text.specs.Theories as g
+use Rattle.sp_spec_text.specs.Theories.{SpellsFacts, SpellsArrow, SpellsRule, SpellsKind, SpellsLemma, SpellsProofPart, SpellsItems, SpellsTheory}
 use Rattle.sp_read_theory.specs.Items.{IsOpening, opening, IsHeader, header, IsKind, IsGreedy, the_end, AreItemsToEnd}
 
 -- ---- facts, which are read in one way

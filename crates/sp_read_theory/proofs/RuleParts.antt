@@ -1,17 +1,17 @@
 -- Rules and the opening of a theory from their parts, and each part that may be missing.
 use Rattle.std.proofs.Common.{◌≡◌, ℕ, List, [], ◌∷◌, codes, refl, subst}
-use Rattle.sp_lex.specs.declared.token.Sign.TheVariants as s
-use Rattle.sp_lex.specs.Lexeme.{Lexeme, word, sign}
+use Rattle.sp_spec_text.specs.Signs as s
+use Rattle.sp_spec_text.specs.Token.{Lexeme, word, sign}
 use Rattle.sp_spec.specs.Rule.{Fact}
 use Rattle.sp_spec.specs.Formula.{Written}
 use Rattle.sp_spec.specs.Written.{WrittenRule}
-use Rattle.sp_read_parts.specs.Lists.{IsNotFirst, NoReading, AreItems}
+use Rattle.sp_spec_text.specs.Lists.{IsNotFirst, NoReading, AreItems}
 use Rattle.sp_read_parts.specs.Parts.{IsNameFirst, name, IsFact}
-use Rattle.sp_read_parts.specs.Shapes.{rule_of}
+use Rattle.sp_spec_text.specs.Shapes.{rule_of}
 use Rattle.sp_read_parts.proofs.One.{One, name_one}
 use Rattle.sp_read_parts.proofs.Sequence.{Fixed, fixed_none, fixed_one, Then, no_first, no_second, Becomes, no_whole}
-use Rattle.sp_read_theory.specs.Grammar as g
-use Rattle.sp_read_theory.specs.Grammar.{SpellsFacts, SpellsArrow, SpellsRule}
+use Rattle.sp_spec_text.specs.Theories as g
+use Rattle.sp_spec_text.specs.Theories.{SpellsFacts, SpellsArrow, SpellsRule}
 use Rattle.sp_read_theory.specs.Items.{IsOpening, opening, IsHeader, header}
 use Rattle.sp_read_theory.proofs.One.{spelled, taken, facts_one, arrow_one, header_one}
 

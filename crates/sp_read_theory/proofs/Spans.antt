@@ -2,17 +2,17 @@
 use Rattle.std.proofs.Common.{◌≡◌, ℕ, ◌+◌, ◌≤◌, Bool, true, false, cond, List, [], ◌∷◌, ◌++◌, Option, Some, None, length, drop, refl, sym, subst, ◌∙◌, arith}
 use Rattle.std.specs.Prelude.{◌==◌}
 use Rattle.std.proofs.lemmas.List.{take-append-drop}
-use Rattle.sp_lex.specs.Lexeme.{Lexeme, Token}
-use Rattle.sp_lex.specs.Lex.{AreTokens, no_more, last, next, lexemes}
-use Rattle.sp_lex.specs.Places.{place_behind, is_any}
+use Rattle.sp_spec_text.specs.Token.{Lexeme, Token}
+use Rattle.sp_spec_text.specs.Lex.{AreTokens, no_more, last, next, lexemes}
+use Rattle.sp_spec_text.specs.Ends.{place_behind, is_any}
 use Rattle.sp_lex.proofs.Places.{next_shorter}
-use Rattle.sp_written.specs.Text.{WrittenProof, Item}
-use Rattle.sp_written.specs.declared.theory.Span.{Span}
+use Rattle.sp_spec_text.specs.Written.{WrittenProof, Item}
+use Rattle.sp_spec_text.specs.Spans.{Span}
 use Rattle.sp_read_proof.proofs.One.{proof_one}
-use Rattle.sp_read_theory.specs.Grammar as g
-use Rattle.sp_read_theory.specs.Grammar.{SpellsProofPart, SpellsItems}
+use Rattle.sp_spec_text.specs.Theories as g
+use Rattle.sp_spec_text.specs.Theories.{SpellsProofPart, SpellsItems}
 use Rattle.sp_read_theory.specs.Items.{the_end}
-use Rattle.sp_read_theory.specs.Places.{IsBehind, EndsAt, EndsWith, AreSpans, no_span, past_rule, past_lemma, is_feed, goes_on, Rise}
+use Rattle.sp_spec_text.specs.Spans.{IsBehind, EndsAt, EndsWith, AreSpans, no_span, past_rule, past_lemma, is_feed, goes_on, Rise}
 use Rattle.sp_read_theory.proofs.One.{rules_one, lemmas_one}
 use Rattle.sp_read_theory.proofs.Suffix.{end_one, behind_one}
 
@@ -25,7 +25,7 @@ same_span : (s t : Span) → s.from ≡ t.from → s.to ≡ t.to → s ≡ t
 same_span s t e f = let g : made s.from s.to ≡ made t.from t.to = rw (e, f) refl in g
 
 -- the proof that is spelled fixes what follows it
-proof_rest : {tokens x y : List Lexeme} {p : Option WrittenProof} → SpellsProofPart tokens p x → SpellsProofPart tokens p y → x ≡ y
+pub proof_rest : {tokens x y : List Lexeme} {p : Option WrittenProof} → SpellsProofPart tokens p x → SpellsProofPart tokens p y → x ≡ y
 proof_rest g.no_proof g.no_proof = refl
 proof_rest (g.a_proof h) (g.a_proof k) = (proof_one h k).1
 

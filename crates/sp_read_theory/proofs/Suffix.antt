@@ -3,9 +3,9 @@ use Rattle.std.proofs.Common.{◌≡◌, ℕ, zero, suc, ◌-◌, ◌<◌, ◌�
 use Rattle.std.proofs.lemmas.List.{nil_from_length, length-map, length-append}
 use Rattle.sp_lex.specs.declared.token.Token as lexer
 use Rattle.sp_lex.specs.Views.{token_of, tokens_of}
-use Rattle.sp_lex.specs.Lexeme.{Lexeme, Token}
-use Rattle.sp_lex.specs.Lex.{lexemes}
-use Rattle.sp_read_theory.specs.Places.{IsBehind, EndsWith}
+use Rattle.sp_spec_text.specs.Token.{Lexeme, Token}
+use Rattle.sp_spec_text.specs.Lex.{lexemes}
+use Rattle.sp_spec_text.specs.Spans.{IsBehind, EndsWith}
 use Rattle.sp_read_theory.specs.Views.{seen_from}
 
 -- ---- ends of one list

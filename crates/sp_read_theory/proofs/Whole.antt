@@ -2,20 +2,20 @@
 use Rattle.std.proofs.Common.{◌≡◌, ℕ, ◌≤◌, List, ◌∷◌, length, drop, codes, refl, sym, ap, subst, ◌∙◌, arith}
 use Rattle.std.proofs.lemmas.List.{drop-map}
 use Rattle.sp_lex.specs.declared.token.Token as lexer
-use Rattle.sp_lex.specs.declared.token.FaultKind.{FaultKind}
+use Rattle.sp_spec_text.specs.Bytes.{FaultKind}
 use Rattle.sp_lex.specs.Views.{token_of, tokens_of}
-use Rattle.sp_lex.specs.Lexeme.{Lexeme, word, Token}
-use Rattle.sp_lex.specs.Lex.{AreTokens, IsFault, lexemes}
-use Rattle.sp_lex.specs.Places.{is_any, behind_all}
+use Rattle.sp_spec_text.specs.Token.{Lexeme, word, Token}
+use Rattle.sp_spec_text.specs.Lex.{AreTokens, IsFault, lexemes}
+use Rattle.sp_spec_text.specs.Ends.{is_any, behind_all}
 use Rattle.sp_lex.proofs.One.{tokens_one, not_both}
 use Rattle.sp_lex.proofs.Places.{places_in_order}
-use Rattle.sp_read_parts.specs.Lists.{NoReading}
-use Rattle.sp_written.specs.Text.{Item, WrittenText}
-use Rattle.sp_written.specs.declared.theory.Span.{Span}
-use Rattle.sp_read_theory.specs.Grammar.{SpellsTheory, theory}
+use Rattle.sp_spec_text.specs.Lists.{NoReading}
+use Rattle.sp_spec_text.specs.Written.{Item, WrittenText}
+use Rattle.sp_spec_text.specs.Spans.{Span}
+use Rattle.sp_spec_text.specs.Theories.{SpellsTheory, theory}
 use Rattle.sp_read_theory.specs.Items.{IsOpening, opening, AreItemsToEnd, NoItems, NoTheory}
-use Rattle.sp_read_theory.specs.Places.{AreSpans, Rise}
-use Rattle.sp_read_theory.specs.Text.{IsTextOf, IsNoText, ArePlaces}
+use Rattle.sp_spec_text.specs.Spans.{AreSpans, Rise}
+use Rattle.sp_spec_text.specs.Texts.{IsTextOf, IsNoText, ArePlaces}
 use Rattle.sp_read_theory.specs.Views.{seen_from}
 use Rattle.sp_read_theory.proofs.One.{opening_one, theory_one}
 use Rattle.sp_read_theory.proofs.Suffix.{three_further}

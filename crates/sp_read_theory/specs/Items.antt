@@ -1,17 +1,17 @@
 -- The opening of a theory, its items up to the end, and the parts of an item, as they are read.
 use Rattle.std.specs.Prelude.{◌≡◌, ℕ, List, [], ◌∷◌, Option, Some, None, codes}
-use Rattle.sp_lex.specs.declared.token.Sign.TheVariants as s
-use Rattle.sp_lex.specs.Lexeme.{Lexeme, word, sign, Token}
-use Rattle.sp_lex.specs.Lex.{lexemes}
+use Rattle.sp_spec_text.specs.Signs as s
+use Rattle.sp_spec_text.specs.Token.{Lexeme, word, sign, Token}
+use Rattle.sp_spec_text.specs.Lex.{lexemes}
 use Rattle.sp_spec.specs.Theory.{TraceKind, Lemma}
 use Rattle.sp_spec.specs.Written.{WrittenRule}
-use Rattle.sp_read_parts.specs.Names.{IsName}
-use Rattle.sp_read_parts.specs.Lists.{NoReading}
-use Rattle.sp_written.specs.Text.{WrittenProof, Item, rule_item, lemma_item, WrittenText}
-use Rattle.sp_written.specs.declared.theory.Span.{Span}
-use Rattle.sp_read_proof.specs.Grammar.{SpellsProof}
-use Rattle.sp_read_theory.specs.Grammar.{SpellsRule, SpellsKind, SpellsLemma, SpellsProofPart, SpellsItems, SpellsTheory}
-use Rattle.sp_read_theory.specs.Places.{IsBehind, EndsAt, EndsWith}
+use Rattle.sp_spec_text.specs.Names.{IsName}
+use Rattle.sp_spec_text.specs.Lists.{NoReading}
+use Rattle.sp_spec_text.specs.Written.{WrittenProof, Item, rule_item, lemma_item, WrittenText}
+use Rattle.sp_spec_text.specs.Spans.{Span}
+use Rattle.sp_spec_text.specs.Proofs.{SpellsProof}
+use Rattle.sp_spec_text.specs.Theories.{SpellsRule, SpellsKind, SpellsLemma, SpellsProofPart, SpellsItems, SpellsTheory}
+use Rattle.sp_spec_text.specs.Spans.{IsBehind, EndsAt, EndsWith}
 
 -- `theory`, a name, and `begin`
 pub data IsOpening : List Lexeme → List ℕ → List Lexeme → Type 0 where

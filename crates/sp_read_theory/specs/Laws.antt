@@ -1,10 +1,10 @@
 -- Tokens spell one theory, and so a text says one, with its proofs at one place each.
 use Rattle.std.specs.Prelude.{◌≡◌, ℕ, List}
-use Rattle.sp_lex.specs.Lexeme.{Lexeme}
-use Rattle.sp_written.specs.Text.{WrittenText}
-use Rattle.sp_written.specs.declared.theory.Span.{Span}
-use Rattle.sp_read_theory.specs.Grammar.{SpellsTheory}
-use Rattle.sp_read_theory.specs.Text.{IsTextOf, ArePlaces}
+use Rattle.sp_spec_text.specs.Token.{Lexeme}
+use Rattle.sp_spec_text.specs.Written.{WrittenText}
+use Rattle.sp_spec_text.specs.Spans.{Span}
+use Rattle.sp_spec_text.specs.Theories.{SpellsTheory}
+use Rattle.sp_spec_text.specs.Texts.{IsTextOf, ArePlaces}
 
 pub record TextsSayOneTheory : Type 0 where
   pub spelled : (tokens : List Lexeme) (theory other : WrittenText) → SpellsTheory tokens theory → SpellsTheory tokens other → theory ≡ other

@@ -1,7 +1,7 @@
 ghost use Rattle.std.specs.Prelude.{◌≡◌, ◌∷◌, [], ◌++◌, MatchOption, IfSome, IfOk, OnOk, ◌≤◌, ◌<◌, length, drop};
 ghost use Rattle.sp_lex.specs.Views.{tokens_of};
 ghost use Rattle.sp_read_theory.specs.Items.{ReadsItem, NoItem, AreItemsToEnd, NoItems};
-ghost use Rattle.sp_read_theory.specs.Places.{AreSpans};
+ghost use Rattle.sp_spec_text.specs.Spans.{AreSpans};
 ghost use Rattle.sp_read_theory.specs.Views as view;
 ghost use Rattle.sp_read_theory.specs.Views.{seen_from};
 

@@ -1,11 +1,11 @@
 ghost use Rattle.std.specs.Prelude.{◌≡◌, [], ◌∷◌, MatchOption, IfSome, IfOk, OnOk, None, option_map, ◌≤◌, ◌<◌, ◌-◌, length, drop, map, codes};
 ghost use Rattle.sp_lex.specs.Views.{tokens_of};
 ghost use Rattle.sp_lex.specs.declared.token.Token as lexer;
-ghost use Rattle.sp_written.specs.Text.{lemma_item};
-ghost use Rattle.sp_read_parts.specs.Lists.{NoReading};
-ghost use Rattle.sp_read_theory.specs.Grammar.{SpellsLemma};
+ghost use Rattle.sp_spec_text.specs.Written.{lemma_item};
+ghost use Rattle.sp_spec_text.specs.Lists.{NoReading};
+ghost use Rattle.sp_spec_text.specs.Theories.{SpellsLemma};
 ghost use Rattle.sp_read_theory.specs.Items.{Dashed, NotDashed, IsKind, ReadsProofPart, ReadsItem};
-ghost use Rattle.sp_read_theory.specs.Places.{IsBehind};
+ghost use Rattle.sp_spec_text.specs.Spans.{IsBehind};
 ghost use Rattle.sp_read_theory.specs.Views as view;
 ghost use Rattle.sp_read_theory.specs.Views.{seen_from};
 
@@ -101,7 +101,7 @@ fn proof_part<'a>(
     at: usize,
 ) -> Result<(Option<WrittenProof<'a>>, Span, usize), AllocError>
     requires { at ≤ length tokens.now }
-    ensures value { IfOk result (λ x. ReadsProofPart (tokens_of (drop at tokens.now)) (option_map view.proof x.0) x.1 (tokens_of (drop x.2 tokens.now))) }
+    ensures value { IfOk result (λ x. ReadsProofPart (tokens_of (drop at tokens.now)) (option_map view.proof x.0) (view.span_of x.1) (tokens_of (drop x.2 tokens.now))) }
     ensures from { IfOk result (λ x. x.1.from ≡ from) }
     ensures further { IfOk result (λ x. (at ≤ x.2) × (x.2 ≤ length tokens.now)) }
 {
@@ -121,7 +121,7 @@ pub fn lemma<'a>(
     tokens: &[Token<'a>],
     at: usize,
 ) -> Result<Option<(WrittenLemma<'a>, usize)>, AllocError>
-    ensures value { IfOk result (λ o. MatchOption o (NoReading SpellsLemma (seen_from tokens.now at)) (λ x. ReadsItem (tokens_of (drop at tokens.now)) (lemma_item (view.lemma x.0) (option_map view.proof x.0.proof)) (x.0.span ∷ []) (tokens_of (drop x.1 tokens.now)))) }
+    ensures value { IfOk result (λ o. MatchOption o (NoReading SpellsLemma (seen_from tokens.now at)) (λ x. ReadsItem (tokens_of (drop at tokens.now)) (lemma_item (view.lemma x.0) (option_map view.proof x.0.proof)) (view.span_of x.0.span ∷ []) (tokens_of (drop x.1 tokens.now)))) }
     ensures further { IfOk result (λ o. IfSome o (λ x. (at < x.1) × (x.1 ≤ length tokens.now))) }
 {
     let Some((stated, behind)) = statement(alloc, tokens, at)? else {

@@ -1,10 +1,10 @@
 ghost use Rattle.std.specs.Prelude.{◌≡◌, MatchOption, IfSome, IfOk, ◌≤◌, length, drop};
-ghost use Rattle.sp_lex.specs.Places as places;
+ghost use Rattle.sp_spec_text.specs.Ends as places;
 ghost use Rattle.sp_lex.specs.Views.{tokens_of};
-ghost use Rattle.sp_read_theory.specs.Grammar.{SpellsTheory};
+ghost use Rattle.sp_spec_text.specs.Theories.{SpellsTheory};
 ghost use Rattle.sp_read_theory.specs.Items.{NoTheory};
-ghost use Rattle.sp_read_theory.specs.Places.{AreSpans, Rise};
-ghost use Rattle.sp_read_theory.specs.Text.{IsTextOf, IsNoText, ArePlaces};
+ghost use Rattle.sp_spec_text.specs.Spans.{AreSpans, Rise};
+ghost use Rattle.sp_spec_text.specs.Texts.{IsTextOf, IsNoText, ArePlaces};
 ghost use Rattle.sp_read_theory.specs.Views as view;
 ghost use Rattle.sp_read_theory.specs.Views.{seen};
 

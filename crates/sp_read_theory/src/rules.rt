@@ -1,6 +1,6 @@
 ghost use Rattle.std.specs.Prelude.{MatchOption, IfSome, IfOk, ◌≤◌, ◌<◌, length};
-ghost use Rattle.sp_read_parts.specs.Lists.{NoReading};
-ghost use Rattle.sp_read_theory.specs.Grammar.{SpellsFacts, SpellsArrow, SpellsRule};
+ghost use Rattle.sp_spec_text.specs.Lists.{NoReading};
+ghost use Rattle.sp_spec_text.specs.Theories.{SpellsFacts, SpellsArrow, SpellsRule};
 ghost use Rattle.sp_read_theory.specs.Items.{IsOpening, IsHeader};
 ghost use Rattle.sp_read_theory.specs.Views as view;
 ghost use Rattle.sp_read_theory.specs.Views.{seen_from};

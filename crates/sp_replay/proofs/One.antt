@@ -7,20 +7,21 @@ use Rattle.sp_spec.specs.Execution.{Step, Trace, Cause}
 use Rattle.sp_law_equal.proofs.Pairs.{pairs_convergent}
 use Rattle.sp_law_run.proofs.Runs.{runs_alike}
 use Rattle.sp_law_run.proofs.Written.{rules_right}
-use Rattle.sp_ground.specs.View.{newest_first}
-use Rattle.sp_ground.specs.Text.{trace_block}
-use Rattle.sp_steps.specs.Lines.{AreSteps, IsFirstUnread}
-use Rattle.sp_steps.proofs.Laws.{steps_are_one}
+use Rattle.sp_spec.specs.Lists.{newest_first}
+use Rattle.sp_spec_text.specs.Printed.{trace_block}
+use Rattle.sp_read_steps.specs.Lines.{AreSteps, IsFirstUnread}
+use Rattle.sp_read_steps.proofs.Laws.{steps_are_one}
 use Rattle.sp_exec.specs.Replay.{IsReplayed, IsFirstFault}
 use Rattle.sp_exec.proofs.Replays.{one_trace, one_fault, no_execution}
-use Rattle.sp_written.specs.Text.{WrittenText, theory_in}
-use Rattle.sp_read_theory.specs.Text.{ArePlaces}
+use Rattle.sp_spec_text.specs.Written.{WrittenText, theory_in}
+use Rattle.sp_spec_text.specs.Texts.{ArePlaces}
 use Rattle.sp_read_theory.proofs.Whole.{text_one, places_one}
 use Rattle.sp_pose.specs.Problem.{Poses}
 use Rattle.sp_pose.proofs.One.{not_posed}
 use Rattle.sp_replay.specs.Replay.{theory_said, lines_behind, HasLines, steps_done, IsUnread, IsStopped, IsMet, AreMet, met_lines, IsReplay}
 use Rattle.sp_replay.specs.Laws.{RepliesAreOne}
-use Rattle.sp_replay.proofs.Rules.{pairs_named}
+use Rattle.sp_read_steps.proofs.PairNames.{pairs_have_names}
+use Rattle.sp_spec.proofs.Lists.{newest_twice}
 
 -- ---- one theory, and one list of lines
 
@@ -32,20 +33,12 @@ same_lines {text} {t} {u} {found} {others} a b =
 
 -- and one list of steps
 same_steps : {found others : List (List ℕ)} {xs ys : List Step} → found ≡ others → AreSteps pair_symbols found xs → AreSteps pair_symbols others ys → xs ≡ ys
-same_steps {found} {others} {xs} {ys} e a b = steps_are_one.one pair_symbols pairs_named others xs ys (subst (λ (ls : List (List ℕ)). AreSteps pair_symbols ls xs) e a) b
+same_steps {found} {others} {xs} {ys} e a b = steps_are_one.one pair_symbols pairs_have_names others xs ys (subst (λ (ls : List (List ℕ)). AreSteps pair_symbols ls xs) e a) b
 
 read_or_unread : {found others : List (List ℕ)} {xs : List Step} {n : ℕ} → found ≡ others → AreSteps pair_symbols found xs → IsFirstUnread pair_symbols others n → ⊥
-read_or_unread {found} {others} {xs} {n} e a b = steps_are_one.apart pair_symbols pairs_named others xs n (subst (λ (ls : List (List ℕ)). AreSteps pair_symbols ls xs) e a) b
+read_or_unread {found} {others} {xs} {n} e a b = steps_are_one.apart pair_symbols pairs_have_names others xs n (subst (λ (ls : List (List ℕ)). AreSteps pair_symbols ls xs) e a) b
 
 -- ---- traces
-
-newest_last : {A : Type 0} (xs : List A) (y : A) → newest_first (xs ++ y ∷ []) ≡ y ∷ newest_first xs
-newest_last [] y = refl
-newest_last (x ∷ xs) y = ap (λ zs. zs ++ x ∷ []) (newest_last xs y)
-
-newest_twice : {A : Type 0} (xs : List A) → newest_first (newest_first xs) ≡ xs
-newest_twice [] = refl
-newest_twice (x ∷ xs) = newest_last (newest_first xs) x ∙ ap (λ zs. x ∷ zs) (newest_twice xs)
 
 same_entries : (xs ys : List (List (Action ⊥))) → newest_first xs ≡ newest_first ys → xs ≡ ys
 same_entries xs ys e = sym (newest_twice xs) ∙ ap newest_first e ∙ newest_twice ys
@@ -121,7 +114,7 @@ replay_or_stop text written n cause a b =
 one_unread_line : (text : List ℕ) (n m : ℕ) → IsUnread text n → IsUnread text m → n ≡ m
 one_unread_line text n m a b =
     let same = same_lines a.has_lines b.has_lines in
-    steps_are_one.one_unread pair_symbols pairs_named b.found n m (subst (λ (ls : List (List ℕ)). IsFirstUnread pair_symbols ls n) same.1 a.unread) b.unread
+    steps_are_one.one_unread pair_symbols pairs_have_names b.found n m (subst (λ (ls : List (List ℕ)). IsFirstUnread pair_symbols ls n) same.1 a.unread) b.unread
 
 pub replies_are_one_lem : RepliesAreOne
 replies_are_one_lem = record {

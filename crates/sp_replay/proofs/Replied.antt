@@ -1,8 +1,8 @@
 -- What is answered is what comes of the text.
 use Rattle.std.proofs.Common.{◌≡◌, ℕ, List, [], ◌++◌, map, drop, sym, ap, ◌∙◌, subst}
-use Rattle.sp_spec.specs.Lists.{Every}
+use Rattle.sp_spec.specs.Lists.{Every, newest_first}
 use Rattle.sp_spec.specs.Signature as spec
-use Rattle.sp_spec.specs.Signature.{Symbol, Equation, with_pairs}
+use Rattle.sp_spec.specs.Signature.{Symbol, with_pairs}
 use Rattle.sp_spec.specs.Rule.{Rule}
 use Rattle.sp_spec.specs.Theory as theories
 use Rattle.sp_spec.specs.Theory.{Theory, Lemma}
@@ -12,18 +12,18 @@ use Rattle.sp_law_run.specs.NormalStep.{normal_step, normal_trace}
 use Rattle.sp_law_run.specs.Right.{AreRight}
 use Rattle.sp_law_run.proofs.Written.{rules_right}
 use Rattle.sp_check.specs.PlainTheory.{IsPlainFormula}
-use Rattle.sp_rule.specs.View.{rule_of}
-use Rattle.sp_moves.specs.View.{book_of}
-use Rattle.sp_ground.specs.View.{newest_first, signature_of, symbol_of, step_of, entries_of, trace_of}
-use Rattle.sp_ground.specs.Text.{trace_block}
+use Rattle.sp_fact.specs.View.{rule_of}
+use Rattle.sp_fact.specs.BookView.{book_of}
+use Rattle.sp_ground.specs.View.{signature_of, symbol_of, step_of, entries_of, trace_of}
+use Rattle.sp_spec_text.specs.Printed.{trace_block}
 use Rattle.sp_ground.specs.declared.signature.Signature.{Signature}
 use Rattle.sp_ground.specs.declared.fact.Trace.{Trace}
 use Rattle.sp_ground.specs.declared.step.Step.{Step}
-use Rattle.sp_steps.specs.Lines.{lines, AreSteps, IsFirstUnread}
+use Rattle.sp_read_steps.specs.Lines.{lines, AreSteps, IsFirstUnread}
 use Rattle.sp_exec.specs.Replay.{IsReplayed, IsFirstFault}
 use Rattle.sp_exec.specs.View.{cause_of}
 use Rattle.sp_exec.specs.declared.cause.Cause.{Cause}
-use Rattle.sp_written.specs.Text.{rules_in, theory_in}
+use Rattle.sp_spec_text.specs.Written.{rules_in, theory_in}
 use Rattle.sp_written.specs.Views as view
 use Rattle.sp_pose.specs.Asked.{asked_of, lemmas_read}
 use Rattle.sp_pose.specs.Posed.{IsPosedBy}
@@ -31,7 +31,7 @@ use Rattle.sp_pose.specs.declared.problem.Problem.{Problem}
 use Rattle.sp_pose.proofs.Theories.{theory_spelled}
 use Rattle.sp_replay.specs.Held.{held, held_lines}
 use Rattle.sp_replay.specs.Replay.{theory_said, behind_line, HasLines, steps_done, IsUnread, IsStopped, AreMet, met_lines, IsReplay}
-use Rattle.sp_replay.proofs.Rules.{plain_rules_over}
+use Rattle.sp_check.proofs.PlainOver.{plain_rules_over}
 use Rattle.sp_pose.proofs.Forms.{asked_list, has_forms, lemmas_same}
 use Rattle.sp_replay.proofs.Truths.{lemmas_met, lines_same}
 

@@ -8,15 +8,15 @@ use Rattle.sp_spec.specs.Written.{theory_of}
 use Rattle.sp_spec.specs.Execution.{Step, Trace, Cause}
 use Rattle.sp_spec.specs.Truth.{IsTrueOver}
 use Rattle.sp_law_run.specs.NormalStep.{normal_step}
-use Rattle.sp_ground.specs.View.{newest_first}
-use Rattle.sp_ground.specs.Text.{trace_block}
-use Rattle.sp_steps.specs.Lines.{lines, AreSteps, IsFirstUnread}
+use Rattle.sp_spec.specs.Lists.{newest_first}
+use Rattle.sp_spec_text.specs.Printed.{trace_block}
+use Rattle.sp_read_steps.specs.Lines.{lines, AreSteps, IsFirstUnread}
 use Rattle.sp_exec.specs.Replay.{IsReplayed, IsFirstFault}
-use Rattle.sp_written.specs.Text.{WrittenText, theory_in}
-use Rattle.sp_written.specs.declared.theory.Span.{Span}
-use Rattle.sp_read_theory.specs.Text.{ArePlaces}
+use Rattle.sp_spec_text.specs.Written.{WrittenText, theory_in}
+use Rattle.sp_spec_text.specs.Spans.{Span}
+use Rattle.sp_spec_text.specs.Texts.{ArePlaces}
 use Rattle.sp_pose.specs.Problem.{Poses}
-use Rattle.sp_pose.specs.Kind.{kind_text}
+use Rattle.sp_spec_text.specs.Kind.{kind_text}
 
 -- the theory that the text says
 abbrev pub theory_said : WrittenText → Theory

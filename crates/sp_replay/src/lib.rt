@@ -1,5 +1,5 @@
 // What comes of a text whose lines behind its word `end` are replayed as the steps of an execution.
-// Below stand what a text poses (sp_pose), the reading of steps (sp_steps), replaying (sp_exec), truth over a trace (sp_eval) and the texts of
+// Below stand what a text poses (sp_pose), the reading of steps (sp_read_steps), replaying (sp_exec), truth over a trace (sp_eval) and the texts of
 // traces (sp_show); above stands the top call.
 // Carried here: the promise that steps are replayed exactly where they are an execution, that what is written is its trace, and that of each
 // lemma is written whether it is true over that trace.
@@ -17,6 +17,3 @@ pub use sp_exec::cause::Cause;
 pub fn replies_are_one()
     ensures { RepliesAreOne }
 {}
-
-#[cfg(test)]
-mod tests;

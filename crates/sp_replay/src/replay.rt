@@ -10,7 +10,7 @@ use sp_exec::cause::Cause;
 use sp_exec::replay::{Replayed, replay};
 use sp_ground::signature::Signature;
 use sp_pose::{Problem, Read, posed_by};
-use sp_steps::{StepLines, read_steps};
+use sp_read_steps::{StepLines, read_steps};
 use std::alloc::{AllocError, Global};
 
 /// What comes of a text whose lines are replayed.

@@ -4,7 +4,8 @@ use Rattle.std.proofs.lemmas.List.{drop_more, drop_all}
 use Rattle.sp_system.specs.System as spec
 use Rattle.sp_system.specs.declared.system.Link.{Link}
 use Rattle.sp_system.specs.SystemView.{link_of}
-use Rattle.sp_step.specs.Rows.{or_else, first_with, first_two, some_with, some_two}
+use Rattle.sp_step.specs.Rows.{first_with, first_two, some_with, some_two}
+use Rattle.std.specs.Option.{option_or}
 use Rattle.sp_rows.specs.LinksView.{both_of}
 
 abbrev pub Test : Type 0
@@ -33,16 +34,16 @@ module _ (test : Test) where
   pub link_nothing : (l : spec.Link) (ls : List Link) (i : ℕ) → length ls ≤ i → link_left test l ls i ≡ None
   link_nothing l ls i h = ap (λ (ms : List Link). first_with test l (map link_of ms)) (drop_all i ls h)
 
-  links_next : (ls : List Link) (i : ℕ) (m : Link) → i < length ls → m ≡ slice_index_or ls i m → links_left test ls i ≡ or_else (link_left test (link_of m) ls (i + 1)) (links_left test ls (i + 1))
+  links_next : (ls : List Link) (i : ℕ) (m : Link) → i < length ls → m ≡ slice_index_or ls i m → links_left test ls i ≡ option_or (link_left test (link_of m) ls (i + 1)) (links_left test ls (i + 1))
   links_next ls i m h is =
       ap (λ (ms : List Link). first_two test (map link_of ms)) (drop_more ls i m h)
-      ∙ ap (λ (n : Link). or_else (link_left test (link_of n) ls (i + 1)) (links_left test ls (i + 1))) (sym is)
+      ∙ ap (λ (n : Link). option_or (link_left test (link_of n) ls (i + 1)) (links_left test ls (i + 1))) (sym is)
 
   pub links_more : (ls : List Link) (i : ℕ) (m : Link) → i < length ls → m ≡ slice_index_or ls i m → None ≡ link_left test (link_of m) ls (i + 1) → links_left test ls i ≡ links_left test ls (i + 1)
-  links_more ls i m h is e = links_next ls i m h is ∙ ap (λ (o : Option (spec.Link × spec.Link)). or_else o (links_left test ls (i + 1))) (sym e)
+  links_more ls i m h is e = links_next ls i m h is ∙ ap (λ (o : Option (spec.Link × spec.Link)). option_or o (links_left test ls (i + 1))) (sym e)
 
   pub links_found : (ls : List Link) (i : ℕ) (m : Link) (p : spec.Link × spec.Link) → i < length ls → m ≡ slice_index_or ls i m → Some p ≡ link_left test (link_of m) ls (i + 1) → links_left test ls i ≡ Some p
-  links_found ls i m p h is e = links_next ls i m h is ∙ ap (λ (o : Option (spec.Link × spec.Link)). or_else o (links_left test ls (i + 1))) (sym e)
+  links_found ls i m p h is e = links_next ls i m h is ∙ ap (λ (o : Option (spec.Link × spec.Link)). option_or o (links_left test ls (i + 1))) (sym e)
 
   pub links_nothing : (ls : List Link) (i : ℕ) → length ls ≤ i → links_left test ls i ≡ None
   links_nothing ls i h = ap (λ (ms : List Link). first_two test (map link_of ms)) (drop_all i ls h)
@@ -94,7 +95,7 @@ module _ (test : Test) where
   found_two (l ∷ ls) = at (first_with test l ls) (found_with l ls) (found_two ls)
     where
       at : (o : Option (spec.Link × spec.Link)) → is_some o ≡ some_with test l ls → is_some (first_two test ls) ≡ some_two test ls
-          → is_some (or_else o (first_two test ls)) ≡ (some_with test l ls || some_two test ls)
+          → is_some (option_or o (first_two test ls)) ≡ (some_with test l ls || some_two test ls)
       at None h k = k ∙ ap (λ b. b || some_two test ls) h
       at (Some p) h k = ap (λ b. b || some_two test ls) h
 

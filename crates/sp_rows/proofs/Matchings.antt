@@ -17,7 +17,8 @@ use Rattle.sp_formula.specs.declared.formula.Atom.TheVariants.{Acts}
 use Rattle.sp_formula.specs.declared.formula.FormulaAction.{FormulaAction}
 use Rattle.sp_formula.specs.declared.formula.Moment.{Moment}
 use Rattle.sp_formula.specs.FormulaView.{placed_action, moment_of, atom_of}
-use Rattle.sp_step.specs.Rows.{first_match, or_else, first_some, happening_actions}
+use Rattle.sp_step.specs.Rows.{first_match, first_some, happening_actions}
+use Rattle.std.specs.Option.{option_or}
 use Rattle.sp_rows.specs.MatchesView.{with_match, matches_at, matches}
 use Rattle.sp_step.specs.Instances.{Slot, Slots, matched_action, matched, matched_all, value_in, values_in, place_of_bound}
 
@@ -88,20 +89,20 @@ uneven (t ∷ ts) (u ∷ us) s h = at (matched s t u) (λ r. uneven ts us r (λ 
 -- ---- the first of all matches
 
 module _ {A B : Type 0} (pick : A → Option B) where
-  pub or_else_some : (xs ys : List A) → first_some pick (xs ++ ys) ≡ or_else (first_some pick xs) (first_some pick ys)
+  pub or_else_some : (xs ys : List A) → first_some pick (xs ++ ys) ≡ option_or (first_some pick xs) (first_some pick ys)
   or_else_some [] ys = refl
-  or_else_some (x ∷ xs) ys = ap (or_else (pick x)) (or_else_some xs ys) ∙ at (pick x)
+  or_else_some (x ∷ xs) ys = ap (option_or (pick x)) (or_else_some xs ys) ∙ at (pick x)
     where
-      at : (o : Option B) → or_else o (or_else (first_some pick xs) (first_some pick ys)) ≡ or_else (or_else o (first_some pick xs)) (first_some pick ys)
+      at : (o : Option B) → option_or o (option_or (first_some pick xs) (first_some pick ys)) ≡ option_or (option_or o (first_some pick xs)) (first_some pick ys)
       at None = refl
       at (Some b) = refl
 
 some_at : (pick : Slots → Option Guarded) (s : Slots) (a : Action Place) (i : Time) (p : ℕ) (bs : List (Action Variable))
     → first_some (λ b. option_and_then pick (matched_action s a i b p)) bs ≡ first_some pick (matches_at s a i p bs)
 some_at pick s a i p [] = refl
-some_at pick s a i p (b ∷ bs) = ap (or_else (option_and_then pick (matched_action s a i b p))) (some_at pick s a i p bs) ∙ at (matched_action s a i b p)
+some_at pick s a i p (b ∷ bs) = ap (option_or (option_and_then pick (matched_action s a i b p))) (some_at pick s a i p bs) ∙ at (matched_action s a i b p)
   where
-    at : (o : Option Slots) → or_else (option_and_then pick o) (first_some pick (matches_at s a i p bs)) ≡ first_some pick (with_match o (matches_at s a i p bs))
+    at : (o : Option Slots) → option_or (option_and_then pick o) (first_some pick (matches_at s a i p bs)) ≡ first_some pick (with_match o (matches_at s a i p bs))
     at None = refl
     at (Some r) = refl
 
@@ -109,7 +110,7 @@ pub some_match : (pick : Slots → Option Guarded) (s : Slots) (a : Action Place
     → first_some (λ (e : Event). first_some (λ b. option_and_then pick (matched_action s a i b e.time)) (happening_actions e.happening)) events ≡ first_some pick (matches s a i events)
 some_match pick s a i [] = refl
 some_match pick s a i (e ∷ events) =
-    ap₂ or_else (some_at pick s a i e.time (happening_actions e.happening)) (some_match pick s a i events)
+    ap₂ option_or (some_at pick s a i e.time (happening_actions e.happening)) (some_match pick s a i events)
     ∙ sym (or_else_some pick (matches_at s a i e.time (happening_actions e.happening)) (matches s a i events))
 
 -- where an action of the guard stands next, in memory, and all its matches have been found
@@ -127,8 +128,8 @@ pub some_here : (pick : Slots → Option Guarded) (items : List memory.Slots) (i
     → first_some pick (map slots_of (drop i items)) ≡ Some f
 some_here pick items i x f h is e =
     ap (λ (xs : List memory.Slots). first_some pick (map slots_of xs)) (drop_more items i x h)
-    ∙ ap (λ (y : memory.Slots). or_else (pick (slots_of y)) (first_some pick (map slots_of (drop (i + 1) items)))) (sym is)
-    ∙ ap (λ (o : Option Guarded). or_else o (first_some pick (map slots_of (drop (i + 1) items)))) e
+    ∙ ap (λ (y : memory.Slots). option_or (pick (slots_of y)) (first_some pick (map slots_of (drop (i + 1) items)))) (sym is)
+    ∙ ap (λ (o : Option Guarded). option_or o (first_some pick (map slots_of (drop (i + 1) items)))) e
 
 pub some_end : (pick : Slots → Option Guarded) (items : List memory.Slots) (i : ℕ) → length items ≤ i → first_some pick (map slots_of (drop i items)) ≡ None
 some_end pick items i h = ap (λ (xs : List memory.Slots). first_some pick (map slots_of xs)) (drop_all i items h)

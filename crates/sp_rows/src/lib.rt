@@ -13,20 +13,14 @@ pub mod existential;
 pub mod fresh_first;
 pub mod inequality;
 pub mod inside;
-#[cfg(test)]
-mod instance_tests;
 pub mod instances;
 pub mod links;
 pub mod matching;
 pub mod opening;
 pub mod order;
 pub mod reduce;
-#[cfg(test)]
-mod row_tests;
 pub mod simplify;
 pub mod slots;
 pub mod spend;
 pub mod stands;
-#[cfg(test)]
-mod tests;
 pub mod twins;

@@ -3,9 +3,9 @@ use Rattle.std.proofs.Common.{◌≡◌, ℕ, ◌-◌, ◌^◌, ◌<◌, ◌≤�
 use Rattle.std.specs.Prelude.{decimal, ◌==◌}
 use Rattle.std.specs.Char.{is_ascii_alphanumeric}
 use Rattle.std.proofs.lemmas.Bool.{ne_eqb}
-use Rattle.sp_lex.specs.declared.token.Class.TheVariants as class
-use Rattle.sp_lex.specs.Lexeme.{Lexeme, word, solve, Token}
-use Rattle.sp_lex.specs.Lex.{is_blank, is_in, is_first, is_digit, skip, nothing, past, gap, no_gap, gap_then, token, piece, is_end, is_solve, Reads, plain, goal, to_closing, closed_by, solve_piece, IsNext, AreTokens, no_more, last, next, lexemes}
+use Rattle.sp_spec_text.specs.Bytes as class
+use Rattle.sp_spec_text.specs.Token.{Lexeme, word, solve, Token}
+use Rattle.sp_spec_text.specs.Lex.{is_blank, is_in, is_first, is_digit, skip, nothing, past, gap, no_gap, gap_then, token, piece, is_end, is_solve, Reads, plain, goal, to_closing, closed_by, solve_piece, IsNext, AreTokens, no_more, last, next, lexemes}
 use Rattle.sp_skel.specs.Spelling.{IsWord, premise_goal}
 use Rattle.sp_skel.specs.MoveTexts.{are_digits}
 use Rattle.sp_skel.proofs.Decimals.{before_rest, and_left, and_right, least, is_other, decimal_are_digits}

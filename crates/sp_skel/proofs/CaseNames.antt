@@ -3,13 +3,13 @@ use Rattle.std.proofs.Common.{◌≡◌, ℕ, zero, suc, ◌%◌, ◌/◌, ◌<�
 use Rattle.std.specs.Prelude.{decimal, ◌==◌, ◌||◌}
 use Rattle.std.specs.Fmt.{digit_glyph, digits_onto, digits}
 use Rattle.std.specs.Str.{bytes_eq}
-use Rattle.std.proofs.lemmas.Bool.{false_from_ne_true}
+use Rattle.std.proofs.lemmas.Bool.{false_from_ne_true, or_right}
 use Rattle.std.proofs.lemmas.Bool.Decides.{nat_tests}
 use Rattle.std.proofs.lemmas.Slice.Eq.{bytes_eq-Decides}
 use Rattle.std.proofs.Math.Nat.{mod-lt}
-use Rattle.sp_lex.specs.declared.token.Class.TheVariants as class
-use Rattle.sp_lex.specs.Lex.{is_first, is_in, is_digit, skip}
-use Rattle.sp_read_parts.specs.Names.{is_reserved, IsName}
+use Rattle.sp_spec_text.specs.Bytes as class
+use Rattle.sp_spec_text.specs.Lex.{is_first, is_in, is_digit, skip}
+use Rattle.sp_spec_text.specs.Names.{is_reserved, IsName}
 use Rattle.sp_skel.specs.MoveTexts.{are_digits}
 use Rattle.sp_skel.specs.Spelling.{IsWord}
 use Rattle.sp_skel.proofs.Decimals.{and_left, and_right}
@@ -89,13 +89,9 @@ abbrev underscored : List ℕ → Bool
 underscored [] = false
 underscored (b ∷ bytes) = b == 95 || underscored bytes
 
-or_last : (a b : Bool) → b ≡ true → (a || b) ≡ true
-or_last true b h = refl
-or_last false b h = h
-
 has_underscore : (w rest : List ℕ) → underscored (w ++ 95 ∷ rest) ≡ true
 has_underscore [] rest = refl
-has_underscore (b ∷ w) rest = or_last (b == 95) (underscored (w ++ 95 ∷ rest)) (has_underscore w rest)
+has_underscore (b ∷ w) rest = or_right (b == 95) (underscored (w ++ 95 ∷ rest)) (has_underscore w rest)
 
 is_another : (w rest x : List ℕ) → underscored x ≡ false → bytes_eq (w ++ 95 ∷ rest) x ≡ false
 is_another w rest x h =

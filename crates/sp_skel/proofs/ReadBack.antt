@@ -2,13 +2,13 @@
 use Rattle.std.proofs.Common.{◌≡◌, ℕ, suc, zero, ◌≤◌, Bool, true, false, List, [], ◌∷◌, ◌++◌, length, codes, refl, sym, ap, subst, ◌∙◌, append_assoc}
 use Rattle.std.specs.Prelude.{decimal, ◌||◌}
 use Rattle.std.specs.Str.{bytes_eq}
-use Rattle.sp_lex.specs.Lexeme.{Lexeme, word, Token}
-use Rattle.sp_lex.specs.Lex.{is_end, is_solve, skip, AreTokens, lexemes}
-use Rattle.sp_read_parts.specs.Names.{is_reserved, IsName}
+use Rattle.sp_spec_text.specs.Token.{Lexeme, word, Token}
+use Rattle.sp_spec_text.specs.Lex.{is_end, is_solve, skip, AreTokens, lexemes}
+use Rattle.sp_spec_text.specs.Names.{is_reserved, IsName}
 use Rattle.sp_step.specs.Moves.{Move, simplify, contradiction, unproved, solved, or, action, premise}
 use Rattle.sp_check.specs.Tree.{Tree, node, Branches, no_branch, branch}
 use Rattle.sp_text.specs.TreeText.{indent, line, move_text, leading, tree_text, cases_text}
-use Rattle.sp_read_proof.specs.Grammar.{SpellsProof}
+use Rattle.sp_spec_text.specs.Proofs.{SpellsProof}
 use Rattle.sp_skel.specs.Laws.{ReadsBack}
 use Rattle.sp_text.specs.Places.{HasPlace}
 use Rattle.sp_skel.specs.Spelling.{IsWord, premise_goal, move_spelled, behind_by, spelled, cases_spelled, as_written, IsReadable, AreReadable}

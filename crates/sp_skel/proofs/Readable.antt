@@ -6,14 +6,14 @@ use Rattle.sp_spec.specs.Rule.{Fact, Action, Rule}
 use Rattle.sp_spec.specs.Guarded.{Guarded, Guardeds, no_more, and_then}
 use Rattle.sp_spec.specs.Log.{Log}
 use Rattle.sp_system.specs.System.{System, Event}
-use Rattle.sp_step.specs.Rows.{Found, spending, event_at, happening_actions, rows, by_rows, is_contradictory}
-use Rattle.sp_step.specs.Moves.{Move, simplify, contradiction, unproved, solved, or, action, premise, Context, Case, where_same, case_if, at_event, renamed, with_step, by_actions, numbered, named, by_each, by_part, disjunction_at, or_cases, with_giver, by_conclusions, by_each_giver, open_premise, premise_cases, action_cases, solving_action, raw_cases, simple_case, cases}
+use Rattle.sp_step.specs.Rows.{Found, event_at, happening_actions, rows, by_rows, is_contradictory}
+use Rattle.sp_step.specs.Moves.{Move, simplify, contradiction, unproved, solved, or, action, premise, Context, Case, where_same, case_if, at_event, renamed, with_step, by_actions, numbered, named, by_each, by_part, disjunction_at, or_cases, by_conclusions, by_each_giver, open_premise, premise_cases, action_cases, solving_action, raw_cases, simple_case, cases}
 use Rattle.sp_check.specs.Tree.{Tree, node, Branches, no_branch, branch, IsAccepted, AreAccepted}
 use Rattle.sp_check.specs.Growth.{grown_tree}
 use Rattle.sp_check.proofs.Growing.{grown_tree_accepted}
 use Rattle.sp_moves_formula.specs.Sought.{sought}
 use Rattle.sp_moves_formula.proofs.ByAction.{sought_cases, solves}
-use Rattle.sp_read_parts.specs.Names.{IsName}
+use Rattle.sp_spec_text.specs.Names.{IsName}
 use Rattle.sp_text.specs.Places.{HasPlace, HavePlaces, AllHavePlaces}
 use Rattle.sp_skel.specs.Spelling.{IsWord, IsReadable, AreReadable, MayHaveCases, AreNamed}
 use Rattle.sp_skel.proofs.CaseNames.{at_named, part_named, case_named}

@@ -1,6 +1,6 @@
 -- What cases say, one by one.
 use Rattle.std.proofs.Common.{◌≡◌, ℕ, List, [], ◌∷◌, refl, ap, map}
-use Rattle.sp_written.specs.Text.{WrittenProof}
+use Rattle.sp_spec_text.specs.Written.{WrittenProof}
 use Rattle.sp_written.specs.Views.{all_cases}
 use Rattle.sp_judge.specs.Skeleton.{Skeleton, BranchesRead, branch_read}
 use Rattle.sp_judge.specs.View.{all_branches}

@@ -1,11 +1,11 @@
 -- The lexemes of a tree's text spell a proof, and the proof says the tree.
 use Rattle.std.proofs.Common.{◌≡◌, true, List, [], ◌∷◌, Some, codes, refl}
-use Rattle.sp_lex.specs.Lexeme.{Lexeme, word}
+use Rattle.sp_spec_text.specs.Token.{Lexeme, word}
 use Rattle.sp_step.specs.Moves.{Move, simplify, contradiction, unproved, solved, or, action, premise}
 use Rattle.sp_check.specs.Tree.{Tree, node, Branches, no_branch, branch}
 use Rattle.sp_judge.specs.Skeleton.{known, tree_of, branches_of}
-use Rattle.sp_read_proof.specs.Grammar as grammar
-use Rattle.sp_read_proof.specs.Grammar.{is_method, SpellsMethod, by_word, by_goal, SpellsProof, by_method, method_proof, method_cases, SpellsCases, case, qed, next}
+use Rattle.sp_spec_text.specs.Proofs as grammar
+use Rattle.sp_spec_text.specs.Proofs.{is_method, SpellsMethod, by_word, by_goal, SpellsProof, by_method, method_proof, method_cases, SpellsCases, case, qed, next}
 use Rattle.sp_skel.specs.Steps.{step_of_word, step_said, skeleton, branches}
 use Rattle.sp_text.specs.Places.{HasPlace}
 use Rattle.sp_skel.specs.Spelling.{move_spelled, spelled, cases_spelled, move_said, as_written, all_as_written, MayHaveCases, IsReadable, AreReadable}

@@ -1,15 +1,15 @@
 -- The texts that are written of trees are read back as those trees, and accepted trees are such trees.
 use Rattle.std.specs.Prelude.{◌≡◌, ℕ, ◌≤◌, List, ◌++◌, length, Some}
-use Rattle.sp_lex.specs.Lexeme.{Lexeme, Token}
-use Rattle.sp_lex.specs.Lex.{AreTokens, lexemes}
+use Rattle.sp_spec_text.specs.Token.{Lexeme, Token}
+use Rattle.sp_spec_text.specs.Lex.{AreTokens, lexemes}
 use Rattle.sp_system.specs.System.{System}
 use Rattle.sp_step.specs.Moves.{Context}
 use Rattle.sp_check.specs.Tree.{Tree, IsAccepted}
 use Rattle.sp_check.specs.Growth.{grown_tree}
 use Rattle.sp_text.specs.TreeText.{tree_text}
 use Rattle.sp_judge.specs.Skeleton.{tree_of}
-use Rattle.sp_written.specs.Text.{WrittenProof}
-use Rattle.sp_read_proof.specs.Grammar.{SpellsProof}
+use Rattle.sp_spec_text.specs.Written.{WrittenProof}
+use Rattle.sp_spec_text.specs.Proofs.{SpellsProof}
 use Rattle.sp_skel.specs.Steps.{skeleton}
 use Rattle.sp_text.specs.Places.{HavePlaces}
 use Rattle.sp_skel.specs.Spelling.{as_written, IsReadable, AreNamed}

@@ -2,7 +2,7 @@
 -- Blanks around are no part of a text. Source: Tamarin manual, "Proofs" (goals are written in `solve( )`); the words are this project's own.
 use Rattle.std.specs.Prelude.{ℕ, ◌+◌, ◌-◌, ◌*◌, ◌^◌, Bool, true, false, not, ◌&&◌, ◌||◌, ◌==◌, nat_lt, if◌then◌else◌, List, [], ◌∷◌, reverse, Option, Some, None, is_some, option_map, option_and_then, codes}
 use Rattle.std.specs.Str.{bytes_eq}
-use Rattle.sp_lex.specs.Lex.{is_blank, is_digit, is_constant_byte, before}
+use Rattle.sp_spec_text.specs.Lex.{is_blank, is_digit, is_constant_byte, before}
 
 -- without the blanks before it
 unfoldable pub unblanked : List ℕ → List ℕ

@@ -1,15 +1,15 @@
 -- The lexemes that the text of a tree spells, and which trees are read back from their texts. Source: Tamarin manual, "Proofs".
 use Rattle.std.specs.Prelude.{◌≡◌, ℕ, true, List, [], ◌∷◌, ◌++◌, codes, decimal}
-use Rattle.sp_lex.specs.declared.token.Class.TheVariants as class
+use Rattle.sp_spec_text.specs.Bytes as class
 use Rattle.std.specs.Char.{is_ascii_alphanumeric}
-use Rattle.sp_lex.specs.Lex.{skip}
-use Rattle.sp_lex.specs.Lexeme.{Lexeme, word, solve}
-use Rattle.sp_read_parts.specs.Names.{IsName}
+use Rattle.sp_spec_text.specs.Lex.{skip}
+use Rattle.sp_spec_text.specs.Token.{Lexeme, word, solve}
+use Rattle.sp_spec_text.specs.Names.{IsName}
 use Rattle.sp_step.specs.Moves.{Move, simplify, contradiction, unproved, solved, or, action, premise}
 use Rattle.sp_spec.specs.Rule.{Rule}
 use Rattle.sp_check.specs.Tree.{Tree, node, Branches, no_branch, branch}
 use Rattle.sp_text.specs.Places.{HasPlace}
-use Rattle.sp_written.specs.Text.{Method, said, goal, WrittenProof, step, WrittenCases, no_case, then_case}
+use Rattle.sp_spec_text.specs.Written.{Method, said, goal, WrittenProof, step, WrittenCases, no_case, then_case}
 
 -- what stands between the brackets for a premise
 abbrev pub premise_goal : ℕ → ℕ → List ℕ

@@ -2,7 +2,7 @@
 
 ghost use Rattle.std.specs.Prelude.{◌≡◌, [], ◌∷◌, ◌++◌, ◌+◌, ◌-◌, ◌*◌, ◌≤◌, length, reverse, MatchOption, Option, option_map, false};
 ghost use Rattle.std.specs.Str.{bytes_eq};
-ghost use Rattle.sp_lex.specs.Lex as lex;
+ghost use Rattle.sp_spec_text.specs.Lex as lex;
 ghost use Rattle.sp_skel.specs.MoveTexts as spec;
 
 fn split(text: &[u8]) -> Option<(u8, &[u8])>

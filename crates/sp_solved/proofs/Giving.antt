@@ -9,7 +9,7 @@ use Rattle.sp_law_equal.specs.Matching.{Bound}
 use Rattle.sp_term.specs.View.{variable_of}
 use Rattle.sp_term.specs.declared.term.Variable.{Variable}
 use Rattle.sp_solved.specs.Naming.{public_name, public_given}
-use Rattle.sp_solved.proofs.Stepping.{next_item}
+use Rattle.sp_spec.proofs.Lists.{next_item}
 
 pub none_left : (cs : List (List ℕ)) (n k : ℕ) → public_given cs n k [] ≡ []
 none_left cs zero k = refl

@@ -13,22 +13,15 @@ use Rattle.sp_spec.specs.Signature.{HasSort, RespectsSorts}
 use Rattle.sp_spec.specs.Same.{same_variable}
 use Rattle.sp_spec.specs.Written.{is_listed}
 use Rattle.sp_law_equal.specs.Matching.{Bound, lookup, any_of, value_in}
-use Rattle.sp_law_equal.proofs.Tests.{same_variable_decides}
+use Rattle.sp_spec.proofs.Same.{same_variable_decides}
 use Rattle.sp_solved.specs.Naming.{is_seen, once_after, if_fresh, fresh_among, others_among, fresh_given, public_name, public_given, given}
+use Rattle.sp_spec.proofs.Listed.{listed_member}
+use Rattle.sp_law_equal.proofs.Matches.{any_has_sort}
 
 -- ---- names by their numbers
 
 pub public_names_differ : (j k : ℕ) → j < 2 ^ 64 → k < 2 ^ 64 → public_name j ≡ public_name k → j ≡ k
 public_names_differ j k p q e = decimal_injective j k p q (let g : decimal j ≡ decimal k = cc in g)
-
-listed_same : (c : List ℕ) (cs : List (List ℕ)) → Member c cs → is_listed c cs ≡ true
-listed_same c [] m = absurd m
-listed_same c (d ∷ cs) (inl e) = ap (λ (b : Bool). b || is_listed c cs) ((bytes_eq-Decides d c).1 e)
-listed_same c (d ∷ cs) (inr m) = at (bytes_eq d c) (listed_same c cs m)
-  where
-    at : (b : Bool) → is_listed c cs ≡ true → (b || is_listed c cs) ≡ true
-    at true e = refl
-    at false e = e
 
 -- ---- without a name
 
@@ -253,11 +246,6 @@ public_sorted cs (suc n) k (x ∷ xs) h = at (is_listed (public_name k) cs) (pub
     at true passing giving = passing
     at false passing giving = (h.0 (public_name k), giving)
 
-any_sorted : (s : Sort) → HasSort s (any_of s)
-any_sorted Msg = tt
-any_sorted Fresh = tt
-any_sorted Pub = tt
-
 module _ (cs : List (List ℕ)) (xs : List Variable) where
   abbrev Limit : ℕ
   Limit = length (others_among xs) + length cs
@@ -271,7 +259,7 @@ module _ (cs : List (List ℕ)) (xs : List Variable) where
   respects x = at (lookup (given cs xs) x) refl
     where
       at : (o : Option Ground) → lookup (given cs xs) x ≡ o → HasSort x.sort (unwrap_or o (any_of x.sort))
-      at None e = any_sorted x.sort
+      at None e = any_has_sort x.sort
       at (Some t) e = every_member Sorted (given cs xs) (x, t) (found_is_there (given cs xs) x t e) given_sorted
 
 -- ---- all variables
@@ -335,7 +323,7 @@ not_taken cs xs x t c m e (inr k) =
     let p = public_from cs (Limit cs xs) 1 (others_among xs) t (its_value (public_given cs (Limit cs xs) 1 (others_among xs)) x t k) in
     let g : constant (public_name p.number) ≡ constant c = sym p.is ∙ e in
     let same : public_name p.number ≡ c = cc in
-    true≢false (sym (listed_same c cs m) ∙ ap (λ (d : List ℕ). is_listed d cs) (sym same) ∙ p.new)
+    true≢false (sym (listed_member c cs m) ∙ ap (λ (d : List ℕ). is_listed d cs) (sym same) ∙ p.new)
 
 pub others : (cs : List (List ℕ)) (xs : List Variable) → length xs + length cs < 2 ^ 64 → (x : Variable) → Member x xs → (c : List ℕ) → Member c cs → value_in (given cs xs) x ≡ constant c → ⊥
 others cs xs room x m c k e =

@@ -1,36 +1,18 @@
 -- Values for the variables that are left in a list of events: fresh names ~n1, ~n2, .. for the fresh ones, and public names 'a1', 'a2', .. for
 -- the others, but those that the theory has. Source: CSF 2012, "Constraint solving" (extracting an attack from a solved system).
 use Rattle.std.specs.Prelude.{ℕ, zero, suc, ◌+◌, Bool, false, ◌||◌, if◌then◌else◌, List, [], ◌∷◌, ◌++◌, length, codes, decimal}
-use Rattle.sp_spec.specs.Term.{Sort, Msg, Fresh, Pub, Variable, Term, Terms, var, constant, name, app, none, more, Values}
+use Rattle.sp_spec.specs.Term.{Sort, Msg, Fresh, Pub, Variable, var, constant, name, app, Values}
 use Rattle.sp_spec.specs.Same.{same_variable}
-use Rattle.sp_spec.specs.Rule.{Fact, Action}
+pub use Rattle.sp_spec.specs.Term.{in_term, in_terms}
+pub use Rattle.sp_spec.specs.Rule.{in_facts, in_actions, occurrences}
 use Rattle.sp_spec.specs.Written.{is_listed}
 use Rattle.sp_law_equal.specs.Matching.{Bound, value_in}
 use Rattle.sp_system.specs.System.{Happening, rule_step, Event}
 
 -- ---- the variables, in the order in which they first stand
 
-abbrev mutual
-  pub in_term : Term Variable → List Variable
-  in_term (var x) = x ∷ []
-  in_term (constant c) = []
-  in_term (name n) = []
-  in_term (app f ts) = in_terms ts
-
-  pub in_terms : Terms Variable → List Variable
-  in_terms none = []
-  in_terms (more t ts) = in_term t ++ in_terms ts
-
-abbrev pub in_facts : List (Fact Variable) → List Variable
-in_facts [] = []
-in_facts (f ∷ fs) = in_terms f.args ++ in_facts fs
-
-abbrev pub in_actions : List (Action Variable) → List Variable
-in_actions [] = []
-in_actions (a ∷ rest) = in_terms a.args ++ in_actions rest
-
 abbrev pub in_step : Happening → List Variable
-in_step (rule_step r facts) = in_facts facts.premises ++ (in_actions facts.actions ++ in_facts facts.conclusions)
+in_step (rule_step r facts) = occurrences facts
 
 abbrev pub in_events : List Event → List Variable
 in_events [] = []

@@ -9,8 +9,6 @@ mod listing;
 mod naming;
 mod seek;
 mod suggest;
-#[cfg(test)]
-mod tests;
 
 ghost use Rattle.sp_solved.specs.Laws.{EventsAreInOrder, NamesAreApart};
 

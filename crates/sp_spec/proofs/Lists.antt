@@ -1,6 +1,6 @@
 -- What holds of each element, members, elements at positions, and lists without twice the same.
-use Rattle.std.proofs.Common.{◌≡◌, ◌⊎◌, ◌<◌, ℕ, zero, suc, List, [], ◌∷◌, ◌++◌, map, length, inl, inr, refl, sym, ap, ap₂, ◌∙◌, subst, Some, slice_get, arith}
-use Rattle.sp_spec.specs.Lists.{Member, Every, Distinct, AtPlace, AtPosition}
+use Rattle.std.proofs.Common.{◌≡◌, ◌⊎◌, ◌<◌, ◌+◌, ℕ, zero, suc, List, [], ◌∷◌, ◌++◌, map, length, drop, drop-cons, get_or, add-one, append_assoc, append-nil, inl, inr, refl, sym, ap, ap₂, ◌∙◌, subst, Some, slice_get, arith}
+use Rattle.sp_spec.specs.Lists.{Member, newest_first, Every, Distinct, AtPlace, AtPosition}
 
 pub every_map : {A B : Type 0} (P : A → Type 0) (Q : B → Type 0) (f : A → B) → ((x : A) → P x → Q (f x)) → (xs : List A) → Every P xs → Every Q (map f xs)
 every_map P Q f h [] e = tt
@@ -19,6 +19,17 @@ every_both P Q R h (x ∷ xs) e k = (h x e.0 k.0, every_both P Q R h xs e.1 k.1)
 pub every_all : {A : Type 0} (P : A → Type 0) → ((x : A) → P x) → (xs : List A) → Every P xs
 every_all P h [] = tt
 every_all P h (x ∷ xs) = (h x, every_all P h xs)
+
+-- of each element, as it holds of each member
+pub every_from : {A : Type 0} (P : A → Type 0) (xs : List A) → ((x : A) → Member x xs → P x) → Every P xs
+every_from P [] h = tt
+every_from P (x ∷ xs) h = (h x (inl refl), every_from P xs (λ y m. h y (inr m)))
+
+pub each_among : {A : Type 0} (xs ys : List A) → ((x : A) → Member x xs → Member x ys) → Every (λ x. Member x ys) xs
+each_among xs ys h = every_from (λ x. Member x ys) xs h
+
+pub every_itself : {A : Type 0} (xs : List A) → Every (λ x. Member x xs) xs
+every_itself xs = each_among xs xs (λ x m. m)
 
 pub every_append : {A : Type 0} (P : A → Type 0) (xs ys : List A) → Every P xs → Every P ys → Every P (xs ++ ys)
 every_append P [] ys e k = k
@@ -67,6 +78,10 @@ member_either x (y ∷ xs) ys (inr m) = at (member_either x xs ys m)
     at (inl k) = inl (inr k)
     at (inr k) = inr k
 
+pub distinct_left : {A : Type 0} (xs ys : List A) → Distinct (xs ++ ys) → Distinct xs
+distinct_left [] ys d = tt
+distinct_left (x ∷ xs) ys d = ((λ m. d.0 (member_left x xs ys m)), distinct_left xs ys d.1)
+
 pub distinct_right : {A : Type 0} (xs ys : List A) → Distinct (xs ++ ys) → Distinct ys
 distinct_right [] ys d = d
 distinct_right (x ∷ xs) ys d = distinct_right xs ys d.1
@@ -90,6 +105,12 @@ position_one (z ∷ xs) p x y (inl a) (inr b) = let l = position_below xs p y b 
 position_one (z ∷ xs) p x y (inr a) (inl b) = let l = position_below xs p x a in let e = b.0 in absurd (omega arith)
 position_one (z ∷ xs) p x y (inr a) (inr b) = position_one xs p x y a b
 
+-- what a list gives at a place stands there
+pub place_got : {A : Type 0} (xs : List A) (k : ℕ) (x : A) → slice_get xs k ≡ Some x → AtPlace xs k x
+place_got [] k x h = absurd cc
+place_got (y ∷ xs) zero x h = let g : y ≡ x = cc in g
+place_got (y ∷ xs) (suc k) x h = place_got xs k x h
+
 pub place_map : {A B : Type 0} (f : A → B) (xs : List A) (k : ℕ) (x : A) → AtPlace xs k x → AtPlace (map f xs) k (f x)
 place_map f [] k x a = absurd a
 place_map f (y ∷ xs) zero x a = ap f a
@@ -103,3 +124,29 @@ map_each f g (x ∷ xs) e = ap₂ (λ y ys. y ∷ ys) e.0 (map_each f g xs e.1)
 pub map-map : {A B C : Type 0} (f : A → B) (g : B → C) (xs : List A) → map g (map f xs) ≡ map (λ x. g (f x)) xs
 map-map f g [] = refl
 map-map f g (x ∷ xs) = ap (λ ys. g (f x) ∷ ys) (map-map f g xs)
+
+pub length_map : {A B : Type 0} (f : A → B) (xs : List A) → length (map f xs) ≡ length xs
+length_map f [] = refl
+length_map f (x ∷ xs) = ap suc (length_map f xs)
+
+-- the element at a place, and those behind it
+pub next_item : {A : Type 0} (xs : List A) (i : ℕ) (x : A) → i < length xs → x ≡ get_or xs i x → drop i xs ≡ x ∷ drop (i + 1) xs
+next_item {A = A} xs i x h e = rw (add-one) (drop-cons xs i x h ∙ ap (λ (y : A). y ∷ drop (suc i) xs) (sym e))
+
+-- so it is in a list that is read as another
+pub next_there : {A : Type 0} (ys xs : List A) (i : ℕ) (x : A) → ys ≡ xs → i < length ys → x ≡ get_or ys i x → drop i xs ≡ x ∷ drop (i + 1) xs
+next_there {A = A} ys xs i x same h e = ap (drop i) (sym same) ∙ next_item ys i x h e ∙ ap (λ (zs : List A). x ∷ drop (i + 1) zs) same
+
+-- ---- the newest first
+
+pub newest_append : {A : Type 0} (xs ys : List A) → newest_first (xs ++ ys) ≡ newest_first ys ++ newest_first xs
+newest_append [] ys = sym (append-nil (newest_first ys))
+newest_append (x ∷ xs) ys = ap (λ zs. zs ++ x ∷ []) (newest_append xs ys) ∙ append_assoc (newest_first ys) (newest_first xs) (x ∷ [])
+
+pub newest_last : {A : Type 0} (xs : List A) (y : A) → newest_first (xs ++ y ∷ []) ≡ y ∷ newest_first xs
+newest_last [] y = refl
+newest_last (x ∷ xs) y = ap (λ zs. zs ++ x ∷ []) (newest_last xs y)
+
+pub newest_twice : {A : Type 0} (xs : List A) → newest_first (newest_first xs) ≡ xs
+newest_twice [] = refl
+newest_twice (x ∷ xs) = newest_last (newest_first xs) x ∙ ap (λ zs. x ∷ zs) (newest_twice xs)

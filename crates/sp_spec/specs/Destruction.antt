@@ -2,6 +2,7 @@
 -- subterm-convergent theory); Meier's thesis, chapter 3 (chains).
 use Rattle.std.specs.Prelude.{ℕ, Bool, false, ◌&&◌, ◌||◌, ◌==◌, not, if◌then◌else◌, List, [], ◌∷◌, ◌++◌, Option, Some, None, option_map}
 use Rattle.std.specs.Str.{bytes_eq}
+use Rattle.std.specs.Option.{option_or}
 use Rattle.sp_spec.specs.Term.{Variable, Term, var, constant, name, app, Terms, none, more, joined, count}
 use Rattle.sp_spec.specs.Same.{alike}
 use Rattle.sp_spec.specs.Signature.{Symbol, Equation, Signature}
@@ -19,10 +20,6 @@ pub record Fork : Type 0 where
   pub entered : Term Variable
   pub back : Terms Variable
 
-abbrev pub or_else : {A : Type 0} → Option A → Option A → Option A
-or_else (Some x) other = Some x
-or_else None other = other
-
 -- the way down to the leftmost place where the term r stands
 abbrev mutual
   pub way_to : Term Variable → Term Variable → Option (List Fork)
@@ -34,7 +31,7 @@ abbrev mutual
   pub way_among : Term Variable → List ℕ → Terms Variable → Terms Variable → Option (List Fork)
   way_among r f front none = None
   way_among r f front (more t ts) =
-      or_else (option_map (λ forks. record { symbol = f; front = front; entered = t; back = ts } ∷ forks) (way_to r t))
+      option_or (option_map (λ forks. record { symbol = f; front = front; entered = t; back = ts } ∷ forks) (way_to r t))
       (way_among r f (joined front (more t none)) ts)
 
 -- a public symbol of that name and arity

@@ -1,11 +1,22 @@
 -- Words for lists that the definitions share. Executions, logs and traces are lists with the newest element first,
 -- so that what came earlier than an element is what stands behind it.
-use Rattle.std.specs.Prelude.{◌≡◌, ◌⊎◌, ℕ, zero, suc, List, [], ◌∷◌, length}
+use Rattle.std.specs.Prelude.{◌≡◌, ◌⊎◌, ℕ, zero, suc, Bool, false, ◌||◌, List, [], ◌∷◌, ◌++◌, length}
+use Rattle.std.specs.Str.{bytes_eq}
 
 -- the element stands in the list
 abbrev pub Member : {A : Type 0} → A → List A → Type 0
 Member x [] = ⊥
 Member x (y ∷ ys) = (y ≡ x) ⊎ Member x ys
+
+-- whether a name stands in the list
+abbrev pub is_listed : List ℕ → List (List ℕ) → Bool
+is_listed x [] = false
+is_listed x (y ∷ ys) = bytes_eq y x || is_listed x ys
+
+-- the other way round: what stands oldest first has its newest element first, and back
+abbrev pub newest_first : {A : Type 0} → List A → List A
+newest_first [] = []
+newest_first (x ∷ xs) = newest_first xs ++ x ∷ []
 
 -- it holds of each element
 abbrev pub Every : {A : Type 0} → (A → Type 0) → List A → Type 0

@@ -1,7 +1,9 @@
 -- Facts, actions, rules, and the instances of rules. Source: Tamarin manual, "Model specification using rules"; CSF 2012,
 -- "Labeled multiset rewriting".
-use Rattle.std.specs.Prelude.{◌≡◌, ℕ, suc, Bool, true, false, List, [], ◌∷◌, ◌++◌, map, codes}
-use Rattle.sp_spec.specs.Term.{Sort, Variable, Term, Terms, none, more, Ground, Values, valued_all}
+use Rattle.std.specs.Prelude.{◌≡◌, ℕ, suc, Bool, true, false, List, [], ◌∷◌, ◌++◌, map, codes, Option, Some, None, if◌then◌else◌}
+use Rattle.std.specs.Str.{bytes_eq}
+use Rattle.sp_spec.specs.Lists.{Every}
+use Rattle.sp_spec.specs.Term.{Sort, Fresh, Variable, Term, var, Terms, none, more, Ground, Values, valued_all, in_terms, EachVariables}
 use Rattle.sp_spec.specs.Equal.{EqualAll, AreNormalFormsOf}
 use Rattle.sp_spec.specs.Signature.{Equation}
 
@@ -32,6 +34,15 @@ pub record Rule : Type 0 where
   pub variables : List Declared
   pub facts : Facts Variable
 
+-- one variable of sort fresh, and nothing else
+abbrev pub IsFreshVariable : Terms Variable → Type 0
+IsFreshVariable ts = (x : Variable) × (x.sort ≡ Fresh) × (ts ≡ more (var x) none)
+
+-- the first rule of the name
+abbrev pub rule_named : List ℕ → List Rule → Option Rule
+rule_named x [] = None
+rule_named x (r ∷ rs) = if bytes_eq r.name x then Some r else rule_named x rs
+
 abbrev pub fact_at : {V W : Type 0} → (V → Term W) → Fact V → Fact W
 fact_at v f = record { symbol = f.symbol; persistent = f.persistent; args = valued_all v f.args }
 
@@ -40,6 +51,28 @@ action_at v a = record { symbol = a.symbol; args = valued_all v a.args }
 
 abbrev pub facts_at : {V W : Type 0} → (V → Term W) → Facts V → Facts W
 facts_at v f = record { premises = map (fact_at v) f.premises; actions = map (action_at v) f.actions; conclusions = map (fact_at v) f.conclusions }
+
+-- the variables as they stand in facts, from left to right: over premises, actions, conclusions
+abbrev pub in_facts : {V : Type 0} → List (Fact V) → List V
+in_facts [] = []
+in_facts (f ∷ fs) = in_terms f.args ++ in_facts fs
+
+abbrev pub in_actions : {V : Type 0} → List (Action V) → List V
+in_actions [] = []
+in_actions (a ∷ rest) = in_terms a.args ++ in_actions rest
+
+abbrev pub occurrences : {V : Type 0} → Facts V → List V
+occurrences facts = in_facts facts.premises ++ (in_actions facts.actions ++ in_facts facts.conclusions)
+
+-- it holds of the arguments of each fact and each action
+pub record OfArguments {V : Type 0} (P : Terms V → Type 0) (facts : Facts V) : Type 0 where
+  pub premises : Every (λ (f : Fact V). P f.args) facts.premises
+  pub actions : Every (λ (a : Action V). P a.args) facts.actions
+  pub conclusions : Every (λ (f : Fact V). P f.args) facts.conclusions
+
+-- it holds of each variable in the facts
+abbrev pub InFacts : {V : Type 0} → (V → Type 0) → Facts V → Type 0
+InFacts P facts = OfArguments (EachVariables P) facts
 
 -- two state facts that are the same modulo the equations: name, arity and multiplicity agree, and the arguments are equal
 abbrev pub SameFact : List Equation → Fact ⊥ → Fact ⊥ → Type 0

@@ -1,7 +1,7 @@
 -- Message terms. Source: Schmidt, Meier, Cremers and Basin, CSF 2012, section "Cryptographic messages"; Tamarin manual,
 -- "Cryptographic messages". Terms are over variables of any kind: those of a rule or a system, those that a text names,
 -- bound ones, or none at all.
-use Rattle.std.specs.Prelude.{ℕ, suc, List}
+use Rattle.std.specs.Prelude.{ℕ, suc, List, [], ◌∷◌, ◌++◌}
 
 -- fresh and pub are subsorts of msg, and have nothing in common
 pub data Sort : Type 0 where
@@ -44,6 +44,30 @@ abbrev mutual
   pub valued_all : {V W : Type 0} → (V → Term W) → Terms V → Terms W
   valued_all v none = none
   valued_all v (more t ts) = more (valued v t) (valued_all v ts)
+
+-- the variables as they stand in the term, from left to right
+abbrev mutual
+  pub in_term : {V : Type 0} → Term V → List V
+  in_term (var x) = x ∷ []
+  in_term (constant c) = []
+  in_term (name n) = []
+  in_term (app f ts) = in_terms ts
+
+  pub in_terms : {V : Type 0} → Terms V → List V
+  in_terms none = []
+  in_terms (more t ts) = in_term t ++ in_terms ts
+
+-- it holds of each variable in the term
+abbrev mutual
+  pub EachVariable : {V : Type 0} → (V → Type 0) → Term V → Type 0
+  EachVariable P (var x) = P x
+  EachVariable P (constant c) = Unit {0}
+  EachVariable P (name n) = Unit {0}
+  EachVariable P (app f ts) = EachVariables P ts
+
+  pub EachVariables : {V : Type 0} → (V → Type 0) → Terms V → Type 0
+  EachVariables P none = Unit {0}
+  EachVariables P (more t ts) = EachVariable P t × EachVariables P ts
 
 abbrev pub count : {V : Type 0} → Terms V → ℕ
 count none = 0

@@ -2,8 +2,11 @@
 -- Source: Tamarin manual, "Model specification using rules" (sorts of variables, Fr facts).
 use Rattle.std.specs.Prelude.{ℕ, zero, suc, Bool, true, false, ◌&&◌, ◌||◌, if◌then◌else◌, List, [], ◌∷◌, ◌++◌, map, codes}
 use Rattle.std.specs.Str.{bytes_eq}
-use Rattle.sp_spec.specs.Term.{Sort, Msg, Fresh, Pub, Variable, Term, var, constant, name, app, Terms, none, more}
-use Rattle.sp_spec.specs.Rule.{Fact, Action, Facts, Rule, facts_at}
+pub use Rattle.sp_spec.specs.Lists.{is_listed}
+pub use Rattle.sp_spec.specs.Term.{in_term, in_terms}
+pub use Rattle.sp_spec.specs.Rule.{in_facts, in_actions, occurrences}
+use Rattle.sp_spec.specs.Term.{Sort, Msg, Fresh, Pub, Variable, Term, var, Terms, none, more}
+use Rattle.sp_spec.specs.Rule.{Fact, Facts, Rule, facts_at}
 use Rattle.sp_spec.specs.Formula.{Mark, of_sort, Written}
 use Rattle.sp_spec.specs.Theory.{Restriction, Lemma, Theory}
 
@@ -16,30 +19,6 @@ pub record WrittenTheory : Type 0 where
   pub rules : List WrittenRule
   pub restrictions : List Restriction
   pub lemmas : List Lemma
-
--- the variables as they stand in terms and facts, from left to right
-abbrev mutual
-  pub in_term : Term Written → List Written
-  in_term (var x) = x ∷ []
-  in_term (constant c) = []
-  in_term (name n) = []
-  in_term (app f ts) = in_terms ts
-
-  pub in_terms : Terms Written → List Written
-  in_terms none = []
-  in_terms (more t ts) = in_term t ++ in_terms ts
-
-abbrev pub in_facts : List (Fact Written) → List Written
-in_facts [] = []
-in_facts (f ∷ fs) = in_terms f.args ++ in_facts fs
-
-abbrev pub in_actions : List (Action Written) → List Written
-in_actions [] = []
-in_actions (a ∷ rest) = in_terms a.args ++ in_actions rest
-
--- over premises, actions, conclusions
-abbrev pub occurrences : Facts Written → List Written
-occurrences facts = in_facts facts.premises ++ (in_actions facts.actions ++ in_facts facts.conclusions)
 
 -- the argument of a premise Fr is fresh in the whole rule
 abbrev pub is_argument : List ℕ → Terms Written → Bool
@@ -66,10 +45,6 @@ sort_in facts x =
     else Msg
 
 -- the names, each once, in first-seen order
-abbrev pub is_listed : List ℕ → List (List ℕ) → Bool
-is_listed x [] = false
-is_listed x (y ∷ ys) = bytes_eq y x || is_listed x ys
-
 abbrev pub names_after : List (List ℕ) → List Written → List (List ℕ)
 names_after seen [] = seen
 names_after seen (x ∷ xs) = names_after (if is_listed x.name seen then seen else seen ++ x.name ∷ []) xs

@@ -3,17 +3,17 @@ use Rattle.std.proofs.Common.{◌≡◌, ◌<◌, ◌+◌, ℕ, Bool, true, fals
 use Rattle.std.proofs.lemmas.Bool.{eqb-true, or_left, or_right}
 use Rattle.std.proofs.lemmas.Slice.Eq.{bytes_eq-Decides}
 use Rattle.sp_spec.specs.Lists.{Member, Every, AtPosition}
-use Rattle.sp_spec.specs.Term.{Variable, Values}
+use Rattle.sp_spec.specs.Term.{Variable, Values, EachVariables}
 use Rattle.sp_spec.specs.Signature.{IsValuation}
 use Rattle.sp_spec.specs.Equal.{IsNormal, AreNormal}
-use Rattle.sp_spec.specs.Rule.{Action, Facts, Rule, action_at, facts_at, SameAction}
+use Rattle.sp_spec.specs.Rule.{Action, Facts, Rule, action_at, facts_at, SameAction, InFacts}
 use Rattle.sp_spec.specs.Theory.{Theory, signature_of}
 use Rattle.sp_spec.specs.Guarded.{Place, action_in}
 use Rattle.sp_spec.specs.Log.{Log, Entry, step, send, learn, IsLog, log_trace, entry_actions}
 use Rattle.sp_law_equal.specs.Convergent.{AreConvergent, KeepSymbols}
 use Rattle.sp_law_equal.proofs.Forms.{normal_has_sort, is_normal, normals}
 use Rattle.sp_law_equal.proofs.Over.{normal_over}
-use Rattle.sp_system.specs.System.{Happening, rule_step, Event, System, Valuation, assignment, HappensAt, HappensIn, Solves, EachVariables, InFacts, InHappening, InEvent, IsNumbered, Agrees, NoneSolved}
+use Rattle.sp_system.specs.System.{Happening, rule_step, Event, System, Valuation, assignment, HappensAt, HappensIn, Solves, InHappening, InEvent, IsNumbered, Agrees, NoneSolved}
 use Rattle.sp_system.specs.Laws.{UnifierIsRight}
 use Rattle.sp_spec.proofs.Lists.{every_parts, every_member, member_mapped, position_one}
 use Rattle.sp_system.proofs.Facts.{action_same}

@@ -1,15 +1,15 @@
 -- The move on an action covers: the entry at its time has the action, and it is the event's, or an instance of some rule.
 use Rattle.std.proofs.Common.{◌≡◌, ◌<◌, ◌+◌, ℕ, suc, List, [], ◌∷◌, ◌++◌, length, Option, Some, None, option_map, option_and_then, refl, sym, ap, ◌∙◌, subst, inl, inr, arith, codes, decimal}
 use Rattle.sp_spec.specs.Lists.{Member, Every, AtPosition}
-use Rattle.sp_spec.specs.Term.{Variable, var, Values}
+use Rattle.sp_spec.specs.Term.{Variable, var, Values, EachVariables}
 use Rattle.sp_spec.specs.Signature.{IsValue, IsValuation}
 use Rattle.sp_spec.specs.Equal.{IsNormal}
-use Rattle.sp_spec.specs.Rule.{Action, Facts, Rule, action_at, facts_at}
+use Rattle.sp_spec.specs.Rule.{Action, Facts, Rule, action_at, facts_at, InFacts}
 use Rattle.sp_spec.specs.Theory.{Theory, signature_of}
 use Rattle.sp_spec.specs.Log.{Log, step, Source}
 use Rattle.sp_spec.specs.Substitution.{Binding, bound_to}
 use Rattle.sp_spec.specs.Unifier.{mgu}
-use Rattle.sp_system.specs.System.{rule_step, System, Valuation, HappensIn, Solves, EachVariables, InFacts, InEvent, IsNumbered, Agrees, NoneSolved}
+use Rattle.sp_system.specs.System.{rule_step, System, Valuation, HappensIn, Solves, InEvent, IsNumbered, Agrees, NoneSolved}
 use Rattle.sp_system.specs.Laws.{UnifierIsRight}
 use Rattle.sp_system.specs.Equating.{action_pair, unifier_of, system_changed}
 use Rattle.sp_spec.proofs.Lists.{every_append, every_parts}

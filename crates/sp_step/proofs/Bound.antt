@@ -9,7 +9,7 @@ use Rattle.sp_system.specs.System.{Valuation, assignment, EachNormal}
 use Rattle.sp_formula.proofs.Values.{valued-valued}
 use Rattle.sp_system.proofs.Changing.{Reads}
 use Rattle.sp_step.specs.Instances.{Slot, Slots, empty_slots, is_of_sort, all_terms, all_times, filled, placed_each, free_each, instance}
-use Rattle.sp_step.proofs.Freed.{mapped, then_some}
+use Rattle.sp_spec.proofs.Options.{mapped, then_some}
 use Rattle.sp_step.proofs.Slots.{some_same, slot_sorts, Agrees, Fits, TimeAgrees, TimesFit, IsGoodValue, AreGood, IsGoodTime, AreGoodTimes}
 
 -- the values of the terms and times, the innermost first

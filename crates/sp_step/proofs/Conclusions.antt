@@ -3,26 +3,21 @@ use Rattle.std.proofs.Common.{◌≡◌, ◌+◌, ℕ, zero, suc, Bool, true, fa
 use Rattle.std.proofs.lemmas.Slice.Eq.{bytes_eq-Decides}
 use Rattle.std.specs.Str.{bytes_eq}
 use Rattle.sp_spec.specs.Lists.{Every, AtPlace}
-use Rattle.sp_spec.specs.Term.{Variable, Terms, Values, valued_all}
+use Rattle.sp_spec.specs.Term.{Variable, Values, valued_all, EachVariables}
 use Rattle.sp_spec.specs.Rule.{Fact, Rule, fact_at}
 use Rattle.sp_spec.specs.Theory.{Theory}
 use Rattle.sp_spec.specs.Log.{Log}
 use Rattle.sp_spec.specs.Substitution.{Binding, bound_to}
 use Rattle.sp_spec.specs.Unifier.{mgu}
 use Rattle.sp_spec.proofs.Lists.{every_append, every_parts}
-use Rattle.sp_system.specs.System.{System, Valuation, Solves, EachVariables, IsNumbered, Agrees, NoneSolved}
+use Rattle.sp_system.specs.System.{System, Valuation, Solves, IsNumbered, Agrees, NoneSolved}
 use Rattle.sp_system.specs.Laws.{UnifierIsRight}
 use Rattle.sp_system.specs.Equating.{argument_pairs, same_flag, unifier_of, system_changed}
 use Rattle.sp_system.specs.Pairs.{fact_pair}
-use Rattle.sp_system.proofs.Merging.{Paired, argument_paired, OptionUnder, action_under}
+use Rattle.sp_system.proofs.Merging.{Paired, argument_paired, OptionUnder, flag_same, argument_under}
 use Rattle.sp_system.proofs.Solutions.{Under, change_solves, change_numbered}
 use Rattle.sp_step.specs.Moves.{system_if, with_giver, where_same_fact, by_conclusions}
 use Rattle.sp_step.proofs.Twins.{unifier_within, Later}
-
-flag_same : (a b : Bool) → a ≡ b → same_flag a b ≡ true
-flag_same true b e = sym e
-flag_same false true e = absurd cc
-flag_same false false e = refl
 
 -- Two facts with one value have pairs that have one value each.
 pub one_fact_paired : (v : Values) (n : ℕ) (f g : Fact Variable) → EachVariables (Under n) f.args → EachVariables (Under n) g.args → fact_at v f ≡ fact_at v g → Paired v n (fact_pair f g)
@@ -32,15 +27,11 @@ one_fact_paired v n f g a b e =
     let args : valued_all v f.args ≡ valued_all v g.args = ap (λ (x : Fact ⊥). x.args) e in
     rw ((bytes_eq-Decides f.symbol g.symbol).1 symbol, flag_same f.persistent g.persistent flag) (argument_paired v n f.args g.args a b args)
 
--- as those of two actions without a name
-arguments_under : (n : ℕ) (ts us : Terms Variable) → EachVariables (Under n) ts → EachVariables (Under n) us → OptionUnder n (argument_pairs ts us)
-arguments_under n ts us a b = action_under n (record { symbol = []; args = ts }) (record { symbol = []; args = us }) a b
-
 pub one_fact_under : (n : ℕ) (f g : Fact Variable) → EachVariables (Under n) f.args → EachVariables (Under n) g.args → OptionUnder n (fact_pair f g)
 one_fact_under n f g a b = at (bytes_eq f.symbol g.symbol && same_flag f.persistent g.persistent)
   where
     at : (c : Bool) → OptionUnder n (if c then argument_pairs f.args g.args else None)
-    at true = arguments_under n f.args g.args a b
+    at true = argument_under n f.args g.args a b
     at false = tt
 
 module _ (right : UnifierIsRight) (s : System) (i p : ℕ) (f : Fact Variable) (r : Rule) where

@@ -8,7 +8,7 @@ use Rattle.sp_spec.specs.Log.{Log, log_trace}
 use Rattle.sp_system.specs.System.{System, Valuation, assignment, Settled, EachSettled, FormulaHolds, Solves, InFormula, InEach, IsNumbered, Covers}
 use Rattle.sp_system.proofs.Solutions.{Under, TimeUnder, agrees_itself}
 use Rattle.sp_step.specs.Rows.{first_formula, spending, some_known, without_false, disjunction_of, instead_of, disjunction}
-use Rattle.sp_step.proofs.Freed.{mapped}
+use Rattle.sp_spec.proofs.Options.{mapped}
 use Rattle.sp_step.proofs.Spending.{is_found, found_holds, spending_solves, spending_numbered}
 
 -- a part is false, or it stays

@@ -1,20 +1,22 @@
 -- What the log says of an entry: its actions, its rule, and the new event that stands for it.
-use Rattle.std.proofs.Common.{◌≡◌, ◌+◌, ◌-◌, ℕ, suc, Bool, true, false, if◌then◌else◌, List, [], ◌∷◌, map, length, refl, sym, ap, ap₂, ◌∙◌, subst, inl, inr, arith, nat_lt, lt-ltb}
+use Rattle.std.proofs.Common.{◌≡◌, ◌+◌, ◌-◌, ℕ, suc, Bool, true, false, if◌then◌else◌, List, [], ◌∷◌, map, length, refl, sym, ap, ◌∙◌, subst, inl, inr, arith, nat_lt, lt-ltb}
 use Rattle.std.proofs.lemmas.Bool.{ltb-true}
-use Rattle.sp_spec.specs.Lists.{Member, Every, AtPosition}
+use Rattle.sp_spec.specs.Lists.{Member, AtPosition}
 use Rattle.sp_spec.specs.Term.{Sort, Variable, Ground, Grounds, Values}
 use Rattle.sp_spec.specs.Signature.{Equation, IsValuation}
 use Rattle.sp_spec.specs.Equal.{AreNormal}
 use Rattle.sp_spec.specs.Rule.{Fact, Action, Facts, Rule, fact_at, action_at, facts_at, SameAction, AreNormalActions, IsNormalFormOf}
 use Rattle.sp_spec.specs.Theory.{Theory, signature_of}
 use Rattle.sp_spec.specs.Log.{Log, Entry, step, Source, entry_actions, log_trace, Fits, IsLog}
-use Rattle.sp_law_equal.specs.Convergent.{AreConvergent, ArePlain}
+use Rattle.sp_spec.proofs.Facts.{made_facts}
+use Rattle.sp_law_equal.specs.Convergent.{AreConvergent}
 use Rattle.sp_law_equal.specs.Normal.{normal_fact, normal_action}
-use Rattle.sp_law_equal.proofs.Forms.{normals, normal_plain_all}
+use Rattle.sp_law_equal.proofs.Forms.{normals}
 use Rattle.sp_law_equal.proofs.Values.{equal_all_normal_same}
 use Rattle.sp_law_equal.proofs.Facts.{facts_normal_form_only}
 use Rattle.sp_system.specs.System.{Valuation, Agrees}
 use Rattle.sp_step.specs.Laws.{FactsArePlain}
+use Rattle.sp_law_equal.proofs.PlainFacts.{plain_facts, plain_actions}
 
 pub length_trace : (log : Log) → length (log_trace log) ≡ length log
 length_trace [] = refl
@@ -56,29 +58,12 @@ same_normal_action es good a b m n h =
 
 -- The facts of a plain rule under values in normal form are the normal form of those under the values.
 module _ (es : List Equation) (good : AreConvergent es) (v : Values) where
-  plain_facts : (fs : List (Fact Variable)) → Every (λ (f : Fact Variable). ArePlain es f.args) fs → map (normal_fact es) (map (fact_at v) fs) ≡ map (fact_at (normals es v)) fs
-  plain_facts [] h = refl
-  plain_facts (f ∷ fs) h =
-      ap₂ (λ (x : Fact ⊥) (xs : List (Fact ⊥)). x ∷ xs)
-      (ap (λ (ts : Grounds). let g : Fact ⊥ = record { symbol = f.symbol; persistent = f.persistent; args = ts } in g) (normal_plain_all es good v f.args h.0))
-      (plain_facts fs h.1)
-
-  plain_actions : (xs : List (Action Variable)) → Every (λ (a : Action Variable). ArePlain es a.args) xs → map (normal_action es) (map (action_at v) xs) ≡ map (action_at (normals es v)) xs
-  plain_actions [] h = refl
-  plain_actions (a ∷ xs) h =
-      ap₂ (λ (x : Action ⊥) (ys : List (Action ⊥)). x ∷ ys)
-      (ap (λ (ts : Grounds). let g : Action ⊥ = record { symbol = a.symbol; args = ts } in g) (normal_plain_all es good v a.args h.0))
-      (plain_actions xs h.1)
-
-  abbrev made : List (Fact ⊥) → List (Action ⊥) → List (Fact ⊥) → Facts ⊥
-  made ps as' cs = record { premises = ps; actions = as'; conclusions = cs }
-
   pub plain_step : (facts : Facts Variable) → FactsArePlain es facts → (g : Facts ⊥) → IsNormalFormOf es (facts_at v facts) g → g ≡ facts_at (normals es v) facts
   plain_step facts h g n =
       facts_normal_form_only es good (facts_at v facts) g n
-      ∙ ap (λ (x : List (Fact ⊥)). made x (map (normal_action es) (map (action_at v) facts.actions)) (map (normal_fact es) (map (fact_at v) facts.conclusions))) (plain_facts facts.premises h.premises)
-      ∙ ap (λ (x : List (Action ⊥)). made (map (fact_at (normals es v)) facts.premises) x (map (normal_fact es) (map (fact_at v) facts.conclusions))) (plain_actions facts.actions h.actions)
-      ∙ ap (λ (x : List (Fact ⊥)). made (map (fact_at (normals es v)) facts.premises) (map (action_at (normals es v)) facts.actions) x) (plain_facts facts.conclusions h.conclusions)
+      ∙ ap (λ (x : List (Fact ⊥)). made_facts x (map (normal_action es) (map (action_at v) facts.actions)) (map (normal_fact es) (map (fact_at v) facts.conclusions))) (plain_facts es good v facts.premises h.premises)
+      ∙ ap (λ (x : List (Action ⊥)). made_facts (map (fact_at (normals es v)) facts.premises) x (map (normal_fact es) (map (fact_at v) facts.conclusions))) (plain_actions es good v facts.actions h.actions)
+      ∙ ap (λ (x : List (Fact ⊥)). made_facts (map (fact_at (normals es v)) facts.premises) (map (action_at (normals es v)) facts.actions) x) (plain_facts es good v facts.conclusions h.conclusions)
 
 -- Values for the numbers from a next one on, beside those below it.
 pub beside : ℕ → Valuation → Values → Valuation

@@ -2,7 +2,7 @@
 use Rattle.std.proofs.Common.{◌≡◌, ◌≤◌, ◌<◌, ℕ, Bool, true, false, ◌&&◌, if◌then◌else◌, nat_eq, List, [], ◌∷◌, Option, Some, None, option_map, is_none, refl, sym, ap, ◌∙◌, subst, ⊎_elim, le_refl}
 use Rattle.std.proofs.lemmas.Bool.{or_cases, and_parts, eqb-true, eq-eqb}
 use Rattle.sp_spec.specs.Lists.{Every, Classically}
-use Rattle.sp_spec.specs.Term.{Ground, valued}
+use Rattle.sp_spec.specs.Term.{Ground, valued, EachVariable}
 use Rattle.sp_spec.specs.Theory.{Theory, signature_of}
 use Rattle.sp_spec.specs.Guarded.{free_time, same, same_time, Guarded, holds, term_in}
 use Rattle.sp_spec.specs.Log.{Log}
@@ -10,14 +10,15 @@ use Rattle.sp_spec.specs.Substitution.{Binding, bound_to}
 use Rattle.sp_spec.specs.Unifier.{mgu}
 use Rattle.sp_law_equal.specs.Convergent.{AreConvergent}
 use Rattle.sp_law_equal.proofs.Values.{equal_normal_same}
-use Rattle.sp_law_equal.proofs.Tests.{same_by_decides}
-use Rattle.sp_system.specs.System.{Event, System, Valuation, assignment, FormulaHolds, HappensIn, Solves, EachVariable, InFormula, IsNumbered, Covers}
+use Rattle.sp_spec.proofs.Same.{same_by_decides}
+use Rattle.sp_system.specs.System.{Event, System, Valuation, assignment, FormulaHolds, HappensIn, Solves, InFormula, IsNumbered, Covers}
 use Rattle.sp_system.specs.Laws.{UnifierIsRight}
 use Rattle.sp_system.specs.Equating.{time_replaced, system_changed, smaller, larger}
 use Rattle.sp_system.proofs.Bindings.{Fixes-none}
 use Rattle.sp_system.proofs.Solutions.{Under, TimeUnder, change_solves, change_numbered}
 use Rattle.sp_step.specs.Rows.{first_formula, spending, Equation, equal_terms, equal_times, equation_of, pair_of, at_times, Twins, twins_by, times_equated, equated, equate, equation_fails, fails_to_equate}
-use Rattle.sp_step.proofs.Freed.{mapped, then_some, freed_value, freed_in}
+use Rattle.sp_step.proofs.Freed.{freed_value, freed_in}
+use Rattle.sp_spec.proofs.Options.{mapped, then_some}
 use Rattle.sp_step.proofs.Literals.{covers_by_itself, pair_parts}
 use Rattle.sp_step.proofs.Spending.{is_found, found_holds, spending_solves, spending_numbered}
 use Rattle.sp_step.proofs.Twins.{twins_are, respects, replaced_same, replaced_under, SolvedBy, NumberedFrom, merged_solved, merged_numbered}

@@ -1,19 +1,11 @@
 -- A term of a formula that binds none of its variables has the value of the term of the system.
-use Rattle.std.proofs.Common.{◌≡◌, Option, Some, None, option_map, option_and_then, refl, sym, ap, ap₂, ◌∙◌, subst}
-use Rattle.sp_spec.specs.Term.{Variable, Term, var, constant, name, app, Terms, none, more, Grounds, valued, valued_all}
+use Rattle.std.proofs.Common.{◌≡◌, Some, option_map, sym, ap, ap₂, ◌∙◌, subst}
+use Rattle.sp_spec.specs.Term.{Variable, Term, var, constant, name, app, Terms, none, more, Grounds, valued, valued_all, EachVariable, EachVariables}
 use Rattle.sp_spec.specs.Rule.{Action, action_at}
 use Rattle.sp_spec.specs.Guarded.{Place, free, bound, Assignment, place_in, term_in, action_in}
-use Rattle.sp_system.specs.System.{EachVariable, EachVariables, AtFree}
+use Rattle.sp_system.specs.System.{AtFree}
 use Rattle.sp_step.specs.Rows.{freed, freed_all, freed_action}
-
--- what an option that is mapped, or that is gone on with, says
-pub mapped : {A B : Type 0} (f : A → B) (o : Option A) (y : B) → option_map f o ≡ Some y → (x : A) × (o ≡ Some x) × (y ≡ f x)
-mapped f None y e = absurd cc
-mapped f (Some x) y e = (x, refl, let g : y ≡ f x = cc in g)
-
-pub then_some : {A B : Type 0} (f : A → Option B) (o : Option A) (y : B) → option_and_then f o ≡ Some y → (x : A) × (o ≡ Some x) × (f x ≡ Some y)
-then_some f None y e = absurd cc
-then_some f (Some x) y e = (x, refl, e)
+use Rattle.sp_spec.proofs.Options.{mapped, then_some}
 
 mutual
   pub freed_value : (m : Assignment) (t : Term Place) (u : Term Variable) → freed t ≡ Some u → term_in m t ≡ valued m.terms u

@@ -1,5 +1,5 @@
 -- Fresh comes first: whoever has a fresh name in a premise other than an Fr is later than the event that uses the name's Fr.
-use Rattle.std.proofs.Common.{◌≡◌, ◌⊎◌, ◌≤◌, ◌<◌, ℕ, zero, suc, Bool, true, false, ◌&&◌, not, if◌then◌else◌, List, [], ◌∷◌, ◌++◌, map, Option, Some, None, refl, sym, ap, ◌∙◌, subst, inl, inr, ⊎_elim, le_refl}
+use Rattle.std.proofs.Common.{◌≡◌, ◌⊎◌, ◌≤◌, ◌<◌, ℕ, zero, suc, Bool, true, false, ◌&&◌, not, if◌then◌else◌, List, [], ◌∷◌, ◌++◌, map, Some, refl, sym, ap, ◌∙◌, subst, inl, inr, ⊎_elim, le_refl}
 use Rattle.std.proofs.lemmas.Bool.{or_cases, and_parts, not-true}
 use Rattle.sp_spec.specs.Lists.{Member, Every, AtPlace}
 use Rattle.sp_spec.specs.Term.{Sort, Fresh, Variable, Term, var, constant, name, app, Terms, none, more, Ground, Values, valued, valued_all}
@@ -14,22 +14,15 @@ use Rattle.sp_law_equal.proofs.Parts.{part_itself}
 use Rattle.sp_system.specs.System.{Happening, rule_step, happening_premises, Event, System, HappensAt, HappensIn, IsBefore, Solves, InEvent, IsNumbered, Covers}
 use Rattle.sp_system.specs.Order.{is_before}
 use Rattle.sp_system.proofs.Solutions.{Under, TimeUnder}
-use Rattle.sp_step.specs.Rows.{first_term, fresh_terms, happening_fresh, or_else, occurs_in, occurs_among, has_taken, is_missing, missing_pairs, if_any, first_some, missing_behind, with_order, fresh_first}
+use Rattle.sp_step.specs.Rows.{first_term, fresh_terms, happening_fresh, occurs_in, occurs_among, has_taken, is_missing, missing_pairs, if_any, first_some, missing_behind, with_order, fresh_first}
 use Rattle.sp_step.specs.Laws.{RulesArePlain, IsClosedRule}
-use Rattle.sp_step.proofs.Freed.{mapped}
+use Rattle.sp_spec.proofs.Options.{mapped}
 use Rattle.sp_step.proofs.Literals.{alike_same, covers_by_itself}
 use Rattle.sp_step.proofs.Orders.{BothUnder}
 use Rattle.sp_step.proofs.FreshOnce.{one_position, fresh_values, fresh_member}
 use Rattle.sp_step.proofs.Origins.{HaveFresh, closed_step, fresh_origin}
-
--- the first element of which something is picked
-some_first : {A B : Type 0} (pick : A → Option B) (xs : List A) (y : B) → first_some pick xs ≡ Some y → (x : A) × Member x xs × (pick x ≡ Some y)
-some_first pick [] y e = absurd cc
-some_first pick (x ∷ xs) y e = at (pick x) refl e (λ k. some_first pick xs y k)
-  where
-    at : (o : Option _) → pick x ≡ o → or_else o (first_some pick xs) ≡ Some y → (first_some pick xs ≡ Some y → (z : _) × Member z xs × (pick z ≡ Some y)) → (z : _) × Member z (x ∷ xs) × (pick z ≡ Some y)
-    at (Some z) h k later = (x, inl refl, h ∙ k)
-    at None h k later = let r = later k in (r.0, inr r.1, r.2)
+use Rattle.sp_step.proofs.Matches.{some_picked}
+use Rattle.sp_spec.proofs.Sorts.{is_name}
 
 -- of each event that has the term in a premise other than an Fr, by what is missing
 missing_each : (P : ℕ × ℕ → Type 0) (order : List (ℕ × ℕ)) (i : ℕ) (t : Term Variable) (es : List Event)
@@ -56,8 +49,8 @@ record Adds (s t : System) : Type 0 where
 adds : (s t : System) → fresh_first s ≡ Some t → Adds s t
 adds s t e =
     let r = mapped (with_order s) (first_some (missing_behind s) s.events) t e in
-    let d = some_first (missing_behind s) s.events r.0 r.1 in
-    let u = some_first (λ (t : Term Variable). if_any (missing_pairs s.order d.0.time t s.events)) (happening_fresh d.0.happening) r.0 d.2 in
+    let d = some_picked (missing_behind s) s.events r.0 r.1 in
+    let u = some_picked (λ (t : Term Variable). if_any (missing_pairs s.order d.0.time t s.events)) (happening_fresh d.0.happening) r.0 d.2 in
     record { event = d.0; term = u.0; stands = d.1; uses = u.1; is = r.2 ∙ ap (with_order s) (sym (any_is (missing_pairs s.order d.0.time u.0 s.events) r.0 u.2)) }
 
 pub fresh_first_numbered : (s t : System) → fresh_first s ≡ Some t → IsNumbered s → IsNumbered t × (s.next ≤ t.next)
@@ -115,12 +108,6 @@ fresh_variable (f ∷ fs) h u m = at (is_fr f) refl m (λ k. fresh_variable fs h
         let l : (var x.0 ≡ u) ⊎ Member u (fresh_terms fs) = subst (λ (ts : Terms Variable). Member u (first_term ts ++ fresh_terms fs)) x.2 k in
         ⊎_elim (λ i. (x.0, x.1, sym i)) later l
     at false e k later = later k
-
-is_name : (t : Ground) → HasSort Fresh t → (n : ℕ) × (t ≡ name n)
-is_name (var x) h = absurd x
-is_name (constant c) h = absurd h
-is_name (name n) h = (n, refl)
-is_name (app f ts) h = absurd h
 
 fresh_name : (v : Values) → RespectsSorts v → (fs : List (Fact Variable)) → HaveFresh fs → (t : Ground) → Member t (fresh_of (map (fact_at v) fs)) → (n : ℕ) × (t ≡ name n)
 fresh_name v sorts fs h t m =

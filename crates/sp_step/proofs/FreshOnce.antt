@@ -8,15 +8,14 @@ use Rattle.sp_spec.specs.Theory.{Theory}
 use Rattle.sp_spec.specs.Same.{alike}
 use Rattle.sp_spec.specs.Substitution.{Binding}
 use Rattle.sp_spec.specs.Log.{Log, Entry, step, IsLog, is_fr, first_arg, fresh_of, fresh_uses, all_fresh_uses}
-use Rattle.sp_spec.proofs.Lists.{member_map, member_left, member_right, distinct_apart}
+use Rattle.sp_spec.proofs.Lists.{member_map, member_left, member_right, distinct_apart, distinct_left}
 use Rattle.sp_system.specs.System.{Happening, rule_step, Event, System, Valuation, HappensAt, HappensIn, Solves, InEvent, IsNumbered, Covers}
 use Rattle.sp_system.specs.Laws.{UnifierIsRight}
 use Rattle.sp_system.specs.Equating.{merging_pairs, unifier_of}
 use Rattle.sp_system.proofs.Solutions.{Under, TimeUnder}
 use Rattle.sp_step.specs.Rows.{first_term, fresh_terms, happening_fresh, stands_in, share_one, repeats, shares_fresh, takes_fr_twice, first_twins, merged_twins, fresh_once, cannot_merge, fails_with, fails_to_merge}
-use Rattle.sp_step.proofs.Freed.{then_some}
+use Rattle.sp_spec.proofs.Options.{then_some}
 use Rattle.sp_step.proofs.Literals.{alike_same, covers_by_itself}
-use Rattle.sp_step.proofs.Sources.{distinct_left}
 use Rattle.sp_step.proofs.Twins.{twins_are, one_happening, respects, unifier_there, SolvedBy, NumberedFrom, merged_solved, merged_numbered}
 
 -- the Fr that an entry of the log uses is among those that the log uses

@@ -1,18 +1,18 @@
 -- The move on a premise covers: the premise is what an earlier step concludes, and that step is an instance of some rule.
 use Rattle.std.proofs.Common.{◌≡◌, ◌<◌, ◌+◌, ℕ, suc, Bool, true, false, ◌||◌, if◌then◌else◌, List, [], ◌∷◌, length, Option, Some, None, option_and_then, refl, sym, ap, ◌∙◌, subst, inl, inr, arith, slice_get}
 use Rattle.sp_spec.specs.Lists.{Member, Every, AtPlace, AtPosition}
-use Rattle.sp_spec.specs.Term.{Variable, Grounds, Values}
+use Rattle.sp_spec.specs.Term.{Variable, Grounds, Values, EachVariables}
 use Rattle.sp_spec.specs.Signature.{Equation, IsValuation}
 use Rattle.sp_spec.specs.Equal.{IsNormal}
-use Rattle.sp_spec.specs.Rule.{Fact, Facts, Rule, fact_at, facts_at}
+use Rattle.sp_spec.specs.Rule.{Fact, Facts, Rule, fact_at, facts_at, InFacts}
 use Rattle.sp_spec.specs.Theory.{Theory, signature_of}
 use Rattle.sp_spec.specs.Log.{Log, Entry, step, send, learn, Source, conclusion, Concludes, IsLog, is_fr}
 use Rattle.sp_law_equal.specs.Convergent.{AreConvergent, KeepSymbols}
 use Rattle.sp_law_equal.proofs.Forms.{normal_has_sort, is_normal, normals}
 use Rattle.sp_law_equal.proofs.Over.{normal_over}
-use Rattle.sp_system.specs.System.{Happening, rule_step, happening_premises, Event, System, Valuation, HappensAt, HappensIn, Solves, EachVariables, InFacts, InHappening, InEvent, IsNumbered, Agrees, NoneSolved, Covers}
+use Rattle.sp_system.specs.System.{Happening, rule_step, happening_premises, Event, System, Valuation, HappensAt, HappensIn, Solves, InHappening, InEvent, IsNumbered, Agrees, NoneSolved, Covers}
 use Rattle.sp_system.specs.Laws.{UnifierIsRight}
-use Rattle.sp_spec.proofs.Lists.{every_append, every_parts, every_member, place_map, position_one}
+use Rattle.sp_spec.proofs.Lists.{every_append, every_parts, every_member, place_map, position_one, place_got}
 use Rattle.sp_system.proofs.Facts.{valued_all_same}
 use Rattle.sp_system.proofs.Numbers.{each_weaken_all}
 use Rattle.sp_system.proofs.Solutions.{Under, TimeUnder, agrees_then}
@@ -22,7 +22,7 @@ use Rattle.sp_step.specs.Laws.{RulesAreNumbered, RulesArePlain, systems_of}
 use Rattle.sp_step.proofs.Entries.{entry_is_step, plain_step, beside, beside_agrees}
 use Rattle.sp_step.proofs.Actions.{named_systems, systems_append, step_numbered, step_solved}
 use Rattle.sp_step.proofs.ActionCovers.{event_found}
-use Rattle.sp_step.proofs.Sources.{place_got, place_mapped, every_place, source_there}
+use Rattle.sp_step.proofs.Sources.{place_mapped, every_place, source_there}
 use Rattle.sp_step.proofs.Waiting.{waiting, timed, timed_agrees, timed_new, waiting_numbered, waiting_solved}
 use Rattle.sp_step.proofs.Twins.{Later}
 use Rattle.sp_step.proofs.Conclusions.{conclusions_numbered, conclusion_solved}

@@ -9,7 +9,7 @@ use Rattle.sp_system.specs.System.{Event}
 use Rattle.sp_spec.proofs.Lists.{every_member}
 use Rattle.sp_step.specs.Rows.{first_some, first_match, happening_actions}
 use Rattle.sp_step.specs.Instances.{Slot, Slots, matched_action, value_at, value_in, values_in, side_value, place_of_bound, given, by_equalities, are_alike, are_settled}
-use Rattle.sp_step.proofs.Freed.{mapped, then_some}
+use Rattle.sp_spec.proofs.Options.{mapped, then_some}
 use Rattle.sp_step.proofs.Literals.{alike_same}
 use Rattle.sp_step.proofs.Slots.{some_same, Agrees, Fits, IsGoodValue, AreGood, Grown, grown_same, grown_none, grown_twice, times_grown_none, term_given, times_grown_twice}
 use Rattle.sp_step.proofs.Matches.{Inherited, SlotsGrown, Reads, reads_before, action_matched, some_picked}

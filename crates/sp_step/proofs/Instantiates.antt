@@ -15,7 +15,7 @@ use Rattle.sp_law_equal.proofs.Chains.{same_action_refl}
 use Rattle.sp_law_equal.proofs.Over.{normal_all_over}
 use Rattle.sp_law_equal.proofs.Values.{normal_forms_same}
 use Rattle.sp_system.specs.System.{Happening, rule_step, Event, System, Valuation, assignment, HappensAt, HappensIn, AtomSettled, Settled, FormulaHolds, Solves, InFormula, IsNumbered, Covers}
-use Rattle.sp_spec.proofs.Lists.{every_append, every_all, every_member, every_weaken, position_below, member_map}
+use Rattle.sp_spec.proofs.Lists.{every_append, every_all, every_member, every_weaken, position_below, member_map, every_from}
 use Rattle.sp_system.proofs.Changing.{changed_same, settled_same}
 use Rattle.sp_system.proofs.Solutions.{Under, TimeUnder}
 use Rattle.sp_step.specs.Rows.{happening_actions, instantiate}
@@ -77,10 +77,6 @@ module _ (theory : Theory) (v : Valuation) (sorts : IsValuation (signature_of th
   sides_fine (before i j) = tt
   sides_fine (last i) = tt
 
-every_members : {A : Type 0} (P : A → Type 0) (xs : List A) → ((x : A) → Member x xs → P x) → Every P xs
-every_members P [] h = tt
-every_members P (x ∷ xs) h = (h x (inl refl), every_members P xs (λ y m. h y (inr m)))
-
 -- an entry of the log shows its actions at its position
 shown_at : (log : Log) (p : ℕ) (e : Entry) → AtPosition log p e → AtPosition (log_trace log) p (entry_actions e)
 shown_at [] p e a = absurd a
@@ -110,7 +106,7 @@ module _ (theory : Theory) (good : AreConvergent (signature_of theory).equations
           let step_of = entry_is_step theory log is (v.times e.time) r (facts_at v.terms facts) h.0 h.1 in
           let over = forms_over (facts_at step_of.3 step_of.0.facts).actions (facts_at v.terms facts).actions step_of.5.actions (rules_over step_of.0 step_of.1 step_of.3 step_of.4) in (
             position_below log (v.times e.time) _ h.1,
-            every_members (λ (b : Action Variable). AreFine theory v b.args) facts.actions (λ b k.
+            every_from (λ (b : Action Variable). AreFine theory v b.args) facts.actions (λ b k.
                 let k' = member_map (action_at v.terms) b facts.actions k in (
                   every_member (λ (a : Action ⊥). AreOver (signature_of theory).symbols a.args) (facts_at v.terms facts).actions (action_at v.terms b) k' over,
                   step_action_normal theory r (facts_at v.terms facts) step_of (action_at v.terms b) k',

@@ -7,14 +7,15 @@ use Rattle.sp_spec.specs.Term.{Variable}
 use Rattle.sp_spec.specs.Rule.{Fact, Facts, fact_at, facts_at}
 use Rattle.sp_spec.specs.Theory.{Theory}
 use Rattle.sp_spec.specs.Log.{Log, step, Source, conclusion, IsLog}
-use Rattle.sp_spec.proofs.Lists.{every_member, place_map, position_one}
+use Rattle.sp_spec.proofs.Lists.{every_member, place_map, position_one, place_got}
 use Rattle.sp_system.specs.System.{Happening, rule_step, Event, Link, System, Valuation, happening_premises, LinkHolds, HappensAt, HappensIn, Solves, IsNumbered, Covers}
 use Rattle.sp_system.specs.Laws.{UnifierIsRight}
 use Rattle.sp_system.specs.Equating.{same_source, same_premise}
-use Rattle.sp_step.specs.Rows.{event_at, premise_at, is_linear, one_taken, takers_apart, givers_apart, or_else, first_with, first_two, takers, givers, times_of_links, made_one, linear_once, some_with, some_two, cannot_link, fails_to_link, used_twice}
-use Rattle.sp_step.proofs.Freed.{mapped, then_some}
+use Rattle.sp_step.specs.Rows.{event_at, premise_at, is_linear, one_taken, takers_apart, givers_apart, first_with, first_two, takers, givers, times_of_links, made_one, linear_once, some_with, some_two, cannot_link, fails_to_link, used_twice}
+use Rattle.std.specs.Option.{option_or}
+use Rattle.sp_spec.proofs.Options.{mapped, then_some}
 use Rattle.sp_step.proofs.Literals.{covers_by_itself}
-use Rattle.sp_step.proofs.Sources.{place_got, one_source, source_once}
+use Rattle.sp_step.proofs.Sources.{one_source, source_once}
 use Rattle.sp_step.proofs.Twins.{SolvedBy, NumberedFrom}
 use Rattle.sp_step.proofs.Equations.{times_solved, times_numbered, not_none}
 use Rattle.sp_step.proofs.ActionCovers.{event_found}
@@ -36,7 +37,7 @@ module _ (test : Link → Link → Bool) (P : Link → Type 0) where
   two_found [] p e h = absurd cc
   two_found (l ∷ ls) p e h = at (first_with test l ls) refl e (λ d. two_found ls p d h.1)
     where
-      at : (o : Option (Link × Link)) → first_with test l ls ≡ o → or_else o (first_two test ls) ≡ Some p → (first_two test ls ≡ Some p → AreTwo p) → AreTwo p
+      at : (o : Option (Link × Link)) → first_with test l ls ≡ o → option_or o (first_two test ls) ≡ Some p → (first_two test ls ≡ Some p → AreTwo p) → AreTwo p
       at (Some q) c d later = let g : q ≡ p = cc in subst AreTwo g (with_found l ls q c h.0 h.1)
       at None c d later = later d
 
@@ -54,7 +55,7 @@ times_found : (P : Link → Type 0) (X : ℕ × ℕ → Type 0) (events : List E
     → ((l m : Link) → takers_apart events l m ≡ true → P l → P m → X (l.to, m.to)) → ((l m : Link) → givers_apart l m ≡ true → P l → P m → X (l.from, m.from)) → X p
 times_found P X events links p e h taken given = at (first_two (takers_apart events) links) refl e
   where
-    at : (o : Option (Link × Link)) → first_two (takers_apart events) links ≡ o → or_else (option_map takers o) (option_map givers (first_two givers_apart links)) ≡ Some p → X p
+    at : (o : Option (Link × Link)) → first_two (takers_apart events) links ≡ o → option_or (option_map takers o) (option_map givers (first_two givers_apart links)) ≡ Some p → X p
     at (Some q) c d =
         let two = two_found (takers_apart events) P links q c h in
         let g : takers q ≡ p = cc in

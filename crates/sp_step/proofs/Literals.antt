@@ -2,7 +2,7 @@
 use Rattle.std.proofs.Common.{◌≡◌, ◌≤◌, ℕ, true, List, [], ◌∷◌, Option, Some, None, option_map, sym, ap, ◌∙◌, subst, ⊎_elim, le_refl}
 use Rattle.std.proofs.lemmas.Bool.{or_cases}
 use Rattle.sp_spec.specs.Lists.{Every}
-use Rattle.sp_spec.specs.Term.{Variable, Term, Ground, valued}
+use Rattle.sp_spec.specs.Term.{Variable, Term, Ground, valued, EachVariable}
 use Rattle.sp_spec.specs.Equal.{Equal, end, IsNormal}
 use Rattle.sp_spec.specs.Theory.{Theory, signature_of}
 use Rattle.sp_spec.specs.Guarded.{Place, acts, same, same_time, before, last, Guarded, truth, falsity, holds, fails, all_of, one_of, some, every, term_in}
@@ -10,12 +10,13 @@ use Rattle.sp_spec.specs.Log.{Log, IsLog}
 use Rattle.sp_spec.specs.Same.{alike}
 use Rattle.sp_spec.specs.Substitution.{Binding}
 use Rattle.sp_spec.specs.Unifier.{Pair, mgu}
-use Rattle.sp_law_equal.proofs.Tests.{same_by_decides, same_variable_decides}
-use Rattle.sp_system.specs.System.{System, Valuation, assignment, FormulaHolds, AreUnequal, Solves, EachVariable, InFormula, IsNumbered, Covers}
+use Rattle.sp_spec.proofs.Same.{same_by_decides, same_variable_decides}
+use Rattle.sp_system.specs.System.{System, Valuation, assignment, FormulaHolds, AreUnequal, Solves, InFormula, IsNumbered, Covers}
 use Rattle.sp_spec.proofs.Lists.{every_append}
 use Rattle.sp_system.proofs.Solutions.{Under, TimeUnder, agrees_itself}
 use Rattle.sp_step.specs.Rows.{first_formula, spending, pair_of, inequality_of, kept_unequal, unequal_at, unequal, standing_of, action_stands, freed, has_equal_pair}
-use Rattle.sp_step.proofs.Freed.{mapped, then_some, freed_value, freed_in}
+use Rattle.sp_step.proofs.Freed.{freed_value, freed_in}
+use Rattle.sp_spec.proofs.Options.{mapped, then_some}
 use Rattle.sp_step.proofs.Spending.{is_found, found_holds, spending_solves, spending_numbered}
 
 -- one case that the same values solve

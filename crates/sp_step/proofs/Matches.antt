@@ -7,9 +7,10 @@ use Rattle.sp_spec.specs.Term.{Variable, Term, var, constant, name, app, Terms, 
 use Rattle.sp_spec.specs.Rule.{Action, action_at}
 use Rattle.sp_spec.specs.Guarded.{Place, free, bound, Time, free_time, bound_time, Assignment, place_in, term_in, time_in, action_in}
 use Rattle.sp_spec.specs.Same.{alike}
-use Rattle.sp_step.specs.Rows.{or_else, first_some}
+use Rattle.sp_step.specs.Rows.{first_some}
+use Rattle.std.specs.Option.{option_or}
 use Rattle.sp_step.specs.Instances.{Slot, Slots, matched, matched_all, matched_time, both_slots, matched_action}
-use Rattle.sp_step.proofs.Freed.{then_some}
+use Rattle.sp_spec.proofs.Options.{then_some}
 use Rattle.sp_step.proofs.Literals.{alike_same}
 use Rattle.sp_step.proofs.Slots.{if_some, some_same, Fits, TimesFit, Grown, grown_same, grown_twice, term_given, TimesGrown, times_grown_same, time_given}
 
@@ -106,7 +107,7 @@ pub some_picked : {A B : Type 0} (pick : A → Option B) (xs : List A) (y : B) �
 some_picked pick [] y e = absurd cc
 some_picked {A} {B} pick (x ∷ xs) y e = at (pick x) refl e (λ k. some_picked pick xs y k)
   where
-    at : (o : Option B) → pick x ≡ o → or_else o (first_some pick xs) ≡ Some y → (first_some pick xs ≡ Some y → (z : A) × Member z xs × (pick z ≡ Some y))
+    at : (o : Option B) → pick x ≡ o → option_or o (first_some pick xs) ≡ Some y → (first_some pick xs ≡ Some y → (z : A) × Member z xs × (pick z ≡ Some y))
         → (z : A) × Member z (x ∷ xs) × (pick z ≡ Some y)
     at (Some b) h k later = (x, inl refl, h ∙ k)
     at None h k later = let r = later k in (r.0, inr r.1, r.2)

@@ -1,7 +1,7 @@
 -- Each move covers, with its cases simplified.
 use Rattle.std.proofs.Common.{◌≡◌, ◌≤◌, ◌<◌, ◌+◌, ℕ, Bool, true, false, if◌then◌else◌, List, [], ◌∷◌, map, length, Option, Some, None, option_map, is_some, refl, sym, subst, arith, le_refl, le_trans, slice_get}
 use Rattle.sp_spec.specs.Lists.{Every}
-use Rattle.sp_spec.specs.Term.{Variable}
+use Rattle.sp_spec.specs.Term.{Variable, EachVariables}
 use Rattle.sp_spec.specs.Rule.{Action, Rule}
 use Rattle.sp_spec.specs.Equal.{AreNormal}
 use Rattle.sp_spec.specs.Theory.{Theory, signature_of}
@@ -10,7 +10,7 @@ use Rattle.sp_spec.specs.Guarded.{Place, Guarded, truth, falsity, holds, fails, 
 use Rattle.sp_spec.specs.Log.{Log, IsLog, log_trace}
 use Rattle.sp_spec.specs.Substitution.{Binding, bound_to}
 use Rattle.sp_law_equal.specs.Convergent.{AreConvergent, KeepSymbols}
-use Rattle.sp_system.specs.System.{Happening, rule_step, Event, System, Valuation, assignment, FormulaHolds, Solves, EachVariables, InEvent, InHappening, InFormula, IsNumbered, NoneSolved, Covers}
+use Rattle.sp_system.specs.System.{Happening, rule_step, Event, System, Valuation, assignment, FormulaHolds, Solves, InEvent, InHappening, InFormula, IsNumbered, NoneSolved, Covers}
 use Rattle.sp_system.specs.Laws.{UnifierIsRight}
 use Rattle.sp_system.specs.Equating.{action_pair, unifier_of, system_changed}
 use Rattle.sp_spec.proofs.Lists.{every_append, every_parts, every_member, every_at}
@@ -20,7 +20,8 @@ use Rattle.sp_system.proofs.Solutions.{Under, TimeUnder, agrees_then, change_num
 use Rattle.sp_step.specs.Rows.{freed_action, event_at, happening_actions, rows, by_rows, is_contradictory}
 use Rattle.sp_step.specs.Moves.{Move, simplify, contradiction, unproved, solved, or, action, premise, Context, Case, where_same, renamed, with_step, system_if, by_actions, named, by_each, action_cases, open_premise, premise_cases, action_at_time, is_adversary, solving_action, raw_cases, simple_case}
 use Rattle.sp_step.specs.Laws.{ActionsAreOver, RulesAreNumbered, RulesArePlain, IsClosedRule, systems_of, MovesCover}
-use Rattle.sp_step.proofs.Freed.{mapped, freed_action_in}
+use Rattle.sp_step.proofs.Freed.{freed_action_in}
+use Rattle.sp_spec.proofs.Options.{mapped}
 use Rattle.sp_step.proofs.Twins.{unifier_within, Later}
 use Rattle.sp_step.proofs.Opened.{EqualTruth}
 use Rattle.sp_step.proofs.Parts.{or_covers, or_numbered}

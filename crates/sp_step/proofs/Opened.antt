@@ -19,7 +19,7 @@ use Rattle.sp_spec.proofs.Lists.{every_append}
 use Rattle.sp_system.proofs.Changing.{Reads, changed_same, settled_same, atoms_same, atoms_settled}
 use Rattle.sp_system.proofs.Solutions.{Under, TimeUnder, agrees_itself, agrees_then, agree_solves}
 use Rattle.sp_step.specs.Rows.{first_formula, existential_of, opened_at, open_existential}
-use Rattle.sp_step.proofs.Freed.{mapped}
+use Rattle.sp_spec.proofs.Options.{mapped}
 use Rattle.sp_step.proofs.Spending.{is_found, found_holds, spending_solves}
 use Rattle.sp_step.proofs.Entries.{length_trace}
 use Rattle.sp_step.proofs.OpenedNumbers.{found_formula}

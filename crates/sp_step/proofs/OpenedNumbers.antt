@@ -1,16 +1,16 @@
 -- Opening an existential formula takes new numbers alone.
 use Rattle.std.proofs.Common.{◌≡◌, ◌≤◌, ◌<◌, ◌+◌, ℕ, zero, suc, List, [], ◌∷◌, ◌++◌, map, length, Some, refl, sym, ap, subst, arith, lt_of_lt_of_le}
 use Rattle.sp_spec.specs.Lists.{Every}
-use Rattle.sp_spec.specs.Term.{Variable, var}
+use Rattle.sp_spec.specs.Term.{Variable, var, EachVariable}
 use Rattle.sp_spec.specs.Guarded.{free, free_time, Binder, message, time, Atom, Guarded, truth, falsity, holds, fails, all_of, one_of, some, every, pushed}
 use Rattle.sp_spec.specs.Unifier.{Pair}
 use Rattle.sp_formula.specs.Change.{Change, atom_changed, changed, opened, opening, free_change}
-use Rattle.sp_system.specs.System.{Link, System, EachVariable, AtFree, AtFreeTime, InAtom, InFormula, InEvent, IsNumbered}
+use Rattle.sp_system.specs.System.{Link, System, AtFree, AtFreeTime, InAtom, InFormula, InEvent, IsNumbered}
 use Rattle.sp_spec.proofs.Lists.{every_append, every_map, every_weaken}
 use Rattle.sp_system.proofs.Numbers.{PutsIn, atom_changed_in, changed_in, formula_weaken, event_weaken, each_weaken}
 use Rattle.sp_system.proofs.Solutions.{Under, TimeUnder}
 use Rattle.sp_step.specs.Rows.{first_formula, Existential, existential_of, opened_at, open_existential}
-use Rattle.sp_step.proofs.Freed.{mapped}
+use Rattle.sp_spec.proofs.Options.{mapped}
 use Rattle.sp_step.proofs.Opening.{more_place, more_time}
 use Rattle.sp_step.proofs.Spending.{is_found, found_holds, spending_numbered}
 

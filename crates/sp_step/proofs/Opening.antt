@@ -1,15 +1,15 @@
 -- Opening an existential formula covers: its variables get the values that make it true, in normal form.
 use Rattle.std.proofs.Common.{◌≡◌, ◌≤◌, ◌<◌, ℕ, zero, suc, Bool, true, false, ◌==◌, if◌then◌else◌, refl, sym, ap, ◌∙◌, subst, arith, lt_of_lt_of_le, nat_eq}
 use Rattle.std.proofs.lemmas.Bool.{eqb-true, eq-eqb}
-use Rattle.sp_spec.specs.Term.{Sort, Variable, Term, var, Ground}
+use Rattle.sp_spec.specs.Term.{Sort, Variable, Term, var, Ground, EachVariable}
 use Rattle.sp_spec.specs.Signature.{IsValue, IsValuation}
 use Rattle.sp_spec.specs.Equal.{IsNormal}
 use Rattle.sp_spec.specs.Theory.{Theory, signature_of}
 use Rattle.sp_spec.specs.Guarded.{Place, free, bound, Time, free_time, bound_time, Assignment, with_term, with_time, pushed, place_in, term_in, time_in}
 use Rattle.sp_spec.specs.Same.{same_variable}
-use Rattle.sp_law_equal.proofs.Tests.{same_variable_decides}
+use Rattle.sp_spec.proofs.Same.{same_variable_decides}
 use Rattle.sp_formula.specs.Change.{Change}
-use Rattle.sp_system.specs.System.{Valuation, assignment, EachVariable, AtFree, AtFreeTime, Agrees}
+use Rattle.sp_system.specs.System.{Valuation, assignment, AtFree, AtFreeTime, Agrees}
 use Rattle.sp_system.proofs.Facts.{valued_same}
 use Rattle.sp_system.proofs.Numbers.{each_weaken}
 use Rattle.sp_system.proofs.Solutions.{Under, TimeUnder}

@@ -11,7 +11,7 @@ use Rattle.sp_system.specs.System.{System, Valuation, FormulaHolds, IsBefore, So
 use Rattle.sp_system.proofs.Solutions.{Under, TimeUnder}
 use Rattle.sp_system.specs.Order.{some_pair, path_within, is_before, begins_cycle, is_cyclic}
 use Rattle.sp_step.specs.Rows.{first_formula, nothing_if, order_of, ordered_at, in_order, is_refuted, has_refuted}
-use Rattle.sp_step.proofs.Freed.{mapped}
+use Rattle.sp_spec.proofs.Options.{mapped}
 use Rattle.sp_step.proofs.Literals.{covers_by_itself}
 use Rattle.sp_step.proofs.Spending.{is_found, found_holds, spending_solves, spending_numbered}
 

@@ -9,7 +9,7 @@ use Rattle.sp_system.proofs.Solutions.{Under, TimeUnder, agrees_itself}
 use Rattle.sp_step.specs.Rows.{Found, behind}
 use Rattle.sp_step.specs.Moves.{Case, by_part, disjunction_at, or_cases}
 use Rattle.sp_step.specs.Laws.{systems_of}
-use Rattle.sp_step.proofs.Freed.{mapped}
+use Rattle.sp_spec.proofs.Options.{mapped}
 use Rattle.sp_step.proofs.Twins.{Later}
 use Rattle.sp_step.proofs.Spending.{IsFound, found_holds, spending_solves, spending_numbered}
 

@@ -4,7 +4,7 @@ use Rattle.std.proofs.lemmas.Bool.{eqb-true}
 use Rattle.sp_spec.specs.Term.{Sort, Variable, Term, Ground, Values, valued}
 use Rattle.sp_spec.specs.Same.{alike}
 use Rattle.sp_step.specs.Instances.{Slot, is_of_sort, value_or, put_term, with_position, put_time}
-use Rattle.sp_step.proofs.Freed.{mapped}
+use Rattle.sp_spec.proofs.Options.{mapped}
 use Rattle.sp_step.proofs.Literals.{alike_same}
 
 -- what is there under a test

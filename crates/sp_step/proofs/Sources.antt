@@ -1,16 +1,10 @@
 -- The sources that the premises of a log's entries name: each is there, it came earlier, and a linear one is named once.
-use Rattle.std.proofs.Common.{◌≡◌, ◌<◌, ℕ, zero, suc, Bool, true, false, if◌then◌else◌, List, [], ◌∷◌, ◌++◌, map, length, refl, sym, ap, ◌∙◌, subst, inl, inr, slice_get, Some}
+use Rattle.std.proofs.Common.{◌≡◌, ◌<◌, ℕ, zero, suc, Bool, true, false, if◌then◌else◌, List, [], ◌∷◌, ◌++◌, map, length, refl, sym, ap, ◌∙◌, subst, inl, inr}
 use Rattle.sp_spec.specs.Lists.{Member, Every, Distinct, AtPlace, AtPosition}
 use Rattle.sp_spec.specs.Rule.{Fact, Facts}
 use Rattle.sp_spec.specs.Theory.{Theory}
 use Rattle.sp_spec.specs.Log.{Log, Entry, step, send, learn, Source, fresh_rule, conclusion, is_fr, linear_sources, sources_of, all_sources, Concludes, HasSources, IsLog, Fits}
-use Rattle.sp_spec.proofs.Lists.{member_left, member_right, distinct_right, distinct_apart, position_below, position_one}
-
--- what a list gives at a place stands there
-pub place_got : {A : Type 0} (xs : List A) (k : ℕ) (x : A) → slice_get xs k ≡ Some x → AtPlace xs k x
-place_got [] k x h = absurd cc
-place_got (y ∷ xs) zero x h = let g : y ≡ x = cc in g
-place_got (y ∷ xs) (suc k) x h = place_got xs k x h
+use Rattle.sp_spec.proofs.Lists.{member_left, member_right, distinct_right, distinct_apart, position_below, position_one, distinct_left}
 
 -- an element of a mapped list at a place comes from that of the list
 pub place_mapped : {A B : Type 0} (f : A → B) (xs : List A) (k : ℕ) (y : B) → AtPlace (map f xs) k y → (x : A) × AtPlace xs k x × (f x ≡ y)
@@ -33,10 +27,6 @@ place_one (z ∷ xs) (suc k) x y a b = place_one xs k x y a b
 -- a premise has one source
 pub one_source : (sources : List Source) (a p k q l : ℕ) → AtPlace sources a (conclusion p k) → AtPlace sources a (conclusion q l) → (p ≡ q) × (k ≡ l)
 one_source sources a p k q l x y = let e : conclusion p k ≡ conclusion q l = place_one sources a (conclusion p k) (conclusion q l) x y in (cc, cc)
-
-pub distinct_left : {A : Type 0} (xs ys : List A) → Distinct (xs ++ ys) → Distinct xs
-distinct_left [] ys d = tt
-distinct_left (x ∷ xs) ys d = ((λ m. d.0 (member_left x xs ys m)), distinct_left xs ys d.1)
 
 concludes_one : (e : Entry) (k : ℕ) (f g : Fact ⊥) → Concludes e k f → Concludes e k g → f ≡ g
 concludes_one (step r facts sources) k f g a b = place_one facts.conclusions k f g a b

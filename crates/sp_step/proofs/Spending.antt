@@ -8,7 +8,7 @@ use Rattle.sp_system.specs.System.{System, Valuation, FormulaHolds, Solves, InFo
 use Rattle.sp_spec.proofs.Lists.{every_append, every_parts}
 use Rattle.sp_system.proofs.Solutions.{Under, TimeUnder}
 use Rattle.sp_step.specs.Rows.{Found, behind, found_at, first_formula, spending}
-use Rattle.sp_step.proofs.Freed.{mapped}
+use Rattle.sp_spec.proofs.Options.{mapped}
 
 pub record IsFound {A : Type 0} (pick : Guarded → Option A) (fs : List Guarded) (r : Found A) : Type 0 where
   pub parts : fs ≡ r.front ++ r.formula ∷ r.back

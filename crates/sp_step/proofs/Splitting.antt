@@ -9,7 +9,7 @@ use Rattle.sp_spec.specs.Log.{Log, log_trace}
 use Rattle.sp_system.specs.System.{System, Valuation, assignment, FormulaHolds, EachSettled, Solves, InFormula, InEach, IsNumbered, Covers}
 use Rattle.sp_system.proofs.Solutions.{Under, TimeUnder}
 use Rattle.sp_step.specs.Rows.{first_formula, spending, parts_of, split_of, split, is_falsity, has_falsity}
-use Rattle.sp_step.proofs.Freed.{mapped}
+use Rattle.sp_spec.proofs.Options.{mapped}
 use Rattle.sp_step.proofs.Literals.{covers_by_itself}
 use Rattle.sp_step.proofs.Spending.{is_found, found_holds, spending_solves, spending_numbered}
 

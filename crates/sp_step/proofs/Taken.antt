@@ -1,17 +1,17 @@
 -- What the row on universal formulas took: slots with values, and the body's instance at these. It takes no new numbers.
 use Rattle.std.proofs.Common.{◌≡◌, ◌≤◌, ℕ, zero, suc, Bool, true, false, if◌then◌else◌, ◌||◌, List, [], ◌∷◌, length, Option, Some, None, refl, sym, ◌∙◌, subst, le_refl}
 use Rattle.sp_spec.specs.Lists.{Member, Every}
-use Rattle.sp_spec.specs.Term.{Variable, Term, var, constant, name, app, Terms}
+use Rattle.sp_spec.specs.Term.{Variable, Term, var, constant, name, app, Terms, EachVariable, EachVariables}
 use Rattle.sp_spec.specs.Rule.{Action}
 use Rattle.sp_spec.specs.Guarded.{Place, free, bound, bound_time, Binder, message, time, Atom, acts, same, same_time, before, last, Guarded, truth, falsity, holds, fails, all_of, one_of, some, every, Assignment}
 use Rattle.sp_formula.specs.Change.{changed}
-use Rattle.sp_system.specs.System.{Happening, rule_step, Event, System, EachVariable, EachVariables, AtFree, AtFreeTime, InAtom, InFormula, InHappening, InEvent, IsNumbered}
+use Rattle.sp_system.specs.System.{Happening, rule_step, Event, System, AtFree, AtFreeTime, InAtom, InFormula, InHappening, InEvent, IsNumbered}
 use Rattle.sp_spec.proofs.Lists.{every_append, every_member, every_weaken}
 use Rattle.sp_system.proofs.Numbers.{each_valued, PutsIn, changed_in}
 use Rattle.sp_system.proofs.Solutions.{Under, TimeUnder}
 use Rattle.sp_step.specs.Rows.{first_some, happening_actions, is_a_formula, if_new, new_instance, with_formula, instantiate}
 use Rattle.sp_step.specs.Instances.{Slot, Slots, empty_slots, side_value, by_equalities, are_settled, all_terms, all_times, filled, placed_each, free_each, instance, body_with, instance_by}
-use Rattle.sp_step.proofs.Freed.{mapped, then_some}
+use Rattle.sp_spec.proofs.Options.{mapped, then_some}
 use Rattle.sp_step.proofs.Slots.{if_some, some_same, slot_sorts, Fits, TimesFit, AreGood, AreGoodTimes}
 use Rattle.sp_step.proofs.Matches.{Inherited, some_picked}
 use Rattle.sp_step.proofs.Guards.{HasGoodSides, value_at_good, equalities_given, StandsIn, IsGoodEvent, is_found}

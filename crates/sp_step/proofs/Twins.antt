@@ -2,7 +2,7 @@
 use Rattle.std.proofs.Common.{◌≡◌, ◌≤◌, ◌<◌, ℕ, Bool, true, false, if◌then◌else◌, List, [], ◌∷◌, Option, Some, None, option_map, option_and_then, refl, sym, ap, ◌∙◌, subst, le_refl, nat_lt, nat_eq}
 use Rattle.std.proofs.lemmas.Bool.{eqb-true}
 use Rattle.sp_spec.specs.Lists.{Every, AtPosition}
-use Rattle.sp_spec.specs.Term.{Variable, Values}
+use Rattle.sp_spec.specs.Term.{Variable, Values, EachVariable}
 use Rattle.sp_spec.specs.Signature.{RespectsSorts}
 use Rattle.sp_spec.specs.Rule.{facts_at}
 use Rattle.sp_spec.specs.Theory.{Theory}
@@ -10,13 +10,13 @@ use Rattle.sp_spec.specs.Substitution.{Binding, bound_to}
 use Rattle.sp_spec.specs.Unifier.{Pair, mgu}
 use Rattle.sp_spec.specs.Log.{Log, step}
 use Rattle.sp_spec.proofs.Lists.{position_one}
-use Rattle.sp_system.specs.System.{Happening, rule_step, Event, System, Valuation, HappensAt, HappensIn, Solves, EachVariable, InHappening, InEvent, IsNumbered}
+use Rattle.sp_system.specs.System.{Happening, rule_step, Event, System, Valuation, HappensAt, HappensIn, Solves, InHappening, InEvent, IsNumbered}
 use Rattle.sp_system.specs.Laws.{UnifierIsRight}
 use Rattle.sp_system.specs.Equating.{time_replaced, merging_pairs, unifier_of, smaller, larger, merged_system}
 use Rattle.sp_system.proofs.Merging.{Paired, merging_paired, OptionUnder, merging_under}
 use Rattle.sp_system.proofs.Solutions.{Under, TimeUnder, change_solves, change_numbered}
 use Rattle.sp_step.specs.Rows.{Twins, twin_behind, twin_by, twins_from, twins_by, merged_twins}
-use Rattle.sp_step.proofs.Freed.{mapped}
+use Rattle.sp_spec.proofs.Options.{mapped}
 
 -- what a list of events gives as twins
 pub record AreTwins (are_one : Event → Event → Bool) (P : Event → Type 0) (r : Twins) : Type 0 where

@@ -3,11 +3,11 @@ use Rattle.std.specs.Prelude.{◌≡◌, ◌<◌, ◌≤◌, ◌⊎◌, false, L
 use Rattle.sp_spec.specs.Lists.{Member, Every}
 use Rattle.sp_spec.specs.Term.{Fresh, Pub, Variable, Term, var, constant, name, app, Terms, none, more, Values}
 use Rattle.sp_spec.specs.Signature.{Equation, AreOver, IsValuation}
-use Rattle.sp_spec.specs.Rule.{Fact, Action, Facts, Rule, facts_at}
+use Rattle.sp_spec.specs.Rule.{Fact, Action, Facts, Rule, facts_at, InFacts}
 use Rattle.sp_spec.specs.Theory.{Theory, signature_of}
 use Rattle.sp_spec.specs.Log.{Log, IsLog, is_fr}
 use Rattle.sp_law_equal.specs.Convergent.{AreConvergent, KeepSymbols, ArePlain}
-use Rattle.sp_system.specs.System.{System, Valuation, Solves, InFacts, IsNumbered, Covers}
+use Rattle.sp_system.specs.System.{System, Valuation, Solves, IsNumbered, Covers}
 use Rattle.sp_step.specs.Rows.{Row, by_row, is_contradictory}
 use Rattle.sp_step.specs.Moves.{Move, is_in, unproved, solved, Context, Case, cases}
 

@@ -2,6 +2,7 @@
 -- The elementary moves are in the order in which they are tried; each is done at its lowest position.
 use Rattle.std.specs.Prelude.{ℕ, zero, suc, ◌+◌, ◌==◌, ◌&&◌, ◌||◌, not, Bool, true, false, if◌then◌else◌, List, [], ◌∷◌, ◌++◌, map, length, slice_get, Option, Some, None, option_map, option_and_then, is_none}
 use Rattle.std.specs.Str.{bytes_eq}
+use Rattle.std.specs.Option.{option_or}
 use Rattle.sp_spec.specs.Term.{Variable, Term, var, constant, name, app, Terms, none, more}
 use Rattle.sp_spec.specs.Rule.{Fact, Action}
 use Rattle.sp_spec.specs.Guarded.{Place, free, bound, free_time, Binder, Atom, acts, same, same_time, before, Guarded, truth, falsity, holds, fails, all_of, one_of, some, every, Guardeds, no_more, and_then}
@@ -265,17 +266,13 @@ abbrev pub givers_apart : Link → Link → Bool
 givers_apart l m = same_premise l m && not (l.from == m.from)
 
 -- the first two, in the order of the list
-abbrev pub or_else : {A : Type 0} → Option A → Option A → Option A
-or_else (Some a) later = Some a
-or_else None later = later
-
 abbrev pub first_with : (Link → Link → Bool) → Link → List Link → Option (Link × Link)
 first_with test l [] = None
 first_with test l (m ∷ ms) = if test l m then Some (l, m) else first_with test l ms
 
 abbrev pub first_two : (Link → Link → Bool) → List Link → Option (Link × Link)
 first_two test [] = None
-first_two test (l ∷ ls) = or_else (first_with test l ls) (first_two test ls)
+first_two test (l ∷ ls) = option_or (first_with test l ls) (first_two test ls)
 
 abbrev pub takers : Link × Link → ℕ × ℕ
 takers p = (p.0.to, p.1.to)
@@ -284,7 +281,7 @@ abbrev pub givers : Link × Link → ℕ × ℕ
 givers p = (p.0.from, p.1.from)
 
 abbrev pub times_of_links : List Event → List Link → Option (ℕ × ℕ)
-times_of_links events links = or_else (option_map takers (first_two (takers_apart events) links)) (option_map givers (first_two givers_apart links))
+times_of_links events links = option_or (option_map takers (first_two (takers_apart events) links)) (option_map givers (first_two givers_apart links))
 
 -- the system in which these times are one
 abbrev pub made_one : System → ℕ × ℕ → Option System
@@ -358,7 +355,7 @@ if_any (p ∷ pairs) = Some (p ∷ pairs)
 
 abbrev pub first_some : {A B : Type 0} → (A → Option B) → List A → Option B
 first_some pick [] = None
-first_some pick (x ∷ xs) = or_else (pick x) (first_some pick xs)
+first_some pick (x ∷ xs) = option_or (pick x) (first_some pick xs)
 
 abbrev pub missing_behind : System → Event → Option (List (ℕ × ℕ))
 missing_behind s e = first_some (λ t. if_any (missing_pairs s.order e.time t s.events)) (happening_fresh e.happening)

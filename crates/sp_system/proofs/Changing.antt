@@ -2,7 +2,7 @@
 use Rattle.std.proofs.Common.{◌≡◌, ◌⊎◌, ◌<◌, ℕ, zero, suc, List, [], ◌∷◌, map, length, refl, sym, ap, ap₂, ◌∙◌}
 use mathlib.Core.Path.{fun_ext}
 use Rattle.sp_spec.specs.Lists.{Every, Classically}
-use Rattle.sp_spec.specs.Term.{Variable, Term, var, constant, name, app, Terms, none, more, Ground, Grounds, valued, valued_all}
+use Rattle.sp_spec.specs.Term.{Variable, Term, var, constant, name, app, Terms, none, more, Ground, Grounds, valued, valued_all, EachVariable, EachVariables}
 use Rattle.sp_spec.specs.Signature.{Signature, IsValue}
 use Rattle.sp_spec.specs.Equal.{Equal, IsNormal, AreNormal}
 use Rattle.sp_spec.specs.Rule.{Action, action_at}
@@ -10,7 +10,7 @@ use Rattle.sp_spec.specs.Execution.{Trace}
 use Rattle.sp_spec.specs.Truth.{Acts}
 use Rattle.sp_spec.specs.Guarded.{Place, free, bound, Time, free_time, bound_time, Binder, message, time, Atom, acts, same, same_time, before, last, Guarded, truth, falsity, holds, fails, all_of, one_of, some, every, Guardeds, no_more, and_then, Assignment, with_term, with_time, place_in, term_in, action_in, time_in, pushed, AtomHolds, AtomsHold, SomeValues, EachValues, GuardedHolds, EachHolds, SomeHolds}
 use Rattle.sp_formula.specs.Change.{Change, placed, place_changed, time_changed, raised_place, raised, raised_time, under_message, under_time, under, atom_changed, changed, changed_each}
-use Rattle.sp_system.specs.System.{EachVariable, EachVariables, AtFree, AtFreeTime, InAtom, InFormula, InEach, EachNormal, AtomSettled, Settled, EachSettled}
+use Rattle.sp_system.specs.System.{AtFree, AtFreeTime, InAtom, InFormula, InEach, EachNormal, AtomSettled, Settled, EachSettled}
 use Rattle.sp_formula.proofs.Values.{valued-valued}
 
 -- The second assignment reads as the first does what the change puts in: for what is bound, and for the system's variables and times

@@ -1,10 +1,9 @@
 -- Values of facts.
 use Rattle.std.proofs.Common.{◌≡◌, List, refl, ap, ap₂, sym, ◌∙◌}
-use Rattle.sp_spec.specs.Term.{Variable, Term, var, constant, name, app, Terms, none, more, Values, valued, valued_all}
-use Rattle.sp_spec.specs.Rule.{Fact, Action, Facts, fact_at, action_at, facts_at}
+use Rattle.sp_spec.specs.Term.{Variable, Term, var, constant, name, app, Terms, none, more, Values, valued, valued_all, EachVariable, EachVariables}
+use Rattle.sp_spec.specs.Rule.{Fact, Action, Facts, fact_at, action_at, facts_at, InFacts}
 use Rattle.sp_spec.specs.Substitution.{Binding, bound_to, Fixes}
 use Rattle.sp_spec.proofs.Lists.{every_weaken, every_all, map_each, map-map}
-use Rattle.sp_system.specs.System.{EachVariable, EachVariables, InFacts}
 use Rattle.sp_formula.proofs.Values.{valued-valued, valued_all-valued_all}
 
 mutual

@@ -3,10 +3,10 @@ use Rattle.std.proofs.Common.{◌≡◌, ℕ, Bool, true, false, ◌&&◌, if◌
 use Rattle.std.proofs.lemmas.Slice.Eq.{bytes_eq-Decides}
 use Rattle.std.specs.Str.{bytes_eq}
 use Rattle.sp_spec.specs.Lists.{Every}
-use Rattle.sp_spec.specs.Term.{Variable, Terms, none, more, Values, valued, valued_all}
-use Rattle.sp_spec.specs.Rule.{Fact, Action, Facts, fact_at, action_at, facts_at}
+use Rattle.sp_spec.specs.Term.{Variable, Terms, none, more, Values, valued, valued_all, EachVariables}
+use Rattle.sp_spec.specs.Rule.{Fact, Action, Facts, fact_at, action_at, facts_at, InFacts}
 use Rattle.sp_spec.specs.Unifier.{Pair, MakesSame}
-use Rattle.sp_system.specs.System.{Happening, rule_step, EachVariables, InFacts, InHappening}
+use Rattle.sp_system.specs.System.{Happening, rule_step, InHappening}
 use Rattle.sp_system.specs.Laws.{PairsUnder}
 use Rattle.sp_system.specs.Equating.{argument_pairs, same_flag, both_pairs, fact_pairs, action_pair, action_pairs, merging_pairs}
 use Rattle.sp_spec.proofs.Lists.{every_append}
@@ -50,7 +50,7 @@ argument_paired v n (more t ts) (more u us) a b e =
 same_text : (c d : List ℕ) → c ≡ d → bytes_eq c d ≡ true
 same_text c d e = (bytes_eq-Decides c d).1 e
 
-flag_same : (a b : Bool) → a ≡ b → same_flag a b ≡ true
+pub flag_same : (a b : Bool) → a ≡ b → same_flag a b ≡ true
 flag_same true b e = sym e
 flag_same false true e = absurd cc
 flag_same false false e = refl
@@ -112,7 +112,7 @@ one_more_under : (n : ℕ) (p : Pair) (o : Option (List Pair)) → PairsUnder n 
 one_more_under n p None h k = tt
 one_more_under n p (Some ps) h k = (h.0, k)
 
-argument_under : (n : ℕ) (ts us : Terms Variable) → EachVariables (Under n) ts → EachVariables (Under n) us → OptionUnder n (argument_pairs ts us)
+pub argument_under : (n : ℕ) (ts us : Terms Variable) → EachVariables (Under n) ts → EachVariables (Under n) us → OptionUnder n (argument_pairs ts us)
 argument_under n none none a b = tt
 argument_under n none (more u us) a b = tt
 argument_under n (more t ts) none a b = tt

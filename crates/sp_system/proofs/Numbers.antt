@@ -1,10 +1,10 @@
 -- Which variables and times stand in a formula, under weakening and change.
 use Rattle.std.proofs.Common.{ℕ, suc, zero, List, [], ◌∷◌}
-use Rattle.sp_spec.specs.Term.{Variable, Term, var, constant, name, app, Terms, none, more, valued, valued_all}
-use Rattle.sp_spec.specs.Rule.{Facts, fact_at, action_at, facts_at}
+use Rattle.sp_spec.specs.Term.{Variable, Term, var, constant, name, app, Terms, none, more, valued, valued_all, EachVariable, EachVariables}
+use Rattle.sp_spec.specs.Rule.{Facts, fact_at, action_at, facts_at, InFacts}
 use Rattle.sp_spec.specs.Guarded.{Place, free, bound, Time, free_time, bound_time, Binder, message, time, Atom, acts, same, same_time, before, last, Guarded, truth, falsity, holds, fails, all_of, one_of, some, every, Guardeds, no_more, and_then, pushed}
 use Rattle.sp_formula.specs.Change.{Change, placed, place_changed, time_changed, raised_place, raised, raised_time, under_message, under_time, under, atom_changed, changed, changed_each}
-use Rattle.sp_system.specs.System.{EachVariable, EachVariables, InFacts, AtFree, AtFreeTime, InAtom, InFormula, InEach, Happening, rule_step, InHappening, Event, InEvent}
+use Rattle.sp_system.specs.System.{AtFree, AtFreeTime, InAtom, InFormula, InEach, Happening, rule_step, InHappening, Event, InEvent}
 use Rattle.sp_spec.proofs.Lists.{every_map, every_weaken}
 
 -- what holds of each variable of a term after values are put in

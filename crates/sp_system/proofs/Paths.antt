@@ -1,20 +1,13 @@
 -- A time is known after so many rounds where a path of so many pairs begins at it, and where it is known a path begins at it.
 use Rattle.std.proofs.Common.{◌≡◌, ℕ, zero, suc, List, [], ◌∷◌, ◌++◌, length, ◌==◌, ◌||◌, ◌&&◌, not, if◌then◌else◌, Bool, true, false, ⊎_elim, inl, inr, refl, sym, ap, ◌∙◌, subst, append_assoc, append-nil, length-append, arith}
-use Rattle.std.proofs.lemmas.Bool.{or_cases, eqb-true, eq-eqb}
+use Rattle.std.proofs.lemmas.Bool.{or_cases, eqb-true, eq-eqb, or_right, or_left}
 use Rattle.sp_spec.specs.Lists.{Member}
 use Rattle.sp_system.specs.Order.{path_within, is_before}
 use Rattle.sp_system.specs.OrderView.{among, known_by, leads, next_round, rounds}
 use Rattle.sp_system.proofs.ShortPaths.{Pairs, Path, last_pair, then_path, some_pair_is, short}
+use Rattle.sp_spec.proofs.Bools.{same_tests}
 
 -- ---- what is known stays so
-
-or_left : (a b : Bool) → a ≡ true → (a || b) ≡ true
-or_left true b e = refl
-or_left false b e = absurd cc
-
-or_right : (a b : Bool) → b ≡ true → (a || b) ≡ true
-or_right true b e = refl
-or_right false b e = e
 
 among_put : (i k : ℕ) (ks : List ℕ) → among i (ks ++ k ∷ []) ≡ (among i ks || (k == i))
 among_put i k [] = at (k == i)
@@ -117,14 +110,9 @@ sound_rounds (suc n) order j ks sound = sound_rounds n order j (next_round order
 
 -- ---- both together
 
-both_ways : (a b : Bool) → (a ≡ true → b ≡ true) → (b ≡ true → a ≡ true) → a ≡ b
-both_ways true b f g = sym (f refl)
-both_ways false true f g = g refl
-both_ways false false f g = refl
-
 pub rounds-found : (order : Pairs) (i j : ℕ) → among i (rounds (length order) order j []) ≡ is_before order i j
 rounds-found order i j =
-    both_ways (among i (rounds (length order) order j [])) (is_before order i j)
+    same_tests (among i (rounds (length order) order j [])) (is_before order i j)
     (λ e. short (length order) order (omega arith) i j (sound_rounds (length order) order j [] (λ k s. absurd cc) i e))
     (λ e. ap (among i) (in_turn (length order) order j []) ∙ complete (length order) order i j e)
 

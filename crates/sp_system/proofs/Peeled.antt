@@ -1,10 +1,11 @@
 -- A pair that ends where none begins is on no cycle; and where each pair ends at the beginning of one, there is a cycle.
 use Rattle.std.proofs.Common.{◌≡◌, ◌≤◌, ◌+◌, ℕ, suc, Bool, true, false, ◌||◌, ◌==◌, if◌then◌else◌, [], ◌∷◌, ◌++◌, length, ◌⊎◌, ⊎_elim, inl, inr, refl, sym, ap, ◌∙◌, subst, append_assoc, append-nil, length-append, true≢false, arith}
-use Rattle.std.proofs.lemmas.Bool.{or_cases, eqb-true, eq-eqb}
+use Rattle.std.proofs.lemmas.Bool.{or_cases, eqb-true, eq-eqb, or_parts}
 use Rattle.sp_spec.specs.Lists.{Member, Every}
 use Rattle.sp_system.specs.Order.{is_before, begins_cycle, is_cyclic}
 use Rattle.sp_system.specs.OrderView.{begins_at, peeled}
 use Rattle.sp_system.proofs.ShortPaths.{Pairs, Path, last_pair, then_path, path_of, short, before_before, not_before_itself}
+use Rattle.sp_spec.proofs.Bools.{same_tests}
 
 -- ---- cycles as paths
 
@@ -23,11 +24,6 @@ is_cycle order i w = at (is_cyclic order) refl
     at true e = e
     at false e = absurd (true≢false (sym (is_path order i i w) ∙ not_before_itself order e i))
 
-both_ways : (a b : Bool) → (a ≡ true → b ≡ true) → (b ≡ true → a ≡ true) → a ≡ b
-both_ways true b f g = sym (f refl)
-both_ways false true f g = g refl
-both_ways false false f g = refl
-
 -- the pair with which a path begins
 first_of : (order : Pairs) (i j : ℕ) → Path order i j → (p : ℕ × ℕ) × Member p order × (p.0 ≡ i)
 first_of order i j (last_pair p m b e) = (p, m, b)
@@ -35,15 +31,11 @@ first_of order i j (then_path p m b w) = (p, m, b)
 
 -- ---- a pair that ends where none begins
 
-neither : (a b : Bool) → (a || b) ≡ false → (a ≡ false) × (b ≡ false)
-neither true b e = absurd cc
-neither false b e = (refl, e)
-
 none_begins : (i : ℕ) (pairs : Pairs) → begins_at i pairs ≡ false → (q : ℕ × ℕ) → Member q pairs → q.0 ≡ i → ⊥
 none_begins i [] e q m b = absurd m
 none_begins i (p ∷ pairs) e q (inl s) b =
-    true≢false (sym (eq-eqb p.0 i (ap (λ (r : ℕ × ℕ). r.0) s ∙ b)) ∙ (neither (p.0 == i) (begins_at i pairs) e).0)
-none_begins i (p ∷ pairs) e q (inr m) b = none_begins i pairs (neither (p.0 == i) (begins_at i pairs) e).1 q m b
+    true≢false (sym (eq-eqb p.0 i (ap (λ (r : ℕ × ℕ). r.0) s ∙ b)) ∙ (or_parts (p.0 == i) (begins_at i pairs) e).0)
+none_begins i (p ∷ pairs) e q (inr m) b = none_begins i pairs (or_parts (p.0 == i) (begins_at i pairs) e).1 q m b
 
 middle : (front : Pairs) (p : ℕ × ℕ) (back : Pairs) (q : ℕ × ℕ) → Member q (front ++ p ∷ back) → (p ≡ q) ⊎ Member q (front ++ back)
 middle [] p back q m = m
@@ -76,7 +68,7 @@ module _ (front : Pairs) (p : ℕ × ℕ) (back : Pairs) (none : (q : ℕ × ℕ
 
   left_out : is_cyclic (front ++ back) ≡ is_cyclic (front ++ p ∷ back)
   left_out =
-      both_ways (is_cyclic (front ++ back)) (is_cyclic (front ++ p ∷ back))
+      same_tests (is_cyclic (front ++ back)) (is_cyclic (front ++ p ∷ back))
       (λ e.
       let c = cycle_at (front ++ back) (front ++ back) e in
       is_cycle (front ++ p ∷ back) c.0 (more_path (front ++ back) (front ++ p ∷ back) (λ q m. was_there front p back q m) c.0 c.0 c.1))

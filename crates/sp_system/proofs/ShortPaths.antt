@@ -1,6 +1,6 @@
 -- Paths of order pairs: a path of any length has one that takes no pair twice, so times that are before each other are so in a row.
 use Rattle.std.proofs.Common.{◌≡◌, ◌⊎◌, ⊎_elim, ◌≤◌, ◌<◌, ℕ, zero, suc, Bool, true, false, ◌&&◌, ◌||◌, ◌==◌, nat_eq, if◌then◌else◌, List, [], ◌∷◌, length, inl, inr, refl, sym, ap, ap₂, ◌∙◌, subst, true≢false, arith}
-use Rattle.std.proofs.lemmas.Bool.{or_cases, and_parts, and_from, eqb-true, eq-eqb}
+use Rattle.std.proofs.lemmas.Bool.{or_cases, and_parts, and_from, eqb-true, eq-eqb, or_right, or_left, or_parts}
 use Rattle.sp_spec.specs.Lists.{Member}
 use Rattle.sp_system.specs.Order.{some_pair, path_within, is_before, begins_cycle, is_cyclic}
 
@@ -25,14 +25,6 @@ some_pair_is (p ∷ pairs) i leads e =
     (λ k. let both = and_parts (nat_eq p.0 i) (leads p.1) k in (p, inl refl, eqb-true p.0 i both.0, both.1))
     (λ k. let r = some_pair_is pairs i leads k in (r.0, inr r.1, r.2, r.3))
     (or_cases (nat_eq p.0 i && leads p.1) (some_pair pairs i leads) e)
-
-or_left : (a b : Bool) → a ≡ true → (a || b) ≡ true
-or_left true b e = refl
-or_left false b e = absurd cc
-
-or_right : (a b : Bool) → b ≡ true → (a || b) ≡ true
-or_right true b e = refl
-or_right false b e = e
 
 is_some_pair : (pairs : Pairs) (i : ℕ) (leads : ℕ → Bool) (p : ℕ × ℕ) → Member p pairs → p.0 ≡ i → leads p.1 ≡ true → some_pair pairs i leads ≡ true
 is_some_pair [] i leads p m b e = absurd m
@@ -156,14 +148,10 @@ short (suc n) order h i j w =
 pub before_before : (order : Pairs) (i j k : ℕ) → is_before order i j ≡ true → is_before order j k ≡ true → is_before order i k ≡ true
 before_before order i j k e f = short (length order) order (omega arith) i k (path_path order i j k (path_of (length order) order i j e) (path_of (length order) order j k f))
 
-neither : (a b : Bool) → (a || b) ≡ false → (a ≡ false) × (b ≡ false)
-neither true b e = absurd cc
-neither false b e = (refl, e)
-
 no_cycle_at : (order pairs : Pairs) → begins_cycle order pairs ≡ false → (p : ℕ × ℕ) → Member p pairs → is_before order p.0 p.0 ≡ false
 no_cycle_at order [] e p m = absurd m
-no_cycle_at order (q ∷ pairs) e p (inl s) = subst (λ (r : ℕ × ℕ). is_before order r.0 r.0 ≡ false) s (neither (is_before order q.0 q.0) (begins_cycle order pairs) e).0
-no_cycle_at order (q ∷ pairs) e p (inr m) = no_cycle_at order pairs (neither (is_before order q.0 q.0) (begins_cycle order pairs) e).1 p m
+no_cycle_at order (q ∷ pairs) e p (inl s) = subst (λ (r : ℕ × ℕ). is_before order r.0 r.0 ≡ false) s (or_parts (is_before order q.0 q.0) (begins_cycle order pairs) e).0
+no_cycle_at order (q ∷ pairs) e p (inr m) = no_cycle_at order pairs (or_parts (is_before order q.0 q.0) (begins_cycle order pairs) e).1 p m
 
 pub not_before_itself : (order : Pairs) → is_cyclic order ≡ false → (i : ℕ) → is_before order i i ≡ false
 not_before_itself order e i = at (is_before order i i) refl

@@ -1,7 +1,7 @@
 -- What keeps a solution: values that agree on the numbers of the system, and replacing that changes no value.
 use Rattle.std.proofs.Common.{◌≡◌, ◌≤◌, ◌<◌, ℕ, List, [], ◌∷◌, map, length, refl, sym, ◌∙◌, subst, lt_of_lt_of_le, Bool, true, false, if◌then◌else◌, ◌++◌}
 use Rattle.sp_spec.specs.Lists.{Every, AtPlace, AtPosition}
-use Rattle.sp_spec.specs.Term.{Variable, Term, valued}
+use Rattle.sp_spec.specs.Term.{Variable, Term, valued, EachVariable}
 use Rattle.sp_spec.specs.Signature.{IsValuation}
 use Rattle.sp_spec.specs.Equal.{IsNormal}
 use Rattle.sp_spec.specs.Rule.{Facts, facts_at}
@@ -11,7 +11,7 @@ use Rattle.sp_spec.specs.Log.{Log, conclusion, step, log_trace}
 use Rattle.sp_spec.specs.Substitution.{Binding, bound_to, Fixes}
 use Rattle.sp_spec.specs.Unifier.{Pair}
 use Rattle.sp_formula.specs.Change.{free_change, changed}
-use Rattle.sp_system.specs.System.{Happening, rule_step, Event, Link, System, Valuation, assignment, LinkHolds, HappensAt, HappensIn, FormulaHolds, AreUnequal, IsBefore, Solves, EachVariable, InFormula, InHappening, InEvent, IsNumbered, Agrees}
+use Rattle.sp_system.specs.System.{Happening, rule_step, Event, Link, System, Valuation, assignment, LinkHolds, HappensAt, HappensIn, FormulaHolds, AreUnequal, IsBefore, Solves, InFormula, InHappening, InEvent, IsNumbered, Agrees}
 use Rattle.sp_system.specs.Equating.{happening_changed, event_changed, pair_changed, link_changed, has_link, with_links, order_changed, system_changed}
 use Rattle.sp_spec.proofs.Lists.{every_map, every_both, every_append}
 use Rattle.sp_system.proofs.Facts.{valued_same, facts_same, fixed_term, fixed_facts}

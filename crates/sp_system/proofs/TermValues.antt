@@ -1,7 +1,6 @@
 -- Values of terms: composition, and what holds of each variable.
 use Rattle.std.proofs.Common.{◌≡◌, refl, ap}
-use Rattle.sp_spec.specs.Term.{Term, var, constant, name, app, Terms, none, more, valued, valued_all}
-use Rattle.sp_system.specs.System.{EachVariable, EachVariables}
+use Rattle.sp_spec.specs.Term.{Term, var, constant, name, app, Terms, none, more, valued, valued_all, EachVariable, EachVariables}
 
 module _ {U V W : Type 0} (v : V → Term W) (θ : U → Term V) where
   mutual

@@ -1,27 +1,16 @@
 -- A change that puts each thing in its own place changes no formula; and so a formula is as true under values that agree on what
 -- stands in it.
 use Rattle.std.proofs.Common.{◌≡◌, ℕ, zero, suc, List, [], ◌∷◌, map, refl, sym, ap, ap₂, ◌∙◌}
-use Rattle.sp_spec.specs.Term.{Sort, Variable, Term, var, Terms, valued, valued_all}
+use Rattle.sp_spec.specs.Term.{Variable, Term, var, Terms, valued}
 use Rattle.sp_spec.specs.Signature.{Signature}
 use Rattle.sp_spec.specs.Rule.{Action, action_at}
 use Rattle.sp_spec.specs.Execution.{Trace}
 use Rattle.sp_spec.specs.Guarded.{Place, free, bound, Time, free_time, bound_time, Binder, message, time, Atom, acts, same, same_time, before, last, Guarded, truth, falsity, holds, fails, all_of, one_of, some, every, Guardeds, no_more, and_then, Assignment, pushed, GuardedHolds}
-use Rattle.sp_spec.specs.Term as term
 use Rattle.sp_formula.specs.Change.{Change, placed, place_changed, time_changed, raised, raised_time, under_message, under_time, under, atom_changed, changed, changed_each, free_change}
 use Rattle.sp_system.specs.System.{InFormula, Settled}
 use Rattle.sp_system.proofs.Facts.{valued_equal, valued_all_equal}
+use Rattle.sp_system.proofs.TermValues.{valued_var, valued_var_all}
 use Rattle.sp_system.proofs.Changing.{Reads, changed_same, settled_same}
-
-mutual
-  valued_var : {V : Type 0} (t : Term V) → valued var t ≡ t
-  valued_var (var x) = refl
-  valued_var (term.constant c) = refl
-  valued_var (term.name n) = refl
-  valued_var (term.app f ts) = ap (term.app f) (valued_all_var ts)
-
-  valued_all_var : {V : Type 0} (ts : Terms V) → valued_all var ts ≡ ts
-  valued_all_var term.none = refl
-  valued_all_var (term.more t ts) = ap₂ term.more (valued_var t) (valued_all_var ts)
 
 pub record Keeps (c : Change) : Type 0 where
   pub terms : (x : Variable) → c.terms x ≡ var x
@@ -58,7 +47,7 @@ kept_term c h t = valued_equal (place_changed c) var (kept_place c h) t ∙ valu
 kept_action : (c : Change) → Keeps c → (a : Action Place) → action_at (place_changed c) a ≡ a
 kept_action c h a =
     ap (λ (ts : Terms Place). let x : Action Place = record { symbol = a.symbol; args = ts } in x)
-    (valued_all_equal (place_changed c) var (kept_place c h) a.args ∙ valued_all_var a.args)
+    (valued_all_equal (place_changed c) var (kept_place c h) a.args ∙ valued_var_all a.args)
 
 kept_time : (c : Change) → Keeps c → (i : Time) → time_changed c i ≡ i
 kept_time c h (free_time i) = ap free_time (h.times i)

@@ -3,12 +3,11 @@ use Rattle.std.proofs.Common.{◌≡◌, ℕ, zero, suc, not, ◌&&◌, nat_lt, 
 use Rattle.std.proofs.lemmas.Bool.{cond_both}
 use Rattle.std.specs.Str.{bytes_eq}
 use Rattle.sp_spec.specs.Lists.{Every}
-use Rattle.sp_spec.specs.Term.{Sort, Msg, Fresh, Pub, Variable, Term, var, constant, name, app, Terms, none, more}
+use Rattle.sp_spec.specs.Term.{Sort, Msg, Fresh, Pub, Variable, Term, var, constant, name, app, Terms, none, more, EachVariable, EachVariables}
 use Rattle.sp_spec.specs.Substitution.{Binding, bound_to, followed_by}
 use Rattle.sp_spec.specs.Same.{same_variable}
 use Rattle.sp_spec.specs.Unifier.{Pair, Difference, no_difference, clash, binding, occurs, may_stand, with_term, by_number, by_sorts, with_variable, or_then, difference, differences, first_difference, go_on, unified, mgu, occurrences_of}
 use Rattle.sp_law_unify.proofs.Values.{bound_to-followed_by, bound_to-one}
-use Rattle.sp_system.specs.System.{EachVariable, EachVariables}
 use Rattle.sp_system.proofs.TermValues.{EachVariable_valued}
 
 -- of a chain of differences the first one counts

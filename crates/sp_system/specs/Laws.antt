@@ -1,11 +1,10 @@
 -- What the unifier owes to those who use it.
 use Rattle.std.specs.Prelude.{◌≡◌, ◌<◌, ℕ, List, Some, None}
 use Rattle.sp_spec.specs.Lists.{Every}
-use Rattle.sp_spec.specs.Term.{Variable, Values}
+use Rattle.sp_spec.specs.Term.{Variable, Values, EachVariable}
 use Rattle.sp_spec.specs.Signature.{RespectsSorts}
 use Rattle.sp_spec.specs.Substitution.{Binding, bound_to, Fixes}
 use Rattle.sp_spec.specs.Unifier.{Pair, MakesSame, mgu}
-use Rattle.sp_system.specs.System.{EachVariable}
 
 -- each variable of the pairs has a number below the limit
 abbrev pub PairsUnder : ℕ → List Pair → Type 0

@@ -2,10 +2,10 @@
 -- Schmidt's thesis, chapter 3; Meier's thesis, chapter 3.
 use Rattle.std.specs.Prelude.{◌≡◌, ◌<◌, ℕ, List, [], ◌∷◌, length}
 use Rattle.sp_spec.specs.Lists.{Every, AtPlace, AtPosition}
-use Rattle.sp_spec.specs.Term.{Variable, Term, var, constant, name, app, Terms, none, more, Ground, Values, valued}
+use Rattle.sp_spec.specs.Term.{Variable, Term, constant, Ground, Values, valued, EachVariable, EachVariables}
 use Rattle.sp_spec.specs.Signature.{Signature, IsValue, IsValuation}
 use Rattle.sp_spec.specs.Equal.{IsNormal, AreNormal}
-use Rattle.sp_spec.specs.Rule.{Fact, Action, Facts, facts_at}
+use Rattle.sp_spec.specs.Rule.{Fact, Facts, facts_at, InFacts}
 use Rattle.sp_spec.specs.Theory.{Theory, signature_of}
 use Rattle.sp_spec.specs.Guarded.{Place, free, bound, Time, free_time, bound_time, Binder, message, time, Atom, acts, same, same_time, before, last, Guarded, truth, falsity, holds, fails, all_of, one_of, some, every, Guardeds, no_more, and_then, Assignment, with_term, with_time, time_in, term_in, action_in, GuardedHolds}
 use Rattle.sp_spec.specs.Log.{Log, step, Source, conclusion, IsLog, log_trace}
@@ -117,23 +117,6 @@ pub record Solves (theory : Theory) (log : Log) (v : Valuation) (s : System) : T
   pub unequal : Every (AreUnequal theory v) s.unequal
   pub links : Every (LinkHolds log v) s.links
   pub order : Every (IsBefore v) s.order
-
--- it holds of each variable in the term
-abbrev mutual
-  pub EachVariable : {V : Type 0} → (V → Type 0) → Term V → Type 0
-  EachVariable P (var x) = P x
-  EachVariable P (constant c) = Unit {0}
-  EachVariable P (name n) = Unit {0}
-  EachVariable P (app f ts) = EachVariables P ts
-
-  pub EachVariables : {V : Type 0} → (V → Type 0) → Terms V → Type 0
-  EachVariables P none = Unit {0}
-  EachVariables P (more t ts) = EachVariable P t × EachVariables P ts
-
-pub record InFacts {V : Type 0} (P : V → Type 0) (facts : Facts V) : Type 0 where
-  pub premises : Every (λ (f : Fact V). EachVariables P f.args) facts.premises
-  pub actions : Every (λ (a : Action V). EachVariables P a.args) facts.actions
-  pub conclusions : Every (λ (f : Fact V). EachVariables P f.args) facts.conclusions
 
 -- one of the system, and of each time
 abbrev pub AtFree : (Variable → Type 0) → Place → Type 0

@@ -16,6 +16,3 @@ pub mod system;
 pub fn unifier_is_right()
     ensures { UnifierIsRight }
 {}
-
-#[cfg(test)]
-mod tests;

@@ -1,4 +1,3 @@
 pub mod Lists
 pub mod Applied
 pub mod Alike
-pub mod FoundMatches

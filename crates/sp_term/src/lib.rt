@@ -1,11 +1,8 @@
 // Terms in memory, and substitutions.
 // Below stand the definitions of terms (sp_spec); above it unification, facts, formulas and systems. Each function is exact: what it
-// returns stands for the term that the definition gives. It carries the promise that applying a substitution, comparing and matching
-// terms are those of the definitions. A symbol is its name: which names are symbols, and private, is the signature's.
+// returns stands for the term that the definition gives. It carries the promise that applying a substitution and comparing terms are
+// those of the definitions. A symbol is its name: which names are symbols, and private, is the signature's.
 #![tactic(auto)]
 
-pub mod matching;
 pub mod subst;
 pub mod term;
-#[cfg(test)]
-mod tests;

@@ -7,6 +7,3 @@ mod lines;
 mod trees;
 
 pub use trees::tree_text;
-
-#[cfg(test)]
-mod tests;

@@ -5,7 +5,7 @@ use Rattle.sp_spec.specs.Execution.{Cause}
 use Rattle.sp_exec.specs.Replay.{rank}
 use Rattle.sp_place.specs.Refused.{IsRefusedAt}
 use Rattle.sp_pose.specs.Problem.{IsReported}
-use Rattle.sp_analysis.specs.Verdict.{Verdict}
+use Rattle.sp_spec_text.specs.Verdict.{Verdict}
 use Rattle.sp_analysis.specs.Replies.{IsDone}
 use Rattle.sp_analysis.specs.declared.replies.Command as asked
 use Rattle.sp_analysis.specs.declared.replies.Command.TheVariants as proofs

@@ -2,7 +2,7 @@
 use Rattle.std.proofs.Common.{◌≡◌, ◌≢◌, ℕ, Bool, true, false, if◌then◌else◌, List, inl, inr, refl, sym, ap, ◌∙◌, subst}
 use Rattle.std.specs.List.{list_any}
 use Rattle.sp_analysis.specs.Analysis.{Outcome}
-use Rattle.sp_analysis.specs.Verdict.{Verdict}
+use Rattle.sp_spec_text.specs.Verdict.{Verdict}
 use Rattle.sp_analysis.specs.Checking.{Judged}
 use Rattle.sp_top.specs.declared.words.Command.{Command}
 use Rattle.sp_top.specs.declared.words.Command.TheVariants.{Prove, Check, Replay}

@@ -10,7 +10,7 @@ use Rattle.sp_top.specs.declared.Wanted.{Wanted}
 use Rattle.sp_top.specs.declared.Wanted.TheVariants as wanted
 use Rattle.sp_place.specs.Refused.{IsRefusedAt}
 use Rattle.sp_pose.specs.Problem.{IsReported}
-use Rattle.sp_analysis.specs.Verdict.{Verdict, verified, falsified, incomplete, rejected}
+use Rattle.sp_spec_text.specs.Verdict.{Verdict, verified, falsified, incomplete, rejected}
 use Rattle.sp_analysis.specs.Analysis.{Outcome, IsAnalysis}
 use Rattle.sp_analysis.specs.Checking.{Judged, IsChecking}
 use Rattle.sp_spec.specs.Execution.{Cause}

@@ -24,16 +24,6 @@ use sp_io::{FetchFail, Library, Sink, write_whole};
 use sp_replay::Cause;
 use std::alloc::{AllocError, Global};
 
-#[cfg(test)]
-mod check_tests;
-#[cfg(test)]
-mod found_tests;
-#[cfg(test)]
-mod replay_tests;
-#[cfg(test)]
-mod stateful_tests;
-#[cfg(test)]
-mod tests;
 mod words;
 
 pub use words::{Command, Words};

@@ -4,7 +4,7 @@ use Rattle.sp_spec.specs.Theory as t
 use Rattle.sp_spec.specs.Theory.{Lemma}
 use Rattle.sp_read_parts.specs.Views.{rule}
 use Rattle.sp_read_parts.specs.Formulas.{formula}
-use Rattle.sp_written.specs.Text as text
+use Rattle.sp_spec_text.specs.Written as text
 use Rattle.sp_written.specs.declared.proof.Method.{Method}
 use Rattle.sp_written.specs.declared.proof.Method.TheVariants as m
 use Rattle.sp_written.specs.declared.proof.WrittenCase.{WrittenCase, fold-WrittenCase}
@@ -16,6 +16,7 @@ use Rattle.sp_written.specs.declared.theory.TraceKind.TheVariants as k
 use Rattle.sp_written.specs.declared.theory.WrittenLemma.{WrittenLemma}
 use Rattle.sp_written.specs.declared.theory.Item.{Item}
 use Rattle.sp_written.specs.declared.theory.Item.TheVariants as i
+use Rattle.sp_spec_text.specs.Spans as places
 use Rattle.sp_written.specs.declared.theory.Span.{Span}
 use Rattle.sp_written.specs.declared.theory.ReadTheory.{ReadTheory}
 
@@ -61,11 +62,14 @@ item (i.Lemma l) = text.lemma_item (lemma l) (option_map proof l.proof)
 abbrev pub items : List Item → List text.Item
 items xs = map item xs
 
+abbrev pub span_of : Span → places.Span
+span_of s = record { from = s.from; to = s.to }
+
 -- where the proofs of the lemmas stand
-abbrev pub spans : List Item → List Span
+abbrev pub spans : List Item → List places.Span
 spans [] = []
 spans (i.Rule r ∷ xs) = spans xs
-spans (i.Lemma l ∷ xs) = l.span ∷ spans xs
+spans (i.Lemma l ∷ xs) = span_of l.span ∷ spans xs
 
 abbrev pub theory : ReadTheory → text.WrittenText
 theory r = record { name = r.name.now; items = items r.items.items }

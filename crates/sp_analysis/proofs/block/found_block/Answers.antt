@@ -1,5 +1,5 @@
 use Rattle.std.proofs.Common.{map, string_bytes, ap, ◌∙◌, ◌++◌}
-use Rattle.sp_moves.specs.View.{book_of}
+use Rattle.sp_fact.specs.BookView.{book_of}
 use Rattle.sp_ground.specs.View.{entries_of, step_of}
 use Rattle.sp_log.specs.View.{log_of}
 use Rattle.sp_analysis.proofs.Blocks.{block_written}

@@ -6,13 +6,14 @@ use Rattle.sp_law_decide.specs.Deciding.{nothing, slot}
 use Rattle.sp_term.specs.View.{sort_of}
 use Rattle.sp_ground.specs.View.{ground_of}
 use Rattle.sp_eval.specs.View.{slot_of, slots_of, kept}
-use Rattle.sp_eval.proofs.Slots.{map_length, filled_beyond, kept_value, refused_value, new_value}
+use Rattle.sp_eval.proofs.Slots.{filled_beyond, kept_value, refused_value, new_value}
+use Rattle.sp_spec.proofs.Lists.{length_map}
 use Rattle.sp_eval.proofs.environment.fill_message.Goals as goal
 
 pub returns-then-index-len : goal.returns-then-index-len
 returns-then-index-len c =
     let slots = c.args.slots.now in
-    let k = map_length slot_of slots.items in
+    let k = length_map slot_of slots.items in
     ap (λ (b : Bool). kept b (slots_of slots.items)) c.is_nothing.ensures
     ∙ sym (filled_beyond same_term has_sort nothing (ground_of c.args.term.now) (slots_of slots.items) c.args.place (omega (arith, k, c.if-index-len.true, c.len.ensures, slots.ok.0)))
 

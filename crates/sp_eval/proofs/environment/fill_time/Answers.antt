@@ -1,12 +1,13 @@
 use Rattle.std.proofs.Common.{true, Some, ◌==◌, refl, sym, arith}
 use Rattle.sp_eval.specs.View.{time_of, times_of}
-use Rattle.sp_eval.proofs.Slots.{map_length, filled_beyond, kept_value, new_value}
+use Rattle.sp_eval.proofs.Slots.{filled_beyond, kept_value, new_value}
+use Rattle.sp_spec.proofs.Lists.{length_map}
 use Rattle.sp_eval.proofs.environment.fill_time.Goals as goal
 
 pub returns-then-index-len : goal.returns-then-index-len
 returns-then-index-len c =
     let times = c.args.times.now in
-    let k = map_length time_of times.items in
+    let k = length_map time_of times.items in
     sym (filled_beyond (λ i j. i == j) (λ u j. true) 0 c.args.position (times_of times.items) c.args.place (omega (arith, k, c.if-index-len.true, c.len.ensures, times.ok.0)))
 
 pub returns-in-Some : goal.returns-in-Some

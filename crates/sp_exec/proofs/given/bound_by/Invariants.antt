@@ -2,7 +2,7 @@ use Rattle.std.proofs.Common.{◌≡◌, zero, drop, map}
 use Rattle.sp_law_run.specs.Given.{bound_from}
 use Rattle.sp_ground.specs.View.{given_of}
 use Rattle.sp_norm.specs.Bounds.{bounds}
-use Rattle.sp_rule.specs.View.{declared_of}
+use Rattle.sp_fact.specs.View.{declared_of}
 use Rattle.sp_exec.proofs.Lists.{behind}
 use Rattle.sp_exec.proofs.given.bound_by.Given as goal
 

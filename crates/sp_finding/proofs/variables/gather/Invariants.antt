@@ -1,7 +1,7 @@
 use Rattle.std.proofs.Common.{◌≡◌, map, drop, ◌++◌}
 use Rattle.sp_spec.specs.Written.{in_terms}
 use Rattle.sp_read_parts.specs.Views as view
-use Rattle.sp_read_parts.specs.Shapes.{row}
+use Rattle.sp_spec_text.specs.Shapes.{row}
 use Rattle.sp_finding.proofs.variables.gather.Given as goal
 
 abbrev pub invariant-loop-term : goal.invariant-loop-term

@@ -1,7 +1,7 @@
 use Rattle.std.proofs.Common.{sym, ◌∙◌, ap, arith}
 use Rattle.std.proofs.lemmas.Bool.{false_from_ne_true}
 use Rattle.sp_spec.specs.Term.{count}
-use Rattle.sp_law_equal.proofs.Tests.{same_terms_decides}
+use Rattle.sp_spec.proofs.Same.{same_terms_decides}
 use Rattle.sp_ground.specs.View.{grounds_of}
 use Rattle.sp_ground.proofs.Lists.{count-grounds}
 use Rattle.sp_ground.proofs.term.+same.Goals as goal

@@ -1,5 +1,5 @@
 use Rattle.std.proofs.Common.{◌∙◌, sym}
-use Rattle.sp_law_equal.proofs.Tests.{same_term_decides}
+use Rattle.sp_spec.proofs.Same.{same_term_decides}
 use Rattle.sp_ground.specs.View.{ground_of}
 use Rattle.sp_ground.proofs.term.same.Goals as goal
 

@@ -1,6 +1,6 @@
 use Rattle.std.proofs.Common.{◌≡◌, drop, map}
 use Rattle.sp_spec.specs.Written.{in_terms}
-use Rattle.sp_read_parts.specs.Shapes.{row}
+use Rattle.sp_spec_text.specs.Shapes.{row}
 use Rattle.sp_read_parts.specs.Views.{term}
 use Rattle.sp_law_guard.specs.CheckedForm.{each_fits}
 use Rattle.sp_guard.specs.View.{innermost_first}

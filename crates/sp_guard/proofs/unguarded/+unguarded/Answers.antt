@@ -1,6 +1,6 @@
 use Rattle.std.proofs.Common.{sym, ap, ◌∙◌, map}
-use Rattle.sp_read_parts.specs.Shapes.{quantified}
-use Rattle.sp_read_parts.specs.Grammar.{quantified_some}
+use Rattle.sp_spec_text.specs.Shapes.{quantified}
+use Rattle.sp_spec_text.specs.Formulas.{quantified_some}
 use Rattle.sp_read_parts.specs.Views.{variable}
 use Rattle.sp_read_parts.specs.Formulas.{formula}
 use Rattle.sp_read_parts.specs.declared.written.ReadFormula.{ReadFormula}

@@ -1,5 +1,5 @@
 use Rattle.std.proofs.Common.{◌≡◌, ◌+◌, ◌≤◌, length}
-use Rattle.sp_lex.specs.Lex.{after_comment}
+use Rattle.sp_spec_text.specs.Lex.{after_comment}
 use Rattle.sp_lex.proofs.cut.after_comment.Given as goal
 
 abbrev pub invariant-loop-first : goal.invariant-loop-first

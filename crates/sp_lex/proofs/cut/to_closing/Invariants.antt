@@ -1,5 +1,5 @@
 use Rattle.std.proofs.Common.{◌≡◌, ◌+◌, ◌≤◌, length, false}
-use Rattle.sp_lex.specs.Lex.{to_closing}
+use Rattle.sp_spec_text.specs.Lex.{to_closing}
 use Rattle.sp_lex.proofs.cut.to_closing.Given as goal
 
 abbrev pub invariant-loop-byte : goal.invariant-loop-byte

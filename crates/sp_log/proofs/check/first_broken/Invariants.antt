@@ -1,6 +1,6 @@
 use Rattle.std.proofs.Common.{◌≡◌, drop, map, take}
 use Rattle.sp_ground.specs.View.{signature_of}
-use Rattle.sp_rule.specs.View.{rule_of}
+use Rattle.sp_fact.specs.View.{rule_of}
 use Rattle.sp_log.specs.Checking.{check_of, check_behind}
 use Rattle.sp_log.specs.View.{IsUsed, entry_of}
 use Rattle.sp_log.proofs.check.first_broken.Given as goal

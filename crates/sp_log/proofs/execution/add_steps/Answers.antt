@@ -5,7 +5,7 @@ use Rattle.sp_spec.specs.Log.{fresh_of}
 use Rattle.sp_law_found.specs.Found.{given_by}
 use Rattle.sp_term.specs.View.{name_of}
 use Rattle.sp_ground.specs.View.{ground_fact, ground_facts, step_of}
-use Rattle.sp_rule.specs.View.{rule_of}
+use Rattle.sp_fact.specs.View.{rule_of}
 use Rattle.sp_log.proofs.Orders.{steps_added}
 use Rattle.sp_log.proofs.execution.add_steps.Goals as goal
 

@@ -1,8 +1,9 @@
 use Rattle.std.proofs.Common.{◌++◌, List, map, sym, ap, ◌∙◌}
 use Rattle.std.proofs.lemmas.List.{append-nil, at_drop_all}
 use Rattle.sp_log.specs.declared.log.Entry.{Entry}
-use Rattle.sp_ground.specs.View.{newest_first, step_of}
-use Rattle.sp_rule.specs.View.{rule_of}
+use Rattle.sp_ground.specs.View.{step_of}
+use Rattle.sp_spec.specs.Lists.{newest_first}
+use Rattle.sp_fact.specs.View.{rule_of}
 use Rattle.sp_log.specs.View.{entries_of, entry_of}
 use Rattle.sp_log.proofs.Orders.{steps_in, steps_newest}
 use Rattle.sp_log.proofs.execution.execution.Goals as goal

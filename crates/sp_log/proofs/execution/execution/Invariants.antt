@@ -1,6 +1,6 @@
 use Rattle.std.proofs.Common.{◌≡◌, ◌++◌, drop, map}
 use Rattle.sp_ground.specs.View.{step_of}
-use Rattle.sp_rule.specs.View.{rule_of}
+use Rattle.sp_fact.specs.View.{rule_of}
 use Rattle.sp_log.specs.View.{entries_of, entry_of}
 use Rattle.sp_log.proofs.Orders.{steps_in}
 use Rattle.sp_log.proofs.execution.execution.Given as goal

@@ -2,7 +2,7 @@ use Rattle.std.proofs.Common.{◌≡◌, ◌++◌, zero, drop, map}
 use Rattle.sp_law_found.specs.Found.{given_from}
 use Rattle.sp_ground.specs.View.{given_of}
 use Rattle.sp_norm.specs.Bounds.{bounds}
-use Rattle.sp_rule.specs.View.{declared_of}
+use Rattle.sp_fact.specs.View.{declared_of}
 use Rattle.sp_log.proofs.execution.given_of.Given as goal
 
 abbrev pub invariant-loop-number : goal.invariant-loop-number

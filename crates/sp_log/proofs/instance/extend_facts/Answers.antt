@@ -2,7 +2,8 @@ use Rattle.std.proofs.Common.{sym, ◌∙◌, map, arith}
 use Rattle.sp_fact.specs.View.{fact_of}
 use Rattle.sp_ground.specs.View.{ground_fact}
 use Rattle.sp_norm.specs.Bounds.{bounds}
-use Rattle.sp_log.proofs.Uneven.{uneven_matched, length_images}
+use Rattle.sp_log.proofs.Uneven.{uneven_matched}
+use Rattle.sp_spec.proofs.Lists.{length_map}
 use Rattle.sp_log.proofs.instance.extend_facts.Goals as goal
 
 pub returns-then-len : goal.returns-then-len
@@ -12,5 +13,5 @@ returns-then-len c =
     sym
     (uneven_matched (map fact_of ps.items) (map ground_fact fs.items) (bounds c.args.found.now)
     (λ e.
-    let same_length = sym (length_images fact_of ps.items) ∙ e ∙ length_images ground_fact fs.items in
+    let same_length = sym (length_map fact_of ps.items) ∙ e ∙ length_map ground_fact fs.items in
     absurd (omega (arith, same_length, c.if-len.true, c.len.ensures, c.len-2.ensures, ps.ok.0, fs.ok.0))))

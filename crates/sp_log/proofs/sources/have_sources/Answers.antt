@@ -1,7 +1,8 @@
 use Rattle.std.proofs.Common.{sym, ◌∙◌, map, take, arith}
 use Rattle.sp_ground.specs.View.{ground_fact}
 use Rattle.sp_log.specs.View.{entry_of, source_of}
-use Rattle.sp_log.proofs.Uneven.{uneven_sources, length_images}
+use Rattle.sp_log.proofs.Uneven.{uneven_sources}
+use Rattle.sp_spec.proofs.Lists.{length_map}
 use Rattle.sp_log.proofs.sources.have_sources.Goals as goal
 
 pub returns-then-len : goal.returns-then-len
@@ -11,5 +12,5 @@ returns-then-len c =
     sym
     (uneven_sources (map ground_fact ps.items) (map source_of os.items) (map entry_of (take c.args.number c.args.entries.now.items))
     (λ e.
-    let same_length = sym (length_images ground_fact ps.items) ∙ e ∙ length_images source_of os.items in
+    let same_length = sym (length_map ground_fact ps.items) ∙ e ∙ length_map source_of os.items in
     absurd (omega (arith, same_length, c.if-len.true, c.len.ensures, c.len-2.ensures, ps.ok.0, os.ok.0))))

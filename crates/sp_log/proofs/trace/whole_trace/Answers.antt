@@ -2,7 +2,8 @@ use Rattle.std.proofs.Common.{◌++◌, List, map, sym, ap, ◌∙◌}
 use Rattle.std.proofs.lemmas.List.{append-nil, at_drop_all}
 use Rattle.sp_spec.specs.Log.{entry_actions}
 use Rattle.sp_log.specs.declared.log.Entry.{Entry}
-use Rattle.sp_ground.specs.View.{ground_action, newest_first}
+use Rattle.sp_ground.specs.View.{ground_action}
+use Rattle.sp_spec.specs.Lists.{newest_first}
 use Rattle.sp_log.specs.View.{entries_of, entry_of}
 use Rattle.sp_log.proofs.Orders.{whole_newest}
 use Rattle.sp_log.proofs.trace.whole_trace.Goals as goal

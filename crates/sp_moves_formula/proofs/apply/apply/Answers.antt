@@ -1,6 +1,7 @@
 use Rattle.std.proofs.Common.{map, option_map, sym, ap, ◌∙◌}
 use Rattle.sp_system.specs.SystemView.{system_of}
-use Rattle.sp_moves_formula.specs.View.{book_of, case_of, move_of}
+use Rattle.sp_moves_formula.specs.View.{case_of, move_of}
+use Rattle.sp_fact.specs.BookView.{book_of}
 use Rattle.sp_moves_formula.specs.Applied.{clause_of}
 use Rattle.sp_moves_formula.specs.WhyNot.{why_not_formula, formula_cases}
 use Rattle.sp_moves_formula.proofs.Exact.{exactly, some_there, none_there}

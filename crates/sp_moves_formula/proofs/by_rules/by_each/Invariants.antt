@@ -1,8 +1,9 @@
 use Rattle.std.proofs.Common.{◌≡◌, ◌++◌, map, drop}
 use Rattle.sp_fact.specs.View.{action_of}
+use Rattle.sp_fact.specs.BookView.{book_of}
 use Rattle.sp_system.specs.SystemView.{system_of}
 use Rattle.sp_step.specs.Moves as spec
-use Rattle.sp_moves_formula.specs.View.{book_of, case_of}
+use Rattle.sp_moves_formula.specs.View.{case_of}
 use Rattle.sp_moves_formula.specs.Book.{by_places}
 use Rattle.sp_moves_formula.proofs.by_rules.by_each.Given as goal
 

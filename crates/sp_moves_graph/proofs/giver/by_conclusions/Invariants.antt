@@ -1,6 +1,5 @@
 use Rattle.std.proofs.Common.{◌≡◌, ◌++◌, map, drop}
-use Rattle.sp_rule.specs.View.{rule_of}
-use Rattle.sp_fact.specs.View.{fact_of}
+use Rattle.sp_fact.specs.View.{rule_of, fact_of}
 use Rattle.sp_system.specs.SystemView.{system_of}
 use Rattle.sp_step.specs.Moves as spec
 use Rattle.sp_moves_graph.proofs.giver.by_conclusions.Given as goal

@@ -1,9 +1,9 @@
 use Rattle.std.proofs.Common.{◌≡◌, ◌++◌, map, drop}
-use Rattle.sp_rule.specs.View.{rule_of}
-use Rattle.sp_fact.specs.View.{fact_of}
+use Rattle.sp_fact.specs.View.{rule_of, fact_of}
+use Rattle.sp_fact.specs.BookView.{book_of}
 use Rattle.sp_system.specs.SystemView.{system_of}
 use Rattle.sp_step.specs.Moves as spec
-use Rattle.sp_moves_formula.specs.View.{book_of, case_of}
+use Rattle.sp_moves_formula.specs.View.{case_of}
 use Rattle.sp_moves_graph.proofs.giver.by_each_giver.Given as goal
 
 abbrev pub invariant-loop-rule : goal.invariant-loop-rule

@@ -1,5 +1,5 @@
 use Rattle.std.proofs.Common.{◌≡◌, ◌++◌, map, drop}
-use Rattle.sp_rule.specs.View.{rule_of}
+use Rattle.sp_fact.specs.View.{rule_of}
 use Rattle.sp_pose.proofs.Items.{rules_read}
 use Rattle.sp_pose.proofs.problem.rule_book.Given as goal
 

@@ -1,4 +1,4 @@
-use Rattle.sp_lex.specs.declared.token.Sign.TheVariants as s
+use Rattle.sp_spec_text.specs.Signs as s
 use Rattle.sp_read_parts.specs.Parts.{IsVariable, IsFact}
 use Rattle.sp_read_parts.specs.Reading.{happening_of}
 use Rattle.sp_read_parts.proofs.One.{facts'}

@@ -1,4 +1,4 @@
-use Rattle.sp_lex.specs.declared.token.Sign.TheVariants as s
+use Rattle.sp_spec_text.specs.Signs as s
 use Rattle.sp_spec.specs.Formula.{equals}
 use Rattle.sp_read_parts.specs.Parts.{IsTerm}
 use Rattle.sp_read_parts.proofs.One.{terms}

@@ -1,4 +1,4 @@
-use Rattle.sp_lex.specs.declared.token.Sign.TheVariants as s
+use Rattle.sp_spec_text.specs.Signs as s
 use Rattle.sp_spec.specs.Formula.{precedes}
 use Rattle.sp_read_parts.specs.Parts.{IsVariable}
 use Rattle.sp_read_parts.proofs.Atomic.{infix_at}

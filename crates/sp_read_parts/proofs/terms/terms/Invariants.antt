@@ -1,5 +1,5 @@
 use Rattle.std.proofs.Common.{map, length, ◌≤◌, ◌-◌}
-use Rattle.sp_lex.specs.declared.token.Sign.TheVariants as s
+use Rattle.sp_spec_text.specs.Signs as s
 use Rattle.sp_read_parts.specs.Parts.{IsTerm}
 use Rattle.sp_read_parts.specs.Views as view
 use Rattle.sp_read_parts.specs.Views.{seen_from}

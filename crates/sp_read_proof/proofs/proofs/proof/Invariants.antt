@@ -1,6 +1,6 @@
 use Rattle.std.proofs.Common.{◌-◌, ◌≤◌, length}
 use Rattle.sp_read_parts.specs.Views.{seen_from}
-use Rattle.sp_read_proof.specs.Grammar.{SpellsProof}
+use Rattle.sp_spec_text.specs.Proofs.{SpellsProof}
 use Rattle.sp_read_proof.specs.Frames.{Awaits, Same}
 use Rattle.sp_read_proof.specs.View.{frames_of}
 use Rattle.sp_read_proof.proofs.proofs.proof.Given as goal

@@ -1,5 +1,5 @@
 use Rattle.std.proofs.Common.{◌≡◌, drop}
-use Rattle.sp_lex.specs.Places.{place_behind, behind_all, is_any}
+use Rattle.sp_spec_text.specs.Ends.{place_behind, behind_all, is_any}
 use Rattle.sp_lex.specs.Views.{tokens_of}
 use Rattle.sp_read_theory.proofs.read.behind_all.Given as goal
 

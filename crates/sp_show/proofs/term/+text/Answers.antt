@@ -3,7 +3,7 @@ use Rattle.std.proofs.lemmas.Result.{on_ok_weaker}
 use Rattle.sp_spec.specs.Term.{Ground, app}
 use Rattle.sp_term.specs.View.{name_of}
 use Rattle.sp_ground.specs.View.{ground_of, grounds_of}
-use Rattle.sp_ground.specs.Text.{text_at}
+use Rattle.sp_spec_text.specs.Printed.{text_at}
 use Rattle.sp_ground.proofs.Applied.{ground_app}
 use Rattle.sp_show.proofs.Texts.{written_application}
 use Rattle.sp_show.proofs.term.+text.Goals as goal

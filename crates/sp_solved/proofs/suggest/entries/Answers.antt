@@ -7,7 +7,7 @@ use Rattle.sp_log.specs.View.{source_of}
 use Rattle.sp_log.specs.declared.log.Source.{Source}
 use Rattle.sp_solved.specs.Candidate.{entries_of}
 use Rattle.sp_solved.specs.ListingView.{events_of}
-use Rattle.sp_solved.proofs.Stepping.{next_there}
+use Rattle.sp_spec.proofs.Lists.{next_there}
 use Rattle.sp_solved.proofs.Entries.{entry_put}
 use Rattle.sp_solved.proofs.suggest.entries.Goals as goal
 

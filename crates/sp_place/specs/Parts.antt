@@ -1,0 +1,45 @@
+-- The parts that a text still has to have at a place of it. The numbers are the nesting; where there are two, the nesting of a unit of a
+-- formula and the brackets behind its beginning that hold nothing but what was read since, so that they may hold a term or a formula.
+use Rattle.std.specs.Prelude.{ℕ}
+use Rattle.sp_spec_text.specs.Signs.{Sign}
+
+pub data Awaited : Type 0 where
+  Exactly : Sign → Awaited  -- this sign
+  Name : Awaited
+  Sort : Awaited  -- the word of a sort
+  FactName : Awaited  -- the name of a fact
+  Sorted : Awaited  -- behind the name of a variable: `:` and a sort, or nothing
+  Variable : Awaited
+  Term : ℕ → Awaited
+  Arguments : ℕ → Awaited  -- behind the bracket of a fact
+  MoreArguments : ℕ → Awaited  -- behind an argument of a fact
+  Fact : ℕ → Awaited
+  Opened : ℕ → Awaited  -- the arguments of a fact, from the bracket on
+  Binders : Awaited  -- behind a variable of a quantifier
+  Negation : ℕ → ℕ → Awaited  -- a unit, or `not` and a unit
+  Unit : ℕ → ℕ → Awaited
+  Side : ℕ → ℕ → Awaited  -- behind a term
+  Order : ℕ → ℕ → Awaited  -- behind a variable
+  Bare : ℕ → ℕ → Awaited  -- behind a name that stands alone
+  Named : ℕ → ℕ → Awaited  -- behind a name that may name a fact
+  Truth : ℕ → ℕ → Awaited  -- behind `T` or `F`
+  Both : ℕ → ℕ → Awaited  -- behind what is a term and a unit
+  Closing : ℕ → ℕ → Awaited  -- behind a unit, up to the last of the brackets
+  More : ℕ → Awaited  -- behind a unit, up to the end of the implication
+  Twice : ℕ → Awaited  -- behind an implication
+  Theory : Awaited
+  Begin : Awaited  -- the word `begin`
+  Items : Awaited  -- items, and the word `end`
+  FactList : Awaited  -- facts in brackets
+  Facts : Sign → Awaited  -- facts up to this sign
+  MoreFacts : Sign → Awaited  -- behind a fact of such a list
+  Arrow : Awaited
+  Kind : Awaited  -- the kind of a lemma, and the quote behind it
+  Traces : Awaited  -- the word `traces`
+  Trace : Awaited  -- the word `trace`
+  Below : Awaited  -- behind a lemma: its proof or none, items, and the word `end`
+  Proof : Awaited
+  Behind : Awaited  -- behind a method
+  Case : Awaited  -- the word `case`
+  Cases : Awaited  -- behind a case
+  Method : Awaited  -- the method behind `by`

@@ -1,5 +1,0 @@
-use Rattle.sp_report.proofs.ReportClean.{report_is_right}
-use Rattle.sp_report.proofs.report_is_right.Goals as goal
-
-pub returns : goal.returns
-returns c = report_is_right

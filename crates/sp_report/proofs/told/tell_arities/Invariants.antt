@@ -1,8 +1,0 @@
-use Rattle.std.proofs.Common.{◌≡◌, drop}
-use Rattle.sp_written.specs.Views as view
-use Rattle.sp_report.specs.Report.{lines_after, wide_in_items}
-use Rattle.sp_report.specs.View.{lines_of}
-use Rattle.sp_report.proofs.told.tell_arities.Given as goal
-
-abbrev pub invariant-loop-item : goal.invariant-loop-item
-invariant-loop-item l = lines_after (lines_of l.lines.items) (wide_in_items (view.items (drop l.item-index l.items.items))) ≡ lines_after (lines_of l.fn.lines.items) (wide_in_items (view.items l.items.items))

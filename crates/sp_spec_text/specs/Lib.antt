@@ -1,0 +1,17 @@
+pub mod Signs
+pub mod Bytes
+pub mod Token
+pub mod Lex
+pub mod Ends
+pub mod Names
+pub mod Lists
+pub mod Shapes
+pub mod Formulas
+pub mod Written
+pub mod Proofs
+pub mod Theories
+pub mod Spans
+pub mod Texts
+pub mod Printed
+pub mod Kind
+pub mod Verdict

@@ -1,0 +1,44 @@
+-- Which words are names, which name facts, and what marks a variable's sort. Source: Tamarin manual, "Syntax description".
+use Rattle.std.specs.Prelude.{◌≡◌, ℕ, Bool, false, not, ◌&&◌, ◌||◌, if◌then◌else◌, List, [], ◌∷◌, Option, Some, None, codes}
+use Rattle.std.specs.Str.{bytes_eq}
+use Rattle.std.specs.Char.{is_ascii_uppercase}
+use Rattle.sp_spec_text.specs.Signs.{Sign}
+use Rattle.sp_spec_text.specs.Signs as s
+use Rattle.sp_spec.specs.Term.{Msg, Fresh, Pub}
+use Rattle.sp_spec.specs.Formula.{Mark, of_sort, of_time}
+
+-- words that are no names anywhere
+unfoldable pub is_reserved : List ℕ → Bool
+is_reserved w =
+    bytes_eq w (codes "end") || bytes_eq w (codes "let") || bytes_eq w (codes "in") || bytes_eq w (codes "not")
+    || bytes_eq w (codes "All") || bytes_eq w (codes "Ex") || bytes_eq w (codes "last") || bytes_eq w (codes "solve")
+
+abbrev pub IsName : List ℕ → Type 0
+IsName w = is_reserved w ≡ false
+
+abbrev pub is_capital : List ℕ → Bool
+is_capital [] = false
+is_capital (b ∷ bytes) = is_ascii_uppercase b
+
+-- facts that only the adversary's rules speak of; no theory without an adversary names them
+unfoldable pub is_adversarial : List ℕ → Bool
+is_adversarial w = bytes_eq w (codes "In") || bytes_eq w (codes "Out") || bytes_eq w (codes "K") || bytes_eq w (codes "KU") || bytes_eq w (codes "KD")
+
+abbrev pub names_fact : List ℕ → Bool
+names_fact w = is_capital w && not (is_reserved w) && not (is_adversarial w)
+
+-- the word behind the colon of a variable
+unfoldable pub mark_of : List ℕ → Option Mark
+mark_of w =
+    if bytes_eq w (codes "fresh") then Some (of_sort Fresh)
+    else if bytes_eq w (codes "pub") then Some (of_sort Pub)
+    else if bytes_eq w (codes "msg") then Some (of_sort Msg)
+    else if bytes_eq w (codes "node") then Some of_time
+    else None
+
+-- the sign before the name of a variable
+abbrev pub mark_at : Sign → Option Mark
+mark_at s.Tilde = Some (of_sort Fresh)
+mark_at s.Dollar = Some (of_sort Pub)
+mark_at s.Hash = Some of_time
+mark_at _ = None

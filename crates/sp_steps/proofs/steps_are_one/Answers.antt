@@ -1,5 +1,0 @@
-use Rattle.sp_steps.proofs.Laws as laws
-use Rattle.sp_steps.proofs.steps_are_one.Goals as goal
-
-pub returns : goal.returns
-returns c = laws.steps_are_one

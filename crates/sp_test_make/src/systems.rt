@@ -1,0 +1,84 @@
+// Events, links and systems.
+
+use crate::facts::{actions_alone, linear};
+use crate::terms::variable;
+use sp_fact::fact::{Action, Facts};
+use sp_formula::formula::Formula;
+use sp_system::system::{Event, Link, System};
+use sp_term::term::{Name, Sort};
+use std::alloc::{AllocError, Global};
+
+/// The event of the rule at this time.
+pub fn event(alloc: Global, time: u128, rule: &str, facts: Facts) -> Result<Event, AllocError> {
+    let rule = Name::new(alloc, rule)?;
+    Ok(Event { time, rule, facts })
+}
+
+/// The event of a rule that has these actions and no other facts.
+pub fn acting(
+    alloc: Global,
+    time: u128,
+    rule: &str,
+    actions: Vec<Action>,
+) -> Result<Event, AllocError> {
+    event(alloc, time, rule, actions_alone(alloc, actions))
+}
+
+/// The event of a rule that takes the fresh names of these numbers.
+pub fn taking_fresh(
+    alloc: Global,
+    time: u128,
+    rule: &str,
+    numbers: &[u128],
+) -> Result<Event, AllocError> {
+    let mut premises = Vec::new(alloc);
+    for number in numbers {
+        let args = vec![in alloc; variable(Sort::Fresh, *number)]?;
+        premises.push(linear(alloc, "Fr", args)?)?;
+    }
+    let facts = Facts {
+        premises,
+        actions: Vec::new(alloc),
+        conclusions: Vec::new(alloc),
+    };
+    event(alloc, time, rule, facts)
+}
+
+/// The events of these rules at the times 1, 2, .., each of which takes one fresh name: 0, 1, ..
+pub fn takers(alloc: Global, rules: &[&str]) -> Result<Vec<Event>, AllocError> {
+    let mut made = Vec::new(alloc);
+    for (i, rule) in rules.iter().enumerate() {
+        let number = i as u128;
+        made.push(taking_fresh(alloc, number + 1, rule, &[number])?)?;
+    }
+    Ok(made)
+}
+
+/// The conclusion of an event that gives the premise of another one.
+pub fn link(from: u128, conclusion: usize, to: u128, premise: usize) -> Link {
+    Link {
+        from,
+        conclusion,
+        to,
+        premise,
+    }
+}
+
+/// The system of these formulas alone, whose next number is this.
+pub fn system(alloc: Global, formulas: Vec<Formula>, next: u128) -> System {
+    System {
+        events: Vec::new(alloc),
+        formulas,
+        spent: Vec::new(alloc),
+        unequal: Vec::new(alloc),
+        links: Vec::new(alloc),
+        order: Vec::new(alloc),
+        next,
+    }
+}
+
+/// The system of one formula, whose next number is this.
+pub fn system_of_one(alloc: Global, formula: Formula, next: u128) -> Result<System, AllocError> {
+    let formulas = vec![in alloc; formula]?;
+    Ok(system(alloc, formulas, next))
+}

@@ -1,0 +1,167 @@
+// Formulas are read, brought into guarded form and negated, and their first unguarded variable is named.
+
+use sp_formula::formula::Formula;
+use sp_guard::guarded::is_guarded;
+use sp_guard::marks::checked_form;
+use sp_guard::negate::negate;
+use sp_guard::unguarded::first_unguarded;
+use sp_lex::Sign;
+use sp_read_parts::ReadFormula;
+use sp_read_parts::formulas::formula;
+use sp_test_make::texts::{formula_in, tokens_in};
+use std::alloc::Global;
+use std::test::Fail;
+
+/// A letter for the sort of a formula.
+fn letter(formula: &ReadFormula) -> char {
+    match formula {
+        ReadFormula::True => 'T',
+        ReadFormula::False => 'F',
+        ReadFormula::Happens(_, _) => '@',
+        ReadFormula::Equals(_, _) => '=',
+        ReadFormula::Precedes(_, _) => '<',
+        ReadFormula::Not(_) => '-',
+        ReadFormula::Both(_, _) => '&',
+        ReadFormula::Either(_, _) => '|',
+        ReadFormula::Implies(_, _) => '>',
+        ReadFormula::Equivalent(_, _) => '~',
+        ReadFormula::ForAll(_, _) => 'A',
+        ReadFormula::ForSome(_, _) => 'E',
+    }
+}
+
+/// The letter of the formula that a text begins with, and how many tokens it has with its closing quote.
+fn read(alloc: Global, text: &[u8]) -> Result<Option<(char, usize)>, Fail> {
+    let found = tokens_in(alloc, text)?;
+    match formula(alloc, Sign::Quote, 0, &found, 0)? {
+        Some((formula, rest)) => Ok(Some((letter(&formula), rest))),
+        None => Ok(None),
+    }
+}
+
+#[test]
+fn formulas_are_read(rt: HostRuntime) -> Result<(), Fail> {
+    let wanted: [(&[u8], Option<(char, usize)>); 20] = [
+        (b"T\"", Some(('T', 2))),
+        (b"(F)\" x", Some(('F', 4))),
+        (b"(T) = x\"", Some(('=', 6))),
+        (b"((x)) = 'a'\"", Some(('=', 8))),
+        (b"T(x)@i\"", Some(('@', 7))),
+        (b"!A(x, ~y)@i:node\"", Some(('@', 13))),
+        (b"#i < j\"", Some(('<', 5))),
+        (b"not (T) & F\"", Some(('&', 7))),
+        (b"T & F | T & F\"", Some(('|', 8))),
+        (b"T ==> F ==> T\"", Some(('>', 6))),
+        (b"T <=> F ==> T\"", Some(('~', 6))),
+        (b"All x. x = x <=> T <=> F\"", Some(('~', 11))),
+        (b"(All x #i. x = x) | Ex y. T\"", Some(('|', 16))),
+        (b"not All x. T\"", Some(('-', 6))),
+        (b"T <=> F <=> T\"", None),
+        (b"x & T\"", None),
+        (b"(T\"", None),
+        (b"All . T\"", None),
+        (b"solve(x) = y\"", None),
+        (b"x = /* y */ solve(y)\"", None),
+    ];
+    for (text, want) in wanted {
+        assert_eq!(rt; read(rt.alloc(), text)?, want, "{text:?}");
+    }
+    Ok(())
+}
+
+/// What a form is outermost, and how many parts, or binders and guard atoms, it has.
+fn outermost(form: &Formula) -> (char, usize, usize) {
+    match form {
+        Formula::Truth => ('T', 0, 0),
+        Formula::Falsity => ('F', 0, 0),
+        Formula::Holds(_) => ('+', 0, 0),
+        Formula::Fails(_) => ('-', 0, 0),
+        Formula::AllOf(parts) => ('&', parts.len(), 0),
+        Formula::OneOf(parts) => ('|', parts.len(), 0),
+        Formula::Exists(binders, guard, _) => ('E', binders.len(), guard.len()),
+        Formula::ForAll(binders, guard, _) => ('A', binders.len(), guard.len()),
+    }
+}
+
+/// The outermost part of a text's form; none where it has none, or there are findings on it.
+fn form(alloc: Global, text: &[u8]) -> Result<Option<(char, usize, usize)>, Fail> {
+    match checked_form(alloc, &formula_in(alloc, text)?)? {
+        Some(form) if is_guarded(&form) => Ok(Some(outermost(&form))),
+        Some(_) => Err("unguarded".into()),
+        None => Ok(None),
+    }
+}
+
+/// The outermost part of the negation of a text's form.
+fn negation(alloc: Global, text: &[u8]) -> Result<(char, usize, usize), Fail> {
+    let form = checked_form(alloc, &formula_in(alloc, text)?)?.ok_or("form")?;
+    Ok(outermost(&negate(alloc, form)?))
+}
+
+#[test]
+fn formulas_have_forms_and_negations(rt: HostRuntime) -> Result<(), Fail> {
+    let alloc = rt.alloc();
+    let wanted: [(&[u8], Option<(char, usize, usize)>); 14] = [
+        (b"not F\"", Some(('T', 0, 0))),
+        (b"All x #i. A(x)@i ==> x = x\"", Some(('A', 2, 1))),
+        (b"Ex x #i. A(x)@i & x = x\"", Some(('E', 2, 2))),
+        (b"Ex x y #i. A(x)@i & y = x\"", Some(('E', 3, 2))),
+        (b"Ex x y #i. A(x)@i & y = y\"", None),
+        (b"(Ex #i. A()@i) & T & F\"", Some(('&', 3, 0))),
+        (b"not (Ex x #i. A(x)@i)\"", Some(('A', 2, 1))),
+        (b"(Ex #i. A()@i) <=> (Ex #i. B()@i)\"", Some(('&', 2, 0))),
+        (
+            b"All x #i #j. A(x)@i & A(x)@j ==> #i < #j\"",
+            Some(('A', 3, 2)),
+        ),
+        (b"All x. x = x\"", None),
+        (b"Ex x #i. A(~x)@i\"", None),
+        (b"Ex x #i. A(x)@x\"", None),
+        (b"Ex #i. A(y)@i\"", None),
+        (b"Ex x #i. A(x,x,x,x,x,x,x,x,x,x,x,x,x,x,x,x,x)@i\"", None),
+    ];
+    for (text, want) in wanted {
+        assert_eq!(rt; form(alloc, text)?, want, "{text:?}");
+    }
+    let negated: [(&[u8], (char, usize, usize)); 4] = [
+        (b"All x #i #j. A(x)@i & A(x)@j ==> #i = #j\"", ('E', 3, 2)),
+        (b"Ex x #i. A(x)@i\"", ('A', 2, 1)),
+        (b"(Ex #i. A()@i) & T & F\"", ('|', 3, 0)),
+        (b"F\"", ('T', 0, 0)),
+    ];
+    for (text, want) in negated {
+        assert_eq!(rt; negation(alloc, text)?, want, "{text:?}");
+    }
+    Ok(())
+}
+
+#[test]
+fn the_first_unguarded_variable_is_named(rt: HostRuntime) -> Result<(), Fail> {
+    let alloc = rt.alloc();
+    let wanted: [(&[u8], Option<&str>); 16] = [
+        (b"All x #i. A(x)@i ==> x = x\"", None),
+        (b"All x y #i. A(x)@i ==> x = y\"", Some("y")),
+        (b"All x y #i. A(y)@i ==> x = y\"", Some("x")),
+        (b"Ex x #i #j. A(x)@i & #i < #j\"", Some("j")),
+        (b"Ex x #i. A()@i & not A(x)@i\"", Some("x")),
+        (b"Ex x. Ex y #i. A(y)@i & x = y\"", None),
+        (b"Ex y. Ex x #i. A()@i & x = y\"", Some("y")),
+        (b"Ex y #i. A(y)@i & (Ex x. x = y)\"", None),
+        (b"Ex x. not (All y #i. A(y)@i ==> not (x = y))\"", None),
+        (b"Ex x. not (Ex y #i. A(y)@i & x = y)\"", Some("x")),
+        (b"Ex y. not (All x #i. A()@i ==> not (x = y))\"", Some("y")),
+        (b"(Ex #i. A()@i) ==> (Ex x. x = x)\"", Some("x")),
+        (b"(Ex #i. A()@i) <=> (Ex #j. B()@j)\"", None),
+        (b"(Ex #i. A()@i) <=> (All x. x = x)\"", Some("x")),
+        (b"(Ex y. y = y) <=> (All x. x = x)\"", Some("y")),
+        (
+            b"All #i. A()@i ==> not ((Ex #j. B()@j) <=> (Ex x. not (x = x)))\"",
+            Some("x"),
+        ),
+    ];
+    for (text, name) in wanted {
+        let read = formula_in(alloc, text)?;
+        assert!(rt; first_unguarded(alloc, &read)? == name, "{text:?}");
+    }
+    Ok(())
+}

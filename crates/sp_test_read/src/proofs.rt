@@ -1,0 +1,244 @@
+// Proofs are read, and the trees are said that stand in them.
+
+use sp_judge::{Skeleton, Step};
+use sp_moves::moves::Move;
+use sp_read_proof::proof;
+use sp_skel::skeleton;
+use sp_test_make::texts::tokens_in;
+use sp_written::{Method, WrittenProof};
+use std::alloc::{AllocError, Global};
+use std::test::Fail;
+
+fn write_bytes(out: &mut String, bytes: &[u8]) -> Result<(), AllocError> {
+    for byte in bytes {
+        out.push(char::from(*byte))?;
+    }
+    Ok(())
+}
+
+// a goal in brackets
+fn write_method(out: &mut String, method: Method) -> Result<(), AllocError> {
+    match method {
+        Method::Word(word) => out.push_str(word),
+        Method::Goal(text) => {
+            out.push_str("(")?;
+            write_bytes(out, text)?;
+            out.push_str(")")
+        }
+    }
+}
+
+// a proof behind its method, each case in square brackets behind its name
+fn write_proof(out: &mut String, proof: &WrittenProof) -> Result<(), AllocError> {
+    write_method(out, proof.method)?;
+    for case in &proof.cases {
+        out.push_str(" [")?;
+        out.push_str(case.name)?;
+        out.push_str(": ")?;
+        write_proof(out, &case.proof)?;
+        out.push_str("]")?;
+    }
+    Ok(())
+}
+
+fn write_move(alloc: Global, out: &mut String, chosen: Move) -> Result<(), AllocError> {
+    match chosen {
+        Move::Simplify => out.push_str("simplify"),
+        Move::Contradiction => out.push_str("contradiction"),
+        Move::Unproved => out.push_str("sorry"),
+        Move::Solved => out.push_str("SOLVED"),
+        Move::Or(place) => {
+            let text = format!(in alloc; "or {place}")?;
+            out.push_str(&text)
+        }
+        Move::Premise(premise) => {
+            let text = format!(in alloc; "premise {} {}", premise.time, premise.place)?;
+            out.push_str(&text)
+        }
+        Move::Action(place) => {
+            let text = format!(in alloc; "action {place}")?;
+            out.push_str(&text)
+        }
+    }
+}
+
+fn write_step(alloc: Global, out: &mut String, step: &Step) -> Result<(), AllocError> {
+    match step {
+        Step::Known(chosen) => write_move(alloc, out, *chosen),
+        Step::Unbuilt(text) => {
+            out.push_str("unbuilt ")?;
+            write_bytes(out, text)
+        }
+        Step::Unknown(text) => {
+            out.push_str("unknown ")?;
+            write_bytes(out, text)
+        }
+    }
+}
+
+// a tree behind its step, each case in square brackets behind its name
+fn write_tree(alloc: Global, out: &mut String, skeleton: &Skeleton) -> Result<(), AllocError> {
+    write_step(alloc, out, &skeleton.step)?;
+    for branch in &skeleton.branches {
+        out.push_str(" [")?;
+        out.push_str(&branch.name)?;
+        out.push_str(": ")?;
+        write_tree(alloc, out, &branch.tree)?;
+        out.push_str("]")?;
+    }
+    Ok(())
+}
+
+/// The proof that a text begins with, the tree that stands in it, and how many tokens it has.
+fn read(alloc: Global, text: &str) -> Result<Option<(String, String, usize)>, Fail> {
+    let found = tokens_in(alloc, text.as_bytes())?;
+    let Some((read, rest)) = proof(alloc, &found, 0)? else {
+        return Ok(None);
+    };
+    let mut written = String::new(alloc);
+    write_proof(&mut written, &read)?;
+    let mut tree = String::new(alloc);
+    write_tree(alloc, &mut tree, &skeleton(alloc, &read)?)?;
+    Ok(Some((written, tree, rest)))
+}
+
+#[test]
+fn proofs_are_read(rt: HostRuntime) -> Result<(), Fail> {
+    for (text, written, tree, count) in [
+        ("SOLVED", "SOLVED", "SOLVED", 1),
+        ("by sorry", "sorry", "sorry", 2),
+        ("by induction lemma", "induction", "unbuilt induction", 2),
+        (
+            "by solve( no ( goal ) )",
+            "( no ( goal ) )",
+            "unknown no ( goal )",
+            2,
+        ),
+        (
+            "simplify by contradiction end",
+            "simplify [: contradiction]",
+            "simplify [: contradiction]",
+            3,
+        ),
+        (
+            "simplify\nsolve( action 0 )\n  case Make\n  solve( action 0 )\n    case Make\n    by contradiction\n  qed\nqed\n",
+            "simplify [: ( action 0 ) [Make: ( action 0 ) [Make: contradiction]]]",
+            "simplify [: action 0 [Make: action 0 [Make: contradiction]]]",
+            11,
+        ),
+        (
+            "solve( action 1 )\n  case R.1_done\n  SOLVED\nnext\n  case case\n  by sorry\nnext case qed by simplify qed qed",
+            "( action 1 ) [R.1_done: SOLVED] [case: sorry] [qed: simplify]",
+            "action 1 [R.1_done: SOLVED] [case: sorry] [qed: simplify]",
+            15,
+        ),
+    ] {
+        let found = read(rt.alloc(), text)?.ok_or("proof")?;
+        assert_eq!(rt; found.0.as_str(), written, "{text}");
+        assert_eq!(rt; found.1.as_str(), tree, "{text}");
+        assert_eq!(rt; found.2, count, "{text}");
+    }
+    Ok(())
+}
+
+#[test]
+fn other_tokens_are_no_proofs(rt: HostRuntime) -> Result<(), Fail> {
+    for text in [
+        "",
+        "by",
+        "by SOLVED",
+        "simplify",
+        "simplify case",
+        "simplify case a by sorry",
+        "simplify case a by sorry next",
+        "simplify case a by sorry next by sorry qed",
+        "simplify case a by sorry case b by sorry qed",
+        "simplify case end by sorry qed",
+        "simplify case last by sorry qed",
+        "simplify case a qed",
+        "simplify qed",
+        "case a by sorry qed",
+        "solved",
+        "qed",
+        "lemma",
+        "( by sorry )",
+        "'c'",
+    ] {
+        assert!(rt; read(rt.alloc(), text)?.is_none(), "{text}");
+    }
+    Ok(())
+}
+
+#[test]
+fn goals_say_moves(rt: HostRuntime) -> Result<(), Fail> {
+    for (text, tree) in [
+        ("by solve(action 0)", "action 0"),
+        (
+            "by solve ( \n\taction 18446744073709551615\r )",
+            "action 18446744073709551615",
+        ),
+        (
+            "by solve( action 18446744073709551616 )",
+            "unbuilt action 18446744073709551616",
+        ),
+        (
+            "by solve( action 340282366920938463463374607431768211455 )",
+            "unbuilt action 340282366920938463463374607431768211455",
+        ),
+        (
+            "by solve( action 340282366920938463463374607431768211456 )",
+            "unknown action 340282366920938463463374607431768211456",
+        ),
+        ("by solve( action 00 )", "unknown action 00"),
+        ("by solve( action  0 )", "unknown action  0"),
+        ("by solve( action +1 )", "unknown action +1"),
+        ("by solve( action )", "unknown action"),
+        ("by solve( action 1 2 )", "unknown action 1 2"),
+        ("by solve( Action 1 )", "unknown Action 1"),
+        ("by solve( )", "unknown "),
+        ("by solve( or 12 )", "or 12"),
+        (
+            "by solve( or 18446744073709551616 )",
+            "unbuilt or 18446744073709551616",
+        ),
+        ("by solve( or )", "unknown or"),
+        ("by solve( know 0 )", "unbuilt know 0"),
+        ("by solve( chain 0 )", "unbuilt chain 0"),
+        ("by solve( source 0 )", "unbuilt source 0"),
+        ("by solve( top 0 )", "unbuilt top 0"),
+        ("by solve( top 0 0 )", "unknown top 0 0"),
+        ("by solve( premise 20 1 )", "premise 20 1"),
+        (
+            "by solve( premise 340282366920938463463374607431768211455 0 )",
+            "premise 340282366920938463463374607431768211455 0",
+        ),
+        (
+            "by solve( premise 0 18446744073709551616 )",
+            "unbuilt premise 0 18446744073709551616",
+        ),
+        ("by solve( premise 0 01 )", "unknown premise 0 01"),
+        ("by solve( premise 0 )", "unknown premise 0"),
+        ("by solve( premise 0 1 2 )", "unknown premise 0 1 2"),
+        ("by solve( compare 1 0 )", "unbuilt compare 1 0"),
+        ("by solve( compare 1 01 )", "unknown compare 1 01"),
+        ("by solve( more )", "unbuilt more"),
+        ("by solve( more 1 )", "unknown more 1"),
+        ("by solve( finish )", "unbuilt finish"),
+        ("by solve( same $3 $1 )", "unbuilt same $3 $1"),
+        ("by solve( same ~1 $2 )", "unbuilt same ~1 $2"),
+        ("by solve( same 'a' $1 )", "unbuilt same 'a' $1"),
+        ("by solve( same $1 'a (b' )", "unbuilt same $1 'a (b'"),
+        ("by solve( same 'a' 'b' )", "unknown same 'a' 'b'"),
+        ("by solve( same '' $1 )", "unknown same '' $1"),
+        ("by solve( same $1 $ )", "unknown same $1 $"),
+        ("by solve( same $1 $01 )", "unknown same $1 $01"),
+        ("by solve( same $1 )", "unknown same $1"),
+        ("by solve( same $1 $2 $3 )", "unknown same $1 $2 $3"),
+        ("by solve( simplify )", "unknown simplify"),
+    ] {
+        let found = read(rt.alloc(), text)?.ok_or("proof")?;
+        assert_eq!(rt; found.1.as_str(), tree, "{text}");
+        assert_eq!(rt; found.2, 2, "{text}");
+    }
+    Ok(())
+}

@@ -1,0 +1,110 @@
+// Proof trees, and how they are grown.
+
+use crate::examples::Parts;
+use sp_fact::rule::Rule;
+use sp_formula::formula::{Atom, Formula, FormulaTerm, Moment};
+use sp_grow::{Branch, OpenLeaf, Tree, choice, grown_tree, is_finished, steps};
+use sp_moves::moves::Move;
+use sp_term::term::Sort;
+use sp_test_make::facts::{action, actions_alone, rule};
+use sp_test_make::formulas::{acts, exists, free_constant, messages_and_times};
+use sp_test_make::systems::system_of_one;
+use sp_test_make::terms::constant;
+use std::alloc::{AllocError, Global};
+use std::test::Fail;
+
+// the rule R with the action A('c')
+fn rules(alloc: Global) -> Result<Vec<Rule>, AllocError> {
+    let args = vec![in alloc; constant(alloc, "c")?]?;
+    let actions = vec![in alloc; action(alloc, "A", args)?]?;
+    Ok(vec![in alloc; rule(alloc, "R", &[], actions_alone(alloc, actions))?]?)
+}
+
+// there are x and i with A(x) at i, and not x = x
+fn refuted(alloc: Global) -> Result<Formula, AllocError> {
+    let binders = messages_and_times(alloc, &[Sort::Msg])?;
+    let guard = acts(alloc, "A", FormulaTerm::Bound(0), Moment::Bound(0))?;
+    let body = Formula::Fails(Atom::Same(FormulaTerm::Bound(0), FormulaTerm::Bound(0)));
+    exists(alloc, binders, vec![in alloc; guard]?, body)
+}
+
+// A('c') at the time 0
+fn wanted(alloc: Global) -> Result<Formula, AllocError> {
+    let atom = acts(alloc, "A", free_constant(alloc, "c")?, Moment::Free(0))?;
+    Ok(Formula::Holds(atom))
+}
+
+fn open_leaf(alloc: Global, chosen: Move) -> Result<Tree, AllocError> {
+    let leaf = OpenLeaf {
+        system: system_of_one(alloc, wanted(alloc)?, 1)?,
+        choice: chosen,
+    };
+    Ok(Tree::Open(Box::new(alloc, leaf)?))
+}
+
+fn branch(alloc: Global, name: &str, tree: Tree) -> Result<Branch, AllocError> {
+    let name = String::from_str(alloc, name)?;
+    Ok(Branch { name, tree })
+}
+
+// a simplification, below it a contradiction and two open leaves
+fn three_cases(alloc: Global) -> Result<Tree, AllocError> {
+    let branches = vec![in alloc;
+        branch(alloc, "a", Tree::Node(Move::Contradiction, Vec::new(alloc)))?,
+        branch(alloc, "b", open_leaf(alloc, Move::Action(0))?)?,
+        branch(alloc, "c", open_leaf(alloc, Move::Simplify)?)?,
+    ]?;
+    Ok(Tree::Node(Move::Simplify, branches))
+}
+
+#[test]
+fn trees_are_counted(rt: HostRuntime) -> Result<(), Fail> {
+    let alloc = rt.alloc();
+    let open = three_cases(alloc)?;
+    assert_eq!(rt; (steps(&open), is_finished(&open)), (2, false));
+    let proved = Tree::Node(Move::Contradiction, Vec::new(alloc));
+    assert_eq!(rt; (steps(&proved), is_finished(&proved)), (1, true));
+    Ok(())
+}
+
+// What a grown tree is: how many steps it has, whether it is finished, and how many entries its log has.
+type Grown = (u64, bool, Option<usize>);
+
+// the tree of the system with this formula, grown where the log that is looked for makes the other one true
+fn grown(alloc: Global, root: Formula, sought: Formula, budget: u64) -> Result<Grown, AllocError> {
+    let parts = Parts::new(alloc, rules(alloc)?, sought)?;
+    let tree = grown_tree(
+        alloc,
+        &parts.context(),
+        system_of_one(alloc, root, 1)?,
+        budget,
+    )?;
+    let entries = match tree.found_log() {
+        Some(log) => Some(log.entries.len()),
+        None => None,
+    };
+    Ok((steps(&tree), is_finished(&tree), entries))
+}
+
+// to a proof, or to a log
+#[test]
+fn trees_are_grown(rt: HostRuntime) -> Result<(), Fail> {
+    let alloc = rt.alloc();
+    for (root, sought, budget, expected) in [
+        (refuted(alloc)?, Formula::Truth, 0, (0, false, None)),
+        (refuted(alloc)?, Formula::Truth, 1, (1, false, None)),
+        (refuted(alloc)?, Formula::Truth, 2, (2, true, None)),
+        (refuted(alloc)?, Formula::Truth, 3, (2, true, None)),
+        (wanted(alloc)?, Formula::Truth, 1, (1, false, None)),
+        (wanted(alloc)?, Formula::Truth, 2, (2, false, Some(1))),
+        (wanted(alloc)?, Formula::Truth, 5, (2, false, Some(1))),
+        (wanted(alloc)?, Formula::Falsity, 5, (1, false, None)),
+    ] {
+        let found = grown(alloc, root, sought, budget)?;
+        assert_eq!(rt; found, expected, "{budget}");
+    }
+    let parts = Parts::new(alloc, rules(alloc)?, Formula::Truth)?;
+    let root = system_of_one(alloc, wanted(alloc)?, 1)?;
+    assert_eq!(rt; choice(alloc, &parts.context(), &root)?, Move::Action(0));
+    Ok(())
+}

@@ -1,0 +1,448 @@
+// Lemmas that are tried: the trees that are grown, and the summary. They are worked out by hand.
+
+use crate::calls::assert_answer;
+use std::alloc::{AllocError, Global};
+use std::test::Fail;
+
+/// A theory, and how it ends.
+struct Theory {
+    /// its rules
+    rules: &'static str,
+    /// its lemmas
+    lemmas: &'static [Tried],
+    /// the status
+    status: u8,
+}
+
+/// A lemma of a theory, and what is written of it.
+struct Tried {
+    /// from its name on
+    lemma: &'static str,
+    /// the tree that is grown for it
+    tree: &'static str,
+    /// its line in the summary
+    line: &'static str,
+}
+
+/// One rule with one fresh name.
+const ONE_RULE: &str = "rule Make: [ Fr(~k) ] --[ A(~k) ]-> [ ]\n";
+
+/// Two steps of the one rule that are one step, which contradicts the rest.
+const ONE_STEP: &str = "simplify
+solve( action 0 )
+  case Make
+  solve( action 0 )
+    case Make
+    by contradiction
+  qed
+qed
+";
+
+/// Lemmas that are verified: two steps of the one rule are one step.
+const VERIFIED: [Tried; 3] = [
+    Tried {
+        lemma: "once: \"All x #i #j. A(x)@i & A(x)@j ==> #i = #j\"",
+        tree: ONE_STEP,
+        line: "once (all-traces): verified (4 steps)",
+    },
+    Tried {
+        lemma: "ends: \"All x #i #j #k #l. A(x)@i & A(x)@j & A(x)@k & A(x)@l ==> #i = #l\"",
+        tree: "simplify\nsolve( action 0 )\n  case Make\n  solve( action 0 )\n    case Make\n    solve( action 0 )\n      case Make\n      solve( action 0 )\n        case Make\n        by contradiction\n      qed\n    qed\n  qed\nqed\n",
+        line: "ends (all-traces): verified (6 steps)",
+    },
+    Tried {
+        lemma: "alone: \"All x y #i. A(x)@i & A(y)@i ==> x = y\"",
+        tree: "simplify\nsolve( action 0 )\n  case Make\n  solve( action 0 )\n    case at_0\n    by contradiction\n  qed\nqed\n",
+        line: "alone (all-traces): verified (4 steps)",
+    },
+];
+
+/// Two fresh names, each of which may be the one that is looked for.
+const TWO_NAMES: &str = "rule Two: [ Fr(~a), Fr(~b) ] --[ A(~a), A(~b) ]-> [ ]\n";
+
+/// Each case of either name.
+const EITHER: [Tried; 1] = [Tried {
+    lemma: "once: \"All x #i #j. A(x)@i & A(x)@j ==> #i = #j\"",
+    tree: "simplify\nsolve( action 0 )\n  case Two_case_1\n  solve( action 0 )\n    case Two_case_1\n    by contradiction\n  next\n    case Two_case_2\n    by contradiction\n  qed\nnext\n  case Two_case_2\n  solve( action 0 )\n    case Two_case_1\n    by contradiction\n  next\n    case Two_case_2\n    by contradiction\n  qed\nqed\n",
+    line: "once (all-traces): verified (8 steps)",
+}];
+
+/// Lemmas of both kinds.
+const BOTH_KINDS: [Tried; 2] = [
+    Tried {
+        lemma: "once: \"All x #i #j. A(x)@i & A(x)@j ==> #i = #j\"",
+        tree: ONE_STEP,
+        line: "once (all-traces): verified (4 steps)",
+    },
+    Tried {
+        lemma: "twice: exists-trace \"Ex x #i #j. A(x)@i & A(x)@j & #i < #j\"",
+        tree: ONE_STEP,
+        line: "twice (exists-trace): falsified - no trace found (4 steps)",
+    },
+];
+
+/// The connectives, where what is sought is a conjunction.
+const CONNECTIVES: [Tried; 6] = [
+    Tried {
+        lemma: "denied: exists-trace \"Ex x y #i #j. A(x)@i & A(y)@j & not (x = y ==> #i = #j)\"",
+        tree: ONE_STEP,
+        line: "denied (exists-trace): falsified - no trace found (4 steps)",
+    },
+    Tried {
+        lemma: "either: all-traces \"All x #i #j. A(x)@i & A(x)@j ==> #i = #j | #j = #i\"",
+        tree: ONE_STEP,
+        line: "either (all-traces): verified (4 steps)",
+    },
+    Tried {
+        lemma: "implied: \"All x y #i #j. A(x)@i & A(y)@j ==> x = y ==> #i = #j\"",
+        tree: ONE_STEP,
+        line: "implied (all-traces): verified (4 steps)",
+    },
+    Tried {
+        lemma: "same: exists-trace \"Ex x #i. A(x)@i & #i < #i & (x = x <=> A(x)@i)\"",
+        tree: "simplify\nby contradiction\n",
+        line: "same (exists-trace): falsified - no trace found (2 steps)",
+    },
+    Tried {
+        lemma: "nested: \"All x #i. A(x)@i ==> (All y #j. A(y)@j ==> x = y ==> #i = #j)\"",
+        tree: ONE_STEP,
+        line: "nested (all-traces): verified (4 steps)",
+    },
+    Tried {
+        lemma: "none: \"not (Ex x #i #j. A(x)@i & A(x)@j & not (#i = #j))\"",
+        tree: ONE_STEP,
+        line: "none (all-traces): verified (4 steps)",
+    },
+];
+
+/// The order of times.
+const ORDER: [Tried; 3] = [
+    Tried {
+        lemma: "turned: \"All x y #i #j. A(x)@i & A(y)@j & #i < #j ==> not #j < #i\"",
+        tree: "simplify\nby contradiction\n",
+        line: "turned (all-traces): verified (2 steps)",
+    },
+    Tried {
+        lemma: "apart: \"All x y #i #j. A(x)@i & A(y)@j & #i < #j ==> not (x = y)\"",
+        tree: ONE_STEP,
+        line: "apart (all-traces): verified (4 steps)",
+    },
+    Tried {
+        lemma: "cycle: exists-trace \"Ex x y #i #j. A(x)@i & A(y)@j & #i < #j & #j < #i\"",
+        tree: "simplify\nby contradiction\n",
+        line: "cycle (exists-trace): falsified - no trace found (2 steps)",
+    },
+];
+
+/// True and false formulas.
+const CONSTANTS: [Tried; 6] = [
+    Tried {
+        lemma: "never: exists-trace \"F\"",
+        tree: "by contradiction\n",
+        line: "never (exists-trace): falsified - no trace found (1 steps)",
+    },
+    Tried {
+        lemma: "always: \"T\"",
+        tree: "by contradiction\n",
+        line: "always (all-traces): verified (1 steps)",
+    },
+    Tried {
+        lemma: "some: exists-trace \"T\"",
+        tree: "simplify\nSOLVED\n",
+        line: "some (exists-trace): verified (2 steps)\nexecution:\ntrace:\nend of trace",
+    },
+    Tried {
+        lemma: "none: \"F\"",
+        tree: "simplify\nSOLVED\n",
+        line: "none (all-traces): falsified - found trace (2 steps)\nexecution:\ntrace:\nend of trace",
+    },
+    Tried {
+        lemma: "nothing: \"All x #i. A(x)@i ==> F\"",
+        tree: "simplify\nsolve( action 0 )\n  case Make\n  SOLVED\nqed\n",
+        line: "nothing (all-traces): falsified - found trace (3 steps)\nexecution:\nfresh ~n1\nrule Make: k = ~n1\ntrace:\nA(~n1)\nend of trace",
+    },
+    Tried {
+        lemma: "anything: \"All x #i. A(x)@i ==> T\"",
+        tree: "simplify\nby contradiction\n",
+        line: "anything (all-traces): verified (2 steps)",
+    },
+];
+
+/// Two rules with an action each.
+const TWO_ACTIONS: &str =
+    "rule First: [ ] --[ A('c') ]-> [ ]\nrule Other: [ ] --[ B('c') ]-> [ ]\n";
+
+/// Two times whose order is left open, which no move that is built compares: in the log that is suggested the first is before the second.
+const TURNED: [Tried; 1] = [Tried {
+    lemma: "turned: exists-trace \"Ex #i #j. A('c')@i & B('c')@j & not (#i < #j)\"",
+    tree: "simplify\nsolve( action 0 )\n  case First\n  solve( action 0 )\n    case Other\n    by sorry\n  qed\nqed\n",
+    line: "turned (exists-trace): analysis incomplete (3 steps)",
+}];
+
+/// Two rules that show a name; one of them shows two.
+const TWO_RULES: &str = "rule First: [ Fr(~k) ] --[ A(~k) ]-> [ ]
+rule Second: [ Fr(~a), Fr(~b) ] --[ A(~a), A(~b) ]-> [ ]
+";
+
+/// What is verified, what is left open and what is falsified, with the cases in the order of the rules.
+const IN_ORDER: [Tried; 3] = [
+    Tried {
+        lemma: "once: \"All x #i #j. A(x)@i & A(x)@j ==> #i = #j\"",
+        tree: "simplify
+solve( action 0 )
+  case First
+  solve( action 0 )
+    case First
+    by contradiction
+  next
+    case Second_case_1
+    by contradiction
+  next
+    case Second_case_2
+    by contradiction
+  qed
+next
+  case Second_case_1
+  solve( action 0 )
+    case First
+    by contradiction
+  next
+    case Second_case_1
+    by contradiction
+  next
+    case Second_case_2
+    by contradiction
+  qed
+next
+  case Second_case_2
+  solve( action 0 )
+    case First
+    by contradiction
+  next
+    case Second_case_1
+    by contradiction
+  next
+    case Second_case_2
+    by contradiction
+  qed
+qed
+",
+        line: "once (all-traces): verified (14 steps)",
+    },
+    Tried {
+        lemma: "alone: \"All x y #i. A(x)@i & A(y)@i ==> x = y\"",
+        tree: "simplify
+solve( action 0 )
+  case First
+  by sorry
+next
+  case Second_case_1
+  SOLVED
+next
+  case Second_case_2
+  by sorry
+qed
+",
+        line: "alone (all-traces): falsified - found trace (3 steps)\nexecution:\nfresh ~n1\nfresh ~n2\nrule Second: a = ~n1, b = ~n2\ntrace:\nA(~n1), A(~n2)\nend of trace",
+    },
+    Tried {
+        lemma: "absent: exists-trace \"Ex x #i. B(x)@i\"",
+        tree: "simplify\nby solve( action 0 )\n",
+        line: "absent (exists-trace): falsified - no trace found (2 steps)",
+    },
+];
+
+/// Rules that show constants.
+const CONSTANT_RULES: &str = "rule Make: [ Fr(~k) ] --[ A(~k) ]-> [ ]
+rule Fixed: [ ] --[ B('c') ]-> [ ]
+rule Both: [ Fr(~k) ] --[ A(~k), B('d') ]-> [ ]
+";
+
+/// What is falsified counts before what is left open.
+const FALSIFIED_FIRST: [Tried; 5] = [
+    Tried {
+        lemma: "left: exists-trace \"Ex x #i #j. A(x)@i & B('c')@j & not (#i < #j)\"",
+        tree: "simplify
+solve( action 0 )
+  case Make
+  solve( action 0 )
+    case Fixed
+    by sorry
+  qed
+next
+  case Both
+  solve( action 0 )
+    case Fixed
+    by sorry
+  qed
+qed
+",
+        line: "left (exists-trace): analysis incomplete (4 steps)",
+    },
+    Tried {
+        lemma: "never: exists-trace \"Ex #i. B('e')@i\"",
+        tree: "simplify\nby solve( action 0 )\n",
+        line: "never (exists-trace): falsified - no trace found (2 steps)",
+    },
+    Tried {
+        lemma: "fixed: \"All x #i. B(x)@i ==> x = 'c'\"",
+        tree: "simplify
+solve( action 0 )
+  case Fixed
+  by contradiction
+next
+  case Both
+  SOLVED
+qed
+",
+        line: "fixed (all-traces): falsified - found trace (4 steps)\nexecution:\nfresh ~n1\nrule Both: k = ~n1\ntrace:\nA(~n1), B('d')\nend of trace",
+    },
+    Tried {
+        lemma: "shown: \"All x #i #j. A(x)@i & A(x)@j & B('c')@i ==> F\"",
+        tree: "simplify
+solve( action 0 )
+  case Make
+  solve( action 0 )
+    case Make
+    by solve( action 0 )
+  next
+    case Both
+    by contradiction
+  qed
+next
+  case Both
+  solve( action 0 )
+    case Make
+    by contradiction
+  next
+    case Both
+    by solve( action 0 )
+  qed
+qed
+",
+        line: "shown (all-traces): verified (8 steps)",
+    },
+    Tried {
+        lemma: "both: exists-trace \"Ex #i. B('c')@i & B('d')@i\"",
+        tree: "simplify
+solve( action 0 )
+  case Fixed
+  by solve( action 0 )
+qed
+",
+        line: "both (exists-trace): falsified - no trace found (3 steps)",
+    },
+];
+
+/// The theories, and how they end.
+const THEORIES: [Theory; 11] = [
+    Theory {
+        rules: ONE_RULE,
+        lemmas: &VERIFIED,
+        status: 0,
+    },
+    Theory {
+        rules: ONE_RULE,
+        lemmas: &BOTH_KINDS,
+        status: 1,
+    },
+    Theory {
+        rules: ONE_RULE,
+        lemmas: &CONNECTIVES,
+        status: 1,
+    },
+    Theory {
+        rules: ONE_RULE,
+        lemmas: &ORDER,
+        status: 1,
+    },
+    Theory {
+        rules: ONE_RULE,
+        lemmas: &CONSTANTS,
+        status: 1,
+    },
+    Theory {
+        rules: TWO_NAMES,
+        lemmas: &EITHER,
+        status: 0,
+    },
+    Theory {
+        rules: TWO_ACTIONS,
+        lemmas: &TURNED,
+        status: 2,
+    },
+    Theory {
+        rules: TWO_RULES,
+        lemmas: &IN_ORDER,
+        status: 1,
+    },
+    Theory {
+        rules: CONSTANT_RULES,
+        lemmas: &FALSIFIED_FIRST,
+        status: 1,
+    },
+    Theory {
+        rules: TWO_RULES,
+        lemmas: &[],
+        status: 0,
+    },
+    Theory {
+        rules: "",
+        lemmas: &[],
+        status: 0,
+    },
+];
+
+/// A theory with these rules and these lemmas.
+fn theory_of(alloc: Global, rules: &str, lemmas: &[Tried]) -> Result<String, AllocError> {
+    let mut text = format!(in alloc; "theory T begin\n{rules}")?;
+    for tried in lemmas {
+        text.push_str("lemma ")?;
+        text.push_str(tried.lemma)?;
+        text.push_str("\n")?;
+    }
+    text.push_str("end\n")?;
+    Ok(text)
+}
+
+/// What is written of it: each tree behind its lemma, and the summary.
+fn written_of(alloc: Global, rules: &str, lemmas: &[Tried]) -> Result<String, AllocError> {
+    let mut text = format!(in alloc; "theory T begin\n{rules}")?;
+    let mut summary = String::new(alloc);
+    for tried in lemmas {
+        text.push_str("lemma ")?;
+        text.push_str(tried.lemma)?;
+        text.push_str("\n")?;
+        text.push_str(tried.tree)?;
+        text.push_str("\n")?;
+        summary.push_str(tried.line)?;
+        summary.push_str("\n")?;
+    }
+    text.push_str("end\n/*\n")?;
+    text.push_str(summary.as_str())?;
+    text.push_str("*/\n")?;
+    Ok(text)
+}
+
+#[test]
+fn lemmas_are_tried(rt: HostRuntime) -> Result<(), Fail> {
+    let alloc = rt.alloc();
+    for theory in &THEORIES {
+        let Theory {
+            rules,
+            lemmas,
+            status,
+        } = theory;
+        let text = theory_of(alloc, rules, lemmas)?;
+        let written = written_of(alloc, rules, lemmas)?;
+        assert_answer(
+            &rt,
+            alloc,
+            "prove",
+            text.as_str(),
+            *status,
+            written.as_str(),
+        )?;
+    }
+    Ok(())
+}

@@ -1,0 +1,21 @@
+// What the program answers to commands on worked examples: proofs that are grown and checked, executions that are found and replayed, and
+// refusals.
+// Below stand the top call (sp_top), and the library and the sinks in memory that it is called with (sp_io). Nothing stands above.
+// Nothing is promised here. What no clause says is shown: that the headline speaks of what the language means, by answers that are worked
+// out by hand.
+#![tactic(auto)]
+
+#[cfg(test)]
+mod answers;
+#[cfg(test)]
+mod calls;
+#[cfg(test)]
+mod executions;
+#[cfg(test)]
+mod lemmas;
+#[cfg(test)]
+mod proofs;
+#[cfg(test)]
+mod stateful;
+#[cfg(test)]
+mod steps;

@@ -1,0 +1,160 @@
+// Proofs that are checked: the proof of the first theory, and that proof with one thing changed; and texts with proofs among other items.
+// The places are counted by hand.
+
+use crate::calls::assert_answer;
+use std::test::Fail;
+
+/// The first theory up to its lemma.
+const THEORY: &str = "theory R1 begin
+rule Make: [ Fr(~k) ] --[ A(~k) ]-> [ ]
+lemma once: \"All x #i #j. A(x)@i & A(x)@j ==> #i = #j\"
+";
+
+/// The proof of its lemma.
+const PROOF: &str = "simplify
+solve( action 0 )
+  case Make
+  solve( action 0 )
+    case Make
+    by contradiction
+  qed
+qed
+";
+
+/// Proofs, the status of the check, and what is said of the lemma.
+const CHECKED: [(&str, u8, &str); 13] = [
+    (PROOF, 0, "verified (4 steps)"),
+    ("", 2, "analysis incomplete (0 steps)"),
+    ("by sorry\n", 2, "analysis incomplete (0 steps)"),
+    (
+        "solve( action 0 ) case Make solve( action 0 ) case Make by contradiction qed qed\n",
+        3,
+        "rejected at step 1 (instance)",
+    ),
+    (
+        "simplify solve( action 0 ) case Make solve( action 1 ) case Make by contradiction qed qed\n",
+        3,
+        "rejected at step 3 (instance)",
+    ),
+    (
+        "simplify solve( action 0 ) case Mak solve( action 0 ) case Make by contradiction qed qed\n",
+        3,
+        "rejected at step 2 (cases)",
+    ),
+    (
+        "simplify solve( action 0 ) case Make solve( action 0 ) case Make SOLVED qed qed\n",
+        3,
+        "rejected at step 4 (instance)",
+    ),
+    (
+        "simplify solve( action 0 ) case Make solve( action 0 ) case Make by sorry qed qed\n",
+        2,
+        "analysis incomplete (3 steps)",
+    ),
+    (
+        "simplify solve( action 0 ) case Make by solve( action 0 ) qed\n",
+        3,
+        "rejected at step 3 (cases)",
+    ),
+    ("by solve( x )\n", 3, "rejected at step 1 (move)"),
+    ("by solve( more 1 )\n", 3, "rejected at step 1 (move)"),
+    ("by solve( chain 5 )\n", 3, "rejected at step 1 (instance)"),
+    (
+        "by induction // at a lemma\n",
+        3,
+        "rejected at step 1 (instance)",
+    ),
+];
+
+/// Lemmas before and behind the rule, and more behind the end.
+const MIXED: &str = "theory R begin
+lemma none: exists-trace \"Ex x #i. B(x)@i\"
+rule Make: [ Fr(~k) ] --[ A(~k) ]-> [ ]
+lemma once: \"All x #i #j. A(x)@i & A(x)@j ==> #i = #j\"
+lemma some: exists-trace \"Ex x #i. A(x)@i\"
+end behind";
+
+/// What is written of it.
+const MIXED_WRITTEN: &str = "theory R begin
+lemma none: exists-trace \"Ex x #i. B(x)@i\"
+simplify
+by solve( action 0 )
+
+rule Make: [ Fr(~k) ] --[ A(~k) ]-> [ ]
+lemma once: \"All x #i #j. A(x)@i & A(x)@j ==> #i = #j\"
+simplify
+solve( action 0 )
+  case Make
+  solve( action 0 )
+    case Make
+    by contradiction
+  qed
+qed
+
+lemma some: exists-trace \"Ex x #i. A(x)@i\"
+simplify
+solve( action 0 )
+  case Make
+  SOLVED
+qed
+
+end
+/*
+none (exists-trace): falsified - no trace found (2 steps)
+once (all-traces): verified (4 steps)
+some (exists-trace): verified (3 steps)
+execution:
+fresh ~n1
+rule Make: k = ~n1
+trace:
+A(~n1)
+end of trace
+*/
+";
+
+/// Lemmas without proof, with a proof, and with one that is wrong.
+const PROVED: &str = "theory R begin
+lemma open: \"All x #i. A(x)@i ==> F\"
+lemma none: exists-trace \"Ex x #i. B(x)@i\" simplify by solve(action 0)
+lemma other: exists-trace \"Ex x #i. B(x)@i\" simplify by contradiction
+lemma never: \"F\" simplify SOLVED
+end";
+
+/// What is said of them.
+const PROVED_CHECKED: &str = "open (all-traces): analysis incomplete (0 steps)
+none (exists-trace): falsified - no trace found (2 steps)
+other (exists-trace): rejected at step 2 (instance)
+never (all-traces): falsified - found trace (2 steps)
+execution:
+trace:
+end of trace
+";
+
+#[test]
+fn proofs_are_checked(rt: HostRuntime) -> Result<(), Fail> {
+    let alloc = rt.alloc();
+    for (proof, status, said) in &CHECKED {
+        let text = format!(in alloc; "{THEORY}{proof}end\n")?;
+        let line = format!(in alloc; "once (all-traces): {said}\n")?;
+        assert_answer(&rt, alloc, "check", text.as_str(), *status, line.as_str())?;
+    }
+    Ok(())
+}
+
+#[test]
+fn proofs_stand_among_other_items(rt: HostRuntime) -> Result<(), Fail> {
+    let alloc = rt.alloc();
+    let without = format!(in alloc; "{THEORY}by sorry\n\nend behind")?;
+    let line = "once (all-traces): verified (4 steps)\n";
+    let written = format!(in alloc; "{THEORY}{PROOF}\nend\n/*\n{line}*/\n")?;
+    for (command, text, status, answer) in [
+        ("prove", without.as_str(), 0, written.as_str()),
+        ("prove", written.as_str(), 0, written.as_str()),
+        ("check", written.as_str(), 0, line),
+        ("prove", MIXED, 1, MIXED_WRITTEN),
+        ("check", PROVED, 3, PROVED_CHECKED),
+    ] {
+        assert_answer(&rt, alloc, command, text, status, answer)?;
+    }
+    Ok(())
+}

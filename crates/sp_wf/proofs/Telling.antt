@@ -1,0 +1,105 @@
+-- Lines that are told one after the other.
+use Rattle.std.proofs.Common.{◌≡◌, ℕ, Bool, true, false, not, ◌&&◌, ◌||◌, if◌then◌else◌, List, [], ◌∷◌, ◌++◌, map, length, refl, sym, ap, ◌∙◌}
+use denote.Ref.{Bor}
+use Rattle.std.specs.Str.{bytes_eq}
+use Rattle.sp_spec.specs.Lists.{Every}
+use Rattle.sp_spec.specs.Rule.{Fact, Facts}
+use Rattle.sp_spec.specs.Formula.{Written}
+use Rattle.sp_spec.specs.Written.{is_listed, in_terms, in_facts, in_actions, occurrences}
+use Rattle.sp_spec.specs.Findings.{is_wide, is_fresh_variable, is_named, is_pub}
+use Rattle.sp_spec_text.specs.Shapes.{action_of, row}
+use Rattle.sp_read_parts.specs.Views.{term}
+use Rattle.sp_read_parts.specs.declared.written.WrittenTerm.{WrittenTerm}
+use Rattle.sp_read_parts.specs.declared.written.WrittenTerm.TheVariants as v
+use Rattle.sp_wf.specs.Finding.{Finding, arity_above, in_no_premise, line, told}
+use Rattle.sp_wf.specs.RuleFindings.{wide_facts, wide_actions, makes_fresh, first_sort, unbound}
+use Rattle.sp_wf.specs.Report.{lines_after}
+use Rattle.sp_wf.specs.Told.{stands_among}
+use Rattle.sp_wf.proofs.RuleSorts.{member_named}
+use Rattle.sp_spec.proofs.Lists.{every_from}
+
+pub told_on : (ls : List (List ℕ)) (b : Bool) (finding : Finding) (findings : List Finding) → lines_after (lines_after ls (told b finding [])) findings ≡ lines_after ls (told b finding findings)
+told_on ls true finding findings = refl
+told_on ls false finding findings = refl
+
+pub told_both : (xs : List Finding) (ls : List (List ℕ)) (ys : List Finding) → lines_after (lines_after ls xs) ys ≡ lines_after ls (xs ++ ys)
+told_both [] ls ys = refl
+told_both (x ∷ xs) ls ys = told_both xs (if is_listed (line x) ls then ls else ls ++ line x ∷ []) ys
+
+pub one_behind : (a b c : List (List ℕ)) (xs ys : List Finding) → b ≡ lines_after a xs → c ≡ lines_after b ys → c ≡ lines_after a (xs ++ ys)
+one_behind a b c xs ys e k = k ∙ ap (λ (ls : List (List ℕ)). lines_after ls ys) e ∙ told_both xs a ys
+
+as_facts : (fs : List (Fact Written)) → wide_actions (map action_of fs) ≡ wide_facts fs
+as_facts [] = refl
+as_facts (f ∷ fs) = ap (told (is_wide f.args) (arity_above f.symbol)) (as_facts fs)
+
+pub wide_rule : (ps acts cs : List (Fact Written)) (a b c d : List (List ℕ)) → b ≡ lines_after a (wide_facts ps) → c ≡ lines_after b (wide_facts acts) → d ≡ lines_after c (wide_facts cs)
+    → d ≡ lines_after a (wide_facts ps ++ (wide_actions (map action_of acts) ++ wide_facts cs))
+wide_rule ps acts cs a b c d e k h =
+    one_behind a b d (wide_facts ps) (wide_actions (map action_of acts) ++ wide_facts cs) e
+    (one_behind b c d (wide_actions (map action_of acts)) (wide_facts cs) (k ∙ ap (lines_after b) (sym (as_facts acts))) h)
+
+-- with another number of arguments there is not the one
+pub no_variable : (ts : List WrittenTerm) → (length ts ≡ 1 → ⊥) → is_fresh_variable (row (map term ts)) ≡ false
+no_variable [] h = refl
+no_variable (t ∷ []) h = absurd (h refl)
+no_variable (v.Variable y ∷ u ∷ ts) h = refl
+no_variable (v.Constant c ∷ u ∷ ts) h = refl
+
+pub not_made : (x : List ℕ) (ts : List WrittenTerm) → (length ts ≡ 1 → ⊥) → makes_fresh x (row (map term ts)) ≡ false
+not_made x [] h = refl
+not_made x (t ∷ []) h = absurd (h refl)
+not_made x (v.Variable y ∷ u ∷ ts) h = refl
+not_made x (v.Constant c ∷ u ∷ ts) h = refl
+
+or_grouped : (a b c : Bool) → (a || (b || c)) ≡ ((a || b) || c)
+or_grouped true b c = refl
+or_grouped false b c = refl
+
+named_in_either : (x : List ℕ) (xs ys : List Written) → is_named x (xs ++ ys) ≡ is_named x xs || is_named x ys
+named_in_either x [] ys = refl
+named_in_either x (y ∷ xs) ys = ap (λ (b : Bool). bytes_eq y.name x || b) (named_in_either x xs ys) ∙ or_grouped (bytes_eq y.name x) (is_named x xs) (is_named x ys)
+
+pub among : (x : List ℕ) (fs : List (Fact Written)) → stands_among x fs ≡ is_named x (in_facts fs)
+among x [] = refl
+among x (f ∷ fs) = ap (λ (b : Bool). is_named x (in_terms f.args) || b) (among x fs) ∙ sym (named_in_either x (in_terms f.args) (in_facts fs))
+
+-- what stands in a premise is not unbound
+unbound_both : (r : List ℕ) (facts : Facts Written) (xs ys : List Written) → unbound r facts (xs ++ ys) ≡ unbound r facts xs ++ unbound r facts ys
+unbound_both r facts [] ys = refl
+unbound_both r facts (x ∷ xs) ys =
+    ap (told (not (is_pub (first_sort facts x.name)) && not (is_named x.name (in_facts facts.premises))) (in_no_premise r x.name)) (unbound_both r facts xs ys)
+    ∙ on (not (is_pub (first_sort facts x.name)) && not (is_named x.name (in_facts facts.premises)))
+  where
+    on : (b : Bool) → told b (in_no_premise r x.name) (unbound r facts xs ++ unbound r facts ys) ≡ told b (in_no_premise r x.name) (unbound r facts xs) ++ unbound r facts ys
+    on true = refl
+    on false = refl
+
+not_told : (a b : Bool) (finding : Finding) (findings : List Finding) → b ≡ true → told (a && not b) finding findings ≡ findings
+not_told true true finding findings e = refl
+not_told false true finding findings e = refl
+not_told a false finding findings e = absurd cc
+
+all_bound : (r : List ℕ) (facts : Facts Written) (xs : List Written) → Every (λ (x : Written). is_named x.name (in_facts facts.premises) ≡ true) xs → unbound r facts xs ≡ []
+all_bound r facts [] h = refl
+all_bound r facts (x ∷ xs) h =
+    not_told (not (is_pub (first_sort facts x.name))) (is_named x.name (in_facts facts.premises)) (in_no_premise r x.name) (unbound r facts xs) h.0 ∙ all_bound r facts xs h.1
+
+unbound_all : (r : List ℕ) (facts : Facts Written) → unbound r facts (occurrences facts) ≡ unbound r facts (in_actions facts.actions) ++ unbound r facts (in_facts facts.conclusions)
+unbound_all r facts =
+    unbound_both r facts (in_facts facts.premises) (in_actions facts.actions ++ in_facts facts.conclusions)
+    ∙ ap (λ (fs : List Finding). fs ++ unbound r facts (in_actions facts.actions ++ in_facts facts.conclusions))
+    (all_bound r facts (in_facts facts.premises) (every_from (λ (x : Written). is_named x.name (in_facts facts.premises) ≡ true) (in_facts facts.premises) (λ x m. member_named x (in_facts facts.premises) m)))
+    ∙ unbound_both r facts (in_actions facts.actions) (in_facts facts.conclusions)
+
+pub unbound_anywhere : (r : List ℕ) (facts : Facts Written) (xs : List Written) (a b : List (List ℕ)) → xs ≡ occurrences facts → b ≡ lines_after a (unbound r facts xs)
+    → b ≡ lines_after a (unbound r facts (in_actions facts.actions) ++ unbound r facts (in_facts facts.conclusions))
+unbound_anywhere r facts xs a b e k = k ∙ ap (λ (ys : List Written). lines_after a (unbound r facts ys)) e ∙ ap (lines_after a) (unbound_all r facts)
+
+pub named_behind : (names : List (Bor (List ℕ))) (x : Bor (List ℕ)) → map (λ (n : Bor (List ℕ)). n.now) (names ++ x ∷ []) ≡ map (λ (n : Bor (List ℕ)). n.now) names ++ x.now ∷ []
+named_behind [] x = refl
+named_behind (n ∷ names) x = ap (λ (ns : List (List ℕ)). n.now ∷ ns) (named_behind names x)
+
+pub told_four : (a b c d e : List (List ℕ)) (ws xs ys zs : List Finding) → b ≡ lines_after a ws → c ≡ lines_after b xs → d ≡ lines_after c ys → e ≡ lines_after d zs
+    → e ≡ lines_after a (ws ++ (xs ++ (ys ++ zs)))
+told_four a b c d e ws xs ys zs w x y z = one_behind a b e ws (xs ++ (ys ++ zs)) w (one_behind b c e xs (ys ++ zs) x (one_behind c d e ys zs y z))

@@ -1,0 +1,63 @@
+-- The report on a theory: a line for each fatal finding. Source: Tamarin manual, "Checking well-formedness".
+use Rattle.std.specs.Prelude.{ℕ, List, [], ◌∷◌, ◌++◌, if◌then◌else◌, codes}
+use Rattle.sp_spec.specs.Theory.{Lemma}
+use Rattle.sp_spec.specs.Written.{WrittenRule, is_listed}
+use Rattle.sp_spec_text.specs.Written.{Item, rule_item, lemma_item, WrittenText, rules_in, lemmas_in}
+use Rattle.sp_wf.specs.Finding.{Finding, used_twice, line, told}
+use Rattle.sp_wf.specs.RuleFindings.{wide_in_rule, sorts_in_rule, reserved_in_rule, arguments_in_rule, unbound_in_rule}
+use Rattle.sp_wf.specs.FormulaFindings.{wide_in_lemma, unbound_in_lemma, unguarded_in_lemma, sorts_in_lemma, mixed_in_lemma}
+
+-- ---- rules and lemmas alike, in the order of the text
+
+abbrev pub wide_in_item : Item → List Finding
+wide_in_item (rule_item r) = wide_in_rule r
+wide_in_item (lemma_item l p) = wide_in_lemma l
+
+abbrev pub wide_in_items : List Item → List Finding
+wide_in_items [] = []
+wide_in_items (x ∷ xs) = wide_in_item x ++ wide_in_items xs
+
+-- Each name of a rule that a rule before has, and each name of a lemma that a lemma before has. The names of the rules and of the lemmas
+-- before stand last first.
+abbrev pub repeated : List (List ℕ) → List (List ℕ) → List Item → List Finding
+repeated rules lemmas [] = []
+repeated rules lemmas (rule_item r ∷ xs) = told (is_listed r.name rules) (used_twice r.name) (repeated (r.name ∷ rules) lemmas xs)
+repeated rules lemmas (lemma_item l p ∷ xs) = told (is_listed l.name lemmas) (used_twice l.name) (repeated rules (l.name ∷ lemmas) xs)
+
+-- ---- rules alone, and lemmas alone
+
+abbrev pub on_rules : (WrittenRule → List Finding) → List WrittenRule → List Finding
+on_rules on [] = []
+on_rules on (r ∷ rs) = on r ++ on_rules on rs
+
+abbrev pub on_lemmas : (Lemma → List Finding) → List Lemma → List Finding
+on_lemmas on [] = []
+on_lemmas on (l ∷ ls) = on l ++ on_lemmas on ls
+
+abbrev pub findings_on_rules : List WrittenRule → List Finding
+findings_on_rules rs = on_rules sorts_in_rule rs ++ (on_rules reserved_in_rule rs ++ (on_rules arguments_in_rule rs ++ on_rules unbound_in_rule rs))
+
+abbrev pub findings_on_lemmas : List Lemma → List Finding
+findings_on_lemmas ls = on_lemmas unbound_in_lemma ls ++ (on_lemmas unguarded_in_lemma ls ++ (on_lemmas sorts_in_lemma ls ++ on_lemmas mixed_in_lemma ls))
+
+-- ---- the report
+
+-- By number, and for each number by item in the order of the text; a finding may stand more than once.
+abbrev pub findings : WrittenText → List Finding
+findings t = wide_in_items t.items ++ (repeated [] [] t.items ++ (findings_on_rules (rules_in t.items) ++ findings_on_lemmas (lemmas_in t.items)))
+
+-- behind these lines those of the findings, each line once
+abbrev pub lines_after : List (List ℕ) → List Finding → List (List ℕ)
+lines_after lines [] = lines
+lines_after lines (finding ∷ findings) = lines_after (if is_listed (line finding) lines then lines else lines ++ line finding ∷ []) findings
+
+abbrev pub lines : WrittenText → List (List ℕ)
+lines t = lines_after [] (findings t)
+
+-- with a line feed behind each
+abbrev pub text_of : List (List ℕ) → List ℕ
+text_of [] = []
+text_of (l ∷ ls) = l ++ (codes "\n" ++ text_of ls)
+
+abbrev pub report : WrittenText → List ℕ
+report t = text_of (lines t)

@@ -1,0 +1,157 @@
+// The findings on the facts of a rule.
+
+ghost use Rattle.std.specs.Prelude.{◌≡◌, OnOk};
+ghost use Rattle.sp_spec.specs.Findings as findings;
+ghost use Rattle.sp_read_parts.specs.Views as view;
+ghost use Rattle.sp_read_parts.specs.Views.{fact_of, facts_of};
+ghost use Rattle.sp_wf.specs.RuleFindings as spec;
+ghost use Rattle.sp_wf.specs.Report.{lines_after};
+ghost use Rattle.sp_wf.specs.View.{lines_of};
+
+use crate::finding::{Finding, tell_if};
+use sp_read_parts::{Mark, WrittenFact, WrittenRule, WrittenTerm};
+use std::alloc::{AllocError, Global};
+
+/// The most arguments that a fact may have.
+const MOST_ARGUMENTS: usize = 16;
+
+/// Whether the fact has too many arguments.
+#[tactic(auto, using(sp_finding::proofs::Counted::counted))]
+pub fn is_wide(fact: &WrittenFact) -> bool
+    ensures { result ≡ findings.is_wide (fact_of fact.now).args }
+{
+    MOST_ARGUMENTS < fact.arguments.len()
+}
+
+/// Tells of each of the facts that has too many arguments.
+#[tactic(auto, using(crate::proofs::Telling::told_on))]
+fn tell_wide_facts(
+    alloc: Global,
+    lines: &mut Vec<String>,
+    facts: &Vec<WrittenFact>,
+) -> Result<(), AllocError>
+    ensures { OnOk result (lines_of lines.new.items ≡ lines_after (lines_of lines.old.items) (spec.wide_facts (facts_of facts.now.items))) }
+{
+    for fact in facts {
+        tell_if(
+            alloc,
+            lines,
+            is_wide(fact),
+            Finding::ArityAbove(fact.symbol),
+        )?;
+    }
+    Ok(())
+}
+
+/// Tells of each fact and each action of the rule that has too many arguments.
+#[tactic(auto, using(crate::proofs::Telling::wide_rule))]
+pub fn tell_wide(
+    alloc: Global,
+    lines: &mut Vec<String>,
+    rule: &WrittenRule,
+) -> Result<(), AllocError>
+    ensures { OnOk result (lines_of lines.new.items ≡ lines_after (lines_of lines.old.items) (spec.wide_in_rule (view.rule rule.now))) }
+{
+    tell_wide_facts(alloc, lines, &rule.premises)?;
+    tell_wide_facts(alloc, lines, &rule.actions)?;
+    tell_wide_facts(alloc, lines, &rule.conclusions)
+}
+
+/// Whether it has one argument.
+#[tactic(auto, using(sp_finding::proofs::Counted::one))]
+fn is_one(fact: &WrittenFact) -> bool
+    ensures { result ≡ findings.is_one (fact_of fact.now).args }
+{
+    fact.arguments.len() == 1
+}
+
+/// Whether what is marked so may be fresh.
+pub fn may_be_fresh(mark: Mark) -> bool
+    ensures { result ≡ findings.may_be_fresh (view.mark mark) }
+{
+    match mark {
+        Mark::Bare => true,
+        Mark::Fresh => true,
+        Mark::Message => true,
+        Mark::Public => false,
+        Mark::Time => false,
+    }
+}
+
+/// Whether its one argument is a variable that may be fresh.
+#[tactic(auto, using(crate::proofs::Telling::no_variable))]
+fn is_fresh_variable(fact: &WrittenFact) -> bool
+    ensures { result ≡ findings.is_fresh_variable (fact_of fact.now).args }
+{
+    if fact.arguments.len() != 1 {
+        return false;
+    }
+    match fact.arguments[0] {
+        WrittenTerm::Variable(variable) => may_be_fresh(variable.mark),
+        WrittenTerm::Constant(_) => false,
+    }
+}
+
+/// Tells of each premise Fr that is persistent, or hasn't one argument.
+#[tactic(auto, using(crate::proofs::Telling::told_on))]
+fn tell_premises(
+    alloc: Global,
+    lines: &mut Vec<String>,
+    rule: &str,
+    premises: &Vec<WrittenFact>,
+) -> Result<(), AllocError>
+    ensures { OnOk result (lines_of lines.new.items ≡ lines_after (lines_of lines.old.items) (spec.wrong_premises rule.now (facts_of premises.now.items))) }
+{
+    for fact in premises {
+        let is_wrong = fact.symbol == "Fr" && (fact.persistent || !is_one(fact));
+        tell_if(alloc, lines, is_wrong, Finding::Reserved(rule, fact.symbol))?;
+    }
+    Ok(())
+}
+
+/// Tells of each conclusion Fr.
+#[tactic(auto, using(crate::proofs::Telling::told_on))]
+fn tell_conclusions(
+    alloc: Global,
+    lines: &mut Vec<String>,
+    rule: &str,
+    conclusions: &Vec<WrittenFact>,
+) -> Result<(), AllocError>
+    ensures { OnOk result (lines_of lines.new.items ≡ lines_after (lines_of lines.old.items) (spec.wrong_conclusions rule.now (facts_of conclusions.now.items))) }
+{
+    for fact in conclusions {
+        let is_wrong = fact.symbol == "Fr";
+        tell_if(alloc, lines, is_wrong, Finding::Reserved(rule, fact.symbol))?;
+    }
+    Ok(())
+}
+
+/// Tells of each fact of the rule that stands where it may not.
+#[tactic(auto, using(crate::proofs::Telling::one_behind))]
+pub fn tell_reserved(
+    alloc: Global,
+    lines: &mut Vec<String>,
+    rule: &WrittenRule,
+) -> Result<(), AllocError>
+    ensures { OnOk result (lines_of lines.new.items ≡ lines_after (lines_of lines.old.items) (spec.reserved_in_rule (view.rule rule.now))) }
+{
+    tell_premises(alloc, lines, rule.name, &rule.premises)?;
+    tell_conclusions(alloc, lines, rule.name, &rule.conclusions)
+}
+
+/// Tells of each premise Fr of one argument that is no variable that may be fresh.
+#[tactic(auto, using(crate::proofs::Telling::told_on))]
+pub fn tell_arguments(
+    alloc: Global,
+    lines: &mut Vec<String>,
+    rule: &WrittenRule,
+) -> Result<(), AllocError>
+    ensures { OnOk result (lines_of lines.new.items ≡ lines_after (lines_of lines.old.items) (spec.arguments_in_rule (view.rule rule.now))) }
+{
+    for fact in &rule.premises {
+        let is_wrong = fact.symbol == "Fr"
+            && (!fact.persistent && (is_one(fact) && !is_fresh_variable(fact)));
+        tell_if(alloc, lines, is_wrong, Finding::FrArgument(rule.name))?;
+    }
+    Ok(())
+}

@@ -1,0 +1,171 @@
+// The findings on the formula of a lemma.
+
+ghost use Rattle.std.specs.Prelude.{◌≡◌, ◌&&◌, [], if◌then◌else◌, IfOk, OnOk, map};
+ghost use Rattle.sp_spec_text.specs.Shapes.{row};
+ghost use Rattle.sp_read_parts.specs.Formulas as written;
+ghost use Rattle.sp_written.specs.Views as view;
+ghost use Rattle.sp_guard.specs.View.{innermost_first};
+ghost use Rattle.sp_guard.specs.FirstNamed.{name_of};
+ghost use Rattle.sp_wf.specs.Finding.{are_none};
+ghost use Rattle.sp_wf.specs.FormulaFindings as spec;
+ghost use Rattle.sp_wf.specs.Report.{lines_after};
+ghost use Rattle.sp_wf.specs.Sought.{sought, sought_view};
+ghost use Rattle.sp_wf.specs.View.{lines_of};
+
+use crate::facts::is_wide;
+use crate::finding::{Finding, tell_if};
+use crate::uses::{Search, Sought, tell_equation, tell_happening, tell_order};
+use sp_guard::form::{guarded_form, within};
+use sp_guard::marks::marks_fit;
+use sp_guard::unguarded::first_unguarded;
+use sp_read_parts::{ReadFormula, WrittenVariable};
+use sp_written::WrittenLemma;
+use std::alloc::{AllocError, Global};
+
+/// Tells of what is looked for, where variables are used within the reach of these binders.
+#[tactic(auto, using(crate::proofs::Using::sought_on, crate::proofs::Formulas::sought_equivalent, crate::proofs::Formulas::sought_for_all, crate::proofs::Formulas::sought_for_some))]
+fn tell_uses<'a>(
+    alloc: Global,
+    lines: &mut Vec<String>,
+    search: Search<'a>,
+    binders: &Vec<WrittenVariable<'a>>,
+    formula: &ReadFormula<'a>,
+) -> Result<(), AllocError>
+    ensures { OnOk result (lines_of lines.new.items ≡ lines_after (lines_of lines.old.items) (sought (sought_view search.entry.sought) search.entry.lemma.now (spec.uses (innermost_first binders.now.items) (written.formula formula.now)))) }
+{
+    match formula {
+        ReadFormula::True | ReadFormula::False => Ok(()),
+        ReadFormula::Happens(fact, at) => tell_happening(alloc, lines, search, binders, fact, *at),
+        ReadFormula::Equals(left, right) => {
+            tell_equation(alloc, lines, search, binders, *left, *right)
+        }
+        ReadFormula::Precedes(left, right) => {
+            tell_order(alloc, lines, search, binders, *left, *right)
+        }
+        ReadFormula::Not(denied) => tell_uses(alloc, lines, search, binders, denied),
+        ReadFormula::Both(left, right)
+        | ReadFormula::Either(left, right)
+        | ReadFormula::Implies(left, right)
+        | ReadFormula::Equivalent(left, right) => {
+            tell_uses(alloc, lines, search, binders, left)?;
+            tell_uses(alloc, lines, search, binders, right)?;
+            Ok(())
+        }
+        ReadFormula::ForAll(more, body) => {
+            let inner = within(alloc, &*binders, &*more)?;
+            tell_uses(alloc, lines, search, &inner, body)?;
+            Ok(())
+        }
+        ReadFormula::ForSome(more, body) => {
+            let inner = within(alloc, &*binders, &*more)?;
+            tell_uses(alloc, lines, search, &inner, body)?;
+            Ok(())
+        }
+    }
+}
+
+/// Tells of each action of the formula that has too many arguments.
+#[tactic(auto, using(crate::proofs::Telling::told_both, crate::proofs::Formulas::wide_equivalent, crate::proofs::Formulas::wide_for_all, crate::proofs::Formulas::wide_for_some))]
+fn tell_wide_in(
+    alloc: Global,
+    lines: &mut Vec<String>,
+    formula: &ReadFormula,
+) -> Result<(), AllocError>
+    ensures { OnOk result (lines_of lines.new.items ≡ lines_after (lines_of lines.old.items) (spec.wide_in (written.formula formula.now))) }
+{
+    match formula {
+        ReadFormula::True | ReadFormula::False => Ok(()),
+        ReadFormula::Happens(fact, _) => tell_if(
+            alloc,
+            lines,
+            is_wide(fact),
+            Finding::ArityAbove(fact.symbol),
+        ),
+        ReadFormula::Equals(_, _) | ReadFormula::Precedes(_, _) => Ok(()),
+        ReadFormula::Not(denied) => tell_wide_in(alloc, lines, denied),
+        ReadFormula::Both(left, right)
+        | ReadFormula::Either(left, right)
+        | ReadFormula::Implies(left, right)
+        | ReadFormula::Equivalent(left, right) => {
+            tell_wide_in(alloc, lines, left)?;
+            tell_wide_in(alloc, lines, right)?;
+            Ok(())
+        }
+        ReadFormula::ForAll(_, body) | ReadFormula::ForSome(_, body) => {
+            tell_wide_in(alloc, lines, body)?;
+            Ok(())
+        }
+    }
+}
+
+/// Tells of each action of the lemma that has too many arguments.
+pub fn tell_wide_lemma(
+    alloc: Global,
+    lines: &mut Vec<String>,
+    lemma: &WrittenLemma,
+) -> Result<(), AllocError>
+    ensures { OnOk result (lines_of lines.new.items ≡ lines_after (lines_of lines.old.items) (spec.wide_in_lemma (view.lemma lemma.now))) }
+{
+    tell_wide_in(alloc, lines, &lemma.formula)
+}
+
+/// Tells of what is looked for, in the formula of the lemma.
+pub fn tell_lemma(
+    alloc: Global,
+    lines: &mut Vec<String>,
+    wanted: Sought,
+    lemma: &WrittenLemma,
+) -> Result<(), AllocError>
+    ensures { OnOk result (lines_of lines.new.items ≡ lines_after (lines_of lines.old.items) (sought (sought_view wanted) lemma.now.name.now (spec.uses [] (written.formula lemma.now.formula)))) }
+{
+    let none = Vec::new(alloc);
+    let search = Search {
+        sought: wanted,
+        lemma: lemma.name,
+    };
+    tell_uses(alloc, lines, search, &none, &lemma.formula)
+}
+
+/// Whether each variable has a binder, and is marked and used as that is.
+#[tactic(auto, using(crate::proofs::Formulas::used_rightly))]
+fn is_used_rightly(alloc: Global, lemma: &WrittenLemma) -> Result<bool, AllocError>
+    ensures { IfOk result (λ b. b ≡ (are_none (spec.unbound_in_lemma (view.lemma lemma.now)) && (are_none (spec.sorts_in_lemma (view.lemma lemma.now)) && are_none (spec.mixed_in_lemma (view.lemma lemma.now))))) }
+{
+    let none = Vec::new(alloc);
+    let form = guarded_form(alloc, &none, &lemma.formula)?;
+    let has_form = form.is_some();
+    let fit = marks_fit(alloc, &none, &lemma.formula)?;
+    Ok(has_form && fit)
+}
+
+/// Tells of a variable that isn't guarded.
+fn tell_name<'a>(
+    alloc: Global,
+    lines: &mut Vec<String>,
+    lemma: &'a str,
+    name: Option<&'a str>,
+) -> Result<(), AllocError>
+    ensures { OnOk result (lines_of lines.new.items ≡ lines_after (lines_of lines.old.items) (spec.unguarded_at lemma.now (name_of name.entry))) }
+{
+    match name {
+        Some(name) => tell_if(alloc, lines, true, Finding::NotGuarded(lemma, name)),
+        None => Ok(()),
+    }
+}
+
+/// Tells of the first variable of the lemma that isn't guarded, where its variables are used rightly.
+pub fn tell_unguarded(
+    alloc: Global,
+    lines: &mut Vec<String>,
+    lemma: &WrittenLemma,
+) -> Result<(), AllocError>
+    ensures { OnOk result (lines_of lines.new.items ≡ lines_after (lines_of lines.old.items) (spec.unguarded_in_lemma (view.lemma lemma.now))) }
+{
+    let is_right = is_used_rightly(alloc, lemma)?;
+    if !is_right {
+        return Ok(());
+    }
+    let name = first_unguarded(alloc, &lemma.formula)?;
+    tell_name(alloc, lines, lemma.name, name)?;
+    Ok(())
+}
