@@ -6,24 +6,24 @@ use Rattle.sp_spec.specs.Lists.{Every}
 use Rattle.sp_spec.specs.Log.{Log}
 use Rattle.sp_spec.specs.Theory.{TraceKind, all_traces, exists_trace, Lemma}
 use Rattle.sp_spec.specs.Written.{WrittenTheory, theory_of}
-use Rattle.sp_system.specs.System.{System}
-use Rattle.sp_step.specs.Moves.{Context}
-use Rattle.sp_check.specs.Tree.{Tree, IsAccepted, IsFinished, found_log, steps}
-use Rattle.sp_check.proofs.Growing.{grown_tree_accepted, grown_tree_steps}
-use Rattle.sp_judge.specs.Skeleton.{tree_of}
-use Rattle.sp_judge.specs.Skeleton as read
-use Rattle.sp_judge.proofs.Right.{judgements_right}
+use Rattle.sp_spec_system.specs.System.{System}
+use Rattle.sp_spec_system.specs.Move.{Context}
+use Rattle.sp_spec_proof.specs.Tree.{Tree, IsAccepted, IsFinished, found_log, steps}
+use Rattle.sp_law_tree.proofs.Growing.{grown_tree_accepted, grown_tree_steps}
+use Rattle.sp_check.specs.Skeleton.{tree_of}
+use Rattle.sp_check.specs.Skeleton as read
+use Rattle.sp_check.proofs.Right.{judgements_right}
 use Rattle.sp_spec_text.specs.Written.{Item, rule_item, lemma_item, WrittenText, lemmas_in, theory_in}
 use Rattle.sp_spec_text.specs.Texts.{IsTextOf}
 use Rattle.sp_text.specs.Places.{HavePlaces}
 use Rattle.sp_skel.specs.Steps.{skeleton}
 use Rattle.sp_skel.specs.Spelling.{as_written, IsReadable, AreNamed}
 use Rattle.sp_skel.proofs.Readable.{grown_readable}
-use Rattle.sp_again.proofs.Named.{rules_named}
+use Rattle.sp_law_again.proofs.Named.{rules_named}
 use Rattle.sp_skel.proofs.Spelled.{tree_says}
-use Rattle.sp_again.specs.Again.{with_trees}
-use Rattle.sp_again.proofs.Items.{read_again}
-use Rattle.sp_again.proofs.Replaced.{each_lemma, same_theory, trees_proofs}
+use Rattle.sp_law_again.specs.Again.{with_trees}
+use Rattle.sp_law_again.proofs.Items.{read_again}
+use Rattle.sp_law_again.proofs.Replaced.{each_lemma, same_theory, trees_proofs}
 use Rattle.sp_wf.specs.Laws.{IsWellFormed}
 use Rattle.sp_analysis.specs.Sought.{budget, start, Setting, setting_of, context_of}
 use Rattle.sp_spec_text.specs.Verdict.{Verdict, verified, falsified, incomplete, rejected, Says, summary_line}
@@ -31,6 +31,7 @@ use Rattle.sp_analysis.specs.Block.{block_of}
 use Rattle.sp_analysis.specs.Analysis.{Outcome, summary, trees_of, IsOutcome, AreOutcomes, IsAnalysis}
 use Rattle.sp_analysis.specs.Checking.{counted, IsVerdictOn, Judged, checked_text, IsJudged, AreJudged}
 use Rattle.sp_analysis.specs.Laws.{IsCheckedAgain, WrittenIsChecked}
+use Rattle.sp_spec_system.specs.Rules.{forms_of}
 
 -- ---- one lemma
 
@@ -117,7 +118,7 @@ trees_readable [] r = tt
 trees_readable (o ∷ os) r = (r.0, trees_readable os r.1)
 
 -- the trees that were grown are readable
-all_readable : (setting : Setting) (ls : List Lemma) (os : List Outcome) → AreNamed setting.rules → AreOutcomes setting ls os → Every (λ (o : Outcome). HavePlaces o.tree) os
+all_readable : (setting : Setting) (ls : List Lemma) (os : List Outcome) → AreNamed (map forms_of setting.rules) → AreOutcomes setting ls os → Every (λ (o : Outcome). HavePlaces o.tree) os
     → Every (λ (o : Outcome). IsReadable o.tree) os
 all_readable setting [] [] n h p = tt
 all_readable setting [] (o ∷ os) n h p = absurd h

@@ -4,15 +4,15 @@ use Rattle.sp_spec.specs.Log.{Log}
 use Rattle.sp_spec.specs.Theory.{TraceKind, all_traces, exists_trace, Lemma}
 use Rattle.sp_spec.specs.Written.{theory_of}
 use Rattle.sp_spec.specs.Guarded.{Guarded}
-use Rattle.sp_system.specs.System.{System}
-use Rattle.sp_step.specs.Moves.{Context}
-use Rattle.sp_check.specs.Tree.{Tree, IsAccepted, IsFinished, found_log}
-use Rattle.sp_grow.specs.Finished.{finished}
-use Rattle.sp_grow.proofs.Finished.{finished_decides}
-use Rattle.sp_judge.specs.Judging as judging
-use Rattle.sp_judge.specs.Judging.{Judgement, judgement}
-use Rattle.sp_judge.specs.Skeleton.{Skeleton, tree_of}
-use Rattle.sp_judge.proofs.Right.{judgements_right}
+use Rattle.sp_spec_system.specs.System.{System}
+use Rattle.sp_spec_system.specs.Move.{Context}
+use Rattle.sp_spec_proof.specs.Tree.{Tree, IsAccepted, IsFinished, found_log}
+use Rattle.sp_search.specs.Finished.{finished}
+use Rattle.sp_search.proofs.Finished.{finished_decides}
+use Rattle.sp_check.specs.Judging as judging
+use Rattle.sp_check.specs.Judging.{Judgement, judgement}
+use Rattle.sp_check.specs.Skeleton.{Skeleton, tree_of}
+use Rattle.sp_check.proofs.Right.{judgements_right}
 use Rattle.sp_spec_text.specs.Written.{WrittenProof, Item, rule_item, lemma_item, WrittenText, theory_in}
 use Rattle.sp_spec_text.specs.Spans.{Span}
 use Rattle.sp_spec_text.specs.Texts.{ArePlaces}

@@ -10,20 +10,20 @@ use Rattle.sp_spec.specs.Log.{Log}
 use Rattle.sp_spec.specs.Guarded.{Guarded}
 use Rattle.sp_law_guard.specs.CheckedForm.{checked_form}
 use Rattle.sp_read_parts.specs.Formulas.{formula}
-use Rattle.sp_system.specs.System.{System}
-use Rattle.sp_step.specs.Moves.{Context}
-use Rattle.sp_check.specs.Tree.{Tree, IsAccepted, IsFinished, found_log, steps}
-use Rattle.sp_check.specs.Root.{root}
-use Rattle.sp_check.specs.Growth.{grown_tree}
-use Rattle.sp_check.proofs.Logs.{no_log, finished_no_end}
-use Rattle.sp_check.proofs.Growing.{grown_tree_steps}
-use Rattle.sp_grow.specs.Finished.{finished}
-use Rattle.sp_grow.proofs.Finished.{finished_decides}
-use Rattle.sp_judge.specs.Judging as judging
-use Rattle.sp_judge.specs.Judging.{Judgement, judgement}
-use Rattle.sp_judge.specs.Skeleton as read
-use Rattle.sp_judge.specs.Skeleton.{Skeleton, tree_of}
-use Rattle.sp_judge.proofs.Right.{judgements_right}
+use Rattle.sp_spec_system.specs.System.{System}
+use Rattle.sp_spec_system.specs.Move.{Context}
+use Rattle.sp_spec_proof.specs.Tree.{Tree, IsAccepted, IsFinished, found_log, steps}
+use Rattle.sp_spec_proof.specs.Root.{root}
+use Rattle.sp_spec_proof.specs.Growth.{grown_tree}
+use Rattle.sp_law_tree.proofs.Logs.{no_log, finished_no_end}
+use Rattle.sp_law_tree.proofs.Growing.{grown_tree_steps}
+use Rattle.sp_search.specs.Finished.{finished}
+use Rattle.sp_search.proofs.Finished.{finished_decides}
+use Rattle.sp_check.specs.Judging as judging
+use Rattle.sp_check.specs.Judging.{Judgement, judgement}
+use Rattle.sp_check.specs.Skeleton as read
+use Rattle.sp_check.specs.Skeleton.{Skeleton, tree_of}
+use Rattle.sp_check.proofs.Right.{judgements_right}
 use Rattle.sp_constants.specs.Constants.{constants_of}
 use Rattle.sp_term.specs.View.{name_of}
 use Rattle.sp_fact.specs.BookView.{book_of}
@@ -33,10 +33,9 @@ use Rattle.sp_spec_text.specs.Written.{lemmas_in, theory_in}
 use Rattle.sp_written.specs.Views as view
 use Rattle.sp_written.specs.declared.theory.Item.{Item}
 use Rattle.sp_written.specs.declared.theory.Item.TheVariants as i
-use Rattle.sp_spec_text.specs.Spans.{Span}
+use Rattle.sp_spec_text.specs.Spans.{Span, Rise, goes_on}
 use Rattle.sp_written.specs.declared.theory.WrittenLemma.{WrittenLemma}
-use Rattle.sp_spec_text.specs.Spans.{Rise, goes_on}
-use Rattle.sp_again.specs.Again.{between, replaced}
+use Rattle.sp_law_again.specs.Again.{between, replaced}
 use Rattle.sp_pose.proofs.Forms.{AreForms, asked_list, has_forms, lemmas_same}
 use Rattle.sp_analysis.specs.Sought.{budget, sought, start, Setting, setting_of, context_with, context_of, proof_tree, grown_log}
 use Rattle.sp_spec_text.specs.Verdict.{Verdict, Says}

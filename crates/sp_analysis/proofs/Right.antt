@@ -14,12 +14,12 @@ use Rattle.sp_log.specs.Checking.{is_log}
 use Rattle.sp_solved.specs.Candidate.{candidate}
 use Rattle.sp_solved.specs.Found.{is_sought, kept_if, found}
 use Rattle.sp_law_shown.specs.Shown.{IsSearched, FoundBreaks, FoundSatisfies}
-use Rattle.sp_step.specs.Moves.{Context}
-use Rattle.sp_check.specs.Tree.{Tree, IsAccepted, IsFinished, found_log}
-use Rattle.sp_check.specs.PlainTheory.{IsPlainFormula}
-use Rattle.sp_check.proofs.AllShown.{lemmas_are_shown_lem}
-use Rattle.sp_check.proofs.Growing.{grown_tree_accepted}
-use Rattle.sp_check.proofs.Logs.{log_found}
+use Rattle.sp_spec_system.specs.Move.{Context}
+use Rattle.sp_spec_proof.specs.Tree.{Tree, IsAccepted, IsFinished, found_log}
+use Rattle.sp_law_tree.specs.PlainTheory.{IsPlainFormula}
+use Rattle.sp_law_tree.proofs.AllShown.{lemmas_are_shown_lem}
+use Rattle.sp_law_tree.proofs.Growing.{grown_tree_accepted}
+use Rattle.sp_law_tree.proofs.Logs.{log_found}
 use Rattle.sp_law_shown.proofs.Found.{found_logs_show_lem}
 use Rattle.sp_constants.specs.Constants.{constants_of}
 use Rattle.sp_wf.specs.Laws.{IsWellFormed}
@@ -28,10 +28,10 @@ use Rattle.sp_analysis.specs.Analysis.{Outcome, IsOutcome, AreOutcomes}
 use Rattle.sp_analysis.specs.Laws.{Means, IsRejected, JudgedRightly, VerdictsAreRight}
 use Rattle.sp_spec_text.specs.Verdict.{Verdict, verified, falsified, incomplete, rejected, Says}
 use Rattle.sp_analysis.specs.Checking.{IsVerdictOn, Judged, IsJudged, AreJudged}
-use Rattle.sp_system.specs.System.{System}
-use Rattle.sp_judge.specs.Skeleton.{Skeleton}
-use Rattle.sp_judge.specs.Rejected.{ReadIsAccepted}
-use Rattle.sp_judge.proofs.Right.{judgements_right}
+use Rattle.sp_spec_system.specs.System.{System}
+use Rattle.sp_check.specs.Skeleton.{Skeleton}
+use Rattle.sp_check.specs.Rejected.{ReadIsAccepted}
+use Rattle.sp_check.proofs.Right.{judgements_right}
 use Rattle.sp_spec_text.specs.Written.{WrittenProof, Item, rule_item, lemma_item, lemmas_in, theory_in}
 use Rattle.sp_pose.proofs.Theories.{AreFirst, theory_spelled}
 
@@ -91,7 +91,7 @@ module _ (theory : WrittenTheory) (first : AreFirst theory.rules theory.lemmas) 
       → IsAccepted (context_of (setting_of theory) kind g) (start kind g) tree → log ≡ found_log (context_of (setting_of theory) kind g) (start kind g) tree
       → Says kind v log (IsFinished tree) → Means (theory_of theory) kind v log l
   shown l f g e all_traces verified None tree accepted is says =
-      lemmas_are_shown_lem.all_traces theory first.rules_are fine.rules l f g e (context_of (setting_of theory) all_traces g) refl tree accepted says
+      lemmas_are_shown_lem.all_traces theory first.rules_are fine.rules l f g e (context_of (setting_of theory) all_traces g) (record { rules = refl }) tree accepted says
   shown l f g e all_traces verified (Some log) tree accepted is says = absurd says
   shown l f g e all_traces falsified None tree accepted is says = absurd says
   shown l f g e all_traces falsified (Some log) tree accepted is says =
@@ -103,7 +103,7 @@ module _ (theory : WrittenTheory) (first : AreFirst theory.rules theory.lemmas) 
   shown l f g e exists_trace verified (Some log) tree accepted is says =
       let s = ended exists_trace g tree log is in satisfies l f g e s.0 log s.1
   shown l f g e exists_trace falsified None tree accepted is says =
-      lemmas_are_shown_lem.exists_trace theory first.rules_are fine.rules l f g e (context_of (setting_of theory) exists_trace g) refl tree accepted says
+      lemmas_are_shown_lem.exists_trace theory first.rules_are fine.rules l f g e (context_of (setting_of theory) exists_trace g) (record { rules = refl }) tree accepted says
   shown l f g e exists_trace falsified (Some log) tree accepted is says = absurd says
   shown l f g e exists_trace incomplete None tree accepted is says = tt
   shown l f g e exists_trace incomplete (Some log) tree accepted is says = absurd says

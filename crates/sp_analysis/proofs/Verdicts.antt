@@ -1,9 +1,9 @@
 -- The verdict by the test whether a leaf is open.
 use Rattle.std.proofs.Common.{◌≡◌, ◌↔◌, IsTrue, Bool, true, false, true≢false, refl, sym, ap, ◌∙◌}
 use Rattle.sp_spec.specs.Theory.{TraceKind}
-use Rattle.sp_check.specs.Tree.{Tree, IsFinished}
-use Rattle.sp_grow.specs.Finished.{finished}
-use Rattle.sp_grow.proofs.Finished.{finished_decides}
+use Rattle.sp_spec_proof.specs.Tree.{Tree, IsFinished}
+use Rattle.sp_search.specs.Finished.{finished}
+use Rattle.sp_search.proofs.Finished.{finished_decides}
 use Rattle.sp_spec_text.specs.Verdict.{Verdict, incomplete}
 use Rattle.sp_analysis.specs.Kept.{shown, by_leaves}
 

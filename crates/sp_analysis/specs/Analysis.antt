@@ -8,12 +8,12 @@ use Rattle.sp_spec.specs.Written.{theory_of}
 use Rattle.sp_spec.specs.Guarded.{Guarded}
 use Rattle.sp_spec.specs.Log.{Log}
 use Rattle.sp_law_guard.specs.CheckedForm.{checked_form}
-use Rattle.sp_check.specs.Tree.{Tree, IsFinished, steps}
+use Rattle.sp_spec_proof.specs.Tree.{Tree, IsFinished, steps}
 use Rattle.sp_text.specs.Places.{HavePlaces}
 use Rattle.sp_spec_text.specs.Written.{WrittenText, theory_in}
 use Rattle.sp_spec_text.specs.Spans.{Span}
 use Rattle.sp_spec_text.specs.Texts.{ArePlaces}
-use Rattle.sp_again.specs.Again.{replaced}
+use Rattle.sp_law_again.specs.Again.{replaced}
 use Rattle.sp_pose.specs.Problem.{Poses}
 use Rattle.sp_analysis.specs.Sought.{Setting, setting_of, proof_tree, grown_log}
 use Rattle.sp_spec_text.specs.Verdict.{Verdict, Says, summary_line}

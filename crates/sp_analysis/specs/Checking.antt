@@ -8,11 +8,11 @@ use Rattle.sp_spec.specs.Written.{theory_of}
 use Rattle.sp_spec.specs.Guarded.{Guarded}
 use Rattle.sp_spec.specs.Log.{Log}
 use Rattle.sp_law_guard.specs.CheckedForm.{checked_form}
-use Rattle.sp_system.specs.System.{System}
-use Rattle.sp_step.specs.Moves.{Context, unproved}
-use Rattle.sp_check.specs.Tree.{Tree, IsAccepted, IsFinished, found_log}
-use Rattle.sp_judge.specs.Skeleton.{Skeleton, node_read, none_read, known, tree_of, steps}
-use Rattle.sp_judge.specs.Rejected.{IsRejectedAt}
+use Rattle.sp_spec_system.specs.System.{System}
+use Rattle.sp_spec_system.specs.Move.{Context, unproved}
+use Rattle.sp_spec_proof.specs.Tree.{Tree, IsAccepted, IsFinished, found_log}
+use Rattle.sp_check.specs.Skeleton.{Skeleton, node_read, none_read, known, tree_of, steps}
+use Rattle.sp_check.specs.Rejected.{IsRejectedAt}
 use Rattle.sp_spec_text.specs.Written.{WrittenProof, Item, rule_item, lemma_item, WrittenText, theory_in}
 use Rattle.sp_skel.specs.Steps.{skeleton}
 use Rattle.sp_pose.specs.Problem.{Poses}

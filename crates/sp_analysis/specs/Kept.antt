@@ -2,21 +2,20 @@
 use Rattle.std.specs.Prelude.{ℕ, Bool, true, false, List, [], ◌∷◌, ◌++◌, codes, map, Option, Some, None, string_bytes}
 use Rattle.sp_spec.specs.Log.{Log}
 use Rattle.sp_spec.specs.Theory.{TraceKind, all_traces, exists_trace}
-use Rattle.sp_check.specs.Tree.{steps}
-use Rattle.sp_grow.specs.Finished.{finished}
+use Rattle.sp_spec_proof.specs.Tree.{steps}
+use Rattle.sp_search.specs.Finished.{finished}
 use Rattle.sp_text.specs.Places.{HavePlaces}
 use Rattle.sp_text.specs.TreeText.{tree_text}
-use Rattle.sp_judge.specs.Judging as judging
-use Rattle.sp_judge.specs.Judging.{Judgement, judgement}
-use Rattle.sp_judge.specs.Skeleton as read
+use Rattle.sp_check.specs.Judging as judging
+use Rattle.sp_check.specs.Judging.{Judgement, judgement}
+use Rattle.sp_check.specs.Skeleton as read
 use Rattle.sp_written.specs.Views as view
-use Rattle.sp_spec_text.specs.Spans.{Span}
-use Rattle.sp_spec_text.specs.Spans.{goes_on}
+use Rattle.sp_spec_text.specs.Spans.{Span, goes_on}
 use Rattle.sp_pose.specs.Asked.{Asked}
 use Rattle.sp_analysis.specs.Sought.{Setting, context_of, start, proof_tree, grown_log}
 use Rattle.sp_spec_text.specs.Verdict.{Verdict, verified, falsified, incomplete, rejected, summary_line}
 use Rattle.sp_analysis.specs.Block.{block_of}
-use Rattle.sp_again.specs.Again.{between}
+use Rattle.sp_law_again.specs.Again.{between}
 use Rattle.sp_analysis.specs.Checking.{proof_read, counted}
 use Rattle.sp_analysis.specs.View.{verdict_of}
 use Rattle.sp_analysis.specs.declared.tried.Tried.{Tried}

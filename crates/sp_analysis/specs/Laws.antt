@@ -5,9 +5,9 @@ use Rattle.sp_spec.specs.Theory.{TraceKind, all_traces, exists_trace, Theory, Le
 use Rattle.sp_spec.specs.Log.{Log}
 use Rattle.sp_spec.specs.Written.{WrittenTheory, theory_of}
 use Rattle.sp_spec.specs.Verdict.{HoldsInAll, HoldsInNone}
-use Rattle.sp_judge.specs.Rejected.{ReadIsAccepted}
+use Rattle.sp_check.specs.Rejected.{ReadIsAccepted}
 use Rattle.sp_spec_text.specs.Verdict.{Clause, Verdict, verified, falsified, incomplete, rejected}
-use Rattle.sp_check.specs.Tree.{Tree}
+use Rattle.sp_spec_proof.specs.Tree.{Tree}
 use Rattle.sp_spec_text.specs.Written.{WrittenText, theory_in, proofs_in}
 use Rattle.sp_skel.specs.Spelling.{as_written}
 use Rattle.sp_place.specs.Refused.{IsRefusedAt}

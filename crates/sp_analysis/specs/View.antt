@@ -3,7 +3,7 @@ use Rattle.std.specs.Prelude.{map}
 use Rattle.sp_term.specs.View.{name_of}
 use Rattle.sp_ground.specs.View.{signature_of}
 use Rattle.sp_fact.specs.BookView.{book_of}
-use Rattle.sp_judge.specs.View.{clause_of}
+use Rattle.sp_check.specs.View.{clause_of}
 use Rattle.sp_analysis.specs.Sought as sought
 use Rattle.sp_spec_text.specs.Verdict as spec
 use Rattle.sp_analysis.specs.declared.setting.Setting.{Setting}

@@ -1,4 +1,4 @@
-use sp_judge::Clause;
+use sp_check::Clause;
 
 /// What is said of a lemma.
 #[derive(Clone, Copy, Debug, PartialEq, Eq)]

@@ -1,19 +1,19 @@
 // The text with the proofs, and the summary.
 
 ghost use Rattle.std.specs.Prelude.{◌≡◌, ◌≤◌, ◌++◌, IfOk, OnOk, codes, length, map, string_bytes};
-ghost use Rattle.sp_judge.specs.View.{clause_of};
+ghost use Rattle.sp_check.specs.View.{clause_of};
 ghost use Rattle.sp_written.specs.Views as view;
 ghost use Rattle.sp_spec_text.specs.Spans as places;
 ghost use Rattle.sp_spec_text.specs.Spans.{Rise};
 ghost use Rattle.sp_spec_text.specs.Verdict as spec;
-ghost use Rattle.sp_again.specs.Again.{between};
+ghost use Rattle.sp_law_again.specs.Again.{between};
 ghost use Rattle.sp_analysis.specs.View.{verdict_of};
 ghost use Rattle.sp_analysis.specs.Kept as keep;
 
 use crate::replies::Command;
 use crate::tried::Tried;
 use crate::verdict::Verdict;
-use sp_judge::Clause;
+use sp_check::Clause;
 use sp_pose::kind_text;
 use sp_written::{Span, TraceKind};
 use std::alloc::{AllocError, Global};

@@ -1,46 +1,28 @@
--- What an accepted tree shows, and what growth owes.
-use Rattle.std.specs.Prelude.{◌≡◌, ℕ, ◌≤◌, Some, None, true, false}
-use Rattle.sp_spec.specs.Lists.{Every}
-use Rattle.sp_spec.specs.Theory.{Theory, Lemma}
-use Rattle.sp_spec.specs.Written.{WrittenRule, WrittenTheory, theory_of}
-use Rattle.sp_spec.specs.Findings.{rule_is_wrong}
-use Rattle.sp_spec.specs.Guarded.{Guarded}
+-- What judgements owe.
+use Rattle.std.specs.Prelude.{◌≡◌, ◌↔◌, ◌<◌, ◌≤◌, ℕ, Some, None}
 use Rattle.sp_spec.specs.Log.{Log}
-use Rattle.sp_spec.specs.Verdict.{HoldsInAll, HoldsInNone}
-use Rattle.sp_law_guard.specs.GuardedForm.{negate}
-use Rattle.sp_law_guard.specs.CheckedForm.{checked_form}
-use Rattle.sp_system.specs.System.{System, IsNumbered}
-use Rattle.sp_step.specs.Laws.{HasNoSolution, IsPlainTheory}
-use Rattle.sp_step.specs.Moves.{Context}
-use Rattle.sp_check.specs.Tree.{Tree, IsAccepted, IsFinished, found_log, steps}
-use Rattle.sp_check.specs.Root.{root}
-use Rattle.sp_check.specs.PlainTheory.{IsPlainRule, IsPlainFormula}
-use Rattle.sp_check.specs.Growth.{has_end, grown_tree}
+use Rattle.sp_spec_system.specs.System.{System}
+use Rattle.sp_spec_system.specs.Move.{Context}
+use Rattle.sp_spec_proof.specs.Tree.{Tree, IsAccepted, IsFinished, found_log}
+use Rattle.sp_spec_proof.specs.Tree as tree
+use Rattle.sp_check.specs.Skeleton.{Skeleton, tree_of, nodes, steps}
+use Rattle.sp_check.specs.Rejected.{ReadIsAccepted, IsRejectedAt}
+use Rattle.sp_spec_text.specs.Verdict.{Clause}
+use Rattle.sp_check.specs.Judging.{rejected, found, finished, incomplete, judgement}
 
--- the tree theorem: where a tree is accepted, no leaf is left open and with none the search ends, the system at its root has no solution
-pub record FinishedTreesShow (theory : Theory) : Type 0 where
-  pub no_solution : (context : Context) → context.rules ≡ theory.rules → (s : System) (tree : Tree)
-      → IsNumbered s → IsAccepted context s tree → IsFinished tree → HasNoSolution theory s
-
--- A finished tree has a root without solutions. An accepted tree has a log exactly where the search ends at some leaf, and then it is the
--- log with which it ends at some system.
-pub record AcceptedTreesShow : Type 0 where
-  pub trees : (theory : Theory) → IsPlainTheory theory → FinishedTreesShow theory
-  pub found : (context : Context) (s : System) (tree : Tree) (log : Log) → found_log context s tree ≡ Some log → (t : System) × (context.found t ≡ Some log)
-  pub ends : (context : Context) (s : System) (tree : Tree) → IsAccepted context s tree → has_end tree ≡ true → (log : Log) × (found_log context s tree ≡ Some log)
-  pub no_end : (context : Context) (s : System) (tree : Tree) → has_end tree ≡ false → found_log context s tree ≡ None
-
--- What a finished tree shows of a lemma of a theory without findings on its rules, steps of the adversary included. From the negation of the lemma's guarded
--- form: every execution satisfies the lemma. From the guarded form: no execution does.
-pub record LemmasAreShown : Type 0 where
-  pub all_traces : (theory : WrittenTheory) → Every IsPlainRule theory.rules → Every (λ (r : WrittenRule). rule_is_wrong r ≡ false) theory.rules
-      → (lemma : Lemma) → IsPlainFormula lemma.formula → (g : Guarded) → checked_form lemma.formula ≡ Some g
-      → (context : Context) → context.rules ≡ (theory_of theory).rules → (tree : Tree) → IsAccepted context (root (negate g)) tree → IsFinished tree → HoldsInAll (theory_of theory) lemma
-  pub exists_trace : (theory : WrittenTheory) → Every IsPlainRule theory.rules → Every (λ (r : WrittenRule). rule_is_wrong r ≡ false) theory.rules
-      → (lemma : Lemma) → IsPlainFormula lemma.formula → (g : Guarded) → checked_form lemma.formula ≡ Some g
-      → (context : Context) → context.rules ≡ (theory_of theory).rules → (tree : Tree) → IsAccepted context (root g) tree → IsFinished tree → HoldsInNone (theory_of theory) lemma
-
--- a tree that is grown is accepted, and has at most as many steps as the budget says
-pub record GrowthIsAccepted : Type 0 where
-  pub accepted : (context : Context) (s : System) (budget : ℕ) → IsAccepted context s (grown_tree context s budget)
-  pub within_budget : (context : Context) (s : System) (budget : ℕ) → steps (grown_tree context s budget) ≤ budget
+-- Judgements of trees that were read. A tree is rejected at its first step that fails, with the first clause that this step fails of,
+-- exactly where it isn't accepted. An accepted one has a log exactly where the search ends at some leaf, and it is the log of the first such
+-- leaf; it is finished exactly where no leaf is left at all.
+pub record JudgementsAreRight : Type 0 where
+  pub rejects : (context : Context) (s : System) (k : Skeleton) (n : ℕ) (clause : Clause) → (judgement context s k ≡ rejected n clause) ↔ IsRejectedAt context s k n clause
+  pub rejects_the_others : (context : Context) (s : System) (k : Skeleton) → (ReadIsAccepted context s k → ⊥) ↔ ((n : ℕ) × ((clause : Clause) × IsRejectedAt context s k n clause))
+  pub finds : (context : Context) (s : System) (k : Skeleton) (log : Log)
+      → (judgement context s k ≡ found log) ↔ ((t : Tree) × (tree_of k ≡ Some t) × IsAccepted context s t × (found_log context s t ≡ Some log))
+  pub finishes : (context : Context) (s : System) (k : Skeleton) → (judgement context s k ≡ finished) ↔ ((t : Tree) × (tree_of k ≡ Some t) × IsAccepted context s t × IsFinished t)
+  pub leaves_open : (context : Context) (s : System) (k : Skeleton)
+      → (judgement context s k ≡ incomplete) ↔ ((t : Tree) × (tree_of k ≡ Some t) × IsAccepted context s t × (found_log context s t ≡ None) × (IsFinished t → ⊥))
+  -- there is one such step and one such clause, and it is a node of the tree
+  pub one_step : (context : Context) (s : System) (k : Skeleton) (n m : ℕ) (clause other : Clause) → IsRejectedAt context s k n clause → IsRejectedAt context s k m other → (n ≡ m) × (clause ≡ other)
+  pub is_a_node : (context : Context) (s : System) (k : Skeleton) (n : ℕ) (clause : Clause) → IsRejectedAt context s k n clause → (0 < n) × (n ≤ nodes k)
+  -- the steps of a tree that was read are those of the tree
+  pub counts : (k : Skeleton) (t : Tree) → tree_of k ≡ Some t → steps k ≡ tree.steps t

@@ -1,5 +1,5 @@
-pub mod Tree
-pub mod Root
-pub mod Growth
-pub mod PlainTheory
+pub mod Judging
 pub mod Laws
+pub mod Rejected
+pub mod Skeleton
+pub mod View

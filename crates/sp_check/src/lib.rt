@@ -1,25 +1,19 @@
-// Proof trees: which are accepted, what an accepted tree shows, and how one is grown.
-// Below stand the rows and moves (sp_step), systems (sp_system) and the laws of equality, truth, guarded forms and erasing; above it
-// stands the top call.
-// It carries three promises: where an accepted tree from a lemma's negation is finished, the lemma holds in every execution of the theory,
-// steps of the adversary included; where one from the lemma itself is, no execution satisfies it; and what is grown is an accepted tree
-// within its budget of steps. A tree is finished where no leaf is open and with none the search ends; else the log of the first such leaf
-// is the tree's. Trees and growth are definitions (specs/Tree.antt, specs/Growth.antt); the promises are said of the definitions.
+// Proof trees that were read are judged: accepted, with the log with which the search ends if it does, or rejected at a step.
+// Below stand which trees are accepted (sp_spec_proof) and the moves in memory (sp_moves); above stands the top call.
+// specs/Rejected.antt says in the field's words which step is rejected, specs/Judging.antt how it is found, and specs/Laws.antt that the
+// two are one. Carried here: the promise that a tree is rejected exactly where it isn't accepted, at its first step that fails, and that
+// an accepted one gives the log of the first leaf with which the search ends.
 #![tactic(auto)]
 
-ghost use Rattle.sp_check.specs.Laws.{AcceptedTreesShow, LemmasAreShown, GrowthIsAccepted};
+ghost use Rattle.sp_check.specs.Laws.{JudgementsAreRight};
 
-/// The root of an accepted tree that is finished has no solution; where the search ends at a leaf, the tree has a log.
-pub fn accepted_trees_show()
-    ensures { AcceptedTreesShow }
-{}
+mod judging;
+mod skeleton;
 
-/// What finished trees show of lemmas.
-pub fn lemmas_are_shown()
-    ensures { LemmasAreShown }
-{}
+pub use judging::{Clause, Judgement, judge};
+pub use skeleton::{Branch, Skeleton, Step, has_open, steps};
 
-/// What is grown is an accepted tree, within its budget of steps.
-pub fn growth_is_accepted()
-    ensures { GrowthIsAccepted }
+/// Judgements say which trees are accepted and with which log, and at which step and by which clause the others are rejected.
+pub fn judgements_are_right()
+    ensures { JudgementsAreRight }
 {}

@@ -1,11 +1,11 @@
 -- Where the order has no cycle, the listing of events never gets stuck.
 use Rattle.std.proofs.Common.{◌≡◌, ℕ, zero, suc, Bool, true, false, ◌||◌, if◌then◌else◌, List, [], ◌∷◌, ◌++◌, length, Option, Some, option_map, option_and_then, refl, sym, ap, ◌∙◌, true≢false, arith}
 use Rattle.sp_spec.specs.Lists.{Every}
-use Rattle.sp_system.specs.System.{Event}
-use Rattle.sp_system.specs.Order.{is_before, is_cyclic}
+use Rattle.sp_spec_system.specs.System.{Event}
+use Rattle.sp_spec_system.specs.Order.{is_before, is_cyclic}
 use Rattle.sp_solved.specs.Listing.{some_before, passed, first_free, one_by_one}
 use Rattle.sp_solved.proofs.Listed.{taken, length_middle}
-use Rattle.sp_system.proofs.ShortPaths.{before_before, not_before_itself}
+use Rattle.sp_law_system.proofs.ShortPaths.{before_before, not_before_itself}
 
 -- none of them is before the event
 abbrev NoneBefore : List (ℕ × ℕ) → Event → List Event → Type 0

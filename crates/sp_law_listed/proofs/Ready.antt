@@ -1,20 +1,21 @@
 -- A system suggests a log exactly where it is listable.
-use Rattle.std.proofs.Common.{◌≡◌, ⊎_elim, ℕ, Bool, true, false, not, ◌||◌, ◌==◌, if◌then◌else◌, List, [], ◌∷◌, length, Option, Some, None, option_and_then, inl, inr, refl, sym, ap, ◌∙◌, subst}
+use Rattle.std.proofs.Common.{◌≡◌, ⊎_elim, ℕ, zero, suc, Bool, true, false, not, ◌&&◌, ◌||◌, ◌==◌, if◌then◌else◌, List, [], ◌∷◌, length, Option, Some, None, option_and_then, inl, inr, refl, sym, ap, ◌∙◌, subst}
 use Rattle.std.proofs.lemmas.Bool.{or_cases, and_parts, and_from, eqb-true, eq-eqb, or_right, or_left}
-use Rattle.sp_spec.specs.Lists.{Member, Every}
+use Rattle.sp_spec.specs.Lists.{Member, Every, AtPlace}
 use Rattle.sp_spec.proofs.Lists.{every_member, every_from}
-use Rattle.sp_spec.specs.Rule.{Action}
+use Rattle.sp_spec.specs.Term.{Variable}
+use Rattle.sp_spec.specs.Rule.{Fact, Action}
 use Rattle.sp_spec.specs.Guarded.{Place, Atom, free_time, bound_time, acts, same, same_time, before, last, Guarded, truth, falsity, holds, fails, all_of, one_of, some, every}
-use Rattle.sp_spec.specs.Log.{Entry}
-use Rattle.sp_system.specs.System.{Event, System}
-use Rattle.sp_system.specs.Order.{is_cyclic}
+use Rattle.sp_spec.specs.Log.{Entry, is_fr}
+use Rattle.sp_spec_system.specs.System.{Event, Link, System, happening_premises}
+use Rattle.sp_spec_system.specs.Order.{is_cyclic}
 use Rattle.sp_solved.specs.Listing.{in_order}
-use Rattle.sp_solved.specs.Candidate.{has_event, has_place, have_places, is_ready, place_of, logged, candidate}
+use Rattle.sp_solved.specs.Candidate.{has_event, has_place, have_places, first_link, is_from_event, is_sourced, are_sourced, all_sourced, is_ready, place_of, logged, candidate}
 use Rattle.sp_solved.specs.Naming.{values_of}
 use Rattle.sp_solved.proofs.Listed.{every_listed, every_left}
 use Rattle.sp_law_listed.specs.Laws.{HasGiver, IsListable}
 use Rattle.sp_law_listed.proofs.Least.{all_are_listed}
-use Rattle.sp_law_listed.proofs.Sources.{place_there, there_place, IsLinked, HasSources, event_sourced, sourced_premise, entries_there, there_entries}
+use Rattle.sp_law_listed.proofs.Sources.{place_there, past, past-first, IsLinked, HasSources, event_sourced, entries_there}
 use Rattle.sp_spec.proofs.Bools.{denied}
 
 -- ---- actions
@@ -56,46 +57,85 @@ placed es (one_of fs) h = refl
 placed es (some bs guard f) h = refl
 placed es (every bs guard f) h = refl
 
+-- ---- premises
+
+module _ (s : System) where
+  giver_there : (i p : ℕ) → HasGiver s i p → is_from_event s.events (first_link s.links i p) ≡ true
+  giver_there i p h = ap (is_from_event s.events) h.1 ∙ there_event s.events h.0.from h.2 h.3 h.4
+
+  there_giver : (i p : ℕ) → is_from_event s.events (first_link s.links i p) ≡ true → HasGiver s i p
+  there_giver i p e = at (first_link s.links i p) refl e
+    where
+      at : (o : Option Link) → first_link s.links i p ≡ o → is_from_event s.events o ≡ true → HasGiver s i p
+      at None h k = absurd cc
+      at (Some l) h k = let r = event_there s.events l.from k in (l, h, r.0, r.1, r.2)
+
+  premises_sourced : (i p : ℕ) (fs : List (Fact Variable)) → ((k : ℕ) (f : Fact Variable) → AtPlace fs k f → is_fr f ≡ false → HasGiver s i (past p k)) → are_sourced s.events s.links i p fs ≡ true
+  premises_sourced i p [] h = refl
+  premises_sourced i p (f ∷ fs) h =
+      and_from (is_sourced s.events s.links i p f) (are_sourced s.events s.links i (suc p) fs) (one (is_fr f) refl) (premises_sourced i (suc p) fs (λ k g m e. h (suc k) g m e))
+    where
+      one : (b : Bool) → is_fr f ≡ b → (b || is_from_event s.events (first_link s.links i p)) ≡ true
+      one true e = refl
+      one false e = giver_there i p (h zero f refl e)
+
+  sourced_premises : (i p : ℕ) (fs : List (Fact Variable)) → are_sourced s.events s.links i p fs ≡ true → (k : ℕ) (f : Fact Variable) → AtPlace fs k f → is_fr f ≡ false → HasGiver s i (past p k)
+  sourced_premises i p [] e k f m n = absurd m
+  sourced_premises i p (g ∷ fs) e zero f m n =
+      let none : is_fr g ≡ false = subst (λ (x : Fact Variable). is_fr x ≡ false) (sym m) n in
+      there_giver i p (sym (ap (λ (b : Bool). b || is_from_event s.events (first_link s.links i p)) none) ∙ (and_parts (is_sourced s.events s.links i p g) (are_sourced s.events s.links i (suc p) fs) e).0)
+  sourced_premises i p (g ∷ fs) e (suc k) f m n = sourced_premises i (suc p) fs (and_parts (is_sourced s.events s.links i p g) (are_sourced s.events s.links i (suc p) fs) e).1 k f m n
+
+  abbrev IsSourced : Event → Type 0
+  IsSourced d = are_sourced s.events s.links d.time 0 (happening_premises d.happening) ≡ true
+
+  events_sourced : (es : List Event) → Every IsSourced es → all_sourced s.events s.links es ≡ true
+  events_sourced [] h = refl
+  events_sourced (d ∷ es) h = and_from (are_sourced s.events s.links d.time 0 (happening_premises d.happening)) (all_sourced s.events s.links es) h.0 (events_sourced es h.1)
+
+  sourced_events : (es : List Event) → all_sourced s.events s.links es ≡ true → Every IsSourced es
+  sourced_events [] e = tt
+  sourced_events (d ∷ es) e =
+      let both = and_parts (are_sourced s.events s.links d.time 0 (happening_premises d.happening)) (all_sourced s.events s.links es) e in (both.0, sourced_events es both.1)
+
 -- ---- systems
 
 listable_ready : (s : System) → IsListable s → is_ready s ≡ true
 listable_ready s h =
-    and_from (have_places s.events s.formulas) (not (is_cyclic s.order))
-    (all_have_places s.events s.formulas (λ f m. placed s.events f (λ b i is. h.placed b i (subst (λ (g : Guarded). Member g s.formulas) is m)))) (ap not h.acyclic)
+    and_from (have_places s.events s.formulas) (all_sourced s.events s.links s.events && not (is_cyclic s.order))
+    (all_have_places s.events s.formulas (λ f m. placed s.events f (λ b i is. h.placed b i (subst (λ (g : Guarded). Member g s.formulas) is m))))
+    (and_from (all_sourced s.events s.links s.events) (not (is_cyclic s.order))
+    (events_sourced s s.events (every_from (IsSourced s) s.events (λ d m.
+    premises_sourced s d.time 0 (happening_premises d.happening) (λ k f at n. subst (HasGiver s d.time) (sym (past-first k)) (h.given d m k f at n)))))
+    (ap not h.acyclic))
+
+ready_listable : (s : System) → is_ready s ≡ true → IsListable s
+ready_listable s e =
+    let both = and_parts (have_places s.events s.formulas) (all_sourced s.events s.links s.events && not (is_cyclic s.order)) e in
+    let rest = and_parts (all_sourced s.events s.links s.events) (not (is_cyclic s.order)) both.1 in
+    let each = sourced_events s s.events rest.0 in
+    record {
+      given = λ d m p f at n. subst (HasGiver s d.time) (past-first p) (sourced_premises s d.time 0 (happening_premises d.happening) (every_member (IsSourced s) s.events d m each) p f at n);
+      placed = λ a i m. event_there s.events i (each_has_place s.events s.formulas both.0 (holds (acts a (free_time i))) m);
+      acyclic = denied (is_cyclic s.order) rest.1;
+    }
 
 module _ (s : System) (listed : List Event) (is_order : in_order s.order s.events ≡ Some listed) where
   abbrev IsPlaced : Event → Type 0
   IsPlaced d = (q : ℕ) × (place_of d.time listed ≡ Some q)
 
-  -- each event is listed, and each that is listed is an event
+  -- each event is listed
   each_placed : (d : Event) → Member d s.events → IsPlaced d
   each_placed d m =
       every_member IsPlaced s.events d m (every_left IsPlaced s.order (length s.events) s.events listed refl is_order (every_from IsPlaced listed (λ e k. place_there e.time listed e k refl)))
 
-  each_there : (d : Event) → Member d listed → Member d s.events
-  each_there d m =
-      every_member (λ e. Member e s.events) listed d m (every_listed (λ e. Member e s.events) s.order (length s.events) s.events listed is_order (every_from (λ e. Member e s.events) s.events (λ e k. k)))
-
   giver_linked : (i p : ℕ) → HasGiver s i p → IsLinked listed s.links i p
   giver_linked i p h = let r = each_placed h.2 h.3 in (h.0, h.1, r.0, ap (λ (t : ℕ). place_of t listed) (sym h.4) ∙ r.1)
-
-  linked_giver : (i p : ℕ) → IsLinked listed s.links i p → HasGiver s i p
-  linked_giver i p h = let l = h.0 in let r = there_place l.from listed h.2 h.3 in (l, h.1, r.0, each_there r.0 r.1, r.2)
 
   listable_sources : IsListable s → Every (HasSources listed s.links) listed
   listable_sources h =
       every_listed (HasSources listed s.links) s.order (length s.events) s.events listed is_order
       (every_from (HasSources listed s.links) s.events (λ e m. event_sourced listed s.links e (λ p f at k. giver_linked e.time p (h.given e m p f at k))))
-
-  sources_listable : is_ready s ≡ true → Every (HasSources listed s.links) listed → IsListable s
-  sources_listable e each =
-      let both = and_parts (have_places s.events s.formulas) (not (is_cyclic s.order)) e in
-      let were = every_left (HasSources listed s.links) s.order (length s.events) s.events listed refl is_order each in
-      record {
-        given = λ d m p f at k. linked_giver d.time p (sourced_premise listed s.links d (every_member (HasSources listed s.links) s.events d m were) p f at k);
-        placed = λ a i m. event_there s.events i (each_has_place s.events s.formulas both.0 (holds (acts a (free_time i))) m);
-        acyclic = denied (is_cyclic s.order) both.1;
-      }
 
 pub suggests : (constants : List (List ℕ)) (s : System) → IsListable s → (entries : List Entry) × (candidate constants s ≡ Some entries)
 suggests constants s h =
@@ -108,9 +148,8 @@ suggests constants s h =
     )
 
 pub suggests_alone : (constants : List (List ℕ)) (s : System) (entries : List Entry) → candidate constants s ≡ Some entries → IsListable s
-suggests_alone constants s entries e = at (is_ready s) (in_order s.order s.events) refl refl e
+suggests_alone constants s entries e = at (is_ready s) refl e
   where
-    at : (b : Bool) (o : Option (List Event)) → is_ready s ≡ b → in_order s.order s.events ≡ o → (if b then option_and_then (logged constants s.links) o else None) ≡ Some entries → IsListable s
-    at true (Some listed) k l m = sources_listable s listed l k (there_entries listed s.links (values_of constants listed) listed entries m)
-    at true None k l m = absurd cc
-    at false o k l m = absurd cc
+    at : (b : Bool) → is_ready s ≡ b → (if b then option_and_then (logged constants s.links) (in_order s.order s.events) else None) ≡ Some entries → IsListable s
+    at true k m = ready_listable s k
+    at false k m = absurd cc

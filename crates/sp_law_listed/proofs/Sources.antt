@@ -1,19 +1,14 @@
--- The listed events have an entry each exactly where each of their premises is an Fr or has a link from one of them.
-use Rattle.std.proofs.Common.{◌≡◌, ℕ, zero, suc, ◌+◌, Bool, true, false, ◌==◌, if◌then◌else◌, List, [], ◌∷◌, Option, Some, None, option_map, option_and_then, inl, inr, refl, sym, ap, ◌∙◌, subst, arith}
-use Rattle.std.proofs.lemmas.Bool.{eqb-true, eq-eqb}
+-- The listed events have an entry each where each of their premises is an Fr or has a link from one of them.
+use Rattle.std.proofs.Common.{◌≡◌, ℕ, zero, suc, ◌+◌, Bool, true, false, ◌==◌, if◌then◌else◌, List, [], ◌∷◌, Some, option_map, option_and_then, inl, inr, refl, sym, ap, ◌∙◌, subst, arith}
+use Rattle.std.proofs.lemmas.Bool.{eq-eqb}
 use Rattle.sp_spec.specs.Lists.{Member, Every, AtPlace}
 use Rattle.sp_spec.specs.Term.{Variable, Values}
 use Rattle.sp_spec.specs.Rule.{Fact}
 use Rattle.sp_spec.specs.Log.{Entry, Source, fresh_rule, conclusion, is_fr}
-use Rattle.sp_system.specs.System.{Event, Link, happening_premises}
+use Rattle.sp_spec_system.specs.System.{Event, Link, happening_premises}
 use Rattle.sp_solved.specs.Candidate.{place_of, first_link, given_by, linked_source, source_of, sources_from, entry_at, event_sources, entries_of}
-use Rattle.sp_solved.proofs.Firsts.{both_there}
 
 -- ---- places
-
-is_there : {A B : Type 0} (f : A → B) (o : Option A) (b : B) → option_map f o ≡ Some b → (a : A) × (o ≡ Some a)
-is_there f None b e = absurd cc
-is_there f (Some a) b e = (a, refl)
 
 pub place_there : (i : ℕ) (es : List Event) (d : Event) → Member d es → d.time ≡ i → (q : ℕ) × (place_of i es ≡ Some q)
 place_there i [] d m t = absurd m
@@ -24,19 +19,10 @@ place_there i (e ∷ es) d (inr m) t = by_test (e.time == i) (place_there i es d
     by_test true r = (0, refl)
     by_test false r = (suc r.0, ap (option_map suc) r.1)
 
-pub there_place : (i : ℕ) (es : List Event) (q : ℕ) → place_of i es ≡ Some q → (d : Event) × Member d es × (d.time ≡ i)
-there_place i [] q e = absurd cc
-there_place i (d ∷ es) q e = at (d.time == i) refl e (λ j k. there_place i es j k)
-  where
-    at : (b : Bool) → (d.time == i) ≡ b → (if b then Some 0 else option_map suc (place_of i es)) ≡ Some q
-        → ((j : ℕ) → place_of i es ≡ Some j → (c : Event) × Member c es × (c.time ≡ i)) → (c : Event) × Member c (d ∷ es) × (c.time ≡ i)
-    at true s k later = (d, inl refl, eqb-true d.time i s)
-    at false s k later = let p = is_there suc (place_of i es) q k in let r = later p.0 p.1 in (r.0, inr r.1, r.2)
-
 -- ---- sources
 
 -- the number of a premise that stands so far behind another
-abbrev past : ℕ → ℕ → ℕ
+abbrev pub past : ℕ → ℕ → ℕ
 past p zero = p
 past p (suc k) = past (suc p) k
 
@@ -44,7 +30,7 @@ past-sum : (p k : ℕ) → past p k ≡ p + k
 past-sum p zero = omega arith
 past-sum p (suc k) = past-sum (suc p) k ∙ omega arith
 
-past-first : (k : ℕ) → past zero k ≡ k
+pub past-first : (k : ℕ) → past zero k ≡ k
 past-first k = past-sum zero k ∙ omega arith
 
 module _ (listed : List Event) (links : List Link) where
@@ -62,22 +48,12 @@ module _ (listed : List Event) (links : List Link) where
   linked_there i p h =
       let l = h.0 in (conclusion h.2 l.conclusion, ap (option_and_then (given_by listed)) h.1 ∙ ap (option_map (λ (q : ℕ). conclusion q l.conclusion)) h.3)
 
-  there_linked : (i p : ℕ) (s : Source) → linked_source listed links i p ≡ Some s → IsLinked i p
-  there_linked i p s e = at (first_link links i p) refl e
-    where
-      at : (o : Option Link) → first_link links i p ≡ o → option_and_then (given_by listed) o ≡ Some s → IsLinked i p
-      at None h k = absurd cc
-      at (Some l) h k = let r = is_there (λ (q : ℕ). conclusion q l.conclusion) (place_of l.from listed) s k in (l, h, r.0, r.1)
-
   source_there : (i p : ℕ) (f : Fact Variable) → (is_fr f ≡ false → IsLinked i p) → HasSource i p f
   source_there i p f h = at (is_fr f) refl
     where
       at : (b : Bool) → is_fr f ≡ b → (s : Source) × ((if b then Some fresh_rule else linked_source listed links i p) ≡ Some s)
       at true e = (fresh_rule, refl)
       at false e = linked_there i p (h e)
-
-  there_source : (i p : ℕ) (f : Fact Variable) → HasSource i p f → is_fr f ≡ false → IsLinked i p
-  there_source i p f h e = there_linked i p h.0 (sym (ap (λ (b : Bool). if b then Some fresh_rule else linked_source listed links i p) e) ∙ h.1)
 
   sources_there : (i p : ℕ) (fs : List (Fact Variable)) → ((k : ℕ) (f : Fact Variable) → AtPlace fs k f → HasSource i (past p k) f) → (ss : List Source) × (sources_from listed links i p fs ≡ Some ss)
   sources_there i p [] h = ([], refl)
@@ -89,25 +65,12 @@ module _ (listed : List Event) (links : List Link) where
             ∙ ap (option_map (λ (ss : List Source). first.0 ∷ ss)) rest.1,
       )
 
-  there_sources : (i p : ℕ) (fs : List (Fact Variable)) (ss : List Source) → sources_from listed links i p fs ≡ Some ss → (k : ℕ) (f : Fact Variable) → AtPlace fs k f → HasSource i (past p k) f
-  there_sources i p [] ss e k f m = absurd m
-  there_sources i p (g ∷ fs) ss e zero f m =
-      let r = both_there (λ (s : Source). s) (sources_from listed links i (suc p) fs) (source_of listed links i p g) ss e in
-      subst (HasSource i p) m (r.0, r.1)
-  there_sources i p (g ∷ fs) ss e (suc k) f m =
-      let r = both_there (λ (s : Source). s) (sources_from listed links i (suc p) fs) (source_of listed links i p g) ss e in
-      there_sources i (suc p) fs r.2 r.3 k f m
-
   -- ---- events
 
   pub event_sourced : (e : Event) → ((p : ℕ) (f : Fact Variable) → AtPlace (happening_premises e.happening) p f → is_fr f ≡ false → IsLinked e.time p) → HasSources e
   event_sourced e h =
       sources_there e.time zero (happening_premises e.happening)
       (λ k f m. subst (λ (n : ℕ). HasSource e.time n f) (sym (past-first k)) (source_there e.time k f (h k f m)))
-
-  pub sourced_premise : (e : Event) → HasSources e → (p : ℕ) (f : Fact Variable) → AtPlace (happening_premises e.happening) p f → is_fr f ≡ false → IsLinked e.time p
-  sourced_premise e h p f m k =
-      there_source e.time p f (subst (λ (n : ℕ). HasSource e.time n f) (past-first p) (there_sources e.time zero (happening_premises e.happening) h.0 h.1 p f m)) k
 
   pub entries_there : (v : Values) (es : List Event) → Every HasSources es → (entries : List Entry) × (entries_of listed links v es ≡ Some entries)
   entries_there v [] h = ([], refl)
@@ -117,9 +80,3 @@ module _ (listed : List Event) (links : List Link) where
         ap (option_and_then (λ (ss : List Source). option_map (λ (entries : List Entry). entry_at v e.happening ss ∷ entries) (entries_of listed links v es))) h.0.1
             ∙ ap (option_map (λ (entries : List Entry). entry_at v e.happening h.0.0 ∷ entries)) rest.1,
       )
-
-  pub there_entries : (v : Values) (es : List Event) (entries : List Entry) → entries_of listed links v es ≡ Some entries → Every HasSources es
-  there_entries v [] entries e = tt
-  there_entries v (d ∷ es) entries e =
-      let r = both_there (entry_at v d.happening) (entries_of listed links v es) (event_sources listed links d) entries e in
-      ((r.0, r.1), there_entries v es r.2 r.3)

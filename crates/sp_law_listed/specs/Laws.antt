@@ -5,8 +5,8 @@ use Rattle.sp_spec.specs.Term.{Variable}
 use Rattle.sp_spec.specs.Rule.{Fact, Action}
 use Rattle.sp_spec.specs.Guarded.{Place, holds, acts, free_time}
 use Rattle.sp_spec.specs.Log.{Entry, is_fr}
-use Rattle.sp_system.specs.System.{Event, Link, System, happening_premises}
-use Rattle.sp_system.specs.Order.{is_cyclic}
+use Rattle.sp_spec_system.specs.System.{Event, Link, System, happening_premises}
+use Rattle.sp_spec_system.specs.Order.{is_cyclic}
 use Rattle.sp_solved.specs.Candidate.{first_link, candidate}
 
 -- the first link to the premise is from the time of an event

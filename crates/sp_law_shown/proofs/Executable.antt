@@ -8,9 +8,9 @@ use Rattle.sp_law_equal.specs.Convergent.{ArePlain}
 use Rattle.sp_law_equal.proofs.Pairs.{pairs_convergent, pairs_keep_symbols}
 use Rattle.sp_law_run.proofs.Written.{rules_right}
 use Rattle.sp_law_found.specs.Executable.{TakesFreshNames, IsExecutable}
-use Rattle.sp_step.specs.Laws.{FactsArePlain, IsClosedRule}
-use Rattle.sp_check.proofs.WrittenRules.{rules_plain}
-use Rattle.sp_check.proofs.ClosedRules.{rules_closed}
+use Rattle.sp_law_system.specs.Rules.{FactsArePlain, IsClosedRule}
+use Rattle.sp_law_tree.proofs.WrittenRules.{rules_plain}
+use Rattle.sp_law_tree.proofs.ClosedRules.{rules_closed}
 use Rattle.sp_log.specs.Meaning.{CanCheck}
 use Rattle.sp_law_shown.specs.Shown.{IsSearched}
 

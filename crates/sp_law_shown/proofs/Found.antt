@@ -26,10 +26,10 @@ use Rattle.sp_law_decide.proofs.Told.{told}
 use Rattle.sp_law_run.proofs.Over.{execution_over}
 use Rattle.sp_law_found.specs.Found.{execution_of}
 use Rattle.sp_law_found.proofs.Runs.{log_runs}
-use Rattle.sp_check.specs.PlainTheory.{IsPlainFormula}
-use Rattle.sp_check.proofs.Flat.{FlatTerm, FlatTerms}
-use Rattle.sp_check.proofs.Forms.{RightAtom, IsRight, right_negation, right_timed}
-use Rattle.sp_check.proofs.PlacedForms.{form_right}
+use Rattle.sp_law_tree.specs.PlainTheory.{IsPlainFormula}
+use Rattle.sp_law_tree.proofs.Flat.{FlatTerm, FlatTerms}
+use Rattle.sp_law_tree.proofs.Forms.{RightAtom, IsRight, right_negation, right_timed}
+use Rattle.sp_law_tree.proofs.PlacedForms.{form_right}
 use Rattle.sp_log.specs.Checking.{is_log}
 use Rattle.sp_log.specs.Meaning.{IsLogOfSteps}
 use Rattle.sp_log.proofs.Checks.{log_decides}
@@ -37,7 +37,7 @@ use Rattle.sp_law_shown.specs.Shown.{IsSearched, FoundBreaks, FoundSatisfies}
 use Rattle.sp_law_shown.specs.Laws.{FoundLogsShow}
 use Rattle.sp_law_shown.proofs.Executable.{executable, checkable}
 use Rattle.sp_law_shown.proofs.Traces.{normal_trace, visible_equal}
-use Rattle.sp_check.proofs.PlainOver.{plain_rules_over}
+use Rattle.sp_law_tree.proofs.PlainOver.{plain_rules_over}
 use Rattle.sp_spec.proofs.Lists.{each_among}
 
 -- ---- no symbol stands in flat atoms
@@ -95,7 +95,7 @@ module _ (t : WrittenTheory) (s : IsSearched t) (log : Log) (is : IsLogOfSteps (
   unrestricted trace = subst (λ (rs : List Restriction). Every (λ (r : Restriction). IsTrueOver signature trace r.formula) rs) (sym s.unrestricted) tt
 
   module _ (g : Guarded) (right : IsRight g) where
-    can_decide : CanDecide signature (log_trace log) g
+    pub can_decide : CanDecide signature (log_trace log) g
     can_decide = record {
       convergent = pairs_convergent;
       keeps = pairs_keep_symbols signature.symbols;

@@ -1,3 +1,4 @@
 pub mod Executable
 pub mod Traces
 pub mod Found
+pub mod Sought

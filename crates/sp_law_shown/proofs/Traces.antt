@@ -2,9 +2,8 @@
 use Rattle.std.proofs.Common.{◌≡◌, ℕ, List, [], ◌∷◌, refl, sym, ap, ◌∙◌, subst}
 use Rattle.sp_spec.specs.Lists.{Every}
 use Rattle.sp_spec.proofs.Lists.{every_both}
-use Rattle.sp_spec.specs.Term.{name}
 use Rattle.sp_spec.specs.Signature.{Symbol, Equation, AreOver}
-use Rattle.sp_spec.specs.Equal.{end, AreNormal}
+use Rattle.sp_spec.specs.Equal.{AreNormal}
 use Rattle.sp_spec.specs.Rule.{Action, AreNormalActions}
 use Rattle.sp_spec.specs.Theory.{Theory, signature_of}
 use Rattle.sp_spec.specs.Execution.{Trace, with_entry}

@@ -1,15 +1,18 @@
 -- What holds of logs that were found.
-use Rattle.std.specs.Prelude.{◌≡◌, List, Some, true}
+use Rattle.std.specs.Prelude.{◌≡◌, ◌↔◌, ◌⊎◌, ℕ, List, Some, true}
 use Rattle.sp_spec.specs.Theory.{Lemma, signature_of}
 use Rattle.sp_spec.specs.Written.{WrittenTheory, theory_of}
-use Rattle.sp_spec.specs.Guarded.{Guarded}
-use Rattle.sp_spec.specs.Log.{Entry, log_trace}
+use Rattle.sp_spec.specs.Guarded.{Guarded, GuardedHolds}
+use Rattle.sp_spec.specs.Log.{Entry, Log, IsLog, log_trace}
 use Rattle.sp_law_guard.specs.GuardedForm.{negate}
 use Rattle.sp_law_guard.specs.CheckedForm.{checked_form}
-use Rattle.sp_law_decide.specs.Deciding.{decided, empty}
+use Rattle.sp_law_decide.specs.Deciding.{assignment_of, decided, empty}
 use Rattle.sp_spec.specs.Lists.{newest_first}
-use Rattle.sp_check.specs.PlainTheory.{IsPlainFormula}
+use Rattle.sp_law_tree.specs.PlainTheory.{IsPlainFormula}
+use Rattle.sp_spec_system.specs.System.{System}
 use Rattle.sp_log.specs.Checking.{is_log}
+use Rattle.sp_solved.specs.Candidate.{candidate}
+use Rattle.sp_solved.specs.Found.{found}
 use Rattle.sp_law_shown.specs.Shown.{IsSearched, FoundBreaks, FoundSatisfies}
 
 -- Of entries, the oldest first, that pass the test of logs: where the negation of the lemma's guarded form is found true over the log's trace, the
@@ -23,3 +26,15 @@ pub record FoundLogsShow : Type 0 where
       → (g : Guarded) → checked_form lemma.formula ≡ Some g
       → (entries : List Entry) → is_log (signature_of (theory_of theory)) (theory_of theory).rules entries ≡ true
       → decided (log_trace (newest_first entries)) empty g ≡ true → FoundSatisfies (theory_of theory) lemma (newest_first entries)
+
+-- A formula from which a proof begins: a lemma's guarded form, or its negation.
+abbrev pub IsRootFormula : Guarded → Type 0
+IsRootFormula h = (lemma : Lemma) × IsPlainFormula lemma.formula × (g : Guarded) × (checked_form lemma.formula ≡ Some g) × ((h ≡ g) ⊎ (h ≡ negate g))
+
+-- The search ends at a system exactly where the candidate that the system suggests is a log of the theory over whose trace the formula is
+-- true, and it ends with that log.
+pub record FoundIsSought : Type 0 where
+  pub exact : (theory : WrittenTheory) → IsSearched theory → (h : Guarded) → IsRootFormula h → (constants : List (List ℕ)) (s : System) (log : Log)
+      → (found (signature_of (theory_of theory)) (theory_of theory).rules constants h s ≡ Some log)
+      ↔ ((entries : List Entry) × (candidate constants s ≡ Some entries) × (log ≡ newest_first entries) × IsLog (theory_of theory) log
+      × GuardedHolds (signature_of (theory_of theory)) (log_trace log) (assignment_of empty) h)

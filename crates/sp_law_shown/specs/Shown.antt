@@ -9,7 +9,7 @@ use Rattle.sp_spec.specs.Execution.{IsExecution}
 use Rattle.sp_spec.specs.Log.{Log, visible_trace}
 use Rattle.sp_spec.specs.Verdict.{IsBrokenBy, IsSatisfiedBy, IsBrokenByLog, IsSatisfiedByLog}
 use Rattle.sp_law_found.specs.Found.{execution_of}
-use Rattle.sp_check.specs.PlainTheory.{IsPlainRule}
+use Rattle.sp_law_tree.specs.PlainTheory.{IsPlainRule}
 
 -- A theory without findings, of plain rules, and without restrictions.
 pub record IsSearched (theory : WrittenTheory) : Type 0 where

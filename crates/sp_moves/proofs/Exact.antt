@@ -4,9 +4,14 @@ use Rattle.sp_spec.specs.Term.{Variable}
 use Rattle.sp_spec.specs.Rule.{Action, Fact}
 use Rattle.sp_spec.specs.Guarded.{Guarded, truth, falsity, holds, fails, all_of, one_of, some, every, acts, same, same_time, before, last, free_time, bound_time}
 use Rattle.sp_spec.specs.Log.{is_fr}
-use Rattle.sp_system.specs.System.{happening_premises, Event, System}
-use Rattle.sp_step.specs.Rows.{rows, by_rows, is_contradictory, freed_action, event_at}
-use Rattle.sp_step.specs.Moves.{Move, simplify, contradiction, unproved, solved, or, action, premise, Context, Case, is_adversary, is_in, is_linked, raw_cases, simple_case, cases}
+use Rattle.sp_spec_system.specs.System.{happening_premises, Event, System, is_in}
+use Rattle.sp_spec_proof.specs.Rows.{has_place, is_contradictory}
+use Rattle.sp_spec_system.specs.Formulas.{freed_action}
+use Rattle.sp_spec_system.specs.MakingOne.{event_at}
+use Rattle.sp_spec_system.specs.Move.{Move, simplify, contradiction, unproved, solved, or, action, premise, Context, Case}
+use Rattle.sp_spec_formula.specs.Action.{is_adversary}
+use Rattle.sp_spec_graph.specs.Premise.{is_linked}
+use Rattle.sp_spec_proof.specs.Cases.{raw_cases, simple_case, cases}
 use Rattle.sp_moves_formula.specs.WhyNot.{Clause, another_crate, condition, absent, why_no_disjunction, why_not_freed, why_no_action, HasCases}
 use Rattle.sp_moves_formula.proofs.Exact as formula
 use Rattle.sp_moves_graph.specs.Times.{has_time}
@@ -19,13 +24,13 @@ by_test true cs = refl
 by_test false cs = refl
 
 raw : (context : Context) (s : System) (m : Move) → is_none (why_not context s m) ≡ is_some (raw_cases context s m)
-raw context s simplify = by_test (is_some (by_rows rows s)) (record { name = []; system = s } ∷ [])
+raw context s simplify = by_test (has_place s) (record { name = []; system = s } ∷ [])
 raw context s contradiction = by_test (is_contradictory s) []
 raw context s unproved = refl
 raw context s solved = by_test (is_some (context.found s)) []
-raw context s (or k) = (formula.exactly context.rules s (or k)).exact
-raw context s (action k) = (formula.exactly context.rules s (action k)).exact
-raw context s (premise i p) = (graph.exactly context.rules s (premise i p)).exact
+raw context s (or k) = (formula.exactly context.rules.forms s (or k)).exact
+raw context s (action k) = (formula.exactly context.rules.forms s (action k)).exact
+raw context s (premise i p) = (graph.exactly context.rules.forms s (premise i p)).exact
 
 simpler : (o : Option (List Case)) → is_some o ≡ is_some (option_map (map simple_case) o)
 simpler None = refl
@@ -39,7 +44,7 @@ by_failing true e = absurd cc
 by_failing false e = refl
 
 fails_there : (context : Context) (s : System) (m : Move) → is_none (why_not context s m) ≡ false → where_none s m ≡ why_not context s m
-fails_there context s simplify e = by_failing (is_some (by_rows rows s)) e
+fails_there context s simplify e = by_failing (has_place s) e
 fails_there context s contradiction e = by_failing (is_contradictory s) e
 fails_there context s unproved e = absurd cc
 fails_there context s solved e = by_failing (is_some (context.found s)) e
@@ -106,7 +111,7 @@ premise_asked s i p true e = event_asked s i p (event_at i s.events) e
 premise_asked s i p false e = absurd cc
 
 pub each_is_asked : (context : Context) (s : System) (m : Move) → IsAsked (why_not context s m)
-each_is_asked context s simplify = record { asked = unless_asked (is_some (by_rows rows s)) }
+each_is_asked context s simplify = record { asked = unless_asked (has_place s) }
 each_is_asked context s contradiction = record { asked = unless_asked (is_contradictory s) }
 each_is_asked context s unproved = record { asked = λ e. absurd cc }
 each_is_asked context s solved = record { asked = unless_asked (is_some (context.found s)) }

@@ -4,14 +4,15 @@ use Rattle.sp_term.specs.View.{name_of}
 use Rattle.sp_formula.specs.FormulaView.{formula_of}
 use Rattle.sp_ground.specs.View.{signature_of}
 use Rattle.sp_solved.specs.Found.{found}
-use Rattle.sp_step.specs.Moves as spec
+use Rattle.sp_spec_system.specs.Move as spec
 use Rattle.sp_moves.specs.declared.context.Context.{Context}
 use Rattle.sp_fact.specs.BookView.{book_of}
+use Rattle.sp_spec_system.specs.Rules.{forms_of}
 pub use Rattle.sp_moves_formula.specs.View.{move_of, case_of}
 
 -- the search in a context ends with the log that is looked for
 abbrev pub context_of : Context → spec.Context
 context_of c = record {
-  rules = book_of c.rules.now;
+  rules = record { signature = signature_of c.sought.signature.now; forms = map forms_of (book_of c.rules.now) };
   found = found (signature_of c.sought.signature.now) (book_of c.rules.now) (map name_of c.sought.constants.now.items) (formula_of c.sought.formula.now);
 }

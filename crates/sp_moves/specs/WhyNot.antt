@@ -1,8 +1,8 @@
 -- Why a move is no instance.
 use Rattle.std.specs.Prelude.{◌≡◌, Bool, if◌then◌else◌, Option, Some, None, is_some}
-use Rattle.sp_system.specs.System.{System}
-use Rattle.sp_step.specs.Rows.{rows, by_rows, is_contradictory}
-use Rattle.sp_step.specs.Moves.{Move, simplify, contradiction, unproved, solved, or, action, premise, Context}
+use Rattle.sp_spec_system.specs.System.{System}
+use Rattle.sp_spec_proof.specs.Rows.{has_place, is_contradictory}
+use Rattle.sp_spec_system.specs.Move.{Move, simplify, contradiction, unproved, solved, or, action, premise, Context}
 use Rattle.sp_moves_formula.specs.WhyNot.{Clause, another_crate, condition, why_not_formula}
 use Rattle.sp_moves_graph.specs.WhyNot.{why_not_graph}
 
@@ -11,7 +11,7 @@ abbrev pub unless : Bool → Option Clause
 unless b = if b then None else Some condition
 
 abbrev pub why_not : Context → System → Move → Option Clause
-why_not context s simplify = unless (is_some (by_rows rows s))
+why_not context s simplify = unless (has_place s)
 why_not context s contradiction = unless (is_contradictory s)
 why_not context s unproved = None
 why_not context s solved = unless (is_some (context.found s))

@@ -2,7 +2,7 @@
 
 ghost use Rattle.std.specs.Prelude.{◌≡◌, IfOk, option_map};
 ghost use Rattle.sp_system.specs.SystemView.{system_of};
-ghost use Rattle.sp_step.specs.Moves as spec;
+ghost use Rattle.sp_spec_proof.specs.Cases as spec;
 ghost use Rattle.sp_moves_formula.specs.Applied.{clause_of, cases_of, failing};
 ghost use Rattle.sp_moves_formula.specs.WhyNot.{HasCases};
 ghost use Rattle.sp_moves.specs.View.{context_of};

@@ -2,7 +2,8 @@
 
 ghost use Rattle.std.specs.Prelude.{◌≡◌, IfOk, map, option_map};
 ghost use Rattle.sp_system.specs.SystemView.{system_of};
-ghost use Rattle.sp_step.specs.Moves as spec;
+ghost use Rattle.sp_spec_system.specs.Move as spec;
+ghost use Rattle.sp_spec_proof.specs.Cases as cases_spec;
 ghost use Rattle.sp_moves.specs.View.{context_of, move_of, case_of};
 
 use crate::context::Context;
@@ -10,15 +11,15 @@ pub use sp_moves_formula::moves::{Case, Move};
 use sp_moves_formula::part::or_cases;
 use sp_moves_formula::solving::solving_action;
 use sp_moves_graph::giver::premise_cases;
-use sp_rows::simplify::{by_rows, is_contradictory, simplified};
+use sp_rows::simplify::{has_place, is_contradictory, simplified};
 use sp_system::system::System;
 use std::alloc::{AllocError, Global};
 
-// The system itself, if some elementary move applies.
+// The system itself, if some elementary move has a place.
 fn unsimplified(alloc: Global, system: &System) -> Result<Option<Vec<Case>>, AllocError>
-    ensures { IfOk result (λ o. (context : spec.Context) → option_map (λ cs. map case_of cs.items) o ≡ spec.raw_cases context (system_of system.now) spec.simplify) }
+    ensures { IfOk result (λ o. (context : spec.Context) → option_map (λ cs. map case_of cs.items) o ≡ cases_spec.raw_cases context (system_of system.now) spec.simplify) }
 {
-    if by_rows(alloc, system)?.is_none() {
+    if !has_place(alloc, system)? {
         return Ok(None);
     }
     let name = String::new(alloc);
@@ -30,7 +31,7 @@ fn unsimplified(alloc: Global, system: &System) -> Result<Option<Vec<Case>>, All
 
 // No case, if the search ends at the system.
 fn ended(alloc: Global, context: &Context, system: &System) -> Result<Option<Vec<Case>>, AllocError>
-    ensures { IfOk result (λ o. option_map (λ cs. map case_of cs.items) o ≡ spec.raw_cases (context_of context.now) (system_of system.now) spec.solved) }
+    ensures { IfOk result (λ o. option_map (λ cs. map case_of cs.items) o ≡ cases_spec.raw_cases (context_of context.now) (system_of system.now) spec.solved) }
 {
     if context.ends(alloc, system)? {
         Ok(Some(Vec::new(alloc)))
@@ -45,7 +46,7 @@ fn raw_cases(
     system: &System,
     chosen: Move,
 ) -> Result<Option<Vec<Case>>, AllocError>
-    ensures { IfOk result (λ o. option_map (λ cs. map case_of cs.items) o ≡ spec.raw_cases (context_of context.now) (system_of system.now) (move_of chosen)) }
+    ensures { IfOk result (λ o. option_map (λ cs. map case_of cs.items) o ≡ cases_spec.raw_cases (context_of context.now) (system_of system.now) (move_of chosen)) }
 {
     match chosen {
         Move::Simplify => {
@@ -68,7 +69,7 @@ fn raw_cases(
 }
 
 fn simple_cases(alloc: Global, cases: Vec<Case>) -> Result<Vec<Case>, AllocError>
-    ensures { IfOk result (λ cs. map case_of cs.items ≡ map spec.simple_case (map case_of cases.items)) }
+    ensures { IfOk result (λ cs. map case_of cs.items ≡ map cases_spec.simple_case (map case_of cases.items)) }
 {
     let mut made = Vec::with_capacity(alloc, cases.len())?;
     for case in cases {
@@ -90,7 +91,7 @@ pub fn cases(
     system: &System,
     chosen: Move,
 ) -> Result<Option<Vec<Case>>, AllocError>
-    ensures { IfOk result (λ o. option_map (λ cs. map case_of cs.items) o ≡ spec.cases (context_of context.now) (system_of system.now) (move_of chosen)) }
+    ensures { IfOk result (λ o. option_map (λ cs. map case_of cs.items) o ≡ cases_spec.cases (context_of context.now) (system_of system.now) (move_of chosen)) }
 {
     let Some(raw) = raw_cases(alloc, context, system, chosen)? else {
         return Ok(None);

@@ -1,23 +1,25 @@
 -- A move that takes up a formula has cases exactly where no clause of its condition fails.
 use Rattle.std.proofs.Common.{◌≡◌, ℕ, Bool, true, false, if◌then◌else◌, List, Option, Some, None, option_map, option_and_then, is_none, is_some, slice_get, refl, sym, ap, ◌∙◌}
 use Rattle.sp_spec.specs.Term.{Variable}
-use Rattle.sp_spec.specs.Rule.{Action, Rule}
+use Rattle.sp_spec.specs.Rule.{Action}
 use Rattle.sp_spec.specs.Guarded.{Guarded, truth, falsity, holds, fails, all_of, one_of, some, every, acts, same, same_time, before, last, free_time, bound_time}
-use Rattle.sp_system.specs.System.{System}
-use Rattle.sp_step.specs.Rows.{freed_action}
-use Rattle.sp_step.specs.Moves.{Move, simplify, contradiction, unproved, solved, or, action, premise, Case, is_adversary, action_at_time, solving_action}
+use Rattle.sp_spec_system.specs.System.{System}
+use Rattle.sp_spec_system.specs.Formulas.{freed_action}
+use Rattle.sp_spec_system.specs.Move.{Move, simplify, contradiction, unproved, solved, or, action, premise, Case}
+use Rattle.sp_spec_formula.specs.Action.{is_adversary, action_at_time, solving_action}
 use Rattle.sp_moves_formula.specs.WhyNot.{Clause, condition, why_no_disjunction, why_not_freed, why_no_action, why_not_formula, formula_cases, HasCases}
 use Rattle.sp_moves_formula.specs.Parts.{disjuncts, by_parts}
 use Rattle.sp_moves_formula.proofs.Parts.{parts_at}
+use Rattle.sp_spec_system.specs.Rules.{RuleForms}
 
-by_freed : (rules : List Rule) (s : System) (i : ℕ) (symbol : List ℕ) (o : Option (Action Variable)) (b : Bool) → is_adversary symbol ≡ b
+by_freed : (rules : List RuleForms) (s : System) (i : ℕ) (symbol : List ℕ) (o : Option (Action Variable)) (b : Bool) → is_adversary symbol ≡ b
     → is_none (why_not_freed symbol o) ≡ is_some (let r : Option (List Case) = if b then None else action_at_time rules s i o in r)
 by_freed rules s i symbol None true e = refl
 by_freed rules s i symbol None false e = refl
 by_freed rules s i symbol (Some a) true e = ap (λ (b : Bool). is_none (let r : Option Clause = if b then Some condition else None in r)) e
 by_freed rules s i symbol (Some a) false e = ap (λ (b : Bool). is_none (let r : Option Clause = if b then Some condition else None in r)) e
 
-by_formula : (rules : List Rule) (s : System) (f : Guarded) → is_none (why_no_action (Some f)) ≡ is_some (solving_action rules s (Some f))
+by_formula : (rules : List RuleForms) (s : System) (f : Guarded) → is_none (why_no_action (Some f)) ≡ is_some (solving_action rules s (Some f))
 by_formula rules s truth = refl
 by_formula rules s falsity = refl
 by_formula rules s (holds (acts a (free_time i))) = by_freed rules s i a.symbol (freed_action a) (is_adversary a.symbol) refl
@@ -32,7 +34,7 @@ by_formula rules s (one_of fs) = refl
 by_formula rules s (some bs guard f) = refl
 by_formula rules s (every bs guard f) = refl
 
-by_place : (rules : List Rule) (s : System) (o : Option Guarded) → is_none (why_no_action o) ≡ is_some (solving_action rules s o)
+by_place : (rules : List RuleForms) (s : System) (o : Option Guarded) → is_none (why_no_action o) ≡ is_some (solving_action rules s o)
 by_place rules s None = refl
 by_place rules s (Some f) = by_formula rules s f
 
@@ -47,7 +49,7 @@ by_disjunction s k (Some (all_of fs)) = refl
 by_disjunction s k (Some (some bs guard f)) = refl
 by_disjunction s k (Some (every bs guard f)) = refl
 
-pub exactly : (rules : List Rule) (s : System) (m : Move) → HasCases (why_not_formula s m) (formula_cases rules s m)
+pub exactly : (rules : List RuleForms) (s : System) (m : Move) → HasCases (why_not_formula s m) (formula_cases rules s m)
 exactly rules s simplify = record { exact = refl }
 exactly rules s contradiction = record { exact = refl }
 exactly rules s unproved = record { exact = refl }

@@ -1,13 +1,14 @@
 -- A rule without an action of the name that is looked for gives no case.
-use Rattle.std.proofs.Common.{◌≡◌, ℕ, Bool, true, false, ◌||◌, List, [], ◌∷◌, ◌++◌, map, Option, None, option_map, refl, ap, ◌∙◌, if◌then◌else◌}
+use Rattle.std.proofs.Common.{◌≡◌, ℕ, Bool, true, false, List, [], ◌∷◌, ◌++◌, map, Option, None, option_map, refl, ap, ◌∙◌, if◌then◌else◌}
 use Rattle.std.specs.Str.{bytes_eq}
 use Rattle.sp_spec.specs.Term.{Variable, Term}
 use Rattle.sp_spec.specs.Rule.{Action, Rule, action_at}
 use Rattle.sp_spec.specs.Substitution.{bound_to}
 use Rattle.sp_spec.specs.Unifier.{Pair}
-use Rattle.sp_system.specs.System.{System}
-use Rattle.sp_system.specs.Equating.{argument_pairs, unifier_of, system_changed}
-use Rattle.sp_step.specs.Moves.{by_actions, system_if, with_step, named}
+use Rattle.sp_spec_system.specs.System.{System}
+use Rattle.sp_spec_system.specs.Equating.{argument_pairs, unifier_of, system_changed}
+use Rattle.sp_spec_formula.specs.Action.{by_actions, with_step}
+use Rattle.sp_spec_system.specs.Cases.{system_if, named}
 use Rattle.sp_moves_formula.specs.Sought.{shifted, by_rule}
 use Rattle.sp_fact.specs.Book.{has_action}
 use Rattle.std.proofs.lemmas.Bool.{or_parts}
@@ -27,4 +28,4 @@ none_acts s a v (b ∷ actions) e =
     ∙ none_acts s a v actions parts.1
 
 pub no_case : (r : Rule) (s : System) (i : ℕ) (a : Action Variable) → has_action a.symbol r.facts.actions ≡ false → by_rule r s i a ≡ []
-no_case r s i a e = ap (named r.name) (none_acts (with_step s i r) a (shifted s.next) r.facts.actions e)
+no_case r s i a e = ap (λ (systems : List System). named r.name (systems ++ [])) (none_acts (with_step s i r) a (shifted s.next) r.facts.actions e)

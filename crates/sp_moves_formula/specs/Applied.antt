@@ -1,6 +1,6 @@
 -- What applying a move gives: its cases, or the clause that fails.
 use Rattle.std.specs.Prelude.{List, map, Option, Some, None}
-use Rattle.sp_step.specs.Moves as spec
+use Rattle.sp_spec_system.specs.Move as spec
 use Rattle.sp_moves_formula.specs.WhyNot.{Clause, another_crate, absent, other_kind, condition}
 use Rattle.sp_moves_formula.specs.View.{case_of}
 use Rattle.sp_moves_formula.specs.declared.apply.Clause as memory

@@ -2,8 +2,8 @@
 use Rattle.std.specs.Prelude.{ℕ, List, [], ◌∷◌, ◌++◌, Option, Some, None, slice_get}
 use Rattle.sp_spec.specs.Term.{Variable}
 use Rattle.sp_spec.specs.Rule.{Action, Rule}
-use Rattle.sp_system.specs.System.{System}
-use Rattle.sp_step.specs.Moves.{Case}
+use Rattle.sp_spec_system.specs.System.{System}
+use Rattle.sp_spec_system.specs.Move.{Case}
 use Rattle.sp_moves_formula.specs.Sought.{by_rule}
 
 -- the cases of a new step of the rule at a place

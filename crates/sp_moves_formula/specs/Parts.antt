@@ -1,9 +1,9 @@
 -- The parts of a disjunction that stands at a position, as lists.
 use Rattle.std.specs.Prelude.{ℕ, suc, List, [], ◌∷◌, ◌++◌, Option, Some, None, codes, decimal}
 use Rattle.sp_spec.specs.Guarded.{Guarded, one_of}
-use Rattle.sp_system.specs.System.{System}
-use Rattle.sp_step.specs.Rows.{parts_of}
-use Rattle.sp_step.specs.Moves.{Case}
+use Rattle.sp_spec_system.specs.System.{System}
+use Rattle.sp_spec_formula.specs.Split.{parts_of}
+use Rattle.sp_spec_system.specs.Move.{Case}
 use Rattle.sp_rows.specs.RowsView.{spending_at}
 
 abbrev pub disjuncts : Guarded → Option (List Guarded)

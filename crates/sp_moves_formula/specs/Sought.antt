@@ -3,9 +3,11 @@ use Rattle.std.specs.Prelude.{ℕ, ◌+◌, List, [], ◌∷◌, if◌then◌els
 use Rattle.sp_spec.specs.Term.{Variable, Term, var}
 use Rattle.sp_spec.specs.Rule.{Action, Rule}
 use Rattle.sp_spec.specs.Guarded.{Guarded, holds, acts, free_time}
-use Rattle.sp_step.specs.Rows.{freed_action}
-use Rattle.sp_system.specs.System.{System}
-use Rattle.sp_step.specs.Moves.{Case, is_adversary, with_step, by_actions, renamed, named}
+use Rattle.sp_spec_system.specs.Formulas.{freed_action}
+use Rattle.sp_spec_system.specs.System.{System}
+use Rattle.sp_spec_system.specs.Move.{Case}
+use Rattle.sp_spec_formula.specs.Action.{is_adversary, by_forms}
+use Rattle.sp_spec_system.specs.Cases.{named}
 
 -- an action, with its time
 abbrev pub timed : ℕ → Action Variable → ℕ × Action Variable
@@ -20,6 +22,6 @@ sought f = None
 abbrev pub shifted : ℕ → Variable → Term Variable
 shifted next x = var (record { sort = x.sort; number = next + x.number })
 
--- the cases of a new step of one rule
+-- the cases of a new step of one rule, which is its only form
 abbrev pub by_rule : Rule → System → ℕ → Action Variable → List Case
-by_rule r s i a = named r.name (by_actions (with_step s i r) a (renamed s.next r.facts).actions)
+by_rule r s i a = named r.name (by_forms (r ∷ []) s i a)

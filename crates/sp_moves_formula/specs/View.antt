@@ -1,7 +1,7 @@
 -- The moves and cases that those in memory stand for.
 use Rattle.std.specs.Prelude.{string_bytes}
 use Rattle.sp_system.specs.SystemView.{system_of}
-use Rattle.sp_step.specs.Moves as spec
+use Rattle.sp_spec_system.specs.Move as spec
 use Rattle.sp_moves_formula.specs.declared.moves.Move.{Move}
 use Rattle.sp_moves_formula.specs.declared.moves.Move.TheVariants.{Simplify, Contradiction, Unproved, Solved, Or, Action, Premise}
 use Rattle.sp_moves_formula.specs.declared.moves.Case.{Case}

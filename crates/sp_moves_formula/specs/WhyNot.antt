@@ -1,11 +1,14 @@
 -- Why a move is no instance, and the cases of the moves that take up a formula.
 use Rattle.std.specs.Prelude.{◌≡◌, ℕ, if◌then◌else◌, List, Option, Some, None, is_none, is_some, slice_get}
 use Rattle.sp_spec.specs.Term.{Variable}
-use Rattle.sp_spec.specs.Rule.{Action, Rule}
+use Rattle.sp_spec.specs.Rule.{Action}
 use Rattle.sp_spec.specs.Guarded.{Guarded, holds, acts, one_of, free_time}
-use Rattle.sp_system.specs.System.{System}
-use Rattle.sp_step.specs.Rows.{freed_action}
-use Rattle.sp_step.specs.Moves.{Move, or, action, Case, is_adversary, disjunction_at, or_cases, solving_action}
+use Rattle.sp_spec_system.specs.System.{System}
+use Rattle.sp_spec_system.specs.Formulas.{freed_action}
+use Rattle.sp_spec_system.specs.Move.{Move, or, action, Case}
+use Rattle.sp_spec_formula.specs.Action.{is_adversary, solving_action}
+use Rattle.sp_spec_formula.specs.Or.{disjunction_at, or_cases}
+use Rattle.sp_spec_system.specs.Rules.{RuleForms}
 
 -- What fails of a move's condition: of these the first that does.
 pub data Clause : Type 0 where
@@ -40,7 +43,7 @@ why_not_formula s (action k) = why_no_action (slice_get s.formulas k)
 why_not_formula s move = Some another_crate
 
 -- the cases of such a move before they are simplified; none where it is no instance
-abbrev pub formula_cases : List Rule → System → Move → Option (List Case)
+abbrev pub formula_cases : List RuleForms → System → Move → Option (List Case)
 formula_cases rules s (or k) = or_cases s (disjunction_at k s.formulas)
 formula_cases rules s (action k) = solving_action rules s (slice_get s.formulas k)
 formula_cases rules s move = None

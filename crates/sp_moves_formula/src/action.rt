@@ -3,11 +3,12 @@
 ghost use Rattle.std.specs.Prelude.{◌≡◌, List, Some, is_some, IfOk, option_map};
 ghost use Rattle.sp_spec.specs.Rule as spec_rule;
 ghost use Rattle.sp_term.specs.View.{name_of};
-ghost use Rattle.sp_system.specs.System as spec_system;
+ghost use Rattle.sp_spec_system.specs.System as spec_system;
 ghost use Rattle.sp_fact.specs.View.{action_of};
 ghost use Rattle.sp_formula.specs.FormulaView.{formula_of};
-ghost use Rattle.sp_step.specs.Moves as spec;
+ghost use Rattle.sp_spec_formula.specs.Action as spec;
 ghost use Rattle.sp_moves_formula.specs.Sought.{sought, timed};
+ghost use Rattle.sp_spec_system.specs.Rules.{RuleForms};
 
 use sp_fact::fact::Action;
 use sp_formula::formula::{Atom, Formula, FormulaAction, Moment};
@@ -50,7 +51,7 @@ pub fn sought(alloc: Global, formula: &Formula) -> Result<Option<(u128, Action)>
 ///
 /// `AllocError` where memory is wanting.
 pub fn is_solvable(alloc: Global, formula: &Formula) -> Result<bool, AllocError>
-    ensures { IfOk result (λ b. (rules : List spec_rule.Rule) → (s : spec_system.System) → b ≡ is_some (spec.solving_action rules s (Some (formula_of formula.now)))) }
+    ensures { IfOk result (λ b. (rules : List RuleForms) → (s : spec_system.System) → b ≡ is_some (spec.solving_action rules s (Some (formula_of formula.now)))) }
 {
     let found = sought(alloc, formula)?;
     Ok(found.is_some())

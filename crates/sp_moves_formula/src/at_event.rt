@@ -3,7 +3,7 @@
 ghost use Rattle.std.specs.Prelude.{◌≡◌, IfOk, ◌++◌, codes, decimal, map, string_bytes};
 ghost use Rattle.sp_fact.specs.View.{action_of};
 ghost use Rattle.sp_system.specs.SystemView.{system_of};
-ghost use Rattle.sp_step.specs.Moves as spec;
+ghost use Rattle.sp_spec_formula.specs.Action as spec;
 ghost use Rattle.sp_moves_formula.specs.View.{case_of};
 
 use crate::moves::Case;

@@ -4,10 +4,11 @@ ghost use Rattle.std.specs.Prelude.{◌≡◌, IfOk, map, slice_get};
 ghost use Rattle.sp_fact.specs.View.{rule_of, action_of};
 ghost use Rattle.sp_fact.specs.BookView.{book_of};
 ghost use Rattle.sp_system.specs.SystemView.{system_of};
-ghost use Rattle.sp_step.specs.Moves as spec;
+ghost use Rattle.sp_spec_formula.specs.Action as spec;
 ghost use Rattle.sp_moves_formula.specs.View.{case_of};
 ghost use Rattle.sp_moves_formula.specs.Sought.{by_rule};
 ghost use Rattle.sp_moves_formula.specs.Book.{by_found};
+ghost use Rattle.sp_spec_system.specs.Rules.{forms_of};
 
 use crate::moves::Case;
 use crate::named::named;
@@ -88,7 +89,7 @@ pub fn by_each(
     time: u128,
     action: &Action,
 ) -> Result<Vec<Case>, AllocError>
-    ensures { IfOk result (λ cs. map case_of cs.items ≡ spec.by_each (book_of rules.now) (system_of system.now) time (action_of action.now)) }
+    ensures { IfOk result (λ cs. map case_of cs.items ≡ spec.by_each (map forms_of (book_of rules.now)) (system_of system.now) time (action_of action.now)) }
 {
     let mut made = Vec::new(alloc);
     for place in rules.places(&action.symbol) {

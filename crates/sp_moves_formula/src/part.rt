@@ -3,7 +3,7 @@
 ghost use Rattle.std.specs.Prelude.{◌≡◌, ◌<◌, ◌++◌, [], ◌∷◌, IfOk, codes, decimal, is_some, length, map, option_and_then, option_map, slice_get, string_bytes};
 ghost use Rattle.sp_formula.specs.FormulaView.{formula_of};
 ghost use Rattle.sp_system.specs.SystemView.{system_of};
-ghost use Rattle.sp_step.specs.Moves as spec;
+ghost use Rattle.sp_spec_formula.specs.Or as spec;
 ghost use Rattle.sp_moves_formula.specs.View.{case_of};
 ghost use Rattle.sp_rows.specs.RowsView.{spending_at};
 ghost use Rattle.sp_moves_formula.specs.Parts.{disjuncts, by_parts};

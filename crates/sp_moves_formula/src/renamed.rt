@@ -5,7 +5,7 @@ ghost use Rattle.sp_spec.specs.Term.{valued, valued_all};
 ghost use Rattle.sp_spec.specs.Rule.{fact_at, action_at};
 ghost use Rattle.sp_term.specs.View.{variable_of, view, view_all};
 ghost use Rattle.sp_fact.specs.View.{fact_of, action_of, facts_of};
-ghost use Rattle.sp_step.specs.Moves as spec;
+ghost use Rattle.sp_spec_system.specs.Cases as spec;
 ghost use Rattle.sp_moves_formula.specs.Sought.{shifted};
 
 use sp_fact::fact::{Action, Fact, Facts};

@@ -3,10 +3,11 @@
 ghost use Rattle.std.specs.Prelude.{◌≡◌, IfOk, map, option_map};
 ghost use Rattle.sp_term.specs.Bindings.{bindings};
 ghost use Rattle.sp_fact.specs.View.{action_of, fact_of};
-ghost use Rattle.sp_system.specs.Equating.{unifier_of};
-ghost use Rattle.sp_system.specs.Pairs as pairs;
+ghost use Rattle.sp_spec_system.specs.Equating.{unifier_of};
+ghost use Rattle.sp_spec_system.specs.Equating as pairs;
 ghost use Rattle.sp_system.specs.SystemView.{pair_of, system_of};
-ghost use Rattle.sp_step.specs.Moves as spec;
+ghost use Rattle.sp_spec_system.specs.Cases as spec;
+ghost use Rattle.sp_spec_formula.specs.Action as action_spec;
 
 use sp_fact::fact::{Action, Fact};
 use sp_system::pairing::{action_pair, fact_pair};
@@ -72,7 +73,7 @@ pub fn by_actions(
     action: &Action,
     actions: &Vec<Action>,
 ) -> Result<Vec<System>, AllocError>
-    ensures { IfOk result (λ ss. map system_of ss.items ≡ spec.by_actions (system_of system.now) (action_of action.now) (map action_of actions.now.items)) }
+    ensures { IfOk result (λ ss. map system_of ss.items ≡ action_spec.by_actions (system_of system.now) (action_of action.now) (map action_of actions.now.items)) }
 {
     let mut made = Vec::new(alloc);
     for other in actions {

@@ -1,9 +1,11 @@
 -- The cases that one rule gives for a premise.
-use Rattle.std.specs.Prelude.{ℕ, suc, List}
+use Rattle.std.specs.Prelude.{ℕ, List, [], ◌∷◌}
 use Rattle.sp_spec.specs.Term.{Variable}
 use Rattle.sp_spec.specs.Rule.{Fact, Rule}
-use Rattle.sp_system.specs.System.{System}
-use Rattle.sp_step.specs.Moves.{Case, by_conclusions, renamed, named}
+use Rattle.sp_spec_system.specs.System.{System}
+use Rattle.sp_spec_system.specs.Move.{Case}
+use Rattle.sp_spec_graph.specs.Premise.{giver_forms}
+use Rattle.sp_spec_system.specs.Cases.{named}
 
 abbrev pub by_giver : Rule → System → ℕ → ℕ → Fact Variable → List Case
-by_giver r s i p f = named r.name (by_conclusions s i p f r 0 (renamed (suc s.next) r.facts).conclusions)
+by_giver r s i p f = named r.name (giver_forms (r ∷ []) s i p f)

@@ -1,7 +1,7 @@
 -- Whether a time occurs in a system.
 use Rattle.std.specs.Prelude.{ℕ, ◌==◌, ◌||◌, Bool, false, List, [], ◌∷◌}
 use Rattle.sp_spec.specs.Guarded.{Time, free_time, bound_time, Atom, acts, same, same_time, before, last, Guarded, truth, falsity, holds, fails, all_of, one_of, some, every, Guardeds, no_more, and_then}
-use Rattle.sp_system.specs.System.{Event, Link, System}
+use Rattle.sp_spec_system.specs.System.{Event, Link, System}
 
 abbrev pub is_time : ℕ → Time → Bool
 is_time i (free_time j) = j == i

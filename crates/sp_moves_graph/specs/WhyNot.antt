@@ -1,13 +1,15 @@
 -- Why a move is no instance, and the cases of the move that takes up a premise.
 use Rattle.std.specs.Prelude.{ℕ, ◌||◌, if◌then◌else◌, List, Option, Some, None, slice_get}
 use Rattle.sp_spec.specs.Term.{Variable}
-use Rattle.sp_spec.specs.Rule.{Fact, Rule}
+use Rattle.sp_spec.specs.Rule.{Fact}
 use Rattle.sp_spec.specs.Log.{is_fr}
-use Rattle.sp_system.specs.System.{happening_premises, Event, System}
-use Rattle.sp_step.specs.Rows.{event_at}
-use Rattle.sp_step.specs.Moves.{Move, premise, Case, is_in, is_linked, open_premise, premise_cases}
+use Rattle.sp_spec_system.specs.System.{happening_premises, Event, System, is_in}
+use Rattle.sp_spec_system.specs.MakingOne.{event_at}
+use Rattle.sp_spec_system.specs.Move.{Move, premise, Case}
+use Rattle.sp_spec_graph.specs.Premise.{is_linked, open_premise, premise_cases}
 use Rattle.sp_moves_formula.specs.WhyNot.{Clause, another_crate, absent, other_kind, condition}
 use Rattle.sp_moves_graph.specs.Times.{has_time}
+use Rattle.sp_spec_system.specs.Rules.{RuleForms}
 
 -- the premise of that time and place, if its event has so many
 abbrev pub why_not_open : System → ℕ → ℕ → Option (Fact Variable) → Option Clause
@@ -24,6 +26,6 @@ why_not_graph s (premise i p) = if has_time i s then why_not_of s i p (event_at 
 why_not_graph s move = Some another_crate
 
 -- the cases of such a move before they are simplified; none where it is no instance
-abbrev pub graph_cases : List Rule → System → Move → Option (List Case)
+abbrev pub graph_cases : List RuleForms → System → Move → Option (List Case)
 graph_cases rules s (premise i p) = premise_cases rules s i p (open_premise s i p)
 graph_cases rules s move = None

@@ -4,12 +4,14 @@ ghost use Rattle.std.specs.Prelude.{◌≡◌, ◌||◌, Some, IfOk, map, option
 ghost use Rattle.sp_fact.specs.View.{fact_of};
 ghost use Rattle.sp_fact.specs.BookView.{book_of};
 ghost use Rattle.sp_spec.specs.Log.{is_fr};
+ghost use Rattle.sp_spec_system.specs.System.{is_in};
 ghost use Rattle.sp_system.specs.SystemView.{event_of, system_of};
-ghost use Rattle.sp_step.specs.Moves as spec;
+ghost use Rattle.sp_spec_graph.specs.Premise as spec;
 ghost use Rattle.sp_moves_formula.specs.View.{case_of, move_of};
 ghost use Rattle.sp_moves_formula.specs.Applied.{clause_of, cases_of, failing};
 ghost use Rattle.sp_moves_formula.specs.WhyNot.{HasCases};
 ghost use Rattle.sp_moves_graph.specs.WhyNot.{why_not_of, why_not_graph, graph_cases};
+ghost use Rattle.sp_spec_system.specs.Rules.{forms_of};
 
 use crate::giver::{is_linked, is_received, premise_cases};
 use crate::times::has_time;
@@ -24,7 +26,7 @@ use std::alloc::{AllocError, Global};
 
 // Whether the premise needs no step for its source.
 fn is_closed(system: &System, premise: Premise, fact: &Fact) -> bool
-    ensures { result ≡ (spec.is_linked (system_of system.now).links premise.time premise.place || (is_fr (fact_of fact.now) || spec.is_in (fact_of fact.now))) }
+    ensures { result ≡ (spec.is_linked (system_of system.now).links premise.time premise.place || (is_fr (fact_of fact.now) || is_in (fact_of fact.now))) }
 {
     is_linked(&system.links, premise) || is_fresh(fact) || is_received(fact)
 }
@@ -66,7 +68,7 @@ fn cases(
     system: &System,
     chosen: Move,
 ) -> Result<Option<Vec<Case>>, AllocError>
-    ensures { IfOk result (λ o. option_map (λ cs. map case_of cs.items) o ≡ graph_cases (book_of rules.now) (system_of system.now) (move_of chosen)) }
+    ensures { IfOk result (λ o. option_map (λ cs. map case_of cs.items) o ≡ graph_cases (map forms_of (book_of rules.now)) (system_of system.now) (move_of chosen)) }
 {
     match chosen {
         Move::Premise(premise) => premise_cases(alloc, rules, system, premise),
@@ -86,8 +88,8 @@ pub fn apply(
     chosen: Move,
 ) -> Result<Applied, AllocError>
     ensures why { IfOk result (λ a. failing a ≡ why_not_graph (system_of system.now) (move_of chosen)) }
-    ensures gives { IfOk result (λ a. cases_of a ≡ graph_cases (book_of rules.now) (system_of system.now) (move_of chosen)) }
-    ensures exact { HasCases (why_not_graph (system_of system.now) (move_of chosen)) (graph_cases (book_of rules.now) (system_of system.now) (move_of chosen)) }
+    ensures gives { IfOk result (λ a. cases_of a ≡ graph_cases (map forms_of (book_of rules.now)) (system_of system.now) (move_of chosen)) }
+    ensures exact { HasCases (why_not_graph (system_of system.now) (move_of chosen)) (graph_cases (map forms_of (book_of rules.now)) (system_of system.now) (move_of chosen)) }
 {
     match cases(alloc, rules, system, chosen)? {
         Some(cases) => Ok(Applied::Cases(cases)),

@@ -4,9 +4,12 @@ ghost use Rattle.std.specs.Prelude.{◌≡◌, ◌+◌, suc, IfOk, length, map, 
 ghost use Rattle.sp_fact.specs.View.{rule_of, fact_of};
 ghost use Rattle.sp_fact.specs.BookView.{book_of};
 ghost use Rattle.sp_system.specs.SystemView.{link_of, system_of};
-ghost use Rattle.sp_step.specs.Moves as spec;
+ghost use Rattle.sp_spec_system.specs.System.{is_in};
+ghost use Rattle.sp_spec_graph.specs.Premise as spec;
+ghost use Rattle.sp_spec_system.specs.Cases as cases_spec;
 ghost use Rattle.sp_moves_formula.specs.View.{case_of};
 ghost use Rattle.sp_moves_graph.specs.Givers.{by_giver};
+ghost use Rattle.sp_spec_system.specs.Rules.{forms_of};
 
 use sp_fact::book::RuleBook;
 use sp_fact::fact::Fact;
@@ -33,7 +36,7 @@ pub fn is_linked(links: &Vec<Link>, premise: Premise) -> bool
 }
 
 pub fn is_received(fact: &Fact) -> bool
-    ensures { result ≡ spec.is_in (fact_of fact.now) }
+    ensures { result ≡ is_in (fact_of fact.now) }
 {
     fact.symbol.text.as_str() == "In" && !fact.persistent
 }
@@ -101,7 +104,7 @@ fn given_by(
     conclusion: &Fact,
 ) -> Result<Option<System>, AllocError>
     ensures { IfOk result (λ o. option_map system_of o
-        ≡ spec.where_same_fact (spec.with_giver (system_of system.now) premise.time premise.place (rule_of rule.now) place) (fact_of fact.now) (fact_of conclusion.now)) }
+        ≡ cases_spec.where_same_fact (spec.with_giver (system_of system.now) premise.time premise.place (rule_of rule.now) place) (fact_of fact.now) (fact_of conclusion.now)) }
 {
     let Some(subst) = fact_unifier(alloc, fact, conclusion)? else {
         return Ok(None);
@@ -154,7 +157,7 @@ fn by_each_giver(
     premise: Premise,
     fact: &Fact,
 ) -> Result<Vec<Case>, AllocError>
-    ensures { IfOk result (λ cs. map case_of cs.items ≡ spec.by_each_giver (book_of rules.now) (system_of system.now) premise.time premise.place (fact_of fact.now)) }
+    ensures { IfOk result (λ cs. map case_of cs.items ≡ spec.by_each_giver (map forms_of (book_of rules.now)) (system_of system.now) premise.time premise.place (fact_of fact.now)) }
 {
     let mut made = Vec::new(alloc);
     for rule in &rules.rules {
@@ -177,7 +180,7 @@ pub fn premise_cases(
     premise: Premise,
 ) -> Result<Option<Vec<Case>>, AllocError>
     ensures { IfOk result (λ o. option_map (λ cs. map case_of cs.items) o
-        ≡ spec.premise_cases (book_of rules.now) (system_of system.now) premise.time premise.place (spec.open_premise (system_of system.now) premise.time premise.place)) }
+        ≡ spec.premise_cases (map forms_of (book_of rules.now)) (system_of system.now) premise.time premise.place (spec.open_premise (system_of system.now) premise.time premise.place)) }
 {
     let Some(fact) = open_premise(system, premise) else {
         return Ok(None);

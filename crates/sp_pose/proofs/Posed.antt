@@ -16,12 +16,11 @@ use Rattle.sp_written.specs.declared.theory.ReadTheory.{ReadTheory}
 use Rattle.sp_spec_text.specs.Spans.{Rise}
 use Rattle.sp_spec_text.specs.Texts.{IsTextOf, ArePlaces}
 use Rattle.sp_wf.specs.Report.{report}
-use Rattle.sp_wf.proofs.ReportClean.{report_is_right}
+use Rattle.sp_wf.proofs.ReportClean.{report_is_right, HasForm}
 use Rattle.sp_pose.specs.Problem.{Poses, IsReported}
 use Rattle.sp_pose.specs.Asked.{Asked, asked_of, asked_with, lemmas_read, all_asked}
 use Rattle.sp_pose.specs.Posed.{IsPosedBy}
 use Rattle.sp_pose.specs.declared.problem.Problem.{Problem}
-use Rattle.sp_wf.proofs.ReportClean.{HasForm}
 
 -- lines are those of findings, where there are any
 pub reported : {text lines : List ℕ} (r : ReadTheory) → IsTextOf text (view.theory r) → lines ≡ report (view.theory r) → (lines ≡ [] → ⊥) → IsReported text lines

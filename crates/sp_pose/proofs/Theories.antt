@@ -11,7 +11,7 @@ use Rattle.sp_spec_text.specs.Written.{Item, WrittenText, rules_in, lemmas_in}
 use Rattle.sp_spec_text.specs.Shapes.{row, action_of, quantified}
 use Rattle.sp_spec_text.specs.Formulas.{SpellsTerm, fixed, variable, brackets, SpellsFact, linear, persistent, quantified_some, SpellsUnit, bracketed, every, there_is, true_unit, false_unit, action, equation, order, SpellsNegation, plain_unit, negated, SpellsConjunction, conjunction, SpellsAnds, no_more_and, and_then, SpellsDisjunction, disjunction, SpellsOrs, no_more_or, or_then, SpellsImplication, alone, implication, SpellsFormula, one, two, SpellsReach, reach_one, reach_two}
 use Rattle.sp_spec_text.specs.Theories.{SpellsFacts, facts, SpellsArrow, unlabelled, labelled, SpellsRule, rule, SpellsLemma, lemma, SpellsItems, no_item, rule_first, lemma_first, SpellsTheory, theory}
-use Rattle.sp_check.specs.PlainTheory.{IsAtomic, AreAtomic, IsPlainFact, IsPlainAction, IsPlainRule, IsPlainFormula}
+use Rattle.sp_law_tree.specs.PlainTheory.{IsAtomic, AreAtomic, IsPlainFact, IsPlainAction, IsPlainRule, IsPlainFormula}
 use Rattle.sp_pose.proofs.Named.{no_adversary, every_item}
 
 term_atomic : {n : ℕ} {x : Term Written} {tokens rest : List Lexeme} → SpellsTerm n tokens x rest → IsAtomic x

@@ -11,7 +11,7 @@ use Rattle.sp_law_equal.proofs.Pairs.{pairs_convergent, pairs_keep_symbols}
 use Rattle.sp_law_run.specs.NormalStep.{normal_step, normal_trace}
 use Rattle.sp_law_run.specs.Right.{AreRight}
 use Rattle.sp_law_run.proofs.Written.{rules_right}
-use Rattle.sp_check.specs.PlainTheory.{IsPlainFormula}
+use Rattle.sp_law_tree.specs.PlainTheory.{IsPlainFormula}
 use Rattle.sp_fact.specs.View.{rule_of}
 use Rattle.sp_fact.specs.BookView.{book_of}
 use Rattle.sp_ground.specs.View.{signature_of, symbol_of, step_of, entries_of, trace_of}
@@ -31,7 +31,7 @@ use Rattle.sp_pose.specs.declared.problem.Problem.{Problem}
 use Rattle.sp_pose.proofs.Theories.{theory_spelled}
 use Rattle.sp_replay.specs.Held.{held, held_lines}
 use Rattle.sp_replay.specs.Replay.{theory_said, behind_line, HasLines, steps_done, IsUnread, IsStopped, AreMet, met_lines, IsReplay}
-use Rattle.sp_check.proofs.PlainOver.{plain_rules_over}
+use Rattle.sp_law_tree.proofs.PlainOver.{plain_rules_over}
 use Rattle.sp_pose.proofs.Forms.{asked_list, has_forms, lemmas_same}
 use Rattle.sp_replay.proofs.Truths.{lemmas_met, lines_same}
 

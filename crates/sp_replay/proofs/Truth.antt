@@ -29,7 +29,7 @@ use Rattle.sp_law_decide.specs.Normal.{IsNormalAction, IsNormalTrace, HasPlainTe
 use Rattle.sp_law_decide.specs.Normal as decide
 use Rattle.sp_law_decide.proofs.PlainForms.{form_plain, atomic_plain}
 use Rattle.sp_law_decide.proofs.Told.{told}
-use Rattle.sp_check.specs.PlainTheory.{IsAtomic, AreAtomic, IsPlainFormula}
+use Rattle.sp_law_tree.specs.PlainTheory.{IsAtomic, AreAtomic, IsPlainFormula}
 
 -- ---- no symbol stands in a plain formula
 

@@ -8,7 +8,7 @@ use Rattle.sp_term.specs.View.{terms_of, view, view_all}
 use Rattle.sp_term.specs.declared.term.Term.{Term}
 use Rattle.sp_formula.specs.declared.formula.FormulaTerm.{FormulaTerm}
 use Rattle.sp_formula.specs.FormulaView.{placed_term, placed_terms}
-use Rattle.sp_step.specs.Rows.{freed, freed_all}
+use Rattle.sp_spec_system.specs.Formulas.{freed, freed_all}
 
 abbrev joined : List (spec.Term Variable) → Terms Variable → Terms Variable
 joined [] us = us

@@ -3,7 +3,7 @@ use Rattle.std.proofs.Common.{◌≡◌, Some, option_map, refl, ap}
 use Rattle.sp_spec.specs.Term.{Variable, Term, Terms, var, constant, name, app, none, more, valued_all}
 use Rattle.sp_spec.specs.Guarded.{free}
 use Rattle.sp_formula.specs.Change.{placed}
-use Rattle.sp_step.specs.Rows.{freed, freed_all}
+use Rattle.sp_spec_system.specs.Formulas.{freed, freed_all}
 
 mutual
   pub freed-placed : (t : Term Variable) → freed (placed t) ≡ Some t

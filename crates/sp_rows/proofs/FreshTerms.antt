@@ -3,7 +3,8 @@ use Rattle.std.proofs.Common.{◌≡◌, Bool, true, false, if◌then◌else◌,
 use Rattle.sp_spec.specs.Term.{Variable, Term, Terms, none, more}
 use Rattle.sp_spec.specs.Rule.{Fact}
 use Rattle.sp_spec.specs.Log.{is_fr}
-use Rattle.sp_step.specs.Rows.{first_some, first_term, fresh_terms}
+use Rattle.sp_spec_system.specs.Picked.{first_some}
+use Rattle.sp_spec_graph.specs.Fresh.{first_term, fresh_terms}
 use Rattle.std.specs.Option.{option_or}
 use Rattle.sp_rows.specs.TwinsView.{first_of, fresh_one}
 

@@ -1,10 +1,10 @@
 -- The first two links that clash, as a loop looks for them.
 use Rattle.std.proofs.Common.{◌≡◌, ◌<◌, ◌≤◌, ◌||◌, ℕ, ◌+◌, List, [], ◌∷◌, drop, length, map, Bool, true, false, if◌then◌else◌, Option, Some, None, option_map, is_some, refl, sym, ap, ◌∙◌, slice_index_or}
 use Rattle.std.proofs.lemmas.List.{drop_more, drop_all}
-use Rattle.sp_system.specs.System as spec
+use Rattle.sp_spec_system.specs.System as spec
 use Rattle.sp_system.specs.declared.system.Link.{Link}
 use Rattle.sp_system.specs.SystemView.{link_of}
-use Rattle.sp_step.specs.Rows.{first_with, first_two, some_with, some_two}
+use Rattle.sp_spec_system.specs.Picked.{first_with, first_two, some_with, some_two}
 use Rattle.std.specs.Option.{option_or}
 use Rattle.sp_rows.specs.LinksView.{both_of}
 

@@ -6,9 +6,9 @@ use Rattle.sp_spec.specs.Guarded.{Place, free, Time, Guarded}
 use Rattle.sp_spec.specs.Same.{alike, alike_all}
 use Rattle.sp_formula.specs.Change.{placed}
 use Rattle.sp_term.specs.View.{terms_of}
-use Rattle.sp_formula.specs.FormulaView.{row_of}
+use Rattle.sp_formula.specs.FormulaView.{row_of, placed_action, moment_of, atom_of}
 use Rattle.sp_spec.specs.Rule.{Action}
-use Rattle.sp_system.specs.System.{Event}
+use Rattle.sp_spec_system.specs.System.{Event, happening_actions}
 use Rattle.std.proofs.lemmas.List.{drop_more, drop_all}
 use Rattle.sp_rows.specs.declared.slots.Slots as memory
 use Rattle.sp_rows.specs.SlotsView.{slots_of}
@@ -16,11 +16,11 @@ use Rattle.sp_formula.specs.declared.formula.Atom as memory_atom
 use Rattle.sp_formula.specs.declared.formula.Atom.TheVariants.{Acts}
 use Rattle.sp_formula.specs.declared.formula.FormulaAction.{FormulaAction}
 use Rattle.sp_formula.specs.declared.formula.Moment.{Moment}
-use Rattle.sp_formula.specs.FormulaView.{placed_action, moment_of, atom_of}
-use Rattle.sp_step.specs.Rows.{first_match, first_some, happening_actions}
+use Rattle.sp_spec_formula.specs.Instantiate.{first_match}
+use Rattle.sp_spec_system.specs.Picked.{first_some}
 use Rattle.std.specs.Option.{option_or}
 use Rattle.sp_rows.specs.MatchesView.{with_match, matches_at, matches}
-use Rattle.sp_step.specs.Instances.{Slot, Slots, matched_action, matched, matched_all, value_in, values_in, place_of_bound}
+use Rattle.sp_spec_formula.specs.Instances.{Slot, Slots, matched_action, matched, matched_all, value_in, values_in, place_of_bound}
 
 -- a term of the system is matched by itself alone
 mutual

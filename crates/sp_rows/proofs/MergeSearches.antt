@@ -1,10 +1,10 @@
 -- Two events that use one Fr and can't be one, as a loop looks for them.
 use Rattle.std.proofs.Common.{◌≡◌, ◌<◌, ◌≤◌, ◌||◌, ℕ, ◌+◌, List, drop, length, map, Bool, true, false, sym, ap, ◌∙◌, slice_index_or}
 use Rattle.std.proofs.lemmas.List.{drop_more, drop_all}
-use Rattle.sp_system.specs.System as spec
+use Rattle.sp_spec_system.specs.System as spec
 use Rattle.sp_system.specs.declared.system.Event.{Event}
 use Rattle.sp_system.specs.SystemView.{event_of}
-use Rattle.sp_step.specs.Rows.{cannot_merge, fails_with, fails_to_merge}
+use Rattle.sp_spec_graph.specs.FreshOnce.{cannot_merge, fails_with, fails_to_merge}
 
 -- whether one is left to be seen from i on
 abbrev pub failing_with : spec.Event → List Event → ℕ → Bool

@@ -3,8 +3,8 @@ use Rattle.std.proofs.Common.{◌≡◌, ◌<◌, ℕ, suc, List, ◌++◌, take
 use Rattle.std.specs.List.{remove}
 use Rattle.std.proofs.lemmas.List.{map-append, take-map, drop-map, drop_more}
 use Rattle.sp_spec.specs.Term.{Variable, Term}
-use Rattle.sp_system.specs.System as spec
-use Rattle.sp_system.specs.Equating.{event_changed, system_changed}
+use Rattle.sp_spec_system.specs.System as spec
+use Rattle.sp_spec_system.specs.Equating.{event_changed, system_changed}
 use Rattle.sp_system.specs.declared.system.Event.{Event}
 use Rattle.sp_system.specs.declared.system.System.{System}
 use Rattle.sp_formula.specs.FormulaView.{formula_of}

@@ -16,7 +16,7 @@ use Rattle.sp_formula.specs.declared.formula.Binder.{Binder}
 use Rattle.sp_rows.specs.OpeningView.{pushed_all, put, value_place, change_of}
 use Rattle.sp_rows.specs.declared.opening.Values.{Values}
 use Rattle.sp_term.specs.declared.term.Term as memory_term
-use Rattle.sp_step.specs.Instances.{filled, placed_each, free_each, instance}
+use Rattle.sp_spec_formula.specs.Instances.{filled, placed_each, free_each, instance}
 
 pushed_last : {A : Type 0} (xs : List A) (x : A) (f : ℕ → A) → pushed_all (xs ++ x ∷ []) f ≡ pushed x (pushed_all xs f)
 pushed_last [] x f = refl

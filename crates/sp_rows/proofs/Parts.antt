@@ -8,7 +8,8 @@ use Rattle.sp_formula.specs.declared.formula.Formula.{Formula}
 use Rattle.sp_formula.specs.declared.formula.Formula.TheVariants.{OneOf}
 use Rattle.sp_formula.specs.FormulaView.{formula_of, guardeds_of}
 use Rattle.sp_formula.proofs.Formulas.{one_shown}
-use Rattle.sp_step.specs.Rows.{parts_of, is_falsity, without_false, disjunction_of}
+use Rattle.sp_spec_formula.specs.Split.{parts_of, is_falsity}
+use Rattle.sp_spec_formula.specs.Disjunction.{without_false, disjunction_of}
 use Rattle.sp_rows.specs.RowsView.{position_at, position_of}
 use Rattle.sp_rows.specs.PartsView.{false_of}
 use Rattle.sp_rows.proofs.Merges.{cut, cut_map}

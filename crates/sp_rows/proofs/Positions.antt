@@ -1,9 +1,16 @@
 -- The first formula of which something is picked is the one at its position.
 use Rattle.std.proofs.Common.{◌≡◌, ℕ, suc, List, [], ◌∷◌, ◌++◌, take, drop, Option, Some, None, option_map, option_and_then, refl, sym, ap, ap₂, ◌∙◌, ◌+◌, length, map}
 use Rattle.sp_spec.specs.Guarded.{Guarded, holds}
-use Rattle.sp_system.specs.System.{System}
+use Rattle.sp_spec_system.specs.System.{System, with_pairs}
 use Rattle.sp_formula.specs.Change.{atom_changed, changed, opening}
-use Rattle.sp_step.specs.Rows.{Found, found_at, first_formula, spending, split_of, split, instead_of, disjunction, order_of, in_order, with_order, inequality_of, unequal, Equation, equation_of, equated, equate, standing_of, action_stands, existential_of, open_existential}
+use Rattle.sp_spec_system.specs.Formulas.{Found, found_at, first_formula, spending}
+use Rattle.sp_spec_formula.specs.Split.{split_of, split}
+use Rattle.sp_spec_formula.specs.Disjunction.{instead_of, disjunction}
+use Rattle.sp_spec_formula.specs.InOrder.{order_of, in_order}
+use Rattle.sp_spec_formula.specs.Unequal.{inequality_of, unequal}
+use Rattle.sp_spec_formula.specs.Equate.{Equation, equation_of, equated, equate}
+use Rattle.sp_spec_formula.specs.ActionStands.{standing_of, action_stands}
+use Rattle.sp_spec_formula.specs.Open.{existential_of, open_existential}
 use Rattle.sp_rows.specs.RowsView.{position_at, position_of, spending_at, keeping}
 use Rattle.sp_rows.specs.OpeningView.{opening_at}
 
@@ -72,8 +79,8 @@ split-there s = spends split_of (λ fs. fs) (λ t fs. t) s
 pub disjunction-there : (s : System) → disjunction s ≡ option_map (λ p. spending_at s p.0 p.1) (position_of (instead_of s) s.formulas)
 disjunction-there s = spends (instead_of s) (λ fs. fs) (λ t fs. t) s
 
-pub in_order-there : (s : System) → in_order s ≡ option_map (λ p. with_order (spending_at s p.0 []) p.1) (position_of (order_of s.order) s.formulas)
-in_order-there s = spends (order_of s.order) (λ ps. []) with_order s
+pub in_order-there : (s : System) → in_order s ≡ option_map (λ p. with_pairs (spending_at s p.0 []) p.1) (position_of (order_of s.order) s.formulas)
+in_order-there s = spends (order_of s.order) (λ ps. []) with_pairs s
 
 -- what may fail after the formula is spent
 abbrev pub joined : Option (Option System) → Option System

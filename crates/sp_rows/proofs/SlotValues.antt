@@ -5,7 +5,7 @@ use Rattle.std.proofs.lemmas.Bool.{eqb-true, eq-eqb}
 use Rattle.sp_spec.specs.Term.{Variable, Term}
 use Rattle.sp_term.specs.View.{view}
 use Rattle.sp_term.specs.declared.term.Term as memory_term
-use Rattle.sp_step.specs.Instances.{Slot, with_value, put_term, with_position, put_time, value_at, all_terms, all_times}
+use Rattle.sp_spec_formula.specs.Instances.{Slot, with_value, put_term, with_position, put_time, value_at, all_terms, all_times}
 use Rattle.sp_rows.specs.declared.slots.Slot as memory
 use Rattle.sp_rows.specs.SlotsView.{slot_of}
 

@@ -1,7 +1,7 @@
 -- Simplification, turn by turn.
 use Rattle.std.proofs.Common.{◌≡◌, ℕ, suc, Bool, true, false, Option, Some, None, refl, ap, ◌∙◌}
-use Rattle.sp_system.specs.System.{System}
-use Rattle.sp_step.specs.Rows.{is_contradictory, by_rows, rows, goes_on, simplified_by}
+use Rattle.sp_spec_system.specs.System.{System}
+use Rattle.sp_spec_proof.specs.Rows.{is_contradictory, by_rows, rows, goes_on, simplified_by}
 use Rattle.sp_rows.specs.SimplifyView.{unless, turned}
 
 ends_so : (b : Bool) (o : Option System) (again : System → System) (s : System) → unless b o ≡ None → goes_on b o again s ≡ s

@@ -1,7 +1,7 @@
 -- The first twins are the events at their positions.
 use Rattle.std.proofs.Common.{◌≡◌, ◌<◌, ℕ, zero, suc, List, [], ◌∷◌, ◌++◌, take, drop, length, Bool, true, false, if◌then◌else◌, Option, Some, None, option_map, option_and_then, refl, sym, ap, ap₂, ◌∙◌, arith}
-use Rattle.sp_system.specs.System.{Event}
-use Rattle.sp_step.specs.Rows.{Twins, twin_behind, twin_by, twins_from, twins_by}
+use Rattle.sp_spec_system.specs.System.{Event}
+use Rattle.sp_spec_system.specs.MakingOne.{Twins, twin_behind, twin_by, twins_from, twins_by}
 use Rattle.sp_rows.specs.TwinsView.{twin_position, twins_at, twin_positions, twins, head_of, twins_there}
 
 record One (e : Event) (es : List Event) (r : Twins) (k : ℕ) : Type 0 where

@@ -2,10 +2,10 @@
 use Rattle.std.specs.Prelude.{[], ◌∷◌, Option, option_map}
 use Rattle.sp_spec.specs.Substitution.{bound_to}
 use Rattle.sp_spec.specs.Unifier.{Pair, mgu}
-use Rattle.sp_system.specs.System.{System}
-use Rattle.sp_system.specs.Equating.{system_changed}
+use Rattle.sp_spec_system.specs.System.{System}
+use Rattle.sp_spec_system.specs.Equating.{system_changed}
 use Rattle.sp_system.specs.SystemView.{pair_of}
-use Rattle.sp_step.specs.Rows as rows
+use Rattle.sp_spec_formula.specs.Equate as rows
 use Rattle.sp_rows.specs.declared.equation.Equation.{Equation}
 use Rattle.sp_rows.specs.declared.equation.Equation.TheVariants.{Terms, Times}
 

@@ -1,9 +1,10 @@
 -- Two links in memory, and why they clash.
 use Rattle.std.specs.Prelude.{Bool, List}
-use Rattle.sp_system.specs.System as spec
+use Rattle.sp_spec_system.specs.System as spec
 use Rattle.sp_system.specs.SystemView.{link_of}
 use Rattle.sp_system.specs.declared.system.Link.{Link}
-use Rattle.sp_step.specs.Rows.{takers_apart, givers_apart, used_twice}
+use Rattle.sp_spec_graph.specs.LinearOnce.{takers_apart, givers_apart}
+use Rattle.sp_spec_graph.specs.SourceTwice.{used_twice}
 use Rattle.sp_rows.specs.declared.links.Clash.{Clash}
 use Rattle.sp_rows.specs.declared.links.Clash.TheVariants.{Takers, Givers, UsedTwice}
 

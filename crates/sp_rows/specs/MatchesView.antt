@@ -3,9 +3,9 @@ use Rattle.std.specs.Prelude.{ℕ, List, [], ◌∷◌, ◌++◌, Option, Some, 
 use Rattle.sp_spec.specs.Term.{Variable}
 use Rattle.sp_spec.specs.Rule.{Action}
 use Rattle.sp_spec.specs.Guarded.{Place, Time, Atom, Guarded}
-use Rattle.sp_system.specs.System.{Event, System}
-use Rattle.sp_step.specs.Instances.{Slots, matched_action, instance_by}
-use Rattle.sp_step.specs.Rows.{happening_actions, if_new}
+use Rattle.sp_spec_system.specs.System.{Event, System, happening_actions}
+use Rattle.sp_spec_formula.specs.Instances.{Slots, matched_action, instance_by}
+use Rattle.sp_spec_formula.specs.Instantiate.{if_new}
 
 abbrev pub with_match : Option Slots → List Slots → List Slots
 with_match None later = later

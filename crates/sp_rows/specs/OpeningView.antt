@@ -4,13 +4,13 @@ use Rattle.sp_spec.specs.Term.{Term, var}
 use Rattle.sp_spec.specs.Guarded.{Place, free, bound, free_time, bound_time, Binder, message, time, holds, pushed}
 use Rattle.sp_term.specs.View.{view}
 use Rattle.sp_term.specs.declared.term.Term as memory_term
-use Rattle.sp_system.specs.System.{System}
+use Rattle.sp_spec_system.specs.System.{System}
 use Rattle.sp_formula.specs.Change.{Change, placed, atom_changed, changed, opening}
 use Rattle.sp_formula.specs.FormulaView.{atom_of, binder_of, formula_of}
 use Rattle.sp_formula.specs.declared.formula.Atom as memory_atom
 use Rattle.sp_formula.specs.declared.formula.Binder as memory_binder
 use Rattle.sp_formula.specs.declared.formula.Formula.{Formula}
-use Rattle.sp_step.specs.Rows as rows
+use Rattle.sp_spec_formula.specs.Open as rows
 use Rattle.sp_rows.specs.RowsView.{spending_at}
 use Rattle.sp_rows.specs.declared.opening.Values.{Values}
 

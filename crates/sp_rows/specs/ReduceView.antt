@@ -1,5 +1,5 @@
 -- The written rows that rows in memory stand for.
-use Rattle.sp_step.specs.Rows as spec
+use Rattle.sp_spec_proof.specs.Rows as spec
 use Rattle.sp_rows.specs.declared.reduce.Row.{Row}
 use Rattle.sp_rows.specs.declared.reduce.Row.TheVariants.{Split, OpenExistential, Equate, Unequal, Order, ActionStands, Disjunction, LinearOnce, FreshOnce, FreshFirst, Instantiate}
 

@@ -2,8 +2,8 @@
 use Rattle.std.specs.Prelude.{ℕ, suc, List, [], ◌∷◌, ◌++◌, take, drop, Option, Some, None, option_map}
 use Rattle.sp_spec.specs.Guarded.{Guarded}
 use Rattle.sp_spec.specs.Unifier.{Pair, mgu}
-use Rattle.sp_system.specs.System.{System}
-use Rattle.sp_step.specs.Rows.{kept_unequal}
+use Rattle.sp_spec_system.specs.System.{System}
+use Rattle.sp_spec_formula.specs.Unequal.{kept_unequal}
 
 abbrev pub one_on : {A : Type 0} → ℕ × A → ℕ × A
 one_on p = (suc p.0, p.1)

@@ -1,7 +1,7 @@
 -- One turn of simplification.
 use Rattle.std.specs.Prelude.{Bool, true, false, Option, None}
-use Rattle.sp_system.specs.System.{System}
-use Rattle.sp_step.specs.Rows.{is_contradictory, by_rows, rows}
+use Rattle.sp_spec_system.specs.System.{System}
+use Rattle.sp_spec_proof.specs.Rows.{is_contradictory, by_rows, rows}
 
 abbrev pub unless : Bool → Option System → Option System
 unless true o = None

@@ -2,7 +2,7 @@
 use Rattle.std.specs.Prelude.{ℕ, List, Option, Some, None, map, option_map}
 use Rattle.sp_spec.specs.Term.{Variable, Term}
 use Rattle.sp_term.specs.View.{sort_of, view}
-use Rattle.sp_step.specs.Instances as spec
+use Rattle.sp_spec_formula.specs.Instances as spec
 use Rattle.sp_rows.specs.declared.slots.Slot.{Slot}
 use Rattle.sp_rows.specs.declared.slots.Slots.{Slots}
 

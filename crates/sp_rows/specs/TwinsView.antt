@@ -3,8 +3,9 @@ use Rattle.std.specs.Prelude.{ℕ, suc, Bool, List, [], ◌∷◌, Option, Some,
 use Rattle.sp_spec.specs.Term.{Variable, Term, Terms, none, more}
 use Rattle.sp_spec.specs.Rule.{Fact}
 use Rattle.sp_spec.specs.Log.{is_fr}
-use Rattle.sp_system.specs.System.{Event}
-use Rattle.sp_step.specs.Rows.{Twins, shares_fresh, at_times}
+use Rattle.sp_spec_system.specs.System.{Event}
+use Rattle.sp_spec_system.specs.MakingOne.{Twins, at_times}
+use Rattle.sp_spec_graph.specs.Fresh.{shares_fresh}
 use Rattle.sp_rows.specs.declared.twins.Twinship.{Twinship}
 use Rattle.sp_rows.specs.declared.twins.Twinship.TheVariants.{SharesFresh, AtTimes}
 

@@ -3,7 +3,9 @@
 ghost use Rattle.std.specs.Prelude.{◌≡◌, IfOk, map};
 ghost use Rattle.sp_formula.specs.FormulaView.{formula_of};
 ghost use Rattle.sp_system.specs.SystemView.{pair_of};
-ghost use Rattle.sp_step.specs.Rows as rows;
+ghost use Rattle.sp_spec_formula.specs.Split as rows;
+ghost use Rattle.sp_spec_formula.specs.InOrder as in_order;
+ghost use Rattle.sp_spec_formula.specs.Unequal as unequal_spec;
 
 use sp_formula::formula::{Atom, Formula, Moment};
 use sp_system::order::is_before;
@@ -12,7 +14,7 @@ use std::alloc::{AllocError, Global};
 
 /// Whether some pair that is said to be unequal is twice the same term.
 pub fn has_equal_pair(pairs: &Vec<(Term, Term)>) -> bool
-    ensures { result ≡ rows.has_equal_pair (map pair_of pairs.now.items) }
+    ensures { result ≡ unequal_spec.has_equal_pair (map pair_of pairs.now.items) }
 {
     for pair in pairs {
         if same(&pair.0, &pair.1) {
@@ -54,7 +56,7 @@ pub fn is_refuted(
     order: &Vec<(u128, u128)>,
     formula: &Formula,
 ) -> Result<bool, AllocError>
-    ensures { IfOk result (λ b. b ≡ rows.is_refuted order.now.items (formula_of formula.now)) }
+    ensures { IfOk result (λ b. b ≡ in_order.is_refuted order.now.items (formula_of formula.now)) }
 {
     match formula {
         Formula::Fails(Atom::SameTime(Moment::Free(first), Moment::Free(second))) => {
@@ -77,7 +79,7 @@ pub fn has_refuted(
     order: &Vec<(u128, u128)>,
     formulas: &Vec<Formula>,
 ) -> Result<bool, AllocError>
-    ensures { IfOk result (λ b. b ≡ rows.has_refuted order.now.items (map formula_of formulas.now.items)) }
+    ensures { IfOk result (λ b. b ≡ in_order.has_refuted order.now.items (map formula_of formulas.now.items)) }
 {
     for formula in formulas {
         if is_refuted(alloc, order, formula)? {

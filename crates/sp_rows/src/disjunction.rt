@@ -4,7 +4,7 @@ ghost use Rattle.std.specs.Prelude.{◌≡◌, IfOk, map, option_map};
 ghost use Rattle.sp_spec.specs.Guarded.{one_of};
 ghost use Rattle.sp_formula.specs.FormulaView.{formula_of, guardeds_of};
 ghost use Rattle.sp_system.specs.SystemView.{system_of};
-ghost use Rattle.sp_step.specs.Rows as rows;
+ghost use Rattle.sp_spec_formula.specs.Disjunction as rows;
 ghost use Rattle.sp_rows.specs.PartsView.{false_of};
 ghost use Rattle.sp_rows.specs.RowsView.{position_of};
 

@@ -3,7 +3,8 @@
 ghost use Rattle.std.specs.Prelude.{◌≡◌, IfOk, map, option_map};
 ghost use Rattle.sp_formula.specs.FormulaView.{formula_of};
 ghost use Rattle.sp_system.specs.SystemView.{pair_of, system_of};
-ghost use Rattle.sp_step.specs.Rows as rows;
+ghost use Rattle.sp_spec_formula.specs.Equate as rows;
+ghost use Rattle.sp_spec_system.specs.MakingOne as making_one;
 ghost use Rattle.sp_rows.specs.EquationView as view;
 
 use crate::inequality::freed_pair;
@@ -70,7 +71,7 @@ pub fn times_equated(
     first: u128,
     second: u128,
 ) -> Result<Option<System>, AllocError>
-    ensures { IfOk result (λ o. option_map system_of o ≡ rows.times_equated (system_of system.now) first second (rows.twins_by (rows.at_times first second) (system_of system.now).events)) }
+    ensures { IfOk result (λ o. option_map system_of o ≡ making_one.times_equated (system_of system.now) first second (making_one.twins_by (making_one.at_times first second) (system_of system.now).events)) }
 {
     if let Some(made) = merge_twins(alloc, system, Twinship::AtTimes(first, second))? {
         return Ok(made);

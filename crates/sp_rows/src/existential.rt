@@ -5,7 +5,7 @@ ghost use Rattle.sp_spec.specs.Guarded.{holds};
 ghost use Rattle.sp_formula.specs.Change.{atom_changed, changed};
 ghost use Rattle.sp_formula.specs.FormulaView.{atom_of, formula_of};
 ghost use Rattle.sp_system.specs.SystemView.{system_of};
-ghost use Rattle.sp_step.specs.Rows as rows;
+ghost use Rattle.sp_spec_formula.specs.Open as rows;
 ghost use Rattle.sp_rows.specs.OpeningView.{change_of, opening_at, parts_of};
 
 use crate::opening::{NewVariables, Values};

@@ -4,11 +4,11 @@ ghost use Rattle.std.specs.Prelude.{◌≡◌, IfOk, map, option_map, option_and
 ghost use Rattle.sp_term.specs.View.{view, view_all};
 ghost use Rattle.sp_fact.specs.View.{fact_of};
 ghost use Rattle.sp_system.specs.SystemView.{event_of, system_of};
-ghost use Rattle.sp_step.specs.Rows as rows;
+ghost use Rattle.sp_spec_graph.specs.FreshFirst as rows;
 ghost use Rattle.sp_rows.specs.TwinsView.{fresh_one};
 ghost use Rattle.sp_rows.specs.FreshView.{missing_with};
 
-use crate::order::with_order;
+use crate::order::with_pairs;
 use crate::twins::{fresh_term, is_fresh};
 use sp_fact::fact::Fact;
 use sp_system::order::is_before;
@@ -133,7 +133,7 @@ pub fn fresh_first(alloc: Global, system: &System) -> Result<Option<System>, All
     for event in &system.events {
         if let Some(pairs) = missing_behind(alloc, system, event)? {
             let copied = system.copy(alloc)?;
-            let made = with_order(copied, pairs)?;
+            let made = with_pairs(copied, pairs)?;
             return Ok(Some(made));
         }
     }

@@ -4,7 +4,8 @@ ghost use Rattle.std.specs.Prelude.{◌≡◌, IfOk, map, option_map};
 ghost use Rattle.sp_term.specs.View.{view};
 ghost use Rattle.sp_formula.specs.FormulaView.{placed_term, formula_of};
 ghost use Rattle.sp_system.specs.SystemView.{pair_of, system_of};
-ghost use Rattle.sp_step.specs.Rows as rows;
+ghost use Rattle.sp_spec_system.specs.Formulas as rows;
+ghost use Rattle.sp_spec_formula.specs.Unequal as unequal_spec;
 ghost use Rattle.sp_rows.specs.RowsView.{position_of, keeping};
 
 use crate::spend::spend;
@@ -41,7 +42,7 @@ pub fn freed_pair(
 }
 
 fn inequality_of(formula: &Formula) -> Result<Option<(Term, Term)>, AllocError>
-    ensures { IfOk result (λ o. option_map pair_of o ≡ rows.inequality_of (formula_of formula.now)) }
+    ensures { IfOk result (λ o. option_map pair_of o ≡ unequal_spec.inequality_of (formula_of formula.now)) }
 {
     match formula {
         Formula::Fails(Atom::Same(left, right)) => freed_pair(left, right),
@@ -52,7 +53,7 @@ fn inequality_of(formula: &Formula) -> Result<Option<(Term, Term)>, AllocError>
 fn position_of_inequality(
     formulas: &Vec<Formula>,
 ) -> Result<Option<(usize, (Term, Term))>, AllocError>
-    ensures { IfOk result (λ o. option_map (λ p. (p.0, pair_of p.1)) o ≡ position_of rows.inequality_of (map formula_of formulas.now.items)) }
+    ensures { IfOk result (λ o. option_map (λ p. (p.0, pair_of p.1)) o ≡ position_of unequal_spec.inequality_of (map formula_of formulas.now.items)) }
 {
     for (position, formula) in formulas.iter().enumerate() {
         if let Some(pair) = inequality_of(formula)? {
@@ -80,7 +81,7 @@ fn keep(alloc: Global, mut system: System, pair: (Term, Term)) -> Result<System,
 ///
 /// `AllocError` where memory is wanting.
 pub fn unequal(alloc: Global, system: &System) -> Result<Option<System>, AllocError>
-    ensures { IfOk result (λ o. option_map system_of o ≡ rows.unequal (system_of system.now)) }
+    ensures { IfOk result (λ o. option_map system_of o ≡ unequal_spec.unequal (system_of system.now)) }
 {
     let Some((position, pair)) = position_of_inequality(&system.formulas)? else {
         return Ok(None);

@@ -3,8 +3,9 @@
 ghost use Rattle.std.specs.Prelude.{◌≡◌, IfOk, drop, map, option_map};
 ghost use Rattle.sp_formula.specs.FormulaView.{atom_of, formula_of};
 ghost use Rattle.sp_system.specs.SystemView.{event_of, system_of};
-ghost use Rattle.sp_step.specs.Instances as spec;
-ghost use Rattle.sp_step.specs.Rows as rows;
+ghost use Rattle.sp_spec_formula.specs.Instances as spec;
+ghost use Rattle.sp_spec_formula.specs.Instantiate as rows;
+ghost use Rattle.sp_spec_system.specs.Picked as picked;
 ghost use Rattle.sp_rows.specs.MatchesView.{finished};
 ghost use Rattle.sp_rows.specs.SlotsView.{slot_of, slots_of};
 
@@ -120,7 +121,7 @@ fn new_instance(
 }
 
 fn first_instance(alloc: Global, system: &System) -> Result<Option<Formula>, AllocError>
-    ensures { IfOk result (λ o. option_map formula_of o ≡ rows.first_some (rows.new_instance (system_of system.now)) (map formula_of system.now.formulas.items)) }
+    ensures { IfOk result (λ o. option_map formula_of o ≡ picked.first_some (rows.new_instance (system_of system.now)) (map formula_of system.now.formulas.items)) }
 {
     for formula in &system.formulas {
         if let Some(made) = new_instance(alloc, system, formula)? {

@@ -1,8 +1,8 @@
 // The elementary moves in memory: contradictions, each row, and simplification.
-// Below stand what the rows are (sp_step, specs/Rows.antt), systems in memory (sp_system) and the unifier (sp_unify); above stand the
+// Below stand what the rows are (sp_spec_proof, specs/Rows.antt), systems in memory (sp_system) and the unifier (sp_unify); above stand the
 // moves of a proof (sp_moves). Each call is exact: it gives the system that the written row gives, and none where the row gives none.
 // Carried here: the promise that what is simplified is what the written rows simplify, and that what is called a contradiction is one.
-// That the rows lose no solution is said of the definitions, in sp_step.
+// That the rows lose no solution is said of the definitions, in sp_law_cover.
 #![tactic(auto)]
 
 pub mod conjunction;

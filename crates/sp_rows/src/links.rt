@@ -3,7 +3,10 @@
 ghost use Rattle.std.specs.Prelude.{◌≡◌, ◌≤◌, IfOk, drop, is_none, length, map, option_map};
 ghost use Rattle.sp_fact.specs.View.{fact_of};
 ghost use Rattle.sp_system.specs.SystemView.{event_of, link_of, system_of};
-ghost use Rattle.sp_step.specs.Rows as rows;
+ghost use Rattle.sp_spec_graph.specs.LinearOnce as rows;
+ghost use Rattle.sp_spec_system.specs.MakingOne as making_one;
+ghost use Rattle.sp_spec_system.specs.Picked as picked;
+ghost use Rattle.sp_spec_graph.specs.SourceTwice as source_twice;
 ghost use Rattle.sp_rows.specs.LinksView.{both_of, clash};
 
 use crate::equation::times_equated;
@@ -25,7 +28,7 @@ pub enum Clash {
 
 /// The first event at the time.
 pub fn event_at(time: u128, events: &Vec<Event>) -> Option<&Event>
-    ensures { option_map (λ e. event_of e.now) result ≡ rows.event_at time (map event_of events.now.items) }
+    ensures { option_map (λ e. event_of e.now) result ≡ making_one.event_at time (map event_of events.now.items) }
 {
     for event in events {
         if event.time == time {
@@ -37,7 +40,7 @@ pub fn event_at(time: u128, events: &Vec<Event>) -> Option<&Event>
 
 /// The premise at the place of the first event at the time.
 pub fn premise_at(events: &Vec<Event>, time: u128, place: usize) -> Option<&Fact>
-    ensures { option_map (λ f. fact_of f.now) result ≡ rows.premise_at (map event_of events.now.items) time place }
+    ensures { option_map (λ f. fact_of f.now) result ≡ making_one.premise_at (map event_of events.now.items) time place }
 {
     match event_at(time, events) {
         Some(event) => event.facts.premises.get(place),
@@ -47,7 +50,7 @@ pub fn premise_at(events: &Vec<Event>, time: u128, place: usize) -> Option<&Fact
 
 // Whether the event at the time has a linear premise at the place.
 fn is_linear_premise(events: &Vec<Event>, time: u128, place: usize) -> bool
-    ensures { result ≡ rows.is_linear (rows.premise_at (map event_of events.now.items) time place) }
+    ensures { result ≡ rows.is_linear (making_one.premise_at (map event_of events.now.items) time place) }
 {
     match premise_at(events, time, place) {
         Some(premise) => !premise.persistent,
@@ -78,7 +81,7 @@ fn givers_apart(link: Link, other: Link) -> bool
 
 // Whether one event's two premises have one linear source, or its two conclusions are one premise.
 fn used_twice(events: &Vec<Event>, link: Link, other: Link) -> bool
-    ensures { result ≡ rows.used_twice (map event_of events.now.items) (link_of link) (link_of other) }
+    ensures { result ≡ source_twice.used_twice (map event_of events.now.items) (link_of link) (link_of other) }
 {
     one_taken(events, link, other) && link.to == other.to && link.premise != other.premise
         || link.same_premise(other)
@@ -105,7 +108,7 @@ fn first_with(
     start: usize,
 ) -> Option<(Link, Link)>
     requires { start ≤ length links.now.items }
-    ensures { option_map both_of result ≡ rows.first_with (clash how (map event_of events.now.items)) (link_of link) (map link_of (drop start links.now.items)) }
+    ensures { option_map both_of result ≡ picked.first_with (clash how (map event_of events.now.items)) (link_of link) (map link_of (drop start links.now.items)) }
 {
     for position in start..links.len() {
         let other = links[position];
@@ -118,7 +121,7 @@ fn first_with(
 
 // The first two links that clash.
 fn first_two(how: Clash, events: &Vec<Event>, links: &Vec<Link>) -> Option<(Link, Link)>
-    ensures { option_map both_of result ≡ rows.first_two (clash how (map event_of events.now.items)) (map link_of links.now.items) }
+    ensures { option_map both_of result ≡ picked.first_two (clash how (map event_of events.now.items)) (map link_of links.now.items) }
 {
     for (position, link) in links.iter().enumerate() {
         if let Some(found) = first_with(how, events, *link, links, position + 1) {
@@ -158,7 +161,7 @@ pub fn linear_once(alloc: Global, system: &System) -> Result<Option<System>, All
 
 // Whether the times can't be one.
 fn stay_apart(alloc: Global, system: &System, first: u128, second: u128) -> Result<bool, AllocError>
-    ensures { IfOk result (λ b. b ≡ is_none (rows.made_one (system_of system.now) (first, second))) }
+    ensures { IfOk result (λ b. b ≡ is_none (making_one.made_one (system_of system.now) (first, second))) }
 {
     let made = times_equated(alloc, system, first, second)?;
     Ok(made.is_none())
@@ -180,7 +183,7 @@ fn cannot_link(alloc: Global, system: &System, link: Link, other: Link) -> Resul
 // Whether the link and some other from `start` on make times one that can't be.
 fn fails_with(alloc: Global, system: &System, link: Link, start: usize) -> Result<bool, AllocError>
     requires { start ≤ length system.now.links.items }
-    ensures { IfOk result (λ b. b ≡ rows.some_with (rows.cannot_link (system_of system.now)) (link_of link) (map link_of (drop start system.now.links.items))) }
+    ensures { IfOk result (λ b. b ≡ picked.some_with (rows.cannot_link (system_of system.now)) (link_of link) (map link_of (drop start system.now.links.items))) }
 {
     for position in start..system.links.len() {
         if cannot_link(alloc, system, link, system.links[position])? {
@@ -208,7 +211,7 @@ pub fn fails_to_link(alloc: Global, system: &System) -> Result<bool, AllocError>
 
 /// Whether one event takes a linear source twice, or an Fr, or a premise comes from two conclusions of one event.
 pub fn has_source_twice(system: &System) -> bool
-    ensures { result ≡ rows.has_source_twice (system_of system.now) }
+    ensures { result ≡ source_twice.has_source_twice (system_of system.now) }
 {
     first_two(Clash::UsedTwice, &system.events, &system.links).is_some()
         || takes_fr_twice(&system.events)

@@ -4,7 +4,7 @@ ghost use Rattle.std.specs.Prelude.{◌≡◌, [], ◌∷◌, IfOk, map, option_
 ghost use Rattle.sp_term.specs.View.{view, view_all};
 ghost use Rattle.sp_fact.specs.View.{action_of};
 ghost use Rattle.sp_formula.specs.FormulaView.{placed_term, placed_terms, placed_action, moment_of, atom_of};
-ghost use Rattle.sp_step.specs.Instances as spec;
+ghost use Rattle.sp_spec_formula.specs.Instances as spec;
 ghost use Rattle.sp_system.specs.SystemView.{event_of};
 ghost use Rattle.sp_rows.specs.MatchesView as found_by;
 ghost use Rattle.sp_rows.specs.SlotsView.{slot_of, slots_of, put_at};

@@ -3,8 +3,9 @@
 ghost use Rattle.std.specs.Prelude.{◌≡◌, ◌||◌, ◌==◌, IfOk, option_map};
 ghost use Rattle.sp_formula.specs.FormulaView.{formula_of};
 ghost use Rattle.sp_system.specs.SystemView.{system_of};
-ghost use Rattle.sp_system.specs.Order as spec;
-ghost use Rattle.sp_step.specs.Rows as rows;
+ghost use Rattle.sp_spec_system.specs.Order as spec;
+ghost use Rattle.sp_spec_formula.specs.InOrder as rows;
+ghost use Rattle.sp_spec_system.specs.System.{with_pairs};
 
 use crate::spend::spend;
 use sp_formula::formula::{Atom, Formula, Moment};
@@ -75,8 +76,8 @@ fn order_of(
 }
 
 /// The system with these order pairs too.
-pub fn with_order(mut system: System, mut pairs: Vec<(u128, u128)>) -> Result<System, AllocError>
-    ensures { IfOk result (λ s. system_of s ≡ rows.with_order (system_of system) pairs.items) }
+pub fn with_pairs(mut system: System, mut pairs: Vec<(u128, u128)>) -> Result<System, AllocError>
+    ensures { IfOk result (λ s. system_of s ≡ with_pairs (system_of system) pairs.items) }
 {
     system.order.append(&mut pairs)?;
     Ok(system)
@@ -93,7 +94,7 @@ pub fn in_order(alloc: Global, system: &System) -> Result<Option<System>, AllocE
     for (position, formula) in system.formulas.iter().enumerate() {
         if let Some(pairs) = order_of(alloc, &system.order, formula)? {
             let spent = spend(alloc, system, position)?;
-            let made = with_order(spent, pairs)?;
+            let made = with_pairs(spent, pairs)?;
             return Ok(Some(made));
         }
     }

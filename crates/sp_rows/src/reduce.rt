@@ -2,7 +2,7 @@
 
 ghost use Rattle.std.specs.Prelude.{◌≡◌, IfOk, option_map};
 ghost use Rattle.sp_system.specs.SystemView.{system_of};
-ghost use Rattle.sp_step.specs.Rows as spec;
+ghost use Rattle.sp_spec_proof.specs.Rows as spec;
 ghost use Rattle.sp_rows.specs.ReduceView.{row_of};
 
 use crate::conjunction::split;

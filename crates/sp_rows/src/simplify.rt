@@ -2,7 +2,7 @@
 
 ghost use Rattle.std.specs.Prelude.{◌≡◌, IfOk, option_map};
 ghost use Rattle.sp_system.specs.SystemView.{system_of};
-ghost use Rattle.sp_step.specs.Rows as rows;
+ghost use Rattle.sp_spec_proof.specs.Rows as rows;
 ghost use Rattle.sp_rows.specs.SimplifyView as spec;
 
 use crate::conjunction::split;
@@ -63,6 +63,31 @@ pub fn by_rows(alloc: Global, system: &System) -> Result<Option<System>, AllocEr
     Ok(made)
 }
 
+// Whether a unification or a merge fails that an elementary move is to make.
+fn fails_somewhere(alloc: Global, system: &System) -> Result<bool, AllocError>
+    ensures { IfOk result (λ b. b ≡ rows.fails_somewhere (system_of system.now)) }
+{
+    if fails_to_equate(alloc, system)? || fails_to_link(alloc, system)? {
+        return Ok(true);
+    }
+    fails_to_merge(alloc, &system.events)
+}
+
+/// Whether some elementary move has a place, be it one at which it fails.
+///
+/// # Errors
+///
+/// `AllocError` where memory is wanting, or no number is left for a new variable.
+pub fn has_place(alloc: Global, system: &System) -> Result<bool, AllocError>
+    ensures { IfOk result (λ b. b ≡ rows.has_place (system_of system.now)) }
+{
+    let made = by_rows(alloc, system)?;
+    if made.is_some() {
+        return Ok(true);
+    }
+    fails_somewhere(alloc, system)
+}
+
 /// Whether a contradiction is seen.
 ///
 /// # Errors
@@ -77,13 +102,10 @@ pub fn is_contradictory(alloc: Global, system: &System) -> Result<bool, AllocErr
     if has_refuted(alloc, &system.order, &system.formulas)? || is_cyclic(alloc, &system.order)? {
         return Ok(true);
     }
-    if has_source_twice(system) || fails_to_equate(alloc, system)? {
+    if has_source_twice(system) {
         return Ok(true);
     }
-    if fails_to_link(alloc, system)? {
-        return Ok(true);
-    }
-    fails_to_merge(alloc, &system.events)
+    fails_somewhere(alloc, system)
 }
 
 // The system after one more elementary move, if no contradiction is seen and some move applies.

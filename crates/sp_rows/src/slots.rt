@@ -3,7 +3,7 @@
 ghost use Rattle.std.specs.Prelude.{◌≡◌, [], ◌∷◌, IfOk, map, option_map};
 ghost use Rattle.sp_term.specs.View.{sort_of, view};
 ghost use Rattle.sp_formula.specs.FormulaView.{binder_of};
-ghost use Rattle.sp_step.specs.Instances as spec;
+ghost use Rattle.sp_spec_formula.specs.Instances as spec;
 ghost use Rattle.sp_rows.specs.SlotsView.{slot_of, slots_of};
 
 use sp_formula::formula::Binder;

@@ -5,7 +5,8 @@ ghost use Rattle.sp_term.specs.View.{view_all};
 ghost use Rattle.sp_fact.specs.View.{action_of};
 ghost use Rattle.sp_formula.specs.FormulaView.{placed_terms, placed_action, formula_of};
 ghost use Rattle.sp_system.specs.SystemView.{event_of, system_of};
-ghost use Rattle.sp_step.specs.Rows as rows;
+ghost use Rattle.sp_spec_formula.specs.ActionStands as rows;
+ghost use Rattle.sp_spec_system.specs.Formulas as formulas_spec;
 ghost use Rattle.sp_rows.specs.RowsView.{position_of};
 
 use crate::inequality::freed;
@@ -17,7 +18,7 @@ use sp_term::term::{Term, all_same};
 use std::alloc::{AllocError, Global};
 
 fn freed_all(alloc: Global, terms: &Vec<FormulaTerm>) -> Result<Option<Vec<Term>>, AllocError>
-    ensures { IfOk result (λ o. option_map (λ ts. view_all ts.items) o ≡ rows.freed_all (placed_terms terms.now.items)) }
+    ensures { IfOk result (λ o. option_map (λ ts. view_all ts.items) o ≡ formulas_spec.freed_all (placed_terms terms.now.items)) }
 {
     let mut made = Vec::with_capacity(alloc, terms.len())?;
     for term in terms {
@@ -31,7 +32,7 @@ fn freed_all(alloc: Global, terms: &Vec<FormulaTerm>) -> Result<Option<Vec<Term>
 
 /// The action of the system that a formula's action is, if it binds none of its variables.
 pub fn freed_action(alloc: Global, action: &FormulaAction) -> Result<Option<Action>, AllocError>
-    ensures { IfOk result (λ o. option_map action_of o ≡ rows.freed_action (placed_action action.now)) }
+    ensures { IfOk result (λ o. option_map action_of o ≡ formulas_spec.freed_action (placed_action action.now)) }
 {
     let Some(args) = freed_all(alloc, &action.args)? else {
         return Ok(None);

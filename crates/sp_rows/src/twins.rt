@@ -2,12 +2,15 @@
 
 ghost use Rattle.std.specs.Prelude.{◌≡◌, ◌+◌, ◌<◌, ◌≤◌, IfOk, Some, drop, is_none, length, map, option_map};
 ghost use Rattle.sp_spec.specs.Log.{is_fr};
-ghost use Rattle.sp_system.specs.Equating.{smaller, larger, unifier_of};
-ghost use Rattle.sp_system.specs.Equating as equating;
+ghost use Rattle.sp_spec_system.specs.Equating.{smaller, larger, unifier_of};
+ghost use Rattle.sp_spec_system.specs.Equating as equating;
 ghost use Rattle.sp_term.specs.View.{view};
 ghost use Rattle.sp_fact.specs.View.{fact_of};
 ghost use Rattle.sp_system.specs.SystemView.{event_of, system_of};
-ghost use Rattle.sp_step.specs.Rows as rows;
+ghost use Rattle.sp_spec_graph.specs.FreshOnce as rows;
+ghost use Rattle.sp_spec_graph.specs.Fresh as fresh;
+ghost use Rattle.sp_spec_system.specs.MakingOne as making_one;
+ghost use Rattle.sp_spec_graph.specs.SourceTwice as source_twice;
 ghost use Rattle.sp_rows.specs.TwinsView.{are_one, fresh_one, twin_position, twin_positions, twins, twins_there};
 
 use sp_fact::fact::Fact;
@@ -47,7 +50,7 @@ pub fn fresh_term(fact: &Fact) -> Option<&Term>
 // Whether some of the premises from `start` on use the Fr of the term.
 fn stands_in(term: &Term, premises: &Vec<Fact>, start: usize) -> bool
     requires { start ≤ length premises.now.items }
-    ensures { result ≡ rows.stands_in (view term.now) (rows.fresh_terms (map fact_of (drop start premises.now.items))) }
+    ensures { result ≡ fresh.stands_in (view term.now) (fresh.fresh_terms (map fact_of (drop start premises.now.items))) }
 {
     for position in start..premises.len() {
         if let Some(other) = fresh_term(&premises[position]) {
@@ -61,7 +64,7 @@ fn stands_in(term: &Term, premises: &Vec<Fact>, start: usize) -> bool
 
 // Whether some Fr is used by premises of both lists.
 fn shares(left: &Vec<Fact>, right: &Vec<Fact>) -> bool
-    ensures { result ≡ rows.share_one (rows.fresh_terms (map fact_of left.now.items)) (rows.fresh_terms (map fact_of right.now.items)) }
+    ensures { result ≡ fresh.share_one (fresh.fresh_terms (map fact_of left.now.items)) (fresh.fresh_terms (map fact_of right.now.items)) }
 {
     for premise in left {
         if let Some(term) = fresh_term(premise) {
@@ -126,7 +129,7 @@ fn merged(
     second: usize,
 ) -> Result<Option<System>, AllocError>
     requires { second < length system.now.events.items }
-    ensures { IfOk result (λ o. option_map system_of o ≡ rows.merged_twins (system_of system.now) (twins (event_of left.now) (event_of right.now) (map event_of system.now.events.items) second)) }
+    ensures { IfOk result (λ o. option_map system_of o ≡ making_one.merged_twins (system_of system.now) (twins (event_of left.now) (event_of right.now) (map event_of system.now.events.items) second)) }
 {
     let Some(pairs) = merging_pairs(alloc, left, right)? else {
         return Ok(None);
@@ -149,7 +152,7 @@ fn merge(
 ) -> Result<Option<System>, AllocError>
     requires first { first < length system.now.events.items }
     requires second { second < length system.now.events.items }
-    ensures { IfOk result (λ o. Some (option_map system_of o) ≡ option_map (rows.merged_twins (system_of system.now)) (twins_there (map event_of system.now.events.items) (first, second))) }
+    ensures { IfOk result (λ o. Some (option_map system_of o) ≡ option_map (making_one.merged_twins (system_of system.now)) (twins_there (map event_of system.now.events.items) (first, second))) }
 {
     let left = &system.events[first];
     let right = &system.events[second];
@@ -167,7 +170,7 @@ pub fn merge_twins(
     system: &System,
     why: Twinship,
 ) -> Result<Option<Option<System>>, AllocError>
-    ensures { IfOk result (λ o. option_map (option_map system_of) o ≡ option_map (rows.merged_twins (system_of system.now)) (rows.twins_by (are_one why) (system_of system.now).events)) }
+    ensures { IfOk result (λ o. option_map (option_map system_of) o ≡ option_map (making_one.merged_twins (system_of system.now)) (making_one.twins_by (are_one why) (system_of system.now).events)) }
 {
     let Some((first, second)) = first_twins(why, &system.events) else {
         return Ok(None);
@@ -247,7 +250,7 @@ pub fn fails_to_merge(alloc: Global, events: &Vec<Event>) -> Result<bool, AllocE
 
 // Whether some two of the premises are the same Fr.
 fn repeats(premises: &Vec<Fact>) -> bool
-    ensures { result ≡ rows.repeats (rows.fresh_terms (map fact_of premises.now.items)) }
+    ensures { result ≡ source_twice.repeats (fresh.fresh_terms (map fact_of premises.now.items)) }
 {
     for (position, premise) in premises.iter().enumerate() {
         if let Some(term) = fresh_term(premise) {
@@ -261,7 +264,7 @@ fn repeats(premises: &Vec<Fact>) -> bool
 
 /// Whether two premises of one event are the same Fr.
 pub fn takes_fr_twice(events: &Vec<Event>) -> bool
-    ensures { result ≡ rows.takes_fr_twice (map event_of events.now.items) }
+    ensures { result ≡ source_twice.takes_fr_twice (map event_of events.now.items) }
 {
     for event in events {
         if repeats(&event.facts.premises) {

@@ -8,8 +8,8 @@ use Rattle.std.proofs.lemmas.List.{reverse-append, reverse-reverse, take-append-
 use Rattle.std.proofs.lemmas.Fmt.{decimal_digit, decimal_is_IsNumeral_wide, decimal_by_steps_wide}
 use Rattle.std.proofs.lemmas.Str.Parse.{IsNumeralModel, numerals_by_fold}
 use Rattle.sp_spec_text.specs.Lex.{is_blank, is_digit, before}
-use Rattle.sp_step.specs.Moves.{Move, or, action, premise}
-use Rattle.sp_judge.specs.Skeleton.{known}
+use Rattle.sp_spec_system.specs.Move.{Move, or, action, premise}
+use Rattle.sp_check.specs.Skeleton.{known}
 use Rattle.sp_skel.specs.MoveTexts.{unblanked, trimmed, to_space, are_digits, value, has_leading_zero, is_empty, number_of, only_number, two_numbers}
 use Rattle.sp_skel.specs.Steps.{formula_step, premise_step, trimmed_step, step_of_text}
 use Rattle.sp_skel.specs.Spelling.{premise_goal}

@@ -5,8 +5,8 @@ use Rattle.std.specs.Str.{bytes_eq}
 use Rattle.sp_spec_text.specs.Token.{Lexeme, word, Token}
 use Rattle.sp_spec_text.specs.Lex.{is_end, is_solve, skip, AreTokens, lexemes}
 use Rattle.sp_spec_text.specs.Names.{is_reserved, IsName}
-use Rattle.sp_step.specs.Moves.{Move, simplify, contradiction, unproved, solved, or, action, premise}
-use Rattle.sp_check.specs.Tree.{Tree, node, Branches, no_branch, branch}
+use Rattle.sp_spec_system.specs.Move.{Move, simplify, contradiction, unproved, solved, or, action, premise}
+use Rattle.sp_spec_proof.specs.Tree.{Tree, node, Branches, no_branch, branch}
 use Rattle.sp_text.specs.TreeText.{indent, line, move_text, leading, tree_text, cases_text}
 use Rattle.sp_spec_text.specs.Proofs.{SpellsProof}
 use Rattle.sp_skel.specs.Laws.{ReadsBack}

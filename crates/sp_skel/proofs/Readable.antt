@@ -5,18 +5,26 @@ use Rattle.sp_spec.specs.Term.{Variable}
 use Rattle.sp_spec.specs.Rule.{Fact, Action, Rule}
 use Rattle.sp_spec.specs.Guarded.{Guarded, Guardeds, no_more, and_then}
 use Rattle.sp_spec.specs.Log.{Log}
-use Rattle.sp_system.specs.System.{System, Event}
-use Rattle.sp_step.specs.Rows.{Found, event_at, happening_actions, rows, by_rows, is_contradictory}
-use Rattle.sp_step.specs.Moves.{Move, simplify, contradiction, unproved, solved, or, action, premise, Context, Case, where_same, case_if, at_event, renamed, with_step, by_actions, numbered, named, by_each, by_part, disjunction_at, or_cases, by_conclusions, by_each_giver, open_premise, premise_cases, action_cases, solving_action, raw_cases, simple_case, cases}
-use Rattle.sp_check.specs.Tree.{Tree, node, Branches, no_branch, branch, IsAccepted, AreAccepted}
-use Rattle.sp_check.specs.Growth.{grown_tree}
-use Rattle.sp_check.proofs.Growing.{grown_tree_accepted}
+use Rattle.sp_spec_system.specs.System.{System, Event, happening_actions}
+use Rattle.sp_spec_system.specs.Formulas.{Found}
+use Rattle.sp_spec_system.specs.MakingOne.{event_at}
+use Rattle.sp_spec_proof.specs.Rows.{has_place, is_contradictory}
+use Rattle.sp_spec_system.specs.Move.{Move, simplify, contradiction, unproved, solved, or, action, premise, Context, Case}
+use Rattle.sp_spec_system.specs.Cases.{where_same, case_if, numbered, named}
+use Rattle.sp_spec_formula.specs.Action.{at_event, by_forms, by_each, action_cases, solving_action}
+use Rattle.sp_spec_formula.specs.Or.{by_part, disjunction_at, or_cases}
+use Rattle.sp_spec_graph.specs.Premise.{giver_forms, by_each_giver, open_premise, premise_cases}
+use Rattle.sp_spec_proof.specs.Cases.{raw_cases, simple_case, cases}
+use Rattle.sp_spec_proof.specs.Tree.{Tree, node, Branches, no_branch, branch, IsAccepted, AreAccepted}
+use Rattle.sp_spec_proof.specs.Growth.{grown_tree}
+use Rattle.sp_law_tree.proofs.Growing.{grown_tree_accepted}
 use Rattle.sp_moves_formula.specs.Sought.{sought}
 use Rattle.sp_moves_formula.proofs.ByAction.{sought_cases, solves}
 use Rattle.sp_spec_text.specs.Names.{IsName}
 use Rattle.sp_text.specs.Places.{HasPlace, HavePlaces, AllHavePlaces}
 use Rattle.sp_skel.specs.Spelling.{IsWord, IsReadable, AreReadable, MayHaveCases, AreNamed}
 use Rattle.sp_skel.proofs.CaseNames.{at_named, part_named, case_named}
+use Rattle.sp_spec_system.specs.Rules.{RuleForms}
 
 -- ---- cases with names
 
@@ -46,23 +54,23 @@ rule_named name [] h w = tt
 rule_named name (s ∷ []) h w = (h, w, tt)
 rule_named name (s ∷ t ∷ systems) h w = numbered_named name 1 (s ∷ t ∷ systems) w
 
-each_named : (rules : List Rule) (s : System) (i : ℕ) (a : Action Variable) → AreNamed rules → CasesNamed (by_each rules s i a)
+each_named : (rules : List RuleForms) (s : System) (i : ℕ) (a : Action Variable) → AreNamed rules → CasesNamed (by_each rules s i a)
 each_named [] s i a h = tt
 each_named (r ∷ rules) s i a h =
-    let made = by_actions (with_step s i r) a (renamed s.next r.facts).actions in
+    let made = by_forms r.forms s i a in
     named_append (named r.name made) (by_each rules s i a) (rule_named r.name made h.0 h.1) (each_named rules s i a h.2)
 
 part_cases_named : (s : System) (r : Found Guardeds) (k : ℕ) (fs : Guardeds) → CasesNamed (by_part s r k fs)
 part_cases_named s r k no_more = tt
 part_cases_named s r k (and_then f fs) = let n = part_named k in (n.0, n.1, part_cases_named s r (suc k) fs)
 
-givers_named : (rules : List Rule) (s : System) (i p : ℕ) (f : Fact Variable) → AreNamed rules → CasesNamed (by_each_giver rules s i p f)
+givers_named : (rules : List RuleForms) (s : System) (i p : ℕ) (f : Fact Variable) → AreNamed rules → CasesNamed (by_each_giver rules s i p f)
 givers_named [] s i p f h = tt
 givers_named (r ∷ rules) s i p f h =
-    let made = by_conclusions s i p f r 0 (renamed (suc s.next) r.facts).conclusions in
+    let made = giver_forms r.forms s i p f in
     named_append (named r.name made) (by_each_giver rules s i p f) (rule_named r.name made h.0 h.1) (givers_named rules s i p f h.2)
 
-action_named : (rules : List Rule) (s : System) (i : ℕ) (a : Action Variable) (o : Option Event) → AreNamed rules → CasesNamed (action_cases rules s i a o)
+action_named : (rules : List RuleForms) (s : System) (i : ℕ) (a : Action Variable) (o : Option Event) → AreNamed rules → CasesNamed (action_cases rules s i a o)
 action_named rules s i a (Some e) h = event_named s a 0 (happening_actions e.happening)
 action_named rules s i a None h = each_named rules s i a h
 
@@ -79,13 +87,13 @@ Fine cs = CasesNamed cs ⊎ OnlyUnnamed cs
 fine_nothing : (cs : List Case) → [] ≡ cs → Fine cs
 fine_nothing cs e = inl (subst CasesNamed e tt)
 
-sought_fine : (rules : List Rule) (s : System) (o : Option (ℕ × Action Variable)) (cs : List Case) → AreNamed rules → option_map (sought_cases rules s) o ≡ Some cs → Fine cs
+sought_fine : (rules : List RuleForms) (s : System) (o : Option (ℕ × Action Variable)) (cs : List Case) → AreNamed rules → option_map (sought_cases rules s) o ≡ Some cs → Fine cs
 sought_fine rules s None cs h e = absurd (let none : ⊥ = cc in none)
 sought_fine rules s (Some p) cs h e =
     let f : sought_cases rules s p ≡ cs = cc in
     inl (subst CasesNamed f (action_named rules s p.0 p.1 (event_at p.0 s.events) h))
 
-solving_fine : (rules : List Rule) (s : System) (o : Option Guarded) (cs : List Case) → AreNamed rules → solving_action rules s o ≡ Some cs → Fine cs
+solving_fine : (rules : List RuleForms) (s : System) (o : Option Guarded) (cs : List Case) → AreNamed rules → solving_action rules s o ≡ Some cs → Fine cs
 solving_fine rules s None cs h e = absurd (let none : ⊥ = cc in none)
 solving_fine rules s (Some f) cs h e = sought_fine rules s (sought f) cs h (rw (solves rules s f) at e)
 
@@ -93,12 +101,12 @@ or_fine : (s : System) (o : Option (Found Guardeds)) (cs : List Case) → or_cas
 or_fine s None cs e = absurd (let none : ⊥ = cc in none)
 or_fine s (Some r) cs e = let f : by_part s r 1 r.picked ≡ cs = cc in inl (subst CasesNamed f (part_cases_named s r 1 r.picked))
 
-premise_fine : (rules : List Rule) (s : System) (i p : ℕ) (o : Option (Fact Variable)) (cs : List Case) → AreNamed rules → premise_cases rules s i p o ≡ Some cs → Fine cs
+premise_fine : (rules : List RuleForms) (s : System) (i p : ℕ) (o : Option (Fact Variable)) (cs : List Case) → AreNamed rules → premise_cases rules s i p o ≡ Some cs → Fine cs
 premise_fine rules s i p None cs h e = absurd (let none : ⊥ = cc in none)
 premise_fine rules s i p (Some f) cs h e = let g : by_each_giver rules s i p f ≡ cs = cc in inl (subst CasesNamed g (givers_named rules s i p f h))
 
-raw_fine : (context : Context) (s : System) (move : Move) (cs : List Case) → AreNamed context.rules → raw_cases context s move ≡ Some cs → Fine cs
-raw_fine context s simplify cs h e = at (is_some (by_rows rows s)) e
+raw_fine : (context : Context) (s : System) (move : Move) (cs : List Case) → AreNamed context.rules.forms → raw_cases context s move ≡ Some cs → Fine cs
+raw_fine context s simplify cs h e = at (has_place s) e
   where
     at : (b : Bool) → (if b then Some (record { name = []; system = s } ∷ []) else None) ≡ Some cs → Fine cs
     at true e = inr (record { system = s; is = let f : cs ≡ record { name = []; system = s } ∷ [] = cc in f })
@@ -115,8 +123,8 @@ raw_fine context s solved cs h e = at (is_some (context.found s)) e
     at true e = fine_nothing cs (let f : [] ≡ cs = cc in f)
     at false e = absurd (let none : ⊥ = cc in none)
 raw_fine context s (or k) cs h e = or_fine s (disjunction_at k s.formulas) cs e
-raw_fine context s (premise i p) cs h e = premise_fine context.rules s i p (open_premise s i p) cs h e
-raw_fine context s (action k) cs h e = solving_fine context.rules s (slice_get s.formulas k) cs h e
+raw_fine context s (premise i p) cs h e = premise_fine context.rules.forms s i p (open_premise s i p) cs h e
+raw_fine context s (action k) cs h e = solving_fine context.rules.forms s (slice_get s.formulas k) cs h e
 
 simple_named : (cs : List Case) → CasesNamed cs → CasesNamed (map simple_case cs)
 simple_named [] h = tt
@@ -126,7 +134,7 @@ simple_fine : (raw cs : List Case) → Fine raw → map simple_case raw ≡ cs �
 simple_fine raw cs (inl h) e = inl (subst CasesNamed e (simple_named raw h))
 simple_fine raw cs (inr h) e = inr (record { system = (simple_case (record { name = []; system = h.system })).system; is = sym e ∙ ap (map simple_case) h.is })
 
-move_fine : (context : Context) (s : System) (move : Move) (cs : List Case) → AreNamed context.rules → cases context s move ≡ Some cs → Fine cs
+move_fine : (context : Context) (s : System) (move : Move) (cs : List Case) → AreNamed context.rules.forms → cases context s move ≡ Some cs → Fine cs
 move_fine context s move cs h e = at (raw_cases context s move) refl e
   where
     at : (o : Option (List Case)) → raw_cases context s move ≡ o → option_map (map simple_case) o ≡ Some cs → Fine cs
@@ -171,7 +179,7 @@ end_fine context (Some log) no_branch h = tt
 end_fine context (Some log) (branch name t bs) h = absurd h
 
 mutual
-  pub tree_readable : (context : Context) (s : System) (t : Tree) → AreNamed context.rules → HavePlaces t → IsAccepted context s t → IsReadable t
+  pub tree_readable : (context : Context) (s : System) (t : Tree) → AreNamed context.rules.forms → HavePlaces t → IsAccepted context s t → IsReadable t
   tree_readable context s (node solved bs) n p h = end_fine context (context.found s) bs h
   tree_readable context s (node simplify bs) n p h = node_fine context simplify bs (cases context s simplify) (λ cs e. move_fine context s simplify cs n e) p.0 tt h (trees_readable context (cases context s simplify) bs n p.1 h)
   tree_readable context s (node contradiction bs) n p h = node_fine context contradiction bs (cases context s contradiction) (λ cs e. move_fine context s contradiction cs n e) p.0 tt h (trees_readable context (cases context s contradiction) bs n p.1 h)
@@ -180,12 +188,12 @@ mutual
   tree_readable context s (node (action k) bs) n p h = node_fine context (action k) bs (cases context s (action k)) (λ cs e. move_fine context s (action k) cs n e) p.0 tt h (trees_readable context (cases context s (action k)) bs n p.1 h)
   tree_readable context s (node (premise i k) bs) n p h = node_fine context (premise i k) bs (cases context s (premise i k)) (λ cs e. move_fine context s (premise i k) cs n e) p.0 tt h (trees_readable context (cases context s (premise i k)) bs n p.1 h)
 
-  trees_readable : (context : Context) (o : Option (List Case)) (bs : Branches) → AreNamed context.rules → AllHavePlaces bs → AreAccepted context o bs → TreesReadable bs
+  trees_readable : (context : Context) (o : Option (List Case)) (bs : Branches) → AreNamed context.rules.forms → AllHavePlaces bs → AreAccepted context o bs → TreesReadable bs
   trees_readable context None bs n p h = absurd h
   trees_readable context (Some []) no_branch n p h = tt
   trees_readable context (Some []) (branch name t bs) n p h = absurd h
   trees_readable context (Some (c ∷ cs)) no_branch n p h = absurd h
   trees_readable context (Some (c ∷ cs)) (branch name t bs) n p h = (tree_readable context c.system t n p.0 h.1, trees_readable context (Some cs) bs n p.1 h.2)
 
-pub grown_readable : (context : Context) (s : System) (budget : ℕ) → AreNamed context.rules → HavePlaces (grown_tree context s budget) → IsReadable (grown_tree context s budget)
+pub grown_readable : (context : Context) (s : System) (budget : ℕ) → AreNamed context.rules.forms → HavePlaces (grown_tree context s budget) → IsReadable (grown_tree context s budget)
 grown_readable context s budget n p = tree_readable context s (grown_tree context s budget) n p (grown_tree_accepted context s budget)

@@ -2,8 +2,8 @@
 use Rattle.std.proofs.Common.{◌≡◌, ℕ, List, [], ◌∷◌, refl, ap, map}
 use Rattle.sp_spec_text.specs.Written.{WrittenProof}
 use Rattle.sp_written.specs.Views.{all_cases}
-use Rattle.sp_judge.specs.Skeleton.{Skeleton, BranchesRead, branch_read}
-use Rattle.sp_judge.specs.View.{all_branches}
+use Rattle.sp_check.specs.Skeleton.{Skeleton, BranchesRead, branch_read}
+use Rattle.sp_check.specs.View.{all_branches}
 use Rattle.sp_skel.specs.Steps.{skeleton, branches}
 
 abbrev pub branch_said : List ℕ × WrittenProof → List ℕ × Skeleton

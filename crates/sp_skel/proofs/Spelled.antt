@@ -1,9 +1,9 @@
 -- The lexemes of a tree's text spell a proof, and the proof says the tree.
 use Rattle.std.proofs.Common.{◌≡◌, true, List, [], ◌∷◌, Some, codes, refl}
 use Rattle.sp_spec_text.specs.Token.{Lexeme, word}
-use Rattle.sp_step.specs.Moves.{Move, simplify, contradiction, unproved, solved, or, action, premise}
-use Rattle.sp_check.specs.Tree.{Tree, node, Branches, no_branch, branch}
-use Rattle.sp_judge.specs.Skeleton.{known, tree_of, branches_of}
+use Rattle.sp_spec_system.specs.Move.{Move, simplify, contradiction, unproved, solved, or, action, premise}
+use Rattle.sp_spec_proof.specs.Tree.{Tree, node, Branches, no_branch, branch}
+use Rattle.sp_check.specs.Skeleton.{known, tree_of, branches_of}
 use Rattle.sp_spec_text.specs.Proofs as grammar
 use Rattle.sp_spec_text.specs.Proofs.{is_method, SpellsMethod, by_word, by_goal, SpellsProof, by_method, method_proof, method_cases, SpellsCases, case, qed, next}
 use Rattle.sp_skel.specs.Steps.{step_of_word, step_said, skeleton, branches}

@@ -2,12 +2,12 @@
 use Rattle.std.specs.Prelude.{◌≡◌, ℕ, ◌≤◌, List, ◌++◌, length, Some}
 use Rattle.sp_spec_text.specs.Token.{Lexeme, Token}
 use Rattle.sp_spec_text.specs.Lex.{AreTokens, lexemes}
-use Rattle.sp_system.specs.System.{System}
-use Rattle.sp_step.specs.Moves.{Context}
-use Rattle.sp_check.specs.Tree.{Tree, IsAccepted}
-use Rattle.sp_check.specs.Growth.{grown_tree}
+use Rattle.sp_spec_system.specs.System.{System}
+use Rattle.sp_spec_system.specs.Move.{Context}
+use Rattle.sp_spec_proof.specs.Tree.{Tree, IsAccepted}
+use Rattle.sp_spec_proof.specs.Growth.{grown_tree}
 use Rattle.sp_text.specs.TreeText.{tree_text}
-use Rattle.sp_judge.specs.Skeleton.{tree_of}
+use Rattle.sp_check.specs.Skeleton.{tree_of}
 use Rattle.sp_spec_text.specs.Written.{WrittenProof}
 use Rattle.sp_spec_text.specs.Proofs.{SpellsProof}
 use Rattle.sp_skel.specs.Steps.{skeleton}
@@ -30,5 +30,5 @@ pub record TreesAreReadBack : Type 0 where
 
 -- Where the rules have names and each action has a place, the cases of accepted trees have names, or are alone, and so with grown trees.
 pub record AcceptedTreesAreReadable : Type 0 where
-  pub accepted : (context : Context) (s : System) (t : Tree) → AreNamed context.rules → HavePlaces t → IsAccepted context s t → IsReadable t
-  pub grown : (context : Context) (s : System) (budget : ℕ) → AreNamed context.rules → HavePlaces (grown_tree context s budget) → IsReadable (grown_tree context s budget)
+  pub accepted : (context : Context) (s : System) (t : Tree) → AreNamed context.rules.forms → HavePlaces t → IsAccepted context s t → IsReadable t
+  pub grown : (context : Context) (s : System) (budget : ℕ) → AreNamed context.rules.forms → HavePlaces (grown_tree context s budget) → IsReadable (grown_tree context s budget)

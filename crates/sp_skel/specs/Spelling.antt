@@ -5,11 +5,12 @@ use Rattle.std.specs.Char.{is_ascii_alphanumeric}
 use Rattle.sp_spec_text.specs.Lex.{skip}
 use Rattle.sp_spec_text.specs.Token.{Lexeme, word, solve}
 use Rattle.sp_spec_text.specs.Names.{IsName}
-use Rattle.sp_step.specs.Moves.{Move, simplify, contradiction, unproved, solved, or, action, premise}
+use Rattle.sp_spec_system.specs.Move.{Move, simplify, contradiction, unproved, solved, or, action, premise}
 use Rattle.sp_spec.specs.Rule.{Rule}
-use Rattle.sp_check.specs.Tree.{Tree, node, Branches, no_branch, branch}
+use Rattle.sp_spec_proof.specs.Tree.{Tree, node, Branches, no_branch, branch}
 use Rattle.sp_text.specs.Places.{HasPlace}
 use Rattle.sp_spec_text.specs.Written.{Method, said, goal, WrittenProof, step, WrittenCases, no_case, then_case}
+use Rattle.sp_spec_system.specs.Rules.{RuleForms}
 
 -- what stands between the brackets for a premise
 abbrev pub premise_goal : ℕ → ℕ → List ℕ
@@ -81,6 +82,6 @@ abbrev mutual
   AreReadable (branch name tree branches) = IsName name × IsWord name × IsReadable tree × AreReadable branches
 
 -- the rules have names as they stand in a text
-abbrev pub AreNamed : List Rule → Type 0
+abbrev pub AreNamed : List RuleForms → Type 0
 AreNamed [] = Unit {0}
 AreNamed (r ∷ rules) = IsName r.name × IsWord r.name × AreNamed rules

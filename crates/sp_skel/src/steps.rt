@@ -1,13 +1,13 @@
 // What the methods of a proof say.
 
 ghost use Rattle.std.specs.Prelude.{◌≡◌, ◌^◌, IfOk, MatchOption, Some, None, if◌then◌else◌, nat_lt};
-ghost use Rattle.sp_step.specs.Moves as moves;
+ghost use Rattle.sp_spec_system.specs.Move as moves;
 ghost use Rattle.sp_written.specs.Views as view;
-ghost use Rattle.sp_judge.specs.View.{step_of};
+ghost use Rattle.sp_check.specs.View.{step_of};
 ghost use Rattle.sp_skel.specs.Steps as spec;
 
 use crate::texts::{first_word, is, is_unbuilt, only_number, other_words, trimmed, two_numbers};
-use sp_judge::Step;
+use sp_check::Step;
 use sp_moves::giver::Premise;
 use sp_moves::moves::Move;
 use sp_written::Method;

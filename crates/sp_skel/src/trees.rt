@@ -2,12 +2,12 @@
 
 ghost use Rattle.std.specs.Prelude.{◌≡◌, ◌∷◌, ◌++◌, [], IfOk, OnOk, map, string_bytes};
 ghost use Rattle.sp_written.specs.Views as view;
-ghost use Rattle.sp_judge.specs.Skeleton.{node_read};
-ghost use Rattle.sp_judge.specs.View.{step_of, skeleton_of, branch_of, branches_of};
+ghost use Rattle.sp_check.specs.Skeleton.{node_read};
+ghost use Rattle.sp_check.specs.View.{step_of, skeleton_of, branch_of, branches_of};
 ghost use Rattle.sp_skel.specs.Steps as spec;
 
 use crate::steps::step_said;
-use sp_judge::{Branch, Skeleton, Step};
+use sp_check::{Branch, Skeleton, Step};
 use sp_written::{WrittenCase, WrittenProof};
 use std::alloc::{AllocError, Global};
 

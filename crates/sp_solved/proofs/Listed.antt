@@ -4,8 +4,8 @@ use Rattle.std.specs.List.Sorted.{IsPermutation}
 use Rattle.std.proofs.lemmas.List.Sorted.{IsPermutation-refl, IsPermutation-trans, IsPermutation-cons, IsPermutation-middle}
 use Rattle.sp_spec.specs.Lists.{Every}
 use Rattle.sp_spec.proofs.Lists.{every_parts, every_append}
-use Rattle.sp_system.specs.System.{Event}
-use Rattle.sp_system.specs.Order.{is_before}
+use Rattle.sp_spec_system.specs.System.{Event}
+use Rattle.sp_spec_system.specs.Order.{is_before}
 use Rattle.sp_solved.specs.Listing.{some_before, passed, first_free, one_by_one}
 use Rattle.sp_solved.specs.Laws.{StandBehind}
 

@@ -2,7 +2,7 @@
 use Rattle.std.proofs.Common.{◌≡◌, ◌<◌, ◌+◌, ◌-◌, ℕ, suc, List, [], ◌∷◌, ◌++◌, Option, Some, None, option_map, option_and_then, sym, ap, ◌∙◌, arith}
 use Rattle.std.proofs.lemmas.List.{map-append}
 use denote.Ref.{Bor}
-use Rattle.sp_system.specs.System as spec
+use Rattle.sp_spec_system.specs.System as spec
 use Rattle.sp_system.specs.SystemView.{event_of}
 use Rattle.sp_system.specs.declared.system.Event.{Event}
 use Rattle.sp_solved.specs.Listing.{first_free, one_by_one}

@@ -5,8 +5,8 @@ use Rattle.sp_spec.specs.Term.{Variable, Values}
 use Rattle.sp_spec.specs.Rule.{Fact, facts_at}
 use Rattle.sp_spec.specs.Guarded.{Guarded, holds, acts, free_time}
 use Rattle.sp_spec.specs.Log.{Entry, step, Source, fresh_rule, conclusion, is_fr}
-use Rattle.sp_system.specs.System.{Happening, rule_step, Event, Link, System, happening_premises}
-use Rattle.sp_system.specs.Order.{is_cyclic}
+use Rattle.sp_spec_system.specs.System.{Happening, rule_step, Event, Link, System, happening_premises}
+use Rattle.sp_spec_system.specs.Order.{is_cyclic}
 use Rattle.sp_solved.specs.Listing.{in_order}
 use Rattle.sp_solved.specs.Naming.{values_of}
 
@@ -25,8 +25,32 @@ abbrev pub have_places : List Event → List Guarded → Bool
 have_places events [] = true
 have_places events (f ∷ fs) = has_place events f && have_places events fs
 
+-- the first link to a premise
+abbrev pub first_link : List Link → ℕ → ℕ → Option Link
+first_link [] i p = None
+first_link (l ∷ ls) i p = if (l.to == i) && (l.premise == p) then Some l else first_link ls i p
+
+abbrev pub is_from_event : List Event → Option Link → Bool
+is_from_event events None = false
+is_from_event events (Some l) = has_event events l.from
+
+-- the premise is an Fr, or the first link to it is from the time of an event
+abbrev pub is_sourced : List Event → List Link → ℕ → ℕ → Fact Variable → Bool
+is_sourced events links i p f = is_fr f || is_from_event events (first_link links i p)
+
+-- so it is with those of the premises from a place on
+abbrev pub are_sourced : List Event → List Link → ℕ → ℕ → List (Fact Variable) → Bool
+are_sourced events links i p [] = true
+are_sourced events links i p (f ∷ fs) = is_sourced events links i p f && are_sourced events links i (suc p) fs
+
+-- and with all premises of these events
+abbrev pub all_sourced : List Event → List Link → List Event → Bool
+all_sourced events links [] = true
+all_sourced events links (e ∷ es) = are_sourced events links e.time 0 (happening_premises e.happening) && all_sourced events links es
+
+-- each action has an event, each premise a source, and the order no cycle
 abbrev pub is_ready : System → Bool
-is_ready s = have_places s.events s.formulas && not (is_cyclic s.order)
+is_ready s = have_places s.events s.formulas && (all_sourced s.events s.links s.events && not (is_cyclic s.order))
 
 -- ---- the log
 
@@ -34,11 +58,6 @@ is_ready s = have_places s.events s.formulas && not (is_cyclic s.order)
 abbrev pub place_of : ℕ → List Event → Option ℕ
 place_of i [] = None
 place_of i (e ∷ es) = if e.time == i then Some 0 else option_map suc (place_of i es)
-
--- the first link to a premise
-abbrev pub first_link : List Link → ℕ → ℕ → Option Link
-first_link [] i p = None
-first_link (l ∷ ls) i p = if (l.to == i) && (l.premise == p) then Some l else first_link ls i p
 
 -- the source that a link says: a conclusion of an event of the list
 abbrev pub given_by : List Event → Link → Option Source

@@ -4,8 +4,8 @@ use Rattle.std.specs.List.Sorted.{IsPermutation}
 use Rattle.sp_spec.specs.Lists.{Member, Every}
 use Rattle.sp_spec.specs.Term.{Variable, constant}
 use Rattle.sp_spec.specs.Signature.{RespectsSorts}
-use Rattle.sp_system.specs.System.{Event}
-use Rattle.sp_system.specs.Order.{is_before}
+use Rattle.sp_spec_system.specs.System.{Event}
+use Rattle.sp_spec_system.specs.Order.{is_before}
 use Rattle.sp_solved.specs.Listing.{in_order}
 use Rattle.sp_solved.specs.Naming.{in_events, variables_of, values_of}
 

@@ -1,8 +1,8 @@
 -- Events one after the other, each behind those that the order of times puts before it. Source: CSF 2012, "Constraint solving" (the order of
 -- timepoints); a topological order of the events.
 use Rattle.std.specs.Prelude.{ℕ, zero, suc, ◌||◌, Bool, false, if◌then◌else◌, List, [], ◌∷◌, length, Option, Some, None, option_map, option_and_then}
-use Rattle.sp_system.specs.System.{Event}
-use Rattle.sp_system.specs.Order.{is_before}
+use Rattle.sp_spec_system.specs.System.{Event}
+use Rattle.sp_spec_system.specs.Order.{is_before}
 
 -- whether one of these is before the time, by any path of order pairs
 abbrev pub some_before : List (ℕ × ℕ) → List Event → ℕ → Bool

@@ -1,7 +1,7 @@
 -- How the events that are listed are kept in memory.
 use Rattle.std.specs.Prelude.{ℕ, zero, suc, if◌then◌else◌, List, [], ◌∷◌, map, Option, Some, None, option_map}
 use denote.Ref.{Bor}
-use Rattle.sp_system.specs.System as spec
+use Rattle.sp_spec_system.specs.System as spec
 use Rattle.sp_system.specs.SystemView.{event_of}
 use Rattle.sp_system.specs.declared.system.Event.{Event}
 use Rattle.sp_solved.specs.Listing.{some_before}

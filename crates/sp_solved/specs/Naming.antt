@@ -1,13 +1,13 @@
 -- Values for the variables that are left in a list of events: fresh names ~n1, ~n2, .. for the fresh ones, and public names 'a1', 'a2', .. for
 -- the others, but those that the theory has. Source: CSF 2012, "Constraint solving" (extracting an attack from a solved system).
 use Rattle.std.specs.Prelude.{ℕ, zero, suc, ◌+◌, Bool, false, ◌||◌, if◌then◌else◌, List, [], ◌∷◌, ◌++◌, length, codes, decimal}
-use Rattle.sp_spec.specs.Term.{Sort, Msg, Fresh, Pub, Variable, var, constant, name, app, Values}
+use Rattle.sp_spec.specs.Term.{Sort, Msg, Fresh, Pub, Variable, constant, name, Values}
 use Rattle.sp_spec.specs.Same.{same_variable}
 pub use Rattle.sp_spec.specs.Term.{in_term, in_terms}
 pub use Rattle.sp_spec.specs.Rule.{in_facts, in_actions, occurrences}
 use Rattle.sp_spec.specs.Written.{is_listed}
 use Rattle.sp_law_equal.specs.Matching.{Bound, value_in}
-use Rattle.sp_system.specs.System.{Happening, rule_step, Event}
+use Rattle.sp_spec_system.specs.System.{Happening, rule_step, Event}
 
 -- ---- the variables, in the order in which they first stand
 

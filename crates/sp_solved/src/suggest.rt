@@ -6,6 +6,7 @@ ghost use Rattle.sp_fact.specs.View.{fact_of};
 ghost use Rattle.sp_formula.specs.FormulaView.{formula_of};
 ghost use Rattle.sp_law_equal.specs.Matching.{value_in};
 ghost use Rattle.sp_norm.specs.Bounds.{bounds};
+ghost use Rattle.sp_spec_system.specs.System.{happening_premises};
 ghost use Rattle.sp_system.specs.SystemView.{event_of, link_of, system_of};
 ghost use Rattle.sp_log.specs.View.{entries_of, entry_of, source_of};
 ghost use Rattle.sp_solved.specs.ListingView.{events_of};
@@ -57,11 +58,56 @@ fn have_places(events: &Vec<Event>, formulas: &Vec<Formula>) -> bool
     true
 }
 
-/// Whether the system suggests a log.
+/// Whether the premise is an Fr, or the first link to it is from the time of an event.
+fn is_sourced(
+    events: &Vec<Event>,
+    links: &Vec<Link>,
+    time: u128,
+    premise: usize,
+    fact: &Fact,
+) -> bool
+    ensures { result ≡ spec.is_sourced (map event_of events.now.items) (map link_of links.now.items) time premise (fact_of fact.now) }
+{
+    if fact.symbol.text.as_str() == "Fr" && !fact.persistent {
+        return true;
+    }
+    match first_link(links, time, premise) {
+        Some(link) => has_event(events, link.from),
+        None => false,
+    }
+}
+
+/// Whether it is so with each premise of the event.
+fn are_sourced(events: &Vec<Event>, links: &Vec<Link>, event: &Event) -> bool
+    ensures { result ≡ spec.are_sourced (map event_of events.now.items) (map link_of links.now.items) event.now.time 0 (happening_premises (event_of event.now).happening) }
+{
+    for (premise, fact) in event.facts.premises.iter().enumerate() {
+        if !is_sourced(events, links, event.time, premise, fact) {
+            return false;
+        }
+    }
+    true
+}
+
+/// Whether it is so with each premise of each event.
+fn all_sourced(events: &Vec<Event>, links: &Vec<Link>) -> bool
+    ensures { result ≡ spec.all_sourced (map event_of events.now.items) (map link_of links.now.items) (map event_of events.now.items) }
+{
+    for event in events {
+        if !are_sourced(events, links, event) {
+            return false;
+        }
+    }
+    true
+}
+
+/// Whether the system suggests a log. That premises have sources is asked first: most systems that are asked have an open one.
 fn is_ready(alloc: Global, system: &System) -> Result<bool, AllocError>
     ensures { IfOk result (λ b. b ≡ spec.is_ready (system_of system.now)) }
 {
-    if !have_places(&system.events, &system.formulas) {
+    if !have_places(&system.events, &system.formulas)
+        || !all_sourced(&system.events, &system.links)
+    {
         return Ok(false);
     }
     let cyclic = is_cyclic(alloc, &system.order)?;

@@ -1,15 +1,4 @@
-pub mod Changing
-pub mod Numbers
-pub mod Facts
-pub mod Unchanged
-pub mod Solutions
-pub mod Merging
-pub mod TermValues
-pub mod Bindings
-pub mod Unifying
-pub mod Unifier
 pub mod Pairs
-pub mod ShortPaths
 pub mod Paths
 pub mod Peeled
 pub mod Noted

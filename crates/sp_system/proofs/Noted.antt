@@ -1,7 +1,7 @@
 -- Once all ends of pairs are noted, what stands under a time are those that are before it.
 use Rattle.std.proofs.Common.{◌≡◌, ℕ, List, [], ◌∷◌, ◌++◌, ◌==◌, ◌&&◌, ◌||◌, not, Bool, true, false, Option, Some, None, length, if◌then◌else◌, Vec, refl, sym, ap, ◌∙◌}
 use Rattle.std.specs.Option.{option_map_or}
-use Rattle.sp_system.specs.Order.{is_before}
+use Rattle.sp_spec_system.specs.Order.{is_before}
 use Rattle.std.proofs.lemmas.Bool.{eqb-true}
 use Rattle.sp_system.specs.OrderView.{among, next_round, rounds}
 use Rattle.std.specs.BTreeMap.{BTreeMap}

@@ -4,8 +4,7 @@ use Rattle.std.specs.Str.{bytes_eq}
 use Rattle.sp_spec.specs.Unifier.{Pair}
 use Rattle.sp_term.specs.View.{view, view_all}
 use Rattle.sp_term.specs.declared.term.Term.{Term}
-use Rattle.sp_system.specs.Equating.{argument_pairs, same_flag, both_pairs, fact_pairs, action_pair, action_pairs}
-use Rattle.sp_system.specs.Pairs.{fact_pair}
+use Rattle.sp_spec_system.specs.Equating.{argument_pairs, same_flag, both_pairs, fact_pairs, action_pair, action_pairs, fact_pair}
 use Rattle.sp_fact.specs.View.{fact_of, action_of}
 use Rattle.sp_fact.specs.declared.fact.Fact.{Fact}
 use Rattle.sp_fact.specs.declared.fact.Action.{Action}

@@ -2,9 +2,9 @@
 use Rattle.std.proofs.Common.{◌≡◌, ℕ, zero, suc, List, [], ◌∷◌, ◌++◌, length, ◌==◌, ◌||◌, ◌&&◌, not, if◌then◌else◌, Bool, true, false, ⊎_elim, inl, inr, refl, sym, ap, ◌∙◌, subst, append_assoc, append-nil, length-append, arith}
 use Rattle.std.proofs.lemmas.Bool.{or_cases, eqb-true, eq-eqb, or_right, or_left}
 use Rattle.sp_spec.specs.Lists.{Member}
-use Rattle.sp_system.specs.Order.{path_within, is_before}
+use Rattle.sp_spec_system.specs.Order.{Path, last_pair, then_path, path_within, is_before}
 use Rattle.sp_system.specs.OrderView.{among, known_by, leads, next_round, rounds}
-use Rattle.sp_system.proofs.ShortPaths.{Pairs, Path, last_pair, then_path, some_pair_is, short}
+use Rattle.sp_law_system.proofs.ShortPaths.{Pairs, some_pair_is, short}
 use Rattle.sp_spec.proofs.Bools.{same_tests}
 
 -- ---- what is known stays so

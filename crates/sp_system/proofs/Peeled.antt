@@ -2,9 +2,9 @@
 use Rattle.std.proofs.Common.{◌≡◌, ◌≤◌, ◌+◌, ℕ, suc, Bool, true, false, ◌||◌, ◌==◌, if◌then◌else◌, [], ◌∷◌, ◌++◌, length, ◌⊎◌, ⊎_elim, inl, inr, refl, sym, ap, ◌∙◌, subst, append_assoc, append-nil, length-append, true≢false, arith}
 use Rattle.std.proofs.lemmas.Bool.{or_cases, eqb-true, eq-eqb, or_parts}
 use Rattle.sp_spec.specs.Lists.{Member, Every}
-use Rattle.sp_system.specs.Order.{is_before, begins_cycle, is_cyclic}
+use Rattle.sp_spec_system.specs.Order.{Path, last_pair, then_path, is_before, begins_cycle, is_cyclic}
 use Rattle.sp_system.specs.OrderView.{begins_at, peeled}
-use Rattle.sp_system.proofs.ShortPaths.{Pairs, Path, last_pair, then_path, path_of, short, before_before, not_before_itself}
+use Rattle.sp_law_system.proofs.ShortPaths.{Pairs, path_of, short, before_before, not_before_itself}
 use Rattle.sp_spec.proofs.Bools.{same_tests}
 
 -- ---- cycles as paths

@@ -3,8 +3,8 @@ use Rattle.std.specs.Prelude.{map}
 use Rattle.sp_spec.specs.Unifier.{Pair}
 use Rattle.sp_term.specs.View.{name_of, view}
 use Rattle.sp_term.specs.declared.term.Term.{Term}
-use Rattle.sp_system.specs.System.{rule_step}
-use Rattle.sp_system.specs.System as spec
+use Rattle.sp_spec_system.specs.System.{rule_step}
+use Rattle.sp_spec_system.specs.System as spec
 use Rattle.sp_fact.specs.View.{facts_of}
 use Rattle.sp_formula.specs.FormulaView.{formula_of}
 use Rattle.sp_system.specs.declared.system.Event.{Event}

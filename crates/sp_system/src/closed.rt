@@ -1,7 +1,7 @@
 // An order of times, closed: made once, it is asked often who is before whom.
 
 ghost use Rattle.std.specs.Prelude.{◌≡◌, ℕ, List, length, OnOk, IfOk};
-ghost use Rattle.sp_system.specs.Order.{is_before, is_cyclic};
+ghost use Rattle.sp_spec_system.specs.Order.{is_before, is_cyclic};
 ghost use Rattle.sp_system.specs.OrderView.{among};
 ghost use Rattle.sp_system.specs.SystemView.{system_of};
 ghost use Rattle.sp_system.specs.ClosedView.{kept, leads_to, noted};

@@ -1,7 +1,7 @@
 // Whether a path of order pairs leads from one time to another.
 
 ghost use Rattle.std.specs.Prelude.{◌≡◌, [], IfOk, OnOk, length};
-ghost use Rattle.sp_system.specs.Order as spec;
+ghost use Rattle.sp_spec_system.specs.Order as spec;
 ghost use Rattle.sp_system.specs.OrderView as view;
 
 use crate::system::copy_order;

@@ -2,8 +2,7 @@
 
 ghost use Rattle.std.specs.Prelude.{◌≡◌, IfOk, map, option_map};
 ghost use Rattle.sp_term.specs.View.{view_all};
-ghost use Rattle.sp_system.specs.Equating as equating;
-ghost use Rattle.sp_system.specs.Pairs as one;
+ghost use Rattle.sp_spec_system.specs.Equating as equating;
 ghost use Rattle.sp_fact.specs.View.{fact_of, action_of};
 ghost use Rattle.sp_system.specs.SystemView.{event_of, pair_of};
 
@@ -38,7 +37,7 @@ pub fn fact_pair(
     left: &Fact,
     right: &Fact,
 ) -> Result<Option<Vec<(Term, Term)>>, AllocError>
-    ensures { IfOk result (λ o. option_map (λ ps. map pair_of ps.items) o ≡ one.fact_pair (fact_of left.now) (fact_of right.now)) }
+    ensures { IfOk result (λ o. option_map (λ ps. map pair_of ps.items) o ≡ equating.fact_pair (fact_of left.now) (fact_of right.now)) }
 {
     if left.symbol == right.symbol && left.persistent == right.persistent {
         let pairs = argument_pairs(alloc, &left.args, &right.args)?;

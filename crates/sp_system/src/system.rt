@@ -3,7 +3,8 @@
 ghost use Rattle.std.specs.Prelude.{◌≡◌, [], ◌∷◌, ◌++◌, if◌then◌else◌, IfOk, drop, map};
 ghost use Rattle.sp_spec.specs.Substitution.{bound_to};
 ghost use Rattle.sp_term.specs.Bindings.{bindings};
-ghost use Rattle.sp_system.specs.Equating.{time_replaced, event_changed, pair_changed, link_changed, same_source, same_premise, has_link, with_links, order_changed, system_changed};
+ghost use Rattle.sp_spec_system.specs.Equating.{event_changed, pair_changed, link_changed, same_source, same_premise, has_link, joined_links, order_changed, system_changed};
+ghost use Rattle.sp_formula.specs.Change.{time_replaced};
 ghost use Rattle.sp_system.specs.SystemView.{event_of, pair_of, link_of, system_of};
 
 use sp_fact::fact::Facts;
@@ -212,7 +213,7 @@ fn changed_links(
     large: u128,
     links: &Vec<Link>,
 ) -> Result<Vec<Link>, AllocError>
-    ensures { IfOk result (λ ls. map link_of ls.items ≡ with_links [] (map (link_changed (time_replaced small large)) (map link_of links.now.items))) }
+    ensures { IfOk result (λ ls. map link_of ls.items ≡ joined_links [] (map (link_changed (time_replaced small large)) (map link_of links.now.items))) }
 {
     let mut made = Vec::with_capacity(alloc, links.len())?;
     for link in links {

@@ -1,6 +1,6 @@
 // Proofs are read, and the trees are said that stand in them.
 
-use sp_judge::{Skeleton, Step};
+use sp_check::{Skeleton, Step};
 use sp_moves::moves::Move;
 use sp_read_proof::proof;
 use sp_skel::skeleton;

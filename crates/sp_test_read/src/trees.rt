@@ -1,9 +1,9 @@
 // The texts of proof trees.
 
-use sp_grow::{Branch, OpenLeaf, Tree};
 use sp_log::log::Log;
 use sp_moves::giver::Premise;
 use sp_moves::moves::Move;
+use sp_search::{Branch, OpenLeaf, Tree};
 use sp_test_make::systems::system;
 use sp_text::tree_text;
 use std::alloc::{AllocError, Global};

@@ -3,8 +3,8 @@
 use crate::examples::Parts;
 use sp_fact::rule::Rule;
 use sp_formula::formula::{Atom, Formula, FormulaTerm, Moment};
-use sp_grow::{Branch, OpenLeaf, Tree, choice, grown_tree, is_finished, steps};
 use sp_moves::moves::Move;
+use sp_search::{Branch, OpenLeaf, Tree, choice, grown_tree, is_finished, steps};
 use sp_term::term::Sort;
 use sp_test_make::facts::{action, actions_alone, rule};
 use sp_test_make::formulas::{acts, exists, free_constant, messages_and_times};

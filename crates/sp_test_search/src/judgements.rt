@@ -1,10 +1,10 @@
 // Proof trees as they are read, judged.
 
 use crate::examples::Parts;
+use sp_check::{Branch, Clause, Judgement, Skeleton, Step, has_open, judge, steps};
 use sp_fact::fact::Facts;
 use sp_fact::rule::Rule;
 use sp_formula::formula::{Atom, Binder, Formula, FormulaTerm, Moment};
-use sp_judge::{Branch, Clause, Judgement, Skeleton, Step, has_open, judge, steps};
 use sp_log::log::Log;
 use sp_moves::moves::Move;
 use sp_term::term::Sort;

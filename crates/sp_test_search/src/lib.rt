@@ -1,5 +1,5 @@
 // What the search for a proof gives on worked examples: terms and formulas in memory, rows, moves, logs that are found, trees, judgements.
-// Below stand the makers of values (sp_test_make) and the crates of the search, from terms (sp_term) to judged trees (sp_judge).
+// Below stand the makers of values (sp_test_make) and the crates of the search, from terms (sp_term) to judged trees (sp_check).
 // Nothing stands above.
 // Nothing is promised here: what the clauses of those crates don't say is shown, that they say what is meant, by values that come from
 // outside.

@@ -1,4 +1,5 @@
-// Proofs that are checked: the proof of the first theory, and that proof with one thing changed; and texts with proofs among other items.
+// Proofs that are checked: the proof of the first theory, and that proof with one thing changed; proofs of failing equations; and texts with
+// proofs among other items.
 // The places are counted by hand.
 
 use crate::calls::assert_answer;
@@ -130,6 +131,21 @@ trace:
 end of trace
 ";
 
+/// Proofs that simplify systems in which an equation has no unifier, the status of the check, and what is said.
+const FAILING: [(&str, u8, &str); 2] = [
+    (
+        "lemma l: \"not ('a' = 'b')\" simplify by contradiction",
+        0,
+        "l (all-traces): verified (2 steps)\n",
+    ),
+    (
+        "lemma l: exists-trace \"Ex #i. A('a')@i & 'a' = 'b' & (All #j. B('c')@j ==> F)\"
+simplify simplify by contradiction",
+        1,
+        "l (exists-trace): falsified - no trace found (3 steps)\n",
+    ),
+];
+
 #[test]
 fn proofs_are_checked(rt: HostRuntime) -> Result<(), Fail> {
     let alloc = rt.alloc();
@@ -137,6 +153,16 @@ fn proofs_are_checked(rt: HostRuntime) -> Result<(), Fail> {
         let text = format!(in alloc; "{THEORY}{proof}end\n")?;
         let line = format!(in alloc; "once (all-traces): {said}\n")?;
         assert_answer(&rt, alloc, "check", text.as_str(), *status, line.as_str())?;
+    }
+    Ok(())
+}
+
+#[test]
+fn failing_equations_are_simplified(rt: HostRuntime) -> Result<(), Fail> {
+    let alloc = rt.alloc();
+    for (lemma, status, said) in &FAILING {
+        let text = format!(in alloc; "theory R begin {lemma} end\n")?;
+        assert_answer(&rt, alloc, "check", text.as_str(), *status, said)?;
     }
     Ok(())
 }

@@ -5,15 +5,14 @@ use Rattle.std.proofs.lemmas.Bool.Decides.{nat_tests}
 use Rattle.std.proofs.Math.Dec.{eqb-suc-zero}
 use Rattle.std.specs.declared.vec.Vec.{Vec}
 use Rattle.std.specs.declared.alloc.Global.{Global}
-use Rattle.sp_step.specs.Moves.{Move}
-use Rattle.sp_check.specs.Tree.{Tree, node, Branches, no_branch, branch}
-use Rattle.sp_grow.specs.Kept.{Kept, shown_all}
-use Rattle.sp_grow.specs.View.{tree_step, branch_step, branches_of, branch_of, tree_of}
-use Rattle.sp_grow.specs.Kept.{shown}
-use Rattle.sp_grow.specs.declared.tree.Branch.{Branch}
-use Rattle.sp_grow.specs.declared.tree.Tree.TheVariants.{Node, rolls-Node}
-use Rattle.sp_grow.specs.declared.tree.Tree.TheOpen.{Tree-F}
-use Rattle.sp_grow.specs.declared.tree.Tree.TheFolds.{fold_out-Branch, fold-roll-Tree}
+use Rattle.sp_spec_system.specs.Move.{Move}
+use Rattle.sp_spec_proof.specs.Tree.{Tree, node, Branches, no_branch, branch}
+use Rattle.sp_search.specs.Kept.{Kept, shown_all, shown}
+use Rattle.sp_search.specs.View.{tree_step, branch_step, branches_of, branch_of, tree_of}
+use Rattle.sp_search.specs.declared.tree.Branch.{Branch}
+use Rattle.sp_search.specs.declared.tree.Tree.TheVariants.{Node, rolls-Node}
+use Rattle.sp_search.specs.declared.tree.Tree.TheOpen.{Tree-F}
+use Rattle.sp_search.specs.declared.tree.Tree.TheFolds.{fold_out-Branch, fold-roll-Tree}
 use Rattle.sp_moves_formula.specs.declared.moves.Move as memory
 use Rattle.sp_moves.specs.View.{move_of}
 use Rattle.sp_text.specs.Cases.{is_unnamed, words_behind}

@@ -1,6 +1,6 @@
 -- The cases of a move whose text is its tree alone, and the words behind a case.
 use Rattle.std.specs.Prelude.{ℕ, Bool, true, false, if◌then◌else◌, List, [], codes}
-use Rattle.sp_check.specs.Tree.{Branches, no_branch, branch}
+use Rattle.sp_spec_proof.specs.Tree.{Branches, no_branch, branch}
 
 -- an only case without a name
 abbrev pub is_unnamed : Branches → Bool

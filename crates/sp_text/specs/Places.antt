@@ -1,7 +1,7 @@
 -- Trees whose moves a text can name: the places in them are those of lists in memory, and the times those of systems in memory.
 use Rattle.std.specs.Prelude.{◌^◌, ◌<◌}
-use Rattle.sp_step.specs.Moves.{Move, simplify, contradiction, unproved, solved, or, action, premise}
-use Rattle.sp_check.specs.Tree.{Tree, node, Branches, no_branch, branch}
+use Rattle.sp_spec_system.specs.Move.{Move, simplify, contradiction, unproved, solved, or, action, premise}
+use Rattle.sp_spec_proof.specs.Tree.{Tree, node, Branches, no_branch, branch}
 
 abbrev pub HasPlace : Move → Type 0
 HasPlace simplify = Unit {0}

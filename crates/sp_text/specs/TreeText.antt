@@ -1,7 +1,7 @@
 -- The text of a proof tree: a line for each move, and the cases of a move indented below it. The words are this project's own.
 use Rattle.std.specs.Prelude.{ℕ, zero, suc, List, [], ◌++◌, codes, decimal}
-use Rattle.sp_step.specs.Moves.{Move, simplify, contradiction, unproved, solved, or, action, premise}
-use Rattle.sp_check.specs.Tree.{Tree, node, Branches, no_branch, branch}
+use Rattle.sp_spec_system.specs.Move.{Move, simplify, contradiction, unproved, solved, or, action, premise}
+use Rattle.sp_spec_proof.specs.Tree.{Tree, node, Branches, no_branch, branch}
 
 -- two blanks for each case around it
 abbrev pub indent : ℕ → List ℕ

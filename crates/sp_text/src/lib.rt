@@ -1,5 +1,5 @@
 // The text of proof trees.
-// Below stand proof trees (sp_check) and trees in memory (sp_grow); above stands what is written of a text (sp_analysis).
+// Below stand proof trees (sp_spec_proof) and trees in memory (sp_search); above stands what is written of a text (sp_analysis).
 // Carried here: the promise that what is printed of a tree is its text.
 #![tactic(auto)]
 

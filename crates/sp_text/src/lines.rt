@@ -1,7 +1,7 @@
 // Lines of a text, and the texts of moves.
 
 ghost use Rattle.std.specs.Prelude.{◌≡◌, ◌++◌, IfOk, OnOk, string_bytes};
-ghost use Rattle.sp_step.specs.Moves as moves;
+ghost use Rattle.sp_spec_system.specs.Move as moves;
 ghost use Rattle.sp_moves.specs.View.{move_of};
 ghost use Rattle.sp_text.specs.Places.{HasPlace};
 ghost use Rattle.sp_text.specs.TreeText as spec;

@@ -1,15 +1,15 @@
 // The texts of trees and of the cases below a move.
 
 ghost use Rattle.std.specs.Prelude.{◌≡◌, ◌++◌, OnOk, IfOk, string_bytes};
-ghost use Rattle.sp_grow.specs.Kept.{shown_all};
-ghost use Rattle.sp_grow.specs.View.{branches_of, tree_of};
+ghost use Rattle.sp_search.specs.Kept.{shown_all};
+ghost use Rattle.sp_search.specs.View.{branches_of, tree_of};
 ghost use Rattle.sp_text.specs.Cases as cases;
 ghost use Rattle.sp_text.specs.Cases.{words_behind};
 ghost use Rattle.sp_text.specs.Places.{HavePlaces, AllHavePlaces};
 ghost use Rattle.sp_text.specs.TreeText as spec;
 
 use crate::lines::{leading, move_text, write_line};
-use sp_grow::{Branch, Tree};
+use sp_search::{Branch, Tree};
 use std::alloc::{AllocError, Global};
 
 /// Whether there is one case alone, and it has no name.

@@ -1,5 +1,5 @@
 use Rattle.sp_written.specs.Views as view
-use Rattle.sp_grow.specs.View.{tree_of}
+use Rattle.sp_search.specs.View.{tree_of}
 use Rattle.sp_analysis.specs.View.{verdict_of}
 use Rattle.sp_analysis.proofs.Verdicts.{when_finished, when_open}
 use Rattle.sp_analysis.proofs.tried.by_leaves.Goals as goal

@@ -2,7 +2,7 @@ use Rattle.std.proofs.Common.{string_bytes, ap, ◌∙◌}
 use Rattle.sp_formula.specs.FormulaView.{formula_of}
 use Rattle.sp_system.specs.SystemView.{system_of}
 use Rattle.sp_moves.specs.View as moves
-use Rattle.sp_judge.specs.View.{skeleton_of, judgement_of}
+use Rattle.sp_check.specs.View.{skeleton_of, judgement_of}
 use Rattle.sp_pose.specs.Asked as ask
 use Rattle.sp_analysis.specs.Block.{block_of}
 use Rattle.sp_analysis.specs.View.{setting_in, verdict_of}

@@ -2,8 +2,8 @@ use Rattle.std.proofs.Common.{string_bytes, subst, ap, ◌∙◌}
 use Rattle.sp_formula.specs.FormulaView.{formula_of}
 use Rattle.sp_system.specs.SystemView.{system_of}
 use Rattle.sp_moves.specs.View as moves
-use Rattle.sp_grow.specs.Kept.{log_in}
-use Rattle.sp_grow.specs.View.{kept_of, tree_of}
+use Rattle.sp_search.specs.Kept.{log_in}
+use Rattle.sp_search.specs.View.{kept_of, tree_of}
 use Rattle.sp_text.specs.Places.{HavePlaces}
 use Rattle.sp_pose.specs.Asked as ask
 use Rattle.sp_analysis.specs.Block.{block_of}

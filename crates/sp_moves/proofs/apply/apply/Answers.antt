@@ -1,6 +1,6 @@
 use Rattle.std.proofs.Common.{◌≡◌, None, map, option_map, sym, ap, ◌∙◌}
 use Rattle.sp_system.specs.SystemView.{system_of}
-use Rattle.sp_step.specs.Moves.{cases}
+use Rattle.sp_spec_proof.specs.Cases.{cases}
 use Rattle.sp_moves_formula.specs.View.{case_of, move_of}
 use Rattle.sp_moves_formula.specs.Applied.{clause_of}
 use Rattle.sp_moves_formula.proofs.Exact as formula

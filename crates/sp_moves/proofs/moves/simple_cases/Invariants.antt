@@ -1,6 +1,6 @@
 use Rattle.std.proofs.Common.{◌≡◌, ◌++◌, map}
 use Rattle.std.specs.Vec.Iter.{into_iter_items}
-use Rattle.sp_step.specs.Moves as spec
+use Rattle.sp_spec_proof.specs.Cases as spec
 use Rattle.sp_moves.specs.View.{case_of}
 use Rattle.sp_moves.proofs.moves.simple_cases.Given as goal
 

@@ -2,7 +2,7 @@ use Rattle.std.proofs.Common.{◌≡◌, ◌++◌, map}
 use Rattle.std.specs.Vec.Iter.{into_iter_items}
 use Rattle.sp_term.specs.View.{name_of}
 use Rattle.sp_system.specs.SystemView.{system_of}
-use Rattle.sp_step.specs.Moves as spec
+use Rattle.sp_spec_system.specs.Cases as spec
 use Rattle.sp_moves_formula.specs.View.{case_of}
 use Rattle.sp_moves_formula.proofs.named.numbered.Given as goal
 

@@ -1,7 +1,7 @@
 use Rattle.std.proofs.Common.{◌≡◌, ◌++◌, map, drop}
 use Rattle.sp_fact.specs.View.{action_of}
 use Rattle.sp_system.specs.SystemView.{system_of}
-use Rattle.sp_step.specs.Moves as spec
+use Rattle.sp_spec_formula.specs.Action as spec
 use Rattle.sp_moves_formula.proofs.where_same.by_actions.Given as goal
 
 abbrev pub invariant-loop-other : goal.invariant-loop-other

@@ -1,7 +1,7 @@
 use Rattle.std.proofs.Common.{◌≡◌, ◌++◌, map, drop}
 use Rattle.sp_fact.specs.View.{rule_of, fact_of}
 use Rattle.sp_system.specs.SystemView.{system_of}
-use Rattle.sp_step.specs.Moves as spec
+use Rattle.sp_spec_graph.specs.Premise as spec
 use Rattle.sp_moves_graph.proofs.giver.by_conclusions.Given as goal
 
 abbrev pub invariant-loop-place : goal.invariant-loop-place

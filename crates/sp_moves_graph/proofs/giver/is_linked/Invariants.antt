@@ -1,6 +1,6 @@
 use Rattle.std.proofs.Common.{◌≡◌, map, drop}
 use Rattle.sp_system.specs.SystemView.{link_of}
-use Rattle.sp_step.specs.Moves.{is_linked}
+use Rattle.sp_spec_graph.specs.Premise.{is_linked}
 use Rattle.sp_moves_graph.proofs.giver.is_linked.Given as goal
 
 abbrev pub invariant-loop-link : goal.invariant-loop-link

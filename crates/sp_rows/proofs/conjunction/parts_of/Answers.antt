@@ -2,7 +2,7 @@ use Rattle.std.proofs.Common.{Some, map, sym, ap, ◌∙◌}
 use Rattle.sp_formula.specs.declared.formula.Formula.{Formula}
 use Rattle.sp_formula.specs.FormulaView.{formula_of}
 use Rattle.sp_formula.proofs.Formulas.{all_shown}
-use Rattle.sp_step.specs.Rows as rows
+use Rattle.sp_spec_formula.specs.Split as rows
 use Rattle.sp_rows.proofs.Parts.{listed}
 use Rattle.sp_rows.proofs.conjunction.parts_of.Goals as goal
 

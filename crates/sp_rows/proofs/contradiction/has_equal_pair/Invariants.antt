@@ -1,6 +1,6 @@
 use Rattle.std.proofs.Common.{◌≡◌, map, drop}
 use Rattle.sp_system.specs.SystemView.{pair_of}
-use Rattle.sp_step.specs.Rows as rows
+use Rattle.sp_spec_formula.specs.Unequal as rows
 use Rattle.sp_rows.proofs.contradiction.has_equal_pair.Given as goal
 
 abbrev pub invariant-loop-pair : goal.invariant-loop-pair

@@ -1,6 +1,6 @@
 use Rattle.std.proofs.Common.{◌≡◌, map, drop}
 use Rattle.sp_formula.specs.FormulaView.{formula_of}
-use Rattle.sp_step.specs.Rows as rows
+use Rattle.sp_spec_formula.specs.Split as rows
 use Rattle.sp_rows.proofs.contradiction.has_falsity.Given as goal
 
 abbrev pub invariant-loop-formula : goal.invariant-loop-formula

@@ -1,11 +1,11 @@
 use Rattle.std.proofs.Common.{ℕ, List, Option, Some, option_map, map, sym, ap, ◌∙◌, ◌<◌, ◌≤◌, length, subst, slice_index_or}
 use Rattle.std.specs.Global.{Vec}
 use Rattle.sp_spec.specs.Guarded.{Guarded}
-use Rattle.sp_system.specs.System as spec
+use Rattle.sp_spec_system.specs.System as spec
 use Rattle.sp_formula.specs.declared.formula.Formula.{Formula}
 use Rattle.sp_formula.specs.FormulaView.{formula_of}
 use Rattle.sp_system.specs.SystemView.{system_of}
-use Rattle.sp_step.specs.Rows as rows
+use Rattle.sp_spec_formula.specs.Disjunction as rows
 use Rattle.sp_rows.specs.RowsView.{spending_at}
 use Rattle.sp_rows.proofs.Positions.{disjunction-there}
 use Rattle.sp_rows.proofs.Searches.{left_found, left_none}

@@ -1,5 +1,5 @@
 use Rattle.sp_system.specs.SystemView.{system_of}
-use Rattle.sp_step.specs.Rows as rows
+use Rattle.sp_spec_formula.specs.Disjunction as rows
 use Rattle.sp_rows.proofs.Searches.{IsLeft}
 use Rattle.sp_rows.proofs.disjunction.disjunction.Given as goal
 

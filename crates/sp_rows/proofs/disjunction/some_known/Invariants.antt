@@ -1,7 +1,7 @@
 use Rattle.std.proofs.Common.{◌≡◌, map, drop}
 use Rattle.sp_formula.specs.FormulaView.{formula_of, guardeds_of}
 use Rattle.sp_system.specs.SystemView.{system_of}
-use Rattle.sp_step.specs.Rows as rows
+use Rattle.sp_spec_formula.specs.Disjunction as rows
 use Rattle.sp_rows.proofs.disjunction.some_known.Given as goal
 
 abbrev pub invariant-loop-part : goal.invariant-loop-part

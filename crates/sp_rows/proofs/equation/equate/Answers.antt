@@ -1,8 +1,8 @@
 use Rattle.std.proofs.Common.{ℕ, List, [], Option, option_map, option_and_then, sym, ap, ◌∙◌, ◌<◌, ◌≤◌, length, subst, slice_index_or}
-use Rattle.sp_system.specs.System as spec
+use Rattle.sp_spec_system.specs.System as spec
 use Rattle.sp_formula.specs.declared.formula.Formula.{Formula}
 use Rattle.sp_system.specs.SystemView.{system_of}
-use Rattle.sp_step.specs.Rows as rows
+use Rattle.sp_spec_formula.specs.Equate as rows
 use Rattle.sp_rows.specs.RowsView.{spending_at}
 use Rattle.sp_rows.specs.EquationView.{equation}
 use Rattle.sp_rows.proofs.Positions.{equate-there}

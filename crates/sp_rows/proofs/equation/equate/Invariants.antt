@@ -1,4 +1,4 @@
-use Rattle.sp_step.specs.Rows as rows
+use Rattle.sp_spec_formula.specs.Equate as rows
 use Rattle.sp_rows.proofs.Searches.{IsLeft}
 use Rattle.sp_rows.proofs.equation.equate.Given as goal
 

@@ -1,10 +1,10 @@
 use Rattle.std.proofs.Common.{ℕ, List, Option, Some, option_map, sym, ap, ◌∙◌, ◌<◌, ◌≤◌, length, subst, slice_index_or}
-use Rattle.sp_system.specs.System as spec
+use Rattle.sp_spec_system.specs.System as spec
 use Rattle.sp_formula.specs.declared.formula.Formula.{Formula}
 use Rattle.sp_formula.specs.FormulaView.{formula_of}
 use Rattle.sp_system.specs.SystemView.{system_of}
 use Rattle.sp_formula.proofs.Formulas.{some_shown}
-use Rattle.sp_step.specs.Rows as rows
+use Rattle.sp_spec_formula.specs.Open as rows
 use Rattle.sp_rows.specs.OpeningView.{opening_at, parts_of}
 use Rattle.sp_rows.proofs.Positions.{open_existential-there}
 use Rattle.sp_rows.proofs.Searches.{left_found, left_none}

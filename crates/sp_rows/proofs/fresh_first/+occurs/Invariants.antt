@@ -1,6 +1,6 @@
 use Rattle.std.proofs.Common.{◌≡◌, drop}
 use Rattle.sp_term.specs.View.{view, view_all}
-use Rattle.sp_step.specs.Rows as rows
+use Rattle.sp_spec_graph.specs.FreshFirst as rows
 use Rattle.sp_rows.proofs.fresh_first.+occurs.Given as goal
 
 abbrev pub invariant-have_term-loop-term : goal.invariant-have_term-loop-term

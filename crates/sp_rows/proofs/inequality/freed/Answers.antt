@@ -2,7 +2,7 @@ use Rattle.std.proofs.Common.{Some, sym, ap, ◌∙◌}
 use Rattle.sp_term.specs.View.{view}
 use Rattle.sp_formula.specs.declared.formula.FormulaTerm.{FormulaTerm}
 use Rattle.sp_formula.specs.FormulaView.{placed_term}
-use Rattle.sp_step.specs.Rows as rows
+use Rattle.sp_spec_system.specs.Formulas as rows
 use Rattle.sp_rows.proofs.Frees.{freed-placed}
 use Rattle.sp_rows.proofs.inequality.freed.Goals as goal
 

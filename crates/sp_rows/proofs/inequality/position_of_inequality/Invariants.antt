@@ -1,4 +1,4 @@
-use Rattle.sp_step.specs.Rows as rows
+use Rattle.sp_spec_formula.specs.Unequal as rows
 use Rattle.sp_rows.proofs.Searches.{IsLeft}
 use Rattle.sp_rows.proofs.inequality.position_of_inequality.Given as goal
 

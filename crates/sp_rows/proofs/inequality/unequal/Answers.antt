@@ -1,11 +1,11 @@
 use Rattle.std.proofs.Common.{ℕ, [], Option, Some, option_map, map, sym, ap, ◌∙◌, ◌<◌, subst}
 use Rattle.std.proofs.lemmas.List.{length-map}
 use Rattle.sp_spec.specs.Unifier.{Pair}
-use Rattle.sp_system.specs.System as spec
+use Rattle.sp_spec_system.specs.System as spec
 use Rattle.sp_term.specs.declared.term.Term.{Term}
 use Rattle.sp_formula.specs.FormulaView.{formula_of}
 use Rattle.sp_system.specs.SystemView.{pair_of, system_of}
-use Rattle.sp_step.specs.Rows as rows
+use Rattle.sp_spec_formula.specs.Unequal as rows
 use Rattle.sp_rows.specs.RowsView.{spending_at, keeping}
 use Rattle.sp_rows.proofs.Positions.{unequal-there}
 use Rattle.sp_rows.proofs.Searches.{within}

@@ -1,7 +1,7 @@
 use Rattle.std.proofs.Common.{◌+◌, map, drop, option_map, sym, ap, ◌∙◌, arith}
 use Rattle.sp_formula.specs.FormulaView.{atom_of, formula_of}
 use Rattle.sp_system.specs.SystemView.{event_of, system_of}
-use Rattle.sp_step.specs.Rows as rows
+use Rattle.sp_spec_formula.specs.Instantiate as rows
 use Rattle.sp_rows.specs.MatchesView.{finished}
 use Rattle.sp_rows.specs.SlotsView.{slots_of}
 use Rattle.sp_rows.proofs.Matchings.{acts_there, some_here, some_end}

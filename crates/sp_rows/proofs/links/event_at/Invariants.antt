@@ -1,6 +1,6 @@
 use Rattle.std.proofs.Common.{◌≡◌, map, drop}
 use Rattle.sp_system.specs.SystemView.{event_of}
-use Rattle.sp_step.specs.Rows as rows
+use Rattle.sp_spec_system.specs.MakingOne as rows
 use Rattle.sp_rows.proofs.links.event_at.Given as goal
 
 abbrev pub invariant-loop-event : goal.invariant-loop-event

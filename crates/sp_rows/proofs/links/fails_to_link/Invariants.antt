@@ -1,6 +1,7 @@
 use Rattle.std.proofs.Common.{◌≡◌, map, drop}
 use Rattle.sp_system.specs.SystemView.{link_of, system_of}
-use Rattle.sp_step.specs.Rows.{cannot_link, fails_to_link, some_two}
+use Rattle.sp_spec_graph.specs.LinearOnce.{cannot_link, fails_to_link}
+use Rattle.sp_spec_system.specs.Picked.{some_two}
 use Rattle.sp_rows.proofs.links.fails_to_link.Given as goal
 
 abbrev pub invariant-loop-position : goal.invariant-loop-position

@@ -1,6 +1,6 @@
 use Rattle.std.proofs.Common.{◌≡◌, map}
 use Rattle.sp_system.specs.SystemView.{event_of, link_of}
-use Rattle.sp_step.specs.Rows.{first_two}
+use Rattle.sp_spec_system.specs.Picked.{first_two}
 use Rattle.sp_rows.specs.LinksView.{clash}
 use Rattle.sp_rows.proofs.LinkSearches.{links_left}
 use Rattle.sp_rows.proofs.links.first_two.Given as goal

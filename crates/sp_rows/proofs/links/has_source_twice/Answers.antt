@@ -1,6 +1,6 @@
 use Rattle.std.proofs.Common.{◌||◌, map, sym, ap, ◌∙◌}
 use Rattle.sp_system.specs.SystemView.{event_of, link_of}
-use Rattle.sp_step.specs.Rows.{used_twice, takes_fr_twice}
+use Rattle.sp_spec_graph.specs.SourceTwice.{used_twice, takes_fr_twice}
 use Rattle.sp_rows.proofs.LinkSearches.{two_seen}
 use Rattle.sp_rows.proofs.links.has_source_twice.Goals as goal
 

@@ -1,6 +1,6 @@
 use Rattle.std.proofs.Common.{◌≡◌, map, drop}
 use Rattle.sp_formula.specs.FormulaView.{atom_of}
-use Rattle.sp_step.specs.Instances as spec
+use Rattle.sp_spec_formula.specs.Instances as spec
 use Rattle.sp_rows.specs.SlotsView.{slot_of}
 use Rattle.sp_rows.proofs.matching.are_settled.Given as goal
 

@@ -2,7 +2,7 @@ use Rattle.std.proofs.Common.{◌≡◌, length, map}
 use Rattle.std.specs.Slice.Iter.{iter_rest}
 use Rattle.sp_term.specs.View.{view_all}
 use Rattle.sp_formula.specs.FormulaView.{placed_terms}
-use Rattle.sp_step.specs.Instances as spec
+use Rattle.sp_spec_formula.specs.Instances as spec
 use Rattle.sp_rows.specs.SlotsView.{slot_of}
 use Rattle.sp_rows.proofs.matching.matched_all.Given as goal
 

@@ -2,7 +2,7 @@ use Rattle.std.proofs.Common.{Some, map, sym, ap, ◌∙◌}
 use Rattle.sp_term.specs.View.{view}
 use Rattle.sp_formula.specs.declared.formula.FormulaTerm.{FormulaTerm}
 use Rattle.sp_formula.specs.FormulaView.{placed_term}
-use Rattle.sp_step.specs.Instances as spec
+use Rattle.sp_spec_formula.specs.Instances as spec
 use Rattle.sp_rows.specs.SlotsView.{slot_of}
 use Rattle.sp_rows.proofs.Matchings.{value_in-placed}
 use Rattle.sp_rows.proofs.matching.value_in.Goals as goal

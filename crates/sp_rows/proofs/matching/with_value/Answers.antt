@@ -2,7 +2,7 @@ use Rattle.std.proofs.Common.{Option, ℕ, map, sym, ap, ◌∙◌}
 use Rattle.sp_term.specs.View.{view}
 use Rattle.sp_formula.specs.declared.formula.FormulaTerm.{FormulaTerm}
 use Rattle.sp_formula.specs.FormulaView.{placed_term}
-use Rattle.sp_step.specs.Instances as spec
+use Rattle.sp_spec_formula.specs.Instances as spec
 use Rattle.sp_rows.specs.SlotsView.{slot_of, put_at}
 use Rattle.sp_rows.proofs.Matchings.{place_of_bound-placed}
 use Rattle.sp_rows.proofs.matching.with_value.Goals as goal

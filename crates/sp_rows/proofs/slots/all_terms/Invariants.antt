@@ -1,6 +1,6 @@
 use Rattle.std.proofs.Common.{◌≡◌, map, drop}
 use Rattle.sp_term.specs.View.{view}
-use Rattle.sp_step.specs.Instances as spec
+use Rattle.sp_spec_formula.specs.Instances as spec
 use Rattle.sp_rows.specs.SlotsView.{slot_of}
 use Rattle.sp_rows.proofs.SlotValues.{after}
 use Rattle.sp_rows.proofs.slots.all_terms.Given as goal

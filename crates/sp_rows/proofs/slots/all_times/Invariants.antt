@@ -1,5 +1,5 @@
 use Rattle.std.proofs.Common.{◌≡◌, drop}
-use Rattle.sp_step.specs.Instances as spec
+use Rattle.sp_spec_formula.specs.Instances as spec
 use Rattle.sp_rows.proofs.SlotValues.{after}
 use Rattle.sp_rows.proofs.slots.all_times.Given as goal
 

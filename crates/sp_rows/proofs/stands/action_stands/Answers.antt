@@ -1,9 +1,9 @@
 use Rattle.std.proofs.Common.{◌≡◌, ℕ, [], Option, Some, option_map, map, sym, ap, ◌∙◌, ◌<◌, subst}
 use Rattle.std.proofs.lemmas.List.{length-map}
-use Rattle.sp_system.specs.System as spec
+use Rattle.sp_spec_system.specs.System as spec
 use Rattle.sp_formula.specs.FormulaView.{formula_of}
 use Rattle.sp_system.specs.SystemView.{system_of, event_of}
-use Rattle.sp_step.specs.Rows as rows
+use Rattle.sp_spec_formula.specs.ActionStands as rows
 use Rattle.sp_rows.specs.RowsView.{spending_at, position_of}
 use Rattle.sp_rows.proofs.Positions.{action_stands-there, place_counts}
 use Rattle.sp_rows.proofs.Searches.{place_within}

@@ -1,7 +1,7 @@
 use Rattle.std.proofs.Common.{◌≡◌, map, drop}
 use Rattle.sp_term.specs.View.{view}
 use Rattle.sp_formula.specs.FormulaView.{placed_terms}
-use Rattle.sp_step.specs.Rows as rows
+use Rattle.sp_spec_system.specs.Formulas as rows
 use Rattle.sp_rows.proofs.FreedTerms.{after}
 use Rattle.sp_rows.proofs.stands.freed_all.Given as goal
 

@@ -1,7 +1,7 @@
 use Rattle.std.proofs.Common.{◌≡◌, map, drop}
 use Rattle.sp_fact.specs.View.{action_of}
 use Rattle.sp_system.specs.SystemView.{event_of}
-use Rattle.sp_step.specs.Rows as rows
+use Rattle.sp_spec_formula.specs.ActionStands as rows
 use Rattle.sp_rows.proofs.stands.has_action.Given as goal
 
 abbrev pub invariant-loop-event : goal.invariant-loop-event

@@ -1,6 +1,6 @@
 use Rattle.std.proofs.Common.{◌≡◌, map, drop}
 use Rattle.sp_fact.specs.View.{action_of}
-use Rattle.sp_step.specs.Rows as rows
+use Rattle.sp_spec_formula.specs.ActionStands as rows
 use Rattle.sp_rows.proofs.stands.is_among.Given as goal
 
 abbrev pub invariant-loop-other : goal.invariant-loop-other

@@ -1,6 +1,6 @@
 use Rattle.std.proofs.Common.{map}
 use Rattle.sp_system.specs.SystemView.{event_of}
-use Rattle.sp_step.specs.Rows as rows
+use Rattle.sp_spec_formula.specs.ActionStands as rows
 use Rattle.sp_rows.proofs.Searches.{IsLeft}
 use Rattle.sp_rows.proofs.stands.position_of_standing.Given as goal
 

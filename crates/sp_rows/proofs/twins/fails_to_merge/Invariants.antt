@@ -1,6 +1,6 @@
 use Rattle.std.proofs.Common.{◌≡◌, map}
 use Rattle.sp_system.specs.SystemView.{event_of}
-use Rattle.sp_step.specs.Rows.{fails_to_merge}
+use Rattle.sp_spec_graph.specs.FreshOnce.{fails_to_merge}
 use Rattle.sp_rows.proofs.MergeSearches.{failing_from}
 use Rattle.sp_rows.proofs.twins.fails_to_merge.Given as goal
 

@@ -1,7 +1,8 @@
 use Rattle.std.proofs.Common.{Option, option_map, sym, ap, ◌∙◌}
 use Rattle.sp_system.specs.SystemView.{system_of}
 use Rattle.sp_system.specs.declared.system.System.{System}
-use Rattle.sp_step.specs.Rows.{merged_twins, first_twins}
+use Rattle.sp_spec_system.specs.MakingOne.{merged_twins}
+use Rattle.sp_spec_graph.specs.FreshOnce.{first_twins}
 use Rattle.sp_rows.proofs.Positions.{joined, joins}
 use Rattle.sp_rows.proofs.twins.fresh_once.Goals as goal
 

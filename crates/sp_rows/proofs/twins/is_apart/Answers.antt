@@ -1,7 +1,7 @@
 use Rattle.std.proofs.Common.{◌≡◌, Bool, true, false, not, List, Option, Some, None, option_map, is_some, is_none, map, refl, sym, ap, ◌∙◌}
 use Rattle.std.specs.Global.{Vec}
 use Rattle.sp_spec.specs.Unifier.{Pair, mgu}
-use Rattle.sp_system.specs.Equating.{unifier_of}
+use Rattle.sp_spec_system.specs.Equating.{unifier_of}
 use Rattle.sp_system.specs.SystemView.{pair_of}
 use Rattle.sp_term.specs.Bindings.{bindings}
 use Rattle.sp_term.specs.declared.subst.Subst.{Subst}

@@ -1,6 +1,6 @@
 use Rattle.std.proofs.Common.{Some, option_map, sym, ap, ◌∙◌}
 use Rattle.sp_system.specs.SystemView.{system_of}
-use Rattle.sp_step.specs.Rows.{merged_twins}
+use Rattle.sp_spec_system.specs.MakingOne.{merged_twins}
 use Rattle.sp_rows.proofs.Merges.{both_there}
 use Rattle.sp_rows.proofs.twins.merge.Goals as goal
 

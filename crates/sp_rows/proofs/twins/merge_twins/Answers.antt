@@ -1,8 +1,8 @@
 use Rattle.std.proofs.Common.{◌<◌, ℕ, Option, option_and_then, option_map, map, sym, ap, ◌∙◌, subst}
 use Rattle.std.proofs.lemmas.List.{length-map}
-use Rattle.sp_system.specs.System as spec
+use Rattle.sp_spec_system.specs.System as spec
 use Rattle.sp_system.specs.SystemView.{event_of, system_of}
-use Rattle.sp_step.specs.Rows.{merged_twins}
+use Rattle.sp_spec_system.specs.MakingOne.{merged_twins}
 use Rattle.sp_rows.specs.TwinsView.{are_one, twins_there}
 use Rattle.sp_rows.proofs.TwinPlaces.{first-there, places_within}
 use Rattle.sp_rows.proofs.twins.merge_twins.Goals as goal

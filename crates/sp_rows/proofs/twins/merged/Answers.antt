@@ -2,8 +2,9 @@ use Rattle.std.proofs.Common.{ℕ, List, Option, Some, option_map, map, sym, ap,
 use Rattle.std.specs.Global.{Vec}
 use Rattle.sp_spec.specs.Substitution.{Binding, bound_to}
 use Rattle.sp_spec.specs.Unifier.{Pair, mgu}
-use Rattle.sp_system.specs.System as spec
-use Rattle.sp_system.specs.Equating.{unifier_of, merged_system, system_changed, time_replaced}
+use Rattle.sp_spec_system.specs.System as spec
+use Rattle.sp_spec_system.specs.Equating.{unifier_of, merged_system, system_changed}
+use Rattle.sp_formula.specs.Change.{time_replaced}
 use Rattle.sp_term.specs.Bindings.{bindings}
 use Rattle.sp_term.specs.declared.term.Term.{Term}
 use Rattle.sp_term.specs.declared.subst.Subst.{Subst}

@@ -1,6 +1,6 @@
 use Rattle.std.proofs.Common.{◌≡◌, map, drop}
 use Rattle.sp_fact.specs.View.{fact_of}
-use Rattle.sp_step.specs.Rows as rows
+use Rattle.sp_spec_graph.specs.Fresh as rows
 use Rattle.sp_rows.proofs.twins.shares.Given as goal
 
 abbrev pub invariant-loop-premise : goal.invariant-loop-premise

@@ -1,7 +1,7 @@
 use Rattle.std.proofs.Common.{◌≡◌, map, drop}
 use Rattle.sp_term.specs.View.{view}
 use Rattle.sp_fact.specs.View.{fact_of}
-use Rattle.sp_step.specs.Rows as rows
+use Rattle.sp_spec_graph.specs.Fresh as rows
 use Rattle.sp_rows.proofs.twins.stands_in.Given as goal
 
 abbrev pub invariant-loop-position : goal.invariant-loop-position

@@ -1,7 +1,7 @@
 use Rattle.std.proofs.Common.{◌≡◌, ap, ◌∙◌, map, arith}
 use Rattle.std.proofs.lemmas.Grind.{common_steps}
 use Rattle.sp_written.specs.Views.{case_of}
-use Rattle.sp_judge.specs.View.{branch_of, all_branches}
+use Rattle.sp_check.specs.View.{branch_of, all_branches}
 use Rattle.sp_skel.proofs.Said.{branch_said, all_said}
 use Rattle.sp_skel.proofs.trees.+said.Goals as goal
 

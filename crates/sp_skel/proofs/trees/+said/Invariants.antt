@@ -1,6 +1,6 @@
 use Rattle.std.proofs.Common.{◌≡◌, take, map}
 use Rattle.sp_written.specs.Views.{case_of}
-use Rattle.sp_judge.specs.View.{branch_of}
+use Rattle.sp_check.specs.View.{branch_of}
 use Rattle.sp_skel.proofs.Said.{branch_said}
 use Rattle.sp_skel.proofs.trees.+said.Given as goal
 

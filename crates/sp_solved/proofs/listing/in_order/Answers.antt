@@ -1,6 +1,6 @@
 use Rattle.std.proofs.Common.{◌<◌, List, Option, map, length, option_map, sym, ap, ◌∙◌, arith}
 use denote.Ref.{Bor}
-use Rattle.sp_system.specs.System as spec
+use Rattle.sp_spec_system.specs.System as spec
 use Rattle.sp_system.specs.SystemView.{event_of}
 use Rattle.sp_system.specs.declared.system.Event.{Event}
 use Rattle.sp_solved.specs.Listing.{in_order}

@@ -1,7 +1,7 @@
 use Rattle.std.proofs.Common.{◌≡◌, ◌≤◌, [], length, sym, ap, ◌∙◌, true≢false, arith}
 use Rattle.std.specs.Vec.{vec_len}
 use Rattle.std.proofs.lemmas.Bool.{eq-eqb}
-use Rattle.sp_system.specs.Order.{is_cyclic}
+use Rattle.sp_spec_system.specs.Order.{is_cyclic}
 use Rattle.sp_system.specs.OrderView.{peeled}
 use Rattle.sp_system.proofs.Peeled.{no_more, peeled-cyclic, still-cyclic}
 use Rattle.sp_system.proofs.order.is_cyclic.Goals as goal

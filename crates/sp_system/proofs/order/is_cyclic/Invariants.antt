@@ -1,5 +1,5 @@
 use Rattle.std.proofs.Common.{◌≡◌, length}
-use Rattle.sp_system.specs.Order as spec
+use Rattle.sp_spec_system.specs.Order as spec
 use Rattle.sp_system.proofs.order.is_cyclic.Given as goal
 
 abbrev pub invariant-loop-alloc : goal.invariant-loop-alloc

@@ -1,6 +1,6 @@
 use Rattle.std.proofs.Common.{map}
 use Rattle.std.specs.Slice.Iter.{iter_rest}
-use Rattle.sp_system.specs.Equating.{action_pair}
+use Rattle.sp_spec_system.specs.Equating.{action_pair}
 use Rattle.sp_fact.specs.View.{action_of}
 use Rattle.sp_system.specs.SystemView.{pair_of}
 use Rattle.sp_system.proofs.Pairs.{Gathered}

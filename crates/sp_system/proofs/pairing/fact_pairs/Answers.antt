@@ -2,7 +2,7 @@ use Rattle.std.proofs.Common.{sym, ◌∙◌, map, arith}
 use Rattle.std.proofs.lemmas.Grind.{common_steps}
 use Rattle.std.proofs.lemmas.Slice.Zip.{either_empty_from_Zip}
 use Rattle.std.specs.Slice.Iter.{iter_rest}
-use Rattle.sp_system.specs.Pairs.{fact_pair}
+use Rattle.sp_spec_system.specs.Equating.{fact_pair}
 use Rattle.sp_fact.specs.View.{fact_of}
 use Rattle.sp_system.specs.SystemView.{pair_of}
 use Rattle.sp_system.proofs.Pairs.{fact_pairs-listed, unlike, gathered_more, gathered_stop, gathered_end}

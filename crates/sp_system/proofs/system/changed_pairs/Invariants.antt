@@ -1,7 +1,7 @@
 use Rattle.std.proofs.Common.{◌≡◌, take, map}
 use Rattle.sp_spec.specs.Substitution.{bound_to}
 use Rattle.sp_term.specs.Bindings.{bindings}
-use Rattle.sp_system.specs.Equating.{pair_changed}
+use Rattle.sp_spec_system.specs.Equating.{pair_changed}
 use Rattle.sp_system.specs.SystemView.{pair_of}
 use Rattle.sp_system.proofs.system.changed_pairs.Given as goal
 

@@ -1,5 +1,5 @@
 use Rattle.std.proofs.Common.{◌≡◌, drop, map}
-use Rattle.sp_system.specs.Equating.{has_link}
+use Rattle.sp_spec_system.specs.Equating.{has_link}
 use Rattle.sp_system.specs.SystemView.{link_of}
 use Rattle.sp_system.proofs.system.has_link.Given as goal
 

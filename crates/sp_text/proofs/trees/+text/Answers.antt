@@ -1,8 +1,8 @@
 use Rattle.std.proofs.Common.{◌≡◌, ◌∙◌, sym, ap, subst, ◌++◌, string_bytes, ℕ, nat_eq}
 use Rattle.std.proofs.lemmas.Result.{on_ok_weaker}
-use Rattle.sp_check.specs.Tree.{node}
+use Rattle.sp_spec_proof.specs.Tree.{node}
 use Rattle.sp_moves.specs.View.{move_of}
-use Rattle.sp_grow.specs.View.{tree_of}
+use Rattle.sp_search.specs.View.{tree_of}
 use Rattle.sp_text.specs.TreeText.{tree_text, cases_text}
 use Rattle.sp_text.specs.Places.{HavePlaces}
 use Rattle.sp_text.proofs.Branches.{shown_of, next_case, node_shown, behind_move, goes_on, cases_follow, places_further, only_places}

@@ -1,6 +1,6 @@
 use Rattle.std.proofs.Common.{◌≡◌, ◌++◌, drop, string_bytes}
-use Rattle.sp_grow.specs.Kept.{shown_all}
-use Rattle.sp_grow.specs.View.{branches_of}
+use Rattle.sp_search.specs.Kept.{shown_all}
+use Rattle.sp_search.specs.View.{branches_of}
 use Rattle.sp_text.specs.Places.{AllHavePlaces}
 use Rattle.sp_text.specs.TreeText.{cases_text}
 use Rattle.sp_text.proofs.trees.+text.Given as goal

@@ -5,7 +5,7 @@ use Rattle.sp_formula.specs.Change.{placed, place_changed}
 use Rattle.sp_formula.specs.declared.formula.FormulaTerm.{FormulaTerm}
 use Rattle.sp_formula.specs.FormulaView.{placed_term}
 use Rattle.sp_formula.proofs.FreeChanges.{valued-placed}
-use Rattle.sp_system.proofs.TermValues.{valued_var}
+use Rattle.sp_law_system.proofs.TermValues.{valued_var}
 use Rattle.sp_rows.specs.InsideView.{inside_of}
 use Rattle.sp_rows.specs.OpeningView.{change_of}
 use Rattle.sp_rows.proofs.opening.Values.in_term.Goals as goal

@@ -1,6 +1,6 @@
 use Rattle.std.proofs.Common.{◌≡◌, [], map, drop}
 use Rattle.sp_formula.specs.FormulaView.{binder_of}
-use Rattle.sp_step.specs.Instances as spec
+use Rattle.sp_spec_formula.specs.Instances as spec
 use Rattle.sp_rows.specs.SlotsView.{slots_of}
 use Rattle.sp_rows.proofs.slots.Slots.empty.Given as goal
 

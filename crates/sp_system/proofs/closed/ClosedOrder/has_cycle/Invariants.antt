@@ -1,5 +1,5 @@
 use Rattle.std.proofs.Common.{◌≡◌, drop}
-use Rattle.sp_system.specs.Order as spec
+use Rattle.sp_spec_system.specs.Order as spec
 use Rattle.sp_system.proofs.closed.ClosedOrder.has_cycle.Given as goal
 
 abbrev pub invariant-loop-pair : goal.invariant-loop-pair

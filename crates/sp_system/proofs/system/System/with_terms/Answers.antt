@@ -1,7 +1,7 @@
 use Rattle.std.proofs.Common.{ℕ, ap, ◌∙◌}
 use Rattle.sp_spec.specs.Substitution.{bound_to}
 use Rattle.sp_term.specs.Bindings.{bindings}
-use Rattle.sp_system.specs.Equating.{system_changed}
+use Rattle.sp_spec_system.specs.Equating.{system_changed}
 use Rattle.sp_system.specs.SystemView.{system_of}
 use Rattle.sp_formula.proofs.FreeChanges.{time_replaced-same}
 use Rattle.sp_system.proofs.system.System.with_terms.Goals as goal

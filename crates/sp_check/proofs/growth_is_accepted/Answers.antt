@@ -1,8 +1,0 @@
-use Rattle.sp_check.proofs.Growing.{grown_tree_accepted, grown_tree_steps}
-use Rattle.sp_check.proofs.growth_is_accepted.Goals as goal
-
-pub returns : goal.returns
-returns c = record {
-  accepted = grown_tree_accepted;
-  within_budget = grown_tree_steps;
-}

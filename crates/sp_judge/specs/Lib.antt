@@ -1,5 +1,0 @@
-pub mod Judging
-pub mod Laws
-pub mod Rejected
-pub mod Skeleton
-pub mod View

@@ -1,0 +1,153 @@
+-- Each row covers, a contradiction has no solution, and so simplification covers.
+use Rattle.std.proofs.Common.{◌≡◌, ◌≤◌, ℕ, zero, suc, Bool, true, false, ◌||◌, List, [], ◌∷◌, ◌++◌, Option, Some, None, refl, sym, ap, ◌∙◌, ⊎_elim, le_refl, le_trans}
+use Rattle.std.proofs.lemmas.Bool.{or_cases}
+use Rattle.std.proofs.lemmas.List.{append_assoc}
+use Rattle.sp_spec.specs.Lists.{Every}
+use Rattle.sp_spec.specs.Theory.{Theory, signature_of}
+use Rattle.sp_spec.specs.Log.{Log}
+use Rattle.sp_law_equal.specs.Convergent.{AreConvergent, KeepSymbols}
+use Rattle.sp_spec_system.specs.System.{System}
+use Rattle.sp_spec_system.specs.Solutions.{Valuation}
+use Rattle.sp_spec_system.specs.Numbered.{IsNumbered}
+use Rattle.sp_spec_system.specs.Covering.{Agrees, NoneSolved, Covers}
+use Rattle.sp_spec_system.specs.Order.{is_cyclic}
+use Rattle.sp_law_system.specs.Laws.{UnifierIsRight}
+use Rattle.sp_law_system.proofs.Solutions.{agrees_then}
+use Rattle.sp_spec_proof.specs.Rows.{Row, row_split, row_open, row_equate, row_unequal, row_order, row_action_stands, row_disjunction, row_linear_once, row_fresh_once, row_fresh_first, row_instantiate, rows, by_row, first_of, by_rows, is_contradictory, goes_on, simplified_by}
+use Rattle.sp_spec_formula.specs.Split.{has_falsity}
+use Rattle.sp_spec_formula.specs.Unequal.{has_equal_pair}
+use Rattle.sp_spec_formula.specs.InOrder.{has_refuted}
+use Rattle.sp_spec_graph.specs.SourceTwice.{takes_fr_twice, used_twice, has_source_twice}
+use Rattle.sp_spec_system.specs.Picked.{some_two}
+use Rattle.sp_spec_formula.specs.Equate.{fails_to_equate}
+use Rattle.sp_spec_graph.specs.LinearOnce.{fails_to_link}
+use Rattle.sp_spec_graph.specs.FreshOnce.{fails_to_merge}
+use Rattle.sp_spec_system.specs.Move.{Context}
+use Rattle.sp_law_system.specs.Rules.{ActionsAreOver, RulesArePlain, IsClosedRule}
+use Rattle.sp_law_system.specs.Proofs.{HasNoSolution, IsContextOf, IsWellMade, IsKept}
+use Rattle.sp_law_cover.specs.Laws.{IsTurn, ContradictionsHold, RowsCover}
+use Rattle.sp_law_formula.proofs.Literals.{covers_by_itself, action_stands_covers, action_stands_numbered, unequal_covers, unequal_row_numbered, equal_pair_contradicts}
+use Rattle.sp_law_formula.proofs.Splitting.{split_covers, split_numbered, some_falsity_contradicts}
+use Rattle.sp_law_formula.proofs.Orders.{in_order_covers, in_order_numbered, cyclic_contradicts, some_refuted_contradicts}
+use Rattle.sp_law_formula.proofs.Equations.{equate_covers, equate_numbered, some_fails_contradicts}
+use Rattle.sp_law_formula.proofs.Disjunctions.{disjunction_covers, disjunction_numbered}
+use Rattle.sp_law_graph.proofs.LinearOnce.{linear_once_covers, linear_once_numbered, used_twice_contradicts, links_contradict}
+use Rattle.sp_law_formula.proofs.Taken.{instantiate_numbered}
+use Rattle.sp_law_formula.proofs.Instantiates.{instantiate_covers}
+use Rattle.sp_law_graph.proofs.FreshOnce.{merge_contradicts, fr_twice_contradicts, fresh_once_covers, fresh_once_numbered}
+use Rattle.sp_law_graph.proofs.FreshFirst.{fresh_first_covers, fresh_first_numbered}
+use Rattle.sp_law_formula.proofs.Opened.{EqualTruth, open_existential_covers}
+use Rattle.sp_law_formula.proofs.OpenedNumbers.{open_existential_numbered}
+
+-- one case after another
+pub covers_then : (theory : Theory) (s t : System) (cs : List System) → s.next ≤ t.next → Covers theory s (t ∷ []) → Covers theory t cs → Covers theory s cs
+covers_then theory s t cs le a b = record {
+  covers = λ log is v h none. a.covers log is v h ((λ w ag k. b.covers log is w k (moved log v w ag cs none)), tt);
+}
+  where
+    moved : (log : Log) (v w : Valuation) → Agrees s.next v w → (cs : List System) → NoneSolved theory log v s.next cs → NoneSolved theory log w t.next cs
+    moved log v w ag [] none = tt
+    moved log v w ag (c ∷ cs) none = ((λ x b k. none.0 x (agrees_then s.next t.next v w x le ag b) k), moved log v w ag cs none.1)
+
+pub covers_itself : (theory : Theory) (s : System) → Covers theory s (s ∷ [])
+covers_itself theory s = covers_by_itself theory s s (λ log is v h. h)
+
+module _ (right : UnifierIsRight) (theory : Theory) (good : AreConvergent (signature_of theory).equations) (keeps : KeepSymbols (signature_of theory).symbols (signature_of theory).equations)
+    (rules_plain : RulesArePlain (signature_of theory).equations theory.rules) (rules_closed : Every IsClosedRule theory.rules)
+    (over : ActionsAreOver theory) (equal_truth : EqualTruth) where
+  row_numbered : (row : Row) (s t : System) → by_row row s ≡ Some t → IsNumbered s → IsNumbered t × (s.next ≤ t.next)
+  row_numbered row_split s t e n = split_numbered s t e n
+  row_numbered row_open s t e n = open_existential_numbered s t e n
+  row_numbered row_equate s t e n = equate_numbered right s t e n
+  row_numbered row_unequal s t e n = unequal_row_numbered s t e n
+  row_numbered row_order s t e n = in_order_numbered s t e n
+  row_numbered row_action_stands s t e n = action_stands_numbered s t e n
+  row_numbered row_disjunction s t e n = disjunction_numbered s t e n
+  row_numbered row_linear_once s t e n = linear_once_numbered right theory s t e n
+  row_numbered row_fresh_once s t e n = fresh_once_numbered right theory s t e n
+  row_numbered row_fresh_first s t e n = fresh_first_numbered s t e n
+  row_numbered row_instantiate s t e n = instantiate_numbered s t e n
+
+  row_covers : (row : Row) (s t : System) → by_row row s ≡ Some t → IsNumbered s → Covers theory s (t ∷ [])
+  row_covers row_split s t e n = split_covers theory s t e
+  row_covers row_open s t e n = open_existential_covers theory good keeps equal_truth s t e n
+  row_covers row_equate s t e n = equate_covers right theory good s t e n
+  row_covers row_unequal s t e n = unequal_covers theory s t e
+  row_covers row_order s t e n = in_order_covers theory s t e
+  row_covers row_action_stands s t e n = action_stands_covers theory s t e
+  row_covers row_disjunction s t e n = disjunction_covers theory s t e
+  row_covers row_linear_once s t e n = linear_once_covers right theory s t e n
+  row_covers row_fresh_once s t e n = fresh_once_covers right theory s t e n
+  row_covers row_fresh_first s t e n = fresh_first_covers theory good rules_plain rules_closed s t e
+  row_covers row_instantiate s t e n = instantiate_covers theory good keeps over s t e n
+
+  pub rows_cover : RowsCover theory
+  rows_cover = record {
+    kept = λ context is_of row s t turn made.
+        let r = row_numbered row s t turn.gives made.numbered in
+        record { well_made = record { numbered = r.0 }; next = r.1 };
+    covers = λ context is_of row s t turn made. row_covers row s t turn.gives made.numbered;
+  }
+
+  pub no_solution : (s : System) → is_contradictory s ≡ true → IsNumbered s → HasNoSolution theory s
+  no_solution s e n log is v h =
+      either (has_falsity s.formulas) _ (λ k. some_falsity_contradicts theory log v s.formulas k h.formulas)
+      (λ a. either (has_equal_pair s.unequal) _ (λ k. equal_pair_contradicts theory v s.unequal k h.unequal)
+      (λ b. either (has_refuted s.order s.formulas) _ (λ k. some_refuted_contradicts log v s.order h.order theory s.formulas k h.formulas)
+      (λ c. either (is_cyclic s.order) _ (λ k. cyclic_contradicts log v s.order h.order k)
+      (λ d. either (has_source_twice s) _
+      (λ k. either (some_two (used_twice s.events) s.links) (takes_fr_twice s.events) (λ l. used_twice_contradicts theory log is v s l h) (λ l. fr_twice_contradicts theory log is v s.events l h.events) k)
+      (λ f. either (fails_to_equate s s.formulas) _ (λ k. some_fails_contradicts right theory good s n log v h s.formulas k h.formulas)
+      (λ g. either (fails_to_link s) (fails_to_merge s.events) (λ k. links_contradict right theory s n log is v h k)
+      (λ k. merge_contradicts right theory s k n log is v h) g) f) d) c) b) a) e
+    where
+      either : (a b : Bool) → (a ≡ true → ⊥) → (b ≡ true → ⊥) → (a || b) ≡ true → ⊥
+      either a b first second k = ⊎_elim first second (or_cases a b k)
+
+  pub contradictions_hold : ContradictionsHold theory
+  contradictions_hold = record { no_solution = λ context is_of s e made. no_solution s e made.numbered }
+
+-- rows that give nothing, and one more
+nothing_more : (earlier : List Row) (row : Row) (s : System) → by_rows earlier s ≡ None → by_row row s ≡ None → by_rows (earlier ++ row ∷ []) s ≡ None
+nothing_more [] row s e k = ap (λ (o : Option System). first_of o None) k
+nothing_more (r ∷ earlier) row s e k = at (by_row r s) refl e (λ l. nothing_more earlier row s l k)
+  where
+    at : (o : Option System) → by_row r s ≡ o → first_of o (by_rows earlier s) ≡ None → (by_rows earlier s ≡ None → by_rows (earlier ++ row ∷ []) s ≡ None)
+        → first_of o (by_rows (earlier ++ row ∷ []) s) ≡ None
+    at (Some t) h l later = absurd cc
+    at None h l later = later l
+
+-- the turn of the first row that applies, with the rows that have been tried by then
+turn_from : (s t : System) → is_contradictory s ≡ false → (earlier list : List Row) → rows ≡ earlier ++ list → by_rows earlier s ≡ None → by_rows list s ≡ Some t → (row : Row) × IsTurn s row t
+turn_from s t quiet earlier [] place nothing e = absurd cc
+turn_from s t quiet earlier (row ∷ list) place nothing e =
+    at (by_row row s) refl e (λ k l. turn_from s t quiet (earlier ++ row ∷ []) list (place ∙ sym (append_assoc earlier (row ∷ []) list)) (nothing_more earlier row s nothing k) l)
+  where
+    at : (o : Option System) → by_row row s ≡ o → first_of o (by_rows list s) ≡ Some t → (by_row row s ≡ None → by_rows list s ≡ Some t → (r : Row) × IsTurn s r t) → (r : Row) × IsTurn s r t
+    at (Some u) h k later =
+        let g : u ≡ t = cc in
+        (row, record { quiet = quiet; earlier = earlier; later = list; place = place; nothing = nothing; gives = h ∙ ap (λ (x : System). Some x) g })
+    at None h k later = later h k
+
+module _ (theory : Theory) (covering : RowsCover theory) (context : Context) (is_of : IsContextOf theory context) where
+  abbrev Follows : System → System → Type 0
+  Follows s t = IsKept context s t × Covers theory s (t ∷ [])
+
+  stays : (s : System) → IsWellMade context s → Follows s s
+  stays s made = (record { well_made = made; next = le_refl s.next }, covers_itself theory s)
+
+  pub simplified_follows : (fuel : ℕ) (s : System) → IsWellMade context s → Follows s (simplified_by fuel s)
+  unfolding simplified_by
+  simplified_follows zero s made = stays s made
+  simplified_follows (suc fuel) s made = at (is_contradictory s) (by_rows rows s) refl refl (λ t k. simplified_follows fuel t k)
+    where
+      at : (b : Bool) (o : Option System) → is_contradictory s ≡ b → by_rows rows s ≡ o → ((t : System) → IsWellMade context t → Follows t (simplified_by fuel t)) → Follows s (goes_on b o (simplified_by fuel) s)
+      at true o quiet h later = stays s made
+      at false None quiet h later = stays s made
+      at false (Some t) quiet h later =
+          let turn = turn_from s t quiet [] rows refl refl h in
+          let kept = covering.kept context is_of turn.0 s t turn.1 made in
+          let g = later t kept.well_made in (
+            record { well_made = g.0.well_made; next = le_trans kept.next g.0.next },
+            covers_then theory s t (simplified_by fuel t ∷ []) kept.next (covering.covers context is_of turn.0 s t turn.1 made) g.1,
+          )

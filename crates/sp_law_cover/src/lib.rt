@@ -1,0 +1,13 @@
+// No solution is lost: contradictions, rows and moves, one line for each.
+// Below stand the joins of rows and moves (sp_spec_proof) and the covering of each (sp_law_formula, sp_law_graph); above stands the tree
+// theorem (sp_law_tree).
+// It carries the promise that no solution is lost: each row covers in its turn, each move covers with its cases simplified, and a
+// contradiction has no solution. All is said of the definitions.
+#![tactic(auto)]
+
+ghost use Rattle.sp_law_cover.specs.Laws.{NothingIsLost};
+
+/// No solution of a system is lost by a row, a contradiction or a move.
+pub fn nothing_is_lost()
+    ensures { NothingIsLost }
+{}

@@ -1,0 +1,107 @@
+-- The move on an action covers: the entry at its time has the action, and it is the event's, or an instance of some rule.
+use Rattle.std.proofs.Common.{◌≡◌, ◌<◌, ◌+◌, ℕ, suc, List, [], ◌∷◌, ◌++◌, length, Option, Some, None, option_map, option_and_then, refl, sym, ap, ◌∙◌, subst, inl, inr, arith, codes, decimal}
+use Rattle.sp_spec.specs.Lists.{Member, Every, AtPosition}
+use Rattle.sp_spec.specs.Term.{Variable, var, Values, EachVariables}
+use Rattle.sp_spec.specs.Signature.{IsValue, IsValuation}
+use Rattle.sp_spec.specs.Equal.{IsNormal}
+use Rattle.sp_spec.specs.Rule.{Action, Facts, Rule, action_at, facts_at, InFacts}
+use Rattle.sp_spec.specs.Theory.{Theory, signature_of}
+use Rattle.sp_spec.specs.Log.{Log, step, Source}
+use Rattle.sp_spec.specs.Substitution.{Binding, bound_to}
+use Rattle.sp_spec.specs.Unifier.{mgu}
+use Rattle.sp_spec_system.specs.System.{rule_step, System, Event, with_events, with_next}
+use Rattle.sp_spec_system.specs.Solutions.{Valuation, HappensIn, Solves}
+use Rattle.sp_spec_system.specs.Numbered.{InEvent, IsNumbered}
+use Rattle.sp_spec_system.specs.Covering.{Agrees, NoneSolved}
+use Rattle.sp_law_system.specs.Laws.{UnifierIsRight}
+use Rattle.sp_spec_system.specs.Equating.{action_pair, unifier_of, system_changed}
+use Rattle.sp_spec.proofs.Lists.{every_append, every_parts}
+use Rattle.sp_law_system.proofs.Facts.{facts_same, facts_at-facts_at}
+use Rattle.sp_law_system.proofs.Numbers.{facts_valued, facts_weaken}
+use Rattle.sp_law_system.proofs.Merging.{Paired, action_paired}
+use Rattle.sp_law_system.proofs.Solutions.{Under, TimeUnder, agree_solves, change_solves}
+use Rattle.sp_spec_system.specs.Move.{Case}
+use Rattle.sp_spec_system.specs.Cases.{where_same, case_if, renamed, system_if, numbered, named}
+use Rattle.sp_spec_formula.specs.Action.{at_event, with_step, by_actions}
+use Rattle.sp_law_system.specs.Proofs.{systems_of}
+use Rattle.sp_law_formula.proofs.Entries.{beside, beside_agrees, beside_new, each_beside}
+use Rattle.sp_law_system.proofs.With.{events_solve, next_solves, events_numbered, next_numbered}
+
+-- the systems of named cases are those that were named
+numbered_systems : (name : List ℕ) (k : ℕ) (ss : List System) → systems_of (numbered name k ss) ≡ ss
+numbered_systems name k [] = refl
+numbered_systems name k (s ∷ ss) = ap (λ (xs : List System). s ∷ xs) (numbered_systems name (suc k) ss)
+
+pub named_systems : (name : List ℕ) (ss : List System) → systems_of (named name ss) ≡ ss
+named_systems name [] = refl
+named_systems name (s ∷ []) = refl
+named_systems name (s ∷ t ∷ ss) = numbered_systems name 1 (s ∷ t ∷ ss)
+
+pub systems_append : (xs ys : List Case) → systems_of (xs ++ ys) ≡ systems_of xs ++ systems_of ys
+systems_append [] ys = refl
+systems_append (x ∷ xs) ys = ap (λ (r : List System). x.system ∷ r) (systems_append xs ys)
+
+case_systems : (name : List ℕ) (o : Option System) → systems_of (case_if name o) ≡ system_if o
+case_systems name None = refl
+case_systems name (Some s) = refl
+
+-- the cases at an event, without their names
+pub at_event_systems : (s : System) (a : Action Variable) (n : ℕ) (bs : List (Action Variable)) → systems_of (at_event s a n bs) ≡ by_actions s a bs
+at_event_systems s a n [] = refl
+at_event_systems s a n (b ∷ bs) =
+    systems_append (case_if (codes "at_" ++ decimal n) (where_same s a b)) (at_event s a (suc n) bs)
+    ∙ ap (λ (xs : List System). xs ++ systems_of (at_event s a (suc n) bs)) (case_systems (codes "at_" ++ decimal n) (where_same s a b))
+    ∙ ap (λ (xs : List System). system_if (where_same s a b) ++ xs) (at_event_systems s a (suc n) bs)
+
+module _ (right : UnifierIsRight) (theory : Theory) (log : Log) where
+  -- the values of an instance of one action of a list solve the case for it
+  pub by_actions_solved : (s : System) (base : ℕ) (v w : Valuation) → Agrees base v w → IsNumbered s → Solves theory log w s → (a : Action Variable) (bs : List (Action Variable))
+      → EachVariables (Under s.next) a.args → Every (λ (b : Action Variable). EachVariables (Under s.next) b.args) bs
+      → (b : Action Variable) → Member b bs → action_at w.terms a ≡ action_at w.terms b → NoneSolved theory log v base (by_actions s a bs) → ⊥
+  by_actions_solved s base v w ag n h a [] ia ib b m e none = m
+  by_actions_solved s base v w ag n h a (c ∷ bs) ia ib b (inr m) e none =
+      by_actions_solved s base v w ag n h a bs ia ib.1 b m e (every_parts _ (system_if (where_same s a c)) (by_actions s a bs) none).1
+  by_actions_solved s base v w ag n h a (c ∷ bs) ia ib b (inl m) e none =
+      let same : action_at w.terms a ≡ action_at w.terms c = e ∙ ap (action_at w.terms) (sym m) in
+      let p = action_paired w.terms s.next a c ia ib.0 same in
+      at p (unifier_of (action_pair a c)) refl (every_parts _ (system_if (where_same s a c)) (by_actions s a bs) none).0
+    where
+      at : Paired w.terms s.next (action_pair a c) → (o : Option (List Binding)) → unifier_of (action_pair a c) ≡ o
+          → NoneSolved theory log v base (system_if (option_map (λ bs. system_changed (bound_to bs) (λ i. i) s) o)) → ⊥
+      at p None k l = right.none p.pairs (sym (ap (option_and_then mgu) p.there) ∙ k) w.terms (λ x. (h.sorts x).0) p.same
+      at p (Some bindings) k l =
+          let there : mgu p.pairs ≡ Some bindings = sym (ap (option_and_then mgu) p.there) ∙ k in
+          let fixes = right.fixes p.pairs bindings there w.terms (λ x. (h.sorts x).0) p.same in
+          l.0 w ag (change_solves theory log w bindings fixes (λ i. i) (λ i. refl) s n h)
+
+-- a new step of a rule
+module _ (theory : Theory) (s : System) (r : Rule) (i : ℕ) (i_under : i < s.next) (r_under : InFacts (λ x. x.number < length r.variables) r.facts) where
+  renamed_under : InFacts (Under (s.next + length r.variables)) (renamed s.next r.facts)
+  renamed_under = facts_valued (λ x. x.number < length r.variables) (Under (s.next + length r.variables)) _ (λ x h. omega (arith, h)) r.facts r_under
+
+  pub step_numbered : IsNumbered s → IsNumbered (with_step s i r)
+  step_numbered n =
+      let next = s.next + length r.variables in
+      let event : Event = record { time = i; happening = rule_step r.name (renamed s.next r.facts) } in
+      let m = next_numbered s n next (omega arith) in
+      let time : i < next = omega (arith, i_under) in
+      events_numbered (with_next s next) m (s.events ++ event ∷ []) (every_append (InEvent (Under next) (TimeUnder next)) s.events (event ∷ []) m.events ((time, renamed_under), tt))
+
+  module _ (log : Log) (v : Valuation) (h : Solves theory log v s) (n : IsNumbered s) (w : Values) (sorts : IsValuation (signature_of theory) w) (are_normal : (x : Variable) → IsNormal (signature_of theory).equations (w x))
+      (sources : List Source) (there : AtPosition log (v.times i) (step r.name (facts_at w r.facts) sources)) where
+    renamed_value : facts_at (beside s.next v w).terms (renamed s.next r.facts) ≡ facts_at w r.facts
+    renamed_value =
+        facts_at-facts_at (λ x. var (record { sort = x.sort; number = s.next + x.number })) (beside s.next v w).terms r.facts
+        ∙ facts_same _ w r.facts (facts_weaken _ _ (λ x k. beside_new s.next v w x) r.facts r_under)
+
+    pub step_solved : Solves theory log (beside s.next v w) (with_step s i r)
+    step_solved =
+        let a = beside_agrees s.next v w in
+        let old = agree_solves theory log s v (beside s.next v w) n a
+        (each_beside s.next v w (λ sort t. IsNormal (signature_of theory).equations t) h.normal are_normal) (each_beside s.next v w (IsValue (signature_of theory)) h.sorts sorts) h in
+        let here : AtPosition log ((beside s.next v w).times i) (step r.name (facts_at (beside s.next v w).terms (renamed s.next r.facts)) sources) =
+        subst (λ (f : Facts ⊥). AtPosition log ((beside s.next v w).times i) (step r.name f sources)) (sym renamed_value)
+        (subst (λ (p : ℕ). AtPosition log p (step r.name (facts_at w r.facts) sources)) (sym (a.times i i_under)) there) in
+        let event : Event = record { time = i; happening = rule_step r.name (renamed s.next r.facts) } in
+        let events = every_append (HappensIn log (beside s.next v w)) s.events (event ∷ []) old.events ((sources, here), tt) in
+        next_solves theory log (beside s.next v w) (with_events s (s.events ++ event ∷ [])) (events_solve theory log (beside s.next v w) s old (s.events ++ event ∷ []) events) (s.next + length r.variables)

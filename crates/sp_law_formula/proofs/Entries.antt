@@ -1,0 +1,94 @@
+-- What the log says of an entry: its actions, its rule, and the new event that stands for it.
+use Rattle.std.proofs.Common.{◌≡◌, ◌+◌, ◌-◌, ℕ, suc, Bool, true, false, if◌then◌else◌, List, [], ◌∷◌, map, length, refl, sym, ap, ◌∙◌, subst, inl, inr, arith, nat_lt, lt-ltb}
+use Rattle.std.proofs.lemmas.Bool.{ltb-true}
+use Rattle.sp_spec.specs.Lists.{Member, AtPosition}
+use Rattle.sp_spec.specs.Term.{Sort, Variable, Ground, Grounds, Values}
+use Rattle.sp_spec.specs.Signature.{Equation, IsValuation}
+use Rattle.sp_spec.specs.Equal.{AreNormal}
+use Rattle.sp_spec.specs.Rule.{Fact, Action, Facts, Rule, fact_at, action_at, facts_at, SameAction, AreNormalActions, IsNormalFormOf}
+use Rattle.sp_spec.specs.Theory.{Theory, signature_of}
+use Rattle.sp_spec.specs.Log.{Log, Entry, step, Source, entry_actions, log_trace, Fits, IsLog}
+use Rattle.sp_spec.proofs.Facts.{made_facts}
+use Rattle.sp_law_equal.specs.Convergent.{AreConvergent}
+use Rattle.sp_law_equal.specs.Normal.{normal_fact, normal_action}
+use Rattle.sp_law_equal.proofs.Forms.{normals}
+use Rattle.sp_law_equal.proofs.Values.{equal_all_normal_same}
+use Rattle.sp_law_equal.proofs.Facts.{facts_normal_form_only}
+use Rattle.sp_spec_system.specs.Solutions.{Valuation}
+use Rattle.sp_spec_system.specs.Covering.{Agrees}
+use Rattle.sp_law_system.specs.Rules.{FactsArePlain}
+use Rattle.sp_law_equal.proofs.PlainFacts.{plain_facts, plain_actions}
+
+pub length_trace : (log : Log) → length (log_trace log) ≡ length log
+length_trace [] = refl
+length_trace (e ∷ log) = ap suc (length_trace log)
+
+-- an entry of the log's trace is that of the log at the same position
+pub traced : (log : Log) (p : ℕ) (actions : List (Action ⊥)) → AtPosition (log_trace log) p actions → (e : Entry) × AtPosition log p e × (actions ≡ entry_actions e)
+traced [] p actions a = absurd a
+traced (e ∷ log) p actions (inl a) = (e, inl (a.0 ∙ length_trace log, refl), sym a.1)
+traced (e ∷ log) p actions (inr a) = let r = traced log p actions a in (r.0, inr r.1, r.2)
+
+-- the entry is an instance of a rule
+abbrev pub IsStepOf : Theory → List ℕ → Facts ⊥ → Type 0
+IsStepOf theory r facts =
+    (rule : Rule) × Member rule theory.rules × (rule.name ≡ r) × (v : Values) × IsValuation (signature_of theory) v × IsNormalFormOf (signature_of theory).equations (facts_at v rule.facts) facts
+
+pub entry_is_step : (theory : Theory) (log : Log) → IsLog theory log → (p : ℕ) (r : List ℕ) (facts : Facts ⊥) (sources : List Source) → AtPosition log p (step r facts sources) → IsStepOf theory r facts
+entry_is_step theory [] is p r facts sources a = absurd a
+entry_is_step theory (e ∷ log) is p r facts sources (inl a) = (subst (λ (x : Entry). Fits theory x log) a.1 is.1).0
+entry_is_step theory (e ∷ log) is p r facts sources (inr a) = entry_is_step theory log is.0 p r facts sources a
+
+-- the actions of a normal form are normal
+normal_among : (es : List Equation) (xs ys : List (Action ⊥)) → AreNormalActions es xs ys → (b : Action ⊥) → Member b ys → AreNormal es b.args
+normal_among es [] [] h b m = absurd m
+normal_among es [] (y ∷ ys) h b m = absurd h
+normal_among es (x ∷ xs) [] h b m = absurd m
+normal_among es (x ∷ xs) (y ∷ ys) h b (inl m) = subst (λ (z : Action ⊥). AreNormal es z.args) m h.1.1
+normal_among es (x ∷ xs) (y ∷ ys) h b (inr m) = normal_among es xs ys h.2 b m
+
+pub step_action_normal : (theory : Theory) (r : List ℕ) (facts : Facts ⊥) → IsStepOf theory r facts → (b : Action ⊥) → Member b facts.actions → AreNormal (signature_of theory).equations b.args
+step_action_normal theory r facts is b m = normal_among (signature_of theory).equations (facts_at is.3 is.0.facts).actions facts.actions is.5.actions b m
+
+-- two equal actions in normal form are the same
+pub same_normal_action : (es : List Equation) → AreConvergent es → (a b : Action ⊥) → AreNormal es a.args → AreNormal es b.args → SameAction es a b → a ≡ b
+same_normal_action es good a b m n h =
+    let e = equal_all_normal_same es good a.args b.args m n h.1 in
+    let make : List ℕ → Grounds → Action ⊥ = λ s ts. record { symbol = s; args = ts } in
+    ap (λ (s : List ℕ). make s a.args) h.0 ∙ ap (λ (ts : Grounds). make b.symbol ts) e
+
+-- The facts of a plain rule under values in normal form are the normal form of those under the values.
+module _ (es : List Equation) (good : AreConvergent es) (v : Values) where
+  pub plain_step : (facts : Facts Variable) → FactsArePlain es facts → (g : Facts ⊥) → IsNormalFormOf es (facts_at v facts) g → g ≡ facts_at (normals es v) facts
+  plain_step facts h g n =
+      facts_normal_form_only es good (facts_at v facts) g n
+      ∙ ap (λ (x : List (Fact ⊥)). made_facts x (map (normal_action es) (map (action_at v) facts.actions)) (map (normal_fact es) (map (fact_at v) facts.conclusions))) (plain_facts es good v facts.premises h.premises)
+      ∙ ap (λ (x : List (Action ⊥)). made_facts (map (fact_at (normals es v)) facts.premises) x (map (normal_fact es) (map (fact_at v) facts.conclusions))) (plain_actions es good v facts.actions h.actions)
+      ∙ ap (λ (x : List (Fact ⊥)). made_facts (map (fact_at (normals es v)) facts.premises) (map (action_at (normals es v)) facts.actions) x) (plain_facts es good v facts.conclusions h.conclusions)
+
+-- Values for the numbers from a next one on, beside those below it.
+pub beside : ℕ → Valuation → Values → Valuation
+beside next v w = record { terms = λ x. if nat_lt x.number next then v.terms x else w (record { sort = x.sort; number = x.number - next }); times = v.times }
+
+pub beside_agrees : (next : ℕ) (v : Valuation) (w : Values) → Agrees next v (beside next v w)
+unfolding beside
+beside_agrees next v w = record { terms = λ x h. rw (lt-ltb x.number next h) refl; times = λ i h. refl }
+
+pub beside_new : (next : ℕ) (v : Valuation) (w : Values) (x : Variable) → (beside next v w).terms (record { sort = x.sort; number = next + x.number }) ≡ w x
+unfolding beside
+beside_new next v w x = at (nat_lt (next + x.number) next) refl
+  where
+    at : (b : Bool) → nat_lt (next + x.number) next ≡ b
+        → (if b then v.terms (record { sort = x.sort; number = next + x.number }) else w (record { sort = x.sort; number = next + x.number - next })) ≡ w x
+    at true e = let l = ltb-true (next + x.number) next e in absurd (omega arith)
+    at false e =
+        let k : next + x.number - next ≡ x.number = omega arith in
+        ap (λ (n : ℕ). w (record { sort = x.sort; number = n })) k
+
+pub each_beside : (next : ℕ) (v : Valuation) (w : Values) (P : Sort → Ground → Type 0) → ((x : Variable) → P x.sort (v.terms x)) → ((x : Variable) → P x.sort (w x)) → (x : Variable) → P x.sort ((beside next v w).terms x)
+unfolding beside
+each_beside next v w P h k x = at (nat_lt x.number next)
+  where
+    at : (b : Bool) → P x.sort (if b then v.terms x else w (record { sort = x.sort; number = x.number - next }))
+    at true = h x
+    at false = k (record { sort = x.sort; number = x.number - next })

@@ -1,0 +1,188 @@
+-- The row on universal formulas covers: the values that it found are values of the binders, so the body holds at them.
+use Rattle.std.proofs.Common.{◌≡◌, ◌<◌, ℕ, true, List, [], ◌∷◌, map, length, Some, refl, sym, ap, ◌∙◌, subst, inl, inr, ◌++◌}
+use Rattle.sp_spec.specs.Lists.{Member, Every, AtPosition}
+use Rattle.sp_spec.specs.Term.{Sort, Msg, Fresh, Pub, Variable, Term, var, constant, name, app, Terms, Ground, Grounds, Values, valued, valued_all}
+use Rattle.sp_spec.specs.Signature.{HasSort, IsOver, AreOver, IsValuation}
+use Rattle.sp_spec.specs.Equal.{Equal, end, IsNormal, AreNormal}
+use Rattle.sp_spec.specs.Rule.{Action, action_at, facts_at, AreNormalActions}
+use Rattle.sp_spec.specs.Truth.{Acts}
+use Rattle.sp_spec.specs.Same.{same_sort}
+use Rattle.sp_spec.specs.Theory.{Theory, signature_of}
+use Rattle.sp_spec.specs.Guarded.{Place, free, bound, Binder, Atom, acts, same, same_time, before, last, Guarded, every, Assignment, action_in, term_in, time_in, AtomHolds, AtomsHold, EachValues, GuardedHolds}
+use Rattle.sp_spec.specs.Log.{Log, Entry, step, entry_actions, log_trace, IsLog}
+use Rattle.sp_law_equal.specs.Convergent.{AreConvergent, KeepSymbols}
+use Rattle.sp_law_equal.proofs.Chains.{same_action_refl}
+use Rattle.sp_law_equal.proofs.Over.{normal_all_over}
+use Rattle.sp_law_equal.proofs.Values.{normal_forms_same}
+use Rattle.sp_spec_system.specs.System.{Happening, rule_step, Event, System, happening_actions}
+use Rattle.sp_spec_system.specs.Solutions.{Valuation, assignment, HappensAt, HappensIn, AtomSettled, Settled, FormulaHolds, Solves}
+use Rattle.sp_spec_system.specs.Numbered.{InFormula, IsNumbered}
+use Rattle.sp_spec_system.specs.Covering.{Covers}
+use Rattle.sp_spec.proofs.Lists.{every_append, every_all, every_member, every_weaken, position_below, member_map, every_from}
+use Rattle.sp_law_system.proofs.Changing.{changed_same, settled_same}
+use Rattle.sp_law_system.proofs.Solutions.{Under, TimeUnder}
+use Rattle.sp_spec_formula.specs.Instantiate.{instantiate}
+use Rattle.sp_law_system.specs.Rules.{ActionsAreOver}
+use Rattle.sp_spec_formula.specs.Instances.{is_of_sort, instance}
+use Rattle.sp_law_formula.proofs.Literals.{covers_by_itself}
+use Rattle.sp_law_formula.proofs.Entries.{length_trace, entry_is_step, step_action_normal}
+use Rattle.sp_law_formula.proofs.Slots.{some_same, slot_sorts}
+use Rattle.sp_law_formula.proofs.Matches.{Inherited}
+use Rattle.sp_law_formula.proofs.Guards.{IsGoodSide, HasGoodSides, value_at_good, StandsIn, SidesAreSame, sides_same, IsGoodEvent}
+use Rattle.sp_law_formula.proofs.Bound.{grounds, assigned, AreValues, ArePositions, all_reached, terms_fit, times_fit, are_values, are_positions, instance_reads}
+use Rattle.sp_law_formula.proofs.Taken.{Taken, is_taken, is_universal}
+use Rattle.sp_law_system.proofs.With.{formulas_solve}
+
+-- the value is over the signature, and normal
+module _ (theory : Theory) (v : Valuation) where
+  abbrev pub IsFine : Term Variable → Type 0
+  IsFine t = IsOver (signature_of theory).symbols (valued v.terms t) × IsNormal (signature_of theory).equations (valued v.terms t)
+
+  abbrev pub AreFine : Terms Variable → Type 0
+  AreFine ts = AreOver (signature_of theory).symbols (valued_all v.terms ts) × AreNormal (signature_of theory).equations (valued_all v.terms ts)
+
+  pub fine_inherited : Inherited IsFine AreFine
+  fine_inherited = record { under = λ f ts h. (h.0.1, h.1.0); first = λ t ts h. (h.0.0, h.1.0); rest = λ t ts h. (h.0.1, h.1.1) }
+
+  -- a value of a variable's sort
+  value_of_sort : IsValuation (signature_of theory) v.terms → (sort : Sort) (u : Term Variable) → is_of_sort sort u ≡ true → HasSort sort (valued v.terms u)
+  value_of_sort sorts Msg u e = tt
+  value_of_sort sorts Fresh (var x) e = at x.sort e (sorts x).0
+    where
+      at : (s : Sort) → same_sort Fresh s ≡ true → HasSort s (v.terms x) → HasSort Fresh (v.terms x)
+      at Msg k h = absurd cc
+      at Fresh k h = h
+      at Pub k h = absurd cc
+  value_of_sort sorts Fresh (constant c) e = absurd cc
+  value_of_sort sorts Fresh (name n) e = absurd cc
+  value_of_sort sorts Fresh (app f ts) e = absurd cc
+  value_of_sort sorts Pub (var x) e = at x.sort e (sorts x).0
+    where
+      at : (s : Sort) → same_sort Pub s ≡ true → HasSort s (v.terms x) → HasSort Pub (v.terms x)
+      at Msg k h = absurd cc
+      at Fresh k h = absurd cc
+      at Pub k h = h
+  value_of_sort sorts Pub (constant c) e = tt
+  value_of_sort sorts Pub (name n) e = absurd cc
+  value_of_sort sorts Pub (app f ts) e = absurd cc
+
+module _ (theory : Theory) (v : Valuation) (sorts : IsValuation (signature_of theory) v.terms) (are_normal : (x : Variable) → IsNormal (signature_of theory).equations (v.terms x)) where
+  side_fine : (t : Term Place) → IsGoodSide (IsFine theory v) t
+  side_fine (var (free x)) s good u e = subst (IsFine theory v) (sym (some_same (var x) u e)) ((sorts x).1, are_normal x)
+  side_fine (var (bound k)) s good u e = value_at_good (IsFine theory v) s good k u e
+  side_fine (constant c) s good u e = subst (IsFine theory v) (sym (some_same (constant c) u e)) (tt, tt)
+  side_fine (name n) s good u e = subst (IsFine theory v) (sym (some_same (name n) u e)) (tt, tt)
+  side_fine (app f ts) s good u e = absurd cc
+
+  sides_fine : (a : Atom) → HasGoodSides (IsFine theory v) a
+  sides_fine (same t u) = (side_fine t, side_fine u)
+  sides_fine (acts a i) = tt
+  sides_fine (same_time i j) = tt
+  sides_fine (before i j) = tt
+  sides_fine (last i) = tt
+
+-- an entry of the log shows its actions at its position
+shown_at : (log : Log) (p : ℕ) (e : Entry) → AtPosition log p e → AtPosition (log_trace log) p (entry_actions e)
+shown_at [] p e a = absurd a
+shown_at (d ∷ log) p e (inl a) = inl (a.0 ∙ sym (length_trace log), ap entry_actions a.1)
+shown_at (d ∷ log) p e (inr a) = inr (shown_at log p e a)
+
+module _ (theory : Theory) (good : AreConvergent (signature_of theory).equations) (keeps : KeepSymbols (signature_of theory).symbols (signature_of theory).equations)
+    (rules_over : ActionsAreOver theory) (log : Log) (is : IsLog theory log) (v : Valuation) where
+  -- the normal forms of actions over the signature are over it
+  forms_over : (xs ys : List (Action ⊥)) → AreNormalActions (signature_of theory).equations xs ys → Every (λ (a : Action ⊥). AreOver (signature_of theory).symbols a.args) xs
+      → Every (λ (a : Action ⊥). AreOver (signature_of theory).symbols a.args) ys
+  forms_over [] [] n h = tt
+  forms_over [] (y ∷ ys) n h = absurd n
+  forms_over (x ∷ xs) [] n h = absurd n
+  forms_over (x ∷ xs) (y ∷ ys) n h = (
+    subst (λ (ts : Grounds). AreOver (signature_of theory).symbols ts) (sym (normal_forms_same (signature_of theory).equations good x.args y.args n.1))
+        (normal_all_over (signature_of theory).symbols (signature_of theory).equations keeps x.args h.0),
+    forms_over xs ys n.2 h.1,
+  )
+
+  -- the actions of an event are fine, and its time is a position
+  event_fine : (e : Event) → HappensIn log v e → IsGoodEvent (IsFine theory v) (AreFine theory v) (fine_inherited theory v) (λ i. v.times i < length log) e
+  event_fine e h = at e.happening h
+    where
+      at : (x : Happening) → HappensAt log (v.times e.time) v.terms x → (v.times e.time < length log) × Every (λ (b : Action Variable). AreFine theory v b.args) (happening_actions x)
+      at (rule_step r facts) h =
+          let step_of = entry_is_step theory log is (v.times e.time) r (facts_at v.terms facts) h.0 h.1 in
+          let over = forms_over (facts_at step_of.3 step_of.0.facts).actions (facts_at v.terms facts).actions step_of.5.actions (rules_over step_of.0 step_of.1 step_of.3 step_of.4) in (
+            position_below log (v.times e.time) _ h.1,
+            every_from (λ (b : Action Variable). AreFine theory v b.args) facts.actions (λ b k.
+                let k' = member_map (action_at v.terms) b facts.actions k in (
+                  every_member (λ (a : Action ⊥). AreOver (signature_of theory).symbols a.args) (facts_at v.terms facts).actions (action_at v.terms b) k' over,
+                  step_action_normal theory r (facts_at v.terms facts) step_of (action_at v.terms b) k',
+                )),
+          )
+
+  -- what a guard's atom says holds: an action is one of an event, which the log has
+  atom_holds : (m : Assignment) → m.terms ≡ v.terms → m.times ≡ v.times → (events : List Event) → Every (HappensIn log v) events → (a : Atom) → StandsIn events m a → SidesAreSame m a
+      → AtomHolds (signature_of theory) (log_trace log) m a
+  atom_holds m e k events h (acts a i) s d =
+      let es = (signature_of theory).equations in
+      let x = s.0 in
+      let found = at x.happening (every_member (HappensIn log v) events x s.1 h) s.3 in
+      let time : time_in m i ≡ v.times x.time = s.5 ∙ ap (λ (w : ℕ → ℕ). w x.time) k in
+      let action : action_in m a ≡ action_at v.terms s.2 = s.4 ∙ ap (λ (w : Values). action_at w s.2) e in
+      λ none. none (subst (λ (p : ℕ). Acts es (log_trace log) p (action_in m a)) (sym time) (subst (λ (b : Action ⊥). Acts es (log_trace log) (v.times x.time) b) (sym action) found))
+    where
+      at : (y : Happening) → HappensAt log (v.times s.0.time) v.terms y → Member s.2 (happening_actions y) → Acts (signature_of theory).equations (log_trace log) (v.times s.0.time) (action_at v.terms s.2)
+      at (rule_step r facts) l mb = (
+        (facts_at v.terms facts).actions,
+        shown_at log (v.times s.0.time) (step r (facts_at v.terms facts) l.0) l.1,
+        action_at v.terms s.2,
+        member_map (action_at v.terms) s.2 facts.actions mb,
+        same_action_refl (signature_of theory).equations (action_at v.terms s.2),
+      )
+  atom_holds m e k events h (same t u) s d = λ none. none (subst (λ (g : Ground). Equal (signature_of theory).equations (term_in m t) g) d end)
+  atom_holds m e k events h (same_time i j) s d = absurd d
+  atom_holds m e k events h (before i j) s d = absurd d
+  atom_holds m e k events h (last i) s d = absurd d
+
+  guard_holds : (m : Assignment) → m.terms ≡ v.terms → m.times ≡ v.times → (events : List Event) → Every (HappensIn log v) events → (atoms : List Atom)
+      → Every (StandsIn events m) atoms → Every (SidesAreSame m) atoms → AtomsHold (signature_of theory) (log_trace log) m atoms
+  guard_holds m e k events h [] s d = tt
+  guard_holds m e k events h (a ∷ atoms) s d = (atom_holds m e k events h a s.0 d.0, guard_holds m e k events h atoms s.1 d.1)
+
+  -- the body's instance holds and is settled
+  taken_holds : (s : System) (bs : List Binder) (guard : List Atom) (f g : Guarded) → Solves theory log v s → Taken (IsFine theory v) (λ i. v.times i < length log) s.events bs guard f g
+      → (A : Variable → Type 0) (B : ℕ → Type 0) → InFormula A B f → FormulaHolds theory log v (every bs guard f) → FormulaHolds theory log v g
+  taken_holds s bs guard f g h t A B i k =
+      let sig = signature_of theory in
+      let n = length log in
+      let gs = grounds v.terms t.values in
+      let ps = map v.times t.positions in
+      let m = assigned v gs ps in
+      let values : AreValues sig n v (slot_sorts t.terms) gs = are_values (IsFine theory v) sig n v t.terms t.values t.all_values t.good (λ sort u e q. ((value_of_sort theory v h.sorts sort u e, q.0), q.1)) in
+      let positions : ArePositions sig n v (length t.times) ps = are_positions (λ j. v.times j < length log) sig n v t.times t.positions t.all_positions t.good_times (λ j l. l) in
+      let reach = all_reached sig n v bs gs ps (subst (λ (sorts : List Sort). AreValues sig n v sorts gs) t.sorts values) (subst (λ (c : ℕ). ArePositions sig n v c ps) t.count positions) in
+      let terms_same = terms_fit v.terms t.terms t.values (λ j. constant []) t.all_values in
+      let times_same = times_fit v.times t.times t.positions (λ j. j) t.all_positions in
+      let guard_true = guard_holds m refl refl s.events h.events guard (t.stands m terms_same times_same) (sides_same m t.terms terms_same guard t.settled) in
+      let Body : Assignment → Type 0 = λ w. AtomsHold sig (log_trace log) w guard → GuardedHolds sig (log_trace log) w f in
+      let holds = reach.0 Body (subst (λ (c : ℕ). EachValues sig c bs Body (assignment v)) (length_trace log) k.0) guard_true in
+      let settled = reach.1 (λ w. Every (AtomSettled sig n w) guard × Settled sig n w f) k.1 in
+      let c = instance t.values t.positions in
+      let reads = instance_reads A B v t.values t.positions in
+      subst (FormulaHolds theory log v) (sym t.result) (
+        subst (λ (X : Type 0). X) (sym (changed_same A B sig (log_trace log) c (assignment v) m reads f i)) holds,
+        subst (λ (X : Type 0). X) (sym (settled_same A B sig n c (assignment v) m reads f i)) settled.1,
+      )
+
+pub instantiate_covers : (theory : Theory) → AreConvergent (signature_of theory).equations → KeepSymbols (signature_of theory).symbols (signature_of theory).equations → ActionsAreOver theory
+    → (s t : System) → instantiate s ≡ Some t → IsNumbered s → Covers theory s (t ∷ [])
+instantiate_covers theory good keeps over s t e n =
+    let r = is_universal s t e in
+    let g = r.0 in
+    let u = r.1 in
+    let f = every u.binders u.guard u.body in
+    let A = Under s.next in
+    let B = TimeUnder s.next in
+    covers_by_itself theory s t (λ log is v h.
+    let events = every_weaken _ _ (event_fine theory good keeps over log is v) s.events h.events in
+    let taken = is_taken (IsFine theory v) (AreFine theory v) (fine_inherited theory v) (λ i. v.times i < length log) s u.binders u.guard u.body g events (every_all (HasGoodSides (IsFine theory v)) (sides_fine theory v h.sorts h.normal) u.guard) u.instantiated in
+    let new = taken_holds theory good keeps over log is v s u.binders u.guard u.body g h taken A B (every_member (InFormula A B) s.formulas f u.member n.formulas).1 (every_member (FormulaHolds theory log v) s.formulas f u.member h.formulas) in
+    subst (Solves theory log v) (sym r.2)
+    (formulas_solve theory log v s h (s.formulas ++ g ∷ []) (every_append (FormulaHolds theory log v) s.formulas (g ∷ []) h.formulas (new, tt))))

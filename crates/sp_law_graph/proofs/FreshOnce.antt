@@ -1,0 +1,138 @@
+-- Two events that use the same Fr are one entry of the log: the row makes them one, and where it can't there is no solution.
+use Rattle.std.proofs.Common.{◌≡◌, ◌≤◌, ℕ, Bool, true, false, if◌then◌else◌, List, [], ◌∷◌, ◌++◌, map, Option, Some, None, is_none, refl, sym, ap, ◌∙◌, subst, inl, inr, ⊎_elim}
+use Rattle.std.proofs.lemmas.Bool.{or_cases, and_parts}
+use Rattle.sp_spec.specs.Lists.{Member, Every, Distinct, AtPosition}
+use Rattle.sp_spec.specs.Term.{Variable, Term, Terms, none, more, Ground, Values, valued, valued_all}
+use Rattle.sp_spec.specs.Rule.{Fact, fact_at, facts_at}
+use Rattle.sp_spec.specs.Theory.{Theory}
+use Rattle.sp_spec.specs.Same.{alike}
+use Rattle.sp_spec.specs.Substitution.{Binding}
+use Rattle.sp_spec.specs.Log.{Log, Entry, step, IsLog, is_fr, first_arg, fresh_of, fresh_uses, all_fresh_uses}
+use Rattle.sp_spec.proofs.Lists.{member_map, member_left, member_right, distinct_apart, distinct_left}
+use Rattle.sp_spec_system.specs.System.{Happening, rule_step, Event, System}
+use Rattle.sp_spec_system.specs.Solutions.{Valuation, HappensAt, HappensIn, Solves}
+use Rattle.sp_spec_system.specs.Numbered.{InEvent, IsNumbered}
+use Rattle.sp_spec_system.specs.Covering.{Covers}
+use Rattle.sp_law_system.specs.Laws.{UnifierIsRight}
+use Rattle.sp_spec_system.specs.Equating.{merging_pairs, unifier_of}
+use Rattle.sp_law_system.proofs.Solutions.{Under, TimeUnder}
+use Rattle.sp_spec_graph.specs.Fresh.{first_term, fresh_terms, happening_fresh, stands_in, share_one, shares_fresh}
+use Rattle.sp_spec_graph.specs.SourceTwice.{repeats, takes_fr_twice}
+use Rattle.sp_spec_graph.specs.FreshOnce.{first_twins, fresh_once, cannot_merge, fails_with, fails_to_merge}
+use Rattle.sp_spec_system.specs.MakingOne.{merged_twins}
+use Rattle.sp_spec.proofs.Options.{then_some}
+use Rattle.sp_law_formula.proofs.Literals.{alike_same, covers_by_itself}
+use Rattle.sp_law_formula.proofs.Twins.{twins_are, one_happening, respects, unifier_there, SolvedBy, NumberedFrom, merged_solved, merged_numbered}
+
+-- the Fr that an entry of the log uses is among those that the log uses
+uses_among : (log : Log) (p : ℕ) (e : Entry) (t : Ground) → AtPosition log p e → Member t (fresh_uses e) → Member t (all_fresh_uses log)
+uses_among [] p e t a m = absurd a
+uses_among (d ∷ log) p e t (inl a) m = member_left t (fresh_uses d) (all_fresh_uses log) (subst (λ (x : Entry). Member t (fresh_uses x)) (sym a.1) m)
+uses_among (d ∷ log) p e t (inr a) m = member_right t (fresh_uses d) (all_fresh_uses log) (uses_among log p e t a m)
+
+-- two entries that use one Fr are at one position
+pub one_position : (theory : Theory) (log : Log) → IsLog theory log → (p q : ℕ) (d e : Entry) (t : Ground) → AtPosition log p d → AtPosition log q e → Member t (fresh_uses d) → Member t (fresh_uses e) → p ≡ q
+one_position theory [] is p q d e t a b m k = absurd a
+one_position theory (z ∷ log) is p q d e t (inl a) (inl b) m k = a.0 ∙ sym b.0
+one_position theory (z ∷ log) is p q d e t (inl a) (inr b) m k =
+    absurd (distinct_apart t (fresh_uses z) (all_fresh_uses log) is.2 (subst (λ (x : Entry). Member t (fresh_uses x)) (sym a.1) m) (uses_among log q e t b k))
+one_position theory (z ∷ log) is p q d e t (inr a) (inl b) m k =
+    absurd (distinct_apart t (fresh_uses z) (all_fresh_uses log) is.2 (subst (λ (x : Entry). Member t (fresh_uses x)) (sym b.1) k) (uses_among log p d t a m))
+one_position theory (z ∷ log) is p q d e t (inr a) (inr b) m k = one_position theory log is.0 p q d e t a b m k
+
+-- the names that the instance uses are the values of the terms whose Fr the premises use
+pub fresh_values : (v : Values) (fs : List (Fact Variable)) → fresh_of (map (fact_at v) fs) ≡ map (valued v) (fresh_terms fs)
+fresh_values v [] = refl
+fresh_values v (f ∷ fs) = at (is_fr f) f.args (fresh_values v fs)
+  where
+    at : (b : Bool) (ts : Terms Variable) → fresh_of (map (fact_at v) fs) ≡ map (valued v) (fresh_terms fs)
+        → (if b then first_arg (valued_all v ts) else []) ++ fresh_of (map (fact_at v) fs) ≡ map (valued v) ((if b then first_term ts else []) ++ fresh_terms fs)
+    at true none rest = rest
+    at true (more t ts) rest = ap (λ (xs : List Ground). valued v t ∷ xs) rest
+    at false ts rest = rest
+
+pub fresh_member : (v : Values) (t : Term Variable) (fs : List (Fact Variable)) → Member t (fresh_terms fs) → Member (valued v t) (fresh_of (map (fact_at v) fs))
+fresh_member v t fs m = subst (Member (valued v t)) (sym (fresh_values v fs)) (member_map (valued v) t (fresh_terms fs) m)
+
+stands_member : (t : Term Variable) (us : List (Term Variable)) → stands_in t us ≡ true → Member t us
+stands_member t [] e = absurd cc
+stands_member t (u ∷ us) e = ⊎_elim (λ k. inl (sym (alike_same t u k))) (λ k. inr (stands_member t us k)) (or_cases (alike t u) (stands_in t us) e)
+
+shared_member : (ts us : List (Term Variable)) → share_one ts us ≡ true → (t : Term Variable) × Member t ts × Member t us
+shared_member [] us e = absurd cc
+shared_member (t ∷ ts) us e =
+    ⊎_elim
+    (λ k. (t, inl refl, stands_member t us k))
+    (λ k. let r = shared_member ts us k in (r.0, inr r.1, r.2))
+    (or_cases (stands_in t us) (share_one ts us) e)
+
+-- two happenings that use one Fr are at one position
+one_time : (theory : Theory) (log : Log) → IsLog theory log → (v : Values) (p q : ℕ) (a b : Happening) → HappensAt log p v a → HappensAt log q v b → share_one (happening_fresh a) (happening_fresh b) ≡ true → p ≡ q
+one_time theory log is v p q (rule_step r f) (rule_step u g) h k s =
+    let t = shared_member (fresh_terms f.premises) (fresh_terms g.premises) s in
+    one_position theory log is p q (step r (facts_at v f) h.0) (step u (facts_at v g) k.0) (valued v t.0) h.1 k.1 (fresh_member v t.0 f.premises t.1) (fresh_member v t.0 g.premises t.2)
+
+one_event : (theory : Theory) (log : Log) → IsLog theory log → (v : Valuation) (d e : Event) → HappensIn log v d → HappensIn log v e → shares_fresh d e ≡ true → v.times d.time ≡ v.times e.time
+one_event theory log is v d e h k s = one_time theory log is v.terms (v.times d.time) (v.times e.time) d.happening e.happening h k s
+
+module _ (right : UnifierIsRight) (theory : Theory) where
+  pub fresh_once_covers : (s t : System) → fresh_once s ≡ Some t → IsNumbered s → Covers theory s (t ∷ [])
+  fresh_once_covers s t e n =
+      let q = then_some (merged_twins s) (first_twins s.events) t e in
+      covers_by_itself theory s t (λ log is v h.
+      let solved = twins_are shares_fresh (HappensIn log v) s.events q.0 q.1 h.events in
+      let same = one_event theory log is v q.0.first q.0.second solved.first solved.second solved.one in
+      subst (SolvedBy theory log v) q.2 (merged_solved right shares_fresh s n q.0 q.1 theory log v h same))
+
+  pub fresh_once_numbered : (s t : System) → fresh_once s ≡ Some t → IsNumbered s → IsNumbered t × (s.next ≤ t.next)
+  fresh_once_numbered s t e n =
+      let q = then_some (merged_twins s) (first_twins s.events) t e in
+      subst (NumberedFrom s.next) q.2 (merged_numbered right shares_fresh s n q.0 q.1)
+
+  -- Failing merge: any two events that use one Fr are one, so that their facts have a unifier.
+  module _ (s : System) (log : Log) (is : IsLog theory log) (v : Valuation) (h : Solves theory log v s) where
+    two_contradict : (e d : Event) → cannot_merge e d ≡ true → HappensIn log v e → HappensIn log v d → InEvent (Under s.next) (TimeUnder s.next) e → InEvent (Under s.next) (TimeUnder s.next) d → ⊥
+    two_contradict e d c a b i j =
+        let both = and_parts (shares_fresh e d) (is_none (unifier_of (merging_pairs e.happening d.happening))) c in
+        let paired = one_happening log v.terms s.next (v.times e.time) (v.times d.time) e.happening d.happening (one_event theory log is v e d a b both.0) a b i.1 j.1 in
+        at (unifier_of (merging_pairs e.happening d.happening)) both.1 (unifier_there right v.terms s.next (merging_pairs e.happening d.happening) (respects theory log v s h) paired)
+      where
+        at : (o : Option (List Binding)) → is_none o ≡ true → (o ≡ None → ⊥) → ⊥
+        at None k l = l refl
+        at (Some bs) k l = cc
+
+    with_contradicts : (e : Event) (es : List Event) → fails_with e es ≡ true → HappensIn log v e → Every (HappensIn log v) es → InEvent (Under s.next) (TimeUnder s.next) e → Every (InEvent (Under s.next) (TimeUnder s.next)) es → ⊥
+    with_contradicts e [] f a b i j = absurd cc
+    with_contradicts e (d ∷ es) f a b i j =
+        ⊎_elim (λ c. two_contradict e d c a b.0 i j.0) (λ c. with_contradicts e es c a b.1 i j.1) (or_cases (cannot_merge e d) (fails_with e es) f)
+
+    some_contradict : (es : List Event) → fails_to_merge es ≡ true → Every (HappensIn log v) es → Every (InEvent (Under s.next) (TimeUnder s.next)) es → ⊥
+    some_contradict [] f a i = absurd cc
+    some_contradict (e ∷ es) f a i =
+        ⊎_elim (λ c. with_contradicts e es c a.0 a.1 i.0 i.1) (λ c. some_contradict es c a.1 i.1) (or_cases (fails_with e es) (fails_to_merge es) f)
+
+  pub merge_contradicts : (s : System) → fails_to_merge s.events ≡ true → IsNumbered s → (log : Log) → IsLog theory log → (v : Valuation) → Solves theory log v s → ⊥
+  merge_contradicts s e n log is v h = some_contradict s log is v h s.events e h.events n.events
+
+-- Source used twice: an entry uses no Fr twice.
+entry_distinct : (theory : Theory) (log : Log) → IsLog theory log → (p : ℕ) (e : Entry) → AtPosition log p e → Distinct (fresh_uses e)
+entry_distinct theory [] is p e a = absurd a
+entry_distinct theory (d ∷ log) is p e (inl a) = subst (λ (x : Entry). Distinct (fresh_uses x)) a.1 (distinct_left (fresh_uses d) (all_fresh_uses log) is.2)
+entry_distinct theory (d ∷ log) is p e (inr a) = entry_distinct theory log is.0 p e a
+
+repeats_contradicts : (v : Values) (ts : List (Term Variable)) → repeats ts ≡ true → Distinct (map (valued v) ts) → ⊥
+repeats_contradicts v [] e d = absurd cc
+repeats_contradicts v (t ∷ ts) e d =
+    ⊎_elim (λ k. d.0 (member_map (valued v) t ts (stands_member t ts k))) (λ k. repeats_contradicts v ts k d.1) (or_cases (stands_in t ts) (repeats ts) e)
+
+fr_contradicts : (theory : Theory) (log : Log) → IsLog theory log → (v : Values) (p : ℕ) (a : Happening) → HappensAt log p v a → repeats (happening_fresh a) ≡ true → ⊥
+fr_contradicts theory log is v p (rule_step r f) h e =
+    repeats_contradicts v (fresh_terms f.premises) e (subst Distinct (fresh_values v f.premises) (entry_distinct theory log is p (step r (facts_at v f) h.0) h.1))
+
+pub fr_twice_contradicts : (theory : Theory) (log : Log) → IsLog theory log → (v : Valuation) (es : List Event) → takes_fr_twice es ≡ true → Every (HappensIn log v) es → ⊥
+fr_twice_contradicts theory log is v [] e h = absurd cc
+fr_twice_contradicts theory log is v (d ∷ es) e h =
+    ⊎_elim
+    (λ k. fr_contradicts theory log is v.terms (v.times d.time) d.happening h.0 k)
+    (λ k. fr_twice_contradicts theory log is v es k h.1)
+    (or_cases (repeats (happening_fresh d.happening)) (takes_fr_twice es) e)

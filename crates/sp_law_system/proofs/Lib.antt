@@ -1,0 +1,13 @@
+pub mod Bindings
+pub mod Changing
+pub mod Facts
+pub mod Merging
+pub mod Numbers
+pub mod ShortPaths
+pub mod Solutions
+pub mod TermValues
+pub mod Unchanged
+pub mod Unifier
+pub mod Unifying
+pub mod With
+pub mod Forms

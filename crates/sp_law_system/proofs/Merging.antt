@@ -1,0 +1,143 @@
+-- Facts that have the same values give pairs that have, and so two events that are one entry of a log can be made one.
+use Rattle.std.proofs.Common.{◌≡◌, ℕ, Bool, true, false, ◌&&◌, if◌then◌else◌, List, [], ◌∷◌, ◌++◌, map, Option, Some, None, option_map, refl, sym, ap}
+use Rattle.std.proofs.lemmas.Slice.Eq.{bytes_eq-Decides}
+use Rattle.std.specs.Str.{bytes_eq}
+use Rattle.sp_spec.specs.Lists.{Every}
+use Rattle.sp_spec.specs.Term.{Variable, Terms, none, more, Values, valued, valued_all, EachVariables}
+use Rattle.sp_spec.specs.Rule.{Fact, Action, Facts, fact_at, action_at, facts_at, InFacts}
+use Rattle.sp_spec.specs.Unifier.{Pair, MakesSame}
+use Rattle.sp_spec_system.specs.System.{Happening, rule_step}
+use Rattle.sp_spec_system.specs.Numbered.{InHappening}
+use Rattle.sp_law_system.specs.Laws.{PairsUnder}
+use Rattle.sp_spec_system.specs.Equating.{argument_pairs, same_flag, both_pairs, fact_pairs, action_pair, action_pairs, merging_pairs}
+use Rattle.sp_spec.proofs.Lists.{every_append}
+use Rattle.sp_law_system.proofs.Solutions.{Under}
+
+-- pairs that are there, have one value each, and have numbers below the limit
+pub record Paired (v : Values) (n : ℕ) (o : Option (List Pair)) : Type 0 where
+  pub pairs : List Pair
+  pub there : o ≡ Some pairs
+  pub same : MakesSame v pairs
+  pub under : PairsUnder n pairs
+
+same_append : (v : Values) (ps qs : List Pair) → MakesSame v ps → MakesSame v qs → MakesSame v (ps ++ qs)
+same_append v [] qs h k = k
+same_append v (p ∷ ps) qs h k = (h.0, same_append v ps qs h.1 k)
+
+both_paired : (v : Values) (n : ℕ) (o u : Option (List Pair)) → Paired v n o → Paired v n u → Paired v n (both_pairs o u)
+both_paired v n o u a b = record {
+  pairs = a.pairs ++ b.pairs;
+  there = cc (a.there, b.there);
+  same = same_append v a.pairs b.pairs a.same b.same;
+  under = every_append _ a.pairs b.pairs a.under b.under;
+}
+
+pub argument_paired : (v : Values) (n : ℕ) (ts us : Terms Variable) → EachVariables (Under n) ts → EachVariables (Under n) us → valued_all v ts ≡ valued_all v us → Paired v n (argument_pairs ts us)
+argument_paired v n none none a b e = record { pairs = []; there = refl; same = tt; under = tt }
+argument_paired v n none (more u us) a b e = absurd cc
+argument_paired v n (more t ts) none a b e = absurd cc
+argument_paired v n (more t ts) (more u us) a b e =
+    let tail : valued_all v ts ≡ valued_all v us = cc in
+    let head : valued v t ≡ valued v u = cc in
+    let r = argument_paired v n ts us a.1 b.1 tail in
+    let p : Pair = (t, u) in
+    record {
+      pairs = p ∷ r.pairs;
+      there = ap (option_map (λ (pairs : List Pair). p ∷ pairs)) r.there;
+      same = (head, r.same);
+      under = ((a.0, b.0), r.under);
+    }
+
+same_text : (c d : List ℕ) → c ≡ d → bytes_eq c d ≡ true
+same_text c d e = (bytes_eq-Decides c d).1 e
+
+pub flag_same : (a b : Bool) → a ≡ b → same_flag a b ≡ true
+flag_same true b e = sym e
+flag_same false true e = absurd cc
+flag_same false false e = refl
+
+pub fact_paired : (v : Values) (n : ℕ) (fs gs : List (Fact Variable)) → Every (λ (f : Fact Variable). EachVariables (Under n) f.args) fs → Every (λ (f : Fact Variable). EachVariables (Under n) f.args) gs
+    → map (fact_at v) fs ≡ map (fact_at v) gs → Paired v n (fact_pairs fs gs)
+fact_paired v n [] [] a b e = record { pairs = []; there = refl; same = tt; under = tt }
+fact_paired v n [] (g ∷ gs) a b e = absurd cc
+fact_paired v n (f ∷ fs) [] a b e = absurd cc
+fact_paired v n (f ∷ fs) (g ∷ gs) a b e =
+    let head : fact_at v f ≡ fact_at v g = cc in
+    let tail : map (fact_at v) fs ≡ map (fact_at v) gs = cc in
+    let symbol : f.symbol ≡ g.symbol = ap (λ (x : Fact ⊥). x.symbol) head in
+    let flag : f.persistent ≡ g.persistent = ap (λ (x : Fact ⊥). x.persistent) head in
+    let args : valued_all v f.args ≡ valued_all v g.args = ap (λ (x : Fact ⊥). x.args) head in
+    let r = both_paired v n _ _ (argument_paired v n f.args g.args a.0 b.0 args) (fact_paired v n fs gs a.1 b.1 tail) in
+    rw (same_text f.symbol g.symbol symbol, flag_same f.persistent g.persistent flag) r
+
+pub action_paired : (v : Values) (n : ℕ) (a b : Action Variable) → EachVariables (Under n) a.args → EachVariables (Under n) b.args → action_at v a ≡ action_at v b → Paired v n (action_pair a b)
+action_paired v n a b k l e =
+    let symbol : a.symbol ≡ b.symbol = ap (λ (x : Action ⊥). x.symbol) e in
+    let args : valued_all v a.args ≡ valued_all v b.args = ap (λ (x : Action ⊥). x.args) e in
+    rw (same_text a.symbol b.symbol symbol) (argument_paired v n a.args b.args k l args)
+
+actions_paired : (v : Values) (n : ℕ) (xs ys : List (Action Variable)) → Every (λ (a : Action Variable). EachVariables (Under n) a.args) xs → Every (λ (a : Action Variable). EachVariables (Under n) a.args) ys
+    → map (action_at v) xs ≡ map (action_at v) ys → Paired v n (action_pairs xs ys)
+actions_paired v n [] [] a b e = record { pairs = []; there = refl; same = tt; under = tt }
+actions_paired v n [] (y ∷ ys) a b e = absurd cc
+actions_paired v n (x ∷ xs) [] a b e = absurd cc
+actions_paired v n (x ∷ xs) (y ∷ ys) a b e =
+    let head : action_at v x ≡ action_at v y = cc in
+    let tail : map (action_at v) xs ≡ map (action_at v) ys = cc in
+    both_paired v n _ _ (action_paired v n x y a.0 b.0 head) (actions_paired v n xs ys a.1 b.1 tail)
+
+-- Two steps of one rule whose facts have the same values.
+pub merging_paired : (v : Values) (n : ℕ) (r q : List ℕ) (f g : Facts Variable) → InFacts (Under n) f → InFacts (Under n) g → r ≡ q → facts_at v f ≡ facts_at v g
+    → Paired v n (merging_pairs (rule_step r f) (rule_step q g))
+merging_paired v n r q f g a b named e =
+    let p = fact_paired v n f.premises g.premises a.premises b.premises (ap (λ (x : Facts ⊥). x.premises) e) in
+    let s = actions_paired v n f.actions g.actions a.actions b.actions (ap (λ (x : Facts ⊥). x.actions) e) in
+    let c = fact_paired v n f.conclusions g.conclusions a.conclusions b.conclusions (ap (λ (x : Facts ⊥). x.conclusions) e) in
+    rw (same_text r q named) (both_paired v n _ _ p (both_paired v n _ _ s c))
+
+-- The pairs' variables are those of the facts.
+abbrev pub OptionUnder : ℕ → Option (List Pair) → Type 0
+OptionUnder n None = Unit {0}
+OptionUnder n (Some pairs) = PairsUnder n pairs
+
+both_under : (n : ℕ) (o u : Option (List Pair)) → OptionUnder n o → OptionUnder n u → OptionUnder n (both_pairs o u)
+both_under n None u a b = tt
+both_under n (Some ps) None a b = tt
+both_under n (Some ps) (Some qs) a b = every_append _ ps qs a b
+
+if_under : (n : ℕ) (b : Bool) (o : Option (List Pair)) → OptionUnder n o → OptionUnder n (if b then o else None)
+if_under n true o a = a
+if_under n false o a = tt
+
+one_more_under : (n : ℕ) (p : Pair) (o : Option (List Pair)) → PairsUnder n (p ∷ []) → OptionUnder n o → OptionUnder n (option_map (λ (pairs : List Pair). p ∷ pairs) o)
+one_more_under n p None h k = tt
+one_more_under n p (Some ps) h k = (h.0, k)
+
+pub argument_under : (n : ℕ) (ts us : Terms Variable) → EachVariables (Under n) ts → EachVariables (Under n) us → OptionUnder n (argument_pairs ts us)
+argument_under n none none a b = tt
+argument_under n none (more u us) a b = tt
+argument_under n (more t ts) none a b = tt
+argument_under n (more t ts) (more u us) a b = one_more_under n (t, u) (argument_pairs ts us) ((a.0, b.0), tt) (argument_under n ts us a.1 b.1)
+
+fact_under : (n : ℕ) (fs gs : List (Fact Variable)) → Every (λ (f : Fact Variable). EachVariables (Under n) f.args) fs → Every (λ (f : Fact Variable). EachVariables (Under n) f.args) gs → OptionUnder n (fact_pairs fs gs)
+fact_under n [] [] a b = tt
+fact_under n [] (g ∷ gs) a b = tt
+fact_under n (f ∷ fs) [] a b = tt
+fact_under n (f ∷ fs) (g ∷ gs) a b =
+    if_under n (bytes_eq f.symbol g.symbol && same_flag f.persistent g.persistent) (both_pairs (argument_pairs f.args g.args) (fact_pairs fs gs))
+    (both_under n (argument_pairs f.args g.args) (fact_pairs fs gs) (argument_under n f.args g.args a.0 b.0) (fact_under n fs gs a.1 b.1))
+
+pub action_under : (n : ℕ) (a b : Action Variable) → EachVariables (Under n) a.args → EachVariables (Under n) b.args → OptionUnder n (action_pair a b)
+action_under n a b h k = if_under n (bytes_eq a.symbol b.symbol) (argument_pairs a.args b.args) (argument_under n a.args b.args h k)
+
+actions_under : (n : ℕ) (xs ys : List (Action Variable)) → Every (λ (a : Action Variable). EachVariables (Under n) a.args) xs → Every (λ (a : Action Variable). EachVariables (Under n) a.args) ys → OptionUnder n (action_pairs xs ys)
+actions_under n [] [] a b = tt
+actions_under n [] (y ∷ ys) a b = tt
+actions_under n (x ∷ xs) [] a b = tt
+actions_under n (x ∷ xs) (y ∷ ys) a b = both_under n (action_pair x y) (action_pairs xs ys) (action_under n x y a.0 b.0) (actions_under n xs ys a.1 b.1)
+
+pub merging_under : (n : ℕ) (a b : Happening) → InHappening (Under n) a → InHappening (Under n) b → OptionUnder n (merging_pairs a b)
+merging_under n (rule_step r f) (rule_step q g) a b =
+    if_under n (bytes_eq r q) (both_pairs (fact_pairs f.premises g.premises) (both_pairs (action_pairs f.actions g.actions) (fact_pairs f.conclusions g.conclusions)))
+    (both_under n (fact_pairs f.premises g.premises) (both_pairs (action_pairs f.actions g.actions) (fact_pairs f.conclusions g.conclusions)) (fact_under n f.premises g.premises a.premises b.premises)
+    (both_under n (action_pairs f.actions g.actions) (fact_pairs f.conclusions g.conclusions) (actions_under n f.actions g.actions a.actions b.actions) (fact_under n f.conclusions g.conclusions a.conclusions b.conclusions)))

@@ -1,0 +1,137 @@
+-- A written rule of a plain theory without findings stands for a closed one: it takes no message in, and what is in its conclusions is
+-- public or stands in its premises, and each Fr is of a variable of sort fresh.
+use Rattle.std.proofs.Common.{◌≡◌, ◌⊎◌, ℕ, Bool, true, false, not, ◌&&◌, ◌||◌, List, [], ◌∷◌, ◌++◌, map, codes, refl, sym, ap, inl, inr, bytes_eq, ⊎_elim}
+use Rattle.std.proofs.lemmas.Bool.{or_cases, or_left, or_right, or_parts}
+use Rattle.std.proofs.lemmas.Slice.Eq.{bytes_eq-Decides}
+use Rattle.sp_spec.specs.Lists.{Every}
+use Rattle.sp_spec.specs.Term.{Sort, Msg, Fresh, Pub, Variable, Term, var, constant, name, app, Terms, none, more, valued, valued_all, EachVariable, EachVariables}
+use Rattle.sp_spec.specs.Rule.{Fact, Facts, fact_at}
+use Rattle.sp_spec.specs.Formula.{Written}
+use Rattle.sp_spec.specs.Written.{WrittenRule, in_term, in_terms, in_facts, in_actions, occurrences, rule_names, place_of, numbered_in, sort_in, rule_of}
+use Rattle.sp_spec.specs.Findings.{has_wide_fact, has_wide_action, has_two_sorts, has_wrong_premise, has_fr, has_wrong_argument, is_pub, is_named, has_unbound, rule_is_wrong}
+use Rattle.sp_spec.proofs.Lists.{every_map, every_weaken}
+use Rattle.sp_spec_system.specs.System.{is_in}
+use Rattle.sp_law_system.specs.Rules.{StandsIn, StandsAmong, HasVariable, IsNameless, AreNameless, IsClosedRule}
+use Rattle.sp_law_tree.specs.PlainTheory.{IsAtomic, AreAtomic, IsPlainFact, IsPlainRule}
+use Rattle.sp_spec.proofs.Occurrences.{facts_each}
+use Rattle.sp_law_tree.proofs.FreshRules.{fresh_premises}
+
+-- no message is taken in
+not_in : (b c : Bool) → (b ≡ true → ⊥) → (b && c) ≡ false
+not_in true c h = absurd (h refl)
+not_in false c h = refl
+
+no_input : (v : Written → Term Variable) (f : Fact Written) → IsPlainFact f → is_in (fact_at v f) ≡ false
+no_input v f h = not_in (bytes_eq f.symbol (codes "In")) (not f.persistent) (λ e. h.1 (inl (sym ((bytes_eq-Decides f.symbol (codes "In")).0 e))))
+
+-- ---- what is named in facts stands in them
+
+named_parts : (x : List ℕ) (xs ys : List Written) → is_named x (xs ++ ys) ≡ true → (is_named x xs ≡ true) ⊎ (is_named x ys ≡ true)
+named_parts x [] ys e = inr e
+named_parts x (z ∷ xs) ys e =
+    ⊎_elim (λ h. inl (or_left (bytes_eq z.name x) (is_named x xs) h))
+    (λ h. ⊎_elim (λ k. inl (or_right (bytes_eq z.name x) (is_named x xs) k)) (λ k. inr k) (named_parts x xs ys h))
+    (or_cases (bytes_eq z.name x) (is_named x (xs ++ ys)) e)
+
+-- the variable for which a name stands
+abbrev variable_of : Facts Written → List ℕ → Variable
+variable_of facts x = record { sort = sort_in facts x; number = place_of x (rule_names facts) }
+
+or_false : (b : Bool) → (b || false) ≡ true → b ≡ true
+or_false true e = refl
+or_false false e = e
+
+module _ (facts : Facts Written) (x : List ℕ) where
+  mutual
+    named_in : (t : Term Written) → is_named x (in_term t) ≡ true → StandsIn (variable_of facts x) (valued (numbered_in facts) t)
+    named_in (var y) e = ap (variable_of facts) ((bytes_eq-Decides y.name x).0 (or_false (bytes_eq y.name x) e))
+    named_in (constant c) e = absurd cc
+    named_in (name n) e = absurd cc
+    named_in (app f ts) e = named_among ts e
+
+    named_among : (ts : Terms Written) → is_named x (in_terms ts) ≡ true → StandsAmong (variable_of facts x) (valued_all (numbered_in facts) ts)
+    named_among none e = absurd cc
+    named_among (more t ts) e = ⊎_elim (λ h. inl (named_in t h)) (λ h. inr (named_among ts h)) (named_parts x (in_term t) (in_terms ts) e)
+
+  named_has : (fs : List (Fact Written)) → is_named x (in_facts fs) ≡ true → HasVariable (variable_of facts x) (map (fact_at (numbered_in facts)) fs)
+  named_has [] e = absurd cc
+  named_has (f ∷ fs) e = ⊎_elim (λ h. inl (named_among f.args h)) (λ h. inr (named_has fs h)) (named_parts x (in_terms f.args) (in_facts fs) e)
+
+-- ---- what isn't unbound stands in a premise
+
+abbrev IsBound : Facts Written → Variable → Type 0
+IsBound facts x = (x.sort ≡ Pub → ⊥) → HasVariable x (map (fact_at (numbered_in facts)) facts.premises)
+
+pub_sort : (s : Sort) → is_pub s ≡ true → s ≡ Pub
+pub_sort Pub e = refl
+pub_sort Msg e = absurd cc
+pub_sort Fresh e = absurd cc
+
+either_true : (a b : Bool) → (not a && not b) ≡ false → (a ≡ true → ⊥) → b ≡ true
+either_true true b e h = absurd (h refl)
+either_true false true e h = refl
+either_true false false e h = absurd cc
+
+bound_each : (facts : Facts Written) (xs : List Written) → has_unbound facts xs ≡ false → Every (λ (x : Written). IsBound facts (variable_of facts x.name)) xs
+bound_each facts [] e = tt
+bound_each facts (x ∷ xs) e =
+    let named = is_named x.name (in_facts facts.premises) in
+    let both = or_parts (not (is_pub (sort_in facts x.name)) && not named) (has_unbound facts xs) e in (
+      λ h. named_has facts x.name facts.premises (either_true (is_pub (sort_in facts x.name)) named both.0 (λ k. h (pub_sort (sort_in facts x.name) k))),
+      bound_each facts xs both.1,
+    )
+
+module _ (facts : Facts Written) where
+  atomic_bound : (t : Term Written) → IsAtomic t → EachVariable (λ (x : Written). IsBound facts (variable_of facts x.name)) t
+      → IsNameless (IsBound facts) (valued (numbered_in facts) t)
+  atomic_bound (var x) a h = h
+  atomic_bound (constant c) a h = tt
+  atomic_bound (name n) a h = absurd a
+  atomic_bound (app f ts) a h = absurd a
+
+  atomics_bound : (ts : Terms Written) → AreAtomic ts → EachVariables (λ (x : Written). IsBound facts (variable_of facts x.name)) ts
+      → AreNameless (IsBound facts) (valued_all (numbered_in facts) ts)
+  atomics_bound none a h = tt
+  atomics_bound (more t ts) a h = (atomic_bound t a.0 h.0, atomics_bound ts a.1 h.1)
+
+  conclusions_bound : (fs : List (Fact Written)) → Every IsPlainFact fs → has_unbound facts (in_facts fs) ≡ false
+      → Every (λ (f : Fact Variable). AreNameless (IsBound facts) f.args) (map (fact_at (numbered_in facts)) fs)
+  conclusions_bound fs p e = go fs p (facts_each (λ (x : Written). IsBound facts (variable_of facts x.name)) fs (bound_each facts (in_facts fs) e))
+    where
+      go : (fs : List (Fact Written)) → Every IsPlainFact fs → Every (λ (f : Fact Written). EachVariables (λ (x : Written). IsBound facts (variable_of facts x.name)) f.args) fs
+          → Every (λ (f : Fact Variable). AreNameless (IsBound facts) f.args) (map (fact_at (numbered_in facts)) fs)
+      go [] p h = tt
+      go (f ∷ fs) p h = (atomics_bound f.args p.0.0 h.0, go fs p.1 h.1)
+
+-- ---- rules
+
+-- what is no finding of a rule
+record HasNone (r : WrittenRule) : Type 0 where
+  premises : has_wrong_premise r.facts.premises ≡ false
+  conclusions : has_fr r.facts.conclusions ≡ false
+  arguments : has_wrong_argument r.facts.premises ≡ false
+  bound : has_unbound r.facts (in_facts r.facts.conclusions) ≡ false
+
+has_none : (r : WrittenRule) → rule_is_wrong r ≡ false → HasNone r
+has_none r e =
+    let wide = or_parts (has_wide_fact r.facts.premises || (has_wide_action r.facts.actions || has_wide_fact r.facts.conclusions)) _ e in
+    let sorts = or_parts (has_two_sorts r.facts (occurrences r.facts)) _ wide.1 in
+    let premises = or_parts (has_wrong_premise r.facts.premises) _ sorts.1 in
+    let conclusions = or_parts (has_fr r.facts.conclusions) _ premises.1 in
+    let arguments = or_parts (has_wrong_argument r.facts.premises) _ conclusions.1 in
+    let bound = or_parts (has_unbound r.facts (in_actions r.facts.actions)) _ arguments.1 in
+    record { premises = premises.0; conclusions = conclusions.0; arguments = arguments.0; bound = bound.1 }
+
+rule_closed : (r : WrittenRule) → IsPlainRule r → rule_is_wrong r ≡ false → IsClosedRule (rule_of r)
+rule_closed r p e = record {
+  inputs = every_map IsPlainFact _ (fact_at (numbered_in r.facts)) (no_input (numbered_in r.facts)) r.facts.premises p.premises;
+  fresh = fresh_premises r.facts r.facts.premises (λ f m. m) (has_none r e).premises (has_none r e).arguments;
+  bound = conclusions_bound r.facts r.facts.conclusions p.conclusions (has_none r e).bound;
+}
+
+pub none_concluded : (rs : List WrittenRule) → Every (λ (r : WrittenRule). rule_is_wrong r ≡ false) rs → Every (λ (r : WrittenRule). has_fr r.facts.conclusions ≡ false) rs
+none_concluded rs e = every_weaken (λ (r : WrittenRule). rule_is_wrong r ≡ false) (λ (r : WrittenRule). has_fr r.facts.conclusions ≡ false) (λ r h. (has_none r h).conclusions) rs e
+
+pub rules_closed : (rs : List WrittenRule) → Every IsPlainRule rs → Every (λ (r : WrittenRule). rule_is_wrong r ≡ false) rs → Every IsClosedRule (map rule_of rs)
+rules_closed [] p e = tt
+rules_closed (r ∷ rs) p e = (rule_closed r p.0 e.0, rules_closed rs p.1 e.1)

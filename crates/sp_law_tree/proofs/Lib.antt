@@ -1,0 +1,13 @@
+pub mod AllShown
+pub mod ClosedRules
+pub mod Flat
+pub mod Forms
+pub mod FreshRules
+pub mod Growing
+pub mod Logs
+pub mod PlacedForms
+pub mod PlainOver
+pub mod Shown
+pub mod Starts
+pub mod Trees
+pub mod WrittenRules

@@ -1,0 +1,65 @@
+-- The guarded form of a formula of variables and public names that names no action of the adversary has flat atoms that name none.
+use Rattle.std.proofs.Common.{◌≡◌, ℕ, true, List, [], Option, Some, None, option_map, sym, subst}
+use Rattle.sp_spec.specs.Term.{Term, var, constant, name, app, Terms, none, more}
+use Rattle.sp_spec.specs.Formula.{Written, Formula}
+use Rattle.sp_spec.specs.Guarded.{Place, bound, Time, free_time, bound_time, Guarded}
+use Rattle.sp_law_truth.specs.Shown.{IsBound}
+use Rattle.sp_law_guard.specs.GuardedForm.{Meant, a_message, a_time, meant, message_place, placed_term, placed_terms, guarded_form}
+use Rattle.sp_law_guard.specs.IsGuarded.{is_guarded}
+use Rattle.sp_spec.proofs.Options.{mapped, then_some}
+use Rattle.sp_law_guard.proofs.Places.{action_made, order_made, equality_made}
+use Rattle.sp_law_guard.proofs.Throughout.{times_bound, OfFormulas, OfAtoms, form_throughout}
+use Rattle.sp_law_tree.specs.PlainTheory.{IsAtomic, AreAtomic, IsPlainFormula}
+use Rattle.sp_law_tree.proofs.Flat.{FlatTerm, FlatTerms, FlatTime}
+use Rattle.sp_law_tree.proofs.Forms.{NotAdversary, RightAtom, IsRight}
+
+-- what a variable or a public name becomes
+message_flat : (o : Option Meant) (u : Term Place) → message_place o ≡ Some u → FlatTerm u
+message_flat None u e = absurd cc
+message_flat (Some (a_time k)) u e = absurd cc
+message_flat (Some (a_message mark k)) u e = let g : var (bound k) ≡ u = cc in subst FlatTerm g tt
+
+term_flat : (bs : List Written) (t : Term Written) (u : Term Place) → IsAtomic t → placed_term bs t ≡ Some u → FlatTerm u
+term_flat bs (var x) u h e = message_flat (meant bs x.name) u e
+term_flat bs (constant c) u h e = let g : constant c ≡ u = cc in subst FlatTerm g tt
+term_flat bs (name n) u h e = absurd h
+term_flat bs (app f ts) u h e = absurd h
+
+terms_flat : (bs : List Written) (ts : Terms Written) (us : Terms Place) → AreAtomic ts → placed_terms bs ts ≡ Some us → FlatTerms us
+terms_flat bs none us h e = let g : none ≡ us = cc in subst FlatTerms g tt
+terms_flat bs (more t ts) us h e =
+    let r = then_some (λ u. option_map (more u) (placed_terms bs ts)) (placed_term bs t) us e in
+    let q = mapped (more r.0) (placed_terms bs ts) us r.2 in
+    subst FlatTerms (sym q.2) (term_flat bs t r.0 h.0 r.1, terms_flat bs ts q.0 h.1 q.1)
+
+time_flat : (n : ℕ) (i : Time) → IsBound n i → FlatTime n i
+time_flat n (bound_time k) h = h
+time_flat n (free_time i) h = absurd h
+
+-- the formula's parts and atoms
+plain_parts : OfFormulas IsPlainFormula
+plain_parts = record {
+  of_not = λ f w. w;
+  of_both = λ f g w. w;
+  of_either = λ f g w. w;
+  of_implies = λ f g w. w;
+  of_all = λ x f w. w;
+  of_some = λ x f w. w;
+}
+
+plain_atoms : OfAtoms RightAtom IsPlainFormula
+plain_atoms = record {
+  of_actions = λ bs a i atom w e.
+      let r = action_made bs a i atom e in
+      subst (RightAtom (times_bound bs)) (sym r.is)
+      ((terms_flat bs a.args r.action.args w.0 r.placed, time_flat (times_bound bs) r.time r.bounded), (subst NotAdversary (sym r.symbol) w.1, tt));
+  of_equalities = λ bs t u atom w e.
+      equality_made bs t u atom (RightAtom (times_bound bs)) e (λ i j k l. ((time_flat (times_bound bs) i k, time_flat (times_bound bs) j l), tt))
+      (λ x y k l. ((term_flat bs t x w.0 k, term_flat bs u y w.1 l), tt));
+  of_order = λ bs i j atom w e.
+      let r = order_made bs i j atom e in
+      subst (RightAtom (times_bound bs)) (sym r.is) ((time_flat (times_bound bs) r.first r.first_bound, time_flat (times_bound bs) r.second r.second_bound), tt);
+}
+
+pub form_right : (f : Formula) (g : Guarded) → IsPlainFormula f → guarded_form [] f ≡ Some g → is_guarded g ≡ true → IsRight g
+form_right f g plain e guarded = record { each = form_throughout RightAtom IsPlainFormula plain_parts plain_atoms [] f g plain e; guarded = guarded }

@@ -1,0 +1,114 @@
+-- A written rule of a plain theory stands for a rule whose variables are numbered, without destructors, that leaves the adversary
+-- alone.
+use Rattle.std.proofs.Common.{◌≡◌, ◌<◌, ℕ, zero, suc, Bool, true, false, ◌||◌, if◌then◌else◌, List, [], ◌∷◌, map, length, codes, sym, subst, inl, inr, arith, bytes_eq}
+use Rattle.std.proofs.lemmas.Bool.{or_parts}
+use Rattle.std.proofs.lemmas.Slice.Eq.{bytes_eq-Decides}
+use Rattle.sp_spec.specs.Lists.{Member, Every}
+use Rattle.sp_spec.specs.Term.{Variable, Term, var, constant, name, app, Terms, none, more, Values, valued, valued_all}
+use Rattle.sp_spec.specs.Signature.{Symbol, Equation, IsOver, AreOver}
+use Rattle.sp_spec.specs.Rule.{Fact, Action, Declared, Rule, fact_at, action_at, facts_at, InFacts}
+use Rattle.sp_spec.specs.Formula.{Written}
+use Rattle.sp_spec.specs.Written.{WrittenRule, WrittenTheory, occurrences, is_listed, rule_names, place_of, numbered_in, sort_in, rule_of, theory_of}
+use Rattle.sp_spec.specs.Theory.{signature_of}
+use Rattle.sp_spec.specs.Findings.{is_fr_named, has_fr}
+use Rattle.sp_spec.proofs.Occurrences.{occurrences_each, names_have}
+use Rattle.sp_law_equal.specs.Convergent.{IsPlain, ArePlain}
+use Rattle.sp_law_erase.specs.Adversary.{adversary_facts, adversary_names, NeedsNoAdversary}
+use Rattle.sp_spec.proofs.Lists.{every_map, every_member, member_mapped, length_map}
+use Rattle.sp_law_system.proofs.Numbers.{facts_valued}
+use Rattle.sp_law_system.specs.Rules.{ActionsAreOver, FactsArePlain, RulesArePlain, RulesAreNumbered}
+use Rattle.sp_law_tree.specs.PlainTheory.{IsAtomic, AreAtomic, IsPlainFact, IsPlainAction, IsPlainRule}
+
+place_under : (x : List ℕ) (xs : List (List ℕ)) → is_listed x xs ≡ true → place_of x xs < length xs
+place_under x [] e = absurd cc
+place_under x (z ∷ xs) e = at (bytes_eq z x) e (λ h. place_under x xs h)
+  where
+    at : (b : Bool) → (b || is_listed x xs) ≡ true → (is_listed x xs ≡ true → place_of x xs < length xs) → (if b then zero else suc (place_of x xs)) < suc (length xs)
+    at true h later = omega arith
+    at false h later = let l = later h in omega (arith, l)
+
+-- the variables are numbered
+rule_numbered : (r : WrittenRule) → InFacts (λ x. x.number < length (rule_of r).variables) (rule_of r).facts
+rule_numbered r =
+    let names = rule_names r.facts in
+    let declared : List ℕ → Declared = λ x. record { name = x; sort = sort_in r.facts x } in
+    facts_valued (λ (y : Written). is_listed y.name names ≡ true) (λ x. x.number < length (map declared names)) (numbered_in r.facts)
+    (λ y h. subst (λ (n : ℕ). place_of y.name names < n) (sym (length_map declared names)) (place_under y.name names h))
+    r.facts (occurrences_each (λ (y : Written). is_listed y.name names ≡ true) r.facts (names_have [] (occurrences r.facts)))
+
+pub rules_numbered : (rs : List WrittenRule) → RulesAreNumbered (map rule_of rs)
+rules_numbered [] = tt
+rules_numbered (r ∷ rs) = (rule_numbered r, rules_numbered rs)
+
+-- no destructor stands in them
+module _ (es : List Equation) (v : Written → Term Variable) (v_plain : (x : Written) → IsPlain es (v x)) where
+  atomic_plain : (t : Term Written) → IsAtomic t → IsPlain es (valued v t)
+  atomic_plain (var x) h = v_plain x
+  atomic_plain (constant c) h = tt
+  atomic_plain (name n) h = absurd h
+  atomic_plain (app f ts) h = absurd h
+
+  atomics_plain : (ts : Terms Written) → AreAtomic ts → ArePlain es (valued_all v ts)
+  atomics_plain none h = tt
+  atomics_plain (more t ts) h = (atomic_plain t h.0, atomics_plain ts h.1)
+
+rule_plain : (es : List Equation) (r : WrittenRule) → IsPlainRule r → FactsArePlain es (rule_of r).facts
+rule_plain es r h = record {
+  premises = every_map IsPlainFact _ (fact_at (numbered_in r.facts)) (λ f k. atomics_plain es (numbered_in r.facts) (λ x. tt) f.args k.0) r.facts.premises h.premises;
+  actions = every_map IsPlainAction _ (action_at (numbered_in r.facts)) (λ a k. atomics_plain es (numbered_in r.facts) (λ x. tt) a.args k.0) r.facts.actions h.actions;
+  conclusions = every_map IsPlainFact _ (fact_at (numbered_in r.facts)) (λ f k. atomics_plain es (numbered_in r.facts) (λ x. tt) f.args k.0) r.facts.conclusions h.conclusions;
+}
+
+pub rules_plain : (es : List Equation) (rs : List WrittenRule) → Every IsPlainRule rs → RulesArePlain es (map rule_of rs)
+rules_plain es [] h = tt
+rules_plain es (r ∷ rs) h = (rule_plain es r h.0, rules_plain es rs h.1)
+
+-- no symbol stands in them, so the actions of their instances are over any signature
+module _ (symbols : List Symbol) (v : Written → Term Variable) (w : Values) (over : (x : Written) → IsOver symbols (valued w (v x))) where
+  atomic_over : (t : Term Written) → IsAtomic t → IsOver symbols (valued w (valued v t))
+  atomic_over (var x) h = over x
+  atomic_over (constant c) h = tt
+  atomic_over (name n) h = absurd h
+  atomic_over (app f ts) h = absurd h
+
+  atomics_over : (ts : Terms Written) → AreAtomic ts → AreOver symbols (valued_all w (valued_all v ts))
+  atomics_over none h = tt
+  atomics_over (more t ts) h = (atomic_over t h.0, atomics_over ts h.1)
+
+  actions_over : (xs : List (Action Written)) → Every IsPlainAction xs → Every (λ (a : Action ⊥). AreOver symbols a.args) (map (action_at w) (map (action_at v) xs))
+  actions_over xs h =
+      every_map (λ (b : Action Variable). AreOver symbols (valued_all w b.args)) _ (action_at w) (λ b k. k) (map (action_at v) xs)
+      (every_map IsPlainAction _ (action_at v) (λ a k. atomics_over a.args k.0) xs h)
+
+pub rules_over : (t : WrittenTheory) → Every IsPlainRule t.rules → ActionsAreOver (theory_of t)
+rules_over t h r m w sorts =
+    let symbols = (signature_of (theory_of t)).symbols in
+    let q = member_mapped rule_of r t.rules m in
+    subst (λ (x : Rule). Every (λ (a : Action ⊥). AreOver symbols a.args) (facts_at w x.facts).actions) q.2
+    (actions_over symbols (numbered_in q.0.facts) w (λ x. (sorts _).1) q.0.facts.actions (every_member IsPlainRule t.rules q.0 q.1 h).actions)
+
+-- they leave the adversary alone
+among : (s : List ℕ) → Member s adversary_facts → Member s adversary_names
+among s (inl h) = inl h
+among s (inr (inl h)) = inr (inl h)
+among s (inr (inr (inl h))) = inr (inr (inl h))
+among s (inr (inr (inr h))) = absurd h
+
+no_fr : (fs : List (Fact Written)) → has_fr fs ≡ false → Every (λ (f : Fact Written). f.symbol ≡ codes "Fr" → ⊥) fs
+no_fr [] e = tt
+no_fr (f ∷ fs) e =
+    let both = or_parts (is_fr_named f) (has_fr fs) e in
+    ((λ k. cc (both.0, (bytes_eq-Decides f.symbol (codes "Fr")).1 k)), no_fr fs both.1)
+
+pub rules_leave_adversary : (t : WrittenTheory) → Every IsPlainRule t.rules → Every (λ (r : WrittenRule). has_fr r.facts.conclusions ≡ false) t.rules → NeedsNoAdversary (theory_of t)
+rules_leave_adversary t plain fr = record {
+  premises = λ r m. let o = member_mapped rule_of r t.rules m in
+      subst (λ (q : Rule). Every (λ (f : Fact Variable). Member f.symbol adversary_facts → ⊥) q.facts.premises) o.2
+      (every_map IsPlainFact _ (fact_at (numbered_in o.0.facts)) (λ f k l. k.1 (among f.symbol l)) o.0.facts.premises (every_member IsPlainRule t.rules o.0 o.1 plain).premises);
+  actions = λ r m. let o = member_mapped rule_of r t.rules m in
+      subst (λ (q : Rule). Every (λ (a : Action Variable). a.symbol ≡ codes "K" → ⊥) q.facts.actions) o.2
+      (every_map IsPlainAction _ (action_at (numbered_in o.0.facts)) (λ a k l. k.1 (inr (inr (inl (sym l))))) o.0.facts.actions (every_member IsPlainRule t.rules o.0 o.1 plain).actions);
+  conclusions = λ r m. let o = member_mapped rule_of r t.rules m in
+      subst (λ (q : Rule). Every (λ (f : Fact Variable). f.symbol ≡ codes "Fr" → ⊥) q.facts.conclusions) o.2
+      (every_map (λ (f : Fact Written). f.symbol ≡ codes "Fr" → ⊥) _ (fact_at (numbered_in o.0.facts)) (λ f k. k) o.0.facts.conclusions (no_fr o.0.facts.conclusions (every_member (λ (q : WrittenRule). has_fr q.facts.conclusions ≡ false) t.rules o.0 o.1 fr)));
+}

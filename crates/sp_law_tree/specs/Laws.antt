@@ -1,0 +1,47 @@
+-- What an accepted tree shows, and what growth owes.
+use Rattle.std.specs.Prelude.{◌≡◌, Some, None, true, false, ℕ, ◌≤◌}
+use Rattle.sp_spec.specs.Theory.{Theory, Lemma}
+use Rattle.sp_spec_system.specs.System.{System}
+use Rattle.sp_law_system.specs.Proofs.{HasNoSolution, IsContextOf, IsWellMade}
+use Rattle.sp_spec_system.specs.Move.{Context}
+use Rattle.sp_spec_proof.specs.Tree.{Tree, IsAccepted, IsFinished, found_log, steps}
+use Rattle.sp_spec.specs.Log.{Log}
+use Rattle.sp_law_system.specs.Rules.{IsPlainTheory}
+use Rattle.sp_spec_proof.specs.Growth.{has_end, grown_tree}
+use Rattle.sp_spec.specs.Lists.{Every}
+use Rattle.sp_spec.specs.Written.{WrittenRule, WrittenTheory, theory_of}
+use Rattle.sp_spec.specs.Findings.{rule_is_wrong}
+use Rattle.sp_spec.specs.Guarded.{Guarded}
+use Rattle.sp_spec.specs.Verdict.{HoldsInAll, HoldsInNone}
+use Rattle.sp_law_guard.specs.GuardedForm.{negate}
+use Rattle.sp_law_guard.specs.CheckedForm.{checked_form}
+use Rattle.sp_spec_proof.specs.Root.{root}
+use Rattle.sp_law_tree.specs.PlainTheory.{IsPlainRule, IsPlainFormula}
+
+-- the tree theorem: where a tree is accepted, no leaf is left open and with none the search ends, the system at its root has no solution
+pub record FinishedTreesShow (theory : Theory) : Type 0 where
+  pub no_solution : (context : Context) → IsContextOf theory context → (s : System) (tree : Tree)
+      → IsWellMade context s → IsAccepted context s tree → IsFinished tree → HasNoSolution theory s
+
+-- A finished tree has a root without solutions. An accepted tree has a log exactly where the search ends at some leaf, and then it is the
+-- log with which it ends at some system.
+pub record AcceptedTreesShow : Type 0 where
+  pub trees : (theory : Theory) → IsPlainTheory theory → FinishedTreesShow theory
+  pub found : (context : Context) (s : System) (tree : Tree) (log : Log) → found_log context s tree ≡ Some log → (t : System) × (context.found t ≡ Some log)
+  pub ends : (context : Context) (s : System) (tree : Tree) → IsAccepted context s tree → has_end tree ≡ true → (log : Log) × (found_log context s tree ≡ Some log)
+  pub no_end : (context : Context) (s : System) (tree : Tree) → has_end tree ≡ false → found_log context s tree ≡ None
+
+-- What a finished tree shows of a lemma of a theory without findings on its rules, steps of the adversary included. From the negation of the lemma's guarded
+-- form: every execution satisfies the lemma. From the guarded form: no execution does.
+pub record LemmasAreShown : Type 0 where
+  pub all_traces : (theory : WrittenTheory) → Every IsPlainRule theory.rules → Every (λ (r : WrittenRule). rule_is_wrong r ≡ false) theory.rules
+      → (lemma : Lemma) → IsPlainFormula lemma.formula → (g : Guarded) → checked_form lemma.formula ≡ Some g
+      → (context : Context) → IsContextOf (theory_of theory) context → (tree : Tree) → IsAccepted context (root (negate g)) tree → IsFinished tree → HoldsInAll (theory_of theory) lemma
+  pub exists_trace : (theory : WrittenTheory) → Every IsPlainRule theory.rules → Every (λ (r : WrittenRule). rule_is_wrong r ≡ false) theory.rules
+      → (lemma : Lemma) → IsPlainFormula lemma.formula → (g : Guarded) → checked_form lemma.formula ≡ Some g
+      → (context : Context) → IsContextOf (theory_of theory) context → (tree : Tree) → IsAccepted context (root g) tree → IsFinished tree → HoldsInNone (theory_of theory) lemma
+
+-- a tree that is grown is accepted, and has at most as many steps as the budget says
+pub record GrowthIsAccepted : Type 0 where
+  pub accepted : (context : Context) (s : System) (budget : ℕ) → IsAccepted context s (grown_tree context s budget)
+  pub within_budget : (context : Context) (s : System) (budget : ℕ) → steps (grown_tree context s budget) ≤ budget

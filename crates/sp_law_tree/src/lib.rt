@@ -1,0 +1,23 @@
+// What proof trees show. Below stand proof trees and growth (sp_spec_proof), the covering of rows and moves (sp_law_cover), and the laws of
+// equality, truth, guarded forms and erasing; above it stands the answer of the command (sp_analysis).
+// It carries three promises: where an accepted tree from a lemma's negation is finished, the lemma holds in every execution of the theory,
+// steps of the adversary included; where one from the lemma itself is, no execution satisfies it; and what is grown is an accepted tree
+// within its budget of steps. All is said of the definitions.
+#![tactic(auto)]
+
+ghost use Rattle.sp_law_tree.specs.Laws.{AcceptedTreesShow, LemmasAreShown, GrowthIsAccepted};
+
+/// The root of an accepted tree that is finished has no solution; where the search ends at a leaf, the tree has a log.
+pub fn accepted_trees_show()
+    ensures { AcceptedTreesShow }
+{}
+
+/// What finished trees show of lemmas.
+pub fn lemmas_are_shown()
+    ensures { LemmasAreShown }
+{}
+
+/// What is grown is an accepted tree, within its budget of steps.
+pub fn growth_is_accepted()
+    ensures { GrowthIsAccepted }
+{}

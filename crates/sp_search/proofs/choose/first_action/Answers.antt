@@ -1,0 +1,26 @@
+use Rattle.std.proofs.Common.{◌<◌, ◌≡◌, length, get_or, refl, sym, ◌∙◌, arith}
+use Rattle.sp_system.specs.SystemView.{system_of}
+use Rattle.sp_search.proofs.Choosing.{first_from}
+use Rattle.sp_search.proofs.choose.first_action.Goals as goal
+
+pub returns-then-branch : goal.returns-then-branch
+returns-then-branch c context =
+    let s = system_of c.args.system.now in
+    let all = c.args.system.now.formulas.items in
+    let f = c.formula-item.result in
+    let k = c.loop-place.place in
+    let is : f ≡ get_or all k f = rw c.deref-formula-items.ensures.value at c.formula-item.is in
+    let below : k < length all = omega arith in
+    let step = first_from context s all k f c.in_ok-is_solvable.field-0 refl below is (c.in_ok-is_solvable.ensures context.rules.forms s) in
+    sym (rw c.if-branch.true at step) ∙ c.loop-place.invariant context
+
+pub loop-place-preserved : goal.loop-place-preserved
+loop-place-preserved c context =
+    let s = system_of c.args.system.now in
+    let all = c.args.system.now.formulas.items in
+    let f = c.formula-item.result in
+    let k = c.loop-place.place in
+    let is : f ≡ get_or all k f = rw c.deref-formula-items.ensures.value at c.formula-item.is in
+    let below : k < length all = omega arith in
+    let step = first_from context s all k f c.in_ok-is_solvable.field-0 refl below is (c.in_ok-is_solvable.ensures context.rules.forms s) in
+    sym (rw c.if-branch.false at step) ∙ c.loop-place.invariant context

@@ -1,0 +1,26 @@
+use Rattle.std.proofs.Common.{◌<◌, ◌≡◌, length, get_or, refl, sym, ◌∙◌, arith}
+use Rattle.sp_system.specs.SystemView.{system_of}
+use Rattle.sp_search.proofs.Choosing.{first_part}
+use Rattle.sp_search.proofs.choose.first_disjunction.Goals as goal
+
+pub returns-then-is_disjunction : goal.returns-then-is_disjunction
+returns-then-is_disjunction c context =
+    let s = system_of c.args.system.now in
+    let all = c.args.system.now.formulas.items in
+    let f = c.formula-item.result in
+    let k = c.loop-place.place in
+    let is : f ≡ get_or all k f = rw c.deref-formula-items.ensures.value at c.formula-item.is in
+    let below : k < length all = omega arith in
+    let step = first_part context s all k f c.is_disjunction.result refl below is c.is_disjunction.ensures in
+    sym (rw c.if-is_disjunction.true at step) ∙ c.loop-place.invariant context
+
+pub loop-place-preserved : goal.loop-place-preserved
+loop-place-preserved c context =
+    let s = system_of c.args.system.now in
+    let all = c.args.system.now.formulas.items in
+    let f = c.formula-item.result in
+    let k = c.loop-place.place in
+    let is : f ≡ get_or all k f = rw c.deref-formula-items.ensures.value at c.formula-item.is in
+    let below : k < length all = omega arith in
+    let step = first_part context s all k f c.is_disjunction.result refl below is c.is_disjunction.ensures in
+    sym (rw c.if-is_disjunction.false at step) ∙ c.loop-place.invariant context

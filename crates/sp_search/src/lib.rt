@@ -1,0 +1,15 @@
+// Proof trees in memory, and how they are grown.
+// Below stand which trees are accepted and how they are grown (sp_spec_proof), the moves in memory (sp_moves) and logs in memory (sp_log); above
+// stands the top call. Each call is exact: the tree is the one that growth gives, so that it is accepted and has at most budget steps, and
+// the log that it keeps is the one with which the search ends.
+// Carried here: the promise that a tree without open leaves is one that the written rules accept.
+#![tactic(auto)]
+
+mod choose;
+mod class;
+mod grow;
+mod tree;
+
+pub use choose::choice;
+pub use grow::grown_tree;
+pub use tree::{Branch, OpenLeaf, Tree, is_finished, steps};

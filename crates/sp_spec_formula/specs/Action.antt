@@ -1,0 +1,52 @@
+-- The move on an action: its event has it, or a new step of some rule. Source: CSF 2012, "Constraint solving" (the rule on actions).
+use Rattle.std.specs.Prelude.{ℕ, suc, List, [], ◌∷◌, ◌++◌, codes, decimal, ◌+◌, length, Option, Some, None, ◌||◌, Bool, bytes_eq, if◌then◌else◌}
+use Rattle.sp_spec.specs.Term.{Variable}
+use Rattle.sp_spec.specs.Rule.{Action, Rule}
+use Rattle.sp_spec_system.specs.System.{System, rule_step, Event, happening_actions, with_events, with_next}
+use Rattle.sp_spec_system.specs.Move.{Case}
+use Rattle.sp_spec_system.specs.Cases.{where_same, case_if, renamed, system_if, named}
+use Rattle.sp_spec_system.specs.MakingOne.{event_at}
+use Rattle.sp_spec.specs.Guarded.{Guarded, holds, acts, free_time}
+use Rattle.sp_spec_system.specs.Formulas.{freed_action}
+use Rattle.sp_spec_system.specs.Rules.{RuleForms}
+
+-- each of an event's actions that may be this one, by its place
+abbrev pub at_event : System → Action Variable → ℕ → List (Action Variable) → List Case
+at_event s a n [] = []
+at_event s a n (b ∷ bs) = case_if (codes "at_" ++ decimal n) (where_same s a b) ++ at_event s a (suc n) bs
+
+abbrev pub with_step : System → ℕ → Rule → System
+with_step s i r =
+    with_next (with_events s (s.events ++ record { time = i; happening = rule_step r.name (renamed s.next r.facts) } ∷ [])) (s.next + length r.variables)
+
+-- each of a rule's actions that may be this one
+abbrev pub by_actions : System → Action Variable → List (Action Variable) → List System
+by_actions s a [] = []
+by_actions s a (b ∷ bs) = system_if (where_same s a b) ++ by_actions s a bs
+
+-- a new step at that time by each of these forms of a rule
+abbrev pub by_forms : List Rule → System → ℕ → Action Variable → List System
+by_forms [] s i a = []
+by_forms (r ∷ forms) s i a = by_actions (with_step s i r) a (renamed s.next r.facts).actions ++ by_forms forms s i a
+
+-- by each rule
+abbrev pub by_each : List RuleForms → System → ℕ → Action Variable → List Case
+by_each [] s i a = []
+by_each (rule ∷ rules) s i a = named rule.name (by_forms rule.forms s i a) ++ by_each rules s i a
+
+abbrev pub action_cases : List RuleForms → System → ℕ → Action Variable → Option Event → List Case
+action_cases rules s i a (Some e) = at_event s a 0 (happening_actions e.happening)
+action_cases rules s i a None = by_each rules s i a
+
+abbrev pub action_at_time : List RuleForms → System → ℕ → Option (Action Variable) → Option (List Case)
+action_at_time rules s i None = None
+action_at_time rules s i (Some a) = Some (action_cases rules s i a (event_at i s.events))
+
+-- the adversary's actions are no instance as long as systems have no events of the adversary
+abbrev pub is_adversary : List ℕ → Bool
+is_adversary symbol = bytes_eq symbol (codes "K") || bytes_eq symbol (codes "KU")
+
+-- an action at its event: each of the event's own actions, or a new step of some rule
+abbrev pub solving_action : List RuleForms → System → Option Guarded → Option (List Case)
+solving_action rules s (Some (holds (acts a (free_time i)))) = if is_adversary a.symbol then None else action_at_time rules s i (freed_action a)
+solving_action rules s f = None

@@ -1,0 +1,11 @@
+pub mod Action
+pub mod ActionStands
+pub mod Disjunction
+pub mod Equate
+pub mod InOrder
+pub mod Instances
+pub mod Instantiate
+pub mod Open
+pub mod Or
+pub mod Split
+pub mod Unequal

@@ -1,0 +1,12 @@
+pub mod Cases
+pub mod Covering
+pub mod Equating
+pub mod Formulas
+pub mod MakingOne
+pub mod Move
+pub mod Numbered
+pub mod Order
+pub mod Picked
+pub mod Solutions
+pub mod System
+pub mod Rules

@@ -1,0 +1,69 @@
+-- Constraint systems. Source: CSF 2012, "Constraint solving" (constraint systems); Schmidt's thesis, chapter 3; Meier's thesis, chapter 3.
+use Rattle.std.specs.Prelude.{ℕ, Bool, not, ◌&&◌, List, ◌++◌, codes, bytes_eq}
+use Rattle.sp_spec.specs.Term.{Variable, Term}
+use Rattle.sp_spec.specs.Rule.{Facts, Fact, Action}
+use Rattle.sp_spec.specs.Guarded.{Guarded}
+
+-- what happens at an event
+pub data Happening : Type 0 where
+  -- a rule, by its name, with these facts
+  rule_step : List ℕ → Facts Variable → Happening
+
+abbrev pub happening_premises : Happening → List (Fact Variable)
+happening_premises (rule_step r facts) = facts.premises
+
+pub record Event : Type 0 where
+  pub time : ℕ
+  pub happening : Happening
+
+-- Where a premise comes from: what an event concludes at a place is the premise at a place of another event. The events are told by their
+-- times, and places are counted from 0.
+pub record Link : Type 0 where
+  pub from : ℕ
+  pub conclusion : ℕ
+  pub to : ℕ
+  pub premise : ℕ
+
+-- Message variables and times share the numbers; the next one is used by nothing yet. Spent formulas hold too. Of an order pair the
+-- first time is before the second.
+pub record System : Type 0 where
+  pub events : List Event
+  pub formulas : List Guarded
+  pub spent : List Guarded
+  pub unequal : List (Term Variable × Term Variable)
+  pub links : List Link
+  pub order : List (ℕ × ℕ)
+  pub next : ℕ
+
+abbrev pub happening_actions : Happening → List (Action Variable)
+happening_actions (rule_step r facts) = facts.actions
+
+-- a system with another part in the place of its own
+abbrev pub with_events : System → List Event → System
+with_events s x = record { events = x; formulas = s.formulas; spent = s.spent; unequal = s.unequal; links = s.links; order = s.order; next = s.next }
+
+abbrev pub with_formulas : System → List Guarded → System
+with_formulas s x = record { events = s.events; formulas = x; spent = s.spent; unequal = s.unequal; links = s.links; order = s.order; next = s.next }
+
+abbrev pub with_spent : System → List Guarded → System
+with_spent s x = record { events = s.events; formulas = s.formulas; spent = x; unequal = s.unequal; links = s.links; order = s.order; next = s.next }
+
+abbrev pub with_unequal : System → List (Term Variable × Term Variable) → System
+with_unequal s x = record { events = s.events; formulas = s.formulas; spent = s.spent; unequal = x; links = s.links; order = s.order; next = s.next }
+
+abbrev pub with_links : System → List Link → System
+with_links s x = record { events = s.events; formulas = s.formulas; spent = s.spent; unequal = s.unequal; links = x; order = s.order; next = s.next }
+
+abbrev pub with_order : System → List (ℕ × ℕ) → System
+with_order s x = record { events = s.events; formulas = s.formulas; spent = s.spent; unequal = s.unequal; links = s.links; order = x; next = s.next }
+
+abbrev pub with_next : System → ℕ → System
+with_next s x = record { events = s.events; formulas = s.formulas; spent = s.spent; unequal = s.unequal; links = s.links; order = s.order; next = x }
+
+-- with more order pairs
+abbrev pub with_pairs : System → List (ℕ × ℕ) → System
+with_pairs s pairs = with_order s (s.order ++ pairs)
+
+-- a premise In(t)
+abbrev pub is_in : {V : Type 0} → Fact V → Bool
+is_in f = bytes_eq f.symbol (codes "In") && not f.persistent

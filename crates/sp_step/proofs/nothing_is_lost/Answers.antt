@@ -1,5 +1,0 @@
-use Rattle.sp_step.proofs.Covering.{nothing_is_lost_lem}
-use Rattle.sp_step.proofs.nothing_is_lost.Goals as goal
-
-pub returns : goal.returns
-returns c = nothing_is_lost_lem

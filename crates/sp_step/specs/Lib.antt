@@ -1,4 +1,0 @@
-pub mod Rows
-pub mod Moves
-pub mod Laws
-pub mod Instances
