@@ -24,7 +24,7 @@ use Rattle.sp_check.specs.Judging.{Judgement, judgement}
 use Rattle.sp_check.specs.Skeleton as read
 use Rattle.sp_check.specs.Skeleton.{Skeleton, tree_of}
 use Rattle.sp_check.proofs.Right.{judgements_right}
-use Rattle.sp_constants.specs.Constants.{constants_of}
+use Rattle.sp_spec.specs.Constants.{constants_of}
 use Rattle.sp_term.specs.View.{name_of}
 use Rattle.sp_fact.specs.BookView.{book_of}
 use Rattle.sp_text.specs.Places.{HavePlaces}

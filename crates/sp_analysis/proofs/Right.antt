@@ -1,6 +1,6 @@
 -- What is written of a lemma is so, and of a text one thing is written.
-use Rattle.std.proofs.Common.{◌≡◌, ◌↔◌, ℕ, Bool, true, false, ◌&&◌, List, [], ◌∷◌, Option, Some, None, option_and_then, refl, sym, ap, ◌∙◌, subst}
-use Rattle.sp_spec.specs.Lists.{Every, newest_first}
+use Rattle.std.proofs.Common.{inl, inr, ◌≡◌, ◌↔◌, ℕ, Bool, true, false, ◌&&◌, List, [], ◌∷◌, Option, Some, None, option_and_then, refl, sym, ap, ◌∙◌, subst}
+use Rattle.sp_spec.specs.Lists.{Member, Every, newest_first}
 use Rattle.sp_spec.specs.Rule.{Rule}
 use Rattle.sp_spec.specs.Signature.{Signature}
 use Rattle.sp_spec.specs.Log.{Entry, Log, log_trace}
@@ -16,12 +16,15 @@ use Rattle.sp_solved.specs.Found.{is_sought, kept_if, found}
 use Rattle.sp_law_shown.specs.Shown.{IsSearched, FoundBreaks, FoundSatisfies}
 use Rattle.sp_spec_system.specs.Move.{Context}
 use Rattle.sp_spec_proof.specs.Tree.{Tree, IsAccepted, IsFinished, found_log}
-use Rattle.sp_law_tree.specs.PlainTheory.{IsPlainFormula}
+use Rattle.sp_spec_system.specs.Numbered.{names_in}
+use Rattle.sp_law_system.specs.Proofs.{IsContextOf}
+use Rattle.sp_law_tree.specs.PlainTheory.{IsPlainFormula, HasNames}
+use Rattle.sp_law_tree.proofs.WrittenRules.{names_stand_lem}
 use Rattle.sp_law_tree.proofs.AllShown.{lemmas_are_shown_lem}
 use Rattle.sp_law_tree.proofs.Growing.{grown_tree_accepted}
 use Rattle.sp_law_tree.proofs.Logs.{log_found}
 use Rattle.sp_law_shown.proofs.Found.{found_logs_show_lem}
-use Rattle.sp_constants.specs.Constants.{constants_of}
+use Rattle.sp_spec.specs.Constants.{constants_of}
 use Rattle.sp_wf.specs.Laws.{IsWellFormed}
 use Rattle.sp_analysis.specs.Sought.{budget, start, setting_of, context_of}
 use Rattle.sp_analysis.specs.Analysis.{Outcome, IsOutcome, AreOutcomes}
@@ -65,9 +68,23 @@ found_tested signature rules constants f s log e = at (candidate constants s) e
     at None h = absurd cc
     at (Some entries) h = kept entries (is_log signature rules entries) (decided (log_trace (newest_first entries)) empty f) refl refl h
 
+-- a lemma of the text, with the text's public names
+abbrev IsLemmaOf : WrittenTheory → Lemma → Type 0
+IsLemmaOf theory l = IsPlainFormula l.formula × HasNames (names_in (constants_of theory)) l.formula
+
+lemmas_of : (theory : WrittenTheory) → Every (λ (l : Lemma). IsPlainFormula l.formula) theory.lemmas → Every (IsLemmaOf theory) theory.lemmas
+lemmas_of theory plain = go theory.lemmas (λ l m. m) plain
+  where
+    go : (ls : List Lemma) → ((l : Lemma) → Member l ls → Member l theory.lemmas) → Every (λ (l : Lemma). IsPlainFormula l.formula) ls → Every (IsLemmaOf theory) ls
+    go [] among h = tt
+    go (l ∷ ls) among h = ((h.0, names_stand_lem.lemmas theory l (among l (inl refl)) h.0), go ls (λ x m. among x (inr m)) h.1)
+
 module _ (theory : WrittenTheory) (first : AreFirst theory.rules theory.lemmas) (fine : IsWellFormed theory) (none : theory.restrictions ≡ []) where
   searched : IsSearched theory
   searched = record { plain = first.rules_are; rule_names = fine.rule_names; right = fine.rules; unrestricted = none }
+
+  is_context : (kind : TraceKind) (g : Guarded) → IsContextOf (theory_of theory) (context_of (setting_of theory) kind g)
+  is_context kind g = record { rules = refl; numbered = names_stand_lem.rules theory first.rules_are }
 
   breaks : (l : Lemma) → IsPlainFormula l.formula → (g : Guarded) → checked_form l.formula ≡ Some g → (s : System) (log : Log)
       → found (signature_of (theory_of theory)) (theory_of theory).rules (constants_of theory) (negate g) s ≡ Some log → FoundBreaks (theory_of theory) l log
@@ -87,30 +104,30 @@ module _ (theory : WrittenTheory) (first : AreFirst theory.rules theory.lemmas) 
   ended kind g tree log e = log_found (context_of (setting_of theory) kind g) tree (start kind g) log (sym e)
 
   -- an accepted tree shows what it says
-  shown : (l : Lemma) → IsPlainFormula l.formula → (g : Guarded) → checked_form l.formula ≡ Some g → (kind : TraceKind) (v : Verdict) (log : Option Log) (tree : Tree)
+  shown : (l : Lemma) → IsLemmaOf theory l → (g : Guarded) → checked_form l.formula ≡ Some g → (kind : TraceKind) (v : Verdict) (log : Option Log) (tree : Tree)
       → IsAccepted (context_of (setting_of theory) kind g) (start kind g) tree → log ≡ found_log (context_of (setting_of theory) kind g) (start kind g) tree
       → Says kind v log (IsFinished tree) → Means (theory_of theory) kind v log l
   shown l f g e all_traces verified None tree accepted is says =
-      lemmas_are_shown_lem.all_traces theory first.rules_are fine.rules l f g e (context_of (setting_of theory) all_traces g) (record { rules = refl }) tree accepted says
+      lemmas_are_shown_lem.all_traces theory first.rules_are fine.rules l f.0 g e (context_of (setting_of theory) all_traces g) (is_context all_traces g) f.1 tree accepted says
   shown l f g e all_traces verified (Some log) tree accepted is says = absurd says
   shown l f g e all_traces falsified None tree accepted is says = absurd says
   shown l f g e all_traces falsified (Some log) tree accepted is says =
-      let s = ended all_traces g tree log is in breaks l f g e s.0 log s.1
+      let s = ended all_traces g tree log is in breaks l f.0 g e s.0 log s.1
   shown l f g e all_traces incomplete None tree accepted is says = tt
   shown l f g e all_traces incomplete (Some log) tree accepted is says = absurd says
   shown l f g e all_traces (rejected step clause) log tree accepted is says = absurd says
   shown l f g e exists_trace verified None tree accepted is says = absurd says
   shown l f g e exists_trace verified (Some log) tree accepted is says =
-      let s = ended exists_trace g tree log is in satisfies l f g e s.0 log s.1
+      let s = ended exists_trace g tree log is in satisfies l f.0 g e s.0 log s.1
   shown l f g e exists_trace falsified None tree accepted is says =
-      lemmas_are_shown_lem.exists_trace theory first.rules_are fine.rules l f g e (context_of (setting_of theory) exists_trace g) (record { rules = refl }) tree accepted says
+      lemmas_are_shown_lem.exists_trace theory first.rules_are fine.rules l f.0 g e (context_of (setting_of theory) exists_trace g) (is_context exists_trace g) f.1 tree accepted says
   shown l f g e exists_trace falsified (Some log) tree accepted is says = absurd says
   shown l f g e exists_trace incomplete None tree accepted is says = tt
   shown l f g e exists_trace incomplete (Some log) tree accepted is says = absurd says
   shown l f g e exists_trace (rejected step clause) log tree accepted is says = absurd says
 
   -- so does a proof that was read; one that is rejected shows nothing
-  read_shown : (l : Lemma) → IsPlainFormula l.formula → (g : Guarded) → checked_form l.formula ≡ Some g → (kind : TraceKind) (k : Skeleton) (v : Verdict) (log : Option Log)
+  read_shown : (l : Lemma) → IsLemmaOf theory l → (g : Guarded) → checked_form l.formula ≡ Some g → (kind : TraceKind) (k : Skeleton) (v : Verdict) (log : Option Log)
       → IsVerdictOn (context_of (setting_of theory) kind g) (start kind g) k kind v log → Means (theory_of theory) kind v log l
   read_shown l f g e all_traces k (rejected step clause) None h = tt
   read_shown l f g e exists_trace k (rejected step clause) None h = tt
@@ -119,7 +136,7 @@ module _ (theory : WrittenTheory) (first : AreFirst theory.rules theory.lemmas) 
   read_shown l f g e kind k falsified log (tree, is, accepted, n, says) = shown l f g e kind falsified log tree accepted n says
   read_shown l f g e kind k incomplete log (tree, is, accepted, n, says) = shown l f g e kind incomplete log tree accepted n says
 
-  judged_right : (l : Lemma) (p : Option WrittenProof) (j : Judged) → IsPlainFormula l.formula → IsJudged (setting_of theory) l p j → JudgedRightly theory j
+  judged_right : (l : Lemma) (p : Option WrittenProof) (j : Judged) → IsLemmaOf theory l → IsJudged (setting_of theory) l p j → JudgedRightly theory j
   judged_right l p j f h = subst (λ (x : Judged). JudgedRightly theory x) (with_lemma j h.lemma_is) (record {
     means = read_shown l f j.form h.form_is l.kind j.proof j.verdict j.log h.verdict_is;
     accepts = accepted_or_rejected (context_of (setting_of theory) l.kind j.form) (start l.kind j.form) j.proof l.kind j.verdict j.log h.verdict_is;
@@ -128,7 +145,7 @@ module _ (theory : WrittenTheory) (first : AreFirst theory.rules theory.lemmas) 
       with_lemma : (j : Judged) → j.lemma ≡ l → record { lemma = l; form = j.form; proof = j.proof; log = j.log; verdict = j.verdict } ≡ j
       with_lemma j e = ap (λ (m : Lemma). record { lemma = m; form = j.form; proof = j.proof; log = j.log; verdict = j.verdict }) (sym e)
 
-  all_judged_right : (items : List Item) (js : List Judged) → Every (λ (l : Lemma). IsPlainFormula l.formula) (lemmas_in items) → AreJudged (setting_of theory) items js
+  all_judged_right : (items : List Item) (js : List Judged) → Every (λ (l : Lemma). IsLemmaOf theory l) (lemmas_in items) → AreJudged (setting_of theory) items js
       → Every (JudgedRightly theory) js
   all_judged_right [] [] f h = tt
   all_judged_right [] (j ∷ js) f h = absurd h
@@ -136,7 +153,7 @@ module _ (theory : WrittenTheory) (first : AreFirst theory.rules theory.lemmas) 
   all_judged_right (lemma_item l p ∷ items) [] f h = absurd h
   all_judged_right (lemma_item l p ∷ items) (j ∷ js) f h = (judged_right l p j f.0 h.0, all_judged_right items js f.1 h.1)
 
-  outcome_right : (l : Lemma) (o : Outcome) → IsPlainFormula l.formula → IsOutcome (setting_of theory) l o → Means (theory_of theory) o.lemma.kind o.verdict o.log o.lemma
+  outcome_right : (l : Lemma) (o : Outcome) → IsLemmaOf theory l → IsOutcome (setting_of theory) l o → Means (theory_of theory) o.lemma.kind o.verdict o.log o.lemma
   outcome_right l o f h =
       let context = context_of (setting_of theory) l.kind h.form in
       let s = start l.kind h.form in
@@ -144,7 +161,7 @@ module _ (theory : WrittenTheory) (first : AreFirst theory.rules theory.lemmas) 
       (shown l f h.form h.form_is l.kind o.verdict o.log o.tree (subst (λ (t : Tree). IsAccepted context s t) (sym h.tree_is) (grown_tree_accepted context s budget))
       (h.log_is ∙ ap (found_log context s) (sym h.tree_is)) h.verdict_is)
 
-  outcomes_right : (ls : List Lemma) (os : List Outcome) → Every (λ (l : Lemma). IsPlainFormula l.formula) ls → AreOutcomes (setting_of theory) ls os
+  outcomes_right : (ls : List Lemma) (os : List Outcome) → Every (λ (l : Lemma). IsLemmaOf theory l) ls → AreOutcomes (setting_of theory) ls os
       → Every (λ (o : Outcome). Means (theory_of theory) o.lemma.kind o.verdict o.log o.lemma) os
   outcomes_right [] [] f h = tt
   outcomes_right [] (o ∷ os) f h = absurd h
@@ -155,8 +172,8 @@ pub verdicts_are_right_lem : VerdictsAreRight
 verdicts_are_right_lem = record {
   right = λ text written outcomes a.
       let first = theory_spelled a.poses.says.spells in
-      outcomes_right (theory_in a.theory) first a.poses.fine refl (theory_in a.theory).lemmas outcomes first.lemmas_are a.outcomes_are;
+      outcomes_right (theory_in a.theory) first a.poses.fine refl (theory_in a.theory).lemmas outcomes (lemmas_of (theory_in a.theory) first.lemmas_are) a.outcomes_are;
   judged_right = λ text written judged c.
       let first = theory_spelled c.poses.says.spells in
-      all_judged_right (theory_in c.theory) first c.poses.fine refl c.theory.items judged first.lemmas_are c.judged_are;
+      all_judged_right (theory_in c.theory) first c.poses.fine refl c.theory.items judged (lemmas_of (theory_in c.theory) first.lemmas_are) c.judged_are;
 }

@@ -1,5 +1,5 @@
 -- What a proof of a lemma begins with, what it is made in, and the proof tree that is grown for it.
-use Rattle.std.specs.Prelude.{List, ℕ, Option, map}
+use Rattle.std.specs.Prelude.{List, ℕ, Option, map, Some, [], ◌∷◌}
 use Rattle.sp_spec.specs.Rule.{Rule}
 use Rattle.sp_spec.specs.Signature.{Signature}
 use Rattle.sp_spec.specs.Theory.{TraceKind, all_traces, exists_trace, signature_of}
@@ -12,7 +12,7 @@ use Rattle.sp_spec_system.specs.Move.{Context}
 use Rattle.sp_spec_proof.specs.Tree.{Tree, found_log}
 use Rattle.sp_spec_proof.specs.Root.{root}
 use Rattle.sp_spec_proof.specs.Growth.{grown_tree}
-use Rattle.sp_constants.specs.Constants.{constants_of}
+use Rattle.sp_spec.specs.Constants.{constants_of}
 use Rattle.sp_solved.specs.Found.{found}
 use Rattle.sp_spec_system.specs.Rules.{forms_of}
 
@@ -39,7 +39,7 @@ setting_of theory = record { signature = signature_of (theory_of theory); rules 
 
 -- the search ends with a log over whose trace the formula is true
 abbrev pub context_with : Setting → Guarded → Context
-context_with setting f = record { rules = record { signature = setting.signature; forms = map forms_of setting.rules }; found = found setting.signature setting.rules setting.constants f }
+context_with setting f = record { rules = record { signature = setting.signature; forms = map forms_of setting.rules }; public_names = setting.constants; root = Some (record { formulas = f ∷ [] }); found = found setting.signature setting.rules setting.constants f }
 
 -- For a lemma with this guarded form it is the formula with which the proof begins: the log breaks a lemma on all traces, and satisfies
 -- one on some trace.

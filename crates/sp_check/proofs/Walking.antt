@@ -3,7 +3,7 @@ use Rattle.std.proofs.Common.{◌≡◌, ℕ, ◌+◌, Bool, true, false, if◌t
 use Rattle.std.proofs.lemmas.Bool.{false≢true}
 use Rattle.sp_spec.specs.Log.{Log}
 use Rattle.sp_spec_system.specs.System.{System}
-use Rattle.sp_spec_system.specs.Move.{Move, simplify, contradiction, unproved, solved, or, action, premise, Context, Case}
+use Rattle.sp_spec_system.specs.Move.{Move, simplify, contradiction, unproved, solved, or, action, premise, Context, Case, end_log}
 use Rattle.sp_spec_proof.specs.Cases.{cases}
 use Rattle.sp_spec_proof.specs.Tree.{node, no_branch, IsAccepted, AreAccepted, is_solved, first_log}
 use Rattle.sp_check.specs.Skeleton.{known, unbuilt, unknown, Skeleton, node_read, BranchesRead, none_read, branch_read, nodes, nodes_in}
@@ -50,16 +50,16 @@ cases_tell context before met s move goes_on bs below None e = (1, refl, inl (re
 cases_tell context before met s move goes_on bs below (Some cs) e = names_tell context before met s move goes_on bs cs e (below cs) (are_named cs bs) refl
 
 -- where the search ends
-end_cases : (context : Context) (s : System) (log : Log) → context.found s ≡ Some log → cases context s solved ≡ Some []
+end_cases : (context : Context) (s : System) (log : Log) → end_log context s ≡ Some log → cases context s solved ≡ Some []
 end_cases context s log e = rw e refl
 
-end_accepted : (context : Context) (s : System) (log : Log) → context.found s ≡ Some log → IsAccepted context s (node solved no_branch)
+end_accepted : (context : Context) (s : System) (log : Log) → end_log context s ≡ Some log → IsAccepted context s (node solved no_branch)
 end_accepted context s log e = subst (λ (o : Option (List Case)). AreAccepted context o no_branch) (sym (end_cases context s log e)) tt
 
-no_end_cases : (context : Context) (s : System) → context.found s ≡ None → cases context s solved ≡ None
+no_end_cases : (context : Context) (s : System) → end_log context s ≡ None → cases context s solved ≡ None
 no_end_cases context s e = rw e refl
 
-end_tells : (context : Context) (before : ℕ) (met : Option Log) (s : System) (bs : BranchesRead) (o : Option Log) → context.found s ≡ o
+end_tells : (context : Context) (before : ℕ) (met : Option Log) (s : System) (bs : BranchesRead) (o : Option Log) → end_log context s ≡ o
     → WalkTells context before met s (node_read (known solved) bs) (walk_checked context (before + 1) met (log_checked bs o) bs)
 end_tells context before met s bs None e = (1, refl, inl (refl, (tt, no_end_cases context s e)))
 end_tells context before met s none_read (Some log) e = (refl, (Some log, (node solved no_branch, refl, end_accepted context s log e, e), refl))
@@ -83,7 +83,7 @@ first_tells context before met c cs name k bs e (stopped n clause) h later = (h.
 
 mutual
   pub walk_tells : (context : Context) (before : ℕ) (met : Option Log) (s : System) (k : Skeleton) → WalkTells context before met s k (walk context before met s k)
-  walk_tells context before met s (node_read (known solved) bs) = end_tells context before met s bs (context.found s) refl
+  walk_tells context before met s (node_read (known solved) bs) = end_tells context before met s bs (end_log context s) refl
   walk_tells context before met s (node_read (known simplify) bs) = cases_tell context before met s simplify refl bs (λ cs names. branches_tell context (before + 1) met cs bs names) (cases context s simplify) refl
   walk_tells context before met s (node_read (known contradiction) bs) = cases_tell context before met s contradiction refl bs (λ cs names. branches_tell context (before + 1) met cs bs names) (cases context s contradiction) refl
   walk_tells context before met s (node_read (known unproved) bs) = cases_tell context before met s unproved refl bs (λ cs names. branches_tell context (before + 1) met cs bs names) (cases context s unproved) refl

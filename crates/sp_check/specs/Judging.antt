@@ -2,7 +2,7 @@
 use Rattle.std.specs.Prelude.{ℕ, ◌+◌, Bool, true, false, ◌&&◌, if◌then◌else◌, List, [], ◌∷◌, Option, Some, None, bytes_eq}
 use Rattle.sp_spec.specs.Log.{Log}
 use Rattle.sp_spec_system.specs.System.{System}
-use Rattle.sp_spec_system.specs.Move.{Move, Context, Case}
+use Rattle.sp_spec_system.specs.Move.{Move, Context, Case, end_log}
 use Rattle.sp_spec_proof.specs.Cases.{cases}
 use Rattle.sp_spec_proof.specs.Tree.{is_solved, first_log}
 use Rattle.sp_check.specs.Skeleton.{Step, known, unbuilt, unknown, Skeleton, node_read, BranchesRead, none_read, branch_read, has_open}
@@ -41,7 +41,7 @@ log_checked branches None = fails clause_instance
 log_checked branches (Some log) = if are_named [] branches then ends_with log else fails clause_cases
 
 abbrev pub move_checked : Context → System → Move → BranchesRead → Checked
-move_checked context s move branches = if is_solved move then log_checked branches (context.found s) else cases_checked branches (cases context s move)
+move_checked context s move branches = if is_solved move then log_checked branches (end_log context s) else cases_checked branches (cases context s move)
 
 abbrev pub step_checked : Context → System → Step → BranchesRead → Checked
 step_checked context s (known move) branches = move_checked context s move branches

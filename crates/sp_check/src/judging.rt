@@ -8,6 +8,7 @@ ghost use Rattle.sp_log.specs.View.{log_of};
 ghost use Rattle.sp_moves.specs.View.{context_of, move_of, case_of};
 ghost use Rattle.sp_check.specs.Judging as spec;
 ghost use Rattle.sp_check.specs.View.{step_of, skeleton_of, branches_of, clause_of, judgement_of, checked_of, walked_of};
+ghost use Rattle.sp_spec_system.specs.Move.{end_log};
 
 use crate::skeleton::{Branch, Skeleton, Step, has_open};
 use sp_log::log::Log;
@@ -102,7 +103,7 @@ fn log_checked(
     system: &System,
     branches: &Vec<Branch>,
 ) -> Result<Checked, AllocError>
-    ensures { IfOk result (λ c. checked_of c ≡ spec.log_checked (branches_of branches.now.items) ((context_of context.now).found (system_of system.now))) }
+    ensures { IfOk result (λ c. checked_of c ≡ spec.log_checked (branches_of branches.now.items) (end_log (context_of context.now) (system_of system.now))) }
 {
     let Some(log) = context.found(alloc, system)? else {
         return Ok(Checked::Fails(Clause::Instance));

@@ -7,8 +7,8 @@ use Rattle.sp_spec.specs.Formula.{Written, Formula}
 use Rattle.sp_spec.specs.Written.{is_listed}
 use Rattle.sp_spec_text.specs.Shapes.{quantified, action_of}
 use Rattle.sp_spec_text.specs.Formulas.{quantified_some}
-use Rattle.sp_constants.specs.Constants.{once_after, in_formula, in_facts, in_actions, in_terms}
-use Rattle.sp_spec.proofs.Listed.{listed_then, listed_now}
+use Rattle.sp_spec.specs.Constants.{once_after, in_formula, in_facts, in_actions, in_terms}
+use Rattle.sp_spec.proofs.Standing.{Stands, all_stand, not_again}
 
 pub once_both : (xs : List (List ℕ)) (ls : List (List ℕ)) (ys : List (List ℕ)) → once_after (once_after ls xs) ys ≡ once_after ls (xs ++ ys)
 once_both [] ls ys = refl
@@ -27,25 +27,6 @@ seen_rule ps acts cs a b c d e k h =
     ∙ once_both (in_actions (map action_of acts)) b (in_facts cs)
     ∙ ap (λ (ls : List (List ℕ)). once_after ls (in_actions (map action_of acts) ++ in_facts cs)) e
     ∙ once_both (in_facts ps) a (in_actions (map action_of acts) ++ in_facts cs)
-
--- ---- a name that stands goes on standing, and isn't put there again
-
-abbrev Stands : List (List ℕ) → List ℕ → Type 0
-Stands ls x = is_listed x ls ≡ true
-
-kept_standing : (x : List ℕ) (ys ls : List (List ℕ)) → is_listed x ls ≡ true → is_listed x (once_after ls ys) ≡ true
-kept_standing x [] ls e = e
-kept_standing x (y ∷ ys) ls e = kept_standing x ys (if is_listed y ls then ls else ls ++ y ∷ []) (listed_then (is_listed y ls) x y ls e)
-
-all_stand : (xs ls : List (List ℕ)) → Every (Stands (once_after ls xs)) xs
-all_stand [] ls = tt
-all_stand (x ∷ xs) ls =
-    let now = if is_listed x ls then ls else ls ++ x ∷ [] in
-    (kept_standing x xs now (listed_now (is_listed x ls) x ls refl), all_stand xs now)
-
-not_again : (xs ls : List (List ℕ)) → Every (Stands ls) xs → once_after ls xs ≡ ls
-not_again [] ls h = refl
-not_again (x ∷ xs) ls h = ap (λ (b : Bool). once_after (if b then ls else ls ++ x ∷ []) xs) h.0 ∙ not_again xs ls h.1
 
 -- ---- formulas
 

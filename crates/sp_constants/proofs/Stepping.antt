@@ -5,7 +5,7 @@ use Rattle.sp_spec_text.specs.Written.{rules_in, lemmas_in}
 use Rattle.sp_written.specs.Views as view
 use Rattle.sp_written.specs.declared.theory.Item.{Item}
 use Rattle.sp_written.specs.declared.theory.Item.TheVariants as i
-use Rattle.sp_constants.specs.Constants.{once_after, in_rules, in_lemmas}
+use Rattle.sp_spec.specs.Constants.{once_after, in_rules, in_lemmas}
 use Rattle.sp_constants.proofs.Once.{once_both}
 use Rattle.sp_spec.proofs.Lists.{next_item}
 

@@ -8,8 +8,8 @@ ghost use Rattle.sp_read_parts.specs.Views as parts;
 ghost use Rattle.sp_read_parts.specs.Formulas as written;
 ghost use Rattle.sp_spec_text.specs.Written.{rules_in, lemmas_in, theory_in};
 ghost use Rattle.sp_written.specs.Views as view;
-ghost use Rattle.sp_constants.specs.Constants as spec;
-ghost use Rattle.sp_constants.specs.Constants.{once_after};
+ghost use Rattle.sp_spec.specs.Constants as spec;
+ghost use Rattle.sp_spec.specs.Constants.{once_after};
 
 use sp_read_parts::{ReadFormula, WrittenFact, WrittenRule, WrittenTerm};
 use sp_term::term::Name;

@@ -5,7 +5,7 @@ use Rattle.sp_spec.specs.Same.{same_term, same_terms}
 use Rattle.sp_spec.specs.Guarded.{Place, free}
 use Rattle.sp_law_decide.specs.Deciding.{matched, matched_all}
 use Rattle.sp_law_decide.proofs.Matched.{Messages}
-use Rattle.sp_formula.specs.Change.{placed}
+use Rattle.sp_spec.specs.Change.{placed}
 use Rattle.sp_formula.specs.declared.formula.FormulaTerm.{FormulaTerm}
 use Rattle.sp_formula.specs.FormulaView.{placed_terms}
 use Rattle.sp_eval.specs.View.{kept, free_value, free_values}

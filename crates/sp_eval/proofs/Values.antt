@@ -5,7 +5,7 @@ use Rattle.sp_spec.specs.Term.{Variable, Term, var, constant, name, app, Terms, 
 use Rattle.sp_spec.specs.Guarded.{Place, free}
 use Rattle.sp_law_decide.specs.Deciding.{is_known, are_known, term_value, given_to}
 use Rattle.sp_law_decide.proofs.Matched.{Messages, value_by}
-use Rattle.sp_formula.specs.Change.{placed}
+use Rattle.sp_spec.specs.Change.{placed}
 use Rattle.sp_term.specs.View.{view, view_all}
 use Rattle.sp_term.specs.declared.term.Term as memory
 use Rattle.sp_ground.specs.View.{row}

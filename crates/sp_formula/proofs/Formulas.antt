@@ -2,7 +2,7 @@
 use Rattle.std.proofs.Common.{◌≡◌, List, [], ◌∷◌, map, refl, sym, ap, ap₂, ◌∙◌}
 use Rattle.std.specs.Global.{Vec, Box}
 use Rattle.sp_spec.specs.Guarded.{Binder, Atom, Guarded, some, every, all_of, one_of, and_then}
-use Rattle.sp_formula.specs.Change.{Change, under, atom_changed, changed, changed_each}
+use Rattle.sp_spec.specs.Change.{Change, under, atom_changed, changed, changed_each}
 use Rattle.sp_formula.specs.FormulaView.{atom_of, binder_of, guardeds_of, formula_step, formula_of}
 use Rattle.sp_formula.specs.declared.formula.Atom as memory_atom
 use Rattle.sp_formula.specs.declared.formula.Binder as memory_binder

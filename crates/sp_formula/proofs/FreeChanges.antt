@@ -4,9 +4,9 @@ use Rattle.std.proofs.lemmas.Bool.{eqb-true}
 use Rattle.std.proofs.Math.Path.{fun_ext}
 use Rattle.sp_spec.specs.Term.{Variable, Term, var, valued}
 use Rattle.sp_spec.specs.Guarded.{Place, free, bound, Time, bound_time, Binder, message, time, pushed}
-use Rattle.sp_formula.specs.Change.{Change, placed, place_changed, under, under_message, under_time, free_change}
-use Rattle.sp_formula.specs.Change.{time_replaced}
-use Rattle.sp_formula.proofs.Values.{valued-valued}
+use Rattle.sp_spec.specs.Change.{Change, placed, place_changed, under, under_message, under_time, free_change}
+use Rattle.sp_spec.specs.Change.{time_replaced}
+use Rattle.sp_spec.proofs.Values.{valued-valued}
 
 -- a term of the system in a formula becomes the changed term
 pub valued-placed : (c : Change) (t : Term Variable) → valued (place_changed c) (placed t) ≡ placed (valued c.terms t)

@@ -1,4 +1,3 @@
-pub mod Values
 pub mod Rows
 pub mod FreeChanges
 pub mod Formulas

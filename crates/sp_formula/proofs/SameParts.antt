@@ -5,9 +5,9 @@ use Rattle.std.specs.Str.{bytes_eq}
 use Rattle.sp_spec.specs.Term.{Variable, Term, var, constant, name, app, Terms, none, more, valued_all}
 use Rattle.sp_spec.specs.Guarded.{Place, free, Binder, Atom, Guarded}
 use Rattle.sp_spec.specs.Same.{same_by, same_all_by, alike, alike_all}
-use Rattle.sp_formula.specs.Change.{placed}
+use Rattle.sp_spec.specs.Change.{placed}
 use Rattle.sp_formula.specs.FormulaView.{row_of, guardeds_of}
-use Rattle.sp_formula.specs.SameFormula.{same_place, same_binder, same_binders, same_atom, same_atoms, same_formula, same_formulas}
+use Rattle.sp_spec.specs.SameFormula.{same_place, same_binder, same_binders, same_atom, same_atoms, same_formula, same_formulas}
 
 mutual
   pub same_by-placed : (t u : Term Variable) → same_by same_place (placed t) (placed u) ≡ alike t u

@@ -5,7 +5,7 @@ use Rattle.sp_spec.specs.Rule.{Action}
 use Rattle.sp_spec.specs.Guarded.{Place, bound}
 use Rattle.sp_spec.specs.Guarded as spec
 use Rattle.sp_term.specs.View.{sort_of, name_of, view}
-use Rattle.sp_formula.specs.Change.{placed}
+use Rattle.sp_spec.specs.Change.{placed}
 use Rattle.sp_formula.specs.declared.formula.FormulaTerm.{FormulaTerm}
 use Rattle.sp_formula.specs.declared.formula.FormulaTerm.TheVariants.{Bound, Free}
 use Rattle.sp_formula.specs.declared.formula.Moment.{Moment}

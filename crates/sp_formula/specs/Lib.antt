@@ -1,3 +1,1 @@
-pub mod Change
 pub mod FormulaView
-pub mod SameFormula

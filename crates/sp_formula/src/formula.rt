@@ -5,8 +5,8 @@ ghost use Rattle.sp_spec.specs.Term.{var, valued, valued_all};
 ghost use Rattle.sp_spec.specs.Rule.{action_at};
 ghost use Rattle.sp_spec.specs.Substitution.{bound_to};
 ghost use Rattle.sp_term.specs.Bindings.{bindings};
-ghost use Rattle.sp_formula.specs.Change.{place_changed, time_changed, atom_changed, changed, free_change};
-ghost use Rattle.sp_formula.specs.Change.{time_replaced};
+ghost use Rattle.sp_spec.specs.Change.{place_changed, time_changed, atom_changed, changed, free_change};
+ghost use Rattle.sp_spec.specs.Change.{time_replaced};
 ghost use Rattle.sp_formula.specs.FormulaView.{placed_term, placed_terms, placed_action, moment_of, atom_of, binder_of, formula_of};
 
 use sp_term::subst::{Subst, apply};

@@ -3,7 +3,7 @@
 ghost use Rattle.std.specs.Prelude.{◌≡◌, map};
 ghost use Rattle.sp_spec.specs.Same.{same_by, same_all_by};
 ghost use Rattle.sp_formula.specs.FormulaView.{placed_term, placed_terms, moment_of, binder_of, atom_of, guardeds_of, formula_of};
-ghost use Rattle.sp_formula.specs.SameFormula as spec;
+ghost use Rattle.sp_spec.specs.SameFormula as spec;
 
 use crate::formula::{Atom, Binder, Formula, FormulaTerm, Moment};
 use sp_term::term::same;

@@ -4,7 +4,7 @@ use Rattle.sp_spec.specs.Term.{Variable, Term, Terms, var, constant, name, app, 
 use Rattle.sp_spec.specs.Guarded.{Atom, free}
 use Rattle.sp_term.specs.View.{view}
 use Rattle.sp_term.specs.declared.term.Term as memory
-use Rattle.sp_formula.specs.Change.{placed}
+use Rattle.sp_spec.specs.Change.{placed}
 use Rattle.sp_law_guard.specs.IsGuarded.{stands_in, stands_among, is_given, are_given, is_variable}
 
 mutual

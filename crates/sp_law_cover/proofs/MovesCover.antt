@@ -1,7 +1,7 @@
 -- Each move covers, with its cases simplified.
 use Rattle.std.proofs.Common.{◌≡◌, ◌≤◌, ◌<◌, ◌+◌, ℕ, Bool, true, false, if◌then◌else◌, List, [], ◌∷◌, map, length, Option, Some, None, option_map, is_some, refl, sym, subst, arith, le_refl, le_trans, slice_get}
 use Rattle.sp_spec.specs.Lists.{Every}
-use Rattle.sp_spec.specs.Term.{Variable, EachVariables}
+use Rattle.sp_spec.specs.Term.{Names, Variable, AllMadeOf}
 use Rattle.sp_spec.specs.Rule.{Action, Rule}
 use Rattle.sp_spec.specs.Equal.{AreNormal}
 use Rattle.sp_spec.specs.Theory.{Theory, signature_of}
@@ -12,7 +12,7 @@ use Rattle.sp_spec.specs.Substitution.{Binding, bound_to}
 use Rattle.sp_law_equal.specs.Convergent.{AreConvergent, KeepSymbols}
 use Rattle.sp_spec_system.specs.System.{Happening, rule_step, Event, System, happening_actions}
 use Rattle.sp_spec_system.specs.Solutions.{Valuation, assignment, FormulaHolds, Solves}
-use Rattle.sp_spec_system.specs.Numbered.{InEvent, InHappening, InFormula, IsNumbered}
+use Rattle.sp_spec_system.specs.Numbered.{names_in, InEvent, InHappening, InFormula, IsNumbered}
 use Rattle.sp_spec_system.specs.Covering.{NoneSolved, Covers}
 use Rattle.sp_law_system.specs.Laws.{UnifierIsRight}
 use Rattle.sp_spec_system.specs.Equating.{action_pair, unifier_of, system_changed}
@@ -23,22 +23,22 @@ use Rattle.sp_law_system.proofs.Solutions.{Under, TimeUnder, agrees_then, change
 use Rattle.sp_spec_system.specs.Formulas.{freed_action}
 use Rattle.sp_spec_system.specs.MakingOne.{event_at}
 use Rattle.sp_spec_proof.specs.Rows.{has_place, is_contradictory, simplified}
-use Rattle.sp_spec_system.specs.Move.{Move, simplify, contradiction, unproved, solved, or, action, premise, Context, Case}
+use Rattle.sp_spec_system.specs.Move.{Move, simplify, contradiction, unproved, solved, or, action, premise, Context, Case, end_log}
 use Rattle.sp_spec_system.specs.Cases.{where_same, renamed, system_if, named}
 use Rattle.sp_spec_formula.specs.Action.{with_step, by_actions, by_each, action_cases, action_at_time, is_adversary, solving_action, by_forms}
 use Rattle.sp_spec_graph.specs.Premise.{open_premise, premise_cases}
 use Rattle.sp_spec_proof.specs.Cases.{raw_cases, simple_case, cases}
 use Rattle.sp_law_system.specs.Rules.{ActionsAreOver, RulesAreNumbered, RulesArePlain, IsClosedRule, FormsAreNumbered}
 use Rattle.sp_law_system.specs.Proofs.{IsContextOf, IsWellMade, IsKept, systems_of, IsPast, CoversBelow}
-use Rattle.sp_law_cover.specs.Laws.{RowsCover, MovesCover}
+use Rattle.sp_law_cover.specs.Laws.{MovesCover}
 use Rattle.sp_law_formula.proofs.Freed.{freed_action_in}
 use Rattle.sp_spec.proofs.Options.{mapped}
-use Rattle.sp_law_formula.proofs.Twins.{unifier_within, Later}
+use Rattle.sp_law_formula.proofs.Merged.{unifier_within, Later}
 use Rattle.sp_law_formula.proofs.Opened.{EqualTruth}
 use Rattle.sp_law_formula.proofs.Parts.{or_covers, or_numbered}
 use Rattle.sp_law_formula.proofs.Actions.{named_systems, systems_append, at_event_systems, step_numbered}
 use Rattle.sp_law_formula.proofs.ActionCovers.{event_found, at_event_solved, new_step_solved}
-use Rattle.sp_law_graph.proofs.Givers.{premise_numbered, premise_covers}
+use Rattle.sp_law_graph.proofs.Premises.{premise_numbered, premise_covers}
 use Rattle.sp_law_cover.proofs.Simplifying.{no_solution, rows_cover, simplified_follows, covers_itself}
 use Rattle.sp_spec_system.specs.Rules.{RuleForms, Rules, forms_of, rules_of}
 use Rattle.sp_law_system.proofs.Forms.{forms_numbered}
@@ -80,17 +80,17 @@ at_place rules s k cs e = at (slice_get s.formulas k) refl e
     at None h l = absurd cc
     at (Some f) h l = (f, h, solving rules s f cs l)
 
-module _ (right : UnifierIsRight) where
-  same_numbered : (base : ℕ) (s : System) → base ≤ s.next → IsNumbered s → (a : Action Variable) (bs : List (Action Variable)) → EachVariables (Under s.next) a.args → Every (λ (b : Action Variable). EachVariables (Under s.next) b.args) bs
-      → Every (Later base) (by_actions s a bs)
+module _ (N : Names) (right : UnifierIsRight) where
+  same_numbered : (base : ℕ) (s : System) → base ≤ s.next → IsNumbered N s → (a : Action Variable) (bs : List (Action Variable)) → AllMadeOf N (Under s.next) a.args → Every (λ (b : Action Variable). AllMadeOf N (Under s.next) b.args) bs
+      → Every (Later N base) (by_actions s a bs)
   same_numbered base s le n a [] ia ib = tt
   same_numbered base s le n a (b ∷ bs) ia ib =
-      every_append (Later base) (system_if (where_same s a b)) (by_actions s a bs) (at (unifier_of (action_pair a b)) refl) (same_numbered base s le n a bs ia ib.1)
+      every_append (Later N base) (system_if (where_same s a b)) (by_actions s a bs) (at (unifier_of (action_pair a b)) refl) (same_numbered base s le n a bs ia ib.1)
     where
-      at : (o : Option (List Binding)) → unifier_of (action_pair a b) ≡ o → Every (Later base) (system_if (option_map (λ bindings. system_changed (bound_to bindings) (λ i. i) s) o))
+      at : (o : Option (List Binding)) → unifier_of (action_pair a b) ≡ o → Every (Later N base) (system_if (option_map (λ bindings. system_changed (bound_to bindings) (λ i. i) s) o))
       at None e = tt
       at (Some bindings) e =
-          ((change_numbered s.next bindings (unifier_within right s.next (action_pair a b) bindings e (action_under s.next a b ia ib.0)) (λ i. i) (λ i h. h) s refl n, le), tt)
+          ((change_numbered N s.next bindings (unifier_within N right s.next (action_pair a b) bindings e (action_under N s.next a b ia ib.0)) (λ i. i) (λ i h. h) s refl n, le), tt)
 
 -- a log is what it was by now
 goes_below : (theory : Theory) (s : System) (cs : List System) → Covers theory s cs → CoversBelow theory s cs
@@ -105,56 +105,56 @@ pub every_system : (P : System → Type 0) (cs : List Case) → Every P (systems
 every_system P [] h = tt
 every_system P (c ∷ cs) h = (h.0, every_system P cs h.1)
 
-module _ (right : UnifierIsRight) (theory : Theory) (good : AreConvergent (signature_of theory).equations) (keeps : KeepSymbols (signature_of theory).symbols (signature_of theory).equations)
-    (rules_numbered : RulesAreNumbered theory.rules) (rules_plain : RulesArePlain (signature_of theory).equations theory.rules) (rules_closed : Every IsClosedRule theory.rules)
+module _ (N : Names) (right : UnifierIsRight) (theory : Theory) (good : AreConvergent (signature_of theory).equations) (keeps : KeepSymbols (signature_of theory).symbols (signature_of theory).equations)
+    (rules_numbered : RulesAreNumbered N theory.rules) (rules_plain : RulesArePlain (signature_of theory).equations theory.rules) (rules_closed : Every IsClosedRule theory.rules)
     (over : ActionsAreOver theory) (equal_truth : EqualTruth) where
-  forms_numbered_by : (forms : List Rule) → RulesAreNumbered forms → (s : System) → IsNumbered s → (i : ℕ) → i < s.next → (a : Action Variable) → EachVariables (Under s.next) a.args
-      → Every (Later s.next) (by_forms forms s i a)
+  forms_numbered_by : (forms : List Rule) → RulesAreNumbered N forms → (s : System) → IsNumbered N s → (i : ℕ) → i < s.next → (a : Action Variable) → AllMadeOf N (Under s.next) a.args
+      → Every (Later N s.next) (by_forms forms s i a)
   forms_numbered_by [] k s n i iu a au = tt
   forms_numbered_by (r ∷ forms) k s n i iu a au =
       let cs = by_actions (with_step s i r) a (renamed s.next r.facts).actions in
-      let num = step_numbered theory s r i iu k.0 n in
+      let num = step_numbered N theory s r i iu k.0 n in
       let own = (every_parts _ s.events (_ ∷ []) num.events).1.0.1.actions in
-      let wide : EachVariables (Under (with_step s i r).next) a.args = each_weaken_all (Under s.next) (Under (s.next + length r.variables)) (λ x h. omega (arith, h)) a.args au in
-      every_append (Later s.next) cs (by_forms forms s i a) (same_numbered right s.next (with_step s i r) (omega arith) num a (renamed s.next r.facts).actions wide own) (forms_numbered_by forms k.1 s n i iu a au)
+      let wide : AllMadeOf N (Under (with_step s i r).next) a.args = each_weaken_all N (Under s.next) (Under (s.next + length r.variables)) (λ x h. omega (arith, h)) a.args au in
+      every_append (Later N s.next) cs (by_forms forms s i a) (same_numbered N right s.next (with_step s i r) (omega arith) num a (renamed s.next r.facts).actions wide own) (forms_numbered_by forms k.1 s n i iu a au)
 
-  by_each_numbered : (rules : List RuleForms) → FormsAreNumbered rules → (s : System) → IsNumbered s → (i : ℕ) → i < s.next → (a : Action Variable) → EachVariables (Under s.next) a.args
-      → Every (Later s.next) (systems_of (by_each rules s i a))
+  by_each_numbered : (rules : List RuleForms) → FormsAreNumbered N rules → (s : System) → IsNumbered N s → (i : ℕ) → i < s.next → (a : Action Variable) → AllMadeOf N (Under s.next) a.args
+      → Every (Later N s.next) (systems_of (by_each rules s i a))
   by_each_numbered [] k s n i iu a au = tt
   by_each_numbered (rule ∷ rules) k s n i iu a au =
       let own = by_forms rule.forms s i a in
-      subst (Every (Later s.next)) (sym (systems_append (named rule.name own) (by_each rules s i a)))
-      (every_append (Later s.next) (systems_of (named rule.name own)) (systems_of (by_each rules s i a))
-      (subst (Every (Later s.next)) (sym (named_systems rule.name own)) (forms_numbered_by rule.forms k.0 s n i iu a au)) (by_each_numbered rules k.1 s n i iu a au))
+      subst (Every (Later N s.next)) (sym (systems_append (named rule.name own) (by_each rules s i a)))
+      (every_append (Later N s.next) (systems_of (named rule.name own)) (systems_of (by_each rules s i a))
+      (subst (Every (Later N s.next)) (sym (named_systems rule.name own)) (forms_numbered_by rule.forms k.0 s n i iu a au)) (by_each_numbered rules k.1 s n i iu a au))
 
   abbrev forms : List RuleForms
   forms = map forms_of theory.rules
 
   -- the parts of the action that is solved
-  action_in_system : (s : System) (n : IsNumbered s) (k : ℕ) (f : Guarded) (cs : List Case) → slice_get s.formulas k ≡ Some f → (r : SolvesAction forms s f cs) → (r.time < s.next) × EachVariables (Under s.next) r.terms.args
+  action_in_system : (s : System) (n : IsNumbered N s) (k : ℕ) (f : Guarded) (cs : List Case) → slice_get s.formulas k ≡ Some f → (r : SolvesAction forms s f cs) → (r.time < s.next) × AllMadeOf N (Under s.next) r.terms.args
   action_in_system s n k f cs e r =
-      let i = subst (InFormula (Under s.next) (TimeUnder s.next)) r.is_action (every_at _ s.formulas k f e n.formulas) in
-      (i.1, freed_action_in (Under s.next) r.atom r.terms r.freed i.0)
+      let i = subst (InFormula N (Under s.next) (TimeUnder s.next)) r.is_action (every_at _ s.formulas k f e n.formulas) in
+      (i.1, freed_action_in N (Under s.next) r.atom r.terms r.freed i.0)
 
-  cases_numbered : (s : System) → IsNumbered s → (i : ℕ) → i < s.next → (a : Action Variable) → EachVariables (Under s.next) a.args → (o : Option Event) → event_at i s.events ≡ o
-      → Every (Later s.next) (systems_of (action_cases forms s i a o))
-  cases_numbered s n i iu a au None e = by_each_numbered forms (forms_numbered theory.rules rules_numbered) s n i iu a au
+  cases_numbered : (s : System) → IsNumbered N s → (i : ℕ) → i < s.next → (a : Action Variable) → AllMadeOf N (Under s.next) a.args → (o : Option Event) → event_at i s.events ≡ o
+      → Every (Later N s.next) (systems_of (action_cases forms s i a o))
+  cases_numbered s n i iu a au None e = by_each_numbered forms (forms_numbered N theory.rules rules_numbered) s n i iu a au
   cases_numbered s n i iu a au (Some d) e =
       let found = event_found i s.events d e in
-      let inside = (every_member (InEvent (Under s.next) (TimeUnder s.next)) s.events d found.0 n.events).1 in
-      subst (Every (Later s.next)) (sym (at_event_systems s a 0 (happening_actions d.happening))) (same_numbered right s.next s (le_refl s.next) n a (happening_actions d.happening) au (happening_in d.happening inside))
+      let inside = (every_member (InEvent N (Under s.next) (TimeUnder s.next)) s.events d found.0 n.events).1 in
+      subst (Every (Later N s.next)) (sym (at_event_systems s a 0 (happening_actions d.happening))) (same_numbered N right s.next s (le_refl s.next) n a (happening_actions d.happening) au (happening_in d.happening inside))
     where
-      happening_in : (h : Happening) → InHappening (Under s.next) h → Every (λ (b : Action Variable). EachVariables (Under s.next) b.args) (happening_actions h)
+      happening_in : (h : Happening) → InHappening N (Under s.next) h → Every (λ (b : Action Variable). AllMadeOf N (Under s.next) b.args) (happening_actions h)
       happening_in (rule_step r facts) k = k.actions
 
-  action_numbered : (s : System) → IsNumbered s → (k : ℕ) (cs : List Case) → solving_action forms s (slice_get s.formulas k) ≡ Some cs → Every (Later s.next) (systems_of cs)
+  action_numbered : (s : System) → IsNumbered N s → (k : ℕ) (cs : List Case) → solving_action forms s (slice_get s.formulas k) ≡ Some cs → Every (Later N s.next) (systems_of cs)
   action_numbered s n k cs e =
       let p = at_place forms s k cs e in
       let r = p.2 in
       let i = action_in_system s n k p.0 cs p.1 r in
-      subst (λ (x : List Case). Every (Later s.next) (systems_of x)) (sym r.cases) (cases_numbered s n r.time i.0 r.terms i.1 (event_at r.time s.events) refl)
+      subst (λ (x : List Case). Every (Later N s.next) (systems_of x)) (sym r.cases) (cases_numbered s n r.time i.0 r.terms i.1 (event_at r.time s.events) refl)
 
-  action_covers : (s : System) → IsNumbered s → (k : ℕ) (cs : List Case) → solving_action forms s (slice_get s.formulas k) ≡ Some cs → Covers theory s (systems_of cs)
+  action_covers : (s : System) → IsNumbered N s → (k : ℕ) (cs : List Case) → solving_action forms s (slice_get s.formulas k) ≡ Some cs → Covers theory s (systems_of cs)
   action_covers s n k cs e =
       let p = at_place forms s k cs e in
       let r = p.2 in
@@ -165,48 +165,48 @@ module _ (right : UnifierIsRight) (theory : Theory) (good : AreConvergent (signa
             f.0 (λ y. acting s n r.atom r.terms r.freed r.time i.0 i.1 r.own log is v h f.1.0 y (event_at r.time s.events) refl (subst (λ (x : List Case). NoneSolved theory log v s.next (systems_of x)) r.cases none));
       }
     where
-      acting : (s : System) (n : IsNumbered s) (f : Action Place) (a : Action Variable) (freed : freed_action f ≡ Some a) (i : ℕ) (i_under : i < s.next) (a_under : EachVariables (Under s.next) a.args)
+      acting : (s : System) (n : IsNumbered N s) (f : Action Place) (a : Action Variable) (freed : freed_action f ≡ Some a) (i : ℕ) (i_under : i < s.next) (a_under : AllMadeOf N (Under s.next) a.args)
           (own : is_adversary f.symbol ≡ false) (log : Log) (is : IsLog theory log) (v : Valuation) (h : Solves theory log v s)
           → AreNormal (signature_of theory).equations (action_in (assignment v) f).args → Acts (signature_of theory).equations (log_trace log) (v.times i) (action_in (assignment v) f)
           → (o : Option Event) → event_at i s.events ≡ o → NoneSolved theory log v s.next (systems_of (action_cases forms s i a o)) → ⊥
       acting s n f a freed i iu au own log is v h normal_f y None e none =
-          new_step_solved right theory good keeps rules_numbered rules_plain s n f a freed i iu au own log is v h y.2 y.0 y.1 y.3 normal_f y.4 none
+          new_step_solved N right theory good keeps rules_numbered rules_plain s n f a freed i iu au own log is v h y.2 y.0 y.1 y.3 normal_f y.4 none
       acting s n f a freed i iu au own log is v h normal_f y (Some d) e none =
           let found = event_found i s.events d e in
-          at_event_solved right theory good keeps rules_numbered rules_plain s n f a freed i iu au own log is v h d found.0 found.1 y.2 (v.times i) refl y.0 y.1 y.3 normal_f y.4
+          at_event_solved N right theory good keeps rules_numbered rules_plain s n f a freed i iu au own log is v h d found.0 found.1 y.2 (v.times i) refl y.0 y.1 y.3 normal_f y.4
           (subst (NoneSolved theory log v s.next) (at_event_systems s a 0 (happening_actions d.happening)) none)
 
   by_rules : (context : Context) → context.rules ≡ rules_of theory → (s : System) (k : ℕ) (cs : List Case) → solving_action context.rules.forms s (slice_get s.formulas k) ≡ Some cs
       → solving_action forms s (slice_get s.formulas k) ≡ Some cs
   by_rules context r s k cs e = subst (λ (rules : Rules). solving_action rules.forms s (slice_get s.formulas k) ≡ Some cs) r e
 
-  by_givers : (context : Context) → context.rules ≡ rules_of theory → (s : System) (i p : ℕ) (cs : List Case) → premise_cases context.rules.forms s i p (open_premise s i p) ≡ Some cs
+  by_premise_rules : (context : Context) → context.rules ≡ rules_of theory → (s : System) (i p : ℕ) (cs : List Case) → premise_cases context.rules.forms s i p (open_premise s i p) ≡ Some cs
       → premise_cases forms s i p (open_premise s i p) ≡ Some cs
-  by_givers context r s i p cs e = subst (λ (rules : Rules). premise_cases rules.forms s i p (open_premise s i p) ≡ Some cs) r e
+  by_premise_rules context r s i p cs e = subst (λ (rules : Rules). premise_cases rules.forms s i p (open_premise s i p) ≡ Some cs) r e
 
   -- before the cases are simplified
-  raw_numbered : (context : Context) → context.rules ≡ rules_of theory → (s : System) (move : Move) (cs : List Case) → raw_cases context s move ≡ Some cs → IsNumbered s → Every (Later s.next) (systems_of cs)
+  raw_numbered : (context : Context) → context.rules ≡ rules_of theory → (s : System) (move : Move) (cs : List Case) → raw_cases context s move ≡ Some cs → IsNumbered N s → Every (Later N s.next) (systems_of cs)
   raw_numbered context r s simplify cs e n = at (has_place s) e
     where
-      at : (b : Bool) → (if b then Some (record { name = []; system = s } ∷ []) else None) ≡ Some cs → Every (Later s.next) (systems_of cs)
-      at true k = let one : Case = record { name = []; system = s } in let g : one ∷ [] ≡ cs = cc in subst (λ (x : List Case). Every (Later s.next) (systems_of x)) g ((n, le_refl s.next), tt)
+      at : (b : Bool) → (if b then Some (record { name = []; system = s } ∷ []) else None) ≡ Some cs → Every (Later N s.next) (systems_of cs)
+      at true k = let one : Case = record { name = []; system = s } in let g : one ∷ [] ≡ cs = cc in subst (λ (x : List Case). Every (Later N s.next) (systems_of x)) g ((n, le_refl s.next), tt)
       at false k = absurd cc
   raw_numbered context r s contradiction cs e n = at (is_contradictory s) e
     where
-      at : (b : Bool) → (if b then Some [] else None) ≡ Some cs → Every (Later s.next) (systems_of cs)
-      at true k = let none : List Case = [] in let g : none ≡ cs = cc in subst (λ (x : List Case). Every (Later s.next) (systems_of x)) g tt
+      at : (b : Bool) → (if b then Some [] else None) ≡ Some cs → Every (Later N s.next) (systems_of cs)
+      at true k = let none : List Case = [] in let g : none ≡ cs = cc in subst (λ (x : List Case). Every (Later N s.next) (systems_of x)) g tt
       at false k = absurd cc
-  raw_numbered context r s unproved cs e n = let none : List Case = [] in let g : none ≡ cs = cc in subst (λ (x : List Case). Every (Later s.next) (systems_of x)) g tt
-  raw_numbered context r s solved cs e n = at (is_some (context.found s)) e
+  raw_numbered context r s unproved cs e n = let none : List Case = [] in let g : none ≡ cs = cc in subst (λ (x : List Case). Every (Later N s.next) (systems_of x)) g tt
+  raw_numbered context r s solved cs e n = at (is_some (end_log context s)) e
     where
-      at : (b : Bool) → (if b then Some [] else None) ≡ Some cs → Every (Later s.next) (systems_of cs)
-      at true k = let none : List Case = [] in let g : none ≡ cs = cc in subst (λ (x : List Case). Every (Later s.next) (systems_of x)) g tt
+      at : (b : Bool) → (if b then Some [] else None) ≡ Some cs → Every (Later N s.next) (systems_of cs)
+      at true k = let none : List Case = [] in let g : none ≡ cs = cc in subst (λ (x : List Case). Every (Later N s.next) (systems_of x)) g tt
       at false k = absurd cc
   raw_numbered context r s (or k) cs e n = or_numbered s n k cs e
   raw_numbered context r s (action k) cs e n = action_numbered s n k cs (by_rules context r s k cs e)
-  raw_numbered context r s (premise i p) cs e n = premise_numbered right theory good keeps rules_numbered rules_plain s n i p cs (by_givers context r s i p cs e)
+  raw_numbered context r s (premise i p) cs e n = premise_numbered N right theory good keeps rules_numbered rules_plain s n i p cs (by_premise_rules context r s i p cs e)
 
-  raw_covers : (context : Context) → context.rules ≡ rules_of theory → (s : System) (move : Move) (cs : List Case) → raw_cases context s move ≡ Some cs → (move ≡ unproved → ⊥) → (move ≡ solved → ⊥) → IsNumbered s → Covers theory s (systems_of cs)
+  raw_covers : (context : Context) → context.rules ≡ rules_of theory → (s : System) (move : Move) (cs : List Case) → raw_cases context s move ≡ Some cs → (move ≡ unproved → ⊥) → (move ≡ solved → ⊥) → IsNumbered N s → Covers theory s (systems_of cs)
   raw_covers context r s simplify cs e not_open not_end n = at (has_place s) e
     where
       at : (b : Bool) → (if b then Some (record { name = []; system = s } ∷ []) else None) ≡ Some cs → Covers theory s (systems_of cs)
@@ -215,29 +215,32 @@ module _ (right : UnifierIsRight) (theory : Theory) (good : AreConvergent (signa
   raw_covers context r s contradiction cs e not_open not_end n = at (is_contradictory s) refl e
     where
       at : (b : Bool) → is_contradictory s ≡ b → (if b then Some [] else None) ≡ Some cs → Covers theory s (systems_of cs)
-      at true c k = record { covers = λ log is v h none. no_solution right theory good keeps rules_plain rules_closed over equal_truth s c n log is v h }
+      at true c k = record { covers = λ log is v h none. no_solution N right theory good keeps rules_plain rules_closed over equal_truth s c n log is v h }
       at false c k = absurd cc
   raw_covers context r s unproved cs e not_open not_end n = absurd (not_open refl)
   raw_covers context r s solved cs e not_open not_end n = absurd (not_end refl)
   raw_covers context r s (or k) cs e not_open not_end n = or_covers theory s k cs e
   raw_covers context r s (action k) cs e not_open not_end n = action_covers s n k cs (by_rules context r s k cs e)
-  raw_covers context r s (premise i p) cs e not_open not_end n = premise_covers right theory good keeps rules_numbered rules_plain s n i p cs (by_givers context r s i p cs e)
+  raw_covers context r s (premise i p) cs e not_open not_end n = premise_covers N right theory good keeps rules_numbered rules_plain s n i p cs (by_premise_rules context r s i p cs e)
 
-  rows_covering : RowsCover theory
-  rows_covering = rows_cover right theory good keeps rules_plain rules_closed over equal_truth
-
+module _ (right : UnifierIsRight) (theory : Theory) (good : AreConvergent (signature_of theory).equations) (keeps : KeepSymbols (signature_of theory).symbols (signature_of theory).equations)
+    (rules_plain : RulesArePlain (signature_of theory).equations theory.rules) (rules_closed : Every IsClosedRule theory.rules)
+    (over : ActionsAreOver theory) (equal_truth : EqualTruth) where
   -- the cases, each simplified
   module _ (context : Context) (is_of : IsContextOf theory context) where
-    simple_follows : (s : System) → IsNumbered s → IsKept context s (simplified s) × Covers theory s (simplified s ∷ [])
-    simple_follows s n = simplified_follows theory rows_covering context is_of 10000 s (record { numbered = n })
+    abbrev N : Names
+    N = names_in context.public_names
 
-    simple_kept : (s : System) (cs : List Case) → Every (Later s.next) (systems_of cs) → Every (IsKept context s) (systems_of (map simple_case cs))
+    simple_follows : (s : System) → IsNumbered N s → IsKept context s (simplified s) × Covers theory s (simplified s ∷ [])
+    simple_follows s n = simplified_follows theory (rows_cover right theory good keeps rules_plain rules_closed over equal_truth) context is_of 10000 s (record { numbered = n })
+
+    simple_kept : (s : System) (cs : List Case) → Every (Later N s.next) (systems_of cs) → Every (IsKept context s) (systems_of (map simple_case cs))
     simple_kept s [] h = tt
     simple_kept s (c ∷ cs) h =
         let f = simple_follows c.system h.0.0 in
         (record { well_made = f.0.well_made; next = le_trans h.0.1 f.0.next }, simple_kept s cs h.1)
 
-    simple_solved : (log : Log) → IsLog theory log → (n : ℕ) (v : Valuation) (cs : List Case) → Every (Later n) (systems_of cs) → NoneSolved theory log v n (systems_of (map simple_case cs)) → NoneSolved theory log v n (systems_of cs)
+    simple_solved : (log : Log) → IsLog theory log → (n : ℕ) (v : Valuation) (cs : List Case) → Every (Later N n) (systems_of cs) → NoneSolved theory log v n (systems_of (map simple_case cs)) → NoneSolved theory log v n (systems_of cs)
     simple_solved log is n v [] h none = tt
     simple_solved log is n v (c ∷ cs) h none =
         let f = simple_follows c.system h.0.0 in
@@ -246,13 +249,13 @@ module _ (right : UnifierIsRight) (theory : Theory) (good : AreConvergent (signa
     move_kept : (s : System) (move : Move) (cs : List Case) → cases context s move ≡ Some cs → IsWellMade context s → Every (IsKept context s) (systems_of cs)
     move_kept s move cs e made =
         let r = mapped (map simple_case) (raw_cases context s move) cs e in
-        subst (λ (x : List Case). Every (IsKept context s) (systems_of x)) (sym r.2) (simple_kept s r.0 (raw_numbered context is_of.rules s move r.0 r.1 made.numbered))
+        subst (λ (x : List Case). Every (IsKept context s) (systems_of x)) (sym r.2) (simple_kept s r.0 (raw_numbered N right theory good keeps is_of.numbered rules_plain rules_closed over equal_truth context is_of.rules s move r.0 r.1 made.numbered))
 
     move_covers : (s : System) (move : Move) (cs : List Case) → cases context s move ≡ Some cs → (move ≡ unproved → ⊥) → (move ≡ solved → ⊥) → IsWellMade context s → Covers theory s (systems_of cs)
     move_covers s move cs e not_open not_end made =
         let r = mapped (map simple_case) (raw_cases context s move) cs e in
-        let raw = raw_covers context is_of.rules s move r.0 r.1 not_open not_end made.numbered in
-        let num = raw_numbered context is_of.rules s move r.0 r.1 made.numbered in
+        let raw = raw_covers N right theory good keeps is_of.numbered rules_plain rules_closed over equal_truth context is_of.rules s move r.0 r.1 not_open not_end made.numbered in
+        let num = raw_numbered N right theory good keeps is_of.numbered rules_plain rules_closed over equal_truth context is_of.rules s move r.0 r.1 made.numbered in
         subst (λ (x : List Case). Covers theory s (systems_of x)) (sym r.2)
         (record { covers = λ log is v h none. raw.covers log is v h (simple_solved log is s.next v r.0 num none) })
 

@@ -2,13 +2,14 @@
 use Rattle.std.proofs.Common.{◌≡◌, ◌≤◌, ℕ, zero, suc, Bool, true, false, ◌||◌, List, [], ◌∷◌, ◌++◌, Option, Some, None, refl, sym, ap, ◌∙◌, ⊎_elim, le_refl, le_trans}
 use Rattle.std.proofs.lemmas.Bool.{or_cases}
 use Rattle.std.proofs.lemmas.List.{append_assoc}
+use Rattle.sp_spec.specs.Term.{Names}
 use Rattle.sp_spec.specs.Lists.{Every}
 use Rattle.sp_spec.specs.Theory.{Theory, signature_of}
 use Rattle.sp_spec.specs.Log.{Log}
 use Rattle.sp_law_equal.specs.Convergent.{AreConvergent, KeepSymbols}
 use Rattle.sp_spec_system.specs.System.{System}
 use Rattle.sp_spec_system.specs.Solutions.{Valuation}
-use Rattle.sp_spec_system.specs.Numbered.{IsNumbered}
+use Rattle.sp_spec_system.specs.Numbered.{names_in, IsNumbered}
 use Rattle.sp_spec_system.specs.Covering.{Agrees, NoneSolved, Covers}
 use Rattle.sp_spec_system.specs.Order.{is_cyclic}
 use Rattle.sp_law_system.specs.Laws.{UnifierIsRight}
@@ -52,44 +53,36 @@ covers_then theory s t cs le a b = record {
 pub covers_itself : (theory : Theory) (s : System) → Covers theory s (s ∷ [])
 covers_itself theory s = covers_by_itself theory s s (λ log is v h. h)
 
-module _ (right : UnifierIsRight) (theory : Theory) (good : AreConvergent (signature_of theory).equations) (keeps : KeepSymbols (signature_of theory).symbols (signature_of theory).equations)
+module _ (N : Names) (right : UnifierIsRight) (theory : Theory) (good : AreConvergent (signature_of theory).equations) (keeps : KeepSymbols (signature_of theory).symbols (signature_of theory).equations)
     (rules_plain : RulesArePlain (signature_of theory).equations theory.rules) (rules_closed : Every IsClosedRule theory.rules)
     (over : ActionsAreOver theory) (equal_truth : EqualTruth) where
-  row_numbered : (row : Row) (s t : System) → by_row row s ≡ Some t → IsNumbered s → IsNumbered t × (s.next ≤ t.next)
+  row_numbered : (row : Row) (s t : System) → by_row row s ≡ Some t → IsNumbered N s → IsNumbered N t × (s.next ≤ t.next)
   row_numbered row_split s t e n = split_numbered s t e n
   row_numbered row_open s t e n = open_existential_numbered s t e n
-  row_numbered row_equate s t e n = equate_numbered right s t e n
+  row_numbered row_equate s t e n = equate_numbered N right s t e n
   row_numbered row_unequal s t e n = unequal_row_numbered s t e n
   row_numbered row_order s t e n = in_order_numbered s t e n
   row_numbered row_action_stands s t e n = action_stands_numbered s t e n
   row_numbered row_disjunction s t e n = disjunction_numbered s t e n
-  row_numbered row_linear_once s t e n = linear_once_numbered right theory s t e n
-  row_numbered row_fresh_once s t e n = fresh_once_numbered right theory s t e n
+  row_numbered row_linear_once s t e n = linear_once_numbered N right theory s t e n
+  row_numbered row_fresh_once s t e n = fresh_once_numbered N right theory s t e n
   row_numbered row_fresh_first s t e n = fresh_first_numbered s t e n
   row_numbered row_instantiate s t e n = instantiate_numbered s t e n
 
-  row_covers : (row : Row) (s t : System) → by_row row s ≡ Some t → IsNumbered s → Covers theory s (t ∷ [])
+  row_covers : (row : Row) (s t : System) → by_row row s ≡ Some t → IsNumbered N s → Covers theory s (t ∷ [])
   row_covers row_split s t e n = split_covers theory s t e
-  row_covers row_open s t e n = open_existential_covers theory good keeps equal_truth s t e n
-  row_covers row_equate s t e n = equate_covers right theory good s t e n
+  row_covers row_open s t e n = open_existential_covers N theory good keeps equal_truth s t e n
+  row_covers row_equate s t e n = equate_covers N right theory good s t e n
   row_covers row_unequal s t e n = unequal_covers theory s t e
   row_covers row_order s t e n = in_order_covers theory s t e
   row_covers row_action_stands s t e n = action_stands_covers theory s t e
   row_covers row_disjunction s t e n = disjunction_covers theory s t e
-  row_covers row_linear_once s t e n = linear_once_covers right theory s t e n
-  row_covers row_fresh_once s t e n = fresh_once_covers right theory s t e n
+  row_covers row_linear_once s t e n = linear_once_covers N right theory s t e n
+  row_covers row_fresh_once s t e n = fresh_once_covers N right theory s t e n
   row_covers row_fresh_first s t e n = fresh_first_covers theory good rules_plain rules_closed s t e
   row_covers row_instantiate s t e n = instantiate_covers theory good keeps over s t e n
 
-  pub rows_cover : RowsCover theory
-  rows_cover = record {
-    kept = λ context is_of row s t turn made.
-        let r = row_numbered row s t turn.gives made.numbered in
-        record { well_made = record { numbered = r.0 }; next = r.1 };
-    covers = λ context is_of row s t turn made. row_covers row s t turn.gives made.numbered;
-  }
-
-  pub no_solution : (s : System) → is_contradictory s ≡ true → IsNumbered s → HasNoSolution theory s
+  pub no_solution : (s : System) → is_contradictory s ≡ true → IsNumbered N s → HasNoSolution theory s
   no_solution s e n log is v h =
       either (has_falsity s.formulas) _ (λ k. some_falsity_contradicts theory log v s.formulas k h.formulas)
       (λ a. either (has_equal_pair s.unequal) _ (λ k. equal_pair_contradicts theory v s.unequal k h.unequal)
@@ -97,15 +90,30 @@ module _ (right : UnifierIsRight) (theory : Theory) (good : AreConvergent (signa
       (λ c. either (is_cyclic s.order) _ (λ k. cyclic_contradicts log v s.order h.order k)
       (λ d. either (has_source_twice s) _
       (λ k. either (some_two (used_twice s.events) s.links) (takes_fr_twice s.events) (λ l. used_twice_contradicts theory log is v s l h) (λ l. fr_twice_contradicts theory log is v s.events l h.events) k)
-      (λ f. either (fails_to_equate s s.formulas) _ (λ k. some_fails_contradicts right theory good s n log v h s.formulas k h.formulas)
-      (λ g. either (fails_to_link s) (fails_to_merge s.events) (λ k. links_contradict right theory s n log is v h k)
-      (λ k. merge_contradicts right theory s k n log is v h) g) f) d) c) b) a) e
+      (λ f. either (fails_to_equate s s.formulas) _ (λ k. some_fails_contradicts N right theory good s n log v h s.formulas k h.formulas)
+      (λ g. either (fails_to_link s) (fails_to_merge s) (λ k. links_contradict N right theory s n log is v h k)
+      (λ k. merge_contradicts N right theory s k n log is v h) g) f) d) c) b) a) e
     where
       either : (a b : Bool) → (a ≡ true → ⊥) → (b ≡ true → ⊥) → (a || b) ≡ true → ⊥
       either a b first second k = ⊎_elim first second (or_cases a b k)
 
+module _ (right : UnifierIsRight) (theory : Theory) (good : AreConvergent (signature_of theory).equations) (keeps : KeepSymbols (signature_of theory).symbols (signature_of theory).equations)
+    (rules_plain : RulesArePlain (signature_of theory).equations theory.rules) (rules_closed : Every IsClosedRule theory.rules)
+    (over : ActionsAreOver theory) (equal_truth : EqualTruth) where
+  pub rows_cover : RowsCover theory
+  rows_cover = record {
+    kept = λ context is_of row s t turn made.
+        let r = row_numbered (names_in context.public_names) right theory good keeps rules_plain rules_closed over equal_truth row s t turn.gives made.numbered in
+        record { well_made = record { numbered = r.0 }; next = r.1 };
+    covers = λ context is_of row s t turn made.
+        row_covers (names_in context.public_names) right theory good keeps rules_plain rules_closed over equal_truth row s t turn.gives made.numbered;
+  }
+
   pub contradictions_hold : ContradictionsHold theory
-  contradictions_hold = record { no_solution = λ context is_of s e made. no_solution s e made.numbered }
+  contradictions_hold = record {
+    no_solution = λ context is_of s e made.
+        no_solution (names_in context.public_names) right theory good keeps rules_plain rules_closed over equal_truth s e made.numbered;
+  }
 
 -- rows that give nothing, and one more
 nothing_more : (earlier : List Row) (row : Row) (s : System) → by_rows earlier s ≡ None → by_row row s ≡ None → by_rows (earlier ++ row ∷ []) s ≡ None

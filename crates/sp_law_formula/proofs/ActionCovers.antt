@@ -3,10 +3,10 @@ use Rattle.std.proofs.Common.{◌≡◌, ◌<◌, ◌+◌, ℕ, Bool, true, fals
 use Rattle.std.proofs.lemmas.Bool.{eqb-true, or_left, or_right}
 use Rattle.std.proofs.lemmas.Slice.Eq.{bytes_eq-Decides}
 use Rattle.sp_spec.specs.Lists.{Member, Every, AtPosition}
-use Rattle.sp_spec.specs.Term.{Variable, Values, EachVariables}
+use Rattle.sp_spec.specs.Term.{Names, Variable, Values, AllMadeOf}
 use Rattle.sp_spec.specs.Signature.{IsValuation}
 use Rattle.sp_spec.specs.Equal.{IsNormal, AreNormal}
-use Rattle.sp_spec.specs.Rule.{Action, Facts, Rule, action_at, facts_at, SameAction, InFacts}
+use Rattle.sp_spec.specs.Rule.{Action, Facts, Rule, action_at, facts_at, SameAction, FactsMadeOf}
 use Rattle.sp_spec.specs.Theory.{Theory, signature_of}
 use Rattle.sp_spec.specs.Guarded.{Place, action_in}
 use Rattle.sp_spec.specs.Log.{Log, Entry, step, send, learn, IsLog, log_trace, entry_actions}
@@ -81,9 +81,9 @@ not_adversary symbol e = (
   (λ k. cc (e, or_right (bytes_eq symbol (codes "K")) (bytes_eq symbol (codes "KU")) ((bytes_eq-Decides symbol (codes "KU")).1 k))),
 )
 
-module _ (right : UnifierIsRight) (theory : Theory) (good : AreConvergent (signature_of theory).equations) (keeps : KeepSymbols (signature_of theory).symbols (signature_of theory).equations)
-    (rules_numbered : RulesAreNumbered theory.rules) (rules_plain : RulesArePlain (signature_of theory).equations theory.rules) where
-  module _ (s : System) (n : IsNumbered s) (f : Action Place) (a : Action Variable) (freed : freed_action f ≡ Some a) (i : ℕ) (i_under : i < s.next) (a_under : EachVariables (Under s.next) a.args)
+module _ (N : Names) (right : UnifierIsRight) (theory : Theory) (good : AreConvergent (signature_of theory).equations) (keeps : KeepSymbols (signature_of theory).symbols (signature_of theory).equations)
+    (rules_numbered : RulesAreNumbered N theory.rules) (rules_plain : RulesArePlain (signature_of theory).equations theory.rules) where
+  module _ (s : System) (n : IsNumbered N s) (f : Action Place) (a : Action Variable) (freed : freed_action f ≡ Some a) (i : ℕ) (i_under : i < s.next) (a_under : AllMadeOf N (Under s.next) a.args)
       (own : is_adversary f.symbol ≡ false) (log : Log) (is : IsLog theory log) (v : Valuation) (h : Solves theory log v s) where
     same_symbol : f.symbol ≡ a.symbol
     same_symbol = let e = freed_action_value (assignment v) f a freed in ap (λ (x : Action ⊥). x.symbol) e
@@ -93,9 +93,9 @@ module _ (right : UnifierIsRight) (theory : Theory) (good : AreConvergent (signa
         → AreNormal (signature_of theory).equations (action_in (assignment v) f).args → SameAction (signature_of theory).equations (action_in (assignment v) f) shown
         → NoneSolved theory log v s.next (by_actions s a (happening_actions e.happening)) → ⊥
     at_event_solved e member time shown p is_p actions there m normal_f same_f none =
-        at e.happening refl (every_member (HappensIn log v) s.events e member h.events) (every_member (InEvent (Under s.next) (TimeUnder s.next)) s.events e member n.events).1
+        at e.happening refl (every_member (HappensIn log v) s.events e member h.events) (every_member (InEvent N (Under s.next) (TimeUnder s.next)) s.events e member n.events).1
       where
-        at : (x : Happening) → e.happening ≡ x → HappensIn log v e → InHappening (Under s.next) e.happening → ⊥
+        at : (x : Happening) → e.happening ≡ x → HappensIn log v e → InHappening N (Under s.next) e.happening → ⊥
         at (rule_step r g) k l u =
             let entry = traced log p actions there in
             let l' : HappensAt log (v.times e.time) v.terms (rule_step r g) = subst (HappensAt log (v.times e.time) v.terms) k l in
@@ -107,8 +107,8 @@ module _ (right : UnifierIsRight) (theory : Theory) (good : AreConvergent (signa
             let shown_normal = step_action_normal theory r (facts_at v.terms g) is_step shown shown_in in
             let same = same_normal_action (signature_of theory).equations good (action_in (assignment v) f) shown normal_f shown_normal same_f in
             let e2 : action_at v.terms a ≡ action_at v.terms b.0 = sym (freed_action_value (assignment v) f a freed) ∙ same ∙ sym b.2 in
-            let u' : InFacts (Under s.next) g = subst (InHappening (Under s.next)) k u in
-            by_actions_solved right theory log s s.next v v (agrees_itself s.next v) n h a g.actions a_under u'.actions b.0 b.1 e2
+            let u' : FactsMadeOf N (Under s.next) g = subst (InHappening N (Under s.next)) k u in
+            by_actions_solved N right theory log s s.next v v (agrees_itself s.next v) n h a g.actions a_under u'.actions b.0 b.1 e2
             (subst (λ (y : Happening). NoneSolved theory log v s.next (by_actions s a (happening_actions y))) k none)
 
     -- by a new step of the entry's rule
@@ -138,8 +138,8 @@ module _ (right : UnifierIsRight) (theory : Theory) (good : AreConvergent (signa
             let are_normal : (x : Variable) → IsNormal es (w x) = λ x. is_normal es good (is_step.3 x) in
             let here : AtPosition log (v.times i) (step rule.name (facts_at w rule.facts) sources) =
             subst (λ (g : Facts ⊥). AtPosition log (v.times i) (step rule.name g sources)) same_facts (subst (λ (q : List ℕ). AtPosition log (v.times i) (step q facts sources)) (sym is_step.2) k) in
-            let solved = step_solved theory s rule i i_under numbered_r log v h n w sorts are_normal sources here in
-            let num = step_numbered theory s rule i i_under numbered_r n in
+            let solved = step_solved N theory s rule i i_under numbered_r log v h n w sorts are_normal sources here in
+            let num = step_numbered N theory s rule i i_under numbered_r n in
             let value : Valuation = beside s.next v w in
             let event : HappensIn log value (record { time = i; happening = rule_step rule.name (renamed s.next rule.facts) }) =
             (every_parts (HappensIn log value) s.events (record { time = i; happening = rule_step rule.name (renamed s.next rule.facts) } ∷ []) solved.events).1.0 in
@@ -154,14 +154,14 @@ module _ (right : UnifierIsRight) (theory : Theory) (good : AreConvergent (signa
             let same = same_normal_action es good (action_in (assignment v) f) shown normal_f shown_normal same_f in
             let a_same : action_at value.terms a ≡ action_at v.terms a = agree_action s.next v value ag a a_under in
             let e2 : action_at value.terms a ≡ action_at value.terms b.0 = a_same ∙ sym (freed_action_value (assignment v) f a freed) ∙ same ∙ sym b.2 in
-            by_actions_solved right theory log (with_step s i rule) s.next v value ag num solved a (renamed s.next rule.facts).actions (wide rule) (step_actions_under rule num) b.0 b.1 e2
+            by_actions_solved N right theory log (with_step s i rule) s.next v value ag num solved a (renamed s.next rule.facts).actions (wide rule) (step_actions_under rule num) b.0 b.1 e2
             (rule_part theory log v s.next theory.rules s i a rule is_step.1 none)
           where
-            agree_action : (k : ℕ) (v w : Valuation) → Agrees k v w → (a : Action Variable) → EachVariables (Under k) a.args → action_at w.terms a ≡ action_at v.terms a
-            agree_action k v w ag a u = action_same w.terms v.terms a (each_weaken_all (Under k) _ ag.terms a.args u)
+            agree_action : (k : ℕ) (v w : Valuation) → Agrees k v w → (a : Action Variable) → AllMadeOf N (Under k) a.args → action_at w.terms a ≡ action_at v.terms a
+            agree_action k v w ag a u = action_same N w.terms v.terms a (each_weaken_all N (Under k) _ ag.terms a.args u)
 
-            wide : (rule : Rule) → EachVariables (Under (s.next + length rule.variables)) a.args
-            wide rule = each_weaken_all (Under s.next) (Under (s.next + length rule.variables)) (λ x h. omega (arith, h)) a.args a_under
+            wide : (rule : Rule) → AllMadeOf N (Under (s.next + length rule.variables)) a.args
+            wide rule = each_weaken_all N (Under s.next) (Under (s.next + length rule.variables)) (λ x h. omega (arith, h)) a.args a_under
 
-            step_actions_under : (rule : Rule) → IsNumbered (with_step s i rule) → Every (λ (b : Action Variable). EachVariables (Under (with_step s i rule).next) b.args) (renamed s.next rule.facts).actions
+            step_actions_under : (rule : Rule) → IsNumbered N (with_step s i rule) → Every (λ (b : Action Variable). AllMadeOf N (Under (with_step s i rule).next) b.args) (renamed s.next rule.facts).actions
             step_actions_under rule num = (every_parts _ s.events (record { time = i; happening = rule_step rule.name (renamed s.next rule.facts) } ∷ []) num.events).1.0.1.actions

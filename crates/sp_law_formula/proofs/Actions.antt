@@ -1,10 +1,10 @@
 -- The move on an action covers: the entry at its time has the action, and it is the event's, or an instance of some rule.
 use Rattle.std.proofs.Common.{◌≡◌, ◌<◌, ◌+◌, ℕ, suc, List, [], ◌∷◌, ◌++◌, length, Option, Some, None, option_map, option_and_then, refl, sym, ap, ◌∙◌, subst, inl, inr, arith, codes, decimal}
 use Rattle.sp_spec.specs.Lists.{Member, Every, AtPosition}
-use Rattle.sp_spec.specs.Term.{Variable, var, Values, EachVariables}
+use Rattle.sp_spec.specs.Term.{Names, Variable, var, Values, AllMadeOf}
 use Rattle.sp_spec.specs.Signature.{IsValue, IsValuation}
 use Rattle.sp_spec.specs.Equal.{IsNormal}
-use Rattle.sp_spec.specs.Rule.{Action, Facts, Rule, action_at, facts_at, InFacts}
+use Rattle.sp_spec.specs.Rule.{Action, Facts, Rule, action_at, facts_at, FactsMadeOf}
 use Rattle.sp_spec.specs.Theory.{Theory, signature_of}
 use Rattle.sp_spec.specs.Log.{Log, step, Source}
 use Rattle.sp_spec.specs.Substitution.{Binding, bound_to}
@@ -53,10 +53,10 @@ at_event_systems s a n (b ∷ bs) =
     ∙ ap (λ (xs : List System). xs ++ systems_of (at_event s a (suc n) bs)) (case_systems (codes "at_" ++ decimal n) (where_same s a b))
     ∙ ap (λ (xs : List System). system_if (where_same s a b) ++ xs) (at_event_systems s a (suc n) bs)
 
-module _ (right : UnifierIsRight) (theory : Theory) (log : Log) where
+module _ (N : Names) (right : UnifierIsRight) (theory : Theory) (log : Log) where
   -- the values of an instance of one action of a list solve the case for it
-  pub by_actions_solved : (s : System) (base : ℕ) (v w : Valuation) → Agrees base v w → IsNumbered s → Solves theory log w s → (a : Action Variable) (bs : List (Action Variable))
-      → EachVariables (Under s.next) a.args → Every (λ (b : Action Variable). EachVariables (Under s.next) b.args) bs
+  pub by_actions_solved : (s : System) (base : ℕ) (v w : Valuation) → Agrees base v w → IsNumbered N s → Solves theory log w s → (a : Action Variable) (bs : List (Action Variable))
+      → AllMadeOf N (Under s.next) a.args → Every (λ (b : Action Variable). AllMadeOf N (Under s.next) b.args) bs
       → (b : Action Variable) → Member b bs → action_at w.terms a ≡ action_at w.terms b → NoneSolved theory log v base (by_actions s a bs) → ⊥
   by_actions_solved s base v w ag n h a [] ia ib b m e none = m
   by_actions_solved s base v w ag n h a (c ∷ bs) ia ib b (inr m) e none =
@@ -66,33 +66,33 @@ module _ (right : UnifierIsRight) (theory : Theory) (log : Log) where
       let p = action_paired w.terms s.next a c ia ib.0 same in
       at p (unifier_of (action_pair a c)) refl (every_parts _ (system_if (where_same s a c)) (by_actions s a bs) none).0
     where
-      at : Paired w.terms s.next (action_pair a c) → (o : Option (List Binding)) → unifier_of (action_pair a c) ≡ o
+      at : Paired N w.terms s.next (action_pair a c) → (o : Option (List Binding)) → unifier_of (action_pair a c) ≡ o
           → NoneSolved theory log v base (system_if (option_map (λ bs. system_changed (bound_to bs) (λ i. i) s) o)) → ⊥
       at p None k l = right.none p.pairs (sym (ap (option_and_then mgu) p.there) ∙ k) w.terms (λ x. (h.sorts x).0) p.same
       at p (Some bindings) k l =
           let there : mgu p.pairs ≡ Some bindings = sym (ap (option_and_then mgu) p.there) ∙ k in
           let fixes = right.fixes p.pairs bindings there w.terms (λ x. (h.sorts x).0) p.same in
-          l.0 w ag (change_solves theory log w bindings fixes (λ i. i) (λ i. refl) s n h)
+          l.0 w ag (change_solves N theory log w bindings fixes (λ i. i) (λ i. refl) s n h)
 
 -- a new step of a rule
-module _ (theory : Theory) (s : System) (r : Rule) (i : ℕ) (i_under : i < s.next) (r_under : InFacts (λ x. x.number < length r.variables) r.facts) where
-  renamed_under : InFacts (Under (s.next + length r.variables)) (renamed s.next r.facts)
-  renamed_under = facts_valued (λ x. x.number < length r.variables) (Under (s.next + length r.variables)) _ (λ x h. omega (arith, h)) r.facts r_under
+module _ (N : Names) (theory : Theory) (s : System) (r : Rule) (i : ℕ) (i_under : i < s.next) (r_under : FactsMadeOf N (λ x. x.number < length r.variables) r.facts) where
+  renamed_under : FactsMadeOf N (Under (s.next + length r.variables)) (renamed s.next r.facts)
+  renamed_under = facts_valued N (λ x. x.number < length r.variables) (Under (s.next + length r.variables)) _ (λ x h. omega (arith, h)) r.facts r_under
 
-  pub step_numbered : IsNumbered s → IsNumbered (with_step s i r)
+  pub step_numbered : IsNumbered N s → IsNumbered N (with_step s i r)
   step_numbered n =
       let next = s.next + length r.variables in
       let event : Event = record { time = i; happening = rule_step r.name (renamed s.next r.facts) } in
       let m = next_numbered s n next (omega arith) in
       let time : i < next = omega (arith, i_under) in
-      events_numbered (with_next s next) m (s.events ++ event ∷ []) (every_append (InEvent (Under next) (TimeUnder next)) s.events (event ∷ []) m.events ((time, renamed_under), tt))
+      events_numbered (with_next s next) m (s.events ++ event ∷ []) (every_append (InEvent N (Under next) (TimeUnder next)) s.events (event ∷ []) m.events ((time, renamed_under), tt))
 
-  module _ (log : Log) (v : Valuation) (h : Solves theory log v s) (n : IsNumbered s) (w : Values) (sorts : IsValuation (signature_of theory) w) (are_normal : (x : Variable) → IsNormal (signature_of theory).equations (w x))
+  module _ (log : Log) (v : Valuation) (h : Solves theory log v s) (n : IsNumbered N s) (w : Values) (sorts : IsValuation (signature_of theory) w) (are_normal : (x : Variable) → IsNormal (signature_of theory).equations (w x))
       (sources : List Source) (there : AtPosition log (v.times i) (step r.name (facts_at w r.facts) sources)) where
     renamed_value : facts_at (beside s.next v w).terms (renamed s.next r.facts) ≡ facts_at w r.facts
     renamed_value =
         facts_at-facts_at (λ x. var (record { sort = x.sort; number = s.next + x.number })) (beside s.next v w).terms r.facts
-        ∙ facts_same _ w r.facts (facts_weaken _ _ (λ x k. beside_new s.next v w x) r.facts r_under)
+        ∙ facts_same N _ w r.facts (facts_weaken N _ _ (λ x k. beside_new s.next v w x) r.facts r_under)
 
     pub step_solved : Solves theory log (beside s.next v w) (with_step s i r)
     step_solved =

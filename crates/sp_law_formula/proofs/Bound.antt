@@ -6,7 +6,7 @@ use Rattle.sp_spec.specs.Signature.{Signature, IsValue}
 use Rattle.sp_spec.specs.Equal.{IsNormal}
 use Rattle.sp_spec.specs.Guarded.{free, bound, bound_time, Binder, message, time, Assignment, place_in, term_in, time_in, EachValues}
 use Rattle.sp_spec_system.specs.Solutions.{Valuation, assignment, EachNormal}
-use Rattle.sp_formula.proofs.Values.{valued-valued}
+use Rattle.sp_spec.proofs.Values.{valued-valued}
 use Rattle.sp_law_system.proofs.Changing.{Reads}
 use Rattle.sp_spec_formula.specs.Instances.{Slot, Slots, empty_slots, is_of_sort, all_terms, all_times, filled, placed_each, free_each, instance}
 use Rattle.sp_spec.proofs.Options.{mapped, then_some}

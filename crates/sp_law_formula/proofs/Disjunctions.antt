@@ -1,7 +1,7 @@
 -- The row on disjunctions: one with a known part is spent, and else a part that is false is left out.
 use Rattle.std.proofs.Common.{◌≡◌, ◌≤◌, ◌⊎◌, ℕ, Bool, true, false, if◌then◌else◌, List, [], ◌∷◌, length, Option, Some, option_map, refl, sym, subst, inl, inr, le_refl}
 use Rattle.sp_spec.specs.Lists.{Every, Classically}
-use Rattle.sp_spec.specs.Term.{Variable}
+use Rattle.sp_spec.specs.Term.{Names, Variable}
 use Rattle.sp_spec.specs.Theory.{Theory, signature_of}
 use Rattle.sp_spec.specs.Guarded.{Guarded, falsity, one_of, Guardeds, no_more, and_then, GuardedHolds, SomeHolds}
 use Rattle.sp_spec.specs.Log.{Log, log_trace}
@@ -76,24 +76,24 @@ module _ (theory : Theory) (log : Log) (v : Valuation) where
           ((disjunction_holds q.0 (left_hold fs q.0 q.1 some), disjunction_settled q.0 (left_settled fs q.0 q.1 h.1)), tt)))
   instead_holds s f new e h none = absurd cc
 
-module _ (P : Variable → Type 0) (Q : ℕ → Type 0) where
-  left_in : (fs gs : Guardeds) → without_false fs ≡ Some gs → InEach P Q fs → InEach P Q gs
+module _ (N : Names) (P : Variable → Type 0) (Q : ℕ → Type 0) where
+  left_in : (fs gs : Guardeds) → without_false fs ≡ Some gs → InEach N P Q fs → InEach N P Q gs
   left_in no_more gs e h = absurd cc
-  left_in (and_then f fs) gs e h = left_out (InEach P Q) f fs gs e (λ i. h.1) (λ rest k. (h.0, left_in fs rest k h.1))
+  left_in (and_then f fs) gs e h = left_out (InEach N P Q) f fs gs e (λ i. h.1) (λ rest k. (h.0, left_in fs rest k h.1))
 
-  disjunction_in : (fs : Guardeds) → InEach P Q fs → InFormula P Q (disjunction_of fs)
+  disjunction_in : (fs : Guardeds) → InEach N P Q fs → InFormula N P Q (disjunction_of fs)
   disjunction_in no_more h = tt
   disjunction_in (and_then f no_more) h = h.0
   disjunction_in (and_then f (and_then g fs)) h = h
 
-  instead_in : (s : System) (f : Guarded) (new : List Guarded) → instead_of s f ≡ Some new → InFormula P Q f → Every (InFormula P Q) new
+  instead_in : (s : System) (f : Guarded) (new : List Guarded) → instead_of s f ≡ Some new → InFormula N P Q f → Every (InFormula N P Q) new
   instead_in s (one_of fs) new e h = at (some_known s fs) e
     where
-      at : (b : Bool) → (if b then Some [] else option_map (λ gs. disjunction_of gs ∷ []) (without_false fs)) ≡ Some new → Every (InFormula P Q) new
-      at true k = let empty : List Guarded = [] in let g : empty ≡ new = cc in subst (Every (InFormula P Q)) g tt
+      at : (b : Bool) → (if b then Some [] else option_map (λ gs. disjunction_of gs ∷ []) (without_false fs)) ≡ Some new → Every (InFormula N P Q) new
+      at true k = let empty : List Guarded = [] in let g : empty ≡ new = cc in subst (Every (InFormula N P Q)) g tt
       at false k =
           let q = mapped (λ gs. disjunction_of gs ∷ []) (without_false fs) new k in
-          subst (Every (InFormula P Q)) (sym q.2) (disjunction_in q.0 (left_in fs q.0 q.1 h), tt)
+          subst (Every (InFormula N P Q)) (sym q.2) (disjunction_in q.0 (left_in fs q.0 q.1 h), tt)
   instead_in s f new e h = absurd cc
 
 pub disjunction_covers : (theory : Theory) (s t : System) → disjunction s ≡ Some t → Covers theory s (t ∷ [])
@@ -106,10 +106,10 @@ disjunction_covers theory s t e =
           (λ new. none.0 v (agrees_itself s.next v) (subst (Solves theory log v) (sym r.2) (spending_solves (instead_of s) theory log v s r.0 found r.0.picked new h)));
     }
 
-pub disjunction_numbered : (s t : System) → disjunction s ≡ Some t → IsNumbered s → IsNumbered t × (s.next ≤ t.next)
-disjunction_numbered s t e n =
+pub disjunction_numbered : {N : Names} → (s t : System) → disjunction s ≡ Some t → IsNumbered N s → IsNumbered N t × (s.next ≤ t.next)
+disjunction_numbered {N} s t e n =
     let r = mapped (λ r. spending s r r.picked) (first_formula (instead_of s) s.formulas) t e in
     let found = is_found (instead_of s) s.formulas r.0 r.1 in
-    let new = instead_in (Under s.next) (TimeUnder s.next) s r.0.formula r.0.picked found.picks (found_holds (instead_of s) s.formulas r.0 found (InFormula (Under s.next) (TimeUnder s.next)) n.formulas) in
-    let P : System → Type 0 = λ u. IsNumbered u × (s.next ≤ u.next) in
+    let new = instead_in N (Under s.next) (TimeUnder s.next) s r.0.formula r.0.picked found.picks (found_holds (instead_of s) s.formulas r.0 found (InFormula N (Under s.next) (TimeUnder s.next)) n.formulas) in
+    let P : System → Type 0 = λ u. IsNumbered N u × (s.next ≤ u.next) in
     subst P (sym r.2) (spending_numbered (instead_of s) s r.0 found r.0.picked new n, le_refl s.next)

@@ -2,7 +2,7 @@
 use Rattle.std.proofs.Common.{◌≡◌, ◌≤◌, ◌<◌, ℕ, Bool, true, false, ◌&&◌, if◌then◌else◌, nat_eq, List, [], ◌∷◌, Option, Some, None, option_map, is_none, refl, sym, ap, ◌∙◌, subst, ⊎_elim, le_refl}
 use Rattle.std.proofs.lemmas.Bool.{or_cases, and_parts, eqb-true, eq-eqb}
 use Rattle.sp_spec.specs.Lists.{Every, Classically}
-use Rattle.sp_spec.specs.Term.{Ground, valued, EachVariable}
+use Rattle.sp_spec.specs.Term.{Names, Ground, valued, MadeOf}
 use Rattle.sp_spec.specs.Theory.{Theory, signature_of}
 use Rattle.sp_spec.specs.Guarded.{free_time, same, same_time, Guarded, holds, term_in}
 use Rattle.sp_spec.specs.Log.{Log}
@@ -17,26 +17,27 @@ use Rattle.sp_spec_system.specs.Numbered.{InFormula, IsNumbered}
 use Rattle.sp_spec_system.specs.Covering.{Covers}
 use Rattle.sp_law_system.specs.Laws.{UnifierIsRight}
 use Rattle.sp_spec_system.specs.Equating.{system_changed, smaller, larger}
-use Rattle.sp_formula.specs.Change.{time_replaced}
+use Rattle.sp_spec.specs.Change.{time_replaced}
 use Rattle.sp_law_system.proofs.Bindings.{Fixes-none}
+use Rattle.sp_law_system.proofs.Unifying.{mgu_within}
 use Rattle.sp_law_system.proofs.Solutions.{Under, TimeUnder, change_solves, change_numbered}
 use Rattle.sp_spec_system.specs.Formulas.{first_formula, spending, pair_of}
 use Rattle.sp_spec_formula.specs.Equate.{Equation, equal_terms, equal_times, equation_of, equated, equate, equation_fails, fails_to_equate}
-use Rattle.sp_spec_system.specs.MakingOne.{at_times, Twins, twins_by, times_equated}
+use Rattle.sp_spec_system.specs.MakingOne.{at_times, MergingEvents, merging_events, times_equated}
 use Rattle.sp_law_formula.proofs.Freed.{freed_value, freed_in}
 use Rattle.sp_spec.proofs.Options.{mapped, then_some}
 use Rattle.sp_law_formula.proofs.Literals.{covers_by_itself, pair_parts}
 use Rattle.sp_law_formula.proofs.Spending.{is_found, found_holds, spending_solves, spending_numbered}
-use Rattle.sp_law_formula.proofs.Twins.{twins_are, respects, replaced_same, replaced_under, SolvedBy, NumberedFrom, merged_solved, merged_numbered}
+use Rattle.sp_law_formula.proofs.Merged.{merging_are, respects, replaced_same, replaced_under, SolvedBy, NumberedFrom, merged_solved, merged_numbered}
 
 -- what an equation says, and whose numbers it has
 abbrev pub EquationHolds : Valuation → Equation → Type 0
 EquationHolds v (equal_terms p) = valued v.terms p.0 ≡ valued v.terms p.1
 EquationHolds v (equal_times i j) = v.times i ≡ v.times j
 
-abbrev pub EquationUnder : ℕ → Equation → Type 0
-EquationUnder n (equal_terms p) = EachVariable (Under n) p.0 × EachVariable (Under n) p.1
-EquationUnder n (equal_times i j) = (i < n) × (j < n)
+abbrev pub EquationUnder : Names → ℕ → Equation → Type 0
+EquationUnder N n (equal_terms p) = MadeOf N (Under n) p.0 × MadeOf N (Under n) p.1
+EquationUnder N n (equal_times i j) = (i < n) × (j < n)
 
 -- what isn't otherwise is so, where a test tells
 told : {A : Type 0} (b : Bool) → (b ≡ true → A) → (A → b ≡ true) → Classically A → A
@@ -64,13 +65,13 @@ equation_holds theory good log v (holds (same_time (free_time i) (free_time j)))
     subst (EquationHolds v) g (same_number (v.times i) (v.times j) k.0)
 equation_holds theory good log v f e h k = absurd cc
 
-equation_in : (n : ℕ) (f : Guarded) (e : Equation) → equation_of f ≡ Some e → InFormula (Under n) (TimeUnder n) f → EquationUnder n e
-equation_in n (holds (same t u)) e h k =
+equation_in : (N : Names) → (n : ℕ) (f : Guarded) (e : Equation) → equation_of f ≡ Some e → InFormula N (Under n) (TimeUnder n) f → EquationUnder N n e
+equation_in N n (holds (same t u)) e h k =
     let r = mapped equal_terms (pair_of t u) e h in
     let parts = pair_parts t u r.0 r.1 in
-    subst (EquationUnder n) (sym r.2) (freed_in (Under n) t r.0.0 parts.0 k.0, freed_in (Under n) u r.0.1 parts.1 k.1)
-equation_in n (holds (same_time (free_time i) (free_time j))) e h k = let g : equal_times i j ≡ e = cc in subst (EquationUnder n) g k
-equation_in n f e h k = absurd cc
+    subst (EquationUnder N n) (sym r.2) (freed_in N (Under n) t r.0.0 parts.0 k.0, freed_in N (Under n) u r.0.1 parts.1 k.1)
+equation_in N n (holds (same_time (free_time i) (free_time j))) e h k = let g : equal_times i j ≡ e = cc in subst (EquationUnder N n) g k
+equation_in N n f e h k = absurd cc
 
 -- events at the two times are at one position where the times are
 at_one : (v : Valuation) (i j : ℕ) → v.times i ≡ v.times j → (e d : Event) → at_times i j e d ≡ true → v.times e.time ≡ v.times d.time
@@ -80,22 +81,22 @@ at_one v i j one e d k =
     (λ l. let both = and_parts (nat_eq e.time j) (nat_eq d.time i) l in ap v.times (eqb-true e.time j both.0) ∙ sym one ∙ ap v.times (sym (eqb-true d.time i both.1)))
     (or_cases (nat_eq e.time i && nat_eq d.time j) (nat_eq e.time j && nat_eq d.time i) k)
 
-module _ (right : UnifierIsRight) (s : System) (n : IsNumbered s) where
+module _ {N : Names} (right : UnifierIsRight) (s : System) (n : IsNumbered N s) where
   -- where two times have one position, the system in which they are one has the same solution
-  pub times_solved : (theory : Theory) (log : Log) (v : Valuation) → Solves theory log v s → (i j : ℕ) → v.times i ≡ v.times j → SolvedBy theory log v (times_equated s i j (twins_by (at_times i j) s.events))
-  times_solved theory log v h i j one = at (twins_by (at_times i j) s.events) refl
+  pub times_solved : (theory : Theory) (log : Log) (v : Valuation) → Solves theory log v s → (i j : ℕ) → v.times i ≡ v.times j → SolvedBy theory log v (times_equated s i j (merging_events (at_times i j) s.events))
+  times_solved theory log v h i j one = at (merging_events (at_times i j) s.events) refl
     where
-      at : (o : Option Twins) → twins_by (at_times i j) s.events ≡ o → SolvedBy theory log v (times_equated s i j o)
-      at None k = change_solves theory log v [] (Fixes-none v.terms) (time_replaced (smaller i j) (larger i j)) (replaced_same v.times i j one) s n h
+      at : (o : Option MergingEvents) → merging_events (at_times i j) s.events ≡ o → SolvedBy theory log v (times_equated s i j o)
+      at None k = change_solves N theory log v [] (Fixes-none v.terms) (time_replaced (smaller i j) (larger i j)) (replaced_same v.times i j one) s n h
       at (Some r) k =
-          let solved = twins_are (at_times i j) (HappensIn log v) s.events r k h.events in
+          let solved = merging_are (at_times i j) (HappensIn log v) s.events r k h.events in
           merged_solved right (at_times i j) s n r k theory log v h (at_one v i j one r.first r.second solved.one)
 
-  pub times_numbered : (i j : ℕ) → i < s.next → j < s.next → NumberedFrom s.next (times_equated s i j (twins_by (at_times i j) s.events))
-  times_numbered i j a b = at (twins_by (at_times i j) s.events) refl
+  pub times_numbered : (i j : ℕ) → i < s.next → j < s.next → NumberedFrom N s.next (times_equated s i j (merging_events (at_times i j) s.events))
+  times_numbered i j a b = at (merging_events (at_times i j) s.events) refl
     where
-      at : (o : Option Twins) → twins_by (at_times i j) s.events ≡ o → NumberedFrom s.next (times_equated s i j o)
-      at None k = (change_numbered s.next [] (λ x l. l) (time_replaced (smaller i j) (larger i j)) (replaced_under s.next i j a b) s refl n, le_refl s.next)
+      at : (o : Option MergingEvents) → merging_events (at_times i j) s.events ≡ o → NumberedFrom N s.next (times_equated s i j o)
+      at None k = (change_numbered N s.next [] (λ x l. l) (time_replaced (smaller i j) (larger i j)) (replaced_under s.next i j a b) s refl n, le_refl s.next)
       at (Some r) k = merged_numbered right (at_times i j) s n r k
 
   -- a solution in which the equation holds is one after the equating
@@ -104,22 +105,22 @@ module _ (right : UnifierIsRight) (s : System) (n : IsNumbered s) where
     where
       at : (o : Option (List Binding)) → mgu (p ∷ []) ≡ o → SolvedBy theory log v (option_map (λ bs. system_changed (bound_to bs) (λ i. i) s) o)
       at None k = right.none (p ∷ []) k v.terms (respects theory log v s h) (one, tt)
-      at (Some bs) k = change_solves theory log v bs (right.fixes (p ∷ []) bs k v.terms (respects theory log v s h) (one, tt)) (λ i. i) (λ i. refl) s n h
+      at (Some bs) k = change_solves N theory log v bs (right.fixes (p ∷ []) bs k v.terms (respects theory log v s h) (one, tt)) (λ i. i) (λ i. refl) s n h
   equated_solved theory log v h (equal_times i j) one = at (nat_eq i j)
     where
-      at : (b : Bool) → SolvedBy theory log v (if b then Some s else times_equated s i j (twins_by (at_times i j) s.events))
+      at : (b : Bool) → SolvedBy theory log v (if b then Some s else times_equated s i j (merging_events (at_times i j) s.events))
       at true = h
       at false = times_solved theory log v h i j one
 
-  equated_numbered : (e : Equation) → EquationUnder s.next e → NumberedFrom s.next (equated s e)
+  equated_numbered : (e : Equation) → EquationUnder N s.next e → NumberedFrom N s.next (equated s e)
   equated_numbered (equal_terms p) u = at (mgu (p ∷ [])) refl
     where
-      at : (o : Option (List Binding)) → mgu (p ∷ []) ≡ o → NumberedFrom s.next (option_map (λ bs. system_changed (bound_to bs) (λ i. i) s) o)
+      at : (o : Option (List Binding)) → mgu (p ∷ []) ≡ o → NumberedFrom N s.next (option_map (λ bs. system_changed (bound_to bs) (λ i. i) s) o)
       at None k = tt
-      at (Some bs) k = (change_numbered s.next bs (right.within (p ∷ []) bs k s.next (u, tt)) (λ i. i) (λ i l. l) s refl n, le_refl s.next)
+      at (Some bs) k = (change_numbered N s.next bs (mgu_within N (Under s.next) (p ∷ []) bs (u, tt) k) (λ i. i) (λ i l. l) s refl n, le_refl s.next)
   equated_numbered (equal_times i j) u = at (nat_eq i j)
     where
-      at : (b : Bool) → NumberedFrom s.next (if b then Some s else times_equated s i j (twins_by (at_times i j) s.events))
+      at : (b : Bool) → NumberedFrom N s.next (if b then Some s else times_equated s i j (merging_events (at_times i j) s.events))
       at true = (n, le_refl s.next)
       at false = times_numbered i j u.0 u.1
 
@@ -128,8 +129,8 @@ pub not_none : (theory : Theory) (log : Log) (v : Valuation) (o : Option System)
 not_none theory log v None a b = b
 not_none theory log v (Some t) a b = cc
 
-module _ (right : UnifierIsRight) where
-  pub equate_covers : (theory : Theory) → AreConvergent (signature_of theory).equations → (s t : System) → equate s ≡ Some t → IsNumbered s → Covers theory s (t ∷ [])
+module _ (N : Names) (right : UnifierIsRight) where
+  pub equate_covers : (theory : Theory) → AreConvergent (signature_of theory).equations → (s t : System) → equate s ≡ Some t → IsNumbered N s → Covers theory s (t ∷ [])
   equate_covers theory good s t e n =
       let q = then_some (λ r. equated (spending s r []) r.picked) (first_formula equation_of s.formulas) t e in
       let r = q.0 in
@@ -139,16 +140,16 @@ module _ (right : UnifierIsRight) where
       subst (SolvedBy theory log v) q.2
       (equated_solved right (spending s r []) (spending_numbered equation_of s r found [] tt n) theory log v (spending_solves equation_of theory log v s r found [] tt h) r.picked one))
 
-  pub equate_numbered : (s t : System) → equate s ≡ Some t → IsNumbered s → IsNumbered t × (s.next ≤ t.next)
+  pub equate_numbered : (s t : System) → equate s ≡ Some t → IsNumbered N s → IsNumbered N t × (s.next ≤ t.next)
   equate_numbered s t e n =
       let q = then_some (λ r. equated (spending s r []) r.picked) (first_formula equation_of s.formulas) t e in
       let r = q.0 in
       let found = is_found equation_of s.formulas r q.1 in
-      let u = equation_in s.next r.formula r.picked found.picks (found_holds equation_of s.formulas r found (InFormula (Under s.next) (TimeUnder s.next)) n.formulas) in
-      subst (NumberedFrom s.next) q.2 (equated_numbered right (spending s r []) (spending_numbered equation_of s r found [] tt n) r.picked u)
+      let u = equation_in N s.next r.formula r.picked found.picks (found_holds equation_of s.formulas r found (InFormula N (Under s.next) (TimeUnder s.next)) n.formulas) in
+      subst (NumberedFrom N s.next) q.2 (equated_numbered right (spending s r []) (spending_numbered equation_of s r found [] tt n) r.picked u)
 
   -- Failing unification: an equation that a solution makes true can be put into the system.
-  module _ (theory : Theory) (good : AreConvergent (signature_of theory).equations) (s : System) (n : IsNumbered s) (log : Log) (v : Valuation) (h : Solves theory log v s) where
+  module _ (theory : Theory) (good : AreConvergent (signature_of theory).equations) (s : System) (n : IsNumbered N s) (log : Log) (v : Valuation) (h : Solves theory log v s) where
     fails_contradicts : (f : Guarded) (o : Option Equation) → equation_of f ≡ o → equation_fails s o ≡ true → FormulaHolds theory log v f → ⊥
     fails_contradicts f None k e l = absurd cc
     fails_contradicts f (Some q) k e l = not_none theory log v (equated s q) e (equated_solved right s n theory log v h q (equation_holds theory good log v f q k l))

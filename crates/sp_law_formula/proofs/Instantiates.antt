@@ -1,7 +1,7 @@
 -- The row on universal formulas covers: the values that it found are values of the binders, so the body holds at them.
 use Rattle.std.proofs.Common.{◌≡◌, ◌<◌, ℕ, true, List, [], ◌∷◌, map, length, Some, refl, sym, ap, ◌∙◌, subst, inl, inr, ◌++◌}
 use Rattle.sp_spec.specs.Lists.{Member, Every, AtPosition}
-use Rattle.sp_spec.specs.Term.{Sort, Msg, Fresh, Pub, Variable, Term, var, constant, name, app, Terms, Ground, Grounds, Values, valued, valued_all}
+use Rattle.sp_spec.specs.Term.{Names, Sort, Msg, Fresh, Pub, Variable, Term, var, constant, name, app, Terms, Ground, Grounds, Values, valued, valued_all}
 use Rattle.sp_spec.specs.Signature.{HasSort, IsOver, AreOver, IsValuation}
 use Rattle.sp_spec.specs.Equal.{Equal, end, IsNormal, AreNormal}
 use Rattle.sp_spec.specs.Rule.{Action, action_at, facts_at, AreNormalActions}
@@ -87,7 +87,7 @@ shown_at [] p e a = absurd a
 shown_at (d ∷ log) p e (inl a) = inl (a.0 ∙ sym (length_trace log), ap entry_actions a.1)
 shown_at (d ∷ log) p e (inr a) = inr (shown_at log p e a)
 
-module _ (theory : Theory) (good : AreConvergent (signature_of theory).equations) (keeps : KeepSymbols (signature_of theory).symbols (signature_of theory).equations)
+module _ (N : Names) (theory : Theory) (good : AreConvergent (signature_of theory).equations) (keeps : KeepSymbols (signature_of theory).symbols (signature_of theory).equations)
     (rules_over : ActionsAreOver theory) (log : Log) (is : IsLog theory log) (v : Valuation) where
   -- the normal forms of actions over the signature are over it
   forms_over : (xs ys : List (Action ⊥)) → AreNormalActions (signature_of theory).equations xs ys → Every (λ (a : Action ⊥). AreOver (signature_of theory).symbols a.args) xs
@@ -148,7 +148,7 @@ module _ (theory : Theory) (good : AreConvergent (signature_of theory).equations
 
   -- the body's instance holds and is settled
   taken_holds : (s : System) (bs : List Binder) (guard : List Atom) (f g : Guarded) → Solves theory log v s → Taken (IsFine theory v) (λ i. v.times i < length log) s.events bs guard f g
-      → (A : Variable → Type 0) (B : ℕ → Type 0) → InFormula A B f → FormulaHolds theory log v (every bs guard f) → FormulaHolds theory log v g
+      → (A : Variable → Type 0) (B : ℕ → Type 0) → InFormula N A B f → FormulaHolds theory log v (every bs guard f) → FormulaHolds theory log v g
   taken_holds s bs guard f g h t A B i k =
       let sig = signature_of theory in
       let n = length log in
@@ -167,13 +167,13 @@ module _ (theory : Theory) (good : AreConvergent (signature_of theory).equations
       let c = instance t.values t.positions in
       let reads = instance_reads A B v t.values t.positions in
       subst (FormulaHolds theory log v) (sym t.result) (
-        subst (λ (X : Type 0). X) (sym (changed_same A B sig (log_trace log) c (assignment v) m reads f i)) holds,
-        subst (λ (X : Type 0). X) (sym (settled_same A B sig n c (assignment v) m reads f i)) settled.1,
+        subst (λ (X : Type 0). X) (sym (changed_same N A B sig (log_trace log) c (assignment v) m reads f i)) holds,
+        subst (λ (X : Type 0). X) (sym (settled_same N A B sig n c (assignment v) m reads f i)) settled.1,
       )
 
-pub instantiate_covers : (theory : Theory) → AreConvergent (signature_of theory).equations → KeepSymbols (signature_of theory).symbols (signature_of theory).equations → ActionsAreOver theory
-    → (s t : System) → instantiate s ≡ Some t → IsNumbered s → Covers theory s (t ∷ [])
-instantiate_covers theory good keeps over s t e n =
+pub instantiate_covers : {N : Names} → (theory : Theory) → AreConvergent (signature_of theory).equations → KeepSymbols (signature_of theory).symbols (signature_of theory).equations → ActionsAreOver theory
+    → (s t : System) → instantiate s ≡ Some t → IsNumbered N s → Covers theory s (t ∷ [])
+instantiate_covers {N} theory good keeps over s t e n =
     let r = is_universal s t e in
     let g = r.0 in
     let u = r.1 in
@@ -181,8 +181,8 @@ instantiate_covers theory good keeps over s t e n =
     let A = Under s.next in
     let B = TimeUnder s.next in
     covers_by_itself theory s t (λ log is v h.
-    let events = every_weaken _ _ (event_fine theory good keeps over log is v) s.events h.events in
+    let events = every_weaken _ _ (event_fine N theory good keeps over log is v) s.events h.events in
     let taken = is_taken (IsFine theory v) (AreFine theory v) (fine_inherited theory v) (λ i. v.times i < length log) s u.binders u.guard u.body g events (every_all (HasGoodSides (IsFine theory v)) (sides_fine theory v h.sorts h.normal) u.guard) u.instantiated in
-    let new = taken_holds theory good keeps over log is v s u.binders u.guard u.body g h taken A B (every_member (InFormula A B) s.formulas f u.member n.formulas).1 (every_member (FormulaHolds theory log v) s.formulas f u.member h.formulas) in
+    let new = taken_holds N theory good keeps over log is v s u.binders u.guard u.body g h taken A B (every_member (InFormula N A B) s.formulas f u.member n.formulas).1 (every_member (FormulaHolds theory log v) s.formulas f u.member h.formulas) in
     subst (Solves theory log v) (sym r.2)
     (formulas_solve theory log v s h (s.formulas ++ g ∷ []) (every_append (FormulaHolds theory log v) s.formulas (g ∷ []) h.formulas (new, tt))))

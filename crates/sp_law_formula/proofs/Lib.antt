@@ -18,4 +18,4 @@ pub mod Slots
 pub mod Spending
 pub mod Splitting
 pub mod Taken
-pub mod Twins
+pub mod Merged

@@ -2,7 +2,7 @@
 use Rattle.std.proofs.Common.{◌≡◌, ◌≤◌, ℕ, true, List, [], ◌∷◌, Option, Some, None, option_map, sym, ap, ◌∙◌, subst, ⊎_elim, le_refl}
 use Rattle.std.proofs.lemmas.Bool.{or_cases}
 use Rattle.sp_spec.specs.Lists.{Every}
-use Rattle.sp_spec.specs.Term.{Variable, Term, Ground, valued, EachVariable}
+use Rattle.sp_spec.specs.Term.{Names, Variable, Term, Ground, valued, MadeOf}
 use Rattle.sp_spec.specs.Equal.{Equal, end, IsNormal}
 use Rattle.sp_spec.specs.Theory.{Theory, signature_of}
 use Rattle.sp_spec.specs.Guarded.{Place, acts, same, same_time, before, last, Guarded, truth, falsity, holds, fails, all_of, one_of, some, every, term_in}
@@ -36,11 +36,11 @@ action_stands_covers theory s t e =
     let found = is_found (standing_of s.events) s.formulas r.0 r.1 in
     covers_by_itself theory s t (λ log is v h. subst (Solves theory log v) (sym r.2) (spending_solves (standing_of s.events) theory log v s r.0 found [] tt h))
 
-pub action_stands_numbered : (s t : System) → action_stands s ≡ Some t → IsNumbered s → IsNumbered t × (s.next ≤ t.next)
-action_stands_numbered s t e n =
+pub action_stands_numbered : {N : Names} → (s t : System) → action_stands s ≡ Some t → IsNumbered N s → IsNumbered N t × (s.next ≤ t.next)
+action_stands_numbered {N} s t e n =
     let r = mapped (λ r. spending s r []) (first_formula (standing_of s.events) s.formulas) t e in
     let found = is_found (standing_of s.events) s.formulas r.0 r.1 in
-    let P : System → Type 0 = λ u. IsNumbered u × (s.next ≤ u.next) in
+    let P : System → Type 0 = λ u. IsNumbered N u × (s.next ≤ u.next) in
     subst P (sym r.2) (spending_numbered (standing_of s.events) s r.0 found [] tt n, le_refl s.next)
 
 -- Unequal: the two terms of the literal are terms of the system.
@@ -72,19 +72,19 @@ inequality_holds theory log v (one_of fs) p e h = absurd cc
 inequality_holds theory log v (some bs guard f) p e h = absurd cc
 inequality_holds theory log v (every bs guard f) p e h = absurd cc
 
-inequality_in : (P : Variable → Type 0) (Q : ℕ → Type 0) (f : Guarded) (p : Pair) → inequality_of f ≡ Some p → InFormula P Q f → EachVariable P p.0 × EachVariable P p.1
-inequality_in P Q (fails (same t u)) p e h = let parts = pair_parts t u p e in (freed_in P t p.0 parts.0 h.0, freed_in P u p.1 parts.1 h.1)
-inequality_in P Q (fails (acts a i)) p e h = absurd cc
-inequality_in P Q (fails (same_time i j)) p e h = absurd cc
-inequality_in P Q (fails (before i j)) p e h = absurd cc
-inequality_in P Q (fails (last i)) p e h = absurd cc
-inequality_in P Q truth p e h = absurd cc
-inequality_in P Q falsity p e h = absurd cc
-inequality_in P Q (holds a) p e h = absurd cc
-inequality_in P Q (all_of fs) p e h = absurd cc
-inequality_in P Q (one_of fs) p e h = absurd cc
-inequality_in P Q (some bs guard f) p e h = absurd cc
-inequality_in P Q (every bs guard f) p e h = absurd cc
+inequality_in : (N : Names) → (P : Variable → Type 0) (Q : ℕ → Type 0) (f : Guarded) (p : Pair) → inequality_of f ≡ Some p → InFormula N P Q f → MadeOf N P p.0 × MadeOf N P p.1
+inequality_in N P Q (fails (same t u)) p e h = let parts = pair_parts t u p e in (freed_in N P t p.0 parts.0 h.0, freed_in N P u p.1 parts.1 h.1)
+inequality_in N P Q (fails (acts a i)) p e h = absurd cc
+inequality_in N P Q (fails (same_time i j)) p e h = absurd cc
+inequality_in N P Q (fails (before i j)) p e h = absurd cc
+inequality_in N P Q (fails (last i)) p e h = absurd cc
+inequality_in N P Q truth p e h = absurd cc
+inequality_in N P Q falsity p e h = absurd cc
+inequality_in N P Q (holds a) p e h = absurd cc
+inequality_in N P Q (all_of fs) p e h = absurd cc
+inequality_in N P Q (one_of fs) p e h = absurd cc
+inequality_in N P Q (some bs guard f) p e h = absurd cc
+inequality_in N P Q (every bs guard f) p e h = absurd cc
 
 kept_each : (P : Pair → Type 0) (pairs : List Pair) (p : Pair) (o : Option (List Binding)) → Every P pairs → P p → Every P (kept_unequal pairs p o)
 kept_each P pairs p None e h = e
@@ -100,15 +100,15 @@ unequal_covers theory s t e =
     subst (Solves theory log v) (sym r.2)
     (unequal_solve theory log v (spending s r.0 []) u (kept_unequal s.unequal r.0.picked (mgu (r.0.picked ∷ []))) (kept_each (AreUnequal theory v) s.unequal r.0.picked (mgu (r.0.picked ∷ [])) h.unequal p)))
 
-pub unequal_row_numbered : (s t : System) → unequal s ≡ Some t → IsNumbered s → IsNumbered t × (s.next ≤ t.next)
-unequal_row_numbered s t e n =
+pub unequal_row_numbered : {N : Names} → (s t : System) → unequal s ≡ Some t → IsNumbered N s → IsNumbered N t × (s.next ≤ t.next)
+unequal_row_numbered {N} s t e n =
     let r = mapped (unequal_at s) (first_formula inequality_of s.formulas) t e in
     let found = is_found inequality_of s.formulas r.0 r.1 in
     let u = spending_numbered inequality_of s r.0 found [] tt n in
-    let p = inequality_in (Under s.next) (TimeUnder s.next) r.0.formula r.0.picked found.picks (found_holds inequality_of s.formulas r.0 found (InFormula (Under s.next) (TimeUnder s.next)) n.formulas) in
-    let P : System → Type 0 = λ w. IsNumbered w × (s.next ≤ w.next) in
+    let p = inequality_in N (Under s.next) (TimeUnder s.next) r.0.formula r.0.picked found.picks (found_holds inequality_of s.formulas r.0 found (InFormula N (Under s.next) (TimeUnder s.next)) n.formulas) in
+    let P : System → Type 0 = λ w. IsNumbered N w × (s.next ≤ w.next) in
     subst P (sym r.2) (
-      unequal_numbered (spending s r.0 []) u (kept_unequal s.unequal r.0.picked (mgu (r.0.picked ∷ []))) (kept_each (TermsUnder s.next) s.unequal r.0.picked (mgu (r.0.picked ∷ [])) n.unequal p),
+      unequal_numbered (spending s r.0 []) u (kept_unequal s.unequal r.0.picked (mgu (r.0.picked ∷ []))) (kept_each (TermsUnder N s.next) s.unequal r.0.picked (mgu (r.0.picked ∷ [])) n.unequal p),
       le_refl s.next,
     )
 

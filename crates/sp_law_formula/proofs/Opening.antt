@@ -1,14 +1,14 @@
 -- Opening an existential formula covers: its variables get the values that make it true, in normal form.
 use Rattle.std.proofs.Common.{◌≡◌, ◌≤◌, ◌<◌, ℕ, zero, suc, Bool, true, false, ◌==◌, if◌then◌else◌, refl, sym, ap, ◌∙◌, subst, arith, lt_of_lt_of_le, nat_eq}
 use Rattle.std.proofs.lemmas.Bool.{eqb-true, eq-eqb}
-use Rattle.sp_spec.specs.Term.{Sort, Variable, Term, var, Ground, EachVariable}
+use Rattle.sp_spec.specs.Term.{Names, Sort, Variable, Term, var, Ground, MadeOf}
 use Rattle.sp_spec.specs.Signature.{IsValue, IsValuation}
 use Rattle.sp_spec.specs.Equal.{IsNormal}
 use Rattle.sp_spec.specs.Theory.{Theory, signature_of}
 use Rattle.sp_spec.specs.Guarded.{Place, free, bound, Time, free_time, bound_time, Assignment, with_term, with_time, pushed, place_in, term_in, time_in}
 use Rattle.sp_spec.specs.Same.{same_variable}
 use Rattle.sp_spec.proofs.Same.{same_variable_decides}
-use Rattle.sp_formula.specs.Change.{Change}
+use Rattle.sp_spec.specs.Change.{Change}
 use Rattle.sp_spec_system.specs.Solutions.{Valuation, assignment}
 use Rattle.sp_spec_system.specs.Numbered.{AtFree, AtFreeTime}
 use Rattle.sp_spec_system.specs.Covering.{Agrees}
@@ -65,8 +65,8 @@ each_value w x t P here others y = at (same_variable y x) refl
     at true k = let s : y ≡ x = (same_variable_decides y x).0 k in subst (λ (z : Variable). P z.sort t) (sym s) here
     at false k = others y
 
-agree_place : (n : ℕ) (v w : Valuation) → Agrees n v w → (t : Term Place) → EachVariable (AtFree (Under n)) t → term_in (assignment w) t ≡ term_in (assignment v) t
-agree_place n v w a t b = valued_same (place_in (assignment w)) (place_in (assignment v)) t (each_weaken (AtFree (Under n)) _ at t b)
+agree_place : (N : Names) → (n : ℕ) (v w : Valuation) → Agrees n v w → (t : Term Place) → MadeOf N (AtFree (Under n)) t → term_in (assignment w) t ≡ term_in (assignment v) t
+agree_place N n v w a t b = valued_same N (place_in (assignment w)) (place_in (assignment v)) t (each_weaken N (AtFree (Under n)) _ at t b)
   where
     at : (p : Place) → AtFree (Under n) p → place_in (assignment w) p ≡ place_in (assignment v) p
     at (free x) h = a.terms x h
@@ -77,8 +77,8 @@ agree_time n v w a (free_time i) b = a.times i b
 agree_time n v w a (bound_time k) b = refl
 
 -- what is under a number is under the next
-pub more_place : (n : ℕ) (t : Term Place) → EachVariable (AtFree (Under n)) t → EachVariable (AtFree (Under (suc n))) t
-more_place n t b = each_weaken (AtFree (Under n)) (AtFree (Under (suc n))) at t b
+pub more_place : (N : Names) → (n : ℕ) (t : Term Place) → MadeOf N (AtFree (Under n)) t → MadeOf N (AtFree (Under (suc n))) t
+more_place N n t b = each_weaken N (AtFree (Under n)) (AtFree (Under (suc n))) at t b
   where
     at : (p : Place) → AtFree (Under n) p → AtFree (Under (suc n)) p
     at (free x) h = omega (arith, h)
@@ -89,7 +89,7 @@ more_time n (free_time i) b = omega (arith, b)
 more_time n (bound_time k) b = tt
 
 -- What is bound so far reads, under the values so far, as the assignment that makes the formula true does.
-pub record Opens (theory : Theory) (base next : ℕ) (c : Change) (w : Valuation) (m : Assignment) : Type 0 where
+pub record Opens (N : Names) (theory : Theory) (base next : ℕ) (c : Change) (w : Valuation) (m : Assignment) : Type 0 where
   pub above : base ≤ next
   pub same_terms : (x : Variable) → c.terms x ≡ var x
   pub same_times : (i : ℕ) → c.times i ≡ i
@@ -97,7 +97,7 @@ pub record Opens (theory : Theory) (base next : ℕ) (c : Change) (w : Valuation
   pub moments : (i : ℕ) → i < base → m.times i ≡ w.times i
   pub terms : (k : ℕ) → m.bound_terms k ≡ term_in (assignment w) (c.bound_terms k)
   pub times : (k : ℕ) → m.bound_times k ≡ time_in (assignment w) (c.bound_times k)
-  pub terms_under : (k : ℕ) → EachVariable (AtFree (Under next)) (c.bound_terms k)
+  pub terms_under : (k : ℕ) → MadeOf N (AtFree (Under next)) (c.bound_terms k)
   pub times_under : (k : ℕ) → AtFreeTime (TimeUnder next) (c.bound_times k)
   pub sorts : IsValuation (signature_of theory) w.terms
   pub normal_values : (x : Variable) → IsNormal (signature_of theory).equations (w.terms x)
@@ -108,9 +108,9 @@ put_message c sort next = record { terms = c.terms; times = c.times; bound_terms
 abbrev pub put_time : Change → ℕ → Change
 put_time c next = record { terms = c.terms; times = c.times; bound_terms = c.bound_terms; bound_times = pushed (free_time next) c.bound_times }
 
-pub opens_message : (theory : Theory) (base next : ℕ) (c : Change) (w : Valuation) (m : Assignment) → Opens theory base next c w m → (sort : Sort) (t : Ground) → IsValue (signature_of theory) sort t → IsNormal (signature_of theory).equations t
-    → Opens theory base (suc next) (put_message c sort next) (with_value w (record { sort = sort; number = next }) t) (with_term t m)
-opens_message theory base next c w m o sort t is_value is_normal =
+pub opens_message : (N : Names) → (theory : Theory) (base next : ℕ) (c : Change) (w : Valuation) (m : Assignment) → Opens N theory base next c w m → (sort : Sort) (t : Ground) → IsValue (signature_of theory) sort t → IsNormal (signature_of theory).equations t
+    → Opens N theory base (suc next) (put_message c sort next) (with_value w (record { sort = sort; number = next }) t) (with_term t m)
+opens_message N theory base next c w m o sort t is_value is_normal =
     let x : Variable = record { sort = sort; number = next } in
     let a = value_agrees w sort next t in
     let le = o.above in
@@ -131,16 +131,16 @@ opens_message theory base next c w m o sort t is_value is_normal =
     terms : Agrees next w (with_value w (record { sort = sort; number = next }) t) → (k : ℕ)
         → pushed t m.bound_terms k ≡ term_in (assignment (with_value w (record { sort = sort; number = next }) t)) (pushed (var (free (record { sort = sort; number = next }))) c.bound_terms k)
     terms a zero = sym (value_here w (record { sort = sort; number = next }) t)
-    terms a (suc k) = o.terms k ∙ sym (agree_place next w (with_value w (record { sort = sort; number = next }) t) a (c.bound_terms k) (o.terms_under k))
+    terms a (suc k) = o.terms k ∙ sym (agree_place N next w (with_value w (record { sort = sort; number = next }) t) a (c.bound_terms k) (o.terms_under k))
 
-    under : (k : ℕ) → EachVariable (AtFree (Under (suc next))) (pushed (var (free (record { sort = sort; number = next }))) c.bound_terms k)
+    under : (k : ℕ) → MadeOf N (AtFree (Under (suc next))) (pushed (var (free (record { sort = sort; number = next }))) c.bound_terms k)
     under zero = omega arith
-    under (suc k) = more_place next (c.bound_terms k) (o.terms_under k)
+    under (suc k) = more_place N next (c.bound_terms k) (o.terms_under k)
 
-pub opens_time : (theory : Theory) (base next : ℕ) (c : Change) (w : Valuation) (m : Assignment) → Opens theory base next c w m → (p : ℕ)
-    → Opens theory base (suc next) (put_time c next) (with_position w next p) (with_time p m)
+pub opens_time : (N : Names) → (theory : Theory) (base next : ℕ) (c : Change) (w : Valuation) (m : Assignment) → Opens N theory base next c w m → (p : ℕ)
+    → Opens N theory base (suc next) (put_time c next) (with_position w next p) (with_time p m)
 unfolding with_position
-opens_time theory base next c w m o p =
+opens_time N theory base next c w m o p =
     let a = position_agrees w next p in
     let le = o.above in
     record {
@@ -149,9 +149,9 @@ opens_time theory base next c w m o p =
       same_times = o.same_times;
       variables = λ y h. o.variables y h ∙ sym (a.terms y (lt_of_lt_of_le h le));
       moments = λ i h. o.moments i h ∙ sym (a.times i (lt_of_lt_of_le h le));
-      terms = λ k. o.terms k ∙ sym (agree_place next w (with_position w next p) a (c.bound_terms k) (o.terms_under k));
+      terms = λ k. o.terms k ∙ sym (agree_place N next w (with_position w next p) a (c.bound_terms k) (o.terms_under k));
       times = times a;
-      terms_under = λ k. more_place next (c.bound_terms k) (o.terms_under k);
+      terms_under = λ k. more_place N next (c.bound_terms k) (o.terms_under k);
       times_under = under;
       sorts = sorts;
       normal_values = normal_values;

@@ -2,7 +2,7 @@
 use Rattle.std.proofs.Common.{◌≡◌, ◌≤◌, ◌<◌, ℕ, zero, suc, Bool, true, false, ◌&&◌, ◌||◌, nat_eq, List, [], ◌∷◌, length, Some, sym, ap, subst, ⊎_elim, le_refl, le_of_eq, le_of_lt, lt_of_lt_of_le, lt_irrefl, ◌++◌}
 use Rattle.std.proofs.lemmas.Bool.{or_cases, and_parts, eqb-true}
 use Rattle.sp_spec.specs.Lists.{Every}
-use Rattle.sp_spec.specs.Term.{Variable}
+use Rattle.sp_spec.specs.Term.{Names, Variable}
 use Rattle.sp_spec.specs.Theory.{Theory}
 use Rattle.sp_spec.specs.Guarded.{free_time, same_time, before, Guarded, holds, fails}
 use Rattle.sp_spec.specs.Log.{Log}
@@ -74,11 +74,11 @@ order_holds theory log v order (fails (same_time (free_time i) (free_time j))) p
 order_holds theory log v order (fails (before (free_time i) (free_time j))) pairs e h = nothing_more (IsBefore log v) (nat_eq i j || is_before order j i) pairs e
 order_holds theory log v order f pairs e h = absurd cc
 
-order_in : (P : Variable → Type 0) (n : ℕ) (order : List (ℕ × ℕ)) (f : Guarded) (pairs : List (ℕ × ℕ)) → order_of order f ≡ Some pairs → InFormula P (TimeUnder n) f → Every (BothUnder n) pairs
-order_in P n order (holds (before (free_time i) (free_time j))) pairs e h = let one : List (ℕ × ℕ) = (i, j) ∷ [] in let g : one ≡ pairs = cc in subst (Every (BothUnder n)) g (h, tt)
-order_in P n order (fails (same_time (free_time i) (free_time j))) pairs e h = nothing_more (BothUnder n) (is_before order i j || is_before order j i) pairs e
-order_in P n order (fails (before (free_time i) (free_time j))) pairs e h = nothing_more (BothUnder n) (nat_eq i j || is_before order j i) pairs e
-order_in P n order f pairs e h = absurd cc
+order_in : (N : Names) → (P : Variable → Type 0) (n : ℕ) (order : List (ℕ × ℕ)) (f : Guarded) (pairs : List (ℕ × ℕ)) → order_of order f ≡ Some pairs → InFormula N P (TimeUnder n) f → Every (BothUnder n) pairs
+order_in N P n order (holds (before (free_time i) (free_time j))) pairs e h = let one : List (ℕ × ℕ) = (i, j) ∷ [] in let g : one ≡ pairs = cc in subst (Every (BothUnder n)) g (h, tt)
+order_in N P n order (fails (same_time (free_time i) (free_time j))) pairs e h = nothing_more (BothUnder n) (is_before order i j || is_before order j i) pairs e
+order_in N P n order (fails (before (free_time i) (free_time j))) pairs e h = nothing_more (BothUnder n) (nat_eq i j || is_before order j i) pairs e
+order_in N P n order f pairs e h = absurd cc
 
 pub in_order_covers : (theory : Theory) (s t : System) → in_order s ≡ Some t → Covers theory s (t ∷ [])
 in_order_covers theory s t e =
@@ -90,11 +90,11 @@ in_order_covers theory s t e =
     subst (Solves theory log v) (sym r.2)
     (order_solves theory log v (spending s r.0 []) u (s.order ++ r.0.picked) (every_append (IsBefore log v) s.order r.0.picked h.order pairs)))
 
-pub in_order_numbered : (s t : System) → in_order s ≡ Some t → IsNumbered s → IsNumbered t × (s.next ≤ t.next)
-in_order_numbered s t e n =
+pub in_order_numbered : {N : Names} → (s t : System) → in_order s ≡ Some t → IsNumbered N s → IsNumbered N t × (s.next ≤ t.next)
+in_order_numbered {N} s t e n =
     let r = mapped (ordered_at s) (first_formula (order_of s.order) s.formulas) t e in
     let found = is_found (order_of s.order) s.formulas r.0 r.1 in
     let u = spending_numbered (order_of s.order) s r.0 found [] tt n in
-    let pairs = order_in (Under s.next) s.next s.order r.0.formula r.0.picked found.picks (found_holds (order_of s.order) s.formulas r.0 found (InFormula (Under s.next) (TimeUnder s.next)) n.formulas) in
-    let P : System → Type 0 = λ w. IsNumbered w × (s.next ≤ w.next) in
+    let pairs = order_in N (Under s.next) s.next s.order r.0.formula r.0.picked found.picks (found_holds (order_of s.order) s.formulas r.0 found (InFormula N (Under s.next) (TimeUnder s.next)) n.formulas) in
+    let P : System → Type 0 = λ w. IsNumbered N w × (s.next ≤ w.next) in
     subst P (sym r.2) (order_numbered (spending s r.0 []) u (s.order ++ r.0.picked) (every_append (BothUnder s.next) s.order r.0.picked n.order pairs), le_refl s.next)

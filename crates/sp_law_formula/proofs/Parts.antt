@@ -1,5 +1,6 @@
 -- The move on a disjunction: some part is true, and its case has the same solution.
 use Rattle.std.proofs.Common.{◌≡◌, ℕ, zero, suc, List, [], ◌∷◌, length, Option, Some, None, refl, sym, ap, subst, inl, inr, le_refl}
+use Rattle.sp_spec.specs.Term.{Names}
 use Rattle.sp_spec.specs.Lists.{Every}
 use Rattle.sp_spec.specs.Theory.{Theory, signature_of}
 use Rattle.sp_spec.specs.Guarded.{Guarded, one_of, Guardeds, no_more, and_then, SomeHolds}
@@ -14,7 +15,7 @@ use Rattle.sp_spec_system.specs.Move.{Case}
 use Rattle.sp_spec_formula.specs.Or.{by_part, disjunction_at, or_cases}
 use Rattle.sp_law_system.specs.Proofs.{systems_of}
 use Rattle.sp_spec.proofs.Options.{mapped}
-use Rattle.sp_law_formula.proofs.Twins.{Later}
+use Rattle.sp_law_formula.proofs.Merged.{Later}
 use Rattle.sp_law_formula.proofs.Spending.{IsFound, found_holds, spending_solves, spending_numbered}
 
 abbrev pub parts_if : Guarded → Option Guardeds
@@ -46,7 +47,8 @@ module _ (s : System) (r : Found Guardeds) (found : IsFound parts_if s.formulas 
       none.0 v (agrees_itself s.next v) (spending_solves parts_if theory log v s r found (f ∷ []) ((true_part, settled.0), tt) h)
   some_part_solved theory log v h k (and_then f fs) (inr one) settled none = some_part_solved theory log v h (suc k) fs one settled.1 none.1
 
-  each_part_numbered : IsNumbered s → (k : ℕ) (fs : Guardeds) → InEach (Under s.next) (TimeUnder s.next) fs → Every (Later s.next) (systems_of (by_part s r k fs))
+module _ (N : Names) (s : System) (r : Found Guardeds) (found : IsFound parts_if s.formulas r) where
+  each_part_numbered : IsNumbered N s → (k : ℕ) (fs : Guardeds) → InEach N (Under s.next) (TimeUnder s.next) fs → Every (Later N s.next) (systems_of (by_part s r k fs))
   each_part_numbered n k no_more i = tt
   each_part_numbered n k (and_then f fs) i = ((spending_numbered parts_if s r found (f ∷ []) (i.0, tt) n, le_refl s.next), each_part_numbered n (suc k) fs i.1)
 
@@ -66,10 +68,10 @@ or_covers theory s k cs e =
           true_one.0 (λ one. some_part_solved s r found theory log v h 1 r.picked one true_one.1 none);
     })
 
-pub or_numbered : (s : System) → IsNumbered s → (k : ℕ) (cs : List Case) → or_cases s (disjunction_at k s.formulas) ≡ Some cs → Every (Later s.next) (systems_of cs)
-or_numbered s n k cs e =
+pub or_numbered : {N : Names} → (s : System) → IsNumbered N s → (k : ℕ) (cs : List Case) → or_cases s (disjunction_at k s.formulas) ≡ Some cs → Every (Later N s.next) (systems_of cs)
+or_numbered {N} s n k cs e =
     let q = or_found s (disjunction_at k s.formulas) cs e in
     let r = q.0 in
     let found = disjunction_found k s.formulas r q.1 in
-    let i = subst (InFormula (Under s.next) (TimeUnder s.next)) (picked_parts r.formula r.picked found.picks) (found_holds parts_if s.formulas r found (InFormula (Under s.next) (TimeUnder s.next)) n.formulas) in
-    subst (λ (x : List Case). Every (Later s.next) (systems_of x)) q.2 (each_part_numbered s r found n 1 r.picked i)
+    let i = subst (InFormula N (Under s.next) (TimeUnder s.next)) (picked_parts r.formula r.picked found.picks) (found_holds parts_if s.formulas r found (InFormula N (Under s.next) (TimeUnder s.next)) n.formulas) in
+    subst (λ (x : List Case). Every (Later N s.next) (systems_of x)) q.2 (each_part_numbered N s r found n 1 r.picked i)

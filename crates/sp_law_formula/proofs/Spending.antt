@@ -1,5 +1,6 @@
 -- The first formula of which something is picked, and spending it.
 use Rattle.std.proofs.Common.{◌≡◌, List, [], ◌∷◌, ◌++◌, Option, Some, None, refl, sym, ap, subst}
+use Rattle.sp_spec.specs.Term.{Names}
 use Rattle.sp_spec.specs.Lists.{Every}
 use Rattle.sp_spec.specs.Theory.{Theory}
 use Rattle.sp_spec.specs.Guarded.{Guarded}
@@ -51,10 +52,10 @@ spending_solves pick theory log v s r found new k h =
     (formulas_solve theory log v s h formulas (others_hold pick s.formulas r found (FormulaHolds theory log v) new h.formulas k)) (s.spent ++ r.formula ∷ [])
     (every_append (FormulaHolds theory log v) s.spent (r.formula ∷ []) h.spent (found_holds pick s.formulas r found (FormulaHolds theory log v) h.formulas, tt))
 
-pub spending_numbered : {A : Type 0} (pick : Guarded → Option A) (s : System) (r : Found A) → IsFound pick s.formulas r → (new : List Guarded)
-    → Every (InFormula (Under s.next) (TimeUnder s.next)) new → IsNumbered s → IsNumbered (spending s r new)
-spending_numbered pick s r found new k h =
+pub spending_numbered : {N : Names} → {A : Type 0} (pick : Guarded → Option A) (s : System) (r : Found A) → IsFound pick s.formulas r → (new : List Guarded)
+    → Every (InFormula N (Under s.next) (TimeUnder s.next)) new → IsNumbered N s → IsNumbered N (spending s r new)
+spending_numbered {N} pick s r found new k h =
     let formulas = r.front ++ (new ++ r.back) in
-    let In : Guarded → Type 0 = InFormula (Under s.next) (TimeUnder s.next) in
+    let In : Guarded → Type 0 = InFormula N (Under s.next) (TimeUnder s.next) in
     spent_numbered (with_formulas s formulas) (formulas_numbered s h formulas (others_hold pick s.formulas r found In new h.formulas k)) (s.spent ++ r.formula ∷ [])
     (every_append In s.spent (r.formula ∷ []) h.spent (found_holds pick s.formulas r found In h.formulas, tt))

@@ -2,7 +2,7 @@
 use Rattle.std.proofs.Common.{◌≡◌, ◌≤◌, ℕ, true, List, [], ◌∷◌, length, Some, sym, subst, ⊎_elim, le_refl}
 use Rattle.std.proofs.lemmas.Bool.{or_cases}
 use Rattle.sp_spec.specs.Lists.{Every}
-use Rattle.sp_spec.specs.Term.{Variable}
+use Rattle.sp_spec.specs.Term.{Names, Variable}
 use Rattle.sp_spec.specs.Theory.{Theory, signature_of}
 use Rattle.sp_spec.specs.Guarded.{Guarded, truth, falsity, all_of, Guardeds, no_more, and_then, EachHolds}
 use Rattle.sp_spec.specs.Log.{Log, log_trace}
@@ -37,14 +37,14 @@ module _ (theory : Theory) (log : Log) (v : Valuation) where
   some_falsity_contradicts (f ∷ fs) e h =
       ⊎_elim (λ k. falsity_contradicts f k h.0) (λ k. some_falsity_contradicts fs k h.1) (or_cases (is_falsity f) (has_falsity fs) e)
 
-module _ (P : Variable → Type 0) (Q : ℕ → Type 0) where
-  parts_in : (fs : Guardeds) → InEach P Q fs → Every (InFormula P Q) (parts_of fs)
+module _ (N : Names) (P : Variable → Type 0) (Q : ℕ → Type 0) where
+  parts_in : (fs : Guardeds) → InEach N P Q fs → Every (InFormula N P Q) (parts_of fs)
   parts_in no_more h = tt
   parts_in (and_then f fs) h = (h.0, parts_in fs h.1)
 
-  split_in : (f : Guarded) (gs : List Guarded) → split_of f ≡ Some gs → InFormula P Q f → Every (InFormula P Q) gs
-  split_in truth gs e h = let empty : List Guarded = [] in let g : empty ≡ gs = cc in subst (Every (InFormula P Q)) g tt
-  split_in (all_of fs) gs e h = let g : parts_of fs ≡ gs = cc in subst (Every (InFormula P Q)) g (parts_in fs h)
+  split_in : (f : Guarded) (gs : List Guarded) → split_of f ≡ Some gs → InFormula N P Q f → Every (InFormula N P Q) gs
+  split_in truth gs e h = let empty : List Guarded = [] in let g : empty ≡ gs = cc in subst (Every (InFormula N P Q)) g tt
+  split_in (all_of fs) gs e h = let g : parts_of fs ≡ gs = cc in subst (Every (InFormula N P Q)) g (parts_in fs h)
   split_in f gs e h = absurd cc
 
 pub split_covers : (theory : Theory) (s t : System) → split s ≡ Some t → Covers theory s (t ∷ [])
@@ -55,10 +55,10 @@ split_covers theory s t e =
     let parts = split_holds theory log v r.0.formula r.0.picked found.picks (found_holds split_of s.formulas r.0 found (FormulaHolds theory log v) h.formulas) in
     subst (Solves theory log v) (sym r.2) (spending_solves split_of theory log v s r.0 found r.0.picked parts h))
 
-pub split_numbered : (s t : System) → split s ≡ Some t → IsNumbered s → IsNumbered t × (s.next ≤ t.next)
-split_numbered s t e n =
+pub split_numbered : {N : Names} → (s t : System) → split s ≡ Some t → IsNumbered N s → IsNumbered N t × (s.next ≤ t.next)
+split_numbered {N} s t e n =
     let r = mapped (λ r. spending s r r.picked) (first_formula split_of s.formulas) t e in
     let found = is_found split_of s.formulas r.0 r.1 in
-    let parts = split_in (Under s.next) (TimeUnder s.next) r.0.formula r.0.picked found.picks (found_holds split_of s.formulas r.0 found (InFormula (Under s.next) (TimeUnder s.next)) n.formulas) in
-    let P : System → Type 0 = λ u. IsNumbered u × (s.next ≤ u.next) in
+    let parts = split_in N (Under s.next) (TimeUnder s.next) r.0.formula r.0.picked found.picks (found_holds split_of s.formulas r.0 found (InFormula N (Under s.next) (TimeUnder s.next)) n.formulas) in
+    let P : System → Type 0 = λ u. IsNumbered N u × (s.next ≤ u.next) in
     subst P (sym r.2) (spending_numbered split_of s r.0 found r.0.picked parts n, le_refl s.next)

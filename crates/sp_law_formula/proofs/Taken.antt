@@ -1,10 +1,10 @@
 -- What the row on universal formulas took: slots with values, and the body's instance at these. It takes no new numbers.
 use Rattle.std.proofs.Common.{◌≡◌, ◌≤◌, ℕ, zero, suc, Bool, true, false, if◌then◌else◌, ◌||◌, List, [], ◌∷◌, length, Option, Some, None, refl, sym, ◌∙◌, subst, le_refl, ◌++◌}
 use Rattle.sp_spec.specs.Lists.{Member, Every}
-use Rattle.sp_spec.specs.Term.{Variable, Term, var, constant, name, app, Terms, EachVariable, EachVariables}
+use Rattle.sp_spec.specs.Term.{Names, Variable, Term, var, constant, name, app, Terms, MadeOf, AllMadeOf}
 use Rattle.sp_spec.specs.Rule.{Action}
 use Rattle.sp_spec.specs.Guarded.{Place, free, bound, bound_time, Binder, message, time, Atom, acts, same, same_time, before, last, Guarded, truth, falsity, holds, fails, all_of, one_of, some, every, Assignment}
-use Rattle.sp_formula.specs.Change.{changed}
+use Rattle.sp_spec.specs.Change.{changed}
 use Rattle.sp_spec_system.specs.System.{Happening, rule_step, Event, System, happening_actions}
 use Rattle.sp_spec_system.specs.Numbered.{AtFree, AtFreeTime, InAtom, InFormula, InHappening, InEvent, IsNumbered}
 use Rattle.sp_spec.proofs.Lists.{every_append, every_member, every_weaken}
@@ -110,36 +110,36 @@ is_universal s t e =
     (r.0, universal_of s p.0 r.0 p.1 p.2, r.2)
 
 -- Numbers.
-side_in : (P : Variable → Type 0) (s : List Slot) → AreGood (EachVariable P) s → (t : Term Place) (u : Term Variable) → side_value s t ≡ Some u → EachVariable (AtFree P) t → EachVariable P u
-side_in P s good (var (free x)) u e h = subst (EachVariable P) (sym (some_same (var x) u e)) h
-side_in P s good (var (bound k)) u e h = value_at_good (EachVariable P) s good k u e
-side_in P s good (constant c) u e h = subst (EachVariable P) (sym (some_same (constant c) u e)) tt
-side_in P s good (name n) u e h = subst (EachVariable P) (sym (some_same (name n) u e)) tt
-side_in P s good (app f ts) u e h = absurd cc
+side_in : (N : Names) → (P : Variable → Type 0) (s : List Slot) → AreGood (MadeOf N P) s → (t : Term Place) (u : Term Variable) → side_value s t ≡ Some u → MadeOf N (AtFree P) t → MadeOf N P u
+side_in N P s good (var (free x)) u e h = subst (MadeOf N P) (sym (some_same (var x) u e)) h
+side_in N P s good (var (bound k)) u e h = value_at_good (MadeOf N P) s good k u e
+side_in N P s good (constant c) u e h = subst (MadeOf N P) (sym (some_same (constant c) u e)) h
+side_in N P s good (name n) u e h = subst (MadeOf N P) (sym (some_same (name n) u e)) h
+side_in N P s good (app f ts) u e h = absurd cc
 
-module _ (P : Variable → Type 0) (B : ℕ → Type 0) where
-  variables_inherited : Inherited (EachVariable P) (EachVariables P)
+module _ (N : Names) (P : Variable → Type 0) (B : ℕ → Type 0) where
+  variables_inherited : Inherited (MadeOf N P) (AllMadeOf N P)
   variables_inherited = record { under = λ f ts h. h; first = λ t ts h. h.0; rest = λ t ts h. h.1 }
 
-  sides_in : (a : Atom) → InAtom P B a → HasGoodSides (EachVariable P) a
-  sides_in (same t u) h = (λ s good x e. side_in P s good t x e h.0, λ s good x e. side_in P s good u x e h.1)
+  sides_in : (a : Atom) → InAtom N P B a → HasGoodSides (MadeOf N P) a
+  sides_in (same t u) h = (λ s good x e. side_in N P s good t x e h.0, λ s good x e. side_in N P s good u x e h.1)
   sides_in (acts a i) h = tt
   sides_in (same_time i j) h = tt
   sides_in (before i j) h = tt
   sides_in (last i) h = tt
 
-  event_in : (e : Event) → InEvent P B e → IsGoodEvent (EachVariable P) (EachVariables P) variables_inherited B e
+  event_in : (e : Event) → InEvent N P B e → IsGoodEvent (MadeOf N P) (AllMadeOf N P) variables_inherited B e
   event_in e h = (h.0, at e.happening h.1)
     where
-      at : (h : Happening) → InHappening P h → Every (λ (b : Action Variable). EachVariables P b.args) (happening_actions h)
+      at : (h : Happening) → InHappening N P h → Every (λ (b : Action Variable). AllMadeOf N P b.args) (happening_actions h)
       at (rule_step r facts) k = k.actions
 
-  instance_puts : (ts : List (Term Variable)) (js : List ℕ) → Every (EachVariable P) ts → Every B js → PutsIn P P B B (instance ts js)
+  instance_puts : (ts : List (Term Variable)) (js : List ℕ) → Every (MadeOf N P) ts → Every B js → PutsIn N P P B B (instance ts js)
   instance_puts ts js h k = record { terms = λ x l. l; times = λ i l. l; bound_terms = terms ts h; bound_times = times js k }
     where
-      terms : (ts : List (Term Variable)) → Every (EachVariable P) ts → (k : ℕ) → EachVariable (AtFree P) (filled (placed_each ts) (λ j. var (bound j)) k)
+      terms : (ts : List (Term Variable)) → Every (MadeOf N P) ts → (k : ℕ) → MadeOf N (AtFree P) (filled (placed_each ts) (λ j. var (bound j)) k)
       terms [] h k = tt
-      terms (t ∷ ts) h zero = each_valued P (AtFree P) (λ x. var (free x)) (λ x l. l) t h.0
+      terms (t ∷ ts) h zero = each_valued N P (AtFree P) (λ x. var (free x)) (λ x l. l) t h.0
       terms (t ∷ ts) h (suc k) = terms ts h.1 k
 
       times : (js : List ℕ) → Every B js → (k : ℕ) → AtFreeTime B (filled (free_each js) bound_time k)
@@ -147,20 +147,20 @@ module _ (P : Variable → Type 0) (B : ℕ → Type 0) where
       times (j ∷ js) h zero = h.0
       times (j ∷ js) h (suc k) = times js h.1 k
 
-  universal_in : (s : System) (g : Guarded) → Universal s g → Every (InEvent P B) s.events → Every (InFormula P B) s.formulas → InFormula P B g
+  universal_in : (s : System) (g : Guarded) → Universal s g → Every (InEvent N P B) s.events → Every (InFormula N P B) s.formulas → InFormula N P B g
   universal_in s g u events formulas =
-      let h = every_member (InFormula P B) s.formulas (every u.binders u.guard u.body) u.member formulas in
-      let t = is_taken (EachVariable P) (EachVariables P) variables_inherited B s u.binders u.guard u.body g (every_weaken _ _ event_in s.events events)
-      (every_weaken (InAtom P B) (HasGoodSides (EachVariable P)) sides_in u.guard h.0) u.instantiated in
-      let puts = instance_puts t.values t.positions (terms_good (EachVariable P) t.terms t.values t.all_values t.good) (times_good B t.times t.positions t.all_positions t.good_times) in
-      subst (InFormula P B) (sym t.result) (changed_in P P B B (instance t.values t.positions) puts u.body h.1)
+      let h = every_member (InFormula N P B) s.formulas (every u.binders u.guard u.body) u.member formulas in
+      let t = is_taken (MadeOf N P) (AllMadeOf N P) variables_inherited B s u.binders u.guard u.body g (every_weaken _ _ event_in s.events events)
+      (every_weaken (InAtom N P B) (HasGoodSides (MadeOf N P)) sides_in u.guard h.0) u.instantiated in
+      let puts = instance_puts t.values t.positions (terms_good (MadeOf N P) t.terms t.values t.all_values t.good) (times_good B t.times t.positions t.all_positions t.good_times) in
+      subst (InFormula N P B) (sym t.result) (changed_in N P P B B (instance t.values t.positions) puts u.body h.1)
 
-pub instantiate_numbered : (s t : System) → instantiate s ≡ Some t → IsNumbered s → IsNumbered t × (s.next ≤ t.next)
-instantiate_numbered s t e n =
+pub instantiate_numbered : {N : Names} → (s t : System) → instantiate s ≡ Some t → IsNumbered N s → IsNumbered N t × (s.next ≤ t.next)
+instantiate_numbered {N} s t e n =
     let r = is_universal s t e in
-    let new = universal_in (Under s.next) (TimeUnder s.next) s r.0 r.1 n.events n.formulas in
-    let P : System → Type 0 = λ u. IsNumbered u × (s.next ≤ u.next) in
+    let new = universal_in N (Under s.next) (TimeUnder s.next) s r.0 r.1 n.events n.formulas in
+    let P : System → Type 0 = λ u. IsNumbered N u × (s.next ≤ u.next) in
     subst P (sym r.2) (
-      formulas_numbered s n (s.formulas ++ r.0 ∷ []) (every_append (InFormula (Under s.next) (TimeUnder s.next)) s.formulas (r.0 ∷ []) n.formulas (new, tt)),
+      formulas_numbered s n (s.formulas ++ r.0 ∷ []) (every_append (InFormula N (Under s.next) (TimeUnder s.next)) s.formulas (r.0 ∷ []) n.formulas (new, tt)),
       le_refl s.next,
     )

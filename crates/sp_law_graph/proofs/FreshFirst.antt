@@ -2,7 +2,7 @@
 use Rattle.std.proofs.Common.{◌≡◌, ◌⊎◌, ◌≤◌, ◌<◌, ℕ, zero, suc, Bool, true, false, ◌&&◌, not, if◌then◌else◌, List, [], ◌∷◌, ◌++◌, map, length, Some, refl, sym, ap, ◌∙◌, subst, inl, inr, ⊎_elim, le_refl}
 use Rattle.std.proofs.lemmas.Bool.{or_cases, and_parts, not-true}
 use Rattle.sp_spec.specs.Lists.{Member, Every, AtPlace}
-use Rattle.sp_spec.specs.Term.{Sort, Fresh, Variable, Term, var, constant, name, app, Terms, none, more, Ground, Values, valued, valued_all}
+use Rattle.sp_spec.specs.Term.{Names, Sort, Fresh, Variable, Term, var, constant, name, app, Terms, none, more, Ground, Values, valued, valued_all}
 use Rattle.sp_spec.specs.Signature.{HasSort, RespectsSorts}
 use Rattle.sp_spec.specs.Rule.{Fact, Facts, fact_at, facts_at}
 use Rattle.sp_spec.specs.Theory.{Theory, signature_of}
@@ -58,12 +58,12 @@ adds s t e =
     let u = some_picked (λ (t : Term Variable). if_any (missing_pairs s.order d.0.time t s.events)) (happening_fresh d.0.happening) r.0 d.2 in
     record { event = d.0; term = u.0; stands = d.1; uses = u.1; is = r.2 ∙ ap (with_pairs s) (sym (any_is (missing_pairs s.order d.0.time u.0 s.events) r.0 u.2)) }
 
-pub fresh_first_numbered : (s t : System) → fresh_first s ≡ Some t → IsNumbered s → IsNumbered t × (s.next ≤ t.next)
-fresh_first_numbered s t e n =
+pub fresh_first_numbered : {N : Names} → (s t : System) → fresh_first s ≡ Some t → IsNumbered N s → IsNumbered N t × (s.next ≤ t.next)
+fresh_first_numbered {N} s t e n =
     let a = adds s t e in
     let first : a.event.time < s.next = (every_member _ s.events a.event a.stands n.events).0 in
-    let under = missing_each (BothUnder s.next) s.order a.event.time a.term s.events (every_weaken (InEvent (Under s.next) (TimeUnder s.next)) (λ (d : Event). has_taken a.term (happening_premises d.happening) ≡ true → BothUnder s.next (a.event.time, d.time)) (λ d i e. (first, i.0)) s.events n.events) in
-    let P : System → Type 0 = λ w. IsNumbered w × (s.next ≤ w.next) in
+    let under = missing_each (BothUnder s.next) s.order a.event.time a.term s.events (every_weaken (InEvent N (Under s.next) (TimeUnder s.next)) (λ (d : Event). has_taken a.term (happening_premises d.happening) ≡ true → BothUnder s.next (a.event.time, d.time)) (λ d i e. (first, i.0)) s.events n.events) in
+    let P : System → Type 0 = λ w. IsNumbered N w × (s.next ≤ w.next) in
     let pairs = missing_pairs s.order a.event.time a.term s.events in
     subst P (sym a.is) (order_numbered s n (s.order ++ pairs) (every_append (BothUnder s.next) s.order pairs n.order under), le_refl s.next)
 

@@ -1,12 +1,11 @@
 -- Two events that use the same Fr are one entry of the log: the row makes them one, and where it can't there is no solution.
-use Rattle.std.proofs.Common.{◌≡◌, ◌≤◌, ℕ, Bool, true, false, if◌then◌else◌, List, [], ◌∷◌, ◌++◌, map, Option, Some, None, is_none, refl, sym, ap, ◌∙◌, subst, inl, inr, ⊎_elim}
+use Rattle.std.proofs.Common.{◌≡◌, ◌≤◌, ◌<◌, ℕ, Bool, true, false, if◌then◌else◌, List, [], ◌∷◌, ◌++◌, map, Some, is_none, refl, sym, ap, ◌∙◌, subst, inl, inr, ⊎_elim}
 use Rattle.std.proofs.lemmas.Bool.{or_cases, and_parts}
 use Rattle.sp_spec.specs.Lists.{Member, Every, Distinct, AtPosition}
-use Rattle.sp_spec.specs.Term.{Variable, Term, Terms, none, more, Ground, Values, valued, valued_all}
+use Rattle.sp_spec.specs.Term.{Names, Variable, Term, Terms, none, more, Ground, Values, valued, valued_all}
 use Rattle.sp_spec.specs.Rule.{Fact, fact_at, facts_at}
 use Rattle.sp_spec.specs.Theory.{Theory}
 use Rattle.sp_spec.specs.Same.{alike}
-use Rattle.sp_spec.specs.Substitution.{Binding}
 use Rattle.sp_spec.specs.Log.{Log, Entry, step, IsLog, is_fr, first_arg, fresh_of, fresh_uses, all_fresh_uses}
 use Rattle.sp_spec.proofs.Lists.{member_map, member_left, member_right, distinct_apart, distinct_left}
 use Rattle.sp_spec_system.specs.System.{Happening, rule_step, Event, System}
@@ -14,15 +13,17 @@ use Rattle.sp_spec_system.specs.Solutions.{Valuation, HappensAt, HappensIn, Solv
 use Rattle.sp_spec_system.specs.Numbered.{InEvent, IsNumbered}
 use Rattle.sp_spec_system.specs.Covering.{Covers}
 use Rattle.sp_law_system.specs.Laws.{UnifierIsRight}
-use Rattle.sp_spec_system.specs.Equating.{merging_pairs, unifier_of}
 use Rattle.sp_law_system.proofs.Solutions.{Under, TimeUnder}
 use Rattle.sp_spec_graph.specs.Fresh.{first_term, fresh_terms, happening_fresh, stands_in, share_one, shares_fresh}
 use Rattle.sp_spec_graph.specs.SourceTwice.{repeats, takes_fr_twice}
-use Rattle.sp_spec_graph.specs.FreshOnce.{first_twins, fresh_once, cannot_merge, fails_with, fails_to_merge}
-use Rattle.sp_spec_system.specs.MakingOne.{merged_twins}
-use Rattle.sp_spec.proofs.Options.{then_some}
+use Rattle.sp_law_graph.proofs.Two.{two_found, two_contradict}
+use Rattle.sp_spec_system.specs.Picked.{first_two}
+use Rattle.sp_spec_graph.specs.FreshOnce.{times_of_fresh, fresh_once, cannot_merge, fails_to_merge}
+use Rattle.sp_spec_system.specs.MakingOne.{made_one}
+use Rattle.sp_spec.proofs.Options.{mapped, then_some}
 use Rattle.sp_law_formula.proofs.Literals.{alike_same, covers_by_itself}
-use Rattle.sp_law_formula.proofs.Twins.{twins_are, one_happening, respects, unifier_there, SolvedBy, NumberedFrom, merged_solved, merged_numbered}
+use Rattle.sp_law_formula.proofs.Merged.{SolvedBy, NumberedFrom}
+use Rattle.sp_law_formula.proofs.Equations.{times_solved, times_numbered, not_none}
 
 -- the Fr that an entry of the log uses is among those that the log uses
 uses_among : (log : Log) (p : ℕ) (e : Entry) (t : Ground) → AtPosition log p e → Member t (fresh_uses e) → Member t (all_fresh_uses log)
@@ -75,44 +76,36 @@ one_time theory log is v p q (rule_step r f) (rule_step u g) h k s =
 one_event : (theory : Theory) (log : Log) → IsLog theory log → (v : Valuation) (d e : Event) → HappensIn log v d → HappensIn log v e → shares_fresh d e ≡ true → v.times d.time ≡ v.times e.time
 one_event theory log is v d e h k s = one_time theory log is v.terms (v.times d.time) (v.times e.time) d.happening e.happening h k s
 
-module _ (right : UnifierIsRight) (theory : Theory) where
-  pub fresh_once_covers : (s t : System) → fresh_once s ≡ Some t → IsNumbered s → Covers theory s (t ∷ [])
+-- what holds of the times of two events that use one Fr
+fresh_times : (P : Event → Type 0) (X : ℕ × ℕ → Type 0) (events : List Event) (p : ℕ × ℕ) → times_of_fresh events ≡ Some p → Every P events
+    → ((d e : Event) → shares_fresh d e ≡ true → P d → P e → X (d.time, e.time)) → X p
+fresh_times P X events p e h gives =
+    let r = mapped (λ (q : Event × Event). (q.0.time, q.1.time)) (first_two shares_fresh events) p e in
+    let two = two_found shares_fresh P events r.0 r.1 h in
+    subst X (sym r.2) (gives r.0.0 r.0.1 two.0 two.1 two.2)
+
+module _ (N : Names) (right : UnifierIsRight) (theory : Theory) where
+  pub fresh_once_covers : (s t : System) → fresh_once s ≡ Some t → IsNumbered N s → Covers theory s (t ∷ [])
   fresh_once_covers s t e n =
-      let q = then_some (merged_twins s) (first_twins s.events) t e in
+      let q = then_some (made_one s) (times_of_fresh s.events) t e in
       covers_by_itself theory s t (λ log is v h.
-      let solved = twins_are shares_fresh (HappensIn log v) s.events q.0 q.1 h.events in
-      let same = one_event theory log is v q.0.first q.0.second solved.first solved.second solved.one in
-      subst (SolvedBy theory log v) q.2 (merged_solved right shares_fresh s n q.0 q.1 theory log v h same))
+      let one = fresh_times (HappensIn log v) (λ p. v.times p.0 ≡ v.times p.1) s.events q.0 q.1 h.events (λ d x k a b. one_event theory log is v d x a b k) in
+      subst (SolvedBy theory log v) q.2 (times_solved right s n theory log v h q.0.0 q.0.1 one))
 
-  pub fresh_once_numbered : (s t : System) → fresh_once s ≡ Some t → IsNumbered s → IsNumbered t × (s.next ≤ t.next)
+  pub fresh_once_numbered : (s t : System) → fresh_once s ≡ Some t → IsNumbered N s → IsNumbered N t × (s.next ≤ t.next)
   fresh_once_numbered s t e n =
-      let q = then_some (merged_twins s) (first_twins s.events) t e in
-      subst (NumberedFrom s.next) q.2 (merged_numbered right shares_fresh s n q.0 q.1)
+      let q = then_some (made_one s) (times_of_fresh s.events) t e in
+      let under = fresh_times (InEvent N (Under s.next) (TimeUnder s.next)) (λ p. (p.0 < s.next) × (p.1 < s.next)) s.events q.0 q.1 n.events (λ d x k a b. (a.0, b.0)) in
+      subst (NumberedFrom N s.next) q.2 (times_numbered right s n q.0.0 q.0.1 under.0 under.1)
 
-  -- Failing merge: any two events that use one Fr are one, so that their facts have a unifier.
-  module _ (s : System) (log : Log) (is : IsLog theory log) (v : Valuation) (h : Solves theory log v s) where
-    two_contradict : (e d : Event) → cannot_merge e d ≡ true → HappensIn log v e → HappensIn log v d → InEvent (Under s.next) (TimeUnder s.next) e → InEvent (Under s.next) (TimeUnder s.next) d → ⊥
-    two_contradict e d c a b i j =
-        let both = and_parts (shares_fresh e d) (is_none (unifier_of (merging_pairs e.happening d.happening))) c in
-        let paired = one_happening log v.terms s.next (v.times e.time) (v.times d.time) e.happening d.happening (one_event theory log is v e d a b both.0) a b i.1 j.1 in
-        at (unifier_of (merging_pairs e.happening d.happening)) both.1 (unifier_there right v.terms s.next (merging_pairs e.happening d.happening) (respects theory log v s h) paired)
-      where
-        at : (o : Option (List Binding)) → is_none o ≡ true → (o ≡ None → ⊥) → ⊥
-        at None k l = l refl
-        at (Some bs) k l = cc
-
-    with_contradicts : (e : Event) (es : List Event) → fails_with e es ≡ true → HappensIn log v e → Every (HappensIn log v) es → InEvent (Under s.next) (TimeUnder s.next) e → Every (InEvent (Under s.next) (TimeUnder s.next)) es → ⊥
-    with_contradicts e [] f a b i j = absurd cc
-    with_contradicts e (d ∷ es) f a b i j =
-        ⊎_elim (λ c. two_contradict e d c a b.0 i j.0) (λ c. with_contradicts e es c a b.1 i j.1) (or_cases (cannot_merge e d) (fails_with e es) f)
-
-    some_contradict : (es : List Event) → fails_to_merge es ≡ true → Every (HappensIn log v) es → Every (InEvent (Under s.next) (TimeUnder s.next)) es → ⊥
-    some_contradict [] f a i = absurd cc
-    some_contradict (e ∷ es) f a i =
-        ⊎_elim (λ c. with_contradicts e es c a.0 a.1 i.0 i.1) (λ c. some_contradict es c a.1 i.1) (or_cases (fails_with e es) (fails_to_merge es) f)
-
-  pub merge_contradicts : (s : System) → fails_to_merge s.events ≡ true → IsNumbered s → (log : Log) → IsLog theory log → (v : Valuation) → Solves theory log v s → ⊥
-  merge_contradicts s e n log is v h = some_contradict s log is v h s.events e h.events n.events
+  -- Failing merge: any two events that use one Fr are one, so that their times can be made one.
+  pub merge_contradicts : (s : System) → fails_to_merge s ≡ true → IsNumbered N s → (log : Log) → IsLog theory log → (v : Valuation) → Solves theory log v s → ⊥
+  merge_contradicts s e n log is v h = two_contradict (cannot_merge s) (HappensIn log v) apart s.events e h.events
+    where
+      apart : (d x : Event) → cannot_merge s d x ≡ true → HappensIn log v d → HappensIn log v x → ⊥
+      apart d x c a b =
+          let both = and_parts (shares_fresh d x) (is_none (made_one s (d.time, x.time))) c in
+          not_none theory log v (made_one s (d.time, x.time)) both.1 (times_solved right s n theory log v h d.time x.time (one_event theory log is v d x a b both.0))
 
 -- Source used twice: an entry uses no Fr twice.
 entry_distinct : (theory : Theory) (log : Log) → IsLog theory log → (p : ℕ) (e : Entry) → AtPosition log p e → Distinct (fresh_uses e)

@@ -1,8 +1,9 @@
 pub mod Conclusions
 pub mod FreshFirst
 pub mod FreshOnce
-pub mod Givers
+pub mod Premises
 pub mod LinearOnce
 pub mod Origins
 pub mod Sources
 pub mod Waiting
+pub mod Two

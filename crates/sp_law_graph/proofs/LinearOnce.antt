@@ -1,9 +1,9 @@
 -- Links: two premises with one linear source are one, and so are the sources of one premise. The row makes their times one, and where
 -- that can't be there is no solution.
-use Rattle.std.proofs.Common.{◌≡◌, ◌≤◌, ◌<◌, ℕ, Bool, true, false, not, ◌&&◌, if◌then◌else◌, nat_eq, slice_get, List, [], ◌∷◌, Option, Some, None, option_map, is_none, refl, sym, subst, ⊎_elim}
+use Rattle.std.proofs.Common.{◌≡◌, ◌≤◌, ◌<◌, ℕ, Bool, true, false, not, ◌&&◌, nat_eq, slice_get, List, [], ◌∷◌, Option, Some, None, option_map, is_none, refl, sym, subst, ⊎_elim}
 use Rattle.std.proofs.lemmas.Bool.{or_cases, and_parts, eqb-true, eq-eqb}
 use Rattle.sp_spec.specs.Lists.{Every, AtPlace, AtPosition}
-use Rattle.sp_spec.specs.Term.{Variable}
+use Rattle.sp_spec.specs.Term.{Names, Variable}
 use Rattle.sp_spec.specs.Rule.{Fact, Facts, fact_at, facts_at}
 use Rattle.sp_spec.specs.Theory.{Theory}
 use Rattle.sp_spec.specs.Log.{Log, step, Source, conclusion, IsLog}
@@ -15,60 +15,31 @@ use Rattle.sp_spec_system.specs.Covering.{Covers}
 use Rattle.sp_law_system.specs.Laws.{UnifierIsRight}
 use Rattle.sp_spec_system.specs.Equating.{same_source, same_premise}
 use Rattle.sp_spec_system.specs.MakingOne.{event_at, premise_at, made_one}
-use Rattle.sp_spec_graph.specs.LinearOnce.{is_linear, one_taken, takers_apart, givers_apart, takers, givers, times_of_links, linear_once, cannot_link, fails_to_link}
-use Rattle.sp_spec_system.specs.Picked.{first_with, first_two, some_with, some_two}
+use Rattle.sp_spec_graph.specs.LinearOnce.{is_linear, one_linear_source, premises_clash, sources_clash, premise_times, source_times, times_of_links, linear_once, cannot_link, fails_to_link}
+use Rattle.sp_law_graph.proofs.Two.{two_found, two_contradict}
+use Rattle.sp_spec_system.specs.Picked.{first_two, some_two}
 use Rattle.sp_spec_graph.specs.SourceTwice.{used_twice}
 use Rattle.std.specs.Option.{option_or}
 use Rattle.sp_spec.proofs.Options.{mapped, then_some}
 use Rattle.sp_law_formula.proofs.Literals.{covers_by_itself}
 use Rattle.sp_law_graph.proofs.Sources.{one_source, source_once}
-use Rattle.sp_law_formula.proofs.Twins.{SolvedBy, NumberedFrom}
+use Rattle.sp_law_formula.proofs.Merged.{SolvedBy, NumberedFrom}
 use Rattle.sp_law_formula.proofs.Equations.{times_solved, times_numbered, not_none}
 use Rattle.sp_law_formula.proofs.ActionCovers.{event_found}
 
--- links of which a test on two holds are found among the links
-module _ (test : Link → Link → Bool) (P : Link → Type 0) where
-  abbrev pub AreTwo : Link × Link → Type 0
-  AreTwo p = (test p.0 p.1 ≡ true) × P p.0 × P p.1
-
-  with_found : (l : Link) (ls : List Link) (p : Link × Link) → first_with test l ls ≡ Some p → P l → Every P ls → AreTwo p
-  with_found l [] p e k h = absurd cc
-  with_found l (m ∷ ms) p e k h = at (test l m) refl e (λ d. with_found l ms p d k h.1)
-    where
-      at : (b : Bool) → test l m ≡ b → (if b then Some (l, m) else first_with test l ms) ≡ Some p → (first_with test l ms ≡ Some p → AreTwo p) → AreTwo p
-      at true c d later = let here : Link × Link = (l, m) in let g : here ≡ p = cc in subst AreTwo g (c, k, h.0)
-      at false c d later = later d
-
-  two_found : (ls : List Link) (p : Link × Link) → first_two test ls ≡ Some p → Every P ls → AreTwo p
-  two_found [] p e h = absurd cc
-  two_found (l ∷ ls) p e h = at (first_with test l ls) refl e (λ d. two_found ls p d h.1)
-    where
-      at : (o : Option (Link × Link)) → first_with test l ls ≡ o → option_or o (first_two test ls) ≡ Some p → (first_two test ls ≡ Some p → AreTwo p) → AreTwo p
-      at (Some q) c d later = let g : q ≡ p = cc in subst AreTwo g (with_found l ls q c h.0 h.1)
-      at None c d later = later d
-
-  module _ (contradicts : (l m : Link) → test l m ≡ true → P l → P m → ⊥) where
-    with_contradicts : (l : Link) (ls : List Link) → some_with test l ls ≡ true → P l → Every P ls → ⊥
-    with_contradicts l [] e k h = absurd cc
-    with_contradicts l (m ∷ ms) e k h = ⊎_elim (λ c. contradicts l m c k h.0) (λ c. with_contradicts l ms c k h.1) (or_cases (test l m) (some_with test l ms) e)
-
-    two_contradict : (ls : List Link) → some_two test ls ≡ true → Every P ls → ⊥
-    two_contradict [] e h = absurd cc
-    two_contradict (l ∷ ls) e h = ⊎_elim (λ c. with_contradicts l ls c h.0 h.1) (λ c. two_contradict ls c h.1) (or_cases (some_with test l ls) (some_two test ls) e)
-
 -- what holds of the times that links make one
 times_found : (P : Link → Type 0) (X : ℕ × ℕ → Type 0) (events : List Event) (links : List Link) (p : ℕ × ℕ) → times_of_links events links ≡ Some p → Every P links
-    → ((l m : Link) → takers_apart events l m ≡ true → P l → P m → X (l.to, m.to)) → ((l m : Link) → givers_apart l m ≡ true → P l → P m → X (l.from, m.from)) → X p
-times_found P X events links p e h taken given = at (first_two (takers_apart events) links) refl e
+    → ((l m : Link) → premises_clash events l m ≡ true → P l → P m → X (l.to, m.to)) → ((l m : Link) → sources_clash l m ≡ true → P l → P m → X (l.from, m.from)) → X p
+times_found P X events links p e h taken given = at (first_two (premises_clash events) links) refl e
   where
-    at : (o : Option (Link × Link)) → first_two (takers_apart events) links ≡ o → option_or (option_map takers o) (option_map givers (first_two givers_apart links)) ≡ Some p → X p
+    at : (o : Option (Link × Link)) → first_two (premises_clash events) links ≡ o → option_or (option_map premise_times o) (option_map source_times (first_two sources_clash links)) ≡ Some p → X p
     at (Some q) c d =
-        let two = two_found (takers_apart events) P links q c h in
-        let g : takers q ≡ p = cc in
+        let two = two_found (premises_clash events) P links q c h in
+        let g : premise_times q ≡ p = cc in
         subst X g (taken q.0 q.1 two.0 two.1 two.2)
     at None c d =
-        let r = mapped givers (first_two givers_apart links) p d in
-        let two = two_found givers_apart P links r.0 r.1 h in
+        let r = mapped source_times (first_two sources_clash links) p d in
+        let two = two_found sources_clash P links r.0 r.1 h in
         subst X (sym r.2) (given r.0.0 r.0.1 two.0 two.1 two.2)
 
 differ : (i j : ℕ) → not (nat_eq i j) ≡ true → i ≡ j → ⊥
@@ -101,7 +72,7 @@ module _ (theory : Theory) (log : Log) (is : IsLog theory log) (v : Valuation) w
           linear true k = absurd cc
           linear false k = refl
 
-  taken_once : (events : List Event) → Every (HappensIn log v) events → (l m : Link) → one_taken events l m ≡ true → LinkHolds log v l → LinkHolds log v m → (v.times l.to ≡ v.times m.to) × (l.premise ≡ m.premise)
+  taken_once : (events : List Event) → Every (HappensIn log v) events → (l m : Link) → one_linear_source events l m ≡ true → LinkHolds log v l → LinkHolds log v m → (v.times l.to ≡ v.times m.to) × (l.premise ≡ m.premise)
   taken_once events happen l m e h k =
       let both = and_parts (same_source l m) (is_linear (premise_at events l.to l.premise)) e in
       let source = and_parts (nat_eq l.from m.from) (nat_eq l.conclusion m.conclusion) both.0 in
@@ -120,44 +91,44 @@ module _ (theory : Theory) (log : Log) (is : IsLog theory log) (v : Valuation) w
       let named_too = subst (λ (x : ℕ). AtPlace h.2 x (conclusion (v.times m.from) m.conclusion)) (sym (eqb-true l.premise m.premise both.1)) named in
       one_source h.2 l.premise (v.times l.from) l.conclusion (v.times m.from) m.conclusion h.4 named_too
 
-  takers_one : (events : List Event) → Every (HappensIn log v) events → (l m : Link) → takers_apart events l m ≡ true → LinkHolds log v l → LinkHolds log v m → v.times l.to ≡ v.times m.to
-  takers_one events happen l m e h k = (taken_once events happen l m (and_parts (one_taken events l m) (not (nat_eq l.to m.to)) e).0 h k).0
+  premises_one : (events : List Event) → Every (HappensIn log v) events → (l m : Link) → premises_clash events l m ≡ true → LinkHolds log v l → LinkHolds log v m → v.times l.to ≡ v.times m.to
+  premises_one events happen l m e h k = (taken_once events happen l m (and_parts (one_linear_source events l m) (not (nat_eq l.to m.to)) e).0 h k).0
 
-  givers_one : (l m : Link) → givers_apart l m ≡ true → LinkHolds log v l → LinkHolds log v m → v.times l.from ≡ v.times m.from
-  givers_one l m e h k = (given_once l m (and_parts (same_premise l m) (not (nat_eq l.from m.from)) e).0 h k).0
+  sources_one : (l m : Link) → sources_clash l m ≡ true → LinkHolds log v l → LinkHolds log v m → v.times l.from ≡ v.times m.from
+  sources_one l m e h k = (given_once l m (and_parts (same_premise l m) (not (nat_eq l.from m.from)) e).0 h k).0
 
   -- Source used twice.
   used_contradicts : (events : List Event) → Every (HappensIn log v) events → (l m : Link) → used_twice events l m ≡ true → LinkHolds log v l → LinkHolds log v m → ⊥
   used_contradicts events happen l m e h k =
       ⊎_elim
       (λ c.
-      let both = and_parts (one_taken events l m && nat_eq l.to m.to) (not (nat_eq l.premise m.premise)) c in
-      differ l.premise m.premise both.1 (taken_once events happen l m (and_parts (one_taken events l m) (nat_eq l.to m.to) both.0).0 h k).1)
+      let both = and_parts (one_linear_source events l m && nat_eq l.to m.to) (not (nat_eq l.premise m.premise)) c in
+      differ l.premise m.premise both.1 (taken_once events happen l m (and_parts (one_linear_source events l m) (nat_eq l.to m.to) both.0).0 h k).1)
       (λ c.
       let both = and_parts (same_premise l m && nat_eq l.from m.from) (not (nat_eq l.conclusion m.conclusion)) c in
       differ l.conclusion m.conclusion both.1 (given_once l m (and_parts (same_premise l m) (nat_eq l.from m.from) both.0).0 h k).1)
-      (or_cases (one_taken events l m && nat_eq l.to m.to && not (nat_eq l.premise m.premise)) (same_premise l m && nat_eq l.from m.from && not (nat_eq l.conclusion m.conclusion)) e)
+      (or_cases (one_linear_source events l m && nat_eq l.to m.to && not (nat_eq l.premise m.premise)) (same_premise l m && nat_eq l.from m.from && not (nat_eq l.conclusion m.conclusion)) e)
 
   pub used_twice_contradicts : (s : System) → some_two (used_twice s.events) s.links ≡ true → Solves theory log v s → ⊥
   used_twice_contradicts s e h = two_contradict (used_twice s.events) (LinkHolds log v) (used_contradicts s.events h.events) s.links e h.links
 
-module _ (right : UnifierIsRight) (theory : Theory) where
-  pub linear_once_covers : (s t : System) → linear_once s ≡ Some t → IsNumbered s → Covers theory s (t ∷ [])
+module _ (N : Names) (right : UnifierIsRight) (theory : Theory) where
+  pub linear_once_covers : (s t : System) → linear_once s ≡ Some t → IsNumbered N s → Covers theory s (t ∷ [])
   linear_once_covers s t e n =
       let q = then_some (made_one s) (times_of_links s.events s.links) t e in
       covers_by_itself theory s t (λ log is v h.
-      let one = times_found (LinkHolds log v) (λ p. v.times p.0 ≡ v.times p.1) s.events s.links q.0 q.1 h.links (takers_one theory log is v s.events h.events) (givers_one theory log is v) in
+      let one = times_found (LinkHolds log v) (λ p. v.times p.0 ≡ v.times p.1) s.events s.links q.0 q.1 h.links (premises_one theory log is v s.events h.events) (sources_one theory log is v) in
       subst (SolvedBy theory log v) q.2 (times_solved right s n theory log v h q.0.0 q.0.1 one))
 
-  pub linear_once_numbered : (s t : System) → linear_once s ≡ Some t → IsNumbered s → IsNumbered t × (s.next ≤ t.next)
+  pub linear_once_numbered : (s t : System) → linear_once s ≡ Some t → IsNumbered N s → IsNumbered N t × (s.next ≤ t.next)
   linear_once_numbered s t e n =
       let q = then_some (made_one s) (times_of_links s.events s.links) t e in
       let under = times_found (λ (l : Link). (l.from < s.next) × (l.to < s.next)) (λ p. (p.0 < s.next) × (p.1 < s.next)) s.events s.links q.0 q.1 n.links
       (λ l m c a b. (a.1, b.1)) (λ l m c a b. (a.0, b.0)) in
-      subst (NumberedFrom s.next) q.2 (times_numbered right s n q.0.0 q.0.1 under.0 under.1)
+      subst (NumberedFrom N s.next) q.2 (times_numbered right s n q.0.0 q.0.1 under.0 under.1)
 
   -- Failing unification of links: what two links say is one can be made one.
-  module _ (s : System) (n : IsNumbered s) (log : Log) (is : IsLog theory log) (v : Valuation) (h : Solves theory log v s) where
+  module _ (s : System) (n : IsNumbered N s) (log : Log) (is : IsLog theory log) (v : Valuation) (h : Solves theory log v s) where
     made_contradicts : (i j : ℕ) → is_none (made_one s (i, j)) ≡ true → v.times i ≡ v.times j → ⊥
     made_contradicts i j e one = not_none theory log v (made_one s (i, j)) e (times_solved right s n theory log v h i j one)
 
@@ -165,12 +136,12 @@ module _ (right : UnifierIsRight) (theory : Theory) where
     cannot_contradict l m e a b =
         ⊎_elim
         (λ c.
-        let both = and_parts (takers_apart s.events l m) (is_none (made_one s (takers (l, m)))) c in
-        made_contradicts l.to m.to both.1 (takers_one theory log is v s.events h.events l m both.0 a b))
+        let both = and_parts (premises_clash s.events l m) (is_none (made_one s (premise_times (l, m)))) c in
+        made_contradicts l.to m.to both.1 (premises_one theory log is v s.events h.events l m both.0 a b))
         (λ c.
-        let both = and_parts (givers_apart l m) (is_none (made_one s (givers (l, m)))) c in
-        made_contradicts l.from m.from both.1 (givers_one theory log is v l m both.0 a b))
-        (or_cases (takers_apart s.events l m && is_none (made_one s (takers (l, m)))) (givers_apart l m && is_none (made_one s (givers (l, m)))) e)
+        let both = and_parts (sources_clash l m) (is_none (made_one s (source_times (l, m)))) c in
+        made_contradicts l.from m.from both.1 (sources_one theory log is v l m both.0 a b))
+        (or_cases (premises_clash s.events l m && is_none (made_one s (premise_times (l, m)))) (sources_clash l m && is_none (made_one s (source_times (l, m)))) e)
 
     pub links_contradict : fails_to_link s ≡ true → ⊥
     links_contradict e = two_contradict (cannot_link s) (LinkHolds log v) cannot_contradict s.links e h.links

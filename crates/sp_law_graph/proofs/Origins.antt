@@ -2,17 +2,16 @@
 -- its Fr.
 use Rattle.std.proofs.Common.{◌≡◌, ◌<◌, ℕ, zero, suc, Bool, true, false, if◌then◌else◌, List, [], ◌∷◌, map, refl, sym, ap, ◌∙◌, subst, inl, inr, ⊎_elim, arith, lt_trans}
 use Rattle.sp_spec.specs.Lists.{Member, Every, AtPlace, AtPosition}
-use Rattle.sp_spec.specs.Term.{Sort, Fresh, Pub, Variable, Term, var, constant, name, app, Terms, none, more, Ground, Values, valued, valued_all}
+use Rattle.sp_spec.specs.Term.{MadeOf, AllMadeOf, Sort, Fresh, Pub, Variable, Term, var, constant, name, app, Terms, none, more, Ground, Values, valued, valued_all}
 use Rattle.sp_spec.specs.Signature.{HasSort, RespectsSorts}
 use Rattle.sp_spec.specs.Rule.{Fact, Facts, Rule, fact_at, facts_at, in_of}
 use Rattle.sp_spec.specs.Theory.{Theory, signature_of}
-use Rattle.sp_spec.specs.Log.{Log, Entry, step, send, learn, Source, IsLog, Concludes, is_fr, fresh_of, fresh_uses}
+use Rattle.sp_spec.specs.Log.{Log, Entry, step, send, learn, Source, IsLog, Concludes, is_fr, fresh_of, fresh_uses, is_in}
 use Rattle.sp_spec.proofs.Lists.{every_member, member_right, place_map}
 use Rattle.sp_law_equal.specs.Convergent.{AreConvergent, IsPart, IsPartOfOne}
 use Rattle.sp_law_equal.proofs.Forms.{normals, normals_respect}
 use Rattle.sp_spec_graph.specs.Fresh.{first_term, fresh_terms}
-use Rattle.sp_spec_system.specs.System.{is_in}
-use Rattle.sp_law_system.specs.Rules.{FactsArePlain, RulesArePlain, StandsIn, StandsAmong, HasVariable, IsNameless, AreNameless, IsClosedRule}
+use Rattle.sp_law_system.specs.Rules.{FactsArePlain, RulesArePlain, StandsIn, StandsAmong, HasVariable, no_fresh_names, IsClosedRule}
 use Rattle.sp_law_formula.proofs.Entries.{entry_is_step, plain_step}
 use Rattle.sp_law_graph.proofs.FreshOnce.{fresh_member}
 use Rattle.sp_law_graph.proofs.Sources.{place_mapped, every_place, source_there}
@@ -20,14 +19,14 @@ use Rattle.sp_law_graph.proofs.Sources.{place_mapped, every_place, source_there}
 module _ (v : Values) (n : ℕ) where
   -- a name that stands in the value of a term without names stands in that of one of its variables
   mutual
-    from_variable : (P : Variable → Type 0) (t : Term Variable) → IsNameless P t → IsPart (name n) (valued v t) → (x : Variable) × P x × IsPart (name n) (v x)
+    from_variable : (P : Variable → Type 0) (t : Term Variable) → MadeOf no_fresh_names P t → IsPart (name n) (valued v t) → (x : Variable) × P x × IsPart (name n) (v x)
     from_variable P (var x) h p = (x, h, p)
     from_variable P (constant c) h p = absurd cc
     from_variable P (name m) h p = absurd h
     from_variable P (app f ts) h (inl p) = absurd cc
     from_variable P (app f ts) h (inr p) = from_variables P ts h p
 
-    from_variables : (P : Variable → Type 0) (ts : Terms Variable) → AreNameless P ts → IsPartOfOne (name n) (valued_all v ts) → (x : Variable) × P x × IsPart (name n) (v x)
+    from_variables : (P : Variable → Type 0) (ts : Terms Variable) → AllMadeOf no_fresh_names P ts → IsPartOfOne (name n) (valued_all v ts) → (x : Variable) × P x × IsPart (name n) (v x)
     from_variables P none h p = absurd p
     from_variables P (more t ts) h (inl p) = from_variable P t h.0 p
     from_variables P (more t ts) h (inr p) = from_variables P ts h.1 p
@@ -128,7 +127,7 @@ module _ (theory : Theory) (good : AreConvergent (signature_of theory).equations
       let bound : Variable → Type 0 = λ x. (x.sort ≡ Pub → ⊥) → HasVariable x own.premises in
       let c = place_mapped (fact_at v) own.conclusions k f (subst (λ (x : Facts ⊥). AtPlace x.conclusions k f) s.is there) in
       let q : IsPartOfOne (name n) (valued_all v c.0.args) = subst (λ (g : Fact ⊥). IsPartOfOne (name n) g.args) (sym c.2) p in
-      let x = from_variables v n bound c.0.args (every_place (λ (g : Fact Variable). AreNameless bound g.args) own.conclusions k c.0 c.1 s.closed.bound) q in
+      let x = from_variables v n bound c.0.args (every_place (λ (g : Fact Variable). AllMadeOf no_fresh_names bound g.args) own.conclusions k c.0 c.1 s.closed.bound) q in
       let private = λ (e : x.0.sort ≡ Pub). in_public v n (v x.0) (subst (λ (z : Sort). HasSort z (v x.0)) e (s.sorts x.0)) x.2 in
       let r = in_premise v n x.0 x.2 own.premises (x.1 private) in
       subst (λ (y : Facts ⊥). From y n) (sym s.is) (record {

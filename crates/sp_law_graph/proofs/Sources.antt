@@ -123,14 +123,14 @@ module _ (theory : Theory) where
   among (d ∷ log) q e source (inl there) m = member_left source (sources_of d) (all_sources log) (subst (λ (x : Entry). Member source (sources_of x)) (sym there.1) m)
   among (d ∷ log) q e source (inr there) m = member_right source (sources_of d) (all_sources log) (among log q e source there m)
 
-  one_taker : (log : Log) → IsLog theory log → (q u : ℕ) (d e : Entry) (source : Source) → AtPosition log q d → AtPosition log u e → Member source (sources_of d) → Member source (sources_of e) → q ≡ u
-  one_taker [] is q u d e source a b m k = absurd a
-  one_taker (z ∷ log) is q u d e source (inl a) (inl b) m k = a.0 ∙ sym b.0
-  one_taker (z ∷ log) is q u d e source (inl a) (inr b) m k =
+  one_user : (log : Log) → IsLog theory log → (q u : ℕ) (d e : Entry) (source : Source) → AtPosition log q d → AtPosition log u e → Member source (sources_of d) → Member source (sources_of e) → q ≡ u
+  one_user [] is q u d e source a b m k = absurd a
+  one_user (z ∷ log) is q u d e source (inl a) (inl b) m k = a.0 ∙ sym b.0
+  one_user (z ∷ log) is q u d e source (inl a) (inr b) m k =
       absurd (distinct_apart source (sources_of z) (all_sources log) is.3 (subst (λ (x : Entry). Member source (sources_of x)) (sym a.1) m) (among log u e source b k))
-  one_taker (z ∷ log) is q u d e source (inr a) (inl b) m k =
+  one_user (z ∷ log) is q u d e source (inr a) (inl b) m k =
       absurd (distinct_apart source (sources_of z) (all_sources log) is.3 (subst (λ (x : Entry). Member source (sources_of x)) (sym b.1) k) (among log q d source a m))
-  one_taker (z ∷ log) is q u d e source (inr a) (inr b) m k = one_taker log is.0 q u d e source a b m k
+  one_user (z ∷ log) is q u d e source (inr a) (inr b) m k = one_user log is.0 q u d e source a b m k
 
   names_distinct : (log : Log) → IsLog theory log → (q : ℕ) (e : Entry) → AtPosition log q e → Distinct (sources_of e)
   names_distinct [] is q e there = absurd there
@@ -156,7 +156,7 @@ module _ (theory : Theory) where
 
     pub source_once : (q ≡ u) × (a ≡ b)
     source_once =
-        let one_position = one_taker log is q u (step r facts sources) (step o others others_sources) (conclusion p k) here there
+        let one_position = one_user log is q u (step r facts sources) (step o others others_sources) (conclusion p k) here there
         (linear_named facts.premises sources a p k f premise linear named)
         (linear_named others.premises others_sources b p k f same_premise linear named_too) in
         let there_too = subst (λ (x : ℕ). AtPosition log x (step o others others_sources)) (sym one_position) there in

@@ -1,6 +1,7 @@
--- The system that waits for a premise's giver: the giver's time is a new number before the taker's, and the link is there.
+-- The system that waits for a premise's source: the source's time is a new number before the premise's, and the link is there.
 use Rattle.std.proofs.Common.{◌≡◌, ◌<◌, ℕ, suc, Bool, true, false, if◌then◌else◌, List, [], ◌∷◌, ◌++◌, length, refl, sym, subst, arith, nat_eq}
 use Rattle.std.proofs.lemmas.Bool.{eqb-true, eq-eqb}
+use Rattle.sp_spec.specs.Term.{Names}
 use Rattle.sp_spec.specs.Lists.{AtPlace, AtPosition}
 use Rattle.sp_spec.specs.Rule.{Facts}
 use Rattle.sp_spec.specs.Theory.{Theory}
@@ -34,11 +35,11 @@ pub timed_new : (n q : ℕ) (v : Valuation) → (timed n q v).times n ≡ q
 unfolding timed
 timed_new n q v = rw (eq-eqb n n refl) refl
 
-module _ (s : System) (n : IsNumbered s) (i : ℕ) (i_under : i < s.next) (p k : ℕ) where
+module _ {N : Names} (s : System) (n : IsNumbered N s) (i : ℕ) (i_under : i < s.next) (p k : ℕ) where
   abbrev link : Link
   link = record { from = s.next; conclusion = k; to = i; premise = p }
 
-  pub awaiting_numbered : IsNumbered (awaiting s i p k)
+  pub awaiting_numbered : IsNumbered N (awaiting s i p k)
   awaiting_numbered =
       let next = suc s.next in
       let new : s.next < next = omega arith in
@@ -47,7 +48,7 @@ module _ (s : System) (n : IsNumbered s) (i : ℕ) (i_under : i < s.next) (p k :
       let linked = links_numbered (with_next s next) m (s.links ++ link ∷ []) (every_append (LinkUnder next) s.links (link ∷ []) m.links ((new, old), tt)) in
       order_numbered (with_links (with_next s next) (s.links ++ link ∷ [])) linked (s.order ++ (s.next, i) ∷ []) (every_append (BothUnder next) s.order ((s.next, i) ∷ []) m.order ((new, old), tt))
 
-  -- where the log names the giver for that premise
+  -- where the log names the source of that premise
   module _ (theory : Theory) (log : Log) (v : Valuation) (h : Solves theory log v s) (q : ℕ) (earlier : q < v.times i)
       (r : List ℕ) (facts : Facts ⊥) (sources : List Source) (taker : AtPosition log (v.times i) (step r facts sources)) (named : AtPlace sources p (conclusion q k)) where
     abbrev value : Valuation

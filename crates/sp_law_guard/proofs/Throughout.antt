@@ -7,7 +7,7 @@ use Rattle.sp_spec.specs.Rule.{Action}
 use Rattle.sp_spec.specs.Formula.{Written, Formula, truth, falsity, happens, equals, precedes, not_so, both, either, implies, for_all, for_some}
 use Rattle.sp_spec.specs.Guarded.{Binder, message, time, Atom, acts, same, same_time, before, last, Guarded, Guardeds, holds, fails, all_of, one_of, some, every, no_more, and_then}
 use Rattle.sp_spec.specs.Guarded as guarded
-use Rattle.sp_spec.proofs.Lists.{every_weaken}
+use Rattle.sp_spec.proofs.Lists.{every_weaken, every_both}
 use Rattle.sp_law_truth.specs.Shown.{times_within}
 use Rattle.sp_law_truth.proofs.AsTrue.{as_itself, as_both}
 use Rattle.sp_law_guard.specs.GuardedForm.{meant, time_place, placed_action, term_time, acts_at, before_at, equality_at, binder_of, guard_in, rest_in, body_of, conjuncts, conjunction, disjunction, negated_atom, negate, negate_each, existential, guarded_form}
@@ -122,6 +122,23 @@ module _ (P Q : ℕ → Atom → Type 0) (below : (n : ℕ) (a : Atom) → P n a
     each_weaken : (n : ℕ) (gs : Guardeds) → ThroughoutEach P n gs → ThroughoutEach Q n gs
     each_weaken n no_more p = tt
     each_weaken n (and_then g gs) p = (throughout_weaken n g p.0, each_weaken n gs p.1)
+
+-- what holds of each atom both ways
+module _ (P Q : ℕ → Atom → Type 0) where
+  mutual
+    pub throughout_both : (n : ℕ) (g : Guarded) → Throughout P n g → Throughout Q n g → Throughout (λ (m : ℕ) (a : Atom). P m a × Q m a) n g
+    throughout_both n guarded.truth p q = tt
+    throughout_both n guarded.falsity p q = tt
+    throughout_both n (holds a) p q = (p, q)
+    throughout_both n (fails a) p q = (p, q)
+    throughout_both n (all_of gs) p q = each_both n gs p q
+    throughout_both n (one_of gs) p q = each_both n gs p q
+    throughout_both n (some bs guard g) p q = (every_both _ _ _ (λ a h k. (h, k)) guard p.0 q.0, throughout_both (times_within bs n) g p.1 q.1)
+    throughout_both n (every bs guard g) p q = (every_both _ _ _ (λ a h k. (h, k)) guard p.0 q.0, throughout_both (times_within bs n) g p.1 q.1)
+
+    each_both : (n : ℕ) (gs : Guardeds) → ThroughoutEach P n gs → ThroughoutEach Q n gs → ThroughoutEach (λ (m : ℕ) (a : Atom). P m a × Q m a) n gs
+    each_both n no_more p q = tt
+    each_both n (and_then g gs) p q = (throughout_both n g p.0 q.0, each_both n gs p.1 q.1)
 
 -- what holds of a formula's parts where it holds of the formula
 pub record OfFormulas (W : Formula → Type 0) : Type 0 where

@@ -13,7 +13,7 @@ use Rattle.sp_solved.specs.Listing.{in_order}
 use Rattle.sp_solved.specs.Candidate.{has_event, has_place, have_places, first_link, is_from_event, is_sourced, are_sourced, all_sourced, is_ready, place_of, logged, candidate}
 use Rattle.sp_solved.specs.Naming.{values_of}
 use Rattle.sp_solved.proofs.Listed.{every_listed, every_left}
-use Rattle.sp_law_listed.specs.Laws.{HasGiver, IsListable}
+use Rattle.sp_law_listed.specs.Laws.{HasSourceEvent, IsListable}
 use Rattle.sp_law_listed.proofs.Least.{all_are_listed}
 use Rattle.sp_law_listed.proofs.Sources.{place_there, past, past-first, IsLinked, HasSources, event_sourced, entries_there}
 use Rattle.sp_spec.proofs.Bools.{denied}
@@ -60,30 +60,30 @@ placed es (every bs guard f) h = refl
 -- ---- premises
 
 module _ (s : System) where
-  giver_there : (i p : ℕ) → HasGiver s i p → is_from_event s.events (first_link s.links i p) ≡ true
-  giver_there i p h = ap (is_from_event s.events) h.1 ∙ there_event s.events h.0.from h.2 h.3 h.4
+  source_event_there : (i p : ℕ) → HasSourceEvent s i p → is_from_event s.events (first_link s.links i p) ≡ true
+  source_event_there i p h = ap (is_from_event s.events) h.1 ∙ there_event s.events h.0.from h.2 h.3 h.4
 
-  there_giver : (i p : ℕ) → is_from_event s.events (first_link s.links i p) ≡ true → HasGiver s i p
-  there_giver i p e = at (first_link s.links i p) refl e
+  there_source_event : (i p : ℕ) → is_from_event s.events (first_link s.links i p) ≡ true → HasSourceEvent s i p
+  there_source_event i p e = at (first_link s.links i p) refl e
     where
-      at : (o : Option Link) → first_link s.links i p ≡ o → is_from_event s.events o ≡ true → HasGiver s i p
+      at : (o : Option Link) → first_link s.links i p ≡ o → is_from_event s.events o ≡ true → HasSourceEvent s i p
       at None h k = absurd cc
       at (Some l) h k = let r = event_there s.events l.from k in (l, h, r.0, r.1, r.2)
 
-  premises_sourced : (i p : ℕ) (fs : List (Fact Variable)) → ((k : ℕ) (f : Fact Variable) → AtPlace fs k f → is_fr f ≡ false → HasGiver s i (past p k)) → are_sourced s.events s.links i p fs ≡ true
+  premises_sourced : (i p : ℕ) (fs : List (Fact Variable)) → ((k : ℕ) (f : Fact Variable) → AtPlace fs k f → is_fr f ≡ false → HasSourceEvent s i (past p k)) → are_sourced s.events s.links i p fs ≡ true
   premises_sourced i p [] h = refl
   premises_sourced i p (f ∷ fs) h =
       and_from (is_sourced s.events s.links i p f) (are_sourced s.events s.links i (suc p) fs) (one (is_fr f) refl) (premises_sourced i (suc p) fs (λ k g m e. h (suc k) g m e))
     where
       one : (b : Bool) → is_fr f ≡ b → (b || is_from_event s.events (first_link s.links i p)) ≡ true
       one true e = refl
-      one false e = giver_there i p (h zero f refl e)
+      one false e = source_event_there i p (h zero f refl e)
 
-  sourced_premises : (i p : ℕ) (fs : List (Fact Variable)) → are_sourced s.events s.links i p fs ≡ true → (k : ℕ) (f : Fact Variable) → AtPlace fs k f → is_fr f ≡ false → HasGiver s i (past p k)
+  sourced_premises : (i p : ℕ) (fs : List (Fact Variable)) → are_sourced s.events s.links i p fs ≡ true → (k : ℕ) (f : Fact Variable) → AtPlace fs k f → is_fr f ≡ false → HasSourceEvent s i (past p k)
   sourced_premises i p [] e k f m n = absurd m
   sourced_premises i p (g ∷ fs) e zero f m n =
       let none : is_fr g ≡ false = subst (λ (x : Fact Variable). is_fr x ≡ false) (sym m) n in
-      there_giver i p (sym (ap (λ (b : Bool). b || is_from_event s.events (first_link s.links i p)) none) ∙ (and_parts (is_sourced s.events s.links i p g) (are_sourced s.events s.links i (suc p) fs) e).0)
+      there_source_event i p (sym (ap (λ (b : Bool). b || is_from_event s.events (first_link s.links i p)) none) ∙ (and_parts (is_sourced s.events s.links i p g) (are_sourced s.events s.links i (suc p) fs) e).0)
   sourced_premises i p (g ∷ fs) e (suc k) f m n = sourced_premises i (suc p) fs (and_parts (is_sourced s.events s.links i p g) (are_sourced s.events s.links i (suc p) fs) e).1 k f m n
 
   abbrev IsSourced : Event → Type 0
@@ -106,7 +106,7 @@ listable_ready s h =
     (all_have_places s.events s.formulas (λ f m. placed s.events f (λ b i is. h.placed b i (subst (λ (g : Guarded). Member g s.formulas) is m))))
     (and_from (all_sourced s.events s.links s.events) (not (is_cyclic s.order))
     (events_sourced s s.events (every_from (IsSourced s) s.events (λ d m.
-    premises_sourced s d.time 0 (happening_premises d.happening) (λ k f at n. subst (HasGiver s d.time) (sym (past-first k)) (h.given d m k f at n)))))
+    premises_sourced s d.time 0 (happening_premises d.happening) (λ k f at n. subst (HasSourceEvent s d.time) (sym (past-first k)) (h.given d m k f at n)))))
     (ap not h.acyclic))
 
 ready_listable : (s : System) → is_ready s ≡ true → IsListable s
@@ -115,7 +115,7 @@ ready_listable s e =
     let rest = and_parts (all_sourced s.events s.links s.events) (not (is_cyclic s.order)) both.1 in
     let each = sourced_events s s.events rest.0 in
     record {
-      given = λ d m p f at n. subst (HasGiver s d.time) (past-first p) (sourced_premises s d.time 0 (happening_premises d.happening) (every_member (IsSourced s) s.events d m each) p f at n);
+      given = λ d m p f at n. subst (HasSourceEvent s d.time) (past-first p) (sourced_premises s d.time 0 (happening_premises d.happening) (every_member (IsSourced s) s.events d m each) p f at n);
       placed = λ a i m. event_there s.events i (each_has_place s.events s.formulas both.0 (holds (acts a (free_time i))) m);
       acyclic = denied (is_cyclic s.order) rest.1;
     }
@@ -129,13 +129,13 @@ module _ (s : System) (listed : List Event) (is_order : in_order s.order s.event
   each_placed d m =
       every_member IsPlaced s.events d m (every_left IsPlaced s.order (length s.events) s.events listed refl is_order (every_from IsPlaced listed (λ e k. place_there e.time listed e k refl)))
 
-  giver_linked : (i p : ℕ) → HasGiver s i p → IsLinked listed s.links i p
-  giver_linked i p h = let r = each_placed h.2 h.3 in (h.0, h.1, r.0, ap (λ (t : ℕ). place_of t listed) (sym h.4) ∙ r.1)
+  source_event_linked : (i p : ℕ) → HasSourceEvent s i p → IsLinked listed s.links i p
+  source_event_linked i p h = let r = each_placed h.2 h.3 in (h.0, h.1, r.0, ap (λ (t : ℕ). place_of t listed) (sym h.4) ∙ r.1)
 
   listable_sources : IsListable s → Every (HasSources listed s.links) listed
   listable_sources h =
       every_listed (HasSources listed s.links) s.order (length s.events) s.events listed is_order
-      (every_from (HasSources listed s.links) s.events (λ e m. event_sourced listed s.links e (λ p f at k. giver_linked e.time p (h.given e m p f at k))))
+      (every_from (HasSources listed s.links) s.events (λ e m. event_sourced listed s.links e (λ p f at k. source_event_linked e.time p (h.given e m p f at k))))
 
 pub suggests : (constants : List (List ℕ)) (s : System) → IsListable s → (entries : List Entry) × (candidate constants s ≡ Some entries)
 suggests constants s h =

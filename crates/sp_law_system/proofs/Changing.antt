@@ -2,17 +2,17 @@
 use Rattle.std.proofs.Common.{◌≡◌, ◌⊎◌, ◌<◌, ℕ, zero, suc, List, [], ◌∷◌, map, length, refl, sym, ap, ap₂, ◌∙◌}
 use mathlib.Core.Path.{fun_ext}
 use Rattle.sp_spec.specs.Lists.{Every, Classically}
-use Rattle.sp_spec.specs.Term.{Variable, Term, var, constant, name, app, Terms, none, more, Ground, Grounds, valued, valued_all, EachVariable, EachVariables}
+use Rattle.sp_spec.specs.Term.{Names, Variable, Term, var, constant, name, app, Terms, none, more, Ground, Grounds, valued, valued_all, MadeOf, AllMadeOf}
 use Rattle.sp_spec.specs.Signature.{Signature, IsValue}
 use Rattle.sp_spec.specs.Equal.{Equal, IsNormal, AreNormal}
 use Rattle.sp_spec.specs.Rule.{Action, action_at}
 use Rattle.sp_spec.specs.Execution.{Trace}
 use Rattle.sp_spec.specs.Truth.{Acts}
 use Rattle.sp_spec.specs.Guarded.{Place, free, bound, Time, free_time, bound_time, Binder, message, time, Atom, acts, same, same_time, before, last, Guarded, truth, falsity, holds, fails, all_of, one_of, some, every, Guardeds, no_more, and_then, Assignment, with_term, with_time, place_in, term_in, action_in, time_in, pushed, AtomHolds, AtomsHold, SomeValues, EachValues, GuardedHolds, EachHolds, SomeHolds}
-use Rattle.sp_formula.specs.Change.{Change, placed, place_changed, time_changed, raised_place, raised, raised_time, under_message, under_time, under, atom_changed, changed, changed_each}
+use Rattle.sp_spec.specs.Change.{Change, placed, place_changed, time_changed, raised_place, raised, raised_time, under_message, under_time, under, atom_changed, changed, changed_each}
 use Rattle.sp_spec_system.specs.Numbered.{AtFree, AtFreeTime, InAtom, InFormula, InEach}
 use Rattle.sp_spec_system.specs.Solutions.{EachNormal, AtomSettled, Settled, EachSettled}
-use Rattle.sp_formula.proofs.Values.{valued-valued}
+use Rattle.sp_spec.proofs.Values.{valued-valued}
 
 -- The second assignment reads as the first does what the change puts in: for what is bound, and for the system's variables and times
 -- of which A and B hold.
@@ -58,7 +58,7 @@ same_raised_time p m (bound_time k) = refl
 placed_value : (m : Assignment) (t : Term Variable) → term_in m (placed t) ≡ valued m.terms t
 placed_value m t = valued-valued (λ x. var (free x)) (place_in m) t
 
-module _ (A : Variable → Type 0) (B : ℕ → Type 0) where
+module _ (N : Names) (A : Variable → Type 0) (B : ℕ → Type 0) where
   reads_message : (c : Change) (m r : Assignment) (t : Ground) → Reads A B c m r → Reads A B (under_message c) (with_term t m) (with_term t r)
   reads_message c m r t h = record { variables = h.variables; moments = h.moments; terms = terms; times = λ k. h.times k ∙ sym (same_times t m (c.bound_times k)) }
     where
@@ -74,14 +74,14 @@ module _ (A : Variable → Type 0) (B : ℕ → Type 0) where
       times (suc k) = h.times k ∙ sym (same_raised_time p m (c.bound_times k))
 
   mutual
-    pub term_read : (c : Change) (m r : Assignment) → Reads A B c m r → (t : Term Place) → EachVariable (AtFree A) t → term_in m (valued (place_changed c) t) ≡ term_in r t
+    pub term_read : (c : Change) (m r : Assignment) → Reads A B c m r → (t : Term Place) → MadeOf N (AtFree A) t → term_in m (valued (place_changed c) t) ≡ term_in r t
     term_read c m r h (var (free x)) e = placed_value m (c.terms x) ∙ sym (h.variables x e)
     term_read c m r h (var (bound k)) e = sym (h.terms k)
     term_read c m r h (constant a) e = refl
     term_read c m r h (name n) e = refl
     term_read c m r h (app f ts) e = ap (app f) (terms_read c m r h ts e)
 
-    pub terms_read : (c : Change) (m r : Assignment) → Reads A B c m r → (ts : Terms Place) → EachVariables (AtFree A) ts → valued_all (place_in m) (valued_all (place_changed c) ts) ≡ valued_all (place_in r) ts
+    pub terms_read : (c : Change) (m r : Assignment) → Reads A B c m r → (ts : Terms Place) → AllMadeOf N (AtFree A) ts → valued_all (place_in m) (valued_all (place_changed c) ts) ≡ valued_all (place_in r) ts
     terms_read c m r h none e = refl
     terms_read c m r h (more t ts) e = ap₂ more (term_read c m r h t e.0) (terms_read c m r h ts e.1)
 
@@ -89,7 +89,7 @@ module _ (A : Variable → Type 0) (B : ℕ → Type 0) where
   time_read c m r h (free_time i) e = sym (h.moments i e)
   time_read c m r h (bound_time k) e = sym (h.times k)
 
-  pub action_read : (c : Change) (m r : Assignment) → Reads A B c m r → (a : Action Place) → EachVariables (AtFree A) a.args → action_in m (action_at (place_changed c) a) ≡ action_in r a
+  pub action_read : (c : Change) (m r : Assignment) → Reads A B c m r → (a : Action Place) → AllMadeOf N (AtFree A) a.args → action_in m (action_at (place_changed c) a) ≡ action_in r a
   action_read c m r h a e = ap (λ (ts : Grounds). let x : Action ⊥ = record { symbol = a.symbol; args = ts } in x) (terms_read c m r h a.args e)
 
   module _ (signature : Signature) where
@@ -124,21 +124,21 @@ module _ (A : Variable → Type 0) (B : ℕ → Type 0) where
         (fun_ext (λ p. each_normal_same n bs P Q (under_time c) (with_time p m) (with_time p r) below (reads_time c m r p h)))
 
     module _ (trace : Trace) where
-      atom_same : (c : Change) (m r : Assignment) → Reads A B c m r → (a : Atom) → InAtom A B a → AtomHolds signature trace m (atom_changed c a) ≡ AtomHolds signature trace r a
+      atom_same : (c : Change) (m r : Assignment) → Reads A B c m r → (a : Atom) → InAtom N A B a → AtomHolds signature trace m (atom_changed c a) ≡ AtomHolds signature trace r a
       atom_same c m r h (acts a i) e = ap₂ (λ p x. Classically (Acts signature.equations trace p x)) (time_read c m r h i e.1) (action_read c m r h a e.0)
       atom_same c m r h (same t u) e = ap₂ (λ x y. Classically (Equal signature.equations x y)) (term_read c m r h t e.0) (term_read c m r h u e.1)
       atom_same c m r h (same_time i j) e = ap₂ (λ (x y : ℕ). Classically (x ≡ y)) (time_read c m r h i e.0) (time_read c m r h j e.1)
       atom_same c m r h (before i j) e = ap₂ (λ x y. x < y) (time_read c m r h i e.0) (time_read c m r h j e.1)
       atom_same c m r h (last i) e = ap (λ x. Classically (suc x ≡ length trace)) (time_read c m r h i e)
 
-      pub atoms_same : (c : Change) (m r : Assignment) → Reads A B c m r → (atoms : List Atom) → Every (InAtom A B) atoms
+      pub atoms_same : (c : Change) (m r : Assignment) → Reads A B c m r → (atoms : List Atom) → Every (InAtom N A B) atoms
           → AtomsHold signature trace m (map (atom_changed c) atoms) ≡ AtomsHold signature trace r atoms
       atoms_same c m r h [] e = refl
       atoms_same c m r h (a ∷ atoms) e = ap₂ (λ (X Y : Type 0). X × Y) (atom_same c m r h a e.0) (atoms_same c m r h atoms e.1)
 
       -- the formula after the change is as true
       mutual
-        pub changed_same : (c : Change) (m r : Assignment) → Reads A B c m r → (f : Guarded) → InFormula A B f → GuardedHolds signature trace m (changed c f) ≡ GuardedHolds signature trace r f
+        pub changed_same : (c : Change) (m r : Assignment) → Reads A B c m r → (f : Guarded) → InFormula N A B f → GuardedHolds signature trace m (changed c f) ≡ GuardedHolds signature trace r f
         changed_same c m r h truth e = refl
         changed_same c m r h falsity e = refl
         changed_same c m r h (holds a) e = atom_same c m r h a e
@@ -150,29 +150,29 @@ module _ (A : Variable → Type 0) (B : ℕ → Type 0) where
         changed_same c m r h (every bs guard f) e =
             each_same (length trace) bs _ _ c m r (λ m' r' k. ap₂ (λ (X Y : Type 0). X → Y) (atoms_same (under bs c) m' r' k guard e.0) (changed_same (under bs c) m' r' k f e.1)) h
 
-        each_changed : (c : Change) (m r : Assignment) → Reads A B c m r → (fs : Guardeds) → InEach A B fs → EachHolds signature trace m (changed_each c fs) ≡ EachHolds signature trace r fs
+        each_changed : (c : Change) (m r : Assignment) → Reads A B c m r → (fs : Guardeds) → InEach N A B fs → EachHolds signature trace m (changed_each c fs) ≡ EachHolds signature trace r fs
         each_changed c m r h no_more e = refl
         each_changed c m r h (and_then f fs) e = ap₂ (λ (X Y : Type 0). X × Y) (changed_same c m r h f e.0) (each_changed c m r h fs e.1)
 
-        some_changed : (c : Change) (m r : Assignment) → Reads A B c m r → (fs : Guardeds) → InEach A B fs → SomeHolds signature trace m (changed_each c fs) ≡ SomeHolds signature trace r fs
+        some_changed : (c : Change) (m r : Assignment) → Reads A B c m r → (fs : Guardeds) → InEach N A B fs → SomeHolds signature trace m (changed_each c fs) ≡ SomeHolds signature trace r fs
         some_changed c m r h no_more e = refl
         some_changed c m r h (and_then f fs) e = ap₂ (λ (X Y : Type 0). X ⊎ Y) (changed_same c m r h f e.0) (some_changed c m r h fs e.1)
 
     module _ (n : ℕ) where
-      atom_settled : (c : Change) (m r : Assignment) → Reads A B c m r → (a : Atom) → InAtom A B a → AtomSettled signature n m (atom_changed c a) ≡ AtomSettled signature n r a
+      atom_settled : (c : Change) (m r : Assignment) → Reads A B c m r → (a : Atom) → InAtom N A B a → AtomSettled signature n m (atom_changed c a) ≡ AtomSettled signature n r a
       atom_settled c m r h (acts a i) e = ap₂ (λ (x : Action ⊥) (p : ℕ). AreNormal signature.equations x.args × (p < n)) (action_read c m r h a e.0) (time_read c m r h i e.1)
       atom_settled c m r h (same t u) e = ap₂ (λ x y. IsNormal signature.equations x × IsNormal signature.equations y) (term_read c m r h t e.0) (term_read c m r h u e.1)
       atom_settled c m r h (same_time i j) e = ap₂ (λ x y. (x < n) × (y < n)) (time_read c m r h i e.0) (time_read c m r h j e.1)
       atom_settled c m r h (before i j) e = ap₂ (λ x y. (x < n) × (y < n)) (time_read c m r h i e.0) (time_read c m r h j e.1)
       atom_settled c m r h (last i) e = ap (λ x. x < n) (time_read c m r h i e)
 
-      pub atoms_settled : (c : Change) (m r : Assignment) → Reads A B c m r → (atoms : List Atom) → Every (InAtom A B) atoms
+      pub atoms_settled : (c : Change) (m r : Assignment) → Reads A B c m r → (atoms : List Atom) → Every (InAtom N A B) atoms
           → Every (AtomSettled signature n m) (map (atom_changed c) atoms) ≡ Every (AtomSettled signature n r) atoms
       atoms_settled c m r h [] e = refl
       atoms_settled c m r h (a ∷ atoms) e = ap₂ (λ (X Y : Type 0). X × Y) (atom_settled c m r h a e.0) (atoms_settled c m r h atoms e.1)
 
       mutual
-        pub settled_same : (c : Change) (m r : Assignment) → Reads A B c m r → (f : Guarded) → InFormula A B f → Settled signature n m (changed c f) ≡ Settled signature n r f
+        pub settled_same : (c : Change) (m r : Assignment) → Reads A B c m r → (f : Guarded) → InFormula N A B f → Settled signature n m (changed c f) ≡ Settled signature n r f
         settled_same c m r h truth e = refl
         settled_same c m r h falsity e = refl
         settled_same c m r h (holds a) e = atom_settled c m r h a e
@@ -184,6 +184,6 @@ module _ (A : Variable → Type 0) (B : ℕ → Type 0) where
         settled_same c m r h (every bs guard f) e =
             each_normal_same n bs _ _ c m r (λ m' r' k. ap₂ (λ (X Y : Type 0). X × Y) (atoms_settled (under bs c) m' r' k guard e.0) (settled_same (under bs c) m' r' k f e.1)) h
 
-        each_settled_same : (c : Change) (m r : Assignment) → Reads A B c m r → (fs : Guardeds) → InEach A B fs → EachSettled signature n m (changed_each c fs) ≡ EachSettled signature n r fs
+        each_settled_same : (c : Change) (m r : Assignment) → Reads A B c m r → (fs : Guardeds) → InEach N A B fs → EachSettled signature n m (changed_each c fs) ≡ EachSettled signature n r fs
         each_settled_same c m r h no_more e = refl
         each_settled_same c m r h (and_then f fs) e = ap₂ (λ (X Y : Type 0). X × Y) (settled_same c m r h f e.0) (each_settled_same c m r h fs e.1)

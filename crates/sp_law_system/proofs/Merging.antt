@@ -3,8 +3,8 @@ use Rattle.std.proofs.Common.{◌≡◌, ℕ, Bool, true, false, ◌&&◌, if◌
 use Rattle.std.proofs.lemmas.Slice.Eq.{bytes_eq-Decides}
 use Rattle.std.specs.Str.{bytes_eq}
 use Rattle.sp_spec.specs.Lists.{Every}
-use Rattle.sp_spec.specs.Term.{Variable, Terms, none, more, Values, valued, valued_all, EachVariables}
-use Rattle.sp_spec.specs.Rule.{Fact, Action, Facts, fact_at, action_at, facts_at, InFacts}
+use Rattle.sp_spec.specs.Term.{Names, Variable, Terms, none, more, Values, valued, valued_all, AllMadeOf}
+use Rattle.sp_spec.specs.Rule.{Fact, Action, Facts, fact_at, action_at, facts_at, FactsMadeOf}
 use Rattle.sp_spec.specs.Unifier.{Pair, MakesSame}
 use Rattle.sp_spec_system.specs.System.{Happening, rule_step}
 use Rattle.sp_spec_system.specs.Numbered.{InHappening}
@@ -14,17 +14,17 @@ use Rattle.sp_spec.proofs.Lists.{every_append}
 use Rattle.sp_law_system.proofs.Solutions.{Under}
 
 -- pairs that are there, have one value each, and have numbers below the limit
-pub record Paired (v : Values) (n : ℕ) (o : Option (List Pair)) : Type 0 where
+pub record Paired (N : Names) (v : Values) (n : ℕ) (o : Option (List Pair)) : Type 0 where
   pub pairs : List Pair
   pub there : o ≡ Some pairs
   pub same : MakesSame v pairs
-  pub under : PairsUnder n pairs
+  pub under : PairsUnder N n pairs
 
 same_append : (v : Values) (ps qs : List Pair) → MakesSame v ps → MakesSame v qs → MakesSame v (ps ++ qs)
 same_append v [] qs h k = k
 same_append v (p ∷ ps) qs h k = (h.0, same_append v ps qs h.1 k)
 
-both_paired : (v : Values) (n : ℕ) (o u : Option (List Pair)) → Paired v n o → Paired v n u → Paired v n (both_pairs o u)
+both_paired : {N : Names} → (v : Values) (n : ℕ) (o u : Option (List Pair)) → Paired N v n o → Paired N v n u → Paired N v n (both_pairs o u)
 both_paired v n o u a b = record {
   pairs = a.pairs ++ b.pairs;
   there = cc (a.there, b.there);
@@ -32,7 +32,7 @@ both_paired v n o u a b = record {
   under = every_append _ a.pairs b.pairs a.under b.under;
 }
 
-pub argument_paired : (v : Values) (n : ℕ) (ts us : Terms Variable) → EachVariables (Under n) ts → EachVariables (Under n) us → valued_all v ts ≡ valued_all v us → Paired v n (argument_pairs ts us)
+pub argument_paired : {N : Names} → (v : Values) (n : ℕ) (ts us : Terms Variable) → AllMadeOf N (Under n) ts → AllMadeOf N (Under n) us → valued_all v ts ≡ valued_all v us → Paired N v n (argument_pairs ts us)
 argument_paired v n none none a b e = record { pairs = []; there = refl; same = tt; under = tt }
 argument_paired v n none (more u us) a b e = absurd cc
 argument_paired v n (more t ts) none a b e = absurd cc
@@ -56,8 +56,8 @@ flag_same true b e = sym e
 flag_same false true e = absurd cc
 flag_same false false e = refl
 
-pub fact_paired : (v : Values) (n : ℕ) (fs gs : List (Fact Variable)) → Every (λ (f : Fact Variable). EachVariables (Under n) f.args) fs → Every (λ (f : Fact Variable). EachVariables (Under n) f.args) gs
-    → map (fact_at v) fs ≡ map (fact_at v) gs → Paired v n (fact_pairs fs gs)
+pub fact_paired : {N : Names} → (v : Values) (n : ℕ) (fs gs : List (Fact Variable)) → Every (λ (f : Fact Variable). AllMadeOf N (Under n) f.args) fs → Every (λ (f : Fact Variable). AllMadeOf N (Under n) f.args) gs
+    → map (fact_at v) fs ≡ map (fact_at v) gs → Paired N v n (fact_pairs fs gs)
 fact_paired v n [] [] a b e = record { pairs = []; there = refl; same = tt; under = tt }
 fact_paired v n [] (g ∷ gs) a b e = absurd cc
 fact_paired v n (f ∷ fs) [] a b e = absurd cc
@@ -70,14 +70,14 @@ fact_paired v n (f ∷ fs) (g ∷ gs) a b e =
     let r = both_paired v n _ _ (argument_paired v n f.args g.args a.0 b.0 args) (fact_paired v n fs gs a.1 b.1 tail) in
     rw (same_text f.symbol g.symbol symbol, flag_same f.persistent g.persistent flag) r
 
-pub action_paired : (v : Values) (n : ℕ) (a b : Action Variable) → EachVariables (Under n) a.args → EachVariables (Under n) b.args → action_at v a ≡ action_at v b → Paired v n (action_pair a b)
+pub action_paired : {N : Names} → (v : Values) (n : ℕ) (a b : Action Variable) → AllMadeOf N (Under n) a.args → AllMadeOf N (Under n) b.args → action_at v a ≡ action_at v b → Paired N v n (action_pair a b)
 action_paired v n a b k l e =
     let symbol : a.symbol ≡ b.symbol = ap (λ (x : Action ⊥). x.symbol) e in
     let args : valued_all v a.args ≡ valued_all v b.args = ap (λ (x : Action ⊥). x.args) e in
     rw (same_text a.symbol b.symbol symbol) (argument_paired v n a.args b.args k l args)
 
-actions_paired : (v : Values) (n : ℕ) (xs ys : List (Action Variable)) → Every (λ (a : Action Variable). EachVariables (Under n) a.args) xs → Every (λ (a : Action Variable). EachVariables (Under n) a.args) ys
-    → map (action_at v) xs ≡ map (action_at v) ys → Paired v n (action_pairs xs ys)
+actions_paired : {N : Names} → (v : Values) (n : ℕ) (xs ys : List (Action Variable)) → Every (λ (a : Action Variable). AllMadeOf N (Under n) a.args) xs → Every (λ (a : Action Variable). AllMadeOf N (Under n) a.args) ys
+    → map (action_at v) xs ≡ map (action_at v) ys → Paired N v n (action_pairs xs ys)
 actions_paired v n [] [] a b e = record { pairs = []; there = refl; same = tt; under = tt }
 actions_paired v n [] (y ∷ ys) a b e = absurd cc
 actions_paired v n (x ∷ xs) [] a b e = absurd cc
@@ -87,8 +87,8 @@ actions_paired v n (x ∷ xs) (y ∷ ys) a b e =
     both_paired v n _ _ (action_paired v n x y a.0 b.0 head) (actions_paired v n xs ys a.1 b.1 tail)
 
 -- Two steps of one rule whose facts have the same values.
-pub merging_paired : (v : Values) (n : ℕ) (r q : List ℕ) (f g : Facts Variable) → InFacts (Under n) f → InFacts (Under n) g → r ≡ q → facts_at v f ≡ facts_at v g
-    → Paired v n (merging_pairs (rule_step r f) (rule_step q g))
+pub merging_paired : {N : Names} → (v : Values) (n : ℕ) (r q : List ℕ) (f g : Facts Variable) → FactsMadeOf N (Under n) f → FactsMadeOf N (Under n) g → r ≡ q → facts_at v f ≡ facts_at v g
+    → Paired N v n (merging_pairs (rule_step r f) (rule_step q g))
 merging_paired v n r q f g a b named e =
     let p = fact_paired v n f.premises g.premises a.premises b.premises (ap (λ (x : Facts ⊥). x.premises) e) in
     let s = actions_paired v n f.actions g.actions a.actions b.actions (ap (λ (x : Facts ⊥). x.actions) e) in
@@ -96,48 +96,48 @@ merging_paired v n r q f g a b named e =
     rw (same_text r q named) (both_paired v n _ _ p (both_paired v n _ _ s c))
 
 -- The pairs' variables are those of the facts.
-abbrev pub OptionUnder : ℕ → Option (List Pair) → Type 0
-OptionUnder n None = Unit {0}
-OptionUnder n (Some pairs) = PairsUnder n pairs
+abbrev pub OptionUnder : Names → ℕ → Option (List Pair) → Type 0
+OptionUnder N n None = Unit {0}
+OptionUnder N n (Some pairs) = PairsUnder N n pairs
 
-both_under : (n : ℕ) (o u : Option (List Pair)) → OptionUnder n o → OptionUnder n u → OptionUnder n (both_pairs o u)
-both_under n None u a b = tt
-both_under n (Some ps) None a b = tt
-both_under n (Some ps) (Some qs) a b = every_append _ ps qs a b
+both_under : (N : Names) → (n : ℕ) (o u : Option (List Pair)) → OptionUnder N n o → OptionUnder N n u → OptionUnder N n (both_pairs o u)
+both_under N n None u a b = tt
+both_under N n (Some ps) None a b = tt
+both_under N n (Some ps) (Some qs) a b = every_append _ ps qs a b
 
-if_under : (n : ℕ) (b : Bool) (o : Option (List Pair)) → OptionUnder n o → OptionUnder n (if b then o else None)
-if_under n true o a = a
-if_under n false o a = tt
+if_under : (N : Names) → (n : ℕ) (b : Bool) (o : Option (List Pair)) → OptionUnder N n o → OptionUnder N n (if b then o else None)
+if_under N n true o a = a
+if_under N n false o a = tt
 
-one_more_under : (n : ℕ) (p : Pair) (o : Option (List Pair)) → PairsUnder n (p ∷ []) → OptionUnder n o → OptionUnder n (option_map (λ (pairs : List Pair). p ∷ pairs) o)
-one_more_under n p None h k = tt
-one_more_under n p (Some ps) h k = (h.0, k)
+one_more_under : (N : Names) → (n : ℕ) (p : Pair) (o : Option (List Pair)) → PairsUnder N n (p ∷ []) → OptionUnder N n o → OptionUnder N n (option_map (λ (pairs : List Pair). p ∷ pairs) o)
+one_more_under N n p None h k = tt
+one_more_under N n p (Some ps) h k = (h.0, k)
 
-pub argument_under : (n : ℕ) (ts us : Terms Variable) → EachVariables (Under n) ts → EachVariables (Under n) us → OptionUnder n (argument_pairs ts us)
-argument_under n none none a b = tt
-argument_under n none (more u us) a b = tt
-argument_under n (more t ts) none a b = tt
-argument_under n (more t ts) (more u us) a b = one_more_under n (t, u) (argument_pairs ts us) ((a.0, b.0), tt) (argument_under n ts us a.1 b.1)
+pub argument_under : (N : Names) → (n : ℕ) (ts us : Terms Variable) → AllMadeOf N (Under n) ts → AllMadeOf N (Under n) us → OptionUnder N n (argument_pairs ts us)
+argument_under N n none none a b = tt
+argument_under N n none (more u us) a b = tt
+argument_under N n (more t ts) none a b = tt
+argument_under N n (more t ts) (more u us) a b = one_more_under N n (t, u) (argument_pairs ts us) ((a.0, b.0), tt) (argument_under N n ts us a.1 b.1)
 
-fact_under : (n : ℕ) (fs gs : List (Fact Variable)) → Every (λ (f : Fact Variable). EachVariables (Under n) f.args) fs → Every (λ (f : Fact Variable). EachVariables (Under n) f.args) gs → OptionUnder n (fact_pairs fs gs)
-fact_under n [] [] a b = tt
-fact_under n [] (g ∷ gs) a b = tt
-fact_under n (f ∷ fs) [] a b = tt
-fact_under n (f ∷ fs) (g ∷ gs) a b =
-    if_under n (bytes_eq f.symbol g.symbol && same_flag f.persistent g.persistent) (both_pairs (argument_pairs f.args g.args) (fact_pairs fs gs))
-    (both_under n (argument_pairs f.args g.args) (fact_pairs fs gs) (argument_under n f.args g.args a.0 b.0) (fact_under n fs gs a.1 b.1))
+fact_under : (N : Names) → (n : ℕ) (fs gs : List (Fact Variable)) → Every (λ (f : Fact Variable). AllMadeOf N (Under n) f.args) fs → Every (λ (f : Fact Variable). AllMadeOf N (Under n) f.args) gs → OptionUnder N n (fact_pairs fs gs)
+fact_under N n [] [] a b = tt
+fact_under N n [] (g ∷ gs) a b = tt
+fact_under N n (f ∷ fs) [] a b = tt
+fact_under N n (f ∷ fs) (g ∷ gs) a b =
+    if_under N n (bytes_eq f.symbol g.symbol && same_flag f.persistent g.persistent) (both_pairs (argument_pairs f.args g.args) (fact_pairs fs gs))
+    (both_under N n (argument_pairs f.args g.args) (fact_pairs fs gs) (argument_under N n f.args g.args a.0 b.0) (fact_under N n fs gs a.1 b.1))
 
-pub action_under : (n : ℕ) (a b : Action Variable) → EachVariables (Under n) a.args → EachVariables (Under n) b.args → OptionUnder n (action_pair a b)
-action_under n a b h k = if_under n (bytes_eq a.symbol b.symbol) (argument_pairs a.args b.args) (argument_under n a.args b.args h k)
+pub action_under : (N : Names) → (n : ℕ) (a b : Action Variable) → AllMadeOf N (Under n) a.args → AllMadeOf N (Under n) b.args → OptionUnder N n (action_pair a b)
+action_under N n a b h k = if_under N n (bytes_eq a.symbol b.symbol) (argument_pairs a.args b.args) (argument_under N n a.args b.args h k)
 
-actions_under : (n : ℕ) (xs ys : List (Action Variable)) → Every (λ (a : Action Variable). EachVariables (Under n) a.args) xs → Every (λ (a : Action Variable). EachVariables (Under n) a.args) ys → OptionUnder n (action_pairs xs ys)
-actions_under n [] [] a b = tt
-actions_under n [] (y ∷ ys) a b = tt
-actions_under n (x ∷ xs) [] a b = tt
-actions_under n (x ∷ xs) (y ∷ ys) a b = both_under n (action_pair x y) (action_pairs xs ys) (action_under n x y a.0 b.0) (actions_under n xs ys a.1 b.1)
+actions_under : (N : Names) → (n : ℕ) (xs ys : List (Action Variable)) → Every (λ (a : Action Variable). AllMadeOf N (Under n) a.args) xs → Every (λ (a : Action Variable). AllMadeOf N (Under n) a.args) ys → OptionUnder N n (action_pairs xs ys)
+actions_under N n [] [] a b = tt
+actions_under N n [] (y ∷ ys) a b = tt
+actions_under N n (x ∷ xs) [] a b = tt
+actions_under N n (x ∷ xs) (y ∷ ys) a b = both_under N n (action_pair x y) (action_pairs xs ys) (action_under N n x y a.0 b.0) (actions_under N n xs ys a.1 b.1)
 
-pub merging_under : (n : ℕ) (a b : Happening) → InHappening (Under n) a → InHappening (Under n) b → OptionUnder n (merging_pairs a b)
-merging_under n (rule_step r f) (rule_step q g) a b =
-    if_under n (bytes_eq r q) (both_pairs (fact_pairs f.premises g.premises) (both_pairs (action_pairs f.actions g.actions) (fact_pairs f.conclusions g.conclusions)))
-    (both_under n (fact_pairs f.premises g.premises) (both_pairs (action_pairs f.actions g.actions) (fact_pairs f.conclusions g.conclusions)) (fact_under n f.premises g.premises a.premises b.premises)
-    (both_under n (action_pairs f.actions g.actions) (fact_pairs f.conclusions g.conclusions) (actions_under n f.actions g.actions a.actions b.actions) (fact_under n f.conclusions g.conclusions a.conclusions b.conclusions)))
+pub merging_under : (N : Names) → (n : ℕ) (a b : Happening) → InHappening N (Under n) a → InHappening N (Under n) b → OptionUnder N n (merging_pairs a b)
+merging_under N n (rule_step r f) (rule_step q g) a b =
+    if_under N n (bytes_eq r q) (both_pairs (fact_pairs f.premises g.premises) (both_pairs (action_pairs f.actions g.actions) (fact_pairs f.conclusions g.conclusions)))
+    (both_under N n (fact_pairs f.premises g.premises) (both_pairs (action_pairs f.actions g.actions) (fact_pairs f.conclusions g.conclusions)) (fact_under N n f.premises g.premises a.premises b.premises)
+    (both_under N n (action_pairs f.actions g.actions) (fact_pairs f.conclusions g.conclusions) (actions_under N n f.actions g.actions a.actions b.actions) (fact_under N n f.conclusions g.conclusions a.conclusions b.conclusions)))

@@ -1,55 +1,55 @@
 -- Which variables and times stand in a formula, under weakening and change.
 use Rattle.std.proofs.Common.{ℕ, suc, zero, List, [], ◌∷◌}
-use Rattle.sp_spec.specs.Term.{Variable, Term, var, constant, name, app, Terms, none, more, valued, valued_all, EachVariable, EachVariables}
-use Rattle.sp_spec.specs.Rule.{Facts, fact_at, action_at, facts_at, InFacts}
+use Rattle.sp_spec.specs.Term.{Names, Variable, Term, var, constant, name, app, Terms, none, more, valued, valued_all, MadeOf, AllMadeOf}
+use Rattle.sp_spec.specs.Rule.{Facts, fact_at, action_at, facts_at, FactsMadeOf}
 use Rattle.sp_spec.specs.Guarded.{Place, free, bound, Time, free_time, bound_time, Binder, message, time, Atom, acts, same, same_time, before, last, Guarded, truth, falsity, holds, fails, all_of, one_of, some, every, Guardeds, no_more, and_then, pushed}
-use Rattle.sp_formula.specs.Change.{Change, placed, place_changed, time_changed, raised_place, raised, raised_time, under_message, under_time, under, atom_changed, changed, changed_each}
+use Rattle.sp_spec.specs.Change.{Change, placed, place_changed, time_changed, raised_place, raised, raised_time, under_message, under_time, under, atom_changed, changed, changed_each}
 use Rattle.sp_spec_system.specs.Numbered.{AtFree, AtFreeTime, InAtom, InFormula, InEach, InHappening, InEvent}
 use Rattle.sp_spec_system.specs.System.{Happening, rule_step, Event}
 use Rattle.sp_spec.proofs.Lists.{every_map, every_weaken}
 
 -- what holds of each variable of a term after values are put in
 mutual
-  pub each_valued : {V W : Type 0} (P : V → Type 0) (Q : W → Type 0) (v : V → Term W) → ((x : V) → P x → EachVariable Q (v x)) → (t : Term V) → EachVariable P t → EachVariable Q (valued v t)
-  each_valued P Q v h (var x) e = h x e
-  each_valued P Q v h (constant c) e = tt
-  each_valued P Q v h (name n) e = tt
-  each_valued P Q v h (app f ts) e = each_valued_all P Q v h ts e
+  pub each_valued : (N : Names) → {V W : Type 0} (P : V → Type 0) (Q : W → Type 0) (v : V → Term W) → ((x : V) → P x → MadeOf N Q (v x)) → (t : Term V) → MadeOf N P t → MadeOf N Q (valued v t)
+  each_valued N P Q v h (var x) e = h x e
+  each_valued N P Q v h (constant c) e = e
+  each_valued N P Q v h (name n) e = e
+  each_valued N P Q v h (app f ts) e = each_valued_all N P Q v h ts e
 
-  pub each_valued_all : {V W : Type 0} (P : V → Type 0) (Q : W → Type 0) (v : V → Term W) → ((x : V) → P x → EachVariable Q (v x)) → (ts : Terms V) → EachVariables P ts → EachVariables Q (valued_all v ts)
-  each_valued_all P Q v h none e = tt
-  each_valued_all P Q v h (more t ts) e = (each_valued P Q v h t e.0, each_valued_all P Q v h ts e.1)
+  pub each_valued_all : (N : Names) → {V W : Type 0} (P : V → Type 0) (Q : W → Type 0) (v : V → Term W) → ((x : V) → P x → MadeOf N Q (v x)) → (ts : Terms V) → AllMadeOf N P ts → AllMadeOf N Q (valued_all v ts)
+  each_valued_all N P Q v h none e = tt
+  each_valued_all N P Q v h (more t ts) e = (each_valued N P Q v h t e.0, each_valued_all N P Q v h ts e.1)
 
 mutual
-  pub each_weaken : {V : Type 0} (P Q : V → Type 0) → ((x : V) → P x → Q x) → (t : Term V) → EachVariable P t → EachVariable Q t
-  each_weaken P Q h (var x) e = h x e
-  each_weaken P Q h (constant c) e = tt
-  each_weaken P Q h (name n) e = tt
-  each_weaken P Q h (app f ts) e = each_weaken_all P Q h ts e
+  pub each_weaken : (N : Names) → {V : Type 0} (P Q : V → Type 0) → ((x : V) → P x → Q x) → (t : Term V) → MadeOf N P t → MadeOf N Q t
+  each_weaken N P Q h (var x) e = h x e
+  each_weaken N P Q h (constant c) e = e
+  each_weaken N P Q h (name n) e = e
+  each_weaken N P Q h (app f ts) e = each_weaken_all N P Q h ts e
 
-  pub each_weaken_all : {V : Type 0} (P Q : V → Type 0) → ((x : V) → P x → Q x) → (ts : Terms V) → EachVariables P ts → EachVariables Q ts
-  each_weaken_all P Q h none e = tt
-  each_weaken_all P Q h (more t ts) e = (each_weaken P Q h t e.0, each_weaken_all P Q h ts e.1)
+  pub each_weaken_all : (N : Names) → {V : Type 0} (P Q : V → Type 0) → ((x : V) → P x → Q x) → (ts : Terms V) → AllMadeOf N P ts → AllMadeOf N Q ts
+  each_weaken_all N P Q h none e = tt
+  each_weaken_all N P Q h (more t ts) e = (each_weaken N P Q h t e.0, each_weaken_all N P Q h ts e.1)
 
 -- the variables of a rule's facts after values are put in
-pub facts_valued : {V W : Type 0} (P : V → Type 0) (Q : W → Type 0) (v : V → Term W) → ((x : V) → P x → EachVariable Q (v x)) → (facts : Facts V) → InFacts P facts → InFacts Q (facts_at v facts)
-facts_valued P Q v h facts e = record {
-  premises = every_map _ _ (fact_at v) (λ f k. each_valued_all P Q v h f.args k) facts.premises e.premises;
-  actions = every_map _ _ (action_at v) (λ a k. each_valued_all P Q v h a.args k) facts.actions e.actions;
-  conclusions = every_map _ _ (fact_at v) (λ f k. each_valued_all P Q v h f.args k) facts.conclusions e.conclusions;
+pub facts_valued : (N : Names) → {V W : Type 0} (P : V → Type 0) (Q : W → Type 0) (v : V → Term W) → ((x : V) → P x → MadeOf N Q (v x)) → (facts : Facts V) → FactsMadeOf N P facts → FactsMadeOf N Q (facts_at v facts)
+facts_valued N P Q v h facts e = record {
+  premises = every_map _ _ (fact_at v) (λ f k. each_valued_all N P Q v h f.args k) facts.premises e.premises;
+  actions = every_map _ _ (action_at v) (λ a k. each_valued_all N P Q v h a.args k) facts.actions e.actions;
+  conclusions = every_map _ _ (fact_at v) (λ f k. each_valued_all N P Q v h f.args k) facts.conclusions e.conclusions;
 }
 
-pub facts_weaken : {V : Type 0} (P Q : V → Type 0) → ((x : V) → P x → Q x) → (facts : Facts V) → InFacts P facts → InFacts Q facts
-facts_weaken P Q h facts e = record {
-  premises = every_weaken _ _ (λ f k. each_weaken_all P Q h f.args k) facts.premises e.premises;
-  actions = every_weaken _ _ (λ a k. each_weaken_all P Q h a.args k) facts.actions e.actions;
-  conclusions = every_weaken _ _ (λ f k. each_weaken_all P Q h f.args k) facts.conclusions e.conclusions;
+pub facts_weaken : (N : Names) → {V : Type 0} (P Q : V → Type 0) → ((x : V) → P x → Q x) → (facts : Facts V) → FactsMadeOf N P facts → FactsMadeOf N Q facts
+facts_weaken N P Q h facts e = record {
+  premises = every_weaken _ _ (λ f k. each_weaken_all N P Q h f.args k) facts.premises e.premises;
+  actions = every_weaken _ _ (λ a k. each_weaken_all N P Q h a.args k) facts.actions e.actions;
+  conclusions = every_weaken _ _ (λ f k. each_weaken_all N P Q h f.args k) facts.conclusions e.conclusions;
 }
 
-pub happening_weaken : (P Q : Variable → Type 0) → ((x : Variable) → P x → Q x) → (h : Happening) → InHappening P h → InHappening Q h
-happening_weaken P Q h (rule_step r facts) e = facts_weaken P Q h facts e
+pub happening_weaken : (N : Names) → (P Q : Variable → Type 0) → ((x : Variable) → P x → Q x) → (h : Happening) → InHappening N P h → InHappening N Q h
+happening_weaken N P Q h (rule_step r facts) e = facts_weaken N P Q h facts e
 
-module _ (P P' : Variable → Type 0) (Q Q' : ℕ → Type 0) (h : (x : Variable) → P x → P' x) (k : (i : ℕ) → Q i → Q' i) where
+module _ (N : Names) (P P' : Variable → Type 0) (Q Q' : ℕ → Type 0) (h : (x : Variable) → P x → P' x) (k : (i : ℕ) → Q i → Q' i) where
   free_weaken : (p : Place) → AtFree P p → AtFree P' p
   free_weaken (free x) e = h x e
   free_weaken (bound n) e = tt
@@ -58,89 +58,89 @@ module _ (P P' : Variable → Type 0) (Q Q' : ℕ → Type 0) (h : (x : Variable
   time_weaken (free_time i) e = k i e
   time_weaken (bound_time n) e = tt
 
-  atom_weaken : (a : Atom) → InAtom P Q a → InAtom P' Q' a
-  atom_weaken (acts a i) e = (each_weaken_all (AtFree P) (AtFree P') free_weaken a.args e.0, time_weaken i e.1)
-  atom_weaken (same t u) e = (each_weaken (AtFree P) (AtFree P') free_weaken t e.0, each_weaken (AtFree P) (AtFree P') free_weaken u e.1)
+  atom_weaken : (a : Atom) → InAtom N P Q a → InAtom N P' Q' a
+  atom_weaken (acts a i) e = (each_weaken_all N (AtFree P) (AtFree P') free_weaken a.args e.0, time_weaken i e.1)
+  atom_weaken (same t u) e = (each_weaken N (AtFree P) (AtFree P') free_weaken t e.0, each_weaken N (AtFree P) (AtFree P') free_weaken u e.1)
   atom_weaken (same_time i j) e = (time_weaken i e.0, time_weaken j e.1)
   atom_weaken (before i j) e = (time_weaken i e.0, time_weaken j e.1)
   atom_weaken (last i) e = time_weaken i e
 
   mutual
-    pub formula_weaken : (f : Guarded) → InFormula P Q f → InFormula P' Q' f
+    pub formula_weaken : (f : Guarded) → InFormula N P Q f → InFormula N P' Q' f
     formula_weaken truth e = tt
     formula_weaken falsity e = tt
     formula_weaken (holds a) e = atom_weaken a e
     formula_weaken (fails a) e = atom_weaken a e
     formula_weaken (all_of fs) e = formulas_weaken fs e
     formula_weaken (one_of fs) e = formulas_weaken fs e
-    formula_weaken (some bs guard f) e = (every_weaken (InAtom P Q) (InAtom P' Q') atom_weaken guard e.0, formula_weaken f e.1)
-    formula_weaken (every bs guard f) e = (every_weaken (InAtom P Q) (InAtom P' Q') atom_weaken guard e.0, formula_weaken f e.1)
+    formula_weaken (some bs guard f) e = (every_weaken (InAtom N P Q) (InAtom N P' Q') atom_weaken guard e.0, formula_weaken f e.1)
+    formula_weaken (every bs guard f) e = (every_weaken (InAtom N P Q) (InAtom N P' Q') atom_weaken guard e.0, formula_weaken f e.1)
 
-    formulas_weaken : (fs : Guardeds) → InEach P Q fs → InEach P' Q' fs
+    formulas_weaken : (fs : Guardeds) → InEach N P Q fs → InEach N P' Q' fs
     formulas_weaken no_more e = tt
     formulas_weaken (and_then f fs) e = (formula_weaken f e.0, formulas_weaken fs e.1)
 
-  pub event_weaken : (e : Event) → InEvent P Q e → InEvent P' Q' e
-  event_weaken e i = (k e.time i.0, happening_weaken P P' h e.happening i.1)
+  pub event_weaken : (e : Event) → InEvent N P Q e → InEvent N P' Q' e
+  event_weaken e i = (k e.time i.0, happening_weaken N P P' h e.happening i.1)
 
 -- what the change puts in has only these variables and times
-pub record PutsIn (P P' : Variable → Type 0) (Q Q' : ℕ → Type 0) (c : Change) : Type 0 where
-  pub terms : (x : Variable) → P x → EachVariable P' (c.terms x)
+pub record PutsIn (N : Names) (P P' : Variable → Type 0) (Q Q' : ℕ → Type 0) (c : Change) : Type 0 where
+  pub terms : (x : Variable) → P x → MadeOf N P' (c.terms x)
   pub times : (i : ℕ) → Q i → Q' (c.times i)
-  pub bound_terms : (k : ℕ) → EachVariable (AtFree P') (c.bound_terms k)
+  pub bound_terms : (k : ℕ) → MadeOf N (AtFree P') (c.bound_terms k)
   pub bound_times : (k : ℕ) → AtFreeTime Q' (c.bound_times k)
 
-module _ (P P' : Variable → Type 0) (Q Q' : ℕ → Type 0) where
-  raised_free : (p : Place) → AtFree P' p → EachVariable (AtFree P') (raised_place p)
+module _ (N : Names) (P P' : Variable → Type 0) (Q Q' : ℕ → Type 0) where
+  raised_free : (p : Place) → AtFree P' p → MadeOf N (AtFree P') (raised_place p)
   raised_free (free x) e = e
   raised_free (bound k) e = tt
 
-  raised_in : (t : Term Place) → EachVariable (AtFree P') t → EachVariable (AtFree P') (raised t)
-  raised_in t e = each_valued (AtFree P') (AtFree P') raised_place raised_free t e
+  raised_in : (t : Term Place) → MadeOf N (AtFree P') t → MadeOf N (AtFree P') (raised t)
+  raised_in t e = each_valued N (AtFree P') (AtFree P') raised_place raised_free t e
 
   raised_time_in : (i : Time) → AtFreeTime Q' i → AtFreeTime Q' (raised_time i)
   raised_time_in (free_time i) e = e
   raised_time_in (bound_time k) e = tt
 
-  puts_message : (c : Change) → PutsIn P P' Q Q' c → PutsIn P P' Q Q' (under_message c)
+  puts_message : (c : Change) → PutsIn N P P' Q Q' c → PutsIn N P P' Q Q' (under_message c)
   puts_message c h = record { terms = h.terms; times = h.times; bound_terms = terms; bound_times = h.bound_times }
     where
-      terms : (k : ℕ) → EachVariable (AtFree P') (pushed (var (bound zero)) (λ j. raised (c.bound_terms j)) k)
+      terms : (k : ℕ) → MadeOf N (AtFree P') (pushed (var (bound zero)) (λ j. raised (c.bound_terms j)) k)
       terms zero = tt
       terms (suc k) = raised_in (c.bound_terms k) (h.bound_terms k)
 
-  puts_time : (c : Change) → PutsIn P P' Q Q' c → PutsIn P P' Q Q' (under_time c)
+  puts_time : (c : Change) → PutsIn N P P' Q Q' c → PutsIn N P P' Q Q' (under_time c)
   puts_time c h = record { terms = h.terms; times = h.times; bound_terms = h.bound_terms; bound_times = times }
     where
       times : (k : ℕ) → AtFreeTime Q' (pushed (bound_time zero) (λ j. raised_time (c.bound_times j)) k)
       times zero = tt
       times (suc k) = raised_time_in (c.bound_times k) (h.bound_times k)
 
-  puts_under : (bs : List Binder) (c : Change) → PutsIn P P' Q Q' c → PutsIn P P' Q Q' (under bs c)
+  puts_under : (bs : List Binder) (c : Change) → PutsIn N P P' Q Q' c → PutsIn N P P' Q Q' (under bs c)
   puts_under [] c h = h
   puts_under (message sort ∷ bs) c h = puts_under bs (under_message c) (puts_message c h)
   puts_under (time ∷ bs) c h = puts_under bs (under_time c) (puts_time c h)
 
-  placed_in : (t : Term Variable) → EachVariable P' t → EachVariable (AtFree P') (placed t)
-  placed_in t e = each_valued P' (AtFree P') (λ x. var (free x)) (λ x k. k) t e
+  placed_in : (t : Term Variable) → MadeOf N P' t → MadeOf N (AtFree P') (placed t)
+  placed_in t e = each_valued N P' (AtFree P') (λ x. var (free x)) (λ x k. k) t e
 
-  place_in : (c : Change) → PutsIn P P' Q Q' c → (p : Place) → AtFree P p → EachVariable (AtFree P') (place_changed c p)
+  place_in : (c : Change) → PutsIn N P P' Q Q' c → (p : Place) → AtFree P p → MadeOf N (AtFree P') (place_changed c p)
   place_in c h (free x) e = placed_in (c.terms x) (h.terms x e)
   place_in c h (bound k) e = h.bound_terms k
 
-  time_in : (c : Change) → PutsIn P P' Q Q' c → (i : Time) → AtFreeTime Q i → AtFreeTime Q' (time_changed c i)
+  time_in : (c : Change) → PutsIn N P P' Q Q' c → (i : Time) → AtFreeTime Q i → AtFreeTime Q' (time_changed c i)
   time_in c h (free_time i) e = h.times i e
   time_in c h (bound_time k) e = h.bound_times k
 
-  pub atom_changed_in : (c : Change) → PutsIn P P' Q Q' c → (a : Atom) → InAtom P Q a → InAtom P' Q' (atom_changed c a)
-  atom_changed_in c h (acts a i) e = (each_valued_all (AtFree P) (AtFree P') (place_changed c) (place_in c h) a.args e.0, time_in c h i e.1)
-  atom_changed_in c h (same t u) e = (each_valued (AtFree P) (AtFree P') (place_changed c) (place_in c h) t e.0, each_valued (AtFree P) (AtFree P') (place_changed c) (place_in c h) u e.1)
+  pub atom_changed_in : (c : Change) → PutsIn N P P' Q Q' c → (a : Atom) → InAtom N P Q a → InAtom N P' Q' (atom_changed c a)
+  atom_changed_in c h (acts a i) e = (each_valued_all N (AtFree P) (AtFree P') (place_changed c) (place_in c h) a.args e.0, time_in c h i e.1)
+  atom_changed_in c h (same t u) e = (each_valued N (AtFree P) (AtFree P') (place_changed c) (place_in c h) t e.0, each_valued N (AtFree P) (AtFree P') (place_changed c) (place_in c h) u e.1)
   atom_changed_in c h (same_time i j) e = (time_in c h i e.0, time_in c h j e.1)
   atom_changed_in c h (before i j) e = (time_in c h i e.0, time_in c h j e.1)
   atom_changed_in c h (last i) e = time_in c h i e
 
   mutual
-    pub changed_in : (c : Change) → PutsIn P P' Q Q' c → (f : Guarded) → InFormula P Q f → InFormula P' Q' (changed c f)
+    pub changed_in : (c : Change) → PutsIn N P P' Q Q' c → (f : Guarded) → InFormula N P Q f → InFormula N P' Q' (changed c f)
     changed_in c h truth e = tt
     changed_in c h falsity e = tt
     changed_in c h (holds a) e = atom_changed_in c h a e
@@ -149,11 +149,11 @@ module _ (P P' : Variable → Type 0) (Q Q' : ℕ → Type 0) where
     changed_in c h (one_of fs) e = changed_each_in c h fs e
     changed_in c h (some bs guard f) e =
         let k = puts_under bs c h in
-        (every_map (InAtom P Q) (InAtom P' Q') (atom_changed (under bs c)) (atom_changed_in (under bs c) k) guard e.0, changed_in (under bs c) k f e.1)
+        (every_map (InAtom N P Q) (InAtom N P' Q') (atom_changed (under bs c)) (atom_changed_in (under bs c) k) guard e.0, changed_in (under bs c) k f e.1)
     changed_in c h (every bs guard f) e =
         let k = puts_under bs c h in
-        (every_map (InAtom P Q) (InAtom P' Q') (atom_changed (under bs c)) (atom_changed_in (under bs c) k) guard e.0, changed_in (under bs c) k f e.1)
+        (every_map (InAtom N P Q) (InAtom N P' Q') (atom_changed (under bs c)) (atom_changed_in (under bs c) k) guard e.0, changed_in (under bs c) k f e.1)
 
-    changed_each_in : (c : Change) → PutsIn P P' Q Q' c → (fs : Guardeds) → InEach P Q fs → InEach P' Q' (changed_each c fs)
+    changed_each_in : (c : Change) → PutsIn N P P' Q Q' c → (fs : Guardeds) → InEach N P Q fs → InEach N P' Q' (changed_each c fs)
     changed_each_in c h no_more e = tt
     changed_each_in c h (and_then f fs) e = (changed_in c h f e.0, changed_each_in c h fs e.1)

@@ -160,15 +160,15 @@ not_before_itself order e i = at (is_before order i i) refl
 
 -- ---- the tests tell paths and cycles
 
-begins_path : (order pairs : Pairs) → begins_cycle order pairs ≡ true → (i : ℕ) × Path order i i
+pub begins_path : (order pairs : Pairs) → begins_cycle order pairs ≡ true → (i : ℕ) × Path order i i
 begins_path order [] e = absurd cc
 begins_path order (p ∷ pairs) e =
     ⊎_elim (λ k. (p.0, path_of (length order) order p.0 p.0 k)) (λ k. begins_path order pairs k) (or_cases (is_before order p.0 p.0) (begins_cycle order pairs) e)
 
-path_before : (order : Pairs) (i j : ℕ) → Path order i j → is_before order i j ≡ true
+pub path_before : (order : Pairs) (i j : ℕ) → Path order i j → is_before order i j ≡ true
 path_before order i j w = short (length order) order (omega arith) i j w
 
-has_cycle : (order : Pairs) → (i : ℕ) × Path order i i → is_cyclic order ≡ true
+pub has_cycle : (order : Pairs) → (i : ℕ) × Path order i i → is_cyclic order ≡ true
 has_cycle order w = at (is_cyclic order) refl
   where
     at : (b : Bool) → is_cyclic order ≡ b → b ≡ true

@@ -1,7 +1,7 @@
 -- What keeps a solution: values that agree on the numbers of the system, and replacing that changes no value.
 use Rattle.std.proofs.Common.{◌≡◌, ◌≤◌, ◌<◌, ℕ, List, [], ◌∷◌, map, length, refl, sym, ◌∙◌, subst, lt_of_lt_of_le, Bool, true, false, if◌then◌else◌, ◌++◌}
 use Rattle.sp_spec.specs.Lists.{Every, AtPlace, AtPosition}
-use Rattle.sp_spec.specs.Term.{Variable, Term, valued, EachVariable}
+use Rattle.sp_spec.specs.Term.{Names, Variable, Term, valued, MadeOf}
 use Rattle.sp_spec.specs.Signature.{IsValuation}
 use Rattle.sp_spec.specs.Equal.{IsNormal}
 use Rattle.sp_spec.specs.Rule.{Facts, facts_at}
@@ -10,7 +10,7 @@ use Rattle.sp_spec.specs.Guarded.{Guarded}
 use Rattle.sp_spec.specs.Log.{Log, conclusion, step, log_trace}
 use Rattle.sp_spec.specs.Substitution.{Binding, bound_to, Fixes}
 use Rattle.sp_spec.specs.Unifier.{Pair}
-use Rattle.sp_formula.specs.Change.{free_change, changed}
+use Rattle.sp_spec.specs.Change.{free_change, changed}
 use Rattle.sp_spec_system.specs.System.{Happening, rule_step, Event, Link, System}
 use Rattle.sp_spec_system.specs.Solutions.{Valuation, assignment, LinkHolds, HappensAt, HappensIn, FormulaHolds, AreUnequal, IsBefore, Solves}
 use Rattle.sp_spec_system.specs.Numbered.{InFormula, InHappening, InEvent, IsNumbered}
@@ -38,25 +38,25 @@ agrees_then n k u v w le a b = record {
   times = λ i h. b.times i (lt_of_lt_of_le h le) ∙ a.times i h;
 }
 
-module _ (limit : ℕ) (v w : Valuation) (a : Agrees limit v w) (theory : Theory) (log : Log) where
-  agree_happening : (p : ℕ) (h : Happening) → InHappening (Under limit) h → HappensAt log p v.terms h → HappensAt log p w.terms h
+module _ (N : Names) (limit : ℕ) (v w : Valuation) (a : Agrees limit v w) (theory : Theory) (log : Log) where
+  agree_happening : (p : ℕ) (h : Happening) → InHappening N (Under limit) h → HappensAt log p v.terms h → HappensAt log p w.terms h
   agree_happening p (rule_step r facts) b h =
-      let e : facts_at v.terms facts ≡ facts_at w.terms facts = facts_same v.terms w.terms facts (facts_weaken _ _ (λ x k. sym (a.terms x k)) facts b) in
+      let e : facts_at v.terms facts ≡ facts_at w.terms facts = facts_same N v.terms w.terms facts (facts_weaken N _ _ (λ x k. sym (a.terms x k)) facts b) in
       (h.0, subst (λ (f : Facts ⊥). AtPosition log p (step r f h.0)) e h.1)
 
-  pub agree_event : (e : Event) → InEvent (Under limit) (TimeUnder limit) e → HappensIn log v e → HappensIn log w e
+  pub agree_event : (e : Event) → InEvent N (Under limit) (TimeUnder limit) e → HappensIn log v e → HappensIn log w e
   agree_event e b h = subst (λ (p : ℕ). HappensAt log p w.terms e.happening) (sym (a.times e.time b.0)) (agree_happening (v.times e.time) e.happening b.1 h)
 
-  pub agree_formula : (f : Guarded) → InFormula (Under limit) (TimeUnder limit) f → FormulaHolds theory log v f → FormulaHolds theory log w f
+  pub agree_formula : (f : Guarded) → InFormula N (Under limit) (TimeUnder limit) f → FormulaHolds theory log v f → FormulaHolds theory log w f
   agree_formula f b h = (
-    subst (λ (X : Type 0). X) (agree_same (Under limit) (TimeUnder limit) (assignment v) (assignment w) a.terms a.times (λ k. refl) (λ k. refl) (signature_of theory) (log_trace log) f b) h.0,
-    subst (λ (X : Type 0). X) (agree_settled (Under limit) (TimeUnder limit) (assignment v) (assignment w) a.terms a.times (λ k. refl) (λ k. refl) (signature_of theory) (length log) f b) h.1,
+    subst (λ (X : Type 0). X) (agree_same N (Under limit) (TimeUnder limit) (assignment v) (assignment w) a.terms a.times (λ k. refl) (λ k. refl) (signature_of theory) (log_trace log) f b) h.0,
+    subst (λ (X : Type 0). X) (agree_settled N (Under limit) (TimeUnder limit) (assignment v) (assignment w) a.terms a.times (λ k. refl) (λ k. refl) (signature_of theory) (length log) f b) h.1,
   )
 
-  agree_term : (t : Term Variable) → EachVariable (Under limit) t → valued w.terms t ≡ valued v.terms t
-  agree_term t b = valued_same w.terms v.terms t (each_weaken _ _ a.terms t b)
+  agree_term : (t : Term Variable) → MadeOf N (Under limit) t → valued w.terms t ≡ valued v.terms t
+  agree_term t b = valued_same N w.terms v.terms t (each_weaken N _ _ a.terms t b)
 
-  pub agree_unequal : (p : Pair) → EachVariable (Under limit) p.0 × EachVariable (Under limit) p.1 → AreUnequal theory v p → AreUnequal theory w p
+  pub agree_unequal : (p : Pair) → MadeOf N (Under limit) p.0 × MadeOf N (Under limit) p.1 → AreUnequal theory v p → AreUnequal theory w p
   agree_unequal p b h = (
     (λ e. h.0 (sym (agree_term p.0 b.0) ∙ e ∙ agree_term p.1 b.1)),
     subst (IsNormal (signature_of theory).equations) (sym (agree_term p.0 b.0)) h.1,
@@ -79,17 +79,17 @@ module _ (limit : ℕ) (v w : Valuation) (a : Agrees limit v w) (theory : Theory
   )
 
 -- A solution stays one under values that agree below the next number, if they respect sorts and are normal.
-pub agree_solves : (theory : Theory) (log : Log) (s : System) (v w : Valuation) → IsNumbered s → Agrees s.next v w → ((x : Variable) → IsNormal (signature_of theory).equations (w.terms x)) → IsValuation (signature_of theory) w.terms
+pub agree_solves : {N : Names} → (theory : Theory) (log : Log) (s : System) (v w : Valuation) → IsNumbered N s → Agrees s.next v w → ((x : Variable) → IsNormal (signature_of theory).equations (w.terms x)) → IsValuation (signature_of theory) w.terms
     → Solves theory log v s → Solves theory log w s
-agree_solves theory log s v w n a normal sorts h = record {
+agree_solves {N} theory log s v w n a normal sorts h = record {
   sorts = sorts;
   normal = normal;
-  events = every_both _ _ _ (agree_event s.next v w a theory log) s.events n.events h.events;
-  formulas = every_both _ _ _ (agree_formula s.next v w a theory log) s.formulas n.formulas h.formulas;
-  spent = every_both _ _ _ (agree_formula s.next v w a theory log) s.spent n.spent h.spent;
-  unequal = every_both _ _ _ (agree_unequal s.next v w a theory log) s.unequal n.unequal h.unequal;
-  links = every_both _ _ _ (agree_link s.next v w a theory log) s.links n.links h.links;
-  order = every_both _ _ _ (agree_order s.next v w a theory log) s.order n.order h.order;
+  events = every_both _ _ _ (agree_event N s.next v w a theory log) s.events n.events h.events;
+  formulas = every_both _ _ _ (agree_formula N s.next v w a theory log) s.formulas n.formulas h.formulas;
+  spent = every_both _ _ _ (agree_formula N s.next v w a theory log) s.spent n.spent h.spent;
+  unequal = every_both _ _ _ (agree_unequal N s.next v w a theory log) s.unequal n.unequal h.unequal;
+  links = every_both _ _ _ (agree_link N s.next v w a theory log) s.links n.links h.links;
+  order = every_both _ _ _ (agree_order N s.next v w a theory log) s.order n.order h.order;
 }
 
 -- what holds of some links and of others holds where equal ones are one
@@ -102,7 +102,7 @@ every_link P kept (l ∷ ls) k h = every_link P (if has_link kept l then kept el
     at false = every_append P kept (l ∷ []) k (h.0, tt)
 
 -- replacing that the values fix
-module _ (theory : Theory) (log : Log) (v : Valuation) (bs : List Binding) (fixes : Fixes v.terms bs) (times : ℕ → ℕ) (same_times : (i : ℕ) → v.times (times i) ≡ v.times i) where
+module _ (N : Names) (theory : Theory) (log : Log) (v : Valuation) (bs : List Binding) (fixes : Fixes v.terms bs) (times : ℕ → ℕ) (same_times : (i : ℕ) → v.times (times i) ≡ v.times i) where
   change_happening : (p : ℕ) (h : Happening) → HappensAt log p v.terms h → HappensAt log p v.terms (happening_changed (bound_to bs) h)
   change_happening p (rule_step r facts) h = (h.0, subst (λ (f : Facts ⊥). AtPosition log p (step r f h.0)) (sym (fixed_facts v.terms bs fixes facts)) h.1)
 
@@ -112,10 +112,10 @@ module _ (theory : Theory) (log : Log) (v : Valuation) (bs : List Binding) (fixe
   reads_itself : (A : Variable → Type 0) (B : ℕ → Type 0) → Reads A B (free_change (bound_to bs) times) (assignment v) (assignment v)
   reads_itself A B = record { variables = λ x k. fixes x; moments = λ i k. sym (same_times i); terms = λ k. refl; times = λ k. refl }
 
-  pub change_formula : (A : Variable → Type 0) (B : ℕ → Type 0) (f : Guarded) → InFormula A B f → FormulaHolds theory log v f → FormulaHolds theory log v (changed (free_change (bound_to bs) times) f)
+  pub change_formula : (A : Variable → Type 0) (B : ℕ → Type 0) (f : Guarded) → InFormula N A B f → FormulaHolds theory log v f → FormulaHolds theory log v (changed (free_change (bound_to bs) times) f)
   change_formula A B f b h = (
-    subst (λ (X : Type 0). X) (sym (changed_same A B (signature_of theory) (log_trace log) (free_change (bound_to bs) times) (assignment v) (assignment v) (reads_itself A B) f b)) h.0,
-    subst (λ (X : Type 0). X) (sym (settled_same A B (signature_of theory) (length log) (free_change (bound_to bs) times) (assignment v) (assignment v) (reads_itself A B) f b)) h.1,
+    subst (λ (X : Type 0). X) (sym (changed_same N A B (signature_of theory) (log_trace log) (free_change (bound_to bs) times) (assignment v) (assignment v) (reads_itself A B) f b)) h.0,
+    subst (λ (X : Type 0). X) (sym (settled_same N A B (signature_of theory) (length log) (free_change (bound_to bs) times) (assignment v) (assignment v) (reads_itself A B) f b)) h.1,
   )
 
   pub change_unequal : (p : Pair) → AreUnequal theory v p → AreUnequal theory v (pair_changed (bound_to bs) p)
@@ -142,13 +142,13 @@ module _ (theory : Theory) (log : Log) (v : Valuation) (bs : List Binding) (fixe
     subst (λ (q : ℕ). AtPlace h.2 l.premise (conclusion q l.conclusion)) (sym (same_times l.from)) h.4,
   )
 
-  change_formulas : (A : Variable → Type 0) (B : ℕ → Type 0) (fs : List Guarded) → Every (InFormula A B) fs → Every (FormulaHolds theory log v) fs
+  change_formulas : (A : Variable → Type 0) (B : ℕ → Type 0) (fs : List Guarded) → Every (InFormula N A B) fs → Every (FormulaHolds theory log v) fs
       → Every (FormulaHolds theory log v) (map (changed (free_change (bound_to bs) times)) fs)
   change_formulas A B [] n h = tt
   change_formulas A B (f ∷ fs) n h = (change_formula A B f n.0 h.0, change_formulas A B fs n.1 h.1)
 
   -- The system after the replacing has the same solution.
-  pub change_solves : (s : System) → IsNumbered s → Solves theory log v s → Solves theory log v (system_changed (bound_to bs) times s)
+  pub change_solves : (s : System) → IsNumbered N s → Solves theory log v s → Solves theory log v (system_changed (bound_to bs) times s)
   change_solves s n h = record {
     sorts = h.sorts;
     normal = h.normal;
@@ -161,26 +161,26 @@ module _ (theory : Theory) (log : Log) (v : Valuation) (bs : List Binding) (fixe
   }
 
 -- and its numbers stay below the next one
-module _ (n : ℕ) (bs : List Binding) (within : (x : Variable) → Under n x → EachVariable (Under n) (bound_to bs x)) (times : ℕ → ℕ) (times_within : (i : ℕ) → TimeUnder n i → TimeUnder n (times i)) where
-  puts_in : PutsIn (Under n) (Under n) (TimeUnder n) (TimeUnder n) (free_change (bound_to bs) times)
+module _ (N : Names) (n : ℕ) (bs : List Binding) (within : (x : Variable) → Under n x → MadeOf N (Under n) (bound_to bs x)) (times : ℕ → ℕ) (times_within : (i : ℕ) → TimeUnder n i → TimeUnder n (times i)) where
+  puts_in : PutsIn N (Under n) (Under n) (TimeUnder n) (TimeUnder n) (free_change (bound_to bs) times)
   puts_in = record { terms = within; times = times_within; bound_terms = λ k. tt; bound_times = λ k. tt }
 
-  happening_numbered : (h : Happening) → InHappening (Under n) h → InHappening (Under n) (happening_changed (bound_to bs) h)
-  happening_numbered (rule_step r facts) b = facts_valued (Under n) (Under n) (bound_to bs) within facts b
+  happening_numbered : (h : Happening) → InHappening N (Under n) h → InHappening N (Under n) (happening_changed (bound_to bs) h)
+  happening_numbered (rule_step r facts) b = facts_valued N (Under n) (Under n) (bound_to bs) within facts b
 
-  pub change_numbered : (s : System) → s.next ≡ n → IsNumbered s → IsNumbered (system_changed (bound_to bs) times s)
+  pub change_numbered : (s : System) → s.next ≡ n → IsNumbered N s → IsNumbered N (system_changed (bound_to bs) times s)
   change_numbered s e k =
-      let P : ℕ → Type 0 = λ m. Every (InEvent (Under m) (TimeUnder m)) s.events in
+      let P : ℕ → Type 0 = λ m. Every (InEvent N (Under m) (TimeUnder m)) s.events in
       record {
-        events = subst (λ (m : ℕ). Every (InEvent (Under m) (TimeUnder m)) (map (event_changed (bound_to bs) times) s.events)) (sym e)
+        events = subst (λ (m : ℕ). Every (InEvent N (Under m) (TimeUnder m)) (map (event_changed (bound_to bs) times) s.events)) (sym e)
             (every_map _ _ (event_changed (bound_to bs) times) (λ d b. (times_within d.time b.0, happening_numbered d.happening b.1)) s.events (subst P e k.events));
-        formulas = subst (λ (m : ℕ). Every (InFormula (Under m) (TimeUnder m)) (map (changed (free_change (bound_to bs) times)) s.formulas)) (sym e)
-            (every_map _ _ (changed (free_change (bound_to bs) times)) (λ f b. changed_in _ _ _ _ _ puts_in f b) s.formulas (subst (λ (m : ℕ). Every (InFormula (Under m) (TimeUnder m)) s.formulas) e k.formulas));
-        spent = subst (λ (m : ℕ). Every (InFormula (Under m) (TimeUnder m)) (map (changed (free_change (bound_to bs) times)) s.spent)) (sym e)
-            (every_map _ _ (changed (free_change (bound_to bs) times)) (λ f b. changed_in _ _ _ _ _ puts_in f b) s.spent (subst (λ (m : ℕ). Every (InFormula (Under m) (TimeUnder m)) s.spent) e k.spent));
-        unequal = subst (λ (m : ℕ). Every (λ (p : Pair). EachVariable (Under m) p.0 × EachVariable (Under m) p.1) (map (pair_changed (bound_to bs)) s.unequal)) (sym e)
-            (every_map _ _ (pair_changed (bound_to bs)) (λ p b. (each_valued _ _ (bound_to bs) within p.0 b.0, each_valued _ _ (bound_to bs) within p.1 b.1)) s.unequal
-            (subst (λ (m : ℕ). Every (λ (p : Pair). EachVariable (Under m) p.0 × EachVariable (Under m) p.1) s.unequal) e k.unequal));
+        formulas = subst (λ (m : ℕ). Every (InFormula N (Under m) (TimeUnder m)) (map (changed (free_change (bound_to bs) times)) s.formulas)) (sym e)
+            (every_map _ _ (changed (free_change (bound_to bs) times)) (λ f b. changed_in N _ _ _ _ _ puts_in f b) s.formulas (subst (λ (m : ℕ). Every (InFormula N (Under m) (TimeUnder m)) s.formulas) e k.formulas));
+        spent = subst (λ (m : ℕ). Every (InFormula N (Under m) (TimeUnder m)) (map (changed (free_change (bound_to bs) times)) s.spent)) (sym e)
+            (every_map _ _ (changed (free_change (bound_to bs) times)) (λ f b. changed_in N _ _ _ _ _ puts_in f b) s.spent (subst (λ (m : ℕ). Every (InFormula N (Under m) (TimeUnder m)) s.spent) e k.spent));
+        unequal = subst (λ (m : ℕ). Every (λ (p : Pair). MadeOf N (Under m) p.0 × MadeOf N (Under m) p.1) (map (pair_changed (bound_to bs)) s.unequal)) (sym e)
+            (every_map _ _ (pair_changed (bound_to bs)) (λ p b. (each_valued N _ _ (bound_to bs) within p.0 b.0, each_valued N _ _ (bound_to bs) within p.1 b.1)) s.unequal
+            (subst (λ (m : ℕ). Every (λ (p : Pair). MadeOf N (Under m) p.0 × MadeOf N (Under m) p.1) s.unequal) e k.unequal));
         links = subst (λ (m : ℕ). Every (λ (l : Link). (l.from < m) × (l.to < m)) (joined_links [] (map (link_changed times) s.links))) (sym e)
             (every_link _ [] (map (link_changed times) s.links) tt (every_map _ _ (link_changed times) (λ l b. (times_within l.from b.0, times_within l.to b.1)) s.links
             (subst (λ (m : ℕ). Every (λ (l : Link). (l.from < m) × (l.to < m)) s.links) e k.links)));

@@ -1,6 +1,6 @@
 -- Values of terms: composition, and what holds of each variable.
 use Rattle.std.proofs.Common.{◌≡◌, refl, ap}
-use Rattle.sp_spec.specs.Term.{Term, var, constant, name, app, Terms, none, more, valued, valued_all, EachVariable, EachVariables}
+use Rattle.sp_spec.specs.Term.{Term, var, constant, name, app, Terms, none, more, valued, valued_all}
 
 module _ {U V W : Type 0} (v : V → Term W) (θ : U → Term V) where
   mutual
@@ -27,28 +27,3 @@ module _ {V : Type 0} where
     pub valued_var_all : (ts : Terms V) → valued_all var ts ≡ ts
     valued_var_all none = refl
     valued_var_all (more t ts) = cc (valued_var t, valued_var_all ts)
-
-module _ {V : Type 0} (P Q : V → Type 0) (implies : (x : V) → P x → Q x) where
-  mutual
-    pub EachVariable_map : (t : Term V) → EachVariable P t → EachVariable Q t
-    EachVariable_map (var x) h = implies x h
-    EachVariable_map (constant c) h = tt
-    EachVariable_map (name n) h = tt
-    EachVariable_map (app f ts) h = EachVariable_map_all ts h
-
-    pub EachVariable_map_all : (ts : Terms V) → EachVariables P ts → EachVariables Q ts
-    EachVariable_map_all none h = tt
-    EachVariable_map_all (more t ts) h = (EachVariable_map t h.0, EachVariable_map_all ts h.1)
-
--- the variables of a substituted term are those of what its variables stand for
-module _ {V W : Type 0} (P : V → Type 0) (Q : W → Type 0) (θ : V → Term W) (each : (x : V) → P x → EachVariable Q (θ x)) where
-  mutual
-    pub EachVariable_valued : (t : Term V) → EachVariable P t → EachVariable Q (valued θ t)
-    EachVariable_valued (var x) h = each x h
-    EachVariable_valued (constant c) h = tt
-    EachVariable_valued (name n) h = tt
-    EachVariable_valued (app f ts) h = EachVariable_valued_all ts h
-
-    pub EachVariable_valued_all : (ts : Terms V) → EachVariables P ts → EachVariables Q (valued_all θ ts)
-    EachVariable_valued_all none h = tt
-    EachVariable_valued_all (more t ts) h = (EachVariable_valued t h.0, EachVariable_valued_all ts h.1)

@@ -1,12 +1,12 @@
 -- A change that puts each thing in its own place changes no formula; and so a formula is as true under values that agree on what
 -- stands in it.
 use Rattle.std.proofs.Common.{◌≡◌, ℕ, zero, suc, List, [], ◌∷◌, map, refl, sym, ap, ap₂, ◌∙◌}
-use Rattle.sp_spec.specs.Term.{Variable, Term, var, Terms, valued}
+use Rattle.sp_spec.specs.Term.{Names, Variable, Term, var, Terms, valued}
 use Rattle.sp_spec.specs.Signature.{Signature}
 use Rattle.sp_spec.specs.Rule.{Action, action_at}
 use Rattle.sp_spec.specs.Execution.{Trace}
 use Rattle.sp_spec.specs.Guarded.{Place, free, bound, Time, free_time, bound_time, Binder, message, time, Atom, acts, same, same_time, before, last, Guarded, truth, falsity, holds, fails, all_of, one_of, some, every, Guardeds, no_more, and_then, Assignment, pushed, GuardedHolds}
-use Rattle.sp_formula.specs.Change.{Change, placed, place_changed, time_changed, raised, raised_time, under_message, under_time, under, atom_changed, changed, changed_each, free_change}
+use Rattle.sp_spec.specs.Change.{Change, placed, place_changed, time_changed, raised, raised_time, under_message, under_time, under, atom_changed, changed, changed_each, free_change}
 use Rattle.sp_spec_system.specs.Numbered.{InFormula}
 use Rattle.sp_spec_system.specs.Solutions.{Settled}
 use Rattle.sp_law_system.proofs.Facts.{valued_equal, valued_all_equal}
@@ -88,14 +88,14 @@ unfolding no_change
 no_change_keeps = record { terms = λ x. refl; times = λ i. refl; bound_terms = λ k. refl; bound_times = λ k. refl }
 
 -- two assignments that agree on these variables and times, and on what is bound
-module _ (A : Variable → Type 0) (B : ℕ → Type 0) (m r : Assignment) (variables : (x : Variable) → A x → r.terms x ≡ m.terms x) (moments : (i : ℕ) → B i → r.times i ≡ m.times i)
+module _ (N : Names) (A : Variable → Type 0) (B : ℕ → Type 0) (m r : Assignment) (variables : (x : Variable) → A x → r.terms x ≡ m.terms x) (moments : (i : ℕ) → B i → r.times i ≡ m.times i)
     (terms : (k : ℕ) → r.bound_terms k ≡ m.bound_terms k) (times : (k : ℕ) → r.bound_times k ≡ m.bound_times k) where
   agreeing : Reads A B no_change m r
   unfolding no_change
   agreeing = record { variables = variables; moments = moments; terms = terms; times = times }
 
-  pub agree_same : (signature : Signature) (trace : Trace) (f : Guarded) → InFormula A B f → GuardedHolds signature trace m f ≡ GuardedHolds signature trace r f
-  agree_same signature trace f e = ap (GuardedHolds signature trace m) (sym (kept no_change no_change_keeps f)) ∙ changed_same A B signature trace no_change m r agreeing f e
+  pub agree_same : (signature : Signature) (trace : Trace) (f : Guarded) → InFormula N A B f → GuardedHolds signature trace m f ≡ GuardedHolds signature trace r f
+  agree_same signature trace f e = ap (GuardedHolds signature trace m) (sym (kept no_change no_change_keeps f)) ∙ changed_same N A B signature trace no_change m r agreeing f e
 
-  pub agree_settled : (signature : Signature) (n : ℕ) (f : Guarded) → InFormula A B f → Settled signature n m f ≡ Settled signature n r f
-  agree_settled signature n f e = ap (Settled signature n m) (sym (kept no_change no_change_keeps f)) ∙ settled_same A B signature n no_change m r agreeing f e
+  pub agree_settled : (signature : Signature) (n : ℕ) (f : Guarded) → InFormula N A B f → Settled signature n m f ≡ Settled signature n r f
+  agree_settled signature n f e = ap (Settled signature n m) (sym (kept no_change no_change_keeps f)) ∙ settled_same N A B signature n no_change m r agreeing f e

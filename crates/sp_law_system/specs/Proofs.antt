@@ -5,21 +5,23 @@ use Rattle.sp_spec.specs.Log.{Log, IsLog, Entry}
 use Rattle.sp_spec_system.specs.System.{System}
 use Rattle.sp_spec_system.specs.Solutions.{Valuation, Solves}
 use Rattle.sp_spec_system.specs.Move.{Context, Case}
-use Rattle.sp_spec_system.specs.Numbered.{IsNumbered}
+use Rattle.sp_spec_system.specs.Numbered.{names_in, IsNumbered}
 use Rattle.sp_spec.specs.Lists.{Every}
+use Rattle.sp_law_system.specs.Rules.{RulesAreNumbered}
 use Rattle.sp_spec_system.specs.Rules.{rules_of}
 
 -- no log of the theory solves the system
 abbrev pub HasNoSolution : Theory → System → Type 0
 HasNoSolution theory s = (log : Log) → IsLog theory log → (v : Valuation) → Solves theory log v s → ⊥
 
--- The context is one of the theory.
+-- The context is one of the theory, and has the public names that stand in its rules.
 pub record IsContextOf (theory : Theory) (context : Context) : Type 0 where
   pub rules : context.rules ≡ rules_of theory
+  pub numbered : RulesAreNumbered (names_in context.public_names) theory.rules
 
 -- What each system of a proof in the context fulfils.
 pub record IsWellMade (context : Context) (s : System) : Type 0 where
-  pub numbered : IsNumbered s
+  pub numbered : IsNumbered (names_in context.public_names) s
 
 -- the second system of two fulfils it, and takes no numbers back
 pub record IsKept (context : Context) (s t : System) : Type 0 where

@@ -1,21 +1,20 @@
 -- What covering asks of a theory and of its rules.
 use Rattle.std.specs.Prelude.{◌<◌, List, length, ◌≡◌, ◌⊎◌, [], ◌∷◌, false, true}
 use Rattle.sp_spec.specs.Lists.{Every, Member}
-use Rattle.sp_spec.specs.Rule.{Rule, InFacts, Fact, Action, Facts, facts_at}
-use Rattle.sp_spec.specs.Term.{Variable, Values, Term, var, constant, name, app, Terms, none, more, Fresh, Pub}
+use Rattle.sp_spec.specs.Rule.{Rule, FactsMadeOf, Fact, Action, Facts, facts_at}
+use Rattle.sp_spec.specs.Term.{Names, public_name, fresh_name, AllMadeOf, Variable, Values, Term, var, constant, name, app, Terms, none, more, Fresh, Pub}
 use Rattle.sp_spec.specs.Signature.{Equation, AreOver, IsValuation}
 use Rattle.sp_law_equal.specs.Convergent.{ArePlain, AreConvergent, KeepSymbols}
 use Rattle.sp_spec.specs.Theory.{Theory, signature_of}
-use Rattle.sp_spec.specs.Log.{is_fr}
-use Rattle.sp_spec_system.specs.System.{is_in}
+use Rattle.sp_spec.specs.Log.{is_fr, is_in}
 use Rattle.sp_spec_system.specs.Rules.{RuleForms}
 
--- a rule's variables have the numbers below the length of their list
-abbrev pub RulesAreNumbered : List Rule → Type 0
-RulesAreNumbered rules = Every (λ (r : Rule). InFacts (λ x. x.number < length r.variables) r.facts) rules
+-- a rule's variables have the numbers below the length of their list, and its names are such ones
+abbrev pub RulesAreNumbered : Names → List Rule → Type 0
+RulesAreNumbered N rules = Every (λ (r : Rule). FactsMadeOf N (λ x. x.number < length r.variables) r.facts) rules
 
-abbrev pub FormsAreNumbered : List RuleForms → Type 0
-FormsAreNumbered rules = Every (λ (rule : RuleForms). RulesAreNumbered rule.forms) rules
+abbrev pub FormsAreNumbered : Names → List RuleForms → Type 0
+FormsAreNumbered N rules = Every (λ (rule : RuleForms). RulesAreNumbered N rule.forms) rules
 
 -- no destructor stands in a rule, so that the facts of a rule under normal values are normal
 pub record FactsArePlain (es : List Equation) (facts : Facts Variable) : Type 0 where
@@ -32,7 +31,7 @@ ActionsAreOver theory =
     (r : Rule) → Member r theory.rules → (v : Values) → IsValuation (signature_of theory) v
     → Every (λ (a : Action ⊥). AreOver (signature_of theory).symbols a.args) (facts_at v r.facts).actions
 
--- No premise of a rule is an In, in no conclusion stands a name, and each variable of a conclusion that isn't of sort pub stands in a
+-- No premise of a rule is an In, in no conclusion stands a fresh name, and each variable of a conclusion that isn't of sort pub stands in a
 -- premise: so what is in a conclusion was in a premise, and no message comes from the adversary. The argument of an Fr is a variable of
 -- sort fresh.
 abbrev mutual
@@ -50,30 +49,21 @@ abbrev pub HasVariable : Variable → List (Fact Variable) → Type 0
 HasVariable x [] = ⊥
 HasVariable x (f ∷ fs) = StandsAmong x f.args ⊎ HasVariable x fs
 
--- each variable fulfils this, and no name stands there
-abbrev mutual
-  pub IsNameless : (Variable → Type 0) → Term Variable → Type 0
-  IsNameless P (var x) = P x
-  IsNameless P (constant c) = Unit {0}
-  IsNameless P (name n) = ⊥
-  IsNameless P (app f ts) = AreNameless P ts
-
-  pub AreNameless : (Variable → Type 0) → Terms Variable → Type 0
-  AreNameless P none = Unit {0}
-  AreNameless P (more t ts) = IsNameless P t × AreNameless P ts
+-- any public name, and no fresh one
+abbrev pub no_fresh_names : Names
+no_fresh_names (public_name c) = Unit {0}
+no_fresh_names (fresh_name n) = ⊥
 
 pub record IsClosedRule (r : Rule) : Type 0 where
   pub inputs : Every (λ (f : Fact Variable). is_in f ≡ false) r.facts.premises
   pub fresh : Every (λ (f : Fact Variable). is_fr f ≡ true → (x : Variable) × (x.sort ≡ Fresh) × (f.args ≡ more (var x) none)) r.facts.premises
-  pub bound : Every (λ (f : Fact Variable). AreNameless (λ x. (x.sort ≡ Pub → ⊥) → HasVariable x r.facts.premises) f.args) r.facts.conclusions
+  pub bound : Every (λ (f : Fact Variable). AllMadeOf no_fresh_names (λ x. (x.sort ≡ Pub → ⊥) → HasVariable x r.facts.premises) f.args) r.facts.conclusions
 
--- What is asked of a theory: its equations may be read from left to right and bring in no new symbols, its rules' variables are
--- numbered, no destructor stands in a rule, no message of a rule comes from elsewhere, and the actions of its rules are over the
--- signature.
+-- What is asked of a theory: its equations may be read from left to right and bring in no new symbols, no destructor stands in a rule, no
+-- message of a rule comes from elsewhere, and the actions of its rules are over the signature.
 pub record IsPlainTheory (theory : Theory) : Type 0 where
   pub convergent : AreConvergent (signature_of theory).equations
   pub keeps : KeepSymbols (signature_of theory).symbols (signature_of theory).equations
-  pub numbered : RulesAreNumbered theory.rules
   pub plain : RulesArePlain (signature_of theory).equations theory.rules
   pub closed : Every IsClosedRule theory.rules
   pub over : ActionsAreOver theory

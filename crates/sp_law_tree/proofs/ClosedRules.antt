@@ -4,14 +4,14 @@ use Rattle.std.proofs.Common.{◌≡◌, ◌⊎◌, ℕ, Bool, true, false, not,
 use Rattle.std.proofs.lemmas.Bool.{or_cases, or_left, or_right, or_parts}
 use Rattle.std.proofs.lemmas.Slice.Eq.{bytes_eq-Decides}
 use Rattle.sp_spec.specs.Lists.{Every}
-use Rattle.sp_spec.specs.Term.{Sort, Msg, Fresh, Pub, Variable, Term, var, constant, name, app, Terms, none, more, valued, valued_all, EachVariable, EachVariables}
+use Rattle.sp_spec.specs.Term.{MadeOf, AllMadeOf, Sort, Msg, Fresh, Pub, Variable, Term, var, constant, name, app, Terms, none, more, valued, valued_all, EachVariable, EachVariables}
 use Rattle.sp_spec.specs.Rule.{Fact, Facts, fact_at}
 use Rattle.sp_spec.specs.Formula.{Written}
 use Rattle.sp_spec.specs.Written.{WrittenRule, in_term, in_terms, in_facts, in_actions, occurrences, rule_names, place_of, numbered_in, sort_in, rule_of}
 use Rattle.sp_spec.specs.Findings.{has_wide_fact, has_wide_action, has_two_sorts, has_wrong_premise, has_fr, has_wrong_argument, is_pub, is_named, has_unbound, rule_is_wrong}
 use Rattle.sp_spec.proofs.Lists.{every_map, every_weaken}
-use Rattle.sp_spec_system.specs.System.{is_in}
-use Rattle.sp_law_system.specs.Rules.{StandsIn, StandsAmong, HasVariable, IsNameless, AreNameless, IsClosedRule}
+use Rattle.sp_spec.specs.Log.{is_in}
+use Rattle.sp_law_system.specs.Rules.{StandsIn, StandsAmong, HasVariable, no_fresh_names, IsClosedRule}
 use Rattle.sp_law_tree.specs.PlainTheory.{IsAtomic, AreAtomic, IsPlainFact, IsPlainRule}
 use Rattle.sp_spec.proofs.Occurrences.{facts_each}
 use Rattle.sp_law_tree.proofs.FreshRules.{fresh_premises}
@@ -83,23 +83,23 @@ bound_each facts (x ∷ xs) e =
 
 module _ (facts : Facts Written) where
   atomic_bound : (t : Term Written) → IsAtomic t → EachVariable (λ (x : Written). IsBound facts (variable_of facts x.name)) t
-      → IsNameless (IsBound facts) (valued (numbered_in facts) t)
+      → MadeOf no_fresh_names (IsBound facts) (valued (numbered_in facts) t)
   atomic_bound (var x) a h = h
   atomic_bound (constant c) a h = tt
   atomic_bound (name n) a h = absurd a
   atomic_bound (app f ts) a h = absurd a
 
   atomics_bound : (ts : Terms Written) → AreAtomic ts → EachVariables (λ (x : Written). IsBound facts (variable_of facts x.name)) ts
-      → AreNameless (IsBound facts) (valued_all (numbered_in facts) ts)
+      → AllMadeOf no_fresh_names (IsBound facts) (valued_all (numbered_in facts) ts)
   atomics_bound none a h = tt
   atomics_bound (more t ts) a h = (atomic_bound t a.0 h.0, atomics_bound ts a.1 h.1)
 
   conclusions_bound : (fs : List (Fact Written)) → Every IsPlainFact fs → has_unbound facts (in_facts fs) ≡ false
-      → Every (λ (f : Fact Variable). AreNameless (IsBound facts) f.args) (map (fact_at (numbered_in facts)) fs)
+      → Every (λ (f : Fact Variable). AllMadeOf no_fresh_names (IsBound facts) f.args) (map (fact_at (numbered_in facts)) fs)
   conclusions_bound fs p e = go fs p (facts_each (λ (x : Written). IsBound facts (variable_of facts x.name)) fs (bound_each facts (in_facts fs) e))
     where
       go : (fs : List (Fact Written)) → Every IsPlainFact fs → Every (λ (f : Fact Written). EachVariables (λ (x : Written). IsBound facts (variable_of facts x.name)) f.args) fs
-          → Every (λ (f : Fact Variable). AreNameless (IsBound facts) f.args) (map (fact_at (numbered_in facts)) fs)
+          → Every (λ (f : Fact Variable). AllMadeOf no_fresh_names (IsBound facts) f.args) (map (fact_at (numbered_in facts)) fs)
       go [] p h = tt
       go (f ∷ fs) p h = (atomics_bound f.args p.0.0 h.0, go fs p.1 h.1)
 

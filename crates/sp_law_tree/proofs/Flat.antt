@@ -1,12 +1,13 @@
 -- Flat atoms: variables that are bound, and constants. So they are settled, closed, and at times that are bound.
 use Rattle.std.proofs.Common.{◌<◌, ℕ, zero, suc, List, [], ◌∷◌, arith}
 use Rattle.sp_spec.specs.Lists.{Every}
-use Rattle.sp_spec.specs.Term.{Variable, Term, var, constant, name, app, Terms, none, more, Ground, valued_all, EachVariable, EachVariables}
+use Rattle.sp_spec.specs.Term.{Names, Variable, Term, var, constant, name, app, Terms, none, more, Ground, valued_all, MadeOf, AllMadeOf}
 use Rattle.sp_spec.specs.Signature.{Equation, Signature}
 use Rattle.sp_spec.specs.Equal.{IsNormal, AreNormal}
 use Rattle.sp_spec.specs.Guarded.{Place, free, bound, Time, free_time, bound_time, Binder, message, time, Atom, acts, same, same_time, before, last, Assignment, with_term, with_time, pushed, place_in, term_in, time_in}
 use Rattle.sp_law_truth.specs.Shown.{times_within, IsBound, IsTimedAtom, AreTimedAtoms}
 use Rattle.sp_spec_system.specs.Numbered.{AtFree, AtFreeTime, InAtom}
+use Rattle.sp_law_tree.proofs.Named.{NamedTerm, NamedTerms, NamedAtom}
 use Rattle.sp_spec_system.specs.Solutions.{EachNormal, AtomSettled}
 
 abbrev pub FlatTerm : Term Place → Type 0
@@ -48,30 +49,30 @@ pub flat_all_timed : (n : ℕ) (atoms : List Atom) → Every (FlatAtom n) atoms 
 flat_all_timed n [] h = tt
 flat_all_timed n (a ∷ atoms) h = (flat_timed n a h.0, flat_all_timed n atoms h.1)
 
-module _ (P : Variable → Type 0) (Q : ℕ → Type 0) where
-  flat_in : (t : Term Place) → FlatTerm t → EachVariable (AtFree P) t
-  flat_in (var (bound k)) h = tt
-  flat_in (var (free x)) h = absurd h
-  flat_in (constant c) h = tt
-  flat_in (name n) h = absurd h
-  flat_in (app f ts) h = absurd h
+module _ (N : Names) (P : Variable → Type 0) (Q : ℕ → Type 0) where
+  flat_in : (t : Term Place) → FlatTerm t → NamedTerm N t → MadeOf N (AtFree P) t
+  flat_in (var (bound k)) h e = tt
+  flat_in (var (free x)) h e = absurd h
+  flat_in (constant c) h e = e
+  flat_in (name n) h e = absurd h
+  flat_in (app f ts) h e = absurd h
 
-  flat_all_in : (ts : Terms Place) → FlatTerms ts → EachVariables (AtFree P) ts
-  flat_all_in none h = tt
-  flat_all_in (more t ts) h = (flat_in t h.0, flat_all_in ts h.1)
+  flat_all_in : (ts : Terms Place) → FlatTerms ts → NamedTerms N ts → AllMadeOf N (AtFree P) ts
+  flat_all_in none h e = tt
+  flat_all_in (more t ts) h e = (flat_in t h.0 e.0, flat_all_in ts h.1 e.1)
 
   flat_time_in : (n : ℕ) (i : Time) → FlatTime n i → AtFreeTime Q i
   flat_time_in n (bound_time k) h = tt
   flat_time_in n (free_time i) h = absurd h
 
-  pub flat_atom_in : (n : ℕ) (a : Atom) → FlatAtom n a → InAtom P Q a
-  flat_atom_in n (acts a i) h = (flat_all_in a.args h.0, flat_time_in n i h.1)
-  flat_atom_in n (same t u) h = (flat_in t h.0, flat_in u h.1)
-  flat_atom_in n (same_time i j) h = (flat_time_in n i h.0, flat_time_in n j h.1)
-  flat_atom_in n (before i j) h = (flat_time_in n i h.0, flat_time_in n j h.1)
-  flat_atom_in n (last i) h = absurd h
+  pub flat_atom_in : (n : ℕ) (a : Atom) → FlatAtom n a × NamedAtom N n a → InAtom N P Q a
+  flat_atom_in n (acts a i) h = (flat_all_in a.args h.0.0 h.1, flat_time_in n i h.0.1)
+  flat_atom_in n (same t u) h = (flat_in t h.0.0 h.1.0, flat_in u h.0.1 h.1.1)
+  flat_atom_in n (same_time i j) h = (flat_time_in n i h.0.0, flat_time_in n j h.0.1)
+  flat_atom_in n (before i j) h = (flat_time_in n i h.0.0, flat_time_in n j h.0.1)
+  flat_atom_in n (last i) h = absurd h.0
 
-  pub each_in : (n : ℕ) (atoms : List Atom) → Every (FlatAtom n) atoms → Every (InAtom P Q) atoms
+  pub each_in : (n : ℕ) (atoms : List Atom) → Every (λ (a : Atom). FlatAtom n a × NamedAtom N n a) atoms → Every (InAtom N P Q) atoms
   each_in n [] h = tt
   each_in n (a ∷ atoms) h = (flat_atom_in n a h.0, each_in n atoms h.1)
 

@@ -3,7 +3,7 @@
 use Rattle.std.proofs.Common.{◌≡◌, ◌<◌, ℕ, zero, Bool, true, false, List, [], ◌∷◌, length, codes, refl, inl, inr, arith, sym, bytes_eq}
 use Rattle.std.proofs.lemmas.Slice.Eq.{bytes_eq-Decides}
 use Rattle.sp_spec.specs.Lists.{Member, Every}
-use Rattle.sp_spec.specs.Term.{Variable}
+use Rattle.sp_spec.specs.Term.{Names, Variable}
 use Rattle.sp_spec.specs.Signature.{Signature}
 use Rattle.sp_spec.specs.Theory.{Theory, signature_of}
 use Rattle.sp_spec.specs.Guarded.{Atom, Guarded, Guardeds, truth, falsity, holds, fails, all_of, one_of, some, every, no_more, and_then, Assignment, GuardedHolds}
@@ -11,7 +11,7 @@ use Rattle.sp_spec.specs.Log.{Log, log_trace}
 use Rattle.sp_law_truth.specs.Shown.{times_within, action_names, IsTimed}
 use Rattle.sp_law_guard.specs.GuardedForm.{negate}
 use Rattle.sp_law_guard.specs.IsGuarded.{is_guarded}
-use Rattle.sp_law_guard.proofs.Throughout.{Throughout, ThroughoutEach, negate_throughout, throughout_weaken}
+use Rattle.sp_law_guard.proofs.Throughout.{Throughout, ThroughoutEach, negate_throughout, throughout_weaken, throughout_both}
 use Rattle.sp_law_guard.proofs.Timed.{timed}
 use Rattle.sp_law_guard.proofs.Named.{OfNames, named}
 use Rattle.sp_law_guard.proofs.Negated.{negate_guarded}
@@ -19,6 +19,7 @@ use Rattle.sp_law_erase.specs.Adversary.{adversary_names}
 use Rattle.sp_spec_system.specs.Solutions.{assignment, AtomSettled, Settled, EachSettled, Solves}
 use Rattle.sp_spec_system.specs.Numbered.{InFormula, InEach, IsNumbered}
 use Rattle.sp_spec_proof.specs.Root.{root}
+use Rattle.sp_law_tree.proofs.Named.{NamedAtom}
 use Rattle.sp_law_tree.proofs.Flat.{FlatAtom, flat_timed, flat_atom_in, each_in, Bounded, flat_settled, each_bounded}
 use Rattle.sp_law_tree.proofs.Starts.{start, start_sorts, start_normal}
 use Rattle.sp_law_tree.proofs.Shown.{NamesNoSend}
@@ -58,20 +59,24 @@ each_not_send (x ∷ names) e = not_named x names (λ k. e.0 (inr (inr (inl (sym
 pub right_not_send : (h : Guarded) → IsRight h → NamesNoSend (action_names h)
 right_not_send h r = each_not_send (action_names h) (named NotAdversary zero h (throughout_weaken RightAtom (OfNames NotAdversary) (λ n a p. p.1) zero h r.each))
 
+-- flat, with such names
+abbrev pub FlatNamed : Names → ℕ → Atom → Type 0
+FlatNamed N n a = FlatAtom n a × NamedAtom N n a
+
 -- nothing free stands in them
-module _ (P : Variable → Type 0) (Q : ℕ → Type 0) where
+module _ (N : Names) (P : Variable → Type 0) (Q : ℕ → Type 0) where
   mutual
-    flat_in : (n : ℕ) (h : Guarded) → Throughout FlatAtom n h → InFormula P Q h
+    flat_in : (n : ℕ) (h : Guarded) → Throughout (FlatNamed N) n h → InFormula N P Q h
     flat_in n truth f = tt
     flat_in n falsity f = tt
-    flat_in n (holds a) f = flat_atom_in P Q n a f
-    flat_in n (fails a) f = flat_atom_in P Q n a f
+    flat_in n (holds a) f = flat_atom_in N P Q n a f
+    flat_in n (fails a) f = flat_atom_in N P Q n a f
     flat_in n (all_of gs) f = each_flat_in n gs f
     flat_in n (one_of gs) f = each_flat_in n gs f
-    flat_in n (some bs guard g) f = (each_in P Q (times_within bs n) guard f.0, flat_in (times_within bs n) g f.1)
-    flat_in n (every bs guard g) f = (each_in P Q (times_within bs n) guard f.0, flat_in (times_within bs n) g f.1)
+    flat_in n (some bs guard g) f = (each_in N P Q (times_within bs n) guard f.0, flat_in (times_within bs n) g f.1)
+    flat_in n (every bs guard g) f = (each_in N P Q (times_within bs n) guard f.0, flat_in (times_within bs n) g f.1)
 
-    each_flat_in : (n : ℕ) (gs : Guardeds) → ThroughoutEach FlatAtom n gs → InEach P Q gs
+    each_flat_in : (n : ℕ) (gs : Guardeds) → ThroughoutEach (FlatNamed N) n gs → InEach N P Q gs
     each_flat_in n no_more f = tt
     each_flat_in n (and_then g gs) f = (flat_in n g f.0, each_flat_in n gs f.1)
 
@@ -104,8 +109,15 @@ module _ (signature : Signature) (limit : ℕ) where
 right_flat : (h : Guarded) → IsRight h → Throughout FlatAtom zero h
 right_flat h r = throughout_weaken RightAtom FlatAtom (λ n a p. p.0) zero h r.each
 
-pub right_numbered : (h : Guarded) → IsRight h → IsNumbered (root h)
-right_numbered h r = record { events = tt; formulas = (flat_in (λ x. x.number < zero) (λ i. i < zero) zero h (right_flat h r), tt); spent = tt; unequal = tt; links = tt; order = tt }
+pub right_numbered : (N : Names) (h : Guarded) → IsRight h → Throughout (NamedAtom N) zero h → IsNumbered N (root h)
+right_numbered N h r k = record {
+  events = tt;
+  formulas = (flat_in N (λ x. x.number < zero) (λ i. i < zero) zero h (throughout_both FlatAtom (NamedAtom N) zero h (right_flat h r) k), tt);
+  spent = tt;
+  unequal = tt;
+  links = tt;
+  order = tt;
+}
 
 pub right_solved : (theory : Theory) (log : Log) (h : Guarded) → IsRight h → GuardedHolds (signature_of theory) (log_trace log) (assignment start) h → Solves theory log start (root h)
 right_solved theory log h r true_there = record {

@@ -7,7 +7,7 @@ use Rattle.sp_spec.specs.Term.{Variable}
 use Rattle.sp_spec.specs.Rule.{Fact}
 use Rattle.sp_spec_system.specs.System.{Event, System, happening_premises}
 use Rattle.sp_spec_proof.specs.Rows.{rows, by_rows, fails_somewhere, is_contradictory}
-use Rattle.sp_spec_system.specs.Move.{Move, simplify, contradiction, unproved, solved, or, action, premise, Context, Case}
+use Rattle.sp_spec_system.specs.Move.{Move, simplify, contradiction, unproved, solved, or, action, premise, Context, Case, end_log}
 use Rattle.sp_spec_proof.specs.Cases.{cases}
 use Rattle.sp_spec_proof.specs.Tree.{Tree, node, Branches, no_branch, branch, IsAccepted, AreAccepted, step_of, steps, steps_in}
 use Rattle.sp_spec_proof.specs.Growth.{premise_from, first_premise, first_action, first_disjunction, choice, least_class, class_of, has_class, is_unproved, leaves_for, open_leaves, grown_leaf, first_grown, grown_at, grown_in, has_end, grown_by, grown_once, go_on, grown, grown_tree}
@@ -43,7 +43,7 @@ HasCases-choice context s =
     cond_both (is_contradictory s) contradiction _ (HasCases context s)
     (λ e. rw e refl)
     (λ _. cond_both (is_some (by_rows rows s)) simplify _ (HasCases context s) (λ e. rw (or_left (is_some (by_rows rows s)) (fails_somewhere s) e) refl)
-    (λ _. cond_both (is_some (context.found s)) solved _ (HasCases context s) (λ e. rw e refl) (λ _. HasCases-first_disjunction context s 0 s.formulas)))
+    (λ _. cond_both (is_some (end_log context s)) solved _ (HasCases context s) (λ e. rw e refl) (λ _. HasCases-first_disjunction context s 0 s.formulas)))
 
 -- the chosen move is an instance
 pub choice_is_instance : (context : Context) (s : System) → cases context s (choice context s) ≡ None → ⊥

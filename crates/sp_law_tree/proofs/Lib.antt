@@ -11,3 +11,6 @@ pub mod Shown
 pub mod Starts
 pub mod Trees
 pub mod WrittenRules
+pub mod Named
+pub mod OverLogs
+pub mod OverExecutions

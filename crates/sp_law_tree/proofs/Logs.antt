@@ -3,13 +3,13 @@ use Rattle.std.proofs.Common.{◌≡◌, ⊎_elim, Bool, true, false, if◌then�
 use Rattle.std.proofs.lemmas.Bool.{or_cases, or_parts}
 use Rattle.sp_spec.specs.Log.{Log}
 use Rattle.sp_spec_system.specs.System.{System}
-use Rattle.sp_spec_system.specs.Move.{simplify, contradiction, unproved, solved, or, action, premise, Context, Case}
+use Rattle.sp_spec_system.specs.Move.{simplify, contradiction, unproved, solved, or, action, premise, Context, Case, end_log}
 use Rattle.sp_spec_proof.specs.Cases.{simple_case, cases}
 use Rattle.sp_spec_proof.specs.Tree.{Tree, node, Branches, no_branch, branch, IsAccepted, AreAccepted, IsFinished, AreFinished, is_solved, first_log, found_log, found_below}
 use Rattle.sp_spec_proof.specs.Growth.{has_end, some_end}
 
 abbrev pub Ends : Context → Log → Type 0
-Ends context log = (t : System) × (context.found t ≡ Some log)
+Ends context log = (t : System) × (end_log context t ≡ Some log)
 
 -- of two logs the first one there is comes from where they come from
 of_either : (context : Context) (log : Log) (o later : Option Log) → (o ≡ Some log → Ends context log) → (later ≡ Some log → Ends context log) → first_log o later ≡ Some log → Ends context log
@@ -21,7 +21,7 @@ module _ (context : Context) where
     pub log_found : (tree : Tree) (s : System) (log : Log) → found_log context s tree ≡ Some log → Ends context log
     log_found (node move branches) s log e = at (is_solved move) e (log_below branches (cases context s move) log)
       where
-        at : (b : Bool) → (if b then context.found s else found_below context (cases context s move) branches) ≡ Some log
+        at : (b : Bool) → (if b then end_log context s else found_below context (cases context s move) branches) ≡ Some log
             → (found_below context (cases context s move) branches ≡ Some log → Ends context log) → Ends context log
         at true k below = (s, k)
         at false k below = below k
@@ -57,7 +57,7 @@ there_if context (Some log) branches a = (log, refl)
 module _ (context : Context) where
   mutual
     pub log_at_end : (tree : Tree) (s : System) → IsAccepted context s tree → has_end tree ≡ true → IsThere (found_log context s tree)
-    log_at_end (node solved branches) s a e = there_if context (context.found s) branches a
+    log_at_end (node solved branches) s a e = there_if context (end_log context s) branches a
     log_at_end (node simplify branches) s a e = log_at_one branches (cases context s simplify) a e
     log_at_end (node contradiction branches) s a e = log_at_one branches (cases context s contradiction) a e
     log_at_end (node unproved branches) s a e = log_at_one branches (cases context s unproved) a e

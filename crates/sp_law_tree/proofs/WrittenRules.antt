@@ -1,12 +1,12 @@
 -- A written rule of a plain theory stands for a rule whose variables are numbered, without destructors, that leaves the adversary
 -- alone.
-use Rattle.std.proofs.Common.{◌≡◌, ◌<◌, ℕ, zero, suc, Bool, true, false, ◌||◌, if◌then◌else◌, List, [], ◌∷◌, map, length, codes, sym, subst, inl, inr, arith, bytes_eq}
+use Rattle.std.proofs.Common.{◌≡◌, ◌<◌, ℕ, zero, suc, Bool, true, false, ◌||◌, if◌then◌else◌, List, [], ◌∷◌, ◌++◌, map, length, codes, sym, subst, inl, inr, arith, bytes_eq}
 use Rattle.std.proofs.lemmas.Bool.{or_parts}
 use Rattle.std.proofs.lemmas.Slice.Eq.{bytes_eq-Decides}
 use Rattle.sp_spec.specs.Lists.{Member, Every}
 use Rattle.sp_spec.specs.Term.{Variable, Term, var, constant, name, app, Terms, none, more, Values, valued, valued_all}
 use Rattle.sp_spec.specs.Signature.{Symbol, Equation, IsOver, AreOver}
-use Rattle.sp_spec.specs.Rule.{Fact, Action, Declared, Rule, fact_at, action_at, facts_at, InFacts}
+use Rattle.sp_spec.specs.Rule.{Fact, Action, Declared, Rule, fact_at, action_at, facts_at, FactsMadeOf}
 use Rattle.sp_spec.specs.Formula.{Written}
 use Rattle.sp_spec.specs.Written.{WrittenRule, WrittenTheory, occurrences, is_listed, rule_names, place_of, numbered_in, sort_in, rule_of, theory_of}
 use Rattle.sp_spec.specs.Theory.{signature_of}
@@ -14,9 +14,13 @@ use Rattle.sp_spec.specs.Findings.{is_fr_named, has_fr}
 use Rattle.sp_spec.proofs.Occurrences.{occurrences_each, names_have}
 use Rattle.sp_law_equal.specs.Convergent.{IsPlain, ArePlain}
 use Rattle.sp_law_erase.specs.Adversary.{adversary_facts, adversary_names, NeedsNoAdversary}
-use Rattle.sp_spec.proofs.Lists.{every_map, every_member, member_mapped, length_map}
+use Rattle.sp_spec.proofs.Lists.{every_map, every_member, every_parts, member_mapped, length_map}
 use Rattle.sp_law_system.proofs.Numbers.{facts_valued}
 use Rattle.sp_law_system.specs.Rules.{ActionsAreOver, FactsArePlain, RulesArePlain, RulesAreNumbered}
+use Rattle.sp_spec.specs.Constants.{in_facts, in_actions, in_rule, constants_of}
+use Rattle.sp_spec_system.specs.Numbered.{names_in}
+use Rattle.sp_law_tree.specs.Laws.{NamesStand}
+use Rattle.sp_law_tree.proofs.Named.{AreListed, facts_made, actions_made, rules_listed, lemma_has_names}
 use Rattle.sp_law_tree.specs.PlainTheory.{IsAtomic, AreAtomic, IsPlainFact, IsPlainAction, IsPlainRule}
 
 place_under : (x : List ℕ) (xs : List (List ℕ)) → is_listed x xs ≡ true → place_of x xs < length xs
@@ -27,18 +31,32 @@ place_under x (z ∷ xs) e = at (bytes_eq z x) e (λ h. place_under x xs h)
     at true h later = omega arith
     at false h later = let l = later h in omega (arith, l)
 
--- the variables are numbered
-rule_numbered : (r : WrittenRule) → InFacts (λ x. x.number < length (rule_of r).variables) (rule_of r).facts
-rule_numbered r =
+-- the variables are numbered, and the names listed
+rule_numbered : (listed : List (List ℕ)) (r : WrittenRule) → IsPlainRule r → AreListed listed (in_rule r) → FactsMadeOf (names_in listed) (λ x. x.number < length (rule_of r).variables) (rule_of r).facts
+rule_numbered listed r plain stand =
     let names = rule_names r.facts in
     let declared : List ℕ → Declared = λ x. record { name = x; sort = sort_in r.facts x } in
-    facts_valued (λ (y : Written). is_listed y.name names ≡ true) (λ x. x.number < length (map declared names)) (numbered_in r.facts)
+    let IsNamed : Written → Type 0 = λ y. is_listed y.name names ≡ true in
+    let first = every_parts _ (in_facts r.facts.premises) (in_actions r.facts.actions ++ in_facts r.facts.conclusions) stand in
+    let second = every_parts _ (in_actions r.facts.actions) (in_facts r.facts.conclusions) first.1 in
+    let each = occurrences_each IsNamed r.facts (names_have [] (occurrences r.facts)) in
+    facts_valued (names_in listed) IsNamed (λ x. x.number < length (map declared names)) (numbered_in r.facts)
     (λ y h. subst (λ (n : ℕ). place_of y.name names < n) (sym (length_map declared names)) (place_under y.name names h))
-    r.facts (occurrences_each (λ (y : Written). is_listed y.name names ≡ true) r.facts (names_have [] (occurrences r.facts)))
+    r.facts (record {
+      premises = facts_made listed IsNamed r.facts.premises plain.premises first.0 each.premises;
+      actions = actions_made listed IsNamed r.facts.actions plain.actions second.0 each.actions;
+      conclusions = facts_made listed IsNamed r.facts.conclusions plain.conclusions second.1 each.conclusions;
+    })
 
-pub rules_numbered : (rs : List WrittenRule) → RulesAreNumbered (map rule_of rs)
-rules_numbered [] = tt
-rules_numbered (r ∷ rs) = (rule_numbered r, rules_numbered rs)
+each_numbered : (listed : List (List ℕ)) (rs : List WrittenRule) → Every IsPlainRule rs → Every (λ (r : WrittenRule). AreListed listed (in_rule r)) rs → RulesAreNumbered (names_in listed) (map rule_of rs)
+each_numbered listed [] p k = tt
+each_numbered listed (r ∷ rs) p k = (rule_numbered listed r p.0 k.0, each_numbered listed rs p.1 k.1)
+
+pub names_stand_lem : NamesStand
+names_stand_lem = record {
+  rules = λ theory plain. each_numbered (constants_of theory) theory.rules plain (rules_listed theory);
+  lemmas = lemma_has_names;
+}
 
 -- no destructor stands in them
 module _ (es : List Equation) (v : Written → Term Variable) (v_plain : (x : Written) → IsPlain es (v x)) where

@@ -1,22 +1,27 @@
 -- What an accepted tree shows, and what growth owes.
-use Rattle.std.specs.Prelude.{◌≡◌, Some, None, true, false, ℕ, ◌≤◌}
-use Rattle.sp_spec.specs.Theory.{Theory, Lemma}
+use Rattle.std.specs.Prelude.{◌≡◌, Some, None, true, false, ℕ, ◌≤◌, List, codes}
+use Rattle.sp_spec.specs.Theory.{Theory, Restriction, Lemma, signature_of}
 use Rattle.sp_spec_system.specs.System.{System}
+use Rattle.sp_spec_system.specs.Numbered.{names_in}
 use Rattle.sp_law_system.specs.Proofs.{HasNoSolution, IsContextOf, IsWellMade}
-use Rattle.sp_spec_system.specs.Move.{Context}
+use Rattle.sp_spec_system.specs.Move.{Context, end_log}
 use Rattle.sp_spec_proof.specs.Tree.{Tree, IsAccepted, IsFinished, found_log, steps}
 use Rattle.sp_spec.specs.Log.{Log}
-use Rattle.sp_law_system.specs.Rules.{IsPlainTheory}
+use Rattle.sp_law_system.specs.Rules.{IsPlainTheory, RulesAreNumbered}
 use Rattle.sp_spec_proof.specs.Growth.{has_end, grown_tree}
-use Rattle.sp_spec.specs.Lists.{Every}
+use Rattle.sp_spec.specs.Lists.{Member, Every, is_listed}
 use Rattle.sp_spec.specs.Written.{WrittenRule, WrittenTheory, theory_of}
+use Rattle.sp_spec.specs.Constants.{constants_of}
 use Rattle.sp_spec.specs.Findings.{rule_is_wrong}
 use Rattle.sp_spec.specs.Guarded.{Guarded}
-use Rattle.sp_spec.specs.Verdict.{HoldsInAll, HoldsInNone}
+use Rattle.sp_spec.specs.Verdict.{HoldsInAll, HoldsInNone, HoldsInAllLogs, HoldsInNoLog}
+use Rattle.sp_law_equal.specs.Convergent.{AreConvergent}
 use Rattle.sp_law_guard.specs.GuardedForm.{negate}
 use Rattle.sp_law_guard.specs.CheckedForm.{checked_form}
 use Rattle.sp_spec_proof.specs.Root.{root}
-use Rattle.sp_law_tree.specs.PlainTheory.{IsPlainRule, IsPlainFormula}
+use Rattle.sp_law_erase.specs.Adversary.{NeedsNoAdversary}
+use Rattle.sp_law_tree.specs.PlainTheory.{HasNames, IsPlainRule, IsPlainFormula}
+use Rattle.sp_law_tree.specs.Executions.{DependsOn, HasLogsFor}
 
 -- the tree theorem: where a tree is accepted, no leaf is left open and with none the search ends, the system at its root has no solution
 pub record FinishedTreesShow (theory : Theory) : Type 0 where
@@ -27,21 +32,46 @@ pub record FinishedTreesShow (theory : Theory) : Type 0 where
 -- log with which it ends at some system.
 pub record AcceptedTreesShow : Type 0 where
   pub trees : (theory : Theory) → IsPlainTheory theory → FinishedTreesShow theory
-  pub found : (context : Context) (s : System) (tree : Tree) (log : Log) → found_log context s tree ≡ Some log → (t : System) × (context.found t ≡ Some log)
+  pub found : (context : Context) (s : System) (tree : Tree) (log : Log) → found_log context s tree ≡ Some log → (t : System) × (end_log context t ≡ Some log)
   pub ends : (context : Context) (s : System) (tree : Tree) → IsAccepted context s tree → has_end tree ≡ true → (log : Log) × (found_log context s tree ≡ Some log)
   pub no_end : (context : Context) (s : System) (tree : Tree) → has_end tree ≡ false → found_log context s tree ≡ None
+
+-- What a finished tree shows of learning logs, in a context that has the lemma's public names. From the negation of the lemma's guarded form: no log that meets the restrictions breaks the
+-- lemma. From the guarded form: none satisfies it.
+pub record TreesShowLogs : Type 0 where
+  pub all_traces : (theory : Theory) → IsPlainTheory theory → (lemma : Lemma) → IsPlainFormula lemma.formula → (g : Guarded) → checked_form lemma.formula ≡ Some g
+      → (context : Context) → IsContextOf theory context → HasNames (names_in context.public_names) lemma.formula → (tree : Tree) → IsAccepted context (root (negate g)) tree → IsFinished tree → HoldsInAllLogs theory lemma
+  pub exists_trace : (theory : Theory) → IsPlainTheory theory → (lemma : Lemma) → IsPlainFormula lemma.formula → (g : Guarded) → checked_form lemma.formula ≡ Some g
+      → (context : Context) → IsContextOf theory context → HasNames (names_in context.public_names) lemma.formula → (tree : Tree) → IsAccepted context (root g) tree → IsFinished tree → HoldsInNoLog theory lemma
+
+-- What holds in all logs holds in all executions, where each execution has a log that shows what the restrictions and the lemma see of it;
+-- and so it is where no rule needs the adversary, for what names no action of sending.
+pub record LogsShowExecutions : Type 0 where
+  pub all : (theory : Theory) (lemma : Lemma) (names : List (List ℕ)) → HasLogsFor theory names
+      → Every (λ (r : Restriction). DependsOn (signature_of theory) names r.formula) theory.restrictions → DependsOn (signature_of theory) names lemma.formula
+      → HoldsInAllLogs theory lemma → HoldsInAll theory lemma
+  pub none : (theory : Theory) (lemma : Lemma) (names : List (List ℕ)) → HasLogsFor theory names
+      → Every (λ (r : Restriction). DependsOn (signature_of theory) names r.formula) theory.restrictions → DependsOn (signature_of theory) names lemma.formula
+      → HoldsInNoLog theory lemma → HoldsInNone theory lemma
+  pub without_adversary : (theory : Theory) → NeedsNoAdversary theory → AreConvergent (signature_of theory).equations
+      → (names : List (List ℕ)) → is_listed (codes "K") names ≡ false → HasLogsFor theory names
 
 -- What a finished tree shows of a lemma of a theory without findings on its rules, steps of the adversary included. From the negation of the lemma's guarded
 -- form: every execution satisfies the lemma. From the guarded form: no execution does.
 pub record LemmasAreShown : Type 0 where
   pub all_traces : (theory : WrittenTheory) → Every IsPlainRule theory.rules → Every (λ (r : WrittenRule). rule_is_wrong r ≡ false) theory.rules
       → (lemma : Lemma) → IsPlainFormula lemma.formula → (g : Guarded) → checked_form lemma.formula ≡ Some g
-      → (context : Context) → IsContextOf (theory_of theory) context → (tree : Tree) → IsAccepted context (root (negate g)) tree → IsFinished tree → HoldsInAll (theory_of theory) lemma
+      → (context : Context) → IsContextOf (theory_of theory) context → HasNames (names_in context.public_names) lemma.formula → (tree : Tree) → IsAccepted context (root (negate g)) tree → IsFinished tree → HoldsInAll (theory_of theory) lemma
   pub exists_trace : (theory : WrittenTheory) → Every IsPlainRule theory.rules → Every (λ (r : WrittenRule). rule_is_wrong r ≡ false) theory.rules
       → (lemma : Lemma) → IsPlainFormula lemma.formula → (g : Guarded) → checked_form lemma.formula ≡ Some g
-      → (context : Context) → IsContextOf (theory_of theory) context → (tree : Tree) → IsAccepted context (root g) tree → IsFinished tree → HoldsInNone (theory_of theory) lemma
+      → (context : Context) → IsContextOf (theory_of theory) context → HasNames (names_in context.public_names) lemma.formula → (tree : Tree) → IsAccepted context (root g) tree → IsFinished tree → HoldsInNone (theory_of theory) lemma
 
 -- a tree that is grown is accepted, and has at most as many steps as the budget says
 pub record GrowthIsAccepted : Type 0 where
   pub accepted : (context : Context) (s : System) (budget : ℕ) → IsAccepted context s (grown_tree context s budget)
   pub within_budget : (context : Context) (s : System) (budget : ℕ) → steps (grown_tree context s budget) ≤ budget
+
+-- The public names that stand in a text are all that its rules and its lemmas have, and no fresh name stands there.
+pub record NamesStand : Type 0 where
+  pub rules : (theory : WrittenTheory) → Every IsPlainRule theory.rules → RulesAreNumbered (names_in (constants_of theory)) (theory_of theory).rules
+  pub lemmas : (theory : WrittenTheory) → (lemma : Lemma) → Member lemma theory.lemmas → IsPlainFormula lemma.formula → HasNames (names_in (constants_of theory)) lemma.formula

@@ -1,5 +1,5 @@
 -- The theories that are read so far: terms without symbols, no facts of the adversary.
-use Rattle.sp_spec.specs.Term.{Term, var, constant, name, app, Terms, none, more}
+use Rattle.sp_spec.specs.Term.{Names, MadeOf, AllMadeOf, Term, var, constant, name, app, Terms, none, more}
 use Rattle.sp_spec.specs.Formula.{Written, Formula, truth, falsity, happens, equals, precedes, not_so, both, either, implies, for_all, for_some}
 use Rattle.sp_spec.specs.Lists.{Member, Every}
 use Rattle.sp_spec.specs.Rule.{Fact, Action}
@@ -40,3 +40,17 @@ IsPlainFormula (either f g) = IsPlainFormula f × IsPlainFormula g
 IsPlainFormula (implies f g) = IsPlainFormula f × IsPlainFormula g
 IsPlainFormula (for_all x f) = IsPlainFormula f
 IsPlainFormula (for_some x f) = IsPlainFormula f
+
+-- the names in the formula are such ones
+abbrev pub HasNames : Names → Formula → Type 0
+HasNames N truth = Unit {0}
+HasNames N falsity = Unit {0}
+HasNames N (happens a i) = AllMadeOf N (λ x. Unit {0}) a.args
+HasNames N (equals t u) = MadeOf N (λ x. Unit {0}) t × MadeOf N (λ x. Unit {0}) u
+HasNames N (precedes i j) = Unit {0}
+HasNames N (not_so f) = HasNames N f
+HasNames N (both f g) = HasNames N f × HasNames N g
+HasNames N (either f g) = HasNames N f × HasNames N g
+HasNames N (implies f g) = HasNames N f × HasNames N g
+HasNames N (for_all x f) = HasNames N f
+HasNames N (for_some x f) = HasNames N f

@@ -5,16 +5,31 @@
 // within its budget of steps. All is said of the definitions.
 #![tactic(auto)]
 
-ghost use Rattle.sp_law_tree.specs.Laws.{AcceptedTreesShow, LemmasAreShown, GrowthIsAccepted};
+ghost use Rattle.sp_law_tree.specs.Laws.{AcceptedTreesShow, TreesShowLogs, LogsShowExecutions, LemmasAreShown, NamesStand, GrowthIsAccepted};
 
 /// The root of an accepted tree that is finished has no solution; where the search ends at a leaf, the tree has a log.
 pub fn accepted_trees_show()
     ensures { AcceptedTreesShow }
 {}
 
+/// What finished trees show of learning logs.
+pub fn trees_show_logs()
+    ensures { TreesShowLogs }
+{}
+
+/// What holds in all logs holds in all executions that have logs.
+pub fn logs_show_executions()
+    ensures { LogsShowExecutions }
+{}
+
 /// What finished trees show of lemmas.
 pub fn lemmas_are_shown()
     ensures { LemmasAreShown }
+{}
+
+/// The public names of a text are all that stand in its rules and lemmas.
+pub fn names_stand()
+    ensures { NamesStand }
 {}
 
 /// What is grown is an accepted tree, within its budget of steps.

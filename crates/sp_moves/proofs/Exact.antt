@@ -3,12 +3,12 @@ use Rattle.std.proofs.Common.{◌≡◌, ℕ, Bool, true, false, ◌||◌, if◌
 use Rattle.sp_spec.specs.Term.{Variable}
 use Rattle.sp_spec.specs.Rule.{Action, Fact}
 use Rattle.sp_spec.specs.Guarded.{Guarded, truth, falsity, holds, fails, all_of, one_of, some, every, acts, same, same_time, before, last, free_time, bound_time}
-use Rattle.sp_spec.specs.Log.{is_fr}
-use Rattle.sp_spec_system.specs.System.{happening_premises, Event, System, is_in}
+use Rattle.sp_spec.specs.Log.{is_fr, is_in}
+use Rattle.sp_spec_system.specs.System.{happening_premises, Event, System}
 use Rattle.sp_spec_proof.specs.Rows.{has_place, is_contradictory}
 use Rattle.sp_spec_system.specs.Formulas.{freed_action}
 use Rattle.sp_spec_system.specs.MakingOne.{event_at}
-use Rattle.sp_spec_system.specs.Move.{Move, simplify, contradiction, unproved, solved, or, action, premise, Context, Case}
+use Rattle.sp_spec_system.specs.Move.{Move, simplify, contradiction, unproved, solved, or, action, premise, Context, Case, end_log}
 use Rattle.sp_spec_formula.specs.Action.{is_adversary}
 use Rattle.sp_spec_graph.specs.Premise.{is_linked}
 use Rattle.sp_spec_proof.specs.Cases.{raw_cases, simple_case, cases}
@@ -27,7 +27,7 @@ raw : (context : Context) (s : System) (m : Move) → is_none (why_not context s
 raw context s simplify = by_test (has_place s) (record { name = []; system = s } ∷ [])
 raw context s contradiction = by_test (is_contradictory s) []
 raw context s unproved = refl
-raw context s solved = by_test (is_some (context.found s)) []
+raw context s solved = by_test (is_some (end_log context s)) []
 raw context s (or k) = (formula.exactly context.rules.forms s (or k)).exact
 raw context s (action k) = (formula.exactly context.rules.forms s (action k)).exact
 raw context s (premise i p) = (graph.exactly context.rules.forms s (premise i p)).exact
@@ -47,7 +47,7 @@ fails_there : (context : Context) (s : System) (m : Move) → is_none (why_not c
 fails_there context s simplify e = by_failing (has_place s) e
 fails_there context s contradiction e = by_failing (is_contradictory s) e
 fails_there context s unproved e = absurd cc
-fails_there context s solved e = by_failing (is_some (context.found s)) e
+fails_there context s solved e = by_failing (is_some (end_log context s)) e
 fails_there context s (or k) e = refl
 fails_there context s (action k) e = refl
 fails_there context s (premise i p) e = refl
@@ -114,7 +114,7 @@ pub each_is_asked : (context : Context) (s : System) (m : Move) → IsAsked (why
 each_is_asked context s simplify = record { asked = unless_asked (has_place s) }
 each_is_asked context s contradiction = record { asked = unless_asked (is_contradictory s) }
 each_is_asked context s unproved = record { asked = λ e. absurd cc }
-each_is_asked context s solved = record { asked = unless_asked (is_some (context.found s)) }
+each_is_asked context s solved = record { asked = unless_asked (is_some (end_log context s)) }
 each_is_asked context s (or k) = record { asked = disjunction_asked (slice_get s.formulas k) }
 each_is_asked context s (action k) = record { asked = action_asked (slice_get s.formulas k) }
 each_is_asked context s (premise i p) = record { asked = premise_asked s i p (has_time i s) }

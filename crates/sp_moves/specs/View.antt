@@ -1,5 +1,5 @@
 -- The contexts that those in memory stand for.
-use Rattle.std.specs.Prelude.{map}
+use Rattle.std.specs.Prelude.{map, Some, [], ◌∷◌}
 use Rattle.sp_term.specs.View.{name_of}
 use Rattle.sp_formula.specs.FormulaView.{formula_of}
 use Rattle.sp_ground.specs.View.{signature_of}
@@ -14,5 +14,7 @@ pub use Rattle.sp_moves_formula.specs.View.{move_of, case_of}
 abbrev pub context_of : Context → spec.Context
 context_of c = record {
   rules = record { signature = signature_of c.sought.signature.now; forms = map forms_of (book_of c.rules.now) };
+  public_names = map name_of c.sought.constants.now.items;
+  root = Some (record { formulas = formula_of c.sought.formula.now ∷ [] });
   found = found (signature_of c.sought.signature.now) (book_of c.rules.now) (map name_of c.sought.constants.now.items) (formula_of c.sought.formula.now);
 }

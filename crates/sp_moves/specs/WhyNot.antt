@@ -2,7 +2,7 @@
 use Rattle.std.specs.Prelude.{◌≡◌, Bool, if◌then◌else◌, Option, Some, None, is_some}
 use Rattle.sp_spec_system.specs.System.{System}
 use Rattle.sp_spec_proof.specs.Rows.{has_place, is_contradictory}
-use Rattle.sp_spec_system.specs.Move.{Move, simplify, contradiction, unproved, solved, or, action, premise, Context}
+use Rattle.sp_spec_system.specs.Move.{Move, simplify, contradiction, unproved, solved, or, action, premise, Context, end_log}
 use Rattle.sp_moves_formula.specs.WhyNot.{Clause, another_crate, condition, why_not_formula}
 use Rattle.sp_moves_graph.specs.WhyNot.{why_not_graph}
 
@@ -14,7 +14,7 @@ abbrev pub why_not : Context → System → Move → Option Clause
 why_not context s simplify = unless (has_place s)
 why_not context s contradiction = unless (is_contradictory s)
 why_not context s unproved = None
-why_not context s solved = unless (is_some (context.found s))
+why_not context s solved = unless (is_some (end_log context s))
 why_not context s (or k) = why_not_formula s (or k)
 why_not context s (action k) = why_not_formula s (action k)
 why_not context s (premise i p) = why_not_graph s (premise i p)

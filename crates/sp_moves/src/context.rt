@@ -4,6 +4,7 @@ ghost use Rattle.std.specs.Prelude.{◌≡◌, IfOk, is_some, option_map};
 ghost use Rattle.sp_system.specs.SystemView.{system_of};
 ghost use Rattle.sp_log.specs.View.{log_of};
 ghost use Rattle.sp_moves.specs.View.{context_of};
+ghost use Rattle.sp_spec_system.specs.Move.{end_log};
 
 use sp_fact::book::RuleBook;
 use sp_log::log::Log;
@@ -27,7 +28,7 @@ impl<'a> Context<'a> {
     ///
     /// `AllocError` where memory is wanting.
     pub fn found(&self, alloc: Global, system: &System) -> Result<Option<Log>, AllocError>
-        ensures { IfOk result (λ o. option_map log_of o ≡ (context_of self.now).found (system_of system.now)) }
+        ensures { IfOk result (λ o. option_map log_of o ≡ end_log (context_of self.now) (system_of system.now)) }
     {
         let log = found(alloc, &self.sought, &self.rules.rules, system)?;
         Ok(log)
@@ -39,7 +40,7 @@ impl<'a> Context<'a> {
     ///
     /// `AllocError` where memory is wanting.
     pub fn ends(&self, alloc: Global, system: &System) -> Result<bool, AllocError>
-        ensures { IfOk result (λ b. b ≡ is_some ((context_of self.now).found (system_of system.now))) }
+        ensures { IfOk result (λ b. b ≡ is_some (end_log (context_of self.now) (system_of system.now))) }
     {
         let log = self.found(alloc, system)?;
         Ok(log.is_some())

@@ -6,7 +6,7 @@
 #![tactic(auto)]
 
 pub use sp_moves_formula::{action, part};
-pub use sp_moves_graph::giver;
+pub use sp_moves_graph::premise;
 
 pub mod apply;
 pub mod context;

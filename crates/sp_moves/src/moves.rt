@@ -10,7 +10,7 @@ use crate::context::Context;
 pub use sp_moves_formula::moves::{Case, Move};
 use sp_moves_formula::part::or_cases;
 use sp_moves_formula::solving::solving_action;
-use sp_moves_graph::giver::premise_cases;
+use sp_moves_graph::premise::premise_cases;
 use sp_rows::simplify::{has_place, is_contradictory, simplified};
 use sp_system::system::System;
 use std::alloc::{AllocError, Global};

@@ -2,10 +2,10 @@
 use Rattle.std.proofs.Common.{◌≡◌, ℕ, Bool, true, false, ◌||◌, ◌==◌, if◌then◌else◌, List, [], ◌∷◌, Option, Some, None, option_and_then, is_none, is_some, slice_get, refl, sym, ap, ◌∙◌}
 use Rattle.sp_spec.specs.Term.{Variable}
 use Rattle.sp_spec.specs.Rule.{Fact}
-use Rattle.sp_spec.specs.Log.{is_fr}
+use Rattle.sp_spec.specs.Log.{is_fr, is_in}
 use Rattle.sp_spec.specs.Guarded.{Guarded}
 use Rattle.sp_formula.specs.FormulaView.{guardeds_of}
-use Rattle.sp_spec_system.specs.System.{happening_premises, Event, System, is_in}
+use Rattle.sp_spec_system.specs.System.{happening_premises, Event, System}
 use Rattle.sp_spec_system.specs.MakingOne.{event_at}
 use Rattle.sp_spec_system.specs.Move.{Move, simplify, contradiction, unproved, solved, or, action, premise}
 use Rattle.sp_spec_graph.specs.Premise.{is_linked, of_a_step, open_premise, premise_cases}

@@ -1,3 +1,3 @@
-pub mod Givers
+pub mod PremiseRules
 pub mod Times
 pub mod WhyNot

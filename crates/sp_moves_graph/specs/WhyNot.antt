@@ -2,8 +2,8 @@
 use Rattle.std.specs.Prelude.{ℕ, ◌||◌, if◌then◌else◌, List, Option, Some, None, slice_get}
 use Rattle.sp_spec.specs.Term.{Variable}
 use Rattle.sp_spec.specs.Rule.{Fact}
-use Rattle.sp_spec.specs.Log.{is_fr}
-use Rattle.sp_spec_system.specs.System.{happening_premises, Event, System, is_in}
+use Rattle.sp_spec.specs.Log.{is_fr, is_in}
+use Rattle.sp_spec_system.specs.System.{happening_premises, Event, System}
 use Rattle.sp_spec_system.specs.MakingOne.{event_at}
 use Rattle.sp_spec_system.specs.Move.{Move, premise, Case}
 use Rattle.sp_spec_graph.specs.Premise.{is_linked, open_premise, premise_cases}

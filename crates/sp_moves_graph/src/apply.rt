@@ -3,8 +3,7 @@
 ghost use Rattle.std.specs.Prelude.{◌≡◌, ◌||◌, Some, IfOk, map, option_map};
 ghost use Rattle.sp_fact.specs.View.{fact_of};
 ghost use Rattle.sp_fact.specs.BookView.{book_of};
-ghost use Rattle.sp_spec.specs.Log.{is_fr};
-ghost use Rattle.sp_spec_system.specs.System.{is_in};
+ghost use Rattle.sp_spec.specs.Log.{is_fr, is_in};
 ghost use Rattle.sp_system.specs.SystemView.{event_of, system_of};
 ghost use Rattle.sp_spec_graph.specs.Premise as spec;
 ghost use Rattle.sp_moves_formula.specs.View.{case_of, move_of};
@@ -13,14 +12,14 @@ ghost use Rattle.sp_moves_formula.specs.WhyNot.{HasCases};
 ghost use Rattle.sp_moves_graph.specs.WhyNot.{why_not_of, why_not_graph, graph_cases};
 ghost use Rattle.sp_spec_system.specs.Rules.{forms_of};
 
-use crate::giver::{is_linked, is_received, premise_cases};
+use crate::premise::{is_linked, is_received, premise_cases};
 use crate::times::has_time;
 use sp_fact::book::RuleBook;
 use sp_fact::fact::Fact;
 pub use sp_moves_formula::apply::{Applied, Clause};
 use sp_moves_formula::moves::{Case, Move, Premise};
+use sp_rows::fresh_once::is_fresh;
 use sp_rows::links::event_at;
-use sp_rows::twins::is_fresh;
 use sp_system::system::{Event, System};
 use std::alloc::{AllocError, Global};
 

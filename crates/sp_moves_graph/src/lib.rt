@@ -8,5 +8,5 @@
 pub use sp_rows::reduce;
 
 pub mod apply;
-pub mod giver;
+pub mod premise;
 pub mod times;

@@ -7,7 +7,7 @@ use Rattle.sp_spec.specs.Written.{theory_of}
 use Rattle.sp_spec.specs.Guarded.{Guarded}
 use Rattle.sp_term.specs.View.{name_of}
 use Rattle.sp_fact.specs.BookView.{book_of}
-use Rattle.sp_constants.specs.Constants.{constants_of}
+use Rattle.sp_spec.specs.Constants.{constants_of}
 use Rattle.sp_spec_text.specs.Written.{lemmas_in, theory_in}
 use Rattle.sp_written.specs.Views as view
 use Rattle.sp_written.specs.declared.theory.Item.{Item}

@@ -2,7 +2,7 @@
 use Rattle.std.proofs.Common.{◌≡◌, Some, option_map, refl, ap}
 use Rattle.sp_spec.specs.Term.{Variable, Term, Terms, var, constant, name, app, none, more, valued_all}
 use Rattle.sp_spec.specs.Guarded.{free}
-use Rattle.sp_formula.specs.Change.{placed}
+use Rattle.sp_spec.specs.Change.{placed}
 use Rattle.sp_spec_system.specs.Formulas.{freed, freed_all}
 
 mutual

@@ -6,7 +6,7 @@ use Rattle.sp_spec.specs.Log.{is_fr}
 use Rattle.sp_spec_system.specs.Picked.{first_some}
 use Rattle.sp_spec_graph.specs.Fresh.{first_term, fresh_terms}
 use Rattle.std.specs.Option.{option_or}
-use Rattle.sp_rows.specs.TwinsView.{first_of, fresh_one}
+use Rattle.sp_rows.specs.FreshView.{first_of, fresh_one}
 
 pub first_of_fact : {B : Type 0} (pick : Term Variable → Option B) (f : Fact Variable) (fs : List (Fact Variable))
     → first_some pick (fresh_terms (f ∷ fs)) ≡ option_or (option_and_then pick (fresh_one f)) (first_some pick (fresh_terms fs))

@@ -1,10 +1,9 @@
 pub mod Frees
 pub mod FreedTerms
 pub mod Positions
-pub mod TwinSearches
+pub mod MergingSearches
 pub mod Merges
-pub mod TwinPlaces
-pub mod MergeSearches
+pub mod MergingPlaces
 pub mod Spends
 pub mod Searches
 pub mod Turns
@@ -12,6 +11,6 @@ pub mod Openings
 pub mod Sheltered
 pub mod SlotValues
 pub mod Matchings
-pub mod LinkSearches
+pub mod PairSearches
 pub mod Parts
 pub mod FreshTerms

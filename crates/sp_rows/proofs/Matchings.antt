@@ -4,7 +4,7 @@ use Rattle.std.specs.Str.{bytes_eq}
 use Rattle.sp_spec.specs.Term.{Variable, Term, Terms, var, constant, name, app, none, more, valued_all}
 use Rattle.sp_spec.specs.Guarded.{Place, free, Time, Guarded}
 use Rattle.sp_spec.specs.Same.{alike, alike_all}
-use Rattle.sp_formula.specs.Change.{placed}
+use Rattle.sp_spec.specs.Change.{placed}
 use Rattle.sp_term.specs.View.{terms_of}
 use Rattle.sp_formula.specs.FormulaView.{row_of, placed_action, moment_of, atom_of}
 use Rattle.sp_spec.specs.Rule.{Action}

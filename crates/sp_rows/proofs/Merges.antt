@@ -9,7 +9,7 @@ use Rattle.sp_system.specs.declared.system.Event.{Event}
 use Rattle.sp_system.specs.declared.system.System.{System}
 use Rattle.sp_formula.specs.FormulaView.{formula_of}
 use Rattle.sp_system.specs.SystemView.{event_of, pair_of, link_of, system_of}
-use Rattle.sp_rows.specs.TwinsView.{head_of, twins, twins_there}
+use Rattle.sp_rows.specs.MadeOneView.{head_of, merging, merging_there}
 
 unfoldable pub cut : {A : Type 0} → ℕ → List A → List A
 cut j xs = take j xs ++ drop (suc j) xs
@@ -34,6 +34,6 @@ head_there es i x h is =
     ap head_of (drop-map event_of i es) ∙ ap (λ (xs : List Event). head_of (map event_of xs)) (drop_more es i x h) ∙ ap (λ (y : Event). Some (event_of y)) (sym is)
 
 pub both_there : (es : List Event) (i j : ℕ) (x y : Event) → i < length es → x ≡ slice_index_or es i x → j < length es → y ≡ slice_index_or es j y
-    → twins_there (map event_of es) (i, j) ≡ Some (twins (event_of x) (event_of y) (map event_of es) j)
+    → merging_there (map event_of es) (i, j) ≡ Some (merging (event_of x) (event_of y) (map event_of es) j)
 both_there es i j x y h is k are =
-    ap₂ (λ (o q : Option spec.Event). option_and_then (λ a. option_map (λ b. twins a b (map event_of es) j) q) o) (head_there es i x h is) (head_there es j y k are)
+    ap₂ (λ (o q : Option spec.Event). option_and_then (λ a. option_map (λ b. merging a b (map event_of es) j) q) o) (head_there es i x h is) (head_there es j y k are)

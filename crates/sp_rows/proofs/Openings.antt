@@ -10,7 +10,7 @@ use Rattle.sp_term.specs.declared.term.Term.TheFolds.{fold-roll-Term}
 use Rattle.sp_term.specs.declared.term.Term.TheOpen.{Term-F}
 use Rattle.sp_spec.specs.Guarded as spec
 use Rattle.sp_spec.specs.Term as term
-use Rattle.sp_formula.specs.Change.{Change, opened}
+use Rattle.sp_spec.specs.Change.{Change, opened}
 use Rattle.sp_formula.specs.FormulaView.{binder_of}
 use Rattle.sp_formula.specs.declared.formula.Binder.{Binder}
 use Rattle.sp_rows.specs.OpeningView.{pushed_all, put, value_place, change_of}

@@ -2,7 +2,7 @@
 use Rattle.std.proofs.Common.{◌≡◌, ◌<◌, ◌≤◌, ◌+◌, ℕ, zero, suc, List, ◌∷◌, length, map, drop, refl, sym, ap, ◌∙◌, arith, slice_index_or}
 use Rattle.std.proofs.lemmas.List.{drop_more, drop_all}
 use Rattle.sp_spec.specs.Guarded as spec
-use Rattle.sp_formula.specs.Change.{Change, under}
+use Rattle.sp_spec.specs.Change.{Change, under}
 use Rattle.sp_formula.specs.FormulaView.{binder_of}
 use Rattle.sp_formula.specs.declared.formula.Binder.{Binder}
 use Rattle.sp_rows.specs.InsideView.{sheltered, under_one}

@@ -2,7 +2,7 @@
 use Rattle.std.specs.Prelude.{ℕ, zero, suc}
 use Rattle.sp_spec.specs.Term.{var}
 use Rattle.sp_spec.specs.Guarded.{bound, bound_time, Binder, message, time, pushed}
-use Rattle.sp_formula.specs.Change.{Change, raised, raised_time, under_message, under_time}
+use Rattle.sp_spec.specs.Change.{Change, raised, raised_time, under_message, under_time}
 use Rattle.sp_rows.specs.declared.inside.Inside.{Inside}
 
 -- the n innermost places stay, and what stands beyond them is raised n times

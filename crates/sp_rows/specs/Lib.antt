@@ -1,5 +1,5 @@
 pub mod RowsView
-pub mod TwinsView
+pub mod MadeOneView
 pub mod SimplifyView
 pub mod OpeningView
 pub mod InsideView

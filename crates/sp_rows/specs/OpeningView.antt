@@ -5,7 +5,7 @@ use Rattle.sp_spec.specs.Guarded.{Place, free, bound, free_time, bound_time, Bin
 use Rattle.sp_term.specs.View.{view}
 use Rattle.sp_term.specs.declared.term.Term as memory_term
 use Rattle.sp_spec_system.specs.System.{System}
-use Rattle.sp_formula.specs.Change.{Change, placed, atom_changed, changed, opening}
+use Rattle.sp_spec.specs.Change.{Change, placed, atom_changed, changed, opening}
 use Rattle.sp_formula.specs.FormulaView.{atom_of, binder_of, formula_of}
 use Rattle.sp_formula.specs.declared.formula.Atom as memory_atom
 use Rattle.sp_formula.specs.declared.formula.Binder as memory_binder

@@ -4,15 +4,13 @@ ghost use Rattle.std.specs.Prelude.{◌≡◌, IfOk, map, option_map};
 ghost use Rattle.sp_formula.specs.FormulaView.{formula_of};
 ghost use Rattle.sp_system.specs.SystemView.{pair_of, system_of};
 ghost use Rattle.sp_spec_formula.specs.Equate as rows;
-ghost use Rattle.sp_spec_system.specs.MakingOne as making_one;
 ghost use Rattle.sp_rows.specs.EquationView as view;
 
 use crate::inequality::freed_pair;
+use crate::made_one::made_one;
 use crate::spend::spend;
-use crate::twins::{Twinship, merge_twins, ordered};
 use sp_formula::formula::{Atom, Formula, Moment};
 use sp_system::system::System;
-use sp_term::subst::Subst;
 use sp_term::term::Term;
 use sp_unify::unify::mgu;
 use std::alloc::{AllocError, Global};
@@ -60,27 +58,6 @@ fn terms_equated(
     Ok(Some(made))
 }
 
-/// The system in which two times are the same, if the events at them can be.
-///
-/// # Errors
-///
-/// `AllocError` where memory is wanting.
-pub fn times_equated(
-    alloc: Global,
-    system: &System,
-    first: u128,
-    second: u128,
-) -> Result<Option<System>, AllocError>
-    ensures { IfOk result (λ o. option_map system_of o ≡ making_one.times_equated (system_of system.now) first second (making_one.twins_by (making_one.at_times first second) (system_of system.now).events)) }
-{
-    if let Some(made) = merge_twins(alloc, system, Twinship::AtTimes(first, second))? {
-        return Ok(made);
-    }
-    let (small, large) = ordered(first, second);
-    let made = system.changed(alloc, &Subst::new(alloc), small, large)?;
-    Ok(Some(made))
-}
-
 fn equated(alloc: Global, system: &System, equation: Equation) -> Result<Option<System>, AllocError>
     ensures { IfOk result (λ o. option_map system_of o ≡ rows.equated (system_of system.now) (view.equation equation)) }
 {
@@ -91,7 +68,7 @@ fn equated(alloc: Global, system: &System, equation: Equation) -> Result<Option<
                 let made = system.copy(alloc)?;
                 Ok(Some(made))
             } else {
-                times_equated(alloc, system, first, second)
+                made_one(alloc, system, first, second)
             }
         }
     }

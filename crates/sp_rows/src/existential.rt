@@ -2,7 +2,7 @@
 
 ghost use Rattle.std.specs.Prelude.{◌≡◌, ◌<◌, ◌∷◌, ◌++◌, [], IfOk, length, map, option_map};
 ghost use Rattle.sp_spec.specs.Guarded.{holds};
-ghost use Rattle.sp_formula.specs.Change.{atom_changed, changed};
+ghost use Rattle.sp_spec.specs.Change.{atom_changed, changed};
 ghost use Rattle.sp_formula.specs.FormulaView.{atom_of, formula_of};
 ghost use Rattle.sp_system.specs.SystemView.{system_of};
 ghost use Rattle.sp_spec_formula.specs.Open as rows;

@@ -5,11 +5,11 @@ ghost use Rattle.sp_term.specs.View.{view, view_all};
 ghost use Rattle.sp_fact.specs.View.{fact_of};
 ghost use Rattle.sp_system.specs.SystemView.{event_of, system_of};
 ghost use Rattle.sp_spec_graph.specs.FreshFirst as rows;
-ghost use Rattle.sp_rows.specs.TwinsView.{fresh_one};
+ghost use Rattle.sp_rows.specs.FreshView.{fresh_one};
 ghost use Rattle.sp_rows.specs.FreshView.{missing_with};
 
+use crate::fresh_once::{fresh_term, is_fresh};
 use crate::order::with_pairs;
-use crate::twins::{fresh_term, is_fresh};
 use sp_fact::fact::Fact;
 use sp_system::order::is_before;
 use sp_system::system::{Event, System};

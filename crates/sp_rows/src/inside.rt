@@ -1,7 +1,7 @@
 // Binders that are inside what is opened.
 
 ghost use Rattle.std.specs.Prelude.{◌≡◌, IfOk, map};
-ghost use Rattle.sp_formula.specs.Change.{Change, under};
+ghost use Rattle.sp_spec.specs.Change.{Change, under};
 ghost use Rattle.sp_formula.specs.FormulaView.{binder_of};
 ghost use Rattle.sp_rows.specs.InsideView.{inside_of, under_one};
 

@@ -1,6 +1,6 @@
 // Links that have one source, or lead to one premise.
 
-ghost use Rattle.std.specs.Prelude.{◌≡◌, ◌≤◌, IfOk, drop, is_none, length, map, option_map};
+ghost use Rattle.std.specs.Prelude.{◌≡◌, ◌≤◌, IfOk, drop, length, map, option_map};
 ghost use Rattle.sp_fact.specs.View.{fact_of};
 ghost use Rattle.sp_system.specs.SystemView.{event_of, link_of, system_of};
 ghost use Rattle.sp_spec_graph.specs.LinearOnce as rows;
@@ -9,8 +9,8 @@ ghost use Rattle.sp_spec_system.specs.Picked as picked;
 ghost use Rattle.sp_spec_graph.specs.SourceTwice as source_twice;
 ghost use Rattle.sp_rows.specs.LinksView.{both_of, clash};
 
-use crate::equation::times_equated;
-use crate::twins::takes_fr_twice;
+use crate::fresh_once::takes_fr_twice;
+use crate::made_one::{made_one, stay_apart};
 use sp_fact::fact::Fact;
 use sp_system::system::{Event, Link, System};
 use std::alloc::{AllocError, Global};
@@ -19,9 +19,9 @@ use std::alloc::{AllocError, Global};
 #[derive(Clone, Copy, Debug, PartialEq, Eq)]
 pub enum Clash {
     /// they have one linear source, and their premises are at different times
-    Takers,
+    Premises,
     /// they lead to one premise, and their sources are at different times
-    Givers,
+    Sources,
     /// two premises of one event have one linear source, or two conclusions of one event are one premise
     UsedTwice,
 }
@@ -59,22 +59,22 @@ fn is_linear_premise(events: &Vec<Event>, time: u128, place: usize) -> bool
 }
 
 // Whether the links have one source, which is linear.
-fn one_taken(events: &Vec<Event>, link: Link, other: Link) -> bool
-    ensures { result ≡ rows.one_taken (map event_of events.now.items) (link_of link) (link_of other) }
+fn one_linear_source(events: &Vec<Event>, link: Link, other: Link) -> bool
+    ensures { result ≡ rows.one_linear_source (map event_of events.now.items) (link_of link) (link_of other) }
 {
     link.same_source(other) && is_linear_premise(events, link.to, link.premise)
 }
 
 // Whether the premises have to be one, while their times differ.
-fn takers_apart(events: &Vec<Event>, link: Link, other: Link) -> bool
-    ensures { result ≡ rows.takers_apart (map event_of events.now.items) (link_of link) (link_of other) }
+fn premises_clash(events: &Vec<Event>, link: Link, other: Link) -> bool
+    ensures { result ≡ rows.premises_clash (map event_of events.now.items) (link_of link) (link_of other) }
 {
-    one_taken(events, link, other) && link.to != other.to
+    one_linear_source(events, link, other) && link.to != other.to
 }
 
 // Whether the sources have to be one, while their times differ.
-fn givers_apart(link: Link, other: Link) -> bool
-    ensures { result ≡ rows.givers_apart (link_of link) (link_of other) }
+fn sources_clash(link: Link, other: Link) -> bool
+    ensures { result ≡ rows.sources_clash (link_of link) (link_of other) }
 {
     link.same_premise(other) && link.from != other.from
 }
@@ -83,7 +83,7 @@ fn givers_apart(link: Link, other: Link) -> bool
 fn used_twice(events: &Vec<Event>, link: Link, other: Link) -> bool
     ensures { result ≡ source_twice.used_twice (map event_of events.now.items) (link_of link) (link_of other) }
 {
-    one_taken(events, link, other) && link.to == other.to && link.premise != other.premise
+    one_linear_source(events, link, other) && link.to == other.to && link.premise != other.premise
         || link.same_premise(other)
             && link.from == other.from
             && link.conclusion != other.conclusion
@@ -93,8 +93,8 @@ fn clashes(how: Clash, events: &Vec<Event>, link: Link, other: Link) -> bool
     ensures { result ≡ clash how (map event_of events.now.items) (link_of link) (link_of other) }
 {
     match how {
-        Clash::Takers => takers_apart(events, link, other),
-        Clash::Givers => givers_apart(link, other),
+        Clash::Premises => premises_clash(events, link, other),
+        Clash::Sources => sources_clash(link, other),
         Clash::UsedTwice => used_twice(events, link, other),
     }
 }
@@ -135,10 +135,10 @@ fn first_two(how: Clash, events: &Vec<Event>, links: &Vec<Link>) -> Option<(Link
 fn times_of_links(events: &Vec<Event>, links: &Vec<Link>) -> Option<(u128, u128)>
     ensures { result ≡ rows.times_of_links (map event_of events.now.items) (map link_of links.now.items) }
 {
-    if let Some((link, other)) = first_two(Clash::Takers, events, links) {
+    if let Some((link, other)) = first_two(Clash::Premises, events, links) {
         return Some((link.to, other.to));
     }
-    if let Some((link, other)) = first_two(Clash::Givers, events, links) {
+    if let Some((link, other)) = first_two(Clash::Sources, events, links) {
         return Some((link.from, other.from));
     }
     None
@@ -155,25 +155,19 @@ pub fn linear_once(alloc: Global, system: &System) -> Result<Option<System>, All
     let Some((first, second)) = times_of_links(&system.events, &system.links) else {
         return Ok(None);
     };
-    let made = times_equated(alloc, system, first, second)?;
+    let made = made_one(alloc, system, first, second)?;
     Ok(made)
-}
-
-// Whether the times can't be one.
-fn stay_apart(alloc: Global, system: &System, first: u128, second: u128) -> Result<bool, AllocError>
-    ensures { IfOk result (λ b. b ≡ is_none (making_one.made_one (system_of system.now) (first, second))) }
-{
-    let made = times_equated(alloc, system, first, second)?;
-    Ok(made.is_none())
 }
 
 fn cannot_link(alloc: Global, system: &System, link: Link, other: Link) -> Result<bool, AllocError>
     ensures { IfOk result (λ b. b ≡ rows.cannot_link (system_of system.now) (link_of link) (link_of other)) }
 {
-    if takers_apart(&system.events, link, other) && stay_apart(alloc, system, link.to, other.to)? {
+    if premises_clash(&system.events, link, other)
+        && stay_apart(alloc, system, link.to, other.to)?
+    {
         return Ok(true);
     }
-    if givers_apart(link, other) {
+    if sources_clash(link, other) {
         let apart = stay_apart(alloc, system, link.from, other.from)?;
         return Ok(apart);
     }

@@ -4,7 +4,7 @@ ghost use Rattle.std.specs.Prelude.{◌≡◌, ◌+◌, IfOk, length, map};
 ghost use Rattle.sp_spec.specs.Term.{valued, valued_all};
 ghost use Rattle.sp_spec.specs.Rule.{action_at};
 ghost use Rattle.sp_term.specs.View.{view};
-ghost use Rattle.sp_formula.specs.Change.{place_changed, time_changed, atom_changed, changed, opening};
+ghost use Rattle.sp_spec.specs.Change.{place_changed, time_changed, atom_changed, changed, opening};
 ghost use Rattle.sp_formula.specs.FormulaView.{placed_term, placed_terms, placed_action, moment_of, atom_of, binder_of, formula_of};
 ghost use Rattle.sp_spec_formula.specs.Instances.{instance};
 ghost use Rattle.sp_rows.specs.InsideView.{inside_of};

@@ -10,12 +10,12 @@ use crate::disjunction::disjunction;
 use crate::equation::equate;
 use crate::existential::open_existential;
 use crate::fresh_first::fresh_first;
+use crate::fresh_once::fresh_once;
 use crate::inequality::unequal;
 use crate::instances::instantiate;
 use crate::links::linear_once;
 use crate::order::in_order;
 use crate::stands::action_stands;
-use crate::twins::fresh_once;
 use sp_system::system::System;
 use std::alloc::{AllocError, Global};
 

@@ -11,12 +11,12 @@ use crate::disjunction::disjunction;
 use crate::equation::{equate, fails_to_equate};
 use crate::existential::open_existential;
 use crate::fresh_first::fresh_first;
+use crate::fresh_once::{fails_to_merge, fresh_once};
 use crate::inequality::unequal;
 use crate::instances::instantiate;
 use crate::links::{fails_to_link, has_source_twice, linear_once};
 use crate::order::in_order;
 use crate::stands::action_stands;
-use crate::twins::{fails_to_merge, fresh_once};
 use sp_system::order::is_cyclic;
 use sp_system::system::System;
 use std::alloc::{AllocError, Global};
@@ -70,7 +70,7 @@ fn fails_somewhere(alloc: Global, system: &System) -> Result<bool, AllocError>
     if fails_to_equate(alloc, system)? || fails_to_link(alloc, system)? {
         return Ok(true);
     }
-    fails_to_merge(alloc, &system.events)
+    fails_to_merge(alloc, system)
 }
 
 /// Whether some elementary move has a place, be it one at which it fails.

@@ -5,7 +5,7 @@ use Rattle.sp_spec.specs.Guarded.{Guarded}
 use Rattle.sp_spec.specs.Term.{Variable}
 use Rattle.sp_spec.specs.Rule.{Fact}
 use Rattle.sp_spec_system.specs.System.{Event, System, happening_premises}
-use Rattle.sp_spec_system.specs.Move.{Move, simplify, contradiction, unproved, solved, or, action, premise, Context, Case}
+use Rattle.sp_spec_system.specs.Move.{Move, simplify, contradiction, unproved, solved, or, action, premise, Context, Case, end_log}
 use Rattle.sp_spec_proof.specs.Cases.{simple_case, cases}
 use Rattle.sp_spec_proof.specs.Rows.{rows, by_rows, is_contradictory}
 use Rattle.sp_spec.specs.Log.{Log}
@@ -18,7 +18,7 @@ use Rattle.sp_search.specs.Growing.{least_kept, least_in, leaves_at, leaves, end
 abbrev mutual
   pub Belongs : Context → System → Kept → Type 0
   Belongs context s (leaf t move) = (t ≡ s) × (move ≡ choice context s)
-  Belongs context s (ended log) = context.found s ≡ Some log
+  Belongs context s (ended log) = end_log context s ≡ Some log
   Belongs context s (inner move branches) = (is_unproved move ≡ false) × (is_solved move ≡ false) × AllBelong context (cases context s move) branches
 
   pub AllBelong : Context → Option (List Case) → Keeps → Type 0
@@ -109,9 +109,9 @@ by_choice false false true m n e = refl
 by_choice false false false m n e = absurd (true≢false (ap is_solved e ∙ n))
 
 -- where the end of the search is chosen, there is a log
-has_log : (context : Context) (s : System) → solved ≡ choice context s → is_some (context.found s) ≡ true
+has_log : (context : Context) (s : System) → solved ≡ choice context s → is_some (end_log context s) ≡ true
 has_log context s e =
-    by_choice (is_contradictory s) (is_some (by_rows rows s)) (is_some (context.found s)) (first_disjunction context s 0 s.formulas) (no_end_disjunction context s 0 s.formulas) e
+    by_choice (is_contradictory s) (is_some (by_rows rows s)) (is_some (end_log context s)) (first_disjunction context s 0 s.formulas) (no_end_disjunction context s 0 s.formulas) e
 
 ended_shows : (o : Option Log) → shown (ended_with o) ≡ node solved (open_leaves (option_map (map simple_case) (let r : Option (List Case) = if is_some o then Some [] else None in r)))
 ended_shows None = refl
@@ -121,12 +121,12 @@ replaced_shows : (context : Context) (s : System) (m : Move) → shown (replaced
 replaced_shows context s simplify = ap (node simplify) (leaves_show context (cases context s simplify))
 replaced_shows context s contradiction = ap (node contradiction) (leaves_show context (cases context s contradiction))
 replaced_shows context s unproved = ap (node unproved) (leaves_show context (cases context s unproved))
-replaced_shows context s solved = ended_shows (context.found s)
+replaced_shows context s solved = ended_shows (end_log context s)
 replaced_shows context s (or k) = ap (node (or k)) (leaves_show context (cases context s (or k)))
 replaced_shows context s (action k) = ap (node (action k)) (leaves_show context (cases context s (action k)))
 replaced_shows context s (premise i p) = ap (node (premise i p)) (leaves_show context (cases context s (premise i p)))
 
-ended_belongs : (context : Context) (s : System) (o : Option Log) → context.found s ≡ o → is_some o ≡ true → Belongs context s (ended_with o)
+ended_belongs : (context : Context) (s : System) (o : Option Log) → end_log context s ≡ o → is_some o ≡ true → Belongs context s (ended_with o)
 ended_belongs context s None e some = absurd (true≢false (sym some))
 ended_belongs context s (Some log) e some = e
 
@@ -134,7 +134,7 @@ replaced_belongs : (context : Context) (s : System) (m : Move) (depth k : ℕ) �
 replaced_belongs context s simplify depth k is e = (refl, refl, leaves_belong context (cases context s simplify))
 replaced_belongs context s contradiction depth k is e = (refl, refl, leaves_belong context (cases context s contradiction))
 replaced_belongs context s unproved depth k is e = absurd (true≢false (sym e))
-replaced_belongs context s solved depth k is e = ended_belongs context s (context.found s) refl (has_log context s is)
+replaced_belongs context s solved depth k is e = ended_belongs context s (end_log context s) refl (has_log context s is)
 replaced_belongs context s (or n) depth k is e = (refl, refl, leaves_belong context (cases context s (or n)))
 replaced_belongs context s (action n) depth k is e = (refl, refl, leaves_belong context (cases context s (action n)))
 replaced_belongs context s (premise i p) depth k is e = (refl, refl, leaves_belong context (cases context s (premise i p)))

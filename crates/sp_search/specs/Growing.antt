@@ -2,7 +2,7 @@
 use Rattle.std.specs.Prelude.{ℕ, ◌+◌, Bool, true, false, List, map, Option, Some, None, is_some, if◌then◌else◌}
 use Rattle.sp_spec.specs.Log.{Log}
 use Rattle.sp_spec_system.specs.System.{System}
-use Rattle.sp_spec_system.specs.Move.{Move, solved, Context, Case}
+use Rattle.sp_spec_system.specs.Move.{Move, solved, Context, Case, end_log}
 use Rattle.sp_spec_proof.specs.Cases.{cases}
 use Rattle.sp_spec_proof.specs.Tree.{is_solved}
 use Rattle.sp_spec_proof.specs.Growth.{choice, class_of, least, has_class}
@@ -40,7 +40,7 @@ ended_with (Some log) = ended log
 
 -- a leaf replaced by its move
 abbrev pub replaced : Context → System → Move → Kept
-replaced context s move = if is_solved move then ended_with (context.found s) else inner move (leaves context (cases context s move))
+replaced context s move = if is_solved move then ended_with (end_log context s) else inner move (leaves context (cases context s move))
 
 -- what stands for a tree, and whether a leaf has been replaced by now
 abbrev pub opened : Context → System → Move → Bool → Kept × Bool

@@ -11,9 +11,9 @@ ghost use Rattle.sp_search.specs.Choosing.{open_from};
 
 use sp_moves::action::is_solvable;
 use sp_moves::context::Context;
-use sp_moves::giver::{Premise, open_premise};
 use sp_moves::moves::Move;
 use sp_moves::part::is_disjunction;
+use sp_moves::premise::{Premise, open_premise};
 use sp_rows::simplify::{by_rows, is_contradictory};
 use sp_system::system::{Event, System};
 use std::alloc::{AllocError, Global};

@@ -8,6 +8,7 @@ ghost use Rattle.sp_spec_proof.specs.Tree.{found_log};
 ghost use Rattle.sp_search.specs.Kept.{log_in};
 ghost use Rattle.sp_search.specs.Growing as growing;
 ghost use Rattle.sp_search.specs.View.{kept_of, branch_of, branches_of, tree_of};
+ghost use Rattle.sp_spec_system.specs.Move.{end_log};
 
 use crate::choose::choice;
 use crate::class::{class_of, deeper, least_class};
@@ -64,7 +65,7 @@ fn leaves(
 
 // The leaf with which the search ends, with its log.
 fn ended(alloc: Global, context: &Context, system: &System) -> Result<Tree, AllocError>
-    ensures { IfOk result (λ t. kept_of t ≡ growing.ended_with ((context_of context.now).found (system_of system.now))) }
+    ensures { IfOk result (λ t. kept_of t ≡ growing.ended_with (end_log (context_of context.now) (system_of system.now))) }
 {
     match context.found(alloc, system)? {
         Some(log) => {

@@ -9,11 +9,11 @@ use Rattle.sp_spec_system.specs.System.{System, Event, happening_actions}
 use Rattle.sp_spec_system.specs.Formulas.{Found}
 use Rattle.sp_spec_system.specs.MakingOne.{event_at}
 use Rattle.sp_spec_proof.specs.Rows.{has_place, is_contradictory}
-use Rattle.sp_spec_system.specs.Move.{Move, simplify, contradiction, unproved, solved, or, action, premise, Context, Case}
+use Rattle.sp_spec_system.specs.Move.{Move, simplify, contradiction, unproved, solved, or, action, premise, Context, Case, end_log}
 use Rattle.sp_spec_system.specs.Cases.{where_same, case_if, numbered, named}
 use Rattle.sp_spec_formula.specs.Action.{at_event, by_forms, by_each, action_cases, solving_action}
 use Rattle.sp_spec_formula.specs.Or.{by_part, disjunction_at, or_cases}
-use Rattle.sp_spec_graph.specs.Premise.{giver_forms, by_each_giver, open_premise, premise_cases}
+use Rattle.sp_spec_graph.specs.Premise.{source_forms, by_each_source, open_premise, premise_cases}
 use Rattle.sp_spec_proof.specs.Cases.{raw_cases, simple_case, cases}
 use Rattle.sp_spec_proof.specs.Tree.{Tree, node, Branches, no_branch, branch, IsAccepted, AreAccepted}
 use Rattle.sp_spec_proof.specs.Growth.{grown_tree}
@@ -64,11 +64,11 @@ part_cases_named : (s : System) (r : Found Guardeds) (k : ℕ) (fs : Guardeds) �
 part_cases_named s r k no_more = tt
 part_cases_named s r k (and_then f fs) = let n = part_named k in (n.0, n.1, part_cases_named s r (suc k) fs)
 
-givers_named : (rules : List RuleForms) (s : System) (i p : ℕ) (f : Fact Variable) → AreNamed rules → CasesNamed (by_each_giver rules s i p f)
-givers_named [] s i p f h = tt
-givers_named (r ∷ rules) s i p f h =
-    let made = giver_forms r.forms s i p f in
-    named_append (named r.name made) (by_each_giver rules s i p f) (rule_named r.name made h.0 h.1) (givers_named rules s i p f h.2)
+sources_named : (rules : List RuleForms) (s : System) (i p : ℕ) (f : Fact Variable) → AreNamed rules → CasesNamed (by_each_source rules s i p f)
+sources_named [] s i p f h = tt
+sources_named (r ∷ rules) s i p f h =
+    let made = source_forms r.forms s i p f in
+    named_append (named r.name made) (by_each_source rules s i p f) (rule_named r.name made h.0 h.1) (sources_named rules s i p f h.2)
 
 action_named : (rules : List RuleForms) (s : System) (i : ℕ) (a : Action Variable) (o : Option Event) → AreNamed rules → CasesNamed (action_cases rules s i a o)
 action_named rules s i a (Some e) h = event_named s a 0 (happening_actions e.happening)
@@ -103,7 +103,7 @@ or_fine s (Some r) cs e = let f : by_part s r 1 r.picked ≡ cs = cc in inl (sub
 
 premise_fine : (rules : List RuleForms) (s : System) (i p : ℕ) (o : Option (Fact Variable)) (cs : List Case) → AreNamed rules → premise_cases rules s i p o ≡ Some cs → Fine cs
 premise_fine rules s i p None cs h e = absurd (let none : ⊥ = cc in none)
-premise_fine rules s i p (Some f) cs h e = let g : by_each_giver rules s i p f ≡ cs = cc in inl (subst CasesNamed g (givers_named rules s i p f h))
+premise_fine rules s i p (Some f) cs h e = let g : by_each_source rules s i p f ≡ cs = cc in inl (subst CasesNamed g (sources_named rules s i p f h))
 
 raw_fine : (context : Context) (s : System) (move : Move) (cs : List Case) → AreNamed context.rules.forms → raw_cases context s move ≡ Some cs → Fine cs
 raw_fine context s simplify cs h e = at (has_place s) e
@@ -117,7 +117,7 @@ raw_fine context s contradiction cs h e = at (is_contradictory s) e
     at true e = fine_nothing cs (let f : [] ≡ cs = cc in f)
     at false e = absurd (let none : ⊥ = cc in none)
 raw_fine context s unproved cs h e = fine_nothing cs (let f : [] ≡ cs = cc in f)
-raw_fine context s solved cs h e = at (is_some (context.found s)) e
+raw_fine context s solved cs h e = at (is_some (end_log context s)) e
   where
     at : (b : Bool) → (if b then Some [] else None) ≡ Some cs → Fine cs
     at true e = fine_nothing cs (let f : [] ≡ cs = cc in f)
@@ -180,7 +180,7 @@ end_fine context (Some log) (branch name t bs) h = absurd h
 
 mutual
   pub tree_readable : (context : Context) (s : System) (t : Tree) → AreNamed context.rules.forms → HavePlaces t → IsAccepted context s t → IsReadable t
-  tree_readable context s (node solved bs) n p h = end_fine context (context.found s) bs h
+  tree_readable context s (node solved bs) n p h = end_fine context (end_log context s) bs h
   tree_readable context s (node simplify bs) n p h = node_fine context simplify bs (cases context s simplify) (λ cs e. move_fine context s simplify cs n e) p.0 tt h (trees_readable context (cases context s simplify) bs n p.1 h)
   tree_readable context s (node contradiction bs) n p h = node_fine context contradiction bs (cases context s contradiction) (λ cs e. move_fine context s contradiction cs n e) p.0 tt h (trees_readable context (cases context s contradiction) bs n p.1 h)
   tree_readable context s (node unproved bs) n p h = node_fine context unproved bs (cases context s unproved) (λ cs e. move_fine context s unproved cs n e) p.0 tt h (trees_readable context (cases context s unproved) bs n p.1 h)

@@ -8,8 +8,8 @@ ghost use Rattle.sp_skel.specs.Steps as spec;
 
 use crate::texts::{first_word, is, is_unbuilt, only_number, other_words, trimmed, two_numbers};
 use sp_check::Step;
-use sp_moves::giver::Premise;
 use sp_moves::moves::Move;
+use sp_moves::premise::Premise;
 use sp_written::Method;
 use std::alloc::{AllocError, Global};
 

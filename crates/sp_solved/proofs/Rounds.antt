@@ -23,10 +23,10 @@ stuck order total i left listed target h e inv =
     ∙ ap (λ (o : Option (spec.Event × List spec.Event)). behind listed (in_round (one_by_one (total - (i + 1)) order) o)) e)
     ∙ inv
 
-pub one_taken : (order : List (ℕ × ℕ)) (total i : ℕ) (left others : List spec.Event) (listed now : List (Bor Event)) (e : Bor Event) (target : Option (List spec.Event)) → i < total
+pub one_linear_source : (order : List (ℕ × ℕ)) (total i : ℕ) (left others : List spec.Event) (listed now : List (Bor Event)) (e : Bor Event) (target : Option (List spec.Event)) → i < total
     → first_free order left left ≡ Some (event_of e.now, others) → now ≡ listed ++ e ∷ []
     → behind (events_of listed) (one_by_one (total - i) order left) ≡ target → behind (events_of now) (one_by_one (total - (i + 1)) order others) ≡ target
-one_taken order total i left others listed now e target h taken put inv =
+one_linear_source order total i left others listed now e target h taken put inv =
     ap (λ (es : List (Bor Event)). behind (events_of es) (one_by_one (total - (i + 1)) order others)) put
     ∙ ap (λ (es : List spec.Event). behind es (one_by_one (total - (i + 1)) order others)) (map-append (λ (d : Bor Event). event_of d.now) listed (e ∷ []))
     ∙ regrouped (events_of listed) (event_of e.now) (one_by_one (total - (i + 1)) order others)

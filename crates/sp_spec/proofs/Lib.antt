@@ -6,3 +6,5 @@ pub mod Facts
 pub mod Sorts
 pub mod Listed
 pub mod Occurrences
+pub mod Values
+pub mod Standing

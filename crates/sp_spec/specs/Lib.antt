@@ -15,4 +15,7 @@ pub mod Destruction
 pub mod Log
 pub mod Verdict
 pub mod Written
+pub mod Constants
 pub mod Findings
+pub mod Change
+pub mod SameFormula

@@ -55,6 +55,10 @@ visible_trace (learn m how ∷ past) = visible_trace past
 abbrev pub is_fr : {V : Type 0} → Fact V → Bool
 is_fr f = bytes_eq f.symbol (codes "Fr") && not f.persistent
 
+-- a premise In(t)
+abbrev pub is_in : {V : Type 0} → Fact V → Bool
+is_in f = bytes_eq f.symbol (codes "In") && not f.persistent
+
 abbrev pub first_arg : Grounds → List Ground
 first_arg none = []
 first_arg (more t ts) = t ∷ []

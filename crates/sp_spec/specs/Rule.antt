@@ -3,7 +3,7 @@
 use Rattle.std.specs.Prelude.{◌≡◌, ℕ, suc, Bool, true, false, List, [], ◌∷◌, ◌++◌, map, codes, Option, Some, None, if◌then◌else◌}
 use Rattle.std.specs.Str.{bytes_eq}
 use Rattle.sp_spec.specs.Lists.{Every}
-use Rattle.sp_spec.specs.Term.{Sort, Fresh, Variable, Term, var, Terms, none, more, Ground, Values, valued_all, in_terms, EachVariables}
+use Rattle.sp_spec.specs.Term.{Sort, Fresh, Variable, Term, var, Terms, none, more, Ground, Values, valued_all, in_terms, EachVariables, Names, AllMadeOf}
 use Rattle.sp_spec.specs.Equal.{EqualAll, AreNormalFormsOf}
 use Rattle.sp_spec.specs.Signature.{Equation}
 
@@ -69,6 +69,10 @@ pub record OfArguments {V : Type 0} (P : Terms V → Type 0) (facts : Facts V) :
   pub premises : Every (λ (f : Fact V). P f.args) facts.premises
   pub actions : Every (λ (a : Action V). P a.args) facts.actions
   pub conclusions : Every (λ (f : Fact V). P f.args) facts.conclusions
+
+-- the facts' terms are made of such names, and of variables of which it holds
+abbrev pub FactsMadeOf : {V : Type 0} → Names → (V → Type 0) → Facts V → Type 0
+FactsMadeOf N P facts = OfArguments (AllMadeOf N P) facts
 
 -- it holds of each variable in the facts
 abbrev pub InFacts : {V : Type 0} → (V → Type 0) → Facts V → Type 0

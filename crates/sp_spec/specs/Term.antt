@@ -57,17 +57,35 @@ abbrev mutual
   in_terms none = []
   in_terms (more t ts) = in_term t ++ in_terms ts
 
--- it holds of each variable in the term
-abbrev mutual
-  pub EachVariable : {V : Type 0} → (V → Type 0) → Term V → Type 0
-  EachVariable P (var x) = P x
-  EachVariable P (constant c) = Unit {0}
-  EachVariable P (name n) = Unit {0}
-  EachVariable P (app f ts) = EachVariables P ts
+-- which names a term may have, public and fresh
+pub data Name : Type 0 where
+  public_name : List ℕ → Name
+  fresh_name : ℕ → Name
 
-  pub EachVariables : {V : Type 0} → (V → Type 0) → Terms V → Type 0
-  EachVariables P none = Unit {0}
-  EachVariables P (more t ts) = EachVariable P t × EachVariables P ts
+abbrev pub Names : Type 1
+Names = Name → Type 0
+
+-- the term is made of such names, and of variables of which it holds
+abbrev mutual
+  pub MadeOf : {V : Type 0} → Names → (V → Type 0) → Term V → Type 0
+  MadeOf N P (var x) = P x
+  MadeOf N P (constant c) = N (public_name c)
+  MadeOf N P (name n) = N (fresh_name n)
+  MadeOf N P (app f ts) = AllMadeOf N P ts
+
+  pub AllMadeOf : {V : Type 0} → Names → (V → Type 0) → Terms V → Type 0
+  AllMadeOf N P none = Unit {0}
+  AllMadeOf N P (more t ts) = MadeOf N P t × AllMadeOf N P ts
+
+-- it holds of each variable in the term, whatever names it has
+abbrev pub any_names : Names
+any_names a = Unit {0}
+
+abbrev pub EachVariable : {V : Type 0} → (V → Type 0) → Term V → Type 0
+EachVariable P t = MadeOf any_names P t
+
+abbrev pub EachVariables : {V : Type 0} → (V → Type 0) → Terms V → Type 0
+EachVariables P ts = AllMadeOf any_names P ts
 
 abbrev pub count : {V : Type 0} → Terms V → ℕ
 count none = 0

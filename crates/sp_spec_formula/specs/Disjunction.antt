@@ -1,7 +1,7 @@
 -- Disjunction: its known parts and its false ones. Source: CSF 2012, "Constraint solving" (simplification of formulas).
 use Rattle.std.specs.Prelude.{◌||◌, Bool, false, List, [], ◌∷◌, true, Option, Some, None, option_map, if◌then◌else◌}
 use Rattle.sp_spec.specs.Guarded.{Guarded, truth, Guardeds, no_more, and_then, falsity, one_of}
-use Rattle.sp_formula.specs.SameFormula.{same_formula}
+use Rattle.sp_spec.specs.SameFormula.{same_formula}
 use Rattle.sp_spec_system.specs.System.{System}
 use Rattle.sp_spec_system.specs.Formulas.{first_formula, spending}
 

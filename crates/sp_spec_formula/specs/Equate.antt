@@ -7,7 +7,7 @@ use Rattle.sp_spec_system.specs.Formulas.{pair_of, first_formula, spending}
 use Rattle.sp_spec.specs.Substitution.{bound_to}
 use Rattle.sp_spec_system.specs.System.{System}
 use Rattle.sp_spec_system.specs.Equating.{system_changed}
-use Rattle.sp_spec_system.specs.MakingOne.{twins_by, at_times, times_equated}
+use Rattle.sp_spec_system.specs.MakingOne.{made_one}
 
 -- Equate: terms that are said to have one value are made the same by their unifier, and of times that are said to be one the larger
 -- number is replaced by the smaller. Events at both times are one.
@@ -23,7 +23,7 @@ equation_of f = None
 -- none where terms have no unifier, or facts of events that are to be one
 abbrev pub equated : System → Equation → Option System
 equated s (equal_terms p) = option_map (λ bs. system_changed (bound_to bs) (λ i. i) s) (mgu (p ∷ []))
-equated s (equal_times i j) = if i == j then Some s else times_equated s i j (twins_by (at_times i j) s.events)
+equated s (equal_times i j) = if i == j then Some s else made_one s (i, j)
 
 abbrev pub equate : System → Option System
 equate s = option_and_then (λ r. equated (spending s r []) r.picked) (first_formula equation_of s.formulas)

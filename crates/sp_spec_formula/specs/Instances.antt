@@ -7,7 +7,7 @@ use Rattle.sp_spec.specs.Term.{Sort, Variable, Term, Msg, Pub, var, constant, na
 use Rattle.sp_spec.specs.Guarded.{Binder, message, time, Place, free, bound, Time, free_time, bound_time, Atom, same, acts, pushed, Guarded}
 use Rattle.sp_spec.specs.Same.{same_sort, alike}
 use Rattle.sp_spec.specs.Rule.{Action}
-use Rattle.sp_formula.specs.Change.{placed, Change, changed}
+use Rattle.sp_spec.specs.Change.{placed, Change, changed}
 
 -- what a quantifier binds, the innermost first, with the value that it has by now
 pub record Slot : Type 0 where

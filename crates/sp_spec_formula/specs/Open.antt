@@ -1,7 +1,7 @@
 -- Open: an existential formula. Source: CSF 2012, "Constraint solving" (the rule on existential quantifiers).
 use Rattle.std.specs.Prelude.{List, Option, Some, None, ◌+◌, [], ◌∷◌, ◌++◌, map, length, option_map}
 use Rattle.sp_spec.specs.Guarded.{Binder, Atom, Guarded, some, holds}
-use Rattle.sp_formula.specs.Change.{atom_changed, changed, opening}
+use Rattle.sp_spec.specs.Change.{atom_changed, changed, opening}
 use Rattle.sp_spec_system.specs.System.{System, with_next}
 use Rattle.sp_spec_system.specs.Formulas.{Found, spending, first_formula}
 

@@ -2,9 +2,9 @@
 use Rattle.std.specs.Prelude.{◌&&◌, Bool, ℕ, ◌==◌, ◌||◌, false, List, [], ◌∷◌, if◌then◌else◌, Option, Some, None, suc, ◌++◌}
 use Rattle.sp_spec.specs.Rule.{Fact, Rule}
 use Rattle.sp_spec_formula.specs.Action.{with_step}
-use Rattle.sp_spec_system.specs.System.{Link, System, with_links, with_order, with_next, is_in}
+use Rattle.sp_spec_system.specs.System.{Link, System, with_links, with_order, with_next}
+use Rattle.sp_spec.specs.Log.{is_in, is_fr}
 use Rattle.sp_spec.specs.Term.{Variable}
-use Rattle.sp_spec.specs.Log.{is_fr}
 use Rattle.sp_spec_system.specs.MakingOne.{premise_at}
 use Rattle.sp_spec_system.specs.Move.{Case}
 use Rattle.sp_spec_system.specs.Cases.{renamed, system_if, where_same_fact, named}
@@ -27,24 +27,24 @@ abbrev pub awaiting : System → ℕ → ℕ → ℕ → System
 awaiting s i p k = with_next (with_order (with_links s (s.links ++ record { from = s.next; conclusion = k; to = i; premise = p } ∷ [])) (s.order ++ (s.next, i) ∷ [])) (suc s.next)
 
 -- a new step of the rule, at the next number, whose conclusion of that place is the premise
-abbrev pub with_giver : System → ℕ → ℕ → Rule → ℕ → System
-with_giver s i p r k = with_step (awaiting s i p k) s.next r
+abbrev pub with_source : System → ℕ → ℕ → Rule → ℕ → System
+with_source s i p r k = with_step (awaiting s i p k) s.next r
 
 -- each of a rule's conclusions, from this place on, that may be the premise
 abbrev pub by_conclusions : System → ℕ → ℕ → Fact Variable → Rule → ℕ → List (Fact Variable) → List System
 by_conclusions s i p f r k [] = []
-by_conclusions s i p f r k (g ∷ gs) = system_if (where_same_fact (with_giver s i p r k) f g) ++ by_conclusions s i p f r (suc k) gs
+by_conclusions s i p f r k (g ∷ gs) = system_if (where_same_fact (with_source s i p r k) f g) ++ by_conclusions s i p f r (suc k) gs
 
 -- by each of these forms of a rule
-abbrev pub giver_forms : List Rule → System → ℕ → ℕ → Fact Variable → List System
-giver_forms [] s i p f = []
-giver_forms (r ∷ forms) s i p f = by_conclusions s i p f r 0 (renamed (suc s.next) r.facts).conclusions ++ giver_forms forms s i p f
+abbrev pub source_forms : List Rule → System → ℕ → ℕ → Fact Variable → List System
+source_forms [] s i p f = []
+source_forms (r ∷ forms) s i p f = by_conclusions s i p f r 0 (renamed (suc s.next) r.facts).conclusions ++ source_forms forms s i p f
 
 -- by each rule
-abbrev pub by_each_giver : List RuleForms → System → ℕ → ℕ → Fact Variable → List Case
-by_each_giver [] s i p f = []
-by_each_giver (rule ∷ rules) s i p f = named rule.name (giver_forms rule.forms s i p f) ++ by_each_giver rules s i p f
+abbrev pub by_each_source : List RuleForms → System → ℕ → ℕ → Fact Variable → List Case
+by_each_source [] s i p f = []
+by_each_source (rule ∷ rules) s i p f = named rule.name (source_forms rule.forms s i p f) ++ by_each_source rules s i p f
 
 abbrev pub premise_cases : List RuleForms → System → ℕ → ℕ → Option (Fact Variable) → Option (List Case)
 premise_cases rules s i p None = None
-premise_cases rules s i p (Some f) = Some (by_each_giver rules s i p f)
+premise_cases rules s i p (Some f) = Some (by_each_source rules s i p f)

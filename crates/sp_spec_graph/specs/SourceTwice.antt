@@ -2,7 +2,7 @@
 use Rattle.std.specs.Prelude.{◌==◌, ◌&&◌, ◌||◌, not, Bool, List, false, [], ◌∷◌}
 use Rattle.sp_spec_system.specs.System.{Event, Link, System}
 use Rattle.sp_spec_system.specs.Equating.{same_premise}
-use Rattle.sp_spec_graph.specs.LinearOnce.{one_taken}
+use Rattle.sp_spec_graph.specs.LinearOnce.{one_linear_source}
 use Rattle.sp_spec.specs.Term.{Variable, Term}
 use Rattle.sp_spec_graph.specs.Fresh.{stands_in, happening_fresh}
 use Rattle.sp_spec_system.specs.Picked.{some_two}
@@ -11,7 +11,7 @@ use Rattle.sp_spec_system.specs.Picked.{some_two}
 -- one event are the same Fr.
 abbrev pub used_twice : List Event → Link → Link → Bool
 used_twice events l m =
-    one_taken events l m && (l.to == m.to) && not (l.premise == m.premise) || same_premise l m && (l.from == m.from) && not (l.conclusion == m.conclusion)
+    one_linear_source events l m && (l.to == m.to) && not (l.premise == m.premise) || same_premise l m && (l.from == m.from) && not (l.conclusion == m.conclusion)
 
 abbrev pub repeats : List (Term Variable) → Bool
 repeats [] = false

@@ -1,7 +1,7 @@
 -- How a tree is grown: this project's own search. One open leaf after the other is replaced by its chosen move.
 use Rattle.std.specs.Prelude.{Bool, is_some, ℕ, suc, List, [], ◌∷◌, if◌then◌else◌, ◌+◌, Option, Some, None, min, true, false, ◌==◌, option_map, ◌||◌, zero}
 use Rattle.sp_spec_system.specs.System.{System, Event, happening_premises}
-use Rattle.sp_spec_system.specs.Move.{Move, Context, premise, unproved, action, or, simplify, contradiction, solved, Case}
+use Rattle.sp_spec_system.specs.Move.{Move, Context, premise, unproved, action, or, simplify, contradiction, solved, Case, end_log}
 use Rattle.sp_spec_proof.specs.Cases.{cases}
 use Rattle.sp_spec.specs.Term.{Variable}
 use Rattle.sp_spec.specs.Rule.{Fact}
@@ -34,7 +34,7 @@ abbrev pub choice : Context → System → Move
 choice context s =
     if is_contradictory s then contradiction
     else if is_some (by_rows rows s) then simplify
-    else if is_some (context.found s) then solved
+    else if is_some (end_log context s) then solved
     else first_disjunction context s 0 s.formulas
 
 -- The class of an open leaf is the rank of its chosen move and its depth; a leaf without a move has none.

@@ -57,7 +57,7 @@ by_rows (row ∷ more_rows) s = first_of (by_row row s) (by_rows more_rows s)
 
 -- a row has a place at which the unification or the merge fails
 abbrev pub fails_somewhere : System → Bool
-fails_somewhere s = fails_to_equate s s.formulas || (fails_to_link s || fails_to_merge s.events)
+fails_somewhere s = fails_to_equate s s.formulas || (fails_to_link s || fails_to_merge s)
 
 abbrev pub is_contradictory : System → Bool
 is_contradictory s =

@@ -1,6 +1,6 @@
 -- Proof trees: which are accepted. Source: Tamarin manual, "Proofs".
 use Rattle.std.specs.Prelude.{ℕ, List, ◌≡◌, [], ◌∷◌, Option, Some, None, Bool, true, false, if◌then◌else◌, ◌+◌}
-use Rattle.sp_spec_system.specs.Move.{Move, Context, Case, unproved, solved}
+use Rattle.sp_spec_system.specs.Move.{Move, Context, Case, unproved, solved, end_log}
 use Rattle.sp_spec_system.specs.System.{System}
 use Rattle.sp_spec_proof.specs.Cases.{cases}
 use Rattle.sp_spec.specs.Log.{Log}
@@ -52,7 +52,7 @@ first_log None later = later
 -- the log of the first leaf in preorder with which the search ends
 abbrev mutual
   pub found_log : Context → System → Tree → Option Log
-  found_log context s (node move branches) = if is_solved move then context.found s else found_below context (cases context s move) branches
+  found_log context s (node move branches) = if is_solved move then end_log context s else found_below context (cases context s move) branches
 
   pub found_below : Context → Option (List Case) → Branches → Option Log
   found_below context (Some (c ∷ cs)) (branch name tree branches) = first_log (found_log context c.system tree) (found_below context (Some cs) branches)

@@ -5,7 +5,7 @@ use Rattle.sp_spec.specs.Term.{Variable, Term, valued, Terms, none, more}
 use Rattle.sp_spec.specs.Rule.{facts_at, Fact, Action}
 use Rattle.sp_spec_system.specs.System.{Happening, rule_step, Event, Link, System, with_events}
 use Rattle.sp_spec.specs.Unifier.{Pair, mgu}
-use Rattle.sp_formula.specs.Change.{free_change, changed, time_replaced}
+use Rattle.sp_spec.specs.Change.{free_change, changed, time_replaced}
 use Rattle.sp_spec.specs.Substitution.{Binding, bound_to}
 
 abbrev pub happening_changed : (Variable → Term Variable) → Happening → Happening

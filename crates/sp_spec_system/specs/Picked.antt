@@ -1,14 +1,13 @@
 -- What is picked from a list: the first of its elements, or the first two, of a kind.
 use Rattle.std.specs.Prelude.{Bool, if◌then◌else◌, List, [], ◌∷◌, Option, Some, None, ℕ, ◌||◌, false}
 use Rattle.std.specs.Option.{option_or}
-use Rattle.sp_spec_system.specs.System.{Link}
 
 -- the first two, in the order of the list
-abbrev pub first_with : (Link → Link → Bool) → Link → List Link → Option (Link × Link)
+abbrev pub first_with : {A : Type 0} → (A → A → Bool) → A → List A → Option (A × A)
 first_with test l [] = None
 first_with test l (m ∷ ms) = if test l m then Some (l, m) else first_with test l ms
 
-abbrev pub first_two : (Link → Link → Bool) → List Link → Option (Link × Link)
+abbrev pub first_two : {A : Type 0} → (A → A → Bool) → List A → Option (A × A)
 first_two test [] = None
 first_two test (l ∷ ls) = option_or (first_with test l ls) (first_two test ls)
 
@@ -20,11 +19,11 @@ abbrev pub first_some : {A B : Type 0} → (A → Option B) → List A → Optio
 first_some pick [] = None
 first_some pick (x ∷ xs) = option_or (pick x) (first_some pick xs)
 
--- The same of links: two of them make two times one whose events can't be one.
-abbrev pub some_with : (Link → Link → Bool) → Link → List Link → Bool
+-- whether some two are of the kind
+abbrev pub some_with : {A : Type 0} → (A → A → Bool) → A → List A → Bool
 some_with test l [] = false
 some_with test l (m ∷ ms) = test l m || some_with test l ms
 
-abbrev pub some_two : (Link → Link → Bool) → List Link → Bool
+abbrev pub some_two : {A : Type 0} → (A → A → Bool) → List A → Bool
 some_two test [] = false
 some_two test (l ∷ ls) = some_with test l ls || some_two test ls

@@ -1,5 +1,5 @@
 -- Constraint systems. Source: CSF 2012, "Constraint solving" (constraint systems); Schmidt's thesis, chapter 3; Meier's thesis, chapter 3.
-use Rattle.std.specs.Prelude.{ℕ, Bool, not, ◌&&◌, List, ◌++◌, codes, bytes_eq}
+use Rattle.std.specs.Prelude.{ℕ, List, ◌++◌}
 use Rattle.sp_spec.specs.Term.{Variable, Term}
 use Rattle.sp_spec.specs.Rule.{Facts, Fact, Action}
 use Rattle.sp_spec.specs.Guarded.{Guarded}
@@ -63,7 +63,3 @@ with_next s x = record { events = s.events; formulas = s.formulas; spent = s.spe
 -- with more order pairs
 abbrev pub with_pairs : System → List (ℕ × ℕ) → System
 with_pairs s pairs = with_order s (s.order ++ pairs)
-
--- a premise In(t)
-abbrev pub is_in : {V : Type 0} → Fact V → Bool
-is_in f = bytes_eq f.symbol (codes "In") && not f.persistent

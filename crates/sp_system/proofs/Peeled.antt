@@ -2,27 +2,12 @@
 use Rattle.std.proofs.Common.{◌≡◌, ◌≤◌, ◌+◌, ℕ, suc, Bool, true, false, ◌||◌, ◌==◌, if◌then◌else◌, [], ◌∷◌, ◌++◌, length, ◌⊎◌, ⊎_elim, inl, inr, refl, sym, ap, ◌∙◌, subst, append_assoc, append-nil, length-append, true≢false, arith}
 use Rattle.std.proofs.lemmas.Bool.{or_cases, eqb-true, eq-eqb, or_parts}
 use Rattle.sp_spec.specs.Lists.{Member, Every}
-use Rattle.sp_spec_system.specs.Order.{Path, last_pair, then_path, is_before, begins_cycle, is_cyclic}
+use Rattle.sp_spec_system.specs.Order.{Path, last_pair, then_path, is_before, is_cyclic}
 use Rattle.sp_system.specs.OrderView.{begins_at, peeled}
-use Rattle.sp_law_system.proofs.ShortPaths.{Pairs, path_of, short, before_before, not_before_itself}
+use Rattle.sp_law_system.proofs.ShortPaths.{Pairs, path_before, begins_path, has_cycle, before_before, not_before_itself}
 use Rattle.sp_spec.proofs.Bools.{same_tests}
 
 -- ---- cycles as paths
-
-cycle_at : (order pairs : Pairs) → begins_cycle order pairs ≡ true → (i : ℕ) × Path order i i
-cycle_at order [] e = absurd cc
-cycle_at order (p ∷ pairs) e =
-    ⊎_elim (λ s. (p.0, path_of (length order) order p.0 p.0 s)) (λ s. cycle_at order pairs s) (or_cases (is_before order p.0 p.0) (begins_cycle order pairs) e)
-
-is_path : (order : Pairs) (i j : ℕ) → Path order i j → is_before order i j ≡ true
-is_path order i j w = short (length order) order (omega arith) i j w
-
-is_cycle : (order : Pairs) (i : ℕ) → Path order i i → is_cyclic order ≡ true
-is_cycle order i w = at (is_cyclic order) refl
-  where
-    at : (b : Bool) → is_cyclic order ≡ b → is_cyclic order ≡ true
-    at true e = e
-    at false e = absurd (true≢false (sym (is_path order i i w) ∙ not_before_itself order e i))
 
 -- the pair with which a path begins
 first_of : (order : Pairs) (i j : ℕ) → Path order i j → (p : ℕ × ℕ) × Member p order × (p.0 ≡ i)
@@ -70,12 +55,12 @@ module _ (front : Pairs) (p : ℕ × ℕ) (back : Pairs) (none : (q : ℕ × ℕ
   left_out =
       same_tests (is_cyclic (front ++ back)) (is_cyclic (front ++ p ∷ back))
       (λ e.
-      let c = cycle_at (front ++ back) (front ++ back) e in
-      is_cycle (front ++ p ∷ back) c.0 (more_path (front ++ back) (front ++ p ∷ back) (λ q m. was_there front p back q m) c.0 c.0 c.1))
+      let c = begins_path (front ++ back) (front ++ back) e in
+      has_cycle (front ++ p ∷ back) (c.0, more_path (front ++ back) (front ++ p ∷ back) (λ q m. was_there front p back q m) c.0 c.0 c.1))
       (λ e.
-      let c = cycle_at (front ++ p ∷ back) (front ++ p ∷ back) e in
+      let c = begins_path (front ++ p ∷ back) (front ++ p ∷ back) e in
       let f = first_of (front ++ p ∷ back) c.0 c.0 c.1 in
-      is_cycle (front ++ back) c.0 (passed c.0 c.0 (λ s. none f.0 f.1 (f.2 ∙ sym s)) c.1))
+      has_cycle (front ++ back) (c.0, passed c.0 c.0 (λ s. none f.0 f.1 (f.2 ∙ sym s)) c.1))
 
 pub peeled-cyclic : (kept rest : Pairs) → is_cyclic (peeled kept rest) ≡ is_cyclic (kept ++ rest)
 peeled-cyclic kept [] = ap is_cyclic (sym (append-nil kept))
@@ -172,7 +157,7 @@ goes_round p pairs h = at (is_cyclic (p ∷ pairs)) refl
         let r = top_of (p ∷ pairs) e p pairs in
         let q = one_begins r.top.1 (p ∷ pairs) (of_each (λ (t : ℕ × ℕ). begins_at t.1 (p ∷ pairs) ≡ true) r.top (p ∷ pairs) r.there h) in
         absurd (true≢false
-        (sym (is_path (p ∷ pairs) r.top.0 q.0.0 (last_pair r.top r.there refl (sym q.2)))
+        (sym (path_before (p ∷ pairs) r.top.0 q.0.0 (last_pair r.top r.there refl (sym q.2)))
         ∙ of_each (λ (t : ℕ × ℕ). is_before (p ∷ pairs) r.top.0 t.0 ≡ false) q.0 (p ∷ pairs) q.1 r.none))
 
 pub still-cyclic : (order : Pairs) → (order ≡ [] → ⊥) → length (peeled [] order) ≡ length order → is_cyclic order ≡ true

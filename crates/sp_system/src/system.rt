@@ -4,7 +4,7 @@ ghost use Rattle.std.specs.Prelude.{◌≡◌, [], ◌∷◌, ◌++◌, if◌the
 ghost use Rattle.sp_spec.specs.Substitution.{bound_to};
 ghost use Rattle.sp_term.specs.Bindings.{bindings};
 ghost use Rattle.sp_spec_system.specs.Equating.{event_changed, pair_changed, link_changed, same_source, same_premise, has_link, joined_links, order_changed, system_changed};
-ghost use Rattle.sp_formula.specs.Change.{time_replaced};
+ghost use Rattle.sp_spec.specs.Change.{time_replaced};
 ghost use Rattle.sp_system.specs.SystemView.{event_of, pair_of, link_of, system_of};
 
 use sp_fact::fact::Facts;

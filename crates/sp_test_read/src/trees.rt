@@ -1,8 +1,8 @@
 // The texts of proof trees.
 
 use sp_log::log::Log;
-use sp_moves::giver::Premise;
 use sp_moves::moves::Move;
+use sp_moves::premise::Premise;
 use sp_search::{Branch, OpenLeaf, Tree};
 use sp_test_make::systems::system;
 use sp_text::tree_text;

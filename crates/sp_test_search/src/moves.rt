@@ -11,7 +11,7 @@ use sp_moves_formula::action::is_solvable;
 use sp_moves_formula::apply::apply as apply_to_formula;
 use sp_moves_formula::part::is_disjunction;
 use sp_moves_graph::apply::apply as apply_to_graph;
-use sp_moves_graph::giver::{Premise, open_premise};
+use sp_moves_graph::premise::{Premise, open_premise};
 use sp_system::system::System;
 use sp_term::term::{Sort, Term};
 use sp_test_make::facts::{action, actions_alone, linear, no_facts, no_rules, persistent, rule};

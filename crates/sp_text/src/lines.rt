@@ -6,8 +6,8 @@ ghost use Rattle.sp_moves.specs.View.{move_of};
 ghost use Rattle.sp_text.specs.Places.{HasPlace};
 ghost use Rattle.sp_text.specs.TreeText as spec;
 
-use sp_moves::giver::Premise;
 use sp_moves::moves::Move;
+use sp_moves::premise::Premise;
 use std::alloc::{AllocError, Global};
 
 /// Puts two blanks at the end for each level of depth.

@@ -1,7 +1,7 @@
 use Rattle.sp_term.specs.View.{name_of}
 use Rattle.std.proofs.Common.{map, refl}
 use Rattle.sp_read_parts.specs.Views.{facts_of, fact_of}
-use Rattle.sp_constants.specs.Constants.{once_after, in_terms, in_facts}
+use Rattle.sp_spec.specs.Constants.{once_after, in_terms, in_facts}
 use Rattle.sp_constants.proofs.Stepping.{next}
 use Rattle.sp_constants.proofs.public_names.see_facts.Goals as goal
 

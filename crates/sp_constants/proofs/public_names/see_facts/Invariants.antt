@@ -1,7 +1,7 @@
 use Rattle.std.proofs.Common.{◌≡◌, map, drop}
 use Rattle.sp_term.specs.View.{name_of}
 use Rattle.sp_read_parts.specs.Views.{facts_of}
-use Rattle.sp_constants.specs.Constants.{once_after, in_facts}
+use Rattle.sp_spec.specs.Constants.{once_after, in_facts}
 use Rattle.sp_constants.proofs.public_names.see_facts.Given as goal
 
 abbrev pub invariant-loop-fact : goal.invariant-loop-fact

@@ -2,7 +2,7 @@ use Rattle.std.proofs.Common.{◌≡◌, map, drop}
 use Rattle.sp_term.specs.View.{name_of}
 use Rattle.sp_spec_text.specs.Written.{lemmas_in}
 use Rattle.sp_written.specs.Views as view
-use Rattle.sp_constants.specs.Constants.{once_after, in_lemmas}
+use Rattle.sp_spec.specs.Constants.{once_after, in_lemmas}
 use Rattle.sp_constants.proofs.public_names.see_lemmas.Given as goal
 
 abbrev pub invariant-loop-item : goal.invariant-loop-item

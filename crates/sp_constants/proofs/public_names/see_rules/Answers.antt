@@ -2,7 +2,7 @@ use Rattle.std.proofs.Common.{◌∷◌, [], map}
 use Rattle.sp_term.specs.View.{name_of}
 use Rattle.sp_spec_text.specs.Written.{rules_in}
 use Rattle.sp_written.specs.Views as view
-use Rattle.sp_constants.specs.Constants.{once_after, in_rules}
+use Rattle.sp_spec.specs.Constants.{once_after, in_rules}
 use Rattle.sp_constants.proofs.Stepping.{next, rules_begin}
 use Rattle.sp_constants.proofs.public_names.see_rules.Goals as goal
 

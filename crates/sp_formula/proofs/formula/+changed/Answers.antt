@@ -2,8 +2,8 @@ use Rattle.std.proofs.Common.{sym, ap, ◌∙◌, map}
 use Rattle.sp_spec.specs.Guarded.{all_of, one_of}
 use Rattle.sp_spec.specs.Substitution.{bound_to}
 use Rattle.sp_term.specs.Bindings.{bindings}
-use Rattle.sp_formula.specs.Change.{Change, changed, free_change}
-use Rattle.sp_formula.specs.Change.{time_replaced}
+use Rattle.sp_spec.specs.Change.{Change, changed, free_change}
+use Rattle.sp_spec.specs.Change.{time_replaced}
 use Rattle.sp_formula.specs.FormulaView.{atom_of, binder_of, formula_of}
 use Rattle.sp_formula.specs.declared.formula.Formula.{Formula}
 use Rattle.sp_formula.proofs.FreeChanges.{under-free_change}

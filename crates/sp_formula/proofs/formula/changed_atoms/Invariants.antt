@@ -1,8 +1,8 @@
 use Rattle.std.proofs.Common.{◌≡◌, take, map}
 use Rattle.sp_spec.specs.Substitution.{bound_to}
 use Rattle.sp_term.specs.Bindings.{bindings}
-use Rattle.sp_formula.specs.Change.{atom_changed, free_change}
-use Rattle.sp_formula.specs.Change.{time_replaced}
+use Rattle.sp_spec.specs.Change.{atom_changed, free_change}
+use Rattle.sp_spec.specs.Change.{time_replaced}
 use Rattle.sp_formula.specs.FormulaView.{atom_of}
 use Rattle.sp_formula.proofs.formula.changed_atoms.Given as goal
 

@@ -2,7 +2,7 @@ use Rattle.std.proofs.Common.{◌≡◌, take, map}
 use Rattle.sp_spec.specs.Term.{valued}
 use Rattle.sp_spec.specs.Substitution.{bound_to}
 use Rattle.sp_term.specs.Bindings.{bindings}
-use Rattle.sp_formula.specs.Change.{place_changed, free_change}
+use Rattle.sp_spec.specs.Change.{place_changed, free_change}
 use Rattle.sp_formula.specs.FormulaView.{placed_term}
 use Rattle.sp_formula.proofs.formula.changed_terms.Given as goal
 

@@ -1,7 +1,7 @@
 use Rattle.std.proofs.Common.{◌≡◌, length, map}
 use Rattle.std.specs.Slice.Iter.{iter_rest}
 use Rattle.sp_formula.specs.FormulaView.{atom_of}
-use Rattle.sp_formula.specs.SameFormula.{same_atoms}
+use Rattle.sp_spec.specs.SameFormula.{same_atoms}
 use Rattle.sp_formula.proofs.same.same_atoms.Given as goal
 
 abbrev pub invariant-loop-a : goal.invariant-loop-a

@@ -1,7 +1,7 @@
 use Rattle.std.proofs.Common.{◌≡◌, length, map}
 use Rattle.std.specs.Slice.Iter.{iter_rest}
 use Rattle.sp_formula.specs.FormulaView.{binder_of}
-use Rattle.sp_formula.specs.SameFormula.{same_binders}
+use Rattle.sp_spec.specs.SameFormula.{same_binders}
 use Rattle.sp_formula.proofs.same.same_binders.Given as goal
 
 abbrev pub invariant-loop-b : goal.invariant-loop-b

@@ -2,7 +2,7 @@ use Rattle.std.proofs.Common.{sym, ap₂, ◌∙◌}
 use Rattle.sp_spec.specs.Same.{same_by}
 use Rattle.sp_term.specs.View.{view}
 use Rattle.sp_formula.specs.FormulaView.{placed_term}
-use Rattle.sp_formula.specs.SameFormula.{same_place}
+use Rattle.sp_spec.specs.SameFormula.{same_place}
 use Rattle.sp_formula.specs.declared.formula.FormulaTerm.{FormulaTerm}
 use Rattle.sp_formula.proofs.SameParts.{same_by-placed}
 use Rattle.sp_formula.proofs.same.same_term.Goals as goal

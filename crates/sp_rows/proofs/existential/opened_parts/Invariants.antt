@@ -1,6 +1,6 @@
 use Rattle.std.proofs.Common.{◌≡◌, take, map}
 use Rattle.sp_spec.specs.Guarded.{holds}
-use Rattle.sp_formula.specs.Change.{atom_changed}
+use Rattle.sp_spec.specs.Change.{atom_changed}
 use Rattle.sp_formula.specs.FormulaView.{atom_of, formula_of}
 use Rattle.sp_rows.specs.OpeningView.{change_of}
 use Rattle.sp_rows.proofs.existential.opened_parts.Given as goal

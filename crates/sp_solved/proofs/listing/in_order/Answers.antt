@@ -5,7 +5,7 @@ use Rattle.sp_system.specs.SystemView.{event_of}
 use Rattle.sp_system.specs.declared.system.Event.{Event}
 use Rattle.sp_solved.specs.Listing.{in_order}
 use Rattle.sp_solved.specs.ListingView.{events_of}
-use Rattle.sp_solved.proofs.Rounds.{stuck, one_taken}
+use Rattle.sp_solved.proofs.Rounds.{stuck, one_linear_source}
 use Rattle.sp_solved.proofs.listing.in_order.Goals as goal
 
 abbrev with_others : List (Bor Event) → Bor Event → spec.Event × List spec.Event
@@ -25,6 +25,6 @@ pub loop-preserved : goal.loop-preserved
 loop-preserved c =
     let es = c.args.events.now.items in
     let more : c.loop.counter < length es = omega (arith, c.loop-test.true, c.len-end.ensures, c.args.events.now.ok.0) in
-    one_taken c.args.order.now.pairs.items (length es) c.loop.counter (events_of c.loop.left.items) (events_of c.take_free.new.left.items) c.loop.listed.items c.push.new.self.items c.in-Some.event
+    one_linear_source c.args.order.now.pairs.items (length es) c.loop.counter (events_of c.loop.left.items) (events_of c.take_free.new.left.items) c.loop.listed.items c.push.new.self.items c.in-Some.event
     (in_order c.args.order.now.pairs.items (map event_of es)) more
     (sym c.take_free.ensures ∙ ap (taken_with c.take_free.new.left.items) c.in-Some.is) c.in_ok-push.ensures.items c.loop.invariant

@@ -2,7 +2,7 @@ use Rattle.std.proofs.Common.{◌≡◌, take, map}
 use Rattle.sp_spec.specs.Substitution.{bound_to}
 use Rattle.sp_term.specs.Bindings.{bindings}
 use Rattle.sp_spec_system.specs.Equating.{event_changed}
-use Rattle.sp_formula.specs.Change.{time_replaced}
+use Rattle.sp_spec.specs.Change.{time_replaced}
 use Rattle.sp_system.specs.SystemView.{event_of}
 use Rattle.sp_system.proofs.system.changed_events.Given as goal
 

@@ -1,6 +1,6 @@
 use Rattle.std.proofs.Common.{◌≡◌, [], drop, map}
 use Rattle.sp_spec_system.specs.Equating.{link_changed, joined_links}
-use Rattle.sp_formula.specs.Change.{time_replaced}
+use Rattle.sp_spec.specs.Change.{time_replaced}
 use Rattle.sp_system.specs.SystemView.{link_of}
 use Rattle.sp_system.proofs.system.changed_links.Given as goal
 

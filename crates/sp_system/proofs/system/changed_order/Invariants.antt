@@ -1,6 +1,6 @@
 use Rattle.std.proofs.Common.{◌≡◌, take, map}
 use Rattle.sp_spec_system.specs.Equating.{order_changed}
-use Rattle.sp_formula.specs.Change.{time_replaced}
+use Rattle.sp_spec.specs.Change.{time_replaced}
 use Rattle.sp_system.proofs.system.changed_order.Given as goal
 
 abbrev pub invariant-loop-pair : goal.invariant-loop-pair

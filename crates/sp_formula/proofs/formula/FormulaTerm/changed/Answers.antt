@@ -3,7 +3,7 @@ use Rattle.sp_spec.specs.Term.{valued}
 use Rattle.sp_spec.specs.Substitution.{bound_to}
 use Rattle.sp_term.specs.View.{view}
 use Rattle.sp_term.specs.Bindings.{bindings}
-use Rattle.sp_formula.specs.Change.{Change, placed, place_changed, free_change}
+use Rattle.sp_spec.specs.Change.{Change, placed, place_changed, free_change}
 use Rattle.sp_formula.specs.declared.formula.FormulaTerm.{FormulaTerm}
 use Rattle.sp_formula.specs.FormulaView.{placed_term}
 use Rattle.sp_formula.proofs.FreeChanges.{valued-placed}

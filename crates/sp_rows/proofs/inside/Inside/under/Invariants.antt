@@ -1,5 +1,5 @@
 use Rattle.std.proofs.Common.{◌≡◌, drop, map}
-use Rattle.sp_formula.specs.Change.{Change, under}
+use Rattle.sp_spec.specs.Change.{Change, under}
 use Rattle.sp_formula.specs.FormulaView.{binder_of}
 use Rattle.sp_rows.specs.InsideView.{inside_of}
 use Rattle.sp_rows.proofs.inside.Inside.under.Given as goal

@@ -1,5 +1,5 @@
 use Rattle.std.proofs.Common.{◌≡◌, ◌+◌, drop, map}
-use Rattle.sp_formula.specs.Change.{opened, opening}
+use Rattle.sp_spec.specs.Change.{opened, opening}
 use Rattle.sp_formula.specs.FormulaView.{binder_of}
 use Rattle.sp_rows.specs.OpeningView.{change_of}
 use Rattle.sp_rows.proofs.opening.NewVariables.of.Given as goal

@@ -1,7 +1,7 @@
 use Rattle.std.proofs.Common.{ℕ, sym, ap, ◌∙◌}
 use Rattle.sp_spec.specs.Term.{Variable, Term, var}
 use Rattle.sp_spec.specs.Guarded.{pushed, Place, Time, bound, free_time, bound_time}
-use Rattle.sp_formula.specs.Change.{Change, placed}
+use Rattle.sp_spec.specs.Change.{Change, placed}
 use Rattle.sp_formula.specs.FormulaView.{binder_of}
 use Rattle.sp_formula.specs.declared.formula.Binder.{Binder}
 use Rattle.sp_term.specs.declared.term.Term.TheVariants.{Var}

@@ -1,6 +1,6 @@
 use Rattle.std.proofs.Common.{sym, ap, ◌∙◌, map}
 use Rattle.sp_spec.specs.Guarded.{all_of, one_of}
-use Rattle.sp_formula.specs.Change.{changed}
+use Rattle.sp_spec.specs.Change.{changed}
 use Rattle.sp_formula.specs.FormulaView.{atom_of, binder_of, formula_of}
 use Rattle.sp_formula.specs.declared.formula.Formula.{Formula}
 use Rattle.sp_formula.proofs.Formulas.{all_shown, one_shown, some_shown, every_shown, each_changed, some_changed, every_changed}

@@ -1,5 +1,5 @@
 use Rattle.std.proofs.Common.{◌≡◌, take, map}
-use Rattle.sp_formula.specs.Change.{changed}
+use Rattle.sp_spec.specs.Change.{changed}
 use Rattle.sp_formula.specs.FormulaView.{formula_of}
 use Rattle.sp_rows.specs.InsideView.{inside_of}
 use Rattle.sp_rows.specs.OpeningView.{change_of}

@@ -1,7 +1,7 @@
 use Rattle.std.proofs.Common.{sym, ap, ◌∙◌}
 use Rattle.sp_spec.specs.Term.{valued}
 use Rattle.sp_term.specs.View.{view}
-use Rattle.sp_formula.specs.Change.{placed, place_changed}
+use Rattle.sp_spec.specs.Change.{placed, place_changed}
 use Rattle.sp_formula.specs.declared.formula.FormulaTerm.{FormulaTerm}
 use Rattle.sp_formula.specs.FormulaView.{placed_term}
 use Rattle.sp_formula.proofs.FreeChanges.{valued-placed}

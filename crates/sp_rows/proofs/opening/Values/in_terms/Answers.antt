@@ -1,6 +1,6 @@
 use Rattle.std.proofs.Common.{◌∙◌, ap, arith, map}
 use Rattle.std.proofs.lemmas.Grind.{common_steps}
-use Rattle.sp_formula.specs.Change.{place_changed}
+use Rattle.sp_spec.specs.Change.{place_changed}
 use Rattle.sp_formula.specs.FormulaView.{placed_term, row_of}
 use Rattle.sp_formula.proofs.Rows.{row_of-valued}
 use Rattle.sp_rows.specs.InsideView.{inside_of}

@@ -1,9 +1,9 @@
 use Rattle.std.proofs.Common.{ℕ, ◌-◌, refl, sym, ap, ◌∙◌, arith}
 use Rattle.sp_spec.specs.Term.{Term, var}
 use Rattle.sp_spec.specs.Guarded.{Place, free, bound}
-use Rattle.sp_formula.specs.Change.{placed, raised, raised_place}
+use Rattle.sp_spec.specs.Change.{placed, raised, raised_place}
 use Rattle.sp_term.specs.View.{view}
-use Rattle.sp_formula.proofs.Values.{valued-valued}
+use Rattle.sp_spec.proofs.Values.{valued-valued}
 use Rattle.sp_rows.specs.OpeningView.{change_of, value_place}
 use Rattle.sp_rows.proofs.Openings.{stands_there, stands_past}
 use Rattle.sp_rows.proofs.Sheltered.{shelters, stays_past, moves_past}

@@ -1,6 +1,6 @@
 use Rattle.std.proofs.Common.{◌-◌, refl, sym, arith}
 use Rattle.sp_spec.specs.Guarded.{free_time, bound_time}
-use Rattle.sp_formula.specs.Change.{raised_time}
+use Rattle.sp_spec.specs.Change.{raised_time}
 use Rattle.sp_rows.specs.OpeningView.{change_of}
 use Rattle.sp_rows.proofs.Openings.{stands_there, stands_past}
 use Rattle.sp_rows.proofs.Sheltered.{shelters, stays_past, moves_past}

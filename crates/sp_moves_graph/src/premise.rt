@@ -1,0 +1,190 @@
+// The steps that may give a premise.
+
+ghost use Rattle.std.specs.Prelude.{◌≡◌, ◌+◌, suc, IfOk, length, map, option_map};
+ghost use Rattle.sp_fact.specs.View.{rule_of, fact_of};
+ghost use Rattle.sp_fact.specs.BookView.{book_of};
+ghost use Rattle.sp_system.specs.SystemView.{link_of, system_of};
+ghost use Rattle.sp_spec.specs.Log.{is_in};
+ghost use Rattle.sp_spec_graph.specs.Premise as spec;
+ghost use Rattle.sp_spec_system.specs.Cases as cases_spec;
+ghost use Rattle.sp_moves_formula.specs.View.{case_of};
+ghost use Rattle.sp_moves_graph.specs.PremiseRules.{by_source};
+ghost use Rattle.sp_spec_system.specs.Rules.{forms_of};
+
+use sp_fact::book::RuleBook;
+use sp_fact::fact::Fact;
+use sp_fact::rule::Rule;
+use sp_moves_formula::moves::Case;
+pub use sp_moves_formula::moves::Premise;
+use sp_moves_formula::named::named;
+use sp_moves_formula::renamed::renamed;
+use sp_moves_formula::where_same::fact_unifier;
+use sp_rows::fresh_once::is_fresh;
+use sp_rows::links::premise_at;
+use sp_system::system::{Event, Link, System};
+use std::alloc::{AllocError, Global};
+
+pub fn is_linked(links: &Vec<Link>, premise: Premise) -> bool
+    ensures { result ≡ spec.is_linked (map link_of links.now.items) premise.time premise.place }
+{
+    for link in links {
+        if link.to == premise.time && link.premise == premise.place {
+            return true;
+        }
+    }
+    false
+}
+
+pub fn is_received(fact: &Fact) -> bool
+    ensures { result ≡ is_in (fact_of fact.now) }
+{
+    fact.symbol.text.as_str() == "In" && !fact.persistent
+}
+
+/// The fact that is to have a step for its source: no Fr and no In, and without a link.
+pub fn open_premise(system: &System, premise: Premise) -> Option<&Fact>
+    ensures { option_map (λ f. fact_of f.now) result ≡ spec.open_premise (system_of system.now) premise.time premise.place }
+{
+    if is_linked(&system.links, premise) {
+        return None;
+    }
+    match premise_at(&system.events, premise.time, premise.place) {
+        Some(fact) if !is_fresh(fact) && !is_received(fact) => Some(fact),
+        _ => None,
+    }
+}
+
+// The system with a new step of the rule whose conclusion at the place is the premise.
+fn with_source(
+    alloc: Global,
+    system: &System,
+    premise: Premise,
+    rule: &Rule,
+    place: usize,
+) -> Result<System, AllocError>
+    ensures { IfOk result (λ s. system_of s ≡ spec.with_source (system_of system.now) premise.time premise.place (rule_of rule.now) place) }
+{
+    let first = after(system.next)?;
+    let Some(next) = first.checked_add(rule.variables.len() as u128) else {
+        return Err(AllocError);
+    };
+    let time = system.next;
+    let facts = renamed(alloc, first, &rule.facts)?;
+    let rule = rule.name.copy()?;
+    let mut made = system.copy(alloc)?;
+    made.events.push(Event { time, rule, facts })?;
+    made.links.push(Link {
+        from: time,
+        conclusion: place,
+        to: premise.time,
+        premise: premise.place,
+    })?;
+    made.order.push((time, premise.time))?;
+    made.next = next;
+    Ok(made)
+}
+
+fn after(number: u128) -> Result<u128, AllocError>
+    ensures { IfOk result (λ n. n ≡ suc number) }
+{
+    match number.checked_add(1) {
+        Some(next) => Ok(next),
+        None => Err(AllocError),
+    }
+}
+
+// The same, where the premise is that conclusion; none where it can't be.
+fn given_by(
+    alloc: Global,
+    system: &System,
+    premise: Premise,
+    fact: &Fact,
+    rule: &Rule,
+    place: usize,
+    conclusion: &Fact,
+) -> Result<Option<System>, AllocError>
+    ensures { IfOk result (λ o. option_map system_of o
+        ≡ cases_spec.where_same_fact (spec.with_source (system_of system.now) premise.time premise.place (rule_of rule.now) place) (fact_of fact.now) (fact_of conclusion.now)) }
+{
+    let Some(subst) = fact_unifier(alloc, fact, conclusion)? else {
+        return Ok(None);
+    };
+    let given = with_source(alloc, system, premise, rule, place)?;
+    let made = given.with_terms(alloc, &subst)?;
+    Ok(Some(made))
+}
+
+fn by_conclusions(
+    alloc: Global,
+    system: &System,
+    premise: Premise,
+    fact: &Fact,
+    rule: &Rule,
+    conclusions: &Vec<Fact>,
+) -> Result<Vec<System>, AllocError>
+    ensures { IfOk result (λ ss. map system_of ss.items
+        ≡ spec.by_conclusions (system_of system.now) premise.time premise.place (fact_of fact.now) (rule_of rule.now) 0 (map fact_of conclusions.now.items)) }
+{
+    let mut made = Vec::new(alloc);
+    for (place, conclusion) in conclusions.iter().enumerate() {
+        if let Some(system) = given_by(alloc, system, premise, fact, rule, place, conclusion)? {
+            made.push(system)?;
+        }
+    }
+    Ok(made)
+}
+
+fn by_source(
+    alloc: Global,
+    system: &System,
+    premise: Premise,
+    fact: &Fact,
+    rule: &Rule,
+) -> Result<Vec<Case>, AllocError>
+    ensures { IfOk result (λ cs. map case_of cs.items ≡ by_source (rule_of rule.now) (system_of system.now) premise.time premise.place (fact_of fact.now)) }
+{
+    let first = after(system.next)?;
+    let facts = renamed(alloc, first, &rule.facts)?;
+    let systems = by_conclusions(alloc, system, premise, fact, rule, &facts.conclusions)?;
+    let made = named(alloc, &rule.name, systems)?;
+    Ok(made)
+}
+
+fn by_each_source(
+    alloc: Global,
+    rules: &RuleBook,
+    system: &System,
+    premise: Premise,
+    fact: &Fact,
+) -> Result<Vec<Case>, AllocError>
+    ensures { IfOk result (λ cs. map case_of cs.items ≡ spec.by_each_source (map forms_of (book_of rules.now)) (system_of system.now) premise.time premise.place (fact_of fact.now)) }
+{
+    let mut made = Vec::new(alloc);
+    for rule in &rules.rules {
+        let mut cases = by_source(alloc, system, premise, fact, rule)?;
+        made.append(&mut cases)?;
+    }
+    Ok(made)
+}
+
+/// A case for each conclusion of each rule that may be the premise, before they are simplified; none where the premise isn't to have a
+/// step for its source.
+///
+/// # Errors
+///
+/// `AllocError` where memory is wanting, or no number is left.
+pub fn premise_cases(
+    alloc: Global,
+    rules: &RuleBook,
+    system: &System,
+    premise: Premise,
+) -> Result<Option<Vec<Case>>, AllocError>
+    ensures { IfOk result (λ o. option_map (λ cs. map case_of cs.items) o
+        ≡ spec.premise_cases (map forms_of (book_of rules.now)) (system_of system.now) premise.time premise.place (spec.open_premise (system_of system.now) premise.time premise.place)) }
+{
+    let Some(fact) = open_premise(system, premise) else {
+        return Ok(None);
+    };
+    let made = by_each_source(alloc, rules, system, premise, fact)?;
+    Ok(Some(made))
+}
