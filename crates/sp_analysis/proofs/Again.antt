@@ -3,6 +3,7 @@ use Rattle.std.proofs.Math.Nat.{min-eq_left}
 use Rattle.std.proofs.Common.{◌≡◌, ◌≤◌, ℕ, suc, ◌^◌, ◌-◌, min, arith, List, [], ◌∷◌, ◌++◌, length, map, codes, Option, Some, refl, sym, ap, ap₂, ◌∙◌, subst}
 use Rattle.std.proofs.lemmas.List.{length-map}
 use Rattle.sp_spec.specs.Lists.{Every}
+use Rattle.sp_spec.specs.Rule.{Rule}
 use Rattle.sp_spec.specs.Log.{Log}
 use Rattle.sp_spec.specs.Theory.{TraceKind, all_traces, exists_trace, Lemma}
 use Rattle.sp_spec.specs.Written.{WrittenTheory, theory_of}
@@ -22,12 +23,14 @@ use Rattle.sp_skel.proofs.Readable.{grown_readable}
 use Rattle.sp_law_again.proofs.Named.{rules_named}
 use Rattle.sp_skel.proofs.Spelled.{tree_says}
 use Rattle.sp_law_again.specs.Again.{with_trees}
+use Rattle.sp_law_again.specs.Behind.{IsBehindEnd}
+use Rattle.sp_law_again.proofs.Behind.{behind_end}
 use Rattle.sp_law_again.proofs.Items.{read_again}
 use Rattle.sp_law_again.proofs.Replaced.{each_lemma, same_theory, trees_proofs}
 use Rattle.sp_wf.specs.Laws.{IsWellFormed}
 use Rattle.sp_analysis.specs.Sought.{budget, start, Setting, setting_of, context_of}
 use Rattle.sp_spec_text.specs.Verdict.{Verdict, verified, falsified, incomplete, rejected, Says, summary_line}
-use Rattle.sp_analysis.specs.Block.{block_of}
+use Rattle.sp_law_block.specs.Block.{block_of, IsNumbered}
 use Rattle.sp_analysis.specs.Analysis.{Outcome, summary, trees_of, IsOutcome, AreOutcomes, IsAnalysis}
 use Rattle.sp_analysis.specs.Checking.{counted, IsVerdictOn, Judged, checked_text, IsJudged, AreJudged}
 use Rattle.sp_analysis.specs.Laws.{IsCheckedAgain, WrittenIsChecked}
@@ -107,6 +110,13 @@ module _ (setting : Setting) where
   logs_again (l ∷ ls) [] h = absurd h
   logs_again (l ∷ ls) (o ∷ os) h = ap (λ (xs : List (Option Log)). o.log ∷ xs) (logs_again ls os h.1)
 
+  numbers_again : (rules : List Rule) (ls : List Lemma) (os : List Outcome) (h : AreOutcomes setting ls os) → Every (λ (o : Outcome). IsNumbered rules o.log) os
+      → Every (λ (j : Judged). IsNumbered rules j.log) (all_again ls os h)
+  numbers_again rules [] [] h n = tt
+  numbers_again rules [] (o ∷ os) h n = absurd h
+  numbers_again rules (l ∷ ls) [] h n = absurd h
+  numbers_again rules (l ∷ ls) (o ∷ os) h n = (n.0, numbers_again rules ls os h.1 n.1)
+
   as_many : (ls : List Lemma) (os : List Outcome) → AreOutcomes setting ls os → length os ≡ length ls
   as_many [] [] h = refl
   as_many [] (o ∷ os) h = absurd h
@@ -149,10 +159,14 @@ written_is_checked_lem = record { checked = checked }
             theory = again;
             poses = record { says = subst (λ (bytes : List ℕ). IsTextOf bytes again) (sym a.written_is) says; fine = subst IsWellFormed (sym same) a.poses.fine };
             judged_are = subst (λ (t : WrittenTheory). AreJudged (setting_of t) again.items (all_again setting theory.lemmas outcomes a.outcomes_are)) (sym same) (are_again setting a.theory.items outcomes a.outcomes_are r);
+            numbers = subst (λ (t : WrittenTheory). Every (λ (j : Judged). IsNumbered (theory_of t).rules j.log) (all_again setting theory.lemmas outcomes a.outcomes_are)) (sym same)
+                (numbers_again setting setting.rules theory.lemmas outcomes a.outcomes_are a.numbers);
             written_is = lines_again setting theory.lemmas outcomes a.outcomes_are r
                 ∙ ap (λ (t : WrittenTheory). checked_text (theory_of t).rules (all_again setting theory.lemmas outcomes a.outcomes_are)) (sym same);
           };
           same_theory = same;
+          behind = subst (λ (bytes : List ℕ). IsBehindEnd bytes (codes "\n/*\n" ++ (summary setting.rules outcomes ++ codes "*/\n"))) (sym a.written_is)
+              (behind_end text a.theory a.spans a.behind_end trees (codes "/*\n" ++ (summary setting.rules outcomes ++ codes "*/\n")) a.poses.says a.places_are (trees_readable outcomes r) many);
           proofs = trees_proofs text a.theory a.spans a.behind_end trees a.places_are many;
           verdicts = verdicts_again setting theory.lemmas outcomes a.outcomes_are;
           logs = logs_again setting theory.lemmas outcomes a.outcomes_are;

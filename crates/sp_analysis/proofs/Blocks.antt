@@ -1,13 +1,15 @@
 -- The block of an execution is written.
-use Rattle.std.proofs.Common.{◌≡◌, ℕ, List, ◌++◌, codes, sym, ap, ap₂, ◌∙◌, append_assoc}
+use Rattle.std.proofs.Common.{◌≡◌, ℕ, List, ◌++◌, subst, codes, sym, ap, ap₂, ◌∙◌, append_assoc}
 use Rattle.sp_spec.specs.Rule.{Rule, Action}
 use Rattle.sp_spec.specs.Execution.{Step}
 use Rattle.sp_spec.specs.Log.{Log, visible_trace}
 use Rattle.sp_law_found.specs.Found.{execution_of}
-use Rattle.sp_spec.specs.Lists.{newest_first}
+use Rattle.sp_spec.specs.Lists.{Every, newest_first}
 use Rattle.sp_spec_text.specs.Printed.{trace_block}
 use Rattle.sp_spec.proofs.Lists.{newest_twice}
-use Rattle.sp_analysis.specs.Block.{oldest_first, steps_text, found_block}
+use Rattle.sp_show.specs.Numbers.{StepHasNames, numbered_names}
+use Rattle.sp_law_block.proofs.CandidateNames.{every_newest}
+use Rattle.sp_law_block.specs.Block.{oldest_first, steps_text, found_block}
 
 -- what stands the newest first, turned round
 turned : {A : Type 0} (xs ys : List A) → newest_first xs ≡ ys → xs ≡ oldest_first ys
@@ -21,3 +23,9 @@ block_written rules log steps entries first second all block steps_are entries_a
     ∙ append_assoc (codes "execution:\n") (steps_text steps) (trace_block entries)
     ∙ ap₂ (λ (ss : List Step) (es : List (List (Action ⊥))). codes "execution:\n" ++ (steps_text ss ++ trace_block es)) (turned steps (execution_of rules log) steps_are)
     (turned entries (visible_trace log) entries_are)
+
+-- ---- numbers
+
+pub steps_numbered : (rules : List Rule) (log : Log) (steps : List Step) → newest_first steps ≡ execution_of rules log → Every (StepHasNames numbered_names) steps
+    → Every (StepHasNames numbered_names) (execution_of rules log)
+steps_numbered rules log steps e h = subst (Every (StepHasNames numbered_names)) e (every_newest (StepHasNames numbered_names) steps h)

@@ -5,3 +5,4 @@ pub mod Outcomes
 pub mod Verdicts
 pub mod Again
 pub mod Blocks
+pub mod ReadBack

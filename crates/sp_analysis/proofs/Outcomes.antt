@@ -39,7 +39,7 @@ use Rattle.sp_law_again.specs.Again.{between, replaced}
 use Rattle.sp_pose.proofs.Forms.{AreForms, asked_list, has_forms, lemmas_same}
 use Rattle.sp_analysis.specs.Sought.{budget, sought, start, Setting, setting_of, context_with, context_of, proof_tree, grown_log}
 use Rattle.sp_spec_text.specs.Verdict.{Verdict, Says}
-use Rattle.sp_analysis.specs.Block.{block_of}
+use Rattle.sp_law_block.specs.Block.{block_of, IsNumbered}
 use Rattle.sp_analysis.specs.Analysis.{Outcome, summary, trees_of, analysed_text, IsOutcome, AreOutcomes}
 use Rattle.sp_analysis.specs.Checking.{proof_read, counted, IsVerdictOn, Judged, checked_text, IsJudged, AreJudged}
 use Rattle.sp_pose.specs.Asked.{Asked, asked_of, asked_with, lemmas_read}
@@ -160,7 +160,12 @@ verdicts_same setting (l ∷ ls) (g ∷ gs) = ap (λ (vs : List Verdict). (outco
 outcomes_placed : (setting : Setting) (ls : List WrittenLemma) (gs : List Guarded) → Every (IsNameable Prove setting) (asked_list ls gs) → Every (λ (o : Outcome). HavePlaces o.tree) (outcomes_of setting ls gs)
 outcomes_placed setting [] gs h = tt
 outcomes_placed setting (l ∷ ls) [] h = tt
-outcomes_placed setting (l ∷ ls) (g ∷ gs) h = (h.0, outcomes_placed setting ls gs h.1)
+outcomes_placed setting (l ∷ ls) (g ∷ gs) h = (h.0.0, outcomes_placed setting ls gs h.1)
+
+outcomes_numbered : (setting : Setting) (ls : List WrittenLemma) (gs : List Guarded) → Every (IsNameable Prove setting) (asked_list ls gs) → Every (λ (o : Outcome). IsNumbered setting.rules o.log) (outcomes_of setting ls gs)
+outcomes_numbered setting [] gs h = tt
+outcomes_numbered setting (l ∷ ls) [] h = tt
+outcomes_numbered setting (l ∷ ls) (g ∷ gs) h = (h.0.1, outcomes_numbered setting ls gs h.1)
 
 -- ---- lemmas whose proofs are checked
 
@@ -220,6 +225,11 @@ checked_same setting [] gs = refl
 checked_same setting (l ∷ ls) [] = refl
 checked_same setting (l ∷ ls) (g ∷ gs) = ap (λ (rest : List ℕ). line_of (due Check setting (asked_with l g)) ++ ((due Check setting (asked_with l g)).block ++ rest)) (checked_same setting ls gs)
 
+judged_numbered : (setting : Setting) (ls : List WrittenLemma) (gs : List Guarded) → Every (IsNameable Check setting) (asked_list ls gs) → Every (λ (j : Judged). IsNumbered setting.rules j.log) (all_judged setting ls gs)
+judged_numbered setting [] gs h = tt
+judged_numbered setting (l ∷ ls) [] h = tt
+judged_numbered setting (l ∷ ls) (g ∷ gs) h = (h.0, judged_numbered setting ls gs h.1)
+
 judged_verdicts : (setting : Setting) (ls : List WrittenLemma) (gs : List Guarded) → kept_verdicts (dues Check setting (asked_list ls gs)) ≡ map (λ (j : Judged). j.verdict) (all_judged setting ls gs)
 judged_verdicts setting [] gs = refl
 judged_verdicts setting (l ∷ ls) [] = refl
@@ -260,6 +270,8 @@ module _ {text : List ℕ} (signature : Signature) (pairs : signature ≡ with_p
           poses = posed.poses;
           outcomes_are = subst (λ (x : Setting). AreOutcomes x (lemmas_in (view.items xs)) os) same right;
           places = outcomes_placed setting ls h.forms (subst (λ (as' : List Asked). Every (IsNameable Prove setting) as') h.is nameable);
+          numbers = subst (λ (x : Setting). Every (λ (o : Outcome). IsNumbered x.rules o.log) os) same
+              (outcomes_numbered setting ls h.forms (subst (λ (as' : List Asked). Every (IsNameable Prove setting) as') h.is nameable));
           spans = view.spans xs;
           behind_end = p.behind_end;
           places_are = posed.places_are;
@@ -270,9 +282,10 @@ module _ {text : List ℕ} (signature : Signature) (pairs : signature ≡ with_p
         verdicts_are = ap (map verdict_of) verdicts_are ∙ sym (tried_verdicts ts) ∙ ap kept_verdicts all ∙ verdicts_same setting ls h.forms;
       }
 
-  checked : map kept_of ts ≡ dues Check (setting_for signature p) (map asked_of p.lemmas.items) → written ≡ written_by Check text (map kept_of ts) p.behind_end → verdicts ≡ verdicts_in ts
+  checked : map kept_of ts ≡ dues Check (setting_for signature p) (map asked_of p.lemmas.items) → Every (IsNameable Check (setting_for signature p)) (map asked_of p.lemmas.items)
+      → written ≡ written_by Check text (map kept_of ts) p.behind_end → verdicts ≡ verdicts_in ts
       → IsChecked text written (map verdict_of verdicts)
-  checked kept written_is verdicts_are =
+  checked kept nameable written_is verdicts_are =
       let xs = posed.theory.items.items in
       let ls = lemmas_read xs in
       let setting = setting_for signature p in
@@ -286,6 +299,8 @@ module _ {text : List ℕ} (signature : Signature) (pairs : signature ≡ with_p
           theory = view.theory posed.theory;
           poses = posed.poses;
           judged_are = subst (λ (x : Setting). AreJudged x (view.items xs) js) same (all_judged_right setting xs h.forms h.are);
+          numbers = subst (λ (x : Setting). Every (λ (j : Judged). IsNumbered x.rules j.log) js) same
+              (judged_numbered setting ls h.forms (subst (λ (as' : List Asked). Every (IsNameable Check setting) as') h.is nameable));
           written_is = written_is ∙ ap lines all ∙ checked_same setting ls h.forms ∙ ap (λ (x : Setting). checked_text x.rules js) same;
         };
         verdicts_are = ap (map verdict_of) verdicts_are ∙ sym (tried_verdicts ts) ∙ ap kept_verdicts all ∙ judged_verdicts setting ls h.forms;
@@ -295,7 +310,7 @@ module _ {text : List ℕ} (signature : Signature) (pairs : signature ≡ with_p
       → Every (IsNameable command (setting_for signature p)) (map asked_of p.lemmas.items) → written ≡ written_by command text (map kept_of ts) p.behind_end → verdicts ≡ verdicts_in ts
       → IsDone command text written (map verdict_of verdicts)
   is_done Prove kept nameable written_is verdicts_are = analysed kept nameable written_is verdicts_are
-  is_done Check kept nameable written_is verdicts_are = checked kept written_is verdicts_are
+  is_done Check kept nameable written_is verdicts_are = checked kept nameable written_is verdicts_are
 
 -- ---- what a tree that was grown gives is due
 

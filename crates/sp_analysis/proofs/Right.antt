@@ -69,10 +69,10 @@ found_tested signature rules constants f s log e = at (candidate constants s) e
     at (Some entries) h = kept entries (is_log signature rules entries) (decided (log_trace (newest_first entries)) empty f) refl refl h
 
 -- a lemma of the text, with the text's public names
-abbrev IsLemmaOf : WrittenTheory → Lemma → Type 0
+abbrev pub IsLemmaOf : WrittenTheory → Lemma → Type 0
 IsLemmaOf theory l = IsPlainFormula l.formula × HasNames (names_in (constants_of theory)) l.formula
 
-lemmas_of : (theory : WrittenTheory) → Every (λ (l : Lemma). IsPlainFormula l.formula) theory.lemmas → Every (IsLemmaOf theory) theory.lemmas
+pub lemmas_of : (theory : WrittenTheory) → Every (λ (l : Lemma). IsPlainFormula l.formula) theory.lemmas → Every (IsLemmaOf theory) theory.lemmas
 lemmas_of theory plain = go theory.lemmas (λ l m. m) plain
   where
     go : (ls : List Lemma) → ((l : Lemma) → Member l ls → Member l theory.lemmas) → Every (λ (l : Lemma). IsPlainFormula l.formula) ls → Every (IsLemmaOf theory) ls
@@ -80,10 +80,10 @@ lemmas_of theory plain = go theory.lemmas (λ l m. m) plain
     go (l ∷ ls) among h = ((h.0, names_stand_lem.lemmas theory l (among l (inl refl)) h.0), go ls (λ x m. among x (inr m)) h.1)
 
 module _ (theory : WrittenTheory) (first : AreFirst theory.rules theory.lemmas) (fine : IsWellFormed theory) (none : theory.restrictions ≡ []) where
-  searched : IsSearched theory
+  pub searched : IsSearched theory
   searched = record { plain = first.rules_are; rule_names = fine.rule_names; right = fine.rules; unrestricted = none }
 
-  is_context : (kind : TraceKind) (g : Guarded) → IsContextOf (theory_of theory) (context_of (setting_of theory) kind g)
+  pub is_context : (kind : TraceKind) (g : Guarded) → IsContextOf (theory_of theory) (context_of (setting_of theory) kind g)
   is_context kind g = record { rules = refl; numbered = names_stand_lem.rules theory first.rules_are }
 
   breaks : (l : Lemma) → IsPlainFormula l.formula → (g : Guarded) → checked_form l.formula ≡ Some g → (s : System) (log : Log)

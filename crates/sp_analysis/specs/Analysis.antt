@@ -17,7 +17,7 @@ use Rattle.sp_law_again.specs.Again.{replaced}
 use Rattle.sp_pose.specs.Problem.{Poses}
 use Rattle.sp_analysis.specs.Sought.{Setting, setting_of, proof_tree, grown_log}
 use Rattle.sp_spec_text.specs.Verdict.{Verdict, Says, summary_line}
-use Rattle.sp_analysis.specs.Block.{block_of}
+use Rattle.sp_law_block.specs.Block.{block_of, IsNumbered}
 
 -- what came of a lemma; with the log with which the search ended, if it did
 pub record Outcome : Type 0 where
@@ -56,12 +56,13 @@ AreOutcomes setting (l ∷ ls) [] = ⊥
 AreOutcomes setting (l ∷ ls) (o ∷ os) = IsOutcome setting l o × AreOutcomes setting ls os
 
 -- Each lemma that the text poses is tried, and its proof and its verdict stand in what is written. Each place that a proof names is one that a
--- text can name.
+-- text can name, and so is each fresh name of an execution; were one not, that would be want of memory.
 pub record IsAnalysis (text written : List ℕ) (outcomes : List Outcome) : Type 0 where
   pub theory : WrittenText
   pub poses : Poses text theory
   pub outcomes_are : AreOutcomes (setting_of (theory_in theory)) (theory_in theory).lemmas outcomes
   pub places : Every (λ (o : Outcome). HavePlaces o.tree) outcomes
+  pub numbers : Every (λ (o : Outcome). IsNumbered (theory_of (theory_in theory)).rules o.log) outcomes
   pub spans : List Span
   pub behind_end : ℕ
   pub places_are : ArePlaces text theory spans behind_end

@@ -2,6 +2,7 @@
 -- that was found behind it. A lemma without a proof has an open one.
 -- Source: Tamarin manual, "Proofs" (proofs that stand in a text are checked step by step).
 use Rattle.std.specs.Prelude.{◌≡◌, ℕ, ◌^◌, ◌-◌, min, Option, Some, None, List, [], ◌∷◌, ◌++◌}
+use Rattle.sp_spec.specs.Lists.{Every}
 use Rattle.sp_spec.specs.Theory.{TraceKind, Lemma}
 use Rattle.sp_spec.specs.Rule.{Rule}
 use Rattle.sp_spec.specs.Written.{theory_of}
@@ -18,7 +19,7 @@ use Rattle.sp_skel.specs.Steps.{skeleton}
 use Rattle.sp_pose.specs.Problem.{Poses}
 use Rattle.sp_analysis.specs.Sought.{Setting, setting_of, context_of, start}
 use Rattle.sp_spec_text.specs.Verdict.{Verdict, rejected, Says, summary_line}
-use Rattle.sp_analysis.specs.Block.{block_of}
+use Rattle.sp_law_block.specs.Block.{block_of, IsNumbered}
 
 -- the tree that the proof of a lemma says
 abbrev pub proof_read : Option WrittenProof → Skeleton
@@ -63,9 +64,11 @@ AreJudged setting (rule_item r ∷ items) js = AreJudged setting items js
 AreJudged setting (lemma_item l p ∷ items) [] = ⊥
 AreJudged setting (lemma_item l p ∷ items) (j ∷ js) = IsJudged setting l p j × AreJudged setting items js
 
--- the proof of each lemma that the text poses is checked, and its verdict stands in what is written
+-- The proof of each lemma that the text poses is checked, and its verdict stands in what is written. Each fresh name of an execution is one that a
+-- text can name.
 pub record IsChecking (text written : List ℕ) (judged : List Judged) : Type 0 where
   pub theory : WrittenText
   pub poses : Poses text theory
   pub judged_are : AreJudged (setting_of (theory_in theory)) theory.items judged
+  pub numbers : Every (λ (j : Judged). IsNumbered (theory_of (theory_in theory)).rules j.log) judged
   pub written_is : written ≡ checked_text (theory_of (theory_in theory)).rules judged

@@ -14,7 +14,7 @@ use Rattle.sp_spec_text.specs.Spans.{Span, goes_on}
 use Rattle.sp_pose.specs.Asked.{Asked}
 use Rattle.sp_analysis.specs.Sought.{Setting, context_of, start, proof_tree, grown_log}
 use Rattle.sp_spec_text.specs.Verdict.{Verdict, verified, falsified, incomplete, rejected, summary_line}
-use Rattle.sp_analysis.specs.Block.{block_of}
+use Rattle.sp_law_block.specs.Block.{block_of, IsNumbered}
 use Rattle.sp_law_again.specs.Again.{between}
 use Rattle.sp_analysis.specs.Checking.{proof_read, counted}
 use Rattle.sp_analysis.specs.View.{verdict_of}
@@ -95,10 +95,10 @@ due Check setting a = record {
 abbrev pub dues : Command → Setting → List Asked → List Kept
 dues command setting ls = map (due command setting) ls
 
--- each place that the grown proof names is one that a text can name
+-- each place that the grown proof names is one that a text can name, and each fresh name of the execution that is found
 abbrev pub IsNameable : Command → Setting → Asked → Type 0
-IsNameable Prove setting a = HavePlaces (proof_tree setting a.kind a.form)
-IsNameable Check setting a = Unit {0}
+IsNameable Prove setting a = HavePlaces (proof_tree setting a.kind a.form) × IsNumbered setting.rules (grown_log setting a.kind a.form)
+IsNameable Check setting a = IsNumbered setting.rules (judged_log (judged_so setting a))
 
 -- ---- what is written
 

@@ -1,8 +1,13 @@
 -- What verdicts mean, and that each text has one answer.
-use Rattle.std.specs.Prelude.{◌≡◌, ◌↔◌, List, ℕ, Option, Some, None, map}
+use Rattle.std.specs.Prelude.{◌≡◌, ◌↔◌, List, ℕ, Option, Some, None, map, ◌++◌, codes}
 use Rattle.sp_spec.specs.Lists.{Every}
-use Rattle.sp_spec.specs.Theory.{TraceKind, all_traces, exists_trace, Theory, Lemma}
-use Rattle.sp_spec.specs.Log.{Log}
+use Rattle.sp_spec.specs.Theory.{TraceKind, all_traces, exists_trace, Theory, Lemma, signature_of}
+use Rattle.sp_spec.specs.Log.{Log, visible_trace}
+use Rattle.sp_law_found.specs.Found.{execution_of}
+use Rattle.sp_spec_text.specs.Printed.{step_text}
+use Rattle.sp_read_steps.specs.Lines.{IsWritableStep, AreSteps}
+use Rattle.sp_law_block.specs.Block.{oldest_first}
+use Rattle.sp_law_block.specs.Shown.{IsShownTrace}
 use Rattle.sp_spec.specs.Written.{WrittenTheory, theory_of}
 use Rattle.sp_spec.specs.Verdict.{HoldsInAll, HoldsInNone}
 use Rattle.sp_check.specs.Rejected.{ReadIsAccepted}
@@ -12,6 +17,7 @@ use Rattle.sp_spec_text.specs.Written.{WrittenText, theory_in, proofs_in}
 use Rattle.sp_skel.specs.Spelling.{as_written}
 use Rattle.sp_place.specs.Refused.{IsRefusedAt}
 use Rattle.sp_pose.specs.Problem.{IsReported}
+use Rattle.sp_law_again.specs.Behind.{IsBehindEnd}
 use Rattle.sp_law_shown.specs.Shown.{FoundBreaks, FoundSatisfies}
 use Rattle.sp_analysis.specs.Sought.{context_of, setting_of, start}
 use Rattle.sp_analysis.specs.Analysis.{Outcome, summary, trees_of, IsAnalysis}
@@ -57,11 +63,12 @@ pub record AnswersAreOne : Type 0 where
   pub not_checked : (text lines written : List ℕ) (judged : List Judged) → IsReported text lines → IsChecking text written judged → ⊥
 
 -- What was written says the same theory, and the trees that were grown are its proofs; checked, each lemma gets the same line, the same
--- verdict and the same log.
+-- verdict and the same log. Behind its word `end` stands the summary.
 pub record IsCheckedAgain (theory : WrittenText) (written : List ℕ) (outcomes : List Outcome) : Type 0 where
   pub judged : List Judged
   pub checking : IsChecking written (summary (theory_of (theory_in theory)).rules outcomes) judged
   pub same_theory : theory_in checking.theory ≡ theory_in theory
+  pub behind : IsBehindEnd written (codes "\n/*\n" ++ (summary (theory_of (theory_in theory)).rules outcomes ++ codes "*/\n"))
   pub proofs : proofs_in checking.theory.items ≡ map (λ (t : Tree). Some (as_written t)) (trees_of outcomes)
   pub verdicts : map (λ (j : Judged). j.verdict) judged ≡ map (λ (o : Outcome). o.verdict) outcomes
   pub logs : map (λ (j : Judged). j.log) judged ≡ map (λ (o : Outcome). o.log) outcomes
@@ -69,3 +76,20 @@ pub record IsCheckedAgain (theory : WrittenText) (written : List ℕ) (outcomes 
 -- What is written of a text whose lemmas were tried is checked as they were tried.
 pub record WrittenIsChecked : Type 0 where
   pub checked : (text written : List ℕ) (outcomes : List Outcome) (a : IsAnalysis text written outcomes) → IsCheckedAgain a.theory written outcomes
+
+-- The steps that the log stands for may be written: their lines are read back as these steps, and none of its block begins as a verdict's does.
+pub record IsReadBack (theory : Theory) (log : Log) : Type 0 where
+  pub writable : Every (IsWritableStep (signature_of theory).symbols) (oldest_first (execution_of theory.rules log))
+  pub read : AreSteps (signature_of theory).symbols (map step_text (oldest_first (execution_of theory.rules log))) (oldest_first (execution_of theory.rules log))
+  pub shown : IsShownTrace (signature_of theory).symbols (oldest_first (visible_trace log))
+
+abbrev pub AreReadBack : Theory → Option Log → Type 0
+AreReadBack theory None = Unit {0}
+AreReadBack theory (Some log) = IsReadBack theory log
+
+-- Each execution that is written is read back from its lines.
+pub record ExecutionsAreReadBack : Type 0 where
+  pub tried : (text written : List ℕ) (outcomes : List Outcome) (a : IsAnalysis text written outcomes)
+      → Every (λ (o : Outcome). AreReadBack (theory_of (theory_in a.theory)) o.log) outcomes
+  pub checked : (text written : List ℕ) (judged : List Judged) (c : IsChecking text written judged)
+      → Every (λ (j : Judged). AreReadBack (theory_of (theory_in c.theory)) j.log) judged

@@ -1,5 +1,4 @@
 pub mod Sought
-pub mod Block
 pub mod Analysis
 pub mod Checking
 pub mod View

@@ -4,7 +4,10 @@ ghost use Rattle.std.specs.Prelude.{◌≡◌, ◌++◌, IfOk, OnOk, map, option
 ghost use Rattle.sp_fact.specs.BookView.{book_of};
 ghost use Rattle.sp_ground.specs.View.{step_of};
 ghost use Rattle.sp_log.specs.View.{log_of};
-ghost use Rattle.sp_analysis.specs.Block as spec;
+ghost use Rattle.sp_spec.specs.Lists.{Every};
+ghost use Rattle.sp_show.specs.Numbers.{StepHasNames, numbered_names};
+ghost use Rattle.sp_law_found.specs.Found.{execution_of};
+ghost use Rattle.sp_law_block.specs.Block as spec;
 
 use sp_fact::book::RuleBook;
 use sp_ground::step::Step;
@@ -17,7 +20,8 @@ use std::alloc::{AllocError, Global};
 
 /// Puts each step on a line.
 fn write_steps(alloc: Global, out: &mut String, steps: &Vec<Step>) -> Result<(), AllocError>
-    ensures { OnOk result (string_bytes out.new ≡ string_bytes out.old ++ spec.steps_text (map step_of steps.now.items)) }
+    ensures text { OnOk result (string_bytes out.new ≡ string_bytes out.old ++ spec.steps_text (map step_of steps.now.items)) }
+    ensures numbered { OnOk result (Every (StepHasNames numbered_names) (map step_of steps.now.items)) }
 {
     for step in steps {
         let line = step_line(alloc, step)?;
@@ -29,7 +33,8 @@ fn write_steps(alloc: Global, out: &mut String, steps: &Vec<Step>) -> Result<(),
 
 /// The block of the execution that the log stands for.
 fn found_block(alloc: Global, rules: &RuleBook, log: &Log) -> Result<String, AllocError>
-    ensures { IfOk result (λ text. string_bytes text ≡ spec.found_block (book_of rules.now) (log_of log.now)) }
+    ensures text { IfOk result (λ text. string_bytes text ≡ spec.found_block (book_of rules.now) (log_of log.now)) }
+    ensures numbered { OnOk result (Every (StepHasNames numbered_names) (execution_of (book_of rules.now) (log_of log.now))) }
 {
     let steps = execution(alloc, &rules.rules, log)?;
     let trace = visible_trace(alloc, log)?;
@@ -46,7 +51,8 @@ fn found_block(alloc: Global, rules: &RuleBook, log: &Log) -> Result<String, All
 ///
 /// `AllocError` where memory is wanting.
 pub fn block_of(alloc: Global, rules: &RuleBook, log: Option<&Log>) -> Result<String, AllocError>
-    ensures { IfOk result (λ text. string_bytes text ≡ spec.block_of (book_of rules.now) (option_map (λ l. log_of l.now) log.entry)) }
+    ensures text { IfOk result (λ text. string_bytes text ≡ spec.block_of (book_of rules.now) (option_map (λ l. log_of l.now) log.entry)) }
+    ensures numbered { OnOk result (spec.IsNumbered (book_of rules.now) (option_map (λ l. log_of l.now) log.entry)) }
 {
     match log {
         Some(log) => found_block(alloc, rules, log),

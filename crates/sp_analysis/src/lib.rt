@@ -12,7 +12,7 @@ mod tried;
 mod verdict;
 mod written;
 
-ghost use Rattle.sp_analysis.specs.Laws.{VerdictsAreRight, AnswersAreOne, WrittenIsChecked};
+ghost use Rattle.sp_analysis.specs.Laws.{VerdictsAreRight, AnswersAreOne, WrittenIsChecked, ExecutionsAreReadBack};
 
 pub use replies::{Command, Reply, answer};
 pub use verdict::Verdict;
@@ -30,4 +30,9 @@ pub fn answers_are_one()
 /// What is written where lemmas are tried is checked as they were tried.
 pub fn written_is_checked()
     ensures { WrittenIsChecked }
+{}
+
+/// Each execution that is written is read back from its lines.
+pub fn executions_are_read_back()
+    ensures { ExecutionsAreReadBack }
 {}

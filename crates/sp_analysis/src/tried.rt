@@ -160,7 +160,7 @@ fn try_lemma<'a>(
     lemma: GuardedLemma<'a>,
 ) -> Result<Tried<'a>, AllocError>
     ensures due { IfOk result (λ t. keep.kept_of t ≡ keep.due Command.Prove (setting_in setting.now) (ask.asked_of lemma.entry)) }
-    ensures places { OnOk result (keep.IsNameable Command.Prove (setting_in setting.now) (ask.asked_of lemma.entry)) }
+    ensures nameable { OnOk result (keep.IsNameable Command.Prove (setting_in setting.now) (ask.asked_of lemma.entry)) }
 {
     let GuardedLemma {
         name,
@@ -217,7 +217,8 @@ fn judge_lemma<'a>(
     setting: &Setting,
     lemma: GuardedLemma<'a>,
 ) -> Result<Tried<'a>, AllocError>
-    ensures { IfOk result (λ t. keep.kept_of t ≡ keep.due Command.Check (setting_in setting.now) (ask.asked_of lemma.entry)) }
+    ensures due { IfOk result (λ t. keep.kept_of t ≡ keep.due Command.Check (setting_in setting.now) (ask.asked_of lemma.entry)) }
+    ensures nameable { OnOk result (keep.IsNameable Command.Check (setting_in setting.now) (ask.asked_of lemma.entry)) }
 {
     let GuardedLemma {
         name,
@@ -253,7 +254,7 @@ fn outcome<'a>(
     lemma: GuardedLemma<'a>,
 ) -> Result<Tried<'a>, AllocError>
     ensures due { IfOk result (λ t. keep.kept_of t ≡ keep.due command (setting_in setting.now) (ask.asked_of lemma.entry)) }
-    ensures places { OnOk result (keep.IsNameable command (setting_in setting.now) (ask.asked_of lemma.entry)) }
+    ensures nameable { OnOk result (keep.IsNameable command (setting_in setting.now) (ask.asked_of lemma.entry)) }
 {
     match command {
         Command::Prove => try_lemma(alloc, setting, lemma),
@@ -273,7 +274,7 @@ pub fn all_tried<'a>(
     lemmas: Vec<GuardedLemma<'a>>,
 ) -> Result<Vec<Tried<'a>>, AllocError>
     ensures due { IfOk result (λ ts. map keep.kept_of ts.items ≡ keep.dues command (setting_in setting.now) (map ask.asked_of lemmas.entry.items)) }
-    ensures places { OnOk result (Every (keep.IsNameable command (setting_in setting.now)) (map ask.asked_of lemmas.entry.items)) }
+    ensures nameable { OnOk result (Every (keep.IsNameable command (setting_in setting.now)) (map ask.asked_of lemmas.entry.items)) }
 {
     let mut made = Vec::with_capacity(alloc, lemmas.len())?;
     for lemma in lemmas {

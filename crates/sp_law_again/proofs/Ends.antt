@@ -184,7 +184,7 @@ closed_leads : (bytes : List ℕ) (o : Option (List ℕ)) → Gives 0 bytes o �
 closed_leads bytes None g = leads_none
 closed_leads bytes (Some rest) g = leads_token (solve (before bytes rest)) (drop 1 rest) (record { front = (ends_behind (behind_ends (g.is rest refl)) (ends_drop 1 rest)).0; are = (ends_behind (behind_ends (g.is rest refl)) (ends_drop 1 rest)).1; long = omega arith })
 
-reads_ends : {bytes rest : List ℕ} {p : Piece} {x : Lexeme} → Reads bytes p → p ≡ token x rest → Ends bytes rest
+pub reads_ends : {bytes rest : List ℕ} {p : Piece} {x : Lexeme} → Reads bytes p → p ≡ token x rest → Ends bytes rest
 reads_ends {bytes} {rest} {x = x} (plain e d) f = behind_ends (piece_behind bytes x rest (e ∙ f))
 reads_ends {bytes} {rest} {x = x} (bare e t n) f = behind_ends (piece_behind bytes x rest (e ∙ f))
 reads_ends {bytes} {rest} {x = y} (goal {rest = r} {inside = i} {x = x} e t h k) f =

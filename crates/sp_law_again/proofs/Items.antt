@@ -198,9 +198,9 @@ text_of {text} {spans} {trees} {end} {behind} {theory} a =
     from_cut : {bytes : List ℕ} {xs : List Lexeme} → Cut (length bytes) bytes xs → SpellsTheory xs theory → IsTextOf bytes theory
     from_cut c h = record { tokens = c.tokens; cut = c.cut; spells = subst (λ (ys : List Lexeme). SpellsTheory ys theory) (sym c.are) h }
 
-pub read_again : (text : List ℕ) (theory : WrittenText) (spans : List Span) (end : ℕ) (trees : List Tree) (behind : List ℕ) → IsTextOf text theory → ArePlaces text theory spans end → Every IsReadable trees → length trees ≡ length spans
-    → IsTextOf (replaced text 0 spans trees end ++ (codes "\n" ++ behind)) (record { name = theory.name; items = with_trees theory.items trees })
-read_again text theory spans end trees behind h p rs l =
+pub written_again : (text : List ℕ) (theory : WrittenText) (spans : List Span) (end : ℕ) (trees : List Tree) (behind : List ℕ) → IsTextOf text theory → ArePlaces text theory spans end → Every IsReadable trees → length trees ≡ length spans
+    → Again text spans trees end behind 0 (λ ys. SpellsTheory ys (record { name = theory.name; items = with_trees theory.items trees }))
+written_again text theory spans end trees behind h p rs l =
     let says = subst (λ (ts : List Token). SpellsTheory (lexemes ts) theory) (tokens_one h.cut p.cut) h.spells in
     let o = opening says p.tokens refl in
     let u = first_token o.others o.opened.items refl in
@@ -211,4 +211,8 @@ read_again text theory spans end trees behind h p rs l =
     let c = claim_items {behind = behind} {bytes = q.rest} spans_are o.opened.items refl trees rs l (end_later all o.first o.are) cut q.ends in
     let made : WrittenText = record { name = theory.name; items = with_trees theory.items trees } in
     let d = extend {Q = λ ys. SpellsTheory ys made} q c o.opened.plain (λ ys k. o.opened.whole (with_trees theory.items trees) ys k) in
-    text_of (settle d (at_start text))
+    settle d (at_start text)
+
+pub read_again : (text : List ℕ) (theory : WrittenText) (spans : List Span) (end : ℕ) (trees : List Tree) (behind : List ℕ) → IsTextOf text theory → ArePlaces text theory spans end → Every IsReadable trees → length trees ≡ length spans
+    → IsTextOf (replaced text 0 spans trees end ++ (codes "\n" ++ behind)) (record { name = theory.name; items = with_trees theory.items trees })
+read_again text theory spans end trees behind h p rs l = text_of (written_again text theory spans end trees behind h p rs l)

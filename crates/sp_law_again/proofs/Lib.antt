@@ -3,8 +3,11 @@ pub mod Local
 pub mod Moving
 pub mod Reached
 pub mod Stops
+pub mod Leads
+pub mod TreeLeads
 pub mod Places
 pub mod Stretches
 pub mod Items
 pub mod Replaced
+pub mod Behind
 pub mod Named

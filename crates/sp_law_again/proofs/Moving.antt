@@ -20,6 +20,7 @@ use Rattle.sp_spec_text.specs.Formulas.{SpellsVariable, SpellsTerm, SpellsFact, 
 use Rattle.sp_spec_text.specs.Theories as t
 use Rattle.sp_spec_text.specs.Theories.{SpellsFacts, SpellsArrow, SpellsRule, SpellsKind, SpellsLemma}
 use Rattle.sp_law_again.proofs.Local.{IsPlain}
+use Rattle.sp_law_block.proofs.SpelledNames.{symbol_named}
 
 -- the same tokens before these and those
 pub data Swapped (rest other : List Lexeme) : List Lexeme → List Lexeme → Type 0 where
@@ -81,13 +82,8 @@ unfolding is_reserved
 name_plain w h =
     last_of (bytes_eq w (codes "end")) (bytes_eq w (codes "let")) (bytes_eq w (codes "in")) (bytes_eq w (codes "not")) (bytes_eq w (codes "All")) (bytes_eq w (codes "Ex")) (bytes_eq w (codes "last")) (bytes_eq w (codes "solve")) h
 
-fact_name : (a b c : Bool) → (a && not b && not c) ≡ true → b ≡ false
-fact_name true false c h = refl
-fact_name true true c h = absurd (let none : ⊥ = cc in none)
-fact_name false b c h = absurd (let none : ⊥ = cc in none)
-
 fact_plain : (w : List ℕ) → names_fact w ≡ true → IsPlain (word w)
-fact_plain w h = name_plain w (fact_name (is_capital w) (is_reserved w) (is_adversarial w) h)
+fact_plain w h = name_plain w (symbol_named w h)
 
 no_sort : {m : Mark} → mark_of (codes "solve") ≡ Some m → ⊥
 unfolding mark_of

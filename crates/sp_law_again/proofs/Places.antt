@@ -1,5 +1,5 @@
 -- What is written from a place of a text on, and how it is cut.
-use Rattle.std.proofs.Common.{◌≡◌, ℕ, ◌+◌, ◌-◌, List, [], ◌∷◌, ◌++◌, length, take, drop, refl, sym, ap, subst, ◌∙◌, append_assoc, length-append, arith}
+use Rattle.std.proofs.Common.{◌≡◌, ℕ, ◌+◌, ◌-◌, List, [], ◌∷◌, ◌++◌, length, take, drop, codes, refl, sym, ap, subst, ◌∙◌, append_assoc, length-append, arith}
 use Rattle.std.proofs.Math.Seq.{drop-append_seam}
 use Rattle.sp_spec.specs.Lists.{Every}
 use Rattle.sp_spec_text.specs.Token.{Lexeme, Token}
@@ -12,6 +12,7 @@ use Rattle.sp_law_again.specs.Again.{between, replaced}
 use Rattle.sp_law_again.proofs.Ends.{Ends, ends_all}
 use Rattle.sp_law_again.proofs.Local.{Firm, IsPlain, Reaches, reaches_local}
 use Rattle.sp_law_again.proofs.Reached.{lexes_reached, Parted}
+use Rattle.sp_law_again.proofs.Leads.{Leads, leads_reached}
 
 -- ---- places
 
@@ -36,7 +37,7 @@ between_is {text} {bytes} {place} a end front rest e f =
 -- ---- from a place on
 
 -- What is written in place of these bytes of the text, with trees in the places of proofs, begins with the tokens of the text, up to a byte
--- that stands firm. Of all its tokens P holds.
+-- that stands firm. Of all its tokens P holds. None of them is the word `end` but that before what stands behind.
 pub record Claim (text : List ℕ) (spans : List Span) (trees : List Tree) (end : ℕ) (behind bytes : List ℕ) (P : List Lexeme → Type 0) : Type 0 where
   pub stop : ℕ
   pub firm : Firm stop
@@ -49,12 +50,14 @@ pub record Claim (text : List ℕ) (spans : List Span) (trees : List Tree) (end 
   pub reaches : Reaches (stop ∷ old) bytes first
   pub others : List Lexeme
   pub lexes : (size : ℕ) → Lexes size (stop ∷ new) others
+  pub leads : Leads (codes "end" ++ 10 ∷ behind) (stop ∷ new)
   pub holds : P (first ++ others)
 
 -- all that is written from this place on
 pub record Again (text : List ℕ) (spans : List Span) (trees : List Tree) (end : ℕ) (behind : List ℕ) (place : ℕ) (P : List Lexeme → Type 0) : Type 0 where
   pub all : List Lexeme
   pub lexes : (size : ℕ) → Lexes size (replaced text place spans trees end ++ 10 ∷ behind) all
+  pub leads : Leads (codes "end" ++ 10 ∷ behind) (replaced text place spans trees end ++ 10 ∷ behind)
   pub holds : P all
 
 pub settle : {text : List ℕ} {spans : List Span} {trees : List Tree} {end place : ℕ} {behind bytes : List ℕ} {P : List Lexeme → Type 0} → Claim text spans trees end behind bytes P → At text place bytes → Again text spans trees end behind place P
@@ -64,6 +67,7 @@ settle {text} {spans} {trees} {end} {place} {behind} {bytes} c a =
     record {
       all = c.first ++ c.others;
       lexes = λ size. subst (λ (x : List ℕ). Lexes size x (c.first ++ c.others)) (sym e) (lexes_reached r (c.lexes size));
+      leads = subst (λ (x : List ℕ). Leads (codes "end" ++ 10 ∷ behind) x) (sym e) (leads_reached r c.leads);
       holds = c.holds;
     }
 
@@ -86,5 +90,6 @@ extend {text} {Q = Q} {ts = ts} p c plain f =
       reaches = p.reaches (c.stop ∷ c.old) c.first plain c.reaches;
       others = c.others;
       lexes = c.lexes;
+      leads = c.leads;
       holds = subst Q (sym (append_assoc (lexemes ts) c.first c.others)) (f (c.first ++ c.others) c.holds);
     }

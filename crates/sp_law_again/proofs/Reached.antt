@@ -10,14 +10,15 @@ use Rattle.sp_law_again.proofs.Local.{IsPlain, Reaches, reached, past_token}
 
 -- ---- what is read of a text is cut off
 
+-- behind one blank or comment
+pub tokens_past : {size : ℕ} {bytes mid : List ℕ} {ts : List Token} → gap bytes ≡ past mid → AreTokens size mid ts → AreTokens size bytes ts
+tokens_past e (no_more s) = no_more (gap_then e s)
+tokens_past e (last n d) = last (record { from = n.from; skips = gap_then e n.skips; reads = n.reads; start = n.start; end = n.end }) d
+tokens_past e (next n d k) = next (record { from = n.from; skips = gap_then e n.skips; reads = n.reads; start = n.start; end = n.end }) d k
+
 tokens_skipped : {size : ℕ} {bytes mid : List ℕ} {ts : List Token} → Skips bytes mid → AreTokens size mid ts → AreTokens size bytes ts
 tokens_skipped (no_gap e) h = h
-tokens_skipped (gap_then e s) h = at e (tokens_skipped s h)
-  where
-    at : {size : ℕ} {bytes mid : List ℕ} {ts : List Token} → gap bytes ≡ past mid → AreTokens size mid ts → AreTokens size bytes ts
-    at e (no_more s) = no_more (gap_then e s)
-    at e (last n d) = last (record { from = n.from; skips = gap_then e n.skips; reads = n.reads; start = n.start; end = n.end }) d
-    at e (next n d k) = next (record { from = n.from; skips = gap_then e n.skips; reads = n.reads; start = n.start; end = n.end }) d k
+tokens_skipped (gap_then e s) h = tokens_past e (tokens_skipped s h)
 
 pub lexes_skipped : {size : ℕ} {bytes mid : List ℕ} {xs : List Lexeme} → Skips bytes mid → Lexes size mid xs → Lexes size bytes xs
 lexes_skipped s l = record {
@@ -27,10 +28,10 @@ lexes_skipped s l = record {
       record { tokens = c.tokens; cut = tokens_skipped s c.cut; are = c.are };
 }
 
-shorter_end : {bytes rest : List ℕ} → Ends bytes rest → length rest ≤ length bytes
+pub shorter_end : {bytes rest : List ℕ} → Ends bytes rest → length rest ≤ length bytes
 shorter_end {rest = rest} e = omega (arith, ap length e.1, length-append e.0 rest)
 
-plain_no_goal : (x : Lexeme) → IsPlain x → is_solve x ≡ false
+pub plain_no_goal : (x : Lexeme) → IsPlain x → is_solve x ≡ false
 plain_no_goal (word w) p = p
 plain_no_goal (constant c) p = refl
 plain_no_goal (sign x) p = refl

@@ -27,11 +27,11 @@ letter_same class.Constant r q = refl
 letter_same class.Line r q = refl
 letter_same class.Word r q = refl
 
-quote_begins : (r : List ℕ) → gap (34 ∷ r) ≡ nothing
+pub quote_begins : (r : List ℕ) → gap (34 ∷ r) ≡ nothing
 unfolding gap
 quote_begins r = refl
 
-letter_begins : (r : List ℕ) → gap (101 ∷ r) ≡ nothing
+pub letter_begins : (r : List ℕ) → gap (101 ∷ r) ≡ nothing
 unfolding gap
 letter_begins r = refl
 
@@ -104,7 +104,7 @@ quote_read [] rest e = absurd (let none : ⊥ = cc in none)
 quote_read (b ∷ bytes) rest e =
     sign_quote b bytes rest (otherwise (b == 39) (constant_only bytes rest (sign s.Quote) (λ d e. cc)) (otherwise (is_ascii_alphanumeric b) (λ e. cc) e))
 
-quote_piece : (rest : List ℕ) → piece (34 ∷ rest) ≡ token (sign s.Quote) rest
+pub quote_piece : (rest : List ℕ) → piece (34 ∷ rest) ≡ token (sign s.Quote) rest
 unfolding piece first_sign short_sign
 quote_piece rest = refl
 
@@ -141,7 +141,7 @@ word_read (b ∷ bytes) rest w e = by_test (is_ascii_alphanumeric b) e
     by_test true e = let f = ends_more b (skip_ends class.Word bytes) in word_first bytes rest w (b ∷ bytes) e f.0 f.1
     by_test false e = absurd (sign_word b bytes rest w (otherwise (b == 39) (constant_only bytes rest (word w) (λ d e. cc)) e))
 
-end_piece : (rest : List ℕ) → piece (codes "end" ++ 10 ∷ rest) ≡ token (word (codes "end")) (10 ∷ rest)
+pub end_piece : (rest : List ℕ) → piece (codes "end" ++ 10 ∷ rest) ≡ token (word (codes "end")) (10 ∷ rest)
 unfolding piece skip
 end_piece rest = ap (λ (w : List ℕ). token (word w) (10 ∷ rest)) (before_rest (codes "end") (10 ∷ rest))
 

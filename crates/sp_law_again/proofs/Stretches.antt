@@ -20,6 +20,8 @@ use Rattle.sp_law_again.proofs.Ends.{ends_behind, skips_ends, next_ends}
 use Rattle.sp_law_again.proofs.Local.{IsPlain, reached}
 use Rattle.sp_law_again.proofs.Reached.{next_piece, Parted, parted}
 use Rattle.sp_law_again.proofs.Stops.{quote_firm, letter_firm, quote_read, lexes_quote, word_read, lexes_end, tokens_feed}
+use Rattle.sp_law_again.proofs.Leads.{arrived, leads_quote}
+use Rattle.sp_law_again.proofs.TreeLeads.{leads_at, leads_blank, leads_tree}
 use Rattle.sp_law_again.proofs.Places.{At, at_drop, between_is, Claim, Again}
 
 -- ---- the end
@@ -44,6 +46,7 @@ end_claim {text} {behind} {bytes} {rest} {trees} {end} t n e f h =
       reaches = reached (subst (λ (x : List ℕ). Skips bytes x) from n.skips);
       others = the_end;
       lexes = λ size. lexes_end behind;
+      leads = arrived;
       holds = h;
     }
 
@@ -88,6 +91,7 @@ claim_lemma {text} {behind} {bytes} {rest} {spans} {trees} {end} {span} {first} 
       lexes = λ size.
           let behind_tree = subst (λ (x : List ℕ). Lexes size x (spelled t again.all)) (sym (append_assoc (tree_text 0 t) later z)) (lexes_tree 0 t (later ++ z) readable (again.lexes size)) in
           lexes_quote (lexes_blank 10 refl behind_tree);
+      leads = leads_quote (leads_blank 10 refl (leads_at (append_assoc (tree_text 0 t) later z) (leads_tree 0 t (later ++ z) readable again.leads)));
       holds = subst Q (ap (λ (x : List Lexeme). x ++ sign s.Quote ∷ spelled t again.all) (sym (append-nil (lexemes first)))) (step again.all again.holds);
     }
 

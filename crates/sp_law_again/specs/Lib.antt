@@ -1,3 +1,4 @@
 pub mod Again
+pub mod Behind
 pub mod Laws
 pub mod Named

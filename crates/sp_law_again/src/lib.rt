@@ -1,10 +1,10 @@
 // What is written of a text with proofs is read again as the same text with those proofs.
 // Below stand the readers of texts (sp_lex, sp_read_theory), the texts of trees (sp_text), and that those are read back (sp_skel).
 // Carried here: the promise that a text whose lemmas' proofs are replaced by the texts of trees says the same theory, each lemma with the
-// proof that is written for it.
+// proof that is written for it, and that it ends with its word `end`, whatever is written behind it.
 #![tactic(auto)]
 
-ghost use Rattle.sp_law_again.specs.Laws.{TextsAreReadAgain};
+ghost use Rattle.sp_law_again.specs.Laws.{TextsAreReadAgain, TextsEnd};
 ghost use Rattle.sp_law_again.specs.Named.{RulesAreNamed};
 
 /// A text with trees in the places of its proofs says the same rules and lemmas, with those trees as proofs.
@@ -15,4 +15,9 @@ pub fn texts_are_read_again()
 /// The rules of a text have names as they stand in a text.
 pub fn rules_are_named()
     ensures { RulesAreNamed }
+{}
+
+/// Behind the word `end` of a text with trees in the places of its proofs stands what is written there, and of each text one thing stands there.
+pub fn texts_end()
+    ensures { TextsEnd }
 {}

@@ -5,6 +5,8 @@ ghost use Rattle.sp_spec.specs.Term.{app};
 ghost use Rattle.sp_term.specs.View.{name_of};
 ghost use Rattle.sp_ground.specs.View.{given_of, ground_of, grounds_of, step_of};
 ghost use Rattle.sp_spec_text.specs.Printed.{given_text, step_text, term_text};
+ghost use Rattle.sp_spec.specs.Lists.{Every};
+ghost use Rattle.sp_show.specs.Numbers.{HasNames, HaveNames, StepHasNames, numbered_names};
 ghost use Rattle.sp_show.specs.Runs.{given_start};
 
 use crate::term::{write_application, write_term};
@@ -26,7 +28,8 @@ fn write_given_start(out: &mut String, first: bool) -> Result<(), AllocError>
 
 /// Puts the value of a variable behind its name.
 fn write_one(out: &mut String, given: &Given) -> Result<(), AllocError>
-    ensures { OnOk result (string_bytes out.new ≡ string_bytes out.old ++ (name_of given.now.variable ++ (codes " = " ++ term_text (ground_of given.now.value)))) }
+    ensures text { OnOk result (string_bytes out.new ≡ string_bytes out.old ++ (name_of given.now.variable ++ (codes " = " ++ term_text (ground_of given.now.value)))) }
+    ensures numbered { OnOk result (HasNames numbered_names (ground_of given.now.value)) }
 {
     out.push_str(given.variable.text.as_str())?;
     out.push_str(" = ")?;
@@ -35,7 +38,8 @@ fn write_one(out: &mut String, given: &Given) -> Result<(), AllocError>
 
 /// Puts the values of a rule's variables.
 fn write_given(out: &mut String, given: &Vec<Given>) -> Result<(), AllocError>
-    ensures { OnOk result (string_bytes out.new ≡ string_bytes out.old ++ given_text (map given_of given.now.items)) }
+    ensures text { OnOk result (string_bytes out.new ≡ string_bytes out.old ++ given_text (map given_of given.now.items)) }
+    ensures numbered { OnOk result (Every (λ g. HasNames numbered_names g.1) (map given_of given.now.items)) }
 {
     let mut first = true;
     for one in given {
@@ -48,7 +52,8 @@ fn write_given(out: &mut String, given: &Vec<Given>) -> Result<(), AllocError>
 
 /// A word and a term.
 fn word_line(alloc: Global, word: &str, term: &GroundTerm) -> Result<String, AllocError>
-    ensures { IfOk result (λ text. string_bytes text ≡ word.now ++ term_text (ground_of term.now)) }
+    ensures text { IfOk result (λ text. string_bytes text ≡ word.now ++ term_text (ground_of term.now)) }
+    ensures numbered { OnOk result (HasNames numbered_names (ground_of term.now)) }
 {
     let mut out = String::from_str(alloc, word)?;
     write_term(&mut out, term)?;
@@ -57,7 +62,8 @@ fn word_line(alloc: Global, word: &str, term: &GroundTerm) -> Result<String, All
 
 /// The line of a rule, with the values of its variables.
 fn rule_line(alloc: Global, name: &Name, given: &Vec<Given>) -> Result<String, AllocError>
-    ensures { IfOk result (λ text. string_bytes text ≡ codes "rule " ++ (name_of name.now ++ (codes ":" ++ given_text (map given_of given.now.items)))) }
+    ensures text { IfOk result (λ text. string_bytes text ≡ codes "rule " ++ (name_of name.now ++ (codes ":" ++ given_text (map given_of given.now.items)))) }
+    ensures numbered { OnOk result (Every (λ g. HasNames numbered_names g.1) (map given_of given.now.items)) }
 {
     let mut out = String::from_str(alloc, "rule ")?;
     out.push_str(name.text.as_str())?;
@@ -68,7 +74,8 @@ fn rule_line(alloc: Global, name: &Name, given: &Vec<Given>) -> Result<String, A
 
 /// The line of a symbol that is applied.
 fn symbol_line(alloc: Global, symbol: &Name, terms: &Vec<GroundTerm>) -> Result<String, AllocError>
-    ensures { IfOk result (λ text. string_bytes text ≡ codes "make " ++ term_text (app (name_of symbol.now) (grounds_of terms.now.items))) }
+    ensures text { IfOk result (λ text. string_bytes text ≡ codes "make " ++ term_text (app (name_of symbol.now) (grounds_of terms.now.items))) }
+    ensures numbered { OnOk result (HaveNames numbered_names (grounds_of terms.now.items)) }
 {
     let mut out = String::from_str(alloc, "make ")?;
     write_application(&mut out, symbol, terms)?;
@@ -81,7 +88,8 @@ fn symbol_line(alloc: Global, symbol: &Name, terms: &Vec<GroundTerm>) -> Result<
 ///
 /// `AllocError` where memory is wanting.
 pub fn step_line(alloc: Global, step: &Step) -> Result<String, AllocError>
-    ensures { IfOk result (λ text. string_bytes text ≡ step_text (step_of step.now)) }
+    ensures text { IfOk result (λ text. string_bytes text ≡ step_text (step_of step.now)) }
+    ensures numbered { OnOk result (StepHasNames numbered_names (step_of step.now)) }
 {
     match step {
         Step::MakeFresh(term) => word_line(alloc, "fresh ", term),

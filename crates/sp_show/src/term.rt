@@ -1,10 +1,11 @@
 // The texts of ground terms.
 
-ghost use Rattle.std.specs.Prelude.{◌≡◌, ◌++◌, OnOk, true, codes, decimal, string_bytes};
+ghost use Rattle.std.specs.Prelude.{◌≡◌, ◌<◌, ◌^◌, ◌++◌, OnOk, true, codes, decimal, string_bytes};
 ghost use Rattle.sp_spec.specs.Term.{app};
 ghost use Rattle.sp_term.specs.View.{name_of};
 ghost use Rattle.sp_ground.specs.View.{ground_of, grounds_of};
 ghost use Rattle.sp_spec_text.specs.Printed.{arguments_text, is_pair, term_text, text_at};
+ghost use Rattle.sp_show.specs.Numbers.{HasNames, HaveNames, numbered_names};
 ghost use Rattle.sp_show.specs.Runs.{closing, opening, separator, terms_run};
 
 use sp_ground::term::GroundTerm;
@@ -84,7 +85,8 @@ fn write_constant(out: &mut String, name: &Name) -> Result<(), AllocError>
 
 /// Puts the text of a fresh name.
 fn write_fresh_name(out: &mut String, number: u128) -> Result<(), AllocError>
-    ensures { OnOk result (string_bytes out.new ≡ string_bytes out.old ++ (codes "~n" ++ decimal number)) }
+    ensures number { number < 2 ^ 128 }
+    ensures text { OnOk result (string_bytes out.new ≡ string_bytes out.old ++ (codes "~n" ++ decimal number)) }
 {
     write!(out, "~n{number}")
 }
@@ -92,7 +94,8 @@ fn write_fresh_name(out: &mut String, number: u128) -> Result<(), AllocError>
 /// Puts the text of the term, which goes on with a row where it is a pair at its end.
 #[cycle(text)]
 fn write_at(out: &mut String, term: &GroundTerm, ends: bool) -> Result<(), AllocError>
-    ensures { OnOk result (string_bytes out.new ≡ string_bytes out.old ++ text_at ends (ground_of term.now)) }
+    ensures text { OnOk result (string_bytes out.new ≡ string_bytes out.old ++ text_at ends (ground_of term.now)) }
+    ensures numbered { OnOk result (HasNames numbered_names (ground_of term.now)) }
 {
     match term {
         GroundTerm::Constant(name) => write_constant(out, name),
@@ -109,7 +112,8 @@ fn write_at(out: &mut String, term: &GroundTerm, ends: bool) -> Result<(), Alloc
 /// Puts the texts of the terms, with commas between them.
 #[cycle(text)]
 fn write_row(out: &mut String, terms: &Vec<GroundTerm>, in_pair: bool) -> Result<(), AllocError>
-    ensures { OnOk result (string_bytes out.new ≡ string_bytes out.old ++ terms_run true in_pair (grounds_of terms.now.items)) }
+    ensures text { OnOk result (string_bytes out.new ≡ string_bytes out.old ++ terms_run true in_pair (grounds_of terms.now.items)) }
+    ensures numbered { OnOk result (HaveNames numbered_names (grounds_of terms.now.items)) }
 {
     let mut first = true;
     for term in terms {
@@ -122,7 +126,8 @@ fn write_row(out: &mut String, terms: &Vec<GroundTerm>, in_pair: bool) -> Result
 
 /// Puts the text of the term.
 pub fn write_term(out: &mut String, term: &GroundTerm) -> Result<(), AllocError>
-    ensures { OnOk result (string_bytes out.new ≡ string_bytes out.old ++ term_text (ground_of term.now)) }
+    ensures text { OnOk result (string_bytes out.new ≡ string_bytes out.old ++ term_text (ground_of term.now)) }
+    ensures numbered { OnOk result (HasNames numbered_names (ground_of term.now)) }
 {
     write_at(out, term, false)
 }
@@ -133,7 +138,8 @@ pub fn write_application(
     symbol: &Name,
     terms: &Vec<GroundTerm>,
 ) -> Result<(), AllocError>
-    ensures { OnOk result (string_bytes out.new ≡ string_bytes out.old ++ term_text (app (name_of symbol.now) (grounds_of terms.now.items))) }
+    ensures text { OnOk result (string_bytes out.new ≡ string_bytes out.old ++ term_text (app (name_of symbol.now) (grounds_of terms.now.items))) }
+    ensures numbered { OnOk result (HaveNames numbered_names (grounds_of terms.now.items)) }
 {
     write_opening(out, symbol, terms, false)?;
     write_row(out, terms, is_pair(symbol, terms))?;

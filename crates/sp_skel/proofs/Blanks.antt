@@ -22,7 +22,7 @@ pub record Lexes (size : ℕ) (bytes : List ℕ) (xs : List Lexeme) : Type 0 whe
 
 -- ---- blanks
 
-gap_blank : (b : ℕ) (bytes : List ℕ) → is_blank b ≡ true → gap (b ∷ bytes) ≡ past bytes
+pub gap_blank : (b : ℕ) (bytes : List ℕ) → is_blank b ≡ true → gap (b ∷ bytes) ≡ past bytes
 unfolding gap
 gap_blank b bytes h = rw h refl
 
@@ -72,7 +72,7 @@ skip_word (c ∷ w) b rest h e =
     by_test true k f = f k
     by_test false k f = absurd (let none : ⊥ = cc in none)
 
-piece_word : (w : List ℕ) (b : ℕ) (rest : List ℕ) → IsWord w → Ends b → piece (w ++ b ∷ rest) ≡ token (word w) (b ∷ rest)
+pub piece_word : (w : List ℕ) (b : ℕ) (rest : List ℕ) → IsWord w → Ends b → piece (w ++ b ∷ rest) ≡ token (word w) (b ∷ rest)
 unfolding piece
 piece_word [] b rest h e = absurd h
 piece_word (c ∷ w) b rest h e =
@@ -86,7 +86,7 @@ apart_too : (c n : ℕ) → is_ascii_alphanumeric c ≡ true → is_ascii_alphan
 apart_too c n h f = ne_eqb n c (λ e. true≢false (sym h ∙ ap is_ascii_alphanumeric (sym e) ∙ f))
 
 -- no blank and no comment begins with a letter or a digit
-gap_word : (c : ℕ) (bytes : List ℕ) → is_ascii_alphanumeric c ≡ true → gap (c ∷ bytes) ≡ nothing
+pub gap_word : (c : ℕ) (bytes : List ℕ) → is_ascii_alphanumeric c ≡ true → gap (c ∷ bytes) ≡ nothing
 unfolding gap
 gap_word c bytes h =
     rw (apart c 32 h refl, apart c 9 h refl, apart c 10 h refl, apart c 13 h refl, apart_too c 47 h refl) refl
@@ -98,7 +98,7 @@ space = (λ bytes. refl, refl)
 pub line_end : Ends 10
 line_end = (λ bytes. refl, refl)
 
-bracket_ends : Ends 40
+pub bracket_ends : Ends 40
 bracket_ends = (λ bytes. refl, refl)
 
 no_shorter : (w rest : List ℕ) → length rest ≤ length (w ++ rest)
@@ -111,7 +111,7 @@ lexes_word (c ∷ w) b rest h e d s l =
 
 -- ---- goals
 
-gap_bracket : (bytes : List ℕ) → gap (40 ∷ bytes) ≡ nothing
+pub gap_bracket : (bytes : List ℕ) → gap (40 ∷ bytes) ≡ nothing
 unfolding gap
 gap_bracket bytes = refl
 
@@ -167,11 +167,11 @@ closes_premise i p h k rest =
     let joined : premise_goal i p ≡ words ++ (decimal p ++ codes " ") = ap (λ (xs : List ℕ). codes " premise " ++ xs) (sym (append_assoc (decimal i) (codes " ") (decimal p ++ codes " "))) in
     ap (λ (inside : List ℕ). to_closing false 0 (inside ++ 41 ∷ rest)) joined ∙ closes_behind words passes p (omega arith) rest
 
-solve_goal : (inside rest : List ℕ) → Closes inside → solve_piece (inside ++ 41 ∷ rest) ≡ token (solve inside) rest
+pub solve_goal : (inside rest : List ℕ) → Closes inside → solve_piece (inside ++ 41 ∷ rest) ≡ token (solve inside) rest
 solve_goal inside rest closes =
     ap (closed_by (inside ++ 41 ∷ rest)) (closes rest) ∙ ap (λ (xs : List ℕ). token (solve xs) rest) (before_rest inside (41 ∷ rest))
 
-is_word_solve : IsWord (codes "solve")
+pub is_word_solve : IsWord (codes "solve")
 unfolding skip
 is_word_solve = (refl, refl)
 

@@ -32,52 +32,52 @@ first_of : (a b c d e f g h : Bool) → (a || b || c || d || e || f || g || h) �
 first_of true b c d e f g h i = i
 first_of false b c d e f g h i = refl
 
-name_goes_on : (w : List ℕ) → IsName w → is_end (word w) ≡ false
+pub name_goes_on : (w : List ℕ) → IsName w → is_end (word w) ≡ false
 unfolding is_reserved
 name_goes_on w h =
     first_of (bytes_eq w (codes "end")) (bytes_eq w (codes "let")) (bytes_eq w (codes "in")) (bytes_eq w (codes "not")) (bytes_eq w (codes "All")) (bytes_eq w (codes "Ex")) (bytes_eq w (codes "last")) (bytes_eq w (codes "solve")) h
 
-name_no_goal : (w : List ℕ) → IsName w → is_solve (word w) ≡ false
+pub name_no_goal : (w : List ℕ) → IsName w → is_solve (word w) ≡ false
 unfolding is_reserved
 name_no_goal w h =
     or_right (bytes_eq w (codes "end") || bytes_eq w (codes "let") || bytes_eq w (codes "in") || bytes_eq w (codes "not") || bytes_eq w (codes "All") || bytes_eq w (codes "Ex") || bytes_eq w (codes "last")) (bytes_eq w (codes "solve")) h
 
 -- ---- words of moves and cases
 
-word_simplify : IsWord (codes "simplify")
+pub word_simplify : IsWord (codes "simplify")
 unfolding skip
 word_simplify = (refl, refl)
 
-word_contradiction : IsWord (codes "contradiction")
+pub word_contradiction : IsWord (codes "contradiction")
 unfolding skip
 word_contradiction = (refl, refl)
 
-word_sorry : IsWord (codes "sorry")
+pub word_sorry : IsWord (codes "sorry")
 unfolding skip
 word_sorry = (refl, refl)
 
-word_solved : IsWord (codes "SOLVED")
+pub word_solved : IsWord (codes "SOLVED")
 unfolding skip
 word_solved = (refl, refl)
 
-word_by : IsWord (codes "by")
+pub word_by : IsWord (codes "by")
 unfolding skip
 word_by = (refl, refl)
 
-word_case : IsWord (codes "case")
+pub word_case : IsWord (codes "case")
 unfolding skip
 word_case = (refl, refl)
 
-word_next : IsWord (codes "next")
+pub word_next : IsWord (codes "next")
 unfolding skip
 word_next = (refl, refl)
 
-word_qed : IsWord (codes "qed")
+pub word_qed : IsWord (codes "qed")
 unfolding skip
 word_qed = (refl, refl)
 
 -- the bracket and the line's end stand behind the premise's place
-premise_ends : (i p : ℕ) (rest : List ℕ) → (decimal i ++ (codes " " ++ (decimal p ++ codes " )"))) ++ 10 ∷ rest ≡ (decimal i ++ (codes " " ++ (decimal p ++ codes " "))) ++ 41 ∷ 10 ∷ rest
+pub premise_ends : (i p : ℕ) (rest : List ℕ) → (decimal i ++ (codes " " ++ (decimal p ++ codes " )"))) ++ 10 ∷ rest ≡ (decimal i ++ (codes " " ++ (decimal p ++ codes " "))) ++ 41 ∷ 10 ∷ rest
 premise_ends i p rest =
     append_assoc (decimal i) (32 ∷ (decimal p ++ codes " )")) (10 ∷ rest)
     ∙ ap (λ (bytes : List ℕ). decimal i ++ 32 ∷ bytes) (append_assoc (decimal p) (codes " )") (10 ∷ rest) ∙ sym (append_assoc (decimal p) (codes " ") (41 ∷ 10 ∷ rest)))

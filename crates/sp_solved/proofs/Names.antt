@@ -58,44 +58,83 @@ others_stay n m (c ∷ cs) h = at (bytes_eq c n) refl (others_stay n m cs h)
     at true e later = later ∙ not_it (bytes_eq c m) refl ((bytes_eq-Decides c n).0 e)
     at false e later = ap (λ (b : Bool). bytes_eq c m || b) later
 
+-- the names that are tried, and nothing where they run out: of the names that `public_given` gives then, the last one, no more holds than their sort
+abbrev public_tried : List (List ℕ) → ℕ → ℕ → List Variable → List Bound
+public_tried constants zero k xs = []
+public_tried constants (suc n) k [] = []
+public_tried constants (suc n) k (x ∷ xs) =
+    if is_listed (public_name k) constants
+    then public_tried constants n (suc k) (x ∷ xs)
+    else (x, constant (public_name k)) ∷ public_tried constants n (suc k) xs
+
+-- the names from a number on are listed here as there
+abbrev AreListedAlike : List (List ℕ) → List (List ℕ) → ℕ → ℕ → Type 0
+AreListedAlike cs ds n k = (j : ℕ) → k ≤ j → j < k + n → is_listed (public_name j) cs ≡ is_listed (public_name j) ds
+
+later_alike : (cs ds : List (List ℕ)) (n k : ℕ) → AreListedAlike cs ds (suc n) k → AreListedAlike cs ds n (suc k)
+later_alike cs ds n k h = λ j p q. h j (omega arith) (omega arith)
+
 -- names of later numbers are given as before
-given_same : (cs ds : List (List ℕ)) (n k : ℕ) (ys : List Variable) → ((j : ℕ) → k ≤ j → j < k + n → is_listed (public_name j) cs ≡ is_listed (public_name j) ds)
-    → public_given cs n k ys ≡ public_given ds n k ys
-given_same cs ds zero k ys h = refl
+given_same : (cs ds : List (List ℕ)) (n k : ℕ) (ys : List Variable) → AreListedAlike cs ds n k → public_given cs n k ys ≡ public_given ds n k ys
+given_same cs ds zero k [] h = refl
+given_same cs ds zero k (y ∷ ys) h = ap (λ (bs : List Bound). (y, constant (public_name k)) ∷ bs) (given_same cs ds zero k ys h)
 given_same cs ds (suc n) k [] h = refl
 given_same cs ds (suc n) k (y ∷ ys) h =
-    let later : (j : ℕ) → suc k ≤ j → j < suc k + n → is_listed (public_name j) cs ≡ is_listed (public_name j) ds = λ j p q. h j (omega arith) (omega arith) in
     ap (λ (b : Bool). if b then public_given cs n (suc k) (y ∷ ys) else (y, constant (public_name k)) ∷ public_given cs n (suc k) ys) (h k (omega arith) (omega arith))
     ∙ ap₂ (λ (as' bs : List Bound). if is_listed (public_name k) ds then as' else (y, constant (public_name k)) ∷ bs)
-    (given_same cs ds n (suc k) (y ∷ ys) later) (given_same cs ds n (suc k) ys later)
+    (given_same cs ds n (suc k) (y ∷ ys) (later_alike cs ds n k h)) (given_same cs ds n (suc k) ys (later_alike cs ds n k h))
 
-abbrev variables_in : List Bound → List Variable
-variables_in bs = map (λ (b : Bound). b.0) bs
+tried_same : (cs ds : List (List ℕ)) (n k : ℕ) (ys : List Variable) → AreListedAlike cs ds n k → public_tried cs n k ys ≡ public_tried ds n k ys
+tried_same cs ds zero k ys h = refl
+tried_same cs ds (suc n) k [] h = refl
+tried_same cs ds (suc n) k (y ∷ ys) h =
+    ap (λ (b : Bool). if b then public_tried cs n (suc k) (y ∷ ys) else (y, constant (public_name k)) ∷ public_tried cs n (suc k) ys) (h k (omega arith) (omega arith))
+    ∙ ap₂ (λ (as' bs : List Bound). if is_listed (public_name k) ds then as' else (y, constant (public_name k)) ∷ bs)
+    (tried_same cs ds n (suc k) (y ∷ ys) (later_alike cs ds n k h)) (tried_same cs ds n (suc k) ys (later_alike cs ds n k h))
 
--- of so many names the constants can't be all
-all_given : (cs : List (List ℕ)) (n k : ℕ) (ys : List Variable) → length ys + length cs ≤ n → k + n ≤ 2 ^ 64 → variables_in (public_given cs n k ys) ≡ ys
-all_given cs zero k [] h l = refl
-all_given cs zero k (y ∷ ys) h l = absurd (omega arith)
-all_given cs (suc n) k [] h l = refl
-all_given cs (suc n) k (y ∷ ys) h l =
+-- of so many names the constants can't be all: they don't run out
+enough : (cs : List (List ℕ)) (n k : ℕ) (ys : List Variable) → length ys + length cs ≤ n → k + n ≤ 2 ^ 64 → public_given cs n k ys ≡ public_tried cs n k ys
+enough cs zero k [] h l = refl
+enough cs zero k (y ∷ ys) h l = absurd (omega arith)
+enough cs (suc n) k [] h l = refl
+enough cs (suc n) k (y ∷ ys) h l =
     at (is_listed (public_name k) cs) refl
-    (λ e. let f = without_fewer (public_name k) cs e in all_given (without (public_name k) cs) n (suc k) (y ∷ ys) (omega arith) (omega arith))
-    (all_given cs n (suc k) ys (omega arith) (omega arith))
+    (λ e. let f = without_fewer (public_name k) cs e in enough (without (public_name k) cs) n (suc k) (y ∷ ys) (omega arith) (omega arith))
+    (enough cs n (suc k) ys (omega arith) (omega arith))
   where
     apart : (j : ℕ) → suc k ≤ j → j < suc k + n → public_name k ≡ public_name j → ⊥
     apart j p q e = let same = public_names_differ k j (omega arith) (omega arith) e in omega arith
 
-    at : (b : Bool) → is_listed (public_name k) cs ≡ b → (is_listed (public_name k) cs ≡ true → variables_in (public_given (without (public_name k) cs) n (suc k) (y ∷ ys)) ≡ y ∷ ys)
-        → variables_in (public_given cs n (suc k) ys) ≡ ys
-        → variables_in (if b then public_given cs n (suc k) (y ∷ ys) else (y, constant (public_name k)) ∷ public_given cs n (suc k) ys) ≡ y ∷ ys
+    alike : AreListedAlike cs (without (public_name k) cs) n (suc k)
+    alike = λ j p q. sym (others_stay (public_name k) (public_name j) cs (apart j p q))
+
+    at : (b : Bool) → is_listed (public_name k) cs ≡ b
+        → (is_listed (public_name k) cs ≡ true → public_given (without (public_name k) cs) n (suc k) (y ∷ ys) ≡ public_tried (without (public_name k) cs) n (suc k) (y ∷ ys))
+        → public_given cs n (suc k) ys ≡ public_tried cs n (suc k) ys
+        → (if b then public_given cs n (suc k) (y ∷ ys) else (y, constant (public_name k)) ∷ public_given cs n (suc k) ys)
+        ≡ (if b then public_tried cs n (suc k) (y ∷ ys) else (y, constant (public_name k)) ∷ public_tried cs n (suc k) ys)
     at true e passing giving =
-        let others = given_same cs (without (public_name k) cs) n (suc k) (y ∷ ys) (λ j p q. sym (others_stay (public_name k) (public_name j) cs (apart j p q))) in
-        ap variables_in others ∙ passing e
-    at false e passing giving = ap (λ (xs : List Variable). y ∷ xs) giving
+        given_same cs (without (public_name k) cs) n (suc k) (y ∷ ys) alike ∙ passing e ∙ sym (tried_same cs (without (public_name k) cs) n (suc k) (y ∷ ys) alike)
+    at false e passing giving = ap (λ (bs : List Bound). (y, constant (public_name k)) ∷ bs) giving
+
+abbrev variables_in : List Bound → List Variable
+variables_in bs = map (λ (b : Bound). b.0) bs
+
+-- each variable is given one
+all_given : (cs : List (List ℕ)) (n k : ℕ) (ys : List Variable) → variables_in (public_given cs n k ys) ≡ ys
+all_given cs zero k [] = refl
+all_given cs zero k (y ∷ ys) = ap (λ (xs : List Variable). y ∷ xs) (all_given cs zero k ys)
+all_given cs (suc n) k [] = refl
+all_given cs (suc n) k (y ∷ ys) = at (is_listed (public_name k) cs) (all_given cs n (suc k) (y ∷ ys)) (all_given cs n (suc k) ys)
+  where
+    at : (b : Bool) → variables_in (public_given cs n (suc k) (y ∷ ys)) ≡ y ∷ ys → variables_in (public_given cs n (suc k) ys) ≡ ys
+        → variables_in (if b then public_given cs n (suc k) (y ∷ ys) else (y, constant (public_name k)) ∷ public_given cs n (suc k) ys) ≡ y ∷ ys
+    at true passing giving = passing
+    at false passing giving = ap (λ (xs : List Variable). y ∷ xs) giving
 
 -- ---- what bindings give
 
-found_is_there : (bs : List Bound) (x : Variable) (t : Ground) → lookup bs x ≡ Some t → Member (x, t) bs
+pub found_is_there : (bs : List Bound) (x : Variable) (t : Ground) → lookup bs x ≡ Some t → Member (x, t) bs
 found_is_there [] x t e = absurd cc
 found_is_there (b ∷ bs) x t e = at (same_variable b.0 x) refl e (λ k. found_is_there bs x t k)
   where
@@ -133,7 +172,7 @@ fresh_differ n [] = tt
 fresh_differ n (x ∷ xs) =
     (λ m. let r = fresh_from (suc n) xs (name n) m in let same : n ≡ r.0 = (let e = r.1 in cc) in let h = r.2 in omega arith, fresh_differ (suc n) xs)
 
--- of a public name that is given: its number, and that the theory doesn't have it
+-- of a public name that is tried and given: its number, and that the theory doesn't have it
 pub record IsGiven (cs : List (List ℕ)) (from limit : ℕ) (t : Ground) : Type 0 where
   pub number : ℕ
   pub is : t ≡ constant (public_name number)
@@ -147,24 +186,24 @@ later_given cs k n t g =
     let b = g.below in
     record { number = g.number; is = g.is; from_here = omega arith; below = omega arith; new = g.new }
 
-public_from : (cs : List (List ℕ)) (n k : ℕ) (xs : List Variable) (t : Ground) → Member t (values_in (public_given cs n k xs)) → IsGiven cs k (k + n) t
+public_from : (cs : List (List ℕ)) (n k : ℕ) (xs : List Variable) (t : Ground) → Member t (values_in (public_tried cs n k xs)) → IsGiven cs k (k + n) t
 public_from cs zero k xs t m = absurd m
 public_from cs (suc n) k [] t m = absurd m
 public_from cs (suc n) k (x ∷ xs) t m = at (is_listed (public_name k) cs) refl m (λ ys l. later_given cs k n t (public_from cs n (suc k) ys t l))
   where
     at : (b : Bool) → is_listed (public_name k) cs ≡ b
-        → Member t (values_in (if b then public_given cs n (suc k) (x ∷ xs) else (x, constant (public_name k)) ∷ public_given cs n (suc k) xs))
-        → ((ys : List Variable) → Member t (values_in (public_given cs n (suc k) ys)) → IsGiven cs k (k + suc n) t) → IsGiven cs k (k + suc n) t
+        → Member t (values_in (if b then public_tried cs n (suc k) (x ∷ xs) else (x, constant (public_name k)) ∷ public_tried cs n (suc k) xs))
+        → ((ys : List Variable) → Member t (values_in (public_tried cs n (suc k) ys)) → IsGiven cs k (k + suc n) t) → IsGiven cs k (k + suc n) t
     at true s l later = later (x ∷ xs) l
     at false s (inl e) later = record { number = k; is = sym e; from_here = omega arith; below = omega arith; new = s }
     at false s (inr l) later = later xs l
 
-public_differ : (cs : List (List ℕ)) (n k : ℕ) (xs : List Variable) → k + n ≤ 2 ^ 64 → Distinct (values_in (public_given cs n k xs))
+public_differ : (cs : List (List ℕ)) (n k : ℕ) (xs : List Variable) → k + n ≤ 2 ^ 64 → Distinct (values_in (public_tried cs n k xs))
 public_differ cs zero k xs h = tt
 public_differ cs (suc n) k [] h = tt
 public_differ cs (suc n) k (x ∷ xs) h = at (is_listed (public_name k) cs) (λ ys. public_differ cs n (suc k) ys (omega arith))
   where
-    again : Member (constant (public_name k)) (values_in (public_given cs n (suc k) xs)) → ⊥
+    again : Member (constant (public_name k)) (values_in (public_tried cs n (suc k) xs)) → ⊥
     again m =
         let g = public_from cs n (suc k) xs (constant (public_name k)) m in
         let from_here = g.from_here in
@@ -173,8 +212,8 @@ public_differ cs (suc n) k (x ∷ xs) h = at (is_listed (public_name k) cs) (λ 
         let same = public_names_differ k g.number (omega arith) (omega arith) names in
         omega arith
 
-    at : (b : Bool) → ((ys : List Variable) → Distinct (values_in (public_given cs n (suc k) ys)))
-        → Distinct (values_in (if b then public_given cs n (suc k) (x ∷ xs) else (x, constant (public_name k)) ∷ public_given cs n (suc k) xs))
+    at : (b : Bool) → ((ys : List Variable) → Distinct (values_in (public_tried cs n (suc k) ys)))
+        → Distinct (values_in (if b then public_tried cs n (suc k) (x ∷ xs) else (x, constant (public_name k)) ∷ public_tried cs n (suc k) xs))
     at true later = later (x ∷ xs)
     at false later = (again, later xs)
 
@@ -237,7 +276,8 @@ fresh_sorted n [] h = tt
 fresh_sorted n (x ∷ xs) h = (h.0 n, fresh_sorted (suc n) xs h.1)
 
 public_sorted : (cs : List (List ℕ)) (n k : ℕ) (xs : List Variable) → Every (λ (x : Variable). (c : List ℕ) → HasSort x.sort (constant c)) xs → Every Sorted (public_given cs n k xs)
-public_sorted cs zero k xs h = tt
+public_sorted cs zero k [] h = tt
+public_sorted cs zero k (x ∷ xs) h = (h.0 (public_name k), public_sorted cs zero k xs h.1)
 public_sorted cs (suc n) k [] h = tt
 public_sorted cs (suc n) k (x ∷ xs) h = at (is_listed (public_name k) cs) (public_sorted cs n (suc k) (x ∷ xs) h) (public_sorted cs n (suc k) xs h.1)
   where
@@ -271,32 +311,34 @@ fresh_variables n (x ∷ xs) = ap (λ (ys : List Variable). x ∷ ys) (fresh_var
 room_given : (cs : List (List ℕ)) (xs : List Variable) → length xs + length cs < 2 ^ 64 → 1 + Limit cs xs ≤ 2 ^ 64
 room_given cs xs room = let h = others_fewer xs in omega arith
 
-given_variables : (cs : List (List ℕ)) (xs : List Variable) → length xs + length cs < 2 ^ 64 → variables_in (given cs xs) ≡ fresh_among xs ++ others_among xs
-given_variables cs xs room =
+given_variables : (cs : List (List ℕ)) (xs : List Variable) → variables_in (given cs xs) ≡ fresh_among xs ++ others_among xs
+given_variables cs xs =
     map-append (λ (b : Bound). b.0) (fresh_given 1 (fresh_among xs)) (public_given cs (Limit cs xs) 1 (others_among xs))
-    ∙ ap₂ (λ (ys zs : List Variable). ys ++ zs) (fresh_variables 1 (fresh_among xs)) (all_given cs (Limit cs xs) 1 (others_among xs) (omega arith) (room_given cs xs room))
+    ∙ ap₂ (λ (ys zs : List Variable). ys ++ zs) (fresh_variables 1 (fresh_among xs)) (all_given cs (Limit cs xs) 1 (others_among xs))
 
-value_given : (cs : List (List ℕ)) (xs : List Variable) → length xs + length cs < 2 ^ 64 → (x : Variable) → Member x xs → (t : Ground) × (lookup (given cs xs) x ≡ Some t)
-value_given cs xs room x m =
+pub value_given : (cs : List (List ℕ)) (xs : List Variable) (x : Variable) → Member x xs → (t : Ground) × (lookup (given cs xs) x ≡ Some t)
+value_given cs xs x m =
     bound_is_found (given cs xs) x
-    (subst (Member x) (sym (given_variables cs xs room))
+    (subst (Member x) (sym (given_variables cs xs))
     (⊎_elim (member_left x (fresh_among xs) (others_among xs)) (member_right x (fresh_among xs) (others_among xs)) (among_either xs x m)))
 
--- the binding is a fresh name's, or a public one's
+-- the binding is a fresh name's, or a public one's, that is tried
 abbrev IsGivenAs : List (List ℕ) → List Variable → Variable → Ground → Type 0
-IsGivenAs cs xs x t = Member (x, t) (fresh_given 1 (fresh_among xs)) ⊎ Member (x, t) (public_given cs (Limit cs xs) 1 (others_among xs))
+IsGivenAs cs xs x t = Member (x, t) (fresh_given 1 (fresh_among xs)) ⊎ Member (x, t) (public_tried cs (Limit cs xs) 1 (others_among xs))
 
-given_as : (cs : List (List ℕ)) (xs : List Variable) (x : Variable) (t : Ground) → lookup (given cs xs) x ≡ Some t → IsGivenAs cs xs x t
-given_as cs xs x t e =
-    member_either (x, t) (fresh_given 1 (fresh_among xs)) (public_given cs (Limit cs xs) 1 (others_among xs)) (found_is_there (given cs xs) x t e)
+given_as : (cs : List (List ℕ)) (xs : List Variable) → length xs + length cs < 2 ^ 64 → (x : Variable) (t : Ground) → lookup (given cs xs) x ≡ Some t → IsGivenAs cs xs x t
+given_as cs xs room x t e =
+    member_either (x, t) (fresh_given 1 (fresh_among xs)) (public_tried cs (Limit cs xs) 1 (others_among xs))
+    (subst (λ (bs : List Bound). Member (x, t) (fresh_given 1 (fresh_among xs) ++ bs)) (enough cs (Limit cs xs) 1 (others_among xs) (omega arith) (room_given cs xs room))
+    (found_is_there (given cs xs) x t e))
 
 its_value : (bs : List Bound) (x : Variable) (t : Ground) → Member (x, t) bs → Member t (values_in bs)
 its_value bs x t m = member_map (λ (b : Bound). b.1) (x, t) bs m
 
-no_both : (cs : List (List ℕ)) (xs : List Variable) (x y : Variable) (t : Ground) → Member (x, t) (fresh_given 1 (fresh_among xs)) → Member (y, t) (public_given cs (Limit cs xs) 1 (others_among xs)) → ⊥
+no_both : (cs : List (List ℕ)) (xs : List Variable) (x y : Variable) (t : Ground) → Member (x, t) (fresh_given 1 (fresh_among xs)) → Member (y, t) (public_tried cs (Limit cs xs) 1 (others_among xs)) → ⊥
 no_both cs xs x y t m k =
     let f = fresh_from 1 (fresh_among xs) t (its_value (fresh_given 1 (fresh_among xs)) x t m) in
-    let p = public_from cs (Limit cs xs) 1 (others_among xs) t (its_value (public_given cs (Limit cs xs) 1 (others_among xs)) y t k) in
+    let p = public_from cs (Limit cs xs) 1 (others_among xs) t (its_value (public_tried cs (Limit cs xs) 1 (others_among xs)) y t k) in
     let e : name f.0 ≡ constant (public_name p.number) = sym f.1 ∙ p.is in
     cc
 
@@ -305,14 +347,14 @@ differ cs xs room x y t (inl m) (inl k) = same_value (fresh_given 1 (fresh_among
 differ cs xs room x y t (inl m) (inr k) = absurd (no_both cs xs x y t m k)
 differ cs xs room x y t (inr m) (inl k) = absurd (no_both cs xs y x t k m)
 differ cs xs room x y t (inr m) (inr k) =
-    same_value (public_given cs (Limit cs xs) 1 (others_among xs)) x y t (public_differ cs (Limit cs xs) 1 (others_among xs) (room_given cs xs room)) m k
+    same_value (public_tried cs (Limit cs xs) 1 (others_among xs)) x y t (public_differ cs (Limit cs xs) 1 (others_among xs) (room_given cs xs room)) m k
 
 pub apart : (cs : List (List ℕ)) (xs : List Variable) → length xs + length cs < 2 ^ 64 → (x y : Variable) → Member x xs → Member y xs → value_in (given cs xs) x ≡ value_in (given cs xs) y → x ≡ y
 apart cs xs room x y m k e =
-    let a = value_given cs xs room x m in
-    let b = value_given cs xs room y k in
+    let a = value_given cs xs x m in
+    let b = value_given cs xs y k in
     let same : b.0 ≡ a.0 = sym (value_of_found (given cs xs) y b.0 b.1) ∙ sym e ∙ value_of_found (given cs xs) x a.0 a.1 in
-    differ cs xs room x y a.0 (given_as cs xs x a.0 a.1) (given_as cs xs y a.0 (b.1 ∙ ap Some same))
+    differ cs xs room x y a.0 (given_as cs xs room x a.0 a.1) (given_as cs xs room y a.0 (b.1 ∙ ap Some same))
 
 not_taken : (cs : List (List ℕ)) (xs : List Variable) (x : Variable) (t : Ground) (c : List ℕ) → Member c cs → t ≡ constant c → IsGivenAs cs xs x t → ⊥
 not_taken cs xs x t c m e (inl k) =
@@ -320,15 +362,15 @@ not_taken cs xs x t c m e (inl k) =
     let g : name f.0 ≡ constant c = sym f.1 ∙ e in
     cc
 not_taken cs xs x t c m e (inr k) =
-    let p = public_from cs (Limit cs xs) 1 (others_among xs) t (its_value (public_given cs (Limit cs xs) 1 (others_among xs)) x t k) in
+    let p = public_from cs (Limit cs xs) 1 (others_among xs) t (its_value (public_tried cs (Limit cs xs) 1 (others_among xs)) x t k) in
     let g : constant (public_name p.number) ≡ constant c = sym p.is ∙ e in
     let same : public_name p.number ≡ c = cc in
     true≢false (sym (listed_member c cs m) ∙ ap (λ (d : List ℕ). is_listed d cs) (sym same) ∙ p.new)
 
 pub others : (cs : List (List ℕ)) (xs : List Variable) → length xs + length cs < 2 ^ 64 → (x : Variable) → Member x xs → (c : List ℕ) → Member c cs → value_in (given cs xs) x ≡ constant c → ⊥
 others cs xs room x m c k e =
-    let a = value_given cs xs room x m in
-    not_taken cs xs x a.0 c k (sym (value_of_found (given cs xs) x a.0 a.1) ∙ e) (given_as cs xs x a.0 a.1)
+    let a = value_given cs xs x m in
+    not_taken cs xs x a.0 c k (sym (value_of_found (given cs xs) x a.0 a.1) ∙ e) (given_as cs xs room x a.0 a.1)
 
 -- ---- each variable that stands somewhere is one of those that are named
 

@@ -53,9 +53,10 @@ fresh_given n (x ∷ xs) = (x, name n) ∷ fresh_given (suc n) xs
 abbrev pub public_name : ℕ → List ℕ
 public_name k = codes "a" ++ decimal k
 
--- the public names from a number on, as far as so many names go, but those of the theory
+-- the public names from a number on, as far as so many names go, but those of the theory; the last for all variables that are left then
 abbrev pub public_given : List (List ℕ) → ℕ → ℕ → List Variable → List Bound
-public_given constants zero k xs = []
+public_given constants zero k [] = []
+public_given constants zero k (x ∷ xs) = (x, constant (public_name k)) ∷ public_given constants zero k xs
 public_given constants (suc n) k [] = []
 public_given constants (suc n) k (x ∷ xs) =
     if is_listed (public_name k) constants

@@ -165,6 +165,10 @@ fn public_name(alloc: Global, number: usize) -> Result<Name, AllocError>
 }
 
 /// Gives the variables public names, one after the other, passing over the constants.
+///
+/// # Errors
+///
+/// `AllocError` where memory is wanting, or the names run out, of which there are more than constants.
 fn give_public(
     alloc: Global,
     constants: &Vec<Name>,
@@ -183,6 +187,9 @@ fn give_public(
             values.push(variables[given], GroundTerm::Constant(name))?;
             given += 1;
         }
+    }
+    if given < variables.len() {
+        return Err(AllocError);
     }
     Ok(())
 }

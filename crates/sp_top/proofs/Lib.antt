@@ -1,3 +1,5 @@
 pub mod Causes
 pub mod TextStatus
 pub mod Answered
+pub mod Told
+pub mod Headlines

@@ -1,3 +1,4 @@
 pub mod Command
 pub mod Answer
 pub mod Run
+pub mod Headline

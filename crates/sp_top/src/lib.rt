@@ -13,6 +13,7 @@ ghost use Rattle.sp_top.specs.Answer.{TextAnswer, IsFileAnswer, IsAnswer};
 ghost use Rattle.sp_exec.specs.Replay.{rank};
 ghost use Rattle.sp_exec.specs.View.{cause_of};
 ghost use Rattle.sp_top.specs.Command.{IsLine, IsNoLine, of_proofs};
+ghost use Rattle.sp_top.specs.Headline.{VerdictsAreTrue};
 ghost use Rattle.sp_top.specs.Run.{UsageExactly, ReadFaultExactly, TooLongExactly, AnswersExactly, VerdictsHold, WritesWhole, WritesPrefix, IsComplete, WriteFaultOnly, WritesNothing, AsksFileOnce};
 ghost use Rattle.sp_top.specs.declared.Status.TheVariants.{Fine, Falsified, Incomplete, Rejected, Refused};
 ghost use Rattle.sp_analysis.specs.View.{verdict_of};
@@ -258,11 +259,13 @@ pub fn run<L: Library, K: Sink>(
     ensures fine { AnswersExactly words.now (L.holds library.old) Fine result }
     ensures write_fault { WriteFaultOnly (K.faults out.old) (K.faults out.new) result }
 
-    // The headline: what is written of each lemma is so. A lemma on all traces that is verified holds in every execution, steps of the
-    // adversary included, and one that is falsified is broken by the execution that is written; one on some trace that is verified is
-    // satisfied by the execution that is written, and one that is falsified holds in none. A proof that is checked is accepted exactly where
-    // its every step is an instance of a move, with the cases of that move. What is replayed is told as it is.
-    ensures headline { VerdictsHold words.now (L.holds library.old) (L.faults library.old) (L.faults library.new) (K.written out.old) (K.written out.new) result }
+    // The headline: each verdict that stands written is so. A lemma on all traces that is verified holds in every execution, steps of the
+    // adversary included, and one that is falsified is broken by the execution whose steps stand below, line by line; one on some trace that is
+    // verified is satisfied by the execution whose steps stand below, and one that is falsified holds in none.
+    ensures headline { VerdictsAreTrue words.now (L.holds library.old) (K.written out.old) (K.written out.new) result }
+    // And exactly: what is written of each lemma is what is to be written of it. A proof that is checked is accepted exactly where its every
+    // step is an instance of a move, with the cases of that move. What is replayed is told as it is.
+    ensures verdicts { VerdictsHold words.now (L.holds library.old) (L.faults library.old) (L.faults library.new) (K.written out.old) (K.written out.new) result }
     // What stands written is the whole answer, or a prefix of it, or nothing.
     ensures whole { WritesWhole words.now (L.holds library.old) (L.faults library.old) (L.faults library.new) (K.written out.old) (K.written out.new) result }
     ensures prefix { WritesPrefix words.now (L.holds library.old) (L.faults library.old) (L.faults library.new) (K.written out.old) (K.written out.new) result }

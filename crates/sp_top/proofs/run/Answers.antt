@@ -1,5 +1,6 @@
 use Rattle.std.proofs.Common.{inl, inr, refl}
 use Rattle.sp_top.proofs.Causes.{answer_is_whole, answer_of_line, usage_exactly, read_fault_exactly, too_long_exactly, answers_exactly, headline, headline_short, text_is_answered}
+use Rattle.sp_top.proofs.Headlines.{verdicts_are_true}
 use Rattle.sp_top.proofs.TextStatus.{verdicts_status, refused_status}
 use Rattle.sp_top.proofs.run.Goals as goal
 
@@ -27,8 +28,8 @@ returns-in-Ok-write_whole-clause-incomplete g c = answers_exactly c.args.words.n
 pub returns-in-Ok-write_whole-clause-fine : goal.returns-in-Ok-write_whole-clause-fine
 returns-in-Ok-write_whole-clause-fine g c = answers_exactly c.args.words.now _ _ _ _ _ (verdicts_status _ (inl refl)) (inr (c.in-Ok.answer.0.items, c.in-Ok.ensures.answer))
 
-pub returns-in-Ok-write_whole-clause-headline : goal.returns-in-Ok-write_whole-clause-headline
-returns-in-Ok-write_whole-clause-headline g c = headline c.args.words.now _ _ _ _ _ c.in-Ok.answer.0.items _ c.in-Ok.ensures.answer (rw c.deref.ensures.value at c.in-Ok-write_whole.ensures.all)
+pub returns-in-Ok-write_whole-clause-verdicts : goal.returns-in-Ok-write_whole-clause-verdicts
+returns-in-Ok-write_whole-clause-verdicts g c = headline c.args.words.now _ _ _ _ _ c.in-Ok.answer.0.items _ c.in-Ok.ensures.answer (rw c.deref.ensures.value at c.in-Ok-write_whole.ensures.all)
 
 pub returns-in-Ok-write_whole-clause-completeness : goal.returns-in-Ok-write_whole-clause-completeness
 returns-in-Ok-write_whole-clause-completeness g c = record {
@@ -52,11 +53,11 @@ returns-in-Ok-write_whole-clause-no_memory g c =
     let whole = answer_is_whole c.args.words.now _ _ _ c.in-Ok.answer.0.items _ c.in-Ok.ensures.answer in
     record { written = λ e. absurd (whole (inr e)); faults = λ e. absurd (whole (inr e)) }
 
-pub returns-in-Err-clause-headline : goal.returns-in-Err-clause-headline
-returns-in-Err-clause-headline g c = headline_short c.args.words.now _ _ _ _ _ _ (inr refl)
+pub returns-in-Err-clause-verdicts : goal.returns-in-Err-clause-verdicts
+returns-in-Err-clause-verdicts g c = headline_short c.args.words.now _ _ _ _ _ _ (inr refl)
 
-pub returns-clause-headline : goal.returns-clause-headline
-returns-clause-headline g c = headline_short c.args.words.now _ _ _ _ _ _ (inl refl)
+pub returns-clause-verdicts : goal.returns-clause-verdicts
+returns-clause-verdicts g c = headline_short c.args.words.now _ _ _ _ _ _ (inl refl)
 
 pub returns-in-Ok-write_whole-clause-asked : goal.returns-in-Ok-write_whole-clause-asked
 returns-in-Ok-write_whole-clause-asked g c = record {
@@ -71,3 +72,13 @@ returns-clause-asked g c = record {
   at_most = c.respond.ensures.asked;
   once = λ command file line memory. c.in-Ok.ensures.asked_once command file line;
 }
+
+pub returns-in-Ok-write_whole-clause-headline : goal.returns-in-Ok-write_whole-clause-headline
+returns-in-Ok-write_whole-clause-headline g c =
+    verdicts_are_true c.args.words.now _ _ _ _ _ _ (headline c.args.words.now _ _ _ _ _ c.in-Ok.answer.0.items _ c.in-Ok.ensures.answer (rw c.deref.ensures.value at c.in-Ok-write_whole.ensures.all))
+
+pub returns-in-Err-clause-headline : goal.returns-in-Err-clause-headline
+returns-in-Err-clause-headline g c = verdicts_are_true c.args.words.now _ 0 0 _ _ _ (headline_short c.args.words.now _ _ _ _ _ _ (inr refl))
+
+pub returns-clause-headline : goal.returns-clause-headline
+returns-clause-headline g c = verdicts_are_true c.args.words.now _ 0 0 _ _ _ (headline_short c.args.words.now _ _ _ _ _ _ (inl refl))

@@ -9,4 +9,4 @@ written_by-requires-clause-rise c =
 pub returns : goal.returns
 returns c =
     is_done (signature_of c.in_ok-signature.signature) c.in_ok-signature.ensures c.args.problem c.in_ok-tried.tried.items c.in_ok-written.written.items c.in_ok-verdicts.verdicts.items c.requires
-    c.args.command c.in_ok-tried.ensures.due c.in_ok-tried.ensures.places c.in_ok-written.ensures c.in_ok-verdicts.ensures
+    c.args.command c.in_ok-tried.ensures.due c.in_ok-tried.ensures.nameable c.in_ok-written.ensures c.in_ok-verdicts.ensures

@@ -7,4 +7,4 @@ use Rattle.sp_show.proofs.term.write_arguments.Goals as goal
 pub returns : goal.returns
 returns c =
     on_ok_weaker c.write_row.result
-    (λ h. h ∙ ap (λ (xs : List ℕ). string_bytes c.args.out.now ++ xs) (arguments_run (grounds_of c.args.terms.now.items))) c.write_row.ensures
+    (λ h. h ∙ ap (λ (xs : List ℕ). string_bytes c.args.out.now ++ xs) (arguments_run (grounds_of c.args.terms.now.items))) c.write_row.ensures.text

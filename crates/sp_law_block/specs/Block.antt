@@ -5,8 +5,9 @@ use Rattle.sp_spec.specs.Rule.{Rule}
 use Rattle.sp_spec.specs.Execution.{Step}
 use Rattle.sp_spec.specs.Log.{Log, visible_trace}
 use Rattle.sp_law_found.specs.Found.{execution_of}
-use Rattle.sp_spec.specs.Lists.{newest_first}
+use Rattle.sp_spec.specs.Lists.{Every, newest_first}
 use Rattle.sp_spec_text.specs.Printed.{step_text, trace_block}
+use Rattle.sp_show.specs.Numbers.{StepHasNames, numbered_names}
 
 -- the order turned round: of what stands the newest first, the oldest first
 abbrev pub oldest_first : {A : Type 0} → List A → List A
@@ -24,3 +25,8 @@ found_block rules log = codes "execution:\n" ++ (steps_text (oldest_first (execu
 abbrev pub block_of : List Rule → Option Log → List ℕ
 block_of rules None = []
 block_of rules (Some log) = found_block rules log
+
+-- the numbers of the fresh names in the execution have an end
+abbrev pub IsNumbered : List Rule → Option Log → Type 0
+IsNumbered rules None = Unit {0}
+IsNumbered rules (Some log) = Every (StepHasNames numbered_names) (execution_of rules log)

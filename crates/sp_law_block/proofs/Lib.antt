@@ -1,0 +1,16 @@
+pub mod WordSplits
+pub mod TokenWords
+pub mod SpelledNames
+pub mod TextNames
+pub mod Writable
+pub mod GivenNames
+pub mod LogSteps
+pub mod Ends
+pub mod PublicNames
+pub mod GivenVariables
+pub mod CandidateNames
+pub mod NoFeeds
+pub mod ReadBack
+pub mod Sections
+pub mod BlockLines
+pub mod VerdictLines

@@ -1,0 +1,157 @@
+-- The rules, variables, actions and lemmas of a text have names as a text may have them, and its public names may stand in quotes.
+use Rattle.std.proofs.Common.{ℕ, Bool, true, false, if◌then◌else◌, List, [], ◌∷◌, ◌++◌, Option}
+use Rattle.sp_spec.specs.Lists.{Every, is_listed}
+use Rattle.sp_spec.specs.Term.{Variable, Term, var, constant, name, app, Terms, none, more, in_term, in_terms}
+use Rattle.sp_spec.specs.Rule.{Fact, Action, Declared, in_facts, in_actions, occurrences, action_at}
+use Rattle.sp_spec.specs.Formula.{Written}
+use Rattle.sp_spec.specs.Theory.{Lemma}
+use Rattle.sp_spec.specs.Written.{WrittenRule, sort_in, names_after, rule_names, numbered_in, rule_of}
+use Rattle.sp_spec.specs.Constants as constants
+use Rattle.sp_spec.specs.Constants.{in_rule, in_rules, in_lemmas, in_formula, once_after, constants_of}
+use Rattle.sp_spec.proofs.Lists.{every_map, every_weaken, every_append}
+use Rattle.sp_spec_text.specs.Token.{Lexeme}
+use Rattle.sp_spec_text.specs.Written.{WrittenProof, WrittenCases, Method, Item, rules_in, lemmas_in, WrittenText, theory_in}
+use Rattle.sp_spec_text.specs.Proofs as p
+use Rattle.sp_spec_text.specs.Proofs.{SpellsMethod, SpellsProof, SpellsCases, SpellsMore}
+use Rattle.sp_spec_text.specs.Theories as t
+use Rattle.sp_spec_text.specs.Theories.{SpellsProofPart, SpellsItems, SpellsTheory}
+use Rattle.sp_spec_text.specs.Texts.{IsTextOf}
+use Rattle.sp_read_steps.specs.Lines.{IsNamed, IsQuotable}
+use Rattle.sp_law_block.specs.Shown.{IsNamedRule}
+use Rattle.sp_law_block.specs.Laws.{TextsHaveNames}
+use Rattle.sp_law_block.proofs.TokenWords.{Spoken, tokens_spoken}
+use Rattle.sp_law_block.proofs.SpelledNames.{IsNamedVariable, IsNamedTerm, AreNamedTerms, IsNamedFact, IsNamedAction, quotable_in_terms, IsNamedWritten, rule_named, IsNamedLemma, lemma_named}
+
+-- ---- what follows a proof is spoken too
+
+behind_method : {m : Method} {tokens rest : List Lexeme} → SpellsMethod tokens m rest → Every Spoken tokens → Every Spoken rest
+behind_method (p.by_word e) k = k.1
+behind_method p.by_goal k = k.1
+
+mutual
+  behind_proof : {q : WrittenProof} {tokens rest : List Lexeme} → SpellsProof tokens q rest → Every Spoken tokens → Every Spoken rest
+  behind_proof p.solved k = k.1
+  behind_proof (p.by_method h) k = behind_method h k.1
+  behind_proof (p.method_proof h i) k = behind_proof i (behind_method h k)
+  behind_proof (p.method_cases h i) k = behind_cases i (behind_method h k)
+
+  behind_cases : {cs : WrittenCases} {tokens rest : List Lexeme} → SpellsCases tokens cs rest → Every Spoken tokens → Every Spoken rest
+  behind_cases (p.case n h i) k = behind_more i (behind_proof h k.1.1)
+
+  behind_more : {cs : WrittenCases} {tokens rest : List Lexeme} → SpellsMore tokens cs rest → Every Spoken tokens → Every Spoken rest
+  behind_more p.qed k = k.1
+  behind_more (p.next h) k = behind_cases h k.1
+
+behind_part : {o : Option WrittenProof} {tokens rest : List Lexeme} → SpellsProofPart tokens o rest → Every Spoken tokens → Every Spoken rest
+behind_part t.no_proof k = k
+behind_part (t.a_proof h) k = behind_proof h k
+
+-- ---- the items
+
+record AreNamedItems (items : List Item) : Type 0 where
+  rules : Every IsNamedWritten (rules_in items)
+  lemmas : Every IsNamedLemma (lemmas_in items)
+
+items_named : {items : List Item} {tokens rest : List Lexeme} → SpellsItems tokens items rest → Every Spoken tokens → AreNamedItems items
+items_named t.no_item k = record { rules = tt; lemmas = tt }
+items_named (t.rule_first h i) k =
+    let r = rule_named h k in
+    let others = items_named i r.behind in
+    record { rules = (r.says, others.rules); lemmas = others.lemmas }
+items_named (t.lemma_first h q i) k =
+    let l = lemma_named h k in
+    let others = items_named i (behind_part q l.behind) in
+    record { rules = others.rules; lemmas = (l.says, others.lemmas) }
+
+theory_named : {tokens : List Lexeme} {theory : WrittenText} → SpellsTheory tokens theory → Every Spoken tokens → AreNamedItems theory.items
+theory_named (t.theory n i) k = items_named i k.1.1.1
+
+-- ---- the variables of a rule
+
+mutual
+  named_in_term : (t : Term Written) → IsNamedTerm t → Every IsNamedVariable (in_term t)
+  named_in_term (var x) h = (h, tt)
+  named_in_term (constant c) h = tt
+  named_in_term (name n) h = tt
+  named_in_term (app f ts) h = named_in_terms ts h
+
+  named_in_terms : (ts : Terms Written) → AreNamedTerms ts → Every IsNamedVariable (in_terms ts)
+  named_in_terms none h = tt
+  named_in_terms (more t ts) h = every_append IsNamedVariable (in_term t) (in_terms ts) (named_in_term t h.0) (named_in_terms ts h.1)
+
+named_in_facts : (fs : List (Fact Written)) → Every IsNamedFact fs → Every IsNamedVariable (in_facts fs)
+named_in_facts [] e = tt
+named_in_facts (f ∷ fs) e = every_append IsNamedVariable (in_terms f.args) (in_facts fs) (named_in_terms f.args e.0.1) (named_in_facts fs e.1)
+
+named_in_actions : (xs : List (Action Written)) → Every IsNamedAction xs → Every IsNamedVariable (in_actions xs)
+named_in_actions [] e = tt
+named_in_actions (a ∷ xs) e = every_append IsNamedVariable (in_terms a.args) (in_actions xs) (named_in_terms a.args e.0.1) (named_in_actions xs e.1)
+
+named_occurrences : (r : WrittenRule) → IsNamedWritten r → Every IsNamedVariable (occurrences r.facts)
+named_occurrences r h =
+    let f = r.facts in
+    every_append IsNamedVariable (in_facts f.premises) (in_actions f.actions ++ in_facts f.conclusions) (named_in_facts f.premises h.premises)
+    (every_append IsNamedVariable (in_actions f.actions) (in_facts f.conclusions) (named_in_actions f.actions h.actions) (named_in_facts f.conclusions h.conclusions))
+
+-- what holds of the names in a list holds of them with one more where it isn't there
+every_then : (P : List ℕ → Type 0) (b : Bool) (x : List ℕ) (xs : List (List ℕ)) → P x → Every P xs → Every P (if b then xs else xs ++ x ∷ [])
+every_then P true x xs h e = e
+every_then P false x xs h e = every_append P xs (x ∷ []) e (h, tt)
+
+every_name : (seen : List (List ℕ)) (xs : List Written) → Every IsNamed seen → Every IsNamedVariable xs → Every IsNamed (names_after seen xs)
+every_name seen [] e k = e
+every_name seen (x ∷ xs) e k =
+    let b = is_listed x.name seen in every_name (if b then seen else seen ++ x.name ∷ []) xs (every_then IsNamed b x.name seen k.0 e) k.1
+
+named_rule : (r : WrittenRule) → IsNamedWritten r → IsNamedRule (rule_of r)
+named_rule r h = record {
+  name = h.name;
+  variables = every_map IsNamed (λ (d : Declared). IsNamed d.name) (λ x. record { name = x; sort = sort_in r.facts x }) (λ x k. k) (rule_names r.facts)
+      (every_name [] (occurrences r.facts) tt (named_occurrences r h));
+  actions = every_map IsNamedAction (λ (a : Action Variable). IsNamed a.symbol) (action_at (numbered_in r.facts)) (λ a k. k.0) r.facts.actions h.actions;
+}
+
+-- ---- the public names
+
+quotable_in_facts : (fs : List (Fact Written)) → Every IsNamedFact fs → Every IsQuotable (constants.in_facts fs)
+quotable_in_facts [] e = tt
+quotable_in_facts (f ∷ fs) e = every_append IsQuotable (constants.in_terms f.args) (constants.in_facts fs) (quotable_in_terms f.args e.0.1) (quotable_in_facts fs e.1)
+
+quotable_in_actions : (xs : List (Action Written)) → Every IsNamedAction xs → Every IsQuotable (constants.in_actions xs)
+quotable_in_actions [] e = tt
+quotable_in_actions (a ∷ xs) e = every_append IsQuotable (constants.in_terms a.args) (constants.in_actions xs) (quotable_in_terms a.args e.0.1) (quotable_in_actions xs e.1)
+
+quotable_in_rule : (r : WrittenRule) → IsNamedWritten r → Every IsQuotable (in_rule r)
+quotable_in_rule r h =
+    let f = r.facts in
+    every_append IsQuotable (constants.in_facts f.premises) (constants.in_actions f.actions ++ constants.in_facts f.conclusions) (quotable_in_facts f.premises h.premises)
+    (every_append IsQuotable (constants.in_actions f.actions) (constants.in_facts f.conclusions) (quotable_in_actions f.actions h.actions) (quotable_in_facts f.conclusions h.conclusions))
+
+quotable_in_rules : (rs : List WrittenRule) → Every IsNamedWritten rs → Every IsQuotable (in_rules rs)
+quotable_in_rules [] e = tt
+quotable_in_rules (r ∷ rs) e = every_append IsQuotable (in_rule r) (in_rules rs) (quotable_in_rule r e.0) (quotable_in_rules rs e.1)
+
+quotable_in_lemmas : (ls : List Lemma) → Every IsNamedLemma ls → Every IsQuotable (in_lemmas ls)
+quotable_in_lemmas [] e = tt
+quotable_in_lemmas (l ∷ ls) e = every_append IsQuotable (in_formula l.formula) (in_lemmas ls) e.0.1 (quotable_in_lemmas ls e.1)
+
+every_once : (seen cs : List (List ℕ)) → Every IsQuotable seen → Every IsQuotable cs → Every IsQuotable (once_after seen cs)
+every_once seen [] e k = e
+every_once seen (c ∷ cs) e k = let b = is_listed c seen in every_once (if b then seen else seen ++ c ∷ []) cs (every_then IsQuotable b c seen k.0 e) k.1
+
+-- a text's theory has no restrictions
+quotable_constants : (theory : WrittenText) → AreNamedItems theory.items → Every IsQuotable (constants_of (theory_in theory))
+quotable_constants theory h =
+    let rules = rules_in theory.items in
+    let lemmas = lemmas_in theory.items in
+    every_once [] (in_rules rules ++ in_lemmas lemmas) tt (every_append IsQuotable (in_rules rules) (in_lemmas lemmas) (quotable_in_rules rules h.rules) (quotable_in_lemmas lemmas h.lemmas))
+
+text_named : (text : List ℕ) (theory : WrittenText) → IsTextOf text theory → AreNamedItems theory.items
+text_named text theory h = theory_named h.spells (tokens_spoken h.cut)
+
+pub texts_have_names_lem : TextsHaveNames
+texts_have_names_lem = record {
+  rules = λ text theory h. every_map IsNamedWritten IsNamedRule rule_of named_rule (rules_in theory.items) (text_named text theory h).rules;
+  lemmas = λ text theory h. every_weaken IsNamedLemma (λ (l : Lemma). IsNamed l.name) (λ l k. k.0) (lemmas_in theory.items) (text_named text theory h).lemmas;
+  constants = λ text theory h. quotable_constants theory (text_named text theory h);
+}

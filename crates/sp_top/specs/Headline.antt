@@ -1,0 +1,71 @@
+-- What the lines that are written say of a theory, for a reader who takes none of the definitions on trust by which they are found. It speaks of
+-- the bytes of a text, of the lines of what is written, and of executions. Source: CSF 2012, "Security properties"; Tamarin manual, "Output".
+use Rattle.std.specs.Prelude.{◌≡◌, ℕ, List, ◌∷◌, ◌++◌, Option, Some, codes, decimal}
+use Rattle.sp_spec.specs.Lists.{Member, newest_first}
+use Rattle.sp_spec.specs.Theory.{TraceKind, all_traces, exists_trace, Theory, Lemma, signature_of}
+use Rattle.sp_spec.specs.Written.{theory_of}
+use Rattle.sp_spec.specs.Execution.{Step}
+use Rattle.sp_spec.specs.Verdict.{HoldsInAll, HoldsInNone, IsBrokenBy, IsSatisfiedBy}
+use Rattle.sp_spec_text.specs.Written.{WrittenText, theory_in}
+use Rattle.sp_spec_text.specs.Texts.{IsTextOf}
+use Rattle.sp_read_steps.specs.Lines.{IsWord, lines, AreSteps}
+use Rattle.sp_law_again.specs.Behind.{IsBehindEnd}
+use Rattle.sp_top.specs.Command.{IsLine}
+use Rattle.sp_top.specs.Run.{HasVerdicts}
+use Rattle.sp_top.specs.declared.Status.{Status}
+use Rattle.sp_top.specs.declared.words.Command.{Command}
+use Rattle.sp_top.specs.declared.words.Command.TheVariants.{Prove, Check, Replay}
+
+-- the line is one of the text, and these stand below it
+pub record IsLineAbove (text line : List ℕ) (below : List (List ℕ)) : Type 0 where
+  pub above : List (List ℕ)
+  pub lines_are : lines text ≡ above ++ line ∷ below
+
+-- the bytes are the text of the theory, and a lemma of this name and kind stands in it
+pub record IsLemmaOf (bytes name : List ℕ) (kind : TraceKind) (theory : Theory) (lemma : Lemma) : Type 0 where
+  pub text : WrittenText
+  pub says : IsTextOf bytes text
+  pub theory_is : theory ≡ theory_of (theory_in text)
+  pub stands : Member lemma theory.lemmas
+  pub name_is : lemma.name ≡ name
+  pub kind_is : lemma.kind ≡ kind
+
+-- below stand the lines of steps, the oldest first, of which this is so
+pub record IsExecutionBelow (below : List (List ℕ)) (theory : Theory) (IsSo : List Step → Type 0) : Type 0 where
+  pub block : List (List ℕ)
+  pub behind : List (List ℕ)
+  pub lines_are : below ≡ codes "execution:" ∷ (block ++ codes "trace:" ∷ behind)
+  pub steps : List Step
+  pub are_steps : AreSteps (signature_of theory).symbols block steps
+  pub is_so : IsSo (newest_first steps)
+
+-- so it is of some lemma of that name and kind
+abbrev pub OfLemma : List ℕ → List ℕ → TraceKind → (Theory → Lemma → Type 0) → Type 0
+OfLemma bytes name kind IsSo = (theory : Theory) × (lemma : Lemma) × IsLemmaOf bytes name kind theory lemma × IsSo theory lemma
+
+-- `NAME (all-traces): verified (N steps)`: every execution satisfies the lemma. `NAME (all-traces): falsified - found trace (N steps)`: the
+-- execution that stands below breaks it. `NAME (exists-trace): verified (N steps)`: the execution that stands below satisfies it.
+-- `NAME (exists-trace): falsified - no trace found (N steps)`: no execution does.
+pub record LinesAreTrue (bytes told : List ℕ) : Type 0 where
+  pub proof : (name : List ℕ) (n : ℕ) (below : List (List ℕ)) → IsWord name → IsLineAbove told (name ++ (codes " (all-traces): verified (" ++ (decimal n ++ codes " steps)"))) below
+      → OfLemma bytes name all_traces HoldsInAll
+  pub attack : (name : List ℕ) (n : ℕ) (below : List (List ℕ)) → IsWord name → IsLineAbove told (name ++ (codes " (all-traces): falsified - found trace (" ++ (decimal n ++ codes " steps)"))) below
+      → OfLemma bytes name all_traces (λ theory lemma. IsExecutionBelow below theory (IsBrokenBy theory lemma))
+  pub witness : (name : List ℕ) (n : ℕ) (below : List (List ℕ)) → IsWord name → IsLineAbove told (name ++ (codes " (exists-trace): verified (" ++ (decimal n ++ codes " steps)"))) below
+      → OfLemma bytes name exists_trace (λ theory lemma. IsExecutionBelow below theory (IsSatisfiedBy theory lemma))
+  pub refutation : (name : List ℕ) (n : ℕ) (below : List (List ℕ)) → IsWord name → IsLineAbove told (name ++ (codes " (exists-trace): falsified - no trace found (" ++ (decimal n ++ codes " steps)"))) below
+      → OfLemma bytes name exists_trace HoldsInNone
+
+-- Where verdicts are told: `check` writes nothing else, and `prove` first writes the text again, up to its word `end`.
+abbrev pub Tells : Command → List ℕ → List ℕ → Type 0
+Tells Prove written told = IsBehindEnd written told
+Tells Check written told = told ≡ written
+Tells Replay written told = ⊥
+
+-- Each verdict that stands written is so: where the library tells the bytes of the file, and the sink what stood there before and now.
+pub record VerdictsAreTrue (words : List (List ℕ)) (holds : List ℕ → Option (Option (List ℕ))) (old new : Option (List ℕ)) (status : Status) : Type 0 where
+  pub verdicts : (command : Command) (file bytes before written told : List ℕ) → IsLine words command file → holds file ≡ Some (Some bytes)
+      → old ≡ Some before → new ≡ Some (before ++ written) → HasVerdicts status → Tells command written told → LinesAreTrue bytes told
+  -- and `prove` tells them
+  pub told : (file bytes before written : List ℕ) → IsLine words Prove file → holds file ≡ Some (Some bytes)
+      → old ≡ Some before → new ≡ Some (before ++ written) → HasVerdicts status → (told : List ℕ) × IsBehindEnd written told
