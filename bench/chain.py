@@ -7,7 +7,7 @@ import sys
 import tempfile
 import time
 
-SIZES = [5, 10, 20, 40]
+SIZES = [5, 10, 20, 40, 160]
 RUNS = 5
 
 FIRST = "rule First: [ Fr(~x) ] --[ First(~x) ]-> [ T_0(~x) ]\n"
