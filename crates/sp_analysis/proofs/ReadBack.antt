@@ -11,7 +11,7 @@ use Rattle.sp_spec.specs.Theory.{TraceKind, all_traces, exists_trace, Lemma, sig
 use Rattle.sp_spec.specs.Written.{WrittenTheory, theory_of}
 use Rattle.sp_spec.specs.Constants.{constants_of}
 use Rattle.sp_spec.specs.Guarded.{Guarded}
-use Rattle.sp_law_equal.proofs.Pairs.{pairs_convergent, pairs_keep_symbols}
+use Rattle.sp_law_equal.proofs.Pairs.{pairs_have_normal_forms, pairs_keep_symbols}
 use Rattle.sp_law_guard.specs.GuardedForm.{negate}
 use Rattle.sp_law_guard.specs.CheckedForm.{checked_form}
 use Rattle.sp_law_guard.proofs.Checked.{form_checked}
@@ -65,7 +65,7 @@ module _ (text : List ℕ) (written : WrittenText) (says : IsTextOf text written
 
   plain : IsPlainTheory (theory_of theory)
   plain = record {
-    convergent = pairs_convergent;
+    normal_forms = pairs_have_normal_forms;
     keeps = pairs_keep_symbols (signature_of (theory_of theory)).symbols;
     plain = rules_plain (signature_of (theory_of theory)).equations theory.rules first.rules_are;
     over = rules_over theory first.rules_are;
@@ -107,7 +107,7 @@ module _ (text : List ℕ) (written : WrittenText) (says : IsTextOf text written
       subst (IsReadBack (theory_of theory)) k.1 (record {
         writable = writable;
         read = steps_are_read_back_lem.read signature.symbols pairs_have_names (oldest_first (execution_of rules newest)) writable;
-        shown = every_newest (Every (IsShownAction signature.symbols)) (visible_trace newest) (logs_may_be_written_lem.trace theory exe named plain.over newest is.0 is.1 names);
+        shown = every_newest (Every (IsShownAction signature.symbols)) (visible_trace newest) (logs_may_be_written_lem.trace theory exe named plain.over.actions newest is.0 is.1 names);
       })
 
   -- where there is none nothing is written

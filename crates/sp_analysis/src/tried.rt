@@ -194,10 +194,7 @@ fn read_proof(alloc: Global, proof: &Option<WrittenProof>) -> Result<Skeleton, A
 {
     match proof {
         Some(proof) => skeleton(alloc, proof),
-        None => Ok(Skeleton {
-            step: Step::Known(Move::Unproved),
-            branches: Vec::new(alloc),
-        }),
+        None => Skeleton::leaf(alloc, Step::Known(Move::Unproved)),
     }
 }
 

@@ -1,6 +1,9 @@
+pub mod Kept
+pub mod Listed
 pub mod Names
 pub mod Once
 pub mod Open
 pub mod Right
 pub mod Shape
+pub mod Told
 pub mod Walking

@@ -5,8 +5,8 @@ use Rattle.sp_spec_system.specs.System.{System}
 use Rattle.sp_spec_system.specs.Move.{Move, Context, Case}
 use Rattle.sp_spec_proof.specs.Cases.{cases}
 use Rattle.sp_spec_proof.specs.Tree.{Tree, node, Branches, no_branch, branch, IsAccepted, AreAccepted, is_solved, first_log, found_log, found_below}
-use Rattle.sp_check.specs.Skeleton.{Step, known, unbuilt, unknown, Skeleton, node_read, BranchesRead, none_read, branch_read, tree_of, branches_of}
-use Rattle.sp_check.specs.Rejected.{case_names, branch_names, IsFine, ReadIsAccepted}
+use Rattle.sp_check.specs.Skeleton.{Step, known, unbuilt, unknown, Skeleton, node_read, BranchesRead, none_read, branch_read, branch_names, tree_of, branches_of}
+use Rattle.sp_check.specs.Rejected.{case_names, IsFine, ReadIsAccepted}
 
 -- what a node is that stands for a tree
 pub record NodeIs (step : Step) (bs : BranchesRead) (t : Tree) : Type 0 where

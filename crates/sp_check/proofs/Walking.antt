@@ -6,8 +6,8 @@ use Rattle.sp_spec_system.specs.System.{System}
 use Rattle.sp_spec_system.specs.Move.{Move, simplify, contradiction, unproved, solved, or, action, premise, Context, Case, end_log}
 use Rattle.sp_spec_proof.specs.Cases.{cases}
 use Rattle.sp_spec_proof.specs.Tree.{node, no_branch, IsAccepted, AreAccepted, is_solved, first_log}
-use Rattle.sp_check.specs.Skeleton.{known, unbuilt, unknown, Skeleton, node_read, BranchesRead, none_read, branch_read, nodes, nodes_in}
-use Rattle.sp_check.specs.Rejected.{case_names, branch_names, IsRejectedAt, AreRejectedAt}
+use Rattle.sp_check.specs.Skeleton.{known, unbuilt, unknown, Skeleton, node_read, BranchesRead, none_read, branch_read, branch_names, nodes, nodes_in}
+use Rattle.sp_check.specs.Rejected.{case_names, IsRejectedAt, AreRejectedAt}
 use Rattle.sp_spec_text.specs.Verdict.{clause_cases}
 use Rattle.sp_check.specs.Judging.{are_named, fails, leads_to, cases_checked, log_checked, Walked, passed, stopped, walked_on, walk, walk_checked}
 use Rattle.sp_check.proofs.Names.{named_decides}
@@ -37,17 +37,17 @@ node_tells context before met s move goes_on bs cs e names (stopped m clause) h 
 
 names_tell : (context : Context) (before : ℕ) (met : Option Log) (s : System) (move : Move) → is_solved move ≡ false → (bs : BranchesRead) (cs : List Case) → cases context s move ≡ Some cs
     → (branch_names bs ≡ case_names cs → BranchesTell context (before + 1) met cs bs (walk_checked context (before + 1) met (leads_to cs) bs))
-    → (b : Bool) → are_named cs bs ≡ b → WalkTells context before met s (node_read (known move) bs) (walk_checked context (before + 1) met (if b then leads_to cs else fails clause_cases) bs)
+    → (b : Bool) → are_named cs (branch_names bs) ≡ b → WalkTells context before met s (node_read (known move) bs) (walk_checked context (before + 1) met (if b then leads_to cs else fails clause_cases) bs)
 names_tell context before met s move goes_on bs cs e below true is =
-    let names = (named_decides cs bs).0 is in
+    let names = (named_decides cs (branch_names bs)).0 is in
     node_tells context before met s move goes_on bs cs e names (walk_checked context (before + 1) met (leads_to cs) bs) (below names)
-names_tell context before met s move goes_on bs cs e below false is = (1, refl, inl (refl, (cs, tt, e, λ names. false≢true (sym is ∙ (named_decides cs bs).1 names))))
+names_tell context before met s move goes_on bs cs e below false is = (1, refl, inl (refl, (cs, tt, e, λ names. false≢true (sym is ∙ (named_decides cs (branch_names bs)).1 names))))
 
 cases_tell : (context : Context) (before : ℕ) (met : Option Log) (s : System) (move : Move) → is_solved move ≡ false → (bs : BranchesRead)
     → ((cs : List Case) → branch_names bs ≡ case_names cs → BranchesTell context (before + 1) met cs bs (walk_checked context (before + 1) met (leads_to cs) bs))
-    → (o : Option (List Case)) → cases context s move ≡ o → WalkTells context before met s (node_read (known move) bs) (walk_checked context (before + 1) met (cases_checked bs o) bs)
+    → (o : Option (List Case)) → cases context s move ≡ o → WalkTells context before met s (node_read (known move) bs) (walk_checked context (before + 1) met (cases_checked (branch_names bs) o) bs)
 cases_tell context before met s move goes_on bs below None e = (1, refl, inl (refl, (tt, e)))
-cases_tell context before met s move goes_on bs below (Some cs) e = names_tell context before met s move goes_on bs cs e (below cs) (are_named cs bs) refl
+cases_tell context before met s move goes_on bs below (Some cs) e = names_tell context before met s move goes_on bs cs e (below cs) (are_named cs (branch_names bs)) refl
 
 -- where the search ends
 end_cases : (context : Context) (s : System) (log : Log) → end_log context s ≡ Some log → cases context s solved ≡ Some []
@@ -60,7 +60,7 @@ no_end_cases : (context : Context) (s : System) → end_log context s ≡ None �
 no_end_cases context s e = rw e refl
 
 end_tells : (context : Context) (before : ℕ) (met : Option Log) (s : System) (bs : BranchesRead) (o : Option Log) → end_log context s ≡ o
-    → WalkTells context before met s (node_read (known solved) bs) (walk_checked context (before + 1) met (log_checked bs o) bs)
+    → WalkTells context before met s (node_read (known solved) bs) (walk_checked context (before + 1) met (log_checked (branch_names bs) o) bs)
 end_tells context before met s bs None e = (1, refl, inl (refl, (tt, no_end_cases context s e)))
 end_tells context before met s none_read (Some log) e = (refl, (Some log, (node solved no_branch, refl, end_accepted context s log e, e), refl))
 end_tells context before met s (branch_read name k bs) (Some log) e = (1, refl, inl (refl, ([], tt, end_cases context s log e, λ names. let none : ⊥ = cc in none)))

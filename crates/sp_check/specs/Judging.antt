@@ -5,7 +5,7 @@ use Rattle.sp_spec_system.specs.System.{System}
 use Rattle.sp_spec_system.specs.Move.{Move, Context, Case, end_log}
 use Rattle.sp_spec_proof.specs.Cases.{cases}
 use Rattle.sp_spec_proof.specs.Tree.{is_solved, first_log}
-use Rattle.sp_check.specs.Skeleton.{Step, known, unbuilt, unknown, Skeleton, node_read, BranchesRead, none_read, branch_read, has_open}
+use Rattle.sp_check.specs.Skeleton.{Step, known, unbuilt, unknown, Skeleton, node_read, BranchesRead, none_read, branch_read, branch_names, has_open}
 use Rattle.sp_spec_text.specs.Verdict.{Clause, clause_move, clause_instance, clause_cases}
 
 -- What comes of a tree: the number of the step that is rejected, and the clause that it fails of; else the log of the first leaf with
@@ -16,12 +16,12 @@ pub data Judgement : Type 0 where
   finished : Judgement
   incomplete : Judgement
 
--- the branches have the names of the cases, one by one in their order
-abbrev pub are_named : List Case → BranchesRead → Bool
-are_named [] none_read = true
-are_named [] (branch_read name k branches) = false
-are_named (c ∷ cs) none_read = false
-are_named (c ∷ cs) (branch_read name k branches) = bytes_eq c.name name && are_named cs branches
+-- these are the names of the cases, one by one in their order
+abbrev pub are_named : List Case → List (List ℕ) → Bool
+are_named [] [] = true
+are_named [] (name ∷ names) = false
+are_named (c ∷ cs) [] = false
+are_named (c ∷ cs) (name ∷ names) = bytes_eq c.name name && are_named cs names
 
 -- a node by itself: the clause that it fails of; or its cases; or the log with which the search ends here
 pub data Checked : Type 0 where
@@ -29,24 +29,25 @@ pub data Checked : Type 0 where
   leads_to : List Case → Checked
   ends_with : Log → Checked
 
-abbrev pub names_checked : BranchesRead → List Case → Checked
-names_checked branches cs = if are_named cs branches then leads_to cs else fails clause_cases
+-- by what it says, and by the names of its branches
+abbrev pub names_checked : List (List ℕ) → List Case → Checked
+names_checked names cs = if are_named cs names then leads_to cs else fails clause_cases
 
-abbrev pub cases_checked : BranchesRead → Option (List Case) → Checked
-cases_checked branches None = fails clause_instance
-cases_checked branches (Some cs) = names_checked branches cs
+abbrev pub cases_checked : List (List ℕ) → Option (List Case) → Checked
+cases_checked names None = fails clause_instance
+cases_checked names (Some cs) = names_checked names cs
 
-abbrev pub log_checked : BranchesRead → Option Log → Checked
-log_checked branches None = fails clause_instance
-log_checked branches (Some log) = if are_named [] branches then ends_with log else fails clause_cases
+abbrev pub log_checked : List (List ℕ) → Option Log → Checked
+log_checked names None = fails clause_instance
+log_checked names (Some log) = if are_named [] names then ends_with log else fails clause_cases
 
-abbrev pub move_checked : Context → System → Move → BranchesRead → Checked
-move_checked context s move branches = if is_solved move then log_checked branches (end_log context s) else cases_checked branches (cases context s move)
+abbrev pub move_checked : Context → System → Move → List (List ℕ) → Checked
+move_checked context s move names = if is_solved move then log_checked names (end_log context s) else cases_checked names (cases context s move)
 
-abbrev pub step_checked : Context → System → Step → BranchesRead → Checked
-step_checked context s (known move) branches = move_checked context s move branches
-step_checked context s (unbuilt text) branches = fails clause_instance
-step_checked context s (unknown text) branches = fails clause_move
+abbrev pub step_checked : Context → System → Step → List (List ℕ) → Checked
+step_checked context s (known move) names = move_checked context s move names
+step_checked context s (unbuilt text) names = fails clause_instance
+step_checked context s (unknown text) names = fails clause_move
 
 -- What comes of a walk in preorder: no node fails, so many have been met by then, and this is the first log that has; or the node of this
 -- number fails.
@@ -61,7 +62,7 @@ walked_on (stopped n clause) later = stopped n clause
 -- behind the nodes that have been met before, and the first log among them
 abbrev mutual
   pub walk : Context → ℕ → Option Log → System → Skeleton → Walked
-  walk context before met s (node_read step branches) = walk_checked context (before + 1) met (step_checked context s step branches) branches
+  walk context before met s (node_read step branches) = walk_checked context (before + 1) met (step_checked context s step (branch_names branches)) branches
 
   pub walk_checked : Context → ℕ → Option Log → Checked → BranchesRead → Walked
   walk_checked context number met (fails clause) branches = stopped number clause

@@ -5,7 +5,7 @@ use Rattle.sp_spec_system.specs.System.{System}
 use Rattle.sp_spec_system.specs.Move.{Context, Case}
 use Rattle.sp_spec_proof.specs.Cases.{cases}
 use Rattle.sp_spec_proof.specs.Tree.{Tree, IsAccepted}
-use Rattle.sp_check.specs.Skeleton.{Step, known, unbuilt, unknown, Skeleton, node_read, BranchesRead, none_read, branch_read, tree_of, nodes}
+use Rattle.sp_check.specs.Skeleton.{Step, known, unbuilt, unknown, Skeleton, node_read, BranchesRead, none_read, branch_read, branch_names, tree_of, nodes}
 use Rattle.sp_spec_text.specs.Verdict.{Clause, clause_move, clause_instance, clause_cases}
 
 abbrev pub IsMove : Step → Type 0
@@ -21,10 +21,6 @@ step_cases context s (unknown text) = None
 
 abbrev pub case_names : List Case → List (List ℕ)
 case_names cs = map (λ c. c.name) cs
-
-abbrev pub branch_names : BranchesRead → List (List ℕ)
-branch_names none_read = []
-branch_names (branch_read name k branches) = name ∷ branch_names branches
 
 -- the node, without what stands below it, is fine, and these are its cases
 abbrev pub IsFine : Context → System → Step → BranchesRead → List Case → Type 0

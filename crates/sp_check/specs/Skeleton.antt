@@ -1,5 +1,5 @@
 -- Proof trees as they are read from a text, before they are judged. Source: Tamarin manual, "Proofs".
-use Rattle.std.specs.Prelude.{ℕ, ◌+◌, Bool, false, ◌||◌, List, Option, Some, None, option_map, option_and_then}
+use Rattle.std.specs.Prelude.{ℕ, ◌+◌, Bool, false, ◌||◌, List, [], ◌∷◌, Option, Some, None, option_map, option_and_then}
 use Rattle.sp_spec_system.specs.Move.{Move}
 use Rattle.sp_spec_proof.specs.Tree.{Tree, node, Branches, no_branch, branch, step_of}
 use Rattle.sp_spec_proof.specs.Growth.{is_unproved}
@@ -17,6 +17,11 @@ mutual
   pub data BranchesRead : Type 0 where
     none_read : BranchesRead
     branch_read : List ℕ → Skeleton → BranchesRead → BranchesRead
+
+-- the names of branches, one by one
+abbrev pub branch_names : BranchesRead → List (List ℕ)
+branch_names none_read = []
+branch_names (branch_read name k branches) = name ∷ branch_names branches
 
 -- the tree, if each node says a known move
 abbrev pub node_of : Step → Option Branches → Option Tree

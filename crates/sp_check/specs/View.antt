@@ -1,16 +1,18 @@
 -- The trees and judgements that those in memory stand for.
-use Rattle.std.specs.Prelude.{ℕ, List, [], ◌∷◌, map, option_map, string_bytes}
+use Rattle.std.specs.Prelude.{ℕ, List, map, reverse, option_map, string_bytes, String}
 use Rattle.sp_log.specs.View.{log_of}
+use Rattle.sp_system.specs.SystemView.{system_of}
+use Rattle.sp_system.specs.declared.system.System.{System}
+use Rattle.sp_spec_system.specs.System as system
 use Rattle.sp_moves.specs.View.{move_of, case_of}
+use Rattle.sp_check.specs.Nodes.{NodeRead, tree_read}
 use Rattle.sp_check.specs.Skeleton as spec
 use Rattle.sp_spec_text.specs.Verdict as clause
 use Rattle.sp_check.specs.Judging as judging
 use Rattle.sp_check.specs.declared.skeleton.Step.{Step}
 use Rattle.sp_check.specs.declared.skeleton.Step.TheVariants.{Known, Unbuilt, Unknown}
-use Rattle.sp_check.specs.declared.skeleton.Branch.{Branch, fold-Branch}
+use Rattle.sp_check.specs.declared.skeleton.Node.{Node}
 use Rattle.sp_check.specs.declared.skeleton.Skeleton.{Skeleton}
-use Rattle.sp_check.specs.declared.skeleton.Branch.TheFolds.{fold-Skeleton}
-use Rattle.sp_check.specs.declared.skeleton.Branch.TheOpen.{Skeleton-F, Branch-F}
 use Rattle.sp_check.specs.declared.judging.Clause.{Clause}
 use Rattle.sp_check.specs.declared.judging.Clause.TheVariants.{Move, Instance, Cases}
 use Rattle.sp_check.specs.declared.judging.Judgement.{Judgement}
@@ -25,25 +27,21 @@ step_of (Known move) = spec.known (move_of move)
 step_of (Unbuilt text) = spec.unbuilt text.items
 step_of (Unknown text) = spec.unknown text.items
 
-abbrev pub all_branches : List (List ℕ × spec.Skeleton) → spec.BranchesRead
-all_branches [] = spec.none_read
-all_branches (b ∷ bs) = spec.branch_read b.0 b.1 (all_branches bs)
+abbrev pub names_of : {A : Type 0} → List (String A) → List (List ℕ)
+names_of names = map string_bytes names
 
--- one level, with each tree and each branch inside already seen
-abbrev pub skeleton_step : Skeleton-F (List ℕ × spec.Skeleton) spec.Skeleton → spec.Skeleton
-skeleton_step k = spec.node_read (step_of k.step) (all_branches k.branches.items)
+abbrev pub node_of : Node → NodeRead
+node_of n = (step_of n.step, names_of n.cases.items)
 
-abbrev pub branch_step : Branch-F (List ℕ × spec.Skeleton) spec.Skeleton → List ℕ × spec.Skeleton
-branch_step b = (string_bytes b.name, b.tree)
+abbrev pub nodes_of : List Node → List NodeRead
+nodes_of ns = map node_of ns
 
 abbrev pub skeleton_of : Skeleton → spec.Skeleton
-skeleton_of = fold-Skeleton (List ℕ × spec.Skeleton) spec.Skeleton branch_step skeleton_step
+skeleton_of k = tree_read (nodes_of k.nodes.items)
 
-abbrev pub branch_of : Branch → List ℕ × spec.Skeleton
-branch_of = fold-Branch (List ℕ × spec.Skeleton) spec.Skeleton branch_step skeleton_step
-
-abbrev pub branches_of : List Branch → spec.BranchesRead
-branches_of bs = all_branches (map branch_of bs)
+-- the systems that are awaited, the next one first, which is the last in memory
+abbrev pub systems_of : List System → List system.System
+systems_of ss = reverse (map system_of ss)
 
 abbrev pub clause_of : Clause → clause.Clause
 clause_of Move = clause.clause_move

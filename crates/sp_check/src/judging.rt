@@ -1,16 +1,18 @@
 // Trees that were read are judged.
 
-ghost use Rattle.std.specs.Prelude.{◌≡◌, ◌+◌, [], Some, IfOk, map, option_map};
+ghost use Rattle.std.specs.Prelude.{◌≡◌, ◌+◌, [], ◌∷◌, ◌++◌, Some, None, IfOk, OnOk, MatchOption, List, map, option_map};
 ghost use Rattle.sp_system.specs.SystemView.{system_of};
 ghost use Rattle.sp_spec_proof.specs.Cases as moves;
 ghost use Rattle.sp_spec_proof.specs.Tree as tree;
 ghost use Rattle.sp_log.specs.View.{log_of};
 ghost use Rattle.sp_moves.specs.View.{context_of, move_of, case_of};
 ghost use Rattle.sp_check.specs.Judging as spec;
-ghost use Rattle.sp_check.specs.View.{step_of, skeleton_of, branches_of, clause_of, judgement_of, checked_of, walked_of};
+ghost use Rattle.sp_check.specs.Nodes.{NodeRead, systems_in, walk_all};
+ghost use Rattle.sp_check.specs.View.{step_of, names_of, node_of, skeleton_of, systems_of, judgement_of, checked_of, walked_of};
 ghost use Rattle.sp_spec_system.specs.Move.{end_log};
 
-use crate::skeleton::{Branch, Skeleton, Step, has_open};
+use crate::counts::has_open;
+use crate::skeleton::{Node, Skeleton, Step};
 use sp_log::log::Log;
 use sp_moves::context::Context;
 use sp_moves::moves::{Case, Move, cases};
@@ -63,14 +65,14 @@ enum Walked {
     Stopped(u64, Clause),
 }
 
-fn are_named(cases: &Vec<Case>, branches: &Vec<Branch>) -> bool
-    ensures { result ≡ spec.are_named (map case_of cases.now.items) (branches_of branches.now.items) }
+fn are_named(cases: &Vec<Case>, names: &Vec<String>) -> bool
+    ensures { result ≡ spec.are_named (map case_of cases.now.items) (names_of names.now.items) }
 {
-    if cases.len() != branches.len() {
+    if cases.len() != names.len() {
         return false;
     }
-    for (case, branch) in cases.iter().zip(branches) {
-        if case.name != branch.name {
+    for (case, name) in cases.iter().zip(names) {
+        if case.name != *name {
             return false;
         }
     }
@@ -82,14 +84,14 @@ fn cases_checked(
     context: &Context,
     system: &System,
     chosen: Move,
-    branches: &Vec<Branch>,
+    names: &Vec<String>,
 ) -> Result<Checked, AllocError>
-    ensures { IfOk result (λ c. checked_of c ≡ spec.cases_checked (branches_of branches.now.items) (moves.cases (context_of context.now) (system_of system.now) (move_of chosen))) }
+    ensures { IfOk result (λ c. checked_of c ≡ spec.cases_checked (names_of names.now.items) (moves.cases (context_of context.now) (system_of system.now) (move_of chosen))) }
 {
     let Some(found) = cases(alloc, context, system, chosen)? else {
         return Ok(Checked::Fails(Clause::Instance));
     };
-    if are_named(&found, branches) {
+    if are_named(&found, names) {
         Ok(Checked::LeadsTo(found))
     } else {
         Ok(Checked::Fails(Clause::Cases))
@@ -101,15 +103,15 @@ fn log_checked(
     alloc: Global,
     context: &Context,
     system: &System,
-    branches: &Vec<Branch>,
+    names: &Vec<String>,
 ) -> Result<Checked, AllocError>
-    ensures { IfOk result (λ c. checked_of c ≡ spec.log_checked (branches_of branches.now.items) (end_log (context_of context.now) (system_of system.now))) }
+    ensures { IfOk result (λ c. checked_of c ≡ spec.log_checked (names_of names.now.items) (end_log (context_of context.now) (system_of system.now))) }
 {
     let Some(log) = context.found(alloc, system)? else {
         return Ok(Checked::Fails(Clause::Instance));
     };
     let none = Vec::new(alloc);
-    if are_named(&none, branches) {
+    if are_named(&none, names) {
         Ok(Checked::EndsWith(log))
     } else {
         Ok(Checked::Fails(Clause::Cases))
@@ -121,27 +123,26 @@ fn move_checked(
     context: &Context,
     system: &System,
     chosen: Move,
-    branches: &Vec<Branch>,
+    names: &Vec<String>,
 ) -> Result<Checked, AllocError>
-    ensures { IfOk result (λ c. checked_of c ≡ spec.move_checked (context_of context.now) (system_of system.now) (move_of chosen) (branches_of branches.now.items)) }
+    ensures { IfOk result (λ c. checked_of c ≡ spec.move_checked (context_of context.now) (system_of system.now) (move_of chosen) (names_of names.now.items)) }
 {
     match chosen {
-        Move::Solved => log_checked(alloc, context, system, branches),
-        other => cases_checked(alloc, context, system, other, branches),
+        Move::Solved => log_checked(alloc, context, system, names),
+        other => cases_checked(alloc, context, system, other, names),
     }
 }
 
-fn step_checked(
+fn node_checked(
     alloc: Global,
     context: &Context,
     system: &System,
-    step: &Step,
-    branches: &Vec<Branch>,
+    node: &Node,
 ) -> Result<Checked, AllocError>
-    ensures { IfOk result (λ c. checked_of c ≡ spec.step_checked (context_of context.now) (system_of system.now) (step_of step.now) (branches_of branches.now.items)) }
+    ensures { IfOk result (λ c. checked_of c ≡ spec.step_checked (context_of context.now) (system_of system.now) (step_of node.now.step) (names_of node.now.cases.items)) }
 {
-    match step {
-        Step::Known(chosen) => move_checked(alloc, context, system, *chosen, branches),
+    match &node.step {
+        Step::Known(chosen) => move_checked(alloc, context, system, *chosen, &node.cases),
         Step::Unbuilt(_) => Ok(Checked::Fails(Clause::Instance)),
         Step::Unknown(_) => Ok(Checked::Fails(Clause::Move)),
     }
@@ -165,50 +166,76 @@ fn first_log(met: Option<Log>, log: Log) -> Option<Log>
     }
 }
 
-// The tree behind the nodes that have been met.
-#[cycle(walk)]
-fn walk(
-    skeleton: &Skeleton,
+// Takes the system that is awaited next, which is the last.
+fn pop_system(awaited: &mut Vec<System>) -> Option<System>
+    ensures { MatchOption result (systems_of awaited.old.items ≡ []) (λ s. systems_of awaited.old.items ≡ system_of s ∷ systems_of awaited.new.items) }
+{
+    awaited.pop()
+}
+
+// Puts the system of a case before those that are awaited.
+fn push_system(awaited: &mut Vec<System>, case: Case) -> Result<(), AllocError>
+    ensures { OnOk result (systems_of awaited.new.items ≡ (case_of case).system ∷ systems_of awaited.old.items) }
+{
+    awaited.push(case.system)?;
+    Ok(())
+}
+
+fn push_systems(awaited: &mut Vec<System>, mut cases: Vec<Case>) -> Result<(), AllocError>
+    ensures { OnOk result (systems_of awaited.new.items ≡ systems_in (map case_of cases.items) ++ systems_of awaited.old.items) }
+{
+    while let Some(case) = cases.pop() {
+        push_system(awaited, case)?;
+    }
+    Ok(())
+}
+
+// The node for which this system is awaited, behind the nodes that have been met.
+fn walk_node(
     alloc: Global,
     context: &Context,
     system: &System,
+    node: &Node,
     met: Met,
+    awaited: &mut Vec<System>,
 ) -> Result<Walked, AllocError>
-    ensures { IfOk result (λ w. walked_of w ≡ spec.walk (context_of context.now) met.nodes (option_map log_of met.log) (system_of system.now) (skeleton_of skeleton.now)) }
+    ensures { IfOk result (λ w. (ns : List NodeRead) → spec.walked_on (walked_of w) (λ n log. walk_all (context_of context.now) n log (systems_of awaited.new.items) ns) ≡ walk_all (context_of context.now) met.nodes (option_map log_of met.log) (system_of system.now ∷ systems_of awaited.old.items) (node_of node.now ∷ ns)) }
 {
     let nodes = next(met.nodes)?;
-    match step_checked(alloc, context, system, &skeleton.step, &skeleton.branches)? {
+    match node_checked(alloc, context, system, node)? {
         Checked::Fails(clause) => Ok(Walked::Stopped(nodes, clause)),
         Checked::EndsWith(log) => {
             let log = first_log(met.log, log);
             Ok(Walked::Passed(Met { nodes, log }))
         }
-        Checked::LeadsTo(found) => {
+        Checked::LeadsTo(cases) => {
             let log = met.log;
-            walk_in(
-                &skeleton.branches,
-                alloc,
-                context,
-                &found,
-                Met { nodes, log },
-            )
+            push_systems(awaited, cases)?;
+            Ok(Walked::Passed(Met { nodes, log }))
         }
     }
 }
 
-#[cycle(walk)]
-fn walk_in(
-    branches: &Vec<Branch>,
+// The nodes one behind the other: the systems are awaited of the trees that begin at the next one.
+fn walk(
     alloc: Global,
     context: &Context,
-    cases: &Vec<Case>,
-    before: Met,
+    root: System,
+    skeleton: &Skeleton,
 ) -> Result<Walked, AllocError>
-    ensures { IfOk result (λ w. walked_of w ≡ spec.walk_checked (context_of context.now) before.nodes (option_map log_of before.log) (spec.leads_to (map case_of cases.now.items)) (branches_of branches.now.items)) }
+    ensures { IfOk result (λ w. walked_of w ≡ spec.walk (context_of context.now) 0 None (system_of root) (skeleton_of skeleton.now)) }
 {
-    let mut met = before;
-    for (branch, case) in branches.iter().zip(cases) {
-        match walk(&branch.tree, alloc, context, &case.system, met)? {
+    let mut awaited = vec![in alloc; root]?;
+    let mut met = Met {
+        nodes: 0,
+        log: None,
+    };
+    for node in &skeleton.nodes {
+        // (there is one for each node, since they are the nodes of one tree)
+        let Some(system) = pop_system(&mut awaited) else {
+            return Ok(Walked::Passed(met));
+        };
+        match walk_node(alloc, context, &system, node, met, &mut awaited)? {
             Walked::Passed(now) => met = now,
             Walked::Stopped(number, clause) => return Ok(Walked::Stopped(number, clause)),
         }
@@ -229,11 +256,7 @@ pub fn judge(
 ) -> Result<Judgement, AllocError>
     ensures { IfOk result (λ j. judgement_of j ≡ spec.judgement (context_of context.now) (system_of root) (skeleton_of skeleton.now)) }
 {
-    let none_met = Met {
-        nodes: 0,
-        log: None,
-    };
-    let met = match walk(skeleton, alloc, context, &root, none_met)? {
+    let met = match walk(alloc, context, root, skeleton)? {
         Walked::Stopped(number, clause) => return Ok(Judgement::Rejected(number, clause)),
         Walked::Passed(met) => met,
     };

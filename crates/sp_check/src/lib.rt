@@ -7,11 +7,13 @@
 
 ghost use Rattle.sp_check.specs.Laws.{JudgementsAreRight};
 
+mod counts;
 mod judging;
 mod skeleton;
 
+pub use counts::{has_open, steps};
 pub use judging::{Clause, Judgement, judge};
-pub use skeleton::{Branch, Skeleton, Step, has_open, steps};
+pub use skeleton::{Node, Skeleton, Step};
 
 /// Judgements say which trees are accepted and with which log, and at which step and by which clause the others are rejected.
 pub fn judgements_are_right()

@@ -1,10 +1,10 @@
 // Proof trees as they are read from a text.
 
-ghost use Rattle.std.specs.Prelude.{◌≡◌, ◌^◌, ◌-◌, min};
-ghost use Rattle.sp_check.specs.Skeleton as spec;
-ghost use Rattle.sp_check.specs.View.{step_of, skeleton_of, branches_of};
+ghost use Rattle.std.specs.Prelude.{length};
+ghost use Rattle.sp_spec_nodes.specs.Preorder.{AreTrees, AreTrees-prop};
 
 use sp_moves::moves::Move;
+use std::alloc::{AllocError, Global};
 
 /// What the text of a node says.
 #[derive(Debug, Drop)]
@@ -17,80 +17,53 @@ pub enum Step {
     Unknown(Vec<u8>),
 }
 
-/// What is read for one case of a move.
-#[cycle(skeleton)]
+/// A node of a proof tree as it is read.
 #[derive(Debug, Drop)]
-pub struct Branch {
-    /// the case's name; empty where it has none
-    pub name: String,
-    /// its tree
-    pub tree: Skeleton,
+pub struct Node {
+    /// what it says
+    pub step: Step,
+    /// the names of its cases, in their order; a name is empty where a case has none
+    pub cases: Vec<String>,
 }
 
 /// A proof tree as it is read, before it is judged.
-#[cycle(skeleton)]
 #[derive(Debug, Drop)]
 pub struct Skeleton {
-    /// what the root says
-    pub step: Step,
-    /// what is read for its cases, in their order
-    pub branches: Vec<Branch>,
+    /// its nodes in preorder: each stands before the trees of its cases, the first first
+    pub nodes: Vec<Node>,
+    pub ghost is_one: { AreTrees (λ n. length n.cases.items) 1 nodes.items } by { AreTrees-prop (λ n. length n.cases.items) 1 nodes.items },
 }
 
-/// Whether a step is an open leaf.
-fn is_open(step: &Step) -> bool
-    ensures { result ≡ spec.is_open (step_of step.now) }
-{
-    match step {
-        Step::Known(Move::Unproved) => true,
-        _ => false,
-    }
-}
+impl Skeleton {
+    ghost use Rattle.std.specs.Prelude.{◌≡◌, IfOk, MatchOption};
+    ghost use Rattle.sp_check.specs.Skeleton.{node_read, none_read};
+    ghost use Rattle.sp_check.specs.View.{step_of, skeleton_of};
 
-/// Whether some node is an open leaf.
-#[cycle(open)]
-pub fn has_open(skeleton: &Skeleton) -> bool
-    ensures { result ≡ spec.has_open (skeleton_of skeleton.now) }
-{
-    is_open(&skeleton.step) || some_open(&skeleton.branches)
-}
-
-#[cycle(open)]
-fn some_open(branches: &Vec<Branch>) -> bool
-    ensures { result ≡ spec.some_open (branches_of branches.now.items) }
-{
-    for branch in branches {
-        if has_open(&branch.tree) {
-            return true;
+    /// The tree of these nodes, if they are those of one tree.
+    pub fn new(nodes: Vec<Node>) -> Option<Skeleton>
+        ensures { MatchOption result (AreTrees (λ n. length n.cases.items) 1 nodes.items → ⊥) (λ k. k.nodes ≡ nodes) }
+    {
+        let mut awaited: usize = 1;
+        for node in &nodes {
+            awaited = awaited.checked_sub(1)?.checked_add(node.cases.len())?;
+        }
+        if awaited == 0 {
+            Some(Skeleton { nodes })
+        } else {
+            None
         }
     }
-    false
-}
 
-/// How many nodes aren't open leaves; `u64::MAX` where they are more.
-#[cycle(steps)]
-pub fn steps(skeleton: &Skeleton) -> u64
-    ensures { result ≡ min (spec.steps (skeleton_of skeleton.now)) (2 ^ 64 - 1) }
-{
-    steps_at(&skeleton.step).saturating_add(steps_in(&skeleton.branches))
-}
-
-fn steps_at(step: &Step) -> u64
-    ensures { result ≡ spec.steps_at (step_of step.now) }
-{
-    match step {
-        Step::Known(Move::Unproved) => 0,
-        _ => 1,
+    /// A tree of one node.
+    ///
+    /// # Errors
+    ///
+    /// There is no memory.
+    pub fn leaf(alloc: Global, step: Step) -> Result<Skeleton, AllocError>
+        ensures { IfOk result (λ k. skeleton_of k ≡ node_read (step_of step) none_read) }
+    {
+        let cases = Vec::new(alloc);
+        let nodes = vec![in alloc; Node { step, cases }]?;
+        Ok(Skeleton { nodes })
     }
-}
-
-#[cycle(steps)]
-fn steps_in(branches: &Vec<Branch>) -> u64
-    ensures { result ≡ min (spec.steps_in (branches_of branches.now.items)) (2 ^ 64 - 1) }
-{
-    let mut total: u64 = 0;
-    for branch in branches {
-        total = total.saturating_add(steps(&branch.tree));
-    }
-    total
 }

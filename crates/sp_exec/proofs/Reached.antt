@@ -6,7 +6,7 @@ use Rattle.sp_spec.specs.Signature.{Equation, Signature}
 use Rattle.sp_spec.specs.Rule.{Rule}
 use Rattle.sp_spec.specs.Theory.{Theory, signature_of}
 use Rattle.sp_spec.specs.Execution.{Step, State, Trace, with_entry, Runs, Cause}
-use Rattle.sp_law_equal.specs.Convergent.{AreConvergent}
+use Rattle.sp_law_equal.specs.NormalForms.{HaveNormalForms}
 use Rattle.sp_law_run.specs.NormalStep.{normal_trace}
 use Rattle.sp_law_run.specs.Right.{AreRight}
 use Rattle.sp_law_run.proofs.Counted.{same_facts_itself, same_facts_then}
@@ -34,7 +34,7 @@ starts theory = record {
   follows = record { facts = same_facts_itself []; there = λ t m. m; back = λ t m. m; shown = refl };
 }
 
-module _ (theory : Theory) (good : AreConvergent (signature_of theory).equations) (right : AreRight theory.rules) where
+module _ (theory : Theory) (good : HaveNormalForms (signature_of theory).equations) (right : AreRight theory.rules) where
   -- it follows each state to which they lead
   each_state : (steps : List Step) (m : Reached) → Reaches theory steps m → (state : State) (trace : Trace) → Runs theory (newest_first steps) state trace →
       Follows (signature_of theory).equations m state trace
@@ -92,10 +92,10 @@ pub record ReachesEach (signature : Signature) (rules : List Rule) (steps : List
 pub starts_each : (signature : Signature) (rules : List Rule) → ReachesEach signature rules [] nothing
 starts_each signature rules = record { each = λ theory a b. starts theory }
 
-module _ (signature : Signature) (rules : List Rule) (good : AreConvergent signature.equations) (right : AreRight rules) where
+module _ (signature : Signature) (rules : List Rule) (good : HaveNormalForms signature.equations) (right : AreRight rules) where
   module _ (theory : Theory) (a : theory.rules ≡ rules) (b : signature_of theory ≡ signature) where
-    good_of : AreConvergent (signature_of theory).equations
-    good_of = subst (λ (s : Signature). AreConvergent s.equations) (sym b) good
+    good_of : HaveNormalForms (signature_of theory).equations
+    good_of = subst (λ (s : Signature). HaveNormalForms s.equations) (sym b) good
 
     right_of : AreRight theory.rules
     right_of = subst AreRight (sym a) right

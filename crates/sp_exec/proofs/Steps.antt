@@ -7,7 +7,7 @@ use Rattle.sp_spec.specs.Signature.{Equation}
 use Rattle.sp_spec.specs.Rule.{Fact, Action, Facts}
 use Rattle.sp_spec.specs.Theory.{Theory, signature_of}
 use Rattle.sp_spec.specs.Execution.{Step, make_fresh, use_rule, take_out, put_in, know_public, make_own, apply_symbol, State, Trace, Takes, IsNew, made_by, with_entry, Leads, Cause, no_such_rule, no_instance, premise_absent, fresh_name_twice, wrong_sort, IsNoStep}
-use Rattle.sp_law_equal.specs.Convergent.{AreConvergent}
+use Rattle.sp_law_equal.specs.NormalForms.{HaveNormalForms}
 use Rattle.sp_law_equal.specs.Normal.{normal_action, normal_fact, normal_facts}
 use Rattle.sp_law_run.specs.NormalStep.{normal_trace}
 use Rattle.sp_law_run.specs.Right.{AreRight}
@@ -62,7 +62,7 @@ made_back (know_public x) xs ys h t m = h t m
 made_back (make_own x) xs ys h t m = h t m
 made_back (apply_symbol f ts) xs ys h t m = h t m
 
-module _ (theory : Theory) (good : AreConvergent (signature_of theory).equations) (right : AreRight theory.rules) where
+module _ (theory : Theory) (good : HaveNormalForms (signature_of theory).equations) (right : AreRight theory.rules) where
   abbrev es : List Equation
   es = (signature_of theory).equations
 

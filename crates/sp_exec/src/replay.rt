@@ -2,7 +2,7 @@
 
 ghost use Rattle.std.specs.Prelude.{◌≡◌, IfOk, map};
 ghost use Rattle.sp_spec.specs.Theory as spec;
-ghost use Rattle.sp_law_equal.specs.Convergent.{AreConvergent};
+ghost use Rattle.sp_law_equal.specs.NormalForms.{HaveNormalForms};
 ghost use Rattle.sp_law_run.specs.NormalStep.{normal_step};
 ghost use Rattle.sp_law_run.specs.Right.{AreRight};
 ghost use Rattle.sp_ground.specs.View.{signature_of, step_of};
@@ -34,7 +34,7 @@ pub fn replay(
     rules: &Vec<Rule>,
     steps: &Vec<Step>,
 ) -> Result<Replayed, AllocError>
-    requires convergent { AreConvergent (signature_of signature.now).equations }
+    requires normal_forms { HaveNormalForms (signature_of signature.now).equations }
     requires right { AreRight (map rule_of rules.now.items) }
     ensures { (theory : spec.Theory) → theory.rules ≡ map rule_of rules.now.items → spec.signature_of theory ≡ signature_of signature.now
         → IfOk result (λ r. IsReplay theory (map (normal_step (signature_of signature.now).equations) (map step_of steps.now.items)) r) }

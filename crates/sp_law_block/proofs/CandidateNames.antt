@@ -4,16 +4,16 @@ use Rattle.std.proofs.Common.{◌≡◌, ◌<◌, ℕ, Bool, true, false, if◌t
 use Rattle.sp_spec.specs.Lists.{Member, Every, newest_first, is_listed}
 use Rattle.sp_spec.proofs.Lists.{every_member, every_parts, every_append, every_both, every_weaken, every_from}
 use Rattle.sp_spec.proofs.Options.{mapped, then_some}
-use Rattle.sp_spec.proofs.Occurrences.{occurrences_each}
-use Rattle.sp_spec.specs.Term.{Names, public_name, Variable, Term, var, constant, name, app, Terms, none, more, Values, MadeOf, AllMadeOf, EachVariable, EachVariables}
+use Rattle.sp_spec.proofs.Occurrences.{term_each, occurrences_each}
+use Rattle.sp_spec.specs.Term.{Names, public_name, Variable, Term, var, constant, name, app, Terms, none, more, Values, valued, MadeOf, AllMadeOf, EachVariable, EachVariables}
 use Rattle.sp_spec.specs.Rule.{Facts, FactsMadeOf, InFacts}
 use Rattle.sp_spec.specs.Log.{Entry, Source}
-use Rattle.sp_spec_system.specs.System.{Happening, rule_step, Event, Link, System}
+use Rattle.sp_spec_system.specs.System.{Happening, rule_step, sending, learning, Event, Link, System}
 use Rattle.sp_spec_system.specs.Numbered.{names_in, InHappening, IsNumbered}
-use Rattle.sp_law_system.proofs.Numbers.{facts_valued}
+use Rattle.sp_law_system.proofs.Numbers.{each_valued, facts_valued}
 use Rattle.sp_law_block.specs.Shown.{shown_names, no_variable, HasNames, EntryHasNames, LogHasNames}
 use Rattle.sp_solved.specs.Listing.{in_order}
-use Rattle.sp_solved.specs.Naming.{in_step, in_events, variables_of, values_of}
+use Rattle.sp_solved.specs.Naming.{in_term, in_way, in_step, in_events, variables_of, values_of}
 use Rattle.sp_solved.specs.Candidate.{is_ready, entry_at, event_sources, entries_of, logged, candidate}
 use Rattle.sp_law_truth.proofs.Only.{is_among_member}
 use Rattle.sp_read_steps.specs.Lines.{IsQuotable}
@@ -45,24 +45,29 @@ module _ (N : Names) (listed : List (List ℕ)) (own : (c : List ℕ) → is_lis
       conclusions = every_both _ _ _ (λ f a b. terms_made f.args a b) facts.conclusions h.conclusions k.conclusions;
     }
 
-  module _ (P : Variable → Type 0) (v : Values) where
+  module _ (P : Variable → Type 0) (Q : ℕ → Type 0) (v : Values) where
     abbrev IsGivenNames : Variable → Type 0
     IsGivenNames x = HasNames N (v x)
 
     -- an event of which it holds gives an entry with such names
     abbrev IsNamedEvent : Event → Type 0
-    IsNamedEvent e = InHappening (names_in listed) P e.happening × Every IsGivenNames (in_step e.happening)
+    IsNamedEvent e = InHappening (names_in listed) P Q e.happening × Every IsGivenNames (in_step e.happening)
 
-    entry_named : (h : Happening) (sources : List Source) → InHappening (names_in listed) P h → Every IsGivenNames (in_step h) → EntryHasNames N (entry_at v h sources)
-    entry_named (rule_step r facts) sources made each =
+    message_named : (m : Term Variable) → MadeOf (names_in listed) P m → Every IsGivenNames (in_term m) → HasNames N (valued v m)
+    message_named m made each = each_valued N IsGivenNames no_variable v (λ x k. k) m (term_made P IsGivenNames m made (term_each IsGivenNames m each))
+
+    entry_named : (all : List Event) (h : Happening) (sources : List Source) → InHappening (names_in listed) P Q h → Every IsGivenNames (in_step h) → EntryHasNames N (entry_at all v h sources)
+    entry_named all (rule_step r facts) sources made each =
         facts_valued N IsGivenNames no_variable v (λ x k. k) facts (facts_made P IsGivenNames facts made (occurrences_each IsGivenNames facts each))
+    entry_named all (sending m) sources made each = message_named m made each
+    entry_named all (learning m way) sources made each = message_named m made.0 (every_parts IsGivenNames (in_term m) (in_way way) each).0
 
     entries_named : (all : List Event) (links : List Link) (es : List Event) (entries : List Entry) → entries_of all links v es ≡ Some entries → Every IsNamedEvent es → Every (EntryHasNames N) entries
     entries_named all links [] entries e h = let nothing : List Entry = [] in let same : nothing ≡ entries = cc in subst (Every (EntryHasNames N)) same tt
     entries_named all links (d ∷ es) entries e h =
-        let sources = then_some (λ (found : List Source). option_map (λ (later : List Entry). entry_at v d.happening found ∷ later) (entries_of all links v es)) (event_sources all links d) entries e in
-        let others = mapped (λ (later : List Entry). entry_at v d.happening sources.0 ∷ later) (entries_of all links v es) entries sources.2 in
-        subst (Every (EntryHasNames N)) (sym others.2) (entry_named d.happening sources.0 h.0.0 h.0.1, entries_named all links es others.0 others.1 h.1)
+        let sources = then_some (λ (found : List Source). option_map (λ (later : List Entry). entry_at all v d.happening found ∷ later) (entries_of all links v es)) (event_sources all links d) entries e in
+        let others = mapped (λ (later : List Entry). entry_at all v d.happening sources.0 ∷ later) (entries_of all links v es) entries sources.2 in
+        subst (Every (EntryHasNames N)) (sym others.2) (entry_named all d.happening sources.0 h.0.0 h.0.1, entries_named all links es others.0 others.1 h.1)
 
 -- ---- the log
 
@@ -79,8 +84,11 @@ module _ (constants : List (List ℕ)) (s : System) (numbered : IsNumbered (name
   abbrev pub IsBelow : Variable → Type 0
   IsBelow x = x.number < s.next
 
+  abbrev pub TimeBelow : ℕ → Type 0
+  TimeBelow i = i < s.next
+
   abbrev pub IsMade : Event → Type 0
-  IsMade e = InHappening (names_in constants) IsBelow e.happening
+  IsMade e = InHappening (names_in constants) IsBelow TimeBelow e.happening
 
   pub listed_made : (events : List Event) → in_order s.order s.events ≡ Some events → Every IsMade events
   listed_made events is = every_listed IsMade s.order (length s.events) s.events events is (every_weaken _ IsMade (λ d h. h.1) s.events numbered.events)
@@ -95,7 +103,7 @@ module _ (constants : List (List ℕ)) (s : System) (numbered : IsNumbered (name
     logged_named events is given entries e =
         let IsGiven : Variable → Type 0 = λ x. HasNames N (values_of constants events x) in
         let each : Every IsGiven (in_events events) = every_from IsGiven (in_events events) (λ x m. given x (all_seen x (in_events events) [] m)) in
-        entries_named N constants own IsBelow (values_of constants events) events s.links events entries e
+        entries_named N constants own IsBelow TimeBelow (values_of constants events) events s.links events entries e
         (every_both IsMade (λ (d : Event). Every IsGiven (in_step d.happening)) _ (λ d h l. (h, l)) events (listed_made events is) (in_each_event IsGiven events each))
 
     pub candidate_named : ((events : List Event) → in_order s.order s.events ≡ Some events → AreGivenNames events)

@@ -10,7 +10,7 @@ use Rattle.sp_spec.specs.Written.{WrittenTheory, rule_of, theory_of}
 use Rattle.sp_spec.specs.Execution.{Step, make_fresh, Trace, with_entry}
 use Rattle.sp_spec.specs.Log.{Source, step, send, learn, Log, is_fr, first_arg, fresh_of, IsLog, visible_trace}
 use Rattle.sp_law_equal.specs.Matching.{Bound}
-use Rattle.sp_law_equal.specs.Convergent.{ArePlain}
+use Rattle.sp_law_equal.specs.Destructors.{ArePlain}
 use Rattle.sp_law_equal.proofs.Forms.{normals}
 use Rattle.sp_law_erase.specs.Adversary.{HasStepsAlone}
 use Rattle.sp_law_system.specs.Rules.{ActionsAreOver}
@@ -83,7 +83,7 @@ module _ (theory : Theory) (good : IsExecutable theory) where
       let w : Values = normals es v in
       let over : IsValuation (signature_of theory) w = normal_valuation (signature_of theory) good.keeps v valuation in
       let plain = every_member (λ (q : Rule). OfArguments (ArePlain es) q.facts) theory.rules rule member good.plain in
-      let is : facts ≡ facts_at w rule.facts = plain_instance es good.convergent v rule.facts plain facts normal in
+      let is : facts ≡ facts_at w rule.facts = plain_instance es good.normal_forms v rule.facts plain facts normal in
       let fit = instance_fits w (λ x. (over x).0) rule.facts in
       let bs = fit.bindings in
       let matched : matched_instance rule.facts facts ≡ Some bs = ap (matched_instance rule.facts) is ∙ fit.is in

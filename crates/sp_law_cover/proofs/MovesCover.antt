@@ -9,15 +9,15 @@ use Rattle.sp_spec.specs.Truth.{Acts}
 use Rattle.sp_spec.specs.Guarded.{Place, Guarded, truth, falsity, holds, fails, all_of, one_of, some, every, acts, same, same_time, before, last, free_time, bound_time, action_in}
 use Rattle.sp_spec.specs.Log.{Log, IsLog, log_trace}
 use Rattle.sp_spec.specs.Substitution.{Binding, bound_to}
-use Rattle.sp_law_equal.specs.Convergent.{AreConvergent, KeepSymbols}
-use Rattle.sp_spec_system.specs.System.{Happening, rule_step, Event, System, happening_actions}
+use Rattle.sp_law_equal.specs.NormalForms.{HaveNormalForms, KeepSymbols}
+use Rattle.sp_spec_system.specs.System.{Event, System, happening_actions}
 use Rattle.sp_spec_system.specs.Solutions.{Valuation, assignment, FormulaHolds, Solves}
-use Rattle.sp_spec_system.specs.Numbered.{names_in, InEvent, InHappening, InFormula, IsNumbered}
+use Rattle.sp_spec_system.specs.Numbered.{names_in, InEvent, InFormula, IsNumbered}
 use Rattle.sp_spec_system.specs.Covering.{NoneSolved, Covers}
 use Rattle.sp_law_system.specs.Laws.{UnifierIsRight}
 use Rattle.sp_spec_system.specs.Equating.{action_pair, unifier_of, system_changed}
 use Rattle.sp_spec.proofs.Lists.{every_append, every_parts, every_member, every_at}
-use Rattle.sp_law_system.proofs.Numbers.{each_weaken_all}
+use Rattle.sp_law_system.proofs.Numbers.{each_weaken_all, happening_made}
 use Rattle.sp_law_system.proofs.Merging.{action_under}
 use Rattle.sp_law_system.proofs.Solutions.{Under, TimeUnder, agrees_then, change_numbered}
 use Rattle.sp_spec_system.specs.Formulas.{freed_action}
@@ -28,7 +28,7 @@ use Rattle.sp_spec_system.specs.Cases.{where_same, renamed, system_if, named}
 use Rattle.sp_spec_formula.specs.Action.{with_step, by_actions, by_each, action_cases, action_at_time, is_adversary, solving_action, by_forms}
 use Rattle.sp_spec_graph.specs.Premise.{open_premise, premise_cases}
 use Rattle.sp_spec_proof.specs.Cases.{raw_cases, simple_case, cases}
-use Rattle.sp_law_system.specs.Rules.{ActionsAreOver, RulesAreNumbered, RulesArePlain, IsClosedRule, FormsAreNumbered}
+use Rattle.sp_law_system.specs.Rules.{InstancesAreOver, RulesAreNumbered, RulesArePlain, IsClosedRule, FormsAreNumbered}
 use Rattle.sp_law_system.specs.Proofs.{IsContextOf, IsWellMade, IsKept, systems_of, IsPast, CoversBelow}
 use Rattle.sp_law_cover.specs.Laws.{MovesCover}
 use Rattle.sp_law_formula.proofs.Freed.{freed_action_in}
@@ -105,9 +105,9 @@ pub every_system : (P : System → Type 0) (cs : List Case) → Every P (systems
 every_system P [] h = tt
 every_system P (c ∷ cs) h = (h.0, every_system P cs h.1)
 
-module _ (N : Names) (right : UnifierIsRight) (theory : Theory) (good : AreConvergent (signature_of theory).equations) (keeps : KeepSymbols (signature_of theory).symbols (signature_of theory).equations)
+module _ (N : Names) (right : UnifierIsRight) (theory : Theory) (good : HaveNormalForms (signature_of theory).equations) (keeps : KeepSymbols (signature_of theory).symbols (signature_of theory).equations)
     (rules_numbered : RulesAreNumbered N theory.rules) (rules_plain : RulesArePlain (signature_of theory).equations theory.rules) (rules_closed : Every IsClosedRule theory.rules)
-    (over : ActionsAreOver theory) (equal_truth : EqualTruth) where
+    (over : InstancesAreOver theory) (equal_truth : EqualTruth) where
   forms_numbered_by : (forms : List Rule) → RulesAreNumbered N forms → (s : System) → IsNumbered N s → (i : ℕ) → i < s.next → (a : Action Variable) → AllMadeOf N (Under s.next) a.args
       → Every (Later N s.next) (by_forms forms s i a)
   forms_numbered_by [] k s n i iu a au = tt
@@ -142,10 +142,7 @@ module _ (N : Names) (right : UnifierIsRight) (theory : Theory) (good : AreConve
   cases_numbered s n i iu a au (Some d) e =
       let found = event_found i s.events d e in
       let inside = (every_member (InEvent N (Under s.next) (TimeUnder s.next)) s.events d found.0 n.events).1 in
-      subst (Every (Later N s.next)) (sym (at_event_systems s a 0 (happening_actions d.happening))) (same_numbered N right s.next s (le_refl s.next) n a (happening_actions d.happening) au (happening_in d.happening inside))
-    where
-      happening_in : (h : Happening) → InHappening N (Under s.next) h → Every (λ (b : Action Variable). AllMadeOf N (Under s.next) b.args) (happening_actions h)
-      happening_in (rule_step r facts) k = k.actions
+      subst (Every (Later N s.next)) (sym (at_event_systems s a 0 (happening_actions d.happening))) (same_numbered N right s.next s (le_refl s.next) n a (happening_actions d.happening) au (happening_made N (Under s.next) (TimeUnder s.next) d.happening inside).actions)
 
   action_numbered : (s : System) → IsNumbered N s → (k : ℕ) (cs : List Case) → solving_action forms s (slice_get s.formulas k) ≡ Some cs → Every (Later N s.next) (systems_of cs)
   action_numbered s n k cs e =
@@ -223,9 +220,9 @@ module _ (N : Names) (right : UnifierIsRight) (theory : Theory) (good : AreConve
   raw_covers context r s (action k) cs e not_open not_end n = action_covers s n k cs (by_rules context r s k cs e)
   raw_covers context r s (premise i p) cs e not_open not_end n = premise_covers N right theory good keeps rules_numbered rules_plain s n i p cs (by_premise_rules context r s i p cs e)
 
-module _ (right : UnifierIsRight) (theory : Theory) (good : AreConvergent (signature_of theory).equations) (keeps : KeepSymbols (signature_of theory).symbols (signature_of theory).equations)
+module _ (right : UnifierIsRight) (theory : Theory) (good : HaveNormalForms (signature_of theory).equations) (keeps : KeepSymbols (signature_of theory).symbols (signature_of theory).equations)
     (rules_plain : RulesArePlain (signature_of theory).equations theory.rules) (rules_closed : Every IsClosedRule theory.rules)
-    (over : ActionsAreOver theory) (equal_truth : EqualTruth) where
+    (over : InstancesAreOver theory) (equal_truth : EqualTruth) where
   -- the cases, each simplified
   module _ (context : Context) (is_of : IsContextOf theory context) where
     abbrev N : Names

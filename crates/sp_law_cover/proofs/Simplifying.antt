@@ -6,7 +6,7 @@ use Rattle.sp_spec.specs.Term.{Names}
 use Rattle.sp_spec.specs.Lists.{Every}
 use Rattle.sp_spec.specs.Theory.{Theory, signature_of}
 use Rattle.sp_spec.specs.Log.{Log}
-use Rattle.sp_law_equal.specs.Convergent.{AreConvergent, KeepSymbols}
+use Rattle.sp_law_equal.specs.NormalForms.{HaveNormalForms, KeepSymbols}
 use Rattle.sp_spec_system.specs.System.{System}
 use Rattle.sp_spec_system.specs.Solutions.{Valuation}
 use Rattle.sp_spec_system.specs.Numbered.{names_in, IsNumbered}
@@ -24,7 +24,7 @@ use Rattle.sp_spec_formula.specs.Equate.{fails_to_equate}
 use Rattle.sp_spec_graph.specs.LinearOnce.{fails_to_link}
 use Rattle.sp_spec_graph.specs.FreshOnce.{fails_to_merge}
 use Rattle.sp_spec_system.specs.Move.{Context}
-use Rattle.sp_law_system.specs.Rules.{ActionsAreOver, RulesArePlain, IsClosedRule}
+use Rattle.sp_law_system.specs.Rules.{InstancesAreOver, RulesArePlain, IsClosedRule}
 use Rattle.sp_law_system.specs.Proofs.{HasNoSolution, IsContextOf, IsWellMade, IsKept}
 use Rattle.sp_law_cover.specs.Laws.{IsTurn, ContradictionsHold, RowsCover}
 use Rattle.sp_law_formula.proofs.Literals.{covers_by_itself, action_stands_covers, action_stands_numbered, unequal_covers, unequal_row_numbered, equal_pair_contradicts}
@@ -53,9 +53,9 @@ covers_then theory s t cs le a b = record {
 pub covers_itself : (theory : Theory) (s : System) → Covers theory s (s ∷ [])
 covers_itself theory s = covers_by_itself theory s s (λ log is v h. h)
 
-module _ (N : Names) (right : UnifierIsRight) (theory : Theory) (good : AreConvergent (signature_of theory).equations) (keeps : KeepSymbols (signature_of theory).symbols (signature_of theory).equations)
+module _ (N : Names) (right : UnifierIsRight) (theory : Theory) (good : HaveNormalForms (signature_of theory).equations) (keeps : KeepSymbols (signature_of theory).symbols (signature_of theory).equations)
     (rules_plain : RulesArePlain (signature_of theory).equations theory.rules) (rules_closed : Every IsClosedRule theory.rules)
-    (over : ActionsAreOver theory) (equal_truth : EqualTruth) where
+    (over : InstancesAreOver theory) (equal_truth : EqualTruth) where
   row_numbered : (row : Row) (s t : System) → by_row row s ≡ Some t → IsNumbered N s → IsNumbered N t × (s.next ≤ t.next)
   row_numbered row_split s t e n = split_numbered s t e n
   row_numbered row_open s t e n = open_existential_numbered s t e n
@@ -97,9 +97,9 @@ module _ (N : Names) (right : UnifierIsRight) (theory : Theory) (good : AreConve
       either : (a b : Bool) → (a ≡ true → ⊥) → (b ≡ true → ⊥) → (a || b) ≡ true → ⊥
       either a b first second k = ⊎_elim first second (or_cases a b k)
 
-module _ (right : UnifierIsRight) (theory : Theory) (good : AreConvergent (signature_of theory).equations) (keeps : KeepSymbols (signature_of theory).symbols (signature_of theory).equations)
+module _ (right : UnifierIsRight) (theory : Theory) (good : HaveNormalForms (signature_of theory).equations) (keeps : KeepSymbols (signature_of theory).symbols (signature_of theory).equations)
     (rules_plain : RulesArePlain (signature_of theory).equations theory.rules) (rules_closed : Every IsClosedRule theory.rules)
-    (over : ActionsAreOver theory) (equal_truth : EqualTruth) where
+    (over : InstancesAreOver theory) (equal_truth : EqualTruth) where
   pub rows_cover : RowsCover theory
   rows_cover = record {
     kept = λ context is_of row s t turn made.

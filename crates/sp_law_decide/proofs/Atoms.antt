@@ -14,7 +14,7 @@ use Rattle.sp_spec.specs.Same.{same_term, same_terms}
 use Rattle.sp_spec.specs.Execution.{Trace}
 use Rattle.sp_spec.specs.Truth.{Acts}
 use Rattle.sp_spec.specs.Guarded.{Place, Atom, acts, same, same_time, before, last, Assignment, place_in, term_in, action_in, time_in, AtomHolds, AtomsHold}
-use Rattle.sp_law_equal.specs.Convergent.{AreConvergent}
+use Rattle.sp_law_equal.specs.NormalForms.{HaveNormalForms}
 use Rattle.sp_spec.proofs.Same.{same_term_decides, same_terms_decides}
 use Rattle.sp_law_equal.proofs.Values.{equal_normal_same, equal_all_normal_same}
 use Rattle.sp_law_equal.proofs.Chains.{equal_from, same_action_refl}
@@ -64,7 +64,7 @@ at_decides (entry ∷ past) p a = at (p == length past) refl (at_decides past p 
         from : StandsAt (entry ∷ past) p a → StandsAt past p a
         from s = ⊎_elim (λ h. absurd (eqb-false p (length past) e h.0)) (λ h. (s.0, h, s.2)) s.1
 
-module _ (signature : Signature) (good : AreConvergent signature.equations) where
+module _ (signature : Signature) (good : HaveNormalForms signature.equations) where
   entry_normal : (trace : Trace) (p : ℕ) (entry : List (Action ⊥)) → IsNormalTrace signature trace → AtPosition trace p entry → Every (IsNormalAction signature) entry
   entry_normal [] p entry h a = absurd a
   entry_normal (x ∷ past) p entry h a = ⊎_elim (λ e. subst (Every (IsNormalAction signature)) e.1 h.0) (entry_normal past p entry h.1) a

@@ -8,7 +8,7 @@ use Rattle.sp_spec.specs.Term.{Ground, Values}
 use Rattle.sp_spec.specs.Signature.{Signature}
 use Rattle.sp_spec.specs.Execution.{Trace}
 use Rattle.sp_spec.specs.Guarded.{Place, free, bound, Binder, Atom, acts, same, same_time, before, last, Guarded, truth, some, Assignment, place_in, term_in, action_in, time_in, AtomsHold, GuardedHolds}
-use Rattle.sp_law_equal.specs.Convergent.{AreConvergent, KeepSymbols}
+use Rattle.sp_law_equal.specs.NormalForms.{HaveNormalForms, KeepSymbols}
 use Rattle.sp_law_equal.specs.Normal.{normal}
 use Rattle.sp_spec.proofs.Same.{same_term_decides}
 use Rattle.sp_law_equal.proofs.Chains.{equal_from}
@@ -59,7 +59,7 @@ module _ (signature : Signature) (n : ℕ) where
       let e = ready_assigns env ready (outside bs w) (fits_outside signature n bs env w fits) (sym (outside_terms bs w)) (sym (outside_times bs w)) in
       subst (λ (m : Assignment). Arises signature n bs m w) (sym e) (arises_outside signature n bs env w fits)
 
-  module _ (good : AreConvergent signature.equations) (keeps : KeepSymbols signature.symbols signature.equations) where
+  module _ (good : HaveNormalForms signature.equations) (keeps : KeepSymbols signature.symbols signature.equations) where
     fits_normalized : (env : Environment) → IsReady signature n env → FitsIn signature n env (normalized signature n good keeps (assignment_of env))
     fits_normalized env ready =
         let es = signature.equations in

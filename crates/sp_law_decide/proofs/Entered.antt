@@ -2,10 +2,9 @@
 use Rattle.std.proofs.Common.{◌≡◌, ℕ, zero, suc, ◌+◌, ◌≤◌, true, List, [], ◌∷◌, None, refl, subst, arith}
 use Rattle.sp_spec.specs.Signature.{Signature}
 use Rattle.sp_spec.specs.Guarded.{Binder, message, time, Assignment, with_term, with_time}
-use Rattle.sp_law_equal.specs.Convergent.{AreConvergent, KeepSymbols}
+use Rattle.sp_law_equal.specs.NormalForms.{HaveNormalForms, KeepSymbols}
 use Rattle.sp_law_equal.specs.Normal.{normal}
-use Rattle.sp_law_equal.proofs.Forms.{normal_has_sort, is_normal}
-use Rattle.sp_law_equal.proofs.Over.{normal_over}
+use Rattle.sp_law_equal.proofs.Forms.{normal_has_sort}
 use Rattle.sp_law_guard.specs.IsGuarded.{messages_in, times_in}
 use Rattle.sp_law_decide.specs.Deciding.{nothing, Slot, slot, is_filled, Environment, environment, entered}
 use Rattle.sp_law_decide.proofs.Slots.{AreGood}
@@ -71,7 +70,7 @@ module _ (signature : Signature) (n : ℕ) where
       let r = fits_outside bs inner w h in
       (m.bound_times zero, r.times.0, subst (λ (x : Assignment). Arises signature n bs x w) (time_again m) (arises_outside bs inner w h))
 
-  module _ (good : AreConvergent signature.equations) (keeps : KeepSymbols signature.symbols signature.equations) where
+  module _ (good : HaveNormalForms signature.equations) (keeps : KeepSymbols signature.symbols signature.equations) where
     -- the values in normal form, and of nothing else
     abbrev pub normalized : Assignment → Assignment
     normalized w = assigned (λ x. nothing) (λ i. 0) (λ k. normal signature.equations (w.bound_terms k)) w.bound_times
@@ -82,6 +81,6 @@ module _ (signature : Signature) (n : ℕ) where
         let t = a.0 in
         let es = signature.equations in
         fits_entered bs (environment (slot sort None ∷ env.messages) env.times) (with_term t m) w a.2
-        (record { messages = ((normal_has_sort es sort t a.1.0, is_normal es good t, normal_over signature.symbols es keeps t a.1.1), tt, h.messages); times = h.times })
+        (record { messages = ((normal_has_sort es sort t a.1.0, good.is_normal t, keeps.kept t a.1.1), tt, h.messages); times = h.times })
     fits_entered (time ∷ bs) env m w a h =
         fits_entered bs (environment env.messages (slot tt None ∷ env.times)) (with_time a.0 m) w a.2 (record { messages = h.messages; times = (a.1, tt, h.times) })

@@ -6,7 +6,7 @@ use Rattle.sp_spec.proofs.Lists.{member_left, member_right, member_either}
 use Rattle.sp_spec.specs.Term.{Term, var, constant, name, app, Ground, valued}
 use Rattle.sp_spec.specs.Signature.{Signature}
 use Rattle.sp_spec.specs.Guarded.{Place, free, bound, Atom, acts, same, same_time, before, last}
-use Rattle.sp_law_equal.specs.Convergent.{AreConvergent}
+use Rattle.sp_law_equal.specs.NormalForms.{HaveNormalForms}
 use Rattle.sp_law_guard.specs.IsGuarded.{is_variable, is_given, by_equality}
 use Rattle.sp_spec.proofs.Options.{then_some}
 use Rattle.sp_law_decide.specs.Deciding.{nothing, Environment, environment, is_filled, with_message, is_known, term_value, given_to, by_equalities, with_times, each_by_equalities}
@@ -16,7 +16,7 @@ use Rattle.sp_law_decide.proofs.Matched.{Messages, value_by, either_is, IsGood, 
 use Rattle.sp_law_decide.proofs.Terms.{plain_normal, places_normal, known_value, Given, given_known}
 use Rattle.sp_law_decide.proofs.Actions.{Reached}
 
-module _ (signature : Signature) (good : AreConvergent signature.equations) where
+module _ (signature : Signature) (good : HaveNormalForms signature.equations) where
   abbrev AreGoodMessages : Messages → Type 0
   AreGoodMessages = AreGood (IsGood signature) nothing
 

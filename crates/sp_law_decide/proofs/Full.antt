@@ -6,7 +6,7 @@ use Rattle.sp_spec.specs.Lists.{Member, Every}
 use Rattle.sp_spec.specs.Signature.{Signature}
 use Rattle.sp_spec.specs.Execution.{Trace}
 use Rattle.sp_spec.specs.Guarded.{Binder, message, time, Atom}
-use Rattle.sp_law_equal.specs.Convergent.{AreConvergent}
+use Rattle.sp_law_equal.specs.NormalForms.{HaveNormalForms}
 use Rattle.sp_law_guard.specs.IsGuarded.{in_action, by_equality, message_guarded, time_guarded, messages_in, times_in, each_guarded}
 use Rattle.sp_law_decide.specs.Deciding.{nothing, is_filled, Environment, entered, by_equalities, by_actions, candidates}
 use Rattle.sp_law_decide.specs.Normal.{IsNormalTrace, IsPlainAtom}
@@ -47,7 +47,7 @@ module _ (signature : Signature) (n : ℕ) where
     pub messages : MessagesGrown signature a.messages b.messages
     pub times : TimesGrown n a.times b.times
 
-  module _ (good : AreConvergent signature.equations) (trace : Trace) (normal : IsNormalTrace signature trace) (within : length trace ≤ n) where
+  module _ (good : HaveNormalForms signature.equations) (trace : Trace) (normal : IsNormalTrace signature trace) (within : length trace ≤ n) where
     -- an environment in which the actions of the guard were found
     abbrev OfActions : List Binder → List Atom → Environment → Environment → Type 0
     OfActions bs guard env mid = CoveredByAll signature n guard (entered bs env) mid

@@ -7,7 +7,7 @@ use Rattle.sp_spec.specs.Lists.{Member, Every}
 use Rattle.sp_spec.specs.Signature.{Signature}
 use Rattle.sp_spec.specs.Execution.{Trace}
 use Rattle.sp_spec.specs.Guarded.{Place, free, bound, Binder, Atom, Guarded, Guardeds, truth, falsity, holds, fails, all_of, one_of, some, every, no_more, and_then, Assignment, place_in, AtomHolds, AtomsHold, GuardedHolds, EachHolds, SomeHolds}
-use Rattle.sp_law_equal.specs.Convergent.{AreConvergent, KeepSymbols}
+use Rattle.sp_law_equal.specs.NormalForms.{HaveNormalForms, KeepSymbols}
 use Rattle.sp_law_guard.specs.IsGuarded.{messages_in, each_guarded, is_guarded, are_guarded}
 use Rattle.sp_law_decide.specs.Deciding.{Environment, assignment_of, candidates, atom_true, atoms_true, for_one, for_each, decided, each_decided, one_decided, empty}
 use Rattle.sp_law_decide.specs.Normal.{IsNormalTrace, IsPlainAtom, IsPlain, ArePlain}
@@ -53,7 +53,7 @@ implies_from : (a b : Bool) → (a ≡ true → b ≡ true) → (not a || b) ≡
 implies_from true b h = h refl
 implies_from false b h = refl
 
-module _ (signature : Signature) (good : AreConvergent signature.equations) (keeps : KeepSymbols signature.symbols signature.equations) (trace : Trace) (normals : IsNormalTrace signature trace) where
+module _ (signature : Signature) (good : HaveNormalForms signature.equations) (keeps : KeepSymbols signature.symbols signature.equations) (trace : Trace) (normals : IsNormalTrace signature trace) where
   abbrev Ready : Environment → Type 0
   Ready = IsReady signature (length trace)
 

@@ -5,8 +5,8 @@ use Rattle.std.proofs.lemmas.Bool.{and_parts, and_from}
 use Rattle.sp_spec.specs.Term.{Term, var, constant, name, app, Terms, none, more, Ground, count, valued, valued_all}
 use Rattle.sp_spec.specs.Signature.{Signature, HasSymbol}
 use Rattle.sp_spec.specs.Guarded.{Place, free, bound, Atom}
-use Rattle.sp_law_equal.specs.Convergent.{AreConvergent}
-use Rattle.sp_law_equal.proofs.Forms.{plain_matches_none}
+use Rattle.sp_law_equal.specs.NormalForms.{HaveNormalForms}
+use Rattle.sp_law_equal.proofs.Plain.{plain_matches_none}
 use Rattle.sp_law_guard.specs.IsGuarded.{in_action, place_given, is_given, are_given}
 use Rattle.sp_law_decide.specs.Deciding.{nothing, value_at, is_filled, place_known, is_known, are_known}
 use Rattle.sp_law_decide.specs.Normal.{IsPlainTerm, ArePlainTerms}
@@ -17,7 +17,7 @@ pub count_valued : {V W : Type 0} (v : V → Term W) (ts : Terms V) → count (v
 count_valued v none = refl
 count_valued v (more t ts) = ap (λ k. suc k) (count_valued v ts)
 
-module _ (signature : Signature) (good : AreConvergent signature.equations) where
+module _ (signature : Signature) (good : HaveNormalForms signature.equations) where
   module _ {V : Type 0} (v : V → Ground) (values : (x : V) → IsNormalValue signature (v x)) where
     mutual
       pub plain_normal : (t : Term V) → IsPlainTerm signature t → IsNormalValue signature (valued v t)

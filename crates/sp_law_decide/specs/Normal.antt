@@ -10,7 +10,8 @@ use Rattle.sp_spec.specs.Formula.{Written, Formula}
 use Rattle.sp_spec.specs.Formula as f
 use Rattle.sp_spec.specs.Execution.{Trace}
 use Rattle.sp_spec.specs.Guarded.{Atom, acts, same, same_time, before, last, Guarded, Guardeds, truth, falsity, holds, fails, all_of, one_of, some, every, no_more, and_then}
-use Rattle.sp_law_equal.specs.Convergent.{IsDestructor, AreConvergent, KeepSymbols}
+use Rattle.sp_law_equal.specs.NormalForms.{HaveNormalForms, KeepSymbols}
+use Rattle.sp_law_equal.specs.Destructors.{IsDestructor}
 use Rattle.sp_law_guard.specs.IsGuarded.{is_guarded}
 
 -- each argument is normal, and over the signature
@@ -93,7 +94,7 @@ HasAtomicTerms (f.for_some x g) = HasAtomicTerms g
 
 -- what the formula and the trace must be like
 pub record CanDecide (signature : Signature) (trace : Trace) (g : Guarded) : Type 0 where
-  pub convergent : AreConvergent signature.equations
+  pub normal_forms : HaveNormalForms signature.equations
   pub keeps : KeepSymbols signature.symbols signature.equations
   pub normal : IsNormalTrace signature trace
   pub plain : IsPlain signature g

@@ -9,11 +9,11 @@ use Rattle.sp_spec.specs.Signature.{Equation}
 use Rattle.sp_spec.specs.Equal.{Equal, EqualAll, IsNormal}
 use Rattle.sp_spec.specs.Same.{same_term, same_terms}
 use Rattle.sp_law_equal.specs.Matching.{Bound, IsMatch, NoneMatches, matched}
-use Rattle.sp_law_equal.specs.Convergent.{AreConvergent}
+use Rattle.sp_law_equal.specs.NormalForms.{HaveNormalForms}
 use Rattle.sp_law_equal.specs.Normal.{normal, normal_all}
 use Rattle.sp_spec.proofs.Same.{same_term_decides, same_terms_decides}
 use Rattle.sp_law_equal.proofs.Matches.{is_match, none_matches}
-use Rattle.sp_law_equal.proofs.Forms.{decides, decides_all, is_normal, normal_of_normal}
+use Rattle.sp_law_equal.proofs.Forms.{decides_all, normal_of_normal}
 
 pub or_not : {P : Type 0} (b : Bool) → Decides b P → P ⊎ (P → ⊥)
 or_not true d = inl (d.0 refl)
@@ -44,16 +44,16 @@ match_or_none p t = by_answer (matched p t []) refl
     by_answer None e = inr (none_matches p t e)
     by_answer (Some bs) e = inl (bs, is_match p t bs e)
 
-module _ (es : List Equation) (good : AreConvergent es) where
+module _ (es : List Equation) (good : HaveNormalForms es) where
   pub equal_or_not : (t u : Ground) → Equal es t u ⊎ (Equal es t u → ⊥)
-  equal_or_not t u = let d = decides es good t u in or_not_by d.1 d.0 (same_term_or_not (normal es t) (normal es u))
+  equal_or_not t u = let d = good.decides t u in or_not_by d.1 d.0 (same_term_or_not (normal es t) (normal es u))
 
   pub equal_all_or_not : (ts us : Grounds) → EqualAll es ts us ⊎ (EqualAll es ts us → ⊥)
   equal_all_or_not ts us = let d = decides_all es good ts us in or_not_by d.1 d.0 (same_terms_or_not (normal_all es ts) (normal_all es us))
 
   pub normal_or_not : (t : Ground) → IsNormal es t ⊎ (IsNormal es t → ⊥)
   normal_or_not t =
-      or_not_by (λ e. subst (λ (u : Ground). IsNormal es u) e (is_normal es good t)) (normal_of_normal es t) (same_term_or_not (normal es t) t)
+      or_not_by (λ e. subst (λ (u : Ground). IsNormal es u) e (good.is_normal t)) (normal_of_normal es t) (same_term_or_not (normal es t) t)
 
   -- terms that are classically equal are equal
   pub equal_stable : (t u : Ground) → Classically (Equal es t u) → Equal es t u

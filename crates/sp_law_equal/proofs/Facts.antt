@@ -5,7 +5,7 @@ use Rattle.sp_spec.specs.Signature.{Equation}
 use Rattle.sp_spec.specs.Equal.{AreNormalFormsOf}
 use Rattle.sp_spec.specs.Rule.{Fact, Action, Facts, fact_at, action_at, facts_at, SameFact, SameAction, AreNormalFacts, AreNormalActions, IsNormalFormOf}
 use Rattle.sp_spec.proofs.Lists.{every_all, map_each, map-map}
-use Rattle.sp_law_equal.specs.Convergent.{AreConvergent}
+use Rattle.sp_law_equal.specs.NormalForms.{HaveNormalForms}
 use Rattle.sp_law_equal.specs.Normal.{normal, normal_fact, normal_action, normal_facts}
 use Rattle.sp_law_equal.specs.Pointwise.{EachWith, AreSameFacts}
 use Rattle.sp_law_equal.proofs.Pointwise.{map_same}
@@ -20,7 +20,7 @@ same_facts_parts f g p a c =
 map_map_same : {A B C : Type 0} (a b : A → B) (n : B → C) → ((x : A) → n (a x) ≡ n (b x)) → (xs : List A) → map n (map a xs) ≡ map n (map b xs)
 map_map_same a b n e xs = map-map a n xs ∙ map_each _ _ xs (every_all _ e xs) ∙ sym (map-map b n xs)
 
-module _ (es : List Equation) (good : AreConvergent es) where
+module _ (es : List Equation) (good : HaveNormalForms es) where
   -- the normal form of facts is one of them
   are_normal_facts : (fs : List (Fact ⊥)) → AreNormalFacts es fs (map (normal_fact es) fs)
   are_normal_facts [] = tt

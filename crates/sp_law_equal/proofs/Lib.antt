@@ -4,9 +4,11 @@ pub mod Tests
 pub mod Matches
 pub mod Parts
 pub mod Forms
+pub mod SubtermRules
+pub mod Plain
 pub mod Values
-pub mod Pairs
 pub mod Over
+pub mod Pairs
 pub mod Facts
 pub mod Decided
 pub mod PlainFacts

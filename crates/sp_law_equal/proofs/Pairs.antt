@@ -1,4 +1,4 @@
--- The equations of pairs are convergent, and make no symbols that weren't there.
+-- The equations of pairs are subterm rules that bring in no symbols, so each term has one normal form, over the term's symbols.
 use Rattle.std.proofs.Common.{◌≡◌, ◌⊎◌, ⊎_elim, inl, inr, ℕ, List, false, refl, sym, ◌∙◌, subst, true≢false}
 use Rattle.std.specs.Prelude.{codes}
 use Rattle.std.specs.Str.{bytes_eq}
@@ -6,7 +6,12 @@ use Rattle.std.proofs.lemmas.Slice.Eq.{bytes_eq-Decides}
 use Rattle.sp_spec.specs.Lists.{Member}
 use Rattle.sp_spec.specs.Term.{app, none, more, Grounds}
 use Rattle.sp_spec.specs.Signature.{Equation, Symbol, pair, msg, pair_equations, HasSymbol}
-use Rattle.sp_law_equal.specs.Convergent.{HasRoot, IsDestructor, IsPlain, IsPlainBelow, IsSimple, IsProperPart, DoAgree, AreConvergent, KeepSymbols}
+use Rattle.sp_law_equal.specs.Destructors.{HasRoot, IsDestructor, IsPlain}
+use Rattle.sp_law_equal.specs.Parts.{IsProperPart}
+use Rattle.sp_law_equal.specs.SubtermRules.{IsPlainBelow, IsSimple, DoAgree, AreSubtermRules, BringInNoSymbols}
+use Rattle.sp_law_equal.specs.NormalForms.{HaveNormalForms, KeepSymbols}
+use Rattle.sp_law_equal.proofs.SubtermRules.{subterm_rules_have_normal_forms}
+use Rattle.sp_law_equal.proofs.Over.{keep_symbols}
 
 abbrev pub first_of_pair : Equation
 first_of_pair = record { left = app (codes "fst") (more (pair (msg 0) (msg 1)) none); right = msg 0 }
@@ -40,8 +45,8 @@ first_is_part = inl (inr (inl refl))
 second_is_part : IsProperPart second_of_pair.right second_of_pair.left
 second_is_part = inl (inr (inr (inl refl)))
 
-pub pairs_convergent : AreConvergent pair_equations
-pairs_convergent = record {
+pub pairs_are_subterm_rules : AreSubtermRules pair_equations
+pairs_are_subterm_rules = record {
   left_plain = each_of_pairs (λ e. IsPlainBelow pair_equations e.left) ((pair_is_plain, (tt, (tt, tt))), tt) ((pair_is_plain, (tt, (tt, tt))), tt);
   right_plain = each_of_pairs (λ e. IsPlain pair_equations e.right) tt tt;
   simple = each_of_pairs IsSimple (inl first_is_part) (inl second_is_part);
@@ -56,11 +61,17 @@ pairs_convergent = record {
       d m e n;
 }
 
+pub pairs_have_normal_forms : HaveNormalForms pair_equations
+pairs_have_normal_forms = subterm_rules_have_normal_forms pair_equations pairs_are_subterm_rules
+
 -- whatever the symbols
-pub pairs_keep_symbols : (symbols : List Symbol) → KeepSymbols symbols pair_equations
-pairs_keep_symbols symbols = record {
+pub pairs_bring_in_no_symbols : (symbols : List Symbol) → BringInNoSymbols symbols pair_equations
+pairs_bring_in_no_symbols symbols = record {
   each =
       each_of_pairs (λ e. IsProperPart e.right e.left ⊎ ((c : List ℕ) × (e.right ≡ app c none) × HasSymbol symbols c 0))
       (inl first_is_part)
       (inl second_is_part);
 }
+
+pub pairs_keep_symbols : (symbols : List Symbol) → KeepSymbols symbols pair_equations
+pairs_keep_symbols symbols = keep_symbols symbols pair_equations (pairs_bring_in_no_symbols symbols)

@@ -3,7 +3,7 @@ use Rattle.std.proofs.Common.{◌≡◌, ⊎_elim, inl, inr, ℕ, List, refl, sy
 use Rattle.sp_spec.specs.Term.{Term, var, constant, name, app, Terms, none, more, Ground, Grounds, valued, valued_all}
 use Rattle.sp_spec.specs.Signature.{Equation, Symbol, IsOver, AreOver}
 use Rattle.sp_spec.specs.Equal.{IsNormal, AreNormal}
-use Rattle.sp_law_equal.specs.Convergent.{IsPart, IsPartOfOne, IsProperPart}
+use Rattle.sp_law_equal.specs.Parts.{IsPart, IsPartOfOne, IsProperPart}
 
 pub part_itself : {V : Type 0} (t : Term V) → IsPart t t
 part_itself (var x) = refl

@@ -5,11 +5,13 @@ use Rattle.sp_spec.specs.Term.{Variable, Values}
 use Rattle.sp_spec.specs.Signature.{Equation}
 use Rattle.sp_spec.specs.Rule.{Fact, Action, fact_at, action_at}
 use Rattle.sp_spec.proofs.Facts.{made_fact, made_action}
-use Rattle.sp_law_equal.specs.Convergent.{AreConvergent, ArePlain}
+use Rattle.sp_law_equal.specs.Destructors.{ArePlain}
+use Rattle.sp_law_equal.specs.NormalForms.{HaveNormalForms}
 use Rattle.sp_law_equal.specs.Normal.{normal_fact, normal_action}
-use Rattle.sp_law_equal.proofs.Forms.{normals, normal_plain_all}
+use Rattle.sp_law_equal.proofs.Forms.{normals}
+use Rattle.sp_law_equal.proofs.Plain.{normal_plain_all}
 
-module _ (es : List Equation) (good : AreConvergent es) (v : Values) where
+module _ (es : List Equation) (good : HaveNormalForms es) (v : Values) where
   pub plain_facts : (fs : List (Fact Variable)) → Every (λ (f : Fact Variable). ArePlain es f.args) fs → map (normal_fact es) (map (fact_at v) fs) ≡ map (fact_at (normals es v)) fs
   plain_facts [] h = refl
   plain_facts (f ∷ fs) h =

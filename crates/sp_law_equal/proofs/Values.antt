@@ -3,13 +3,13 @@ use Rattle.std.proofs.Common.{◌≡◌, ℕ, List, refl, sym, ap, ◌∙◌}
 use Rattle.sp_spec.specs.Term.{Sort, Msg, Term, var, constant, name, app, Terms, none, more, Ground, Grounds, valued, valued_all}
 use Rattle.sp_spec.specs.Signature.{Equation, HasSort}
 use Rattle.sp_spec.specs.Equal.{Equal, EqualAll, IsNormal, AreNormal, AreNormalFormsOf}
-use Rattle.sp_law_equal.specs.Convergent.{AreConvergent}
+use Rattle.sp_law_equal.specs.NormalForms.{HaveNormalForms}
 use Rattle.sp_law_equal.specs.Normal.{reduced, normal, normal_all}
-use Rattle.sp_law_equal.proofs.Forms.{normal_of_normal, normal_all_of_normal, sorted_is_normal, to_normal_all, equal_normal, equal_all_normal, is_normal, are_normal}
+use Rattle.sp_law_equal.proofs.Forms.{normal_of_normal, normal_all_of_normal, sorted_is_normal, to_normal_all, equal_normal, equal_all_normal, are_normal}
 
-module _ (es : List Equation) (good : AreConvergent es) where
+module _ (es : List Equation) (good : HaveNormalForms es) where
   pub normal_again : (t : Ground) → normal es (normal es t) ≡ normal es t
-  normal_again t = normal_of_normal es (normal es t) (is_normal es good t)
+  normal_again t = normal_of_normal es (normal es t) (good.is_normal t)
 
   pub normal_all_again : (ts : Grounds) → normal_all es (normal_all es ts) ≡ normal_all es ts
   normal_all_again ts = normal_all_of_normal es (normal_all es ts) (are_normal es good ts)

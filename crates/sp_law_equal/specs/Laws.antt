@@ -1,18 +1,20 @@
 -- What holds of equality modulo equations.
-use Rattle.std.specs.Prelude.{◌≡◌, ◌↔◌, List}
-use Rattle.sp_spec.specs.Term.{Ground}
+use Rattle.std.specs.Prelude.{List}
 use Rattle.sp_spec.specs.Signature.{Equation, Symbol, pair_equations}
-use Rattle.sp_spec.specs.Equal.{Equal, IsNormal}
-use Rattle.sp_law_equal.specs.Convergent.{AreConvergent, KeepSymbols}
-use Rattle.sp_law_equal.specs.Normal.{normal}
+use Rattle.sp_law_equal.specs.SubtermRules.{AreSubtermRules, BringInNoSymbols}
+use Rattle.sp_law_equal.specs.NormalForms.{HaveNormalForms, KeepSymbols}
 
--- The normal form is normal and equal to the term, and terms are equal exactly where their normal forms are the same.
+-- Over subterm rules each term has one normal form.
 pub record NormalFormsDecide : Type 0 where
-  pub is_normal : (es : List Equation) → AreConvergent es → (t : Ground) → IsNormal es (normal es t)
-  pub equal : (es : List Equation) → AreConvergent es → (t : Ground) → Equal es t (normal es t)
-  pub decides : (es : List Equation) → AreConvergent es → (t u : Ground) → Equal es t u ↔ (normal es t ≡ normal es u)
+  pub each : (es : List Equation) → AreSubtermRules es → HaveNormalForms es
 
--- The equations of pairs are of the first form, and bring in no symbol, whatever the symbols are.
+-- Normal forms are over the symbols that the terms are over, where each right side is a proper part of its left side or a constant of these.
+pub record SymbolsAreKept : Type 0 where
+  pub each : (symbols : List Symbol) (es : List Equation) → BringInNoSymbols symbols es → KeepSymbols symbols es
+
+-- The equations of pairs are subterm rules that bring in no symbol, whatever the symbols are, and so have normal forms that keep to the symbols.
 pub record PairsAreConvergent : Type 0 where
-  pub convergent : AreConvergent pair_equations
+  pub subterm_rules : AreSubtermRules pair_equations
+  pub no_symbols : (symbols : List Symbol) → BringInNoSymbols symbols pair_equations
+  pub normal_forms : HaveNormalForms pair_equations
   pub keep : (symbols : List Symbol) → KeepSymbols symbols pair_equations

@@ -1,5 +1,8 @@
 pub mod Matching
-pub mod Convergent
+pub mod Parts
+pub mod Destructors
+pub mod SubtermRules
 pub mod Normal
+pub mod NormalForms
 pub mod Pointwise
 pub mod Laws

@@ -10,7 +10,7 @@ use Rattle.sp_law_truth.specs.Same.{EqualTraces}
 use Rattle.sp_law_truth.specs.Shown.{without_empty}
 use Rattle.sp_law_erase.specs.Traces.{without_sends}
 use Rattle.sp_law_erase.specs.Adversary.{adversary_facts, NeedsNoAdversary}
-use Rattle.sp_law_equal.specs.Convergent.{AreConvergent}
+use Rattle.sp_law_equal.specs.NormalForms.{HaveNormalForms}
 use Rattle.sp_law_erase.specs.Laws.{ErasesTo}
 use Rattle.sp_law_erase.proofs.Rearranged.{keeps_distinct, keeps_rest}
 use Rattle.sp_law_erase.proofs.Origins.{taken}
@@ -59,7 +59,7 @@ module _ (theory : Theory) where
       erases = old.erases;
     }
 
-  module _ (good : AreConvergent (signature_of theory).equations) (needs : NeedsNoAdversary theory) where
+  module _ (good : HaveNormalForms (signature_of theory).equations) (needs : NeedsNoAdversary theory) where
     -- with the facts and the names of a state
     abbrev ErasedAt : State → Trace → Type 0
     ErasedAt state trace = (log : Log) × Erased theory state.facts state.made trace log

@@ -9,7 +9,7 @@ use Rattle.sp_spec.specs.Theory.{Theory, signature_of}
 use Rattle.sp_spec.specs.Execution.{Trace, with_entry}
 use Rattle.sp_spec.specs.Log.{Source, Entry, step, Log, fresh_of, all_fresh_uses, linear_sources, all_sources, HasSources, IsLog, log_trace}
 use Rattle.sp_spec.proofs.Lists.{member_either, distinct_right, place_map, every_map}
-use Rattle.sp_law_equal.specs.Convergent.{AreConvergent}
+use Rattle.sp_law_equal.specs.NormalForms.{HaveNormalForms}
 use Rattle.sp_law_equal.specs.Normal.{normal_fact, normal_facts}
 use Rattle.sp_law_equal.proofs.Facts.{facts_normal_form, normal_facts_same}
 use Rattle.sp_law_equal.specs.Pointwise.{EachWith}
@@ -49,7 +49,7 @@ module _ (theory : Theory) where
     pub erases : ErasesTo theory trace log
 
   -- the step of a rule, where these were taken for its premises
-  module _ (good : AreConvergent (signature_of theory).equations) (needs : NeedsNoAdversary theory)
+  module _ (good : HaveNormalForms (signature_of theory).equations) (needs : NeedsNoAdversary theory)
       (r : Rule) (member : Member r theory.rules) (v : Values) (valuation : IsValuation (signature_of theory) v) where
     abbrev used : Facts ⊥
     used = facts_at v r.facts

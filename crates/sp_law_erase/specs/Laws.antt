@@ -3,7 +3,7 @@ use Rattle.std.specs.Prelude.{List}
 use Rattle.sp_spec.specs.Theory.{Theory, signature_of}
 use Rattle.sp_spec.specs.Execution.{Step, Trace, IsExecution}
 use Rattle.sp_spec.specs.Log.{Log, IsLog, log_trace}
-use Rattle.sp_law_equal.specs.Convergent.{AreConvergent}
+use Rattle.sp_law_equal.specs.NormalForms.{HaveNormalForms}
 use Rattle.sp_law_truth.specs.Same.{EqualTraces}
 use Rattle.sp_law_truth.specs.Shown.{without_empty}
 use Rattle.sp_law_erase.specs.Traces.{without_sends}
@@ -18,6 +18,6 @@ pub record ErasesTo (theory : Theory) (trace : Trace) (log : Log) : Type 0 where
 -- Over convergent equations each execution of a theory that needs no adversary has such a log, and each theory whose rules don't deal with the adversary
 -- needs none.
 pub record ExecutionsHaveLogs : Type 0 where
-  pub each : (theory : Theory) → NeedsNoAdversary theory → AreConvergent (signature_of theory).equations
+  pub each : (theory : Theory) → NeedsNoAdversary theory → HaveNormalForms (signature_of theory).equations
       → (steps : List Step) (trace : Trace) → IsExecution theory steps trace → (log : Log) × ErasesTo theory trace log
   pub needs_none : (theory : Theory) → NamesNoAdversary theory → IsFreshRight theory → NeedsNoAdversary theory

@@ -6,21 +6,20 @@ use Rattle.sp_spec.specs.Lists.{Member, Every, AtPosition}
 use Rattle.sp_spec.specs.Term.{Names, Variable, Values, AllMadeOf}
 use Rattle.sp_spec.specs.Signature.{IsValuation}
 use Rattle.sp_spec.specs.Equal.{IsNormal, AreNormal}
-use Rattle.sp_spec.specs.Rule.{Action, Facts, Rule, action_at, facts_at, SameAction, FactsMadeOf}
+use Rattle.sp_spec.specs.Rule.{Action, Facts, Rule, action_at, facts_at, SameAction}
 use Rattle.sp_spec.specs.Theory.{Theory, signature_of}
 use Rattle.sp_spec.specs.Guarded.{Place, action_in}
 use Rattle.sp_spec.specs.Log.{Log, Entry, step, send, learn, IsLog, log_trace, entry_actions}
-use Rattle.sp_law_equal.specs.Convergent.{AreConvergent, KeepSymbols}
-use Rattle.sp_law_equal.proofs.Forms.{normal_has_sort, is_normal, normals}
-use Rattle.sp_law_equal.proofs.Over.{normal_over}
-use Rattle.sp_spec_system.specs.System.{Happening, rule_step, Event, System, happening_actions}
-use Rattle.sp_spec_system.specs.Solutions.{Valuation, assignment, HappensAt, HappensIn, Solves}
-use Rattle.sp_spec_system.specs.Numbered.{InHappening, InEvent, IsNumbered}
+use Rattle.sp_law_equal.specs.NormalForms.{HaveNormalForms, KeepSymbols}
+use Rattle.sp_law_equal.proofs.Forms.{normal_has_sort, normals}
+use Rattle.sp_spec_system.specs.System.{rule_step, Event, System, happening_actions}
+use Rattle.sp_spec_system.specs.Solutions.{Valuation, assignment, HappensIn, Solves}
+use Rattle.sp_spec_system.specs.Numbered.{InEvent, IsNumbered}
 use Rattle.sp_spec_system.specs.Covering.{Agrees, NoneSolved}
 use Rattle.sp_law_system.specs.Laws.{UnifierIsRight}
 use Rattle.sp_spec.proofs.Lists.{every_parts, every_member, member_mapped, position_one, member_map}
 use Rattle.sp_law_system.proofs.Facts.{action_same}
-use Rattle.sp_law_system.proofs.Numbers.{each_weaken_all}
+use Rattle.sp_law_system.proofs.Numbers.{each_weaken_all, happening_made}
 use Rattle.sp_law_system.proofs.Solutions.{Under, TimeUnder, agrees_itself}
 use Rattle.sp_spec_system.specs.Formulas.{freed_action}
 use Rattle.sp_spec_system.specs.MakingOne.{event_at}
@@ -29,7 +28,8 @@ use Rattle.sp_spec_formula.specs.Action.{with_step, by_actions, by_each, is_adve
 use Rattle.sp_law_system.specs.Rules.{RulesAreNumbered, RulesArePlain}
 use Rattle.sp_law_system.specs.Proofs.{systems_of}
 use Rattle.sp_law_formula.proofs.Freed.{freed_action_value}
-use Rattle.sp_law_formula.proofs.Entries.{traced, entry_is_step, step_action_normal, same_normal_action, plain_step, beside, beside_agrees}
+use Rattle.sp_law_formula.proofs.Learnt.{entry_normal}
+use Rattle.sp_law_formula.proofs.Entries.{traced, happened, entry_is_step, step_action_normal, same_normal_action, plain_step, beside, beside_agrees}
 use Rattle.sp_law_formula.proofs.Actions.{named_systems, systems_append, by_actions_solved, step_numbered, step_solved}
 use Rattle.sp_spec_system.specs.Rules.{RuleForms, forms_of}
 
@@ -81,7 +81,7 @@ not_adversary symbol e = (
   (λ k. cc (e, or_right (bytes_eq symbol (codes "K")) (bytes_eq symbol (codes "KU")) ((bytes_eq-Decides symbol (codes "KU")).1 k))),
 )
 
-module _ (N : Names) (right : UnifierIsRight) (theory : Theory) (good : AreConvergent (signature_of theory).equations) (keeps : KeepSymbols (signature_of theory).symbols (signature_of theory).equations)
+module _ (N : Names) (right : UnifierIsRight) (theory : Theory) (good : HaveNormalForms (signature_of theory).equations) (keeps : KeepSymbols (signature_of theory).symbols (signature_of theory).equations)
     (rules_numbered : RulesAreNumbered N theory.rules) (rules_plain : RulesArePlain (signature_of theory).equations theory.rules) where
   module _ (s : System) (n : IsNumbered N s) (f : Action Place) (a : Action Variable) (freed : freed_action f ≡ Some a) (i : ℕ) (i_under : i < s.next) (a_under : AllMadeOf N (Under s.next) a.args)
       (own : is_adversary f.symbol ≡ false) (log : Log) (is : IsLog theory log) (v : Valuation) (h : Solves theory log v s) where
@@ -93,23 +93,18 @@ module _ (N : Names) (right : UnifierIsRight) (theory : Theory) (good : AreConve
         → AreNormal (signature_of theory).equations (action_in (assignment v) f).args → SameAction (signature_of theory).equations (action_in (assignment v) f) shown
         → NoneSolved theory log v s.next (by_actions s a (happening_actions e.happening)) → ⊥
     at_event_solved e member time shown p is_p actions there m normal_f same_f none =
-        at e.happening refl (every_member (HappensIn log v) s.events e member h.events) (every_member (InEvent N (Under s.next) (TimeUnder s.next)) s.events e member n.events).1
-      where
-        at : (x : Happening) → e.happening ≡ x → HappensIn log v e → InHappening N (Under s.next) e.happening → ⊥
-        at (rule_step r g) k l u =
-            let entry = traced log p actions there in
-            let l' : HappensAt log (v.times e.time) v.terms (rule_step r g) = subst (HappensAt log (v.times e.time) v.terms) k l in
-            let here : AtPosition log p (step r (facts_at v.terms g) l'.0) = subst (λ (q : ℕ). AtPosition log q (step r (facts_at v.terms g) l'.0)) (ap v.times time ∙ sym is_p) l'.1 in
-            let one : entry.0 ≡ step r (facts_at v.terms g) l'.0 = position_one log p entry.0 (step r (facts_at v.terms g) l'.0) entry.1 here in
-            let shown_in : Member shown (map (action_at v.terms) g.actions) = subst (Member shown) (entry.2 ∙ ap entry_actions one) m in
-            let b = member_mapped (action_at v.terms) shown g.actions shown_in in
-            let is_step = entry_is_step theory log is p r (facts_at v.terms g) l'.0 here in
-            let shown_normal = step_action_normal theory r (facts_at v.terms g) is_step shown shown_in in
-            let same = same_normal_action (signature_of theory).equations good (action_in (assignment v) f) shown normal_f shown_normal same_f in
-            let e2 : action_at v.terms a ≡ action_at v.terms b.0 = sym (freed_action_value (assignment v) f a freed) ∙ same ∙ sym b.2 in
-            let u' : FactsMadeOf N (Under s.next) g = subst (InHappening N (Under s.next)) k u in
-            by_actions_solved N right theory log s s.next v v (agrees_itself s.next v) n h a g.actions a_under u'.actions b.0 b.1 e2
-            (subst (λ (y : Happening). NoneSolved theory log v s.next (by_actions s a (happening_actions y))) k none)
+        let entry = traced log p actions there in
+        let own_actions = happening_actions e.happening in
+        let d = happened log (v.times e.time) v e.happening (every_member (HappensIn log v) s.events e member h.events) in
+        let here : AtPosition log p d.0 = subst (λ (q : ℕ). AtPosition log q d.0) (ap v.times time ∙ sym is_p) d.1 in
+        let one : entry.0 ≡ d.0 = position_one log p entry.0 d.0 entry.1 here in
+        let b = member_mapped (action_at v.terms) shown own_actions (subst (Member shown) (entry.2 ∙ ap entry_actions one ∙ d.2) m) in
+        let shown_normal = entry_normal theory log is p entry.0 entry.1 shown (subst (Member shown) entry.2 m) in
+        let same = same_normal_action (signature_of theory).equations good (action_in (assignment v) f) shown normal_f shown_normal same_f in
+        let e2 : action_at v.terms a ≡ action_at v.terms b.0 = sym (freed_action_value (assignment v) f a freed) ∙ same ∙ sym b.2 in
+        let under = (every_member (InEvent N (Under s.next) (TimeUnder s.next)) s.events e member n.events).1 in
+        let made = happening_made N (Under s.next) (TimeUnder s.next) e.happening under in
+        by_actions_solved N right theory log s s.next v v (agrees_itself s.next v) n h a own_actions a_under made.actions b.0 b.1 e2 none
 
     -- by a new step of the entry's rule
     pub new_step_solved : (shown : Action ⊥) → (actions : List (Action ⊥)) → AtPosition (log_trace log) (v.times i) actions → Member shown actions
@@ -134,8 +129,8 @@ module _ (N : Names) (right : UnifierIsRight) (theory : Theory) (good : AreConve
             let numbered_r = every_member _ theory.rules rule is_step.1 rules_numbered in
             let plain_r = every_member _ theory.rules rule is_step.1 rules_plain in
             let same_facts : facts ≡ facts_at w rule.facts = plain_step es good is_step.3 rule.facts plain_r facts is_step.5 in
-            let sorts : IsValuation (signature_of theory) w = λ x. (normal_has_sort es x.sort (is_step.3 x) (is_step.4 x).0, normal_over (signature_of theory).symbols es keeps (is_step.3 x) (is_step.4 x).1) in
-            let are_normal : (x : Variable) → IsNormal es (w x) = λ x. is_normal es good (is_step.3 x) in
+            let sorts : IsValuation (signature_of theory) w = λ x. (normal_has_sort es x.sort (is_step.3 x) (is_step.4 x).0, keeps.kept (is_step.3 x) (is_step.4 x).1) in
+            let are_normal : (x : Variable) → IsNormal es (w x) = λ x. good.is_normal (is_step.3 x) in
             let here : AtPosition log (v.times i) (step rule.name (facts_at w rule.facts) sources) =
             subst (λ (g : Facts ⊥). AtPosition log (v.times i) (step rule.name g sources)) same_facts (subst (λ (q : List ℕ). AtPosition log (v.times i) (step q facts sources)) (sym is_step.2) k) in
             let solved = step_solved N theory s rule i i_under numbered_r log v h n w sorts are_normal sources here in

@@ -2,19 +2,20 @@
 use Rattle.std.proofs.Common.{◌≡◌, ◌+◌, ◌-◌, ℕ, suc, Bool, true, false, if◌then◌else◌, List, [], ◌∷◌, map, length, refl, sym, ap, ◌∙◌, subst, inl, inr, arith, nat_lt, lt-ltb}
 use Rattle.std.proofs.lemmas.Bool.{ltb-true}
 use Rattle.sp_spec.specs.Lists.{Member, AtPosition}
-use Rattle.sp_spec.specs.Term.{Sort, Variable, Ground, Grounds, Values}
+use Rattle.sp_spec.specs.Term.{Sort, Variable, Ground, Grounds, Values, valued}
 use Rattle.sp_spec.specs.Signature.{Equation, IsValuation}
 use Rattle.sp_spec.specs.Equal.{AreNormal}
 use Rattle.sp_spec.specs.Rule.{Fact, Action, Facts, Rule, fact_at, action_at, facts_at, SameAction, AreNormalActions, IsNormalFormOf}
 use Rattle.sp_spec.specs.Theory.{Theory, signature_of}
-use Rattle.sp_spec.specs.Log.{Log, Entry, step, Source, entry_actions, log_trace, Fits, IsLog}
+use Rattle.sp_spec.specs.Log.{Log, Entry, step, send, learn, Source, entry_actions, log_trace, Fits, IsLog}
 use Rattle.sp_spec.proofs.Facts.{made_facts}
-use Rattle.sp_law_equal.specs.Convergent.{AreConvergent}
+use Rattle.sp_law_equal.specs.NormalForms.{HaveNormalForms}
 use Rattle.sp_law_equal.specs.Normal.{normal_fact, normal_action}
 use Rattle.sp_law_equal.proofs.Forms.{normals}
 use Rattle.sp_law_equal.proofs.Values.{equal_all_normal_same}
 use Rattle.sp_law_equal.proofs.Facts.{facts_normal_form_only}
-use Rattle.sp_spec_system.specs.Solutions.{Valuation}
+use Rattle.sp_spec_system.specs.System.{Happening, rule_step, sending, learning, happening_actions}
+use Rattle.sp_spec_system.specs.Solutions.{Valuation, how_at, HappensAt}
 use Rattle.sp_spec_system.specs.Covering.{Agrees}
 use Rattle.sp_law_system.specs.Rules.{FactsArePlain}
 use Rattle.sp_law_equal.proofs.PlainFacts.{plain_facts, plain_actions}
@@ -28,6 +29,12 @@ pub traced : (log : Log) (p : ℕ) (actions : List (Action ⊥)) → AtPosition 
 traced [] p actions a = absurd a
 traced (e ∷ log) p actions (inl a) = (e, inl (a.0 ∙ length_trace log, refl), sym a.1)
 traced (e ∷ log) p actions (inr a) = let r = traced log p actions a in (r.0, inr r.1, r.2)
+
+-- the entry of what happens, and that it shows the actions
+pub happened : (log : Log) (p : ℕ) (v : Valuation) (h : Happening) → HappensAt log p v h → (e : Entry) × AtPosition log p e × (entry_actions e ≡ map (action_at v.terms) (happening_actions h))
+happened log p v (rule_step r facts) k = (step r (facts_at v.terms facts) k.0, k.1, refl)
+happened log p v (sending m) k = (send (valued v.terms m), k, refl)
+happened log p v (learning m way) k = (learn (valued v.terms m) (how_at v way), k, refl)
 
 -- the entry is an instance of a rule
 abbrev pub IsStepOf : Theory → List ℕ → Facts ⊥ → Type 0
@@ -51,14 +58,14 @@ pub step_action_normal : (theory : Theory) (r : List ℕ) (facts : Facts ⊥) �
 step_action_normal theory r facts is b m = normal_among (signature_of theory).equations (facts_at is.3 is.0.facts).actions facts.actions is.5.actions b m
 
 -- two equal actions in normal form are the same
-pub same_normal_action : (es : List Equation) → AreConvergent es → (a b : Action ⊥) → AreNormal es a.args → AreNormal es b.args → SameAction es a b → a ≡ b
+pub same_normal_action : (es : List Equation) → HaveNormalForms es → (a b : Action ⊥) → AreNormal es a.args → AreNormal es b.args → SameAction es a b → a ≡ b
 same_normal_action es good a b m n h =
     let e = equal_all_normal_same es good a.args b.args m n h.1 in
     let make : List ℕ → Grounds → Action ⊥ = λ s ts. record { symbol = s; args = ts } in
     ap (λ (s : List ℕ). make s a.args) h.0 ∙ ap (λ (ts : Grounds). make b.symbol ts) e
 
 -- The facts of a plain rule under values in normal form are the normal form of those under the values.
-module _ (es : List Equation) (good : AreConvergent es) (v : Values) where
+module _ (es : List Equation) (good : HaveNormalForms es) (v : Values) where
   pub plain_step : (facts : Facts Variable) → FactsArePlain es facts → (g : Facts ⊥) → IsNormalFormOf es (facts_at v facts) g → g ≡ facts_at (normals es v) facts
   plain_step facts h g n =
       facts_normal_form_only es good (facts_at v facts) g n

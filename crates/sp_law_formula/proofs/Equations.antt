@@ -8,7 +8,7 @@ use Rattle.sp_spec.specs.Guarded.{free_time, same, same_time, Guarded, holds, te
 use Rattle.sp_spec.specs.Log.{Log}
 use Rattle.sp_spec.specs.Substitution.{Binding, bound_to}
 use Rattle.sp_spec.specs.Unifier.{mgu}
-use Rattle.sp_law_equal.specs.Convergent.{AreConvergent}
+use Rattle.sp_law_equal.specs.NormalForms.{HaveNormalForms}
 use Rattle.sp_law_equal.proofs.Values.{equal_normal_same}
 use Rattle.sp_spec.proofs.Same.{same_by_decides}
 use Rattle.sp_spec_system.specs.System.{Event, System}
@@ -53,7 +53,7 @@ same_ground t u c =
 same_number : (i j : ℕ) → Classically (i ≡ j) → i ≡ j
 same_number i j c = told (nat_eq i j) (eqb-true i j) (eq-eqb i j) c
 
-equation_holds : (theory : Theory) → AreConvergent (signature_of theory).equations → (log : Log) (v : Valuation) (f : Guarded) (e : Equation) → equation_of f ≡ Some e → FormulaHolds theory log v f → EquationHolds v e
+equation_holds : (theory : Theory) → HaveNormalForms (signature_of theory).equations → (log : Log) (v : Valuation) (f : Guarded) (e : Equation) → equation_of f ≡ Some e → FormulaHolds theory log v f → EquationHolds v e
 equation_holds theory good log v (holds (same t u)) e h k =
     let r = mapped equal_terms (pair_of t u) e h in
     let parts = pair_parts t u r.0 r.1 in
@@ -130,7 +130,7 @@ not_none theory log v None a b = b
 not_none theory log v (Some t) a b = cc
 
 module _ (N : Names) (right : UnifierIsRight) where
-  pub equate_covers : (theory : Theory) → AreConvergent (signature_of theory).equations → (s t : System) → equate s ≡ Some t → IsNumbered N s → Covers theory s (t ∷ [])
+  pub equate_covers : (theory : Theory) → HaveNormalForms (signature_of theory).equations → (s t : System) → equate s ≡ Some t → IsNumbered N s → Covers theory s (t ∷ [])
   equate_covers theory good s t e n =
       let q = then_some (λ r. equated (spending s r []) r.picked) (first_formula equation_of s.formulas) t e in
       let r = q.0 in
@@ -149,7 +149,7 @@ module _ (N : Names) (right : UnifierIsRight) where
       subst (NumberedFrom N s.next) q.2 (equated_numbered right (spending s r []) (spending_numbered equation_of s r found [] tt n) r.picked u)
 
   -- Failing unification: an equation that a solution makes true can be put into the system.
-  module _ (theory : Theory) (good : AreConvergent (signature_of theory).equations) (s : System) (n : IsNumbered N s) (log : Log) (v : Valuation) (h : Solves theory log v s) where
+  module _ (theory : Theory) (good : HaveNormalForms (signature_of theory).equations) (s : System) (n : IsNumbered N s) (log : Log) (v : Valuation) (h : Solves theory log v s) where
     fails_contradicts : (f : Guarded) (o : Option Equation) → equation_of f ≡ o → equation_fails s o ≡ true → FormulaHolds theory log v f → ⊥
     fails_contradicts f None k e l = absurd cc
     fails_contradicts f (Some q) k e l = not_none theory log v (equated s q) e (equated_solved right s n theory log v h q (equation_holds theory good log v f q k l))

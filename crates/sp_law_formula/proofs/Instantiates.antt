@@ -1,31 +1,30 @@
 -- The row on universal formulas covers: the values that it found are values of the binders, so the body holds at them.
 use Rattle.std.proofs.Common.{◌≡◌, ◌<◌, ℕ, true, List, [], ◌∷◌, map, length, Some, refl, sym, ap, ◌∙◌, subst, inl, inr, ◌++◌}
 use Rattle.sp_spec.specs.Lists.{Member, Every, AtPosition}
-use Rattle.sp_spec.specs.Term.{Names, Sort, Msg, Fresh, Pub, Variable, Term, var, constant, name, app, Terms, Ground, Grounds, Values, valued, valued_all}
+use Rattle.sp_spec.specs.Term.{Names, Sort, Msg, Fresh, Pub, Variable, Term, var, constant, name, app, Terms, Ground, Values, valued, valued_all}
 use Rattle.sp_spec.specs.Signature.{HasSort, IsOver, AreOver, IsValuation}
 use Rattle.sp_spec.specs.Equal.{Equal, end, IsNormal, AreNormal}
-use Rattle.sp_spec.specs.Rule.{Action, action_at, facts_at, AreNormalActions}
+use Rattle.sp_spec.specs.Rule.{Action, action_at}
 use Rattle.sp_spec.specs.Truth.{Acts}
 use Rattle.sp_spec.specs.Same.{same_sort}
 use Rattle.sp_spec.specs.Theory.{Theory, signature_of}
 use Rattle.sp_spec.specs.Guarded.{Place, free, bound, Binder, Atom, acts, same, same_time, before, last, Guarded, every, Assignment, action_in, term_in, time_in, AtomHolds, AtomsHold, EachValues, GuardedHolds}
-use Rattle.sp_spec.specs.Log.{Log, Entry, step, entry_actions, log_trace, IsLog}
-use Rattle.sp_law_equal.specs.Convergent.{AreConvergent, KeepSymbols}
+use Rattle.sp_spec.specs.Log.{Log, Entry, entry_actions, log_trace, IsLog}
+use Rattle.sp_law_equal.specs.NormalForms.{HaveNormalForms, KeepSymbols}
 use Rattle.sp_law_equal.proofs.Chains.{same_action_refl}
-use Rattle.sp_law_equal.proofs.Over.{normal_all_over}
-use Rattle.sp_law_equal.proofs.Values.{normal_forms_same}
-use Rattle.sp_spec_system.specs.System.{Happening, rule_step, Event, System, happening_actions}
-use Rattle.sp_spec_system.specs.Solutions.{Valuation, assignment, HappensAt, HappensIn, AtomSettled, Settled, FormulaHolds, Solves}
+use Rattle.sp_spec_system.specs.System.{Event, System, happening_actions}
+use Rattle.sp_spec_system.specs.Solutions.{Valuation, assignment, HappensIn, AtomSettled, Settled, FormulaHolds, Solves}
 use Rattle.sp_spec_system.specs.Numbered.{InFormula, IsNumbered}
 use Rattle.sp_spec_system.specs.Covering.{Covers}
 use Rattle.sp_spec.proofs.Lists.{every_append, every_all, every_member, every_weaken, position_below, member_map, every_from}
 use Rattle.sp_law_system.proofs.Changing.{changed_same, settled_same}
 use Rattle.sp_law_system.proofs.Solutions.{Under, TimeUnder}
 use Rattle.sp_spec_formula.specs.Instantiate.{instantiate}
-use Rattle.sp_law_system.specs.Rules.{ActionsAreOver}
+use Rattle.sp_law_system.specs.Rules.{InstancesAreOver}
 use Rattle.sp_spec_formula.specs.Instances.{is_of_sort, instance}
 use Rattle.sp_law_formula.proofs.Literals.{covers_by_itself}
-use Rattle.sp_law_formula.proofs.Entries.{length_trace, entry_is_step, step_action_normal}
+use Rattle.sp_law_formula.proofs.Entries.{length_trace, happened}
+use Rattle.sp_law_formula.proofs.Learnt.{entry_normal, entry_over}
 use Rattle.sp_law_formula.proofs.Slots.{some_same, slot_sorts}
 use Rattle.sp_law_formula.proofs.Matches.{Inherited}
 use Rattle.sp_law_formula.proofs.Guards.{IsGoodSide, HasGoodSides, value_at_good, StandsIn, SidesAreSame, sides_same, IsGoodEvent}
@@ -87,35 +86,20 @@ shown_at [] p e a = absurd a
 shown_at (d ∷ log) p e (inl a) = inl (a.0 ∙ sym (length_trace log), ap entry_actions a.1)
 shown_at (d ∷ log) p e (inr a) = inr (shown_at log p e a)
 
-module _ (N : Names) (theory : Theory) (good : AreConvergent (signature_of theory).equations) (keeps : KeepSymbols (signature_of theory).symbols (signature_of theory).equations)
-    (rules_over : ActionsAreOver theory) (log : Log) (is : IsLog theory log) (v : Valuation) where
-  -- the normal forms of actions over the signature are over it
-  forms_over : (xs ys : List (Action ⊥)) → AreNormalActions (signature_of theory).equations xs ys → Every (λ (a : Action ⊥). AreOver (signature_of theory).symbols a.args) xs
-      → Every (λ (a : Action ⊥). AreOver (signature_of theory).symbols a.args) ys
-  forms_over [] [] n h = tt
-  forms_over [] (y ∷ ys) n h = absurd n
-  forms_over (x ∷ xs) [] n h = absurd n
-  forms_over (x ∷ xs) (y ∷ ys) n h = (
-    subst (λ (ts : Grounds). AreOver (signature_of theory).symbols ts) (sym (normal_forms_same (signature_of theory).equations good x.args y.args n.1))
-        (normal_all_over (signature_of theory).symbols (signature_of theory).equations keeps x.args h.0),
-    forms_over xs ys n.2 h.1,
-  )
-
+module _ (N : Names) (theory : Theory) (good : HaveNormalForms (signature_of theory).equations) (keeps : KeepSymbols (signature_of theory).symbols (signature_of theory).equations)
+    (over : InstancesAreOver theory) (log : Log) (is : IsLog theory log) (v : Valuation) where
   -- the actions of an event are fine, and its time is a position
   event_fine : (e : Event) → HappensIn log v e → IsGoodEvent (IsFine theory v) (AreFine theory v) (fine_inherited theory v) (λ i. v.times i < length log) e
-  event_fine e h = at e.happening h
-    where
-      at : (x : Happening) → HappensAt log (v.times e.time) v.terms x → (v.times e.time < length log) × Every (λ (b : Action Variable). AreFine theory v b.args) (happening_actions x)
-      at (rule_step r facts) h =
-          let step_of = entry_is_step theory log is (v.times e.time) r (facts_at v.terms facts) h.0 h.1 in
-          let over = forms_over (facts_at step_of.3 step_of.0.facts).actions (facts_at v.terms facts).actions step_of.5.actions (rules_over step_of.0 step_of.1 step_of.3 step_of.4) in (
-            position_below log (v.times e.time) _ h.1,
-            every_from (λ (b : Action Variable). AreFine theory v b.args) facts.actions (λ b k.
-                let k' = member_map (action_at v.terms) b facts.actions k in (
-                  every_member (λ (a : Action ⊥). AreOver (signature_of theory).symbols a.args) (facts_at v.terms facts).actions (action_at v.terms b) k' over,
-                  step_action_normal theory r (facts_at v.terms facts) step_of (action_at v.terms b) k',
-                )),
-          )
+  event_fine e h =
+      let p = v.times e.time in
+      let d = happened log p v e.happening h in (
+        position_below log p d.0 d.1,
+        every_from (λ (b : Action Variable). AreFine theory v b.args) (happening_actions e.happening) (λ b k.
+            let shows = subst (Member (action_at v.terms b)) (sym d.2) (member_map (action_at v.terms) b (happening_actions e.happening) k) in (
+              entry_over theory good keeps over log is p d.0 d.1 (action_at v.terms b) shows,
+              entry_normal theory log is p d.0 d.1 (action_at v.terms b) shows,
+            )),
+      )
 
   -- what a guard's atom says holds: an action is one of an event, which the log has
   atom_holds : (m : Assignment) → m.terms ≡ v.terms → m.times ≡ v.times → (events : List Event) → Every (HappensIn log v) events → (a : Atom) → StandsIn events m a → SidesAreSame m a
@@ -123,19 +107,17 @@ module _ (N : Names) (theory : Theory) (good : AreConvergent (signature_of theor
   atom_holds m e k events h (acts a i) s d =
       let es = (signature_of theory).equations in
       let x = s.0 in
-      let found = at x.happening (every_member (HappensIn log v) events x s.1 h) s.3 in
+      let d = happened log (v.times x.time) v x.happening (every_member (HappensIn log v) events x s.1 h) in
+      let found : Acts es (log_trace log) (v.times x.time) (action_at v.terms s.2) = (
+        entry_actions d.0,
+        shown_at log (v.times x.time) d.0 d.1,
+        action_at v.terms s.2,
+        subst (Member (action_at v.terms s.2)) (sym d.2) (member_map (action_at v.terms) s.2 (happening_actions x.happening) s.3),
+        same_action_refl es (action_at v.terms s.2),
+      ) in
       let time : time_in m i ≡ v.times x.time = s.5 ∙ ap (λ (w : ℕ → ℕ). w x.time) k in
       let action : action_in m a ≡ action_at v.terms s.2 = s.4 ∙ ap (λ (w : Values). action_at w s.2) e in
       λ none. none (subst (λ (p : ℕ). Acts es (log_trace log) p (action_in m a)) (sym time) (subst (λ (b : Action ⊥). Acts es (log_trace log) (v.times x.time) b) (sym action) found))
-    where
-      at : (y : Happening) → HappensAt log (v.times s.0.time) v.terms y → Member s.2 (happening_actions y) → Acts (signature_of theory).equations (log_trace log) (v.times s.0.time) (action_at v.terms s.2)
-      at (rule_step r facts) l mb = (
-        (facts_at v.terms facts).actions,
-        shown_at log (v.times s.0.time) (step r (facts_at v.terms facts) l.0) l.1,
-        action_at v.terms s.2,
-        member_map (action_at v.terms) s.2 facts.actions mb,
-        same_action_refl (signature_of theory).equations (action_at v.terms s.2),
-      )
   atom_holds m e k events h (same t u) s d = λ none. none (subst (λ (g : Ground). Equal (signature_of theory).equations (term_in m t) g) d end)
   atom_holds m e k events h (same_time i j) s d = absurd d
   atom_holds m e k events h (before i j) s d = absurd d
@@ -171,7 +153,7 @@ module _ (N : Names) (theory : Theory) (good : AreConvergent (signature_of theor
         subst (λ (X : Type 0). X) (sym (settled_same N A B sig n c (assignment v) m reads f i)) settled.1,
       )
 
-pub instantiate_covers : {N : Names} → (theory : Theory) → AreConvergent (signature_of theory).equations → KeepSymbols (signature_of theory).symbols (signature_of theory).equations → ActionsAreOver theory
+pub instantiate_covers : {N : Names} → (theory : Theory) → HaveNormalForms (signature_of theory).equations → KeepSymbols (signature_of theory).symbols (signature_of theory).equations → InstancesAreOver theory
     → (s t : System) → instantiate s ≡ Some t → IsNumbered N s → Covers theory s (t ∷ [])
 instantiate_covers {N} theory good keeps over s t e n =
     let r = is_universal s t e in

@@ -1,12 +1,14 @@
 pub mod ActionCovers
 pub mod Actions
 pub mod Bound
+pub mod Destructions
 pub mod Disjunctions
 pub mod Entries
 pub mod Equations
 pub mod Freed
 pub mod Guards
 pub mod Instantiates
+pub mod Learnt
 pub mod Literals
 pub mod Matches
 pub mod Opened

@@ -2,22 +2,22 @@
 use Rattle.std.proofs.Common.{◌≡◌, ◌≤◌, ◌<◌, ℕ, Bool, true, false, if◌then◌else◌, List, [], ◌∷◌, Option, Some, None, option_map, option_and_then, refl, sym, ap, ◌∙◌, subst, le_refl, nat_lt, nat_eq}
 use Rattle.std.proofs.lemmas.Bool.{eqb-true}
 use Rattle.sp_spec.specs.Lists.{Every, AtPosition}
-use Rattle.sp_spec.specs.Term.{Names, Variable, Values, MadeOf}
+use Rattle.sp_spec.specs.Term.{Names, Variable, Values, MadeOf, valued}
 use Rattle.sp_spec.specs.Signature.{RespectsSorts}
 use Rattle.sp_spec.specs.Rule.{facts_at}
 use Rattle.sp_spec.specs.Theory.{Theory}
 use Rattle.sp_spec.specs.Substitution.{Binding, bound_to}
 use Rattle.sp_spec.specs.Unifier.{Pair, mgu}
-use Rattle.sp_spec.specs.Log.{Log, step}
+use Rattle.sp_spec.specs.Log.{Log, Entry, step, send, learn}
 use Rattle.sp_spec.proofs.Lists.{position_one}
-use Rattle.sp_spec_system.specs.System.{Happening, rule_step, Event, System, with_events}
-use Rattle.sp_spec_system.specs.Solutions.{Valuation, HappensAt, HappensIn, Solves}
+use Rattle.sp_spec_system.specs.System.{Happening, rule_step, sending, learning, Event, System, with_events}
+use Rattle.sp_spec_system.specs.Solutions.{Valuation, how_at, HappensAt, HappensIn, Solves}
 use Rattle.sp_spec_system.specs.Numbered.{InHappening, InEvent, IsNumbered}
 use Rattle.sp_law_system.specs.Laws.{UnifierIsRight}
 use Rattle.sp_spec_system.specs.Equating.{merging_pairs, unifier_of, smaller, larger, merged_system}
 use Rattle.sp_spec.specs.Change.{time_replaced}
 use Rattle.sp_law_system.proofs.Unifying.{mgu_within}
-use Rattle.sp_law_system.proofs.Merging.{Paired, merging_paired, OptionUnder, merging_under}
+use Rattle.sp_law_system.proofs.Merging.{Paired, merging_paired, message_paired, OptionUnder, merging_under}
 use Rattle.sp_law_system.proofs.Solutions.{Under, TimeUnder, change_solves, change_numbered}
 use Rattle.sp_spec_system.specs.MakingOne.{MergingEvents, merging_behind, merging_with, merging_from, merging_events, merged_events}
 use Rattle.sp_spec.proofs.Options.{mapped}
@@ -74,15 +74,31 @@ module _ (are_one : Event → Event → Bool) (P : Event → Type 0) where
           let t = later q.0 q.1 in
           subst (AreMerging are_one P) (sym q.2) (record { first = t.first; second = t.second; others = (k.0, t.others); one = t.one })
 
--- what happens at one position has the same facts
-pub one_happening : {N : Names} → (log : Log) (v : Values) (n p q : ℕ) (a b : Happening) → p ≡ q → HappensAt log p v a → HappensAt log q v b → InHappening N (Under n) a → InHappening N (Under n) b → Paired N v n (merging_pairs a b)
+one_entry : (log : Log) (p q : ℕ) (d e : Entry) → p ≡ q → AtPosition log p d → AtPosition log q e → d ≡ e
+one_entry log p q d e same h k = position_one log q d e (subst (λ (x : ℕ). AtPosition log x d) same h) k
+
+-- what happens at one position is of one kind, and has the same facts or the same message
+pub one_happening : {N : Names} → (log : Log) (v : Valuation) (n p q : ℕ) (a b : Happening) → p ≡ q → HappensAt log p v a → HappensAt log q v b
+    → InHappening N (Under n) (TimeUnder n) a → InHappening N (Under n) (TimeUnder n) b → Paired N v.terms n (merging_pairs a b)
 one_happening log v n p q (rule_step r f) (rule_step u g) same h k i j =
-    let d = step r (facts_at v f) h.0 in
-    let e = step u (facts_at v g) k.0 in
-    let entry : d ≡ e = position_one log q d e (subst (λ (x : ℕ). AtPosition log x d) same h.1) k.1 in
+    let entry = one_entry log p q (step r (facts_at v.terms f) h.0) (step u (facts_at v.terms g) k.0) same h.1 k.1 in
     let named : r ≡ u = cc in
-    let facts : facts_at v f ≡ facts_at v g = cc in
-    merging_paired v n r u f g i j named facts
+    let facts : facts_at v.terms f ≡ facts_at v.terms g = cc in
+    merging_paired v.terms n r u f g i j named facts
+one_happening log v n p q (sending m) (sending u) same h k i j =
+    let entry = one_entry log p q (send (valued v.terms m)) (send (valued v.terms u)) same h k in
+    let message : valued v.terms m ≡ valued v.terms u = cc in
+    message_paired v.terms n m u i j message
+one_happening log v n p q (learning m way) (learning u other) same h k i j =
+    let entry = one_entry log p q (learn (valued v.terms m) (how_at v way)) (learn (valued v.terms u) (how_at v other)) same h k in
+    let message : valued v.terms m ≡ valued v.terms u = cc in
+    message_paired v.terms n m u i.0 j.0 message
+one_happening log v n p q (rule_step r f) (sending u) same h k i j = absurd (let entry = one_entry log p q (step r (facts_at v.terms f) h.0) (send (valued v.terms u)) same h.1 k in cc)
+one_happening log v n p q (rule_step r f) (learning u other) same h k i j = absurd (let entry = one_entry log p q (step r (facts_at v.terms f) h.0) (learn (valued v.terms u) (how_at v other)) same h.1 k in cc)
+one_happening log v n p q (sending m) (rule_step u g) same h k i j = absurd (let entry = one_entry log p q (send (valued v.terms m)) (step u (facts_at v.terms g) k.0) same h k.1 in cc)
+one_happening log v n p q (sending m) (learning u other) same h k i j = absurd (let entry = one_entry log p q (send (valued v.terms m)) (learn (valued v.terms u) (how_at v other)) same h k in cc)
+one_happening log v n p q (learning m way) (rule_step u g) same h k i j = absurd (let entry = one_entry log p q (learn (valued v.terms m) (how_at v way)) (step u (facts_at v.terms g) k.0) same h k.1 in cc)
+one_happening log v n p q (learning m way) (sending u) same h k i j = absurd (let entry = one_entry log p q (learn (valued v.terms m) (how_at v way)) (send (valued v.terms u)) same h k in cc)
 
 pub replaced_same : (times : ℕ → ℕ) (a b : ℕ) → times a ≡ times b → (i : ℕ) → times (time_replaced (smaller a b) (larger a b) i) ≡ times i
 replaced_same times a b e i = at (nat_lt b a)
@@ -156,7 +172,7 @@ module _ {N : Names} (right : UnifierIsRight) (are_one : Event → Event → Boo
       solved = merging_are are_one (HappensIn log v) s.events r found h.events
 
       paired : Paired N v.terms s.next (merging_pairs r.first.happening r.second.happening)
-      paired = one_happening log v.terms s.next (v.times r.first.time) (v.times r.second.time) r.first.happening r.second.happening same solved.first solved.second merging_numbered.first.1 merging_numbered.second.1
+      paired = one_happening log v s.next (v.times r.first.time) (v.times r.second.time) r.first.happening r.second.happening same solved.first solved.second merging_numbered.first.1 merging_numbered.second.1
 
       without_solved : Solves theory log v without
       without_solved = events_solve theory log v s h r.others solved.others

@@ -9,10 +9,9 @@ use Rattle.sp_spec.specs.Theory.{Theory, signature_of}
 use Rattle.sp_spec.specs.Guarded.{Binder, message, time, Atom, Guarded, holds, some, Assignment, with_term, with_time, AtomsHold, GuardedHolds}
 use Rattle.sp_spec.specs.Log.{Log, log_trace}
 use Rattle.sp_law_equal.specs.Normal.{normal}
-use Rattle.sp_law_equal.specs.Convergent.{AreConvergent, KeepSymbols}
+use Rattle.sp_law_equal.specs.NormalForms.{HaveNormalForms, KeepSymbols}
 use Rattle.sp_law_equal.proofs.Chains.{equal_refl}
-use Rattle.sp_law_equal.proofs.Forms.{normal_has_sort, to_normal, is_normal}
-use Rattle.sp_law_equal.proofs.Over.{normal_over}
+use Rattle.sp_law_equal.proofs.Forms.{normal_has_sort, to_normal}
 use Rattle.sp_spec.specs.Change.{Change, atom_changed, changed, opened, opening, free_change}
 use Rattle.sp_spec_system.specs.System.{System}
 use Rattle.sp_spec_system.specs.Solutions.{Valuation, assignment, AtomSettled, Settled, FormulaHolds, Solves}
@@ -37,7 +36,7 @@ EqualTruth = (signature : Signature) (trace : Trace) (f : Guarded) (m w : Assign
     → ((k : ℕ) → Equal signature.equations (m.bound_terms k) (w.bound_terms k)) → ((k : ℕ) → m.bound_times k ≡ w.bound_times k)
     → GuardedHolds signature trace m f → GuardedHolds signature trace w f
 
-module _ (N : Names) (theory : Theory) (good : AreConvergent (signature_of theory).equations) (keeps : KeepSymbols (signature_of theory).symbols (signature_of theory).equations) (equal_truth : EqualTruth) where
+module _ (N : Names) (theory : Theory) (good : HaveNormalForms (signature_of theory).equations) (keeps : KeepSymbols (signature_of theory).symbols (signature_of theory).equations) (equal_truth : EqualTruth) where
   module _ (log : Log) (guard : List Atom) (f : Guarded) (base : ℕ) where
     -- what the opened formula's parts are under some values that agree
     abbrev Parts : Assignment → Type 0
@@ -52,8 +51,8 @@ module _ (N : Names) (theory : Theory) (good : AreConvergent (signature_of theor
     opened_holds (message sort ∷ bs) next c w m o h k none = h (λ y.
         let es = (signature_of theory).equations in
         let t = normal es y.0 in
-        let value : IsValue (signature_of theory) sort t = (normal_has_sort es sort y.0 y.1.0, normal_over (signature_of theory).symbols es keeps y.0 y.1.1) in
-        let normal_t = is_normal es good y.0 in
+        let value : IsValue (signature_of theory) sort t = (normal_has_sort es sort y.0 y.1.0, keeps.kept y.0 y.1.1) in
+        let normal_t = good.is_normal y.0 in
         let h' = equal_truth (signature_of theory) (log_trace log) (some bs guard f) (with_term y.0 m) (with_term t m)
         (λ x. equal_refl es (m.terms x)) (λ i. refl) (bound_equal y.0) (λ i. refl) y.2 in
         opened_holds bs (suc next) (put_message c sort next) (with_value w (record { sort = sort; number = next }) t) (with_term t m)

@@ -2,13 +2,12 @@
 use Rattle.std.proofs.Common.{◌≡◌, ◌≤◌, ℕ, zero, suc, Bool, true, false, if◌then◌else◌, ◌||◌, List, [], ◌∷◌, length, Option, Some, None, refl, sym, ◌∙◌, subst, le_refl, ◌++◌}
 use Rattle.sp_spec.specs.Lists.{Member, Every}
 use Rattle.sp_spec.specs.Term.{Names, Variable, Term, var, constant, name, app, Terms, MadeOf, AllMadeOf}
-use Rattle.sp_spec.specs.Rule.{Action}
 use Rattle.sp_spec.specs.Guarded.{Place, free, bound, bound_time, Binder, message, time, Atom, acts, same, same_time, before, last, Guarded, truth, falsity, holds, fails, all_of, one_of, some, every, Assignment}
 use Rattle.sp_spec.specs.Change.{changed}
-use Rattle.sp_spec_system.specs.System.{Happening, rule_step, Event, System, happening_actions}
-use Rattle.sp_spec_system.specs.Numbered.{AtFree, AtFreeTime, InAtom, InFormula, InHappening, InEvent, IsNumbered}
+use Rattle.sp_spec_system.specs.System.{Event, System}
+use Rattle.sp_spec_system.specs.Numbered.{AtFree, AtFreeTime, InAtom, InFormula, InEvent, IsNumbered}
 use Rattle.sp_spec.proofs.Lists.{every_append, every_member, every_weaken}
-use Rattle.sp_law_system.proofs.Numbers.{each_valued, PutsIn, changed_in}
+use Rattle.sp_law_system.proofs.Numbers.{each_valued, happening_made, PutsIn, changed_in}
 use Rattle.sp_law_system.proofs.Solutions.{Under, TimeUnder}
 use Rattle.sp_spec_system.specs.Picked.{first_some}
 use Rattle.sp_spec_formula.specs.Disjunction.{is_a_formula}
@@ -129,10 +128,7 @@ module _ (N : Names) (P : Variable → Type 0) (B : ℕ → Type 0) where
   sides_in (last i) h = tt
 
   event_in : (e : Event) → InEvent N P B e → IsGoodEvent (MadeOf N P) (AllMadeOf N P) variables_inherited B e
-  event_in e h = (h.0, at e.happening h.1)
-    where
-      at : (h : Happening) → InHappening N P h → Every (λ (b : Action Variable). AllMadeOf N P b.args) (happening_actions h)
-      at (rule_step r facts) k = k.actions
+  event_in e h = (h.0, (happening_made N P B e.happening h.1).actions)
 
   instance_puts : (ts : List (Term Variable)) (js : List ℕ) → Every (MadeOf N P) ts → Every B js → PutsIn N P P B B (instance ts js)
   instance_puts ts js h k = record { terms = λ x l. l; times = λ i l. l; bound_terms = terms ts h; bound_times = times js k }

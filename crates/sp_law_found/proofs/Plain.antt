@@ -3,15 +3,15 @@ use Rattle.std.proofs.Common.{◌≡◌, List, map, ap, ◌∙◌}
 use Rattle.sp_spec.specs.Term.{Variable, Values}
 use Rattle.sp_spec.specs.Signature.{Signature, Equation, IsValuation}
 use Rattle.sp_spec.specs.Rule.{Fact, Action, Facts, fact_at, action_at, facts_at, IsNormalFormOf, OfArguments}
-use Rattle.sp_law_equal.specs.Convergent.{AreConvergent, KeepSymbols, ArePlain}
+use Rattle.sp_law_equal.specs.NormalForms.{HaveNormalForms, KeepSymbols}
+use Rattle.sp_law_equal.specs.Destructors.{ArePlain}
 use Rattle.sp_law_equal.specs.Normal.{normal_fact, normal_action}
 use Rattle.sp_law_equal.proofs.Forms.{normals, normal_has_sort}
-use Rattle.sp_law_equal.proofs.Over.{normal_over}
 use Rattle.sp_law_equal.proofs.Facts.{facts_normal_form_only}
 use Rattle.sp_spec.proofs.Facts.{made_facts}
 use Rattle.sp_law_equal.proofs.PlainFacts.{plain_facts, plain_actions}
 
-module _ (es : List Equation) (good : AreConvergent es) (v : Values) where
+module _ (es : List Equation) (good : HaveNormalForms es) (v : Values) where
   pub plain_instance : (p : Facts Variable) → OfArguments (ArePlain es) p → (g : Facts ⊥) → IsNormalFormOf es (facts_at v p) g → g ≡ facts_at (normals es v) p
   plain_instance p h g n =
       facts_normal_form_only es good (facts_at v p) g n
@@ -23,4 +23,4 @@ module _ (es : List Equation) (good : AreConvergent es) (v : Values) where
 pub normal_valuation : (signature : Signature) → KeepSymbols signature.symbols signature.equations → (v : Values) → IsValuation signature v
     → IsValuation signature (normals signature.equations v)
 normal_valuation signature keeps v h x =
-    (normal_has_sort signature.equations x.sort (v x) (h x).0, normal_over signature.symbols signature.equations keeps (v x) (h x).1)
+    (normal_has_sort signature.equations x.sort (v x) (h x).0, keeps.kept (v x) (h x).1)

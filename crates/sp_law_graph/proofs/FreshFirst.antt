@@ -1,18 +1,20 @@
 -- Fresh comes first: whoever has a fresh name in a premise other than an Fr is later than the event that uses the name's Fr.
 use Rattle.std.proofs.Common.{◌≡◌, ◌⊎◌, ◌≤◌, ◌<◌, ℕ, zero, suc, Bool, true, false, ◌&&◌, not, if◌then◌else◌, List, [], ◌∷◌, ◌++◌, map, length, Some, refl, sym, ap, ◌∙◌, subst, inl, inr, ⊎_elim, le_refl}
 use Rattle.std.proofs.lemmas.Bool.{or_cases, and_parts, not-true}
-use Rattle.sp_spec.specs.Lists.{Member, Every, AtPlace}
+use Rattle.sp_spec.specs.Lists.{Member, Every, AtPlace, AtPosition}
 use Rattle.sp_spec.specs.Term.{Names, Sort, Fresh, Variable, Term, var, constant, name, app, Terms, none, more, Ground, Values, valued, valued_all}
 use Rattle.sp_spec.specs.Signature.{HasSort, RespectsSorts}
 use Rattle.sp_spec.specs.Rule.{Fact, Facts, fact_at, facts_at}
 use Rattle.sp_spec.specs.Theory.{Theory, signature_of}
 use Rattle.sp_spec.specs.Same.{alike}
-use Rattle.sp_spec.specs.Log.{Log, step, IsLog, is_fr, fresh_of}
-use Rattle.sp_spec.proofs.Lists.{every_append, every_member, every_weaken, member_mapped, place_map, position_below}
-use Rattle.sp_law_equal.specs.Convergent.{AreConvergent, IsPart, IsPartOfOne}
+use Rattle.sp_spec.specs.Log.{Log, Entry, learn, IsLog, Fits, is_fr, fresh_of, fresh_uses}
+use Rattle.sp_spec.specs.Log as how
+use Rattle.sp_spec.proofs.Lists.{every_append, every_member, every_weaken, member_mapped, position_below}
+use Rattle.sp_law_equal.specs.NormalForms.{HaveNormalForms}
+use Rattle.sp_law_equal.specs.Parts.{IsPart, IsPartOfOne}
 use Rattle.sp_law_equal.proofs.Parts.{part_itself}
-use Rattle.sp_spec_system.specs.System.{Happening, rule_step, happening_premises, Event, System, with_pairs}
-use Rattle.sp_spec_system.specs.Solutions.{HappensAt, HappensIn, IsBefore, Solves}
+use Rattle.sp_spec_system.specs.System.{public_name, own_name, constructed, by_chain, Happening, rule_step, sending, learning, happening_premises, Event, System, with_pairs}
+use Rattle.sp_spec_system.specs.Solutions.{Valuation, HappensAt, HappensIn, IsBefore, Solves}
 use Rattle.sp_spec_system.specs.Numbered.{InEvent, IsNumbered}
 use Rattle.sp_spec_system.specs.Covering.{Covers}
 use Rattle.sp_spec_system.specs.Order.{is_before}
@@ -23,7 +25,9 @@ use Rattle.sp_spec_system.specs.Picked.{if_any, first_some}
 use Rattle.sp_law_system.specs.Rules.{RulesArePlain, IsClosedRule}
 use Rattle.sp_spec.proofs.Options.{mapped}
 use Rattle.sp_law_formula.proofs.Literals.{alike_same, covers_by_itself}
-use Rattle.sp_law_graph.proofs.FreshOnce.{one_position, fresh_values, fresh_member}
+use Rattle.sp_law_formula.proofs.Entries.{happened}
+use Rattle.sp_law_graph.proofs.FreshOnce.{one_position, fresh_values, fresh_member, happening_uses}
+use Rattle.sp_law_graph.proofs.Sources.{taker}
 use Rattle.sp_law_graph.proofs.Origins.{HaveFresh, closed_step, fresh_origin}
 use Rattle.sp_law_formula.proofs.Matches.{some_picked}
 use Rattle.sp_spec.proofs.Sorts.{is_name}
@@ -112,21 +116,40 @@ fresh_name v sorts fs h t m =
     let whole : v x.0 ≡ t = ap (valued v) (sym x.2) ∙ u.2 in
     is_name t (subst (λ (s : Sort). HasSort s t) x.1 (subst (HasSort x.0.sort) whole (sorts x.0)))
 
--- what happens does so at a position of the log
-happens_below : (log : Log) (v : Values) (p : ℕ) (h : Happening) → HappensAt log p v h → p < length log
-happens_below log v p (rule_step r facts) h = position_below log p (step r (facts_at v facts) h.0) h.1
+-- the adversary's own names are fresh
+own_sort : (theory : Theory) (log : Log) → IsLog theory log → (p : ℕ) (m : Ground) → AtPosition log p (learn m how.own_name) → HasSort Fresh m
+own_sort theory [] is p m a = absurd a
+own_sort theory (e ∷ past) is p m (inl a) = (subst (λ (x : Entry). Fits theory x past) a.1 is.1).1
+own_sort theory (e ∷ past) is p m (inr a) = own_sort theory past is.0 p m a
 
-module _ (theory : Theory) (good : AreConvergent (signature_of theory).equations) (rules_plain : RulesArePlain (signature_of theory).equations theory.rules) (rules_closed : Every IsClosedRule theory.rules) where
-  taken_later : (log : Log) → IsLog theory log → (v : Values) (p q : ℕ) (a b : Happening) (t : Term Variable) → HappensAt log p v a → Member t (happening_fresh a)
+-- what happens does so at a position of the log
+happens_below : (log : Log) (v : Valuation) (p : ℕ) (h : Happening) → HappensAt log p v h → p < length log
+happens_below log v p h k = let d = happened log p v h k in position_below log p d.0 d.1
+
+module _ (theory : Theory) (good : HaveNormalForms (signature_of theory).equations) (rules_plain : RulesArePlain (signature_of theory).equations theory.rules) (rules_closed : Every IsClosedRule theory.rules) where
+  -- what is used as an Fr is a name
+  used_name : (log : Log) → IsLog theory log → (v : Valuation) (p : ℕ) (a : Happening) (t : Term Variable) → HappensAt log p v a → Member t (happening_fresh a) → (n : ℕ) × (valued v.terms t ≡ name n)
+  used_name log is v p (rule_step r f) t h m =
+      let c = closed_step theory good rules_plain rules_closed log is p r (facts_at v.terms f) h.0 h.1 in
+      fresh_name c.values c.sorts c.rule.facts.premises c.closed.fresh (valued v.terms t)
+      (subst (λ (x : Facts ⊥). Member (valued v.terms t) (fresh_of x.premises)) c.is (fresh_member v.terms t f.premises m))
+  used_name log is v p (sending u) t h m = absurd m
+  used_name log is v p (learning u own_name) t h (inl e) = is_name (valued v.terms t) (subst (λ (x : Term Variable). HasSort Fresh (valued v.terms x)) e (own_sort theory log is p (valued v.terms u) h))
+  used_name log is v p (learning u own_name) t h (inr m) = absurd m
+  used_name log is v p (learning u public_name) t h m = absurd m
+  used_name log is v p (learning u constructed) t h m = absurd m
+  used_name log is v p (learning u (by_chain i k ts)) t h m = absurd m
+
+  taken_later : (log : Log) → IsLog theory log → (v : Valuation) (p q : ℕ) (a b : Happening) (t : Term Variable) → HappensAt log p v a → Member t (happening_fresh a)
       → HappensAt log q v b → has_taken t (happening_premises b) ≡ true → p < q
-  taken_later log is v p q (rule_step r f) (rule_step u g) t h m k e =
-      let used = fresh_member v t f.premises m in
-      let c = closed_step theory good rules_plain rules_closed log is p r (facts_at v f) h.0 h.1 in
-      let n = fresh_name c.values c.sorts c.rule.facts.premises c.closed.fresh (valued v t) (subst (λ (x : Facts ⊥). Member (valued v t) (fresh_of x.premises)) c.is used) in
-      let w = taken_there t g.premises e in
-      let part : IsPartOfOne (name n.0) (valued_all v w.1.args) = subst (λ (x : Ground). IsPartOfOne x (valued_all v w.1.args)) n.1 (occurs_parts v t w.1.args w.4) in
-      let o = fresh_origin theory good rules_plain rules_closed log is n.0 q u (facts_at v g) k.0 k.1 w.0 (fact_at v w.1) (place_map (fact_at v) g.premises w.0 w.1 w.2) w.3 part in
-      let one = one_position theory log is o.position p o.entry (step r (facts_at v f) h.0) (name n.0) o.there h.1 o.uses (subst (λ (x : Ground). Member x (fresh_of (map (fact_at v) f.premises))) n.1 used) in
+  taken_later log is v p q a b t h m k e =
+      let n = used_name log is v p a t h m in
+      let d = happening_uses log p v a h t m in
+      let w = taken_there t (happening_premises b) e in
+      let y = taker log q v b k w.0 w.1 w.2 in
+      let part : IsPartOfOne (name n.0) (valued_all v.terms w.1.args) = subst (λ (x : Ground). IsPartOfOne x (valued_all v.terms w.1.args)) n.1 (occurs_parts v.terms t w.1.args w.4) in
+      let o = fresh_origin theory good rules_plain rules_closed log is n.0 q y.0 y.1 y.2 y.3 w.0 (fact_at v.terms w.1) y.4 w.3 part in
+      let one = one_position theory log is o.position p o.entry d.0 (name n.0) o.there d.1 o.uses (subst (λ (x : Ground). Member x (fresh_uses d.0)) n.1 d.2) in
       subst (λ (x : ℕ). x < q) one o.earlier
 
   pub fresh_first_covers : (s t : System) → fresh_first s ≡ Some t → Covers theory s (t ∷ [])
@@ -135,7 +158,7 @@ module _ (theory : Theory) (good : AreConvergent (signature_of theory).equations
       covers_by_itself theory s t (λ log is v h.
       let user = every_member (HappensIn log v) s.events a.event a.stands h.events in
       let later = every_weaken (HappensIn log v) (λ (d : Event). has_taken a.term (happening_premises d.happening) ≡ true → IsBefore log v (a.event.time, d.time))
-      (λ d k l. (taken_later log is v.terms (v.times a.event.time) (v.times d.time) a.event.happening d.happening a.term user a.uses k l, happens_below log v.terms (v.times d.time) d.happening k)) s.events h.events in
+      (λ d k l. (taken_later log is v (v.times a.event.time) (v.times d.time) a.event.happening d.happening a.term user a.uses k l, happens_below log v (v.times d.time) d.happening k)) s.events h.events in
       let pairs = missing_each (IsBefore log v) s.order a.event.time a.term s.events later in
       let all = s.order ++ missing_pairs s.order a.event.time a.term s.events in
       subst (Solves theory log v) (sym a.is) (order_solves theory log v s h all (every_append (IsBefore log v) s.order (missing_pairs s.order a.event.time a.term s.events) h.order pairs)))

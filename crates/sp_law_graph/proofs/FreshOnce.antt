@@ -6,10 +6,10 @@ use Rattle.sp_spec.specs.Term.{Names, Variable, Term, Terms, none, more, Ground,
 use Rattle.sp_spec.specs.Rule.{Fact, fact_at, facts_at}
 use Rattle.sp_spec.specs.Theory.{Theory}
 use Rattle.sp_spec.specs.Same.{alike}
-use Rattle.sp_spec.specs.Log.{Log, Entry, step, IsLog, is_fr, first_arg, fresh_of, fresh_uses, all_fresh_uses}
+use Rattle.sp_spec.specs.Log.{Log, Entry, step, send, learn, IsLog, is_fr, first_arg, fresh_of, fresh_uses, all_fresh_uses}
 use Rattle.sp_spec.proofs.Lists.{member_map, member_left, member_right, distinct_apart, distinct_left}
-use Rattle.sp_spec_system.specs.System.{Happening, rule_step, Event, System}
-use Rattle.sp_spec_system.specs.Solutions.{Valuation, HappensAt, HappensIn, Solves}
+use Rattle.sp_spec_system.specs.System.{public_name, own_name, constructed, by_chain, Happening, rule_step, sending, learning, Event, System}
+use Rattle.sp_spec_system.specs.Solutions.{Valuation, how_at, HappensAt, HappensIn, Solves}
 use Rattle.sp_spec_system.specs.Numbered.{InEvent, IsNumbered}
 use Rattle.sp_spec_system.specs.Covering.{Covers}
 use Rattle.sp_law_system.specs.Laws.{UnifierIsRight}
@@ -67,14 +67,31 @@ shared_member (t ∷ ts) us e =
     (λ k. let r = shared_member ts us k in (r.0, inr r.1, r.2))
     (or_cases (stands_in t us) (share_one ts us) e)
 
+-- the entry of what happens uses the values of the terms that this uses
+happening_values : (log : Log) (p : ℕ) (v : Valuation) (h : Happening) → HappensAt log p v h → (e : Entry) × AtPosition log p e × (fresh_uses e ≡ map (valued v.terms) (happening_fresh h))
+happening_values log p v (rule_step r facts) k = (step r (facts_at v.terms facts) k.0, k.1, fresh_values v.terms facts.premises)
+happening_values log p v (sending m) k = (send (valued v.terms m), k, refl)
+happening_values log p v (learning m public_name) k = (learn (valued v.terms m) (how_at v public_name), k, refl)
+happening_values log p v (learning m own_name) k = (learn (valued v.terms m) (how_at v own_name), k, refl)
+happening_values log p v (learning m constructed) k = (learn (valued v.terms m) (how_at v constructed), k, refl)
+happening_values log p v (learning m (by_chain i c ts)) k = (learn (valued v.terms m) (how_at v (by_chain i c ts)), k, refl)
+
+pub happening_uses : (log : Log) (p : ℕ) (v : Valuation) (h : Happening) → HappensAt log p v h → (t : Term Variable) → Member t (happening_fresh h)
+    → (e : Entry) × AtPosition log p e × Member (valued v.terms t) (fresh_uses e)
+happening_uses log p v h k t m =
+    let d = happening_values log p v h k in
+    (d.0, d.1, subst (Member (valued v.terms t)) (sym d.2) (member_map (valued v.terms) t (happening_fresh h) m))
+
 -- two happenings that use one Fr are at one position
-one_time : (theory : Theory) (log : Log) → IsLog theory log → (v : Values) (p q : ℕ) (a b : Happening) → HappensAt log p v a → HappensAt log q v b → share_one (happening_fresh a) (happening_fresh b) ≡ true → p ≡ q
-one_time theory log is v p q (rule_step r f) (rule_step u g) h k s =
-    let t = shared_member (fresh_terms f.premises) (fresh_terms g.premises) s in
-    one_position theory log is p q (step r (facts_at v f) h.0) (step u (facts_at v g) k.0) (valued v t.0) h.1 k.1 (fresh_member v t.0 f.premises t.1) (fresh_member v t.0 g.premises t.2)
+one_time : (theory : Theory) (log : Log) → IsLog theory log → (v : Valuation) (p q : ℕ) (a b : Happening) → HappensAt log p v a → HappensAt log q v b → share_one (happening_fresh a) (happening_fresh b) ≡ true → p ≡ q
+one_time theory log is v p q a b h k s =
+    let t = shared_member (happening_fresh a) (happening_fresh b) s in
+    let d = happening_uses log p v a h t.0 t.1 in
+    let e = happening_uses log q v b k t.0 t.2 in
+    one_position theory log is p q d.0 e.0 (valued v.terms t.0) d.1 e.1 d.2 e.2
 
 one_event : (theory : Theory) (log : Log) → IsLog theory log → (v : Valuation) (d e : Event) → HappensIn log v d → HappensIn log v e → shares_fresh d e ≡ true → v.times d.time ≡ v.times e.time
-one_event theory log is v d e h k s = one_time theory log is v.terms (v.times d.time) (v.times e.time) d.happening e.happening h k s
+one_event theory log is v d e h k s = one_time theory log is v (v.times d.time) (v.times e.time) d.happening e.happening h k s
 
 -- what holds of the times of two events that use one Fr
 fresh_times : (P : Event → Type 0) (X : ℕ × ℕ → Type 0) (events : List Event) (p : ℕ × ℕ) → times_of_fresh events ≡ Some p → Every P events
@@ -118,14 +135,15 @@ repeats_contradicts v [] e d = absurd cc
 repeats_contradicts v (t ∷ ts) e d =
     ⊎_elim (λ k. d.0 (member_map (valued v) t ts (stands_member t ts k))) (λ k. repeats_contradicts v ts k d.1) (or_cases (stands_in t ts) (repeats ts) e)
 
-fr_contradicts : (theory : Theory) (log : Log) → IsLog theory log → (v : Values) (p : ℕ) (a : Happening) → HappensAt log p v a → repeats (happening_fresh a) ≡ true → ⊥
-fr_contradicts theory log is v p (rule_step r f) h e =
-    repeats_contradicts v (fresh_terms f.premises) e (subst Distinct (fresh_values v f.premises) (entry_distinct theory log is p (step r (facts_at v f) h.0) h.1))
+fr_contradicts : (theory : Theory) (log : Log) → IsLog theory log → (v : Valuation) (p : ℕ) (a : Happening) → HappensAt log p v a → repeats (happening_fresh a) ≡ true → ⊥
+fr_contradicts theory log is v p a h e =
+    let d = happening_values log p v a h in
+    repeats_contradicts v.terms (happening_fresh a) e (subst Distinct d.2 (entry_distinct theory log is p d.0 d.1))
 
 pub fr_twice_contradicts : (theory : Theory) (log : Log) → IsLog theory log → (v : Valuation) (es : List Event) → takes_fr_twice es ≡ true → Every (HappensIn log v) es → ⊥
 fr_twice_contradicts theory log is v [] e h = absurd cc
 fr_twice_contradicts theory log is v (d ∷ es) e h =
     ⊎_elim
-    (λ k. fr_contradicts theory log is v.terms (v.times d.time) d.happening h.0 k)
+    (λ k. fr_contradicts theory log is v (v.times d.time) d.happening h.0 k)
     (λ k. fr_twice_contradicts theory log is v es k h.1)
     (or_cases (repeats (happening_fresh d.happening)) (takes_fr_twice es) e)

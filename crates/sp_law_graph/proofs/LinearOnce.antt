@@ -4,11 +4,11 @@ use Rattle.std.proofs.Common.{◌≡◌, ◌≤◌, ◌<◌, ℕ, Bool, true, fa
 use Rattle.std.proofs.lemmas.Bool.{or_cases, and_parts, eqb-true, eq-eqb}
 use Rattle.sp_spec.specs.Lists.{Every, AtPlace, AtPosition}
 use Rattle.sp_spec.specs.Term.{Names, Variable}
-use Rattle.sp_spec.specs.Rule.{Fact, Facts, fact_at, facts_at}
+use Rattle.sp_spec.specs.Rule.{Fact, Facts, fact_at}
 use Rattle.sp_spec.specs.Theory.{Theory}
 use Rattle.sp_spec.specs.Log.{Log, step, Source, conclusion, IsLog}
-use Rattle.sp_spec.proofs.Lists.{every_member, place_map, position_one, place_got}
-use Rattle.sp_spec_system.specs.System.{Happening, rule_step, Event, Link, System, happening_premises}
+use Rattle.sp_spec.proofs.Lists.{every_member, position_one, place_got}
+use Rattle.sp_spec_system.specs.System.{Happening, Event, Link, System, happening_premises}
 use Rattle.sp_spec_system.specs.Solutions.{Valuation, LinkHolds, HappensAt, HappensIn, Solves}
 use Rattle.sp_spec_system.specs.Numbered.{IsNumbered}
 use Rattle.sp_spec_system.specs.Covering.{Covers}
@@ -22,7 +22,7 @@ use Rattle.sp_spec_graph.specs.SourceTwice.{used_twice}
 use Rattle.std.specs.Option.{option_or}
 use Rattle.sp_spec.proofs.Options.{mapped, then_some}
 use Rattle.sp_law_formula.proofs.Literals.{covers_by_itself}
-use Rattle.sp_law_graph.proofs.Sources.{one_source, source_once}
+use Rattle.sp_law_graph.proofs.Sources.{taker, one_source, source_once}
 use Rattle.sp_law_formula.proofs.Merged.{SolvedBy, NumberedFrom}
 use Rattle.sp_law_formula.proofs.Equations.{times_solved, times_numbered, not_none}
 use Rattle.sp_law_formula.proofs.ActionCovers.{event_found}
@@ -48,12 +48,13 @@ differ i j e k = let h : nat_eq i j ≡ true = eq-eqb i j k in cc
 -- what a solution says of links
 module _ (theory : Theory) (log : Log) (is : IsLog theory log) (v : Valuation) where
   -- a premise that is linear in the system is linear in the entry
-  linear_at : (q : ℕ) (h : Happening) (a : ℕ) (f : Fact Variable) → slice_get (happening_premises h) a ≡ Some f → HappensAt log q v.terms h
+  linear_at : (q : ℕ) (h : Happening) (a : ℕ) (f : Fact Variable) → slice_get (happening_premises h) a ≡ Some f → HappensAt log q v h
       → (r : List ℕ) (facts : Facts ⊥) (sources : List Source) → AtPosition log q (step r facts sources) → AtPlace facts.premises a (fact_at v.terms f)
-  linear_at q (rule_step name terms) a f e h r facts sources there =
-      let one : step name (facts_at v.terms terms) h.0 ≡ step r facts sources = position_one log q (step name (facts_at v.terms terms) h.0) (step r facts sources) h.1 there in
-      let same : facts_at v.terms terms ≡ facts = cc in
-      subst (λ (x : Facts ⊥). AtPlace x.premises a (fact_at v.terms f)) same (place_map (fact_at v.terms) terms.premises a f (place_got terms.premises a f e))
+  linear_at q h a f e k r facts sources there =
+      let t = taker log q v h k a f (place_got (happening_premises h) a f e) in
+      let one : step t.0 t.1 t.2 ≡ step r facts sources = position_one log q (step t.0 t.1 t.2) (step r facts sources) t.3 there in
+      let same : t.1 ≡ facts = cc in
+      subst (λ (x : Facts ⊥). AtPlace x.premises a (fact_at v.terms f)) same t.4
 
   linear_premise : (events : List Event) → Every (HappensIn log v) events → (i a : ℕ) → is_linear (premise_at events i a) ≡ true
       → (r : List ℕ) (facts : Facts ⊥) (sources : List Source) → AtPosition log (v.times i) (step r facts sources) → (f : Fact ⊥) × AtPlace facts.premises a f × (f.persistent ≡ false)
@@ -65,7 +66,7 @@ module _ (theory : Theory) (log : Log) (is : IsLog theory log) (v : Valuation) w
           let q = then_some (λ (x : Event). slice_get (happening_premises x.happening) a) (event_at i events) f c in
           let found = event_found i events q.0 q.1 in
           let happens = every_member (HappensIn log v) events q.0 found.0 h in
-          let here = subst (λ (x : ℕ). HappensAt log (v.times x) v.terms q.0.happening) found.1 happens in
+          let here = subst (λ (x : ℕ). HappensAt log (v.times x) v q.0.happening) found.1 happens in
           (fact_at v.terms f, linear_at (v.times i) q.0.happening a f q.2 here r facts sources there, (let g : f.persistent ≡ false = linear f.persistent d in g))
         where
           linear : (b : Bool) → not b ≡ true → b ≡ false

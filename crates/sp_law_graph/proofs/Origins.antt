@@ -8,7 +8,8 @@ use Rattle.sp_spec.specs.Rule.{Fact, Facts, Rule, fact_at, facts_at, in_of}
 use Rattle.sp_spec.specs.Theory.{Theory, signature_of}
 use Rattle.sp_spec.specs.Log.{Log, Entry, step, send, learn, Source, IsLog, Concludes, is_fr, fresh_of, fresh_uses, is_in}
 use Rattle.sp_spec.proofs.Lists.{every_member, member_right, place_map}
-use Rattle.sp_law_equal.specs.Convergent.{AreConvergent, IsPart, IsPartOfOne}
+use Rattle.sp_law_equal.specs.NormalForms.{HaveNormalForms}
+use Rattle.sp_law_equal.specs.Parts.{IsPart, IsPartOfOne}
 use Rattle.sp_law_equal.proofs.Forms.{normals, normals_respect}
 use Rattle.sp_spec_graph.specs.Fresh.{first_term, fresh_terms}
 use Rattle.sp_law_system.specs.Rules.{FactsArePlain, RulesArePlain, StandsIn, StandsAmong, HasVariable, no_fresh_names, IsClosedRule}
@@ -84,7 +85,7 @@ module _ (v : Values) (sorts : RespectsSorts v) (fs : List (Fact Variable)) (hav
       let whole = in_fresh v n (v x.0) (subst (λ (s : Sort). HasSort s (v x.0)) x.1 (sorts x.0)) (⊎_elim (λ k. k) (λ k. absurd k) only) in
       subst (λ (t : Ground). Member t (fresh_of (map (fact_at v) fs))) whole (fresh_member v (var x.0) fs (fresh_there fs a f there e x.0 x.2))
 
-module _ (theory : Theory) (good : AreConvergent (signature_of theory).equations) (rules_plain : RulesArePlain (signature_of theory).equations theory.rules) (rules_closed : Every IsClosedRule theory.rules) where
+module _ (theory : Theory) (good : HaveNormalForms (signature_of theory).equations) (rules_plain : RulesArePlain (signature_of theory).equations theory.rules) (rules_closed : Every IsClosedRule theory.rules) where
   -- a step is an instance of a closed rule
   pub record ClosedStep (facts : Facts ⊥) : Type 0 where
     pub rule : Rule

@@ -7,17 +7,16 @@ use Rattle.sp_spec.specs.Equal.{IsNormal}
 use Rattle.sp_spec.specs.Rule.{Fact, Facts, Rule, fact_at, facts_at, FactsMadeOf}
 use Rattle.sp_spec.specs.Theory.{Theory, signature_of}
 use Rattle.sp_spec.specs.Log.{Log, Entry, step, send, learn, Source, conclusion, Concludes, IsLog, is_fr, is_in}
-use Rattle.sp_law_equal.specs.Convergent.{AreConvergent, KeepSymbols}
-use Rattle.sp_law_equal.proofs.Forms.{normal_has_sort, is_normal, normals}
-use Rattle.sp_law_equal.proofs.Over.{normal_over}
-use Rattle.sp_spec_system.specs.System.{Happening, rule_step, happening_premises, Event, System}
-use Rattle.sp_spec_system.specs.Solutions.{Valuation, HappensAt, HappensIn, Solves}
-use Rattle.sp_spec_system.specs.Numbered.{InHappening, InEvent, IsNumbered}
+use Rattle.sp_law_equal.specs.NormalForms.{HaveNormalForms, KeepSymbols}
+use Rattle.sp_law_equal.proofs.Forms.{normal_has_sort, normals}
+use Rattle.sp_spec_system.specs.System.{happening_premises, Event, System}
+use Rattle.sp_spec_system.specs.Solutions.{Valuation, HappensIn, Solves}
+use Rattle.sp_spec_system.specs.Numbered.{InEvent, IsNumbered}
 use Rattle.sp_spec_system.specs.Covering.{Agrees, NoneSolved, Covers}
 use Rattle.sp_law_system.specs.Laws.{UnifierIsRight}
-use Rattle.sp_spec.proofs.Lists.{every_append, every_parts, every_member, place_map, position_one, place_got, member_map}
+use Rattle.sp_spec.proofs.Lists.{every_append, every_parts, every_member, position_one, place_got, member_map}
 use Rattle.sp_law_system.proofs.Facts.{valued_all_same}
-use Rattle.sp_law_system.proofs.Numbers.{each_weaken_all}
+use Rattle.sp_law_system.proofs.Numbers.{each_weaken_all, happening_made}
 use Rattle.sp_law_system.proofs.Solutions.{Under, TimeUnder, agrees_then}
 use Rattle.sp_spec_system.specs.MakingOne.{event_at}
 use Rattle.sp_spec_system.specs.Move.{Case}
@@ -28,7 +27,7 @@ use Rattle.sp_law_system.specs.Proofs.{systems_of}
 use Rattle.sp_law_formula.proofs.Entries.{entry_is_step, plain_step, beside, beside_agrees}
 use Rattle.sp_law_formula.proofs.Actions.{named_systems, systems_append, step_numbered, step_solved}
 use Rattle.sp_law_formula.proofs.ActionCovers.{event_found}
-use Rattle.sp_law_graph.proofs.Sources.{place_mapped, every_place, source_there}
+use Rattle.sp_law_graph.proofs.Sources.{place_mapped, every_place, taker, source_there}
 use Rattle.sp_law_graph.proofs.Waiting.{timed, timed_agrees, timed_new, awaiting_numbered, awaiting_solved}
 use Rattle.sp_law_formula.proofs.Merged.{Later}
 use Rattle.sp_law_graph.proofs.Conclusions.{conclusions_numbered, conclusion_solved}
@@ -74,23 +73,15 @@ opened_premise s i p f h = at (is_linked s.links i p) (event_at i s.events) refl
     at false None k e = absurd cc
     at false (Some d) k e = there d k (slice_get (happening_premises d.happening) p) refl e
 
--- the entry that takes it
-taker : (log : Log) (q : ℕ) (v : Values) (x : Happening) → HappensAt log q v x → (p : ℕ) (f : Fact Variable) → AtPlace (happening_premises x) p f
-    → (r : List ℕ) × (facts : Facts ⊥) × (sources : List Source) × AtPosition log q (step r facts sources) × AtPlace facts.premises p (fact_at v f)
-taker log q v (rule_step r facts) h p f a = (r, facts_at v facts, h.0, h.1, place_map (fact_at v) facts.premises p f a)
-
 agree_fact : (N : Names) → (k : ℕ) (v w : Valuation) → Agrees k v w → (f : Fact Variable) → AllMadeOf N (Under k) f.args → fact_at w.terms f ≡ fact_at v.terms f
 agree_fact N k v w ag f u =
     ap (λ (ts : Grounds). let g : Fact ⊥ = record { symbol = f.symbol; persistent = f.persistent; args = ts } in g) (valued_all_same N w.terms v.terms f.args (each_weaken_all N (Under k) _ ag.terms f.args u))
-
-premises_under : (N : Names) → (n : ℕ) (x : Happening) → InHappening N (Under n) x → Every (λ (f : Fact Variable). AllMadeOf N (Under n) f.args) (happening_premises x)
-premises_under N n (rule_step r facts) h = h.premises
 
 -- its variables are the system's, and its time is
 premise_under : {N : Names} → (s : System) → IsNumbered N s → (i p : ℕ) (f : Fact Variable) → OpenPremise s i p f → (i < s.next) × AllMadeOf N (Under s.next) f.args
 premise_under {N} s n i p f o =
     let d = every_member (InEvent N (Under s.next) (TimeUnder s.next)) s.events o.event o.found n.events in
-    (subst (λ (j : ℕ). j < s.next) o.at_time d.0, every_place _ (happening_premises o.event.happening) p f o.stands (premises_under N s.next o.event.happening d.1))
+    (subst (λ (j : ℕ). j < s.next) o.at_time d.0, every_place _ (happening_premises o.event.happening) p f o.stands (happening_made N (Under s.next) (TimeUnder s.next) o.event.happening d.1).premises)
 
 -- the cases of one form are among those of its rule
 source_form_part : (theory : Theory) (log : Log) (v : Valuation) (n : ℕ) (forms : List Rule) (s : System) (i p : ℕ) (f : Fact Variable) (r : Rule) → Member r forms
@@ -136,7 +127,7 @@ module _ {N : Names} (theory : Theory) (s : System) (n : IsNumbered N s) (i : �
 wide_premise : (N : Names) → (s : System) (r : Rule) (f : Fact Variable) → AllMadeOf N (Under s.next) f.args → AllMadeOf N (Under (suc s.next + length r.variables)) f.args
 wide_premise N s r f a = each_weaken_all N (Under s.next) (Under (suc s.next + length r.variables)) (λ x h. omega (arith, h)) f.args a
 
-module _ (N : Names) (right : UnifierIsRight) (theory : Theory) (good : AreConvergent (signature_of theory).equations) (keeps : KeepSymbols (signature_of theory).symbols (signature_of theory).equations)
+module _ (N : Names) (right : UnifierIsRight) (theory : Theory) (good : HaveNormalForms (signature_of theory).equations) (keeps : KeepSymbols (signature_of theory).symbols (signature_of theory).equations)
     (rules_numbered : RulesAreNumbered N theory.rules) (rules_plain : RulesArePlain (signature_of theory).equations theory.rules) where
   abbrev es : List Equation
   es = (signature_of theory).equations
@@ -186,8 +177,8 @@ module _ (N : Names) (right : UnifierIsRight) (theory : Theory) (good : AreConve
         let rule = is_step.0 in
         let w : Values = normals es is_step.3 in
         let same_facts : facts ≡ facts_at w rule.facts = plain_step es good is_step.3 rule.facts (every_member _ theory.rules rule is_step.1 rules_plain) facts is_step.5 in
-        let sorts : IsValuation (signature_of theory) w = λ x. (normal_has_sort es x.sort (is_step.3 x) (is_step.4 x).0, normal_over (signature_of theory).symbols es keeps (is_step.3 x) (is_step.4 x).1) in
-        rule_gives rule is_step.1 w sorts (λ x. is_normal es good (is_step.3 x)) sources
+        let sorts : IsValuation (signature_of theory) w = λ x. (normal_has_sort es x.sort (is_step.3 x) (is_step.4 x).0, keeps.kept (is_step.3 x) (is_step.4 x).1) in
+        rule_gives rule is_step.1 w sorts (λ x. good.is_normal (is_step.3 x)) sources
         (subst (λ (g : Facts ⊥). AtPosition log q (step rule.name g sources)) same_facts (subst (λ (o : List ℕ). AtPosition log q (step o facts sources)) (sym is_step.2) there))
         (subst (λ (g : Facts ⊥). AtPlace g.conclusions k (fact_at v.terms f)) same_facts gives) none
 
@@ -215,7 +206,7 @@ module _ (N : Names) (right : UnifierIsRight) (theory : Theory) (good : AreConve
   open_covers s n i p f o = record {
     covers = λ log is v h none.
         let u = premise_under s n i p f o in
-        let t = taker log (v.times o.event.time) v.terms o.event.happening (every_member (HappensIn log v) s.events o.event o.found h.events) p f o.stands in
+        let t = taker log (v.times o.event.time) v o.event.happening (every_member (HappensIn log v) s.events o.event o.found h.events) p f o.stands in
         let here = subst (λ (j : ℕ). AtPosition log (v.times j) (step t.0 t.1 t.2)) o.at_time t.3 in
         let g = source_there theory log is (v.times i) t.0 t.1 t.2 here p (fact_at v.terms f) t.4 o.no_fr in
         entry_gives s n i p f u.0 u.1 log is v h g.0 g.1 g.5 t.0 t.1 t.2 here g.2 o.no_in g.3 g.4 g.6 none;

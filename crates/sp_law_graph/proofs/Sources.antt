@@ -1,10 +1,13 @@
 -- The sources that the premises of a log's entries name: each is there, it came earlier, and a linear one is named once.
 use Rattle.std.proofs.Common.{◌≡◌, ◌<◌, ℕ, zero, suc, Bool, true, false, if◌then◌else◌, List, [], ◌∷◌, ◌++◌, map, length, refl, sym, ap, ◌∙◌, subst, inl, inr}
 use Rattle.sp_spec.specs.Lists.{Member, Every, Distinct, AtPlace, AtPosition}
-use Rattle.sp_spec.specs.Rule.{Fact, Facts}
+use Rattle.sp_spec.specs.Term.{Variable}
+use Rattle.sp_spec.specs.Rule.{Fact, Facts, fact_at, facts_at}
 use Rattle.sp_spec.specs.Theory.{Theory}
 use Rattle.sp_spec.specs.Log.{Log, Entry, step, send, learn, Source, fresh_rule, conclusion, is_fr, linear_sources, sources_of, all_sources, Concludes, HasSources, IsLog, Fits}
-use Rattle.sp_spec.proofs.Lists.{member_left, member_right, distinct_right, distinct_apart, position_below, position_one, distinct_left}
+use Rattle.sp_spec.proofs.Lists.{member_left, member_right, distinct_right, distinct_apart, position_below, position_one, distinct_left, place_map}
+use Rattle.sp_spec_system.specs.System.{Happening, rule_step, sending, learning, happening_premises}
+use Rattle.sp_spec_system.specs.Solutions.{Valuation, HappensAt}
 
 -- an element of a mapped list at a place comes from that of the list
 pub place_mapped : {A B : Type 0} (f : A → B) (xs : List A) (k : ℕ) (y : B) → AtPlace (map f xs) k y → (x : A) × AtPlace xs k x × (f x ≡ y)
@@ -23,6 +26,13 @@ pub place_one : {A : Type 0} (xs : List A) (k : ℕ) (x y : A) → AtPlace xs k 
 place_one [] k x y a b = absurd a
 place_one (z ∷ xs) zero x y a b = sym a ∙ b
 place_one (z ∷ xs) (suc k) x y a b = place_one xs k x y a b
+
+-- a premise of what happens is one of a step
+pub taker : (log : Log) (q : ℕ) (v : Valuation) (h : Happening) → HappensAt log q v h → (p : ℕ) (f : Fact Variable) → AtPlace (happening_premises h) p f
+    → (r : List ℕ) × (facts : Facts ⊥) × (sources : List Source) × AtPosition log q (step r facts sources) × AtPlace facts.premises p (fact_at v.terms f)
+taker log q v (rule_step r facts) h p f a = (r, facts_at v.terms facts, h.0, h.1, place_map (fact_at v.terms) facts.premises p f a)
+taker log q v (sending m) h p f a = absurd a
+taker log q v (learning m way) h p f a = absurd a
 
 -- a premise has one source
 pub one_source : (sources : List Source) (a p k q l : ℕ) → AtPlace sources a (conclusion p k) → AtPlace sources a (conclusion q l) → (p ≡ q) × (k ≡ l)

@@ -76,7 +76,7 @@ module _ (listed : List Event) (links : List Link) where
   entries_there v [] h = ([], refl)
   entries_there v (e ∷ es) h =
       let rest = entries_there v es h.1 in (
-        entry_at v e.happening h.0.0 ∷ rest.0,
-        ap (option_and_then (λ (ss : List Source). option_map (λ (entries : List Entry). entry_at v e.happening ss ∷ entries) (entries_of listed links v es))) h.0.1
-            ∙ ap (option_map (λ (entries : List Entry). entry_at v e.happening h.0.0 ∷ entries)) rest.1,
+        entry_at listed v e.happening h.0.0 ∷ rest.0,
+        ap (option_and_then (λ (ss : List Source). option_map (λ (entries : List Entry). entry_at listed v e.happening ss ∷ entries) (entries_of listed links v es))) h.0.1
+            ∙ ap (option_map (λ (entries : List Entry). entry_at listed v e.happening h.0.0 ∷ entries)) rest.1,
       )

@@ -7,7 +7,7 @@ use Rattle.sp_spec.specs.Signature.{Symbol, Equation, HasSymbol, IsOver, AreOver
 use Rattle.sp_spec.specs.Rule.{Action, Facts, Rule, action_at, OfArguments}
 use Rattle.sp_spec.specs.Theory.{Theory, signature_of}
 use Rattle.sp_spec.specs.Execution.{Step, make_fresh, use_rule, take_out, put_in, know_public, make_own, apply_symbol, State, Trace, IsInstance, HasSorts, with_entry, Runs, IsExecution}
-use Rattle.sp_law_equal.specs.Convergent.{KeepSymbols}
+use Rattle.sp_law_equal.specs.NormalForms.{KeepSymbols}
 use Rattle.sp_law_equal.specs.Normal.{normal_action}
 use Rattle.sp_law_equal.proofs.Over.{normal_all_over}
 use Rattle.sp_law_run.specs.NormalStep.{normal_trace}

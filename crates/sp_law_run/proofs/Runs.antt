@@ -4,7 +4,7 @@ use Rattle.sp_spec.specs.Signature.{Equation}
 use Rattle.sp_spec.specs.Rule.{Fact, Facts}
 use Rattle.sp_spec.specs.Theory.{Theory, signature_of}
 use Rattle.sp_spec.specs.Execution.{Step, State, Trace, Takes, made_by, with_entry, Leads, Runs}
-use Rattle.sp_law_equal.specs.Convergent.{AreConvergent}
+use Rattle.sp_law_equal.specs.NormalForms.{HaveNormalForms}
 use Rattle.sp_law_equal.specs.Normal.{normal_fact}
 use Rattle.sp_law_run.specs.Right.{AreRight}
 use Rattle.sp_law_run.specs.Taken.{SameFacts}
@@ -29,7 +29,7 @@ added_alike es cs xs ys s =
     let all = same_facts_then (normals es cs ++ normals es xs) (normals es xs ++ normals es cs) (normals es cs ++ normals es ys) first second in
     subst (λ (zs : List (Fact ⊥)). SameFacts zs (normals es (cs ++ ys))) (sym a) (subst (λ (zs : List (Fact ⊥)). SameFacts (normals es cs ++ normals es xs) zs) (sym b) all)
 
-module _ (theory : Theory) (good : AreConvergent (signature_of theory).equations) (right : AreRight theory.rules) where
+module _ (theory : Theory) (good : HaveNormalForms (signature_of theory).equations) (right : AreRight theory.rules) where
   abbrev es : List Equation
   es = (signature_of theory).equations
 

@@ -5,7 +5,7 @@ use Rattle.std.proofs.lemmas.Option.{option_and_then_some}
 use Rattle.sp_spec.specs.Signature.{Equation}
 use Rattle.sp_spec.specs.Rule.{Fact, SameFact}
 use Rattle.sp_spec.specs.Execution.{Takes}
-use Rattle.sp_law_equal.specs.Convergent.{AreConvergent}
+use Rattle.sp_law_equal.specs.NormalForms.{HaveNormalForms}
 use Rattle.sp_law_equal.specs.Normal.{normal_fact}
 use Rattle.sp_law_equal.proofs.Facts.{same_fact_decides}
 use Rattle.sp_law_run.specs.Taken.{times, SameFacts, removed, without, taken}
@@ -88,7 +88,7 @@ module _ (es : List Equation) where
       let same : o.0 ≡ rest = cc in
       (k, subst (λ (zs : List (Fact ⊥)). SameFacts zs (normals (left k.front k.found k.back))) same o.2)
 
-  module _ (good : AreConvergent es) where
+  module _ (good : HaveNormalForms es) where
     -- all that is taken from a state can be taken from the normal facts
     pub takes_taken : (fs state whole rest : List (Fact ⊥)) → SameFacts state (normals whole) → Takes es fs whole rest →
         (kept : List (Fact ⊥)) × (taken (normals fs) state ≡ Some kept) × SameFacts kept (normals rest)

@@ -6,7 +6,7 @@ use Rattle.sp_spec.specs.Rule.{Fact, Action, OfArguments}
 use Rattle.sp_spec.specs.Theory.{Theory, signature_of}
 use Rattle.sp_spec.specs.Written.{WrittenRule, rule_of}
 use Rattle.sp_spec.specs.Execution.{Step, State, Trace, Takes, Runs, IsExecution}
-use Rattle.sp_law_equal.specs.Convergent.{AreConvergent, KeepSymbols}
+use Rattle.sp_law_equal.specs.NormalForms.{HaveNormalForms, KeepSymbols}
 use Rattle.sp_law_equal.specs.Normal.{normal_fact}
 use Rattle.sp_law_run.specs.NormalStep.{normal_trace}
 use Rattle.sp_law_run.specs.Right.{AreTermsOver, AreRight, RulesAreOver}
@@ -15,9 +15,9 @@ use Rattle.sp_law_run.specs.Taken.{SameFacts, taken}
 -- Over convergent equations facts can be taken from a state exactly where their normal forms can be taken, each from the first place where it
 -- stands, from normal facts that are the same as those of the state; and what is left is the same again.
 pub record FirstPlaceWillDo : Type 0 where
-  pub found : (es : List Equation) → AreConvergent es → (wanted facts state rest : List (Fact ⊥)) → SameFacts facts (map (normal_fact es) state)
+  pub found : (es : List Equation) → HaveNormalForms es → (wanted facts state rest : List (Fact ⊥)) → SameFacts facts (map (normal_fact es) state)
       → Takes es wanted state rest → (left : List (Fact ⊥)) × (taken (map (normal_fact es) wanted) facts ≡ Some left) × SameFacts left (map (normal_fact es) rest)
-  pub there : (es : List Equation) → AreConvergent es → (wanted facts state left : List (Fact ⊥)) → SameFacts facts (map (normal_fact es) state)
+  pub there : (es : List Equation) → HaveNormalForms es → (wanted facts state left : List (Fact ⊥)) → SameFacts facts (map (normal_fact es) state)
       → taken (map (normal_fact es) wanted) facts ≡ Some left → (rest : List (Fact ⊥)) × Takes es wanted state rest × SameFacts left (map (normal_fact es) rest)
 
 -- the same facts modulo the equations, each as often, and the same fresh names
@@ -27,7 +27,7 @@ pub record AreAlike (es : List Equation) (s t : State) : Type 0 where
 
 -- Over convergent equations the same steps of right rules lead to states that are alike, with one trace.
 pub record StatesAreOne : Type 0 where
-  pub each : (theory : Theory) → AreConvergent (signature_of theory).equations → AreRight theory.rules
+  pub each : (theory : Theory) → HaveNormalForms (signature_of theory).equations → AreRight theory.rules
       → (steps : List Step) (s t : State) (shown other : Trace) → Runs theory steps s shown → Runs theory steps t other
       → AreAlike (signature_of theory).equations s t × (shown ≡ other)
 

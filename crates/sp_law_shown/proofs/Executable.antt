@@ -4,8 +4,8 @@ use Rattle.sp_spec.proofs.Lists.{every_weaken}
 use Rattle.sp_spec.specs.Rule.{Rule, OfArguments}
 use Rattle.sp_spec.specs.Theory.{signature_of}
 use Rattle.sp_spec.specs.Written.{WrittenTheory, theory_of}
-use Rattle.sp_law_equal.specs.Convergent.{ArePlain}
-use Rattle.sp_law_equal.proofs.Pairs.{pairs_convergent, pairs_keep_symbols}
+use Rattle.sp_law_equal.specs.Destructors.{ArePlain}
+use Rattle.sp_law_equal.proofs.Pairs.{pairs_have_normal_forms, pairs_keep_symbols}
 use Rattle.sp_law_run.proofs.Written.{rules_right}
 use Rattle.sp_law_found.specs.Executable.{TakesFreshNames, IsExecutable}
 use Rattle.sp_law_system.specs.Rules.{FactsArePlain, IsClosedRule}
@@ -23,7 +23,7 @@ module _ (t : WrittenTheory) (s : IsSearched t) where
 
   pub executable : IsExecutable (theory_of t)
   executable = record {
-    convergent = pairs_convergent;
+    normal_forms = pairs_have_normal_forms;
     keeps = pairs_keep_symbols (signature_of (theory_of t)).symbols;
     distinct = (rules_right t.rules s.rule_names).distinct;
     plain = plain;
@@ -31,4 +31,4 @@ module _ (t : WrittenTheory) (s : IsSearched t) where
   }
 
   pub checkable : CanCheck (theory_of t)
-  checkable = record { convergent = pairs_convergent; keeps = pairs_keep_symbols (signature_of (theory_of t)).symbols; plain = plain }
+  checkable = record { normal_forms = pairs_have_normal_forms; keeps = pairs_keep_symbols (signature_of (theory_of t)).symbols; plain = plain }

@@ -11,7 +11,7 @@ use Rattle.sp_spec.specs.Truth.{IsTrueOver}
 use Rattle.sp_spec.specs.Verdict.{MeetsRestrictions}
 use Rattle.sp_spec.specs.Guarded.{Place, Atom, acts, same, same_time, before, last, Guarded, Guardeds, truth, falsity, holds, fails, all_of, one_of, some, every, no_more, and_then, GuardedHolds}
 use Rattle.sp_spec.specs.Log.{Entry, Log, log_trace, visible_trace}
-use Rattle.sp_law_equal.proofs.Pairs.{pairs_convergent, pairs_keep_symbols}
+use Rattle.sp_law_equal.proofs.Pairs.{pairs_have_normal_forms, pairs_keep_symbols}
 use Rattle.sp_law_truth.specs.Shown.{times_within, action_names}
 use Rattle.sp_law_truth.proofs.Shown.{equal_shown_same}
 use Rattle.sp_law_guard.specs.GuardedForm.{negate}
@@ -97,7 +97,7 @@ module _ (t : WrittenTheory) (s : IsSearched t) (log : Log) (is : IsLogOfSteps (
   module _ (g : Guarded) (right : IsRight g) where
     pub can_decide : CanDecide signature (log_trace log) g
     can_decide = record {
-      convergent = pairs_convergent;
+      normal_forms = pairs_have_normal_forms;
       keeps = pairs_keep_symbols signature.symbols;
       normal = normal_trace theory log is.0 is.1 (execution_over theory (plain_rules_over signature.symbols t.rules s.plain) (execution_of theory.rules log) (visible_trace log) executed);
       plain = right_plain signature zero g right.each;

@@ -1,5 +1,5 @@
 -- The search ends exactly with a log of the theory over whose trace the formula is true.
-use Rattle.std.proofs.Common.{◌≡◌, ⊎_elim, ℕ, Bool, true, false, if◌then◌else◌, List, [], ◌∷◌, Some, None, option_map, option_and_then, refl, sym, ap, ◌∙◌, subst}
+use Rattle.std.proofs.Common.{◌≡◌, ⊎_elim, ℕ, Bool, true, false, not, ◌&&◌, if◌then◌else◌, List, [], ◌∷◌, length, Some, None, option_map, option_and_then, refl, sym, ap, ◌∙◌, subst}
 use Rattle.std.specs.Prelude.{◌↔◌}
 use Rattle.std.proofs.lemmas.Bool.{and_parts, and_from}
 use Rattle.sp_spec.specs.Lists.{Every, newest_first}
@@ -17,13 +17,16 @@ use Rattle.sp_law_decide.proofs.Told.{told}
 use Rattle.sp_law_erase.specs.Adversary.{IsStep}
 use Rattle.sp_law_tree.proofs.Forms.{IsRight, right_negation}
 use Rattle.sp_law_tree.proofs.PlacedForms.{form_right}
-use Rattle.sp_spec_system.specs.System.{Happening, rule_step, Event, Link, System}
+use Rattle.sp_spec_system.specs.System.{Happening, rule_step, sending, learning, Event, Link, System}
+use Rattle.sp_spec_system.specs.Order.{is_cyclic}
 use Rattle.sp_log.specs.Checking.{is_log}
 use Rattle.sp_log.specs.Meaning.{IsLogOfSteps}
 use Rattle.sp_log.proofs.Checks.{log_decides}
 use Rattle.sp_solved.specs.Listing.{in_order}
 use Rattle.sp_solved.specs.Naming.{values_of}
-use Rattle.sp_solved.specs.Candidate.{is_ready, entry_at, event_sources, entries_of, logged, candidate}
+use Rattle.sp_solved.specs.Candidate.{is_rule_step, are_rule_steps, have_places, all_sourced, is_ready, entry_at, event_sources, entries_of, logged, candidate}
+use Rattle.sp_solved.proofs.Alone.{IsRuleStep, each_is_step}
+use Rattle.sp_solved.proofs.Listed.{every_listed}
 use Rattle.sp_solved.specs.Found.{is_sought, kept_if, found}
 use Rattle.sp_law_shown.specs.Shown.{IsSearched}
 use Rattle.sp_law_shown.specs.Laws.{IsRootFormula, FoundIsSought}
@@ -32,24 +35,29 @@ use Rattle.sp_law_shown.proofs.Found.{can_decide}
 
 -- ---- the entries that a system suggests are steps
 
-is_step : (v : Values) (h : Happening) (sources : List Source) → IsStep (entry_at v h sources)
-is_step v (rule_step r facts) sources = tt
+module _ (listed : List Event) (links : List Link) (v : Values) where
+  is_step : (h : Happening) (sources : List Source) → is_rule_step h ≡ true → IsStep (entry_at listed v h sources)
+  is_step (rule_step r facts) sources e = tt
+  is_step (sending m) sources e = absurd cc
+  is_step (learning m way) sources e = absurd cc
 
-steps_of : (listed : List Event) (links : List Link) (v : Values) (es : List Event) (entries : List Entry) → entries_of listed links v es ≡ Some entries → Every IsStep entries
-steps_of listed links v [] entries e = let nothing : List Entry = [] in let g : nothing ≡ entries = cc in subst (Every IsStep) g tt
-steps_of listed links v (d ∷ es) entries e =
-    let q = then_some (λ (sources : List Source). option_map (λ (more : List Entry). entry_at v d.happening sources ∷ more) (entries_of listed links v es)) (event_sources listed links d) entries e in
-    let r = mapped (λ (more : List Entry). entry_at v d.happening q.0 ∷ more) (entries_of listed links v es) entries q.2 in
-    subst (Every IsStep) (sym r.2) (is_step v d.happening q.0, steps_of listed links v es r.0 r.1)
+  steps_of : (es : List Event) (entries : List Entry) → entries_of listed links v es ≡ Some entries → Every IsRuleStep es → Every IsStep entries
+  steps_of [] entries e h = let nothing : List Entry = [] in let g : nothing ≡ entries = cc in subst (Every IsStep) g tt
+  steps_of (d ∷ es) entries e h =
+      let q = then_some (λ (sources : List Source). option_map (λ (more : List Entry). entry_at listed v d.happening sources ∷ more) (entries_of listed links v es)) (event_sources listed links d) entries e in
+      let r = mapped (λ (more : List Entry). entry_at listed v d.happening q.0 ∷ more) (entries_of listed links v es) entries q.2 in
+      subst (Every IsStep) (sym r.2) (is_step d.happening q.0 h.0, steps_of es r.0 r.1 h.1)
 
 candidate_steps : (constants : List (List ℕ)) (s : System) (entries : List Entry) → candidate constants s ≡ Some entries → Every IsStep entries
-candidate_steps constants s entries e = at (is_ready s) e
+candidate_steps constants s entries e = at (is_ready s) refl e
   where
-    at : (b : Bool) → (if b then option_and_then (logged constants s.links) (in_order s.order s.events) else None) ≡ Some entries → Every IsStep entries
-    at true k =
+    at : (b : Bool) → is_ready s ≡ b → (if b then option_and_then (logged constants s.links) (in_order s.order s.events) else None) ≡ Some entries → Every IsStep entries
+    at true ready k =
         let q = then_some (logged constants s.links) (in_order s.order s.events) entries k in
-        steps_of q.0 s.links (values_of constants q.0) q.0 entries q.2
-    at false k = absurd cc
+        let rest = have_places s.events s.formulas && (all_sourced s.events s.links s.events && not (is_cyclic s.order)) in
+        let alone = each_is_step s.events (and_parts (are_rule_steps s.events) rest ready).0 in
+        steps_of q.0 s.links (values_of constants q.0) q.0 entries q.2 (every_listed IsRuleStep s.order (length s.events) s.events q.0 q.1 alone)
+    at false ready k = absurd cc
 
 every_newest : (P : Entry → Type 0) (entries : List Entry) → Every P entries → Every P (newest_first entries)
 every_newest P [] h = tt

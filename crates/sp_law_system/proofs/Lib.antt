@@ -1,6 +1,7 @@
 pub mod Bindings
 pub mod Changing
 pub mod Facts
+pub mod Happenings
 pub mod Merging
 pub mod Numbers
 pub mod ShortPaths

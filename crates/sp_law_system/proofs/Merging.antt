@@ -3,15 +3,15 @@ use Rattle.std.proofs.Common.{◌≡◌, ℕ, Bool, true, false, ◌&&◌, if◌
 use Rattle.std.proofs.lemmas.Slice.Eq.{bytes_eq-Decides}
 use Rattle.std.specs.Str.{bytes_eq}
 use Rattle.sp_spec.specs.Lists.{Every}
-use Rattle.sp_spec.specs.Term.{Names, Variable, Terms, none, more, Values, valued, valued_all, AllMadeOf}
+use Rattle.sp_spec.specs.Term.{Names, Variable, Term, Terms, none, more, Values, valued, valued_all, MadeOf, AllMadeOf}
 use Rattle.sp_spec.specs.Rule.{Fact, Action, Facts, fact_at, action_at, facts_at, FactsMadeOf}
 use Rattle.sp_spec.specs.Unifier.{Pair, MakesSame}
-use Rattle.sp_spec_system.specs.System.{Happening, rule_step}
+use Rattle.sp_spec_system.specs.System.{Happening, rule_step, sending, learning}
 use Rattle.sp_spec_system.specs.Numbered.{InHappening}
 use Rattle.sp_law_system.specs.Laws.{PairsUnder}
 use Rattle.sp_spec_system.specs.Equating.{argument_pairs, same_flag, both_pairs, fact_pairs, action_pair, action_pairs, merging_pairs}
 use Rattle.sp_spec.proofs.Lists.{every_append}
-use Rattle.sp_law_system.proofs.Solutions.{Under}
+use Rattle.sp_law_system.proofs.Solutions.{Under, TimeUnder}
 
 -- pairs that are there, have one value each, and have numbers below the limit
 pub record Paired (N : Names) (v : Values) (n : ℕ) (o : Option (List Pair)) : Type 0 where
@@ -95,6 +95,10 @@ merging_paired v n r q f g a b named e =
     let c = fact_paired v n f.conclusions g.conclusions a.conclusions b.conclusions (ap (λ (x : Facts ⊥). x.conclusions) e) in
     rw (same_text r q named) (both_paired v n _ _ p (both_paired v n _ _ s c))
 
+-- Two messages that have the same value.
+pub message_paired : {N : Names} → (v : Values) (n : ℕ) (t u : Term Variable) → MadeOf N (Under n) t → MadeOf N (Under n) u → valued v t ≡ valued v u → Paired N v n (Some ((t, u) ∷ []))
+message_paired v n t u a b e = record { pairs = (t, u) ∷ []; there = refl; same = (e, tt); under = ((a, b), tt) }
+
 -- The pairs' variables are those of the facts.
 abbrev pub OptionUnder : Names → ℕ → Option (List Pair) → Type 0
 OptionUnder N n None = Unit {0}
@@ -136,8 +140,16 @@ actions_under N n [] (y ∷ ys) a b = tt
 actions_under N n (x ∷ xs) [] a b = tt
 actions_under N n (x ∷ xs) (y ∷ ys) a b = both_under N n (action_pair x y) (action_pairs xs ys) (action_under N n x y a.0 b.0) (actions_under N n xs ys a.1 b.1)
 
-pub merging_under : (N : Names) → (n : ℕ) (a b : Happening) → InHappening N (Under n) a → InHappening N (Under n) b → OptionUnder N n (merging_pairs a b)
+pub merging_under : (N : Names) → (n : ℕ) (a b : Happening) → InHappening N (Under n) (TimeUnder n) a → InHappening N (Under n) (TimeUnder n) b → OptionUnder N n (merging_pairs a b)
 merging_under N n (rule_step r f) (rule_step q g) a b =
     if_under N n (bytes_eq r q) (both_pairs (fact_pairs f.premises g.premises) (both_pairs (action_pairs f.actions g.actions) (fact_pairs f.conclusions g.conclusions)))
     (both_under N n (fact_pairs f.premises g.premises) (both_pairs (action_pairs f.actions g.actions) (fact_pairs f.conclusions g.conclusions)) (fact_under N n f.premises g.premises a.premises b.premises)
     (both_under N n (action_pairs f.actions g.actions) (fact_pairs f.conclusions g.conclusions) (actions_under N n f.actions g.actions a.actions b.actions) (fact_under N n f.conclusions g.conclusions a.conclusions b.conclusions)))
+merging_under N n (sending m) (sending u) a b = ((a, b), tt)
+merging_under N n (learning m way) (learning u other) a b = ((a.0, b.0), tt)
+merging_under N n (rule_step r f) (sending u) a b = tt
+merging_under N n (rule_step r f) (learning u other) a b = tt
+merging_under N n (sending m) (rule_step q g) a b = tt
+merging_under N n (sending m) (learning u other) a b = tt
+merging_under N n (learning m way) (rule_step q g) a b = tt
+merging_under N n (learning m way) (sending u) a b = tt

@@ -4,8 +4,8 @@ use Rattle.sp_spec.specs.Term.{Names, Variable, Term, var, constant, name, app, 
 use Rattle.sp_spec.specs.Rule.{Facts, fact_at, action_at, facts_at, FactsMadeOf}
 use Rattle.sp_spec.specs.Guarded.{Place, free, bound, Time, free_time, bound_time, Binder, message, time, Atom, acts, same, same_time, before, last, Guarded, truth, falsity, holds, fails, all_of, one_of, some, every, Guardeds, no_more, and_then, pushed}
 use Rattle.sp_spec.specs.Change.{Change, placed, place_changed, time_changed, raised_place, raised, raised_time, under_message, under_time, under, atom_changed, changed, changed_each}
-use Rattle.sp_spec_system.specs.Numbered.{AtFree, AtFreeTime, InAtom, InFormula, InEach, InHappening, InEvent}
-use Rattle.sp_spec_system.specs.System.{Happening, rule_step, Event}
+use Rattle.sp_spec_system.specs.Numbered.{AtFree, AtFreeTime, InAtom, InFormula, InEach, InWay, InHappening, InEvent}
+use Rattle.sp_spec_system.specs.System.{Way, public_name, own_name, constructed, by_chain, Happening, rule_step, sending, learning, happening_facts, Event}
 use Rattle.sp_spec.proofs.Lists.{every_map, every_weaken}
 
 -- what holds of each variable of a term after values are put in
@@ -46,8 +46,11 @@ facts_weaken N P Q h facts e = record {
   conclusions = every_weaken _ _ (λ f k. each_weaken_all N P Q h f.args k) facts.conclusions e.conclusions;
 }
 
-pub happening_weaken : (N : Names) → (P Q : Variable → Type 0) → ((x : Variable) → P x → Q x) → (h : Happening) → InHappening N P h → InHappening N Q h
-happening_weaken N P Q h (rule_step r facts) e = facts_weaken N P Q h facts e
+-- the facts of what happens
+pub happening_made : (N : Names) → (P : Variable → Type 0) (Q : ℕ → Type 0) (h : Happening) → InHappening N P Q h → FactsMadeOf N P (happening_facts h)
+happening_made N P Q (rule_step r facts) e = e
+happening_made N P Q (sending m) e = record { premises = tt; actions = ((e, tt), tt); conclusions = ((e, tt), tt) }
+happening_made N P Q (learning m way) e = record { premises = tt; actions = ((e.0, tt), tt); conclusions = tt }
 
 module _ (N : Names) (P P' : Variable → Type 0) (Q Q' : ℕ → Type 0) (h : (x : Variable) → P x → P' x) (k : (i : ℕ) → Q i → Q' i) where
   free_weaken : (p : Place) → AtFree P p → AtFree P' p
@@ -80,8 +83,19 @@ module _ (N : Names) (P P' : Variable → Type 0) (Q Q' : ℕ → Type 0) (h : (
     formulas_weaken no_more e = tt
     formulas_weaken (and_then f fs) e = (formula_weaken f e.0, formulas_weaken fs e.1)
 
+  way_weaken : (way : Way) → InWay N P Q way → InWay N P' Q' way
+  way_weaken public_name e = tt
+  way_weaken own_name e = tt
+  way_weaken constructed e = tt
+  way_weaken (by_chain i n ts) e = (k i e.0, every_weaken _ _ (each_weaken N P P' h) ts e.1)
+
+  happening_weaken : (x : Happening) → InHappening N P Q x → InHappening N P' Q' x
+  happening_weaken (rule_step r facts) e = facts_weaken N P P' h facts e
+  happening_weaken (sending m) e = each_weaken N P P' h m e
+  happening_weaken (learning m way) e = (each_weaken N P P' h m e.0, way_weaken way e.1)
+
   pub event_weaken : (e : Event) → InEvent N P Q e → InEvent N P' Q' e
-  event_weaken e i = (k e.time i.0, happening_weaken N P P' h e.happening i.1)
+  event_weaken e i = (k e.time i.0, happening_weaken e.happening i.1)
 
 -- what the change puts in has only these variables and times
 pub record PutsIn (N : Names) (P P' : Variable → Type 0) (Q Q' : ℕ → Type 0) (c : Change) : Type 0 where

@@ -4,21 +4,21 @@ use Rattle.sp_spec.specs.Lists.{Every, AtPlace, AtPosition}
 use Rattle.sp_spec.specs.Term.{Names, Variable, Term, valued, MadeOf}
 use Rattle.sp_spec.specs.Signature.{IsValuation}
 use Rattle.sp_spec.specs.Equal.{IsNormal}
-use Rattle.sp_spec.specs.Rule.{Facts, facts_at}
 use Rattle.sp_spec.specs.Theory.{Theory, signature_of}
 use Rattle.sp_spec.specs.Guarded.{Guarded}
 use Rattle.sp_spec.specs.Log.{Log, conclusion, step, log_trace}
 use Rattle.sp_spec.specs.Substitution.{Binding, bound_to, Fixes}
 use Rattle.sp_spec.specs.Unifier.{Pair}
 use Rattle.sp_spec.specs.Change.{free_change, changed}
-use Rattle.sp_spec_system.specs.System.{Happening, rule_step, Event, Link, System}
+use Rattle.sp_spec_system.specs.System.{Event, Link, System}
 use Rattle.sp_spec_system.specs.Solutions.{Valuation, assignment, LinkHolds, HappensAt, HappensIn, FormulaHolds, AreUnequal, IsBefore, Solves}
-use Rattle.sp_spec_system.specs.Numbered.{InFormula, InHappening, InEvent, IsNumbered}
+use Rattle.sp_spec_system.specs.Numbered.{InFormula, InEvent, IsNumbered}
 use Rattle.sp_spec_system.specs.Covering.{Agrees}
 use Rattle.sp_spec_system.specs.Equating.{happening_changed, event_changed, pair_changed, link_changed, has_link, joined_links, order_changed, system_changed}
 use Rattle.sp_spec.proofs.Lists.{every_map, every_both, every_append}
-use Rattle.sp_law_system.proofs.Facts.{valued_same, facts_same, fixed_term, fixed_facts}
-use Rattle.sp_law_system.proofs.Numbers.{each_weaken, facts_weaken, PutsIn, changed_in, each_valued, facts_valued}
+use Rattle.sp_law_system.proofs.Facts.{fixed_term}
+use Rattle.sp_law_system.proofs.Happenings.{agree_term, agree_happening, change_happening, happening_in}
+use Rattle.sp_law_system.proofs.Numbers.{PutsIn, changed_in, each_valued}
 use Rattle.sp_law_system.proofs.Changing.{Reads, changed_same, settled_same}
 use Rattle.sp_law_system.proofs.Unchanged.{agree_same, agree_settled}
 
@@ -39,13 +39,8 @@ agrees_then n k u v w le a b = record {
 }
 
 module _ (N : Names) (limit : ℕ) (v w : Valuation) (a : Agrees limit v w) (theory : Theory) (log : Log) where
-  agree_happening : (p : ℕ) (h : Happening) → InHappening N (Under limit) h → HappensAt log p v.terms h → HappensAt log p w.terms h
-  agree_happening p (rule_step r facts) b h =
-      let e : facts_at v.terms facts ≡ facts_at w.terms facts = facts_same N v.terms w.terms facts (facts_weaken N _ _ (λ x k. sym (a.terms x k)) facts b) in
-      (h.0, subst (λ (f : Facts ⊥). AtPosition log p (step r f h.0)) e h.1)
-
   pub agree_event : (e : Event) → InEvent N (Under limit) (TimeUnder limit) e → HappensIn log v e → HappensIn log w e
-  agree_event e b h = subst (λ (p : ℕ). HappensAt log p w.terms e.happening) (sym (a.times e.time b.0)) (agree_happening (v.times e.time) e.happening b.1 h)
+  agree_event e b h = subst (λ (p : ℕ). HappensAt log p w e.happening) (sym (a.times e.time b.0)) (agree_happening N (Under limit) (TimeUnder limit) v w a.terms a.times log (v.times e.time) e.happening b.1 h)
 
   pub agree_formula : (f : Guarded) → InFormula N (Under limit) (TimeUnder limit) f → FormulaHolds theory log v f → FormulaHolds theory log w f
   agree_formula f b h = (
@@ -53,14 +48,14 @@ module _ (N : Names) (limit : ℕ) (v w : Valuation) (a : Agrees limit v w) (the
     subst (λ (X : Type 0). X) (agree_settled N (Under limit) (TimeUnder limit) (assignment v) (assignment w) a.terms a.times (λ k. refl) (λ k. refl) (signature_of theory) (length log) f b) h.1,
   )
 
-  agree_term : (t : Term Variable) → MadeOf N (Under limit) t → valued w.terms t ≡ valued v.terms t
-  agree_term t b = valued_same N w.terms v.terms t (each_weaken N _ _ a.terms t b)
+  same_term : (t : Term Variable) → MadeOf N (Under limit) t → valued w.terms t ≡ valued v.terms t
+  same_term t b = agree_term N (Under limit) (TimeUnder limit) v w a.terms a.times t b
 
   pub agree_unequal : (p : Pair) → MadeOf N (Under limit) p.0 × MadeOf N (Under limit) p.1 → AreUnequal theory v p → AreUnequal theory w p
   agree_unequal p b h = (
-    (λ e. h.0 (sym (agree_term p.0 b.0) ∙ e ∙ agree_term p.1 b.1)),
-    subst (IsNormal (signature_of theory).equations) (sym (agree_term p.0 b.0)) h.1,
-    subst (IsNormal (signature_of theory).equations) (sym (agree_term p.1 b.1)) h.2,
+    (λ e. h.0 (sym (same_term p.0 b.0) ∙ e ∙ same_term p.1 b.1)),
+    subst (IsNormal (signature_of theory).equations) (sym (same_term p.0 b.0)) h.1,
+    subst (IsNormal (signature_of theory).equations) (sym (same_term p.1 b.1)) h.2,
   )
 
   pub agree_link : (l : Link) → TimeUnder limit l.from × TimeUnder limit l.to → LinkHolds log v l → LinkHolds log w l
@@ -103,11 +98,8 @@ every_link P kept (l ∷ ls) k h = every_link P (if has_link kept l then kept el
 
 -- replacing that the values fix
 module _ (N : Names) (theory : Theory) (log : Log) (v : Valuation) (bs : List Binding) (fixes : Fixes v.terms bs) (times : ℕ → ℕ) (same_times : (i : ℕ) → v.times (times i) ≡ v.times i) where
-  change_happening : (p : ℕ) (h : Happening) → HappensAt log p v.terms h → HappensAt log p v.terms (happening_changed (bound_to bs) h)
-  change_happening p (rule_step r facts) h = (h.0, subst (λ (f : Facts ⊥). AtPosition log p (step r f h.0)) (sym (fixed_facts v.terms bs fixes facts)) h.1)
-
   pub change_event : (e : Event) → HappensIn log v e → HappensIn log v (event_changed (bound_to bs) times e)
-  change_event e h = subst (λ (p : ℕ). HappensAt log p v.terms (happening_changed (bound_to bs) e.happening)) (sym (same_times e.time)) (change_happening (v.times e.time) e.happening h)
+  change_event e h = subst (λ (p : ℕ). HappensAt log p v (happening_changed (bound_to bs) times e.happening)) (sym (same_times e.time)) (change_happening v bs fixes times same_times log (v.times e.time) e.happening h)
 
   reads_itself : (A : Variable → Type 0) (B : ℕ → Type 0) → Reads A B (free_change (bound_to bs) times) (assignment v) (assignment v)
   reads_itself A B = record { variables = λ x k. fixes x; moments = λ i k. sym (same_times i); terms = λ k. refl; times = λ k. refl }
@@ -165,15 +157,12 @@ module _ (N : Names) (n : ℕ) (bs : List Binding) (within : (x : Variable) → 
   puts_in : PutsIn N (Under n) (Under n) (TimeUnder n) (TimeUnder n) (free_change (bound_to bs) times)
   puts_in = record { terms = within; times = times_within; bound_terms = λ k. tt; bound_times = λ k. tt }
 
-  happening_numbered : (h : Happening) → InHappening N (Under n) h → InHappening N (Under n) (happening_changed (bound_to bs) h)
-  happening_numbered (rule_step r facts) b = facts_valued N (Under n) (Under n) (bound_to bs) within facts b
-
   pub change_numbered : (s : System) → s.next ≡ n → IsNumbered N s → IsNumbered N (system_changed (bound_to bs) times s)
   change_numbered s e k =
       let P : ℕ → Type 0 = λ m. Every (InEvent N (Under m) (TimeUnder m)) s.events in
       record {
         events = subst (λ (m : ℕ). Every (InEvent N (Under m) (TimeUnder m)) (map (event_changed (bound_to bs) times) s.events)) (sym e)
-            (every_map _ _ (event_changed (bound_to bs) times) (λ d b. (times_within d.time b.0, happening_numbered d.happening b.1)) s.events (subst P e k.events));
+            (every_map _ _ (event_changed (bound_to bs) times) (λ d b. (times_within d.time b.0, happening_in N (Under n) (TimeUnder n) (bound_to bs) within times times_within d.happening b.1)) s.events (subst P e k.events));
         formulas = subst (λ (m : ℕ). Every (InFormula N (Under m) (TimeUnder m)) (map (changed (free_change (bound_to bs) times)) s.formulas)) (sym e)
             (every_map _ _ (changed (free_change (bound_to bs) times)) (λ f b. changed_in N _ _ _ _ _ puts_in f b) s.formulas (subst (λ (m : ℕ). Every (InFormula N (Under m) (TimeUnder m)) s.formulas) e k.formulas));
         spent = subst (λ (m : ℕ). Every (InFormula N (Under m) (TimeUnder m)) (map (changed (free_change (bound_to bs) times)) s.spent)) (sym e)

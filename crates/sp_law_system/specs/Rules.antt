@@ -4,7 +4,8 @@ use Rattle.sp_spec.specs.Lists.{Every, Member}
 use Rattle.sp_spec.specs.Rule.{Rule, FactsMadeOf, Fact, Action, Facts, facts_at}
 use Rattle.sp_spec.specs.Term.{Names, public_name, fresh_name, AllMadeOf, Variable, Values, Term, var, constant, name, app, Terms, none, more, Fresh, Pub}
 use Rattle.sp_spec.specs.Signature.{Equation, AreOver, IsValuation}
-use Rattle.sp_law_equal.specs.Convergent.{ArePlain, AreConvergent, KeepSymbols}
+use Rattle.sp_law_equal.specs.NormalForms.{HaveNormalForms, KeepSymbols}
+use Rattle.sp_law_equal.specs.Destructors.{ArePlain}
 use Rattle.sp_spec.specs.Theory.{Theory, signature_of}
 use Rattle.sp_spec.specs.Log.{is_fr, is_in}
 use Rattle.sp_spec_system.specs.Rules.{RuleForms}
@@ -30,6 +31,16 @@ abbrev pub ActionsAreOver : Theory → Type 0
 ActionsAreOver theory =
     (r : Rule) → Member r theory.rules → (v : Values) → IsValuation (signature_of theory) v
     → Every (λ (a : Action ⊥). AreOver (signature_of theory).symbols a.args) (facts_at v r.facts).actions
+
+-- and so are their conclusions, from which the adversary learns
+abbrev pub ConclusionsAreOver : Theory → Type 0
+ConclusionsAreOver theory =
+    (r : Rule) → Member r theory.rules → (v : Values) → IsValuation (signature_of theory) v
+    → Every (λ (f : Fact ⊥). AreOver (signature_of theory).symbols f.args) (facts_at v r.facts).conclusions
+
+pub record InstancesAreOver (theory : Theory) : Type 0 where
+  pub actions : ActionsAreOver theory
+  pub conclusions : ConclusionsAreOver theory
 
 -- No premise of a rule is an In, in no conclusion stands a fresh name, and each variable of a conclusion that isn't of sort pub stands in a
 -- premise: so what is in a conclusion was in a premise, and no message comes from the adversary. The argument of an Fr is a variable of
@@ -60,10 +71,10 @@ pub record IsClosedRule (r : Rule) : Type 0 where
   pub bound : Every (λ (f : Fact Variable). AllMadeOf no_fresh_names (λ x. (x.sort ≡ Pub → ⊥) → HasVariable x r.facts.premises) f.args) r.facts.conclusions
 
 -- What is asked of a theory: its equations may be read from left to right and bring in no new symbols, no destructor stands in a rule, no
--- message of a rule comes from elsewhere, and the actions of its rules are over the signature.
+-- message of a rule comes from elsewhere, and the actions and conclusions of its rules are over the signature.
 pub record IsPlainTheory (theory : Theory) : Type 0 where
-  pub convergent : AreConvergent (signature_of theory).equations
+  pub normal_forms : HaveNormalForms (signature_of theory).equations
   pub keeps : KeepSymbols (signature_of theory).symbols (signature_of theory).equations
   pub plain : RulesArePlain (signature_of theory).equations theory.rules
   pub closed : Every IsClosedRule theory.rules
-  pub over : ActionsAreOver theory
+  pub over : InstancesAreOver theory

@@ -8,7 +8,7 @@ use Rattle.sp_spec.specs.Theory.{Theory, Lemma, signature_of}
 use Rattle.sp_spec.specs.Written.{WrittenRule, WrittenTheory, theory_of}
 use Rattle.sp_spec.specs.Findings.{rule_is_wrong}
 use Rattle.sp_spec.specs.Guarded.{Guarded}
-use Rattle.sp_law_equal.proofs.Pairs.{pairs_convergent, pairs_keep_symbols}
+use Rattle.sp_law_equal.proofs.Pairs.{pairs_have_normal_forms, pairs_keep_symbols}
 use Rattle.sp_law_truth.specs.Shown.{action_names}
 use Rattle.sp_law_guard.specs.CheckedForm.{checked_form}
 use Rattle.sp_law_system.specs.Rules.{IsPlainTheory}
@@ -65,7 +65,7 @@ module _ (t : WrittenTheory) (rules : Every IsPlainRule t.rules) (clean : Every 
 
   plain : IsPlainTheory free
   plain = record {
-    convergent = pairs_convergent;
+    normal_forms = pairs_have_normal_forms;
     keeps = pairs_keep_symbols (signature_of free).symbols;
     plain = rules_plain (signature_of free).equations t.rules rules;
     over = rules_over free_text rules;
@@ -75,7 +75,7 @@ module _ (t : WrittenTheory) (rules : Every IsPlainRule t.rules) (clean : Every 
   -- its executions have logs for what the lemma sees
   logged : (lemma : Lemma) → IsPlainFormula lemma.formula → (g : Guarded) → checked_form lemma.formula ≡ Some g → HasLogsFor free (action_names g)
   logged lemma f g e =
-      logs_show_executions_lem.without_adversary free (rules_leave_adversary free_text rules (none_concluded t.rules clean)) pairs_convergent (action_names g) (right_not_send g (lemma_right lemma f g e))
+      logs_show_executions_lem.without_adversary free (rules_leave_adversary free_text rules (none_concluded t.rules clean)) pairs_have_normal_forms (action_names g) (right_not_send g (lemma_right lemma f g e))
 
 pub lemmas_are_shown_lem : LemmasAreShown
 lemmas_are_shown_lem = record {

@@ -12,11 +12,11 @@ use Rattle.sp_spec.specs.Written.{WrittenRule, WrittenTheory, occurrences, is_li
 use Rattle.sp_spec.specs.Theory.{signature_of}
 use Rattle.sp_spec.specs.Findings.{is_fr_named, has_fr}
 use Rattle.sp_spec.proofs.Occurrences.{occurrences_each, names_have}
-use Rattle.sp_law_equal.specs.Convergent.{IsPlain, ArePlain}
+use Rattle.sp_law_equal.specs.Destructors.{IsPlain, ArePlain}
 use Rattle.sp_law_erase.specs.Adversary.{adversary_facts, adversary_names, NeedsNoAdversary}
 use Rattle.sp_spec.proofs.Lists.{every_map, every_member, every_parts, member_mapped, length_map}
 use Rattle.sp_law_system.proofs.Numbers.{facts_valued}
-use Rattle.sp_law_system.specs.Rules.{ActionsAreOver, FactsArePlain, RulesArePlain, RulesAreNumbered}
+use Rattle.sp_law_system.specs.Rules.{InstancesAreOver, FactsArePlain, RulesArePlain, RulesAreNumbered}
 use Rattle.sp_spec.specs.Constants.{in_facts, in_actions, in_rule, constants_of}
 use Rattle.sp_spec_system.specs.Numbered.{names_in}
 use Rattle.sp_law_tree.specs.Laws.{NamesStand}
@@ -81,7 +81,7 @@ pub rules_plain : (es : List Equation) (rs : List WrittenRule) → Every IsPlain
 rules_plain es [] h = tt
 rules_plain es (r ∷ rs) h = (rule_plain es r h.0, rules_plain es rs h.1)
 
--- no symbol stands in them, so the actions of their instances are over any signature
+-- no symbol stands in them, so the actions and conclusions of their instances are over any signature
 module _ (symbols : List Symbol) (v : Written → Term Variable) (w : Values) (over : (x : Written) → IsOver symbols (valued w (v x))) where
   atomic_over : (t : Term Written) → IsAtomic t → IsOver symbols (valued w (valued v t))
   atomic_over (var x) h = over x
@@ -98,12 +98,22 @@ module _ (symbols : List Symbol) (v : Written → Term Variable) (w : Values) (o
       every_map (λ (b : Action Variable). AreOver symbols (valued_all w b.args)) _ (action_at w) (λ b k. k) (map (action_at v) xs)
       (every_map IsPlainAction _ (action_at v) (λ a k. atomics_over a.args k.0) xs h)
 
-pub rules_over : (t : WrittenTheory) → Every IsPlainRule t.rules → ActionsAreOver (theory_of t)
-rules_over t h r m w sorts =
+  conclusions_over : (fs : List (Fact Written)) → Every IsPlainFact fs → Every (λ (f : Fact ⊥). AreOver symbols f.args) (map (fact_at w) (map (fact_at v) fs))
+  conclusions_over fs h =
+      every_map (λ (f : Fact Variable). AreOver symbols (valued_all w f.args)) _ (fact_at w) (λ f k. k) (map (fact_at v) fs)
+      (every_map IsPlainFact _ (fact_at v) (λ f k. atomics_over f.args k.0) fs h)
+
+pub rules_over : (t : WrittenTheory) → Every IsPlainRule t.rules → InstancesAreOver (theory_of t)
+rules_over t h =
     let symbols = (signature_of (theory_of t)).symbols in
-    let q = member_mapped rule_of r t.rules m in
-    subst (λ (x : Rule). Every (λ (a : Action ⊥). AreOver symbols a.args) (facts_at w x.facts).actions) q.2
-    (actions_over symbols (numbered_in q.0.facts) w (λ x. (sorts _).1) q.0.facts.actions (every_member IsPlainRule t.rules q.0 q.1 h).actions)
+    record {
+      actions = λ r m w sorts. let q = member_mapped rule_of r t.rules m in
+          subst (λ (x : Rule). Every (λ (a : Action ⊥). AreOver symbols a.args) (facts_at w x.facts).actions) q.2
+          (actions_over symbols (numbered_in q.0.facts) w (λ x. (sorts _).1) q.0.facts.actions (every_member IsPlainRule t.rules q.0 q.1 h).actions);
+      conclusions = λ r m w sorts. let q = member_mapped rule_of r t.rules m in
+          subst (λ (x : Rule). Every (λ (f : Fact ⊥). AreOver symbols f.args) (facts_at w x.facts).conclusions) q.2
+          (conclusions_over symbols (numbered_in q.0.facts) w (λ x. (sorts _).1) q.0.facts.conclusions (every_member IsPlainRule t.rules q.0 q.1 h).conclusions);
+    }
 
 -- they leave the adversary alone
 among : (s : List ℕ) → Member s adversary_facts → Member s adversary_names

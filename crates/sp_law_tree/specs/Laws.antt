@@ -15,7 +15,7 @@ use Rattle.sp_spec.specs.Constants.{constants_of}
 use Rattle.sp_spec.specs.Findings.{rule_is_wrong}
 use Rattle.sp_spec.specs.Guarded.{Guarded}
 use Rattle.sp_spec.specs.Verdict.{HoldsInAll, HoldsInNone, HoldsInAllLogs, HoldsInNoLog}
-use Rattle.sp_law_equal.specs.Convergent.{AreConvergent}
+use Rattle.sp_law_equal.specs.NormalForms.{HaveNormalForms}
 use Rattle.sp_law_guard.specs.GuardedForm.{negate}
 use Rattle.sp_law_guard.specs.CheckedForm.{checked_form}
 use Rattle.sp_spec_proof.specs.Root.{root}
@@ -53,7 +53,7 @@ pub record LogsShowExecutions : Type 0 where
   pub none : (theory : Theory) (lemma : Lemma) (names : List (List ℕ)) → HasLogsFor theory names
       → Every (λ (r : Restriction). DependsOn (signature_of theory) names r.formula) theory.restrictions → DependsOn (signature_of theory) names lemma.formula
       → HoldsInNoLog theory lemma → HoldsInNone theory lemma
-  pub without_adversary : (theory : Theory) → NeedsNoAdversary theory → AreConvergent (signature_of theory).equations
+  pub without_adversary : (theory : Theory) → NeedsNoAdversary theory → HaveNormalForms (signature_of theory).equations
       → (names : List (List ℕ)) → is_listed (codes "K") names ≡ false → HasLogsFor theory names
 
 -- What a finished tree shows of a lemma of a theory without findings on its rules, steps of the adversary included. From the negation of the lemma's guarded

@@ -67,7 +67,7 @@ module _ (theory : Theory) where
   module _ (good : CanCheck theory) where
     instance_decides : (e : Entry) (past : Log) → Decides (entry_is_instance (signature_of theory) theory.rules e) (Keeps theory Instance e past)
     instance_decides (step r facts os) past =
-        let d = any_decides (signature_of theory) good.convergent good.keeps theory.rules good.plain r facts in (
+        let d = any_decides (signature_of theory) good.normal_forms good.keeps theory.rules good.plain r facts in (
           λ t. let h = d.0 t in (h.0, h.1, h.2, h.3.0, h.3.1, h.3.2),
           λ h. d.1 (h.0, h.1, h.2, (h.3, h.4, h.5)),
         )

@@ -10,12 +10,14 @@ use Rattle.sp_spec.specs.Same.{same_variable, same_term}
 use Rattle.sp_spec.specs.Signature.{Signature, Equation, IsValue, IsValuation}
 use Rattle.sp_spec.specs.Equal.{IsNormal, AreNormal}
 use Rattle.sp_spec.specs.Rule.{Fact, Action, Facts, Rule, fact_at, action_at, facts_at, AreNormalFacts, AreNormalActions, IsNormalFormOf, OfArguments}
-use Rattle.sp_law_equal.specs.Convergent.{AreConvergent, KeepSymbols, IsPlain, ArePlain}
+use Rattle.sp_law_equal.specs.NormalForms.{HaveNormalForms, KeepSymbols}
+use Rattle.sp_law_equal.specs.Destructors.{IsPlain, ArePlain}
 use Rattle.sp_law_equal.specs.Matching.{Bound, lookup, any_of, value_in, has_sort}
 use Rattle.sp_law_equal.specs.Normal.{normal}
 use Rattle.sp_spec.proofs.Same.{same_variable_decides, same_term_decides}
 use Rattle.sp_law_equal.proofs.Tests.{has_sort_decides}
-use Rattle.sp_law_equal.proofs.Forms.{normals, is_normal, normal_of_normal, plain_matches_none}
+use Rattle.sp_law_equal.proofs.Forms.{normals, normal_of_normal}
+use Rattle.sp_law_equal.proofs.Plain.{plain_matches_none}
 use Rattle.sp_law_run.specs.Given.{AgreeWith}
 use Rattle.sp_law_run.specs.Taken.{same_choice}
 use Rattle.sp_law_found.specs.Found.{matched_instance}
@@ -29,7 +31,7 @@ use Rattle.sp_law_equal.proofs.Chains.{equal_all_refl}
 
 -- ---- normal forms of instances of plain terms
 
-module _ (es : List Equation) (good : AreConvergent es) (v : Values) (normal_values : (x : Variable) → IsNormal es (v x)) where
+module _ (es : List Equation) (good : HaveNormalForms es) (v : Values) (normal_values : (x : Variable) → IsNormal es (v x)) where
   mutual
     plain_is_normal : (t : Term Variable) → IsPlain es t → IsNormal es (valued v t)
     plain_is_normal (var x) p = normal_values x
@@ -59,7 +61,7 @@ module _ (es : List Equation) (good : AreConvergent es) (v : Values) (normal_val
 
 -- ---- the values that are found
 
-module _ (signature : Signature) (good : AreConvergent signature.equations) where
+module _ (signature : Signature) (good : HaveNormalForms signature.equations) where
   abbrev es : List Equation
   es = signature.equations
 
@@ -76,7 +78,7 @@ module _ (signature : Signature) (good : AreConvergent signature.equations) wher
       let both = and_parts (has_sort b.0.sort b.1) _ e in
       let later = and_parts (over signature.symbols b.1) (same_term (normal es b.1) b.1) both.1 in (
         ((has_sort_decides b.0.sort b.1).0 both.0, (over_decides signature.symbols b.1).0 later.0),
-        subst (λ (t : Ground). IsNormal es t) ((same_term_decides (normal es b.1) b.1).0 later.1) (is_normal es good b.1),
+        subst (λ (t : Ground). IsNormal es t) ((same_term_decides (normal es b.1) b.1).0 later.1) (good.is_normal b.1),
       )
 
   value_from : (b : Bound) → IsNormalValue b.0.sort b.1 → is_normal_value signature b ≡ true
@@ -135,7 +137,7 @@ IsInstanceOf signature rule facts = (v : Values) × IsValuation signature v × I
 abbrev pub IsInstanceOfAny : Signature → List Rule → List ℕ → Facts ⊥ → Type 0
 IsInstanceOfAny signature rules r facts = (rule : Rule) × Member rule rules × (rule.name ≡ r) × IsInstanceOf signature rule facts
 
-module _ (signature : Signature) (good : AreConvergent signature.equations) (keeps : KeepSymbols signature.symbols signature.equations) where
+module _ (signature : Signature) (good : HaveNormalForms signature.equations) (keeps : KeepSymbols signature.symbols signature.equations) where
   module _ (rule : Rule) (plain : OfArguments (ArePlain signature.equations) rule.facts) (facts : Facts ⊥) where
     instance_tells : is_instance signature rule facts ≡ true → IsInstanceOf signature rule facts
     instance_tells e =
@@ -163,7 +165,7 @@ module _ (signature : Signature) (good : AreConvergent signature.equations) (kee
         let same : facts ≡ facts_at w rule.facts = plain_instance signature.equations good v rule.facts plain facts h.2 in
         let fit = instance_fits w (λ x. (valuation x).0) rule.facts in
         let values : are_normal_values signature fit.bindings ≡ true =
-        values_from signature good w (λ x. (valuation x, is_normal signature.equations good (v x))) fit.bindings fit.agree in
+        values_from signature good w (λ x. (valuation x, good.is_normal (v x))) fit.bindings fit.agree in
         let found : matched_instance rule.facts facts ≡ Some fit.bindings = ap (matched_instance rule.facts) same ∙ fit.is in
         and_from _ _ (subst (λ (f : Facts ⊥). are_alike rule.facts f ≡ true) (sym same) (instance_alike w rule.facts)) (ap (give_normal_values signature) found ∙ values)
 

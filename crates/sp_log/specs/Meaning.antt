@@ -7,7 +7,8 @@ use Rattle.sp_spec.specs.Signature.{IsValuation}
 use Rattle.sp_spec.specs.Rule.{Rule, facts_at, IsNormalFormOf, OfArguments}
 use Rattle.sp_spec.specs.Theory.{Theory, signature_of}
 use Rattle.sp_spec.specs.Log.{Entry, step, send, learn, Log, HasSources, all_fresh_uses, all_sources, IsLog}
-use Rattle.sp_law_equal.specs.Convergent.{AreConvergent, KeepSymbols, ArePlain}
+use Rattle.sp_law_equal.specs.NormalForms.{HaveNormalForms, KeepSymbols}
+use Rattle.sp_law_equal.specs.Destructors.{ArePlain}
 use Rattle.sp_law_erase.specs.Adversary.{HasStepsAlone}
 use Rattle.sp_log.specs.declared.check.Clause.{Clause}
 use Rattle.sp_log.specs.declared.check.Clause.TheVariants.{Instance, Sources, Freshness}
@@ -17,7 +18,7 @@ use Rattle.sp_log.specs.declared.check.Checked.TheVariants.{Fine, Fails}
 -- The theories whose logs of steps can be checked: the equations may be read from left to right and bring in no new symbols, and no destructor stands
 -- in a rule.
 pub record CanCheck (theory : Theory) : Type 0 where
-  pub convergent : AreConvergent (signature_of theory).equations
+  pub normal_forms : HaveNormalForms (signature_of theory).equations
   pub keeps : KeepSymbols (signature_of theory).symbols (signature_of theory).equations
   pub plain : Every (λ (r : Rule). OfArguments (ArePlain (signature_of theory).equations) r.facts) theory.rules
 

@@ -17,7 +17,7 @@ use crate::where_same::by_actions;
 use sp_fact::book::RuleBook;
 use sp_fact::fact::Action;
 use sp_fact::rule::Rule;
-use sp_system::system::{Event, System};
+use sp_system::system::{Event, System, What};
 use std::alloc::{AllocError, Global};
 
 /// The system with one more event: a step of the rule at the time, over variables that are new.
@@ -37,9 +37,9 @@ pub fn with_step(
         return Err(AllocError);
     };
     let facts = renamed(alloc, system.next, &rule.facts)?;
-    let rule = rule.name.copy()?;
+    let what = What::Rule(rule.name.copy()?);
     let mut made = system.copy(alloc)?;
-    made.events.push(Event { time, rule, facts })?;
+    made.events.push(Event { time, what, facts })?;
     made.next = next;
     Ok(made)
 }

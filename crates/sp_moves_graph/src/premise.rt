@@ -21,7 +21,7 @@ use sp_moves_formula::renamed::renamed;
 use sp_moves_formula::where_same::fact_unifier;
 use sp_rows::fresh_once::is_fresh;
 use sp_rows::links::premise_at;
-use sp_system::system::{Event, Link, System};
+use sp_system::system::{Event, Link, System, What};
 use std::alloc::{AllocError, Global};
 
 pub fn is_linked(links: &Vec<Link>, premise: Premise) -> bool
@@ -70,9 +70,9 @@ fn with_source(
     };
     let time = system.next;
     let facts = renamed(alloc, first, &rule.facts)?;
-    let rule = rule.name.copy()?;
+    let what = What::Rule(rule.name.copy()?);
     let mut made = system.copy(alloc)?;
-    made.events.push(Event { time, rule, facts })?;
+    made.events.push(Event { time, what, facts })?;
     made.links.push(Link {
         from: time,
         conclusion: place,

@@ -4,7 +4,6 @@ use Rattle.sp_spec_text.specs.Token.{Lexeme, word}
 use Rattle.sp_spec_text.specs.Lists.{NoReading}
 use Rattle.sp_read_parts.specs.Parts.{IsNameFirst, name}
 use Rattle.sp_spec_text.specs.Written.{Method, WrittenProof, step, WrittenCases, no_case, then_case}
-use Rattle.sp_written.specs.Views.{all_cases}
 use Rattle.sp_spec_text.specs.Proofs.{SpellsProof, SpellsCases, case, SpellsMore, qed, next}
 use Rattle.sp_read_proof.specs.Lines.{leaf, alone, cases, IsLine, ended, another, IsBehind, qed_line, next_line}
 use Rattle.sp_read_proof.specs.Frames.{Frame, lone, among, joined, Completes, whole, behind_lone, behind_more, Awaits, Same}
@@ -25,10 +24,6 @@ among_is (behind_more {bs = bs} {mid = mid} m h) = (bs, mid, m, h)
 joined_last : (done : List (List ℕ × WrittenProof)) (w : List ℕ) (k : WrittenProof) (bs : WrittenCases) → joined (done ++ (w, k) ∷ []) bs ≡ joined done (then_case w k bs)
 joined_last [] w k bs = refl
 joined_last (d ∷ done) w k bs = ap (λ (cs : WrittenCases). then_case d.0 d.1 cs) (joined_last done w k bs)
-
-all_joined : (done : List (List ℕ × WrittenProof)) → all_cases done ≡ joined done no_case
-all_joined [] = refl
-all_joined (d ∷ done) = ap (λ (cs : WrittenCases). then_case d.0 d.1 cs) (all_joined done)
 
 -- ---- behind a case
 
@@ -75,43 +70,39 @@ more_at e (name i) h m = rw e (next (case i h m))
 pub close_start : (fs : List Frame) (k : WrittenProof) (tokens : List Lexeme) → Same (Completes fs k) tokens (Completes fs k) tokens
 close_start fs k tokens = record { goes = λ a r h. h; comes = λ a r h. h }
 
-pub close_lone : {S : List Lexeme → WrittenProof → List Lexeme → Type 0} {start tokens : List Lexeme} {gs fs : List Frame} {x : Method} {k j : WrittenProof} → Same S start (Completes gs k) tokens → gs ≡ lone x ∷ fs
-    → j ≡ step x (then_case [] k no_case) → Same S start (Completes fs j) tokens
-close_lone {S} {start} {tokens} {gs} {fs} {x} {k} {j} s e f = record {
-  goes = λ a r h. s.goes a r (rw e (behind_lone (rw f at h)));
-  comes = λ a r h. rw f (lone_is (rw e at (s.comes a r h)));
+pub close_lone : {S : List Lexeme → WrittenProof → List Lexeme → Type 0} {start tokens : List Lexeme} {gs fs : List Frame} {x : Method} {k : WrittenProof} → Same S start (Completes gs k) tokens → gs ≡ lone x ∷ fs
+    → Same S start (Completes fs (step x (then_case [] k no_case))) tokens
+close_lone {tokens = tokens} {k = k} s e = record {
+  goes = λ a r h. s.goes a r (rw e (behind_lone h));
+  comes = λ a r h. lone_is (subst (λ (hs : List Frame). Completes hs k tokens a r) e (s.comes a r h));
 }
 
-pub close_ended : {S : List Lexeme → WrittenProof → List Lexeme → Type 0} {start tokens mid : List Lexeme} {gs fs : List Frame} {x : Method} {done read : List (List ℕ × WrittenProof)} {w : List ℕ} {k j : WrittenProof}
-    → Same S start (Completes gs k) tokens → gs ≡ among x done w ∷ fs → read ≡ done ++ (w, k) ∷ [] → IsBehind tokens ended mid → j ≡ step x (all_cases read) → Same S start (Completes fs j) mid
-close_ended {S} {start} {tokens} {mid} {gs} {fs} {x} {done} {read} {w} {k} {j} s e f b g =
-    let is : j ≡ step x (joined done (then_case w k no_case)) =
-    g ∙ ap (λ (ds : List (List ℕ × WrittenProof)). step x (all_cases ds)) f ∙ ap (λ (bs : WrittenCases). step x bs) (all_joined (done ++ (w, k) ∷ []) ∙ joined_last done w k no_case) in
-    record {
-      goes = λ a r h. s.goes a r (subst (λ (hs : List Frame). Completes hs k tokens a r) (sym e)
-          (subst (λ (ts : List Lexeme). Completes (among x done w ∷ fs) k ts a r) (sym (end_is b)) (behind_more qed (subst (λ (i : WrittenProof). Completes fs i mid a r) is h))));
-      comes = λ a r h.
-          let i = among_is (subst (λ (hs : List Frame). Completes hs k tokens a r) e (s.comes a r h)) in
-          let m = more_ended i.2 (end_is b) in
-          subst (λ (q : WrittenProof). Completes fs q mid a r) (ap (λ (bs : WrittenCases). step x (joined done (then_case w k bs))) m.0 ∙ sym is)
-          (subst (λ (ts : List Lexeme). Completes fs (step x (joined done (then_case w k i.0))) ts a r) m.1 i.3);
-    }
+pub close_ended : {S : List Lexeme → WrittenProof → List Lexeme → Type 0} {start tokens mid : List Lexeme} {gs fs : List Frame} {x : Method} {done : List (List ℕ × WrittenProof)} {w : List ℕ} {k : WrittenProof}
+    → Same S start (Completes gs k) tokens → gs ≡ among x done w ∷ fs → IsBehind tokens ended mid → Same S start (Completes fs (step x (joined done (then_case w k no_case)))) mid
+close_ended {tokens = tokens} {mid} {fs = fs} {x} {done} {w} {k} s e b = record {
+  goes = λ a r h. s.goes a r (subst (λ (hs : List Frame). Completes hs k tokens a r) (sym e)
+      (subst (λ (ts : List Lexeme). Completes (among x done w ∷ fs) k ts a r) (sym (end_is b)) (behind_more qed h)));
+  comes = λ a r h.
+      let i = among_is (subst (λ (hs : List Frame). Completes hs k tokens a r) e (s.comes a r h)) in
+      let m = more_ended i.2 (end_is b) in
+      subst (λ (bs : WrittenCases). Completes fs (step x (joined done (then_case w k bs))) mid a r) m.0
+      (subst (λ (ts : List Lexeme). Completes fs (step x (joined done (then_case w k i.0))) ts a r) m.1 i.3);
+}
 
-pub close_another : {S : List Lexeme → WrittenProof → List Lexeme → Type 0} {start tokens mid : List Lexeme} {gs fs hs : List Frame} {x : Method} {done read : List (List ℕ × WrittenProof)} {w v : List ℕ} {k : WrittenProof}
-    → Same S start (Completes gs k) tokens → gs ≡ among x done w ∷ fs → read ≡ done ++ (w, k) ∷ [] → IsBehind tokens (another v) mid → hs ≡ among x read v ∷ fs → Same S start (Awaits hs) mid
-close_another {S} {start} {tokens} {mid} {gs} {fs} {hs} {x} {done} {read} {w} {v} {k} s e f b g =
-    let is : hs ≡ among x (done ++ (w, k) ∷ []) v ∷ fs = g ∙ ap (λ (ds : List (List ℕ × WrittenProof)). among x ds v ∷ fs) f in
+pub close_another : {S : List Lexeme → WrittenProof → List Lexeme → Type 0} {start tokens mid : List Lexeme} {gs fs : List Frame} {x : Method} {done : List (List ℕ × WrittenProof)} {w v : List ℕ} {k : WrittenProof}
+    → Same S start (Completes gs k) tokens → gs ≡ among x done w ∷ fs → IsBehind tokens (another v) mid → Same S start (Awaits (among x (done ++ (w, k) ∷ []) v ∷ fs)) mid
+close_another {tokens = tokens} {fs = fs} {x} {done} {w} {v} {k} s e b =
     let n = next_is b in
     record {
       goes = λ a r h.
-          let i = among_is (subst (λ (qs : List Frame). Completes qs h.part h.mid a r) is h.completed) in
+          let i = among_is h.completed in
           let c = subst (λ (bs : WrittenCases). Completes fs (step x bs) i.1 a r) (joined_last done w k (then_case v h.part i.0)) i.3 in
           s.goes a r (subst (λ (qs : List Frame). Completes qs k tokens a r) (sym e) (behind_more (more_at n.1 n.2 h.spelled i.2) c));
       comes = λ a r h.
           let i = among_is (subst (λ (qs : List Frame). Completes qs k tokens a r) e (s.comes a r h)) in
           let m = more_another i.2 n.1 n.2 in
           let c = subst (λ (bs : WrittenCases). Completes fs (step x bs) i.1 a r) (ap (λ (bs : WrittenCases). joined done (then_case w k bs)) m.are ∙ sym (joined_last done w k (then_case v m.part m.others))) i.3 in
-          record { part = m.part; mid = m.mid; spelled = m.spelled; completed = subst (λ (qs : List Frame). Completes qs m.part m.mid a r) (sym is) (behind_more m.behind c) };
+          record { part = m.part; mid = m.mid; spelled = m.spelled; completed = behind_more m.behind c };
     }
 
 pub close_stuck : {S : List Lexeme → WrittenProof → List Lexeme → Type 0} {start tokens : List Lexeme} {gs fs : List Frame} {x : Method} {done : List (List ℕ × WrittenProof)} {w : List ℕ} {k : WrittenProof}
@@ -135,39 +126,33 @@ read_start tokens = record {
   comes = λ a r h. record { part = a; mid = r; spelled = h; completed = whole };
 }
 
-pub read_leaf : {start tokens mid : List Lexeme} {fs : List Frame} {x : Method} {k : WrittenProof} → Same SpellsProof start (Awaits fs) tokens → IsLine tokens (leaf x) mid → k ≡ step x no_case
-    → Same SpellsProof start (Completes fs k) mid
-read_leaf {mid = mid} {fs = fs} {k = k} s l e = record {
-  goes = λ a r h. s.goes a r (record { part = k; mid = mid; spelled = line_before l (e, refl); completed = h });
+pub read_leaf : {start tokens mid : List Lexeme} {fs : List Frame} {x : Method} → Same SpellsProof start (Awaits fs) tokens → IsLine tokens (leaf x) mid → Same SpellsProof start (Completes fs (step x no_case)) mid
+read_leaf {mid = mid} {fs = fs} {x = x} s l = record {
+  goes = λ a r h. s.goes a r (record { part = step x no_case; mid = mid; spelled = line_before l (refl, refl); completed = h });
   comes = λ a r h.
       let w = s.comes a r h in
       let f = behind_line l w.spelled in
-      subst (λ (i : WrittenProof). Completes fs i mid a r) (f.0 ∙ sym e) (subst (λ (ts : List Lexeme). Completes fs w.part ts a r) f.1 w.completed);
+      subst (λ (i : WrittenProof). Completes fs i mid a r) f.0 (subst (λ (ts : List Lexeme). Completes fs w.part ts a r) f.1 w.completed);
 }
 
-pub read_alone : {start tokens mid : List Lexeme} {fs hs : List Frame} {x : Method} → Same SpellsProof start (Awaits fs) tokens → IsLine tokens (alone x) mid → hs ≡ lone x ∷ fs → Same SpellsProof start (Awaits hs) mid
-read_alone {fs = fs} {hs = hs} {x = x} s l e = record {
-  goes = λ a r h.
-      let c = lone_is (subst (λ (qs : List Frame). Completes qs h.part h.mid a r) e h.completed) in
-      s.goes a r (record { part = step x (then_case [] h.part no_case); mid = h.mid; spelled = line_before l (h.part, refl, h.spelled); completed = c });
+pub read_alone : {start tokens mid : List Lexeme} {fs : List Frame} {x : Method} → Same SpellsProof start (Awaits fs) tokens → IsLine tokens (alone x) mid → Same SpellsProof start (Awaits (lone x ∷ fs)) mid
+read_alone {fs = fs} {x = x} s l = record {
+  goes = λ a r h. s.goes a r (record { part = step x (then_case [] h.part no_case); mid = h.mid; spelled = line_before l (h.part, refl, h.spelled); completed = lone_is h.completed });
   comes = λ a r h.
       let w = s.comes a r h in
       let f = behind_line l w.spelled in
-      let c = behind_lone (subst (λ (i : WrittenProof). Completes fs i w.mid a r) f.1 w.completed) in
-      record { part = f.0; mid = w.mid; spelled = f.2; completed = subst (λ (qs : List Frame). Completes qs f.0 w.mid a r) (sym e) c };
+      record { part = f.0; mid = w.mid; spelled = f.2; completed = behind_lone (subst (λ (i : WrittenProof). Completes fs i w.mid a r) f.1 w.completed) };
 }
 
-pub read_cases : {start tokens mid : List Lexeme} {fs hs : List Frame} {x : Method} {v : List ℕ} → Same SpellsProof start (Awaits fs) tokens → IsLine tokens (cases x v) mid → hs ≡ among x [] v ∷ fs
-    → Same SpellsProof start (Awaits hs) mid
-read_cases {fs = fs} {hs = hs} {x = x} {v = v} s l e = record {
+pub read_cases : {start tokens mid : List Lexeme} {fs : List Frame} {x : Method} {v : List ℕ} → Same SpellsProof start (Awaits fs) tokens → IsLine tokens (cases x v) mid → Same SpellsProof start (Awaits (among x [] v ∷ fs)) mid
+read_cases {fs = fs} {x = x} {v = v} s l = record {
   goes = λ a r h.
-      let i = among_is (subst (λ (qs : List Frame). Completes qs h.part h.mid a r) e h.completed) in
+      let i = among_is h.completed in
       s.goes a r (record { part = step x (then_case v h.part i.0); mid = i.1; spelled = line_before l (h.part, i.0, h.mid, refl, h.spelled, i.2); completed = i.3 });
   comes = λ a r h.
       let w = s.comes a r h in
       let f = behind_line l w.spelled in
-      let c : Completes (among x [] v ∷ fs) f.0 f.2 a r = behind_more f.5 (subst (λ (i : WrittenProof). Completes fs i w.mid a r) f.3 w.completed) in
-      record { part = f.0; mid = f.2; spelled = f.4; completed = subst (λ (qs : List Frame). Completes qs f.0 f.2 a r) (sym e) c };
+      record { part = f.0; mid = f.2; spelled = f.4; completed = behind_more f.5 (subst (λ (i : WrittenProof). Completes fs i w.mid a r) f.3 w.completed) };
 }
 
 pub read_stuck : {start tokens : List Lexeme} {fs : List Frame} → Same SpellsProof start (Awaits fs) tokens → NoReading IsLine tokens → NoReading SpellsProof start

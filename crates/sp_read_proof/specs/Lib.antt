@@ -1,4 +1,5 @@
 pub mod Frames
+pub mod Held
 pub mod Laws
 pub mod Lines
 pub mod View

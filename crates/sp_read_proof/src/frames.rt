@@ -1,11 +1,11 @@
 // Proofs that are read in part.
 
-ghost use Rattle.std.specs.Prelude.{◌≡◌, [], ◌∷◌, ◌++◌, IfOk, OnOk, MatchOption, map};
-ghost use Rattle.sp_spec_text.specs.Written.{step, no_case, then_case};
+ghost use Rattle.std.specs.Prelude.{◌≡◌, ◌<◌, List, ℕ, [], ◌∷◌, ◌++◌, OnOk, MatchOption, length};
+ghost use Rattle.sp_spec_text.specs.Written as text;
 ghost use Rattle.sp_written.specs.Views as view;
-ghost use Rattle.sp_read_proof.specs.View.{frame_of, frames_of};
+ghost use Rattle.sp_read_proof.specs.View.{steps_of, frames_of};
 
-use sp_written::{Method, WrittenCase, WrittenProof};
+use sp_written::{Method, WrittenStep};
 use std::alloc::{AllocError, Global};
 
 /// A line of a proof.
@@ -28,75 +28,80 @@ pub enum Behind<'a> {
     Another(&'a str),
 }
 
-/// A method of which a case is being read.
-#[derive(Drop)]
-pub enum Frame<'a> {
+/// A step of which a case is being read.
+#[derive(Clone, Copy)]
+pub enum Frame {
     /// its only case, which has no name
-    Lone(Method<'a>),
-    /// the cases that are read, and the name of the one that is being read
-    Among(Method<'a>, Vec<WrittenCase<'a>>, &'a str),
+    Lone,
+    /// one of its cases; it stands at this place among the steps
+    Among(usize),
 }
 
 /// Where a proof has ended: the whole is read, and what follows it stands at this place; or the next case begins there.
-#[derive(Drop)]
-pub enum Closed<'a> {
+#[derive(Clone, Copy)]
+pub enum Closed {
     /// the whole
-    Whole(WrittenProof<'a>, usize),
+    Whole(usize),
     /// the next case
     Case(usize),
 }
 
-/// A method over these cases.
-pub fn over_cases<'a>(method: Method<'a>, cases: Vec<WrittenCase<'a>>) -> WrittenProof<'a>
-    ensures { view.proof result ≡ step (view.method method.entry) (view.cases_of cases.entry.items) }
-{
-    WrittenProof { method, cases }
-}
-
-/// A method without cases.
-pub fn leaf<'a>(alloc: Global, method: Method<'a>) -> WrittenProof<'a>
-    ensures { view.proof result ≡ step (view.method method.entry) no_case }
-{
-    over_cases(method, Vec::new(alloc))
-}
-
-/// Puts a case at the end.
-pub fn push_case<'a>(
-    cases: &mut Vec<WrittenCase<'a>>,
-    name: &'a str,
-    proof: WrittenProof<'a>,
+/// Puts a step without cases behind the others.
+pub fn push_leaf<'a>(
+    alloc: Global,
+    steps: &mut Vec<WrittenStep<'a>>,
+    method: Method<'a>,
 ) -> Result<(), AllocError>
-    ensures { OnOk result (map view.case_of cases.new.items ≡ map view.case_of cases.old.items ++ (name.now, view.proof proof.entry) ∷ []) }
+    ensures { OnOk result (steps_of steps.new.items ≡ steps_of steps.old.items ++ (view.method method.entry, []) ∷ []) }
 {
-    cases.push(WrittenCase { name, proof })?;
+    steps.push(WrittenStep {
+        method,
+        cases: Vec::new(alloc),
+    })?;
     Ok(())
 }
 
-/// A method over an only case without a name.
-pub fn over_one<'a>(
+/// Puts a step behind the others of which a case with this name follows.
+pub fn push_step<'a>(
     alloc: Global,
+    steps: &mut Vec<WrittenStep<'a>>,
     method: Method<'a>,
-    proof: WrittenProof<'a>,
-) -> Result<WrittenProof<'a>, AllocError>
-    ensures { IfOk result (λ p. view.proof p ≡ step (view.method method.entry) (then_case [] (view.proof proof.entry) no_case)) }
+    name: &'a str,
+) -> Result<(), AllocError>
+    ensures { OnOk result (steps_of steps.new.items ≡ steps_of steps.old.items ++ (view.method method.entry, name.now ∷ []) ∷ []) }
 {
     let mut cases = Vec::new(alloc);
-    push_case(&mut cases, "", proof)?;
-    let made = over_cases(method, cases);
-    Ok(made)
+    cases.push(name)?;
+    steps.push(WrittenStep { method, cases })?;
+    Ok(())
+}
+
+/// Names the next case of the step at this place.
+pub fn name_case<'a>(
+    steps: &mut Vec<WrittenStep<'a>>,
+    place: usize,
+    name: &'a str,
+) -> Result<(), AllocError>
+    requires { place < length steps.old.items }
+    ensures { OnOk result ((outer inside : List (text.Method × List (List ℕ))) (x : text.Method) (names : List (List ℕ)) → place ≡ length outer → steps_of steps.old.items ≡ outer ++ (x, names) ∷ inside
+        → steps_of steps.new.items ≡ outer ++ (x, names ++ name.now ∷ []) ∷ inside) }
+{
+    let step = &mut steps[place];
+    step.cases.push(name)?;
+    Ok(())
 }
 
 /// Puts a frame inside the others.
-pub fn push_frame<'a>(frames: &mut Vec<Frame<'a>>, frame: Frame<'a>) -> Result<(), AllocError>
-    ensures { OnOk result (frames_of frames.new.items ≡ frame_of frame.entry ∷ frames_of frames.old.items) }
+pub fn push_frame(frames: &mut Vec<Frame>, frame: Frame) -> Result<(), AllocError>
+    ensures { OnOk result (frames_of frames.new.items ≡ frame ∷ frames_of frames.old.items) }
 {
     frames.push(frame)?;
     Ok(())
 }
 
 /// Takes the innermost frame.
-pub fn pop_frame<'a>(frames: &mut Vec<Frame<'a>>) -> Option<Frame<'a>>
-    ensures { MatchOption result (frames_of frames.old.items ≡ []) (λ f. frames_of frames.old.items ≡ frame_of f ∷ frames_of frames.new.items) }
+pub fn pop_frame(frames: &mut Vec<Frame>) -> Option<Frame>
+    ensures { MatchOption result (frames_of frames.old.items ≡ []) (λ f. frames_of frames.old.items ≡ f ∷ frames_of frames.new.items) }
 {
     frames.pop()
 }

@@ -4,7 +4,7 @@ use Rattle.sp_spec.specs.Rule.{Action}
 use Rattle.sp_spec.specs.Signature.{Signature, pair_symbols}
 use Rattle.sp_spec.specs.Theory.{Lemma, signature_of}
 use Rattle.sp_spec.specs.Execution.{Step, Trace, Cause}
-use Rattle.sp_law_equal.proofs.Pairs.{pairs_convergent}
+use Rattle.sp_law_equal.proofs.Pairs.{pairs_have_normal_forms}
 use Rattle.sp_law_run.proofs.Runs.{runs_alike}
 use Rattle.sp_law_run.proofs.Written.{rules_right}
 use Rattle.sp_spec.specs.Lists.{newest_first}
@@ -71,7 +71,7 @@ told_one {theory = theory} {steps = steps} {entries = entries} {others = others}
     let ran = steps_done (theory_said theory) steps in
     let right = rules_right (theory_in theory).rules poses.fine.rule_names in
     let traces = one_trace said ran (newest_first entries) (newest_first others) a.replayed b.replayed in
-    let shown = (runs_alike said pairs_convergent right (newest_first ran) a.replayed.executed.0 b.replayed.executed.0 a.replayed.shown b.replayed.shown a.replayed.executed.1 b.replayed.executed.1).1 in
+    let shown = (runs_alike said pairs_have_normal_forms right (newest_first ran) a.replayed.executed.0 b.replayed.executed.0 a.replayed.shown b.replayed.shown a.replayed.executed.1 b.replayed.executed.1).1 in
     let over = subst (λ (t : Trace). AreMet (signature_of said) t said.lemmas met) shown a.met_are in
     (same_entries entries others traces, mets_one (signature_of said) b.replayed.shown said.lemmas met meets over b.met_are)
 

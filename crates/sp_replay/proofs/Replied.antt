@@ -7,7 +7,7 @@ use Rattle.sp_spec.specs.Rule.{Rule}
 use Rattle.sp_spec.specs.Theory as theories
 use Rattle.sp_spec.specs.Theory.{Theory, Lemma}
 use Rattle.sp_spec.specs.Execution as execution
-use Rattle.sp_law_equal.proofs.Pairs.{pairs_convergent, pairs_keep_symbols}
+use Rattle.sp_law_equal.proofs.Pairs.{pairs_have_normal_forms, pairs_keep_symbols}
 use Rattle.sp_law_run.specs.NormalStep.{normal_step, normal_trace}
 use Rattle.sp_law_run.specs.Right.{AreRight}
 use Rattle.sp_law_run.proofs.Written.{rules_right}
@@ -94,7 +94,7 @@ module _ {text : List ℕ} (p : Problem) (posed : IsPosedBy text p) (s : Signatu
         subst (λ (ys : List execution.Step). IsReplayed said ys (trace_of trace)) steps_are (h said (sym posed.rules_are) (sym pairs)) in
         let normal : normal_trace (theories.signature_of said).equations done.shown ≡ trace_of trace = done.each done.shown done.executed in
         let plain : Every (λ (l : Lemma). IsPlainFormula l.formula) (map view.lemma ls) = subst (λ (ms : List Lemma). Every (λ (l : Lemma). IsPlainFormula l.formula) ms) (lemmas_same xs) first.lemmas_are in
-        let told = lemmas_met said pairs_convergent (pairs_keep_symbols (with_pairs [] []).symbols) (plain_rules_over (with_pairs [] []).symbols (rules_in (view.items xs)) first.rules_are)
+        let told = lemmas_met said pairs_have_normal_forms (pairs_keep_symbols (with_pairs [] []).symbols) (plain_rules_over (with_pairs [] []).symbols (rules_in (view.items xs)) first.rules_are)
         (newest_first (steps_done said (map step_of steps))) done.shown done.executed ls forms.forms plain forms.are in
         let met = map (held (trace_of trace)) (asked_list ls forms.forms) in
         let over : AreMet (theories.signature_of said) done.shown (map view.lemma ls) met =

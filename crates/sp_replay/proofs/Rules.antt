@@ -1,10 +1,9 @@
 -- The symbols of the pairs have names, and their equations may be read from left to right.
 use Rattle.std.proofs.Common.{◌≡◌, [], map, sym, ap, subst}
-use Rattle.sp_spec.specs.Term.{name}
 use Rattle.sp_spec.specs.Signature as spec
 use Rattle.sp_spec.specs.Signature.{with_pairs}
-use Rattle.sp_law_equal.specs.Convergent.{AreConvergent}
-use Rattle.sp_law_equal.proofs.Pairs.{pairs_convergent}
+use Rattle.sp_law_equal.specs.NormalForms.{HaveNormalForms}
+use Rattle.sp_law_equal.proofs.Pairs.{pairs_have_normal_forms}
 use Rattle.sp_ground.specs.View.{symbol_of, signature_of}
 use Rattle.sp_ground.specs.declared.signature.Signature.{Signature}
 use Rattle.sp_read_steps.specs.Lines.{HaveNames}
@@ -13,5 +12,5 @@ use Rattle.sp_read_steps.proofs.PairNames.{pairs_have_names}
 pub have_names : (s : Signature) → signature_of s ≡ with_pairs [] [] → HaveNames (map symbol_of s.symbols.items)
 have_names s e = subst HaveNames (sym (ap (λ (x : spec.Signature). x.symbols) e)) pairs_have_names
 
-pub are_convergent : (s : Signature) → signature_of s ≡ with_pairs [] [] → AreConvergent (signature_of s).equations
-are_convergent s e = subst AreConvergent (sym (ap (λ (x : spec.Signature). x.equations) e)) pairs_convergent
+pub have_normal_forms : (s : Signature) → signature_of s ≡ with_pairs [] [] → HaveNormalForms (signature_of s).equations
+have_normal_forms s e = subst HaveNormalForms (sym (ap (λ (x : spec.Signature). x.equations) e)) pairs_have_normal_forms

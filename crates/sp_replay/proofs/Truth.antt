@@ -10,7 +10,7 @@ use Rattle.sp_spec.specs.Theory.{Theory, signature_of}
 use Rattle.sp_spec.specs.Execution.{Step, Trace, IsExecution}
 use Rattle.sp_spec.specs.Truth.{IsTrueOver}
 use Rattle.sp_spec.specs.Guarded.{Guarded}
-use Rattle.sp_law_equal.specs.Convergent.{AreConvergent, KeepSymbols}
+use Rattle.sp_law_equal.specs.NormalForms.{HaveNormalForms, KeepSymbols}
 use Rattle.sp_law_equal.specs.Normal.{normal_action}
 use Rattle.sp_law_equal.proofs.Forms.{to_normal_all, are_normal}
 use Rattle.sp_law_truth.specs.Same.{SameActions, EqualTraces}
@@ -71,7 +71,7 @@ module _ (signature : Signature) where
   trace_equal (entry ∷ trace) = (actions_equal entry, trace_equal trace)
 
   -- the normal form is normal, and over the symbols if the trace is
-  module _ (good : AreConvergent signature.equations) where
+  module _ (good : HaveNormalForms signature.equations) where
     actions_normal : (actions : List (Action ⊥)) → Every (λ (a : Action ⊥). AreOver signature.symbols a.args) (map (normal_action signature.equations) actions)
         → Every (IsNormalAction signature) (map (normal_action signature.equations) actions)
     actions_normal [] h = tt
@@ -83,11 +83,11 @@ module _ (signature : Signature) where
 
 -- ---- truth over the trace of an execution
 
-module _ (theory : Theory) (good : AreConvergent (signature_of theory).equations) (keeps : KeepSymbols (signature_of theory).symbols (signature_of theory).equations)
+module _ (theory : Theory) (good : HaveNormalForms (signature_of theory).equations) (keeps : KeepSymbols (signature_of theory).symbols (signature_of theory).equations)
     (rules : RulesAreOver (signature_of theory).symbols theory.rules) (steps : List Step) (shown : Trace) (run : IsExecution theory steps shown) where
   can_decide : (f : Formula) (g : Guarded) → HasPlainTerms (signature_of theory) f → guarded_form [] f ≡ Some g → is_guarded g ≡ true → CanDecide (signature_of theory) (normal_trace (signature_of theory).equations shown) g
   can_decide f g plain e guarded = record {
-    convergent = good;
+    normal_forms = good;
     keeps = keeps;
     normal = trace_normal (signature_of theory) good shown
         (normal_trace_over (signature_of theory).symbols (signature_of theory).equations keeps shown (execution_over theory rules steps shown run));

@@ -7,7 +7,7 @@ use Rattle.sp_spec.specs.Theory.{Theory, Lemma, signature_of}
 use Rattle.sp_spec.specs.Execution.{Step, Trace, IsExecution}
 use Rattle.sp_spec.specs.Truth.{IsTrueOver}
 use Rattle.sp_spec.specs.Guarded.{Guarded}
-use Rattle.sp_law_equal.specs.Convergent.{AreConvergent, KeepSymbols}
+use Rattle.sp_law_equal.specs.NormalForms.{HaveNormalForms, KeepSymbols}
 use Rattle.sp_law_guard.specs.CheckedForm.{checked_form}
 use Rattle.sp_law_guard.proofs.Checked.{form_checked}
 use Rattle.sp_law_run.specs.NormalStep.{normal_trace}
@@ -29,7 +29,7 @@ met_as_told : (signature : Signature) (trace : Trace) (l : Lemma) (b : Bool) →
 met_as_told signature trace l true h = h.0 refl
 met_as_told signature trace l false h = λ t. true≢false (sym (h.1 t))
 
-module _ (theory : Theory) (good : AreConvergent (signature_of theory).equations) (keeps : KeepSymbols (signature_of theory).symbols (signature_of theory).equations)
+module _ (theory : Theory) (good : HaveNormalForms (signature_of theory).equations) (keeps : KeepSymbols (signature_of theory).symbols (signature_of theory).equations)
     (rules : RulesAreOver (signature_of theory).symbols theory.rules) (steps : List Step) (shown : Trace) (run : IsExecution theory steps shown) where
   lemma_met : (l : WrittenLemma) (g : Guarded) → IsPlainFormula (formula l.formula) → checked_form (formula l.formula) ≡ Some g
       → IsMet (signature_of theory) shown (held (normal_trace (signature_of theory).equations shown) (asked_with l g)) (view.lemma l)

@@ -2,5 +2,10 @@ pub mod Budget
 pub mod Choosing
 pub mod Ends
 pub mod Finished
-pub mod Pushed
+pub mod Gathering
+pub mod GrownNodes
+pub mod InOrder
+pub mod NextPlace
+pub mod Replaced
+pub mod Told
 pub mod Turns

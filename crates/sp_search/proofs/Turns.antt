@@ -1,4 +1,4 @@
--- Growth of trees that hold their systems and moves is growth of the trees that they show.
+-- Growth of trees that hold their systems, moves and depths is growth of the trees that they show.
 use Rattle.std.proofs.Common.{◌≡◌, ◌∙◌, ℕ, suc, ◌+◌, Bool, true, false, List, [], ◌∷◌, map, Option, Some, None, refl, sym, ap, subst, add-one, true≢false}
 use Rattle.std.specs.Prelude.{option_map, is_some, if◌then◌else◌}
 use Rattle.sp_spec.specs.Guarded.{Guarded}
@@ -12,20 +12,21 @@ use Rattle.sp_spec.specs.Log.{Log}
 use Rattle.sp_spec_proof.specs.Tree.{is_solved, Tree, node, Branches, no_branch, branch}
 use Rattle.sp_spec_proof.specs.Growth.{premise_from, first_premise, first_action, first_disjunction, choice, class_of, has_class, is_unproved, least_class, least_class_in, grown_at, grown_in, open_leaves, leaves_for, grown_leaf, first_grown}
 use Rattle.sp_search.specs.Kept.{Kept, leaf, ended, inner, Keeps, nothing, also, shown, shown_all}
-use Rattle.sp_search.specs.Growing.{least_kept, least_in, leaves_at, leaves, ended_with, replaced, opened, behind, grow, grow_in}
+use Rattle.sp_search.specs.Growing.{least_kept, least_in, leaves_at, cases_or_none, ended_with, replaced, opened, behind, next, grow, grow_in}
 
--- The tree belongs to this system: each open leaf has its own system and the move that is chosen for it, and the search ends with its log.
+-- The tree belongs to this system at this depth: each open leaf has its own system, the move that is chosen for it and its own depth, and
+-- the search ends with its log.
 abbrev mutual
-  pub Belongs : Context → System → Kept → Type 0
-  Belongs context s (leaf t move) = (t ≡ s) × (move ≡ choice context s)
-  Belongs context s (ended log) = end_log context s ≡ Some log
-  Belongs context s (inner move branches) = (is_unproved move ≡ false) × (is_solved move ≡ false) × AllBelong context (cases context s move) branches
+  pub Belongs : Context → ℕ → System → Kept → Type 0
+  Belongs context depth s (leaf t move own) = (t ≡ s) × (move ≡ choice context s) × (own ≡ depth)
+  Belongs context depth s (ended log) = end_log context s ≡ Some log
+  Belongs context depth s (inner move branches) = (is_unproved move ≡ false) × (is_solved move ≡ false) × AllBelong context (suc depth) (cases context s move) branches
 
-  pub AllBelong : Context → Option (List Case) → Keeps → Type 0
-  AllBelong context cs nothing = Unit {0}
-  AllBelong context None (also name tree branches) = ⊥
-  AllBelong context (Some []) (also name tree branches) = ⊥
-  AllBelong context (Some (c ∷ cs)) (also name tree branches) = Belongs context c.system tree × AllBelong context (Some cs) branches
+  pub AllBelong : Context → ℕ → Option (List Case) → Keeps → Type 0
+  AllBelong context depth cs nothing = Unit {0}
+  AllBelong context depth None (also name tree branches) = ⊥
+  AllBelong context depth (Some []) (also name tree branches) = ⊥
+  AllBelong context depth (Some (c ∷ cs)) (also name tree branches) = Belongs context depth c.system tree × AllBelong context depth (Some cs) branches
 
 -- below a move without branches there is nothing
 no_class : (context : Context) (depth : ℕ) (cs : Option (List Case)) → least_class_in context depth cs no_branch ≡ None
@@ -39,12 +40,12 @@ none_grown context k depth (Some []) = refl
 none_grown context k depth (Some (c ∷ cs)) = refl
 
 mutual
-  pub least_is : (context : Context) (depth : ℕ) (s : System) (t : Kept) → Belongs context s t → least_kept depth t ≡ least_class context depth s (shown t)
-  least_is context depth s (leaf u move) b = ap (λ (m : Move). class_of m depth) b.1
+  pub least_is : (context : Context) (depth : ℕ) (s : System) (t : Kept) → Belongs context depth s t → least_kept t ≡ least_class context depth s (shown t)
+  least_is context depth s (leaf u move own) b = rw (b.1, b.2) refl
   least_is context depth s (ended log) b = sym (no_class context (suc depth) (cases context s solved))
-  least_is context depth s (inner move branches) b = rw (b.0, add-one) (least_in_is context (suc depth) (cases context s move) branches b.2)
+  least_is context depth s (inner move branches) b = rw b.0 (least_in_is context (suc depth) (cases context s move) branches b.2)
 
-  least_in_is : (context : Context) (depth : ℕ) (cs : Option (List Case)) (ts : Keeps) → AllBelong context cs ts → least_in depth ts ≡ least_class_in context depth cs (shown_all ts)
+  least_in_is : (context : Context) (depth : ℕ) (cs : Option (List Case)) (ts : Keeps) → AllBelong context depth cs ts → least_in ts ≡ least_class_in context depth cs (shown_all ts)
   least_in_is context depth None nothing b = refl
   least_in_is context depth (Some []) nothing b = refl
   least_in_is context depth (Some (c ∷ cs)) nothing b = refl
@@ -57,21 +58,21 @@ abbrev pub Became : {A : Type 0} → A → A → Bool → Option A → Type 0
 Became old now done None = (now ≡ old) × (done ≡ false)
 Became old now done (Some grown_tree) = (now ≡ grown_tree) × (done ≡ true)
 
-leaves_show : (context : Context) (cs : Option (List Case)) → shown_all (leaves context cs) ≡ open_leaves cs
-leaves_show context None = refl
-leaves_show context (Some cs) = each cs
+leaves_show : (context : Context) (depth : ℕ) (cs : Option (List Case)) → shown_all (leaves_at context depth (cases_or_none cs)) ≡ open_leaves cs
+leaves_show context depth None = refl
+leaves_show context depth (Some cs) = each cs
   where
-    each : (cs : List Case) → shown_all (leaves_at context cs) ≡ leaves_for cs
+    each : (cs : List Case) → shown_all (leaves_at context depth cs) ≡ leaves_for cs
     each [] = refl
     each (c ∷ cs) = ap (branch c.name (node unproved no_branch)) (each cs)
 
-leaves_belong : (context : Context) (cs : Option (List Case)) → AllBelong context cs (leaves context cs)
-leaves_belong context None = tt
-leaves_belong context (Some cs) = each cs
+leaves_belong : (context : Context) (depth own : ℕ) → own ≡ depth → (cs : Option (List Case)) → AllBelong context depth cs (leaves_at context own (cases_or_none cs))
+leaves_belong context depth own e None = tt
+leaves_belong context depth own e (Some cs) = each cs
   where
-    each : (cs : List Case) → AllBelong context (Some cs) (leaves_at context cs)
+    each : (cs : List Case) → AllBelong context depth (Some cs) (leaves_at context own cs)
     each [] = tt
-    each (c ∷ cs) = ((refl, refl), each cs)
+    each (c ∷ cs) = ((refl, refl, e), each cs)
 
 -- a premise, a disjunction or an action that is chosen is no end
 no_end_from : (context : Context) (s : System) (i p : ℕ) (fs : List (Fact Variable)) (later : Move) → is_solved later ≡ false → is_solved (premise_from context s i p fs later) ≡ false
@@ -117,42 +118,46 @@ ended_shows : (o : Option Log) → shown (ended_with o) ≡ node solved (open_le
 ended_shows None = refl
 ended_shows (Some log) = refl
 
-replaced_shows : (context : Context) (s : System) (m : Move) → shown (replaced context s m) ≡ grown_leaf context s m
-replaced_shows context s simplify = ap (node simplify) (leaves_show context (cases context s simplify))
-replaced_shows context s contradiction = ap (node contradiction) (leaves_show context (cases context s contradiction))
-replaced_shows context s unproved = ap (node unproved) (leaves_show context (cases context s unproved))
-replaced_shows context s solved = ended_shows (end_log context s)
-replaced_shows context s (or k) = ap (node (or k)) (leaves_show context (cases context s (or k)))
-replaced_shows context s (action k) = ap (node (action k)) (leaves_show context (cases context s (action k)))
-replaced_shows context s (premise i p) = ap (node (premise i p)) (leaves_show context (cases context s (premise i p)))
+replaced_shows : (context : Context) (s : System) (m : Move) (depth : ℕ) → shown (replaced context s m depth) ≡ grown_leaf context s m
+replaced_shows context s simplify depth = ap (node simplify) (leaves_show context (depth + 1) (cases context s simplify))
+replaced_shows context s contradiction depth = ap (node contradiction) (leaves_show context (depth + 1) (cases context s contradiction))
+replaced_shows context s unproved depth = ap (node unproved) (leaves_show context (depth + 1) (cases context s unproved))
+replaced_shows context s solved depth = ended_shows (end_log context s)
+replaced_shows context s (or k) depth = ap (node (or k)) (leaves_show context (depth + 1) (cases context s (or k)))
+replaced_shows context s (action k) depth = ap (node (action k)) (leaves_show context (depth + 1) (cases context s (action k)))
+replaced_shows context s (premise i p) depth = ap (node (premise i p)) (leaves_show context (depth + 1) (cases context s (premise i p)))
 
-ended_belongs : (context : Context) (s : System) (o : Option Log) → end_log context s ≡ o → is_some o ≡ true → Belongs context s (ended_with o)
-ended_belongs context s None e some = absurd (true≢false (sym some))
-ended_belongs context s (Some log) e some = e
+ended_belongs : (context : Context) (depth : ℕ) (s : System) (o : Option Log) → end_log context s ≡ o → is_some o ≡ true → Belongs context depth s (ended_with o)
+ended_belongs context depth s None e some = absurd (true≢false (sym some))
+ended_belongs context depth s (Some log) e some = e
 
-replaced_belongs : (context : Context) (s : System) (m : Move) (depth k : ℕ) → m ≡ choice context s → has_class (class_of m depth) k ≡ true → Belongs context s (replaced context s m)
-replaced_belongs context s simplify depth k is e = (refl, refl, leaves_belong context (cases context s simplify))
-replaced_belongs context s contradiction depth k is e = (refl, refl, leaves_belong context (cases context s contradiction))
+replaced_belongs : (context : Context) (s : System) (m : Move) (depth k : ℕ) → m ≡ choice context s → has_class (class_of m depth) k ≡ true → Belongs context depth s (replaced context s m depth)
+replaced_belongs context s simplify depth k is e = (refl, refl, leaves_belong context (suc depth) (depth + 1) (add-one depth) (cases context s simplify))
+replaced_belongs context s contradiction depth k is e = (refl, refl, leaves_belong context (suc depth) (depth + 1) (add-one depth) (cases context s contradiction))
 replaced_belongs context s unproved depth k is e = absurd (true≢false (sym e))
-replaced_belongs context s solved depth k is e = ended_belongs context s (end_log context s) refl (has_log context s is)
-replaced_belongs context s (or n) depth k is e = (refl, refl, leaves_belong context (cases context s (or n)))
-replaced_belongs context s (action n) depth k is e = (refl, refl, leaves_belong context (cases context s (action n)))
-replaced_belongs context s (premise i p) depth k is e = (refl, refl, leaves_belong context (cases context s (premise i p)))
+replaced_belongs context s solved depth k is e = ended_belongs context depth s (end_log context s) refl (has_log context s is)
+replaced_belongs context s (or n) depth k is e = (refl, refl, leaves_belong context (suc depth) (depth + 1) (add-one depth) (cases context s (or n)))
+replaced_belongs context s (action n) depth k is e = (refl, refl, leaves_belong context (suc depth) (depth + 1) (add-one depth) (cases context s (action n)))
+replaced_belongs context s (premise i p) depth k is e = (refl, refl, leaves_belong context (suc depth) (depth + 1) (add-one depth) (cases context s (premise i p)))
 
 leaf_becomes : (context : Context) (k depth : ℕ) (s : System) (m : Move) (b : Bool) → has_class (class_of m depth) k ≡ b
-    → Became (node unproved no_branch) (shown (opened context s m b).0) (opened context s m b).1 (if b then Some (grown_leaf context s m) else None)
-leaf_becomes context k depth s m true e = (replaced_shows context s m, refl)
+    → Became (node unproved no_branch) (shown (opened context s m depth b).0) (opened context s m depth b).1 (if b then Some (grown_leaf context s m) else None)
+leaf_becomes context k depth s m true e = (replaced_shows context s m depth, refl)
 leaf_becomes context k depth s m false e = (refl, refl)
 
-leaf_belongs : (context : Context) (k depth : ℕ) (s : System) (m : Move) (b : Bool) → m ≡ choice context s → has_class (class_of m depth) k ≡ b → Belongs context s (opened context s m b).0
+leaf_belongs : (context : Context) (k depth : ℕ) (s : System) (m : Move) (b : Bool) → m ≡ choice context s → has_class (class_of m depth) k ≡ b → Belongs context depth s (opened context s m depth b).0
 leaf_belongs context k depth s m true is e = replaced_belongs context s m depth k is e
-leaf_belongs context k depth s m false is e = (refl, is)
+leaf_belongs context k depth s m false is e = (refl, is, refl)
 
-rests : (context : Context) (k depth : ℕ) (ts : Keeps) → grow_in context k depth true ts ≡ (ts, true)
-rests context k depth nothing = refl
-rests context k depth (also name (leaf s m) ts) = ap (behind name (leaf s m)) (rests context k depth ts)
-rests context k depth (also name (ended log) ts) = ap (behind name (ended log)) (rests context k depth ts)
-rests context k depth (also name (inner m branches) ts) = ap (behind name (inner m branches)) (rests context k depth ts)
+-- nothing more is replaced once a leaf has been
+pub rests_at : (context : Context) (k : ℕ) (t : Kept) → grow context k true t ≡ (t, true)
+rests_at context k (leaf s m depth) = refl
+rests_at context k (ended log) = refl
+rests_at context k (inner m branches) = refl
+
+rests : (context : Context) (k : ℕ) (ts : Keeps) → grow_in context k true ts ≡ (ts, true)
+rests context k nothing = refl
+rests context k (also name t ts) = ap (λ (r : Kept × Bool). next name r (λ now. grow_in context k now ts)) (rests_at context k t) ∙ ap (behind name t) (rests context k ts)
 
 within_becomes : (m : Move) (old now : Branches) (done : Bool) (g : Option Branches) → Became old now done g → Became (node m old) (node m now) done (option_map (node m) g)
 within_becomes m old now done None e = (ap (node m) e.0, e.1)
@@ -166,45 +171,46 @@ branch_becomes name t x ts done later None None e r f = rw (e.1, e.0, f.0) (refl
 branch_becomes name t x ts done later None (Some u) e r f = rw (e.1, e.0, f.0) (refl, f.1)
 branch_becomes name t x ts done later (Some v) h e r f = rw (e.1, e.0, r) (refl, refl)
 
-later_belong : (context : Context) (cs : List Case) (ts : Keeps) (done : Bool) (later : Bool → Keeps × Bool) → later true ≡ (ts, true)
-    → AllBelong context (Some cs) ts → AllBelong context (Some cs) (later false).0 → AllBelong context (Some cs) (later done).0
-later_belong context cs ts true later r b f = rw r b
-later_belong context cs ts false later r b f = f
+later_belong : (context : Context) (depth : ℕ) (cs : List Case) (ts : Keeps) (done : Bool) (later : Bool → Keeps × Bool) → later true ≡ (ts, true)
+    → AllBelong context depth (Some cs) ts → AllBelong context depth (Some cs) (later false).0 → AllBelong context depth (Some cs) (later done).0
+later_belong context depth cs ts true later r b f = rw r b
+later_belong context depth cs ts false later r b f = f
 
 mutual
-  pub grow_is : (context : Context) (k depth : ℕ) (s : System) (t : Kept) → Belongs context s t
-      → Became (shown t) (shown (grow context k depth false t).0) (grow context k depth false t).1 (grown_at context k depth s (shown t))
-  grow_is context k depth s (leaf u m) b = rw (b.0, b.1) (leaf_becomes context k depth s (choice context s) (has_class (class_of (choice context s) depth) k) refl)
+  pub grow_is : (context : Context) (k depth : ℕ) (s : System) (t : Kept) → Belongs context depth s t
+      → Became (shown t) (shown (grow context k false t).0) (grow context k false t).1 (grown_at context k depth s (shown t))
+  grow_is context k depth s (leaf u m own) b =
+      rw (b.0, b.1, b.2) (leaf_becomes context k depth s (choice context s) (has_class (class_of (choice context s) depth) k) refl)
   grow_is context k depth s (ended log) b =
       subst (λ (g : Option Branches). Became (node solved no_branch) (node solved no_branch) false (option_map (node solved) g)) (sym (none_grown context k (suc depth) (cases context s solved))) (refl, refl)
   grow_is context k depth s (inner m ts) b =
-      let r = grow_in context k (depth + 1) false ts in
-      let e : Became (shown_all ts) (shown_all r.0) r.1 (grown_in context k (suc depth) (cases context s m) (shown_all ts)) = rw add-one (grow_in_is context k (suc depth) (cases context s m) ts b.2) in
-      rw b.0 (within_becomes m (shown_all ts) (shown_all r.0) r.1 (grown_in context k (suc depth) (cases context s m) (shown_all ts)) e)
+      let r = grow_in context k false ts in
+      rw b.0 (within_becomes m (shown_all ts) (shown_all r.0) r.1 (grown_in context k (suc depth) (cases context s m) (shown_all ts)) (grow_in_is context k (suc depth) (cases context s m) ts b.2))
 
-  pub grow_in_is : (context : Context) (k depth : ℕ) (cs : Option (List Case)) (ts : Keeps) → AllBelong context cs ts
-      → Became (shown_all ts) (shown_all (grow_in context k depth false ts).0) (grow_in context k depth false ts).1 (grown_in context k depth cs (shown_all ts))
+  pub grow_in_is : (context : Context) (k depth : ℕ) (cs : Option (List Case)) (ts : Keeps) → AllBelong context depth cs ts
+      → Became (shown_all ts) (shown_all (grow_in context k false ts).0) (grow_in context k false ts).1 (grown_in context k depth cs (shown_all ts))
   grow_in_is context k depth None nothing b = (refl, refl)
   grow_in_is context k depth (Some []) nothing b = (refl, refl)
   grow_in_is context k depth (Some (c ∷ cs)) nothing b = (refl, refl)
   grow_in_is context k depth None (also name t ts) b = absurd b
   grow_in_is context k depth (Some []) (also name t ts) b = absurd b
   grow_in_is context k depth (Some (c ∷ cs)) (also name t ts) b =
-      let r = grow context k depth false t in
-      branch_becomes name t r.0 ts r.1 (λ now. grow_in context k depth now ts) (grown_at context k depth c.system (shown t)) (grown_in context k depth (Some cs) (shown_all ts))
-      (grow_is context k depth c.system t b.0) (rests context k depth ts) (grow_in_is context k depth (Some cs) ts b.1)
+      let r = grow context k false t in
+      branch_becomes name t r.0 ts r.1 (λ now. grow_in context k now ts) (grown_at context k depth c.system (shown t)) (grown_in context k depth (Some cs) (shown_all ts))
+      (grow_is context k depth c.system t b.0) (rests context k ts) (grow_in_is context k depth (Some cs) ts b.1)
 
 mutual
-  pub grow_belongs : (context : Context) (k depth : ℕ) (s : System) (t : Kept) → Belongs context s t → Belongs context s (grow context k depth false t).0
-  grow_belongs context k depth s (leaf u m) b = rw (b.0, b.1) (leaf_belongs context k depth s (choice context s) (has_class (class_of (choice context s) depth) k) refl refl)
+  pub grow_belongs : (context : Context) (k depth : ℕ) (s : System) (t : Kept) → Belongs context depth s t → Belongs context depth s (grow context k false t).0
+  grow_belongs context k depth s (leaf u m own) b =
+      rw (b.0, b.1, b.2) (leaf_belongs context k depth s (choice context s) (has_class (class_of (choice context s) depth) k) refl refl)
   grow_belongs context k depth s (ended log) b = b
-  grow_belongs context k depth s (inner m ts) b = (b.0, b.1, grow_in_belong context k (depth + 1) (cases context s m) ts b.2)
+  grow_belongs context k depth s (inner m ts) b = (b.0, b.1, grow_in_belong context k (suc depth) (cases context s m) ts b.2)
 
-  pub grow_in_belong : (context : Context) (k depth : ℕ) (cs : Option (List Case)) (ts : Keeps) → AllBelong context cs ts → AllBelong context cs (grow_in context k depth false ts).0
+  pub grow_in_belong : (context : Context) (k depth : ℕ) (cs : Option (List Case)) (ts : Keeps) → AllBelong context depth cs ts → AllBelong context depth cs (grow_in context k false ts).0
   grow_in_belong context k depth cs nothing b = tt
   grow_in_belong context k depth None (also name t ts) b = absurd b
   grow_in_belong context k depth (Some []) (also name t ts) b = absurd b
   grow_in_belong context k depth (Some (c ∷ cs)) (also name t ts) b = (
     grow_belongs context k depth c.system t b.0,
-    later_belong context cs ts (grow context k depth false t).1 (λ now. grow_in context k depth now ts) (rests context k depth ts) b.1 (grow_in_belong context k depth (Some cs) ts b.1),
+    later_belong context depth cs ts (grow context k false t).1 (λ now. grow_in context k now ts) (rests context k ts) b.1 (grow_in_belong context k depth (Some cs) ts b.1),
   )

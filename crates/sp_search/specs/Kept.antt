@@ -1,4 +1,4 @@
--- What a tree in memory holds: at each open leaf its system and the move that is chosen for it, and the log with which the search ends.
+-- What a tree in memory holds: at each open leaf its system, the move that is chosen for it and its depth, and the log with which the search ends.
 use Rattle.std.specs.Prelude.{ℕ, List, [], ◌∷◌, Option, Some, None}
 use Rattle.sp_spec.specs.Log.{Log}
 use Rattle.sp_spec_system.specs.System.{System}
@@ -7,7 +7,7 @@ use Rattle.sp_spec_proof.specs.Tree.{Tree, node, Branches, no_branch, branch, fi
 
 mutual
   pub data Kept : Type 0 where
-    leaf : System → Move → Kept
+    leaf : System → Move → ℕ → Kept
     ended : Log → Kept
     inner : Move → Keeps → Kept
 
@@ -15,14 +15,16 @@ mutual
     nothing : Keeps
     also : List ℕ → Kept → Keeps → Keeps
 
-abbrev pub all_kept : List (List ℕ × Kept) → Keeps
-all_kept [] = nothing
-all_kept (b ∷ bs) = also b.0 b.1 (all_kept bs)
+-- trees by the names of their cases
+abbrev pub with_names : List (List ℕ) → List Kept → Keeps
+with_names [] trees = nothing
+with_names (name ∷ names) [] = nothing
+with_names (name ∷ names) (tree ∷ trees) = also name tree (with_names names trees)
 
 -- the proof tree, in which an open leaf is a node that is not proved, and the search ends where a log is
 abbrev mutual
   pub shown : Kept → Tree
-  shown (leaf s move) = node unproved no_branch
+  shown (leaf s move depth) = node unproved no_branch
   shown (ended log) = node solved no_branch
   shown (inner move branches) = node move (shown_all branches)
 
@@ -33,7 +35,7 @@ abbrev mutual
 -- the first log in preorder
 abbrev mutual
   pub log_in : Kept → Option Log
-  log_in (leaf s move) = None
+  log_in (leaf s move depth) = None
   log_in (ended log) = Some log
   log_in (inner move branches) = log_among branches
 

@@ -1,40 +1,37 @@
 // The classes of open leaves: which is grown first.
 
-ghost use Rattle.std.specs.Prelude.{◌≡◌, ◌+◌, Some, IfOk};
+ghost use Rattle.std.specs.Prelude.{◌≡◌, ◌+◌, IfOk};
 ghost use Rattle.sp_moves.specs.View.{move_of};
 ghost use Rattle.sp_spec_proof.specs.Growth as growth;
-ghost use Rattle.sp_search.specs.Growing.{least_kept, least_in};
-ghost use Rattle.sp_search.specs.View.{kept_of, branches_of};
+ghost use Rattle.sp_search.specs.NodeView.{node_at, nodes_at};
+ghost use Rattle.sp_search.specs.Turning as turning;
 
-use crate::tree::{Branch, Tree};
+use crate::node::Node;
 use sp_moves::moves::Move;
 use std::alloc::AllocError;
 
-/// The rank of a leaf's move and its depth; none where no move is chosen.
-///
-/// # Errors
-///
-/// `AllocError` where the number is too large.
-pub fn class_of(chosen: Move, depth: u64) -> Result<Option<u64>, AllocError>
-    ensures { IfOk result (λ k. k ≡ growth.class_of (move_of chosen) depth) }
+// The rank of a leaf's move and its depth; none where no move is chosen. The sum is wider than the depth, so that it always fits.
+fn class_of(chosen: Move, depth: u64) -> Option<u128>
+    ensures { result ≡ growth.class_of (move_of chosen) depth }
 {
+    let depth = u128::from(depth);
     match chosen {
-        Move::Contradiction => sum(1, depth),
-        Move::Simplify => sum(2, depth),
-        Move::Solved => sum(3, depth),
-        Move::Or(_) => sum(4, depth),
-        Move::Action(_) => sum(5, depth),
-        Move::Premise(_) => sum(7, depth),
-        Move::Unproved => Ok(None),
+        Move::Contradiction => Some(1 + depth),
+        Move::Simplify => Some(2 + depth),
+        Move::Solved => Some(3 + depth),
+        Move::Or(_) => Some(4 + depth),
+        Move::Action(_) => Some(5 + depth),
+        Move::Premise(_) => Some(7 + depth),
+        Move::Unproved => None,
     }
 }
 
-fn sum(rank: u64, depth: u64) -> Result<Option<u64>, AllocError>
-    ensures { IfOk result (λ k. k ≡ Some (rank + depth)) }
+fn class_at(node: &Node) -> Option<u128>
+    ensures { result ≡ turning.class_at (node_at node.now) }
 {
-    match rank.checked_add(depth) {
-        Some(class) => Ok(Some(class)),
-        None => Err(AllocError),
+    match node {
+        Node::Open(leaf) => class_of(leaf.choice, leaf.depth),
+        Node::Ended(_) | Node::Inner(_, _) => None,
     }
 }
 
@@ -52,42 +49,27 @@ pub fn deeper(depth: u64) -> Result<u64, AllocError>
     }
 }
 
-fn least(first: Option<u64>, second: Option<u64>) -> Option<u64>
-    ensures { result ≡ growth.least first second }
+// The place that was found with its class, unless this one has the lesser class.
+fn sooner(found: Option<(usize, u128)>, place: usize, class: Option<u128>) -> Option<(usize, u128)>
+    ensures { result ≡ turning.sooner found (turning.placed place class) }
 {
-    match (first, second) {
-        (None, _) => second,
-        (_, None) => first,
-        (Some(a), Some(b)) => Some(a.min(b)),
+    match (found, class) {
+        (None, Some(class)) => Some((place, class)),
+        (Some((_, least)), Some(class)) if class < least => Some((place, class)),
+        _ => found,
     }
 }
 
-/// The least class of the tree's open leaves.
-///
-/// # Errors
-///
-/// `AllocError` where a number is too large.
-#[cycle(least)]
-pub fn least_class(tree: &Tree, depth: u64) -> Result<Option<u64>, AllocError>
-    ensures { IfOk result (λ k. k ≡ least_kept depth (kept_of tree.now)) }
-{
-    match tree {
-        Tree::Open(leaf) => class_of(leaf.choice, depth),
-        Tree::Ended(_) => Ok(None),
-        Tree::Node(_, branches) => {
-            let next = deeper(depth)?;
-            least_class_in(branches, next)
-        }
-    }
-}
-
-#[cycle(least)]
-fn least_class_in(branches: &Vec<Branch>, depth: u64) -> Result<Option<u64>, AllocError>
-    ensures { IfOk result (λ k. k ≡ least_in depth (branches_of branches.now.items)) }
+/// The place of the first open leaf of the least class; none where no leaf has a move.
+pub fn next_leaf(nodes: &Vec<Node>) -> Option<usize>
+    ensures { result ≡ turning.next_place (nodes_at nodes.now.items) }
 {
     let mut found = None;
-    for branch in branches {
-        found = least(found, least_class(&branch.tree, depth)?);
+    for (place, node) in nodes.iter().enumerate() {
+        found = sooner(found, place, class_at(node));
     }
-    Ok(found)
+    match found {
+        Some((place, _)) => Some(place),
+        None => None,
+    }
 }

@@ -1,168 +1,140 @@
 // Trees are grown, one open leaf after the other, until the search ends at one.
 
-ghost use Rattle.std.specs.Prelude.{◌≡◌, false, map, option_map, IfOk};
+ghost use Rattle.std.specs.Prelude.{◌≡◌, map, option_map, string_bytes, IfOk};
 ghost use Rattle.sp_system.specs.SystemView.{system_of};
 ghost use Rattle.sp_moves.specs.View.{context_of, move_of, case_of};
+ghost use Rattle.sp_spec_proof.specs.Cases.{cases};
 ghost use Rattle.sp_spec_proof.specs.Growth as growth;
 ghost use Rattle.sp_spec_proof.specs.Tree.{found_log};
 ghost use Rattle.sp_search.specs.Kept.{log_in};
+ghost use Rattle.sp_search.specs.Kinds.{open_leaf};
 ghost use Rattle.sp_search.specs.Growing as growing;
-ghost use Rattle.sp_search.specs.View.{kept_of, branch_of, branches_of, tree_of};
+ghost use Rattle.sp_search.specs.NodeView.{leaf_of, node_at, nodes_at};
+ghost use Rattle.sp_search.specs.Turning as turning;
+ghost use Rattle.sp_search.specs.View.{kept_of, tree_of};
 ghost use Rattle.sp_spec_system.specs.Move.{end_log};
 
 use crate::choose::choice;
-use crate::class::{class_of, deeper, least_class};
-use crate::tree::{Branch, OpenLeaf, Tree};
+use crate::class::{deeper, next_leaf};
+use crate::node::{Node, OpenLeaf};
+use crate::tree::Tree;
 use sp_moves::context::Context;
 use sp_moves::moves::{Case, Move, cases};
 use sp_system::system::System;
 use std::alloc::{AllocError, Global};
 
-fn open_leaf(alloc: Global, context: &Context, system: System) -> Result<Tree, AllocError>
-    ensures { IfOk result (λ t. kept_of t ≡ growing.open_leaf (context_of context.now) (system_of system)) }
+fn open_leaf(
+    alloc: Global,
+    context: &Context,
+    depth: u64,
+    system: System,
+) -> Result<Node, AllocError>
+    ensures { IfOk result (λ n. node_at n ≡ open_leaf (system_of system) (growth.choice (context_of context.now) (system_of system)) depth) }
 {
     let chosen = choice(alloc, context, &system)?;
     let leaf = OpenLeaf {
         system,
         choice: chosen,
+        depth,
     };
     let boxed = Box::new(alloc, leaf)?;
-    Ok(Tree::Open(boxed))
+    Ok(Node::Open(boxed))
 }
 
-fn leaf_at(alloc: Global, context: &Context, case: Case) -> Result<Branch, AllocError>
-    ensures { IfOk result (λ b. branch_of b ≡ growing.leaf_at (context_of context.now) (case_of case)) }
-{
-    let tree = open_leaf(alloc, context, case.system)?;
-    Ok(Branch {
-        name: case.name,
-        tree,
-    })
-}
-
-fn leaves_at(alloc: Global, context: &Context, found: Vec<Case>) -> Result<Vec<Branch>, AllocError>
-    ensures { IfOk result (λ bs. branches_of bs.items ≡ growing.leaves_at (context_of context.now) (map case_of found.items)) }
-{
-    let mut made = Vec::with_capacity(alloc, found.len())?;
-    for case in found {
-        made.push(leaf_at(alloc, context, case)?)?;
-    }
-    Ok(made)
-}
-
-fn leaves(
+// The names of the cases, and an open leaf at each.
+fn leaves_at(
     alloc: Global,
     context: &Context,
-    found: Option<Vec<Case>>,
-) -> Result<Vec<Branch>, AllocError>
-    ensures { IfOk result (λ bs. branches_of bs.items ≡ growing.leaves (context_of context.now) (option_map (λ cs. map case_of cs.items) found)) }
+    depth: u64,
+    found: Vec<Case>,
+) -> Result<(Vec<String>, Vec<Node>), AllocError>
+    ensures names { IfOk result (λ r. map string_bytes r.0.items ≡ map turning.name_of (map case_of found.items)) }
+    ensures leaves { IfOk result (λ r. nodes_at r.1.items ≡ map (turning.open_node (context_of context.now) depth) (map case_of found.items)) }
 {
-    match found {
-        Some(found) => leaves_at(alloc, context, found),
+    let mut names = Vec::with_capacity(alloc, found.len())?;
+    let mut leaves = Vec::with_capacity(alloc, found.len())?;
+    for case in found {
+        names.push(case.name)?;
+        leaves.push(open_leaf(alloc, context, depth, case.system)?)?;
+    }
+    Ok((names, leaves))
+}
+
+// The move, and behind it an open leaf at each case.
+fn move_nodes(
+    alloc: Global,
+    context: &Context,
+    chosen: Move,
+    depth: u64,
+    found: Vec<Case>,
+) -> Result<Vec<Node>, AllocError>
+    ensures { IfOk result (λ ns. nodes_at ns.items ≡ turning.move_nodes (context_of context.now) (move_of chosen) depth (map case_of found.items)) }
+{
+    let (names, mut leaves) = leaves_at(alloc, context, depth, found)?;
+    let mut nodes = Vec::new(alloc);
+    nodes.push(Node::Inner(chosen, names))?;
+    nodes.append(&mut leaves)?;
+    Ok(nodes)
+}
+
+// The cases of the leaf's move; without any where it is no instance.
+fn cases_of(alloc: Global, context: &Context, leaf: &OpenLeaf) -> Result<Vec<Case>, AllocError>
+    ensures { IfOk result (λ cs. map case_of cs.items ≡ growing.cases_or_none (cases (context_of context.now) (system_of leaf.now.system) (move_of leaf.now.choice))) }
+{
+    match cases(alloc, context, &leaf.system, leaf.choice)? {
+        Some(found) => Ok(found),
         None => Ok(Vec::new(alloc)),
     }
 }
 
 // The leaf with which the search ends, with its log.
-fn ended(alloc: Global, context: &Context, system: &System) -> Result<Tree, AllocError>
-    ensures { IfOk result (λ t. kept_of t ≡ growing.ended_with (end_log (context_of context.now) (system_of system.now))) }
+fn ended(alloc: Global, context: &Context, system: &System) -> Result<Node, AllocError>
+    ensures { IfOk result (λ n. node_at n ≡ turning.end_node (end_log (context_of context.now) (system_of system.now))) }
 {
     match context.found(alloc, system)? {
         Some(log) => {
             let boxed = Box::new(alloc, log)?;
-            Ok(Tree::Ended(boxed))
+            Ok(Node::Ended(boxed))
         }
-        None => Ok(Tree::Node(Move::Solved, Vec::new(alloc))),
+        None => Ok(Node::Inner(Move::Solved, Vec::new(alloc))),
     }
 }
 
-// The leaf replaced by its move, with an open leaf at each case.
-fn opened(alloc: Global, context: &Context, leaf: &OpenLeaf) -> Result<Tree, AllocError>
-    ensures { IfOk result (λ t. kept_of t ≡ growing.replaced (context_of context.now) (system_of leaf.now.system) (move_of leaf.now.choice)) }
+// The nodes that come in place of the leaf's: its move, with an open leaf at each case.
+fn replaced(alloc: Global, context: &Context, leaf: &OpenLeaf) -> Result<Vec<Node>, AllocError>
+    ensures { IfOk result (λ ns. nodes_at ns.items ≡ turning.replaced_nodes (context_of context.now) (system_of leaf.now.system) (move_of leaf.now.choice) leaf.now.depth) }
 {
     if leaf.choice == Move::Solved {
-        let tree = ended(alloc, context, &leaf.system)?;
+        let mut nodes = Vec::new(alloc);
+        nodes.push(ended(alloc, context, &leaf.system)?)?;
+        return Ok(nodes);
+    }
+    let depth = deeper(leaf.depth)?;
+    let found = cases_of(alloc, context, leaf)?;
+    move_nodes(alloc, context, leaf.choice, depth, found)
+}
+
+// The open leaf at this place.
+fn leaf_at(nodes: &Vec<Node>, place: usize) -> Option<&OpenLeaf>
+    ensures { option_map (λ leaf. leaf_of leaf.now) result ≡ turning.leaf_at place (nodes_at nodes.now.items) }
+{
+    match nodes.get(place)? {
+        Node::Open(leaf) => Some(leaf),
+        Node::Ended(_) | Node::Inner(_, _) => None,
+    }
+}
+
+// The tree with the open leaf at this place replaced.
+fn grown_at(alloc: Global, context: &Context, tree: Tree, place: usize) -> Result<Tree, AllocError>
+    ensures { IfOk result (λ t. nodes_at t.nodes.items ≡ turning.grown_at (context_of context.now) place (nodes_at tree.nodes.items)) }
+{
+    let Some(leaf) = leaf_at(&tree.nodes, place) else {
         return Ok(tree);
-    }
-    let found = cases(alloc, context, &leaf.system, leaf.choice)?;
-    let branches = leaves(alloc, context, found)?;
-    Ok(Tree::Node(leaf.choice, branches))
-}
-
-fn has_class(own: Option<u64>, class: u64) -> bool
-    ensures { result ≡ growth.has_class own class }
-{
-    match own {
-        Some(own) => own == class,
-        None => false,
-    }
-}
-
-fn grow_leaf(
-    alloc: Global,
-    context: &Context,
-    class: u64,
-    depth: u64,
-    leaf: Box<OpenLeaf>,
-) -> Result<(Tree, bool), AllocError>
-    ensures { IfOk result (λ r. (kept_of r.0, r.1) ≡ growing.opened (context_of context.now) (system_of leaf.value.system) (move_of leaf.value.choice) (growth.has_class (growth.class_of (move_of leaf.value.choice) depth) class)) }
-{
-    let own = class_of(leaf.choice, depth)?;
-    if has_class(own, class) {
-        let tree = opened(alloc, context, &leaf)?;
-        Ok((tree, true))
-    } else {
-        Ok((Tree::Open(leaf), false))
-    }
-}
-
-// The tree with the first open leaf of this class, in preorder, replaced, unless one has been replaced before.
-#[cycle(grow)]
-fn grow(
-    alloc: Global,
-    context: &Context,
-    class: u64,
-    depth: u64,
-    done: bool,
-    tree: Tree,
-) -> Result<(Tree, bool), AllocError>
-    ensures { IfOk result (λ r. (kept_of r.0, r.1) ≡ growing.grow (context_of context.now) class depth done (kept_of tree)) }
-{
-    if done {
-        return Ok((tree, true));
-    }
-    match tree {
-        Tree::Ended(log) => Ok((Tree::Ended(log), false)),
-        Tree::Open(leaf) => grow_leaf(alloc, context, class, depth, leaf),
-        Tree::Node(chosen, branches) => {
-            let next = deeper(depth)?;
-            let (made, grew) = grow_in(alloc, context, class, next, branches)?;
-            Ok((Tree::Node(chosen, made), grew))
-        }
-    }
-}
-
-#[cycle(grow)]
-fn grow_in(
-    alloc: Global,
-    context: &Context,
-    class: u64,
-    depth: u64,
-    branches: Vec<Branch>,
-) -> Result<(Vec<Branch>, bool), AllocError>
-    ensures { IfOk result (λ r. (branches_of r.0.items, r.1) ≡ growing.grow_in (context_of context.now) class depth false (branches_of branches.items)) }
-{
-    let mut made = Vec::with_capacity(alloc, branches.len())?;
-    let mut done = false;
-    for branch in branches {
-        let (tree, now) = grow(alloc, context, class, depth, done, branch.tree)?;
-        made.push(Branch {
-            name: branch.name,
-            tree,
-        })?;
-        done = now;
-    }
-    Ok((made, done))
+    };
+    let made = replaced(alloc, context, leaf)?;
+    let Tree { mut nodes } = tree;
+    let _replaced = nodes.splice(place..place + 1, made)?;
+    Ok(Tree { nodes })
 }
 
 // The tree with the first open leaf of the least class replaced, and whether there was one; the tree itself, once the search has ended.
@@ -172,10 +144,22 @@ fn turn(alloc: Global, context: &Context, tree: Tree) -> Result<(Tree, bool), Al
     if tree.found_log().is_some() {
         return Ok((tree, false));
     }
-    match least_class(&tree, 0)? {
-        Some(class) => grow(alloc, context, class, 0, false, tree),
+    match next_leaf(&tree.nodes) {
+        Some(place) => {
+            let grown = grown_at(alloc, context, tree, place)?;
+            Ok((grown, true))
+        }
         None => Ok((tree, false)),
     }
+}
+
+// The tree with which growth begins: the system's own leaf.
+fn open_tree(alloc: Global, context: &Context, root: System) -> Result<Tree, AllocError>
+    ensures { IfOk result (λ t. kept_of t ≡ growing.open_leaf (context_of context.now) 0 (system_of root)) }
+{
+    let mut nodes = Vec::new(alloc);
+    nodes.push(open_leaf(alloc, context, 0, root)?)?;
+    Ok(Tree { nodes })
 }
 
 /// The tree for this system, grown as often as the budget says and as there is a leaf with a move, until the search ends at a leaf: there
@@ -193,7 +177,7 @@ pub fn grown_tree(
     ensures tree { IfOk result (λ t. tree_of t ≡ growth.grown_tree (context_of context.now) (system_of root) budget) }
     ensures log { IfOk result (λ t. log_in (kept_of t) ≡ found_log (context_of context.now) (system_of root) (tree_of t)) }
 {
-    let mut tree = open_leaf(alloc, context, root)?;
+    let mut tree = open_tree(alloc, context, root)?;
     for turns in 0..budget {
         let (next, grew) = turn(alloc, context, tree)?;
         if !grew {

@@ -7,9 +7,13 @@
 
 mod choose;
 mod class;
+mod count;
 mod grow;
+mod node;
 mod tree;
 
 pub use choose::choice;
+pub use count::{is_finished, steps};
 pub use grow::grown_tree;
-pub use tree::{Branch, OpenLeaf, Tree, is_finished, steps};
+pub use node::{Node, OpenLeaf};
+pub use tree::Tree;

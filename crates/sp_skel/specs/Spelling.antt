@@ -6,7 +6,6 @@ use Rattle.sp_spec_text.specs.Lex.{skip}
 use Rattle.sp_spec_text.specs.Token.{Lexeme, word, solve}
 use Rattle.sp_spec_text.specs.Names.{IsName}
 use Rattle.sp_spec_system.specs.Move.{Move, simplify, contradiction, unproved, solved, or, action, premise}
-use Rattle.sp_spec.specs.Rule.{Rule}
 use Rattle.sp_spec_proof.specs.Tree.{Tree, node, Branches, no_branch, branch}
 use Rattle.sp_text.specs.Places.{HasPlace}
 use Rattle.sp_spec_text.specs.Written.{Method, said, goal, WrittenProof, step, WrittenCases, no_case, then_case}

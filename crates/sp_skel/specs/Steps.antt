@@ -3,6 +3,7 @@ use Rattle.std.specs.Prelude.{ℕ, ◌^◌, nat_lt, if◌then◌else◌, List, O
 use Rattle.std.specs.Str.{bytes_eq}
 use Rattle.sp_spec_system.specs.Move.{Move, simplify, contradiction, unproved, solved, or, action, premise}
 use Rattle.sp_spec_text.specs.Written.{Method, said, goal, WrittenProof, step, WrittenCases, no_case, then_case}
+use Rattle.sp_check.specs.Nodes.{NodeRead}
 use Rattle.sp_check.specs.Skeleton.{Step, known, unbuilt, unknown, Skeleton, node_read, BranchesRead, none_read, branch_read}
 use Rattle.sp_skel.specs.MoveTexts.{trimmed, first_word, other_words, only_number, two_numbers, is_unbuilt}
 
@@ -41,6 +42,10 @@ step_of_text text = trimmed_step (trimmed text)
 abbrev pub step_said : Method → Step
 step_said (said w) = step_of_word w
 step_said (goal text) = step_of_text text
+
+-- what a step says whose cases have these names
+abbrev pub node_said : Method × List (List ℕ) → NodeRead
+node_said s = (step_said s.0, s.1)
 
 -- the tree that a written proof says
 abbrev mutual

@@ -1,52 +1,25 @@
 // The trees that written proofs say.
 
-ghost use Rattle.std.specs.Prelude.{◌≡◌, ◌∷◌, ◌++◌, [], IfOk, OnOk, map, string_bytes};
+ghost use Rattle.std.specs.Prelude.{◌≡◌, IfOk};
 ghost use Rattle.sp_written.specs.Views as view;
-ghost use Rattle.sp_check.specs.Skeleton.{node_read};
-ghost use Rattle.sp_check.specs.View.{step_of, skeleton_of, branch_of, branches_of};
+ghost use Rattle.sp_check.specs.View.{node_of, skeleton_of};
 ghost use Rattle.sp_skel.specs.Steps as spec;
 
 use crate::steps::step_said;
-use sp_check::{Branch, Skeleton, Step};
-use sp_written::{WrittenCase, WrittenProof};
+use sp_check::{Node, Skeleton};
+use sp_written::{WrittenProof, WrittenStep};
 use std::alloc::{AllocError, Global};
 
-/// A node over these branches.
-fn node(step: Step, branches: Vec<Branch>) -> Skeleton
-    ensures { skeleton_of result ≡ node_read (step_of step) (branches_of branches.items) }
+/// What a step says, over cases of the same names.
+fn node_said(alloc: Global, step: &WrittenStep) -> Result<Node, AllocError>
+    ensures { IfOk result (λ n. node_of n ≡ spec.node_said (view.step_at step.now)) }
 {
-    Skeleton { step, branches }
-}
-
-/// Puts a branch at the end.
-fn push_branch(branches: &mut Vec<Branch>, name: String, tree: Skeleton) -> Result<(), AllocError>
-    ensures { OnOk result (map branch_of branches.new.items ≡ map branch_of branches.old.items ++ (string_bytes name, skeleton_of tree) ∷ []) }
-{
-    branches.push(Branch { name, tree })?;
-    Ok(())
-}
-
-#[cycle(said)]
-fn tree_said(proof: &WrittenProof, alloc: Global) -> Result<Skeleton, AllocError>
-    ensures { IfOk result (λ k. skeleton_of k ≡ spec.skeleton (view.proof proof.now)) }
-{
-    let step = step_said(alloc, proof.method)?;
-    let branches = branches_said(&proof.cases, alloc)?;
-    let made = node(step, branches);
-    Ok(made)
-}
-
-#[cycle(said)]
-fn branches_said(cases: &Vec<WrittenCase>, alloc: Global) -> Result<Vec<Branch>, AllocError>
-    ensures { IfOk result (λ bs. branches_of bs.items ≡ spec.branches (view.cases_of cases.now.items)) }
-{
-    let mut made = Vec::with_capacity(alloc, cases.len())?;
-    for case in cases {
-        let name = String::from_str(alloc, case.name)?;
-        let tree = tree_said(&case.proof, alloc)?;
-        push_branch(&mut made, name, tree)?;
+    let mut cases = Vec::with_capacity(alloc, step.cases.len())?;
+    for name in &step.cases {
+        cases.push(String::from_str(alloc, name)?)?;
     }
-    Ok(made)
+    let step = step_said(alloc, step.method)?;
+    Ok(Node { step, cases })
 }
 
 /// The tree that a written proof says.
@@ -57,5 +30,9 @@ fn branches_said(cases: &Vec<WrittenCase>, alloc: Global) -> Result<Vec<Branch>,
 pub fn skeleton(alloc: Global, proof: &WrittenProof) -> Result<Skeleton, AllocError>
     ensures { IfOk result (λ k. skeleton_of k ≡ spec.skeleton (view.proof proof.now)) }
 {
-    tree_said(proof, alloc)
+    let mut nodes = Vec::with_capacity(alloc, proof.steps.len())?;
+    for step in &proof.steps {
+        nodes.push(node_said(alloc, step)?)?;
+    }
+    Ok(Skeleton { nodes })
 }

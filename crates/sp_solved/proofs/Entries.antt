@@ -10,11 +10,11 @@ use Rattle.sp_solved.specs.Candidate as spec
 use Rattle.sp_solved.proofs.Firsts.{behind, first_put}
 
 pub entry_put : (listed : List Event) (links : List Link) (v : Values) (events others : List Event) (e : Event) (made now : List Entry) (d : Entry) (sources : List log.Source) (target : Option (List log.Entry))
-    → events ≡ e ∷ others → Some sources ≡ spec.event_sources listed links e → entry_of d ≡ spec.entry_at v e.happening sources → now ≡ made ++ d ∷ []
+    → events ≡ e ∷ others → Some sources ≡ spec.event_sources listed links e → entry_of d ≡ spec.entry_at listed v e.happening sources → now ≡ made ++ d ∷ []
     → behind (map entry_of made) (spec.entries_of listed links v events) ≡ target → behind (map entry_of now) (spec.entries_of listed links v others) ≡ target
 entry_put listed links v events others e made now d sources target there h is put inv =
     let rest = spec.entries_of listed links v others in
     ap (λ (ds : List log.Entry). behind ds rest)
     (ap (map entry_of) put ∙ map-append entry_of made (d ∷ []) ∙ ap (λ (x : log.Entry). map entry_of made ++ x ∷ []) is)
-    ∙ first_put (spec.entry_at v e.happening) (map entry_of made) sources (spec.event_sources listed links e) rest target (sym h)
+    ∙ first_put (spec.entry_at listed v e.happening) (map entry_of made) sources (spec.event_sources listed links e) rest target (sym h)
     (ap (λ (es : List Event). behind (map entry_of made) (spec.entries_of listed links v es)) (sym there) ∙ inv)

@@ -7,3 +7,4 @@ pub mod Giving
 pub mod Rounds
 pub mod Constant
 pub mod Entries
+pub mod Alone

@@ -1,11 +1,12 @@
 -- The log that a solved system suggests: its events one after the other, each behind those that the order puts before it, with names for
 -- the variables that are left. Source: CSF 2012, "Constraint solving" (extracting an attack from a solved system).
-use Rattle.std.specs.Prelude.{ℕ, suc, ◌==◌, Bool, true, false, not, ◌&&◌, ◌||◌, if◌then◌else◌, List, [], ◌∷◌, Option, Some, None, option_map, option_and_then}
-use Rattle.sp_spec.specs.Term.{Variable, Values}
+use Rattle.std.specs.Prelude.{ℕ, suc, ◌==◌, Bool, true, false, not, ◌&&◌, ◌||◌, if◌then◌else◌, List, [], ◌∷◌, Option, Some, None, option_map, option_and_then, unwrap_or}
+use Rattle.sp_spec.specs.Term.{Variable, Values, valued}
 use Rattle.sp_spec.specs.Rule.{Fact, facts_at}
 use Rattle.sp_spec.specs.Guarded.{Guarded, holds, acts, free_time}
-use Rattle.sp_spec.specs.Log.{Entry, step, Source, fresh_rule, conclusion, is_fr}
-use Rattle.sp_spec_system.specs.System.{Happening, rule_step, Event, Link, System, happening_premises}
+use Rattle.sp_spec.specs.Log.{Entry, step, send, learn, Source, fresh_rule, conclusion, is_fr}
+use Rattle.sp_spec_system.specs.System.{Happening, rule_step, sending, learning, Event, Link, System, happening_premises}
+use Rattle.sp_spec_system.specs.Solutions.{how_at}
 use Rattle.sp_spec_system.specs.Order.{is_cyclic}
 use Rattle.sp_solved.specs.Listing.{in_order}
 use Rattle.sp_solved.specs.Naming.{values_of}
@@ -48,9 +49,19 @@ abbrev pub all_sourced : List Event → List Link → List Event → Bool
 all_sourced events links [] = true
 all_sourced events links (e ∷ es) = are_sourced events links e.time 0 (happening_premises e.happening) && all_sourced events links es
 
--- each action has an event, each premise a source, and the order no cycle
+-- a rule's step; a test of logs in which the adversary sends or learns is not built
+abbrev pub is_rule_step : Happening → Bool
+is_rule_step (rule_step r facts) = true
+is_rule_step (sending m) = false
+is_rule_step (learning m way) = false
+
+abbrev pub are_rule_steps : List Event → Bool
+are_rule_steps [] = true
+are_rule_steps (e ∷ es) = is_rule_step e.happening && are_rule_steps es
+
+-- each event is a rule's step, each action has an event, each premise a source, and the order no cycle
 abbrev pub is_ready : System → Bool
-is_ready s = have_places s.events s.formulas && (all_sourced s.events s.links s.events && not (is_cyclic s.order))
+is_ready s = are_rule_steps s.events && (have_places s.events s.formulas && (all_sourced s.events s.links s.events && not (is_cyclic s.order)))
 
 -- ---- the log
 
@@ -76,8 +87,15 @@ sources_from listed links i p [] = Some []
 sources_from listed links i p (f ∷ fs) =
     option_and_then (λ source. option_map (λ sources. source ∷ sources) (sources_from listed links i (suc p) fs)) (source_of listed links i p f)
 
-abbrev pub entry_at : Values → Happening → List Source → Entry
-entry_at v (rule_step r facts) sources = step r (facts_at v facts) sources
+-- the position that the event at a time has in a log of the list, 0 where the list has none
+abbrev pub position_of : List Event → ℕ → ℕ
+position_of listed i = unwrap_or (place_of i listed) 0
+
+-- the entry of what happens, under these values, with these sources of its premises
+abbrev pub entry_at : List Event → Values → Happening → List Source → Entry
+entry_at listed v (rule_step r facts) sources = step r (facts_at v facts) sources
+entry_at listed v (sending m) sources = send (valued v m)
+entry_at listed v (learning m way) sources = learn (valued v m) (how_at (record { terms = v; times = position_of listed }) way)
 
 abbrev pub event_sources : List Event → List Link → Event → Option (List Source)
 event_sources listed links e = sources_from listed links e.time 0 (happening_premises e.happening)
@@ -86,7 +104,7 @@ event_sources listed links e = sources_from listed links e.time 0 (happening_pre
 abbrev pub entries_of : List Event → List Link → Values → List Event → Option (List Entry)
 entries_of listed links v [] = Some []
 entries_of listed links v (e ∷ es) =
-    option_and_then (λ sources. option_map (λ entries. entry_at v e.happening sources ∷ entries) (entries_of listed links v es)) (event_sources listed links e)
+    option_and_then (λ sources. option_map (λ entries. entry_at listed v e.happening sources ∷ entries) (entries_of listed links v es)) (event_sources listed links e)
 
 abbrev pub logged : List (List ℕ) → List Link → List Event → Option (List Entry)
 logged constants links events = entries_of events links (values_of constants events) events

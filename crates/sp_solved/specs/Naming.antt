@@ -1,18 +1,30 @@
 -- Values for the variables that are left in a list of events: fresh names ~n1, ~n2, .. for the fresh ones, and public names 'a1', 'a2', .. for
 -- the others, but those that the theory has. Source: CSF 2012, "Constraint solving" (extracting an attack from a solved system).
 use Rattle.std.specs.Prelude.{ℕ, zero, suc, ◌+◌, Bool, false, ◌||◌, if◌then◌else◌, List, [], ◌∷◌, ◌++◌, length, codes, decimal}
-use Rattle.sp_spec.specs.Term.{Sort, Msg, Fresh, Pub, Variable, constant, name, Values}
+use Rattle.sp_spec.specs.Term.{Sort, Msg, Fresh, Pub, Variable, Term, constant, name, Values}
 use Rattle.sp_spec.specs.Same.{same_variable}
 pub use Rattle.sp_spec.specs.Term.{in_term, in_terms}
 pub use Rattle.sp_spec.specs.Rule.{in_facts, in_actions, occurrences}
 use Rattle.sp_spec.specs.Written.{is_listed}
 use Rattle.sp_law_equal.specs.Matching.{Bound, value_in}
-use Rattle.sp_spec_system.specs.System.{Happening, rule_step, Event}
+use Rattle.sp_spec_system.specs.System.{Way, by_chain, Happening, rule_step, sending, learning, Event}
 
 -- ---- the variables, in the order in which they first stand
 
+-- those of messages, and of the way in which one is learnt
+abbrev pub in_chain : List (Term Variable) → List Variable
+in_chain [] = []
+in_chain (t ∷ ts) = in_term t ++ in_chain ts
+
+abbrev pub in_way : Way → List Variable
+in_way (by_chain i k ts) = in_chain ts
+in_way way = []
+
+-- those of what happens
 abbrev pub in_step : Happening → List Variable
 in_step (rule_step r facts) = occurrences facts
+in_step (sending m) = in_term m
+in_step (learning m way) = in_term m ++ in_way way
 
 abbrev pub in_events : List Event → List Variable
 in_events [] = []

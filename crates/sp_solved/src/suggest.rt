@@ -1,12 +1,13 @@
 // The log that a system suggests.
 
-ghost use Rattle.std.specs.Prelude.{◌≡◌, ◌&&◌, not, IfOk, map, option_map};
+ghost use Rattle.std.specs.Prelude.{◌≡◌, ◌&&◌, not, List, IfOk, map, option_map};
 ghost use Rattle.sp_term.specs.View.{name_of};
 ghost use Rattle.sp_fact.specs.View.{fact_of};
 ghost use Rattle.sp_formula.specs.FormulaView.{formula_of};
 ghost use Rattle.sp_law_equal.specs.Matching.{value_in};
 ghost use Rattle.sp_norm.specs.Bounds.{bounds};
 ghost use Rattle.sp_spec_system.specs.System.{happening_premises};
+ghost use Rattle.sp_spec_system.specs.System as spec_system;
 ghost use Rattle.sp_system.specs.SystemView.{event_of, link_of, system_of};
 ghost use Rattle.sp_log.specs.View.{entries_of, entry_of, source_of};
 ghost use Rattle.sp_solved.specs.ListingView.{events_of};
@@ -20,7 +21,7 @@ use sp_log::log::{Entry, Log, Source};
 use sp_norm::instance::facts_value;
 use sp_norm::values::Values;
 use sp_system::order::is_cyclic;
-use sp_system::system::{Event, Link, System};
+use sp_system::system::{Event, Link, System, What};
 use sp_term::term::Name;
 use std::alloc::{AllocError, Global};
 
@@ -102,6 +103,7 @@ fn all_sourced(events: &Vec<Event>, links: &Vec<Link>) -> bool
 }
 
 /// Whether the system suggests a log. That premises have sources is asked first: most systems that are asked have an open one.
+#[tactic(auto, using(crate::proofs::Alone::steps_alone))]
 fn is_ready(alloc: Global, system: &System) -> Result<bool, AllocError>
     ensures { IfOk result (λ b. b ≡ spec.is_ready (system_of system.now)) }
 {
@@ -194,15 +196,19 @@ fn entry(
     event: &Event,
     sources: Vec<Source>,
 ) -> Result<Entry, AllocError>
-    ensures { IfOk result (λ e. entry_of e ≡ spec.entry_at (value_in (bounds values.now)) (event_of event.now).happening (map source_of sources.items)) }
+    ensures { IfOk result (λ e. (listed : List spec_system.Event) → entry_of e ≡ spec.entry_at listed (value_in (bounds values.now)) (event_of event.now).happening (map source_of sources.items)) }
 {
-    let rule = event.rule.copy()?;
-    let facts = facts_value(alloc, values, &event.facts)?;
-    Ok(Entry {
-        rule,
-        facts,
-        sources,
-    })
+    match &event.what {
+        What::Rule(rule) => {
+            let rule = rule.copy()?;
+            let facts = facts_value(alloc, values, &event.facts)?;
+            Ok(Entry {
+                rule,
+                facts,
+                sources,
+            })
+        }
+    }
 }
 
 /// The entries of the events, if each of their premises has a source.

@@ -3,7 +3,7 @@ use Rattle.std.specs.Prelude.{List, [], ◌∷◌, if◌then◌else◌, ◌++◌
 use Rattle.sp_spec.specs.Term.{Variable, Term, Terms, none, more}
 use Rattle.sp_spec.specs.Rule.{Fact}
 use Rattle.sp_spec.specs.Log.{is_fr}
-use Rattle.sp_spec_system.specs.System.{Happening, rule_step, Event}
+use Rattle.sp_spec_system.specs.System.{own_name, Happening, learning, happening_premises, Event}
 use Rattle.sp_spec.specs.Same.{alike}
 
 -- Fresh once: two events that use the same Fr are one.
@@ -15,8 +15,10 @@ abbrev pub fresh_terms : List (Fact Variable) → List (Term Variable)
 fresh_terms [] = []
 fresh_terms (f ∷ fs) = (if is_fr f then first_term f.args else []) ++ fresh_terms fs
 
+-- a name of the adversary's own, or what the premises use
 abbrev pub happening_fresh : Happening → List (Term Variable)
-happening_fresh (rule_step r facts) = fresh_terms facts.premises
+happening_fresh (learning m own_name) = m ∷ []
+happening_fresh h = fresh_terms (happening_premises h)
 
 abbrev pub stands_in : Term Variable → List (Term Variable) → Bool
 stands_in t [] = false

@@ -3,16 +3,24 @@ use Rattle.std.specs.Prelude.{ℕ, ◌&&◌, ◌==◌, Bool, ◌||◌, List, [],
 use Rattle.std.specs.Str.{bytes_eq}
 use Rattle.sp_spec.specs.Term.{Variable, Term, valued, Terms, none, more}
 use Rattle.sp_spec.specs.Rule.{facts_at, Fact, Action}
-use Rattle.sp_spec_system.specs.System.{Happening, rule_step, Event, Link, System, with_events}
+use Rattle.sp_spec_system.specs.System.{Way, by_chain, Happening, rule_step, sending, learning, Event, Link, System, with_events}
 use Rattle.sp_spec.specs.Unifier.{Pair, mgu}
 use Rattle.sp_spec.specs.Change.{free_change, changed, time_replaced}
 use Rattle.sp_spec.specs.Substitution.{Binding, bound_to}
 
-abbrev pub happening_changed : (Variable → Term Variable) → Happening → Happening
-happening_changed terms (rule_step r facts) = rule_step r (facts_at terms facts)
+-- of the ways only a chain has terms and a time
+abbrev pub way_changed : (Variable → Term Variable) → (ℕ → ℕ) → Way → Way
+way_changed terms times (by_chain i k ts) = by_chain (times i) k (map (valued terms) ts)
+way_changed terms times way = way
+
+-- in its facts, or in its message and its way
+abbrev pub happening_changed : (Variable → Term Variable) → (ℕ → ℕ) → Happening → Happening
+happening_changed terms times (rule_step r facts) = rule_step r (facts_at terms facts)
+happening_changed terms times (sending m) = sending (valued terms m)
+happening_changed terms times (learning m way) = learning (valued terms m) (way_changed terms times way)
 
 abbrev pub event_changed : (Variable → Term Variable) → (ℕ → ℕ) → Event → Event
-event_changed terms times e = record { time = times e.time; happening = happening_changed terms e.happening }
+event_changed terms times e = record { time = times e.time; happening = happening_changed terms times e.happening }
 
 abbrev pub pair_changed : (Variable → Term Variable) → Pair → Pair
 pair_changed terms p = (valued terms p.0, valued terms p.1)
@@ -82,12 +90,16 @@ action_pairs [] (b ∷ bs) = None
 action_pairs (a ∷ rest) [] = None
 action_pairs (a ∷ rest) (b ∷ bs) = both_pairs (action_pair a b) (action_pairs rest bs)
 
--- two steps are one where they are of the same rule and all their facts are the same
+-- Two steps are one where they are of the same rule and all their facts are the same, two sendings or two learnings where their messages are
+-- the same; and nothing is one with what is of another kind.
 abbrev pub merging_pairs : Happening → Happening → Option (List Pair)
 merging_pairs (rule_step r f) (rule_step q g) =
     if bytes_eq r q
     then both_pairs (fact_pairs f.premises g.premises) (both_pairs (action_pairs f.actions g.actions) (fact_pairs f.conclusions g.conclusions))
     else None
+merging_pairs (sending m) (sending n) = Some ((m, n) ∷ [])
+merging_pairs (learning m way) (learning n other) = Some ((m, n) ∷ [])
+merging_pairs a b = None
 
 abbrev pub unifier_of : Option (List Pair) → Option (List Binding)
 unifier_of pairs = option_and_then mgu pairs

@@ -4,7 +4,7 @@ use Rattle.sp_spec.specs.Term.{Names, public_name, fresh_name, Variable, MadeOf,
 use Rattle.sp_spec.specs.Guarded.{Place, free, bound, Time, free_time, bound_time, Atom, acts, same, same_time, before, last, Guarded, truth, falsity, holds, fails, all_of, one_of, some, every, Guardeds, no_more, and_then}
 use Rattle.sp_spec.specs.Lists.{Every, is_listed}
 use Rattle.sp_spec.specs.Rule.{FactsMadeOf}
-use Rattle.sp_spec_system.specs.System.{Happening, rule_step, Event, Link, System}
+use Rattle.sp_spec_system.specs.System.{Way, by_chain, Happening, rule_step, sending, learning, Event, Link, System}
 
 -- one of the system, and of each time
 abbrev pub AtFree : (Variable → Type 0) → Place → Type 0
@@ -37,11 +37,19 @@ abbrev mutual
   InEach N P Q no_more = Unit {0}
   InEach N P Q (and_then f fs) = InFormula N P Q f × InEach N P Q fs
 
-abbrev pub InHappening : Names → (Variable → Type 0) → Happening → Type 0
-InHappening N P (rule_step r facts) = FactsMadeOf N P facts
+-- the messages of a chain are made of such names and of such variables, and its time is such a one
+abbrev pub InWay : Names → (Variable → Type 0) → (ℕ → Type 0) → Way → Type 0
+InWay N P Q (by_chain i k ts) = Q i × Every (MadeOf N P) ts
+InWay N P Q way = Unit {0}
+
+-- so it is with what happens
+abbrev pub InHappening : Names → (Variable → Type 0) → (ℕ → Type 0) → Happening → Type 0
+InHappening N P Q (rule_step r facts) = FactsMadeOf N P facts
+InHappening N P Q (sending m) = MadeOf N P m
+InHappening N P Q (learning m way) = MadeOf N P m × InWay N P Q way
 
 abbrev pub InEvent : Names → (Variable → Type 0) → (ℕ → Type 0) → Event → Type 0
-InEvent N P Q e = Q e.time × InHappening N P e.happening
+InEvent N P Q e = Q e.time × InHappening N P Q e.happening
 
 -- the names that may stand in a system: these public ones, and no fresh one
 abbrev pub names_in : List (List ℕ) → Names

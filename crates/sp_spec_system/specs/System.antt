@@ -1,16 +1,37 @@
 -- Constraint systems. Source: CSF 2012, "Constraint solving" (constraint systems); Schmidt's thesis, chapter 3; Meier's thesis, chapter 3.
-use Rattle.std.specs.Prelude.{ℕ, List, ◌++◌}
+use Rattle.std.specs.Prelude.{ℕ, List, [], ◌∷◌, ◌++◌}
 use Rattle.sp_spec.specs.Term.{Variable, Term}
-use Rattle.sp_spec.specs.Rule.{Facts, Fact, Action}
+use Rattle.sp_spec.specs.Rule.{Facts, Fact, Action, sends, learns, in_of}
 use Rattle.sp_spec.specs.Guarded.{Guarded}
+
+-- How a message is learnt: as a public name, as a fresh name of the adversary's own, by applying a symbol, or by a chain of messages from the
+-- argument of an Out conclusion, which is told by the time of its event and by its place. Source: CSF 2012, "Normal message deduction".
+pub data Way : Type 0 where
+  public_name : Way
+  own_name : Way
+  constructed : Way
+  by_chain : ℕ → ℕ → List (Term Variable) → Way
 
 -- what happens at an event
 pub data Happening : Type 0 where
   -- a rule, by its name, with these facts
   rule_step : List ℕ → Facts Variable → Happening
+  -- the adversary sends a message
+  sending : Term Variable → Happening
+  -- the adversary learns a message in this way
+  learning : Term Variable → Way → Happening
+
+-- its facts, as the log shows them: those of the rule; or what is sent, which is an In; or what is learnt
+abbrev pub happening_facts : Happening → Facts Variable
+happening_facts (rule_step r facts) = facts
+happening_facts (sending m) = record { premises = []; actions = sends m ∷ []; conclusions = in_of m ∷ [] }
+happening_facts (learning m way) = record { premises = []; actions = learns m ∷ []; conclusions = [] }
 
 abbrev pub happening_premises : Happening → List (Fact Variable)
-happening_premises (rule_step r facts) = facts.premises
+happening_premises h = (happening_facts h).premises
+
+abbrev pub happening_actions : Happening → List (Action Variable)
+happening_actions h = (happening_facts h).actions
 
 pub record Event : Type 0 where
   pub time : ℕ
@@ -34,9 +55,6 @@ pub record System : Type 0 where
   pub links : List Link
   pub order : List (ℕ × ℕ)
   pub next : ℕ
-
-abbrev pub happening_actions : Happening → List (Action Variable)
-happening_actions (rule_step r facts) = facts.actions
 
 -- a system with another part in the place of its own
 abbrev pub with_events : System → List Event → System

@@ -113,7 +113,7 @@ pub fn merging_pairs(
 ) -> Result<Option<Vec<(Term, Term)>>, AllocError>
     ensures { IfOk result (λ o. option_map (λ ps. map pair_of ps.items) o ≡ equating.merging_pairs (event_of left.now).happening (event_of right.now).happening) }
 {
-    if left.rule != right.rule {
+    if !left.what.is_same(&right.what) {
         return Ok(None);
     }
     let Some(mut made) = fact_pairs(alloc, &left.facts.premises, &right.facts.premises)? else {

@@ -1,11 +1,11 @@
 // Systems in memory.
 
-ghost use Rattle.std.specs.Prelude.{◌≡◌, [], ◌∷◌, ◌++◌, if◌then◌else◌, IfOk, drop, map};
+ghost use Rattle.std.specs.Prelude.{◌≡◌, [], ◌∷◌, ◌++◌, if◌then◌else◌, IfOk, bytes_eq, drop, map};
 ghost use Rattle.sp_spec.specs.Substitution.{bound_to};
 ghost use Rattle.sp_term.specs.Bindings.{bindings};
 ghost use Rattle.sp_spec_system.specs.Equating.{event_changed, pair_changed, link_changed, same_source, same_premise, has_link, joined_links, order_changed, system_changed};
 ghost use Rattle.sp_spec.specs.Change.{time_replaced};
-ghost use Rattle.sp_system.specs.SystemView.{event_of, pair_of, link_of, system_of};
+ghost use Rattle.sp_system.specs.SystemView.{rule_name_of, event_of, pair_of, link_of, system_of};
 
 use sp_fact::fact::Facts;
 use sp_formula::formula::{Formula, changed_formulas, copy_formulas};
@@ -13,14 +13,21 @@ use sp_term::subst::{Subst, apply};
 use sp_term::term::{Name, Term, copy};
 use std::alloc::{AllocError, Global};
 
-/// A step of a rule at a time.
+/// What happens at an event.
+#[derive(Debug, Drop)]
+pub enum What {
+    /// a step of the rule of this name
+    Rule(Name),
+}
+
+/// What happens at a time.
 #[derive(Debug, Drop)]
 pub struct Event {
     /// when
     pub time: u128,
-    /// the name of the rule
-    pub rule: Name,
-    /// the facts of the step
+    /// what
+    pub what: What,
+    /// its facts
     pub facts: Facts,
 }
 
@@ -40,7 +47,7 @@ pub struct Link {
 /// What a log has to satisfy.
 #[derive(Debug, Drop)]
 pub struct System {
-    /// the steps that it has
+    /// the events that it has
     pub events: Vec<Event>,
     /// what is true of it
     pub formulas: Vec<Formula>,
@@ -56,16 +63,39 @@ pub struct System {
     pub next: u128,
 }
 
+impl What {
+    /// The same.
+    pub fn copy(&self) -> Result<What, AllocError>
+        ensures { IfOk result (λ w. rule_name_of w ≡ rule_name_of self.now) }
+    {
+        match self {
+            What::Rule(name) => {
+                let name = name.copy()?;
+                Ok(What::Rule(name))
+            }
+        }
+    }
+
+    /// Whether both are steps of one rule.
+    pub fn is_same(&self, other: &What) -> bool
+        ensures { result ≡ bytes_eq (rule_name_of self.now) (rule_name_of other.now) }
+    {
+        match (self, other) {
+            (What::Rule(left), What::Rule(right)) => *left == *right,
+        }
+    }
+}
+
 impl Event {
     /// An equal event.
     pub fn copy(&self, alloc: Global) -> Result<Event, AllocError>
         ensures { IfOk result (λ e. event_of e ≡ event_of self.now) }
     {
-        let rule = self.rule.copy()?;
+        let what = self.what.copy()?;
         let facts = self.facts.copy(alloc)?;
         Ok(Event {
             time: self.time,
-            rule,
+            what,
             facts,
         })
     }
@@ -80,10 +110,10 @@ impl Event {
     ) -> Result<Event, AllocError>
         ensures { IfOk result (λ e. event_of e ≡ event_changed (bound_to (bindings subst.now)) (time_replaced small large) (event_of self.now)) }
     {
-        let rule = self.rule.copy()?;
+        let what = self.what.copy()?;
         let facts = self.facts.changed(alloc, subst)?;
         let time = if self.time == large { small } else { self.time };
-        Ok(Event { time, rule, facts })
+        Ok(Event { time, what, facts })
     }
 }
 

@@ -1,7 +1,7 @@
 // Executions of the adversary alone; those with rules are replayed from texts, in sp_test_top.
 
 ghost use Rattle.std.specs.Prelude.{IfOk, map};
-ghost use Rattle.sp_law_equal.specs.Convergent.{AreConvergent};
+ghost use Rattle.sp_law_equal.specs.NormalForms.{HaveNormalForms};
 ghost use Rattle.sp_law_run.specs.Right.{AreRight};
 ghost use Rattle.sp_fact.specs.View.{rule_of};
 ghost use Rattle.sp_ground.specs.View.{signature_of};
@@ -18,7 +18,7 @@ use std::alloc::{AllocError, Global};
 use std::test::Fail;
 
 fn pairs(alloc: Global) -> Result<Signature, AllocError>
-    ensures { IfOk result (λ s. AreConvergent (signature_of s).equations) }
+    ensures { IfOk result (λ s. HaveNormalForms (signature_of s).equations) }
 {
     pairs_are_convergent();
     let signature = Signature::pairs(alloc)?;

@@ -28,15 +28,18 @@ fn write_method(out: &mut String, method: Method) -> Result<(), AllocError> {
     }
 }
 
-// a proof behind its method, each case in square brackets behind its name
+// the steps of a proof in preorder, each with the names of its cases in square brackets
 fn write_proof(out: &mut String, proof: &WrittenProof) -> Result<(), AllocError> {
-    write_method(out, proof.method)?;
-    for case in &proof.cases {
-        out.push_str(" [")?;
-        out.push_str(case.name)?;
-        out.push_str(": ")?;
-        write_proof(out, &case.proof)?;
-        out.push_str("]")?;
+    for (i, step) in proof.steps.iter().enumerate() {
+        if i > 0 {
+            out.push_str("; ")?;
+        }
+        write_method(out, step.method)?;
+        for name in &step.cases {
+            out.push_str(" [")?;
+            out.push_str(name)?;
+            out.push_str("]")?;
+        }
     }
     Ok(())
 }
@@ -76,15 +79,18 @@ fn write_step(alloc: Global, out: &mut String, step: &Step) -> Result<(), AllocE
     }
 }
 
-// a tree behind its step, each case in square brackets behind its name
+// the steps of a tree in preorder, each with the names of its cases in square brackets
 fn write_tree(alloc: Global, out: &mut String, skeleton: &Skeleton) -> Result<(), AllocError> {
-    write_step(alloc, out, &skeleton.step)?;
-    for branch in &skeleton.branches {
-        out.push_str(" [")?;
-        out.push_str(&branch.name)?;
-        out.push_str(": ")?;
-        write_tree(alloc, out, &branch.tree)?;
-        out.push_str("]")?;
+    for (i, node) in skeleton.nodes.iter().enumerate() {
+        if i > 0 {
+            out.push_str("; ")?;
+        }
+        write_step(alloc, out, &node.step)?;
+        for name in &node.cases {
+            out.push_str(" [")?;
+            out.push_str(name)?;
+            out.push_str("]")?;
+        }
     }
     Ok(())
 }
@@ -116,20 +122,20 @@ fn proofs_are_read(rt: HostRuntime) -> Result<(), Fail> {
         ),
         (
             "simplify by contradiction end",
-            "simplify [: contradiction]",
-            "simplify [: contradiction]",
+            "simplify []; contradiction",
+            "simplify []; contradiction",
             3,
         ),
         (
             "simplify\nsolve( action 0 )\n  case Make\n  solve( action 0 )\n    case Make\n    by contradiction\n  qed\nqed\n",
-            "simplify [: ( action 0 ) [Make: ( action 0 ) [Make: contradiction]]]",
-            "simplify [: action 0 [Make: action 0 [Make: contradiction]]]",
+            "simplify []; ( action 0 ) [Make]; ( action 0 ) [Make]; contradiction",
+            "simplify []; action 0 [Make]; action 0 [Make]; contradiction",
             11,
         ),
         (
             "solve( action 1 )\n  case R.1_done\n  SOLVED\nnext\n  case case\n  by sorry\nnext case qed by simplify qed qed",
-            "( action 1 ) [R.1_done: SOLVED] [case: sorry] [qed: simplify]",
-            "action 1 [R.1_done: SOLVED] [case: sorry] [qed: simplify]",
+            "( action 1 ) [R.1_done] [case] [qed]; SOLVED; sorry; simplify",
+            "action 1 [R.1_done] [case] [qed]; SOLVED; sorry; simplify",
             15,
         ),
     ] {

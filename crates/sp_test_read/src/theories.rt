@@ -2,7 +2,7 @@
 
 use sp_pose::kind_text;
 use sp_read_theory::read_theory;
-use sp_written::{Item, Method, Span, WrittenLemma, WrittenProof};
+use sp_written::{Item, Method, Span, WrittenLemma, WrittenStep};
 use std::alloc::{AllocError, Global};
 use std::test::Fail;
 
@@ -127,11 +127,11 @@ fn items_are_read(rt: HostRuntime) -> Result<(), Fail> {
     Ok(())
 }
 
-/// What the first step of a proof says, and how many cases it has.
-fn first_step<'a>(proof: &WrittenProof<'a>) -> (&'a [u8], usize) {
-    match proof.method {
-        Method::Word(word) => (word.as_bytes(), proof.cases.len()),
-        Method::Goal(goal) => (goal, proof.cases.len()),
+/// Whether a step of a proof says this.
+fn says(step: &WrittenStep, text: &[u8]) -> bool {
+    match step.method {
+        Method::Word(word) => word.as_bytes() == text,
+        Method::Goal(goal) => goal == text,
     }
 }
 
@@ -143,12 +143,12 @@ fn a_lemma_is_read_with_its_proof(rt: HostRuntime) -> Result<(), Fail> {
     assert_eq!(rt; shape(rt.alloc(), text)?, Some((2, 110, 214, 219)));
     let lemma = as_lemma(theory.items.last())?;
     let proof = lemma.proof.as_ref().ok_or("proof")?;
-    let (said, cases) = first_step(proof);
-    assert!(rt; said == b"simplify".as_slice() && cases == 1);
-    let only = proof.cases.first().ok_or("case")?;
-    let (solved, sources) = first_step(&only.proof);
-    assert!(rt; only.name == "" && solved == b" action 0 ".as_slice() && sources == 1);
-    let source = only.proof.cases.first().ok_or("source")?;
-    assert_eq!(rt; source.name, "Make");
+    assert_eq!(rt; proof.steps.len(), 4);
+    let first = proof.steps.first().ok_or("step")?;
+    assert!(rt; says(first, b"simplify") && first.cases.len() == 1);
+    let second = proof.steps.get(1).ok_or("step")?;
+    assert!(rt; says(second, b" action 0 "));
+    let name = second.cases.first().ok_or("case")?;
+    assert!(rt; *name == "Make");
     Ok(())
 }

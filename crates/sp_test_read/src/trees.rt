@@ -1,25 +1,39 @@
 // The texts of proof trees.
 
+ghost use Rattle.std.specs.Prelude.{◌≡◌};
+ghost use Rattle.sp_search.specs.Kinds.{case_count};
+ghost use Rattle.sp_search.specs.NodeView.{node_at};
+
 use sp_log::log::Log;
 use sp_moves::moves::Move;
 use sp_moves::premise::Premise;
-use sp_search::{Branch, OpenLeaf, Tree};
+use sp_search::{Node, OpenLeaf, Tree};
 use sp_test_make::systems::system;
 use sp_text::tree_text;
 use std::alloc::{AllocError, Global};
 use std::test::Fail;
 
-fn leaf(alloc: Global, chosen: Move) -> Tree {
-    Tree::Node(chosen, Vec::new(alloc))
+// a node without cases
+fn alone(alloc: Global, node: Node) -> Result<Tree, AllocError>
+    requires { case_count (node_at node) ≡ 0 }
+{
+    let mut nodes = Vec::new(alloc);
+    nodes.push(node)?;
+    Ok(Tree { nodes })
+}
+
+fn leaf(alloc: Global, chosen: Move) -> Result<Tree, AllocError> {
+    alone(alloc, Node::Inner(chosen, Vec::new(alloc)))
 }
 
 // a leaf without a chosen move, whose system says nothing
-fn open(alloc: Global) -> Result<Tree, AllocError> {
+fn open_leaf(alloc: Global) -> Result<Tree, AllocError> {
     let leaf = OpenLeaf {
         system: system(alloc, Vec::new(alloc), 0),
         choice: Move::Simplify,
+        depth: 1,
     };
-    Ok(Tree::Open(Box::new(alloc, leaf)?))
+    alone(alloc, Node::Open(Box::new(alloc, leaf)?))
 }
 
 // a leaf with which the search ends, whose log says nothing
@@ -27,23 +41,38 @@ fn ended(alloc: Global) -> Result<Tree, AllocError> {
     let log = Log {
         entries: Vec::new(alloc),
     };
-    Ok(Tree::Ended(Box::new(alloc, log)?))
+    alone(alloc, Node::Ended(Box::new(alloc, log)?))
 }
 
-fn case(alloc: Global, name: &str, tree: Tree) -> Result<Branch, AllocError> {
+fn case(alloc: Global, name: &str, tree: Tree) -> Result<(String, Tree), AllocError> {
     let name = String::from_str(alloc, name)?;
-    Ok(Branch { name, tree })
+    Ok((name, tree))
+}
+
+// the move over these trees, by the names of its cases
+fn over_all(alloc: Global, chosen: Move, cases: Vec<(String, Tree)>) -> Result<Tree, AllocError> {
+    let mut names = Vec::new(alloc);
+    let mut below = Vec::new(alloc);
+    for (name, tree) in cases {
+        let Tree { mut nodes } = tree;
+        names.push(name)?;
+        below.append(&mut nodes)?;
+    }
+    let mut nodes = Vec::new(alloc);
+    nodes.push(Node::Inner(chosen, names))?;
+    nodes.append(&mut below)?;
+    Ok(Tree { nodes })
 }
 
 // the move over one case of this name
 fn over(alloc: Global, chosen: Move, name: &str, tree: Tree) -> Result<Tree, AllocError> {
     let cases = vec![in alloc; case(alloc, name, tree)?]?;
-    Ok(Tree::Node(chosen, cases))
+    over_all(alloc, chosen, cases)
 }
 
 // each case alone below its move
 fn with_only_cases(alloc: Global) -> Result<Tree, AllocError> {
-    let end = leaf(alloc, Move::Contradiction);
+    let end = leaf(alloc, Move::Contradiction)?;
     let inner = over(alloc, Move::Action(10), "Make", end)?;
     let outer = over(alloc, Move::Action(0), "Make", inner)?;
     over(alloc, Move::Simplify, "", outer)
@@ -52,20 +81,20 @@ fn with_only_cases(alloc: Global) -> Result<Tree, AllocError> {
 fn with_three_cases(alloc: Global) -> Result<Tree, AllocError> {
     let premise = Premise { time: 20, place: 1 };
     let cases = vec![in alloc;
-        case(alloc, "", open(alloc)?)?,
-        case(alloc, "at_1", leaf(alloc, Move::Simplify))?,
-        case(alloc, "Give", leaf(alloc, Move::Premise(premise)))?,
+        case(alloc, "", open_leaf(alloc)?)?,
+        case(alloc, "at_1", leaf(alloc, Move::Simplify)?)?,
+        case(alloc, "Give", leaf(alloc, Move::Premise(premise))?)?,
     ]?;
-    Ok(Tree::Node(Move::Or(3), cases))
+    over_all(alloc, Move::Or(3), cases)
 }
 
 fn with_ends(alloc: Global) -> Result<Tree, AllocError> {
     let below = over(alloc, Move::Simplify, "", ended(alloc)?)?;
     let cases = vec![in alloc;
         case(alloc, "One", below)?,
-        case(alloc, "Two", leaf(alloc, Move::Solved))?,
+        case(alloc, "Two", leaf(alloc, Move::Solved)?)?,
     ]?;
-    Ok(Tree::Node(Move::Action(0), cases))
+    over_all(alloc, Move::Action(0), cases)
 }
 
 #[test]

@@ -1,10 +1,14 @@
 // Proof trees, and how they are grown.
 
+ghost use Rattle.std.specs.Prelude.{◌≡◌};
+ghost use Rattle.sp_search.specs.Kinds.{case_count};
+ghost use Rattle.sp_search.specs.NodeView.{node_at};
+
 use crate::examples::Parts;
 use sp_fact::rule::Rule;
 use sp_formula::formula::{Atom, Formula, FormulaTerm, Moment};
 use sp_moves::moves::Move;
-use sp_search::{Branch, OpenLeaf, Tree, choice, grown_tree, is_finished, steps};
+use sp_search::{Node, OpenLeaf, Tree, choice, grown_tree, is_finished, steps};
 use sp_term::term::Sort;
 use sp_test_make::facts::{action, actions_alone, rule};
 use sp_test_make::formulas::{acts, exists, free_constant, messages_and_times};
@@ -34,27 +38,56 @@ fn wanted(alloc: Global) -> Result<Formula, AllocError> {
     Ok(Formula::Holds(atom))
 }
 
+// a node without cases
+fn alone(alloc: Global, node: Node) -> Result<Tree, AllocError>
+    requires { case_count (node_at node) ≡ 0 }
+{
+    let mut nodes = Vec::new(alloc);
+    nodes.push(node)?;
+    Ok(Tree { nodes })
+}
+
 fn open_leaf(alloc: Global, chosen: Move) -> Result<Tree, AllocError> {
     let leaf = OpenLeaf {
         system: system_of_one(alloc, wanted(alloc)?, 1)?,
         choice: chosen,
+        depth: 1,
     };
-    Ok(Tree::Open(Box::new(alloc, leaf)?))
+    alone(alloc, Node::Open(Box::new(alloc, leaf)?))
 }
 
-fn branch(alloc: Global, name: &str, tree: Tree) -> Result<Branch, AllocError> {
+fn case(alloc: Global, name: &str, tree: Tree) -> Result<(String, Tree), AllocError> {
     let name = String::from_str(alloc, name)?;
-    Ok(Branch { name, tree })
+    Ok((name, tree))
+}
+
+// the move over these trees, by the names of its cases
+fn over_all(alloc: Global, chosen: Move, cases: Vec<(String, Tree)>) -> Result<Tree, AllocError> {
+    let mut names = Vec::new(alloc);
+    let mut below = Vec::new(alloc);
+    for (name, tree) in cases {
+        let Tree { mut nodes } = tree;
+        names.push(name)?;
+        below.append(&mut nodes)?;
+    }
+    let mut nodes = Vec::new(alloc);
+    nodes.push(Node::Inner(chosen, names))?;
+    nodes.append(&mut below)?;
+    Ok(Tree { nodes })
+}
+
+fn contradiction(alloc: Global) -> Result<Tree, AllocError> {
+    alone(alloc, Node::Inner(Move::Contradiction, Vec::new(alloc)))
 }
 
 // a simplification, below it a contradiction and two open leaves
 fn three_cases(alloc: Global) -> Result<Tree, AllocError> {
-    let branches = vec![in alloc;
-        branch(alloc, "a", Tree::Node(Move::Contradiction, Vec::new(alloc)))?,
-        branch(alloc, "b", open_leaf(alloc, Move::Action(0))?)?,
-        branch(alloc, "c", open_leaf(alloc, Move::Simplify)?)?,
+    let cases = vec![in alloc;
+        case(alloc, "a", contradiction(alloc)?)?,
+        case(alloc, "b", open_leaf(alloc, Move::Action(0))?)?,
+        case(alloc, "c", open_leaf(alloc, Move::Simplify)?)?,
     ]?;
-    Ok(Tree::Node(Move::Simplify, branches))
+    over_all(alloc, Move::Simplify, cases)
 }
 
 #[test]
@@ -62,7 +95,7 @@ fn trees_are_counted(rt: HostRuntime) -> Result<(), Fail> {
     let alloc = rt.alloc();
     let open = three_cases(alloc)?;
     assert_eq!(rt; (steps(&open), is_finished(&open)), (2, false));
-    let proved = Tree::Node(Move::Contradiction, Vec::new(alloc));
+    let proved = contradiction(alloc)?;
     assert_eq!(rt; (steps(&proved), is_finished(&proved)), (1, true));
     Ok(())
 }

@@ -1,7 +1,7 @@
 // Proof trees as they are read, judged.
 
 use crate::examples::Parts;
-use sp_check::{Branch, Clause, Judgement, Skeleton, Step, has_open, judge, steps};
+use sp_check::{Clause, Judgement, Node, Skeleton, Step, has_open, judge, steps};
 use sp_fact::fact::Facts;
 use sp_fact::rule::Rule;
 use sp_formula::formula::{Atom, Binder, Formula, FormulaTerm, Moment};
@@ -66,42 +66,42 @@ fn told(alloc: Global, judgement: Judgement) -> Result<String, AllocError> {
     }
 }
 
-fn leaf(alloc: Global, chosen: Move) -> Skeleton {
-    leaf_of(alloc, Step::Known(chosen))
-}
-
-fn leaf_of(alloc: Global, step: Step) -> Skeleton {
-    Skeleton {
-        step,
-        branches: Vec::new(alloc),
+// a node with cases of these names
+fn node(alloc: Global, step: Step, names: &[&str]) -> Result<Node, AllocError> {
+    let mut cases = Vec::with_capacity(alloc, names.len())?;
+    for name in names {
+        cases.push(String::from_str(alloc, name)?)?;
     }
+    Ok(Node { step, cases })
 }
 
-// the move with this tree for its only case
-fn above(alloc: Global, chosen: Move, name: &str, tree: Skeleton) -> Result<Skeleton, AllocError> {
-    let name = String::from_str(alloc, name)?;
-    let branches = vec![in alloc; Branch { name, tree }]?;
-    let step = Step::Known(chosen);
-    Ok(Skeleton { step, branches })
+// moves with the names of their cases, in preorder
+fn tree(alloc: Global, moves: &[(Move, &[&str])]) -> Result<Skeleton, Fail> {
+    let mut nodes = Vec::with_capacity(alloc, moves.len())?;
+    for (chosen, names) in moves {
+        nodes.push(node(alloc, Step::Known(*chosen), names)?)?;
+    }
+    let tree = Skeleton::new(nodes).ok_or("tree")?;
+    Ok(tree)
 }
 
-// the first two steps of the proof that A comes once, above this tree
-fn begun(alloc: Global, name: &str, tree: Skeleton) -> Result<Skeleton, AllocError> {
-    let second = above(alloc, Move::Action(0), name, tree)?;
-    above(alloc, Move::Simplify, "", second)
-}
-
-// the first three steps, the last of which looks for the event of this action, above a leaf
-fn three_steps(alloc: Global, position: usize, step: Step) -> Result<Skeleton, AllocError> {
-    let third = above(alloc, Move::Action(position), "Make", leaf_of(alloc, step))?;
-    begun(alloc, "Make", third)
+// the first three steps of the proof that A comes once, the last of which looks for the event of this action, above a leaf
+fn three_steps(alloc: Global, position: usize, step: Step) -> Result<Skeleton, Fail> {
+    let nodes = vec![in alloc;
+        node(alloc, Step::Known(Move::Simplify), &[""])?,
+        node(alloc, Step::Known(Move::Action(0)), &["Make"])?,
+        node(alloc, Step::Known(Move::Action(position)), &["Make"])?,
+        node(alloc, step, &[])?,
+    ]?;
+    let tree = Skeleton::new(nodes).ok_or("tree")?;
+    Ok(tree)
 }
 
 // A proof, how many steps it has, and what comes of it.
 type Case = (Skeleton, u64, &'static str);
 
 // whole proofs that A comes once
-fn of_proofs(alloc: Global) -> Result<Vec<Case>, AllocError> {
+fn of_proofs(alloc: Global) -> Result<Vec<Case>, Fail> {
     let unbuilt = Step::Unbuilt(b"induction".to_vec(alloc)?);
     let unknown = Step::Unknown(b"contradict".to_vec(alloc)?);
     Ok(vec![in alloc;
@@ -126,10 +126,27 @@ fn of_proofs(alloc: Global) -> Result<Vec<Case>, AllocError> {
 }
 
 // a case is left out, has another name, or is one too many
-fn of_other_cases(alloc: Global) -> Result<Vec<Case>, AllocError> {
-    let left_out = begun(alloc, "Make", leaf(alloc, Move::Action(0)))?;
-    let other = begun(alloc, "Made", leaf(alloc, Move::Unproved))?;
-    let too_many = above(alloc, Move::Unproved, "", leaf(alloc, Move::Contradiction))?;
+fn of_other_cases(alloc: Global) -> Result<Vec<Case>, Fail> {
+    let left_out = tree(
+        alloc,
+        &[
+            (Move::Simplify, &[""]),
+            (Move::Action(0), &["Make"]),
+            (Move::Action(0), &[]),
+        ],
+    )?;
+    let other = tree(
+        alloc,
+        &[
+            (Move::Simplify, &[""]),
+            (Move::Action(0), &["Made"]),
+            (Move::Unproved, &[]),
+        ],
+    )?;
+    let too_many = tree(
+        alloc,
+        &[(Move::Unproved, &[""]), (Move::Contradiction, &[])],
+    )?;
     Ok(vec![in alloc;
         (left_out, 3, "3: cases"),
         (other, 2, "2: cases"),
@@ -155,19 +172,16 @@ fn proofs_are_judged(rt: HostRuntime) -> Result<(), Fail> {
 }
 
 // the search for A by these ends below Make and below Again
-fn of_both(alloc: Global, first: Move, second: Move) -> Result<Skeleton, AllocError> {
-    let branches = vec![in alloc;
-        Branch {
-            name: String::from_str(alloc, "Make")?,
-            tree: leaf(alloc, first),
-        },
-        Branch {
-            name: String::from_str(alloc, "Again")?,
-            tree: leaf(alloc, second),
-        },
-    ]?;
-    let step = Step::Known(Move::Action(0));
-    above(alloc, Move::Simplify, "", Skeleton { step, branches })
+fn of_both(alloc: Global, first: Move, second: Move) -> Result<Skeleton, Fail> {
+    tree(
+        alloc,
+        &[
+            (Move::Simplify, &[""]),
+            (Move::Action(0), &["Make", "Again"]),
+            (first, &[]),
+            (second, &[]),
+        ],
+    )
 }
 
 // `Make` and `Again` both do A: the search may end at either, with a log of that rule alone.
@@ -200,14 +214,46 @@ fn other_ends_are_rejected(rt: HostRuntime) -> Result<(), Fail> {
     let rules = vec![in alloc; making(alloc, "Make")?]?;
     let parts = Parts::new(alloc, rules, some(alloc)?)?;
     let context = parts.context();
-    let early = leaf(alloc, Move::Solved);
-    let end = above(alloc, Move::Solved, "", leaf(alloc, Move::Unproved))?;
-    let action = above(alloc, Move::Action(0), "Make", end)?;
-    let late = above(alloc, Move::Simplify, "", action)?;
+    let early = Skeleton::leaf(alloc, Step::Known(Move::Solved))?;
+    let late = tree(
+        alloc,
+        &[
+            (Move::Simplify, &[""]),
+            (Move::Action(0), &["Make"]),
+            (Move::Solved, &[""]),
+            (Move::Unproved, &[]),
+        ],
+    )?;
     for (proof, wanted) in [(&early, "1: instance"), (&late, "3: cases")] {
         let root = system_of_one(alloc, some(alloc)?, 0)?;
         let judgement = judge(alloc, &context, root, proof)?;
         assert_eq!(rt; told(alloc, judgement)?.as_str(), wanted);
     }
+    Ok(())
+}
+
+// a node with cases of these names, and so many leaves behind it
+fn over_leaves(
+    alloc: Global,
+    names: &[&str],
+    leaves: usize,
+) -> Result<Option<Skeleton>, AllocError> {
+    let mut nodes = vec![in alloc; node(alloc, Step::Known(Move::Simplify), names)?]?;
+    for _ in 0..leaves {
+        nodes.push(node(alloc, Step::Known(Move::Unproved), &[])?)?;
+    }
+    Ok(Skeleton::new(nodes))
+}
+
+// Nodes are a tree where each case has its nodes, and none are left.
+#[test]
+fn nodes_are_one_tree(rt: HostRuntime) -> Result<(), Fail> {
+    let alloc = rt.alloc();
+    assert!(rt; over_leaves(alloc, &["a", "b"], 2)?.is_some());
+    assert!(rt; over_leaves(alloc, &["a", "b"], 1)?.is_none());
+    assert!(rt; over_leaves(alloc, &["a", "b"], 3)?.is_none());
+    assert!(rt; over_leaves(alloc, &[], 0)?.is_some());
+    assert!(rt; over_leaves(alloc, &[], 1)?.is_none());
+    assert!(rt; Skeleton::new(Vec::new(alloc)).is_none());
     Ok(())
 }

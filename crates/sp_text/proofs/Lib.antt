@@ -1,2 +1,4 @@
+pub mod InOrder
 pub mod Levels
-pub mod Branches
+pub mod NamedPlaces
+pub mod Nodes

@@ -1,3 +1,4 @@
-pub mod TreeText
-pub mod Cases
+pub mod AroundView
+pub mod Nodes
 pub mod Places
+pub mod TreeText

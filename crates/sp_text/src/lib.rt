@@ -3,6 +3,7 @@
 // Carried here: the promise that what is printed of a tree is its text.
 #![tactic(auto)]
 
+mod around;
 mod lines;
 mod trees;
 

@@ -1,78 +1,105 @@
-// The texts of trees and of the cases below a move.
+// The texts of trees, written node by node.
 
-ghost use Rattle.std.specs.Prelude.{◌≡◌, ◌++◌, OnOk, IfOk, string_bytes};
-ghost use Rattle.sp_search.specs.Kept.{shown_all};
-ghost use Rattle.sp_search.specs.View.{branches_of, tree_of};
-ghost use Rattle.sp_text.specs.Cases as cases;
-ghost use Rattle.sp_text.specs.Cases.{words_behind};
-ghost use Rattle.sp_text.specs.Places.{HavePlaces, AllHavePlaces};
+ghost use Rattle.std.specs.Prelude.{◌≡◌, ◌∷◌, ◌++◌, suc, length, codes, OnOk, IfOk, string_bytes};
+ghost use Rattle.sp_moves.specs.View.{move_of};
+ghost use Rattle.sp_search.specs.NodeView.{node_at};
+ghost use Rattle.sp_search.specs.View.{tree_of};
+ghost use Rattle.sp_text.specs.AroundView.{around_of, names_of};
+ghost use Rattle.sp_text.specs.Nodes as nodes;
+ghost use Rattle.sp_text.specs.Places.{HasPlace, HavePlaces};
 ghost use Rattle.sp_text.specs.TreeText as spec;
 
+use crate::around::{depth, pop_names, push_names};
 use crate::lines::{leading, move_text, write_line};
-use sp_search::{Branch, Tree};
+use sp_moves::moves::Move;
+use sp_search::{Node, Tree};
 use std::alloc::{AllocError, Global};
 
-/// Whether there is one case alone, and it has no name.
-fn is_unnamed(branches: &Vec<Branch>) -> bool
-    ensures { result ≡ cases.is_unnamed (shown_all (branches_of branches.now.items)) }
-{
-    branches.len() == 1 && branches[0].name.is_empty()
-}
-
-/// Puts the line behind a case at the end.
-fn write_behind(out: &mut String, depth: u64, is_last: bool) -> Result<(), AllocError>
-    ensures { OnOk result (string_bytes out.new ≡ string_bytes out.old ++ spec.line depth (words_behind is_last)) }
-{
-    if is_last {
-        write_line(out, depth, "qed", "")
-    } else {
-        write_line(out, depth, "next", "")
-    }
-}
-
-/// Puts the text of the tree at the end.
-#[cycle(text)]
-fn write_tree(alloc: Global, out: &mut String, depth: u64, tree: &Tree) -> Result<(), AllocError>
-    ensures text { OnOk result (string_bytes out.new ≡ string_bytes out.old ++ spec.tree_text depth (tree_of tree.now)) }
-    ensures places { OnOk result (HavePlaces (tree_of tree.now)) }
-{
-    match tree {
-        Tree::Open(_) => write_line(out, depth, "by ", "sorry"),
-        Tree::Ended(_) => write_line(out, depth, "", "SOLVED"),
-        Tree::Node(chosen, branches) => {
-            let words = move_text(alloc, *chosen)?;
-            if branches.is_empty() {
-                return write_line(out, depth, leading(*chosen), &words);
-            }
-            write_line(out, depth, "", &words)?;
-            if is_unnamed(branches) {
-                return write_tree(alloc, out, depth, &branches[0].tree);
-            }
-            write_cases(alloc, out, depth, branches)
-        }
-    }
-}
-
-/// Puts the texts of the cases at the end.
-#[cycle(text)]
-fn write_cases(
-    alloc: Global,
+/// Puts the line of a case at the end, inside which the text goes on then.
+fn write_case<'a>(
     out: &mut String,
-    depth: u64,
-    branches: &Vec<Branch>,
+    around: &mut Vec<&'a [String]>,
+    name: &String,
+    later: &'a [String],
 ) -> Result<(), AllocError>
-    ensures text { OnOk result (string_bytes out.new ≡ string_bytes out.old ++ spec.cases_text depth (shown_all (branches_of branches.now.items))) }
-    ensures places { OnOk result (AllHavePlaces (shown_all (branches_of branches.now.items))) }
+    ensures text { OnOk result (string_bytes out.new ≡ string_bytes out.old ++ spec.line (suc (length (around_of around.old.items))) (codes "case " ++ string_bytes name.now)) }
+    ensures around { OnOk result (around_of around.new.items ≡ names_of later.now ∷ around_of around.old.items) }
 {
-    let Some(inside) = depth.checked_add(1) else {
-        return Err(AllocError);
-    };
-    for (place, branch) in branches.iter().enumerate() {
-        write_line(out, inside, "case ", &branch.name)?;
-        write_tree(alloc, out, inside, &branch.tree)?;
-        write_behind(out, depth, place + 1 == branches.len())?;
+    push_names(around, later)?;
+    write_line(out, depth(around), "case ", name)
+}
+
+/// Puts at the end what stands behind a tree, up to the next case.
+fn write_behind(out: &mut String, around: &mut Vec<&[String]>) -> Result<(), AllocError>
+    ensures text { OnOk result (string_bytes out.new ≡ string_bytes out.old ++ (nodes.behind (around_of around.old.items)).0) }
+    ensures around { OnOk result (around_of around.new.items ≡ (nodes.behind (around_of around.old.items)).1) }
+{
+    while let Some(names) = pop_names(around) {
+        if let Some((name, later)) = names.split_first() {
+            write_line(out, depth(around), "next", "")?;
+            return write_case(out, around, name, later);
+        }
+        write_line(out, depth(around), "qed", "")?;
     }
     Ok(())
+}
+
+/// Puts the line of a move without cases at the end, and what stands behind it.
+fn write_leaf(
+    alloc: Global,
+    out: &mut String,
+    around: &mut Vec<&[String]>,
+    chosen: Move,
+) -> Result<(), AllocError>
+    ensures text { OnOk result (string_bytes out.new ≡ string_bytes out.old ++ (nodes.leaf (around_of around.old.items) (move_of chosen)).0) }
+    ensures around { OnOk result (around_of around.new.items ≡ (nodes.leaf (around_of around.old.items) (move_of chosen)).1) }
+    ensures place { OnOk result (HasPlace (move_of chosen)) }
+{
+    let words = move_text(alloc, chosen)?;
+    write_line(out, depth(around), leading(chosen), &words)?;
+    write_behind(out, around)
+}
+
+/// Puts the line of a move over cases at the end, and that of the first case unless it is the only one and has no name.
+fn write_move<'a>(
+    alloc: Global,
+    out: &mut String,
+    around: &mut Vec<&'a [String]>,
+    chosen: Move,
+    name: &String,
+    later: &'a [String],
+) -> Result<(), AllocError>
+    ensures text { OnOk result (string_bytes out.new ≡ string_bytes out.old ++ (nodes.over_cases (around_of around.old.items) (move_of chosen) (string_bytes name.now) (names_of later.now)).0) }
+    ensures around { OnOk result (around_of around.new.items ≡ (nodes.over_cases (around_of around.old.items) (move_of chosen) (string_bytes name.now) (names_of later.now)).1) }
+    ensures place { OnOk result (HasPlace (move_of chosen)) }
+{
+    let words = move_text(alloc, chosen)?;
+    write_line(out, depth(around), "", &words)?;
+    if name.is_empty() && later.is_empty() {
+        return Ok(());
+    }
+    write_case(out, around, name, later)
+}
+
+/// Puts the lines of a node at the end.
+fn write_node<'a>(
+    alloc: Global,
+    out: &mut String,
+    around: &mut Vec<&'a [String]>,
+    node: &'a Node,
+) -> Result<(), AllocError>
+    ensures text { OnOk result (string_bytes out.new ≡ string_bytes out.old ++ (nodes.written (around_of around.old.items) (node_at node.now)).0) }
+    ensures around { OnOk result (around_of around.new.items ≡ (nodes.written (around_of around.old.items) (node_at node.now)).1) }
+    ensures place { OnOk result (HasPlace (nodes.move_at (node_at node.now))) }
+{
+    match node {
+        Node::Open(_) => write_leaf(alloc, out, around, Move::Unproved),
+        Node::Ended(_) => write_leaf(alloc, out, around, Move::Solved),
+        Node::Inner(chosen, names) => match names.as_slice().split_first() {
+            Some((name, later)) => write_move(alloc, out, around, *chosen, name, later),
+            None => write_leaf(alloc, out, around, *chosen),
+        },
+    }
 }
 
 /// The text of a proof tree. The places that it names are those of lists in memory, so each is read back.
@@ -85,6 +112,9 @@ pub fn tree_text(alloc: Global, tree: &Tree) -> Result<String, AllocError>
     ensures places { OnOk result (HavePlaces (tree_of tree.now)) }
 {
     let mut out = String::new(alloc);
-    write_tree(alloc, &mut out, 0, tree)?;
+    let mut around = Vec::new(alloc);
+    for node in &tree.nodes {
+        write_node(alloc, &mut out, &mut around, node)?;
+    }
     Ok(out)
 }

@@ -1,5 +1,6 @@
 -- What the values in memory stand for.
-use Rattle.std.specs.Prelude.{ℕ, List, [], ◌∷◌, option_map, map}
+use Rattle.std.specs.Prelude.{ℕ, List, [], ◌∷◌, length, option_map, map}
+use Rattle.sp_spec_nodes.specs.Preorder.{trees, first}
 use Rattle.sp_spec.specs.Theory as t
 use Rattle.sp_spec.specs.Theory.{Lemma}
 use Rattle.sp_read_parts.specs.Views.{rule}
@@ -7,10 +8,8 @@ use Rattle.sp_read_parts.specs.Formulas.{formula}
 use Rattle.sp_spec_text.specs.Written as text
 use Rattle.sp_written.specs.declared.proof.Method.{Method}
 use Rattle.sp_written.specs.declared.proof.Method.TheVariants as m
-use Rattle.sp_written.specs.declared.proof.WrittenCase.{WrittenCase, fold-WrittenCase}
+use Rattle.sp_written.specs.declared.proof.WrittenStep.{WrittenStep}
 use Rattle.sp_written.specs.declared.proof.WrittenProof.{WrittenProof}
-use Rattle.sp_written.specs.declared.proof.WrittenCase.TheFolds.{fold-WrittenProof}
-use Rattle.sp_written.specs.declared.proof.WrittenCase.TheOpen.{WrittenProof-F, WrittenCase-F}
 use Rattle.sp_written.specs.declared.theory.TraceKind.{TraceKind}
 use Rattle.sp_written.specs.declared.theory.TraceKind.TheVariants as k
 use Rattle.sp_written.specs.declared.theory.WrittenLemma.{WrittenLemma}
@@ -26,25 +25,31 @@ abbrev pub method : Method → text.Method
 method (m.Word w) = text.said w.now
 method (m.Goal g) = text.goal g.now
 
-abbrev pub all_cases : List (List ℕ × text.WrittenProof) → text.WrittenCases
-all_cases [] = text.no_case
-all_cases (c ∷ cs) = text.then_case c.0 c.1 (all_cases cs)
+-- a step's method, and the names of its cases
+abbrev pub step_at : WrittenStep → text.Method × List (List ℕ)
+step_at s = (method s.method, map (λ name. name.now) s.cases.items)
 
--- one level, with each proof and each case inside already seen
-abbrev pub proof_step : WrittenProof-F (List ℕ × text.WrittenProof) text.WrittenProof → text.WrittenProof
-proof_step p = text.step (method p.method) (all_cases p.cases.items)
+-- the cases with these names and these proofs
+abbrev pub with_names : List (List ℕ) → List text.WrittenProof → text.WrittenCases
+with_names [] proofs = text.no_case
+with_names (name ∷ names) [] = text.no_case
+with_names (name ∷ names) (p ∷ proofs) = text.then_case name p (with_names names proofs)
 
-abbrev pub case_step : WrittenCase-F (List ℕ × text.WrittenProof) text.WrittenProof → List ℕ × text.WrittenProof
-case_step c = (c.name.now, c.proof)
+abbrev pub case_count : text.Method × List (List ℕ) → ℕ
+case_count s = length s.1
+
+abbrev pub proof_over : text.Method × List (List ℕ) → List text.WrittenProof → text.WrittenProof
+proof_over s proofs = text.step s.0 (with_names s.1 proofs)
+
+-- the proofs that steps are, one behind the other, and the first of them
+abbrev pub written_proofs : List (text.Method × List (List ℕ)) → List text.WrittenProof
+written_proofs steps = trees case_count proof_over steps
+
+abbrev pub written_proof : List (text.Method × List (List ℕ)) → text.WrittenProof
+written_proof steps = first (text.step (text.said []) text.no_case) (written_proofs steps)
 
 abbrev pub proof : WrittenProof → text.WrittenProof
-proof = fold-WrittenProof (List ℕ × text.WrittenProof) text.WrittenProof case_step proof_step
-
-abbrev pub case_of : WrittenCase → List ℕ × text.WrittenProof
-case_of = fold-WrittenCase (List ℕ × text.WrittenProof) text.WrittenProof case_step proof_step
-
-abbrev pub cases_of : List WrittenCase → text.WrittenCases
-cases_of cs = all_cases (map case_of cs)
+proof p = written_proof (map step_at p.steps.items)
 
 -- ---- theories
 

@@ -1,3 +1,6 @@
+ghost use Rattle.std.specs.Prelude.{length};
+ghost use Rattle.sp_spec_nodes.specs.Preorder.{AreTrees, AreTrees-prop};
+
 /// What a step of a proof says.
 #[derive(Clone, Copy)]
 pub enum Method<'a> {
@@ -7,22 +10,19 @@ pub enum Method<'a> {
     Goal(&'a [u8]),
 }
 
-/// A case of a step.
-#[cycle(proof)]
+/// A step of a proof.
 #[derive(Drop)]
-pub struct WrittenCase<'a> {
-    /// its name; empty where the only case has none
-    pub name: &'a str,
-    /// its proof
-    pub proof: WrittenProof<'a>,
+pub struct WrittenStep<'a> {
+    /// what it says
+    pub method: Method<'a>,
+    /// the names of its cases, in their order; empty where an only case has none
+    pub cases: Vec<&'a str>,
 }
 
 /// A proof as it is written.
-#[cycle(proof)]
 #[derive(Drop)]
 pub struct WrittenProof<'a> {
-    /// what its first step says
-    pub method: Method<'a>,
-    /// the cases of that step, in their order
-    pub cases: Vec<WrittenCase<'a>>,
+    /// its steps, each before those of its cases, the first case first
+    pub steps: Vec<WrittenStep<'a>>,
+    pub ghost is_one: { AreTrees (λ s. length s.cases.items) 1 steps.items } by { AreTrees-prop (λ s. length s.cases.items) 1 steps.items },
 }

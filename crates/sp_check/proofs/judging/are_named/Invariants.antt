@@ -2,10 +2,10 @@ use Rattle.std.proofs.Common.{◌≡◌, length, map}
 use Rattle.std.specs.Slice.Iter.{iter_rest}
 use Rattle.sp_moves.specs.View.{case_of}
 use Rattle.sp_check.specs.Judging.{are_named}
-use Rattle.sp_check.specs.View.{branches_of}
+use Rattle.sp_check.specs.View.{names_of}
 use Rattle.sp_check.proofs.judging.are_named.Given as goal
 
 abbrev pub invariant-loop-case : goal.invariant-loop-case
 invariant-loop-case l =
-    (are_named (map case_of l.cases.items) (branches_of l.branches.items) ≡ are_named (map case_of (iter_rest l.case-iterator.a)) (branches_of (iter_rest l.case-iterator.b)))
+    (are_named (map case_of l.cases.items) (names_of l.names.items) ≡ are_named (map case_of (iter_rest l.case-iterator.a)) (names_of (iter_rest l.case-iterator.b)))
     × (length (iter_rest l.case-iterator.a) ≡ length (iter_rest l.case-iterator.b))

@@ -12,7 +12,7 @@ returns-in-Some c =
     let same = c.deref-step-items.ensures.value in
     let l = subst (λ (xs : List Step). c.loop-place.place < length xs) same c.loop-place-test.true in
     let e = subst (λ (xs : List Step). c.step-item.result ≡ get_or xs c.loop-place.place c.step-item.result) same c.step-item.is in
-    is_refused (signature_of c.args.signature.now) (map rule_of c.args.rules.now.items) c.requires.convergent c.requires.right
+    is_refused (signature_of c.args.signature.now) (map rule_of c.args.rules.now.items) c.requires.normal_forms c.requires.right
     step_of (normal_step (signature_of c.args.signature.now).equations) c.args.steps.now.items c.loop-place.place c.step-item.result l e
     (reached_by c.loop-place.machine) (cause_of c.in-Some.cause) c.loop-place.invariant
     (sym c.in_ok-cause.ensures ∙ ap (λ o. outcome_of o c.next_in_normal_form.new.self) c.in-Some.is)
@@ -22,7 +22,7 @@ loop-place-preserved c =
     let same = c.deref-step-items.ensures.value in
     let l = subst (λ (xs : List Step). c.loop-place.place < length xs) same c.loop-place-test.true in
     let e = subst (λ (xs : List Step). c.step-item.result ≡ get_or xs c.loop-place.place c.step-item.result) same c.step-item.is in
-    goes_on (signature_of c.args.signature.now) (map rule_of c.args.rules.now.items) c.requires.convergent c.requires.right
+    goes_on (signature_of c.args.signature.now) (map rule_of c.args.rules.now.items) c.requires.normal_forms c.requires.right
     step_of (normal_step (signature_of c.args.signature.now).equations) c.args.steps.now.items c.loop-place.place c.step-item.result l e
     (reached_by c.loop-place.machine) (reached_by c.next_in_normal_form.new.self) c.loop-place.invariant
     (sym c.in_ok-cause.ensures ∙ ap (λ o. outcome_of o c.next_in_normal_form.new.self) c.in_default.is)
@@ -31,6 +31,6 @@ pub returns : goal.returns
 returns c =
     let same = c.deref-step-items.ensures.value in
     let l = subst (λ (xs : List Step). length xs ≤ c.loop-place.place) same c.loop-place-test.false in
-    is_done (signature_of c.args.signature.now) (map rule_of c.args.rules.now.items) c.requires.convergent c.requires.right
+    is_done (signature_of c.args.signature.now) (map rule_of c.args.rules.now.items) c.requires.normal_forms c.requires.right
     step_of (normal_step (signature_of c.args.signature.now).equations) c.args.steps.now.items c.loop-place.place l
     (reached_by c.loop-place.machine) c.loop-place.invariant

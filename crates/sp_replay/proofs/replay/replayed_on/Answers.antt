@@ -1,7 +1,7 @@
 use Rattle.std.proofs.Common.{ap, ◌∙◌}
 use Rattle.std.proofs.lemmas.List.{take_rest}
 use Rattle.sp_replay.specs.Replay as spec
-use Rattle.sp_replay.proofs.Rules.{have_names}
+use Rattle.sp_replay.proofs.Rules.{have_names, have_normal_forms}
 use Rattle.sp_replay.proofs.Replied.{posed_right, stopped_step, done_steps}
 use Rattle.sp_replay.proofs.replay.replayed_on.Goals as goal
 
@@ -10,6 +10,9 @@ read_steps-requires c = record { named = have_names c.in_ok-signature.signature 
 
 pub replay-requires-clause-right : goal.replay-requires-clause-right
 replay-requires-clause-right c = posed_right c.args.problem c.requires
+
+pub replay-requires-clause-normal_forms : goal.replay-requires-clause-normal_forms
+replay-requires-clause-normal_forms c = have_normal_forms c.in_ok-signature.signature c.in_ok-signature.ensures
 
 pub returns-in-Refused : goal.returns-in-Refused
 returns-in-Refused c =

@@ -35,4 +35,4 @@ returns-clause-tree c =
     turns_end context s c.args.budget c.loop-turns.turns (tree_of c.loop-turns.tree) (grown_tree context s c.args.budget) c.loop-turns.invariant.1 (omega arith)
 
 pub returns-clause-log : goal.returns-clause-log
-returns-clause-log c = log_is (context_of c.args.context.now) (system_of c.args.root) (kept_of c.loop-turns.tree) c.loop-turns.invariant.0
+returns-clause-log c = log_is (context_of c.args.context.now) 0 (system_of c.args.root) (kept_of c.loop-turns.tree) c.loop-turns.invariant.0

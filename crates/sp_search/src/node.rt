@@ -1,0 +1,27 @@
+// The nodes of proof trees: open leaves with their systems, logs with which the search ends, and moves.
+
+use sp_log::log::Log;
+use sp_moves::moves::Move;
+use sp_system::system::System;
+
+/// A leaf that is not proved yet.
+#[derive(Debug, Drop)]
+pub struct OpenLeaf {
+    /// the system to be solved
+    pub system: System,
+    /// the move that is chosen for it; `Unproved` where there is none
+    pub choice: Move,
+    /// how many moves stand above it
+    pub depth: u64,
+}
+
+/// A node of a proof tree.
+#[derive(Debug, Drop)]
+pub enum Node {
+    /// an open leaf
+    Open(Box<OpenLeaf>),
+    /// the search ends at this leaf, with this log
+    Ended(Box<Log>),
+    /// a move, and the names of its cases, in their order
+    Inner(Move, Vec<String>),
+}
