@@ -1,38 +1,37 @@
 -- What is written of a text that was tried is checked as it was tried.
-use Rattle.std.proofs.Math.Nat.{min-eq_left}
-use Rattle.std.proofs.Common.{◌≡◌, ◌≤◌, ℕ, suc, ◌^◌, ◌-◌, min, arith, List, [], ◌∷◌, ◌++◌, length, map, codes, Option, Some, refl, sym, ap, ap₂, ◌∙◌, subst}
+use Rattle.std.proofs.Common.{◌≡◌, ℕ, suc, List, [], ◌∷◌, ◌++◌, length, map, codes, Option, Some, refl, sym, ap, ap₂, ◌∙◌, subst}
 use Rattle.std.proofs.lemmas.List.{length-map}
 use Rattle.sp_spec.specs.Lists.{Every}
-use Rattle.sp_spec.specs.Rule.{Rule}
 use Rattle.sp_spec.specs.Log.{Log}
-use Rattle.sp_spec.specs.Theory.{TraceKind, all_traces, exists_trace, Lemma}
+use Rattle.sp_spec.specs.Theory.{TraceKind, all_traces, exists_trace, Theory, Lemma}
 use Rattle.sp_spec.specs.Written.{WrittenTheory, theory_of}
 use Rattle.sp_spec_system.specs.System.{System}
 use Rattle.sp_spec_system.specs.Move.{Context}
 use Rattle.sp_spec_proof.specs.Tree.{Tree, IsAccepted, IsFinished, found_log, steps}
-use Rattle.sp_law_tree.proofs.Growing.{grown_tree_accepted, grown_tree_steps}
+use Rattle.sp_law_tree.proofs.Growing.{grown_tree_accepted}
 use Rattle.sp_check.specs.Skeleton.{tree_of}
 use Rattle.sp_check.specs.Skeleton as read
 use Rattle.sp_check.proofs.Right.{judgements_right}
-use Rattle.sp_spec_text.specs.Written.{Item, rule_item, lemma_item, WrittenText, lemmas_in, theory_in}
+use Rattle.sp_spec_text.specs.Written.{WrittenProof, WrittenText, lemmas_with_proofs, without_proofs, theory_in}
+use Rattle.sp_spec_text.proofs.Items.{proved_by, lemmas_put}
 use Rattle.sp_spec_text.specs.Texts.{IsTextOf}
-use Rattle.sp_text.specs.Places.{HavePlaces}
+use Rattle.sp_skel.specs.Places.{HavePlaces}
 use Rattle.sp_skel.specs.Steps.{skeleton}
 use Rattle.sp_skel.specs.Spelling.{as_written, IsReadable, AreNamed}
 use Rattle.sp_skel.proofs.Readable.{grown_readable}
 use Rattle.sp_law_again.proofs.Named.{rules_named}
 use Rattle.sp_skel.proofs.Spelled.{tree_says}
-use Rattle.sp_law_again.specs.Again.{with_trees}
+use Rattle.sp_law_again.specs.Again.{as_proofs, with_trees}
 use Rattle.sp_law_again.specs.Behind.{IsBehindEnd}
 use Rattle.sp_law_again.proofs.Behind.{behind_end}
 use Rattle.sp_law_again.proofs.Items.{read_again}
 use Rattle.sp_law_again.proofs.Replaced.{each_lemma, same_theory, trees_proofs}
 use Rattle.sp_wf.specs.Laws.{IsWellFormed}
-use Rattle.sp_analysis.specs.Sought.{budget, start, Setting, setting_of, context_of}
+use Rattle.sp_analysis.specs.Sought.{goal_of, root_system, Setting, setting_of, context_of}
 use Rattle.sp_spec_text.specs.Verdict.{Verdict, verified, falsified, incomplete, rejected, Says, summary_line}
 use Rattle.sp_law_block.specs.Block.{block_of, IsNumbered}
-use Rattle.sp_analysis.specs.Analysis.{Outcome, summary, trees_of, IsOutcome, AreOutcomes, IsAnalysis}
-use Rattle.sp_analysis.specs.Checking.{counted, IsVerdictOn, Judged, checked_text, IsJudged, AreJudged}
+use Rattle.sp_analysis.specs.Analysis.{Outcome, counted, summary, trees_of, IsOutcome, AreOutcomes, IsAnalysis}
+use Rattle.sp_analysis.specs.Checking.{IsVerdictIn, Judged, checked_text, IsJudged, AreJudged}
 use Rattle.sp_analysis.specs.Laws.{IsCheckedAgain, WrittenIsChecked}
 use Rattle.sp_spec_system.specs.Rules.{forms_of}
 
@@ -40,25 +39,27 @@ use Rattle.sp_spec_system.specs.Rules.{forms_of}
 
 -- the verdict of the grown tree is that of the tree as it is read
 verdict_again : (context : Context) (s : System) (kind : TraceKind) (v : Verdict) (log : Option Log) (t : Tree) → IsAccepted context s t → tree_of (skeleton (as_written t)) ≡ Some t
-    → log ≡ found_log context s t → Says kind v log (IsFinished t) → IsVerdictOn context s (skeleton (as_written t)) kind v log
+    → log ≡ found_log context s t → Says kind v log (IsFinished t) → IsVerdictIn context s (skeleton (as_written t)) kind v log
 verdict_again context s kind verified log t a e is says = (t, e, a, is, says)
 verdict_again context s kind falsified log t a e is says = (t, e, a, is, says)
 verdict_again context s kind incomplete log t a e is says = (t, e, a, is, says)
 verdict_again context s all_traces (rejected step clause) log t a e is says = absurd says
 verdict_again context s exists_trace (rejected step clause) log t a e is says = absurd says
 
-module _ (setting : Setting) where
-  abbrev judged_of : (l : Lemma) (o : Outcome) → IsOutcome setting l o → Judged
-  judged_of l o h = record { lemma = o.lemma; form = h.form; proof = skeleton (as_written o.tree); log = o.log; verdict = o.verdict }
+module _ (setting : Setting) (budget : ℕ) where
+  abbrev judged_of : (l : Lemma) (o : Outcome) → IsOutcome setting budget [] l o → Judged
+  judged_of l o h = record { lemma = o.lemma; goal = goal_of [] l.kind h.form; proof = skeleton (as_written o.tree); log = o.log; verdict = o.verdict }
 
-  judged_again : (l : Lemma) (o : Outcome) (h : IsOutcome setting l o) → IsReadable o.tree → IsJudged setting l (Some (as_written o.tree)) (judged_of l o h)
+  judged_again : (l : Lemma) (o : Outcome) (h : IsOutcome setting budget [] l o) → IsReadable o.tree → IsJudged setting [] l (Some (as_written o.tree)) (judged_of l o h)
   judged_again l o h r =
-      let context = context_of setting l.kind h.form in
-      let s = start l.kind h.form in
+      let context = context_of setting (goal_of [] l.kind h.form) in
+      let s = root_system (goal_of [] l.kind h.form) in
       record {
         lemma_is = h.lemma_is;
         proof_is = refl;
+        form = h.form;
         form_is = h.form_is;
+        goal_is = refl;
         verdict_is =
             verdict_again context s l.kind o.verdict o.log o.tree
             (subst (λ (t : Tree). IsAccepted context s t) (sym h.tree_is) (grown_tree_accepted context s budget))
@@ -66,58 +67,51 @@ module _ (setting : Setting) where
       }
 
   -- and its line
-  within : (n : ℕ) → n ≤ 10000 → min n (2 ^ 64 - 1) ≡ n
-  within n h = min-eq_left (omega (arith, h))
-
-  few_steps : (l : Lemma) (o : Outcome) (h : IsOutcome setting l o) → steps o.tree ≤ 10000
-  few_steps l o h = subst (λ (t : Tree). steps t ≤ 10000) (sym h.tree_is) (grown_tree_steps (context_of setting l.kind h.form) (start l.kind h.form) budget)
-
-  steps_again : (l : Lemma) (o : Outcome) (h : IsOutcome setting l o) → IsReadable o.tree → counted (read.steps (skeleton (as_written o.tree))) ≡ steps o.tree
-  steps_again l o h r = ap counted (judgements_right.counts (skeleton (as_written o.tree)) o.tree (tree_says o.tree r)) ∙ within (steps o.tree) (few_steps l o h)
+  steps_again : (o : Outcome) → IsReadable o.tree → counted (read.steps (skeleton (as_written o.tree))) ≡ counted (steps o.tree)
+  steps_again o r = ap counted (judgements_right.counts (skeleton (as_written o.tree)) o.tree (tree_says o.tree r))
 
   -- ---- all of them
 
-  abbrev all_again : (ls : List Lemma) (os : List Outcome) → AreOutcomes setting ls os → List Judged
+  abbrev all_again : (ls : List Lemma) (os : List Outcome) → AreOutcomes setting budget [] ls os → List Judged
   all_again [] [] h = []
   all_again [] (o ∷ os) h = []
   all_again (l ∷ ls) [] h = []
   all_again (l ∷ ls) (o ∷ os) h = judged_of l o h.0 ∷ all_again ls os h.1
 
-  are_again : (items : List Item) (os : List Outcome) (h : AreOutcomes setting (lemmas_in items) os) → Every (λ (o : Outcome). IsReadable o.tree) os
-      → AreJudged setting (with_trees items (trees_of os)) (all_again (lemmas_in items) os h)
+  are_again : (qs : List (Lemma × Option WrittenProof)) (os : List Outcome) (h : AreOutcomes setting budget [] (without_proofs qs) os) → Every (λ (o : Outcome). IsReadable o.tree) os
+      → AreJudged setting [] (proved_by qs (as_proofs (trees_of os))) (all_again (without_proofs qs) os h)
   are_again [] [] h r = tt
   are_again [] (o ∷ os) h r = absurd h
-  are_again (rule_item x ∷ items) os h r = are_again items os h r
-  are_again (lemma_item l p ∷ items) [] h r = absurd h
-  are_again (lemma_item l p ∷ items) (o ∷ os) h r = (judged_again l o h.0 r.0, are_again items os h.1 r.1)
+  are_again (q ∷ qs) [] h r = absurd h
+  are_again (q ∷ qs) (o ∷ os) h r = (judged_again q.0 o h.0 r.0, are_again qs os h.1 r.1)
 
-  lines_again : (ls : List Lemma) (os : List Outcome) (h : AreOutcomes setting ls os) → Every (λ (o : Outcome). IsReadable o.tree) os → summary setting.rules os ≡ checked_text setting.rules (all_again ls os h)
-  lines_again [] [] h r = refl
-  lines_again [] (o ∷ os) h r = absurd h
-  lines_again (l ∷ ls) [] h r = absurd h
-  lines_again (l ∷ ls) (o ∷ os) h r =
-      ap₂ (λ (n : ℕ) (rest : List ℕ). summary_line o.lemma.name o.lemma.kind o.verdict n ++ (block_of setting.rules o.log ++ rest)) (sym (steps_again l o h.0 r.0)) (lines_again ls os h.1 r.1)
+  lines_again : (theory : Theory) (ls : List Lemma) (os : List Outcome) (h : AreOutcomes setting budget [] ls os) → Every (λ (o : Outcome). IsReadable o.tree) os → summary theory os ≡ checked_text theory (all_again ls os h)
+  lines_again theory [] [] h r = refl
+  lines_again theory [] (o ∷ os) h r = absurd h
+  lines_again theory (l ∷ ls) [] h r = absurd h
+  lines_again theory (l ∷ ls) (o ∷ os) h r =
+      ap₂ (λ (n : ℕ) (rest : List ℕ). summary_line o.lemma.name o.lemma.kind o.verdict n ++ (block_of theory o.log ++ rest)) (sym (steps_again o r.0)) (lines_again theory ls os h.1 r.1)
 
-  verdicts_again : (ls : List Lemma) (os : List Outcome) (h : AreOutcomes setting ls os) → map (λ (j : Judged). j.verdict) (all_again ls os h) ≡ map (λ (o : Outcome). o.verdict) os
+  verdicts_again : (ls : List Lemma) (os : List Outcome) (h : AreOutcomes setting budget [] ls os) → map (λ (j : Judged). j.verdict) (all_again ls os h) ≡ map (λ (o : Outcome). o.verdict) os
   verdicts_again [] [] h = refl
   verdicts_again [] (o ∷ os) h = absurd h
   verdicts_again (l ∷ ls) [] h = absurd h
   verdicts_again (l ∷ ls) (o ∷ os) h = ap (λ (vs : List Verdict). o.verdict ∷ vs) (verdicts_again ls os h.1)
 
-  logs_again : (ls : List Lemma) (os : List Outcome) (h : AreOutcomes setting ls os) → map (λ (j : Judged). j.log) (all_again ls os h) ≡ map (λ (o : Outcome). o.log) os
+  logs_again : (ls : List Lemma) (os : List Outcome) (h : AreOutcomes setting budget [] ls os) → map (λ (j : Judged). j.log) (all_again ls os h) ≡ map (λ (o : Outcome). o.log) os
   logs_again [] [] h = refl
   logs_again [] (o ∷ os) h = absurd h
   logs_again (l ∷ ls) [] h = absurd h
   logs_again (l ∷ ls) (o ∷ os) h = ap (λ (xs : List (Option Log)). o.log ∷ xs) (logs_again ls os h.1)
 
-  numbers_again : (rules : List Rule) (ls : List Lemma) (os : List Outcome) (h : AreOutcomes setting ls os) → Every (λ (o : Outcome). IsNumbered rules o.log) os
-      → Every (λ (j : Judged). IsNumbered rules j.log) (all_again ls os h)
-  numbers_again rules [] [] h n = tt
-  numbers_again rules [] (o ∷ os) h n = absurd h
-  numbers_again rules (l ∷ ls) [] h n = absurd h
-  numbers_again rules (l ∷ ls) (o ∷ os) h n = (n.0, numbers_again rules ls os h.1 n.1)
+  numbers_again : (theory : Theory) (ls : List Lemma) (os : List Outcome) (h : AreOutcomes setting budget [] ls os) → Every (λ (o : Outcome). IsNumbered theory o.log) os
+      → Every (λ (j : Judged). IsNumbered theory j.log) (all_again ls os h)
+  numbers_again theory [] [] h n = tt
+  numbers_again theory [] (o ∷ os) h n = absurd h
+  numbers_again theory (l ∷ ls) [] h n = absurd h
+  numbers_again theory (l ∷ ls) (o ∷ os) h n = (n.0, numbers_again theory ls os h.1 n.1)
 
-  as_many : (ls : List Lemma) (os : List Outcome) → AreOutcomes setting ls os → length os ≡ length ls
+  as_many : (ls : List Lemma) (os : List Outcome) → AreOutcomes setting budget [] ls os → length os ≡ length ls
   as_many [] [] h = refl
   as_many [] (o ∷ os) h = absurd h
   as_many (l ∷ ls) [] h = absurd h
@@ -128,46 +122,49 @@ trees_readable [] r = tt
 trees_readable (o ∷ os) r = (r.0, trees_readable os r.1)
 
 -- the trees that were grown are readable
-all_readable : (setting : Setting) (ls : List Lemma) (os : List Outcome) → AreNamed (map forms_of setting.rules) → AreOutcomes setting ls os → Every (λ (o : Outcome). HavePlaces o.tree) os
+all_readable : (setting : Setting) (budget : ℕ) (ls : List Lemma) (os : List Outcome) → AreNamed (map forms_of setting.rules) → AreOutcomes setting budget [] ls os → Every (λ (o : Outcome). HavePlaces o.tree) os
     → Every (λ (o : Outcome). IsReadable o.tree) os
-all_readable setting [] [] n h p = tt
-all_readable setting [] (o ∷ os) n h p = absurd h
-all_readable setting (l ∷ ls) [] n h p = absurd h
-all_readable setting (l ∷ ls) (o ∷ os) n h p =
+all_readable setting budget [] [] n h p = tt
+all_readable setting budget [] (o ∷ os) n h p = absurd h
+all_readable setting budget (l ∷ ls) [] n h p = absurd h
+all_readable setting budget (l ∷ ls) (o ∷ os) n h p =
     let grown = h.0.tree_is in (
-      subst IsReadable (sym grown) (grown_readable (context_of setting l.kind h.0.form) (start l.kind h.0.form) budget n (subst HavePlaces grown p.0)),
-      all_readable setting ls os n h.1 p.1,
+      subst IsReadable (sym grown) (grown_readable (context_of setting (goal_of [] l.kind h.0.form)) (root_system (goal_of [] l.kind h.0.form)) budget n (subst HavePlaces grown p.0)),
+      all_readable setting budget ls os n h.1 p.1,
     )
 
 pub written_is_checked_lem : WrittenIsChecked
 written_is_checked_lem = record { checked = checked }
   where
-    checked : (text written : List ℕ) (outcomes : List Outcome) (a : IsAnalysis text written outcomes) → IsCheckedAgain a.theory written outcomes
-    checked text written outcomes a =
+    checked : (budget : ℕ) (text written : List ℕ) (outcomes : List Outcome) (a : IsAnalysis budget text written outcomes) → IsCheckedAgain a.theory written outcomes
+    checked budget text written outcomes a =
         let theory = theory_in a.theory in
         let setting = setting_of theory in
-        let r = all_readable setting theory.lemmas outcomes (rules_named text a.theory a.poses.says) a.outcomes_are a.places in
+        let words = summary (theory_of theory) outcomes in
+        let js = all_again setting budget theory.lemmas outcomes a.outcomes_are in
+        let r = all_readable setting budget theory.lemmas outcomes (rules_named text a.theory a.poses.says) a.outcomes_are a.places in
         let trees = trees_of outcomes in
         let again : WrittenText = record { name = a.theory.name; items = with_trees a.theory.items trees } in
         let same : theory_in again ≡ theory = same_theory a.theory trees in
         let many : length trees ≡ length a.spans =
-        length-map outcomes (λ (o : Outcome). o.tree) ∙ as_many setting theory.lemmas outcomes a.outcomes_are ∙ sym (each_lemma text a.theory a.spans a.behind_end a.places_are) in
-        let says = read_again text a.theory a.spans a.behind_end trees (codes "/*\n" ++ (summary setting.rules outcomes ++ codes "*/\n")) a.poses.says a.places_are (trees_readable outcomes r) many in
+        length-map outcomes (λ (o : Outcome). o.tree) ∙ as_many setting budget theory.lemmas outcomes a.outcomes_are ∙ sym (each_lemma text a.theory a.spans a.behind_end a.places_are) in
+        let says = read_again text a.theory a.spans a.behind_end trees (codes "/*\n" ++ (words ++ codes "*/\n")) a.poses.says a.places_are (trees_readable outcomes r) many in
         record {
-          judged = all_again setting theory.lemmas outcomes a.outcomes_are;
+          judged = js;
           checking = record {
             theory = again;
             poses = record { says = subst (λ (bytes : List ℕ). IsTextOf bytes again) (sym a.written_is) says; fine = subst IsWellFormed (sym same) a.poses.fine };
-            judged_are = subst (λ (t : WrittenTheory). AreJudged (setting_of t) again.items (all_again setting theory.lemmas outcomes a.outcomes_are)) (sym same) (are_again setting a.theory.items outcomes a.outcomes_are r);
-            numbers = subst (λ (t : WrittenTheory). Every (λ (j : Judged). IsNumbered (theory_of t).rules j.log) (all_again setting theory.lemmas outcomes a.outcomes_are)) (sym same)
-                (numbers_again setting setting.rules theory.lemmas outcomes a.outcomes_are a.numbers);
-            written_is = lines_again setting theory.lemmas outcomes a.outcomes_are r
-                ∙ ap (λ (t : WrittenTheory). checked_text (theory_of t).rules (all_again setting theory.lemmas outcomes a.outcomes_are)) (sym same);
+            judged_are = subst (λ (t : WrittenTheory). AreJudged (setting_of t) [] (lemmas_with_proofs again.items) js) (sym same)
+                (subst (λ (qs : List (Lemma × Option WrittenProof)). AreJudged setting [] qs js) (sym (lemmas_put a.theory.items (as_proofs trees)))
+                (are_again setting budget (lemmas_with_proofs a.theory.items) outcomes a.outcomes_are r));
+            numbers = subst (λ (t : WrittenTheory). Every (λ (j : Judged). IsNumbered (theory_of t) j.log) js) (sym same)
+                (numbers_again setting budget (theory_of theory) theory.lemmas outcomes a.outcomes_are a.numbers);
+            written_is = lines_again setting budget (theory_of theory) theory.lemmas outcomes a.outcomes_are r ∙ ap (λ (t : WrittenTheory). checked_text (theory_of t) js) (sym same);
           };
           same_theory = same;
-          behind = subst (λ (bytes : List ℕ). IsBehindEnd bytes (codes "\n/*\n" ++ (summary setting.rules outcomes ++ codes "*/\n"))) (sym a.written_is)
-              (behind_end text a.theory a.spans a.behind_end trees (codes "/*\n" ++ (summary setting.rules outcomes ++ codes "*/\n")) a.poses.says a.places_are (trees_readable outcomes r) many);
+          behind = subst (λ (bytes : List ℕ). IsBehindEnd bytes (codes "\n/*\n" ++ (words ++ codes "*/\n"))) (sym a.written_is)
+              (behind_end text a.theory a.spans a.behind_end trees (codes "/*\n" ++ (words ++ codes "*/\n")) a.poses.says a.places_are (trees_readable outcomes r) many);
           proofs = trees_proofs text a.theory a.spans a.behind_end trees a.places_are many;
-          verdicts = verdicts_again setting theory.lemmas outcomes a.outcomes_are;
-          logs = logs_again setting theory.lemmas outcomes a.outcomes_are;
+          verdicts = verdicts_again setting budget theory.lemmas outcomes a.outcomes_are;
+          logs = logs_again setting budget theory.lemmas outcomes a.outcomes_are;
         }

@@ -13,16 +13,16 @@ use Rattle.sp_check.specs.Judging as judging
 use Rattle.sp_check.specs.Judging.{Judgement, judgement}
 use Rattle.sp_check.specs.Skeleton.{Skeleton, tree_of}
 use Rattle.sp_check.proofs.Right.{judgements_right}
-use Rattle.sp_spec_text.specs.Written.{WrittenProof, Item, rule_item, lemma_item, WrittenText, theory_in}
+use Rattle.sp_spec_text.specs.Written.{WrittenProof, WrittenText, lemmas_with_proofs, theory_in}
 use Rattle.sp_spec_text.specs.Spans.{Span}
 use Rattle.sp_spec_text.specs.Texts.{ArePlaces}
 use Rattle.sp_read_theory.proofs.Whole.{text_one, places_one}
 use Rattle.sp_pose.proofs.One.{one_report, not_posed}
-use Rattle.sp_analysis.specs.Sought.{Setting, setting_of, context_of, start, proof_tree, grown_log}
+use Rattle.sp_analysis.specs.Sought.{Goal, goal_of, root_system, Setting, setting_of, context_of, proof_tree, grown_log}
 use Rattle.sp_spec_text.specs.Verdict.{Verdict, verified, falsified, incomplete, rejected, Says}
 use Rattle.sp_analysis.specs.Analysis.{Outcome, IsOutcome, AreOutcomes, analysed_text, IsAnalysis}
-use Rattle.sp_analysis.specs.Checking.{Judged, checked_text, IsVerdictOn, IsJudged, AreJudged, IsChecking}
-use Rattle.sp_analysis.specs.Kept.{by_leaves, by_tree, by_judgement, judged_log}
+use Rattle.sp_analysis.specs.Checking.{Judged, checked_text, IsVerdictIn, IsVerdictOn, IsJudged, AreJudged, IsChecking}
+use Rattle.sp_analysis.specs.Printed.{by_leaves, by_tree, by_judgement, judged_log}
 use Rattle.sp_analysis.specs.Laws.{AnswersAreOne}
 use Rattle.std.proofs.lemmas.Bool.{false_from_ne_true}
 
@@ -62,7 +62,7 @@ module _ (context : Context) (s : System) (k : Skeleton) where
   ended : (t : Tree) (log : Log) → tree_of k ≡ Some t → IsAccepted context s t → Some log ≡ found_log context s t → judgement context s k ≡ judging.found log
   ended t log is a n = (judgements_right.finds context s k log).1 (t, is, a, sym n)
 
-  pub by_its_judgement : (kind : TraceKind) (v : Verdict) (log : Option Log) → IsVerdictOn context s k kind v log → IsTold kind v log (judgement context s k)
+  pub by_its_judgement : (kind : TraceKind) (v : Verdict) (log : Option Log) → IsVerdictIn context s k kind v log → IsTold kind v log (judgement context s k)
   by_its_judgement kind (rejected step clause) log (h, n) = told kind (rejected step clause) log _ ((judgements_right.rejects context s k step clause).1 h) (refl, n)
   by_its_judgement all_traces verified None (t, is, a, n, h) = told all_traces verified None _ (closed t is a h) (refl, refl)
   by_its_judgement all_traces verified (Some log) (t, is, a, n, h) = absurd h
@@ -82,66 +82,66 @@ module _ (context : Context) (s : System) (k : Skeleton) where
 abbrev made : Lemma → Tree → Option Log → Verdict → Outcome
 made l t log v = record { lemma = l; tree = t; log = log; verdict = v }
 
-same_outcome : (setting : Setting) (l : Lemma) (o p : Outcome) → IsOutcome setting l o → IsOutcome setting l p → o ≡ p
-same_outcome setting l o p h k =
+same_outcome : (setting : Setting) (budget : ℕ) (l : Lemma) (o p : Outcome) → IsOutcome setting budget [] l o → IsOutcome setting budget [] l p → o ≡ p
+same_outcome setting budget l o p h k =
     let forms : Some h.form ≡ Some k.form = sym h.form_is ∙ k.form_is in
     let form : h.form ≡ k.form = cc in
-    let tree : o.tree ≡ p.tree = h.tree_is ∙ ap (proof_tree setting l.kind) form ∙ sym k.tree_is in
-    let log : o.log ≡ p.log = h.log_is ∙ ap (grown_log setting l.kind) form ∙ sym k.log_is in
+    let tree : o.tree ≡ p.tree = h.tree_is ∙ ap (λ (g : Guarded). proof_tree setting budget (goal_of [] l.kind g)) form ∙ sym k.tree_is in
+    let log : o.log ≡ p.log = h.log_is ∙ ap (λ (g : Guarded). grown_log setting budget (goal_of [] l.kind g)) form ∙ sym k.log_is in
     let says : Says l.kind o.verdict p.log (IsFinished p.tree) =
     subst (λ (t : Tree). Says l.kind o.verdict p.log (IsFinished t)) tree (subst (λ (x : Option Log). Says l.kind o.verdict x (IsFinished o.tree)) log h.verdict_is) in
     let verdict = by_its_tree l.kind p.tree o.verdict p.log says ∙ sym (by_its_tree l.kind p.tree p.verdict p.log k.verdict_is) in
     ap₂ (λ (m : Lemma) (t : Tree). made m t o.log o.verdict) (h.lemma_is ∙ sym k.lemma_is) tree ∙ ap₂ (made p.lemma p.tree) log verdict
 
-same_outcomes : (setting : Setting) (ls : List Lemma) (os ps : List Outcome) → AreOutcomes setting ls os → AreOutcomes setting ls ps → os ≡ ps
-same_outcomes setting [] [] [] h k = refl
-same_outcomes setting [] [] (p ∷ ps) h k = absurd k
-same_outcomes setting [] (o ∷ os) ps h k = absurd h
-same_outcomes setting (l ∷ ls) [] ps h k = absurd h
-same_outcomes setting (l ∷ ls) (o ∷ os) [] h k = absurd k
-same_outcomes setting (l ∷ ls) (o ∷ os) (p ∷ ps) h k =
-    ap₂ (λ (x : Outcome) (xs : List Outcome). x ∷ xs) (same_outcome setting l o p h.0 k.0) (same_outcomes setting ls os ps h.1 k.1)
+same_outcomes : (setting : Setting) (budget : ℕ) (ls : List Lemma) (os ps : List Outcome) → AreOutcomes setting budget [] ls os → AreOutcomes setting budget [] ls ps → os ≡ ps
+same_outcomes setting budget [] [] [] h k = refl
+same_outcomes setting budget [] [] (p ∷ ps) h k = absurd k
+same_outcomes setting budget [] (o ∷ os) ps h k = absurd h
+same_outcomes setting budget (l ∷ ls) [] ps h k = absurd h
+same_outcomes setting budget (l ∷ ls) (o ∷ os) [] h k = absurd k
+same_outcomes setting budget (l ∷ ls) (o ∷ os) (p ∷ ps) h k =
+    ap₂ (λ (x : Outcome) (xs : List Outcome). x ∷ xs) (same_outcome setting budget l o p h.0 k.0) (same_outcomes setting budget ls os ps h.1 k.1)
 
-abbrev judged : Lemma → Guarded → Skeleton → Option Log → Verdict → Judged
-judged l g k log v = record { lemma = l; form = g; proof = k; log = log; verdict = v }
+abbrev judged : Lemma → Goal → Skeleton → Option Log → Verdict → Judged
+judged l goal k log v = record { lemma = l; goal = goal; proof = k; log = log; verdict = v }
 
-same_judged : (setting : Setting) (l : Lemma) (p : Option WrittenProof) (i j : Judged) → IsJudged setting l p i → IsJudged setting l p j → i ≡ j
+same_judged : (setting : Setting) (l : Lemma) (p : Option WrittenProof) (i j : Judged) → IsJudged setting [] l p i → IsJudged setting [] l p j → i ≡ j
 same_judged setting l p i j h k =
-    let forms : Some i.form ≡ Some j.form = sym h.form_is ∙ k.form_is in
-    let form : i.form ≡ j.form = cc in
+    let forms : Some h.form ≡ Some k.form = sym h.form_is ∙ k.form_is in
+    let form : h.form ≡ k.form = cc in
+    let goal : i.goal ≡ j.goal = h.goal_is ∙ ap (goal_of [] l.kind) form ∙ sym k.goal_is in
     let proof : i.proof ≡ j.proof = h.proof_is ∙ sym k.proof_is in
-    let moved : IsVerdictOn (context_of setting l.kind j.form) (start l.kind j.form) j.proof l.kind i.verdict i.log =
-    subst (λ (g : Guarded). IsVerdictOn (context_of setting l.kind g) (start l.kind g) j.proof l.kind i.verdict i.log) form
-    (subst (λ (x : Skeleton). IsVerdictOn (context_of setting l.kind i.form) (start l.kind i.form) x l.kind i.verdict i.log) proof h.verdict_is) in
-    let first = by_its_judgement (context_of setting l.kind j.form) (start l.kind j.form) j.proof l.kind i.verdict i.log moved in
-    let second = by_its_judgement (context_of setting l.kind j.form) (start l.kind j.form) j.proof l.kind j.verdict j.log k.verdict_is in
-    ap₂ (λ (m : Lemma) (g : Guarded). judged m g i.proof i.log i.verdict) (h.lemma_is ∙ sym k.lemma_is) form
-    ∙ ap (λ (x : Skeleton). judged j.lemma j.form x i.log i.verdict) proof
-    ∙ ap₂ (judged j.lemma j.form j.proof) (first.1 ∙ sym second.1) (first.0 ∙ sym second.0)
+    let moved : IsVerdictOn setting j.goal j.proof i.verdict i.log =
+    subst (λ (g : Goal). IsVerdictOn setting g j.proof i.verdict i.log) goal (subst (λ (x : Skeleton). IsVerdictOn setting i.goal x i.verdict i.log) proof h.verdict_is) in
+    let first = by_its_judgement (context_of setting j.goal) (root_system j.goal) j.proof j.goal.kind i.verdict i.log moved in
+    let second = by_its_judgement (context_of setting j.goal) (root_system j.goal) j.proof j.goal.kind j.verdict j.log k.verdict_is in
+    ap₂ (λ (m : Lemma) (g : Goal). judged m g i.proof i.log i.verdict) (h.lemma_is ∙ sym k.lemma_is) goal
+    ∙ ap (λ (x : Skeleton). judged j.lemma j.goal x i.log i.verdict) proof
+    ∙ ap₂ (judged j.lemma j.goal j.proof) (first.1 ∙ sym second.1) (first.0 ∙ sym second.0)
 
-same_all_judged : (setting : Setting) (items : List Item) (is js : List Judged) → AreJudged setting items is → AreJudged setting items js → is ≡ js
+same_all_judged : (setting : Setting) (qs : List (Lemma × Option WrittenProof)) (is js : List Judged) → AreJudged setting [] qs is → AreJudged setting [] qs js → is ≡ js
 same_all_judged setting [] [] [] h k = refl
 same_all_judged setting [] [] (j ∷ js) h k = absurd k
 same_all_judged setting [] (i ∷ is) js h k = absurd h
-same_all_judged setting (rule_item r ∷ items) is js h k = same_all_judged setting items is js h k
-same_all_judged setting (lemma_item l p ∷ items) [] js h k = absurd h
-same_all_judged setting (lemma_item l p ∷ items) (i ∷ is) [] h k = absurd k
-same_all_judged setting (lemma_item l p ∷ items) (i ∷ is) (j ∷ js) h k =
-    ap₂ (λ (x : Judged) (xs : List Judged). x ∷ xs) (same_judged setting l p i j h.0 k.0) (same_all_judged setting items is js h.1 k.1)
+same_all_judged setting (q ∷ qs) [] js h k = absurd h
+same_all_judged setting (q ∷ qs) (i ∷ is) [] h k = absurd k
+same_all_judged setting (q ∷ qs) (i ∷ is) (j ∷ js) h k =
+    ap₂ (λ (x : Judged) (xs : List Judged). x ∷ xs) (same_judged setting q.0 q.1 i j h.0 k.0) (same_all_judged setting qs is js h.1 k.1)
 
 -- ---- answers
 
-one_answer : (text written other : List ℕ) (outcomes others : List Outcome) → IsAnalysis text written outcomes → IsAnalysis text other others → (written ≡ other) × (outcomes ≡ others)
-one_answer text written other outcomes others a b =
+one_answer : (budget : ℕ) (text written other : List ℕ) (outcomes others : List Outcome) → IsAnalysis budget text written outcomes → IsAnalysis budget text other others
+    → (written ≡ other) × (outcomes ≡ others)
+one_answer budget text written other outcomes others a b =
     let theory = text_one a.poses.says b.poses.says in
-    let tried : AreOutcomes (setting_of (theory_in b.theory)) (theory_in b.theory).lemmas outcomes =
-    subst (λ (t : WrittenText). AreOutcomes (setting_of (theory_in t)) (theory_in t).lemmas outcomes) theory a.outcomes_are in
-    let same = same_outcomes (setting_of (theory_in b.theory)) (theory_in b.theory).lemmas outcomes others tried b.outcomes_are in
+    let tried : AreOutcomes (setting_of (theory_in b.theory)) budget [] (theory_in b.theory).lemmas outcomes =
+    subst (λ (t : WrittenText). AreOutcomes (setting_of (theory_in t)) budget [] (theory_in t).lemmas outcomes) theory a.outcomes_are in
+    let same = same_outcomes (setting_of (theory_in b.theory)) budget (theory_in b.theory).lemmas outcomes others tried b.outcomes_are in
     let places = places_one (subst (λ (t : WrittenText). ArePlaces text t a.spans a.behind_end) theory a.places_are) b.places_are in (
       a.written_is
-          ∙ ap₂ (λ (ps : List Span) (os : List Outcome). analysed_text (theory_of (theory_in a.theory)).rules text ps os a.behind_end) places.0 same
-          ∙ ap (analysed_text (theory_of (theory_in a.theory)).rules text b.spans others) places.1
-          ∙ ap (λ (t : WrittenText). analysed_text (theory_of (theory_in t)).rules text b.spans others b.behind_end) theory
+          ∙ ap₂ (λ (ps : List Span) (os : List Outcome). analysed_text (theory_of (theory_in a.theory)) text ps os a.behind_end) places.0 same
+          ∙ ap (analysed_text (theory_of (theory_in a.theory)) text b.spans others) places.1
+          ∙ ap (λ (t : WrittenText). analysed_text (theory_of (theory_in t)) text b.spans others b.behind_end) theory
           ∙ sym b.written_is,
       same,
     )
@@ -149,10 +149,10 @@ one_answer text written other outcomes others a b =
 one_check : (text written other : List ℕ) (js others : List Judged) → IsChecking text written js → IsChecking text other others → (written ≡ other) × (js ≡ others)
 one_check text written other js others a b =
     let theory = text_one a.poses.says b.poses.says in
-    let all : AreJudged (setting_of (theory_in b.theory)) b.theory.items js =
-    subst (λ (t : WrittenText). AreJudged (setting_of (theory_in t)) t.items js) theory a.judged_are in
-    let same = same_all_judged (setting_of (theory_in b.theory)) b.theory.items js others all b.judged_are in
-    (a.written_is ∙ ap (checked_text (theory_of (theory_in a.theory)).rules) same ∙ ap (λ (t : WrittenText). checked_text (theory_of (theory_in t)).rules others) theory ∙ sym b.written_is, same)
+    let all : AreJudged (setting_of (theory_in b.theory)) [] (lemmas_with_proofs b.theory.items) js =
+    subst (λ (t : WrittenText). AreJudged (setting_of (theory_in t)) [] (lemmas_with_proofs t.items) js) theory a.judged_are in
+    let same = same_all_judged (setting_of (theory_in b.theory)) (lemmas_with_proofs b.theory.items) js others all b.judged_are in
+    (a.written_is ∙ ap (checked_text (theory_of (theory_in a.theory))) same ∙ ap (λ (t : WrittenText). checked_text (theory_of (theory_in t)) others) theory ∙ sym b.written_is, same)
 
 pub answers_are_one_lem : AnswersAreOne
 answers_are_one_lem = record {
@@ -160,8 +160,8 @@ answers_are_one_lem = record {
   one_check = one_check;
   one_report = one_report;
   refused = λ text lines place h r. h.nothing.none r.theory r.says;
-  no_analysis = λ text written place outcomes h a. h.nothing.none a.theory a.poses.says;
+  no_analysis = λ budget text written place outcomes h a. h.nothing.none a.theory a.poses.says;
   no_checking = λ text written place js h c. h.nothing.none c.theory c.poses.says;
-  not_analysed = λ text lines written outcomes r a. not_posed r a.poses;
+  not_analysed = λ budget text lines written outcomes r a. not_posed r a.poses;
   not_checked = λ text lines written js r c. not_posed r c.poses;
 }

@@ -11,24 +11,24 @@ use Rattle.sp_spec.specs.Theory.{TraceKind, all_traces, exists_trace, Lemma, sig
 use Rattle.sp_spec.specs.Written.{WrittenTheory, theory_of}
 use Rattle.sp_spec.specs.Constants.{constants_of}
 use Rattle.sp_spec.specs.Guarded.{Guarded}
-use Rattle.sp_law_equal.proofs.Pairs.{pairs_have_normal_forms, pairs_keep_symbols}
+use Rattle.sp_law_equal.specs.NormalForms.{HasNormalForms}
+use Rattle.sp_law_equal.proofs.Pairs.{no_own_equations}
 use Rattle.sp_law_guard.specs.GuardedForm.{negate}
 use Rattle.sp_law_guard.specs.CheckedForm.{checked_form}
 use Rattle.sp_law_guard.proofs.Checked.{form_checked}
 use Rattle.sp_law_guard.proofs.Throughout.{Throughout, negate_throughout}
 use Rattle.sp_law_found.specs.Found.{execution_of}
-use Rattle.sp_spec_text.specs.Written.{WrittenProof, Item, rule_item, lemma_item, WrittenText, lemmas_in, theory_in}
+use Rattle.sp_spec_text.specs.Written.{WrittenProof, WrittenText, lemmas_with_proofs, without_proofs, theory_in}
 use Rattle.sp_spec_text.specs.Texts.{IsTextOf}
 use Rattle.sp_spec_system.specs.System.{System}
 use Rattle.sp_spec_system.specs.Numbered.{names_in}
 use Rattle.sp_spec_proof.specs.Tree.{Tree, found_log}
 use Rattle.sp_law_system.specs.Rules.{IsPlainTheory}
 use Rattle.sp_law_system.specs.Proofs.{IsWellMade}
-use Rattle.sp_law_tree.proofs.ClosedRules.{rules_closed}
 use Rattle.sp_law_tree.proofs.Forms.{right_negation, right_numbered}
 use Rattle.sp_law_tree.proofs.Named.{NamedAtom, form_named}
 use Rattle.sp_law_tree.proofs.OverLogs.{lemma_right}
-use Rattle.sp_law_tree.proofs.WrittenRules.{rules_plain, rules_over}
+use Rattle.sp_law_tree.proofs.RightTexts.{plain_text}
 use Rattle.sp_log.specs.Checking.{is_log}
 use Rattle.sp_log.proofs.Checks.{log_decides}
 use Rattle.sp_solved.specs.Candidate.{candidate}
@@ -45,7 +45,7 @@ use Rattle.sp_law_block.proofs.ReadBack.{steps_are_read_back_lem}
 use Rattle.sp_law_block.proofs.TextNames.{texts_have_names_lem}
 use Rattle.sp_check.specs.Skeleton.{Skeleton}
 use Rattle.sp_spec_text.specs.Verdict.{Verdict, verified, falsified, incomplete, rejected}
-use Rattle.sp_analysis.specs.Sought.{sought, start, setting_of, context_of, proof_tree}
+use Rattle.sp_analysis.specs.Sought.{Goal, goal_of, sought, root_system, setting_of, context_of, proof_tree}
 use Rattle.sp_analysis.specs.Analysis.{Outcome, IsOutcome, AreOutcomes}
 use Rattle.sp_analysis.specs.Checking.{IsVerdictOn, Judged, IsJudged, AreJudged}
 use Rattle.sp_analysis.specs.Laws.{IsReadBack, AreReadBack, ExecutionsAreReadBack}
@@ -60,41 +60,39 @@ module _ (text : List ℕ) (written : WrittenText) (says : IsTextOf text written
   abbrev theory : WrittenTheory
   theory = theory_in written
 
+  forms : HasNormalForms (signature_of (theory_of theory))
+  forms = no_own_equations []
+
   first : AreFirst theory.rules theory.lemmas
   first = theory_spelled says.spells
 
   plain : IsPlainTheory (theory_of theory)
-  plain = record {
-    normal_forms = pairs_have_normal_forms;
-    keeps = pairs_keep_symbols (signature_of (theory_of theory)).symbols;
-    plain = rules_plain (signature_of (theory_of theory)).equations theory.rules first.rules_are;
-    over = rules_over theory first.rules_are;
-    closed = rules_closed theory.rules first.rules_are fine.rules;
-  }
+  plain = plain_text theory forms first.rules_are fine.rules
 
   -- the system in which a proof begins
-  begins_well : (l : Lemma) → IsLemmaOf theory l → (g : Guarded) → checked_form l.formula ≡ Some g → (kind : TraceKind) → IsWellMade (context_of (setting_of theory) kind g) (start kind g)
+  begins_well : (l : Lemma) → IsLemmaOf theory l → (g : Guarded) → checked_form l.formula ≡ Some g → (kind : TraceKind)
+      → IsWellMade (context_of (setting_of theory) (goal_of [] kind g)) (root_system (goal_of [] kind g))
   begins_well l f g e kind = at kind
     where
       named : Throughout (NamedAtom (names_in (constants_of theory))) zero g
       named = form_named (names_in (constants_of theory)) l.formula g f.1 (form_checked l.formula g e).0
 
-      at : (kind : TraceKind) → IsWellMade (context_of (setting_of theory) kind g) (start kind g)
+      at : (kind : TraceKind) → IsWellMade (context_of (setting_of theory) (goal_of [] kind g)) (root_system (goal_of [] kind g))
       at all_traces = record {
         numbered = right_numbered (names_in (constants_of theory)) (negate g) (right_negation g (lemma_right l f.0 g e)) (negate_throughout (NamedAtom (names_in (constants_of theory))) zero g named);
       }
       at exists_trace = record { numbered = right_numbered (names_in (constants_of theory)) g (lemma_right l f.0 g e) named }
 
   -- a log that is found in a tree
-  read_back : (kind : TraceKind) (g : Guarded) (s : System) → IsWellMade (context_of (setting_of theory) kind g) s → (tree : Tree) (log : Log)
-      → found_log (context_of (setting_of theory) kind g) s tree ≡ Some log → IsNumbered (theory_of theory).rules (Some log) → IsReadBack (theory_of theory) log
-  read_back kind g s made tree log e numbers =
+  read_back : (goal : Goal) (s : System) → IsWellMade (context_of (setting_of theory) goal) s → (tree : Tree) (log : Log)
+      → found_log (context_of (setting_of theory) goal) s tree ≡ Some log → IsNumbered (theory_of theory) (Some log) → IsReadBack (theory_of theory) log
+  read_back goal s made tree log e numbers =
       let signature = signature_of (theory_of theory) in
       let rules = (theory_of theory).rules in
-      let f = sought kind g in
+      let f = sought goal.kind goal.form in
       let constants = constants_of theory in
-      let found_in = searched theory first fine refl in
-      let end = ends_are_well_made_lem.ends (theory_of theory) plain (context_of (setting_of theory) kind g) (is_context theory first fine refl kind g) s made tree log e in
+      let found_in = searched theory forms first fine refl in
+      let end = ends_are_well_made_lem.ends (theory_of theory) plain (context_of (setting_of theory) goal) (is_context theory forms first fine refl goal) s made tree log e in
       let q = then_some (λ (entries : List Entry). kept_if (is_sought signature rules f entries) entries) (candidate constants end.0) log end.2 in
       let k = kept_entries (is_sought signature rules f q.0) q.0 log q.2 in
       let is = (log_decides (theory_of theory) (checkable theory found_in) q.0).0 (and_parts (is_log signature rules q.0) (decided (log_trace (newest_first q.0)) empty f) k.0).0 in
@@ -102,58 +100,61 @@ module _ (text : List ℕ) (written : WrittenText) (says : IsTextOf text written
       let named = texts_have_names_lem.rules text written says in
       let exe = executable theory found_in in
       let newest = newest_first q.0 in
-      let ends = subst (λ (l : Log). IsNumbered rules (Some l)) (sym k.1) numbers in
-      let writable = every_newest (IsWritableStep signature.symbols) (execution_of rules newest) (logs_may_be_written_lem.steps theory exe named newest is.0 is.1 names ends) in
+      let ends = subst (λ (l : Log). IsNumbered (theory_of theory) (Some l)) (sym k.1) numbers in
+      let writable = every_newest (IsWritableStep signature.symbols) (execution_of (theory_of theory) newest) (logs_may_be_written_lem.steps theory exe named newest is.0 is.1 names ends) in
       subst (IsReadBack (theory_of theory)) k.1 (record {
         writable = writable;
-        read = steps_are_read_back_lem.read signature.symbols pairs_have_names (oldest_first (execution_of rules newest)) writable;
+        read = steps_are_read_back_lem.read signature.symbols pairs_have_names (oldest_first (execution_of (theory_of theory) newest)) writable;
         shown = every_newest (Every (IsShownAction signature.symbols)) (visible_trace newest) (logs_may_be_written_lem.trace theory exe named plain.over.actions newest is.0 is.1 names);
       })
 
   -- where there is none nothing is written
-  option_read : (kind : TraceKind) (g : Guarded) (s : System) → IsWellMade (context_of (setting_of theory) kind g) s → (tree : Tree) (log : Option Log)
-      → log ≡ found_log (context_of (setting_of theory) kind g) s tree → IsNumbered (theory_of theory).rules log → AreReadBack (theory_of theory) log
-  option_read kind g s made tree None e numbers = tt
-  option_read kind g s made tree (Some log) e numbers = read_back kind g s made tree log (sym e) numbers
+  option_read : (goal : Goal) (s : System) → IsWellMade (context_of (setting_of theory) goal) s → (tree : Tree) (log : Option Log)
+      → log ≡ found_log (context_of (setting_of theory) goal) s tree → IsNumbered (theory_of theory) log → AreReadBack (theory_of theory) log
+  option_read goal s made tree None e numbers = tt
+  option_read goal s made tree (Some log) e numbers = read_back goal s made tree log (sym e) numbers
 
-  outcome_read : (l : Lemma) (o : Outcome) → IsLemmaOf theory l → IsOutcome (setting_of theory) l o → IsNumbered (theory_of theory).rules o.log → AreReadBack (theory_of theory) o.log
-  outcome_read l o f h numbers =
-      option_read l.kind h.form (start l.kind h.form) (begins_well l f h.form h.form_is l.kind) (proof_tree (setting_of theory) l.kind h.form) o.log h.log_is numbers
+  outcome_read : (budget : ℕ) (l : Lemma) (o : Outcome) → IsLemmaOf theory l → IsOutcome (setting_of theory) budget [] l o → IsNumbered (theory_of theory) o.log
+      → AreReadBack (theory_of theory) o.log
+  outcome_read budget l o f h numbers =
+      let goal = goal_of [] l.kind h.form in
+      option_read goal (root_system goal) (begins_well l f h.form h.form_is l.kind) (proof_tree (setting_of theory) budget goal) o.log h.log_is numbers
 
-  outcomes_read : (ls : List Lemma) (os : List Outcome) → Every (IsLemmaOf theory) ls → AreOutcomes (setting_of theory) ls os
-      → Every (λ (o : Outcome). IsNumbered (theory_of theory).rules o.log) os → Every (λ (o : Outcome). AreReadBack (theory_of theory) o.log) os
-  outcomes_read [] [] f h n = tt
-  outcomes_read [] (o ∷ os) f h n = absurd h
-  outcomes_read (l ∷ ls) [] f h n = absurd h
-  outcomes_read (l ∷ ls) (o ∷ os) f h n = (outcome_read l o f.0 h.0 n.0, outcomes_read ls os f.1 h.1 n.1)
+  outcomes_read : (budget : ℕ) (ls : List Lemma) (os : List Outcome) → Every (IsLemmaOf theory) ls → AreOutcomes (setting_of theory) budget [] ls os
+      → Every (λ (o : Outcome). IsNumbered (theory_of theory) o.log) os → Every (λ (o : Outcome). AreReadBack (theory_of theory) o.log) os
+  outcomes_read budget [] [] f h n = tt
+  outcomes_read budget [] (o ∷ os) f h n = absurd h
+  outcomes_read budget (l ∷ ls) [] f h n = absurd h
+  outcomes_read budget (l ∷ ls) (o ∷ os) f h n = (outcome_read budget l o f.0 h.0 n.0, outcomes_read budget ls os f.1 h.1 n.1)
 
-  verdict_read : (kind : TraceKind) (g : Guarded) (s : System) → IsWellMade (context_of (setting_of theory) kind g) s → (k : Skeleton) (v : Verdict) (log : Option Log)
-      → IsVerdictOn (context_of (setting_of theory) kind g) s k kind v log → IsNumbered (theory_of theory).rules log → AreReadBack (theory_of theory) log
-  verdict_read kind g s made k (rejected step clause) log (h, none) n = subst (AreReadBack (theory_of theory)) (sym none) tt
-  verdict_read kind g s made k verified log (tree, is, accepted, e, says) n = option_read kind g s made tree log e n
-  verdict_read kind g s made k falsified log (tree, is, accepted, e, says) n = option_read kind g s made tree log e n
-  verdict_read kind g s made k incomplete log (tree, is, accepted, e, says) n = option_read kind g s made tree log e n
+  verdict_read : (goal : Goal) → IsWellMade (context_of (setting_of theory) goal) (root_system goal) → (k : Skeleton) (v : Verdict) (log : Option Log)
+      → IsVerdictOn (setting_of theory) goal k v log → IsNumbered (theory_of theory) log → AreReadBack (theory_of theory) log
+  verdict_read goal made k (rejected step clause) log (h, none) n = subst (AreReadBack (theory_of theory)) (sym none) tt
+  verdict_read goal made k verified log (tree, is, accepted, e, says) n = option_read goal (root_system goal) made tree log e n
+  verdict_read goal made k falsified log (tree, is, accepted, e, says) n = option_read goal (root_system goal) made tree log e n
+  verdict_read goal made k incomplete log (tree, is, accepted, e, says) n = option_read goal (root_system goal) made tree log e n
 
-  judged_read : (l : Lemma) (p : Option WrittenProof) (j : Judged) → IsLemmaOf theory l → IsJudged (setting_of theory) l p j → IsNumbered (theory_of theory).rules j.log
+  judged_read : (l : Lemma) (p : Option WrittenProof) (j : Judged) → IsLemmaOf theory l → IsJudged (setting_of theory) [] l p j → IsNumbered (theory_of theory) j.log
       → AreReadBack (theory_of theory) j.log
-  judged_read l p j f h numbers = verdict_read l.kind j.form (start l.kind j.form) (begins_well l f j.form h.form_is l.kind) j.proof j.verdict j.log h.verdict_is numbers
+  judged_read l p j f h numbers =
+      let made = subst (λ (goal : Goal). IsWellMade (context_of (setting_of theory) goal) (root_system goal)) (sym h.goal_is) (begins_well l f h.form h.form_is l.kind) in
+      verdict_read j.goal made j.proof j.verdict j.log h.verdict_is numbers
 
-  all_judged_read : (items : List Item) (js : List Judged) → Every (IsLemmaOf theory) (lemmas_in items) → AreJudged (setting_of theory) items js
-      → Every (λ (j : Judged). IsNumbered (theory_of theory).rules j.log) js → Every (λ (j : Judged). AreReadBack (theory_of theory) j.log) js
+  all_judged_read : (qs : List (Lemma × Option WrittenProof)) (js : List Judged) → Every (IsLemmaOf theory) (without_proofs qs) → AreJudged (setting_of theory) [] qs js
+      → Every (λ (j : Judged). IsNumbered (theory_of theory) j.log) js → Every (λ (j : Judged). AreReadBack (theory_of theory) j.log) js
   all_judged_read [] [] f h n = tt
   all_judged_read [] (j ∷ js) f h n = absurd h
-  all_judged_read (rule_item r ∷ items) js f h n = all_judged_read items js f h n
-  all_judged_read (lemma_item l p ∷ items) [] f h n = absurd h
-  all_judged_read (lemma_item l p ∷ items) (j ∷ js) f h n = (judged_read l p j f.0 h.0 n.0, all_judged_read items js f.1 h.1 n.1)
+  all_judged_read (q ∷ qs) [] f h n = absurd h
+  all_judged_read (q ∷ qs) (j ∷ js) f h n = (judged_read q.0 q.1 j f.0 h.0 n.0, all_judged_read qs js f.1 h.1 n.1)
 
 pub executions_are_read_back_lem : ExecutionsAreReadBack
 executions_are_read_back_lem = record {
-  tried = λ text written outcomes a.
+  tried = λ budget text written outcomes a.
       let theory = theory_in a.theory in
       let lemmas = lemmas_of theory (theory_spelled a.poses.says.spells).lemmas_are in
-      outcomes_read text a.theory a.poses.says a.poses.fine theory.lemmas outcomes lemmas a.outcomes_are a.numbers;
+      outcomes_read text a.theory a.poses.says a.poses.fine budget theory.lemmas outcomes lemmas a.outcomes_are a.numbers;
   checked = λ text written judged c.
       let theory = theory_in c.theory in
       let lemmas = lemmas_of theory (theory_spelled c.poses.says.spells).lemmas_are in
-      all_judged_read text c.theory c.poses.says c.poses.fine c.theory.items judged lemmas c.judged_are c.numbers;
+      all_judged_read text c.theory c.poses.says c.poses.fine (lemmas_with_proofs c.theory.items) judged lemmas c.judged_are c.numbers;
 }

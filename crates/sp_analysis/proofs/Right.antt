@@ -1,12 +1,16 @@
 -- What is written of a lemma is so, and of a text one thing is written.
 use Rattle.std.proofs.Common.{inl, inr, ◌≡◌, ◌↔◌, ℕ, Bool, true, false, ◌&&◌, List, [], ◌∷◌, Option, Some, None, option_and_then, refl, sym, ap, ◌∙◌, subst}
 use Rattle.sp_spec.specs.Lists.{Member, Every, newest_first}
+use Rattle.sp_spec.proofs.Lists.{every_weaken}
 use Rattle.sp_spec.specs.Rule.{Rule}
 use Rattle.sp_spec.specs.Signature.{Signature}
 use Rattle.sp_spec.specs.Log.{Entry, Log, log_trace}
 use Rattle.sp_spec.specs.Theory.{TraceKind, all_traces, exists_trace, Lemma, signature_of}
 use Rattle.sp_spec.specs.Written.{WrittenTheory, theory_of}
 use Rattle.sp_spec.specs.Guarded.{Guarded}
+use Rattle.sp_spec.specs.Verdict.{HoldsInAll, HoldsInNone, names_learning, HoldsInAllLogs, HoldsInNoLog}
+use Rattle.sp_law_equal.specs.NormalForms.{HasNormalForms}
+use Rattle.sp_law_equal.proofs.Pairs.{no_own_equations}
 use Rattle.sp_law_guard.specs.GuardedForm.{negate}
 use Rattle.sp_law_guard.specs.CheckedForm.{checked_form}
 use Rattle.sp_law_decide.specs.Deciding.{decided, empty}
@@ -14,6 +18,7 @@ use Rattle.sp_log.specs.Checking.{is_log}
 use Rattle.sp_solved.specs.Candidate.{candidate}
 use Rattle.sp_solved.specs.Found.{is_sought, kept_if, found}
 use Rattle.sp_law_shown.specs.Shown.{IsSearched, FoundBreaks, FoundSatisfies}
+use Rattle.sp_law_shown.proofs.Learning.{plain_names_none, into_reading}
 use Rattle.sp_spec_system.specs.Move.{Context}
 use Rattle.sp_spec_proof.specs.Tree.{Tree, IsAccepted, IsFinished, found_log}
 use Rattle.sp_spec_system.specs.Numbered.{names_in}
@@ -26,20 +31,21 @@ use Rattle.sp_law_tree.proofs.Logs.{log_found}
 use Rattle.sp_law_shown.proofs.Found.{found_logs_show_lem}
 use Rattle.sp_spec.specs.Constants.{constants_of}
 use Rattle.sp_wf.specs.Laws.{IsWellFormed}
-use Rattle.sp_analysis.specs.Sought.{budget, start, setting_of, context_of}
+use Rattle.sp_analysis.specs.Sought.{Goal, goal_of, root_system, setting_of, context_of}
 use Rattle.sp_analysis.specs.Analysis.{Outcome, IsOutcome, AreOutcomes}
 use Rattle.sp_analysis.specs.Laws.{Means, IsRejected, JudgedRightly, VerdictsAreRight}
 use Rattle.sp_spec_text.specs.Verdict.{Verdict, verified, falsified, incomplete, rejected, Says}
-use Rattle.sp_analysis.specs.Checking.{IsVerdictOn, Judged, IsJudged, AreJudged}
+use Rattle.sp_analysis.specs.Checking.{IsVerdictIn, IsVerdictOn, Judged, IsJudged, AreJudged}
 use Rattle.sp_spec_system.specs.System.{System}
 use Rattle.sp_check.specs.Skeleton.{Skeleton}
 use Rattle.sp_check.specs.Rejected.{ReadIsAccepted}
 use Rattle.sp_check.proofs.Right.{judgements_right}
-use Rattle.sp_spec_text.specs.Written.{WrittenProof, Item, rule_item, lemma_item, lemmas_in, theory_in}
+use Rattle.sp_spec_text.specs.Written.{WrittenProof, WrittenText, lemmas_with_proofs, without_proofs, theory_in}
+use Rattle.sp_spec_text.specs.Texts.{IsTextOf}
 use Rattle.sp_pose.proofs.Theories.{AreFirst, theory_spelled}
 
 -- a proof isn't rejected exactly where it is accepted
-accepted_or_rejected : (context : Context) (s : System) (k : Skeleton) (kind : TraceKind) (v : Verdict) (log : Option Log) → IsVerdictOn context s k kind v log
+accepted_or_rejected : (context : Context) (s : System) (k : Skeleton) (kind : TraceKind) (v : Verdict) (log : Option Log) → IsVerdictIn context s k kind v log
     → (IsRejected v → ⊥) ↔ ReadIsAccepted context s k
 accepted_or_rejected context s k kind (rejected step clause) log (h, n) =
     (λ no. absurd (no (step, clause, refl)), λ yes r. (judgements_right.rejects_the_others context s k).1 (step, (clause, h)) yes)
@@ -79,12 +85,17 @@ lemmas_of theory plain = go theory.lemmas (λ l m. m) plain
     go [] among h = tt
     go (l ∷ ls) among h = ((h.0, names_stand_lem.lemmas theory l (among l (inl refl)) h.0), go ls (λ x m. among x (inr m)) h.1)
 
-module _ (theory : WrittenTheory) (first : AreFirst theory.rules theory.lemmas) (fine : IsWellFormed theory) (none : theory.restrictions ≡ []) where
-  pub searched : IsSearched theory
-  searched = record { plain = first.rules_are; rule_names = fine.rule_names; right = fine.rules; unrestricted = none }
+-- no lemma of a text names learning
+pub lemmas_unlearnt : (bytes : List ℕ) (text : WrittenText) → IsTextOf bytes text → Every (λ (l : Lemma). names_learning l.formula ≡ false) (theory_in text).lemmas
+lemmas_unlearnt bytes text says =
+    every_weaken (λ (l : Lemma). IsPlainFormula l.formula) (λ (l : Lemma). names_learning l.formula ≡ false) (λ l h. plain_names_none l.formula h) (theory_in text).lemmas (theory_spelled says.spells).lemmas_are
 
-  pub is_context : (kind : TraceKind) (g : Guarded) → IsContextOf (theory_of theory) (context_of (setting_of theory) kind g)
-  is_context kind g = record { rules = refl; numbered = names_stand_lem.rules theory first.rules_are }
+module _ (theory : WrittenTheory) (forms : HasNormalForms (signature_of (theory_of theory))) (first : AreFirst theory.rules theory.lemmas) (fine : IsWellFormed theory) (none : theory.restrictions ≡ []) where
+  pub searched : IsSearched theory
+  searched = record { normal_forms = forms; plain = first.rules_are; rule_names = fine.rule_names; right = fine.rules; unrestricted = none }
+
+  pub is_context : (goal : Goal) → IsContextOf (theory_of theory) (context_of (setting_of theory) goal)
+  is_context goal = record { rules = refl; numbered = names_stand_lem.rules theory first.rules_are }
 
   breaks : (l : Lemma) → IsPlainFormula l.formula → (g : Guarded) → checked_form l.formula ≡ Some g → (s : System) (log : Log)
       → found (signature_of (theory_of theory)) (theory_of theory).rules (constants_of theory) (negate g) s ≡ Some log → FoundBreaks (theory_of theory) l log
@@ -99,28 +110,30 @@ module _ (theory : WrittenTheory) (first : AreFirst theory.rules theory.lemmas) 
       subst (FoundSatisfies (theory_of theory) l) h.log_is (found_logs_show_lem.satisfies theory searched l f g e h.entries h.is_log h.is_true)
 
   -- the log of a tree is one with which the search ends at some system
-  ended : (kind : TraceKind) (g : Guarded) (tree : Tree) (log : Log) → Some log ≡ found_log (context_of (setting_of theory) kind g) (start kind g) tree
-      → (s : System) × ((context_of (setting_of theory) kind g).found s ≡ Some log)
-  ended kind g tree log e = log_found (context_of (setting_of theory) kind g) tree (start kind g) log (sym e)
+  ended : (goal : Goal) (tree : Tree) (log : Log) → Some log ≡ found_log (context_of (setting_of theory) goal) (root_system goal) tree
+      → (s : System) × ((context_of (setting_of theory) goal).found s ≡ Some log)
+  ended goal tree log e = log_found (context_of (setting_of theory) goal) tree (root_system goal) log (sym e)
 
   -- an accepted tree shows what it says
   shown : (l : Lemma) → IsLemmaOf theory l → (g : Guarded) → checked_form l.formula ≡ Some g → (kind : TraceKind) (v : Verdict) (log : Option Log) (tree : Tree)
-      → IsAccepted (context_of (setting_of theory) kind g) (start kind g) tree → log ≡ found_log (context_of (setting_of theory) kind g) (start kind g) tree
-      → Says kind v log (IsFinished tree) → Means (theory_of theory) kind v log l
+      → IsAccepted (context_of (setting_of theory) (goal_of [] kind g)) (root_system (goal_of [] kind g)) tree
+      → log ≡ found_log (context_of (setting_of theory) (goal_of [] kind g)) (root_system (goal_of [] kind g)) tree → Says kind v log (IsFinished tree) → Means (theory_of theory) kind v log l
   shown l f g e all_traces verified None tree accepted is says =
-      lemmas_are_shown_lem.all_traces theory first.rules_are fine.rules l f.0 g e (context_of (setting_of theory) all_traces g) (is_context all_traces g) f.1 tree accepted says
+      into_reading l (plain_names_none l.formula f.0) (HoldsInAllLogs (theory_of theory) l) (HoldsInAll (theory_of theory) l)
+      (lemmas_are_shown_lem.all_traces theory forms first.rules_are fine.rules l f.0 g e (context_of (setting_of theory) (goal_of [] all_traces g)) (is_context (goal_of [] all_traces g)) f.1 tree accepted says)
   shown l f g e all_traces verified (Some log) tree accepted is says = absurd says
   shown l f g e all_traces falsified None tree accepted is says = absurd says
   shown l f g e all_traces falsified (Some log) tree accepted is says =
-      let s = ended all_traces g tree log is in breaks l f.0 g e s.0 log s.1
+      let s = ended (goal_of [] all_traces g) tree log is in breaks l f.0 g e s.0 log s.1
   shown l f g e all_traces incomplete None tree accepted is says = tt
   shown l f g e all_traces incomplete (Some log) tree accepted is says = absurd says
   shown l f g e all_traces (rejected step clause) log tree accepted is says = absurd says
   shown l f g e exists_trace verified None tree accepted is says = absurd says
   shown l f g e exists_trace verified (Some log) tree accepted is says =
-      let s = ended exists_trace g tree log is in satisfies l f.0 g e s.0 log s.1
+      let s = ended (goal_of [] exists_trace g) tree log is in satisfies l f.0 g e s.0 log s.1
   shown l f g e exists_trace falsified None tree accepted is says =
-      lemmas_are_shown_lem.exists_trace theory first.rules_are fine.rules l f.0 g e (context_of (setting_of theory) exists_trace g) (is_context exists_trace g) f.1 tree accepted says
+      into_reading l (plain_names_none l.formula f.0) (HoldsInNoLog (theory_of theory) l) (HoldsInNone (theory_of theory) l)
+      (lemmas_are_shown_lem.exists_trace theory forms first.rules_are fine.rules l f.0 g e (context_of (setting_of theory) (goal_of [] exists_trace g)) (is_context (goal_of [] exists_trace g)) f.1 tree accepted says)
   shown l f g e exists_trace falsified (Some log) tree accepted is says = absurd says
   shown l f g e exists_trace incomplete None tree accepted is says = tt
   shown l f g e exists_trace incomplete (Some log) tree accepted is says = absurd says
@@ -128,7 +141,7 @@ module _ (theory : WrittenTheory) (first : AreFirst theory.rules theory.lemmas) 
 
   -- so does a proof that was read; one that is rejected shows nothing
   read_shown : (l : Lemma) → IsLemmaOf theory l → (g : Guarded) → checked_form l.formula ≡ Some g → (kind : TraceKind) (k : Skeleton) (v : Verdict) (log : Option Log)
-      → IsVerdictOn (context_of (setting_of theory) kind g) (start kind g) k kind v log → Means (theory_of theory) kind v log l
+      → IsVerdictOn (setting_of theory) (goal_of [] kind g) k v log → Means (theory_of theory) kind v log l
   read_shown l f g e all_traces k (rejected step clause) None h = tt
   read_shown l f g e exists_trace k (rejected step clause) None h = tt
   read_shown l f g e kind k (rejected step clause) (Some log) (h, n) = absurd (let x : Some log ≡ None = n in cc)
@@ -136,44 +149,42 @@ module _ (theory : WrittenTheory) (first : AreFirst theory.rules theory.lemmas) 
   read_shown l f g e kind k falsified log (tree, is, accepted, n, says) = shown l f g e kind falsified log tree accepted n says
   read_shown l f g e kind k incomplete log (tree, is, accepted, n, says) = shown l f g e kind incomplete log tree accepted n says
 
-  judged_right : (l : Lemma) (p : Option WrittenProof) (j : Judged) → IsLemmaOf theory l → IsJudged (setting_of theory) l p j → JudgedRightly theory j
-  judged_right l p j f h = subst (λ (x : Judged). JudgedRightly theory x) (with_lemma j h.lemma_is) (record {
-    means = read_shown l f j.form h.form_is l.kind j.proof j.verdict j.log h.verdict_is;
-    accepts = accepted_or_rejected (context_of (setting_of theory) l.kind j.form) (start l.kind j.form) j.proof l.kind j.verdict j.log h.verdict_is;
-  })
-    where
-      with_lemma : (j : Judged) → j.lemma ≡ l → record { lemma = l; form = j.form; proof = j.proof; log = j.log; verdict = j.verdict } ≡ j
-      with_lemma j e = ap (λ (m : Lemma). record { lemma = m; form = j.form; proof = j.proof; log = j.log; verdict = j.verdict }) (sym e)
+  judged_right : (l : Lemma) (p : Option WrittenProof) (j : Judged) → IsLemmaOf theory l → IsJudged (setting_of theory) [] l p j → JudgedRightly theory j
+  judged_right l p j f h =
+      let so = subst (λ (goal : Goal). IsVerdictOn (setting_of theory) goal j.proof j.verdict j.log) h.goal_is h.verdict_is in
+      record {
+        means = subst (λ (m : Lemma). Means (theory_of theory) m.kind j.verdict j.log m) (sym h.lemma_is) (read_shown l f h.form h.form_is l.kind j.proof j.verdict j.log so);
+        accepts = accepted_or_rejected (context_of (setting_of theory) j.goal) (root_system j.goal) j.proof j.goal.kind j.verdict j.log h.verdict_is;
+      }
 
-  all_judged_right : (items : List Item) (js : List Judged) → Every (λ (l : Lemma). IsLemmaOf theory l) (lemmas_in items) → AreJudged (setting_of theory) items js
+  all_judged_right : (qs : List (Lemma × Option WrittenProof)) (js : List Judged) → Every (λ (l : Lemma). IsLemmaOf theory l) (without_proofs qs) → AreJudged (setting_of theory) [] qs js
       → Every (JudgedRightly theory) js
   all_judged_right [] [] f h = tt
   all_judged_right [] (j ∷ js) f h = absurd h
-  all_judged_right (rule_item r ∷ items) js f h = all_judged_right items js f h
-  all_judged_right (lemma_item l p ∷ items) [] f h = absurd h
-  all_judged_right (lemma_item l p ∷ items) (j ∷ js) f h = (judged_right l p j f.0 h.0, all_judged_right items js f.1 h.1)
+  all_judged_right (q ∷ qs) [] f h = absurd h
+  all_judged_right (q ∷ qs) (j ∷ js) f h = (judged_right q.0 q.1 j f.0 h.0, all_judged_right qs js f.1 h.1)
 
-  outcome_right : (l : Lemma) (o : Outcome) → IsLemmaOf theory l → IsOutcome (setting_of theory) l o → Means (theory_of theory) o.lemma.kind o.verdict o.log o.lemma
-  outcome_right l o f h =
-      let context = context_of (setting_of theory) l.kind h.form in
-      let s = start l.kind h.form in
+  outcome_right : (budget : ℕ) (l : Lemma) (o : Outcome) → IsLemmaOf theory l → IsOutcome (setting_of theory) budget [] l o → Means (theory_of theory) o.lemma.kind o.verdict o.log o.lemma
+  outcome_right budget l o f h =
+      let context = context_of (setting_of theory) (goal_of [] l.kind h.form) in
+      let s = root_system (goal_of [] l.kind h.form) in
       subst (λ (m : Lemma). Means (theory_of theory) m.kind o.verdict o.log m) (sym h.lemma_is)
       (shown l f h.form h.form_is l.kind o.verdict o.log o.tree (subst (λ (t : Tree). IsAccepted context s t) (sym h.tree_is) (grown_tree_accepted context s budget))
       (h.log_is ∙ ap (found_log context s) (sym h.tree_is)) h.verdict_is)
 
-  outcomes_right : (ls : List Lemma) (os : List Outcome) → Every (λ (l : Lemma). IsLemmaOf theory l) ls → AreOutcomes (setting_of theory) ls os
+  outcomes_right : (budget : ℕ) (ls : List Lemma) (os : List Outcome) → Every (λ (l : Lemma). IsLemmaOf theory l) ls → AreOutcomes (setting_of theory) budget [] ls os
       → Every (λ (o : Outcome). Means (theory_of theory) o.lemma.kind o.verdict o.log o.lemma) os
-  outcomes_right [] [] f h = tt
-  outcomes_right [] (o ∷ os) f h = absurd h
-  outcomes_right (l ∷ ls) [] f h = absurd h
-  outcomes_right (l ∷ ls) (o ∷ os) f h = (outcome_right l o f.0 h.0, outcomes_right ls os f.1 h.1)
+  outcomes_right budget [] [] f h = tt
+  outcomes_right budget [] (o ∷ os) f h = absurd h
+  outcomes_right budget (l ∷ ls) [] f h = absurd h
+  outcomes_right budget (l ∷ ls) (o ∷ os) f h = (outcome_right budget l o f.0 h.0, outcomes_right budget ls os f.1 h.1)
 
 pub verdicts_are_right_lem : VerdictsAreRight
 verdicts_are_right_lem = record {
-  right = λ text written outcomes a.
+  right = λ budget text written outcomes a.
       let first = theory_spelled a.poses.says.spells in
-      outcomes_right (theory_in a.theory) first a.poses.fine refl (theory_in a.theory).lemmas outcomes (lemmas_of (theory_in a.theory) first.lemmas_are) a.outcomes_are;
+      outcomes_right (theory_in a.theory) (no_own_equations []) first a.poses.fine refl budget (theory_in a.theory).lemmas outcomes (lemmas_of (theory_in a.theory) first.lemmas_are) a.outcomes_are;
   judged_right = λ text written judged c.
       let first = theory_spelled c.poses.says.spells in
-      all_judged_right (theory_in c.theory) first c.poses.fine refl c.theory.items judged (lemmas_of (theory_in c.theory) first.lemmas_are) c.judged_are;
+      all_judged_right (theory_in c.theory) (no_own_equations []) first c.poses.fine refl (lemmas_with_proofs c.theory.items) judged (lemmas_of (theory_in c.theory) first.lemmas_are) c.judged_are;
 }

@@ -4,18 +4,18 @@ use Rattle.sp_spec_text.specs.Spans.{Span, Rise, goes_on}
 use Rattle.sp_written.specs.Views as view
 use Rattle.sp_law_again.specs.Again.{between}
 use Rattle.sp_spec.proofs.Lists.{next_item}
-use Rattle.sp_analysis.specs.Kept.{kept_of, spliced}
+use Rattle.sp_analysis.specs.Printed.{printed_of, spliced}
 use Rattle.sp_analysis.specs.declared.tried.Tried.{Tried}
 
 pub proof_written : (out more all text proof : List ℕ) (start end place : ℕ) (ts : List Tried) (t : Tried) → place < length ts → t ≡ get_or ts place t
-    → out ++ spliced text start (map kept_of (drop place ts)) end ≡ all → proof ≡ (kept_of t).proof
-    → more ≡ out ++ (between start t.span.from text ++ (codes "\n" ++ proof)) → more ++ spliced text (goes_on text (view.span_of t.span)) (map kept_of (drop (place + 1) ts)) end ≡ all
+    → out ++ spliced text start (map printed_of (drop place ts)) end ≡ all → proof ≡ (printed_of t).proof
+    → more ≡ out ++ (between start t.span.from text ++ (codes "\n" ++ proof)) → more ++ spliced text (goes_on text (view.span_of t.span)) (map printed_of (drop (place + 1) ts)) end ≡ all
 proof_written out more all text proof start end place ts t below is so proof_is more_is =
-    let rest = spliced text (goes_on text (view.span_of t.span)) (map kept_of (drop (place + 1) ts)) end in
-    let k = kept_of t in
+    let rest = spliced text (goes_on text (view.span_of t.span)) (map printed_of (drop (place + 1) ts)) end in
+    let k = printed_of t in
     ap (λ (xs : List ℕ). xs ++ rest) (more_is ∙ ap (λ (b : List ℕ). out ++ (between start t.span.from text ++ (codes "\n" ++ b))) proof_is)
     ∙ joined out (between start t.span.from text) (codes "\n") k.proof rest
-    ∙ sym (ap (λ (us : List Tried). out ++ spliced text start (map kept_of us) end) (next_item ts place t below is)) ∙ so
+    ∙ sym (ap (λ (us : List Tried). out ++ spliced text start (map printed_of us) end) (next_item ts place t below is)) ∙ so
   where
     joined : (a b c d e : List ℕ) → (a ++ (b ++ (c ++ d))) ++ e ≡ a ++ (b ++ (c ++ (d ++ e)))
     joined a b c d e = append_assoc a (b ++ (c ++ d)) e ∙ ap (λ (xs : List ℕ). a ++ xs) (append_assoc b (c ++ d) e ∙ ap (λ (xs : List ℕ). b ++ xs) (append_assoc c d e))

@@ -1,21 +1,20 @@
 -- What is written of a text whose lemmas have been tried: the text with a proof tree behind each lemma's formula, and a comment with the
 -- verdicts and the executions that were found. Source of the shape: Tamarin manual, "Proofs" and "Output"; the words are this project's own.
-use Rattle.std.specs.Prelude.{◌≡◌, ℕ, Option, Some, List, [], ◌∷◌, ◌++◌, map, codes}
+use Rattle.std.specs.Prelude.{◌≡◌, ℕ, ◌^◌, ◌-◌, min, Option, Some, List, [], ◌∷◌, ◌++◌, map, codes}
 use Rattle.sp_spec.specs.Lists.{Every}
-use Rattle.sp_spec.specs.Theory.{Lemma}
-use Rattle.sp_spec.specs.Rule.{Rule}
+use Rattle.sp_spec.specs.Theory.{Theory, Lemma}
 use Rattle.sp_spec.specs.Written.{theory_of}
 use Rattle.sp_spec.specs.Guarded.{Guarded}
 use Rattle.sp_spec.specs.Log.{Log}
 use Rattle.sp_law_guard.specs.CheckedForm.{checked_form}
 use Rattle.sp_spec_proof.specs.Tree.{Tree, IsFinished, steps}
-use Rattle.sp_text.specs.Places.{HavePlaces}
+use Rattle.sp_skel.specs.Places.{HavePlaces}
 use Rattle.sp_spec_text.specs.Written.{WrittenText, theory_in}
 use Rattle.sp_spec_text.specs.Spans.{Span}
 use Rattle.sp_spec_text.specs.Texts.{ArePlaces}
 use Rattle.sp_law_again.specs.Again.{replaced}
 use Rattle.sp_pose.specs.Problem.{Poses}
-use Rattle.sp_analysis.specs.Sought.{Setting, setting_of, proof_tree, grown_log}
+use Rattle.sp_analysis.specs.Sought.{goal_of, taken_by, Setting, setting_of, proof_tree, grown_log}
 use Rattle.sp_spec_text.specs.Verdict.{Verdict, Says, summary_line}
 use Rattle.sp_law_block.specs.Block.{block_of, IsNumbered}
 
@@ -26,44 +25,49 @@ pub record Outcome : Type 0 where
   pub log : Option Log
   pub verdict : Verdict
 
+-- a count beyond the program's numbers stands still at their end
+abbrev pub counted : ℕ → ℕ
+counted n = min n (2 ^ 64 - 1)
+
 -- a line for each lemma, with the execution that was found behind it
-abbrev pub summary : List Rule → List Outcome → List ℕ
-summary rules [] = []
-summary rules (o ∷ os) = summary_line o.lemma.name o.lemma.kind o.verdict (steps o.tree) ++ (block_of rules o.log ++ summary rules os)
+abbrev pub summary : Theory → List Outcome → List ℕ
+summary theory [] = []
+summary theory (o ∷ os) = summary_line o.lemma.name o.lemma.kind o.verdict (counted (steps o.tree)) ++ (block_of theory o.log ++ summary theory os)
 
 abbrev pub trees_of : List Outcome → List Tree
 trees_of os = map (λ (o : Outcome). o.tree) os
 
 -- the text up to its word `end`, with each proof in the place of the one that stands behind the lemma's formula, or where one is to stand,
 -- and the summary in a comment
-abbrev pub analysed_text : List Rule → List ℕ → List Span → List Outcome → ℕ → List ℕ
-analysed_text rules text spans os end = replaced text 0 spans (trees_of os) end ++ (codes "\n/*\n" ++ (summary rules os ++ codes "*/\n"))
+abbrev pub analysed_text : Theory → List ℕ → List Span → List Outcome → ℕ → List ℕ
+analysed_text theory text spans os end = replaced text 0 spans (trees_of os) end ++ (codes "\n/*\n" ++ (summary theory os ++ codes "*/\n"))
 
--- The outcome is that of the lemma: the proof tree is grown for its guarded form, and decides the verdict.
-pub record IsOutcome (setting : Setting) (lemma : Lemma) (o : Outcome) : Type 0 where
+-- The outcome is that of the lemma, where these formulas are taken: the proof tree of at most so many moves is grown for its guarded form, and
+-- decides the verdict.
+pub record IsOutcome (setting : Setting) (budget : ℕ) (taken : List Guarded) (lemma : Lemma) (o : Outcome) : Type 0 where
   pub lemma_is : o.lemma ≡ lemma
   pub form : Guarded
   pub form_is : checked_form lemma.formula ≡ Some form
-  pub tree_is : o.tree ≡ proof_tree setting lemma.kind form
-  pub log_is : o.log ≡ grown_log setting lemma.kind form
+  pub tree_is : o.tree ≡ proof_tree setting budget (goal_of taken lemma.kind form)
+  pub log_is : o.log ≡ grown_log setting budget (goal_of taken lemma.kind form)
   pub verdict_is : Says lemma.kind o.verdict o.log (IsFinished o.tree)
 
--- one for each lemma, in the order of the text
-abbrev pub AreOutcomes : Setting → List Lemma → List Outcome → Type 0
-AreOutcomes setting [] [] = Unit {0}
-AreOutcomes setting [] (o ∷ os) = ⊥
-AreOutcomes setting (l ∷ ls) [] = ⊥
-AreOutcomes setting (l ∷ ls) (o ∷ os) = IsOutcome setting l o × AreOutcomes setting ls os
+-- one for each lemma, in the order of the text; each takes what those before it gave
+abbrev pub AreOutcomes : Setting → ℕ → List Guarded → List Lemma → List Outcome → Type 0
+AreOutcomes setting budget taken [] [] = Unit {0}
+AreOutcomes setting budget taken [] (o ∷ os) = ⊥
+AreOutcomes setting budget taken (l ∷ ls) [] = ⊥
+AreOutcomes setting budget taken (l ∷ ls) (o ∷ os) = IsOutcome setting budget taken l o × AreOutcomes setting budget (taken ++ taken_by l o.verdict) ls os
 
 -- Each lemma that the text poses is tried, and its proof and its verdict stand in what is written. Each place that a proof names is one that a
 -- text can name, and so is each fresh name of an execution; were one not, that would be want of memory.
-pub record IsAnalysis (text written : List ℕ) (outcomes : List Outcome) : Type 0 where
+pub record IsAnalysis (budget : ℕ) (text written : List ℕ) (outcomes : List Outcome) : Type 0 where
   pub theory : WrittenText
   pub poses : Poses text theory
-  pub outcomes_are : AreOutcomes (setting_of (theory_in theory)) (theory_in theory).lemmas outcomes
+  pub outcomes_are : AreOutcomes (setting_of (theory_in theory)) budget [] (theory_in theory).lemmas outcomes
   pub places : Every (λ (o : Outcome). HavePlaces o.tree) outcomes
-  pub numbers : Every (λ (o : Outcome). IsNumbered (theory_of (theory_in theory)).rules o.log) outcomes
+  pub numbers : Every (λ (o : Outcome). IsNumbered (theory_of (theory_in theory)) o.log) outcomes
   pub spans : List Span
   pub behind_end : ℕ
   pub places_are : ArePlaces text theory spans behind_end
-  pub written_is : written ≡ analysed_text (theory_of (theory_in theory)).rules text spans outcomes behind_end
+  pub written_is : written ≡ analysed_text (theory_of (theory_in theory)) text spans outcomes behind_end

@@ -9,7 +9,7 @@ use Rattle.sp_read_steps.specs.Lines.{IsWritableStep, AreSteps}
 use Rattle.sp_law_block.specs.Block.{oldest_first}
 use Rattle.sp_law_block.specs.Shown.{IsShownTrace}
 use Rattle.sp_spec.specs.Written.{WrittenTheory, theory_of}
-use Rattle.sp_spec.specs.Verdict.{HoldsInAll, HoldsInNone}
+use Rattle.sp_spec.specs.Verdict.{HoldsInReading, HoldsInNoReading}
 use Rattle.sp_check.specs.Rejected.{ReadIsAccepted}
 use Rattle.sp_spec_text.specs.Verdict.{Clause, Verdict, verified, falsified, incomplete, rejected}
 use Rattle.sp_spec_proof.specs.Tree.{Tree}
@@ -19,18 +19,19 @@ use Rattle.sp_place.specs.Refused.{IsRefusedAt}
 use Rattle.sp_pose.specs.Problem.{IsReported}
 use Rattle.sp_law_again.specs.Behind.{IsBehindEnd}
 use Rattle.sp_law_shown.specs.Shown.{FoundBreaks, FoundSatisfies}
-use Rattle.sp_analysis.specs.Sought.{context_of, setting_of, start}
+use Rattle.sp_analysis.specs.Sought.{root_system, setting_of, context_of}
 use Rattle.sp_analysis.specs.Analysis.{Outcome, summary, trees_of, IsAnalysis}
 use Rattle.sp_analysis.specs.Checking.{Judged, IsChecking}
 
 -- Of a lemma on all traces: verified, every execution satisfies it; falsified, the log that was found stands for an execution that breaks
--- it. Of one on some trace: verified, the log that was found stands for an execution that satisfies it; falsified, no execution does.
+-- it. Of one on some trace: verified, the log that was found stands for an execution that satisfies it; falsified, no execution does. A lemma
+-- that names learning is read over learning logs in place of executions.
 -- An incomplete analysis and a rejected proof say nothing of executions.
 abbrev pub Means : Theory → TraceKind → Verdict → Option Log → Lemma → Type 0
-Means theory all_traces verified None lemma = HoldsInAll theory lemma
+Means theory all_traces verified None lemma = HoldsInReading theory lemma
 Means theory all_traces falsified (Some log) lemma = FoundBreaks theory lemma log
 Means theory exists_trace verified (Some log) lemma = FoundSatisfies theory lemma log
-Means theory exists_trace falsified None lemma = HoldsInNone theory lemma
+Means theory exists_trace falsified None lemma = HoldsInNoReading theory lemma
 Means theory kind incomplete None lemma = Unit {0}
 Means theory kind (rejected step clause) None lemma = Unit {0}
 Means theory kind verdict log lemma = ⊥
@@ -42,45 +43,45 @@ IsRejected verdict = (step : ℕ) × (clause : Clause) × (verdict ≡ rejected 
 -- and an instance of it, and has its cases, by name and in order.
 pub record JudgedRightly (theory : WrittenTheory) (j : Judged) : Type 0 where
   pub means : Means (theory_of theory) j.lemma.kind j.verdict j.log j.lemma
-  pub accepts : (IsRejected j.verdict → ⊥) ↔ ReadIsAccepted (context_of (setting_of theory) j.lemma.kind j.form) (start j.lemma.kind j.form) j.proof
+  pub accepts : (IsRejected j.verdict → ⊥) ↔ ReadIsAccepted (context_of (setting_of theory) j.goal) (root_system j.goal) j.proof
 
 -- What is written of a lemma is so, steps of the adversary included.
 pub record VerdictsAreRight : Type 0 where
-  pub right : (text written : List ℕ) (outcomes : List Outcome) (a : IsAnalysis text written outcomes)
+  pub right : (budget : ℕ) (text written : List ℕ) (outcomes : List Outcome) (a : IsAnalysis budget text written outcomes)
       → Every (λ (o : Outcome). Means (theory_of (theory_in a.theory)) o.lemma.kind o.verdict o.log o.lemma) outcomes
   pub judged_right : (text written : List ℕ) (judged : List Judged) (c : IsChecking text written judged)
       → Every (JudgedRightly (theory_in c.theory)) judged
 
--- Of a text one thing is written, by each command; and only one of three things comes of it: it is refused, reported on, or done with.
+-- Of a text one thing is written, by each command and budget; and only one of three things comes of it: it is refused, reported on, or done with.
 pub record AnswersAreOne : Type 0 where
-  pub one : (text written other : List ℕ) (outcomes others : List Outcome) → IsAnalysis text written outcomes → IsAnalysis text other others → (written ≡ other) × (outcomes ≡ others)
+  pub one : (budget : ℕ) (text written other : List ℕ) (outcomes others : List Outcome) → IsAnalysis budget text written outcomes → IsAnalysis budget text other others → (written ≡ other) × (outcomes ≡ others)
   pub one_check : (text written other : List ℕ) (judged others : List Judged) → IsChecking text written judged → IsChecking text other others → (written ≡ other) × (judged ≡ others)
   pub one_report : (text lines other : List ℕ) → IsReported text lines → IsReported text other → lines ≡ other
   pub refused : (text lines : List ℕ) (place : ℕ) → IsRefusedAt text place → IsReported text lines → ⊥
-  pub no_analysis : (text written : List ℕ) (place : ℕ) (outcomes : List Outcome) → IsRefusedAt text place → IsAnalysis text written outcomes → ⊥
+  pub no_analysis : (budget : ℕ) (text written : List ℕ) (place : ℕ) (outcomes : List Outcome) → IsRefusedAt text place → IsAnalysis budget text written outcomes → ⊥
   pub no_checking : (text written : List ℕ) (place : ℕ) (judged : List Judged) → IsRefusedAt text place → IsChecking text written judged → ⊥
-  pub not_analysed : (text lines written : List ℕ) (outcomes : List Outcome) → IsReported text lines → IsAnalysis text written outcomes → ⊥
+  pub not_analysed : (budget : ℕ) (text lines written : List ℕ) (outcomes : List Outcome) → IsReported text lines → IsAnalysis budget text written outcomes → ⊥
   pub not_checked : (text lines written : List ℕ) (judged : List Judged) → IsReported text lines → IsChecking text written judged → ⊥
 
 -- What was written says the same theory, and the trees that were grown are its proofs; checked, each lemma gets the same line, the same
 -- verdict and the same log. Behind its word `end` stands the summary.
 pub record IsCheckedAgain (theory : WrittenText) (written : List ℕ) (outcomes : List Outcome) : Type 0 where
   pub judged : List Judged
-  pub checking : IsChecking written (summary (theory_of (theory_in theory)).rules outcomes) judged
+  pub checking : IsChecking written (summary (theory_of (theory_in theory)) outcomes) judged
   pub same_theory : theory_in checking.theory ≡ theory_in theory
-  pub behind : IsBehindEnd written (codes "\n/*\n" ++ (summary (theory_of (theory_in theory)).rules outcomes ++ codes "*/\n"))
+  pub behind : IsBehindEnd written (codes "\n/*\n" ++ (summary (theory_of (theory_in theory)) outcomes ++ codes "*/\n"))
   pub proofs : proofs_in checking.theory.items ≡ map (λ (t : Tree). Some (as_written t)) (trees_of outcomes)
   pub verdicts : map (λ (j : Judged). j.verdict) judged ≡ map (λ (o : Outcome). o.verdict) outcomes
   pub logs : map (λ (j : Judged). j.log) judged ≡ map (λ (o : Outcome). o.log) outcomes
 
 -- What is written of a text whose lemmas were tried is checked as they were tried.
 pub record WrittenIsChecked : Type 0 where
-  pub checked : (text written : List ℕ) (outcomes : List Outcome) (a : IsAnalysis text written outcomes) → IsCheckedAgain a.theory written outcomes
+  pub checked : (budget : ℕ) (text written : List ℕ) (outcomes : List Outcome) (a : IsAnalysis budget text written outcomes) → IsCheckedAgain a.theory written outcomes
 
 -- The steps that the log stands for may be written: their lines are read back as these steps, and none of its block begins as a verdict's does.
 pub record IsReadBack (theory : Theory) (log : Log) : Type 0 where
-  pub writable : Every (IsWritableStep (signature_of theory).symbols) (oldest_first (execution_of theory.rules log))
-  pub read : AreSteps (signature_of theory).symbols (map step_text (oldest_first (execution_of theory.rules log))) (oldest_first (execution_of theory.rules log))
+  pub writable : Every (IsWritableStep (signature_of theory).symbols) (oldest_first (execution_of theory log))
+  pub read : AreSteps (signature_of theory).symbols (map step_text (oldest_first (execution_of theory log))) (oldest_first (execution_of theory log))
   pub shown : IsShownTrace (signature_of theory).symbols (oldest_first (visible_trace log))
 
 abbrev pub AreReadBack : Theory → Option Log → Type 0
@@ -89,7 +90,7 @@ AreReadBack theory (Some log) = IsReadBack theory log
 
 -- Each execution that is written is read back from its lines.
 pub record ExecutionsAreReadBack : Type 0 where
-  pub tried : (text written : List ℕ) (outcomes : List Outcome) (a : IsAnalysis text written outcomes)
+  pub tried : (budget : ℕ) (text written : List ℕ) (outcomes : List Outcome) (a : IsAnalysis budget text written outcomes)
       → Every (λ (o : Outcome). AreReadBack (theory_of (theory_in a.theory)) o.log) outcomes
   pub checked : (text written : List ℕ) (judged : List Judged) (c : IsChecking text written judged)
       → Every (λ (j : Judged). AreReadBack (theory_of (theory_in c.theory)) j.log) judged

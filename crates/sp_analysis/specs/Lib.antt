@@ -4,4 +4,4 @@ pub mod Checking
 pub mod View
 pub mod Replies
 pub mod Laws
-pub mod Kept
+pub mod Printed

@@ -11,10 +11,10 @@ use Rattle.sp_analysis.specs.declared.replies.Command.TheVariants.{Prove, Check}
 use Rattle.sp_analysis.specs.declared.replies.Reply.{Reply}
 use Rattle.sp_analysis.specs.declared.replies.Reply.TheVariants.{Refused, Reported, Done}
 
--- what is written where each lemma is tried, and what is said of them
-pub record IsAnalysed (text written : List ℕ) (verdicts : List Verdict) : Type 0 where
+-- what is written where each lemma is tried within so many moves, and what is said of them
+pub record IsAnalysed (budget : ℕ) (text written : List ℕ) (verdicts : List Verdict) : Type 0 where
   pub outcomes : List Outcome
-  pub analysis : IsAnalysis text written outcomes
+  pub analysis : IsAnalysis budget text written outcomes
   pub verdicts_are : verdicts ≡ map (λ (o : Outcome). o.verdict) outcomes
 
 -- what is written where each proof is checked, and what is said of them
@@ -24,7 +24,7 @@ pub record IsChecked (text written : List ℕ) (verdicts : List Verdict) : Type 
   pub verdicts_are : verdicts ≡ map (λ (j : Judged). j.verdict) judged
 
 abbrev pub IsDone : Command → List ℕ → List ℕ → List Verdict → Type 0
-IsDone Prove text written verdicts = IsAnalysed text written verdicts
+IsDone (Prove budget) text written verdicts = IsAnalysed budget text written verdicts
 IsDone Check text written verdicts = IsChecked text written verdicts
 
 -- the text is refused at a place, or has findings, or is done with

@@ -6,7 +6,7 @@ ghost use Rattle.sp_ground.specs.View.{step_of};
 ghost use Rattle.sp_log.specs.View.{log_of};
 ghost use Rattle.sp_spec.specs.Lists.{Every};
 ghost use Rattle.sp_show.specs.Numbers.{StepHasNames, numbered_names};
-ghost use Rattle.sp_law_found.specs.Found.{execution_of};
+ghost use Rattle.sp_law_found.specs.Found.{execution_of, theory_of_rules};
 ghost use Rattle.sp_law_block.specs.Block as spec;
 
 use sp_fact::book::RuleBook;
@@ -33,8 +33,8 @@ fn write_steps(alloc: Global, out: &mut String, steps: &Vec<Step>) -> Result<(),
 
 /// The block of the execution that the log stands for.
 fn found_block(alloc: Global, rules: &RuleBook, log: &Log) -> Result<String, AllocError>
-    ensures text { IfOk result (λ text. string_bytes text ≡ spec.found_block (book_of rules.now) (log_of log.now)) }
-    ensures numbered { OnOk result (Every (StepHasNames numbered_names) (execution_of (book_of rules.now) (log_of log.now))) }
+    ensures text { IfOk result (λ text. string_bytes text ≡ spec.found_block (theory_of_rules (book_of rules.now)) (log_of log.now)) }
+    ensures numbered { OnOk result (Every (StepHasNames numbered_names) (execution_of (theory_of_rules (book_of rules.now)) (log_of log.now))) }
 {
     let steps = execution(alloc, &rules.rules, log)?;
     let trace = visible_trace(alloc, log)?;
@@ -51,8 +51,8 @@ fn found_block(alloc: Global, rules: &RuleBook, log: &Log) -> Result<String, All
 ///
 /// `AllocError` where memory is wanting.
 pub fn block_of(alloc: Global, rules: &RuleBook, log: Option<&Log>) -> Result<String, AllocError>
-    ensures text { IfOk result (λ text. string_bytes text ≡ spec.block_of (book_of rules.now) (option_map (λ l. log_of l.now) log.entry)) }
-    ensures numbered { OnOk result (spec.IsNumbered (book_of rules.now) (option_map (λ l. log_of l.now) log.entry)) }
+    ensures text { IfOk result (λ text. string_bytes text ≡ spec.block_of (theory_of_rules (book_of rules.now)) (option_map (λ l. log_of l.now) log.entry)) }
+    ensures numbered { OnOk result (spec.IsNumbered (theory_of_rules (book_of rules.now)) (option_map (λ l. log_of l.now) log.entry)) }
 {
     match log {
         Some(log) => found_block(alloc, rules, log),

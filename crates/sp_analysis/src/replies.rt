@@ -15,8 +15,8 @@ use std::alloc::{AllocError, Global};
 /// What is to be done with a text.
 #[derive(Clone, Copy, Debug, PartialEq, Eq)]
 pub enum Command {
-    /// A proof is grown for each lemma.
-    Prove,
+    /// A proof of at most so many moves is grown for each lemma.
+    Prove(u64),
     /// The proof that stands below each lemma is checked.
     Check,
 }

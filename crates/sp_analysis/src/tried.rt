@@ -1,12 +1,11 @@
 // What comes of a lemma: a proof is grown for it, or the one below it is checked, and tells the verdict.
 
-ghost use Rattle.std.specs.Prelude.{◌≡◌, IfOk, OnOk, map, option_map};
+ghost use Rattle.std.specs.Prelude.{◌≡◌, [], IfOk, OnOk, map, option_map};
 ghost use Rattle.sp_spec.specs.Lists.{Every};
 ghost use Rattle.sp_written.specs.Views as view;
 ghost use Rattle.sp_formula.specs.FormulaView.{formula_of};
-ghost use Rattle.sp_moves.specs.View as moves;
+ghost use Rattle.sp_step.specs.View as moves;
 ghost use Rattle.sp_system.specs.SystemView.{system_of};
-ghost use Rattle.sp_spec_proof.specs.Root as check;
 ghost use Rattle.sp_search.specs.Finished.{finished};
 ghost use Rattle.sp_search.specs.Kept.{log_in};
 ghost use Rattle.sp_search.specs.View.{kept_of, tree_of};
@@ -16,7 +15,7 @@ ghost use Rattle.sp_analysis.specs.Sought as spec;
 ghost use Rattle.sp_analysis.specs.Checking.{proof_read};
 ghost use Rattle.sp_analysis.specs.View.{setting_in, verdict_of};
 ghost use Rattle.sp_pose.specs.Asked as ask;
-ghost use Rattle.sp_analysis.specs.Kept as keep;
+ghost use Rattle.sp_analysis.specs.Printed as print;
 
 use crate::block::block_of;
 use crate::replies::Command;
@@ -26,19 +25,15 @@ use sp_check::{Judgement, Skeleton, Step, judge};
 use sp_formula::formula::Formula;
 use sp_guard::negate::negate;
 use sp_log::log::Log;
-use sp_moves::context::Context;
-use sp_moves::moves::Move;
 use sp_pose::GuardedLemma;
 use sp_search::{Tree, grown_tree, is_finished, steps};
-use sp_skel::skeleton;
+use sp_skel::{skeleton, tree_text};
 use sp_solved::Sought;
+use sp_step::context::Context;
+use sp_step::moves::Move;
 use sp_system::system::System;
-use sp_text::tree_text;
 use sp_written::{Span, TraceKind, WrittenProof};
 use std::alloc::{AllocError, Global};
-
-/// How many moves a proof may have that is grown.
-const BUDGET: u64 = 10_000;
 
 /// What came of a lemma.
 #[derive(Drop)]
@@ -71,7 +66,7 @@ fn sought(alloc: Global, kind: TraceKind, form: Formula) -> Result<Formula, Allo
 
 /// The system in which a proof begins.
 fn root(alloc: Global, sought: &Formula) -> Result<System, AllocError>
-    ensures { IfOk result (λ s. system_of s ≡ check.root (formula_of sought.now)) }
+    ensures { IfOk result (λ s. system_of s ≡ spec.root_with [] (formula_of sought.now)) }
 {
     let mut formulas = Vec::new(alloc);
     formulas.push(sought.copy(alloc)?)?;
@@ -88,7 +83,7 @@ fn root(alloc: Global, sought: &Formula) -> Result<System, AllocError>
 
 /// What the lemma's proof is made in: the search ends with a log over whose trace the formula is true.
 fn context_of<'a>(setting: &'a Setting, formula: &'a Formula) -> Context<'a>
-    ensures { moves.context_of result ≡ spec.context_with (setting_in setting.now) (formula_of formula.now) }
+    ensures { moves.context_of result ≡ spec.context_with (setting_in setting.now) [] (formula_of formula.now) }
 {
     Context {
         rules: &setting.rules,
@@ -102,7 +97,7 @@ fn context_of<'a>(setting: &'a Setting, formula: &'a Formula) -> Context<'a>
 
 /// What a finished proof says.
 fn shown(kind: TraceKind) -> Verdict
-    ensures { verdict_of result ≡ keep.shown (view.kind kind) }
+    ensures { verdict_of result ≡ print.shown (view.kind kind) }
 {
     match kind {
         TraceKind::AllTraces => Verdict::Verified,
@@ -112,7 +107,7 @@ fn shown(kind: TraceKind) -> Verdict
 
 /// What a log says with which the search ends.
 fn found_says(kind: TraceKind) -> Verdict
-    ensures { verdict_of result ≡ keep.found_says (view.kind kind) }
+    ensures { verdict_of result ≡ print.found_says (view.kind kind) }
 {
     match kind {
         TraceKind::AllTraces => Verdict::Falsified,
@@ -122,7 +117,7 @@ fn found_says(kind: TraceKind) -> Verdict
 
 /// What a tree without a log says of its lemma.
 fn by_leaves(kind: TraceKind, tree: &Tree) -> Verdict
-    ensures { verdict_of result ≡ keep.by_leaves (view.kind kind) (finished (tree_of tree.now)) }
+    ensures { verdict_of result ≡ print.by_leaves (view.kind kind) (finished (tree_of tree.now)) }
 {
     if is_finished(tree) {
         shown(kind)
@@ -133,7 +128,7 @@ fn by_leaves(kind: TraceKind, tree: &Tree) -> Verdict
 
 /// What a tree that was grown says of its lemma.
 fn by_tree(kind: TraceKind, tree: &Tree) -> Verdict
-    ensures { verdict_of result ≡ keep.by_tree (view.kind kind) (log_in (kept_of tree.now)) (finished (tree_of tree.now)) }
+    ensures { verdict_of result ≡ print.by_tree (view.kind kind) (log_in (kept_of tree.now)) (finished (tree_of tree.now)) }
 {
     match tree.found_log() {
         Some(_) => found_says(kind),
@@ -143,7 +138,7 @@ fn by_tree(kind: TraceKind, tree: &Tree) -> Verdict
 
 /// What the judgement of a proof says of its lemma.
 fn by_judgement(kind: TraceKind, judgement: &Judgement) -> Verdict
-    ensures { verdict_of result ≡ keep.by_judgement (view.kind kind) (judgement_of judgement.now) }
+    ensures { verdict_of result ≡ print.by_judgement (view.kind kind) (judgement_of judgement.now) }
 {
     match judgement {
         Judgement::Rejected(step, clause) => Verdict::Rejected(*step, *clause),
@@ -153,14 +148,15 @@ fn by_judgement(kind: TraceKind, judgement: &Judgement) -> Verdict
     }
 }
 
-/// What comes of the lemma where a proof is grown for it.
+/// What comes of the lemma where a proof of at most so many moves is grown for it; no lemma takes another as yet.
 fn try_lemma<'a>(
     alloc: Global,
     setting: &Setting,
+    budget: u64,
     lemma: GuardedLemma<'a>,
 ) -> Result<Tried<'a>, AllocError>
-    ensures due { IfOk result (λ t. keep.kept_of t ≡ keep.due Command.Prove (setting_in setting.now) (ask.asked_of lemma.entry)) }
-    ensures nameable { OnOk result (keep.IsNameable Command.Prove (setting_in setting.now) (ask.asked_of lemma.entry)) }
+    ensures printed { IfOk result (λ t. print.printed_of t ≡ print.to_print (Command.Prove budget) (setting_in setting.now) [] (ask.asked_of lemma.entry)) }
+    ensures nameable { OnOk result (print.IsNameable (Command.Prove budget) (setting_in setting.now) [] (ask.asked_of lemma.entry)) }
 {
     let GuardedLemma {
         name,
@@ -172,7 +168,7 @@ fn try_lemma<'a>(
     let formula = sought(alloc, kind, form)?;
     let context = context_of(setting, &formula);
     let root = root(alloc, &formula)?;
-    let tree = grown_tree(alloc, &context, root, BUDGET)?;
+    let tree = grown_tree(alloc, &context, root, budget)?;
     let verdict = by_tree(kind, &tree);
     let steps = steps(&tree);
     let proof = tree_text(alloc, &tree)?;
@@ -200,7 +196,7 @@ fn read_proof(alloc: Global, proof: &Option<WrittenProof>) -> Result<Skeleton, A
 
 /// The log of a judgement, if it has one.
 fn judged_log(judgement: &Judgement) -> Option<&Log>
-    ensures { option_map (λ l. log_of l.now) result ≡ keep.judged_log (judgement_of judgement.now) }
+    ensures { option_map (λ l. log_of l.now) result ≡ print.judged_log (judgement_of judgement.now) }
 {
     match judgement {
         Judgement::Found(log) => Some(log),
@@ -214,8 +210,8 @@ fn judge_lemma<'a>(
     setting: &Setting,
     lemma: GuardedLemma<'a>,
 ) -> Result<Tried<'a>, AllocError>
-    ensures due { IfOk result (λ t. keep.kept_of t ≡ keep.due Command.Check (setting_in setting.now) (ask.asked_of lemma.entry)) }
-    ensures nameable { OnOk result (keep.IsNameable Command.Check (setting_in setting.now) (ask.asked_of lemma.entry)) }
+    ensures printed { IfOk result (λ t. print.printed_of t ≡ print.to_print Command.Check (setting_in setting.now) [] (ask.asked_of lemma.entry)) }
+    ensures nameable { OnOk result (print.IsNameable Command.Check (setting_in setting.now) [] (ask.asked_of lemma.entry)) }
 {
     let GuardedLemma {
         name,
@@ -250,16 +246,33 @@ fn outcome<'a>(
     setting: &Setting,
     lemma: GuardedLemma<'a>,
 ) -> Result<Tried<'a>, AllocError>
-    ensures due { IfOk result (λ t. keep.kept_of t ≡ keep.due command (setting_in setting.now) (ask.asked_of lemma.entry)) }
-    ensures nameable { OnOk result (keep.IsNameable command (setting_in setting.now) (ask.asked_of lemma.entry)) }
+    ensures printed { IfOk result (λ t. print.printed_of t ≡ print.to_print command (setting_in setting.now) [] (ask.asked_of lemma.entry)) }
+    ensures nameable { OnOk result (print.IsNameable command (setting_in setting.now) [] (ask.asked_of lemma.entry)) }
 {
     match command {
-        Command::Prove => try_lemma(alloc, setting, lemma),
+        Command::Prove(budget) => try_lemma(alloc, setting, budget, lemma),
         Command::Check => judge_lemma(alloc, setting, lemma),
     }
 }
 
-/// What comes of each lemma, in their order.
+/// What comes of each lemma, in their order, where none takes another.
+fn each_tried<'a>(
+    alloc: Global,
+    command: Command,
+    setting: &Setting,
+    lemmas: Vec<GuardedLemma<'a>>,
+) -> Result<Vec<Tried<'a>>, AllocError>
+    ensures printed { IfOk result (λ ts. map print.printed_of ts.items ≡ map (print.to_print command (setting_in setting.now) []) (map ask.asked_of lemmas.entry.items)) }
+    ensures nameable { OnOk result (Every (print.IsNameable command (setting_in setting.now) []) (map ask.asked_of lemmas.entry.items)) }
+{
+    let mut made = Vec::with_capacity(alloc, lemmas.len())?;
+    for lemma in lemmas {
+        made.push(outcome(alloc, command, setting, lemma)?)?;
+    }
+    Ok(made)
+}
+
+/// What comes of each lemma, in their order; as yet none takes another.
 ///
 /// # Errors
 ///
@@ -270,12 +283,9 @@ pub fn all_tried<'a>(
     setting: &Setting,
     lemmas: Vec<GuardedLemma<'a>>,
 ) -> Result<Vec<Tried<'a>>, AllocError>
-    ensures due { IfOk result (λ ts. map keep.kept_of ts.items ≡ keep.dues command (setting_in setting.now) (map ask.asked_of lemmas.entry.items)) }
-    ensures nameable { OnOk result (Every (keep.IsNameable command (setting_in setting.now)) (map ask.asked_of lemmas.entry.items)) }
+    ensures printed { IfOk result (λ ts. map print.printed_of ts.items ≡ print.all_to_print command (setting_in setting.now) [] (map ask.asked_of lemmas.entry.items)) }
+    ensures nameable { OnOk result (print.AreNameable command (setting_in setting.now) [] (map ask.asked_of lemmas.entry.items)) }
 {
-    let mut made = Vec::with_capacity(alloc, lemmas.len())?;
-    for lemma in lemmas {
-        made.push(outcome(alloc, command, setting, lemma)?)?;
-    }
-    Ok(made)
+    let tried = each_tried(alloc, command, setting, lemmas)?;
+    Ok(tried)
 }

@@ -8,7 +8,7 @@ ghost use Rattle.sp_spec_text.specs.Spans.{Rise};
 ghost use Rattle.sp_spec_text.specs.Verdict as spec;
 ghost use Rattle.sp_law_again.specs.Again.{between};
 ghost use Rattle.sp_analysis.specs.View.{verdict_of};
-ghost use Rattle.sp_analysis.specs.Kept as keep;
+ghost use Rattle.sp_analysis.specs.Printed as print;
 
 use crate::replies::Command;
 use crate::tried::Tried;
@@ -58,7 +58,7 @@ fn write_proofs(
 ) -> Result<(), AllocError>
     requires rise { Rise text.now 0 (map (λ t. view.span_of t.span) lemmas.now.items) end }
     requires end { end ≤ length text.now }
-    ensures { OnOk result (out.new.items ≡ out.old.items ++ keep.spliced text.now 0 (map keep.kept_of lemmas.now.items) end) }
+    ensures { OnOk result (out.new.items ≡ out.old.items ++ print.spliced text.now 0 (map print.printed_of lemmas.now.items) end) }
 {
     let mut start = 0;
     for lemma in lemmas {
@@ -114,7 +114,7 @@ fn verdict_text(
 
 /// The line that says what came of a lemma.
 fn summary_line(alloc: Global, lemma: &Tried) -> Result<String, AllocError>
-    ensures { IfOk result (λ line. string_bytes line ≡ keep.line_of (keep.kept_of lemma.now)) }
+    ensures { IfOk result (λ line. string_bytes line ≡ print.line_of (print.printed_of lemma.now)) }
 {
     let name = lemma.name;
     let kind = kind_text(lemma.kind);
@@ -125,7 +125,7 @@ fn summary_line(alloc: Global, lemma: &Tried) -> Result<String, AllocError>
 
 /// Puts a line for each lemma at the end, with the execution that was found behind it.
 fn write_summary(alloc: Global, out: &mut Vec<u8>, lemmas: &Vec<Tried>) -> Result<(), AllocError>
-    ensures { OnOk result (out.new.items ≡ out.old.items ++ keep.lines (map keep.kept_of lemmas.now.items)) }
+    ensures { OnOk result (out.new.items ≡ out.old.items ++ print.lines (map print.printed_of lemmas.now.items)) }
 {
     for lemma in lemmas {
         let line = summary_line(alloc, lemma)?;
@@ -144,7 +144,7 @@ fn analysed_text(
 ) -> Result<Vec<u8>, AllocError>
     requires rise { Rise text.now 0 (map (λ t. view.span_of t.span) lemmas.now.items) end }
     requires end { end ≤ length text.now }
-    ensures { IfOk result (λ written. written.items ≡ keep.kept_text text.now (map keep.kept_of lemmas.now.items) end) }
+    ensures { IfOk result (λ written. written.items ≡ print.text_with text.now (map print.printed_of lemmas.now.items) end) }
 {
     let mut written = Vec::new(alloc);
     write_proofs(&mut written, text, lemmas, end)?;
@@ -156,7 +156,7 @@ fn analysed_text(
 
 /// The summary alone.
 fn summary(alloc: Global, lemmas: &Vec<Tried>) -> Result<Vec<u8>, AllocError>
-    ensures { IfOk result (λ written. written.items ≡ keep.lines (map keep.kept_of lemmas.now.items)) }
+    ensures { IfOk result (λ written. written.items ≡ print.lines (map print.printed_of lemmas.now.items)) }
 {
     let mut written = Vec::new(alloc);
     write_summary(alloc, &mut written, lemmas)?;
@@ -177,10 +177,10 @@ pub fn written_by(
 ) -> Result<Vec<u8>, AllocError>
     requires rise { Rise text.now 0 (map (λ t. view.span_of t.span) lemmas.now.items) end }
     requires end { end ≤ length text.now }
-    ensures { IfOk result (λ written. written.items ≡ keep.written_by command text.now (map keep.kept_of lemmas.now.items) end) }
+    ensures { IfOk result (λ written. written.items ≡ print.written_by command text.now (map print.printed_of lemmas.now.items) end) }
 {
     match command {
-        Command::Prove => analysed_text(alloc, text, lemmas, end),
+        Command::Prove(_) => analysed_text(alloc, text, lemmas, end),
         Command::Check => summary(alloc, lemmas),
     }
 }

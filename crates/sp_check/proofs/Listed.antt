@@ -10,7 +10,7 @@ use Rattle.sp_spec_proof.specs.Cases.{cases}
 use Rattle.sp_spec_proof.specs.Tree.{is_solved, first_log}
 use Rattle.sp_check.specs.Skeleton.{Step, known, unbuilt, unknown, Skeleton, node_read, BranchesRead, none_read, branch_read, branch_names}
 use Rattle.sp_check.specs.Nodes.{NodeRead, with_names, cases_at, over, tree_read, systems_in, node_walked, walk_all}
-use Rattle.sp_check.specs.Judging.{Checked, fails, leads_to, ends_with, are_named, cases_checked, log_checked, move_checked, step_checked, Walked, passed, stopped, walked_on, walk, walk_checked}
+use Rattle.sp_check.specs.Judging.{Checked, fails, leads_to, ends_with, are_named, cases_checked, log_checked, move_checked, step_checked, NodesJudged, passed, stopped, walked_on, walk, walk_checked}
 use Rattle.sp_spec_text.specs.Verdict.{Clause, clause_cases}
 use Rattle.sp_check.proofs.Names.{named_as_many}
 
@@ -50,16 +50,16 @@ step_fits context s (unknown text) names = tt
 
 module _ (context : Context) where
   -- the walk over trees, each for a system, one behind the other
-  abbrev walk_each : ℕ → Option Log → List System → List Skeleton → Walked
+  abbrev walk_each : ℕ → Option Log → List System → List Skeleton → NodesJudged
   walk_each before met [] ks = passed before met
   walk_each before met (s ∷ ss) [] = passed before met
   walk_each before met (s ∷ ss) (k ∷ ks) = walked_on (walk context before met s k) (λ n log. walk_each n log ss ks)
 
-  same_later : (w : Walked) (f g : ℕ → Option Log → Walked) → ((n : ℕ) (log : Option Log) → f n log ≡ g n log) → walked_on w f ≡ walked_on w g
+  same_later : (w : NodesJudged) (f g : ℕ → Option Log → NodesJudged) → ((n : ℕ) (log : Option Log) → f n log ≡ g n log) → walked_on w f ≡ walked_on w g
   same_later (passed n log) f g e = e n log
   same_later (stopped n clause) f g e = refl
 
-  later_on : (w : Walked) (f g : ℕ → Option Log → Walked) → walked_on (walked_on w f) g ≡ walked_on w (λ n log. walked_on (f n log) g)
+  later_on : (w : NodesJudged) (f g : ℕ → Option Log → NodesJudged) → walked_on (walked_on w f) g ≡ walked_on w (λ n log. walked_on (f n log) g)
   later_on (passed n log) f g = refl
   later_on (stopped n clause) f g = refl
 
@@ -120,7 +120,7 @@ module _ (context : Context) where
         below met (systems_in cs ++ ss) (length-append (systems_in cs) ss ∙ omega (arith, length-map cs (λ (c : Case). c.system)))
         ∙ ap (walk_each number met (systems_in cs ++ ss)) (sym parted)
         ∙ behind_others number met (systems_in cs) ss mine others count
-        ∙ ap (λ (w : Walked). walked_on w (λ m l. walk_each m l ss others)) (sym (branches_walked number met cs n.1 mine mine_count))
+        ∙ ap (λ (w : NodesJudged). walked_on w (λ m l. walk_each m l ss others)) (sym (branches_walked number met cs n.1 mine mine_count))
 
     node_then : (s : System) → node_walked number met ss (step_checked context s n.0 n.1) (λ log left. walk_all context number log left ns)
         ≡ walked_on (walk_checked context number met (step_checked context s n.0 (branch_names (with_names n.1 mine))) (with_names n.1 mine)) (λ m l. walk_each m l ss others)
@@ -138,7 +138,7 @@ module _ (context : Context) where
   all_walked before met (s ∷ ss) (n ∷ ns) (suc k) e h =
       node_then (before + 1) met ss n ns k (omega (arith, e)) h (λ log left count. all_walked (before + 1) log left ns (cases_at n + k) count h) s
 
-  passed_on : (w : Walked) → walked_on w passed ≡ w
+  passed_on : (w : NodesJudged) → walked_on w passed ≡ w
   passed_on (passed n log) = refl
   passed_on (stopped n clause) = refl
 

@@ -10,7 +10,7 @@ use Rattle.sp_law_tree.proofs.Logs.{log_at_end, no_log, finished_no_end}
 use Rattle.sp_check.specs.Skeleton.{Skeleton, tree_of, has_open}
 use Rattle.sp_check.specs.Rejected.{ReadIsAccepted, IsRejectedAt}
 use Rattle.sp_spec_text.specs.Verdict.{Clause}
-use Rattle.sp_check.specs.Judging.{Judgement, rejected, found, finished, incomplete, Walked, passed, stopped, walk, judged, judgement}
+use Rattle.sp_check.specs.Judging.{Judgement, rejected, found, finished, incomplete, NodesJudged, passed, stopped, walk, judged, judgement}
 use Rattle.sp_check.specs.Laws.{JudgementsAreRight}
 use Rattle.sp_check.proofs.Walking.{WalkTells, walk_tells}
 use Rattle.sp_check.proofs.Once.{accepted_not_rejected, rejected_once, rejected_within}
@@ -67,7 +67,7 @@ module _ (context : Context) (s : System) (k : Skeleton) where
   says_once incomplete finished h g = absurd (h.4 (subst IsFinished (same_tree g.0 h.0 g.1 h.1) g.3))
   says_once incomplete incomplete h g = refl
 
-  walk_says : (w : Walked) → WalkTells context 0 None s k w → (left_open : Bool) → has_open k ≡ left_open → Says (judged left_open w)
+  walk_says : (w : NodesJudged) → WalkTells context 0 None s k w → (left_open : Bool) → has_open k ≡ left_open → Says (judged left_open w)
   walk_says (stopped m clause) h left_open e =
       let is : h.0 ≡ m = (let n = h.1 in omega arith) in
       subst (λ (i : ℕ). IsRejectedAt context s k i clause) is h.2

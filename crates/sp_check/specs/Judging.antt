@@ -51,20 +51,20 @@ step_checked context s (unknown text) names = fails clause_move
 
 -- What comes of a walk in preorder: no node fails, so many have been met by then, and this is the first log that has; or the node of this
 -- number fails.
-pub data Walked : Type 0 where
-  passed : ℕ → Option Log → Walked
-  stopped : ℕ → Clause → Walked
+pub data NodesJudged : Type 0 where
+  passed : ℕ → Option Log → NodesJudged
+  stopped : ℕ → Clause → NodesJudged
 
-abbrev pub walked_on : Walked → (ℕ → Option Log → Walked) → Walked
+abbrev pub walked_on : NodesJudged → (ℕ → Option Log → NodesJudged) → NodesJudged
 walked_on (passed n log) later = later n log
 walked_on (stopped n clause) later = stopped n clause
 
 -- behind the nodes that have been met before, and the first log among them
 abbrev mutual
-  pub walk : Context → ℕ → Option Log → System → Skeleton → Walked
+  pub walk : Context → ℕ → Option Log → System → Skeleton → NodesJudged
   walk context before met s (node_read step branches) = walk_checked context (before + 1) met (step_checked context s step (branch_names branches)) branches
 
-  pub walk_checked : Context → ℕ → Option Log → Checked → BranchesRead → Walked
+  pub walk_checked : Context → ℕ → Option Log → Checked → BranchesRead → NodesJudged
   walk_checked context number met (fails clause) branches = stopped number clause
   walk_checked context number met (ends_with log) branches = passed number (first_log met (Some log))
   walk_checked context number met (leads_to []) branches = passed number met
@@ -72,7 +72,7 @@ abbrev mutual
   walk_checked context number met (leads_to (c ∷ cs)) (branch_read name k branches) =
       walked_on (walk context number met c.system k) (λ n log. walk_checked context n log (leads_to cs) branches)
 
-abbrev pub judged : Bool → Walked → Judgement
+abbrev pub judged : Bool → NodesJudged → Judgement
 judged left_open (stopped n clause) = rejected n clause
 judged left_open (passed n (Some log)) = found log
 judged true (passed n None) = incomplete

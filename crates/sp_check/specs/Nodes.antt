@@ -6,7 +6,7 @@ use Rattle.sp_spec_system.specs.System.{System}
 use Rattle.sp_spec_system.specs.Move.{Context, Case}
 use Rattle.sp_spec_proof.specs.Tree.{first_log}
 use Rattle.sp_check.specs.Skeleton.{Step, unknown, Skeleton, node_read, BranchesRead, none_read, branch_read}
-use Rattle.sp_check.specs.Judging.{Checked, fails, leads_to, ends_with, step_checked, Walked, passed, stopped}
+use Rattle.sp_check.specs.Judging.{Checked, fails, leads_to, ends_with, step_checked, NodesJudged, passed, stopped}
 
 -- what a node says, and the names of its cases
 abbrev pub NodeRead : Type 0
@@ -33,12 +33,12 @@ systems_in cs = map (λ c. c.system) cs
 
 -- A walk over nodes in preorder, behind nodes that have been met before, and the first log among them: these are the systems of the trees
 -- that begin there, one behind the other. A node is checked for the first, and in its place come those of its cases.
-abbrev pub node_walked : ℕ → Option Log → List System → Checked → (Option Log → List System → Walked) → Walked
+abbrev pub node_walked : ℕ → Option Log → List System → Checked → (Option Log → List System → NodesJudged) → NodesJudged
 node_walked number met ss (fails clause) later = stopped number clause
 node_walked number met ss (leads_to cs) later = later met (systems_in cs ++ ss)
 node_walked number met ss (ends_with log) later = later (first_log met (Some log)) ss
 
-abbrev pub walk_all : Context → ℕ → Option Log → List System → List NodeRead → Walked
+abbrev pub walk_all : Context → ℕ → Option Log → List System → List NodeRead → NodesJudged
 walk_all context before met ss [] = passed before met
 walk_all context before met [] (n ∷ ns) = passed before met
 walk_all context before met (s ∷ ss) (n ∷ ns) =

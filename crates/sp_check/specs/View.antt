@@ -4,7 +4,7 @@ use Rattle.sp_log.specs.View.{log_of}
 use Rattle.sp_system.specs.SystemView.{system_of}
 use Rattle.sp_system.specs.declared.system.System.{System}
 use Rattle.sp_spec_system.specs.System as system
-use Rattle.sp_moves.specs.View.{move_of, case_of}
+use Rattle.sp_step.specs.View.{move_of, case_of}
 use Rattle.sp_check.specs.Nodes.{NodeRead, tree_read}
 use Rattle.sp_check.specs.Skeleton as spec
 use Rattle.sp_spec_text.specs.Verdict as clause
@@ -19,8 +19,8 @@ use Rattle.sp_check.specs.declared.judging.Judgement.{Judgement}
 use Rattle.sp_check.specs.declared.judging.Judgement.TheVariants.{Rejected, Found, Finished, Incomplete}
 use Rattle.sp_check.specs.declared.judging.Checked.{Checked}
 use Rattle.sp_check.specs.declared.judging.Checked.TheVariants.{Fails, LeadsTo, EndsWith}
-use Rattle.sp_check.specs.declared.judging.Walked.{Walked}
-use Rattle.sp_check.specs.declared.judging.Walked.TheVariants.{Passed, Stopped}
+use Rattle.sp_check.specs.declared.judging.NodesJudged.{NodesJudged}
+use Rattle.sp_check.specs.declared.judging.NodesJudged.TheVariants.{Passed, Stopped}
 
 abbrev pub step_of : Step → spec.Step
 step_of (Known move) = spec.known (move_of move)
@@ -59,6 +59,6 @@ checked_of (Fails c) = judging.fails (clause_of c)
 checked_of (LeadsTo cs) = judging.leads_to (map case_of cs.items)
 checked_of (EndsWith log) = judging.ends_with (log_of log)
 
-abbrev pub walked_of : Walked → judging.Walked
+abbrev pub walked_of : NodesJudged → judging.NodesJudged
 walked_of (Passed met) = judging.passed met.nodes (option_map log_of met.log)
 walked_of (Stopped n c) = judging.stopped n (clause_of c)

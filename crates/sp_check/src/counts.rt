@@ -5,7 +5,7 @@ ghost use Rattle.sp_check.specs.Skeleton as spec;
 ghost use Rattle.sp_check.specs.View.{step_of, skeleton_of};
 
 use crate::skeleton::{Skeleton, Step};
-use sp_moves::moves::Move;
+use sp_step::moves::Move;
 
 /// Whether a step is an open leaf.
 fn is_open(step: &Step) -> bool

@@ -5,7 +5,7 @@ ghost use Rattle.sp_system.specs.SystemView.{system_of};
 ghost use Rattle.sp_spec_proof.specs.Cases as moves;
 ghost use Rattle.sp_spec_proof.specs.Tree as tree;
 ghost use Rattle.sp_log.specs.View.{log_of};
-ghost use Rattle.sp_moves.specs.View.{context_of, move_of, case_of};
+ghost use Rattle.sp_step.specs.View.{context_of, move_of, case_of};
 ghost use Rattle.sp_check.specs.Judging as spec;
 ghost use Rattle.sp_check.specs.Nodes.{NodeRead, systems_in, walk_all};
 ghost use Rattle.sp_check.specs.View.{step_of, names_of, node_of, skeleton_of, systems_of, judgement_of, checked_of, walked_of};
@@ -14,8 +14,8 @@ ghost use Rattle.sp_spec_system.specs.Move.{end_log};
 use crate::counts::has_open;
 use crate::skeleton::{Node, Skeleton, Step};
 use sp_log::log::Log;
-use sp_moves::context::Context;
-use sp_moves::moves::{Case, Move, cases};
+use sp_step::context::Context;
+use sp_step::moves::{Case, Move, cases};
 use sp_system::system::System;
 use std::alloc::{AllocError, Global};
 
@@ -53,15 +53,15 @@ enum Checked {
 
 // The nodes that have been met: how many, and the first log with which the search ends at one of them.
 #[derive(Drop)]
-struct Met {
+struct Seen {
     nodes: u64,
     log: Option<Log>,
 }
 
 // A walk over nodes: none of them fails; or the one of this number does.
 #[derive(Drop)]
-enum Walked {
-    Passed(Met),
+enum NodesJudged {
+    Passed(Seen),
     Stopped(u64, Clause),
 }
 
@@ -196,22 +196,22 @@ fn walk_node(
     context: &Context,
     system: &System,
     node: &Node,
-    met: Met,
+    met: Seen,
     awaited: &mut Vec<System>,
-) -> Result<Walked, AllocError>
+) -> Result<NodesJudged, AllocError>
     ensures { IfOk result (λ w. (ns : List NodeRead) → spec.walked_on (walked_of w) (λ n log. walk_all (context_of context.now) n log (systems_of awaited.new.items) ns) ≡ walk_all (context_of context.now) met.nodes (option_map log_of met.log) (system_of system.now ∷ systems_of awaited.old.items) (node_of node.now ∷ ns)) }
 {
     let nodes = next(met.nodes)?;
     match node_checked(alloc, context, system, node)? {
-        Checked::Fails(clause) => Ok(Walked::Stopped(nodes, clause)),
+        Checked::Fails(clause) => Ok(NodesJudged::Stopped(nodes, clause)),
         Checked::EndsWith(log) => {
             let log = first_log(met.log, log);
-            Ok(Walked::Passed(Met { nodes, log }))
+            Ok(NodesJudged::Passed(Seen { nodes, log }))
         }
         Checked::LeadsTo(cases) => {
             let log = met.log;
             push_systems(awaited, cases)?;
-            Ok(Walked::Passed(Met { nodes, log }))
+            Ok(NodesJudged::Passed(Seen { nodes, log }))
         }
     }
 }
@@ -222,25 +222,25 @@ fn walk(
     context: &Context,
     root: System,
     skeleton: &Skeleton,
-) -> Result<Walked, AllocError>
+) -> Result<NodesJudged, AllocError>
     ensures { IfOk result (λ w. walked_of w ≡ spec.walk (context_of context.now) 0 None (system_of root) (skeleton_of skeleton.now)) }
 {
     let mut awaited = vec![in alloc; root]?;
-    let mut met = Met {
+    let mut met = Seen {
         nodes: 0,
         log: None,
     };
     for node in &skeleton.nodes {
         // (there is one for each node, since they are the nodes of one tree)
         let Some(system) = pop_system(&mut awaited) else {
-            return Ok(Walked::Passed(met));
+            return Ok(NodesJudged::Passed(met));
         };
         match walk_node(alloc, context, &system, node, met, &mut awaited)? {
-            Walked::Passed(now) => met = now,
-            Walked::Stopped(number, clause) => return Ok(Walked::Stopped(number, clause)),
+            NodesJudged::Passed(now) => met = now,
+            NodesJudged::Stopped(number, clause) => return Ok(NodesJudged::Stopped(number, clause)),
         }
     }
-    Ok(Walked::Passed(met))
+    Ok(NodesJudged::Passed(met))
 }
 
 /// What comes of a tree that was read, for this system.
@@ -257,8 +257,8 @@ pub fn judge(
     ensures { IfOk result (λ j. judgement_of j ≡ spec.judgement (context_of context.now) (system_of root) (skeleton_of skeleton.now)) }
 {
     let met = match walk(alloc, context, root, skeleton)? {
-        Walked::Stopped(number, clause) => return Ok(Judgement::Rejected(number, clause)),
-        Walked::Passed(met) => met,
+        NodesJudged::Stopped(number, clause) => return Ok(Judgement::Rejected(number, clause)),
+        NodesJudged::Passed(met) => met,
     };
     match met.log {
         Some(log) => Ok(Judgement::Found(log)),

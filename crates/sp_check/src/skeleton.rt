@@ -3,7 +3,7 @@
 ghost use Rattle.std.specs.Prelude.{length};
 ghost use Rattle.sp_spec_nodes.specs.Preorder.{AreTrees, AreTrees-prop};
 
-use sp_moves::moves::Move;
+use sp_step::moves::Move;
 use std::alloc::{AllocError, Global};
 
 /// What the text of a node says.

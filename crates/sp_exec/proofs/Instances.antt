@@ -10,7 +10,7 @@ use Rattle.sp_spec.specs.Rule.{Facts, Rule, knows, Gives, rule_named}
 use Rattle.sp_spec.specs.Theory.{Theory, signature_of}
 use Rattle.sp_spec.specs.Execution.{Step, make_fresh, use_rule, take_out, put_in, know_public, make_own, apply_symbol, known_all, State, IsNamed, IsInstance, HasSorts, Cause, no_such_rule, no_instance, premise_absent, fresh_name_twice, wrong_sort, IsNoStep}
 use Rattle.sp_law_equal.specs.Matching.{Bound, value_in}
-use Rattle.sp_law_run.specs.Right.{IsRight, AreRight}
+use Rattle.sp_law_equal.specs.Right.{IsRight, AreRight}
 use Rattle.sp_law_run.specs.Given.{bound_from, bound_by, AgreeWith}
 use Rattle.sp_law_run.proofs.Bindings.{bound_gives, gives_bound, own_values}
 use Rattle.sp_law_run.proofs.Instances.{one_rule, values_valuation, valuation_values}

@@ -8,7 +8,7 @@ use Rattle.sp_spec.specs.Theory.{Theory, signature_of}
 use Rattle.sp_spec.specs.Execution.{Step, State, Trace, with_entry, Runs, Cause}
 use Rattle.sp_law_equal.specs.NormalForms.{HaveNormalForms}
 use Rattle.sp_law_run.specs.NormalStep.{normal_trace}
-use Rattle.sp_law_run.specs.Right.{AreRight}
+use Rattle.sp_law_equal.specs.Right.{AreRight}
 use Rattle.sp_law_run.proofs.Counted.{same_facts_itself, same_facts_then}
 use Rattle.sp_law_run.proofs.Taking.{normals}
 use Rattle.sp_law_run.proofs.Runs.{runs_alike}

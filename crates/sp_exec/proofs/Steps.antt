@@ -10,7 +10,7 @@ use Rattle.sp_spec.specs.Execution.{Step, make_fresh, use_rule, take_out, put_in
 use Rattle.sp_law_equal.specs.NormalForms.{HaveNormalForms}
 use Rattle.sp_law_equal.specs.Normal.{normal_action, normal_fact, normal_facts}
 use Rattle.sp_law_run.specs.NormalStep.{normal_trace}
-use Rattle.sp_law_run.specs.Right.{AreRight}
+use Rattle.sp_law_equal.specs.Right.{AreRight}
 use Rattle.sp_law_run.specs.Taken.{SameFacts, taken}
 use Rattle.sp_law_run.proofs.Counted.{same_facts_added}
 use Rattle.sp_law_run.proofs.Taking.{map_append, normals, takes_taken, taken_takes}

@@ -4,7 +4,7 @@ ghost use Rattle.std.specs.Prelude.{◌≡◌, IfOk, map};
 ghost use Rattle.sp_spec.specs.Theory as spec;
 ghost use Rattle.sp_law_equal.specs.NormalForms.{HaveNormalForms};
 ghost use Rattle.sp_law_run.specs.NormalStep.{normal_step};
-ghost use Rattle.sp_law_run.specs.Right.{AreRight};
+ghost use Rattle.sp_law_equal.specs.Right.{AreRight};
 ghost use Rattle.sp_ground.specs.View.{signature_of, step_of};
 ghost use Rattle.sp_fact.specs.View.{rule_of};
 ghost use Rattle.sp_exec.specs.Laws.{ReplaysAreOne};

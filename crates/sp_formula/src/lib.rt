@@ -1,6 +1,6 @@
 // Guarded formulas in memory.
 // Below stand the definitions of guarded formulas (sp_spec) and terms in memory (sp_term); above stand systems (sp_system), and what
-// makes formulas (sp_guard) and opens them (sp_rows). Each call is exact: copying gives an equal formula, and putting terms for variables
+// makes formulas (sp_guard) and opens them (sp_rows_formula). Each call is exact: copying gives an equal formula, and putting terms for variables
 // and one time for another throughout a formula gives that of the definition (specs/Change.antt).
 #![tactic(auto)]
 

@@ -7,5 +7,5 @@ pub mod Among
 pub mod QuantifiedForm
 pub mod MarksFit
 pub mod NoneUnguarded
-pub mod Peeled
+pub mod OneByOne
 pub mod Names

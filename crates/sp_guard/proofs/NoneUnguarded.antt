@@ -11,10 +11,10 @@ use Rattle.sp_law_guard.specs.GuardedForm.{meant, time_place, placed_action, ter
 use Rattle.sp_law_guard.specs.IsGuarded.{message_guarded, messages_in, each_guarded, is_guarded, are_guarded}
 use Rattle.sp_spec.proofs.Options.{mapped}
 use Rattle.sp_law_guard.proofs.Kept.{joined_forms}
-use Rattle.sp_guard.specs.Unguarded.{Above, nothing_above, turned, one_more, below_some, below_all, first_guarded, outermost_guarded, named_unless, unguarded, first_unguarded, UnguardedIsTold}
+use Rattle.sp_guard.specs.Unguarded.{QuantifierAbove, nothing_above, turned, one_more, below_some, below_all, first_guarded, outermost_guarded, named_unless, unguarded, first_unguarded, UnguardedIsTold}
 
 -- the form is guarded, where its outermost quantifier is joined with the one above
-abbrev counted : Above → Guarded → Bool
+abbrev counted : QuantifierAbove → Guarded → Bool
 counted above (some bs guard g) = each_guarded (above.of_some + messages_in bs) guard bs && is_guarded g
 counted above (every bs guard g) = each_guarded (above.of_all + messages_in bs) guard bs && is_guarded g
 counted above g = is_guarded g
@@ -56,18 +56,18 @@ mutual
   each_turned no_more = refl
   each_turned (and_then g gs) = ap₂ (λ (a b : Bool). a && b) (guarded_turned g) (each_turned gs)
 
-atom_counted : (above : Above) (a : Atom) → counted above (negated_atom a) ≡ true
+atom_counted : (above : QuantifierAbove) (a : Atom) → counted above (negated_atom a) ≡ true
 atom_counted above (acts a i) = refl
 atom_counted above (same t u) = refl
 atom_counted above (same_time i j) = refl
 atom_counted above (before i j) = refl
 atom_counted above (last i) = refl
 
-every_counted : (above : Above) (bs : List Binder) (guard : List Atom) (g : Guarded) → is_guarded (negate g) ≡ is_guarded g → counted above (negate (every bs guard g)) ≡ counted (turned above) (every bs guard g)
+every_counted : (above : QuantifierAbove) (bs : List Binder) (guard : List Atom) (g : Guarded) → is_guarded (negate g) ≡ is_guarded g → counted above (negate (every bs guard g)) ≡ counted (turned above) (every bs guard g)
 every_counted above [] (acts a i ∷ []) guarded.falsity below = refl
 every_counted above bs guard g below = ap (λ (b : Bool). each_guarded (above.of_some + messages_in bs) guard bs && b) below
 
-counted_turned : (above : Above) (g : Guarded) → counted above (negate g) ≡ counted (turned above) g
+counted_turned : (above : QuantifierAbove) (g : Guarded) → counted above (negate g) ≡ counted (turned above) g
 counted_turned above guarded.truth = refl
 counted_turned above guarded.falsity = refl
 counted_turned above (holds a) = atom_counted above a
@@ -127,16 +127,16 @@ each_within : (n : ℕ) (guard : List Atom) (b : Binder) (bs : List Binder)
 each_within n guard (message sort) bs = ap (λ (k : ℕ). message_guarded (n + suc (messages_in bs)) guard (messages_in bs) && each_guarded k guard bs) (one_within n (messages_in bs))
 each_within n guard time bs = refl
 
-abbrev within : Binder → Above → Above
+abbrev within : Binder → QuantifierAbove → QuantifierAbove
 within b above = record { of_some = one_more b above.of_some; of_all = zero }
 
-joined_counted : (above : Above) (b : Binder) (bs : List Binder) (guard : List Atom) (g : Guarded)
+joined_counted : (above : QuantifierAbove) (b : Binder) (bs : List Binder) (guard : List Atom) (g : Guarded)
     → counted above (some (b ∷ bs) guard g) ≡ first_guarded above.of_some guard (b ∷ bs) && counted (within b above) (some bs guard g)
 joined_counted above b bs guard g =
     ap (λ (c : Bool). c && is_guarded g) (each_within above.of_some guard b bs)
     ∙ and_assoc (first_guarded above.of_some guard (b ∷ bs)) (each_guarded (one_more b above.of_some + messages_in bs) guard bs) (is_guarded g)
 
-single_counted : (above : Above) (b : Binder) (g : Guarded) (c : Bool) → is_guarded g ≡ c
+single_counted : (above : QuantifierAbove) (b : Binder) (g : Guarded) (c : Bool) → is_guarded g ≡ c
     → counted above (some (b ∷ []) (guard_in (conjuncts g)) (body_of (rest_in (conjuncts g)))) ≡ first_guarded above.of_some (guard_in (conjuncts g)) (b ∷ []) && c
 single_counted above b g c e =
     let guard = guard_in (conjuncts g) in
@@ -144,7 +144,7 @@ single_counted above b g c e =
     ap (λ (d : Bool). d && is_guarded body) (each_within above.of_some guard b [] ∙ and-true (first_guarded above.of_some guard (b ∷ [])))
     ∙ ap (λ (d : Bool). first_guarded above.of_some guard (b ∷ []) && d) (quantified_guarded g ∙ e)
 
-existential_counted : (above : Above) (b : Binder) (g : Guarded) → counted above (existential b g) ≡ outermost_guarded above.of_some (Some (existential b g)) && counted (within b above) g
+existential_counted : (above : QuantifierAbove) (b : Binder) (g : Guarded) → counted above (existential b g) ≡ outermost_guarded above.of_some (Some (existential b g)) && counted (within b above) g
 existential_counted above b (some bs guard g) = joined_counted above b bs guard g
 existential_counted above b (every bs guard g) = single_counted above b (every bs guard g) _ (sym (none_above (every bs guard g)))
 existential_counted above b guarded.truth = single_counted above b guarded.truth true refl
@@ -167,14 +167,14 @@ or_none : (first second : Option (List ℕ)) → is_none (option_or first second
 or_none None second = refl
 or_none (Some x) second = refl
 
-some_told : (above : Above) (x : Written) (later : Option (List ℕ)) (o : Option Guarded) (h : Guarded) → o ≡ Some (existential (binder_of x.mark) h)
+some_told : (above : QuantifierAbove) (x : Written) (later : Option (List ℕ)) (o : Option Guarded) (h : Guarded) → o ≡ Some (existential (binder_of x.mark) h)
     → is_none later ≡ counted (below_some x above) h → is_none (named_unless x (outermost_guarded above.of_some o) later) ≡ counted above (existential (binder_of x.mark) h)
 some_told above x later o h e told =
     unless_none x (outermost_guarded above.of_some o) later
     ∙ ap₂ (λ (a b : Bool). a && b) (ap (outermost_guarded above.of_some) e) told
     ∙ sym (existential_counted above (binder_of x.mark) h)
 
-all_told : (above : Above) (x : Written) (later : Option (List ℕ)) (o : Option Guarded) (h : Guarded) → o ≡ Some (negate (existential (binder_of x.mark) (negate h)))
+all_told : (above : QuantifierAbove) (x : Written) (later : Option (List ℕ)) (o : Option Guarded) (h : Guarded) → o ≡ Some (negate (existential (binder_of x.mark) (negate h)))
     → is_none later ≡ counted (below_all x above) h → is_none (named_unless x (outermost_guarded above.of_all o) later) ≡ counted above (negate (existential (binder_of x.mark) (negate h)))
 all_told above x later o h e told =
     unless_none x (outermost_guarded above.of_all o) later
@@ -187,7 +187,7 @@ both_told : (first second : Option (List ℕ)) (g h : Guarded) → is_none first
     → is_none (option_or first second) ≡ is_guarded g && is_guarded h
 both_told first second g h e k = or_none first second ∙ ap₂ (λ (a b : Bool). a && b) (e ∙ none_above g) (k ∙ none_above h)
 
-told : (bs : List Written) (above : Above) (f : Formula) (g : Guarded) → guarded_form bs f ≡ Some g → is_none (unguarded bs above f) ≡ counted above g
+told : (bs : List Written) (above : QuantifierAbove) (f : Formula) (g : Guarded) → guarded_form bs f ≡ Some g → is_none (unguarded bs above f) ≡ counted above g
 told bs above truth g e = ap (counted above) (let k : guarded.truth ≡ g = cc in k)
 told bs above falsity g e = ap (counted above) (let k : guarded.falsity ≡ g = cc in k)
 told bs above (happens a i) g e = ap (counted above) (sym (mapped holds (acts_at (placed_action bs a) (time_place (meant bs i.name))) g e).2)
@@ -230,7 +230,7 @@ once_more None (Some y) = refl
 once_more (Some x) second = refl
 
 -- f <=> g
-pub equivalence_unguarded : (bs : List Written) (above : Above) (f g : Formula)
+pub equivalence_unguarded : (bs : List Written) (above : QuantifierAbove) (f g : Formula)
     → unguarded bs above (equivalent f g) ≡ option_or (unguarded bs nothing_above f) (unguarded bs nothing_above g)
 equivalence_unguarded bs above f g = once_more (unguarded bs nothing_above f) (unguarded bs nothing_above g)
 

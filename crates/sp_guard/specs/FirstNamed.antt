@@ -4,8 +4,8 @@ use denote.Ref.{Bor}
 use Rattle.sp_spec.specs.Formula.{Written}
 use Rattle.sp_spec.specs.Guarded.{Binder, message, time, Atom, Guarded, some, every}
 use Rattle.sp_law_guard.specs.IsGuarded.{message_guarded, time_guarded, messages_in, times_in}
-use Rattle.sp_guard.specs.Unguarded.{Above, below_some, named_unless}
-use Rattle.sp_guard.specs.declared.unguarded.Above as memory
+use Rattle.sp_guard.specs.Unguarded.{QuantifierAbove, below_some, named_unless}
+use Rattle.sp_guard.specs.declared.unguarded.QuantifierAbove as memory
 
 -- The binders have these names, and their quantifier binds n messages; binders or names that are left over are passed by.
 abbrev pub named_in : ℕ → List Atom → List Binder → List Written → Option (List ℕ)
@@ -22,11 +22,11 @@ named_in_form outer (Some g) xs = None
 named_in_form outer None xs = None
 
 -- below an Ex of these variables
-abbrev pub below_each : List Written → Above → Above
+abbrev pub below_each : List Written → QuantifierAbove → QuantifierAbove
 below_each [] above = above
 below_each (x ∷ xs) above = below_each xs (below_some x above)
 
-abbrev pub above_of : memory.Above → Above
+abbrev pub above_of : memory.QuantifierAbove → QuantifierAbove
 above_of a = record { of_some = a.of_some; of_all = a.of_all }
 
 abbrev pub name_of : Option (Bor (List ℕ)) → Option (List ℕ)

@@ -10,25 +10,25 @@ use Rattle.sp_law_guard.specs.GuardedForm.{binder_of, guarded_form}
 use Rattle.sp_law_guard.specs.IsGuarded.{message_guarded, time_guarded, messages_in, times_in, is_guarded}
 
 -- How many messages the quantifier directly above, through negations alone, binds: where an Ex is joined with it, and where an All is.
-pub record Above : Type 0 where
+pub record QuantifierAbove : Type 0 where
   pub of_some : ℕ
   pub of_all : ℕ
 
-abbrev pub nothing_above : Above
+abbrev pub nothing_above : QuantifierAbove
 nothing_above = record { of_some = zero; of_all = zero }
 
 -- All x. f is not Ex x. not f
-abbrev pub turned : Above → Above
+abbrev pub turned : QuantifierAbove → QuantifierAbove
 turned above = record { of_some = above.of_all; of_all = above.of_some }
 
 abbrev pub one_more : Binder → ℕ → ℕ
 one_more (message sort) n = suc n
 one_more time n = n
 
-abbrev pub below_some : Written → Above → Above
+abbrev pub below_some : Written → QuantifierAbove → QuantifierAbove
 below_some x above = record { of_some = one_more (binder_of x.mark) above.of_some; of_all = zero }
 
-abbrev pub below_all : Written → Above → Above
+abbrev pub below_all : Written → QuantifierAbove → QuantifierAbove
 below_all x above = record { of_some = zero; of_all = one_more (binder_of x.mark) above.of_all }
 
 -- The first of these binders is guarded, where the same quantifier binds so many messages outside of them.
@@ -48,7 +48,7 @@ abbrev pub named_unless : Written → Bool → Option (List ℕ) → Option (Lis
 named_unless x guarded later = if guarded then later else Some x.name
 
 -- Within the reach of these binders, the innermost first. A quantifier's variable is the outermost binder of its guarded form.
-abbrev pub unguarded : List Written → Above → Formula → Option (List ℕ)
+abbrev pub unguarded : List Written → QuantifierAbove → Formula → Option (List ℕ)
 unguarded bs above truth = None
 unguarded bs above falsity = None
 unguarded bs above (happens a i) = None

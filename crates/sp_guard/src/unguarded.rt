@@ -24,40 +24,40 @@ pub fn unguarded_is_told()
 
 /// How many messages the quantifier directly above a formula binds, where an Ex is joined with it, and where an All is.
 #[derive(Clone, Copy)]
-pub struct Above {
+pub struct QuantifierAbove {
     pub of_some: u64,
     pub of_all: u64,
 }
 
-const NOTHING_ABOVE: Above = Above {
+const NOTHING_ABOVE: QuantifierAbove = QuantifierAbove {
     of_some: 0,
     of_all: 0,
 };
 
-impl Above {
+impl QuantifierAbove {
     /// Below a negation.
-    fn turned(self) -> Above
+    fn turned(self) -> QuantifierAbove
         ensures { above_of result ≡ spec.turned (above_of self) }
     {
-        Above {
+        QuantifierAbove {
             of_some: self.of_all,
             of_all: self.of_some,
         }
     }
 
     /// Below an Ex of this variable.
-    fn below(self, variable: &WrittenVariable) -> Above
+    fn below(self, variable: &WrittenVariable) -> QuantifierAbove
         requires { self.of_some + 1 < 2 ^ 64 }
         ensures exact { above_of result ≡ spec.below_some (view.variable variable.now) (above_of self) }
         ensures one_more { result.of_some ≤ self.of_some + 1 }
         ensures no_more { result.of_all ≤ self.of_all }
     {
         match variable.mark {
-            Mark::Time => Above {
+            Mark::Time => QuantifierAbove {
                 of_some: self.of_some,
                 of_all: 0,
             },
-            _ => Above {
+            _ => QuantifierAbove {
                 of_some: self.of_some + 1,
                 of_all: 0,
             },
@@ -65,7 +65,7 @@ impl Above {
     }
 
     /// Below an Ex of these variables.
-    fn below_each(self, variables: &Vec<WrittenVariable>) -> Above
+    fn below_each(self, variables: &Vec<WrittenVariable>) -> QuantifierAbove
         requires { self.of_some + length variables.now.items < 2 ^ 64 }
         ensures exact { above_of result ≡ below_each (map view.variable variables.now.items) (above_of self) }
         ensures some_more { result.of_some ≤ self.of_some + length variables.now.items }
@@ -149,7 +149,7 @@ fn named_by<'a>(
 fn unguarded<'a>(
     alloc: Global,
     binders: &Vec<WrittenVariable<'a>>,
-    above: Above,
+    above: QuantifierAbove,
     formula: &ReadFormula<'a>,
 ) -> Result<Option<&'a str>, AllocError>
     requires few_in_some { above.of_some ≤ length binders.now.items }
@@ -191,7 +191,7 @@ fn or_unguarded<'a>(
     alloc: Global,
     found: Option<&'a str>,
     binders: &Vec<WrittenVariable<'a>>,
-    above: Above,
+    above: QuantifierAbove,
     formula: &ReadFormula<'a>,
 ) -> Result<Option<&'a str>, AllocError>
     requires few_in_some { above.of_some ≤ length binders.now.items }

@@ -8,7 +8,7 @@ use Rattle.sp_spec_text.specs.Token.{Lexeme, word, sign, Token}
 use Rattle.sp_spec_text.specs.Lex.{Skips, token, piece, is_end, IsNext, AreTokens, no_more, last, next, lexemes}
 use Rattle.sp_spec_text.specs.Ends.{place_behind, is_any}
 use Rattle.sp_spec_proof.specs.Tree.{Tree}
-use Rattle.sp_text.specs.TreeText.{tree_text}
+use Rattle.sp_skel.specs.TreeText.{tree_text}
 use Rattle.sp_spec_text.specs.Written.{WrittenProof}
 use Rattle.sp_spec_text.specs.Spans.{Span, EndsAt, is_feed, goes_on}
 use Rattle.sp_read_theory.specs.Items.{the_end}

@@ -1,17 +1,20 @@
 -- The text of a tree has no word `end`: its tokens lead to whatever follows it.
-use Rattle.std.proofs.Common.{◌≡◌, ℕ, zero, suc, true, false, List, [], ◌∷◌, ◌++◌, codes, refl, sym, ap, subst, ◌∙◌, append_assoc}
-use Rattle.std.specs.Prelude.{decimal}
+use Rattle.std.proofs.Common.{◌≡◌, ℕ, zero, suc, Bool, true, false, if◌then◌else◌, List, [], ◌∷◌, ◌++◌, codes, refl, sym, ap, subst, ◌∙◌, append_assoc}
 use Rattle.sp_spec_text.specs.Token.{word}
-use Rattle.sp_spec_text.specs.Lex.{is_blank, no_gap, is_end, is_solve, plain, goal}
+use Rattle.sp_spec_text.specs.Lex.{is_blank, no_gap, is_end, is_solve, plain}
+use Rattle.sp_spec_text.specs.Lex as lex
 use Rattle.sp_spec_text.specs.Names.{IsName}
-use Rattle.sp_spec_system.specs.Move.{Move, simplify, contradiction, unproved, solved, or, action, premise}
+use Rattle.sp_spec_system.specs.Move.{Move}
+use Rattle.sp_spec_system.specs.Words.{Words, method, goal, words_of, AreWithin, words_text, goal_text, stand_alone}
 use Rattle.sp_spec_proof.specs.Tree.{Tree, node, Branches, no_branch, branch}
-use Rattle.sp_text.specs.TreeText.{indent, line, move_text, leading, tree_text, cases_text}
-use Rattle.sp_text.specs.Places.{HasPlace}
-use Rattle.sp_skel.specs.Spelling.{IsWord, premise_goal, IsReadable, AreReadable}
-use Rattle.sp_skel.proofs.Blanks.{gap_blank, Ends, piece_word, gap_word, space, line_end, bracket_ends, gap_bracket, Closes, closes_action, closes_or, closes_premise, solve_goal, is_word_solve}
-use Rattle.sp_skel.proofs.ReadBack.{name_goes_on, name_no_goal, word_simplify, word_contradiction, word_sorry, word_solved, word_by, word_case, word_next, word_qed, premise_ends}
+use Rattle.sp_skel.specs.TreeText.{indent, line, move_text, leading, tree_text, cases_text}
+use Rattle.sp_skel.specs.Places.{HasPlace}
+use Rattle.sp_skel.specs.Spelling.{IsWord, IsReadable, AreReadable}
+use Rattle.sp_skel.proofs.Blanks.{gap_blank, Ends, piece_word, gap_word, space, line_end, bracket_ends, gap_bracket, solve_goal, is_word_solve}
+use Rattle.sp_skel.proofs.Goals.{Closes, closes_goal}
+use Rattle.sp_skel.proofs.ReadBack.{name_goes_on, name_no_goal, word_by, word_case, word_next, word_qed}
 use Rattle.sp_skel.proofs.Spelled.{HaveCase}
+use Rattle.sp_skel.proofs.Table.{IsLine, lines}
 use Rattle.sp_law_again.proofs.Leads.{Leads, past_gap, past_one}
 
 pub leads_at : {to bytes others : List ℕ} → bytes ≡ others → Leads to others → Leads to bytes
@@ -27,35 +30,28 @@ leads_word (c ∷ w) b rest h e d s l = past_one (no_gap (gap_word c (w ++ b ∷
 leads_goal : {to : List ℕ} (inside rest : List ℕ) → Closes inside → Leads to rest → Leads to (codes "solve" ++ 40 ∷ (inside ++ 41 ∷ rest))
 leads_goal inside rest closes l =
     let all = inside ++ 41 ∷ rest in
-    past_one (no_gap (gap_word 115 (codes "olve" ++ 40 ∷ all) refl)) (goal (piece_word (codes "solve") 40 all is_word_solve bracket_ends) refl (no_gap (gap_bracket all)) (solve_goal inside rest closes)) refl l
+    past_one (no_gap (gap_word 115 (codes "olve" ++ 40 ∷ all) refl)) (lex.goal (piece_word (codes "solve") 40 all is_word_solve bracket_ends) refl (no_gap (gap_bracket all)) (solve_goal inside rest closes)) refl l
 
 -- ---- moves and cases
 
+leads_words : {to : List ℕ} (m : Move) (ws : Words) (rest : List ℕ) → IsLine m ws → AreWithin ws → Leads to (10 ∷ rest) → Leads to (words_text ws ++ 10 ∷ rest)
+leads_words m (method w) rest line h l = leads_word w 10 rest line.is_word line_end line.goes_on line.no_goal l
+leads_words m (goal w arguments) rest line h l =
+    let inside : List ℕ = goal_text w arguments in
+    leads_at (ap (λ (bytes : List ℕ). codes "solve(" ++ bytes) (append_assoc inside (codes ")") (10 ∷ rest))) (leads_goal inside (10 ∷ rest) (closes_goal w arguments line.plain h) l)
+
 leads_move : {to : List ℕ} (m : Move) (rest : List ℕ) → HasPlace m → Leads to (10 ∷ rest) → Leads to (move_text m ++ 10 ∷ rest)
-leads_move simplify rest h l = leads_word (codes "simplify") 10 rest word_simplify line_end refl refl l
-leads_move contradiction rest h l = leads_word (codes "contradiction") 10 rest word_contradiction line_end refl refl l
-leads_move unproved rest h l = leads_word (codes "sorry") 10 rest word_sorry line_end refl refl l
-leads_move solved rest h l = leads_word (codes "SOLVED") 10 rest word_solved line_end refl refl l
-leads_move (or k) rest h l =
-    leads_at (ap (λ (bytes : List ℕ). codes "solve( or " ++ bytes) (append_assoc (decimal k) (codes " )") (10 ∷ rest) ∙ sym (append_assoc (decimal k) (codes " ") (41 ∷ 10 ∷ rest))))
-    (leads_goal (codes " or " ++ (decimal k ++ codes " ")) (10 ∷ rest) (closes_or k h) l)
-leads_move (action k) rest h l =
-    leads_at (ap (λ (bytes : List ℕ). codes "solve( action " ++ bytes) (append_assoc (decimal k) (codes " )") (10 ∷ rest) ∙ sym (append_assoc (decimal k) (codes " ") (41 ∷ 10 ∷ rest))))
-    (leads_goal (codes " action " ++ (decimal k ++ codes " ")) (10 ∷ rest) (closes_action k h) l)
-leads_move (premise i p) rest h l =
-    leads_at (ap (λ (bytes : List ℕ). codes "solve( premise " ++ bytes) (premise_ends i p rest)) (leads_goal (premise_goal i p) (10 ∷ rest) (closes_premise i p h.0 h.1) l)
+leads_move m rest h l = leads_words m (words_of m) rest (lines m) h l
 
 leads_by : {to : List ℕ} (m : Move) (rest : List ℕ) → HasPlace m → Leads to (10 ∷ rest) → Leads to ((codes "by " ++ move_text m) ++ 10 ∷ rest)
 leads_by m rest h l = leads_word (codes "by") 32 (move_text m ++ 10 ∷ rest) word_by space refl refl (leads_blank 32 refl (leads_move m rest h l))
 
 leads_leaf : {to : List ℕ} (m : Move) (rest : List ℕ) → HasPlace m → Leads to (10 ∷ rest) → Leads to ((leading m ++ move_text m) ++ 10 ∷ rest)
-leads_leaf simplify rest h l = leads_by simplify rest h l
-leads_leaf contradiction rest h l = leads_by contradiction rest h l
-leads_leaf unproved rest h l = leads_by unproved rest h l
-leads_leaf solved rest h l = leads_move solved rest h l
-leads_leaf (or k) rest h l = leads_by (or k) rest h l
-leads_leaf (action k) rest h l = leads_by (action k) rest h l
-leads_leaf (premise i p) rest h l = leads_by (premise i p) rest h l
+leads_leaf {to} m rest h l = at (stand_alone (words_of m))
+  where
+    at : (b : Bool) → Leads to (((if b then [] else codes "by ") ++ move_text m) ++ 10 ∷ rest)
+    at true = leads_move m rest h l
+    at false = leads_by m rest h l
 
 leads_case : {to : List ℕ} (n rest : List ℕ) → IsName n → IsWord n → Leads to (10 ∷ rest) → Leads to ((codes "case " ++ n) ++ 10 ∷ rest)
 leads_case n rest h w l =

@@ -1,8 +1,8 @@
 -- A text with proof trees in the places of its lemmas' proofs, and what it says.
-use Rattle.std.specs.Prelude.{ℕ, ◌-◌, List, [], ◌∷◌, ◌++◌, Some, take, drop, codes}
+use Rattle.std.specs.Prelude.{ℕ, ◌-◌, List, ◌∷◌, ◌++◌, Option, Some, map, take, drop, codes}
 use Rattle.sp_spec_proof.specs.Tree.{Tree}
-use Rattle.sp_text.specs.TreeText.{tree_text}
-use Rattle.sp_spec_text.specs.Written.{Item, rule_item, lemma_item}
+use Rattle.sp_skel.specs.TreeText.{tree_text}
+use Rattle.sp_spec_text.specs.Written.{WrittenProof, Item, with_proofs}
 use Rattle.sp_spec_text.specs.Spans.{Span, goes_on}
 use Rattle.sp_skel.specs.Spelling.{as_written}
 
@@ -15,9 +15,9 @@ abbrev pub replaced : List ℕ → ℕ → List Span → List Tree → ℕ → L
 replaced text start (span ∷ spans) (t ∷ trees) end = between start span.from text ++ (codes "\n" ++ (tree_text 0 t ++ replaced text (goes_on text span) spans trees end))
 replaced text start spans trees end = between start end text
 
+abbrev pub as_proofs : List Tree → List (Option WrittenProof)
+as_proofs trees = map (λ (t : Tree). Some (as_written t)) trees
+
 -- the items with these trees as the proofs of the lemmas, one for each
 abbrev pub with_trees : List Item → List Tree → List Item
-with_trees [] trees = []
-with_trees (rule_item r ∷ items) trees = rule_item r ∷ with_trees items trees
-with_trees (lemma_item l p ∷ items) [] = lemma_item l p ∷ with_trees items []
-with_trees (lemma_item l p ∷ items) (t ∷ trees) = lemma_item l (Some (as_written t)) ∷ with_trees items trees
+with_trees items trees = with_proofs items (as_proofs trees)

@@ -1,5 +1,5 @@
 // What is written of a text with proofs is read again as the same text with those proofs.
-// Below stand the readers of texts (sp_lex, sp_read_theory), the texts of trees (sp_text), and that those are read back (sp_skel).
+// Below stand the readers of texts (sp_lex, sp_read_theory), and the texts of trees, which are read back (sp_skel).
 // Carried here: the promise that a text whose lemmas' proofs are replaced by the texts of trees says the same theory, each lemma with the
 // proof that is written for it, and that it ends with its word `end`, whatever is written behind it.
 #![tactic(auto)]

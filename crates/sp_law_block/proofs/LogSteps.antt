@@ -4,18 +4,17 @@ use Rattle.sp_spec.specs.Lists.{Member, Every}
 use Rattle.sp_spec.proofs.Lists.{every_member, every_append, every_parts, every_both, every_map, member_mapped}
 use Rattle.sp_spec.specs.Term.{Fresh, Names, AllMadeOf, Variable, var, constant, name, app, Ground, Grounds, none, more, Values}
 use Rattle.sp_spec.specs.Signature.{Symbol, Equation, HasSort, IsOver, AreOver, IsValuation}
-use Rattle.sp_spec.specs.Rule.{Fact, Action, Facts, Declared, Rule, action_at, facts_at, OfArguments, FactsMadeOf, IsNormalFormOf}
+use Rattle.sp_spec.specs.Rule.{Fact, Action, Facts, Declared, Rule, action_at, facts_at, FactsMadeOf}
 use Rattle.sp_spec.specs.Theory.{Theory, signature_of}
 use Rattle.sp_spec.specs.Written.{WrittenTheory, rule_of, theory_of}
 use Rattle.sp_spec.specs.Execution.{Step, make_fresh, Trace, with_entry}
-use Rattle.sp_spec.specs.Log.{Source, step, send, learn, Log, is_fr, first_arg, fresh_of, IsLog, visible_trace}
+use Rattle.sp_spec.specs.Log.{Source, step, send, learn, Log, is_fr, first_arg, fresh_of, IsRuleInstance, rule_instance, IsLog, visible_trace}
 use Rattle.sp_law_equal.specs.Matching.{Bound}
-use Rattle.sp_law_equal.specs.Destructors.{ArePlain}
 use Rattle.sp_law_equal.proofs.Forms.{normals}
 use Rattle.sp_law_erase.specs.Adversary.{HasStepsAlone}
 use Rattle.sp_law_system.specs.Rules.{ActionsAreOver}
 use Rattle.sp_law_found.specs.Found.{matched_instance, bound_or_any, given_from, given_of, given_by, fresh_steps, entry_steps, execution_of}
-use Rattle.sp_law_found.specs.Executable.{TakesFreshNames, IsExecutable}
+use Rattle.sp_law_found.specs.Executable.{IsExecutable}
 use Rattle.sp_law_found.proofs.Fitting.{instance_fits}
 use Rattle.sp_law_found.proofs.Given.{own_agree, own_valuation, instance_gives}
 use Rattle.sp_law_found.proofs.Plain.{plain_instance, normal_valuation}
@@ -25,6 +24,7 @@ use Rattle.sp_read_steps.specs.Lines.{IsNamed, IsGiven, IsWritableStep}
 use Rattle.sp_law_block.specs.Shown.{shown_names, numbered_names, no_variable, HasNames, StepHasNames, LogHasNames, IsNamedRule, IsShownAction, IsShownTrace}
 use Rattle.sp_law_block.proofs.Writable.{term_writable}
 use Rattle.sp_law_block.proofs.GivenNames.{rule_given_named}
+use Rattle.sp_law_equal.specs.RightTheory.{FactsArePlain, TakesFreshNames}
 
 -- ---- what is made and given
 
@@ -77,13 +77,12 @@ module _ (theory : Theory) (good : IsExecutable theory) where
     valuation : IsValuation (signature_of theory) (bound_or_any bindings)
     fresh : AreOfFresh facts.premises
 
-  used : (r : List ℕ) (facts : Facts ⊥) (rule : Rule) → Member rule theory.rules → rule.name ≡ r → (v : Values) → IsValuation (signature_of theory) v
-      → IsNormalFormOf es (facts_at v rule.facts) facts → Used r facts
-  used r facts rule member named v valuation normal =
+  used : (r : List ℕ) (facts : Facts ⊥) → IsRuleInstance theory r facts → Used r facts
+  used r facts (rule, member, named, v, valuation, normal) =
       let w : Values = normals es v in
-      let over : IsValuation (signature_of theory) w = normal_valuation (signature_of theory) good.keeps v valuation in
-      let plain = every_member (λ (q : Rule). OfArguments (ArePlain es) q.facts) theory.rules rule member good.plain in
-      let is : facts ≡ facts_at w rule.facts = plain_instance es good.normal_forms v rule.facts plain facts normal in
+      let over : IsValuation (signature_of theory) w = normal_valuation (signature_of theory) good.instances.keeps v valuation in
+      let plain = every_member (λ (q : Rule). FactsArePlain es q.facts) theory.rules rule member good.instances.plain in
+      let is : facts ≡ facts_at w rule.facts = plain_instance es good.instances.normal_forms v rule.facts plain facts normal in
       let fit = instance_fits w (λ x. (over x).0) rule.facts in
       let bs = fit.bindings in
       let matched : matched_instance rule.facts facts ≡ Some bs = ap (matched_instance rule.facts) is ∙ fit.is in
@@ -122,9 +121,9 @@ module _ (theory : WrittenTheory) (good : IsExecutable (theory_of theory)) (name
       let there : AreShown (facts_at (bound_or_any bs) (rule_of w.0).facts) = subst (λ (q : Rule). AreShown (facts_at (bound_or_any bs) q.facts)) (sym w.2) here in
       subst (λ (q : Rule). Every (λ (g : List ℕ × Ground). HasNames shown_names g.1) (given_of q bs)) w.2 (rule_given_named shown_names w.0 bs there)
 
-  entry_writable : (r : List ℕ) (facts : Facts ⊥) (os : List Source) → Used (theory_of theory) good r facts → AreShown facts
-      → Every HasNumbers (entry_steps rules (step r facts os)) → Every (IsWritableStep symbols) (entry_steps rules (step r facts os))
-  entry_writable r facts os u shown numbered =
+  entry_writable : (past : Log) (r : List ℕ) (facts : Facts ⊥) (os : List Source) → Used (theory_of theory) good r facts → AreShown facts
+      → Every HasNumbers (entry_steps (theory_of theory) past (step r facts os)) → Every (IsWritableStep symbols) (entry_steps (theory_of theory) past (step r facts os))
+  entry_writable past r facts os u shown numbered =
       let given = given_of u.rule u.bindings in
       let n = every_member IsNamedRule rules u.rule u.member named in
       let over = names_given symbols 0 u.rule.variables u.bindings n.variables (λ x. (u.valuation x).1) in
@@ -141,14 +140,13 @@ module _ (theory : WrittenTheory) (good : IsExecutable (theory_of theory)) (name
         fresh_writable symbols (fresh_of facts.premises) (fresh_sorts facts.premises u.fresh) (fresh_named shown_names facts.premises shown.premises) numbered.1,
       )
 
-  pub steps_writable : (log : Log) → IsLog (theory_of theory) log → HasStepsAlone log → LogHasNames shown_names log → Every HasNumbers (execution_of rules log)
-      → Every (IsWritableStep symbols) (execution_of rules log)
+  pub steps_writable : (log : Log) → IsLog (theory_of theory) log → HasStepsAlone log → LogHasNames shown_names log → Every HasNumbers (execution_of (theory_of theory) log)
+      → Every (IsWritableStep symbols) (execution_of (theory_of theory) log)
   steps_writable [] is alone shown numbered = tt
   steps_writable (step r facts os ∷ past) is alone shown numbered =
-      let s = is.1.0 in
-      let both = every_parts HasNumbers (entry_steps rules (step r facts os)) (execution_of rules past) numbered in
-      every_append (IsWritableStep symbols) (entry_steps rules (step r facts os)) (execution_of rules past)
-      (entry_writable r facts os (used (theory_of theory) good r facts s.0 s.1 s.2 s.3 s.4 s.5) shown.0 both.0)
+      let both = every_parts HasNumbers (entry_steps (theory_of theory) past (step r facts os)) (execution_of (theory_of theory) past) numbered in
+      every_append (IsWritableStep symbols) (entry_steps (theory_of theory) past (step r facts os)) (execution_of (theory_of theory) past)
+      (entry_writable past r facts os (used (theory_of theory) good r facts (is.1 rule_instance)) shown.0 both.0)
       (steps_writable past is.0 alone.1 shown.1 both.1)
   steps_writable (send m ∷ past) is alone shown numbered = absurd alone.0
   steps_writable (learn m how ∷ past) is alone shown numbered = absurd alone.0
@@ -176,8 +174,7 @@ module _ (theory : WrittenTheory) (good : IsExecutable (theory_of theory)) (name
       → IsShownTrace symbols (visible_trace log)
   trace_shown acts [] is alone shown = tt
   trace_shown acts (step r facts os ∷ past) is alone shown =
-      let s = is.1.0 in
-      with_entry_shown facts.actions (visible_trace past) (actions_shown acts r facts (used (theory_of theory) good r facts s.0 s.1 s.2 s.3 s.4 s.5) shown.0)
+      with_entry_shown facts.actions (visible_trace past) (actions_shown acts r facts (used (theory_of theory) good r facts (is.1 rule_instance)) shown.0)
       (trace_shown acts past is.0 alone.1 shown.1)
   trace_shown acts (send m ∷ past) is alone shown = absurd alone.0
   trace_shown acts (learn m how ∷ past) is alone shown = absurd alone.0

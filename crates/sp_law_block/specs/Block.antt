@@ -1,7 +1,7 @@
 -- The block of an execution that was found. Source of the shape: Tamarin manual, "Output" (the trace that is found); the words are this
 -- project's own.
 use Rattle.std.specs.Prelude.{ℕ, List, [], ◌∷◌, ◌++◌, codes, Option, Some, None}
-use Rattle.sp_spec.specs.Rule.{Rule}
+use Rattle.sp_spec.specs.Theory.{Theory}
 use Rattle.sp_spec.specs.Execution.{Step}
 use Rattle.sp_spec.specs.Log.{Log, visible_trace}
 use Rattle.sp_law_found.specs.Found.{execution_of}
@@ -19,14 +19,14 @@ steps_text [] = []
 steps_text (step ∷ steps) = step_text step ++ (codes "\n" ++ steps_text steps)
 
 -- the steps that the log stands for, and its trace
-abbrev pub found_block : List Rule → Log → List ℕ
-found_block rules log = codes "execution:\n" ++ (steps_text (oldest_first (execution_of rules log)) ++ trace_block (oldest_first (visible_trace log)))
+abbrev pub found_block : Theory → Log → List ℕ
+found_block theory log = codes "execution:\n" ++ (steps_text (oldest_first (execution_of theory log)) ++ trace_block (oldest_first (visible_trace log)))
 
-abbrev pub block_of : List Rule → Option Log → List ℕ
-block_of rules None = []
-block_of rules (Some log) = found_block rules log
+abbrev pub block_of : Theory → Option Log → List ℕ
+block_of theory None = []
+block_of theory (Some log) = found_block theory log
 
 -- the numbers of the fresh names in the execution have an end
-abbrev pub IsNumbered : List Rule → Option Log → Type 0
-IsNumbered rules None = Unit {0}
-IsNumbered rules (Some log) = Every (StepHasNames numbered_names) (execution_of rules log)
+abbrev pub IsNumbered : Theory → Option Log → Type 0
+IsNumbered theory None = Unit {0}
+IsNumbered theory (Some log) = Every (StepHasNames numbered_names) (execution_of theory log)

@@ -51,8 +51,8 @@ pub record CandidatesHaveNames : Type 0 where
 pub record LogsMayBeWritten : Type 0 where
   pub steps : (theory : WrittenTheory) → IsExecutable (theory_of theory) → Every IsNamedRule (theory_of theory).rules
       → (log : Log) → IsLog (theory_of theory) log → HasStepsAlone log → LogHasNames shown_names log
-      → Every (StepHasNames numbered_names) (execution_of (theory_of theory).rules log)
-      → Every (IsWritableStep (signature_of (theory_of theory)).symbols) (execution_of (theory_of theory).rules log)
+      → Every (StepHasNames numbered_names) (execution_of (theory_of theory) log)
+      → Every (IsWritableStep (signature_of (theory_of theory)).symbols) (execution_of (theory_of theory) log)
   pub trace : (theory : WrittenTheory) → IsExecutable (theory_of theory) → Every IsNamedRule (theory_of theory).rules → ActionsAreOver (theory_of theory)
       → (log : Log) → IsLog (theory_of theory) log → HasStepsAlone log → LogHasNames shown_names log
       → IsShownTrace (signature_of (theory_of theory)).symbols (visible_trace log)

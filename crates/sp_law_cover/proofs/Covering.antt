@@ -14,11 +14,11 @@ equal_truth signature trace f m w terms times bound_terms bound_times h =
     (equal_same signature trace trace (trace_itself signature.equations trace) m w (record { terms = terms; times = times; bound_terms = bound_terms; bound_times = bound_times }) f).0 h
 
 pub plain_moves_cover : (theory : Theory) → IsPlainTheory theory → MovesCover theory
-plain_moves_cover theory p = moves_cover unifier_is_right theory p.normal_forms p.keeps p.plain p.closed p.over equal_truth
+plain_moves_cover theory p = moves_cover unifier_is_right theory p.instances.normal_forms p.instances.keeps p.instances.plain p.closed p.over equal_truth
 
 pub nothing_is_lost_lem : NothingIsLost
 nothing_is_lost_lem = record {
-  rows = λ theory p. rows_cover unifier_is_right theory p.normal_forms p.keeps p.plain p.closed p.over equal_truth;
-  contradictions = λ theory p. contradictions_hold unifier_is_right theory p.normal_forms p.keeps p.plain p.closed p.over equal_truth;
+  rows = λ theory p. rows_cover unifier_is_right theory p.instances.normal_forms p.instances.keeps p.instances.plain p.closed p.over equal_truth;
+  contradictions = λ theory p. contradictions_hold unifier_is_right theory p.instances.normal_forms p.instances.keeps p.instances.plain p.closed p.over equal_truth;
   moves = plain_moves_cover;
 }

@@ -28,7 +28,7 @@ use Rattle.sp_spec_system.specs.Cases.{where_same, renamed, system_if, named}
 use Rattle.sp_spec_formula.specs.Action.{with_step, by_actions, by_each, action_cases, action_at_time, is_adversary, solving_action, by_forms}
 use Rattle.sp_spec_graph.specs.Premise.{open_premise, premise_cases}
 use Rattle.sp_spec_proof.specs.Cases.{raw_cases, simple_case, cases}
-use Rattle.sp_law_system.specs.Rules.{InstancesAreOver, RulesAreNumbered, RulesArePlain, IsClosedRule, FormsAreNumbered}
+use Rattle.sp_law_system.specs.Rules.{InstancesAreOver, RulesAreNumbered, IsClosedRule, FormsAreNumbered}
 use Rattle.sp_law_system.specs.Proofs.{IsContextOf, IsWellMade, IsKept, systems_of, IsPast, CoversBelow}
 use Rattle.sp_law_cover.specs.Laws.{MovesCover}
 use Rattle.sp_law_formula.proofs.Freed.{freed_action_in}
@@ -42,6 +42,7 @@ use Rattle.sp_law_graph.proofs.Premises.{premise_numbered, premise_covers}
 use Rattle.sp_law_cover.proofs.Simplifying.{no_solution, rows_cover, simplified_follows, covers_itself}
 use Rattle.sp_spec_system.specs.Rules.{RuleForms, Rules, forms_of, rules_of}
 use Rattle.sp_law_system.proofs.Forms.{forms_numbered}
+use Rattle.sp_law_equal.specs.RightTheory.{RulesArePlain}
 
 -- a solved action: the formula, its time and its terms
 pub record SolvesAction (rules : List RuleForms) (s : System) (f : Guarded) (cs : List Case) : Type 0 where
@@ -183,12 +184,12 @@ module _ (N : Names) (right : UnifierIsRight) (theory : Theory) (good : HaveNorm
 
   -- before the cases are simplified
   raw_numbered : (context : Context) → context.rules ≡ rules_of theory → (s : System) (move : Move) (cs : List Case) → raw_cases context s move ≡ Some cs → IsNumbered N s → Every (Later N s.next) (systems_of cs)
-  raw_numbered context r s simplify cs e n = at (has_place s) e
+  raw_numbered context r s simplify cs e n = at (has_place context.rules s) e
     where
       at : (b : Bool) → (if b then Some (record { name = []; system = s } ∷ []) else None) ≡ Some cs → Every (Later N s.next) (systems_of cs)
       at true k = let one : Case = record { name = []; system = s } in let g : one ∷ [] ≡ cs = cc in subst (λ (x : List Case). Every (Later N s.next) (systems_of x)) g ((n, le_refl s.next), tt)
       at false k = absurd cc
-  raw_numbered context r s contradiction cs e n = at (is_contradictory s) e
+  raw_numbered context r s contradiction cs e n = at (is_contradictory context.rules s) e
     where
       at : (b : Bool) → (if b then Some [] else None) ≡ Some cs → Every (Later N s.next) (systems_of cs)
       at true k = let none : List Case = [] in let g : none ≡ cs = cc in subst (λ (x : List Case). Every (Later N s.next) (systems_of x)) g tt
@@ -204,15 +205,15 @@ module _ (N : Names) (right : UnifierIsRight) (theory : Theory) (good : HaveNorm
   raw_numbered context r s (premise i p) cs e n = premise_numbered N right theory good keeps rules_numbered rules_plain s n i p cs (by_premise_rules context r s i p cs e)
 
   raw_covers : (context : Context) → context.rules ≡ rules_of theory → (s : System) (move : Move) (cs : List Case) → raw_cases context s move ≡ Some cs → (move ≡ unproved → ⊥) → (move ≡ solved → ⊥) → IsNumbered N s → Covers theory s (systems_of cs)
-  raw_covers context r s simplify cs e not_open not_end n = at (has_place s) e
+  raw_covers context r s simplify cs e not_open not_end n = at (has_place context.rules s) e
     where
       at : (b : Bool) → (if b then Some (record { name = []; system = s } ∷ []) else None) ≡ Some cs → Covers theory s (systems_of cs)
       at true k = let one : Case = record { name = []; system = s } in let g : one ∷ [] ≡ cs = cc in subst (λ (x : List Case). Covers theory s (systems_of x)) g (covers_itself theory s)
       at false k = absurd cc
-  raw_covers context r s contradiction cs e not_open not_end n = at (is_contradictory s) refl e
+  raw_covers context r s contradiction cs e not_open not_end n = at (is_contradictory context.rules s) refl e
     where
-      at : (b : Bool) → is_contradictory s ≡ b → (if b then Some [] else None) ≡ Some cs → Covers theory s (systems_of cs)
-      at true c k = record { covers = λ log is v h none. no_solution N right theory good keeps rules_plain rules_closed over equal_truth s c n log is v h }
+      at : (b : Bool) → is_contradictory context.rules s ≡ b → (if b then Some [] else None) ≡ Some cs → Covers theory s (systems_of cs)
+      at true c k = record { covers = λ log is v h none. no_solution N right theory good keeps rules_plain rules_closed over equal_truth context.rules s c n log is v h }
       at false c k = absurd cc
   raw_covers context r s unproved cs e not_open not_end n = absurd (not_open refl)
   raw_covers context r s solved cs e not_open not_end n = absurd (not_end refl)
@@ -228,16 +229,16 @@ module _ (right : UnifierIsRight) (theory : Theory) (good : HaveNormalForms (sig
     abbrev N : Names
     N = names_in context.public_names
 
-    simple_follows : (s : System) → IsNumbered N s → IsKept context s (simplified s) × Covers theory s (simplified s ∷ [])
+    simple_follows : (s : System) → IsNumbered N s → IsKept context s (simplified context.rules s) × Covers theory s (simplified context.rules s ∷ [])
     simple_follows s n = simplified_follows theory (rows_cover right theory good keeps rules_plain rules_closed over equal_truth) context is_of 10000 s (record { numbered = n })
 
-    simple_kept : (s : System) (cs : List Case) → Every (Later N s.next) (systems_of cs) → Every (IsKept context s) (systems_of (map simple_case cs))
+    simple_kept : (s : System) (cs : List Case) → Every (Later N s.next) (systems_of cs) → Every (IsKept context s) (systems_of (map (simple_case context.rules) cs))
     simple_kept s [] h = tt
     simple_kept s (c ∷ cs) h =
         let f = simple_follows c.system h.0.0 in
         (record { well_made = f.0.well_made; next = le_trans h.0.1 f.0.next }, simple_kept s cs h.1)
 
-    simple_solved : (log : Log) → IsLog theory log → (n : ℕ) (v : Valuation) (cs : List Case) → Every (Later N n) (systems_of cs) → NoneSolved theory log v n (systems_of (map simple_case cs)) → NoneSolved theory log v n (systems_of cs)
+    simple_solved : (log : Log) → IsLog theory log → (n : ℕ) (v : Valuation) (cs : List Case) → Every (Later N n) (systems_of cs) → NoneSolved theory log v n (systems_of (map (simple_case context.rules) cs)) → NoneSolved theory log v n (systems_of cs)
     simple_solved log is n v [] h none = tt
     simple_solved log is n v (c ∷ cs) h none =
         let f = simple_follows c.system h.0.0 in
@@ -245,12 +246,12 @@ module _ (right : UnifierIsRight) (theory : Theory) (good : HaveNormalForms (sig
 
     move_kept : (s : System) (move : Move) (cs : List Case) → cases context s move ≡ Some cs → IsWellMade context s → Every (IsKept context s) (systems_of cs)
     move_kept s move cs e made =
-        let r = mapped (map simple_case) (raw_cases context s move) cs e in
+        let r = mapped (map (simple_case context.rules)) (raw_cases context s move) cs e in
         subst (λ (x : List Case). Every (IsKept context s) (systems_of x)) (sym r.2) (simple_kept s r.0 (raw_numbered N right theory good keeps is_of.numbered rules_plain rules_closed over equal_truth context is_of.rules s move r.0 r.1 made.numbered))
 
     move_covers : (s : System) (move : Move) (cs : List Case) → cases context s move ≡ Some cs → (move ≡ unproved → ⊥) → (move ≡ solved → ⊥) → IsWellMade context s → Covers theory s (systems_of cs)
     move_covers s move cs e not_open not_end made =
-        let r = mapped (map simple_case) (raw_cases context s move) cs e in
+        let r = mapped (map (simple_case context.rules)) (raw_cases context s move) cs e in
         let raw = raw_covers N right theory good keeps is_of.numbered rules_plain rules_closed over equal_truth context is_of.rules s move r.0 r.1 not_open not_end made.numbered in
         let num = raw_numbered N right theory good keeps is_of.numbered rules_plain rules_closed over equal_truth context is_of.rules s move r.0 r.1 made.numbered in
         subst (λ (x : List Case). Covers theory s (systems_of x)) (sym r.2)

@@ -8,6 +8,7 @@ use Rattle.sp_spec.specs.Theory.{Theory, signature_of}
 use Rattle.sp_spec.specs.Log.{Log}
 use Rattle.sp_law_equal.specs.NormalForms.{HaveNormalForms, KeepSymbols}
 use Rattle.sp_spec_system.specs.System.{System}
+use Rattle.sp_spec_system.specs.Rules.{Rules}
 use Rattle.sp_spec_system.specs.Solutions.{Valuation}
 use Rattle.sp_spec_system.specs.Numbered.{names_in, IsNumbered}
 use Rattle.sp_spec_system.specs.Covering.{Agrees, NoneSolved, Covers}
@@ -24,7 +25,7 @@ use Rattle.sp_spec_formula.specs.Equate.{fails_to_equate}
 use Rattle.sp_spec_graph.specs.LinearOnce.{fails_to_link}
 use Rattle.sp_spec_graph.specs.FreshOnce.{fails_to_merge}
 use Rattle.sp_spec_system.specs.Move.{Context}
-use Rattle.sp_law_system.specs.Rules.{InstancesAreOver, RulesArePlain, IsClosedRule}
+use Rattle.sp_law_system.specs.Rules.{InstancesAreOver, IsClosedRule}
 use Rattle.sp_law_system.specs.Proofs.{HasNoSolution, IsContextOf, IsWellMade, IsKept}
 use Rattle.sp_law_cover.specs.Laws.{IsTurn, ContradictionsHold, RowsCover}
 use Rattle.sp_law_formula.proofs.Literals.{covers_by_itself, action_stands_covers, action_stands_numbered, unequal_covers, unequal_row_numbered, equal_pair_contradicts}
@@ -39,6 +40,7 @@ use Rattle.sp_law_graph.proofs.FreshOnce.{merge_contradicts, fr_twice_contradict
 use Rattle.sp_law_graph.proofs.FreshFirst.{fresh_first_covers, fresh_first_numbered}
 use Rattle.sp_law_formula.proofs.Opened.{EqualTruth, open_existential_covers}
 use Rattle.sp_law_formula.proofs.OpenedNumbers.{open_existential_numbered}
+use Rattle.sp_law_equal.specs.RightTheory.{RulesArePlain}
 
 -- one case after another
 pub covers_then : (theory : Theory) (s t : System) (cs : List System) → s.next ≤ t.next → Covers theory s (t ∷ []) → Covers theory t cs → Covers theory s cs
@@ -56,34 +58,34 @@ covers_itself theory s = covers_by_itself theory s s (λ log is v h. h)
 module _ (N : Names) (right : UnifierIsRight) (theory : Theory) (good : HaveNormalForms (signature_of theory).equations) (keeps : KeepSymbols (signature_of theory).symbols (signature_of theory).equations)
     (rules_plain : RulesArePlain (signature_of theory).equations theory.rules) (rules_closed : Every IsClosedRule theory.rules)
     (over : InstancesAreOver theory) (equal_truth : EqualTruth) where
-  row_numbered : (row : Row) (s t : System) → by_row row s ≡ Some t → IsNumbered N s → IsNumbered N t × (s.next ≤ t.next)
-  row_numbered row_split s t e n = split_numbered s t e n
-  row_numbered row_open s t e n = open_existential_numbered s t e n
-  row_numbered row_equate s t e n = equate_numbered N right s t e n
-  row_numbered row_unequal s t e n = unequal_row_numbered s t e n
-  row_numbered row_order s t e n = in_order_numbered s t e n
-  row_numbered row_action_stands s t e n = action_stands_numbered s t e n
-  row_numbered row_disjunction s t e n = disjunction_numbered s t e n
-  row_numbered row_linear_once s t e n = linear_once_numbered N right theory s t e n
-  row_numbered row_fresh_once s t e n = fresh_once_numbered N right theory s t e n
-  row_numbered row_fresh_first s t e n = fresh_first_numbered s t e n
-  row_numbered row_instantiate s t e n = instantiate_numbered s t e n
+  row_numbered : (rules : Rules) (row : Row) (s t : System) → by_row rules row s ≡ Some t → IsNumbered N s → IsNumbered N t × (s.next ≤ t.next)
+  row_numbered rules row_split s t e n = split_numbered s t e n
+  row_numbered rules row_open s t e n = open_existential_numbered s t e n
+  row_numbered rules row_equate s t e n = equate_numbered N right s t e n
+  row_numbered rules row_unequal s t e n = unequal_row_numbered s t e n
+  row_numbered rules row_order s t e n = in_order_numbered s t e n
+  row_numbered rules row_action_stands s t e n = action_stands_numbered s t e n
+  row_numbered rules row_disjunction s t e n = disjunction_numbered s t e n
+  row_numbered rules row_linear_once s t e n = linear_once_numbered N right theory s t e n
+  row_numbered rules row_fresh_once s t e n = fresh_once_numbered N right theory s t e n
+  row_numbered rules row_fresh_first s t e n = fresh_first_numbered s t e n
+  row_numbered rules row_instantiate s t e n = instantiate_numbered s t e n
 
-  row_covers : (row : Row) (s t : System) → by_row row s ≡ Some t → IsNumbered N s → Covers theory s (t ∷ [])
-  row_covers row_split s t e n = split_covers theory s t e
-  row_covers row_open s t e n = open_existential_covers N theory good keeps equal_truth s t e n
-  row_covers row_equate s t e n = equate_covers N right theory good s t e n
-  row_covers row_unequal s t e n = unequal_covers theory s t e
-  row_covers row_order s t e n = in_order_covers theory s t e
-  row_covers row_action_stands s t e n = action_stands_covers theory s t e
-  row_covers row_disjunction s t e n = disjunction_covers theory s t e
-  row_covers row_linear_once s t e n = linear_once_covers N right theory s t e n
-  row_covers row_fresh_once s t e n = fresh_once_covers N right theory s t e n
-  row_covers row_fresh_first s t e n = fresh_first_covers theory good rules_plain rules_closed s t e
-  row_covers row_instantiate s t e n = instantiate_covers theory good keeps over s t e n
+  row_covers : (rules : Rules) (row : Row) (s t : System) → by_row rules row s ≡ Some t → IsNumbered N s → Covers theory s (t ∷ [])
+  row_covers rules row_split s t e n = split_covers theory s t e
+  row_covers rules row_open s t e n = open_existential_covers N theory good keeps equal_truth s t e n
+  row_covers rules row_equate s t e n = equate_covers N right theory good s t e n
+  row_covers rules row_unequal s t e n = unequal_covers theory s t e
+  row_covers rules row_order s t e n = in_order_covers theory s t e
+  row_covers rules row_action_stands s t e n = action_stands_covers theory s t e
+  row_covers rules row_disjunction s t e n = disjunction_covers theory s t e
+  row_covers rules row_linear_once s t e n = linear_once_covers N right theory s t e n
+  row_covers rules row_fresh_once s t e n = fresh_once_covers N right theory s t e n
+  row_covers rules row_fresh_first s t e n = fresh_first_covers theory good rules_plain rules_closed s t e
+  row_covers rules row_instantiate s t e n = instantiate_covers theory good keeps over s t e n
 
-  pub no_solution : (s : System) → is_contradictory s ≡ true → IsNumbered N s → HasNoSolution theory s
-  no_solution s e n log is v h =
+  pub no_solution : (rules : Rules) (s : System) → is_contradictory rules s ≡ true → IsNumbered N s → HasNoSolution theory s
+  no_solution rules s e n log is v h =
       either (has_falsity s.formulas) _ (λ k. some_falsity_contradicts theory log v s.formulas k h.formulas)
       (λ a. either (has_equal_pair s.unequal) _ (λ k. equal_pair_contradicts theory v s.unequal k h.unequal)
       (λ b. either (has_refuted s.order s.formulas) _ (λ k. some_refuted_contradicts log v s.order h.order theory s.formulas k h.formulas)
@@ -103,35 +105,35 @@ module _ (right : UnifierIsRight) (theory : Theory) (good : HaveNormalForms (sig
   pub rows_cover : RowsCover theory
   rows_cover = record {
     kept = λ context is_of row s t turn made.
-        let r = row_numbered (names_in context.public_names) right theory good keeps rules_plain rules_closed over equal_truth row s t turn.gives made.numbered in
+        let r = row_numbered (names_in context.public_names) right theory good keeps rules_plain rules_closed over equal_truth context.rules row s t turn.gives made.numbered in
         record { well_made = record { numbered = r.0 }; next = r.1 };
     covers = λ context is_of row s t turn made.
-        row_covers (names_in context.public_names) right theory good keeps rules_plain rules_closed over equal_truth row s t turn.gives made.numbered;
+        row_covers (names_in context.public_names) right theory good keeps rules_plain rules_closed over equal_truth context.rules row s t turn.gives made.numbered;
   }
 
   pub contradictions_hold : ContradictionsHold theory
   contradictions_hold = record {
     no_solution = λ context is_of s e made.
-        no_solution (names_in context.public_names) right theory good keeps rules_plain rules_closed over equal_truth s e made.numbered;
+        no_solution (names_in context.public_names) right theory good keeps rules_plain rules_closed over equal_truth context.rules s e made.numbered;
   }
 
 -- rows that give nothing, and one more
-nothing_more : (earlier : List Row) (row : Row) (s : System) → by_rows earlier s ≡ None → by_row row s ≡ None → by_rows (earlier ++ row ∷ []) s ≡ None
-nothing_more [] row s e k = ap (λ (o : Option System). first_of o None) k
-nothing_more (r ∷ earlier) row s e k = at (by_row r s) refl e (λ l. nothing_more earlier row s l k)
+nothing_more : (rules : Rules) (earlier : List Row) (row : Row) (s : System) → by_rows rules earlier s ≡ None → by_row rules row s ≡ None → by_rows rules (earlier ++ row ∷ []) s ≡ None
+nothing_more rules [] row s e k = ap (λ (o : Option System). first_of o None) k
+nothing_more rules (r ∷ earlier) row s e k = at (by_row rules r s) refl e (λ l. nothing_more rules earlier row s l k)
   where
-    at : (o : Option System) → by_row r s ≡ o → first_of o (by_rows earlier s) ≡ None → (by_rows earlier s ≡ None → by_rows (earlier ++ row ∷ []) s ≡ None)
-        → first_of o (by_rows (earlier ++ row ∷ []) s) ≡ None
+    at : (o : Option System) → by_row rules r s ≡ o → first_of o (by_rows rules earlier s) ≡ None → (by_rows rules earlier s ≡ None → by_rows rules (earlier ++ row ∷ []) s ≡ None)
+        → first_of o (by_rows rules (earlier ++ row ∷ []) s) ≡ None
     at (Some t) h l later = absurd cc
     at None h l later = later l
 
 -- the turn of the first row that applies, with the rows that have been tried by then
-turn_from : (s t : System) → is_contradictory s ≡ false → (earlier list : List Row) → rows ≡ earlier ++ list → by_rows earlier s ≡ None → by_rows list s ≡ Some t → (row : Row) × IsTurn s row t
-turn_from s t quiet earlier [] place nothing e = absurd cc
-turn_from s t quiet earlier (row ∷ list) place nothing e =
-    at (by_row row s) refl e (λ k l. turn_from s t quiet (earlier ++ row ∷ []) list (place ∙ sym (append_assoc earlier (row ∷ []) list)) (nothing_more earlier row s nothing k) l)
+turn_from : (rules : Rules) (s t : System) → is_contradictory rules s ≡ false → (earlier list : List Row) → rows ≡ earlier ++ list → by_rows rules earlier s ≡ None → by_rows rules list s ≡ Some t → (row : Row) × IsTurn rules s row t
+turn_from rules s t quiet earlier [] place nothing e = absurd cc
+turn_from rules s t quiet earlier (row ∷ list) place nothing e =
+    at (by_row rules row s) refl e (λ k l. turn_from rules s t quiet (earlier ++ row ∷ []) list (place ∙ sym (append_assoc earlier (row ∷ []) list)) (nothing_more rules earlier row s nothing k) l)
   where
-    at : (o : Option System) → by_row row s ≡ o → first_of o (by_rows list s) ≡ Some t → (by_row row s ≡ None → by_rows list s ≡ Some t → (r : Row) × IsTurn s r t) → (r : Row) × IsTurn s r t
+    at : (o : Option System) → by_row rules row s ≡ o → first_of o (by_rows rules list s) ≡ Some t → (by_row rules row s ≡ None → by_rows rules list s ≡ Some t → (r : Row) × IsTurn rules s r t) → (r : Row) × IsTurn rules s r t
     at (Some u) h k later =
         let g : u ≡ t = cc in
         (row, record { quiet = quiet; earlier = earlier; later = list; place = place; nothing = nothing; gives = h ∙ ap (λ (x : System). Some x) g })
@@ -144,18 +146,18 @@ module _ (theory : Theory) (covering : RowsCover theory) (context : Context) (is
   stays : (s : System) → IsWellMade context s → Follows s s
   stays s made = (record { well_made = made; next = le_refl s.next }, covers_itself theory s)
 
-  pub simplified_follows : (fuel : ℕ) (s : System) → IsWellMade context s → Follows s (simplified_by fuel s)
+  pub simplified_follows : (fuel : ℕ) (s : System) → IsWellMade context s → Follows s (simplified_by context.rules fuel s)
   unfolding simplified_by
   simplified_follows zero s made = stays s made
-  simplified_follows (suc fuel) s made = at (is_contradictory s) (by_rows rows s) refl refl (λ t k. simplified_follows fuel t k)
+  simplified_follows (suc fuel) s made = at (is_contradictory context.rules s) (by_rows context.rules rows s) refl refl (λ t k. simplified_follows fuel t k)
     where
-      at : (b : Bool) (o : Option System) → is_contradictory s ≡ b → by_rows rows s ≡ o → ((t : System) → IsWellMade context t → Follows t (simplified_by fuel t)) → Follows s (goes_on b o (simplified_by fuel) s)
+      at : (b : Bool) (o : Option System) → is_contradictory context.rules s ≡ b → by_rows context.rules rows s ≡ o → ((t : System) → IsWellMade context t → Follows t (simplified_by context.rules fuel t)) → Follows s (goes_on b o (simplified_by context.rules fuel) s)
       at true o quiet h later = stays s made
       at false None quiet h later = stays s made
       at false (Some t) quiet h later =
-          let turn = turn_from s t quiet [] rows refl refl h in
+          let turn = turn_from context.rules s t quiet [] rows refl refl h in
           let kept = covering.kept context is_of turn.0 s t turn.1 made in
           let g = later t kept.well_made in (
             record { well_made = g.0.well_made; next = le_trans kept.next g.0.next },
-            covers_then theory s t (simplified_by fuel t ∷ []) kept.next (covering.covers context is_of turn.0 s t turn.1 made) g.1,
+            covers_then theory s t (simplified_by context.rules fuel t ∷ []) kept.next (covering.covers context is_of turn.0 s t turn.1 made) g.1,
           )

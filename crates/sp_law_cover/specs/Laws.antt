@@ -1,6 +1,7 @@
 -- What the written rules owe.
 use Rattle.std.specs.Prelude.{◌≡◌, false, List, Some, None, ◌∷◌, ◌++◌, true, []}
 use Rattle.sp_spec_system.specs.System.{System}
+use Rattle.sp_spec_system.specs.Rules.{Rules}
 use Rattle.sp_spec_proof.specs.Rows.{Row, rows, by_row, by_rows, is_contradictory}
 use Rattle.sp_spec.specs.Theory.{Theory}
 use Rattle.sp_spec_system.specs.Move.{Context, Move, unproved, solved, Case}
@@ -11,22 +12,22 @@ use Rattle.sp_spec_proof.specs.Cases.{cases}
 use Rattle.sp_law_system.specs.Rules.{IsPlainTheory}
 
 -- One turn of simplification: no contradiction is seen, the rows that stand before this one give nothing, and this one gives the system.
-pub record IsTurn (s : System) (row : Row) (t : System) : Type 0 where
-  pub quiet : is_contradictory s ≡ false
+pub record IsTurn (rules : Rules) (s : System) (row : Row) (t : System) : Type 0 where
+  pub quiet : is_contradictory rules s ≡ false
   pub earlier : List Row
   pub later : List Row
   pub place : rows ≡ earlier ++ row ∷ later
-  pub nothing : by_rows earlier s ≡ None
-  pub gives : by_row row s ≡ Some t
+  pub nothing : by_rows rules earlier s ≡ None
+  pub gives : by_row rules row s ≡ Some t
 
 -- a contradiction stands only where there is no solution
 pub record ContradictionsHold (theory : Theory) : Type 0 where
-  pub no_solution : (context : Context) → IsContextOf theory context → (s : System) → is_contradictory s ≡ true → IsWellMade context s → HasNoSolution theory s
+  pub no_solution : (context : Context) → IsContextOf theory context → (s : System) → is_contradictory context.rules s ≡ true → IsWellMade context s → HasNoSolution theory s
 
 -- an elementary move keeps what systems fulfil, and covers: in its turn, not each by itself
 pub record RowsCover (theory : Theory) : Type 0 where
-  pub kept : (context : Context) → IsContextOf theory context → (row : Row) (s t : System) → IsTurn s row t → IsWellMade context s → IsKept context s t
-  pub covers : (context : Context) → IsContextOf theory context → (row : Row) (s t : System) → IsTurn s row t → IsWellMade context s → Covers theory s (t ∷ [])
+  pub kept : (context : Context) → IsContextOf theory context → (row : Row) (s t : System) → IsTurn context.rules s row t → IsWellMade context s → IsKept context s t
+  pub covers : (context : Context) → IsContextOf theory context → (row : Row) (s t : System) → IsTurn context.rules s row t → IsWellMade context s → Covers theory s (t ∷ [])
 
 -- So does each move with all its cases, but for an open leaf and for one with which the search ends.
 pub record MovesCover (theory : Theory) : Type 0 where

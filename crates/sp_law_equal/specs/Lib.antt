@@ -5,4 +5,6 @@ pub mod SubtermRules
 pub mod Normal
 pub mod NormalForms
 pub mod Pointwise
+pub mod Right
+pub mod RightTheory
 pub mod Laws

@@ -1,7 +1,7 @@
 -- Equations over which each term has one normal form.
 use Rattle.std.specs.Prelude.{◌≡◌, ◌↔◌, List}
 use Rattle.sp_spec.specs.Term.{Ground}
-use Rattle.sp_spec.specs.Signature.{Symbol, Equation, IsOver}
+use Rattle.sp_spec.specs.Signature.{Symbol, Equation, Signature, IsOver}
 use Rattle.sp_spec.specs.Equal.{Equal, IsNormal}
 use Rattle.sp_law_equal.specs.Normal.{normal}
 
@@ -15,3 +15,8 @@ pub record HaveNormalForms (es : List Equation) : Type 0 where
 -- and it brings in no symbols
 pub record KeepSymbols (symbols : List Symbol) (es : List Equation) : Type 0 where
   pub kept : (t : Ground) → IsOver symbols t → IsOver symbols (normal es t)
+
+-- each term has one normal form, and that of a term over the signature is over it
+pub record HasNormalForms (signature : Signature) : Type 0 where
+  pub normal_forms : HaveNormalForms signature.equations
+  pub keeps : KeepSymbols signature.symbols signature.equations

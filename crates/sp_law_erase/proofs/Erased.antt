@@ -1,6 +1,6 @@
--- An execution of a theory that needs no adversary has a log of steps alone, which shows its trace.
+-- An execution of a theory that leaves the adversary alone has a log of steps alone, which shows its trace.
 use Rattle.std.proofs.Common.{◌≡◌, ⊎_elim, inl, inr, ℕ, List, [], ◌∷◌, ◌++◌, refl, sym, ap, ◌∙◌, subst}
-use Rattle.sp_spec.specs.Lists.{Member, Distinct}
+use Rattle.sp_spec.specs.Lists.{Member, Every, Distinct}
 use Rattle.sp_spec.specs.Term.{name, app, Ground}
 use Rattle.sp_spec.specs.Rule.{Fact, Action, Facts, facts_at, fr, in_of, out_of, knows, sends}
 use Rattle.sp_spec.specs.Theory.{Theory, signature_of}
@@ -9,7 +9,7 @@ use Rattle.sp_spec.specs.Log.{fresh_rule, Log, fresh_of, all_fresh_uses, linear_
 use Rattle.sp_law_truth.specs.Same.{EqualTraces}
 use Rattle.sp_law_truth.specs.Shown.{without_empty}
 use Rattle.sp_law_erase.specs.Traces.{without_sends}
-use Rattle.sp_law_erase.specs.Adversary.{adversary_facts, NeedsNoAdversary}
+use Rattle.sp_law_equal.specs.RightTheory.{adversary_facts, MakesNoFr, LeavesAdversaryAlone}
 use Rattle.sp_law_equal.specs.NormalForms.{HaveNormalForms}
 use Rattle.sp_law_erase.specs.Laws.{ErasesTo}
 use Rattle.sp_law_erase.proofs.Rearranged.{keeps_distinct, keeps_rest}
@@ -59,7 +59,7 @@ module _ (theory : Theory) where
       erases = old.erases;
     }
 
-  module _ (good : HaveNormalForms (signature_of theory).equations) (needs : NeedsNoAdversary theory) where
+  module _ (good : HaveNormalForms (signature_of theory).equations) (alone : LeavesAdversaryAlone theory) (makes : Every MakesNoFr theory.rules) where
     -- with the facts and the names of a state
     abbrev ErasedAt : State → Trace → Type 0
     ErasedAt state trace = (log : Log) × Erased theory state.facts state.made trace log
@@ -97,7 +97,7 @@ module _ (theory : Theory) where
         let takes = subst (λ (fs : Facts ⊥). Takes (signature_of theory).equations fs.premises before.facts l.rest) is l.takes in
         let used = facts_at l.values r.facts in
         let t = taken (signature_of theory).equations old.0 used.premises before.facts old.1.origins l.rest old.1.have_origins takes in
-        let one = rule_step theory good needs r l.is_instance.1 l.values l.sorts old.0 before.facts l.rest before.made earlier old.1 t in
+        let one = rule_step theory good alone makes r l.is_instance.1 l.values l.sorts old.0 before.facts l.rest before.made earlier old.1 t in
         subst (λ (fs : Facts ⊥). ErasedAt (added (use_rule called given) fs before l.rest) (with_entry fs.actions earlier)) (sym is) (_, one)
     next (take_out t) before after earlier facts l old =
         (old.0, by_adversary before earlier facts l.rest old l.takes (out_of t ∷ []) [] (knows t) (inr (inr (inl refl))) l.is_instance refl)

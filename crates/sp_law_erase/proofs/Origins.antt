@@ -10,7 +10,7 @@ use Rattle.sp_spec.specs.Execution.{Takes}
 use Rattle.sp_spec.specs.Log.{Source, fresh_rule, conclusion, Entry, Log, Concludes, is_fr, first_arg, fresh_of, linear_sources}
 use Rattle.sp_law_equal.specs.Normal.{normal_fact}
 use Rattle.sp_law_equal.specs.Pointwise.{EachWith}
-use Rattle.sp_law_erase.specs.Adversary.{adversary_facts}
+use Rattle.sp_law_equal.specs.RightTheory.{adversary_facts}
 use Rattle.sp_law_erase.proofs.Rearranged.{Keeps, keeps_same, keeps_then, keeps_behind, keeps_moved}
 
 -- a linear source, if the fact has one, and the name of a fresh fact: what a fact adds to those of a state

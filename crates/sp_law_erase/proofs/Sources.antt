@@ -12,7 +12,7 @@ use Rattle.sp_law_equal.proofs.Pairs.{names_apart}
 use Rattle.sp_law_equal.specs.Normal.{normal_fact, normal_action}
 use Rattle.sp_law_equal.proofs.Forms.{to_normal_all}
 use Rattle.sp_law_equal.specs.Pointwise.{EachWith}
-use Rattle.sp_law_erase.specs.Adversary.{adversary_facts}
+use Rattle.sp_law_equal.specs.RightTheory.{adversary_facts}
 use Rattle.sp_law_erase.proofs.Origins.{source_share, fresh_share, linear_cons, HasOrigin, HaveOrigins}
 
 -- none of the adversary's facts is named Fr

@@ -8,13 +8,14 @@ use Rattle.sp_spec.specs.Rule.{Fact, Facts, Rule, fact_at, facts_at, SameFact}
 use Rattle.sp_spec.specs.Theory.{Theory, signature_of}
 use Rattle.sp_spec.specs.Execution.{Trace, with_entry}
 use Rattle.sp_spec.specs.Log.{Source, Entry, step, Log, fresh_of, all_fresh_uses, linear_sources, all_sources, HasSources, IsLog, log_trace}
-use Rattle.sp_spec.proofs.Lists.{member_either, distinct_right, place_map, every_map}
+use Rattle.sp_spec.proofs.Logs.{step_keeps}
+use Rattle.sp_spec.proofs.Lists.{member_either, distinct_right, place_map, every_map, every_member}
 use Rattle.sp_law_equal.specs.NormalForms.{HaveNormalForms}
 use Rattle.sp_law_equal.specs.Normal.{normal_fact, normal_facts}
 use Rattle.sp_law_equal.proofs.Facts.{facts_normal_form, normal_facts_same}
 use Rattle.sp_law_equal.specs.Pointwise.{EachWith}
 use Rattle.sp_law_truth.specs.Shown.{without_empty}
-use Rattle.sp_law_erase.specs.Adversary.{adversary_facts, NeedsNoAdversary}
+use Rattle.sp_law_equal.specs.RightTheory.{adversary_facts, MakesNoFr, LeavesAdversaryAlone}
 use Rattle.sp_law_erase.specs.Laws.{ErasesTo}
 use Rattle.sp_law_erase.proofs.Rearranged.{Keeps, keeps_distinct, keeps_used}
 use Rattle.sp_law_erase.proofs.Origins.{fresh_append, HaveOrigins, Taken, have_append, linear_append}
@@ -49,7 +50,7 @@ module _ (theory : Theory) where
     pub erases : ErasesTo theory trace log
 
   -- the step of a rule, where these were taken for its premises
-  module _ (good : HaveNormalForms (signature_of theory).equations) (needs : NeedsNoAdversary theory)
+  module _ (good : HaveNormalForms (signature_of theory).equations) (alone : LeavesAdversaryAlone theory) (makes : Every MakesNoFr theory.rules)
       (r : Rule) (member : Member r theory.rules) (v : Values) (valuation : IsValuation (signature_of theory) v) where
     abbrev used : Facts ⊥
     used = facts_at v r.facts
@@ -66,10 +67,10 @@ module _ (theory : Theory) where
       new_origins = numbered (length log) zero used.conclusions
 
       own : Every (λ (f : Fact ⊥). Member f.symbol adversary_facts → ⊥) t.founds
-      own = own_founds (signature_of theory).equations v r.facts.premises t.founds (needs.premises r member) t.same
+      own = own_founds (signature_of theory).equations v r.facts.premises t.founds (alone.premises r member) t.same
 
       apart : Every (λ (f : Fact ⊥). f.symbol ≡ codes "Fr" → ⊥) used.conclusions
-      apart = every_map _ _ (fact_at v) (λ f h. h) r.facts.conclusions (needs.conclusions r member)
+      apart = every_map _ _ (fact_at v) (λ f h. h) r.facts.conclusions (every_member MakesNoFr theory.rules r member makes)
 
       premises_are : map (normal_fact (signature_of theory).equations) t.founds ≡ shown.premises
       premises_are = sym (normal_facts_same (signature_of theory).equations good used.premises t.founds t.same)
@@ -138,9 +139,9 @@ module _ (theory : Theory) where
       new_log : IsLog theory (entry ∷ log)
       new_log = (
         old.erases.is_log,
-        ((r, member, refl, v, valuation, facts_normal_form (signature_of theory).equations good used), step_sources),
-        distinct_right (fresh_of rest) (all_fresh_uses (entry ∷ log)) fresh_left,
-        distinct_right (linear_sources rest t.left) (all_sources (entry ∷ log)) once_left,
+        step_keeps theory log r.name shown t.sources (r, member, refl, v, valuation, facts_normal_form (signature_of theory).equations good used) step_sources
+            (distinct_right (linear_sources rest t.left) (all_sources (entry ∷ log)) once_left)
+            (distinct_right (fresh_of rest) (all_fresh_uses (entry ∷ log)) fresh_left),
       )
 
       pub rule_step : Erased (used.conclusions ++ rest) made (with_entry used.actions earlier) (entry ∷ log)
@@ -159,6 +160,6 @@ module _ (theory : Theory) where
           steps_alone = (tt, old.erases.steps_alone);
           same_trace =
               shown_step (signature_of theory).equations used.actions earlier (without_empty (log_trace log))
-              (own_actions v r.facts.actions (needs.actions r member)) old.erases.same_trace;
+              (own_actions v r.facts.actions (alone.actions r member)) old.erases.same_trace;
         };
       }

@@ -25,13 +25,14 @@ use Rattle.sp_spec_system.specs.Formulas.{freed_action}
 use Rattle.sp_spec_system.specs.MakingOne.{event_at}
 use Rattle.sp_spec_system.specs.Cases.{renamed, named}
 use Rattle.sp_spec_formula.specs.Action.{with_step, by_actions, by_each, is_adversary, by_forms}
-use Rattle.sp_law_system.specs.Rules.{RulesAreNumbered, RulesArePlain}
+use Rattle.sp_law_system.specs.Rules.{RulesAreNumbered}
 use Rattle.sp_law_system.specs.Proofs.{systems_of}
 use Rattle.sp_law_formula.proofs.Freed.{freed_action_value}
 use Rattle.sp_law_formula.proofs.Learnt.{entry_normal}
 use Rattle.sp_law_formula.proofs.Entries.{traced, happened, entry_is_step, step_action_normal, same_normal_action, plain_step, beside, beside_agrees}
 use Rattle.sp_law_formula.proofs.Actions.{named_systems, systems_append, by_actions_solved, step_numbered, step_solved}
 use Rattle.sp_spec_system.specs.Rules.{RuleForms, forms_of}
+use Rattle.sp_law_equal.specs.RightTheory.{RulesArePlain}
 
 pub event_found : (i : ℕ) (es : List Event) (e : Event) → event_at i es ≡ Some e → Member e es × (e.time ≡ i)
 event_found i [] e h = absurd cc

@@ -3,11 +3,12 @@ use Rattle.std.proofs.Common.{◌≡◌, ◌+◌, ◌-◌, ℕ, suc, Bool, true,
 use Rattle.std.proofs.lemmas.Bool.{ltb-true}
 use Rattle.sp_spec.specs.Lists.{Member, AtPosition}
 use Rattle.sp_spec.specs.Term.{Sort, Variable, Ground, Grounds, Values, valued}
-use Rattle.sp_spec.specs.Signature.{Equation, IsValuation}
+use Rattle.sp_spec.specs.Signature.{Equation}
 use Rattle.sp_spec.specs.Equal.{AreNormal}
-use Rattle.sp_spec.specs.Rule.{Fact, Action, Facts, Rule, fact_at, action_at, facts_at, SameAction, AreNormalActions, IsNormalFormOf}
+use Rattle.sp_spec.specs.Rule.{Fact, Action, Facts, fact_at, action_at, facts_at, SameAction, AreNormalActions, IsNormalFormOf}
 use Rattle.sp_spec.specs.Theory.{Theory, signature_of}
-use Rattle.sp_spec.specs.Log.{Log, Entry, step, send, learn, Source, entry_actions, log_trace, Fits, IsLog}
+use Rattle.sp_spec.specs.Log.{Log, Entry, step, send, learn, Source, entry_actions, log_trace, IsRuleInstance, rule_instance, IsLog}
+use Rattle.sp_spec.proofs.Logs.{entry_behind}
 use Rattle.sp_spec.proofs.Facts.{made_facts}
 use Rattle.sp_law_equal.specs.NormalForms.{HaveNormalForms}
 use Rattle.sp_law_equal.specs.Normal.{normal_fact, normal_action}
@@ -17,7 +18,7 @@ use Rattle.sp_law_equal.proofs.Facts.{facts_normal_form_only}
 use Rattle.sp_spec_system.specs.System.{Happening, rule_step, sending, learning, happening_actions}
 use Rattle.sp_spec_system.specs.Solutions.{Valuation, how_at, HappensAt}
 use Rattle.sp_spec_system.specs.Covering.{Agrees}
-use Rattle.sp_law_system.specs.Rules.{FactsArePlain}
+use Rattle.sp_law_equal.specs.RightTheory.{FactsArePlain}
 use Rattle.sp_law_equal.proofs.PlainFacts.{plain_facts, plain_actions}
 
 pub length_trace : (log : Log) → length (log_trace log) ≡ length log
@@ -36,15 +37,9 @@ happened log p v (rule_step r facts) k = (step r (facts_at v.terms facts) k.0, k
 happened log p v (sending m) k = (send (valued v.terms m), k, refl)
 happened log p v (learning m way) k = (learn (valued v.terms m) (how_at v way), k, refl)
 
--- the entry is an instance of a rule
-abbrev pub IsStepOf : Theory → List ℕ → Facts ⊥ → Type 0
-IsStepOf theory r facts =
-    (rule : Rule) × Member rule theory.rules × (rule.name ≡ r) × (v : Values) × IsValuation (signature_of theory) v × IsNormalFormOf (signature_of theory).equations (facts_at v rule.facts) facts
-
-pub entry_is_step : (theory : Theory) (log : Log) → IsLog theory log → (p : ℕ) (r : List ℕ) (facts : Facts ⊥) (sources : List Source) → AtPosition log p (step r facts sources) → IsStepOf theory r facts
-entry_is_step theory [] is p r facts sources a = absurd a
-entry_is_step theory (e ∷ log) is p r facts sources (inl a) = (subst (λ (x : Entry). Fits theory x log) a.1 is.1).0
-entry_is_step theory (e ∷ log) is p r facts sources (inr a) = entry_is_step theory log is.0 p r facts sources a
+-- a step of the log is an instance of a rule
+pub entry_is_step : (theory : Theory) (log : Log) → IsLog theory log → (p : ℕ) (r : List ℕ) (facts : Facts ⊥) (sources : List Source) → AtPosition log p (step r facts sources) → IsRuleInstance theory r facts
+entry_is_step theory log is p r facts sources a = (entry_behind theory log is p (step r facts sources) a).keeps rule_instance
 
 -- the actions of a normal form are normal
 normal_among : (es : List Equation) (xs ys : List (Action ⊥)) → AreNormalActions es xs ys → (b : Action ⊥) → Member b ys → AreNormal es b.args
@@ -54,7 +49,7 @@ normal_among es (x ∷ xs) [] h b m = absurd m
 normal_among es (x ∷ xs) (y ∷ ys) h b (inl m) = subst (λ (z : Action ⊥). AreNormal es z.args) m h.1.1
 normal_among es (x ∷ xs) (y ∷ ys) h b (inr m) = normal_among es xs ys h.2 b m
 
-pub step_action_normal : (theory : Theory) (r : List ℕ) (facts : Facts ⊥) → IsStepOf theory r facts → (b : Action ⊥) → Member b facts.actions → AreNormal (signature_of theory).equations b.args
+pub step_action_normal : (theory : Theory) (r : List ℕ) (facts : Facts ⊥) → IsRuleInstance theory r facts → (b : Action ⊥) → Member b facts.actions → AreNormal (signature_of theory).equations b.args
 step_action_normal theory r facts is b m = normal_among (signature_of theory).equations (facts_at is.3 is.0.facts).actions facts.actions is.5.actions b m
 
 -- two equal actions in normal form are the same

@@ -7,7 +7,7 @@ use Rattle.sp_spec.specs.Signature.{Equation, Symbol, HasPublic, HasSort, IsOver
 use Rattle.sp_spec.specs.Equal.{IsNormal, AreNormal}
 use Rattle.sp_spec.specs.Rule.{Fact, Action, Facts, facts_at, AreNormalFacts, AreNormalActions, out_of}
 use Rattle.sp_spec.specs.Theory.{Theory, signature_of}
-use Rattle.sp_spec.specs.Log.{Log, Entry, step, send, learn, How, public_name, own_name, constructed, by_chain, entry_actions, IsLog, Fits, MayLearn, IsLearnt, AreLearnt, IsDestructed, IsChain, StartsChain}
+use Rattle.sp_spec.specs.Log.{Log, Entry, step, send, learn, How, public_name, own_name, constructed, by_chain, entry_actions, IsLog, Keeps, IsRuleInstance, sent_is_learnt, way_of_learning, MayLearn, IsLearnt, AreLearnt, IsDestructed, IsChain, StartsChain}
 use Rattle.sp_spec.proofs.Sorts.{is_name}
 use Rattle.sp_law_equal.specs.NormalForms.{HaveNormalForms, KeepSymbols}
 use Rattle.sp_law_equal.specs.Normal.{normal_all}
@@ -15,13 +15,13 @@ use Rattle.sp_law_equal.proofs.Parts.{part_valued, part_keeps}
 use Rattle.sp_law_equal.proofs.Over.{normal_all_over}
 use Rattle.sp_law_equal.proofs.Values.{normal_forms_same}
 use Rattle.sp_law_system.specs.Rules.{InstancesAreOver}
-use Rattle.sp_law_formula.proofs.Entries.{IsStepOf, entry_is_step, step_action_normal}
+use Rattle.sp_law_formula.proofs.Entries.{entry_is_step, step_action_normal}
 use Rattle.sp_law_formula.proofs.Destructions.{gives_part}
 
 -- it holds of what steps show and conclude, of names, of what stands in that of which it holds, and of what is made of such
 pub record Lasts (theory : Theory) (P : Ground → Type 0) (Qs : Grounds → Type 0) : Type 0 where
-  pub shown : (r : List ℕ) (facts : Facts ⊥) → IsStepOf theory r facts → (b : Action ⊥) → Member b facts.actions → Qs b.args
-  pub concluded : (r : List ℕ) (facts : Facts ⊥) → IsStepOf theory r facts → (k : ℕ) (f : Fact ⊥) → AtPlace facts.conclusions k f → Qs f.args
+  pub shown : (r : List ℕ) (facts : Facts ⊥) → IsRuleInstance theory r facts → (b : Action ⊥) → Member b facts.actions → Qs b.args
+  pub concluded : (r : List ℕ) (facts : Facts ⊥) → IsRuleInstance theory r facts → (k : ℕ) (f : Fact ⊥) → AtPlace facts.conclusions k f → Qs f.args
   pub constants : (c : List ℕ) → P (constant c)
   pub names : (n : ℕ) → P (name n)
   pub applied : (f : List ℕ) (ts : Grounds) → HasPublic (signature_of theory).symbols f (count ts) → IsNormal (signature_of theory).equations (app f ts) → Qs ts → P (app f ts)
@@ -64,21 +64,20 @@ module _ (theory : Theory) (P : Ground → Type 0) (Qs : Grounds → Type 0) (l 
     may_be_learnt m own_name h = let n = is_name m h in subst P (sym n.1) (l.names n.0)
     may_be_learnt m constructed h = subst P (sym h.2) (l.applied h.0 h.1 h.3 (subst (IsNormal (signature_of theory).equations) h.2 h.5) (each_learnt h.1 h.4))
     may_be_learnt m (by_chain p k chain) h =
-        let out = h.4 in
-        let args = l.concluded h.0 h.1 (entry_is_step theory past is p h.0 h.1 h.2 h.3) k (out_of out.0) out.1 in
-        from_first past chain out.0 m out.2 (l.first out.0 none args)
+        let args = l.concluded h.0 h.1 (entry_is_step theory past is p h.0 h.1 h.2 h.3) k (out_of h.4) h.5 in
+        from_first past chain h.4 m h.6 (l.first h.4 none args)
 
   learnt : (log : Log) → IsLog theory log → (p : ℕ) (m : Ground) (how : How) → AtPosition log p (learn m how) → P m
   learnt [] is p m how a = absurd a
   learnt (e ∷ past) is p m how (inl a) =
-      let fits = subst (λ (x : Entry). Fits theory x past) a.1 is.1 in
-      may_be_learnt past is.0 (λ q t other b. learnt past is.0 q t other b) m how fits.1
+      let may = subst (λ (x : Entry). Keeps theory way_of_learning x past) a.1 (is.1 way_of_learning) in
+      may_be_learnt past is.0 (λ q t other b. learnt past is.0 q t other b) m how may
   learnt (e ∷ past) is p m how (inr a) = learnt past is.0 p m how a
 
   sent : (log : Log) → IsLog theory log → (p : ℕ) (m : Ground) → AtPosition log p (send m) → P m
   sent [] is p m a = absurd a
   sent (e ∷ past) is p m (inl a) =
-      let known : IsLearnt past m = subst (λ (x : Entry). Fits theory x past) a.1 is.1 in
+      let known : IsLearnt past m = subst (λ (x : Entry). Keeps theory sent_is_learnt x past) a.1 (is.1 sent_is_learnt) in
       let at = known.1 in
       learnt past is.0 known.0 m at.0 at.1
   sent (e ∷ past) is p m (inr a) = sent past is.0 p m a

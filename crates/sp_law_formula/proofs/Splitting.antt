@@ -11,8 +11,8 @@ use Rattle.sp_spec_system.specs.Solutions.{Valuation, assignment, FormulaHolds, 
 use Rattle.sp_spec_system.specs.Numbered.{InFormula, InEach, IsNumbered}
 use Rattle.sp_spec_system.specs.Covering.{Covers}
 use Rattle.sp_law_system.proofs.Solutions.{Under, TimeUnder}
-use Rattle.sp_spec_system.specs.Formulas.{first_formula, spending}
-use Rattle.sp_spec_formula.specs.Split.{parts_of, split_of, split, is_falsity, has_falsity}
+use Rattle.sp_spec_system.specs.Formulas.{first_formula, spending, parts_of}
+use Rattle.sp_spec_formula.specs.Split.{split_of, split, is_falsity, has_falsity}
 use Rattle.sp_spec.proofs.Options.{mapped}
 use Rattle.sp_law_formula.proofs.Literals.{covers_by_itself}
 use Rattle.sp_law_formula.proofs.Spending.{is_found, found_holds, spending_solves, spending_numbered}

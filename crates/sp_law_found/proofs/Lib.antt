@@ -5,3 +5,4 @@ pub mod Labels
 pub mod Premises
 pub mod FreshRuns
 pub mod Runs
+pub mod Rules

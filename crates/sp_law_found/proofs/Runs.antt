@@ -4,22 +4,22 @@ use Rattle.sp_spec.specs.Lists.{Member, Distinct, AtPlace, AtPosition}
 use Rattle.sp_spec.proofs.Lists.{every_member, member_left, member_right, distinct_apart, distinct_left}
 use Rattle.sp_spec.specs.Term.{Ground, Values}
 use Rattle.sp_spec.specs.Signature.{Equation, IsValuation}
-use Rattle.sp_spec.specs.Rule.{Fact, Facts, Rule, facts_at, IsNormalFormOf, Gives, OfArguments}
+use Rattle.sp_spec.specs.Rule.{Fact, Facts, Rule, facts_at, Gives}
 use Rattle.sp_spec.specs.Theory.{Theory, signature_of}
 use Rattle.sp_spec.specs.Execution.{use_rule, State, Takes, IsInstance, Leads, Runs, IsExecution}
-use Rattle.sp_spec.specs.Log.{Source, conclusion, Entry, step, send, learn, Log, Concludes, fresh_of, all_fresh_uses, linear_sources, all_sources, HasSources, IsLog, visible_trace}
-use Rattle.sp_law_equal.specs.Destructors.{ArePlain}
+use Rattle.sp_spec.specs.Log.{Source, conclusion, Entry, step, send, learn, Log, Concludes, fresh_of, all_fresh_uses, linear_sources, all_sources, HasSources, IsRuleInstance, rule_instance, premise_sources, fresh_names_once, IsLog, visible_trace}
 use Rattle.sp_law_equal.proofs.Forms.{normals}
 use Rattle.sp_law_run.proofs.Taking.{map_append}
 use Rattle.sp_law_erase.specs.Adversary.{HasStepsAlone}
 use Rattle.sp_law_found.specs.Found.{matched_instance, bound_or_any, given_of, given_by, fresh_steps, execution_of}
-use Rattle.sp_law_found.specs.Executable.{TakesFreshNames, IsExecutable}
+use Rattle.sp_law_found.specs.Executable.{IsExecutable}
 use Rattle.sp_law_found.proofs.Fitting.{instance_fits}
 use Rattle.sp_law_found.proofs.Given.{own_agree, own_valuation, given_gives, instance_gives}
 use Rattle.sp_law_found.proofs.Plain.{plain_instance, normal_valuation}
 use Rattle.sp_law_found.proofs.Labels.{Labelled, facts_in, labelled, labelled_facts, Taking, take_all}
 use Rattle.sp_law_found.proofs.Premises.{AreOfFresh, of_fresh, fresh_sorts, linear_member, premises_apart, HasConclusions, premises_there}
 use Rattle.sp_law_found.proofs.FreshRuns.{state_of, with_fresh, with_made, fresh_keeps, fresh_there, made_either, run_fresh}
+use Rattle.sp_law_equal.specs.RightTheory.{FactsArePlain, TakesFreshNames}
 
 -- the conclusions of the entry at position p, from the k-th on
 abbrev concluded : ℕ → ℕ → List (Fact ⊥) → List Labelled
@@ -51,13 +51,12 @@ module _ (theory : Theory) (good : IsExecutable theory) where
     valuation : IsValuation (signature_of theory) values
     fresh : AreOfFresh facts.premises
 
-  found : (r : List ℕ) (facts : Facts ⊥) (rule : Rule) → Member rule theory.rules → rule.name ≡ r → (v : Values) → IsValuation (signature_of theory) v
-      → IsNormalFormOf es (facts_at v rule.facts) facts → Found r facts
-  found r facts rule member named v valuation normal =
+  found : (r : List ℕ) (facts : Facts ⊥) → IsRuleInstance theory r facts → Found r facts
+  found r facts (rule, member, named, v, valuation, normal) =
       let w : Values = normals es v in
-      let over : IsValuation (signature_of theory) w = normal_valuation (signature_of theory) good.keeps v valuation in
-      let plain = every_member (λ (q : Rule). OfArguments (ArePlain es) q.facts) theory.rules rule member good.plain in
-      let is : facts ≡ facts_at w rule.facts = plain_instance es good.normal_forms v rule.facts plain facts normal in
+      let over : IsValuation (signature_of theory) w = normal_valuation (signature_of theory) good.instances.keeps v valuation in
+      let plain = every_member (λ (q : Rule). FactsArePlain es q.facts) theory.rules rule member good.instances.plain in
+      let is : facts ≡ facts_at w rule.facts = plain_instance es good.instances.normal_forms v rule.facts plain facts normal in
       let fit = instance_fits w (λ x. (over x).0) rule.facts in
       let bs = fit.bindings in
       let matched : matched_instance rule.facts facts ≡ Some bs = ap (matched_instance rule.facts) is ∙ fit.is in
@@ -78,7 +77,7 @@ module _ (theory : Theory) (good : IsExecutable theory) where
   record Carried (log : Log) : Type 0 where
     state : List Labelled
     made : List Ground
-    runs : Runs theory (execution_of theory.rules log) (state_of state made) (visible_trace log)
+    runs : Runs theory (execution_of theory log) (state_of state made) (visible_trace log)
     has : HasConclusions log state
     used : (t : Ground) → Member t made → Member t (all_fresh_uses log)
 
@@ -100,9 +99,9 @@ module _ (theory : Theory) (good : IsExecutable theory) where
     has_before : HasConclusions past state_before
     has_before = record { there = λ p k e f at con free. fresh_keeps names old.state (conclusion p k, f) (old.has.there p k e f at con free) }
 
-    runs_before : Runs theory (fresh_steps names ++ execution_of theory.rules past) (state_of state_before made) (visible_trace past)
+    runs_before : Runs theory (fresh_steps names ++ execution_of theory past) (state_of state_before made) (visible_trace past)
     runs_before =
-        run_fresh theory names (execution_of theory.rules past) old.state old.made (visible_trace past) old.runs (fresh_sorts facts.premises i.fresh)
+        run_fresh theory names (execution_of theory past) old.state old.made (visible_trace past) old.runs (fresh_sorts facts.premises i.fresh)
         (distinct_left names (all_fresh_uses past) fresh_once)
         (λ t m k. distinct_apart t names (all_fresh_uses past) fresh_once m (old.used t k))
 
@@ -169,10 +168,10 @@ module _ (theory : Theory) (good : IsExecutable theory) where
   carried : (log : Log) → IsLog theory log → HasStepsAlone log → Carried log
   carried [] is alone = record { state = []; made = []; runs = (refl, refl); has = record { there = λ p k e f at con free. absurd at }; used = λ t m. m }
   carried (step r facts os ∷ past) is alone =
-      let s = is.1.0 in
-      carried_step past r facts os (carried past is.0 alone.1) (found r facts s.0 s.1 s.2 s.3 s.4 s.5) is.1.1 is.2 is.3
+      let s = is.1 premise_sources in
+      carried_step past r facts os (carried past is.0 alone.1) (found r facts (is.1 rule_instance)) s.0 (is.1 fresh_names_once) s.1
   carried (send m ∷ past) is alone = absurd alone.0
   carried (learn m how ∷ past) is alone = absurd alone.0
 
-  pub log_runs : (log : Log) → IsLog theory log → HasStepsAlone log → IsExecution theory (execution_of theory.rules log) (visible_trace log)
+  pub log_runs : (log : Log) → IsLog theory log → HasStepsAlone log → IsExecution theory (execution_of theory log) (visible_trace log)
   log_runs log is alone = let c = carried log is alone in (state_of c.state c.made, c.runs)

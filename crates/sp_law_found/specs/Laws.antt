@@ -9,4 +9,4 @@ use Rattle.sp_law_found.specs.Executable.{IsExecutable}
 -- The steps that a log of steps stands for are an execution, and its trace is the log's.
 pub record LogsAreExecutions : Type 0 where
   pub each : (theory : Theory) → IsExecutable theory → (log : Log) → IsLog theory log → HasStepsAlone log
-      → IsExecution theory (execution_of theory.rules log) (visible_trace log)
+      → IsExecution theory (execution_of theory log) (visible_trace log)

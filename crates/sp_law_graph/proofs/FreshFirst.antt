@@ -7,9 +7,10 @@ use Rattle.sp_spec.specs.Signature.{HasSort, RespectsSorts}
 use Rattle.sp_spec.specs.Rule.{Fact, Facts, fact_at, facts_at}
 use Rattle.sp_spec.specs.Theory.{Theory, signature_of}
 use Rattle.sp_spec.specs.Same.{alike}
-use Rattle.sp_spec.specs.Log.{Log, Entry, learn, IsLog, Fits, is_fr, fresh_of, fresh_uses}
+use Rattle.sp_spec.specs.Log.{Log, Entry, learn, way_of_learning, IsLog, is_fr, fresh_of, fresh_uses}
 use Rattle.sp_spec.specs.Log as how
 use Rattle.sp_spec.proofs.Lists.{every_append, every_member, every_weaken, member_mapped, position_below}
+use Rattle.sp_spec.proofs.Logs.{entry_behind}
 use Rattle.sp_law_equal.specs.NormalForms.{HaveNormalForms}
 use Rattle.sp_law_equal.specs.Parts.{IsPart, IsPartOfOne}
 use Rattle.sp_law_equal.proofs.Parts.{part_itself}
@@ -22,16 +23,17 @@ use Rattle.sp_law_system.proofs.Solutions.{Under, TimeUnder}
 use Rattle.sp_spec_graph.specs.Fresh.{first_term, fresh_terms, happening_fresh}
 use Rattle.sp_spec_graph.specs.FreshFirst.{occurs_in, occurs_among, has_taken, is_missing, missing_pairs, missing_behind, fresh_first}
 use Rattle.sp_spec_system.specs.Picked.{if_any, first_some}
-use Rattle.sp_law_system.specs.Rules.{RulesArePlain, IsClosedRule}
+use Rattle.sp_law_system.specs.Rules.{IsClosedRule}
 use Rattle.sp_spec.proofs.Options.{mapped}
 use Rattle.sp_law_formula.proofs.Literals.{alike_same, covers_by_itself}
 use Rattle.sp_law_formula.proofs.Entries.{happened}
 use Rattle.sp_law_graph.proofs.FreshOnce.{one_position, fresh_values, fresh_member, happening_uses}
-use Rattle.sp_law_graph.proofs.Sources.{taker}
+use Rattle.sp_law_graph.proofs.Sources.{premise_event}
 use Rattle.sp_law_graph.proofs.Origins.{HaveFresh, closed_step, fresh_origin}
 use Rattle.sp_law_formula.proofs.Matches.{some_picked}
 use Rattle.sp_spec.proofs.Sorts.{is_name}
 use Rattle.sp_law_system.proofs.With.{BothUnder, order_solves, order_numbered}
+use Rattle.sp_law_equal.specs.RightTheory.{RulesArePlain}
 
 -- of each event that has the term in a premise other than an Fr, by what is missing
 missing_each : (P : ℕ × ℕ → Type 0) (order : List (ℕ × ℕ)) (i : ℕ) (t : Term Variable) (es : List Event)
@@ -118,9 +120,7 @@ fresh_name v sorts fs h t m =
 
 -- the adversary's own names are fresh
 own_sort : (theory : Theory) (log : Log) → IsLog theory log → (p : ℕ) (m : Ground) → AtPosition log p (learn m how.own_name) → HasSort Fresh m
-own_sort theory [] is p m a = absurd a
-own_sort theory (e ∷ past) is p m (inl a) = (subst (λ (x : Entry). Fits theory x past) a.1 is.1).1
-own_sort theory (e ∷ past) is p m (inr a) = own_sort theory past is.0 p m a
+own_sort theory log is p m a = (entry_behind theory log is p (learn m how.own_name) a).keeps way_of_learning
 
 -- what happens does so at a position of the log
 happens_below : (log : Log) (v : Valuation) (p : ℕ) (h : Happening) → HappensAt log p v h → p < length log
@@ -146,7 +146,7 @@ module _ (theory : Theory) (good : HaveNormalForms (signature_of theory).equatio
       let n = used_name log is v p a t h m in
       let d = happening_uses log p v a h t m in
       let w = taken_there t (happening_premises b) e in
-      let y = taker log q v b k w.0 w.1 w.2 in
+      let y = premise_event log q v b k w.0 w.1 w.2 in
       let part : IsPartOfOne (name n.0) (valued_all v.terms w.1.args) = subst (λ (x : Ground). IsPartOfOne x (valued_all v.terms w.1.args)) n.1 (occurs_parts v.terms t w.1.args w.4) in
       let o = fresh_origin theory good rules_plain rules_closed log is n.0 q y.0 y.1 y.2 y.3 w.0 (fact_at v.terms w.1) y.4 w.3 part in
       let one = one_position theory log is o.position p o.entry d.0 (name n.0) o.there d.1 o.uses (subst (λ (x : Ground). Member x (fresh_uses d.0)) n.1 d.2) in

@@ -6,7 +6,7 @@ use Rattle.sp_spec.specs.Term.{Names, Variable, Term, Terms, none, more, Ground,
 use Rattle.sp_spec.specs.Rule.{Fact, fact_at, facts_at}
 use Rattle.sp_spec.specs.Theory.{Theory}
 use Rattle.sp_spec.specs.Same.{alike}
-use Rattle.sp_spec.specs.Log.{Log, Entry, step, send, learn, IsLog, is_fr, first_arg, fresh_of, fresh_uses, all_fresh_uses}
+use Rattle.sp_spec.specs.Log.{Log, Entry, step, send, learn, fresh_names_once, IsLog, is_fr, first_arg, fresh_of, fresh_uses, all_fresh_uses}
 use Rattle.sp_spec.proofs.Lists.{member_map, member_left, member_right, distinct_apart, distinct_left}
 use Rattle.sp_spec_system.specs.System.{public_name, own_name, constructed, by_chain, Happening, rule_step, sending, learning, Event, System}
 use Rattle.sp_spec_system.specs.Solutions.{Valuation, how_at, HappensAt, HappensIn, Solves}
@@ -36,9 +36,9 @@ pub one_position : (theory : Theory) (log : Log) → IsLog theory log → (p q :
 one_position theory [] is p q d e t a b m k = absurd a
 one_position theory (z ∷ log) is p q d e t (inl a) (inl b) m k = a.0 ∙ sym b.0
 one_position theory (z ∷ log) is p q d e t (inl a) (inr b) m k =
-    absurd (distinct_apart t (fresh_uses z) (all_fresh_uses log) is.2 (subst (λ (x : Entry). Member t (fresh_uses x)) (sym a.1) m) (uses_among log q e t b k))
+    absurd (distinct_apart t (fresh_uses z) (all_fresh_uses log) (is.1 fresh_names_once) (subst (λ (x : Entry). Member t (fresh_uses x)) (sym a.1) m) (uses_among log q e t b k))
 one_position theory (z ∷ log) is p q d e t (inr a) (inl b) m k =
-    absurd (distinct_apart t (fresh_uses z) (all_fresh_uses log) is.2 (subst (λ (x : Entry). Member t (fresh_uses x)) (sym b.1) k) (uses_among log p d t a m))
+    absurd (distinct_apart t (fresh_uses z) (all_fresh_uses log) (is.1 fresh_names_once) (subst (λ (x : Entry). Member t (fresh_uses x)) (sym b.1) k) (uses_among log p d t a m))
 one_position theory (z ∷ log) is p q d e t (inr a) (inr b) m k = one_position theory log is.0 p q d e t a b m k
 
 -- the names that the instance uses are the values of the terms whose Fr the premises use
@@ -127,7 +127,7 @@ module _ (N : Names) (right : UnifierIsRight) (theory : Theory) where
 -- Source used twice: an entry uses no Fr twice.
 entry_distinct : (theory : Theory) (log : Log) → IsLog theory log → (p : ℕ) (e : Entry) → AtPosition log p e → Distinct (fresh_uses e)
 entry_distinct theory [] is p e a = absurd a
-entry_distinct theory (d ∷ log) is p e (inl a) = subst (λ (x : Entry). Distinct (fresh_uses x)) a.1 (distinct_left (fresh_uses d) (all_fresh_uses log) is.2)
+entry_distinct theory (d ∷ log) is p e (inl a) = subst (λ (x : Entry). Distinct (fresh_uses x)) a.1 (distinct_left (fresh_uses d) (all_fresh_uses log) (is.1 fresh_names_once))
 entry_distinct theory (d ∷ log) is p e (inr a) = entry_distinct theory log is.0 p e a
 
 repeats_contradicts : (v : Values) (ts : List (Term Variable)) → repeats ts ≡ true → Distinct (map (valued v) ts) → ⊥

@@ -22,7 +22,7 @@ use Rattle.sp_spec_graph.specs.SourceTwice.{used_twice}
 use Rattle.std.specs.Option.{option_or}
 use Rattle.sp_spec.proofs.Options.{mapped, then_some}
 use Rattle.sp_law_formula.proofs.Literals.{covers_by_itself}
-use Rattle.sp_law_graph.proofs.Sources.{taker, one_source, source_once}
+use Rattle.sp_law_graph.proofs.Sources.{premise_event, one_source, source_once}
 use Rattle.sp_law_formula.proofs.Merged.{SolvedBy, NumberedFrom}
 use Rattle.sp_law_formula.proofs.Equations.{times_solved, times_numbered, not_none}
 use Rattle.sp_law_formula.proofs.ActionCovers.{event_found}
@@ -51,7 +51,7 @@ module _ (theory : Theory) (log : Log) (is : IsLog theory log) (v : Valuation) w
   linear_at : (q : ℕ) (h : Happening) (a : ℕ) (f : Fact Variable) → slice_get (happening_premises h) a ≡ Some f → HappensAt log q v h
       → (r : List ℕ) (facts : Facts ⊥) (sources : List Source) → AtPosition log q (step r facts sources) → AtPlace facts.premises a (fact_at v.terms f)
   linear_at q h a f e k r facts sources there =
-      let t = taker log q v h k a f (place_got (happening_premises h) a f e) in
+      let t = premise_event log q v h k a f (place_got (happening_premises h) a f e) in
       let one : step t.0 t.1 t.2 ≡ step r facts sources = position_one log q (step t.0 t.1 t.2) (step r facts sources) t.3 there in
       let same : t.1 ≡ facts = cc in
       subst (λ (x : Facts ⊥). AtPlace x.premises a (fact_at v.terms f)) same t.4

@@ -12,10 +12,11 @@ use Rattle.sp_law_equal.specs.NormalForms.{HaveNormalForms}
 use Rattle.sp_law_equal.specs.Parts.{IsPart, IsPartOfOne}
 use Rattle.sp_law_equal.proofs.Forms.{normals, normals_respect}
 use Rattle.sp_spec_graph.specs.Fresh.{first_term, fresh_terms}
-use Rattle.sp_law_system.specs.Rules.{FactsArePlain, RulesArePlain, StandsIn, StandsAmong, HasVariable, no_fresh_names, IsClosedRule}
+use Rattle.sp_law_system.specs.Rules.{IsClosedRule}
 use Rattle.sp_law_formula.proofs.Entries.{entry_is_step, plain_step}
 use Rattle.sp_law_graph.proofs.FreshOnce.{fresh_member}
 use Rattle.sp_law_graph.proofs.Sources.{place_mapped, every_place, source_there}
+use Rattle.sp_law_equal.specs.RightTheory.{FactsArePlain, RulesArePlain, StandsIn, StandsAmong, HasVariable, no_fresh_names}
 
 module _ (v : Values) (n : ℕ) where
   -- a name that stands in the value of a term without names stands in that of one of its variables

@@ -22,17 +22,18 @@ use Rattle.sp_spec_system.specs.MakingOne.{event_at}
 use Rattle.sp_spec_system.specs.Move.{Case}
 use Rattle.sp_spec_system.specs.Cases.{renamed, named}
 use Rattle.sp_spec_graph.specs.Premise.{awaiting, with_source, by_conclusions, by_each_source, premise_cases, is_linked, of_a_step, open_premise, source_forms}
-use Rattle.sp_law_system.specs.Rules.{RulesAreNumbered, RulesArePlain, FormsAreNumbered}
+use Rattle.sp_law_system.specs.Rules.{RulesAreNumbered, FormsAreNumbered}
 use Rattle.sp_law_system.specs.Proofs.{systems_of}
 use Rattle.sp_law_formula.proofs.Entries.{entry_is_step, plain_step, beside, beside_agrees}
 use Rattle.sp_law_formula.proofs.Actions.{named_systems, systems_append, step_numbered, step_solved}
 use Rattle.sp_law_formula.proofs.ActionCovers.{event_found}
-use Rattle.sp_law_graph.proofs.Sources.{place_mapped, every_place, taker, source_there}
+use Rattle.sp_law_graph.proofs.Sources.{place_mapped, every_place, premise_event, source_there}
 use Rattle.sp_law_graph.proofs.Waiting.{timed, timed_agrees, timed_new, awaiting_numbered, awaiting_solved}
 use Rattle.sp_law_formula.proofs.Merged.{Later}
 use Rattle.sp_law_graph.proofs.Conclusions.{conclusions_numbered, conclusion_solved}
 use Rattle.sp_spec_system.specs.Rules.{RuleForms, forms_of}
 use Rattle.sp_law_system.proofs.Forms.{forms_numbered}
+use Rattle.sp_law_equal.specs.RightTheory.{RulesArePlain}
 
 -- An open premise: its event and its place, and what it is not.
 pub record OpenPremise (s : System) (i p : ℕ) (f : Fact Variable) : Type 0 where
@@ -206,7 +207,7 @@ module _ (N : Names) (right : UnifierIsRight) (theory : Theory) (good : HaveNorm
   open_covers s n i p f o = record {
     covers = λ log is v h none.
         let u = premise_under s n i p f o in
-        let t = taker log (v.times o.event.time) v o.event.happening (every_member (HappensIn log v) s.events o.event o.found h.events) p f o.stands in
+        let t = premise_event log (v.times o.event.time) v o.event.happening (every_member (HappensIn log v) s.events o.event o.found h.events) p f o.stands in
         let here = subst (λ (j : ℕ). AtPosition log (v.times j) (step t.0 t.1 t.2)) o.at_time t.3 in
         let g = source_there theory log is (v.times i) t.0 t.1 t.2 here p (fact_at v.terms f) t.4 o.no_fr in
         entry_gives s n i p f u.0 u.1 log is v h g.0 g.1 g.5 t.0 t.1 t.2 here g.2 o.no_in g.3 g.4 g.6 none;

@@ -1,10 +1,11 @@
 -- The sources that the premises of a log's entries name: each is there, it came earlier, and a linear one is named once.
-use Rattle.std.proofs.Common.{◌≡◌, ◌<◌, ℕ, zero, suc, Bool, true, false, if◌then◌else◌, List, [], ◌∷◌, ◌++◌, map, length, refl, sym, ap, ◌∙◌, subst, inl, inr}
+use Rattle.std.proofs.Common.{◌≡◌, ◌<◌, ℕ, zero, suc, Bool, true, false, if◌then◌else◌, List, [], ◌∷◌, ◌++◌, map, refl, sym, ap, ◌∙◌, subst, inl, inr}
 use Rattle.sp_spec.specs.Lists.{Member, Every, Distinct, AtPlace, AtPosition}
 use Rattle.sp_spec.specs.Term.{Variable}
 use Rattle.sp_spec.specs.Rule.{Fact, Facts, fact_at, facts_at}
 use Rattle.sp_spec.specs.Theory.{Theory}
-use Rattle.sp_spec.specs.Log.{Log, Entry, step, send, learn, Source, fresh_rule, conclusion, is_fr, linear_sources, sources_of, all_sources, Concludes, HasSources, IsLog, Fits}
+use Rattle.sp_spec.specs.Log.{Log, Entry, step, send, learn, Source, fresh_rule, conclusion, is_fr, linear_sources, sources_of, all_sources, Concludes, HasSources, premise_sources, IsLog}
+use Rattle.sp_spec.proofs.Logs.{log_sources, IsBehind, entry_behind}
 use Rattle.sp_spec.proofs.Lists.{member_left, member_right, distinct_right, distinct_apart, position_below, position_one, distinct_left, place_map}
 use Rattle.sp_spec_system.specs.System.{Happening, rule_step, sending, learning, happening_premises}
 use Rattle.sp_spec_system.specs.Solutions.{Valuation, HappensAt}
@@ -28,11 +29,11 @@ place_one (z ∷ xs) zero x y a b = sym a ∙ b
 place_one (z ∷ xs) (suc k) x y a b = place_one xs k x y a b
 
 -- a premise of what happens is one of a step
-pub taker : (log : Log) (q : ℕ) (v : Valuation) (h : Happening) → HappensAt log q v h → (p : ℕ) (f : Fact Variable) → AtPlace (happening_premises h) p f
+pub premise_event : (log : Log) (q : ℕ) (v : Valuation) (h : Happening) → HappensAt log q v h → (p : ℕ) (f : Fact Variable) → AtPlace (happening_premises h) p f
     → (r : List ℕ) × (facts : Facts ⊥) × (sources : List Source) × AtPosition log q (step r facts sources) × AtPlace facts.premises p (fact_at v.terms f)
-taker log q v (rule_step r facts) h p f a = (r, facts_at v.terms facts, h.0, h.1, place_map (fact_at v.terms) facts.premises p f a)
-taker log q v (sending m) h p f a = absurd a
-taker log q v (learning m way) h p f a = absurd a
+premise_event log q v (rule_step r facts) h p f a = (r, facts_at v.terms facts, h.0, h.1, place_map (fact_at v.terms) facts.premises p f a)
+premise_event log q v (sending m) h p f a = absurd a
+premise_event log q v (learning m way) h p f a = absurd a
 
 -- a premise has one source
 pub one_source : (sources : List Source) (a p k q l : ℕ) → AtPlace sources a (conclusion p k) → AtPlace sources a (conclusion q l) → (p ≡ q) × (k ≡ l)
@@ -100,29 +101,18 @@ linear_once (h ∷ fs) (conclusion q j ∷ sources) d (suc a) zero p k f g x y l
 linear_once (h ∷ fs) (conclusion q j ∷ sources) d (suc a) (suc b) p k f g x y l m there too =
     ap suc (linear_once fs sources (distinct_right (if h.persistent then [] else conclusion q j ∷ []) (linear_sources fs sources) d) a b p k f g x y l m there too)
 
--- what came before a step, with the sources that it has there
-pub record Before (log : Log) (q : ℕ) (facts : Facts ⊥) (sources : List Source) : Type 0 where
-  pub past : Log
-  pub sourced : HasSources facts.premises sources past
-  pub position : q ≡ length past
-  pub still_there : (p : ℕ) (e : Entry) → AtPosition past p e → AtPosition log p e
-
 module _ (theory : Theory) where
-  before_step : (log : Log) → IsLog theory log → (q : ℕ) (r : List ℕ) (facts : Facts ⊥) (sources : List Source) → AtPosition log q (step r facts sources) → Before log q facts sources
-  before_step [] is q r facts sources there = absurd there
-  before_step (d ∷ log) is q r facts sources (inl there) =
-      record { past = log; sourced = (subst (λ (x : Entry). Fits theory x log) there.1 is.1).1; position = there.0; still_there = λ p e a. inr a }
-  before_step (d ∷ log) is q r facts sources (inr there) =
-      let b = before_step log is.0 q r facts sources there in
-      record { past = b.past; sourced = b.sourced; position = b.position; still_there = λ p e a. inr (b.still_there p e a) }
+  -- its premises have their sources in what came before a step
+  sourced : (log : Log) (q : ℕ) (r : List ℕ) (facts : Facts ⊥) (sources : List Source) → (b : IsBehind theory log q (step r facts sources)) → HasSources facts.premises sources b.past
+  sourced log q r facts sources b = (b.keeps premise_sources).0
 
   -- a premise that is no Fr is what an earlier entry concludes
   pub source_there : (log : Log) → IsLog theory log → (q : ℕ) (r : List ℕ) (facts : Facts ⊥) (sources : List Source) → AtPosition log q (step r facts sources)
       → (a : ℕ) (f : Fact ⊥) → AtPlace facts.premises a f → is_fr f ≡ false
       → (p : ℕ) × (k : ℕ) × AtPlace sources a (conclusion p k) × (e : Entry) × AtPosition log p e × (p < q) × Concludes e k f
   source_there log is q r facts sources there a f premise own =
-      let b = before_step log is q r facts sources there in
-      let g = given_premise b.past facts.premises sources b.sourced a f premise own in
+      let b = entry_behind theory log is q (step r facts sources) there in
+      let g = given_premise b.past facts.premises sources (sourced log q r facts sources b) a f premise own in
       let given = g.3 in
       let below = position_below b.past g.0 given.0 given.1 in
       (g.0, g.1, g.2, given.0, b.still_there g.0 given.0 given.1, subst (λ (n : ℕ). g.0 < n) (sym b.position) below, given.2)
@@ -137,14 +127,14 @@ module _ (theory : Theory) where
   one_user [] is q u d e source a b m k = absurd a
   one_user (z ∷ log) is q u d e source (inl a) (inl b) m k = a.0 ∙ sym b.0
   one_user (z ∷ log) is q u d e source (inl a) (inr b) m k =
-      absurd (distinct_apart source (sources_of z) (all_sources log) is.3 (subst (λ (x : Entry). Member source (sources_of x)) (sym a.1) m) (among log u e source b k))
+      absurd (distinct_apart source (sources_of z) (all_sources log) (log_sources theory (z ∷ log) is) (subst (λ (x : Entry). Member source (sources_of x)) (sym a.1) m) (among log u e source b k))
   one_user (z ∷ log) is q u d e source (inr a) (inl b) m k =
-      absurd (distinct_apart source (sources_of z) (all_sources log) is.3 (subst (λ (x : Entry). Member source (sources_of x)) (sym b.1) k) (among log q d source a m))
+      absurd (distinct_apart source (sources_of z) (all_sources log) (log_sources theory (z ∷ log) is) (subst (λ (x : Entry). Member source (sources_of x)) (sym b.1) k) (among log q d source a m))
   one_user (z ∷ log) is q u d e source (inr a) (inr b) m k = one_user log is.0 q u d e source a b m k
 
   names_distinct : (log : Log) → IsLog theory log → (q : ℕ) (e : Entry) → AtPosition log q e → Distinct (sources_of e)
   names_distinct [] is q e there = absurd there
-  names_distinct (d ∷ log) is q e (inl there) = subst (λ (x : Entry). Distinct (sources_of x)) there.1 (distinct_left (sources_of d) (all_sources log) is.3)
+  names_distinct (d ∷ log) is q e (inl there) = subst (λ (x : Entry). Distinct (sources_of x)) there.1 (distinct_left (sources_of d) (all_sources log) (log_sources theory (d ∷ log) is))
   names_distinct (d ∷ log) is q e (inr there) = names_distinct log is.0 q e there
 
   -- Two steps that name one source name it for one fact; if that is linear, they are one step and the premise is one.
@@ -154,10 +144,10 @@ module _ (theory : Theory) where
       (f : Fact ⊥) (premise : AtPlace facts.premises a f) (linear : f.persistent ≡ false) where
     same_premise : AtPlace others.premises b f
     same_premise =
-        let d = before_step log is q r facts sources here in
-        let e = before_step log is u o others others_sources there in
-        let g = named_premise d.past facts.premises sources d.sourced a p k named in
-        let h = named_premise e.past others.premises others_sources e.sourced b p k named_too in
+        let d = entry_behind theory log is q (step r facts sources) here in
+        let e = entry_behind theory log is u (step o others others_sources) there in
+        let g = named_premise d.past facts.premises sources (sourced log q r facts sources d) a p k named in
+        let h = named_premise e.past others.premises others_sources (sourced log u o others others_sources e) b p k named_too in
         let given = g.2 in
         let given_too = h.2 in
         let one_entry = position_one log p given.0 given_too.0 (d.still_there p given.0 given.1) (e.still_there p given_too.0 given_too.1) in

@@ -50,7 +50,7 @@ module _ {N : Names} (s : System) (n : IsNumbered N s) (i : ℕ) (i_under : i < 
 
   -- where the log names the source of that premise
   module _ (theory : Theory) (log : Log) (v : Valuation) (h : Solves theory log v s) (q : ℕ) (earlier : q < v.times i)
-      (r : List ℕ) (facts : Facts ⊥) (sources : List Source) (taker : AtPosition log (v.times i) (step r facts sources)) (named : AtPlace sources p (conclusion q k)) where
+      (r : List ℕ) (facts : Facts ⊥) (sources : List Source) (premise_event : AtPosition log (v.times i) (step r facts sources)) (named : AtPlace sources p (conclusion q k)) where
     abbrev value : Valuation
     value = timed s.next q v
 
@@ -59,14 +59,14 @@ module _ {N : Names} (s : System) (n : IsNumbered N s) (i : ℕ) (i_under : i < 
       r,
       facts,
       sources,
-      subst (λ (x : ℕ). AtPosition log x (step r facts sources)) (sym ((timed_agrees s.next q v).times i i_under)) taker,
+      subst (λ (x : ℕ). AtPosition log x (step r facts sources)) (sym ((timed_agrees s.next q v).times i i_under)) premise_event,
       subst (λ (x : ℕ). AtPlace sources p (conclusion x k)) (sym (timed_new s.next q v)) named,
     )
 
     new_order : IsBefore log value (s.next, i)
     new_order = (
       subst (λ (x : ℕ). x < value.times i) (sym (timed_new s.next q v)) (subst (λ (x : ℕ). q < x) (sym ((timed_agrees s.next q v).times i i_under)) earlier),
-      subst (λ (x : ℕ). x < length log) (sym ((timed_agrees s.next q v).times i i_under)) (position_below log (v.times i) (step r facts sources) taker),
+      subst (λ (x : ℕ). x < length log) (sym ((timed_agrees s.next q v).times i i_under)) (position_below log (v.times i) (step r facts sources) premise_event),
     )
 
     pub awaiting_solved : Solves theory log value (awaiting s i p k)

@@ -10,7 +10,7 @@ use Rattle.sp_spec.specs.Theory.{Theory}
 use Rattle.sp_spec.specs.Execution.{Step, make_fresh, use_rule, take_out, put_in, know_public, make_own, apply_symbol, IsInstance}
 use Rattle.sp_law_equal.specs.Matching.{Bound, lookup, value_in, any_of}
 use Rattle.sp_spec.proofs.Same.{same_variable_decides, same_fields}
-use Rattle.sp_law_run.specs.Right.{IsDeclared, IsRight, AreRight}
+use Rattle.sp_law_equal.specs.Right.{IsDeclared, IsRight, AreRight}
 use Rattle.sp_law_run.specs.Given.{variable_at, bound_from, AgreeWith}
 use Rattle.sp_law_run.proofs.Bindings.{gives_bound, agree_declared}
 

@@ -11,7 +11,7 @@ use Rattle.sp_law_equal.specs.NormalForms.{KeepSymbols}
 use Rattle.sp_law_equal.specs.Normal.{normal_action}
 use Rattle.sp_law_equal.proofs.Over.{normal_all_over}
 use Rattle.sp_law_run.specs.NormalStep.{normal_trace}
-use Rattle.sp_law_run.specs.Right.{IsTermOver, AreTermsOver, RulesAreOver}
+use Rattle.sp_law_equal.specs.Right.{IsTermOver, AreTermsOver, RulesAreOver}
 use Rattle.sp_law_run.specs.Laws.{IsTraceOver}
 
 count_valued : (v : Values) (ts : Terms Variable) → count (valued_all v ts) ≡ count ts
@@ -27,7 +27,7 @@ module _ (symbols : List Symbol) where
       valued_over (name n) h = tt
       valued_over (app f ts) h = (subst (λ (k : ℕ). HasSymbol symbols f k) (sym (count_valued v ts)) h.0, valued_all_over ts h.1)
 
-      valued_all_over : (ts : Terms Variable) → AreTermsOver symbols ts → AreOver symbols (valued_all v ts)
+      pub valued_all_over : (ts : Terms Variable) → AreTermsOver symbols ts → AreOver symbols (valued_all v ts)
       valued_all_over none h = tt
       valued_all_over (more t ts) h = (valued_over t h.0, valued_all_over ts h.1)
 

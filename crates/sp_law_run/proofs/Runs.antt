@@ -6,7 +6,7 @@ use Rattle.sp_spec.specs.Theory.{Theory, signature_of}
 use Rattle.sp_spec.specs.Execution.{Step, State, Trace, Takes, made_by, with_entry, Leads, Runs}
 use Rattle.sp_law_equal.specs.NormalForms.{HaveNormalForms}
 use Rattle.sp_law_equal.specs.Normal.{normal_fact}
-use Rattle.sp_law_run.specs.Right.{AreRight}
+use Rattle.sp_law_equal.specs.Right.{AreRight}
 use Rattle.sp_law_run.specs.Taken.{SameFacts}
 use Rattle.sp_law_run.specs.Laws.{AreAlike}
 use Rattle.sp_law_run.proofs.Counted.{same_facts_itself, same_facts_then, same_facts_back, same_facts_added}

@@ -11,7 +11,7 @@ use Rattle.sp_spec.specs.Rule.{Fact, Action, Facts, Declared, Rule, fact_at, act
 use Rattle.sp_spec.specs.Formula.{Written}
 use Rattle.sp_spec.specs.Written.{WrittenRule, occurrences, is_listed, names_after, rule_names, place_of, numbered_in, sort_in, rule_of}
 use Rattle.sp_spec.proofs.Occurrences.{occurrences_each, names_have}
-use Rattle.sp_law_run.specs.Right.{IsTermOver, AreTermsOver, IsDeclared, IsRight, AreRight, RulesAreOver}
+use Rattle.sp_law_equal.specs.Right.{IsTermOver, AreTermsOver, IsDeclared, IsRight, AreRight, RulesAreOver}
 use Rattle.sp_spec.proofs.Listed.{listed_member}
 
 distinct_last : (x : List ℕ) (xs : List (List ℕ)) → Distinct xs → (Member x xs → ⊥) → Distinct (xs ++ x ∷ [])

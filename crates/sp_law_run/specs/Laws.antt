@@ -9,7 +9,7 @@ use Rattle.sp_spec.specs.Execution.{Step, State, Trace, Takes, Runs, IsExecution
 use Rattle.sp_law_equal.specs.NormalForms.{HaveNormalForms, KeepSymbols}
 use Rattle.sp_law_equal.specs.Normal.{normal_fact}
 use Rattle.sp_law_run.specs.NormalStep.{normal_trace}
-use Rattle.sp_law_run.specs.Right.{AreTermsOver, AreRight, RulesAreOver}
+use Rattle.sp_law_equal.specs.Right.{AreTermsOver, AreRight, RulesAreOver}
 use Rattle.sp_law_run.specs.Taken.{SameFacts, taken}
 
 -- Over convergent equations facts can be taken from a state exactly where their normal forms can be taken, each from the first place where it

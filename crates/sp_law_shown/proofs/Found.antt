@@ -8,10 +8,9 @@ use Rattle.sp_spec.specs.Theory.{Restriction, Lemma, Theory, signature_of}
 use Rattle.sp_spec.specs.Written.{WrittenTheory, theory_of}
 use Rattle.sp_spec.specs.Execution.{Trace, IsExecution}
 use Rattle.sp_spec.specs.Truth.{IsTrueOver}
-use Rattle.sp_spec.specs.Verdict.{MeetsRestrictions}
+use Rattle.sp_spec.specs.Verdict.{MeetsRestrictions, IsBrokenBy, IsSatisfiedBy, IsBrokenByLog, IsSatisfiedByLog}
 use Rattle.sp_spec.specs.Guarded.{Place, Atom, acts, same, same_time, before, last, Guarded, Guardeds, truth, falsity, holds, fails, all_of, one_of, some, every, no_more, and_then, GuardedHolds}
 use Rattle.sp_spec.specs.Log.{Entry, Log, log_trace, visible_trace}
-use Rattle.sp_law_equal.proofs.Pairs.{pairs_have_normal_forms, pairs_keep_symbols}
 use Rattle.sp_law_truth.specs.Shown.{times_within, action_names}
 use Rattle.sp_law_truth.proofs.Shown.{equal_shown_same}
 use Rattle.sp_law_guard.specs.GuardedForm.{negate}
@@ -36,6 +35,7 @@ use Rattle.sp_log.proofs.Checks.{log_decides}
 use Rattle.sp_law_shown.specs.Shown.{IsSearched, FoundBreaks, FoundSatisfies}
 use Rattle.sp_law_shown.specs.Laws.{FoundLogsShow}
 use Rattle.sp_law_shown.proofs.Executable.{executable, checkable}
+use Rattle.sp_law_shown.proofs.Learning.{plain_names_none, into_reading}
 use Rattle.sp_law_shown.proofs.Traces.{normal_trace, visible_equal}
 use Rattle.sp_law_tree.proofs.PlainOver.{plain_rules_over}
 use Rattle.sp_spec.proofs.Lists.{each_among}
@@ -88,7 +88,7 @@ module _ (t : WrittenTheory) (s : IsSearched t) (log : Log) (is : IsLogOfSteps (
   abbrev signature : Signature
   signature = signature_of theory
 
-  executed : IsExecution theory (execution_of theory.rules log) (visible_trace log)
+  executed : IsExecution theory (execution_of theory log) (visible_trace log)
   executed = log_runs theory (executable t s) log is.0 is.1
 
   unrestricted : (trace : Trace) → MeetsRestrictions theory trace
@@ -97,9 +97,9 @@ module _ (t : WrittenTheory) (s : IsSearched t) (log : Log) (is : IsLogOfSteps (
   module _ (g : Guarded) (right : IsRight g) where
     pub can_decide : CanDecide signature (log_trace log) g
     can_decide = record {
-      normal_forms = pairs_have_normal_forms;
-      keeps = pairs_keep_symbols signature.symbols;
-      normal = normal_trace theory log is.0 is.1 (execution_over theory (plain_rules_over signature.symbols t.rules s.plain) (execution_of theory.rules log) (visible_trace log) executed);
+      normal_forms = s.normal_forms.normal_forms;
+      keeps = s.normal_forms.keeps;
+      normal = normal_trace theory log is.0 is.1 (execution_over theory (plain_rules_over signature.symbols t.rules s.plain) (execution_of theory log) (visible_trace log) executed);
       plain = right_plain signature zero g right.each;
       guarded = right.guarded;
     }
@@ -126,7 +126,8 @@ module _ (t : WrittenTheory) (s : IsSearched t) (log : Log) (is : IsLogOfSteps (
     breaks e = record {
       by_log = (is.0, unrestricted (log_trace log), not_true (log_trace log) (over_log (negate g) (right_negation g right) e));
       executed = executed;
-      by_steps =
+      in_reading =
+          into_reading lemma (plain_names_none lemma.formula plain) (IsBrokenByLog theory lemma log) (IsBrokenBy theory lemma (execution_of theory log))
           (visible_trace log, executed, unrestricted (visible_trace log), not_true (visible_trace log) (over_steps (negate g) (right_negation g right) e));
     }
 
@@ -134,7 +135,9 @@ module _ (t : WrittenTheory) (s : IsSearched t) (log : Log) (is : IsLogOfSteps (
     satisfies e = record {
       by_log = (is.0, unrestricted (log_trace log), (kept (log_trace log)).1 (over_log g right e));
       executed = executed;
-      by_steps = (visible_trace log, executed, unrestricted (visible_trace log), (kept (visible_trace log)).1 (over_steps g right e));
+      in_reading =
+          into_reading lemma (plain_names_none lemma.formula plain) (IsSatisfiedByLog theory lemma log) (IsSatisfiedBy theory lemma (execution_of theory log))
+          (visible_trace log, executed, unrestricted (visible_trace log), (kept (visible_trace log)).1 (over_steps g right e));
     }
 
 is_log_of_steps : (t : WrittenTheory) → IsSearched t → (entries : List Entry) → is_log (signature_of (theory_of t)) (theory_of t).rules entries ≡ true

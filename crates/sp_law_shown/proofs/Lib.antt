@@ -2,3 +2,4 @@ pub mod Executable
 pub mod Traces
 pub mod Found
 pub mod Sought
+pub mod Learning

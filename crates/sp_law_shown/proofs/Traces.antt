@@ -7,7 +7,7 @@ use Rattle.sp_spec.specs.Equal.{AreNormal}
 use Rattle.sp_spec.specs.Rule.{Action, AreNormalActions}
 use Rattle.sp_spec.specs.Theory.{Theory, signature_of}
 use Rattle.sp_spec.specs.Execution.{Trace, with_entry}
-use Rattle.sp_spec.specs.Log.{Log, step, send, learn, log_trace, visible_trace, IsLog}
+use Rattle.sp_spec.specs.Log.{Log, step, send, learn, log_trace, visible_trace, IsRuleInstance, rule_instance, IsLog}
 use Rattle.sp_law_truth.specs.Same.{EqualTraces}
 use Rattle.sp_law_truth.specs.Shown.{only_actions, shown}
 use Rattle.sp_law_decide.specs.Normal.{IsNormalAction, IsNormalTrace}
@@ -27,7 +27,8 @@ module _ (theory : Theory) where
   trace_normal : (log : Log) → IsLog theory log → HasStepsAlone log → Every (Every (λ (a : Action ⊥). AreNormal (signature_of theory).equations a.args)) (log_trace log)
   trace_normal [] h alone = tt
   trace_normal (step r facts os ∷ past) h alone =
-      (actions_normal (signature_of theory).equations _ facts.actions h.1.0.5.actions, trace_normal past h.0 alone.1)
+      let i : IsRuleInstance theory r facts = h.1 rule_instance in
+      (actions_normal (signature_of theory).equations _ facts.actions i.5.actions, trace_normal past h.0 alone.1)
   trace_normal (send m ∷ past) h alone = absurd alone.0
   trace_normal (learn m how ∷ past) h alone = absurd alone.0
 

@@ -2,30 +2,32 @@
 -- falsifies the formula is an attack).
 use Rattle.std.specs.Prelude.{◌≡◌, [], map, false}
 use Rattle.sp_spec.specs.Lists.{Every, Distinct}
-use Rattle.sp_spec.specs.Theory.{Theory, Lemma}
-use Rattle.sp_spec.specs.Written.{WrittenRule, WrittenTheory}
+use Rattle.sp_spec.specs.Theory.{Theory, Lemma, signature_of}
+use Rattle.sp_spec.specs.Written.{WrittenRule, WrittenTheory, theory_of}
 use Rattle.sp_spec.specs.Findings.{rule_is_wrong}
 use Rattle.sp_spec.specs.Execution.{IsExecution}
 use Rattle.sp_spec.specs.Log.{Log, visible_trace}
-use Rattle.sp_spec.specs.Verdict.{IsBrokenBy, IsSatisfiedBy, IsBrokenByLog, IsSatisfiedByLog}
+use Rattle.sp_spec.specs.Verdict.{IsBrokenByLog, IsSatisfiedByLog, IsBrokenInReading, IsSatisfiedInReading}
+use Rattle.sp_law_equal.specs.NormalForms.{HasNormalForms}
 use Rattle.sp_law_found.specs.Found.{execution_of}
 use Rattle.sp_law_tree.specs.PlainTheory.{IsPlainRule}
 
--- A theory without findings, of plain rules, and without restrictions.
+-- A theory without findings, of plain rules, without restrictions, and whose terms have normal forms, as they have without equations of its own.
 pub record IsSearched (theory : WrittenTheory) : Type 0 where
+  pub normal_forms : HasNormalForms (signature_of (theory_of theory))
   pub plain : Every IsPlainRule theory.rules
   pub rule_names : Distinct (map (λ (r : WrittenRule). r.name) theory.rules)
   pub right : Every (λ (r : WrittenRule). rule_is_wrong r ≡ false) theory.rules
   pub unrestricted : theory.restrictions ≡ []
 
--- The log breaks the lemma; its steps are an execution with its visible trace, and break the lemma too.
+-- The log breaks the lemma; its steps are an execution with its visible trace, and where the lemma is read over executions they break it too.
 pub record FoundBreaks (theory : Theory) (lemma : Lemma) (log : Log) : Type 0 where
   pub by_log : IsBrokenByLog theory lemma log
-  pub executed : IsExecution theory (execution_of theory.rules log) (visible_trace log)
-  pub by_steps : IsBrokenBy theory lemma (execution_of theory.rules log)
+  pub executed : IsExecution theory (execution_of theory log) (visible_trace log)
+  pub in_reading : IsBrokenInReading theory lemma log (execution_of theory log)
 
--- The log satisfies the lemma; its steps are an execution with its visible trace, and satisfy the lemma too.
+-- The log satisfies the lemma; its steps are an execution with its visible trace, and where the lemma is read over executions they satisfy it too.
 pub record FoundSatisfies (theory : Theory) (lemma : Lemma) (log : Log) : Type 0 where
   pub by_log : IsSatisfiedByLog theory lemma log
-  pub executed : IsExecution theory (execution_of theory.rules log) (visible_trace log)
-  pub by_steps : IsSatisfiedBy theory lemma (execution_of theory.rules log)
+  pub executed : IsExecution theory (execution_of theory log) (visible_trace log)
+  pub in_reading : IsSatisfiedInReading theory lemma log (execution_of theory log)

@@ -8,16 +8,17 @@ use Rattle.sp_spec.specs.Term.{MadeOf, AllMadeOf, Sort, Msg, Fresh, Pub, Variabl
 use Rattle.sp_spec.specs.Rule.{Fact, Facts, fact_at}
 use Rattle.sp_spec.specs.Formula.{Written}
 use Rattle.sp_spec.specs.Written.{WrittenRule, in_term, in_terms, in_facts, in_actions, occurrences, rule_names, place_of, numbered_in, sort_in, rule_of}
-use Rattle.sp_spec.specs.Findings.{has_wide_fact, has_wide_action, has_two_sorts, has_wrong_premise, has_fr, has_wrong_argument, is_pub, is_named, has_unbound, rule_is_wrong}
-use Rattle.sp_spec.proofs.Lists.{every_map, every_weaken}
+use Rattle.sp_spec.specs.Findings.{has_wide_fact, has_wide_action, has_two_sorts, has_wrong_premise, is_fr_named, has_fr, has_wrong_argument, is_pub, is_named, has_unbound, rule_is_wrong}
+use Rattle.sp_spec.proofs.Lists.{every_map}
 use Rattle.sp_spec.specs.Log.{is_in}
-use Rattle.sp_law_system.specs.Rules.{StandsIn, StandsAmong, HasVariable, no_fresh_names, IsClosedRule}
+use Rattle.sp_law_system.specs.Rules.{IsClosedRule}
 use Rattle.sp_law_tree.specs.PlainTheory.{IsAtomic, AreAtomic, IsPlainFact, IsPlainRule}
 use Rattle.sp_spec.proofs.Occurrences.{facts_each}
 use Rattle.sp_law_tree.proofs.FreshRules.{fresh_premises}
+use Rattle.sp_law_equal.specs.RightTheory.{MakesNoFr, StandsIn, StandsAmong, HasVariable, no_fresh_names}
 
 -- no message is taken in
-not_in : (b c : Bool) → (b ≡ true → ⊥) → (b && c) ≡ false
+pub not_in : (b c : Bool) → (b ≡ true → ⊥) → (b && c) ≡ false
 not_in true c h = absurd (h refl)
 not_in false c h = refl
 
@@ -129,8 +130,18 @@ rule_closed r p e = record {
   bound = conclusions_bound r.facts r.facts.conclusions p.conclusions (has_none r e).bound;
 }
 
-pub none_concluded : (rs : List WrittenRule) → Every (λ (r : WrittenRule). rule_is_wrong r ≡ false) rs → Every (λ (r : WrittenRule). has_fr r.facts.conclusions ≡ false) rs
-none_concluded rs e = every_weaken (λ (r : WrittenRule). rule_is_wrong r ≡ false) (λ (r : WrittenRule). has_fr r.facts.conclusions ≡ false) (λ r h. (has_none r h).conclusions) rs e
+-- no Fr is concluded
+no_fr : (fs : List (Fact Written)) → has_fr fs ≡ false → Every (λ (f : Fact Written). f.symbol ≡ codes "Fr" → ⊥) fs
+no_fr [] e = tt
+no_fr (f ∷ fs) e =
+    let both = or_parts (is_fr_named f) (has_fr fs) e in
+    ((λ k. cc (both.0, (bytes_eq-Decides f.symbol (codes "Fr")).1 k)), no_fr fs both.1)
+
+pub none_concluded : (rs : List WrittenRule) → Every (λ (r : WrittenRule). rule_is_wrong r ≡ false) rs → Every MakesNoFr (map rule_of rs)
+none_concluded rs e =
+    every_map (λ (r : WrittenRule). rule_is_wrong r ≡ false) MakesNoFr rule_of
+    (λ r h. every_map (λ (f : Fact Written). f.symbol ≡ codes "Fr" → ⊥) _ (fact_at (numbered_in r.facts)) (λ f k. k) r.facts.conclusions (no_fr r.facts.conclusions (has_none r h).conclusions))
+    rs e
 
 pub rules_closed : (rs : List WrittenRule) → Every IsPlainRule rs → Every (λ (r : WrittenRule). rule_is_wrong r ≡ false) rs → Every IsClosedRule (map rule_of rs)
 rules_closed [] p e = tt

@@ -1,53 +1,14 @@
 -- Growth: what is grown is accepted, and has no more steps than the budget allows.
-use Rattle.std.proofs.Common.{◌≡◌, ◌≤◌, ℕ, zero, suc, ◌+◌, Bool, true, false, List, [], ◌∷◌, Option, Some, None, option_map, IfSome, is_some, if◌then◌else◌, refl, sym, ap, ◌∙◌, true≢false, arith}
-use Rattle.std.proofs.lemmas.Bool.{cond_both, or_left}
+use Rattle.std.proofs.Common.{◌≡◌, ◌≤◌, ℕ, zero, suc, ◌+◌, Bool, true, false, List, [], ◌∷◌, Option, Some, None, option_map, IfSome, is_some, if◌then◌else◌, refl, sym, true≢false, arith}
+use Rattle.std.proofs.lemmas.Bool.{cond_both}
 use Rattle.std.proofs.lemmas.Option.{IfSome_then}
-use Rattle.sp_spec.specs.Guarded.{Guarded}
-use Rattle.sp_spec.specs.Term.{Variable}
-use Rattle.sp_spec.specs.Rule.{Fact}
-use Rattle.sp_spec_system.specs.System.{Event, System, happening_premises}
-use Rattle.sp_spec_proof.specs.Rows.{rows, by_rows, fails_somewhere, is_contradictory}
-use Rattle.sp_spec_system.specs.Move.{Move, simplify, contradiction, unproved, solved, or, action, premise, Context, Case, end_log}
+use Rattle.sp_spec_system.specs.System.{System}
+use Rattle.sp_spec_system.specs.Move.{Move, simplify, contradiction, unproved, solved, or, action, premise, Context, Case}
 use Rattle.sp_spec_proof.specs.Cases.{cases}
+use Rattle.sp_spec_proof.specs.Choice.{Ranked, choice, class_of}
 use Rattle.sp_spec_proof.specs.Tree.{Tree, node, Branches, no_branch, branch, IsAccepted, AreAccepted, step_of, steps, steps_in}
-use Rattle.sp_spec_proof.specs.Growth.{premise_from, first_premise, first_action, first_disjunction, choice, least_class, class_of, has_class, is_unproved, leaves_for, open_leaves, grown_leaf, first_grown, grown_at, grown_in, has_end, grown_by, grown_once, go_on, grown, grown_tree}
-
-abbrev HasCases : Context → System → Move → Type 0
-HasCases context s move = is_some (cases context s move) ≡ true
-
-HasCases-premise_from : (context : Context) (s : System) (i p : ℕ) (fs : List (Fact Variable)) (later : Move) → HasCases context s later → HasCases context s (premise_from context s i p fs later)
-HasCases-premise_from context s i p [] later h = h
-HasCases-premise_from context s i p (f ∷ fs) later h =
-    cond_both (is_some (cases context s (premise i p))) (premise i p) (premise_from context s i (suc p) fs later) (HasCases context s)
-    (λ e. e) (λ _. HasCases-premise_from context s i (suc p) fs later h)
-
-HasCases-first_premise : (context : Context) (s : System) (events : List Event) → HasCases context s (first_premise context s events)
-HasCases-first_premise context s [] = refl
-HasCases-first_premise context s (e ∷ events) =
-    HasCases-premise_from context s e.time 0 (happening_premises e.happening) (first_premise context s events) (HasCases-first_premise context s events)
-
-HasCases-first_action : (context : Context) (s : System) (k : ℕ) (fs : List Guarded) → HasCases context s (first_action context s k fs)
-HasCases-first_action context s k [] = HasCases-first_premise context s s.events
-HasCases-first_action context s k (f ∷ fs) =
-    cond_both (is_some (cases context s (action k))) (action k) (first_action context s (suc k) fs) (HasCases context s)
-    (λ e. e) (λ _. HasCases-first_action context s (suc k) fs)
-
-HasCases-first_disjunction : (context : Context) (s : System) (k : ℕ) (fs : List Guarded) → HasCases context s (first_disjunction context s k fs)
-HasCases-first_disjunction context s k [] = HasCases-first_action context s 0 s.formulas
-HasCases-first_disjunction context s k (f ∷ fs) =
-    cond_both (is_some (cases context s (or k))) (or k) (first_disjunction context s (suc k) fs) (HasCases context s)
-    (λ e. e) (λ _. HasCases-first_disjunction context s (suc k) fs)
-
-HasCases-choice : (context : Context) (s : System) → HasCases context s (choice context s)
-HasCases-choice context s =
-    cond_both (is_contradictory s) contradiction _ (HasCases context s)
-    (λ e. rw e refl)
-    (λ _. cond_both (is_some (by_rows rows s)) simplify _ (HasCases context s) (λ e. rw (or_left (is_some (by_rows rows s)) (fails_somewhere s) e) refl)
-    (λ _. cond_both (is_some (end_log context s)) solved _ (HasCases context s) (λ e. rw e refl) (λ _. HasCases-first_disjunction context s 0 s.formulas)))
-
--- the chosen move is an instance
-pub choice_is_instance : (context : Context) (s : System) → cases context s (choice context s) ≡ None → ⊥
-choice_is_instance context s none = true≢false (sym (HasCases-choice context s) ∙ ap is_some none)
+use Rattle.sp_spec_proof.specs.Growth.{least_class, has_class, is_unproved, leaves_for, open_leaves, grown_leaf, first_grown, grown_at, grown_in, has_end, grown_by, grown_once, go_on, grown, grown_tree}
+use Rattle.sp_spec_proof.proofs.Chosen.{IfSome_map, choice_is_instance}
 
 leaves_accepted : (context : Context) (cs : List Case) → AreAccepted context (Some cs) (leaves_for cs)
 leaves_accepted context [] = tt
@@ -57,12 +18,11 @@ open_leaves_accepted : (context : Context) (o : Option (List Case)) → is_some 
 open_leaves_accepted context None e = true≢false (sym e)
 open_leaves_accepted context (Some cs) e = leaves_accepted context cs
 
-grown_leaf_accepted : (context : Context) (s : System) → IsAccepted context s (grown_leaf context s (choice context s))
-grown_leaf_accepted context s = open_leaves_accepted context (cases context s (choice context s)) (HasCases-choice context s)
-
-IfSome_map : {A B : Type 0} (f : A → B) (P : B → Type 0) (o : Option A) → IfSome o (λ x. P (f x)) → IfSome (option_map f o) P
-IfSome_map f P None h = tt
-IfSome_map f P (Some x) h = h
+grown_leaf_accepted : (context : Context) (s : System) → IfSome (option_map (grown_leaf context s) (choice context s)) (IsAccepted context s)
+grown_leaf_accepted context s =
+    IfSome_map (grown_leaf context s) (IsAccepted context s) (choice context s)
+    (IfSome_then _ {Q = λ chosen. IsAccepted context s (grown_leaf context s chosen)}
+    (choice_is_instance context s) (λ chosen h. open_leaves_accepted context (cases context s chosen.move) h))
 
 leaves_steps : (cs : List Case) → steps_in (leaves_for cs) ≡ 0
 leaves_steps [] = refl
@@ -81,8 +41,8 @@ step_of_one (or k) = omega arith
 step_of_one (action k) = omega arith
 step_of_one (premise i p) = omega arith
 
-grown_leaf_steps : (context : Context) (s : System) (move : Move) → steps (grown_leaf context s move) ≤ 1
-grown_leaf_steps context s move = omega (arith, step_of_one move, open_leaves_steps (cases context s move))
+grown_leaf_steps : (context : Context) (s : System) (chosen : Ranked) → steps (grown_leaf context s chosen) ≤ 1
+grown_leaf_steps context s chosen = omega (arith, step_of_one chosen.move, open_leaves_steps (cases context s chosen.move))
 
 -- the first tree is grown, or the branches behind it
 IfSome-first_grown : (P : Branches → Type 0) (name : List ℕ) (tree : Tree) (branches : Branches) (o : Option Tree) (later : Option Branches)
@@ -91,16 +51,16 @@ IfSome-first_grown P name tree branches (Some t) later h k = h
 IfSome-first_grown P name tree branches None later h k = IfSome_map (branch name tree) P later k
 
 -- a leaf that is grown, or none
-IfSome_if : {A : Type 0} (P : A → Type 0) (b : Bool) (x : A) → P x → IfSome (if b then Some x else None) P
-IfSome_if P true x h = h
-IfSome_if P false x h = tt
+IfSome_if : {A : Type 0} (P : A → Type 0) (b : Bool) (o : Option A) → IfSome o P → IfSome (if b then o else None) P
+IfSome_if P true o h = h
+IfSome_if P false o h = tt
 
 module _ (context : Context) (k : ℕ) where
   mutual
     grown_at_accepted : (depth : ℕ) (tree : Tree) (s : System) → IsAccepted context s tree → IfSome (grown_at context k depth s tree) (IsAccepted context s)
     grown_at_accepted depth (node move branches) s accepted =
         cond_both (is_unproved move) _ _ (λ (o : Option Tree). IfSome o (IsAccepted context s))
-        (λ _. IfSome_if (IsAccepted context s) (has_class (class_of (choice context s) depth) k) (grown_leaf context s (choice context s)) (grown_leaf_accepted context s))
+        (λ _. IfSome_if (IsAccepted context s) (has_class (class_of (choice context s) depth) k) (option_map (grown_leaf context s) (choice context s)) (grown_leaf_accepted context s))
         (λ _. IfSome_map (node move) (IsAccepted context s) (grown_in context k (suc depth) (cases context s move) branches)
         (grown_in_accepted (suc depth) branches (cases context s move) accepted))
 
@@ -122,11 +82,15 @@ module _ (context : Context) (k : ℕ) where
     grown_at_steps : (depth : ℕ) (tree : Tree) (s : System) → IfSome (grown_at context k depth s tree) (λ t. steps t ≤ suc (steps tree))
     grown_at_steps depth (node move branches) s =
         cond_both (is_unproved move) _ _ (λ (o : Option Tree). IfSome o (λ t. steps t ≤ suc (steps (node move branches))))
-        (λ _. IfSome_if (λ t. steps t ≤ suc (steps (node move branches))) (has_class (class_of (choice context s) depth) k) (grown_leaf context s (choice context s))
-        (omega (arith, grown_leaf_steps context s (choice context s))))
+        (λ _. IfSome_if (λ t. steps t ≤ suc (steps (node move branches))) (has_class (class_of (choice context s) depth) k)
+        (option_map (grown_leaf context s) (choice context s)) (one_more (choice context s)))
         (λ _. IfSome_map (node move) (λ t. steps t ≤ suc (steps (node move branches))) (grown_in context k (suc depth) (cases context s move) branches)
         (IfSome_then _ {Q = λ bs. steps (node move bs) ≤ suc (steps (node move branches))}
         (grown_in_steps (suc depth) branches (cases context s move)) (λ bs h. omega arith)))
+      where
+        one_more : (o : Option Ranked) → IfSome (option_map (grown_leaf context s) o) (λ t. steps t ≤ suc (steps (node move branches)))
+        one_more None = tt
+        one_more (Some chosen) = omega (arith, grown_leaf_steps context s chosen)
 
     grown_in_steps : (depth : ℕ) (branches : Branches) (o : Option (List Case))
         → IfSome (grown_in context k depth o branches) (λ bs. steps_in bs ≤ suc (steps_in branches))

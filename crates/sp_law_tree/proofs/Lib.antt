@@ -14,3 +14,4 @@ pub mod WrittenRules
 pub mod Named
 pub mod OverLogs
 pub mod OverExecutions
+pub mod RightTexts

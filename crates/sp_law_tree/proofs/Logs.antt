@@ -50,7 +50,7 @@ later_there None later h = h
 later_there (Some log) later h = (log, refl)
 
 -- where the move is an instance with which the search ends, there is a log
-there_if : (context : Context) (o : Option Log) (branches : Branches) → AreAccepted context (option_map (map simple_case) (if is_some o then Some [] else None)) branches → IsThere o
+there_if : (context : Context) (o : Option Log) (branches : Branches) → AreAccepted context (option_map (map (simple_case context.rules)) (if is_some o then Some [] else None)) branches → IsThere o
 there_if context None branches a = absurd a
 there_if context (Some log) branches a = (log, refl)
 

@@ -51,9 +51,9 @@ logs_show_executions_lem = record {
   none = λ theory lemma names have rest depends holds steps trace execution meets there.
       let l = have.logs steps trace execution in
       holds l.0 l.1 (meets_too (signature_of theory) names trace (log_trace l.0) l.2 theory.restrictions rest meets) ((depends.same trace (log_trace l.0) l.2).0 there);
-  without_adversary = λ theory needs good names no_send. record {
+  without_adversary = λ theory alone makes good names no_send. record {
     logs = λ steps trace execution.
-        let r = executions_erase theory good needs steps trace execution in
+        let r = executions_erase theory good alone makes steps trace execution in
         (r.0, r.1.is_log, erased_shown (signature_of theory).equations names no_send trace (log_trace r.0) r.1.same_trace);
   };
 }

@@ -7,7 +7,7 @@ use Rattle.sp_spec.specs.Rule.{OfArguments}
 use Rattle.sp_spec.specs.Formula.{Written}
 use Rattle.sp_spec.specs.Written.{WrittenRule, rule_of}
 use Rattle.sp_spec.proofs.Lists.{every_weaken}
-use Rattle.sp_law_run.specs.Right.{IsTermOver, AreTermsOver, RulesAreOver}
+use Rattle.sp_law_equal.specs.Right.{IsTermOver, AreTermsOver, RulesAreOver}
 use Rattle.sp_law_run.proofs.Written.{rules_over}
 use Rattle.sp_law_tree.specs.PlainTheory.{IsAtomic, AreAtomic, IsPlainFact, IsPlainAction, IsPlainRule}
 

@@ -1,27 +1,24 @@
 -- A written rule of a plain theory stands for a rule whose variables are numbered, without destructors, that leaves the adversary
 -- alone.
 use Rattle.std.proofs.Common.{◌≡◌, ◌<◌, ℕ, zero, suc, Bool, true, false, ◌||◌, if◌then◌else◌, List, [], ◌∷◌, ◌++◌, map, length, codes, sym, subst, inl, inr, arith, bytes_eq}
-use Rattle.std.proofs.lemmas.Bool.{or_parts}
-use Rattle.std.proofs.lemmas.Slice.Eq.{bytes_eq-Decides}
 use Rattle.sp_spec.specs.Lists.{Member, Every}
-use Rattle.sp_spec.specs.Term.{Variable, Term, var, constant, name, app, Terms, none, more, Values, valued, valued_all}
-use Rattle.sp_spec.specs.Signature.{Symbol, Equation, IsOver, AreOver}
-use Rattle.sp_spec.specs.Rule.{Fact, Action, Declared, Rule, fact_at, action_at, facts_at, FactsMadeOf}
+use Rattle.sp_spec.specs.Term.{Variable, Term, var, constant, name, app, Terms, none, more, valued, valued_all}
+use Rattle.sp_spec.specs.Signature.{Equation}
+use Rattle.sp_spec.specs.Rule.{Fact, Action, Declared, Rule, fact_at, action_at, FactsMadeOf}
 use Rattle.sp_spec.specs.Formula.{Written}
 use Rattle.sp_spec.specs.Written.{WrittenRule, WrittenTheory, occurrences, is_listed, rule_names, place_of, numbered_in, sort_in, rule_of, theory_of}
-use Rattle.sp_spec.specs.Theory.{signature_of}
-use Rattle.sp_spec.specs.Findings.{is_fr_named, has_fr}
 use Rattle.sp_spec.proofs.Occurrences.{occurrences_each, names_have}
 use Rattle.sp_law_equal.specs.Destructors.{IsPlain, ArePlain}
-use Rattle.sp_law_erase.specs.Adversary.{adversary_facts, adversary_names, NeedsNoAdversary}
+use Rattle.sp_law_erase.specs.Adversary.{adversary_names}
 use Rattle.sp_spec.proofs.Lists.{every_map, every_member, every_parts, member_mapped, length_map}
 use Rattle.sp_law_system.proofs.Numbers.{facts_valued}
-use Rattle.sp_law_system.specs.Rules.{InstancesAreOver, FactsArePlain, RulesArePlain, RulesAreNumbered}
+use Rattle.sp_law_system.specs.Rules.{RulesAreNumbered}
 use Rattle.sp_spec.specs.Constants.{in_facts, in_actions, in_rule, constants_of}
 use Rattle.sp_spec_system.specs.Numbered.{names_in}
 use Rattle.sp_law_tree.specs.Laws.{NamesStand}
 use Rattle.sp_law_tree.proofs.Named.{AreListed, facts_made, actions_made, rules_listed, lemma_has_names}
 use Rattle.sp_law_tree.specs.PlainTheory.{IsAtomic, AreAtomic, IsPlainFact, IsPlainAction, IsPlainRule}
+use Rattle.sp_law_equal.specs.RightTheory.{FactsArePlain, RulesArePlain, adversary_facts, LeavesAdversaryAlone}
 
 place_under : (x : List ℕ) (xs : List (List ℕ)) → is_listed x xs ≡ true → place_of x xs < length xs
 place_under x [] e = absurd cc
@@ -81,40 +78,6 @@ pub rules_plain : (es : List Equation) (rs : List WrittenRule) → Every IsPlain
 rules_plain es [] h = tt
 rules_plain es (r ∷ rs) h = (rule_plain es r h.0, rules_plain es rs h.1)
 
--- no symbol stands in them, so the actions and conclusions of their instances are over any signature
-module _ (symbols : List Symbol) (v : Written → Term Variable) (w : Values) (over : (x : Written) → IsOver symbols (valued w (v x))) where
-  atomic_over : (t : Term Written) → IsAtomic t → IsOver symbols (valued w (valued v t))
-  atomic_over (var x) h = over x
-  atomic_over (constant c) h = tt
-  atomic_over (name n) h = absurd h
-  atomic_over (app f ts) h = absurd h
-
-  atomics_over : (ts : Terms Written) → AreAtomic ts → AreOver symbols (valued_all w (valued_all v ts))
-  atomics_over none h = tt
-  atomics_over (more t ts) h = (atomic_over t h.0, atomics_over ts h.1)
-
-  actions_over : (xs : List (Action Written)) → Every IsPlainAction xs → Every (λ (a : Action ⊥). AreOver symbols a.args) (map (action_at w) (map (action_at v) xs))
-  actions_over xs h =
-      every_map (λ (b : Action Variable). AreOver symbols (valued_all w b.args)) _ (action_at w) (λ b k. k) (map (action_at v) xs)
-      (every_map IsPlainAction _ (action_at v) (λ a k. atomics_over a.args k.0) xs h)
-
-  conclusions_over : (fs : List (Fact Written)) → Every IsPlainFact fs → Every (λ (f : Fact ⊥). AreOver symbols f.args) (map (fact_at w) (map (fact_at v) fs))
-  conclusions_over fs h =
-      every_map (λ (f : Fact Variable). AreOver symbols (valued_all w f.args)) _ (fact_at w) (λ f k. k) (map (fact_at v) fs)
-      (every_map IsPlainFact _ (fact_at v) (λ f k. atomics_over f.args k.0) fs h)
-
-pub rules_over : (t : WrittenTheory) → Every IsPlainRule t.rules → InstancesAreOver (theory_of t)
-rules_over t h =
-    let symbols = (signature_of (theory_of t)).symbols in
-    record {
-      actions = λ r m w sorts. let q = member_mapped rule_of r t.rules m in
-          subst (λ (x : Rule). Every (λ (a : Action ⊥). AreOver symbols a.args) (facts_at w x.facts).actions) q.2
-          (actions_over symbols (numbered_in q.0.facts) w (λ x. (sorts _).1) q.0.facts.actions (every_member IsPlainRule t.rules q.0 q.1 h).actions);
-      conclusions = λ r m w sorts. let q = member_mapped rule_of r t.rules m in
-          subst (λ (x : Rule). Every (λ (f : Fact ⊥). AreOver symbols f.args) (facts_at w x.facts).conclusions) q.2
-          (conclusions_over symbols (numbered_in q.0.facts) w (λ x. (sorts _).1) q.0.facts.conclusions (every_member IsPlainRule t.rules q.0 q.1 h).conclusions);
-    }
-
 -- they leave the adversary alone
 among : (s : List ℕ) → Member s adversary_facts → Member s adversary_names
 among s (inl h) = inl h
@@ -122,21 +85,12 @@ among s (inr (inl h)) = inr (inl h)
 among s (inr (inr (inl h))) = inr (inr (inl h))
 among s (inr (inr (inr h))) = absurd h
 
-no_fr : (fs : List (Fact Written)) → has_fr fs ≡ false → Every (λ (f : Fact Written). f.symbol ≡ codes "Fr" → ⊥) fs
-no_fr [] e = tt
-no_fr (f ∷ fs) e =
-    let both = or_parts (is_fr_named f) (has_fr fs) e in
-    ((λ k. cc (both.0, (bytes_eq-Decides f.symbol (codes "Fr")).1 k)), no_fr fs both.1)
-
-pub rules_leave_adversary : (t : WrittenTheory) → Every IsPlainRule t.rules → Every (λ (r : WrittenRule). has_fr r.facts.conclusions ≡ false) t.rules → NeedsNoAdversary (theory_of t)
-rules_leave_adversary t plain fr = record {
+pub rules_leave_adversary : (t : WrittenTheory) → Every IsPlainRule t.rules → LeavesAdversaryAlone (theory_of t)
+rules_leave_adversary t plain = record {
   premises = λ r m. let o = member_mapped rule_of r t.rules m in
       subst (λ (q : Rule). Every (λ (f : Fact Variable). Member f.symbol adversary_facts → ⊥) q.facts.premises) o.2
       (every_map IsPlainFact _ (fact_at (numbered_in o.0.facts)) (λ f k l. k.1 (among f.symbol l)) o.0.facts.premises (every_member IsPlainRule t.rules o.0 o.1 plain).premises);
   actions = λ r m. let o = member_mapped rule_of r t.rules m in
       subst (λ (q : Rule). Every (λ (a : Action Variable). a.symbol ≡ codes "K" → ⊥) q.facts.actions) o.2
       (every_map IsPlainAction _ (action_at (numbered_in o.0.facts)) (λ a k l. k.1 (inr (inr (inl (sym l))))) o.0.facts.actions (every_member IsPlainRule t.rules o.0 o.1 plain).actions);
-  conclusions = λ r m. let o = member_mapped rule_of r t.rules m in
-      subst (λ (q : Rule). Every (λ (f : Fact Variable). f.symbol ≡ codes "Fr" → ⊥) q.facts.conclusions) o.2
-      (every_map (λ (f : Fact Written). f.symbol ≡ codes "Fr" → ⊥) _ (fact_at (numbered_in o.0.facts)) (λ f k. k) o.0.facts.conclusions (no_fr o.0.facts.conclusions (every_member (λ (q : WrittenRule). has_fr q.facts.conclusions ≡ false) t.rules o.0 o.1 fr)));
 }

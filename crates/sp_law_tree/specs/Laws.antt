@@ -1,5 +1,5 @@
 -- What an accepted tree shows, and what growth owes.
-use Rattle.std.specs.Prelude.{◌≡◌, Some, None, true, false, ℕ, ◌≤◌, List, codes}
+use Rattle.std.specs.Prelude.{◌≡◌, Some, None, true, false, ℕ, ◌≤◌, List, map, codes}
 use Rattle.sp_spec.specs.Theory.{Theory, Restriction, Lemma, signature_of}
 use Rattle.sp_spec_system.specs.System.{System}
 use Rattle.sp_spec_system.specs.Numbered.{names_in}
@@ -9,17 +9,17 @@ use Rattle.sp_spec_proof.specs.Tree.{Tree, IsAccepted, IsFinished, found_log, st
 use Rattle.sp_spec.specs.Log.{Log}
 use Rattle.sp_law_system.specs.Rules.{IsPlainTheory, RulesAreNumbered}
 use Rattle.sp_spec_proof.specs.Growth.{has_end, grown_tree}
-use Rattle.sp_spec.specs.Lists.{Member, Every, is_listed}
+use Rattle.sp_spec.specs.Lists.{Member, Every, Distinct, is_listed}
 use Rattle.sp_spec.specs.Written.{WrittenRule, WrittenTheory, theory_of}
 use Rattle.sp_spec.specs.Constants.{constants_of}
 use Rattle.sp_spec.specs.Findings.{rule_is_wrong}
 use Rattle.sp_spec.specs.Guarded.{Guarded}
 use Rattle.sp_spec.specs.Verdict.{HoldsInAll, HoldsInNone, HoldsInAllLogs, HoldsInNoLog}
-use Rattle.sp_law_equal.specs.NormalForms.{HaveNormalForms}
+use Rattle.sp_law_equal.specs.NormalForms.{HaveNormalForms, HasNormalForms}
 use Rattle.sp_law_guard.specs.GuardedForm.{negate}
 use Rattle.sp_law_guard.specs.CheckedForm.{checked_form}
 use Rattle.sp_spec_proof.specs.Root.{root}
-use Rattle.sp_law_erase.specs.Adversary.{NeedsNoAdversary}
+use Rattle.sp_law_equal.specs.RightTheory.{MakesNoFr, IsRightTheory, LeavesAdversaryAlone}
 use Rattle.sp_law_tree.specs.PlainTheory.{HasNames, IsPlainRule, IsPlainFormula}
 use Rattle.sp_law_tree.specs.Executions.{DependsOn, HasLogsFor}
 
@@ -45,7 +45,7 @@ pub record TreesShowLogs : Type 0 where
       → (context : Context) → IsContextOf theory context → HasNames (names_in context.public_names) lemma.formula → (tree : Tree) → IsAccepted context (root g) tree → IsFinished tree → HoldsInNoLog theory lemma
 
 -- What holds in all logs holds in all executions, where each execution has a log that shows what the restrictions and the lemma see of it;
--- and so it is where no rule needs the adversary, for what names no action of sending.
+-- and so it is where the rules leave the adversary alone and make no Fr, for what names no action of sending.
 pub record LogsShowExecutions : Type 0 where
   pub all : (theory : Theory) (lemma : Lemma) (names : List (List ℕ)) → HasLogsFor theory names
       → Every (λ (r : Restriction). DependsOn (signature_of theory) names r.formula) theory.restrictions → DependsOn (signature_of theory) names lemma.formula
@@ -53,16 +53,24 @@ pub record LogsShowExecutions : Type 0 where
   pub none : (theory : Theory) (lemma : Lemma) (names : List (List ℕ)) → HasLogsFor theory names
       → Every (λ (r : Restriction). DependsOn (signature_of theory) names r.formula) theory.restrictions → DependsOn (signature_of theory) names lemma.formula
       → HoldsInNoLog theory lemma → HoldsInNone theory lemma
-  pub without_adversary : (theory : Theory) → NeedsNoAdversary theory → HaveNormalForms (signature_of theory).equations
+  pub without_adversary : (theory : Theory) → LeavesAdversaryAlone theory → Every MakesNoFr theory.rules → HaveNormalForms (signature_of theory).equations
       → (names : List (List ℕ)) → is_listed (codes "K") names ≡ false → HasLogsFor theory names
 
--- What a finished tree shows of a lemma of a theory without findings on its rules, steps of the adversary included. From the negation of the lemma's guarded
--- form: every execution satisfies the lemma. From the guarded form: no execution does.
+-- What a text gives whose terms have normal forms, and whose rules have no findings and names of their own: its theory is right, and leaves the adversary
+-- alone. What is right of a theory is all that covering asks of it.
+pub record TextsAreRight : Type 0 where
+  pub right : (theory : WrittenTheory) → HasNormalForms (signature_of (theory_of theory)) → Every IsPlainRule theory.rules → Every (λ (r : WrittenRule). rule_is_wrong r ≡ false) theory.rules
+      → Distinct (map (λ (r : WrittenRule). r.name) theory.rules) → IsRightTheory (theory_of theory)
+  pub alone : (theory : WrittenTheory) → Every IsPlainRule theory.rules → LeavesAdversaryAlone (theory_of theory)
+  pub plain : (theory : Theory) → IsRightTheory theory → LeavesAdversaryAlone theory → IsPlainTheory theory
+
+-- What a finished tree shows of a lemma of a theory whose terms have normal forms, and without findings on its rules, steps of the adversary included. From
+-- the negation of the lemma's guarded form: every execution satisfies the lemma. From the guarded form: no execution does.
 pub record LemmasAreShown : Type 0 where
-  pub all_traces : (theory : WrittenTheory) → Every IsPlainRule theory.rules → Every (λ (r : WrittenRule). rule_is_wrong r ≡ false) theory.rules
+  pub all_traces : (theory : WrittenTheory) → HasNormalForms (signature_of (theory_of theory)) → Every IsPlainRule theory.rules → Every (λ (r : WrittenRule). rule_is_wrong r ≡ false) theory.rules
       → (lemma : Lemma) → IsPlainFormula lemma.formula → (g : Guarded) → checked_form lemma.formula ≡ Some g
       → (context : Context) → IsContextOf (theory_of theory) context → HasNames (names_in context.public_names) lemma.formula → (tree : Tree) → IsAccepted context (root (negate g)) tree → IsFinished tree → HoldsInAll (theory_of theory) lemma
-  pub exists_trace : (theory : WrittenTheory) → Every IsPlainRule theory.rules → Every (λ (r : WrittenRule). rule_is_wrong r ≡ false) theory.rules
+  pub exists_trace : (theory : WrittenTheory) → HasNormalForms (signature_of (theory_of theory)) → Every IsPlainRule theory.rules → Every (λ (r : WrittenRule). rule_is_wrong r ≡ false) theory.rules
       → (lemma : Lemma) → IsPlainFormula lemma.formula → (g : Guarded) → checked_form lemma.formula ≡ Some g
       → (context : Context) → IsContextOf (theory_of theory) context → HasNames (names_in context.public_names) lemma.formula → (tree : Tree) → IsAccepted context (root g) tree → IsFinished tree → HoldsInNone (theory_of theory) lemma
 

@@ -5,7 +5,7 @@
 // within its budget of steps. All is said of the definitions.
 #![tactic(auto)]
 
-ghost use Rattle.sp_law_tree.specs.Laws.{AcceptedTreesShow, TreesShowLogs, LogsShowExecutions, LemmasAreShown, NamesStand, GrowthIsAccepted};
+ghost use Rattle.sp_law_tree.specs.Laws.{AcceptedTreesShow, TreesShowLogs, LogsShowExecutions, TextsAreRight, LemmasAreShown, NamesStand, GrowthIsAccepted};
 
 /// The root of an accepted tree that is finished has no solution; where the search ends at a leaf, the tree has a log.
 pub fn accepted_trees_show()
@@ -20,6 +20,11 @@ pub fn trees_show_logs()
 /// What holds in all logs holds in all executions that have logs.
 pub fn logs_show_executions()
     ensures { LogsShowExecutions }
+{}
+
+/// A text without findings has a right theory that leaves the adversary alone.
+pub fn texts_are_right()
+    ensures { TextsAreRight }
 {}
 
 /// What finished trees show of lemmas.

@@ -6,52 +6,43 @@ use Rattle.std.proofs.lemmas.Bool.{and_parts, and_from, cases_order}
 use Rattle.sp_spec.specs.Lists.{Distinct, newest_first}
 use Rattle.sp_spec.specs.Same.{same_term}
 use Rattle.sp_spec.specs.Theory.{Theory, signature_of}
-use Rattle.sp_spec.specs.Log.{Entry, step, send, learn, Log, fresh_uses, all_fresh_uses, sources_of, all_sources, IsLog}
+use Rattle.sp_spec.specs.Log.{Entry, step, send, learn, Log, fresh_uses, all_fresh_uses, sources_of, all_sources, IsRuleInstance, IsLog}
 use Rattle.sp_spec.proofs.Same.{same_term_decides}
+use Rattle.sp_spec.proofs.Logs.{log_sources, log_fresh, step_keeps}
+use Rattle.sp_law_erase.specs.Adversary.{IsStep}
 use Rattle.sp_log.specs.declared.check.Clause.{Clause}
 use Rattle.sp_log.specs.declared.check.Clause.TheVariants.{Instance, Sources, Freshness}
 use Rattle.sp_log.specs.declared.check.Checked.{Checked}
 use Rattle.sp_log.specs.declared.check.Checked.TheVariants.{Fine, Fails}
 use Rattle.sp_log.specs.Checking.{entry_is_instance, premises_have_sources, sources_are_right, names_are_new, same_source, are_new, broken, fails_or, check_behind, check_of, is_fine, is_log}
-use Rattle.sp_log.specs.Meaning.{CanCheck, PremisesHaveSources, Keeps, rank, IsLogOfSteps, IsFirstBroken, IsChecked}
+use Rattle.sp_log.specs.Meaning.{clause_of, IsStepKeeping, rank, IsLogOfSteps, IsFirstBroken, IsChecked}
 use Rattle.sp_log.proofs.Instances.{any_decides}
 use Rattle.sp_log.proofs.Premises.{sources_decide, same_source_decides}
 use Rattle.sp_log.proofs.New.{new_decides}
 use Rattle.sp_spec.proofs.Lists.{newest_append}
+use Rattle.sp_law_equal.specs.RightTheory.{HasNormalInstances}
 
 module _ (theory : Theory) where
-  log_fresh : (log : Log) → IsLog theory log → Distinct (all_fresh_uses log)
-  log_fresh [] h = tt
-  log_fresh (e ∷ past) h = h.2
-
-  log_sources : (log : Log) → IsLog theory log → Distinct (all_sources log)
-  log_sources [] h = tt
-  log_sources (e ∷ past) h = h.3
-
   -- the entries before the others of a log are a log
   log_before : (xs ys : List Entry) → IsLogOfSteps theory (xs ++ ys) → IsLogOfSteps theory ys
   log_before [] ys h = h
   log_before (x ∷ xs) ys h = log_before xs ys (h.0.0, h.1.1)
 
   -- an entry that keeps each clause behind a log makes a log
-  add_entry : (e : Entry) (past : Log) → IsLogOfSteps theory past → Keeps theory Instance e past → Keeps theory Sources e past → Keeps theory Freshness e past
-      → IsLogOfSteps theory (e ∷ past)
-  add_entry (step r facts os) past log i s f = ((log.0, (i, s.0), f, s.1), (tt, log.1))
-  add_entry (send m) past log i s f = absurd i
-  add_entry (learn m how) past log i s f = absurd i
+  add_entry : (e : Entry) (past : Log) → IsLogOfSteps theory past → IsStepKeeping theory Instance e past → IsStepKeeping theory Sources e past
+      → IsStepKeeping theory Freshness e past → IsLogOfSteps theory (e ∷ past)
+  add_entry (step r facts os) past log i s f = let sources = s.1 in ((log.0, step_keeps theory past r facts os i.1 sources.0 sources.1 f.1), (tt, log.1))
+  add_entry (send m) past log i s f = absurd i.0
+  add_entry (learn m how) past log i s f = absurd i.0
 
-  entry_keeps : (e : Entry) (past : Log) → IsLogOfSteps theory (e ∷ past) → (clause : Clause) → Keeps theory clause e past
-  entry_keeps (step r facts os) past h Instance = h.0.1.0
-  entry_keeps (step r facts os) past h Sources = (h.0.1.1, h.0.3)
-  entry_keeps (step r facts os) past h Freshness = h.0.2
-  entry_keeps (send m) past h clause = absurd h.1.0
-  entry_keeps (learn m how) past h clause = absurd h.1.0
+  entry_keeps : (e : Entry) (past : Log) → IsLogOfSteps theory (e ∷ past) → (clause : Clause) → IsStepKeeping theory clause e past
+  entry_keeps e past h clause = (h.1.0, h.0.1 (clause_of clause))
 
   -- ---- of one list there is one answer
 
   -- the entry that is broken stands behind the front, and its clause isn't kept
   broken_here : (front : List Entry) (e : Entry) (back : List Entry) → IsLogOfSteps theory (newest_first (front ++ e ∷ back)) → (clause : Clause)
-      → Keeps theory clause e (newest_first front)
+      → IsStepKeeping theory clause e (newest_first front)
   broken_here front e back h clause =
       let order : newest_first (front ++ e ∷ back) ≡ newest_first back ++ e ∷ newest_first front =
       newest_append front (e ∷ back) ∙ append_assoc (newest_first back) (e ∷ []) (newest_first front) in
@@ -64,74 +55,73 @@ module _ (theory : Theory) where
 
   -- ---- the tests
 
-  module _ (good : CanCheck theory) where
-    instance_decides : (e : Entry) (past : Log) → Decides (entry_is_instance (signature_of theory) theory.rules e) (Keeps theory Instance e past)
+  module _ (good : HasNormalInstances theory) where
+    instance_decides : (e : Entry) (past : Log) → Decides (entry_is_instance (signature_of theory) theory.rules e) (IsStepKeeping theory Instance e past)
     instance_decides (step r facts os) past =
         let d = any_decides (signature_of theory) good.normal_forms good.keeps theory.rules good.plain r facts in (
-          λ t. let h = d.0 t in (h.0, h.1, h.2, h.3.0, h.3.1, h.3.2),
-          λ h. d.1 (h.0, h.1, h.2, (h.3, h.4, h.5)),
+          λ t. let i = d.0 t in (tt, (i.0, i.1, i.2, i.3.0, i.3.1, i.3.2)),
+          λ h. let i : IsRuleInstance theory r facts = h.1 in d.1 (i.0, i.1, i.2, (i.3, i.4, i.5)),
         )
-    instance_decides (send m) past = (λ t. absurd cc, λ h. absurd h)
-    instance_decides (learn m how) past = (λ t. absurd cc, λ h. absurd h)
-
-    premises_decide : (e : Entry) (earlier : List Entry) → Decides (premises_have_sources e earlier) (PremisesHaveSources e (newest_first earlier))
-    premises_decide (step r facts os) earlier = sources_decide earlier facts.premises os
-    premises_decide (send m) earlier = (λ t. absurd cc, λ h. absurd h)
-    premises_decide (learn m how) earlier = (λ t. absurd cc, λ h. absurd h)
+    instance_decides (send m) past = (λ t. absurd cc, λ h. absurd h.0)
+    instance_decides (learn m how) past = (λ t. absurd cc, λ h. absurd h.0)
 
     sources_right : (e : Entry) (earlier : List Entry) → IsLogOfSteps theory (newest_first earlier)
-        → Decides (sources_are_right e earlier) (Keeps theory Sources e (newest_first earlier))
-    sources_right e earlier log =
-        let premises = premises_decide e earlier in
-        let new = new_decides sources_of all_sources refl (λ x xs. refl) same_source same_source_decides earlier e (log_sources (newest_first earlier) log.0) in (
-          λ t. let both = and_parts (premises_have_sources e earlier) (are_new same_source (all_sources earlier) (sources_of e)) t in (premises.0 both.0, new.0 both.1),
-          λ h. and_from _ _ (premises.1 h.0) (new.1 h.1),
+        → Decides (sources_are_right e earlier) (IsStepKeeping theory Sources e (newest_first earlier))
+    sources_right (step r facts os) earlier log =
+        let e = step r facts os in
+        let premises = sources_decide earlier facts.premises os in
+        let new = new_decides sources_of all_sources refl (λ x xs. refl) same_source same_source_decides earlier e (log_sources theory (newest_first earlier) log.0) in (
+          λ t. let both = and_parts (premises_have_sources e earlier) (are_new same_source (all_sources earlier) (sources_of e)) t in (tt, (premises.0 both.0, new.0 both.1)),
+          λ h. let k = h.1 in and_from _ _ (premises.1 k.0) (new.1 k.1),
         )
+    sources_right (send m) earlier log = (λ t. absurd cc, λ h. absurd h.0)
+    sources_right (learn m how) earlier log = (λ t. absurd cc, λ h. absurd h.0)
 
-    names_right : (e : Entry) (earlier : List Entry) → IsLogOfSteps theory (newest_first earlier)
-        → Decides (names_are_new e earlier) (Keeps theory Freshness e (newest_first earlier))
-    names_right e earlier log =
-        new_decides fresh_uses all_fresh_uses refl (λ x xs. refl) same_term same_term_decides earlier e (log_fresh (newest_first earlier) log.0)
+    names_right : (e : Entry) → IsStep e → (earlier : List Entry) → IsLogOfSteps theory (newest_first earlier)
+        → Decides (names_are_new e earlier) (IsStepKeeping theory Freshness e (newest_first earlier))
+    names_right e is_step earlier log =
+        let new = new_decides fresh_uses all_fresh_uses refl (λ x xs. refl) same_term same_term_decides earlier e (log_fresh theory (newest_first earlier) log.0) in
+        (λ t. (is_step, new.0 t), λ h. new.1 h.1)
 
     -- what the tests of an entry say
     abbrev Told : List Entry → Entry → Option Clause → Type 0
     Told earlier e None = IsLogOfSteps theory (e ∷ newest_first earlier)
     Told earlier e (Some clause) =
-        (Keeps theory clause e (newest_first earlier) → ⊥) × ((lesser : Clause) → rank lesser < rank clause → Keeps theory lesser e (newest_first earlier))
+        (IsStepKeeping theory clause e (newest_first earlier) → ⊥) × ((lesser : Clause) → rank lesser < rank clause → IsStepKeeping theory lesser e (newest_first earlier))
 
     refused : (b : Bool) (P : Type 0) → Decides b P → b ≡ false → P → ⊥
     refused b P d e h = true≢false (sym (d.1 h) ∙ e)
 
-    below_one : (e : Entry) (past : Log) → Keeps theory Instance e past → (lesser : Clause) → rank lesser < 1 → Keeps theory lesser e past
+    below_one : (e : Entry) (past : Log) → IsStepKeeping theory Instance e past → (lesser : Clause) → rank lesser < 1 → IsStepKeeping theory lesser e past
     below_one e past i Instance l = i
     below_one e past i Sources l = absurd (omega (arith, l))
     below_one e past i Freshness l = absurd (omega (arith, l))
 
-    below_two : (e : Entry) (past : Log) → Keeps theory Instance e past → Keeps theory Sources e past → (lesser : Clause) → rank lesser < 2
-        → Keeps theory lesser e past
+    below_two : (e : Entry) (past : Log) → IsStepKeeping theory Instance e past → IsStepKeeping theory Sources e past → (lesser : Clause) → rank lesser < 2
+        → IsStepKeeping theory lesser e past
     below_two e past i s Instance l = i
     below_two e past i s Sources l = s
     below_two e past i s Freshness l = absurd (omega (arith, l))
 
     module _ (earlier : List Entry) (e : Entry) (log : IsLogOfSteps theory (newest_first earlier)) where
-      by_names : Keeps theory Instance e (newest_first earlier) → Keeps theory Sources e (newest_first earlier) → (b : Bool) → names_are_new e earlier ≡ b
+      by_names : IsStepKeeping theory Instance e (newest_first earlier) → IsStepKeeping theory Sources e (newest_first earlier) → (b : Bool) → names_are_new e earlier ≡ b
           → Told earlier e (if b then None else Some Freshness)
-      by_names i s true is = add_entry e (newest_first earlier) log i s ((names_right e earlier log).0 is)
+      by_names i s true is = add_entry e (newest_first earlier) log i s ((names_right e i.0 earlier log).0 is)
       by_names i s false is =
-          (refused (names_are_new e earlier) (Keeps theory Freshness e (newest_first earlier)) (names_right e earlier log) is, below_two e (newest_first earlier) i s)
+          (refused (names_are_new e earlier) (IsStepKeeping theory Freshness e (newest_first earlier)) (names_right e i.0 earlier log) is, below_two e (newest_first earlier) i s)
 
-      by_sources : Keeps theory Instance e (newest_first earlier) → (b : Bool) → sources_are_right e earlier ≡ b
+      by_sources : IsStepKeeping theory Instance e (newest_first earlier) → (b : Bool) → sources_are_right e earlier ≡ b
           → Told earlier e (if b then (if names_are_new e earlier then None else Some Freshness) else Some Sources)
       by_sources i true is = by_names i ((sources_right e earlier log).0 is) (names_are_new e earlier) refl
       by_sources i false is =
-          (refused (sources_are_right e earlier) (Keeps theory Sources e (newest_first earlier)) (sources_right e earlier log) is, below_one e (newest_first earlier) i)
+          (refused (sources_are_right e earlier) (IsStepKeeping theory Sources e (newest_first earlier)) (sources_right e earlier log) is, below_one e (newest_first earlier) i)
 
       by_instance : (b : Bool) → entry_is_instance (signature_of theory) theory.rules e ≡ b
           → Told earlier e
           (if b then (if sources_are_right e earlier then (if names_are_new e earlier then None else Some Freshness) else Some Sources) else Some Instance)
       by_instance true is = by_sources ((instance_decides e (newest_first earlier)).0 is) (sources_are_right e earlier) refl
       by_instance false is = (
-        refused (entry_is_instance (signature_of theory) theory.rules e) (Keeps theory Instance e (newest_first earlier)) (instance_decides e (newest_first earlier)) is,
+        refused (entry_is_instance (signature_of theory) theory.rules e) (IsStepKeeping theory Instance e (newest_first earlier)) (instance_decides e (newest_first earlier)) is,
         λ lesser l. absurd (omega (arith, l)),
       )
 
@@ -212,7 +202,7 @@ module _ (theory : Theory) where
         → f.front ≡ g.front → f.entry ≡ g.entry → rank clause < rank other → ⊥
     not_greater n m clause other f g e s l =
         let kept = g.least clause l in
-        f.breaks (subst (λ (x : Entry). Keeps theory clause x (newest_first f.front)) (sym s) (subst (λ (zs : List Entry). Keeps theory clause g.entry (newest_first zs)) (sym e) kept))
+        f.breaks (subst (λ (x : Entry). IsStepKeeping theory clause x (newest_first f.front)) (sym s) (subst (λ (zs : List Entry). IsStepKeeping theory clause g.entry (newest_first zs)) (sym e) kept))
 
     of_rank : ℕ → Clause
     of_rank zero = Instance

@@ -2,7 +2,8 @@
 use Rattle.std.proofs.Common.{◌≡◌, List, [], ◌∷◌, ◌++◌, map, refl, sym, ap, ap₂, ◌∙◌, append_assoc}
 use Rattle.std.proofs.lemmas.List.{append-nil}
 use Rattle.sp_spec.specs.Term.{Ground}
-use Rattle.sp_spec.specs.Rule.{Action, Rule, sends}
+use Rattle.sp_spec.specs.Rule.{Action, sends}
+use Rattle.sp_spec.specs.Theory.{Theory}
 use Rattle.sp_spec.specs.Execution.{Step, make_fresh, Trace, with_entry}
 use Rattle.sp_spec.specs.Log.{Entry, step, send, learn, Log, entry_actions, log_trace, visible_trace}
 use Rattle.sp_law_found.specs.Found.{fresh_steps, entry_steps, execution_of}
@@ -16,22 +17,28 @@ fresh_steps_newest [] = refl
 fresh_steps_newest (t ∷ ts) = ap (λ (zs : List Step). zs ++ make_fresh t ∷ []) (fresh_steps_newest ts)
 
 -- the steps of entries, each the oldest first
-abbrev pub steps_in : List Rule → List Entry → List Step
-steps_in rules [] = []
-steps_in rules (e ∷ es) = newest_first (entry_steps rules e) ++ steps_in rules es
+abbrev pub steps_in : Theory → List Entry → List Step
+steps_in theory [] = []
+steps_in theory (e ∷ es) = newest_first (entry_steps theory [] e) ++ steps_in theory es
 
-execution_joined : (rules : List Rule) (xs ys : Log) → execution_of rules (xs ++ ys) ≡ execution_of rules xs ++ execution_of rules ys
-execution_joined rules [] ys = refl
-execution_joined rules (x ∷ xs) ys =
-    ap (λ (zs : List Step). entry_steps rules x ++ zs) (execution_joined rules xs ys)
-    ∙ sym (append_assoc (entry_steps rules x) (execution_of rules xs) (execution_of rules ys))
+-- what a rule does doesn't depend on the entries before
+past_alike : (theory : Theory) (past other : Log) (e : Entry) → entry_steps theory past e ≡ entry_steps theory other e
+past_alike theory past other (step r facts sources) = refl
+past_alike theory past other (send m) = refl
+past_alike theory past other (learn m how) = refl
 
-pub steps_newest : (rules : List Rule) (es : List Entry) → newest_first (steps_in rules es) ≡ execution_of rules (newest_first es)
-steps_newest rules [] = refl
-steps_newest rules (e ∷ es) =
-    newest_append (newest_first (entry_steps rules e)) (steps_in rules es)
-    ∙ ap₂ (λ (xs ys : List Step). xs ++ ys) (steps_newest rules es) (newest_twice (entry_steps rules e) ∙ sym (append-nil (entry_steps rules e)))
-    ∙ sym (execution_joined rules (newest_first es) (e ∷ []))
+execution_joined : (theory : Theory) (xs ys : Log) → execution_of theory (xs ++ ys) ≡ execution_of theory xs ++ execution_of theory ys
+execution_joined theory [] ys = refl
+execution_joined theory (x ∷ xs) ys =
+    ap₂ (λ (ws zs : List Step). ws ++ zs) (past_alike theory (xs ++ ys) xs x) (execution_joined theory xs ys)
+    ∙ sym (append_assoc (entry_steps theory xs x) (execution_of theory xs) (execution_of theory ys))
+
+pub steps_newest : (theory : Theory) (es : List Entry) → newest_first (steps_in theory es) ≡ execution_of theory (newest_first es)
+steps_newest theory [] = refl
+steps_newest theory (e ∷ es) =
+    newest_append (newest_first (entry_steps theory [] e)) (steps_in theory es)
+    ∙ ap₂ (λ (xs ys : List Step). xs ++ ys) (steps_newest theory es) (newest_twice (entry_steps theory [] e) ∙ sym (append-nil (entry_steps theory [] e)))
+    ∙ sym (execution_joined theory (newest_first es) (e ∷ []))
 
 -- ---- traces
 

@@ -6,11 +6,12 @@ use Rattle.sp_spec.specs.Lists.{newest_first}
 use Rattle.sp_log.specs.declared.check.Clause.{Clause}
 use Rattle.sp_log.specs.declared.check.Checked.{Checked}
 use Rattle.sp_log.specs.Checking.{is_log}
-use Rattle.sp_log.specs.Meaning.{CanCheck, IsLogOfSteps, IsFirstBroken, IsChecked}
+use Rattle.sp_log.specs.Meaning.{IsLogOfSteps, IsFirstBroken, IsChecked}
+use Rattle.sp_law_equal.specs.RightTheory.{HasNormalInstances}
 
 -- Entries, the oldest first, pass the test exactly where they are a log of steps alone.
 pub record LogsAreChecked : Type 0 where
-  pub each : (theory : Theory) → CanCheck theory → (entries : List Entry)
+  pub each : (theory : Theory) → HasNormalInstances theory → (entries : List Entry)
       → (is_log (signature_of theory) theory.rules entries ≡ true) ↔ IsLogOfSteps theory (newest_first entries)
 
 -- Of the same entries there is one answer: they are a log of steps, or one entry of theirs is the first that breaks a clause, with one least clause.

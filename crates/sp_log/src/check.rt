@@ -8,8 +8,9 @@ ghost use Rattle.sp_ground.specs.View.{ground_of, signature_of};
 ghost use Rattle.sp_fact.specs.View.{rule_of};
 ghost use Rattle.sp_log.specs.Checking as spec;
 ghost use Rattle.sp_log.specs.Laws.{ChecksAreOne, LogsAreChecked};
-ghost use Rattle.sp_log.specs.Meaning.{CanCheck, IsChecked};
+ghost use Rattle.sp_log.specs.Meaning.{IsChecked};
 ghost use Rattle.sp_log.specs.View.{IsUsed, entries_of, entry_of, source_of};
+ghost use Rattle.sp_law_equal.specs.RightTheory.{HasNormalInstances};
 
 use crate::instance::is_instance_of_any;
 use crate::log::{Entry, Log, Source};
@@ -140,7 +141,7 @@ pub fn check_log(
     log: &Log,
 ) -> Result<Checked, AllocError>
     ensures exact { IfOk result (λ c. c ≡ spec.check_of (signature_of signature.now) (map rule_of rules.now.items) (entries_of log.now)) }
-    ensures means { (theory : spec_theory.Theory) → CanCheck theory → theory.rules ≡ map rule_of rules.now.items
+    ensures means { (theory : spec_theory.Theory) → HasNormalInstances theory → theory.rules ≡ map rule_of rules.now.items
         → spec_theory.signature_of theory ≡ signature_of signature.now → IfOk result (λ c. IsChecked theory (entries_of log.now) c) }
 {
     let answer = first_broken(alloc, signature, rules, &log.entries)?;

@@ -120,7 +120,7 @@ fn make_names(
     Ok(())
 }
 
-// Adds the steps of the entry.
+// Adds the steps of the entry, which are the same whatever stands before it.
 fn add_steps(
     alloc: Global,
     rules: &Vec<Rule>,
@@ -128,7 +128,7 @@ fn add_steps(
     steps: &mut Vec<Step>,
 ) -> Result<(), AllocError>
     ensures { OnOk result (map step_of steps.new.items
-        ≡ map step_of steps.old.items ++ newest_first (found.entry_steps (map rule_of rules.now.items) (entry_of entry.now))) }
+        ≡ map step_of steps.old.items ++ newest_first (found.entry_steps (found.theory_of_rules (map rule_of rules.now.items)) [] (entry_of entry.now))) }
 {
     make_names(alloc, &entry.facts.premises, steps)?;
     let name = entry.rule.copy()?;
@@ -143,7 +143,7 @@ fn add_steps(
 ///
 /// `AllocError` where memory is wanting.
 pub fn execution(alloc: Global, rules: &Vec<Rule>, log: &Log) -> Result<Vec<Step>, AllocError>
-    ensures { IfOk result (λ ss. newest_first (map step_of ss.items) ≡ found.execution_of (map rule_of rules.now.items) (log_of log.now)) }
+    ensures { IfOk result (λ ss. newest_first (map step_of ss.items) ≡ found.execution_of (found.theory_of_rules (map rule_of rules.now.items)) (log_of log.now)) }
 {
     let mut steps = Vec::new(alloc);
     for entry in &log.entries {

@@ -2,9 +2,9 @@
 use Rattle.std.specs.Prelude.{ℕ, suc, List, [], ◌∷◌, ◌++◌, Option, Some, None, codes, decimal}
 use Rattle.sp_spec.specs.Guarded.{Guarded, one_of}
 use Rattle.sp_spec_system.specs.System.{System}
-use Rattle.sp_spec_formula.specs.Split.{parts_of}
 use Rattle.sp_spec_system.specs.Move.{Case}
-use Rattle.sp_rows.specs.RowsView.{spending_at}
+use Rattle.sp_spec_system.specs.Formulas.{parts_of}
+use Rattle.sp_system.specs.SpendView.{spending_at}
 
 abbrev pub disjuncts : Guarded → Option (List Guarded)
 disjuncts (one_of fs) = Some (parts_of fs)

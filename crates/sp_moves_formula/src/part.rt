@@ -5,12 +5,12 @@ ghost use Rattle.sp_formula.specs.FormulaView.{formula_of};
 ghost use Rattle.sp_system.specs.SystemView.{system_of};
 ghost use Rattle.sp_spec_formula.specs.Or as spec;
 ghost use Rattle.sp_moves_formula.specs.View.{case_of};
-ghost use Rattle.sp_rows.specs.RowsView.{spending_at};
+ghost use Rattle.sp_system.specs.SpendView.{spending_at};
 ghost use Rattle.sp_moves_formula.specs.Parts.{disjuncts, by_parts};
 
 use crate::moves::Case;
 use sp_formula::formula::Formula;
-use sp_rows::spend::spend_for;
+use sp_system::spend::spend_for;
 use sp_system::system::System;
 use std::alloc::{AllocError, Global};
 
@@ -43,7 +43,8 @@ fn with_part(
 {
     let mut instead = Vec::new(alloc);
     instead.push(part.copy(alloc)?)?;
-    let made = spend_for(alloc, system, position, instead)?;
+    let mut made = system.copy(alloc)?;
+    spend_for(&mut made, position, instead)?;
     Ok(made)
 }
 

@@ -17,7 +17,7 @@ use crate::moves::Case;
 use sp_fact::book::RuleBook;
 use sp_fact::fact::Action;
 use sp_formula::formula::Formula;
-use sp_rows::links::event_at;
+use sp_system::at_time::event_at;
 use sp_system::system::System;
 use std::alloc::{AllocError, Global};
 

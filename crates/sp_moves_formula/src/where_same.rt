@@ -5,28 +5,15 @@ ghost use Rattle.sp_term.specs.Bindings.{bindings};
 ghost use Rattle.sp_fact.specs.View.{action_of, fact_of};
 ghost use Rattle.sp_spec_system.specs.Equating.{unifier_of};
 ghost use Rattle.sp_spec_system.specs.Equating as pairs;
-ghost use Rattle.sp_system.specs.SystemView.{pair_of, system_of};
+ghost use Rattle.sp_system.specs.SystemView.{system_of};
 ghost use Rattle.sp_spec_system.specs.Cases as spec;
 ghost use Rattle.sp_spec_formula.specs.Action as action_spec;
 
 use sp_fact::fact::{Action, Fact};
-use sp_system::pairing::{action_pair, fact_pair};
+use sp_system::pairing::{action_pair, fact_pair, unifier_of};
 use sp_system::system::System;
 use sp_term::subst::Subst;
-use sp_term::term::Term;
-use sp_unify::unify::mgu;
 use std::alloc::{AllocError, Global};
-
-// The unifier of the pairs, if there are pairs and they have one.
-fn unifier_of(alloc: Global, pairs: Option<Vec<(Term, Term)>>) -> Result<Option<Subst>, AllocError>
-    ensures { IfOk result (λ o. option_map bindings o ≡ unifier_of (option_map (λ ps. map pair_of ps.items) pairs)) }
-{
-    let Some(pairs) = pairs else {
-        return Ok(None);
-    };
-    let subst = mgu(alloc, &pairs)?;
-    Ok(subst)
-}
 
 /// What makes the two facts the same, if they can be.
 ///

@@ -18,8 +18,8 @@ use sp_fact::book::RuleBook;
 use sp_fact::fact::Fact;
 pub use sp_moves_formula::apply::{Applied, Clause};
 use sp_moves_formula::moves::{Case, Move, Premise};
-use sp_rows::fresh_once::is_fresh;
-use sp_rows::links::event_at;
+use sp_rows_graph::fresh_once::is_fresh;
+use sp_system::at_time::event_at;
 use sp_system::system::{Event, System};
 use std::alloc::{AllocError, Global};
 

@@ -19,8 +19,8 @@ pub use sp_moves_formula::moves::Premise;
 use sp_moves_formula::named::named;
 use sp_moves_formula::renamed::renamed;
 use sp_moves_formula::where_same::fact_unifier;
-use sp_rows::fresh_once::is_fresh;
-use sp_rows::links::premise_at;
+use sp_rows_graph::fresh_once::is_fresh;
+use sp_system::at_time::premise_at;
 use sp_system::system::{Event, Link, System, What};
 use std::alloc::{AllocError, Global};
 

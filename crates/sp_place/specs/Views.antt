@@ -3,8 +3,8 @@ use Rattle.std.specs.Prelude.{List, [], ◌∷◌, map, reverse}
 use Rattle.sp_lex.specs.Views.{sign_of}
 use Rattle.sp_place.specs.declared.awaited.Awaited as rust_part
 use Rattle.sp_place.specs.declared.awaited.Awaited.TheVariants as a
-use Rattle.sp_place.specs.declared.moves.Few.{Few}
-use Rattle.sp_place.specs.declared.moves.Few.TheVariants.{Zero, One, Two, Three, Four, Five, Six, Eight}
+use Rattle.sp_place.specs.declared.moves.Expansion.{Expansion}
+use Rattle.sp_place.specs.declared.moves.Expansion.TheVariants.{Zero, One, Two, Three, Four, Five, Six, Eight}
 use Rattle.sp_place.specs.declared.moves.Move as rust
 use Rattle.sp_place.specs.declared.moves.Move.TheVariants as v
 use Rattle.sp_place.specs.Parts.{Awaited}
@@ -52,22 +52,22 @@ awaited_of a.Case = p.Case
 awaited_of a.Cases = p.Cases
 awaited_of a.Method = p.Method
 
-abbrev pub few_of : Few → List rust_part.Awaited
-few_of Zero = []
-few_of (One p) = p ∷ []
-few_of (Two p q) = p ∷ q ∷ []
-few_of (Three p q r) = p ∷ q ∷ r ∷ []
-few_of (Four p q r s) = p ∷ q ∷ r ∷ s ∷ []
-few_of (Five p q r s t) = p ∷ q ∷ r ∷ s ∷ t ∷ []
-few_of (Six p q r s t u) = p ∷ q ∷ r ∷ s ∷ t ∷ u ∷ []
-few_of (Eight p q r s t u v w) = p ∷ q ∷ r ∷ s ∷ t ∷ u ∷ v ∷ w ∷ []
+abbrev pub expansion_of : Expansion → List rust_part.Awaited
+expansion_of Zero = []
+expansion_of (One p) = p ∷ []
+expansion_of (Two p q) = p ∷ q ∷ []
+expansion_of (Three p q r) = p ∷ q ∷ r ∷ []
+expansion_of (Four p q r s) = p ∷ q ∷ r ∷ s ∷ []
+expansion_of (Five p q r s t) = p ∷ q ∷ r ∷ s ∷ t ∷ []
+expansion_of (Six p q r s t u) = p ∷ q ∷ r ∷ s ∷ t ∷ u ∷ []
+expansion_of (Eight p q r s t u v w) = p ∷ q ∷ r ∷ s ∷ t ∷ u ∷ v ∷ w ∷ []
 
 abbrev pub all_of : List rust_part.Awaited → List Awaited
 all_of parts = map awaited_of parts
 
 abbrev pub move_of : rust.Move → Move
-move_of (v.Takes few) = takes (all_of (few_of few))
-move_of (v.Becomes few) = becomes (all_of (few_of few))
+move_of (v.Takes expansion) = takes (all_of (expansion_of expansion))
+move_of (v.Becomes expansion) = becomes (all_of (expansion_of expansion))
 move_of v.Stuck = stuck
 
 -- the parts, the first one first, which is the last in memory

@@ -8,7 +8,7 @@ ghost use Rattle.sp_place.specs.Views.{move_of};
 
 use crate::awaited::Awaited;
 use crate::lexemes::{is_constant, is_fact_name, is_mark, is_name, is_sign, is_word};
-use crate::moves::{Few, Move};
+use crate::moves::{Expansion, Move};
 use crate::terms::{LIMIT, nests};
 use sp_lex::{Lexeme, Sign};
 
@@ -26,9 +26,9 @@ pub fn negation<'a>(n: u32, k: u32, x: Lexeme<'a>) -> Move
     ensures { move_of result ≡ spec.negation_move n k (lexeme_of x.entry) }
 {
     if is_word("not", x) {
-        Move::Takes(Few::Two(Awaited::Unit(deep(n, k), 0), Awaited::Closing(n, k)))
+        Move::Takes(Expansion::Two(Awaited::Unit(deep(n, k), 0), Awaited::Closing(n, k)))
     } else {
-        Move::Becomes(Few::One(Awaited::Unit(n, k)))
+        Move::Becomes(Expansion::One(Awaited::Unit(n, k)))
     }
 }
 
@@ -39,7 +39,7 @@ fn word<'a>(n: u32, k: u32, x: Lexeme<'a>) -> Move
 {
     if is_word("All", x) || is_word("Ex", x) {
         let m = deep(n, k);
-        let body = Few::Six(
+        let body = Expansion::Six(
             Awaited::Variable,
             Awaited::Binders,
             Awaited::Negation(m + 1, 0),
@@ -49,11 +49,11 @@ fn word<'a>(n: u32, k: u32, x: Lexeme<'a>) -> Move
         );
         nests(m, Move::Takes(body))
     } else if is_word("T", x) || is_word("F", x) {
-        Move::Takes(Few::One(Awaited::Truth(n, k)))
+        Move::Takes(Expansion::One(Awaited::Truth(n, k)))
     } else if is_fact_name(x) {
-        Move::Takes(Few::One(Awaited::Named(n, k)))
+        Move::Takes(Expansion::One(Awaited::Named(n, k)))
     } else if is_name(x) {
-        Move::Takes(Few::One(Awaited::Bare(n, k)))
+        Move::Takes(Expansion::One(Awaited::Bare(n, k)))
     } else {
         Move::Stuck
     }
@@ -66,13 +66,13 @@ pub fn unit<'a>(n: u32, k: u32, x: Lexeme<'a>) -> Move
 {
     let m = deep(n, k);
     if is_sign(Sign::Open, x) {
-        nests(m, Move::Takes(Few::One(Awaited::Negation(n, k + 1))))
+        nests(m, Move::Takes(Expansion::One(Awaited::Negation(n, k + 1))))
     } else if is_constant(x) {
-        Move::Takes(Few::One(Awaited::Side(n, k)))
+        Move::Takes(Expansion::One(Awaited::Side(n, k)))
     } else if is_mark(x) {
-        Move::Takes(Few::Two(Awaited::Name, Awaited::Order(n, k)))
+        Move::Takes(Expansion::Two(Awaited::Name, Awaited::Order(n, k)))
     } else if is_sign(Sign::Bang, x) {
-        let persistent = Few::Five(
+        let persistent = Expansion::Five(
             Awaited::FactName,
             Awaited::Opened(m),
             Awaited::Exactly(Sign::At),
@@ -91,7 +91,7 @@ fn side_closed(n: u32, k: u32) -> Move
     if k == 0 {
         Move::Stuck
     } else {
-        Move::Takes(Few::One(Awaited::Side(n, k - 1)))
+        Move::Takes(Expansion::One(Awaited::Side(n, k - 1)))
     }
 }
 
@@ -100,7 +100,7 @@ pub fn side<'a>(n: u32, k: u32, x: Lexeme<'a>) -> Move
     ensures { move_of result ≡ spec.side_move n k (lexeme_of x.entry) }
 {
     if is_sign(Sign::Equals, x) {
-        Move::Takes(Few::Two(Awaited::Term(deep(n, k)), Awaited::Closing(n, k)))
+        Move::Takes(Expansion::Two(Awaited::Term(deep(n, k)), Awaited::Closing(n, k)))
     } else if is_sign(Sign::Close, x) {
         side_closed(n, k)
     } else {
@@ -112,9 +112,9 @@ pub fn order<'a>(n: u32, k: u32, x: Lexeme<'a>) -> Move
     ensures { move_of result ≡ spec.order_move n k (lexeme_of x.entry) }
 {
     if is_sign(Sign::Less, x) {
-        Move::Takes(Few::Two(Awaited::Variable, Awaited::Closing(n, k)))
+        Move::Takes(Expansion::Two(Awaited::Variable, Awaited::Closing(n, k)))
     } else {
-        Move::Becomes(Few::One(Awaited::Side(n, k)))
+        Move::Becomes(Expansion::One(Awaited::Side(n, k)))
     }
 }
 
@@ -122,9 +122,9 @@ pub fn bare<'a>(n: u32, k: u32, x: Lexeme<'a>) -> Move
     ensures { move_of result ≡ spec.bare_move n k (lexeme_of x.entry) }
 {
     if is_sign(Sign::Colon, x) {
-        Move::Takes(Few::Two(Awaited::Sort, Awaited::Order(n, k)))
+        Move::Takes(Expansion::Two(Awaited::Sort, Awaited::Order(n, k)))
     } else {
-        Move::Becomes(Few::One(Awaited::Order(n, k)))
+        Move::Becomes(Expansion::One(Awaited::Order(n, k)))
     }
 }
 
@@ -134,7 +134,7 @@ pub fn named<'a>(n: u32, k: u32, x: Lexeme<'a>) -> Move
 {
     if is_sign(Sign::Open, x) {
         let m = deep(n, k);
-        let action = Few::Four(
+        let action = Expansion::Four(
             Awaited::Arguments(m + 1),
             Awaited::Exactly(Sign::At),
             Awaited::Variable,
@@ -142,7 +142,7 @@ pub fn named<'a>(n: u32, k: u32, x: Lexeme<'a>) -> Move
         );
         nests(m, Move::Takes(action))
     } else {
-        Move::Becomes(Few::One(Awaited::Bare(n, k)))
+        Move::Becomes(Expansion::One(Awaited::Bare(n, k)))
     }
 }
 
@@ -150,9 +150,9 @@ pub fn truth<'a>(n: u32, k: u32, x: Lexeme<'a>) -> Move
     ensures { move_of result ≡ spec.truth_move n k (lexeme_of x.entry) }
 {
     if is_sign(Sign::Colon, x) || is_sign(Sign::Open, x) || is_sign(Sign::Less, x) {
-        Move::Becomes(Few::One(Awaited::Named(n, k)))
+        Move::Becomes(Expansion::One(Awaited::Named(n, k)))
     } else {
-        Move::Becomes(Few::One(Awaited::Both(n, k)))
+        Move::Becomes(Expansion::One(Awaited::Both(n, k)))
     }
 }
 
@@ -160,9 +160,9 @@ fn both_closed(n: u32, k: u32) -> Move
     ensures { move_of result ≡ spec.both_closed n k }
 {
     if k == 0 {
-        Move::Becomes(Few::One(Awaited::Closing(n, 0)))
+        Move::Becomes(Expansion::One(Awaited::Closing(n, 0)))
     } else {
-        Move::Takes(Few::One(Awaited::Both(n, k - 1)))
+        Move::Takes(Expansion::One(Awaited::Both(n, k - 1)))
     }
 }
 
@@ -170,11 +170,11 @@ pub fn both<'a>(n: u32, k: u32, x: Lexeme<'a>) -> Move
     ensures { move_of result ≡ spec.both_move n k (lexeme_of x.entry) }
 {
     if is_sign(Sign::Equals, x) {
-        Move::Becomes(Few::One(Awaited::Side(n, k)))
+        Move::Becomes(Expansion::One(Awaited::Side(n, k)))
     } else if is_sign(Sign::Close, x) {
         both_closed(n, k)
     } else {
-        Move::Becomes(Few::One(Awaited::Closing(n, k)))
+        Move::Becomes(Expansion::One(Awaited::Closing(n, k)))
     }
 }
 
@@ -183,10 +183,10 @@ pub fn closing(n: u32, k: u32) -> Move
     ensures { move_of result ≡ spec.closing_move n k }
 {
     if k == 0 {
-        Move::Becomes(Few::Zero)
+        Move::Becomes(Expansion::Zero)
     } else {
         let m = deep(n, k);
-        Move::Becomes(Few::Four(
+        Move::Becomes(Expansion::Four(
             Awaited::More(m),
             Awaited::Twice(m),
             Awaited::Exactly(Sign::Close),
@@ -200,14 +200,14 @@ pub fn more<'a>(n: u32, x: Lexeme<'a>) -> Move
     ensures { move_of result ≡ spec.more_move n (lexeme_of x.entry) }
 {
     if is_sign(Sign::And, x) || is_sign(Sign::Or, x) {
-        Move::Takes(Few::Two(Awaited::Negation(n, 0), Awaited::More(n)))
+        Move::Takes(Expansion::Two(Awaited::Negation(n, 0), Awaited::More(n)))
     } else if is_sign(Sign::Implies, x) {
         nests(
             n,
-            Move::Takes(Few::Two(Awaited::Negation(n + 1, 0), Awaited::More(n + 1))),
+            Move::Takes(Expansion::Two(Awaited::Negation(n + 1, 0), Awaited::More(n + 1))),
         )
     } else {
-        Move::Becomes(Few::Zero)
+        Move::Becomes(Expansion::Zero)
     }
 }
 
@@ -215,8 +215,8 @@ pub fn twice<'a>(n: u32, x: Lexeme<'a>) -> Move
     ensures { move_of result ≡ spec.twice_move n (lexeme_of x.entry) }
 {
     if is_sign(Sign::Iff, x) {
-        Move::Takes(Few::Two(Awaited::Negation(n, 0), Awaited::More(n)))
+        Move::Takes(Expansion::Two(Awaited::Negation(n, 0), Awaited::More(n)))
     } else {
-        Move::Becomes(Few::Zero)
+        Move::Becomes(Expansion::Zero)
     }
 }

@@ -4,7 +4,7 @@ use crate::awaited::Awaited;
 
 /// The parts that come in the place of one, the first one first.
 #[derive(Clone, Copy)]
-pub enum Few {
+pub enum Expansion {
     Zero,
     One(Awaited),
     Two(Awaited, Awaited),
@@ -19,9 +19,9 @@ pub enum Few {
 #[derive(Clone, Copy)]
 pub enum Move {
     /// It is taken, and these parts follow.
-    Takes(Few),
+    Takes(Expansion),
     /// The part becomes these parts.
-    Becomes(Few),
+    Becomes(Expansion),
     /// It is wrong.
     Stuck,
 }

@@ -6,11 +6,11 @@ ghost use Rattle.sp_place.specs.Parts as a;
 ghost use Rattle.sp_place.specs.Stack.{Fits, Good};
 ghost use Rattle.sp_place.specs.Table as spec;
 ghost use Rattle.sp_place.specs.Texts.{Follows, Refuses};
-ghost use Rattle.sp_place.specs.Views.{all_of, awaited_of, few_of, move_of, parts_of};
+ghost use Rattle.sp_place.specs.Views.{all_of, awaited_of, expansion_of, move_of, parts_of};
 
 use crate::awaited::Awaited;
 use crate::lexemes::{is_fact_name, is_name, is_sign, is_sort, is_step, is_word};
-use crate::moves::{Few, Move};
+use crate::moves::{Expansion, Move};
 use crate::terms::single;
 use crate::{formulas, terms, theories};
 use sp_lex::Lexeme;
@@ -100,27 +100,27 @@ fn push_four(
 }
 
 /// Puts parts before the others.
-fn put(parts: &mut Vec<Awaited>, few: Few) -> Result<(), AllocError>
-    ensures { OnOk result (parts_of parts.new.items ≡ all_of (few_of few) ++ parts_of parts.old.items) }
+fn put(parts: &mut Vec<Awaited>, expansion: Expansion) -> Result<(), AllocError>
+    ensures { OnOk result (parts_of parts.new.items ≡ all_of (expansion_of expansion) ++ parts_of parts.old.items) }
 {
-    match few {
-        Few::Zero => Ok(()),
-        Few::One(p) => push(parts, p),
-        Few::Two(p, q) => push_two(parts, p, q),
-        Few::Three(p, q, r) => {
+    match expansion {
+        Expansion::Zero => Ok(()),
+        Expansion::One(p) => push(parts, p),
+        Expansion::Two(p, q) => push_two(parts, p, q),
+        Expansion::Three(p, q, r) => {
             push(parts, r)?;
             push_two(parts, p, q)
         }
-        Few::Four(p, q, r, s) => push_four(parts, p, q, r, s),
-        Few::Five(p, q, r, s, t) => {
+        Expansion::Four(p, q, r, s) => push_four(parts, p, q, r, s),
+        Expansion::Five(p, q, r, s, t) => {
             push(parts, t)?;
             push_four(parts, p, q, r, s)
         }
-        Few::Six(p, q, r, s, t, u) => {
+        Expansion::Six(p, q, r, s, t, u) => {
             push_two(parts, t, u)?;
             push_four(parts, p, q, r, s)
         }
-        Few::Eight(p, q, r, s, t, u, v, w) => {
+        Expansion::Eight(p, q, r, s, t, u, v, w) => {
             push_four(parts, t, u, v, w)?;
             push_four(parts, p, q, r, s)
         }
@@ -138,11 +138,11 @@ pub fn advance<'a>(parts: &mut Vec<Awaited>, x: Lexeme<'a>) -> Result<bool, Allo
             return Ok(false);
         };
         match next(part, x) {
-            Move::Takes(few) => {
-                put(parts, few)?;
+            Move::Takes(expansion) => {
+                put(parts, expansion)?;
                 return Ok(true);
             }
-            Move::Becomes(few) => put(parts, few)?,
+            Move::Becomes(expansion) => put(parts, expansion)?,
             Move::Stuck => return Ok(false),
         }
     }

@@ -7,7 +7,7 @@ ghost use Rattle.sp_place.specs.Views.{move_of};
 
 use crate::awaited::Awaited;
 use crate::lexemes::{is_constant, is_fact_name, is_mark, is_name, is_sign};
-use crate::moves::{Few, Move};
+use crate::moves::{Expansion, Move};
 use sp_lex::{Lexeme, Sign};
 
 /// The deepest nesting of a token.
@@ -18,7 +18,7 @@ pub fn single(holds: bool) -> Move
     ensures { move_of result ≡ spec.single holds }
 {
     if holds {
-        Move::Takes(Few::Zero)
+        Move::Takes(Expansion::Zero)
     } else {
         Move::Stuck
     }
@@ -35,9 +35,9 @@ pub fn sorted<'a>(x: Lexeme<'a>) -> Move
     ensures { move_of result ≡ spec.sorted_move (lexeme_of x.entry) }
 {
     if is_sign(Sign::Colon, x) {
-        Move::Takes(Few::One(Awaited::Sort))
+        Move::Takes(Expansion::One(Awaited::Sort))
     } else {
-        Move::Becomes(Few::Zero)
+        Move::Becomes(Expansion::Zero)
     }
 }
 
@@ -45,9 +45,9 @@ pub fn variable<'a>(x: Lexeme<'a>) -> Move
     ensures { move_of result ≡ spec.variable_move [] (lexeme_of x.entry) }
 {
     if is_mark(x) {
-        Move::Takes(Few::One(Awaited::Name))
+        Move::Takes(Expansion::One(Awaited::Name))
     } else if is_name(x) {
-        Move::Takes(Few::One(Awaited::Sorted))
+        Move::Takes(Expansion::One(Awaited::Sorted))
     } else {
         Move::Stuck
     }
@@ -58,14 +58,14 @@ pub fn term<'a>(nesting: u32, x: Lexeme<'a>) -> Move
     ensures { move_of result ≡ spec.term_move nesting (lexeme_of x.entry) }
 {
     if is_constant(x) {
-        Move::Takes(Few::Zero)
+        Move::Takes(Expansion::Zero)
     } else if is_sign(Sign::Open, x) {
         nests(
             nesting,
-            Move::Takes(Few::Two(Awaited::Term(nesting + 1), Awaited::Exactly(Sign::Close))),
+            Move::Takes(Expansion::Two(Awaited::Term(nesting + 1), Awaited::Exactly(Sign::Close))),
         )
     } else {
-        Move::Becomes(Few::One(Awaited::Variable))
+        Move::Becomes(Expansion::One(Awaited::Variable))
     }
 }
 
@@ -73,9 +73,9 @@ pub fn arguments<'a>(nesting: u32, x: Lexeme<'a>) -> Move
     ensures { move_of result ≡ spec.arguments_move nesting (lexeme_of x.entry) }
 {
     if is_sign(Sign::Close, x) {
-        Move::Takes(Few::Zero)
+        Move::Takes(Expansion::Zero)
     } else {
-        Move::Becomes(Few::Two(Awaited::Term(nesting), Awaited::MoreArguments(nesting)))
+        Move::Becomes(Expansion::Two(Awaited::Term(nesting), Awaited::MoreArguments(nesting)))
     }
 }
 
@@ -83,9 +83,9 @@ pub fn more_arguments<'a>(nesting: u32, x: Lexeme<'a>) -> Move
     ensures { move_of result ≡ spec.more_arguments_move nesting (lexeme_of x.entry) }
 {
     if is_sign(Sign::Comma, x) {
-        Move::Takes(Few::Two(Awaited::Term(nesting), Awaited::MoreArguments(nesting)))
+        Move::Takes(Expansion::Two(Awaited::Term(nesting), Awaited::MoreArguments(nesting)))
     } else if is_sign(Sign::Close, x) {
-        Move::Takes(Few::Zero)
+        Move::Takes(Expansion::Zero)
     } else {
         Move::Stuck
     }
@@ -95,9 +95,9 @@ pub fn fact<'a>(nesting: u32, x: Lexeme<'a>) -> Move
     ensures { move_of result ≡ spec.fact_move nesting (lexeme_of x.entry) }
 {
     if is_sign(Sign::Bang, x) {
-        Move::Takes(Few::Two(Awaited::FactName, Awaited::Opened(nesting)))
+        Move::Takes(Expansion::Two(Awaited::FactName, Awaited::Opened(nesting)))
     } else if is_fact_name(x) {
-        Move::Takes(Few::One(Awaited::Opened(nesting)))
+        Move::Takes(Expansion::One(Awaited::Opened(nesting)))
     } else {
         Move::Stuck
     }
@@ -110,7 +110,7 @@ pub fn opened<'a>(nesting: u32, x: Lexeme<'a>) -> Move
     if is_sign(Sign::Open, x) {
         nests(
             nesting,
-            Move::Takes(Few::One(Awaited::Arguments(nesting + 1))),
+            Move::Takes(Expansion::One(Awaited::Arguments(nesting + 1))),
         )
     } else {
         Move::Stuck
@@ -121,11 +121,11 @@ pub fn binders<'a>(x: Lexeme<'a>) -> Move
     ensures { move_of result ≡ spec.binders_move (lexeme_of x.entry) }
 {
     if is_sign(Sign::Dot, x) {
-        Move::Takes(Few::Zero)
+        Move::Takes(Expansion::Zero)
     } else if is_mark(x) {
-        Move::Takes(Few::Two(Awaited::Name, Awaited::Binders))
+        Move::Takes(Expansion::Two(Awaited::Name, Awaited::Binders))
     } else if is_name(x) {
-        Move::Takes(Few::Two(Awaited::Sorted, Awaited::Binders))
+        Move::Takes(Expansion::Two(Awaited::Sorted, Awaited::Binders))
     } else {
         Move::Stuck
     }

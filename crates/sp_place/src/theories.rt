@@ -7,7 +7,7 @@ ghost use Rattle.sp_place.specs.Views.{move_of};
 
 use crate::awaited::Awaited;
 use crate::lexemes::{is_sign, is_step, is_word};
-use crate::moves::{Few, Move};
+use crate::moves::{Expansion, Move};
 use crate::terms::single;
 use sp_lex::{Lexeme, Sign};
 
@@ -15,7 +15,7 @@ pub fn theory<'a>(x: Lexeme<'a>) -> Move
     ensures { move_of result ≡ spec.theory_move (lexeme_of x.entry) }
 {
     if is_word("theory", x) {
-        Move::Takes(Few::Three(Awaited::Name, Awaited::Begin, Awaited::Items))
+        Move::Takes(Expansion::Three(Awaited::Name, Awaited::Begin, Awaited::Items))
     } else {
         Move::Stuck
     }
@@ -25,7 +25,7 @@ pub fn items<'a>(x: Lexeme<'a>) -> Move
     ensures { move_of result ≡ spec.items_move (lexeme_of x.entry) }
 {
     if is_word("rule", x) {
-        Move::Takes(Few::Six(
+        Move::Takes(Expansion::Six(
             Awaited::Name,
             Awaited::Exactly(Sign::Colon),
             Awaited::FactList,
@@ -34,7 +34,7 @@ pub fn items<'a>(x: Lexeme<'a>) -> Move
             Awaited::Items,
         ))
     } else if is_word("lemma", x) {
-        Move::Takes(Few::Eight(
+        Move::Takes(Expansion::Eight(
             Awaited::Name,
             Awaited::Exactly(Sign::Colon),
             Awaited::Kind,
@@ -53,7 +53,7 @@ pub fn fact_list<'a>(x: Lexeme<'a>) -> Move
     ensures { move_of result ≡ spec.fact_list_move (lexeme_of x.entry) }
 {
     if is_sign(Sign::OpenList, x) {
-        Move::Takes(Few::One(Awaited::Facts(Sign::CloseList)))
+        Move::Takes(Expansion::One(Awaited::Facts(Sign::CloseList)))
     } else {
         Move::Stuck
     }
@@ -63,9 +63,9 @@ pub fn facts<'a>(close: Sign, x: Lexeme<'a>) -> Move
     ensures { move_of result ≡ spec.facts_move (sign_of close) (lexeme_of x.entry) }
 {
     if is_sign(close, x) {
-        Move::Takes(Few::Zero)
+        Move::Takes(Expansion::Zero)
     } else {
-        Move::Becomes(Few::Two(Awaited::Fact(0), Awaited::MoreFacts(close)))
+        Move::Becomes(Expansion::Two(Awaited::Fact(0), Awaited::MoreFacts(close)))
     }
 }
 
@@ -73,7 +73,7 @@ pub fn more_facts<'a>(close: Sign, x: Lexeme<'a>) -> Move
     ensures { move_of result ≡ spec.more_facts_move (sign_of close) (lexeme_of x.entry) }
 {
     if is_sign(Sign::Comma, x) {
-        Move::Takes(Few::Two(Awaited::Fact(0), Awaited::MoreFacts(close)))
+        Move::Takes(Expansion::Two(Awaited::Fact(0), Awaited::MoreFacts(close)))
     } else {
         single(is_sign(close, x))
     }
@@ -83,9 +83,9 @@ pub fn arrow<'a>(x: Lexeme<'a>) -> Move
     ensures { move_of result ≡ spec.arrow_move (lexeme_of x.entry) }
 {
     if is_sign(Sign::Arrow, x) {
-        Move::Takes(Few::Zero)
+        Move::Takes(Expansion::Zero)
     } else if is_sign(Sign::OpenArrow, x) {
-        Move::Takes(Few::One(Awaited::Facts(Sign::CloseArrow)))
+        Move::Takes(Expansion::One(Awaited::Facts(Sign::CloseArrow)))
     } else {
         Move::Stuck
     }
@@ -95,15 +95,15 @@ pub fn kind<'a>(x: Lexeme<'a>) -> Move
     ensures { move_of result ≡ spec.kind_move (lexeme_of x.entry) }
 {
     if is_sign(Sign::Quote, x) {
-        Move::Takes(Few::Zero)
+        Move::Takes(Expansion::Zero)
     } else if is_word("all", x) {
-        Move::Takes(Few::Three(
+        Move::Takes(Expansion::Three(
             Awaited::Exactly(Sign::Dash),
             Awaited::Traces,
             Awaited::Exactly(Sign::Quote),
         ))
     } else if is_word("exists", x) {
-        Move::Takes(Few::Three(
+        Move::Takes(Expansion::Three(
             Awaited::Exactly(Sign::Dash),
             Awaited::Trace,
             Awaited::Exactly(Sign::Quote),
@@ -117,9 +117,9 @@ pub fn below<'a>(x: Lexeme<'a>) -> Move
     ensures { move_of result ≡ spec.below_move (lexeme_of x.entry) }
 {
     if is_word("rule", x) || is_word("lemma", x) || is_word("end", x) {
-        Move::Becomes(Few::One(Awaited::Items))
+        Move::Becomes(Expansion::One(Awaited::Items))
     } else {
-        Move::Becomes(Few::Two(Awaited::Proof, Awaited::Items))
+        Move::Becomes(Expansion::Two(Awaited::Proof, Awaited::Items))
     }
 }
 
@@ -127,11 +127,11 @@ pub fn proof<'a>(x: Lexeme<'a>) -> Move
     ensures { move_of result ≡ spec.proof_move (lexeme_of x.entry) }
 {
     if is_word("SOLVED", x) {
-        Move::Takes(Few::Zero)
+        Move::Takes(Expansion::Zero)
     } else if is_word("by", x) {
-        Move::Takes(Few::One(Awaited::Method))
+        Move::Takes(Expansion::One(Awaited::Method))
     } else if is_step(x) {
-        Move::Takes(Few::One(Awaited::Behind))
+        Move::Takes(Expansion::One(Awaited::Behind))
     } else {
         Move::Stuck
     }
@@ -141,9 +141,9 @@ pub fn behind<'a>(x: Lexeme<'a>) -> Move
     ensures { move_of result ≡ spec.behind_move (lexeme_of x.entry) }
 {
     if is_word("case", x) {
-        Move::Takes(Few::Three(Awaited::Name, Awaited::Proof, Awaited::Cases))
+        Move::Takes(Expansion::Three(Awaited::Name, Awaited::Proof, Awaited::Cases))
     } else {
-        Move::Becomes(Few::One(Awaited::Proof))
+        Move::Becomes(Expansion::One(Awaited::Proof))
     }
 }
 
@@ -151,9 +151,9 @@ pub fn cases<'a>(x: Lexeme<'a>) -> Move
     ensures { move_of result ≡ spec.cases_move (lexeme_of x.entry) }
 {
     if is_word("qed", x) {
-        Move::Takes(Few::Zero)
+        Move::Takes(Expansion::Zero)
     } else if is_word("next", x) {
-        Move::Takes(Few::Four(Awaited::Case, Awaited::Name, Awaited::Proof, Awaited::Cases))
+        Move::Takes(Expansion::Four(Awaited::Case, Awaited::Name, Awaited::Proof, Awaited::Cases))
     } else {
         Move::Stuck
     }

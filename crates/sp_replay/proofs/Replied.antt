@@ -9,7 +9,7 @@ use Rattle.sp_spec.specs.Theory.{Theory, Lemma}
 use Rattle.sp_spec.specs.Execution as execution
 use Rattle.sp_law_equal.proofs.Pairs.{pairs_have_normal_forms, pairs_keep_symbols}
 use Rattle.sp_law_run.specs.NormalStep.{normal_step, normal_trace}
-use Rattle.sp_law_run.specs.Right.{AreRight}
+use Rattle.sp_law_equal.specs.Right.{AreRight}
 use Rattle.sp_law_run.proofs.Written.{rules_right}
 use Rattle.sp_law_tree.specs.PlainTheory.{IsPlainFormula}
 use Rattle.sp_fact.specs.View.{rule_of}

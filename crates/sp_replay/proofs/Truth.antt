@@ -21,7 +21,7 @@ use Rattle.sp_law_guard.specs.GuardedForm.{guarded_form}
 use Rattle.sp_law_guard.specs.IsGuarded.{is_guarded}
 use Rattle.sp_law_guard.proofs.Kept.{form_kept}
 use Rattle.sp_law_run.specs.NormalStep.{normal_trace}
-use Rattle.sp_law_run.specs.Right.{RulesAreOver}
+use Rattle.sp_law_equal.specs.Right.{RulesAreOver}
 use Rattle.sp_law_run.specs.Laws.{IsTraceOver}
 use Rattle.sp_law_run.proofs.Over.{execution_over, normal_trace_over}
 use Rattle.sp_law_decide.specs.Deciding.{assignment_of, decided, empty}

@@ -11,7 +11,7 @@ use Rattle.sp_law_equal.specs.NormalForms.{HaveNormalForms, KeepSymbols}
 use Rattle.sp_law_guard.specs.CheckedForm.{checked_form}
 use Rattle.sp_law_guard.proofs.Checked.{form_checked}
 use Rattle.sp_law_run.specs.NormalStep.{normal_trace}
-use Rattle.sp_law_run.specs.Right.{RulesAreOver}
+use Rattle.sp_law_equal.specs.Right.{RulesAreOver}
 use Rattle.sp_law_decide.specs.Deciding.{decided, empty}
 use Rattle.sp_law_tree.specs.PlainTheory.{IsPlainFormula}
 use Rattle.sp_read_parts.specs.Formulas.{formula}

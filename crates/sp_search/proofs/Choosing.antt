@@ -1,94 +1,126 @@
--- The first formula that is a disjunction, or an action whose event can be looked for, and the first premise whose source can be.
-use Rattle.std.proofs.Common.{◌≡◌, ℕ, ◌+◌, ◌<◌, Bool, true, false, List, ◌∷◌, length, map, drop, get_or, Option, Some, None, refl, sym, ap, ◌∙◌, add-one, drop-cons, slice_get, suc, [], option_and_then}
-use Rattle.std.specs.Prelude.{is_some, option_map, if◌then◌else◌}
+-- The kinds of moves, one after the other: the first that answers tells the choice. And the moves of a kind, one after the other.
+use Rattle.std.proofs.Common.{◌≡◌, ℕ, ◌+◌, ◌<◌, Bool, true, false, List, [], ◌∷◌, length, map, drop, get_or, Option, Some, None, refl, sym, ap, ◌∙◌, add-one, slice_get, suc, option_and_then, true≢false}
+use Rattle.std.specs.Prelude.{is_some, option_map, if◌then◌else◌, ◌||◌, flat_map}
+use Rattle.std.specs.Option.{option_or}
+use Rattle.std.proofs.lemmas.Bool.{or_right}
+use Rattle.std.proofs.lemmas.List.Folds.{find-append}
 use Rattle.std.proofs.lemmas.Option.{slice_get-map, slice_get-get_or}
 use Rattle.sp_spec.specs.Guarded.{Guarded}
 use Rattle.sp_spec.specs.Term.{Variable}
 use Rattle.sp_spec.specs.Rule.{Fact}
-use Rattle.sp_spec_system.specs.System.{Event, System, happening_premises}
-use Rattle.sp_fact.specs.View.{fact_of}
+use Rattle.sp_spec.proofs.Lists.{next_item}
+use Rattle.sp_spec_system.specs.System.{System}
+use Rattle.sp_spec_system.specs.Picked.{first_some}
+use Rattle.sp_spec_system.specs.Rules.{Rules}
 use Rattle.sp_system.specs.SystemView.{event_of}
 use Rattle.sp_system.specs.declared.system.Event as memory
 use Rattle.sp_formula.specs.FormulaView.{formula_of}
 use Rattle.sp_formula.specs.declared.formula.Formula.{Formula}
-use Rattle.sp_spec_system.specs.Move.{Move, or, action, premise, Context, Case}
-use Rattle.sp_spec_proof.specs.Cases.{simple_case, cases}
+use Rattle.sp_spec_system.specs.Move.{Move, simplify, contradiction, solved, or, action, premise, Context, Case, end_log}
+use Rattle.sp_spec_proof.specs.Cases.{simple_case}
+use Rattle.sp_spec_proof.specs.Rows.{rows, by_rows, is_contradictory, fails_somewhere}
+use Rattle.sp_spec_formula.specs.Split.{has_falsity}
+use Rattle.sp_spec_formula.specs.Unequal.{has_equal_pair}
+use Rattle.sp_spec_formula.specs.InOrder.{has_refuted}
+use Rattle.sp_spec_system.specs.Order.{is_cyclic}
+use Rattle.sp_spec_graph.specs.SourceTwice.{has_source_twice}
+use Rattle.sp_spec_proof.specs.Choice.{Ranked, with_rank, places_from, premises_of, at_each_formula, each_premise, is_instance, first_instance, choice}
 use Rattle.sp_spec_formula.specs.Action.{solving_action}
 use Rattle.sp_spec_formula.specs.Or.{disjunction_at, or_cases}
 use Rattle.sp_spec_graph.specs.Premise.{open_premise, premise_cases}
-use Rattle.sp_spec_proof.specs.Growth.{premise_from, first_premise, first_action, first_disjunction}
 use Rattle.sp_moves_formula.specs.Parts.{disjuncts, by_parts}
 use Rattle.sp_moves_formula.proofs.Parts.{parts_at}
-use Rattle.sp_search.specs.Choosing.{open_from}
+use Rattle.sp_search.specs.declared.choose.MoveKind.{MoveKind}
+use Rattle.sp_search.specs.declared.choose.MoveKind.TheVariants as kind
+use Rattle.sp_search.specs.Choosing.{if_so, answer}
 
-is_some_mapped : (o : Option (List Case)) → is_some (option_map (map simple_case) o) ≡ is_some o
-is_some_mapped None = refl
-is_some_mapped (Some cs) = refl
+-- ---- the kinds
 
-at_place : (all : List Formula) (k : ℕ) (f : Formula) → k < length all → f ≡ get_or all k f → slice_get (map formula_of all) k ≡ Some (formula_of f)
-at_place all k f below is = slice_get-map formula_of all k ∙ ap (option_map formula_of) (slice_get-get_or all k f below) ∙ ap (λ (x : Formula). Some (formula_of x)) (sym is)
+abbrev kinds : List (ℕ × MoveKind)
+kinds = (1, kind.Contradiction) ∷ (2, kind.Simplify) ∷ (3, kind.Solved) ∷ (4, kind.Or) ∷ (5, kind.Action) ∷ (7, kind.Premise) ∷ []
 
-from_place : (all : List Formula) (k : ℕ) (f : Formula) → k < length all → f ≡ get_or all k f → drop k all ≡ f ∷ drop (k + 1) all
-from_place all k f below is = drop-cons all k f below ∙ rw (← is, add-one) refl
+-- a place at which a row fails is a contradiction
+fails_contradicts : (rules : Rules) (s : System) → fails_somewhere s ≡ true → is_contradictory rules s ≡ true
+fails_contradicts rules s e =
+    or_right (has_falsity s.formulas) _ (or_right (has_equal_pair s.unequal) _ (or_right (has_refuted s.order s.formulas) _ (or_right (is_cyclic s.order) _ (or_right (has_source_twice s) _ e))))
 
-pub first_from : (context : Context) (s : System) (all : List Formula) (k : ℕ) (f : Formula) (b : Bool) → s.formulas ≡ map formula_of all → k < length all → f ≡ get_or all k f
-    → b ≡ is_some (solving_action context.rules.forms s (Some (formula_of f)))
-    → first_action context s k (map formula_of (drop k all)) ≡ (if b then action k else first_action context s (k + 1) (map formula_of (drop (k + 1) all)))
-first_from context s all k f b whole below is e =
-    let here : is_some (cases context s (action k)) ≡ b = is_some_mapped (solving_action context.rules.forms s (slice_get s.formulas k))
-    ∙ ap (λ (o : Option Guarded). is_some (solving_action context.rules.forms s o)) (ap (λ (fs : List Guarded). slice_get fs k) whole ∙ at_place all k f below is) ∙ sym e in
-    let split : drop k all ≡ f ∷ drop (k + 1) all = from_place all k f below is in
-    rw split (rw here (rw add-one refl))
+abbrev first_if : Bool → Move → Option Move
+first_if holds move = if holds then Some move else None
+
+-- whether a move with these cases is an instance
+abbrev counts : Rules → Option (List Case) → Bool
+counts rules cs = is_some (option_map (map (simple_case rules)) cs)
+
+by_tests : (rules : Rules) (contradictory applies fails ends : Bool) (case : Case) (later : Option Ranked) → (fails ≡ true → contradictory ≡ true)
+    → option_or (option_map (with_rank 1) (if_so contradictory contradiction)) (option_or (option_map (with_rank 2) (if_so applies simplify)) (option_or (option_map (with_rank 3) (if_so ends solved)) later))
+    ≡ option_or (option_map (with_rank 1) (first_if (counts rules (let r : Option (List Case) = if contradictory then Some [] else None in r)) contradiction))
+    (option_or (option_map (with_rank 2) (first_if (counts rules (let r : Option (List Case) = if applies || fails then Some (case ∷ []) else None in r)) simplify))
+    (option_or (option_map (with_rank 3) (first_if (counts rules (let r : Option (List Case) = if ends then Some [] else None in r)) solved)) later))
+by_tests rules true applies fails ends case later h = refl
+by_tests rules false true fails ends case later h = refl
+by_tests rules false false true ends case later h = absurd (true≢false (sym (h refl)))
+by_tests rules false false false true case later h = refl
+by_tests rules false false false false case later h = refl
+
+pub answers_are : (context : Context) (s : System) → first_some (answer context s) kinds ≡ choice context s
+unfolding choice
+answers_are context s =
+    by_tests context.rules (is_contradictory context.rules s) (is_some (by_rows context.rules rows s)) (fails_somewhere s) (is_some (end_log context s)) (record { name = []; system = s })
+    (option_or (option_map (with_rank 4) (first_instance context s (at_each_formula or context s)))
+    (option_or (option_map (with_rank 5) (first_instance context s (at_each_formula action context s)))
+    (option_or (option_map (with_rank 7) (first_instance context s (each_premise context s))) None)))
+    (fails_contradicts context.rules s)
+
+-- the kinds are gone over
+pub next_kind : (context : Context) (s : System) (all : List (ℕ × MoveKind)) (i : ℕ) (k : ℕ × MoveKind) → i < length all → k ≡ get_or all i k
+    → first_some (answer context s) (drop i all) ≡ option_or (answer context s k) (first_some (answer context s) (drop (i + 1) all))
+next_kind context s all i k below is = ap (first_some (answer context s)) (next_item all i k below is)
+
+-- ---- a move at each place
+
+pub next_place : {X A : Type 0} (context : Context) (s : System) (move : ℕ → Move) (view : X → A) (all : List X) (k : ℕ) (x : X) (b : Bool) → k < length all → x ≡ get_or all k x
+    → is_instance context s (move k) ≡ b
+    → first_instance context s (map move (places_from k (map view (drop k all))))
+    ≡ (if b then Some (move k) else first_instance context s (map move (places_from (k + 1) (map view (drop (k + 1) all)))))
+next_place {X = X} context s move view all k x b below is here =
+    let rest : ℕ → Option Move = λ n. first_instance context s (map move (places_from n (map view (drop (k + 1) all)))) in
+    ap (λ (xs : List X). first_instance context s (map move (places_from k (map view xs)))) (next_item all k x below is)
+    ∙ ap (λ (t : Bool). if t then Some (move k) else rest (suc k)) here
+    ∙ ap (λ (n : ℕ). if b then Some (move k) else rest n) (sym (add-one k))
 
 is_some_map : {A B : Type 0} (f : A → B) (o : Option A) → is_some (option_map f o) ≡ is_some o
 is_some_map f None = refl
 is_some_map f (Some a) = refl
 
-pub first_part : (context : Context) (s : System) (all : List Formula) (k : ℕ) (f : Formula) (b : Bool) → s.formulas ≡ map formula_of all → k < length all → f ≡ get_or all k f
-    → b ≡ is_some (disjuncts (formula_of f))
-    → first_disjunction context s k (map formula_of (drop k all)) ≡ (if b then or k else first_disjunction context s (k + 1) (map formula_of (drop (k + 1) all)))
-first_part context s all k f b whole below is e =
+at_place : (all : List Formula) (k : ℕ) (f : Formula) → k < length all → f ≡ get_or all k f → slice_get (map formula_of all) k ≡ Some (formula_of f)
+at_place all k f below is = slice_get-map formula_of all k ∙ ap (option_map formula_of) (slice_get-get_or all k f below) ∙ ap (λ (x : Formula). Some (formula_of x)) (sym is)
+
+pub action_here : (context : Context) (s : System) (all : List Formula) (k : ℕ) (f : Formula) (b : Bool) → s.formulas ≡ map formula_of all → k < length all → f ≡ get_or all k f
+    → b ≡ is_some (solving_action context.rules.forms s (Some (formula_of f))) → is_instance context s (action k) ≡ b
+action_here context s all k f b whole below is e =
+    is_some_map (map (simple_case context.rules)) (solving_action context.rules.forms s (slice_get s.formulas k))
+    ∙ ap (λ (o : Option Guarded). is_some (solving_action context.rules.forms s o)) (ap (λ (fs : List Guarded). slice_get fs k) whole ∙ at_place all k f below is) ∙ sym e
+
+pub part_here : (context : Context) (s : System) (all : List Formula) (k : ℕ) (f : Formula) (b : Bool) → s.formulas ≡ map formula_of all → k < length all → f ≡ get_or all k f
+    → b ≡ is_some (disjuncts (formula_of f)) → is_instance context s (or k) ≡ b
+part_here context s all k f b whole below is e =
     let there : slice_get s.formulas k ≡ Some (formula_of f) = ap (λ (fs : List Guarded). slice_get fs k) whole ∙ at_place all k f below is in
-    let here : is_some (cases context s (or k)) ≡ b = is_some_mapped (or_cases s (disjunction_at k s.formulas)) ∙ ap is_some (parts_at s k)
+    is_some_map (map (simple_case context.rules)) (or_cases s (disjunction_at k s.formulas)) ∙ ap is_some (parts_at s k)
     ∙ is_some_map (by_parts s k 1) (option_and_then disjuncts (slice_get s.formulas k))
-    ∙ ap (λ (o : Option Guarded). is_some (option_and_then disjuncts o)) there ∙ sym e in
-    let split : drop k all ≡ f ∷ drop (k + 1) all = from_place all k f below is in
-    rw split (rw here (rw add-one refl))
+    ∙ ap (λ (o : Option Guarded). is_some (option_and_then disjuncts o)) there ∙ sym e
 
--- ---- premises
-
--- the move on the premise at the place that was found
-abbrev pub chosen : ℕ → Move → Option ℕ → Move
-chosen i later None = later
-chosen i later (Some p) = premise i p
-
-is_open : (context : Context) (s : System) (i p : ℕ) → is_some (cases context s (premise i p)) ≡ is_some (open_premise s i p)
-is_open context s i p = is_some_mapped (premise_cases context.rules.forms s i p (open_premise s i p)) ∙ each (open_premise s i p)
+pub is_open : (context : Context) (s : System) (i p : ℕ) → is_instance context s (premise i p) ≡ is_some (open_premise s i p)
+is_open context s i p = is_some_map (map (simple_case context.rules)) (premise_cases context.rules.forms s i p (open_premise s i p)) ∙ each (open_premise s i p)
   where
     each : (o : Option (Fact Variable)) → is_some (premise_cases context.rules.forms s i p o) ≡ is_some o
     each None = refl
     each (Some f) = refl
 
-first_open : (context : Context) (s : System) (i p : ℕ) (fs : List (Fact Variable)) (later : Move) → premise_from context s i p fs later ≡ chosen i later (open_from s i p fs)
-first_open context s i p [] later = refl
-first_open context s i p (f ∷ fs) later =
-    ap (λ (b : Bool). if b then premise i p else premise_from context s i (suc p) fs later) (is_open context s i p)
-    ∙ at (is_some (open_premise s i p)) (first_open context s i (suc p) fs later)
-  where
-    at : (b : Bool) → premise_from context s i (suc p) fs later ≡ chosen i later (open_from s i (suc p) fs)
-        → (if b then premise i p else premise_from context s i (suc p) fs later) ≡ chosen i later (if b then Some p else open_from s i (suc p) fs)
-    at true h = refl
-    at false h = h
+-- ---- the premises of each event
 
--- the premises of one event are gone over
-next_event : (context : Context) (s : System) (e : Event) (events : List Event) (o : Option ℕ) → o ≡ open_from s e.time 0 (happening_premises e.happening)
-    → first_premise context s (e ∷ events) ≡ chosen e.time (first_premise context s events) o
-next_event context s e events o h =
-    first_open context s e.time 0 (happening_premises e.happening) (first_premise context s events) ∙ ap (chosen e.time (first_premise context s events)) (sym h)
-
-pub next_premise : (context : Context) (s : System) (all : List memory.Event) (k : ℕ) (e : memory.Event) (o : Option ℕ) → k < length all → e ≡ get_or all k e
-    → o ≡ open_from s e.time 0 (map fact_of e.facts.premises.items)
-    → first_premise context s (map event_of (drop k all)) ≡ chosen e.time (first_premise context s (map event_of (drop (k + 1) all))) o
-next_premise context s all k e o below is h =
-    let split : drop k all ≡ e ∷ drop (k + 1) all = drop-cons all k e below ∙ rw (← is, add-one) refl in
-    ap (λ (es : List memory.Event). first_premise context s (map event_of es)) split ∙ next_event context s (event_of e) (map event_of (drop (k + 1) all)) o h
+pub next_event : (context : Context) (s : System) (all : List memory.Event) (k : ℕ) (e : memory.Event) → k < length all → e ≡ get_or all k e
+    → first_instance context s (flat_map premises_of (map event_of (drop k all)))
+    ≡ option_or (first_instance context s (premises_of (event_of e))) (first_instance context s (flat_map premises_of (map event_of (drop (k + 1) all))))
+next_event context s all k e below is =
+    ap (λ (es : List memory.Event). first_instance context s (flat_map premises_of (map event_of es))) (next_item all k e below is)
+    ∙ find-append (is_instance context s) (premises_of (event_of e)) (flat_map premises_of (map event_of (drop (k + 1) all)))

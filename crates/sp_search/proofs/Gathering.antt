@@ -1,8 +1,9 @@
 -- What is gathered over a tree in memory is gathered over its nodes.
-use Rattle.std.proofs.Common.{◌≡◌, ℕ, suc, ◌+◌, List, [], ◌∷◌, length, refl, sym, ap, ◌∙◌, arith}
+use Rattle.std.proofs.Common.{◌≡◌, ℕ, List, [], ◌∷◌, length, Option, sym, ap, ◌∙◌, arith}
 use Rattle.sp_spec.specs.Log.{Log}
 use Rattle.sp_spec_system.specs.System.{System}
 use Rattle.sp_spec_system.specs.Move.{Move, unproved}
+use Rattle.sp_spec_proof.specs.Choice.{Ranked}
 use Rattle.sp_spec_nodes.specs.Preorder.{AreTrees}
 use Rattle.sp_spec_nodes.proofs.Gathered.{gather, gather_tree}
 use Rattle.sp_search.specs.Kept.{Kept, leaf, ended, inner, Keeps, nothing, also, with_names}
@@ -18,7 +19,7 @@ module _ {A : Type 0} (join : A → A → A) (none : A) (none_first : (a : A) �
   named f below last more (name ∷ names) (t ∷ ts) e = more name t (with_names names ts) ∙ ap (join (f t)) (named f below last more names ts (omega (arith, e)))
 
   module _ (f : Kept → A) (below : Keeps → A) (g : Kind → A)
-      (at_leaf : (s : System) (m : Move) (depth : ℕ) → f (leaf s m depth) ≡ g (open_leaf s m depth))
+      (at_leaf : (s : System) (chosen : Option Ranked) (depth : ℕ) → f (leaf s chosen depth) ≡ g (open_leaf s chosen depth))
       (at_end : (log : Log) → f (ended log) ≡ g (end_at log))
       (at_move : (m : Move) (names : List (List ℕ)) (ts : Keeps) → f (inner m ts) ≡ join (g (choice m names)) (below ts))
       (last : below nothing ≡ none) (more : (name : List ℕ) (t : Kept) (ts : Keeps) → below (also name t ts) ≡ join (f t) (below ts)) where

@@ -1,21 +1,14 @@
 -- Nodes that come in place of an open leaf's are growth of the trees that the list stands for.
-use Rattle.std.proofs.Common.{◌≡◌, ◌∙◌, ℕ, zero, suc, ◌+◌, Bool, true, false, List, [], ◌∷◌, ◌++◌, map, take, drop, length, Option, Some, None, refl, sym, ap, ap₂, subst, arith, true≢false, add-one}
-use Rattle.std.proofs.lemmas.List.{take_at, drop_at, length-map}
-use Rattle.sp_spec.specs.Log.{Log}
-use Rattle.sp_spec_system.specs.System.{System}
-use Rattle.sp_spec_system.specs.Move.{Move, solved, Context, Case, end_log}
-use Rattle.std.specs.Prelude.{if◌then◌else◌}
-use Rattle.sp_spec_proof.specs.Cases.{cases}
-use Rattle.sp_spec_proof.specs.Tree.{is_solved}
-use Rattle.sp_spec_proof.specs.Growth.{class_of, has_class}
+use Rattle.std.proofs.Common.{◌≡◌, ◌∙◌, ℕ, zero, suc, ◌+◌, Bool, true, false, List, [], ◌∷◌, ◌++◌, take, drop, length, refl, sym, ap, ap₂, arith}
+use Rattle.std.proofs.lemmas.List.{take_at, drop_at}
+use Rattle.sp_spec_system.specs.Move.{Move, Context}
+use Rattle.sp_spec_proof.specs.Growth.{has_class}
 use Rattle.sp_spec_nodes.specs.Preorder.{AreTrees}
-use Rattle.sp_spec_nodes.proofs.Preorder.{count_trees}
-use Rattle.sp_spec_nodes.proofs.Gathered.{length_taken}
-use Rattle.sp_search.specs.Kept.{Kept, leaf, ended, inner, Keeps, nothing, also, with_names}
+use Rattle.sp_spec_nodes.proofs.Preorder.{count_trees, take_length}
+use Rattle.sp_search.specs.Kept.{Kept, leaf, ended, inner, Keeps, with_names}
 use Rattle.sp_search.specs.Kinds.{Kind, open_leaf, end_at, choice, case_count, tree_over, all_kept}
-use Rattle.sp_search.specs.Growing as growing
-use Rattle.sp_search.specs.Growing.{cases_or_none, leaves_at, ended_with, replaced, opened, within, behind, grow, grow_in}
-use Rattle.sp_search.specs.Turning.{class_at, open_node, name_of, move_nodes, end_node, replaced_nodes, in_place_of, grown_front, grown_at}
+use Rattle.sp_search.specs.Growing.{opened, within, behind, grow, grow_in}
+use Rattle.sp_search.specs.Turning.{class_at}
 use Rattle.sp_search.proofs.Turns.{rests_at}
 
 -- ---- trees, one after the other
@@ -74,7 +67,7 @@ module _ (context : Context) (k : ℕ) where
       let n : ℕ = length names in
       let below : List Kept × Bool = grow_all context k false (take n old) in
       let behind : List Kept × Bool = grow_all context k below.1 (drop n old) in
-      let many : length (take n old) ≡ n = length_taken n j old e in
+      let many : length (take n old) ≡ n = take_length n j old e in
       let as_many : length below.0 ≡ n = grow_length false (take n old) ∙ many in
       let all : ◌≡◌ {A = List Kept × Bool} (below.0 ++ behind.0, behind.1) (new, true) = sym (grow_split n false old) ∙ g in
       let is : below.0 ++ behind.0 ≡ new = ap (λ (r : List Kept × Bool). r.0) all in

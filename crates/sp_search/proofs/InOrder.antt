@@ -5,7 +5,8 @@ use Rattle.std.specs.List.{splice}
 use Rattle.std.specs.declared.alloc.Global.{Global}
 use Rattle.std.specs.declared.boxed.Box.{Box}
 use Rattle.sp_spec_system.specs.System.{System}
-use Rattle.sp_spec_system.specs.Move.{Move, Context}
+use Rattle.sp_spec_system.specs.Move.{Context}
+use Rattle.sp_spec_proof.specs.Choice.{Ranked}
 use Rattle.sp_log.specs.declared.log.Log.{Log}
 use Rattle.sp_moves_formula.specs.declared.moves.Move as memory
 use Rattle.std.specs.declared.vec.Vec.{Vec}
@@ -56,14 +57,14 @@ pub move_found : (place : ℕ) (all : List Node) (n : Node) (m : memory.Move) (n
 move_found place all n m names below is e = sym (at_place place all n below is ∙ rw e refl)
 
 -- the nodes that are put in place of a leaf's
-pub spliced : (context : Context) (place : ℕ) (all new made came : List Node) (s : System) (m : Move) (depth : ℕ) → new ≡ splice all place (place + 1) came → map (λ (n : Node). n) came ≡ made
-    → nodes_at made ≡ replaced_nodes context s m depth → Some (open_leaf s m depth) ≡ leaf_at place (nodes_at all) → nodes_at new ≡ grown_at context place (nodes_at all)
-spliced context place all new made came s m depth is same nodes leaf =
+pub spliced : (context : Context) (place : ℕ) (all new made came : List Node) (s : System) (chosen : Ranked) (depth : ℕ) → new ≡ splice all place (place + 1) came → map (λ (n : Node). n) came ≡ made
+    → nodes_at made ≡ replaced_nodes context s chosen.move depth → Some (open_leaf s (Some chosen) depth) ≡ leaf_at place (nodes_at all) → nodes_at new ≡ grown_at context place (nodes_at all)
+spliced context place all new made came s chosen depth is same nodes leaf =
     let front : nodes_at (take place all) ≡ take place (nodes_at all) = sym (take-map node_at place all) in
     let back : nodes_at (drop (place + 1) all) ≡ drop (place + 1) (nodes_at all) = sym (drop-map node_at (place + 1) all) in
-    let middle : nodes_at came ≡ replaced_nodes context s m depth = ap nodes_at (sym (map-id came) ∙ same) ∙ nodes in
+    let middle : nodes_at came ≡ replaced_nodes context s chosen.move depth = ap nodes_at (sym (map-id came) ∙ same) ∙ nodes in
     ap nodes_at is
     ∙ map-append node_at (take place all) (came ++ drop (place + 1) all)
     ∙ ap₂ ◌++◌ front (map-append node_at came (drop (place + 1) all) ∙ ap₂ ◌++◌ middle back)
-    ∙ ap (λ (n : ℕ). take place (nodes_at all) ++ (replaced_nodes context s m depth ++ drop n (nodes_at all))) (add-one place)
-    ∙ leaf_replaced context place (nodes_at all) s m depth leaf
+    ∙ ap (λ (n : ℕ). take place (nodes_at all) ++ (replaced_nodes context s chosen.move depth ++ drop n (nodes_at all))) (add-one place)
+    ∙ leaf_replaced context place (nodes_at all) s (Some chosen) depth leaf

@@ -1,10 +1,10 @@
 -- The place that is found is that of the first open leaf of the least class, and with its node replaced the tree is grown.
-use Rattle.std.proofs.Common.{◌≡◌, ◌∙◌, ℕ, zero, suc, ◌+◌, ◌<◌, ◌≤◌, Bool, true, false, List, [], ◌∷◌, Option, Some, None, refl, sym, ap, subst, arith, min, nat_eq, true≢false, option_map}
+use Rattle.std.proofs.Common.{◌≡◌, ◌∙◌, ℕ, zero, suc, ◌+◌, Bool, true, false, List, [], ◌∷◌, Option, Some, None, refl, sym, ap, arith, min, true≢false, option_map}
 use Rattle.std.specs.Prelude.{if◌then◌else◌, nat_lt, is_some}
 use Rattle.std.proofs.lemmas.Bool.Decides.{nat_tests}
-use Rattle.sp_spec_system.specs.System.{System}
-use Rattle.sp_spec_system.specs.Move.{Move, unproved, Context}
-use Rattle.sp_spec_proof.specs.Growth.{class_of, least, has_class}
+use Rattle.sp_spec_system.specs.Move.{unproved, Context}
+use Rattle.sp_spec_proof.specs.Choice.{class_of}
+use Rattle.sp_spec_proof.specs.Growth.{least, has_class}
 use Rattle.sp_spec_nodes.specs.Preorder.{AreTrees, first}
 use Rattle.sp_spec_nodes.proofs.Preorder.{count_trees}
 use Rattle.sp_spec_nodes.proofs.Gathered.{gather, one_tree}

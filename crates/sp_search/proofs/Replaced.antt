@@ -1,5 +1,5 @@
 -- The nodes that come in place of an open leaf are one tree: the leaf replaced by its move.
-use Rattle.std.proofs.Common.{◌≡◌, ◌∙◌, ℕ, zero, suc, ◌+◌, Bool, true, false, List, [], ◌∷◌, ◌++◌, map, take, drop, length, Option, Some, None, refl, sym, ap, ap₂, subst, arith}
+use Rattle.std.proofs.Common.{◌≡◌, ◌∙◌, ℕ, zero, suc, ◌+◌, Bool, true, false, List, [], ◌∷◌, ◌++◌, map, take, drop, length, Option, Some, None, refl, sym, ap, ap₂, subst, arith, true≢false}
 use Rattle.std.proofs.lemmas.List.{take_at, drop_at, length-map}
 use Rattle.std.specs.Prelude.{if◌then◌else◌}
 use Rattle.sp_spec.specs.Log.{Log}
@@ -7,11 +7,12 @@ use Rattle.sp_spec_system.specs.System.{System}
 use Rattle.sp_spec_system.specs.Move.{Move, Context, Case, end_log}
 use Rattle.sp_spec_proof.specs.Cases.{cases}
 use Rattle.sp_spec_proof.specs.Tree.{is_solved}
-use Rattle.sp_spec_proof.specs.Growth.{class_of, has_class}
+use Rattle.sp_spec_proof.specs.Choice.{Ranked, class_of}
+use Rattle.sp_spec_proof.specs.Growth.{has_class}
 use Rattle.sp_spec_nodes.specs.Preorder.{AreTrees}
 use Rattle.sp_spec_nodes.proofs.Preorder.{are_appended}
-use Rattle.sp_search.specs.Kept.{Kept, leaf, inner, with_names}
-use Rattle.sp_search.specs.Kinds.{Kind, open_leaf, end_at, choice, case_count, tree_over, all_kept}
+use Rattle.sp_search.specs.Kept.{Kept, inner, with_names}
+use Rattle.sp_search.specs.Kinds.{Kind, open_leaf, end_at, choice, case_count, all_kept}
 use Rattle.sp_search.specs.Growing as growing
 use Rattle.sp_search.specs.Growing.{cases_or_none, leaves_at, ended_with, replaced, opened}
 use Rattle.sp_search.specs.Turning.{open_node, name_of, move_nodes, end_node, replaced_nodes, in_place_of, grown_front, grown_at, leaf_at}
@@ -47,9 +48,10 @@ pub front_are : (context : Context) (j : ℕ) (ns : List Kind) → AreTrees case
 front_are context zero [] are = are
 front_are context (suc j) [] are = are
 front_are context zero (n ∷ ns) are = absurd are
-front_are context (suc j) (open_leaf s m depth ∷ ns) are =
+front_are context (suc j) (open_leaf s None depth ∷ ns) are = are
+front_are context (suc j) (open_leaf s (Some r) depth ∷ ns) are =
     let e : 0 + j ≡ j = omega arith in
-    replaced_one context s m depth j ns (subst (λ (n : ℕ). AreTrees case_count n ns) e are)
+    replaced_one context s r.move depth j ns (subst (λ (n : ℕ). AreTrees case_count n ns) e are)
 front_are context (suc j) (end_at log ∷ ns) are = are
 front_are context (suc j) (choice m names ∷ ns) are = are
 
@@ -94,12 +96,13 @@ replaced_kept context s m depth ns = by_end (is_solved m)
     by_end false = move_kept context m (depth + 1) (cases_or_none (cases context s m)) ns
 
 -- a leaf of the class is replaced, and nothing behind it
-pub leaf_grows : (context : Context) (k : ℕ) (s : System) (m : Move) (depth : ℕ) (ns : List Kind) → has_class (class_of m depth) k ≡ true
-    → grow_all context k false (all_kept (open_leaf s m depth ∷ ns)) ≡ (all_kept (replaced_nodes context s m depth ++ ns), true)
-leaf_grows context k s m depth ns is =
-    ap (λ (b : Bool). then_others (opened context s m depth b) (λ now. grow_all context k now (all_kept ns))) is
-    ∙ ap (λ (r : List Kept × Bool). (replaced context s m depth ∷ r.0, r.1)) (all_rest context k (all_kept ns))
-    ∙ ap (λ (ts : List Kept). (ts, true)) (sym (replaced_kept context s m depth ns))
+pub leaf_grows : (context : Context) (k : ℕ) (s : System) (chosen : Option Ranked) (depth : ℕ) (ns : List Kind) → has_class (class_of chosen depth) k ≡ true
+    → grow_all context k false (all_kept (open_leaf s chosen depth ∷ ns)) ≡ (all_kept (in_place_of context (open_leaf s chosen depth) ++ ns), true)
+leaf_grows context k s None depth ns is = absurd (true≢false (sym is))
+leaf_grows context k s (Some chosen) depth ns is =
+    ap (λ (b : Bool). then_others (opened context s (Some chosen) depth b) (λ now. grow_all context k now (all_kept ns))) is
+    ∙ ap (λ (r : List Kept × Bool). (replaced context s chosen.move depth ∷ r.0, r.1)) (all_rest context k (all_kept ns))
+    ∙ ap (λ (ts : List Kept). (ts, true)) (sym (replaced_kept context s chosen.move depth ns))
 
 -- ---- at a place
 
@@ -112,13 +115,14 @@ none_replaced context zero (choice m names ∷ ns) e = refl
 none_replaced context (suc place) [] e = refl
 none_replaced context (suc place) (n ∷ ns) e = ap (λ (ms : List Kind). n ∷ ms) (none_replaced context place ns e)
 
-pub leaf_replaced : (context : Context) (place : ℕ) (ns : List Kind) (s : System) (m : Move) (depth : ℕ) → Some (open_leaf s m depth) ≡ leaf_at place ns
-    → take place ns ++ (replaced_nodes context s m depth ++ drop (suc place) ns) ≡ grown_at context place ns
-leaf_replaced context zero [] s m depth e = absurd (cc)
-leaf_replaced context zero (open_leaf t n own ∷ ns) s m depth e =
-    let same : open_leaf s m depth ≡ open_leaf t n own = cc in
+-- an open leaf is, unless no move is chosen for it
+pub leaf_replaced : (context : Context) (place : ℕ) (ns : List Kind) (s : System) (chosen : Option Ranked) (depth : ℕ) → Some (open_leaf s chosen depth) ≡ leaf_at place ns
+    → take place ns ++ (in_place_of context (open_leaf s chosen depth) ++ drop (suc place) ns) ≡ grown_at context place ns
+leaf_replaced context zero [] s chosen depth e = absurd (cc)
+leaf_replaced context zero (open_leaf t other own ∷ ns) s chosen depth e =
+    let same : open_leaf s chosen depth ≡ open_leaf t other own = cc in
     ap (λ (k : Kind). in_place_of context k ++ ns) same
-leaf_replaced context zero (end_at log ∷ ns) s m depth e = absurd (cc)
-leaf_replaced context zero (choice n names ∷ ns) s m depth e = absurd (cc)
-leaf_replaced context (suc place) [] s m depth e = absurd (cc)
-leaf_replaced context (suc place) (n ∷ ns) s m depth e = ap (λ (ms : List Kind). n ∷ ms) (leaf_replaced context place ns s m depth e)
+leaf_replaced context zero (end_at log ∷ ns) s chosen depth e = absurd (cc)
+leaf_replaced context zero (choice n names ∷ ns) s chosen depth e = absurd (cc)
+leaf_replaced context (suc place) [] s chosen depth e = absurd (cc)
+leaf_replaced context (suc place) (n ∷ ns) s chosen depth e = ap (λ (ms : List Kind). n ∷ ms) (leaf_replaced context place ns s chosen depth e)

@@ -2,6 +2,7 @@
 use Rattle.std.proofs.Common.{◌≡◌, ℕ, ◌+◌, Bool, true, false, ◌&&◌, List, Option, Some, None, refl, arith}
 use Rattle.sp_spec.specs.Log.{Log}
 use Rattle.sp_spec_proof.specs.Tree.{first_log, steps, steps_in}
+use Rattle.sp_spec_proof.proofs.Logs.{log_last, log_regroup}
 use Rattle.sp_spec_nodes.specs.Preorder.{AreTrees}
 use Rattle.sp_spec_nodes.proofs.Gathered.{gather}
 use Rattle.sp_search.specs.Finished.{finished, all_finished}
@@ -14,14 +15,6 @@ use Rattle.sp_search.proofs.Gathering.{kept_gathers}
 
 abbrev pub first_log_of : List Kind → Option Log
 first_log_of = gather first_log None log_at
-
-log_last : (o : Option Log) → first_log o None ≡ o
-log_last None = refl
-log_last (Some log) = refl
-
-log_regroup : (o p q : Option Log) → first_log (first_log o p) q ≡ first_log o (first_log p q)
-log_regroup None p q = refl
-log_regroup (Some log) p q = refl
 
 pub log_told : (ns : List Kind) → AreTrees case_count 1 ns → log_in (kept ns) ≡ first_log_of ns
 log_told = kept_gathers first_log None (λ o. refl) log_last log_regroup log_in log_among log_at (λ s m depth. refl) (λ log. refl) (λ m names ts. refl) refl (λ name t ts. refl)

@@ -1,24 +1,23 @@
 -- Growth of trees that hold their systems, moves and depths is growth of the trees that they show.
-use Rattle.std.proofs.Common.{◌≡◌, ◌∙◌, ℕ, suc, ◌+◌, Bool, true, false, List, [], ◌∷◌, map, Option, Some, None, refl, sym, ap, subst, add-one, true≢false}
+use Rattle.std.proofs.Common.{◌≡◌, ◌∙◌, ℕ, suc, ◌+◌, Bool, true, false, List, [], ◌∷◌, map, Option, Some, None, IfSome, refl, sym, ap, subst, add-one, true≢false}
 use Rattle.std.specs.Prelude.{option_map, is_some, if◌then◌else◌}
-use Rattle.sp_spec.specs.Guarded.{Guarded}
-use Rattle.sp_spec.specs.Term.{Variable}
-use Rattle.sp_spec.specs.Rule.{Fact}
-use Rattle.sp_spec_system.specs.System.{Event, System, happening_premises}
+use Rattle.sp_spec_system.specs.System.{System}
 use Rattle.sp_spec_system.specs.Move.{Move, simplify, contradiction, unproved, solved, or, action, premise, Context, Case, end_log}
 use Rattle.sp_spec_proof.specs.Cases.{simple_case, cases}
-use Rattle.sp_spec_proof.specs.Rows.{rows, by_rows, is_contradictory}
+use Rattle.sp_spec_system.specs.Rules.{Rules}
 use Rattle.sp_spec.specs.Log.{Log}
 use Rattle.sp_spec_proof.specs.Tree.{is_solved, Tree, node, Branches, no_branch, branch}
-use Rattle.sp_spec_proof.specs.Growth.{premise_from, first_premise, first_action, first_disjunction, choice, class_of, has_class, is_unproved, least_class, least_class_in, grown_at, grown_in, open_leaves, leaves_for, grown_leaf, first_grown}
+use Rattle.sp_spec_proof.specs.Choice.{Ranked, is_instance, choice, class_of}
+use Rattle.sp_spec_proof.proofs.Chosen.{choice_is_instance, choice_is_proper}
+use Rattle.sp_spec_proof.specs.Growth.{has_class, is_unproved, least_class, least_class_in, grown_at, grown_in, open_leaves, leaves_for, grown_leaf, first_grown}
 use Rattle.sp_search.specs.Kept.{Kept, leaf, ended, inner, Keeps, nothing, also, shown, shown_all}
 use Rattle.sp_search.specs.Growing.{least_kept, least_in, leaves_at, cases_or_none, ended_with, replaced, opened, behind, next, grow, grow_in}
 
--- The tree belongs to this system at this depth: each open leaf has its own system, the move that is chosen for it and its own depth, and
+-- The tree belongs to this system at this depth: each open leaf has its own system, its choice and its own depth, and
 -- the search ends with its log.
 abbrev mutual
   pub Belongs : Context → ℕ → System → Kept → Type 0
-  Belongs context depth s (leaf t move own) = (t ≡ s) × (move ≡ choice context s) × (own ≡ depth)
+  Belongs context depth s (leaf t chosen own) = (t ≡ s) × (chosen ≡ choice context s) × (own ≡ depth)
   Belongs context depth s (ended log) = end_log context s ≡ Some log
   Belongs context depth s (inner move branches) = (is_unproved move ≡ false) × (is_solved move ≡ false) × AllBelong context (suc depth) (cases context s move) branches
 
@@ -74,55 +73,19 @@ leaves_belong context depth own e (Some cs) = each cs
     each [] = tt
     each (c ∷ cs) = ((refl, refl, e), each cs)
 
--- a premise, a disjunction or an action that is chosen is no end
-no_end_from : (context : Context) (s : System) (i p : ℕ) (fs : List (Fact Variable)) (later : Move) → is_solved later ≡ false → is_solved (premise_from context s i p fs later) ≡ false
-no_end_from context s i p [] later e = e
-no_end_from context s i p (f ∷ fs) later e = by_first (is_some (cases context s (premise i p))) (premise_from context s i (suc p) fs later) (no_end_from context s i (suc p) fs later e)
-  where
-    by_first : (b : Bool) (m : Move) → is_solved m ≡ false → is_solved (if b then premise i p else m) ≡ false
-    by_first true m e = refl
-    by_first false m e = e
+log_told : (rules : Rules) (b : Bool) → is_some (option_map (map (simple_case rules)) (let r : Option (List Case) = if b then Some [] else None in r)) ≡ true → b ≡ true
+log_told rules true e = refl
+log_told rules false e = e
 
-no_end_premise : (context : Context) (s : System) (events : List Event) → is_solved (first_premise context s events) ≡ false
-no_end_premise context s [] = refl
-no_end_premise context s (e ∷ events) = no_end_from context s e.time 0 (happening_premises e.happening) (first_premise context s events) (no_end_premise context s events)
+ended_shows : (rules : Rules) (o : Option Log) → shown (ended_with o) ≡ node solved (open_leaves (option_map (map (simple_case rules)) (let r : Option (List Case) = if is_some o then Some [] else None in r)))
+ended_shows rules None = refl
+ended_shows rules (Some log) = refl
 
-no_end_first : (context : Context) (s : System) (k : ℕ) (fs : List Guarded) → is_solved (first_action context s k fs) ≡ false
-no_end_first context s k [] = no_end_premise context s s.events
-no_end_first context s k (f ∷ fs) = by_first (is_some (cases context s (action k))) (first_action context s (suc k) fs) (no_end_first context s (suc k) fs)
-  where
-    by_first : (b : Bool) (m : Move) → is_solved m ≡ false → is_solved (if b then action k else m) ≡ false
-    by_first true m e = refl
-    by_first false m e = e
-
-no_end_disjunction : (context : Context) (s : System) (k : ℕ) (fs : List Guarded) → is_solved (first_disjunction context s k fs) ≡ false
-no_end_disjunction context s k [] = no_end_first context s 0 s.formulas
-no_end_disjunction context s k (f ∷ fs) = by_first (is_some (cases context s (or k))) (first_disjunction context s (suc k) fs) (no_end_disjunction context s (suc k) fs)
-  where
-    by_first : (b : Bool) (m : Move) → is_solved m ≡ false → is_solved (if b then or k else m) ≡ false
-    by_first true m e = refl
-    by_first false m e = e
-
-by_choice : (a b c : Bool) (m : Move) → is_solved m ≡ false → solved ≡ (if a then contradiction else if b then simplify else if c then solved else m) → c ≡ true
-by_choice true b c m n e = absurd (true≢false (ap is_solved e))
-by_choice false true c m n e = absurd (true≢false (ap is_solved e))
-by_choice false false true m n e = refl
-by_choice false false false m n e = absurd (true≢false (ap is_solved e ∙ n))
-
--- where the end of the search is chosen, there is a log
-has_log : (context : Context) (s : System) → solved ≡ choice context s → is_some (end_log context s) ≡ true
-has_log context s e =
-    by_choice (is_contradictory s) (is_some (by_rows rows s)) (is_some (end_log context s)) (first_disjunction context s 0 s.formulas) (no_end_disjunction context s 0 s.formulas) e
-
-ended_shows : (o : Option Log) → shown (ended_with o) ≡ node solved (open_leaves (option_map (map simple_case) (let r : Option (List Case) = if is_some o then Some [] else None in r)))
-ended_shows None = refl
-ended_shows (Some log) = refl
-
-replaced_shows : (context : Context) (s : System) (m : Move) (depth : ℕ) → shown (replaced context s m depth) ≡ grown_leaf context s m
+replaced_shows : (context : Context) (s : System) (m : Move) (depth : ℕ) → shown (replaced context s m depth) ≡ node m (open_leaves (cases context s m))
 replaced_shows context s simplify depth = ap (node simplify) (leaves_show context (depth + 1) (cases context s simplify))
 replaced_shows context s contradiction depth = ap (node contradiction) (leaves_show context (depth + 1) (cases context s contradiction))
 replaced_shows context s unproved depth = ap (node unproved) (leaves_show context (depth + 1) (cases context s unproved))
-replaced_shows context s solved depth = ended_shows (end_log context s)
+replaced_shows context s solved depth = ended_shows context.rules (end_log context s)
 replaced_shows context s (or k) depth = ap (node (or k)) (leaves_show context (depth + 1) (cases context s (or k)))
 replaced_shows context s (action k) depth = ap (node (action k)) (leaves_show context (depth + 1) (cases context s (action k)))
 replaced_shows context s (premise i p) depth = ap (node (premise i p)) (leaves_show context (depth + 1) (cases context s (premise i p)))
@@ -131,23 +94,27 @@ ended_belongs : (context : Context) (depth : ℕ) (s : System) (o : Option Log) 
 ended_belongs context depth s None e some = absurd (true≢false (sym some))
 ended_belongs context depth s (Some log) e some = e
 
-replaced_belongs : (context : Context) (s : System) (m : Move) (depth k : ℕ) → m ≡ choice context s → has_class (class_of m depth) k ≡ true → Belongs context depth s (replaced context s m depth)
-replaced_belongs context s simplify depth k is e = (refl, refl, leaves_belong context (suc depth) (depth + 1) (add-one depth) (cases context s simplify))
-replaced_belongs context s contradiction depth k is e = (refl, refl, leaves_belong context (suc depth) (depth + 1) (add-one depth) (cases context s contradiction))
-replaced_belongs context s unproved depth k is e = absurd (true≢false (sym e))
-replaced_belongs context s solved depth k is e = ended_belongs context depth s (end_log context s) refl (has_log context s is)
-replaced_belongs context s (or n) depth k is e = (refl, refl, leaves_belong context (suc depth) (depth + 1) (add-one depth) (cases context s (or n)))
-replaced_belongs context s (action n) depth k is e = (refl, refl, leaves_belong context (suc depth) (depth + 1) (add-one depth) (cases context s (action n)))
-replaced_belongs context s (premise i p) depth k is e = (refl, refl, leaves_belong context (suc depth) (depth + 1) (add-one depth) (cases context s (premise i p)))
+replaced_belongs : (context : Context) (s : System) (m : Move) (depth : ℕ) → is_unproved m ≡ false → is_instance context s m ≡ true → Belongs context depth s (replaced context s m depth)
+replaced_belongs context s simplify depth proper e = (refl, refl, leaves_belong context (suc depth) (depth + 1) (add-one depth) (cases context s simplify))
+replaced_belongs context s contradiction depth proper e = (refl, refl, leaves_belong context (suc depth) (depth + 1) (add-one depth) (cases context s contradiction))
+replaced_belongs context s unproved depth proper e = absurd (true≢false proper)
+replaced_belongs context s solved depth proper e = ended_belongs context depth s (end_log context s) refl (log_told context.rules (is_some (end_log context s)) e)
+replaced_belongs context s (or n) depth proper e = (refl, refl, leaves_belong context (suc depth) (depth + 1) (add-one depth) (cases context s (or n)))
+replaced_belongs context s (action n) depth proper e = (refl, refl, leaves_belong context (suc depth) (depth + 1) (add-one depth) (cases context s (action n)))
+replaced_belongs context s (premise i p) depth proper e = (refl, refl, leaves_belong context (suc depth) (depth + 1) (add-one depth) (cases context s (premise i p)))
 
-leaf_becomes : (context : Context) (k depth : ℕ) (s : System) (m : Move) (b : Bool) → has_class (class_of m depth) k ≡ b
-    → Became (node unproved no_branch) (shown (opened context s m depth b).0) (opened context s m depth b).1 (if b then Some (grown_leaf context s m) else None)
-leaf_becomes context k depth s m true e = (replaced_shows context s m depth, refl)
-leaf_becomes context k depth s m false e = (refl, refl)
+leaf_becomes : (context : Context) (depth : ℕ) (s : System) (chosen : Option Ranked) (b : Bool)
+    → Became (node unproved no_branch) (shown (opened context s chosen depth b).0) (opened context s chosen depth b).1 (if b then option_map (grown_leaf context s) chosen else None)
+leaf_becomes context depth s chosen false = (refl, refl)
+leaf_becomes context depth s None true = (refl, refl)
+leaf_becomes context depth s (Some r) true = (replaced_shows context s r.move depth, refl)
 
-leaf_belongs : (context : Context) (k depth : ℕ) (s : System) (m : Move) (b : Bool) → m ≡ choice context s → has_class (class_of m depth) k ≡ b → Belongs context depth s (opened context s m depth b).0
-leaf_belongs context k depth s m true is e = replaced_belongs context s m depth k is e
-leaf_belongs context k depth s m false is e = (refl, is, refl)
+leaf_belongs : (context : Context) (depth : ℕ) (s : System) (chosen : Option Ranked) (b : Bool) → chosen ≡ choice context s
+    → IfSome chosen (λ (r : Ranked). is_unproved r.move ≡ false) → IfSome chosen (λ (r : Ranked). is_instance context s r.move ≡ true)
+    → Belongs context depth s (opened context s chosen depth b).0
+leaf_belongs context depth s chosen false is proper instance = (refl, is, refl)
+leaf_belongs context depth s None true is proper instance = (refl, is, refl)
+leaf_belongs context depth s (Some r) true is proper instance = replaced_belongs context s r.move depth proper instance
 
 -- nothing more is replaced once a leaf has been
 pub rests_at : (context : Context) (k : ℕ) (t : Kept) → grow context k true t ≡ (t, true)
@@ -180,7 +147,7 @@ mutual
   pub grow_is : (context : Context) (k depth : ℕ) (s : System) (t : Kept) → Belongs context depth s t
       → Became (shown t) (shown (grow context k false t).0) (grow context k false t).1 (grown_at context k depth s (shown t))
   grow_is context k depth s (leaf u m own) b =
-      rw (b.0, b.1, b.2) (leaf_becomes context k depth s (choice context s) (has_class (class_of (choice context s) depth) k) refl)
+      rw (b.0, b.1, b.2) (leaf_becomes context depth s (choice context s) (has_class (class_of (choice context s) depth) k))
   grow_is context k depth s (ended log) b =
       subst (λ (g : Option Branches). Became (node solved no_branch) (node solved no_branch) false (option_map (node solved) g)) (sym (none_grown context k (suc depth) (cases context s solved))) (refl, refl)
   grow_is context k depth s (inner m ts) b =
@@ -202,7 +169,8 @@ mutual
 mutual
   pub grow_belongs : (context : Context) (k depth : ℕ) (s : System) (t : Kept) → Belongs context depth s t → Belongs context depth s (grow context k false t).0
   grow_belongs context k depth s (leaf u m own) b =
-      rw (b.0, b.1, b.2) (leaf_belongs context k depth s (choice context s) (has_class (class_of (choice context s) depth) k) refl refl)
+      rw (b.0, b.1, b.2)
+      (leaf_belongs context depth s (choice context s) (has_class (class_of (choice context s) depth) k) refl (choice_is_proper context s) (choice_is_instance context s))
   grow_belongs context k depth s (ended log) b = b
   grow_belongs context k depth s (inner m ts) b = (b.0, b.1, grow_in_belong context k (suc depth) (cases context s m) ts b.2)
 

@@ -1,11 +1,31 @@
--- The premises whose source can be looked for.
-use Rattle.std.specs.Prelude.{ℕ, suc, if◌then◌else◌, List, [], ◌∷◌, Option, Some, None, is_some}
-use Rattle.sp_spec.specs.Term.{Variable}
-use Rattle.sp_spec.specs.Rule.{Fact}
+-- What is asked of each kind of moves in memory: its first instance, where the kinds before it have none. So simplification is asked for a
+-- row that applies, since a place at which one fails is a contradiction.
+use Rattle.std.specs.Prelude.{ℕ, Bool, if◌then◌else◌, Option, Some, None, is_some, option_map}
 use Rattle.sp_spec_system.specs.System.{System}
-use Rattle.sp_spec_graph.specs.Premise.{open_premise}
+use Rattle.sp_spec_system.specs.Move as spec
+use Rattle.sp_spec_system.specs.Move.{Context, end_log}
+use Rattle.sp_spec_proof.specs.Rows.{rows, by_rows, is_contradictory}
+use Rattle.sp_spec_proof.specs.Choice as choice
+use Rattle.sp_spec_proof.specs.Choice.{first_instance, at_each_formula, each_premise, with_rank}
+use Rattle.sp_step.specs.View.{move_of}
+use Rattle.sp_search.specs.declared.choose.Ranked.{Ranked}
+use Rattle.sp_search.specs.declared.choose.MoveKind.{MoveKind}
+use Rattle.sp_search.specs.declared.choose.MoveKind.TheVariants.{Contradiction, Simplify, Solved, Or, Action, Premise}
 
--- the place of the first one of the event at a time, from a place on
-abbrev pub open_from : System → ℕ → ℕ → List (Fact Variable) → Option ℕ
-open_from s i p [] = None
-open_from s i p (f ∷ fs) = if is_some (open_premise s i p) then Some p else open_from s i (suc p) fs
+abbrev pub ranked_of : Ranked → choice.Ranked
+ranked_of r = with_rank r.rank (move_of r.chosen)
+
+abbrev pub if_so : Bool → spec.Move → Option spec.Move
+if_so holds move = if holds then Some move else None
+
+abbrev pub asked : Context → System → MoveKind → Option spec.Move
+asked context s Contradiction = if_so (is_contradictory context.rules s) spec.contradiction
+asked context s Simplify = if_so (is_some (by_rows context.rules rows s)) spec.simplify
+asked context s Solved = if_so (is_some (end_log context s)) spec.solved
+asked context s Or = first_instance context s (at_each_formula spec.or context s)
+asked context s Action = first_instance context s (at_each_formula spec.action context s)
+asked context s Premise = first_instance context s (each_premise context s)
+
+-- with the kind's rank
+abbrev pub answer : Context → System → ℕ × MoveKind → Option choice.Ranked
+answer context s kind = option_map (with_rank kind.0) (asked context s kind.1)

@@ -1,5 +1,5 @@
 -- A test whether no leaf is left at which a solution may be.
-use Rattle.std.specs.Prelude.{Bool, true, false, ◌&&◌, ◌||◌, not}
+use Rattle.std.specs.Prelude.{Bool, true, ◌&&◌, ◌||◌, not}
 use Rattle.sp_spec_system.specs.Move.{Move}
 use Rattle.sp_spec_proof.specs.Tree.{is_solved, Tree, node, Branches, no_branch, branch}
 use Rattle.sp_spec_proof.specs.Growth.{is_unproved}

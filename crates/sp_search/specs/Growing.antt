@@ -5,13 +5,14 @@ use Rattle.sp_spec_system.specs.System.{System}
 use Rattle.sp_spec_system.specs.Move.{Move, solved, Context, Case, end_log}
 use Rattle.sp_spec_proof.specs.Cases.{cases}
 use Rattle.sp_spec_proof.specs.Tree.{is_solved}
-use Rattle.sp_spec_proof.specs.Growth.{choice, class_of, least, has_class}
+use Rattle.sp_spec_proof.specs.Choice.{Ranked, choice, class_of}
+use Rattle.sp_spec_proof.specs.Growth.{least, has_class}
 use Rattle.sp_search.specs.Kept.{Kept, leaf, ended, inner, Keeps, nothing, also, log_in}
 
 -- the least class of the open leaves
 abbrev mutual
   pub least_kept : Kept → Option ℕ
-  least_kept (leaf s move depth) = class_of move depth
+  least_kept (leaf s chosen depth) = class_of chosen depth
   least_kept (ended log) = None
   least_kept (inner move branches) = least_in branches
 
@@ -19,7 +20,7 @@ abbrev mutual
   least_in nothing = None
   least_in (also name tree branches) = least (least_kept tree) (least_in branches)
 
--- an open leaf with its chosen move
+-- an open leaf with its choice
 abbrev pub open_leaf : Context → ℕ → System → Kept
 open_leaf context depth s = leaf s (choice context s) depth
 
@@ -41,10 +42,11 @@ abbrev pub replaced : Context → System → Move → ℕ → Kept
 replaced context s move depth =
     if is_solved move then ended_with (end_log context s) else inner move (leaves_at context (depth + 1) (cases_or_none (cases context s move)))
 
--- what stands for a leaf, and whether it has been replaced by now
-abbrev pub opened : Context → System → Move → ℕ → Bool → Kept × Bool
-opened context s move depth true = (replaced context s move depth, true)
-opened context s move depth false = (leaf s move depth, false)
+-- what stands for a leaf, and whether it has been replaced by now: never where no move is chosen
+abbrev pub opened : Context → System → Option Ranked → ℕ → Bool → Kept × Bool
+opened context s chosen depth false = (leaf s chosen depth, false)
+opened context s None depth true = (leaf s None depth, false)
+opened context s (Some r) depth true = (replaced context s r.move depth, true)
 
 abbrev pub within : Move → Keeps × Bool → Kept × Bool
 within move r = (inner move r.0, r.1)
@@ -62,7 +64,7 @@ unless false tree r = r
 -- the first leaf of a class is replaced by its move, unless one has been replaced before
 abbrev mutual
   pub grow : Context → ℕ → Bool → Kept → Kept × Bool
-  grow context k done (leaf s move depth) = unless done (leaf s move depth) (opened context s move depth (has_class (class_of move depth) k))
+  grow context k done (leaf s chosen depth) = unless done (leaf s chosen depth) (opened context s chosen depth (has_class (class_of chosen depth) k))
   grow context k done (ended log) = unless done (ended log) (ended log, false)
   grow context k done (inner move branches) = unless done (inner move branches) (within move (grow_in context k false branches))
 

@@ -1,13 +1,14 @@
--- What a tree in memory holds: at each open leaf its system, the move that is chosen for it and its depth, and the log with which the search ends.
+-- What a tree in memory holds: at each open leaf its system, the move that is chosen for it, if there is one, and its depth, and the log with which the search ends.
 use Rattle.std.specs.Prelude.{ℕ, List, [], ◌∷◌, Option, Some, None}
 use Rattle.sp_spec.specs.Log.{Log}
 use Rattle.sp_spec_system.specs.System.{System}
 use Rattle.sp_spec_system.specs.Move.{Move, unproved, solved}
+use Rattle.sp_spec_proof.specs.Choice.{Ranked}
 use Rattle.sp_spec_proof.specs.Tree.{Tree, node, Branches, no_branch, branch, first_log}
 
 mutual
   pub data Kept : Type 0 where
-    leaf : System → Move → ℕ → Kept
+    leaf : System → Option Ranked → ℕ → Kept
     ended : Log → Kept
     inner : Move → Keeps → Kept
 
@@ -24,7 +25,7 @@ with_names (name ∷ names) (tree ∷ trees) = also name tree (with_names names 
 -- the proof tree, in which an open leaf is a node that is not proved, and the search ends where a log is
 abbrev mutual
   pub shown : Kept → Tree
-  shown (leaf s move depth) = node unproved no_branch
+  shown (leaf s chosen depth) = node unproved no_branch
   shown (ended log) = node solved no_branch
   shown (inner move branches) = node move (shown_all branches)
 
@@ -35,7 +36,7 @@ abbrev mutual
 -- the first log in preorder
 abbrev mutual
   pub log_in : Kept → Option Log
-  log_in (leaf s move depth) = None
+  log_in (leaf s chosen depth) = None
   log_in (ended log) = Some log
   log_in (inner move branches) = log_among branches
 

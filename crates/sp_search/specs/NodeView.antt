@@ -1,15 +1,16 @@
 -- The nodes that nodes in memory stand for.
-use Rattle.std.specs.Prelude.{List, map, string_bytes}
+use Rattle.std.specs.Prelude.{List, map, option_map, string_bytes}
 use Rattle.sp_system.specs.SystemView.{system_of}
 use Rattle.sp_log.specs.View.{log_of}
-use Rattle.sp_moves.specs.View.{move_of}
+use Rattle.sp_step.specs.View.{move_of}
+use Rattle.sp_search.specs.Choosing.{ranked_of}
 use Rattle.sp_search.specs.Kinds.{Kind, open_leaf, end_at, choice}
 use Rattle.sp_search.specs.declared.node.Node.{Node}
 use Rattle.sp_search.specs.declared.node.OpenLeaf.{OpenLeaf}
 use Rattle.sp_search.specs.declared.node.Node.TheVariants.{Open, Ended, Inner}
 
 abbrev pub leaf_of : OpenLeaf → Kind
-leaf_of leaf = open_leaf (system_of leaf.system) (move_of leaf.choice) leaf.depth
+leaf_of leaf = open_leaf (system_of leaf.system) (option_map ranked_of leaf.choice) leaf.depth
 
 abbrev pub node_at : Node → Kind
 node_at (Open leaf) = leaf_of leaf.value

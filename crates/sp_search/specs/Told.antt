@@ -6,16 +6,16 @@ use Rattle.sp_search.specs.Finished.{is_left}
 use Rattle.sp_search.specs.Kinds.{Kind, open_leaf, end_at, choice}
 
 abbrev pub log_at : Kind → Option Log
-log_at (open_leaf s move depth) = None
+log_at (open_leaf s chosen depth) = None
 log_at (end_at log) = Some log
 log_at (choice move names) = None
 
 abbrev pub leaves_none : Kind → Bool
-leaves_none (open_leaf s move depth) = false
+leaves_none (open_leaf s chosen depth) = false
 leaves_none (end_at log) = false
 leaves_none (choice move names) = not (is_left move)
 
 abbrev pub step_at : Kind → ℕ
-step_at (open_leaf s move depth) = 0
+step_at (open_leaf s chosen depth) = 0
 step_at (end_at log) = 1
 step_at (choice move names) = step_of move

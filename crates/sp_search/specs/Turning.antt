@@ -5,15 +5,15 @@ use Rattle.sp_spec_system.specs.System.{System}
 use Rattle.sp_spec_system.specs.Move.{Move, solved, Context, Case, end_log}
 use Rattle.sp_spec_proof.specs.Cases.{cases}
 use Rattle.sp_spec_proof.specs.Tree.{is_solved}
-use Rattle.sp_spec_proof.specs.Growth as growth
-use Rattle.sp_spec_proof.specs.Growth.{class_of}
+use Rattle.sp_spec_proof.specs.Choice as choosing
+use Rattle.sp_spec_proof.specs.Choice.{class_of}
 use Rattle.sp_search.specs.Growing.{cases_or_none}
 use Rattle.sp_search.specs.Kinds.{Kind, open_leaf, end_at, choice}
 
 -- ---- the place
 
 abbrev pub class_at : Kind → Option ℕ
-class_at (open_leaf s move depth) = class_of move depth
+class_at (open_leaf s chosen depth) = class_of chosen depth
 class_at (end_at log) = None
 class_at (choice move names) = None
 
@@ -35,7 +35,7 @@ abbrev pub next_place : List Kind → Option ℕ
 next_place ns = option_map (λ (found : ℕ × ℕ). found.0) (first_least 0 ns)
 
 abbrev pub leaf_in_front : List Kind → Option Kind
-leaf_in_front (open_leaf s move depth ∷ ns) = Some (open_leaf s move depth)
+leaf_in_front (open_leaf s chosen depth ∷ ns) = Some (open_leaf s chosen depth)
 leaf_in_front ns = None
 
 abbrev pub leaf_at : ℕ → List Kind → Option Kind
@@ -44,7 +44,7 @@ leaf_at place ns = leaf_in_front (drop place ns)
 -- ---- the nodes in its place
 
 abbrev pub open_node : Context → ℕ → Case → Kind
-open_node context depth c = open_leaf c.system (growth.choice context c.system) depth
+open_node context depth c = open_leaf c.system (choosing.choice context c.system) depth
 
 abbrev pub name_of : Case → List ℕ
 name_of c = c.name
@@ -62,7 +62,8 @@ replaced_nodes context s move depth =
     if is_solved move then end_node (end_log context s) ∷ [] else move_nodes context move (depth + 1) (cases_or_none (cases context s move))
 
 abbrev pub in_place_of : Context → Kind → List Kind
-in_place_of context (open_leaf s move depth) = replaced_nodes context s move depth
+in_place_of context (open_leaf s None depth) = open_leaf s None depth ∷ []
+in_place_of context (open_leaf s (Some r) depth) = replaced_nodes context s r.move depth
 in_place_of context (end_at log) = end_at log ∷ []
 in_place_of context (choice move names) = choice move names ∷ []
 

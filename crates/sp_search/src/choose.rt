@@ -1,65 +1,127 @@
 // The move that is chosen for a system.
 
-ghost use Rattle.std.specs.Prelude.{◌≡◌, IfOk, is_some, map};
-ghost use Rattle.sp_fact.specs.View.{fact_of};
+ghost use Rattle.std.specs.Prelude.{◌≡◌, IfOk, is_some, option_map};
 ghost use Rattle.sp_spec_system.specs.Move as spec;
 ghost use Rattle.sp_spec_graph.specs.Premise as premise_spec;
-ghost use Rattle.sp_system.specs.SystemView.{system_of};
-ghost use Rattle.sp_moves.specs.View.{context_of, move_of};
-ghost use Rattle.sp_spec_proof.specs.Growth as growth;
-ghost use Rattle.sp_search.specs.Choosing.{open_from};
+ghost use Rattle.sp_system.specs.SystemView.{event_of, system_of};
+ghost use Rattle.sp_step.specs.View.{context_of, move_of};
+ghost use Rattle.sp_spec_proof.specs.Choice.{at_each_formula, choice, each_premise, first_instance, premises_of};
+ghost use Rattle.sp_search.specs.Choosing.{asked, ranked_of};
 
-use sp_moves::action::is_solvable;
-use sp_moves::context::Context;
-use sp_moves::moves::Move;
-use sp_moves::part::is_disjunction;
-use sp_moves::premise::{Premise, open_premise};
-use sp_rows::simplify::{by_rows, is_contradictory};
+use sp_step::action::is_solvable;
+use sp_step::context::Context;
+use sp_step::moves::Move;
+use sp_step::part::is_disjunction;
+use sp_step::premise::{Premise, open_premise};
+use sp_step::simplify::{is_contradictory, is_reducible};
 use sp_system::system::{Event, System};
 use std::alloc::{AllocError, Global};
 
-/// A contradiction, else simplification, else the end of the search, else the disjunction of the lowest place, else the action of the
-/// lowest place, else the first premise of the first event that needs a step for its source; `Unproved` where none of them is an instance.
+/// A move that is chosen, and the rank of its kind.
+#[derive(Clone, Copy, Debug, PartialEq, Eq)]
+pub struct Ranked {
+    /// the rank
+    pub rank: u64,
+    /// the move
+    pub chosen: Move,
+}
+
+/// A kind of moves.
+#[derive(Clone, Copy)]
+pub enum MoveKind {
+    /// the system has no solution
+    Contradiction,
+    /// elementary moves
+    Simplify,
+    /// the end of the search
+    Solved,
+    /// on a disjunction
+    Or,
+    /// on an action
+    Action,
+    /// on a premise
+    Premise,
+}
+
+// The kinds and their ranks, in the order in which they are asked.
+const KINDS: [(u64, MoveKind); 6] = [
+    (1, MoveKind::Contradiction),
+    (2, MoveKind::Simplify),
+    (3, MoveKind::Solved),
+    (4, MoveKind::Or),
+    (5, MoveKind::Action),
+    (7, MoveKind::Premise),
+];
+
+/// The first instance of the first kind of moves that has one, with the rank of that kind; none where no kind has one.
 ///
 /// # Errors
 ///
 /// `AllocError` where memory is wanting, or no number is left for a new variable.
-pub fn choice(alloc: Global, context: &Context, system: &System) -> Result<Move, AllocError>
-    ensures { IfOk result (λ m. move_of m ≡ growth.choice (context_of context.now) (system_of system.now)) }
+pub fn choice(
+    alloc: Global,
+    context: &Context,
+    system: &System,
+) -> Result<Option<Ranked>, AllocError>
+    ensures { IfOk result (λ o. option_map ranked_of o ≡ choice (context_of context.now) (system_of system.now)) }
 {
-    if is_contradictory(alloc, system)? {
-        return Ok(Move::Contradiction);
-    }
-    if by_rows(alloc, system)?.is_some() {
-        return Ok(Move::Simplify);
-    }
-    if context.ends(alloc, system)? {
-        return Ok(Move::Solved);
-    }
-    first_disjunction(alloc, system)
-}
-
-fn first_action(alloc: Global, system: &System) -> Result<Move, AllocError>
-    ensures { IfOk result (λ m. (context : spec.Context) → move_of m ≡ growth.first_action context (system_of system.now) 0 (system_of system.now).formulas) }
-{
-    for (place, formula) in system.formulas.iter().enumerate() {
-        if is_solvable(alloc, formula)? {
-            return Ok(Move::Action(place));
+    for (rank, kind) in &KINDS {
+        if let Some(chosen) = asked(alloc, context, system, *kind)? {
+            let rank = *rank;
+            return Ok(Some(Ranked { rank, chosen }));
         }
     }
-    Ok(first_premise(system))
+    Ok(None)
 }
 
-fn first_disjunction(alloc: Global, system: &System) -> Result<Move, AllocError>
-    ensures { IfOk result (λ m. (context : spec.Context) → move_of m ≡ growth.first_disjunction context (system_of system.now) 0 (system_of system.now).formulas) }
+// The kind's first instance, where the kinds before it have none.
+fn asked(
+    alloc: Global,
+    context: &Context,
+    system: &System,
+    kind: MoveKind,
+) -> Result<Option<Move>, AllocError>
+    ensures { IfOk result (λ o. option_map move_of o ≡ asked (context_of context.now) (system_of system.now) kind) }
+{
+    match kind {
+        MoveKind::Contradiction => {
+            let holds = is_contradictory(alloc, &context.theory(), system)?;
+            Ok(holds.then_some(Move::Contradiction))
+        }
+        MoveKind::Simplify => {
+            let applies = is_reducible(alloc, &context.theory(), system)?;
+            Ok(applies.then_some(Move::Simplify))
+        }
+        MoveKind::Solved => {
+            let ends = context.ends(alloc, system)?;
+            Ok(ends.then_some(Move::Solved))
+        }
+        MoveKind::Or => Ok(first_disjunction(system)),
+        MoveKind::Action => first_action(alloc, system),
+        MoveKind::Premise => Ok(first_premise(system)),
+    }
+}
+
+fn first_disjunction(system: &System) -> Option<Move>
+    ensures { (context : spec.Context) → option_map move_of result ≡ first_instance context (system_of system.now) (at_each_formula spec.or context (system_of system.now)) }
 {
     for (place, formula) in system.formulas.iter().enumerate() {
         if is_disjunction(formula) {
-            return Ok(Move::Or(place));
+            return Some(Move::Or(place));
         }
     }
-    let chosen = first_action(alloc, system)?;
-    Ok(chosen)
+    None
+}
+
+fn first_action(alloc: Global, system: &System) -> Result<Option<Move>, AllocError>
+    ensures { IfOk result (λ o. (context : spec.Context) → option_map move_of o ≡ first_instance context (system_of system.now) (at_each_formula spec.action context (system_of system.now))) }
+{
+    for (place, formula) in system.formulas.iter().enumerate() {
+        if is_solvable(alloc, formula)? {
+            return Ok(Some(Move::Action(place)));
+        }
+    }
+    Ok(None)
 }
 
 fn is_open(system: &System, time: u128, place: usize) -> bool
@@ -68,26 +130,26 @@ fn is_open(system: &System, time: u128, place: usize) -> bool
     open_premise(system, Premise { time, place }).is_some()
 }
 
-// The first of the event's premises whose source can be looked for.
-fn open_place(system: &System, event: &Event) -> Option<usize>
-    ensures { result ≡ open_from (system_of system.now) event.now.time 0 (map fact_of event.now.facts.premises.items) }
+// On the first of the event's premises whose source can be looked for.
+fn first_of_event(system: &System, event: &Event) -> Option<Move>
+    ensures { (context : spec.Context) → option_map move_of result ≡ first_instance context (system_of system.now) (premises_of (event_of event.now)) }
 {
+    let time = event.time;
     for (place, _premise) in event.facts.premises.iter().enumerate() {
-        if is_open(system, event.time, place) {
-            return Some(place);
+        if is_open(system, time, place) {
+            return Some(Move::Premise(Premise { time, place }));
         }
     }
     None
 }
 
-fn first_premise(system: &System) -> Move
-    ensures { (context : spec.Context) → move_of result ≡ growth.first_premise context (system_of system.now) (system_of system.now).events }
+fn first_premise(system: &System) -> Option<Move>
+    ensures { (context : spec.Context) → option_map move_of result ≡ first_instance context (system_of system.now) (each_premise context (system_of system.now)) }
 {
     for event in &system.events {
-        if let Some(place) = open_place(system, event) {
-            let time = event.time;
-            return Move::Premise(Premise { time, place });
+        if let Some(chosen) = first_of_event(system, event) {
+            return Some(chosen);
         }
     }
-    Move::Unproved
+    None
 }

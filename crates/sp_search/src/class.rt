@@ -1,28 +1,22 @@
 // The classes of open leaves: which is grown first.
 
-ghost use Rattle.std.specs.Prelude.{◌≡◌, ◌+◌, IfOk};
-ghost use Rattle.sp_moves.specs.View.{move_of};
-ghost use Rattle.sp_spec_proof.specs.Growth as growth;
+ghost use Rattle.std.specs.Prelude.{◌≡◌, ◌+◌, IfOk, option_map};
+ghost use Rattle.sp_spec_proof.specs.Choice as choice;
+ghost use Rattle.sp_search.specs.Choosing.{ranked_of};
 ghost use Rattle.sp_search.specs.NodeView.{node_at, nodes_at};
 ghost use Rattle.sp_search.specs.Turning as turning;
 
+use crate::choose::Ranked;
 use crate::node::Node;
-use sp_moves::moves::Move;
 use std::alloc::AllocError;
 
-// The rank of a leaf's move and its depth; none where no move is chosen. The sum is wider than the depth, so that it always fits.
-fn class_of(chosen: Move, depth: u64) -> Option<u128>
-    ensures { result ≡ growth.class_of (move_of chosen) depth }
+// The rank of a leaf's move and its depth; none where no move is chosen. The sum is wider than the two, so that it always fits.
+fn class_of(chosen: Option<Ranked>, depth: u64) -> Option<u128>
+    ensures { result ≡ choice.class_of (option_map ranked_of chosen) depth }
 {
-    let depth = u128::from(depth);
     match chosen {
-        Move::Contradiction => Some(1 + depth),
-        Move::Simplify => Some(2 + depth),
-        Move::Solved => Some(3 + depth),
-        Move::Or(_) => Some(4 + depth),
-        Move::Action(_) => Some(5 + depth),
-        Move::Premise(_) => Some(7 + depth),
-        Move::Unproved => None,
+        Some(ranked) => Some(u128::from(ranked.rank) + u128::from(depth)),
+        None => None,
     }
 }
 

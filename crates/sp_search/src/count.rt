@@ -1,7 +1,7 @@
 // Whether a tree is finished, and how many steps it has.
 
 ghost use Rattle.std.specs.Prelude.{◌≡◌, ◌↔◌, ◌^◌, ◌-◌, min, IsTrue};
-ghost use Rattle.sp_moves.specs.View.{move_of};
+ghost use Rattle.sp_step.specs.View.{move_of};
 ghost use Rattle.sp_spec_proof.specs.Tree as spec;
 ghost use Rattle.sp_search.specs.Finished.{is_left};
 ghost use Rattle.sp_search.specs.NodeView.{node_at};
@@ -10,7 +10,7 @@ ghost use Rattle.sp_search.specs.View.{tree_of};
 
 use crate::node::Node;
 use crate::tree::Tree;
-use sp_moves::moves::Move;
+use sp_step::moves::Move;
 
 // Whether a system with this move may have a solution.
 fn is_left_by(chosen: Move) -> bool

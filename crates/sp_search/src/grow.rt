@@ -2,8 +2,9 @@
 
 ghost use Rattle.std.specs.Prelude.{◌≡◌, map, option_map, string_bytes, IfOk};
 ghost use Rattle.sp_system.specs.SystemView.{system_of};
-ghost use Rattle.sp_moves.specs.View.{context_of, move_of, case_of};
+ghost use Rattle.sp_step.specs.View.{context_of, move_of, case_of};
 ghost use Rattle.sp_spec_proof.specs.Cases.{cases};
+ghost use Rattle.sp_spec_proof.specs.Choice as choosing;
 ghost use Rattle.sp_spec_proof.specs.Growth as growth;
 ghost use Rattle.sp_spec_proof.specs.Tree.{found_log};
 ghost use Rattle.sp_search.specs.Kept.{log_in};
@@ -18,8 +19,8 @@ use crate::choose::choice;
 use crate::class::{deeper, next_leaf};
 use crate::node::{Node, OpenLeaf};
 use crate::tree::Tree;
-use sp_moves::context::Context;
-use sp_moves::moves::{Case, Move, cases};
+use sp_step::context::Context;
+use sp_step::moves::{Case, Move, cases};
 use sp_system::system::System;
 use std::alloc::{AllocError, Global};
 
@@ -29,7 +30,7 @@ fn open_leaf(
     depth: u64,
     system: System,
 ) -> Result<Node, AllocError>
-    ensures { IfOk result (λ n. node_at n ≡ open_leaf (system_of system) (growth.choice (context_of context.now) (system_of system)) depth) }
+    ensures { IfOk result (λ n. node_at n ≡ open_leaf (system_of system) (choosing.choice (context_of context.now) (system_of system)) depth) }
 {
     let chosen = choice(alloc, context, &system)?;
     let leaf = OpenLeaf {
@@ -77,11 +78,16 @@ fn move_nodes(
     Ok(nodes)
 }
 
-// The cases of the leaf's move; without any where it is no instance.
-fn cases_of(alloc: Global, context: &Context, leaf: &OpenLeaf) -> Result<Vec<Case>, AllocError>
-    ensures { IfOk result (λ cs. map case_of cs.items ≡ growing.cases_or_none (cases (context_of context.now) (system_of leaf.now.system) (move_of leaf.now.choice))) }
+// The cases of the move; without any where it is no instance.
+fn cases_of(
+    alloc: Global,
+    context: &Context,
+    system: &System,
+    chosen: Move,
+) -> Result<Vec<Case>, AllocError>
+    ensures { IfOk result (λ cs. map case_of cs.items ≡ growing.cases_or_none (cases (context_of context.now) (system_of system.now) (move_of chosen))) }
 {
-    match cases(alloc, context, &leaf.system, leaf.choice)? {
+    match cases(alloc, context, system, chosen)? {
         Some(found) => Ok(found),
         None => Ok(Vec::new(alloc)),
     }
@@ -100,18 +106,23 @@ fn ended(alloc: Global, context: &Context, system: &System) -> Result<Node, Allo
     }
 }
 
-// The nodes that come in place of the leaf's: its move, with an open leaf at each case.
-fn replaced(alloc: Global, context: &Context, leaf: &OpenLeaf) -> Result<Vec<Node>, AllocError>
-    ensures { IfOk result (λ ns. nodes_at ns.items ≡ turning.replaced_nodes (context_of context.now) (system_of leaf.now.system) (move_of leaf.now.choice) leaf.now.depth) }
+// The nodes that come in place of the leaf's: the move, with an open leaf at each case.
+fn replaced(
+    alloc: Global,
+    context: &Context,
+    leaf: &OpenLeaf,
+    chosen: Move,
+) -> Result<Vec<Node>, AllocError>
+    ensures { IfOk result (λ ns. nodes_at ns.items ≡ turning.replaced_nodes (context_of context.now) (system_of leaf.now.system) (move_of chosen) leaf.now.depth) }
 {
-    if leaf.choice == Move::Solved {
+    if chosen == Move::Solved {
         let mut nodes = Vec::new(alloc);
         nodes.push(ended(alloc, context, &leaf.system)?)?;
         return Ok(nodes);
     }
     let depth = deeper(leaf.depth)?;
-    let found = cases_of(alloc, context, leaf)?;
-    move_nodes(alloc, context, leaf.choice, depth, found)
+    let found = cases_of(alloc, context, &leaf.system, chosen)?;
+    move_nodes(alloc, context, chosen, depth, found)
 }
 
 // The open leaf at this place.
@@ -131,7 +142,10 @@ fn grown_at(alloc: Global, context: &Context, tree: Tree, place: usize) -> Resul
     let Some(leaf) = leaf_at(&tree.nodes, place) else {
         return Ok(tree);
     };
-    let made = replaced(alloc, context, leaf)?;
+    let Some(ranked) = leaf.choice else {
+        return Ok(tree);
+    };
+    let made = replaced(alloc, context, leaf, ranked.chosen)?;
     let Tree { mut nodes } = tree;
     let _replaced = nodes.splice(place..place + 1, made)?;
     Ok(Tree { nodes })

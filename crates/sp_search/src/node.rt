@@ -1,7 +1,8 @@
 // The nodes of proof trees: open leaves with their systems, logs with which the search ends, and moves.
 
+use crate::choose::Ranked;
 use sp_log::log::Log;
-use sp_moves::moves::Move;
+use sp_step::moves::Move;
 use sp_system::system::System;
 
 /// A leaf that is not proved yet.
@@ -9,8 +10,8 @@ use sp_system::system::System;
 pub struct OpenLeaf {
     /// the system to be solved
     pub system: System,
-    /// the move that is chosen for it; `Unproved` where there is none
-    pub choice: Move,
+    /// the move that is chosen for it, if there is one
+    pub choice: Option<Ranked>,
     /// how many moves stand above it
     pub depth: u64,
 }

@@ -1,14 +1,14 @@
 -- Texts of words with blanks between them are cut into those words.
-use Rattle.std.proofs.Common.{◌≡◌, ℕ, ◌-◌, ◌^◌, ◌<◌, ◌≤◌, Bool, true, false, true≢false, cond, List, [], ◌∷◌, ◌++◌, length, Some, codes, refl, sym, ap, ◌∙◌, append_assoc, length-append, arith}
-use Rattle.std.specs.Prelude.{decimal, ◌==◌}
+use Rattle.std.proofs.Common.{◌≡◌, ℕ, ◌-◌, ◌≤◌, Bool, true, false, true≢false, cond, List, [], ◌∷◌, ◌++◌, length, codes, refl, sym, ap, ◌∙◌, length-append, arith}
+use Rattle.std.specs.Prelude.{◌==◌}
 use Rattle.std.specs.Char.{is_ascii_alphanumeric}
 use Rattle.std.proofs.lemmas.Bool.{ne_eqb}
 use Rattle.sp_spec_text.specs.Bytes as class
 use Rattle.sp_spec_text.specs.Token.{Lexeme, word, solve, Token}
-use Rattle.sp_spec_text.specs.Lex.{is_blank, is_in, is_first, is_digit, skip, nothing, past, gap, no_gap, gap_then, token, piece, is_end, is_solve, Reads, plain, goal, to_closing, closed_by, solve_piece, IsNext, AreTokens, no_more, last, next, lexemes}
-use Rattle.sp_skel.specs.Spelling.{IsWord, premise_goal}
-use Rattle.sp_skel.specs.MoveTexts.{are_digits}
-use Rattle.sp_skel.proofs.Decimals.{before_rest, and_left, and_right, least, is_other, decimal_are_digits}
+use Rattle.sp_spec_text.specs.Lex.{is_blank, is_in, is_first, is_digit, skip, nothing, past, gap, no_gap, gap_then, token, piece, is_end, is_solve, Reads, plain, goal, closed_by, solve_piece, IsNext, AreTokens, no_more, last, next, lexemes}
+use Rattle.sp_skel.specs.Spelling.{IsWord}
+use Rattle.sp_skel.proofs.Decimals.{before_rest}
+use Rattle.sp_skel.proofs.Goals.{Closes}
 
 -- tokens that read as these lexemes
 pub record Cut (size : ℕ) (bytes : List ℕ) (xs : List Lexeme) : Type 0 where
@@ -114,58 +114,6 @@ lexes_word (c ∷ w) b rest h e d s l =
 pub gap_bracket : (bytes : List ℕ) → gap (40 ∷ bytes) ≡ nothing
 unfolding gap
 gap_bracket bytes = refl
-
-closing_digits : (ds rest : List ℕ) → are_digits ds ≡ true → to_closing false 0 (ds ++ rest) ≡ to_closing false 0 rest
-unfolding to_closing
-closing_digits [] rest h = refl
-closing_digits (b ∷ ds) rest h =
-    let l = least b (and_left (is_digit b) (are_digits ds) h) in
-    rw (is_other b 40 l (omega arith), is_other b 41 l (omega arith), is_other b 39 l (omega arith)) (closing_digits ds rest (and_right (is_digit b) (are_digits ds) h))
-
-closing_action : (bytes : List ℕ) → to_closing false 0 (codes " action " ++ bytes) ≡ to_closing false 0 bytes
-unfolding to_closing
-closing_action bytes = refl
-
-closing_or : (bytes : List ℕ) → to_closing false 0 (codes " or " ++ bytes) ≡ to_closing false 0 bytes
-unfolding to_closing
-closing_or bytes = refl
-
-closing_premise : (bytes : List ℕ) → to_closing false 0 (codes " premise " ++ bytes) ≡ to_closing false 0 bytes
-unfolding to_closing
-closing_premise bytes = refl
-
-closing_space : (bytes : List ℕ) → to_closing false 0 (32 ∷ bytes) ≡ to_closing false 0 bytes
-unfolding to_closing
-closing_space bytes = refl
-
-closing_end : (bytes : List ℕ) → to_closing false 0 (32 ∷ 41 ∷ bytes) ≡ Some (41 ∷ bytes)
-unfolding to_closing
-closing_end bytes = refl
-
--- what stands inside the brackets is closed by the one behind it
-abbrev pub Closes : List ℕ → Type 0
-Closes inside = (rest : List ℕ) → to_closing false 0 (inside ++ 41 ∷ rest) ≡ Some (41 ∷ rest)
-
--- words, digits and a space
-closes_behind : (words : List ℕ) → ((bytes : List ℕ) → to_closing false 0 (words ++ bytes) ≡ to_closing false 0 bytes) → (k : ℕ) → k < 2 ^ 128 → Closes (words ++ (decimal k ++ codes " "))
-closes_behind words passes k h rest =
-    ap (to_closing false 0) (append_assoc words (decimal k ++ codes " ") (41 ∷ rest) ∙ ap (λ (bytes : List ℕ). words ++ bytes) (append_assoc (decimal k) (codes " ") (41 ∷ rest)))
-    ∙ passes (decimal k ++ 32 ∷ 41 ∷ rest) ∙ closing_digits (decimal k) (32 ∷ 41 ∷ rest) (decimal_are_digits k h) ∙ closing_end rest
-
-pub closes_action : (k : ℕ) → k < 2 ^ 64 → Closes (codes " action " ++ (decimal k ++ codes " "))
-closes_action k h = closes_behind (codes " action ") closing_action k (omega arith)
-
-pub closes_or : (k : ℕ) → k < 2 ^ 64 → Closes (codes " or " ++ (decimal k ++ codes " "))
-closes_or k h = closes_behind (codes " or ") closing_or k (omega arith)
-
-pub closes_premise : (i p : ℕ) → i < 2 ^ 128 → p < 2 ^ 64 → Closes (premise_goal i p)
-closes_premise i p h k rest =
-    let words = codes " premise " ++ (decimal i ++ codes " ") in
-    let passes : (bytes : List ℕ) → to_closing false 0 (words ++ bytes) ≡ to_closing false 0 bytes = λ bytes.
-    ap (λ (xs : List ℕ). to_closing false 0 (codes " premise " ++ xs)) (append_assoc (decimal i) (codes " ") bytes)
-    ∙ closing_premise (decimal i ++ 32 ∷ bytes) ∙ closing_digits (decimal i) (32 ∷ bytes) (decimal_are_digits i h) ∙ closing_space bytes in
-    let joined : premise_goal i p ≡ words ++ (decimal p ++ codes " ") = ap (λ (xs : List ℕ). codes " premise " ++ xs) (sym (append_assoc (decimal i) (codes " ") (decimal p ++ codes " "))) in
-    ap (λ (inside : List ℕ). to_closing false 0 (inside ++ 41 ∷ rest)) joined ∙ closes_behind words passes p (omega arith) rest
 
 pub solve_goal : (inside rest : List ℕ) → Closes inside → solve_piece (inside ++ 41 ∷ rest) ≡ token (solve inside) rest
 solve_goal inside rest closes =

@@ -12,7 +12,7 @@ use Rattle.sp_spec_text.specs.Lex.{is_first, is_in, is_digit, skip}
 use Rattle.sp_spec_text.specs.Names.{is_reserved, IsName}
 use Rattle.sp_skel.specs.MoveTexts.{are_digits}
 use Rattle.sp_skel.specs.Spelling.{IsWord}
-use Rattle.sp_skel.proofs.Decimals.{and_left, and_right}
+use Rattle.sp_skel.proofs.Plain.{and_left, and_right}
 
 -- ---- digits
 

@@ -1,8 +1,16 @@
 pub mod Blanks
 pub mod CaseNames
+pub mod Cut
 pub mod Decimals
+pub mod Goals
+pub mod InOrder
+pub mod Levels
+pub mod NamedPlaces
+pub mod Nodes
 pub mod Numbers
+pub mod Plain
 pub mod ReadBack
 pub mod Readable
 pub mod Said
 pub mod Spelled
+pub mod Table

@@ -1,19 +1,22 @@
 -- The text of a tree is read back as the tree.
-use Rattle.std.proofs.Common.{◌≡◌, ℕ, suc, zero, ◌≤◌, Bool, true, false, List, [], ◌∷◌, ◌++◌, length, codes, refl, sym, ap, subst, ◌∙◌, append_assoc}
-use Rattle.std.specs.Prelude.{decimal, ◌||◌}
+use Rattle.std.proofs.Common.{◌≡◌, ℕ, suc, zero, ◌≤◌, Bool, true, false, if◌then◌else◌, List, [], ◌∷◌, ◌++◌, length, codes, refl, sym, ap, subst, ◌∙◌, append_assoc}
+use Rattle.std.specs.Prelude.{◌||◌}
 use Rattle.std.specs.Str.{bytes_eq}
 use Rattle.sp_spec_text.specs.Token.{Lexeme, word, Token}
 use Rattle.sp_spec_text.specs.Lex.{is_end, is_solve, skip, AreTokens, lexemes}
 use Rattle.sp_spec_text.specs.Names.{is_reserved, IsName}
-use Rattle.sp_spec_system.specs.Move.{Move, simplify, contradiction, unproved, solved, or, action, premise}
+use Rattle.sp_spec_system.specs.Move.{Move}
+use Rattle.sp_spec_system.specs.Words.{Words, method, goal, words_of, AreWithin, words_text, goal_text, stand_alone}
 use Rattle.sp_spec_proof.specs.Tree.{Tree, node, Branches, no_branch, branch}
-use Rattle.sp_text.specs.TreeText.{indent, line, move_text, leading, tree_text, cases_text}
+use Rattle.sp_skel.specs.TreeText.{indent, line, move_text, leading, tree_text, cases_text}
 use Rattle.sp_spec_text.specs.Proofs.{SpellsProof}
 use Rattle.sp_skel.specs.Laws.{ReadsBack}
-use Rattle.sp_text.specs.Places.{HasPlace}
-use Rattle.sp_skel.specs.Spelling.{IsWord, premise_goal, move_spelled, behind_by, spelled, cases_spelled, as_written, IsReadable, AreReadable}
-use Rattle.sp_skel.proofs.Blanks.{Lexes, lexes_blank, space, line_end, lexes_word, closes_action, closes_or, closes_premise, lexes_goal}
+use Rattle.sp_skel.specs.Places.{HasPlace}
+use Rattle.sp_skel.specs.Spelling.{IsWord, words_spelled, move_spelled, behind_by, spelled, cases_spelled, as_written, IsReadable, AreReadable}
+use Rattle.sp_skel.proofs.Blanks.{Lexes, lexes_blank, space, line_end, lexes_word, lexes_goal}
+use Rattle.sp_skel.proofs.Goals.{closes_goal}
 use Rattle.sp_skel.proofs.Spelled.{HaveCase, tree_spells, tree_says}
+use Rattle.sp_skel.proofs.Table.{IsLine, lines}
 
 lexes_at : {size : ℕ} {bytes others : List ℕ} {xs : List Lexeme} → bytes ≡ others → Lexes size others xs → Lexes size bytes xs
 lexes_at {size} {xs = xs} e l = subst (λ (b : List ℕ). Lexes size b xs) (sym e) l
@@ -44,22 +47,6 @@ name_no_goal w h =
 
 -- ---- words of moves and cases
 
-pub word_simplify : IsWord (codes "simplify")
-unfolding skip
-word_simplify = (refl, refl)
-
-pub word_contradiction : IsWord (codes "contradiction")
-unfolding skip
-word_contradiction = (refl, refl)
-
-pub word_sorry : IsWord (codes "sorry")
-unfolding skip
-word_sorry = (refl, refl)
-
-pub word_solved : IsWord (codes "SOLVED")
-unfolding skip
-word_solved = (refl, refl)
-
 pub word_by : IsWord (codes "by")
 unfolding skip
 word_by = (refl, refl)
@@ -76,39 +63,25 @@ pub word_qed : IsWord (codes "qed")
 unfolding skip
 word_qed = (refl, refl)
 
--- the bracket and the line's end stand behind the premise's place
-pub premise_ends : (i p : ℕ) (rest : List ℕ) → (decimal i ++ (codes " " ++ (decimal p ++ codes " )"))) ++ 10 ∷ rest ≡ (decimal i ++ (codes " " ++ (decimal p ++ codes " "))) ++ 41 ∷ 10 ∷ rest
-premise_ends i p rest =
-    append_assoc (decimal i) (32 ∷ (decimal p ++ codes " )")) (10 ∷ rest)
-    ∙ ap (λ (bytes : List ℕ). decimal i ++ 32 ∷ bytes) (append_assoc (decimal p) (codes " )") (10 ∷ rest) ∙ sym (append_assoc (decimal p) (codes " ") (41 ∷ 10 ∷ rest)))
-    ∙ sym (append_assoc (decimal i) (32 ∷ (decimal p ++ codes " ")) (41 ∷ 10 ∷ rest))
+lexes_words : {size : ℕ} {xs : List Lexeme} (m : Move) (ws : Words) (rest : List ℕ) → IsLine m ws → AreWithin ws → Lexes size (10 ∷ rest) xs → Lexes size (words_text ws ++ 10 ∷ rest) (words_spelled ws ∷ xs)
+lexes_words m (method w) rest line h l = lexes_word w 10 rest line.is_word line_end line.goes_on line.no_goal l
+lexes_words m (goal w arguments) rest line h l =
+    let inside : List ℕ = goal_text w arguments in
+    lexes_at (ap (λ (bytes : List ℕ). codes "solve(" ++ bytes) (append_assoc inside (codes ")") (10 ∷ rest))) (lexes_goal inside (10 ∷ rest) (closes_goal w arguments line.plain h) l)
 
 lexes_move : {size : ℕ} {xs : List Lexeme} (m : Move) (rest : List ℕ) → HasPlace m → Lexes size (10 ∷ rest) xs → Lexes size (move_text m ++ 10 ∷ rest) (move_spelled m ∷ xs)
-lexes_move simplify rest h l = lexes_word (codes "simplify") 10 rest word_simplify line_end refl refl l
-lexes_move contradiction rest h l = lexes_word (codes "contradiction") 10 rest word_contradiction line_end refl refl l
-lexes_move unproved rest h l = lexes_word (codes "sorry") 10 rest word_sorry line_end refl refl l
-lexes_move solved rest h l = lexes_word (codes "SOLVED") 10 rest word_solved line_end refl refl l
-lexes_move (or k) rest h l =
-    lexes_at (ap (λ (bytes : List ℕ). codes "solve( or " ++ bytes) (append_assoc (decimal k) (codes " )") (10 ∷ rest) ∙ sym (append_assoc (decimal k) (codes " ") (41 ∷ 10 ∷ rest))))
-    (lexes_goal (codes " or " ++ (decimal k ++ codes " ")) (10 ∷ rest) (closes_or k h) l)
-lexes_move (action k) rest h l =
-    lexes_at (ap (λ (bytes : List ℕ). codes "solve( action " ++ bytes) (append_assoc (decimal k) (codes " )") (10 ∷ rest) ∙ sym (append_assoc (decimal k) (codes " ") (41 ∷ 10 ∷ rest))))
-    (lexes_goal (codes " action " ++ (decimal k ++ codes " ")) (10 ∷ rest) (closes_action k h) l)
-lexes_move (premise i p) rest h l =
-    lexes_at (ap (λ (bytes : List ℕ). codes "solve( premise " ++ bytes) (premise_ends i p rest)) (lexes_goal (premise_goal i p) (10 ∷ rest) (closes_premise i p h.0 h.1) l)
+lexes_move m rest h l = lexes_words m (words_of m) rest (lines m) h l
 
 lexes_by : {size : ℕ} {xs : List Lexeme} (m : Move) (rest : List ℕ) → HasPlace m → Lexes size (10 ∷ rest) xs → Lexes size ((codes "by " ++ move_text m) ++ 10 ∷ rest) (word (codes "by") ∷ move_spelled m ∷ xs)
 lexes_by m rest h l = lexes_word (codes "by") 32 (move_text m ++ 10 ∷ rest) word_by space refl refl (lexes_blank 32 refl (lexes_move m rest h l))
 
 -- a move without cases
 lexes_leaf : {size : ℕ} {xs : List Lexeme} (m : Move) (rest : List ℕ) → HasPlace m → Lexes size (10 ∷ rest) xs → Lexes size ((leading m ++ move_text m) ++ 10 ∷ rest) (behind_by m (move_spelled m ∷ xs))
-lexes_leaf simplify rest h l = lexes_by simplify rest h l
-lexes_leaf contradiction rest h l = lexes_by contradiction rest h l
-lexes_leaf unproved rest h l = lexes_by unproved rest h l
-lexes_leaf solved rest h l = lexes_move solved rest h l
-lexes_leaf (or k) rest h l = lexes_by (or k) rest h l
-lexes_leaf (action k) rest h l = lexes_by (action k) rest h l
-lexes_leaf (premise i p) rest h l = lexes_by (premise i p) rest h l
+lexes_leaf {size} {xs} m rest h l = at (stand_alone (words_of m))
+  where
+    at : (b : Bool) → Lexes size (((if b then [] else codes "by ") ++ move_text m) ++ 10 ∷ rest) (if b then move_spelled m ∷ xs else word (codes "by") ∷ move_spelled m ∷ xs)
+    at true = lexes_move m rest h l
+    at false = lexes_by m rest h l
 
 lexes_case : {size : ℕ} {xs : List Lexeme} (n rest : List ℕ) → IsName n → IsWord n → Lexes size (10 ∷ rest) xs → Lexes size ((codes "case " ++ n) ++ 10 ∷ rest) (word (codes "case") ∷ word n ∷ xs)
 lexes_case n rest h w l =

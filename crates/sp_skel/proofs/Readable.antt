@@ -21,10 +21,10 @@ use Rattle.sp_law_tree.proofs.Growing.{grown_tree_accepted}
 use Rattle.sp_moves_formula.specs.Sought.{sought}
 use Rattle.sp_moves_formula.proofs.ByAction.{sought_cases, solves}
 use Rattle.sp_spec_text.specs.Names.{IsName}
-use Rattle.sp_text.specs.Places.{HasPlace, HavePlaces, AllHavePlaces}
+use Rattle.sp_skel.specs.Places.{HasPlace, HavePlaces, AllHavePlaces}
 use Rattle.sp_skel.specs.Spelling.{IsWord, IsReadable, AreReadable, MayHaveCases, AreNamed}
 use Rattle.sp_skel.proofs.CaseNames.{at_named, part_named, case_named}
-use Rattle.sp_spec_system.specs.Rules.{RuleForms}
+use Rattle.sp_spec_system.specs.Rules.{RuleForms, Rules}
 
 -- ---- cases with names
 
@@ -106,12 +106,12 @@ premise_fine rules s i p None cs h e = absurd (let none : ⊥ = cc in none)
 premise_fine rules s i p (Some f) cs h e = let g : by_each_source rules s i p f ≡ cs = cc in inl (subst CasesNamed g (sources_named rules s i p f h))
 
 raw_fine : (context : Context) (s : System) (move : Move) (cs : List Case) → AreNamed context.rules.forms → raw_cases context s move ≡ Some cs → Fine cs
-raw_fine context s simplify cs h e = at (has_place s) e
+raw_fine context s simplify cs h e = at (has_place context.rules s) e
   where
     at : (b : Bool) → (if b then Some (record { name = []; system = s } ∷ []) else None) ≡ Some cs → Fine cs
     at true e = inr (record { system = s; is = let f : cs ≡ record { name = []; system = s } ∷ [] = cc in f })
     at false e = absurd (let none : ⊥ = cc in none)
-raw_fine context s contradiction cs h e = at (is_contradictory s) e
+raw_fine context s contradiction cs h e = at (is_contradictory context.rules s) e
   where
     at : (b : Bool) → (if b then Some [] else None) ≡ Some cs → Fine cs
     at true e = fine_nothing cs (let f : [] ≡ cs = cc in f)
@@ -126,20 +126,20 @@ raw_fine context s (or k) cs h e = or_fine s (disjunction_at k s.formulas) cs e
 raw_fine context s (premise i p) cs h e = premise_fine context.rules.forms s i p (open_premise s i p) cs h e
 raw_fine context s (action k) cs h e = solving_fine context.rules.forms s (slice_get s.formulas k) cs h e
 
-simple_named : (cs : List Case) → CasesNamed cs → CasesNamed (map simple_case cs)
-simple_named [] h = tt
-simple_named (c ∷ cs) h = (h.0, h.1, simple_named cs h.2)
+simple_named : (rules : Rules) (cs : List Case) → CasesNamed cs → CasesNamed (map (simple_case rules) cs)
+simple_named rules [] h = tt
+simple_named rules (c ∷ cs) h = (h.0, h.1, simple_named rules cs h.2)
 
-simple_fine : (raw cs : List Case) → Fine raw → map simple_case raw ≡ cs → Fine cs
-simple_fine raw cs (inl h) e = inl (subst CasesNamed e (simple_named raw h))
-simple_fine raw cs (inr h) e = inr (record { system = (simple_case (record { name = []; system = h.system })).system; is = sym e ∙ ap (map simple_case) h.is })
+simple_fine : (rules : Rules) (raw cs : List Case) → Fine raw → map (simple_case rules) raw ≡ cs → Fine cs
+simple_fine rules raw cs (inl h) e = inl (subst CasesNamed e (simple_named rules raw h))
+simple_fine rules raw cs (inr h) e = inr (record { system = (simple_case rules (record { name = []; system = h.system })).system; is = sym e ∙ ap (map (simple_case rules)) h.is })
 
 move_fine : (context : Context) (s : System) (move : Move) (cs : List Case) → AreNamed context.rules.forms → cases context s move ≡ Some cs → Fine cs
 move_fine context s move cs h e = at (raw_cases context s move) refl e
   where
-    at : (o : Option (List Case)) → raw_cases context s move ≡ o → option_map (map simple_case) o ≡ Some cs → Fine cs
+    at : (o : Option (List Case)) → raw_cases context s move ≡ o → option_map (map (simple_case context.rules)) o ≡ Some cs → Fine cs
     at None r k = absurd (let none : ⊥ = cc in none)
-    at (Some raw) r k = simple_fine raw cs (raw_fine context s move raw h r) (let f : map simple_case raw ≡ cs = cc in f)
+    at (Some raw) r k = simple_fine context.rules raw cs (raw_fine context s move raw h r) (let f : map (simple_case context.rules) raw ≡ cs = cc in f)
 
 -- ---- trees
 
@@ -173,20 +173,30 @@ node_fine context m bs (Some cs) f p may h r = at (f cs refl)
     at (inr u) = only_unnamed context m u.system bs p may (subst (λ (ds : List Case). AreAccepted context (Some ds) bs) u.is h) r
 
 -- where the search ends no case is left
-end_fine : (context : Context) (o : Option Log) (bs : Branches) → AreAccepted context (option_map (map simple_case) (if is_some o then Some [] else None)) bs → IsReadable (node solved bs)
+end_fine : (context : Context) (o : Option Log) (bs : Branches) → AreAccepted context (option_map (map (simple_case context.rules)) (if is_some o then Some [] else None)) bs → IsReadable (node solved bs)
 end_fine context None bs h = absurd h
 end_fine context (Some log) no_branch h = tt
 end_fine context (Some log) (branch name t bs) h = absurd h
 
+-- the end of the search, or a move that may have cases
+ends_or_may : (m : Move) → (m ≡ solved) ⊎ MayHaveCases m
+ends_or_may simplify = inr refl
+ends_or_may contradiction = inr refl
+ends_or_may unproved = inr refl
+ends_or_may solved = inl refl
+ends_or_may (or k) = inr refl
+ends_or_may (action k) = inr refl
+ends_or_may (premise i p) = inr refl
+
+either_fine : (context : Context) (s : System) (m : Move) (bs : Branches) → (m ≡ solved) ⊎ MayHaveCases m → AreNamed context.rules.forms → HasPlace m → AreAccepted context (cases context s m) bs → TreesReadable bs
+    → IsReadable (node m bs)
+either_fine context s m bs (inl e) n p h r =
+    subst (λ (x : Move). IsReadable (node x bs)) (sym e) (end_fine context (end_log context s) bs (subst (λ (x : Move). AreAccepted context (cases context s x) bs) e h))
+either_fine context s m bs (inr may) n p h r = node_fine context m bs (cases context s m) (λ cs e. move_fine context s m cs n e) p may h r
+
 mutual
   pub tree_readable : (context : Context) (s : System) (t : Tree) → AreNamed context.rules.forms → HavePlaces t → IsAccepted context s t → IsReadable t
-  tree_readable context s (node solved bs) n p h = end_fine context (end_log context s) bs h
-  tree_readable context s (node simplify bs) n p h = node_fine context simplify bs (cases context s simplify) (λ cs e. move_fine context s simplify cs n e) p.0 tt h (trees_readable context (cases context s simplify) bs n p.1 h)
-  tree_readable context s (node contradiction bs) n p h = node_fine context contradiction bs (cases context s contradiction) (λ cs e. move_fine context s contradiction cs n e) p.0 tt h (trees_readable context (cases context s contradiction) bs n p.1 h)
-  tree_readable context s (node unproved bs) n p h = node_fine context unproved bs (cases context s unproved) (λ cs e. move_fine context s unproved cs n e) p.0 tt h (trees_readable context (cases context s unproved) bs n p.1 h)
-  tree_readable context s (node (or k) bs) n p h = node_fine context (or k) bs (cases context s (or k)) (λ cs e. move_fine context s (or k) cs n e) p.0 tt h (trees_readable context (cases context s (or k)) bs n p.1 h)
-  tree_readable context s (node (action k) bs) n p h = node_fine context (action k) bs (cases context s (action k)) (λ cs e. move_fine context s (action k) cs n e) p.0 tt h (trees_readable context (cases context s (action k)) bs n p.1 h)
-  tree_readable context s (node (premise i k) bs) n p h = node_fine context (premise i k) bs (cases context s (premise i k)) (λ cs e. move_fine context s (premise i k) cs n e) p.0 tt h (trees_readable context (cases context s (premise i k)) bs n p.1 h)
+  tree_readable context s (node m bs) n p h = either_fine context s m bs (ends_or_may m) n p.0 h (trees_readable context (cases context s m) bs n p.1 h)
 
   trees_readable : (context : Context) (o : Option (List Case)) (bs : Branches) → AreNamed context.rules.forms → AllHavePlaces bs → AreAccepted context o bs → TreesReadable bs
   trees_readable context None bs n p h = absurd h

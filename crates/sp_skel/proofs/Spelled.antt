@@ -1,72 +1,48 @@
 -- The lexemes of a tree's text spell a proof, and the proof says the tree.
-use Rattle.std.proofs.Common.{◌≡◌, true, List, [], ◌∷◌, Some, codes, refl}
+use Rattle.std.proofs.Common.{◌≡◌, ℕ, Bool, true, false, if◌then◌else◌, List, [], ◌∷◌, Some, codes, refl, sym, subst}
+use Rattle.std.proofs.lemmas.Slice.Eq.{bytes_eq-Decides}
 use Rattle.sp_spec_text.specs.Token.{Lexeme, word}
-use Rattle.sp_spec_system.specs.Move.{Move, simplify, contradiction, unproved, solved, or, action, premise}
+use Rattle.sp_spec_text.specs.Written.{said, step, no_case}
+use Rattle.sp_spec_system.specs.Move.{Move}
+use Rattle.sp_spec_system.specs.Words.{Words, method, goal, words_of, AreWithin, if_within, stand_alone}
 use Rattle.sp_spec_proof.specs.Tree.{Tree, node, Branches, no_branch, branch}
 use Rattle.sp_check.specs.Skeleton.{known, tree_of, branches_of}
 use Rattle.sp_spec_text.specs.Proofs as grammar
-use Rattle.sp_spec_text.specs.Proofs.{is_method, SpellsMethod, by_word, by_goal, SpellsProof, by_method, method_proof, method_cases, SpellsCases, case, qed, next}
-use Rattle.sp_skel.specs.Steps.{step_of_word, step_said, skeleton, branches}
-use Rattle.sp_text.specs.Places.{HasPlace}
-use Rattle.sp_skel.specs.Spelling.{move_spelled, spelled, cases_spelled, move_said, as_written, all_as_written, MayHaveCases, IsReadable, AreReadable}
-use Rattle.sp_skel.proofs.Decimals.{or_goal_says, action_goal_says, premise_goal_says}
+use Rattle.sp_spec_text.specs.Proofs.{SpellsMethod, by_word, by_goal, SpellsProof, by_method, method_proof, method_cases, SpellsCases, case, qed, next}
+use Rattle.sp_skel.specs.Steps.{step_said, skeleton, branches}
+use Rattle.sp_skel.specs.Places.{HasPlace}
+use Rattle.sp_skel.specs.Spelling.{words_spelled, move_spelled, spelled, cases_spelled, words_said, move_said, as_written, all_as_written, MayHaveCases, IsReadable, AreReadable}
+use Rattle.sp_skel.proofs.Goals.{named_within, goal_says}
+use Rattle.sp_skel.proofs.Table.{IsLine, lines}
 
 -- ---- moves
 
-method_simplify : is_method (codes "simplify") ≡ true
-unfolding is_method
-method_simplify = refl
-
-method_contradiction : is_method (codes "contradiction") ≡ true
-unfolding is_method
-method_contradiction = refl
-
-method_sorry : is_method (codes "sorry") ≡ true
-unfolding is_method
-method_sorry = refl
+words_spell : (m : Move) (ws : Words) → IsLine m ws → stand_alone ws ≡ false → (rest : List Lexeme) → SpellsMethod (words_spelled ws ∷ rest) (words_said ws) rest
+words_spell m (method w) line h rest = by_word (line.begins h)
+words_spell m (goal w arguments) line h rest = by_goal
 
 pub move_spells : (m : Move) → MayHaveCases m → (rest : List Lexeme) → SpellsMethod (move_spelled m ∷ rest) (move_said m) rest
-move_spells simplify h rest = by_word method_simplify
-move_spells contradiction h rest = by_word method_contradiction
-move_spells unproved h rest = by_word method_sorry
-move_spells solved h rest = absurd h
-move_spells (or k) h rest = by_goal
-move_spells (action k) h rest = by_goal
-move_spells (premise i p) h rest = by_goal
+move_spells m h rest = words_spell m (words_of m) (lines m) h rest
+
+-- words that stand alone are those of the end of the search
+alone_spells : (ws : Words) → stand_alone ws ≡ true → (rest : List Lexeme) → SpellsProof (words_spelled ws ∷ rest) (step (words_said ws) no_case) rest
+alone_spells (method w) h rest =
+    subst (λ (v : List ℕ). SpellsProof (word v ∷ rest) (step (said v) no_case) rest) (sym ((bytes_eq-Decides w (codes "SOLVED")).0 h)) grammar.solved
+alone_spells (goal w arguments) h rest = absurd (let none : ⊥ = cc in none)
 
 leaf_spells : (m : Move) (rest : List Lexeme) → SpellsProof (spelled (node m no_branch) rest) (as_written (node m no_branch)) rest
-leaf_spells simplify rest = by_method (move_spells simplify tt rest)
-leaf_spells contradiction rest = by_method (move_spells contradiction tt rest)
-leaf_spells unproved rest = by_method (move_spells unproved tt rest)
-leaf_spells solved rest = grammar.solved
-leaf_spells (or k) rest = by_method (move_spells (or k) tt rest)
-leaf_spells (action k) rest = by_method (move_spells (action k) tt rest)
-leaf_spells (premise i p) rest = by_method (move_spells (premise i p) tt rest)
+leaf_spells m rest = at (stand_alone (words_of m)) refl
+  where
+    at : (b : Bool) → stand_alone (words_of m) ≡ b → SpellsProof (if b then move_spelled m ∷ rest else word (codes "by") ∷ move_spelled m ∷ rest) (step (move_said m) no_case) rest
+    at true h = alone_spells (words_of m) h rest
+    at false h = by_method (move_spells m h rest)
 
-says_simplify : step_of_word (codes "simplify") ≡ known simplify
-unfolding step_of_word
-says_simplify = refl
-
-says_contradiction : step_of_word (codes "contradiction") ≡ known contradiction
-unfolding step_of_word
-says_contradiction = refl
-
-says_sorry : step_of_word (codes "sorry") ≡ known unproved
-unfolding step_of_word
-says_sorry = refl
-
-says_solved : step_of_word (codes "SOLVED") ≡ known solved
-unfolding step_of_word
-says_solved = refl
+words_say : (m : Move) (ws : Words) → IsLine m ws → AreWithin ws → if_within m ≡ Some m → step_said (words_said ws) ≡ known m
+words_say m (method w) line h n = rw line.says refl
+words_say m (goal w arguments) line h n = goal_says m w arguments line.plain h line.says n
 
 pub move_says : (m : Move) → HasPlace m → step_said (move_said m) ≡ known m
-move_says simplify h = says_simplify
-move_says contradiction h = says_contradiction
-move_says unproved h = says_sorry
-move_says solved h = says_solved
-move_says (or k) h = or_goal_says k h
-move_says (action k) h = action_goal_says k h
-move_says (premise i p) h = premise_goal_says i p h.0 h.1
+move_says m h = words_say m (words_of m) (lines m) h (named_within m h)
 
 -- ---- trees
 

@@ -2,7 +2,7 @@
 -- Blanks around are no part of a text. Source: Tamarin manual, "Proofs" (goals are written in `solve( )`); the words are this project's own.
 use Rattle.std.specs.Prelude.{ℕ, ◌+◌, ◌-◌, ◌*◌, ◌^◌, Bool, true, false, not, ◌&&◌, ◌||◌, ◌==◌, nat_lt, if◌then◌else◌, List, [], ◌∷◌, reverse, Option, Some, None, is_some, option_map, option_and_then, codes}
 use Rattle.std.specs.Str.{bytes_eq}
-use Rattle.sp_spec_text.specs.Lex.{is_blank, is_digit, is_constant_byte, before}
+use Rattle.sp_spec_text.specs.Lex.{is_blank, is_digit, is_constant_byte}
 
 -- without the blanks before it
 unfoldable pub unblanked : List ℕ → List ℕ
@@ -15,21 +15,23 @@ trimmed text = reverse (unblanked (reverse (unblanked text)))
 
 -- ---- words
 
--- from the first space on that stands in no constant
-unfoldable pub to_space : Bool → List ℕ → List ℕ
-to_space quoted [] = []
-to_space quoted (b ∷ bytes) = if b == 32 && not quoted then b ∷ bytes else to_space (if b == 39 then not quoted else quoted) bytes
+-- with a byte before the first
+abbrev pub onto : ℕ → List (List ℕ) → List (List ℕ)
+onto b [] = (b ∷ []) ∷ []
+onto b (word ∷ others) = (b ∷ word) ∷ others
 
-abbrev pub first_word : List ℕ → List ℕ
-first_word text = before text (to_space false text)
+-- what stands between spaces that are in no constant
+unfoldable pub words_from : Bool → List ℕ → List (List ℕ)
+words_from quoted [] = [] ∷ []
+words_from quoted (b ∷ bytes) = if b == 32 && not quoted then [] ∷ words_from quoted bytes else onto b (words_from (if b == 39 then not quoted else quoted) bytes)
 
-abbrev pub behind_space : List ℕ → Option (List ℕ)
-behind_space [] = None
-behind_space (b ∷ bytes) = Some bytes
+abbrev pub words : List ℕ → List (List ℕ)
+words text = words_from false text
 
--- behind the first word and a space, where there are more
-abbrev pub other_words : List ℕ → Option (List ℕ)
-other_words text = behind_space (to_space false text)
+-- those of a text that may follow
+abbrev pub words_behind : Option (List ℕ) → List (List ℕ)
+words_behind None = []
+words_behind (Some text) = words text
 
 -- ---- numbers
 
@@ -86,34 +88,40 @@ is_constant (b ∷ bytes) = b == 39 && begins_constant bytes && ends_constant by
 
 -- ---- what stands behind the word of a move
 
--- a number alone
-abbrev pub only_number : Option (List ℕ) → Option ℕ
-only_number None = None
-only_number (Some text) = if is_some (other_words text) then None else number_of (first_word text)
+-- the numbers that all of them are
+abbrev pub numbers : List (List ℕ) → Option (List ℕ)
+numbers [] = Some []
+numbers (word ∷ others) = option_and_then (λ n. option_map (λ ns. n ∷ ns) (numbers others)) (number_of word)
 
-abbrev pub two_numbers : Option (List ℕ) → Option (ℕ × ℕ)
-two_numbers None = None
-two_numbers (Some text) = option_and_then (λ i. option_map (λ p. (i, p)) (only_number (other_words text))) (number_of (first_word text))
+abbrev pub is_one : (List ℕ → Bool) → List (List ℕ) → Bool
+is_one p (x ∷ []) = p x
+is_one p others = false
 
-abbrev pub is_last : (List ℕ → Bool) → Option (List ℕ) → Bool
-is_last p None = false
-is_last p (Some text) = not (is_some (other_words text)) && p (first_word text)
+abbrev pub are_two : (List ℕ → Bool) → (List ℕ → Bool) → List (List ℕ) → Bool
+are_two p q (x ∷ y ∷ []) = p x && q y
+are_two p q others = false
+
+abbrev pub are_none : List (List ℕ) → Bool
+are_none [] = true
+are_none (x ∷ others) = false
 
 abbrev pub is_side : List ℕ → Bool
 is_side word = is_variable word || is_constant word
 
 -- two of them, of which one is a variable
-abbrev pub are_sides : Option (List ℕ) → Bool
-are_sides None = false
-are_sides (Some text) =
-    (is_variable (first_word text) && is_last is_side (other_words text))
-    || (is_constant (first_word text) && is_last is_variable (other_words text))
+abbrev pub are_sides : List (List ℕ) → Bool
+are_sides others = are_two is_variable is_side others || are_two is_constant is_variable others
 
--- the word, and what stands behind it, are the text of a move of which there are no instances yet
-unfoldable pub is_unbuilt : List ℕ → Option (List ℕ) → Bool
+-- ---- moves of which there are no instances yet
+
+abbrev pub is_unbuilt_method : List ℕ → Bool
+is_unbuilt_method word = bytes_eq word (codes "induction")
+
+-- by the word, and those behind it
+unfoldable pub is_unbuilt : List ℕ → List (List ℕ) → Bool
 is_unbuilt word others =
-    if bytes_eq word (codes "more") || bytes_eq word (codes "finish") then not (is_some others)
-    else if bytes_eq word (codes "know") || bytes_eq word (codes "chain") || bytes_eq word (codes "source") || bytes_eq word (codes "top") then is_some (only_number others)
-    else if bytes_eq word (codes "compare") then is_some (two_numbers others)
+    if bytes_eq word (codes "more") || bytes_eq word (codes "finish") then are_none others
+    else if bytes_eq word (codes "know") || bytes_eq word (codes "chain") || bytes_eq word (codes "source") || bytes_eq word (codes "top") then is_one is_number others
+    else if bytes_eq word (codes "compare") then are_two is_number is_number others
     else if bytes_eq word (codes "same") then are_sides others
     else false

@@ -1,33 +1,28 @@
 -- The lexemes that the text of a tree spells, and which trees are read back from their texts. Source: Tamarin manual, "Proofs".
-use Rattle.std.specs.Prelude.{◌≡◌, ℕ, true, List, [], ◌∷◌, ◌++◌, codes, decimal}
+use Rattle.std.specs.Prelude.{◌≡◌, ℕ, true, false, if◌then◌else◌, List, [], ◌∷◌, codes}
 use Rattle.sp_spec_text.specs.Bytes as class
 use Rattle.std.specs.Char.{is_ascii_alphanumeric}
 use Rattle.sp_spec_text.specs.Lex.{skip}
 use Rattle.sp_spec_text.specs.Token.{Lexeme, word, solve}
 use Rattle.sp_spec_text.specs.Names.{IsName}
-use Rattle.sp_spec_system.specs.Move.{Move, simplify, contradiction, unproved, solved, or, action, premise}
+use Rattle.sp_spec_system.specs.Move.{Move}
+use Rattle.sp_spec_system.specs.Words.{Words, words_of, goal_text, stand_alone}
+use Rattle.sp_spec_system.specs.Words as words
 use Rattle.sp_spec_proof.specs.Tree.{Tree, node, Branches, no_branch, branch}
-use Rattle.sp_text.specs.Places.{HasPlace}
+use Rattle.sp_skel.specs.Places.{HasPlace}
 use Rattle.sp_spec_text.specs.Written.{Method, said, goal, WrittenProof, step, WrittenCases, no_case, then_case}
 use Rattle.sp_spec_system.specs.Rules.{RuleForms}
 
--- what stands between the brackets for a premise
-abbrev pub premise_goal : ℕ → ℕ → List ℕ
-premise_goal i p = codes " premise " ++ (decimal i ++ (codes " " ++ (decimal p ++ codes " ")))
+abbrev pub words_spelled : Words → Lexeme
+words_spelled (words.method w) = word w
+words_spelled (words.goal w arguments) = solve (goal_text w arguments)
 
 abbrev pub move_spelled : Move → Lexeme
-move_spelled simplify = word (codes "simplify")
-move_spelled contradiction = word (codes "contradiction")
-move_spelled unproved = word (codes "sorry")
-move_spelled solved = word (codes "SOLVED")
-move_spelled (or k) = solve (codes " or " ++ (decimal k ++ codes " "))
-move_spelled (action k) = solve (codes " action " ++ (decimal k ++ codes " "))
-move_spelled (premise i p) = solve (premise_goal i p)
+move_spelled move = words_spelled (words_of move)
 
--- behind the word before a move without cases: the end of the search stands alone
+-- behind the word before a move without cases
 abbrev pub behind_by : Move → List Lexeme → List Lexeme
-behind_by solved rest = rest
-behind_by move rest = word (codes "by") ∷ rest
+behind_by move rest = if stand_alone (words_of move) then rest else word (codes "by") ∷ rest
 
 -- a tree, and the cases behind a move, before these lexemes
 abbrev mutual
@@ -41,14 +36,12 @@ abbrev mutual
   cases_spelled (branch name tree no_branch) rest = word (codes "case") ∷ word name ∷ spelled tree (word (codes "qed") ∷ rest)
   cases_spelled (branch name tree branches) rest = word (codes "case") ∷ word name ∷ spelled tree (word (codes "next") ∷ cases_spelled branches rest)
 
+abbrev pub words_said : Words → Method
+words_said (words.method w) = said w
+words_said (words.goal w arguments) = goal (goal_text w arguments)
+
 abbrev pub move_said : Move → Method
-move_said simplify = said (codes "simplify")
-move_said contradiction = said (codes "contradiction")
-move_said unproved = said (codes "sorry")
-move_said solved = said (codes "SOLVED")
-move_said (or k) = goal (codes " or " ++ (decimal k ++ codes " "))
-move_said (action k) = goal (codes " action " ++ (decimal k ++ codes " "))
-move_said (premise i p) = goal (premise_goal i p)
+move_said move = words_said (words_of move)
 
 -- the tree as it is written
 abbrev mutual
@@ -64,10 +57,8 @@ abbrev pub IsWord : List ℕ → Type 0
 IsWord [] = ⊥
 IsWord (b ∷ bytes) = (is_ascii_alphanumeric b ≡ true) × (skip class.Word bytes ≡ [])
 
--- where the search ends there are no cases
 abbrev pub MayHaveCases : Move → Type 0
-MayHaveCases solved = ⊥
-MayHaveCases move = Unit {0}
+MayHaveCases move = stand_alone (words_of move) ≡ false
 
 -- Each case has a name, or it is its node's only one and has none.
 abbrev mutual

@@ -1,9 +1,11 @@
 // The texts of moves.
 
-ghost use Rattle.std.specs.Prelude.{◌≡◌, [], ◌∷◌, ◌++◌, ◌+◌, ◌-◌, ◌*◌, ◌≤◌, length, reverse, MatchOption, Option, option_map, false};
-ghost use Rattle.std.specs.Str.{bytes_eq};
+ghost use Rattle.std.specs.Prelude.{◌≡◌, [], ◌∷◌, ◌++◌, ◌+◌, ◌-◌, ◌*◌, ◌<◌, ◌≤◌, ⊤, length, map, reverse, IfOk, MatchOption, option_map};
 ghost use Rattle.sp_spec_text.specs.Lex as lex;
 ghost use Rattle.sp_skel.specs.MoveTexts as spec;
+
+use sp_step::words::is;
+use std::alloc::{AllocError, Global};
 
 fn split(text: &[u8]) -> Option<(u8, &[u8])>
     ensures { MatchOption result (text.now ≡ []) (λ x. text.now ≡ x.0 ∷ x.1.now) }
@@ -33,13 +35,6 @@ fn is_constant_byte(b: u8) -> bool
     ensures { result ≡ lex.is_constant_byte b }
 {
     32 <= b && b <= 126 && b != b'\''
-}
-
-/// Whether these are the bytes of a word.
-pub fn is(word: &[u8], wanted: &str) -> bool
-    ensures { result ≡ bytes_eq word.now wanted.now }
-{
-    word == wanted.as_bytes()
 }
 
 /// The text without the blanks before it.
@@ -79,40 +74,36 @@ pub fn trimmed(text: &[u8]) -> &[u8]
     unblanked_behind(unblanked(text))
 }
 
-/// From the first space on that stands in no constant.
-#[tactic(auto, unfolding(crate::specs::MoveTexts::to_space))]
-fn to_space(text: &[u8]) -> &[u8]
-    ensures value { result.now ≡ spec.to_space false text.now }
-    ensures shorter { length result.now ≤ length text.now }
+/// The first word, and what stands behind the space behind it, where more words follow.
+#[tactic(auto, unfolding(crate::specs::MoveTexts::words_from))]
+fn first_word(text: &[u8]) -> (&[u8], Option<&[u8]>)
+    ensures words { spec.words text.now ≡ result.0.now ∷ spec.words_behind (option_map (λ x. x.now) result.1) }
+    ensures shorter { MatchOption result.1 ⊤ (λ rest. length rest.now < length text.now) }
 {
     let mut quoted = false;
-    let mut rest = text;
-    while let Some((byte, behind)) = split(rest) {
-        if byte == b' ' && !quoted {
-            return rest;
+    for (place, byte) in text.iter().enumerate() {
+        if *byte == b' ' && !quoted {
+            return (&text[..place], Some(&text[place + 1..]));
         }
-        if byte == b'\'' {
+        if *byte == b'\'' {
             quoted = !quoted;
         }
+    }
+    (text, None)
+}
+
+/// The words of a text.
+pub fn words(alloc: Global, text: &[u8]) -> Result<Vec<&[u8]>, AllocError>
+    ensures { IfOk result (λ ws. map (λ w. w.now) ws.items ≡ spec.words text.now) }
+{
+    let mut words = Vec::new(alloc);
+    let mut rest = Some(text);
+    while let Some(here) = rest {
+        let (word, behind) = first_word(here);
+        words.push(word)?;
         rest = behind;
     }
-    rest
-}
-
-/// The first word.
-pub fn first_word(text: &[u8]) -> &[u8]
-    ensures { result.now ≡ spec.first_word text.now }
-{
-    let rest = to_space(text);
-    &text[..text.len() - rest.len()]
-}
-
-/// What stands behind the first word and a space, where there are more words.
-pub fn other_words(text: &[u8]) -> Option<&[u8]>
-    ensures { option_map (λ x. x.now) result ≡ spec.other_words text.now }
-{
-    let (_, behind) = split(to_space(text))?;
-    Some(behind)
+    Ok(words)
 }
 
 /// Whether a zero stands before other digits.
@@ -201,75 +192,85 @@ fn is_constant(word: &[u8]) -> bool
     }
 }
 
-/// The number, if it stands alone.
-pub fn only_number(text: Option<&[u8]>) -> Option<u128>
-    ensures { result ≡ spec.only_number (option_map (λ x. x.now) text.entry) }
+// ---- what stands behind the word of a move
+
+/// The numbers that all words are, if they are numbers.
+pub fn numbers(alloc: Global, words: &[&[u8]]) -> Result<Option<Vec<u128>>, AllocError>
+    ensures { IfOk result (λ o. option_map (λ ns. ns.items) o ≡ spec.numbers (map (λ w. w.now) words.now)) }
 {
-    let words = text?;
-    if other_words(words).is_some() {
-        None
-    } else {
-        number_of(first_word(words))
+    let mut numbers = Vec::with_capacity(alloc, words.len())?;
+    for word in words {
+        let Some(number) = number_of(word) else {
+            return Ok(None);
+        };
+        numbers.push(number)?;
+    }
+    Ok(Some(numbers))
+}
+
+fn is_number(word: &[u8]) -> bool
+    ensures { result ≡ spec.is_number word.now }
+{
+    number_of(word).is_some()
+}
+
+/// Whether it is a variable or a constant.
+fn is_side(word: &[u8]) -> bool
+    ensures { result ≡ spec.is_side word.now }
+{
+    is_variable(word) || is_constant(word)
+}
+
+fn is_one_number(words: &[&[u8]]) -> bool
+    ensures { result ≡ spec.is_one spec.is_number (map (λ w. w.now) words.now) }
+{
+    match words {
+        [number] => is_number(number),
+        _ => false,
     }
 }
 
-/// The two numbers, if they stand alone.
-pub fn two_numbers(text: Option<&[u8]>) -> Option<(u128, u128)>
-    ensures { result ≡ spec.two_numbers (option_map (λ x. x.now) text.entry) }
+fn are_two_numbers(words: &[&[u8]]) -> bool
+    ensures { result ≡ spec.are_two spec.is_number spec.is_number (map (λ w. w.now) words.now) }
 {
-    let words = text?;
-    let first = number_of(first_word(words))?;
-    let second = only_number(other_words(words))?;
-    Some((first, second))
-}
-
-fn is_last_variable(text: Option<&[u8]>) -> bool
-    ensures { result ≡ spec.is_last spec.is_variable (option_map (λ x. x.now) text.entry) }
-{
-    match text {
-        Some(words) => !other_words(words).is_some() && is_variable(first_word(words)),
-        None => false,
+    match words {
+        [first, second] => is_number(first) && is_number(second),
+        _ => false,
     }
 }
 
-fn is_last_side(text: Option<&[u8]>) -> bool
-    ensures { result ≡ spec.is_last spec.is_side (option_map (λ x. x.now) text.entry) }
+/// Whether they are two variables or constants, and not two constants.
+fn are_sides(words: &[&[u8]]) -> bool
+    ensures { result ≡ spec.are_sides (map (λ w. w.now) words.now) }
 {
-    match text {
-        Some(words) => {
-            let word = first_word(words);
-            !other_words(words).is_some() && (is_variable(word) || is_constant(word))
+    match words {
+        [first, second] => {
+            is_variable(first) && is_side(second) || is_constant(first) && is_variable(second)
         }
-        None => false,
+        _ => false,
     }
 }
 
-/// Whether it is two variables or constants, and not two constants.
-fn are_sides(text: Option<&[u8]>) -> bool
-    ensures { result ≡ spec.are_sides (option_map (λ x. x.now) text.entry) }
+// ---- moves of which there are no instances yet
+
+/// Whether the word is the text of one.
+pub fn is_unbuilt_method(word: &str) -> bool
+    ensures { result ≡ spec.is_unbuilt_method word.now }
 {
-    match text {
-        Some(words) => {
-            let word = first_word(words);
-            let others = other_words(words);
-            is_variable(word) && is_last_side(others)
-                || is_constant(word) && is_last_variable(others)
-        }
-        None => false,
-    }
+    word == "induction"
 }
 
-/// Whether the word and what stands behind it are the text of a move of which there are no instances yet.
+/// Whether the word and those behind it are the text of one.
 #[tactic(auto, unfolding(crate::specs::MoveTexts::is_unbuilt))]
-pub fn is_unbuilt(word: &[u8], others: Option<&[u8]>) -> bool
-    ensures { result ≡ spec.is_unbuilt word.now (option_map (λ x. x.now) others.entry) }
+pub fn is_unbuilt(word: &[u8], others: &[&[u8]]) -> bool
+    ensures { result ≡ spec.is_unbuilt word.now (map (λ w. w.now) others.now) }
 {
     if is(word, "more") || is(word, "finish") {
-        !others.is_some()
+        others.is_empty()
     } else if is(word, "know") || is(word, "chain") || is(word, "source") || is(word, "top") {
-        only_number(others).is_some()
+        is_one_number(others)
     } else if is(word, "compare") {
-        two_numbers(others).is_some()
+        are_two_numbers(others)
     } else if is(word, "same") {
         are_sides(others)
     } else {

@@ -8,3 +8,4 @@ pub mod Listed
 pub mod Occurrences
 pub mod Values
 pub mod Standing
+pub mod Logs

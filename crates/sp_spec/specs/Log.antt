@@ -134,10 +134,12 @@ abbrev pub StartsChain : Signature → Log → List Ground → Ground → Ground
 StartsChain signature past [] first m = ⊥
 StartsChain signature past (t ∷ chain) first m = (t ≡ first) × IsChain signature past t chain m
 
--- a pair, or a symbol without arguments that is public
+-- a pair, a symbol without arguments that is public, or a public name
 abbrev pub IsMadeAlone : Signature → Ground → Type 0
 IsMadeAlone signature m =
-    ((t : Ground) × (u : Ground) × (m ≡ app (codes "pair") (more t (more u none)))) ⊎ ((c : List ℕ) × HasPublic signature.symbols c zero × (m ≡ app c none))
+    ((t : Ground) × (u : Ground) × (m ≡ app (codes "pair") (more t (more u none))))
+    ⊎ ((c : List ℕ) × HasPublic signature.symbols c zero × (m ≡ app c none))
+    ⊎ HasSort Pub m
 
 -- the message may be learnt in that way after these entries
 abbrev pub MayLearn : Signature → Log → Ground → How → Type 0
@@ -147,20 +149,46 @@ MayLearn signature past m constructed =
     (f : List ℕ) × (ts : Grounds) × (m ≡ app f ts) × HasPublic signature.symbols f (count ts) × AreLearnt past ts × IsNormal signature.equations m
 MayLearn signature past m (by_chain p k chain) =
     (r : List ℕ) × (facts : Facts ⊥) × (sources : List Source) × AtPosition past p (step r facts sources)
-    × ((first : Ground) × AtPlace facts.conclusions k (out_of first) × StartsChain signature past chain first m)
-    × Every (λ t. (q : ℕ) → q < p → LearntAt past q t → ⊥) chain
-    × (IsMadeAlone signature m → ⊥) × (HasSort Pub m → ⊥)
+    × (first : Ground) × AtPlace facts.conclusions k (out_of first) × StartsChain signature past chain first m
 
--- what an entry owes to those before it
-abbrev pub Fits : Theory → Entry → Log → Type 0
-Fits theory (step r facts sources) past =
-    ((rule : Rule) × Member rule theory.rules × (rule.name ≡ r) × (v : Values) × IsValuation (signature_of theory) v
-    × IsNormalFormOf (signature_of theory).equations (facts_at v rule.facts) facts)
-    × HasSources facts.premises sources past
-Fits theory (send m) past = IsLearnt past m
-Fits theory (learn m how) past = (IsLearnt past m → ⊥) × MayLearn (signature_of theory) past m how
+-- the facts are an instance of a rule of that name, in normal form
+abbrev pub IsRuleInstance : Theory → List ℕ → Facts ⊥ → Type 0
+IsRuleInstance theory r facts =
+    (rule : Rule) × Member rule theory.rules × (rule.name ≡ r) × (v : Values) × IsValuation (signature_of theory) v
+    × IsNormalFormOf (signature_of theory).equations (facts_at v rule.facts) facts
 
--- each entry fits those before it, no Fr is used twice, and no linear source is named twice
+-- what a log owes of each of its entries
+pub data Clause : Type 0 where
+  -- a step is an instance of a rule of its name, in normal form
+  rule_instance : Clause
+  -- its premises have sources, and no linear source is named twice
+  premise_sources : Clause
+  -- no fresh name is used twice
+  fresh_names_once : Clause
+  -- what is sent is learnt
+  sent_is_learnt : Clause
+  -- what is learnt wasn't yet
+  learnt_once : Clause
+  -- and may be learnt in that way
+  way_of_learning : Clause
+  -- what is made alone is learnt by no chain
+  made_alone : Clause
+  -- no message of a chain was learnt before the chain's step
+  chain_is_new : Clause
+
+-- The entry keeps the clause behind those before it. A clause that is about other kinds of entries holds of it.
+abbrev pub Keeps : Theory → Clause → Entry → Log → Type 0
+Keeps theory rule_instance (step r facts sources) past = IsRuleInstance theory r facts
+Keeps theory premise_sources (step r facts sources) past = HasSources facts.premises sources past × Distinct (all_sources (step r facts sources ∷ past))
+Keeps theory fresh_names_once e past = Distinct (all_fresh_uses (e ∷ past))
+Keeps theory sent_is_learnt (send m) past = IsLearnt past m
+Keeps theory learnt_once (learn m how) past = IsLearnt past m → ⊥
+Keeps theory way_of_learning (learn m how) past = MayLearn (signature_of theory) past m how
+Keeps theory made_alone (learn m (by_chain p k chain)) past = IsMadeAlone (signature_of theory) m → ⊥
+Keeps theory chain_is_new (learn m (by_chain p k chain)) past = Every (λ t. (q : ℕ) → q < p → LearntAt past q t → ⊥) chain
+Keeps theory clause e past = Unit {0}
+
+-- each entry keeps each clause behind those before it
 abbrev pub IsLog : Theory → Log → Type 0
 IsLog theory [] = Unit {0}
-IsLog theory (e ∷ past) = IsLog theory past × Fits theory e past × Distinct (all_fresh_uses (e ∷ past)) × Distinct (all_sources (e ∷ past))
+IsLog theory (e ∷ past) = IsLog theory past × ((clause : Clause) → Keeps theory clause e past)

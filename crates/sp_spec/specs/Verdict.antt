@@ -1,6 +1,6 @@
 -- What it means that a lemma holds, and that it is broken. Source: Tamarin manual, "Property specification" (all-traces,
 -- exists-trace, restrictions); CSF 2012, "Security properties".
-use Rattle.std.specs.Prelude.{Bool, false, ◌||◌, List, codes}
+use Rattle.std.specs.Prelude.{Bool, true, false, ◌||◌, List, codes}
 use Rattle.std.specs.Str.{bytes_eq}
 use Rattle.sp_spec.specs.Lists.{Every}
 use Rattle.sp_spec.specs.Formula.{Formula, truth, falsity, happens, equals, precedes, not_so, both, either, implies, for_all, for_some}
@@ -32,7 +32,7 @@ abbrev pub HoldsInNone : Theory → Lemma → Type 0
 HoldsInNone theory lemma =
     (steps : List Step) (trace : Trace) → IsExecution theory steps trace → MeetsRestrictions theory trace → IsTrueOver (signature_of theory) trace lemma.formula → ⊥
 
--- A lemma that names the action of learning is read over learning logs in place of executions.
+-- a lemma that names the action of learning
 abbrev pub names_learning : Formula → Bool
 names_learning truth = false
 names_learning falsity = false
@@ -61,3 +61,22 @@ IsSatisfiedByLog theory lemma log =
 abbrev pub HoldsInNoLog : Theory → Lemma → Type 0
 HoldsInNoLog theory lemma =
     (log : Log) → IsLog theory log → MeetsRestrictions theory (log_trace log) → IsTrueOver (signature_of theory) (log_trace log) lemma.formula → ⊥
+
+-- ---- A lemma that names the action of learning is read over learning logs, any other over executions.
+
+abbrev pub InReading : Bool → Type 0 → Type 0 → Type 0
+InReading true over_logs over_executions = over_logs
+InReading false over_logs over_executions = over_executions
+
+abbrev pub HoldsInReading : Theory → Lemma → Type 0
+HoldsInReading theory lemma = InReading (names_learning lemma.formula) (HoldsInAllLogs theory lemma) (HoldsInAll theory lemma)
+
+abbrev pub HoldsInNoReading : Theory → Lemma → Type 0
+HoldsInNoReading theory lemma = InReading (names_learning lemma.formula) (HoldsInNoLog theory lemma) (HoldsInNone theory lemma)
+
+-- by the log, or by the steps that it stands for
+abbrev pub IsBrokenInReading : Theory → Lemma → Log → List Step → Type 0
+IsBrokenInReading theory lemma log steps = InReading (names_learning lemma.formula) (IsBrokenByLog theory lemma log) (IsBrokenBy theory lemma steps)
+
+abbrev pub IsSatisfiedInReading : Theory → Lemma → Log → List Step → Type 0
+IsSatisfiedInReading theory lemma log steps = InReading (names_learning lemma.formula) (IsSatisfiedByLog theory lemma log) (IsSatisfiedBy theory lemma steps)

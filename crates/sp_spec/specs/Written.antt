@@ -6,6 +6,7 @@ pub use Rattle.sp_spec.specs.Lists.{is_listed}
 pub use Rattle.sp_spec.specs.Term.{in_term, in_terms}
 pub use Rattle.sp_spec.specs.Rule.{in_facts, in_actions, occurrences}
 use Rattle.sp_spec.specs.Term.{Sort, Msg, Fresh, Pub, Variable, Term, var, Terms, none, more}
+use Rattle.sp_spec.specs.Signature.{Symbol, Equation}
 use Rattle.sp_spec.specs.Rule.{Fact, Facts, Rule, facts_at}
 use Rattle.sp_spec.specs.Formula.{Mark, of_sort, Written}
 use Rattle.sp_spec.specs.Theory.{Restriction, Lemma, Theory}
@@ -14,8 +15,11 @@ pub record WrittenRule : Type 0 where
   pub name : List ℕ
   pub facts : Facts Written
 
+-- its symbols and equations are those that it adds to the pairs', whether it declares them or names builtins that have them
 pub record WrittenTheory : Type 0 where
   pub name : List ℕ
+  pub symbols : List Symbol
+  pub equations : List Equation
   pub rules : List WrittenRule
   pub restrictions : List Restriction
   pub lemmas : List Lemma
@@ -68,4 +72,4 @@ rule_of r = record {
 }
 
 abbrev pub theory_of : WrittenTheory → Theory
-theory_of t = record { symbols = []; equations = []; rules = map rule_of t.rules; restrictions = t.restrictions; lemmas = t.lemmas }
+theory_of t = record { symbols = t.symbols; equations = t.equations; rules = map rule_of t.rules; restrictions = t.restrictions; lemmas = t.lemmas }

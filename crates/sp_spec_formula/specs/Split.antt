@@ -1,15 +1,11 @@
 -- Split: a conjunction. Source: CSF 2012, "Constraint solving" (the rules on formulas).
 -- The elementary move and its contradiction: falsity is among the formulas.
 use Rattle.std.specs.Prelude.{List, [], ◌∷◌, Option, Some, None, option_map, Bool, true, false, ◌||◌}
-use Rattle.sp_spec.specs.Guarded.{Guarded, Guardeds, no_more, and_then, truth, all_of, falsity}
+use Rattle.sp_spec.specs.Guarded.{Guarded, truth, all_of, falsity}
 use Rattle.sp_spec_system.specs.System.{System}
-use Rattle.sp_spec_system.specs.Formulas.{first_formula, spending}
+use Rattle.sp_spec_system.specs.Formulas.{first_formula, parts_of, spending}
 
 -- Split: the parts of a conjunction stand in its place, and truth has none.
-abbrev pub parts_of : Guardeds → List Guarded
-parts_of no_more = []
-parts_of (and_then f fs) = f ∷ parts_of fs
-
 abbrev pub split_of : Guarded → Option (List Guarded)
 split_of truth = Some []
 split_of (all_of fs) = Some (parts_of fs)

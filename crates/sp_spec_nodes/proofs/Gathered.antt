@@ -1,18 +1,13 @@
 -- What is gathered over trees, such as a sum over all their nodes, is gathered over the list of the nodes.
 use Rattle.std.proofs.Common.{◌≡◌, ℕ, zero, suc, ◌+◌, List, [], ◌∷◌, take, drop, length, refl, sym, ap, ap₂, ◌∙◌, arith}
 use Rattle.sp_spec_nodes.specs.Preorder.{trees, AreTrees, first}
-use Rattle.sp_spec_nodes.proofs.Preorder.{count_trees}
+use Rattle.sp_spec_nodes.proofs.Preorder.{take_length, count_trees}
 
 -- one tree is the first of its list
 pub one_tree : {T : Type 0} (other : T) (ts : List T) → length ts ≡ 1 → ts ≡ first other ts ∷ []
 one_tree other [] e = absurd (omega (arith, e))
 one_tree other (t ∷ []) e = refl
 one_tree other (t ∷ u ∷ ts) e = absurd (omega (arith, e))
-
-pub length_taken : {T : Type 0} (n k : ℕ) (ts : List T) → length ts ≡ n + k → length (take n ts) ≡ n
-length_taken zero k ts e = refl
-length_taken (suc n) k [] e = absurd (omega (arith, e))
-length_taken (suc n) k (t ∷ ts) e = ap suc (length_taken n k ts (omega (arith, e)))
 
 module _ {A : Type 0} (join : A → A → A) (none : A) where
   -- what each gives, joined one behind the other
@@ -37,7 +32,7 @@ module _ {A : Type 0} (join : A → A → A) (none : A) where
           let ts : List T = trees cases over ns in
           let below : List T = take (cases n) ts in
           let behind : List T = drop (cases n) ts in
-          let many : length below ≡ cases n = length_taken (cases n) k ts (count_trees cases over (cases n + k) ns h) in
+          let many : length below ≡ cases n = take_length (cases n) k ts (count_trees cases over (cases n + k) ns h) in
           ap (λ (a : A). join a (gather f behind)) (at_root n below many)
           ∙ regroup (g n) (gather f below) (gather f behind)
           ∙ ap (join (g n)) (gather_split f (cases n) ts ∙ gather_trees (cases n + k) ns h)

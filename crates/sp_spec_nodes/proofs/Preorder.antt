@@ -7,7 +7,7 @@ drop_length zero k ts e = omega (arith, e)
 drop_length (suc n) k [] e = absurd (omega (arith, e))
 drop_length (suc n) k (t ∷ ts) e = drop_length n k ts (omega (arith, e))
 
-take_length : {T : Type 0} (n k : ℕ) (ts : List T) → length ts ≡ n + k → length (take n ts) ≡ n
+pub take_length : {T : Type 0} (n k : ℕ) (ts : List T) → length ts ≡ n + k → length (take n ts) ≡ n
 take_length zero k ts e = refl
 take_length (suc n) k [] e = absurd (omega (arith, e))
 take_length (suc n) k (t ∷ ts) e = ap suc (take_length n k ts (omega (arith, e)))

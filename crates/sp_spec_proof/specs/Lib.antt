@@ -1,4 +1,5 @@
 pub mod Cases
+pub mod Choice
 pub mod Growth
 pub mod Root
 pub mod Rows

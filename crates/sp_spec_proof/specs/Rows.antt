@@ -2,6 +2,7 @@
 -- simplification rules); Meier's thesis, chapter 3. Each elementary move is done at its lowest position.
 use Rattle.std.specs.Prelude.{List, [], ◌∷◌, Option, Some, None, ◌||◌, Bool, is_some, true, false, ℕ, zero, suc}
 use Rattle.sp_spec_system.specs.System.{System}
+use Rattle.sp_spec_system.specs.Rules.{Rules}
 use Rattle.sp_spec_formula.specs.Split.{split, has_falsity}
 use Rattle.sp_spec_formula.specs.Open.{open_existential}
 use Rattle.sp_spec_formula.specs.Unequal.{unequal, has_equal_pair}
@@ -33,39 +34,40 @@ pub data Row : Type 0 where
 abbrev pub rows : List Row
 rows = row_split ∷ row_open ∷ row_equate ∷ row_unequal ∷ row_order ∷ row_action_stands ∷ row_disjunction ∷ row_linear_once ∷ row_fresh_once ∷ row_fresh_first ∷ row_instantiate ∷ []
 
-abbrev pub by_row : Row → System → Option System
-by_row row_split s = split s
-by_row row_open s = open_existential s
-by_row row_equate s = equate s
-by_row row_unequal s = unequal s
-by_row row_order s = in_order s
-by_row row_action_stands s = action_stands s
-by_row row_disjunction s = disjunction s
-by_row row_linear_once s = linear_once s
-by_row row_fresh_once s = fresh_once s
-by_row row_fresh_first s = fresh_first s
-by_row row_instantiate s = instantiate s
+-- in the rules of a proof, of which none of these needs anything
+abbrev pub by_row : Rules → Row → System → Option System
+by_row rules row_split s = split s
+by_row rules row_open s = open_existential s
+by_row rules row_equate s = equate s
+by_row rules row_unequal s = unequal s
+by_row rules row_order s = in_order s
+by_row rules row_action_stands s = action_stands s
+by_row rules row_disjunction s = disjunction s
+by_row rules row_linear_once s = linear_once s
+by_row rules row_fresh_once s = fresh_once s
+by_row rules row_fresh_first s = fresh_first s
+by_row rules row_instantiate s = instantiate s
 
 abbrev pub first_of : Option System → Option System → Option System
 first_of (Some t) later = Some t
 first_of None later = later
 
 -- the first one that applies
-abbrev pub by_rows : List Row → System → Option System
-by_rows [] s = None
-by_rows (row ∷ more_rows) s = first_of (by_row row s) (by_rows more_rows s)
+abbrev pub by_rows : Rules → List Row → System → Option System
+by_rows rules [] s = None
+by_rows rules (row ∷ more_rows) s = first_of (by_row rules row s) (by_rows rules more_rows s)
 
 -- a row has a place at which the unification or the merge fails
 abbrev pub fails_somewhere : System → Bool
 fails_somewhere s = fails_to_equate s s.formulas || (fails_to_link s || fails_to_merge s)
 
-abbrev pub is_contradictory : System → Bool
-is_contradictory s =
+abbrev pub is_contradictory : Rules → System → Bool
+is_contradictory rules s =
     has_falsity s.formulas || (has_equal_pair s.unequal || (has_refuted s.order s.formulas || (is_cyclic s.order || (has_source_twice s || fails_somewhere s))))
 
 -- some row has a place, be it one at which it fails
-abbrev pub has_place : System → Bool
-has_place s = is_some (by_rows rows s) || fails_somewhere s
+abbrev pub has_place : Rules → System → Bool
+has_place rules s = is_some (by_rows rules rows s) || fails_somewhere s
 
 -- Simplification: contradictions are looked for before each elementary move.
 abbrev pub goes_on : Bool → Option System → (System → System) → System → System
@@ -73,10 +75,10 @@ goes_on true next again s = s
 goes_on false None again s = s
 goes_on false (Some t) again s = again t
 
-unfoldable pub simplified_by : ℕ → System → System
-simplified_by zero s = s
-simplified_by (suc n) s = goes_on (is_contradictory s) (by_rows rows s) (simplified_by n) s
+unfoldable pub simplified_by : Rules → ℕ → System → System
+simplified_by rules zero s = s
+simplified_by rules (suc n) s = goes_on (is_contradictory rules s) (by_rows rules rows s) (simplified_by rules n) s
 
 -- at most 10,000 elementary moves
-abbrev pub simplified : System → System
-simplified s = simplified_by 10000 s
+abbrev pub simplified : Rules → System → System
+simplified rules s = simplified_by rules 10000 s

@@ -9,4 +9,5 @@ pub mod Order
 pub mod Picked
 pub mod Solutions
 pub mod System
+pub mod Words
 pub mod Rules

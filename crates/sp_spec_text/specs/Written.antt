@@ -1,6 +1,6 @@
 -- A theory as a text writes it: its rules and lemmas in the order of the text, and the proofs that stand below lemmas.
 -- Source: Tamarin manual, "Theory files" and "Proofs".
-use Rattle.std.specs.Prelude.{ℕ, List, [], ◌∷◌, Option}
+use Rattle.std.specs.Prelude.{ℕ, List, [], ◌∷◌, ◌++◌, map, Option}
 use Rattle.sp_spec.specs.Theory.{Lemma}
 use Rattle.sp_spec.specs.Written.{WrittenRule, WrittenTheory}
 
@@ -30,21 +30,42 @@ pub record WrittenText : Type 0 where
 
 -- ---- the theory that is written
 
+-- what an item says: no rule or one
+abbrev pub item_rules : Item → List WrittenRule
+item_rules (rule_item r) = r ∷ []
+item_rules (lemma_item l p) = []
+
+-- no lemma or one, with its proof if it has one
+abbrev pub item_lemmas : Item → List (Lemma × Option WrittenProof)
+item_lemmas (rule_item r) = []
+item_lemmas (lemma_item l p) = (l, p) ∷ []
+
+-- in the order of the text
 abbrev pub rules_in : List Item → List WrittenRule
 rules_in [] = []
-rules_in (rule_item r ∷ items) = r ∷ rules_in items
-rules_in (lemma_item l p ∷ items) = rules_in items
+rules_in (x ∷ items) = item_rules x ++ rules_in items
+
+abbrev pub lemmas_with_proofs : List Item → List (Lemma × Option WrittenProof)
+lemmas_with_proofs [] = []
+lemmas_with_proofs (x ∷ items) = item_lemmas x ++ lemmas_with_proofs items
+
+abbrev pub without_proofs : List (Lemma × Option WrittenProof) → List Lemma
+without_proofs ls = map (λ (q : Lemma × Option WrittenProof). q.0) ls
 
 abbrev pub lemmas_in : List Item → List Lemma
-lemmas_in [] = []
-lemmas_in (rule_item r ∷ items) = lemmas_in items
-lemmas_in (lemma_item l p ∷ items) = l ∷ lemmas_in items
+lemmas_in items = without_proofs (lemmas_with_proofs items)
 
 -- the proof of each lemma, where it has one
 abbrev pub proofs_in : List Item → List (Option WrittenProof)
-proofs_in [] = []
-proofs_in (rule_item r ∷ items) = proofs_in items
-proofs_in (lemma_item l p ∷ items) = p ∷ proofs_in items
+proofs_in items = map (λ (q : Lemma × Option WrittenProof). q.1) (lemmas_with_proofs items)
 
+-- the items with these proofs in the places of their own, one for each lemma
+abbrev pub with_proofs : List Item → List (Option WrittenProof) → List Item
+with_proofs [] proofs = []
+with_proofs (rule_item r ∷ items) proofs = rule_item r ∷ with_proofs items proofs
+with_proofs (lemma_item l p ∷ items) [] = lemma_item l p ∷ with_proofs items []
+with_proofs (lemma_item l p ∷ items) (q ∷ proofs) = lemma_item l q ∷ with_proofs items proofs
+
+-- no item adds symbols, equations or restrictions yet
 abbrev pub theory_in : WrittenText → WrittenTheory
-theory_in t = record { name = t.name; rules = rules_in t.items; restrictions = []; lemmas = lemmas_in t.items }
+theory_in t = record { name = t.name; symbols = []; equations = []; rules = rules_in t.items; restrictions = []; lemmas = lemmas_in t.items }

@@ -1,4 +1,11 @@
 pub mod Pairs
 pub mod Paths
-pub mod Peeled
-pub mod Noted
+pub mod WithoutSinks
+pub mod EndsKept
+pub mod Frees
+pub mod FreedTerms
+pub mod MergingSearches
+pub mod Merges
+pub mod MergingPlaces
+pub mod Spends
+pub mod Listed

@@ -29,6 +29,6 @@ begins_at i [] = false
 begins_at i (p ∷ pairs) = (p.0 == i) || begins_at i pairs
 
 -- the pairs that are kept, and of the others those that end where one begins that is left by then
-abbrev pub peeled : List (ℕ × ℕ) → List (ℕ × ℕ) → List (ℕ × ℕ)
-peeled kept [] = kept
-peeled kept (p ∷ rest) = if begins_at p.1 kept || begins_at p.1 (p ∷ rest) then peeled (kept ++ p ∷ []) rest else peeled kept rest
+abbrev pub without_sinks : List (ℕ × ℕ) → List (ℕ × ℕ) → List (ℕ × ℕ)
+without_sinks kept [] = kept
+without_sinks kept (p ∷ rest) = if begins_at p.1 kept || begins_at p.1 (p ∷ rest) then without_sinks (kept ++ p ∷ []) rest else without_sinks kept rest

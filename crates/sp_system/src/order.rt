@@ -2,9 +2,11 @@
 
 ghost use Rattle.std.specs.Prelude.{◌≡◌, [], IfOk, OnOk, length};
 ghost use Rattle.sp_spec_system.specs.Order as spec;
+ghost use Rattle.sp_spec_system.specs.System.{with_pairs};
 ghost use Rattle.sp_system.specs.OrderView as view;
+ghost use Rattle.sp_system.specs.SystemView.{system_of};
 
-use crate::system::copy_order;
+use crate::system::{System, copy_order};
 use std::alloc::{AllocError, Global};
 
 pub(crate) fn is_among(time: u128, times: &Vec<u128>) -> bool
@@ -84,8 +86,8 @@ fn begins_at(time: u128, pairs: &[(u128, u128)]) -> bool
 }
 
 // The pairs but for those that end where none begins that is left by then: they are on no cycle.
-fn peeled(alloc: Global, pairs: &Vec<(u128, u128)>) -> Result<Vec<(u128, u128)>, AllocError>
-    ensures { IfOk result (λ ps. ps.items ≡ view.peeled [] pairs.now.items) }
+fn without_sinks(alloc: Global, pairs: &Vec<(u128, u128)>) -> Result<Vec<(u128, u128)>, AllocError>
+    ensures { IfOk result (λ ps. ps.items ≡ view.without_sinks [] pairs.now.items) }
 {
     let mut kept = Vec::new(alloc);
     let mut rest = pairs.as_slice();
@@ -108,11 +110,23 @@ pub fn is_cyclic(alloc: Global, order: &Vec<(u128, u128)>) -> Result<bool, Alloc
 {
     let mut left = copy_order(alloc, order)?;
     while !left.is_empty() {
-        let next = peeled(alloc, &left)?;
+        let next = without_sinks(alloc, &left)?;
         if next.len() == left.len() {
             return Ok(true);
         }
         left = next;
     }
     Ok(false)
+}
+
+/// Adds these order pairs.
+///
+/// # Errors
+///
+/// `AllocError` where memory is wanting.
+pub fn add_pairs(system: &mut System, mut pairs: Vec<(u128, u128)>) -> Result<(), AllocError>
+    ensures { OnOk result (system_of system.new ≡ with_pairs (system_of system.old) pairs.items) }
+{
+    system.order.append(&mut pairs)?;
+    Ok(())
 }

@@ -1,6 +1,7 @@
 // The pairs of terms that make facts, actions and steps the same.
 
 ghost use Rattle.std.specs.Prelude.{◌≡◌, IfOk, map, option_map};
+ghost use Rattle.sp_term.specs.Bindings.{bindings};
 ghost use Rattle.sp_term.specs.View.{view_all};
 ghost use Rattle.sp_spec_system.specs.Equating as equating;
 ghost use Rattle.sp_fact.specs.View.{fact_of, action_of};
@@ -8,7 +9,9 @@ ghost use Rattle.sp_system.specs.SystemView.{event_of, pair_of};
 
 use crate::system::Event;
 use sp_fact::fact::{Action, Fact};
+use sp_term::subst::Subst;
 use sp_term::term::{Term, copy};
+use sp_unify::unify::mgu;
 use std::alloc::{AllocError, Global};
 
 /// The pairs of the arguments at each place, if there are as many of the one as of the other.
@@ -133,4 +136,22 @@ pub fn merging_pairs(
     made.append(&mut actions)?;
     made.append(&mut conclusions)?;
     Ok(Some(made))
+}
+
+/// The unifier of the pairs, if there are pairs and they have one.
+///
+/// # Errors
+///
+/// `AllocError` where memory is wanting.
+pub fn unifier_of(
+    alloc: Global,
+    pairs: Option<Vec<(Term, Term)>>,
+) -> Result<Option<Subst>, AllocError>
+    ensures { IfOk result (λ o. option_map bindings o ≡ equating.unifier_of (option_map (λ ps. map pair_of ps.items) pairs)) }
+{
+    let Some(pairs) = pairs else {
+        return Ok(None);
+    };
+    let subst = mgu(alloc, &pairs)?;
+    Ok(subst)
 }

@@ -1,6 +1,6 @@
 // Systems in memory.
 
-ghost use Rattle.std.specs.Prelude.{◌≡◌, [], ◌∷◌, ◌++◌, if◌then◌else◌, IfOk, bytes_eq, drop, map};
+ghost use Rattle.std.specs.Prelude.{◌≡◌, [], ◌∷◌, ◌++◌, if◌then◌else◌, IfOk, OnOk, bytes_eq, drop, map};
 ghost use Rattle.sp_spec.specs.Substitution.{bound_to};
 ghost use Rattle.sp_term.specs.Bindings.{bindings};
 ghost use Rattle.sp_spec_system.specs.Equating.{event_changed, pair_changed, link_changed, same_source, same_premise, has_link, joined_links, order_changed, system_changed};
@@ -346,5 +346,36 @@ impl System {
     {
         let made = self.changed(alloc, subst, 0, 0)?;
         Ok(made)
+    }
+    /// Replaces each bound variable, and puts the time `small` in place of `large`.
+    ///
+    /// # Errors
+    ///
+    /// `AllocError` where memory is wanting.
+    pub fn change(
+        &mut self,
+        alloc: Global,
+        subst: &Subst,
+        small: u128,
+        large: u128,
+    ) -> Result<(), AllocError>
+        ensures { OnOk result (system_of self.new ≡ system_changed (bound_to (bindings subst.now)) (time_replaced small large) (system_of self.old)) }
+    {
+        let made = self.changed(alloc, subst, small, large)?;
+        *self = made;
+        Ok(())
+    }
+
+    /// Replaces each bound variable; the times stay.
+    ///
+    /// # Errors
+    ///
+    /// `AllocError` where memory is wanting.
+    pub fn change_terms(&mut self, alloc: Global, subst: &Subst) -> Result<(), AllocError>
+        ensures { OnOk result (system_of self.new ≡ system_changed (bound_to (bindings subst.now)) (λ i. i) (system_of self.old)) }
+    {
+        let made = self.with_terms(alloc, subst)?;
+        *self = made;
+        Ok(())
     }
 }

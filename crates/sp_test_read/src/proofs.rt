@@ -1,9 +1,9 @@
 // Proofs are read, and the trees are said that stand in them.
 
 use sp_check::{Skeleton, Step};
-use sp_moves::moves::Move;
 use sp_read_proof::proof;
 use sp_skel::skeleton;
+use sp_step::moves::Move;
 use sp_test_make::texts::tokens_in;
 use sp_written::{Method, WrittenProof};
 use std::alloc::{AllocError, Global};

@@ -5,11 +5,11 @@ ghost use Rattle.sp_search.specs.Kinds.{case_count};
 ghost use Rattle.sp_search.specs.NodeView.{node_at};
 
 use sp_log::log::Log;
-use sp_moves::moves::Move;
-use sp_moves::premise::Premise;
 use sp_search::{Node, OpenLeaf, Tree};
+use sp_skel::tree_text;
+use sp_step::moves::Move;
+use sp_step::premise::Premise;
 use sp_test_make::systems::system;
-use sp_text::tree_text;
 use std::alloc::{AllocError, Global};
 use std::test::Fail;
 
@@ -30,7 +30,7 @@ fn leaf(alloc: Global, chosen: Move) -> Result<Tree, AllocError> {
 fn open_leaf(alloc: Global) -> Result<Tree, AllocError> {
     let leaf = OpenLeaf {
         system: system(alloc, Vec::new(alloc), 0),
-        choice: Move::Simplify,
+        choice: None,
         depth: 1,
     };
     alone(alloc, Node::Open(Box::new(alloc, leaf)?))

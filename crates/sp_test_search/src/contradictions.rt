@@ -1,9 +1,9 @@
 // Contradictions, and simplification up to one.
 
-use crate::examples::{Sizes, sharing, sizes};
+use crate::examples::{Sizes, contradicts, no_rules, reduced, sharing, sizes};
 use sp_formula::formula::{Atom, Formula};
-use sp_rows::reduce::{Row, reduce};
-use sp_rows::simplify::{is_contradictory, simplified};
+use sp_step::reduce::Row;
+use sp_step::simplify::simplify;
 use sp_system::system::{Link, System};
 use sp_term::term::Sort;
 use sp_test_make::formulas::{before, free_constant, free_variable, same_time};
@@ -49,7 +49,7 @@ fn of_formulas(alloc: Global) -> Result<Vec<Case>, Fail> {
     let second = Atom::Same(message, free_constant(alloc, "d")?);
     let formulas = vec![in alloc; Formula::Holds(first), Formula::Holds(second)]?;
     let both = system(alloc, formulas, 9);
-    let apart = reduce(alloc, Row::Equate, &both)?.ok_or("no place")?;
+    let apart = reduced(alloc, Row::Equate, &both)?.ok_or("no place")?;
     Ok(vec![in alloc;
         (itself, true),
         (behind, false),
@@ -113,7 +113,7 @@ fn contradictions_are_seen(rt: HostRuntime) -> Result<(), Fail> {
     cases.append(&mut of_events(alloc)?)?;
     cases.append(&mut of_links(alloc)?)?;
     for (i, (given, wanted)) in cases.iter().enumerate() {
-        let found = is_contradictory(alloc, given)?;
+        let found = contradicts(alloc, given)?;
         assert_eq!(rt; found, *wanted, "{i}");
     }
     Ok(())
@@ -141,11 +141,13 @@ fn systems_are_simplified(rt: HostRuntime) -> Result<(), Fail> {
         (twice, false, (2, 0, 0, 0, 0, 9), false),
     ];
     for (given, before, wanted, after) in cases {
-        let found = is_contradictory(alloc, &given)?;
+        let found = contradicts(alloc, &given)?;
         assert_eq!(rt; found, before);
-        let made = simplified(alloc, given)?;
+        let parts = no_rules(alloc)?;
+        let mut made = given;
+        simplify(alloc, &parts.context().theory(), &mut made)?;
         assert_eq!(rt; sizes(&made), wanted);
-        let found = is_contradictory(alloc, &made)?;
+        let found = contradicts(alloc, &made)?;
         assert_eq!(rt; found, after);
     }
     Ok(())

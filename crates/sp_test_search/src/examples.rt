@@ -5,8 +5,10 @@ use sp_fact::fact::Facts;
 use sp_fact::rule::Rule;
 use sp_formula::formula::{Atom, Binder, Formula, FormulaTerm, Moment};
 use sp_ground::signature::Signature;
-use sp_moves::context::Context;
 use sp_solved::Sought;
+use sp_step::context::Context;
+use sp_step::reduce::{Row, reduce};
+use sp_step::simplify::is_contradictory;
 use sp_system::system::{Event, System};
 use sp_term::term::{Name, Sort};
 use sp_test_make::facts::{action, linear};
@@ -109,4 +111,23 @@ impl Parts {
             },
         }
     }
+}
+
+/// No rules, and what no system speaks of.
+pub fn no_rules(alloc: Global) -> Result<Parts, AllocError> {
+    Parts::new(alloc, Vec::new(alloc), Formula::Truth)
+}
+
+/// What the row makes of the system, if it applies.
+pub fn reduced(alloc: Global, row: Row, given: &System) -> Result<Option<System>, AllocError> {
+    let parts = no_rules(alloc)?;
+    let mut made = given.copy(alloc)?;
+    let applies = reduce(alloc, &parts.context().theory(), &mut made, row)?;
+    Ok(if applies { Some(made) } else { None })
+}
+
+/// Whether a contradiction is seen.
+pub fn contradicts(alloc: Global, given: &System) -> Result<bool, AllocError> {
+    let parts = no_rules(alloc)?;
+    is_contradictory(alloc, &parts.context().theory(), given)
 }

@@ -7,8 +7,8 @@ ghost use Rattle.sp_search.specs.NodeView.{node_at};
 use crate::examples::Parts;
 use sp_fact::rule::Rule;
 use sp_formula::formula::{Atom, Formula, FormulaTerm, Moment};
-use sp_moves::moves::Move;
-use sp_search::{Node, OpenLeaf, Tree, choice, grown_tree, is_finished, steps};
+use sp_search::{Node, OpenLeaf, Ranked, Tree, choice, grown_tree, is_finished, steps};
+use sp_step::moves::Move;
 use sp_term::term::Sort;
 use sp_test_make::facts::{action, actions_alone, rule};
 use sp_test_make::formulas::{acts, exists, free_constant, messages_and_times};
@@ -38,6 +38,12 @@ fn wanted(alloc: Global) -> Result<Formula, AllocError> {
     Ok(Formula::Holds(atom))
 }
 
+// the action of the first formula
+const ACTION: Ranked = Ranked {
+    rank: 5,
+    chosen: Move::Action(0),
+};
+
 // a node without cases
 fn alone(alloc: Global, node: Node) -> Result<Tree, AllocError>
     requires { case_count (node_at node) ≡ 0 }
@@ -47,7 +53,7 @@ fn alone(alloc: Global, node: Node) -> Result<Tree, AllocError>
     Ok(Tree { nodes })
 }
 
-fn open_leaf(alloc: Global, chosen: Move) -> Result<Tree, AllocError> {
+fn open_leaf(alloc: Global, chosen: Option<Ranked>) -> Result<Tree, AllocError> {
     let leaf = OpenLeaf {
         system: system_of_one(alloc, wanted(alloc)?, 1)?,
         choice: chosen,
@@ -84,8 +90,8 @@ fn contradiction(alloc: Global) -> Result<Tree, AllocError> {
 fn three_cases(alloc: Global) -> Result<Tree, AllocError> {
     let cases = vec![in alloc;
         case(alloc, "a", contradiction(alloc)?)?,
-        case(alloc, "b", open_leaf(alloc, Move::Action(0))?)?,
-        case(alloc, "c", open_leaf(alloc, Move::Simplify)?)?,
+        case(alloc, "b", open_leaf(alloc, Some(ACTION))?)?,
+        case(alloc, "c", open_leaf(alloc, None)?)?,
     ]?;
     over_all(alloc, Move::Simplify, cases)
 }
@@ -138,6 +144,6 @@ fn trees_are_grown(rt: HostRuntime) -> Result<(), Fail> {
     }
     let parts = Parts::new(alloc, rules(alloc)?, Formula::Truth)?;
     let root = system_of_one(alloc, wanted(alloc)?, 1)?;
-    assert_eq!(rt; choice(alloc, &parts.context(), &root)?, Move::Action(0));
+    assert_eq!(rt; choice(alloc, &parts.context(), &root)?, Some(ACTION));
     Ok(())
 }

@@ -1,8 +1,9 @@
 // Instances of universal formulas.
 
+use crate::examples::reduced;
 use sp_formula::formula::{Atom, Binder, Formula, FormulaTerm, Moment};
 use sp_formula::same::same_formula;
-use sp_rows::reduce::{Row, reduce};
+use sp_step::reduce::Row;
 use sp_system::system::{Event, System};
 use sp_term::term::{Sort, Term};
 use sp_test_make::facts::action;
@@ -36,7 +37,7 @@ fn over_one(alloc: Global, formula: Formula) -> Result<System, AllocError> {
 
 // whether the formula is what the next instance appends, or there is no instance and none is wanted
 fn gives(alloc: Global, given: &System, wanted: Option<&Formula>) -> Result<bool, AllocError> {
-    let made = reduce(alloc, Row::Instantiate, given)?;
+    let made = reduced(alloc, Row::Instantiate, given)?;
     Ok(match (&made, wanted) {
         (Some(made), Some(wanted)) => match made.formulas.last() {
             Some(last) => {

@@ -6,7 +6,7 @@ use sp_fact::fact::Facts;
 use sp_fact::rule::Rule;
 use sp_formula::formula::{Atom, Binder, Formula, FormulaTerm, Moment};
 use sp_log::log::Log;
-use sp_moves::moves::Move;
+use sp_step::moves::Move;
 use sp_term::term::Sort;
 use sp_test_make::facts::{action, linear, rule};
 use sp_test_make::formulas::{acts, exists, messages_and_times};

@@ -1,10 +1,10 @@
 // Each elementary move alone.
 
-use crate::examples::{Sizes, sharing, sizes, two_that_differ};
+use crate::examples::{Sizes, reduced, sharing, sizes, two_that_differ};
 use sp_fact::fact::Facts;
 use sp_formula::formula::{Atom, Formula, FormulaTerm, Moment};
 use sp_formula::same::same_formula;
-use sp_rows::reduce::{Row, reduce};
+use sp_step::reduce::Row;
 use sp_system::system::{Link, System};
 use sp_term::term::Sort;
 use sp_test_make::facts::linear;
@@ -26,7 +26,7 @@ fn case(given: System, rows: &'static [Row], wanted: Option<Sizes>) -> Case {
 fn made_by(alloc: Global, rows: &[Row], given: &System) -> Result<Option<System>, AllocError> {
     let mut made = given.copy(alloc)?;
     for row in rows {
-        let Some(next) = reduce(alloc, *row, &made)? else {
+        let Some(next) = reduced(alloc, *row, &made)? else {
             return Ok(None);
         };
         made = next;
@@ -225,7 +225,7 @@ fn orders_and_links_are_made(rt: HostRuntime) -> Result<(), Fail> {
         (received(alloc)?, Row::FreshFirst, Some((3, 2)), 0),
         (twice, Row::LinearOnce, None, 1),
     ] {
-        let made = reduce(alloc, row, &given)?.ok_or("no place")?;
+        let made = reduced(alloc, row, &given)?.ok_or("no place")?;
         assert_eq!(rt; made.order.first().copied(), order);
         assert_eq!(rt; made.links.len(), links);
     }
@@ -279,7 +279,7 @@ fn existentials_are_opened(rt: HostRuntime) -> Result<(), Fail> {
         (first_alone(alloc)?, 1, first),
     ] {
         let system = system_of_one(alloc, given, 4)?;
-        let made = reduce(alloc, Row::OpenExistential, &system)?.ok_or("no place")?;
+        let made = reduced(alloc, Row::OpenExistential, &system)?.ok_or("no place")?;
         let found = made.formulas.get(position).ok_or("no formula")?;
         assert!(rt; same_formula(found, &wanted), "{position}");
     }

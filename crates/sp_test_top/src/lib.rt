@@ -10,6 +10,8 @@ mod answers;
 #[cfg(test)]
 mod calls;
 #[cfg(test)]
+mod deep;
+#[cfg(test)]
 mod executions;
 #[cfg(test)]
 mod lemmas;

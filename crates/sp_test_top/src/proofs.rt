@@ -3,11 +3,10 @@
 // The places are counted by hand.
 
 use crate::calls::assert_answer;
-use std::alloc::{AllocError, Global};
 use std::test::Fail;
 
 /// The first theory up to its lemma.
-const THEORY: &str = "theory R1 begin
+pub(crate) const THEORY: &str = "theory R1 begin
 rule Make: [ Fr(~k) ] --[ A(~k) ]-> [ ]
 lemma once: \"All x #i #j. A(x)@i & A(x)@j ==> #i = #j\"
 ";
@@ -154,27 +153,6 @@ fn proofs_are_checked(rt: HostRuntime) -> Result<(), Fail> {
         let text = format!(in alloc; "{THEORY}{proof}end\n")?;
         let line = format!(in alloc; "once (all-traces): {said}\n")?;
         assert_answer(&rt, alloc, "check", text.as_str(), *status, line.as_str())?;
-    }
-    Ok(())
-}
-
-// the first theory with a proof of this many steps, each below the one before
-fn nested(alloc: Global, steps: usize) -> Result<String, AllocError> {
-    let mut text = String::from_str(alloc, THEORY)?;
-    for _step in 0..steps {
-        text.push_str("simplify\n")?;
-    }
-    text.push_str("by sorry\nend\n")?;
-    Ok(text)
-}
-
-#[test]
-fn deep_proofs_are_checked(rt: HostRuntime) -> Result<(), Fail> {
-    let alloc = rt.alloc();
-    let line = "once (all-traces): rejected at step 2 (instance)\n";
-    for steps in [10_000, 100_000] {
-        let text = nested(alloc, steps)?;
-        assert_answer(&rt, alloc, "check", text.as_str(), 3, line)?;
     }
     Ok(())
 }

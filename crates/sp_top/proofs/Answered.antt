@@ -12,34 +12,34 @@ use Rattle.sp_analysis.specs.declared.replies.Command.TheVariants as proofs
 use Rattle.sp_replay.specs.Replay.{IsUnread, IsStopped, IsReplay}
 use Rattle.sp_top.specs.declared.words.Command.{Command}
 use Rattle.sp_top.specs.declared.words.Command.TheVariants.{Replay}
-use Rattle.sp_top.specs.Command.{of_proofs}
-use Rattle.sp_top.specs.Answer.{IsDoneWith, TextAnswer, status_of}
+use Rattle.sp_top.specs.Command.{of_proofs, budget_in}
+use Rattle.sp_top.specs.Answer.{IsDoneWith, CommandAnswer, status_of}
 use Rattle.sp_top.specs.declared.Status.{Status}
 use Rattle.sp_top.specs.declared.Status.TheVariants.{Fine, Rejected, Refused}
 
-pub refusal : (command : Command) {bytes text : List ℕ} {place : ℕ} {status : Status} → IsRefusedAt bytes place → text ≡ codes "refused: text at byte " ++ (decimal place ++ codes "\n") → status ≡ Refused
-    → TextAnswer command bytes text status
-refusal command {place = place} n e f = inl (inl (record { place = place; refused = n; text_is = e; status_is = f }))
+pub refusal : (command : Command) (budget : ℕ) {bytes text : List ℕ} {place : ℕ} {status : Status} → IsRefusedAt bytes place → text ≡ codes "refused: text at byte " ++ (decimal place ++ codes "\n") → status ≡ Refused
+    → CommandAnswer command budget bytes text status
+refusal command budget {place = place} n e f = inl (inl (record { place = place; refused = n; text_is = e; status_is = f }))
 
-pub report : (command : Command) {bytes text : List ℕ} {status : Status} → IsReported bytes text → status ≡ Refused → TextAnswer command bytes text status
-report command r f = inl (inr (inl (record { report = r; status_is = f })))
+pub report : (command : Command) (budget : ℕ) {bytes text : List ℕ} {status : Status} → IsReported bytes text → status ≡ Refused → CommandAnswer command budget bytes text status
+report command budget r f = inl (inr (inl (record { report = r; status_is = f })))
 
-done_with : (command : asked.Command) (bytes text : List ℕ) (verdicts : List Verdict) (status : Status) → IsDone command bytes text verdicts → status ≡ status_of verdicts → IsDoneWith (of_proofs command) bytes text status
-done_with proofs.Prove bytes text verdicts status a e = record { outcomes = a.outcomes; analysis = a.analysis; status_is = e ∙ ap status_of a.verdicts_are }
+done_with : (command : asked.Command) (bytes text : List ℕ) (verdicts : List Verdict) (status : Status) → IsDone command bytes text verdicts → status ≡ status_of verdicts → IsDoneWith (of_proofs command) (budget_in command) bytes text status
+done_with (proofs.Prove budget) bytes text verdicts status a e = record { outcomes = a.outcomes; analysis = a.analysis; status_is = e ∙ ap status_of a.verdicts_are }
 done_with proofs.Check bytes text verdicts status a e = record { judged = a.judged; checking = a.checking; status_is = e ∙ ap status_of a.verdicts_are }
 
-pub done : (command : asked.Command) {bytes text : List ℕ} (verdicts : List Verdict) {status : Status} → IsDone command bytes text verdicts → status ≡ status_of verdicts → TextAnswer (of_proofs command) bytes text status
+pub done : (command : asked.Command) {bytes text : List ℕ} (verdicts : List Verdict) {status : Status} → IsDone command bytes text verdicts → status ≡ status_of verdicts → CommandAnswer (of_proofs command) (budget_in command) bytes text status
 done command {bytes} {text} verdicts {status} a e = inr (done_with command bytes text verdicts status a e)
 
 pub line_refusal : {bytes text : List ℕ} {number : ℕ} {status : Status} → IsUnread bytes number → text ≡ codes "refused: line " ++ (decimal number ++ codes "\n") → status ≡ Refused
-    → TextAnswer Replay bytes text status
+    → CommandAnswer Replay 0 bytes text status
 line_refusal {number = number} u e f = inl (inr (inr (record { replays = cc; number = number; unread = u; text_is = e; status_is = f })))
 
 pub step_refusal : {bytes text : List ℕ} {number : ℕ} {cause : Cause} {status : Status} → IsStopped bytes number cause
-    → text ≡ codes "step " ++ (decimal number ++ (codes " refused (" ++ (decimal (suc (rank cause)) ++ codes ")\n"))) → status ≡ Rejected → TextAnswer Replay bytes text status
+    → text ≡ codes "step " ++ (decimal number ++ (codes " refused (" ++ (decimal (suc (rank cause)) ++ codes ")\n"))) → status ≡ Rejected → CommandAnswer Replay 0 bytes text status
 step_refusal {number = number} {cause = cause} s e f = inr (inl (record { number = number; cause = cause; stopped = s; text_is = e; status_is = f }))
 
-pub replay_done : {bytes text : List ℕ} {status : Status} → IsReplay bytes text → status ≡ Fine → TextAnswer Replay bytes text status
+pub replay_done : {bytes text : List ℕ} {status : Status} → IsReplay bytes text → status ≡ Fine → CommandAnswer Replay 0 bytes text status
 replay_done r f = inr (inr (record { replay = r; status_is = f }))
 
 pub ruleset answers = (refusal, report, done, line_refusal, step_refusal, replay_done)

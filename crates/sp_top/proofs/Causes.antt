@@ -1,8 +1,9 @@
 -- Each status has its cause, since it is that of the whole answer.
-use Rattle.std.proofs.Common.{◌≡◌, ◌≢◌, ◌⊎◌, ◌≤◌, ◌<◌, ℕ, List, [], ◌∷◌, Option, Some, None, length, refl, sym, ap, subst, ◌∙◌, inl, inr, arith}
+use Rattle.std.proofs.Common.{◌≡◌, ◌≢◌, ◌⊎◌, ◌≤◌, ◌<◌, ℕ, List, [], ◌∷◌, Option, Some, None, length, take, refl, sym, ap, ap₂, subst, ◌∙◌, append-nil, inl, inr, arith}
 use Rattle.sp_io.specs.Told.{Rose, extended}
 use Rattle.sp_top.specs.Answer.{text_limit, TextAnswer, MayBeTooLong, MayBeText, IsFileAnswer, IsLineAnswer, IsAnswer}
-use Rattle.sp_top.specs.Command.{command_word, IsLine, IsNoLine}
+use Rattle.sp_spec.specs.Lists.{Member}
+use Rattle.sp_top.specs.Command.{Request, fetched, IsAbout, command_word, request_for, IsLine, IsNoLine}
 use Rattle.sp_top.specs.Run.{IsCutShort, UsageExactly, ReadFaultExactly, TooLongExactly, AnswersExactly, HasVerdicts, IsRight, VerdictsHold}
 use Rattle.sp_top.specs.declared.words.Command.{Command}
 use Rattle.sp_top.specs.declared.words.Command.TheVariants.{Prove, Check, Replay}
@@ -25,23 +26,42 @@ same_command Replay Prove e = let f : 114 ≡ 112 = ap first_byte e in absurd (o
 same_command Replay Check e = let f : 114 ≡ 99 = ap first_byte e in absurd (omega (arith, f))
 same_command Replay Replay e = refl
 
--- a line names one command and one file
-pub line_names_one : (words : List (List ℕ)) (command other_command : Command) (file other : List ℕ) → IsLine words command file → IsLine words other_command other → (command ≡ other_command) × (file ≡ other)
-line_names_one words command other_command file other (_, p, e) (_, q, f) = let same : command_word command ≡ command_word other_command = cc in (same_command command other_command same, cc)
+-- a line asks for one thing
+pub line_asks_one : (words : List (List ℕ)) (request other : Request) → IsLine words request → IsLine words other → request ≡ other
+line_asks_one words request other (command, file, (is, p, e), here) (command', file', (is', q, f), there) =
+    let word : command_word command ≡ command_word command' = cc in
+    let name : file ≡ file' = cc in
+    here ∙ ap₂ request_for (same_command command command' word) name ∙ sym there
+
+-- what is fetched is the text that it is about
+pub line_about : (words : List (List ℕ)) (request : Request) (file : List ℕ) → IsLine words request → Member file (fetched request) → IsAbout request file
+line_about words request file (command, name, says, is) m = at (subst (λ (x : Request). Member file (fetched x)) is m)
+  where
+    at : Member file (name ∷ []) → IsAbout request file
+    at (inl e) = ap fetched is ∙ ap (λ (x : List ℕ). x ∷ []) e
+    at (inr none) = absurd none
+
+pub about_member : (request : Request) (file : List ℕ) → IsAbout request file → Member file (fetched request)
+about_member request file about = subst (Member file) (sym about) (inl refl)
+
+pub about_one : (request other : Request) (file name : List ℕ) → request ≡ other → IsAbout request file → IsAbout other name → file ≡ name
+about_one request other file name same a b =
+    let e : file ∷ [] ≡ name ∷ [] = sym a ∙ ap fetched same ∙ b in
+    cc
 
 -- the whole answer, or the cause why there is none
 abbrev pub Ends : List (List ℕ) → (List ℕ → Option (Option (List ℕ))) → ℕ → ℕ → Status → Type 0
 Ends words holds before now status = IsCutShort status ⊎ ((text : List ℕ) × IsAnswer words holds before now text status)
 
--- the answer to a line is the answer to its file
-pub answer_of_line : (words : List (List ℕ)) (holds : List ℕ → Option (Option (List ℕ))) (before now : ℕ) (text : List ℕ) (command : Command) (file : List ℕ) (status : Status)
-    → IsLine words command file → IsAnswer words holds before now text status → IsFileAnswer command (holds file) before now text status
-answer_of_line words holds before now text command file status line (inl usage) = absurd (usage.no_line command file line)
-answer_of_line words holds before now text command file status line (inr a) =
-    let same = line_names_one words a.command command a.file file a.line line in
-    let P : Command → Type 0 = λ done. IsFileAnswer done (holds a.file) before now text status in
-    let Q : List ℕ → Type 0 = λ name. IsFileAnswer command (holds name) before now text status in
-    subst Q same.1 (subst P same.0 a.answer)
+-- the answer to a line is the answer about its text
+pub answer_of_line : (words : List (List ℕ)) (holds : List ℕ → Option (Option (List ℕ))) (before now : ℕ) (text : List ℕ) (request : Request) (file : List ℕ) (status : Status)
+    → IsLine words request → IsAbout request file → IsAnswer words holds before now text status → IsFileAnswer request (holds file) before now text status
+answer_of_line words holds before now text request file status line about (inl usage) = absurd (usage.no_line request line)
+answer_of_line words holds before now text request file status line about (inr a) =
+    let same = line_asks_one words a.request request a.line line in
+    let P : Request → Type 0 = λ asked. IsFileAnswer asked (holds a.file) before now text status in
+    let Q : List ℕ → Type 0 = λ name. IsFileAnswer request (holds name) before now text status in
+    subst Q (about_one a.request request a.file file same a.about about) (subst P same a.answer)
 
 -- a status that is none of the two
 whole_is : (status other : Status) → status ≡ other → other ≢ WriteFault → other ≢ NoMemory → ¬ IsCutShort status
@@ -54,67 +74,68 @@ pub answer_is_whole : (words : List (List ℕ)) (holds : List ℕ → Option (Op
 answer_is_whole words holds before now text status (inl usage) = whole_is status Usage usage.status_is (λ e. cc) (λ e. cc)
 answer_is_whole words holds before now text status (inr a) = at a.answer
   where
-    at : IsFileAnswer a.command (holds a.file) before now text status → ¬ IsCutShort status
+    at : IsFileAnswer a.request (holds a.file) before now text status → ¬ IsCutShort status
     at (inl fault) = whole_is status ReadFault fault.status_is (λ e. cc) (λ e. cc)
     at (inr (inl long)) = whole_is status TooLong long.status_is (λ e. cc) (λ e. cc)
     at (inr (inr known)) =
-        let kind = text_status a.command known.bytes text status known.answer in
+        let kind = text_status a.request.command a.request.budget known.bytes text status known.answer in
         whole_is status status refl kind.write_fault kind.no_memory
 
 module _ (words : List (List ℕ)) (holds : List ℕ → Option (Option (List ℕ))) (before now : ℕ) where
   pub usage_exactly : (status : Status) → Ends words holds before now status → UsageExactly words status
   usage_exactly status (inl short) = record { cause = λ e. absurd (whole_is status Usage e (λ f. cc) (λ f. cc) short); comes = λ no_line whole. absurd (whole short) }
   usage_exactly status (inr (text, inl usage)) = record { cause = λ e. usage.no_line; comes = λ no_line whole. usage.status_is }
-  usage_exactly status (inr (text, inr a)) = record { cause = cause a.answer; comes = λ no_line whole. absurd (no_line a.command a.file a.line) }
+  usage_exactly status (inr (text, inr a)) = record { cause = cause a.answer; comes = λ no_line whole. absurd (no_line a.request a.line) }
     where
-      cause : IsFileAnswer a.command (holds a.file) before now text status → status ≡ Usage → IsNoLine words
+      cause : IsFileAnswer a.request (holds a.file) before now text status → status ≡ Usage → IsNoLine words
       cause (inl fault) e = let f = fault.status_is in cc
       cause (inr (inl long)) e = let f = long.status_is in cc
-      cause (inr (inr known)) e = absurd ((text_status a.command known.bytes text status known.answer).usage e)
+      cause (inr (inr known)) e = absurd ((text_status a.request.command a.request.budget known.bytes text status known.answer).usage e)
 
   pub read_fault_exactly : (status : Status) → Ends words holds before now status → ReadFaultExactly words holds before now status
-  read_fault_exactly status (inl short) = record { cause = λ e. absurd (whole_is status ReadFault e (λ f. cc) (λ f. cc) short); comes = λ command file line absent whole. absurd (whole short) }
+  read_fault_exactly status (inl short) = record { cause = λ e. absurd (whole_is status ReadFault e (λ f. cc) (λ f. cc) short); comes = λ request file line among absent whole. absurd (whole short) }
   read_fault_exactly status (inr (text, answer)) =
-      record { cause = cause answer; comes = λ command file line absent whole. comes command file absent (answer_of_line words holds before now text command file status line answer) }
+      record { cause = cause answer; comes = λ request file line among absent whole. comes request file absent (answer_of_line words holds before now text request file status line (line_about words request file line among) answer) }
     where
-      cause_of : (a : IsLineAnswer words holds before now text status) → IsFileAnswer a.command (holds a.file) before now text status → status ≡ ReadFault
-          → (command : Command) × (file : List ℕ) × IsLine words command file × (Rose before now ⊎ (holds file ≡ Some None))
-      cause_of a (inl fault) e = (a.command, a.file, a.line, fault.cause)
+      cause_of : (a : IsLineAnswer words holds before now text status) → IsFileAnswer a.request (holds a.file) before now text status → status ≡ ReadFault
+          → (request : Request) × (file : List ℕ) × IsLine words request × Member file (fetched request) × (Rose before now ⊎ (holds file ≡ Some None))
+      cause_of a (inl fault) e = (a.request, a.file, a.line, about_member a.request a.file a.about, fault.cause)
       cause_of a (inr (inl long)) e = let f = long.status_is in cc
-      cause_of a (inr (inr known)) e = absurd ((text_status a.command known.bytes text status known.answer).read_fault e)
+      cause_of a (inr (inr known)) e = absurd ((text_status a.request.command a.request.budget known.bytes text status known.answer).read_fault e)
 
-      cause : IsAnswer words holds before now text status → status ≡ ReadFault → (command : Command) × (file : List ℕ) × IsLine words command file × (Rose before now ⊎ (holds file ≡ Some None))
+      cause : IsAnswer words holds before now text status → status ≡ ReadFault → (request : Request) × (file : List ℕ) × IsLine words request × Member file (fetched request) × (Rose before now ⊎ (holds file ≡ Some None))
       cause (inl usage) e = let f = usage.status_is in cc
       cause (inr a) e = cause_of a a.answer e
 
-      comes : (command : Command) (file : List ℕ) → holds file ≡ Some None → IsFileAnswer command (holds file) before now text status → status ≡ ReadFault
-      comes command file absent (inl fault) = fault.status_is
-      comes command file absent (inr (inl long)) = absurd (long.longer None absent)
-      comes command file absent (inr (inr known)) = let e = known.agrees.1 None absent in cc
+      comes : (request : Request) (file : List ℕ) → holds file ≡ Some None → IsFileAnswer request (holds file) before now text status → status ≡ ReadFault
+      comes request file absent (inl fault) = fault.status_is
+      comes request file absent (inr (inl long)) = absurd (long.longer None absent)
+      comes request file absent (inr (inr known)) = let e = known.agrees.1 None absent in cc
 
   pub too_long_exactly : (status : Status) → Ends words holds before now status → TooLongExactly words holds status
-  too_long_exactly status (inl short) = record { cause = λ e. absurd (whole_is status TooLong e (λ f. cc) (λ f. cc) short); comes = λ command file bytes line told more whole read. absurd (whole short) }
+  too_long_exactly status (inl short) = record { cause = λ e. absurd (whole_is status TooLong e (λ f. cc) (λ f. cc) short); comes = λ request file bytes line among told more whole read. absurd (whole short) }
   too_long_exactly status (inr (text, answer)) =
       record {
         cause = cause answer;
-        comes = λ command file bytes line told more whole read. comes command file bytes told more read (answer_of_line words holds before now text command file status line answer);
+        comes = λ request file bytes line among told more whole read.
+            comes request file bytes told more read (answer_of_line words holds before now text request file status line (line_about words request file line among) answer);
       }
     where
-      cause_of : (a : IsLineAnswer words holds before now text status) → IsFileAnswer a.command (holds a.file) before now text status → status ≡ TooLong
-          → (command : Command) × (file : List ℕ) × IsLine words command file × MayBeTooLong (holds file)
+      cause_of : (a : IsLineAnswer words holds before now text status) → IsFileAnswer a.request (holds a.file) before now text status → status ≡ TooLong
+          → (request : Request) × (file : List ℕ) × IsLine words request × Member file (fetched request) × MayBeTooLong (holds file)
       cause_of a (inl fault) e = let f = fault.status_is in cc
-      cause_of a (inr (inl long)) e = (a.command, a.file, a.line, long.longer)
-      cause_of a (inr (inr known)) e = absurd ((text_status a.command known.bytes text status known.answer).too_long e)
+      cause_of a (inr (inl long)) e = (a.request, a.file, a.line, about_member a.request a.file a.about, long.longer)
+      cause_of a (inr (inr known)) e = absurd ((text_status a.request.command a.request.budget known.bytes text status known.answer).too_long e)
 
-      cause : IsAnswer words holds before now text status → status ≡ TooLong → (command : Command) × (file : List ℕ) × IsLine words command file × MayBeTooLong (holds file)
+      cause : IsAnswer words holds before now text status → status ≡ TooLong → (request : Request) × (file : List ℕ) × IsLine words request × Member file (fetched request) × MayBeTooLong (holds file)
       cause (inl usage) e = let f = usage.status_is in cc
       cause (inr a) e = cause_of a a.answer e
 
-      comes : (command : Command) (file bytes : List ℕ) → holds file ≡ Some (Some bytes) → text_limit < length bytes → status ≢ ReadFault → IsFileAnswer command (holds file) before now text status
+      comes : (request : Request) (file bytes : List ℕ) → holds file ≡ Some (Some bytes) → text_limit < length bytes → status ≢ ReadFault → IsFileAnswer request (holds file) before now text status
           → status ≡ TooLong
-      comes command file bytes told more read (inl fault) = absurd (read fault.status_is)
-      comes command file bytes told more read (inr (inl long)) = long.status_is
-      comes command file bytes told more read (inr (inr known)) =
+      comes request file bytes told more read (inl fault) = absurd (read fault.status_is)
+      comes request file bytes told more read (inr (inl long)) = long.status_is
+      comes request file bytes told more read (inr (inr known)) =
           let e = known.agrees.1 (Some bytes) told in
           let same : bytes ≡ known.bytes = cc in
           absurd (omega (arith, ap length same, known.agrees.0, more))
@@ -123,55 +144,58 @@ module _ (words : List (List ℕ)) (holds : List ℕ → Option (Option (List �
   answers_exactly kind status is_text (inl short) =
       record {
         cause = λ e. absurd (whole_is status kind e is_text.write_fault is_text.no_memory short);
-        comes = λ command file bytes text line told within answer whole read. absurd (whole short);
+        comes = λ request file bytes text line about told within answer whole read. absurd (whole short);
       }
   answers_exactly kind status is_text (inr (text, answer)) =
       record {
         cause = cause answer;
-        comes = λ command file bytes other line told within answered whole read.
-            comes command file bytes other told within answered read (answer_of_line words holds before now text command file status line answer);
+        comes = λ request file bytes other line about told within answered whole read.
+            comes request file bytes other told within answered read (answer_of_line words holds before now text request file status line about answer);
       }
     where
-      cause_of : (a : IsLineAnswer words holds before now text status) → IsFileAnswer a.command (holds a.file) before now text status → status ≡ kind
-          → (command : Command) × (file bytes other : List ℕ) × IsLine words command file × MayBeText (holds file) bytes × TextAnswer command bytes other kind
+      cause_of : (a : IsLineAnswer words holds before now text status) → IsFileAnswer a.request (holds a.file) before now text status → status ≡ kind
+          → (request : Request) × (file bytes other : List ℕ) × IsLine words request × IsAbout request file × MayBeText (holds file) bytes × TextAnswer request bytes other kind
       cause_of a (inl fault) e = absurd (is_text.read_fault (sym e ∙ fault.status_is))
       cause_of a (inr (inl long)) e = absurd (is_text.too_long (sym e ∙ long.status_is))
       cause_of a (inr (inr known)) e =
-          let P : Status → Type 0 = λ s. TextAnswer a.command known.bytes text s in
-          (a.command, a.file, known.bytes, text, a.line, known.agrees, subst P e known.answer)
+          let P : Status → Type 0 = λ s. TextAnswer a.request known.bytes text s in
+          (a.request, a.file, known.bytes, text, a.line, a.about, known.agrees, subst P e known.answer)
 
       cause : IsAnswer words holds before now text status → status ≡ kind
-          → (command : Command) × (file bytes other : List ℕ) × IsLine words command file × MayBeText (holds file) bytes × TextAnswer command bytes other kind
+          → (request : Request) × (file bytes other : List ℕ) × IsLine words request × IsAbout request file × MayBeText (holds file) bytes × TextAnswer request bytes other kind
       cause (inl usage) e = absurd (is_text.usage (sym e ∙ usage.status_is))
       cause (inr a) e = cause_of a a.answer e
 
-      comes : (command : Command) (file bytes other : List ℕ) → holds file ≡ Some (Some bytes) → length bytes ≤ text_limit → TextAnswer command bytes other kind → status ≢ ReadFault
-          → IsFileAnswer command (holds file) before now text status → status ≡ kind
-      comes command file bytes other told within answered read (inl fault) = absurd (read fault.status_is)
-      comes command file bytes other told within answered read (inr (inl long)) =
+      comes : (request : Request) (file bytes other : List ℕ) → holds file ≡ Some (Some bytes) → length bytes ≤ text_limit → TextAnswer request bytes other kind → status ≢ ReadFault
+          → IsFileAnswer request (holds file) before now text status → status ≡ kind
+      comes request file bytes other told within answered read (inl fault) = absurd (read fault.status_is)
+      comes request file bytes other told within answered read (inr (inl long)) =
           let more : text_limit < length bytes = long.longer (Some bytes) told in
           absurd (omega (arith, within, more))
-      comes command file bytes other told within answered read (inr (inr known)) =
+      comes request file bytes other told within answered read (inr (inr known)) =
           let e = known.agrees.1 (Some bytes) told in
-          let P : List ℕ → Type 0 = λ b. TextAnswer command b text status in
+          let P : List ℕ → Type 0 = λ b. TextAnswer request b text status in
           let same : known.bytes ≡ bytes = cc in
-          status_is_one command bytes other text kind status answered (subst P same known.answer)
+          status_is_one request.command request.budget bytes other text kind status answered (subst P same known.answer)
 
   -- what an answer with verdicts says of each lemma is so
   pub answer_is_right : (text : List ℕ) (status : Status) → HasVerdicts status → IsAnswer words holds before now text status → IsRight words holds text status
   answer_is_right text status h (inl usage) = absurd ((verdicts_status status h).usage usage.status_is)
   answer_is_right text status h (inr a) = at a.answer
     where
-      at : IsFileAnswer a.command (holds a.file) before now text status → IsRight words holds text status
+      at : IsFileAnswer a.request (holds a.file) before now text status → IsRight words holds text status
       at (inl fault) = absurd ((verdicts_status status h).read_fault fault.status_is)
       at (inr (inl long)) = absurd ((verdicts_status status h).too_long long.status_is)
       at (inr (inr known)) = record {
-        command = a.command;
+        request = a.request;
         file = a.file;
         bytes = known.bytes;
         line = a.line;
+        about = a.about;
         text = known.agrees;
-        right = done_rightly a.command known.bytes text status (verdicts_are_done a.command known.bytes text status h known.answer);
+        right =
+            done_rightly a.request.command a.request.budget known.bytes text status
+            (verdicts_are_done a.request.command a.request.budget known.bytes text status h known.answer);
       }
 
   pub headline : (old new : Option (List ℕ)) (text : List ℕ) (status : Status) → IsAnswer words holds before now text status → new ≡ extended old text
@@ -188,14 +212,27 @@ module _ (words : List (List ℕ)) (holds : List ℕ → Option (Option (List �
   }
 
   -- a text that is told gets its answer
-  pub text_is_answered : (text : List ℕ) (command : Command) (file bytes : List ℕ) (status : Status) → IsFileAnswer command (holds file) before now text status
-      → holds file ≡ Some (Some bytes) → length bytes ≤ text_limit → ¬ Rose before now → TextAnswer command bytes text status
-  text_is_answered text command file bytes status (inl fault) told within still = elim fault.cause [ inl rose ↦ absurd (still rose) | inr absent ↦ cc ]
-  text_is_answered text command file bytes status (inr (inl long)) told within still =
+  pub text_is_answered : (text : List ℕ) (request : Request) (file bytes : List ℕ) (status : Status) → IsFileAnswer request (holds file) before now text status
+      → holds file ≡ Some (Some bytes) → length bytes ≤ text_limit → ¬ Rose before now → TextAnswer request bytes text status
+  text_is_answered text request file bytes status (inl fault) told within still = elim fault.cause [ inl rose ↦ absurd (still rose) | inr absent ↦ cc ]
+  text_is_answered text request file bytes status (inr (inl long)) told within still =
       let more : text_limit < length bytes = long.longer (Some bytes) told in
       absurd (omega (arith, within, more))
-  text_is_answered text command file bytes status (inr (inr known)) told within still =
+  text_is_answered text request file bytes status (inr (inr known)) told within still =
       let e = known.agrees.1 (Some bytes) told in
-      let P : List ℕ → Type 0 = λ b. TextAnswer command b text status in
+      let P : List ℕ → Type 0 = λ b. TextAnswer request b text status in
       let same : known.bytes ≡ bytes = cc in
       subst P same known.answer
+
+-- ---- what is asked of the library
+
+nothing_asked : {A : Type 0} (old : Option (List A)) → extended old [] ≡ old
+nothing_asked None = refl
+nothing_asked (Some told) = ap Some (append-nil told)
+
+pub asked_first : (words : List (List ℕ)) (request : Request) (old new : Option (List (List ℕ))) → IsLine words request → (new ≡ old) ⊎ (new ≡ extended old (fetched request))
+    → (n : ℕ) × (new ≡ extended old (take n (fetched request)))
+asked_first words request old new line (inl none) = (0, none ∙ sym (nothing_asked old))
+asked_first words request old new (command, file, says, is) (inr all) =
+    let about : IsAbout request file = ap fetched is in
+    (1, all ∙ ap (extended old) (about ∙ sym (ap (take 1) about)))

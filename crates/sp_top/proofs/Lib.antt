@@ -1,3 +1,4 @@
+pub mod Lines
 pub mod Causes
 pub mod TextStatus
 pub mod Answered

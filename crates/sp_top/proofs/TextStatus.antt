@@ -10,7 +10,7 @@ use Rattle.sp_analysis.proofs.Right.{verdicts_are_right_lem}
 use Rattle.sp_analysis.proofs.AnswersOne.{answers_are_one_lem}
 use Rattle.sp_analysis.proofs.Again.{written_is_checked_lem}
 use Rattle.sp_replay.proofs.One.{replies_are_one_lem}
-use Rattle.sp_top.specs.Answer.{IsRefusal, IsReport, IsLineRefusal, IsDoneWith, IsRefusedWith, TextAnswer, is_rejected, is_falsified, is_incomplete, status_of, verdicts_of, verdicts_on}
+use Rattle.sp_top.specs.Answer.{IsRefusal, IsReport, IsLineRefusal, IsDoneWith, IsRefusedWith, CommandAnswer, is_rejected, is_falsified, is_incomplete, status_of, verdicts_of, verdicts_on}
 use Rattle.sp_top.specs.Run.{HasVerdicts, DoneRightly}
 use Rattle.sp_top.specs.declared.Status.{Status}
 use Rattle.sp_top.specs.declared.Status.TheVariants.{Fine, Falsified, Incomplete, Rejected, Refused, Usage, ReadFault, WriteFault, NoMemory, TooLong}
@@ -62,82 +62,83 @@ chosen false false false = inl refl
 status_of_verdicts : (vs : List Verdict) → HasVerdicts (status_of vs)
 status_of_verdicts vs = chosen (list_any is_rejected vs) (list_any is_falsified vs) (list_any is_incomplete vs)
 
-done_status : (command : Command) (bytes text : List ℕ) (status : Status) → IsDoneWith command bytes text status → HasVerdicts status
-done_status Prove bytes text status a = subst HasVerdicts (sym a.status_is) (status_of_verdicts (verdicts_of a.outcomes))
-done_status Check bytes text status a = subst HasVerdicts (sym a.status_is) (status_of_verdicts (verdicts_on a.judged))
-done_status Replay bytes text status (inl s) = subst HasVerdicts (sym s.status_is) (inr (inr (inr refl)))
-done_status Replay bytes text status (inr r) = subst HasVerdicts (sym r.status_is) (inl refl)
+done_status : (command : Command) (budget : ℕ) (bytes text : List ℕ) (status : Status) → IsDoneWith command budget bytes text status → HasVerdicts status
+done_status Prove budget bytes text status a = subst HasVerdicts (sym a.status_is) (status_of_verdicts (verdicts_of a.outcomes))
+done_status Check budget bytes text status a = subst HasVerdicts (sym a.status_is) (status_of_verdicts (verdicts_on a.judged))
+done_status Replay budget bytes text status (inl s) = subst HasVerdicts (sym s.status_is) (inr (inr (inr refl)))
+done_status Replay budget bytes text status (inr r) = subst HasVerdicts (sym r.status_is) (inl refl)
 
 refused_with : (command : Command) (bytes text : List ℕ) (status : Status) → IsRefusedWith command bytes text status → status ≡ Refused
 refused_with command bytes text status (inl r) = r.status_is
 refused_with command bytes text status (inr (inl r)) = r.status_is
 refused_with command bytes text status (inr (inr r)) = r.status_is
 
-pub text_status : (command : Command) (bytes text : List ℕ) (status : Status) → TextAnswer command bytes text status → IsTextStatus status
-text_status command bytes text status (inl r) = subst IsTextStatus (sym (refused_with command bytes text status r)) refused_status
-text_status command bytes text status (inr done) = verdicts_status status (done_status command bytes text status done)
+pub text_status : (command : Command) (budget : ℕ) (bytes text : List ℕ) (status : Status) → CommandAnswer command budget bytes text status → IsTextStatus status
+text_status command budget bytes text status (inl r) = subst IsTextStatus (sym (refused_with command bytes text status r)) refused_status
+text_status command budget bytes text status (inr done) = verdicts_status status (done_status command budget bytes text status done)
 
 -- a text that is refused or reported on isn't done with, nor one of which a line is refused
-no_text_done : (command : Command) (bytes text other : List ℕ) (status another : Status) → IsRefusal bytes text status → IsDoneWith command bytes other another → ⊥
-no_text_done Prove bytes text other status another r a = answers_are_one_lem.no_analysis bytes other r.place a.outcomes r.refused a.analysis
-no_text_done Check bytes text other status another r a = answers_are_one_lem.no_checking bytes other r.place a.judged r.refused a.checking
-no_text_done Replay bytes text other status another r (inl s) = replies_are_one_lem.refused_or_stopped bytes r.place s.number s.cause r.refused s.stopped
-no_text_done Replay bytes text other status another r (inr a) = replies_are_one_lem.refused_or_done bytes other r.place r.refused a.replay
+no_text_done : (command : Command) (budget : ℕ) (bytes text other : List ℕ) (status another : Status) → IsRefusal bytes text status → IsDoneWith command budget bytes other another → ⊥
+no_text_done Prove budget bytes text other status another r a = answers_are_one_lem.no_analysis budget bytes other r.place a.outcomes r.refused a.analysis
+no_text_done Check budget bytes text other status another r a = answers_are_one_lem.no_checking bytes other r.place a.judged r.refused a.checking
+no_text_done Replay budget bytes text other status another r (inl s) = replies_are_one_lem.refused_or_stopped bytes r.place s.number s.cause r.refused s.stopped
+no_text_done Replay budget bytes text other status another r (inr a) = replies_are_one_lem.refused_or_done bytes other r.place r.refused a.replay
 
-reported_done : (command : Command) (bytes text other : List ℕ) (status another : Status) → IsReport bytes text status → IsDoneWith command bytes other another → ⊥
-reported_done Prove bytes text other status another r a = answers_are_one_lem.not_analysed bytes text other a.outcomes r.report a.analysis
-reported_done Check bytes text other status another r a = answers_are_one_lem.not_checked bytes text other a.judged r.report a.checking
-reported_done Replay bytes text other status another r (inl s) = replies_are_one_lem.reported_or_stopped bytes text s.number s.cause r.report s.stopped
-reported_done Replay bytes text other status another r (inr a) = replies_are_one_lem.reported_or_done bytes text other r.report a.replay
+reported_done : (command : Command) (budget : ℕ) (bytes text other : List ℕ) (status another : Status) → IsReport bytes text status → IsDoneWith command budget bytes other another → ⊥
+reported_done Prove budget bytes text other status another r a = answers_are_one_lem.not_analysed budget bytes text other a.outcomes r.report a.analysis
+reported_done Check budget bytes text other status another r a = answers_are_one_lem.not_checked bytes text other a.judged r.report a.checking
+reported_done Replay budget bytes text other status another r (inl s) = replies_are_one_lem.reported_or_stopped bytes text s.number s.cause r.report s.stopped
+reported_done Replay budget bytes text other status another r (inr a) = replies_are_one_lem.reported_or_done bytes text other r.report a.replay
 
-line_done : (command : Command) (bytes text other : List ℕ) (status another : Status) → IsLineRefusal command bytes text status → IsDoneWith command bytes other another → ⊥
-line_done Prove bytes text other status another r a = let e = r.replays in cc
-line_done Check bytes text other status another r a = let e = r.replays in cc
-line_done Replay bytes text other status another r (inl s) = replies_are_one_lem.stopped_or_unread bytes s.number r.number s.cause s.stopped r.unread
-line_done Replay bytes text other status another r (inr a) = replies_are_one_lem.done_or_unread bytes other r.number a.replay r.unread
+line_done : (command : Command) (budget : ℕ) (bytes text other : List ℕ) (status another : Status) → IsLineRefusal command bytes text status → IsDoneWith command budget bytes other another → ⊥
+line_done Prove budget bytes text other status another r a = let e = r.replays in cc
+line_done Check budget bytes text other status another r a = let e = r.replays in cc
+line_done Replay budget bytes text other status another r (inl s) = replies_are_one_lem.stopped_or_unread bytes s.number r.number s.cause s.stopped r.unread
+line_done Replay budget bytes text other status another r (inr a) = replies_are_one_lem.done_or_unread bytes other r.number a.replay r.unread
 
-refused_or_done : (command : Command) (bytes text other : List ℕ) (status another : Status) → IsRefusedWith command bytes text status → IsDoneWith command bytes other another → ⊥
-refused_or_done command bytes text other status another (inl r) a = no_text_done command bytes text other status another r a
-refused_or_done command bytes text other status another (inr (inl r)) a = reported_done command bytes text other status another r a
-refused_or_done command bytes text other status another (inr (inr r)) a = line_done command bytes text other status another r a
+refused_or_done : (command : Command) (budget : ℕ) (bytes text other : List ℕ) (status another : Status) → IsRefusedWith command bytes text status → IsDoneWith command budget bytes other another → ⊥
+refused_or_done command budget bytes text other status another (inl r) a = no_text_done command budget bytes text other status another r a
+refused_or_done command budget bytes text other status another (inr (inl r)) a = reported_done command budget bytes text other status another r a
+refused_or_done command budget bytes text other status another (inr (inr r)) a = line_done command budget bytes text other status another r a
 
-done_is_one : (command : Command) (bytes text other : List ℕ) (status another : Status) → IsDoneWith command bytes text status → IsDoneWith command bytes other another → another ≡ status
-done_is_one Prove bytes text other status another a b =
-    let same = (answers_are_one_lem.one bytes other text b.outcomes a.outcomes b.analysis a.analysis).1 in
+done_is_one : (command : Command) (budget : ℕ) (bytes text other : List ℕ) (status another : Status) → IsDoneWith command budget bytes text status → IsDoneWith command budget bytes other another → another ≡ status
+done_is_one Prove budget bytes text other status another a b =
+    let same = (answers_are_one_lem.one budget bytes other text b.outcomes a.outcomes b.analysis a.analysis).1 in
     b.status_is ∙ ap (λ (os : List Outcome). status_of (verdicts_of os)) same ∙ sym a.status_is
-done_is_one Check bytes text other status another a b =
+done_is_one Check budget bytes text other status another a b =
     let same = (answers_are_one_lem.one_check bytes other text b.judged a.judged b.checking a.checking).1 in
     b.status_is ∙ ap (λ (js : List Judged). status_of (verdicts_on js)) same ∙ sym a.status_is
-done_is_one Replay bytes text other status another (inl s) (inl t) = t.status_is ∙ sym s.status_is
-done_is_one Replay bytes text other status another (inl s) (inr b) = absurd (replies_are_one_lem.done_or_stopped bytes other s.number s.cause b.replay s.stopped)
-done_is_one Replay bytes text other status another (inr a) (inl t) = absurd (replies_are_one_lem.done_or_stopped bytes text t.number t.cause a.replay t.stopped)
-done_is_one Replay bytes text other status another (inr a) (inr b) = b.status_is ∙ sym a.status_is
+done_is_one Replay budget bytes text other status another (inl s) (inl t) = t.status_is ∙ sym s.status_is
+done_is_one Replay budget bytes text other status another (inl s) (inr b) = absurd (replies_are_one_lem.done_or_stopped bytes other s.number s.cause b.replay s.stopped)
+done_is_one Replay budget bytes text other status another (inr a) (inl t) = absurd (replies_are_one_lem.done_or_stopped bytes text t.number t.cause a.replay t.stopped)
+done_is_one Replay budget bytes text other status another (inr a) (inr b) = b.status_is ∙ sym a.status_is
 
 -- a text has one status, by each command
-pub status_is_one : (command : Command) (bytes text other : List ℕ) (status another : Status) → TextAnswer command bytes text status → TextAnswer command bytes other another → another ≡ status
-status_is_one command bytes text other status another (inl r) (inl q) = refused_with command bytes other another q ∙ sym (refused_with command bytes text status r)
-status_is_one command bytes text other status another (inl r) (inr a) = absurd (refused_or_done command bytes text other status another r a)
-status_is_one command bytes text other status another (inr a) (inl r) = absurd (refused_or_done command bytes other text another status r a)
-status_is_one command bytes text other status another (inr a) (inr b) = done_is_one command bytes text other status another a b
+pub status_is_one : (command : Command) (budget : ℕ) (bytes text other : List ℕ) (status another : Status) → CommandAnswer command budget bytes text status → CommandAnswer command budget bytes other another
+    → another ≡ status
+status_is_one command budget bytes text other status another (inl r) (inl q) = refused_with command bytes other another q ∙ sym (refused_with command bytes text status r)
+status_is_one command budget bytes text other status another (inl r) (inr a) = absurd (refused_or_done command budget bytes text other status another r a)
+status_is_one command budget bytes text other status another (inr a) (inl r) = absurd (refused_or_done command budget bytes other text another status r a)
+status_is_one command budget bytes text other status another (inr a) (inr b) = done_is_one command budget bytes text other status another a b
 
 -- what has verdicts is done with
-pub verdicts_are_done : (command : Command) (bytes text : List ℕ) (status : Status) → HasVerdicts status → TextAnswer command bytes text status → IsDoneWith command bytes text status
-verdicts_are_done command bytes text status h (inl r) = absurd (verdicts_or_refused status h (refused_with command bytes text status r))
-verdicts_are_done command bytes text status h (inr a) = a
+pub verdicts_are_done : (command : Command) (budget : ℕ) (bytes text : List ℕ) (status : Status) → HasVerdicts status → CommandAnswer command budget bytes text status → IsDoneWith command budget bytes text status
+verdicts_are_done command budget bytes text status h (inl r) = absurd (verdicts_or_refused status h (refused_with command bytes text status r))
+verdicts_are_done command budget bytes text status h (inr a) = a
 
 -- and what is said is so
-pub done_rightly : (command : Command) (bytes text : List ℕ) (status : Status) → IsDoneWith command bytes text status → DoneRightly command bytes text status
-done_rightly Prove bytes text status a = record {
+pub done_rightly : (command : Command) (budget : ℕ) (bytes text : List ℕ) (status : Status) → IsDoneWith command budget bytes text status → DoneRightly command budget bytes text status
+done_rightly Prove budget bytes text status a = record {
   outcomes = a.outcomes;
   analysis = a.analysis;
   status_is = a.status_is;
-  right = verdicts_are_right_lem.right bytes text a.outcomes a.analysis;
-  again = written_is_checked_lem.checked bytes text a.outcomes a.analysis;
+  right = verdicts_are_right_lem.right budget bytes text a.outcomes a.analysis;
+  again = written_is_checked_lem.checked budget bytes text a.outcomes a.analysis;
 }
-done_rightly Check bytes text status a = record {
+done_rightly Check budget bytes text status a = record {
   judged = a.judged;
   checking = a.checking;
   status_is = a.status_is;
   right = verdicts_are_right_lem.judged_right bytes text a.judged a.checking;
 }
-done_rightly Replay bytes text status a = a
+done_rightly Replay budget bytes text status a = a

@@ -1,14 +1,13 @@
 -- What is told of lemmas, line by line: each line that begins as a verdict's does is that of a lemma, and says what is so.
-use Rattle.std.proofs.Common.{◌≡◌, ℕ, List, [], ◌∷◌, ◌++◌, map, codes, Option, Some, None, refl, sym, ap, subst, ◌∙◌, append_assoc}
+use Rattle.std.proofs.Common.{◌≡◌, ℕ, false, List, [], ◌∷◌, ◌++◌, map, codes, Option, Some, None, refl, sym, ap, subst, ◌∙◌, append_assoc}
 use Rattle.std.specs.Prelude.{decimal}
 use Rattle.sp_spec.specs.Lists.{Member, Every}
 use Rattle.sp_spec.proofs.Lists.{every_member, every_weaken, newest_twice}
-use Rattle.sp_spec.specs.Rule.{Rule}
 use Rattle.sp_spec.specs.Theory.{TraceKind, all_traces, exists_trace, Theory, Lemma, signature_of}
 use Rattle.sp_spec.specs.Written.{theory_of}
 use Rattle.sp_spec.specs.Execution.{Step}
 use Rattle.sp_spec.specs.Log.{Log, visible_trace}
-use Rattle.sp_spec.specs.Verdict.{HoldsInAll, HoldsInNone, IsBrokenBy, IsSatisfiedBy}
+use Rattle.sp_spec.specs.Verdict.{HoldsInAll, HoldsInNone, IsBrokenBy, IsSatisfiedBy, names_learning, HoldsInAllLogs, HoldsInNoLog, IsBrokenByLog, IsSatisfiedByLog}
 use Rattle.sp_spec_text.specs.Written.{WrittenText, theory_in}
 use Rattle.sp_spec_text.specs.Texts.{IsTextOf}
 use Rattle.sp_spec_text.specs.Printed.{step_text}
@@ -16,7 +15,7 @@ use Rattle.sp_spec_text.specs.Verdict.{Verdict, verified, falsified, summary_lin
 use Rattle.sp_read_steps.specs.Lines.{IsWord, lines}
 use Rattle.sp_read_steps.proofs.PairNames.{pairs_have_names}
 use Rattle.sp_law_found.specs.Found.{execution_of}
-use Rattle.sp_law_shown.specs.Shown.{FoundBreaks, FoundSatisfies}
+use Rattle.sp_law_shown.proofs.Learning.{out_of_reading}
 use Rattle.sp_law_block.specs.Block.{oldest_first, block_of}
 use Rattle.sp_law_block.proofs.NoFeeds.{action_no_feed}
 use Rattle.sp_law_block.proofs.ReadBack.{steps_are_read_back_lem}
@@ -33,41 +32,44 @@ pub record Told : Type 0 where
   pub steps : ℕ
   pub log : Option Log
 
-abbrev pub told_text : List Rule → List Told → List ℕ
-told_text rules [] = []
-told_text rules (t ∷ ts) = summary_line t.lemma.name t.lemma.kind t.verdict t.steps ++ (block_of rules t.log ++ told_text rules ts)
+abbrev pub told_text : Theory → List Told → List ℕ
+told_text theory [] = []
+told_text theory (t ∷ ts) = summary_line t.lemma.name t.lemma.kind t.verdict t.steps ++ (block_of theory t.log ++ told_text theory ts)
 
 abbrev first_line : Told → List ℕ
 first_line t = verdict_line t.lemma.name t.lemma.kind t.verdict t.steps
 
-abbrev lines_below : List Rule → Option Log → List (List ℕ)
-lines_below rules None = []
-lines_below rules (Some log) = block_lines (oldest_first (execution_of rules log)) (oldest_first (visible_trace log))
+abbrev lines_below : Theory → Option Log → List (List ℕ)
+lines_below theory None = []
+lines_below theory (Some log) = block_lines (oldest_first (execution_of theory log)) (oldest_first (visible_trace log))
 
 -- it is told of a lemma of the text, and is so
 pub record IsRightlyTold (text : WrittenText) (t : Told) : Type 0 where
   pub stands : Member t.lemma (theory_in text).lemmas
   pub named : IsWord t.lemma.name
+  pub unlearnt : names_learning t.lemma.formula ≡ false
   pub means : Means (theory_of (theory_in text)) t.lemma.kind t.verdict t.log t.lemma
   pub read : AreReadBack (theory_of (theory_in text)) t.log
 
 -- ---- what verdicts mean
 
-means_proof : (theory : Theory) (log : Option Log) (lemma : Lemma) → Means theory all_traces verified log lemma → HoldsInAll theory lemma
-means_proof theory None lemma h = h
-means_proof theory (Some log) lemma h = absurd h
+-- what it means of a lemma that names no learning, and so is read over executions
+module _ (theory : Theory) (lemma : Lemma) (none : names_learning lemma.formula ≡ false) where
+  means_proof : (log : Option Log) → Means theory all_traces verified log lemma → HoldsInAll theory lemma
+  means_proof None h = out_of_reading lemma none (HoldsInAllLogs theory lemma) (HoldsInAll theory lemma) h
+  means_proof (Some log) h = absurd h
 
-means_refutation : (theory : Theory) (log : Option Log) (lemma : Lemma) → Means theory exists_trace falsified log lemma → HoldsInNone theory lemma
-means_refutation theory None lemma h = h
-means_refutation theory (Some log) lemma h = absurd h
+  means_refutation : (log : Option Log) → Means theory exists_trace falsified log lemma → HoldsInNone theory lemma
+  means_refutation None h = out_of_reading lemma none (HoldsInNoLog theory lemma) (HoldsInNone theory lemma) h
+  means_refutation (Some log) h = absurd h
 
-means_attack : (theory : Theory) (log : Option Log) (lemma : Lemma) → Means theory all_traces falsified log lemma → (l : Log) × (log ≡ Some l) × FoundBreaks theory lemma l
-means_attack theory None lemma h = absurd h
-means_attack theory (Some log) lemma h = (log, refl, h)
+  means_attack : (log : Option Log) → Means theory all_traces falsified log lemma → (l : Log) × (log ≡ Some l) × IsBrokenBy theory lemma (execution_of theory l)
+  means_attack None h = absurd h
+  means_attack (Some log) h = (log, refl, out_of_reading lemma none (IsBrokenByLog theory lemma log) (IsBrokenBy theory lemma (execution_of theory log)) h.in_reading)
 
-means_witness : (theory : Theory) (log : Option Log) (lemma : Lemma) → Means theory exists_trace verified log lemma → (l : Log) × (log ≡ Some l) × FoundSatisfies theory lemma l
-means_witness theory None lemma h = absurd h
-means_witness theory (Some log) lemma h = (log, refl, h)
+  means_witness : (log : Option Log) → Means theory exists_trace verified log lemma → (l : Log) × (log ≡ Some l) × IsSatisfiedBy theory lemma (execution_of theory l)
+  means_witness None h = absurd h
+  means_witness (Some log) h = (log, refl, out_of_reading lemma none (IsSatisfiedByLog theory lemma log) (IsSatisfiedBy theory lemma (execution_of theory log)) h.in_reading)
 
 -- ---- lines
 
@@ -75,38 +77,35 @@ module _ (text : WrittenText) where
   abbrev theory : Theory
   theory = theory_of (theory_in text)
 
-  abbrev rules : List Rule
-  rules = theory.rules
-
   abbrev block : Told → List (List ℕ)
-  block t = lines_below rules t.log
+  block t = lines_below theory t.log
 
   abbrev block_text : Told → List ℕ
-  block_text t = block_of rules t.log
+  block_text t = block_of theory t.log
 
   -- all lines of what is told
   abbrev pub all_lines : List Told → List (List ℕ)
   all_lines ts = section_lines first_line block ts
 
-  told_sections : (ts : List Told) → told_text rules ts ≡ sections_text first_line block block_text ts
+  told_sections : (ts : List Told) → told_text theory ts ≡ sections_text first_line block block_text ts
   told_sections [] = refl
   told_sections (t ∷ ts) =
-      ap (λ (xs : List ℕ). xs ++ (block_of rules t.log ++ told_text rules ts)) (summary_cut t.lemma.name t.lemma.kind t.verdict t.steps)
-      ∙ ap (λ (xs : List ℕ). (first_line t ++ 10 ∷ []) ++ (block_of rules t.log ++ xs)) (told_sections ts)
+      ap (λ (xs : List ℕ). xs ++ (block_of theory t.log ++ told_text theory ts)) (summary_cut t.lemma.name t.lemma.kind t.verdict t.steps)
+      ∙ ap (λ (xs : List ℕ). (first_line t ++ 10 ∷ []) ++ (block_of theory t.log ++ xs)) (told_sections ts)
 
-  block_is : (log : Option Log) → AreReadBack theory log → (behind : List ℕ) → lines (block_of rules log ++ behind) ≡ lines_below rules log ++ lines behind
+  block_is : (log : Option Log) → AreReadBack theory log → (behind : List ℕ) → lines (block_of theory log ++ behind) ≡ lines_below theory log ++ lines behind
   block_is None h behind = refl
   block_is (Some log) h behind =
-      block_cut (signature_of theory).symbols pairs_have_names (oldest_first (execution_of rules log)) (oldest_first (visible_trace log)) h.writable h.shown steps_are_read_back_lem
+      block_cut (signature_of theory).symbols pairs_have_names (oldest_first (execution_of theory log)) (oldest_first (visible_trace log)) h.writable h.shown steps_are_read_back_lem
       (action_no_feed (signature_of theory).symbols pairs_have_names) behind
 
-  block_silent : (log : Option Log) → AreReadBack theory log → Every IsNoVerdict (lines_below rules log)
+  block_silent : (log : Option Log) → AreReadBack theory log → Every IsNoVerdict (lines_below theory log)
   block_silent None h = tt
   block_silent (Some log) h =
-      block_no_verdict (signature_of theory).symbols pairs_have_names (oldest_first (execution_of rules log)) (oldest_first (visible_trace log)) h.writable h.shown
+      block_no_verdict (signature_of theory).symbols pairs_have_names (oldest_first (execution_of theory log)) (oldest_first (visible_trace log)) h.writable h.shown
       (action_no_feed (signature_of theory).symbols pairs_have_names)
 
-  pub told_lines : (ts : List Told) → Every (IsRightlyTold text) ts → (behind : List ℕ) → lines (told_text rules ts ++ behind) ≡ all_lines ts ++ lines behind
+  pub told_lines : (ts : List Told) → Every (IsRightlyTold text) ts → (behind : List ℕ) → lines (told_text theory ts ++ behind) ≡ all_lines ts ++ lines behind
   told_lines ts h behind =
       ap (λ (xs : List ℕ). lines (xs ++ behind)) (told_sections ts)
       ∙ sections_cut first_line block block_text ts
@@ -128,18 +127,18 @@ module _ (text : WrittenText) where
 
     -- the execution that stands below
     execution_there : (t : Told) → Member t ts → (log : Log) → t.log ≡ Some log → (below behind : List (List ℕ)) → below ≡ block t ++ behind → (IsSo : List Step → Type 0)
-        → IsSo (execution_of rules log) → IsExecutionBelow below theory IsSo
+        → IsSo (execution_of theory log) → IsExecutionBelow below theory IsSo
     execution_there t m log e below behind is IsSo so =
         let read = subst (AreReadBack theory) e (every_member (IsRightlyTold text) ts t m right).read in
-        let steps = oldest_first (execution_of rules log) in
+        let steps = oldest_first (execution_of theory log) in
         let entries = map entry_line (oldest_first (visible_trace log)) ++ codes "end of trace" ∷ [] in
         record {
           block = map step_text steps;
           behind = entries ++ behind;
-          lines_are = is ∙ ap (λ (o : Option Log). lines_below rules o ++ behind) e ∙ ap (λ (ls : List (List ℕ)). codes "execution:" ∷ ls) (append_assoc (map step_text steps) (codes "trace:" ∷ entries) behind);
+          lines_are = is ∙ ap (λ (o : Option Log). lines_below theory o ++ behind) e ∙ ap (λ (ls : List (List ℕ)). codes "execution:" ∷ ls) (append_assoc (map step_text steps) (codes "trace:" ∷ entries) behind);
           steps = steps;
           are_steps = read.read;
-          is_so = subst IsSo (sym (newest_twice (execution_of rules log))) so;
+          is_so = subst IsSo (sym (newest_twice (execution_of theory log))) so;
         }
 
     right_of : (t : Told) → Member t ts → (kind : TraceKind) (verdict : Verdict) → t.lemma.kind ≡ kind → t.verdict ≡ verdict → Means theory kind verdict t.log t.lemma
@@ -150,28 +149,31 @@ module _ (text : WrittenText) where
     word_of : (t : Told) → Member t ts → IsWord t.lemma.name
     word_of t m = (every_member (IsRightlyTold text) ts t m right).named
 
+    unlearnt_of : (t : Told) → Member t ts → names_learning t.lemma.formula ≡ false
+    unlearnt_of t m = (every_member (IsRightlyTold text) ts t m right).unlearnt
+
     pub lines_true : LinesAreTrue bytes told
     lines_true = record {
       proof = λ name n below w l.
           let b = beginning name (codes "all-traces): verified (" ++ (decimal n ++ codes " steps)")) w below l in
           let t = b.section in
           let s = tells_verified name t.lemma.name w (word_of t b.among) t.lemma.kind t.verdict n t.steps b.line_is in
-          (theory, t.lemma, lemma_there t b.among name all_traces s.name_is s.kind_is, means_proof theory t.log t.lemma (right_of t b.among all_traces verified s.kind_is s.verdict_is));
+          (theory, t.lemma, lemma_there t b.among name all_traces s.name_is s.kind_is, means_proof theory t.lemma (unlearnt_of t b.among) t.log (right_of t b.among all_traces verified s.kind_is s.verdict_is));
       attack = λ name n below w l.
           let b = beginning name (codes "all-traces): falsified - found trace (" ++ (decimal n ++ codes " steps)")) w below l in
           let t = b.section in
           let s = tells_attack name t.lemma.name w (word_of t b.among) t.lemma.kind t.verdict n t.steps b.line_is in
-          let f = means_attack theory t.log t.lemma (right_of t b.among all_traces falsified s.kind_is s.verdict_is) in
-          (theory, t.lemma, lemma_there t b.among name all_traces s.name_is s.kind_is, execution_there t b.among f.0 f.1 below b.behind b.below_is (IsBrokenBy theory t.lemma) f.2.by_steps);
+          let f = means_attack theory t.lemma (unlearnt_of t b.among) t.log (right_of t b.among all_traces falsified s.kind_is s.verdict_is) in
+          (theory, t.lemma, lemma_there t b.among name all_traces s.name_is s.kind_is, execution_there t b.among f.0 f.1 below b.behind b.below_is (IsBrokenBy theory t.lemma) f.2);
       witness = λ name n below w l.
           let b = beginning name (codes "exists-trace): verified (" ++ (decimal n ++ codes " steps)")) w below l in
           let t = b.section in
           let s = tells_witness name t.lemma.name w (word_of t b.among) t.lemma.kind t.verdict n t.steps b.line_is in
-          let f = means_witness theory t.log t.lemma (right_of t b.among exists_trace verified s.kind_is s.verdict_is) in
-          (theory, t.lemma, lemma_there t b.among name exists_trace s.name_is s.kind_is, execution_there t b.among f.0 f.1 below b.behind b.below_is (IsSatisfiedBy theory t.lemma) f.2.by_steps);
+          let f = means_witness theory t.lemma (unlearnt_of t b.among) t.log (right_of t b.among exists_trace verified s.kind_is s.verdict_is) in
+          (theory, t.lemma, lemma_there t b.among name exists_trace s.name_is s.kind_is, execution_there t b.among f.0 f.1 below b.behind b.below_is (IsSatisfiedBy theory t.lemma) f.2);
       refutation = λ name n below w l.
           let b = beginning name (codes "exists-trace): falsified - no trace found (" ++ (decimal n ++ codes " steps)")) w below l in
           let t = b.section in
           let s = tells_none name t.lemma.name w (word_of t b.among) t.lemma.kind t.verdict n t.steps b.line_is in
-          (theory, t.lemma, lemma_there t b.among name exists_trace s.name_is s.kind_is, means_refutation theory t.log t.lemma (right_of t b.among exists_trace falsified s.kind_is s.verdict_is));
+          (theory, t.lemma, lemma_there t b.among name exists_trace s.name_is s.kind_is, means_refutation theory t.lemma (unlearnt_of t b.among) t.log (right_of t b.among exists_trace falsified s.kind_is s.verdict_is));
     }

@@ -3,7 +3,7 @@ use Rattle.std.specs.Prelude.{◌≡◌, ◌⊎◌, ◌≤◌, ◌<◌, ℕ, suc
 use Rattle.std.specs.List.{list_any}
 use Rattle.std.specs.Option.{ForSome}
 use Rattle.sp_io.specs.Told.{Rose}
-use Rattle.sp_top.specs.Command.{IsLine, IsNoLine}
+use Rattle.sp_top.specs.Command.{Request, IsAbout, IsLine, IsNoLine}
 use Rattle.sp_top.specs.declared.Status.{Status}
 use Rattle.sp_top.specs.declared.Status.TheVariants.{Fine, Falsified, Incomplete, Rejected, Refused, Usage, ReadFault, TooLong}
 use Rattle.sp_top.specs.declared.Wanted.{Wanted}
@@ -70,10 +70,10 @@ verdicts_of os = map (λ (o : Outcome). o.verdict) os
 abbrev pub verdicts_on : List Judged → List Verdict
 verdicts_on js = map (λ (j : Judged). j.verdict) js
 
--- the text with the proof that is grown for each of its lemmas, and what is said of them
-pub record IsTried (bytes text : List ℕ) (status : Status) : Type 0 where
+-- the text with the proof of at most so many moves that is grown for each of its lemmas, and what is said of them
+pub record IsTried (budget : ℕ) (bytes text : List ℕ) (status : Status) : Type 0 where
   pub outcomes : List Outcome
-  pub analysis : IsAnalysis bytes text outcomes
+  pub analysis : IsAnalysis budget bytes text outcomes
   pub status_is : status ≡ status_of (verdicts_of outcomes)
 
 -- what is said of each lemma by the proof that stands below it
@@ -103,18 +103,22 @@ pub record IsReplayed (bytes text : List ℕ) (status : Status) : Type 0 where
   pub replay : IsReplay bytes text
   pub status_is : status ≡ Fine
 
-abbrev pub IsDoneWith : Command → List ℕ → List ℕ → Status → Type 0
-IsDoneWith Prove bytes text status = IsTried bytes text status
-IsDoneWith Check bytes text status = IsChecked bytes text status
-IsDoneWith Replay bytes text status = IsStepRefusal bytes text status ⊎ IsReplayed bytes text status
+abbrev pub IsDoneWith : Command → ℕ → List ℕ → List ℕ → Status → Type 0
+IsDoneWith Prove budget bytes text status = IsTried budget bytes text status
+IsDoneWith Check budget bytes text status = IsChecked bytes text status
+IsDoneWith Replay budget bytes text status = IsStepRefusal bytes text status ⊎ IsReplayed bytes text status
 
 -- the text, its theory or its lines are refused
 abbrev pub IsRefusedWith : Command → List ℕ → List ℕ → Status → Type 0
 IsRefusedWith command bytes text status = IsRefusal bytes text status ⊎ IsReport bytes text status ⊎ IsLineRefusal command bytes text status
 
--- what is answered to the bytes of a text
-abbrev pub TextAnswer : Command → List ℕ → List ℕ → Status → Type 0
-TextAnswer command bytes text status = IsRefusedWith command bytes text status ⊎ IsDoneWith command bytes text status
+-- what the command answers to the bytes of a text, within so many moves
+abbrev pub CommandAnswer : Command → ℕ → List ℕ → List ℕ → Status → Type 0
+CommandAnswer command budget bytes text status = IsRefusedWith command bytes text status ⊎ IsDoneWith command budget bytes text status
+
+-- what is answered to the bytes of a text, as it was asked for
+abbrev pub TextAnswer : Request → List ℕ → List ℕ → Status → Type 0
+TextAnswer request bytes text status = CommandAnswer request.command request.budget bytes text status
 
 -- whatever is told is more bytes than a text may have
 abbrev pub MayBeTooLong : Option (Option (List ℕ)) → Type 0
@@ -130,34 +134,35 @@ pub record IsUsage (words : List (List ℕ)) (text : List ℕ) (status : Status)
   pub text_is : text ≡ codes "refused: usage\n"
   pub status_is : status ≡ Usage
 
--- the library's count of faults rose, or it tells that it holds nothing under FILE
+-- the library's count of faults rose, or it tells that it holds nothing under the name
 pub record IsReadFault (told : Option (Option (List ℕ))) (before now : ℕ) (text : List ℕ) (status : Status) : Type 0 where
   pub cause : Rose before now ⊎ (told ≡ Some None)
   pub text_is : text ≡ codes "refused: read fault\n"
   pub status_is : status ≡ ReadFault
 
--- FILE has too many bytes
+-- the text has too many bytes
 pub record IsTooLong (told : Option (Option (List ℕ))) (text : List ℕ) (status : Status) : Type 0 where
   pub longer : MayBeTooLong told
   pub text_is : text ≡ codes "refused: text longer than 1048576 bytes\n"
   pub status_is : status ≡ TooLong
 
--- FILE has a text, and this is what is answered to it
-pub record IsTextAnswer (command : Command) (told : Option (Option (List ℕ))) (text : List ℕ) (status : Status) : Type 0 where
+-- there is a text, and this is what is answered to it
+pub record IsTextAnswer (request : Request) (told : Option (Option (List ℕ))) (text : List ℕ) (status : Status) : Type 0 where
   pub bytes : List ℕ
   pub agrees : MayBeText told bytes
-  pub answer : TextAnswer command bytes text status
+  pub answer : TextAnswer request bytes text status
 
--- what is answered to FILE, by what is told of it and the library's count of faults before and now
-abbrev pub IsFileAnswer : Command → Option (Option (List ℕ)) → ℕ → ℕ → List ℕ → Status → Type 0
-IsFileAnswer command told before now text status = IsReadFault told before now text status ⊎ IsTooLong told text status ⊎ IsTextAnswer command told text status
+-- what is answered, by what is told of the text that was asked for and the library's count of faults before and now
+abbrev pub IsFileAnswer : Request → Option (Option (List ℕ)) → ℕ → ℕ → List ℕ → Status → Type 0
+IsFileAnswer request told before now text status = IsReadFault told before now text status ⊎ IsTooLong told text status ⊎ IsTextAnswer request told text status
 
 -- the answer to a line of the command
 pub record IsLineAnswer (words : List (List ℕ)) (holds : List ℕ → Option (Option (List ℕ))) (before now : ℕ) (text : List ℕ) (status : Status) : Type 0 where
-  pub command : Command
+  pub request : Request
+  pub line : IsLine words request
   pub file : List ℕ
-  pub line : IsLine words command file
-  pub answer : IsFileAnswer command (holds file) before now text status
+  pub about : IsAbout request file
+  pub answer : IsFileAnswer request (holds file) before now text status
 
 -- the whole answer to the words
 abbrev pub IsAnswer : List (List ℕ) → (List ℕ → Option (Option (List ℕ))) → ℕ → ℕ → List ℕ → Status → Type 0

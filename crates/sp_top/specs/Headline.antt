@@ -10,7 +10,7 @@ use Rattle.sp_spec_text.specs.Written.{WrittenText, theory_in}
 use Rattle.sp_spec_text.specs.Texts.{IsTextOf}
 use Rattle.sp_read_steps.specs.Lines.{IsWord, lines, AreSteps}
 use Rattle.sp_law_again.specs.Behind.{IsBehindEnd}
-use Rattle.sp_top.specs.Command.{IsLine}
+use Rattle.sp_top.specs.Command.{Request, IsAbout, IsLine}
 use Rattle.sp_top.specs.Run.{HasVerdicts}
 use Rattle.sp_top.specs.declared.Status.{Status}
 use Rattle.sp_top.specs.declared.words.Command.{Command}
@@ -64,8 +64,8 @@ Tells Replay written told = ⊥
 
 -- Each verdict that stands written is so: where the library tells the bytes of the file, and the sink what stood there before and now.
 pub record VerdictsAreTrue (words : List (List ℕ)) (holds : List ℕ → Option (Option (List ℕ))) (old new : Option (List ℕ)) (status : Status) : Type 0 where
-  pub verdicts : (command : Command) (file bytes before written told : List ℕ) → IsLine words command file → holds file ≡ Some (Some bytes)
-      → old ≡ Some before → new ≡ Some (before ++ written) → HasVerdicts status → Tells command written told → LinesAreTrue bytes told
+  pub verdicts : (request : Request) (file bytes before written told : List ℕ) → IsLine words request → IsAbout request file → holds file ≡ Some (Some bytes)
+      → old ≡ Some before → new ≡ Some (before ++ written) → HasVerdicts status → Tells request.command written told → LinesAreTrue bytes told
   -- and `prove` tells them
-  pub told : (file bytes before written : List ℕ) → IsLine words Prove file → holds file ≡ Some (Some bytes)
+  pub told : (request : Request) (file bytes before written : List ℕ) → request.command ≡ Prove → IsLine words request → IsAbout request file → holds file ≡ Some (Some bytes)
       → old ≡ Some before → new ≡ Some (before ++ written) → HasVerdicts status → (told : List ℕ) × IsBehindEnd written told

@@ -1,11 +1,11 @@
 -- What the top call promises, clause by clause. `before` and `now` are a count of faults before and after the call.
-use Rattle.std.specs.Prelude.{◌≡◌, ◌≢◌, ◌⊎◌, ◌≤◌, ◌<◌, ℕ, List, [], ◌∷◌, Option, Some, None, length}
+use Rattle.std.specs.Prelude.{◌≡◌, ◌≢◌, ◌⊎◌, ◌≤◌, ◌<◌, ℕ, List, Option, Some, None, length, take}
 use Rattle.sp_io.specs.Told.{Rose, extended, IsExtendedByPrefix}
 use Rattle.sp_top.specs.Answer.{text_limit, status_of, verdicts_of, verdicts_on, IsStepRefusal, IsReplayed, TextAnswer, MayBeTooLong, MayBeText, IsAnswer}
-use Rattle.sp_top.specs.Command.{IsLine, IsNoLine}
+use Rattle.sp_top.specs.Command.{Request, fetched, IsAbout, IsLine, IsNoLine}
 use Rattle.sp_top.specs.declared.Status.{Status}
 use Rattle.sp_top.specs.declared.Status.TheVariants.{Fine, Falsified, Incomplete, Rejected, Usage, ReadFault, WriteFault, NoMemory, TooLong}
-use Rattle.sp_spec.specs.Lists.{Every}
+use Rattle.sp_spec.specs.Lists.{Member, Every}
 use Rattle.sp_spec.specs.Written.{theory_of}
 use Rattle.sp_analysis.specs.Analysis.{Outcome, IsAnalysis}
 use Rattle.sp_spec_text.specs.Written.{theory_in}
@@ -27,13 +27,13 @@ pub record UsageExactly (words : List (List ℕ)) (status : Status) : Type 0 whe
   pub cause : status ≡ Usage → IsNoLine words
   pub comes : IsNoLine words → ¬ IsCutShort status → status ≡ Usage
 
--- Each lemma of the text is tried, and each verdict is so. A lemma on all traces that is verified holds in every execution of the theory that
+-- Each lemma of the text is tried within so many moves, and each verdict is so. A lemma on all traces that is verified holds in every execution of the theory that
 -- the text says, steps of the adversary included, and one that is falsified is broken by the execution that is written behind its line. One
 -- on some trace that is verified is satisfied by that execution, and one that is falsified holds in none. What is written says the same theory
 -- with the proofs that were grown, and is checked as it was tried.
-pub record TriedRightly (bytes answer : List ℕ) (status : Status) : Type 0 where
+pub record TriedRightly (budget : ℕ) (bytes answer : List ℕ) (status : Status) : Type 0 where
   pub outcomes : List Outcome
-  pub analysis : IsAnalysis bytes answer outcomes
+  pub analysis : IsAnalysis budget bytes answer outcomes
   pub status_is : status ≡ status_of (verdicts_of outcomes)
   pub right : Every (λ (o : Outcome). Means (theory_of (theory_in analysis.theory)) o.lemma.kind o.verdict o.log o.lemma) outcomes
   pub again : IsCheckedAgain analysis.theory answer outcomes
@@ -47,37 +47,38 @@ pub record CheckedRightly (bytes answer : List ℕ) (status : Status) : Type 0 w
   pub right : Every (JudgedRightly (theory_in checking.theory)) judged
 
 -- The steps behind the text are an execution, whose trace is written with what is true over it, or the first that can't be done is named.
-abbrev pub DoneRightly : Command → List ℕ → List ℕ → Status → Type 0
-DoneRightly Prove bytes answer status = TriedRightly bytes answer status
-DoneRightly Check bytes answer status = CheckedRightly bytes answer status
-DoneRightly Replay bytes answer status = IsStepRefusal bytes answer status ⊎ IsReplayed bytes answer status
+abbrev pub DoneRightly : Command → ℕ → List ℕ → List ℕ → Status → Type 0
+DoneRightly Prove budget bytes answer status = TriedRightly budget bytes answer status
+DoneRightly Check budget bytes answer status = CheckedRightly bytes answer status
+DoneRightly Replay budget bytes answer status = IsStepRefusal bytes answer status ⊎ IsReplayed bytes answer status
 
 module _ (words : List (List ℕ)) (holds : List ℕ → Option (Option (List ℕ))) where
-  -- ReadFault comes only where the count of faults rose or absence is told, and always where absence is told
+  -- ReadFault comes only where the count of faults rose or absence is told of a text that is fetched, and always where absence is told
   pub record ReadFaultExactly (before now : ℕ) (status : Status) : Type 0 where
-    pub cause : status ≡ ReadFault → (command : Command) × (file : List ℕ) × IsLine words command file × (Rose before now ⊎ (holds file ≡ Some None))
-    pub comes : (command : Command) (file : List ℕ) → IsLine words command file → holds file ≡ Some None → ¬ IsCutShort status → status ≡ ReadFault
+    pub cause : status ≡ ReadFault → (request : Request) × (file : List ℕ) × IsLine words request × Member file (fetched request) × (Rose before now ⊎ (holds file ≡ Some None))
+    pub comes : (request : Request) (file : List ℕ) → IsLine words request → Member file (fetched request) → holds file ≡ Some None → ¬ IsCutShort status → status ≡ ReadFault
 
-  -- TooLong comes exactly where the bytes held under FILE are more than the limit
+  -- TooLong comes exactly where a text that is fetched has more bytes than the limit
   pub record TooLongExactly (status : Status) : Type 0 where
-    pub cause : status ≡ TooLong → (command : Command) × (file : List ℕ) × IsLine words command file × MayBeTooLong (holds file)
-    pub comes : (command : Command) (file bytes : List ℕ) → IsLine words command file → holds file ≡ Some (Some bytes) → text_limit < length bytes
+    pub cause : status ≡ TooLong → (request : Request) × (file : List ℕ) × IsLine words request × Member file (fetched request) × MayBeTooLong (holds file)
+    pub comes : (request : Request) (file bytes : List ℕ) → IsLine words request → Member file (fetched request) → holds file ≡ Some (Some bytes) → text_limit < length bytes
         → ¬ IsCutShort status → status ≢ ReadFault → status ≡ TooLong
 
   -- Fine, Falsified, Incomplete, Rejected and Refused come exactly where the answer to the text has them
   pub record AnswersExactly (kind status : Status) : Type 0 where
-    pub cause : status ≡ kind → (command : Command) × (file bytes text : List ℕ) × IsLine words command file × MayBeText (holds file) bytes × TextAnswer command bytes text kind
-    pub comes : (command : Command) (file bytes text : List ℕ) → IsLine words command file → holds file ≡ Some (Some bytes) → length bytes ≤ text_limit → TextAnswer command bytes text kind
+    pub cause : status ≡ kind → (request : Request) × (file bytes text : List ℕ) × IsLine words request × IsAbout request file × MayBeText (holds file) bytes × TextAnswer request bytes text kind
+    pub comes : (request : Request) (file bytes text : List ℕ) → IsLine words request → IsAbout request file → holds file ≡ Some (Some bytes) → length bytes ≤ text_limit → TextAnswer request bytes text kind
         → ¬ IsCutShort status → status ≢ ReadFault → status ≡ kind
 
-  -- the answer is that of the command to the bytes that FILE holds, and what it says of each lemma is so
+  -- the answer is the one that was asked for, to the bytes of the text, and what it says of each lemma is so
   pub record IsRight (answer : List ℕ) (status : Status) : Type 0 where
-    pub command : Command
+    pub request : Request
     pub file : List ℕ
     pub bytes : List ℕ
-    pub line : IsLine words command file
+    pub line : IsLine words request
+    pub about : IsAbout request file
     pub text : MayBeText (holds file) bytes
-    pub right : DoneRightly command bytes answer status
+    pub right : DoneRightly request.command request.budget bytes answer status
 
   -- The headline: what is written of each lemma is so. Where the sink failed, this is said of the answer of which a prefix stands.
   pub record VerdictsHold (before now : ℕ) (old new : Option (List ℕ)) (status : Status) : Type 0 where
@@ -94,8 +95,8 @@ module _ (words : List (List ℕ)) (holds : List ℕ → Option (Option (List �
 
   -- a text that is told and within the limit gets its answer, but for faults and want of memory
   pub record IsComplete (before now sink_before sink_now : ℕ) (old new : Option (List ℕ)) (status : Status) : Type 0 where
-    pub complete : (command : Command) (file bytes : List ℕ) → IsLine words command file → holds file ≡ Some (Some bytes) → length bytes ≤ text_limit
-        → ¬ Rose before now → ¬ Rose sink_before sink_now → (status ≡ NoMemory) ⊎ ((text : List ℕ) × TextAnswer command bytes text status × (new ≡ extended old text))
+    pub complete : (request : Request) (file bytes : List ℕ) → IsLine words request → IsAbout request file → holds file ≡ Some (Some bytes) → length bytes ≤ text_limit
+        → ¬ Rose before now → ¬ Rose sink_before sink_now → (status ≡ NoMemory) ⊎ ((text : List ℕ) × TextAnswer request bytes text status × (new ≡ extended old text))
 
 -- WriteFault comes only where the sink's count of faults rose
 pub record WriteFaultOnly (before now : ℕ) (status : Status) : Type 0 where
@@ -106,8 +107,8 @@ pub record WritesNothing (before now : ℕ) (old new : Option (List ℕ)) (statu
   pub written : status ≡ NoMemory → new ≡ old
   pub faults : status ≡ NoMemory → now ≡ before
 
--- FILE alone is fetched, and but for want of memory once; where the words are no line nothing is
-pub record AsksFileOnce (words : List (List ℕ)) (old new : Option (List (List ℕ))) (status : Status) : Type 0 where
+-- What the request fetches is asked of the library, and for want of memory perhaps only the first of it; where the words are no line nothing is
+pub record AsksAsRequested (words : List (List ℕ)) (old new : Option (List (List ℕ))) (status : Status) : Type 0 where
   pub no_line : IsNoLine words → new ≡ old
-  pub at_most : (command : Command) (file : List ℕ) → IsLine words command file → (new ≡ old) ⊎ (new ≡ extended old (file ∷ []))
-  pub once : (command : Command) (file : List ℕ) → IsLine words command file → status ≢ NoMemory → new ≡ extended old (file ∷ [])
+  pub at_most : (request : Request) → IsLine words request → (n : ℕ) × (new ≡ extended old (take n (fetched request)))
+  pub all : (request : Request) → IsLine words request → status ≢ NoMemory → new ≡ extended old (fetched request)

@@ -2,22 +2,22 @@
 // Below stand what tries the lemmas of a text or checks their proofs (sp_analysis), what replays the steps behind it (sp_replay), and the library
 // that texts come from and the sink that answers go to (sp_io). The program stands above and only makes the words, the library and the sink.
 // It promises that what is written of each lemma is so, that each status comes by its cause alone, that what is written is the whole
-// answer or, after a fault of the sink, a prefix of that very answer, and that FILE alone is fetched, once.
+// answer or, after a fault of the sink, a prefix of that very answer, and that what is fetched is what the words ask for.
 #![tactic(auto)]
 
 ghost use Rattle.std.specs.Prelude.{◌≡◌, ◌⊎◌, ◌++◌, [], ◌∷◌, ℕ, suc, List, OnOk, IfOk, map, codes, decimal};
 ghost use Rattle.std.specs.List.{list_any};
 ghost use Rattle.sp_io.specs.Told.{extended};
 ghost use Rattle.sp_top.specs.Answer as answer;
-ghost use Rattle.sp_top.specs.Answer.{TextAnswer, IsFileAnswer, IsAnswer};
+ghost use Rattle.sp_top.specs.Answer.{CommandAnswer, TextAnswer, IsFileAnswer, IsAnswer};
 ghost use Rattle.sp_exec.specs.Replay.{rank};
 ghost use Rattle.sp_exec.specs.View.{cause_of};
-ghost use Rattle.sp_top.specs.Command.{IsLine, IsNoLine, of_proofs};
+ghost use Rattle.sp_top.specs.Command as command;
+ghost use Rattle.sp_top.specs.Command.{IsLine, IsNoLine, fetched, request_of, of_proofs, budget_in};
 ghost use Rattle.sp_top.specs.Headline.{VerdictsAreTrue};
-ghost use Rattle.sp_top.specs.Run.{UsageExactly, ReadFaultExactly, TooLongExactly, AnswersExactly, VerdictsHold, WritesWhole, WritesPrefix, IsComplete, WriteFaultOnly, WritesNothing, AsksFileOnce};
+ghost use Rattle.sp_top.specs.Run.{UsageExactly, ReadFaultExactly, TooLongExactly, AnswersExactly, VerdictsHold, WritesWhole, WritesPrefix, IsComplete, WriteFaultOnly, WritesNothing, AsksAsRequested};
 ghost use Rattle.sp_top.specs.declared.Status.TheVariants.{Fine, Falsified, Incomplete, Rejected, Refused};
 ghost use Rattle.sp_analysis.specs.View.{verdict_of};
-ghost use Rattle.sp_top.specs.declared.words.Command.{Command};
 ghost use Rattle.sp_top.specs.declared.words.Command.TheVariants.{Replay};
 
 use sp_analysis::{Reply, Verdict};
@@ -27,7 +27,7 @@ use std::alloc::{AllocError, Global};
 
 mod words;
 
-pub use words::{Command, Words};
+pub use words::{Command, Request, Words};
 
 /// How many bytes a text may have.
 const TEXT_LIMIT: usize = 1_048_576;
@@ -156,7 +156,7 @@ fn step_refusal(alloc: Global, number: usize, cause: Cause) -> Result<(Vec<u8>, 
 /// The whole answer to the bytes of a text whose lines are replayed.
 #[tactic(auto, using(crate::proofs::Answered::answers))]
 fn answer_steps(alloc: Global, bytes: &[u8]) -> Result<(Vec<u8>, Status), AllocError>
-    ensures { IfOk result (λ answer. TextAnswer Replay bytes.now answer.0.items answer.1) }
+    ensures { IfOk result (λ answer. CommandAnswer Replay 0 bytes.now answer.0.items answer.1) }
 {
     match sp_replay::replayed(alloc, bytes)? {
         sp_replay::Reply::Refused(place) => refusal(alloc, place),
@@ -167,12 +167,12 @@ fn answer_steps(alloc: Global, bytes: &[u8]) -> Result<(Vec<u8>, Status), AllocE
     }
 }
 
-/// The whole answer to the bytes of a text.
-fn answer(alloc: Global, command: Command, bytes: &[u8]) -> Result<(Vec<u8>, Status), AllocError>
-    ensures { IfOk result (λ answer. TextAnswer command bytes.now answer.0.items answer.1) }
+/// The whole answer to the bytes of a text, as it was asked for.
+fn answer(alloc: Global, request: &Request, bytes: &[u8]) -> Result<(Vec<u8>, Status), AllocError>
+    ensures { IfOk result (λ answer. TextAnswer (request_of request.now) bytes.now answer.0.items answer.1) }
 {
-    match command {
-        Command::Prove => answer_proofs(alloc, sp_analysis::Command::Prove, bytes),
+    match request.command {
+        Command::Prove => answer_proofs(alloc, sp_analysis::Command::Prove(request.budget), bytes),
         Command::Check => answer_proofs(alloc, sp_analysis::Command::Check, bytes),
         Command::Replay => answer_steps(alloc, bytes),
     }
@@ -185,7 +185,7 @@ fn answer_proofs(
     command: sp_analysis::Command,
     bytes: &[u8],
 ) -> Result<(Vec<u8>, Status), AllocError>
-    ensures { IfOk result (λ answer. TextAnswer (of_proofs command) bytes.now answer.0.items answer.1) }
+    ensures { IfOk result (λ answer. CommandAnswer (of_proofs command) (budget_in command) bytes.now answer.0.items answer.1) }
 {
     match sp_analysis::answer(alloc, command, bytes)? {
         Reply::Refused(place) => refusal(alloc, place),
@@ -197,19 +197,18 @@ fn answer_proofs(
     }
 }
 
-/// The whole answer to FILE, which is fetched once.
+/// The whole answer to what is asked, whose text is fetched.
 fn answer_file<L: Library>(
     alloc: Global,
-    command: Command,
-    file: &str,
+    request: &Request,
     library: &mut L,
 ) -> Result<(Vec<u8>, Status), AllocError>
-    ensures answer { IfOk result (λ answer. IsFileAnswer command (L.holds library.old file.now) (L.faults library.old) (L.faults library.new) answer.0.items answer.1) }
-    ensures asked { (L.asked library.new ≡ L.asked library.old) ⊎ (L.asked library.new ≡ extended (L.asked library.old) (file.now ∷ [])) }
-    ensures asked_once { OnOk result (L.asked library.new ≡ extended (L.asked library.old) (file.now ∷ [])) }
+    ensures answer { IfOk result (λ answer. IsFileAnswer (request_of request.now) (L.holds library.old request.now.file.now) (L.faults library.old) (L.faults library.new) answer.0.items answer.1) }
+    ensures asked { (L.asked library.new ≡ L.asked library.old) ⊎ (L.asked library.new ≡ extended (L.asked library.old) (fetched (request_of request.now))) }
+    ensures asked_all { OnOk result (L.asked library.new ≡ extended (L.asked library.old) (fetched (request_of request.now))) }
 {
-    match library.fetch(alloc, file, TEXT_LIMIT) {
-        Ok(bytes) => answer(alloc, command, &bytes),
+    match library.fetch(alloc, request.file, TEXT_LIMIT) {
+        Ok(bytes) => answer(alloc, request, &bytes),
         Err(FetchFail::Failed) | Err(FetchFail::Missing) => fixed(
             alloc,
             b"refused: read fault\n",
@@ -232,11 +231,11 @@ fn respond<L: Library>(
 ) -> Result<(Vec<u8>, Status), AllocError>
     ensures answer { IfOk result (λ answer. IsAnswer words.now (L.holds library.old) (L.faults library.old) (L.faults library.new) answer.0.items answer.1) }
     ensures no_line { IsNoLine words.now → L.asked library.new ≡ L.asked library.old }
-    ensures asked { (command : Command) (file : List ℕ) → IsLine words.now command file → (L.asked library.new ≡ L.asked library.old) ⊎ (L.asked library.new ≡ extended (L.asked library.old) (file ∷ [])) }
-    ensures asked_once { OnOk result ((command : Command) (file : List ℕ) → IsLine words.now command file → L.asked library.new ≡ extended (L.asked library.old) (file ∷ [])) }
+    ensures asked { (request : command.Request) → IsLine words.now request → (L.asked library.new ≡ L.asked library.old) ⊎ (L.asked library.new ≡ extended (L.asked library.old) (fetched request)) }
+    ensures asked_all { OnOk result ((request : command.Request) → IsLine words.now request → L.asked library.new ≡ extended (L.asked library.old) (fetched request)) }
 {
     match words.line() {
-        Some((command, file)) => answer_file(alloc, command, file, library),
+        Some(request) => answer_file(alloc, &request, library),
         None => fixed(alloc, b"refused: usage\n", Status::Usage),
     }
 }
@@ -272,8 +271,8 @@ pub fn run<L: Library, K: Sink>(
     ensures no_memory { WritesNothing (K.faults out.old) (K.faults out.new) (K.written out.old) (K.written out.new) result }
     ensures completeness { IsComplete words.now (L.holds library.old) (L.faults library.old) (L.faults library.new) (K.faults out.old) (K.faults out.new) (K.written out.old) (K.written out.new) result }
 
-    // Nothing but FILE is fetched.
-    ensures asked { AsksFileOnce words.now (L.asked library.old) (L.asked library.new) result }
+    // Nothing is fetched but what the words ask for.
+    ensures asked { AsksAsRequested words.now (L.asked library.old) (L.asked library.new) result }
 {
     let (text, status) = match respond(alloc, words, library) {
         Ok(answer) => answer,

@@ -1,5 +1,5 @@
 ghost use Rattle.std.specs.Prelude.{◌≡◌, ◌++◌, ◌↔◌, List, [], ◌∷◌, ℕ, map, string_bytes, OnOk, OnErr, MatchOption, IsTrue};
-ghost use Rattle.sp_top.specs.Command.{IsFile, IsLine, IsNoLine, command_word};
+ghost use Rattle.sp_top.specs.Command.{IsFile, IsLine, IsNoLine, Say, command_word, request_of};
 
 use std::alloc::{AllocError, Global};
 use std::marker::Model;
@@ -13,6 +13,20 @@ pub enum Command {
     Check,
     /// The lines behind the theory are replayed as the steps of an execution.
     Replay,
+}
+
+/// How many moves a proof may have that is grown.
+const BUDGET: u64 = 10_000;
+
+/// What the words of a command ask for.
+#[derive(Drop)]
+pub struct Request<'a> {
+    /// what is to be done with a text
+    pub command: Command,
+    /// how many moves a proof may have that is grown
+    pub budget: u64,
+    /// the name of the text
+    pub file: &'a str,
 }
 
 /// The words of a command, the program's name first.
@@ -49,9 +63,24 @@ impl Words {
         Ok(())
     }
 
-    /// What the words ask to do, and with which file, where they are a line of the command.
-    pub(crate) fn line(&self) -> Option<(Command, &str)>
-        ensures { MatchOption result (IsNoLine self.now) (λ line. IsLine self.now line.0 line.1.now) }
+    /// What the words ask for, where they are a line of the command.
+    #[tactic(auto, using(crate::proofs::Lines::asks_this))]
+    pub(crate) fn line(&self) -> Option<Request<'_>>
+        ensures { MatchOption result (IsNoLine self.now) (λ request. IsLine self.now (request_of request)) }
+    {
+        match self.said() {
+            Some((command, file)) => Some(Request {
+                command,
+                budget: BUDGET,
+                file,
+            }),
+            None => None,
+        }
+    }
+
+    /// What the words say to do, and with which file.
+    fn said(&self) -> Option<(Command, &str)>
+        ensures { MatchOption result ((command : Command) (file : List ℕ) → ¬ Say self.now command file) (λ said. Say self.now said.0 said.1.now) }
     {
         if self.texts.len() != 3 {
             return None;

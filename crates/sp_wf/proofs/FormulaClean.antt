@@ -15,7 +15,7 @@ use Rattle.sp_guard.proofs.NoneUnguarded.{none_told as guarded_told}
 use Rattle.sp_wf.specs.Finding.{Finding, arity_above, without_binder, other_sort, mixed_at, told, are_none}
 use Rattle.sp_wf.specs.FormulaFindings.{wide_in, Role, as_message, as_time, Use, uses_as, role_of, uses, is_unbound, is_mixed, unbound_uses, other_uses, mixed_uses, wide_in_lemma, unbound_in_lemma, sorts_in_lemma, mixed_in_lemma, unguarded_at, unguarded_in_lemma}
 use Rattle.sp_wf.specs.Sought.{is_there}
-use Rattle.sp_wf.proofs.Nothing.{both_true, told_step, none_append}
+use Rattle.sp_wf.proofs.Nothing.{both_true, and_grouped, told_not, told_step, none_append}
 use Rattle.sp_spec.proofs.Bools.{denied}
 use Rattle.std.proofs.lemmas.Bool.{and_right, and_parts, not_from_false}
 
@@ -45,10 +45,6 @@ none_wide (for_all x f) = none_wide f
 none_wide (for_some x f) = none_wide f
 
 -- variables of another sort
-and_grouped : (x y z : Bool) → (x && (y && z)) ≡ ((x && y) && z)
-and_grouped true y z = refl
-and_grouped false y z = refl
-
 told_fits : (b : Bool) (finding : Finding) (findings : List Finding) (rest : Bool) → are_none findings ≡ rest → are_none (told (not b) finding findings) ≡ (b && rest)
 told_fits true finding findings rest e = e
 told_fits false finding findings rest e = refl
@@ -95,10 +91,6 @@ regroup false b c d = refl
 regroup true b true d = refl
 regroup true true false d = refl
 regroup true false false d = refl
-
-told_not : (b : Bool) (finding : Finding) (findings : List Finding) → are_none (told b finding findings) ≡ (not b && are_none findings)
-told_not true finding findings = refl
-told_not false finding findings = refl
 
 none_placed : (n : List ℕ) (us : List Use) → (are_none (unbound_uses n us) && are_none (mixed_uses n us)) ≡ all_placed us
 none_placed n [] = refl

@@ -1,15 +1,17 @@
 -- No name is repeated exactly where the names of the rules are distinct, and those of the lemmas are.
-use Rattle.std.proofs.Common.{◌≡◌, ℕ, Bool, true, false, true≢false, not, ◌&&◌, List, [], ◌∷◌, map, refl, sym, ap, ◌∙◌, subst}
+use Rattle.std.proofs.Common.{◌≡◌, ℕ, Bool, true, false, true≢false, not, ◌&&◌, ◌||◌, List, [], ◌∷◌, ◌++◌, map, refl, sym, ap, ap₂, ◌∙◌, subst}
 use Rattle.std.specs.Str.{bytes_eq}
 use Rattle.std.proofs.lemmas.Slice.Eq.{bytes_eq-Decides}
 use Rattle.sp_spec.specs.Lists.{Member, Every, Distinct}
 use Rattle.sp_spec.proofs.Lists.{every_member, every_from}
 use Rattle.sp_spec.specs.Theory.{Lemma}
 use Rattle.sp_spec.specs.Written.{WrittenRule, is_listed}
-use Rattle.sp_spec_text.specs.Written.{Item, rule_item, lemma_item, rules_in, lemmas_in}
+use Rattle.std.proofs.lemmas.List.{map-append}
+use Rattle.sp_spec_text.specs.Written.{Item, item_rules, item_lemmas, without_proofs, rules_in, lemmas_in}
+use Rattle.sp_spec_text.proofs.Items.{lemmas_begin}
 use Rattle.sp_wf.specs.Finding.{Finding, used_twice, told, are_none}
-use Rattle.sp_wf.specs.Report.{repeated}
-use Rattle.sp_wf.proofs.Nothing.{both_false, both_true}
+use Rattle.sp_wf.specs.Report.{names_of_rules, names_of_lemmas, used_again, repeated}
+use Rattle.sp_wf.proofs.Nothing.{both_false, both_true, and_grouped, told_not, none_append}
 use Rattle.sp_spec.proofs.Bools.{denied}
 use Rattle.sp_spec.proofs.Listed.{equal_names}
 use Rattle.std.proofs.lemmas.Bool.{false_from_ne_true, or_parts, and_parts, not_from_false}
@@ -25,29 +27,56 @@ abbrev all_new : List (List ℕ) → List (List ℕ) → Bool
 all_new before [] = true
 all_new before (x ∷ xs) = not (is_listed x before) && all_new (x ∷ before) xs
 
-told_and : (b : Bool) (finding : Finding) (findings : List Finding) → are_none (told b finding findings) ≡ (not b && are_none findings)
-told_and true finding findings = refl
-told_and false finding findings = refl
+new_names : (before xs : List (List ℕ)) → are_none (used_again before xs) ≡ all_new before xs
+new_names before [] = refl
+new_names before (x ∷ xs) = told_not (is_listed x before) (used_twice x) (used_again (x ∷ before) xs) ∙ ap (λ (b : Bool). not (is_listed x before) && b) (new_names (x ∷ before) xs)
 
-first_of : (a b c : Bool) → (a && (b && c)) ≡ ((a && b) && c)
-first_of true b c = refl
-first_of false b c = refl
+-- the order of the names before doesn't matter
+new_behind : (one other xs : List (List ℕ)) → ((q : List ℕ) → is_listed q one ≡ is_listed q other) → all_new one xs ≡ all_new other xs
+new_behind one other [] e = refl
+new_behind one other (x ∷ xs) e =
+    ap₂ (λ (a b : Bool). not a && b) (e x) (new_behind (x ∷ one) (x ∷ other) xs (λ q. ap (λ (b : Bool). bytes_eq x q || b) (e q)))
 
-second_of : (a b c : Bool) → (a && (b && c)) ≡ (b && (a && c))
-second_of true b c = refl
-second_of false true c = refl
-second_of false false c = refl
+listed_between : (q x : List ℕ) (xs before : List (List ℕ)) → is_listed q (xs ++ x ∷ before) ≡ is_listed q (x ∷ xs ++ before)
+listed_between q x [] before = refl
+listed_between q x (y ∷ xs) before = ap (λ (b : Bool). bytes_eq y q || b) (listed_between q x xs before) ∙ turned (bytes_eq y q) (bytes_eq x q) (is_listed q (xs ++ before))
+  where
+    turned : (a b c : Bool) → (a || (b || c)) ≡ (b || (a || c))
+    turned true true c = refl
+    turned true false c = refl
+    turned false b c = refl
+
+new_parts : (before xs ys : List (List ℕ)) → all_new before (xs ++ ys) ≡ (all_new before xs && all_new (xs ++ before) ys)
+new_parts before [] ys = refl
+new_parts before (x ∷ xs) ys =
+    ap (λ (b : Bool). not (is_listed x before) && b)
+    (new_parts (x ∷ before) xs ys ∙ ap (λ (b : Bool). all_new (x ∷ before) xs && b) (new_behind (xs ++ x ∷ before) (x ∷ xs ++ before) ys (λ q. listed_between q x xs before)))
+    ∙ and_grouped (not (is_listed x before)) (all_new (x ∷ before) xs) (all_new (x ∷ xs ++ before) ys)
+
+-- the names of an item, and those of the others
+rules_begin : (x : Item) (xs : List Item) → rule_names (x ∷ xs) ≡ names_of_rules x ++ rule_names xs
+rules_begin x xs = map-append (λ (r : WrittenRule). r.name) (item_rules x) (rules_in xs)
+
+names_begin : (x : Item) (xs : List Item) → lemma_names (x ∷ xs) ≡ names_of_lemmas x ++ lemma_names xs
+names_begin x xs = ap (map (λ (l : Lemma). l.name)) (lemmas_begin x xs) ∙ map-append (λ (l : Lemma). l.name) (without_proofs (item_lemmas x)) (lemmas_in xs)
+
+four : (a b c d : Bool) → (a && (b && (c && d))) ≡ ((a && c) && (b && d))
+four true true c d = refl
+four true false true d = refl
+four true false false d = refl
+four false b c d = refl
 
 of_each_kind : (rs ls : List (List ℕ)) (xs : List Item) → are_none (repeated rs ls xs) ≡ (all_new rs (rule_names xs) && all_new ls (lemma_names xs))
 of_each_kind rs ls [] = refl
-of_each_kind rs ls (rule_item r ∷ xs) =
-    told_and (is_listed r.name rs) (used_twice r.name) (repeated (r.name ∷ rs) ls xs)
-    ∙ ap (λ (b : Bool). not (is_listed r.name rs) && b) (of_each_kind (r.name ∷ rs) ls xs)
-    ∙ first_of (not (is_listed r.name rs)) (all_new (r.name ∷ rs) (rule_names xs)) (all_new ls (lemma_names xs))
-of_each_kind rs ls (lemma_item l p ∷ xs) =
-    told_and (is_listed l.name ls) (used_twice l.name) (repeated rs (l.name ∷ ls) xs)
-    ∙ ap (λ (b : Bool). not (is_listed l.name ls) && b) (of_each_kind rs (l.name ∷ ls) xs)
-    ∙ second_of (not (is_listed l.name ls)) (all_new rs (rule_names xs)) (all_new (l.name ∷ ls) (lemma_names xs))
+of_each_kind rs ls (x ∷ xs) =
+    let mine = names_of_rules x in
+    let own = names_of_lemmas x in
+    let rest = repeated (mine ++ rs) (own ++ ls) xs in
+    none_append (used_again rs mine) (used_again ls own ++ rest)
+    ∙ ap₂ (λ (a b : Bool). a && b) (new_names rs mine) (none_append (used_again ls own) rest)
+    ∙ ap₂ (λ (b c : Bool). all_new rs mine && (b && c)) (new_names ls own) (of_each_kind (mine ++ rs) (own ++ ls) xs)
+    ∙ four (all_new rs mine) (all_new ls own) (all_new (mine ++ rs) (rule_names xs)) (all_new (own ++ ls) (lemma_names xs))
+    ∙ sym (ap₂ (λ (a b : Bool). a && b) (ap (all_new rs) (rules_begin x xs) ∙ new_parts rs mine (rule_names xs)) (ap (all_new ls) (names_begin x xs) ∙ new_parts ls own (lemma_names xs)))
 
 abbrev New : List (List ℕ) → List ℕ → Type 0
 New before x = is_listed x before ≡ false

@@ -14,7 +14,15 @@ pub not_not : (b : Bool) → not b ≡ false → b ≡ true
 not_not true e = refl
 not_not false e = absurd cc
 
+pub and_grouped : (x y z : Bool) → (x && (y && z)) ≡ ((x && y) && z)
+and_grouped true y z = refl
+and_grouped false y z = refl
+
 -- one condition more
+pub told_not : (b : Bool) (finding : Finding) (findings : List Finding) → are_none (told b finding findings) ≡ (not b && are_none findings)
+told_not true finding findings = refl
+told_not false finding findings = refl
+
 pub told_step : (b : Bool) (finding : Finding) (findings : List Finding) (rest : Bool) → are_none findings ≡ not rest → are_none (told b finding findings) ≡ not (b || rest)
 told_step true finding findings rest e = refl
 told_step false finding findings rest e = e

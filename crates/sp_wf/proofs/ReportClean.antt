@@ -1,16 +1,18 @@
 -- The report is empty exactly on well-formed theories.
-use Rattle.std.proofs.Common.{◌≡◌, ℕ, Bool, true, false, if◌then◌else◌, List, [], ◌∷◌, ◌++◌, codes, Some, refl, sym, ap, ◌∙◌}
+use Rattle.std.proofs.Common.{◌≡◌, ℕ, Bool, true, false, if◌then◌else◌, List, [], ◌∷◌, ◌++◌, codes, Some, refl, sym, ap, ◌∙◌, subst}
 use Rattle.sp_spec.specs.Lists.{Every}
 use Rattle.sp_spec.specs.Theory.{Lemma}
 use Rattle.sp_spec.specs.Written.{WrittenRule, is_listed}
 use Rattle.sp_spec.specs.Findings.{rule_is_wrong}
 use Rattle.sp_spec.specs.Guarded.{Guarded}
 use Rattle.sp_law_guard.specs.CheckedForm.{checked_form}
-use Rattle.sp_spec_text.specs.Written.{Item, rule_item, lemma_item, WrittenText, rules_in, lemmas_in, theory_in}
+use Rattle.sp_spec.proofs.Lists.{every_append, every_parts}
+use Rattle.sp_spec_text.specs.Written.{Item, item_rules, item_lemmas, without_proofs, WrittenText, rules_in, lemmas_in, theory_in}
+use Rattle.sp_spec_text.proofs.Items.{lemmas_begin}
 use Rattle.sp_wf.specs.Finding.{Finding, line, are_none}
 use Rattle.sp_wf.specs.RuleFindings.{wide_in_rule, sorts_in_rule, reserved_in_rule, arguments_in_rule, unbound_in_rule}
 use Rattle.sp_wf.specs.FormulaFindings.{wide_in_lemma, unbound_in_lemma, unguarded_in_lemma, sorts_in_lemma, mixed_in_lemma}
-use Rattle.sp_wf.specs.Report.{wide_in_items, repeated, on_rules, on_lemmas, findings_on_rules, findings_on_lemmas, findings, lines_after, text_of}
+use Rattle.sp_wf.specs.Report.{wide_in_item, wide_in_items, repeated, on_rules, on_lemmas, findings_on_rules, findings_on_lemmas, findings, lines_after, text_of}
 use Rattle.sp_wf.specs.Laws.{IsWellFormed, ReportIsRight}
 use Rattle.sp_wf.proofs.Nothing.{none_parts, none_both, nothing}
 use Rattle.sp_wf.proofs.RuleClean.{RuleClean, clean_is_right, right_is_clean}
@@ -66,13 +68,25 @@ every_lemma P h (l ∷ ls) e = (h l (form_is_clean l e.0.0 e.0.1), every_lemma P
 -- on each item
 wide_clean : (xs : List Item) → are_none (wide_in_items xs) ≡ true → Every (Clean wide_in_rule) (rules_in xs) × Every (Clean wide_in_lemma) (lemmas_in xs)
 wide_clean [] e = (tt, tt)
-wide_clean (rule_item r ∷ xs) e = let k = none_parts (wide_in_rule r) (wide_in_items xs) e in let h = wide_clean xs k.1 in ((k.0, h.0), h.1)
-wide_clean (lemma_item l p ∷ xs) e = let k = none_parts (wide_in_lemma l) (wide_in_items xs) e in let h = wide_clean xs k.1 in (h.0, (k.0, h.1))
+wide_clean (x ∷ xs) e =
+    let rs = item_rules x in
+    let ls = without_proofs (item_lemmas x) in
+    let k = none_parts (wide_in_item x) (wide_in_items xs) e in
+    let one = none_parts (on_rules wide_in_rule rs) (on_lemmas wide_in_lemma ls) k.0 in
+    let h = wide_clean xs k.1 in (
+      every_append (Clean wide_in_rule) rs (rules_in xs) (rules_clean wide_in_rule rs one.0) h.0,
+      subst (λ (ms : List Lemma). Every (Clean wide_in_lemma) ms) (sym (lemmas_begin x xs)) (every_append (Clean wide_in_lemma) ls (lemmas_in xs) (lemmas_clean wide_in_lemma ls one.1) h.1),
+    )
 
 no_wide : (xs : List Item) → Every (Clean wide_in_rule) (rules_in xs) → Every (Clean wide_in_lemma) (lemmas_in xs) → are_none (wide_in_items xs) ≡ true
 no_wide [] h k = refl
-no_wide (rule_item r ∷ xs) h k = none_both (wide_in_rule r) (wide_in_items xs) h.0 (no_wide xs h.1 k)
-no_wide (lemma_item l p ∷ xs) h k = none_both (wide_in_lemma l) (wide_in_items xs) k.0 (no_wide xs h k.1)
+no_wide (x ∷ xs) h k =
+    let rs = item_rules x in
+    let ls = without_proofs (item_lemmas x) in
+    let a = every_parts (Clean wide_in_rule) rs (rules_in xs) h in
+    let b = every_parts (Clean wide_in_lemma) ls (lemmas_in xs) (subst (λ (ms : List Lemma). Every (Clean wide_in_lemma) ms) (lemmas_begin x xs) k) in
+    none_both (wide_in_item x) (wide_in_items xs)
+    (none_both (on_rules wide_in_rule rs) (on_lemmas wide_in_lemma ls) (no_rule wide_in_rule rs a.0) (no_lemma wide_in_lemma ls b.0)) (no_wide xs a.1 b.1)
 
 well_formed : (t : WrittenText) → are_none (findings t) ≡ true → IsWellFormed (theory_in t)
 well_formed t e =

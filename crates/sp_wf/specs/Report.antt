@@ -1,30 +1,11 @@
 -- The report on a theory: a line for each fatal finding. Source: Tamarin manual, "Checking well-formedness".
-use Rattle.std.specs.Prelude.{ℕ, List, [], ◌∷◌, ◌++◌, if◌then◌else◌, codes}
+use Rattle.std.specs.Prelude.{ℕ, List, [], ◌∷◌, ◌++◌, map, if◌then◌else◌, codes}
 use Rattle.sp_spec.specs.Theory.{Lemma}
 use Rattle.sp_spec.specs.Written.{WrittenRule, is_listed}
-use Rattle.sp_spec_text.specs.Written.{Item, rule_item, lemma_item, WrittenText, rules_in, lemmas_in}
+use Rattle.sp_spec_text.specs.Written.{Item, item_rules, item_lemmas, without_proofs, WrittenText, rules_in, lemmas_in}
 use Rattle.sp_wf.specs.Finding.{Finding, used_twice, line, told}
 use Rattle.sp_wf.specs.RuleFindings.{wide_in_rule, sorts_in_rule, reserved_in_rule, arguments_in_rule, unbound_in_rule}
 use Rattle.sp_wf.specs.FormulaFindings.{wide_in_lemma, unbound_in_lemma, unguarded_in_lemma, sorts_in_lemma, mixed_in_lemma}
-
--- ---- rules and lemmas alike, in the order of the text
-
-abbrev pub wide_in_item : Item → List Finding
-wide_in_item (rule_item r) = wide_in_rule r
-wide_in_item (lemma_item l p) = wide_in_lemma l
-
-abbrev pub wide_in_items : List Item → List Finding
-wide_in_items [] = []
-wide_in_items (x ∷ xs) = wide_in_item x ++ wide_in_items xs
-
--- Each name of a rule that a rule before has, and each name of a lemma that a lemma before has. The names of the rules and of the lemmas
--- before stand last first.
-abbrev pub repeated : List (List ℕ) → List (List ℕ) → List Item → List Finding
-repeated rules lemmas [] = []
-repeated rules lemmas (rule_item r ∷ xs) = told (is_listed r.name rules) (used_twice r.name) (repeated (r.name ∷ rules) lemmas xs)
-repeated rules lemmas (lemma_item l p ∷ xs) = told (is_listed l.name lemmas) (used_twice l.name) (repeated rules (l.name ∷ lemmas) xs)
-
--- ---- rules alone, and lemmas alone
 
 abbrev pub on_rules : (WrittenRule → List Finding) → List WrittenRule → List Finding
 on_rules on [] = []
@@ -33,6 +14,34 @@ on_rules on (r ∷ rs) = on r ++ on_rules on rs
 abbrev pub on_lemmas : (Lemma → List Finding) → List Lemma → List Finding
 on_lemmas on [] = []
 on_lemmas on (l ∷ ls) = on l ++ on_lemmas on ls
+
+-- ---- rules and lemmas alike, in the order of the text
+
+abbrev pub wide_in_item : Item → List Finding
+wide_in_item x = on_rules wide_in_rule (item_rules x) ++ on_lemmas wide_in_lemma (without_proofs (item_lemmas x))
+
+abbrev pub wide_in_items : List Item → List Finding
+wide_in_items [] = []
+wide_in_items (x ∷ xs) = wide_in_item x ++ wide_in_items xs
+
+abbrev pub names_of_rules : Item → List (List ℕ)
+names_of_rules x = map (λ (r : WrittenRule). r.name) (item_rules x)
+
+abbrev pub names_of_lemmas : Item → List (List ℕ)
+names_of_lemmas x = map (λ (l : Lemma). l.name) (without_proofs (item_lemmas x))
+
+-- each of these names that stands before it, among these or among those before
+abbrev pub used_again : List (List ℕ) → List (List ℕ) → List Finding
+used_again before [] = []
+used_again before (x ∷ xs) = told (is_listed x before) (used_twice x) (used_again (x ∷ before) xs)
+
+-- each name of a rule that a rule before has, and each name of a lemma that a lemma before has, behind these names of rules and of lemmas
+abbrev pub repeated : List (List ℕ) → List (List ℕ) → List Item → List Finding
+repeated rules lemmas [] = []
+repeated rules lemmas (x ∷ xs) =
+    used_again rules (names_of_rules x) ++ (used_again lemmas (names_of_lemmas x) ++ repeated (names_of_rules x ++ rules) (names_of_lemmas x ++ lemmas) xs)
+
+-- ---- rules alone, and lemmas alone
 
 abbrev pub findings_on_rules : List WrittenRule → List Finding
 findings_on_rules rs = on_rules sorts_in_rule rs ++ (on_rules reserved_in_rule rs ++ (on_rules arguments_in_rule rs ++ on_rules unbound_in_rule rs))

@@ -1,15 +1,16 @@
 -- The tests that the code makes, one kind after the other, and item by item.
-use Rattle.std.specs.Prelude.{ℕ, Bool, false, ◌||◌, List, [], ◌∷◌}
+use Rattle.std.specs.Prelude.{ℕ, Bool, false, ◌||◌, List, [], ◌∷◌, ◌++◌}
 use Rattle.std.specs.Str.{bytes_eq}
 use Rattle.sp_spec.specs.Rule.{Fact}
 use Rattle.sp_spec.specs.Formula.{Written}
 use Rattle.sp_spec.specs.Theory.{Lemma}
 use Rattle.sp_spec.specs.Written.{WrittenRule, in_terms}
 use Rattle.sp_spec.specs.Findings.{is_named}
-use Rattle.sp_spec_text.specs.Written.{Item, rule_item, lemma_item}
+use Rattle.sp_spec_text.specs.Written.{Item}
 use Rattle.sp_wf.specs.Finding.{Finding, used_twice, told}
 use Rattle.sp_wf.specs.RuleFindings.{sorts_in_rule, reserved_in_rule, arguments_in_rule, unbound_in_rule}
 use Rattle.sp_wf.specs.FormulaFindings.{unbound_in_lemma, unguarded_in_lemma, sorts_in_lemma, mixed_in_lemma}
+use Rattle.sp_wf.specs.Report.{names_of_rules, names_of_lemmas}
 use Rattle.sp_wf.specs.declared.told.RuleFault.{RuleFault}
 use Rattle.sp_wf.specs.declared.told.RuleFault.TheVariants as r
 use Rattle.sp_wf.specs.declared.told.LemmaFault.{LemmaFault}
@@ -32,26 +33,22 @@ on_lemma l.Unguarded = unguarded_in_lemma
 on_lemma l.OtherSort = sorts_in_lemma
 on_lemma l.Mixed = mixed_in_lemma
 
--- on an item that is a rule, or that is a lemma
-abbrev pub if_rule : (WrittenRule → List Finding) → Item → List Finding
-if_rule on (rule_item r) = on r
-if_rule on (lemma_item l p) = []
+-- ---- names, where those before are known by a test
 
-abbrev pub if_lemma : (Lemma → List Finding) → Item → List Finding
-if_lemma on (rule_item r) = []
-if_lemma on (lemma_item l p) = on l
+-- it is one of these names, or passes the test
+abbrev pub or_one_of : List (List ℕ) → (List ℕ → Bool) → List ℕ → Bool
+or_one_of [] test q = test q
+or_one_of (x ∷ xs) test q = bytes_eq x q || or_one_of xs test q
 
--- the names that are used twice, where those before are known by a test, for rules and for lemmas
-abbrev pub again : (List ℕ → Bool) → (List ℕ → Bool) → List Item → List Finding
-again is_rule is_lemma [] = []
-again is_rule is_lemma (rule_item r ∷ xs) = told (is_rule r.name) (used_twice r.name) (again (λ q. bytes_eq r.name q || is_rule q) is_lemma xs)
-again is_rule is_lemma (lemma_item l p ∷ xs) = told (is_lemma l.name) (used_twice l.name) (again is_rule (λ q. bytes_eq l.name q || is_lemma q) xs)
+-- those of the names that are used twice
+abbrev pub again : (List ℕ → Bool) → List (List ℕ) → List Finding
+again test [] = []
+again test (x ∷ xs) = told (test x) (used_twice x) (again (λ q. bytes_eq x q || test q) xs)
 
--- the tests once the item is gone by
-abbrev pub or_rule : Item → (List ℕ → Bool) → List ℕ → Bool
-or_rule (rule_item r) test q = bytes_eq r.name q || test q
-or_rule (lemma_item l p) test q = test q
+-- the names of an item's rules, and those of its lemmas
+abbrev pub item_again : (List ℕ → Bool) → (List ℕ → Bool) → Item → List Finding
+item_again is_rule is_lemma x = again is_rule (names_of_rules x) ++ again is_lemma (names_of_lemmas x)
 
-abbrev pub or_lemma : Item → (List ℕ → Bool) → List ℕ → Bool
-or_lemma (rule_item r) test q = test q
-or_lemma (lemma_item l p) test q = bytes_eq l.name q || test q
+abbrev pub all_again : (List ℕ → Bool) → (List ℕ → Bool) → List Item → List Finding
+all_again is_rule is_lemma [] = []
+all_again is_rule is_lemma (x ∷ xs) = item_again is_rule is_lemma x ++ all_again (or_one_of (names_of_rules x) is_rule) (or_one_of (names_of_lemmas x) is_lemma) xs

@@ -1,11 +1,11 @@
 // The findings on the names of rules and lemmas.
 
-ghost use Rattle.std.specs.Prelude.{◌≡◌, ◌||◌, ℕ, List, [], ◌∷◌, OnOk, bytes_eq};
+ghost use Rattle.std.specs.Prelude.{◌≡◌, ◌||◌, ℕ, List, [], OnOk, bytes_eq};
 ghost use Rattle.std.specs.BTreeSet.{contains_text};
 ghost use Rattle.sp_written.specs.Views as view;
 ghost use Rattle.sp_wf.specs.Finding.{told, used_twice};
 ghost use Rattle.sp_wf.specs.Report as spec;
-ghost use Rattle.sp_wf.specs.Told.{again, or_rule, or_lemma};
+ghost use Rattle.sp_wf.specs.Told.{or_one_of, item_again};
 ghost use Rattle.sp_wf.specs.View.{lines_of};
 
 use crate::finding::{Finding, tell_if};
@@ -37,9 +37,9 @@ fn tell_item_name(
     lemmas: &mut BTreeSet<String>,
     item: &Item,
 ) -> Result<(), AllocError>
-    ensures is_told { OnOk result (lines_of lines.new.items ≡ spec.lines_after (lines_of lines.old.items) (again (contains_text rules.old) (contains_text lemmas.old) (view.item item.now ∷ []))) }
-    ensures in_rules { OnOk result ((q : List ℕ) → contains_text rules.new q ≡ or_rule (view.item item.now) (contains_text rules.old) q) }
-    ensures in_lemmas { OnOk result ((q : List ℕ) → contains_text lemmas.new q ≡ or_lemma (view.item item.now) (contains_text lemmas.old) q) }
+    ensures is_told { OnOk result (lines_of lines.new.items ≡ spec.lines_after (lines_of lines.old.items) (item_again (contains_text rules.old) (contains_text lemmas.old) (view.item item.now))) }
+    ensures in_rules { OnOk result ((q : List ℕ) → contains_text rules.new q ≡ or_one_of (spec.names_of_rules (view.item item.now)) (contains_text rules.old) q) }
+    ensures in_lemmas { OnOk result ((q : List ℕ) → contains_text lemmas.new q ≡ or_one_of (spec.names_of_lemmas (view.item item.now)) (contains_text lemmas.old) q) }
 {
     match item {
         Item::Rule(rule) => tell_name(alloc, lines, rules, rule.name),

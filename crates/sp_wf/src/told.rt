@@ -1,11 +1,11 @@
 // The findings on each rule and each lemma, one kind after the other.
 
 ghost use Rattle.std.specs.Prelude.{◌≡◌, OnOk};
-ghost use Rattle.sp_spec_text.specs.Written.{rules_in, lemmas_in};
+ghost use Rattle.sp_spec_text.specs.Written.{item_rules, item_lemmas, without_proofs, rules_in, lemmas_in};
 ghost use Rattle.sp_written.specs.Views as view;
 ghost use Rattle.sp_read_parts.specs.Views as parts;
 ghost use Rattle.sp_wf.specs.Report as spec;
-ghost use Rattle.sp_wf.specs.Told.{on_rule, on_lemma, if_rule, if_lemma};
+ghost use Rattle.sp_wf.specs.Told.{on_rule, on_lemma};
 ghost use Rattle.sp_wf.specs.View.{lines_of};
 
 use crate::facts::{tell_arguments, tell_reserved, tell_wide};
@@ -56,7 +56,7 @@ fn tell_if_rule(
     fault: RuleFault,
     item: &Item,
 ) -> Result<(), AllocError>
-    ensures { OnOk result (lines_of lines.new.items ≡ spec.lines_after (lines_of lines.old.items) (if_rule (on_rule fault) (view.item item.now))) }
+    ensures { OnOk result (lines_of lines.new.items ≡ spec.lines_after (lines_of lines.old.items) (spec.on_rules (on_rule fault) (item_rules (view.item item.now)))) }
 {
     match item {
         Item::Rule(rule) => tell_on_rule(alloc, lines, fault, rule),
@@ -102,7 +102,7 @@ fn tell_if_lemma(
     fault: LemmaFault,
     item: &Item,
 ) -> Result<(), AllocError>
-    ensures { OnOk result (lines_of lines.new.items ≡ spec.lines_after (lines_of lines.old.items) (if_lemma (on_lemma fault) (view.item item.now))) }
+    ensures { OnOk result (lines_of lines.new.items ≡ spec.lines_after (lines_of lines.old.items) (spec.on_lemmas (on_lemma fault) (without_proofs (item_lemmas (view.item item.now))))) }
 {
     match item {
         Item::Rule(_) => Ok(()),

@@ -1,5 +1,5 @@
 use Rattle.std.proofs.Common.{inl, inr, refl}
-use Rattle.sp_top.proofs.Causes.{answer_is_whole, answer_of_line, usage_exactly, read_fault_exactly, too_long_exactly, answers_exactly, headline, headline_short, text_is_answered}
+use Rattle.sp_top.proofs.Causes.{answer_is_whole, answer_of_line, usage_exactly, read_fault_exactly, too_long_exactly, answers_exactly, headline, headline_short, text_is_answered, asked_first}
 use Rattle.sp_top.proofs.Headlines.{verdicts_are_true}
 use Rattle.sp_top.proofs.TextStatus.{verdicts_status, refused_status}
 use Rattle.sp_top.proofs.run.Goals as goal
@@ -33,12 +33,12 @@ returns-in-Ok-write_whole-clause-verdicts g c = headline c.args.words.now _ _ _ 
 
 pub returns-in-Ok-write_whole-clause-completeness : goal.returns-in-Ok-write_whole-clause-completeness
 returns-in-Ok-write_whole-clause-completeness g c = record {
-  complete = λ command file bytes line told within still sink_still.
+  complete = λ request file bytes line about told within still sink_still.
       let text = c.in-Ok.answer.0.items in
-      let answer = answer_of_line c.args.words.now (g.L.Library.holds c.args.library.now) _ _ text command file c.in-Ok.answer.1 line c.in-Ok.ensures.answer in
+      let answer = answer_of_line c.args.words.now (g.L.Library.holds c.args.library.now) _ _ text request file c.in-Ok.answer.1 line about c.in-Ok.ensures.answer in
       inr (
         text,
-        text_is_answered c.args.words.now (g.L.Library.holds c.args.library.now) _ _ text command file bytes c.in-Ok.answer.1 answer told within still,
+        text_is_answered c.args.words.now (g.L.Library.holds c.args.library.now) _ _ text request file bytes c.in-Ok.answer.1 answer told within still,
         rw c.deref.ensures.value at c.in-Ok-write_whole.ensures.all,
       );
 }
@@ -62,15 +62,22 @@ returns-clause-verdicts g c = headline_short c.args.words.now _ _ _ _ _ _ (inl r
 pub returns-in-Ok-write_whole-clause-asked : goal.returns-in-Ok-write_whole-clause-asked
 returns-in-Ok-write_whole-clause-asked g c = record {
   no_line = c.respond.ensures.no_line;
-  at_most = c.respond.ensures.asked;
-  once = λ command file line memory. c.in-Ok.ensures.asked_once command file line;
+  at_most = λ request line. asked_first c.args.words.now request _ _ line (c.respond.ensures.asked request line);
+  all = λ request line memory. c.in-Ok.ensures.asked_all request line;
+}
+
+pub returns-in-Err-clause-asked : goal.returns-in-Err-clause-asked
+returns-in-Err-clause-asked g c = record {
+  no_line = c.respond.ensures.no_line;
+  at_most = λ request line. asked_first c.args.words.now request _ _ line (c.respond.ensures.asked request line);
+  all = λ request line memory. absurd (memory refl);
 }
 
 pub returns-clause-asked : goal.returns-clause-asked
 returns-clause-asked g c = record {
   no_line = c.respond.ensures.no_line;
-  at_most = c.respond.ensures.asked;
-  once = λ command file line memory. c.in-Ok.ensures.asked_once command file line;
+  at_most = λ request line. asked_first c.args.words.now request _ _ line (c.respond.ensures.asked request line);
+  all = λ request line memory. c.in-Ok.ensures.asked_all request line;
 }
 
 pub returns-in-Ok-write_whole-clause-headline : goal.returns-in-Ok-write_whole-clause-headline

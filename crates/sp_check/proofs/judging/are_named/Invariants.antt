@@ -1,6 +1,6 @@
 use Rattle.std.proofs.Common.{◌≡◌, length, map}
 use Rattle.std.specs.Slice.Iter.{iter_rest}
-use Rattle.sp_moves.specs.View.{case_of}
+use Rattle.sp_step.specs.View.{case_of}
 use Rattle.sp_check.specs.Judging.{are_named}
 use Rattle.sp_check.specs.View.{names_of}
 use Rattle.sp_check.proofs.judging.are_named.Given as goal

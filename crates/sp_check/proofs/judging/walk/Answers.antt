@@ -1,7 +1,7 @@
 use Rattle.std.proofs.Common.{None, List, sym, ap, ap₂, ◌∙◌}
 use Rattle.sp_spec_system.specs.System.{System}
 use Rattle.sp_system.specs.SystemView.{system_of}
-use Rattle.sp_moves.specs.View.{context_of}
+use Rattle.sp_step.specs.View.{context_of}
 use Rattle.sp_check.specs.declared.skeleton.Node.{Node}
 use Rattle.sp_check.specs.Nodes.{walk_all}
 use Rattle.sp_check.specs.View.{nodes_of, systems_of}

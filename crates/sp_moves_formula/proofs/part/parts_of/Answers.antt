@@ -2,7 +2,7 @@ use Rattle.std.proofs.Common.{Some, map, sym, ap, ◌∙◌}
 use Rattle.sp_formula.specs.declared.formula.Formula.{Formula}
 use Rattle.sp_formula.specs.FormulaView.{formula_of}
 use Rattle.sp_formula.proofs.Formulas.{one_shown}
-use Rattle.sp_rows.proofs.Parts.{listed}
+use Rattle.sp_system.proofs.Listed.{listed}
 use Rattle.sp_moves_formula.specs.Parts.{disjuncts}
 use Rattle.sp_moves_formula.proofs.part.parts_of.Goals as goal
 

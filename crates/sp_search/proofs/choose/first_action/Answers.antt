@@ -1,6 +1,8 @@
 use Rattle.std.proofs.Common.{◌<◌, ◌≡◌, length, get_or, refl, sym, ◌∙◌, arith}
+use Rattle.sp_spec_system.specs.Move.{action}
+use Rattle.sp_formula.specs.FormulaView.{formula_of}
 use Rattle.sp_system.specs.SystemView.{system_of}
-use Rattle.sp_search.proofs.Choosing.{first_from}
+use Rattle.sp_search.proofs.Choosing.{next_place, action_here}
 use Rattle.sp_search.proofs.choose.first_action.Goals as goal
 
 pub returns-then-branch : goal.returns-then-branch
@@ -9,9 +11,11 @@ returns-then-branch c context =
     let all = c.args.system.now.formulas.items in
     let f = c.formula-item.result in
     let k = c.loop-place.place in
+    let b = c.in_ok-is_solvable.field-0 in
     let is : f ≡ get_or all k f = rw c.deref-formula-items.ensures.value at c.formula-item.is in
     let below : k < length all = omega arith in
-    let step = first_from context s all k f c.in_ok-is_solvable.field-0 refl below is (c.in_ok-is_solvable.ensures context.rules.forms s) in
+    let here = action_here context s all k f b refl below is (c.in_ok-is_solvable.ensures context.rules.forms s) in
+    let step = next_place context s action formula_of all k f b below is here in
     sym (rw c.if-branch.true at step) ∙ c.loop-place.invariant context
 
 pub loop-place-preserved : goal.loop-place-preserved
@@ -20,7 +24,9 @@ loop-place-preserved c context =
     let all = c.args.system.now.formulas.items in
     let f = c.formula-item.result in
     let k = c.loop-place.place in
+    let b = c.in_ok-is_solvable.field-0 in
     let is : f ≡ get_or all k f = rw c.deref-formula-items.ensures.value at c.formula-item.is in
     let below : k < length all = omega arith in
-    let step = first_from context s all k f c.in_ok-is_solvable.field-0 refl below is (c.in_ok-is_solvable.ensures context.rules.forms s) in
+    let here = action_here context s all k f b refl below is (c.in_ok-is_solvable.ensures context.rules.forms s) in
+    let step = next_place context s action formula_of all k f b below is here in
     sym (rw c.if-branch.false at step) ∙ c.loop-place.invariant context

@@ -1,11 +1,11 @@
 use Rattle.std.proofs.Common.{◌≡◌, map, drop}
-use Rattle.sp_spec_system.specs.Move.{Context}
+use Rattle.sp_spec_system.specs.Move.{Context, action}
 use Rattle.sp_system.specs.SystemView.{system_of}
 use Rattle.sp_formula.specs.FormulaView.{formula_of}
-use Rattle.sp_spec_proof.specs.Growth.{first_action}
+use Rattle.sp_spec_proof.specs.Choice.{first_instance, at_each_formula, places_from}
 use Rattle.sp_search.proofs.choose.first_action.Given as goal
 
 abbrev pub invariant-loop-place : goal.invariant-loop-place
 invariant-loop-place l = (context : Context) →
-    first_action context (system_of l.system) l.place (map formula_of (drop l.place l.system.formulas.items))
-    ≡ first_action context (system_of l.system) 0 (system_of l.system).formulas
+    first_instance context (system_of l.system) (map action (places_from l.place (map formula_of (drop l.place l.system.formulas.items))))
+    ≡ first_instance context (system_of l.system) (at_each_formula action context (system_of l.system))

@@ -1,6 +1,8 @@
 use Rattle.std.proofs.Common.{◌<◌, ◌≡◌, length, get_or, refl, sym, ◌∙◌, arith}
+use Rattle.sp_spec_system.specs.Move.{or}
+use Rattle.sp_formula.specs.FormulaView.{formula_of}
 use Rattle.sp_system.specs.SystemView.{system_of}
-use Rattle.sp_search.proofs.Choosing.{first_part}
+use Rattle.sp_search.proofs.Choosing.{next_place, part_here}
 use Rattle.sp_search.proofs.choose.first_disjunction.Goals as goal
 
 pub returns-then-is_disjunction : goal.returns-then-is_disjunction
@@ -11,7 +13,8 @@ returns-then-is_disjunction c context =
     let k = c.loop-place.place in
     let is : f ≡ get_or all k f = rw c.deref-formula-items.ensures.value at c.formula-item.is in
     let below : k < length all = omega arith in
-    let step = first_part context s all k f c.is_disjunction.result refl below is c.is_disjunction.ensures in
+    let here = part_here context s all k f c.is_disjunction.result refl below is c.is_disjunction.ensures in
+    let step = next_place context s or formula_of all k f c.is_disjunction.result below is here in
     sym (rw c.if-is_disjunction.true at step) ∙ c.loop-place.invariant context
 
 pub loop-place-preserved : goal.loop-place-preserved
@@ -22,5 +25,6 @@ loop-place-preserved c context =
     let k = c.loop-place.place in
     let is : f ≡ get_or all k f = rw c.deref-formula-items.ensures.value at c.formula-item.is in
     let below : k < length all = omega arith in
-    let step = first_part context s all k f c.is_disjunction.result refl below is c.is_disjunction.ensures in
+    let here = part_here context s all k f c.is_disjunction.result refl below is c.is_disjunction.ensures in
+    let step = next_place context s or formula_of all k f c.is_disjunction.result below is here in
     sym (rw c.if-is_disjunction.false at step) ∙ c.loop-place.invariant context

@@ -1,6 +1,9 @@
-use Rattle.std.proofs.Common.{◌<◌, ◌≡◌, length, get_or, sym, ◌∙◌}
-use Rattle.sp_system.specs.SystemView.{system_of}
-use Rattle.sp_search.proofs.Choosing.{next_premise}
+use Rattle.std.proofs.Common.{◌<◌, ◌≡◌, length, get_or, sym, ap, ◌∙◌, Some, None}
+use Rattle.std.specs.Prelude.{option_map}
+use Rattle.sp_step.specs.View.{move_of}
+use Rattle.sp_system.specs.SystemView.{event_of, system_of}
+use Rattle.sp_spec_proof.specs.Choice.{first_instance, premises_of}
+use Rattle.sp_search.proofs.Choosing.{next_event}
 use Rattle.sp_search.proofs.choose.first_premise.Goals as goal
 
 pub returns-in-Some : goal.returns-in-Some
@@ -11,8 +14,9 @@ returns-in-Some c context =
     let k = c.loop-event.event-index in
     let is : e ≡ get_or all k e = c.event-item.is in
     let below : k < length all = c.loop-event-test.true in
-    let step = next_premise context s all k e c.open_place.result below is c.open_place.ensures in
-    sym (rw c.in-Some.is at step) ∙ c.loop-event.invariant context
+    let here : first_instance context s (premises_of (event_of e)) ≡ Some (move_of c.in-Some.chosen) = sym (c.first_of_event.ensures context) ∙ ap (option_map move_of) c.in-Some.is in
+    let step = next_event context s all k e below is in
+    sym (rw here at step) ∙ c.loop-event.invariant context
 
 pub loop-event-preserved : goal.loop-event-preserved
 loop-event-preserved c context =
@@ -22,5 +26,6 @@ loop-event-preserved c context =
     let k = c.loop-event.event-index in
     let is : e ≡ get_or all k e = c.event-item.is in
     let below : k < length all = c.loop-event-test.true in
-    let step = next_premise context s all k e c.open_place.result below is c.open_place.ensures in
-    sym (rw c.in_default.is at step) ∙ c.loop-event.invariant context
+    let here : first_instance context s (premises_of (event_of e)) ≡ None = sym (c.first_of_event.ensures context) ∙ ap (option_map move_of) c.in_default.is in
+    let step = next_event context s all k e below is in
+    sym (rw here at step) ∙ c.loop-event.invariant context

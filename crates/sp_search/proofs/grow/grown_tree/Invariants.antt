@@ -1,5 +1,5 @@
 use Rattle.std.proofs.Common.{◌≡◌, ◌-◌}
-use Rattle.sp_moves.specs.View.{context_of}
+use Rattle.sp_step.specs.View.{context_of}
 use Rattle.sp_system.specs.SystemView.{system_of}
 use Rattle.sp_spec_proof.specs.Growth.{grown, grown_tree}
 use Rattle.sp_search.specs.View.{kept_of, tree_of}

@@ -1,5 +1,5 @@
 use Rattle.std.proofs.Common.{◌≡◌, map, string_bytes}
-use Rattle.sp_moves.specs.View.{context_of, case_of}
+use Rattle.sp_step.specs.View.{context_of, case_of}
 use Rattle.sp_search.specs.NodeView.{nodes_at}
 use Rattle.sp_search.specs.Turning.{name_of, open_node}
 use Rattle.sp_search.proofs.grow.leaves_at.Given as goal

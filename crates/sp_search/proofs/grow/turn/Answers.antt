@@ -1,6 +1,5 @@
-use Rattle.std.proofs.Common.{◌∙◌, ap, sym, Some, None, true, Bool, List}
-use Rattle.sp_moves.specs.View.{context_of}
-use Rattle.sp_search.specs.Kept.{Kept}
+use Rattle.std.proofs.Common.{◌∙◌, ap, sym, Some, None, true, List}
+use Rattle.sp_step.specs.View.{context_of}
 use Rattle.sp_search.specs.Kinds.{Kind, kept}
 use Rattle.sp_search.specs.NodeView.{nodes_at}
 use Rattle.sp_search.proofs.NextPlace.{turn_is}

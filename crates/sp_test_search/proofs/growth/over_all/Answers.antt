@@ -2,7 +2,7 @@ use Rattle.std.proofs.Common.{◌≡◌, ◌+◌, ℕ, List, [], ◌∷◌, ◌+
 use Rattle.std.proofs.lemmas.List.{length-map, length-append, map-append}
 use Rattle.sp_spec_nodes.specs.Preorder.{AreTrees}
 use Rattle.sp_spec_nodes.proofs.Preorder.{are_appended, are_over}
-use Rattle.sp_moves.specs.declared.moves.Move.{Move}
+use Rattle.sp_step.specs.declared.moves.Move.{Move}
 use Rattle.sp_search.specs.declared.node.Node.{Node}
 use Rattle.sp_search.specs.declared.node.Node.TheVariants.{Inner}
 use Rattle.sp_search.specs.Kinds.{case_count}

@@ -1,6 +1,6 @@
 use Rattle.std.proofs.Common.{drop, arith}
 use Rattle.std.proofs.lemmas.Grind.{common_steps}
-use Rattle.sp_system.proofs.Noted.{closed}
+use Rattle.sp_system.proofs.EndsKept.{closed}
 use Rattle.sp_system.proofs.closed.ClosedOrder.new.Goals as goal
 
 pub invariant_of-result : goal.invariant_of-result

@@ -1,0 +1,144 @@
+-- What is to be printed of a lemma that is tried or whose proof is checked, and the text that is made of that.
+use Rattle.std.specs.Prelude.{ℕ, Bool, true, false, List, [], ◌∷◌, ◌++◌, codes, Option, Some, None, string_bytes}
+use Rattle.sp_spec.specs.Log.{Log}
+use Rattle.sp_spec.specs.Theory.{TraceKind, all_traces, exists_trace}
+use Rattle.sp_spec.specs.Guarded.{Guarded}
+use Rattle.sp_law_found.specs.Found.{theory_of_rules}
+use Rattle.sp_spec_proof.specs.Tree.{steps}
+use Rattle.sp_search.specs.Finished.{finished}
+use Rattle.sp_skel.specs.Places.{HavePlaces}
+use Rattle.sp_skel.specs.TreeText.{tree_text}
+use Rattle.sp_check.specs.Judging as judging
+use Rattle.sp_check.specs.Judging.{Judgement, judgement}
+use Rattle.sp_check.specs.Skeleton as read
+use Rattle.sp_written.specs.Views as view
+use Rattle.sp_spec_text.specs.Written.{WrittenProof}
+use Rattle.sp_spec_text.specs.Spans.{Span, goes_on}
+use Rattle.sp_pose.specs.Asked.{Asked}
+use Rattle.sp_analysis.specs.Sought.{Goal, goal_of, root_system, Setting, context_of, proof_tree, grown_log}
+use Rattle.sp_spec_text.specs.Verdict.{Verdict, verified, falsified, incomplete, rejected, summary_line}
+use Rattle.sp_law_block.specs.Block.{block_of, IsNumbered}
+use Rattle.sp_law_again.specs.Again.{between}
+use Rattle.sp_analysis.specs.Analysis.{counted}
+use Rattle.sp_analysis.specs.Checking.{proof_read}
+use Rattle.sp_analysis.specs.View.{verdict_of}
+use Rattle.sp_analysis.specs.declared.tried.Tried.{Tried}
+use Rattle.sp_analysis.specs.declared.replies.Command.{Command}
+use Rattle.sp_analysis.specs.declared.replies.Command.TheVariants.{Prove, Check}
+
+-- what is printed of a lemma: its line, the text of the proof that was grown for it, and the block of the execution that was found
+pub record Printed : Type 0 where
+  pub name : List ℕ
+  pub kind : TraceKind
+  pub verdict : Verdict
+  pub steps : ℕ
+  pub span : Span
+  pub proof : List ℕ
+  pub block : List ℕ
+
+abbrev pub printed_of : Tried → Printed
+printed_of t = record { name = t.name.now; kind = view.kind t.kind; verdict = verdict_of t.verdict; steps = t.steps; span = view.span_of t.span; proof = string_bytes t.proof; block = string_bytes t.block }
+
+-- what a finished proof says
+abbrev pub shown : TraceKind → Verdict
+shown all_traces = verified
+shown exists_trace = falsified
+
+-- what a log says with which the search ends
+abbrev pub found_says : TraceKind → Verdict
+found_says all_traces = falsified
+found_says exists_trace = verified
+
+-- the verdict, by whether nothing is left
+abbrev pub by_leaves : TraceKind → Bool → Verdict
+by_leaves kind true = shown kind
+by_leaves kind false = incomplete
+
+-- and by the log
+abbrev pub by_tree : TraceKind → Option Log → Bool → Verdict
+by_tree kind (Some log) finished = found_says kind
+by_tree kind None finished = by_leaves kind finished
+
+abbrev pub by_judgement : TraceKind → Judgement → Verdict
+by_judgement kind (judging.rejected step clause) = rejected step clause
+by_judgement kind (judging.found log) = found_says kind
+by_judgement kind judging.finished = shown kind
+by_judgement kind judging.incomplete = incomplete
+
+abbrev pub judged_log : Judgement → Option Log
+judged_log (judging.rejected step clause) = None
+judged_log (judging.found log) = Some log
+judged_log judging.finished = None
+judged_log judging.incomplete = None
+
+-- what is to be shown of the lemma, where these formulas are taken
+abbrev pub goal_for : List Guarded → Asked → Goal
+goal_for taken a = goal_of taken a.kind a.form
+
+-- what is judged of a proof of the goal
+abbrev pub judged_so : Setting → Goal → Option WrittenProof → Judgement
+judged_so setting goal proof = judgement (context_of setting goal) (root_system goal) (proof_read proof)
+
+-- what is to be printed of a lemma that is tried, and of one whose proof is checked
+abbrev pub to_print : Command → Setting → List Guarded → Asked → Printed
+to_print (Prove budget) setting taken a = record {
+  name = a.name;
+  kind = a.kind;
+  verdict = by_tree a.kind (grown_log setting budget (goal_for taken a)) (finished (proof_tree setting budget (goal_for taken a)));
+  steps = counted (steps (proof_tree setting budget (goal_for taken a)));
+  span = a.span;
+  proof = tree_text 0 (proof_tree setting budget (goal_for taken a));
+  block = block_of (theory_of_rules setting.rules) (grown_log setting budget (goal_for taken a));
+}
+to_print Check setting taken a = record {
+  name = a.name;
+  kind = a.kind;
+  verdict = by_judgement a.kind (judged_so setting (goal_for taken a) a.proof);
+  steps = counted (read.steps (proof_read a.proof));
+  span = a.span;
+  proof = [];
+  block = block_of (theory_of_rules setting.rules) (judged_log (judged_so setting (goal_for taken a) a.proof));
+}
+
+-- what a lemma of which this is printed gives to the proofs of the lemmas behind it: nothing as yet
+abbrev pub taken_from : Asked → Printed → List Guarded
+taken_from a p = []
+
+-- each lemma takes what those before it gave
+abbrev pub all_to_print : Command → Setting → List Guarded → List Asked → List Printed
+all_to_print command setting taken [] = []
+all_to_print command setting taken (a ∷ rest) =
+    to_print command setting taken a ∷ all_to_print command setting (taken ++ taken_from a (to_print command setting taken a)) rest
+
+-- each place that the grown proof names is one that a text can name, and each fresh name of the execution that is found
+abbrev pub IsNameable : Command → Setting → List Guarded → Asked → Type 0
+IsNameable (Prove budget) setting taken a =
+    HavePlaces (proof_tree setting budget (goal_for taken a)) × IsNumbered (theory_of_rules setting.rules) (grown_log setting budget (goal_for taken a))
+IsNameable Check setting taken a = IsNumbered (theory_of_rules setting.rules) (judged_log (judged_so setting (goal_for taken a) a.proof))
+
+abbrev pub AreNameable : Command → Setting → List Guarded → List Asked → Type 0
+AreNameable command setting taken [] = Unit {0}
+AreNameable command setting taken (a ∷ rest) =
+    IsNameable command setting taken a × AreNameable command setting (taken ++ taken_from a (to_print command setting taken a)) rest
+
+-- ---- what is written
+
+abbrev pub line_of : Printed → List ℕ
+line_of p = summary_line p.name p.kind p.verdict p.steps
+
+abbrev pub lines : List Printed → List ℕ
+lines [] = []
+lines (p ∷ ps) = line_of p ++ (p.block ++ lines ps)
+
+-- the text from one place to another, with each proof at its place
+abbrev pub spliced : List ℕ → ℕ → List Printed → ℕ → List ℕ
+spliced text start [] end = between start end text
+spliced text start (p ∷ ps) end = between start p.span.from text ++ (codes "\n" ++ (p.proof ++ spliced text (goes_on text p.span) ps end))
+
+-- the text up to its end with the proofs, and the summary in a comment
+abbrev pub text_with : List ℕ → List Printed → ℕ → List ℕ
+text_with text ps end = spliced text 0 ps end ++ (codes "\n/*\n" ++ (lines ps ++ codes "*/\n"))
+
+abbrev pub written_by : Command → List ℕ → List Printed → ℕ → List ℕ
+written_by (Prove budget) text ps end = text_with text ps end
+written_by Check text ps end = lines ps

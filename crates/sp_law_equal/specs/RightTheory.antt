@@ -1,0 +1,80 @@
+-- What is right of a theory, each condition said once: a law asks for those that it rests on, and a text without findings gives all of them.
+-- Source: Tamarin manual, "Model specification using rules" and "Well-formedness checks".
+use Rattle.std.specs.Prelude.{◌≡◌, ◌⊎◌, ℕ, List, [], ◌∷◌, true, codes}
+use Rattle.sp_spec.specs.Lists.{Member, Every}
+use Rattle.sp_spec.specs.Term.{Names, public_name, fresh_name, AllMadeOf, Pub, Variable, Term, var, constant, name, app, Terms, none, more}
+use Rattle.sp_spec.specs.Signature.{Equation}
+use Rattle.sp_spec.specs.Rule.{Fact, Action, Facts, Rule, OfArguments, IsFreshVariable}
+use Rattle.sp_spec.specs.Theory.{Theory, signature_of}
+use Rattle.sp_spec.specs.Log.{is_fr}
+use Rattle.sp_law_equal.specs.NormalForms.{HaveNormalForms, KeepSymbols}
+use Rattle.sp_law_equal.specs.Destructors.{ArePlain}
+use Rattle.sp_law_equal.specs.Right.{AreRight, RulesAreOver}
+
+-- no destructor stands in the facts
+abbrev pub FactsArePlain : List Equation → Facts Variable → Type 0
+FactsArePlain es facts = OfArguments (ArePlain es) facts
+
+abbrev pub RulesArePlain : List Equation → List Rule → Type 0
+RulesArePlain es rules = Every (λ (r : Rule). FactsArePlain es r.facts) rules
+
+-- Its equations may be read from left to right and bring in no new symbols, and no destructor stands in a rule: so the normal form of an instance of a
+-- rule is the instance under the normal forms of the values.
+pub record HasNormalInstances (theory : Theory) : Type 0 where
+  pub normal_forms : HaveNormalForms (signature_of theory).equations
+  pub keeps : KeepSymbols (signature_of theory).symbols (signature_of theory).equations
+  pub plain : RulesArePlain (signature_of theory).equations theory.rules
+
+-- what is fresh by a premise Fr is a variable of sort fresh
+abbrev pub TakesFreshNames : Rule → Type 0
+TakesFreshNames r = Every (λ (f : Fact Variable). is_fr f ≡ true → IsFreshVariable f.args) r.facts.premises
+
+-- an Fr comes of the built-in rule alone
+abbrev pub MakesNoFr : Rule → Type 0
+MakesNoFr r = Every (λ (f : Fact Variable). f.symbol ≡ codes "Fr" → ⊥) r.facts.conclusions
+
+-- the variable stands in the term
+abbrev mutual
+  pub StandsIn : Variable → Term Variable → Type 0
+  StandsIn x (var y) = y ≡ x
+  StandsIn x (constant c) = ⊥
+  StandsIn x (name n) = ⊥
+  StandsIn x (app f ts) = StandsAmong x ts
+
+  pub StandsAmong : Variable → Terms Variable → Type 0
+  StandsAmong x none = ⊥
+  StandsAmong x (more t ts) = StandsIn x t ⊎ StandsAmong x ts
+
+abbrev pub HasVariable : Variable → List (Fact Variable) → Type 0
+HasVariable x [] = ⊥
+HasVariable x (f ∷ fs) = StandsAmong x f.args ⊎ HasVariable x fs
+
+-- any public name, and no fresh one
+abbrev pub no_fresh_names : Names
+no_fresh_names (public_name c) = Unit {0}
+no_fresh_names (fresh_name n) = ⊥
+
+-- no fresh name stands in a conclusion, and each variable of one that isn't of sort pub stands in a premise
+abbrev pub BindsConclusions : Rule → Type 0
+BindsConclusions r =
+    Every (λ (f : Fact Variable). AllMadeOf no_fresh_names (λ x. (x.sort ≡ Pub → ⊥) → HasVariable x r.facts.premises) f.args) r.facts.conclusions
+
+-- a theory whose text has no findings
+pub record IsRightTheory (theory : Theory) : Type 0 where
+  pub instances : HasNormalInstances theory
+  -- variables are declared where they are numbered; no two of a rule have one name, nor have two rules
+  pub declared : AreRight theory.rules
+  pub over : RulesAreOver (signature_of theory).symbols theory.rules
+  pub takes_fresh : Every TakesFreshNames theory.rules
+  pub makes_no_fr : Every MakesNoFr theory.rules
+  pub bound : Every BindsConclusions theory.rules
+
+-- the facts that the adversary takes and adds
+abbrev pub adversary_facts : List (List ℕ)
+adversary_facts = codes "In" ∷ codes "Out" ∷ codes "K" ∷ []
+
+-- No premise of a rule is a fact of the adversary's, and no action is named as what it sends. Conclusions may be anything: an Out that no rule takes in
+-- again does no harm.
+pub record LeavesAdversaryAlone (theory : Theory) : Type 0 where
+  pub premises : (r : Rule) → Member r theory.rules → Every (λ (f : Fact Variable). Member f.symbol adversary_facts → ⊥) r.facts.premises
+  pub actions : (r : Rule) → Member r theory.rules → Every (λ (a : Action Variable). a.symbol ≡ codes "K" → ⊥) r.facts.actions

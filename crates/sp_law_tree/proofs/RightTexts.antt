@@ -1,0 +1,92 @@
+-- What a text gives whose rules have no findings, and what covering takes of it.
+use Rattle.std.proofs.Common.{◌≡◌, false, not, map, codes, sym, inl, bytes_eq}
+use Rattle.std.proofs.lemmas.Slice.Eq.{bytes_eq-Decides}
+use Rattle.sp_spec.specs.Lists.{Every, Distinct, Member}
+use Rattle.sp_spec.proofs.Lists.{every_from, every_map, every_member, every_weaken}
+use Rattle.sp_spec.specs.Term.{Variable}
+use Rattle.sp_spec.specs.Signature.{AreOver}
+use Rattle.sp_spec.specs.Rule.{Fact, Action, Rule, fact_at, action_at, OfArguments}
+use Rattle.sp_spec.specs.Theory.{Theory, signature_of}
+use Rattle.sp_spec.specs.Written.{WrittenRule, WrittenTheory, theory_of}
+use Rattle.sp_spec.specs.Findings.{rule_is_wrong}
+use Rattle.sp_spec.specs.Log.{is_in}
+use Rattle.sp_law_equal.specs.Right.{AreTermsOver, RulesAreOver}
+use Rattle.sp_law_equal.specs.NormalForms.{HasNormalForms}
+use Rattle.sp_law_equal.specs.RightTheory.{HasNormalInstances, TakesFreshNames, BindsConclusions, IsRightTheory, adversary_facts, LeavesAdversaryAlone}
+use Rattle.sp_law_run.proofs.Written.{rules_right}
+use Rattle.sp_law_run.proofs.Over.{valued_all_over}
+use Rattle.sp_law_system.specs.Rules.{InstancesAreOver, IsClosedRule, IsPlainTheory}
+use Rattle.sp_law_tree.specs.PlainTheory.{IsPlainRule}
+use Rattle.sp_law_tree.specs.Laws.{TextsAreRight}
+use Rattle.sp_law_tree.proofs.PlainOver.{plain_rules_over}
+use Rattle.sp_law_tree.proofs.WrittenRules.{rules_plain, rules_leave_adversary}
+use Rattle.sp_law_tree.proofs.ClosedRules.{not_in, none_concluded, rules_closed}
+
+-- ---- terms over the signature
+
+instances_over : (theory : Theory) → RulesAreOver (signature_of theory).symbols theory.rules → InstancesAreOver theory
+instances_over theory rules_over =
+    let symbols = (signature_of theory).symbols in
+    record {
+      actions = λ r m v sorts.
+          every_map (λ (a : Action Variable). AreTermsOver symbols a.args) (λ (a : Action ⊥). AreOver symbols a.args) (action_at v)
+          (λ a k. valued_all_over symbols v (λ x. (sorts x).1) a.args k) r.facts.actions
+          (every_member (λ (q : Rule). OfArguments (AreTermsOver symbols) q.facts) theory.rules r m rules_over.each).actions;
+      conclusions = λ r m v sorts.
+          every_map (λ (f : Fact Variable). AreTermsOver symbols f.args) (λ (f : Fact ⊥). AreOver symbols f.args) (fact_at v)
+          (λ f k. valued_all_over symbols v (λ x. (sorts x).1) f.args k) r.facts.conclusions
+          (every_member (λ (q : Rule). OfArguments (AreTermsOver symbols) q.facts) theory.rules r m rules_over.each).conclusions;
+    }
+
+-- ---- of a text
+
+pub normal_instances : (t : WrittenTheory) → HasNormalForms (signature_of (theory_of t)) → Every IsPlainRule t.rules → HasNormalInstances (theory_of t)
+normal_instances t forms plain = record {
+  normal_forms = forms.normal_forms;
+  keeps = forms.keeps;
+  plain = rules_plain (signature_of (theory_of t)).equations t.rules plain;
+}
+
+pub plain_text : (t : WrittenTheory) → HasNormalForms (signature_of (theory_of t)) → Every IsPlainRule t.rules → Every (λ (r : WrittenRule). rule_is_wrong r ≡ false) t.rules
+    → IsPlainTheory (theory_of t)
+plain_text t forms plain right = record {
+  instances = normal_instances t forms plain;
+  closed = rules_closed t.rules plain right;
+  over = instances_over (theory_of t) (plain_rules_over (signature_of (theory_of t)).symbols t.rules plain);
+}
+
+right_text : (t : WrittenTheory) → HasNormalForms (signature_of (theory_of t)) → Every IsPlainRule t.rules → Every (λ (r : WrittenRule). rule_is_wrong r ≡ false) t.rules
+    → Distinct (map (λ (r : WrittenRule). r.name) t.rules) → IsRightTheory (theory_of t)
+right_text t forms plain right names =
+    let closed = rules_closed t.rules plain right in
+    record {
+      instances = normal_instances t forms plain;
+      declared = rules_right t.rules names;
+      over = plain_rules_over (signature_of (theory_of t)).symbols t.rules plain;
+      takes_fresh = every_weaken IsClosedRule TakesFreshNames (λ r h. h.fresh) (theory_of t).rules closed;
+      makes_no_fr = none_concluded t.rules right;
+      bound = every_weaken IsClosedRule BindsConclusions (λ r h. h.bound) (theory_of t).rules closed;
+    }
+
+-- ---- of a theory
+
+no_input : (f : Fact Variable) → (Member f.symbol adversary_facts → ⊥) → is_in f ≡ false
+no_input f h = not_in (bytes_eq f.symbol (codes "In")) (not f.persistent) (λ e. h (inl (sym ((bytes_eq-Decides f.symbol (codes "In")).0 e))))
+
+module _ (theory : Theory) (right : IsRightTheory theory) (alone : LeavesAdversaryAlone theory) where
+  closed : Every IsClosedRule theory.rules
+  closed = every_from IsClosedRule theory.rules (λ r m. record {
+    inputs = every_weaken (λ (f : Fact Variable). Member f.symbol adversary_facts → ⊥) (λ (f : Fact Variable). is_in f ≡ false) no_input r.facts.premises (alone.premises r m);
+    fresh = every_member TakesFreshNames theory.rules r m right.takes_fresh;
+    bound = every_member BindsConclusions theory.rules r m right.bound;
+  })
+
+  plain_theory : IsPlainTheory theory
+  plain_theory = record { instances = right.instances; closed = closed; over = instances_over theory right.over }
+
+pub texts_are_right_lem : TextsAreRight
+texts_are_right_lem = record {
+  right = right_text;
+  alone = rules_leave_adversary;
+  plain = plain_theory;
+}

@@ -1,6 +1,0 @@
-use Rattle.sp_spec_formula.specs.Open as rows
-use Rattle.sp_rows.proofs.Searches.{IsLeft}
-use Rattle.sp_rows.proofs.existential.open_existential.Given as goal
-
-abbrev pub invariant-loop-position : goal.invariant-loop-position
-invariant-loop-position l = IsLeft rows.existential_of l.system.formulas.items l.position

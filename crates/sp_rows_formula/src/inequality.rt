@@ -1,0 +1,67 @@
+// Two terms that are said to differ.
+
+ghost use Rattle.std.specs.Prelude.{◌≡◌, IfOk, OnOk, map, option_map};
+ghost use Rattle.sp_formula.specs.FormulaView.{formula_of};
+ghost use Rattle.sp_system.specs.SystemView.{pair_of, system_of};
+ghost use Rattle.sp_spec_formula.specs.Unequal as unequal_spec;
+ghost use Rattle.sp_rows_formula.specs.RowsView.{position_of, keeping};
+ghost use Rattle.sp_system.specs.Reduced.{Reduced};
+
+use sp_formula::formula::{Atom, Formula};
+use sp_system::freed::freed_pair;
+use sp_system::spend::spend;
+use sp_system::system::System;
+use sp_term::term::Term;
+use sp_unify::unify::mgu;
+use std::alloc::{AllocError, Global};
+
+fn inequality_of(formula: &Formula) -> Result<Option<(Term, Term)>, AllocError>
+    ensures { IfOk result (λ o. option_map pair_of o ≡ unequal_spec.inequality_of (formula_of formula.now)) }
+{
+    match formula {
+        Formula::Fails(Atom::Same(left, right)) => freed_pair(left, right),
+        _ => Ok(None),
+    }
+}
+
+fn position_of_inequality(
+    formulas: &Vec<Formula>,
+) -> Result<Option<(usize, (Term, Term))>, AllocError>
+    ensures { IfOk result (λ o. option_map (λ p. (p.0, pair_of p.1)) o ≡ position_of unequal_spec.inequality_of (map formula_of formulas.now.items)) }
+{
+    for (position, formula) in formulas.iter().enumerate() {
+        if let Some(pair) = inequality_of(formula)? {
+            return Ok(Some((position, pair)));
+        }
+    }
+    Ok(None)
+}
+
+// Keeps the pair as an unequal pair, if it has a unifier.
+fn keep(alloc: Global, system: &mut System, pair: (Term, Term)) -> Result<(), AllocError>
+    ensures { OnOk result (system_of system.new ≡ keeping (system_of system.old) (pair_of pair)) }
+{
+    let mut pairs = Vec::new(alloc);
+    pairs.push(pair)?;
+    if mgu(alloc, &pairs)?.is_some() {
+        system.unequal.append(&mut pairs)?;
+    }
+    Ok(())
+}
+
+/// Spends the first formula that says of two terms that they differ; they are an unequal pair if they have a unifier. False if there is no
+/// such formula.
+///
+/// # Errors
+///
+/// `AllocError` where memory is wanting.
+pub fn unequal(alloc: Global, system: &mut System) -> Result<bool, AllocError>
+    ensures { IfOk result (λ b. Reduced b (system_of system.old) (system_of system.new) (unequal_spec.unequal (system_of system.old))) }
+{
+    let Some((position, pair)) = position_of_inequality(&system.formulas)? else {
+        return Ok(false);
+    };
+    spend(alloc, system, position)?;
+    keep(alloc, system, pair)?;
+    Ok(true)
+}

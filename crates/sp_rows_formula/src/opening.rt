@@ -1,0 +1,313 @@
+// Values for what a formula binds, and what they put into it; among them new variables for the binders of an existential formula.
+
+ghost use Rattle.std.specs.Prelude.{◌≡◌, ◌+◌, IfOk, length, map};
+ghost use Rattle.sp_spec.specs.Term.{valued, valued_all};
+ghost use Rattle.sp_spec.specs.Rule.{action_at};
+ghost use Rattle.sp_term.specs.View.{view};
+ghost use Rattle.sp_spec.specs.Change.{place_changed, time_changed, atom_changed, changed, opening};
+ghost use Rattle.sp_formula.specs.FormulaView.{placed_term, placed_terms, placed_action, moment_of, atom_of, binder_of, formula_of};
+ghost use Rattle.sp_spec_formula.specs.Instances.{instance};
+ghost use Rattle.sp_rows_formula.specs.InsideView.{inside_of};
+ghost use Rattle.sp_rows_formula.specs.OpeningView.{change_of, put};
+
+use crate::inside::Inside;
+use sp_formula::formula::{
+    Atom, Binder, Formula, FormulaAction, FormulaTerm, Moment, copy_binders,
+};
+use sp_term::term::{Term, Variable, copy};
+use std::alloc::{AllocError, Global};
+
+/// What stands for the variables that binders bind, in the order of the binders: the innermost is the last one.
+#[derive(Debug, Drop)]
+pub struct Values {
+    /// for those of messages
+    pub messages: Vec<Term>,
+    /// for those of times
+    pub times: Vec<u128>,
+}
+
+/// New variables for binders.
+#[derive(Debug, Drop)]
+pub struct NewVariables {
+    /// what stands for the variables that are bound
+    pub values: Values,
+    /// the number of the next one
+    pub next: u128,
+}
+
+impl NewVariables {
+    // With a variable for one more binder.
+    fn with(self, binder: Binder) -> Result<NewVariables, AllocError>
+        ensures change { IfOk result (λ v. change_of v.values ≡ put (binder_of binder) self.next (change_of self.values)) }
+        ensures next { IfOk result (λ v. v.next ≡ self.next + 1) }
+    {
+        let number = self.next;
+        let Some(next) = number.checked_add(1) else {
+            return Err(AllocError);
+        };
+        let mut made = NewVariables {
+            values: self.values,
+            next,
+        };
+        match binder {
+            Binder::Message(sort) => {
+                let variable = Term::Var(Variable { sort, number });
+                made.values.messages.push(variable)?;
+                Ok(made)
+            }
+            Binder::Time => {
+                made.values.times.push(number)?;
+                Ok(made)
+            }
+        }
+    }
+
+    /// Variables of the numbers from `next` on for the binders.
+    ///
+    /// # Errors
+    ///
+    /// `AllocError` where memory is wanting, or no number is left.
+    pub fn of(alloc: Global, binders: &Vec<Binder>, next: u128) -> Result<NewVariables, AllocError>
+        ensures change { IfOk result (λ v. change_of v.values ≡ opening (map binder_of binders.now.items) next) }
+        ensures next { IfOk result (λ v. v.next ≡ next + length binders.now.items) }
+    {
+        let values = Values {
+            messages: Vec::new(alloc),
+            times: Vec::new(alloc),
+        };
+        let mut made = NewVariables { values, next };
+        for binder in binders {
+            made = made.with(*binder)?;
+        }
+        Ok(made)
+    }
+}
+
+impl Values {
+    /// These values, which are given with the innermost first.
+    pub fn innermost_first(mut messages: Vec<Term>, mut times: Vec<u128>) -> Values
+        ensures { change_of result ≡ instance (map view messages.items) times.items }
+    {
+        messages.reverse();
+        times.reverse();
+        Values { messages, times }
+    }
+
+    fn message(&self, inside: Inside, place: u64) -> Result<FormulaTerm, AllocError>
+        ensures { IfOk result (λ t. placed_term t ≡ (inside_of inside (change_of self.now)).bound_terms place) }
+    {
+        if place < inside.messages {
+            return Ok(FormulaTerm::Bound(place));
+        }
+        let beyond = place - inside.messages;
+        let count = self.messages.len() as u64;
+        if beyond < count {
+            let value = copy(&self.messages[(count - 1 - beyond) as usize])?;
+            Ok(FormulaTerm::Free(value))
+        } else {
+            Ok(FormulaTerm::Bound(place - count))
+        }
+    }
+
+    fn moment(&self, inside: Inside, place: u64) -> Moment
+        ensures { moment_of result ≡ (inside_of inside (change_of self.now)).bound_times place }
+    {
+        if place < inside.times {
+            return Moment::Bound(place);
+        }
+        let beyond = place - inside.times;
+        let count = self.times.len() as u64;
+        if beyond < count {
+            Moment::Free(self.times[(count - 1 - beyond) as usize])
+        } else {
+            Moment::Bound(place - count)
+        }
+    }
+
+    fn in_term(&self, inside: Inside, term: &FormulaTerm) -> Result<FormulaTerm, AllocError>
+        ensures { IfOk result (λ t. placed_term t ≡ valued (place_changed (inside_of inside (change_of self.now))) (placed_term term.now)) }
+    {
+        match term {
+            FormulaTerm::Bound(place) => self.message(inside, *place),
+            FormulaTerm::Free(term) => Ok(FormulaTerm::Free(copy(term)?)),
+        }
+    }
+
+    fn in_moment(&self, inside: Inside, moment: Moment) -> Moment
+        ensures { moment_of result ≡ time_changed (inside_of inside (change_of self.now)) (moment_of moment) }
+    {
+        match moment {
+            Moment::Bound(place) => self.moment(inside, place),
+            Moment::Free(time) => Moment::Free(time),
+        }
+    }
+
+    fn in_terms(
+        &self,
+        alloc: Global,
+        inside: Inside,
+        terms: &Vec<FormulaTerm>,
+    ) -> Result<Vec<FormulaTerm>, AllocError>
+        ensures { IfOk result (λ ts. placed_terms ts.items ≡ valued_all (place_changed (inside_of inside (change_of self.now))) (placed_terms terms.now.items)) }
+    {
+        let mut made = Vec::with_capacity(alloc, terms.len())?;
+        for term in terms {
+            made.push(self.in_term(inside, term)?)?;
+        }
+        Ok(made)
+    }
+
+    fn in_action(
+        &self,
+        alloc: Global,
+        inside: Inside,
+        action: &FormulaAction,
+    ) -> Result<FormulaAction, AllocError>
+        ensures { IfOk result (λ a. placed_action a ≡ action_at (place_changed (inside_of inside (change_of self.now))) (placed_action action.now)) }
+    {
+        let symbol = action.symbol.copy()?;
+        let args = self.in_terms(alloc, inside, &action.args)?;
+        Ok(FormulaAction { symbol, args })
+    }
+
+    fn atom_inside(&self, alloc: Global, inside: Inside, atom: &Atom) -> Result<Atom, AllocError>
+        ensures { IfOk result (λ a. atom_of a ≡ atom_changed (inside_of inside (change_of self.now)) (atom_of atom.now)) }
+    {
+        match atom {
+            Atom::Acts(action, time) => {
+                let action = self.in_action(alloc, inside, action)?;
+                Ok(Atom::Acts(action, self.in_moment(inside, *time)))
+            }
+            Atom::Same(left, right) => {
+                let left = self.in_term(inside, left)?;
+                let right = self.in_term(inside, right)?;
+                Ok(Atom::Same(left, right))
+            }
+            Atom::SameTime(first, second) => Ok(Atom::SameTime(
+                self.in_moment(inside, *first),
+                self.in_moment(inside, *second),
+            )),
+            Atom::Before(first, second) => Ok(Atom::Before(
+                self.in_moment(inside, *first),
+                self.in_moment(inside, *second),
+            )),
+        }
+    }
+
+    fn atoms_inside(
+        &self,
+        alloc: Global,
+        inside: Inside,
+        atoms: &Vec<Atom>,
+    ) -> Result<Vec<Atom>, AllocError>
+        ensures { IfOk result (λ xs. map atom_of xs.items ≡ map (atom_changed (inside_of inside (change_of self.now))) (map atom_of atoms.now.items)) }
+    {
+        let mut made = Vec::with_capacity(alloc, atoms.len())?;
+        for atom in atoms {
+            made.push(self.atom_inside(alloc, inside, atom)?)?;
+        }
+        Ok(made)
+    }
+
+    #[cycle(formula_inside)]
+    fn formula_inside(
+        &self,
+        alloc: Global,
+        inside: Inside,
+        formula: &Formula,
+    ) -> Result<Formula, AllocError>
+        ensures { IfOk result (λ f. formula_of f ≡ changed (inside_of inside (change_of self.now)) (formula_of formula.now)) }
+    {
+        match formula {
+            Formula::Truth => Ok(Formula::Truth),
+            Formula::Falsity => Ok(Formula::Falsity),
+            Formula::Holds(atom) => Ok(Formula::Holds(self.atom_inside(alloc, inside, atom)?)),
+            Formula::Fails(atom) => Ok(Formula::Fails(self.atom_inside(alloc, inside, atom)?)),
+            Formula::AllOf(formulas) => {
+                let formulas = self.formulas_inside(alloc, inside, formulas)?;
+                Ok(Formula::AllOf(formulas))
+            }
+            Formula::OneOf(formulas) => {
+                let formulas = self.formulas_inside(alloc, inside, formulas)?;
+                Ok(Formula::OneOf(formulas))
+            }
+            Formula::Exists(binders, guard, body) => {
+                let within = inside.under(binders)?;
+                let binders = copy_binders(alloc, binders)?;
+                let guard = self.atoms_inside(alloc, within, guard)?;
+                let body = self.body_inside(alloc, within, body)?;
+                Ok(Formula::Exists(binders, guard, body))
+            }
+            Formula::ForAll(binders, guard, body) => {
+                let within = inside.under(binders)?;
+                let binders = copy_binders(alloc, binders)?;
+                let guard = self.atoms_inside(alloc, within, guard)?;
+                let body = self.body_inside(alloc, within, body)?;
+                Ok(Formula::ForAll(binders, guard, body))
+            }
+        }
+    }
+
+    // The formula, in a box.
+    #[cycle(formula_inside)]
+    fn body_inside(
+        &self,
+        alloc: Global,
+        inside: Inside,
+        body: &Formula,
+    ) -> Result<Box<Formula>, AllocError>
+        ensures { IfOk result (λ f. formula_of f.value ≡ changed (inside_of inside (change_of self.now)) (formula_of body.now)) }
+    {
+        let made = self.formula_inside(alloc, inside, body)?;
+        let boxed = Box::new(alloc, made)?;
+        Ok(boxed)
+    }
+
+    #[cycle(formula_inside)]
+    fn formulas_inside(
+        &self,
+        alloc: Global,
+        inside: Inside,
+        formulas: &Vec<Formula>,
+    ) -> Result<Vec<Formula>, AllocError>
+        ensures { IfOk result (λ fs. map formula_of fs.items ≡ map (changed (inside_of inside (change_of self.now))) (map formula_of formulas.now.items)) }
+    {
+        let mut made = Vec::with_capacity(alloc, formulas.len())?;
+        for formula in formulas {
+            made.push(self.formula_inside(alloc, inside, formula)?)?;
+        }
+        Ok(made)
+    }
+
+    /// The atom with these values in place of those that were bound.
+    ///
+    /// # Errors
+    ///
+    /// `AllocError` where memory is wanting.
+    pub fn in_atom(&self, alloc: Global, atom: &Atom) -> Result<Atom, AllocError>
+        ensures { IfOk result (λ a. atom_of a ≡ atom_changed (change_of self.now) (atom_of atom.now)) }
+    {
+        let outermost = Inside {
+            messages: 0,
+            times: 0,
+        };
+        let made = self.atom_inside(alloc, outermost, atom)?;
+        Ok(made)
+    }
+
+    /// The formula with these values in place of those that were bound outside it.
+    ///
+    /// # Errors
+    ///
+    /// `AllocError` where memory is wanting.
+    pub fn in_formula(&self, alloc: Global, formula: &Formula) -> Result<Formula, AllocError>
+        ensures { IfOk result (λ f. formula_of f ≡ changed (change_of self.now) (formula_of formula.now)) }
+    {
+        let outermost = Inside {
+            messages: 0,
+            times: 0,
+        };
+        let made = self.formula_inside(alloc, outermost, formula)?;
+        Ok(made)
+    }
+}

@@ -1,0 +1,2 @@
+pub mod PairSearches
+pub mod FreshTerms

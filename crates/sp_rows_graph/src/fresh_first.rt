@@ -1,0 +1,151 @@
+// Events that use the Fr of a term come before those that have the term.
+
+ghost use Rattle.std.specs.Prelude.{◌≡◌, IfOk, map, option_map, option_and_then};
+ghost use Rattle.sp_term.specs.View.{view, view_all};
+ghost use Rattle.sp_fact.specs.View.{fact_of};
+ghost use Rattle.sp_system.specs.SystemView.{event_of, system_of};
+ghost use Rattle.sp_spec_graph.specs.FreshFirst as rows;
+ghost use Rattle.sp_rows_graph.specs.FreshView.{fresh_one};
+ghost use Rattle.sp_rows_graph.specs.FreshView.{missing_with};
+ghost use Rattle.sp_spec_system.specs.Picked.{first_some};
+ghost use Rattle.sp_system.specs.Reduced.{Reduced};
+
+use crate::fresh_once::{fresh_term, is_fresh};
+use sp_fact::fact::Fact;
+use sp_system::order::{add_pairs, is_before};
+use sp_system::system::{Event, System};
+use sp_term::term::{Term, same};
+use std::alloc::{AllocError, Global};
+
+// Whether the sought term stands in this one.
+#[cycle(occurs)]
+fn has_term(term: &Term, sought: &Term) -> bool
+    ensures { result ≡ rows.occurs_in (view sought.now) (view term.now) }
+{
+    match term {
+        Term::App(_, terms) => same(sought, term) || have_term(terms, sought),
+        _ => same(sought, term),
+    }
+}
+
+#[cycle(occurs)]
+fn have_term(terms: &Vec<Term>, sought: &Term) -> bool
+    ensures { result ≡ rows.occurs_among (view sought.now) (view_all terms.now.items) }
+{
+    for term in terms {
+        if has_term(term, sought) {
+            return true;
+        }
+    }
+    false
+}
+
+// Whether the term stands in one of the premises that is no Fr.
+fn has_taken(term: &Term, premises: &Vec<Fact>) -> bool
+    ensures { result ≡ rows.has_taken (view term.now) (map fact_of premises.now.items) }
+{
+    for premise in premises {
+        if !is_fresh(premise) && have_term(&premise.args, term) {
+            return true;
+        }
+    }
+    false
+}
+
+// Whether the event takes the term, and the time isn't before it.
+fn is_missing(
+    alloc: Global,
+    order: &Vec<(u128, u128)>,
+    time: u128,
+    term: &Term,
+    event: &Event,
+) -> Result<bool, AllocError>
+    ensures { IfOk result (λ b. b ≡ rows.is_missing order.now.items time (view term.now) (event_of event.now)) }
+{
+    if !has_taken(term, &event.facts.premises) {
+        return Ok(false);
+    }
+    let is_there = is_before(alloc, order, time, event.time)?;
+    Ok(!is_there)
+}
+
+// The pairs that put the time before each event that takes the term.
+fn missing_pairs(
+    alloc: Global,
+    system: &System,
+    time: u128,
+    term: &Term,
+) -> Result<Vec<(u128, u128)>, AllocError>
+    ensures { IfOk result (λ ps. ps.items ≡ rows.missing_pairs (system_of system.now).order time (view term.now) (system_of system.now).events) }
+{
+    let mut made = Vec::new(alloc);
+    for event in &system.events {
+        if is_missing(alloc, &system.order, time, term, event)? {
+            made.push((time, event.time))?;
+        }
+    }
+    Ok(made)
+}
+
+// The same for the Fr that the premise is, if it is one and some are missing.
+fn missing_for(
+    alloc: Global,
+    system: &System,
+    time: u128,
+    premise: &Fact,
+) -> Result<Option<Vec<(u128, u128)>>, AllocError>
+    ensures { IfOk result (λ o. option_map (λ ps. ps.items) o ≡ option_and_then (missing_with (system_of system.now) time) (fresh_one (fact_of premise.now))) }
+{
+    let Some(term) = fresh_term(premise) else {
+        return Ok(None);
+    };
+    let pairs = missing_pairs(alloc, system, time, term)?;
+    if pairs.is_empty() {
+        return Ok(None);
+    }
+    Ok(Some(pairs))
+}
+
+// The pairs that are missing for the first Fr of the event for which some are.
+#[tactic(auto, using(crate::proofs::FreshTerms::first_of_fact))]
+fn missing_behind(
+    alloc: Global,
+    system: &System,
+    event: &Event,
+) -> Result<Option<Vec<(u128, u128)>>, AllocError>
+    ensures { IfOk result (λ o. option_map (λ ps. ps.items) o ≡ rows.missing_behind (system_of system.now) (event_of event.now)) }
+{
+    for premise in &event.facts.premises {
+        if let Some(pairs) = missing_for(alloc, system, event.time, premise)? {
+            return Ok(Some(pairs));
+        }
+    }
+    Ok(None)
+}
+
+// The pairs that are missing for the first event for which some are.
+fn first_missing(alloc: Global, system: &System) -> Result<Option<Vec<(u128, u128)>>, AllocError>
+    ensures { IfOk result (λ o. option_map (λ ps. ps.items) o ≡ first_some (rows.missing_behind (system_of system.now)) (map event_of system.now.events.items)) }
+{
+    for event in &system.events {
+        if let Some(pairs) = missing_behind(alloc, system, event)? {
+            return Ok(Some(pairs));
+        }
+    }
+    Ok(None)
+}
+
+/// Puts the first event that uses an Fr before each event that has its term in another premise; false if it is there already.
+///
+/// # Errors
+///
+/// `AllocError` where memory is wanting.
+pub fn fresh_first(alloc: Global, system: &mut System) -> Result<bool, AllocError>
+    ensures { IfOk result (λ b. Reduced b (system_of system.old) (system_of system.new) (rows.fresh_first (system_of system.old))) }
+{
+    let Some(pairs) = first_missing(alloc, system)? else {
+        return Ok(false);
+    };
+    add_pairs(system, pairs)?;
+    Ok(true)
+}

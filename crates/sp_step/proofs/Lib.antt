@@ -1,0 +1,3 @@
+pub mod Exact
+pub mod Turns
+pub mod RowSearches

@@ -1,0 +1,5 @@
+pub mod View
+pub mod WhyNot
+pub mod SimplifyView
+pub mod ReduceView
+pub mod WordsView

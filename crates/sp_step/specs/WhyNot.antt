@@ -1,0 +1,31 @@
+-- Why a move is no instance.
+use Rattle.std.specs.Prelude.{◌≡◌, Bool, if◌then◌else◌, Option, Some, None, is_some}
+use Rattle.sp_spec_system.specs.System.{System}
+use Rattle.sp_spec_proof.specs.Rows.{has_place, is_contradictory}
+use Rattle.sp_spec_system.specs.Move.{Move, simplify, contradiction, unproved, solved, or, action, premise, Context, end_log}
+use Rattle.sp_moves_formula.specs.WhyNot.{Clause, another_crate, condition, why_not_formula}
+use Rattle.sp_moves_graph.specs.WhyNot.{why_not_graph}
+
+-- a move that names nothing has its condition alone
+abbrev pub unless : Bool → Option Clause
+unless b = if b then None else Some condition
+
+abbrev pub why_not : Context → System → Move → Option Clause
+why_not context s simplify = unless (has_place context.rules s)
+why_not context s contradiction = unless (is_contradictory context.rules s)
+why_not context s unproved = None
+why_not context s solved = unless (is_some (end_log context s))
+why_not context s (or k) = why_not_formula s (or k)
+why_not context s (action k) = why_not_formula s (action k)
+why_not context s (premise i p) = why_not_graph s (premise i p)
+
+-- the clause that fails of a move that has no cases
+abbrev pub where_none : System → Move → Option Clause
+where_none s (or k) = why_not_formula s (or k)
+where_none s (action k) = why_not_formula s (action k)
+where_none s (premise i p) = why_not_graph s (premise i p)
+where_none s move = Some condition
+
+-- each move is one of those that are asked about
+pub record IsAsked (why : Option Clause) : Type 0 where
+  pub asked : why ≡ Some another_crate → ⊥

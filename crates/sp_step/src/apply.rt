@@ -1,0 +1,54 @@
+// The cases of a move, simplified, or why it is no instance.
+
+ghost use Rattle.std.specs.Prelude.{◌≡◌, IfOk, option_map};
+ghost use Rattle.sp_system.specs.SystemView.{system_of};
+ghost use Rattle.sp_spec_proof.specs.Cases as spec;
+ghost use Rattle.sp_moves_formula.specs.Applied.{clause_of, cases_of, failing};
+ghost use Rattle.sp_moves_formula.specs.WhyNot.{HasCases};
+ghost use Rattle.sp_step.specs.View.{context_of};
+ghost use Rattle.sp_moves_formula.specs.View.{move_of};
+ghost use Rattle.sp_step.specs.WhyNot.{IsAsked, why_not, where_none};
+
+use crate::context::Context;
+use crate::moves::{Move, cases};
+use sp_moves_formula::apply as formula;
+pub use sp_moves_formula::apply::{Applied, Clause};
+use sp_moves_graph::apply as graph;
+use sp_system::system::System;
+use std::alloc::{AllocError, Global};
+
+// Why a move without cases is no instance.
+fn where_none(alloc: Global, system: &System, chosen: Move) -> Result<Option<Clause>, AllocError>
+    ensures { IfOk result (λ o. option_map clause_of o ≡ where_none (system_of system.now) (move_of chosen)) }
+{
+    match chosen {
+        Move::Or(_) | Move::Action(_) => formula::why_not(alloc, system, chosen),
+        Move::Premise(_) => Ok(graph::why_not(system, chosen)),
+        _ => Ok(Some(Clause::Condition)),
+    }
+}
+
+/// The cases of a move, simplified, or why it is no instance: never since it is another crate's.
+///
+/// # Errors
+///
+/// `AllocError` where memory is wanting, or no number is left for a new variable.
+pub fn apply(
+    alloc: Global,
+    context: &Context,
+    system: &System,
+    chosen: Move,
+) -> Result<Applied, AllocError>
+    ensures why { IfOk result (λ a. failing a ≡ why_not (context_of context.now) (system_of system.now) (move_of chosen)) }
+    ensures gives { IfOk result (λ a. cases_of a ≡ spec.cases (context_of context.now) (system_of system.now) (move_of chosen)) }
+    ensures exact { HasCases (why_not (context_of context.now) (system_of system.now) (move_of chosen)) (spec.cases (context_of context.now) (system_of system.now) (move_of chosen)) }
+    ensures asked { IsAsked (why_not (context_of context.now) (system_of system.now) (move_of chosen)) }
+{
+    match cases(alloc, context, system, chosen)? {
+        Some(cases) => Ok(Applied::Cases(cases)),
+        None => match where_none(alloc, system, chosen)? {
+            Some(clause) => Ok(Applied::NotAnInstance(clause)),
+            None => unreachable!(),
+        },
+    }
+}

@@ -1,0 +1,106 @@
+// Moves and cases.
+
+ghost use Rattle.std.specs.Prelude.{◌≡◌, IfOk, map, option_map};
+ghost use Rattle.sp_system.specs.SystemView.{system_of};
+ghost use Rattle.sp_spec_system.specs.Move as spec;
+ghost use Rattle.sp_spec_proof.specs.Cases as cases_spec;
+ghost use Rattle.sp_step.specs.View.{context_of, rules_of, move_of, case_of};
+
+use crate::context::{Context, Rules};
+use crate::simplify::{has_place, is_contradictory, simplify};
+pub use sp_moves_formula::moves::{Case, Move};
+use sp_moves_formula::part::or_cases;
+use sp_moves_formula::solving::solving_action;
+use sp_moves_graph::premise::premise_cases;
+use sp_system::system::System;
+use std::alloc::{AllocError, Global};
+
+// The system itself, if some elementary move has a place.
+fn unsimplified(
+    alloc: Global,
+    context: &Context,
+    system: &System,
+) -> Result<Option<Vec<Case>>, AllocError>
+    ensures { IfOk result (λ o. option_map (λ cs. map case_of cs.items) o ≡ cases_spec.raw_cases (context_of context.now) (system_of system.now) spec.simplify) }
+{
+    if !has_place(alloc, &context.theory(), system)? {
+        return Ok(None);
+    }
+    let name = String::new(alloc);
+    let system = system.copy(alloc)?;
+    let mut made = Vec::new(alloc);
+    made.push(Case { name, system })?;
+    Ok(Some(made))
+}
+
+// No case, if the search ends at the system.
+fn ended(alloc: Global, context: &Context, system: &System) -> Result<Option<Vec<Case>>, AllocError>
+    ensures { IfOk result (λ o. option_map (λ cs. map case_of cs.items) o ≡ cases_spec.raw_cases (context_of context.now) (system_of system.now) spec.solved) }
+{
+    if context.ends(alloc, system)? {
+        Ok(Some(Vec::new(alloc)))
+    } else {
+        Ok(None)
+    }
+}
+
+fn raw_cases(
+    alloc: Global,
+    context: &Context,
+    system: &System,
+    chosen: Move,
+) -> Result<Option<Vec<Case>>, AllocError>
+    ensures { IfOk result (λ o. option_map (λ cs. map case_of cs.items) o ≡ cases_spec.raw_cases (context_of context.now) (system_of system.now) (move_of chosen)) }
+{
+    match chosen {
+        Move::Simplify => {
+            let made = unsimplified(alloc, context, system)?;
+            Ok(made)
+        }
+        Move::Contradiction => {
+            if is_contradictory(alloc, &context.theory(), system)? {
+                Ok(Some(Vec::new(alloc)))
+            } else {
+                Ok(None)
+            }
+        }
+        Move::Unproved => Ok(Some(Vec::new(alloc))),
+        Move::Solved => ended(alloc, context, system),
+        Move::Or(position) => or_cases(alloc, system, position),
+        Move::Action(position) => solving_action(alloc, context.rules, system, position),
+        Move::Premise(premise) => premise_cases(alloc, context.rules, system, premise),
+    }
+}
+
+fn simple_cases(alloc: Global, rules: &Rules, cases: Vec<Case>) -> Result<Vec<Case>, AllocError>
+    ensures { IfOk result (λ cs. map case_of cs.items ≡ map (cases_spec.simple_case (rules_of rules.now)) (map case_of cases.items)) }
+{
+    let mut made = Vec::with_capacity(alloc, cases.len())?;
+    for case in cases {
+        let name = case.name;
+        let mut system = case.system;
+        simplify(alloc, rules, &mut system)?;
+        made.push(Case { name, system })?;
+    }
+    Ok(made)
+}
+
+/// The cases of a move, simplified; none where it is no instance.
+///
+/// # Errors
+///
+/// `AllocError` where memory is wanting, or no number is left for a new variable.
+pub fn cases(
+    alloc: Global,
+    context: &Context,
+    system: &System,
+    chosen: Move,
+) -> Result<Option<Vec<Case>>, AllocError>
+    ensures { IfOk result (λ o. option_map (λ cs. map case_of cs.items) o ≡ cases_spec.cases (context_of context.now) (system_of system.now) (move_of chosen)) }
+{
+    let Some(raw) = raw_cases(alloc, context, system, chosen)? else {
+        return Ok(None);
+    };
+    let made = simple_cases(alloc, &context.theory(), raw)?;
+    Ok(Some(made))
+}

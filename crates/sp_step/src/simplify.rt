@@ -1,0 +1,117 @@
+// Simplification: elementary moves until none applies or a contradiction is seen.
+
+ghost use Rattle.std.specs.Prelude.{◌≡◌, IfOk, OnOk, is_some};
+ghost use Rattle.sp_system.specs.SystemView.{system_of};
+ghost use Rattle.sp_system.specs.Reduced.{Reduced};
+ghost use Rattle.sp_spec_proof.specs.Rows as rows;
+ghost use Rattle.sp_step.specs.SimplifyView as spec;
+ghost use Rattle.sp_step.specs.View.{rules_of};
+
+use crate::context::Rules;
+use crate::reduce::{ROWS, reduce};
+use sp_rows_formula::contradiction::{has_equal_pair, has_falsity, has_refuted};
+use sp_rows_formula::equation::fails_to_equate;
+use sp_rows_graph::fresh_once::fails_to_merge;
+use sp_rows_graph::links::{fails_to_link, has_source_twice};
+use sp_system::order::is_cyclic;
+use sp_system::system::System;
+use std::alloc::{AllocError, Global};
+
+/// Does the first elementary move that applies; false where none does, and then the system stays.
+///
+/// # Errors
+///
+/// `AllocError` where memory is wanting, or no number is left for a new variable.
+pub fn by_rows(alloc: Global, rules: &Rules, system: &mut System) -> Result<bool, AllocError>
+    ensures { IfOk result (λ b. Reduced b (system_of system.old) (system_of system.new) (rows.by_rows (rules_of rules.now) rows.rows (system_of system.old))) }
+{
+    for row in &ROWS {
+        if reduce(alloc, rules, system, *row)? {
+            return Ok(true);
+        }
+    }
+    Ok(false)
+}
+
+/// Whether some elementary move applies.
+///
+/// # Errors
+///
+/// `AllocError` where memory is wanting, or no number is left for a new variable.
+pub fn is_reducible(alloc: Global, rules: &Rules, system: &System) -> Result<bool, AllocError>
+    ensures { IfOk result (λ b. b ≡ is_some (rows.by_rows (rules_of rules.now) rows.rows (system_of system.now))) }
+{
+    let mut tried = system.copy(alloc)?;
+    let applies = by_rows(alloc, rules, &mut tried)?;
+    Ok(applies)
+}
+
+// Whether a unification or a merge fails that an elementary move is to make.
+fn fails_somewhere(alloc: Global, system: &System) -> Result<bool, AllocError>
+    ensures { IfOk result (λ b. b ≡ rows.fails_somewhere (system_of system.now)) }
+{
+    if fails_to_equate(alloc, system)? || fails_to_link(alloc, system)? {
+        return Ok(true);
+    }
+    fails_to_merge(alloc, system)
+}
+
+/// Whether some elementary move has a place, be it one at which it fails.
+///
+/// # Errors
+///
+/// `AllocError` where memory is wanting, or no number is left for a new variable.
+pub fn has_place(alloc: Global, rules: &Rules, system: &System) -> Result<bool, AllocError>
+    ensures { IfOk result (λ b. b ≡ rows.has_place (rules_of rules.now) (system_of system.now)) }
+{
+    if is_reducible(alloc, rules, system)? {
+        return Ok(true);
+    }
+    fails_somewhere(alloc, system)
+}
+
+/// Whether a contradiction is seen.
+///
+/// # Errors
+///
+/// `AllocError` where memory is wanting.
+pub fn is_contradictory(alloc: Global, rules: &Rules, system: &System) -> Result<bool, AllocError>
+    ensures { IfOk result (λ b. b ≡ rows.is_contradictory (rules_of rules.now) (system_of system.now)) }
+{
+    if has_falsity(&system.formulas) || has_equal_pair(&system.unequal) {
+        return Ok(true);
+    }
+    if has_refuted(alloc, &system.order, &system.formulas)? || is_cyclic(alloc, &system.order)? {
+        return Ok(true);
+    }
+    if has_source_twice(system) {
+        return Ok(true);
+    }
+    fails_somewhere(alloc, system)
+}
+
+// Does one more elementary move, if no contradiction is seen and some move applies; else the system stays.
+fn turn(alloc: Global, rules: &Rules, system: &mut System) -> Result<bool, AllocError>
+    ensures { IfOk result (λ b. Reduced b (system_of system.old) (system_of system.new) (spec.turned (rules_of rules.now) (system_of system.old))) }
+{
+    if is_contradictory(alloc, rules, system)? {
+        return Ok(false);
+    }
+    by_rows(alloc, rules, system)
+}
+
+/// Does at most 10,000 elementary moves, up to a contradiction.
+///
+/// # Errors
+///
+/// `AllocError` where memory is wanting, or no number is left for a new variable.
+pub fn simplify(alloc: Global, rules: &Rules, system: &mut System) -> Result<(), AllocError>
+    ensures { OnOk result (system_of system.new ≡ rows.simplified (rules_of rules.now) (system_of system.old)) }
+{
+    for turns in 0..10_000u64 {
+        if !turn(alloc, rules, system)? {
+            return Ok(());
+        }
+    }
+    Ok(())
+}

@@ -1,0 +1,89 @@
+// Proofs whose steps stand each below the one before: read and checked, and grown.
+
+use crate::calls::{assert_answer, words_on_text};
+use crate::proofs::THEORY;
+use sp_io::{MemLibrary, MemSink};
+use sp_top::run;
+use std::alloc::{AllocError, Global};
+use std::test::Fail;
+
+// the first theory with a proof of this many steps
+fn nested(alloc: Global, steps: usize) -> Result<String, AllocError> {
+    let mut text = String::from_str(alloc, THEORY)?;
+    for _step in 0..steps {
+        text.push_str("simplify\n")?;
+    }
+    text.push_str("by sorry\nend\n")?;
+    Ok(text)
+}
+
+#[test]
+fn deep_proofs_are_checked(rt: HostRuntime) -> Result<(), Fail> {
+    let alloc = rt.alloc();
+    let line = "once (all-traces): rejected at step 2 (instance)\n";
+    for steps in [10_000, 100_000] {
+        let text = nested(alloc, steps)?;
+        assert_answer(&rt, alloc, "check", text.as_str(), 3, line)?;
+    }
+    Ok(())
+}
+
+// a rule that does this many actions at once, each with a value of its own
+fn with_actions(alloc: Global, actions: usize) -> Result<String, AllocError> {
+    let mut text = String::from_str(alloc, "rule R: [ ] --[ A0($x0)")?;
+    for place in 1..actions {
+        write!(text, ", A{place}($x{place})")?;
+    }
+    text.push_str(" ]-> [ ]\n")?;
+    Ok(text)
+}
+
+// a step of that rule has this value for each of them
+fn with_value(alloc: Global, value: usize, actions: usize) -> Result<String, AllocError> {
+    let mut text = format!(in alloc; "(Ex #k. A0('{value}')@k")?;
+    for place in 1..actions {
+        write!(text, " & A{place}('{value}')@k")?;
+    }
+    text.push(')')?;
+    Ok(text)
+}
+
+// a theory whose lemma asks for this many steps, each action of which is a step of the proof
+fn wide(alloc: Global, steps: usize, actions: usize) -> Result<String, AllocError> {
+    let rule = with_actions(alloc, actions)?;
+    let first = with_value(alloc, 0, actions)?;
+    let mut text = format!(in alloc;
+        "theory Wide begin\n{rule}lemma wide: exists-trace \"{first}"
+    )?;
+    for value in 1..steps {
+        let part = with_value(alloc, value, actions)?;
+        write!(text, " & {part}")?;
+    }
+    text.push_str("\"\nend\n")?;
+    Ok(text)
+}
+
+fn has_line(written: &[u8], line: &str) -> bool {
+    for found in written.split(|byte| *byte == b'\n') {
+        if found == line.as_bytes() {
+            return true;
+        }
+    }
+    false
+}
+
+#[test]
+fn deep_trees_are_grown(rt: HostRuntime) -> Result<(), Fail> {
+    let alloc = rt.alloc();
+    let text = wide(alloc, 100, 50)?;
+    let words = words_on_text(alloc, "prove")?;
+    let mut library = MemLibrary::new(alloc);
+    library.put("text", text.as_bytes())?;
+    let mut sink = MemSink::new(alloc, 1 << 20, 100_000_000)?;
+    let ended = run(alloc, &words, &mut library, &mut sink);
+    // The first step simplifies, the last one ends the search.
+    let is_told = has_line(sink.written(), "wide (exists-trace): verified (5002 steps)");
+    assert!(rt; is_told);
+    assert_eq!(rt; ended as u8, 0);
+    Ok(())
+}

@@ -1,4 +1,0 @@
-pub mod InOrder
-pub mod Levels
-pub mod NamedPlaces
-pub mod Nodes

@@ -1,4 +1,0 @@
-pub mod AroundView
-pub mod Nodes
-pub mod Places
-pub mod TreeText
