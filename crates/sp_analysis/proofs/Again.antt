@@ -22,7 +22,7 @@ use Rattle.sp_skel.proofs.Readable.{grown_readable}
 use Rattle.sp_law_again.proofs.Named.{rules_named}
 use Rattle.sp_skel.proofs.Spelled.{tree_says}
 use Rattle.sp_law_again.specs.Again.{as_proofs, with_trees}
-use Rattle.sp_law_again.specs.Behind.{IsBehindEnd}
+use Rattle.sp_spec_text.specs.Behind.{IsBehindEnd}
 use Rattle.sp_law_again.proofs.Behind.{behind_end}
 use Rattle.sp_law_again.proofs.Items.{read_again}
 use Rattle.sp_law_again.proofs.Replaced.{each_lemma, same_theory, trees_proofs}

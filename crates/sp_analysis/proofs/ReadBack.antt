@@ -5,7 +5,7 @@ use Rattle.sp_spec.proofs.Options.{then_some}
 use Rattle.sp_spec.specs.Log.{Entry, Log, log_trace, visible_trace}
 use Rattle.std.proofs.lemmas.Bool.{and_parts}
 use Rattle.sp_law_decide.specs.Deciding.{decided, empty}
-use Rattle.sp_read_steps.specs.Lines.{IsWritableStep}
+use Rattle.sp_spec_text.specs.StepLines.{IsWritableStep}
 use Rattle.sp_law_block.specs.Shown.{IsShownAction}
 use Rattle.sp_spec.specs.Theory.{TraceKind, all_traces, exists_trace, Lemma, signature_of}
 use Rattle.sp_spec.specs.Written.{WrittenTheory, theory_of}
@@ -23,12 +23,12 @@ use Rattle.sp_spec_text.specs.Texts.{IsTextOf}
 use Rattle.sp_spec_system.specs.System.{System}
 use Rattle.sp_spec_system.specs.Numbered.{names_in}
 use Rattle.sp_spec_proof.specs.Tree.{Tree, found_log}
-use Rattle.sp_law_system.specs.Rules.{IsPlainTheory}
+use Rattle.sp_law_system.specs.Rules.{SuitsProofs}
 use Rattle.sp_law_system.specs.Proofs.{IsWellMade}
 use Rattle.sp_law_tree.proofs.Forms.{right_negation, right_numbered}
 use Rattle.sp_law_tree.proofs.Named.{NamedAtom, form_named}
 use Rattle.sp_law_tree.proofs.OverLogs.{lemma_right}
-use Rattle.sp_law_tree.proofs.RightTexts.{plain_text}
+use Rattle.sp_law_tree.proofs.RightTexts.{text_suits}
 use Rattle.sp_log.specs.Checking.{is_log}
 use Rattle.sp_log.proofs.Checks.{log_decides}
 use Rattle.sp_solved.specs.Candidate.{candidate}
@@ -36,7 +36,7 @@ use Rattle.sp_solved.specs.Found.{is_sought, kept_if}
 use Rattle.sp_law_shown.proofs.Executable.{executable, checkable}
 use Rattle.sp_wf.specs.Laws.{IsWellFormed}
 use Rattle.sp_pose.proofs.Theories.{AreFirst, theory_spelled}
-use Rattle.sp_read_steps.proofs.PairNames.{pairs_have_names}
+use Rattle.sp_spec_text.proofs.SymbolNames.{pairs_have_names}
 use Rattle.sp_law_block.specs.Block.{oldest_first, IsNumbered}
 use Rattle.sp_law_block.proofs.CandidateNames.{candidates_have_names_lem, every_newest}
 use Rattle.sp_law_block.proofs.Ends.{ends_are_well_made_lem}
@@ -66,8 +66,8 @@ module _ (text : List ℕ) (written : WrittenText) (says : IsTextOf text written
   first : AreFirst theory.rules theory.lemmas
   first = theory_spelled says.spells
 
-  plain : IsPlainTheory (theory_of theory)
-  plain = plain_text theory forms first.rules_are fine.rules
+  suits : SuitsProofs (theory_of theory)
+  suits = text_suits theory forms first.rules_are fine.rules
 
   -- the system in which a proof begins
   begins_well : (l : Lemma) → IsLemmaOf theory l → (g : Guarded) → checked_form l.formula ≡ Some g → (kind : TraceKind)
@@ -92,7 +92,7 @@ module _ (text : List ℕ) (written : WrittenText) (says : IsTextOf text written
       let f = sought goal.kind goal.form in
       let constants = constants_of theory in
       let found_in = searched theory forms first fine refl in
-      let end = ends_are_well_made_lem.ends (theory_of theory) plain (context_of (setting_of theory) goal) (is_context theory forms first fine refl goal) s made tree log e in
+      let end = ends_are_well_made_lem.ends (theory_of theory) suits (context_of (setting_of theory) goal) (is_context theory forms first fine refl goal) s made tree log e in
       let q = then_some (λ (entries : List Entry). kept_if (is_sought signature rules f entries) entries) (candidate constants end.0) log end.2 in
       let k = kept_entries (is_sought signature rules f q.0) q.0 log q.2 in
       let is = (log_decides (theory_of theory) (checkable theory found_in) q.0).0 (and_parts (is_log signature rules q.0) (decided (log_trace (newest_first q.0)) empty f) k.0).0 in
@@ -105,7 +105,7 @@ module _ (text : List ℕ) (written : WrittenText) (says : IsTextOf text written
       subst (IsReadBack (theory_of theory)) k.1 (record {
         writable = writable;
         read = steps_are_read_back_lem.read signature.symbols pairs_have_names (oldest_first (execution_of (theory_of theory) newest)) writable;
-        shown = every_newest (Every (IsShownAction signature.symbols)) (visible_trace newest) (logs_may_be_written_lem.trace theory exe named plain.over.actions newest is.0 is.1 names);
+        shown = every_newest (Every (IsShownAction signature.symbols)) (visible_trace newest) (logs_may_be_written_lem.trace theory exe named suits.over.actions newest is.0 is.1 names);
       })
 
   -- where there is none nothing is written

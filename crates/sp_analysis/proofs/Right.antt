@@ -18,12 +18,12 @@ use Rattle.sp_log.specs.Checking.{is_log}
 use Rattle.sp_solved.specs.Candidate.{candidate}
 use Rattle.sp_solved.specs.Found.{is_sought, kept_if, found}
 use Rattle.sp_law_shown.specs.Shown.{IsSearched, FoundBreaks, FoundSatisfies}
-use Rattle.sp_law_shown.proofs.Learning.{plain_names_none, into_reading}
+use Rattle.sp_law_shown.proofs.Learning.{basic_names_none, into_reading}
 use Rattle.sp_spec_system.specs.Move.{Context}
 use Rattle.sp_spec_proof.specs.Tree.{Tree, IsAccepted, IsFinished, found_log}
 use Rattle.sp_spec_system.specs.Numbered.{names_in}
 use Rattle.sp_law_system.specs.Proofs.{IsContextOf}
-use Rattle.sp_law_tree.specs.PlainTheory.{IsPlainFormula, HasNames}
+use Rattle.sp_law_tree.specs.BasicTheory.{IsBasicFormula, HasNames}
 use Rattle.sp_law_tree.proofs.WrittenRules.{names_stand_lem}
 use Rattle.sp_law_tree.proofs.AllShown.{lemmas_are_shown_lem}
 use Rattle.sp_law_tree.proofs.Growing.{grown_tree_accepted}
@@ -76,34 +76,34 @@ found_tested signature rules constants f s log e = at (candidate constants s) e
 
 -- a lemma of the text, with the text's public names
 abbrev pub IsLemmaOf : WrittenTheory → Lemma → Type 0
-IsLemmaOf theory l = IsPlainFormula l.formula × HasNames (names_in (constants_of theory)) l.formula
+IsLemmaOf theory l = IsBasicFormula l.formula × HasNames (names_in (constants_of theory)) l.formula
 
-pub lemmas_of : (theory : WrittenTheory) → Every (λ (l : Lemma). IsPlainFormula l.formula) theory.lemmas → Every (IsLemmaOf theory) theory.lemmas
-lemmas_of theory plain = go theory.lemmas (λ l m. m) plain
+pub lemmas_of : (theory : WrittenTheory) → Every (λ (l : Lemma). IsBasicFormula l.formula) theory.lemmas → Every (IsLemmaOf theory) theory.lemmas
+lemmas_of theory basic = go theory.lemmas (λ l m. m) basic
   where
-    go : (ls : List Lemma) → ((l : Lemma) → Member l ls → Member l theory.lemmas) → Every (λ (l : Lemma). IsPlainFormula l.formula) ls → Every (IsLemmaOf theory) ls
+    go : (ls : List Lemma) → ((l : Lemma) → Member l ls → Member l theory.lemmas) → Every (λ (l : Lemma). IsBasicFormula l.formula) ls → Every (IsLemmaOf theory) ls
     go [] among h = tt
     go (l ∷ ls) among h = ((h.0, names_stand_lem.lemmas theory l (among l (inl refl)) h.0), go ls (λ x m. among x (inr m)) h.1)
 
 -- no lemma of a text names learning
 pub lemmas_unlearnt : (bytes : List ℕ) (text : WrittenText) → IsTextOf bytes text → Every (λ (l : Lemma). names_learning l.formula ≡ false) (theory_in text).lemmas
 lemmas_unlearnt bytes text says =
-    every_weaken (λ (l : Lemma). IsPlainFormula l.formula) (λ (l : Lemma). names_learning l.formula ≡ false) (λ l h. plain_names_none l.formula h) (theory_in text).lemmas (theory_spelled says.spells).lemmas_are
+    every_weaken (λ (l : Lemma). IsBasicFormula l.formula) (λ (l : Lemma). names_learning l.formula ≡ false) (λ l h. basic_names_none l.formula h) (theory_in text).lemmas (theory_spelled says.spells).lemmas_are
 
 module _ (theory : WrittenTheory) (forms : HasNormalForms (signature_of (theory_of theory))) (first : AreFirst theory.rules theory.lemmas) (fine : IsWellFormed theory) (none : theory.restrictions ≡ []) where
   pub searched : IsSearched theory
-  searched = record { normal_forms = forms; plain = first.rules_are; rule_names = fine.rule_names; right = fine.rules; unrestricted = none }
+  searched = record { normal_forms = forms; basic = first.rules_are; rule_names = fine.rule_names; right = fine.rules; unrestricted = none }
 
   pub is_context : (goal : Goal) → IsContextOf (theory_of theory) (context_of (setting_of theory) goal)
   is_context goal = record { rules = refl; numbered = names_stand_lem.rules theory first.rules_are }
 
-  breaks : (l : Lemma) → IsPlainFormula l.formula → (g : Guarded) → checked_form l.formula ≡ Some g → (s : System) (log : Log)
+  breaks : (l : Lemma) → IsBasicFormula l.formula → (g : Guarded) → checked_form l.formula ≡ Some g → (s : System) (log : Log)
       → found (signature_of (theory_of theory)) (theory_of theory).rules (constants_of theory) (negate g) s ≡ Some log → FoundBreaks (theory_of theory) l log
   breaks l f g e s log is =
       let h = found_tested (signature_of (theory_of theory)) (theory_of theory).rules (constants_of theory) (negate g) s log is in
       subst (FoundBreaks (theory_of theory) l) h.log_is (found_logs_show_lem.breaks theory searched l f g e h.entries h.is_log h.is_true)
 
-  satisfies : (l : Lemma) → IsPlainFormula l.formula → (g : Guarded) → checked_form l.formula ≡ Some g → (s : System) (log : Log)
+  satisfies : (l : Lemma) → IsBasicFormula l.formula → (g : Guarded) → checked_form l.formula ≡ Some g → (s : System) (log : Log)
       → found (signature_of (theory_of theory)) (theory_of theory).rules (constants_of theory) g s ≡ Some log → FoundSatisfies (theory_of theory) l log
   satisfies l f g e s log is =
       let h = found_tested (signature_of (theory_of theory)) (theory_of theory).rules (constants_of theory) g s log is in
@@ -119,7 +119,7 @@ module _ (theory : WrittenTheory) (forms : HasNormalForms (signature_of (theory_
       → IsAccepted (context_of (setting_of theory) (goal_of [] kind g)) (root_system (goal_of [] kind g)) tree
       → log ≡ found_log (context_of (setting_of theory) (goal_of [] kind g)) (root_system (goal_of [] kind g)) tree → Says kind v log (IsFinished tree) → Means (theory_of theory) kind v log l
   shown l f g e all_traces verified None tree accepted is says =
-      into_reading l (plain_names_none l.formula f.0) (HoldsInAllLogs (theory_of theory) l) (HoldsInAll (theory_of theory) l)
+      into_reading l (basic_names_none l.formula f.0) (HoldsInAllLogs (theory_of theory) l) (HoldsInAll (theory_of theory) l)
       (lemmas_are_shown_lem.all_traces theory forms first.rules_are fine.rules l f.0 g e (context_of (setting_of theory) (goal_of [] all_traces g)) (is_context (goal_of [] all_traces g)) f.1 tree accepted says)
   shown l f g e all_traces verified (Some log) tree accepted is says = absurd says
   shown l f g e all_traces falsified None tree accepted is says = absurd says
@@ -132,7 +132,7 @@ module _ (theory : WrittenTheory) (forms : HasNormalForms (signature_of (theory_
   shown l f g e exists_trace verified (Some log) tree accepted is says =
       let s = ended (goal_of [] exists_trace g) tree log is in satisfies l f.0 g e s.0 log s.1
   shown l f g e exists_trace falsified None tree accepted is says =
-      into_reading l (plain_names_none l.formula f.0) (HoldsInNoLog (theory_of theory) l) (HoldsInNone (theory_of theory) l)
+      into_reading l (basic_names_none l.formula f.0) (HoldsInNoLog (theory_of theory) l) (HoldsInNone (theory_of theory) l)
       (lemmas_are_shown_lem.exists_trace theory forms first.rules_are fine.rules l f.0 g e (context_of (setting_of theory) (goal_of [] exists_trace g)) (is_context (goal_of [] exists_trace g)) f.1 tree accepted says)
   shown l f g e exists_trace falsified (Some log) tree accepted is says = absurd says
   shown l f g e exists_trace incomplete None tree accepted is says = tt

@@ -5,7 +5,7 @@ use Rattle.sp_spec.specs.Theory.{TraceKind, all_traces, exists_trace, Theory, Le
 use Rattle.sp_spec.specs.Log.{Log, visible_trace}
 use Rattle.sp_law_found.specs.Found.{execution_of}
 use Rattle.sp_spec_text.specs.Printed.{step_text}
-use Rattle.sp_read_steps.specs.Lines.{IsWritableStep, AreSteps}
+use Rattle.sp_spec_text.specs.StepLines.{IsWritableStep, AreSteps}
 use Rattle.sp_law_block.specs.Block.{oldest_first}
 use Rattle.sp_law_block.specs.Shown.{IsShownTrace}
 use Rattle.sp_spec.specs.Written.{WrittenTheory, theory_of}
@@ -17,7 +17,7 @@ use Rattle.sp_spec_text.specs.Written.{WrittenText, theory_in, proofs_in}
 use Rattle.sp_skel.specs.Spelling.{as_written}
 use Rattle.sp_place.specs.Refused.{IsRefusedAt}
 use Rattle.sp_pose.specs.Problem.{IsReported}
-use Rattle.sp_law_again.specs.Behind.{IsBehindEnd}
+use Rattle.sp_spec_text.specs.Behind.{IsBehindEnd}
 use Rattle.sp_law_shown.specs.Shown.{FoundBreaks, FoundSatisfies}
 use Rattle.sp_analysis.specs.Sought.{root_system, setting_of, context_of}
 use Rattle.sp_analysis.specs.Analysis.{Outcome, summary, trees_of, IsAnalysis}

@@ -1,10 +1,12 @@
 // The public names of a theory, each once.
 
-ghost use Rattle.std.specs.Prelude.{◌≡◌, ◌∷◌, [], ◌++◌, IfOk, OnOk, map, if◌then◌else◌};
+ghost use Rattle.std.specs.Prelude.{◌≡◌, ℕ, List, ◌∷◌, [], ◌++◌, IfOk, OnOk, map, if◌then◌else◌};
 ghost use Rattle.sp_spec.specs.Written.{is_listed};
 ghost use Rattle.sp_term.specs.View.{name_of};
 ghost use Rattle.sp_spec_text.specs.Shapes.{row};
 ghost use Rattle.sp_read_parts.specs.Views as parts;
+ghost use Rattle.sp_spec.specs.Formula as formulas;
+ghost use Rattle.sp_read_parts.specs.Reading.{Joint};
 ghost use Rattle.sp_read_parts.specs.Formulas as written;
 ghost use Rattle.sp_spec_text.specs.Written.{rules_in, lemmas_in, theory_in};
 ghost use Rattle.sp_written.specs.Views as view;
@@ -90,6 +92,7 @@ fn see_rule(alloc: Global, seen: &mut Vec<Name>, rule: &WrittenRule) -> Result<(
 }
 
 /// Puts the names of a formula at the end, each unless it is there.
+#[cycle(seen)]
 #[tactic(auto, using(crate::proofs::Once::once_both, crate::proofs::Once::seen_equivalent, crate::proofs::Once::seen_for_all, crate::proofs::Once::seen_for_some))]
 fn see_formula(alloc: Global, seen: &mut Vec<Name>, formula: &ReadFormula) -> Result<(), AllocError>
     ensures { OnOk result (map name_of seen.new.items ≡ once_after (map name_of seen.old.items) (spec.in_formula (written.formula formula.now))) }
@@ -103,19 +106,42 @@ fn see_formula(alloc: Global, seen: &mut Vec<Name>, formula: &ReadFormula) -> Re
             Ok(())
         }
         ReadFormula::Not(denied) => see_formula(alloc, seen, denied),
-        ReadFormula::Both(left, right)
-        | ReadFormula::Either(left, right)
-        | ReadFormula::Implies(left, right)
-        | ReadFormula::Equivalent(left, right) => {
+        ReadFormula::Both(left, right, more) | ReadFormula::Either(left, right, more) => {
+            see_formula(alloc, seen, left)?;
+            see_formula(alloc, seen, right)?;
+            see_later(alloc, seen, more)
+        }
+        ReadFormula::Implies(left, right) => {
             see_formula(alloc, seen, left)?;
             see_formula(alloc, seen, right)?;
             Ok(())
         }
-        ReadFormula::ForAll(_, body) | ReadFormula::ForSome(_, body) => {
+        ReadFormula::Equivalent(left, right) => {
+            see_formula(alloc, seen, left)?;
+            see_formula(alloc, seen, right)?;
+            Ok(())
+        }
+        ReadFormula::ForAll(_, body) => {
+            see_formula(alloc, seen, body)?;
+            Ok(())
+        }
+        ReadFormula::ForSome(_, body) => {
             see_formula(alloc, seen, body)?;
             Ok(())
         }
     }
+}
+
+/// The same of each of the formulas that follow.
+#[cycle(seen)]
+fn see_later(alloc: Global, seen: &mut Vec<Name>, more: &Vec<ReadFormula>) -> Result<(), AllocError>
+    ensures { OnOk result ((o : Joint) (before : List (List ℕ)) (f : formulas.Formula) → map name_of seen.old.items ≡ once_after before (spec.in_formula f)
+        → map name_of seen.new.items ≡ once_after before (spec.in_formula (written.chain o f (map written.formula more.now.items)))) }
+{
+    for part in more {
+        see_formula(alloc, seen, part)?;
+    }
+    Ok(())
 }
 
 /// Puts the names of the item, if it is a rule, at the end, each unless it is there.

@@ -8,15 +8,16 @@ use Rattle.sp_law_decide.proofs.Matched.{Messages, value_by}
 use Rattle.sp_spec.specs.Change.{placed}
 use Rattle.sp_term.specs.View.{view, view_all}
 use Rattle.sp_term.specs.declared.term.Term as memory
+use Rattle.sp_term.specs.declared.term.Variable as leaf
 use Rattle.sp_ground.specs.View.{row}
 use Rattle.sp_formula.specs.declared.formula.FormulaTerm.{FormulaTerm}
 use Rattle.sp_formula.specs.FormulaView.{placed_term, placed_terms}
 use Rattle.sp_eval.specs.View.{free_value, free_values, terms_value}
 
-pub free_each : (ts : List memory.Term) (gs : List Ground) → gs ≡ map (λ t. free_value (view t)) ts → row gs ≡ free_values (view_all ts)
+pub free_each : (ts : List (memory.Term leaf.Variable)) (gs : List Ground) → gs ≡ map (λ t. free_value (view t)) ts → row gs ≡ free_values (view_all ts)
 free_each ts gs e = ap row e ∙ there ts
   where
-    there : (ts : List memory.Term) → row (map (λ t. free_value (view t)) ts) ≡ free_values (view_all ts)
+    there : (ts : List (memory.Term leaf.Variable)) → row (map (λ t. free_value (view t)) ts) ≡ free_values (view_all ts)
     there [] = refl
     there (t ∷ ts) = ap (more (free_value (view t))) (there ts)
 

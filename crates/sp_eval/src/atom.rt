@@ -12,7 +12,8 @@ use crate::environment::{Environment, Slot};
 use crate::value::{term_value, time_value};
 use sp_formula::formula::{Atom, FormulaAction, FormulaTerm};
 use sp_ground::fact::{GroundAction, Trace};
-use sp_ground::term::{GroundTerm, all_same, same};
+use sp_ground::term::GroundTerm;
+use sp_term::term::{all_same, same};
 use std::alloc::{AllocError, Global};
 
 /// The values of terms.

@@ -1,18 +1,16 @@
 // The values of what is bound, as far as they are known.
 
-ghost use Rattle.std.specs.Prelude.{◌≡◌, IfOk, IsTrue, map, [], ◌∷◌};
+ghost use Rattle.std.specs.Prelude.{◌≡◌, IfOk, map, [], ◌∷◌};
 ghost use Rattle.sp_spec.specs.Same.{same_term};
-ghost use Rattle.sp_law_equal.specs.Matching as spec;
 ghost use Rattle.sp_law_decide.specs.Deciding.{nothing, with_message, with_position};
 ghost use Rattle.sp_law_decide.specs.Deciding as deciding;
 ghost use Rattle.sp_formula.specs.FormulaView.{binder_of};
-ghost use Rattle.sp_term.specs.View.{sort_of};
 ghost use Rattle.sp_ground.specs.View.{ground_of};
 ghost use Rattle.sp_eval.specs.View.{slot_of, slots_of, times_of, environment_of, kept};
 
 use sp_formula::formula::Binder;
-use sp_ground::term::{GroundTerm, copy, same};
-use sp_term::term::Sort;
+use sp_ground::term::GroundTerm;
+use sp_term::term::{Sort, Term, copy, has_sort, same};
 use std::alloc::{AllocError, Global};
 
 /// A bound message.
@@ -38,19 +36,7 @@ pub(crate) fn is_nothing(term: &GroundTerm) -> bool
     ensures { result ≡ same_term nothing (ground_of term.now) }
 {
     match term {
-        GroundTerm::Constant(name) => name.text.is_empty(),
-        _ => false,
-    }
-}
-
-/// Whether the term has the sort.
-fn has_sort(sort: Sort, term: &GroundTerm) -> bool
-    ensures { result ≡ spec.has_sort (sort_of sort) (ground_of term.now) }
-{
-    match (sort, term) {
-        (Sort::Msg, _) => true,
-        (Sort::Fresh, GroundTerm::FreshName(_)) => true,
-        (Sort::Pub, GroundTerm::Constant(_)) => true,
+        Term::Constant(name) => name.text.is_empty(),
         _ => false,
     }
 }

@@ -11,7 +11,8 @@ use crate::environment::{Environment, Slot, fill_message, fill_time};
 use crate::value::free_value;
 use sp_formula::formula::{Atom, FormulaAction, FormulaTerm, Moment};
 use sp_ground::fact::{GroundAction, Trace};
-use sp_ground::term::{GroundTerm, same};
+use sp_ground::term::GroundTerm;
+use sp_term::term::same;
 use std::alloc::{AllocError, Global};
 
 /// Gives the slots the values that make the pattern this term, and tells whether there are such values.

@@ -12,8 +12,8 @@ ghost use Rattle.sp_eval.specs.View.{slots_of, times_of, free_value, free_values
 
 use crate::environment::Slot;
 use sp_formula::formula::{FormulaTerm, Moment};
-use sp_ground::term::{GroundTerm, copy};
-use sp_term::term::{Name, Term};
+use sp_ground::term::GroundTerm;
+use sp_term::term::{Name, Term, copy};
 use std::alloc::{AllocError, Global};
 use std::rc::Rc;
 
@@ -22,7 +22,7 @@ fn empty_name(alloc: Global) -> Result<GroundTerm, AllocError>
     ensures { IfOk result (λ t. ground_of t ≡ nothing) }
 {
     let name = Name::new(alloc, "")?;
-    Ok(GroundTerm::Constant(name))
+    Ok(Term::Constant(name))
 }
 
 /// The value of a term of the system, where nothing stands for its variables.
@@ -35,13 +35,13 @@ pub(crate) fn free_value(alloc: Global, term: &Term) -> Result<GroundTerm, Alloc
             let value = empty_name(alloc)?;
             Ok(value)
         }
-        Term::Constant(name) => Ok(GroundTerm::Constant(name.copy()?)),
-        Term::FreshName(number) => Ok(GroundTerm::FreshName(*number)),
+        Term::Constant(name) => Ok(Term::Constant(name.copy()?)),
+        Term::FreshName(number) => Ok(Term::FreshName(*number)),
         Term::App(symbol, terms) => {
             let name = symbol.copy()?;
             let values = free_values(alloc, terms)?;
             let shared = Rc::new(alloc, values)?;
-            Ok(GroundTerm::App(name, shared))
+            Ok(Term::App(name, shared))
         }
     }
 }

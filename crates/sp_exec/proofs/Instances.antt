@@ -49,9 +49,9 @@ module _ (theory : Theory) where
   abbrev symbols : List Symbol
   symbols = signature.symbols
 
-  plain : (step : Step) (i : Instance) → IsNamed theory step → IsInstance theory step none_given i.facts →
+  without_values : (step : Step) (i : Instance) → IsNamed theory step → IsInstance theory step none_given i.facts →
       ((v : Values) → Decides i.sorted (HasSorts signature step v)) → HasInstance theory step i
-  plain step i named inst d = record {
+  without_values step i named inst d = record {
     is_named = named;
     values = none_given;
     is_instance = inst;
@@ -61,7 +61,7 @@ module _ (theory : Theory) where
 
   applied : (f : List ℕ) (ts : Grounds) (b : Bool) → Decides b (HasPublic symbols f (count ts)) →
       IsRightInstance theory (apply_symbol f ts) (if b then of_facts (known_all ts) [] (knows (app f ts) ∷ []) (all_over symbols ts) else Err no_such_rule)
-  applied f ts true d = plain (apply_symbol f ts) _ (d.0 refl) refl (λ v. all_over_decides symbols ts)
+  applied f ts true d = without_values (apply_symbol f ts) _ (d.0 refl) refl (λ v. all_over_decides symbols ts)
   applied f ts false d = λ state. record { fails = λ n. both_ways false refl (d.1 n); least = λ c l. absurd (omega arith) }
 
   module _ (right : AreRight theory.rules) where
@@ -122,10 +122,10 @@ module _ (theory : Theory) where
 
     -- the instance of a step is the one of the definition, or the cause is the least
     pub instance_right : (step : Step) → IsRightInstance theory step (instance_of signature theory.rules step)
-    instance_right (make_fresh t) = plain (make_fresh t) _ tt refl (λ v. is_value_decides signature Fresh t)
+    instance_right (make_fresh t) = without_values (make_fresh t) _ tt refl (λ v. is_value_decides signature Fresh t)
     instance_right (use_rule x given) = by_rule x given (rule_named x theory.rules) refl
-    instance_right (take_out t) = plain (take_out t) _ tt refl (λ v. is_value_decides signature Msg t)
-    instance_right (put_in t) = plain (put_in t) _ tt refl (λ v. is_value_decides signature Msg t)
-    instance_right (know_public t) = plain (know_public t) _ tt refl (λ v. is_value_decides signature Pub t)
-    instance_right (make_own t) = plain (make_own t) _ tt refl (λ v. is_value_decides signature Fresh t)
+    instance_right (take_out t) = without_values (take_out t) _ tt refl (λ v. is_value_decides signature Msg t)
+    instance_right (put_in t) = without_values (put_in t) _ tt refl (λ v. is_value_decides signature Msg t)
+    instance_right (know_public t) = without_values (know_public t) _ tt refl (λ v. is_value_decides signature Pub t)
+    instance_right (make_own t) = without_values (make_own t) _ tt refl (λ v. is_value_decides signature Fresh t)
     instance_right (apply_symbol f ts) = applied f ts (any_public symbols f (count ts)) (any_public_decides symbols f (count ts))

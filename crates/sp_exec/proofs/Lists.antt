@@ -1,9 +1,11 @@
 -- Lists that are built in front of what a function over the rest answers.
 use Rattle.std.proofs.Common.{◌≡◌, ◌<◌, ◌≤◌, ℕ, zero, suc, take, drop, get_or, arith, List, [], ◌∷◌, ◌++◌, Option, Some, None, option_map, refl, sym, ap, ◌∙◌, append_assoc, length, map}
 use Rattle.sp_spec.specs.Term.{count}
-use Rattle.sp_law_run.proofs.Taking.{map_append}
-use Rattle.sp_ground.specs.declared.term.GroundTerm.{GroundTerm}
+use Rattle.sp_term.specs.View.{Never}
+use Rattle.sp_term.specs.declared.term.Term.{Term}
 use Rattle.sp_ground.specs.View.{grounds_of}
+use Rattle.sp_ground.proofs.Lists.{count-grounds}
+use Rattle.sp_law_run.proofs.Taking.{map_append}
 use Rattle.sp_spec.proofs.Lists.{length_map}
 
 -- what is answered for the rest, behind these
@@ -18,9 +20,9 @@ pub behind_one : {A : Type 0} (front : List A) (x : A) (o : Option (List A)) →
 behind_one front x None = refl
 behind_one front x (Some rest) = ap Some (sym (append_assoc front (x ∷ []) rest))
 
-pub counted : (ts : List GroundTerm) → count (grounds_of ts) ≡ length ts
-counted [] = refl
-counted (t ∷ ts) = ap suc (counted ts)
+-- as many terms as in memory
+pub counted : (ts : List (Term Never)) → count (grounds_of ts) ≡ length ts
+counted ts = count-grounds ts
 
 -- a list is what stands before a place, the element there, and what stands behind it
 at_place : {A : Type 0} (xs : List A) (i : ℕ) (x : A) → i < length xs → x ≡ get_or xs i x → xs ≡ take i xs ++ x ∷ drop (suc i) xs

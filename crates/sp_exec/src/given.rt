@@ -11,11 +11,10 @@ ghost use Rattle.sp_exec.specs.Next as next;
 use sp_fact::rule::Declared;
 use sp_ground::signature::Symbol;
 use sp_ground::step::Given;
-use sp_ground::term::{GroundTerm, copy};
-use sp_norm::matching::has_sort;
+use sp_ground::term::GroundTerm;
 use sp_norm::over::is_over;
-use sp_norm::values::Values;
-use sp_term::term::{Name, Sort, Variable};
+use sp_term::subst::Values;
+use sp_term::term::{Name, Sort, Variable, copy, has_sort};
 use std::alloc::{AllocError, Global};
 
 /// The first value that is given to the name.
@@ -69,7 +68,7 @@ pub fn are_values(symbols: &Vec<Symbol>, values: &Values) -> bool
     ensures { result ≡ next.are_values (map symbol_of symbols.now.items) (bounds values.now) }
 {
     for bound in &values.bindings {
-        if !is_value(symbols, bound.variable.sort, &bound.value) {
+        if !is_value(symbols, bound.variable.sort, &bound.term) {
             return false;
         }
     }

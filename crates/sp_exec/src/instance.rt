@@ -17,10 +17,10 @@ use sp_fact::rule::Rule;
 use sp_ground::fact::{GroundAction, GroundFact, GroundFacts};
 use sp_ground::signature::{Signature, Symbol};
 use sp_ground::step::{Given, Step};
-use sp_ground::term::{GroundTerm, copy, copy_all};
+use sp_ground::term::GroundTerm;
 use sp_norm::instance::facts_value;
 use sp_norm::over::{are_over, has_public};
-use sp_term::term::{Name, Sort};
+use sp_term::term::{Name, Sort, Term, copy, copy_all};
 use std::alloc::{AllocError, Global};
 use std::rc::Rc;
 
@@ -186,7 +186,7 @@ fn known_application(
     let name = symbol.copy()?;
     let args = copy_all(alloc, terms)?;
     let shared = Rc::new(alloc, args)?;
-    let term = GroundTerm::App(name, shared);
+    let term = Term::App(name, shared);
     let known = about(alloc, "K", true, &term)?;
     Ok(known)
 }

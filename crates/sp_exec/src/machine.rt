@@ -15,9 +15,10 @@ use sp_fact::rule::Rule;
 use sp_ground::fact::{GroundAction, GroundFact};
 use sp_ground::signature::{Equation, Signature};
 use sp_ground::step::Step;
-use sp_ground::term::{GroundTerm, copy, same};
+use sp_ground::term::GroundTerm;
 use sp_norm::normal::normal_facts;
 use sp_norm::step::normal_step;
+use sp_term::term::{copy, same};
 use std::alloc::{AllocError, Global};
 
 /// What was reached: the facts in normal form, the fresh names made, and the entries of the trace, each the oldest first.

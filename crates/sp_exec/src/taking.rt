@@ -6,7 +6,7 @@ ghost use Rattle.sp_ground.specs.View.{ground_fact};
 ghost use Rattle.sp_exec.specs.View.{left_over};
 
 use sp_ground::fact::GroundFact;
-use sp_ground::term::all_same;
+use sp_term::term::all_same;
 
 /// Whether two facts are the same.
 fn is_same(a: &GroundFact, b: &GroundFact) -> bool

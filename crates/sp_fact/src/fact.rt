@@ -1,63 +1,48 @@
-// State facts, actions and the facts of a step, over terms in memory.
+// State facts, actions and the facts of a step, over terms in memory with leaves of any kind.
 
 ghost use Rattle.std.specs.Prelude.{◌≡◌, IfOk, map};
-ghost use Rattle.sp_spec.specs.Term.{valued_all};
 ghost use Rattle.sp_spec.specs.Rule.{fact_at, action_at, facts_at};
-ghost use Rattle.sp_spec.specs.Substitution.{bound_to};
-ghost use Rattle.sp_term.specs.View.{view_all};
-ghost use Rattle.sp_term.specs.Bindings.{bindings};
-ghost use Rattle.sp_fact.specs.View.{fact_of, action_of, facts_of};
+ghost use Rattle.sp_fact.specs.View.{fact_by, action_by, facts_by};
 
-use sp_term::subst::{Subst, apply_all};
-use sp_term::term::{Name, Term, copy};
+use sp_term::apply::{Assigns, apply_all};
+use sp_term::term::{Leaf, Name, Term, Variable, copy_all};
 use std::alloc::{AllocError, Global};
 
 /// A state fact, linear or persistent.
 #[derive(Debug, Drop)]
-pub struct Fact {
+pub struct Fact<L = Variable> {
     /// its name
     pub symbol: Name,
     /// whether it stays when it is taken
     pub persistent: bool,
     /// its arguments
-    pub args: Vec<Term>,
+    pub args: Vec<Term<L>>,
 }
 
 /// What a trace shows of a step.
 #[derive(Debug, Drop)]
-pub struct Action {
+pub struct Action<L = Variable> {
     /// its name
     pub symbol: Name,
     /// its arguments
-    pub args: Vec<Term>,
+    pub args: Vec<Term<L>>,
 }
 
 /// What a step takes, shows and adds.
 #[derive(Debug, Drop)]
-pub struct Facts {
+pub struct Facts<L = Variable> {
     /// what is taken
-    pub premises: Vec<Fact>,
+    pub premises: Vec<Fact<L>>,
     /// what the trace shows
-    pub actions: Vec<Action>,
+    pub actions: Vec<Action<L>>,
     /// what is added
-    pub conclusions: Vec<Fact>,
+    pub conclusions: Vec<Fact<L>>,
 }
 
-/// Terms equal to these.
-pub fn copy_all(alloc: Global, terms: &Vec<Term>) -> Result<Vec<Term>, AllocError>
-    ensures { IfOk result (λ ts. view_all ts.items ≡ view_all terms.now.items) }
-{
-    let mut made = Vec::with_capacity(alloc, terms.len())?;
-    for term in terms {
-        made.push(copy(term)?)?;
-    }
-    Ok(made)
-}
-
-impl Fact {
+impl<L: Leaf> Fact<L> {
     /// An equal fact.
-    pub fn copy(&self, alloc: Global) -> Result<Fact, AllocError>
-        ensures { IfOk result (λ f. fact_of f ≡ fact_of self.now) }
+    pub fn copy(&self, alloc: Global) -> Result<Fact<L>, AllocError>
+        ensures { IfOk result (λ f. fact_by L.leaf_of f ≡ fact_by L.leaf_of self.now) }
     {
         let symbol = self.symbol.copy()?;
         let args = copy_all(alloc, &self.args)?;
@@ -67,13 +52,19 @@ impl Fact {
             args,
         })
     }
+}
 
-    /// The fact with each bound variable replaced.
-    pub fn changed(&self, alloc: Global, subst: &Subst) -> Result<Fact, AllocError>
-        ensures { IfOk result (λ f. fact_of f ≡ fact_at (bound_to (bindings subst.now)) (fact_of self.now)) }
+impl<L> Fact<L> {
+    /// The fact with each leaf replaced.
+    pub fn changed<M: Drop, F: Assigns<L, M>>(
+        &self,
+        alloc: Global,
+        values: &F,
+    ) -> Result<Fact<M>, AllocError>
+        ensures { IfOk result (λ f. fact_by F.to_of f ≡ fact_at (F.value_of values.now) (fact_by F.from_of self.now)) }
     {
         let symbol = self.symbol.copy()?;
-        let args = apply_all(alloc, subst, &self.args)?;
+        let args = apply_all(alloc, values, &self.args)?;
         Ok(Fact {
             symbol,
             persistent: self.persistent,
@@ -82,28 +73,34 @@ impl Fact {
     }
 }
 
-impl Action {
+impl<L: Leaf> Action<L> {
     /// An equal action.
-    pub fn copy(&self, alloc: Global) -> Result<Action, AllocError>
-        ensures { IfOk result (λ a. action_of a ≡ action_of self.now) }
+    pub fn copy(&self, alloc: Global) -> Result<Action<L>, AllocError>
+        ensures { IfOk result (λ a. action_by L.leaf_of a ≡ action_by L.leaf_of self.now) }
     {
         let symbol = self.symbol.copy()?;
         let args = copy_all(alloc, &self.args)?;
         Ok(Action { symbol, args })
     }
+}
 
-    /// The action with each bound variable replaced.
-    pub fn changed(&self, alloc: Global, subst: &Subst) -> Result<Action, AllocError>
-        ensures { IfOk result (λ a. action_of a ≡ action_at (bound_to (bindings subst.now)) (action_of self.now)) }
+impl<L> Action<L> {
+    /// The action with each leaf replaced.
+    pub fn changed<M: Drop, F: Assigns<L, M>>(
+        &self,
+        alloc: Global,
+        values: &F,
+    ) -> Result<Action<M>, AllocError>
+        ensures { IfOk result (λ a. action_by F.to_of a ≡ action_at (F.value_of values.now) (action_by F.from_of self.now)) }
     {
         let symbol = self.symbol.copy()?;
-        let args = apply_all(alloc, subst, &self.args)?;
+        let args = apply_all(alloc, values, &self.args)?;
         Ok(Action { symbol, args })
     }
 }
 
-fn copy_facts(alloc: Global, facts: &Vec<Fact>) -> Result<Vec<Fact>, AllocError>
-    ensures { IfOk result (λ fs. map fact_of fs.items ≡ map fact_of facts.now.items) }
+fn copy_facts<L: Leaf>(alloc: Global, facts: &Vec<Fact<L>>) -> Result<Vec<Fact<L>>, AllocError>
+    ensures { IfOk result (λ fs. map (fact_by L.leaf_of) fs.items ≡ map (fact_by L.leaf_of) facts.now.items) }
 {
     let mut made = Vec::with_capacity(alloc, facts.len())?;
     for fact in facts {
@@ -112,8 +109,11 @@ fn copy_facts(alloc: Global, facts: &Vec<Fact>) -> Result<Vec<Fact>, AllocError>
     Ok(made)
 }
 
-fn copy_actions(alloc: Global, actions: &Vec<Action>) -> Result<Vec<Action>, AllocError>
-    ensures { IfOk result (λ xs. map action_of xs.items ≡ map action_of actions.now.items) }
+fn copy_actions<L: Leaf>(
+    alloc: Global,
+    actions: &Vec<Action<L>>,
+) -> Result<Vec<Action<L>>, AllocError>
+    ensures { IfOk result (λ xs. map (action_by L.leaf_of) xs.items ≡ map (action_by L.leaf_of) actions.now.items) }
 {
     let mut made = Vec::with_capacity(alloc, actions.len())?;
     for action in actions {
@@ -122,34 +122,38 @@ fn copy_actions(alloc: Global, actions: &Vec<Action>) -> Result<Vec<Action>, All
     Ok(made)
 }
 
-fn changed_facts(alloc: Global, subst: &Subst, facts: &Vec<Fact>) -> Result<Vec<Fact>, AllocError>
-    ensures { IfOk result (λ fs. map fact_of fs.items ≡ map (fact_at (bound_to (bindings subst.now))) (map fact_of facts.now.items)) }
+fn changed_facts<L, M: Drop, F: Assigns<L, M>>(
+    alloc: Global,
+    values: &F,
+    facts: &Vec<Fact<L>>,
+) -> Result<Vec<Fact<M>>, AllocError>
+    ensures { IfOk result (λ fs. map (fact_by F.to_of) fs.items ≡ map (fact_at (F.value_of values.now)) (map (fact_by F.from_of) facts.now.items)) }
 {
     let mut made = Vec::with_capacity(alloc, facts.len())?;
     for fact in facts {
-        made.push(fact.changed(alloc, subst)?)?;
+        made.push(fact.changed(alloc, values)?)?;
     }
     Ok(made)
 }
 
-fn changed_actions(
+fn changed_actions<L, M: Drop, F: Assigns<L, M>>(
     alloc: Global,
-    subst: &Subst,
-    actions: &Vec<Action>,
-) -> Result<Vec<Action>, AllocError>
-    ensures { IfOk result (λ xs. map action_of xs.items ≡ map (action_at (bound_to (bindings subst.now))) (map action_of actions.now.items)) }
+    values: &F,
+    actions: &Vec<Action<L>>,
+) -> Result<Vec<Action<M>>, AllocError>
+    ensures { IfOk result (λ xs. map (action_by F.to_of) xs.items ≡ map (action_at (F.value_of values.now)) (map (action_by F.from_of) actions.now.items)) }
 {
     let mut made = Vec::with_capacity(alloc, actions.len())?;
     for action in actions {
-        made.push(action.changed(alloc, subst)?)?;
+        made.push(action.changed(alloc, values)?)?;
     }
     Ok(made)
 }
 
-impl Facts {
+impl<L: Leaf> Facts<L> {
     /// Equal facts.
-    pub fn copy(&self, alloc: Global) -> Result<Facts, AllocError>
-        ensures { IfOk result (λ f. facts_of f ≡ facts_of self.now) }
+    pub fn copy(&self, alloc: Global) -> Result<Facts<L>, AllocError>
+        ensures { IfOk result (λ f. facts_by L.leaf_of f ≡ facts_by L.leaf_of self.now) }
     {
         let premises = copy_facts(alloc, &self.premises)?;
         let actions = copy_actions(alloc, &self.actions)?;
@@ -160,14 +164,20 @@ impl Facts {
             conclusions,
         })
     }
+}
 
-    /// The facts with each bound variable replaced.
-    pub fn changed(&self, alloc: Global, subst: &Subst) -> Result<Facts, AllocError>
-        ensures { IfOk result (λ f. facts_of f ≡ facts_at (bound_to (bindings subst.now)) (facts_of self.now)) }
+impl<L> Facts<L> {
+    /// The facts with each leaf replaced.
+    pub fn changed<M: Drop, F: Assigns<L, M>>(
+        &self,
+        alloc: Global,
+        values: &F,
+    ) -> Result<Facts<M>, AllocError>
+        ensures { IfOk result (λ f. facts_by F.to_of f ≡ facts_at (F.value_of values.now) (facts_by F.from_of self.now)) }
     {
-        let premises = changed_facts(alloc, subst, &self.premises)?;
-        let actions = changed_actions(alloc, subst, &self.actions)?;
-        let conclusions = changed_facts(alloc, subst, &self.conclusions)?;
+        let premises = changed_facts(alloc, values, &self.premises)?;
+        let actions = changed_actions(alloc, values, &self.actions)?;
+        let conclusions = changed_facts(alloc, values, &self.conclusions)?;
         Ok(Facts {
             premises,
             actions,

@@ -1,9 +1,10 @@
 -- Lists of terms and what they stand for.
-use Rattle.std.proofs.Common.{◌≡◌, suc, List, [], ◌∷◌, length, refl, ap}
+use Rattle.std.proofs.Common.{◌≡◌, List, length}
 use Rattle.sp_spec.specs.Term.{count}
-use Rattle.sp_ground.specs.declared.term.GroundTerm.{GroundTerm}
+use Rattle.sp_term.specs.View.{never_of, Never}
+use Rattle.sp_term.specs.declared.term.Term.{Term}
+use Rattle.sp_term.proofs.Lists.{count-view_all}
 use Rattle.sp_ground.specs.View.{grounds_of}
 
-pub count-grounds : (ts : List GroundTerm) → count (grounds_of ts) ≡ length ts
-count-grounds [] = refl
-count-grounds (t ∷ ts) = ap suc (count-grounds ts)
+pub count-grounds : (ts : List (Term Never)) → count (grounds_of ts) ≡ length ts
+count-grounds ts = count-view_all never_of ts

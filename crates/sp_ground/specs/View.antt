@@ -1,17 +1,17 @@
--- What ground_of terms, facts, traces, steps and signatures in memory stand for.
-use Rattle.std.specs.Prelude.{ℕ, List, [], ◌∷◌, ◌++◌, map}
+-- What ground terms, facts, traces, steps and signatures in memory stand for.
+use Rattle.std.specs.Prelude.{ℕ, List, map}
 use Rattle.sp_spec.specs.Lists.{newest_first}
-use Rattle.sp_spec.specs.Term.{constant, name, app, none, more, Ground, Grounds}
+use Rattle.sp_spec.specs.Term.{Ground, Grounds}
 use Rattle.sp_spec.specs.Rule as rule
 use Rattle.sp_spec.specs.Signature as signature
 use Rattle.sp_spec.specs.Execution as execution
 use Rattle.sp_spec.specs.Execution.{make_fresh, use_rule, take_out, put_in, know_public, make_own, apply_symbol}
-use Rattle.sp_term.specs.View.{name_of, view}
-use Rattle.sp_ground.specs.declared.term.GroundTerm.{GroundTerm, fold-GroundTerm}
-use Rattle.sp_ground.specs.declared.term.GroundTerm.TheOpen.{GroundTerm-F}
-use Rattle.sp_ground.specs.declared.fact.GroundFact.{GroundFact}
-use Rattle.sp_ground.specs.declared.fact.GroundAction.{GroundAction}
-use Rattle.sp_ground.specs.declared.fact.GroundFacts.{GroundFacts}
+use Rattle.sp_term.specs.View.{name_of, never_of, terms_of, view, view_by, view_all_by, Never}
+use Rattle.sp_term.specs.declared.term.Term.{Term}
+use Rattle.sp_fact.specs.View.{fact_by, action_by, facts_by}
+use Rattle.sp_fact.specs.declared.fact.Fact.{Fact}
+use Rattle.sp_fact.specs.declared.fact.Action.{Action}
+use Rattle.sp_fact.specs.declared.fact.Facts.{Facts}
 use Rattle.sp_ground.specs.declared.fact.Trace.{Trace}
 use Rattle.sp_ground.specs.declared.step.Given.{Given}
 use Rattle.sp_ground.specs.declared.step.Step.{Step}
@@ -21,33 +21,22 @@ use Rattle.sp_ground.specs.declared.signature.Equation.{Equation}
 use Rattle.sp_ground.specs.declared.signature.Signature.{Signature}
 
 abbrev pub row : List Ground → Grounds
-row [] = none
-row (t ∷ ts) = more t (row ts)
+row ts = terms_of ts
 
--- one level, with each term inside already seen
-abbrev pub ground_step : GroundTerm-F Ground → Ground
-ground_step (GroundTerm-F.Constant c) = constant (name_of c)
-ground_step (GroundTerm-F.FreshName n) = name n
-ground_step (GroundTerm-F.App f ts) = app (name_of f) (row ts.value.items)
+abbrev pub ground_of : Term Never → Ground
+ground_of t = view_by never_of t
 
-abbrev pub ground_of : GroundTerm → Ground
-ground_of = fold-GroundTerm Ground ground_step
+abbrev pub grounds_of : List (Term Never) → Grounds
+grounds_of ts = view_all_by never_of ts
 
-abbrev pub grounds_of : List GroundTerm → Grounds
-grounds_of ts = row (map ground_of ts)
+abbrev pub ground_fact : Fact Never → rule.Fact ⊥
+ground_fact f = fact_by never_of f
 
-abbrev pub ground_fact : GroundFact → rule.Fact ⊥
-ground_fact f = record { symbol = name_of f.symbol; persistent = f.persistent; args = grounds_of f.args.items }
+abbrev pub ground_action : Action Never → rule.Action ⊥
+ground_action a = action_by never_of a
 
-abbrev pub ground_action : GroundAction → rule.Action ⊥
-ground_action a = record { symbol = name_of a.symbol; args = grounds_of a.args.items }
-
-abbrev pub ground_facts : GroundFacts → rule.Facts ⊥
-ground_facts f = record {
-  premises = map ground_fact f.premises.items;
-  actions = map ground_action f.actions.items;
-  conclusions = map ground_fact f.conclusions.items;
-}
+abbrev pub ground_facts : Facts Never → rule.Facts ⊥
+ground_facts f = facts_by never_of f
 
 -- the entries, the oldest first
 abbrev pub entries_of : Trace → List (List (rule.Action ⊥))

@@ -9,3 +9,4 @@ pub mod MarksFit
 pub mod NoneUnguarded
 pub mod OneByOne
 pub mod Names
+pub mod Joints

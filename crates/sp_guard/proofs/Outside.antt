@@ -4,6 +4,7 @@ use Rattle.sp_spec.specs.Term.{Variable, Term, Terms, var, constant, name, app, 
 use Rattle.sp_spec.specs.Guarded.{Atom, free}
 use Rattle.sp_term.specs.View.{view}
 use Rattle.sp_term.specs.declared.term.Term as memory
+use Rattle.sp_term.specs.declared.term.Variable as leaf
 use Rattle.sp_spec.specs.Change.{placed}
 use Rattle.sp_law_guard.specs.IsGuarded.{stands_in, stands_among, is_given, are_given, is_variable}
 
@@ -35,11 +36,11 @@ no_variable k (constant c) = refl
 no_variable k (name n) = refl
 no_variable k (app f ts) = refl
 
-pub stands_nowhere : (k : ℕ) (t : memory.Term) → false ≡ stands_in k (placed (view t))
+pub stands_nowhere : (k : ℕ) (t : memory.Term leaf.Variable) → false ≡ stands_in k (placed (view t))
 stands_nowhere k t = sym (nowhere k (view t))
 
-pub is_no_variable : (k : ℕ) (t : memory.Term) → false ≡ is_variable k (placed (view t))
+pub is_no_variable : (k : ℕ) (t : memory.Term leaf.Variable) → false ≡ is_variable k (placed (view t))
 is_no_variable k t = sym (no_variable k (view t))
 
-pub given_outside : (n : ℕ) (guard : List Atom) (t : memory.Term) → true ≡ is_given n guard (placed (view t))
+pub given_outside : (n : ℕ) (guard : List Atom) (t : memory.Term leaf.Variable) → true ≡ is_given n guard (placed (view t))
 given_outside n guard t = sym (given n guard (view t))

@@ -4,6 +4,8 @@ ghost use Rattle.std.specs.Prelude.{◌≡◌, ◌++◌, IfOk, map, option_map};
 ghost use Rattle.sp_spec.specs.Guarded.{holds};
 ghost use Rattle.sp_spec_text.specs.Shapes.{quantified};
 ghost use Rattle.sp_spec_text.specs.Formulas.{quantified_some};
+ghost use Rattle.sp_spec.specs.Formula as formulas;
+ghost use Rattle.sp_read_parts.specs.Reading.{conjoint, disjoint};
 ghost use Rattle.sp_read_parts.specs.Views as view;
 ghost use Rattle.sp_read_parts.specs.Formulas as written;
 ghost use Rattle.sp_formula.specs.FormulaView.{atom_of, formula_of};
@@ -193,15 +195,17 @@ pub fn guarded_form<'a>(
             let form = guarded_form(alloc, binders, denied)?;
             negated(alloc, form)
         }
-        ReadFormula::Both(left, right) => {
+        ReadFormula::Both(left, right, more) => {
             let first = guarded_form(alloc, binders, left)?;
             let second = guarded_form(alloc, binders, right)?;
-            both(alloc, first, second)
+            let form = both(alloc, first, second)?;
+            and_all(alloc, binders, form, more)
         }
-        ReadFormula::Either(left, right) => {
+        ReadFormula::Either(left, right, more) => {
             let first = guarded_form(alloc, binders, left)?;
             let second = guarded_form(alloc, binders, right)?;
-            either(alloc, first, second)
+            let form = either(alloc, first, second)?;
+            or_any(alloc, binders, form, more)
         }
         ReadFormula::Implies(left, right) => {
             let first = guarded_form(alloc, binders, left)?;
@@ -216,6 +220,44 @@ pub fn guarded_form<'a>(
         ReadFormula::ForAll(more, body) => for_all(alloc, binders, more, body),
         ReadFormula::ForSome(more, body) => for_some(alloc, binders, more, body),
     }
+}
+
+// The form that is made so far, and all that follow.
+#[cycle(form)]
+fn and_all<'a>(
+    alloc: Global,
+    binders: &Vec<WrittenVariable<'a>>,
+    form: Option<Formula>,
+    more: &Vec<ReadFormula<'a>>,
+) -> Result<Option<Formula>, AllocError>
+    ensures { IfOk result (λ o. (f : formulas.Formula) → option_map formula_of form ≡ spec.guarded_form (innermost_first binders.now.items) f
+        → option_map formula_of o ≡ spec.guarded_form (innermost_first binders.now.items) (written.chain conjoint f (map written.formula more.now.items))) }
+{
+    let mut made = form;
+    for part in more {
+        let next = guarded_form(alloc, binders, part)?;
+        made = both(alloc, made, next)?;
+    }
+    Ok(made)
+}
+
+// The form that is made so far, or one that follows.
+#[cycle(form)]
+fn or_any<'a>(
+    alloc: Global,
+    binders: &Vec<WrittenVariable<'a>>,
+    form: Option<Formula>,
+    more: &Vec<ReadFormula<'a>>,
+) -> Result<Option<Formula>, AllocError>
+    ensures { IfOk result (λ o. (f : formulas.Formula) → option_map formula_of form ≡ spec.guarded_form (innermost_first binders.now.items) f
+        → option_map formula_of o ≡ spec.guarded_form (innermost_first binders.now.items) (written.chain disjoint f (map written.formula more.now.items))) }
+{
+    let mut made = form;
+    for part in more {
+        let next = guarded_form(alloc, binders, part)?;
+        made = either(alloc, made, next)?;
+    }
+    Ok(made)
 }
 
 #[cycle(form)]

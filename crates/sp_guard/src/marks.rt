@@ -6,6 +6,8 @@ ghost use Rattle.sp_spec.specs.Findings.{is_wide};
 ghost use Rattle.sp_spec_text.specs.Shapes.{row, quantified};
 ghost use Rattle.sp_spec_text.specs.Formulas.{quantified_some};
 ghost use Rattle.sp_read_parts.specs.Views as view;
+ghost use Rattle.sp_spec.specs.Formula as formulas;
+ghost use Rattle.sp_read_parts.specs.Reading.{Joint};
 ghost use Rattle.sp_read_parts.specs.Formulas as written;
 ghost use Rattle.sp_formula.specs.FormulaView.{formula_of};
 ghost use Rattle.sp_law_guard.specs.GuardedForm as forms;
@@ -107,6 +109,7 @@ fn order_fits(
 /// # Errors
 ///
 /// `AllocError` where memory is wanting.
+#[cycle(marks)]
 #[tactic(auto, using(crate::proofs::MarksFit::both_ways, crate::proofs::MarksFit::fit_for_all, crate::proofs::MarksFit::fit_for_some))]
 pub fn marks_fit<'a>(
     alloc: Global,
@@ -121,15 +124,10 @@ pub fn marks_fit<'a>(
         ReadFormula::Equals(left, right) => Ok(equality_fits(binders, left, right)),
         ReadFormula::Precedes(left, right) => Ok(order_fits(binders, left, right)),
         ReadFormula::Not(denied) => marks_fit(alloc, binders, denied),
-        ReadFormula::Both(left, right) => {
+        ReadFormula::Both(left, right, more) | ReadFormula::Either(left, right, more) => {
             let first = marks_fit(alloc, binders, left)?;
             let second = marks_fit(alloc, binders, right)?;
-            Ok(first && second)
-        }
-        ReadFormula::Either(left, right) => {
-            let first = marks_fit(alloc, binders, left)?;
-            let second = marks_fit(alloc, binders, right)?;
-            Ok(first && second)
+            and_fit(alloc, binders, first && second, more)
         }
         ReadFormula::Implies(left, right) => {
             let first = marks_fit(alloc, binders, left)?;
@@ -152,6 +150,25 @@ pub fn marks_fit<'a>(
     }
 }
 
+// Whether this is so, and the variables of the formulas that follow are marked as their binders are.
+#[cycle(marks)]
+fn and_fit<'a>(
+    alloc: Global,
+    binders: &Vec<WrittenVariable<'a>>,
+    so_far: bool,
+    more: &Vec<ReadFormula<'a>>,
+) -> Result<bool, AllocError>
+    ensures { IfOk result (λ b. (o : Joint) (f : formulas.Formula) → so_far ≡ spec.marks_fit (innermost_first binders.now.items) f
+        → b ≡ spec.marks_fit (innermost_first binders.now.items) (written.chain o f (map written.formula more.now.items))) }
+{
+    let mut fit = so_far;
+    for part in more {
+        let next = marks_fit(alloc, binders, part)?;
+        fit = fit && next;
+    }
+    Ok(fit)
+}
+
 #[tactic(auto, using(crate::proofs::MarksFit::wide_length))]
 fn is_wide_action(fact: &WrittenFact) -> bool
     ensures { result ≡ is_wide (row (map view.term fact.now.arguments.items)) }
@@ -160,6 +177,7 @@ fn is_wide_action(fact: &WrittenFact) -> bool
 }
 
 /// Whether an action of the formula has too many arguments.
+#[cycle(wide)]
 #[tactic(auto, using(crate::proofs::MarksFit::either_way, crate::proofs::MarksFit::wide_for_all, crate::proofs::MarksFit::wide_for_some))]
 pub fn has_wide(formula: &ReadFormula) -> bool
     ensures { result ≡ spec.has_wide (written.formula formula.now) }
@@ -170,13 +188,28 @@ pub fn has_wide(formula: &ReadFormula) -> bool
         ReadFormula::Equals(_, _) => false,
         ReadFormula::Precedes(_, _) => false,
         ReadFormula::Not(denied) => has_wide(denied),
-        ReadFormula::Both(left, right) => has_wide(left) || has_wide(right),
-        ReadFormula::Either(left, right) => has_wide(left) || has_wide(right),
+        ReadFormula::Both(left, right, more) | ReadFormula::Either(left, right, more) => {
+            let wide = has_wide(left) || has_wide(right);
+            or_wide(wide, more)
+        }
         ReadFormula::Implies(left, right) => has_wide(left) || has_wide(right),
         ReadFormula::Equivalent(left, right) => has_wide(left) || has_wide(right),
         ReadFormula::ForAll(_, body) => has_wide(body),
         ReadFormula::ForSome(_, body) => has_wide(body),
     }
+}
+
+// Whether this is so, or an action of the formulas that follow has too many arguments.
+#[cycle(wide)]
+fn or_wide(so_far: bool, more: &Vec<ReadFormula>) -> bool
+    ensures { (o : Joint) (f : formulas.Formula) → so_far ≡ spec.has_wide f → result ≡ spec.has_wide (written.chain o f (map written.formula more.now.items)) }
+{
+    let mut wide = so_far;
+    for part in more {
+        let next = has_wide(part);
+        wide = wide || next;
+    }
+    wide
 }
 
 // Whether there are no findings on the formula with this guarded form.

@@ -3,6 +3,8 @@
 ghost use Rattle.std.specs.Prelude.{◌≡◌, ◌≤◌, ◌<◌, ◌+◌, ◌^◌, IfOk, length, map};
 ghost use Rattle.std.specs.Option.{option_or};
 ghost use Rattle.sp_read_parts.specs.Views as view;
+ghost use Rattle.sp_spec.specs.Formula as formulas;
+ghost use Rattle.sp_read_parts.specs.Reading.{Joint};
 ghost use Rattle.sp_read_parts.specs.Formulas as written;
 ghost use Rattle.sp_formula.specs.FormulaView.{atom_of, binder_of, formula_of};
 ghost use Rattle.sp_law_guard.specs.GuardedForm as form;
@@ -161,10 +163,12 @@ fn unguarded<'a>(
         ReadFormula::Happens(_, _) | ReadFormula::Equals(_, _) => Ok(None),
         ReadFormula::Precedes(_, _) => Ok(None),
         ReadFormula::Not(denied) => unguarded(alloc, binders, above.turned(), denied),
-        ReadFormula::Both(left, right)
-        | ReadFormula::Either(left, right)
-        | ReadFormula::Implies(left, right)
-        | ReadFormula::Equivalent(left, right) => {
+        ReadFormula::Both(left, right, more) | ReadFormula::Either(left, right, more) => {
+            let first = unguarded(alloc, binders, NOTHING_ABOVE, left)?;
+            let found = or_unguarded(alloc, first, binders, NOTHING_ABOVE, right)?;
+            or_unguarded_later(alloc, found, binders, more)
+        }
+        ReadFormula::Implies(left, right) | ReadFormula::Equivalent(left, right) => {
             let found = unguarded(alloc, binders, NOTHING_ABOVE, left)?;
             or_unguarded(alloc, found, binders, NOTHING_ABOVE, right)
         }
@@ -183,6 +187,24 @@ fn unguarded<'a>(
             Ok(first)
         }
     }
+}
+
+// What is found already, or else the first variable that is not guarded in the formulas that follow.
+#[cycle(unguarded)]
+fn or_unguarded_later<'a>(
+    alloc: Global,
+    before: Option<&'a str>,
+    binders: &Vec<WrittenVariable<'a>>,
+    more: &Vec<ReadFormula<'a>>,
+) -> Result<Option<&'a str>, AllocError>
+    ensures { IfOk result (λ found. (o : Joint) (f : formulas.Formula) → name_of before.entry ≡ spec.unguarded (innermost_first binders.now.items) spec.nothing_above f
+        → name_of found ≡ spec.unguarded (innermost_first binders.now.items) spec.nothing_above (written.chain o f (map written.formula more.now.items))) }
+{
+    let mut found = before;
+    for part in more {
+        found = or_unguarded(alloc, found, binders, NOTHING_ABOVE, part)?;
+    }
+    Ok(found)
 }
 
 /// What is found already, or else the first variable inside these binders that is not guarded.

@@ -11,7 +11,7 @@ use Rattle.sp_spec_proof.specs.Tree.{Tree}
 use Rattle.sp_lex.proofs.One.{tokens_one}
 use Rattle.sp_skel.specs.Spelling.{IsReadable}
 use Rattle.sp_law_again.specs.Again.{replaced}
-use Rattle.sp_law_again.specs.Behind.{IsBehindEnd}
+use Rattle.sp_spec_text.specs.Behind.{IsBehindEnd}
 use Rattle.sp_law_again.proofs.Leads.{Ended, leads_ended}
 use Rattle.sp_law_again.proofs.Items.{written_again}
 

@@ -7,7 +7,7 @@ use Rattle.sp_spec_text.specs.Bytes as class
 use Rattle.sp_spec_text.specs.Signs.{Sign}
 use Rattle.sp_spec_text.specs.Signs as s
 use Rattle.sp_spec_text.specs.Token.{Lexeme, word, constant, sign, solve, Token}
-use Rattle.sp_spec_text.specs.Lex.{is_in, is_first, skip, before, by_mark, comment_mark, after_comment, Step, nothing, past, past_comment, gap, Skips, no_gap, gap_then, Piece, token, no_token, short_sign, short_piece, first_sign, piece, is_quoted, bracket, to_closing, closed_by, Reads, plain, bare, goal, IsNext}
+use Rattle.sp_spec_text.specs.Lex.{is_in, is_first, skip, before, by_mark, comment_mark, after_comment, Step, nothing, past, past_comment, gap, Skips, no_gap, gap_then, Piece, token, no_token, short_sign, short_piece, first_sign, piece, is_quoted, bracket, to_closing, closed_by, Reads, as_it_is, bare, goal, IsNext}
 
 -- the bytes end with these
 abbrev pub Ends : List ℕ → List ℕ → Type 0
@@ -185,7 +185,7 @@ closed_leads bytes None g = leads_none
 closed_leads bytes (Some rest) g = leads_token (solve (before bytes rest)) (drop 1 rest) (record { front = (ends_behind (behind_ends (g.is rest refl)) (ends_drop 1 rest)).0; are = (ends_behind (behind_ends (g.is rest refl)) (ends_drop 1 rest)).1; long = omega arith })
 
 pub reads_ends : {bytes rest : List ℕ} {p : Piece} {x : Lexeme} → Reads bytes p → p ≡ token x rest → Ends bytes rest
-reads_ends {bytes} {rest} {x = x} (plain e d) f = behind_ends (piece_behind bytes x rest (e ∙ f))
+reads_ends {bytes} {rest} {x = x} (as_it_is e d) f = behind_ends (piece_behind bytes x rest (e ∙ f))
 reads_ends {bytes} {rest} {x = x} (bare e t n) f = behind_ends (piece_behind bytes x rest (e ∙ f))
 reads_ends {bytes} {rest} {x = y} (goal {rest = r} {inside = i} {x = x} e t h k) f =
     ends_behind (behind_ends (piece_behind bytes x r e)) (ends_behind (skips_ends h) (ends_more 40 (behind_ends ((closed_leads i (to_closing false 0 i) (closing_gives false 0 i)).is y rest (k ∙ f)))))

@@ -23,8 +23,8 @@ use Rattle.sp_skel.proofs.Spelled.{tree_spells}
 use Rattle.sp_skel.proofs.Blanks.{Cut}
 use Rattle.sp_law_again.specs.Again.{replaced, with_trees}
 use Rattle.sp_law_again.proofs.Ends.{Ends, ends_behind, next_ends}
-use Rattle.sp_law_again.proofs.Local.{IsPlain}
-use Rattle.sp_law_again.proofs.Moving.{front_of, move_rule, move_lemma, name_plain}
+use Rattle.sp_law_again.proofs.Local.{BeginsNoGoal}
+use Rattle.sp_law_again.proofs.Moving.{front_of, move_rule, move_lemma, name_begins}
 use Rattle.sp_law_again.proofs.Reached.{parted}
 use Rattle.sp_law_again.proofs.Places.{At, at_start, Claim, Again, settle, extend}
 use Rattle.sp_law_again.proofs.Stretches.{claim_end, claim_lemma, after_other, onwards}
@@ -37,7 +37,7 @@ both first others = map-append (λ (t : Token). t.lexeme) first others
 
 -- the tokens of a rule spell it, whatever follows
 record RuleBefore (first : List Token) (r : WrittenRule) : Type 0 where
-  plain : Every IsPlain (lexemes first)
+  no_goals : Every BeginsNoGoal (lexemes first)
   spells : (ys : List Lexeme) → SpellsRule (lexemes first ++ ys) r ys
 
 rule_before : (tokens mid : List Token) {r : WrittenRule} → SpellsRule (lexemes tokens) r (lexemes mid) → (first : List Token) → tokens ≡ first ++ mid → RuleBefore first r
@@ -46,7 +46,7 @@ rule_before tokens mid {r} h first e =
     let f = front_of (move_rule h ys).swapped in
     append_cancel_right f.front (lexemes first) (lexemes mid) (sym f.are ∙ ap lexemes e ∙ both first mid) in
     record {
-      plain = subst (λ (xs : List Lexeme). Every IsPlain xs) (fronts []) (front_of (move_rule h []).swapped).plain;
+      no_goals = subst (λ (xs : List Lexeme). Every BeginsNoGoal xs) (fronts []) (front_of (move_rule h []).swapped).no_goals;
       spells = λ ys.
           let m = move_rule h ys in
           let f = front_of m.swapped in
@@ -68,7 +68,7 @@ last_same (a ∷ xs) (b ∷ ys) x y e =
 
 -- those of a lemma spell it up to its closing quote
 record LemmaBefore (first : List Token) (quote : Token) (l : Lemma) : Type 0 where
-  plain : Every IsPlain (lexemes first)
+  no_goals : Every BeginsNoGoal (lexemes first)
   closing : quote.lexeme ≡ sign s.Quote
   spells : (ys : List Lexeme) → SpellsLemma (lexemes first ++ sign s.Quote ∷ ys) l ys
 
@@ -81,7 +81,7 @@ lemma_before tokens behind {l} h first quote e =
     let two : (f.front ++ sign s.Quote ∷ []) ++ xs ≡ (lexemes first ++ quote.lexeme ∷ []) ++ xs = append_assoc f.front (sign s.Quote ∷ []) xs ∙ one ∙ sym (append_assoc (lexemes first) (quote.lexeme ∷ []) xs) in
     last_same f.front (lexemes first) (sign s.Quote) quote.lexeme (append_cancel_right (f.front ++ sign s.Quote ∷ []) (lexemes first ++ quote.lexeme ∷ []) xs two) in
     record {
-      plain = subst (λ (xs : List Lexeme). Every IsPlain xs) (fronts []).0 (front_of (move_lemma h []).swapped).plain;
+      no_goals = subst (λ (xs : List Lexeme). Every BeginsNoGoal xs) (fronts []).0 (front_of (move_lemma h []).swapped).no_goals;
       closing = sym (fronts []).1;
       spells = λ ys.
           let m = move_lemma h ys in
@@ -137,7 +137,7 @@ claim_items {text} {behind} {end} {tokens} {after = after} {bytes} (past_rule {r
     let o = parted b.0 u.token u.others cut (b.1 ∙ ap (λ (ts : List Token). b.0 ++ ts) u.are) in
     let mid_cut = subst (λ (ts : List Token). AreTokens (length text) o.rest ts) (sym u.are) o.cut in
     let c = claim_items {bytes = o.rest} s j e trees rs l (end_later p b.0 b.1) mid_cut (ends_behind ends o.ends) in
-    extend o c before.plain (λ ys k. g.rule_first (before.spells ys) k)
+    extend o c before.no_goals (λ ys k. g.rule_first (before.spells ys) k)
 claim_items (past_lemma h b c f s) (g.lemma_first o d i) e [] rs l p cut ends = absurd (omega (arith, l))
 claim_items {text} {behind} {end} {tokens} {after = after} {bytes} (past_lemma {l = x} {p = proof} {items = xs} {span = span} {spans = spans} {behind = y} {mid = mid} h b c f s) (g.lemma_first {mid = n} o d i) e (t ∷ trees) rs l p cut ends =
     let d' = subst (λ (us : List Lexeme). SpellsProofPart us proof n) (sym (lemmas_one.one h o).1) d in
@@ -150,14 +150,14 @@ claim_items {text} {behind} {end} {tokens} {after = after} {bytes} (past_lemma {
     let w = onwards proof span u.token u.others u.are f at a.cut in
     let ends_at = end_behind proof span f (end_later p (b.before ++ b.last ∷ []) (b.are ∙ sym (append_assoc b.before (b.last ∷ []) y))) in
     let later = claim_items {bytes = w.bytes} s j e trees rs.1 (omega (arith, l)) ends_at w.cut w.at.ends in
-    claim_lemma b.last t rs.0 q a.comes before.closing b.place_is before.plain (settle {bytes = w.bytes} later w.at)
+    claim_lemma b.last t rs.0 q a.comes before.closing b.place_is before.no_goals (settle {bytes = w.bytes} later w.at)
     (λ ys k. g.lemma_first (before.spells (spelled t ys)) (g.a_proof (tree_spells t rs.0 ys)) k)
 
 -- ---- the whole text
 
 -- the first three tokens open a theory, and the items stand behind them
 record Opened (theory : WrittenText) (first others : List Token) : Type 0 where
-  plain : Every IsPlain (lexemes first)
+  no_goals : Every BeginsNoGoal (lexemes first)
   items : SpellsItems (lexemes others) theory.items the_end
   whole : (items : List Item) (ys : List Lexeme) → SpellsItems ys items the_end → SpellsTheory (lexemes first ++ ys) (record { name = theory.name; items = items })
 
@@ -169,7 +169,7 @@ three {w} {items} {us} a b c ts n h e =
     let z : word (codes "begin") ≡ c.lexeme = cc in
     let v : us ≡ lexemes ts = cc in
     record {
-      plain = (subst IsPlain x refl, (subst IsPlain y (name_plain w n), (subst IsPlain z refl, tt)));
+      no_goals = (subst BeginsNoGoal x refl, (subst BeginsNoGoal y (name_begins w n), (subst BeginsNoGoal z refl, tt)));
       items = subst (λ (xs : List Lexeme). SpellsItems xs items the_end) v h;
       whole = λ others ys k.
           let f : word (codes "theory") ∷ word w ∷ word (codes "begin") ∷ ys ≡ a.lexeme ∷ b.lexeme ∷ c.lexeme ∷ ys = rw (x, y, z) refl in
@@ -210,7 +210,7 @@ written_again text theory spans end trees behind h p rs l =
     let all : EndAt p.tokens end = record { from = 0; is = sym p.end_is } in
     let c = claim_items {behind = behind} {bytes = q.rest} spans_are o.opened.items refl trees rs l (end_later all o.first o.are) cut q.ends in
     let made : WrittenText = record { name = theory.name; items = with_trees theory.items trees } in
-    let d = extend {Q = λ ys. SpellsTheory ys made} q c o.opened.plain (λ ys k. o.opened.whole (with_trees theory.items trees) ys k) in
+    let d = extend {Q = λ ys. SpellsTheory ys made} q c o.opened.no_goals (λ ys k. o.opened.whole (with_trees theory.items trees) ys k) in
     settle d (at_start text)
 
 pub read_again : (text : List ℕ) (theory : WrittenText) (spans : List Span) (end : ℕ) (trees : List Tree) (behind : List ℕ) → IsTextOf text theory → ArePlaces text theory spans end → Every IsReadable trees → length trees ≡ length spans

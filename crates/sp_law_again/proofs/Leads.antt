@@ -1,12 +1,12 @@
 -- What stands behind tokens of which none is the word `end`, and where that word ends when it comes next.
 use Rattle.std.proofs.Common.{◌≡◌, ℕ, ◌+◌, ◌-◌, ◌≤◌, false, List, [], ◌∷◌, ◌++◌, length, codes, refl, arith}
 use Rattle.sp_spec_text.specs.Token.{Lexeme, word, Token}
-use Rattle.sp_spec_text.specs.Lex.{past, gap, Skips, no_gap, gap_then, token, is_end, Reads, plain, AreTokens, last, next}
+use Rattle.sp_spec_text.specs.Lex.{past, gap, Skips, no_gap, gap_then, token, is_end, Reads, as_it_is, AreTokens, last, next}
 use Rattle.sp_spec_text.specs.Ends.{place_behind, is_any}
-use Rattle.sp_law_again.specs.Behind.{EndsInEnd}
+use Rattle.sp_spec_text.specs.Behind.{EndsInEnd}
 use Rattle.sp_law_again.proofs.Ends.{gap_behind, behind_ends, skips_ends, reads_ends}
 use Rattle.sp_law_again.proofs.Local.{Reaches, reached, past_token}
-use Rattle.sp_law_again.proofs.Reached.{shorter_end, plain_no_goal, tokens_past}
+use Rattle.sp_law_again.proofs.Reached.{shorter_end, begins_no_solve, tokens_past}
 use Rattle.sp_law_again.proofs.Stops.{letter_begins, quote_begins, quote_piece, end_piece}
 
 -- the bytes are cut into tokens, none of them `end`, with blanks and comments between, and then these bytes follow
@@ -21,10 +21,10 @@ leads_skipped (gap_then e s) l = past_gap e (leads_skipped s l)
 
 pub leads_reached : {to mid bytes : List ℕ} {xs : List Lexeme} → Reaches mid bytes xs → Leads to mid → Leads to bytes
 leads_reached (reached s) l = leads_skipped s l
-leads_reached (past_token {x = x} s p q e h) l = past_one s (plain p (plain_no_goal x q)) e (leads_reached h l)
+leads_reached (past_token {x = x} s p q e h) l = past_one s (as_it_is p (begins_no_solve x q)) e (leads_reached h l)
 
 pub leads_quote : {to rest : List ℕ} → Leads to rest → Leads to (34 ∷ rest)
-leads_quote {rest = rest} l = past_one (no_gap (quote_begins rest)) (plain (quote_piece rest) refl) refl l
+leads_quote {rest = rest} l = past_one (no_gap (quote_begins rest)) (as_it_is (quote_piece rest) refl) refl l
 
 -- ---- where the word `end` ends
 
@@ -46,7 +46,7 @@ end_ends {size} rest le =
     let t : Token = record { lexeme = word (codes "end"); start = size - length bytes; end = size - length (10 ∷ rest) } in
     record {
       tokens = t ∷ [];
-      cut = last (record { from = bytes; skips = no_gap (letter_begins (codes "nd" ++ 10 ∷ rest)); reads = plain (end_piece rest) refl; start = omega arith; end = omega arith }) refl;
+      cut = last (record { from = bytes; skips = no_gap (letter_begins (codes "nd" ++ 10 ∷ rest)); reads = as_it_is (end_piece rest) refl; start = omega arith; end = omega arith }) refl;
       ended = refl;
       place = λ b. omega arith;
     }

@@ -5,13 +5,14 @@ use Rattle.std.specs.Str.{bytes_eq}
 use Rattle.std.specs.Char.{is_ascii_alphanumeric}
 use Rattle.std.proofs.lemmas.Bool.Decides.{nat_tests}
 use Rattle.std.proofs.lemmas.List.{append_cancel_right}
+use Rattle.std.proofs.Math.Bool.{and-false}
 use Rattle.sp_spec_text.specs.Bytes.{Class, FaultKind, NoConstant, Mark, Opens, Closes, Neither}
 use Rattle.sp_spec_text.specs.Bytes as class
 use Rattle.sp_spec_text.specs.Signs.{Sign}
 use Rattle.sp_spec_text.specs.Signs as s
 use Rattle.sp_spec_text.specs.Token.{Lexeme, word, constant, sign, solve}
 use Rattle.sp_spec_text.specs.Lex.{is_blank, is_in, is_first, is_digit, skip, begins, before, by_mark, comment_mark, after_comment, nothing, past, past_comment, gap, Skips, no_gap, gap_then, Piece, token, no_token, close_constant, short_sign, short_piece, first_short, first_sign, piece, is_end}
-use Rattle.sp_skel.proofs.Decimals.{before_rest}
+use Rattle.sp_spec_text.proofs.Rests.{before_rest}
 use Rattle.sp_law_again.proofs.Ends.{Ends, ends_more, behind_ends, ends_behind, not_behind, skip_ends, comment_behind, gap_behind, skips_ends, piece_behind}
 
 -- Whether it belongs to what stands before it doesn't depend on what follows, no line ends with it, and no comment and no longer sign has it
@@ -147,12 +148,8 @@ short_same : (o : Option Sign) {x : Lexeme} {a b u v : List ℕ} → (a ≡ b �
 short_same None f e = no_piece e
 short_same (Some y) f e = token_same (sign y) f e
 
-and_none : (t : Bool) → (t && false) ≡ false
-and_none true = refl
-and_none false = refl
-
 no_signs : (t u v w o : Bool) (a b c d e p : Piece) → cond (t && false) a (cond (u && false) b (cond (v && false) c (cond (w && false) d (cond (o && false) e p)))) ≡ p
-no_signs t u v w o a b c d e p = rw (and_none t, and_none u, and_none v, and_none w, and_none o) refl
+no_signs t u v w o a b c d e p = rw (and-false t, and-false u, and-false v, and-false w, and-false o) refl
 
 -- before a byte that stands firm only a sign of one byte is cut off
 sign_firm : {c : ℕ} → Firm c → (b : ℕ) (r : List ℕ) → first_sign (b ∷ c ∷ r) ≡ first_short (b ∷ c ∷ r)
@@ -241,16 +238,16 @@ piece_local {c} f (b ∷ m) tail r q x h =
 -- ---- tokens up to a place
 
 -- such as no goal begins with
-abbrev pub IsPlain : Lexeme → Type 0
-IsPlain (word w) = bytes_eq w (codes "solve") ≡ false
-IsPlain (constant c) = Unit {0}
-IsPlain (sign x) = Unit {0}
-IsPlain (solve t) = ⊥
+abbrev pub BeginsNoGoal : Lexeme → Type 0
+BeginsNoGoal (word w) = bytes_eq w (codes "solve") ≡ false
+BeginsNoGoal (constant c) = Unit {0}
+BeginsNoGoal (sign x) = Unit {0}
+BeginsNoGoal (solve t) = ⊥
 
 -- the bytes are cut into these, and then those bytes follow, behind blanks and comments
 pub data Reaches (to : List ℕ) : List ℕ → List Lexeme → Type 0 where
   reached : {bytes : List ℕ} → Skips bytes to → Reaches to bytes []
-  past_token : {bytes from mid : List ℕ} {x : Lexeme} {xs : List Lexeme} → Skips bytes from → piece from ≡ token x mid → IsPlain x → is_end x ≡ false → Reaches to mid xs → Reaches to bytes (x ∷ xs)
+  past_token : {bytes from mid : List ℕ} {x : Lexeme} {xs : List Lexeme} → Skips bytes from → piece from ≡ token x mid → BeginsNoGoal x → is_end x ≡ false → Reaches to mid xs → Reaches to bytes (x ∷ xs)
 
 pub reaches_ends : {to bytes : List ℕ} {xs : List Lexeme} → Reaches to bytes xs → Ends bytes to
 reaches_ends (reached s) = skips_ends s

@@ -19,13 +19,13 @@ use Rattle.sp_spec_text.specs.Formulas as g
 use Rattle.sp_spec_text.specs.Formulas.{SpellsVariable, SpellsTerm, SpellsFact, SpellsBinders, NoSign, SpellsUnit, SpellsNegation, SpellsConjunction, SpellsAnds, SpellsDisjunction, SpellsOrs, SpellsImplication, SpellsFormula, SpellsReach}
 use Rattle.sp_spec_text.specs.Theories as t
 use Rattle.sp_spec_text.specs.Theories.{SpellsFacts, SpellsArrow, SpellsRule, SpellsKind, SpellsLemma}
-use Rattle.sp_law_again.proofs.Local.{IsPlain}
+use Rattle.sp_law_again.proofs.Local.{BeginsNoGoal}
 use Rattle.sp_law_block.proofs.SpelledNames.{symbol_named}
 
 -- the same tokens before these and those
 pub data Swapped (rest other : List Lexeme) : List Lexeme → List Lexeme → Type 0 where
   swapped_here : Swapped rest other rest other
-  swapped_behind : {tokens others : List Lexeme} (x : Lexeme) → IsPlain x → Swapped rest other tokens others → Swapped rest other (x ∷ tokens) (x ∷ others)
+  swapped_behind : {tokens others : List Lexeme} (x : Lexeme) → BeginsNoGoal x → Swapped rest other tokens others → Swapped rest other (x ∷ tokens) (x ∷ others)
 
 swapped_in : {rest other mid middle tokens others : List Lexeme} → Swapped mid middle tokens others → Swapped rest other mid middle → Swapped rest other tokens others
 swapped_in swapped_here k = k
@@ -38,15 +38,15 @@ past_sign x h = swapped_in h (swapped_behind (sign x) tt swapped_here)
 -- what stands before both
 pub record Front (rest other tokens others : List Lexeme) : Type 0 where
   pub front : List Lexeme
-  pub plain : Every IsPlain front
+  pub no_goals : Every BeginsNoGoal front
   pub are : tokens ≡ front ++ rest
   pub others_are : others ≡ front ++ other
 
 pub front_of : {rest other tokens others : List Lexeme} → Swapped rest other tokens others → Front rest other tokens others
-front_of swapped_here = record { front = []; plain = tt; are = refl; others_are = refl }
+front_of swapped_here = record { front = []; no_goals = tt; are = refl; others_are = refl }
 front_of (swapped_behind x p h) =
     let f = front_of h in
-    record { front = x ∷ f.front; plain = (p, f.plain); are = ap (λ (ts : List Lexeme). x ∷ ts) f.are; others_are = ap (λ (ts : List Lexeme). x ∷ ts) f.others_are }
+    record { front = x ∷ f.front; no_goals = (p, f.no_goals); are = ap (λ (ts : List Lexeme). x ∷ ts) f.are; others_are = ap (λ (ts : List Lexeme). x ∷ ts) f.others_are }
 
 -- what R reads is read before the other tokens too
 pub record Moved {A : Type 0} (R : List Lexeme → A → List Lexeme → Type 0) (tokens : List Lexeme) (x : A) (rest other : List Lexeme) : Type 0 where
@@ -77,20 +77,20 @@ last_of false false false false false true g h i = absurd (let none : ⊥ = cc i
 last_of false false false false false false true h i = absurd (let none : ⊥ = cc in none)
 last_of false false false false false false false h i = i
 
-pub name_plain : (w : List ℕ) → IsName w → IsPlain (word w)
+pub name_begins : (w : List ℕ) → IsName w → BeginsNoGoal (word w)
 unfolding is_reserved
-name_plain w h =
+name_begins w h =
     last_of (bytes_eq w (codes "end")) (bytes_eq w (codes "let")) (bytes_eq w (codes "in")) (bytes_eq w (codes "not")) (bytes_eq w (codes "All")) (bytes_eq w (codes "Ex")) (bytes_eq w (codes "last")) (bytes_eq w (codes "solve")) h
 
-fact_plain : (w : List ℕ) → names_fact w ≡ true → IsPlain (word w)
-fact_plain w h = name_plain w (symbol_named w h)
+fact_begins : (w : List ℕ) → names_fact w ≡ true → BeginsNoGoal (word w)
+fact_begins w h = name_begins w (symbol_named w h)
 
 no_sort : {m : Mark} → mark_of (codes "solve") ≡ Some m → ⊥
 unfolding mark_of
 no_sort e = cc
 
-sort_plain : (w : List ℕ) (m : Mark) → mark_of w ≡ Some m → IsPlain (word w)
-sort_plain w m h = by_test (bytes_eq w (codes "solve")) refl
+sort_begins : (w : List ℕ) (m : Mark) → mark_of w ≡ Some m → BeginsNoGoal (word w)
+sort_begins w m h = by_test (bytes_eq w (codes "solve")) refl
   where
     by_test : (t : Bool) → bytes_eq w (codes "solve") ≡ t → t ≡ false
     by_test true e = absurd (no_sort (ap mark_of (sym ((bytes_eq-Decides w (codes "solve")).0 e)) ∙ h))
@@ -100,12 +100,12 @@ sort_plain w m h = by_test (bytes_eq w (codes "solve")) refl
 
 move_variable : {v : Written} {tokens rest : List Lexeme} → SpellsVariable tokens v rest → (other : List Lexeme) → Moved SpellsVariable tokens v rest other
 move_variable (g.marked {x = x} {w = w} e n) other =
-    record { others = sign x ∷ word w ∷ other; swapped = swapped_behind (sign x) tt (swapped_behind (word w) (name_plain w n) swapped_here); reads = g.marked e n }
-move_variable (g.plain {w = w} n) other = record { others = word w ∷ other; swapped = swapped_behind (word w) (name_plain w n) swapped_here; reads = g.plain n }
+    record { others = sign x ∷ word w ∷ other; swapped = swapped_behind (sign x) tt (swapped_behind (word w) (name_begins w n) swapped_here); reads = g.marked e n }
+move_variable (g.unmarked {w = w} n) other = record { others = word w ∷ other; swapped = swapped_behind (word w) (name_begins w n) swapped_here; reads = g.unmarked n }
 move_variable (g.sorted {w = w} {k = k} {m = m} n e) other =
     record {
       others = word w ∷ sign s.Colon ∷ word k ∷ other;
-      swapped = swapped_behind (word w) (name_plain w n) (swapped_behind (sign s.Colon) tt (swapped_behind (word k) (sort_plain k m e) swapped_here));
+      swapped = swapped_behind (word w) (name_begins w n) (swapped_behind (sign s.Colon) tt (swapped_behind (word k) (sort_begins k m e) swapped_here));
       reads = g.sorted n e;
     }
 
@@ -137,12 +137,12 @@ move_terms ts us vs x h = move_term h vs
 move_fact : {n : ℕ} {f : Fact Written} {tokens rest : List Lexeme} → SpellsFact n tokens f rest → (other : List Lexeme) → Moved (SpellsFact n) tokens f rest other
 move_fact (g.linear {w = w} e lt h) other =
     let m = move_items move_terms h other in
-    record { others = word w ∷ sign s.Open ∷ m.others; swapped = swapped_behind (word w) (fact_plain w e) (swapped_behind (sign s.Open) tt m.swapped); reads = g.linear e lt m.reads }
+    record { others = word w ∷ sign s.Open ∷ m.others; swapped = swapped_behind (word w) (fact_begins w e) (swapped_behind (sign s.Open) tt m.swapped); reads = g.linear e lt m.reads }
 move_fact (g.persistent {w = w} e lt h) other =
     let m = move_items move_terms h other in
     record {
       others = sign s.Bang ∷ word w ∷ sign s.Open ∷ m.others;
-      swapped = swapped_behind (sign s.Bang) tt (swapped_behind (word w) (fact_plain w e) (swapped_behind (sign s.Open) tt m.swapped));
+      swapped = swapped_behind (sign s.Bang) tt (swapped_behind (word w) (fact_begins w e) (swapped_behind (sign s.Open) tt m.swapped));
       reads = g.persistent e lt m.reads;
     }
 
@@ -190,7 +190,7 @@ mutual
       record { others = m.others; swapped = swapped_in (past_sign s.Less m.swapped) n.swapped; reads = g.order m.reads n.reads }
 
   move_negation : {n : ℕ} {f : Formula} {tokens rest : List Lexeme} → SpellsNegation n tokens f rest → (other : List Lexeme) → Follows rest other → Moved (SpellsNegation n) tokens f rest other
-  move_negation (g.plain_unit h) other w = let m = move_unit h other w in record { others = m.others; swapped = m.swapped; reads = g.plain_unit m.reads }
+  move_negation (g.unit_alone h) other w = let m = move_unit h other w in record { others = m.others; swapped = m.swapped; reads = g.unit_alone m.reads }
   move_negation (g.negated h) other w =
       let m = move_unit h other w in
       record { others = word (codes "not") ∷ m.others; swapped = swapped_behind (word (codes "not")) refl m.swapped; reads = g.negated m.reads }
@@ -264,7 +264,7 @@ move_rule (t.rule {w = w} n a b c) other =
     let m = move_facts a i.others in
     record {
       others = word (codes "rule") ∷ word w ∷ sign s.Colon ∷ m.others;
-      swapped = swapped_behind (word (codes "rule")) refl (swapped_behind (word w) (name_plain w n) (swapped_behind (sign s.Colon) tt (swapped_in m.swapped (swapped_in i.swapped o.swapped))));
+      swapped = swapped_behind (word (codes "rule")) refl (swapped_behind (word w) (name_begins w n) (swapped_behind (sign s.Colon) tt (swapped_in m.swapped (swapped_in i.swapped o.swapped))));
       reads = t.rule n m.reads i.reads o.reads;
     }
 
@@ -295,6 +295,6 @@ move_lemma (t.lemma {w = w} n k f) other =
     let m = move_kind k (sign s.Quote ∷ o.others) in
     record {
       others = word (codes "lemma") ∷ word w ∷ sign s.Colon ∷ m.others;
-      swapped = swapped_behind (word (codes "lemma")) refl (swapped_behind (word w) (name_plain w n) (swapped_behind (sign s.Colon) tt (swapped_in (past_sign s.Quote m.swapped) o.swapped)));
+      swapped = swapped_behind (word (codes "lemma")) refl (swapped_behind (word w) (name_begins w n) (swapped_behind (sign s.Colon) tt (swapped_in (past_sign s.Quote m.swapped) o.swapped)));
       reads = t.lemma n m.reads o.reads;
     }

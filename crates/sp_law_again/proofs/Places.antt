@@ -7,10 +7,10 @@ use Rattle.sp_spec_text.specs.Lex.{lexemes}
 use Rattle.sp_spec_proof.specs.Tree.{Tree}
 use Rattle.sp_spec_text.specs.Spans.{Span}
 use Rattle.sp_skel.proofs.Blanks.{Lexes}
-use Rattle.sp_skel.proofs.Decimals.{before_rest}
+use Rattle.sp_spec_text.proofs.Rests.{before_rest}
 use Rattle.sp_law_again.specs.Again.{between, replaced}
 use Rattle.sp_law_again.proofs.Ends.{Ends, ends_all}
-use Rattle.sp_law_again.proofs.Local.{Firm, IsPlain, Reaches, reaches_local}
+use Rattle.sp_law_again.proofs.Local.{Firm, BeginsNoGoal, Reaches, reaches_local}
 use Rattle.sp_law_again.proofs.Reached.{lexes_reached, Parted}
 use Rattle.sp_law_again.proofs.Leads.{Leads, leads_reached}
 
@@ -72,9 +72,9 @@ settle {text} {spans} {trees} {end} {place} {behind} {bytes} c a =
     }
 
 -- with more tokens before
-pub extend : {text : List ℕ} {spans : List Span} {trees : List Tree} {end : ℕ} {behind bytes : List ℕ} {P Q : List Lexeme → Type 0} {ts us : List Token} → (p : Parted (length text) bytes ts us) → Claim text spans trees end behind p.rest P → Every IsPlain (lexemes ts)
+pub extend : {text : List ℕ} {spans : List Span} {trees : List Tree} {end : ℕ} {behind bytes : List ℕ} {P Q : List Lexeme → Type 0} {ts us : List Token} → (p : Parted (length text) bytes ts us) → Claim text spans trees end behind p.rest P → Every BeginsNoGoal (lexemes ts)
     → ((ys : List Lexeme) → P ys → Q (lexemes ts ++ ys)) → Claim text spans trees end behind bytes Q
-extend {text} {Q = Q} {ts = ts} p c plain f =
+extend {text} {Q = Q} {ts = ts} p c no_goals f =
     let m = p.ends.0 in
     record {
       stop = c.stop;
@@ -87,7 +87,7 @@ extend {text} {Q = Q} {ts = ts} p c plain f =
           let g = c.written place all (before ++ m) a (e ∙ ap (λ (x : List ℕ). before ++ x) p.ends.1 ∙ sym (append_assoc before m p.rest)) in
           g ∙ ap (λ (x : List ℕ). x ++ c.stop ∷ c.new) (append_assoc before m c.front);
       first = lexemes ts ++ c.first;
-      reaches = p.reaches (c.stop ∷ c.old) c.first plain c.reaches;
+      reaches = p.reaches (c.stop ∷ c.old) c.first no_goals c.reaches;
       others = c.others;
       lexes = c.lexes;
       leads = c.leads;

@@ -8,9 +8,9 @@ use Rattle.sp_spec_text.specs.Bytes as class
 use Rattle.sp_spec_text.specs.Signs.{Sign}
 use Rattle.sp_spec_text.specs.Signs as s
 use Rattle.sp_spec_text.specs.Token.{Lexeme, word, constant, sign, Token}
-use Rattle.sp_spec_text.specs.Lex.{is_in, is_first, skip, begins, before, nothing, past, gap, Skips, no_gap, gap_then, token, no_token, close_constant, short_sign, short_piece, first_sign, piece, plain, AreTokens, no_more, last, next}
+use Rattle.sp_spec_text.specs.Lex.{is_in, is_first, skip, begins, before, nothing, past, gap, Skips, no_gap, gap_then, token, no_token, close_constant, short_sign, short_piece, first_sign, piece, as_it_is, AreTokens, no_more, last, next}
 use Rattle.sp_skel.proofs.Blanks.{Lexes}
-use Rattle.sp_skel.proofs.Decimals.{before_rest}
+use Rattle.sp_spec_text.proofs.Rests.{before_rest}
 use Rattle.sp_law_again.proofs.Ends.{skip_ends, ends_more}
 use Rattle.sp_law_again.proofs.Local.{Firm}
 use Rattle.sp_law_again.proofs.Reached.{lexes_piece}
@@ -153,7 +153,7 @@ lexes_end {size} rest = record {
       let t : Token = record { lexeme = word (codes "end"); start = size - length bytes; end = size - length (10 ∷ rest) } in
       record {
         tokens = t ∷ [];
-        cut = last (record { from = bytes; skips = no_gap (letter_begins (codes "nd" ++ 10 ∷ rest)); reads = plain (end_piece rest) refl; start = omega arith; end = omega arith }) refl;
+        cut = last (record { from = bytes; skips = no_gap (letter_begins (codes "nd" ++ 10 ∷ rest)); reads = as_it_is (end_piece rest) refl; start = omega arith; end = omega arith }) refl;
         are = refl;
       };
 }

@@ -17,7 +17,7 @@ use Rattle.sp_skel.proofs.Blanks.{Lexes, lexes_blank}
 use Rattle.sp_skel.proofs.ReadBack.{lexes_tree}
 use Rattle.sp_law_again.specs.Again.{replaced}
 use Rattle.sp_law_again.proofs.Ends.{ends_behind, skips_ends, next_ends}
-use Rattle.sp_law_again.proofs.Local.{IsPlain, reached}
+use Rattle.sp_law_again.proofs.Local.{BeginsNoGoal, reached}
 use Rattle.sp_law_again.proofs.Reached.{next_piece, Parted, parted}
 use Rattle.sp_law_again.proofs.Stops.{quote_firm, letter_firm, quote_read, lexes_quote, word_read, lexes_end, tokens_feed}
 use Rattle.sp_law_again.proofs.Leads.{arrived, leads_quote}
@@ -28,7 +28,7 @@ use Rattle.sp_law_again.proofs.Places.{At, at_drop, between_is, Claim, Again}
 
 end_claim : {text behind bytes rest : List ℕ} {trees : List Tree} {end : ℕ} {P : List Lexeme → Type 0} (t : Token) → IsNext (length text) bytes t rest → t.lexeme ≡ word (codes "end") → t.end ≡ end → P the_end → Claim text [] trees end behind bytes P
 end_claim {text} {behind} {bytes} {rest} {trees} {end} t n e f h =
-    let from : n.from ≡ codes "end" ++ rest = word_read n.from rest (codes "end") (subst (λ (x : Lexeme). piece n.from ≡ token x rest) e (next_piece n (subst IsPlain (sym e) refl))) in
+    let from : n.from ≡ codes "end" ++ rest = word_read n.from rest (codes "end") (subst (λ (x : Lexeme). piece n.from ≡ token x rest) e (next_piece n (subst BeginsNoGoal (sym e) refl))) in
     let o = skips_ends n.skips in
     let are : bytes ≡ o.0 ++ (codes "end" ++ rest) = o.1 ∙ ap (λ (x : List ℕ). o.0 ++ x) from in
     record {
@@ -63,10 +63,10 @@ claim_end b (next {t = t} n d k) e f h = absurd (goes_on_end t.lexeme (let g : t
 -- ---- a lemma
 
 pub claim_lemma : {text behind bytes rest : List ℕ} {spans : List Span} {trees : List Tree} {end : ℕ} {span : Span} {first : List Token} {us : List Token} {P Q : List Lexeme → Type 0} (quote : Token) (t : Tree) → IsReadable t → (p : Parted (length text) bytes first us)
-    → IsNext (length text) p.rest quote rest → quote.lexeme ≡ sign s.Quote → span.from ≡ quote.end → Every IsPlain (lexemes first) → Again text spans trees end behind (goes_on text span) P → ((ys : List Lexeme) → P ys → Q (lexemes first ++ sign s.Quote ∷ spelled t ys))
+    → IsNext (length text) p.rest quote rest → quote.lexeme ≡ sign s.Quote → span.from ≡ quote.end → Every BeginsNoGoal (lexemes first) → Again text spans trees end behind (goes_on text span) P → ((ys : List Lexeme) → P ys → Q (lexemes first ++ sign s.Quote ∷ spelled t ys))
     → Claim text (span ∷ spans) (t ∷ trees) end behind bytes Q
-claim_lemma {text} {behind} {bytes} {rest} {spans} {trees} {end} {span} {first} {Q = Q} quote t readable p n e f plain again step =
-    let from : n.from ≡ 34 ∷ rest = quote_read n.from rest (subst (λ (x : Lexeme). piece n.from ≡ token x rest) e (next_piece n (subst IsPlain (sym e) tt))) in
+claim_lemma {text} {behind} {bytes} {rest} {spans} {trees} {end} {span} {first} {Q = Q} quote t readable p n e f no_goals again step =
+    let from : n.from ≡ 34 ∷ rest = quote_read n.from rest (subst (λ (x : Lexeme). piece n.from ≡ token x rest) e (next_piece n (subst BeginsNoGoal (sym e) tt))) in
     let o = skips_ends n.skips in
     let m = p.ends.0 ++ o.0 in
     let are : bytes ≡ m ++ 34 ∷ rest = p.ends.1 ∙ ap (λ (x : List ℕ). p.ends.0 ++ x) (o.1 ∙ ap (λ (x : List ℕ). o.0 ++ x) from) ∙ sym (append_assoc p.ends.0 o.0 (34 ∷ rest)) in
@@ -86,7 +86,7 @@ claim_lemma {text} {behind} {bytes} {rest} {spans} {trees} {end} {span} {first} 
           let all_is : all ≡ (w ++ 34 ∷ []) ++ rest = d ∙ ap (λ (x : List ℕ). before ++ x) are ∙ sym (append_assoc before m (34 ∷ rest)) ∙ sym (append_assoc w (34 ∷ []) rest) in
           ap (λ (x : List ℕ). (x ++ tree) ++ z) (between_is a span.from (w ++ 34 ∷ []) rest all_is quote_end) ∙ append_assoc (w ++ 34 ∷ []) tree z ∙ append_assoc w (34 ∷ []) (tree ++ z);
       first = lexemes first ++ [];
-      reaches = p.reaches (34 ∷ rest) [] plain (reached (subst (λ (x : List ℕ). Skips p.rest x) from n.skips));
+      reaches = p.reaches (34 ∷ rest) [] no_goals (reached (subst (λ (x : List ℕ). Skips p.rest x) from n.skips));
       others = sign s.Quote ∷ spelled t again.all;
       lexes = λ size.
           let behind_tree = subst (λ (x : List ℕ). Lexes size x (spelled t again.all)) (sym (append_assoc (tree_text 0 t) later z)) (lexes_tree 0 t (later ++ z) readable (again.lexes size)) in

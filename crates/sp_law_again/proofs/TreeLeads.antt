@@ -1,15 +1,15 @@
 -- The text of a tree has no word `end`: its tokens lead to whatever follows it.
 use Rattle.std.proofs.Common.{◌≡◌, ℕ, zero, suc, Bool, true, false, if◌then◌else◌, List, [], ◌∷◌, ◌++◌, codes, refl, sym, ap, subst, ◌∙◌, append_assoc}
 use Rattle.sp_spec_text.specs.Token.{word}
-use Rattle.sp_spec_text.specs.Lex.{is_blank, no_gap, is_end, is_solve, plain}
+use Rattle.sp_spec_text.specs.Lex.{is_blank, no_gap, is_end, is_solve, as_it_is}
 use Rattle.sp_spec_text.specs.Lex as lex
-use Rattle.sp_spec_text.specs.Names.{IsName}
+use Rattle.sp_spec_text.specs.Names.{IsName, IsWord}
 use Rattle.sp_spec_system.specs.Move.{Move}
 use Rattle.sp_spec_system.specs.Words.{Words, method, goal, words_of, AreWithin, words_text, goal_text, stand_alone}
 use Rattle.sp_spec_proof.specs.Tree.{Tree, node, Branches, no_branch, branch}
 use Rattle.sp_skel.specs.TreeText.{indent, line, move_text, leading, tree_text, cases_text}
 use Rattle.sp_skel.specs.Places.{HasPlace}
-use Rattle.sp_skel.specs.Spelling.{IsWord, IsReadable, AreReadable}
+use Rattle.sp_skel.specs.Spelling.{IsReadable, AreReadable}
 use Rattle.sp_skel.proofs.Blanks.{gap_blank, Ends, piece_word, gap_word, space, line_end, bracket_ends, gap_bracket, solve_goal, is_word_solve}
 use Rattle.sp_skel.proofs.Goals.{Closes, closes_goal}
 use Rattle.sp_skel.proofs.ReadBack.{name_goes_on, name_no_goal, word_by, word_case, word_next, word_qed}
@@ -25,7 +25,7 @@ leads_blank {bytes = bytes} b h l = past_gap (gap_blank b bytes h) l
 
 leads_word : {to : List ℕ} (w : List ℕ) (b : ℕ) (rest : List ℕ) → IsWord w → Ends b → is_end (word w) ≡ false → is_solve (word w) ≡ false → Leads to (b ∷ rest) → Leads to (w ++ b ∷ rest)
 leads_word [] b rest h e d s l = absurd h
-leads_word (c ∷ w) b rest h e d s l = past_one (no_gap (gap_word c (w ++ b ∷ rest) h.0)) (plain (piece_word (c ∷ w) b rest h e) s) d l
+leads_word (c ∷ w) b rest h e d s l = past_one (no_gap (gap_word c (w ++ b ∷ rest) h.0)) (as_it_is (piece_word (c ∷ w) b rest h e) s) d l
 
 leads_goal : {to : List ℕ} (inside rest : List ℕ) → Closes inside → Leads to rest → Leads to (codes "solve" ++ 40 ∷ (inside ++ 41 ∷ rest))
 leads_goal inside rest closes l =
@@ -38,7 +38,7 @@ leads_words : {to : List ℕ} (m : Move) (ws : Words) (rest : List ℕ) → IsLi
 leads_words m (method w) rest line h l = leads_word w 10 rest line.is_word line_end line.goes_on line.no_goal l
 leads_words m (goal w arguments) rest line h l =
     let inside : List ℕ = goal_text w arguments in
-    leads_at (ap (λ (bytes : List ℕ). codes "solve(" ++ bytes) (append_assoc inside (codes ")") (10 ∷ rest))) (leads_goal inside (10 ∷ rest) (closes_goal w arguments line.plain h) l)
+    leads_at (ap (λ (bytes : List ℕ). codes "solve(" ++ bytes) (append_assoc inside (codes ")") (10 ∷ rest))) (leads_goal inside (10 ∷ rest) (closes_goal w arguments line.unbroken h) l)
 
 leads_move : {to : List ℕ} (m : Move) (rest : List ℕ) → HasPlace m → Leads to (10 ∷ rest) → Leads to (move_text m ++ 10 ∷ rest)
 leads_move m rest h l = leads_words m (words_of m) rest (lines m) h l

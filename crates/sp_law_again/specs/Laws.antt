@@ -7,7 +7,7 @@ use Rattle.sp_spec_text.specs.Spans.{Span}
 use Rattle.sp_spec_text.specs.Texts.{IsTextOf, ArePlaces}
 use Rattle.sp_skel.specs.Spelling.{as_written, IsReadable}
 use Rattle.sp_law_again.specs.Again.{replaced, with_trees}
-use Rattle.sp_law_again.specs.Behind.{IsBehindEnd}
+use Rattle.sp_spec_text.specs.Behind.{IsBehindEnd}
 
 pub record TextsAreReadAgain : Type 0 where
   -- Whatever stands behind the word `end`, if a line feed stands before it: that ends the word.

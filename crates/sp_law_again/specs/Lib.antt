@@ -1,4 +1,3 @@
 pub mod Again
-pub mod Behind
 pub mod Laws
 pub mod Named

@@ -16,7 +16,7 @@ use Rattle.sp_solved.specs.Listing.{in_order}
 use Rattle.sp_solved.specs.Naming.{in_term, in_way, in_step, in_events, variables_of, values_of}
 use Rattle.sp_solved.specs.Candidate.{is_ready, entry_at, event_sources, entries_of, logged, candidate}
 use Rattle.sp_law_truth.proofs.Only.{is_among_member}
-use Rattle.sp_read_steps.specs.Lines.{IsQuotable}
+use Rattle.sp_spec_text.specs.StepLines.{IsQuotable}
 use Rattle.sp_law_block.specs.Laws.{CandidatesHaveNames}
 use Rattle.sp_solved.proofs.Listed.{every_listed}
 use Rattle.sp_solved.proofs.Names.{all_seen}

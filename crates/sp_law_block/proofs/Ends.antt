@@ -10,7 +10,7 @@ use Rattle.sp_spec_proof.specs.Cases.{cases}
 use Rattle.sp_spec_proof.specs.Tree.{Tree, node, Branches, no_branch, branch, is_solved, first_log, found_log, found_below}
 use Rattle.sp_law_system.specs.Proofs.{IsContextOf, IsWellMade, IsKept, systems_of}
 use Rattle.sp_law_cover.specs.Laws.{MovesCover}
-use Rattle.sp_law_cover.proofs.Covering.{plain_moves_cover}
+use Rattle.sp_law_cover.proofs.Covering.{moves_are_covered}
 use Rattle.sp_law_cover.proofs.MovesCover.{every_system}
 use Rattle.sp_law_block.specs.Laws.{EndsAreWellMade}
 
@@ -58,5 +58,5 @@ module _ (theory : Theory) (covering : MovesCover theory) (context : Context) (i
 
 pub ends_are_well_made_lem : EndsAreWellMade
 ends_are_well_made_lem = record {
-  ends = λ theory plain context is_of s made tree log e. ends_well theory (plain_moves_cover theory plain) context is_of log tree s made e;
+  ends = λ theory suits context is_of s made tree log e. ends_well theory (moves_are_covered theory suits) context is_of log tree s made e;
 }

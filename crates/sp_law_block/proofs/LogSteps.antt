@@ -20,7 +20,8 @@ use Rattle.sp_law_found.proofs.Given.{own_agree, own_valuation, instance_gives}
 use Rattle.sp_law_found.proofs.Plain.{plain_instance, normal_valuation}
 use Rattle.sp_law_found.proofs.Premises.{AreOfFresh, of_fresh, fresh_sorts}
 use Rattle.sp_law_block.specs.Laws.{LogsMayBeWritten}
-use Rattle.sp_read_steps.specs.Lines.{IsNamed, IsGiven, IsWritableStep}
+use Rattle.sp_spec_text.specs.Names.{IsNameWord}
+use Rattle.sp_spec_text.specs.StepLines.{IsGiven, IsWritableStep}
 use Rattle.sp_law_block.specs.Shown.{shown_names, numbered_names, no_variable, HasNames, StepHasNames, LogHasNames, IsNamedRule, IsShownAction, IsShownTrace}
 use Rattle.sp_law_block.proofs.Writable.{term_writable}
 use Rattle.sp_law_block.proofs.GivenNames.{rule_given_named}
@@ -55,8 +56,8 @@ module _ (symbols : List Symbol) where
       every_append (IsWritableStep symbols) (fresh_steps ts) (make_fresh t ∷ []) (fresh_writable ts sorts.1 shown.1 both.0)
       (term_writable symbols t (fresh_over t sorts.0) shown.0 both.1.0, tt)
 
-  names_given : (k : ℕ) (ds : List Declared) (bs : List Bound) → Every (λ (d : Declared). IsNamed d.name) ds → ((x : Variable) → IsOver symbols (bound_or_any bs x))
-      → Every (λ (g : List ℕ × Ground). IsNamed g.0 × IsOver symbols g.1) (given_from k ds bs)
+  names_given : (k : ℕ) (ds : List Declared) (bs : List Bound) → Every (λ (d : Declared). IsNameWord d.name) ds → ((x : Variable) → IsOver symbols (bound_or_any bs x))
+      → Every (λ (g : List ℕ × Ground). IsNameWord g.0 × IsOver symbols g.1) (given_from k ds bs)
   names_given k [] bs named over = tt
   names_given k (d ∷ ds) bs named over = ((named.0, over (record { sort = d.sort; number = k })), names_given (suc k) ds bs named.1 over)
 
@@ -127,15 +128,15 @@ module _ (theory : WrittenTheory) (good : IsExecutable (theory_of theory)) (name
       let given = given_of u.rule u.bindings in
       let n = every_member IsNamedRule rules u.rule u.member named in
       let over = names_given symbols 0 u.rule.variables u.bindings n.variables (λ x. (u.valuation x).1) in
-      let both : Every (λ (g : List ℕ × Ground). (IsNamed g.0 × IsOver symbols g.1) × HasNames shown_names g.1) given =
-      every_both (λ (g : List ℕ × Ground). IsNamed g.0 × IsOver symbols g.1) (λ (g : List ℕ × Ground). HasNames shown_names g.1)
-      (λ (g : List ℕ × Ground). (IsNamed g.0 × IsOver symbols g.1) × HasNames shown_names g.1) (λ g a b. (a, b)) given over (given_shown r facts u shown) in
+      let both : Every (λ (g : List ℕ × Ground). (IsNameWord g.0 × IsOver symbols g.1) × HasNames shown_names g.1) given =
+      every_both (λ (g : List ℕ × Ground). IsNameWord g.0 × IsOver symbols g.1) (λ (g : List ℕ × Ground). HasNames shown_names g.1)
+      (λ (g : List ℕ × Ground). (IsNameWord g.0 × IsOver symbols g.1) × HasNames shown_names g.1) (λ g a b. (a, b)) given over (given_shown r facts u shown) in
       let numbers : Every (λ (g : List ℕ × Ground). HasNames numbered_names g.1) given =
       subst (λ gs. Every (λ (g : List ℕ × Ground). HasNames numbered_names g.1) gs) u.given numbered.0 in
       let written : Every (IsGiven symbols) given =
-      every_both (λ (g : List ℕ × Ground). (IsNamed g.0 × IsOver symbols g.1) × HasNames shown_names g.1) (λ (g : List ℕ × Ground). HasNames numbered_names g.1)
+      every_both (λ (g : List ℕ × Ground). (IsNameWord g.0 × IsOver symbols g.1) × HasNames shown_names g.1) (λ (g : List ℕ × Ground). HasNames numbered_names g.1)
       (IsGiven symbols) (λ g a b. (a.0.0, term_writable symbols g.1 a.0.1 a.1 b)) given both numbers in
-      let name : IsNamed r = subst IsNamed u.named n.name in (
+      let name : IsNameWord r = subst IsNameWord u.named n.name in (
         (name, subst (λ gs. Every (IsGiven symbols) gs) (sym u.given) written),
         fresh_writable symbols (fresh_of facts.premises) (fresh_sorts facts.premises u.fresh) (fresh_named shown_names facts.premises shown.premises) numbered.1,
       )
@@ -157,14 +158,14 @@ module _ (theory : WrittenTheory) (good : IsExecutable (theory_of theory)) (name
   actions_shown acts r facts u shown =
       let v = bound_or_any u.bindings in
       let n = every_member IsNamedRule rules u.rule u.member named in
-      let names = every_map (λ (a : Action Variable). IsNamed a.symbol) (λ (a : Action ⊥). IsNamed a.symbol) (action_at v) (λ a h. h) u.rule.facts.actions n.actions in
+      let names = every_map (λ (a : Action Variable). IsNameWord a.symbol) (λ (a : Action ⊥). IsNameWord a.symbol) (action_at v) (λ a h. h) u.rule.facts.actions n.actions in
       let over = acts u.rule u.member v u.valuation in
-      let both : Every (λ (a : Action ⊥). IsNamed a.symbol × AreOver symbols a.args) (facts_at v u.rule.facts).actions =
-      every_both (λ (a : Action ⊥). IsNamed a.symbol) (λ (a : Action ⊥). AreOver symbols a.args) (λ (a : Action ⊥). IsNamed a.symbol × AreOver symbols a.args)
+      let both : Every (λ (a : Action ⊥). IsNameWord a.symbol × AreOver symbols a.args) (facts_at v u.rule.facts).actions =
+      every_both (λ (a : Action ⊥). IsNameWord a.symbol) (λ (a : Action ⊥). AreOver symbols a.args) (λ (a : Action ⊥). IsNameWord a.symbol × AreOver symbols a.args)
       (λ a h k. (h, k)) (facts_at v u.rule.facts).actions names over in
-      every_both (λ (a : Action ⊥). IsNamed a.symbol × AreOver symbols a.args) (λ (a : Action ⊥). AllMadeOf shown_names no_variable a.args) (IsShownAction symbols)
+      every_both (λ (a : Action ⊥). IsNameWord a.symbol × AreOver symbols a.args) (λ (a : Action ⊥). AllMadeOf shown_names no_variable a.args) (IsShownAction symbols)
       (λ a h k. (h.0, h.1, k)) facts.actions
-      (subst (λ (f : Facts ⊥). Every (λ (a : Action ⊥). IsNamed a.symbol × AreOver symbols a.args) f.actions) (sym u.instance) both) shown.actions
+      (subst (λ (f : Facts ⊥). Every (λ (a : Action ⊥). IsNameWord a.symbol × AreOver symbols a.args) f.actions) (sym u.instance) both) shown.actions
 
   with_entry_shown : (actions : List (Action ⊥)) (trace : Trace) → Every (IsShownAction symbols) actions → IsShownTrace symbols trace → IsShownTrace symbols (with_entry actions trace)
   with_entry_shown [] trace h k = k

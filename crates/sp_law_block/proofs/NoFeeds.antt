@@ -13,8 +13,10 @@ use Rattle.sp_spec.specs.Term.{var, constant, name, app, none, more, Ground, Gro
 use Rattle.sp_spec.specs.Signature.{Symbol, IsOver, AreOver}
 use Rattle.sp_spec.specs.Rule.{Action}
 use Rattle.sp_spec_text.specs.Printed.{is_pair, text_at, row_text, term_text, arguments_text, action_text}
-use Rattle.sp_read_steps.specs.Lines.{IsWord, IsQuotable, HaveNames, onto_first, lines}
-use Rattle.sp_read_steps.proofs.Written.{symbol_named}
+use Rattle.sp_spec_text.specs.Names.{IsWord}
+use Rattle.sp_spec_text.specs.StepLines.{IsQuotable, HaveNames}
+use Rattle.sp_spec_text.specs.Blanks.{onto_first, lines}
+use Rattle.sp_spec_text.proofs.SymbolNames.{symbol_named}
 use Rattle.sp_law_block.specs.Shown.{shown_names, no_variable, HasNames, IsShownAction}
 
 abbrev pub NoFeed : List ℕ → Type 0

@@ -5,7 +5,7 @@ use Rattle.std.specs.Fmt.{digit_glyph, digits_onto, digits}
 use Rattle.std.proofs.lemmas.Bool.Decides.{nat_tests}
 use Rattle.sp_spec.specs.Lists.{Every}
 use Rattle.sp_spec_text.specs.Lex.{is_constant_byte}
-use Rattle.sp_read_steps.specs.Lines.{IsQuotable}
+use Rattle.sp_spec_text.specs.StepLines.{IsQuotable}
 use Rattle.sp_solved.specs.Naming.{public_name}
 
 -- ---- names by their numbers

@@ -8,8 +8,10 @@ use Rattle.sp_spec.specs.Term.{var, constant, name, app, none, more, Ground, Gro
 use Rattle.sp_spec.specs.Signature.{Symbol, IsOver, AreOver}
 use Rattle.sp_spec.specs.Execution.{Step, make_fresh, use_rule, take_out, put_in, know_public, make_own, apply_symbol}
 use Rattle.sp_spec_text.specs.Printed.{is_pair, text_at, row_text, term_text, more_given_text, given_text, step_text}
-use Rattle.sp_read_steps.specs.Lines.{IsWord, HaveNames, IsWritable, AreWritable, IsGiven, IsWritableStep, unblanked, trimmed, lines, AreSteps, no_line, step_line}
-use Rattle.sp_read_steps.proofs.Written.{symbol_named}
+use Rattle.sp_spec_text.specs.Names.{IsWord}
+use Rattle.sp_spec_text.specs.StepLines.{HaveNames, IsWritable, AreWritable, IsGiven, IsWritableStep, AreSteps, no_line, step_line}
+use Rattle.sp_spec_text.specs.Blanks.{unblanked, trimmed, lines}
+use Rattle.sp_spec_text.proofs.SymbolNames.{symbol_named}
 use Rattle.sp_law_block.specs.Block.{steps_text}
 use Rattle.sp_law_block.specs.Shown.{shown_names, no_variable, HasNames}
 use Rattle.sp_law_block.specs.Laws.{StepsAreReadBack}

@@ -1,7 +1,8 @@
 -- A text of sections, each a line and the block of lines below it: of the lines that begin as a verdict's does, each is the first of a section.
 use Rattle.std.proofs.Common.{◌≡◌, ℕ, true, false, List, [], ◌∷◌, ◌++◌, inl, inr, refl, sym, ap, ◌∙◌, append_assoc}
 use Rattle.sp_spec.specs.Lists.{Member, Every}
-use Rattle.sp_read_steps.specs.Lines.{IsWord, lines}
+use Rattle.sp_spec_text.specs.Names.{IsWord}
+use Rattle.sp_spec_text.specs.Blanks.{lines}
 use Rattle.sp_law_block.proofs.NoFeeds.{NoFeed, line_cut}
 use Rattle.sp_law_block.proofs.WordSplits.{in_word, word_bytes, split_word}
 

@@ -11,7 +11,7 @@ use Rattle.sp_spec.specs.Constants.{in_term, in_terms, in_formula}
 use Rattle.sp_spec.proofs.Lists.{every_map, every_append}
 use Rattle.sp_spec_text.specs.Signs.{Sign}
 use Rattle.sp_spec_text.specs.Token.{Lexeme}
-use Rattle.sp_spec_text.specs.Names.{is_reserved, is_capital, is_adversarial, names_fact, IsName}
+use Rattle.sp_spec_text.specs.Names.{is_reserved, is_capital, is_adversarial, names_fact, IsName, IsNameWord}
 use Rattle.sp_spec_text.specs.Lists as l
 use Rattle.sp_spec_text.specs.Lists.{AreParts, AreItems}
 use Rattle.sp_spec_text.specs.Shapes.{row, action_of, quantified}
@@ -19,7 +19,7 @@ use Rattle.sp_spec_text.specs.Formulas as g
 use Rattle.sp_spec_text.specs.Formulas.{SpellsVariable, SpellsTerm, SpellsFact, SpellsBinders, quantified_some, equivalent, SpellsUnit, SpellsNegation, SpellsConjunction, SpellsAnds, SpellsDisjunction, SpellsOrs, SpellsImplication, SpellsFormula, SpellsReach}
 use Rattle.sp_spec_text.specs.Theories as t
 use Rattle.sp_spec_text.specs.Theories.{SpellsFacts, SpellsArrow, SpellsRule, SpellsKind, SpellsLemma}
-use Rattle.sp_read_steps.specs.Lines.{IsNamed, IsQuotable}
+use Rattle.sp_spec_text.specs.StepLines.{IsQuotable}
 use Rattle.sp_law_block.proofs.TokenWords.{Spoken}
 
 -- public names that may stand in quotes; a text writes no fresh ones
@@ -28,7 +28,7 @@ quotable_names (public_name c) = IsQuotable c
 quotable_names (fresh_name n) = Unit {0}
 
 abbrev pub IsNamedVariable : Written → Type 0
-IsNamedVariable x = IsNamed x.name
+IsNamedVariable x = IsNameWord x.name
 
 abbrev pub IsNamedTerm : Term Written → Type 0
 IsNamedTerm t = MadeOf quotable_names IsNamedVariable t
@@ -37,10 +37,10 @@ abbrev pub AreNamedTerms : Terms Written → Type 0
 AreNamedTerms ts = AllMadeOf quotable_names IsNamedVariable ts
 
 abbrev pub IsNamedFact : Fact Written → Type 0
-IsNamedFact f = IsNamed f.symbol × AreNamedTerms f.args
+IsNamedFact f = IsNameWord f.symbol × AreNamedTerms f.args
 
 abbrev pub IsNamedAction : Action Written → Type 0
-IsNamedAction a = IsNamed a.symbol × AreNamedTerms a.args
+IsNamedAction a = IsNameWord a.symbol × AreNamedTerms a.args
 
 -- what holds of what is spelled; what follows is spoken too
 pub record Spelled (P : Type 0) (rest : List Lexeme) : Type 0 where
@@ -51,7 +51,7 @@ pub record Spelled (P : Type 0) (rest : List Lexeme) : Type 0 where
 
 variable_named : {v : Written} {tokens rest : List Lexeme} → SpellsVariable tokens v rest → Every Spoken tokens → Spelled (IsNamedVariable v) rest
 variable_named (g.marked e n) k = record { says = (n, k.1.0); behind = k.1.1 }
-variable_named (g.plain n) k = record { says = (n, k.0); behind = k.1 }
+variable_named (g.unmarked n) k = record { says = (n, k.0); behind = k.1 }
 variable_named (g.sorted n e) k = record { says = (n, k.0); behind = k.1.1.1 }
 
 term_named : {n : ℕ} {x : Term Written} {tokens rest : List Lexeme} → SpellsTerm n tokens x rest → Every Spoken tokens → Spelled (IsNamedTerm x) rest
@@ -148,7 +148,7 @@ mutual
   unit_quotable (g.order i j) k = record { says = tt; behind = (variable_named j (variable_named i k).behind.1).behind }
 
   negation_quotable : {n : ℕ} {f : Formula} {tokens rest : List Lexeme} → SpellsNegation n tokens f rest → Every Spoken tokens → Spelled (IsQuotableFormula f) rest
-  negation_quotable (g.plain_unit h) k = unit_quotable h k
+  negation_quotable (g.unit_alone h) k = unit_quotable h k
   negation_quotable (g.negated h) k = let f = unit_quotable h k.1 in record { says = f.says; behind = f.behind }
 
   conjunction_quotable : {n : ℕ} {f : Formula} {tokens rest : List Lexeme} → SpellsConjunction n tokens f rest → Every Spoken tokens → Spelled (IsQuotableFormula f) rest
@@ -190,7 +190,7 @@ mutual
 
 -- a rule, its facts and its actions have names, and so have its variables
 pub record IsNamedWritten (r : WrittenRule) : Type 0 where
-  pub name : IsNamed r.name
+  pub name : IsNameWord r.name
   pub premises : Every IsNamedFact r.facts.premises
   pub actions : Every IsNamedAction r.facts.actions
   pub conclusions : Every IsNamedFact r.facts.conclusions
@@ -218,7 +218,7 @@ rule_named (t.rule {actions = actions} n premises arrow conclusions) k =
     }
 
 abbrev pub IsNamedLemma : Lemma → Type 0
-IsNamedLemma l = IsNamed l.name × IsQuotableFormula l.formula
+IsNamedLemma l = IsNameWord l.name × IsQuotableFormula l.formula
 
 kind_behind : {kind : TraceKind} {tokens rest : List Lexeme} → SpellsKind tokens kind rest → Every Spoken tokens → Every Spoken rest
 kind_behind t.no_kind k = k

@@ -16,7 +16,8 @@ use Rattle.sp_spec_text.specs.Proofs.{SpellsMethod, SpellsProof, SpellsCases, Sp
 use Rattle.sp_spec_text.specs.Theories as t
 use Rattle.sp_spec_text.specs.Theories.{SpellsProofPart, SpellsItems, SpellsTheory}
 use Rattle.sp_spec_text.specs.Texts.{IsTextOf}
-use Rattle.sp_read_steps.specs.Lines.{IsNamed, IsQuotable}
+use Rattle.sp_spec_text.specs.Names.{IsNameWord}
+use Rattle.sp_spec_text.specs.StepLines.{IsQuotable}
 use Rattle.sp_law_block.specs.Shown.{IsNamedRule}
 use Rattle.sp_law_block.specs.Laws.{TextsHaveNames}
 use Rattle.sp_law_block.proofs.TokenWords.{Spoken, tokens_spoken}
@@ -98,17 +99,17 @@ every_then : (P : List ℕ → Type 0) (b : Bool) (x : List ℕ) (xs : List (Lis
 every_then P true x xs h e = e
 every_then P false x xs h e = every_append P xs (x ∷ []) e (h, tt)
 
-every_name : (seen : List (List ℕ)) (xs : List Written) → Every IsNamed seen → Every IsNamedVariable xs → Every IsNamed (names_after seen xs)
+every_name : (seen : List (List ℕ)) (xs : List Written) → Every IsNameWord seen → Every IsNamedVariable xs → Every IsNameWord (names_after seen xs)
 every_name seen [] e k = e
 every_name seen (x ∷ xs) e k =
-    let b = is_listed x.name seen in every_name (if b then seen else seen ++ x.name ∷ []) xs (every_then IsNamed b x.name seen k.0 e) k.1
+    let b = is_listed x.name seen in every_name (if b then seen else seen ++ x.name ∷ []) xs (every_then IsNameWord b x.name seen k.0 e) k.1
 
 named_rule : (r : WrittenRule) → IsNamedWritten r → IsNamedRule (rule_of r)
 named_rule r h = record {
   name = h.name;
-  variables = every_map IsNamed (λ (d : Declared). IsNamed d.name) (λ x. record { name = x; sort = sort_in r.facts x }) (λ x k. k) (rule_names r.facts)
+  variables = every_map IsNameWord (λ (d : Declared). IsNameWord d.name) (λ x. record { name = x; sort = sort_in r.facts x }) (λ x k. k) (rule_names r.facts)
       (every_name [] (occurrences r.facts) tt (named_occurrences r h));
-  actions = every_map IsNamedAction (λ (a : Action Variable). IsNamed a.symbol) (action_at (numbered_in r.facts)) (λ a k. k.0) r.facts.actions h.actions;
+  actions = every_map IsNamedAction (λ (a : Action Variable). IsNameWord a.symbol) (action_at (numbered_in r.facts)) (λ a k. k.0) r.facts.actions h.actions;
 }
 
 -- ---- the public names
@@ -152,6 +153,6 @@ text_named text theory h = theory_named h.spells (tokens_spoken h.cut)
 pub texts_have_names_lem : TextsHaveNames
 texts_have_names_lem = record {
   rules = λ text theory h. every_map IsNamedWritten IsNamedRule rule_of named_rule (rules_in theory.items) (text_named text theory h).rules;
-  lemmas = λ text theory h. every_weaken IsNamedLemma (λ (l : Lemma). IsNamed l.name) (λ l k. k.0) (lemmas_in theory.items) (text_named text theory h).lemmas;
+  lemmas = λ text theory h. every_weaken IsNamedLemma (λ (l : Lemma). IsNameWord l.name) (λ l k. k.0) (lemmas_in theory.items) (text_named text theory h).lemmas;
   constants = λ text theory h. quotable_constants theory (text_named text theory h);
 }

@@ -10,9 +10,10 @@ use Rattle.sp_spec_text.specs.Bytes.{FaultKind, NoConstant}
 use Rattle.sp_spec_text.specs.Signs.{Sign}
 use Rattle.sp_spec_text.specs.Signs as s
 use Rattle.sp_spec_text.specs.Token.{Lexeme, word, constant, sign, solve, Token}
-use Rattle.sp_spec_text.specs.Lex.{is_constant_byte, is_in, is_first, is_digit, skip, before, Piece, token, no_token, short_sign, short_piece, first_sign, close_constant, piece, to_closing, closed_by, Reads, plain, bare, goal, AreTokens, no_more, last, next, lexemes}
-use Rattle.sp_read_steps.proofs.Words.{before_rest}
-use Rattle.sp_read_steps.specs.Lines.{IsWord, IsQuotable}
+use Rattle.sp_spec_text.specs.Lex.{is_constant_byte, is_in, is_first, is_digit, skip, before, Piece, token, no_token, short_sign, short_piece, first_sign, close_constant, piece, to_closing, closed_by, Reads, as_it_is, bare, goal, AreTokens, no_more, last, next, lexemes}
+use Rattle.sp_spec_text.proofs.Rests.{before_rest}
+use Rattle.sp_spec_text.specs.Names.{IsWord}
+use Rattle.sp_spec_text.specs.StepLines.{IsQuotable}
 
 -- ---- the bytes of a word
 
@@ -145,7 +146,7 @@ spoken_closed bytes None = spoken_none
 spoken_closed bytes (Some rest) = record { is = tt }
 
 spoken_read : {bytes : List ℕ} {p : Piece} → Reads bytes p → IsSpoken p
-spoken_read {bytes} (plain e d) = subst IsSpoken e (spoken_piece bytes)
+spoken_read {bytes} (as_it_is e d) = subst IsSpoken e (spoken_piece bytes)
 spoken_read {bytes} (bare e t n) = subst IsSpoken e (spoken_piece bytes)
 spoken_read (goal {inside = i} e t h k) = subst IsSpoken k (spoken_closed i (to_closing false 0 i))
 

@@ -5,7 +5,7 @@ use Rattle.std.specs.Char.{is_ascii_alphanumeric}
 use Rattle.sp_spec_text.specs.Bytes as class
 use Rattle.sp_spec_text.specs.Lex.{is_in, is_first, is_digit, is_word_byte, skip}
 use Rattle.sp_spec.specs.Lists.{Every}
-use Rattle.sp_read_steps.specs.Lines.{IsWord}
+use Rattle.sp_spec_text.specs.Names.{IsWord}
 
 -- a byte that may stand in a word
 abbrev pub in_word : ℕ → Bool

@@ -17,9 +17,11 @@ use Rattle.sp_spec_system.specs.System.{System}
 use Rattle.sp_spec_system.specs.Numbered.{names_in, IsNumbered}
 use Rattle.sp_spec_system.specs.Move.{Context, end_log}
 use Rattle.sp_spec_proof.specs.Tree.{Tree, found_log}
-use Rattle.sp_law_system.specs.Rules.{IsPlainTheory, ActionsAreOver}
+use Rattle.sp_law_system.specs.Rules.{SuitsProofs, ActionsAreOver}
 use Rattle.sp_law_system.specs.Proofs.{IsContextOf, IsWellMade}
-use Rattle.sp_read_steps.specs.Lines.{IsNamed, IsQuotable, HaveNames, IsWritableStep, lines, AreSteps}
+use Rattle.sp_spec_text.specs.Names.{IsNameWord}
+use Rattle.sp_spec_text.specs.StepLines.{IsQuotable, HaveNames, IsWritableStep, AreSteps}
+use Rattle.sp_spec_text.specs.Blanks.{lines}
 use Rattle.sp_solved.specs.Candidate.{candidate}
 use Rattle.sp_law_block.specs.Block.{steps_text}
 use Rattle.sp_law_block.specs.Shown.{shown_names, numbered_names, StepHasNames, LogHasNames, IsNamedRule, IsShownTrace}
@@ -33,12 +35,12 @@ pub record StepsAreReadBack : Type 0 where
 -- Rules, their variables and actions, and lemmas have names as they stand in a text, and its public names stood in quotes.
 pub record TextsHaveNames : Type 0 where
   pub rules : (text : List ℕ) (theory : WrittenText) → IsTextOf text theory → Every IsNamedRule (theory_of (theory_in theory)).rules
-  pub lemmas : (text : List ℕ) (theory : WrittenText) → IsTextOf text theory → Every (λ (l : Lemma). IsNamed l.name) (theory_in theory).lemmas
+  pub lemmas : (text : List ℕ) (theory : WrittenText) → IsTextOf text theory → Every (λ (l : Lemma). IsNameWord l.name) (theory_in theory).lemmas
   pub constants : (text : List ℕ) (theory : WrittenText) → IsTextOf text theory → Every IsQuotable (constants_of (theory_in theory))
 
 -- The search ends, if it does, at a system that is well made.
 pub record EndsAreWellMade : Type 0 where
-  pub ends : (theory : Theory) → IsPlainTheory theory → (context : Context) → IsContextOf theory context → (s : System) → IsWellMade context s
+  pub ends : (theory : Theory) → SuitsProofs theory → (context : Context) → IsContextOf theory context → (s : System) → IsWellMade context s
       → (tree : Tree) (log : Log) → found_log context s tree ≡ Some log → (t : System) × IsWellMade context t × (end_log context t ≡ Some log)
 
 -- The log that a system suggests has the system's public names, and those of its own; its fresh names are numbered from 1.

@@ -7,7 +7,8 @@ use Rattle.sp_spec.specs.Rule.{Action, Declared, Rule, FactsMadeOf}
 use Rattle.sp_spec.specs.Execution.{Trace}
 pub use Rattle.sp_show.specs.Numbers.{no_variable, HasNames, StepHasNames, numbered_names}
 use Rattle.sp_spec.specs.Log.{Entry, step, send, learn, Log}
-use Rattle.sp_read_steps.specs.Lines.{IsNamed, IsQuotable}
+use Rattle.sp_spec_text.specs.Names.{IsNameWord}
+use Rattle.sp_spec_text.specs.StepLines.{IsQuotable}
 
 -- public names that may stand in quotes, and fresh names that are numbered from 1
 abbrev pub shown_names : Names
@@ -25,13 +26,13 @@ LogHasNames N log = Every (EntryHasNames N) log
 
 -- a rule, its variables and its actions have names as a text may have them
 pub record IsNamedRule (r : Rule) : Type 0 where
-  pub name : IsNamed r.name
-  pub variables : Every (λ (d : Declared). IsNamed d.name) r.variables
-  pub actions : Every (λ (a : Action Variable). IsNamed a.symbol) r.facts.actions
+  pub name : IsNameWord r.name
+  pub variables : Every (λ (d : Declared). IsNameWord d.name) r.variables
+  pub actions : Every (λ (a : Action Variable). IsNameWord a.symbol) r.facts.actions
 
 -- what an entry of a trace says is over the symbols, of names that may be shown
 abbrev pub IsShownAction : List Symbol → Action ⊥ → Type 0
-IsShownAction symbols a = IsNamed a.symbol × AreOver symbols a.args × AllMadeOf shown_names no_variable a.args
+IsShownAction symbols a = IsNameWord a.symbol × AreOver symbols a.args × AllMadeOf shown_names no_variable a.args
 
 abbrev pub IsShownTrace : List Symbol → Trace → Type 0
 IsShownTrace symbols trace = Every (Every (IsShownAction symbols)) trace

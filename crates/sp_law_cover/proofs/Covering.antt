@@ -3,7 +3,7 @@ use Rattle.sp_spec.specs.Theory.{Theory}
 use Rattle.sp_law_truth.proofs.EqualTraces.{equal_same}
 use Rattle.sp_law_system.proofs.Unifier.{unifier_is_right}
 use Rattle.sp_law_cover.specs.Laws.{MovesCover, NothingIsLost}
-use Rattle.sp_law_system.specs.Rules.{IsPlainTheory}
+use Rattle.sp_law_system.specs.Rules.{SuitsProofs}
 use Rattle.sp_law_formula.proofs.Opened.{EqualTruth}
 use Rattle.sp_law_cover.proofs.Simplifying.{rows_cover, contradictions_hold}
 use Rattle.sp_law_cover.proofs.MovesCover.{moves_cover}
@@ -13,12 +13,12 @@ equal_truth : EqualTruth
 equal_truth signature trace f m w terms times bound_terms bound_times h =
     (equal_same signature trace trace (trace_itself signature.equations trace) m w (record { terms = terms; times = times; bound_terms = bound_terms; bound_times = bound_times }) f).0 h
 
-pub plain_moves_cover : (theory : Theory) → IsPlainTheory theory → MovesCover theory
-plain_moves_cover theory p = moves_cover unifier_is_right theory p.instances.normal_forms p.instances.keeps p.instances.plain p.closed p.over equal_truth
+pub moves_are_covered : (theory : Theory) → SuitsProofs theory → MovesCover theory
+moves_are_covered theory p = moves_cover unifier_is_right theory p.instances.normal_forms p.instances.keeps p.instances.plain p.closed p.over equal_truth
 
 pub nothing_is_lost_lem : NothingIsLost
 nothing_is_lost_lem = record {
   rows = λ theory p. rows_cover unifier_is_right theory p.instances.normal_forms p.instances.keeps p.instances.plain p.closed p.over equal_truth;
   contradictions = λ theory p. contradictions_hold unifier_is_right theory p.instances.normal_forms p.instances.keeps p.instances.plain p.closed p.over equal_truth;
-  moves = plain_moves_cover;
+  moves = moves_are_covered;
 }

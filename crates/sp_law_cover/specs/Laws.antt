@@ -9,7 +9,7 @@ use Rattle.sp_law_system.specs.Proofs.{HasNoSolution, IsContextOf, IsWellMade, I
 use Rattle.sp_spec_system.specs.Covering.{Covers}
 use Rattle.sp_spec.specs.Lists.{Every}
 use Rattle.sp_spec_proof.specs.Cases.{cases}
-use Rattle.sp_law_system.specs.Rules.{IsPlainTheory}
+use Rattle.sp_law_system.specs.Rules.{SuitsProofs}
 
 -- One turn of simplification: no contradiction is seen, the rows that stand before this one give nothing, and this one gives the system.
 pub record IsTurn (rules : Rules) (s : System) (row : Row) (t : System) : Type 0 where
@@ -40,6 +40,6 @@ pub record MovesCover (theory : Theory) : Type 0 where
 
 -- No solution is lost: not by an elementary move, not by a contradiction, and not by a move with its cases simplified.
 pub record NothingIsLost : Type 0 where
-  pub rows : (theory : Theory) → IsPlainTheory theory → RowsCover theory
-  pub contradictions : (theory : Theory) → IsPlainTheory theory → ContradictionsHold theory
-  pub moves : (theory : Theory) → IsPlainTheory theory → MovesCover theory
+  pub rows : (theory : Theory) → SuitsProofs theory → RowsCover theory
+  pub contradictions : (theory : Theory) → SuitsProofs theory → ContradictionsHold theory
+  pub moves : (theory : Theory) → SuitsProofs theory → MovesCover theory

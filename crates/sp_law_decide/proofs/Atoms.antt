@@ -19,9 +19,9 @@ use Rattle.sp_spec.proofs.Same.{same_term_decides, same_terms_decides}
 use Rattle.sp_law_equal.proofs.Values.{equal_normal_same, equal_all_normal_same}
 use Rattle.sp_law_equal.proofs.Chains.{equal_from, same_action_refl}
 use Rattle.sp_law_decide.specs.Deciding.{same_action, is_among, is_at, atom_true, atoms_true}
-use Rattle.sp_law_decide.specs.Normal.{IsNormalAction, IsNormalTrace, IsPlainAtom}
+use Rattle.sp_law_decide.specs.Normal.{IsNormalAction, IsNormalTrace, IsConstructorAtom}
 use Rattle.sp_law_decide.proofs.Matched.{IsNormalValue}
-use Rattle.sp_law_decide.proofs.Terms.{plain_normal, plain_all_normal}
+use Rattle.sp_law_decide.proofs.Terms.{constructor_normal, constructors_normal}
 use Rattle.sp_spec.proofs.Facts.{same_action_parts}
 
 pub stable_true : (b : Bool) → Classically (b ≡ true) → b ≡ true
@@ -87,24 +87,24 @@ module _ (signature : Signature) (good : HaveNormalForms signature.equations) wh
   stand_acts trace p a s = (s.0, s.1, a, s.2, same_action_refl signature.equations a)
 
   module _ (trace : Trace) (normal : IsNormalTrace signature trace) (m : Assignment) (values : (p : Place) → IsNormalValue signature (place_in m p)) where
-    pub atom_decides : (a : Atom) → IsPlainAtom signature a → Decides (atom_true trace m a) (AtomHolds signature trace m a)
-    atom_decides (acts a i) plain =
-        let args = plain_all_normal signature good (place_in m) values a.args plain in
+    pub atom_decides : (a : Atom) → IsConstructorAtom signature a → Decides (atom_true trace m a) (AtomHolds signature trace m a)
+    atom_decides (acts a i) constructors =
+        let args = constructors_normal signature good (place_in m) values a.args constructors in
         decides_classically (is_at trace (time_in m i) (action_in m a))
         (decides_as (is_at trace (time_in m i) (action_in m a)) (stand_acts trace (time_in m i) (action_in m a))
         (acts_stand trace normal (time_in m i) (action_in m a) args.0) (at_decides trace (time_in m i) (action_in m a)))
-    atom_decides (same t u) plain =
-        let left = plain_normal signature good (place_in m) values t plain.0 in
-        let right = plain_normal signature good (place_in m) values u plain.1 in
+    atom_decides (same t u) constructors =
+        let left = constructor_normal signature good (place_in m) values t constructors.0 in
+        let right = constructor_normal signature good (place_in m) values u constructors.1 in
         decides_classically (same_term (term_in m t) (term_in m u))
         (decides_as (same_term (term_in m t) (term_in m u)) (equal_from signature.equations (term_in m t) (term_in m u))
         (equal_normal_same signature.equations good (term_in m t) (term_in m u) left.0 right.0) (same_term_decides (term_in m t) (term_in m u)))
-    atom_decides (same_time i j) plain =
+    atom_decides (same_time i j) constructors =
         decides_classically (time_in m i == time_in m j) (eqb-true (time_in m i) (time_in m j), eq-eqb (time_in m i) (time_in m j))
-    atom_decides (before i j) plain = (ltb-true (time_in m i) (time_in m j), lt-ltb (time_in m i) (time_in m j))
-    atom_decides (last i) plain =
+    atom_decides (before i j) constructors = (ltb-true (time_in m i) (time_in m j), lt-ltb (time_in m i) (time_in m j))
+    atom_decides (last i) constructors =
         decides_classically (suc (time_in m i) == length trace) (eqb-true (suc (time_in m i)) (length trace), eq-eqb (suc (time_in m i)) (length trace))
 
-    pub atoms_decide : (atoms : List Atom) → Every (IsPlainAtom signature) atoms → Decides (atoms_true trace m atoms) (AtomsHold signature trace m atoms)
-    atoms_decide [] plain = (λ e. tt, λ h. refl)
-    atoms_decide (a ∷ atoms) plain = Decides-and (atom_true trace m a) (atoms_true trace m atoms) (atom_decides a plain.0) (atoms_decide atoms plain.1)
+    pub atoms_decide : (atoms : List Atom) → Every (IsConstructorAtom signature) atoms → Decides (atoms_true trace m atoms) (AtomsHold signature trace m atoms)
+    atoms_decide [] constructors = (λ e. tt, λ h. refl)
+    atoms_decide (a ∷ atoms) constructors = Decides-and (atom_true trace m a) (atoms_true trace m atoms) (atom_decides a constructors.0) (atoms_decide atoms constructors.1)

@@ -17,7 +17,7 @@ use Rattle.sp_law_truth.specs.Same.{EqualAssignments}
 use Rattle.sp_law_truth.proofs.EqualTraces.{equal_same}
 use Rattle.sp_law_guard.specs.IsGuarded.{messages_in, each_guarded}
 use Rattle.sp_law_decide.specs.Deciding.{nothing, value_at, Environment, assignment_of, entered, by_actions, candidates, atom_true, atoms_true}
-use Rattle.sp_law_decide.specs.Normal.{IsNormalTrace, IsPlainAtom}
+use Rattle.sp_law_decide.specs.Normal.{IsNormalTrace, IsConstructorAtom}
 use Rattle.sp_law_decide.proofs.Slots.{value_fits, fits_itself, good_fits}
 use Rattle.sp_law_decide.proofs.Matched.{IsGood, IsNormalValue, IsPosition}
 use Rattle.sp_law_decide.proofs.Terms.{slots_normal}
@@ -115,18 +115,18 @@ module _ (signature : Signature) (n : ℕ) where
           equal (before i j) e = tt
           equal (last i) e = tt
 
-      pub candidate_found : (bs : List Binder) (guard : List Atom) (env : Environment) → each_guarded (messages_in bs) guard bs ≡ true → Every (IsPlainAtom signature) guard
+      pub candidate_found : (bs : List Binder) (guard : List Atom) (env : Environment) → each_guarded (messages_in bs) guard bs ≡ true → Every (IsConstructorAtom signature) guard
           → IsReady signature n env → (w : Assignment) → Arises signature n bs (assignment_of env) w → AtomsHold signature trace w guard
           → (c : Environment) × Member c (candidates trace bs guard env) × (assignment_of c ≡ normalized signature n good keeps w)
-      candidate_found bs guard env guarded plain ready w a h =
+      candidate_found bs guard env guarded constructors ready w a h =
           let m = normalized signature n good keeps w in
           let fits = fits_entered signature n good keeps bs env (assignment_of env) w a (fits_normalized env ready) in
           let holds = ((normalized_holds bs env w a (some [] guard truth)).0 (h, tt)).0 in
-          let true_there = (atoms_decide signature good trace normals m (normal_places (entered bs env) w fits) guard plain).1 holds in
+          let true_there = (atoms_decide signature good trace normals m (normal_places (entered bs env) w fits) guard constructors).1 holds in
           let there = atoms_there w guard true_there in
           let start : Reached signature n m.bound_terms w.bound_times (entered bs env ∷ []) = record { reached = entered bs env; member = inl refl; messages = fits.messages; times = fits.times } in
           let acted = actions_found signature n m.bound_terms w.bound_times trace guard (entered bs env ∷ []) there.0 start in
           let r = each_found signature m.bound_terms n w.bound_times guard there.1 (by_actions trace guard (entered bs env ∷ [])) acted in
           let c = r.reached in
-          let q = candidate_ready signature n good trace normals within bs guard env guarded plain ready c r.member in
+          let q = candidate_ready signature n good trace normals within bs guard env guarded constructors ready c r.member in
           (c, r.member, ready_assigns c q.0 m (record { messages = r.messages; times = r.times }) refl refl)

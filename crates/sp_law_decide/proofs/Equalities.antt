@@ -10,10 +10,10 @@ use Rattle.sp_law_equal.specs.NormalForms.{HaveNormalForms}
 use Rattle.sp_law_guard.specs.IsGuarded.{is_variable, is_given, by_equality}
 use Rattle.sp_spec.proofs.Options.{then_some}
 use Rattle.sp_law_decide.specs.Deciding.{nothing, Environment, environment, is_filled, with_message, is_known, term_value, given_to, by_equalities, with_times, each_by_equalities}
-use Rattle.sp_law_decide.specs.Normal.{IsPlainTerm, IsPlainAtom}
+use Rattle.sp_law_decide.specs.Normal.{IsConstructorTerm, IsConstructorAtom}
 use Rattle.sp_law_decide.proofs.Slots.{AreGood, grown_same, grown_twice}
 use Rattle.sp_law_decide.proofs.Matched.{Messages, value_by, either_is, IsGood, MessagesFit, MessagesGrown, message_grown, message_found}
-use Rattle.sp_law_decide.proofs.Terms.{plain_normal, places_normal, known_value, Given, given_known}
+use Rattle.sp_law_decide.proofs.Terms.{constructor_normal, places_normal, known_value, Given, given_known}
 use Rattle.sp_law_decide.proofs.Actions.{Reached}
 
 module _ (signature : Signature) (good : HaveNormalForms signature.equations) where
@@ -27,21 +27,21 @@ module _ (signature : Signature) (good : HaveNormalForms signature.equations) wh
   unchanged : (t u : Term Place) (a b : Messages) → Some a ≡ Some b → ((k : ℕ) → is_variable k t ≡ false) → GrownBy t u a b
   unchanged t u a b e none = (grown_same (IsGood signature) nothing a b (let g : b ≡ a = cc in g), λ k h l. absurd (let x = none k in cc))
 
-  variable_grown : (j : ℕ) (u : Term Place) → IsPlainTerm signature u → (a b : Messages) → AreGoodMessages a → given_to (var (bound j)) u a ≡ Some b → GrownBy (var (bound j)) u a b
-  variable_grown j u plain a b goods e = at (is_known a u) refl e
+  variable_grown : (j : ℕ) (u : Term Place) → IsConstructorTerm signature u → (a b : Messages) → AreGoodMessages a → given_to (var (bound j)) u a ≡ Some b → GrownBy (var (bound j)) u a b
+  variable_grown j u constructors a b goods e = at (is_known a u) refl e
     where
       at : (c : Bool) → is_known a u ≡ c → (if c then with_message j (term_value a u) a else Some a) ≡ Some b → GrownBy (var (bound j)) u a b
       at true l e =
-          let r = message_grown signature j (term_value a u) (plain_normal signature good (value_by _) (places_normal signature good a goods) u plain) a b e in
+          let r = message_grown signature j (term_value a u) (constructor_normal signature good (value_by _) (places_normal signature good a goods) u constructors) a b e in
           (r.0, λ k h known. subst (λ (i : ℕ). is_filled b i ≡ true) (eqb-true j k h) r.1)
       at false l e = (grown_same (IsGood signature) nothing a b (let g : b ≡ a = cc in g), λ k h known. absurd (let x = known in let y = l in cc))
 
-  given_grown : (t u : Term Place) → IsPlainTerm signature u → (a b : Messages) → AreGoodMessages a → given_to t u a ≡ Some b → GrownBy t u a b
-  given_grown (var (bound j)) u plain a b goods e = variable_grown j u plain a b goods e
-  given_grown (var (free x)) u plain a b goods e = unchanged (var (free x)) u a b e (λ k. refl)
-  given_grown (constant c) u plain a b goods e = unchanged (constant c) u a b e (λ k. refl)
-  given_grown (name n) u plain a b goods e = unchanged (name n) u a b e (λ k. refl)
-  given_grown (app f ts) u plain a b goods e = unchanged (app f ts) u a b e (λ k. refl)
+  given_grown : (t u : Term Place) → IsConstructorTerm signature u → (a b : Messages) → AreGoodMessages a → given_to t u a ≡ Some b → GrownBy t u a b
+  given_grown (var (bound j)) u constructors a b goods e = variable_grown j u constructors a b goods e
+  given_grown (var (free x)) u constructors a b goods e = unchanged (var (free x)) u a b e (λ k. refl)
+  given_grown (constant c) u constructors a b goods e = unchanged (constant c) u a b e (λ k. refl)
+  given_grown (name n) u constructors a b goods e = unchanged (name n) u a b e (λ k. refl)
+  given_grown (app f ts) u constructors a b goods e = unchanged (app f ts) u a b e (λ k. refl)
 
   module _ (n : ℕ) (guard : List Atom) where
     given_kept : (a b : Messages) → MessagesGrown signature a b → Given n guard a → Given n guard b
@@ -51,7 +51,7 @@ module _ (signature : Signature) (good : HaveNormalForms signature.equations) wh
     abbrev GivesOne : Term Place → Term Place → Messages → Type 0
     GivesOne t u b = (k : ℕ) → ((is_variable k t && is_given n guard u) || (is_variable k u && is_given n guard t)) ≡ true → is_filled b k ≡ true
 
-    same_grown : (t u : Term Place) → IsPlainTerm signature t → IsPlainTerm signature u → (a b : Messages) → AreGoodMessages a → Given n guard a
+    same_grown : (t u : Term Place) → IsConstructorTerm signature t → IsConstructorTerm signature u → (a b : Messages) → AreGoodMessages a → Given n guard a
         → option_and_then (given_to u t) (given_to t u a) ≡ Some b → MessagesGrown signature a b × GivesOne t u b
     same_grown t u p q a b goods given e =
         let r = then_some (given_to u t) (given_to t u a) b e in
@@ -67,22 +67,22 @@ module _ (signature : Signature) (good : HaveNormalForms signature.equations) wh
     abbrev GivesAll : List Atom → Messages → Type 0
     GivesAll atoms b = (k : ℕ) → by_equality n guard k atoms ≡ true → is_filled b k ≡ true
 
-    pub equalities_grown : (atoms : List Atom) → Every (IsPlainAtom signature) atoms → (a b : Messages) → AreGoodMessages a → Given n guard a
+    pub equalities_grown : (atoms : List Atom) → Every (IsConstructorAtom signature) atoms → (a b : Messages) → AreGoodMessages a → Given n guard a
         → by_equalities atoms a ≡ Some b → MessagesGrown signature a b × GivesAll atoms b
-    equalities_grown [] plain a b goods given e = (grown_same (IsGood signature) nothing a b (let g : b ≡ a = cc in g), λ k h. absurd cc)
-    equalities_grown (same t u ∷ atoms) plain a b goods given e =
+    equalities_grown [] constructors a b goods given e = (grown_same (IsGood signature) nothing a b (let g : b ≡ a = cc in g), λ k h. absurd cc)
+    equalities_grown (same t u ∷ atoms) constructors a b goods given e =
         let r = then_some (by_equalities atoms) (option_and_then (given_to u t) (given_to t u a)) b e in
         let c = r.0 in
-        let first = same_grown t u plain.0.0 plain.0.1 a c goods given r.1 in
-        let rest = equalities_grown atoms plain.1 c b (first.0.good goods) (given_kept a c first.0 given) r.2 in (
+        let first = same_grown t u constructors.0.0 constructors.0.1 a c goods given r.1 in
+        let rest = equalities_grown atoms constructors.1 c b (first.0.good goods) (given_kept a c first.0 given) r.2 in (
           grown_twice (IsGood signature) nothing a c b first.0 rest.0,
           λ k h. either_is ((is_variable k t && is_given n guard u) || (is_variable k u && is_given n guard t)) (by_equality n guard k atoms) h
               (λ x. rest.0.keeps k (first.1 k x)) (rest.1 k),
         )
-    equalities_grown (acts action i ∷ atoms) plain a b goods given e = equalities_grown atoms plain.1 a b goods given e
-    equalities_grown (same_time i j ∷ atoms) plain a b goods given e = equalities_grown atoms plain.1 a b goods given e
-    equalities_grown (before i j ∷ atoms) plain a b goods given e = equalities_grown atoms plain.1 a b goods given e
-    equalities_grown (last i ∷ atoms) plain a b goods given e = equalities_grown atoms plain.1 a b goods given e
+    equalities_grown (acts action i ∷ atoms) constructors a b goods given e = equalities_grown atoms constructors.1 a b goods given e
+    equalities_grown (same_time i j ∷ atoms) constructors a b goods given e = equalities_grown atoms constructors.1 a b goods given e
+    equalities_grown (before i j ∷ atoms) constructors a b goods given e = equalities_grown atoms constructors.1 a b goods given e
+    equalities_grown (last i ∷ atoms) constructors a b goods given e = equalities_grown atoms constructors.1 a b goods given e
 
 -- an environment that is reached comes of one of the list, at the same times
 abbrev pub Comes : List Atom → Environment → List Environment → Type 0

@@ -9,7 +9,7 @@ use Rattle.sp_spec.specs.Guarded.{Binder, message, time, Atom}
 use Rattle.sp_law_equal.specs.NormalForms.{HaveNormalForms}
 use Rattle.sp_law_guard.specs.IsGuarded.{in_action, by_equality, message_guarded, time_guarded, messages_in, times_in, each_guarded}
 use Rattle.sp_law_decide.specs.Deciding.{nothing, is_filled, Environment, entered, by_equalities, by_actions, candidates}
-use Rattle.sp_law_decide.specs.Normal.{IsNormalTrace, IsPlainAtom}
+use Rattle.sp_law_decide.specs.Normal.{IsNormalTrace, IsConstructorAtom}
 use Rattle.sp_law_decide.proofs.Slots.{AreGood, grown_twice}
 use Rattle.sp_law_decide.proofs.Matched.{IsGood, Times, MessagesGrown, IsPosition, TimesGrown, either_is}
 use Rattle.sp_law_decide.proofs.Terms.{Given}
@@ -60,7 +60,7 @@ module _ (signature : Signature) (n : ℕ) where
         at x (inr e) covered = absurd e
 
     module _ (bs : List Binder) (guard : List Atom) (env : Environment) (guarded : each_guarded (messages_in bs) guard bs ≡ true)
-        (plain : Every (IsPlainAtom signature) guard) (ready : IsReady env) where
+        (constructors : Every (IsConstructorAtom signature) guard) (ready : IsReady env) where
       given_after : (mid : Environment) → OfActions bs guard env mid → Given (messages_in bs) guard mid.messages
       given_after mid covered = record {
         outside = λ k e.
@@ -81,7 +81,7 @@ module _ (signature : Signature) (n : ℕ) where
             record { messages = covered.messages.good r.messages; times = covered.times.good r.times }
 
         by_all : MessagesGrown signature mid.messages c.messages × ((k : ℕ) → by_equality (messages_in bs) guard k guard ≡ true → is_filled c.messages k ≡ true)
-        by_all = equalities_grown signature good (messages_in bs) guard guard plain mid.messages c.messages goods.messages (given_after mid covered) gives
+        by_all = equalities_grown signature good (messages_in bs) guard guard constructors mid.messages c.messages goods.messages (given_after mid covered) gives
 
         messages_filled : (k : ℕ) → is_filled c.messages k ≡ true
         messages_filled k = at (nat_lt k (messages_in bs)) refl

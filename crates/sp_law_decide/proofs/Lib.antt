@@ -9,5 +9,5 @@ pub mod Entered
 pub mod Full
 pub mod Candidates
 pub mod Right
-pub mod PlainForms
+pub mod ConstructorForms
 pub mod Told

@@ -10,7 +10,7 @@ use Rattle.sp_spec.specs.Guarded.{Place, free, bound, Binder, Atom, Guarded, Gua
 use Rattle.sp_law_equal.specs.NormalForms.{HaveNormalForms, KeepSymbols}
 use Rattle.sp_law_guard.specs.IsGuarded.{messages_in, each_guarded, is_guarded, are_guarded}
 use Rattle.sp_law_decide.specs.Deciding.{Environment, assignment_of, candidates, atom_true, atoms_true, for_one, for_each, decided, each_decided, one_decided, empty}
-use Rattle.sp_law_decide.specs.Normal.{IsNormalTrace, IsPlainAtom, IsPlain, ArePlain}
+use Rattle.sp_law_decide.specs.Normal.{IsNormalTrace, IsConstructorAtom, IsConstructorForm, AreConstructorForms}
 use Rattle.sp_law_decide.proofs.Matched.{IsNormalValue}
 use Rattle.sp_law_decide.proofs.Terms.{slots_normal}
 use Rattle.sp_law_decide.proofs.Ranges.{Arises, some_from, some_is, each_from, each_is}
@@ -64,14 +64,14 @@ module _ (signature : Signature) (good : HaveNormalForms signature.equations) (k
   places_normal env ready (free x) = (tt, tt)
   places_normal env ready (bound k) = slots_normal signature good env.messages ready.good.messages k
 
-  atom_right : (env : Environment) → Ready env → (a : Atom) → IsPlainAtom signature a → Decides (atom_true trace (assignment_of env) a) (AtomHolds signature trace (assignment_of env) a)
-  atom_right env ready a plain = atom_decides signature good trace normals (assignment_of env) (places_normal env ready) a plain
+  atom_right : (env : Environment) → Ready env → (a : Atom) → IsConstructorAtom signature a → Decides (atom_true trace (assignment_of env) a) (AtomHolds signature trace (assignment_of env) a)
+  atom_right env ready a constructors = atom_decides signature good trace normals (assignment_of env) (places_normal env ready) a constructors
 
   -- what is decided of a formula is so, whatever is bound outside
   abbrev IsDecided : Guarded → Type 0
   IsDecided g = (env : Environment) → Ready env → Decides (decided trace env g) (GuardedHolds signature trace (assignment_of env) g)
 
-  module _ (bs : List Binder) (guard : List Atom) (g : Guarded) (guarded : each_guarded (messages_in bs) guard bs ≡ true) (plain : Every (IsPlainAtom signature) guard)
+  module _ (bs : List Binder) (guard : List Atom) (g : Guarded) (guarded : each_guarded (messages_in bs) guard bs ≡ true) (constructors : Every (IsConstructorAtom signature) guard)
       (right : IsDecided g) (env : Environment) (ready : Ready env) where
     abbrev Both : Assignment → Type 0
     Both w = AtomsHold signature trace w guard × GuardedHolds signature trace w g
@@ -83,15 +83,15 @@ module _ (signature : Signature) (good : HaveNormalForms signature.equations) (k
     Candidate c = Member c (candidates trace bs guard env)
 
     ready_there : (c : Environment) → Candidate c → Ready c
-    ready_there c m = (candidate_ready signature (length trace) good trace normals within bs guard env guarded plain ready c m).0
+    ready_there c m = (candidate_ready signature (length trace) good trace normals within bs guard env guarded constructors ready c m).0
 
     arises_there : (c : Environment) → Candidate c → Arises signature (length trace) bs (assignment_of env) (assignment_of c)
     arises_there c m =
-        let r = candidate_ready signature (length trace) good trace normals within bs guard env guarded plain ready c m in
+        let r = candidate_ready signature (length trace) good trace normals within bs guard env guarded constructors ready c m in
         candidate_arises signature (length trace) bs env c ready r.0 r.1
 
     guard_right : (c : Environment) → Candidate c → Decides (atoms_true trace (assignment_of c) guard) (AtomsHold signature trace (assignment_of c) guard)
-    guard_right c m = atoms_decide signature good trace normals (assignment_of c) (places_normal c (ready_there c m)) guard plain
+    guard_right c m = atoms_decide signature good trace normals (assignment_of c) (places_normal c (ready_there c m)) guard constructors
 
     body_right : (c : Environment) → Candidate c → Decides (decided trace c g) (GuardedHolds signature trace (assignment_of c) g)
     body_right c m = right c (ready_there c m)
@@ -101,7 +101,7 @@ module _ (signature : Signature) (good : HaveNormalForms signature.equations) (k
         → (c : Environment) × Candidate c × AtomsHold signature trace (assignment_of c) guard
         × ((f : Guarded) → (GuardedHolds signature trace w f → GuardedHolds signature trace (assignment_of c) f) × (GuardedHolds signature trace (assignment_of c) f → GuardedHolds signature trace w f))
     found w a h =
-        let r = candidate_found signature (length trace) good keeps trace normals within bs guard env guarded plain ready w a h in
+        let r = candidate_found signature (length trace) good keeps trace normals within bs guard env guarded constructors ready w a h in
         let same : (f : Guarded) → _ = λ (f : Guarded). subst (λ (x : Assignment). (GuardedHolds signature trace w f → GuardedHolds signature trace x f) × (GuardedHolds signature trace x f → GuardedHolds signature trace w f))
         (sym r.2) (normalized_holds signature (length trace) good keeps trace normals within bs env w a f) in
         (r.0, r.1, ((same (some [] guard truth)).0 (h, tt)).0, same)
@@ -144,36 +144,36 @@ module _ (signature : Signature) (good : HaveNormalForms signature.equations) (k
             (λ e. (body_right c m).1 (each_is signature (length trace) Implied bs (assignment_of env) (assignment_of c) h (arises_there c m) ((guard_right c m).0 e))))
 
   mutual
-    pub right : (g : Guarded) → IsPlain signature g → is_guarded g ≡ true → IsDecided g
-    right truth plain guarded env ready = (λ e. tt, λ h. refl)
-    right falsity plain guarded env ready = (λ e. absurd cc, λ h. absurd h)
-    right (holds a) plain guarded env ready = atom_right env ready a plain
-    right (fails a) plain guarded env ready = Decides-not (atom_true trace (assignment_of env) a) (atom_right env ready a plain)
-    right (all_of gs) plain guarded env ready = each_right gs plain guarded env ready
-    right (one_of gs) plain guarded env ready = decides_classically (one_decided trace env gs) (one_right gs plain guarded env ready)
-    right (some bs guard g) plain guarded env ready =
+    pub right : (g : Guarded) → IsConstructorForm signature g → is_guarded g ≡ true → IsDecided g
+    right truth constructors guarded env ready = (λ e. tt, λ h. refl)
+    right falsity constructors guarded env ready = (λ e. absurd cc, λ h. absurd h)
+    right (holds a) constructors guarded env ready = atom_right env ready a constructors
+    right (fails a) constructors guarded env ready = Decides-not (atom_true trace (assignment_of env) a) (atom_right env ready a constructors)
+    right (all_of gs) constructors guarded env ready = each_right gs constructors guarded env ready
+    right (one_of gs) constructors guarded env ready = decides_classically (one_decided trace env gs) (one_right gs constructors guarded env ready)
+    right (some bs guard g) constructors guarded env ready =
         let e = and_parts (each_guarded (messages_in bs) guard bs) (is_guarded g) guarded in
-        some_right bs guard g e.0 plain.0 (right g plain.1 e.1) env ready
-    right (every bs guard g) plain guarded env ready =
+        some_right bs guard g e.0 constructors.0 (right g constructors.1 e.1) env ready
+    right (every bs guard g) constructors guarded env ready =
         let e = and_parts (each_guarded (messages_in bs) guard bs) (is_guarded g) guarded in
-        every_right bs guard g e.0 plain.0 (right g plain.1 e.1) env ready
+        every_right bs guard g e.0 constructors.0 (right g constructors.1 e.1) env ready
 
-    each_right : (gs : Guardeds) → ArePlain signature gs → are_guarded gs ≡ true → (env : Environment) → Ready env
+    each_right : (gs : Guardeds) → AreConstructorForms signature gs → are_guarded gs ≡ true → (env : Environment) → Ready env
         → Decides (each_decided trace env gs) (EachHolds signature trace (assignment_of env) gs)
-    each_right no_more plain guarded env ready = (λ e. tt, λ h. refl)
-    each_right (and_then g gs) plain guarded env ready =
+    each_right no_more constructors guarded env ready = (λ e. tt, λ h. refl)
+    each_right (and_then g gs) constructors guarded env ready =
         let e = and_parts (is_guarded g) (are_guarded gs) guarded in
-        Decides-and (decided trace env g) (each_decided trace env gs) (right g plain.0 e.0 env ready) (each_right gs plain.1 e.1 env ready)
+        Decides-and (decided trace env g) (each_decided trace env gs) (right g constructors.0 e.0 env ready) (each_right gs constructors.1 e.1 env ready)
 
-    one_right : (gs : Guardeds) → ArePlain signature gs → are_guarded gs ≡ true → (env : Environment) → Ready env
+    one_right : (gs : Guardeds) → AreConstructorForms signature gs → are_guarded gs ≡ true → (env : Environment) → Ready env
         → Decides (one_decided trace env gs) (SomeHolds signature trace (assignment_of env) gs)
-    one_right no_more plain guarded env ready = (λ e. absurd cc, λ h. absurd h)
-    one_right (and_then g gs) plain guarded env ready =
+    one_right no_more constructors guarded env ready = (λ e. absurd cc, λ h. absurd h)
+    one_right (and_then g gs) constructors guarded env ready =
         let e = and_parts (is_guarded g) (are_guarded gs) guarded in
-        Decides-or (decided trace env g) (one_decided trace env gs) (right g plain.0 e.0 env ready) (one_right gs plain.1 e.1 env ready)
+        Decides-or (decided trace env g) (one_decided trace env gs) (right g constructors.0 e.0 env ready) (one_right gs constructors.1 e.1 env ready)
 
   empty_ready : Ready empty
   empty_ready = record { good = record { messages = tt; times = tt }; messages = λ k. refl; times = λ k. refl }
 
-  pub closed_right : (g : Guarded) → IsPlain signature g → is_guarded g ≡ true → Decides (decided trace empty g) (GuardedHolds signature trace (assignment_of empty) g)
-  closed_right g plain guarded = right g plain guarded empty empty_ready
+  pub closed_right : (g : Guarded) → IsConstructorForm signature g → is_guarded g ≡ true → Decides (decided trace empty g) (GuardedHolds signature trace (assignment_of empty) g)
+  closed_right g constructors guarded = right g constructors guarded empty empty_ready

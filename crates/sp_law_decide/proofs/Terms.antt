@@ -9,7 +9,7 @@ use Rattle.sp_law_equal.specs.NormalForms.{HaveNormalForms}
 use Rattle.sp_law_equal.proofs.Plain.{plain_matches_none}
 use Rattle.sp_law_guard.specs.IsGuarded.{in_action, place_given, is_given, are_given}
 use Rattle.sp_law_decide.specs.Deciding.{nothing, value_at, is_filled, place_known, is_known, are_known}
-use Rattle.sp_law_decide.specs.Normal.{IsPlainTerm, ArePlainTerms}
+use Rattle.sp_law_decide.specs.Normal.{IsConstructorTerm, AreConstructorTerms}
 use Rattle.sp_law_decide.proofs.Slots.{AreGood, value_fits, good_value}
 use Rattle.sp_law_decide.proofs.Matched.{Messages, value_by, IsGood, IsNormalValue, AreNormalValues, MessagesFit}
 
@@ -20,19 +20,19 @@ count_valued v (more t ts) = ap (λ k. suc k) (count_valued v ts)
 module _ (signature : Signature) (good : HaveNormalForms signature.equations) where
   module _ {V : Type 0} (v : V → Ground) (values : (x : V) → IsNormalValue signature (v x)) where
     mutual
-      pub plain_normal : (t : Term V) → IsPlainTerm signature t → IsNormalValue signature (valued v t)
-      plain_normal (var x) p = values x
-      plain_normal (constant c) p = (tt, tt)
-      plain_normal (name n) p = (tt, tt)
-      plain_normal (app f ts) p =
-          let r = plain_all_normal ts p.2 in
+      pub constructor_normal : (t : Term V) → IsConstructorTerm signature t → IsNormalValue signature (valued v t)
+      constructor_normal (var x) p = values x
+      constructor_normal (constant c) p = (tt, tt)
+      constructor_normal (name n) p = (tt, tt)
+      constructor_normal (app f ts) p =
+          let r = constructors_normal ts p.2 in
           ((r.0, plain_matches_none signature.equations good f (valued_all v ts) p.0), (subst (λ (k : ℕ). HasSymbol signature.symbols f k) (sym (count_valued v ts)) p.1, r.1))
 
-      pub plain_all_normal : (ts : Terms V) → ArePlainTerms signature ts → AreNormalValues signature (valued_all v ts)
-      plain_all_normal none p = (tt, tt)
-      plain_all_normal (more t ts) p =
-          let r = plain_normal t p.0 in
-          let q = plain_all_normal ts p.1 in
+      pub constructors_normal : (ts : Terms V) → AreConstructorTerms signature ts → AreNormalValues signature (valued_all v ts)
+      constructors_normal none p = (tt, tt)
+      constructors_normal (more t ts) p =
+          let r = constructor_normal t p.0 in
+          let q = constructors_normal ts p.1 in
           ((r.0, q.0), (r.1, q.1))
 
   -- what stands at a place, in slots whose values are good

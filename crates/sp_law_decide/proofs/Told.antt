@@ -16,7 +16,7 @@ use Rattle.sp_law_decide.proofs.Right.{closed_right}
 
 module _ (signature : Signature) (trace : Trace) (g : Guarded) (can : CanDecide signature trace g) where
   right_there : Decides (decided trace empty g) (GuardedHolds signature trace (assignment_of empty) g)
-  right_there = closed_right signature can.normal_forms can.keeps trace can.normal g can.plain can.guarded
+  right_there = closed_right signature can.normal_forms can.keeps trace can.normal g can.constructors can.guarded
 
   -- a guarded form is as true under each assignment
   form_right : (f : Formula) → guarded_form [] f ≡ Some g → (m : Assignment) → Decides (decided trace empty g) (GuardedHolds signature trace m g)

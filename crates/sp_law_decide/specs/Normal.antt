@@ -1,4 +1,4 @@
--- The traces and the formulas over which truth is decided: traces in normal form, and formulas in whose terms no destructor stands.
+-- The traces and the formulas over which truth is decided: traces in normal form, and formulas of constructor terms, in which no destructor stands.
 -- Source: Tamarin manual, "Property specification" (no reducible symbols in formulas).
 use Rattle.std.specs.Prelude.{◌≡◌, true}
 use Rattle.sp_spec.specs.Lists.{Every}
@@ -21,53 +21,54 @@ IsNormalAction signature a = AreNormal signature.equations a.args × AreOver sig
 abbrev pub IsNormalTrace : Signature → Trace → Type 0
 IsNormalTrace signature trace = Every (Every (IsNormalAction signature)) trace
 
--- each symbol of the term is one of the signature, over as many arguments as its arity, and no destructor
+-- a constructor term: each symbol is one of the signature, over as many arguments as its arity, and no destructor
 abbrev mutual
-  pub IsPlainTerm : {V : Type 0} → Signature → Term V → Type 0
-  IsPlainTerm signature (var x) = Unit {0}
-  IsPlainTerm signature (constant c) = Unit {0}
-  IsPlainTerm signature (name n) = Unit {0}
-  IsPlainTerm signature (app g ts) = (IsDestructor signature.equations g → ⊥) × HasSymbol signature.symbols g (count ts) × ArePlainTerms signature ts
+  pub IsConstructorTerm : {V : Type 0} → Signature → Term V → Type 0
+  IsConstructorTerm signature (var x) = Unit {0}
+  IsConstructorTerm signature (constant c) = Unit {0}
+  IsConstructorTerm signature (name n) = Unit {0}
+  IsConstructorTerm signature (app g ts) = (IsDestructor signature.equations g → ⊥) × HasSymbol signature.symbols g (count ts) × AreConstructorTerms signature ts
 
-  pub ArePlainTerms : {V : Type 0} → Signature → Terms V → Type 0
-  ArePlainTerms signature none = Unit {0}
-  ArePlainTerms signature (more t ts) = IsPlainTerm signature t × ArePlainTerms signature ts
+  pub AreConstructorTerms : {V : Type 0} → Signature → Terms V → Type 0
+  AreConstructorTerms signature none = Unit {0}
+  AreConstructorTerms signature (more t ts) = IsConstructorTerm signature t × AreConstructorTerms signature ts
 
-abbrev pub IsPlainAtom : Signature → Atom → Type 0
-IsPlainAtom signature (acts a i) = ArePlainTerms signature a.args
-IsPlainAtom signature (same t u) = IsPlainTerm signature t × IsPlainTerm signature u
-IsPlainAtom signature (same_time i j) = Unit {0}
-IsPlainAtom signature (before i j) = Unit {0}
-IsPlainAtom signature (last i) = Unit {0}
+-- an atom and a guarded formula of constructor terms
+abbrev pub IsConstructorAtom : Signature → Atom → Type 0
+IsConstructorAtom signature (acts a i) = AreConstructorTerms signature a.args
+IsConstructorAtom signature (same t u) = IsConstructorTerm signature t × IsConstructorTerm signature u
+IsConstructorAtom signature (same_time i j) = Unit {0}
+IsConstructorAtom signature (before i j) = Unit {0}
+IsConstructorAtom signature (last i) = Unit {0}
 
 abbrev mutual
-  pub IsPlain : Signature → Guarded → Type 0
-  IsPlain signature truth = Unit {0}
-  IsPlain signature falsity = Unit {0}
-  IsPlain signature (holds a) = IsPlainAtom signature a
-  IsPlain signature (fails a) = IsPlainAtom signature a
-  IsPlain signature (all_of gs) = ArePlain signature gs
-  IsPlain signature (one_of gs) = ArePlain signature gs
-  IsPlain signature (some bs guard g) = Every (IsPlainAtom signature) guard × IsPlain signature g
-  IsPlain signature (every bs guard g) = Every (IsPlainAtom signature) guard × IsPlain signature g
+  pub IsConstructorForm : Signature → Guarded → Type 0
+  IsConstructorForm signature truth = Unit {0}
+  IsConstructorForm signature falsity = Unit {0}
+  IsConstructorForm signature (holds a) = IsConstructorAtom signature a
+  IsConstructorForm signature (fails a) = IsConstructorAtom signature a
+  IsConstructorForm signature (all_of gs) = AreConstructorForms signature gs
+  IsConstructorForm signature (one_of gs) = AreConstructorForms signature gs
+  IsConstructorForm signature (some bs guard g) = Every (IsConstructorAtom signature) guard × IsConstructorForm signature g
+  IsConstructorForm signature (every bs guard g) = Every (IsConstructorAtom signature) guard × IsConstructorForm signature g
 
-  pub ArePlain : Signature → Guardeds → Type 0
-  ArePlain signature no_more = Unit {0}
-  ArePlain signature (and_then g gs) = IsPlain signature g × ArePlain signature gs
+  pub AreConstructorForms : Signature → Guardeds → Type 0
+  AreConstructorForms signature no_more = Unit {0}
+  AreConstructorForms signature (and_then g gs) = IsConstructorForm signature g × AreConstructorForms signature gs
 
 -- the same of a formula as a text writes it
-abbrev pub HasPlainTerms : Signature → Formula → Type 0
-HasPlainTerms signature f.truth = Unit {0}
-HasPlainTerms signature f.falsity = Unit {0}
-HasPlainTerms signature (f.happens a i) = ArePlainTerms signature a.args
-HasPlainTerms signature (f.equals t u) = IsPlainTerm signature t × IsPlainTerm signature u
-HasPlainTerms signature (f.precedes i j) = Unit {0}
-HasPlainTerms signature (f.not_so g) = HasPlainTerms signature g
-HasPlainTerms signature (f.both g h) = HasPlainTerms signature g × HasPlainTerms signature h
-HasPlainTerms signature (f.either g h) = HasPlainTerms signature g × HasPlainTerms signature h
-HasPlainTerms signature (f.implies g h) = HasPlainTerms signature g × HasPlainTerms signature h
-HasPlainTerms signature (f.for_all x g) = HasPlainTerms signature g
-HasPlainTerms signature (f.for_some x g) = HasPlainTerms signature g
+abbrev pub HasConstructorTerms : Signature → Formula → Type 0
+HasConstructorTerms signature f.truth = Unit {0}
+HasConstructorTerms signature f.falsity = Unit {0}
+HasConstructorTerms signature (f.happens a i) = AreConstructorTerms signature a.args
+HasConstructorTerms signature (f.equals t u) = IsConstructorTerm signature t × IsConstructorTerm signature u
+HasConstructorTerms signature (f.precedes i j) = Unit {0}
+HasConstructorTerms signature (f.not_so g) = HasConstructorTerms signature g
+HasConstructorTerms signature (f.both g h) = HasConstructorTerms signature g × HasConstructorTerms signature h
+HasConstructorTerms signature (f.either g h) = HasConstructorTerms signature g × HasConstructorTerms signature h
+HasConstructorTerms signature (f.implies g h) = HasConstructorTerms signature g × HasConstructorTerms signature h
+HasConstructorTerms signature (f.for_all x g) = HasConstructorTerms signature g
+HasConstructorTerms signature (f.for_some x g) = HasConstructorTerms signature g
 
 -- a variable, a public name or a fresh name
 abbrev pub IsAtomic : Term Written → Type 0
@@ -97,5 +98,5 @@ pub record CanDecide (signature : Signature) (trace : Trace) (g : Guarded) : Typ
   pub normal_forms : HaveNormalForms signature.equations
   pub keeps : KeepSymbols signature.symbols signature.equations
   pub normal : IsNormalTrace signature trace
-  pub plain : IsPlain signature g
+  pub constructors : IsConstructorForm signature g
   pub guarded : is_guarded g ≡ true

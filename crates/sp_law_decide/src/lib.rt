@@ -5,7 +5,7 @@
 // Nothing here runs: each public function is a law, and its one clause says it.
 #![tactic(auto)]
 
-ghost use Rattle.sp_law_decide.specs.Laws.{TruthIsDecided, PlainFormsArePlain};
+ghost use Rattle.sp_law_decide.specs.Laws.{TruthIsDecided, FormsKeepConstructors};
 
 /// What is decided of a guarded formula over a normal trace is its truth.
 pub fn truth_is_decided()
@@ -13,6 +13,6 @@ pub fn truth_is_decided()
 {}
 
 /// The guarded form of a formula without destructors has none.
-pub fn plain_forms_are_plain()
-    ensures { PlainFormsArePlain }
+pub fn forms_keep_constructors()
+    ensures { FormsKeepConstructors }
 {}

@@ -1,7 +1,7 @@
 -- Equality modulo equations is an equivalence, and symbols and valuations keep it.
 use Rattle.std.proofs.Common.{◌≡◌, List, ℕ, refl, sym, subst, ◌∙◌}
 use Rattle.sp_spec.specs.Term.{Term, var, constant, name, app, Terms, none, more, Ground, Grounds, valued, valued_all}
-use Rattle.sp_spec.specs.Equal.{Link, below, LinkIn, here, there, Equal, end, forth, back, EqualAll}
+use Rattle.sp_spec.specs.Equal.{Rewriting, below, RewritingIn, here, there, Equal, end, forth, back, EqualAll}
 use Rattle.sp_spec.specs.Signature.{Equation}
 use Rattle.sp_spec.specs.Rule.{Fact, Action, action_at, SameFact, SameAction}
 
@@ -23,14 +23,14 @@ module _ (es : List Equation) where
   equal_sym t u (forth l h) = equal_trans u _ t (equal_sym _ u h) (back l end)
   equal_sym t u (back l h) = equal_trans u _ t (equal_sym _ u h) (forth l end)
 
-  -- a place of a term that each link may stand in
-  in_place : (c : Ground → Ground) → ((t u : Ground) → Link es t u → Link es (c t) (c u)) → (t u : Ground) → Equal es t u → Equal es (c t) (c u)
+  -- a place of a term that each rewriting may stand in
+  in_place : (c : Ground → Ground) → ((t u : Ground) → Rewriting es t u → Rewriting es (c t) (c u)) → (t u : Ground) → Equal es t u → Equal es (c t) (c u)
   in_place c on t u end = end
   in_place c on t u (forth l h) = forth (on _ _ l) (in_place c on _ u h)
   in_place c on t u (back l h) = back (on _ _ l) (in_place c on _ u h)
 
   -- arguments replaced one after the other
-  in_places : (c : Grounds → Ground) → ((ts us : Grounds) → LinkIn es ts us → Link es (c ts) (c us))
+  in_places : (c : Grounds → Ground) → ((ts us : Grounds) → RewritingIn es ts us → Rewriting es (c ts) (c us))
       → (ts us : Grounds) → EqualAll es ts us → Equal es (c ts) (c us)
   in_places c on none none h = end
   in_places c on none (more u us) h = absurd h

@@ -3,7 +3,7 @@ use Rattle.std.proofs.Common.{◌≡◌, ⊎_elim, ℕ, List, refl, sym, ap, ◌
 use Rattle.sp_spec.specs.Lists.{Member}
 use Rattle.sp_spec.specs.Term.{Variable, Term, var, constant, name, app, none, more, Ground, Grounds, Values, valued}
 use Rattle.sp_spec.specs.Signature.{Equation, RespectsSorts}
-use Rattle.sp_spec.specs.Equal.{Link, at_root, below, LinkIn, here, there, Equal, end, forth, back, IsNormal, AreNormal}
+use Rattle.sp_spec.specs.Equal.{Rewriting, at_root, below, RewritingIn, here, there, Equal, end, forth, back, IsNormal, AreNormal}
 use Rattle.sp_law_equal.specs.Matching.{value_in}
 use Rattle.sp_law_equal.specs.Destructors.{HasRoot, IsDestructor, IsPlain}
 use Rattle.sp_law_equal.specs.Parts.{IsProperPart}
@@ -46,18 +46,18 @@ module _ (es : List Equation) where
         ∙ sym (plain_form es others_match_none v e.right (rules.right_plain e m))
 
     mutual
-      over_link : {t u : Ground} → Link es t u → normal es t ≡ normal es u
-      over_link (at_root e m v r is is') = ap (normal es) is ∙ equation_normal e m v r ∙ ap (normal es) (sym is')
-      over_link (below {f = f} l) = ap (λ ws. reduced es (app f ws)) (over_link_in l)
+      over_rewriting : {t u : Ground} → Rewriting es t u → normal es t ≡ normal es u
+      over_rewriting (at_root e m v r is is') = ap (normal es) is ∙ equation_normal e m v r ∙ ap (normal es) (sym is')
+      over_rewriting (below {f = f} l) = ap (λ ws. reduced es (app f ws)) (over_rewriting_in l)
 
-      over_link_in : {ts us : Grounds} → LinkIn es ts us → normal_all es ts ≡ normal_all es us
-      over_link_in (here {ts = ts} l) = ap (λ w. more w (normal_all es ts)) (over_link l)
-      over_link_in (there {t = t} l) = ap (more (normal es t)) (over_link_in l)
+      over_rewriting_in : {ts us : Grounds} → RewritingIn es ts us → normal_all es ts ≡ normal_all es us
+      over_rewriting_in (here {ts = ts} l) = ap (λ w. more w (normal_all es ts)) (over_rewriting l)
+      over_rewriting_in (there {t = t} l) = ap (more (normal es t)) (over_rewriting_in l)
 
     over_chain : {t u : Ground} → Equal es t u → normal es t ≡ normal es u
     over_chain end = refl
-    over_chain (forth l h) = over_link l ∙ over_chain h
-    over_chain (back l h) = sym (over_link l) ∙ over_chain h
+    over_chain (forth l h) = over_rewriting l ∙ over_chain h
+    over_chain (back l h) = sym (over_rewriting l) ∙ over_chain h
 
     -- a constant that isn't a destructor is normal
     constant_normal : (c : List ℕ) → (IsDestructor es c → ⊥) → IsNormal es (app c none)

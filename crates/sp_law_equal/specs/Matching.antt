@@ -1,9 +1,10 @@
 -- Which values of its variables make a pattern a term.
-use Rattle.std.specs.Prelude.{◌≡◌, List, [], ◌∷◌, ◌++◌, Bool, true, false, ◌==◌, if◌then◌else◌, Option, Some, None, unwrap_or, option_and_then}
-use Rattle.std.specs.Str.{bytes_eq}
-use Rattle.sp_spec.specs.Term.{Sort, Msg, Fresh, Pub, Variable, Term, var, constant, name, app, Terms, none, more, Ground, Grounds, Values, valued}
+use Rattle.std.specs.Prelude.{◌≡◌, List, [], Bool, Option, unwrap_or}
+use Rattle.sp_spec.specs.Term.{Sort, Msg, Fresh, Pub, Variable, Term, constant, name, Terms, Ground, Grounds, Values, valued}
 use Rattle.sp_spec.specs.Signature.{RespectsSorts}
-use Rattle.sp_spec.specs.Same.{same_variable, same_term}
+use Rattle.sp_spec.specs.Same.{no_test}
+use Rattle.sp_spec.specs.Substitution as substitution
+use Rattle.sp_spec.specs.Matching.{matched_by, matched_all_by, has_sort_by, never_has_sort, kept_or, bound_by}
 
 -- a variable and its value
 abbrev pub Bound : Type 0
@@ -11,8 +12,7 @@ Bound = Variable × Ground
 
 -- what the first binding of a variable gives it
 abbrev pub lookup : List Bound → Variable → Option Ground
-lookup [] x = None
-lookup (b ∷ bs) x = if same_variable b.0 x then Some b.1 else lookup bs x
+lookup bs x = substitution.lookup bs x
 
 -- some term of the sort
 abbrev pub any_of : Sort → Ground
@@ -34,26 +34,15 @@ abbrev pub NoneMatches : Term Variable → Ground → Type 0
 NoneMatches pattern term = (v : Values) → RespectsSorts v → valued v pattern ≡ term → ⊥
 
 abbrev pub has_sort : Sort → Ground → Bool
-has_sort Msg t = true
-has_sort Fresh (name n) = true
-has_sort Pub (constant c) = true
-has_sort _ _ = false
+has_sort sort t = has_sort_by never_has_sort sort t
 
 -- a variable that has a value keeps it
 abbrev pub by_bound : Option Ground → Variable → Ground → List Bound → Option (List Bound)
-by_bound None x t bs = if has_sort x.sort t then Some (bs ++ (x, t) ∷ []) else None
-by_bound (Some u) x t bs = if same_term u t then Some bs else None
+by_bound o x t bs = kept_or no_test never_has_sort o x t bs
 
 -- the bindings, with those that the pattern wants beside the term
-abbrev mutual
-  pub matched : Term Variable → Ground → List Bound → Option (List Bound)
-  matched (var x) t bs = by_bound (lookup bs x) x t bs
-  matched (constant c) (constant d) bs = if bytes_eq c d then Some bs else None
-  matched (name m) (name n) bs = if m == n then Some bs else None
-  matched (app f ps) (app g ts) bs = if bytes_eq f g then matched_all ps ts bs else None
-  matched _ _ bs = None
+abbrev pub matched : Term Variable → Ground → List Bound → Option (List Bound)
+matched p t bs = matched_by (bound_by no_test never_has_sort) p t bs
 
-  pub matched_all : Terms Variable → Grounds → List Bound → Option (List Bound)
-  matched_all none none bs = Some bs
-  matched_all (more p ps) (more t ts) bs = option_and_then (λ cs. matched_all ps ts cs) (matched p t bs)
-  matched_all _ _ bs = None
+abbrev pub matched_all : Terms Variable → Grounds → List Bound → Option (List Bound)
+matched_all ps ts bs = matched_all_by (bound_by no_test never_has_sort) ps ts bs

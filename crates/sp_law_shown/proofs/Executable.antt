@@ -11,11 +11,11 @@ use Rattle.sp_law_shown.specs.Shown.{IsSearched}
 
 module _ (t : WrittenTheory) (s : IsSearched t) where
   pub checkable : HasNormalInstances (theory_of t)
-  checkable = normal_instances t s.normal_forms s.plain
+  checkable = normal_instances t s.normal_forms s.basic
 
   pub executable : IsExecutable (theory_of t)
   executable = record {
     instances = checkable;
     distinct = (rules_right t.rules s.rule_names).distinct;
-    fresh = every_weaken IsClosedRule TakesFreshNames (λ r h. h.fresh) (theory_of t).rules (rules_closed t.rules s.plain s.right);
+    fresh = every_weaken IsClosedRule TakesFreshNames (λ r h. h.fresh) (theory_of t).rules (rules_closed t.rules s.basic s.right);
   }

@@ -20,12 +20,12 @@ use Rattle.sp_law_guard.proofs.Checked.{form_checked}
 use Rattle.sp_law_guard.proofs.Kept.{form_kept}
 use Rattle.sp_law_guard.proofs.Turned.{turned}
 use Rattle.sp_law_decide.specs.Deciding.{assignment_of, decided, empty}
-use Rattle.sp_law_decide.specs.Normal.{IsPlainTerm, ArePlainTerms, IsPlainAtom, IsPlain, ArePlain, CanDecide}
+use Rattle.sp_law_decide.specs.Normal.{IsConstructorTerm, AreConstructorTerms, IsConstructorAtom, IsConstructorForm, AreConstructorForms, CanDecide}
 use Rattle.sp_law_decide.proofs.Told.{told}
 use Rattle.sp_law_run.proofs.Over.{execution_over}
 use Rattle.sp_law_found.specs.Found.{execution_of}
 use Rattle.sp_law_found.proofs.Runs.{log_runs}
-use Rattle.sp_law_tree.specs.PlainTheory.{IsPlainFormula}
+use Rattle.sp_law_tree.specs.BasicTheory.{IsBasicFormula}
 use Rattle.sp_law_tree.proofs.Flat.{FlatTerm, FlatTerms}
 use Rattle.sp_law_tree.proofs.Forms.{RightAtom, IsRight, right_negation, right_timed}
 use Rattle.sp_law_tree.proofs.PlacedForms.{form_right}
@@ -35,49 +35,49 @@ use Rattle.sp_log.proofs.Checks.{log_decides}
 use Rattle.sp_law_shown.specs.Shown.{IsSearched, FoundBreaks, FoundSatisfies}
 use Rattle.sp_law_shown.specs.Laws.{FoundLogsShow}
 use Rattle.sp_law_shown.proofs.Executable.{executable, checkable}
-use Rattle.sp_law_shown.proofs.Learning.{plain_names_none, into_reading}
+use Rattle.sp_law_shown.proofs.Learning.{basic_names_none, into_reading}
 use Rattle.sp_law_shown.proofs.Traces.{normal_trace, visible_equal}
-use Rattle.sp_law_tree.proofs.PlainOver.{plain_rules_over}
+use Rattle.sp_law_tree.proofs.BasicOver.{basic_rules_over}
 use Rattle.sp_spec.proofs.Lists.{each_among}
 
 -- ---- no symbol stands in flat atoms
 
 module _ (signature : Signature) where
-  flat_plain : (t : Term Place) → FlatTerm t → IsPlainTerm signature t
-  flat_plain (var p) h = tt
-  flat_plain (constant c) h = tt
-  flat_plain (name n) h = tt
-  flat_plain (app f ts) h = absurd h
+  flat_constructor : (t : Term Place) → FlatTerm t → IsConstructorTerm signature t
+  flat_constructor (var p) h = tt
+  flat_constructor (constant c) h = tt
+  flat_constructor (name n) h = tt
+  flat_constructor (app f ts) h = absurd h
 
-  flat_all_plain : (ts : Terms Place) → FlatTerms ts → ArePlainTerms signature ts
-  flat_all_plain none h = tt
-  flat_all_plain (more t ts) h = (flat_plain t h.0, flat_all_plain ts h.1)
+  flat_constructors : (ts : Terms Place) → FlatTerms ts → AreConstructorTerms signature ts
+  flat_constructors none h = tt
+  flat_constructors (more t ts) h = (flat_constructor t h.0, flat_constructors ts h.1)
 
-  atom_plain : (n : ℕ) (a : Atom) → RightAtom n a → IsPlainAtom signature a
-  atom_plain n (acts a i) h = flat_all_plain a.args h.0.0
-  atom_plain n (same t u) h = (flat_plain t h.0.0, flat_plain u h.0.1)
-  atom_plain n (same_time i j) h = tt
-  atom_plain n (before i j) h = tt
-  atom_plain n (last i) h = tt
+  atom_constructors : (n : ℕ) (a : Atom) → RightAtom n a → IsConstructorAtom signature a
+  atom_constructors n (acts a i) h = flat_constructors a.args h.0.0
+  atom_constructors n (same t u) h = (flat_constructor t h.0.0, flat_constructor u h.0.1)
+  atom_constructors n (same_time i j) h = tt
+  atom_constructors n (before i j) h = tt
+  atom_constructors n (last i) h = tt
 
-  guard_plain : (n : ℕ) (atoms : List Atom) → Every (RightAtom n) atoms → Every (IsPlainAtom signature) atoms
-  guard_plain n [] h = tt
-  guard_plain n (a ∷ atoms) h = (atom_plain n a h.0, guard_plain n atoms h.1)
+  guard_constructors : (n : ℕ) (atoms : List Atom) → Every (RightAtom n) atoms → Every (IsConstructorAtom signature) atoms
+  guard_constructors n [] h = tt
+  guard_constructors n (a ∷ atoms) h = (atom_constructors n a h.0, guard_constructors n atoms h.1)
 
   mutual
-    right_plain : (n : ℕ) (g : Guarded) → Throughout RightAtom n g → IsPlain signature g
-    right_plain n truth h = tt
-    right_plain n falsity h = tt
-    right_plain n (holds a) h = atom_plain n a h
-    right_plain n (fails a) h = atom_plain n a h
-    right_plain n (all_of gs) h = each_plain n gs h
-    right_plain n (one_of gs) h = each_plain n gs h
-    right_plain n (some bs guard g) h = (guard_plain (times_within bs n) guard h.0, right_plain (times_within bs n) g h.1)
-    right_plain n (every bs guard g) h = (guard_plain (times_within bs n) guard h.0, right_plain (times_within bs n) g h.1)
+    right_constructors : (n : ℕ) (g : Guarded) → Throughout RightAtom n g → IsConstructorForm signature g
+    right_constructors n truth h = tt
+    right_constructors n falsity h = tt
+    right_constructors n (holds a) h = atom_constructors n a h
+    right_constructors n (fails a) h = atom_constructors n a h
+    right_constructors n (all_of gs) h = each_right_constructors n gs h
+    right_constructors n (one_of gs) h = each_right_constructors n gs h
+    right_constructors n (some bs guard g) h = (guard_constructors (times_within bs n) guard h.0, right_constructors (times_within bs n) g h.1)
+    right_constructors n (every bs guard g) h = (guard_constructors (times_within bs n) guard h.0, right_constructors (times_within bs n) g h.1)
 
-    each_plain : (n : ℕ) (gs : Guardeds) → ThroughoutEach RightAtom n gs → ArePlain signature gs
-    each_plain n no_more h = tt
-    each_plain n (and_then g gs) h = (right_plain n g h.0, each_plain n gs h.1)
+    each_right_constructors : (n : ℕ) (gs : Guardeds) → ThroughoutEach RightAtom n gs → AreConstructorForms signature gs
+    each_right_constructors n no_more h = tt
+    each_right_constructors n (and_then g gs) h = (right_constructors n g h.0, each_right_constructors n gs h.1)
 
 -- ---- truth
 
@@ -99,8 +99,8 @@ module _ (t : WrittenTheory) (s : IsSearched t) (log : Log) (is : IsLogOfSteps (
     can_decide = record {
       normal_forms = s.normal_forms.normal_forms;
       keeps = s.normal_forms.keeps;
-      normal = normal_trace theory log is.0 is.1 (execution_over theory (plain_rules_over signature.symbols t.rules s.plain) (execution_of theory log) (visible_trace log) executed);
-      plain = right_plain signature zero g right.each;
+      normal = normal_trace theory log is.0 is.1 (execution_over theory (basic_rules_over signature.symbols t.rules s.basic) (execution_of theory log) (visible_trace log) executed);
+      constructors = right_constructors signature zero g right.each;
       guarded = right.guarded;
     }
 
@@ -112,9 +112,9 @@ module _ (t : WrittenTheory) (s : IsSearched t) (log : Log) (is : IsLogOfSteps (
         (equal_shown_same signature (action_names g) (log_trace log) (visible_trace log) (visible_equal signature.equations (action_names g) log is.1)
         (assignment_of empty) g (right_timed g right) (each_among (action_names g) (action_names g) (λ x m. m))).0 (over_log e)
 
-  module _ (lemma : Lemma) (plain : IsPlainFormula lemma.formula) (g : Guarded) (form : checked_form lemma.formula ≡ Some g) where
+  module _ (lemma : Lemma) (basic : IsBasicFormula lemma.formula) (g : Guarded) (form : checked_form lemma.formula ≡ Some g) where
     right : IsRight g
-    right = let c = form_checked lemma.formula g form in form_right lemma.formula g plain c.0 c.1
+    right = let c = form_checked lemma.formula g form in form_right lemma.formula g basic c.0 c.1
 
     kept : (trace : Trace) → IsTrueOver signature trace lemma.formula ↔ GuardedHolds signature trace (assignment_of empty) g
     kept trace = form_kept signature trace lemma.formula g (form_checked lemma.formula g form).0 (assignment_of empty)
@@ -127,7 +127,7 @@ module _ (t : WrittenTheory) (s : IsSearched t) (log : Log) (is : IsLogOfSteps (
       by_log = (is.0, unrestricted (log_trace log), not_true (log_trace log) (over_log (negate g) (right_negation g right) e));
       executed = executed;
       in_reading =
-          into_reading lemma (plain_names_none lemma.formula plain) (IsBrokenByLog theory lemma log) (IsBrokenBy theory lemma (execution_of theory log))
+          into_reading lemma (basic_names_none lemma.formula basic) (IsBrokenByLog theory lemma log) (IsBrokenBy theory lemma (execution_of theory log))
           (visible_trace log, executed, unrestricted (visible_trace log), not_true (visible_trace log) (over_steps (negate g) (right_negation g right) e));
     }
 
@@ -136,7 +136,7 @@ module _ (t : WrittenTheory) (s : IsSearched t) (log : Log) (is : IsLogOfSteps (
       by_log = (is.0, unrestricted (log_trace log), (kept (log_trace log)).1 (over_log g right e));
       executed = executed;
       in_reading =
-          into_reading lemma (plain_names_none lemma.formula plain) (IsSatisfiedByLog theory lemma log) (IsSatisfiedBy theory lemma (execution_of theory log))
+          into_reading lemma (basic_names_none lemma.formula basic) (IsSatisfiedByLog theory lemma log) (IsSatisfiedBy theory lemma (execution_of theory log))
           (visible_trace log, executed, unrestricted (visible_trace log), (kept (visible_trace log)).1 (over_steps g right e));
     }
 
@@ -146,6 +146,6 @@ is_log_of_steps t s entries e = (log_decides (theory_of t) (checkable t s) entri
 
 pub found_logs_show_lem : FoundLogsShow
 found_logs_show_lem = record {
-  breaks = λ t s lemma plain g form entries e found. breaks t s (newest_first entries) (is_log_of_steps t s entries e) lemma plain g form found;
-  satisfies = λ t s lemma plain g form entries e found. satisfies t s (newest_first entries) (is_log_of_steps t s entries e) lemma plain g form found;
+  breaks = λ t s lemma basic g form entries e found. breaks t s (newest_first entries) (is_log_of_steps t s entries e) lemma basic g form found;
+  satisfies = λ t s lemma basic g form entries e found. satisfies t s (newest_first entries) (is_log_of_steps t s entries e) lemma basic g form found;
 }

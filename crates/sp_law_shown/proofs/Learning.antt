@@ -8,7 +8,7 @@ use Rattle.sp_spec.specs.Formula.{Formula, truth, falsity, happens, equals, prec
 use Rattle.sp_spec.specs.Theory.{Lemma}
 use Rattle.sp_spec.specs.Verdict.{names_learning, InReading}
 use Rattle.sp_law_erase.specs.Adversary.{adversary_names}
-use Rattle.sp_law_tree.specs.PlainTheory.{IsPlainFormula}
+use Rattle.sp_law_tree.specs.BasicTheory.{IsBasicFormula}
 
 none_learnt : (a b : Bool) → a ≡ false → b ≡ false → a || b ≡ false
 none_learnt a b e f = ap₂ (λ (x y : Bool). x || y) e f
@@ -16,19 +16,19 @@ none_learnt a b e f = ap₂ (λ (x y : Bool). x || y) e f
 no_learning : (symbol : List ℕ) → (Member symbol adversary_names → ⊥) → bytes_eq symbol (codes "KU") ≡ false
 no_learning symbol apart = false_from_ne_true (bytes_eq symbol (codes "KU")) (λ e. apart (inr (inr (inr (inl (sym ((bytes_eq-Decides symbol (codes "KU")).0 e)))))))
 
--- a plain formula names no learning
-pub plain_names_none : (f : Formula) → IsPlainFormula f → names_learning f ≡ false
-plain_names_none truth h = refl
-plain_names_none falsity h = refl
-plain_names_none (happens a i) h = no_learning a.symbol h.1
-plain_names_none (equals t u) h = refl
-plain_names_none (precedes i j) h = refl
-plain_names_none (not_so f) h = plain_names_none f h
-plain_names_none (both f g) h = none_learnt (names_learning f) (names_learning g) (plain_names_none f h.0) (plain_names_none g h.1)
-plain_names_none (either f g) h = none_learnt (names_learning f) (names_learning g) (plain_names_none f h.0) (plain_names_none g h.1)
-plain_names_none (implies f g) h = none_learnt (names_learning f) (names_learning g) (plain_names_none f h.0) (plain_names_none g h.1)
-plain_names_none (for_all x f) h = plain_names_none f h
-plain_names_none (for_some x f) h = plain_names_none f h
+-- a basic formula names no learning
+pub basic_names_none : (f : Formula) → IsBasicFormula f → names_learning f ≡ false
+basic_names_none truth h = refl
+basic_names_none falsity h = refl
+basic_names_none (happens a i) h = no_learning a.symbol h.1
+basic_names_none (equals t u) h = refl
+basic_names_none (precedes i j) h = refl
+basic_names_none (not_so f) h = basic_names_none f h
+basic_names_none (both f g) h = none_learnt (names_learning f) (names_learning g) (basic_names_none f h.0) (basic_names_none g h.1)
+basic_names_none (either f g) h = none_learnt (names_learning f) (names_learning g) (basic_names_none f h.0) (basic_names_none g h.1)
+basic_names_none (implies f g) h = none_learnt (names_learning f) (names_learning g) (basic_names_none f h.0) (basic_names_none g h.1)
+basic_names_none (for_all x f) h = basic_names_none f h
+basic_names_none (for_some x f) h = basic_names_none f h
 
 -- what is read over executions
 module _ (lemma : Lemma) (none : names_learning lemma.formula ≡ false) (by_logs by_executions : Type 0) where

@@ -8,7 +8,7 @@ use Rattle.sp_law_guard.specs.GuardedForm.{negate}
 use Rattle.sp_law_guard.specs.CheckedForm.{checked_form}
 use Rattle.sp_law_decide.specs.Deciding.{assignment_of, decided, empty}
 use Rattle.sp_spec.specs.Lists.{newest_first}
-use Rattle.sp_law_tree.specs.PlainTheory.{IsPlainFormula}
+use Rattle.sp_law_tree.specs.BasicTheory.{IsBasicFormula}
 use Rattle.sp_spec_system.specs.System.{System}
 use Rattle.sp_log.specs.Checking.{is_log}
 use Rattle.sp_solved.specs.Candidate.{candidate}
@@ -18,18 +18,18 @@ use Rattle.sp_law_shown.specs.Shown.{IsSearched, FoundBreaks, FoundSatisfies}
 -- Of entries, the oldest first, that pass the test of logs: where the negation of the lemma's guarded form is found true over the log's trace, the
 -- log breaks the lemma; where the form is found true, the log satisfies it.
 pub record FoundLogsShow : Type 0 where
-  pub breaks : (theory : WrittenTheory) → IsSearched theory → (lemma : Lemma) → IsPlainFormula lemma.formula
+  pub breaks : (theory : WrittenTheory) → IsSearched theory → (lemma : Lemma) → IsBasicFormula lemma.formula
       → (g : Guarded) → checked_form lemma.formula ≡ Some g
       → (entries : List Entry) → is_log (signature_of (theory_of theory)) (theory_of theory).rules entries ≡ true
       → decided (log_trace (newest_first entries)) empty (negate g) ≡ true → FoundBreaks (theory_of theory) lemma (newest_first entries)
-  pub satisfies : (theory : WrittenTheory) → IsSearched theory → (lemma : Lemma) → IsPlainFormula lemma.formula
+  pub satisfies : (theory : WrittenTheory) → IsSearched theory → (lemma : Lemma) → IsBasicFormula lemma.formula
       → (g : Guarded) → checked_form lemma.formula ≡ Some g
       → (entries : List Entry) → is_log (signature_of (theory_of theory)) (theory_of theory).rules entries ≡ true
       → decided (log_trace (newest_first entries)) empty g ≡ true → FoundSatisfies (theory_of theory) lemma (newest_first entries)
 
 -- A formula from which a proof begins: a lemma's guarded form, or its negation.
 abbrev pub IsRootFormula : Guarded → Type 0
-IsRootFormula h = (lemma : Lemma) × IsPlainFormula lemma.formula × (g : Guarded) × (checked_form lemma.formula ≡ Some g) × ((h ≡ g) ⊎ (h ≡ negate g))
+IsRootFormula h = (lemma : Lemma) × IsBasicFormula lemma.formula × (g : Guarded) × (checked_form lemma.formula ≡ Some g) × ((h ≡ g) ⊎ (h ≡ negate g))
 
 -- The search ends at a system exactly where the candidate that the system suggests is a log of the theory over whose trace the formula is
 -- true, and it ends with that log.

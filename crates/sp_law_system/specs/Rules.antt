@@ -40,9 +40,9 @@ pub record IsClosedRule (r : Rule) : Type 0 where
   pub fresh : TakesFreshNames r
   pub bound : BindsConclusions r
 
--- What is asked of a theory: its rules' instances have their normal forms under normal values, no message of a rule comes from elsewhere, and the
+-- What is asked of a theory, so that rows and moves cover: its rules' instances have their normal forms under normal values, no message of a rule comes from elsewhere, and the
 -- actions and conclusions of its rules are over the signature.
-pub record IsPlainTheory (theory : Theory) : Type 0 where
+pub record SuitsProofs (theory : Theory) : Type 0 where
   pub instances : HasNormalInstances theory
   pub closed : Every IsClosedRule theory.rules
   pub over : InstancesAreOver theory

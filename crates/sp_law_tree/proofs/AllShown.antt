@@ -11,18 +11,18 @@ use Rattle.sp_spec.specs.Guarded.{Guarded}
 use Rattle.sp_law_equal.specs.NormalForms.{HasNormalForms}
 use Rattle.sp_law_truth.specs.Shown.{action_names}
 use Rattle.sp_law_guard.specs.CheckedForm.{checked_form}
-use Rattle.sp_law_system.specs.Rules.{IsPlainTheory}
-use Rattle.sp_law_tree.specs.PlainTheory.{IsPlainRule, IsPlainFormula}
+use Rattle.sp_law_system.specs.Rules.{SuitsProofs}
+use Rattle.sp_law_tree.specs.BasicTheory.{IsBasicRule, IsBasicFormula}
 use Rattle.sp_law_tree.specs.Executions.{HasLogsFor}
 use Rattle.sp_law_tree.specs.Laws.{LemmasAreShown}
 use Rattle.sp_law_tree.proofs.WrittenRules.{rules_leave_adversary}
 use Rattle.sp_law_tree.proofs.ClosedRules.{none_concluded}
-use Rattle.sp_law_tree.proofs.RightTexts.{plain_text}
+use Rattle.sp_law_tree.proofs.RightTexts.{text_suits}
 use Rattle.sp_law_tree.proofs.Forms.{right_not_send}
 use Rattle.sp_law_tree.proofs.OverLogs.{lemma_right, trees_show_logs_lem}
 use Rattle.sp_law_tree.proofs.OverExecutions.{form_depends, logs_show_executions_lem}
 
-module _ (t : WrittenTheory) (forms : HasNormalForms (signature_of (theory_of t))) (rules : Every IsPlainRule t.rules) (clean : Every (λ (r : WrittenRule). rule_is_wrong r ≡ false) t.rules) where
+module _ (t : WrittenTheory) (forms : HasNormalForms (signature_of (theory_of t))) (rules : Every IsBasicRule t.rules) (clean : Every (λ (r : WrittenRule). rule_is_wrong r ≡ false) t.rules) where
   -- the theory without its restrictions: trees as they are so far don't look at them
   abbrev free_text : WrittenTheory
   free_text = record { name = t.name; symbols = t.symbols; equations = t.equations; rules = t.rules; restrictions = []; lemmas = t.lemmas }
@@ -64,11 +64,11 @@ module _ (t : WrittenTheory) (forms : HasNormalForms (signature_of (theory_of t)
   execution_free : (steps : List Step) (trace : Trace) → IsExecution (theory_of t) steps trace → IsExecution free steps trace
   execution_free steps trace h = (h.0, runs_free steps h.0 trace h.1)
 
-  plain : IsPlainTheory free
-  plain = plain_text free_text forms rules clean
+  suits : SuitsProofs free
+  suits = text_suits free_text forms rules clean
 
   -- its executions have logs for what the lemma sees
-  logged : (lemma : Lemma) → IsPlainFormula lemma.formula → (g : Guarded) → checked_form lemma.formula ≡ Some g → HasLogsFor free (action_names g)
+  logged : (lemma : Lemma) → IsBasicFormula lemma.formula → (g : Guarded) → checked_form lemma.formula ≡ Some g → HasLogsFor free (action_names g)
   logged lemma f g e =
       logs_show_executions_lem.without_adversary free (rules_leave_adversary free_text rules) (none_concluded t.rules clean) forms.normal_forms (action_names g) (right_not_send g (lemma_right lemma f g e))
 
@@ -76,8 +76,8 @@ pub lemmas_are_shown_lem : LemmasAreShown
 lemmas_are_shown_lem = record {
   all_traces = λ t forms rules clean lemma f g e context is_of names tree accepted finished steps trace execution meets.
       logs_show_executions_lem.all (free t forms rules clean) lemma (action_names g) (logged t forms rules clean lemma f g e) tt (form_depends (signature_of (theory_of t)) lemma f g e)
-      (trees_show_logs_lem.all_traces (free t forms rules clean) (plain t forms rules clean) lemma f g e context (record { rules = is_of.rules; numbered = is_of.numbered }) names tree accepted finished) steps trace (execution_free t forms rules clean steps trace execution) tt;
+      (trees_show_logs_lem.all_traces (free t forms rules clean) (suits t forms rules clean) lemma f g e context (record { rules = is_of.rules; numbered = is_of.numbered }) names tree accepted finished) steps trace (execution_free t forms rules clean steps trace execution) tt;
   exists_trace = λ t forms rules clean lemma f g e context is_of names tree accepted finished steps trace execution meets.
       logs_show_executions_lem.none (free t forms rules clean) lemma (action_names g) (logged t forms rules clean lemma f g e) tt (form_depends (signature_of (theory_of t)) lemma f g e)
-      (trees_show_logs_lem.exists_trace (free t forms rules clean) (plain t forms rules clean) lemma f g e context (record { rules = is_of.rules; numbered = is_of.numbered }) names tree accepted finished) steps trace (execution_free t forms rules clean steps trace execution) tt;
+      (trees_show_logs_lem.exists_trace (free t forms rules clean) (suits t forms rules clean) lemma f g e context (record { rules = is_of.rules; numbered = is_of.numbered }) names tree accepted finished) steps trace (execution_free t forms rules clean steps trace execution) tt;
 }

@@ -1,4 +1,4 @@
--- A written rule of a plain theory without findings stands for a closed one: it takes no message in, and what is in its conclusions is
+-- A written rule of a basic theory without findings stands for a closed one: it takes no message in, and what is in its conclusions is
 -- public or stands in its premises, and each Fr is of a variable of sort fresh.
 use Rattle.std.proofs.Common.{◌≡◌, ◌⊎◌, ℕ, Bool, true, false, not, ◌&&◌, ◌||◌, List, [], ◌∷◌, ◌++◌, map, codes, refl, sym, ap, inl, inr, bytes_eq, ⊎_elim}
 use Rattle.std.proofs.lemmas.Bool.{or_cases, or_left, or_right, or_parts}
@@ -12,7 +12,7 @@ use Rattle.sp_spec.specs.Findings.{has_wide_fact, has_wide_action, has_two_sorts
 use Rattle.sp_spec.proofs.Lists.{every_map}
 use Rattle.sp_spec.specs.Log.{is_in}
 use Rattle.sp_law_system.specs.Rules.{IsClosedRule}
-use Rattle.sp_law_tree.specs.PlainTheory.{IsAtomic, AreAtomic, IsPlainFact, IsPlainRule}
+use Rattle.sp_law_tree.specs.BasicTheory.{IsBasicTerm, AreBasicTerms, IsBasicFact, IsBasicRule}
 use Rattle.sp_spec.proofs.Occurrences.{facts_each}
 use Rattle.sp_law_tree.proofs.FreshRules.{fresh_premises}
 use Rattle.sp_law_equal.specs.RightTheory.{MakesNoFr, StandsIn, StandsAmong, HasVariable, no_fresh_names}
@@ -22,7 +22,7 @@ pub not_in : (b c : Bool) → (b ≡ true → ⊥) → (b && c) ≡ false
 not_in true c h = absurd (h refl)
 not_in false c h = refl
 
-no_input : (v : Written → Term Variable) (f : Fact Written) → IsPlainFact f → is_in (fact_at v f) ≡ false
+no_input : (v : Written → Term Variable) (f : Fact Written) → IsBasicFact f → is_in (fact_at v f) ≡ false
 no_input v f h = not_in (bytes_eq f.symbol (codes "In")) (not f.persistent) (λ e. h.1 (inl (sym ((bytes_eq-Decides f.symbol (codes "In")).0 e))))
 
 -- ---- what is named in facts stands in them
@@ -83,23 +83,23 @@ bound_each facts (x ∷ xs) e =
     )
 
 module _ (facts : Facts Written) where
-  atomic_bound : (t : Term Written) → IsAtomic t → EachVariable (λ (x : Written). IsBound facts (variable_of facts x.name)) t
+  atomic_bound : (t : Term Written) → IsBasicTerm t → EachVariable (λ (x : Written). IsBound facts (variable_of facts x.name)) t
       → MadeOf no_fresh_names (IsBound facts) (valued (numbered_in facts) t)
   atomic_bound (var x) a h = h
   atomic_bound (constant c) a h = tt
   atomic_bound (name n) a h = absurd a
   atomic_bound (app f ts) a h = absurd a
 
-  atomics_bound : (ts : Terms Written) → AreAtomic ts → EachVariables (λ (x : Written). IsBound facts (variable_of facts x.name)) ts
+  atomics_bound : (ts : Terms Written) → AreBasicTerms ts → EachVariables (λ (x : Written). IsBound facts (variable_of facts x.name)) ts
       → AllMadeOf no_fresh_names (IsBound facts) (valued_all (numbered_in facts) ts)
   atomics_bound none a h = tt
   atomics_bound (more t ts) a h = (atomic_bound t a.0 h.0, atomics_bound ts a.1 h.1)
 
-  conclusions_bound : (fs : List (Fact Written)) → Every IsPlainFact fs → has_unbound facts (in_facts fs) ≡ false
+  conclusions_bound : (fs : List (Fact Written)) → Every IsBasicFact fs → has_unbound facts (in_facts fs) ≡ false
       → Every (λ (f : Fact Variable). AllMadeOf no_fresh_names (IsBound facts) f.args) (map (fact_at (numbered_in facts)) fs)
   conclusions_bound fs p e = go fs p (facts_each (λ (x : Written). IsBound facts (variable_of facts x.name)) fs (bound_each facts (in_facts fs) e))
     where
-      go : (fs : List (Fact Written)) → Every IsPlainFact fs → Every (λ (f : Fact Written). EachVariables (λ (x : Written). IsBound facts (variable_of facts x.name)) f.args) fs
+      go : (fs : List (Fact Written)) → Every IsBasicFact fs → Every (λ (f : Fact Written). EachVariables (λ (x : Written). IsBound facts (variable_of facts x.name)) f.args) fs
           → Every (λ (f : Fact Variable). AllMadeOf no_fresh_names (IsBound facts) f.args) (map (fact_at (numbered_in facts)) fs)
       go [] p h = tt
       go (f ∷ fs) p h = (atomics_bound f.args p.0.0 h.0, go fs p.1 h.1)
@@ -123,9 +123,9 @@ has_none r e =
     let bound = or_parts (has_unbound r.facts (in_actions r.facts.actions)) _ arguments.1 in
     record { premises = premises.0; conclusions = conclusions.0; arguments = arguments.0; bound = bound.1 }
 
-rule_closed : (r : WrittenRule) → IsPlainRule r → rule_is_wrong r ≡ false → IsClosedRule (rule_of r)
+rule_closed : (r : WrittenRule) → IsBasicRule r → rule_is_wrong r ≡ false → IsClosedRule (rule_of r)
 rule_closed r p e = record {
-  inputs = every_map IsPlainFact _ (fact_at (numbered_in r.facts)) (no_input (numbered_in r.facts)) r.facts.premises p.premises;
+  inputs = every_map IsBasicFact _ (fact_at (numbered_in r.facts)) (no_input (numbered_in r.facts)) r.facts.premises p.premises;
   fresh = fresh_premises r.facts r.facts.premises (λ f m. m) (has_none r e).premises (has_none r e).arguments;
   bound = conclusions_bound r.facts r.facts.conclusions p.conclusions (has_none r e).bound;
 }
@@ -143,6 +143,6 @@ none_concluded rs e =
     (λ r h. every_map (λ (f : Fact Written). f.symbol ≡ codes "Fr" → ⊥) _ (fact_at (numbered_in r.facts)) (λ f k. k) r.facts.conclusions (no_fr r.facts.conclusions (has_none r h).conclusions))
     rs e
 
-pub rules_closed : (rs : List WrittenRule) → Every IsPlainRule rs → Every (λ (r : WrittenRule). rule_is_wrong r ≡ false) rs → Every IsClosedRule (map rule_of rs)
+pub rules_closed : (rs : List WrittenRule) → Every IsBasicRule rs → Every (λ (r : WrittenRule). rule_is_wrong r ≡ false) rs → Every IsClosedRule (map rule_of rs)
 rules_closed [] p e = tt
 rules_closed (r ∷ rs) p e = (rule_closed r p.0 e.0, rules_closed rs p.1 e.1)

@@ -6,7 +6,7 @@ pub mod FreshRules
 pub mod Growing
 pub mod Logs
 pub mod PlacedForms
-pub mod PlainOver
+pub mod BasicOver
 pub mod Shown
 pub mod Starts
 pub mod Trees

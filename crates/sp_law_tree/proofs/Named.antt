@@ -16,7 +16,7 @@ use Rattle.sp_law_system.proofs.Facts.{each_of_all, each_of_all_terms}
 use Rattle.sp_spec.proofs.Options.{mapped, then_some}
 use Rattle.sp_law_guard.proofs.Places.{action_made, order_made, equality_made}
 use Rattle.sp_law_guard.proofs.Throughout.{times_bound, OfFormulas, OfAtoms, form_throughout, Throughout}
-use Rattle.sp_law_tree.specs.PlainTheory.{IsAtomic, AreAtomic, IsPlainFact, IsPlainAction, IsPlainFormula, HasNames}
+use Rattle.sp_law_tree.specs.BasicTheory.{IsBasicTerm, AreBasicTerms, IsBasicFact, IsBasicAction, IsBasicFormula, HasNames}
 
 abbrev pub NamedTerm : Names → Term Place → Type 0
 NamedTerm N t = MadeOf N (λ p. Unit {0}) t
@@ -86,22 +86,22 @@ AreListed listed names = Every (λ (c : List ℕ). is_listed c listed ≡ true) 
 
 -- terms without symbols and fresh names, all of whose public names are listed
 module _ (listed : List (List ℕ)) (P : Written → Type 0) where
-  atomic_made : (t : Term Written) → IsAtomic t → AreListed listed (in_term t) → EachVariable P t → MadeOf (names_in listed) P t
+  atomic_made : (t : Term Written) → IsBasicTerm t → AreListed listed (in_term t) → EachVariable P t → MadeOf (names_in listed) P t
   atomic_made (var x) a k h = h
   atomic_made (constant c) a k h = k.0
   atomic_made (name n) a k h = absurd a
   atomic_made (app f ts) a k h = absurd a
 
-  pub atomics_made : (ts : Terms Written) → AreAtomic ts → AreListed listed (in_terms ts) → EachVariables P ts → AllMadeOf (names_in listed) P ts
+  pub atomics_made : (ts : Terms Written) → AreBasicTerms ts → AreListed listed (in_terms ts) → EachVariables P ts → AllMadeOf (names_in listed) P ts
   atomics_made none a k h = tt
   atomics_made (more t ts) a k h = let both = every_parts _ (in_term t) (in_terms ts) k in (atomic_made t a.0 both.0 h.0, atomics_made ts a.1 both.1 h.1)
 
-  pub facts_made : (fs : List (Fact Written)) → Every IsPlainFact fs → AreListed listed (in_facts fs) → Every (λ (f : Fact Written). EachVariables P f.args) fs
+  pub facts_made : (fs : List (Fact Written)) → Every IsBasicFact fs → AreListed listed (in_facts fs) → Every (λ (f : Fact Written). EachVariables P f.args) fs
       → Every (λ (f : Fact Written). AllMadeOf (names_in listed) P f.args) fs
   facts_made [] a k h = tt
   facts_made (f ∷ fs) a k h = let both = every_parts _ (in_terms f.args) (in_facts fs) k in (atomics_made f.args a.0.0 both.0 h.0, facts_made fs a.1 both.1 h.1)
 
-  pub actions_made : (xs : List (Action Written)) → Every IsPlainAction xs → AreListed listed (in_actions xs) → Every (λ (a : Action Written). EachVariables P a.args) xs
+  pub actions_made : (xs : List (Action Written)) → Every IsBasicAction xs → AreListed listed (in_actions xs) → Every (λ (a : Action Written). EachVariables P a.args) xs
       → Every (λ (a : Action Written). AllMadeOf (names_in listed) P a.args) xs
   actions_made [] a k h = tt
   actions_made (x ∷ xs) a k h = let both = every_parts _ (in_terms x.args) (in_actions xs) k in (atomics_made x.args a.0.0 both.0 h.0, actions_made xs a.1 both.1 h.1)
@@ -110,7 +110,7 @@ module _ (listed : List (List ℕ)) where
   abbrev any_written : Written → Type 0
   any_written x = Unit {0}
 
-  formula_named : (f : Formula) → IsPlainFormula f → AreListed listed (in_formula f) → HasNames (names_in listed) f
+  formula_named : (f : Formula) → IsBasicFormula f → AreListed listed (in_formula f) → HasNames (names_in listed) f
   formula_named truth a k = tt
   formula_named falsity a k = tt
   formula_named (happens x i) a k = atomics_made listed any_written x.args a.0 k (each_of_all_terms any_written (λ y. tt) x.args)
@@ -139,8 +139,8 @@ rules_listed theory =
     rule_listed (constants_of theory) theory.rules
     (every_parts _ (in_rules theory.rules) (in_restrictions theory.restrictions ++ in_lemmas theory.lemmas) (all_stand (in_rules theory.rules ++ (in_restrictions theory.restrictions ++ in_lemmas theory.lemmas)) [])).0
 
-pub lemma_has_names : (theory : WrittenTheory) (lemma : Lemma) → Member lemma theory.lemmas → IsPlainFormula lemma.formula → HasNames (names_in (constants_of theory)) lemma.formula
-lemma_has_names theory lemma member plain =
+pub lemma_has_names : (theory : WrittenTheory) (lemma : Lemma) → Member lemma theory.lemmas → IsBasicFormula lemma.formula → HasNames (names_in (constants_of theory)) lemma.formula
+lemma_has_names theory lemma member basic =
     let behind = (every_parts _ (in_rules theory.rules) (in_restrictions theory.restrictions ++ in_lemmas theory.lemmas) (all_stand (in_rules theory.rules ++ (in_restrictions theory.restrictions ++ in_lemmas theory.lemmas)) [])).1 in
     let each = lemma_listed (constants_of theory) theory.lemmas (every_parts _ (in_restrictions theory.restrictions) (in_lemmas theory.lemmas) behind).1 in
-    formula_named (constants_of theory) lemma.formula plain (every_member _ theory.lemmas lemma member each)
+    formula_named (constants_of theory) lemma.formula basic (every_member _ theory.lemmas lemma member each)

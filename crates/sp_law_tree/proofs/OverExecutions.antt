@@ -16,7 +16,7 @@ use Rattle.sp_law_guard.proofs.Checked.{form_checked}
 use Rattle.sp_law_guard.proofs.Kept.{form_kept}
 use Rattle.sp_law_erase.proofs.Erased.{executions_erase}
 use Rattle.sp_spec_system.specs.Solutions.{assignment}
-use Rattle.sp_law_tree.specs.PlainTheory.{IsPlainFormula}
+use Rattle.sp_law_tree.specs.BasicTheory.{IsBasicFormula}
 use Rattle.sp_law_tree.specs.Executions.{DependsOn}
 use Rattle.sp_law_tree.specs.Laws.{LogsShowExecutions}
 use Rattle.sp_law_tree.proofs.Shown.{erased_shown}
@@ -25,7 +25,7 @@ use Rattle.sp_law_tree.proofs.Forms.{right_timed}
 use Rattle.sp_law_tree.proofs.OverLogs.{lemma_right}
 
 -- a formula with a guarded form depends on the actions that the form names
-pub form_depends : (signature : Signature) (lemma : Lemma) → IsPlainFormula lemma.formula → (g : Guarded) → checked_form lemma.formula ≡ Some g → DependsOn signature (action_names g) lemma.formula
+pub form_depends : (signature : Signature) (lemma : Lemma) → IsBasicFormula lemma.formula → (g : Guarded) → checked_form lemma.formula ≡ Some g → DependsOn signature (action_names g) lemma.formula
 form_depends signature lemma f g e = record {
   same = λ one other equal.
       let form = (form_checked lemma.formula g e).0 in

@@ -11,11 +11,11 @@ use Rattle.sp_law_guard.proofs.Turned.{turned}
 use Rattle.sp_spec_system.specs.Solutions.{assignment}
 use Rattle.sp_spec_system.specs.Move.{Context}
 use Rattle.sp_law_system.specs.Proofs.{IsContextOf}
-use Rattle.sp_law_system.specs.Rules.{IsPlainTheory}
-use Rattle.sp_law_cover.proofs.Covering.{plain_moves_cover}
+use Rattle.sp_law_system.specs.Rules.{SuitsProofs}
+use Rattle.sp_law_cover.proofs.Covering.{moves_are_covered}
 use Rattle.sp_spec_proof.specs.Tree.{Tree, IsAccepted, IsFinished}
 use Rattle.sp_spec_proof.specs.Root.{root}
-use Rattle.sp_law_tree.specs.PlainTheory.{HasNames, IsPlainFormula}
+use Rattle.sp_law_tree.specs.BasicTheory.{HasNames, IsBasicFormula}
 use Rattle.sp_law_tree.specs.Laws.{TreesShowLogs}
 use Rattle.sp_spec.specs.Term.{Names}
 use Rattle.sp_spec_system.specs.Numbered.{names_in}
@@ -27,12 +27,12 @@ use Rattle.sp_law_tree.proofs.Forms.{IsRight, right_negation, right_numbered, ri
 use Rattle.sp_law_tree.proofs.PlacedForms.{form_right}
 
 -- a formula from which a finished tree grows is true over no log
-in_no_log : (theory : Theory) → IsPlainTheory theory → (h : Guarded) → IsRight h → (context : Context) → IsContextOf theory context → Throughout (NamedAtom (names_in context.public_names)) zero h → (tree : Tree) → IsAccepted context (root h) tree → IsFinished tree
+in_no_log : (theory : Theory) → SuitsProofs theory → (h : Guarded) → IsRight h → (context : Context) → IsContextOf theory context → Throughout (NamedAtom (names_in context.public_names)) zero h → (tree : Tree) → IsAccepted context (root h) tree → IsFinished tree
     → (log : Log) → IsLog theory log → GuardedHolds (signature_of theory) (log_trace log) (assignment start) h → ⊥
-in_no_log theory plain h right context is_of named tree accepted finished log is_log holds =
-    finished_tree theory (plain_moves_cover theory plain) context is_of tree (root h) (record { numbered = right_numbered (names_in context.public_names) h right named }) accepted finished log is_log start (right_solved theory log h right holds)
+in_no_log theory suits h right context is_of named tree accepted finished log is_log holds =
+    finished_tree theory (moves_are_covered theory suits) context is_of tree (root h) (record { numbered = right_numbered (names_in context.public_names) h right named }) accepted finished log is_log start (right_solved theory log h right holds)
 
-pub lemma_right : (lemma : Lemma) → IsPlainFormula lemma.formula → (g : Guarded) → checked_form lemma.formula ≡ Some g → IsRight g
+pub lemma_right : (lemma : Lemma) → IsBasicFormula lemma.formula → (g : Guarded) → checked_form lemma.formula ≡ Some g → IsRight g
 lemma_right lemma f g e = let c = form_checked lemma.formula g e in form_right lemma.formula g f c.0 c.1
 
 lemma_named : (N : Names) (lemma : Lemma) → HasNames N lemma.formula → (g : Guarded) → checked_form lemma.formula ≡ Some g → Throughout (NamedAtom N) zero g
@@ -40,14 +40,14 @@ lemma_named N lemma names g e = form_named N lemma.formula g names (form_checked
 
 pub trees_show_logs_lem : TreesShowLogs
 trees_show_logs_lem = record {
-  all_traces = λ theory plain lemma f g e context is_of names tree accepted finished log is_log meets.
+  all_traces = λ theory suits lemma f g e context is_of names tree accepted finished log is_log meets.
       let signature = signature_of theory in
       let kept = form_kept signature (log_trace log) lemma.formula g (form_checked lemma.formula g e).0 (assignment start) in
       stable_truth signature (log_trace log) [] lemma.formula (λ broken.
-      in_no_log theory plain _ (right_negation g (lemma_right lemma f g e)) context is_of
+      in_no_log theory suits _ (right_negation g (lemma_right lemma f g e)) context is_of
       (negate_throughout (NamedAtom (names_in context.public_names)) zero g (lemma_named (names_in context.public_names) lemma names g e)) tree accepted finished log is_log
       ((turned signature (log_trace log) g (assignment start)).1 (λ holds. broken (kept.1 holds))));
-  exists_trace = λ theory plain lemma f g e context is_of names tree accepted finished log is_log meets holds.
+  exists_trace = λ theory suits lemma f g e context is_of names tree accepted finished log is_log meets holds.
       let kept = form_kept (signature_of theory) (log_trace log) lemma.formula g (form_checked lemma.formula g e).0 (assignment start) in
-      in_no_log theory plain g (lemma_right lemma f g e) context is_of (lemma_named (names_in context.public_names) lemma names g e) tree accepted finished log is_log (kept.0 holds);
+      in_no_log theory suits g (lemma_right lemma f g e) context is_of (lemma_named (names_in context.public_names) lemma names g e) tree accepted finished log is_log (kept.0 holds);
 }

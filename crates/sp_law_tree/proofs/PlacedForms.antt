@@ -9,7 +9,7 @@ use Rattle.sp_law_guard.specs.IsGuarded.{is_guarded}
 use Rattle.sp_spec.proofs.Options.{mapped, then_some}
 use Rattle.sp_law_guard.proofs.Places.{action_made, order_made, equality_made}
 use Rattle.sp_law_guard.proofs.Throughout.{times_bound, OfFormulas, OfAtoms, form_throughout}
-use Rattle.sp_law_tree.specs.PlainTheory.{IsAtomic, AreAtomic, IsPlainFormula}
+use Rattle.sp_law_tree.specs.BasicTheory.{IsBasicTerm, AreBasicTerms, IsBasicFormula}
 use Rattle.sp_law_tree.proofs.Flat.{FlatTerm, FlatTerms, FlatTime}
 use Rattle.sp_law_tree.proofs.Forms.{NotAdversary, RightAtom, IsRight}
 
@@ -19,13 +19,13 @@ message_flat None u e = absurd cc
 message_flat (Some (a_time k)) u e = absurd cc
 message_flat (Some (a_message mark k)) u e = let g : var (bound k) ≡ u = cc in subst FlatTerm g tt
 
-term_flat : (bs : List Written) (t : Term Written) (u : Term Place) → IsAtomic t → placed_term bs t ≡ Some u → FlatTerm u
+term_flat : (bs : List Written) (t : Term Written) (u : Term Place) → IsBasicTerm t → placed_term bs t ≡ Some u → FlatTerm u
 term_flat bs (var x) u h e = message_flat (meant bs x.name) u e
 term_flat bs (constant c) u h e = let g : constant c ≡ u = cc in subst FlatTerm g tt
 term_flat bs (name n) u h e = absurd h
 term_flat bs (app f ts) u h e = absurd h
 
-terms_flat : (bs : List Written) (ts : Terms Written) (us : Terms Place) → AreAtomic ts → placed_terms bs ts ≡ Some us → FlatTerms us
+terms_flat : (bs : List Written) (ts : Terms Written) (us : Terms Place) → AreBasicTerms ts → placed_terms bs ts ≡ Some us → FlatTerms us
 terms_flat bs none us h e = let g : none ≡ us = cc in subst FlatTerms g tt
 terms_flat bs (more t ts) us h e =
     let r = then_some (λ u. option_map (more u) (placed_terms bs ts)) (placed_term bs t) us e in
@@ -37,8 +37,8 @@ time_flat n (bound_time k) h = h
 time_flat n (free_time i) h = absurd h
 
 -- the formula's parts and atoms
-plain_parts : OfFormulas IsPlainFormula
-plain_parts = record {
+basic_parts : OfFormulas IsBasicFormula
+basic_parts = record {
   of_not = λ f w. w;
   of_both = λ f g w. w;
   of_either = λ f g w. w;
@@ -47,8 +47,8 @@ plain_parts = record {
   of_some = λ x f w. w;
 }
 
-plain_atoms : OfAtoms RightAtom IsPlainFormula
-plain_atoms = record {
+basic_atoms : OfAtoms RightAtom IsBasicFormula
+basic_atoms = record {
   of_actions = λ bs a i atom w e.
       let r = action_made bs a i atom e in
       subst (RightAtom (times_bound bs)) (sym r.is)
@@ -61,5 +61,5 @@ plain_atoms = record {
       subst (RightAtom (times_bound bs)) (sym r.is) ((time_flat (times_bound bs) r.first r.first_bound, time_flat (times_bound bs) r.second r.second_bound), tt);
 }
 
-pub form_right : (f : Formula) (g : Guarded) → IsPlainFormula f → guarded_form [] f ≡ Some g → is_guarded g ≡ true → IsRight g
-form_right f g plain e guarded = record { each = form_throughout RightAtom IsPlainFormula plain_parts plain_atoms [] f g plain e; guarded = guarded }
+pub form_right : (f : Formula) (g : Guarded) → IsBasicFormula f → guarded_form [] f ≡ Some g → is_guarded g ≡ true → IsRight g
+form_right f g basic e guarded = record { each = form_throughout RightAtom IsBasicFormula basic_parts basic_atoms [] f g basic e; guarded = guarded }

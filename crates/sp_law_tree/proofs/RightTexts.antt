@@ -15,10 +15,10 @@ use Rattle.sp_law_equal.specs.NormalForms.{HasNormalForms}
 use Rattle.sp_law_equal.specs.RightTheory.{HasNormalInstances, TakesFreshNames, BindsConclusions, IsRightTheory, adversary_facts, LeavesAdversaryAlone}
 use Rattle.sp_law_run.proofs.Written.{rules_right}
 use Rattle.sp_law_run.proofs.Over.{valued_all_over}
-use Rattle.sp_law_system.specs.Rules.{InstancesAreOver, IsClosedRule, IsPlainTheory}
-use Rattle.sp_law_tree.specs.PlainTheory.{IsPlainRule}
+use Rattle.sp_law_system.specs.Rules.{InstancesAreOver, IsClosedRule, SuitsProofs}
+use Rattle.sp_law_tree.specs.BasicTheory.{IsBasicRule}
 use Rattle.sp_law_tree.specs.Laws.{TextsAreRight}
-use Rattle.sp_law_tree.proofs.PlainOver.{plain_rules_over}
+use Rattle.sp_law_tree.proofs.BasicOver.{basic_rules_over}
 use Rattle.sp_law_tree.proofs.WrittenRules.{rules_plain, rules_leave_adversary}
 use Rattle.sp_law_tree.proofs.ClosedRules.{not_in, none_concluded, rules_closed}
 
@@ -40,29 +40,29 @@ instances_over theory rules_over =
 
 -- ---- of a text
 
-pub normal_instances : (t : WrittenTheory) → HasNormalForms (signature_of (theory_of t)) → Every IsPlainRule t.rules → HasNormalInstances (theory_of t)
-normal_instances t forms plain = record {
+pub normal_instances : (t : WrittenTheory) → HasNormalForms (signature_of (theory_of t)) → Every IsBasicRule t.rules → HasNormalInstances (theory_of t)
+normal_instances t forms basic = record {
   normal_forms = forms.normal_forms;
   keeps = forms.keeps;
-  plain = rules_plain (signature_of (theory_of t)).equations t.rules plain;
+  plain = rules_plain (signature_of (theory_of t)).equations t.rules basic;
 }
 
-pub plain_text : (t : WrittenTheory) → HasNormalForms (signature_of (theory_of t)) → Every IsPlainRule t.rules → Every (λ (r : WrittenRule). rule_is_wrong r ≡ false) t.rules
-    → IsPlainTheory (theory_of t)
-plain_text t forms plain right = record {
-  instances = normal_instances t forms plain;
-  closed = rules_closed t.rules plain right;
-  over = instances_over (theory_of t) (plain_rules_over (signature_of (theory_of t)).symbols t.rules plain);
+pub text_suits : (t : WrittenTheory) → HasNormalForms (signature_of (theory_of t)) → Every IsBasicRule t.rules → Every (λ (r : WrittenRule). rule_is_wrong r ≡ false) t.rules
+    → SuitsProofs (theory_of t)
+text_suits t forms basic right = record {
+  instances = normal_instances t forms basic;
+  closed = rules_closed t.rules basic right;
+  over = instances_over (theory_of t) (basic_rules_over (signature_of (theory_of t)).symbols t.rules basic);
 }
 
-right_text : (t : WrittenTheory) → HasNormalForms (signature_of (theory_of t)) → Every IsPlainRule t.rules → Every (λ (r : WrittenRule). rule_is_wrong r ≡ false) t.rules
+right_text : (t : WrittenTheory) → HasNormalForms (signature_of (theory_of t)) → Every IsBasicRule t.rules → Every (λ (r : WrittenRule). rule_is_wrong r ≡ false) t.rules
     → Distinct (map (λ (r : WrittenRule). r.name) t.rules) → IsRightTheory (theory_of t)
-right_text t forms plain right names =
-    let closed = rules_closed t.rules plain right in
+right_text t forms basic right names =
+    let closed = rules_closed t.rules basic right in
     record {
-      instances = normal_instances t forms plain;
+      instances = normal_instances t forms basic;
       declared = rules_right t.rules names;
-      over = plain_rules_over (signature_of (theory_of t)).symbols t.rules plain;
+      over = basic_rules_over (signature_of (theory_of t)).symbols t.rules basic;
       takes_fresh = every_weaken IsClosedRule TakesFreshNames (λ r h. h.fresh) (theory_of t).rules closed;
       makes_no_fr = none_concluded t.rules right;
       bound = every_weaken IsClosedRule BindsConclusions (λ r h. h.bound) (theory_of t).rules closed;
@@ -81,12 +81,12 @@ module _ (theory : Theory) (right : IsRightTheory theory) (alone : LeavesAdversa
     bound = every_member BindsConclusions theory.rules r m right.bound;
   })
 
-  plain_theory : IsPlainTheory theory
-  plain_theory = record { instances = right.instances; closed = closed; over = instances_over theory right.over }
+  theory_suits : SuitsProofs theory
+  theory_suits = record { instances = right.instances; closed = closed; over = instances_over theory right.over }
 
 pub texts_are_right_lem : TextsAreRight
 texts_are_right_lem = record {
   right = right_text;
   alone = rules_leave_adversary;
-  plain = plain_theory;
+  suits = theory_suits;
 }

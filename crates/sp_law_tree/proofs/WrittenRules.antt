@@ -1,4 +1,4 @@
--- A written rule of a plain theory stands for a rule whose variables are numbered, without destructors, that leaves the adversary
+-- A written rule of a basic theory stands for a rule whose variables are numbered, without destructors, that leaves the adversary
 -- alone.
 use Rattle.std.proofs.Common.{◌≡◌, ◌<◌, ℕ, zero, suc, Bool, true, false, ◌||◌, if◌then◌else◌, List, [], ◌∷◌, ◌++◌, map, length, codes, sym, subst, inl, inr, arith, bytes_eq}
 use Rattle.sp_spec.specs.Lists.{Member, Every}
@@ -17,7 +17,7 @@ use Rattle.sp_spec.specs.Constants.{in_facts, in_actions, in_rule, constants_of}
 use Rattle.sp_spec_system.specs.Numbered.{names_in}
 use Rattle.sp_law_tree.specs.Laws.{NamesStand}
 use Rattle.sp_law_tree.proofs.Named.{AreListed, facts_made, actions_made, rules_listed, lemma_has_names}
-use Rattle.sp_law_tree.specs.PlainTheory.{IsAtomic, AreAtomic, IsPlainFact, IsPlainAction, IsPlainRule}
+use Rattle.sp_law_tree.specs.BasicTheory.{IsBasicTerm, AreBasicTerms, IsBasicFact, IsBasicAction, IsBasicRule}
 use Rattle.sp_law_equal.specs.RightTheory.{FactsArePlain, RulesArePlain, adversary_facts, LeavesAdversaryAlone}
 
 place_under : (x : List ℕ) (xs : List (List ℕ)) → is_listed x xs ≡ true → place_of x xs < length xs
@@ -29,8 +29,8 @@ place_under x (z ∷ xs) e = at (bytes_eq z x) e (λ h. place_under x xs h)
     at false h later = let l = later h in omega (arith, l)
 
 -- the variables are numbered, and the names listed
-rule_numbered : (listed : List (List ℕ)) (r : WrittenRule) → IsPlainRule r → AreListed listed (in_rule r) → FactsMadeOf (names_in listed) (λ x. x.number < length (rule_of r).variables) (rule_of r).facts
-rule_numbered listed r plain stand =
+rule_numbered : (listed : List (List ℕ)) (r : WrittenRule) → IsBasicRule r → AreListed listed (in_rule r) → FactsMadeOf (names_in listed) (λ x. x.number < length (rule_of r).variables) (rule_of r).facts
+rule_numbered listed r basic stand =
     let names = rule_names r.facts in
     let declared : List ℕ → Declared = λ x. record { name = x; sort = sort_in r.facts x } in
     let IsNamed : Written → Type 0 = λ y. is_listed y.name names ≡ true in
@@ -40,41 +40,41 @@ rule_numbered listed r plain stand =
     facts_valued (names_in listed) IsNamed (λ x. x.number < length (map declared names)) (numbered_in r.facts)
     (λ y h. subst (λ (n : ℕ). place_of y.name names < n) (sym (length_map declared names)) (place_under y.name names h))
     r.facts (record {
-      premises = facts_made listed IsNamed r.facts.premises plain.premises first.0 each.premises;
-      actions = actions_made listed IsNamed r.facts.actions plain.actions second.0 each.actions;
-      conclusions = facts_made listed IsNamed r.facts.conclusions plain.conclusions second.1 each.conclusions;
+      premises = facts_made listed IsNamed r.facts.premises basic.premises first.0 each.premises;
+      actions = actions_made listed IsNamed r.facts.actions basic.actions second.0 each.actions;
+      conclusions = facts_made listed IsNamed r.facts.conclusions basic.conclusions second.1 each.conclusions;
     })
 
-each_numbered : (listed : List (List ℕ)) (rs : List WrittenRule) → Every IsPlainRule rs → Every (λ (r : WrittenRule). AreListed listed (in_rule r)) rs → RulesAreNumbered (names_in listed) (map rule_of rs)
+each_numbered : (listed : List (List ℕ)) (rs : List WrittenRule) → Every IsBasicRule rs → Every (λ (r : WrittenRule). AreListed listed (in_rule r)) rs → RulesAreNumbered (names_in listed) (map rule_of rs)
 each_numbered listed [] p k = tt
 each_numbered listed (r ∷ rs) p k = (rule_numbered listed r p.0 k.0, each_numbered listed rs p.1 k.1)
 
 pub names_stand_lem : NamesStand
 names_stand_lem = record {
-  rules = λ theory plain. each_numbered (constants_of theory) theory.rules plain (rules_listed theory);
+  rules = λ theory basic. each_numbered (constants_of theory) theory.rules basic (rules_listed theory);
   lemmas = lemma_has_names;
 }
 
 -- no destructor stands in them
 module _ (es : List Equation) (v : Written → Term Variable) (v_plain : (x : Written) → IsPlain es (v x)) where
-  atomic_plain : (t : Term Written) → IsAtomic t → IsPlain es (valued v t)
+  atomic_plain : (t : Term Written) → IsBasicTerm t → IsPlain es (valued v t)
   atomic_plain (var x) h = v_plain x
   atomic_plain (constant c) h = tt
   atomic_plain (name n) h = absurd h
   atomic_plain (app f ts) h = absurd h
 
-  atomics_plain : (ts : Terms Written) → AreAtomic ts → ArePlain es (valued_all v ts)
+  atomics_plain : (ts : Terms Written) → AreBasicTerms ts → ArePlain es (valued_all v ts)
   atomics_plain none h = tt
   atomics_plain (more t ts) h = (atomic_plain t h.0, atomics_plain ts h.1)
 
-rule_plain : (es : List Equation) (r : WrittenRule) → IsPlainRule r → FactsArePlain es (rule_of r).facts
+rule_plain : (es : List Equation) (r : WrittenRule) → IsBasicRule r → FactsArePlain es (rule_of r).facts
 rule_plain es r h = record {
-  premises = every_map IsPlainFact _ (fact_at (numbered_in r.facts)) (λ f k. atomics_plain es (numbered_in r.facts) (λ x. tt) f.args k.0) r.facts.premises h.premises;
-  actions = every_map IsPlainAction _ (action_at (numbered_in r.facts)) (λ a k. atomics_plain es (numbered_in r.facts) (λ x. tt) a.args k.0) r.facts.actions h.actions;
-  conclusions = every_map IsPlainFact _ (fact_at (numbered_in r.facts)) (λ f k. atomics_plain es (numbered_in r.facts) (λ x. tt) f.args k.0) r.facts.conclusions h.conclusions;
+  premises = every_map IsBasicFact _ (fact_at (numbered_in r.facts)) (λ f k. atomics_plain es (numbered_in r.facts) (λ x. tt) f.args k.0) r.facts.premises h.premises;
+  actions = every_map IsBasicAction _ (action_at (numbered_in r.facts)) (λ a k. atomics_plain es (numbered_in r.facts) (λ x. tt) a.args k.0) r.facts.actions h.actions;
+  conclusions = every_map IsBasicFact _ (fact_at (numbered_in r.facts)) (λ f k. atomics_plain es (numbered_in r.facts) (λ x. tt) f.args k.0) r.facts.conclusions h.conclusions;
 }
 
-pub rules_plain : (es : List Equation) (rs : List WrittenRule) → Every IsPlainRule rs → RulesArePlain es (map rule_of rs)
+pub rules_plain : (es : List Equation) (rs : List WrittenRule) → Every IsBasicRule rs → RulesArePlain es (map rule_of rs)
 rules_plain es [] h = tt
 rules_plain es (r ∷ rs) h = (rule_plain es r h.0, rules_plain es rs h.1)
 
@@ -85,12 +85,12 @@ among s (inr (inl h)) = inr (inl h)
 among s (inr (inr (inl h))) = inr (inr (inl h))
 among s (inr (inr (inr h))) = absurd h
 
-pub rules_leave_adversary : (t : WrittenTheory) → Every IsPlainRule t.rules → LeavesAdversaryAlone (theory_of t)
-rules_leave_adversary t plain = record {
+pub rules_leave_adversary : (t : WrittenTheory) → Every IsBasicRule t.rules → LeavesAdversaryAlone (theory_of t)
+rules_leave_adversary t basic = record {
   premises = λ r m. let o = member_mapped rule_of r t.rules m in
       subst (λ (q : Rule). Every (λ (f : Fact Variable). Member f.symbol adversary_facts → ⊥) q.facts.premises) o.2
-      (every_map IsPlainFact _ (fact_at (numbered_in o.0.facts)) (λ f k l. k.1 (among f.symbol l)) o.0.facts.premises (every_member IsPlainRule t.rules o.0 o.1 plain).premises);
+      (every_map IsBasicFact _ (fact_at (numbered_in o.0.facts)) (λ f k l. k.1 (among f.symbol l)) o.0.facts.premises (every_member IsBasicRule t.rules o.0 o.1 basic).premises);
   actions = λ r m. let o = member_mapped rule_of r t.rules m in
       subst (λ (q : Rule). Every (λ (a : Action Variable). a.symbol ≡ codes "K" → ⊥) q.facts.actions) o.2
-      (every_map IsPlainAction _ (action_at (numbered_in o.0.facts)) (λ a k l. k.1 (inr (inr (inl (sym l))))) o.0.facts.actions (every_member IsPlainRule t.rules o.0 o.1 plain).actions);
+      (every_map IsBasicAction _ (action_at (numbered_in o.0.facts)) (λ a k l. k.1 (inr (inr (inl (sym l))))) o.0.facts.actions (every_member IsBasicRule t.rules o.0 o.1 basic).actions);
 }

@@ -7,7 +7,7 @@ use Rattle.sp_law_system.specs.Proofs.{HasNoSolution, IsContextOf, IsWellMade}
 use Rattle.sp_spec_system.specs.Move.{Context, end_log}
 use Rattle.sp_spec_proof.specs.Tree.{Tree, IsAccepted, IsFinished, found_log, steps}
 use Rattle.sp_spec.specs.Log.{Log}
-use Rattle.sp_law_system.specs.Rules.{IsPlainTheory, RulesAreNumbered}
+use Rattle.sp_law_system.specs.Rules.{SuitsProofs, RulesAreNumbered}
 use Rattle.sp_spec_proof.specs.Growth.{has_end, grown_tree}
 use Rattle.sp_spec.specs.Lists.{Member, Every, Distinct, is_listed}
 use Rattle.sp_spec.specs.Written.{WrittenRule, WrittenTheory, theory_of}
@@ -20,7 +20,7 @@ use Rattle.sp_law_guard.specs.GuardedForm.{negate}
 use Rattle.sp_law_guard.specs.CheckedForm.{checked_form}
 use Rattle.sp_spec_proof.specs.Root.{root}
 use Rattle.sp_law_equal.specs.RightTheory.{MakesNoFr, IsRightTheory, LeavesAdversaryAlone}
-use Rattle.sp_law_tree.specs.PlainTheory.{HasNames, IsPlainRule, IsPlainFormula}
+use Rattle.sp_law_tree.specs.BasicTheory.{HasNames, IsBasicRule, IsBasicFormula}
 use Rattle.sp_law_tree.specs.Executions.{DependsOn, HasLogsFor}
 
 -- the tree theorem: where a tree is accepted, no leaf is left open and with none the search ends, the system at its root has no solution
@@ -31,7 +31,7 @@ pub record FinishedTreesShow (theory : Theory) : Type 0 where
 -- A finished tree has a root without solutions. An accepted tree has a log exactly where the search ends at some leaf, and then it is the
 -- log with which it ends at some system.
 pub record AcceptedTreesShow : Type 0 where
-  pub trees : (theory : Theory) → IsPlainTheory theory → FinishedTreesShow theory
+  pub trees : (theory : Theory) → SuitsProofs theory → FinishedTreesShow theory
   pub found : (context : Context) (s : System) (tree : Tree) (log : Log) → found_log context s tree ≡ Some log → (t : System) × (end_log context t ≡ Some log)
   pub ends : (context : Context) (s : System) (tree : Tree) → IsAccepted context s tree → has_end tree ≡ true → (log : Log) × (found_log context s tree ≡ Some log)
   pub no_end : (context : Context) (s : System) (tree : Tree) → has_end tree ≡ false → found_log context s tree ≡ None
@@ -39,9 +39,9 @@ pub record AcceptedTreesShow : Type 0 where
 -- What a finished tree shows of learning logs, in a context that has the lemma's public names. From the negation of the lemma's guarded form: no log that meets the restrictions breaks the
 -- lemma. From the guarded form: none satisfies it.
 pub record TreesShowLogs : Type 0 where
-  pub all_traces : (theory : Theory) → IsPlainTheory theory → (lemma : Lemma) → IsPlainFormula lemma.formula → (g : Guarded) → checked_form lemma.formula ≡ Some g
+  pub all_traces : (theory : Theory) → SuitsProofs theory → (lemma : Lemma) → IsBasicFormula lemma.formula → (g : Guarded) → checked_form lemma.formula ≡ Some g
       → (context : Context) → IsContextOf theory context → HasNames (names_in context.public_names) lemma.formula → (tree : Tree) → IsAccepted context (root (negate g)) tree → IsFinished tree → HoldsInAllLogs theory lemma
-  pub exists_trace : (theory : Theory) → IsPlainTheory theory → (lemma : Lemma) → IsPlainFormula lemma.formula → (g : Guarded) → checked_form lemma.formula ≡ Some g
+  pub exists_trace : (theory : Theory) → SuitsProofs theory → (lemma : Lemma) → IsBasicFormula lemma.formula → (g : Guarded) → checked_form lemma.formula ≡ Some g
       → (context : Context) → IsContextOf theory context → HasNames (names_in context.public_names) lemma.formula → (tree : Tree) → IsAccepted context (root g) tree → IsFinished tree → HoldsInNoLog theory lemma
 
 -- What holds in all logs holds in all executions, where each execution has a log that shows what the restrictions and the lemma see of it;
@@ -59,19 +59,19 @@ pub record LogsShowExecutions : Type 0 where
 -- What a text gives whose terms have normal forms, and whose rules have no findings and names of their own: its theory is right, and leaves the adversary
 -- alone. What is right of a theory is all that covering asks of it.
 pub record TextsAreRight : Type 0 where
-  pub right : (theory : WrittenTheory) → HasNormalForms (signature_of (theory_of theory)) → Every IsPlainRule theory.rules → Every (λ (r : WrittenRule). rule_is_wrong r ≡ false) theory.rules
+  pub right : (theory : WrittenTheory) → HasNormalForms (signature_of (theory_of theory)) → Every IsBasicRule theory.rules → Every (λ (r : WrittenRule). rule_is_wrong r ≡ false) theory.rules
       → Distinct (map (λ (r : WrittenRule). r.name) theory.rules) → IsRightTheory (theory_of theory)
-  pub alone : (theory : WrittenTheory) → Every IsPlainRule theory.rules → LeavesAdversaryAlone (theory_of theory)
-  pub plain : (theory : Theory) → IsRightTheory theory → LeavesAdversaryAlone theory → IsPlainTheory theory
+  pub alone : (theory : WrittenTheory) → Every IsBasicRule theory.rules → LeavesAdversaryAlone (theory_of theory)
+  pub suits : (theory : Theory) → IsRightTheory theory → LeavesAdversaryAlone theory → SuitsProofs theory
 
 -- What a finished tree shows of a lemma of a theory whose terms have normal forms, and without findings on its rules, steps of the adversary included. From
 -- the negation of the lemma's guarded form: every execution satisfies the lemma. From the guarded form: no execution does.
 pub record LemmasAreShown : Type 0 where
-  pub all_traces : (theory : WrittenTheory) → HasNormalForms (signature_of (theory_of theory)) → Every IsPlainRule theory.rules → Every (λ (r : WrittenRule). rule_is_wrong r ≡ false) theory.rules
-      → (lemma : Lemma) → IsPlainFormula lemma.formula → (g : Guarded) → checked_form lemma.formula ≡ Some g
+  pub all_traces : (theory : WrittenTheory) → HasNormalForms (signature_of (theory_of theory)) → Every IsBasicRule theory.rules → Every (λ (r : WrittenRule). rule_is_wrong r ≡ false) theory.rules
+      → (lemma : Lemma) → IsBasicFormula lemma.formula → (g : Guarded) → checked_form lemma.formula ≡ Some g
       → (context : Context) → IsContextOf (theory_of theory) context → HasNames (names_in context.public_names) lemma.formula → (tree : Tree) → IsAccepted context (root (negate g)) tree → IsFinished tree → HoldsInAll (theory_of theory) lemma
-  pub exists_trace : (theory : WrittenTheory) → HasNormalForms (signature_of (theory_of theory)) → Every IsPlainRule theory.rules → Every (λ (r : WrittenRule). rule_is_wrong r ≡ false) theory.rules
-      → (lemma : Lemma) → IsPlainFormula lemma.formula → (g : Guarded) → checked_form lemma.formula ≡ Some g
+  pub exists_trace : (theory : WrittenTheory) → HasNormalForms (signature_of (theory_of theory)) → Every IsBasicRule theory.rules → Every (λ (r : WrittenRule). rule_is_wrong r ≡ false) theory.rules
+      → (lemma : Lemma) → IsBasicFormula lemma.formula → (g : Guarded) → checked_form lemma.formula ≡ Some g
       → (context : Context) → IsContextOf (theory_of theory) context → HasNames (names_in context.public_names) lemma.formula → (tree : Tree) → IsAccepted context (root g) tree → IsFinished tree → HoldsInNone (theory_of theory) lemma
 
 -- a tree that is grown is accepted, and has at most as many steps as the budget says
@@ -81,5 +81,5 @@ pub record GrowthIsAccepted : Type 0 where
 
 -- The public names that stand in a text are all that its rules and its lemmas have, and no fresh name stands there.
 pub record NamesStand : Type 0 where
-  pub rules : (theory : WrittenTheory) → Every IsPlainRule theory.rules → RulesAreNumbered (names_in (constants_of theory)) (theory_of theory).rules
-  pub lemmas : (theory : WrittenTheory) → (lemma : Lemma) → Member lemma theory.lemmas → IsPlainFormula lemma.formula → HasNames (names_in (constants_of theory)) lemma.formula
+  pub rules : (theory : WrittenTheory) → Every IsBasicRule theory.rules → RulesAreNumbered (names_in (constants_of theory)) (theory_of theory).rules
+  pub lemmas : (theory : WrittenTheory) → (lemma : Lemma) → Member lemma theory.lemmas → IsBasicFormula lemma.formula → HasNames (names_in (constants_of theory)) lemma.formula

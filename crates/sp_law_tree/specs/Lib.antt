@@ -1,3 +1,3 @@
 pub mod Laws
-pub mod PlainTheory
+pub mod BasicTheory
 pub mod Executions

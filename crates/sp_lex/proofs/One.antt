@@ -3,7 +3,7 @@ use Rattle.std.proofs.Common.{◌≡◌, ℕ, ◌+◌, true, false, List, [], �
 use Rattle.sp_spec_text.specs.Bytes.{FaultKind}
 use Rattle.sp_spec_text.specs.Bytes.{NoToken}
 use Rattle.sp_spec_text.specs.Token.{Lexeme, Token}
-use Rattle.sp_spec_text.specs.Lex.{Piece, piece, token, no_token, first_sign, is_end, Skips, IsUnclosed, Reads, plain, bare, goal, IsNext, AreTokens, no_more, last, next, AreTokensBefore, left_open, here, later, IsFault}
+use Rattle.sp_spec_text.specs.Lex.{Piece, piece, token, no_token, first_sign, is_end, Skips, IsUnclosed, Reads, as_it_is, bare, goal, IsNext, AreTokens, no_more, last, next, AreTokensBefore, left_open, here, later, IsFault}
 use Rattle.sp_lex.proofs.Gaps.{skips_one, skips_closed, unclosed_one}
 use Rattle.sp_lex.proofs.Solve.{reads_one}
 
@@ -30,7 +30,7 @@ unfolding piece first_sign
 piece_nil = refl
 
 nothing_reads : {p : Piece} {x : Lexeme} {rest : List ℕ} → Reads [] p → p ≡ token x rest → ⊥
-nothing_reads (plain e d) f = let g = sym piece_nil ∙ e ∙ f in cc
+nothing_reads (as_it_is e d) f = let g = sym piece_nil ∙ e ∙ f in cc
 nothing_reads (bare e t n) f = let g = sym piece_nil ∙ e in cc
 nothing_reads (goal e t h k) f = let g = sym piece_nil ∙ e in cc
 

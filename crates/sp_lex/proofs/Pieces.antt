@@ -1,7 +1,7 @@
 -- The pieces, step by step, and that they are text.
-use Rattle.std.proofs.Common.{◌≡◌, ℕ, zero, suc, ◌+◌, ◌-◌, ◌<◌, ◌≤◌, Bool, true, false, cond, List, [], ◌∷◌, length, refl, sym, ap, ◌∙◌, add-one, arith}
+use Rattle.std.proofs.Common.{◌≡◌, ℕ, zero, suc, ◌+◌, ◌<◌, ◌≤◌, Bool, true, false, cond, List, [], ◌∷◌, length, refl, sym, ap, ◌∙◌, add-one, arith}
 use Rattle.std.specs.Prelude.{IsUtf8, IsAscii, ◌&&◌, ◌||◌, ◌==◌, not, nat_le}
-use Rattle.std.proofs.lemmas.Bool.{leb-true, eqb-true}
+use Rattle.std.proofs.lemmas.Bool.{leb-true, eqb-true, and_parts}
 use Rattle.std.proofs.lemmas.Str.{IsUtf8-from_ascii, IsAscii-append}
 use Rattle.std.proofs.lemmas.Str.Ascii.{IsAscii-nil}
 use Rattle.std.specs.Char.{is_ascii_alphanumeric}
@@ -9,6 +9,7 @@ use Rattle.std.specs.Int.{is_in_range}
 use Rattle.sp_spec_text.specs.Bytes.{Class}
 use Rattle.sp_spec_text.specs.Bytes as class
 use Rattle.sp_spec_text.specs.Lex.{is_in, is_digit, is_first, skip, before}
+use Rattle.sp_spec_text.proofs.Rests.{before_self, before_more}
 
 pub skip_more : (k : Class) {rest after total : List ℕ} {b : ℕ} → skip k rest ≡ total → rest ≡ b ∷ after → is_in k b after ≡ true → skip k after ≡ total
 unfolding skip
@@ -47,22 +48,8 @@ ascii_one b lt (suc i) = omega arith
 ascii_more : (b : ℕ) (bytes : List ℕ) → b < 128 → IsAscii bytes → IsAscii (b ∷ bytes)
 ascii_more b bytes lt h = IsAscii-append (b ∷ []) bytes (ascii_one b lt) h
 
-before_all : (bytes : List ℕ) → before bytes bytes ≡ []
-before_all bytes = let e : length bytes - length bytes ≡ 0 = omega arith in rw e refl
-
-before_more : (b : ℕ) (bytes rest : List ℕ) → length rest ≤ length bytes → before (b ∷ bytes) rest ≡ b ∷ before bytes rest
-before_more b bytes rest le = let e : length (b ∷ bytes) - length rest ≡ suc (length bytes - length rest) = omega arith in rw e refl
-
-and_left : (x y : Bool) → (x && y) ≡ true → x ≡ true
-and_left true y h = refl
-and_left false y h = h
-
-and_right : (x y : Bool) → (x && y) ≡ true → y ≡ true
-and_right true y h = h
-and_right false y h = absurd cc
-
 range_ascii : (a z b : ℕ) → z < 128 → is_in_range a z b ≡ true → b < 128
-range_ascii a z b lt h = let le = leb-true b z (and_right (nat_le a b) (nat_le b z) h) in omega arith
+range_ascii a z b lt h = let le = leb-true b z (and_parts (nat_le a b) (nat_le b z) h).1 in omega arith
 
 either : (x y : Bool) (P : Type 0) → (x ≡ true → P) → (y ≡ true → P) → (x || y) ≡ true → P
 either true y P f g h = f refl
@@ -84,12 +71,12 @@ is_ascii_class class.Line = false
 is_ascii_class class.Word = true
 
 in_ascii : (k : Class) (b : ℕ) (bytes : List ℕ) → is_ascii_class k ≡ true → is_in k b bytes ≡ true → b < 128
-in_ascii class.Constant b bytes a h = range_ascii 32 126 b (omega arith) (and_left (nat_le 32 b && nat_le b 126) (not (b == 39)) h)
+in_ascii class.Constant b bytes a h = range_ascii 32 126 b (omega arith) (and_parts (nat_le 32 b && nat_le b 126) (not (b == 39)) h).0
 in_ascii class.Line b bytes a h = absurd cc
 in_ascii class.Word b bytes a h =
     either (is_ascii_alphanumeric b || b == 95) (b == 46 && is_first is_digit bytes) (b < 128)
     (either (is_ascii_alphanumeric b) (b == 95) (b < 128) (alphanumeric_ascii b) (equal_ascii b 95 (omega arith)))
-    (λ e. equal_ascii b 46 (omega arith) (and_left (b == 46) (is_first is_digit bytes) e)) h
+    (λ e. equal_ascii b 46 (omega arith) (and_parts (b == 46) (is_first is_digit bytes) e).0) h
 
 before_ascii : (k : Class) (bytes : List ℕ) → is_ascii_class k ≡ true → IsAscii (before bytes (skip k bytes))
 unfolding skip
@@ -98,7 +85,7 @@ before_ascii k (b ∷ bytes) a = by_test (is_in k b bytes) refl (before_ascii k 
   where
     by_test : (t : Bool) → is_in k b bytes ≡ t → IsAscii (before bytes (skip k bytes)) → IsAscii (before (b ∷ bytes) (cond t (skip k bytes) (b ∷ bytes)))
     by_test true e h = rw (before_more b bytes (skip k bytes) (skip_shorter k bytes)) (ascii_more b (before bytes (skip k bytes)) (in_ascii k b bytes a e) h)
-    by_test false e h = rw (before_all (b ∷ bytes)) IsAscii-nil
+    by_test false e h = rw (before_self (b ∷ bytes)) IsAscii-nil
 
 pub constant_utf8 : (body rest : List ℕ) → rest ≡ skip class.Constant body → IsUtf8 (before body rest)
 constant_utf8 body rest e = IsUtf8-from_ascii (before body rest) (rw e (before_ascii class.Constant body refl))

@@ -7,7 +7,7 @@ use Rattle.sp_spec_text.specs.Bytes.{FaultKind}
 use Rattle.sp_spec_text.specs.Bytes as class
 use Rattle.sp_spec_text.specs.Signs as s
 use Rattle.sp_spec_text.specs.Token.{Lexeme, word, constant, sign, solve, Token}
-use Rattle.sp_spec_text.specs.Lex.{skip, Piece, token, no_token, short_sign, short_piece, first_short, first_sign, piece, before, is_first, to_closing, closed_by, Reads, plain, bare, goal, IsNext, AreTokens, no_more, last, next}
+use Rattle.sp_spec_text.specs.Lex.{skip, Piece, token, no_token, short_sign, short_piece, first_short, first_sign, piece, before, is_first, to_closing, closed_by, Reads, as_it_is, bare, goal, IsNext, AreTokens, no_more, last, next}
 use Rattle.sp_spec_text.specs.Ends.{place_behind, is_any}
 use Rattle.sp_lex.proofs.Pieces.{skip_shorter}
 use Rattle.sp_lex.proofs.Gaps.{LeavesMost, skips_shorter}
@@ -63,7 +63,7 @@ solve_leaves bytes None l lt = leaves_none
 solve_leaves bytes (Some rest) l lt = let k = l.most rest refl in leaves_token (solve (before bytes rest)) (drop 1 rest) (drop_less 1 rest _ (omega arith))
 
 reads_leaves : {bytes : List ℕ} {p : Piece} → Reads bytes p → Leaves (length bytes) p
-reads_leaves {bytes} (plain e d) = subst (λ (p : Piece). Leaves (length bytes) p) e (piece_leaves bytes)
+reads_leaves {bytes} (as_it_is e d) = subst (λ (p : Piece). Leaves (length bytes) p) e (piece_leaves bytes)
 reads_leaves {bytes} (bare e t n) = subst (λ (p : Piece). Leaves (length bytes) p) e (piece_leaves bytes)
 reads_leaves {bytes} (goal {rest = r} {inside = i} {x = x} e t h f) =
     let k = (piece_leaves bytes).less x r e in

@@ -4,7 +4,7 @@ use Rattle.std.specs.Prelude.{◌==◌}
 use Rattle.std.proofs.lemmas.Bool.{ne_eqb}
 use Rattle.sp_spec_text.specs.Bytes.{Opens, Closes, Neither}
 use Rattle.sp_spec_text.specs.Token.{Lexeme}
-use Rattle.sp_spec_text.specs.Lex.{is_first, piece, Piece, token, no_token, is_quoted, bracket, to_closing, solve_piece, is_solve, is_solve_word, Skips, IsUnclosed, NoBracket, other, open_comment, Reads, plain, bare, goal}
+use Rattle.sp_spec_text.specs.Lex.{is_first, piece, Piece, token, no_token, is_quoted, bracket, to_closing, solve_piece, is_solve, is_solve_word, Skips, IsUnclosed, NoBracket, other, open_comment, Reads, as_it_is, bare, goal}
 use Rattle.sp_lex.proofs.Gaps.{LeavesMost, leaves_none, leaves_some, leaves_more, either, any_mark, skips_one, skips_closed}
 
 closing_at : (quoted : Bool) (depth : ℕ) {b : ℕ} {rest after : List ℕ} {total : Option (List ℕ)} → to_closing quoted depth rest ≡ total → rest ≡ b ∷ after → to_closing quoted depth (b ∷ after) ≡ total
@@ -57,8 +57,8 @@ bracket_or_not h (open_comment k) = skips_closed h k
 
 -- ---- one token begins here, or one fault
 
-pub reads_plain : {bytes : List ℕ} {p : Piece} → p ≡ piece bytes → is_solve_word p ≡ false → Reads bytes p
-reads_plain e d = plain (sym e) d
+pub reads_as_it_is : {bytes : List ℕ} {p : Piece} → p ≡ piece bytes → is_solve_word p ≡ false → Reads bytes p
+reads_as_it_is e d = as_it_is (sym e) d
 
 pub reads_bare : {bytes rest : List ℕ} {x : Lexeme} → token x rest ≡ piece bytes → is_solve x ≡ true → NoBracket rest → Reads bytes (token x rest)
 reads_bare e t n = bare (sym e) t n
@@ -66,22 +66,22 @@ reads_bare e t n = bare (sym e) t n
 pub reads_goal : {bytes rest inside : List ℕ} {x : Lexeme} {p : Piece} → token x rest ≡ piece bytes → is_solve x ≡ true → Skips rest (40 ∷ inside) → p ≡ solve_piece inside → Reads bytes p
 reads_goal e t h f = goal (sym e) t h (sym f)
 
-pub ruleset readings = (reads_plain, reads_bare, reads_goal)
+pub ruleset readings = (reads_as_it_is, reads_bare, reads_goal)
 
 same_rest : (bytes : List ℕ) {r q : List ℕ} {x y : Lexeme} → piece bytes ≡ token x r → piece bytes ≡ token y q → r ≡ q
 same_rest bytes {r} {q} {x} {y} e f = let d : token x r ≡ token y q = sym e ∙ f in cc
 
-plain_or_solve : (bytes : List ℕ) {rest : List ℕ} {p : Piece} {x : Lexeme} → piece bytes ≡ p → is_solve_word p ≡ false → piece bytes ≡ token x rest → is_solve x ≡ true → ⊥
-plain_or_solve bytes {rest} {p} {x} e d f t = let g : is_solve_word p ≡ is_solve x = ap is_solve_word (sym e ∙ f) in cc
+as_it_is_or_solve : (bytes : List ℕ) {rest : List ℕ} {p : Piece} {x : Lexeme} → piece bytes ≡ p → is_solve_word p ≡ false → piece bytes ≡ token x rest → is_solve x ≡ true → ⊥
+as_it_is_or_solve bytes {rest} {p} {x} e d f t = let g : is_solve_word p ≡ is_solve x = ap is_solve_word (sym e ∙ f) in cc
 
 pub reads_one : {bytes : List ℕ} {p q : Piece} → Reads bytes p → Reads bytes q → p ≡ q
-reads_one (plain e d) (plain f g) = sym e ∙ f
-reads_one {bytes} (plain e d) (bare f t n) = absurd (plain_or_solve bytes e d f t)
-reads_one {bytes} (plain e d) (goal f t h g) = absurd (plain_or_solve bytes e d f t)
-reads_one {bytes} (bare f t n) (plain e d) = absurd (plain_or_solve bytes e d f t)
+reads_one (as_it_is e d) (as_it_is f g) = sym e ∙ f
+reads_one {bytes} (as_it_is e d) (bare f t n) = absurd (as_it_is_or_solve bytes e d f t)
+reads_one {bytes} (as_it_is e d) (goal f t h g) = absurd (as_it_is_or_solve bytes e d f t)
+reads_one {bytes} (bare f t n) (as_it_is e d) = absurd (as_it_is_or_solve bytes e d f t)
 reads_one (bare e t n) (bare f u m) = sym e ∙ f
 reads_one {bytes} (bare e t n) (goal {inside = i} f u h g) = absurd (bracket_or_not (subst (λ (r : List ℕ). Skips r (40 ∷ i)) (same_rest bytes f e) h) n)
-reads_one {bytes} (goal f t h g) (plain e d) = absurd (plain_or_solve bytes e d f t)
+reads_one {bytes} (goal f t h g) (as_it_is e d) = absurd (as_it_is_or_solve bytes e d f t)
 reads_one {bytes} (goal {inside = i} f u h g) (bare e t n) = absurd (bracket_or_not (subst (λ (r : List ℕ). Skips r (40 ∷ i)) (same_rest bytes f e) h) n)
 reads_one {bytes} (goal {inside = i} e t h d) (goal {inside = j} f u k g) =
     let o = skips_one (subst (λ (r : List ℕ). Skips r (40 ∷ i)) (same_rest bytes e f) h) k in

@@ -3,10 +3,10 @@ use Rattle.std.proofs.Common.{◌≡◌, ◌<◌, ⊎_elim, ℕ, zero, suc, Bool
 use Rattle.std.specs.Bool.{Decides}
 use Rattle.std.proofs.lemmas.List.{append-nil}
 use Rattle.std.proofs.lemmas.Bool.{and_parts, and_from, cases_order}
-use Rattle.sp_spec.specs.Lists.{Distinct, newest_first}
+use Rattle.sp_spec.specs.Lists.{newest_first}
 use Rattle.sp_spec.specs.Same.{same_term}
 use Rattle.sp_spec.specs.Theory.{Theory, signature_of}
-use Rattle.sp_spec.specs.Log.{Entry, step, send, learn, Log, fresh_uses, all_fresh_uses, sources_of, all_sources, IsRuleInstance, IsLog}
+use Rattle.sp_spec.specs.Log.{Entry, step, send, learn, Log, fresh_uses, all_fresh_uses, sources_of, all_sources, IsRuleInstance}
 use Rattle.sp_spec.proofs.Same.{same_term_decides}
 use Rattle.sp_spec.proofs.Logs.{log_sources, log_fresh, step_keeps}
 use Rattle.sp_law_erase.specs.Adversary.{IsStep}

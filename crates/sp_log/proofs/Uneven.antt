@@ -1,5 +1,5 @@
 -- Lists that are not as long as each other have no element beside each.
-use Rattle.std.proofs.Common.{◌≡◌, ◌⊎◌, ⊎_elim, arith, suc, false, ◌&&◌, List, [], ◌∷◌, length, Option, Some, None, option_and_then, refl, ap}
+use Rattle.std.proofs.Common.{◌≡◌, ◌⊎◌, ⊎_elim, arith, suc, false, List, [], ◌∷◌, length, Option, Some, None, option_and_then, refl, ap}
 use Rattle.sp_spec.specs.Term.{Variable}
 use Rattle.sp_spec.specs.Rule.{Fact, Action}
 use Rattle.sp_spec.specs.Log.{Source, Entry, linear_sources}

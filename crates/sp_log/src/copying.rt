@@ -1,20 +1,10 @@
 // Copies of ground facts and actions.
 
 ghost use Rattle.std.specs.Prelude.{◌≡◌, IfOk, map};
-ghost use Rattle.sp_ground.specs.View.{ground_action, ground_fact, ground_facts};
+ghost use Rattle.sp_ground.specs.View.{ground_action, ground_facts};
 
-use sp_ground::fact::{GroundAction, GroundFact, GroundFacts};
+use sp_ground::fact::{GroundAction, GroundFacts};
 use std::alloc::{AllocError, Global};
-
-fn copy_facts(alloc: Global, facts: &Vec<GroundFact>) -> Result<Vec<GroundFact>, AllocError>
-    ensures { IfOk result (λ fs. map ground_fact fs.items ≡ map ground_fact facts.now.items) }
-{
-    let mut made = Vec::with_capacity(alloc, facts.len())?;
-    for fact in facts {
-        made.push(fact.copy(alloc)?)?;
-    }
-    Ok(made)
-}
 
 /// Actions equal to these.
 pub fn copy_actions(
@@ -34,12 +24,5 @@ pub fn copy_actions(
 pub fn copy_of(alloc: Global, facts: &GroundFacts) -> Result<GroundFacts, AllocError>
     ensures { IfOk result (λ f. ground_facts f ≡ ground_facts facts.now) }
 {
-    let premises = copy_facts(alloc, &facts.premises)?;
-    let actions = copy_actions(alloc, &facts.actions)?;
-    let conclusions = copy_facts(alloc, &facts.conclusions)?;
-    Ok(GroundFacts {
-        premises,
-        actions,
-        conclusions,
-    })
+    facts.copy(alloc)
 }

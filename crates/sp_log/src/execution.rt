@@ -18,9 +18,9 @@ use crate::names::fresh_names;
 use sp_fact::rule::Rule;
 use sp_ground::fact::{GroundFact, GroundFacts};
 use sp_ground::step::{Given, Step};
-use sp_ground::term::{GroundTerm, copy};
-use sp_norm::values::Values;
-use sp_term::term::{Name, Sort, Variable};
+use sp_ground::term::GroundTerm;
+use sp_term::subst::Values;
+use sp_term::term::{Name, Sort, Term, Variable, copy};
 use std::alloc::{AllocError, Global};
 
 // What is given to a variable that stands in no fact.
@@ -30,12 +30,12 @@ fn stand_in(alloc: Global, sort: Sort) -> Result<GroundTerm, AllocError>
     match sort {
         Sort::Pub => {
             let name = Name::new(alloc, "a1")?;
-            Ok(GroundTerm::Constant(name))
+            Ok(Term::Constant(name))
         }
-        Sort::Fresh => Ok(GroundTerm::FreshName(0)),
+        Sort::Fresh => Ok(Term::FreshName(0)),
         Sort::Msg => {
             let empty = Name::new(alloc, "")?;
-            Ok(GroundTerm::Constant(empty))
+            Ok(Term::Constant(empty))
         }
     }
 }

@@ -12,12 +12,11 @@ use sp_fact::fact::{Action, Fact, Facts};
 use sp_fact::rule::Rule;
 use sp_ground::fact::{GroundAction, GroundFact, GroundFacts};
 use sp_ground::signature::Signature;
-use sp_ground::term::same;
-use sp_norm::matching::{extend_all, has_sort};
 use sp_norm::normal::normal;
 use sp_norm::over::is_over;
-use sp_norm::values::{Bound, Values};
-use sp_term::term::Name;
+use sp_term::matching::extend_all;
+use sp_term::subst::{Binding, Values};
+use sp_term::term::{Name, Never, has_sort, same};
 use std::alloc::{AllocError, Global};
 
 // Adds the bindings that the patterns want beside the facts.
@@ -118,17 +117,21 @@ fn are_alike(pattern: &Facts, facts: &GroundFacts) -> bool
 }
 
 // Whether the value is of its variable's sort, over the symbols, and in normal form.
-fn is_normal_value(alloc: Global, signature: &Signature, bound: &Bound) -> Result<bool, AllocError>
+fn is_normal_value(
+    alloc: Global,
+    signature: &Signature,
+    bound: &Binding<Never>,
+) -> Result<bool, AllocError>
     ensures { IfOk result (λ b. b ≡ spec.is_normal_value (signature_of signature.now) (bound_of bound.now)) }
 {
-    if !has_sort(bound.variable.sort, &bound.value) {
+    if !has_sort(bound.variable.sort, &bound.term) {
         return Ok(false);
     }
-    if !is_over(&signature.symbols, &bound.value) {
+    if !is_over(&signature.symbols, &bound.term) {
         return Ok(false);
     }
-    let normal_form = normal(alloc, &signature.equations, &bound.value)?;
-    Ok(same(&normal_form, &bound.value))
+    let normal_form = normal(alloc, &signature.equations, &bound.term)?;
+    Ok(same(&normal_form, &bound.term))
 }
 
 fn are_normal_values(

@@ -8,7 +8,8 @@ ghost use Rattle.sp_log.specs.Checking as spec;
 
 use crate::sources::is_fresh;
 use sp_ground::fact::GroundFact;
-use sp_ground::term::{GroundTerm, copy, same};
+use sp_ground::term::GroundTerm;
+use sp_term::term::{copy, same};
 use std::alloc::{AllocError, Global};
 
 /// The names whose Fr the premises use.

@@ -9,7 +9,7 @@ ghost use Rattle.sp_log.specs.View.{entry_of, source_of};
 
 use crate::log::{Entry, Source};
 use sp_ground::fact::GroundFact;
-use sp_ground::term::all_same;
+use sp_term::term::all_same;
 use std::alloc::{AllocError, Global};
 
 /// Whether the premise is the Fr of a fresh name.

@@ -5,7 +5,8 @@ use Rattle.std.proofs.lemmas.Slice.Eq.{bytes_eq-Decides}
 use Rattle.std.specs.Bool.{Decides}
 use Rattle.sp_spec.specs.Term.{var, constant, name, app, none, more, Ground, Grounds, count}
 use Rattle.sp_spec.specs.Signature.{Symbol, HasSymbol, HasPublic, IsOver, AreOver}
-use Rattle.sp_ground.specs.declared.term.GroundTerm.{GroundTerm}
+use Rattle.sp_term.specs.View.{Never}
+use Rattle.sp_term.specs.declared.term.Term as memory
 use Rattle.sp_ground.specs.View.{grounds_of}
 use Rattle.sp_ground.proofs.Lists.{count-grounds}
 use Rattle.sp_norm.specs.Over.{is_symbol, any_symbol, any_public, over, all_over}
@@ -89,14 +90,14 @@ module _ (symbols : List Symbol) where
   all_over_decides ts = (all_over_tells ts, all_over_from ts)
 
   -- of an application that has so many arguments
-  over_app : (f : List ℕ) (ts : List GroundTerm) (n : ℕ) → n ≡ length ts
+  over_app : (f : List ℕ) (ts : List (memory.Term Never)) (n : ℕ) → n ≡ length ts
       → over symbols (app f (grounds_of ts)) ≡ (any_symbol symbols f n && all_over symbols (grounds_of ts))
   over_app f ts n e = ap (λ k. any_symbol symbols f k && all_over symbols (grounds_of ts)) (count-grounds ts ∙ sym e)
 
-  pub over_by_arguments : (f : List ℕ) (ts : List GroundTerm) (n : ℕ) → n ≡ length ts → any_symbol symbols f n ≡ true
+  pub over_by_arguments : (f : List ℕ) (ts : List (memory.Term Never)) (n : ℕ) → n ≡ length ts → any_symbol symbols f n ≡ true
       → over symbols (app f (grounds_of ts)) ≡ all_over symbols (grounds_of ts)
   over_by_arguments f ts n e h = over_app f ts n e ∙ ap (λ b. b && all_over symbols (grounds_of ts)) h
 
-  pub over_without_symbol : (f : List ℕ) (ts : List GroundTerm) (n : ℕ) → n ≡ length ts → any_symbol symbols f n ≡ false
+  pub over_without_symbol : (f : List ℕ) (ts : List (memory.Term Never)) (n : ℕ) → n ≡ length ts → any_symbol symbols f n ≡ false
       → over symbols (app f (grounds_of ts)) ≡ false
   over_without_symbol f ts n e h = over_app f ts n e ∙ ap (λ b. b && all_over symbols (grounds_of ts)) h

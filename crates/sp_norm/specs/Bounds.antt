@@ -1,17 +1,18 @@
 -- The values that `Values` stand for.
-use Rattle.std.specs.Prelude.{List, map, Bool, if◌then◌else◌, Option, Some, None}
+use Rattle.std.specs.Prelude.{List, Bool, Option}
 use Rattle.sp_law_equal.specs.Matching as spec
-use Rattle.sp_term.specs.View.{variable_of}
-use Rattle.sp_ground.specs.View.{ground_of}
-use Rattle.sp_norm.specs.declared.values.Bound.{Bound}
-use Rattle.sp_norm.specs.declared.values.Values.{Values}
+use Rattle.sp_term.specs.View.{never_of, Never}
+use Rattle.sp_term.specs.Bindings as bindings
+use Rattle.sp_term.specs.Bindings.{binding_by, bindings_by}
+use Rattle.sp_term.specs.declared.subst.Binding.{Binding}
+use Rattle.sp_term.specs.declared.subst.Bindings.{Bindings}
 
-abbrev pub bound_of : Bound → spec.Bound
-bound_of b = (variable_of b.variable, ground_of b.value)
+abbrev pub bound_of : Binding Never → spec.Bound
+bound_of b = binding_by never_of b
 
-abbrev pub bounds : Values → List spec.Bound
-bounds s = map bound_of s.bindings.items
+abbrev pub bounds : Bindings Never → List spec.Bound
+bounds s = bindings_by never_of s
 
 -- what a search that adds to the bindings answers
 abbrev pub answer : Bool → List spec.Bound → Option (List spec.Bound)
-answer b bs = if b then Some bs else None
+answer b bs = bindings.answer b bs

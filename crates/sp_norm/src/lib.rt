@@ -10,4 +10,3 @@ pub mod matching;
 pub mod normal;
 pub mod over;
 pub mod step;
-pub mod values;

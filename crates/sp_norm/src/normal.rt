@@ -6,9 +6,11 @@ ghost use Rattle.sp_ground.specs.View.{equation_of, ground_action, ground_fact, 
 
 use crate::instance::value;
 use crate::matching::matches;
+use sp_fact::fact::{Action, Fact, Facts};
 use sp_ground::fact::{GroundAction, GroundFact, GroundFacts};
 use sp_ground::signature::Equation;
-use sp_ground::term::{GroundTerm, copy};
+use sp_ground::term::GroundTerm;
+use sp_term::term::{Term, copy};
 use std::alloc::{AllocError, Global};
 use std::rc::Rc;
 
@@ -39,13 +41,14 @@ pub fn normal(
     ensures { IfOk result (λ t. ground_of t ≡ normal (map equation_of equations.now.items) (ground_of term.now)) }
 {
     match term {
-        GroundTerm::Constant(name) => Ok(GroundTerm::Constant(name.copy()?)),
-        GroundTerm::FreshName(n) => Ok(GroundTerm::FreshName(*n)),
-        GroundTerm::App(symbol, terms) => {
+        Term::Var(never) => match never.leaf {},
+        Term::Constant(name) => Ok(Term::Constant(name.copy()?)),
+        Term::FreshName(n) => Ok(Term::FreshName(*n)),
+        Term::App(symbol, terms) => {
             let name = symbol.copy()?;
             let made = normal_all(alloc, equations, terms)?;
             let shared = Rc::new(alloc, made)?;
-            let whole = GroundTerm::App(name, shared);
+            let whole = Term::App(name, shared);
             reduced(alloc, equations, &whole)
         }
     }
@@ -77,7 +80,7 @@ pub fn normal_fact(
 {
     let symbol = fact.symbol.copy()?;
     let args = normal_all(alloc, equations, &fact.args)?;
-    Ok(GroundFact {
+    Ok(Fact {
         symbol,
         persistent: fact.persistent,
         args,
@@ -94,7 +97,7 @@ pub fn normal_action(
 {
     let symbol = action.symbol.copy()?;
     let args = normal_all(alloc, equations, &action.args)?;
-    Ok(GroundAction { symbol, args })
+    Ok(Action { symbol, args })
 }
 
 fn each_normal_fact(
@@ -136,7 +139,7 @@ pub fn normal_facts(
     let premises = each_normal_fact(alloc, equations, &facts.premises)?;
     let actions = each_normal_action(alloc, equations, &facts.actions)?;
     let conclusions = each_normal_fact(alloc, equations, &facts.conclusions)?;
-    Ok(GroundFacts {
+    Ok(Facts {
         premises,
         actions,
         conclusions,

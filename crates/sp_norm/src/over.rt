@@ -6,10 +6,9 @@ ghost use Rattle.sp_term.specs.View.{name_of, sort_of};
 ghost use Rattle.sp_ground.specs.View.{ground_of, grounds_of, symbol_of};
 ghost use Rattle.sp_norm.specs.Over.{all_over, any_public, any_symbol, is_symbol, over};
 
-use crate::matching::has_sort;
 use sp_ground::signature::Symbol;
 use sp_ground::term::GroundTerm;
-use sp_term::term::{Name, Sort};
+use sp_term::term::{Name, Sort, Term, has_sort};
 
 fn is_symbol(symbol: &Symbol, name: &Name, count: usize) -> bool
     ensures { result ≡ is_symbol (symbol_of symbol.now) (name_of name.now) count }
@@ -76,10 +75,10 @@ fn tree_over(symbols: &Vec<Symbol>, term: &GroundTerm) -> bool
     ensures { result ≡ over (map symbol_of symbols.now.items) (ground_of term.now) }
 {
     match term {
-        GroundTerm::Constant(_) => true,
-        GroundTerm::FreshName(_) => true,
-        GroundTerm::App(f, terms) => any_symbol(symbols, f, terms.len())
-            && trees_over(symbols, terms),
+        Term::Var(never) => match never.leaf {},
+        Term::Constant(_) => true,
+        Term::FreshName(_) => true,
+        Term::App(f, terms) => any_symbol(symbols, f, terms.len()) && trees_over(symbols, terms),
     }
 }
 

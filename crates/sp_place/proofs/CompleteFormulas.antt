@@ -119,7 +119,7 @@ mutual
   unit_had (g.order v w) n k rest e c u = unit_of_variable v with_less (later_had w (closing_left k c u) c)
 
   negation_had : {m : ℕ} {f : Formula} {tokens mid : List Lexeme} → SpellsNegation m tokens f mid → (n k : ℕ) (rest : List Lexeme) → deep n k ≡ m → Has (a.Closing n k) mid rest → Untailed rest → Has (a.Negation n k) tokens rest
-  negation_had {tokens = tokens} (g.plain_unit h) n k rest e c u = negation_of_unit tokens (unit_had h n k rest e c u)
+  negation_had {tokens = tokens} (g.unit_alone h) n k rest e c u = negation_of_unit tokens (unit_had h n k rest e c u)
   negation_had {mid = mid} (g.negated h) n k rest e c u = by_token refl (and_all {part = a.Unit (deep n k) 0} (unit_had h (deep n k) 0 mid e (closing_none (closing_left k c u)) (closing_left k c u)) (one_had {part = a.Closing n k} c))
 
   conjunction_had : {m : ℕ} {f : Formula} {tokens mid rest : List Lexeme} → SpellsConjunction m tokens f mid → Has (a.More m) mid rest → Untailed rest → First m tokens rest

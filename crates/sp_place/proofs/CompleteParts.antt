@@ -49,12 +49,12 @@ no_sort (without e) = by_parts (rw e refl) all_had
 
 pub has_variable : {tokens rest : List Lexeme} {v : Written} → SpellsVariable tokens v rest → Without (is_sign s.Colon) rest → Has a.Variable tokens rest
 has_variable (g.marked e n) d = by_token (rw (is_some_of e) refl) (one_had {part = a.Name} (has_name n))
-has_variable (g.plain n) d = by_token (rw n refl) (one_had {part = a.Sorted} (no_sort d))
+has_variable (g.unmarked n) d = by_token (rw n refl) (one_had {part = a.Sorted} (no_sort d))
 has_variable (g.sorted n e) d = by_token (rw n refl) (one_had {part = a.Sorted} (by_token refl (one_had (has_sort e))))
 
 pub variable_begins : {tokens rest : List Lexeme} {v : Written} (z : Sign) → mark_at z ≡ None → SpellsVariable tokens v rest → Without (is_sign z) tokens
 variable_begins z d (g.marked {x = y} e n) = without (no_mark y z e d)
-variable_begins z d (g.plain n) = without refl
+variable_begins z d (g.unmarked n) = without refl
 variable_begins z d (g.sorted n e) = without refl
 
 -- ---- terms
@@ -62,7 +62,7 @@ variable_begins z d (g.sorted n e) = without refl
 pub has_term : {n : ℕ} {tokens rest : List Lexeme} {x : Term Written} → SpellsTerm n tokens x rest → Without (is_sign s.Colon) rest → Has (a.Term n) tokens rest
 has_term g.fixed d = by_token refl all_had
 has_term (g.variable (g.marked {x = y} e n)) d = by_parts (rw (no_mark y s.Open e refl) refl) (one_had {part = a.Variable} (has_variable (g.marked e n) d))
-has_term (g.variable (g.plain n)) d = by_parts refl (one_had {part = a.Variable} (has_variable (g.plain n) d))
+has_term (g.variable (g.unmarked n)) d = by_parts refl (one_had {part = a.Variable} (has_variable (g.unmarked n) d))
 has_term (g.variable (g.sorted n e)) d = by_parts refl (one_had {part = a.Variable} (has_variable (g.sorted n e) d))
 has_term {n} (g.brackets lt h) d = by_token (rw (lt-ltb n 128 lt) refl) (and_all {part = a.Term (n + 1)} (has_term h (without refl)) (one_had {part = a.Exactly s.Close} (by_token refl all_had)))
 
@@ -99,7 +99,7 @@ has_fact (g.persistent e lt h) = by_token refl (and_all (has_fact_name e) (one_h
 
 after_binder : {tokens mid rest : List Lexeme} {v : Written} → SpellsVariable tokens v mid → Without (is_sign s.Colon) mid → Has a.Binders mid rest → Has a.Binders tokens rest
 after_binder (g.marked {x = y} e n) d b = by_token (rw (no_mark y s.Dot e refl, is_some_of e) refl) (and_all {part = a.Name} (has_name n) (one_had {part = a.Binders} b))
-after_binder (g.plain n) d b = by_token (rw n refl) (and_all {part = a.Sorted} (no_sort d) (one_had {part = a.Binders} b))
+after_binder (g.unmarked n) d b = by_token (rw n refl) (and_all {part = a.Sorted} (no_sort d) (one_had {part = a.Binders} b))
 after_binder (g.sorted n e) d b = by_token (rw n refl) (and_all {part = a.Sorted} (by_token refl (one_had (has_sort e))) (one_had {part = a.Binders} b))
 
 binders_begin : {tokens rest : List Lexeme} {vs : List Written} → SpellsBinders tokens vs rest → Without (is_sign s.Colon) tokens

@@ -177,7 +177,7 @@ truth_of_order {n} {k} (with_close {tokens = ts}) h = by_parts refl (one_had {pa
 
 pub unit_of_variable : {n k : ℕ} {tokens mid rest : List Lexeme} {v : Written} → SpellsVariable tokens v mid → GoesOn mid → Has (a.Order n k) mid rest → Has (a.Unit n k) tokens rest
 unit_of_variable {n} {k} (g.marked {x = y} e i) c h = by_token (rw (no_mark y s.Open e refl, is_some_of e) refl) (and_all {part = a.Name} (has_name i) (one_had {part = a.Order n k} h))
-unit_of_variable (g.plain i) c h = unit_word i (λ d. named_of_bare c (bare_of_order c h)) (λ d. bare_of_order c h) (truth_of_order c h)
+unit_of_variable (g.unmarked i) c h = unit_word i (λ d. named_of_bare c (bare_of_order c h)) (λ d. bare_of_order c h) (truth_of_order c h)
 unit_of_variable {n} {k} {rest = rest} (g.sorted {k = v} {rest = ts} i e) c h =
     let bare : Has (a.Bare n k) (sign s.Colon ∷ word v ∷ ts) rest = by_token refl (and_all (has_sort e) (one_had h)) in
     let named : Has (a.Named n k) (sign s.Colon ∷ word v ∷ ts) rest = by_parts refl (one_had bare) in

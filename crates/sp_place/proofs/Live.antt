@@ -117,8 +117,8 @@ never : {A : Type 0} → false ≡ true → A
 never e = absurd (let none : ⊥ = cc in none)
 
 -- a part that closes no formula
-plainly : {part : Awaited} {b : Bool} {tokens rest : List Lexeme} → closes_first part b ≡ false → Has part tokens rest → Finished part b rest
-plainly {tokens = ts} e h = record { tokens = ts; had = h; quiet = λ d. absurd (let none : ⊥ = cc in none) }
+finished_by : {part : Awaited} {b : Bool} {tokens rest : List Lexeme} → closes_first part b ≡ false → Has part tokens rest → Finished part b rest
+finished_by {tokens = ts} e h = record { tokens = ts; had = h; quiet = λ d. absurd (let none : ⊥ = cc in none) }
 
 quiet_sign : (y : Sign) {rest : List Lexeme} → is_closing y ≡ true → Quiet (sign y ∷ rest)
 quiet_sign s.Close e = quiet_close
@@ -133,44 +133,44 @@ end_theory rest = by_token refl (and_all (end_name (word (codes "begin") ∷ wor
 
 finish : (part : Awaited) (b : Bool) → Fits part b → (rest : List Lexeme) → (b ≡ true → Quiet rest) → Finished part b rest
 finish (a.Exactly y) b f rest q = record { tokens = sign y ∷ rest; had = end_exactly y rest; quiet = λ e. quiet_sign y e }
-finish a.Name b f rest q = plainly refl (end_name rest)
-finish a.Sort b f rest q = plainly refl (end_sort rest)
-finish a.FactName b f rest q = plainly refl (end_fact_name rest)
-finish a.Sorted b f rest q = plainly {tokens = sign s.Colon ∷ word (codes "msg") ∷ rest} refl (by_token refl (one_had (end_sort rest)))
-finish a.Variable b f rest q = plainly {tokens = sign s.Tilde ∷ word (codes "x") ∷ rest} refl (by_token refl (one_had (end_name rest)))
-finish (a.Term n) b f rest q = plainly {tokens = constant [] ∷ rest} refl (by_token refl all_had)
-finish (a.Arguments n) b f rest q = plainly {tokens = sign s.Close ∷ rest} refl (by_token refl all_had)
-finish (a.MoreArguments n) b f rest q = plainly {tokens = sign s.Close ∷ rest} refl (by_token refl all_had)
-finish (a.Fact n) b f rest q = plainly {tokens = sign s.Bang ∷ word (codes "A") ∷ sign s.Open ∷ sign s.Close ∷ rest} refl (by_token refl (and_all (end_fact_name (sign s.Open ∷ sign s.Close ∷ rest)) (one_had (end_opened n rest f))))
-finish (a.Opened n) b f rest q = plainly refl (end_opened n rest f)
-finish a.Binders b f rest q = plainly {tokens = sign s.Dot ∷ rest} refl (by_token refl all_had)
-finish (a.Negation n k) b f rest q = plainly refl (end_negation n k (q f.1)).1
-finish (a.Unit n k) b f rest q = plainly refl (end_unit n k (q f.1)).1
-finish (a.Side n k) b f rest q = plainly refl (other_side n k (q f.1)).1
-finish (a.Order n k) b f rest q = plainly refl (end_order n k (q f.1)).1
-finish (a.Bare n k) b f rest q = plainly refl (end_bare n k (q f.1)).1
-finish (a.Named n k) b f rest q = plainly refl (end_named n k (q f.1)).1
-finish (a.Truth n k) b f rest q = plainly refl (end_truth n k (q f.1)).1
-finish (a.Both n k) b f rest q = plainly refl (end_both n k (q f.1)).1
+finish a.Name b f rest q = finished_by refl (end_name rest)
+finish a.Sort b f rest q = finished_by refl (end_sort rest)
+finish a.FactName b f rest q = finished_by refl (end_fact_name rest)
+finish a.Sorted b f rest q = finished_by {tokens = sign s.Colon ∷ word (codes "msg") ∷ rest} refl (by_token refl (one_had (end_sort rest)))
+finish a.Variable b f rest q = finished_by {tokens = sign s.Tilde ∷ word (codes "x") ∷ rest} refl (by_token refl (one_had (end_name rest)))
+finish (a.Term n) b f rest q = finished_by {tokens = constant [] ∷ rest} refl (by_token refl all_had)
+finish (a.Arguments n) b f rest q = finished_by {tokens = sign s.Close ∷ rest} refl (by_token refl all_had)
+finish (a.MoreArguments n) b f rest q = finished_by {tokens = sign s.Close ∷ rest} refl (by_token refl all_had)
+finish (a.Fact n) b f rest q = finished_by {tokens = sign s.Bang ∷ word (codes "A") ∷ sign s.Open ∷ sign s.Close ∷ rest} refl (by_token refl (and_all (end_fact_name (sign s.Open ∷ sign s.Close ∷ rest)) (one_had (end_opened n rest f))))
+finish (a.Opened n) b f rest q = finished_by refl (end_opened n rest f)
+finish a.Binders b f rest q = finished_by {tokens = sign s.Dot ∷ rest} refl (by_token refl all_had)
+finish (a.Negation n k) b f rest q = finished_by refl (end_negation n k (q f.1)).1
+finish (a.Unit n k) b f rest q = finished_by refl (end_unit n k (q f.1)).1
+finish (a.Side n k) b f rest q = finished_by refl (other_side n k (q f.1)).1
+finish (a.Order n k) b f rest q = finished_by refl (end_order n k (q f.1)).1
+finish (a.Bare n k) b f rest q = finished_by refl (end_bare n k (q f.1)).1
+finish (a.Named n k) b f rest q = finished_by refl (end_named n k (q f.1)).1
+finish (a.Truth n k) b f rest q = finished_by refl (end_truth n k (q f.1)).1
+finish (a.Both n k) b f rest q = finished_by refl (end_both n k (q f.1)).1
 finish (a.Closing n k) b f rest q = closing_finished (q f.1)
 finish (a.More n) b f rest q = record { tokens = rest; had = end_more n (q f.1); quiet = q }
 finish (a.Twice n) b f rest q = record { tokens = rest; had = end_twice n (q f.1); quiet = q }
-finish a.Theory b f rest q = plainly refl (end_theory rest)
-finish a.Begin b f rest q = plainly {tokens = word (codes "begin") ∷ rest} refl (by_token refl all_had)
-finish a.Items b f rest q = plainly refl (end_items rest)
-finish a.FactList b f rest q = plainly {tokens = sign s.OpenList ∷ sign s.CloseList ∷ rest} refl (by_token refl (one_had (end_facts s.CloseList rest)))
-finish (a.Facts y) b f rest q = plainly refl (end_facts y rest)
-finish (a.MoreFacts y) b f rest q = plainly refl (end_more_facts y rest f)
-finish a.Arrow b f rest q = plainly {tokens = sign s.Arrow ∷ rest} refl (by_token refl all_had)
-finish a.Kind b f rest q = plainly {tokens = sign s.Quote ∷ rest} refl (by_token refl all_had)
-finish a.Traces b f rest q = plainly {tokens = word (codes "traces") ∷ rest} refl (by_token refl all_had)
-finish a.Trace b f rest q = plainly {tokens = word (codes "trace") ∷ rest} refl (by_token refl all_had)
-finish a.Below b f rest q = plainly {tokens = word (codes "end") ∷ rest} refl (by_parts refl (one_had (end_items rest)))
-finish a.Proof b f rest q = plainly {tokens = word (codes "SOLVED") ∷ rest} refl (by_token refl all_had)
-finish a.Behind b f rest q = plainly {tokens = word (codes "SOLVED") ∷ rest} refl (by_parts refl (one_had {part = a.Proof} (by_token refl all_had)))
-finish a.Case b f rest q = plainly {tokens = word (codes "case") ∷ rest} refl (by_token refl all_had)
-finish a.Cases b f rest q = plainly {tokens = word (codes "qed") ∷ rest} refl (by_token refl all_had)
-finish a.Method b f rest q = plainly {tokens = solve [] ∷ rest} refl (by_token refl all_had)
+finish a.Theory b f rest q = finished_by refl (end_theory rest)
+finish a.Begin b f rest q = finished_by {tokens = word (codes "begin") ∷ rest} refl (by_token refl all_had)
+finish a.Items b f rest q = finished_by refl (end_items rest)
+finish a.FactList b f rest q = finished_by {tokens = sign s.OpenList ∷ sign s.CloseList ∷ rest} refl (by_token refl (one_had (end_facts s.CloseList rest)))
+finish (a.Facts y) b f rest q = finished_by refl (end_facts y rest)
+finish (a.MoreFacts y) b f rest q = finished_by refl (end_more_facts y rest f)
+finish a.Arrow b f rest q = finished_by {tokens = sign s.Arrow ∷ rest} refl (by_token refl all_had)
+finish a.Kind b f rest q = finished_by {tokens = sign s.Quote ∷ rest} refl (by_token refl all_had)
+finish a.Traces b f rest q = finished_by {tokens = word (codes "traces") ∷ rest} refl (by_token refl all_had)
+finish a.Trace b f rest q = finished_by {tokens = word (codes "trace") ∷ rest} refl (by_token refl all_had)
+finish a.Below b f rest q = finished_by {tokens = word (codes "end") ∷ rest} refl (by_parts refl (one_had (end_items rest)))
+finish a.Proof b f rest q = finished_by {tokens = word (codes "SOLVED") ∷ rest} refl (by_token refl all_had)
+finish a.Behind b f rest q = finished_by {tokens = word (codes "SOLVED") ∷ rest} refl (by_parts refl (one_had {part = a.Proof} (by_token refl all_had)))
+finish a.Case b f rest q = finished_by {tokens = word (codes "case") ∷ rest} refl (by_token refl all_had)
+finish a.Cases b f rest q = finished_by {tokens = word (codes "qed") ∷ rest} refl (by_token refl all_had)
+finish a.Method b f rest q = finished_by {tokens = solve [] ∷ rest} refl (by_token refl all_had)
 
 record Lives (parts : List Awaited) : Type 0 where
   tokens : List Lexeme

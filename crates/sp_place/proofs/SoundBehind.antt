@@ -19,7 +19,7 @@ not_first : {n k : ℕ} {w : List ℕ} {tokens rest : List Lexeme} → w ≡ cod
 not_first {n} {k} {tokens = tokens} {rest = rest} e (and_then h (and_then c nothing)) = subst (λ (u : List ℕ). StartOf SpellsNegation n k (word u ∷ tokens) rest) (sym e) (formula_first (g.negated (lone_unit h).1) c)
 
 unit_first : {n k : ℕ} {tokens rest : List Lexeme} → StartOf SpellsUnit n k tokens rest → StartOf SpellsNegation n k tokens rest
-unit_first (formula_first h c) = formula_first (g.plain_unit h) c
+unit_first (formula_first h c) = formula_first (g.unit_alone h) c
 unit_first (term_first h c) = term_first h c
 
 pub sound_negation : (n k : ℕ) (x : Lexeme) → Sound (a.Negation n k) x (negation_move n k x)

@@ -24,14 +24,14 @@ lone_unit {n} {tokens} (term_first {x = x} h (equated {x = y} k e)) = (equals x 
 
 pub lone_negation : {n : ℕ} {tokens rest : List Lexeme} → StartOf SpellsNegation n zero tokens rest → Spelled (SpellsNegation n) tokens rest
 lone_negation {n} {tokens} (formula_first {f = f} h e) = (f, subst (λ (r : List Lexeme). SpellsNegation n tokens f r) e h)
-lone_negation {n} {tokens} (term_first {x = x} h (equated {x = y} k e)) = (equals x y, subst (λ (r : List Lexeme). SpellsNegation n tokens (equals x y) r) e (g.plain_unit (g.equation h k)))
+lone_negation {n} {tokens} (term_first {x = x} h (equated {x = y} k e)) = (equals x y, subst (λ (r : List Lexeme). SpellsNegation n tokens (equals x y) r) e (g.unit_alone (g.equation h k)))
 
 bracketed_first : {n k : ℕ} {f : Formula} {tokens mid rest : List Lexeme} → deep n k < 128 → SpellsNegation (deep n k + 1) tokens f mid → OneClosed (deep n k + 1) (ClosedOf n k) mid rest → StartOf SpellsUnit n k (sign s.Open ∷ tokens) rest
 bracketed_first lt h c = formula_first (g.bracketed lt (formula_of h c.more c.twice).1) c.others
 
 bracket_first : {n k : ℕ} {tokens rest : List Lexeme} → deep n k < 128 → StartOf SpellsNegation n (suc k) tokens rest → StartOf SpellsUnit n k (sign s.Open ∷ tokens) rest
 bracket_first lt (formula_first h c) = bracketed_first lt h c
-bracket_first lt (term_first h (inl (equated e c))) = bracketed_first lt (g.plain_unit (g.equation h e)) c
+bracket_first lt (term_first h (inl (equated e c))) = bracketed_first lt (g.unit_alone (g.equation h e)) c
 bracket_first lt (term_first h (inr (led k))) = term_first (g.brackets lt h) k
 
 variable_first : {n k : ℕ} {v : Written} {tokens mid rest : List Lexeme} → SpellsVariable tokens v mid → OrderOf n k mid rest → StartOf SpellsUnit n k tokens rest
@@ -40,7 +40,7 @@ variable_first h (as_term k) = term_first (g.variable h) k
 
 bare_first : {n k : ℕ} {w : List ℕ} {tokens rest : List Lexeme} → IsName w → BareOf n k tokens rest → StartOf SpellsUnit n k (word w ∷ tokens) rest
 bare_first e (of_sort i o) = variable_first (g.sorted e i) o
-bare_first e (of_none o) = variable_first (g.plain e) o
+bare_first e (of_none o) = variable_first (g.unmarked e) o
 
 named_first : {n k : ℕ} {w : List ℕ} {tokens rest : List Lexeme} → names_fact w ≡ true → NamedOf n k tokens rest → StartOf SpellsUnit n k (word w ∷ tokens) rest
 named_first e (as_fact lt h v c) = formula_first (g.action (g.linear e lt h) v) c

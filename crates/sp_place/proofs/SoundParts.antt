@@ -55,7 +55,7 @@ pub marked_variable : {y : Sign} {m : Mark} {tokens rest : List Lexeme} → mark
 marked_variable e (one_word n) = (_, g.marked e (name_is n))
 
 pub named_variable : {w : List ℕ} {tokens rest : List Lexeme} → IsName w → SortPart tokens rest → Spelled SpellsVariable (word w ∷ tokens) rest
-named_variable n unsorted = (_, g.plain n)
+named_variable n unsorted = (_, g.unmarked n)
 named_variable n (sorted (one_word {w = k} e)) = (_, g.sorted n (some_is (mark_of k) e).1)
 
 pub sound_variable : (x : Lexeme) → Sound a.Variable x (variable_move [] x)

@@ -117,19 +117,19 @@ sound_more_facts y (sign z) =
     (λ d. by_single (a.MoreFacts y) (sign z) (code z == code y) (λ e rest. subst (λ (u : Sign). AfterPart (SpellsFact 0) y (sign u ∷ rest) rest) (sym (same_sign z y e)) no_part))
 sound_more_facts y _ = tt
 
-plain_arrow : {tokens rest : List Lexeme} → tokens ≡ rest → Spelled SpellsArrow (sign s.Arrow ∷ tokens) rest
-plain_arrow {tokens} e = subst (λ (r : List Lexeme). Spelled SpellsArrow (sign s.Arrow ∷ tokens) r) e (_, g.unlabelled)
+arrow_unlabelled : {tokens rest : List Lexeme} → tokens ≡ rest → Spelled SpellsArrow (sign s.Arrow ∷ tokens) rest
+arrow_unlabelled {tokens} e = subst (λ (r : List Lexeme). Spelled SpellsArrow (sign s.Arrow ∷ tokens) r) e (_, g.unlabelled)
 
 labelled_arrow : {tokens rest : List Lexeme} → Spelled (AreItems (SpellsFact 0) s.CloseArrow) tokens rest → Spelled SpellsArrow (sign s.OpenArrow ∷ tokens) rest
 labelled_arrow h = (_, g.labelled h.1)
 
 pub sound_arrow : (x : Lexeme) → Sound a.Arrow x (arrow_move x)
-sound_arrow (sign s.Arrow) = λ ts r h. plain_arrow (nothing_is h)
+sound_arrow (sign s.Arrow) = λ ts r h. arrow_unlabelled (nothing_is h)
 sound_arrow (sign s.OpenArrow) = λ ts r h. labelled_arrow (one_is h)
 sound_arrow _ = tt
 
-plain_kind : {tokens rest : List Lexeme} → tokens ≡ rest → KindOf (sign s.Quote ∷ tokens) rest
-plain_kind {tokens} e = subst (λ (r : List Lexeme). KindOf (sign s.Quote ∷ tokens) r) e (all_traces, g.no_kind)
+kind_unsaid : {tokens rest : List Lexeme} → tokens ≡ rest → KindOf (sign s.Quote ∷ tokens) rest
+kind_unsaid {tokens} e = subst (λ (r : List Lexeme). KindOf (sign s.Quote ∷ tokens) r) e (all_traces, g.no_kind)
 
 named_all : {tokens rest : List Lexeme} → MeansAll (a.Exactly s.Dash ∷ a.Traces ∷ a.Exactly s.Quote ∷ []) tokens rest → KindOf (word (codes "all") ∷ tokens) rest
 named_all (and_then one_sign (and_then (one_word {w = w} {rest = ts} e) (and_then (one_sign {rest = r}) nothing))) = at_word (λ u. KindOf (word (codes "all") ∷ sign s.Dash ∷ word u ∷ sign s.Quote ∷ r) r) w (codes "traces") e (_, g.all_kind)
@@ -138,7 +138,7 @@ named_exists : {tokens rest : List Lexeme} → MeansAll (a.Exactly s.Dash ∷ a.
 named_exists (and_then one_sign (and_then (one_word {w = w} {rest = ts} e) (and_then (one_sign {rest = r}) nothing))) = at_word (λ u. KindOf (word (codes "exists") ∷ sign s.Dash ∷ word u ∷ sign s.Quote ∷ r) r) w (codes "trace") e (_, g.exists_kind)
 
 pub sound_kind : (x : Lexeme) → Sound a.Kind x (kind_move x)
-sound_kind (sign s.Quote) = λ ts r h. plain_kind (nothing_is h)
+sound_kind (sign s.Quote) = λ ts r h. kind_unsaid (nothing_is h)
 sound_kind (word w) =
     by_if S (bytes_eq w (codes "all")) (takes (a.Exactly s.Dash ∷ a.Traces ∷ a.Exactly s.Quote ∷ [])) _ (λ e ts r h. at_word (λ u. KindOf (word u ∷ ts) r) w (codes "all") e (named_all h))
     (λ q. by_if S (bytes_eq w (codes "exists")) (takes (a.Exactly s.Dash ∷ a.Trace ∷ a.Exactly s.Quote ∷ [])) stuck (λ e ts r h. at_word (λ u. KindOf (word u ∷ ts) r) w (codes "exists") e (named_exists h)) (λ e. tt))

@@ -11,18 +11,18 @@ use Rattle.sp_spec_text.specs.Lists.{IsNotFirst, NoReading}
 use Rattle.sp_read_parts.specs.Parts as f
 use Rattle.sp_read_parts.specs.Parts.{IsVariable, IsTerm, IsFact}
 use Rattle.sp_read_parts.specs.Reading.{two_sides, first, second, IsEquality, IsOrder, IsAction, IsConstant, true_word, false_word, IsAtom, all_word, ex_word, Joint, conjoint, disjoint, sign_of, Part, a_whole, Reads, grouped, bound, shallow, from_group, from_binding, positive, negative, chained, lone, implying, single, double, ended, went}
-use Rattle.sp_read_parts.proofs.One.{variable_sign, plain_sign, term_one, term_sign, fact_sign}
+use Rattle.sp_read_parts.proofs.One.{variable_sign, single_sign, term_one, term_sign, fact_sign}
 use Rattle.sp_read_parts.proofs.Atomic.{no_constant, or_else_none}
 
 -- ---- words
 
 pub variable_name : {w : List ℕ} {tokens rest : List Lexeme} {v : Written} → IsVariable (word w ∷ tokens) v rest → is_reserved w ≡ false
 variable_name (f.sorted (f.name h) e) = h
-variable_name (f.plain (f.name h) d) = h
+variable_name (f.unmarked (f.name h) d) = h
 
 pub variable_rest : {w : List ℕ} {tokens rest : List Lexeme} {v : Written} → IsVariable (word w ∷ tokens) v rest → IsNotFirst (sign s.Colon) tokens → tokens ≡ rest
 variable_rest (f.sorted {behind = b} (f.name h) e) c = absurd (c b refl)
-variable_rest (f.plain (f.name h) d) c = refl
+variable_rest (f.unmarked (f.name h) d) c = refl
 
 pub term_variable : {n : ℕ} {w : List ℕ} {tokens rest : List Lexeme} {x : Term Written} → IsTerm n (word w ∷ tokens) x rest → (v : Written) × IsVariable (word w ∷ tokens) v rest
 term_variable (f.unbracketed (f.variable {v = v} h)) = (v, h)
@@ -152,7 +152,7 @@ joint_not_close disjoint e d = cc
 
 -- where a term is followed by `)`, a formula that begins there ends with the term
 closes_at : {p : Part} {n : ℕ} {tokens r rest : List Lexeme} {x : Term Written} {g : Formula} → Reads p n tokens g rest → IsTerm n tokens x (sign s.Close ∷ r) → IsNotFirst (sign s.Colon) rest → rest ≡ sign s.Close ∷ r
-closes_at (grouped lu h) (f.unbracketed t) c = absurd (plain_sign refl t)
+closes_at (grouped lu h) (f.unbracketed t) c = absurd (single_sign refl t)
 closes_at (grouped lu h) (f.brackets lt t) c = let e = closes_at h t (λ r d. cc) in cc
 closes_at (bound lt all_word b h) t c = absurd (reserved_no_term all_is_reserved t)
 closes_at (bound lt ex_word b h) t c = absurd (reserved_no_term ex_is_reserved t)
@@ -169,7 +169,7 @@ closes_at (single h d) t c = closes_at h t c
 closes_at (double h i) t c = let e = closes_at h t (λ r d. cc) in absurd cc
 
 open_term : {n : ℕ} {tokens rest : List Lexeme} {x : Term Written} → IsTerm n (sign s.Open ∷ tokens) x rest → IsTerm (n + 1) tokens x (sign s.Close ∷ rest)
-open_term (f.unbracketed t) = absurd (plain_sign refl t)
+open_term (f.unbracketed t) = absurd (single_sign refl t)
 open_term (f.brackets lt t) = t
 
 -- a bracket that closes a formula, and no `=` behind it, opens no equality

@@ -7,6 +7,9 @@ use Rattle.sp_spec.specs.Formula.{Written, Formula, truth, falsity}
 use Rattle.sp_spec_text.specs.Lists.{IsNotFirst, NoReading}
 use Rattle.sp_read_parts.specs.Parts.{IsVariable, arguments, named, IsFact, linear, persistent, AreBinders}
 use Rattle.sp_read_parts.specs.Reading.{Infix, two_sides, OrElse, first, second, IsAction, IsConstant, true_word, false_word, IsAtom}
+use Rattle.sp_read_parts.specs.Formulas.{formula}
+use Rattle.sp_read_parts.specs.declared.written.ReadFormula.TheVariants.{True, False}
+use Rattle.sp_read_parts.proofs.Shown.{true_shown, false_shown}
 use Rattle.sp_read_parts.proofs.One.{One, terms, facts', variable_one, binders_one}
 
 pub variables' : One IsVariable
@@ -70,11 +73,11 @@ or_else_none {A} {P} {Q} n l = record { none = λ u r h. at h n l }
 
 -- ---- the four kinds
 
-pub constant_at_true : {tokens rest : List Lexeme} → tokens ≡ word (codes "T") ∷ rest → IsConstant tokens truth rest
-constant_at_true e = rw e true_word
+pub constant_at_true : {tokens rest : List Lexeme} → tokens ≡ word (codes "T") ∷ rest → IsConstant tokens (formula True) rest
+constant_at_true e = rw true_shown (rw e true_word)
 
-pub constant_at_false : {tokens rest : List Lexeme} → tokens ≡ word (codes "F") ∷ rest → IsConstant tokens falsity rest
-constant_at_false e = rw e false_word
+pub constant_at_false : {tokens rest : List Lexeme} → tokens ≡ word (codes "F") ∷ rest → IsConstant tokens (formula False) rest
+constant_at_false e = rw false_shown (rw e false_word)
 
 pub no_constant : {tokens : List Lexeme} → IsNotFirst (word (codes "T")) tokens → IsNotFirst (word (codes "F")) tokens → NoReading IsConstant tokens
 no_constant t f = record { none = λ u r h. at h t f }

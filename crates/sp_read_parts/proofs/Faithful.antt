@@ -60,7 +60,7 @@ mutual
   reads_spelled (shallow h) = atom_spelled h
   reads_spelled (from_group d h) = reads_spelled h
   reads_spelled (from_binding d h) = reads_spelled h
-  reads_spelled (positive d h) = g.plain_unit (reads_spelled h)
+  reads_spelled (positive d h) = g.unit_alone (reads_spelled h)
   reads_spelled (negative h) = g.negated (reads_spelled h)
   reads_spelled (chained {o = conjoint} h k) = g.conjunction (reads_spelled h) (goes_spelled k)
   reads_spelled (chained {o = disjoint} h k) = g.disjunction (reads_spelled h) (goes_spelled k)

@@ -6,6 +6,8 @@ pub mod Bindings
 pub mod Spelled
 pub mod Atomic
 pub mod OneFormula
+pub mod Shown
+pub mod Chains
 pub mod Stuck
 pub mod Faithful
 pub mod Apart

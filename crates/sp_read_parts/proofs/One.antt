@@ -9,7 +9,7 @@ use Rattle.sp_spec.specs.Formula.{Mark, Written}
 use Rattle.sp_spec_text.specs.Names.{mark_at}
 use Rattle.sp_spec_text.specs.Lists.{AreParts, last, next, AreItems, empty, some}
 use Rattle.sp_spec_text.specs.Shapes.{written, fact}
-use Rattle.sp_read_parts.specs.Parts.{IsNameFirst, name, IsSort, sort, IsVariable, marked, sorted, plain, IsPlainTerm, variable, fixed, IsTerm, unbracketed, brackets, AreArguments, arguments, IsNamedFact, named, IsFact, linear, persistent, AreBinders, one_binder, more_binders}
+use Rattle.sp_read_parts.specs.Parts.{IsNameFirst, name, IsSort, sort, IsVariable, marked, sorted, unmarked, IsSingleTerm, variable, fixed, IsTerm, unbracketed, brackets, AreArguments, arguments, IsNamedFact, named, IsFact, linear, persistent, AreBinders, one_binder, more_binders}
 
 -- what is read, and what follows it, are fixed by the tokens
 pub record One {A : Type 0} (R : List Lexeme → A → List Lexeme → Type 0) : Type 0 where
@@ -27,46 +27,46 @@ sort_one (sort e) (sort f) = (some_one e f, refl)
 pub variable_one : {tokens r q : List Lexeme} {v w : Written} → IsVariable tokens v r → IsVariable tokens w q → (v ≡ w) × (r ≡ q)
 variable_one (marked e h) (marked f k) = let o = name_one h k in let g = some_one e f in (rw (o.0, g) refl, o.1)
 variable_one (marked e h) (sorted k f) = elim k [ ]
-variable_one (marked e h) (plain k f) = elim k [ ]
+variable_one (marked e h) (unmarked k f) = elim k [ ]
 variable_one (sorted k f) (marked e h) = elim k [ ]
-variable_one (plain k f) (marked e h) = elim k [ ]
+variable_one (unmarked k f) (marked e h) = elim k [ ]
 variable_one (sorted (name {w = w} h) e) (sorted (name k) f) = let o = sort_one e f in (ap (written w) o.0, o.1)
-variable_one (sorted {behind = b} (name h) e) (plain (name k) f) = absurd (f b refl)
-variable_one (plain (name k) f) (sorted {behind = b} (name h) e) = absurd (f b refl)
-variable_one (plain (name h) e) (plain (name k) f) = (refl, refl)
+variable_one (sorted {behind = b} (name h) e) (unmarked (name k) f) = absurd (f b refl)
+variable_one (unmarked (name k) f) (sorted {behind = b} (name h) e) = absurd (f b refl)
+variable_one (unmarked (name h) e) (unmarked (name k) f) = (refl, refl)
 
 -- no variable begins with a constant or a goal, nor with a sign that marks none
 pub variable_constant : {c : List ℕ} {tokens r : List Lexeme} {v : Written} → IsVariable (constant c ∷ tokens) v r → ⊥
 variable_constant (sorted h e) = elim h [ ]
-variable_constant (plain h e) = elim h [ ]
+variable_constant (unmarked h e) = elim h [ ]
 
 pub variable_solve : {s : List ℕ} {tokens r : List Lexeme} {v : Written} → IsVariable (solve s ∷ tokens) v r → ⊥
 variable_solve (sorted h e) = elim h [ ]
-variable_solve (plain h e) = elim h [ ]
+variable_solve (unmarked h e) = elim h [ ]
 
 pub variable_sign : {x : Sign} {tokens r : List Lexeme} {v : Written} → mark_at x ≡ None → IsVariable (sign x ∷ tokens) v r → ⊥
 variable_sign n (marked e h) = let g = sym n ∙ e in cc
 variable_sign n (sorted h e) = elim h [ ]
-variable_sign n (plain h e) = elim h [ ]
+variable_sign n (unmarked h e) = elim h [ ]
 
-pub plain_one : {tokens r q : List Lexeme} {x y : Term Written} → IsPlainTerm tokens x r → IsPlainTerm tokens y q → (x ≡ y) × (r ≡ q)
-plain_one (variable h) (variable k) = let o = variable_one h k in (ap (λ (v : Written). var v) o.0, o.1)
-plain_one (variable h) fixed = absurd (variable_constant h)
-plain_one fixed (variable k) = absurd (variable_constant k)
-plain_one fixed fixed = (refl, refl)
+pub single_one : {tokens r q : List Lexeme} {x y : Term Written} → IsSingleTerm tokens x r → IsSingleTerm tokens y q → (x ≡ y) × (r ≡ q)
+single_one (variable h) (variable k) = let o = variable_one h k in (ap (λ (v : Written). var v) o.0, o.1)
+single_one (variable h) fixed = absurd (variable_constant h)
+single_one fixed (variable k) = absurd (variable_constant k)
+single_one fixed fixed = (refl, refl)
 
-pub plain_sign : {x : Sign} {tokens r : List Lexeme} {y : Term Written} → mark_at x ≡ None → IsPlainTerm (sign x ∷ tokens) y r → ⊥
-plain_sign e (variable h) = variable_sign e h
+pub single_sign : {x : Sign} {tokens r : List Lexeme} {y : Term Written} → mark_at x ≡ None → IsSingleTerm (sign x ∷ tokens) y r → ⊥
+single_sign e (variable h) = variable_sign e h
 
 pub term_one : {n : ℕ} {tokens r q : List Lexeme} {x y : Term Written} → IsTerm n tokens x r → IsTerm n tokens y q → (x ≡ y) × (r ≡ q)
-term_one (unbracketed h) (unbracketed k) = plain_one h k
-term_one (unbracketed h) (brackets lt k) = absurd (plain_sign refl h)
-term_one (brackets lt h) (unbracketed k) = absurd (plain_sign refl k)
+term_one (unbracketed h) (unbracketed k) = single_one h k
+term_one (unbracketed h) (brackets lt k) = absurd (single_sign refl h)
+term_one (brackets lt h) (unbracketed k) = absurd (single_sign refl k)
 term_one (brackets lt h) (brackets gt k) = let o = term_one h k in let e = o.1 in (o.0, cc)
 
 -- no term begins with a sign that neither marks a variable nor opens a bracket
 pub term_sign : {n : ℕ} {x : Sign} {tokens r : List Lexeme} {y : Term Written} → mark_at x ≡ None → (x ≡ s.Open → ⊥) → IsTerm n (sign x ∷ tokens) y r → ⊥
-term_sign e d (unbracketed h) = plain_sign e h
+term_sign e d (unbracketed h) = single_sign e h
 term_sign e d (brackets lt h) = d refl
 
 pub parts_one : {A : Type 0} {R : List Lexeme → A → List Lexeme → Type 0} {between close : Sign} → One R → (between ≡ close → ⊥) → {tokens r q : List Lexeme} {xs ys : List A}

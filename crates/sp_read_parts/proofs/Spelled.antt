@@ -14,7 +14,7 @@ use Rattle.sp_spec_text.specs.Formulas.{SpellsVariable, SpellsTerm, SpellsFact, 
 pub variable_spelled : {tokens rest : List Lexeme} {v : Written} → IsVariable tokens v rest → SpellsVariable tokens v rest
 variable_spelled (f.marked e (f.name h)) = g.marked e h
 variable_spelled (f.sorted (f.name h) (f.sort e)) = g.sorted h e
-variable_spelled (f.plain (f.name h) d) = g.plain h
+variable_spelled (f.unmarked (f.name h) d) = g.unmarked h
 
 pub term_spelled : {n : ℕ} {tokens rest : List Lexeme} {x : Term Written} → IsTerm n tokens x rest → SpellsTerm n tokens x rest
 term_spelled (f.unbracketed (f.variable h)) = g.variable (variable_spelled h)

@@ -10,8 +10,8 @@ use Rattle.sp_spec.specs.Formula.{Mark, Written}
 use Rattle.sp_spec_text.specs.Names.{IsName, names_fact, mark_of, mark_at}
 use Rattle.sp_spec_text.specs.Lists.{IsNotFirst, IsNoWord, NoReading, AreItems}
 use Rattle.sp_spec_text.specs.Shapes.{written, fact}
-use Rattle.sp_read_parts.specs.Parts.{IsNameFirst, name, IsSort, sort, IsVariable, marked, sorted, plain, IsPlainTerm, variable, fixed, IsTerm, unbracketed, brackets, AreArguments, arguments, IsNamedFact, named, IsFact, linear, persistent}
-use Rattle.sp_read_parts.proofs.One.{variable_constant, variable_solve, variable_sign, plain_sign, term_one}
+use Rattle.sp_read_parts.specs.Parts.{IsNameFirst, name, IsSort, sort, IsVariable, marked, sorted, unmarked, IsSingleTerm, variable, fixed, IsTerm, unbracketed, brackets, AreArguments, arguments, IsNamedFact, named, IsFact, linear, persistent}
+use Rattle.sp_read_parts.proofs.One.{variable_constant, variable_solve, variable_sign, single_sign, term_one}
 
 -- ---- names and variables
 
@@ -57,7 +57,7 @@ variable_nil e = record { none = λ v r h. at h e }
     at : {ts r : List Lexeme} {v : Written} → IsVariable ts v r → ts ≡ [] → ⊥
     at (marked m h) e = cc
     at (sorted (name h) m) e = cc
-    at (plain (name h) m) e = cc
+    at (unmarked (name h) m) e = cc
 
 pub variable_no_mark : {x : Sign} {tokens after : List Lexeme} → tokens ≡ sign x ∷ after → None ≡ mark_at x → NoReading IsVariable tokens
 variable_no_mark e n = record { none = λ v r h. variable_sign (sym n) (subst (λ (ts : List Lexeme). IsVariable ts v r) e h) }
@@ -68,7 +68,7 @@ variable_no_name e n = record { none = λ v r h. at (subst (λ (ts : List Lexeme
     at : {x : Sign} {ts r : List Lexeme} {v : Written} → IsVariable (sign x ∷ ts) v r → NoReading IsNameFirst ts → ⊥
     at (marked {w = w} {rest = r} m h) n = n.none w r h
     at (sorted h m) n = elim h [ ]
-    at (plain h m) n = elim h [ ]
+    at (unmarked h m) n = elim h [ ]
 
 pub variable_no_constant : {c : List ℕ} {tokens after : List Lexeme} → tokens ≡ constant c ∷ after → NoReading IsVariable tokens
 variable_no_constant e = record { none = λ v r h. variable_constant (subst (λ (ts : List Lexeme). IsVariable ts v r) e h) }
@@ -82,57 +82,57 @@ variable_reserved e n = record { none = λ v r h. at h e n }
     at : {ts r after : List Lexeme} {w : List ℕ} {v : Written} → IsVariable ts v r → ts ≡ word w ∷ after → NoReading IsNameFirst ts → ⊥
     at (marked m h) e n = cc
     at (sorted {w = w} h m) e n = n.none w _ h
-    at (plain {w = w} {rest = r} h m) e n = n.none w r h
+    at (unmarked {w = w} {rest = r} h m) e n = n.none w r h
 
 pub variable_no_sort : {w : List ℕ} {tokens mid behind : List Lexeme} → IsNameFirst tokens w mid → mid ≡ sign s.Colon ∷ behind → NoReading IsSort behind → NoReading IsVariable tokens
 variable_no_sort h e n = record { none = λ v r k. at h e n k }
   where
     at : {w : List ℕ} {tokens mid behind rest : List Lexeme} {v : Written} → IsNameFirst tokens w mid → mid ≡ sign s.Colon ∷ behind → NoReading IsSort behind → IsVariable tokens v rest → ⊥
     at (name i) e n (sorted {m = m} {behind = b} {rest = r} (name h) k) = n.none m r (subst (λ (ts : List Lexeme). IsSort ts m r) (cc) k)
-    at {behind = b} (name i) e n (plain (name h) d) = d b e
+    at {behind = b} (name i) e n (unmarked (name h) d) = d b e
 
 pub ruleset names = (name_at, name_no_word, name_reserved)
 
 pub ruleset sorts = (sort_at, sort_no_word, sort_unknown)
 
-pub ruleset variables = (marked_at, sorted_at, plain, variable_nil, variable_no_mark, variable_no_name, variable_no_constant, variable_no_solve, variable_reserved, variable_no_sort)
+pub ruleset variables = (marked_at, sorted_at, unmarked, variable_nil, variable_no_mark, variable_no_name, variable_no_constant, variable_no_solve, variable_reserved, variable_no_sort)
 
 -- ---- terms and facts
 
-pub fixed_at : {c : List ℕ} {tokens rest : List Lexeme} → tokens ≡ constant c ∷ rest → IsPlainTerm tokens (t.constant c) rest
+pub fixed_at : {c : List ℕ} {tokens rest : List Lexeme} → tokens ≡ constant c ∷ rest → IsSingleTerm tokens (t.constant c) rest
 fixed_at e = rw e fixed
 
-pub plain_nil : {tokens : List Lexeme} → tokens ≡ [] → NoReading IsPlainTerm tokens
-plain_nil e = record { none = λ x r h. at h e }
+pub single_nil : {tokens : List Lexeme} → tokens ≡ [] → NoReading IsSingleTerm tokens
+single_nil e = record { none = λ x r h. at h e }
   where
-    at : {ts r : List Lexeme} {x : Term Written} → IsPlainTerm ts x r → ts ≡ [] → ⊥
+    at : {ts r : List Lexeme} {x : Term Written} → IsSingleTerm ts x r → ts ≡ [] → ⊥
     at (variable {v = v} {rest = r} h) e = (variable_nil e).none v r h
     at fixed e = cc
 
--- a plain term that does not begin with a constant is a variable
-no_plain : {first : Lexeme} {tokens after : List Lexeme} → ((c : List ℕ) → first ≡ constant c → ⊥) → tokens ≡ first ∷ after → NoReading IsVariable tokens → NoReading IsPlainTerm tokens
-no_plain {first} d e n = record { none = λ x r h. at h e n d }
+-- a variable or a constant that does not begin with a constant is a variable
+no_single : {first : Lexeme} {tokens after : List Lexeme} → ((c : List ℕ) → first ≡ constant c → ⊥) → tokens ≡ first ∷ after → NoReading IsVariable tokens → NoReading IsSingleTerm tokens
+no_single {first} d e n = record { none = λ x r h. at h e n d }
   where
-    at : {first : Lexeme} {ts r after : List Lexeme} {x : Term Written} → IsPlainTerm ts x r → ts ≡ first ∷ after → NoReading IsVariable ts → ((c : List ℕ) → first ≡ constant c → ⊥) → ⊥
+    at : {first : Lexeme} {ts r after : List Lexeme} {x : Term Written} → IsSingleTerm ts x r → ts ≡ first ∷ after → NoReading IsVariable ts → ((c : List ℕ) → first ≡ constant c → ⊥) → ⊥
     at (variable {v = v} {rest = r} h) e n d = n.none v r h
     at (fixed {c = c}) e n d = d c cc
 
-pub plain_no_word : {w : List ℕ} {tokens after : List Lexeme} → tokens ≡ word w ∷ after → NoReading IsVariable tokens → NoReading IsPlainTerm tokens
-plain_no_word e n = no_plain (λ c g. cc) e n
+pub single_no_word : {w : List ℕ} {tokens after : List Lexeme} → tokens ≡ word w ∷ after → NoReading IsVariable tokens → NoReading IsSingleTerm tokens
+single_no_word e n = no_single (λ c g. cc) e n
 
-pub plain_no_sign : {x : Sign} {tokens after : List Lexeme} → tokens ≡ sign x ∷ after → NoReading IsVariable tokens → NoReading IsPlainTerm tokens
-plain_no_sign e n = no_plain (λ c g. cc) e n
+pub single_no_sign : {x : Sign} {tokens after : List Lexeme} → tokens ≡ sign x ∷ after → NoReading IsVariable tokens → NoReading IsSingleTerm tokens
+single_no_sign e n = no_single (λ c g. cc) e n
 
-pub plain_no_solve : {s : List ℕ} {tokens after : List Lexeme} → tokens ≡ solve s ∷ after → NoReading IsPlainTerm tokens
-plain_no_solve e = no_plain (λ c g. cc) e (variable_no_solve e)
+pub single_no_solve : {s : List ℕ} {tokens after : List Lexeme} → tokens ≡ solve s ∷ after → NoReading IsSingleTerm tokens
+single_no_solve e = no_single (λ c g. cc) e (variable_no_solve e)
 
 pub brackets_at : {n : ℕ} {x : Term Written} {tokens inside ahead rest : List Lexeme} → tokens ≡ sign s.Open ∷ inside → n < 128 → IsTerm (n + 1) inside x ahead → ahead ≡ sign s.Close ∷ rest → IsTerm n tokens x rest
 brackets_at e lt h f = rw e (brackets lt (rw f at h))
 
-pub term_no_plain : {n : ℕ} {tokens : List Lexeme} → IsNotFirst (sign s.Open) tokens → NoReading IsPlainTerm tokens → NoReading (IsTerm n) tokens
-term_no_plain {n} d k = record { none = λ x r h. at h d k }
+pub term_no_single : {n : ℕ} {tokens : List Lexeme} → IsNotFirst (sign s.Open) tokens → NoReading IsSingleTerm tokens → NoReading (IsTerm n) tokens
+term_no_single {n} d k = record { none = λ x r h. at h d k }
   where
-    at : {ts r : List Lexeme} {x : Term Written} → IsTerm n ts x r → IsNotFirst (sign s.Open) ts → NoReading IsPlainTerm ts → ⊥
+    at : {ts r : List Lexeme} {x : Term Written} → IsTerm n ts x r → IsNotFirst (sign s.Open) ts → NoReading IsSingleTerm ts → ⊥
     at (unbracketed {x = x} {rest = r} h) d k = k.none x r h
     at (brackets {tokens = ts} lt h) d k = d ts refl
 
@@ -140,7 +140,7 @@ under_bracket : {n : ℕ} {tokens inside rest : List Lexeme} {x : Term Written} 
 under_bracket {n} {rest = rest} {x = x} e h = at (subst (λ (ts : List Lexeme). IsTerm n ts x rest) e h)
   where
     at : {n : ℕ} {inside rest : List Lexeme} {x : Term Written} → IsTerm n (sign s.Open ∷ inside) x rest → (n < 128) × IsTerm (n + 1) inside x (sign s.Close ∷ rest)
-    at (unbracketed h) = absurd (plain_sign refl h)
+    at (unbracketed h) = absurd (single_sign refl h)
     at (brackets lt h) = (lt, h)
 
 pub term_too_deep : {n : ℕ} {tokens inside : List Lexeme} → tokens ≡ sign s.Open ∷ inside → 128 ≤ n → NoReading (IsTerm n) tokens
@@ -205,9 +205,9 @@ no_linear {n} d k = record { none = λ x r h. at h d k }
     at (linear {f = f} {rest = r} h) d k = k.none f r h
     at (persistent {tokens = ts} h) d k = d ts refl
 
-pub ruleset plain_terms = (variable, fixed_at, plain_nil, plain_no_word, plain_no_sign, plain_no_solve)
+pub ruleset single_terms = (variable, fixed_at, single_nil, single_no_word, single_no_sign, single_no_solve)
 
-pub ruleset bracketed_terms = (unbracketed, brackets_at, term_no_plain, term_too_deep, term_no_inside, term_unclosed)
+pub ruleset bracketed_terms = (unbracketed, brackets_at, term_no_single, term_too_deep, term_no_inside, term_unclosed)
 
 pub ruleset argument_lists = (arguments_at, no_arguments, no_argument_list)
 

@@ -7,6 +7,7 @@ use Rattle.sp_spec_text.specs.Lists.{IsNotFirst, NoReading}
 use Rattle.sp_read_parts.specs.Parts.{AreBinders}
 use Rattle.sp_spec_text.specs.Formulas.{equivalent}
 use Rattle.sp_read_parts.specs.Reading.{IsAtom, IsQuantifier, bind, Joint, disjoint, sign_of, join, a_group, a_binding, a_unit, a_negation, a_chain, an_implication, a_whole, below, Reads, grouped, bound, shallow, from_group, from_binding, positive, negative, chained, lone, implying, single, double, GoesOn, ended, went}
+use Rattle.sp_read_parts.proofs.Chains.{chain_pushed}
 use Rattle.sp_read_parts.proofs.One.{binders_one}
 use Rattle.sp_read_parts.proofs.OneFormula.{quantifier_one, reads_one}
 
@@ -153,7 +154,7 @@ no_chain o {n} k = record { none = λ g r h. at h k }
     at : {ts r : List Lexeme} {g : Formula} → Reads (a_chain o) n ts g r → NoReading (Reads (below o) n) ts → ⊥
     at (chained {f = x} {mid = m} i j) k = k.none x m i
 
-pub ruleset chains = (joined_first, joined_more, joined_end, joined_no_part, no_chain)
+pub ruleset chains = (joined_first, joined_more, chain_pushed, joined_end, joined_no_part, no_chain)
 
 -- ---- implications and whole formulas
 

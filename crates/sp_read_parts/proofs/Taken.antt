@@ -23,7 +23,7 @@ use Rattle.sp_read_parts.proofs.Apart.{no_equality_word, no_order_word, no_actio
 
 variable_taken : {tokens rest : List Lexeme} {v : Written} → SpellsVariable tokens v rest → IsNotFirst (sign s.Colon) rest → IsVariable tokens v rest
 variable_taken (g.marked e h) d = f.marked e (f.name h)
-variable_taken (g.plain h) d = f.plain (f.name h) d
+variable_taken (g.unmarked h) d = f.unmarked (f.name h) d
 variable_taken (g.sorted h e) d = f.sorted (f.name h) (f.sort e)
 
 term_taken : {n : ℕ} {tokens rest : List Lexeme} {x : Term Written} → SpellsTerm n tokens x rest → IsNotFirst (sign s.Colon) rest → IsTerm n tokens x rest
@@ -45,7 +45,7 @@ fact_taken (g.persistent e lt h) = f.persistent (f.named e (f.arguments lt (item
 
 variable_not_colon : {tokens rest : List Lexeme} {v : Written} → SpellsVariable tokens v rest → IsNotFirst (sign s.Colon) tokens
 variable_not_colon (g.marked {x = x} {m = m} e h) = λ r d. let i : x ≡ s.Colon = cc in let j : mark_at s.Colon ≡ Some m = subst (λ (y : Sign). mark_at y ≡ Some m) i e in cc
-variable_not_colon (g.plain h) = λ r d. cc
+variable_not_colon (g.unmarked h) = λ r d. cc
 variable_not_colon (g.sorted h e) = λ r d. cc
 
 binders_not_colon : {tokens rest : List Lexeme} {vs : List Written} → SpellsBinders tokens vs rest → IsNotFirst (sign s.Colon) tokens
@@ -60,7 +60,7 @@ binders_taken (g.more_binders h k) = f.more_binders (variable_taken h (binders_n
 
 variable_is_name : {w : List ℕ} {tokens rest after : List Lexeme} {v : Written} → SpellsVariable tokens v rest → tokens ≡ word w ∷ after → is_reserved w ≡ false
 variable_is_name (g.marked e h) d = cc
-variable_is_name {w} (g.plain {w = u} h) d = let i : u ≡ w = cc in subst (λ (y : List ℕ). is_reserved y ≡ false) i h
+variable_is_name {w} (g.unmarked {w = u} h) d = let i : u ≡ w = cc in subst (λ (y : List ℕ). is_reserved y ≡ false) i h
 variable_is_name {w} (g.sorted {w = u} h e) d = let i : u ≡ w = cc in subst (λ (y : List ℕ). is_reserved y ≡ false) i h
 
 not_no_variable : {tokens rest after : List Lexeme} {v : Written} → SpellsVariable tokens v rest → tokens ≡ word (codes "not") ∷ after → ⊥
@@ -146,7 +146,7 @@ mutual
   unit_taken (g.order h k) t = let i = variable_taken h (λ r e. cc) in shallow (second (less_no_equality i) (first (two_sides i (variable_taken k t.no_colon))))
 
   negation_taken : {n : ℕ} {x : Formula} {tokens rest : List Lexeme} → SpellsNegation n tokens x rest → NoTail rest → Reads a_negation n tokens x rest
-  negation_taken (g.plain_unit h) t = positive (unit_not_negated h) (unit_taken h t)
+  negation_taken (g.unit_alone h) t = positive (unit_not_negated h) (unit_taken h t)
   negation_taken (g.negated h) t = negative (unit_taken h t)
 
   conjunction_taken : {n : ℕ} {x : Formula} {tokens rest : List Lexeme} → SpellsConjunction n tokens x rest → NoTail rest → IsNotFirst (sign s.And) rest → Reads (a_chain conjoint) n tokens x rest

@@ -1,24 +1,33 @@
 -- What a formula in memory stands for.
-use Rattle.std.specs.Prelude.{map}
+use Rattle.std.specs.Prelude.{List, [], ◌∷◌, map}
 use Rattle.sp_spec.specs.Formula as f
 use Rattle.sp_spec.specs.Formula.{Formula}
 use Rattle.sp_spec_text.specs.Shapes.{quantified}
 use Rattle.sp_spec_text.specs.Formulas.{quantified_some, equivalent}
-use Rattle.sp_read_parts.specs.Reading.{happening_of}
+use Rattle.sp_read_parts.specs.Reading.{happening_of, Joint, conjoint, disjoint, join}
 use Rattle.sp_read_parts.specs.Views.{variable, term, fact_of}
-use Rattle.sp_read_parts.specs.declared.written.ReadFormula.{ReadFormula}
-use Rattle.sp_read_parts.specs.declared.written.ReadFormula as v
+use Rattle.sp_read_parts.specs.declared.written.ReadFormula.{ReadFormula, fold-ReadFormula}
+use Rattle.sp_read_parts.specs.declared.written.ReadFormula.TheOpen.{ReadFormula-F}
+
+-- a formula and those behind it, grouped to the left
+abbrev pub chain : Joint → Formula → List Formula → Formula
+chain o f [] = f
+chain o f (g ∷ gs) = chain o (join o f g) gs
+
+-- one level, with each formula inside already seen
+abbrev pub formula_step : ReadFormula-F Formula → Formula
+formula_step ReadFormula-F.True = f.truth
+formula_step ReadFormula-F.False = f.falsity
+formula_step (ReadFormula-F.Happens x t) = happening_of (fact_of x) (variable t)
+formula_step (ReadFormula-F.Equals a b) = f.equals (term a) (term b)
+formula_step (ReadFormula-F.Precedes a b) = f.precedes (variable a) (variable b)
+formula_step (ReadFormula-F.Not a) = f.not_so a.value
+formula_step (ReadFormula-F.Both a b more) = chain conjoint (f.both a.value b.value) more.items
+formula_step (ReadFormula-F.Either a b more) = chain disjoint (f.either a.value b.value) more.items
+formula_step (ReadFormula-F.Implies a b) = f.implies a.value b.value
+formula_step (ReadFormula-F.Equivalent a b) = equivalent a.value b.value
+formula_step (ReadFormula-F.ForAll vs a) = quantified (map variable vs.items) a.value
+formula_step (ReadFormula-F.ForSome vs a) = quantified_some (map variable vs.items) a.value
 
 abbrev pub formula : ReadFormula → Formula
-formula v.True = f.truth
-formula v.False = f.falsity
-formula (v.Happens x t) = happening_of (fact_of x) (variable t)
-formula (v.Equals a b) = f.equals (term a) (term b)
-formula (v.Precedes a b) = f.precedes (variable a) (variable b)
-formula (v.Not' p a) = f.not_so (formula a)
-formula (v.Both' p a q b) = f.both (formula a) (formula b)
-formula (v.Either' p a q b) = f.either (formula a) (formula b)
-formula (v.Implies' p a q b) = f.implies (formula a) (formula b)
-formula (v.Equivalent' p a q b) = equivalent (formula a) (formula b)
-formula (v.ForAll' vs p a) = quantified (map variable vs.items) (formula a)
-formula (v.ForSome' vs p a) = quantified_some (map variable vs.items) (formula a)
+formula = fold-ReadFormula Formula formula_step

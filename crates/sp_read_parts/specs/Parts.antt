@@ -22,15 +22,16 @@ pub data IsSort : List Lexeme → Mark → List Lexeme → Type 0 where
 pub data IsVariable : List Lexeme → Written → List Lexeme → Type 0 where
   marked : {x : Sign} {m : Mark} {w : List ℕ} {tokens rest : List Lexeme} → mark_at x ≡ Some m → IsNameFirst tokens w rest → IsVariable (sign x ∷ tokens) (written w m) rest
   sorted : {w : List ℕ} {m : Mark} {tokens behind rest : List Lexeme} → IsNameFirst tokens w (sign s.Colon ∷ behind) → IsSort behind m rest → IsVariable tokens (written w m) rest
-  plain : {w : List ℕ} {tokens rest : List Lexeme} → IsNameFirst tokens w rest → IsNotFirst (sign s.Colon) rest → IsVariable tokens (written w bare) rest
+  unmarked : {w : List ℕ} {tokens rest : List Lexeme} → IsNameFirst tokens w rest → IsNotFirst (sign s.Colon) rest → IsVariable tokens (written w bare) rest
 
-pub data IsPlainTerm : List Lexeme → Term Written → List Lexeme → Type 0 where
-  variable : {v : Written} {tokens rest : List Lexeme} → IsVariable tokens v rest → IsPlainTerm tokens (var v) rest
-  fixed : {c : List ℕ} {rest : List Lexeme} → IsPlainTerm (constant c ∷ rest) (t.constant c) rest
+-- a variable or a constant
+pub data IsSingleTerm : List Lexeme → Term Written → List Lexeme → Type 0 where
+  variable : {v : Written} {tokens rest : List Lexeme} → IsVariable tokens v rest → IsSingleTerm tokens (var v) rest
+  fixed : {c : List ℕ} {rest : List Lexeme} → IsSingleTerm (constant c ∷ rest) (t.constant c) rest
 
 -- a term at this nesting, which counts the brackets around it
 pub data IsTerm : ℕ → List Lexeme → Term Written → List Lexeme → Type 0 where
-  unbracketed : {n : ℕ} {x : Term Written} {tokens rest : List Lexeme} → IsPlainTerm tokens x rest → IsTerm n tokens x rest
+  unbracketed : {n : ℕ} {x : Term Written} {tokens rest : List Lexeme} → IsSingleTerm tokens x rest → IsTerm n tokens x rest
   brackets : {n : ℕ} {x : Term Written} {tokens rest : List Lexeme} → n < 128 → IsTerm (n + 1) tokens x (sign s.Close ∷ rest) → IsTerm n (sign s.Open ∷ tokens) x rest
 
 -- behind the name of a fact

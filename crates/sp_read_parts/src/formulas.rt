@@ -55,30 +55,32 @@ fn negated<'a>(alloc: Global, found: ReadFormula<'a>) -> Result<ReadFormula<'a>,
     Ok(ReadFormula::Not(denied))
 }
 
-/// Both of them.
-fn both<'a>(
+/// All of them.
+fn all_of<'a>(
     alloc: Global,
     left: ReadFormula<'a>,
     right: ReadFormula<'a>,
+    more: Vec<ReadFormula<'a>>,
 ) -> Result<ReadFormula<'a>, AllocError>
-    ensures { IfOk result (λ x. view.formula x ≡ both (view.formula left.entry) (view.formula right.entry)) }
+    ensures { IfOk result (λ x. view.formula x ≡ view.chain conjoint (both (view.formula left.entry) (view.formula right.entry)) (map view.formula more.entry.items)) }
 {
     let first = Box::new(alloc, left)?;
     let second = Box::new(alloc, right)?;
-    Ok(ReadFormula::Both(first, second))
+    Ok(ReadFormula::Both(first, second, more))
 }
 
-/// One of them, or both.
-fn either<'a>(
+/// One of them.
+fn one_of<'a>(
     alloc: Global,
     left: ReadFormula<'a>,
     right: ReadFormula<'a>,
+    more: Vec<ReadFormula<'a>>,
 ) -> Result<ReadFormula<'a>, AllocError>
-    ensures { IfOk result (λ x. view.formula x ≡ either (view.formula left.entry) (view.formula right.entry)) }
+    ensures { IfOk result (λ x. view.formula x ≡ view.chain disjoint (either (view.formula left.entry) (view.formula right.entry)) (map view.formula more.entry.items)) }
 {
     let first = Box::new(alloc, left)?;
     let second = Box::new(alloc, right)?;
-    Ok(ReadFormula::Either(first, second))
+    Ok(ReadFormula::Either(first, second, more))
 }
 
 /// The first implies the second.
@@ -228,16 +230,23 @@ fn conjunction<'a>(
     let Some((first, next)) = negation(alloc, nesting, tokens, at)? else {
         return Ok(None);
     };
-    let mut left = first;
-    let mut rest = next;
-    while let Some(more) = after(Sign::And, tokens, rest) {
-        let Some((right, ahead)) = negation(alloc, nesting, tokens, more)? else {
+    let Some(behind) = after(Sign::And, tokens, next) else {
+        return Ok(Some((first, next)));
+    };
+    let Some((second, ahead)) = negation(alloc, nesting, tokens, behind)? else {
+        return Ok(None);
+    };
+    let mut more = Vec::new(alloc);
+    let mut rest = ahead;
+    while let Some(behind) = after(Sign::And, tokens, rest) {
+        let Some((right, ahead)) = negation(alloc, nesting, tokens, behind)? else {
             return Ok(None);
         };
-        left = both(alloc, left, right)?;
+        more.push(right)?;
         rest = ahead;
     }
-    Ok(Some((left, rest)))
+    let made = all_of(alloc, first, second, more)?;
+    Ok(Some((made, rest)))
 }
 
 /// Conjunctions joined by `|`, and the place behind them.
@@ -256,16 +265,23 @@ fn disjunction<'a>(
     let Some((first, next)) = conjunction(alloc, nesting, tokens, at)? else {
         return Ok(None);
     };
-    let mut left = first;
-    let mut rest = next;
-    while let Some(more) = after(Sign::Or, tokens, rest) {
-        let Some((right, ahead)) = conjunction(alloc, nesting, tokens, more)? else {
+    let Some(behind) = after(Sign::Or, tokens, next) else {
+        return Ok(Some((first, next)));
+    };
+    let Some((second, ahead)) = conjunction(alloc, nesting, tokens, behind)? else {
+        return Ok(None);
+    };
+    let mut more = Vec::new(alloc);
+    let mut rest = ahead;
+    while let Some(behind) = after(Sign::Or, tokens, rest) {
+        let Some((right, ahead)) = conjunction(alloc, nesting, tokens, behind)? else {
             return Ok(None);
         };
-        left = either(alloc, left, right)?;
+        more.push(right)?;
         rest = ahead;
     }
-    Ok(Some((left, rest)))
+    let made = one_of(alloc, first, second, more)?;
+    Ok(Some((made, rest)))
 }
 
 /// A disjunction, or one that implies what follows, and the place behind it.

@@ -1,7 +1,7 @@
 ghost use Rattle.sp_spec_text.specs.Signs as signs;
 ghost use Rattle.std.specs.Prelude.{◌≡◌, [], ◌∷◌, MatchOption, IfSome, IfOk, OnOk, map, ◌++◌, ◌≤◌, ◌<◌, length};
 ghost use Rattle.sp_spec_text.specs.Lists.{NoReading, AreParts, AreItems};
-ghost use Rattle.sp_read_parts.specs.Parts.{IsNameFirst, IsSort, IsVariable, IsPlainTerm, IsTerm};
+ghost use Rattle.sp_read_parts.specs.Parts.{IsNameFirst, IsSort, IsVariable, IsSingleTerm, IsTerm};
 ghost use Rattle.sp_read_parts.specs.Views as view;
 ghost use Rattle.sp_read_parts.specs.Views.{seen_from};
 
@@ -72,9 +72,9 @@ pub fn variable<'a>(tokens: &[Token<'a>], at: usize) -> Option<(WrittenVariable<
 pub const LIMIT: u32 = 128;
 
 /// A variable or a constant, and the tokens behind it.
-#[tactic(auto, using(crate::proofs::Steps::plain_terms))]
-pub fn plain_term<'a>(tokens: &[Token<'a>], at: usize) -> Option<(WrittenTerm<'a>, usize)>
-    ensures value { MatchOption result (NoReading IsPlainTerm (seen_from tokens.now at)) (λ x. IsPlainTerm (seen_from tokens.now at) (view.term x.0) (seen_from tokens.now x.1)) }
+#[tactic(auto, using(crate::proofs::Steps::single_terms))]
+pub fn single_term<'a>(tokens: &[Token<'a>], at: usize) -> Option<(WrittenTerm<'a>, usize)>
+    ensures value { MatchOption result (NoReading IsSingleTerm (seen_from tokens.now at)) (λ x. IsSingleTerm (seen_from tokens.now at) (view.term x.0) (seen_from tokens.now x.1)) }
     ensures further { IfSome result (λ x. (at < x.1) × (x.1 ≤ length tokens.now)) }
 {
     let (first, behind) = split(tokens, at)?;
@@ -100,7 +100,7 @@ pub fn term<'a>(nesting: u32, tokens: &[Token<'a>], at: usize) -> Option<(Writte
     ensures further { IfSome result (λ x. (at < x.1) × (x.1 ≤ length tokens.now)) }
 {
     let Some(inside) = after(Sign::Open, tokens, at) else {
-        let (found, rest) = plain_term(tokens, at)?;
+        let (found, rest) = single_term(tokens, at)?;
         return Some((found, rest));
     };
     if nesting >= LIMIT {

@@ -54,8 +54,10 @@ pub enum ReadFormula<'a> {
     Equals(WrittenTerm<'a>, WrittenTerm<'a>),
     Precedes(WrittenVariable<'a>, WrittenVariable<'a>),
     Not(Box<ReadFormula<'a>>),
-    Both(Box<ReadFormula<'a>>, Box<ReadFormula<'a>>),
-    Either(Box<ReadFormula<'a>>, Box<ReadFormula<'a>>),
+    /// All of them: two, and those that follow.
+    Both(Box<ReadFormula<'a>>, Box<ReadFormula<'a>>, Vec<ReadFormula<'a>>),
+    /// One of them: two, and those that follow.
+    Either(Box<ReadFormula<'a>>, Box<ReadFormula<'a>>, Vec<ReadFormula<'a>>),
     Implies(Box<ReadFormula<'a>>, Box<ReadFormula<'a>>),
     /// Each implies the other.
     Equivalent(Box<ReadFormula<'a>>, Box<ReadFormula<'a>>),

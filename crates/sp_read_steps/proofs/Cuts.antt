@@ -1,8 +1,9 @@
 -- A text is its first line, and those behind the line feed.
-use Rattle.std.proofs.Common.{◌≡◌, ℕ, suc, ◌-◌, ◌≤◌, Bool, true, false, cond, List, [], ◌∷◌, length, Some, None, refl, sym, ap, ◌∙◌, arith}
+use Rattle.std.proofs.Common.{◌≡◌, ℕ, ◌≤◌, Bool, true, false, cond, List, [], ◌∷◌, length, Some, None, refl, sym, ap, ◌∙◌, arith}
 use Rattle.std.specs.Prelude.{◌==◌}
 use Rattle.sp_spec_text.specs.Lex.{before}
-use Rattle.sp_read_steps.specs.Lines.{lines, onto_first}
+use Rattle.sp_spec_text.specs.Blanks.{lines, onto_first}
+use Rattle.sp_spec_text.proofs.Rests.{before_self, before_more}
 use Rattle.sp_read_steps.specs.Reading.{to_feed, then_lines}
 
 feed_shorter : (text : List ℕ) → length (to_feed text) ≤ length text
@@ -13,12 +14,6 @@ feed_shorter (b ∷ bytes) = by_test (b == 10) (feed_shorter bytes)
     by_test : (t : Bool) → length (to_feed bytes) ≤ length bytes → length (cond t (b ∷ bytes) (to_feed bytes)) ≤ length (b ∷ bytes)
     by_test true h = omega arith
     by_test false h = omega arith
-
-pub before_self : (bytes : List ℕ) → before bytes bytes ≡ []
-before_self bytes = let e : length bytes - length bytes ≡ 0 = omega arith in rw e refl
-
-pub before_more : (b : ℕ) (bytes rest : List ℕ) → length rest ≤ length bytes → before (b ∷ bytes) rest ≡ b ∷ before bytes rest
-before_more b bytes rest le = let e : length (b ∷ bytes) - length rest ≡ suc (length bytes - length rest) = omega arith in rw e refl
 
 pub cut_last : (text : List ℕ) → to_feed text ≡ [] → lines text ≡ then_lines (before text []) None
 unfolding to_feed lines

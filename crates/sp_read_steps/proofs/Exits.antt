@@ -6,7 +6,7 @@ use Rattle.sp_spec.specs.Signature.{Symbol}
 use Rattle.sp_spec.specs.Execution.{Step, use_rule}
 use Rattle.sp_read_steps.specs.declared.parts.Kind.{Kind}
 use Rattle.sp_read_steps.specs.Reading.{NoReading, NoWhole, NoPrefix, NoKind, named, kind_text, Reads, ReadsGiven, read_given, ReadsValues, ReadsRule, no_values, with_values, ReadsStep, read_rule, read_term}
-use Rattle.sp_read_steps.proofs.Booleans.{some_both}
+use Rattle.sp_read_steps.proofs.Found.{some_both}
 use Rattle.sp_read_steps.proofs.FirstWords.{kinds_one, no_rule}
 use Rattle.sp_read_steps.proofs.One.{reads_one}
 

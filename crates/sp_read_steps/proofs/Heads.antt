@@ -2,7 +2,7 @@
 use Rattle.std.proofs.Common.{◌≡◌, ℕ, ◌<◌, ◌≤◌, Bool, true, false, cond, List, [], ◌∷◌, ◌++◌, length, drop, Some, None, inl, inr, refl, sym, ap, subst, ◌∙◌, append_assoc, length-append, arith}
 use Rattle.std.specs.Prelude.{Option, ◌&&◌, ◌||◌, ◌==◌, nat_lt}
 use Rattle.std.specs.Str.{bytes_eq}
-use Rattle.std.proofs.lemmas.Bool.{eqb-true}
+use Rattle.std.proofs.lemmas.Bool.{eqb-true, and_parts, ltb-true}
 use Rattle.std.proofs.lemmas.Slice.Eq.{bytes_eq-Decides}
 use Rattle.sp_spec_text.specs.Bytes as class
 use Rattle.sp_spec_text.specs.Lex.{is_first, is_constant_byte, skip, before}
@@ -10,9 +10,8 @@ use Rattle.sp_spec.specs.Lists.{Every}
 use Rattle.sp_spec.specs.Term.{constant, name, app, none, Ground}
 use Rattle.sp_spec.specs.Signature.{Symbol, HasSymbol}
 use Rattle.sp_spec_text.specs.Printed.{term_text}
-use Rattle.sp_read_steps.specs.Lines.{IsQuotable, IsWritable}
+use Rattle.sp_spec_text.specs.StepLines.{IsQuotable, IsWritable}
 use Rattle.sp_read_steps.specs.Reading.{word_at, is_symbol, has_symbol, number_of, Head, whole, over, opened, nothing, ends, ended, quoted_head, of_number, numbered_head, symbol_head, other_head, by_word, head, Reads, read_whole, read_over, read_pair, ReadsRow, last_term, next_term, ReadsGiven, read_given}
-use Rattle.sp_read_steps.proofs.Booleans.{and_left, and_right, less_true}
 use Rattle.sp_read_steps.proofs.Words.{before_parts, word_parts, named_parts, all_constant}
 use Rattle.sp_read_steps.proofs.Decimals.{number_is}
 
@@ -34,8 +33,8 @@ has_holds (s ∷ symbols) f n h = by_test (is_symbol f n s) refl h (λ k. has_ho
   where
     by_test : (t : Bool) → is_symbol f n s ≡ t → (t || has_symbol symbols f n) ≡ true → (has_symbol symbols f n ≡ true → HasSymbol symbols f n) → HasSymbol (s ∷ symbols) f n
     by_test true e k r =
-        let named : s.name ≡ f = (bytes_eq-Decides s.name f).0 (and_left (bytes_eq s.name f) (s.arity == n) e) in
-        let long : s.arity ≡ n = eqb-true s.arity n (and_right (bytes_eq s.name f) (s.arity == n) e) in
+        let named : s.name ≡ f = (bytes_eq-Decides s.name f).0 (and_parts (bytes_eq s.name f) (s.arity == n) e).0 in
+        let long : s.arity ≡ n = eqb-true s.arity n (and_parts (bytes_eq s.name f) (s.arity == n) e).1 in
         let is : s ≡ record { name = f; arity = n; private = s.private } =
         ap (λ (w : List ℕ). let x : Symbol = record { name = w; arity = s.arity; private = s.private } in x) named ∙ ap (λ (m : ℕ). let x : Symbol = record { name = f; arity = m; private = s.private } in x) long in
         (s.private, inl is)
@@ -64,8 +63,8 @@ quoted_text symbols bytes body e = by_test (nat_lt (length (skip class.Constant 
     by_test true k =
         let rest = skip class.Constant body in
         let c = before body rest in
-        let shorter : length rest < length body = less_true (length rest) (length body) (and_left (nat_lt (length rest) (length body)) (is_first (λ b. b == 39) rest) k) in
-        let quote : rest ≡ 39 ∷ drop 1 rest = first_is 39 rest (and_right (nat_lt (length rest) (length body)) (is_first (λ b. b == 39) rest) k) in
+        let shorter : length rest < length body = ltb-true (length rest) (length body) (and_parts (nat_lt (length rest) (length body)) (is_first (λ b. b == 39) rest) k).0 in
+        let quote : rest ≡ 39 ∷ drop 1 rest = first_is 39 rest (and_parts (nat_lt (length rest) (length body)) (is_first (λ b. b == 39) rest) k).1 in
         let all : body ≡ c ++ rest = before_parts class.Constant body in
         let some : 0 < length c = omega (arith, ap length all, length-append c rest) in
         let text : bytes ≡ term_text (constant c) ++ drop 1 rest =

@@ -1,10 +1,9 @@
-pub mod Numbers
 pub mod Cuts
 pub mod Prefixes
 pub mod Pairs
 pub mod One
 pub mod Going
-pub mod Booleans
+pub mod Found
 pub mod Words
 pub mod Decimals
 pub mod Heads
@@ -15,4 +14,3 @@ pub mod Exits
 pub mod StepTexts
 pub mod Passed
 pub mod Laws
-pub mod PairNames

@@ -5,7 +5,7 @@ use Rattle.sp_spec.specs.Signature.{Symbol}
 use Rattle.sp_spec.specs.Execution.{Step}
 use Rattle.sp_read_steps.specs.declared.parts.Kind.{Kind}
 use Rattle.sp_read_steps.specs.Reading.{whole, over, opened, nothing, head, applied, paired, Reads, read_whole, read_over, read_pair, ReadsRow, last_term, next_term, NoReading, ReadsGiven, read_given, ReadsValues, last_value, next_value, ReadsRule, no_values, with_values, step_over, ReadsStep, read_rule, read_term}
-use Rattle.sp_read_steps.proofs.Booleans.{some_both}
+use Rattle.sp_read_steps.proofs.Found.{some_both}
 use Rattle.sp_read_steps.proofs.FirstWords.{kinds_one, no_rule}
 
 pub at_nothing : {symbols : List Symbol} {bytes q : List ℕ} {u : Ground} → Reads symbols bytes u q → head symbols bytes ≡ nothing → ⊥

@@ -1,13 +1,13 @@
 -- What is read is the text of the term.
 use Rattle.std.proofs.Common.{◌≡◌, ℕ, suc, ◌<◌, Bool, true, false, cond, List, [], ◌∷◌, ◌++◌, length, Some, None, codes, refl, sym, ap, subst, ◌∙◌, append_assoc, append-nil, arith}
 use Rattle.std.specs.Prelude.{Option, ◌&&◌, not}
+use Rattle.std.proofs.lemmas.Bool.{and_parts, not-true}
 use Rattle.sp_spec.specs.Term.{var, constant, name, app, none, more, Ground, count}
 use Rattle.sp_spec.specs.Signature.{Symbol, HasSymbol, pair}
 use Rattle.sp_ground.specs.View.{row}
 use Rattle.sp_spec_text.specs.Printed.{is_pair, text_at, row_text, term_text, arguments_text}
-use Rattle.sp_read_steps.specs.Lines.{IsWritable, AreWritable}
+use Rattle.sp_spec_text.specs.StepLines.{IsWritable, AreWritable}
 use Rattle.sp_read_steps.specs.Reading.{has_symbol, ends, is_pair_term, paired_with, chain, tuple, applied, paired, whole, over, opened, Reads, read_whole, read_over, read_pair, ReadsRow, last_term, next_term}
-use Rattle.sp_read_steps.proofs.Booleans.{and_left, and_right, not_true}
 use Rattle.sp_read_steps.proofs.Heads.{TextAt, has_holds, text_of_head}
 
 pub as_many : (ts : List Ground) → count (row ts) ≡ length ts
@@ -41,16 +41,16 @@ applied_text symbols f ts t bytes inside rest e r a = by_test (has_symbol symbol
     by_test : (x : Bool) → (has_symbol symbols f (length ts) && not (is_pair f (row ts)) && ends rest) ≡ x → cond {A = Option Ground} x (Some (app f (row ts))) None ≡ Some t → TextAt symbols bytes t rest
     by_test true k s =
         let is : app f (row ts) ≡ t = cc in
-        let two = and_left (has_symbol symbols f (length ts) && not (is_pair f (row ts))) (ends rest) k in
-        let has = has_holds symbols f (length ts) (and_left (has_symbol symbols f (length ts)) (not (is_pair f (row ts))) two) in
-        let other = not_true (is_pair f (row ts)) (and_right (has_symbol symbols f (length ts)) (not (is_pair f (row ts))) two) in
+        let two = (and_parts (has_symbol symbols f (length ts) && not (is_pair f (row ts))) (ends rest) k).0 in
+        let has = has_holds symbols f (length ts) (and_parts (has_symbol symbols f (length ts)) (not (is_pair f (row ts))) two).0 in
+        let other = not-true (is_pair f (row ts)) (and_parts (has_symbol symbols f (length ts)) (not (is_pair f (row ts))) two).1 in
         let text : bytes ≡ term_text (app f (row ts)) ++ rest =
         e ∙ ap (λ (xs : List ℕ). f ++ 40 ∷ xs) (r.parts ∙ sym (append_assoc (arguments_text (row ts)) (41 ∷ []) rest))
         ∙ sym (append_assoc f (40 ∷ (arguments_text (row ts) ++ 41 ∷ [])) rest) ∙ ap (λ (xs : List ℕ). xs ++ rest) (sym (over_text f ts r.some other)) in
         subst (λ (u : Ground). TextAt symbols bytes u rest) is (record {
           parts = text;
           writable = (subst (λ (n : ℕ). HasSymbol symbols f n) (sym (as_many ts)) has, r.writable);
-          ended_by = and_right (has_symbol symbols f (length ts) && not (is_pair f (row ts))) (ends rest) k;
+          ended_by = (and_parts (has_symbol symbols f (length ts) && not (is_pair f (row ts))) (ends rest) k).1;
         })
     by_test false k s = absurd (let none : ⊥ = cc in none)
 
@@ -120,11 +120,11 @@ paired_text symbols ts t bytes inside rest e r a = by_test (has_symbol symbols (
   where
     by_test : (x : Bool) → (has_symbol symbols (codes "pair") 2 && ends rest) ≡ x → cond {A = Option Ground} x (tuple ts) None ≡ Some t → TextAt symbols bytes t rest
     by_test true k s =
-        let has = has_holds symbols (codes "pair") 2 (and_left (has_symbol symbols (codes "pair") 2) (ends rest) k) in
+        let has = has_holds symbols (codes "pair") 2 (and_parts (has_symbol symbols (codes "pair") 2) (ends rest) k).0 in
         record {
           parts = e ∙ ap (λ (xs : List ℕ). 60 ∷ xs) (r.parts ∙ sym (append_assoc (arguments_text (row ts)) (62 ∷ []) rest)) ∙ ap (λ (xs : List ℕ). xs ++ rest) (sym (tuple_text ts t s));
           writable = tuple_writable symbols ts t has r.writable s;
-          ended_by = and_right (has_symbol symbols (codes "pair") 2) (ends rest) k;
+          ended_by = (and_parts (has_symbol symbols (codes "pair") 2) (ends rest) k).1;
         }
     by_test false k s = absurd (let none : ⊥ = cc in none)
 

@@ -8,7 +8,7 @@ use Rattle.sp_spec.specs.Execution.{Step, make_fresh, use_rule, take_out, put_in
 use Rattle.sp_spec_text.specs.Printed.{term_text, given_text, more_given_text, step_text}
 use Rattle.sp_read_steps.specs.declared.parts.Kind.{Kind}
 use Rattle.sp_read_steps.specs.declared.parts.Kind.TheVariants as kind
-use Rattle.sp_read_steps.specs.Lines.{HaveNames, IsWritable, IsGiven, IsWritableStep, IsStepLine}
+use Rattle.sp_spec_text.specs.StepLines.{HaveNames, IsWritable, IsGiven, IsWritableStep, IsStepLine}
 use Rattle.sp_read_steps.specs.Reading.{ends, kind_text, step_over, Reads, ReadsGiven, read_given, ReadsValues, last_value, next_value, ReadsRule, no_values, with_values, ReadsStep, read_rule, read_term}
 use Rattle.sp_read_steps.proofs.Words.{Stops, named_is, named_parts, named_before}
 use Rattle.sp_read_steps.proofs.Heads.{TextAt}
@@ -96,14 +96,14 @@ unfolding skip
 stops_colon rest = record { no_digit = refl; skipped = refl }
 
 given_is_read : (symbols : List Symbol) → HaveNames symbols → (g : List ℕ × Ground) (rest : List ℕ) → IsGiven symbols g → ends rest ≡ true → ReadsGiven symbols (value_text g rest) g rest
-given_is_read symbols s g rest w e = read_given (named_before g.0 (32 ∷ 61 ∷ 32 ∷ (term_text g.1 ++ rest)) w.0 (stops_space (61 ∷ 32 ∷ (term_text g.1 ++ rest)))) ((is_read symbols s g.1 w.1).plain rest e)
+given_is_read symbols s g rest w e = read_given (named_before g.0 (32 ∷ 61 ∷ 32 ∷ (term_text g.1 ++ rest)) w.0 (stops_space (61 ∷ 32 ∷ (term_text g.1 ++ rest)))) ((is_read symbols s g.1 w.1).at_end rest e)
 
 values_are_read : (symbols : List Symbol) → HaveNames symbols → (g : List ℕ × Ground) (gs : List (List ℕ × Ground)) → Every (IsGiven symbols) (g ∷ gs) → ReadsValues symbols (values_text (g ∷ gs)) (g ∷ gs) []
 values_are_read symbols s g [] w = last_value (given_is_read symbols s g [] w.0 refl)
 values_are_read symbols s g (h ∷ gs) w = next_value (given_is_read symbols s g (44 ∷ 32 ∷ values_text (h ∷ gs)) w.0 refl) (values_are_read symbols s h gs w.1)
 
 whole_read : (symbols : List Symbol) → HaveNames symbols → (t : Ground) → IsWritable symbols t → Reads symbols (term_text t) t []
-whole_read symbols s t w = subst (λ (xs : List ℕ). Reads symbols xs t []) (append-nil (term_text t)) ((is_read symbols s t w).plain [] refl)
+whole_read symbols s t w = subst (λ (xs : List ℕ). Reads symbols xs t []) (append-nil (term_text t)) ((is_read symbols s t w).at_end [] refl)
 
 pub step_of_text : (symbols : List Symbol) → HaveNames symbols → (bytes : List ℕ) (s : Step) → bytes ≡ step_text s → IsWritableStep symbols s → ReadsStep symbols bytes s []
 step_of_text symbols h bytes (make_fresh t) e w = read_term kind.Fresh e (whole_read symbols h t w)

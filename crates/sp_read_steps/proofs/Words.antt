@@ -1,18 +1,16 @@
 -- Words and constants that stand first.
-use Rattle.std.proofs.Common.{◌≡◌, ℕ, ◌-◌, Bool, true, false, cond, List, [], ◌∷◌, ◌++◌, length, take, Some, None, refl, sym, ap, subst, ◌∙◌, length-append, arith}
+use Rattle.std.proofs.Common.{◌≡◌, ℕ, Bool, true, false, cond, List, [], ◌∷◌, ◌++◌, Some, None, refl, sym, ap, subst, ◌∙◌}
 use Rattle.std.specs.Prelude.{Option, ◌||◌, ◌&&◌, ◌==◌}
 use Rattle.std.specs.Char.{is_ascii_alphanumeric}
-use Rattle.std.proofs.lemmas.List.{take-append-le}
 use Rattle.sp_spec_text.specs.Bytes.{Class}
 use Rattle.sp_spec_text.specs.Bytes as class
 use Rattle.sp_spec_text.specs.Lex.{is_in, is_first, is_digit, is_word_byte, is_constant_byte, skip, before}
 use Rattle.sp_lex.proofs.Pieces.{skip_shorter}
-use Rattle.sp_spec_text.specs.Names.{is_reserved}
+use Rattle.sp_spec_text.specs.Names.{is_reserved, IsWord, IsNameWord}
+use Rattle.sp_spec_text.proofs.Rests.{before_self, before_more, before_rest, first_kept}
 use Rattle.sp_spec.specs.Lists.{Every}
-use Rattle.sp_read_steps.specs.Lines.{IsWord, IsNamed}
 use Rattle.sp_read_steps.specs.Reading.{word_at, unreserved, named}
-use Rattle.sp_read_steps.proofs.Booleans.{some_both}
-use Rattle.sp_read_steps.proofs.Cuts.{before_self, before_more}
+use Rattle.sp_read_steps.proofs.Found.{some_both}
 
 pub before_parts : (k : Class) (bytes : List ℕ) → bytes ≡ before bytes (skip k bytes) ++ skip k bytes
 unfolding skip
@@ -91,35 +89,22 @@ named_at bytes w rest h = by_case (word_at bytes) refl h
     by_case None e k = absurd (let none : ⊥ = cc in none)
     by_case (Some v) e k = by_test v (is_reserved v.0) e refl k
 
-pub named_is : (bytes w rest : List ℕ) → named bytes ≡ Some (w, rest) → IsNamed w
+pub named_is : (bytes w rest : List ℕ) → named bytes ≡ Some (w, rest) → IsNameWord w
 named_is bytes w rest h = let n = named_at bytes w rest h in (n.is_name, word_is bytes w rest n.word)
 
 pub named_parts : (bytes w rest : List ℕ) → named bytes ≡ Some (w, rest) → bytes ≡ w ++ rest
 named_parts bytes w rest h = word_parts bytes w rest (named_at bytes w rest h).word
-
-take_all : (xs : List ℕ) → take (length xs) xs ≡ xs
-take_all [] = refl
-take_all (x ∷ xs) = ap (λ (ys : List ℕ). x ∷ ys) (take_all xs)
-
-pub before_rest : (xs ys : List ℕ) → before (xs ++ ys) ys ≡ xs
-before_rest xs ys =
-    let e : length (xs ++ ys) - length ys ≡ length xs = omega (arith, length-append xs ys) in
-    ap (λ (n : ℕ). take n (xs ++ ys)) e ∙ take-append-le (length xs) xs ys (omega arith) ∙ take_all xs
 
 -- no word goes on with these bytes
 pub record Stops (rest : List ℕ) : Type 0 where
   pub no_digit : is_first is_digit rest ≡ false
   pub skipped : skip class.Word rest ≡ rest
 
-first_same : (w rest : List ℕ) → is_first is_digit rest ≡ false → is_first is_digit (w ++ rest) ≡ is_first is_digit w
-first_same [] rest h = h
-first_same (c ∷ w) rest h = refl
-
 pub skip_word : (w rest : List ℕ) → skip class.Word w ≡ [] → Stops rest → skip class.Word (w ++ rest) ≡ rest
 unfolding skip
 skip_word [] rest h e = e.skipped
 skip_word (c ∷ w) rest h e =
-    let is : is_in class.Word c (w ++ rest) ≡ is_in class.Word c w = rw (first_same w rest e.no_digit) refl in
+    let is : is_in class.Word c (w ++ rest) ≡ is_in class.Word c w = rw (first_kept w rest e.no_digit) refl in
     ap (λ (t : Bool). cond t (skip class.Word (w ++ rest)) (c ∷ w ++ rest)) is ∙ by_test (is_in class.Word c w) h (λ k. skip_word w rest k e)
   where
     by_test : (t : Bool) → cond t (skip class.Word w) (c ∷ w) ≡ [] → (skip class.Word w ≡ [] → skip class.Word (w ++ rest) ≡ rest) → cond t (skip class.Word (w ++ rest)) (c ∷ w ++ rest) ≡ rest
@@ -132,7 +117,7 @@ word_before (c ∷ w) rest h e =
     let s : skip class.Word (w ++ rest) ≡ rest = skip_word w rest h.1 e in
     rw (h.0, s) (ap (λ (xs : List ℕ). Some (xs, rest)) (before_rest (c ∷ w) rest))
 
-pub named_before : (w rest : List ℕ) → IsNamed w → Stops rest → named (w ++ rest) ≡ Some (w, rest)
+pub named_before : (w rest : List ℕ) → IsNameWord w → Stops rest → named (w ++ rest) ≡ Some (w, rest)
 named_before w rest n s = ap unreserved (word_before w rest n.1 s) ∙ rw n.0 refl
 
 -- ---- constants

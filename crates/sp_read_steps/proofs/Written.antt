@@ -1,29 +1,28 @@
 -- The text of a term is read as that term.
-use Rattle.std.proofs.Common.{◌≡◌, ℕ, suc, ◌<◌, ◌^◌, Bool, true, false, cond, List, [], ◌∷◌, ◌++◌, length, Some, codes, inl, inr, refl, sym, ap, subst, ◌∙◌, append_assoc, append-nil, length-append, eq-eqb, arith}
+use Rattle.std.proofs.Common.{◌≡◌, ℕ, suc, ◌<◌, ◌^◌, Bool, true, false, List, [], ◌∷◌, ◌++◌, length, Some, codes, inl, inr, refl, sym, ap, subst, ◌∙◌, append_assoc, append-nil, length-append, eq-eqb, arith}
 use Rattle.std.specs.Prelude.{Option, decimal, ◌||◌, ◌==◌, nat_lt}
 use Rattle.std.specs.Str.{bytes_eq}
-use Rattle.std.proofs.lemmas.Bool.{eqb-true}
+use Rattle.std.proofs.lemmas.Bool.{eqb-true, lt-ltb}
 use Rattle.std.proofs.lemmas.Slice.Eq.{bytes_eq-Decides}
+use Rattle.std.proofs.Math.Bool.{and-false, or-true}
 use Rattle.sp_spec_text.specs.Bytes as class
-use Rattle.sp_spec_text.specs.Lex.{is_in, is_first, is_digit, is_constant_byte, skip, before}
+use Rattle.sp_spec_text.specs.Lex.{is_first, is_constant_byte, skip, before}
 use Rattle.sp_spec.specs.Lists.{Every}
 use Rattle.sp_spec.specs.Term.{var, constant, name, app, none, more, Ground, Grounds, count}
 use Rattle.sp_spec.specs.Signature.{Symbol, HasSymbol, pair}
 use Rattle.sp_ground.specs.View.{row}
 use Rattle.sp_spec_text.specs.Printed.{is_pair, text_at, row_text, term_text}
-use Rattle.sp_read_steps.specs.Lines.{IsWord, HaveNames, IsQuotable, IsWritable, AreWritable}
-use Rattle.sp_read_steps.specs.Reading.{is_symbol, has_symbol, are_digits, number_of, ends, is_pair_term, paired_with, chain, tuple, applied, paired, whole, over, opened, quoted_head, of_number, symbol_head, other_head, by_word, head, Reads, read_whole, read_over, read_pair, ReadsRow, last_term, next_term}
-use Rattle.sp_read_steps.proofs.Booleans.{and_left, and_right, and_false, or_right, true_less}
-use Rattle.sp_read_steps.proofs.Words.{Stops, skip_word, word_before, before_rest, skip_constant}
-use Rattle.sp_read_steps.proofs.Decimals.{decimal_are_digits, number_of_decimal}
+use Rattle.sp_spec_text.specs.Names.{IsWord}
+use Rattle.sp_spec_text.specs.StepLines.{HaveNames, IsQuotable, IsWritable, AreWritable}
+use Rattle.sp_spec_text.proofs.Numerals.{decimal_are_digits, digits_skipped}
+use Rattle.sp_spec_text.proofs.Rests.{before_rest}
+use Rattle.sp_spec_text.proofs.SymbolNames.{symbol_named}
+use Rattle.sp_read_steps.specs.Reading.{is_symbol, has_symbol, number_of, ends, is_pair_term, paired_with, chain, tuple, applied, paired, whole, over, opened, quoted_head, of_number, symbol_head, other_head, by_word, head, Reads, read_whole, read_over, read_pair, ReadsRow, last_term, next_term}
+use Rattle.sp_read_steps.proofs.Words.{Stops, skip_word, word_before, skip_constant}
+use Rattle.sp_read_steps.proofs.Decimals.{number_of_decimal}
 use Rattle.sp_read_steps.proofs.Spoken.{alone_text}
 
 -- ---- symbols
-
-pub symbol_named : (symbols : List Symbol) (f : List ℕ) (n : ℕ) → HaveNames symbols → HasSymbol symbols f n → IsWord f
-symbol_named [] f n h m = absurd m.1
-symbol_named (s ∷ symbols) f n h (p, inl e) = subst IsWord (ap (λ (x : Symbol). x.name) e) h.0.1
-symbol_named (s ∷ symbols) f n h (p, inr m) = symbol_named symbols f n h.1 (p, m)
 
 pub holds_has : (symbols : List Symbol) (f : List ℕ) (n : ℕ) → HasSymbol symbols f n → has_symbol symbols f n ≡ true
 holds_has [] f n m = absurd m.1
@@ -31,7 +30,7 @@ holds_has (s ∷ symbols) f n (p, inl e) =
     let named : bytes_eq s.name f ≡ true = (bytes_eq-Decides s.name f).1 (ap (λ (x : Symbol). x.name) e) in
     let long : (s.arity == n) ≡ true = eq-eqb s.arity n (ap (λ (x : Symbol). x.arity) e) in
     rw (named, long) refl
-holds_has (s ∷ symbols) f n (p, inr m) = rw (holds_has symbols f n (p, m)) (or_right (is_symbol f n s))
+holds_has (s ∷ symbols) f n (p, inr m) = rw (holds_has symbols f n (p, m)) (or-true (is_symbol f n s))
 
 -- ---- what ends a term
 
@@ -86,7 +85,7 @@ head_opened symbols inside = refl
 quoted : (c rest : List ℕ) → IsQuotable c → ends rest ≡ true → quoted_head (c ++ 39 ∷ rest) (39 ∷ rest) ≡ whole (constant c) rest
 quoted [] rest q e = absurd q
 quoted (b ∷ c) rest q e =
-    let less : nat_lt (length (39 ∷ rest)) (length (b ∷ c ++ 39 ∷ rest)) ≡ true = true_less _ _ (omega (arith, length-append c (39 ∷ rest))) in
+    let less : nat_lt (length (39 ∷ rest)) (length (b ∷ c ++ 39 ∷ rest)) ≡ true = lt-ltb _ _ (omega (arith, length-append c (39 ∷ rest))) in
     let word : before (b ∷ c ++ 39 ∷ rest) (39 ∷ rest) ≡ b ∷ c = before_rest (b ∷ c) (39 ∷ rest) in
     rw (less, word, e) refl
 
@@ -97,16 +96,6 @@ every_constant (b ∷ c) q = q
 head_constant : (symbols : List Symbol) (c rest : List ℕ) → IsQuotable c → ends rest ≡ true → head symbols (39 ∷ (c ++ 39 ∷ rest)) ≡ whole (constant c) rest
 unfolding head
 head_constant symbols c rest q e = ap (quoted_head (c ++ 39 ∷ rest)) (skip_constant c rest (every_constant c q)) ∙ quoted c rest q e
-
-digit_in_word : (b : ℕ) (bytes : List ℕ) → is_digit b ≡ true → is_in class.Word b bytes ≡ true
-digit_in_word b bytes h = rw h refl
-
-digits_skipped : (ds : List ℕ) → are_digits ds ≡ true → skip class.Word ds ≡ []
-unfolding skip
-digits_skipped [] h = refl
-digits_skipped (b ∷ ds) h =
-    let i = digit_in_word b ds (and_left (is_digit b) (are_digits ds) h) in
-    ap (λ (t : Bool). cond t (skip class.Word ds) (b ∷ ds)) i ∙ digits_skipped ds (and_right (is_digit b) (are_digits ds) h)
 
 head_name : (symbols : List Symbol) (n : ℕ) (rest : List ℕ) → 0 < n → n < 2 ^ 128 → ends rest ≡ true → head symbols (126 ∷ 110 ∷ (decimal n ++ rest)) ≡ whole (name n) rest
 unfolding head
@@ -138,13 +127,13 @@ pub record Spine (symbols : List Symbol) (t : Ground) (rest : List ℕ) : Type 0
 
 -- a term that is read wherever its text stands
 pub record IsRead (symbols : List Symbol) (t : Ground) : Type 0 where
-  pub plain : (rest : List ℕ) → ends rest ≡ true → Reads symbols (term_text t ++ rest) t rest
+  pub at_end : (rest : List ℕ) → ends rest ≡ true → Reads symbols (term_text t ++ rest) t rest
   pub spine : (rest : List ℕ) → Spine symbols t rest
 
 -- what is no pair
 alone : (symbols : List Symbol) (t : Ground) → is_pair_term t ≡ false → ((rest : List ℕ) → ends rest ≡ true → Reads symbols (term_text t ++ rest) t rest) → IsRead symbols t
 alone symbols t h r = record {
-  plain = r;
+  at_end = r;
   spine = λ rest. record {
     terms = t ∷ [];
     chained = rw h refl;
@@ -164,13 +153,13 @@ record AreRead (symbols : List Symbol) (ts : Grounds) : Type 0 where
   in_row : (t : Ground) → IsRead symbols t → (rest : List ℕ) → ReadsRow symbols 41 (text_at false t ++ (row_text false ts ++ 41 ∷ rest)) (t ∷ list_of ts) rest
 
 none_read : (symbols : List Symbol) → AreRead symbols none
-none_read symbols = record { in_row = λ t r rest. last_term (r.plain (41 ∷ rest) refl) }
+none_read symbols = record { in_row = λ t r rest. last_term (r.at_end (41 ∷ rest) refl) }
 
 more_read : (symbols : List Symbol) (u : Ground) (us : Grounds) → IsRead symbols u → AreRead symbols us → AreRead symbols (more u us)
 more_read symbols u us o k = record {
   in_row = λ t r rest.
       let e : text_at false u ++ (row_text false us ++ 41 ∷ rest) ≡ (text_at false u ++ row_text false us) ++ 41 ∷ rest = sym (append_assoc (text_at false u) (row_text false us) (41 ∷ rest)) in
-      next_term (r.plain (44 ∷ 32 ∷ ((text_at false u ++ row_text false us) ++ 41 ∷ rest)) refl)
+      next_term (r.at_end (44 ∷ 32 ∷ ((text_at false u ++ row_text false us) ++ 41 ∷ rest)) refl)
       (subst (λ (xs : List ℕ). ReadsRow symbols 41 xs (u ∷ list_of us) rest) e (k.in_row u o rest));
 }
 
@@ -188,7 +177,7 @@ read_applied symbols f t ts w h n o k = alone symbols (app f (more t ts)) n (λ 
     subst (λ (xs : List ℕ). Reads symbols xs (app f (more t ts)) rest) (sym text) (read_over (head_over symbols f inside w) (k.in_row t o rest) is))
 
 read_alone : (symbols : List Symbol) (f : List ℕ) → IsWord f → has_symbol symbols f 0 ≡ true → IsRead symbols (app f none)
-read_alone symbols f w h = alone symbols (app f none) (and_false (bytes_eq f (codes "pair"))) (λ rest e. read_whole (head_symbol symbols f rest w h e))
+read_alone symbols f w h = alone symbols (app f none) (and-false (bytes_eq f (codes "pair"))) (λ rest e. read_whole (head_symbol symbols f rest w h e))
 
 chain_more : (t u : Ground) (us : List Ground) → chain us ≡ Some u → (chain (t ∷ us) ≡ Some (pair t u)) × (tuple (t ∷ us) ≡ Some (pair t u))
 chain_more t u [] h = absurd (let none : ⊥ = cc in none)
@@ -196,10 +185,10 @@ chain_more t u (w ∷ us) h = let e : paired_with t (chain (w ∷ us)) ≡ Some 
 
 read_pairs : (symbols : List Symbol) (t u : Ground) → has_symbol symbols (codes "pair") 2 ≡ true → IsRead symbols t → IsRead symbols u → IsRead symbols (pair t u)
 read_pairs symbols t u h o k = record {
-  plain = λ rest e.
+  at_end = λ rest e.
       let s = k.spine rest in
       let inside = text_at false t ++ 44 ∷ 32 ∷ (text_at true u ++ 62 ∷ rest) in
-      let row_reads : ReadsRow symbols 62 inside (t ∷ s.terms) rest = next_term (o.plain (44 ∷ 32 ∷ (text_at true u ++ 62 ∷ rest)) refl) s.reads in
+      let row_reads : ReadsRow symbols 62 inside (t ∷ s.terms) rest = next_term (o.at_end (44 ∷ 32 ∷ (text_at true u ++ 62 ∷ rest)) refl) s.reads in
       let is : paired symbols (t ∷ s.terms) rest ≡ Some (pair t u) = rw (h, e) ((chain_more t u s.terms s.chained).1) in
       let text : term_text (pair t u) ++ rest ≡ 60 ∷ inside =
       ap (λ (xs : List ℕ). 60 ∷ xs) (append_assoc (text_at false t) (44 ∷ 32 ∷ (text_at true u ++ []) ++ 62 ∷ []) rest
@@ -213,7 +202,7 @@ read_pairs symbols t u h o k = record {
       record {
         terms = t ∷ s.terms;
         chained = (chain_more t u s.terms s.chained).0;
-        reads = subst (λ (xs : List ℕ). ReadsRow symbols 62 xs (t ∷ s.terms) rest) (sym text) (next_term (o.plain (44 ∷ 32 ∷ (text_at true u ++ 62 ∷ rest)) refl) s.reads);
+        reads = subst (λ (xs : List ℕ). ReadsRow symbols 62 xs (t ∷ s.terms) rest) (sym text) (next_term (o.at_end (44 ∷ 32 ∷ (text_at true u ++ 62 ∷ rest)) refl) s.reads);
       };
 }
 
@@ -234,12 +223,12 @@ mutual
   is_read symbols s (name n) w = alone symbols (name n) refl (λ rest e. read_name symbols n rest w.0 w.1 e)
   is_read symbols s (app f none) w = read_alone symbols f (symbol_named symbols f 0 s w.0) (holds_has symbols f 0 w.0)
   is_read symbols s (app f (more t none)) w =
-      read_applied symbols f t none (symbol_named symbols f 1 s w.0) (holds_has symbols f 1 w.0) (and_false (bytes_eq f (codes "pair"))) (is_read symbols s t w.1.0) (none_read symbols)
+      read_applied symbols f t none (symbol_named symbols f 1 s w.0) (holds_has symbols f 1 w.0) (and-false (bytes_eq f (codes "pair"))) (is_read symbols s t w.1.0) (none_read symbols)
   is_read symbols s (app f (more t (more u none))) w =
       read_two symbols f t u (symbol_named symbols f 2 s w.0) (holds_has symbols f 2 w.0) (is_read symbols s t w.1.0) (is_read symbols s u w.1.1.0)
   is_read symbols s (app f (more t (more u (more v ts)))) w =
       let n = suc (suc (suc (count ts))) in
-      read_applied symbols f t (more u (more v ts)) (symbol_named symbols f n s w.0) (holds_has symbols f n w.0) (and_false (bytes_eq f (codes "pair"))) (is_read symbols s t w.1.0)
+      read_applied symbols f t (more u (more v ts)) (symbol_named symbols f n s w.0) (holds_has symbols f n w.0) (and-false (bytes_eq f (codes "pair"))) (is_read symbols s t w.1.0)
       (more_read symbols u (more v ts) (is_read symbols s u w.1.1.0) (more_read symbols v ts (is_read symbols s v w.1.1.1.0) (are_read symbols s ts w.1.1.1.1)))
 
   are_read : (symbols : List Symbol) → HaveNames symbols → (ts : Grounds) → AreWritable symbols ts → AreRead symbols ts

@@ -1,5 +1,5 @@
 -- Steps as a reader from the left takes them, byte by byte.
-use Rattle.std.specs.Prelude.{◌≡◌, ℕ, ◌+◌, ◌-◌, ◌*◌, ◌^◌, Bool, true, false, not, ◌&&◌, ◌||◌, ◌==◌, nat_lt, if◌then◌else◌, List, [], ◌∷◌, ◌++◌, length, drop, Option, Some, None, codes}
+use Rattle.std.specs.Prelude.{◌≡◌, ℕ, Bool, true, false, not, ◌&&◌, ◌||◌, ◌==◌, nat_lt, if◌then◌else◌, List, [], ◌∷◌, ◌++◌, length, drop, Option, Some, None, codes}
 use Rattle.std.specs.Str.{bytes_eq}
 use Rattle.std.specs.Char.{is_ascii_alphanumeric}
 use Rattle.sp_spec_text.specs.Bytes as class
@@ -10,7 +10,8 @@ use Rattle.sp_spec.specs.Signature.{Symbol, pair}
 use Rattle.sp_spec.specs.Execution.{Step, make_fresh, use_rule, take_out, put_in, know_public, make_own}
 use Rattle.sp_ground.specs.View.{row}
 use Rattle.sp_spec_text.specs.Printed.{is_pair}
-use Rattle.sp_read_steps.specs.Lines.{lines}
+use Rattle.sp_spec_text.specs.Numerals.{are_digits, value, below_limit}
+use Rattle.sp_spec_text.specs.Blanks.{lines}
 use Rattle.sp_read_steps.specs.declared.parts.Kind.{Kind}
 use Rattle.sp_read_steps.specs.declared.parts.Kind.TheVariants as kind
 
@@ -49,18 +50,6 @@ has_symbol [] f n = false
 has_symbol (s ∷ symbols) f n = is_symbol f n s || has_symbol symbols f n
 
 -- ---- numbers
-
-abbrev pub are_digits : List ℕ → Bool
-are_digits [] = true
-are_digits (b ∷ bytes) = is_digit b && are_digits bytes
-
--- what digits say behind digits that say n
-abbrev pub value : ℕ → List ℕ → ℕ
-value n [] = n
-value n (b ∷ bytes) = value (10 * n + (b - 48)) bytes
-
-abbrev pub below_limit : ℕ → Option ℕ
-below_limit n = if nat_lt n (2 ^ 128) then Some n else None
 
 abbrev pub is_leading : ℕ → Bool
 is_leading b = is_digit b && not (b == 48)

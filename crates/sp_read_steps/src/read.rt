@@ -2,7 +2,8 @@
 
 ghost use Rattle.std.specs.Prelude.{◌≡◌, [], ◌∷◌, ◌++◌, IfOk, OnOk, map};
 ghost use Rattle.sp_ground.specs.View.{symbol_of, step_of};
-ghost use Rattle.sp_read_steps.specs.Lines as spec;
+ghost use Rattle.sp_spec_text.specs.Blanks.{lines};
+ghost use Rattle.sp_spec_text.specs.StepLines.{HaveNames};
 ghost use Rattle.sp_read_steps.specs.View.{Takes, AreStepLines};
 
 use crate::parts::StepLines;
@@ -54,8 +55,8 @@ pub fn read_steps(
     symbols: &Vec<Symbol>,
     text: &[u8],
 ) -> Result<StepLines, AllocError>
-    requires named { spec.HaveNames (map symbol_of symbols.now.items) }
-    ensures { IfOk result (λ r. AreStepLines (map symbol_of symbols.now.items) (spec.lines text.now) r) }
+    requires named { HaveNames (map symbol_of symbols.now.items) }
+    ensures { IfOk result (λ r. AreStepLines (map symbol_of symbols.now.items) (lines text.now) r) }
 {
     let mut steps = Vec::new(alloc);
     let mut number: usize = 0;

@@ -17,7 +17,7 @@ use crate::texts::{
 };
 use sp_ground::signature::Symbol;
 use sp_ground::term::GroundTerm;
-use sp_term::term::Name;
+use sp_term::term::{Name, Term};
 use std::alloc::{AllocError, Global};
 use std::rc::Rc;
 
@@ -63,7 +63,7 @@ fn quoted_head(alloc: Global, body: &[u8]) -> Result<Head, AllocError>
     match split(rest) {
         Some((b'\'', behind)) if rest.len() < body.len() => {
             let name = Name::new(alloc, before(body, rest))?;
-            let made = ended(GroundTerm::Constant(name), behind);
+            let made = ended(Term::Constant(name), behind);
             Ok(made)
         }
         _ => Ok(Head::Nothing),
@@ -82,7 +82,7 @@ fn numbered_head(body: &[u8]) -> Head
     }
     let rest = skip_word(digits);
     match number_of(bytes_before(digits, rest)) {
-        Some(number) => ended(GroundTerm::FreshName(number), rest),
+        Some(number) => ended(Term::FreshName(number), rest),
         None => Head::Nothing,
     }
 }
@@ -104,7 +104,7 @@ fn symbol_head<'a>(
         return Ok(Head::Nothing);
     }
     let shared = Rc::new(alloc, Vec::new(alloc))?;
-    let made = ended(GroundTerm::App(name, shared), rest);
+    let made = ended(Term::App(name, shared), rest);
     Ok(made)
 }
 
@@ -164,9 +164,10 @@ fn is_pair_term(term: &GroundTerm) -> bool
     ensures { result ≡ spec.is_pair_term (ground_of term.now) }
 {
     match term {
-        GroundTerm::Constant(_) => false,
-        GroundTerm::FreshName(_) => false,
-        GroundTerm::App(symbol, terms) => is_pair(symbol.text.as_str(), terms),
+        Term::Var(never) => match never.leaf {},
+        Term::Constant(_) => false,
+        Term::FreshName(_) => false,
+        Term::App(symbol, terms) => is_pair(symbol.text.as_str(), terms),
     }
 }
 
@@ -185,7 +186,7 @@ fn applied(
         return Ok(None);
     }
     let shared = Rc::new(alloc, terms)?;
-    Ok(Some(GroundTerm::App(symbol, shared)))
+    Ok(Some(Term::App(symbol, shared)))
 }
 
 /// The pair of two terms.
@@ -197,7 +198,7 @@ fn pair(alloc: Global, left: GroundTerm, right: GroundTerm) -> Result<GroundTerm
     parts.push(right)?;
     let name = Name::new(alloc, "pair")?;
     let shared = Rc::new(alloc, parts)?;
-    Ok(GroundTerm::App(name, shared))
+    Ok(Term::App(name, shared))
 }
 
 /// Takes the last term.

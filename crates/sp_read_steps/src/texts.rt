@@ -3,7 +3,8 @@
 ghost use Rattle.std.specs.Prelude.{◌≡◌, [], ◌∷◌, ◌++◌, ◌+◌, ◌-◌, ◌*◌, ◌≤◌, length, reverse, MatchBool, MatchOption, IfSome, option_map, IsUtf8};
 ghost use Rattle.sp_spec_text.specs.Lex as lex;
 ghost use Rattle.sp_spec_text.specs.Bytes as class;
-ghost use Rattle.sp_read_steps.specs.Lines as lines;
+ghost use Rattle.sp_spec_text.specs.Blanks as blanks;
+ghost use Rattle.sp_spec_text.specs.Numerals.{below_limit};
 ghost use Rattle.sp_read_steps.specs.Reading as spec;
 ghost use Rattle.sp_read_steps.specs.Reading.{NoPrefix};
 
@@ -48,9 +49,9 @@ fn is_constant_byte(b: u8) -> bool
 }
 
 /// The text without the blanks before it.
-#[tactic(auto, unfolding(crate::specs::Lines::unblanked))]
+#[tactic(auto, unfolding(sp_spec_text::specs::Blanks::unblanked))]
 fn unblanked(text: &[u8]) -> &[u8]
-    ensures { result.now ≡ lines.unblanked text.now }
+    ensures { result.now ≡ blanks.unblanked text.now }
 {
     let mut rest = text;
     while let Some((byte, behind)) = split(rest) {
@@ -63,9 +64,9 @@ fn unblanked(text: &[u8]) -> &[u8]
 }
 
 /// The text without the blanks behind it.
-#[tactic(auto, unfolding(crate::specs::Lines::unblanked))]
+#[tactic(auto, unfolding(sp_spec_text::specs::Blanks::unblanked))]
 fn unblanked_behind(text: &[u8]) -> &[u8]
-    ensures { result.now ≡ reverse (lines.unblanked (reverse text.now)) }
+    ensures { result.now ≡ reverse (blanks.unblanked (reverse text.now)) }
 {
     let mut rest = text;
     while let Some((front, last)) = split_last(rest) {
@@ -79,7 +80,7 @@ fn unblanked_behind(text: &[u8]) -> &[u8]
 
 /// The text without the blanks around it.
 pub fn trimmed(text: &[u8]) -> &[u8]
-    ensures { result.now ≡ lines.trimmed text.now }
+    ensures { result.now ≡ blanks.trimmed text.now }
 {
     unblanked_behind(unblanked(text))
 }
@@ -218,14 +219,14 @@ fn begins_number(word: &[u8]) -> bool
 /// The number with a digit behind it.
 fn with_digit(number: u128, digit: u8) -> Option<u128>
     requires { 48 ≤ digit }
-    ensures { result ≡ spec.below_limit (10 * number + (digit - 48)) }
+    ensures { result ≡ below_limit (10 * number + (digit - 48)) }
 {
     let tens = number.checked_mul(10)?;
     tens.checked_add(u128::from(digit - b'0'))
 }
 
 /// The number of decimal digits of which the first is not zero, if it is a number of a fresh name.
-#[tactic(auto, using(crate::proofs::Numbers::numbers), unfolding(crate::specs::Reading::number_of))]
+#[tactic(auto, using(sp_spec_text::proofs::Numerals::numbers), unfolding(crate::specs::Reading::number_of))]
 pub fn number_of(word: &[u8]) -> Option<u128>
     ensures { result ≡ spec.number_of word.now }
 {
@@ -247,7 +248,7 @@ pub fn number_of(word: &[u8]) -> Option<u128>
 /// The first line, and what stands behind its line feed.
 #[tactic(auto, using(crate::proofs::Cuts::cuts))]
 pub fn cut(text: &[u8]) -> (&[u8], Option<&[u8]>)
-    ensures value { lines.lines text.now ≡ spec.then_lines result.0.now (option_map (λ x. x.now) result.1) }
+    ensures value { blanks.lines text.now ≡ spec.then_lines result.0.now (option_map (λ x. x.now) result.1) }
     ensures shorter { IfSome result.1 (λ x. length x.now + 1 ≤ length text.now) }
 {
     let rest = to_line_end(text);

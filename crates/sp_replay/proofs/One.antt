@@ -9,7 +9,7 @@ use Rattle.sp_law_run.proofs.Runs.{runs_alike}
 use Rattle.sp_law_run.proofs.Written.{rules_right}
 use Rattle.sp_spec.specs.Lists.{newest_first}
 use Rattle.sp_spec_text.specs.Printed.{trace_block}
-use Rattle.sp_read_steps.specs.Lines.{AreSteps, IsFirstUnread}
+use Rattle.sp_spec_text.specs.StepLines.{AreSteps, IsFirstUnread}
 use Rattle.sp_read_steps.proofs.Laws.{steps_are_one}
 use Rattle.sp_exec.specs.Replay.{IsReplayed, IsFirstFault}
 use Rattle.sp_exec.proofs.Replays.{one_trace, one_fault, no_execution}
@@ -20,7 +20,7 @@ use Rattle.sp_pose.specs.Problem.{Poses}
 use Rattle.sp_pose.proofs.One.{not_posed}
 use Rattle.sp_replay.specs.Replay.{theory_said, lines_behind, HasLines, steps_done, IsUnread, IsStopped, IsMet, AreMet, met_lines, IsReplay}
 use Rattle.sp_replay.specs.Laws.{RepliesAreOne}
-use Rattle.sp_read_steps.proofs.PairNames.{pairs_have_names}
+use Rattle.sp_spec_text.proofs.SymbolNames.{pairs_have_names}
 use Rattle.sp_spec.proofs.Lists.{newest_twice}
 
 -- ---- one theory, and one list of lines

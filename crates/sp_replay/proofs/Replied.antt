@@ -11,7 +11,7 @@ use Rattle.sp_law_equal.proofs.Pairs.{pairs_have_normal_forms, pairs_keep_symbol
 use Rattle.sp_law_run.specs.NormalStep.{normal_step, normal_trace}
 use Rattle.sp_law_equal.specs.Right.{AreRight}
 use Rattle.sp_law_run.proofs.Written.{rules_right}
-use Rattle.sp_law_tree.specs.PlainTheory.{IsPlainFormula}
+use Rattle.sp_law_tree.specs.BasicTheory.{IsBasicFormula}
 use Rattle.sp_fact.specs.View.{rule_of}
 use Rattle.sp_fact.specs.BookView.{book_of}
 use Rattle.sp_ground.specs.View.{signature_of, symbol_of, step_of, entries_of, trace_of}
@@ -19,7 +19,8 @@ use Rattle.sp_spec_text.specs.Printed.{trace_block}
 use Rattle.sp_ground.specs.declared.signature.Signature.{Signature}
 use Rattle.sp_ground.specs.declared.fact.Trace.{Trace}
 use Rattle.sp_ground.specs.declared.step.Step.{Step}
-use Rattle.sp_read_steps.specs.Lines.{lines, AreSteps, IsFirstUnread}
+use Rattle.sp_spec_text.specs.Blanks.{lines}
+use Rattle.sp_spec_text.specs.StepLines.{AreSteps, IsFirstUnread}
 use Rattle.sp_exec.specs.Replay.{IsReplayed, IsFirstFault}
 use Rattle.sp_exec.specs.View.{cause_of}
 use Rattle.sp_exec.specs.declared.cause.Cause.{Cause}
@@ -31,7 +32,7 @@ use Rattle.sp_pose.specs.declared.problem.Problem.{Problem}
 use Rattle.sp_pose.proofs.Theories.{theory_spelled}
 use Rattle.sp_replay.specs.Held.{held, held_lines}
 use Rattle.sp_replay.specs.Replay.{theory_said, behind_line, HasLines, steps_done, IsUnread, IsStopped, AreMet, met_lines, IsReplay}
-use Rattle.sp_law_tree.proofs.PlainOver.{plain_rules_over}
+use Rattle.sp_law_tree.proofs.BasicOver.{basic_rules_over}
 use Rattle.sp_pose.proofs.Forms.{asked_list, has_forms, lemmas_same}
 use Rattle.sp_replay.proofs.Truths.{lemmas_met, lines_same}
 
@@ -93,9 +94,9 @@ module _ {text : List ℕ} (p : Problem) (posed : IsPosedBy text p) (s : Signatu
         let done : IsReplayed said (steps_done said (map step_of steps)) (trace_of trace) =
         subst (λ (ys : List execution.Step). IsReplayed said ys (trace_of trace)) steps_are (h said (sym posed.rules_are) (sym pairs)) in
         let normal : normal_trace (theories.signature_of said).equations done.shown ≡ trace_of trace = done.each done.shown done.executed in
-        let plain : Every (λ (l : Lemma). IsPlainFormula l.formula) (map view.lemma ls) = subst (λ (ms : List Lemma). Every (λ (l : Lemma). IsPlainFormula l.formula) ms) (lemmas_same xs) first.lemmas_are in
-        let told = lemmas_met said pairs_have_normal_forms (pairs_keep_symbols (with_pairs [] []).symbols) (plain_rules_over (with_pairs [] []).symbols (rules_in (view.items xs)) first.rules_are)
-        (newest_first (steps_done said (map step_of steps))) done.shown done.executed ls forms.forms plain forms.are in
+        let basic : Every (λ (l : Lemma). IsBasicFormula l.formula) (map view.lemma ls) = subst (λ (ms : List Lemma). Every (λ (l : Lemma). IsBasicFormula l.formula) ms) (lemmas_same xs) first.lemmas_are in
+        let told = lemmas_met said pairs_have_normal_forms (pairs_keep_symbols (with_pairs [] []).symbols) (basic_rules_over (with_pairs [] []).symbols (rules_in (view.items xs)) first.rules_are)
+        (newest_first (steps_done said (map step_of steps))) done.shown done.executed ls forms.forms basic forms.are in
         let met = map (held (trace_of trace)) (asked_list ls forms.forms) in
         let over : AreMet (theories.signature_of said) done.shown (map view.lemma ls) met =
         subst (λ (t : execution.Trace). AreMet (theories.signature_of said) done.shown (map view.lemma ls) (map (held t) (asked_list ls forms.forms))) normal told in

@@ -6,8 +6,8 @@ use Rattle.sp_law_equal.specs.NormalForms.{HaveNormalForms}
 use Rattle.sp_law_equal.proofs.Pairs.{pairs_have_normal_forms}
 use Rattle.sp_ground.specs.View.{symbol_of, signature_of}
 use Rattle.sp_ground.specs.declared.signature.Signature.{Signature}
-use Rattle.sp_read_steps.specs.Lines.{HaveNames}
-use Rattle.sp_read_steps.proofs.PairNames.{pairs_have_names}
+use Rattle.sp_spec_text.specs.StepLines.{HaveNames}
+use Rattle.sp_spec_text.proofs.SymbolNames.{pairs_have_names}
 
 pub have_names : (s : Signature) → signature_of s ≡ with_pairs [] [] → HaveNames (map symbol_of s.symbols.items)
 have_names s e = subst HaveNames (sym (ap (λ (x : spec.Signature). x.symbols) e)) pairs_have_names

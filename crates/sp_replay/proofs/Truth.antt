@@ -25,25 +25,25 @@ use Rattle.sp_law_equal.specs.Right.{RulesAreOver}
 use Rattle.sp_law_run.specs.Laws.{IsTraceOver}
 use Rattle.sp_law_run.proofs.Over.{execution_over, normal_trace_over}
 use Rattle.sp_law_decide.specs.Deciding.{assignment_of, decided, empty}
-use Rattle.sp_law_decide.specs.Normal.{IsNormalAction, IsNormalTrace, HasPlainTerms, HasAtomicTerms, CanDecide}
+use Rattle.sp_law_decide.specs.Normal.{IsNormalAction, IsNormalTrace, HasConstructorTerms, HasAtomicTerms, CanDecide}
 use Rattle.sp_law_decide.specs.Normal as decide
-use Rattle.sp_law_decide.proofs.PlainForms.{form_plain, atomic_plain}
+use Rattle.sp_law_decide.proofs.ConstructorForms.{form_keeps, atomic_formula}
 use Rattle.sp_law_decide.proofs.Told.{told}
-use Rattle.sp_law_tree.specs.PlainTheory.{IsAtomic, AreAtomic, IsPlainFormula}
+use Rattle.sp_law_tree.specs.BasicTheory.{IsBasicTerm, AreBasicTerms, IsBasicFormula}
 
--- ---- no symbol stands in a plain formula
+-- ---- no symbol stands in a basic formula
 
-term_atomic : (t : Term Written) → IsAtomic t → decide.IsAtomic t
+term_atomic : (t : Term Written) → IsBasicTerm t → decide.IsAtomic t
 term_atomic (var x) h = tt
 term_atomic (constant c) h = tt
 term_atomic (name n) h = tt
 term_atomic (app f ts) h = h
 
-terms_atomic : (ts : Terms Written) → AreAtomic ts → decide.AreAtomic ts
+terms_atomic : (ts : Terms Written) → AreBasicTerms ts → decide.AreAtomic ts
 terms_atomic none h = tt
 terms_atomic (more t ts) h = (term_atomic t h.0, terms_atomic ts h.1)
 
-formula_atomic : (f : Formula) → IsPlainFormula f → HasAtomicTerms f
+formula_atomic : (f : Formula) → IsBasicFormula f → HasAtomicTerms f
 formula_atomic truth h = tt
 formula_atomic falsity h = tt
 formula_atomic (happens a i) h = terms_atomic a.args h.0
@@ -56,8 +56,8 @@ formula_atomic (implies f g) h = (formula_atomic f h.0, formula_atomic g h.1)
 formula_atomic (for_all x f) h = formula_atomic f h
 formula_atomic (for_some x f) h = formula_atomic f h
 
-pub formula_plain : (signature : Signature) (f : Formula) → IsPlainFormula f → HasPlainTerms signature f
-formula_plain signature f h = atomic_plain signature f (formula_atomic f h)
+pub formula_constructors : (signature : Signature) (f : Formula) → IsBasicFormula f → HasConstructorTerms signature f
+formula_constructors signature f h = atomic_formula signature f (formula_atomic f h)
 
 -- ---- a trace and its normal form
 
@@ -85,21 +85,21 @@ module _ (signature : Signature) where
 
 module _ (theory : Theory) (good : HaveNormalForms (signature_of theory).equations) (keeps : KeepSymbols (signature_of theory).symbols (signature_of theory).equations)
     (rules : RulesAreOver (signature_of theory).symbols theory.rules) (steps : List Step) (shown : Trace) (run : IsExecution theory steps shown) where
-  can_decide : (f : Formula) (g : Guarded) → HasPlainTerms (signature_of theory) f → guarded_form [] f ≡ Some g → is_guarded g ≡ true → CanDecide (signature_of theory) (normal_trace (signature_of theory).equations shown) g
-  can_decide f g plain e guarded = record {
+  can_decide : (f : Formula) (g : Guarded) → HasConstructorTerms (signature_of theory) f → guarded_form [] f ≡ Some g → is_guarded g ≡ true → CanDecide (signature_of theory) (normal_trace (signature_of theory).equations shown) g
+  can_decide f g constructors e guarded = record {
     normal_forms = good;
     keeps = keeps;
     normal = trace_normal (signature_of theory) good shown
         (normal_trace_over (signature_of theory).symbols (signature_of theory).equations keeps shown (execution_over theory rules steps shown run));
-    plain = form_plain (signature_of theory) f g plain e;
+    constructors = form_keeps (signature_of theory) f g constructors e;
     guarded = guarded;
   }
 
   -- a formula is true over the trace exactly where its guarded form is decided to be true over the normal form
-  pub true_where_decided : (f : Formula) (g : Guarded) → HasPlainTerms (signature_of theory) f → guarded_form [] f ≡ Some g → is_guarded g ≡ true
+  pub true_where_decided : (f : Formula) (g : Guarded) → HasConstructorTerms (signature_of theory) f → guarded_form [] f ≡ Some g → is_guarded g ≡ true
       → IsTrue (decided (normal_trace (signature_of theory).equations shown) empty g) ↔ IsTrueOver (signature_of theory) shown f
-  true_where_decided f g plain e guarded =
+  true_where_decided f g constructors e guarded =
       let t = normal_trace (signature_of theory).equations shown in
       let same = equal_same (signature_of theory) shown t (trace_equal (signature_of theory) shown) (assignment_of empty) (assignment_of empty) (equal_assignment (signature_of theory).equations (assignment_of empty)) g in
-      as_through ((told t g).form (signature_of theory) (can_decide f g plain e guarded) f e (assignment_of empty))
+      as_through ((told t g).form (signature_of theory) (can_decide f g constructors e guarded) f e (assignment_of empty))
       (as_turned (as_through (form_kept (signature_of theory) shown f g e (assignment_of empty)) same))

@@ -10,7 +10,8 @@ use Rattle.sp_spec.specs.Truth.{IsTrueOver}
 use Rattle.sp_law_run.specs.NormalStep.{normal_step}
 use Rattle.sp_spec.specs.Lists.{newest_first}
 use Rattle.sp_spec_text.specs.Printed.{trace_block}
-use Rattle.sp_read_steps.specs.Lines.{lines, AreSteps, IsFirstUnread}
+use Rattle.sp_spec_text.specs.Blanks.{lines}
+use Rattle.sp_spec_text.specs.StepLines.{AreSteps, IsFirstUnread}
 use Rattle.sp_exec.specs.Replay.{IsReplayed, IsFirstFault}
 use Rattle.sp_spec_text.specs.Written.{WrittenText, theory_in}
 use Rattle.sp_spec_text.specs.Spans.{Span}

@@ -57,7 +57,7 @@ opened_nothing items i n c h = ap (λ (bs : List Binder). opened (map binder_of 
 
 -- a variable in memory is one
 pub view_var : (x : Variable) → view (Var x) ≡ var (variable_of x)
-view_var x = ap view (sym (rolls-Var x)) ∙ fold-roll-Term (Term term.Variable) view_step (Term-F.Var x)
+view_var x = ap view (sym (rolls-Var x)) ∙ fold-roll-Term Variable (Term term.Variable) (view_step variable_of) (Term-F.Var x)
 
 -- the innermost first, and the innermost last
 pub reversed_all : {A : Type 0} (xs : List A) (f : ℕ → A) → pushed_all (reverse xs) f ≡ filled xs f
@@ -70,7 +70,7 @@ map-reverse {B = B} f (x ∷ xs) =
     ap (map f) (reverse-append (x ∷ []) xs) ∙ map-append f (reverse xs) (x ∷ []) ∙ ap (λ (ys : List B). ys ++ f x ∷ []) (map-reverse f xs)
     ∙ sym (reverse-append (f x ∷ []) (map f xs))
 
-placed_views : (ts : List memory_term.Term) → placed_each (map view ts) ≡ map value_place ts
+placed_views : (ts : List (memory_term.Term Variable)) → placed_each (map view ts) ≡ map value_place ts
 placed_views [] = refl
 placed_views (t ∷ ts) = ap (λ (us : List (Term Place)). value_place t ∷ us) (placed_views ts)
 
@@ -79,7 +79,7 @@ free_times [] = refl
 free_times (j ∷ js) = ap (λ (ks : List spec.Time). spec.free_time j ∷ ks) (free_times js)
 
 -- values in memory, the innermost last, make the instance of the values, the innermost first
-pub instance_of : (v : Values) (ts : List memory_term.Term) (js : List ℕ) → v.messages.items ≡ reverse ts → v.times.items ≡ reverse js → change_of v ≡ instance (map view ts) js
+pub instance_of : (v : Values) (ts : List (memory_term.Term Variable)) (js : List ℕ) → v.messages.items ≡ reverse ts → v.times.items ≡ reverse js → change_of v ≡ instance (map view ts) js
 instance_of v ts js e d =
     ap₂ (λ (f : ℕ → Term Place) (g : ℕ → spec.Time). let c : Change = record { terms = var; times = λ i. i; bound_terms = f; bound_times = g } in c)
     (ap (λ (us : List (Term Place)). pushed_all us (λ k. var (spec.bound k))) (ap (map value_place) e ∙ map-reverse value_place ts ∙ ap reverse (sym (placed_views ts)))

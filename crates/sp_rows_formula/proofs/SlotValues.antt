@@ -5,6 +5,7 @@ use Rattle.std.proofs.lemmas.Bool.{eqb-true, eq-eqb}
 use Rattle.sp_spec.specs.Term.{Variable, Term}
 use Rattle.sp_term.specs.View.{view}
 use Rattle.sp_term.specs.declared.term.Term as memory_term
+use Rattle.sp_term.specs.declared.term.Variable as leaf
 use Rattle.sp_spec_formula.specs.Instances.{Slot, with_value, put_term, with_position, put_time, value_at, all_terms, all_times}
 use Rattle.sp_rows_formula.specs.declared.slots.Slot as memory
 use Rattle.sp_rows_formula.specs.SlotsView.{slot_of}
@@ -101,24 +102,24 @@ terms_more items i x h is =
     ∙ ap (λ (y : memory.Slot). option_and_then (λ t. option_map (λ (ts : List (Term Variable)). t ∷ ts) (all_terms (map slot_of (drop (i + 1) items)))) (option_map view y.value)) (sym is)
 
 -- one turn of the loop over slots
-pub terms_turn : (items : List memory.Slot) (i : ℕ) (x : memory.Slot) (made grown : List memory_term.Term) (t u : memory_term.Term) → i < length items → x ≡ slice_index_or items i x → x.value ≡ Some t
+pub terms_turn : (items : List memory.Slot) (i : ℕ) (x : memory.Slot) (made grown : List (memory_term.Term leaf.Variable)) (t u : memory_term.Term leaf.Variable) → i < length items → x ≡ slice_index_or items i x → x.value ≡ Some t
     → view u ≡ view t → grown ≡ made ++ u ∷ [] → after (map view made) (all_terms (map slot_of (drop i items))) ≡ after (map view grown) (all_terms (map slot_of (drop (i + 1) items)))
 terms_turn items i x made grown t u h is v e g =
     ap (after (map view made))
     (terms_more items i x h is
-    ∙ ap (λ (o : Option memory_term.Term). option_and_then (λ t. option_map (λ (ts : List (Term Variable)). t ∷ ts) (all_terms (map slot_of (drop (i + 1) items)))) (option_map view o)) v)
+    ∙ ap (λ (o : Option (memory_term.Term leaf.Variable)). option_and_then (λ t. option_map (λ (ts : List (Term Variable)). t ∷ ts) (all_terms (map slot_of (drop (i + 1) items)))) (option_map view o)) v)
     ∙ after_one (map view made) (view t) (all_terms (map slot_of (drop (i + 1) items)))
     ∙ ap (λ (ts : List (Term Variable)). after ts (all_terms (map slot_of (drop (i + 1) items))))
     (ap (λ (w : Term Variable). map view made ++ w ∷ []) (sym e) ∙ sym (ap (map view) g ∙ map-append view made (u ∷ [])))
 
-pub terms_stop : (items : List memory.Slot) (i : ℕ) (x : memory.Slot) (made : List memory_term.Term) → i < length items → x ≡ slice_index_or items i x → x.value ≡ None
+pub terms_stop : (items : List memory.Slot) (i : ℕ) (x : memory.Slot) (made : List (memory_term.Term leaf.Variable)) → i < length items → x ≡ slice_index_or items i x → x.value ≡ None
     → after (map view made) (all_terms (map slot_of (drop i items))) ≡ None
 terms_stop items i x made h is v =
     ap (after (map view made))
     (terms_more items i x h is
-    ∙ ap (λ (o : Option memory_term.Term). option_and_then (λ t. option_map (λ (ts : List (Term Variable)). t ∷ ts) (all_terms (map slot_of (drop (i + 1) items)))) (option_map view o)) v)
+    ∙ ap (λ (o : Option (memory_term.Term leaf.Variable)). option_and_then (λ t. option_map (λ (ts : List (Term Variable)). t ∷ ts) (all_terms (map slot_of (drop (i + 1) items)))) (option_map view o)) v)
 
-pub terms_end : (items : List memory.Slot) (i : ℕ) (made : List memory_term.Term) → length items ≤ i → after (map view made) (all_terms (map slot_of (drop i items))) ≡ Some (map view made)
+pub terms_end : (items : List memory.Slot) (i : ℕ) (made : List (memory_term.Term leaf.Variable)) → length items ≤ i → after (map view made) (all_terms (map slot_of (drop i items))) ≡ Some (map view made)
 terms_end items i made h = ap (λ (xs : List memory.Slot). after (map view made) (all_terms (map slot_of xs))) (drop_all i items h) ∙ after_all (map view made)
 
 times_more : (items : List (Option ℕ)) (i : ℕ) (x : Option ℕ) → i < length items → x ≡ slice_index_or items i x

@@ -4,6 +4,7 @@ use Rattle.sp_spec.specs.Term.{Term, var}
 use Rattle.sp_spec.specs.Guarded.{Guarded, Place, free, bound, free_time, bound_time, Binder, message, time, holds, pushed}
 use Rattle.sp_term.specs.View.{view}
 use Rattle.sp_term.specs.declared.term.Term as memory_term
+use Rattle.sp_term.specs.declared.term.Variable as leaf
 use Rattle.sp_spec_system.specs.System.{System, with_next}
 use Rattle.sp_spec.specs.Change.{Change, placed, atom_changed, changed, opening}
 use Rattle.sp_formula.specs.FormulaView.{atom_of, binder_of, formula_of}
@@ -20,7 +21,7 @@ abbrev pub pushed_all : {A : Type 0} → List A → (ℕ → A) → ℕ → A
 pushed_all [] f = f
 pushed_all (a ∷ as_rest) f = pushed_all as_rest (pushed a f)
 
-abbrev pub value_place : memory_term.Term → Term Place
+abbrev pub value_place : memory_term.Term leaf.Variable → Term Place
 value_place t = placed (view t)
 
 -- what the values stand for; what is bound beyond them stays

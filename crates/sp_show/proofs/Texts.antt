@@ -2,34 +2,28 @@
 use Rattle.std.proofs.Common.{◌≡◌, ℕ, Bool, true, false, ◌&&◌, cond, List, [], ◌∷◌, ◌++◌, codes, nat_eq, length, refl, sym, ap, ◌∙◌, append_assoc, true≢false, arith}
 use Rattle.std.proofs.lemmas.List.{append-nil}
 use Rattle.std.specs.Str.{bytes_eq}
+use Rattle.std.proofs.Math.Bool.{and-true, and-false}
 use Rattle.sp_spec.specs.Term.{app, none, more, Ground, Grounds}
 use Rattle.sp_spec.specs.Rule.{Action}
-use Rattle.sp_ground.specs.declared.term.GroundTerm.{GroundTerm}
+use Rattle.sp_term.specs.View.{Never}
+use Rattle.sp_term.specs.declared.term.Term.{Term}
 use Rattle.sp_ground.specs.View.{grounds_of}
 use Rattle.sp_spec_text.specs.Printed.{are_two, is_pair, text_at, row_text, arguments_text, action_text, more_actions_text, entry_text, more_given_text, given_text}
 use Rattle.sp_show.specs.Runs.{terms_run, opening, closing, actions_run, given_run}
 
-two_terms : (ts : List GroundTerm) → nat_eq (length ts) 2 ≡ are_two (grounds_of ts)
+two_terms : (ts : List (Term Never)) → nat_eq (length ts) 2 ≡ are_two (grounds_of ts)
 two_terms [] = refl
 two_terms (t ∷ []) = refl
 two_terms (t ∷ u ∷ []) = refl
 two_terms (t ∷ u ∷ w ∷ ts) = grind arith
 
-stays : (b : Bool) → (b && true) ≡ b
-stays true = refl
-stays false = refl
-
-never : (b : Bool) → (b && false) ≡ false
-never true = refl
-never false = refl
-
 row_run : (in_pair : Bool) (ts : Grounds) → terms_run false in_pair ts ≡ row_text in_pair ts
 row_run in_pair none = refl
 row_run in_pair (more t ts) =
-    ap (λ (b : Bool). codes ", " ++ (text_at b t ++ terms_run false in_pair ts)) (stays in_pair) ∙ ap (λ (xs : List ℕ). codes ", " ++ (text_at in_pair t ++ xs)) (row_run in_pair ts)
+    ap (λ (b : Bool). codes ", " ++ (text_at b t ++ terms_run false in_pair ts)) (and-true in_pair) ∙ ap (λ (xs : List ℕ). codes ", " ++ (text_at in_pair t ++ xs)) (row_run in_pair ts)
 
 first_run : (in_pair : Bool) (t : Ground) (ts : Grounds) → terms_run true in_pair (more t ts) ≡ text_at false t ++ row_text in_pair ts
-first_run in_pair t ts = ap (λ (b : Bool). text_at b t ++ terms_run false in_pair ts) (never in_pair) ∙ ap (λ (xs : List ℕ). text_at false t ++ xs) (row_run in_pair ts)
+first_run in_pair t ts = ap (λ (b : Bool). text_at b t ++ terms_run false in_pair ts) (and-false in_pair) ∙ ap (λ (xs : List ℕ). text_at false t ++ xs) (row_run in_pair ts)
 
 pub arguments_run : (ts : Grounds) → terms_run true false ts ≡ arguments_text ts
 arguments_run none = refl
@@ -77,14 +71,14 @@ written_application old a b new ends f ts paired p e g h =
     three_parts old a b new (opening ends f ts) (terms_run true paired ts) (closing ends f ts) (text_at ends (app f ts)) e g h
     (app_text ends f ts ∙ ap (λ (q : Bool). opening ends f ts ++ (terms_run true q ts ++ closing ends f ts)) (sym p))
 
-pub pair_of_two : (f : List ℕ) (ts : List GroundTerm) (n : ℕ) → n ≡ length ts → true ≡ bytes_eq f (codes "pair") → nat_eq n 2 ≡ is_pair f (grounds_of ts)
+pub pair_of_two : (f : List ℕ) (ts : List (Term Never)) (n : ℕ) → n ≡ length ts → true ≡ bytes_eq f (codes "pair") → nat_eq n 2 ≡ is_pair f (grounds_of ts)
 pair_of_two f ts n e h = ap (λ (k : ℕ). nat_eq k 2) e ∙ two_terms ts ∙ ap (λ (b : Bool). b && are_two (grounds_of ts)) h
 
 -- other symbols stand before round brackets
-pub opening_round : (ends : Bool) (f : List ℕ) (ts : List GroundTerm) → false ≡ nat_eq (length ts) 0 → false ≡ is_pair f (grounds_of ts) → f ++ codes "(" ≡ opening ends f (grounds_of ts)
+pub opening_round : (ends : Bool) (f : List ℕ) (ts : List (Term Never)) → false ≡ nat_eq (length ts) 0 → false ≡ is_pair f (grounds_of ts) → f ++ codes "(" ≡ opening ends f (grounds_of ts)
 opening_round ends f [] e h = absurd (true≢false (sym e))
 opening_round ends f (t ∷ ts) e h = ap (λ (b : Bool). cond b (cond ends [] (codes "<")) (f ++ codes "(")) h
 
-pub closing_round : (ends : Bool) (f : List ℕ) (ts : List GroundTerm) → false ≡ nat_eq (length ts) 0 → false ≡ is_pair f (grounds_of ts) → codes ")" ≡ closing ends f (grounds_of ts)
+pub closing_round : (ends : Bool) (f : List ℕ) (ts : List (Term Never)) → false ≡ nat_eq (length ts) 0 → false ≡ is_pair f (grounds_of ts) → codes ")" ≡ closing ends f (grounds_of ts)
 closing_round ends f [] e h = absurd (true≢false (sym e))
 closing_round ends f (t ∷ ts) e h = ap (λ (b : Bool). cond b (cond ends [] (codes ">")) (codes ")")) h

@@ -9,7 +9,7 @@ ghost use Rattle.sp_show.specs.Numbers.{HasNames, HaveNames, numbered_names};
 ghost use Rattle.sp_show.specs.Runs.{closing, opening, separator, terms_run};
 
 use sp_ground::term::GroundTerm;
-use sp_term::term::Name;
+use sp_term::term::{Name, Term};
 use std::alloc::AllocError;
 
 /// Whether this symbol over these arguments is a pair.
@@ -98,9 +98,10 @@ fn write_at(out: &mut String, term: &GroundTerm, ends: bool) -> Result<(), Alloc
     ensures numbered { OnOk result (HasNames numbered_names (ground_of term.now)) }
 {
     match term {
-        GroundTerm::Constant(name) => write_constant(out, name),
-        GroundTerm::FreshName(number) => write_fresh_name(out, *number),
-        GroundTerm::App(symbol, shared) => {
+        Term::Var(never) => match never.leaf {},
+        Term::Constant(name) => write_constant(out, name),
+        Term::FreshName(number) => write_fresh_name(out, *number),
+        Term::App(symbol, shared) => {
             let terms: &Vec<GroundTerm> = shared;
             write_opening(out, symbol, terms, ends)?;
             write_row(out, terms, is_pair(symbol, terms))?;

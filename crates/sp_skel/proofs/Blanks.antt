@@ -5,9 +5,9 @@ use Rattle.std.specs.Char.{is_ascii_alphanumeric}
 use Rattle.std.proofs.lemmas.Bool.{ne_eqb}
 use Rattle.sp_spec_text.specs.Bytes as class
 use Rattle.sp_spec_text.specs.Token.{Lexeme, word, solve, Token}
-use Rattle.sp_spec_text.specs.Lex.{is_blank, is_in, is_first, is_digit, skip, nothing, past, gap, no_gap, gap_then, token, piece, is_end, is_solve, Reads, plain, goal, closed_by, solve_piece, IsNext, AreTokens, no_more, last, next, lexemes}
-use Rattle.sp_skel.specs.Spelling.{IsWord}
-use Rattle.sp_skel.proofs.Decimals.{before_rest}
+use Rattle.sp_spec_text.specs.Lex.{is_blank, is_in, is_first, is_digit, skip, nothing, past, gap, no_gap, gap_then, token, piece, is_end, is_solve, Reads, as_it_is, goal, closed_by, solve_piece, IsNext, AreTokens, no_more, last, next, lexemes}
+use Rattle.sp_spec_text.specs.Names.{IsWord}
+use Rattle.sp_spec_text.proofs.Rests.{before_rest}
 use Rattle.sp_skel.proofs.Goals.{Closes}
 
 -- tokens that read as these lexemes
@@ -107,7 +107,7 @@ no_shorter w rest = omega (arith, length-append w rest)
 pub lexes_word : {size : ℕ} {xs : List Lexeme} (w : List ℕ) (b : ℕ) (rest : List ℕ) → IsWord w → Ends b → is_end (word w) ≡ false → is_solve (word w) ≡ false → Lexes size (b ∷ rest) xs → Lexes size (w ++ b ∷ rest) (word w ∷ xs)
 lexes_word [] b rest h e d s l = absurd h
 lexes_word (c ∷ w) b rest h e d s l =
-    lexes_token (c ∷ w ++ b ∷ rest) (b ∷ rest) (gap_word c (w ++ b ∷ rest) h.0) (plain (piece_word (c ∷ w) b rest h e) s) d (no_shorter (c ∷ w) (b ∷ rest)) l
+    lexes_token (c ∷ w ++ b ∷ rest) (b ∷ rest) (gap_word c (w ++ b ∷ rest) h.0) (as_it_is (piece_word (c ∷ w) b rest h e) s) d (no_shorter (c ∷ w) (b ∷ rest)) l
 
 -- ---- goals
 

@@ -9,10 +9,10 @@ use Rattle.std.proofs.lemmas.Slice.Eq.{bytes_eq-Decides}
 use Rattle.std.proofs.Math.Nat.{mod-lt}
 use Rattle.sp_spec_text.specs.Bytes as class
 use Rattle.sp_spec_text.specs.Lex.{is_first, is_in, is_digit, skip}
-use Rattle.sp_spec_text.specs.Names.{is_reserved, IsName}
-use Rattle.sp_skel.specs.MoveTexts.{are_digits}
-use Rattle.sp_skel.specs.Spelling.{IsWord}
-use Rattle.sp_skel.proofs.Plain.{and_left, and_right}
+use Rattle.sp_spec_text.specs.Names.{is_reserved, IsName, IsWord}
+use Rattle.sp_spec_text.specs.Numerals.{are_digits}
+use Rattle.sp_spec_text.proofs.Rests.{first_kept}
+use Rattle.sp_spec_text.proofs.Numerals.{digits_skipped}
 
 -- ---- digits
 
@@ -36,10 +36,6 @@ all_digits n = onto_digits 64 n [] refl
 
 -- ---- words
 
-first_kept : (w rest : List ℕ) → is_first is_digit rest ≡ false → is_first is_digit (w ++ rest) ≡ is_first is_digit w
-first_kept [] rest h = h
-first_kept (c ∷ w) rest h = refl
-
 -- a word goes on over these bytes, which begin with no digit
 skip_onto : (w rest : List ℕ) → skip class.Word w ≡ [] → is_first is_digit rest ≡ false → skip class.Word (w ++ rest) ≡ skip class.Word rest
 unfolding skip
@@ -52,14 +48,6 @@ skip_onto (c ∷ w) rest h e =
     by_test true k f = f k
     by_test false k f = absurd (let none : ⊥ = cc in none)
 
-digit_in_word : (b : ℕ) (bytes : List ℕ) → is_digit b ≡ true → is_in class.Word b bytes ≡ true
-digit_in_word b bytes h = rw h refl
-
-skip_digits : (ds : List ℕ) → are_digits ds ≡ true → skip class.Word ds ≡ []
-unfolding skip
-skip_digits [] h = refl
-skip_digits (b ∷ ds) h = rw (digit_in_word b ds (and_left (is_digit b) (are_digits ds) h)) (skip_digits ds (and_right (is_digit b) (are_digits ds) h))
-
 at_digits : (ds : List ℕ) → skip class.Word (codes "t_" ++ ds) ≡ skip class.Word ds
 unfolding skip
 at_digits ds = refl
@@ -69,18 +57,18 @@ unfolding skip
 case_digits ds = refl
 
 at_word : (ds : List ℕ) → are_digits ds ≡ true → IsWord (codes "at_" ++ ds)
-at_word ds h = (refl, at_digits ds ∙ skip_digits ds h)
+at_word ds h = (refl, at_digits ds ∙ digits_skipped ds h)
 
 part_digits : (ds : List ℕ) → skip class.Word (codes "ase_" ++ ds) ≡ skip class.Word ds
 unfolding skip
 part_digits ds = refl
 
 part_word : (ds : List ℕ) → are_digits ds ≡ true → IsWord (codes "case_" ++ ds)
-part_word ds h = (refl, part_digits ds ∙ skip_digits ds h)
+part_word ds h = (refl, part_digits ds ∙ digits_skipped ds h)
 
 case_word : (n ds : List ℕ) → IsWord n → are_digits ds ≡ true → IsWord (n ++ (codes "_case_" ++ ds))
 case_word [] ds h d = absurd h
-case_word (c ∷ w) ds h d = (h.0, skip_onto w (codes "_case_" ++ ds) h.1 refl ∙ case_digits ds ∙ skip_digits ds d)
+case_word (c ∷ w) ds h d = (h.0, skip_onto w (codes "_case_" ++ ds) h.1 refl ∙ case_digits ds ∙ digits_skipped ds d)
 
 -- ---- names
 

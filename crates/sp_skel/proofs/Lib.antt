@@ -7,8 +7,7 @@ pub mod InOrder
 pub mod Levels
 pub mod NamedPlaces
 pub mod Nodes
-pub mod Numbers
-pub mod Plain
+pub mod Unbroken
 pub mod ReadBack
 pub mod Readable
 pub mod Said

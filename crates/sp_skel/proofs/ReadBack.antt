@@ -2,9 +2,10 @@
 use Rattle.std.proofs.Common.{◌≡◌, ℕ, suc, zero, ◌≤◌, Bool, true, false, if◌then◌else◌, List, [], ◌∷◌, ◌++◌, length, codes, refl, sym, ap, subst, ◌∙◌, append_assoc}
 use Rattle.std.specs.Prelude.{◌||◌}
 use Rattle.std.specs.Str.{bytes_eq}
+use Rattle.std.proofs.lemmas.Bool.{or_parts}
 use Rattle.sp_spec_text.specs.Token.{Lexeme, word, Token}
 use Rattle.sp_spec_text.specs.Lex.{is_end, is_solve, skip, AreTokens, lexemes}
-use Rattle.sp_spec_text.specs.Names.{is_reserved, IsName}
+use Rattle.sp_spec_text.specs.Names.{is_reserved, IsName, IsWord}
 use Rattle.sp_spec_system.specs.Move.{Move}
 use Rattle.sp_spec_system.specs.Words.{Words, method, goal, words_of, AreWithin, words_text, goal_text, stand_alone}
 use Rattle.sp_spec_proof.specs.Tree.{Tree, node, Branches, no_branch, branch}
@@ -12,7 +13,7 @@ use Rattle.sp_skel.specs.TreeText.{indent, line, move_text, leading, tree_text, 
 use Rattle.sp_spec_text.specs.Proofs.{SpellsProof}
 use Rattle.sp_skel.specs.Laws.{ReadsBack}
 use Rattle.sp_skel.specs.Places.{HasPlace}
-use Rattle.sp_skel.specs.Spelling.{IsWord, words_spelled, move_spelled, behind_by, spelled, cases_spelled, as_written, IsReadable, AreReadable}
+use Rattle.sp_skel.specs.Spelling.{words_spelled, move_spelled, behind_by, spelled, cases_spelled, as_written, IsReadable, AreReadable}
 use Rattle.sp_skel.proofs.Blanks.{Lexes, lexes_blank, space, line_end, lexes_word, lexes_goal}
 use Rattle.sp_skel.proofs.Goals.{closes_goal}
 use Rattle.sp_skel.proofs.Spelled.{HaveCase, tree_spells, tree_says}
@@ -22,14 +23,6 @@ lexes_at : {size : ℕ} {bytes others : List ℕ} {xs : List Lexeme} → bytes �
 lexes_at {size} {xs = xs} e l = subst (λ (b : List ℕ). Lexes size b xs) (sym e) l
 
 -- ---- names
-
-or_left : (x y : Bool) → (x || y) ≡ false → x ≡ false
-or_left true y h = h
-or_left false y h = refl
-
-or_right : (x y : Bool) → (x || y) ≡ false → y ≡ false
-or_right true y h = absurd (let none : ⊥ = cc in none)
-or_right false y h = h
 
 first_of : (a b c d e f g h : Bool) → (a || b || c || d || e || f || g || h) ≡ false → a ≡ false
 first_of true b c d e f g h i = i
@@ -43,7 +36,7 @@ name_goes_on w h =
 pub name_no_goal : (w : List ℕ) → IsName w → is_solve (word w) ≡ false
 unfolding is_reserved
 name_no_goal w h =
-    or_right (bytes_eq w (codes "end") || bytes_eq w (codes "let") || bytes_eq w (codes "in") || bytes_eq w (codes "not") || bytes_eq w (codes "All") || bytes_eq w (codes "Ex") || bytes_eq w (codes "last")) (bytes_eq w (codes "solve")) h
+    (or_parts (bytes_eq w (codes "end") || bytes_eq w (codes "let") || bytes_eq w (codes "in") || bytes_eq w (codes "not") || bytes_eq w (codes "All") || bytes_eq w (codes "Ex") || bytes_eq w (codes "last")) (bytes_eq w (codes "solve")) h).1
 
 -- ---- words of moves and cases
 
@@ -67,7 +60,7 @@ lexes_words : {size : ℕ} {xs : List Lexeme} (m : Move) (ws : Words) (rest : Li
 lexes_words m (method w) rest line h l = lexes_word w 10 rest line.is_word line_end line.goes_on line.no_goal l
 lexes_words m (goal w arguments) rest line h l =
     let inside : List ℕ = goal_text w arguments in
-    lexes_at (ap (λ (bytes : List ℕ). codes "solve(" ++ bytes) (append_assoc inside (codes ")") (10 ∷ rest))) (lexes_goal inside (10 ∷ rest) (closes_goal w arguments line.plain h) l)
+    lexes_at (ap (λ (bytes : List ℕ). codes "solve(" ++ bytes) (append_assoc inside (codes ")") (10 ∷ rest))) (lexes_goal inside (10 ∷ rest) (closes_goal w arguments line.unbroken h) l)
 
 lexes_move : {size : ℕ} {xs : List Lexeme} (m : Move) (rest : List ℕ) → HasPlace m → Lexes size (10 ∷ rest) xs → Lexes size (move_text m ++ 10 ∷ rest) (move_spelled m ∷ xs)
 lexes_move m rest h l = lexes_words m (words_of m) rest (lines m) h l

@@ -20,9 +20,9 @@ use Rattle.sp_spec_proof.specs.Growth.{grown_tree}
 use Rattle.sp_law_tree.proofs.Growing.{grown_tree_accepted}
 use Rattle.sp_moves_formula.specs.Sought.{sought}
 use Rattle.sp_moves_formula.proofs.ByAction.{sought_cases, solves}
-use Rattle.sp_spec_text.specs.Names.{IsName}
+use Rattle.sp_spec_text.specs.Names.{IsName, IsWord}
 use Rattle.sp_skel.specs.Places.{HasPlace, HavePlaces, AllHavePlaces}
-use Rattle.sp_skel.specs.Spelling.{IsWord, IsReadable, AreReadable, MayHaveCases, AreNamed}
+use Rattle.sp_skel.specs.Spelling.{IsReadable, AreReadable, MayHaveCases, AreNamed}
 use Rattle.sp_skel.proofs.CaseNames.{at_named, part_named, case_named}
 use Rattle.sp_spec_system.specs.Rules.{RuleForms, Rules}
 

@@ -39,7 +39,7 @@ leaf_spells m rest = at (stand_alone (words_of m)) refl
 
 words_say : (m : Move) (ws : Words) → IsLine m ws → AreWithin ws → if_within m ≡ Some m → step_said (words_said ws) ≡ known m
 words_say m (method w) line h n = rw line.says refl
-words_say m (goal w arguments) line h n = goal_says m w arguments line.plain h line.says n
+words_say m (goal w arguments) line h n = goal_says m w arguments line.unbroken h line.says n
 
 pub move_says : (m : Move) → HasPlace m → step_said (move_said m) ≡ known m
 move_says m h = words_say m (words_of m) (lines m) h (named_within m h)

@@ -8,8 +8,8 @@ use Rattle.sp_spec_text.specs.Proofs.{is_method}
 use Rattle.sp_spec_system.specs.Move.{Move, simplify, contradiction, unproved, solved, or, action, premise}
 use Rattle.sp_spec_system.specs.Words.{Argument, place, time, Words, method, goal, words_of, of_method, by_one, by_two, of_goal, number, stand_alone}
 use Rattle.sp_skel.specs.Laws.{IsGoal}
-use Rattle.sp_skel.specs.Spelling.{IsWord}
-use Rattle.sp_skel.proofs.Plain.{IsPlain}
+use Rattle.sp_spec_text.specs.Names.{IsWord}
+use Rattle.sp_skel.proofs.Unbroken.{IsUnbroken}
 
 pub record IsMethodLine (m : Move) (w : List ℕ) : Type 0 where
   pub says : of_method w ≡ Some m
@@ -20,7 +20,7 @@ pub record IsMethodLine (m : Move) (w : List ℕ) : Type 0 where
 
 pub record IsGoalLine (m : Move) (w : List ℕ) (arguments : List Argument) : Type 0 where
   pub says : of_goal w (map number arguments) ≡ Some m
-  pub plain : IsPlain w
+  pub unbroken : IsUnbroken w
 
 abbrev pub IsLine : Move → Words → Type 0
 IsLine m (method w) = IsMethodLine m w
@@ -32,9 +32,9 @@ lines simplify = record { says = refl; is_word = (refl, refl); goes_on = refl; n
 lines contradiction = record { says = refl; is_word = (refl, refl); goes_on = refl; no_goal = refl; begins = λ h. refl }
 lines unproved = record { says = refl; is_word = (refl, refl); goes_on = refl; no_goal = refl; begins = λ h. refl }
 lines solved = record { says = refl; is_word = (refl, refl); goes_on = refl; no_goal = refl; begins = λ h. absurd (let none : ⊥ = cc in none) }
-lines (or k) = record { says = refl; plain = record { some = omega arith; plain = refl } }
-lines (action k) = record { says = refl; plain = record { some = omega arith; plain = refl } }
-lines (premise i p) = record { says = refl; plain = record { some = omega arith; plain = refl } }
+lines (or k) = record { says = refl; unbroken = record { some = omega arith; unbroken = refl } }
+lines (action k) = record { says = refl; unbroken = record { some = omega arith; unbroken = refl } }
+lines (premise i p) = record { says = refl; unbroken = record { some = omega arith; unbroken = refl } }
 
 -- ---- the inverse
 

@@ -1,29 +1,17 @@
 -- The texts of moves as they stand between the brackets of `solve( )`: a word, and what it needs, with one space between two of them.
 -- Blanks around are no part of a text. Source: Tamarin manual, "Proofs" (goals are written in `solve( )`); the words are this project's own.
-use Rattle.std.specs.Prelude.{ℕ, ◌+◌, ◌-◌, ◌*◌, ◌^◌, Bool, true, false, not, ◌&&◌, ◌||◌, ◌==◌, nat_lt, if◌then◌else◌, List, [], ◌∷◌, reverse, Option, Some, None, is_some, option_map, option_and_then, codes}
+use Rattle.std.specs.Prelude.{ℕ, Bool, true, false, not, ◌&&◌, ◌||◌, ◌==◌, if◌then◌else◌, List, [], ◌∷◌, Option, Some, None, is_some, option_map, option_and_then, codes}
 use Rattle.std.specs.Str.{bytes_eq}
-use Rattle.sp_spec_text.specs.Lex.{is_blank, is_digit, is_constant_byte}
-
--- without the blanks before it
-unfoldable pub unblanked : List ℕ → List ℕ
-unblanked [] = []
-unblanked (b ∷ bytes) = if is_blank b then unblanked bytes else b ∷ bytes
-
--- without the blanks around it
-abbrev pub trimmed : List ℕ → List ℕ
-trimmed text = reverse (unblanked (reverse (unblanked text)))
+use Rattle.sp_spec_text.specs.Lex.{is_constant_byte}
+use Rattle.sp_spec_text.specs.Blanks.{onto_first}
+use Rattle.sp_spec_text.specs.Numerals.{are_digits, value, below_limit}
 
 -- ---- words
-
--- with a byte before the first
-abbrev pub onto : ℕ → List (List ℕ) → List (List ℕ)
-onto b [] = (b ∷ []) ∷ []
-onto b (word ∷ others) = (b ∷ word) ∷ others
 
 -- what stands between spaces that are in no constant
 unfoldable pub words_from : Bool → List ℕ → List (List ℕ)
 words_from quoted [] = [] ∷ []
-words_from quoted (b ∷ bytes) = if b == 32 && not quoted then [] ∷ words_from quoted bytes else onto b (words_from (if b == 39 then not quoted else quoted) bytes)
+words_from quoted (b ∷ bytes) = if b == 32 && not quoted then [] ∷ words_from quoted bytes else onto_first b (words_from (if b == 39 then not quoted else quoted) bytes)
 
 abbrev pub words : List ℕ → List (List ℕ)
 words text = words_from false text
@@ -35,15 +23,6 @@ words_behind (Some text) = words text
 
 -- ---- numbers
 
-abbrev pub are_digits : List ℕ → Bool
-are_digits [] = true
-are_digits (b ∷ bytes) = is_digit b && are_digits bytes
-
--- what digits say behind digits that say n
-abbrev pub value : ℕ → List ℕ → ℕ
-value n [] = n
-value n (b ∷ bytes) = value (10 * n + (b - 48)) bytes
-
 -- whether a zero stands before other digits
 abbrev pub has_leading_zero : List ℕ → Bool
 has_leading_zero [] = false
@@ -53,9 +32,6 @@ has_leading_zero (b ∷ c ∷ bytes) = b == 48
 abbrev pub is_empty : List ℕ → Bool
 is_empty [] = true
 is_empty (b ∷ bytes) = false
-
-abbrev pub below_limit : ℕ → Option ℕ
-below_limit n = if nat_lt n (2 ^ 128) then Some n else None
 
 -- the number of decimal digits, if it is one of the program's numbers of variables and has no leading zero
 unfoldable pub number_of : List ℕ → Option ℕ

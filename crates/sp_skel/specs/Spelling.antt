@@ -1,10 +1,7 @@
 -- The lexemes that the text of a tree spells, and which trees are read back from their texts. Source: Tamarin manual, "Proofs".
-use Rattle.std.specs.Prelude.{◌≡◌, ℕ, true, false, if◌then◌else◌, List, [], ◌∷◌, codes}
-use Rattle.sp_spec_text.specs.Bytes as class
-use Rattle.std.specs.Char.{is_ascii_alphanumeric}
-use Rattle.sp_spec_text.specs.Lex.{skip}
+use Rattle.std.specs.Prelude.{◌≡◌, false, if◌then◌else◌, List, [], ◌∷◌, codes}
 use Rattle.sp_spec_text.specs.Token.{Lexeme, word, solve}
-use Rattle.sp_spec_text.specs.Names.{IsName}
+use Rattle.sp_spec_text.specs.Names.{IsName, IsWord}
 use Rattle.sp_spec_system.specs.Move.{Move}
 use Rattle.sp_spec_system.specs.Words.{Words, words_of, goal_text, stand_alone}
 use Rattle.sp_spec_system.specs.Words as words
@@ -51,11 +48,6 @@ abbrev mutual
   pub all_as_written : Branches → WrittenCases
   all_as_written no_branch = no_case
   all_as_written (branch name tree branches) = then_case name (as_written tree) (all_as_written branches)
-
--- the bytes are one word
-abbrev pub IsWord : List ℕ → Type 0
-IsWord [] = ⊥
-IsWord (b ∷ bytes) = (is_ascii_alphanumeric b ≡ true) × (skip class.Word bytes ≡ [])
 
 abbrev pub MayHaveCases : Move → Type 0
 MayHaveCases move = stand_alone (words_of move) ≡ false

@@ -5,7 +5,8 @@ use Rattle.sp_spec_system.specs.Words.{of_method, of_goal, if_within}
 use Rattle.sp_spec_text.specs.Written.{Method, said, goal, WrittenProof, step, WrittenCases, no_case, then_case}
 use Rattle.sp_check.specs.Nodes.{NodeRead}
 use Rattle.sp_check.specs.Skeleton.{Step, known, unbuilt, unknown, Skeleton, node_read, BranchesRead, none_read, branch_read}
-use Rattle.sp_skel.specs.MoveTexts.{trimmed, words, numbers, is_unbuilt_method, is_unbuilt}
+use Rattle.sp_spec_text.specs.Blanks.{trimmed}
+use Rattle.sp_skel.specs.MoveTexts.{words, numbers, is_unbuilt_method, is_unbuilt}
 
 -- what a word says, by the move that it is
 abbrev pub method_step : List ℕ → Option Move → Step

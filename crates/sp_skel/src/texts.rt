@@ -2,6 +2,8 @@
 
 ghost use Rattle.std.specs.Prelude.{◌≡◌, [], ◌∷◌, ◌++◌, ◌+◌, ◌-◌, ◌*◌, ◌<◌, ◌≤◌, ⊤, length, map, reverse, IfOk, MatchOption, option_map};
 ghost use Rattle.sp_spec_text.specs.Lex as lex;
+ghost use Rattle.sp_spec_text.specs.Blanks as blanks;
+ghost use Rattle.sp_spec_text.specs.Numerals.{below_limit};
 ghost use Rattle.sp_skel.specs.MoveTexts as spec;
 
 use sp_step::words::is;
@@ -38,9 +40,9 @@ fn is_constant_byte(b: u8) -> bool
 }
 
 /// The text without the blanks before it.
-#[tactic(auto, unfolding(crate::specs::MoveTexts::unblanked))]
+#[tactic(auto, unfolding(sp_spec_text::specs::Blanks::unblanked))]
 fn unblanked(text: &[u8]) -> &[u8]
-    ensures { result.now ≡ spec.unblanked text.now }
+    ensures { result.now ≡ blanks.unblanked text.now }
 {
     let mut rest = text;
     while let Some((byte, behind)) = split(rest) {
@@ -53,9 +55,9 @@ fn unblanked(text: &[u8]) -> &[u8]
 }
 
 /// The text without the blanks behind it.
-#[tactic(auto, unfolding(crate::specs::MoveTexts::unblanked))]
+#[tactic(auto, unfolding(sp_spec_text::specs::Blanks::unblanked))]
 fn unblanked_behind(text: &[u8]) -> &[u8]
-    ensures { result.now ≡ reverse (spec.unblanked (reverse text.now)) }
+    ensures { result.now ≡ reverse (blanks.unblanked (reverse text.now)) }
 {
     let mut rest = text;
     while let Some((front, last)) = split_last(rest) {
@@ -69,7 +71,7 @@ fn unblanked_behind(text: &[u8]) -> &[u8]
 
 /// The text without the blanks around it.
 pub fn trimmed(text: &[u8]) -> &[u8]
-    ensures { result.now ≡ spec.trimmed text.now }
+    ensures { result.now ≡ blanks.trimmed text.now }
 {
     unblanked_behind(unblanked(text))
 }
@@ -117,7 +119,7 @@ fn has_leading_zero(word: &[u8]) -> bool
 }
 
 /// The number of decimal digits, if it is one of the program's numbers and has no leading zero.
-#[tactic(auto, using(crate::proofs::Numbers::numbers), unfolding(crate::specs::MoveTexts::number_of))]
+#[tactic(auto, using(sp_spec_text::proofs::Numerals::numbers), unfolding(crate::specs::MoveTexts::number_of))]
 fn number_of(word: &[u8]) -> Option<u128>
     ensures { result ≡ spec.number_of word.now }
 {
@@ -139,7 +141,7 @@ fn number_of(word: &[u8]) -> Option<u128>
 /// The number with a digit behind it.
 fn with_digit(number: u128, digit: u8) -> Option<u128>
     requires { 48 ≤ digit }
-    ensures { result ≡ spec.below_limit (10 * number + (digit - 48)) }
+    ensures { result ≡ below_limit (10 * number + (digit - 48)) }
 {
     let tens = number.checked_mul(10)?;
     tens.checked_add(u128::from(digit - b'0'))

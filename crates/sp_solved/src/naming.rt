@@ -12,9 +12,8 @@ ghost use Rattle.sp_solved.specs.Naming as spec;
 ghost use Rattle.sp_solved.specs.Naming.{once_after};
 
 use sp_fact::fact::{Action, Fact};
-use sp_ground::term::GroundTerm;
-use sp_norm::values::Values;
 use sp_system::system::Event;
+use sp_term::subst::Values;
 use sp_term::term::{Name, Sort, Term, Variable};
 use std::alloc::{AllocError, Global};
 
@@ -138,7 +137,7 @@ fn give_fresh(variables: &Vec<Variable>, values: &mut Values) -> Result<(), Allo
 {
     for (place, variable) in variables.iter().enumerate() {
         let number = place as u128 + 1;
-        values.push(*variable, GroundTerm::FreshName(number))?;
+        values.push(*variable, Term::FreshName(number))?;
     }
     Ok(())
 }
@@ -184,7 +183,7 @@ fn give_public(
         }
         let name = public_name(alloc, passed + 1)?;
         if !is_listed(&name, constants) {
-            values.push(variables[given], GroundTerm::Constant(name))?;
+            values.push(variables[given], Term::Constant(name))?;
             given += 1;
         }
     }

@@ -19,9 +19,9 @@ use sp_fact::fact::Fact;
 use sp_formula::formula::{Atom, Formula, Moment};
 use sp_log::log::{Entry, Log, Source};
 use sp_norm::instance::facts_value;
-use sp_norm::values::Values;
 use sp_system::order::is_cyclic;
 use sp_system::system::{Event, Link, System, What};
+use sp_term::subst::Values;
 use sp_term::term::Name;
 use std::alloc::{AllocError, Global};
 

@@ -1,5 +1,5 @@
--- What an option is made of where it is there.
-use Rattle.std.proofs.Common.{◌≡◌, Option, Some, None, option_map, option_and_then, refl}
+-- What an option is made of where it is there, and what follows where a result is.
+use Rattle.std.proofs.Common.{◌≡◌, Option, Some, None, option_map, option_and_then, Result, Ok, Err, IfOk, OnOk, refl}
 
 pub mapped : {A B : Type 0} (f : A → B) (o : Option A) (y : B) → option_map f o ≡ Some y → (x : A) × (o ≡ Some x) × (y ≡ f x)
 mapped f None y e = absurd cc
@@ -8,3 +8,11 @@ mapped f (Some x) y e = (x, refl, let g : y ≡ f x = cc in g)
 pub then_some : {A B : Type 0} (f : A → Option B) (o : Option A) (y : B) → option_and_then f o ≡ Some y → (x : A) × (o ≡ Some x) × (f x ≡ Some y)
 then_some f None y e = absurd cc
 then_some f (Some x) y e = (x, refl, e)
+
+pub ok_so : {T E : Type 0} (r : Result T E) (P Q : T → Type 0) → ((x : T) → P x → Q x) → IfOk r P → IfOk r Q
+ok_so (Ok x) P Q h k = h x k
+ok_so (Err e) P Q h k = k
+
+pub on_so : {T E : Type 0} (r : Result T E) (P Q : Type 0) → (P → Q) → OnOk r P → OnOk r Q
+on_so (Ok x) P Q h k = h k
+on_so (Err e) P Q h k = k

@@ -1,6 +1,5 @@
 -- Equality modulo the equations, and normal forms. Source: CSF 2012, "Cryptographic messages" (the equational theory of a
--- signature); Meier's thesis, chapter 2. (That a chain may pass through terms with other symbols than the signature's makes
--- no further terms equal.)
+-- signature); Meier's thesis, chapter 2. A chain may pass through terms with other symbols than the signature's.
 use Rattle.std.specs.Prelude.{◌≡◌, ℕ, List}
 use Rattle.sp_spec.specs.Lists.{Member}
 use Rattle.sp_spec.specs.Term.{var, constant, name, app, none, more, Ground, Grounds, Values, valued}
@@ -8,19 +7,19 @@ use Rattle.sp_spec.specs.Signature.{Equation, RespectsSorts}
 
 -- in one place of the term an instance of the left side of an equation is replaced by the same instance of the right side
 mutual
-  pub data Link (es : List Equation) : Ground → Ground → Type 0 where
-    at_root : {t u : Ground} → (e : Equation) → Member e es → (v : Values) → RespectsSorts v → t ≡ valued v e.left → u ≡ valued v e.right → Link es t u
-    below : {f : List ℕ} {ts us : Grounds} → LinkIn es ts us → Link es (app f ts) (app f us)
+  pub data Rewriting (es : List Equation) : Ground → Ground → Type 0 where
+    at_root : {t u : Ground} → (e : Equation) → Member e es → (v : Values) → RespectsSorts v → t ≡ valued v e.left → u ≡ valued v e.right → Rewriting es t u
+    below : {f : List ℕ} {ts us : Grounds} → RewritingIn es ts us → Rewriting es (app f ts) (app f us)
 
-  pub data LinkIn (es : List Equation) : Grounds → Grounds → Type 0 where
-    here : {t u : Ground} {ts : Grounds} → Link es t u → LinkIn es (more t ts) (more u ts)
-    there : {t : Ground} {ts us : Grounds} → LinkIn es ts us → LinkIn es (more t ts) (more t us)
+  pub data RewritingIn (es : List Equation) : Grounds → Grounds → Type 0 where
+    here : {t u : Ground} {ts : Grounds} → Rewriting es t u → RewritingIn es (more t ts) (more u ts)
+    there : {t : Ground} {ts us : Grounds} → RewritingIn es ts us → RewritingIn es (more t ts) (more t us)
 
 -- a finite chain of such replacements, each from left to right or from right to left
 pub data Equal (es : List Equation) : Ground → Ground → Type 0 where
   end : {t : Ground} → Equal es t t
-  forth : {t u w : Ground} → Link es t u → Equal es u w → Equal es t w
-  back : {t u w : Ground} → Link es u t → Equal es u w → Equal es t w
+  forth : {t u w : Ground} → Rewriting es t u → Equal es u w → Equal es t w
+  back : {t u w : Ground} → Rewriting es u t → Equal es u w → Equal es t w
 
 abbrev pub EqualAll : List Equation → Grounds → Grounds → Type 0
 EqualAll es none none = Unit {0}

@@ -1,5 +1,5 @@
--- What is wrong with a written theory though its grammar is right: the fatal findings on facts, rules and formulas. Source: Tamarin
--- manual, "Checking well-formedness"; CSF 2012, "Guarded trace properties" (guarded variables).
+-- What is wrong with a written rule though its grammar is right: the fatal findings on its facts, its actions and its variables. Source:
+-- Tamarin manual, "Checking well-formedness".
 use Rattle.std.specs.Prelude.{ℕ, Bool, true, false, ◌&&◌, ◌||◌, nat_lt, not, List, [], ◌∷◌, codes}
 use Rattle.std.specs.Str.{bytes_eq}
 use Rattle.sp_spec.specs.Term.{Sort, Msg, Fresh, Pub, var, Terms, none, more, count}

@@ -1,5 +1,5 @@
 -- Guarded formulas and their truth. Source: CSF 2012, "Guarded trace properties"; Schmidt's thesis, chapter 3. Negation stands at
--- atoms alone, and each quantifier has a guard of actions and equalities of messages.
+-- atoms alone, and each quantifier has atoms as its guard.
 use Rattle.std.specs.Prelude.{◌≡◌, ◌⊎◌, ◌<◌, ℕ, zero, suc, List, [], ◌∷◌, length}
 use Rattle.sp_spec.specs.Lists.{Classically}
 use Rattle.sp_spec.specs.Term.{Sort, Variable, Term, Ground, Values, valued}
@@ -30,7 +30,7 @@ pub data Atom : Type 0 where
   before : Time → Time → Atom
   last : Time → Atom
 
--- A negated action is every without binders, with that action as guard and falsity as body, so that fails is not said of actions.
+-- The guarded form of a formula writes a negated action as every without binders, with that action as guard and falsity as body.
 mutual
   pub data Guarded : Type 0 where
     truth : Guarded

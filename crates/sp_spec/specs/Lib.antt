@@ -19,3 +19,4 @@ pub mod Constants
 pub mod Findings
 pub mod Change
 pub mod SameFormula
+pub mod Matching

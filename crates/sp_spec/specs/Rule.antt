@@ -28,7 +28,7 @@ pub record Declared : Type 0 where
   pub name : List ℕ
   pub sort : Sort
 
--- the variable of number k is the k-th of the list, in first-seen order
+-- its name, the names and sorts of its variables, and its facts
 pub record Rule : Type 0 where
   pub name : List ℕ
   pub variables : List Declared

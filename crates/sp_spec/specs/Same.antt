@@ -27,11 +27,14 @@ abbrev mutual
   same_all_by test _ _ = false
 
 -- there are no variables to tell
+abbrev pub no_test : ⊥ → ⊥ → Bool
+no_test x y = true
+
 abbrev pub same_term : Ground → Ground → Bool
-same_term t u = same_by (λ (x y : ⊥). true) t u
+same_term t u = same_by no_test t u
 
 abbrev pub same_terms : Grounds → Grounds → Bool
-same_terms ts us = same_all_by (λ (x y : ⊥). true) ts us
+same_terms ts us = same_all_by no_test ts us
 
 -- terms of rules and systems
 abbrev pub alike : Term Variable → Term Variable → Bool

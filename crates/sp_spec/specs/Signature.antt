@@ -9,7 +9,7 @@ pub record Symbol : Type 0 where
   pub arity : ℕ
   pub private : Bool
 
--- left and right side, each over variables of sort msg
+-- left and right side
 pub record Equation : Type 0 where
   pub left : Term Variable
   pub right : Term Variable

@@ -7,7 +7,7 @@ abbrev pub Binding : Type 0
 Binding = Variable × Term Variable
 
 -- what the first binding of a variable gives it
-abbrev pub lookup : List Binding → Variable → Option (Term Variable)
+abbrev pub lookup : {V : Type 0} → List (Variable × Term V) → Variable → Option (Term V)
 lookup [] x = None
 lookup (b ∷ bs) x = if same_variable b.0 x then Some b.1 else lookup bs x
 

@@ -16,7 +16,7 @@ use Rattle.sp_spec_text.specs.Shapes.{written, fact, action_of, quantified}
 -- var: `~` name ; `$` name ; `#` name ; name ; name `:` (fresh pub msg node)
 pub data SpellsVariable : List Lexeme → Written → List Lexeme → Type 0 where
   marked : {x : Sign} {m : Mark} {w : List ℕ} {rest : List Lexeme} → mark_at x ≡ Some m → IsName w → SpellsVariable (sign x ∷ word w ∷ rest) (written w m) rest
-  plain : {w : List ℕ} {rest : List Lexeme} → IsName w → SpellsVariable (word w ∷ rest) (written w bare) rest
+  unmarked : {w : List ℕ} {rest : List Lexeme} → IsName w → SpellsVariable (word w ∷ rest) (written w bare) rest
   sorted : {w k : List ℕ} {m : Mark} {rest : List Lexeme} → IsName w → mark_of k ≡ Some m → SpellsVariable (word w ∷ sign s.Colon ∷ word k ∷ rest) (written w m) rest
 
 -- term: constant ; var ; `(` term `)`
@@ -63,7 +63,7 @@ mutual
 
   -- neg: `not`? unit
   pub data SpellsNegation : ℕ → List Lexeme → Formula → List Lexeme → Type 0 where
-    plain_unit : {n : ℕ} {f : Formula} {tokens rest : List Lexeme} → SpellsUnit n tokens f rest → SpellsNegation n tokens f rest
+    unit_alone : {n : ℕ} {f : Formula} {tokens rest : List Lexeme} → SpellsUnit n tokens f rest → SpellsNegation n tokens f rest
     negated : {n : ℕ} {f : Formula} {tokens rest : List Lexeme} → SpellsUnit n tokens f rest → SpellsNegation n (word (codes "not") ∷ tokens) (not_so f) rest
 
   -- conj: neg (`&` neg)*, which groups to the left; the first formula of the second line is what stands to the left

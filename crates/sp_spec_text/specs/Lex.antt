@@ -199,7 +199,7 @@ pub data NoBracket : List ℕ → Type 0 where
 
 -- What begins here. The word `solve` with a bracket behind it, and blanks and comments between, begins one token up to the closing bracket.
 pub data Reads : List ℕ → Piece → Type 0 where
-  plain : {bytes : List ℕ} {p : Piece} → piece bytes ≡ p → is_solve_word p ≡ false → Reads bytes p
+  as_it_is : {bytes : List ℕ} {p : Piece} → piece bytes ≡ p → is_solve_word p ≡ false → Reads bytes p
   bare : {bytes rest : List ℕ} {x : Lexeme} → piece bytes ≡ token x rest → is_solve x ≡ true → NoBracket rest → Reads bytes (token x rest)
   goal : {bytes rest inside : List ℕ} {x : Lexeme} {p : Piece} → piece bytes ≡ token x rest → is_solve x ≡ true → Skips rest (40 ∷ inside) → solve_piece inside ≡ p → Reads bytes p
 

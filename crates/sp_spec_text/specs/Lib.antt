@@ -4,6 +4,8 @@ pub mod Token
 pub mod Lex
 pub mod Ends
 pub mod Names
+pub mod Numerals
+pub mod Blanks
 pub mod Lists
 pub mod Shapes
 pub mod Formulas
@@ -12,6 +14,8 @@ pub mod Proofs
 pub mod Theories
 pub mod Spans
 pub mod Texts
+pub mod Behind
 pub mod Printed
+pub mod StepLines
 pub mod Kind
 pub mod Verdict

@@ -1,9 +1,11 @@
 -- Which words are names, which name facts, and what marks a variable's sort. Source: Tamarin manual, "Syntax description".
-use Rattle.std.specs.Prelude.{◌≡◌, ℕ, Bool, false, not, ◌&&◌, ◌||◌, if◌then◌else◌, List, [], ◌∷◌, Option, Some, None, codes}
+use Rattle.std.specs.Prelude.{◌≡◌, ℕ, Bool, true, false, not, ◌&&◌, ◌||◌, if◌then◌else◌, List, [], ◌∷◌, Option, Some, None, codes}
 use Rattle.std.specs.Str.{bytes_eq}
-use Rattle.std.specs.Char.{is_ascii_uppercase}
+use Rattle.std.specs.Char.{is_ascii_uppercase, is_ascii_alphanumeric}
 use Rattle.sp_spec_text.specs.Signs.{Sign}
 use Rattle.sp_spec_text.specs.Signs as s
+use Rattle.sp_spec_text.specs.Bytes as class
+use Rattle.sp_spec_text.specs.Lex.{skip}
 use Rattle.sp_spec.specs.Term.{Msg, Fresh, Pub}
 use Rattle.sp_spec.specs.Formula.{Mark, of_sort, of_time}
 
@@ -15,6 +17,15 @@ is_reserved w =
 
 abbrev pub IsName : List ℕ → Type 0
 IsName w = is_reserved w ≡ false
+
+-- the bytes are one word
+abbrev pub IsWord : List ℕ → Type 0
+IsWord [] = ⊥
+IsWord (b ∷ bytes) = (is_ascii_alphanumeric b ≡ true) × (skip class.Word bytes ≡ [])
+
+-- a name as a text may have it
+abbrev pub IsNameWord : List ℕ → Type 0
+IsNameWord w = IsName w × IsWord w
 
 abbrev pub is_capital : List ℕ → Bool
 is_capital [] = false

@@ -6,6 +6,7 @@ use Rattle.sp_spec.specs.Term.{Variable, Terms, none, more}
 use Rattle.sp_spec.specs.Guarded.{Place}
 use Rattle.sp_term.specs.View.{terms_of, view, view_all}
 use Rattle.sp_term.specs.declared.term.Term.{Term}
+use Rattle.sp_term.specs.declared.term.Variable as leaf
 use Rattle.sp_formula.specs.declared.formula.FormulaTerm.{FormulaTerm}
 use Rattle.sp_formula.specs.FormulaView.{placed_term, placed_terms}
 use Rattle.sp_spec_system.specs.Formulas.{freed, freed_all}
@@ -46,7 +47,7 @@ pub after_stop : (ts : List (spec.Term Variable)) (t : spec.Term Place) (rest : 
 after_stop ts t rest e = ap (λ (o : Option (spec.Term Variable)). after ts (option_and_then (λ v. option_map (more v) (freed_all rest)) o)) e
 
 -- one turn of a loop over terms in memory
-pub freed_more : (items : List FormulaTerm) (made grown : List Term) (i : ℕ) (x : FormulaTerm) (u : Term) → i < length items → x ≡ slice_index_or items i x → freed (placed_term x) ≡ Some (view u) → grown ≡ made ++ u ∷ []
+pub freed_more : (items : List FormulaTerm) (made grown : List (Term leaf.Variable)) (i : ℕ) (x : FormulaTerm) (u : Term leaf.Variable) → i < length items → x ≡ slice_index_or items i x → freed (placed_term x) ≡ Some (view u) → grown ≡ made ++ u ∷ []
     → after (map view made) (freed_all (placed_terms (drop i items))) ≡ after (map view grown) (freed_all (placed_terms (drop (i + 1) items)))
 freed_more items made grown i x u h is e g =
     ap (λ (ts : List FormulaTerm). after (map view made) (freed_all (placed_terms ts))) (drop_more items i x h)
@@ -54,5 +55,5 @@ freed_more items made grown i x u h is e g =
     ∙ after_more (map view made) (placed_term x) (placed_terms (drop (i + 1) items)) (view u) e
     ∙ ap (λ (ts : List (spec.Term Variable)). after ts (freed_all (placed_terms (drop (i + 1) items)))) (sym (ap (map view) g ∙ map-append view made (u ∷ [])))
 
-pub freed_end : (items : List FormulaTerm) (made : List Term) (i : ℕ) → length items ≤ i → after (map view made) (freed_all (placed_terms (drop i items))) ≡ Some (view_all made)
+pub freed_end : (items : List FormulaTerm) (made : List (Term leaf.Variable)) (i : ℕ) → length items ≤ i → after (map view made) (freed_all (placed_terms (drop i items))) ≡ Some (view_all made)
 freed_end items made i h = ap (λ (ts : List FormulaTerm). after (map view made) (freed_all (placed_terms ts))) (drop_all i items h) ∙ after_all (map view made)

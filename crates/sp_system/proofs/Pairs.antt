@@ -4,6 +4,7 @@ use Rattle.std.specs.Str.{bytes_eq}
 use Rattle.sp_spec.specs.Unifier.{Pair}
 use Rattle.sp_term.specs.View.{view, view_all}
 use Rattle.sp_term.specs.declared.term.Term.{Term}
+use Rattle.sp_term.specs.declared.term.Variable.{Variable}
 use Rattle.sp_spec_system.specs.Equating.{argument_pairs, same_flag, both_pairs, fact_pairs, action_pair, action_pairs, fact_pair}
 use Rattle.sp_fact.specs.View.{fact_of, action_of}
 use Rattle.sp_fact.specs.declared.fact.Fact.{Fact}
@@ -16,7 +17,7 @@ listed p [] (y ∷ ys) = None
 listed p (x ∷ xs) [] = None
 listed p (x ∷ xs) (y ∷ ys) = both_pairs (p x y) (listed p xs ys)
 
-abbrev pub term_pair : Term → Term → Option (List Pair)
+abbrev pub term_pair : Term Variable → Term Variable → Option (List Pair)
 term_pair t u = Some ((view t, view u) ∷ [])
 
 both_none : (o : Option (List Pair)) → both_pairs o None ≡ None
@@ -41,13 +42,13 @@ if_first : (b : Bool) (o rest : Option (List Pair)) → (if b then both_pairs o 
 if_first true o rest = refl
 if_first false o rest = refl
 
-pub argument_pairs-listed : (ts us : List Term) → argument_pairs (view_all ts) (view_all us) ≡ listed term_pair ts us
+pub argument_pairs-listed : (ts us : List (Term Variable)) → argument_pairs (view_all ts) (view_all us) ≡ listed term_pair ts us
 argument_pairs-listed [] [] = refl
 argument_pairs-listed [] (u ∷ us) = refl
 argument_pairs-listed (t ∷ ts) [] = refl
 argument_pairs-listed (t ∷ ts) (u ∷ us) = one_first (view t, view u) (argument_pairs (view_all ts) (view_all us)) ∙ ap (both_pairs (term_pair t u)) (argument_pairs-listed ts us)
 
-pub fact_pairs-listed : (fs gs : List Fact) → fact_pairs (map fact_of fs) (map fact_of gs) ≡ listed (λ f g. fact_pair (fact_of f) (fact_of g)) fs gs
+pub fact_pairs-listed : (fs gs : List (Fact Variable)) → fact_pairs (map fact_of fs) (map fact_of gs) ≡ listed (λ f g. fact_pair (fact_of f) (fact_of g)) fs gs
 fact_pairs-listed [] [] = refl
 fact_pairs-listed [] (g ∷ gs) = refl
 fact_pairs-listed (f ∷ fs) [] = refl
@@ -55,7 +56,7 @@ fact_pairs-listed (f ∷ fs) (g ∷ gs) =
     if_first (bytes_eq (fact_of f).symbol (fact_of g).symbol && same_flag f.persistent g.persistent) (argument_pairs (fact_of f).args (fact_of g).args) (fact_pairs (map fact_of fs) (map fact_of gs))
     ∙ ap (both_pairs (fact_pair (fact_of f) (fact_of g))) (fact_pairs-listed fs gs)
 
-pub action_pairs-listed : (xs ys : List Action) → action_pairs (map action_of xs) (map action_of ys) ≡ listed (λ a b. action_pair (action_of a) (action_of b)) xs ys
+pub action_pairs-listed : (xs ys : List (Action Variable)) → action_pairs (map action_of xs) (map action_of ys) ≡ listed (λ a b. action_pair (action_of a) (action_of b)) xs ys
 action_pairs-listed [] [] = refl
 action_pairs-listed [] (y ∷ ys) = refl
 action_pairs-listed (x ∷ xs) [] = refl

@@ -3,6 +3,7 @@ use Rattle.std.specs.Prelude.{ℕ, List, map}
 use Rattle.sp_spec.specs.Unifier.{Pair}
 use Rattle.sp_term.specs.View.{name_of, view}
 use Rattle.sp_term.specs.declared.term.Term.{Term}
+use Rattle.sp_term.specs.declared.term.Variable.{Variable}
 use Rattle.sp_spec_system.specs.System.{rule_step}
 use Rattle.sp_spec_system.specs.System as spec
 use Rattle.sp_fact.specs.View.{facts_of}
@@ -24,7 +25,7 @@ event_of e = record { time = e.time; happening = rule_step (rule_name_of e.what)
 abbrev pub link_of : Link → spec.Link
 link_of l = record { from = l.from; conclusion = l.conclusion; to = l.to; premise = l.premise }
 
-abbrev pub pair_of : Term × Term → Pair
+abbrev pub pair_of : Term Variable × Term Variable → Pair
 pair_of p = (view p.0, view p.1)
 
 abbrev pub system_of : System → spec.System

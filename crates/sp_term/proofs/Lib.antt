@@ -1,3 +1,4 @@
 pub mod Lists
 pub mod Applied
-pub mod Alike
+pub mod Loops
+pub mod Rows

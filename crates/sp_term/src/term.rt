@@ -1,10 +1,17 @@
-// Terms, and what is done to them without any theory.
+// Terms over leaves of any kind, and what is done to them without any theory.
 
-ghost use Rattle.std.specs.Prelude.{◌≡◌, ◌↔◌, IfOk, IsTrue};
-ghost use Rattle.sp_spec.specs.Same.{alike, alike_all};
-ghost use Rattle.sp_term.specs.View.{name_of, variable_of, view, view_all};
+ghost use Rattle.std.specs.Prelude.{◌≡◌, ◌↔◌, IfOk, IsTrue, Bool};
+ghost use Rattle.std.specs.Bool.{Decides};
+ghost use Rattle.sp_spec.specs.Term as spec;
+ghost use Rattle.sp_spec.specs.Same.{same_variable, no_test, same_by, same_all_by};
+ghost use Rattle.sp_spec.specs.Matching.{has_sort_by, variable_has_sort, never_has_sort};
+ghost use Rattle.sp_spec.proofs.Same.{same_variable_decides, no_test_decides};
+ghost use Rattle.sp_term.specs.View.{sort_of, name_of, variable_of, never_of, view_by, view_all_by};
+ghost use Rattle.sp_term.specs.LeafLaws.{variable_tests};
 
 use std::alloc::{AllocError, Global};
+use std::convert::Infallible;
+use std::fmt;
 use std::rc::{Rc, RcStr};
 
 /// The sort of a variable; fresh and pub are subsorts of msg.
@@ -52,30 +59,115 @@ impl Name {
     }
 }
 
-/// A message term.
+/// What may stand at the leaves of a term, beside names.
+pub trait Leaf: Copy + PartialEq + Drop {
+    /// what a leaf stands for
+    ghost Kind: { Type 0 };
+
+    ghost leaf_of: { Self → Kind };
+
+    /// whether two of them are one
+    ghost test: { Kind → Kind → Bool };
+
+    /// which sorts one is of, below that of all messages
+    ghost of_sort: { spec.Sort → Kind → Bool };
+
+    /// Whether a term over such leaves is of the sort.
+    fn term_has_sort(sort: Sort, term: &Term<Self>) -> bool
+        ensures { result ≡ has_sort_by of_sort (sort_of sort) (view_by leaf_of term.now) };
+
+    ghost tests: { (x y : Self) → Self.eq x y ≡ test (leaf_of x) (leaf_of y) };
+
+    ghost decides: { (x y : Kind) → Decides (test x y) (x ≡ y) };
+}
+
+/// A leaf that is a `T`; `Infallible` has no values, so that a term over such leaves has none.
+#[derive(Clone, Copy, PartialEq, Eq)]
+pub struct Only<T> {
+    /// the leaf
+    pub leaf: T,
+}
+
+/// No leaf: there is no value of this type.
+pub type Never = Only<Infallible>;
+
+impl<T> fmt::Debug for Only<T> {
+    fn fmt<W: fmt::Write>(&self, f: &mut fmt::Formatter<W>) -> fmt::Result {
+        f.write_str("leaf")
+    }
+}
+
+/// A message term over leaves of a kind: over variables one of a rule or of a system.
 #[derive(Debug, Drop)]
-pub enum Term {
-    /// a variable
-    Var(Variable),
+pub enum Term<L = Variable> {
+    /// a variable, or another leaf
+    Var(L),
     /// a public name
     Constant(Name),
     /// a fresh name, by its number
     FreshName(u128),
     /// a symbol over arguments
-    App(Name, Rc<Vec<Term>>),
+    App(Name, Rc<Vec<Term<L>>>),
+}
+
+impl Leaf for Variable {
+    ghost Kind = { spec.Variable };
+
+    ghost leaf_of = { variable_of };
+
+    ghost test = { same_variable };
+
+    ghost of_sort = { variable_has_sort };
+
+    fn term_has_sort(sort: Sort, term: &Term) -> bool {
+        match (sort, term) {
+            (Sort::Msg, _) => true,
+            (_, Term::Var(x)) => sort == x.sort,
+            (Sort::Fresh, Term::FreshName(_)) => true,
+            (Sort::Pub, Term::Constant(_)) => true,
+            _ => false,
+        }
+    }
+
+    ghost tests = { variable_tests };
+
+    ghost decides = { same_variable_decides };
+}
+
+impl Leaf for Never {
+    ghost Kind = { ⊥ };
+
+    ghost leaf_of = { never_of };
+
+    ghost test = { no_test };
+
+    ghost of_sort = { never_has_sort };
+
+    fn term_has_sort(sort: Sort, term: &Term<Never>) -> bool {
+        match (sort, term) {
+            (Sort::Msg, _) => true,
+            (Sort::Fresh, Term::FreshName(_)) => true,
+            (Sort::Pub, Term::Constant(_)) => true,
+            _ => false,
+        }
+    }
+
+    ghost tests = { λ x y. absurd (never_of x) };
+
+    ghost decides = { no_test_decides };
 }
 
 /// Whether two terms are the same.
-pub fn same(a: &Term, b: &Term) -> bool
-    ensures tests { result ≡ alike (view a.now) (view b.now) }
-    ensures tells { IsTrue result ↔ (view a.now ≡ view b.now) }
+pub fn same<L: Leaf>(a: &Term<L>, b: &Term<L>) -> bool
+    ensures tests { result ≡ same_by L.test (view_by L.leaf_of a.now) (view_by L.leaf_of b.now) }
+    ensures tells { IsTrue result ↔ (view_by L.leaf_of a.now ≡ view_by L.leaf_of b.now) }
 {
     same_tree(a, b)
 }
 
 #[cycle(same)]
-fn same_tree(a: &Term, b: &Term) -> bool
-    ensures { result ≡ alike (view a.now) (view b.now) }
+fn same_tree<L: Leaf>(a: &Term<L>, b: &Term<L>) -> bool
+    ensures { result ≡ same_by L.test (view_by L.leaf_of a.now) (view_by L.leaf_of b.now) }
 {
     match (a, b) {
         (Term::Var(x), Term::Var(y)) => *x == *y,
@@ -88,8 +180,8 @@ fn same_tree(a: &Term, b: &Term) -> bool
 
 /// Whether the terms at each place are the same, and as many.
 #[cycle(same)]
-pub fn all_same(xs: &Vec<Term>, ys: &Vec<Term>) -> bool
-    ensures { result ≡ alike_all (view_all xs.now.items) (view_all ys.now.items) }
+pub fn all_same<L: Leaf>(xs: &Vec<Term<L>>, ys: &Vec<Term<L>>) -> bool
+    ensures { result ≡ same_all_by L.test (view_all_by L.leaf_of xs.now.items) (view_all_by L.leaf_of ys.now.items) }
 {
     if xs.len() != ys.len() {
         return false;
@@ -103,8 +195,8 @@ pub fn all_same(xs: &Vec<Term>, ys: &Vec<Term>) -> bool
 }
 
 /// A term equal to this one; its names and argument lists are shared with it.
-pub fn copy(term: &Term) -> Result<Term, AllocError>
-    ensures { IfOk result (λ t. view t ≡ view term.now) }
+pub fn copy<L: Leaf>(term: &Term<L>) -> Result<Term<L>, AllocError>
+    ensures { IfOk result (λ t. view_by L.leaf_of t ≡ view_by L.leaf_of term.now) }
 {
     match term {
         Term::Var(x) => Ok(Term::Var(*x)),
@@ -116,4 +208,22 @@ pub fn copy(term: &Term) -> Result<Term, AllocError>
             Ok(Term::App(name, shared))
         }
     }
+}
+
+/// Terms equal to these.
+pub fn copy_all<L: Leaf>(alloc: Global, terms: &Vec<Term<L>>) -> Result<Vec<Term<L>>, AllocError>
+    ensures { IfOk result (λ ts. view_all_by L.leaf_of ts.items ≡ view_all_by L.leaf_of terms.now.items) }
+{
+    let mut made = Vec::with_capacity(alloc, terms.len())?;
+    for term in terms {
+        made.push(copy(term)?)?;
+    }
+    Ok(made)
+}
+
+/// Whether the term is of the sort: a fresh name of fresh, a public name of pub, any of msg; a variable of its own.
+pub fn has_sort<L: Leaf>(sort: Sort, term: &Term<L>) -> bool
+    ensures { result ≡ has_sort_by L.of_sort (sort_of sort) (view_by L.leaf_of term.now) }
+{
+    L::term_has_sort(sort, term)
 }

@@ -4,14 +4,14 @@ use sp_fact::fact::{Fact, Facts};
 use sp_fact::rule::Rule;
 use sp_ground::fact::GroundFacts;
 use sp_ground::signature::Signature;
-use sp_ground::term::{GroundTerm, copy};
+use sp_ground::term::GroundTerm;
 use sp_log::check::{Checked, Clause, check_log};
 use sp_log::execution::execution;
 use sp_log::log::{Entry, Log, Source};
 use sp_log::trace::{visible_trace, whole_trace};
 use sp_show::step::step_line;
 use sp_show::trace::trace_block;
-use sp_term::term::{Name, Sort};
+use sp_term::term::{Name, Sort, Term, copy};
 use sp_test_make::facts::{action, linear, persistent, rule};
 use sp_test_make::ground::{fact_of, public, shown};
 use sp_test_make::terms::variables;
@@ -97,7 +97,7 @@ fn takes(
     position: usize,
 ) -> Result<Entry, AllocError> {
     let (symbol, persistent) = premise;
-    let premise = fact_of(alloc, symbol, persistent, GroundTerm::FreshName(1))?;
+    let premise = fact_of(alloc, symbol, persistent, Term::FreshName(1))?;
     let facts = GroundFacts {
         premises: vec![in alloc; premise]?,
         actions: Vec::new(alloc),
@@ -113,7 +113,7 @@ fn takes(
 }
 
 fn entry(alloc: Global, line: Line) -> Result<Entry, AllocError> {
-    let name = GroundTerm::FreshName(1);
+    let name = Term::FreshName(1);
     match line {
         Line::Make => makes(alloc, "Make", ("Key", false), name),
         Line::Share => makes(alloc, "Share", ("Lock", true), name),

@@ -5,14 +5,14 @@ use sp_fact::fact::{Fact, Facts};
 use sp_ground::fact::GroundFacts;
 use sp_ground::signature::Signature;
 use sp_ground::term::GroundTerm;
-use sp_norm::instance::{fact_value, facts_value, value, variable_value};
-use sp_norm::matching::{has_sort, matches};
+use sp_norm::instance::{Valuing, facts_value, value, variable_value};
+use sp_norm::matching::matches;
 use sp_norm::normal::{normal, normal_facts};
 use sp_norm::over::{are_over, has_public, has_symbol, is_over, is_value};
 use sp_norm::step::normal_step;
-use sp_norm::values::Values;
 use sp_show::step::step_line;
-use sp_term::term::{Name, Sort, Variable};
+use sp_term::subst::Values;
+use sp_term::term::{Name, Sort, Term, Variable, has_sort};
 use sp_test_make::facts::{action, persistent};
 use sp_test_make::ground::{applied, given, paired, public, use_rule};
 use sp_test_make::terms::variables;
@@ -28,7 +28,7 @@ fn message(number: u128) -> Variable {
 
 // <'a', ~n7>
 fn pair(alloc: Global) -> Result<GroundTerm, AllocError> {
-    paired(alloc, public(alloc, "a")?, GroundTerm::FreshName(7))
+    paired(alloc, public(alloc, "a")?, Term::FreshName(7))
 }
 
 // snd(<'a', ~n7>)
@@ -98,7 +98,7 @@ fn instances_have_normal_forms(rt: HostRuntime) -> Result<(), Fail> {
     let equations = Signature::pairs(alloc)?.equations;
     let mut values = Values::new(alloc);
     values.push(message(0), second(alloc)?)?;
-    let fact = fact_value(alloc, &values, &pattern(alloc)?)?;
+    let fact = pattern(alloc)?.changed(alloc, &Valuing { values: &values })?;
     assert!(rt; fact.persistent);
     assert_eq!(rt; terms_text(alloc, &fact.args)?.as_str(), "snd(<'a', ~n7>)");
     let made = normal_facts(alloc, &equations, &instance(alloc, &values)?)?;

@@ -1,14 +1,14 @@
 // Ground terms, and what is made of them.
 
-use sp_ground::term::{GroundTerm, all_same, copy, same};
+use sp_term::term::{Term, all_same, copy, same};
 use sp_test_make::ground::{applied, fact_of, paired, public, shown};
 use std::test::Fail;
 
 #[test]
 fn copies_are_the_same(rt: HostRuntime) -> Result<(), Fail> {
     let alloc = rt.alloc();
-    let name = GroundTerm::FreshName(1);
-    let parts = paired(alloc, public(alloc, "a")?, GroundTerm::FreshName(1))?;
+    let name = Term::FreshName(1);
+    let parts = paired(alloc, public(alloc, "a")?, Term::FreshName(1))?;
     let term = applied(alloc, "fst", vec![in alloc; parts]?)?;
     let twin = copy(&term)?;
     assert!(rt; same(&twin, &term) && !same(&twin, &name));

@@ -6,6 +6,7 @@ use sp_ground::term::GroundTerm;
 use sp_show::step::step_line;
 use sp_show::term::{write_arguments, write_term};
 use sp_show::trace::trace_block;
+use sp_term::term::Term;
 use sp_test_make::ground::{applied, apply_symbol, given, paired, public, shown, use_rule};
 use std::alloc::{AllocError, Global};
 use std::test::Fail;
@@ -26,7 +27,7 @@ pub(crate) fn terms_text(alloc: Global, terms: &Vec<GroundTerm>) -> Result<Strin
 
 // <<'a', ~n1>, 'b', c>
 fn row(alloc: Global) -> Result<GroundTerm, AllocError> {
-    let left = paired(alloc, public(alloc, "a")?, GroundTerm::FreshName(1))?;
+    let left = paired(alloc, public(alloc, "a")?, Term::FreshName(1))?;
     let last = applied(alloc, "c", Vec::new(alloc))?;
     let right = paired(alloc, public(alloc, "b")?, last)?;
     paired(alloc, left, right)
@@ -58,12 +59,12 @@ fn terms_and_traces_have_their_texts(rt: HostRuntime) -> Result<(), Fail> {
 fn steps_have_their_lines(rt: HostRuntime) -> Result<(), Fail> {
     let alloc = rt.alloc();
     let values = vec![in alloc;
-        given(alloc, "k", GroundTerm::FreshName(2))?,
+        given(alloc, "k", Term::FreshName(2))?,
         given(alloc, "x", public(alloc, "a")?)?,
     ]?;
     let parts = vec![in alloc; public(alloc, "a")?, public(alloc, "b")?]?;
     let steps = vec![in alloc;
-        Step::MakeFresh(GroundTerm::FreshName(12)),
+        Step::MakeFresh(Term::FreshName(12)),
         Step::KnowPublic(public(alloc, "a")?),
         use_rule(alloc, "Send", values)?,
         apply_symbol(alloc, "pair", parts)?,

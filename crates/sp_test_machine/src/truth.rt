@@ -3,8 +3,7 @@
 use sp_eval::truth::holds;
 use sp_formula::formula::{Atom, Formula, FormulaAction, FormulaTerm, Moment};
 use sp_ground::fact::Trace;
-use sp_ground::term::GroundTerm;
-use sp_term::term::{Name, Sort};
+use sp_term::term::{Name, Sort, Term};
 use sp_test_make::formulas::{exists, for_all, free_constant, messages_and_times};
 use sp_test_make::ground::{public, shown};
 use std::alloc::{AllocError, Global};
@@ -16,7 +15,7 @@ fn run(alloc: Global) -> Result<Trace, AllocError> {
     let first = vec![in alloc; shown(alloc, "A", constant)?]?;
     let pair = vec![in alloc; public(alloc, "a")?, public(alloc, "b")?]?;
     let second = vec![in alloc; shown(alloc, "B", pair)?]?;
-    let name = vec![in alloc; GroundTerm::FreshName(1)]?;
+    let name = vec![in alloc; Term::FreshName(1)]?;
     let last = vec![in alloc;
         shown(alloc, "A", name)?,
         shown(alloc, "C", Vec::new(alloc))?,

@@ -3,13 +3,13 @@
 use sp_ground::fact::{GroundAction, GroundFact};
 use sp_ground::step::{Given, Step};
 use sp_ground::term::GroundTerm;
-use sp_term::term::Name;
+use sp_term::term::{Name, Term};
 use std::alloc::{AllocError, Global};
 use std::rc::Rc;
 
 /// The public name of this text.
 pub fn public(alloc: Global, text: &str) -> Result<GroundTerm, AllocError> {
-    Ok(GroundTerm::Constant(Name::new(alloc, text)?))
+    Ok(Term::Constant(Name::new(alloc, text)?))
 }
 
 /// The symbol over these terms.
@@ -19,7 +19,7 @@ pub fn applied(
     args: Vec<GroundTerm>,
 ) -> Result<GroundTerm, AllocError> {
     let symbol = Name::new(alloc, symbol)?;
-    Ok(GroundTerm::App(symbol, Rc::new(alloc, args)?))
+    Ok(Term::App(symbol, Rc::new(alloc, args)?))
 }
 
 /// The pair of two terms.

@@ -4,6 +4,7 @@ use sp_ground::signature::Signature;
 use sp_ground::step::Step;
 use sp_ground::term::GroundTerm;
 use sp_read_steps::{StepLines, read_steps};
+use sp_term::term::Term;
 use std::alloc::{AllocError, Global};
 use std::test::Fail;
 
@@ -11,16 +12,17 @@ use std::test::Fail;
 #[cycle(write)]
 fn write_term(alloc: Global, out: &mut String, term: &GroundTerm) -> Result<(), AllocError> {
     match term {
-        GroundTerm::Constant(name) => {
+        Term::Var(never) => match never.leaf {},
+        Term::Constant(name) => {
             out.push_str("<")?;
             out.push_str(name.text.as_str())?;
             out.push_str(">")
         }
-        GroundTerm::FreshName(number) => {
+        Term::FreshName(number) => {
             let text = format!(in alloc; "{number}")?;
             out.push_str(&text)
         }
-        GroundTerm::App(symbol, terms) => {
+        Term::App(symbol, terms) => {
             out.push_str(symbol.text.as_str())?;
             write_terms(alloc, out, terms)
         }
@@ -69,7 +71,7 @@ fn write_step(alloc: Global, out: &mut String, step: &Step) -> Result<(), AllocE
 }
 
 /// The steps of the text over the symbols of pairs, or the number of the line that is no step's.
-#[tactic(auto, using(sp_read_steps::proofs::PairNames::of_pairs))]
+#[tactic(auto, using(sp_spec_text::proofs::SymbolNames::of_pairs))]
 fn read(alloc: Global, text: &str) -> Result<String, AllocError> {
     let signature = Signature::pairs(alloc)?;
     let found = read_steps(alloc, &signature.symbols, text.as_bytes())?;

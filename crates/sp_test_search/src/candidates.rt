@@ -8,7 +8,7 @@ use sp_ground::term::GroundTerm;
 use sp_log::log::{Entry, Log, Source};
 use sp_solved::{candidate, found};
 use sp_system::system::{Link, System};
-use sp_term::term::{Name, Sort};
+use sp_term::term::{Name, Sort, Term};
 use sp_test_make::facts::{action, linear, rule};
 use sp_test_make::systems::{event, system};
 use sp_test_make::terms::{names, variable, variables};
@@ -72,13 +72,13 @@ fn of_steps(alloc: Global, steps: &[Step], acts_at: Option<u128>) -> Result<Syst
 
 fn put_term(text: &mut String, term: &GroundTerm) -> Result<(), AllocError> {
     match term {
-        GroundTerm::Constant(name) => {
+        Term::Constant(name) => {
             text.push_str("'")?;
             text.push_str(name.text.as_str())?;
             text.push_str("'")
         }
-        GroundTerm::FreshName(1) => text.push_str("~n1"),
-        GroundTerm::FreshName(2) => text.push_str("~n2"),
+        Term::FreshName(1) => text.push_str("~n1"),
+        Term::FreshName(2) => text.push_str("~n2"),
         _ => text.push_str("?"),
     }
 }

@@ -1,10 +1,10 @@
 // Terms, facts and formulas in memory: put in for variables, copied, told apart, unified.
 
-use sp_fact::fact::{Facts, copy_all};
+use sp_fact::fact::Facts;
 use sp_formula::formula::{Binder, Formula, FormulaTerm, Moment};
 use sp_formula::same::same_formula;
 use sp_term::subst::{Subst, apply, apply_all};
-use sp_term::term::{Sort, Term, Variable, copy, same};
+use sp_term::term::{Sort, Term, Variable, copy, copy_all, same};
 use sp_test_make::facts::{action, persistent};
 use sp_test_make::formulas::{acts, before, exists, for_all};
 use sp_test_make::terms::{constant, pair, variable};

@@ -1,4 +1,4 @@
-// Proofs whose steps stand each below the one before: read and checked, and grown.
+// Proofs whose steps stand each below the one before, read and checked, and grown; and formulas with many parts side by side.
 
 use crate::calls::{assert_answer, words_on_text};
 use crate::proofs::THEORY;
@@ -85,5 +85,51 @@ fn deep_trees_are_grown(rt: HostRuntime) -> Result<(), Fail> {
     let is_told = has_line(sink.written(), "wide (exists-trace): verified (5002 steps)");
     assert!(rt; is_told);
     assert_eq!(rt; ended as u8, 0);
+    Ok(())
+}
+
+// the lemma that there is a step with A('c'), and this many times more of it, joined by the sign
+fn joined(alloc: Global, sign: char, parts: usize) -> Result<String, AllocError> {
+    let mut text = String::from_str(
+        alloc,
+        "theory Joined begin\nrule R: [ ] --[ A('c') ]-> [ ]\nlemma all: exists-trace \"Ex #i. A('c')@i & (A('c')@i",
+    )?;
+    for _part in 0..parts {
+        write!(text, " {sign} A('c')@i")?;
+    }
+    text.push_str(")\"\n")?;
+    Ok(text)
+}
+
+#[test]
+fn lemmas_of_many_parts_are_proved(rt: HostRuntime) -> Result<(), Fail> {
+    let alloc = rt.alloc();
+    for sign in ['&', '|'] {
+        let lemma = joined(alloc, sign, 1_000)?;
+        let text = format!(in alloc; "{lemma}end\n")?;
+        let words = words_on_text(alloc, "prove")?;
+        let mut library = MemLibrary::new(alloc);
+        library.put("text", text.as_bytes())?;
+        let mut sink = MemSink::new(alloc, 1 << 20, 1 << 20)?;
+        let ended = run(alloc, &words, &mut library, &mut sink);
+        // The first step simplifies, the second looks for the action's step, and then all parts stand.
+        let is_told = has_line(sink.written(), "all (exists-trace): verified (3 steps)");
+        assert!(rt; is_told);
+        assert_eq!(rt; ended as u8, 0);
+    }
+    Ok(())
+}
+
+#[test]
+fn proofs_of_lemmas_of_many_parts_are_checked(rt: HostRuntime) -> Result<(), Fail> {
+    let alloc = rt.alloc();
+    let line = "all (exists-trace): analysis incomplete (0 steps)\n";
+    for sign in ['&', '|'] {
+        for parts in [10_000, 50_000] {
+            let lemma = joined(alloc, sign, parts)?;
+            let text = format!(in alloc; "{lemma}by sorry\nend\n")?;
+            assert_answer(&rt, alloc, "check", text.as_str(), 2, line)?;
+        }
+    }
     Ok(())
 }

@@ -9,10 +9,11 @@ use Rattle.sp_spec_text.specs.Texts.{IsTextOf}
 use Rattle.sp_spec_proof.specs.Tree.{steps}
 use Rattle.sp_spec_text.specs.Written.{WrittenProof, WrittenText, lemmas_with_proofs, without_proofs, theory_in}
 use Rattle.sp_spec_text.specs.Verdict.{summary_line}
-use Rattle.sp_read_steps.specs.Lines.{IsNamed, lines}
+use Rattle.sp_spec_text.specs.Names.{IsNameWord}
+use Rattle.sp_spec_text.specs.Blanks.{lines}
 use Rattle.sp_check.specs.Skeleton as read
 use Rattle.sp_io.specs.Told.{extended}
-use Rattle.sp_law_again.specs.Behind.{IsBehindEnd}
+use Rattle.sp_spec_text.specs.Behind.{IsBehindEnd}
 use Rattle.sp_law_again.proofs.Behind.{behind_one}
 use Rattle.sp_law_block.specs.Block.{block_of}
 use Rattle.sp_law_block.proofs.NoFeeds.{line_cut, no_feed_in}
@@ -45,13 +46,13 @@ summary_told theory (o ∷ os) = ap (λ (xs : List ℕ). summary_line o.lemma.na
 -- what is known of a lemma of the text
 record IsKnown (text : WrittenText) (lemma : Lemma) : Type 0 where
   stands : Member lemma (theory_in text).lemmas
-  named : IsNamed lemma.name
+  named : IsNameWord lemma.name
   unlearnt : names_learning lemma.formula ≡ false
 
 all_known : (bytes : List ℕ) (text : WrittenText) → IsTextOf bytes text → Every (IsKnown text) (theory_in text).lemmas
 all_known bytes text says = go (theory_in text).lemmas (λ l m. m) (texts_have_names_lem.lemmas bytes text says) (lemmas_unlearnt bytes text says)
   where
-    go : (ls : List Lemma) → ((l : Lemma) → Member l ls → Member l (theory_in text).lemmas) → Every (λ (l : Lemma). IsNamed l.name) ls → Every (λ (l : Lemma). names_learning l.formula ≡ false) ls
+    go : (ls : List Lemma) → ((l : Lemma) → Member l ls → Member l (theory_in text).lemmas) → Every (λ (l : Lemma). IsNameWord l.name) ls → Every (λ (l : Lemma). names_learning l.formula ≡ false) ls
         → Every (IsKnown text) ls
     go [] among h k = tt
     go (l ∷ ls) among h k = (record { stands = among l (inl refl); named = h.0; unlearnt = k.0 }, go ls (λ x m. among x (inr m)) h.1 k.1)

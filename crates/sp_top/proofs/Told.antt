@@ -12,8 +12,9 @@ use Rattle.sp_spec_text.specs.Written.{WrittenText, theory_in}
 use Rattle.sp_spec_text.specs.Texts.{IsTextOf}
 use Rattle.sp_spec_text.specs.Printed.{step_text}
 use Rattle.sp_spec_text.specs.Verdict.{Verdict, verified, falsified, summary_line}
-use Rattle.sp_read_steps.specs.Lines.{IsWord, lines}
-use Rattle.sp_read_steps.proofs.PairNames.{pairs_have_names}
+use Rattle.sp_spec_text.specs.Names.{IsWord}
+use Rattle.sp_spec_text.specs.Blanks.{lines}
+use Rattle.sp_spec_text.proofs.SymbolNames.{pairs_have_names}
 use Rattle.sp_law_found.specs.Found.{execution_of}
 use Rattle.sp_law_shown.proofs.Learning.{out_of_reading}
 use Rattle.sp_law_block.specs.Block.{oldest_first, block_of}

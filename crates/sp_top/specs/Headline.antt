@@ -8,8 +8,10 @@ use Rattle.sp_spec.specs.Execution.{Step}
 use Rattle.sp_spec.specs.Verdict.{HoldsInAll, HoldsInNone, IsBrokenBy, IsSatisfiedBy}
 use Rattle.sp_spec_text.specs.Written.{WrittenText, theory_in}
 use Rattle.sp_spec_text.specs.Texts.{IsTextOf}
-use Rattle.sp_read_steps.specs.Lines.{IsWord, lines, AreSteps}
-use Rattle.sp_law_again.specs.Behind.{IsBehindEnd}
+use Rattle.sp_spec_text.specs.Names.{IsWord}
+use Rattle.sp_spec_text.specs.Blanks.{lines}
+use Rattle.sp_spec_text.specs.StepLines.{AreSteps}
+use Rattle.sp_spec_text.specs.Behind.{IsBehindEnd}
 use Rattle.sp_top.specs.Command.{Request, IsAbout, IsLine}
 use Rattle.sp_top.specs.Run.{HasVerdicts}
 use Rattle.sp_top.specs.declared.Status.{Status}

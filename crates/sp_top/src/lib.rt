@@ -247,7 +247,8 @@ pub fn run<L: Library, K: Sink>(
     library: &mut L,
     out: &mut K,
 ) -> Status
-    // Each status has its cause, and comes where the cause holds.
+    // Each status has its cause, and comes where the cause is told. Of a write fault, and of a read fault where the library doesn't tell, only the
+    // cause is said.
     ensures usage { UsageExactly words.now result }
     ensures read_fault { ReadFaultExactly words.now (L.holds library.old) (L.faults library.old) (L.faults library.new) result }
     ensures too_long { TooLongExactly words.now (L.holds library.old) result }

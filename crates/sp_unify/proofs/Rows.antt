@@ -3,9 +3,10 @@ use Rattle.std.proofs.Common.{◌≡◌, ◌+◌, List, [], ◌∷◌, length, �
 use Rattle.sp_spec.specs.Unifier.{clash, differences}
 use Rattle.sp_term.specs.View.{view_all}
 use Rattle.sp_term.specs.declared.term.Term.{Term}
+use Rattle.sp_term.specs.declared.term.Variable.{Variable}
 
 -- rows of unequal length clash where the walk ends and what was walked has no difference
-pub rows_apart : (ts us rest rest' : List Term) → differences (view_all ts) (view_all us) ≡ differences (view_all rest) (view_all rest')
+pub rows_apart : (ts us rest rest' : List (Term Variable)) → differences (view_all ts) (view_all us) ≡ differences (view_all rest) (view_all rest')
     → length ts + length rest' ≡ length us + length rest → (length ts ≡ length us → ⊥) → (length rest ≡ 0) ⊎ (length rest' ≡ 0)
     → clash ≡ differences (view_all ts) (view_all us)
 rows_apart ts us [] [] e n unequal ends = absurd (unequal (omega arith))

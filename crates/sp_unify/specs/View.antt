@@ -2,12 +2,13 @@
 use Rattle.sp_spec.specs.Unifier.{Pair, Difference, no_difference, clash, binding}
 use Rattle.sp_term.specs.View.{variable_of, view}
 use Rattle.sp_term.specs.declared.term.Term.{Term}
+use Rattle.sp_term.specs.declared.term.Variable.{Variable}
 use Rattle.sp_unify.specs.declared.unify.Found.{Found}
 use Rattle.sp_unify.specs.declared.unify.Found.TheVariants as found
 use Rattle.sp_unify.specs.declared.unify.Step.{Step}
 use Rattle.sp_unify.specs.declared.unify.Step.TheVariants as step
 
-abbrev pub pair_view : Term × Term → Pair
+abbrev pub pair_view : Term Variable × Term Variable → Pair
 pair_view p = (view p.0, view p.1)
 
 abbrev pub found_of : Found → Difference

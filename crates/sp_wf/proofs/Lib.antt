@@ -9,3 +9,4 @@ pub mod Using
 pub mod Formulas
 pub mod Stepping
 pub mod NamesBefore
+pub mod Joints

@@ -1,7 +1,9 @@
 // The findings on the formula of a lemma.
 
-ghost use Rattle.std.specs.Prelude.{◌≡◌, ◌&&◌, [], if◌then◌else◌, IfOk, OnOk, map};
+ghost use Rattle.std.specs.Prelude.{◌≡◌, ◌&&◌, ℕ, List, [], if◌then◌else◌, IfOk, OnOk, map};
 ghost use Rattle.sp_spec_text.specs.Shapes.{row};
+ghost use Rattle.sp_spec.specs.Formula as formulas;
+ghost use Rattle.sp_read_parts.specs.Reading.{Joint};
 ghost use Rattle.sp_read_parts.specs.Formulas as written;
 ghost use Rattle.sp_written.specs.Views as view;
 ghost use Rattle.sp_guard.specs.View.{innermost_first};
@@ -23,6 +25,7 @@ use sp_written::WrittenLemma;
 use std::alloc::{AllocError, Global};
 
 /// Tells of what is looked for, where variables are used within the reach of these binders.
+#[cycle(uses)]
 #[tactic(auto, using(crate::proofs::Using::sought_on, crate::proofs::Formulas::sought_equivalent, crate::proofs::Formulas::sought_for_all, crate::proofs::Formulas::sought_for_some))]
 fn tell_uses<'a>(
     alloc: Global,
@@ -43,10 +46,17 @@ fn tell_uses<'a>(
             tell_order(alloc, lines, search, binders, *left, *right)
         }
         ReadFormula::Not(denied) => tell_uses(alloc, lines, search, binders, denied),
-        ReadFormula::Both(left, right)
-        | ReadFormula::Either(left, right)
-        | ReadFormula::Implies(left, right)
-        | ReadFormula::Equivalent(left, right) => {
+        ReadFormula::Both(left, right, more) | ReadFormula::Either(left, right, more) => {
+            tell_uses(alloc, lines, search, binders, left)?;
+            tell_uses(alloc, lines, search, binders, right)?;
+            tell_later_uses(alloc, lines, search, binders, more)
+        }
+        ReadFormula::Implies(left, right) => {
+            tell_uses(alloc, lines, search, binders, left)?;
+            tell_uses(alloc, lines, search, binders, right)?;
+            Ok(())
+        }
+        ReadFormula::Equivalent(left, right) => {
             tell_uses(alloc, lines, search, binders, left)?;
             tell_uses(alloc, lines, search, binders, right)?;
             Ok(())
@@ -64,7 +74,28 @@ fn tell_uses<'a>(
     }
 }
 
+/// The same in each of the formulas that follow.
+#[cycle(uses)]
+fn tell_later_uses<'a>(
+    alloc: Global,
+    lines: &mut Vec<String>,
+    search: Search<'a>,
+    binders: &Vec<WrittenVariable<'a>>,
+    more: &Vec<ReadFormula<'a>>,
+) -> Result<(), AllocError>
+    ensures { OnOk result ((o : Joint) (before : List (List ℕ)) (f : formulas.Formula)
+        → lines_of lines.old.items ≡ lines_after before (sought (sought_view search.entry.sought) search.entry.lemma.now (spec.uses (innermost_first binders.now.items) f))
+        → lines_of lines.new.items ≡ lines_after before (sought (sought_view search.entry.sought) search.entry.lemma.now
+        (spec.uses (innermost_first binders.now.items) (written.chain o f (map written.formula more.now.items))))) }
+{
+    for part in more {
+        tell_uses(alloc, lines, search, binders, part)?;
+    }
+    Ok(())
+}
+
 /// Tells of each action of the formula that has too many arguments.
+#[cycle(wide)]
 #[tactic(auto, using(crate::proofs::Telling::told_both, crate::proofs::Formulas::wide_equivalent, crate::proofs::Formulas::wide_for_all, crate::proofs::Formulas::wide_for_some))]
 fn tell_wide_in(
     alloc: Global,
@@ -83,19 +114,46 @@ fn tell_wide_in(
         ),
         ReadFormula::Equals(_, _) | ReadFormula::Precedes(_, _) => Ok(()),
         ReadFormula::Not(denied) => tell_wide_in(alloc, lines, denied),
-        ReadFormula::Both(left, right)
-        | ReadFormula::Either(left, right)
-        | ReadFormula::Implies(left, right)
-        | ReadFormula::Equivalent(left, right) => {
+        ReadFormula::Both(left, right, more) | ReadFormula::Either(left, right, more) => {
+            tell_wide_in(alloc, lines, left)?;
+            tell_wide_in(alloc, lines, right)?;
+            tell_later_wide(alloc, lines, more)
+        }
+        ReadFormula::Implies(left, right) => {
             tell_wide_in(alloc, lines, left)?;
             tell_wide_in(alloc, lines, right)?;
             Ok(())
         }
-        ReadFormula::ForAll(_, body) | ReadFormula::ForSome(_, body) => {
+        ReadFormula::Equivalent(left, right) => {
+            tell_wide_in(alloc, lines, left)?;
+            tell_wide_in(alloc, lines, right)?;
+            Ok(())
+        }
+        ReadFormula::ForAll(_, body) => {
+            tell_wide_in(alloc, lines, body)?;
+            Ok(())
+        }
+        ReadFormula::ForSome(_, body) => {
             tell_wide_in(alloc, lines, body)?;
             Ok(())
         }
     }
+}
+
+/// The same in each of the formulas that follow.
+#[cycle(wide)]
+fn tell_later_wide(
+    alloc: Global,
+    lines: &mut Vec<String>,
+    more: &Vec<ReadFormula>,
+) -> Result<(), AllocError>
+    ensures { OnOk result ((o : Joint) (before : List (List ℕ)) (f : formulas.Formula) → lines_of lines.old.items ≡ lines_after before (spec.wide_in f)
+        → lines_of lines.new.items ≡ lines_after before (spec.wide_in (written.chain o f (map written.formula more.now.items)))) }
+{
+    for part in more {
+        tell_wide_in(alloc, lines, part)?;
+    }
+    Ok(())
 }
 
 /// Tells of each action of the lemma that has too many arguments.

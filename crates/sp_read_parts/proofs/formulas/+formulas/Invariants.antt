@@ -1,4 +1,5 @@
-use Rattle.std.proofs.Common.{◌+◌, ◌-◌, ◌*◌, ◌<◌, ◌≤◌, length}
+use Rattle.std.proofs.Common.{◌+◌, ◌-◌, ◌*◌, ◌<◌, ◌≤◌, length, map}
+use Rattle.sp_spec.specs.Formula.{both, either}
 use Rattle.sp_read_parts.specs.Reading.{conjoint, disjoint}
 use Rattle.sp_read_parts.specs.Views.{seen_from}
 use Rattle.sp_read_parts.specs.Formulas as view
@@ -29,14 +30,14 @@ decreases-group l = 8 * (128 - l.nesting)
 abbrev pub decreases-binding : goal.decreases-binding
 decreases-binding l = 8 * (128 - l.nesting)
 
-abbrev pub invariant-conjunction-loop-more : goal.invariant-conjunction-loop-more
-invariant-conjunction-loop-more l = record { reads : Joined conjoint l.nesting (seen_from l.tokens l.at) (view.formula l.left) (seen_from l.tokens l.rest); further : l.at < l.rest; within : l.rest ≤ length l.tokens }
+abbrev pub invariant-conjunction-loop-behind : goal.invariant-conjunction-loop-behind
+invariant-conjunction-loop-behind l = record { reads : Joined conjoint l.nesting (seen_from l.tokens l.at) (view.chain conjoint (both (view.formula l.first) (view.formula l.second)) (map view.formula l.more.items)) (seen_from l.tokens l.rest); further : l.at < l.rest; within : l.rest ≤ length l.tokens }
 
-abbrev pub decreases-conjunction-loop-more : goal.decreases-conjunction-loop-more
-decreases-conjunction-loop-more l = length l.tokens - l.rest
+abbrev pub decreases-conjunction-loop-behind : goal.decreases-conjunction-loop-behind
+decreases-conjunction-loop-behind l = length l.tokens - l.rest
 
-abbrev pub invariant-disjunction-loop-more : goal.invariant-disjunction-loop-more
-invariant-disjunction-loop-more l = record { reads : Joined disjoint l.nesting (seen_from l.tokens l.at) (view.formula l.left) (seen_from l.tokens l.rest); further : l.at < l.rest; within : l.rest ≤ length l.tokens }
+abbrev pub invariant-disjunction-loop-behind : goal.invariant-disjunction-loop-behind
+invariant-disjunction-loop-behind l = record { reads : Joined disjoint l.nesting (seen_from l.tokens l.at) (view.chain disjoint (either (view.formula l.first) (view.formula l.second)) (map view.formula l.more.items)) (seen_from l.tokens l.rest); further : l.at < l.rest; within : l.rest ≤ length l.tokens }
 
-abbrev pub decreases-disjunction-loop-more : goal.decreases-disjunction-loop-more
-decreases-disjunction-loop-more l = length l.tokens - l.rest
+abbrev pub decreases-disjunction-loop-behind : goal.decreases-disjunction-loop-behind
+decreases-disjunction-loop-behind l = length l.tokens - l.rest

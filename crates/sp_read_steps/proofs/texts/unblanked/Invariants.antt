@@ -1,5 +1,5 @@
 use Rattle.std.proofs.Common.{◌≡◌, length}
-use Rattle.sp_read_steps.specs.Lines.{unblanked}
+use Rattle.sp_spec_text.specs.Blanks.{unblanked}
 use Rattle.sp_read_steps.proofs.texts.unblanked.Given as goal
 
 abbrev pub invariant-loop-byte : goal.invariant-loop-byte

@@ -2,6 +2,7 @@ use Rattle.std.proofs.Common.{ℕ, [], Option, Some, option_map, refl, sym, ap, 
 use Rattle.sp_spec.specs.Unifier.{Pair}
 use Rattle.sp_spec_system.specs.System as spec
 use Rattle.sp_term.specs.declared.term.Term.{Term}
+use Rattle.sp_term.specs.declared.term.Variable.{Variable}
 use Rattle.sp_system.specs.SystemView.{pair_of, system_of}
 use Rattle.sp_system.specs.SpendView.{spending_at}
 use Rattle.sp_spec_formula.specs.Unequal as rows
@@ -10,13 +11,13 @@ use Rattle.sp_rows_formula.proofs.Positions.{unequal-there}
 use Rattle.sp_rows_formula.proofs.Searches.{below}
 use Rattle.sp_rows_formula.proofs.inequality.unequal.Goals as goal
 
-abbrev there : Option (ℕ × (Term × Term)) → Option (ℕ × Pair)
+abbrev there : Option (ℕ × (Term Variable × Term Variable)) → Option (ℕ × Pair)
 there = option_map (λ p. (p.0, pair_of p.1))
 
 abbrev row : spec.System → Option (ℕ × Pair) → Option spec.System
 row s = option_map (λ p. keeping (spending_at s p.0 []) p.1)
 
-abbrev found : spec.System → Option (ℕ × (Term × Term)) → Option spec.System
+abbrev found : spec.System → Option (ℕ × (Term Variable × Term Variable)) → Option spec.System
 found s o = row s (there o)
 
 pub returns-in_default : goal.returns-in_default

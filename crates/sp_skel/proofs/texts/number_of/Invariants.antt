@@ -1,5 +1,5 @@
 use Rattle.std.proofs.Common.{◌≡◌, ◌^◌, ◌<◌, length}
-use Rattle.sp_skel.specs.MoveTexts.{are_digits, value}
+use Rattle.sp_spec_text.specs.Numerals.{are_digits, value}
 use Rattle.sp_skel.proofs.texts.number_of.Given as goal
 
 abbrev pub invariant-loop-byte : goal.invariant-loop-byte

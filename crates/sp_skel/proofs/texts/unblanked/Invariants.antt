@@ -1,5 +1,5 @@
 use Rattle.std.proofs.Common.{◌≡◌, length}
-use Rattle.sp_skel.specs.MoveTexts.{unblanked}
+use Rattle.sp_spec_text.specs.Blanks.{unblanked}
 use Rattle.sp_skel.proofs.texts.unblanked.Given as goal
 
 abbrev pub invariant-loop-byte : goal.invariant-loop-byte

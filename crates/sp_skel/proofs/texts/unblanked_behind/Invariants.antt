@@ -1,5 +1,5 @@
 use Rattle.std.proofs.Common.{◌≡◌, length, reverse}
-use Rattle.sp_skel.specs.MoveTexts.{unblanked}
+use Rattle.sp_spec_text.specs.Blanks.{unblanked}
 use Rattle.sp_skel.proofs.texts.unblanked_behind.Given as goal
 
 abbrev pub invariant-loop-front : goal.invariant-loop-front

@@ -1,9 +1,9 @@
 use Rattle.std.proofs.Common.{◌≡◌, ◌<◌, ◌+◌, ◌-◌, ℕ, [], ◌∷◌, ◌++◌, map, drop, length, sym, ap, ◌∙◌, arith}
 use Rattle.sp_spec.specs.Term.{Ground}
 use Rattle.sp_solved.proofs.Constant.{ground_constant}
-use Rattle.sp_term.specs.View.{name_of, variable_of}
+use Rattle.sp_term.specs.View.{name_of, variable_of, Never}
 use Rattle.sp_norm.specs.Bounds.{bounds}
-use Rattle.sp_norm.specs.declared.values.Values.{Values}
+use Rattle.sp_term.specs.declared.subst.Bindings.{Bindings}
 use Rattle.sp_solved.specs.Naming.{public_given}
 use Rattle.sp_solved.proofs.Giving.{all_given, passed_over, given_one}
 use Rattle.sp_solved.proofs.naming.give_public.Goals as goal
@@ -28,7 +28,7 @@ loop-passed-preserved c =
           record {
             within = omega (arith, w.given-is);
             same =
-                ap (λ (v : Values). bounds v ++ public_given cs (total - (c.loop-passed.passed + 1)) (c.loop-passed.passed + 1 + 1) (map variable_of (drop c.if-not-is_listed.given vs))) w.values-is
+                ap (λ (v : Bindings Never). bounds v ++ public_given cs (total - (c.loop-passed.passed + 1)) (c.loop-passed.passed + 1 + 1) (map variable_of (drop c.if-not-is_listed.given vs))) w.values-is
                 ∙ ap (λ (k : ℕ). bounds w.push.new.self ++ public_given cs (total - (c.loop-passed.passed + 1)) (c.loop-passed.passed + 1 + 1) (map variable_of (drop k vs))) w.given-is
                 ∙ given_one cs total c.loop-passed.passed (name_of c.in_ok-name.name) vs c.loop-passed.given w.index.result.now (bounds c.loop-passed.values) (bounds w.push.new.self) target
                 more c.in_ok-name.ensures (sym c.is_listed.ensures ∙ w.if-not-is_listed.true) here w.index.ensures (w.in_ok-push.ensures ∙ ap (λ (t : Ground). bounds c.loop-passed.values ++ (variable_of w.index.result.now, t) ∷ []) (ground_constant c.in_ok-name.name)) c.loop-passed.invariant.same;
@@ -37,7 +37,7 @@ loop-passed-preserved c =
           record {
             within = omega (arith, w.given-is, here);
             same =
-                ap (λ (v : Values). bounds v ++ public_given cs (total - (c.loop-passed.passed + 1)) (c.loop-passed.passed + 1 + 1) (map variable_of (drop c.if-not-is_listed.given vs))) w.values-is
+                ap (λ (v : Bindings Never). bounds v ++ public_given cs (total - (c.loop-passed.passed + 1)) (c.loop-passed.passed + 1 + 1) (map variable_of (drop c.if-not-is_listed.given vs))) w.values-is
                 ∙ ap (λ (k : ℕ). bounds c.loop-passed.values ++ public_given cs (total - (c.loop-passed.passed + 1)) (c.loop-passed.passed + 1 + 1) (map variable_of (drop k vs))) w.given-is
                 ∙ passed_over cs total c.loop-passed.passed (name_of c.in_ok-name.name) (map variable_of (drop c.loop-passed.given vs)) (bounds c.loop-passed.values) target
                 more c.in_ok-name.ensures (sym c.is_listed.ensures ∙ w.if-not-is_listed.false) c.loop-passed.invariant.same;
