@@ -1,4 +1,2 @@
 mod Slots
-mod Values
-mod Patterns
 mod Traces

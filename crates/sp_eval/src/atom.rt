@@ -1,49 +1,19 @@
 // The truth of atoms, where what is bound has its values.
 
-ghost use Rattle.std.specs.Prelude.{◌≡◌, [], IfOk, map};
-ghost use Rattle.sp_spec.specs.Guarded.{term_in, action_in, time_in};
+ghost use Rattle.std.specs.Prelude.{◌≡◌, IfOk, map};
 ghost use Rattle.sp_law_decide.specs.Deciding as deciding;
 ghost use Rattle.sp_law_decide.specs.Deciding.{assignment_of};
-ghost use Rattle.sp_formula.specs.FormulaView.{placed_term, placed_terms, placed_action, moment_of, atom_of};
-ghost use Rattle.sp_ground.specs.View.{ground_of, grounds_of, ground_action, trace_of};
-ghost use Rattle.sp_eval.specs.View.{slots_of, times_of, environment_of, terms_value};
+ghost use Rattle.sp_formula.specs.FormulaView.{atom_of};
+ghost use Rattle.sp_ground.specs.View.{ground_action, trace_of};
+ghost use Rattle.sp_eval.specs.View.{environment_of};
 
-use crate::environment::{Environment, Slot};
-use crate::value::{term_value, time_value};
-use sp_formula::formula::{Atom, FormulaAction, FormulaTerm};
+use crate::environment::Environment;
+use crate::value::time_value;
+use sp_formula::formula::Atom;
 use sp_ground::fact::{GroundAction, Trace};
-use sp_ground::term::GroundTerm;
+use sp_term::apply::apply;
 use sp_term::term::{all_same, same};
 use std::alloc::{AllocError, Global};
-
-/// The values of terms.
-fn term_values(
-    alloc: Global,
-    terms: &Vec<FormulaTerm>,
-    slots: &Vec<Slot>,
-) -> Result<Vec<GroundTerm>, AllocError>
-    ensures { IfOk result (λ ts. grounds_of ts.items ≡ terms_value (slots_of slots.now.items) (placed_terms terms.now.items)) }
-{
-    let mut made = Vec::with_capacity(alloc, terms.len())?;
-    for term in terms {
-        let value = term_value(alloc, term, slots)?;
-        made.push(value)?;
-    }
-    Ok(made)
-}
-
-/// The action with the values of its arguments.
-fn action_value(
-    alloc: Global,
-    action: &FormulaAction,
-    slots: &Vec<Slot>,
-) -> Result<GroundAction, AllocError>
-    ensures { IfOk result (λ a. ground_action a ≡ action_in (assignment_of (deciding.environment (slots_of slots.now.items) [])) (placed_action action.now)) }
-{
-    let symbol = action.symbol.copy()?;
-    let args = term_values(alloc, &action.args, slots)?;
-    Ok(GroundAction { symbol, args })
-}
 
 /// Whether the action is one of the entry.
 fn is_among(action: &GroundAction, entry: &Vec<GroundAction>) -> bool
@@ -79,12 +49,12 @@ pub(crate) fn atom_true(
 {
     match atom {
         Atom::Acts(action, time) => {
-            let shown = action_value(alloc, action, &env.messages)?;
+            let shown = action.changed(alloc, &env.messages)?;
             Ok(is_at(trace, time_value(*time, &env.times), &shown))
         }
         Atom::Same(left, right) => {
-            let first = term_value(alloc, left, &env.messages)?;
-            let second = term_value(alloc, right, &env.messages)?;
+            let first = apply(alloc, &env.messages, left)?;
+            let second = apply(alloc, &env.messages, right)?;
             Ok(same(&first, &second))
         }
         Atom::SameTime(first, second) => {

@@ -1,16 +1,22 @@
 // Equalities of a guard, which give values.
 
-ghost use Rattle.std.specs.Prelude.{◌≡◌, [], ◌∷◌, IfOk, map, option_map, option_to_list};
+ghost use Rattle.std.specs.Prelude.{◌≡◌, IfOk, map, option_map, option_to_list};
 ghost use Rattle.sp_law_decide.specs.Deciding as deciding;
-ghost use Rattle.sp_formula.specs.FormulaView.{placed_term, atom_of, binder_of};
+ghost use Rattle.sp_formula.specs.FormulaView.{atom_of, binder_of};
+ghost use Rattle.sp_formula.specs.PlaceView.{placed_term};
+ghost use Rattle.sp_term.specs.Bindings.{answer};
 ghost use Rattle.sp_ground.specs.View.{trace_of};
-ghost use Rattle.sp_eval.specs.View.{slots_of, times_of, environment_of, environments_of, kept};
+ghost use Rattle.sp_eval.specs.View.{messages_of, environment_of, environments_of};
 
-use crate::environment::{Environment, Slot, entered, fill_message};
+use crate::environment::{Environment, Messages, entered};
 use crate::matching::{add, by_actions};
-use crate::value::{is_known, term_value};
-use sp_formula::formula::{Atom, Binder, FormulaTerm};
+use sp_formula::formula::{Atom, Binder};
+use sp_formula::place::{FormulaTerm, Place};
 use sp_ground::fact::Trace;
+use sp_term::apply::apply;
+use sp_term::leaves::each_leaf;
+use sp_term::matching::Binds;
+use sp_term::term::Term;
 use std::alloc::{AllocError, Global};
 
 /// Gives the first term the value of the second, if it is a bound message and the second is known, and tells whether it may have it.
@@ -18,32 +24,32 @@ fn give(
     alloc: Global,
     target: &FormulaTerm,
     source: &FormulaTerm,
-    slots: &mut Vec<Slot>,
+    messages: &mut Messages,
 ) -> Result<bool, AllocError>
-    ensures { IfOk result (λ b. kept b (slots_of slots.new.items) ≡ deciding.given_to (placed_term target.now) (placed_term source.now) (slots_of slots.old.items)) }
+    ensures { IfOk result (λ b. answer b (messages_of messages.new) ≡ deciding.given_to (placed_term target.now) (placed_term source.now) (messages_of messages.old)) }
 {
     match target {
-        FormulaTerm::Bound(place) => {
-            if !is_known(source, slots) {
+        Term::Var(Place::Bound(place)) => {
+            if !each_leaf(messages, source) {
                 return Ok(true);
             }
-            let value = term_value(alloc, source, slots)?;
-            fill_message(slots, *place, &value)
+            let value = apply(alloc, messages, source)?;
+            messages.bind(&Place::Bound(*place), &value)
         }
-        FormulaTerm::Free(_) => Ok(true),
+        _ => Ok(true),
     }
 }
 
 /// Gives the sides of an equality their values, and tells whether they may have them.
-fn by_atom(alloc: Global, atom: &Atom, slots: &mut Vec<Slot>) -> Result<bool, AllocError>
-    ensures { IfOk result (λ b. kept b (slots_of slots.new.items) ≡ deciding.by_atom (atom_of atom.now) (slots_of slots.old.items)) }
+fn by_atom(alloc: Global, atom: &Atom, messages: &mut Messages) -> Result<bool, AllocError>
+    ensures { IfOk result (λ b. answer b (messages_of messages.new) ≡ deciding.by_atom (atom_of atom.now) (messages_of messages.old)) }
 {
     match atom {
         Atom::Same(left, right) => {
-            if !give(alloc, left, right, slots)? {
+            if !give(alloc, left, right, messages)? {
                 return Ok(false);
             }
-            give(alloc, right, left, slots)
+            give(alloc, right, left, messages)
         }
         _ => Ok(true),
     }
@@ -53,12 +59,12 @@ fn by_atom(alloc: Global, atom: &Atom, slots: &mut Vec<Slot>) -> Result<bool, Al
 fn by_equalities(
     alloc: Global,
     guard: &Vec<Atom>,
-    slots: &mut Vec<Slot>,
+    messages: &mut Messages,
 ) -> Result<bool, AllocError>
-    ensures { IfOk result (λ b. kept b (slots_of slots.new.items) ≡ deciding.by_equalities (map atom_of guard.now.items) (slots_of slots.old.items)) }
+    ensures { IfOk result (λ b. answer b (messages_of messages.new) ≡ deciding.by_equalities (map atom_of guard.now.items) (messages_of messages.old)) }
 {
     for atom in guard {
-        if !by_atom(alloc, atom, slots)? {
+        if !by_atom(alloc, atom, messages)? {
             return Ok(false);
         }
     }

@@ -1,61 +1,67 @@
 // Actions of a guard against those of a trace.
 
-ghost use Rattle.std.specs.Prelude.{◌≡◌, ◌++◌, [], ◌∷◌, IfOk, map, option_map, option_to_list};
+ghost use Rattle.std.specs.Prelude.{◌≡◌, ◌++◌, [], ◌∷◌, IfOk, List, map, option_map, option_to_list};
+ghost use Rattle.sp_spec.specs.Term as spec;
+ghost use Rattle.sp_spec.specs.Guarded as guarded;
+ghost use Rattle.sp_spec.specs.Same.{same_term};
+ghost use Rattle.sp_spec.specs.Slots as slots;
 ghost use Rattle.sp_law_decide.specs.Deciding as deciding;
-ghost use Rattle.sp_law_decide.specs.Deciding.{matched, matched_all, matched_time};
-ghost use Rattle.sp_formula.specs.FormulaView.{placed_term, placed_terms, placed_action, moment_of, atom_of};
-ghost use Rattle.sp_ground.specs.View.{ground_of, grounds_of, ground_action, trace_of};
-ghost use Rattle.sp_eval.specs.View.{slots_of, times_of, environment_of, environments_of, kept};
+ghost use Rattle.sp_law_decide.specs.Deciding.{nothing, matched_place, matched_time};
+ghost use Rattle.sp_formula.specs.FormulaView.{moment_of, atom_of};
+ghost use Rattle.sp_formula.specs.PlaceView.{place_of, placed_action};
+ghost use Rattle.sp_term.specs.Bindings.{answer};
+ghost use Rattle.sp_term.specs.View.{never_of};
+ghost use Rattle.sp_ground.specs.View.{ground_of, ground_action, trace_of};
+ghost use Rattle.sp_eval.specs.View.{messages_of, times_of, environment_of, environments_of};
 
-use crate::environment::{Environment, Slot, fill_message, fill_time};
-use crate::value::free_value;
-use sp_formula::formula::{Atom, FormulaAction, FormulaTerm, Moment};
+use crate::environment::{Environment, Messages, fill_time};
+use sp_formula::formula::{Atom, Moment};
+use sp_formula::place::{FormulaAction, Place};
+use sp_formula::slots::fill;
 use sp_ground::fact::{GroundAction, Trace};
 use sp_ground::term::GroundTerm;
-use sp_term::term::same;
+use sp_term::matching::{Binds, extend_all};
+use sp_term::term::{Never, Term};
 use std::alloc::{AllocError, Global};
 
-/// Gives the slots the values that make the pattern this term, and tells whether there are such values.
-fn match_term(
-    alloc: Global,
-    pattern: &FormulaTerm,
-    term: &GroundTerm,
-    slots: &mut Vec<Slot>,
-) -> Result<bool, AllocError>
-    ensures { IfOk result (λ b. kept b (slots_of slots.new.items) ≡ matched (placed_term pattern.now) (ground_of term.now) (slots_of slots.old.items)) }
+/// Whether the term is the one that stands for what has no value, the empty public name.
+fn is_nothing(term: &GroundTerm) -> bool
+    ensures { result ≡ same_term nothing (ground_of term.now) }
 {
-    match pattern {
-        FormulaTerm::Bound(place) => fill_message(slots, *place, term),
-        FormulaTerm::Free(own) => {
-            let value = free_value(alloc, own)?;
-            Ok(same(&value, term))
+    match term {
+        Term::Constant(name) => name.text.is_empty(),
+        _ => false,
+    }
+}
+
+// Makes the message at a place the term, if it has no value, and tells whether it is the term.
+impl Binds<Place, Never> for Messages {
+    ghost From = { guarded.Place };
+
+    ghost To = { ⊥ };
+
+    ghost from_of = { place_of };
+
+    ghost to_of = { never_of };
+
+    ghost Bindings = { List (slots.Slot spec.Sort spec.Ground) };
+
+    ghost bindings = { messages_of };
+
+    ghost bound_by = { matched_place };
+
+    fn bind(&mut self, leaf: &Place, term: &GroundTerm) -> Result<bool, AllocError> {
+        let is_nothing = is_nothing(term);
+        match leaf {
+            Place::Bound(place) => fill(&mut self.slots, *place, term, is_nothing),
+            Place::Free(_) => Ok(is_nothing),
         }
     }
 }
 
-/// The same of a row of terms.
-fn match_terms(
-    alloc: Global,
-    patterns: &Vec<FormulaTerm>,
-    terms: &Vec<GroundTerm>,
-    slots: &mut Vec<Slot>,
-) -> Result<bool, AllocError>
-    ensures { IfOk result (λ b. kept b (slots_of slots.new.items) ≡ matched_all (placed_terms patterns.now.items) (grounds_of terms.now.items) (slots_of slots.old.items)) }
-{
-    if patterns.len() != terms.len() {
-        return Ok(false);
-    }
-    for (pattern, term) in patterns.iter().zip(terms) {
-        if !match_term(alloc, pattern, term, slots)? {
-            return Ok(false);
-        }
-    }
-    Ok(true)
-}
-
-/// The same of a time and a position.
+/// Makes the time the position, if it has no value, and tells whether it is the position.
 fn match_time(time: Moment, position: u64, times: &mut Vec<Option<u64>>) -> bool
-    ensures { kept result (times_of times.new.items) ≡ matched_time (moment_of time) position (times_of times.old.items) }
+    ensures { answer result (times_of times.new.items) ≡ matched_time (moment_of time) position (times_of times.old.items) }
 {
     match time {
         Moment::Bound(place) => fill_time(times, place, position),
@@ -78,7 +84,7 @@ fn by_action(
         return Ok(None);
     }
     let mut made = env.copy(alloc)?;
-    let found = match_terms(alloc, &action.args, &shown.args, &mut made.messages)?;
+    let found = extend_all(&action.args, &shown.args, &mut made.messages)?;
     if found && match_time(time, position, &mut made.times) {
         Ok(Some(made))
     } else {

@@ -4,13 +4,13 @@ ghost use Rattle.std.specs.Prelude.{◌≡◌, IfOk, map};
 ghost use Rattle.sp_law_decide.specs.Deciding as deciding;
 ghost use Rattle.sp_law_decide.specs.Deciding.{decided, empty};
 ghost use Rattle.sp_law_decide.specs.Laws.{TellsTruth};
-ghost use Rattle.sp_formula.specs.FormulaView.{atom_of, binder_of, guardeds_of, formula_of};
+ghost use Rattle.sp_formula.specs.FormulaView.{atom_of, guardeds_of, formula_of};
 ghost use Rattle.sp_ground.specs.View.{trace_of};
 ghost use Rattle.sp_eval.specs.View.{environment_of};
 ghost use Rattle.sp_eval.specs.Found.{for_one, for_each};
 
 use crate::atom::{atom_true, atoms_true};
-use crate::environment::Environment;
+use crate::environment::{Environment, Messages};
 use crate::equality::candidates;
 use sp_formula::formula::{Atom, Binder, Formula};
 use sp_ground::fact::Trace;
@@ -27,7 +27,9 @@ pub fn holds(alloc: Global, formula: &Formula, trace: &Trace) -> Result<bool, Al
     ensures means { IfOk result (TellsTruth (trace_of trace.now) (formula_of formula.now)) }
 {
     let nothing = Environment {
-        messages: Vec::new(alloc),
+        messages: Messages {
+            slots: Vec::new(alloc),
+        },
         times: Vec::new(alloc),
     };
     let answer = holds_in(formula, alloc, trace, &nothing)?;

@@ -1,21 +1,25 @@
 // The values of terms and times, where what is bound has its values.
 
-ghost use Rattle.std.specs.Prelude.{◌≡◌, IfOk, IsTrue, map, []};
-ghost use Rattle.sp_spec.specs.Term.{valued, valued_all};
-ghost use Rattle.sp_spec.specs.Guarded.{term_in, time_in, place_in};
-ghost use Rattle.sp_law_decide.specs.Deciding.{nothing, value_at, is_filled, term_value, assignment_of};
+ghost use Rattle.std.specs.Prelude.{◌≡◌, IfOk, []};
+ghost use Rattle.sp_spec.specs.Guarded as guarded;
+ghost use Rattle.sp_spec.specs.Guarded.{time_in, place_in};
+ghost use Rattle.sp_law_decide.specs.Deciding.{nothing, value_or, assignment_of, place_known};
 ghost use Rattle.sp_law_decide.specs.Deciding as deciding;
-ghost use Rattle.sp_formula.specs.FormulaView.{placed_term, placed_terms, moment_of};
-ghost use Rattle.sp_term.specs.View.{view, view_all};
-ghost use Rattle.sp_ground.specs.View.{ground_of, grounds_of};
-ghost use Rattle.sp_eval.specs.View.{slots_of, times_of, free_value, free_values};
+ghost use Rattle.sp_formula.specs.FormulaView.{moment_of};
+ghost use Rattle.sp_formula.specs.PlaceView.{place_of};
+ghost use Rattle.sp_term.specs.View.{never_of};
+ghost use Rattle.sp_ground.specs.View.{ground_of};
+ghost use Rattle.sp_eval.specs.View.{messages_of, times_of};
 
-use crate::environment::Slot;
-use sp_formula::formula::{FormulaTerm, Moment};
+use crate::environment::Messages;
+use sp_formula::formula::Moment;
+use sp_formula::place::Place;
+use sp_formula::slots::value_at;
 use sp_ground::term::GroundTerm;
-use sp_term::term::{Name, Term, copy};
+use sp_term::apply::Assigns;
+use sp_term::leaves::Tests;
+use sp_term::term::{Name, Never, Term, copy};
 use std::alloc::{AllocError, Global};
-use std::rc::Rc;
 
 /// What stands for what has no value: the empty public name.
 fn empty_name(alloc: Global) -> Result<GroundTerm, AllocError>
@@ -25,93 +29,55 @@ fn empty_name(alloc: Global) -> Result<GroundTerm, AllocError>
     Ok(Term::Constant(name))
 }
 
-/// The value of a term of the system, where nothing stands for its variables.
-#[cycle(free_value)]
-pub(crate) fn free_value(alloc: Global, term: &Term) -> Result<GroundTerm, AllocError>
-    ensures { IfOk result (λ t. ground_of t ≡ free_value (view term.now)) }
-{
-    match term {
-        Term::Var(_) => {
-            let value = empty_name(alloc)?;
-            Ok(value)
+// What a place stands for.
+impl Assigns<Place, Never> for Messages {
+    ghost From = { guarded.Place };
+
+    ghost To = { ⊥ };
+
+    ghost from_of = { place_of };
+
+    ghost to_of = { never_of };
+
+    ghost value_of = { λ s. place_in (assignment_of (deciding.environment (messages_of s) [])) };
+
+    fn value(&self, alloc: Global, leaf: &Place) -> Result<GroundTerm, AllocError> {
+        match leaf {
+            Place::Bound(place) => match value_at(&self.slots, *place) {
+                Some(value) => copy(value),
+                None => empty_name(alloc),
+            },
+            Place::Free(_) => empty_name(alloc),
         }
-        Term::Constant(name) => Ok(Term::Constant(name.copy()?)),
-        Term::FreshName(number) => Ok(Term::FreshName(*number)),
-        Term::App(symbol, terms) => {
-            let name = symbol.copy()?;
-            let values = free_values(alloc, terms)?;
-            let shared = Rc::new(alloc, values)?;
-            Ok(Term::App(name, shared))
+    }
+}
+
+// Whether a place has a value.
+impl Tests<Place> for Messages {
+    ghost Kind = { guarded.Place };
+
+    ghost leaf_of = { place_of };
+
+    ghost test_of = { λ s. place_known (messages_of s) };
+
+    fn passes(&self, leaf: &Place) -> bool {
+        match leaf {
+            Place::Bound(place) => {
+                let index = *place as usize;
+                if index >= self.slots.len() {
+                    true
+                } else {
+                    self.slots[index].value.is_some()
+                }
+            }
+            Place::Free(_) => true,
         }
-    }
-}
-
-#[cycle(free_value)]
-fn free_values(alloc: Global, terms: &Vec<Term>) -> Result<Vec<GroundTerm>, AllocError>
-    ensures { IfOk result (λ ts. grounds_of ts.items ≡ free_values (view_all terms.now.items)) }
-{
-    let mut made = Vec::with_capacity(alloc, terms.len())?;
-    for term in terms {
-        let value = free_value(alloc, term)?;
-        made.push(value)?;
-    }
-    Ok(made)
-}
-
-/// Whether the message at the place has a value.
-fn has_value(place: u64, slots: &Vec<Slot>) -> bool
-    ensures { result ≡ is_filled (slots_of slots.now.items) place }
-{
-    let index = place as usize;
-    if index >= slots.len() {
-        true
-    } else {
-        slots[index].value.is_some()
-    }
-}
-
-/// Whether each place of the term has a value.
-#[tactic(auto, using(crate::proofs::Values::free_known))]
-pub(crate) fn is_known(term: &FormulaTerm, slots: &Vec<Slot>) -> bool
-    ensures { result ≡ deciding.is_known (slots_of slots.now.items) (placed_term term.now) }
-{
-    match term {
-        FormulaTerm::Bound(place) => has_value(*place, slots),
-        FormulaTerm::Free(_) => true,
-    }
-}
-
-/// What the message at the place stands for.
-fn message_value(alloc: Global, place: u64, slots: &Vec<Slot>) -> Result<GroundTerm, AllocError>
-    ensures { IfOk result (λ t. ground_of t ≡ value_at nothing (slots_of slots.now.items) place) }
-{
-    let index = place as usize;
-    if index >= slots.len() {
-        return empty_name(alloc);
-    }
-    match &slots[index].value {
-        Some(value) => copy(value),
-        None => empty_name(alloc),
-    }
-}
-
-/// The value of a term.
-pub(crate) fn term_value(
-    alloc: Global,
-    term: &FormulaTerm,
-    slots: &Vec<Slot>,
-) -> Result<GroundTerm, AllocError>
-    ensures { IfOk result (λ t. ground_of t ≡ term_value (slots_of slots.now.items) (placed_term term.now)) }
-{
-    match term {
-        FormulaTerm::Bound(place) => message_value(alloc, *place, slots),
-        FormulaTerm::Free(term) => free_value(alloc, term),
     }
 }
 
 /// The position that the time at the place stands for.
 fn position_at(place: u64, times: &Vec<Option<u64>>) -> u64
-    ensures { result ≡ value_at 0 (times_of times.now.items) place }
+    ensures { result ≡ value_or 0 (times_of times.now.items) place }
 {
     let index = place as usize;
     if index >= times.len() {

@@ -4,7 +4,7 @@ use Rattle.sp_spec.specs.Term.{count}
 use Rattle.sp_term.specs.View.{Never}
 use Rattle.sp_term.specs.declared.term.Term.{Term}
 use Rattle.sp_ground.specs.View.{grounds_of}
-use Rattle.sp_ground.proofs.Lists.{count-grounds}
+use Rattle.sp_ground.proofs.Lists.{count_grounds}
 use Rattle.sp_law_run.proofs.Taking.{map_append}
 use Rattle.sp_spec.proofs.Lists.{length_map}
 
@@ -22,7 +22,7 @@ behind_one front x (Some rest) = ap Some (sym (append_assoc front (x ∷ []) res
 
 -- as many terms as in memory
 pub counted : (ts : List (Term Never)) → count (grounds_of ts) ≡ length ts
-counted ts = count-grounds ts
+counted ts = count_grounds ts
 
 -- a list is what stands before a place, the element there, and what stands behind it
 at_place : {A : Type 0} (xs : List A) (i : ℕ) (x : A) → i < length xs → x ≡ get_or xs i x → xs ≡ take i xs ++ x ∷ drop (suc i) xs

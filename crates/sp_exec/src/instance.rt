@@ -20,7 +20,7 @@ use sp_ground::step::{Given, Step};
 use sp_ground::term::GroundTerm;
 use sp_norm::instance::facts_value;
 use sp_norm::over::{are_over, has_public};
-use sp_term::term::{Name, Sort, Term, copy, copy_all};
+use sp_term::term::{Name, Sort, Term, copy, copy_all, nesting_over};
 use std::alloc::{AllocError, Global};
 use std::rc::Rc;
 
@@ -185,14 +185,15 @@ fn known_application(
 {
     let name = symbol.copy()?;
     let args = copy_all(alloc, terms)?;
+    let nesting = nesting_over(&args)?;
     let shared = Rc::new(alloc, args)?;
-    let term = Term::App(name, shared);
+    let term = Term::App(name, shared, nesting);
     let known = about(alloc, "K", true, &term)?;
     Ok(known)
 }
 
 /// The adversary applies a symbol to what it knows.
-#[tactic(auto, using(crate::proofs::Lists::counted))]
+#[tactic(auto, using(sp_ground::proofs::Lists::count_grounds))]
 fn applies(
     alloc: Global,
     symbols: &Vec<Symbol>,

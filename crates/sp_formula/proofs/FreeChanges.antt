@@ -2,15 +2,10 @@
 use Rattle.std.proofs.Common.{◌≡◌, ℕ, zero, suc, List, [], ◌∷◌, Bool, true, false, ◌==◌, if◌then◌else◌, refl, sym, ap, ◌∙◌}
 use Rattle.std.proofs.lemmas.Bool.{eqb-true}
 use Rattle.std.proofs.Math.Path.{fun_ext}
-use Rattle.sp_spec.specs.Term.{Variable, Term, var, valued}
-use Rattle.sp_spec.specs.Guarded.{Place, free, bound, Time, bound_time, Binder, message, time, pushed}
-use Rattle.sp_spec.specs.Change.{Change, placed, place_changed, under, under_message, under_time, free_change}
+use Rattle.sp_spec.specs.Term.{Variable, Term, var}
+use Rattle.sp_spec.specs.Guarded.{Place, bound, Time, bound_time, Binder, message, time, pushed}
+use Rattle.sp_spec.specs.Change.{Change, under, under_message, under_time, free_change}
 use Rattle.sp_spec.specs.Change.{time_replaced}
-use Rattle.sp_spec.proofs.Values.{valued-valued}
-
--- a term of the system in a formula becomes the changed term
-pub valued-placed : (c : Change) (t : Term Variable) → valued (place_changed c) (placed t) ≡ placed (valued c.terms t)
-valued-placed c t = valued-valued (λ x. var (free x)) (place_changed c) t ∙ sym (valued-valued c.terms (λ x. var (free x)) t)
 
 module _ (terms : Variable → Term Variable) (times : ℕ → ℕ) where
   messages_stay : (k : ℕ) → pushed (var (bound zero)) (λ j. var (bound (suc j))) k ≡ var (bound k)

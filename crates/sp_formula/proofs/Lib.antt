@@ -1,4 +1,4 @@
-pub mod Rows
 pub mod FreeChanges
 pub mod Formulas
 pub mod SameParts
+pub mod Filled

@@ -1,36 +1,16 @@
 -- The formulas that formulas in memory stand for.
 use Rattle.std.specs.Prelude.{List, [], ◌∷◌, map}
-use Rattle.sp_spec.specs.Term.{Term, var, Terms, none, more}
-use Rattle.sp_spec.specs.Rule.{Action}
-use Rattle.sp_spec.specs.Guarded.{Place, bound}
 use Rattle.sp_spec.specs.Guarded as spec
-use Rattle.sp_term.specs.View.{sort_of, name_of, view}
-use Rattle.sp_spec.specs.Change.{placed}
-use Rattle.sp_formula.specs.declared.formula.FormulaTerm.{FormulaTerm}
-use Rattle.sp_formula.specs.declared.formula.FormulaTerm.TheVariants.{Bound, Free}
+use Rattle.sp_term.specs.View.{sort_of}
+use Rattle.sp_formula.specs.PlaceView.{placed_term, placed_action}
 use Rattle.sp_formula.specs.declared.formula.Moment.{Moment}
 use Rattle.sp_formula.specs.declared.formula.Moment.TheVariants as moment
-use Rattle.sp_formula.specs.declared.formula.FormulaAction.{FormulaAction}
 use Rattle.sp_formula.specs.declared.formula.Atom.{Atom}
 use Rattle.sp_formula.specs.declared.formula.Atom.TheVariants.{Acts, Same, SameTime, Before}
 use Rattle.sp_formula.specs.declared.formula.Binder.{Binder}
 use Rattle.sp_formula.specs.declared.formula.Binder.TheVariants.{Message, Time}
 use Rattle.sp_formula.specs.declared.formula.Formula.{Formula, fold-Formula}
 use Rattle.sp_formula.specs.declared.formula.Formula.TheOpen.{Formula-F}
-
-abbrev pub placed_term : FormulaTerm → Term Place
-placed_term (Bound k) = var (bound k)
-placed_term (Free t) = placed (view t)
-
-abbrev pub row_of : List (Term Place) → Terms Place
-row_of [] = none
-row_of (t ∷ ts) = more t (row_of ts)
-
-abbrev pub placed_terms : List FormulaTerm → Terms Place
-placed_terms ts = row_of (map placed_term ts)
-
-abbrev pub placed_action : FormulaAction → Action Place
-placed_action a = record { symbol = name_of a.symbol; args = placed_terms a.args.items }
 
 abbrev pub moment_of : Moment → spec.Time
 moment_of (moment.Bound k) = spec.bound_time k

@@ -1,1 +1,4 @@
+pub mod PlaceView
+pub mod PlaceLaws
 pub mod FormulaView
+pub mod SlotsView

@@ -1,26 +1,17 @@
 // Guarded formulas of a system.
 
 ghost use Rattle.std.specs.Prelude.{◌≡◌, IfOk, map};
-ghost use Rattle.sp_spec.specs.Term.{var, valued, valued_all};
-ghost use Rattle.sp_spec.specs.Rule.{action_at};
+ghost use Rattle.sp_spec.specs.Term.{var};
 ghost use Rattle.sp_spec.specs.Substitution.{bound_to};
 ghost use Rattle.sp_term.specs.Bindings.{bindings};
-ghost use Rattle.sp_spec.specs.Change.{place_changed, time_changed, atom_changed, changed, free_change};
+ghost use Rattle.sp_spec.specs.Change.{time_changed, atom_changed, changed, free_change};
 ghost use Rattle.sp_spec.specs.Change.{time_replaced};
-ghost use Rattle.sp_formula.specs.FormulaView.{placed_term, placed_terms, placed_action, moment_of, atom_of, binder_of, formula_of};
+ghost use Rattle.sp_formula.specs.FormulaView.{moment_of, atom_of, binder_of, formula_of};
 
+use crate::place::{FormulaAction, FormulaTerm, InFormula};
 use sp_term::subst::{Subst, apply};
-use sp_term::term::{Name, Sort, Term, copy};
+use sp_term::term::{Sort, copy};
 use std::alloc::{AllocError, Global};
-
-/// A term of a formula.
-#[derive(Debug, Drop)]
-pub enum FormulaTerm {
-    /// a bound message, by its place: the innermost binder of a message has place 0
-    Bound(u64),
-    /// a term of the system
-    Free(Term),
-}
 
 /// A time of a formula.
 #[derive(Clone, Copy, Debug, PartialEq, Eq)]
@@ -29,15 +20,6 @@ pub enum Moment {
     Bound(u64),
     /// a time of the system
     Free(u128),
-}
-
-/// An action of a formula.
-#[derive(Debug, Drop)]
-pub struct FormulaAction {
-    /// its name
-    pub symbol: Name,
-    /// its arguments
-    pub args: Vec<FormulaTerm>,
 }
 
 /// What a formula says without connectives.
@@ -83,31 +65,6 @@ pub enum Formula {
     ForAll(Vec<Binder>, Vec<Atom>, Box<Formula>),
 }
 
-impl FormulaTerm {
-    /// An equal term.
-    pub fn copy(&self) -> Result<FormulaTerm, AllocError>
-        ensures { IfOk result (λ t. placed_term t ≡ placed_term self.now) }
-    {
-        match self {
-            FormulaTerm::Bound(place) => Ok(FormulaTerm::Bound(*place)),
-            FormulaTerm::Free(term) => Ok(FormulaTerm::Free(copy(term)?)),
-        }
-    }
-
-    /// The term with each bound variable of the system replaced.
-    pub fn changed(&self, alloc: Global, subst: &Subst) -> Result<FormulaTerm, AllocError>
-        ensures { IfOk result (λ t. placed_term t ≡ valued (place_changed (free_change (bound_to (bindings subst.now)) (λ i. i))) (placed_term self.now)) }
-    {
-        match self {
-            FormulaTerm::Bound(place) => Ok(FormulaTerm::Bound(*place)),
-            FormulaTerm::Free(term) => {
-                let changed = apply(alloc, subst, term)?;
-                Ok(FormulaTerm::Free(changed))
-            }
-        }
-    }
-}
-
 impl Moment {
     /// The time, with `small` in place of `large`.
     pub fn changed(self, small: u128, large: u128) -> Moment
@@ -126,50 +83,6 @@ impl Moment {
     }
 }
 
-fn copy_terms(alloc: Global, terms: &Vec<FormulaTerm>) -> Result<Vec<FormulaTerm>, AllocError>
-    ensures { IfOk result (λ ts. placed_terms ts.items ≡ placed_terms terms.now.items) }
-{
-    let mut made = Vec::with_capacity(alloc, terms.len())?;
-    for term in terms {
-        made.push(term.copy()?)?;
-    }
-    Ok(made)
-}
-
-fn changed_terms(
-    alloc: Global,
-    subst: &Subst,
-    terms: &Vec<FormulaTerm>,
-) -> Result<Vec<FormulaTerm>, AllocError>
-    ensures { IfOk result (λ ts. placed_terms ts.items ≡ valued_all (place_changed (free_change (bound_to (bindings subst.now)) (λ i. i))) (placed_terms terms.now.items)) }
-{
-    let mut made = Vec::with_capacity(alloc, terms.len())?;
-    for term in terms {
-        made.push(term.changed(alloc, subst)?)?;
-    }
-    Ok(made)
-}
-
-impl FormulaAction {
-    /// An equal action.
-    pub fn copy(&self, alloc: Global) -> Result<FormulaAction, AllocError>
-        ensures { IfOk result (λ a. placed_action a ≡ placed_action self.now) }
-    {
-        let symbol = self.symbol.copy()?;
-        let args = copy_terms(alloc, &self.args)?;
-        Ok(FormulaAction { symbol, args })
-    }
-
-    /// The action with each bound variable of the system replaced.
-    pub fn changed(&self, alloc: Global, subst: &Subst) -> Result<FormulaAction, AllocError>
-        ensures { IfOk result (λ a. placed_action a ≡ action_at (place_changed (free_change (bound_to (bindings subst.now)) (λ i. i))) (placed_action self.now)) }
-    {
-        let symbol = self.symbol.copy()?;
-        let args = changed_terms(alloc, subst, &self.args)?;
-        Ok(FormulaAction { symbol, args })
-    }
-}
-
 impl Atom {
     /// An equal atom.
     pub fn copy(&self, alloc: Global) -> Result<Atom, AllocError>
@@ -181,8 +94,8 @@ impl Atom {
                 Ok(Atom::Acts(action, *time))
             }
             Atom::Same(left, right) => {
-                let left = left.copy()?;
-                let right = right.copy()?;
+                let left = copy(left)?;
+                let right = copy(right)?;
                 Ok(Atom::Same(left, right))
             }
             Atom::SameTime(first, second) => Ok(Atom::SameTime(*first, *second)),
@@ -202,12 +115,12 @@ impl Atom {
     {
         match self {
             Atom::Acts(action, time) => {
-                let action = action.changed(alloc, subst)?;
+                let action = action.changed(alloc, &InFormula { subst })?;
                 Ok(Atom::Acts(action, time.changed(small, large)))
             }
             Atom::Same(left, right) => {
-                let left = left.changed(alloc, subst)?;
-                let right = right.changed(alloc, subst)?;
+                let left = apply(alloc, &InFormula { subst }, left)?;
+                let right = apply(alloc, &InFormula { subst }, right)?;
                 Ok(Atom::Same(left, right))
             }
             Atom::SameTime(first, second) => Ok(Atom::SameTime(

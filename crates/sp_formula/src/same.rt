@@ -1,36 +1,11 @@
 // Whether formulas are the same up to the names of bound variables, which bound places leave out.
 
 ghost use Rattle.std.specs.Prelude.{◌≡◌, map};
-ghost use Rattle.sp_spec.specs.Same.{same_by, same_all_by};
-ghost use Rattle.sp_formula.specs.FormulaView.{placed_term, placed_terms, moment_of, binder_of, atom_of, guardeds_of, formula_of};
+ghost use Rattle.sp_formula.specs.FormulaView.{moment_of, binder_of, atom_of, guardeds_of, formula_of};
 ghost use Rattle.sp_spec.specs.SameFormula as spec;
 
-use crate::formula::{Atom, Binder, Formula, FormulaTerm, Moment};
-use sp_term::term::same;
-
-fn same_term(left: &FormulaTerm, right: &FormulaTerm) -> bool
-    ensures { result ≡ same_by spec.same_place (placed_term left.now) (placed_term right.now) }
-{
-    match (left, right) {
-        (FormulaTerm::Bound(k), FormulaTerm::Bound(l)) => *k == *l,
-        (FormulaTerm::Free(t), FormulaTerm::Free(u)) => same(t, u),
-        _ => false,
-    }
-}
-
-fn same_terms(left: &Vec<FormulaTerm>, right: &Vec<FormulaTerm>) -> bool
-    ensures { result ≡ same_all_by spec.same_place (placed_terms left.now.items) (placed_terms right.now.items) }
-{
-    if left.len() != right.len() {
-        return false;
-    }
-    for (t, u) in left.iter().zip(right) {
-        if !same_term(t, u) {
-            return false;
-        }
-    }
-    true
-}
+use crate::formula::{Atom, Binder, Formula, Moment};
+use sp_term::term::{all_same, same};
 
 fn same_moment(left: Moment, right: Moment) -> bool
     ensures { result ≡ spec.same_moment (moment_of left) (moment_of right) }
@@ -71,9 +46,9 @@ fn same_atom(left: &Atom, right: &Atom) -> bool
 {
     match (left, right) {
         (Atom::Acts(a, i), Atom::Acts(b, j)) => {
-            a.symbol == b.symbol && same_terms(&a.args, &b.args) && same_moment(*i, *j)
+            a.symbol == b.symbol && all_same(&a.args, &b.args) && same_moment(*i, *j)
         }
-        (Atom::Same(t, u), Atom::Same(v, w)) => same_term(t, v) && same_term(u, w),
+        (Atom::Same(t, u), Atom::Same(v, w)) => same(t, v) && same(u, w),
         (Atom::SameTime(i, j), Atom::SameTime(k, l)) => same_moment(*i, *k) && same_moment(*j, *l),
         (Atom::Before(i, j), Atom::Before(k, l)) => same_moment(*i, *k) && same_moment(*j, *l),
         _ => false,

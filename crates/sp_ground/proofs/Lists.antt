@@ -6,5 +6,5 @@ use Rattle.sp_term.specs.declared.term.Term.{Term}
 use Rattle.sp_term.proofs.Lists.{count-view_all}
 use Rattle.sp_ground.specs.View.{grounds_of}
 
-pub count-grounds : (ts : List (Term Never)) → count (grounds_of ts) ≡ length ts
-count-grounds ts = count-view_all never_of ts
+pub count_grounds : (ts : List (Term Never)) → count (grounds_of ts) ≡ length ts
+count_grounds ts = count-view_all never_of ts

@@ -6,7 +6,7 @@ ghost use Rattle.sp_spec.specs.Signature.{msg, pair, with_pairs};
 ghost use Rattle.sp_term.specs.View.{view, view_all};
 ghost use Rattle.sp_ground.specs.View.{signature_of, symbol_of, equation_of};
 
-use sp_term::term::{Name, Sort, Term, Variable};
+use sp_term::term::{Name, Sort, Term, Variable, nesting_over};
 use std::alloc::{AllocError, Global};
 use std::rc::Rc;
 
@@ -54,8 +54,9 @@ fn application(alloc: Global, symbol: &str, args: Vec<Term>) -> Result<Term, All
     ensures { IfOk result (λ t. view t ≡ app symbol.now (view_all args.items)) }
 {
     let name = Name::new(alloc, symbol)?;
+    let nesting = nesting_over(&args)?;
     let shared = Rc::new(alloc, args)?;
-    Ok(Term::App(name, shared))
+    Ok(Term::App(name, shared, nesting))
 }
 
 /// The symbol over the pair of the first two variables, and what that equals.

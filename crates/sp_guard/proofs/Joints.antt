@@ -1,5 +1,5 @@
 -- What is said of formulas that are joined, by what is said of each.
-use Rattle.std.proofs.Common.{◌≡◌, ℕ, Bool, ◌&&◌, ◌||◌, List, [], ◌∷◌, Option, refl}
+use Rattle.std.proofs.Common.{◌≡◌, ◌&&◌, ◌||◌, List, [], ◌∷◌, refl}
 use Rattle.std.specs.Option.{option_or}
 use Rattle.sp_spec.specs.Formula.{Written, Formula}
 use Rattle.sp_read_parts.specs.Reading.{Joint, conjoint, disjoint, join}

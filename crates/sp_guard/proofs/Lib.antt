@@ -2,7 +2,6 @@ pub mod Lists
 pub mod Each
 pub mod Negating
 pub mod Joining
-pub mod Outside
 pub mod Among
 pub mod QuantifiedForm
 pub mod MarksFit

@@ -1,5 +1,5 @@
 -- Lists that are looked through from the outermost binder to the innermost, and answers gathered one after the other.
-use Rattle.std.proofs.Common.{arith, ◌≡◌, ◌+◌, ◌<◌, ◌∙◌, ap, ℕ, suc, List, [], ◌∷◌, ◌++◌, length, map, take, get_or, Option, Some, option_map, if◌then◌else◌}
+use Rattle.std.proofs.Common.{arith, ◌≡◌, ◌+◌, ◌<◌, ◌∙◌, ap, ℕ, suc, List, [], ◌∷◌, length, map, take, get_or, Option, Some, option_map, if◌then◌else◌}
 use Rattle.std.specs.Str.{bytes_eq}
 use Rattle.std.proofs.Math.Seq.{take-suc}
 use mathlib.Core.List.{map-append}

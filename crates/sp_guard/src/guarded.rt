@@ -1,33 +1,45 @@
 // Whether formulas are guarded: each bound variable stands in an action of its quantifier's guard, or an equality of the guard gives it.
 
 ghost use Rattle.std.specs.Prelude.{◌≡◌, ◌&&◌, ◌||◌, [], ◌∷◌, map};
-ghost use Rattle.sp_formula.specs.FormulaView.{placed_term, placed_terms, moment_of, atom_of, binder_of, guardeds_of, formula_of};
+ghost use Rattle.sp_spec.specs.Guarded as spec_guarded;
+ghost use Rattle.sp_formula.specs.PlaceView.{place_of, placed_term};
+ghost use Rattle.sp_formula.specs.FormulaView.{moment_of, atom_of, binder_of, guardeds_of, formula_of};
 ghost use Rattle.sp_law_guard.specs.IsGuarded as spec;
 
-use sp_formula::formula::{Atom, Binder, Formula, FormulaTerm, Moment};
+use sp_formula::formula::{Atom, Binder, Formula, Moment};
+use sp_formula::place::{FormulaTerm, Place};
+use sp_term::leaves::{Tests, each_leaf, some_leaf_of_one};
+use sp_term::term::Term;
 
-/// Whether the term is the bound message of this place; terms of the system have no bound messages.
-#[tactic(auto, using(crate::proofs::Outside::stands_nowhere, crate::proofs::Outside::is_no_variable))]
-fn is_message(place: u64, term: &FormulaTerm) -> bool
-    ensures stands { result ≡ spec.stands_in place (placed_term term.now) }
-    ensures variable { result ≡ spec.is_variable place (placed_term term.now) }
-{
-    match term {
-        FormulaTerm::Bound(bound) => *bound == place,
-        FormulaTerm::Free(_) => false,
+/// Whether a leaf is the bound message of this place.
+#[derive(Clone, Copy)]
+struct At {
+    place: u64,
+}
+
+impl Tests<Place> for At {
+    ghost Kind = { spec_guarded.Place };
+
+    ghost leaf_of = { place_of };
+
+    ghost test_of = { λ t. spec.is_place t.place };
+
+    fn passes(&self, leaf: &Place) -> bool {
+        match leaf {
+            Place::Bound(bound) => *bound == self.place,
+            Place::Free(_) => false,
+        }
     }
 }
 
-/// Whether the bound message of this place is one of the terms.
-fn stands_among(place: u64, terms: &Vec<FormulaTerm>) -> bool
-    ensures { result ≡ spec.stands_among place (placed_terms terms.now.items) }
+/// Whether the term is the bound message of this place.
+fn is_message(place: u64, term: &FormulaTerm) -> bool
+    ensures { result ≡ spec.is_variable place (placed_term term.now) }
 {
-    for term in terms {
-        if is_message(place, term) {
-            return true;
-        }
+    match term {
+        Term::Var(leaf) => At { place }.passes(leaf),
+        _ => false,
     }
-    false
 }
 
 /// Whether the bound message of this place stands in an action of the guard.
@@ -36,7 +48,7 @@ fn in_action(place: u64, guard: &Vec<Atom>) -> bool
 {
     for atom in guard {
         if let Atom::Acts(action, _) = atom {
-            if stands_among(place, &action.args) {
+            if some_leaf_of_one(&At { place }, &action.args) {
                 return true;
             }
         }
@@ -44,15 +56,33 @@ fn in_action(place: u64, guard: &Vec<Atom>) -> bool
     false
 }
 
-/// Whether each variable of the term is bound outside of `count` messages, or stands in an action of the guard.
-#[tactic(auto, using(crate::proofs::Outside::given_outside))]
+/// Whether a leaf is bound outside of `count` messages, or stands in an action of the guard.
+#[derive(Clone, Copy)]
+struct Given<'a> {
+    count: u64,
+    guard: &'a Vec<Atom>,
+}
+
+impl<'a> Tests<Place> for Given<'a> {
+    ghost Kind = { spec_guarded.Place };
+
+    ghost leaf_of = { place_of };
+
+    ghost test_of = { λ t. spec.place_given t.count (map atom_of t.guard.now.items) };
+
+    fn passes(&self, leaf: &Place) -> bool {
+        match leaf {
+            Place::Bound(place) => *place >= self.count || in_action(*place, self.guard),
+            Place::Free(_) => true,
+        }
+    }
+}
+
+/// Whether each variable of the term is.
 fn is_given(count: u64, guard: &Vec<Atom>, term: &FormulaTerm) -> bool
     ensures { result ≡ spec.is_given count (map atom_of guard.now.items) (placed_term term.now) }
 {
-    match term {
-        FormulaTerm::Bound(place) => *place >= count || in_action(*place, guard),
-        FormulaTerm::Free(_) => true,
-    }
+    each_leaf(&Given { count, guard }, term)
 }
 
 /// Whether the atom is an equality that gives the bound message of this place.

@@ -3,12 +3,14 @@
 ghost use Rattle.std.specs.Prelude.{◌≡◌, IfOk, map, option_map};
 ghost use Rattle.sp_spec_text.specs.Shapes.{row, action_of};
 ghost use Rattle.sp_read_parts.specs.Views as view;
-ghost use Rattle.sp_formula.specs.FormulaView.{placed_term, placed_terms, moment_of, atom_of, binder_of};
+ghost use Rattle.sp_formula.specs.PlaceView.{placed_term, placed_terms};
+ghost use Rattle.sp_formula.specs.FormulaView.{moment_of, atom_of, binder_of};
 ghost use Rattle.sp_law_guard.specs.GuardedForm as spec;
 ghost use Rattle.sp_guard.specs.View.{meaning_of, innermost_first};
 
 use crate::meaning::{Meaning, meant};
-use sp_formula::formula::{Atom, Binder, FormulaAction, FormulaTerm, Moment};
+use sp_formula::formula::{Atom, Binder, Moment};
+use sp_formula::place::{FormulaAction, FormulaTerm, Place};
 use sp_read_parts::{Mark, WrittenFact, WrittenTerm, WrittenVariable};
 use sp_term::term::{Name, Sort, Term};
 use std::alloc::{AllocError, Global};
@@ -18,7 +20,7 @@ fn message_place(meaning: Option<Meaning>) -> Option<FormulaTerm>
     ensures { option_map placed_term result ≡ spec.message_place (option_map meaning_of meaning) }
 {
     match meaning {
-        Some(Meaning::Message(_, place)) => Some(FormulaTerm::Bound(place)),
+        Some(Meaning::Message(_, place)) => Some(Term::Var(Place::Bound(place))),
         _ => None,
     }
 }
@@ -45,7 +47,7 @@ fn term_placed(
         WrittenTerm::Variable(variable) => Ok(message_place(meant(binders, variable.name))),
         WrittenTerm::Constant(text) => {
             let name = Name::new(alloc, text)?;
-            Ok(Some(FormulaTerm::Free(Term::Constant(name))))
+            Ok(Some(Term::Constant(name)))
         }
     }
 }

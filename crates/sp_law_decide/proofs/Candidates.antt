@@ -16,7 +16,7 @@ use Rattle.sp_law_equal.proofs.Forms.{normal_of_normal, to_normal}
 use Rattle.sp_law_truth.specs.Same.{EqualAssignments}
 use Rattle.sp_law_truth.proofs.EqualTraces.{equal_same}
 use Rattle.sp_law_guard.specs.IsGuarded.{messages_in, each_guarded}
-use Rattle.sp_law_decide.specs.Deciding.{nothing, value_at, Environment, assignment_of, entered, by_actions, candidates, atom_true, atoms_true}
+use Rattle.sp_law_decide.specs.Deciding.{nothing, value_or, Environment, assignment_of, entered, by_actions, candidates, atom_true, atoms_true}
 use Rattle.sp_law_decide.specs.Normal.{IsNormalTrace, IsConstructorAtom}
 use Rattle.sp_law_decide.proofs.Slots.{value_fits, fits_itself, good_fits}
 use Rattle.sp_law_decide.proofs.Matched.{IsGood, IsNormalValue, IsPosition}
@@ -63,10 +63,10 @@ module _ (signature : Signature) (n : ℕ) where
     fits_normalized : (env : Environment) → IsReady signature n env → FitsIn signature n env (normalized signature n good keeps (assignment_of env))
     fits_normalized env ready =
         let es = signature.equations in
-        let e : value_at nothing env.messages ≡ (λ k. normal es (value_at nothing env.messages k)) =
-        fun_ext (λ k. sym (normal_of_normal es (value_at nothing env.messages k) (slots_normal signature good env.messages ready.good.messages k).0)) in
+        let e : value_or nothing env.messages ≡ (λ k. normal es (value_or nothing env.messages k)) =
+        fun_ext (λ k. sym (normal_of_normal es (value_or nothing env.messages k) (slots_normal signature good env.messages ready.good.messages k).0)) in
         let own = fits_ready env ready in
-        subst (λ (f : ℕ → Ground). FitsIn signature n env (assigned (λ x. nothing) (λ i. 0) f (value_at 0 env.times))) e own
+        subst (λ (f : ℕ → Ground). FitsIn signature n env (assigned (λ x. nothing) (λ i. 0) f (value_or 0 env.times))) e own
 
     equal_normalized : (bs : List Binder) (env : Environment) (w : Assignment) → Arises signature n bs (assignment_of env) w
         → EqualAssignments signature.equations w (normalized signature n good keeps w)

@@ -1,13 +1,13 @@
 -- Guarded forms have the symbols of the formula's terms.
-use Rattle.std.proofs.Common.{◌≡◌, ℕ, suc, List, [], Option, Some, None, option_map, sym, ap, ◌∙◌, subst}
+use Rattle.std.proofs.Common.{◌≡◌, ℕ, suc, List, [], Option, Some, None, refl, sym, ap, subst}
 use Rattle.sp_spec.specs.Term.{Term, var, constant, name, app, Terms, none, more, count}
 use Rattle.sp_spec.specs.Signature.{Signature, HasSymbol}
 use Rattle.sp_spec.specs.Formula.{Written, Formula, truth, falsity, happens, equals, precedes, not_so, both, either, implies, for_all, for_some}
 use Rattle.sp_spec.specs.Guarded.{Place, bound, Atom, Guarded, Guardeds, holds, fails, all_of, one_of, some, every, no_more, and_then}
 use Rattle.sp_spec.specs.Guarded as guarded
 use Rattle.sp_law_truth.specs.Shown.{times_within}
-use Rattle.sp_law_guard.specs.GuardedForm.{Meant, a_message, a_time, meant, message_place, placed_term, placed_terms, guarded_form}
-use Rattle.sp_spec.proofs.Options.{mapped, then_some}
+use Rattle.sp_law_guard.specs.GuardedForm.{Meant, a_message, a_time, meant, message_place, placed_variable, placed_term, placed_terms, guarded_form}
+use Rattle.sp_spec.proofs.Variables.{Carries, where_carried, all_where_carried}
 use Rattle.sp_law_guard.proofs.Places.{action_made, order_made, equality_made}
 use Rattle.sp_law_guard.proofs.Throughout.{Throughout, ThroughoutEach, OfFormulas, OfAtoms, form_throughout}
 use Rattle.sp_law_decide.specs.Normal.{IsConstructorTerm, AreConstructorTerms, IsConstructorAtom, IsConstructorForm, AreConstructorForms, HasConstructorTerms, IsAtomic, AreAtomic, HasAtomicTerms}
@@ -18,29 +18,28 @@ module _ (signature : Signature) where
   message_constructor (Some (a_time k)) u e = absurd cc
   message_constructor (Some (a_message mark k)) u e = let g : var (bound k) ≡ u = cc in subst (IsConstructorTerm signature) g tt
 
-  placed_count : (bs : List Written) (ts : Terms Written) (us : Terms Place) → placed_terms bs ts ≡ Some us → count ts ≡ count us
-  placed_count bs none us e = let g : none ≡ us = cc in ap count g
-  placed_count bs (more t ts) us e =
-      let r = then_some (λ u. option_map (more u) (placed_terms bs ts)) (placed_term bs t) us e in
-      let q = mapped (more r.0) (placed_terms bs ts) us r.2 in
-      ap suc (placed_count bs ts q.0 q.1) ∙ ap count (sym q.2)
+  module _ (bs : List Written) where
+    abbrev KeepsTerm : Term Written → Term Place → Type 0
+    KeepsTerm t u = IsConstructorTerm signature t → IsConstructorTerm signature u
 
-  mutual
-    placed_constructor : (bs : List Written) (t : Term Written) (u : Term Place) → IsConstructorTerm signature t → placed_term bs t ≡ Some u → IsConstructorTerm signature u
-    placed_constructor bs (var x) u p e = message_constructor (meant bs x.name) u e
-    placed_constructor bs (constant c) u p e = let g : constant c ≡ u = cc in subst (IsConstructorTerm signature) g tt
-    placed_constructor bs (name n) u p e = let g : name n ≡ u = cc in subst (IsConstructorTerm signature) g tt
-    placed_constructor bs (app f ts) u p e =
-        let r = mapped (app f) (placed_terms bs ts) u e in
-        subst (IsConstructorTerm signature) (sym r.2)
-        (p.0, subst (λ (k : ℕ). HasSymbol signature.symbols f k) (placed_count bs ts r.0 r.1) p.1, placed_constructors bs ts r.0 p.2 r.1)
+    abbrev KeepsTerms : Terms Written → Terms Place → Type 0
+    KeepsTerms ts us = (count ts ≡ count us) × (AreConstructorTerms signature ts → AreConstructorTerms signature us)
 
-    placed_constructors : (bs : List Written) (ts : Terms Written) (us : Terms Place) → AreConstructorTerms signature ts → placed_terms bs ts ≡ Some us → AreConstructorTerms signature us
-    placed_constructors bs none us p e = let g : none ≡ us = cc in subst (AreConstructorTerms signature) g tt
-    placed_constructors bs (more t ts) us p e =
-        let r = then_some (λ u. option_map (more u) (placed_terms bs ts)) (placed_term bs t) us e in
-        let q = mapped (more r.0) (placed_terms bs ts) us r.2 in
-        subst (AreConstructorTerms signature) (sym q.2) (placed_constructor bs t r.0 p.0 r.1, placed_constructors bs ts q.0 p.1 q.1)
+    constructors_carried : Carries (placed_variable bs) KeepsTerm KeepsTerms
+    constructors_carried = record {
+      leaf = λ x u e p. message_constructor (meant bs x.name) u e;
+      constants = λ c p. p;
+      names = λ n p. p;
+      under = λ f ts us h p. (p.0, subst (λ (k : ℕ). HasSymbol signature.symbols f k) h.0 p.1, h.1 p.2);
+      end = (refl, λ p. p);
+      beside = λ t u ts us h k. (ap suc k.0, λ p. (h p.0, k.1 p.1));
+    }
+
+    placed_constructor : (t : Term Written) (u : Term Place) → IsConstructorTerm signature t → placed_term bs t ≡ Some u → IsConstructorTerm signature u
+    placed_constructor t u p e = where_carried (placed_variable bs) KeepsTerm KeepsTerms constructors_carried t u e p
+
+    placed_constructors : (ts : Terms Written) (us : Terms Place) → AreConstructorTerms signature ts → placed_terms bs ts ≡ Some us → AreConstructorTerms signature us
+    placed_constructors ts us p e = (all_where_carried (placed_variable bs) KeepsTerm KeepsTerms constructors_carried ts us e).1 p
 
   abbrev OfConstructors : ℕ → Atom → Type 0
   OfConstructors n a = IsConstructorAtom signature a

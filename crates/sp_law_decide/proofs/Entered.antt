@@ -6,8 +6,9 @@ use Rattle.sp_law_equal.specs.NormalForms.{HaveNormalForms, KeepSymbols}
 use Rattle.sp_law_equal.specs.Normal.{normal}
 use Rattle.sp_law_equal.proofs.Forms.{normal_has_sort}
 use Rattle.sp_law_guard.specs.IsGuarded.{messages_in, times_in}
-use Rattle.sp_law_decide.specs.Deciding.{nothing, Slot, slot, is_filled, Environment, environment, entered}
-use Rattle.sp_law_decide.proofs.Slots.{AreGood}
+use Rattle.sp_law_decide.specs.Deciding.{nothing, is_filled, Environment, environment, entered}
+use Rattle.sp_spec.specs.Slots.{Slot, slot}
+use Rattle.sp_spec.proofs.Slots.{AreGood}
 use Rattle.sp_law_decide.proofs.Matched.{IsGood, MessagesFit, IsPosition, TimesFit}
 use Rattle.sp_law_decide.proofs.Ranges.{Arises, assigned, outside, term_again, time_again}
 
@@ -33,8 +34,8 @@ entered_times (time ∷ bs) env n h =
 
 module _ (signature : Signature) (n : ℕ) where
   pub record GoodEnvironment (env : Environment) : Type 0 where
-    pub messages : AreGood (IsGood signature) nothing env.messages
-    pub times : AreGood (IsPosition n) 0 env.times
+    pub messages : AreGood (IsGood signature) env.messages
+    pub times : AreGood (IsPosition n) env.times
 
   pub entered_good : (bs : List Binder) (env : Environment) → GoodEnvironment env → GoodEnvironment (entered bs env)
   entered_good [] env h = h

@@ -11,14 +11,15 @@ use Rattle.sp_law_guard.specs.IsGuarded.{is_variable, is_given, by_equality}
 use Rattle.sp_spec.proofs.Options.{then_some}
 use Rattle.sp_law_decide.specs.Deciding.{nothing, Environment, environment, is_filled, with_message, is_known, term_value, given_to, by_equalities, with_times, each_by_equalities}
 use Rattle.sp_law_decide.specs.Normal.{IsConstructorTerm, IsConstructorAtom}
-use Rattle.sp_law_decide.proofs.Slots.{AreGood, grown_same, grown_twice}
+use Rattle.sp_spec.proofs.Slots.{AreGood}
+use Rattle.sp_law_decide.proofs.Slots.{grown_same, grown_twice}
 use Rattle.sp_law_decide.proofs.Matched.{Messages, value_by, either_is, IsGood, MessagesFit, MessagesGrown, message_grown, message_found}
 use Rattle.sp_law_decide.proofs.Terms.{constructor_normal, places_normal, known_value, Given, given_known}
 use Rattle.sp_law_decide.proofs.Actions.{Reached}
 
 module _ (signature : Signature) (good : HaveNormalForms signature.equations) where
   abbrev AreGoodMessages : Messages → Type 0
-  AreGoodMessages = AreGood (IsGood signature) nothing
+  AreGoodMessages = AreGood (IsGood signature)
 
   -- the slots grow, and the term, if it's a variable, has a value where the other is known
   abbrev GrownBy : Term Place → Term Place → Messages → Messages → Type 0

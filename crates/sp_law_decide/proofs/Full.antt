@@ -10,7 +10,8 @@ use Rattle.sp_law_equal.specs.NormalForms.{HaveNormalForms}
 use Rattle.sp_law_guard.specs.IsGuarded.{in_action, by_equality, message_guarded, time_guarded, messages_in, times_in, each_guarded}
 use Rattle.sp_law_decide.specs.Deciding.{nothing, is_filled, Environment, entered, by_equalities, by_actions, candidates}
 use Rattle.sp_law_decide.specs.Normal.{IsNormalTrace, IsConstructorAtom}
-use Rattle.sp_law_decide.proofs.Slots.{AreGood, grown_twice}
+use Rattle.sp_spec.proofs.Slots.{AreGood}
+use Rattle.sp_law_decide.proofs.Slots.{grown_twice}
 use Rattle.sp_law_decide.proofs.Matched.{IsGood, Times, MessagesGrown, IsPosition, TimesGrown, either_is}
 use Rattle.sp_law_decide.proofs.Terms.{Given}
 use Rattle.sp_law_decide.proofs.Actions.{CoveredByAll, actions_covered}
@@ -95,7 +96,7 @@ module _ (signature : Signature) (n : ℕ) where
         reached_ready : IsReady c × Follows (entered bs env) c
         reached_ready = (
           record {
-            good = record { messages = by_all.0.good goods.messages; times = subst (AreGood (IsPosition n) 0) same goods.times };
+            good = record { messages = by_all.0.good goods.messages; times = subst (AreGood (IsPosition n)) same goods.times };
             messages = messages_filled;
             times = subst (λ (x : Times). (k : ℕ) → is_filled x k ≡ true) same (times_filled mid covered);
           },

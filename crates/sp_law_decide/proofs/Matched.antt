@@ -1,11 +1,11 @@
 -- What comes of matching a pattern with a normal term: values that fit before and make the pattern the term are those that fit after.
 use Rattle.std.proofs.Common.{◌≡◌, ℕ, ◌<◌, Bool, true, false, ◌||◌, ◌==◌, if◌then◌else◌, List, Option, Some, None, option_and_then, refl, ap, ◌∙◌, subst}
 use Rattle.std.specs.Str.{bytes_eq}
-use Rattle.std.specs.Bool.{Decides}
 use Rattle.std.proofs.lemmas.Bool.{eqb-true, eq-eqb}
 use Rattle.std.proofs.lemmas.Slice.Eq.{bytes_eq-Decides}
 use Rattle.sp_spec.specs.Term.{Sort, Term, var, constant, name, app, Terms, none, more, Ground, Grounds, valued, valued_all}
 use Rattle.sp_spec.specs.Same.{same_term}
+use Rattle.sp_spec.specs.Slots.{Slot}
 use Rattle.sp_spec.specs.Signature.{Signature, HasSort, IsOver, AreOver}
 use Rattle.sp_spec.specs.Equal.{IsNormal, AreNormal}
 use Rattle.sp_spec.specs.Guarded.{Place, free, bound, Time, free_time, bound_time}
@@ -13,9 +13,10 @@ use Rattle.sp_law_equal.specs.Matching.{has_sort}
 use Rattle.sp_spec.proofs.Same.{same_term_decides}
 use Rattle.sp_law_equal.proofs.Tests.{has_sort_decides}
 use Rattle.sp_law_guard.specs.IsGuarded.{stands_in, stands_among, is_time_place}
-use Rattle.sp_spec.proofs.Options.{then_some}
-use Rattle.sp_law_decide.specs.Deciding.{Slot, nothing, is_filled, with_message, matched_place, matched, matched_all, matched_time}
-use Rattle.sp_law_decide.proofs.Slots.{if_some, then_if, Fits, Grown, grown_same, grown_twice, filled_grown, filled_found}
+use Rattle.sp_spec.proofs.Options.{some_same, if_some, then_if}
+use Rattle.sp_spec.proofs.Matching.{Matches, matched_all_so}
+use Rattle.sp_law_decide.specs.Deciding.{nothing, is_filled, with_message, matched_place, matched, matched_all, matched_time}
+use Rattle.sp_law_decide.proofs.Slots.{Fits, Grown, grown_none, grown_same, grown_twice, filled_grown, filled_found}
 
 abbrev pub Messages : Type 0
 Messages = List (Slot Sort Ground)
@@ -54,11 +55,12 @@ module _ (signature : Signature) where
   MessagesGrown = Grown IsGood nothing
 
   pub message_grown : (k : ℕ) (t : Ground) → IsNormalValue t → (a b : Messages) → with_message k t a ≡ Some b → MessagesGrown a b × (is_filled b k ≡ true)
-  message_grown k t good a b e =
-      filled_grown IsGood nothing same_term has_sort same_term_decides t (λ sort h. ((has_sort_decides sort t).0 h, good.0, good.1)) k a b e
+  message_grown k t good a b e = filled_grown IsGood nothing same_term has_sort (same_term nothing t) t (λ sort h. ((has_sort_decides sort t).0 h, good.0, good.1)) k a b e
 
   pub message_found : (k : ℕ) (a : Messages) (f : ℕ → Ground) → MessagesFit a f → (b : Messages) × (with_message k (f k) a ≡ Some b) × MessagesFit b f
-  message_found k a f h = filled_found IsGood nothing same_term has_sort same_term_decides (f k) (λ sort g. (has_sort_decides sort (f k)).1 g.0) k a f h refl
+  message_found k a f h =
+      let same = λ (t : Ground). (same_term_decides t (f k)).1 in
+      filled_found IsGood nothing same_term has_sort (same_term nothing (f k)) (f k) same (λ sort g. (has_sort_decides sort (f k)).1 g.0) (same nothing) k a f h refl
 
   -- the slots grow, and what stands in the pattern has a value
   abbrev FillsPattern : Term Place → Messages → Type 0
@@ -67,44 +69,33 @@ module _ (signature : Signature) where
   abbrev FillsPatterns : Terms Place → Messages → Type 0
   FillsPatterns ps b = (k : ℕ) → stands_among k ps ≡ true → is_filled b k ≡ true
 
-  place_grown : (p : Place) (t : Ground) → IsNormalValue t → (a b : Messages) → matched_place p t a ≡ Some b → MessagesGrown a b × FillsPattern (var p) b
-  place_grown (free x) t good a b e = (grown_same IsGood nothing a b (if_some (same_term nothing t) a b e).1, λ k h. absurd cc)
-  place_grown (bound j) t good a b e =
+  abbrev FillsBy : Term Place → Ground → Messages → Messages → Type 0
+  FillsBy p t a b = IsNormalValue t → MessagesGrown a b × FillsPattern p b
+
+  abbrev FillsAllBy : Terms Place → Grounds → Messages → Messages → Type 0
+  FillsAllBy ps ts a b = AreNormalValues ts → MessagesGrown a b × FillsPatterns ps b
+
+  place_grown : (p : Place) (t : Ground) (a b : Messages) → matched_place p t a ≡ Some b → FillsBy (var p) t a b
+  place_grown (free x) t a b e good = (grown_same IsGood nothing a b (some_same a b (if_some (same_term nothing t) (Some a) b e).1), λ k h. absurd cc)
+  place_grown (bound j) t a b e good =
       let r = message_grown j t good a b e in
       (r.0, λ k h. subst (λ (i : ℕ). is_filled b i ≡ true) (eqb-true j k h) r.1)
 
-  abbrev Same : (c : Bool) (a b : Messages) → Type 0
-  Same c a b = (if c then Some a else None) ≡ Some b
+  pattern_grown : Matches matched_place FillsBy FillsAllBy
+  pattern_grown = record {
+    leaf = place_grown;
+    constants = λ c a good. (grown_none IsGood nothing a, λ k h. absurd cc);
+    names = λ n a good. (grown_none IsGood nothing a, λ k h. absurd cc);
+    under = λ f ps ts a b h good. h (good.0.0, good.1.1);
+    end = λ a good. (grown_none IsGood nothing a, λ k h. absurd cc);
+    beside = λ p t ps ts a c b first rest good.
+        let g = first (good.0.0, good.1.0) in
+        let h = rest (good.0.1, good.1.1) in
+        (grown_twice IsGood nothing a c b g.0 h.0, λ k m. either_is (stands_in k p) (stands_among k ps) m (λ x. h.0.keeps k (g.1 k x)) (h.1 k));
+  }
 
-  mutual
-    pub matched_grown : (p : Term Place) (t : Ground) → IsNormalValue t → (a b : Messages) → matched p t a ≡ Some b → MessagesGrown a b × FillsPattern p b
-    matched_grown (var p) t good a b e = place_grown p t good a b e
-    matched_grown (constant c) (var x) good a b e = absurd x
-    matched_grown (constant c) (constant d) good a b e = (grown_same IsGood nothing a b (if_some (bytes_eq c d) a b e).1, λ k h. absurd cc)
-    matched_grown (constant c) (name n) good a b e = absurd cc
-    matched_grown (constant c) (app g ts) good a b e = absurd cc
-    matched_grown (name m) (var x) good a b e = absurd x
-    matched_grown (name m) (constant d) good a b e = absurd cc
-    matched_grown (name m) (name n) good a b e = (grown_same IsGood nothing a b (if_some (m == n) a b e).1, λ k h. absurd cc)
-    matched_grown (name m) (app g ts) good a b e = absurd cc
-    matched_grown (app f ps) (var x) good a b e = absurd x
-    matched_grown (app f ps) (constant d) good a b e = absurd cc
-    matched_grown (app f ps) (name n) good a b e = absurd cc
-    matched_grown (app f ps) (app g ts) good a b e = matched_all_grown ps ts (good.0.0, good.1.1) a b (under (bytes_eq f g) (matched_all ps ts a) e)
-      where
-        under : (c : Bool) (o : Option Messages) → (if c then o else None) ≡ Some b → o ≡ Some b
-        under true o e = e
-        under false o e = absurd cc
-
-    pub matched_all_grown : (ps : Terms Place) (ts : Grounds) → AreNormalValues ts → (a b : Messages) → matched_all ps ts a ≡ Some b → MessagesGrown a b × FillsPatterns ps b
-    matched_all_grown none none good a b e = (grown_same IsGood nothing a b (let g : b ≡ a = cc in g), λ k h. absurd cc)
-    matched_all_grown none (more t ts) good a b e = absurd cc
-    matched_all_grown (more p ps) none good a b e = absurd cc
-    matched_all_grown (more p ps) (more t ts) good a b e =
-        let r = then_some (λ s. matched_all ps ts s) (matched p t a) b e in
-        let g = matched_grown p t (good.0.0, good.1.0) a r.0 r.1 in
-        let h = matched_all_grown ps ts (good.0.1, good.1.1) r.0 b r.2 in
-        (grown_twice IsGood nothing a r.0 b g.0 h.0, λ k m. either_is (stands_in k p) (stands_among k ps) m (λ x. h.0.keeps k (g.1 k x)) (h.1 k))
+  pub matched_all_grown : (ps : Terms Place) (ts : Grounds) → AreNormalValues ts → (a b : Messages) → matched_all ps ts a ≡ Some b → MessagesGrown a b × FillsPatterns ps b
+  matched_all_grown ps ts good a b e = matched_all_so matched_place FillsBy FillsAllBy pattern_grown ps ts a b e good
 
   -- the values that fit make the pattern a term with which it is matched
   abbrev Found : Option Messages → (ℕ → Ground) → Type 0
@@ -142,15 +133,13 @@ module _ (n : ℕ) where
   abbrev pub TimesGrown : Times → Times → Type 0
   TimesGrown = Grown IsPosition 0
 
-  same_time_decides : (i j : ℕ) → Decides (i == j) (i ≡ j)
-  same_time_decides i j = (eqb-true i j, eq-eqb i j)
-
   pub time_grown : (i : Time) (p : ℕ) → p < n → (a b : Times) → matched_time i p a ≡ Some b → TimesGrown a b × ((k : ℕ) → is_time_place k i ≡ true → is_filled b k ≡ true)
-  time_grown (free_time i) p l a b e = (grown_same IsPosition 0 a b (if_some (0 == p) a b e).1, λ k h. absurd cc)
+  time_grown (free_time i) p l a b e = (grown_same IsPosition 0 a b (some_same a b (if_some (0 == p) (Some a) b e).1), λ k h. absurd cc)
   time_grown (bound_time j) p l a b e =
-      let r = filled_grown IsPosition 0 (λ i j. i == j) (λ u j. true) same_time_decides p (λ u h. l) j a b e in
+      let r = filled_grown IsPosition 0 (λ i j. i == j) (λ u j. true) (0 == p) p (λ u h. l) j a b e in
       (r.0, λ k h. subst (λ (i : ℕ). is_filled b i ≡ true) (eqb-true j k h) r.1)
 
   pub time_found : (i : Time) (a : Times) (g : ℕ → ℕ) → TimesFit a g → (b : Times) × (matched_time i (time_by g i) a ≡ Some b) × TimesFit b g
   time_found (free_time i) a g h = (a, refl, h)
-  time_found (bound_time k) a g h = filled_found IsPosition 0 (λ i j. i == j) (λ u j. true) same_time_decides (g k) (λ u l. refl) k a g h refl
+  time_found (bound_time k) a g h =
+      filled_found IsPosition 0 (λ i j. i == j) (λ u j. true) (0 == g k) (g k) (λ j. eq-eqb j (g k)) (λ u l. refl) (eq-eqb 0 (g k)) k a g h refl

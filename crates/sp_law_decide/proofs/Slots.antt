@@ -1,28 +1,11 @@
 -- What comes of giving slots values: the values that still fit, and the places that have a value.
-use Rattle.std.proofs.Common.{◌≡◌, ℕ, zero, suc, Bool, true, false, if◌then◌else◌, List, [], ◌∷◌, Option, Some, None, is_some, unwrap_or, option_map, refl, sym, ap, ◌∙◌, subst}
-use Rattle.std.specs.Bool.{Decides}
-use Rattle.sp_spec.proofs.Options.{mapped}
-use Rattle.sp_law_decide.specs.Deciding.{Slot, slot, value_at, is_filled, slot_with, filled}
-
--- what is there under a test
-pub if_some : {A : Type 0} (b : Bool) (x y : A) → (if b then Some x else None) ≡ Some y → (b ≡ true) × (y ≡ x)
-if_some true x y e = (refl, let g : y ≡ x = cc in g)
-if_some false x y e = absurd cc
-
-pub then_if : {A : Type 0} (b : Bool) (o : Option A) → b ≡ true → (if b then o else None) ≡ o
-then_if true o e = refl
-then_if false o e = absurd cc
+use Rattle.std.proofs.Common.{◌≡◌, ℕ, zero, suc, Bool, true, List, [], ◌∷◌, Option, Some, None, is_some, unwrap_or, option_map, refl, sym, ap, ◌∙◌, subst}
+use Rattle.sp_spec.specs.Slots.{Slot, slot, value_at, slot_with, filled_at}
+use Rattle.sp_spec.proofs.Options.{then_if}
+use Rattle.sp_spec.proofs.Slots.{IsGoodValue, AreGood, value_at_good, Fills, filled_so}
+use Rattle.sp_law_decide.specs.Deciding.{value_or, is_filled}
 
 module _ {K A : Type 0} (G : K → A → Type 0) (d : A) where
-  -- of each value that a slot has
-  abbrev pub IsGoodValue : K → Option A → Type 0
-  IsGoodValue kind None = Unit {0}
-  IsGoodValue kind (Some a) = G kind a
-
-  abbrev pub AreGood : List (Slot K A) → Type 0
-  AreGood [] = Unit {0}
-  AreGood (s ∷ slots) = IsGoodValue s.kind s.value × AreGood slots
-
   abbrev pub Agrees : Option A → A → Type 0
   Agrees None a = Unit {0}
   Agrees (Some b) a = b ≡ a
@@ -34,7 +17,7 @@ module _ {K A : Type 0} (G : K → A → Type 0) (d : A) where
 
   pub record Grown (small large : List (Slot K A)) : Type 0 where
     pub weakens : (f : ℕ → A) → Fits large f → Fits small f
-    pub good : AreGood small → AreGood large
+    pub good : AreGood G small → AreGood G large
     pub keeps : (k : ℕ) → is_filled small k ≡ true → is_filled large k ≡ true
 
   pub grown_none : (a : List (Slot K A)) → Grown a a
@@ -61,7 +44,7 @@ module _ {K A : Type 0} (G : K → A → Type 0) (d : A) where
       keeps (suc k) e = e
 
   -- a place that has a value has that of all that fits
-  pub value_fits : (slots : List (Slot K A)) (f : ℕ → A) → Fits slots f → (k : ℕ) → is_filled slots k ≡ true → value_at d slots k ≡ f k
+  pub value_fits : (slots : List (Slot K A)) (f : ℕ → A) → Fits slots f → (k : ℕ) → is_filled slots k ≡ true → value_or d slots k ≡ f k
   value_fits [] f h k e = sym (h k)
   value_fits (s ∷ slots) f h zero e = at s.value h.1 e
     where
@@ -71,66 +54,56 @@ module _ {K A : Type 0} (G : K → A → Type 0) (d : A) where
   value_fits (s ∷ slots) f h (suc k) e = value_fits slots (λ k. f (suc k)) h.2 k e
 
   -- the values themselves
-  pub fits_itself : (slots : List (Slot K A)) → AreGood slots → ((k : ℕ) → is_filled slots k ≡ true) → Fits slots (value_at d slots)
+  pub fits_itself : (slots : List (Slot K A)) → AreGood G slots → ((k : ℕ) → is_filled slots k ≡ true) → Fits slots (value_or d slots)
   fits_itself [] good full = λ k. refl
   fits_itself (s ∷ slots) good full =
       let r = at s.value good.0 (full zero) in
       (r.0, r.1, fits_itself slots good.1 (λ k. full (suc k)))
     where
-      at : (o : Option A) → IsGoodValue s.kind o → is_some o ≡ true → G s.kind (unwrap_or o d) × Agrees o (unwrap_or o d)
+      at : (o : Option A) → IsGoodValue G s.kind o → is_some o ≡ true → G s.kind (unwrap_or o d) × Agrees o (unwrap_or o d)
       at None g e = absurd cc
       at (Some b) g e = (g, refl)
 
-  pub good_value : (H : A → Type 0) → H d → ((kind : K) (a : A) → G kind a → H a) → (slots : List (Slot K A)) → AreGood slots → (k : ℕ) → H (value_at d slots k)
-  good_value H h from [] good k = h
-  good_value H h from (s ∷ slots) good zero = at s.value good.0
+  pub good_value : (H : A → Type 0) → H d → ((kind : K) (a : A) → G kind a → H a) → (slots : List (Slot K A)) → AreGood G slots → (k : ℕ) → H (value_or d slots k)
+  good_value H h from slots good k = at (value_at slots k) refl
     where
-      at : (o : Option A) → IsGoodValue s.kind o → H (unwrap_or o d)
-      at None g = h
-      at (Some b) g = from s.kind b g
-  good_value H h from (s ∷ slots) good (suc k) = good_value H h from slots good.1 k
+      at : (o : Option A) → value_at slots k ≡ o → H (unwrap_or o d)
+      at None e = h
+      at (Some a) e = let g = value_at_good G slots good k a e in from g.0 a g.1
 
   pub good_fits : (H : A → Type 0) → H d → ((kind : K) (a : A) → G kind a → H a) → (slots : List (Slot K A)) (f : ℕ → A) → Fits slots f → (k : ℕ) → H (f k)
   good_fits H h from [] f fits k = subst H (sym (fits k)) h
   good_fits H h from (s ∷ slots) f fits zero = from s.kind (f zero) fits.0
   good_fits H h from (s ∷ slots) f fits (suc k) = good_fits H h from slots (λ j. f (suc j)) fits.2 k
 
-  module _ (alike : A → A → Bool) (admits : K → A → Bool) (same : (a b : A) → Decides (alike a b) (a ≡ b)) (a : A) where
-    with_grown : (kind : K) (o : Option A) (slots : List (Slot K A)) (r : Slot K A) → (admits kind a ≡ true → G kind a) → slot_with alike admits a kind o ≡ Some r
-        → Grown (slot kind o ∷ slots) (r ∷ slots) × (is_some r.value ≡ true)
-    with_grown kind None slots r good e =
-        let h = if_some (admits kind a) (slot kind (Some a)) r e in
-        subst (λ (x : Slot K A). Grown (slot kind None ∷ slots) (x ∷ slots) × (is_some x.value ≡ true)) (sym h.1) (grown_first kind a slots (good h.0), refl)
-    with_grown kind (Some b) slots r good e =
-        let h = if_some (alike b a) (slot kind (Some b)) r e in
-        subst (λ (x : Slot K A). Grown (slot kind (Some b) ∷ slots) (x ∷ slots) × (is_some x.value ≡ true)) (sym h.1) (grown_none (slot kind (Some b) ∷ slots), refl)
+  module _ (alike : A → A → Bool) (admits : K → A → Bool) (beyond : Bool) (a : A) where
+    abbrev Filled : ℕ → List (Slot K A) → List (Slot K A) → Type 0
+    Filled k small large = Grown small large × (is_filled large k ≡ true)
 
-    pub filled_grown : ((kind : K) → admits kind a ≡ true → G kind a) → (k : ℕ) (small large : List (Slot K A)) → filled alike admits d k a small ≡ Some large
-        → Grown small large × (is_filled large k ≡ true)
-    filled_grown good k [] large e =
-        let h = if_some (alike d a) [] large e in
-        subst (λ (x : List (Slot K A)). Grown [] x × (is_filled x k ≡ true)) (sym h.1) (grown_none [], refl)
-    filled_grown good zero (s ∷ small) large e =
-        let h = mapped (λ (r : Slot K A). r ∷ small) (slot_with alike admits a s.kind s.value) large e in
-        subst (λ (x : List (Slot K A)). Grown (s ∷ small) x × (is_filled x zero ≡ true)) (sym h.2) (with_grown s.kind s.value small h.0 (good s.kind) h.1)
-    filled_grown good (suc k) (s ∷ small) large e =
-        let h = mapped (λ (r : List (Slot K A)). s ∷ r) (filled alike admits d k a small) large e in
-        let g = filled_grown good k small h.0 h.1 in
-        subst (λ (x : List (Slot K A)). Grown (s ∷ small) x × (is_filled x (suc k) ≡ true)) (sym h.2) (grown_below s small h.0 g.0, g.1)
+    pub filled_grown : ((kind : K) → admits kind a ≡ true → G kind a) → (k : ℕ) (small large : List (Slot K A)) → filled_at alike admits beyond k a small ≡ Some large → Filled k small large
+    filled_grown good k small large e = filled_so alike admits beyond a Filled fills k small large e
+      where
+        fills : Fills alike admits beyond a Filled
+        fills = record {
+          past = λ k h. (grown_none [], refl);
+          new = λ kind slots h. (grown_first kind a slots (good kind h), refl);
+          old = λ kind b slots h. (grown_none (slot kind (Some b) ∷ slots), refl);
+          further = λ s k small large h. (grown_below s small large h.0, h.1);
+        }
 
-    with_found : (kind : K) (o : Option A) (b : A) → (G kind a → admits kind a ≡ true) → G kind b → Agrees o b → b ≡ a
-        → (r : Slot K A) × (slot_with alike admits a kind o ≡ Some r) × (G r.kind b × Agrees r.value b)
-    with_found kind None b admitted h g e =
-        (slot kind (Some a), then_if (admits kind a) (Some (slot kind (Some a))) (admitted (subst (G kind) e h)), (h, sym e))
-    with_found kind (Some c) b admitted h g e =
-        (slot kind (Some c), then_if (alike c a) (Some (slot kind (Some c))) ((same c a).1 (g ∙ e)), (h, g))
+    -- a value that fits is taken
+    module _ (same : (b : A) → b ≡ a → alike b a ≡ true) (admitted : (kind : K) → G kind a → admits kind a ≡ true) (past : d ≡ a → beyond ≡ true) where
+      with_found : (kind : K) (o : Option A) (b : A) → G kind b → Agrees o b → b ≡ a → (r : Slot K A) × (slot_with alike admits a kind o ≡ Some r) × (G r.kind b × Agrees r.value b)
+      with_found kind None b h g e =
+          (slot kind (Some a), then_if (admits kind a) (Some (slot kind (Some a))) (admitted kind (subst (G kind) e h)), (h, sym e))
+      with_found kind (Some c) b h g e =
+          (slot kind (Some c), then_if (alike c a) (Some (slot kind (Some c))) (same c (g ∙ e)), (h, g))
 
-    pub filled_found : ((kind : K) → G kind a → admits kind a ≡ true) → (k : ℕ) (slots : List (Slot K A)) (f : ℕ → A) → Fits slots f → f k ≡ a
-        → (large : List (Slot K A)) × (filled alike admits d k a slots ≡ Some large) × Fits large f
-    filled_found admitted k [] f h e = ([], then_if (alike d a) (Some []) ((same d a).1 (sym (h k) ∙ e)), h)
-    filled_found admitted zero (s ∷ slots) f h e =
-        let r = with_found s.kind s.value (f zero) (admitted s.kind) h.0 h.1 e in
-        (r.0 ∷ slots, ap (option_map (λ (x : Slot K A). x ∷ slots)) r.1, (r.2.0, r.2.1, h.2))
-    filled_found admitted (suc k) (s ∷ slots) f h e =
-        let r = filled_found admitted k slots (λ j. f (suc j)) h.2 e in
-        (s ∷ r.0, ap (option_map (λ (x : List (Slot K A)). s ∷ x)) r.1, (h.0, h.1, r.2))
+      pub filled_found : (k : ℕ) (slots : List (Slot K A)) (f : ℕ → A) → Fits slots f → f k ≡ a → (large : List (Slot K A)) × (filled_at alike admits beyond k a slots ≡ Some large) × Fits large f
+      filled_found k [] f h e = ([], then_if beyond (Some []) (past (sym (h k) ∙ e)), h)
+      filled_found zero (s ∷ slots) f h e =
+          let r = with_found s.kind s.value (f zero) h.0 h.1 e in
+          (r.0 ∷ slots, ap (option_map (λ (x : Slot K A). x ∷ slots)) r.1, (r.2.0, r.2.1, h.2))
+      filled_found (suc k) (s ∷ slots) f h e =
+          let r = filled_found k slots (λ j. f (suc j)) h.2 e in
+          (s ∷ r.0, ap (option_map (λ (x : List (Slot K A)). s ∷ x)) r.1, (h.0, h.1, r.2))

@@ -1,16 +1,17 @@
 -- The values of a formula's terms: they are normal and over the signature, and known where each place has a value.
 use Rattle.std.proofs.Common.{◌≡◌, ℕ, suc, Bool, true, false, ◌||◌, not, List, refl, sym, ap, subst}
 use Rattle.std.specs.Prelude.{nat_lt}
-use Rattle.std.proofs.lemmas.Bool.{and_parts, and_from}
 use Rattle.sp_spec.specs.Term.{Term, var, constant, name, app, Terms, none, more, Ground, count, valued, valued_all}
 use Rattle.sp_spec.specs.Signature.{Signature, HasSymbol}
 use Rattle.sp_spec.specs.Guarded.{Place, free, bound, Atom}
 use Rattle.sp_law_equal.specs.NormalForms.{HaveNormalForms}
 use Rattle.sp_law_equal.proofs.Plain.{plain_matches_none}
-use Rattle.sp_law_guard.specs.IsGuarded.{in_action, place_given, is_given, are_given}
-use Rattle.sp_law_decide.specs.Deciding.{nothing, value_at, is_filled, place_known, is_known, are_known}
+use Rattle.sp_law_guard.specs.IsGuarded.{in_action, place_given, is_given}
+use Rattle.sp_law_decide.specs.Deciding.{nothing, value_or, is_filled, place_known, is_known}
 use Rattle.sp_law_decide.specs.Normal.{IsConstructorTerm, AreConstructorTerms}
-use Rattle.sp_law_decide.proofs.Slots.{AreGood, value_fits, good_value}
+use Rattle.sp_spec.proofs.Slots.{AreGood}
+use Rattle.sp_spec.proofs.Variables.{each_kept, each_valued}
+use Rattle.sp_law_decide.proofs.Slots.{value_fits, good_value}
 use Rattle.sp_law_decide.proofs.Matched.{Messages, value_by, IsGood, IsNormalValue, AreNormalValues, MessagesFit}
 
 pub count_valued : {V W : Type 0} (v : V → Term W) (ts : Terms V) → count (valued_all v ts) ≡ count ts
@@ -36,61 +37,20 @@ module _ (signature : Signature) (good : HaveNormalForms signature.equations) wh
           ((r.0, q.0), (r.1, q.1))
 
   -- what stands at a place, in slots whose values are good
-  pub slots_normal : (a : Messages) → AreGood (IsGood signature) nothing a → (k : ℕ) → IsNormalValue signature (value_at nothing a k)
+  pub slots_normal : (a : Messages) → AreGood (IsGood signature) a → (k : ℕ) → IsNormalValue signature (value_or nothing a k)
   slots_normal a h = good_value (IsGood signature) nothing (IsNormalValue signature) (tt, tt) (λ sort t g. (g.1, g.2)) a h
 
-  pub places_normal : (a : Messages) → AreGood (IsGood signature) nothing a → (p : Place) → IsNormalValue signature (value_by (value_at nothing a) p)
+  pub places_normal : (a : Messages) → AreGood (IsGood signature) a → (p : Place) → IsNormalValue signature (value_by (value_or nothing a) p)
   places_normal a h (free x) = (tt, tt)
   places_normal a h (bound k) = slots_normal a h k
 
 module _ (signature : Signature) (a : Messages) (f : ℕ → Ground) (fits : MessagesFit signature a f) where
-  place_value : (p : Place) → place_known a p ≡ true → value_by (value_at nothing a) p ≡ value_by f p
+  place_value : (p : Place) → place_known a p ≡ true → value_by (value_or nothing a) p ≡ value_by f p
   place_value (free x) e = refl
   place_value (bound k) e = value_fits (IsGood signature) nothing a f fits k e
 
-  mutual
-    pub known_value : (t : Term Place) → is_known a t ≡ true → valued (value_by (value_at nothing a)) t ≡ valued (value_by f) t
-    known_value (var p) e = place_value p e
-    known_value (constant c) e = refl
-    known_value (name n) e = refl
-    known_value (app g ts) e = ap (app g) (known_values ts e)
-
-    pub known_values : (ts : Terms Place) → are_known a ts ≡ true → valued_all (value_by (value_at nothing a)) ts ≡ valued_all (value_by f) ts
-    known_values none e = refl
-    known_values (more t ts) e =
-        let r = and_parts (is_known a t) (are_known a ts) e in
-        cc (known_value t r.0, known_values ts r.1)
-
--- what is known stays known, and everything is known where each place has a value
-module _ (a : Messages) (each : (p : Place) → place_known a p ≡ true) where
-  mutual
-    pub full_known : (t : Term Place) → is_known a t ≡ true
-    full_known (var p) = each p
-    full_known (constant c) = refl
-    full_known (name n) = refl
-    full_known (app f ts) = all_full_known ts
-
-    pub all_full_known : (ts : Terms Place) → are_known a ts ≡ true
-    all_full_known none = refl
-    all_full_known (more t ts) = and_from (is_known a t) (are_known a ts) (full_known t) (all_full_known ts)
-
-module _ (a b : Messages) (keeps : (k : ℕ) → is_filled a k ≡ true → is_filled b k ≡ true) where
-  place_kept : (p : Place) → place_known a p ≡ true → place_known b p ≡ true
-  place_kept (free x) e = refl
-  place_kept (bound k) e = keeps k e
-
-  mutual
-    pub known_kept : (t : Term Place) → is_known a t ≡ true → is_known b t ≡ true
-    known_kept (var p) e = place_kept p e
-    known_kept (constant c) e = refl
-    known_kept (name n) e = refl
-    known_kept (app f ts) e = all_known_kept ts e
-
-    pub all_known_kept : (ts : Terms Place) → are_known a ts ≡ true → are_known b ts ≡ true
-    all_known_kept none e = refl
-    all_known_kept (more t ts) e =
-        let r = and_parts (is_known a t) (are_known a ts) e in
-        and_from (is_known b t) (are_known b ts) (known_kept t r.0) (all_known_kept ts r.1)
+  pub known_value : (t : Term Place) → is_known a t ≡ true → valued (value_by (value_or nothing a)) t ≡ valued (value_by f) t
+  known_value t e = each_valued (place_known a) (value_by (value_or nothing a)) (value_by f) place_value t e
 
 -- The terms that give others their values are known, where each place outside of the quantifier's n messages, and each that stands in an
 -- action of the guard, has a value.
@@ -107,15 +67,5 @@ module _ (n : ℕ) (guard : List Atom) (a : Messages) (given : Given n guard a) 
       at true l e = given.inside k e
       at false l e = given.outside k l
 
-  mutual
-    pub given_known : (t : Term Place) → is_given n guard t ≡ true → is_known a t ≡ true
-    given_known (var p) e = place_given_known p e
-    given_known (constant c) e = refl
-    given_known (name m) e = refl
-    given_known (app f ts) e = all_given_known ts e
-
-    pub all_given_known : (ts : Terms Place) → are_given n guard ts ≡ true → are_known a ts ≡ true
-    all_given_known none e = refl
-    all_given_known (more t ts) e =
-        let r = and_parts (is_given n guard t) (are_given n guard ts) e in
-        and_from (is_known a t) (are_known a ts) (given_known t r.0) (all_given_known ts r.1)
+  pub given_known : (t : Term Place) → is_given n guard t ≡ true → is_known a t ≡ true
+  given_known t e = each_kept (place_given n guard) (place_known a) place_given_known t e

@@ -1,26 +1,20 @@
 -- How truth over a trace is decided. The values that a quantifier's guard can make true are found in the trace: the actions of the guard
 -- are compared with those of the trace, and the equalities of the guard give what is left. Source: CSF 2012, "Guarded trace properties".
-use Rattle.std.specs.Prelude.{ℕ, zero, suc, Bool, true, false, ◌&&◌, ◌||◌, ◌==◌, nat_lt, not, if◌then◌else◌, List, [], ◌∷◌, ◌++◌, length, Option, Some, None, is_some, unwrap_or, option_map, option_and_then}
+use Rattle.std.specs.Prelude.{ℕ, zero, suc, Bool, true, false, ◌&&◌, ◌||◌, ◌==◌, nat_lt, not, if◌then◌else◌, List, [], ◌∷◌, ◌++◌, length, Option, Some, None, is_some, unwrap_or, option_and_then}
 use Rattle.std.specs.Str.{bytes_eq}
-use Rattle.sp_spec.specs.Term.{Sort, Term, var, constant, name, app, Terms, none, more, Ground, Grounds}
+use Rattle.sp_spec.specs.Term.{Sort, Term, var, constant, Terms, Ground, Grounds, each_variable}
 use Rattle.sp_spec.specs.Same.{same_term, same_terms}
 use Rattle.sp_spec.specs.Rule.{Action}
 use Rattle.sp_spec.specs.Execution.{Trace}
 use Rattle.sp_spec.specs.Guarded.{Place, free, bound, Time, free_time, bound_time, Binder, message, time, Atom, acts, same, same_time, before, last, Guarded, Guardeds, truth, falsity, holds, fails, all_of, one_of, some, every, no_more, and_then, Assignment, term_in, action_in, time_in}
+use Rattle.sp_spec.specs.Slots.{Slot, slot, value_at, filled_at}
+use Rattle.sp_spec.specs.Matching.{matched_by, matched_all_by}
 use Rattle.sp_law_equal.specs.Matching.{has_sort}
-
--- a binder, by what it ranges over, and its value once it has one
-pub record Slot (K A : Type 0) : Type 0 where
-  pub kind : K
-  pub value : Option A
 
 -- the slots of messages and those of times, the innermost binder first
 pub record Environment : Type 0 where
   pub messages : List (Slot Sort Ground)
   pub times : List (Slot (Unit {0}) ℕ)
-
-abbrev pub slot : {K A : Type 0} → K → Option A → Slot K A
-slot kind value = record { kind = kind; value = value }
 
 abbrev pub environment : List (Slot Sort Ground) → List (Slot (Unit {0}) ℕ) → Environment
 environment messages times = record { messages = messages; times = times }
@@ -29,17 +23,15 @@ environment messages times = record { messages = messages; times = times }
 abbrev pub nothing : Ground
 nothing = constant []
 
-abbrev pub value_at : {K A : Type 0} → A → List (Slot K A) → ℕ → A
-value_at d [] k = d
-value_at d (s ∷ slots) zero = unwrap_or s.value d
-value_at d (s ∷ slots) (suc k) = value_at d slots k
+abbrev pub value_or : {K A : Type 0} → A → List (Slot K A) → ℕ → A
+value_or d slots k = unwrap_or (value_at slots k) d
 
 abbrev pub assignment_of : Environment → Assignment
 assignment_of env = record {
   terms = λ x. nothing;
   times = λ i. 0;
-  bound_terms = value_at nothing env.messages;
-  bound_times = value_at 0 env.times;
+  bound_terms = value_or nothing env.messages;
+  bound_times = value_or 0 env.times;
 }
 
 -- a place beyond the binders has nothing to wait for
@@ -48,41 +40,22 @@ is_filled [] k = true
 is_filled (s ∷ slots) zero = is_some s.value
 is_filled (s ∷ slots) (suc k) = is_filled slots k
 
--- What comes of a slot that is to have this value: nothing, if it has another, or if its binder doesn't admit the value. The tests tell
--- whether two values are the same, and whether a binder admits a value.
-abbrev pub slot_with : {K A : Type 0} → (A → A → Bool) → (K → A → Bool) → A → K → Option A → Option (Slot K A)
-slot_with alike admits a kind None = if admits kind a then Some (slot kind (Some a)) else None
-slot_with alike admits a kind (Some b) = if alike b a then Some (slot kind (Some b)) else None
-
--- the same of the slot at a place; beyond the binders stands d
-abbrev pub filled : {K A : Type 0} → (A → A → Bool) → (K → A → Bool) → A → ℕ → A → List (Slot K A) → Option (List (Slot K A))
-filled alike admits d k a [] = if alike d a then Some [] else None
-filled alike admits d zero a (s ∷ slots) = option_map (λ r. r ∷ slots) (slot_with alike admits a s.kind s.value)
-filled alike admits d (suc k) a (s ∷ slots) = option_map (λ rest. s ∷ rest) (filled alike admits d k a slots)
-
 abbrev pub with_message : ℕ → Ground → List (Slot Sort Ground) → Option (List (Slot Sort Ground))
-with_message k t slots = filled same_term has_sort nothing k t slots
+with_message k t slots = filled_at same_term has_sort (same_term nothing t) k t slots
 
 abbrev pub with_position : ℕ → ℕ → List (Slot (Unit {0}) ℕ) → Option (List (Slot (Unit {0}) ℕ))
-with_position k p slots = filled (λ i j. i == j) (λ u j. true) 0 k p slots
+with_position k p slots = filled_at (λ i j. i == j) (λ u j. true) (0 == p) k p slots
 
 -- the values that make a place, a pattern and a time this term and this position
 abbrev pub matched_place : Place → Ground → List (Slot Sort Ground) → Option (List (Slot Sort Ground))
 matched_place (free x) t slots = if same_term nothing t then Some slots else None
 matched_place (bound k) t slots = with_message k t slots
 
-abbrev mutual
-  pub matched : Term Place → Ground → List (Slot Sort Ground) → Option (List (Slot Sort Ground))
-  matched (var p) t slots = matched_place p t slots
-  matched (constant c) (constant d) slots = if bytes_eq c d then Some slots else None
-  matched (name m) (name n) slots = if m == n then Some slots else None
-  matched (app f ps) (app g ts) slots = if bytes_eq f g then matched_all ps ts slots else None
-  matched _ _ slots = None
+abbrev pub matched : Term Place → Ground → List (Slot Sort Ground) → Option (List (Slot Sort Ground))
+matched p t slots = matched_by matched_place p t slots
 
-  pub matched_all : Terms Place → Grounds → List (Slot Sort Ground) → Option (List (Slot Sort Ground))
-  matched_all none none slots = Some slots
-  matched_all (more p ps) (more t ts) slots = option_and_then (λ s. matched_all ps ts s) (matched p t slots)
-  matched_all _ _ slots = None
+abbrev pub matched_all : Terms Place → Grounds → List (Slot Sort Ground) → Option (List (Slot Sort Ground))
+matched_all ps ts slots = matched_all_by matched_place ps ts slots
 
 abbrev pub matched_time : Time → ℕ → List (Slot (Unit {0}) ℕ) → Option (List (Slot (Unit {0}) ℕ))
 matched_time (free_time i) p slots = if 0 == p then Some slots else None
@@ -120,16 +93,8 @@ abbrev pub place_known : List (Slot Sort Ground) → Place → Bool
 place_known slots (free x) = true
 place_known slots (bound k) = is_filled slots k
 
-abbrev mutual
-  pub is_known : List (Slot Sort Ground) → Term Place → Bool
-  is_known slots (var p) = place_known slots p
-  is_known slots (constant c) = true
-  is_known slots (name n) = true
-  is_known slots (app f ts) = are_known slots ts
-
-  pub are_known : List (Slot Sort Ground) → Terms Place → Bool
-  are_known slots none = true
-  are_known slots (more t ts) = is_known slots t && are_known slots ts
+abbrev pub is_known : List (Slot Sort Ground) → Term Place → Bool
+is_known slots t = each_variable (place_known slots) t
 
 abbrev pub term_value : List (Slot Sort Ground) → Term Place → Ground
 term_value slots t = term_in (assignment_of (environment slots [])) t

@@ -8,9 +8,11 @@ use Rattle.sp_spec.specs.Guarded.{free, bound, bound_time, Binder, message, time
 use Rattle.sp_spec_system.specs.Solutions.{Valuation, assignment, EachNormal}
 use Rattle.sp_spec.proofs.Values.{valued-valued}
 use Rattle.sp_law_system.proofs.Changing.{Reads}
-use Rattle.sp_spec_formula.specs.Instances.{Slot, Slots, empty_slots, is_of_sort, all_terms, all_times, filled, placed_each, free_each, instance}
-use Rattle.sp_spec.proofs.Options.{mapped, then_some}
-use Rattle.sp_law_formula.proofs.Slots.{some_same, slot_sorts, Agrees, Fits, TimeAgrees, TimesFit, IsGoodValue, AreGood, IsGoodTime, AreGoodTimes}
+use Rattle.sp_spec_formula.specs.Instances.{Message, Slots, empty_slots, is_of_sort, all_terms, all_times, filled, placed_each, free_each, instance}
+use Rattle.sp_spec.specs.Slots.{slot}
+use Rattle.sp_spec.proofs.Options.{some_same, mapped, then_some}
+use Rattle.sp_spec.proofs.Slots.{IsGoodValue, AreGood}
+use Rattle.sp_law_formula.proofs.Slots.{slot_sorts, Agrees, Fits, TimeAgrees, TimesFit, IsGood, IsGoodTime, AreGoodTimes}
 
 -- the values of the terms and times, the innermost first
 abbrev pub grounds : Values → List (Term Variable) → List Ground
@@ -46,10 +48,10 @@ module _ (signature : Signature) (n : ℕ) (v : Valuation) where
   reached : (bs : List Binder) (s : Slots) (hs : List Ground) (qs : List ℕ) → AreValues (slot_sorts (empty_slots bs s).terms) hs → ArePositions (length (empty_slots bs s).times) qs → Outside bs s hs qs
   reached [] s hs qs h k = (hs, qs, h, k, ((λ P x. x), (λ P x. x)))
   reached (message sort ∷ bs) s hs qs h k =
-      let inner : Slots = record { terms = record { sort = sort; value = None } ∷ s.terms; times = s.times } in
+      let inner : Slots = record { terms = slot sort None ∷ s.terms; times = s.times } in
       at (reached bs inner hs qs h k)
     where
-      at : Outside bs (record { terms = record { sort = sort; value = None } ∷ s.terms; times = s.times }) hs qs → Outside (message sort ∷ bs) s hs qs
+      at : Outside bs (record { terms = slot sort None ∷ s.terms; times = s.times }) hs qs → Outside (message sort ∷ bs) s hs qs
       at ([], ps, a, b, r) = absurd a
       at (g ∷ gs, ps, a, b, r) = (gs, ps, a.1, b, ((λ P x. r.0 P (x g a.0.0)), (λ P x. r.1 P (x g a.0.0 a.0.1))))
   reached (time ∷ bs) s hs qs h k =
@@ -69,7 +71,7 @@ module _ (signature : Signature) (n : ℕ) (v : Valuation) where
       at ([], p ∷ ps, a, b, r) = absurd b
 
 -- slots that all have values
-first_term : (x : Slot) (s : List Slot) (ts : List (Term Variable)) → all_terms (x ∷ s) ≡ Some ts → (u : Term Variable) × (us : List (Term Variable)) × (x.value ≡ Some u) × (all_terms s ≡ Some us) × (ts ≡ u ∷ us)
+first_term : (x : Message) (s : List Message) (ts : List (Term Variable)) → all_terms (x ∷ s) ≡ Some ts → (u : Term Variable) × (us : List (Term Variable)) × (x.value ≡ Some u) × (all_terms s ≡ Some us) × (ts ≡ u ∷ us)
 first_term x s ts e =
     let r = then_some (λ t. option_map (λ (us : List (Term Variable)). t ∷ us) (all_terms s)) x.value ts e in
     let q = mapped (λ (us : List (Term Variable)). r.0 ∷ us) (all_terms s) ts r.2 in
@@ -81,7 +83,7 @@ first_time x s js e =
     let q = mapped (λ (is : List ℕ). r.0 ∷ is) (all_times s) js r.2 in
     (r.0, q.0, r.1, q.1, q.2)
 
-pub terms_fit : (w : Values) (s : List Slot) (ts : List (Term Variable)) (f : ℕ → Ground) → all_terms s ≡ Some ts → Fits w s (filled (grounds w ts) f)
+pub terms_fit : (w : Values) (s : List Message) (ts : List (Term Variable)) (f : ℕ → Ground) → all_terms s ≡ Some ts → Fits w s (filled (grounds w ts) f)
 terms_fit w [] ts f e = tt
 terms_fit w (x ∷ s) ts f e =
     let r = first_term x s ts e in
@@ -96,21 +98,21 @@ times_fit w (x ∷ s) js f e =
     (subst (λ (o : Option ℕ). TimeAgrees w o (w r.0)) (sym r.2) refl, times_fit w s r.1 f r.3)
 
 module _ (Q : Term Variable → Type 0) where
-  pub terms_good : (s : List Slot) (ts : List (Term Variable)) → all_terms s ≡ Some ts → AreGood Q s → Every Q ts
+  pub terms_good : (s : List Message) (ts : List (Term Variable)) → all_terms s ≡ Some ts → AreGood (IsGood Q) s → Every Q ts
   terms_good [] ts e h = subst (Every Q) (sym (some_same [] ts e)) tt
   terms_good (x ∷ s) ts e h =
       let r = first_term x s ts e in
-      subst (Every Q) (sym r.4) ((subst (IsGoodValue Q x.sort) r.2 h.0).1, terms_good s r.1 r.3 h.1)
+      subst (Every Q) (sym r.4) ((subst (IsGoodValue (IsGood Q) x.kind) r.2 h.0).1, terms_good s r.1 r.3 h.1)
 
-  pub are_values : (signature : Signature) (n : ℕ) (v : Valuation) (s : List Slot) (ts : List (Term Variable)) → all_terms s ≡ Some ts → AreGood Q s
+  pub are_values : (signature : Signature) (n : ℕ) (v : Valuation) (s : List Message) (ts : List (Term Variable)) → all_terms s ≡ Some ts → AreGood (IsGood Q) s
       → ((sort : Sort) (u : Term Variable) → is_of_sort sort u ≡ true → Q u → IsValue signature sort (valued v.terms u) × IsNormal signature.equations (valued v.terms u))
       → AreValues signature n v (slot_sorts s) (grounds v.terms ts)
   are_values signature n v [] ts e h value = subst (λ (us : List (Term Variable)). AreValues signature n v [] (grounds v.terms us)) (sym (some_same [] ts e)) tt
   are_values signature n v (x ∷ s) ts e h value =
       let r = first_term x s ts e in
-      let g = subst (IsGoodValue Q x.sort) r.2 h.0 in
+      let g = subst (IsGoodValue (IsGood Q) x.kind) r.2 h.0 in
       subst (λ (us : List (Term Variable)). AreValues signature n v (slot_sorts (x ∷ s)) (grounds v.terms us)) (sym r.4)
-      (value x.sort r.0 g.0 g.1, are_values signature n v s r.1 r.3 h.1 value)
+      (value x.kind r.0 g.0 g.1, are_values signature n v s r.1 r.3 h.1 value)
 
 module _ (B : ℕ → Type 0) where
   pub times_good : (s : List (Option ℕ)) (js : List ℕ) → all_times s ≡ Some js → AreGoodTimes B s → Every B js

@@ -1,22 +1,25 @@
 -- What the search through a guard found: each of its actions is one of an event, and each of its equalities is one of terms that are the same.
-use Rattle.std.proofs.Common.{◌≡◌, ℕ, zero, suc, true, List, [], ◌∷◌, Option, Some, None, option_map, option_and_then, refl, sym, ap, ap₂, ◌∙◌, subst}
+use Rattle.std.proofs.Common.{◌≡◌, ℕ, zero, suc, true, List, [], ◌∷◌, Option, Some, None, option_and_then, refl, sym, ap, ◌∙◌, subst}
 use Rattle.std.proofs.lemmas.Bool.{and_parts}
 use Rattle.sp_spec.specs.Lists.{Member, Every}
-use Rattle.sp_spec.specs.Term.{Variable, Term, var, constant, name, app, Terms, none, more, Ground, Values, valued, valued_all}
+use Rattle.sp_spec.specs.Term.{Variable, Term, var, Terms, Ground, Values, valued}
 use Rattle.sp_spec.specs.Rule.{Action, action_at}
 use Rattle.sp_spec.specs.Guarded.{Place, free, bound, Atom, acts, same, same_time, before, last, Guarded, Assignment, place_in, term_in, time_in, action_in}
 use Rattle.sp_spec_system.specs.System.{Event, happening_actions}
 use Rattle.sp_spec.proofs.Lists.{every_member}
 use Rattle.sp_spec_system.specs.Picked.{first_some}
 use Rattle.sp_spec_formula.specs.Instantiate.{first_match}
-use Rattle.sp_spec_formula.specs.Instances.{Slot, Slots, matched_action, value_at, value_in, values_in, side_value, place_of_bound, given, by_equalities, are_alike, are_settled}
-use Rattle.sp_spec.proofs.Options.{mapped, then_some}
+use Rattle.sp_spec_formula.specs.Instances.{Message, Slots, matched_action, place_value, value_in, side_value, place_of_bound, given, by_equalities, are_alike, are_settled}
+use Rattle.sp_spec.specs.Slots.{value_at}
+use Rattle.sp_spec.proofs.Options.{some_same, then_some}
+use Rattle.sp_spec.proofs.Slots.{AreGood}
+use Rattle.sp_spec.proofs.Variables.{where_value}
 use Rattle.sp_law_formula.proofs.Literals.{alike_same}
-use Rattle.sp_law_formula.proofs.Slots.{some_same, Agrees, Fits, IsGoodValue, AreGood, Grown, grown_same, grown_none, grown_twice, times_grown_none, term_given, times_grown_twice}
+use Rattle.sp_law_formula.proofs.Slots.{Agrees, Fits, IsGood, Grown, grown_same, grown_none, grown_twice, times_grown_none, term_given, times_grown_twice}
 use Rattle.sp_law_formula.proofs.Matches.{Inherited, SlotsGrown, Reads, reads_before, action_matched, some_picked}
 
 -- a term with the slots' values put in, under values that are those of the slots
-value_here : (w : Values) (s : List Slot) (f : ℕ → Ground) (k : ℕ) (u : Term Variable) → Fits w s f → value_at s k ≡ Some u → f k ≡ valued w u
+value_here : (w : Values) (s : List Message) (f : ℕ → Ground) (k : ℕ) (u : Term Variable) → Fits w s f → value_at s k ≡ Some u → f k ≡ valued w u
 value_here w [] f k u h e = absurd cc
 value_here w (x ∷ s) f zero u h e = subst (λ (o : Option (Term Variable)). Agrees w o (f zero)) e h.0
 value_here w (x ∷ s) f (suc k) u h e = value_here w s (λ j. f (suc j)) k u h.1 e
@@ -27,23 +30,13 @@ SidesAreSame m (same t u) = term_in m t ≡ term_in m u
 SidesAreSame m (acts a i) = Unit {0}
 SidesAreSame m a = ⊥
 
-module _ (m : Assignment) (s : List Slot) (h : Fits m.terms s m.bound_terms) where
-  mutual
-    value_same : (t : Term Place) (u : Term Variable) → value_in s t ≡ Some u → term_in m t ≡ valued m.terms u
-    value_same (var (free x)) u e = ap (valued m.terms) (sym (some_same (var x) u e))
-    value_same (var (bound k)) u e = value_here m.terms s m.bound_terms k u h e
-    value_same (constant c) u e = ap (valued m.terms) (sym (some_same (constant c) u e))
-    value_same (name n) u e = ap (valued m.terms) (sym (some_same (name n) u e))
-    value_same (app f ts) u e =
-        let r = mapped (app f) (values_in s ts) u e in
-        ap (app f) (values_same ts r.0 r.1) ∙ ap (valued m.terms) (sym r.2)
+module _ (m : Assignment) (s : List Message) (h : Fits m.terms s m.bound_terms) where
+  place_same : (p : Place) (u : Term Variable) → place_value s p ≡ Some u → place_in m p ≡ valued m.terms u
+  place_same (free x) u e = ap (valued m.terms) (sym (some_same (var x) u e))
+  place_same (bound k) u e = value_here m.terms s m.bound_terms k u h e
 
-    values_same : (ts : Terms Place) (us : Terms Variable) → values_in s ts ≡ Some us → valued_all (place_in m) ts ≡ valued_all m.terms us
-    values_same none us e = ap (valued_all m.terms) (sym (some_same none us e))
-    values_same (more t ts) us e =
-        let r = then_some (λ u. option_map (more u) (values_in s ts)) (value_in s t) us e in
-        let q = mapped (more r.0) (values_in s ts) us r.2 in
-        ap₂ more (value_same t r.0 r.1) (values_same ts q.0 q.1) ∙ ap (valued_all m.terms) (sym q.2)
+  value_same : (t : Term Place) (u : Term Variable) → value_in s t ≡ Some u → term_in m t ≡ valued m.terms u
+  value_same t u e = where_value (place_value s) (place_in m) m.terms place_same t u e
 
   both_alike : (x y : Option (Term Variable)) → are_alike x y ≡ true → (u : Term Variable) × (x ≡ Some u) × (y ≡ Some u)
   both_alike None y e = absurd cc
@@ -65,18 +58,13 @@ module _ (m : Assignment) (s : List Slot) (h : Fits m.terms s m.bound_terms) whe
 module _ (Q : Term Variable → Type 0) where
   -- the value of a side of an equality is good where the slots' values are
   abbrev pub IsGoodSide : Term Place → Type 0
-  IsGoodSide t = (s : List Slot) → AreGood Q s → (u : Term Variable) → side_value s t ≡ Some u → Q u
+  IsGoodSide t = (s : List Message) → AreGood (IsGood Q) s → (u : Term Variable) → side_value s t ≡ Some u → Q u
 
   abbrev pub HasGoodSides : Atom → Type 0
   HasGoodSides (same t u) = IsGoodSide t × IsGoodSide u
   HasGoodSides a = Unit {0}
 
-  pub value_at_good : (s : List Slot) → AreGood Q s → (k : ℕ) (u : Term Variable) → value_at s k ≡ Some u → Q u
-  value_at_good [] h k u e = absurd cc
-  value_at_good (x ∷ s) h zero u e = (subst (IsGoodValue Q x.sort) e h.0).1
-  value_at_good (x ∷ s) h (suc k) u e = value_at_good s h.1 k u e
-
-  side_given : (s r : List Slot) (k : Option ℕ) (x : Option (Term Variable)) (l : Option ℕ) (y : Option (Term Variable))
+  side_given : (s r : List Message) (k : Option ℕ) (x : Option (Term Variable)) (l : Option ℕ) (y : Option (Term Variable))
       → ((t : Term Variable) → x ≡ Some t → Q t) → ((u : Term Variable) → y ≡ Some u → Q u) → given s k x l y ≡ Some r → Grown Q s r
   side_given s r (Some k) None l (Some u) p q e = (term_given Q s r k u (q u refl) e).0
   side_given s r (Some k) (Some t) (Some l) None p q e = (term_given Q s r l t (p t refl) e).0
@@ -88,10 +76,10 @@ module _ (Q : Term Variable → Type 0) where
   side_given s r (Some k) (Some t) None y p q e = grown_same Q s r (some_same s r e)
   side_given s r (Some k) (Some t) (Some l) (Some u) p q e = grown_same Q s r (some_same s r e)
 
-  pub equalities_given : (atoms : List Atom) → Every HasGoodSides atoms → (s r : List Slot) → AreGood Q s → by_equalities s atoms ≡ Some r → Grown Q s r
+  pub equalities_given : (atoms : List Atom) → Every HasGoodSides atoms → (s r : List Message) → AreGood (IsGood Q) s → by_equalities s atoms ≡ Some r → Grown Q s r
   equalities_given [] sides s r good e = grown_same Q s r (some_same s r e)
   equalities_given (same t u ∷ atoms) sides s r good e =
-      let h = then_some (λ (p : List Slot). by_equalities p atoms) (given s (place_of_bound t) (side_value s t) (place_of_bound u) (side_value s u)) r e in
+      let h = then_some (λ (p : List Message). by_equalities p atoms) (given s (place_of_bound t) (side_value s t) (place_of_bound u) (side_value s u)) r e in
       let g = side_given s h.0 (place_of_bound t) (side_value s t) (place_of_bound u) (side_value s u) (sides.0.0 s good) (sides.0.1 s good) h.1 in
       grown_twice Q s h.0 r g (equalities_given atoms sides.1 h.0 r (g.good good) h.2)
   equalities_given (acts a i ∷ atoms) sides s r good e = equalities_given atoms sides.1 s r good e

@@ -25,9 +25,11 @@ use Rattle.sp_spec_formula.specs.Instances.{is_of_sort, instance}
 use Rattle.sp_law_formula.proofs.Literals.{covers_by_itself}
 use Rattle.sp_law_formula.proofs.Entries.{length_trace, happened}
 use Rattle.sp_law_formula.proofs.Learnt.{entry_normal, entry_over}
-use Rattle.sp_law_formula.proofs.Slots.{some_same, slot_sorts}
+use Rattle.sp_spec.proofs.Options.{some_same}
+use Rattle.sp_spec.proofs.Slots.{value_at_good}
+use Rattle.sp_law_formula.proofs.Slots.{slot_sorts, IsGood}
 use Rattle.sp_law_formula.proofs.Matches.{Inherited}
-use Rattle.sp_law_formula.proofs.Guards.{IsGoodSide, HasGoodSides, value_at_good, StandsIn, SidesAreSame, sides_same, IsGoodEvent}
+use Rattle.sp_law_formula.proofs.Guards.{IsGoodSide, HasGoodSides, StandsIn, SidesAreSame, sides_same, IsGoodEvent}
 use Rattle.sp_law_formula.proofs.Bound.{grounds, assigned, AreValues, ArePositions, all_reached, terms_fit, times_fit, are_values, are_positions, instance_reads}
 use Rattle.sp_law_formula.proofs.Taken.{Taken, is_taken, is_universal}
 use Rattle.sp_law_system.proofs.With.{formulas_solve}
@@ -53,7 +55,7 @@ module _ (theory : Theory) (v : Valuation) where
       at Fresh k h = h
       at Pub k h = absurd cc
   value_of_sort sorts Fresh (constant c) e = absurd cc
-  value_of_sort sorts Fresh (name n) e = absurd cc
+  value_of_sort sorts Fresh (name n) e = tt
   value_of_sort sorts Fresh (app f ts) e = absurd cc
   value_of_sort sorts Pub (var x) e = at x.sort e (sorts x).0
     where
@@ -68,7 +70,7 @@ module _ (theory : Theory) (v : Valuation) where
 module _ (theory : Theory) (v : Valuation) (sorts : IsValuation (signature_of theory) v.terms) (are_normal : (x : Variable) → IsNormal (signature_of theory).equations (v.terms x)) where
   side_fine : (t : Term Place) → IsGoodSide (IsFine theory v) t
   side_fine (var (free x)) s good u e = subst (IsFine theory v) (sym (some_same (var x) u e)) ((sorts x).1, are_normal x)
-  side_fine (var (bound k)) s good u e = value_at_good (IsFine theory v) s good k u e
+  side_fine (var (bound k)) s good u e = (value_at_good (IsGood (IsFine theory v)) s good k u e).1.1
   side_fine (constant c) s good u e = subst (IsFine theory v) (sym (some_same (constant c) u e)) (tt, tt)
   side_fine (name n) s good u e = subst (IsFine theory v) (sym (some_same (name n) u e)) (tt, tt)
   side_fine (app f ts) s good u e = absurd cc

@@ -3,16 +3,17 @@ use Rattle.std.proofs.Common.{◌≡◌, ℕ, List, [], ◌∷◌, Option, Some,
 use Rattle.std.proofs.lemmas.Bool.{eqb-true}
 use Rattle.std.proofs.lemmas.Slice.Eq.{bytes_eq-Decides}
 use Rattle.sp_spec.specs.Lists.{Member}
-use Rattle.sp_spec.specs.Term.{Variable, Term, var, constant, name, app, Terms, none, more, Grounds, valued, valued_all}
+use Rattle.sp_spec.specs.Term.{Variable, Term, var, app, Terms, more, Grounds, valued, valued_all}
 use Rattle.sp_spec.specs.Rule.{Action, action_at}
 use Rattle.sp_spec.specs.Guarded.{Place, free, bound, Time, free_time, bound_time, Assignment, place_in, term_in, time_in, action_in}
 use Rattle.sp_spec.specs.Same.{alike}
 use Rattle.sp_spec_system.specs.Picked.{first_some}
 use Rattle.std.specs.Option.{option_or}
-use Rattle.sp_spec_formula.specs.Instances.{Slot, Slots, matched, matched_all, matched_time, both_slots, matched_action}
-use Rattle.sp_spec.proofs.Options.{then_some}
+use Rattle.sp_spec_formula.specs.Instances.{Message, Slots, matched_place, matched_all, matched_time, both_slots, matched_action}
+use Rattle.sp_spec.proofs.Options.{some_same, if_some}
+use Rattle.sp_spec.proofs.Matching.{Matches, matched_all_so}
 use Rattle.sp_law_formula.proofs.Literals.{alike_same}
-use Rattle.sp_law_formula.proofs.Slots.{if_some, some_same, Fits, TimesFit, Grown, grown_same, grown_twice, term_given, TimesGrown, times_grown_same, time_given}
+use Rattle.sp_law_formula.proofs.Slots.{Fits, TimesFit, Grown, grown_none, grown_same, grown_twice, term_given, TimesGrown, times_grown_same, time_given}
 
 -- what holds of an application holds of its arguments
 pub record Inherited (Q : Term Variable → Type 0) (Qs : Terms Variable → Type 0) : Type 0 where
@@ -21,47 +22,33 @@ pub record Inherited (Q : Term Variable → Type 0) (Qs : Terms Variable → Typ
   pub rest : (t : Term Variable) (ts : Terms Variable) → Qs (more t ts) → Qs ts
 
 module _ (Q : Term Variable → Type 0) (Qs : Terms Variable → Type 0) (inherited : Inherited Q Qs) where
-  abbrev Matched : List Slot → List Slot → Term Place → Term Variable → Type 0
-  Matched s r t u = Grown Q s r × ((m : Assignment) → Fits m.terms r m.bound_terms → term_in m t ≡ valued m.terms u)
+  abbrev Matched : Term Place → Term Variable → List Message → List Message → Type 0
+  Matched t u s r = Q u → Grown Q s r × ((m : Assignment) → Fits m.terms r m.bound_terms → term_in m t ≡ valued m.terms u)
 
-  abbrev AllMatched : List Slot → List Slot → Terms Place → Terms Variable → Type 0
-  AllMatched s r ts us = Grown Q s r × ((m : Assignment) → Fits m.terms r m.bound_terms → valued_all (place_in m) ts ≡ valued_all m.terms us)
+  abbrev AllMatched : Terms Place → Terms Variable → List Message → List Message → Type 0
+  AllMatched ts us s r = Qs us → Grown Q s r × ((m : Assignment) → Fits m.terms r m.bound_terms → valued_all (place_in m) ts ≡ valued_all m.terms us)
 
-  mutual
-    pub is_matched : (s r : List Slot) (t : Term Place) (u : Term Variable) → Q u → matched s t u ≡ Some r → Matched s r t u
-    is_matched s r (var (bound k)) u q e = let g = term_given Q s r k u q e in (g.0, λ m h. g.1 m.terms m.bound_terms h)
-    is_matched s r (var (free x)) u q e =
-        let h = if_some (alike (var x) u) (Some s) r e in
-        (grown_same Q s r (some_same s r h.1), λ m f. ap (valued m.terms) (alike_same (var x) u h.0))
-    is_matched s r (constant c) (constant d) q e =
-        let h = if_some (bytes_eq c d) (Some s) r e in
-        (grown_same Q s r (some_same s r h.1), λ m f. ap constant ((bytes_eq-Decides c d).0 h.0))
-    is_matched s r (name i) (name j) q e =
-        let h = if_some (nat_eq i j) (Some s) r e in
-        (grown_same Q s r (some_same s r h.1), λ m f. ap name (eqb-true i j h.0))
-    is_matched s r (app f ts) (app g us) q e =
-        let h = if_some (bytes_eq f g) (matched_all s ts us) r e in
-        let a = all_are_matched s r ts us (inherited.under g us q) h.1 in
-        (a.0, λ m k. ap₂ app ((bytes_eq-Decides f g).0 h.0) (a.1 m k))
-    is_matched s r (constant c) (var x) q e = absurd cc
-    is_matched s r (constant c) (name n) q e = absurd cc
-    is_matched s r (constant c) (app g us) q e = absurd cc
-    is_matched s r (name n) (var x) q e = absurd cc
-    is_matched s r (name n) (constant c) q e = absurd cc
-    is_matched s r (name n) (app g us) q e = absurd cc
-    is_matched s r (app f ts) (var x) q e = absurd cc
-    is_matched s r (app f ts) (constant c) q e = absurd cc
-    is_matched s r (app f ts) (name n) q e = absurd cc
+  place_is_matched : (p : Place) (u : Term Variable) (s r : List Message) → matched_place p u s ≡ Some r → Matched (var p) u s r
+  place_is_matched (bound k) u s r e q = let g = term_given Q s r k u q e in (g.0, λ m h. g.1 m.terms m.bound_terms h)
+  place_is_matched (free x) u s r e q =
+      let h = if_some (alike (var x) u) (Some s) r e in
+      (grown_same Q s r (some_same s r h.1), λ m f. ap (valued m.terms) (alike_same (var x) u h.0))
 
-    pub all_are_matched : (s r : List Slot) (ts : Terms Place) (us : Terms Variable) → Qs us → matched_all s ts us ≡ Some r → AllMatched s r ts us
-    all_are_matched s r none none q e = (grown_same Q s r (some_same s r e), λ m f. refl)
-    all_are_matched s r (more t ts) (more u us) q e =
-        let h = then_some (λ (p : List Slot). matched_all p ts us) (matched s t u) r e in
-        let a = is_matched s h.0 t u (inherited.first u us q) h.1 in
-        let b = all_are_matched h.0 r ts us (inherited.rest u us q) h.2 in
-        (grown_twice Q s h.0 r a.0 b.0, λ m f. ap₂ more (a.1 m (b.0.weakens m.terms m.bound_terms f)) (b.1 m f))
-    all_are_matched s r none (more u us) q e = absurd cc
-    all_are_matched s r (more t ts) none q e = absurd cc
+  terms_match : Matches matched_place Matched AllMatched
+  terms_match = record {
+    leaf = place_is_matched;
+    constants = λ c s q. (grown_none Q s, λ m f. refl);
+    names = λ n s q. (grown_none Q s, λ m f. refl);
+    under = λ f ts us s r h q. let a = h (inherited.under f us q) in (a.0, λ m k. ap (app f) (a.1 m k));
+    end = λ s q. (grown_none Q s, λ m f. refl);
+    beside = λ t u ts us s p r first rest q.
+        let a = first (inherited.first u us q) in
+        let b = rest (inherited.rest u us q) in
+        (grown_twice Q s p r a.0 b.0, λ m f. ap₂ more (a.1 m (b.0.weakens m.terms m.bound_terms f)) (b.1 m f));
+  }
+
+  all_are_matched : (s r : List Message) (ts : Terms Place) (us : Terms Variable) → matched_all s ts us ≡ Some r → AllMatched ts us s r
+  all_are_matched s r ts us e = matched_all_so matched_place Matched AllMatched terms_match ts us s r e
 
   module _ (B : ℕ → Type 0) where
     time_matched : (s r : List (Option ℕ)) (t : Time) (i : ℕ) → B i → matched_time s t i ≡ Some r
@@ -83,13 +70,13 @@ module _ (Q : Term Variable → Type 0) (Qs : Terms Variable → Type 0) (inheri
     pub reads_before : (s r : Slots) → SlotsGrown s r → (m : Assignment) → Reads r m → Reads s m
     reads_before s r g m h = record { terms = g.terms.weakens m.terms m.bound_terms h.terms; times = g.times.weakens m.times m.bound_times h.times }
 
-    both : (x : Option (List Slot)) (y : Option (List (Option ℕ))) (r : Slots) → both_slots x y ≡ Some r → (x ≡ Some r.terms) × (y ≡ Some r.times)
+    both : (x : Option (List Message)) (y : Option (List (Option ℕ))) (r : Slots) → both_slots x y ≡ Some r → (x ≡ Some r.terms) × (y ≡ Some r.times)
     both None y r e = absurd cc
     both (Some terms) None r e = absurd cc
     both (Some terms) (Some times) r e =
         let new : Slots = record { terms = terms; times = times } in
         let g : r ≡ new = some_same new r e in
-        (ap (λ (z : Slots). let o : Option (List Slot) = Some z.terms in o) (sym g), ap (λ (z : Slots). let o : Option (List (Option ℕ)) = Some z.times in o) (sym g))
+        (ap (λ (z : Slots). let o : Option (List Message) = Some z.terms in o) (sym g), ap (λ (z : Slots). let o : Option (List (Option ℕ)) = Some z.times in o) (sym g))
 
     -- the guard's action is that one, at that time
     pub action_matched : (s r : Slots) (a : Action Place) (t : Time) (b : Action Variable) (i : ℕ) → Qs b.args → B i → matched_action s a t b i ≡ Some r
@@ -97,7 +84,7 @@ module _ (Q : Term Variable → Type 0) (Qs : Terms Variable → Type 0) (inheri
     action_matched s r a t b i q bi e =
         let h = if_some (bytes_eq a.symbol b.symbol) (both_slots (matched_all s.terms a.args b.args) (matched_time s.times t i)) r e in
         let o = both (matched_all s.terms a.args b.args) (matched_time s.times t i) r h.1 in
-        let x = all_are_matched s.terms r.terms a.args b.args q o.0 in
+        let x = all_are_matched s.terms r.terms a.args b.args o.0 q in
         let y = time_matched s.times r.times t i bi o.1 in
         let made : List ℕ → Grounds → Action ⊥ = λ f ts. record { symbol = f; args = ts } in
         (record { terms = x.0; times = y.0 }, λ m k. (ap₂ made ((bytes_eq-Decides a.symbol b.symbol).0 h.0) (x.1 m k.terms), y.1 m k.times))

@@ -12,23 +12,25 @@ use Rattle.sp_law_system.proofs.Solutions.{Under, TimeUnder}
 use Rattle.sp_spec_system.specs.Picked.{first_some}
 use Rattle.sp_spec_formula.specs.Disjunction.{is_a_formula}
 use Rattle.sp_spec_formula.specs.Instantiate.{if_new, new_instance, with_formula, instantiate}
-use Rattle.sp_spec_formula.specs.Instances.{Slot, Slots, empty_slots, side_value, by_equalities, are_settled, all_terms, all_times, filled, placed_each, free_each, instance, body_with, instance_by}
-use Rattle.sp_spec.proofs.Options.{mapped, then_some}
-use Rattle.sp_law_formula.proofs.Slots.{if_some, some_same, slot_sorts, Fits, TimesFit, AreGood, AreGoodTimes}
+use Rattle.sp_spec_formula.specs.Instances.{Message, Slots, empty_slots, side_value, by_equalities, are_settled, all_terms, all_times, filled, placed_each, free_each, instance, body_with, instance_by}
+use Rattle.sp_spec.specs.Slots.{slot}
+use Rattle.sp_spec.proofs.Options.{some_same, if_some, mapped, then_some}
+use Rattle.sp_spec.proofs.Slots.{AreGood, value_at_good}
+use Rattle.sp_law_formula.proofs.Slots.{slot_sorts, Fits, TimesFit, IsGood, AreGoodTimes}
 use Rattle.sp_law_formula.proofs.Matches.{Inherited, some_picked}
-use Rattle.sp_law_formula.proofs.Guards.{HasGoodSides, value_at_good, equalities_given, StandsIn, IsGoodEvent, is_found}
+use Rattle.sp_law_formula.proofs.Guards.{HasGoodSides, equalities_given, StandsIn, IsGoodEvent, is_found}
 use Rattle.sp_law_formula.proofs.Bound.{no_slots, terms_good, times_good}
 use Rattle.sp_law_system.proofs.With.{formulas_numbered}
 
 -- the body, with what was put in and why
 pub record Taken (Q : Term Variable → Type 0) (B : ℕ → Type 0) (events : List Event) (bs : List Binder) (guard : List Atom) (f g : Guarded) : Type 0 where
-  pub terms : List Slot
+  pub terms : List Message
   pub times : List (Option ℕ)
   pub values : List (Term Variable)
   pub positions : List ℕ
   pub sorts : slot_sorts terms ≡ slot_sorts (empty_slots bs no_slots).terms
   pub count : length times ≡ length (empty_slots bs no_slots).times
-  pub good : AreGood Q terms
+  pub good : AreGood (IsGood Q) terms
   pub good_times : AreGoodTimes B times
   pub all_values : all_terms terms ≡ Some values
   pub all_positions : all_times times ≡ Some positions
@@ -36,9 +38,9 @@ pub record Taken (Q : Term Variable → Type 0) (B : ℕ → Type 0) (events : L
   pub stands : (m : Assignment) → Fits m.terms terms m.bound_terms → TimesFit m.times times m.bound_times → Every (StandsIn events m) guard
   pub result : g ≡ changed (instance values positions) f
 
-empty_good : (Q : Term Variable → Type 0) (B : ℕ → Type 0) (bs : List Binder) (s : Slots) → AreGood Q s.terms → AreGoodTimes B s.times → AreGood Q (empty_slots bs s).terms × AreGoodTimes B (empty_slots bs s).times
+empty_good : (Q : Term Variable → Type 0) (B : ℕ → Type 0) (bs : List Binder) (s : Slots) → AreGood (IsGood Q) s.terms → AreGoodTimes B s.times → AreGood (IsGood Q) (empty_slots bs s).terms × AreGoodTimes B (empty_slots bs s).times
 empty_good Q B [] s h k = (h, k)
-empty_good Q B (message sort ∷ bs) s h k = empty_good Q B bs (record { terms = record { sort = sort; value = None } ∷ s.terms; times = s.times }) (tt, h) k
+empty_good Q B (message sort ∷ bs) s h k = empty_good Q B bs (record { terms = slot sort None ∷ s.terms; times = s.times }) (tt, h) k
 empty_good Q B (time ∷ bs) s h k = empty_good Q B bs (record { terms = s.terms; times = None ∷ s.times }) h (tt, k)
 
 is_new : (s : System) (o : Option Guarded) (g : Guarded) → if_new s o ≡ Some g → o ≡ Some g
@@ -64,7 +66,7 @@ module _ (Q : Term Variable → Type 0) (Qs : Terms Variable → Type 0) (inheri
       let empty = empty_good Q B bs no_slots tt tt in
       let r = x.0 in
       let i = is_new s (instance_by guard f r) g x.1 in
-      let y = then_some (λ (terms : List Slot). if are_settled terms guard then body_with f (all_terms terms) (all_times r.times) else None) (by_equalities r.terms guard) g i in
+      let y = then_some (λ (terms : List Message). if are_settled terms guard then body_with f (all_terms terms) (all_times r.times) else None) (by_equalities r.terms guard) g i in
       let grown = equalities_given Q guard sides r.terms y.0 (x.2.terms.good empty.0) y.1 in
       let z = if_some (are_settled y.0 guard) (body_with f (all_terms y.0) (all_times r.times)) g y.2 in
       let b = body_put f (all_terms y.0) (all_times r.times) g z.1 in
@@ -109,9 +111,9 @@ is_universal s t e =
     (r.0, universal_of s p.0 r.0 p.1 p.2, r.2)
 
 -- Numbers.
-side_in : (N : Names) → (P : Variable → Type 0) (s : List Slot) → AreGood (MadeOf N P) s → (t : Term Place) (u : Term Variable) → side_value s t ≡ Some u → MadeOf N (AtFree P) t → MadeOf N P u
+side_in : (N : Names) → (P : Variable → Type 0) (s : List Message) → AreGood (IsGood (MadeOf N P)) s → (t : Term Place) (u : Term Variable) → side_value s t ≡ Some u → MadeOf N (AtFree P) t → MadeOf N P u
 side_in N P s good (var (free x)) u e h = subst (MadeOf N P) (sym (some_same (var x) u e)) h
-side_in N P s good (var (bound k)) u e h = value_at_good (MadeOf N P) s good k u e
+side_in N P s good (var (bound k)) u e h = (value_at_good (IsGood (MadeOf N P)) s good k u e).1.1
 side_in N P s good (constant c) u e h = subst (MadeOf N P) (sym (some_same (constant c) u e)) h
 side_in N P s good (name n) u e h = subst (MadeOf N P) (sym (some_same (name n) u e)) h
 side_in N P s good (app f ts) u e h = absurd cc

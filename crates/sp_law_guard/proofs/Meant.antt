@@ -1,12 +1,13 @@
 -- What names mean among the binders, and the values that the binders have.
-use Rattle.std.proofs.Common.{◌≡◌, ℕ, zero, Bool, true, false, if◌then◌else◌, List, ◌∷◌, Option, Some, None, option_map, refl, sym, ap, ap₂, ◌∙◌, subst, bytes_eq}
-use Rattle.sp_spec.specs.Term.{Term, var, constant, name, app, Terms, none, more, Ground, Grounds, valued, valued_all}
+use Rattle.std.proofs.Common.{◌≡◌, ℕ, zero, Bool, true, false, if◌then◌else◌, List, ◌∷◌, Option, Some, None, option_map, refl, sym, ap, ◌∙◌, subst, bytes_eq}
+use Rattle.sp_spec.specs.Term.{Term, var, constant, name, app, Terms, Ground, Grounds, valued, valued_all}
 use Rattle.sp_spec.specs.Rule.{Action, action_at}
 use Rattle.sp_spec.specs.Formula.{Mark, bare, of_sort, of_time, Written}
 use Rattle.sp_spec.specs.Truth.{Value, message, position, Environment, value_of, message_of, value_in}
 use Rattle.sp_spec.specs.Guarded.{Place, bound, Time, bound_time, Assignment, with_term, with_time, place_in, term_in, action_in, time_in}
-use Rattle.sp_law_guard.specs.GuardedForm.{Meant, a_message, a_time, binder_meant, past_binder, meant, message_place, time_place, placed_term, placed_terms, placed_action, term_time}
-use Rattle.sp_spec.proofs.Options.{mapped, then_some}
+use Rattle.sp_law_guard.specs.GuardedForm.{Meant, a_message, a_time, binder_meant, past_binder, meant, message_place, time_place, placed_variable, placed_term, placed_terms, placed_action, term_time}
+use Rattle.sp_spec.proofs.Options.{mapped}
+use Rattle.sp_spec.proofs.Variables.{where_value, where_values}
 
 -- what is meant has the value that the binder has
 abbrev pub Means : Assignment → Meant → Value → Type 0
@@ -70,21 +71,14 @@ module _ (bs : List Written) (env : Environment) (m : Assignment) (h : Correspon
       let g : var (bound j) ≡ u = cc in
       h.each x (a_message mark j) e ∙ ap (λ (y : Term Place). message (term_in m y)) g
 
-  mutual
-    pub term_read : (t : Term Written) (u : Term Place) → placed_term bs t ≡ Some u → valued (λ x. message_of (value_of env x.name)) t ≡ term_in m u
-    term_read (var x) u e = ap message_of (place_read (meant bs x.name) x.name u refl e)
-    term_read (constant c) u e = let g : constant c ≡ u = cc in ap (term_in m) g
-    term_read (name n) u e = let g : name n ≡ u = cc in ap (term_in m) g
-    term_read (app f ts) u e =
-        let r = mapped (app f) (placed_terms bs ts) u e in
-        ap (app f) (terms_read ts r.0 r.1) ∙ ap (term_in m) (sym r.2)
+  leaf_read : (x : Written) (u : Term Place) → placed_variable bs x ≡ Some u → message_of (value_of env x.name) ≡ term_in m u
+  leaf_read x u e = ap message_of (place_read (meant bs x.name) x.name u refl e)
 
-    pub terms_read : (ts : Terms Written) (us : Terms Place) → placed_terms bs ts ≡ Some us → valued_all (λ x. message_of (value_of env x.name)) ts ≡ valued_all (place_in m) us
-    terms_read none us e = let g : none ≡ us = cc in ap (valued_all (place_in m)) g
-    terms_read (more t ts) us e =
-        let r = then_some (λ u. option_map (more u) (placed_terms bs ts)) (placed_term bs t) us e in
-        let q = mapped (more r.0) (placed_terms bs ts) us r.2 in
-        ap₂ more (term_read t r.0 r.1) (terms_read ts q.0 q.1) ∙ ap (valued_all (place_in m)) (sym q.2)
+  term_read : (t : Term Written) (u : Term Place) → placed_term bs t ≡ Some u → valued (λ x. message_of (value_of env x.name)) t ≡ term_in m u
+  term_read t u e = where_value (placed_variable bs) (λ x. message_of (value_of env x.name)) (place_in m) leaf_read t u e
+
+  terms_read : (ts : Terms Written) (us : Terms Place) → placed_terms bs ts ≡ Some us → valued_all (λ x. message_of (value_of env x.name)) ts ≡ valued_all (place_in m) us
+  terms_read ts us e = where_values (placed_variable bs) (λ x. message_of (value_of env x.name)) (place_in m) leaf_read ts us e
 
   pub action_read : (a : Action Written) (b : Action Place) → placed_action bs a ≡ Some b → action_at (λ x. message_of (value_of env x.name)) a ≡ action_in m b
   action_read a b e =

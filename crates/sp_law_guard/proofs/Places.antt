@@ -1,13 +1,14 @@
 -- What names become is bound, the times within those that are bound there.
 use Rattle.std.proofs.Common.{◌≡◌, ℕ, ◌<◌, Bool, true, false, if◌then◌else◌, List, [], ◌∷◌, Option, Some, None, option_map, refl, sym, subst, bytes_eq, arith}
-use Rattle.sp_spec.specs.Term.{Term, var, constant, name, app, Terms, none, more}
+use Rattle.sp_spec.specs.Term.{Term, var, constant, name, app, Terms}
 use Rattle.sp_spec.specs.Rule.{Action}
 use Rattle.sp_spec.specs.Formula.{Mark, bare, of_sort, of_time, Written}
 use Rattle.sp_spec.specs.Guarded.{Place, bound, Time, bound_time, Atom, acts, same, same_time, before}
 use Rattle.sp_law_truth.specs.Shown.{times_within, IsBound}
-use Rattle.sp_law_guard.specs.GuardedForm.{Meant, a_message, a_time, binder_meant, past_binder, meant, message_place, time_place, placed_term, placed_terms, placed_action, acts_at, before_at, same_at, term_time, equality_at, binder_of}
+use Rattle.sp_law_guard.specs.GuardedForm.{Meant, a_message, a_time, binder_meant, past_binder, meant, message_place, time_place, placed_variable, placed_term, placed_terms, placed_action, acts_at, before_at, same_at, term_time, equality_at, binder_of}
 use Rattle.sp_law_guard.specs.Closed.{IsClosedTerm, AreClosedTerms}
-use Rattle.sp_spec.proofs.Options.{mapped, then_some}
+use Rattle.sp_spec.proofs.Options.{mapped}
+use Rattle.sp_spec.proofs.Variables.{Carries, where_carried, all_where_carried}
 use Rattle.sp_law_guard.proofs.Throughout.{times_bound}
 
 -- one of n times
@@ -58,21 +59,22 @@ message_closed None u e = absurd cc
 message_closed (Some (a_time k)) u e = absurd cc
 message_closed (Some (a_message mark k)) u e = let g : var (bound k) ≡ u = cc in subst IsClosedTerm g tt
 
-mutual
-  pub term_closed : (bs : List Written) (t : Term Written) (u : Term Place) → placed_term bs t ≡ Some u → IsClosedTerm u
-  term_closed bs (var x) u e = message_closed (meant bs x.name) u e
-  term_closed bs (constant c) u e = let g : constant c ≡ u = cc in subst IsClosedTerm g tt
-  term_closed bs (name n) u e = let g : name n ≡ u = cc in subst IsClosedTerm g tt
-  term_closed bs (app f ts) u e =
-      let r = mapped (app f) (placed_terms bs ts) u e in
-      subst IsClosedTerm (sym r.2) (terms_closed bs ts r.0 r.1)
+module _ (bs : List Written) where
+  closed_carried : Carries (placed_variable bs) (λ t u. IsClosedTerm u) (λ ts us. AreClosedTerms us)
+  closed_carried = record {
+    leaf = λ x u e. message_closed (meant bs x.name) u e;
+    constants = λ c. tt;
+    names = λ n. tt;
+    under = λ f ts us h. h;
+    end = tt;
+    beside = λ t u ts us h k. (h, k);
+  }
 
-  terms_closed : (bs : List Written) (ts : Terms Written) (us : Terms Place) → placed_terms bs ts ≡ Some us → AreClosedTerms us
-  terms_closed bs none us e = let g : none ≡ us = cc in subst AreClosedTerms g tt
-  terms_closed bs (more t ts) us e =
-      let r = then_some (λ u. option_map (more u) (placed_terms bs ts)) (placed_term bs t) us e in
-      let q = mapped (more r.0) (placed_terms bs ts) us r.2 in
-      subst AreClosedTerms (sym q.2) (term_closed bs t r.0 r.1, terms_closed bs ts q.0 q.1)
+  pub term_closed : (t : Term Written) (u : Term Place) → placed_term bs t ≡ Some u → IsClosedTerm u
+  term_closed t u e = where_carried (placed_variable bs) (λ t u. IsClosedTerm u) (λ ts us. AreClosedTerms us) closed_carried t u e
+
+  terms_closed : (ts : Terms Written) (us : Terms Place) → placed_terms bs ts ≡ Some us → AreClosedTerms us
+  terms_closed ts us e = all_where_carried (placed_variable bs) (λ t u. IsClosedTerm u) (λ ts us. AreClosedTerms us) closed_carried ts us e
 
 -- An action, an order of times, and an equality, as atoms.
 pub record ReadsAction (bs : List Written) (a : Action Written) (atom : Atom) : Type 0 where

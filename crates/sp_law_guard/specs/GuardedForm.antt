@@ -1,8 +1,8 @@
 -- The guarded form of a formula: a quantifier has as guard the actions and the equalities of messages that stand in its conjunction, and
 -- negation stands at atoms alone. Source: CSF 2012, "Guarded trace properties"; Tamarin manual, "Property specification".
-use Rattle.std.specs.Prelude.{ℕ, zero, suc, List, [], ◌∷◌, ◌++◌, if◌then◌else◌, Option, Some, None, option_map, option_and_then}
+use Rattle.std.specs.Prelude.{ℕ, zero, suc, List, [], ◌∷◌, ◌++◌, if◌then◌else◌, Option, Some, None, option_map}
 use Rattle.std.specs.Str.{bytes_eq}
-use Rattle.sp_spec.specs.Term.{Msg, Term, var, constant, name, app, Terms, none, more}
+use Rattle.sp_spec.specs.Term.{Msg, Term, var, constant, name, app, Terms, valued_where, valued_all_where}
 use Rattle.sp_spec.specs.Rule.{Action}
 use Rattle.sp_spec.specs.Formula.{Mark, bare, of_sort, of_time, Written, Formula}
 use Rattle.sp_spec.specs.Formula as f
@@ -42,16 +42,14 @@ time_place (Some (a_time k)) = Some (bound_time k)
 time_place (Some (a_message mark k)) = None
 time_place None = None
 
-abbrev mutual
-  pub placed_term : List Written → Term Written → Option (Term Place)
-  placed_term bs (var x) = message_place (meant bs x.name)
-  placed_term bs (constant c) = Some (constant c)
-  placed_term bs (name n) = Some (name n)
-  placed_term bs (app g ts) = option_map (app g) (placed_terms bs ts)
+abbrev pub placed_variable : List Written → Written → Option (Term Place)
+placed_variable bs x = message_place (meant bs x.name)
 
-  pub placed_terms : List Written → Terms Written → Option (Terms Place)
-  placed_terms bs none = Some none
-  placed_terms bs (more t ts) = option_and_then (λ u. option_map (more u) (placed_terms bs ts)) (placed_term bs t)
+abbrev pub placed_term : List Written → Term Written → Option (Term Place)
+placed_term bs t = valued_where (placed_variable bs) t
+
+abbrev pub placed_terms : List Written → Terms Written → Option (Terms Place)
+placed_terms bs ts = valued_all_where (placed_variable bs) ts
 
 abbrev pub placed_action : List Written → Action Written → Option (Action Place)
 placed_action bs a = option_map (λ ts. record { symbol = a.symbol; args = ts }) (placed_terms bs a.args)

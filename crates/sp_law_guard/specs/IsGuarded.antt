@@ -1,7 +1,7 @@
 -- Which formulas are guarded: each bound variable stands in an action of its quantifier's guard, or a guard's equality gives it by terms
 -- whose variables are bound outside or stand in actions of the same guard. Source: CSF 2012, "Guarded trace properties".
 use Rattle.std.specs.Prelude.{ℕ, zero, suc, Bool, true, false, ◌&&◌, ◌||◌, ◌==◌, nat_lt, not, List, [], ◌∷◌}
-use Rattle.sp_spec.specs.Term.{Term, var, constant, name, app, Terms, none, more}
+use Rattle.sp_spec.specs.Term.{Term, var, Terms, each_variable, some_variable, some_variables}
 use Rattle.sp_spec.specs.Guarded.{Place, free, bound, Time, free_time, bound_time, Binder, message, time, Atom, acts, same, Guarded, Guardeds, truth, falsity, holds, fails, all_of, one_of, some, every, no_more, and_then}
 
 -- the bound message of that place stands in the term
@@ -9,16 +9,11 @@ abbrev pub is_place : ℕ → Place → Bool
 is_place k (free x) = false
 is_place k (bound j) = j == k
 
-abbrev mutual
-  pub stands_in : ℕ → Term Place → Bool
-  stands_in k (var p) = is_place k p
-  stands_in k (constant c) = false
-  stands_in k (name n) = false
-  stands_in k (app f ts) = stands_among k ts
+abbrev pub stands_in : ℕ → Term Place → Bool
+stands_in k t = some_variable (is_place k) t
 
-  pub stands_among : ℕ → Terms Place → Bool
-  stands_among k none = false
-  stands_among k (more t ts) = stands_in k t || stands_among k ts
+abbrev pub stands_among : ℕ → Terms Place → Bool
+stands_among k ts = some_variables (is_place k) ts
 
 -- it stands in an action of the guard
 abbrev pub in_action : ℕ → List Atom → Bool
@@ -31,16 +26,8 @@ abbrev pub place_given : ℕ → List Atom → Place → Bool
 place_given n guard (free x) = true
 place_given n guard (bound j) = not (nat_lt j n) || in_action j guard
 
-abbrev mutual
-  pub is_given : ℕ → List Atom → Term Place → Bool
-  is_given n guard (var p) = place_given n guard p
-  is_given n guard (constant c) = true
-  is_given n guard (name m) = true
-  is_given n guard (app f ts) = are_given n guard ts
-
-  pub are_given : ℕ → List Atom → Terms Place → Bool
-  are_given n guard none = true
-  are_given n guard (more t ts) = is_given n guard t && are_given n guard ts
+abbrev pub is_given : ℕ → List Atom → Term Place → Bool
+is_given n guard t = each_variable (place_given n guard) t
 
 abbrev pub is_variable : ℕ → Term Place → Bool
 is_variable k (var p) = is_place k p

@@ -1,10 +1,10 @@
 -- The names of a formula are those of its guarded form, and a text has the public names of its rules and of its lemmas.
-use Rattle.std.proofs.Common.{◌≡◌, ℕ, true, List, [], ◌∷◌, ◌++◌, Option, Some, None, option_map, sym, subst}
+use Rattle.std.proofs.Common.{◌≡◌, ℕ, true, List, [], ◌∷◌, ◌++◌, Option, Some, None, sym, subst}
 use Rattle.sp_spec.specs.Lists.{Every, Member, is_listed}
 use Rattle.sp_spec.specs.Term.{Names, Term, var, constant, name, app, Terms, none, more, MadeOf, AllMadeOf, EachVariable, EachVariables}
 use Rattle.sp_spec.specs.Formula.{Written, Formula, truth, falsity, happens, equals, precedes, not_so, both, either, implies, for_all, for_some}
 use Rattle.sp_spec.specs.Guarded.{Place, bound, Atom, acts, same, same_time, before, last, Guarded}
-use Rattle.sp_law_guard.specs.GuardedForm.{Meant, a_message, a_time, meant, message_place, placed_term, placed_terms, guarded_form}
+use Rattle.sp_law_guard.specs.GuardedForm.{Meant, a_message, a_time, meant, message_place, placed_variable, placed_term, placed_terms, guarded_form}
 use Rattle.sp_spec.specs.Rule.{Fact, Action}
 use Rattle.sp_spec.specs.Theory.{Lemma}
 use Rattle.sp_spec.specs.Written.{WrittenRule, WrittenTheory}
@@ -13,7 +13,7 @@ use Rattle.sp_spec.proofs.Lists.{every_parts, every_member}
 use Rattle.sp_spec.proofs.Standing.{all_stand}
 use Rattle.sp_spec_system.specs.Numbered.{names_in}
 use Rattle.sp_law_system.proofs.Facts.{each_of_all, each_of_all_terms}
-use Rattle.sp_spec.proofs.Options.{mapped, then_some}
+use Rattle.sp_spec.proofs.Variables.{where_made, where_all_made}
 use Rattle.sp_law_guard.proofs.Places.{action_made, order_made, equality_made}
 use Rattle.sp_law_guard.proofs.Throughout.{times_bound, OfFormulas, OfAtoms, form_throughout, Throughout}
 use Rattle.sp_law_tree.specs.BasicTheory.{IsBasicTerm, AreBasicTerms, IsBasicFact, IsBasicAction, IsBasicFormula, HasNames}
@@ -38,21 +38,15 @@ module _ (N : Names) where
   message_named (Some (a_time k)) u e = absurd cc
   message_named (Some (a_message mark k)) u e = let g : var (bound k) ≡ u = cc in subst (NamedTerm N) g tt
 
-  mutual
-    term_named : (bs : List Written) (t : Term Written) (u : Term Place) → MadeOf N (λ x. Unit {0}) t → placed_term bs t ≡ Some u → NamedTerm N u
-    term_named bs (var x) u h e = message_named (meant bs x.name) u e
-    term_named bs (constant c) u h e = let g : constant c ≡ u = cc in subst (NamedTerm N) g h
-    term_named bs (name n) u h e = let g : name n ≡ u = cc in subst (NamedTerm N) g h
-    term_named bs (app f ts) u h e =
-        let r = mapped (app f) (placed_terms bs ts) u e in
-        subst (NamedTerm N) (sym r.2) (terms_named bs ts r.0 h r.1)
+  module _ (bs : List Written) where
+    variable_named : (x : Written) (u : Term Place) → placed_variable bs x ≡ Some u → Unit {0} → NamedTerm N u
+    variable_named x u e h = message_named (meant bs x.name) u e
 
-    terms_named : (bs : List Written) (ts : Terms Written) (us : Terms Place) → AllMadeOf N (λ x. Unit {0}) ts → placed_terms bs ts ≡ Some us → NamedTerms N us
-    terms_named bs none us h e = let g : none ≡ us = cc in subst (NamedTerms N) g tt
-    terms_named bs (more t ts) us h e =
-        let r = then_some (λ u. option_map (more u) (placed_terms bs ts)) (placed_term bs t) us e in
-        let q = mapped (more r.0) (placed_terms bs ts) us r.2 in
-        subst (NamedTerms N) (sym q.2) (term_named bs t r.0 h.0 r.1, terms_named bs ts q.0 h.1 q.1)
+    term_named : (t : Term Written) (u : Term Place) → MadeOf N (λ x. Unit {0}) t → placed_term bs t ≡ Some u → NamedTerm N u
+    term_named t u h e = where_made (placed_variable bs) N (λ x. Unit {0}) (λ p. Unit {0}) variable_named t u e h
+
+    terms_named : (ts : Terms Written) (us : Terms Place) → AllMadeOf N (λ x. Unit {0}) ts → placed_terms bs ts ≡ Some us → NamedTerms N us
+    terms_named ts us h e = where_all_made (placed_variable bs) N (λ x. Unit {0}) (λ p. Unit {0}) variable_named ts us e h
 
   named_parts : OfFormulas (HasNames N)
   named_parts = record {

@@ -1,12 +1,12 @@
 -- The guarded form of a formula of variables and public names that names no action of the adversary has flat atoms that name none.
-use Rattle.std.proofs.Common.{◌≡◌, ℕ, true, List, [], Option, Some, None, option_map, sym, subst}
-use Rattle.sp_spec.specs.Term.{Term, var, constant, name, app, Terms, none, more}
+use Rattle.std.proofs.Common.{◌≡◌, ℕ, true, List, [], Option, Some, None, sym, subst}
+use Rattle.sp_spec.specs.Term.{Term, var, Terms}
 use Rattle.sp_spec.specs.Formula.{Written, Formula}
 use Rattle.sp_spec.specs.Guarded.{Place, bound, Time, free_time, bound_time, Guarded}
 use Rattle.sp_law_truth.specs.Shown.{IsBound}
-use Rattle.sp_law_guard.specs.GuardedForm.{Meant, a_message, a_time, meant, message_place, placed_term, placed_terms, guarded_form}
+use Rattle.sp_law_guard.specs.GuardedForm.{Meant, a_message, a_time, meant, message_place, placed_variable, placed_term, placed_terms, guarded_form}
 use Rattle.sp_law_guard.specs.IsGuarded.{is_guarded}
-use Rattle.sp_spec.proofs.Options.{mapped, then_some}
+use Rattle.sp_spec.proofs.Variables.{Carries, where_carried, all_where_carried}
 use Rattle.sp_law_guard.proofs.Places.{action_made, order_made, equality_made}
 use Rattle.sp_law_guard.proofs.Throughout.{times_bound, OfFormulas, OfAtoms, form_throughout}
 use Rattle.sp_law_tree.specs.BasicTheory.{IsBasicTerm, AreBasicTerms, IsBasicFormula}
@@ -19,18 +19,28 @@ message_flat None u e = absurd cc
 message_flat (Some (a_time k)) u e = absurd cc
 message_flat (Some (a_message mark k)) u e = let g : var (bound k) ≡ u = cc in subst FlatTerm g tt
 
-term_flat : (bs : List Written) (t : Term Written) (u : Term Place) → IsBasicTerm t → placed_term bs t ≡ Some u → FlatTerm u
-term_flat bs (var x) u h e = message_flat (meant bs x.name) u e
-term_flat bs (constant c) u h e = let g : constant c ≡ u = cc in subst FlatTerm g tt
-term_flat bs (name n) u h e = absurd h
-term_flat bs (app f ts) u h e = absurd h
+module _ (bs : List Written) where
+  abbrev KeepsTerm : Term Written → Term Place → Type 0
+  KeepsTerm t u = IsBasicTerm t → FlatTerm u
 
-terms_flat : (bs : List Written) (ts : Terms Written) (us : Terms Place) → AreBasicTerms ts → placed_terms bs ts ≡ Some us → FlatTerms us
-terms_flat bs none us h e = let g : none ≡ us = cc in subst FlatTerms g tt
-terms_flat bs (more t ts) us h e =
-    let r = then_some (λ u. option_map (more u) (placed_terms bs ts)) (placed_term bs t) us e in
-    let q = mapped (more r.0) (placed_terms bs ts) us r.2 in
-    subst FlatTerms (sym q.2) (term_flat bs t r.0 h.0 r.1, terms_flat bs ts q.0 h.1 q.1)
+  abbrev KeepsTerms : Terms Written → Terms Place → Type 0
+  KeepsTerms ts us = AreBasicTerms ts → FlatTerms us
+
+  flat_carried : Carries (placed_variable bs) KeepsTerm KeepsTerms
+  flat_carried = record {
+    leaf = λ x u e h. message_flat (meant bs x.name) u e;
+    constants = λ c h. tt;
+    names = λ n h. absurd h;
+    under = λ f ts us k h. absurd h;
+    end = λ h. tt;
+    beside = λ t u ts us first rest h. (first h.0, rest h.1);
+  }
+
+  term_flat : (t : Term Written) (u : Term Place) → IsBasicTerm t → placed_term bs t ≡ Some u → FlatTerm u
+  term_flat t u h e = where_carried (placed_variable bs) KeepsTerm KeepsTerms flat_carried t u e h
+
+  terms_flat : (ts : Terms Written) (us : Terms Place) → AreBasicTerms ts → placed_terms bs ts ≡ Some us → FlatTerms us
+  terms_flat ts us h e = all_where_carried (placed_variable bs) KeepsTerm KeepsTerms flat_carried ts us e h
 
 time_flat : (n : ℕ) (i : Time) → IsBound n i → FlatTime n i
 time_flat n (bound_time k) h = h

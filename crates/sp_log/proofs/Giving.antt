@@ -1,37 +1,24 @@
 -- Where matching finds bindings beside an instance, all values that agree with them make the pattern that instance.
-use Rattle.std.proofs.Common.{◌≡◌, Bool, true, false, cond, List, [], ◌∷◌, ◌++◌, map, Option, Some, None, option_and_then, refl, sym, ap, ap₂, ◌∙◌, subst}
+use Rattle.std.proofs.Common.{◌≡◌, Bool, true, false, List, [], ◌∷◌, map, Option, Some, None, option_and_then, refl, sym, ap, ap₂, ◌∙◌, subst}
 use Rattle.std.specs.Str.{bytes_eq}
-use Rattle.std.proofs.lemmas.Bool.{and_parts, eqb-true}
+use Rattle.std.proofs.lemmas.Bool.{and_parts}
 use Rattle.std.proofs.lemmas.Slice.Eq.{bytes_eq-Decides}
-use Rattle.sp_spec.specs.Term.{Variable, Term, var, constant, name, app, Terms, none, more, Ground, Grounds, Values, valued, valued_all}
-use Rattle.sp_spec.specs.Same.{same_term}
+use Rattle.sp_spec.specs.Term.{Variable, Terms, Grounds, Values, valued_all}
+use Rattle.sp_spec.specs.Same.{no_test}
+use Rattle.sp_spec.specs.Matching.{never_has_sort, Agrees}
 use Rattle.sp_spec.specs.Rule.{Fact, Action, Facts, fact_at, action_at, facts_at}
-use Rattle.sp_law_equal.specs.Matching.{Bound, lookup, has_sort, by_bound, matched, matched_all}
-use Rattle.sp_spec.proofs.Same.{same_term_decides}
-use Rattle.sp_law_equal.proofs.Matches.{Agrees}
+use Rattle.sp_law_equal.specs.Matching.{Bound, matched_all}
+use Rattle.sp_spec.proofs.Same.{no_test_decides}
+use Rattle.sp_spec.proofs.Bindings.{all_given}
 use Rattle.sp_law_run.specs.Taken.{same_choice}
 use Rattle.sp_law_found.specs.Found.{matched_facts, matched_actions, matched_instance}
 use Rattle.sp_log.specs.Checking.{alike_facts, alike_actions, are_alike}
 use Rattle.sp_spec.proofs.Facts.{made_facts, made_fact, made_action}
-use Rattle.sp_law_equal.proofs.Matches.{old_stays, new_there}
 
 -- values that agree with what is found fit, and agree with what was there
 abbrev Giving : (Values → Type 0) → List Bound → Option (List Bound) → Type 0
 Giving Fits bs None = Unit {0}
 Giving Fits bs (Some cs) = (v : Values) → Agrees v cs → Fits v × Agrees v bs
-
--- a test, which leaves the bindings
-tested : (Fits : Values → Type 0) (bs : List Bound) (b : Bool) → (b ≡ true → (v : Values) → Agrees v bs → Fits v) → Giving Fits bs (cond b (Some bs) None)
-tested Fits bs true good = λ v a. (good refl v a, a)
-tested Fits bs false good = tt
-
-bound_gives : (o : Option Ground) (x : Variable) (t : Ground) (bs : List Bound) → lookup bs x ≡ o → Giving (λ v. v x ≡ t) bs (by_bound o x t bs)
-bound_gives (Some u) x t bs e = tested (λ v. v x ≡ t) bs (same_term u t) (λ s v a. a x u e ∙ (same_term_decides u t).0 s)
-bound_gives None x t bs e = by_test (has_sort x.sort t)
-  where
-    by_test : (c : Bool) → Giving (λ v. v x ≡ t) bs (cond c (Some (bs ++ (x, t) ∷ [])) None)
-    by_test true = λ v a. (a x t (new_there x t bs e), λ y u l. a y u (old_stays x t bs y u l))
-    by_test false = tt
 
 -- one part, then the others
 module _ (First Others Both : Values → Type 0) (join : (v : Values) → First v → Others v → Both v) where
@@ -44,40 +31,12 @@ module _ (First Others Both : Values → Type 0) (join : (v : Values) → First 
       by_last None m = tt
       by_last (Some ds) m = λ v a. let b = m v a in let c = h v b.1 in (join v c.0 b.0, c.1)
 
-renamed : (Fits Fits' : Values → Type 0) (bs : List Bound) (o : Option (List Bound)) → ((v : Values) → Fits v → Fits' v) → Giving Fits bs o → Giving Fits' bs o
-renamed Fits Fits' bs None to h = tt
-renamed Fits Fits' bs (Some cs) to h = λ v a. let b = h v a in (to v b.0, b.1)
-
-mutual
-  matched_gives : (p : Term Variable) (t : Ground) (bs : List Bound) → Giving (λ v. valued v p ≡ t) bs (matched p t bs)
-  matched_gives (var x) t bs = bound_gives (lookup bs x) x t bs refl
-  matched_gives (constant c) (constant d) bs = tested (λ v. constant c ≡ constant d) bs (bytes_eq c d) (λ e v a. ap constant ((bytes_eq-Decides c d).0 e))
-  matched_gives (name m) (name n) bs = tested (λ v. name m ≡ name n) bs _ (λ e v a. ap name (eqb-true m n e))
-  matched_gives (app f ps) (app g ts) bs = by_test (bytes_eq f g) refl (matched_all_give ps ts bs)
-    where
-      by_test : (c : Bool) → bytes_eq f g ≡ c → Giving (λ v. valued_all v ps ≡ ts) bs (matched_all ps ts bs)
-          → Giving (λ v. app f (valued_all v ps) ≡ app g ts) bs (cond c (matched_all ps ts bs) None)
-      by_test true e h =
-          renamed (λ v. valued_all v ps ≡ ts) (λ v. app f (valued_all v ps) ≡ app g ts) bs (matched_all ps ts bs)
-          (λ v k. ap₂ app ((bytes_eq-Decides f g).0 e) k) h
-      by_test false e h = tt
-  matched_gives (constant c) (var y) bs = absurd y
-  matched_gives (constant c) (name n) bs = tt
-  matched_gives (constant c) (app g ts) bs = tt
-  matched_gives (name m) (var y) bs = absurd y
-  matched_gives (name m) (constant d) bs = tt
-  matched_gives (name m) (app g ts) bs = tt
-  matched_gives (app f ps) (var y) bs = absurd y
-  matched_gives (app f ps) (constant d) bs = tt
-  matched_gives (app f ps) (name n) bs = tt
-
-  matched_all_give : (ps : Terms Variable) (ts : Grounds) (bs : List Bound) → Giving (λ v. valued_all v ps ≡ ts) bs (matched_all ps ts bs)
-  matched_all_give none none bs = λ v a. (refl, a)
-  matched_all_give none (more t ts) bs = tt
-  matched_all_give (more p ps) none bs = tt
-  matched_all_give (more p ps) (more t ts) bs =
-      in_turn (λ v. valued v p ≡ t) (λ v. valued_all v ps ≡ ts) (λ v. more (valued v p) (valued_all v ps) ≡ more t ts)
-      (λ v a b. ap₂ more a b) bs (matched p t bs) (λ cs. matched_all ps ts cs) (matched_gives p t bs) (λ cs. matched_all_give ps ts cs)
+matched_all_give : (ps : Terms Variable) (ts : Grounds) (bs : List Bound) → Giving (λ v. valued_all v ps ≡ ts) bs (matched_all ps ts bs)
+matched_all_give ps ts bs = by_answer (matched_all ps ts bs) refl
+  where
+    by_answer : (o : Option (List Bound)) → matched_all ps ts bs ≡ o → Giving (λ v. valued_all v ps ≡ ts) bs o
+    by_answer None e = tt
+    by_answer (Some cs) e = (all_given no_test no_test_decides never_has_sort ps ts bs cs e).agree
 
 same_choice_tells : (b c : Bool) → same_choice b c ≡ true → b ≡ c
 same_choice_tells true c e = sym e

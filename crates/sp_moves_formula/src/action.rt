@@ -11,7 +11,7 @@ ghost use Rattle.sp_moves_formula.specs.Sought.{sought, timed};
 ghost use Rattle.sp_spec_system.specs.Rules.{RuleForms};
 
 use sp_fact::fact::Action;
-use sp_formula::formula::{Atom, Formula, FormulaAction, Moment};
+use sp_formula::formula::{Atom, Formula, Moment};
 use sp_system::freed::freed_action;
 use sp_term::term::Name;
 use std::alloc::{AllocError, Global};

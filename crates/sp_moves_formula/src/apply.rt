@@ -14,7 +14,7 @@ use crate::moves::{Case, Move};
 use crate::part::or_cases;
 use crate::solving::solving_action;
 use sp_fact::book::RuleBook;
-use sp_formula::formula::{Atom, Formula, FormulaAction, Moment};
+use sp_formula::formula::{Atom, Formula, Moment};
 use sp_system::freed::freed_action;
 use sp_system::system::System;
 use std::alloc::{AllocError, Global};

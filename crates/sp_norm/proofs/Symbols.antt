@@ -8,7 +8,7 @@ use Rattle.sp_spec.specs.Signature.{Symbol, HasSymbol, HasPublic, IsOver, AreOve
 use Rattle.sp_term.specs.View.{Never}
 use Rattle.sp_term.specs.declared.term.Term as memory
 use Rattle.sp_ground.specs.View.{grounds_of}
-use Rattle.sp_ground.proofs.Lists.{count-grounds}
+use Rattle.sp_ground.proofs.Lists.{count_grounds}
 use Rattle.sp_norm.specs.Over.{is_symbol, any_symbol, any_public, over, all_over}
 use Rattle.sp_spec.proofs.Bools.{denied}
 
@@ -92,7 +92,7 @@ module _ (symbols : List Symbol) where
   -- of an application that has so many arguments
   over_app : (f : List ℕ) (ts : List (memory.Term Never)) (n : ℕ) → n ≡ length ts
       → over symbols (app f (grounds_of ts)) ≡ (any_symbol symbols f n && all_over symbols (grounds_of ts))
-  over_app f ts n e = ap (λ k. any_symbol symbols f k && all_over symbols (grounds_of ts)) (count-grounds ts ∙ sym e)
+  over_app f ts n e = ap (λ k. any_symbol symbols f k && all_over symbols (grounds_of ts)) (count_grounds ts ∙ sym e)
 
   pub over_by_arguments : (f : List ℕ) (ts : List (memory.Term Never)) (n : ℕ) → n ≡ length ts → any_symbol symbols f n ≡ true
       → over symbols (app f (grounds_of ts)) ≡ all_over symbols (grounds_of ts)

@@ -5,12 +5,12 @@ ghost use Rattle.sp_law_equal.specs.Normal.{normal, normal_action, normal_all, n
 ghost use Rattle.sp_ground.specs.View.{equation_of, ground_action, ground_fact, ground_facts, ground_of, grounds_of};
 
 use crate::instance::value;
-use crate::matching::matches;
 use sp_fact::fact::{Action, Fact, Facts};
 use sp_ground::fact::{GroundAction, GroundFact, GroundFacts};
 use sp_ground::signature::Equation;
 use sp_ground::term::GroundTerm;
-use sp_term::term::{Term, copy};
+use sp_term::found::matches;
+use sp_term::term::{Term, copy, nesting_over};
 use std::alloc::{AllocError, Global};
 use std::rc::Rc;
 
@@ -44,11 +44,12 @@ pub fn normal(
         Term::Var(never) => match never.leaf {},
         Term::Constant(name) => Ok(Term::Constant(name.copy()?)),
         Term::FreshName(n) => Ok(Term::FreshName(*n)),
-        Term::App(symbol, terms) => {
+        Term::App(symbol, terms, _) => {
             let name = symbol.copy()?;
             let made = normal_all(alloc, equations, terms)?;
+            let nesting = nesting_over(&made)?;
             let shared = Rc::new(alloc, made)?;
-            let whole = Term::App(name, shared);
+            let whole = Term::App(name, shared, nesting);
             reduced(alloc, equations, &whole)
         }
     }

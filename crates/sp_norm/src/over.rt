@@ -78,7 +78,7 @@ fn tree_over(symbols: &Vec<Symbol>, term: &GroundTerm) -> bool
         Term::Var(never) => match never.leaf {},
         Term::Constant(_) => true,
         Term::FreshName(_) => true,
-        Term::App(f, terms) => any_symbol(symbols, f, terms.len()) && trees_over(symbols, terms),
+        Term::App(f, terms, _) => any_symbol(symbols, f, terms.len()) && trees_over(symbols, terms),
     }
 }
 

@@ -12,7 +12,7 @@ use crate::texts::{after, behind, is_nothing, name};
 use sp_ground::signature::Symbol;
 use sp_ground::step::{Given, Step};
 use sp_ground::term::GroundTerm;
-use sp_term::term::Name;
+use sp_term::term::{MOST_NESTED, Name};
 use std::alloc::{AllocError, Global};
 
 /// The term that is the whole text.
@@ -23,7 +23,7 @@ fn whole_term(
 ) -> Result<Option<GroundTerm>, AllocError>
     ensures { IfOk result (λ o. MatchOption o (NoWhole (Reads (symbols_of symbols.now.items)) text.now) (λ t. Reads (symbols_of symbols.now.items) text.now (ground_of t) [])) }
 {
-    let Some((found, rest)) = term(alloc, symbols, text)? else {
+    let Some((found, rest)) = term(alloc, symbols, MOST_NESTED, text)? else {
         return Ok(None);
     };
     if is_nothing(rest) {
@@ -48,7 +48,7 @@ fn given<'a>(
     let Some(inside) = after(rest, b" = ") else {
         return Ok(None);
     };
-    let Some((value, ahead)) = term(alloc, symbols, inside)? else {
+    let Some((value, ahead)) = term(alloc, symbols, MOST_NESTED, inside)? else {
         return Ok(None);
     };
     let variable = Name::new(alloc, found)?;

@@ -17,7 +17,7 @@ use crate::texts::{
 };
 use sp_ground::signature::Symbol;
 use sp_ground::term::GroundTerm;
-use sp_term::term::{Name, Term};
+use sp_term::term::{Name, Term, nesting_over};
 use std::alloc::{AllocError, Global};
 use std::rc::Rc;
 
@@ -104,7 +104,7 @@ fn symbol_head<'a>(
         return Ok(Head::Nothing);
     }
     let shared = Rc::new(alloc, Vec::new(alloc))?;
-    let made = ended(Term::App(name, shared), rest);
+    let made = ended(Term::App(name, shared, 1), rest);
     Ok(made)
 }
 
@@ -167,7 +167,7 @@ fn is_pair_term(term: &GroundTerm) -> bool
         Term::Var(never) => match never.leaf {},
         Term::Constant(_) => false,
         Term::FreshName(_) => false,
-        Term::App(symbol, terms) => is_pair(symbol.text.as_str(), terms),
+        Term::App(symbol, terms, _) => is_pair(symbol.text.as_str(), terms),
     }
 }
 
@@ -185,8 +185,9 @@ fn applied(
     if !has_symbol(symbols, name, terms.len()) || is_pair(name, &terms) || !ends(rest) {
         return Ok(None);
     }
+    let nesting = nesting_over(&terms)?;
     let shared = Rc::new(alloc, terms)?;
-    Ok(Some(Term::App(symbol, shared)))
+    Ok(Some(Term::App(symbol, shared, nesting)))
 }
 
 /// The pair of two terms.
@@ -197,8 +198,9 @@ fn pair(alloc: Global, left: GroundTerm, right: GroundTerm) -> Result<GroundTerm
     parts.push(left)?;
     parts.push(right)?;
     let name = Name::new(alloc, "pair")?;
+    let nesting = nesting_over(&parts)?;
     let shared = Rc::new(alloc, parts)?;
-    Ok(Term::App(name, shared))
+    Ok(Term::App(name, shared, nesting))
 }
 
 /// Takes the last term.
@@ -252,10 +254,15 @@ fn push(terms: &mut Vec<GroundTerm>, next: GroundTerm) -> Result<(), AllocError>
 }
 
 /// The term that stands first, and what stands behind it; none where no term stands there that ends.
+///
+/// # Errors
+///
+/// `AllocError` where memory is wanting, or brackets stand within brackets more often than there is room for.
 #[cycle(term)]
 pub fn term<'a>(
     alloc: Global,
     symbols: &Vec<Symbol>,
+    room: u32,
     text: &'a [u8],
 ) -> Result<Option<(GroundTerm, &'a [u8])>, AllocError>
     ensures { IfOk result (λ o. MatchOption o (NoReading (Reads (symbols_of symbols.now.items)) text.now) (λ x. Reads (symbols_of symbols.now.items) text.now (ground_of x.0) x.1.now)) }
@@ -263,7 +270,7 @@ pub fn term<'a>(
     match head(alloc, symbols, text)? {
         Head::Whole(found, rest) => Ok(Some((found, rest))),
         Head::Over(symbol, inside) => {
-            let Some((terms, rest)) = row(alloc, symbols, b')', inside)? else {
+            let Some((terms, rest)) = row(alloc, symbols, room, b')', inside)? else {
                 return Ok(None);
             };
             let Some(made) = applied(alloc, symbols, symbol, terms, rest)? else {
@@ -272,7 +279,7 @@ pub fn term<'a>(
             Ok(Some((made, rest)))
         }
         Head::Opened(inside) => {
-            let Some((terms, rest)) = row(alloc, symbols, b'>', inside)? else {
+            let Some((terms, rest)) = row(alloc, symbols, room, b'>', inside)? else {
                 return Ok(None);
             };
             let Some(made) = paired(alloc, symbols, terms, rest)? else {
@@ -289,16 +296,20 @@ pub fn term<'a>(
 fn row<'a>(
     alloc: Global,
     symbols: &Vec<Symbol>,
+    room: u32,
     close: u8,
     text: &'a [u8],
 ) -> Result<Option<(Vec<GroundTerm>, &'a [u8])>, AllocError>
     requires { close ≢ 44 }
     ensures { IfOk result (λ o. MatchOption o (NoReading (ReadsRow (symbols_of symbols.now.items) close) text.now) (λ x. ReadsRow (symbols_of symbols.now.items) close text.now (map ground_of x.0.items) x.1.now)) }
 {
+    let Some(within) = room.checked_sub(1) else {
+        return Err(AllocError);
+    };
     let mut found = Vec::new(alloc);
     let mut rest = text;
     loop {
-        let Some((next, ahead)) = term(alloc, symbols, rest)? else {
+        let Some((next, ahead)) = term(alloc, symbols, within, rest)? else {
             return Ok(None);
         };
         push(&mut found, next)?;

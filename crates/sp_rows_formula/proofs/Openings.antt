@@ -3,13 +3,12 @@ use Rattle.std.proofs.Common.{reverse, ap₂, ◌≡◌, ◌≤◌, ◌<◌, ◌
 use Rattle.std.proofs.lemmas.List.{map-append, drop_more, drop_all, reverse-append}
 use Rattle.sp_spec.specs.Term.{Term, var}
 use Rattle.sp_spec.specs.Guarded.{pushed, Place}
-use Rattle.sp_term.specs.View.{variable_of, view, view_step}
+use Rattle.sp_term.specs.View.{view, view_by, view_step}
 use Rattle.sp_term.specs.declared.term.Variable.{Variable}
 use Rattle.sp_term.specs.declared.term.Term.TheVariants.{Var, rolls-Var}
 use Rattle.sp_term.specs.declared.term.Term.TheFolds.{fold-roll-Term}
 use Rattle.sp_term.specs.declared.term.Term.TheOpen.{Term-F}
 use Rattle.sp_spec.specs.Guarded as spec
-use Rattle.sp_spec.specs.Term as term
 use Rattle.sp_spec.specs.Change.{Change, opened}
 use Rattle.sp_formula.specs.FormulaView.{binder_of}
 use Rattle.sp_formula.specs.declared.formula.Binder.{Binder}
@@ -55,9 +54,9 @@ opened_more items i z n m c d h e put_in =
 pub opened_nothing : (items : List Binder) (i : ℕ) (n : ℕ) (c : Change) → length items ≤ i → opened (map binder_of (drop i items)) n c ≡ c
 opened_nothing items i n c h = ap (λ (bs : List Binder). opened (map binder_of bs) n c) (drop_all i items h)
 
--- a variable in memory is one
-pub view_var : (x : Variable) → view (Var x) ≡ var (variable_of x)
-view_var x = ap view (sym (rolls-Var x)) ∙ fold-roll-Term Variable (Term term.Variable) (view_step variable_of) (Term-F.Var x)
+-- a leaf in memory is one
+pub view_var : {L V : Type 0} (leaf_of : L → V) (x : L) → view_by leaf_of (Var x) ≡ var (leaf_of x)
+view_var {L} {V} leaf_of x = ap (view_by leaf_of) (sym (rolls-Var x)) ∙ fold-roll-Term L (Term V) (view_step leaf_of) (Term-F.Var x)
 
 -- the innermost first, and the innermost last
 pub reversed_all : {A : Type 0} (xs : List A) (f : ℕ → A) → pushed_all (reverse xs) f ≡ filled xs f

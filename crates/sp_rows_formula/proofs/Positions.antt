@@ -1,8 +1,7 @@
 -- The first formula of which something is picked is the one at its position.
-use Rattle.std.proofs.Common.{◌≡◌, ℕ, suc, List, [], ◌∷◌, ◌++◌, take, drop, Option, Some, None, option_map, option_and_then, refl, sym, ap, ap₂, ◌∙◌, ◌+◌, length, map}
-use Rattle.sp_spec.specs.Guarded.{Guarded, holds}
+use Rattle.std.proofs.Common.{◌≡◌, ℕ, suc, List, [], ◌∷◌, ◌++◌, take, drop, Option, Some, None, option_map, option_and_then, refl, sym, ap, ap₂, ◌∙◌, ◌+◌, length}
+use Rattle.sp_spec.specs.Guarded.{Guarded}
 use Rattle.sp_spec_system.specs.System.{System, with_next, with_pairs}
-use Rattle.sp_spec.specs.Change.{atom_changed, changed, opening}
 use Rattle.sp_spec_system.specs.Formulas.{Found, found_at, first_formula, spending}
 use Rattle.sp_spec_formula.specs.Split.{split_of, split}
 use Rattle.sp_spec_formula.specs.Disjunction.{instead_of, disjunction}

@@ -1,5 +1,5 @@
 -- What is made the same after a formula is spent may as well be made the same before.
-use Rattle.std.proofs.Common.{◌≡◌, ℕ, suc, Bool, true, false, if◌then◌else◌, List, [], ◌∷◌, ◌++◌, take, drop, length, map, Option, Some, None, option_map, refl, sym, ap, ap₂, ◌∙◌, subst, ◌==◌}
+use Rattle.std.proofs.Common.{◌≡◌, ℕ, Bool, true, false, if◌then◌else◌, List, [], ◌∷◌, ◌++◌, take, drop, length, map, Option, Some, None, option_map, refl, sym, ap, ap₂, ◌∙◌, subst, ◌==◌}
 use Rattle.std.proofs.lemmas.List.{map-append, take-map, drop-map, length-map}
 use Rattle.sp_spec.specs.Term.{Variable, Term}
 use Rattle.sp_spec.specs.Guarded.{Guarded}

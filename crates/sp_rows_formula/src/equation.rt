@@ -29,12 +29,12 @@ pub enum Equation {
     Times(u128, u128),
 }
 
-fn equation_of(formula: &Formula) -> Result<Option<Equation>, AllocError>
+fn equation_of(alloc: Global, formula: &Formula) -> Result<Option<Equation>, AllocError>
     ensures { IfOk result (λ o. option_map view.equation o ≡ rows.equation_of (formula_of formula.now)) }
 {
     match formula {
         Formula::Holds(Atom::Same(left, right)) => {
-            let Some(pair) = freed_pair(left, right)? else {
+            let Some(pair) = freed_pair(alloc, left, right)? else {
                 return Ok(None);
             };
             Ok(Some(Equation::Terms(pair)))
@@ -47,11 +47,14 @@ fn equation_of(formula: &Formula) -> Result<Option<Equation>, AllocError>
 }
 
 // The position of the first equation, and what it says.
-fn first_equation(formulas: &Vec<Formula>) -> Result<Option<(usize, Equation)>, AllocError>
+fn first_equation(
+    alloc: Global,
+    formulas: &Vec<Formula>,
+) -> Result<Option<(usize, Equation)>, AllocError>
     ensures { IfOk result (λ o. option_map (λ p. (p.0, view.equation p.1)) o ≡ position_of rows.equation_of (map formula_of formulas.now.items)) }
 {
     for (position, formula) in formulas.iter().enumerate() {
-        if let Some(equation) = equation_of(formula)? {
+        if let Some(equation) = equation_of(alloc, formula)? {
             return Ok(Some((position, equation)));
         }
     }
@@ -103,7 +106,7 @@ fn equated(alloc: Global, system: &mut System, equation: Equation) -> Result<boo
 pub fn equate(alloc: Global, system: &mut System) -> Result<bool, AllocError>
     ensures { IfOk result (λ b. Reduced b (system_of system.old) (system_of system.new) (rows.equate (system_of system.old))) }
 {
-    let Some((position, equation)) = first_equation(&system.formulas)? else {
+    let Some((position, equation)) = first_equation(alloc, &system.formulas)? else {
         return Ok(false);
     };
     if !equated(alloc, system, equation)? {
@@ -116,7 +119,7 @@ pub fn equate(alloc: Global, system: &mut System) -> Result<bool, AllocError>
 fn equation_fails(alloc: Global, system: &System, formula: &Formula) -> Result<bool, AllocError>
     ensures { IfOk result (λ b. b ≡ rows.equation_fails (system_of system.now) (rows.equation_of (formula_of formula.now))) }
 {
-    match equation_of(formula)? {
+    match equation_of(alloc, formula)? {
         Some(Equation::Terms(pair)) => {
             let subst = unifier(alloc, pair)?;
             Ok(subst.is_none())

@@ -15,22 +15,23 @@ use sp_term::term::Term;
 use sp_unify::unify::mgu;
 use std::alloc::{AllocError, Global};
 
-fn inequality_of(formula: &Formula) -> Result<Option<(Term, Term)>, AllocError>
+fn inequality_of(alloc: Global, formula: &Formula) -> Result<Option<(Term, Term)>, AllocError>
     ensures { IfOk result (λ o. option_map pair_of o ≡ unequal_spec.inequality_of (formula_of formula.now)) }
 {
     match formula {
-        Formula::Fails(Atom::Same(left, right)) => freed_pair(left, right),
+        Formula::Fails(Atom::Same(left, right)) => freed_pair(alloc, left, right),
         _ => Ok(None),
     }
 }
 
 fn position_of_inequality(
+    alloc: Global,
     formulas: &Vec<Formula>,
 ) -> Result<Option<(usize, (Term, Term))>, AllocError>
     ensures { IfOk result (λ o. option_map (λ p. (p.0, pair_of p.1)) o ≡ position_of unequal_spec.inequality_of (map formula_of formulas.now.items)) }
 {
     for (position, formula) in formulas.iter().enumerate() {
-        if let Some(pair) = inequality_of(formula)? {
+        if let Some(pair) = inequality_of(alloc, formula)? {
             return Ok(Some((position, pair)));
         }
     }
@@ -58,7 +59,7 @@ fn keep(alloc: Global, system: &mut System, pair: (Term, Term)) -> Result<(), Al
 pub fn unequal(alloc: Global, system: &mut System) -> Result<bool, AllocError>
     ensures { IfOk result (λ b. Reduced b (system_of system.old) (system_of system.new) (unequal_spec.unequal (system_of system.old))) }
 {
-    let Some((position, pair)) = position_of_inequality(&system.formulas)? else {
+    let Some((position, pair)) = position_of_inequality(alloc, &system.formulas)? else {
         return Ok(false);
     };
     spend(alloc, system, position)?;

@@ -7,13 +7,13 @@ ghost use Rattle.sp_spec_formula.specs.Instances as spec;
 ghost use Rattle.sp_spec_formula.specs.Instantiate as rows;
 ghost use Rattle.sp_spec_system.specs.Picked as picked;
 ghost use Rattle.sp_rows_formula.specs.MatchesView.{finished};
-ghost use Rattle.sp_rows_formula.specs.SlotsView.{slot_of, slots_of};
+ghost use Rattle.sp_rows_formula.specs.SlotsView.{messages_of, slots_of};
 ghost use Rattle.sp_system.specs.Reduced.{Reduced};
 
 use crate::disjunction::is_a_formula;
 use crate::matching::{are_settled, by_equalities, matches};
 use crate::opening::Values;
-use crate::slots::{Slot, Slots, all_terms, all_times, copy_slots};
+use crate::slots::{Messages, Slots, all_terms, all_times};
 use sp_formula::formula::{Atom, Formula};
 use sp_system::system::System;
 use std::alloc::{AllocError, Global};
@@ -21,19 +21,19 @@ use std::alloc::{AllocError, Global};
 // The body with the values, once all are there.
 fn body_with(
     alloc: Global,
-    terms: &Vec<Slot>,
+    messages: &Messages,
     times: &Vec<Option<u128>>,
     body: &Formula,
 ) -> Result<Option<Formula>, AllocError>
-    ensures { IfOk result (λ o. option_map formula_of o ≡ spec.body_with (formula_of body.now) (spec.all_terms (map slot_of terms.now.items)) (spec.all_times times.now.items)) }
+    ensures { IfOk result (λ o. option_map formula_of o ≡ spec.body_with (formula_of body.now) (spec.all_terms (messages_of messages.now)) (spec.all_times times.now.items)) }
 {
-    let Some(messages) = all_terms(alloc, terms)? else {
+    let Some(terms) = all_terms(alloc, messages)? else {
         return Ok(None);
     };
     let Some(moments) = all_times(alloc, times)? else {
         return Ok(None);
     };
-    let made = Values::innermost_first(messages, moments).in_formula(alloc, body)?;
+    let made = Values::innermost_first(terms, moments).in_formula(alloc, body)?;
     Ok(Some(made))
 }
 
@@ -46,14 +46,14 @@ fn instance_by(
 ) -> Result<Option<Formula>, AllocError>
     ensures { IfOk result (λ o. option_map formula_of o ≡ spec.instance_by (map atom_of guard.now.items) (formula_of body.now) (slots_of slots.now)) }
 {
-    let copied = copy_slots(alloc, &slots.terms)?;
-    let Some(terms) = by_equalities(copied, guard)? else {
-        return Ok(None);
-    };
-    if !are_settled(&terms, guard)? {
+    let mut messages = slots.messages.copy(alloc)?;
+    if !by_equalities(alloc, &mut messages, guard)? {
         return Ok(None);
     }
-    let made = body_with(alloc, &terms, &slots.times, body)?;
+    if !are_settled(alloc, &messages, guard)? {
+        return Ok(None);
+    }
+    let made = body_with(alloc, &messages, &slots.times, body)?;
     Ok(made)
 }
 

@@ -1,61 +1,74 @@
 // Actions and equalities of a guard, and the values that they give to what a quantifier binds.
 
-ghost use Rattle.std.specs.Prelude.{◌≡◌, [], ◌∷◌, IfOk, map, option_map};
-ghost use Rattle.sp_term.specs.View.{view, view_all};
+ghost use Rattle.std.specs.Prelude.{◌≡◌, ◌∷◌, [], List, IfOk, map, option_map};
+ghost use Rattle.sp_spec.specs.Term as spec_term;
+ghost use Rattle.sp_spec.specs.Guarded as guarded;
+ghost use Rattle.sp_term.specs.View.{variable_of, view};
+ghost use Rattle.sp_term.specs.Bindings.{answer};
 ghost use Rattle.sp_fact.specs.View.{action_of};
-ghost use Rattle.sp_formula.specs.FormulaView.{placed_term, placed_terms, placed_action, moment_of, atom_of};
+ghost use Rattle.sp_formula.specs.FormulaView.{moment_of, atom_of};
+ghost use Rattle.sp_formula.specs.PlaceView.{place_of, placed_term, placed_action};
 ghost use Rattle.sp_spec_formula.specs.Instances as spec;
 ghost use Rattle.sp_system.specs.SystemView.{event_of};
 ghost use Rattle.sp_rows_formula.specs.MatchesView as found_by;
-ghost use Rattle.sp_rows_formula.specs.SlotsView.{slot_of, slots_of, put_at};
+ghost use Rattle.sp_rows_formula.specs.SlotsView.{messages_of, slots_of, put_at};
 
-use crate::slots::{Slot, Slots, copy_slots, copy_times, put_term, put_time, value_at};
+use crate::slots::{Messages, Slots, copy_times, put_time};
 use sp_fact::fact::Action;
-use sp_formula::formula::{Atom, FormulaAction, FormulaTerm, Moment};
+use sp_formula::formula::{Atom, Moment};
+use sp_formula::place::{FormulaAction, FormulaTerm, Place};
+use sp_formula::slots::{fill, value_at};
 use sp_system::system::Event;
-use sp_term::term::{Term, copy, same};
+use sp_term::apply::{Resolves, resolve};
+use sp_term::matching::{Binds, extend_all};
+use sp_term::term::{Term, Variable, copy, same};
 use std::alloc::{AllocError, Global};
 
-fn matched(
-    slots: Vec<Slot>,
-    term: &FormulaTerm,
-    other: &Term,
-) -> Result<Option<Vec<Slot>>, AllocError>
-    ensures { IfOk result (λ o. option_map (λ xs. map slot_of xs.items) o ≡ spec.matched (map slot_of slots.items) (placed_term term.now) (view other.now)) }
-{
-    match term {
-        FormulaTerm::Bound(place) => {
-            let made = put_term(slots, *place, other)?;
-            Ok(made)
-        }
-        FormulaTerm::Free(term) => {
-            if same(term, other) {
-                Ok(Some(slots))
-            } else {
-                Ok(None)
-            }
+// What is bound takes the value of the term beside it, and a variable of the system stands for itself.
+impl Binds<Place, Variable> for Messages {
+    ghost From = { guarded.Place };
+
+    ghost To = { spec_term.Variable };
+
+    ghost from_of = { place_of };
+
+    ghost to_of = { variable_of };
+
+    ghost Bindings = { List spec.Message };
+
+    ghost bindings = { messages_of };
+
+    ghost bound_by = { spec.matched_place };
+
+    fn bind(&mut self, leaf: &Place, term: &Term) -> Result<bool, AllocError> {
+        match leaf {
+            Place::Bound(place) => fill(&mut self.slots, *place, term, false),
+            Place::Free(variable) => Ok(same(&Term::Var(*variable), term)),
         }
     }
 }
 
-fn matched_all(
-    slots: Vec<Slot>,
-    terms: &Vec<FormulaTerm>,
-    others: &Vec<Term>,
-) -> Result<Option<Vec<Slot>>, AllocError>
-    ensures { IfOk result (λ o. option_map (λ xs. map slot_of xs.items) o ≡ spec.matched_all (map slot_of slots.items) (placed_terms terms.now.items) (view_all others.now.items)) }
-{
-    if terms.len() != others.len() {
-        return Ok(None);
+// The value of what is bound, if it has one by now; a variable of the system stands for itself.
+impl Resolves<Place, Variable> for Messages {
+    ghost From = { guarded.Place };
+
+    ghost To = { spec_term.Variable };
+
+    ghost from_of = { place_of };
+
+    ghost to_of = { variable_of };
+
+    ghost value_of = { λ s. spec.place_value (messages_of s) };
+
+    fn value_where(&self, _alloc: Global, leaf: &Place) -> Result<Option<Term>, AllocError> {
+        match leaf {
+            Place::Bound(place) => match value_at(&self.slots, *place) {
+                Some(value) => Ok(Some(copy(value)?)),
+                None => Ok(None),
+            },
+            Place::Free(variable) => Ok(Some(Term::Var(*variable))),
+        }
     }
-    let mut made = slots;
-    for (term, other) in terms.iter().zip(others) {
-        let Some(next) = matched(made, term, other)? else {
-            return Ok(None);
-        };
-        made = next;
-    }
-    Ok(Some(made))
 }
 
 fn matched_time(times: Vec<Option<u128>>, moment: Moment, time: u128) -> Option<Vec<Option<u128>>>
@@ -85,117 +98,105 @@ pub fn matched_action(
     if action.symbol != other.symbol {
         return Ok(None);
     }
-    let terms = copy_slots(alloc, &slots.terms)?;
-    let Some(terms) = matched_all(terms, &action.args, &other.args)? else {
+    let mut messages = slots.messages.copy(alloc)?;
+    if !extend_all(&action.args, &other.args, &mut messages)? {
         return Ok(None);
-    };
+    }
     let times = copy_times(alloc, &slots.times)?;
     let Some(times) = matched_time(times, moment, time) else {
         return Ok(None);
     };
-    Ok(Some(Slots { terms, times }))
+    Ok(Some(Slots { messages, times }))
 }
 
-// The value of the term, if it is a term of the system or has a value by now.
-fn value_in(slots: &Vec<Slot>, term: &FormulaTerm) -> Result<Option<Term>, AllocError>
-    ensures { IfOk result (λ o. option_map view o ≡ spec.value_in (map slot_of slots.now.items) (placed_term term.now)) }
+// The value of a side of an equality, if it is no application and has a value by now.
+fn side_value(
+    alloc: Global,
+    messages: &Messages,
+    side: &FormulaTerm,
+) -> Result<Option<Term>, AllocError>
+    ensures { IfOk result (λ o. option_map view o ≡ spec.side_value (messages_of messages.now) (placed_term side.now)) }
 {
-    match term {
-        FormulaTerm::Bound(place) => value_at(slots, *place),
-        FormulaTerm::Free(term) => Ok(Some(copy(term)?)),
+    match side {
+        Term::App(_, _, _) => Ok(None),
+        _ => resolve(alloc, messages, side),
     }
 }
 
-// The same, if the term is no application.
-fn side_value(slots: &Vec<Slot>, term: &FormulaTerm) -> Result<Option<Term>, AllocError>
-    ensures { IfOk result (λ o. option_map view o ≡ spec.side_value (map slot_of slots.now.items) (placed_term term.now)) }
+// Gives the term the value, if it is a bound variable, and tells whether it may have it.
+fn give(messages: &mut Messages, term: &FormulaTerm, value: &Term) -> Result<bool, AllocError>
+    ensures { IfOk result (λ b. answer b (messages_of messages.new) ≡ put_at (messages_of messages.old) (spec.place_of_bound (placed_term term.now)) (view value.now)) }
 {
     match term {
-        FormulaTerm::Bound(place) => value_at(slots, *place),
-        FormulaTerm::Free(Term::App(_, _)) => Ok(None),
-        FormulaTerm::Free(term) => Ok(Some(copy(term)?)),
-    }
-}
-
-// With the value, if the term is a bound variable.
-fn with_value(
-    slots: Vec<Slot>,
-    term: &FormulaTerm,
-    value: &Term,
-) -> Result<Option<Vec<Slot>>, AllocError>
-    ensures { IfOk result (λ o. option_map (λ xs. map slot_of xs.items) o ≡ put_at (map slot_of slots.items) (spec.place_of_bound (placed_term term.now)) (view value.now)) }
-{
-    match term {
-        FormulaTerm::Bound(place) => {
-            let made = put_term(slots, *place, value)?;
-            Ok(made)
-        }
-        FormulaTerm::Free(_) => Ok(Some(slots)),
+        Term::Var(Place::Bound(place)) => fill(&mut messages.slots, *place, value, false),
+        _ => Ok(true),
     }
 }
 
 // An equality gives a variable without value the value of its other side.
-fn given(
-    slots: Vec<Slot>,
+fn by_equality(
+    alloc: Global,
+    messages: &mut Messages,
     left: &FormulaTerm,
     right: &FormulaTerm,
-) -> Result<Option<Vec<Slot>>, AllocError>
-    ensures { IfOk result (λ o. option_map (λ xs. map slot_of xs.items) o ≡ spec.given (map slot_of slots.items) (spec.place_of_bound (placed_term left.now)) (spec.side_value (map slot_of slots.items) (placed_term left.now)) (spec.place_of_bound (placed_term right.now)) (spec.side_value (map slot_of slots.items) (placed_term right.now))) }
+) -> Result<bool, AllocError>
+    ensures { IfOk result (λ b. answer b (messages_of messages.new) ≡ spec.given (messages_of messages.old) (spec.place_of_bound (placed_term left.now)) (spec.side_value (messages_of messages.old) (placed_term left.now)) (spec.place_of_bound (placed_term right.now)) (spec.side_value (messages_of messages.old) (placed_term right.now))) }
 {
-    let first = side_value(&slots, left)?;
-    let second = side_value(&slots, right)?;
+    let first = side_value(alloc, messages, left)?;
+    let second = side_value(alloc, messages, right)?;
     match (first, second) {
-        (None, Some(value)) => {
-            let made = with_value(slots, left, &value)?;
-            Ok(made)
-        }
-        (Some(value), None) => {
-            let made = with_value(slots, right, &value)?;
-            Ok(made)
-        }
-        _ => Ok(Some(slots)),
+        (None, Some(value)) => give(messages, left, &value),
+        (Some(value), None) => give(messages, right, &value),
+        _ => Ok(true),
     }
 }
 
-/// The slots with the values that the equalities give, one after another.
+/// Gives the values that the equalities give, one after another, and tells whether they may.
 ///
 /// # Errors
 ///
 /// `AllocError` where memory is wanting.
-pub fn by_equalities(slots: Vec<Slot>, guard: &Vec<Atom>) -> Result<Option<Vec<Slot>>, AllocError>
-    ensures { IfOk result (λ o. option_map (λ xs. map slot_of xs.items) o ≡ spec.by_equalities (map slot_of slots.items) (map atom_of guard.now.items)) }
+pub fn by_equalities(
+    alloc: Global,
+    messages: &mut Messages,
+    guard: &Vec<Atom>,
+) -> Result<bool, AllocError>
+    ensures { IfOk result (λ b. answer b (messages_of messages.new) ≡ spec.by_equalities (messages_of messages.old) (map atom_of guard.now.items)) }
 {
-    let mut made = slots;
     for atom in guard {
         if let Atom::Same(left, right) = atom {
-            let Some(next) = given(made, left, right)? else {
-                return Ok(None);
-            };
-            made = next;
+            if !by_equality(alloc, messages, left, right)? {
+                return Ok(false);
+            }
         }
     }
-    Ok(Some(made))
+    Ok(true)
 }
 
-fn are_alike(slots: &Vec<Slot>, left: &FormulaTerm, right: &FormulaTerm) -> Result<bool, AllocError>
-    ensures { IfOk result (λ b. b ≡ spec.are_alike (spec.value_in (map slot_of slots.now.items) (placed_term left.now)) (spec.value_in (map slot_of slots.now.items) (placed_term right.now))) }
+fn are_alike(
+    alloc: Global,
+    messages: &Messages,
+    left: &FormulaTerm,
+    right: &FormulaTerm,
+) -> Result<bool, AllocError>
+    ensures { IfOk result (λ b. b ≡ spec.are_alike (spec.value_in (messages_of messages.now) (placed_term left.now)) (spec.value_in (messages_of messages.now) (placed_term right.now))) }
 {
-    let Some(first) = value_in(slots, left)? else {
+    let Some(first) = resolve(alloc, messages, left)? else {
         return Ok(false);
     };
-    let Some(second) = value_in(slots, right)? else {
+    let Some(second) = resolve(alloc, messages, right)? else {
         return Ok(false);
     };
     Ok(same(&first, &second))
 }
 
-fn is_settled(slots: &Vec<Slot>, atom: &Atom) -> Result<bool, AllocError>
-    ensures { IfOk result (λ b. b ≡ spec.are_settled (map slot_of slots.now.items) (atom_of atom.now ∷ [])) }
+fn is_settled(alloc: Global, messages: &Messages, atom: &Atom) -> Result<bool, AllocError>
+    ensures { IfOk result (λ b. b ≡ spec.are_settled (messages_of messages.now) (atom_of atom.now ∷ [])) }
 {
     match atom {
         Atom::Acts(_, _) => Ok(true),
         Atom::Same(left, right) => {
-            let is_alike = are_alike(slots, left, right)?;
+            let is_alike = are_alike(alloc, messages, left, right)?;
             Ok(is_alike)
         }
         _ => Ok(false),
@@ -207,11 +208,15 @@ fn is_settled(slots: &Vec<Slot>, atom: &Atom) -> Result<bool, AllocError>
 /// # Errors
 ///
 /// `AllocError` where memory is wanting.
-pub fn are_settled(slots: &Vec<Slot>, guard: &Vec<Atom>) -> Result<bool, AllocError>
-    ensures { IfOk result (λ b. b ≡ spec.are_settled (map slot_of slots.now.items) (map atom_of guard.now.items)) }
+pub fn are_settled(
+    alloc: Global,
+    messages: &Messages,
+    guard: &Vec<Atom>,
+) -> Result<bool, AllocError>
+    ensures { IfOk result (λ b. b ≡ spec.are_settled (messages_of messages.now) (map atom_of guard.now.items)) }
 {
     for atom in guard {
-        if !is_settled(slots, atom)? {
+        if !is_settled(alloc, messages, atom)? {
             return Ok(false);
         }
     }

@@ -1,20 +1,20 @@
 // Values for what a formula binds, and what they put into it; among them new variables for the binders of an existential formula.
 
 ghost use Rattle.std.specs.Prelude.{◌≡◌, ◌+◌, IfOk, length, map};
-ghost use Rattle.sp_spec.specs.Term.{valued, valued_all};
-ghost use Rattle.sp_spec.specs.Rule.{action_at};
+ghost use Rattle.sp_spec.specs.Guarded as guarded;
 ghost use Rattle.sp_term.specs.View.{view};
 ghost use Rattle.sp_spec.specs.Change.{place_changed, time_changed, atom_changed, changed, opening};
-ghost use Rattle.sp_formula.specs.FormulaView.{placed_term, placed_terms, placed_action, moment_of, atom_of, binder_of, formula_of};
+ghost use Rattle.sp_formula.specs.FormulaView.{moment_of, atom_of, binder_of, formula_of};
+ghost use Rattle.sp_formula.specs.PlaceView.{place_of, placed_term};
 ghost use Rattle.sp_spec_formula.specs.Instances.{instance};
 ghost use Rattle.sp_rows_formula.specs.InsideView.{inside_of};
 ghost use Rattle.sp_rows_formula.specs.OpeningView.{change_of, put};
 
 use crate::inside::Inside;
-use sp_formula::formula::{
-    Atom, Binder, Formula, FormulaAction, FormulaTerm, Moment, copy_binders,
-};
-use sp_term::term::{Term, Variable, copy};
+use sp_formula::formula::{Atom, Binder, Formula, Moment, copy_binders};
+use sp_formula::place::{FormulaTerm, Place, placed};
+use sp_term::apply::{Assigns, apply};
+use sp_term::term::{Term, Variable};
 use std::alloc::{AllocError, Global};
 
 /// What stands for the variables that binders bind, in the order of the binders: the innermost is the last one.
@@ -24,6 +24,34 @@ pub struct Values {
     pub messages: Vec<Term>,
     /// for those of times
     pub times: Vec<u128>,
+}
+
+/// Values inside of a formula, under binders of its own.
+#[derive(Clone, Copy)]
+struct ValuesInside<'a> {
+    // the values
+    values: &'a Values,
+    // the binders that stand between
+    inside: Inside,
+}
+
+impl<'a> Assigns<Place, Place> for ValuesInside<'a> {
+    ghost From = { guarded.Place };
+
+    ghost To = { guarded.Place };
+
+    ghost from_of = { place_of };
+
+    ghost to_of = { place_of };
+
+    ghost value_of = { λ s. place_changed (inside_of s.inside (change_of s.values.now)) };
+
+    fn value(&self, alloc: Global, leaf: &Place) -> Result<FormulaTerm, AllocError> {
+        match leaf {
+            Place::Bound(place) => self.values.message(alloc, self.inside, *place),
+            Place::Free(_) => Ok(Term::Var(*leaf)),
+        }
+    }
 }
 
 /// New variables for binders.
@@ -93,19 +121,18 @@ impl Values {
         Values { messages, times }
     }
 
-    fn message(&self, inside: Inside, place: u64) -> Result<FormulaTerm, AllocError>
+    fn message(&self, alloc: Global, inside: Inside, place: u64) -> Result<FormulaTerm, AllocError>
         ensures { IfOk result (λ t. placed_term t ≡ (inside_of inside (change_of self.now)).bound_terms place) }
     {
         if place < inside.messages {
-            return Ok(FormulaTerm::Bound(place));
+            return Ok(Term::Var(Place::Bound(place)));
         }
         let beyond = place - inside.messages;
         let count = self.messages.len() as u64;
         if beyond < count {
-            let value = copy(&self.messages[(count - 1 - beyond) as usize])?;
-            Ok(FormulaTerm::Free(value))
+            placed(alloc, &self.messages[(count - 1 - beyond) as usize])
         } else {
-            Ok(FormulaTerm::Bound(place - count))
+            Ok(Term::Var(Place::Bound(place - count)))
         }
     }
 
@@ -124,15 +151,6 @@ impl Values {
         }
     }
 
-    fn in_term(&self, inside: Inside, term: &FormulaTerm) -> Result<FormulaTerm, AllocError>
-        ensures { IfOk result (λ t. placed_term t ≡ valued (place_changed (inside_of inside (change_of self.now))) (placed_term term.now)) }
-    {
-        match term {
-            FormulaTerm::Bound(place) => self.message(inside, *place),
-            FormulaTerm::Free(term) => Ok(FormulaTerm::Free(copy(term)?)),
-        }
-    }
-
     fn in_moment(&self, inside: Inside, moment: Moment) -> Moment
         ensures { moment_of result ≡ time_changed (inside_of inside (change_of self.now)) (moment_of moment) }
     {
@@ -142,45 +160,21 @@ impl Values {
         }
     }
 
-    fn in_terms(
-        &self,
-        alloc: Global,
-        inside: Inside,
-        terms: &Vec<FormulaTerm>,
-    ) -> Result<Vec<FormulaTerm>, AllocError>
-        ensures { IfOk result (λ ts. placed_terms ts.items ≡ valued_all (place_changed (inside_of inside (change_of self.now))) (placed_terms terms.now.items)) }
-    {
-        let mut made = Vec::with_capacity(alloc, terms.len())?;
-        for term in terms {
-            made.push(self.in_term(inside, term)?)?;
-        }
-        Ok(made)
-    }
-
-    fn in_action(
-        &self,
-        alloc: Global,
-        inside: Inside,
-        action: &FormulaAction,
-    ) -> Result<FormulaAction, AllocError>
-        ensures { IfOk result (λ a. placed_action a ≡ action_at (place_changed (inside_of inside (change_of self.now))) (placed_action action.now)) }
-    {
-        let symbol = action.symbol.copy()?;
-        let args = self.in_terms(alloc, inside, &action.args)?;
-        Ok(FormulaAction { symbol, args })
-    }
-
     fn atom_inside(&self, alloc: Global, inside: Inside, atom: &Atom) -> Result<Atom, AllocError>
         ensures { IfOk result (λ a. atom_of a ≡ atom_changed (inside_of inside (change_of self.now)) (atom_of atom.now)) }
     {
+        let values = ValuesInside {
+            values: self,
+            inside,
+        };
         match atom {
             Atom::Acts(action, time) => {
-                let action = self.in_action(alloc, inside, action)?;
+                let action = action.changed(alloc, &values)?;
                 Ok(Atom::Acts(action, self.in_moment(inside, *time)))
             }
             Atom::Same(left, right) => {
-                let left = self.in_term(inside, left)?;
-                let right = self.in_term(inside, right)?;
+                let left = apply(alloc, &values, left)?;
+                let right = apply(alloc, &values, right)?;
                 Ok(Atom::Same(left, right))
             }
             Atom::SameTime(first, second) => Ok(Atom::SameTime(

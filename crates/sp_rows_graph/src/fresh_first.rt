@@ -23,7 +23,7 @@ fn has_term(term: &Term, sought: &Term) -> bool
     ensures { result ≡ rows.occurs_in (view sought.now) (view term.now) }
 {
     match term {
-        Term::App(_, terms) => same(sought, term) || have_term(terms, sought),
+        Term::App(_, terms, _) => same(sought, term) || have_term(terms, sought),
         _ => same(sought, term),
     }
 }

@@ -101,7 +101,7 @@ fn write_at(out: &mut String, term: &GroundTerm, ends: bool) -> Result<(), Alloc
         Term::Var(never) => match never.leaf {},
         Term::Constant(name) => write_constant(out, name),
         Term::FreshName(number) => write_fresh_name(out, *number),
-        Term::App(symbol, shared) => {
+        Term::App(symbol, shared, _) => {
             let terms: &Vec<GroundTerm> = shared;
             write_opening(out, symbol, terms, ends)?;
             write_row(out, terms, is_pair(symbol, terms))?;

@@ -48,7 +48,7 @@ fn see_term(term: &Term, seen: &mut Vec<Variable>) -> Result<(), AllocError>
     match term {
         Term::Var(variable) => see(seen, *variable),
         Term::Constant(_) | Term::FreshName(_) => Ok(()),
-        Term::App(_, terms) => see_terms(terms, seen),
+        Term::App(_, terms, _) => see_terms(terms, seen),
     }
 }
 

@@ -7,5 +7,9 @@ pub mod Sorts
 pub mod Listed
 pub mod Occurrences
 pub mod Values
+pub mod Variables
+pub mod Slots
+pub mod Matching
+pub mod Bindings
 pub mod Standing
 pub mod Logs

@@ -1,5 +1,17 @@
 -- What an option is made of where it is there, and what follows where a result is.
-use Rattle.std.proofs.Common.{◌≡◌, Option, Some, None, option_map, option_and_then, Result, Ok, Err, IfOk, OnOk, refl}
+use Rattle.std.proofs.Common.{◌≡◌, Bool, true, false, if◌then◌else◌, Option, Some, None, option_map, option_and_then, Result, Ok, Err, IfOk, OnOk, refl}
+
+pub some_same : {A : Type 0} (x y : A) → Some x ≡ Some y → y ≡ x
+some_same x y e = let g : y ≡ x = cc in g
+
+-- what is there under a test
+pub if_some : {A : Type 0} (b : Bool) (o : Option A) (y : A) → (if b then o else None) ≡ Some y → (b ≡ true) × (o ≡ Some y)
+if_some true o y e = (refl, e)
+if_some false o y e = absurd cc
+
+pub then_if : {A : Type 0} (b : Bool) (o : Option A) → b ≡ true → (if b then o else None) ≡ o
+then_if true o e = refl
+then_if false o e = absurd cc
 
 pub mapped : {A B : Type 0} (f : A → B) (o : Option A) (y : B) → option_map f o ≡ Some y → (x : A) × (o ≡ Some x) × (y ≡ f x)
 mapped f None y e = absurd cc

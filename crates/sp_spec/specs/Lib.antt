@@ -20,3 +20,4 @@ pub mod Findings
 pub mod Change
 pub mod SameFormula
 pub mod Matching
+pub mod Slots

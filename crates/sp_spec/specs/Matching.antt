@@ -1,8 +1,8 @@
 -- Matching of a pattern with a term: what its variables are bound to, in the order in which they stand in it. How one is bound beside a term
 -- is a step of any kind. Source: Schmidt's thesis, chapter 2 (matching).
-use Rattle.std.specs.Prelude.{List, [], ◌∷◌, ◌++◌, Bool, true, false, ◌==◌, if◌then◌else◌, Option, Some, None, option_and_then}
+use Rattle.std.specs.Prelude.{◌≡◌, List, [], ◌∷◌, ◌++◌, Bool, true, false, ◌==◌, if◌then◌else◌, Option, Some, None, option_and_then}
 use Rattle.std.specs.Str.{bytes_eq}
-use Rattle.sp_spec.specs.Term.{Sort, Msg, Fresh, Pub, Variable, Term, var, constant, name, app, Terms, none, more}
+use Rattle.sp_spec.specs.Term.{Sort, Msg, Fresh, Pub, Variable, Term, var, constant, name, app, Terms, none, more, valued}
 use Rattle.sp_spec.specs.Same.{same_sort, same_by}
 use Rattle.sp_spec.specs.Substitution.{lookup}
 
@@ -42,3 +42,22 @@ kept_or test of_sort (Some u) x t bs = if same_by test u t then Some bs else Non
 
 abbrev pub bound_by : {V : Type 0} → (V → V → Bool) → (Sort → V → Bool) → Variable → Term V → List (Variable × Term V) → Option (List (Variable × Term V))
 bound_by test of_sort x t bs = kept_or test of_sort (lookup bs x) x t bs
+
+-- terms for variables, each of its variable's sort
+abbrev pub KeepsSorts : {V : Type 0} → (Sort → V → Bool) → (Variable → Term V) → Type 0
+KeepsSorts of_sort v = (x : Variable) → has_sort_by of_sort x.sort (v x) ≡ true
+
+-- they are those of the bindings, where these have one
+abbrev pub Agrees : {V : Type 0} → (Variable → Term V) → List (Variable × Term V) → Type 0
+Agrees {V} v bs = (x : Variable) (t : Term V) → lookup bs x ≡ Some t → v x ≡ t
+
+-- Terms that agree with the bindings make the pattern the term; each binding is of its variable's sort; and terms that keep sorts and make the
+-- pattern the term agree with the bindings.
+pub record IsMatch {V : Type 0} (of_sort : Sort → V → Bool) (pattern : Term Variable) (term : Term V) (bs : List (Variable × Term V)) : Type 0 where
+  pub gives : (v : Variable → Term V) → Agrees v bs → valued v pattern ≡ term
+  pub sorted : (x : Variable) (t : Term V) → lookup bs x ≡ Some t → has_sort_by of_sort x.sort t ≡ true
+  pub forced : (v : Variable → Term V) → KeepsSorts of_sort v → valued v pattern ≡ term → Agrees v bs
+
+-- no terms that keep sorts make the pattern the term
+abbrev pub NoneMatches : {V : Type 0} → (Sort → V → Bool) → Term Variable → Term V → Type 0
+NoneMatches {V} of_sort pattern term = (v : Variable → Term V) → KeepsSorts of_sort v → valued v pattern ≡ term → ⊥

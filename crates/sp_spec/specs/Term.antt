@@ -1,7 +1,7 @@
 -- Message terms. Source: Schmidt, Meier, Cremers and Basin, CSF 2012, section "Cryptographic messages"; Tamarin manual,
 -- "Cryptographic messages". Terms are over variables of any kind: those of a rule or a system, those that a text names,
 -- bound ones, or none at all.
-use Rattle.std.specs.Prelude.{ℕ, suc, List, [], ◌∷◌, ◌++◌}
+use Rattle.std.specs.Prelude.{ℕ, suc, List, [], ◌∷◌, ◌++◌, Bool, true, false, ◌&&◌, ◌||◌, Option, Some, option_map, option_and_then}
 
 -- fresh and pub are subsorts of msg, and have nothing in common
 pub data Sort : Type 0 where
@@ -44,6 +44,42 @@ abbrev mutual
   pub valued_all : {V W : Type 0} → (V → Term W) → Terms V → Terms W
   valued_all v none = none
   valued_all v (more t ts) = more (valued v t) (valued_all v ts)
+
+-- the same where a variable may stand for nothing: then there is no such term
+abbrev mutual
+  pub valued_where : {V W : Type 0} → (V → Option (Term W)) → Term V → Option (Term W)
+  valued_where v (var x) = v x
+  valued_where v (constant c) = Some (constant c)
+  valued_where v (name n) = Some (name n)
+  valued_where v (app f ts) = option_map (app f) (valued_all_where v ts)
+
+  pub valued_all_where : {V W : Type 0} → (V → Option (Term W)) → Terms V → Option (Terms W)
+  valued_all_where v none = Some none
+  valued_all_where v (more t ts) = option_and_then (λ u. option_map (more u) (valued_all_where v ts)) (valued_where v t)
+
+-- whether each variable of the term passes a test
+abbrev mutual
+  pub each_variable : {V : Type 0} → (V → Bool) → Term V → Bool
+  each_variable passes (var x) = passes x
+  each_variable passes (constant c) = true
+  each_variable passes (name n) = true
+  each_variable passes (app f ts) = each_variables passes ts
+
+  pub each_variables : {V : Type 0} → (V → Bool) → Terms V → Bool
+  each_variables passes none = true
+  each_variables passes (more t ts) = each_variable passes t && each_variables passes ts
+
+-- whether one of them does
+abbrev mutual
+  pub some_variable : {V : Type 0} → (V → Bool) → Term V → Bool
+  some_variable passes (var x) = passes x
+  some_variable passes (constant c) = false
+  some_variable passes (name n) = false
+  some_variable passes (app f ts) = some_variables passes ts
+
+  pub some_variables : {V : Type 0} → (V → Bool) → Terms V → Bool
+  some_variables passes none = false
+  some_variables passes (more t ts) = some_variable passes t || some_variables passes ts
 
 -- the variables as they stand in the term, from left to right
 abbrev mutual

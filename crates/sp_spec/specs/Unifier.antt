@@ -1,8 +1,8 @@
 -- The most general unifier of pairs of terms, by sorts. Source: CSF 2012, "Constraint solving" (unification of order-sorted
 -- terms); Robinson's elimination of one variable after another.
-use Rattle.std.specs.Prelude.{◌≡◌, ℕ, zero, suc, ◌+◌, List, [], ◌∷◌, Bool, true, false, not, ◌&&◌, ◌||◌, ◌==◌, nat_lt, if◌then◌else◌, Option, Some, None}
+use Rattle.std.specs.Prelude.{◌≡◌, ℕ, zero, suc, ◌+◌, List, [], ◌∷◌, Bool, true, false, not, ◌&&◌, ◌==◌, nat_lt, if◌then◌else◌, Option, Some, None}
 use Rattle.std.specs.Str.{bytes_eq}
-use Rattle.sp_spec.specs.Term.{Sort, Msg, Fresh, Pub, Variable, Term, var, constant, name, app, Terms, none, more, Values, valued}
+use Rattle.sp_spec.specs.Term.{Sort, Msg, Fresh, Pub, Variable, Term, var, constant, name, app, Terms, none, more, Values, valued, some_variable, some_variables}
 use Rattle.sp_spec.specs.Same.{same_variable}
 use Rattle.sp_spec.specs.Substitution.{Binding, bound_to, followed_by}
 
@@ -20,16 +20,11 @@ pub data Difference : Type 0 where
   clash : Difference
   binding : Variable → Term Variable → Difference
 
-abbrev mutual
-  pub occurs : Variable → Term Variable → Bool
-  occurs x (var y) = same_variable x y
-  occurs x (constant c) = false
-  occurs x (name n) = false
-  occurs x (app f ts) = occurs_in x ts
+abbrev pub occurs : Variable → Term Variable → Bool
+occurs x t = some_variable (same_variable x) t
 
-  pub occurs_in : Variable → Terms Variable → Bool
-  occurs_in x none = false
-  occurs_in x (more t ts) = occurs x t || occurs_in x ts
+abbrev pub occurs_in : Variable → Terms Variable → Bool
+occurs_in x ts = some_variables (same_variable x) ts
 
 -- a term that is no variable may stand for a variable of the sort
 abbrev pub may_stand : Sort → Term Variable → Bool

@@ -1,23 +1,21 @@
 -- The formulas of a system: their terms, and the first formula of which something is picked.
 use Rattle.std.specs.Prelude.{Option, Some, None, option_map, option_and_then, List, ◌∷◌, [], ◌++◌}
-use Rattle.sp_spec.specs.Term.{Variable, Term, var, constant, name, app, Terms, none, more}
+use Rattle.sp_spec.specs.Term.{Variable, Term, var, Terms, valued_where, valued_all_where}
 use Rattle.sp_spec.specs.Guarded.{Place, free, bound, Guarded, Guardeds, no_more, and_then}
 use Rattle.sp_spec.specs.Rule.{Action}
 use Rattle.sp_spec_system.specs.System.{System, with_formulas, with_spent}
 use Rattle.sp_spec.specs.Unifier.{Pair}
 
 -- a term of a formula that binds none of its variables is a term of the system
-abbrev mutual
-  pub freed : Term Place → Option (Term Variable)
-  freed (var (free x)) = Some (var x)
-  freed (var (bound k)) = None
-  freed (constant c) = Some (constant c)
-  freed (name n) = Some (name n)
-  freed (app f ts) = option_map (app f) (freed_all ts)
+abbrev pub freed_place : Place → Option (Term Variable)
+freed_place (free x) = Some (var x)
+freed_place (bound k) = None
 
-  pub freed_all : Terms Place → Option (Terms Variable)
-  freed_all none = Some none
-  freed_all (more t ts) = option_and_then (λ u. option_map (more u) (freed_all ts)) (freed t)
+abbrev pub freed : Term Place → Option (Term Variable)
+freed t = valued_where freed_place t
+
+abbrev pub freed_all : Terms Place → Option (Terms Variable)
+freed_all ts = valued_all_where freed_place ts
 
 abbrev pub freed_action : Action Place → Option (Action Variable)
 freed_action a = option_map (λ us. record { symbol = a.symbol; args = us }) (freed_all a.args)

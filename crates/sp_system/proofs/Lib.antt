@@ -2,8 +2,6 @@ pub mod Pairs
 pub mod Paths
 pub mod WithoutSinks
 pub mod EndsKept
-pub mod Frees
-pub mod FreedTerms
 pub mod MergingSearches
 pub mod Merges
 pub mod MergingPlaces

@@ -2,3 +2,4 @@ pub mod Lists
 pub mod Applied
 pub mod Loops
 pub mod Rows
+pub mod Resolved

@@ -45,7 +45,7 @@ pub fn extend<L, M, B: Binds<L, M>>(
         (Term::Var(x), _) => found.bind(x, term),
         (Term::Constant(c), Term::Constant(d)) => Ok(*c == *d),
         (Term::FreshName(m), Term::FreshName(n)) => Ok(*m == *n),
-        (Term::App(f, ps), Term::App(g, ts)) => {
+        (Term::App(f, ps, _), Term::App(g, ts, _)) => {
             if *f == *g {
                 extend_all(ps, ts, found)
             } else {

@@ -1,12 +1,12 @@
 // Terms over leaves of any kind, and what is done to them without any theory.
 
-ghost use Rattle.std.specs.Prelude.{◌≡◌, ◌↔◌, IfOk, IsTrue, Bool};
+ghost use Rattle.std.specs.Prelude.{◌≡◌, ◌≤◌, ◌+◌, ◌↔◌, IfOk, IsTrue, Bool, MatchResult, map};
 ghost use Rattle.std.specs.Bool.{Decides};
 ghost use Rattle.sp_spec.specs.Term as spec;
 ghost use Rattle.sp_spec.specs.Same.{same_variable, no_test, same_by, same_all_by};
 ghost use Rattle.sp_spec.specs.Matching.{has_sort_by, variable_has_sort, never_has_sort};
 ghost use Rattle.sp_spec.proofs.Same.{same_variable_decides, no_test_decides};
-ghost use Rattle.sp_term.specs.View.{sort_of, name_of, variable_of, never_of, view_by, view_all_by};
+ghost use Rattle.sp_term.specs.View.{sort_of, name_of, variable_of, never_of, view_by, view_all_by, nesting_of, deepest};
 ghost use Rattle.sp_term.specs.LeafLaws.{variable_tests};
 
 use std::alloc::{AllocError, Global};
@@ -106,9 +106,12 @@ pub enum Term<L = Variable> {
     Constant(Name),
     /// a fresh name, by its number
     FreshName(u128),
-    /// a symbol over arguments
-    App(Name, Rc<Vec<Term<L>>>),
+    /// a symbol over arguments, and how deep the term nests
+    App(Name, Rc<Vec<Term<L>>>, u32),
 }
+
+/// How deep terms may nest. One that would nest deeper is want of memory, so that whatever goes down a term stays within the stack.
+pub const MOST_NESTED: u32 = 10_000;
 
 impl Leaf for Variable {
     ghost Kind = { spec.Variable };
@@ -157,6 +160,38 @@ impl Leaf for Never {
     ghost decides = { no_test_decides };
 }
 
+/// How deep the term nests: 0 where it is no application.
+fn nesting<L>(term: &Term<L>) -> u32
+    ensures { result ≡ nesting_of term.now }
+{
+    match term {
+        Term::App(_, _, nesting) => *nesting,
+        _ => 0,
+    }
+}
+
+/// How deep a symbol over these terms nests.
+///
+/// # Errors
+///
+/// `AllocError` where it would nest deeper than terms may.
+pub fn nesting_over<L>(terms: &Vec<Term<L>>) -> Result<u32, AllocError>
+    ensures { MatchResult result (λ n. n ≡ deepest (map nesting_of terms.now.items) + 1) (λ e. MOST_NESTED ≤ deepest (map nesting_of terms.now.items)) }
+{
+    let mut most: u32 = 0;
+    for term in terms {
+        let depth = nesting(term);
+        if depth > most {
+            most = depth;
+        }
+    }
+    if most < MOST_NESTED {
+        Ok(most + 1)
+    } else {
+        Err(AllocError)
+    }
+}
+
 /// Whether two terms are the same.
 pub fn same<L: Leaf>(a: &Term<L>, b: &Term<L>) -> bool
     ensures tests { result ≡ same_by L.test (view_by L.leaf_of a.now) (view_by L.leaf_of b.now) }
@@ -173,7 +208,7 @@ fn same_tree<L: Leaf>(a: &Term<L>, b: &Term<L>) -> bool
         (Term::Var(x), Term::Var(y)) => *x == *y,
         (Term::Constant(x), Term::Constant(y)) => *x == *y,
         (Term::FreshName(x), Term::FreshName(y)) => *x == *y,
-        (Term::App(f, xs), Term::App(g, ys)) => *f == *g && all_same(xs, ys),
+        (Term::App(f, xs, _), Term::App(g, ys, _)) => *f == *g && all_same(xs, ys),
         _ => false,
     }
 }
@@ -202,10 +237,10 @@ pub fn copy<L: Leaf>(term: &Term<L>) -> Result<Term<L>, AllocError>
         Term::Var(x) => Ok(Term::Var(*x)),
         Term::Constant(name) => Ok(Term::Constant(name.copy()?)),
         Term::FreshName(n) => Ok(Term::FreshName(*n)),
-        Term::App(symbol, terms) => {
+        Term::App(symbol, terms, nesting) => {
             let name = symbol.copy()?;
             let shared = terms.clone()?;
-            Ok(Term::App(name, shared))
+            Ok(Term::App(name, shared, *nesting))
         }
     }
 }

@@ -1,10 +1,11 @@
 // Truth of formulas over a trace.
 
 use sp_eval::truth::holds;
-use sp_formula::formula::{Atom, Formula, FormulaAction, FormulaTerm, Moment};
+use sp_formula::formula::{Atom, Formula, Moment};
+use sp_formula::place::FormulaAction;
 use sp_ground::fact::Trace;
 use sp_term::term::{Name, Sort, Term};
-use sp_test_make::formulas::{exists, for_all, free_constant, messages_and_times};
+use sp_test_make::formulas::{bound, exists, for_all, free_constant, messages_and_times};
 use sp_test_make::ground::{public, shown};
 use std::alloc::{AllocError, Global};
 use std::test::Fail;
@@ -28,7 +29,7 @@ fn run(alloc: Global) -> Result<Trace, AllocError> {
 fn acts(alloc: Global, symbol: &str, places: &[u64]) -> Result<Atom, AllocError> {
     let mut args = Vec::new(alloc);
     for place in places {
-        args.push(FormulaTerm::Bound(*place))?;
+        args.push(bound(*place))?;
     }
     let symbol = Name::new(alloc, symbol)?;
     Ok(Atom::Acts(FormulaAction { symbol, args }, Moment::Bound(0)))
@@ -59,10 +60,7 @@ fn some_b(alloc: Global, before: Moment, after: Moment) -> Result<Formula, Alloc
 // Ex x #i. C()@i & x = the public name, and Ex y #j. B(x, y)@j & #j < #i
 fn named(alloc: Global, text: &str) -> Result<Formula, AllocError> {
     let name = free_constant(alloc, text)?;
-    let guard = vec![in alloc;
-        acts(alloc, "C", &[])?,
-        Atom::Same(FormulaTerm::Bound(0), name),
-    ]?;
+    let guard = vec![in alloc; acts(alloc, "C", &[])?, Atom::Same(bound(0), name)]?;
     let inner = some_b(alloc, Moment::Bound(0), Moment::Bound(1))?;
     let binders = messages_and_times(alloc, &[Sort::Msg])?;
     exists(alloc, binders, guard, inner)

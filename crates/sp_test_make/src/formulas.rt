@@ -1,18 +1,23 @@
 // Atoms and formulas.
 
-use crate::terms::{constant, variable};
-use sp_formula::formula::{Atom, Binder, Formula, FormulaAction, FormulaTerm, Moment};
-use sp_term::term::{Name, Sort};
+use sp_formula::formula::{Atom, Binder, Formula, Moment};
+use sp_formula::place::{FormulaAction, FormulaTerm, Place};
+use sp_term::term::{Name, Sort, Term, Variable};
 use std::alloc::{AllocError, Global};
 
 /// The public name of this text, in a formula.
 pub fn free_constant(alloc: Global, text: &str) -> Result<FormulaTerm, AllocError> {
-    Ok(FormulaTerm::Free(constant(alloc, text)?))
+    Ok(Term::Constant(Name::new(alloc, text)?))
 }
 
 /// The variable of this sort and number, in a formula.
 pub fn free_variable(sort: Sort, number: u128) -> FormulaTerm {
-    FormulaTerm::Free(variable(sort, number))
+    Term::Var(Place::Free(Variable { sort, number }))
+}
+
+/// The message that a formula binds at this place, the innermost at 0.
+pub fn bound(place: u64) -> FormulaTerm {
+    Term::Var(Place::Bound(place))
 }
 
 /// The action of the symbol over this term, at this moment.

@@ -3,7 +3,7 @@
 use sp_ground::fact::{GroundAction, GroundFact};
 use sp_ground::step::{Given, Step};
 use sp_ground::term::GroundTerm;
-use sp_term::term::{Name, Term};
+use sp_term::term::{Name, Term, nesting_over};
 use std::alloc::{AllocError, Global};
 use std::rc::Rc;
 
@@ -19,7 +19,8 @@ pub fn applied(
     args: Vec<GroundTerm>,
 ) -> Result<GroundTerm, AllocError> {
     let symbol = Name::new(alloc, symbol)?;
-    Ok(Term::App(symbol, Rc::new(alloc, args)?))
+    let nesting = nesting_over(&args)?;
+    Ok(Term::App(symbol, Rc::new(alloc, args)?, nesting))
 }
 
 /// The pair of two terms.

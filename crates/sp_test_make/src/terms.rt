@@ -1,6 +1,6 @@
 // Terms of rules and of systems.
 
-use sp_term::term::{Name, Sort, Term, Variable};
+use sp_term::term::{Name, Sort, Term, Variable, nesting_over};
 use std::alloc::{AllocError, Global};
 use std::rc::Rc;
 
@@ -27,7 +27,8 @@ pub fn constant(alloc: Global, text: &str) -> Result<Term, AllocError> {
 pub fn pair(alloc: Global, first: Term, second: Term) -> Result<Term, AllocError> {
     let parts = vec![in alloc; first, second]?;
     let name = Name::new(alloc, "pair")?;
-    Ok(Term::App(name, Rc::new(alloc, parts)?))
+    let nesting = nesting_over(&parts)?;
+    Ok(Term::App(name, Rc::new(alloc, parts)?, nesting))
 }
 
 /// Variables of these sorts and numbers.

@@ -22,7 +22,7 @@ fn write_term(alloc: Global, out: &mut String, term: &GroundTerm) -> Result<(), 
             let text = format!(in alloc; "{number}")?;
             out.push_str(&text)
         }
-        Term::App(symbol, terms) => {
+        Term::App(symbol, terms, _) => {
             out.push_str(symbol.text.as_str())?;
             write_terms(alloc, out, terms)
         }

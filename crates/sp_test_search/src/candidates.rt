@@ -3,7 +3,8 @@
 use crate::examples::Parts;
 use sp_fact::fact::Facts;
 use sp_fact::rule::Rule;
-use sp_formula::formula::{Atom, Formula, FormulaAction, Moment};
+use sp_formula::formula::{Atom, Formula, Moment};
+use sp_formula::place::FormulaAction;
 use sp_ground::term::GroundTerm;
 use sp_log::log::{Entry, Log, Source};
 use sp_solved::{candidate, found};

@@ -5,7 +5,7 @@ use sp_formula::formula::{Atom, Formula};
 use sp_step::reduce::Row;
 use sp_step::simplify::simplify;
 use sp_system::system::{Link, System};
-use sp_term::term::Sort;
+use sp_term::term::{Sort, copy};
 use sp_test_make::formulas::{before, free_constant, free_variable, same_time};
 use sp_test_make::systems::{link, system, system_of_one, takers, taking_fresh};
 use sp_test_make::terms::variable;
@@ -45,7 +45,7 @@ fn of_formulas(alloc: Global) -> Result<Vec<Case>, Fail> {
     let mut wrong = behind.copy(alloc)?;
     wrong.formulas.push(Formula::Fails(before(1, 2)))?;
     let message = free_variable(Sort::Msg, 5);
-    let first = Atom::Same(message.copy()?, free_constant(alloc, "c")?);
+    let first = Atom::Same(copy(&message)?, free_constant(alloc, "c")?);
     let second = Atom::Same(message, free_constant(alloc, "d")?);
     let formulas = vec![in alloc; Formula::Holds(first), Formula::Holds(second)]?;
     let both = system(alloc, formulas, 9);

@@ -3,7 +3,7 @@
 use sp_fact::book::RuleBook;
 use sp_fact::fact::Facts;
 use sp_fact::rule::Rule;
-use sp_formula::formula::{Atom, Binder, Formula, FormulaTerm, Moment};
+use sp_formula::formula::{Atom, Binder, Formula, Moment};
 use sp_ground::signature::Signature;
 use sp_solved::Sought;
 use sp_step::context::Context;
@@ -12,7 +12,7 @@ use sp_step::simplify::is_contradictory;
 use sp_system::system::{Event, System};
 use sp_term::term::{Name, Sort};
 use sp_test_make::facts::{action, linear};
-use sp_test_make::formulas::{acts, exists, free_constant, free_variable, same_time};
+use sp_test_make::formulas::{acts, bound, exists, free_constant, free_variable, same_time};
 use sp_test_make::systems::{event, system};
 use sp_test_make::terms::variables;
 use std::alloc::{AllocError, Global};
@@ -38,10 +38,10 @@ pub fn two_that_differ(alloc: Global) -> Result<Formula, AllocError> {
         Binder::Time,
     ]?;
     let guard = vec![in alloc;
-        acts(alloc, "A", FormulaTerm::Bound(0), Moment::Bound(0))?,
-        acts(alloc, "A", FormulaTerm::Bound(1), Moment::Bound(1))?,
+        acts(alloc, "A", bound(0), Moment::Bound(0))?,
+        acts(alloc, "A", bound(1), Moment::Bound(1))?,
     ]?;
-    let body = Formula::Fails(Atom::Same(FormulaTerm::Bound(0), FormulaTerm::Bound(1)));
+    let body = Formula::Fails(Atom::Same(bound(0), bound(1)));
     exists(alloc, binders, guard, body)
 }
 

@@ -6,12 +6,12 @@ ghost use Rattle.sp_search.specs.NodeView.{node_at};
 
 use crate::examples::Parts;
 use sp_fact::rule::Rule;
-use sp_formula::formula::{Atom, Formula, FormulaTerm, Moment};
+use sp_formula::formula::{Atom, Formula, Moment};
 use sp_search::{Node, OpenLeaf, Ranked, Tree, choice, grown_tree, is_finished, steps};
 use sp_step::moves::Move;
 use sp_term::term::Sort;
 use sp_test_make::facts::{action, actions_alone, rule};
-use sp_test_make::formulas::{acts, exists, free_constant, messages_and_times};
+use sp_test_make::formulas::{acts, bound, exists, free_constant, messages_and_times};
 use sp_test_make::systems::system_of_one;
 use sp_test_make::terms::constant;
 use std::alloc::{AllocError, Global};
@@ -27,8 +27,8 @@ fn rules(alloc: Global) -> Result<Vec<Rule>, AllocError> {
 // there are x and i with A(x) at i, and not x = x
 fn refuted(alloc: Global) -> Result<Formula, AllocError> {
     let binders = messages_and_times(alloc, &[Sort::Msg])?;
-    let guard = acts(alloc, "A", FormulaTerm::Bound(0), Moment::Bound(0))?;
-    let body = Formula::Fails(Atom::Same(FormulaTerm::Bound(0), FormulaTerm::Bound(0)));
+    let guard = acts(alloc, "A", bound(0), Moment::Bound(0))?;
+    let body = Formula::Fails(Atom::Same(bound(0), bound(0)));
     exists(alloc, binders, vec![in alloc; guard]?, body)
 }
 

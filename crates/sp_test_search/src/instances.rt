@@ -1,13 +1,13 @@
 // Instances of universal formulas.
 
 use crate::examples::reduced;
-use sp_formula::formula::{Atom, Binder, Formula, FormulaTerm, Moment};
+use sp_formula::formula::{Atom, Binder, Formula, Moment};
 use sp_formula::same::same_formula;
 use sp_step::reduce::Row;
 use sp_system::system::{Event, System};
 use sp_term::term::{Sort, Term};
 use sp_test_make::facts::action;
-use sp_test_make::formulas::{acts, for_all, free_constant, messages_and_times};
+use sp_test_make::formulas::{acts, bound, for_all, free_constant, messages_and_times};
 use sp_test_make::systems::{acting, system_of_one};
 use sp_test_make::terms::{constant, variable};
 use std::alloc::{AllocError, Global};
@@ -24,7 +24,7 @@ fn showing(alloc: Global, time: u128, shown: Vec<Term>) -> Result<Event, AllocEr
 
 // A(x)@i in a guard, for the message and the time at these places
 fn comes(alloc: Global, message: u64, time: u64) -> Result<Atom, AllocError> {
-    acts(alloc, "A", FormulaTerm::Bound(message), Moment::Bound(time))
+    acts(alloc, "A", bound(message), Moment::Bound(time))
 }
 
 // the formula is universal, and A('c') happens at 1
@@ -74,7 +74,7 @@ fn bodies_are_appended_once(rt: HostRuntime) -> Result<(), Fail> {
 fn at_most_one(alloc: Global) -> Result<Formula, AllocError> {
     let binders = messages_and_times(alloc, &[Sort::Msg, Sort::Msg])?;
     let guard = vec![in alloc; comes(alloc, 1, 1)?, comes(alloc, 0, 0)?]?;
-    let body = Formula::Holds(Atom::Same(FormulaTerm::Bound(1), FormulaTerm::Bound(0)));
+    let body = Formula::Holds(Atom::Same(bound(1), bound(0)));
     for_all(alloc, binders, guard, body)
 }
 
@@ -126,7 +126,7 @@ fn equalities_bind(rt: HostRuntime) -> Result<(), Fail> {
         Binder::Message(Sort::Pub),
         Binder::Time,
     ]?;
-    let equal = Atom::Same(FormulaTerm::Bound(0), FormulaTerm::Bound(1));
+    let equal = Atom::Same(bound(0), bound(1));
     let body = Formula::Holds(equal.copy(alloc)?);
     let guard = vec![in alloc; comes(alloc, 1, 0)?, equal]?;
     let mut given = over_one(alloc, for_all(alloc, binders, guard, body)?)?;

@@ -4,12 +4,12 @@ use crate::examples::Parts;
 use sp_check::{Clause, Judgement, Node, Skeleton, Step, has_open, judge, steps};
 use sp_fact::fact::Facts;
 use sp_fact::rule::Rule;
-use sp_formula::formula::{Atom, Binder, Formula, FormulaTerm, Moment};
+use sp_formula::formula::{Atom, Binder, Formula, Moment};
 use sp_log::log::Log;
 use sp_step::moves::Move;
 use sp_term::term::Sort;
 use sp_test_make::facts::{action, linear, rule};
-use sp_test_make::formulas::{acts, exists, messages_and_times};
+use sp_test_make::formulas::{acts, bound, exists, messages_and_times};
 use sp_test_make::systems::system_of_one;
 use sp_test_make::terms::variables;
 use std::alloc::{AllocError, Global};
@@ -31,8 +31,8 @@ fn making(alloc: Global, name: &str) -> Result<Rule, AllocError> {
 fn not_once(alloc: Global) -> Result<Formula, AllocError> {
     let binders = vec![in alloc; Binder::Message(Sort::Msg), Binder::Time, Binder::Time]?;
     let guard = vec![in alloc;
-        acts(alloc, "A", FormulaTerm::Bound(0), Moment::Bound(1))?,
-        acts(alloc, "A", FormulaTerm::Bound(0), Moment::Bound(0))?,
+        acts(alloc, "A", bound(0), Moment::Bound(1))?,
+        acts(alloc, "A", bound(0), Moment::Bound(0))?,
     ]?;
     let body = Formula::Fails(Atom::SameTime(Moment::Bound(1), Moment::Bound(0)));
     exists(alloc, binders, guard, body)
@@ -41,7 +41,7 @@ fn not_once(alloc: Global) -> Result<Formula, AllocError> {
 // A comes
 fn some(alloc: Global) -> Result<Formula, AllocError> {
     let binders = messages_and_times(alloc, &[Sort::Msg])?;
-    let guard = vec![in alloc; acts(alloc, "A", FormulaTerm::Bound(0), Moment::Bound(0))?]?;
+    let guard = vec![in alloc; acts(alloc, "A", bound(0), Moment::Bound(0))?]?;
     exists(alloc, binders, guard, Formula::Truth)
 }
 

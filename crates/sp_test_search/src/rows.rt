@@ -2,14 +2,16 @@
 
 use crate::examples::{Sizes, reduced, sharing, sizes, two_that_differ};
 use sp_fact::fact::Facts;
-use sp_formula::formula::{Atom, Formula, FormulaTerm, Moment};
+use sp_formula::formula::{Atom, Formula, Moment};
+use sp_formula::place::FormulaTerm;
 use sp_formula::same::same_formula;
 use sp_step::reduce::Row;
 use sp_system::system::{Link, System};
-use sp_term::term::Sort;
+use sp_term::term::{Sort, copy};
 use sp_test_make::facts::linear;
 use sp_test_make::formulas::{
-    acts, before, exists, for_all, free_constant, free_variable, messages_and_times, same_time,
+    acts, before, bound, exists, for_all, free_constant, free_variable, messages_and_times,
+    same_time,
 };
 use sp_test_make::systems::{event, link, system, system_of_one, takers, taking_fresh};
 use sp_test_make::terms::variables;
@@ -68,10 +70,10 @@ fn of_actions(alloc: Global) -> Result<Vec<Case>, AllocError> {
     let fresh = free_variable(Sort::Fresh, 0);
     let mut cases = Vec::new(alloc);
     for (term, time, wanted) in [
-        (fresh.copy()?, 3, Some((2, 0, 1, 0, 0, 4))),
+        (copy(&fresh)?, 3, Some((2, 0, 1, 0, 0, 4))),
         (fresh, 4, None),
         (free_variable(Sort::Msg, 0), 3, None),
-        (FormulaTerm::Bound(0), 3, None),
+        (bound(0), 3, None),
     ] {
         let mut given = sharing(alloc, "R")?;
         let atom = acts(alloc, "A", term, Moment::Free(time))?;
@@ -235,9 +237,9 @@ fn orders_and_links_are_made(rt: HostRuntime) -> Result<(), Fail> {
 // for all y and j with A(y) at j, y is the one term, or j is before the one time
 fn alone(alloc: Global, term: FormulaTerm, time: Moment) -> Result<Formula, AllocError> {
     let binders = messages_and_times(alloc, &[Sort::Msg])?;
-    let guard = acts(alloc, "A", FormulaTerm::Bound(0), Moment::Bound(0))?;
+    let guard = acts(alloc, "A", bound(0), Moment::Bound(0))?;
     let either = vec![in alloc;
-        Formula::Holds(Atom::Same(FormulaTerm::Bound(0), term)),
+        Formula::Holds(Atom::Same(bound(0), term)),
         Formula::Holds(Atom::Before(Moment::Bound(0), time)),
     ]?;
     for_all(
@@ -251,8 +253,8 @@ fn alone(alloc: Global, term: FormulaTerm, time: Moment) -> Result<Formula, Allo
 // there are x and i with A(x) at i, and the rest is as above
 fn first_alone(alloc: Global) -> Result<Formula, AllocError> {
     let binders = messages_and_times(alloc, &[Sort::Msg])?;
-    let guard = acts(alloc, "A", FormulaTerm::Bound(0), Moment::Bound(0))?;
-    let body = alone(alloc, FormulaTerm::Bound(1), Moment::Bound(1))?;
+    let guard = acts(alloc, "A", bound(0), Moment::Bound(0))?;
+    let body = alone(alloc, bound(1), Moment::Bound(1))?;
     exists(alloc, binders, vec![in alloc; guard]?, body)
 }
 
@@ -262,7 +264,7 @@ fn existentials_are_opened(rt: HostRuntime) -> Result<(), Fail> {
     let alloc = rt.alloc();
     let fresh = free_variable(Sort::Fresh, 4);
     let message = free_variable(Sort::Msg, 6);
-    let differ = Atom::Same(message.copy()?, fresh.copy()?);
+    let differ = Atom::Same(copy(&message)?, copy(&fresh)?);
     let first = alone(alloc, free_variable(Sort::Msg, 4), Moment::Free(5))?;
     for (given, position, wanted) in [
         (

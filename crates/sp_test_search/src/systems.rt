@@ -1,7 +1,8 @@
 // Systems in memory: changed and copied, what two events have to share, and the order of times.
 
 use sp_fact::fact::Facts;
-use sp_formula::formula::{Atom, Formula, FormulaTerm, Moment};
+use sp_formula::formula::{Atom, Formula, Moment};
+use sp_formula::place::placed;
 use sp_formula::same::same_formula;
 use sp_system::order::{is_before, is_cyclic};
 use sp_system::pairing::merging_pairs;
@@ -9,7 +10,7 @@ use sp_system::system::{Event, System};
 use sp_term::subst::Subst;
 use sp_term::term::{Sort, Term, Variable, copy};
 use sp_test_make::facts::{action, linear};
-use sp_test_make::formulas::{acts, exists, messages_and_times, same_time};
+use sp_test_make::formulas::{acts, bound, exists, messages_and_times, same_time};
 use sp_test_make::systems::{event, link, system};
 use sp_test_make::terms::variable;
 use std::alloc::{AllocError, Global};
@@ -35,9 +36,9 @@ fn using(alloc: Global, time: u128, rule: &str, term: Term) -> Result<Event, All
 // there are x and i with A(x) at i, and x is not this term
 fn some_but(alloc: Global, term: &Term) -> Result<Formula, AllocError> {
     let binders = messages_and_times(alloc, &[Sort::Msg])?;
-    let guard = acts(alloc, "A", FormulaTerm::Bound(0), Moment::Bound(0))?;
-    let other = FormulaTerm::Free(copy(term)?);
-    let body = Formula::Fails(Atom::Same(FormulaTerm::Bound(0), other));
+    let guard = acts(alloc, "A", bound(0), Moment::Bound(0))?;
+    let other = placed(alloc, term)?;
+    let body = Formula::Fails(Atom::Same(bound(0), other));
     exists(alloc, binders, vec![in alloc; guard]?, body)
 }
 

@@ -1,12 +1,12 @@
 // Terms, facts and formulas in memory: put in for variables, copied, told apart, unified.
 
 use sp_fact::fact::Facts;
-use sp_formula::formula::{Binder, Formula, FormulaTerm, Moment};
+use sp_formula::formula::{Binder, Formula, Moment};
 use sp_formula::same::same_formula;
 use sp_term::subst::{Subst, apply, apply_all};
 use sp_term::term::{Sort, Term, Variable, copy, copy_all, same};
 use sp_test_make::facts::{action, persistent};
-use sp_test_make::formulas::{acts, before, exists, for_all};
+use sp_test_make::formulas::{acts, before, bound, exists, for_all};
 use sp_test_make::terms::{constant, pair, variable};
 use sp_unify::unify::mgu;
 use std::alloc::{AllocError, Global};
@@ -131,7 +131,7 @@ fn facts_are_copied_and_changed(rt: HostRuntime) -> Result<(), Fail> {
 
 // both: for all x with A(x) at the time, falsity; and: the first is before the second, or truth
 fn nested(alloc: Global, time: u128, first: u128, second: u128) -> Result<Formula, AllocError> {
-    let guard = acts(alloc, "A", FormulaTerm::Bound(0), Moment::Free(time))?;
+    let guard = acts(alloc, "A", bound(0), Moment::Free(time))?;
     let every = for_all(
         alloc,
         vec![in alloc; Binder::Message(Sort::Msg)]?,
@@ -144,7 +144,7 @@ fn nested(alloc: Global, time: u128, first: u128, second: u128) -> Result<Formul
 
 // there is a message of the sort such that A of what stands at the place happens at 2
 fn some_message(alloc: Global, sort: Sort, place: u64) -> Result<Formula, AllocError> {
-    let guard = acts(alloc, "A", FormulaTerm::Bound(place), Moment::Free(2))?;
+    let guard = acts(alloc, "A", bound(place), Moment::Free(2))?;
     let binders = vec![in alloc; Binder::Message(sort)]?;
     exists(alloc, binders, vec![in alloc; guard]?, Formula::Truth)
 }

@@ -2,6 +2,7 @@
 
 use crate::calls::{assert_answer, words_on_text};
 use crate::proofs::THEORY;
+use crate::steps::FIRST;
 use sp_io::{MemLibrary, MemSink};
 use sp_top::run;
 use std::alloc::{AllocError, Global};
@@ -131,5 +132,32 @@ fn proofs_of_lemmas_of_many_parts_are_checked(rt: HostRuntime) -> Result<(), Fai
             assert_answer(&rt, alloc, "check", text.as_str(), 2, line)?;
         }
     }
+    Ok(())
+}
+
+// the theory of one fresh name, with a step whose value is that name, taken out of a pair beside pairs within pairs
+fn with_pairs(alloc: Global, pairs: usize) -> Result<String, AllocError> {
+    let mut text = String::from_str(alloc, FIRST)?;
+    text.push_str("\nfresh ~n1\nrule Make: k = fst(<~n1, fst(")?;
+    for _pair in 0..pairs {
+        text.push('<')?;
+    }
+    text.push_str("'c'")?;
+    for _pair in 0..pairs {
+        text.push_str(", 'c'>")?;
+    }
+    text.push_str(")>)\n")?;
+    Ok(text)
+}
+
+#[test]
+fn deep_terms_are_replayed(rt: HostRuntime) -> Result<(), Fail> {
+    let alloc = rt.alloc();
+    let text = with_pairs(alloc, 9_000)?;
+    let answer = "trace:\nA(~n1)\nend of trace\nonce (all-traces): met\n";
+    assert_answer(&rt, alloc, "replay", text.as_str(), 0, answer)?;
+    // Terms don't nest so deep: memory is wanting.
+    let text = with_pairs(alloc, 100_000)?;
+    assert_answer(&rt, alloc, "replay", text.as_str(), 8, "")?;
     Ok(())
 }

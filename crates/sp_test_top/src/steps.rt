@@ -4,7 +4,7 @@ use crate::calls::assert_answer;
 use std::test::Fail;
 
 /// The first theory, up to its end.
-const FIRST: &str = "theory R1 begin
+pub(crate) const FIRST: &str = "theory R1 begin
 rule Make: [ Fr(~k) ] --[ A(~k) ]-> [ ]
 lemma once: \"All x #i #j. A(x)@i & A(x)@j ==> #i = #j\"
 end";

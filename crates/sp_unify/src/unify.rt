@@ -1,14 +1,17 @@
 // The most general unifier, one difference after another.
 
 ghost use Rattle.std.specs.Prelude.{◌≡◌, IfOk, MatchOption, map, option_map};
+ghost use Rattle.sp_spec.specs.Term as spec_term;
 ghost use Rattle.sp_spec.specs.Term.{var};
-ghost use Rattle.sp_spec.specs.Unifier.{difference, differences, first_difference, occurs, with_term, with_variable};
+ghost use Rattle.sp_spec.specs.Same.{same_variable};
+ghost use Rattle.sp_spec.specs.Unifier.{difference, differences, first_difference, with_term, with_variable};
 ghost use Rattle.sp_spec.specs.Unifier as spec;
 ghost use Rattle.sp_law_unify.specs.MostGeneral.{HaveNoSolution, IsMostGeneral};
 ghost use Rattle.sp_term.specs.View.{variable_of, view, view_all};
 ghost use Rattle.sp_term.specs.Bindings.{bindings};
 ghost use Rattle.sp_unify.specs.View.{found_of, pair_view, step_of};
 
+use sp_term::leaves::{Tests, some_leaf};
 use sp_term::subst::{Subst, apply};
 use sp_term::term::{Sort, Term, Variable, copy};
 use std::alloc::{AllocError, Global};
@@ -27,6 +30,24 @@ enum Step {
     Done,
     Fails,
     Binds(Variable, Term),
+}
+
+// Whether a leaf is the variable.
+#[derive(Clone, Copy)]
+struct Is {
+    variable: Variable,
+}
+
+impl Tests<Variable> for Is {
+    ghost Kind = { spec_term.Variable };
+
+    ghost leaf_of = { variable_of };
+
+    ghost test_of = { λ t. same_variable (variable_of t.variable) };
+
+    fn passes(&self, leaf: &Variable) -> bool {
+        self.variable == *leaf
+    }
 }
 
 /// The most general unifier of the pairs, by sorts; none exactly where no values of the variables' sorts make each pair the same.
@@ -82,7 +103,7 @@ fn difference_of<'a>(a: &'a Term, b: &'a Term) -> Found<'a>
         (Term::FreshName(m), Term::FreshName(n)) => {
             if *m == *n { Found::Same } else { Found::Clash }
         }
-        (Term::App(f, ts), Term::App(g, us)) => {
+        (Term::App(f, ts, _), Term::App(g, us, _)) => {
             if *f == *g {
                 differences_of(ts, us)
             } else {
@@ -143,32 +164,9 @@ fn value_for<'a>(x: Variable, term: &'a Term) -> Found<'a>
         (Sort::Pub, Term::Constant(_)) => true,
         _ => false,
     };
-    if stands && !occurs_in(x, term) {
+    if stands && !some_leaf(&Is { variable: x }, term) {
         Found::Bind(x, term)
     } else {
         Found::Clash
     }
-}
-
-#[cycle(occurs)]
-fn occurs_in(x: Variable, term: &Term) -> bool
-    ensures { result ≡ occurs (variable_of x) (view term.now) }
-{
-    match term {
-        Term::Var(y) => x == *y,
-        Term::App(_, terms) => occurs_in_some(x, terms),
-        _ => false,
-    }
-}
-
-#[cycle(occurs)]
-fn occurs_in_some(x: Variable, terms: &Vec<Term>) -> bool
-    ensures { result ≡ spec.occurs_in (variable_of x) (view_all terms.now.items) }
-{
-    for term in terms {
-        if occurs_in(x, term) {
-            return true;
-        }
-    }
-    false
 }

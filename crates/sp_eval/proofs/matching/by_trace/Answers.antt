@@ -1,7 +1,8 @@
 use Rattle.std.proofs.Common.{◌≡◌, ◌++◌, List, sym, ap, ◌∙◌, arith}
 use Rattle.std.proofs.lemmas.Grind.{common_steps}
 use Rattle.sp_law_decide.specs.Deciding as deciding
-use Rattle.sp_formula.specs.FormulaView.{placed_action, moment_of}
+use Rattle.sp_formula.specs.FormulaView.{moment_of}
+use Rattle.sp_formula.specs.PlaceView.{placed_action}
 use Rattle.sp_ground.specs.View.{entries_of}
 use Rattle.sp_eval.specs.View.{environment_of, environments_of}
 use Rattle.sp_eval.proofs.Traces.{onward, trace_onward}

@@ -1,5 +1,6 @@
 use Rattle.std.proofs.Common.{◌≡◌, ◌++◌, map, drop}
-use Rattle.sp_formula.specs.FormulaView.{placed_action, moment_of}
+use Rattle.sp_formula.specs.FormulaView.{moment_of}
+use Rattle.sp_formula.specs.PlaceView.{placed_action}
 use Rattle.sp_ground.specs.View.{ground_action}
 use Rattle.sp_eval.specs.View.{environment_of, environments_of}
 use Rattle.sp_eval.proofs.Traces.{onward}

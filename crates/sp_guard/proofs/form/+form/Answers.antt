@@ -1,4 +1,4 @@
-use Rattle.std.proofs.Common.{◌≡◌, refl}
+use Rattle.std.proofs.Common.{refl}
 use Rattle.std.specs.Prelude.{option_map}
 use Rattle.sp_read_parts.specs.Reading.{conjoint, disjoint}
 use Rattle.sp_read_parts.proofs.Chains.{chain_seen}

@@ -1,4 +1,4 @@
-use Rattle.std.proofs.Common.{◌≡◌, ◌&&◌, Bool, IfOk, map, sym, ap, ◌∙◌, subst}
+use Rattle.std.proofs.Common.{◌≡◌, ◌&&◌, Bool, IfOk, sym, ap, ◌∙◌, subst}
 use Rattle.sp_read_parts.specs.Formulas.{formula}
 use Rattle.sp_read_parts.specs.declared.written.ReadFormula.{ReadFormula}
 use Rattle.sp_read_parts.proofs.Chains.{chain_seen}

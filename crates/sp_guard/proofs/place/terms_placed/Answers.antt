@@ -3,7 +3,8 @@ use Rattle.sp_spec.specs.Guarded.{Place}
 use Rattle.sp_spec.specs.Term.{Term}
 use Rattle.sp_read_parts.specs.declared.written.WrittenTerm.{WrittenTerm}
 use Rattle.sp_read_parts.specs.Views.{term}
-use Rattle.sp_formula.specs.FormulaView.{placed_term, row_of}
+use Rattle.sp_term.specs.View.{terms_of}
+use Rattle.sp_formula.specs.PlaceView.{placed_term}
 use Rattle.sp_law_guard.specs.GuardedForm as spec
 use Rattle.sp_guard.specs.View.{innermost_first}
 use Rattle.sp_guard.proofs.Lists.{no_term}
@@ -16,7 +17,7 @@ returns-in_default c =
     let bs = innermost_first c.args.binders.now.items in
     let f = λ (t : WrittenTerm). spec.placed_term bs (term t) in
     sym (terms_each bs c.args.terms.now.items
-    ∙ ap (λ (r : Option (List (Term Place))). option_map row_of r) (ap (λ (ts : List WrittenTerm). each f ts) (sym c.deref-term-items.ensures.value)
+    ∙ ap (λ (r : Option (List (Term Place))). option_map terms_of r) (ap (λ (ts : List WrittenTerm). each f ts) (sym c.deref-term-items.ensures.value)
     ∙ gathered_stop f placed_term c.deref-term-items.result.now c.loop-term.term-index no_term c.in_ok-term.field-0 c.loop-term-test.true c.in_ok-term.ensures c.in_default.is))
 
 pub loop-term-preserved : goal.loop-term-preserved
@@ -30,5 +31,5 @@ returns c =
     let bs = innermost_first c.args.binders.now.items in
     let f = λ (t : WrittenTerm). spec.placed_term bs (term t) in
     sym (terms_each bs c.args.terms.now.items
-    ∙ ap (λ (r : Option (List (Term Place))). option_map row_of r) (ap (λ (ts : List WrittenTerm). each f ts) (sym c.deref-term-items.ensures.value)
+    ∙ ap (λ (r : Option (List (Term Place))). option_map terms_of r) (ap (λ (ts : List WrittenTerm). each f ts) (sym c.deref-term-items.ensures.value)
     ∙ gathered_end f c.deref-term-items.result.now c.loop-term.term-index (map placed_term c.loop-term.placed.items) c.loop-term-test.false c.loop-term.invariant))

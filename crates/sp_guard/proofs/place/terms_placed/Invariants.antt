@@ -1,7 +1,7 @@
 use Rattle.std.proofs.Common.{◌≡◌, map, take, Some}
 use Rattle.sp_read_parts.specs.declared.written.WrittenTerm.{WrittenTerm}
 use Rattle.sp_read_parts.specs.Views as view
-use Rattle.sp_formula.specs.FormulaView.{placed_term}
+use Rattle.sp_formula.specs.PlaceView.{placed_term}
 use Rattle.sp_law_guard.specs.GuardedForm as spec
 use Rattle.sp_guard.specs.View.{innermost_first}
 use Rattle.sp_guard.proofs.Each.{each}

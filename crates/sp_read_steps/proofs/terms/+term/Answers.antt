@@ -9,17 +9,17 @@ use Rattle.sp_read_steps.proofs.terms.+term.Goals as goal
 
 pub row-returns-in-Some-behind : goal.row-returns-in-Some-behind
 row-returns-in-Some-behind t c =
-    let one = rw c.in-Some.is at c.in_ok-next.ensures in
+    let one = rw c.in-Some-2.is at c.in_ok-next.ensures in
     rw c.in_ok-push.ensures (row_last c.loop-found.invariant.reads one c.in-Some-behind.ensures)
 
 pub row-loop-found-smaller : goal.row-loop-found-smaller
 row-loop-found-smaller t c =
-    let one = rw c.in-Some.is at c.in_ok-next.ensures in
+    let one = rw c.in-Some-2.is at c.in_ok-next.ensures in
     omega (arith, reads_shorter (symbols_of c.args.symbols.now.items) one, c.in-Some-after.ensures.shorter)
 
 pub row-loop-found-preserved : goal.row-loop-found-preserved
 row-loop-found-preserved t c =
-    let one = rw c.in-Some.is at c.in_ok-next.ensures in
+    let one = rw c.in-Some-2.is at c.in_ok-next.ensures in
     record {
       reads = rw c.in_ok-push.ensures (row_more c.requires c.loop-found.invariant.reads one c.in-Some-after.ensures.value);
       shorter = omega (arith, reads_shorter (symbols_of c.args.symbols.now.items) one, c.in-Some-after.ensures.shorter, c.loop-found.invariant.shorter);
@@ -27,7 +27,7 @@ row-loop-found-preserved t c =
 
 pub row-returns-in-None : goal.row-returns-in-None
 row-returns-in-None t c =
-    let one = rw c.in-Some.is at c.in_ok-next.ensures in
+    let one = rw c.in-Some-2.is at c.in_ok-next.ensures in
     row_no_sign c.loop-found.invariant.reads one c.in_default-behind.ensures c.in-None.ensures.value
 
 pub term-row-requires : goal.term-row-requires

@@ -14,5 +14,5 @@ returns-in-App c =
     c.is_pair.ensures
     ∙ ap (λ (g : List ℕ). is_pair g (grounds_of c.deref.result.now.items)) c.as_str.ensures.value
     ∙ ap (λ (us : Vec (Term Never) Global). is_pair (name_of f) (grounds_of us.items)) c.deref.ensures
-    ∙ ap is_pair_term (sym (ground_app f ts))
+    ∙ ap is_pair_term (sym (ground_app f ts c.in-App.field-2))
     ∙ ap (λ (t : Term Never). is_pair_term (ground_of t)) (sym c.in-App.is)

@@ -1,4 +1,4 @@
-use Rattle.std.proofs.Common.{◌≡◌, ◌<◌, ℕ, [], Option, Some, None, option_and_then, option_map, refl, sym, ap, ◌∙◌, length, subst, map}
+use Rattle.std.proofs.Common.{◌≡◌, ◌<◌, ℕ, [], Option, Some, option_and_then, option_map, refl, sym, ap, ◌∙◌, length, subst}
 use Rattle.std.proofs.lemmas.List.{length-map}
 use Rattle.sp_spec_system.specs.System as spec
 use Rattle.sp_formula.specs.FormulaView.{formula_of}

@@ -1,9 +1,9 @@
 use Rattle.std.proofs.Common.{◌≡◌, map, drop}
 use Rattle.sp_formula.specs.FormulaView.{atom_of}
 use Rattle.sp_spec_formula.specs.Instances as spec
-use Rattle.sp_rows_formula.specs.SlotsView.{slot_of}
+use Rattle.sp_rows_formula.specs.SlotsView.{messages_of}
 use Rattle.sp_rows_formula.proofs.matching.are_settled.Given as goal
 
 abbrev pub invariant-loop-atom : goal.invariant-loop-atom
 invariant-loop-atom l =
-    spec.are_settled (map slot_of l.slots.items) (map atom_of l.guard.items) ≡ spec.are_settled (map slot_of l.slots.items) (map atom_of (drop l.atom-index l.atom-items))
+    spec.are_settled (messages_of l.messages) (map atom_of l.guard.items) ≡ spec.are_settled (messages_of l.messages) (map atom_of (drop l.atom-index l.atom-items))

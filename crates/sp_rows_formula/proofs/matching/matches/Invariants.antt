@@ -1,5 +1,6 @@
 use Rattle.std.proofs.Common.{◌≡◌, ◌++◌, map, drop}
-use Rattle.sp_formula.specs.FormulaView.{placed_action, moment_of}
+use Rattle.sp_formula.specs.FormulaView.{moment_of}
+use Rattle.sp_formula.specs.PlaceView.{placed_action}
 use Rattle.sp_system.specs.SystemView.{event_of}
 use Rattle.sp_rows_formula.specs.MatchesView.{matches}
 use Rattle.sp_rows_formula.specs.SlotsView.{slots_of}

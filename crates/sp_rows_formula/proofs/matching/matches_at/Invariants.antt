@@ -1,6 +1,7 @@
 use Rattle.std.proofs.Common.{◌≡◌, ◌++◌, map, drop}
 use Rattle.sp_fact.specs.View.{action_of}
-use Rattle.sp_formula.specs.FormulaView.{placed_action, moment_of}
+use Rattle.sp_formula.specs.FormulaView.{moment_of}
+use Rattle.sp_formula.specs.PlaceView.{placed_action}
 use Rattle.sp_rows_formula.specs.MatchesView.{matches_at}
 use Rattle.sp_rows_formula.specs.SlotsView.{slots_of}
 use Rattle.sp_rows_formula.proofs.matching.matches_at.Given as goal

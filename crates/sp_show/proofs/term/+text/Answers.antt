@@ -20,11 +20,11 @@ write_at-returns-in_ok-write_row-in-App-clause-text t c =
     c.args.ends f (grounds_of row.items) c.is_pair.result c.is_pair.ensures
     c.in_ok-write_opening-in-App.ensures c.in_ok-write_row-in-App.ensures.text h
     ∙ ap (λ (u : Ground). old ++ text_at c.args.ends u)
-    (ap (λ v. app f (grounds_of v.items)) c.deref-terms.ensures ∙ sym (ap ground_of c.in-App.is ∙ ground_app c.in-App.symbol c.in-App.shared)))
+    (ap (λ v. app f (grounds_of v.items)) c.deref-terms.ensures ∙ sym (ap ground_of c.in-App.is ∙ ground_app c.in-App.symbol c.in-App.shared c.in-App.field-2)))
     c.write_closing.ensures
 
 pub write_at-returns-in_ok-write_row-in-App-clause-numbered : goal.write_at-returns-in_ok-write_row-in-App-clause-numbered
 write_at-returns-in_ok-write_row-in-App-clause-numbered t c =
     let row = c.deref-terms.result.now in
-    let is = ap (λ v. app (name_of c.in-App.symbol) (grounds_of v.items)) c.deref-terms.ensures ∙ sym (ap ground_of c.in-App.is ∙ ground_app c.in-App.symbol c.in-App.shared) in
+    let is = ap (λ v. app (name_of c.in-App.symbol) (grounds_of v.items)) c.deref-terms.ensures ∙ sym (ap ground_of c.in-App.is ∙ ground_app c.in-App.symbol c.in-App.shared c.in-App.field-2) in
     on_ok_weaker c.write_closing.result (λ h. subst (HasNames numbered_names) is c.in_ok-write_row-in-App.ensures.numbered) c.write_closing.ensures
