@@ -1,0 +1,4 @@
+pub mod Terms
+pub mod Tests
+pub mod Forms
+pub mod Searches

@@ -1,0 +1,4 @@
+pub mod Check
+pub mod Forms
+pub mod Searches
+pub mod Tests

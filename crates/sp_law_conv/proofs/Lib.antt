@@ -1,0 +1,5 @@
+pub mod Places
+pub mod Apart
+pub mod Constructors
+pub mod Agreement
+pub mod Convergent

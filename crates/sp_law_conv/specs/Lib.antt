@@ -1,0 +1,3 @@
+pub mod Clash
+pub mod Accepted
+pub mod Laws
