@@ -76,14 +76,14 @@ fn has_line(written: &[u8], line: &str) -> bool {
 #[test]
 fn deep_trees_are_grown(rt: HostRuntime) -> Result<(), Fail> {
     let alloc = rt.alloc();
-    let text = wide(alloc, 100, 50)?;
+    let text = wide(alloc, 60, 50)?;
     let words = words_on_text(alloc, "prove")?;
     let mut library = MemLibrary::new(alloc);
     library.put("text", text.as_bytes())?;
     let mut sink = MemSink::new(alloc, 1 << 20, 100_000_000)?;
     let ended = run(alloc, &words, &mut library, &mut sink);
     // The first step simplifies, the last one ends the search.
-    let is_told = has_line(sink.written(), "wide (exists-trace): verified (5002 steps)");
+    let is_told = has_line(sink.written(), "wide (exists-trace): verified (3002 steps)");
     assert!(rt; is_told);
     assert_eq!(rt; ended as u8, 0);
     Ok(())

@@ -1,0 +1,107 @@
+-- No left side matches a term in a form, and no two forms have the same facts.
+use Rattle.std.proofs.Common.{◌≡◌, ℕ, ◌<◌, Bool, true, false, not, ◌&&◌, cond, List, [], ◌∷◌, map, refl, sym, ap, ◌∙◌, subst, true≢false}
+use Rattle.std.proofs.lemmas.Bool.{and_from, and_parts}
+use Rattle.std.proofs.lemmas.Slice.Eq.{bytes_eq-Decides}
+use Rattle.std.specs.List.{filter, list_any}
+use Rattle.sp_spec.specs.Lists.{Member, Distinct}
+use Rattle.sp_spec.specs.Term.{Variable, Term, app, Terms, valued, EachVariable, EachVariables}
+use Rattle.sp_spec.specs.Signature.{Equation}
+use Rattle.sp_spec.specs.Same.{same_variable, alike_all}
+use Rattle.sp_spec.specs.Rule.{Fact, Action, Facts, Rule}
+use Rattle.sp_spec.proofs.Lists.{every_member, member_mapped, member_map}
+use Rattle.sp_law_equal.specs.Parts.{IsPartOfOne}
+use Rattle.sp_law_equal.proofs.Parts.{part_of_one_keeps}
+use Rattle.sp_spec.proofs.Same.{same_variable_decides, same_all_by_decides}
+use Rattle.sp_law_forms.specs.Numbering.{Form, without_repeats}
+use Rattle.sp_law_forms.specs.Forms.{args_of, results, forms, is_matched, irreducible, irreducible_all, is_normal_form, same_list, same_flag, alike_fact, alike_action, alike_form}
+use Rattle.sp_law_forms.specs.Laws.{AreOverMessages, FormsAreProper}
+use Rattle.sp_law_forms.proofs.Lists.{any_passes, all_from, member_passes, member_filtered}
+use Rattle.sp_law_forms.proofs.Facts.{of_arguments}
+use Rattle.sp_law_forms.proofs.Matched.{is_matched_from}
+use Rattle.sp_law_forms.proofs.Results.{nothing_lost}
+use Rattle.sp_law_forms.proofs.Proper.{form_normal, form_below}
+use Rattle.sp_law_forms.proofs.Renamed.{numbered_same}
+
+module _ (es : List Equation) (msg : AreOverMessages es) (rule : Rule) (form : Form) (m : Member form (forms es rule)) where
+  abbrev n : ℕ
+  n = form.count
+
+  abbrev IsBelow : Variable → Type 0
+  IsBelow x = x.number < n
+
+  module _ (ts : Terms Variable) (mem : Member ts (args_of form.facts)) (f : List ℕ) (us : Terms Variable) (part : IsPartOfOne (app f us) ts) where
+    part_irreducible : irreducible es n (app f us) ≡ true
+    part_irreducible =
+        part_of_one_keeps (λ u. irreducible es n u ≡ true) (λ us. irreducible_all es n us ≡ true)
+        (λ g ws h. (and_parts (irreducible_all es n ws) (not (list_any (is_matched n (app g ws)) es)) h).0)
+        (λ u ws h. (and_parts (irreducible es n u) (irreducible_all es n ws) h).0)
+        (λ u ws h. (and_parts (irreducible es n u) (irreducible_all es n ws) h).1)
+        (app f us) ts part
+        (every_member (λ ws. irreducible_all es n ws ≡ true) (args_of form.facts) ts mem
+        (all_from (irreducible_all es n) (args_of form.facts) (form_normal es rule form m)))
+
+    part_below : EachVariable IsBelow (app f us)
+    part_below =
+        part_of_one_keeps (λ u. EachVariable IsBelow u) (λ ws. EachVariables IsBelow ws) (λ g ws h. h) (λ u ws h. h.0) (λ u ws h. h.1)
+        (app f us) ts part
+        (every_member (λ ws. EachVariables IsBelow ws) (args_of form.facts) ts mem
+        (of_arguments (EachVariables IsBelow) form.facts (form_below es rule form m).0))
+
+    none_matches : (e : Equation) → Member e es → (s : Variable → Term Variable) → valued s e.left ≡ app f us → ⊥
+    none_matches e among s same =
+        let none = (and_parts (irreducible_all es n us) (not (list_any (is_matched n (app f us)) es)) part_irreducible).1 in
+        let found = is_matched_from n (app f us) e s (msg e among) part_below same in
+        true≢false (sym none ∙ ap not (any_passes (is_matched n (app f us)) e es among found))
+
+same_flag_itself : (a : Bool) → same_flag a a ≡ true
+same_flag_itself true = refl
+same_flag_itself false = refl
+
+same_list_itself : {A : Type 0} (test : A → A → Bool) → ((x : A) → test x x ≡ true) → (xs : List A) → same_list test xs xs ≡ true
+same_list_itself test h [] = refl
+same_list_itself test h (x ∷ xs) = and_from (test x x) (same_list test xs xs) (h x) (same_list_itself test h xs)
+
+args_itself : (ts : Terms Variable) → alike_all ts ts ≡ true
+args_itself ts = (same_all_by_decides same_variable same_variable_decides ts ts).1 refl
+
+alike_fact_itself : (f : Fact Variable) → alike_fact f f ≡ true
+alike_fact_itself f = and_from _ _ ((bytes_eq-Decides f.symbol f.symbol).1 refl) (and_from _ _ (same_flag_itself f.persistent) (args_itself f.args))
+
+alike_action_itself : (a : Action Variable) → alike_action a a ≡ true
+alike_action_itself a = and_from _ _ ((bytes_eq-Decides a.symbol a.symbol).1 refl) (args_itself a.args)
+
+alike_form_from : (a b : Form) → a.facts ≡ b.facts → alike_form a b ≡ true
+alike_form_from a b e =
+    let f = a.facts in
+    let Alike : Facts Variable → Type 0 = λ g. (same_list alike_fact f.premises g.premises
+    && (same_list alike_action f.actions g.actions && same_list alike_fact f.conclusions g.conclusions)) ≡ true in
+    subst Alike e
+    (and_from _ _ (same_list_itself alike_fact alike_fact_itself f.premises)
+    (and_from _ _ (same_list_itself alike_action alike_action_itself f.actions) (same_list_itself alike_fact alike_fact_itself f.conclusions)))
+
+-- what is kept of a list of distinct images has distinct images
+distinct_filter : {A B : Type 0} (f : A → B) (test : A → Bool) (xs : List A) → Distinct (map f xs) → Distinct (map f (filter test xs))
+distinct_filter f test [] d = tt
+distinct_filter f test (x ∷ xs) d = by_test (test x) (distinct_filter f test xs d.1)
+  where
+    by_test : (c : Bool) → Distinct (map f (filter test xs)) → Distinct (map f (cond c (x ∷ filter test xs) (filter test xs)))
+    by_test true k = (λ m. let r = member_mapped f (f x) (filter test xs) m in d.0 (subst (λ y. Member y (map f xs)) r.2 (member_map f r.0 xs (member_filtered test r.0 xs r.1))), k)
+    by_test false k = k
+
+distinct_once : {A B : Type 0} (f : A → B) (same : A → A → Bool) → ((x y : A) → f x ≡ f y → same x y ≡ true) → (xs : List A) → Distinct (map f (without_repeats same xs))
+distinct_once f same h [] = tt
+distinct_once f same h (x ∷ xs) = (
+  λ m.
+      let r = member_mapped f (f x) (filter (λ y. not (same x y)) (without_repeats same xs)) m in
+      true≢false (sym (member_passes (λ y. not (same x y)) r.0 (without_repeats same xs) r.1) ∙ ap not (h x r.0 (sym r.2))),
+  distinct_filter f (λ y. not (same x y)) (without_repeats same xs) (distinct_once f same h xs),
+)
+
+pub proper_law : FormsAreProper
+proper_law = record {
+  numbers = form_below;
+  irreducible = λ es msg rule form m ts mem f us part e among s same. none_matches es msg rule form m ts mem f us part e among s same;
+  distinct = λ es rule. distinct_once (λ (f : Form). f.facts) alike_form alike_form_from (filter (is_normal_form es) (results es rule));
+  whole = nothing_lost;
+  names = λ r injective sorts f kept kept'. numbered_same r injective sorts f kept kept';
+}

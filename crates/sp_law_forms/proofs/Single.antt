@@ -1,0 +1,102 @@
+-- A rule without destructors has one form: itself, numbered.
+use Rattle.std.proofs.Common.{◌≡◌, ℕ, true, not, cond, List, [], ◌∷◌, ◌++◌, map, None, refl, ap, ap₂, ◌∙◌}
+use Rattle.std.proofs.lemmas.Bool.{and_from}
+use Rattle.std.specs.List.{filter, flat_map, list_any}
+use Rattle.sp_spec.specs.Lists.{Member, Every}
+use Rattle.sp_spec.specs.Term.{Variable, Term, var, constant, name, app, Terms, none, more, valued, valued_all}
+use Rattle.sp_spec.specs.Signature.{Equation}
+use Rattle.sp_spec.specs.Unifier.{mgu}
+use Rattle.sp_spec.specs.Rule.{OfArguments, Fact, Action, Facts, Rule}
+use Rattle.sp_law_equal.specs.Destructors.{IsDestructor, IsPlain, ArePlain}
+use Rattle.sp_law_equal.specs.NormalForms.{HaveNormalForms}
+use Rattle.sp_law_unify.proofs.Unique.{unifier_law}
+use Rattle.sp_law_conv.specs.Clash.{shifted}
+use Rattle.sp_law_forms.specs.Narrowing.{Chosen, both, each, narrow_fact, narrow_action, narrow_facts}
+use Rattle.sp_law_forms.specs.Forms.{leaves, is_matched, irreducible, irreducible_all, is_normal_form, alike_form, args_of, rule_variables, form_by, start, results, forms}
+use Rattle.sp_law_forms.specs.Numbering.{Form, seen, place, renumbered, numbered, without_repeats}
+use Rattle.sp_law_forms.specs.Laws.{PlainRulesStay}
+use Rattle.sp_law_forms.proofs.Lists.{none_passes, all_pass}
+use Rattle.sp_law_forms.proofs.Plain.{no_instance, narrow_all_plain}
+use Rattle.sp_law_forms.proofs.Facts.{facts_itself, of_arguments, put_all_itself, args_at}
+
+module _ (es : List Equation) (good : HaveNormalForms es) where
+  abbrev Plain : Terms Variable → Type 0
+  Plain = ArePlain es
+
+  facts_plain : (fs : List (Fact Variable)) (s : Chosen) → Every (λ (f : Fact Variable). Plain f.args) fs → each (narrow_fact es) fs s ≡ (fs, s) ∷ []
+  facts_plain [] s p = refl
+  facts_plain (f ∷ fs) s p =
+      ap (λ rs. flat_map (λ (r : Fact Variable × Chosen). map (λ (q : List (Fact Variable) × Chosen). (r.0 ∷ q.0, q.1)) (each (narrow_fact es) fs r.1))
+      (map (λ (r : Terms Variable × Chosen). (record { symbol = f.symbol; persistent = f.persistent; args = r.0 }, r.1)) rs)) (narrow_all_plain es good f.args s p.0)
+      ∙ ap (λ qs. map (λ (q : List (Fact Variable) × Chosen). (f ∷ q.0, q.1)) qs ++ []) (facts_plain fs s p.1)
+
+  actions_plain : (xs : List (Action Variable)) (s : Chosen) → Every (λ (a : Action Variable). Plain a.args) xs → each (narrow_action es) xs s ≡ (xs, s) ∷ []
+  actions_plain [] s p = refl
+  actions_plain (a ∷ xs) s p =
+      ap (λ rs. flat_map (λ (r : Action Variable × Chosen). map (λ (q : List (Action Variable) × Chosen). (r.0 ∷ q.0, q.1)) (each (narrow_action es) xs r.1))
+      (map (λ (r : Terms Variable × Chosen). (record { symbol = a.symbol; args = r.0 }, r.1)) rs)) (narrow_all_plain es good a.args s p.0)
+      ∙ ap (λ qs. map (λ (q : List (Action Variable) × Chosen). (a ∷ q.0, q.1)) qs ++ []) (actions_plain xs s p.1)
+
+  -- nothing is chosen in facts without destructors
+  narrow_facts_plain : (f : Facts Variable) (s : Chosen) → OfArguments Plain f → narrow_facts es f s ≡ (f, s) ∷ []
+  narrow_facts_plain f s h =
+      let made : List (Fact Variable) → List (Action Variable) × List (Fact Variable) → Facts Variable = λ ps r. record { premises = ps; actions = r.0; conclusions = r.1 } in
+      let Rest : Type 0 = (List (Action Variable) × List (Fact Variable)) × Chosen in
+      let rest : Chosen → List Rest = both (λ as' cs. (as', cs)) (each (narrow_action es) f.actions) (each (narrow_fact es) f.conclusions) in
+      let rest_is : rest s ≡ ((f.actions, f.conclusions), s) ∷ [] =
+      ap (flat_map (λ (r : List (Action Variable) × Chosen). map (λ (q : List (Fact Variable) × Chosen). ((r.0, q.0), q.1)) (each (narrow_fact es) f.conclusions r.1)))
+      (actions_plain f.actions s h.actions)
+      ∙ ap (λ qs. map (λ (q : List (Fact Variable) × Chosen). ((f.actions, q.0), q.1)) qs ++ []) (facts_plain f.conclusions s h.conclusions) in
+      ap (flat_map (λ (r : List (Fact Variable) × Chosen). map (λ (q : Rest). (made r.0 q.0, q.1)) (rest r.1)))
+      (facts_plain f.premises s h.premises)
+      ∙ ap (λ qs. map (λ (q : Rest). (made f.premises q.0, q.1)) qs ++ []) rest_is
+
+  -- no left side matches a term without destructors
+  not_there : (f : List ℕ) (us : Terms Variable) (n : ℕ) (e : Equation) → Member e es → (IsDestructor es f → ⊥) → mgu ((shifted n e.left, app f us) ∷ []) ≡ None
+  not_there f us n e m other = (unifier_law.none ((shifted n e.left, app f us) ∷ [])).1 (λ v s. no_instance es good f us n e m other v s.respects s.makes_same.0)
+
+  mutual
+    irreducible_plain : (n : ℕ) (s : Variable → Variable) (t : Term Variable) → IsPlain es t → irreducible es n (valued (λ x. var (s x)) t) ≡ true
+    irreducible_plain n s (var x) p = refl
+    irreducible_plain n s (constant c) p = refl
+    irreducible_plain n s (name k) p = refl
+    irreducible_plain n s (app f ts) p =
+        let us = valued_all (λ x. var (s x)) ts in
+        and_from (irreducible_all es n us) (not (list_any (is_matched n (app f us)) es)) (irreducible_all_plain n s ts p.1)
+        (ap not
+        (none_passes (is_matched n (app f us)) es
+        (λ e m. ap (leaves (app f us)) (not_there f us n e m p.0))))
+
+    irreducible_all_plain : (n : ℕ) (s : Variable → Variable) (ts : Terms Variable) → ArePlain es ts → irreducible_all es n (valued_all (λ x. var (s x)) ts) ≡ true
+    irreducible_all_plain n s none p = refl
+    irreducible_all_plain n s (more t ts) p =
+        and_from (irreducible es n (valued (λ x. var (s x)) t)) (irreducible_all es n (valued_all (λ x. var (s x)) ts)) (irreducible_plain n s t p.0) (irreducible_all_plain n s ts p.1)
+
+  module _ (rule : Rule) (plain : OfArguments Plain rule.facts) where
+    abbrev vars : Terms Variable
+    vars = rule_variables 0 rule.variables
+
+    abbrev itself : Form
+    itself = numbered rule.facts vars
+
+    itself_normal : is_normal_form es itself ≡ true
+    itself_normal =
+        let xs = seen rule.facts vars in
+        let Irreducible : Terms Variable → Type 0 = λ ts. irreducible_all es itself.count ts ≡ true in
+        all_pass (irreducible_all es itself.count) (args_of itself.facts)
+        (of_arguments Irreducible itself.facts
+        (args_at (renumbered xs) Plain Irreducible
+        (λ ts p. irreducible_all_plain itself.count (λ x. record { sort = x.sort; number = place xs x }) ts p) rule.facts plain))
+
+    one_result : results es rule ≡ itself ∷ []
+    one_result =
+        ap (flat_map (λ (r : Facts Variable × Chosen). form_by vars r.0 (mgu r.1.pairs))) (narrow_facts_plain rule.facts (record { pairs = []; next = start rule }) plain)
+        ∙ ap₂ (λ f kept. numbered f kept ∷ []) (facts_itself rule.facts) (put_all_itself vars)
+
+    one_form : forms es rule ≡ itself ∷ []
+    one_form =
+        ap (λ fs. without_repeats alike_form (filter (is_normal_form es) fs)) one_result
+        ∙ ap (λ c. without_repeats alike_form (cond c (itself ∷ []) [])) itself_normal
+
+pub plain_law : PlainRulesStay
+plain_law = record { each = λ es good rule plain. one_form es good rule plain }

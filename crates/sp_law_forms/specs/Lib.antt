@@ -1,0 +1,4 @@
+pub mod Narrowing
+pub mod Numbering
+pub mod Forms
+pub mod Laws
