@@ -2,13 +2,12 @@
 """Times provers on theories with N stages in a chain; see README.md beside it."""
 
 import os
-import subprocess
 import sys
 import tempfile
-import time
+
+from timed import row_that_begins, timed
 
 SIZES = [5, 10, 20, 40, 160]
-RUNS = 5
 
 FIRST = "rule First: [ Fr(~x) ] --[ First(~x) ]-> [ T_0(~x) ]\n"
 STAGE = "rule Stage_{n}: [ T_{n}(x) ] --> [ T_{next}(x) ]\n"
@@ -22,23 +21,6 @@ def theory(stages):
     return "theory Chain begin\n" + FIRST + middle + LAST.format(n=stages) + LEMMA + "end\n"
 
 
-def measured(prover, path, folder):
-    """The least time of some runs, the peak memory in KiB, and the line of the summary."""
-    answer = os.path.join(folder, "answer")
-    seconds = []
-    for _ in range(RUNS):
-        with open(answer, "wb") as out:
-            start = time.perf_counter()
-            subprocess.run([prover, "prove", path], stdout=out, check=False)
-            seconds.append(time.perf_counter() - start)
-    told = subprocess.run(
-        ["time", "-f", "%M", prover, "prove", path], stdout=subprocess.DEVNULL, stderr=subprocess.PIPE, check=False
-    )
-    with open(answer, encoding="utf-8") as text:
-        line = next((row for row in text if row.startswith("follows (")), "no line\n").strip()
-    return min(seconds), int(told.stderr.split()[-1]), line
-
-
 def main(provers):
     if not provers:
         sys.exit("usage: chain.py PROVER..")
@@ -50,9 +32,10 @@ def main(provers):
                 path = os.path.join(folder, f"chain{stages}.spthy")
                 with open(path, "w", encoding="utf-8") as text:
                     text.write(theory(stages))
-                seconds, kib, line = measured(prover, path, folder)
+                seconds, mib, written = timed(prover, "prove", path)
+                line = row_that_begins(written, "follows (")
                 growth = f"{seconds / before:.1f} x" if before else ""
-                print(f"{stages:>4} stages {seconds:>9.4f} s {growth:>8} {kib / 1024:>7.1f} MiB  {line}")
+                print(f"{stages:>4} stages {seconds:>9.4f} s {growth:>8} {mib:>7.1f} MiB  {line}")
                 before = seconds
 
 

@@ -12,8 +12,9 @@ use Rattle.sp_law_tree.proofs.Growing.{grown_tree_accepted}
 use Rattle.sp_check.specs.Skeleton.{tree_of}
 use Rattle.sp_check.specs.Skeleton as read
 use Rattle.sp_check.proofs.Right.{judgements_right}
-use Rattle.sp_spec_text.specs.Written.{WrittenProof, WrittenText, lemmas_with_proofs, without_proofs, theory_in}
-use Rattle.sp_spec_text.proofs.Items.{proved_by, lemmas_put}
+use Rattle.sp_spec_text.specs.Written.{WrittenProof, WrittenText, item_builtins, item_functions, lemmas_with_proofs, without_proofs}
+use Rattle.sp_spec_text.specs.Declared.{all_symbols, resolved, theory_in}
+use Rattle.sp_spec_text.proofs.Items.{kept, proved_by, lemmas_put, resolved_anew}
 use Rattle.sp_spec_text.specs.Texts.{IsTextOf}
 use Rattle.sp_skel.specs.Places.{HavePlaces}
 use Rattle.sp_skel.specs.Steps.{skeleton}
@@ -26,7 +27,7 @@ use Rattle.sp_spec_text.specs.Behind.{IsBehindEnd}
 use Rattle.sp_law_again.proofs.Behind.{behind_end}
 use Rattle.sp_law_again.proofs.Items.{read_again}
 use Rattle.sp_law_again.proofs.Replaced.{each_lemma, same_theory, trees_proofs}
-use Rattle.sp_wf.specs.Laws.{IsWellFormed}
+use Rattle.sp_analysis.proofs.Anew.{as_many_resolved, posed_anew}
 use Rattle.sp_analysis.specs.Sought.{goal_of, root_system, Setting, setting_of, context_of}
 use Rattle.sp_spec_text.specs.Verdict.{Verdict, verified, falsified, incomplete, rejected, Says, summary_line}
 use Rattle.sp_law_block.specs.Block.{block_of, IsNumbered}
@@ -142,28 +143,32 @@ written_is_checked_lem = record { checked = checked }
         let setting = setting_of theory in
         let words = summary (theory_of theory) outcomes in
         let js = all_again setting budget theory.lemmas outcomes a.outcomes_are in
-        let r = all_readable setting budget theory.lemmas outcomes (rules_named text a.theory a.poses.says) a.outcomes_are a.places in
+        let r = all_readable setting budget theory.lemmas outcomes (rules_named text a.theory a.poses.poses.says) a.outcomes_are a.places in
         let trees = trees_of outcomes in
         let again : WrittenText = record { name = a.theory.name; items = with_trees a.theory.items trees } in
         let same : theory_in again ≡ theory = same_theory a.theory trees in
+        let put : lemmas_with_proofs (resolved again).items ≡ proved_by (lemmas_with_proofs (resolved a.theory).items) (as_proofs trees) =
+        ap (λ (t : WrittenText). lemmas_with_proofs t.items) (resolved_anew a.theory (as_proofs trees)) ∙ lemmas_put (resolved a.theory).items (as_proofs trees) in
         let many : length trees ≡ length a.spans =
-        length-map outcomes (λ (o : Outcome). o.tree) ∙ as_many setting budget theory.lemmas outcomes a.outcomes_are ∙ sym (each_lemma text a.theory a.spans a.behind_end a.places_are) in
-        let says = read_again text a.theory a.spans a.behind_end trees (codes "/*\n" ++ (words ++ codes "*/\n")) a.poses.says a.places_are (trees_readable outcomes r) many in
+        length-map outcomes (λ (o : Outcome). o.tree) ∙ as_many setting budget theory.lemmas outcomes a.outcomes_are
+        ∙ as_many_resolved (all_symbols a.theory.items) a.theory.items ∙ sym (each_lemma text a.theory a.spans a.behind_end a.places_are) in
+        let says = read_again text a.theory a.spans a.behind_end trees (codes "/*\n" ++ (words ++ codes "*/\n")) a.poses.poses.says a.places_are (trees_readable outcomes r) many in
         record {
           judged = js;
           checking = record {
             theory = again;
-            poses = record { says = subst (λ (bytes : List ℕ). IsTextOf bytes again) (sym a.written_is) says; fine = subst IsWellFormed (sym same) a.poses.fine };
-            judged_are = subst (λ (t : WrittenTheory). AreJudged (setting_of t) [] (lemmas_with_proofs again.items) js) (sym same)
-                (subst (λ (qs : List (Lemma × Option WrittenProof)). AreJudged setting [] qs js) (sym (lemmas_put a.theory.items (as_proofs trees)))
-                (are_again setting budget (lemmas_with_proofs a.theory.items) outcomes a.outcomes_are r));
+            poses = posed_anew a.theory again (kept item_builtins (λ l p q. refl) a.theory.items (as_proofs trees)) (kept item_functions (λ l p q. refl) a.theory.items (as_proofs trees)) same a.poses
+                (subst (λ (bytes : List ℕ). IsTextOf bytes again) (sym a.written_is) says);
+            judged_are = subst (λ (t : WrittenTheory). AreJudged (setting_of t) [] (lemmas_with_proofs (resolved again).items) js) (sym same)
+                (subst (λ (qs : List (Lemma × Option WrittenProof)). AreJudged setting [] qs js) (sym put)
+                (are_again setting budget (lemmas_with_proofs (resolved a.theory).items) outcomes a.outcomes_are r));
             numbers = subst (λ (t : WrittenTheory). Every (λ (j : Judged). IsNumbered (theory_of t) j.log) js) (sym same)
                 (numbers_again setting budget (theory_of theory) theory.lemmas outcomes a.outcomes_are a.numbers);
             written_is = lines_again setting budget (theory_of theory) theory.lemmas outcomes a.outcomes_are r ∙ ap (λ (t : WrittenTheory). checked_text (theory_of t) js) (sym same);
           };
           same_theory = same;
           behind = subst (λ (bytes : List ℕ). IsBehindEnd bytes (codes "\n/*\n" ++ (words ++ codes "*/\n"))) (sym a.written_is)
-              (behind_end text a.theory a.spans a.behind_end trees (codes "/*\n" ++ (words ++ codes "*/\n")) a.poses.says a.places_are (trees_readable outcomes r) many);
+              (behind_end text a.theory a.spans a.behind_end trees (codes "/*\n" ++ (words ++ codes "*/\n")) a.poses.poses.says a.places_are (trees_readable outcomes r) many);
           proofs = trees_proofs text a.theory a.spans a.behind_end trees a.places_are many;
           verdicts = verdicts_again setting budget theory.lemmas outcomes a.outcomes_are;
           logs = logs_again setting budget theory.lemmas outcomes a.outcomes_are;

@@ -3,6 +3,7 @@ pub mod AnswersOne
 pub mod Writing
 pub mod Outcomes
 pub mod Verdicts
+pub mod Anew
 pub mod Again
 pub mod Blocks
 pub mod ReadBack

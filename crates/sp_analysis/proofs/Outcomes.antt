@@ -2,7 +2,7 @@
 use Rattle.std.proofs.Common.{◌≡◌, ℕ, Bool, true, false, List, [], ◌∷◌, ◌++◌, map, codes, Option, Some, None, option_map, refl, sym, ap, ap₂, ◌∙◌, subst, true≢false}
 use Rattle.sp_spec.specs.Lists.{Every}
 use Rattle.sp_spec.specs.Rule.{Rule}
-use Rattle.sp_spec.specs.Signature.{Signature, with_pairs}
+use Rattle.sp_spec.specs.Signature.{Signature}
 use Rattle.sp_spec.specs.Theory.{TraceKind, all_traces, exists_trace, Theory, Lemma}
 use Rattle.sp_spec.specs.Written.{theory_of}
 use Rattle.sp_spec.specs.Log.{Log}
@@ -25,16 +25,18 @@ use Rattle.sp_check.proofs.Right.{judgements_right}
 use Rattle.sp_spec.specs.Constants.{constants_of}
 use Rattle.sp_term.specs.View.{name_of}
 use Rattle.sp_fact.specs.BookView.{book_of}
+use Rattle.sp_ground.specs.View.{signature_of}
 use Rattle.sp_skel.specs.Places.{HavePlaces}
 use Rattle.sp_skel.specs.TreeText.{tree_text}
-use Rattle.sp_spec_text.specs.Written.{lemmas_with_proofs, lemmas_in, theory_in}
+use Rattle.sp_spec_text.specs.Written.{WrittenText, lemmas_with_proofs}
+use Rattle.sp_spec_text.specs.Declared.{theory_in}
 use Rattle.sp_written.specs.Views as view
 use Rattle.sp_written.specs.declared.theory.Item.{Item}
 use Rattle.sp_written.specs.declared.theory.Item.TheVariants as i
 use Rattle.sp_spec_text.specs.Spans.{Span, Rise, goes_on}
 use Rattle.sp_written.specs.declared.theory.WrittenLemma.{WrittenLemma}
 use Rattle.sp_law_again.specs.Again.{between, replaced}
-use Rattle.sp_pose.proofs.Forms.{AreForms, asked_list, has_forms, lemmas_same}
+use Rattle.sp_pose.proofs.Forms.{AreForms, asked_list, has_forms, lemmas_said}
 use Rattle.sp_analysis.specs.Sought.{Goal, goal_of, sought, root_with, root_system, Setting, setting_of, context_with, context_of, proof_tree, grown_log}
 use Rattle.sp_spec_text.specs.Verdict.{Verdict, Says, summary_line}
 use Rattle.sp_law_block.specs.Block.{block_of, IsNumbered}
@@ -44,6 +46,7 @@ use Rattle.sp_pose.specs.Asked.{Asked, asked_of, asked_with, lemmas_read}
 use Rattle.sp_analysis.specs.Printed.{Printed, printed_of, by_tree, by_judgement, judged_log, goal_for, judged_so, to_print, all_to_print, IsNameable, AreNameable, line_of, lines, spliced, text_with, written_by}
 use Rattle.sp_analysis.proofs.Blocks.{block_by_rules, numbered_by_rules}
 use Rattle.sp_analysis.specs.View.{verdict_of}
+use Rattle.sp_pose.specs.Problem.{PosesProofs, WantsForms}
 use Rattle.sp_pose.specs.Posed.{IsPosedBy}
 use Rattle.sp_analysis.specs.Replies.{IsAnalysed, IsChecked, IsDone}
 use Rattle.sp_pose.specs.declared.problem.Problem.{Problem}
@@ -59,6 +62,9 @@ spans_of ls = map (λ (l : WrittenLemma). view.span_of l.span) ls
 
 spans_read : (xs : List Item) → view.spans xs ≡ spans_of (lemmas_read xs)
 spans_read [] = refl
+spans_read (i.Builtins b ∷ xs) = spans_read xs
+spans_read (i.Functions f ∷ xs) = spans_read xs
+spans_read (i.Equations e ∷ xs) = spans_read xs
 spans_read (i.Rule r ∷ xs) = spans_read xs
 spans_read (i.Lemma l ∷ xs) = ap (λ (ss : List Span). view.span_of l.span ∷ ss) (spans_read xs)
 
@@ -239,6 +245,9 @@ all_judged_right : (setting : Setting) (xs : List Item) (gs : List Guarded) → 
 all_judged_right setting [] [] h = tt
 all_judged_right setting [] (g ∷ gs) h = absurd h
 all_judged_right setting (i.Rule r ∷ xs) gs h = all_judged_right setting xs gs h
+all_judged_right setting (i.Builtins b ∷ xs) gs h = all_judged_right setting xs gs h
+all_judged_right setting (i.Functions f ∷ xs) gs h = all_judged_right setting xs gs h
+all_judged_right setting (i.Equations e ∷ xs) gs h = all_judged_right setting xs gs h
 all_judged_right setting (i.Lemma l ∷ xs) [] h = absurd h
 all_judged_right setting (i.Lemma l ∷ xs) (g ∷ gs) h = (judged_right setting l g h.0, all_judged_right setting xs gs h.1)
 
@@ -273,37 +282,47 @@ abbrev verdicts_in : List Tried → List memory.Verdict
 verdicts_in ts = map (λ (t : Tried). t.verdict) ts
 
 -- what the proofs of a problem have in common
-abbrev pub setting_for : Signature → Problem → Setting
-setting_for signature p = record { signature = signature; rules = book_of p.rules; constants = map name_of p.constants.items }
+abbrev pub setting_for : Problem → Setting
+setting_for p = record { signature = signature_of p.signature; rules = book_of p.rules; constants = map name_of p.constants.items }
 
 abbrev setting_made : Signature → List Rule → List (List ℕ) → Setting
 setting_made signature rules constants = record { signature = signature; rules = rules; constants = constants }
 
-setting_is : {text : List ℕ} (signature : Signature) (p : Problem) (posed : IsPosedBy text p) → signature ≡ with_pairs [] [] → setting_for signature p ≡ setting_of (theory_in (view.theory posed.theory))
-setting_is signature p posed e = ap₂ (setting_made signature) posed.rules_are posed.constants_are ∙ ap (λ (x : Signature). setting_made x (theory_of (theory_in (view.theory posed.theory))).rules (constants_of (theory_in (view.theory posed.theory)))) e
+setting_is : {text : List ℕ} (p : Problem) (posed : IsPosedBy text p) → setting_for p ≡ setting_of (theory_in posed.said)
+setting_is p posed =
+    ap₂ (setting_made (signature_of p.signature)) posed.rules_are posed.constants_are
+    ∙ ap (λ (x : Signature). setting_made x (theory_of (theory_in posed.said)).rules (constants_of (theory_in posed.said))) posed.signature_is
 
-module _ {text : List ℕ} (signature : Signature) (pairs : signature ≡ with_pairs [] []) (p : Problem) (ts : List Tried) (written : List ℕ) (verdicts : List memory.Verdict) (posed : IsPosedBy text p) where
-  analysed : (budget : ℕ) → map printed_of ts ≡ all_to_print (Prove budget) (setting_for signature p) [] (map asked_of p.lemmas.items)
-      → AreNameable (Prove budget) (setting_for signature p) [] (map asked_of p.lemmas.items)
+-- proofs of what is posed can be searched and checked
+proved_of : {text : List ℕ} {p : Problem} (posed : IsPosedBy text p) → p.wants_forms ≡ false → PosesProofs text posed.said
+proved_of posed single = record { poses = posed.poses; single = sym posed.forms_are ∙ single }
+
+-- or they can't be
+pub wants : {text : List ℕ} {p : Problem} (posed : IsPosedBy text p) → p.wants_forms ≡ true → WantsForms text
+wants posed several = record { theory = posed.said; poses = posed.poses; several = sym posed.forms_are ∙ several }
+
+module _ {text : List ℕ} (p : Problem) (single : p.wants_forms ≡ false) (ts : List Tried) (written : List ℕ) (verdicts : List memory.Verdict) (posed : IsPosedBy text p) where
+  analysed : (budget : ℕ) → map printed_of ts ≡ all_to_print (Prove budget) (setting_for p) [] (map asked_of p.lemmas.items)
+      → AreNameable (Prove budget) (setting_for p) [] (map asked_of p.lemmas.items)
       → written ≡ written_by (Prove budget) text (map printed_of ts) p.behind_end → verdicts ≡ verdicts_in ts → IsAnalysed budget text written (map verdict_of verdicts)
   analysed budget prints nameable written_is verdicts_are =
       let xs = posed.theory.items.items in
       let ls = lemmas_read xs in
-      let setting = setting_for signature p in
-      let same = setting_is signature p posed pairs in
+      let setting = setting_for p in
+      let same = setting_is p posed in
       let h = has_forms ls (map asked_of p.lemmas.items) posed.lemmas_are in
-      let theory = theory_of (theory_in (view.theory posed.theory)) in
+      let theory = theory_of (theory_in posed.said) in
       let os = outcomes_of setting budget ls h.forms in
       let all : map printed_of ts ≡ all_to_print (Prove budget) setting [] (asked_list ls h.forms) = prints ∙ ap (all_to_print (Prove budget) setting []) h.is in
       let named = subst (λ (as' : List Asked). AreNameable (Prove budget) setting [] as') h.is nameable in
       let text_of : List ℕ → List ℕ → List ℕ = λ body words. body ++ (codes "\n/*\n" ++ (words ++ codes "*/\n")) in
-      let right : AreOutcomes setting budget [] (lemmas_in (view.items xs)) os = subst (λ (ms : List Lemma). AreOutcomes setting budget [] ms os) (sym (lemmas_same xs)) (outcomes_right setting budget ls h.forms h.are) in
+      let right : AreOutcomes setting budget [] (theory_in posed.said).lemmas os = subst (λ (ms : List Lemma). AreOutcomes setting budget [] ms os) (sym (lemmas_said p posed)) (outcomes_right setting budget ls h.forms h.are) in
       record {
         outcomes = os;
         analysis = record {
-          theory = view.theory posed.theory;
-          poses = posed.poses;
-          outcomes_are = subst (λ (x : Setting). AreOutcomes x budget [] (lemmas_in (view.items xs)) os) same right;
+          theory = posed.said;
+          poses = proved_of posed single;
+          outcomes_are = subst (λ (x : Setting). AreOutcomes x budget [] (theory_in posed.said).lemmas os) same right;
           places = outcomes_placed setting budget ls h.forms named;
           numbers = outcomes_numbered setting budget theory posed.rules_are ls h.forms named;
           spans = view.spans xs;
@@ -316,32 +335,33 @@ module _ {text : List ℕ} (signature : Signature) (pairs : signature ≡ with_p
         verdicts_are = ap (map verdict_of) verdicts_are ∙ sym (tried_verdicts ts) ∙ ap printed_verdicts all ∙ verdicts_same setting budget ls h.forms;
       }
 
-  checked : map printed_of ts ≡ all_to_print Check (setting_for signature p) [] (map asked_of p.lemmas.items) → AreNameable Check (setting_for signature p) [] (map asked_of p.lemmas.items)
+  checked : map printed_of ts ≡ all_to_print Check (setting_for p) [] (map asked_of p.lemmas.items) → AreNameable Check (setting_for p) [] (map asked_of p.lemmas.items)
       → written ≡ written_by Check text (map printed_of ts) p.behind_end → verdicts ≡ verdicts_in ts
       → IsChecked text written (map verdict_of verdicts)
   checked prints nameable written_is verdicts_are =
       let xs = posed.theory.items.items in
       let ls = lemmas_read xs in
-      let setting = setting_for signature p in
-      let same = setting_is signature p posed pairs in
+      let setting = setting_for p in
+      let same = setting_is p posed in
       let h = has_forms ls (map asked_of p.lemmas.items) posed.lemmas_are in
       let js = all_judged setting ls h.forms in
-      let theory = theory_of (theory_in (view.theory posed.theory)) in
+      let theory = theory_of (theory_in posed.said) in
       let all : map printed_of ts ≡ all_to_print Check setting [] (asked_list ls h.forms) = prints ∙ ap (all_to_print Check setting []) h.is in
       record {
         judged = js;
         checking = record {
-          theory = view.theory posed.theory;
-          poses = posed.poses;
-          judged_are = subst (λ (x : Setting). AreJudged x [] (lemmas_with_proofs (view.items xs)) js) same (all_judged_right setting xs h.forms h.are);
+          theory = posed.said;
+          poses = proved_of posed single;
+          judged_are = subst (λ (t : WrittenText). AreJudged (setting_of (theory_in posed.said)) [] (lemmas_with_proofs t.items) js) posed.resolved_is
+              (subst (λ (x : Setting). AreJudged x [] (lemmas_with_proofs (view.items xs)) js) same (all_judged_right setting xs h.forms h.are));
           numbers = judged_numbered setting theory posed.rules_are ls h.forms (subst (λ (as' : List Asked). AreNameable Check setting [] as') h.is nameable);
           written_is = written_is ∙ ap lines all ∙ checked_same setting ls h.forms ∙ checked_by_rules (theory_of_rules setting.rules) theory posed.rules_are js;
         };
         verdicts_are = ap (map verdict_of) verdicts_are ∙ sym (tried_verdicts ts) ∙ ap printed_verdicts all ∙ judged_verdicts setting ls h.forms;
       }
 
-  pub is_done : (command : Command) → map printed_of ts ≡ all_to_print command (setting_for signature p) [] (map asked_of p.lemmas.items)
-      → AreNameable command (setting_for signature p) [] (map asked_of p.lemmas.items) → written ≡ written_by command text (map printed_of ts) p.behind_end → verdicts ≡ verdicts_in ts
+  pub is_done : (command : Command) → map printed_of ts ≡ all_to_print command (setting_for p) [] (map asked_of p.lemmas.items)
+      → AreNameable command (setting_for p) [] (map asked_of p.lemmas.items) → written ≡ written_by command text (map printed_of ts) p.behind_end → verdicts ≡ verdicts_in ts
       → IsDone command text written (map verdict_of verdicts)
   is_done (Prove budget) prints nameable written_is verdicts_are = analysed budget prints nameable written_is verdicts_are
   is_done Check prints nameable written_is verdicts_are = checked prints nameable written_is verdicts_are

@@ -7,19 +7,18 @@ use Rattle.std.proofs.lemmas.Bool.{and_parts}
 use Rattle.sp_law_decide.specs.Deciding.{decided, empty}
 use Rattle.sp_spec_text.specs.StepLines.{IsWritableStep}
 use Rattle.sp_law_block.specs.Shown.{IsShownAction}
+use Rattle.sp_spec.specs.Signature.{Signature}
 use Rattle.sp_spec.specs.Theory.{TraceKind, all_traces, exists_trace, Lemma, signature_of}
 use Rattle.sp_spec.specs.Written.{WrittenTheory, theory_of}
 use Rattle.sp_spec.specs.Constants.{constants_of}
 use Rattle.sp_spec.specs.Guarded.{Guarded}
-use Rattle.sp_law_equal.specs.NormalForms.{HasNormalForms}
-use Rattle.sp_law_equal.proofs.Pairs.{no_own_equations}
 use Rattle.sp_law_guard.specs.GuardedForm.{negate}
 use Rattle.sp_law_guard.specs.CheckedForm.{checked_form}
 use Rattle.sp_law_guard.proofs.Checked.{form_checked}
 use Rattle.sp_law_guard.proofs.Throughout.{Throughout, negate_throughout}
 use Rattle.sp_law_found.specs.Found.{execution_of}
-use Rattle.sp_spec_text.specs.Written.{WrittenProof, WrittenText, lemmas_with_proofs, without_proofs, theory_in}
-use Rattle.sp_spec_text.specs.Texts.{IsTextOf}
+use Rattle.sp_spec_text.specs.Written.{WrittenProof, WrittenText, lemmas_with_proofs, without_proofs}
+use Rattle.sp_spec_text.specs.Declared.{resolved, theory_in}
 use Rattle.sp_spec_system.specs.System.{System}
 use Rattle.sp_spec_system.specs.Numbered.{names_in}
 use Rattle.sp_spec_proof.specs.Tree.{Tree, found_log}
@@ -33,10 +32,9 @@ use Rattle.sp_log.specs.Checking.{is_log}
 use Rattle.sp_log.proofs.Checks.{log_decides}
 use Rattle.sp_solved.specs.Candidate.{candidate}
 use Rattle.sp_solved.specs.Found.{is_sought, kept_if}
+use Rattle.sp_law_shown.specs.Shown.{IsSearched}
 use Rattle.sp_law_shown.proofs.Executable.{executable, checkable}
-use Rattle.sp_wf.specs.Laws.{IsWellFormed}
-use Rattle.sp_pose.proofs.Theories.{AreFirst, theory_spelled}
-use Rattle.sp_spec_text.proofs.SymbolNames.{pairs_have_names}
+use Rattle.sp_pose.specs.Problem.{PosesProofs}
 use Rattle.sp_law_block.specs.Block.{oldest_first, IsNumbered}
 use Rattle.sp_law_block.proofs.CandidateNames.{candidates_have_names_lem, every_newest}
 use Rattle.sp_law_block.proofs.Ends.{ends_are_well_made_lem}
@@ -56,18 +54,18 @@ kept_entries : (b : Bool) (entries : List Entry) (log : Log) → kept_if b entri
 kept_entries true entries log e = (refl, cc)
 kept_entries false entries log e = absurd cc
 
-module _ (text : List ℕ) (written : WrittenText) (says : IsTextOf text written) (fine : IsWellFormed (theory_in written)) where
+module _ (text : List ℕ) (written : WrittenText) (posing : PosesProofs text written) where
   abbrev theory : WrittenTheory
   theory = theory_in written
 
-  forms : HasNormalForms (signature_of (theory_of theory))
-  forms = no_own_equations []
+  abbrev signature : Signature
+  signature = signature_of (theory_of theory)
 
-  first : AreFirst theory.rules theory.lemmas
-  first = theory_spelled says.spells
+  found_in : IsSearched theory
+  found_in = searched written posing
 
   suits : SuitsProofs (theory_of theory)
-  suits = text_suits theory forms first.rules_are fine.rules
+  suits = text_suits theory found_in.normal_forms found_in.basic found_in.right
 
   -- the system in which a proof begins
   begins_well : (l : Lemma) → IsLemmaOf theory l → (g : Guarded) → checked_form l.formula ≡ Some g → (kind : TraceKind)
@@ -79,32 +77,30 @@ module _ (text : List ℕ) (written : WrittenText) (says : IsTextOf text written
 
       at : (kind : TraceKind) → IsWellMade (context_of (setting_of theory) (goal_of [] kind g)) (root_system (goal_of [] kind g))
       at all_traces = record {
-        numbered = right_numbered (names_in (constants_of theory)) (negate g) (right_negation g (lemma_right l f.0 g e)) (negate_throughout (NamedAtom (names_in (constants_of theory))) zero g named);
+        numbered = right_numbered signature (names_in (constants_of theory)) (negate g) (right_negation signature g (lemma_right signature l f.0 g e)) (negate_throughout (NamedAtom (names_in (constants_of theory))) zero g named);
       }
-      at exists_trace = record { numbered = right_numbered (names_in (constants_of theory)) g (lemma_right l f.0 g e) named }
+      at exists_trace = record { numbered = right_numbered signature (names_in (constants_of theory)) g (lemma_right signature l f.0 g e) named }
 
   -- a log that is found in a tree
   read_back : (goal : Goal) (s : System) → IsWellMade (context_of (setting_of theory) goal) s → (tree : Tree) (log : Log)
       → found_log (context_of (setting_of theory) goal) s tree ≡ Some log → IsNumbered (theory_of theory) (Some log) → IsReadBack (theory_of theory) log
   read_back goal s made tree log e numbers =
-      let signature = signature_of (theory_of theory) in
       let rules = (theory_of theory).rules in
       let f = sought goal.kind goal.form in
       let constants = constants_of theory in
-      let found_in = searched theory forms first fine refl in
-      let end = ends_are_well_made_lem.ends (theory_of theory) suits (context_of (setting_of theory) goal) (is_context theory forms first fine refl goal) s made tree log e in
+      let end = ends_are_well_made_lem.ends (theory_of theory) suits (context_of (setting_of theory) goal) (is_context written posing goal) s made tree log e in
       let q = then_some (λ (entries : List Entry). kept_if (is_sought signature rules f entries) entries) (candidate constants end.0) log end.2 in
       let k = kept_entries (is_sought signature rules f q.0) q.0 log q.2 in
       let is = (log_decides (theory_of theory) (checkable theory found_in) q.0).0 (and_parts (is_log signature rules q.0) (decided (log_trace (newest_first q.0)) empty f) k.0).0 in
-      let names = candidates_have_names_lem.names constants (texts_have_names_lem.constants text written says) end.0 end.1.numbered q.0 q.1 in
-      let named = texts_have_names_lem.rules text written says in
+      let names = candidates_have_names_lem.names constants (texts_have_names_lem.constants text written posing.poses.says) end.0 end.1.numbered q.0 q.1 in
+      let named = texts_have_names_lem.rules text written posing.poses.says in
       let exe = executable theory found_in in
       let newest = newest_first q.0 in
       let ends = subst (λ (l : Log). IsNumbered (theory_of theory) (Some l)) (sym k.1) numbers in
       let writable = every_newest (IsWritableStep signature.symbols) (execution_of (theory_of theory) newest) (logs_may_be_written_lem.steps theory exe named newest is.0 is.1 names ends) in
       subst (IsReadBack (theory_of theory)) k.1 (record {
         writable = writable;
-        read = steps_are_read_back_lem.read signature.symbols pairs_have_names (oldest_first (execution_of (theory_of theory) newest)) writable;
+        read = steps_are_read_back_lem.read signature.symbols (texts_have_names_lem.symbols text written posing.poses.says) (oldest_first (execution_of (theory_of theory) newest)) writable;
         shown = every_newest (Every (IsShownAction signature.symbols)) (visible_trace newest) (logs_may_be_written_lem.trace theory exe named suits.over.actions newest is.0 is.1 names);
       })
 
@@ -150,11 +146,7 @@ module _ (text : List ℕ) (written : WrittenText) (says : IsTextOf text written
 pub executions_are_read_back_lem : ExecutionsAreReadBack
 executions_are_read_back_lem = record {
   tried = λ budget text written outcomes a.
-      let theory = theory_in a.theory in
-      let lemmas = lemmas_of theory (theory_spelled a.poses.says.spells).lemmas_are in
-      outcomes_read text a.theory a.poses.says a.poses.fine budget theory.lemmas outcomes lemmas a.outcomes_are a.numbers;
+      outcomes_read text a.theory a.poses budget (theory_in a.theory).lemmas outcomes (lemmas_of a.poses.poses) a.outcomes_are a.numbers;
   checked = λ text written judged c.
-      let theory = theory_in c.theory in
-      let lemmas = lemmas_of theory (theory_spelled c.poses.says.spells).lemmas_are in
-      all_judged_read text c.theory c.poses.says c.poses.fine (lemmas_with_proofs c.theory.items) judged lemmas c.judged_are c.numbers;
+      all_judged_read text c.theory c.poses (lemmas_with_proofs (resolved c.theory).items) judged (lemmas_of c.poses.poses) c.judged_are c.numbers;
 }

@@ -9,8 +9,6 @@ use Rattle.sp_spec.specs.Theory.{TraceKind, all_traces, exists_trace, Lemma, sig
 use Rattle.sp_spec.specs.Written.{WrittenTheory, theory_of}
 use Rattle.sp_spec.specs.Guarded.{Guarded}
 use Rattle.sp_spec.specs.Verdict.{HoldsInAll, HoldsInNone, names_learning, HoldsInAllLogs, HoldsInNoLog}
-use Rattle.sp_law_equal.specs.NormalForms.{HasNormalForms}
-use Rattle.sp_law_equal.proofs.Pairs.{no_own_equations}
 use Rattle.sp_law_guard.specs.GuardedForm.{negate}
 use Rattle.sp_law_guard.specs.CheckedForm.{checked_form}
 use Rattle.sp_law_decide.specs.Deciding.{decided, empty}
@@ -30,7 +28,7 @@ use Rattle.sp_law_tree.proofs.Growing.{grown_tree_accepted}
 use Rattle.sp_law_tree.proofs.Logs.{log_found}
 use Rattle.sp_law_shown.proofs.Found.{found_logs_show_lem}
 use Rattle.sp_spec.specs.Constants.{constants_of}
-use Rattle.sp_wf.specs.Laws.{IsWellFormed}
+use Rattle.sp_wf.specs.Laws.{IsFineRule}
 use Rattle.sp_analysis.specs.Sought.{Goal, goal_of, root_system, setting_of, context_of}
 use Rattle.sp_analysis.specs.Analysis.{Outcome, IsOutcome, AreOutcomes}
 use Rattle.sp_analysis.specs.Laws.{Means, IsRejected, JudgedRightly, VerdictsAreRight}
@@ -40,9 +38,10 @@ use Rattle.sp_spec_system.specs.System.{System}
 use Rattle.sp_check.specs.Skeleton.{Skeleton}
 use Rattle.sp_check.specs.Rejected.{ReadIsAccepted}
 use Rattle.sp_check.proofs.Right.{judgements_right}
-use Rattle.sp_spec_text.specs.Written.{WrittenProof, WrittenText, lemmas_with_proofs, without_proofs, theory_in}
-use Rattle.sp_spec_text.specs.Texts.{IsTextOf}
-use Rattle.sp_pose.proofs.Theories.{AreFirst, theory_spelled}
+use Rattle.sp_spec_text.specs.Written.{WrittenProof, WrittenText, lemmas_with_proofs, without_proofs}
+use Rattle.sp_spec_text.specs.Declared.{resolved, theory_in}
+use Rattle.sp_pose.specs.Problem.{Poses, PosesProofs}
+use Rattle.sp_pose.proofs.BasicTheories.{normal_forms, lemmas_are_basic, rules_are_basic}
 
 -- a proof isn't rejected exactly where it is accepted
 accepted_or_rejected : (context : Context) (s : System) (k : Skeleton) (kind : TraceKind) (v : Verdict) (log : Option Log) → IsVerdictIn context s k kind v log
@@ -76,34 +75,48 @@ found_tested signature rules constants f s log e = at (candidate constants s) e
 
 -- a lemma of the text, with the text's public names
 abbrev pub IsLemmaOf : WrittenTheory → Lemma → Type 0
-IsLemmaOf theory l = IsBasicFormula l.formula × HasNames (names_in (constants_of theory)) l.formula
+IsLemmaOf theory l = IsBasicFormula (signature_of (theory_of theory)) l.formula × HasNames (names_in (constants_of theory)) l.formula
 
-pub lemmas_of : (theory : WrittenTheory) → Every (λ (l : Lemma). IsBasicFormula l.formula) theory.lemmas → Every (IsLemmaOf theory) theory.lemmas
-lemmas_of theory basic = go theory.lemmas (λ l m. m) basic
+pub lemmas_of : {bytes : List ℕ} {text : WrittenText} → Poses bytes text → Every (IsLemmaOf (theory_in text)) (theory_in text).lemmas
+lemmas_of {text = text} posing = go (theory_in text).lemmas (λ l m. m) (lemmas_are_basic posing)
   where
-    go : (ls : List Lemma) → ((l : Lemma) → Member l ls → Member l theory.lemmas) → Every (λ (l : Lemma). IsBasicFormula l.formula) ls → Every (IsLemmaOf theory) ls
+    go : (ls : List Lemma) → ((l : Lemma) → Member l ls → Member l (theory_in text).lemmas) → Every (λ (l : Lemma). IsBasicFormula (signature_of (theory_of (theory_in text))) l.formula) ls
+        → Every (IsLemmaOf (theory_in text)) ls
     go [] among h = tt
-    go (l ∷ ls) among h = ((h.0, names_stand_lem.lemmas theory l (among l (inl refl)) h.0), go ls (λ x m. among x (inr m)) h.1)
+    go (l ∷ ls) among h = ((h.0, names_stand_lem.lemmas (theory_in text) l (among l (inl refl)) h.0), go ls (λ x m. among x (inr m)) h.1)
 
 -- no lemma of a text names learning
-pub lemmas_unlearnt : (bytes : List ℕ) (text : WrittenText) → IsTextOf bytes text → Every (λ (l : Lemma). names_learning l.formula ≡ false) (theory_in text).lemmas
-lemmas_unlearnt bytes text says =
-    every_weaken (λ (l : Lemma). IsBasicFormula l.formula) (λ (l : Lemma). names_learning l.formula ≡ false) (λ l h. basic_names_none l.formula h) (theory_in text).lemmas (theory_spelled says.spells).lemmas_are
+pub lemmas_unlearnt : {bytes : List ℕ} (text : WrittenText) → Poses bytes text → Every (λ (l : Lemma). names_learning l.formula ≡ false) (theory_in text).lemmas
+lemmas_unlearnt text posing =
+    let signature = signature_of (theory_of (theory_in text)) in
+    every_weaken (λ (l : Lemma). IsBasicFormula signature l.formula) (λ (l : Lemma). names_learning l.formula ≡ false) (λ l h. basic_names_none signature l.formula h) (theory_in text).lemmas (lemmas_are_basic posing)
 
-module _ (theory : WrittenTheory) (forms : HasNormalForms (signature_of (theory_of theory))) (first : AreFirst theory.rules theory.lemmas) (fine : IsWellFormed theory) (none : theory.restrictions ≡ []) where
+module _ {bytes : List ℕ} (text : WrittenText) (posing : PosesProofs bytes text) where
+  abbrev theory : WrittenTheory
+  theory = theory_in text
+
+  abbrev signature : Signature
+  signature = signature_of (theory_of theory)
+
   pub searched : IsSearched theory
-  searched = record { normal_forms = forms; basic = first.rules_are; rule_names = fine.rule_names; right = fine.rules; unrestricted = none }
+  searched = record {
+    normal_forms = normal_forms posing.poses;
+    basic = rules_are_basic posing;
+    rule_names = posing.poses.fine.rule_names;
+    right = every_weaken (IsFineRule signature.symbols signature.equations) _ (λ r h. h.right) theory.rules posing.poses.fine.rules;
+    unrestricted = refl;
+  }
 
   pub is_context : (goal : Goal) → IsContextOf (theory_of theory) (context_of (setting_of theory) goal)
-  is_context goal = record { rules = refl; numbered = names_stand_lem.rules theory first.rules_are }
+  is_context goal = record { rules = refl; numbered = names_stand_lem.rules theory searched.basic }
 
-  breaks : (l : Lemma) → IsBasicFormula l.formula → (g : Guarded) → checked_form l.formula ≡ Some g → (s : System) (log : Log)
+  breaks : (l : Lemma) → IsBasicFormula signature l.formula → (g : Guarded) → checked_form l.formula ≡ Some g → (s : System) (log : Log)
       → found (signature_of (theory_of theory)) (theory_of theory).rules (constants_of theory) (negate g) s ≡ Some log → FoundBreaks (theory_of theory) l log
   breaks l f g e s log is =
       let h = found_tested (signature_of (theory_of theory)) (theory_of theory).rules (constants_of theory) (negate g) s log is in
       subst (FoundBreaks (theory_of theory) l) h.log_is (found_logs_show_lem.breaks theory searched l f g e h.entries h.is_log h.is_true)
 
-  satisfies : (l : Lemma) → IsBasicFormula l.formula → (g : Guarded) → checked_form l.formula ≡ Some g → (s : System) (log : Log)
+  satisfies : (l : Lemma) → IsBasicFormula signature l.formula → (g : Guarded) → checked_form l.formula ≡ Some g → (s : System) (log : Log)
       → found (signature_of (theory_of theory)) (theory_of theory).rules (constants_of theory) g s ≡ Some log → FoundSatisfies (theory_of theory) l log
   satisfies l f g e s log is =
       let h = found_tested (signature_of (theory_of theory)) (theory_of theory).rules (constants_of theory) g s log is in
@@ -119,8 +132,8 @@ module _ (theory : WrittenTheory) (forms : HasNormalForms (signature_of (theory_
       → IsAccepted (context_of (setting_of theory) (goal_of [] kind g)) (root_system (goal_of [] kind g)) tree
       → log ≡ found_log (context_of (setting_of theory) (goal_of [] kind g)) (root_system (goal_of [] kind g)) tree → Says kind v log (IsFinished tree) → Means (theory_of theory) kind v log l
   shown l f g e all_traces verified None tree accepted is says =
-      into_reading l (basic_names_none l.formula f.0) (HoldsInAllLogs (theory_of theory) l) (HoldsInAll (theory_of theory) l)
-      (lemmas_are_shown_lem.all_traces theory forms first.rules_are fine.rules l f.0 g e (context_of (setting_of theory) (goal_of [] all_traces g)) (is_context (goal_of [] all_traces g)) f.1 tree accepted says)
+      into_reading l (basic_names_none signature l.formula f.0) (HoldsInAllLogs (theory_of theory) l) (HoldsInAll (theory_of theory) l)
+      (lemmas_are_shown_lem.all_traces theory searched.normal_forms searched.basic searched.right l f.0 g e (context_of (setting_of theory) (goal_of [] all_traces g)) (is_context (goal_of [] all_traces g)) f.1 tree accepted says)
   shown l f g e all_traces verified (Some log) tree accepted is says = absurd says
   shown l f g e all_traces falsified None tree accepted is says = absurd says
   shown l f g e all_traces falsified (Some log) tree accepted is says =
@@ -132,8 +145,8 @@ module _ (theory : WrittenTheory) (forms : HasNormalForms (signature_of (theory_
   shown l f g e exists_trace verified (Some log) tree accepted is says =
       let s = ended (goal_of [] exists_trace g) tree log is in satisfies l f.0 g e s.0 log s.1
   shown l f g e exists_trace falsified None tree accepted is says =
-      into_reading l (basic_names_none l.formula f.0) (HoldsInNoLog (theory_of theory) l) (HoldsInNone (theory_of theory) l)
-      (lemmas_are_shown_lem.exists_trace theory forms first.rules_are fine.rules l f.0 g e (context_of (setting_of theory) (goal_of [] exists_trace g)) (is_context (goal_of [] exists_trace g)) f.1 tree accepted says)
+      into_reading l (basic_names_none signature l.formula f.0) (HoldsInNoLog (theory_of theory) l) (HoldsInNone (theory_of theory) l)
+      (lemmas_are_shown_lem.exists_trace theory searched.normal_forms searched.basic searched.right l f.0 g e (context_of (setting_of theory) (goal_of [] exists_trace g)) (is_context (goal_of [] exists_trace g)) f.1 tree accepted says)
   shown l f g e exists_trace falsified (Some log) tree accepted is says = absurd says
   shown l f g e exists_trace incomplete None tree accepted is says = tt
   shown l f g e exists_trace incomplete (Some log) tree accepted is says = absurd says
@@ -182,9 +195,7 @@ module _ (theory : WrittenTheory) (forms : HasNormalForms (signature_of (theory_
 pub verdicts_are_right_lem : VerdictsAreRight
 verdicts_are_right_lem = record {
   right = λ budget text written outcomes a.
-      let first = theory_spelled a.poses.says.spells in
-      outcomes_right (theory_in a.theory) (no_own_equations []) first a.poses.fine refl budget (theory_in a.theory).lemmas outcomes (lemmas_of (theory_in a.theory) first.lemmas_are) a.outcomes_are;
+      outcomes_right a.theory a.poses budget (theory_in a.theory).lemmas outcomes (lemmas_of a.poses.poses) a.outcomes_are;
   judged_right = λ text written judged c.
-      let first = theory_spelled c.poses.says.spells in
-      all_judged_right (theory_in c.theory) (no_own_equations []) first c.poses.fine refl (lemmas_with_proofs c.theory.items) judged (lemmas_of (theory_in c.theory) first.lemmas_are) c.judged_are;
+      all_judged_right c.theory c.poses (lemmas_with_proofs (resolved c.theory).items) judged (lemmas_of c.poses.poses) c.judged_are;
 }

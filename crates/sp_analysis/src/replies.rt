@@ -1,6 +1,6 @@
 // What comes of a text.
 
-ghost use Rattle.std.specs.Prelude.{IfOk};
+ghost use Rattle.std.specs.Prelude.{◌≡◌, false, IfOk};
 ghost use Rattle.sp_pose.specs.Posed.{IsPosedBy};
 ghost use Rattle.sp_analysis.specs.Replies.{IsReplyTo};
 
@@ -8,7 +8,6 @@ use crate::setting::Setting;
 use crate::tried::all_tried;
 use crate::verdict::Verdict;
 use crate::written::{verdicts, written_by};
-use sp_ground::signature::Signature;
 use sp_pose::{Problem, Read, posed_by};
 use std::alloc::{AllocError, Global};
 
@@ -28,22 +27,26 @@ pub enum Reply {
     Refused(usize),
     /// There are findings on its theory, and these are their lines.
     Reported(Vec<u8>),
+    /// There are none, but some rule has other forms beside itself, over which no proofs are searched or checked yet.
+    WantsForms,
     /// What is written, and what is said of each lemma.
     Done(Vec<u8>, Vec<Verdict>),
 }
 
 /// What is done with a problem of the text.
 fn done(alloc: Global, command: Command, text: &[u8], problem: Problem) -> Result<Reply, AllocError>
-    requires { IsPosedBy text.now problem }
+    requires posed { IsPosedBy text.now problem }
+    requires single { problem.wants_forms ≡ false }
     ensures { IfOk result (IsReplyTo command text.now) }
 {
     let Problem {
+        signature,
         rules,
         constants,
         lemmas,
         behind_end,
+        ..
     } = problem;
-    let signature = Signature::pairs(alloc)?;
     let setting = Setting {
         signature,
         rules,
@@ -67,6 +70,7 @@ pub fn answer(alloc: Global, command: Command, text: &[u8]) -> Result<Reply, All
     match posed_by(alloc, text)? {
         Read::Refused(place) => Ok(Reply::Refused(place)),
         Read::Reported(lines) => Ok(Reply::Reported(lines)),
+        Read::Posed(problem) if problem.wants_forms => Ok(Reply::WantsForms),
         Read::Posed(problem) => done(alloc, command, text, problem),
     }
 }

@@ -1,5 +1,5 @@
 -- The names of formulas that are joined, by those of each.
-use Rattle.std.proofs.Common.{◌≡◌, ℕ, List, ◌++◌, refl}
+use Rattle.std.proofs.Common.{◌≡◌, ◌++◌, refl}
 use Rattle.sp_spec.specs.Formula.{Formula}
 use Rattle.sp_spec.specs.Constants.{in_formula}
 use Rattle.sp_read_parts.specs.Reading.{Joint, conjoint, disjoint, join}

@@ -1,3 +1,4 @@
 pub mod Once
 pub mod Stepping
 pub mod Joints
+pub mod Theory

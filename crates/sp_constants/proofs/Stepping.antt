@@ -23,8 +23,14 @@ next {A = A} each flat begins ys xs i x a b target same h e seen inv =
 -- a rule, or nothing; a lemma, or nothing
 pub rules_begin : (x : Item) (xs : List Item) → in_rules (rules_in (view.items (x ∷ xs))) ≡ in_rules (rules_in (view.item x ∷ [])) ++ in_rules (rules_in (view.items xs))
 rules_begin (i.Rule r) xs = ap (λ (ls : List (List ℕ)). ls ++ in_rules (rules_in (view.items xs))) (sym (append-nil _))
+rules_begin (i.Builtins bs) xs = refl
+rules_begin (i.Functions fs) xs = refl
+rules_begin (i.Equations es) xs = refl
 rules_begin (i.Lemma l) xs = refl
 
 pub lemmas_begin : (x : Item) (xs : List Item) → in_lemmas (lemmas_in (view.items (x ∷ xs))) ≡ in_lemmas (lemmas_in (view.item x ∷ [])) ++ in_lemmas (lemmas_in (view.items xs))
-lemmas_begin (i.Rule r) xs = refl
 lemmas_begin (i.Lemma l) xs = ap (λ (ls : List (List ℕ)). ls ++ in_lemmas (lemmas_in (view.items xs))) (sym (append-nil _))
+lemmas_begin (i.Builtins bs) xs = refl
+lemmas_begin (i.Functions fs) xs = refl
+lemmas_begin (i.Equations es) xs = refl
+lemmas_begin (i.Rule r) xs = refl

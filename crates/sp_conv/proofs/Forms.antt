@@ -6,8 +6,8 @@ use Rattle.sp_law_conv.specs.Accepted.{IsWellFormed, HasPrivateConstant, HasWron
 use Rattle.sp_conv.specs.declared.form.Form.{Form}
 use Rattle.sp_conv.specs.declared.form.Form.TheVariants.{WellFormed, PrivateConstant, WrongShape}
 use Rattle.sp_conv.specs.Forms.{IsForm}
-use Rattle.sp_conv.specs.Tests.{is_constant, have_form, leads}
-use Rattle.sp_conv.proofs.Tests.{is_well_formed, has_private_constant, is_well_formed_decides, has_private_constant_decides}
+use Rattle.sp_conv.specs.Tests.{is_constant, have_form, leads, is_well_formed, has_private_constant}
+use Rattle.sp_conv.proofs.Tests.{is_well_formed_decides, has_private_constant_decides}
 
 module _ (symbols : List Symbol) (es : List Equation) (e : Equation) where
   -- a private constant has the form that is asked for

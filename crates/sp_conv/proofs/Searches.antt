@@ -3,11 +3,12 @@ use Rattle.std.proofs.Common.{◌≡◌, ◌<◌, ◌≤◌, ◌+◌, ℕ, zero,
 use Rattle.std.proofs.lemmas.Bool.{cases_eq}
 use Rattle.std.proofs.lemmas.Option.{slice_get_read}
 use Rattle.sp_spec.proofs.Lists.{length_map, place_got, place_map}
-use Rattle.sp_spec.specs.Lists.{Member, AtPlace}
+use Rattle.sp_spec.specs.Lists.{AtPlace}
 use Rattle.sp_spec.specs.Signature.{Symbol, Equation}
 use Rattle.sp_spec.specs.Substitution.{Binding}
 use Rattle.sp_law_conv.specs.Clash.{DoClash, DoClashBy}
 use Rattle.sp_law_conv.specs.Accepted.{HasWrongShape, HasPrivateConstant, AreAccepted}
+use Rattle.sp_law_conv.proofs.Places.{place_one, member_place}
 use Rattle.sp_conv.specs.Check.{IsFirst, IsFirstClash, IsOfNone}
 use Rattle.sp_conv.specs.Searches.{IsFirstBehind, NoneClashesBehind, NoTwoClash}
 use Rattle.sp_conv.proofs.Forms.{else_well_formed}
@@ -26,15 +27,6 @@ place_below : {A : Type 0} (xs : List A) (k : ℕ) (x : A) → AtPlace xs k x �
 place_below [] k x a = absurd a
 place_below (y ∷ xs) zero x a = omega arith
 place_below (y ∷ xs) (suc k) x a = let l = place_below xs k x a in omega arith
-
-place_one : {A : Type 0} (xs : List A) (k : ℕ) (x y : A) → AtPlace xs k x → AtPlace xs k y → x ≡ y
-place_one [] k x y a b = absurd a
-place_one (z ∷ xs) zero x y a b = sym a ∙ b
-place_one (z ∷ xs) (suc k) x y a b = place_one xs k x y a b
-
-member_placed : {A : Type 0} (xs : List A) (x : A) → Member x xs → (k : ℕ) × AtPlace xs k x
-member_placed [] x m = absurd m
-member_placed (y ∷ xs) x m = ⊎_elim (λ e. (zero, e)) (λ n. let r = member_placed xs x n in (suc r.0, r.1)) m
 
 -- ---- the first equation of which something is so
 
@@ -113,6 +105,6 @@ module _ (es : List Equation) where
 
 pub accepted : (symbols : List Symbol) (es : List Equation) → IsOfNone (HasWrongShape symbols es) es → IsOfNone (HasPrivateConstant symbols es) es → NoTwoClash es → AreAccepted symbols es
 accepted symbols es shapes constants clashes = record {
-  each = λ e m. let p = member_placed es e m in else_well_formed symbols es e (shapes p.0 e p.1) (constants p.0 e p.1);
+  each = λ e m. let p = member_place es e m in else_well_formed symbols es e (shapes p.0 e p.1) (constants p.0 e p.1);
   agree = clashes.none;
 }

@@ -13,7 +13,7 @@ use Rattle.sp_spec.specs.Signature.{Symbol, Equation}
 use Rattle.sp_spec.proofs.Same.{same_variable_decides, same_by_decides}
 use Rattle.sp_law_equal.specs.Parts.{IsPart, IsPartOfOne, IsProperPart}
 use Rattle.sp_law_conv.specs.Accepted.{IsApplicationOf, IsDestructorOf, IsOfConstructors, AreOfConstructors, IsLeftSide, IsConstant, IsWellFormed, HasPrivateConstant}
-use Rattle.sp_conv.specs.Tests.{is_application, some_root, is_pair, is_destructor, is_msg, of_constructors, all_of_constructors, is_left_side, is_part, is_part_of_one, is_proper_part, names_constant, has_constant, is_constant, have_form, leads}
+use Rattle.sp_conv.specs.Tests.{is_application, some_root, is_pair, is_destructor, is_msg, of_constructors, all_of_constructors, is_left_side, is_part, is_part_of_one, is_proper_part, names_constant, has_constant, is_constant, have_form, leads, is_well_formed, has_private_constant}
 
 never : Decides false ⊥
 never = (λ e. absurd cc, λ h. absurd h)
@@ -39,7 +39,7 @@ some_root_tells (e ∷ es) f n h =
     ⊎_elim (λ k. (e, inl refl, (is_application_decides f n e.left).0 k)) (λ k. let r = some_root_tells es f n k in (r.0, inr r.1, r.2))
     (or_cases (is_application f n e.left) (some_root es f n) h)
 
-some_root_from : (es : List Equation) (f : List ℕ) (n : ℕ) (e : Equation) → Member e es → is_application f n e.left ≡ true → some_root es f n ≡ true
+pub some_root_from : (es : List Equation) (f : List ℕ) (n : ℕ) (e : Equation) → Member e es → is_application f n e.left ≡ true → some_root es f n ≡ true
 some_root_from [] f n e m h = absurd m
 some_root_from (d ∷ es) f n e (inl m) h = or_left (is_application f n d.left) (some_root es f n) (ap (λ (z : Equation). is_application f n z.left) m ∙ h)
 some_root_from (d ∷ es) f n e (inr m) h = or_right (is_application f n d.left) (some_root es f n) (some_root_from es f n e m h)
@@ -87,7 +87,7 @@ module _ (es : List Equation) where
 
 -- ---- parts
 
-alike_decides : (t u : Term Variable) → Decides (alike t u) (t ≡ u)
+pub alike_decides : (t u : Term Variable) → Decides (alike t u) (t ≡ u)
 alike_decides t u = same_by_decides same_variable same_variable_decides t u
 
 module _ (r : Term Variable) where
@@ -136,12 +136,6 @@ is_constant_decides symbols private (app c none) = has_constant_decides symbols 
 is_constant_decides symbols private (app c (more t ts)) = never
 
 -- ---- equations
-
-abbrev pub is_well_formed : List Symbol → List Equation → Equation → Bool
-is_well_formed symbols es e = have_form es e && leads symbols e
-
-abbrev pub has_private_constant : List Symbol → List Equation → Equation → Bool
-has_private_constant symbols es e = have_form es e && (is_constant symbols true e.right && not (is_well_formed symbols es e))
 
 module _ (symbols : List Symbol) (es : List Equation) (e : Equation) where
   have_form_decides : Decides (have_form es e) (IsLeftSide es e.left × IsOfConstructors es e.right)

@@ -82,3 +82,11 @@ have_form es e = is_left_side es e.left && of_constructors es e.right
 
 abbrev pub leads : List Symbol → Equation → Bool
 leads symbols e = is_proper_part e.right e.left || is_constant symbols false e.right
+
+-- the equation by itself is as it should be
+abbrev pub is_well_formed : List Symbol → List Equation → Equation → Bool
+is_well_formed symbols es e = have_form es e && leads symbols e
+
+-- only that its right side is a constant that is private is wrong with it
+abbrev pub has_private_constant : List Symbol → List Equation → Equation → Bool
+has_private_constant symbols es e = have_form es e && (is_constant symbols true e.right && not (is_well_formed symbols es e))

@@ -27,9 +27,13 @@ fn sum(first: u128, second: u128) -> Result<u128, AllocError>
     }
 }
 
-// A number above that of each variable.
+/// A number above that of each variable of the term: the sum over its variables of what stands above each.
+///
+/// # Errors
+///
+/// `AllocError` where the number doesn't fit.
 #[cycle(above)]
-fn above(term: &Term) -> Result<u128, AllocError>
+pub fn above(term: &Term) -> Result<u128, AllocError>
     ensures { IfOk result (λ n. n ≡ above (view term.now)) }
 {
     match term {
@@ -39,8 +43,13 @@ fn above(term: &Term) -> Result<u128, AllocError>
     }
 }
 
+/// A number above that of each variable of the terms.
+///
+/// # Errors
+///
+/// `AllocError` where the number doesn't fit.
 #[cycle(above)]
-fn above_all(terms: &Vec<Term>) -> Result<u128, AllocError>
+pub fn above_all(terms: &Vec<Term>) -> Result<u128, AllocError>
     ensures { IfOk result (λ n. n ≡ above_all (view_all terms.now.items)) }
 {
     let mut number = 0;
@@ -83,8 +92,12 @@ impl Assigns<Variable, Variable> for Renaming {
     }
 }
 
-// The term over variables of numbers from this on.
-fn shifted(alloc: Global, by: u128, term: &Term) -> Result<Term, AllocError>
+/// The term with its variables' numbers moved up by this, so that they stand apart from those below it.
+///
+/// # Errors
+///
+/// `AllocError` where memory is wanting, or a variable's new number doesn't fit.
+pub fn shifted(alloc: Global, by: u128, term: &Term) -> Result<Term, AllocError>
     ensures { IfOk result (λ t. view t ≡ shifted by (view term.now)) }
 {
     apply(alloc, &Renaming { by }, term)

@@ -61,8 +61,8 @@ fn is_pair(name: &Name) -> bool
     name.text.as_str() == "pair"
 }
 
-// Whether the symbol, over so many arguments, is a destructor.
-fn is_destructor(equations: &Vec<Equation>, name: &Name, count: usize) -> bool
+/// Whether the symbol, over so many arguments, is a destructor.
+pub fn is_destructor(equations: &Vec<Equation>, name: &Name, count: usize) -> bool
     ensures { result ≡ is_destructor (map equation_of equations.now.items) (name_of name.now) count }
 {
     !is_pair(name) && some_root(equations, name, count)

@@ -1,29 +1,42 @@
 // What may be wrong with a fact of a rule.
 
-ghost use Rattle.std.specs.Prelude.{◌≡◌, ◌&&◌, not};
+ghost use Rattle.std.specs.Prelude.{◌≡◌, ◌&&◌, not, map};
 ghost use Rattle.sp_spec.specs.Findings as findings;
 ghost use Rattle.sp_read_parts.specs.Views as view;
-ghost use Rattle.sp_read_parts.specs.Views.{facts_of, fact_of};
+ghost use Rattle.sp_read_parts.specs.Views.{action_of, facts_of, fact_of, terms};
 
-use sp_read_parts::{Mark, WrittenFact, WrittenTerm};
+use sp_read_parts::{Mark, WrittenAction, WrittenFact, WrittenTerm};
+use sp_term::term::Term;
 
 /// The most arguments that a fact may have.
 const MOST_ARGUMENTS: usize = 16;
 
-/// Whether the fact has too many arguments.
+/// Whether there are too many arguments.
 #[tactic(auto, using(crate::proofs::Counted::counted))]
-fn is_wide(fact: &WrittenFact) -> bool
-    ensures { result ≡ findings.is_wide (fact_of fact.now).args }
+fn are_too_many(args: &Vec<WrittenTerm>) -> bool
+    ensures { result ≡ findings.is_wide (terms args.now.items) }
 {
-    MOST_ARGUMENTS < fact.arguments.len()
+    MOST_ARGUMENTS < args.len()
 }
 
 /// Whether a fact among them has too many arguments.
-pub fn has_wide(facts: &Vec<WrittenFact>) -> bool
+pub fn has_wide_fact(facts: &Vec<WrittenFact>) -> bool
     ensures { result ≡ findings.has_wide_fact (facts_of facts.now.items) }
 {
     for fact in facts {
-        if is_wide(fact) {
+        if are_too_many(&fact.args) {
+            return true;
+        }
+    }
+    false
+}
+
+/// Whether an action among them has too many arguments.
+pub fn has_wide_action(actions: &Vec<WrittenAction>) -> bool
+    ensures { result ≡ findings.has_wide_action (map action_of actions.now.items) }
+{
+    for action in actions {
+        if are_too_many(&action.args) {
             return true;
         }
     }
@@ -35,7 +48,14 @@ pub fn has_wide(facts: &Vec<WrittenFact>) -> bool
 fn is_one(fact: &WrittenFact) -> bool
     ensures { result ≡ findings.is_one (fact_of fact.now).args }
 {
-    fact.arguments.len() == 1
+    fact.args.len() == 1
+}
+
+/// Whether the fact's name is that of fresh values.
+pub fn is_fr(fact: &WrittenFact) -> bool
+    ensures { result ≡ findings.is_fr_named (fact_of fact.now) }
+{
+    fact.symbol.text.as_str() == "Fr"
 }
 
 /// Whether a premise Fr is persistent, or hasn't one argument.
@@ -43,7 +63,7 @@ pub fn has_wrong_premise(premises: &Vec<WrittenFact>) -> bool
     ensures { result ≡ findings.has_wrong_premise (facts_of premises.now.items) }
 {
     for fact in premises {
-        if fact.symbol == "Fr" && (fact.persistent || !is_one(fact)) {
+        if is_fr(fact) && (fact.persistent || !is_one(fact)) {
             return true;
         }
     }
@@ -55,7 +75,7 @@ pub fn has_fr(facts: &Vec<WrittenFact>) -> bool
     ensures { result ≡ findings.has_fr (facts_of facts.now.items) }
 {
     for fact in facts {
-        if fact.symbol == "Fr" {
+        if is_fr(fact) {
             return true;
         }
     }
@@ -80,12 +100,12 @@ fn may_be_fresh(mark: Mark) -> bool
 fn is_wrong_argument(fact: &WrittenFact) -> bool
     ensures { result ≡ (findings.is_one (fact_of fact.now).args && not (findings.is_fresh_variable (fact_of fact.now).args)) }
 {
-    if fact.arguments.len() != 1 {
+    if fact.args.len() != 1 {
         return false;
     }
-    match fact.arguments[0] {
-        WrittenTerm::Variable(variable) => !may_be_fresh(variable.mark),
-        WrittenTerm::Constant(_) => true,
+    match &fact.args[0] {
+        Term::Var(variable) => !may_be_fresh(variable.mark),
+        _ => true,
     }
 }
 
@@ -94,7 +114,7 @@ pub fn has_wrong_argument(premises: &Vec<WrittenFact>) -> bool
     ensures { result ≡ findings.has_wrong_argument (facts_of premises.now.items) }
 {
     for fact in premises {
-        if fact.symbol == "Fr" && is_wrong_argument(fact) {
+        if is_fr(fact) && is_wrong_argument(fact) {
             return true;
         }
     }

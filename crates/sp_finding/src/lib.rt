@@ -9,5 +9,6 @@ mod facts;
 mod rule;
 mod variables;
 
+pub use facts::is_fr;
 pub use rule::rule_is_wrong;
 pub use variables::{occurrences, sort_in};

@@ -7,8 +7,8 @@ ghost use Rattle.sp_read_parts.specs.Views as view;
 ghost use Rattle.sp_read_parts.specs.Views.{facts_of};
 ghost use Rattle.sp_term.specs.View.{sort_of};
 
-use crate::facts::{has_fr, has_wide, has_wrong_argument, has_wrong_premise};
-use crate::variables::{gather_all, is_fr_argument, occurrences, sort_in};
+use crate::facts::{has_fr, has_wide_action, has_wide_fact, has_wrong_argument, has_wrong_premise};
+use crate::variables::{gather_actions, gather_facts, is_fr_argument, occurrences, sort_in};
 use sp_read_parts::{Mark, WrittenRule, WrittenVariable};
 use sp_term::term::Sort;
 use std::alloc::{AllocError, Global};
@@ -34,7 +34,7 @@ fn has_two_sorts(rule: &WrittenRule, all: &Vec<WrittenVariable>) -> bool
     ensures { result ≡ findings.has_two_sorts (view.rule rule.now).facts (map view.variable all.now.items) }
 {
     for variable in all {
-        let by_fr = is_fr_argument(variable.name, &rule.premises);
+        let by_fr = is_fr_argument(variable.name, &rule.facts.premises);
         let sort = sort_in(rule, all, variable.name);
         if !agrees(by_fr, sort, variable.mark) {
             return true;
@@ -63,7 +63,7 @@ fn has_unbound(
     variables: &Vec<WrittenVariable>,
 ) -> bool
     requires all { map view.variable all.now.items ≡ written.occurrences (view.rule rule.now).facts }
-    requires bound { map view.variable bound.now.items ≡ written.in_facts (facts_of rule.now.premises.items) }
+    requires bound { map view.variable bound.now.items ≡ written.in_facts (facts_of rule.now.facts.premises.items) }
     ensures { result ≡ findings.has_unbound (view.rule rule.now).facts (map view.variable variables.now.items) }
 {
     for variable in variables {
@@ -80,32 +80,32 @@ fn has_unbound(
 }
 
 /// Whether a fact or an action of the rule has too many arguments.
-#[tactic(auto, using(crate::proofs::Counted::wide_actions))]
 fn is_too_wide(rule: &WrittenRule) -> bool
     ensures { result ≡ (findings.has_wide_fact (view.rule rule.now).facts.premises || (findings.has_wide_action (view.rule rule.now).facts.actions || findings.has_wide_fact (view.rule rule.now).facts.conclusions)) }
 {
-    has_wide(&rule.premises) || has_wide(&rule.actions) || has_wide(&rule.conclusions)
+    has_wide_fact(&rule.facts.premises)
+        || has_wide_action(&rule.facts.actions)
+        || has_wide_fact(&rule.facts.conclusions)
 }
 
 /// Whether the rule has a fatal finding: a fact of more than sixteen arguments, a variable of two sorts, a wrong Fr, or a variable
 /// that isn't public and stands in no premise.
-#[tactic(auto, using(crate::proofs::Gathered::actions_as_facts))]
 pub fn rule_is_wrong(alloc: Global, rule: &WrittenRule) -> Result<bool, AllocError>
     ensures { IfOk result (λ b. b ≡ findings.rule_is_wrong (view.rule rule.now)) }
 {
     let all = occurrences(alloc, rule)?;
     let mut bound = Vec::new(alloc);
-    gather_all(&mut bound, &rule.premises)?;
+    gather_facts(&mut bound, &rule.facts.premises)?;
     let mut shown = Vec::new(alloc);
-    gather_all(&mut shown, &rule.actions)?;
+    gather_actions(&mut shown, &rule.facts.actions)?;
     let mut added = Vec::new(alloc);
-    gather_all(&mut added, &rule.conclusions)?;
+    gather_facts(&mut added, &rule.facts.conclusions)?;
     Ok(
         is_too_wide(rule)
             || has_two_sorts(rule, &all)
-            || has_wrong_premise(&rule.premises)
-            || has_fr(&rule.conclusions)
-            || has_wrong_argument(&rule.premises)
+            || has_wrong_premise(&rule.facts.premises)
+            || has_fr(&rule.facts.conclusions)
+            || has_wrong_argument(&rule.facts.premises)
             || has_unbound(rule, &all, &bound, &shown)
             || has_unbound(rule, &all, &bound, &added),
     )

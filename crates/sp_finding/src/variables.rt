@@ -2,40 +2,71 @@
 
 ghost use Rattle.std.specs.Prelude.{◌≡◌, IfOk, OnOk, map, ◌++◌};
 ghost use Rattle.sp_spec.specs.Term.{Fresh, Pub};
-ghost use Rattle.sp_spec.specs.Written.{in_facts, in_terms, is_argument};
+ghost use Rattle.sp_spec.specs.Written.{in_actions, in_facts, in_term, in_terms};
 ghost use Rattle.sp_spec.specs.Written as written;
 ghost use Rattle.sp_read_parts.specs.Views as view;
 ghost use Rattle.sp_read_parts.specs.Views.{facts_of, fact_of};
 ghost use Rattle.sp_term.specs.View.{sort_of};
 
-use sp_read_parts::{Mark, WrittenFact, WrittenRule, WrittenTerm, WrittenVariable};
-use sp_term::term::Sort;
+use crate::facts::is_fr;
+use sp_read_parts::{Mark, WrittenAction, WrittenFact, WrittenRule, WrittenTerm, WrittenVariable};
+use sp_term::term::{Sort, Term};
 use std::alloc::{AllocError, Global};
 
-/// Puts the variables of a fact at the end.
+/// Puts the variables of a term at the end.
+#[cycle(gather)]
+fn gather_term<'a>(
+    found: &mut Vec<WrittenVariable<'a>>,
+    term: &WrittenTerm<'a>,
+) -> Result<(), AllocError>
+    ensures { OnOk result (map view.variable found.new.items ≡ map view.variable found.old.items ++ in_term (view.term term.now)) }
+{
+    match term {
+        Term::Var(variable) => {
+            found.push(*variable)?;
+            Ok(())
+        }
+        Term::Constant(_) | Term::FreshName(_) => Ok(()),
+        Term::App(_, terms, _) => gather(found, terms),
+    }
+}
+
+/// Puts the variables of terms at the end.
+#[cycle(gather)]
 fn gather<'a>(
     found: &mut Vec<WrittenVariable<'a>>,
-    fact: &WrittenFact<'a>,
+    terms: &Vec<WrittenTerm<'a>>,
 ) -> Result<(), AllocError>
-    ensures { OnOk result (map view.variable found.new.items ≡ map view.variable found.old.items ++ in_terms (fact_of fact.now).args) }
+    ensures { OnOk result (map view.variable found.new.items ≡ map view.variable found.old.items ++ in_terms (view.terms terms.now.items)) }
 {
-    for term in &fact.arguments {
-        if let WrittenTerm::Variable(variable) = term {
-            found.push(*variable)?;
-        }
+    for term in terms {
+        gather_term(found, term)?;
     }
     Ok(())
 }
 
 /// Puts the variables of facts at the end.
-pub fn gather_all<'a>(
+pub fn gather_facts<'a>(
     found: &mut Vec<WrittenVariable<'a>>,
     facts: &Vec<WrittenFact<'a>>,
 ) -> Result<(), AllocError>
     ensures { OnOk result (map view.variable found.new.items ≡ map view.variable found.old.items ++ in_facts (facts_of facts.now.items)) }
 {
     for fact in facts {
-        gather(found, fact)?;
+        gather(found, &fact.args)?;
+    }
+    Ok(())
+}
+
+/// Puts the variables of actions at the end.
+pub fn gather_actions<'a>(
+    found: &mut Vec<WrittenVariable<'a>>,
+    actions: &Vec<WrittenAction<'a>>,
+) -> Result<(), AllocError>
+    ensures { OnOk result (map view.variable found.new.items ≡ map view.variable found.old.items ++ in_actions (map view.action_of actions.now.items)) }
+{
+    for action in actions {
+        gather(found, &action.args)?;
     }
     Ok(())
 }
@@ -49,9 +80,9 @@ pub fn occurrences<'a>(
     ensures { IfOk result (λ xs. map view.variable xs.items ≡ written.occurrences (view.rule rule.now).facts) }
 {
     let mut found = Vec::new(alloc);
-    gather_all(&mut found, &rule.premises)?;
-    gather_all(&mut found, &rule.actions)?;
-    gather_all(&mut found, &rule.conclusions)?;
+    gather_facts(&mut found, &rule.facts.premises)?;
+    gather_actions(&mut found, &rule.facts.actions)?;
+    gather_facts(&mut found, &rule.facts.conclusions)?;
     Ok(found)
 }
 
@@ -60,12 +91,12 @@ pub fn occurrences<'a>(
 fn is_argument(name: &str, fact: &WrittenFact) -> bool
     ensures { result ≡ written.is_argument name.now (fact_of fact.now).args }
 {
-    if fact.arguments.len() != 1 {
+    if fact.args.len() != 1 {
         return false;
     }
-    match fact.arguments[0] {
-        WrittenTerm::Variable(variable) => variable.name == name,
-        WrittenTerm::Constant(_) => false,
+    match &fact.args[0] {
+        Term::Var(variable) => variable.name == name,
+        _ => false,
     }
 }
 
@@ -74,7 +105,7 @@ pub fn is_fr_argument(name: &str, premises: &Vec<WrittenFact>) -> bool
     ensures { result ≡ written.is_fr_argument name.now (facts_of premises.now.items) }
 {
     for fact in premises {
-        if fact.symbol == "Fr" && is_argument(name, fact) {
+        if is_fr(fact) && is_argument(name, fact) {
             return true;
         }
     }
@@ -110,7 +141,7 @@ pub fn sort_in(rule: &WrittenRule, variables: &Vec<WrittenVariable>, name: &str)
     requires { map view.variable variables.now.items ≡ written.occurrences (view.rule rule.now).facts }
     ensures { sort_of result ≡ written.sort_in (view.rule rule.now).facts name.now }
 {
-    if is_fr_argument(name, &rule.premises) || is_written(Sort::Fresh, name, variables) {
+    if is_fr_argument(name, &rule.facts.premises) || is_written(Sort::Fresh, name, variables) {
         Sort::Fresh
     } else if is_written(Sort::Pub, name, variables) {
         Sort::Pub

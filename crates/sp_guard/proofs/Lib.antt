@@ -1,8 +1,6 @@
 pub mod Lists
-pub mod Each
 pub mod Negating
 pub mod Joining
-pub mod Among
 pub mod QuantifiedForm
 pub mod MarksFit
 pub mod NoneUnguarded

@@ -1,12 +1,10 @@
--- Lists that are looked through from the outermost binder to the innermost, and answers gathered one after the other.
+-- Lists that are looked through from the outermost binder to the innermost.
 use Rattle.std.proofs.Common.{arith, ◌≡◌, ◌+◌, ◌<◌, ◌∙◌, ap, ℕ, suc, List, [], ◌∷◌, length, map, take, get_or, Option, Some, option_map, if◌then◌else◌}
 use Rattle.std.specs.Str.{bytes_eq}
 use Rattle.std.proofs.Math.Seq.{take-suc}
 use mathlib.Core.List.{map-append}
 use Rattle.sp_spec.specs.Formula.{Written}
 use Rattle.sp_read_parts.specs.declared.written.Mark.TheVariants.{Bare}
-use Rattle.sp_read_parts.specs.declared.written.WrittenTerm.{WrittenTerm}
-use Rattle.sp_read_parts.specs.declared.written.WrittenTerm.TheVariants.{Variable}
 use Rattle.sp_read_parts.specs.declared.written.WrittenVariable.{WrittenVariable}
 use Rattle.sp_read_parts.specs.Views.{variable}
 use Rattle.sp_law_guard.specs.GuardedForm.{Meant, binder_meant, past_binder, meant}
@@ -17,9 +15,6 @@ use Rattle.sp_spec.proofs.Lists.{newest_last}
 -- what stands behind the end of a list
 abbrev pub none_written : WrittenVariable
 none_written = record { name = record { ref_ptr = (0, 0); now = [] }; mark = Bare }
-
-abbrev pub no_term : WrittenTerm
-no_term = Variable none_written
 
 -- what a name means inside one more binder
 abbrev pub inside : List ℕ → Written → Option Meant → Option Meant

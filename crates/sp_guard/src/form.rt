@@ -182,8 +182,8 @@ pub fn guarded_form<'a>(
     match formula {
         ReadFormula::True => Ok(Some(Formula::Truth)),
         ReadFormula::False => Ok(Some(Formula::Falsity)),
-        ReadFormula::Happens(fact, at) => {
-            let atom = action_placed(alloc, binders, fact, at)?;
+        ReadFormula::Happens(action, at) => {
+            let atom = action_placed(alloc, binders, action, at)?;
             Ok(held(atom))
         }
         ReadFormula::Equals(left, right) => {

@@ -3,7 +3,7 @@
 ghost use Rattle.std.specs.Prelude.{◌≡◌, [], ◌∷◌, ◌++◌, ◌&&◌, not, IfOk, map, option_map};
 ghost use Rattle.sp_spec.specs.Written.{in_term, in_terms};
 ghost use Rattle.sp_spec.specs.Findings.{is_wide};
-ghost use Rattle.sp_spec_text.specs.Shapes.{row, quantified};
+ghost use Rattle.sp_spec_text.specs.Shapes.{quantified};
 ghost use Rattle.sp_spec_text.specs.Formulas.{quantified_some};
 ghost use Rattle.sp_read_parts.specs.Views as view;
 ghost use Rattle.sp_spec.specs.Formula as formulas;
@@ -19,7 +19,8 @@ use crate::form::{guarded_form, within};
 use crate::guarded::is_guarded;
 use crate::meaning::{Meaning, meant};
 use sp_formula::formula::Formula;
-use sp_read_parts::{Mark, ReadFormula, WrittenFact, WrittenTerm, WrittenVariable};
+use sp_read_parts::{Mark, ReadFormula, WrittenAction, WrittenTerm, WrittenVariable};
+use sp_term::leaves::{Tests, each_leaf, each_leaf_of_all};
 use std::alloc::{AllocError, Global};
 
 /// Whether a message marked like this can be what the binder with the other mark binds.
@@ -35,72 +36,68 @@ fn is_same_mark(mark: Mark, binder: Mark) -> bool
     }
 }
 
-/// Whether the variable is marked like the binder that it means.
-fn fits(binders: &Vec<WrittenVariable>, variable: &WrittenVariable) -> bool
-    ensures { result ≡ spec.fits (view.mark variable.now.mark) (forms.meant (innermost_first binders.now.items) variable.now.name.now) }
-{
-    match meant(binders, variable.name) {
-        None => true,
-        Some(Meaning::Message(binder, _)) => is_same_mark(variable.mark, binder),
-        Some(Meaning::Time(_)) => matches!(variable.mark, Mark::Bare | Mark::Time),
-    }
+/// Whether a variable inside these binders is marked like the binder that it means.
+#[derive(Clone, Copy)]
+struct Fits<'a, 'b> {
+    binders: &'a Vec<WrittenVariable<'b>>,
 }
 
-/// Whether the term's variable fits its binder.
-#[tactic(auto, using(crate::proofs::MarksFit::one_fits))]
-fn term_fits(binders: &Vec<WrittenVariable>, term: &WrittenTerm) -> bool
-    ensures { result ≡ spec.each_fits (innermost_first binders.now.items) (in_term (view.term term.now)) }
-{
-    match term {
-        WrittenTerm::Variable(variable) => fits(binders, variable),
-        WrittenTerm::Constant(_) => true,
-    }
-}
+impl<'a, 'b> Tests<WrittenVariable<'b>> for Fits<'a, 'b> {
+    ghost Kind = { formulas.Written };
 
-/// Whether each variable of the terms fits its binder.
-#[tactic(auto, using(crate::proofs::MarksFit::both_fit))]
-fn terms_fit(binders: &Vec<WrittenVariable>, terms: &Vec<WrittenTerm>) -> bool
-    ensures { result ≡ spec.each_fits (innermost_first binders.now.items) (in_terms (row (map view.term terms.now.items))) }
-{
-    for term in terms {
-        if !term_fits(binders, term) {
-            return false;
+    ghost leaf_of = { view.variable };
+
+    ghost test_of = { λ t x. spec.fits x.mark (forms.meant (innermost_first t.binders.now.items) x.name) };
+
+    fn passes(&self, variable: &WrittenVariable<'b>) -> bool {
+        match meant(self.binders, variable.name) {
+            None => true,
+            Some(Meaning::Message(binder, _)) => is_same_mark(variable.mark, binder),
+            Some(Meaning::Time(_)) => matches!(variable.mark, Mark::Bare | Mark::Time),
         }
     }
-    true
 }
 
 /// Whether each variable of the action and its time fit their binders.
-#[tactic(auto, using(crate::proofs::MarksFit::both_fit, crate::proofs::MarksFit::one_fits))]
-fn action_fits(binders: &Vec<WrittenVariable>, fact: &WrittenFact, at: &WrittenVariable) -> bool
-    ensures { result ≡ spec.each_fits (innermost_first binders.now.items) (in_terms (row (map view.term fact.now.arguments.items)) ++ (view.variable at.now ∷ [])) }
+fn action_fits<'a>(
+    binders: &Vec<WrittenVariable<'a>>,
+    action: &WrittenAction<'a>,
+    at: &WrittenVariable<'a>,
+) -> bool
+    ensures { result ≡ spec.each_fits (innermost_first binders.now.items) (in_terms (view.terms action.now.args.items) ++ (view.variable at.now ∷ [])) }
 {
-    let args = terms_fit(binders, &fact.arguments);
-    let time = fits(binders, at);
+    let fits = Fits { binders };
+    let args = each_leaf_of_all(&fits, &action.args);
+    let time = fits.passes(at);
     args && time
 }
 
 /// Whether each variable of both terms fits its binder.
-#[tactic(auto, using(crate::proofs::MarksFit::both_fit))]
-fn equality_fits(binders: &Vec<WrittenVariable>, left: &WrittenTerm, right: &WrittenTerm) -> bool
+fn equality_fits<'a>(
+    binders: &Vec<WrittenVariable<'a>>,
+    left: &WrittenTerm<'a>,
+    right: &WrittenTerm<'a>,
+) -> bool
     ensures { result ≡ spec.each_fits (innermost_first binders.now.items) (in_term (view.term left.now) ++ in_term (view.term right.now)) }
 {
-    let first = term_fits(binders, left);
-    let second = term_fits(binders, right);
+    let fits = Fits { binders };
+    let first = each_leaf(&fits, left);
+    let second = each_leaf(&fits, right);
     first && second
 }
 
 /// Whether both times fit their binders.
 #[tactic(auto, using(crate::proofs::MarksFit::one_fits))]
-fn order_fits(
-    binders: &Vec<WrittenVariable>,
-    left: &WrittenVariable,
-    right: &WrittenVariable,
+fn order_fits<'a>(
+    binders: &Vec<WrittenVariable<'a>>,
+    left: &WrittenVariable<'a>,
+    right: &WrittenVariable<'a>,
 ) -> bool
     ensures { result ≡ spec.each_fits (innermost_first binders.now.items) (view.variable left.now ∷ view.variable right.now ∷ []) }
 {
-    let first = fits(binders, left);
-    let second = fits(binders, right);
+    let fits = Fits { binders };
+    let first = fits.passes(left);
+    let second = fits.passes(right);
     first && second
 }
 
@@ -120,7 +117,7 @@ pub fn marks_fit<'a>(
 {
     match formula {
         ReadFormula::True | ReadFormula::False => Ok(true),
-        ReadFormula::Happens(fact, at) => Ok(action_fits(binders, fact, at)),
+        ReadFormula::Happens(action, at) => Ok(action_fits(binders, action, at)),
         ReadFormula::Equals(left, right) => Ok(equality_fits(binders, left, right)),
         ReadFormula::Precedes(left, right) => Ok(order_fits(binders, left, right)),
         ReadFormula::Not(denied) => marks_fit(alloc, binders, denied),
@@ -170,10 +167,10 @@ fn and_fit<'a>(
 }
 
 #[tactic(auto, using(crate::proofs::MarksFit::wide_length))]
-fn is_wide_action(fact: &WrittenFact) -> bool
-    ensures { result ≡ is_wide (row (map view.term fact.now.arguments.items)) }
+fn is_wide_action(action: &WrittenAction) -> bool
+    ensures { result ≡ is_wide (view.terms action.now.args.items) }
 {
-    fact.arguments.len() > 16
+    action.args.len() > 16
 }
 
 /// Whether an action of the formula has too many arguments.
@@ -184,7 +181,7 @@ pub fn has_wide(formula: &ReadFormula) -> bool
 {
     match formula {
         ReadFormula::True | ReadFormula::False => false,
-        ReadFormula::Happens(fact, _) => is_wide_action(fact),
+        ReadFormula::Happens(action, _) => is_wide_action(action),
         ReadFormula::Equals(_, _) => false,
         ReadFormula::Precedes(_, _) => false,
         ReadFormula::Not(denied) => has_wide(denied),

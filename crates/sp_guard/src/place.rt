@@ -1,9 +1,10 @@
 // The atoms of a formula, with each name in the place that it means.
 
-ghost use Rattle.std.specs.Prelude.{◌≡◌, IfOk, map, option_map};
-ghost use Rattle.sp_spec_text.specs.Shapes.{row, action_of};
+ghost use Rattle.std.specs.Prelude.{◌≡◌, IfOk, option_map};
+ghost use Rattle.sp_spec.specs.Formula.{Written};
+ghost use Rattle.sp_spec.specs.Guarded as spec_guarded;
 ghost use Rattle.sp_read_parts.specs.Views as view;
-ghost use Rattle.sp_formula.specs.PlaceView.{placed_term, placed_terms};
+ghost use Rattle.sp_formula.specs.PlaceView.{place_of, placed_term};
 ghost use Rattle.sp_formula.specs.FormulaView.{moment_of, atom_of, binder_of};
 ghost use Rattle.sp_law_guard.specs.GuardedForm as spec;
 ghost use Rattle.sp_guard.specs.View.{meaning_of, innermost_first};
@@ -11,8 +12,9 @@ ghost use Rattle.sp_guard.specs.View.{meaning_of, innermost_first};
 use crate::meaning::{Meaning, meant};
 use sp_formula::formula::{Atom, Binder, Moment};
 use sp_formula::place::{FormulaAction, FormulaTerm, Place};
-use sp_read_parts::{Mark, WrittenFact, WrittenTerm, WrittenVariable};
-use sp_term::term::{Name, Sort, Term};
+use sp_read_parts::{Mark, WrittenAction, WrittenTerm, WrittenVariable};
+use sp_term::apply::{Resolves, resolve, resolve_all};
+use sp_term::term::{Sort, Term};
 use std::alloc::{AllocError, Global};
 
 /// The message that is meant.
@@ -35,39 +37,31 @@ fn time_place(meaning: Option<Meaning>) -> Option<Moment>
     }
 }
 
-/// The term with each name in the place that it means; none where a name means no message.
-fn term_placed(
-    alloc: Global,
-    binders: &Vec<WrittenVariable>,
-    term: &WrittenTerm,
-) -> Result<Option<FormulaTerm>, AllocError>
-    ensures { IfOk result (λ o. option_map placed_term o ≡ spec.placed_term (innermost_first binders.now.items) (view.term term.now)) }
-{
-    match term {
-        WrittenTerm::Variable(variable) => Ok(message_place(meant(binders, variable.name))),
-        WrittenTerm::Constant(text) => {
-            let name = Name::new(alloc, text)?;
-            Ok(Some(Term::Constant(name)))
-        }
-    }
+/// What names mean inside these binders.
+#[derive(Clone, Copy)]
+struct Inside<'a, 'b> {
+    binders: &'a Vec<WrittenVariable<'b>>,
 }
 
-/// The terms with each name in the place that it means.
-fn terms_placed(
-    alloc: Global,
-    binders: &Vec<WrittenVariable>,
-    terms: &Vec<WrittenTerm>,
-) -> Result<Option<Vec<FormulaTerm>>, AllocError>
-    ensures { IfOk result (λ o. option_map (λ ts. placed_terms ts.items) o ≡ spec.placed_terms (innermost_first binders.now.items) (row (map view.term terms.now.items))) }
-{
-    let mut placed = Vec::with_capacity(alloc, terms.len())?;
-    for term in terms {
-        let Some(term) = term_placed(alloc, binders, term)? else {
-            return Ok(None);
-        };
-        placed.push(term)?;
+// The message that the variable means.
+impl<'a, 'b> Resolves<WrittenVariable<'b>, Place> for Inside<'a, 'b> {
+    ghost From = { Written };
+
+    ghost To = { spec_guarded.Place };
+
+    ghost from_of = { view.variable };
+
+    ghost to_of = { place_of };
+
+    ghost value_of = { λ s. spec.placed_variable (innermost_first s.binders.now.items) };
+
+    fn value_where(
+        &self,
+        _alloc: Global,
+        leaf: &WrittenVariable<'b>,
+    ) -> Result<Option<FormulaTerm>, AllocError> {
+        Ok(message_place(meant(self.binders, leaf.name)))
     }
-    Ok(Some(placed))
 }
 
 /// The action at its time, with each name in the place that it means.
@@ -75,21 +69,21 @@ fn terms_placed(
 /// # Errors
 ///
 /// `AllocError` where memory is wanting.
-pub fn action_placed(
+pub fn action_placed<'a>(
     alloc: Global,
-    binders: &Vec<WrittenVariable>,
-    fact: &WrittenFact,
-    at: &WrittenVariable,
+    binders: &Vec<WrittenVariable<'a>>,
+    action: &WrittenAction<'a>,
+    at: &WrittenVariable<'a>,
 ) -> Result<Option<Atom>, AllocError>
-    ensures { IfOk result (λ o. option_map atom_of o ≡ spec.acts_at (spec.placed_action (innermost_first binders.now.items) (action_of (view.fact_of fact.now))) (spec.time_place (spec.meant (innermost_first binders.now.items) at.now.name.now))) }
+    ensures { IfOk result (λ o. option_map atom_of o ≡ spec.acts_at (spec.placed_action (innermost_first binders.now.items) (view.action_of action.now)) (spec.time_place (spec.meant (innermost_first binders.now.items) at.now.name.now))) }
 {
-    let Some(args) = terms_placed(alloc, binders, &fact.arguments)? else {
+    let Some(args) = resolve_all(alloc, &Inside { binders }, &action.args)? else {
         return Ok(None);
     };
     let Some(time) = time_place(meant(binders, at.name)) else {
         return Ok(None);
     };
-    let symbol = Name::new(alloc, fact.symbol)?;
+    let symbol = action.symbol.copy()?;
     Ok(Some(Atom::Acts(FormulaAction { symbol, args }, time)))
 }
 
@@ -98,24 +92,25 @@ fn term_time(binders: &Vec<WrittenVariable>, term: &WrittenTerm) -> Option<Momen
     ensures { option_map moment_of result ≡ spec.term_time (innermost_first binders.now.items) (view.term term.now) }
 {
     match term {
-        WrittenTerm::Variable(variable) => time_place(meant(binders, variable.name)),
-        WrittenTerm::Constant(_) => None,
+        Term::Var(variable) => time_place(meant(binders, variable.name)),
+        _ => None,
     }
 }
 
 /// That two messages are equal.
-fn same_placed(
+fn same_placed<'a>(
     alloc: Global,
-    binders: &Vec<WrittenVariable>,
-    left: &WrittenTerm,
-    right: &WrittenTerm,
+    binders: &Vec<WrittenVariable<'a>>,
+    left: &WrittenTerm<'a>,
+    right: &WrittenTerm<'a>,
 ) -> Result<Option<Atom>, AllocError>
     ensures { IfOk result (λ o. option_map atom_of o ≡ spec.same_at (spec.placed_term (innermost_first binders.now.items) (view.term left.now)) (spec.placed_term (innermost_first binders.now.items) (view.term right.now))) }
 {
-    let Some(left) = term_placed(alloc, binders, left)? else {
+    let inside = Inside { binders };
+    let Some(left) = resolve(alloc, &inside, left)? else {
         return Ok(None);
     };
-    let Some(right) = term_placed(alloc, binders, right)? else {
+    let Some(right) = resolve(alloc, &inside, right)? else {
         return Ok(None);
     };
     Ok(Some(Atom::Same(left, right)))
@@ -126,11 +121,11 @@ fn same_placed(
 /// # Errors
 ///
 /// `AllocError` where memory is wanting.
-pub fn equality_placed(
+pub fn equality_placed<'a>(
     alloc: Global,
-    binders: &Vec<WrittenVariable>,
-    left: &WrittenTerm,
-    right: &WrittenTerm,
+    binders: &Vec<WrittenVariable<'a>>,
+    left: &WrittenTerm<'a>,
+    right: &WrittenTerm<'a>,
 ) -> Result<Option<Atom>, AllocError>
     ensures { IfOk result (λ o. option_map atom_of o ≡ spec.equality_at (innermost_first binders.now.items) (view.term left.now) (view.term right.now) (spec.term_time (innermost_first binders.now.items) (view.term left.now)) (spec.term_time (innermost_first binders.now.items) (view.term right.now))) }
 {

@@ -1,9 +1,9 @@
 -- The items of a text, from the last back, and the whole text.
-use Rattle.std.proofs.Common.{◌≡◌, ℕ, List, [], ◌∷◌, ◌++◌, length, drop, codes, Option, Some, None, refl, sym, ap, subst, ◌∙◌, append_assoc, arith}
-use Rattle.std.proofs.lemmas.List.{append_cancel_right, map-append}
+use Rattle.std.proofs.Common.{◌≡◌, ℕ, List, [], ◌∷◌, ◌++◌, length, take, drop, codes, Option, Some, None, refl, sym, ap, subst, ◌∙◌, append_assoc, arith}
+use Rattle.std.proofs.lemmas.List.{append_cancel_right, map-append, drop-map, take-append-drop}
+use Rattle.std.proofs.Math.Seq.{drop-append_seam}
 use Rattle.sp_spec.specs.Lists.{Every}
 use Rattle.sp_spec.specs.Theory.{Lemma}
-use Rattle.sp_spec.specs.Written.{WrittenRule}
 use Rattle.sp_spec_text.specs.Signs as s
 use Rattle.sp_spec_text.specs.Token.{Lexeme, word, sign, Token}
 use Rattle.sp_spec_text.specs.Lex.{AreTokens, is_end, lexemes}
@@ -11,21 +11,23 @@ use Rattle.sp_spec_text.specs.Ends.{place_behind, is_any}
 use Rattle.sp_lex.proofs.One.{tokens_one}
 use Rattle.sp_spec_text.specs.Names.{IsName}
 use Rattle.sp_spec_proof.specs.Tree.{Tree}
-use Rattle.sp_spec_text.specs.Written.{WrittenProof, Item, WrittenText}
-use Rattle.sp_spec_text.specs.Spans.{Span, EndsAt, AreSpans, no_span, past_rule, past_lemma}
+use Rattle.sp_spec_text.specs.Written.{WrittenProof, Item, WrittenText, with_proofs}
+use Rattle.sp_spec_text.specs.Spans.{Span, EndsAt, AreSpans, no_span, past_declaration, past_lemma}
 use Rattle.sp_spec_text.specs.Theories as g
-use Rattle.sp_spec_text.specs.Theories.{SpellsRule, SpellsLemma, SpellsProofPart, SpellsItems, SpellsTheory}
+use Rattle.sp_spec_text.specs.Theories.{SpellsLemma, SpellsDeclaration, SpellsProofPart, SpellsItems, SpellsTheory}
 use Rattle.sp_read_theory.specs.Items.{the_end}
 use Rattle.sp_spec_text.specs.Texts.{IsTextOf, ArePlaces}
-use Rattle.sp_read_theory.proofs.One.{rules_one, lemmas_one}
+use Rattle.sp_read_theory.proofs.One.{lemmas_one}
+use Rattle.sp_read_theory.proofs.Declared.{StartsWord, declaration_one, declaration_taken, declaration_word, lemma_starts, declaration_not_lemma}
+use Rattle.sp_read_theory.proofs.OneTheory.{items_word}
 use Rattle.sp_skel.specs.Spelling.{spelled, IsReadable}
 use Rattle.sp_skel.proofs.Spelled.{tree_spells}
 use Rattle.sp_skel.proofs.Blanks.{Cut}
-use Rattle.sp_law_again.specs.Again.{replaced, with_trees}
+use Rattle.sp_law_again.specs.Again.{replaced, as_proofs, with_trees}
 use Rattle.sp_law_again.proofs.Ends.{Ends, ends_behind, next_ends}
 use Rattle.sp_law_again.proofs.Local.{BeginsNoGoal}
-use Rattle.sp_law_again.proofs.Moving.{front_of, move_rule, move_lemma, name_begins}
-use Rattle.sp_law_again.proofs.Reached.{parted}
+use Rattle.sp_law_again.proofs.Moving.{front_of, move_declaration, move_lemma, name_begins}
+use Rattle.sp_law_again.proofs.Reached.{Parted, parted}
 use Rattle.sp_law_again.proofs.Places.{At, at_start, Claim, Again, settle, extend}
 use Rattle.sp_law_again.proofs.Stretches.{claim_end, claim_lemma, after_other, onwards}
 use Rattle.sp_read_theory.proofs.Spans.{proof_rest}
@@ -35,22 +37,22 @@ use Rattle.sp_read_theory.proofs.Spans.{proof_rest}
 both : (first others : List Token) → lexemes (first ++ others) ≡ lexemes first ++ lexemes others
 both first others = map-append (λ (t : Token). t.lexeme) first others
 
--- the tokens of a rule spell it, whatever follows
-record RuleBefore (first : List Token) (r : WrittenRule) : Type 0 where
+-- the tokens of a declaration spell it, whatever follows
+record DeclarationBefore (first : List Token) (x : Item) : Type 0 where
   no_goals : Every BeginsNoGoal (lexemes first)
-  spells : (ys : List Lexeme) → SpellsRule (lexemes first ++ ys) r ys
+  spells : (ys : List Lexeme) → SpellsDeclaration (lexemes first ++ ys) x ys
 
-rule_before : (tokens mid : List Token) {r : WrittenRule} → SpellsRule (lexemes tokens) r (lexemes mid) → (first : List Token) → tokens ≡ first ++ mid → RuleBefore first r
-rule_before tokens mid {r} h first e =
-    let fronts : (ys : List Lexeme) → (front_of (move_rule h ys).swapped).front ≡ lexemes first = λ ys.
-    let f = front_of (move_rule h ys).swapped in
+declaration_before : (tokens mid : List Token) {x : Item} → SpellsDeclaration (lexemes tokens) x (lexemes mid) → (first : List Token) → tokens ≡ first ++ mid → DeclarationBefore first x
+declaration_before tokens mid {x} h first e =
+    let fronts : (ys : List Lexeme) → (front_of (move_declaration h ys).swapped).front ≡ lexemes first = λ ys.
+    let f = front_of (move_declaration h ys).swapped in
     append_cancel_right f.front (lexemes first) (lexemes mid) (sym f.are ∙ ap lexemes e ∙ both first mid) in
     record {
-      no_goals = subst (λ (xs : List Lexeme). Every BeginsNoGoal xs) (fronts []) (front_of (move_rule h []).swapped).no_goals;
+      no_goals = subst (λ (xs : List Lexeme). Every BeginsNoGoal xs) (fronts []) (front_of (move_declaration h []).swapped).no_goals;
       spells = λ ys.
-          let m = move_rule h ys in
+          let m = move_declaration h ys in
           let f = front_of m.swapped in
-          subst (λ (xs : List Lexeme). SpellsRule xs r ys) (f.others_are ∙ ap (λ (xs : List Lexeme). xs ++ ys) (fronts ys)) m.reads;
+          subst (λ (xs : List Lexeme). SpellsDeclaration xs x ys) (f.others_are ∙ ap (λ (xs : List Lexeme). xs ++ ys) (fronts ys)) m.reads;
     }
 
 last_same : (xs ys : List Lexeme) (x y : Lexeme) → xs ++ x ∷ [] ≡ ys ++ y ∷ [] → (xs ≡ ys) × (x ≡ y)
@@ -93,7 +95,10 @@ lemma_before tokens behind {l} h first quote e =
 
 some_left : {tokens after : List Lexeme} {items : List Item} → SpellsItems tokens items after → after ≡ the_end → tokens ≡ [] → ⊥
 some_left g.no_item e f = let none : ⊥ = cc in none
-some_left (g.rule_first (g.rule n a b c) i) e f = let none : ⊥ = cc in none
+some_left (g.declaration_first (g.builtins h) i) e f = let none : ⊥ = cc in none
+some_left (g.declaration_first (g.functions h) i) e f = let none : ⊥ = cc in none
+some_left (g.declaration_first (g.equations h) i) e f = let none : ⊥ = cc in none
+some_left (g.declaration_first (g.a_rule (g.rule n a b c)) i) e f = let none : ⊥ = cc in none
 some_left (g.lemma_first (g.lemma n k j) p i) e f = let none : ⊥ = cc in none
 
 record FirstToken (ts : List Token) : Type 0 where
@@ -122,22 +127,76 @@ end_behind : {behind others : List Token} {end : ℕ} (p : Option WrittenProof) 
 end_behind None span h e = end_later e [] (sym h.0)
 end_behind {others = us} (Some p) span h e = end_later e (h.before ++ h.last ∷ []) (h.are ∙ sym (append_assoc h.before (h.last ∷ []) us))
 
+-- ---- declarations
+
+-- proofs are put behind lemmas alone
+proofs_past : {tokens rest : List Lexeme} {x : Item} → SpellsDeclaration tokens x rest → (items : List Item) (proofs : List (Option WrittenProof)) → x ∷ with_proofs items proofs ≡ with_proofs (x ∷ items) proofs
+proofs_past (g.builtins h) items proofs = refl
+proofs_past (g.functions h) items proofs = refl
+proofs_past (g.equations h) items proofs = refl
+proofs_past (g.a_rule h) items proofs = refl
+
+-- The tokens up to the rest that the grammar leaves. Behind the last declaration the spans say nothing of those that follow.
+record Divided (tokens : List Token) (rest : List Lexeme) : Type 0 where
+  first : List Token
+  mid : List Token
+  are : tokens ≡ first ++ mid
+  mid_is : lexemes mid ≡ rest
+
+divided : (tokens : List Token) {x : Item} {rest : List Lexeme} → SpellsDeclaration (lexemes tokens) x rest → Divided tokens rest
+divided tokens {rest = rest} h =
+    let f = front_of (move_declaration h []).swapped in
+    let n = length f.front in
+    record {
+      first = take n tokens;
+      mid = drop n tokens;
+      are = sym (take-append-drop n tokens);
+      mid_is = sym (drop-map (λ (t : Token). t.lexeme) n tokens) ∙ ap (λ (xs : List Lexeme). drop n xs) f.are ∙ drop-append_seam f.front rest;
+    }
+
+-- a word stands first, as it does behind a declaration
+spans_word : {tokens : List Token} {x : Item} {items : List Item} {spans : List Span} → AreSpans tokens (x ∷ items) spans → StartsWord (lexemes tokens)
+spans_word (past_declaration h b s) = declaration_word h
+spans_word (past_lemma h b c f s) = lemma_starts h
+
+-- a declaration is cut off these bytes, and these tokens are left
+record Declared (text bytes : List ℕ) (x : Item) (mid : List Token) (end : ℕ) : Type 0 where
+  first : List Token
+  before : DeclarationBefore first x
+  parted_at : Parted (length text) bytes first mid
+  ends : Ends text parted_at.rest
+  ends_at : EndAt mid end
+
+declared : {text bytes : List ℕ} {end : ℕ} {x : Item} (tokens mid first : List Token) → SpellsDeclaration (lexemes tokens) x (lexemes mid) → tokens ≡ first ++ mid → FirstToken mid → EndAt tokens end → AreTokens (length text) bytes tokens → Ends text bytes
+    → Declared text bytes x mid end
+declared {text} {bytes} tokens mid first h e u p cut ends =
+    let o = subst (λ (ts : List Token). Parted (length text) bytes first ts) (sym u.are) (parted first u.token u.others cut (e ∙ ap (λ (ts : List Token). first ++ ts) u.are)) in
+    record { first = first; before = declaration_before tokens mid h first e; parted_at = o; ends = ends_behind ends o.ends; ends_at = end_later p first e }
+
 -- ---- the items
 
 abbrev Spelled : List Item → List Lexeme → Type 0
 Spelled items xs = SpellsItems xs items the_end
 
+claim_declaration : {text behind bytes : List ℕ} {end : ℕ} {x : Item} {mid : List Token} {spans : List Span} (items : List Item) (trees : List Tree) (d : Declared text bytes x mid end) → x ∷ with_trees items trees ≡ with_trees (x ∷ items) trees
+    → Claim text spans trees end behind d.parted_at.rest (Spelled (with_trees items trees)) → Claim text spans trees end behind bytes (Spelled (with_trees (x ∷ items) trees))
+claim_declaration items trees d e c = extend d.parted_at c d.before.no_goals (λ ys k. subst (λ (xs : List Item). Spelled xs (lexemes d.first ++ ys)) e (g.declaration_first (d.before.spells ys) k))
+
 claim_items : {text behind : List ℕ} {end : ℕ} {tokens : List Token} {items : List Item} {spans : List Span} {after : List Lexeme} {bytes : List ℕ} → AreSpans tokens items spans → SpellsItems (lexemes tokens) items after → after ≡ the_end
     → (trees : List Tree) → Every IsReadable trees → length trees ≡ length spans → EndAt tokens end → AreTokens (length text) bytes tokens → Ends text bytes → Claim text spans trees end behind bytes (Spelled (with_trees items trees))
 claim_items no_span g.no_item e trees rs l p cut ends = claim_end p.from cut e p.is g.no_item
-claim_items {text} {behind} {end} {tokens} {after = after} {bytes} (past_rule {r = r} {items = xs} {mid = mid} h b s) (g.rule_first q i) e trees rs l p cut ends =
-    let j = subst (λ (us : List Lexeme). SpellsItems us xs after) (sym (rules_one.one h q).1) i in
-    let u = first_token mid j e in
-    let before = rule_before tokens mid h b.0 b.1 in
-    let o = parted b.0 u.token u.others cut (b.1 ∙ ap (λ (ts : List Token). b.0 ++ ts) u.are) in
-    let mid_cut = subst (λ (ts : List Token). AreTokens (length text) o.rest ts) (sym u.are) o.cut in
-    let c = claim_items {bytes = o.rest} s j e trees rs l (end_later p b.0 b.1) mid_cut (ends_behind ends o.ends) in
-    extend o c before.no_goals (λ ys k. g.rule_first (before.spells ys) k)
+claim_items {tokens = ts} (past_declaration {x = x} {items = []} h b no_span) (g.declaration_first q g.no_item) e trees rs l p cut ends =
+    let w = divided ts q in
+    let f = w.mid_is ∙ e in
+    let d = declared ts w.mid w.first (subst (λ (us : List Lexeme). SpellsDeclaration (lexemes ts) x us) (sym w.mid_is) q) w.are (first_token w.mid g.no_item f) p cut ends in
+    claim_declaration [] trees d (proofs_past q [] (as_proofs trees)) (claim_end d.ends_at.from d.parted_at.cut f d.ends_at.is g.no_item)
+claim_items {tokens = ts} {after = after} (past_declaration {items = x ∷ xs} {mid = mid} h b s) (g.declaration_first q i) e trees rs l p cut ends =
+    let o = (declaration_one (declaration_taken h (spans_word s)) (declaration_taken q (items_word i e))).1 in
+    let j = subst (λ (us : List Lexeme). SpellsItems us (x ∷ xs) after) (sym o) i in
+    let d = declared ts mid b.0 h b.1 (first_token mid j e) p cut ends in
+    claim_declaration (x ∷ xs) trees d (proofs_past h (x ∷ xs) (as_proofs trees)) (claim_items {bytes = d.parted_at.rest} s j e trees rs l d.ends_at d.parted_at.cut d.ends)
+claim_items (past_declaration h b s) (g.lemma_first o d i) e trees rs l p cut ends = absurd (declaration_not_lemma h o)
+claim_items (past_lemma h b c f s) (g.declaration_first q i) e trees rs l p cut ends = absurd (declaration_not_lemma q h)
 claim_items (past_lemma h b c f s) (g.lemma_first o d i) e [] rs l p cut ends = absurd (omega (arith, l))
 claim_items {text} {behind} {end} {tokens} {after = after} {bytes} (past_lemma {l = x} {p = proof} {items = xs} {span = span} {spans = spans} {behind = y} {mid = mid} h b c f s) (g.lemma_first {mid = n} o d i) e (t ∷ trees) rs l p cut ends =
     let d' = subst (λ (us : List Lexeme). SpellsProofPart us proof n) (sym (lemmas_one.one h o).1) d in

@@ -1,24 +1,27 @@
--- What rules and lemmas spell is the same whatever follows.
+-- What declarations and lemmas spell is the same whatever follows.
 use Rattle.std.proofs.Common.{◌≡◌, ℕ, Bool, true, false, List, [], ◌∷◌, ◌++◌, Some, codes, refl, sym, ap, ◌∙◌}
-use Rattle.std.specs.Prelude.{not, ◌&&◌, ◌||◌}
+use Rattle.std.specs.Prelude.{◌||◌}
 use Rattle.std.specs.Str.{bytes_eq}
 use Rattle.std.proofs.lemmas.Slice.Eq.{bytes_eq-Decides}
 use Rattle.sp_spec.specs.Lists.{Every}
 use Rattle.sp_spec_text.specs.Signs.{Sign}
 use Rattle.sp_spec_text.specs.Signs as s
 use Rattle.sp_spec_text.specs.Token.{Lexeme, word, constant, sign}
-use Rattle.sp_spec.specs.Term.{Term}
+use Rattle.sp_spec.specs.Term.{Term, Terms}
+use Rattle.sp_spec.specs.Signature.{Symbol}
 use Rattle.sp_spec.specs.Rule.{Fact}
 use Rattle.sp_spec.specs.Formula.{Mark, Written, Formula}
 use Rattle.sp_spec.specs.Theory.{TraceKind, Lemma}
 use Rattle.sp_spec.specs.Written.{WrittenRule}
-use Rattle.sp_spec_text.specs.Names.{is_reserved, IsName, is_capital, is_adversarial, names_fact, mark_of}
+use Rattle.sp_spec_text.specs.Names.{is_reserved, IsName, names_fact, mark_of, privacy_of}
+use Rattle.sp_spec_text.specs.Numerals.{is_numeral}
 use Rattle.sp_spec_text.specs.Lists as l
-use Rattle.sp_spec_text.specs.Lists.{IsNotFirst, AreParts, AreItems}
+use Rattle.sp_spec_text.specs.Lists.{IsNotFirst, AreParts, AreItems, AreListed}
 use Rattle.sp_spec_text.specs.Formulas as g
-use Rattle.sp_spec_text.specs.Formulas.{SpellsVariable, SpellsTerm, SpellsFact, SpellsBinders, NoSign, SpellsUnit, SpellsNegation, SpellsConjunction, SpellsAnds, SpellsDisjunction, SpellsOrs, SpellsImplication, SpellsFormula, SpellsReach}
+use Rattle.sp_spec_text.specs.Formulas.{SpellsVariable, SpellsTerm, SpellsTuple, SpellsArguments, SpellsTerms, SpellsFact, SpellsBinders, NoSign, SpellsUnit, SpellsNegation, SpellsConjunction, SpellsAnds, SpellsDisjunction, SpellsOrs, SpellsImplication, SpellsFormula, SpellsReach}
 use Rattle.sp_spec_text.specs.Theories as t
-use Rattle.sp_spec_text.specs.Theories.{SpellsFacts, SpellsArrow, SpellsRule, SpellsKind, SpellsLemma}
+use Rattle.sp_spec_text.specs.Theories.{SpellsFacts, SpellsArrow, SpellsBuiltin, SpellsAttribute, SpellsFunction, SpellsEquation, SpellsRule, SpellsKind, SpellsLemma, SpellsDeclaration}
+use Rattle.sp_spec_text.specs.Written.{Item}
 use Rattle.sp_law_again.proofs.Local.{BeginsNoGoal}
 use Rattle.sp_law_block.proofs.SpelledNames.{symbol_named}
 
@@ -96,6 +99,24 @@ sort_begins w m h = by_test (bytes_eq w (codes "solve")) refl
     by_test true e = absurd (no_sort (ap mark_of (sym ((bytes_eq-Decides w (codes "solve")).0 e)) ∙ h))
     by_test false e = refl
 
+no_privacy : {private : Bool} → privacy_of (codes "solve") ≡ Some private → ⊥
+unfolding privacy_of
+no_privacy e = cc
+
+attribute_begins : (w : List ℕ) (private : Bool) → privacy_of w ≡ Some private → BeginsNoGoal (word w)
+attribute_begins w private h = by_test (bytes_eq w (codes "solve")) refl
+  where
+    by_test : (t : Bool) → bytes_eq w (codes "solve") ≡ t → t ≡ false
+    by_test true e = absurd (no_privacy (ap privacy_of (sym ((bytes_eq-Decides w (codes "solve")).0 e)) ∙ h))
+    by_test false e = refl
+
+numeral_begins : (k : List ℕ) → is_numeral k ≡ true → BeginsNoGoal (word k)
+numeral_begins k h = by_test (bytes_eq k (codes "solve")) refl
+  where
+    by_test : (t : Bool) → bytes_eq k (codes "solve") ≡ t → t ≡ false
+    by_test true e = let none : false ≡ true = ap is_numeral (sym ((bytes_eq-Decides k (codes "solve")).0 e)) ∙ h in sym none
+    by_test false e = refl
+
 -- ---- variables, terms and facts
 
 move_variable : {v : Written} {tokens rest : List Lexeme} → SpellsVariable tokens v rest → (other : List Lexeme) → Moved SpellsVariable tokens v rest other
@@ -109,12 +130,49 @@ move_variable (g.sorted {w = w} {k = k} {m = m} n e) other =
       reads = g.sorted n e;
     }
 
-move_term : {n : ℕ} {x : Term Written} {tokens rest : List Lexeme} → SpellsTerm n tokens x rest → (other : List Lexeme) → Moved (SpellsTerm n) tokens x rest other
-move_term (g.fixed {c = c}) other = record { others = constant c ∷ other; swapped = swapped_behind (constant c) tt swapped_here; reads = g.fixed }
-move_term (g.variable h) other = let m = move_variable h other in record { others = m.others; swapped = m.swapped; reads = g.variable m.reads }
-move_term (g.brackets lt h) other =
-    let m = move_term h (sign s.Close ∷ other) in
-    record { others = sign s.Open ∷ m.others; swapped = swapped_behind (sign s.Open) tt (past_sign s.Close m.swapped); reads = g.brackets lt m.reads }
+mutual
+  move_term : {n : ℕ} {x : Term Written} {tokens rest : List Lexeme} → SpellsTerm n tokens x rest → (other : List Lexeme) → Moved (SpellsTerm n) tokens x rest other
+  move_term (g.fixed {c = c}) other = record { others = constant c ∷ other; swapped = swapped_behind (constant c) tt swapped_here; reads = g.fixed }
+  move_term (g.variable h) other = let m = move_variable h other in record { others = m.others; swapped = m.swapped; reads = g.variable m.reads }
+  move_term (g.brackets lt h) other =
+      let m = move_term h (sign s.Close ∷ other) in
+      record { others = sign s.Open ∷ m.others; swapped = swapped_behind (sign s.Open) tt (past_sign s.Close m.swapped); reads = g.brackets lt m.reads }
+  move_term (g.tuple lt h) other =
+      let m = move_tuple h other in
+      record { others = sign s.Less ∷ m.others; swapped = swapped_behind (sign s.Less) tt m.swapped; reads = g.tuple lt m.reads }
+  move_term (g.application {w = w} n lt h) other =
+      let m = move_arguments h other in
+      record { others = word w ∷ sign s.Open ∷ m.others; swapped = swapped_behind (word w) (name_begins w n) (swapped_behind (sign s.Open) tt m.swapped); reads = g.application n lt m.reads }
+  move_term (g.braced {w = w} n lt h k) other =
+      let o = move_term k other in
+      let m = move_tuple h o.others in
+      record {
+        others = word w ∷ sign s.OpenBrace ∷ m.others;
+        swapped = swapped_behind (word w) (name_begins w n) (swapped_behind (sign s.OpenBrace) tt (swapped_in m.swapped o.swapped));
+        reads = g.braced n lt m.reads o.reads;
+      }
+
+  move_tuple : {n : ℕ} {close : Sign} {x : Term Written} {tokens rest : List Lexeme} → SpellsTuple n close tokens x rest → (other : List Lexeme) → Moved (SpellsTuple n close) tokens x rest other
+  move_tuple (g.last_part {close = close} h) other =
+      let m = move_term h (sign close ∷ other) in
+      record { others = m.others; swapped = past_sign close m.swapped; reads = g.last_part m.reads }
+  move_tuple (g.next_part h lt k) other =
+      let o = move_tuple k other in
+      let m = move_term h (sign s.Comma ∷ o.others) in
+      record { others = m.others; swapped = swapped_in (past_sign s.Comma m.swapped) o.swapped; reads = g.next_part m.reads lt o.reads }
+
+  move_arguments : {n : ℕ} {xs : Terms Written} {tokens rest : List Lexeme} → SpellsArguments n tokens xs rest → (other : List Lexeme) → Moved (SpellsArguments n) tokens xs rest other
+  move_arguments g.no_argument other = record { others = sign s.Close ∷ other; swapped = swapped_behind (sign s.Close) tt swapped_here; reads = g.no_argument }
+  move_arguments (g.some_arguments h) other = let m = move_terms h other in record { others = m.others; swapped = m.swapped; reads = g.some_arguments m.reads }
+
+  move_terms : {n : ℕ} {xs : Terms Written} {tokens rest : List Lexeme} → SpellsTerms n tokens xs rest → (other : List Lexeme) → Moved (SpellsTerms n) tokens xs rest other
+  move_terms (g.last_term h) other =
+      let m = move_term h (sign s.Close ∷ other) in
+      record { others = m.others; swapped = past_sign s.Close m.swapped; reads = g.last_term m.reads }
+  move_terms (g.next_term h k) other =
+      let o = move_terms k other in
+      let m = move_term h (sign s.Comma ∷ o.others) in
+      record { others = m.others; swapped = swapped_in (past_sign s.Comma m.swapped) o.swapped; reads = g.next_term m.reads o.reads }
 
 move_parts : {A : Type 0} {R : List Lexeme → A → List Lexeme → Type 0} {between close : Sign} {tokens rest : List Lexeme} {xs : List A} → ((ts us vs : List Lexeme) (x : A) → R ts x us → Moved R ts x us vs) → AreParts R between close tokens xs rest → (other : List Lexeme)
     → Moved (AreParts R between close) tokens xs rest other
@@ -131,15 +189,20 @@ move_items : {A : Type 0} {R : List Lexeme → A → List Lexeme → Type 0} {cl
 move_items {close = close} f l.empty other = record { others = sign close ∷ other; swapped = swapped_behind (sign close) tt swapped_here; reads = l.empty }
 move_items f (l.some h) other = let m = move_parts f h other in record { others = m.others; swapped = m.swapped; reads = l.some m.reads }
 
-move_terms : {n : ℕ} (ts us vs : List Lexeme) (x : Term Written) → SpellsTerm n ts x us → Moved (SpellsTerm n) ts x us vs
-move_terms ts us vs x h = move_term h vs
+move_listed : {A : Type 0} {R : List Lexeme → A → List Lexeme → Type 0} {tokens rest : List Lexeme} {xs : List A} → ((ts us vs : List Lexeme) (x : A) → R ts x us → Moved R ts x us vs) → AreListed R tokens xs rest → (other : List Lexeme)
+    → Moved (AreListed R) tokens xs rest other
+move_listed f (l.alone {x = x} {tokens = ts} {rest = us} h) other = let m = f ts us other x h in record { others = m.others; swapped = m.swapped; reads = l.alone m.reads }
+move_listed f (l.and_more {x = x} {tokens = ts} {mid = us} h k) other =
+    let n = move_listed f k other in
+    let m = f ts (sign s.Comma ∷ us) (sign s.Comma ∷ n.others) x h in
+    record { others = m.others; swapped = swapped_in (past_sign s.Comma m.swapped) n.swapped; reads = l.and_more m.reads n.reads }
 
 move_fact : {n : ℕ} {f : Fact Written} {tokens rest : List Lexeme} → SpellsFact n tokens f rest → (other : List Lexeme) → Moved (SpellsFact n) tokens f rest other
 move_fact (g.linear {w = w} e lt h) other =
-    let m = move_items move_terms h other in
+    let m = move_arguments h other in
     record { others = word w ∷ sign s.Open ∷ m.others; swapped = swapped_behind (word w) (fact_begins w e) (swapped_behind (sign s.Open) tt m.swapped); reads = g.linear e lt m.reads }
 move_fact (g.persistent {w = w} e lt h) other =
-    let m = move_items move_terms h other in
+    let m = move_arguments h other in
     record {
       others = sign s.Bang ∷ word w ∷ sign s.Open ∷ m.others;
       swapped = swapped_behind (sign s.Bang) tt (swapped_behind (word w) (fact_begins w e) (swapped_behind (sign s.Open) tt m.swapped));
@@ -244,7 +307,7 @@ mutual
       let m = move_implication h (sign s.Iff ∷ n.others) (follows_sign s.Iff) in
       record { others = m.others; swapped = swapped_in (past_sign s.Iff m.swapped) n.swapped; reads = g.reach_two m.reads n.reads (move_no_sign w a) }
 
--- ---- rules and lemmas
+-- ---- rules
 
 move_facts : {fs : List (Fact Written)} {tokens rest : List Lexeme} → SpellsFacts tokens fs rest → (other : List Lexeme) → Moved SpellsFacts tokens fs rest other
 move_facts (t.facts h) other =
@@ -257,7 +320,7 @@ move_arrow (t.labelled h) other =
     let m = move_items move_each h other in
     record { others = sign s.OpenArrow ∷ m.others; swapped = swapped_behind (sign s.OpenArrow) tt m.swapped; reads = t.labelled m.reads }
 
-pub move_rule : {r : WrittenRule} {tokens rest : List Lexeme} → SpellsRule tokens r rest → (other : List Lexeme) → Moved SpellsRule tokens r rest other
+move_rule : {r : WrittenRule} {tokens rest : List Lexeme} → SpellsRule tokens r rest → (other : List Lexeme) → Moved SpellsRule tokens r rest other
 move_rule (t.rule {w = w} n a b c) other =
     let o = move_facts c other in
     let i = move_arrow b o.others in
@@ -267,6 +330,58 @@ move_rule (t.rule {w = w} n a b c) other =
       swapped = swapped_behind (word (codes "rule")) refl (swapped_behind (word w) (name_begins w n) (swapped_behind (sign s.Colon) tt (swapped_in m.swapped (swapped_in i.swapped o.swapped))));
       reads = t.rule n m.reads i.reads o.reads;
     }
+
+-- ---- builtins, functions and equations
+
+move_builtin : {b : List ℕ} {tokens rest : List Lexeme} → SpellsBuiltin tokens b rest → (other : List Lexeme) → Moved SpellsBuiltin tokens b rest other
+move_builtin (t.single {w = w} n) other = record { others = word w ∷ other; swapped = swapped_behind (word w) (name_begins w n) swapped_here; reads = t.single n }
+move_builtin (t.joined {w = w} n h) other =
+    let m = move_builtin h other in
+    record { others = word w ∷ sign s.Dash ∷ m.others; swapped = swapped_behind (word w) (name_begins w n) (swapped_behind (sign s.Dash) tt m.swapped); reads = t.joined n m.reads }
+
+move_attribute : {p : Bool} {tokens rest : List Lexeme} → SpellsAttribute tokens p rest → (other : List Lexeme) → Moved SpellsAttribute tokens p rest other
+move_attribute (t.attribute {w = w} {private = p} e) other = record { others = word w ∷ other; swapped = swapped_behind (word w) (attribute_begins w p e) swapped_here; reads = t.attribute e }
+
+move_function : {f : Symbol} {tokens rest : List Lexeme} → SpellsFunction tokens f rest → (other : List Lexeme) → Moved SpellsFunction tokens f rest other
+move_function (t.plain {w = w} {k = k} n e) other =
+    record {
+      others = word w ∷ sign s.Slash ∷ word k ∷ other;
+      swapped = swapped_behind (word w) (name_begins w n) (swapped_behind (sign s.Slash) tt (swapped_behind (word k) (numeral_begins k e) swapped_here));
+      reads = t.plain n e;
+    }
+move_function (t.with_attributes {w = w} {k = k} n e h) other =
+    let m = move_parts (λ ts us vs p a. move_attribute a vs) h other in
+    record {
+      others = word w ∷ sign s.Slash ∷ word k ∷ sign s.OpenList ∷ m.others;
+      swapped = swapped_behind (word w) (name_begins w n) (swapped_behind (sign s.Slash) tt (swapped_behind (word k) (numeral_begins k e) (swapped_behind (sign s.OpenList) tt m.swapped)));
+      reads = t.with_attributes n e m.reads;
+    }
+
+move_equation : {e : Term Written × Term Written} {tokens rest : List Lexeme} → SpellsEquation tokens e rest → (other : List Lexeme) → Moved SpellsEquation tokens e rest other
+move_equation (t.equation h k) other =
+    let n = move_term k other in
+    let m = move_term h (sign s.Equals ∷ n.others) in
+    record { others = m.others; swapped = swapped_in (past_sign s.Equals m.swapped) n.swapped; reads = t.equation m.reads n.reads }
+
+-- ---- declarations
+
+-- a keyword and a colon before what is read
+behind_keyword : {rest other tokens others : List Lexeme} (w : List ℕ) → BeginsNoGoal (word w) → Swapped rest other tokens others → Swapped rest other (word w ∷ sign s.Colon ∷ tokens) (word w ∷ sign s.Colon ∷ others)
+behind_keyword w p h = swapped_behind (word w) p (swapped_behind (sign s.Colon) tt h)
+
+pub move_declaration : {x : Item} {tokens rest : List Lexeme} → SpellsDeclaration tokens x rest → (other : List Lexeme) → Moved SpellsDeclaration tokens x rest other
+move_declaration (t.builtins h) other =
+    let m = move_listed (λ ts us vs b a. move_builtin a vs) h other in
+    record { others = word (codes "builtins") ∷ sign s.Colon ∷ m.others; swapped = behind_keyword (codes "builtins") refl m.swapped; reads = t.builtins m.reads }
+move_declaration (t.functions h) other =
+    let m = move_listed (λ ts us vs f a. move_function a vs) h other in
+    record { others = word (codes "functions") ∷ sign s.Colon ∷ m.others; swapped = behind_keyword (codes "functions") refl m.swapped; reads = t.functions m.reads }
+move_declaration (t.equations h) other =
+    let m = move_listed (λ ts us vs e a. move_equation a vs) h other in
+    record { others = word (codes "equations") ∷ sign s.Colon ∷ m.others; swapped = behind_keyword (codes "equations") refl m.swapped; reads = t.equations m.reads }
+move_declaration (t.a_rule h) other = let m = move_rule h other in record { others = m.others; swapped = m.swapped; reads = t.a_rule m.reads }
+
+-- ---- lemmas
 
 move_kind : {k : TraceKind} {tokens rest : List Lexeme} → SpellsKind tokens k rest → (other : List Lexeme) → Moved SpellsKind tokens k rest other
 move_kind t.no_kind other = record { others = other; swapped = swapped_here; reads = t.no_kind }

@@ -53,11 +53,12 @@ other_sign false x f e = e
 
 no_quote_behind : (b : ℕ)
     → cond (b == 33) (Some s.Bang) (cond (b == 126) (Some s.Tilde) (cond (b == 36) (Some s.Dollar) (cond (b == 35) (Some s.Hash) (cond (b == 64) (Some s.At) (cond (b == 38) (Some s.And) (cond (b == 124) (Some s.Or)
-    (cond (b == 61) (Some s.Equals) (cond (b == 60) (Some s.Less) (cond (b == 45) (Some s.Dash) None))))))))) ≡ Some s.Quote → ⊥
+    (cond (b == 61) (Some s.Equals) (cond (b == 60) (Some s.Less) (cond (b == 45) (Some s.Dash) (cond (b == 123) (Some s.OpenBrace) (cond (b == 125) (Some s.CloseBrace) (cond (b == 62) (Some s.Greater) (cond (b == 47) (Some s.Slash) None))))))))))))) ≡ Some s.Quote → ⊥
 no_quote_behind b e =
     let z : None ≡ Some s.Quote =
-    other_sign (b == 45) s.Dash (λ e. cc) (other_sign (b == 60) s.Less (λ e. cc) (other_sign (b == 61) s.Equals (λ e. cc) (other_sign (b == 124) s.Or (λ e. cc) (other_sign (b == 38) s.And (λ e. cc)
-    (other_sign (b == 64) s.At (λ e. cc) (other_sign (b == 35) s.Hash (λ e. cc) (other_sign (b == 36) s.Dollar (λ e. cc) (other_sign (b == 126) s.Tilde (λ e. cc) (other_sign (b == 33) s.Bang (λ e. cc) e))))))))) in
+    other_sign (b == 47) s.Slash (λ e. cc) (other_sign (b == 62) s.Greater (λ e. cc) (other_sign (b == 125) s.CloseBrace (λ e. cc) (other_sign (b == 123) s.OpenBrace (λ e. cc)
+    (other_sign (b == 45) s.Dash (λ e. cc) (other_sign (b == 60) s.Less (λ e. cc) (other_sign (b == 61) s.Equals (λ e. cc) (other_sign (b == 124) s.Or (λ e. cc) (other_sign (b == 38) s.And (λ e. cc)
+    (other_sign (b == 64) s.At (λ e. cc) (other_sign (b == 35) s.Hash (λ e. cc) (other_sign (b == 36) s.Dollar (λ e. cc) (other_sign (b == 126) s.Tilde (λ e. cc) (other_sign (b == 33) s.Bang (λ e. cc) e))))))))))))) in
     let none : ⊥ = cc in none
 
 quote_byte : (b : ℕ) → short_sign b ≡ Some s.Quote → b ≡ 34
@@ -69,7 +70,7 @@ quote_byte b e =
   where
     by_test : (t : Bool) → (b == 34) ≡ t
         → cond t (Some s.Quote) (cond (b == 33) (Some s.Bang) (cond (b == 126) (Some s.Tilde) (cond (b == 36) (Some s.Dollar) (cond (b == 35) (Some s.Hash) (cond (b == 64) (Some s.At) (cond (b == 38) (Some s.And) (cond (b == 124) (Some s.Or)
-        (cond (b == 61) (Some s.Equals) (cond (b == 60) (Some s.Less) (cond (b == 45) (Some s.Dash) None)))))))))) ≡ Some s.Quote
+        (cond (b == 61) (Some s.Equals) (cond (b == 60) (Some s.Less) (cond (b == 45) (Some s.Dash) (cond (b == 123) (Some s.OpenBrace) (cond (b == 125) (Some s.CloseBrace) (cond (b == 62) (Some s.Greater) (cond (b == 47) (Some s.Slash) None)))))))))))))) ≡ Some s.Quote
         → b ≡ 34
     by_test true d e = eqb-true b 34 d
     by_test false d e = absurd (no_quote_behind b e)

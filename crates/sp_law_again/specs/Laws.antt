@@ -2,7 +2,8 @@
 use Rattle.std.specs.Prelude.{◌≡◌, ℕ, List, ◌++◌, Some, length, map, codes}
 use Rattle.sp_spec.specs.Lists.{Every}
 use Rattle.sp_spec_proof.specs.Tree.{Tree}
-use Rattle.sp_spec_text.specs.Written.{WrittenText, lemmas_in, proofs_in, theory_in}
+use Rattle.sp_spec_text.specs.Written.{WrittenText, lemmas_in, proofs_in}
+use Rattle.sp_spec_text.specs.Declared.{theory_in}
 use Rattle.sp_spec_text.specs.Spans.{Span}
 use Rattle.sp_spec_text.specs.Texts.{IsTextOf, ArePlaces}
 use Rattle.sp_skel.specs.Spelling.{as_written, IsReadable}

@@ -7,7 +7,7 @@
 ghost use Rattle.sp_law_again.specs.Laws.{TextsAreReadAgain, TextsEnd};
 ghost use Rattle.sp_law_again.specs.Named.{RulesAreNamed};
 
-/// A text with trees in the places of its proofs says the same rules and lemmas, with those trees as proofs.
+/// A text with trees in the places of its proofs says the same theory, with those trees as proofs.
 pub fn texts_are_read_again()
     ensures { TextsAreReadAgain }
 {}

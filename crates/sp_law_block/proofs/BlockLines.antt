@@ -5,7 +5,7 @@ use Rattle.std.specs.Char.{is_ascii_alphanumeric}
 use Rattle.sp_spec.specs.Lists.{Every}
 use Rattle.sp_spec.proofs.Lists.{every_append}
 use Rattle.sp_spec.specs.Signature.{Symbol}
-use Rattle.sp_spec.specs.Term.{Ground, var, constant, name, app, none, more, count}
+use Rattle.sp_spec.specs.Term.{Ground, Grounds, var, constant, name, app, none, more, count}
 use Rattle.sp_spec.specs.Rule.{Action}
 use Rattle.sp_spec.specs.Execution.{Step, make_fresh, use_rule, take_out, put_in, know_public, make_own, apply_symbol, Trace}
 use Rattle.sp_spec_text.specs.Printed.{is_pair, text_at, row_text, term_text, arguments_text, given_text, step_text, action_text, more_actions_text, entry_text, entries_text, trace_block}
@@ -81,17 +81,21 @@ word_opens (b ∷ w) rest h = record {
   no_bracket = λ e. let t : is_ascii_alphanumeric b ≡ true = h.0 in let f : is_ascii_alphanumeric b ≡ false = ap is_ascii_alphanumeric e in cc;
 }
 
+-- a symbol that is one word, over terms
+app_opens : (f : List ℕ) → IsWord f → (ts : Grounds) → Opens (term_text (app f ts))
+app_opens f w none = subst Opens (append-nil f) (word_opens f [] w)
+app_opens f w (more t ts) = by_test (is_pair f (more t ts))
+  where
+    by_test : (b : Bool) → Opens (cond b (codes "<" ++ (text_at false t ++ (row_text true ts ++ codes ">"))) (f ++ (codes "(" ++ (text_at false t ++ (row_text false ts ++ codes ")")))))
+    by_test true = record { byte = 60; others = text_at false t ++ (row_text true ts ++ codes ">"); are = refl; no_bracket = λ e. omega (arith, e) }
+    by_test false = word_opens f (codes "(" ++ (text_at false t ++ (row_text false ts ++ codes ")"))) w
+
 module _ (symbols : List Symbol) (named : HaveNames symbols) where
   term_opens : (t : Ground) → IsWritable symbols t → Opens (term_text t)
   term_opens (var x) h = absurd h
   term_opens (constant c) h = record { byte = 39; others = c ++ codes "'"; are = refl; no_bracket = λ e. omega (arith, e) }
   term_opens (name n) h = record { byte = 126; others = 110 ∷ decimal n; are = refl; no_bracket = λ e. omega (arith, e) }
-  term_opens (app f none) h = subst Opens (append-nil f) (word_opens f [] (symbol_named symbols f 0 named h.0))
-  term_opens (app f (more t ts)) h = by_test (is_pair f (more t ts))
-    where
-      by_test : (b : Bool) → Opens (cond b (codes "<" ++ (text_at false t ++ (row_text true ts ++ codes ">"))) (f ++ (codes "(" ++ (text_at false t ++ (row_text false ts ++ codes ")")))))
-      by_test true = record { byte = 60; others = text_at false t ++ (row_text true ts ++ codes ">"); are = refl; no_bracket = λ e. omega (arith, e) }
-      by_test false = word_opens f (codes "(" ++ (text_at false t ++ (row_text false ts ++ codes ")"))) (symbol_named symbols f (count (more t ts)) named h.0)
+  term_opens (app f ts) h = app_opens f (symbol_named symbols f (count ts) named h.0) ts
 
   -- behind a word and a blank
   behind_step : (w text : List ℕ) → Every (λ (b : ℕ). in_word b ≡ true) w → Opens text → IsNoVerdict (w ++ 32 ∷ text)
@@ -104,7 +108,7 @@ module _ (symbols : List Symbol) (named : HaveNames symbols) where
   step_no_verdict (put_in t) h = behind_step (codes "in") (term_text t) (refl, (refl, tt)) (term_opens t h)
   step_no_verdict (know_public t) h = behind_step (codes "pub") (term_text t) (refl, (refl, (refl, tt))) (term_opens t h)
   step_no_verdict (make_own t) h = behind_step (codes "own") (term_text t) (refl, (refl, (refl, tt))) (term_opens t h)
-  step_no_verdict (apply_symbol f ts) h = absurd h
+  step_no_verdict (apply_symbol f ts) h = behind_step (codes "make") (term_text (app f ts)) (refl, (refl, (refl, (refl, tt)))) (app_opens f h.0.1 ts)
 
   pub steps_no_verdict : (steps : List Step) → Every (IsWritableStep symbols) steps → Every IsNoVerdict (map step_text steps)
   steps_no_verdict [] h = tt

@@ -1,6 +1,8 @@
 pub mod WordSplits
 pub mod TokenWords
 pub mod SpelledNames
+pub mod DeclaredNames
+pub mod ResolvedNames
 pub mod TextNames
 pub mod Writable
 pub mod GivenNames

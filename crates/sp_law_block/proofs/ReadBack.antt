@@ -1,5 +1,5 @@
 -- Steps that may be written are read back from their lines, one for each: a step's text has no line feed, and no blank at its ends.
-use Rattle.std.proofs.Common.{◌≡◌, ℕ, suc, Bool, true, false, cond, List, [], ◌∷◌, ◌++◌, map, reverse, codes, refl, sym, ap, subst, ◌∙◌, append_assoc, append-nil}
+use Rattle.std.proofs.Common.{◌≡◌, ℕ, Bool, true, false, cond, List, [], ◌∷◌, ◌++◌, map, reverse, codes, refl, sym, ap, subst, ◌∙◌, append_assoc, append-nil}
 use Rattle.std.specs.Prelude.{decimal}
 use Rattle.std.proofs.lemmas.List.{reverse-append, reverse-reverse}
 use Rattle.sp_spec_text.specs.Lex.{is_blank}
@@ -68,14 +68,18 @@ line_over false f first in_pair in_row h k l m =
     line_behind f (codes "(" ++ (first ++ (in_row ++ codes ")"))) h
     (line_behind (codes "(") (first ++ (in_row ++ codes ")")) (refl, tt) (line_behind first (in_row ++ codes ")") k (line_behind in_row (codes ")") m (line_last 41 refl))))
 
+-- a symbol that is one word, over terms
+line_app : (symbols : List Symbol) → HaveNames symbols → (f : List ℕ) → IsWord f → (ts : Grounds) → AreOver symbols ts → AllMadeOf shown_names no_variable ts → IsLineText (term_text (app f ts))
+line_app symbols s f w none o n = line_word f w
+line_app symbols s f w (more t ts) o n =
+    line_over (is_pair f (more t ts)) f (text_at false t) (row_text true ts) (row_text false ts) (no_feed_word f w)
+    (no_feed_at symbols s false t o.0 n.0) (no_feed_row symbols s true ts o.1 n.1) (no_feed_row symbols s false ts o.1 n.1)
+
 line_term : (symbols : List Symbol) → HaveNames symbols → (t : Ground) → IsOver symbols t → HasNames shown_names t → IsLineText (term_text t)
 line_term symbols s (var x) o n = absurd o
 line_term symbols s (constant c) o n = line_behind (codes "'" ++ c) (codes "'") (refl, no_feed_quotable c n) (line_last 39 refl)
 line_term symbols s (name k) o n = line_no_blank 126 (110 ∷ decimal k) (refl, (refl, decimal_no_blank k))
-line_term symbols s (app f none) o n = line_word f (symbol_named symbols f 0 s o.0)
-line_term symbols s (app f (more t ts)) o n =
-    line_over (is_pair f (more t ts)) f (text_at false t) (row_text true ts) (row_text false ts) (no_feed_word f (symbol_named symbols f (suc (count ts)) s o.0))
-    (no_feed_at symbols s false t o.1.0 n.0) (no_feed_row symbols s true ts o.1.1 n.1) (no_feed_row symbols s false ts o.1.1 n.1)
+line_term symbols s (app f ts) o n = line_app symbols s f (symbol_named symbols f (count ts) s o.0) ts o.1 n
 
 line_writable : (symbols : List Symbol) → HaveNames symbols → (t : Ground) → IsWritable symbols t → IsLineText (term_text t)
 line_writable symbols s t w = let r = writable_is_over symbols t w in line_term symbols s t r.0 r.1
@@ -110,7 +114,8 @@ line_step symbols h (take_out t) w = line_behind (codes "out ") (term_text t) (n
 line_step symbols h (put_in t) w = line_behind (codes "in ") (term_text t) (no_feed_in (codes "in ") refl) (line_writable symbols h t w)
 line_step symbols h (know_public t) w = line_behind (codes "pub ") (term_text t) (no_feed_in (codes "pub ") refl) (line_writable symbols h t w)
 line_step symbols h (make_own t) w = line_behind (codes "own ") (term_text t) (no_feed_in (codes "own ") refl) (line_writable symbols h t w)
-line_step symbols h (apply_symbol f ts) w = absurd w
+line_step symbols h (apply_symbol f ts) w =
+    let r = writable_are_over symbols ts w.1 in line_behind (codes "make ") (term_text (app f ts)) (no_feed_in (codes "make ") refl) (line_app symbols h f w.0.1 ts r.0 r.1)
 
 -- ---- nothing is trimmed
 
@@ -122,7 +127,7 @@ unblanked_step symbols (take_out t) w = refl
 unblanked_step symbols (put_in t) w = refl
 unblanked_step symbols (know_public t) w = refl
 unblanked_step symbols (make_own t) w = refl
-unblanked_step symbols (apply_symbol f ts) w = absurd w
+unblanked_step symbols (apply_symbol f ts) w = refl
 
 unblanked_solid : (b : ℕ) (bytes : List ℕ) → is_blank b ≡ false → unblanked (b ∷ bytes) ≡ b ∷ bytes
 unfolding unblanked

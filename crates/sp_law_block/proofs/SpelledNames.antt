@@ -13,10 +13,10 @@ use Rattle.sp_spec_text.specs.Signs.{Sign}
 use Rattle.sp_spec_text.specs.Token.{Lexeme}
 use Rattle.sp_spec_text.specs.Names.{is_reserved, is_capital, is_adversarial, names_fact, IsName, IsNameWord}
 use Rattle.sp_spec_text.specs.Lists as l
-use Rattle.sp_spec_text.specs.Lists.{AreParts, AreItems}
-use Rattle.sp_spec_text.specs.Shapes.{row, action_of, quantified}
+use Rattle.sp_spec_text.specs.Lists.{AreParts, AreItems, AreListed}
+use Rattle.sp_spec_text.specs.Shapes.{action_of, quantified}
 use Rattle.sp_spec_text.specs.Formulas as g
-use Rattle.sp_spec_text.specs.Formulas.{SpellsVariable, SpellsTerm, SpellsFact, SpellsBinders, quantified_some, equivalent, SpellsUnit, SpellsNegation, SpellsConjunction, SpellsAnds, SpellsDisjunction, SpellsOrs, SpellsImplication, SpellsFormula, SpellsReach}
+use Rattle.sp_spec_text.specs.Formulas.{SpellsVariable, SpellsTerm, SpellsTuple, SpellsArguments, SpellsTerms, SpellsFact, SpellsBinders, quantified_some, equivalent, SpellsUnit, SpellsNegation, SpellsConjunction, SpellsAnds, SpellsDisjunction, SpellsOrs, SpellsImplication, SpellsFormula, SpellsReach}
 use Rattle.sp_spec_text.specs.Theories as t
 use Rattle.sp_spec_text.specs.Theories.{SpellsFacts, SpellsArrow, SpellsRule, SpellsKind, SpellsLemma}
 use Rattle.sp_spec_text.specs.StepLines.{IsQuotable}
@@ -54,12 +54,37 @@ variable_named (g.marked e n) k = record { says = (n, k.1.0); behind = k.1.1 }
 variable_named (g.unmarked n) k = record { says = (n, k.0); behind = k.1 }
 variable_named (g.sorted n e) k = record { says = (n, k.0); behind = k.1.1.1 }
 
-term_named : {n : ℕ} {x : Term Written} {tokens rest : List Lexeme} → SpellsTerm n tokens x rest → Every Spoken tokens → Spelled (IsNamedTerm x) rest
-term_named g.fixed k = record { says = k.0; behind = k.1 }
-term_named (g.variable h) k = variable_named h k
-term_named (g.brackets within h) k = let t = term_named h k.1 in record { says = t.says; behind = t.behind.1 }
+mutual
+  pub term_named : {n : ℕ} {x : Term Written} {tokens rest : List Lexeme} → SpellsTerm n tokens x rest → Every Spoken tokens → Spelled (IsNamedTerm x) rest
+  term_named g.fixed k = record { says = k.0; behind = k.1 }
+  term_named (g.variable h) k = variable_named h k
+  term_named (g.brackets within h) k = let t = term_named h k.1 in record { says = t.says; behind = t.behind.1 }
+  term_named (g.tuple within h) k = tuple_named h k.1
+  term_named (g.application n within h) k = arguments_named h k.1.1
+  term_named (g.braced n within h i) k =
+      let a = tuple_named h k.1.1 in
+      let b = term_named i a.behind in
+      record { says = (a.says, (b.says, tt)); behind = b.behind }
 
-part_named : {A : Type 0} {R : List Lexeme → A → List Lexeme → Type 0} {between close : Sign} {tokens rest : List Lexeme} {xs : List A} (P : A → Type 0)
+  tuple_named : {n : ℕ} {close : Sign} {x : Term Written} {tokens rest : List Lexeme} → SpellsTuple n close tokens x rest → Every Spoken tokens → Spelled (IsNamedTerm x) rest
+  tuple_named (g.last_part h) k = let t = term_named h k in record { says = t.says; behind = t.behind.1 }
+  tuple_named (g.next_part h within i) k =
+      let a = term_named h k in
+      let b = tuple_named i a.behind.1 in
+      record { says = (a.says, (b.says, tt)); behind = b.behind }
+
+  arguments_named : {n : ℕ} {xs : Terms Written} {tokens rest : List Lexeme} → SpellsArguments n tokens xs rest → Every Spoken tokens → Spelled (AreNamedTerms xs) rest
+  arguments_named g.no_argument k = record { says = tt; behind = k.1 }
+  arguments_named (g.some_arguments h) k = terms_named h k
+
+  terms_named : {n : ℕ} {xs : Terms Written} {tokens rest : List Lexeme} → SpellsTerms n tokens xs rest → Every Spoken tokens → Spelled (AreNamedTerms xs) rest
+  terms_named (g.last_term h) k = let t = term_named h k in record { says = (t.says, tt); behind = t.behind.1 }
+  terms_named (g.next_term h i) k =
+      let a = term_named h k in
+      let b = terms_named i a.behind.1 in
+      record { says = (a.says, b.says); behind = b.behind }
+
+pub part_named : {A : Type 0} {R : List Lexeme → A → List Lexeme → Type 0} {between close : Sign} {tokens rest : List Lexeme} {xs : List A} (P : A → Type 0)
     → ((ts : List Lexeme) (x : A) (us : List Lexeme) → R ts x us → Every Spoken ts → Spelled (P x) us) → AreParts R between close tokens xs rest → Every Spoken tokens → Spelled (Every P xs) rest
 part_named P h (l.last {x = x} {tokens = ts} r) k = let p = h ts x (_) r k in record { says = (p.says, tt); behind = p.behind.1 }
 part_named P h (l.next {x = x} {tokens = ts} r parts) k =
@@ -72,9 +97,13 @@ pub item_named : {A : Type 0} {R : List Lexeme → A → List Lexeme → Type 0}
 item_named P h l.empty k = record { says = tt; behind = k.1 }
 item_named P h (l.some parts) k = part_named P h parts k
 
-row_named : (xs : List (Term Written)) → Every IsNamedTerm xs → AreNamedTerms (row xs)
-row_named [] e = tt
-row_named (x ∷ xs) e = (e.0, row_named xs e.1)
+pub listed_named : {A : Type 0} {R : List Lexeme → A → List Lexeme → Type 0} {tokens rest : List Lexeme} {xs : List A} (P : A → Type 0)
+    → ((ts : List Lexeme) (x : A) (us : List Lexeme) → R ts x us → Every Spoken ts → Spelled (P x) us) → AreListed R tokens xs rest → Every Spoken tokens → Spelled (Every P xs) rest
+listed_named P h (l.alone {x = x} {tokens = ts} r) k = let p = h ts x (_) r k in record { says = (p.says, tt); behind = p.behind }
+listed_named P h (l.and_more {x = x} {tokens = ts} r others) k =
+    let p = h ts x (_) r k in
+    let q = listed_named P h others p.behind.1 in
+    record { says = (p.says, q.says); behind = q.behind }
 
 -- what names a fact isn't reserved
 fact_name : (a b c : Bool) → (a && not b && not c) ≡ true → b ≡ false
@@ -86,12 +115,12 @@ pub symbol_named : (w : List ℕ) → names_fact w ≡ true → IsName w
 symbol_named w h = fact_name (is_capital w) (is_reserved w) (is_adversarial w) h
 
 pub fact_named : {n : ℕ} {f : Fact Written} {tokens rest : List Lexeme} → SpellsFact n tokens f rest → Every Spoken tokens → Spelled (IsNamedFact f) rest
-fact_named (g.linear {w = w} {args = args} e within items) k =
-    let terms = item_named IsNamedTerm (λ ts x us. term_named) items k.1.1 in
-    record { says = ((symbol_named w e, k.0), row_named args terms.says); behind = terms.behind }
-fact_named (g.persistent {w = w} {args = args} e within items) k =
-    let terms = item_named IsNamedTerm (λ ts x us. term_named) items k.1.1.1 in
-    record { says = ((symbol_named w e, k.1.0), row_named args terms.says); behind = terms.behind }
+fact_named (g.linear {w = w} e within h) k =
+    let terms = arguments_named h k.1.1 in
+    record { says = ((symbol_named w e, k.0), terms.says); behind = terms.behind }
+fact_named (g.persistent {w = w} e within h) k =
+    let terms = arguments_named h k.1.1.1 in
+    record { says = ((symbol_named w e, k.1.0), terms.says); behind = terms.behind }
 
 -- ---- formulas: their public names
 

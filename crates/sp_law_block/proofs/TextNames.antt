@@ -1,4 +1,4 @@
--- The rules, variables, actions and lemmas of a text have names as a text may have them, and its public names may stand in quotes.
+-- The symbols, rules, variables, actions and lemmas of a text have names as a text may have them, and its public names may stand in quotes.
 use Rattle.std.proofs.Common.{ℕ, Bool, true, false, if◌then◌else◌, List, [], ◌∷◌, ◌++◌, Option}
 use Rattle.sp_spec.specs.Lists.{Every, is_listed}
 use Rattle.sp_spec.specs.Term.{Variable, Term, var, constant, name, app, Terms, none, more, in_term, in_terms}
@@ -7,10 +7,11 @@ use Rattle.sp_spec.specs.Formula.{Written}
 use Rattle.sp_spec.specs.Theory.{Lemma}
 use Rattle.sp_spec.specs.Written.{WrittenRule, sort_in, names_after, rule_names, numbered_in, rule_of}
 use Rattle.sp_spec.specs.Constants as constants
-use Rattle.sp_spec.specs.Constants.{in_rule, in_rules, in_lemmas, in_formula, once_after, constants_of}
+use Rattle.sp_spec.specs.Constants.{in_rule, in_rules, in_lemmas, in_formula, once_after}
 use Rattle.sp_spec.proofs.Lists.{every_map, every_weaken, every_append}
 use Rattle.sp_spec_text.specs.Token.{Lexeme}
-use Rattle.sp_spec_text.specs.Written.{WrittenProof, WrittenCases, Method, Item, rules_in, lemmas_in, WrittenText, theory_in}
+use Rattle.sp_spec_text.specs.Written.{WrittenProof, WrittenCases, Method, Item, builtins_item, functions_item, equations_item, rule_item, lemma_item, rules_in, lemmas_in, WrittenText}
+use Rattle.sp_spec_text.specs.Declared.{all_symbols, resolved}
 use Rattle.sp_spec_text.specs.Proofs as p
 use Rattle.sp_spec_text.specs.Proofs.{SpellsMethod, SpellsProof, SpellsCases, SpellsMore}
 use Rattle.sp_spec_text.specs.Theories as t
@@ -21,7 +22,9 @@ use Rattle.sp_spec_text.specs.StepLines.{IsQuotable}
 use Rattle.sp_law_block.specs.Shown.{IsNamedRule}
 use Rattle.sp_law_block.specs.Laws.{TextsHaveNames}
 use Rattle.sp_law_block.proofs.TokenWords.{Spoken, tokens_spoken}
-use Rattle.sp_law_block.proofs.SpelledNames.{IsNamedVariable, IsNamedTerm, AreNamedTerms, IsNamedFact, IsNamedAction, quotable_in_terms, IsNamedWritten, rule_named, IsNamedLemma, lemma_named}
+use Rattle.sp_law_block.proofs.SpelledNames.{IsNamedVariable, IsNamedTerm, AreNamedTerms, IsNamedFact, IsNamedAction, quotable_in_terms, IsNamedWritten, IsNamedLemma, lemma_named}
+use Rattle.sp_law_block.proofs.DeclaredNames.{IsNamedItem, declaration_named, symbols_named}
+use Rattle.sp_law_block.proofs.ResolvedNames.{resolved_items_named}
 
 -- ---- what follows a proof is spoken too
 
@@ -49,23 +52,29 @@ behind_part (t.a_proof h) k = behind_proof h k
 
 -- ---- the items
 
-record AreNamedItems (items : List Item) : Type 0 where
-  rules : Every IsNamedWritten (rules_in items)
-  lemmas : Every IsNamedLemma (lemmas_in items)
+items_named : {items : List Item} {tokens rest : List Lexeme} → SpellsItems tokens items rest → Every Spoken tokens → Every IsNamedItem items
+items_named t.no_item k = tt
+items_named (t.declaration_first h i) k = let x = declaration_named h k in (x.says, items_named i x.behind)
+items_named (t.lemma_first h q i) k = let l = lemma_named h k in (l.says, items_named i (behind_part q l.behind))
 
-items_named : {items : List Item} {tokens rest : List Lexeme} → SpellsItems tokens items rest → Every Spoken tokens → AreNamedItems items
-items_named t.no_item k = record { rules = tt; lemmas = tt }
-items_named (t.rule_first h i) k =
-    let r = rule_named h k in
-    let others = items_named i r.behind in
-    record { rules = (r.says, others.rules); lemmas = others.lemmas }
-items_named (t.lemma_first h q i) k =
-    let l = lemma_named h k in
-    let others = items_named i (behind_part q l.behind) in
-    record { rules = others.rules; lemmas = (l.says, others.lemmas) }
-
-theory_named : {tokens : List Lexeme} {theory : WrittenText} → SpellsTheory tokens theory → Every Spoken tokens → AreNamedItems theory.items
+theory_named : {tokens : List Lexeme} {theory : WrittenText} → SpellsTheory tokens theory → Every Spoken tokens → Every IsNamedItem theory.items
 theory_named (t.theory n i) k = items_named i k.1.1.1
+
+rules_named : (items : List Item) → Every IsNamedItem items → Every IsNamedWritten (rules_in items)
+rules_named [] e = tt
+rules_named (builtins_item bs ∷ items) e = rules_named items e.1
+rules_named (functions_item ss ∷ items) e = rules_named items e.1
+rules_named (equations_item es ∷ items) e = rules_named items e.1
+rules_named (rule_item r ∷ items) e = (e.0, rules_named items e.1)
+rules_named (lemma_item l p ∷ items) e = rules_named items e.1
+
+lemmas_named : (items : List Item) → Every IsNamedItem items → Every IsNamedLemma (lemmas_in items)
+lemmas_named [] e = tt
+lemmas_named (builtins_item bs ∷ items) e = lemmas_named items e.1
+lemmas_named (functions_item ss ∷ items) e = lemmas_named items e.1
+lemmas_named (equations_item es ∷ items) e = lemmas_named items e.1
+lemmas_named (rule_item r ∷ items) e = lemmas_named items e.1
+lemmas_named (lemma_item l p ∷ items) e = (e.0, lemmas_named items e.1)
 
 -- ---- the variables of a rule
 
@@ -141,18 +150,26 @@ every_once seen [] e k = e
 every_once seen (c ∷ cs) e k = let b = is_listed c seen in every_once (if b then seen else seen ++ c ∷ []) cs (every_then IsQuotable b c seen k.0 e) k.1
 
 -- a text's theory has no restrictions
-quotable_constants : (theory : WrittenText) → AreNamedItems theory.items → Every IsQuotable (constants_of (theory_in theory))
-quotable_constants theory h =
-    let rules = rules_in theory.items in
-    let lemmas = lemmas_in theory.items in
-    every_once [] (in_rules rules ++ in_lemmas lemmas) tt (every_append IsQuotable (in_rules rules) (in_lemmas lemmas) (quotable_in_rules rules h.rules) (quotable_in_lemmas lemmas h.lemmas))
+quotable_constants : (rules : List WrittenRule) (lemmas : List Lemma) → Every IsNamedWritten rules → Every IsNamedLemma lemmas → Every IsQuotable (once_after [] (in_rules rules ++ in_lemmas lemmas))
+quotable_constants rules lemmas r l = every_once [] (in_rules rules ++ in_lemmas lemmas) tt (every_append IsQuotable (in_rules rules) (in_lemmas lemmas) (quotable_in_rules rules r) (quotable_in_lemmas lemmas l))
 
-text_named : (text : List ℕ) (theory : WrittenText) → IsTextOf text theory → AreNamedItems theory.items
+-- ---- the text, and what it says
+
+text_named : (text : List ℕ) (theory : WrittenText) → IsTextOf text theory → Every IsNamedItem theory.items
 text_named text theory h = theory_named h.spells (tokens_spoken h.cut)
+
+resolved_named : (text : List ℕ) (theory : WrittenText) → IsTextOf text theory → Every IsNamedItem (resolved theory).items
+resolved_named text theory h = resolved_items_named (all_symbols theory.items) theory.items (text_named text theory h)
 
 pub texts_have_names_lem : TextsHaveNames
 texts_have_names_lem = record {
-  rules = λ text theory h. every_map IsNamedWritten IsNamedRule rule_of named_rule (rules_in theory.items) (text_named text theory h).rules;
-  lemmas = λ text theory h. every_weaken IsNamedLemma (λ (l : Lemma). IsNameWord l.name) (λ l k. k.0) (lemmas_in theory.items) (text_named text theory h).lemmas;
-  constants = λ text theory h. quotable_constants theory (text_named text theory h);
+  symbols = λ text theory h. symbols_named theory.items (text_named text theory h);
+  rules = λ text theory h.
+      every_map IsNamedWritten IsNamedRule rule_of named_rule (rules_in (resolved theory).items) (rules_named (resolved theory).items (resolved_named text theory h));
+  lemmas = λ text theory h.
+      every_weaken IsNamedLemma (λ (l : Lemma). IsNameWord l.name) (λ l k. k.0) (lemmas_in (resolved theory).items) (lemmas_named (resolved theory).items (resolved_named text theory h));
+  constants = λ text theory h.
+      let items = (resolved theory).items in
+      let e = resolved_named text theory h in
+      quotable_constants (rules_in items) (lemmas_in items) (rules_named items e) (lemmas_named items e);
 }

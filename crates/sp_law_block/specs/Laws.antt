@@ -10,7 +10,8 @@ use Rattle.sp_spec.specs.Log.{Entry, Log, IsLog, visible_trace}
 use Rattle.sp_law_erase.specs.Adversary.{HasStepsAlone}
 use Rattle.sp_law_found.specs.Found.{execution_of}
 use Rattle.sp_law_found.specs.Executable.{IsExecutable}
-use Rattle.sp_spec_text.specs.Written.{WrittenText, theory_in}
+use Rattle.sp_spec_text.specs.Written.{WrittenText}
+use Rattle.sp_spec_text.specs.Declared.{theory_in}
 use Rattle.sp_spec_text.specs.Texts.{IsTextOf}
 use Rattle.sp_spec_text.specs.Printed.{step_text}
 use Rattle.sp_spec_system.specs.System.{System}
@@ -32,8 +33,9 @@ pub record StepsAreReadBack : Type 0 where
       → lines (steps_text steps ++ behind) ≡ map step_text steps ++ lines behind
   pub read : (symbols : List Symbol) → HaveNames symbols → (steps : List Step) → Every (IsWritableStep symbols) steps → AreSteps symbols (map step_text steps) steps
 
--- Rules, their variables and actions, and lemmas have names as they stand in a text, and its public names stood in quotes.
+-- Symbols, rules, their variables and actions, and lemmas have names as they stand in a text, and its public names stood in quotes.
 pub record TextsHaveNames : Type 0 where
+  pub symbols : (text : List ℕ) (theory : WrittenText) → IsTextOf text theory → HaveNames (signature_of (theory_of (theory_in theory))).symbols
   pub rules : (text : List ℕ) (theory : WrittenText) → IsTextOf text theory → Every IsNamedRule (theory_of (theory_in theory)).rules
   pub lemmas : (text : List ℕ) (theory : WrittenText) → IsTextOf text theory → Every (λ (l : Lemma). IsNameWord l.name) (theory_in theory).lemmas
   pub constants : (text : List ℕ) (theory : WrittenText) → IsTextOf text theory → Every IsQuotable (constants_of (theory_in theory))

@@ -12,7 +12,7 @@ pub fn steps_are_read_back()
     ensures { StepsAreReadBack }
 {}
 
-/// Rules, variables, actions and lemmas of a text have names as a text may have them, and its public names may stand in quotes.
+/// Symbols, rules, variables, actions and lemmas of a text have names as a text may have them, and its public names may stand in quotes.
 pub fn texts_have_names()
     ensures { TextsHaveNames }
 {}

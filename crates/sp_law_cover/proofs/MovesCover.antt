@@ -160,7 +160,7 @@ module _ (N : Names) (right : UnifierIsRight) (theory : Theory) (good : HaveNorm
       record {
         covers = λ log is v h none.
             let f = subst (FormulaHolds theory log v) r.is_action (every_at _ s.formulas k p.0 p.1 h.formulas) in
-            f.0 (λ y. acting s n r.atom r.terms r.freed r.time i.0 i.1 r.own log is v h f.1.0 y (event_at r.time s.events) refl (subst (λ (x : List Case). NoneSolved theory log v s.next (systems_of x)) r.cases none));
+            f.0 (λ y. acting s n r.atom r.terms r.freed r.time i.0 i.1 r.own log is v h f.1.0.0 y (event_at r.time s.events) refl (subst (λ (x : List Case). NoneSolved theory log v s.next (systems_of x)) r.cases none));
       }
     where
       acting : (s : System) (n : IsNumbered N s) (f : Action Place) (a : Action Variable) (freed : freed_action f ≡ Some a) (i : ℕ) (i_under : i < s.next) (a_under : AllMadeOf N (Under s.next) a.args)

@@ -1,8 +1,8 @@
 -- Guarded forms have the symbols of the formula's terms.
 use Rattle.std.proofs.Common.{◌≡◌, ℕ, suc, List, [], Option, Some, None, refl, sym, ap, subst}
-use Rattle.sp_spec.specs.Term.{Term, var, constant, name, app, Terms, none, more, count}
+use Rattle.sp_spec.specs.Term.{Term, var, Terms, count}
 use Rattle.sp_spec.specs.Signature.{Signature, HasSymbol}
-use Rattle.sp_spec.specs.Formula.{Written, Formula, truth, falsity, happens, equals, precedes, not_so, both, either, implies, for_all, for_some}
+use Rattle.sp_spec.specs.Formula.{Written, Formula}
 use Rattle.sp_spec.specs.Guarded.{Place, bound, Atom, Guarded, Guardeds, holds, fails, all_of, one_of, some, every, no_more, and_then}
 use Rattle.sp_spec.specs.Guarded as guarded
 use Rattle.sp_law_truth.specs.Shown.{times_within}
@@ -10,7 +10,7 @@ use Rattle.sp_law_guard.specs.GuardedForm.{Meant, a_message, a_time, meant, mess
 use Rattle.sp_spec.proofs.Variables.{Carries, where_carried, all_where_carried}
 use Rattle.sp_law_guard.proofs.Places.{action_made, order_made, equality_made}
 use Rattle.sp_law_guard.proofs.Throughout.{Throughout, ThroughoutEach, OfFormulas, OfAtoms, form_throughout}
-use Rattle.sp_law_decide.specs.Normal.{IsConstructorTerm, AreConstructorTerms, IsConstructorAtom, IsConstructorForm, AreConstructorForms, HasConstructorTerms, IsAtomic, AreAtomic, HasAtomicTerms}
+use Rattle.sp_law_decide.specs.Normal.{IsConstructorTerm, AreConstructorTerms, IsConstructorAtom, IsConstructorForm, AreConstructorForms, HasConstructorTerms}
 
 module _ (signature : Signature) where
   message_constructor : (o : Option Meant) (u : Term Place) → message_place o ≡ Some u → IsConstructorTerm signature u
@@ -35,13 +35,13 @@ module _ (signature : Signature) where
       beside = λ t u ts us h k. (ap suc k.0, λ p. (h p.0, k.1 p.1));
     }
 
-    placed_constructor : (t : Term Written) (u : Term Place) → IsConstructorTerm signature t → placed_term bs t ≡ Some u → IsConstructorTerm signature u
+    pub placed_constructor : (t : Term Written) (u : Term Place) → IsConstructorTerm signature t → placed_term bs t ≡ Some u → IsConstructorTerm signature u
     placed_constructor t u p e = where_carried (placed_variable bs) KeepsTerm KeepsTerms constructors_carried t u e p
 
-    placed_constructors : (ts : Terms Written) (us : Terms Place) → AreConstructorTerms signature ts → placed_terms bs ts ≡ Some us → AreConstructorTerms signature us
+    pub placed_constructors : (ts : Terms Written) (us : Terms Place) → AreConstructorTerms signature ts → placed_terms bs ts ≡ Some us → AreConstructorTerms signature us
     placed_constructors ts us p e = (all_where_carried (placed_variable bs) KeepsTerm KeepsTerms constructors_carried ts us e).1 p
 
-  abbrev OfConstructors : ℕ → Atom → Type 0
+  abbrev pub OfConstructors : ℕ → Atom → Type 0
   OfConstructors n a = IsConstructorAtom signature a
 
   constructor_formulas : OfFormulas (HasConstructorTerms signature)
@@ -62,7 +62,7 @@ module _ (signature : Signature) where
   }
 
   mutual
-    constructors : (n : ℕ) (g : Guarded) → Throughout OfConstructors n g → IsConstructorForm signature g
+    pub constructors : (n : ℕ) (g : Guarded) → Throughout OfConstructors n g → IsConstructorForm signature g
     constructors n guarded.truth t = tt
     constructors n guarded.falsity t = tt
     constructors n (holds a) t = t
@@ -78,27 +78,3 @@ module _ (signature : Signature) where
 
   pub form_keeps : (f : Formula) (g : Guarded) → HasConstructorTerms signature f → guarded_form [] f ≡ Some g → IsConstructorForm signature g
   form_keeps f g h e = constructors 0 g (form_throughout OfConstructors (HasConstructorTerms signature) constructor_formulas constructor_atoms [] f g h e)
-
-  -- terms without symbols
-  atomic_term : (t : Term Written) → IsAtomic t → IsConstructorTerm signature t
-  atomic_term (var x) a = tt
-  atomic_term (constant c) a = tt
-  atomic_term (name n) a = tt
-  atomic_term (app f ts) a = absurd a
-
-  atomic_terms : (ts : Terms Written) → AreAtomic ts → AreConstructorTerms signature ts
-  atomic_terms none a = tt
-  atomic_terms (more t ts) a = (atomic_term t a.0, atomic_terms ts a.1)
-
-  pub atomic_formula : (f : Formula) → HasAtomicTerms f → HasConstructorTerms signature f
-  atomic_formula truth a = tt
-  atomic_formula falsity a = tt
-  atomic_formula (happens action i) a = atomic_terms action.args a
-  atomic_formula (equals t u) a = (atomic_term t a.0, atomic_term u a.1)
-  atomic_formula (precedes i j) a = tt
-  atomic_formula (not_so f) a = atomic_formula f a
-  atomic_formula (both f g) a = (atomic_formula f a.0, atomic_formula g a.1)
-  atomic_formula (either f g) a = (atomic_formula f a.0, atomic_formula g a.1)
-  atomic_formula (implies f g) a = (atomic_formula f a.0, atomic_formula g a.1)
-  atomic_formula (for_all x f) a = atomic_formula f a
-  atomic_formula (for_some x f) a = atomic_formula f a

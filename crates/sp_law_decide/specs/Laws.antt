@@ -7,7 +7,7 @@ use Rattle.sp_spec.specs.Truth.{IsTrueOver}
 use Rattle.sp_spec.specs.Guarded.{Guarded, Assignment, GuardedHolds}
 use Rattle.sp_law_guard.specs.GuardedForm.{guarded_form}
 use Rattle.sp_law_decide.specs.Deciding.{assignment_of, decided, empty}
-use Rattle.sp_law_decide.specs.Normal.{IsConstructorForm, HasConstructorTerms, HasAtomicTerms, CanDecide}
+use Rattle.sp_law_decide.specs.Normal.{IsConstructorForm, HasConstructorTerms, CanDecide}
 
 -- The answer is true exactly where the formula is: under the assignment where nothing is bound, and, if it is the guarded form of a formula,
 -- under each assignment, and exactly where that formula is true. Quantifiers range over all ground terms of the sort over the signature.
@@ -25,7 +25,6 @@ pub record TruthIsDecided : Type 0 where
   pub form : (signature : Signature) (trace : Trace) (g : Guarded) → CanDecide signature trace g → (f : Formula) → guarded_form [] f ≡ Some g
       → (m : Assignment) → GuardedHolds signature trace m g ⊎ (GuardedHolds signature trace m g → ⊥)
 
--- The guarded form of a formula of constructor terms is of constructor terms, and where no symbol stands, the terms are constructor terms.
+-- The guarded form of a formula of constructor terms is of constructor terms.
 pub record FormsKeepConstructors : Type 0 where
   pub each : (signature : Signature) (f : Formula) (g : Guarded) → HasConstructorTerms signature f → guarded_form [] f ≡ Some g → IsConstructorForm signature g
-  pub atomic : (signature : Signature) (f : Formula) → HasAtomicTerms f → HasConstructorTerms signature f

@@ -6,7 +6,7 @@ use Rattle.sp_spec.specs.Term.{Term, var, constant, name, app, Terms, none, more
 use Rattle.sp_spec.specs.Signature.{Signature, HasSymbol, AreOver}
 use Rattle.sp_spec.specs.Equal.{AreNormal}
 use Rattle.sp_spec.specs.Rule.{Action}
-use Rattle.sp_spec.specs.Formula.{Written, Formula}
+use Rattle.sp_spec.specs.Formula.{Formula}
 use Rattle.sp_spec.specs.Formula as f
 use Rattle.sp_spec.specs.Execution.{Trace}
 use Rattle.sp_spec.specs.Guarded.{Atom, acts, same, same_time, before, last, Guarded, Guardeds, truth, falsity, holds, fails, all_of, one_of, some, every, no_more, and_then}
@@ -69,29 +69,6 @@ HasConstructorTerms signature (f.either g h) = HasConstructorTerms signature g �
 HasConstructorTerms signature (f.implies g h) = HasConstructorTerms signature g × HasConstructorTerms signature h
 HasConstructorTerms signature (f.for_all x g) = HasConstructorTerms signature g
 HasConstructorTerms signature (f.for_some x g) = HasConstructorTerms signature g
-
--- a variable, a public name or a fresh name
-abbrev pub IsAtomic : Term Written → Type 0
-IsAtomic (app g ts) = ⊥
-IsAtomic t = Unit {0}
-
-abbrev pub AreAtomic : Terms Written → Type 0
-AreAtomic none = Unit {0}
-AreAtomic (more t ts) = IsAtomic t × AreAtomic ts
-
--- no symbol stands in the formula's terms
-abbrev pub HasAtomicTerms : Formula → Type 0
-HasAtomicTerms f.truth = Unit {0}
-HasAtomicTerms f.falsity = Unit {0}
-HasAtomicTerms (f.happens a i) = AreAtomic a.args
-HasAtomicTerms (f.equals t u) = IsAtomic t × IsAtomic u
-HasAtomicTerms (f.precedes i j) = Unit {0}
-HasAtomicTerms (f.not_so g) = HasAtomicTerms g
-HasAtomicTerms (f.both g h) = HasAtomicTerms g × HasAtomicTerms h
-HasAtomicTerms (f.either g h) = HasAtomicTerms g × HasAtomicTerms h
-HasAtomicTerms (f.implies g h) = HasAtomicTerms g × HasAtomicTerms h
-HasAtomicTerms (f.for_all x g) = HasAtomicTerms g
-HasAtomicTerms (f.for_some x g) = HasAtomicTerms g
 
 -- what the formula and the trace must be like
 pub record CanDecide (signature : Signature) (trace : Trace) (g : Guarded) : Type 0 where

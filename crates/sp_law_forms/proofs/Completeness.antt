@@ -1,5 +1,5 @@
 -- The forms are complete.
-use Rattle.std.proofs.Common.{◌≡◌, inl, ◌≤◌, List, [], Option, Some, refl, sym, ap, ◌∙◌, subst, arith}
+use Rattle.std.proofs.Common.{◌≡◌, inl, ◌≤◌, List, Option, Some, refl, sym, ap, ◌∙◌, subst, arith}
 use Rattle.sp_spec.specs.Lists.{Member}
 use Rattle.sp_spec.specs.Term.{Variable, Terms, Values, valued_all}
 use Rattle.sp_spec.specs.Signature.{Equation, Signature, RespectsSorts, IsValuation}
@@ -15,7 +15,7 @@ use Rattle.sp_law_equal.proofs.Forms.{normal_has_sort}
 use Rattle.sp_law_unify.proofs.Unique.{unifier_law}
 use Rattle.sp_law_conv.specs.Clash.{above_all}
 use Rattle.sp_law_forms.specs.Narrowing.{Chosen, narrow_facts}
-use Rattle.sp_law_forms.specs.Forms.{args_of, rule_variables, form_by, start, results, forms}
+use Rattle.sp_law_forms.specs.Forms.{args_of, form_by, start, results, forms}
 use Rattle.sp_law_forms.specs.Numbering.{Form, numbered, seen}
 use Rattle.sp_law_forms.specs.Laws.{IsNormalValuation, FormsAreComplete, IsRuleOver}
 use Rattle.sp_law_forms.proofs.Over.{all_over_at}
@@ -26,6 +26,7 @@ use Rattle.sp_law_forms.proofs.Choice.{unifies, respects}
 use Rattle.sp_law_forms.proofs.Narrow.{Fit, completes_facts}
 use Rattle.sp_law_forms.proofs.Facts.{to_arguments, of_arguments, arguments_all, SameArgs, same_facts_at, after, facts_after}
 use Rattle.sp_law_forms.proofs.Numbered.{placed, at_places_good, numbered_facts}
+use Rattle.sp_law_forms.proofs.Proper.{begin, variables_of}
 use Rattle.sp_law_forms.proofs.Results.{every_above, nothing_lost, normal_form_if}
 
 module _ (signature : Signature) (rule : Rule) (good : HasNormalForms signature) (over : IsRuleOver signature rule) (v : Values)
@@ -33,14 +34,11 @@ module _ (signature : Signature) (rule : Rule) (good : HasNormalForms signature)
   abbrev es : List Equation
   es = signature.equations
 
-  abbrev begin : Chosen
-  begin = record { pairs = []; next = start rule }
-
   abbrev Complete : Type 0
   Complete =
       (f : Form) × (u : Values) × Member f (forms es rule) × IsNormalValuation signature u × IsNormalFormOf es (facts_at v rule.facts) (facts_at u f.facts)
 
-  reached : Reached (IsNormalValuation signature) (start rule) v (narrow_facts es rule.facts begin) begin v
+  reached : Reached (IsNormalValuation signature) (start rule) v (narrow_facts es rule.facts (begin rule)) (begin rule) v
       (λ w g. facts_at w g ≡ normal_facts es (facts_at v rule.facts))
   reached =
       completes_facts signature good (start rule) v normal rule.facts
@@ -48,18 +46,18 @@ module _ (signature : Signature) (rule : Rule) (good : HasNormalForms signature)
       (every_both (λ ts. above_all ts ≤ start rule) (AreTermsOver signature.symbols) (Fit signature good (start rule) v normal)
       (λ ts b o. (b, all_over_at signature.symbols v (λ x. (normal.0 x).1) ts o)) (args_of rule.facts)
       (every_above (args_of rule.facts) (start rule) (omega arith)) (of_arguments (AreTermsOver signature.symbols) rule.facts over)))
-      begin v
+      (begin rule) v
       (record { good = normal; starts = λ x lt. refl; enough = omega arith; holds = λ w a. (tt, tt) })
 
   -- what the result is, at all values of the new variables too
-  module _ (g : Facts Variable) (s : Chosen) (among : Member {A = Facts Variable × Chosen} (g, s) (narrow_facts es rule.facts begin)) (w : Values)
+  module _ (g : Facts Variable) (s : Chosen) (among : Member {A = Facts Variable × Chosen} (g, s) (narrow_facts es rule.facts (begin rule))) (w : Values)
       (w_good : IsNormalValuation signature w) (same : MakesSame w s.pairs) (value : facts_at w g ≡ normal_facts es (facts_at v rule.facts))
       (bs : List Binding) (is : mgu s.pairs ≡ Some bs) where
     abbrev bound_facts : Facts Variable
     bound_facts = facts_at (bound_to bs) g
 
     abbrev kept : Terms Variable
-    kept = valued_all (bound_to bs) (rule_variables 0 rule.variables)
+    kept = valued_all (bound_to bs) (variables_of rule)
 
     abbrev form : Form
     form = numbered bound_facts kept
@@ -86,9 +84,9 @@ module _ (signature : Signature) (rule : Rule) (good : HasNormalForms signature)
 
     among_results : Member form (results es rule)
     among_results =
-        member_flat_map (λ (r : Facts Variable × Chosen). form_by (rule_variables 0 rule.variables) r.0 (mgu r.1.pairs)) (g, s) form
-        (narrow_facts es rule.facts begin) among
-        (subst (λ (o : Option (List Binding)). Member form (form_by (rule_variables 0 rule.variables) g o)) (sym is) (inl refl))
+        member_flat_map (λ (r : Facts Variable × Chosen). form_by (variables_of rule) r.0 (mgu r.1.pairs)) (g, s) form
+        (narrow_facts es rule.facts (begin rule)) among
+        (subst (λ (o : Option (List Binding)). Member form (form_by (variables_of rule) g o)) (sym is) (inl refl))
 
     complete_by : Complete
     complete_by =

@@ -1,10 +1,11 @@
 -- Facts whose variables are replaced, and the terms in them.
 use Rattle.std.proofs.Common.{◌≡◌, List, [], ◌∷◌, ◌++◌, map, refl, ap, ap₂, ◌∙◌}
 use Rattle.sp_spec.specs.Lists.{Every}
-use Rattle.sp_spec.specs.Term.{Variable, Term, var, constant, name, app, Terms, none, more, valued, valued_all}
+use Rattle.sp_spec.specs.Term.{Variable, Term, var, Terms, valued, valued_all}
 use Rattle.sp_spec.specs.Rule.{Fact, Action, Facts, OfArguments, fact_at, action_at, facts_at}
 use Rattle.sp_spec.proofs.Lists.{every_append, every_parts, every_map, every_all, every_weaken}
 use Rattle.sp_spec.proofs.Values.{valued_all-valued_all}
+use Rattle.sp_law_system.proofs.TermValues.{valued_var_all}
 use Rattle.sp_law_forms.specs.Forms.{args_of}
 use Rattle.sp_law_forms.proofs.Lists.{every_of_map}
 
@@ -99,25 +100,14 @@ module _ {U V W : Type 0} (v : V → Term W) (s : U → Term V) where
       (map (fact_at v) (map (fact_at s) f.conclusions)) (map (fact_at after) f.conclusions)
       (fact_after f.premises) (action_after f.actions) (fact_after f.conclusions)
 
-mutual
-  pub put_itself : {V : Type 0} (t : Term V) → valued var t ≡ t
-  put_itself (var x) = refl
-  put_itself (constant c) = refl
-  put_itself (name n) = refl
-  put_itself (app f ts) = ap (app f) (put_all_itself ts)
-
-  pub put_all_itself : {V : Type 0} (ts : Terms V) → valued_all var ts ≡ ts
-  put_all_itself none = refl
-  put_all_itself (more t ts) = cc (put_itself t, put_all_itself ts)
-
 -- facts with nothing put for their variables
 fact_itself : {V : Type 0} (fs : List (Fact V)) → map (fact_at var) fs ≡ fs
 fact_itself [] = refl
-fact_itself {V} (f ∷ fs) = ap₂ (λ g gs. g ∷ gs) (ap (λ (ts : Terms V). made_fact f ts) (put_all_itself f.args)) (fact_itself fs)
+fact_itself {V} (f ∷ fs) = ap₂ (λ g gs. g ∷ gs) (ap (λ (ts : Terms V). made_fact f ts) (valued_var_all f.args)) (fact_itself fs)
 
 action_itself : {V : Type 0} (xs : List (Action V)) → map (action_at var) xs ≡ xs
 action_itself [] = refl
-action_itself {V} (a ∷ xs) = ap₂ (λ b bs. b ∷ bs) (ap (λ (ts : Terms V). made_action a ts) (put_all_itself a.args)) (action_itself xs)
+action_itself {V} (a ∷ xs) = ap₂ (λ b bs. b ∷ bs) (ap (λ (ts : Terms V). made_action a ts) (valued_var_all a.args)) (action_itself xs)
 
 pub facts_itself : {V : Type 0} (f : Facts V) → facts_at var f ≡ f
 facts_itself f =

@@ -11,19 +11,19 @@ use Rattle.sp_spec.specs.Same.{same_variable, alike, alike_all}
 use Rattle.sp_spec.specs.Substitution.{Binding, bound_to}
 use Rattle.sp_spec.specs.Unifier.{mgu}
 use Rattle.sp_spec.specs.Rule.{Fact, Action}
-use Rattle.sp_spec.proofs.Same.{same_variable_decides, same_by_decides, same_all_by_decides}
+use Rattle.sp_spec.proofs.Same.{same_variable_decides, same_all_by_decides}
 use Rattle.sp_spec.proofs.Values.{valued-valued}
+use Rattle.sp_spec_formula.specs.ActionStands.{same_action}
 use Rattle.sp_law_unify.proofs.Sorts.{ground_sorts, sort_of_value}
 use Rattle.sp_law_unify.proofs.Unique.{unifier_law}
 use Rattle.sp_law_conv.specs.Clash.{shifted}
-use Rattle.sp_law_forms.specs.Forms.{leaves, is_matched, irreducible, irreducible_all, same_list, same_flag, alike_fact, alike_action, alike_form}
+use Rattle.sp_law_run.specs.Taken.{same_choice}
+use Rattle.sp_law_formula.proofs.Literals.{alike_same}
+use Rattle.sp_law_forms.specs.Forms.{leaves, is_matched, irreducible, irreducible_all, same_list, alike_fact, alike_form}
 use Rattle.sp_law_forms.specs.Numbering.{Form}
 use Rattle.sp_law_forms.proofs.Lists.{none_passes}
 use Rattle.sp_law_forms.proofs.Facts.{after, same_facts}
 use Rattle.sp_law_forms.proofs.Shifted.{shift, valued_shifted}
-
-alike_tells : (t u : Term Variable) → alike t u ≡ true → t ≡ u
-alike_tells t u e = (same_by_decides same_variable same_variable_decides t u).0 e
 
 alike_all_tells : (ts us : Terms Variable) → alike_all ts us ≡ true → ts ≡ us
 alike_all_tells ts us e = (same_all_by_decides same_variable same_variable_decides ts us).0 e
@@ -41,7 +41,7 @@ module _ (es : List Equation) (w : Values) (sorts : RespectsSorts w) (n : ℕ) w
           let same : valued v e.left ≡ valued w t =
           sym (valued_shifted n (after w (bound_to bs)) e.left)
           ∙ sym (valued-valued (bound_to bs) w (shifted n e.left))
-          ∙ ap (valued w) (most.unifies.makes_same.0 ∙ alike_tells (valued (bound_to bs) t) t k) in
+          ∙ ap (valued w) (most.unifies.makes_same.0 ∙ alike_same (valued (bound_to bs) t) t k) in
           absurd (h e m v (λ x. sort_of_value HasSort ground_sorts w sorts x.sort (bound_to bs (shift n x)) (most.unifies.keeps (shift n x))) same)
 
       by_answer : (o : Option (List Binding)) → mgu ((shifted n e.left, t) ∷ []) ≡ o → leaves t o ≡ false
@@ -61,11 +61,11 @@ module _ (es : List Equation) (w : Values) (sorts : RespectsSorts w) (n : ℕ) w
     irreducible_all_if none h = refl
     irreducible_all_if (more t ts) h = and_from (irreducible es n t) (irreducible_all es n ts) (irreducible_if t h.0) (irreducible_all_if ts h.1)
 
-same_flag_tells : (a b : Bool) → same_flag a b ≡ true → a ≡ b
-same_flag_tells true true e = refl
-same_flag_tells true false e = sym e
-same_flag_tells false true e = e
-same_flag_tells false false e = refl
+same_choice_tells : (a b : Bool) → same_choice a b ≡ true → a ≡ b
+same_choice_tells true true e = refl
+same_choice_tells true false e = sym e
+same_choice_tells false true e = e
+same_choice_tells false false e = refl
 
 same_list_tells : {A : Type 0} (test : A → A → Bool) → ((x y : A) → test x y ≡ true → x ≡ y) → (xs ys : List A) → same_list test xs ys ≡ true → xs ≡ ys
 same_list_tells test h [] [] e = refl
@@ -81,11 +81,11 @@ alike_fact_tells f g e =
     let k = and_parts _ _ e in
     let l = and_parts _ _ k.1 in
     ap (λ s. made s f.persistent f.args) ((bytes_eq-Decides f.symbol g.symbol).0 k.0)
-    ∙ ap (λ p. made g.symbol p f.args) (same_flag_tells f.persistent g.persistent l.0)
+    ∙ ap (λ p. made g.symbol p f.args) (same_choice_tells f.persistent g.persistent l.0)
     ∙ ap (made g.symbol g.persistent) (alike_all_tells f.args g.args l.1)
 
-alike_action_tells : (a b : Action Variable) → alike_action a b ≡ true → a ≡ b
-alike_action_tells a b e =
+same_action_tells : (a b : Action Variable) → same_action a b ≡ true → a ≡ b
+same_action_tells a b e =
     let made : List ℕ → Terms Variable → Action Variable = λ s ts. record { symbol = s; args = ts } in
     let k = and_parts _ _ e in
     ap (λ s. made s a.args) ((bytes_eq-Decides a.symbol b.symbol).0 k.0) ∙ ap (made b.symbol) (alike_all_tells a.args b.args k.1)
@@ -98,5 +98,5 @@ alike_form_tells a b e =
     let l = and_parts _ _ k.1 in
     same_facts f.premises g.premises f.actions g.actions f.conclusions g.conclusions
     (same_list_tells alike_fact alike_fact_tells f.premises g.premises k.0)
-    (same_list_tells alike_action alike_action_tells f.actions g.actions l.0)
+    (same_list_tells same_action same_action_tells f.actions g.actions l.0)
     (same_list_tells alike_fact alike_fact_tells f.conclusions g.conclusions l.1)

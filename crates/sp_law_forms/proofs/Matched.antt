@@ -14,10 +14,11 @@ use Rattle.sp_spec.proofs.Values.{valued-valued}
 use Rattle.sp_law_unify.proofs.Sorts.{ground_sorts, nothing_put, sort_of_value}
 use Rattle.sp_law_unify.proofs.Unique.{unifier_law}
 use Rattle.sp_law_conv.specs.Clash.{shifted}
+use Rattle.sp_law_system.proofs.TermValues.{valued_var}
 use Rattle.sp_law_forms.specs.Forms.{leaves, is_matched}
 use Rattle.sp_law_forms.proofs.Shifted.{shift, valued_shifted}
 use Rattle.sp_law_forms.proofs.Choice.{unifies}
-use Rattle.sp_law_forms.proofs.Facts.{after, put_itself}
+use Rattle.sp_law_forms.proofs.Facts.{after}
 use Rattle.sp_law_forms.proofs.Numbered.{same_valued}
 
 -- for a variable of sort msg the term, for the others themselves
@@ -89,7 +90,7 @@ module _ (n : ℕ) (l t : Term Variable) (s : Variable → Term Variable) (msg :
       valued_shifted n put l
           ∙ same_valued (λ x. put (shift n x)) s l (each_weaken (λ (x : Variable). x.sort ≡ Msg) (λ x. put (shift n x) ≡ s x) put_shifted l msg)
           ∙ matches
-          ∙ sym (same_valued put var t (each_weaken (λ (x : Variable). x.number < n) (λ x. put x ≡ var x) put_small t small) ∙ put_itself t),
+          ∙ sym (same_valued put var t (each_weaken (λ (x : Variable). x.number < n) (λ x. put x ≡ var x) put_small t small) ∙ valued_var t),
       tt,
     );
     keeps = keeps;
@@ -129,7 +130,7 @@ module _ (n : ℕ) (l t : Term Variable) (s : Variable → Term Variable) (msg :
     found : leaves t (Some bs) ≡ true
     found =
         (same_by_decides same_variable same_variable_decides (valued (bound_to bs) t) t).1
-        (same_valued (bound_to bs) var t (each_weaken (λ (x : Variable). x.number < n) (λ x. bound_to bs x ≡ var x) stays t small) ∙ put_itself t)
+        (same_valued (bound_to bs) var t (each_weaken (λ (x : Variable). x.number < n) (λ x. bound_to bs x ≡ var x) stays t small) ∙ valued_var t)
 
   -- so the test finds it
   matched_found : leaves t (mgu pairs) ≡ true

@@ -11,6 +11,7 @@ use Rattle.sp_spec.specs.Unifier.{Pair, MakesSame, mgu}
 use Rattle.sp_law_unify.specs.MostGeneral.{AreSolution}
 use Rattle.sp_law_unify.proofs.Unique.{unifier_law}
 use Rattle.sp_law_equal.specs.Right.{IsTermOver, AreTermsOver}
+use Rattle.sp_law_decide.proofs.Terms.{count_valued}
 
 -- whether it is one of the symbols
 abbrev has_symbol : List Symbol → List ℕ → ℕ → Bool
@@ -37,10 +38,6 @@ has_symbol_from (s ∷ symbols) f n p (inl e) =
     (and_from _ _ ((bytes_eq-Decides s.name f).1 (ap (λ z. z.name) e)) (eq-eqb s.arity n (ap (λ z. z.arity) e)))
 has_symbol_from (s ∷ symbols) f n p (inr m) =
     or_right (bytes_eq s.name f && nat_eq s.arity n) (has_symbol symbols f n) (has_symbol_from symbols f n p m)
-
-count_valued : {V W : Type 0} (v : V → Term W) (ts : Terms V) → count (valued_all v ts) ≡ count ts
-count_valued v none = refl
-count_valued v (more t ts) = ap (λ k. suc k) (count_valued v ts)
 
 module _ (symbols : List Symbol) where
   -- another term in place of each one with another symbol

@@ -14,13 +14,21 @@ use Rattle.sp_law_forms.proofs.Lists.{member_flat_mapped, member_filtered, membe
 use Rattle.sp_law_forms.proofs.Repeats.{member_once}
 use Rattle.sp_law_forms.proofs.Numbered.{numbered_below}
 
+-- before anything is chosen
+abbrev pub begin : Rule → Chosen
+begin rule = record { pairs = []; next = start rule }
+
+-- the rule's variables, as its forms keep them
+abbrev pub variables_of : Rule → Terms Variable
+variables_of rule = rule_variables 0 rule.variables
+
 module _ (es : List Equation) (rule : Rule) (form : Form) where
   abbrev IsNumbered : Type 0
   IsNumbered = (f : Facts Variable) × (kept : Terms Variable) × (numbered f kept ≡ form)
 
-  by_answer : (g : Facts Variable) (o : Option (List Binding)) → Member form (form_by (rule_variables 0 rule.variables) g o) → IsNumbered
+  by_answer : (g : Facts Variable) (o : Option (List Binding)) → Member form (form_by (variables_of rule) g o) → IsNumbered
   by_answer g None m = absurd m
-  by_answer g (Some bs) (inl m) = (facts_at (bound_to bs) g, valued_all (bound_to bs) (rule_variables 0 rule.variables), m)
+  by_answer g (Some bs) (inl m) = (facts_at (bound_to bs) g, valued_all (bound_to bs) (variables_of rule), m)
   by_answer g (Some bs) (inr m) = absurd m
 
   pub form_result : Member form (forms es rule) → Member form (results es rule)
@@ -30,8 +38,8 @@ module _ (es : List Equation) (rule : Rule) (form : Form) where
   form_numbered : Member form (forms es rule) → IsNumbered
   form_numbered m =
       let c =
-      member_flat_mapped (λ (r : Facts Variable × Chosen). form_by (rule_variables 0 rule.variables) r.0 (mgu r.1.pairs)) form
-      (narrow_facts es rule.facts (record { pairs = []; next = start rule })) (form_result m) in
+      member_flat_mapped (λ (r : Facts Variable × Chosen). form_by (variables_of rule) r.0 (mgu r.1.pairs)) form
+      (narrow_facts es rule.facts (begin rule)) (form_result m) in
       by_answer c.0.0 (mgu c.0.1.pairs) c.2
 
   pub form_normal : Member form (forms es rule) → is_normal_form es form ≡ true

@@ -11,13 +11,15 @@ use Rattle.sp_law_equal.specs.Destructors.{IsDestructor, IsPlain, ArePlain}
 use Rattle.sp_law_equal.specs.NormalForms.{HaveNormalForms}
 use Rattle.sp_law_unify.proofs.Unique.{unifier_law}
 use Rattle.sp_law_conv.specs.Clash.{shifted}
+use Rattle.sp_law_system.proofs.TermValues.{valued_var_all}
 use Rattle.sp_law_forms.specs.Narrowing.{Chosen, both, each, narrow_fact, narrow_action, narrow_facts}
-use Rattle.sp_law_forms.specs.Forms.{leaves, is_matched, irreducible, irreducible_all, is_normal_form, alike_form, args_of, rule_variables, form_by, start, results, forms}
+use Rattle.sp_law_forms.specs.Forms.{leaves, is_matched, irreducible, irreducible_all, is_normal_form, alike_form, args_of, form_by, results, forms}
 use Rattle.sp_law_forms.specs.Numbering.{Form, seen, place, renumbered, numbered, without_repeats}
 use Rattle.sp_law_forms.specs.Laws.{PlainRulesStay}
 use Rattle.sp_law_forms.proofs.Lists.{none_passes, all_pass}
 use Rattle.sp_law_forms.proofs.Plain.{no_instance, narrow_all_plain}
-use Rattle.sp_law_forms.proofs.Facts.{facts_itself, of_arguments, put_all_itself, args_at}
+use Rattle.sp_law_forms.proofs.Facts.{facts_itself, of_arguments, args_at}
+use Rattle.sp_law_forms.proofs.Proper.{begin, variables_of}
 
 module _ (es : List Equation) (good : HaveNormalForms es) where
   abbrev Plain : Terms Variable → Type 0
@@ -73,15 +75,12 @@ module _ (es : List Equation) (good : HaveNormalForms es) where
         and_from (irreducible es n (valued (λ x. var (s x)) t)) (irreducible_all es n (valued_all (λ x. var (s x)) ts)) (irreducible_plain n s t p.0) (irreducible_all_plain n s ts p.1)
 
   module _ (rule : Rule) (plain : OfArguments Plain rule.facts) where
-    abbrev vars : Terms Variable
-    vars = rule_variables 0 rule.variables
-
     abbrev itself : Form
-    itself = numbered rule.facts vars
+    itself = numbered rule.facts (variables_of rule)
 
     itself_normal : is_normal_form es itself ≡ true
     itself_normal =
-        let xs = seen rule.facts vars in
+        let xs = seen rule.facts (variables_of rule) in
         let Irreducible : Terms Variable → Type 0 = λ ts. irreducible_all es itself.count ts ≡ true in
         all_pass (irreducible_all es itself.count) (args_of itself.facts)
         (of_arguments Irreducible itself.facts
@@ -90,8 +89,8 @@ module _ (es : List Equation) (good : HaveNormalForms es) where
 
     one_result : results es rule ≡ itself ∷ []
     one_result =
-        ap (flat_map (λ (r : Facts Variable × Chosen). form_by vars r.0 (mgu r.1.pairs))) (narrow_facts_plain rule.facts (record { pairs = []; next = start rule }) plain)
-        ∙ ap₂ (λ f kept. numbered f kept ∷ []) (facts_itself rule.facts) (put_all_itself vars)
+        ap (flat_map (λ (r : Facts Variable × Chosen). form_by (variables_of rule) r.0 (mgu r.1.pairs))) (narrow_facts_plain rule.facts (begin rule) plain)
+        ∙ ap₂ (λ f kept. numbered f kept ∷ []) (facts_itself rule.facts) (valued_var_all (variables_of rule))
 
     one_form : forms es rule ≡ itself ∷ []
     one_form =

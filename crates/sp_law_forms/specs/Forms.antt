@@ -1,6 +1,6 @@
 -- The forms of a rule, its variants: what its facts are, in normal form, at all values of its variables. Each is an instance of the rule, narrowed by
 -- the equations. Source: Comon-Lundh and Delaune, "The finite variant property"; Tamarin manual, "Cryptographic messages" (variants of rules).
-use Rattle.std.specs.Prelude.{ℕ, suc, ◌+◌, Bool, true, false, not, ◌&&◌, List, [], ◌∷◌, ◌++◌, map, length, Option, Some, None, if◌then◌else◌}
+use Rattle.std.specs.Prelude.{ℕ, suc, ◌+◌, Bool, true, false, not, ◌&&◌, List, [], ◌∷◌, ◌++◌, map, length, Option, Some, None}
 use Rattle.std.specs.Str.{bytes_eq}
 use Rattle.std.specs.List.{filter, flat_map, list_any, list_all}
 use Rattle.sp_spec.specs.Term.{Variable, Term, var, app, Terms, none, more, valued, valued_all}
@@ -8,8 +8,10 @@ use Rattle.sp_spec.specs.Signature.{Equation}
 use Rattle.sp_spec.specs.Same.{alike, alike_all}
 use Rattle.sp_spec.specs.Substitution.{Binding, bound_to}
 use Rattle.sp_spec.specs.Unifier.{mgu}
-use Rattle.sp_spec.specs.Rule.{Fact, Action, Facts, Declared, Rule, facts_at}
+use Rattle.sp_spec.specs.Rule.{Fact, Facts, Declared, Rule, facts_at}
+use Rattle.sp_spec_formula.specs.ActionStands.{same_action}
 use Rattle.sp_law_conv.specs.Clash.{above_all, shifted}
+use Rattle.sp_law_run.specs.Taken.{same_choice}
 use Rattle.sp_law_forms.specs.Narrowing.{narrow_facts}
 use Rattle.sp_law_forms.specs.Numbering.{Form, without_repeats, numbered}
 
@@ -68,20 +70,14 @@ same_list same [] [] = true
 same_list same (x ∷ xs) (y ∷ ys) = same x y && same_list same xs ys
 same_list same _ _ = false
 
-abbrev pub same_flag : Bool → Bool → Bool
-same_flag a b = if a then b else not b
-
 abbrev pub alike_fact : Fact Variable → Fact Variable → Bool
-alike_fact f g = bytes_eq f.symbol g.symbol && (same_flag f.persistent g.persistent && alike_all f.args g.args)
-
-abbrev pub alike_action : Action Variable → Action Variable → Bool
-alike_action a b = bytes_eq a.symbol b.symbol && alike_all a.args b.args
+alike_fact f g = bytes_eq f.symbol g.symbol && (same_choice f.persistent g.persistent && alike_all f.args g.args)
 
 -- the same facts; variables are told apart by their numbers, and kept terms don't count
 abbrev pub alike_form : Form → Form → Bool
 alike_form a b =
     same_list alike_fact a.facts.premises b.facts.premises
-    && (same_list alike_action a.facts.actions b.facts.actions && same_list alike_fact a.facts.conclusions b.facts.conclusions)
+    && (same_list same_action a.facts.actions b.facts.actions && same_list alike_fact a.facts.conclusions b.facts.conclusions)
 
 -- The forms of a rule: those results that are in normal form, each once.
 abbrev pub forms : List Equation → Rule → List Form

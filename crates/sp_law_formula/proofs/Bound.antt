@@ -1,11 +1,12 @@
 -- Values for all that a universal formula binds: what holds for each value of the binders holds for these.
-use Rattle.std.proofs.Common.{◌≡◌, ◌<◌, ℕ, zero, suc, true, List, [], ◌∷◌, map, length, Option, Some, None, option_map, refl, sym, subst}
+use Rattle.std.proofs.Common.{◌≡◌, ◌<◌, ℕ, zero, suc, true, List, [], ◌∷◌, map, length, Option, Some, None, option_map, refl, sym, ap, ap₂, ◌∙◌, subst}
 use Rattle.sp_spec.specs.Lists.{Every}
-use Rattle.sp_spec.specs.Term.{Sort, Variable, Term, var, constant, Ground, Values, valued}
+use Rattle.sp_spec.specs.Term.{Sort, Msg, Fresh, Pub, Variable, Term, var, constant, Ground, Values, valued}
 use Rattle.sp_spec.specs.Signature.{Signature, IsValue}
 use Rattle.sp_spec.specs.Equal.{IsNormal}
 use Rattle.sp_spec.specs.Guarded.{free, bound, bound_time, Binder, message, time, Assignment, place_in, term_in, time_in, EachValues}
 use Rattle.sp_spec_system.specs.Solutions.{Valuation, assignment, EachNormal}
+use Rattle.sp_law_equal.specs.Matching.{any_of}
 use Rattle.sp_spec.proofs.Values.{valued-valued}
 use Rattle.sp_law_system.proofs.Changing.{Reads}
 use Rattle.sp_spec_formula.specs.Instances.{Message, Slots, empty_slots, is_of_sort, all_terms, all_times, filled, placed_each, free_each, instance}
@@ -70,6 +71,11 @@ module _ (signature : Signature) (n : ℕ) (v : Valuation) where
       at (g ∷ gs, ps, a, b, r) = absurd a
       at ([], p ∷ ps, a, b, r) = absurd b
 
+any_is_value : (signature : Signature) (sort : Sort) → IsValue signature sort (any_of sort) × IsNormal signature.equations (any_of sort)
+any_is_value signature Msg = ((tt, tt), tt)
+any_is_value signature Fresh = ((tt, tt), tt)
+any_is_value signature Pub = ((tt, tt), tt)
+
 -- slots that all have values
 first_term : (x : Message) (s : List Message) (ts : List (Term Variable)) → all_terms (x ∷ s) ≡ Some ts → (u : Term Variable) × (us : List (Term Variable)) × (x.value ≡ Some u) × (all_terms s ≡ Some us) × (ts ≡ u ∷ us)
 first_term x s ts e =
@@ -83,12 +89,30 @@ first_time x s js e =
     let q = mapped (λ (is : List ℕ). r.0 ∷ is) (all_times s) js r.2 in
     (r.0, q.0, r.1, q.1, q.2)
 
-pub terms_fit : (w : Values) (s : List Message) (ts : List (Term Variable)) (f : ℕ → Ground) → all_terms s ≡ Some ts → Fits w s (filled (grounds w ts) f)
-terms_fit w [] ts f e = tt
-terms_fit w (x ∷ s) ts f e =
+-- the values of the slots, and any of its sort where one is missing
+abbrev value_or_any : Values → Sort → Option (Term Variable) → Ground
+value_or_any w sort None = any_of sort
+value_or_any w sort (Some u) = valued w u
+
+abbrev pub completed : Values → List Message → List Ground
+completed w slots = map (λ (x : Message). value_or_any w x.kind x.value) slots
+
+completed_all : (w : Values) (s : List Message) (ts : List (Term Variable)) → all_terms s ≡ Some ts → completed w s ≡ grounds w ts
+completed_all w [] ts e = sym (ap (grounds w) (some_same [] ts e))
+completed_all w (x ∷ s) ts e =
     let r = first_term x s ts e in
-    subst (λ (us : List (Term Variable)). Fits w (x ∷ s) (filled (grounds w us) f)) (sym r.4)
-    (subst (λ (o : Option (Term Variable)). Agrees w o (valued w r.0)) (sym r.2) refl, terms_fit w s r.1 f r.3)
+    ap₂ (λ (g : Ground) (gs : List Ground). g ∷ gs) (ap (value_or_any w x.kind) r.2) (completed_all w s r.1 r.3) ∙ sym (ap (grounds w) r.4)
+
+pub completed_fits : (w : Values) (s : List Message) (f : ℕ → Ground) → Fits w s (filled (completed w s) f)
+completed_fits w [] f = tt
+completed_fits w (x ∷ s) f = (at x.value, completed_fits w s f)
+  where
+    at : (o : Option (Term Variable)) → Agrees w o (value_or_any w x.kind o)
+    at None = tt
+    at (Some u) = refl
+
+pub terms_fit : (w : Values) (s : List Message) (ts : List (Term Variable)) (f : ℕ → Ground) → all_terms s ≡ Some ts → Fits w s (filled (grounds w ts) f)
+terms_fit w s ts f e = subst (λ (gs : List Ground). Fits w s (filled gs f)) (completed_all w s ts e) (completed_fits w s f)
 
 pub times_fit : (w : ℕ → ℕ) (s : List (Option ℕ)) (js : List ℕ) (f : ℕ → ℕ) → all_times s ≡ Some js → TimesFit w s (filled (map w js) f)
 times_fit w [] js f e = tt
@@ -104,15 +128,18 @@ module _ (Q : Term Variable → Type 0) where
       let r = first_term x s ts e in
       subst (Every Q) (sym r.4) ((subst (IsGoodValue (IsGood Q) x.kind) r.2 h.0).1, terms_good s r.1 r.3 h.1)
 
-  pub are_values : (signature : Signature) (n : ℕ) (v : Valuation) (s : List Message) (ts : List (Term Variable)) → all_terms s ≡ Some ts → AreGood (IsGood Q) s
-      → ((sort : Sort) (u : Term Variable) → is_of_sort sort u ≡ true → Q u → IsValue signature sort (valued v.terms u) × IsNormal signature.equations (valued v.terms u))
-      → AreValues signature n v (slot_sorts s) (grounds v.terms ts)
-  are_values signature n v [] ts e h value = subst (λ (us : List (Term Variable)). AreValues signature n v [] (grounds v.terms us)) (sym (some_same [] ts e)) tt
-  are_values signature n v (x ∷ s) ts e h value =
-      let r = first_term x s ts e in
-      let g = subst (IsGoodValue (IsGood Q) x.kind) r.2 h.0 in
-      subst (λ (us : List (Term Variable)). AreValues signature n v (slot_sorts (x ∷ s)) (grounds v.terms us)) (sym r.4)
-      (value x.kind r.0 g.0 g.1, are_values signature n v s r.1 r.3 h.1 value)
+  module _ (signature : Signature) (n : ℕ) (v : Valuation)
+      (value : (sort : Sort) (u : Term Variable) → is_of_sort sort u ≡ true → Q u → IsValue signature sort (valued v.terms u) × IsNormal signature.equations (valued v.terms u)) where
+    pub completed_values : (s : List Message) → AreGood (IsGood Q) s → AreValues signature n v (slot_sorts s) (completed v.terms s)
+    completed_values [] h = tt
+    completed_values (x ∷ s) h = (at x.value h.0, completed_values s h.1)
+      where
+        at : (o : Option (Term Variable)) → IsGoodValue (IsGood Q) x.kind o → IsValue signature x.kind (value_or_any v.terms x.kind o) × IsNormal signature.equations (value_or_any v.terms x.kind o)
+        at None g = any_is_value signature x.kind
+        at (Some u) g = value x.kind u g.0 g.1
+
+    pub are_values : (s : List Message) (ts : List (Term Variable)) → all_terms s ≡ Some ts → AreGood (IsGood Q) s → AreValues signature n v (slot_sorts s) (grounds v.terms ts)
+    are_values s ts e h = subst (AreValues signature n v (slot_sorts s)) (completed_all v.terms s ts e) (completed_values s h)
 
 module _ (B : ℕ → Type 0) where
   pub times_good : (s : List (Option ℕ)) (js : List ℕ) → all_times s ≡ Some js → AreGoodTimes B s → Every B js

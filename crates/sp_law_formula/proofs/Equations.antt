@@ -58,7 +58,7 @@ equation_holds theory good log v (holds (same t u)) e h k =
     let r = mapped equal_terms (pair_of t u) e h in
     let parts = pair_parts t u r.0 r.1 in
     let es = (signature_of theory).equations in
-    let one = same_ground (term_in (assignment v) t) (term_in (assignment v) u) (λ none. k.0 (λ l. none (equal_normal_same es good (term_in (assignment v) t) (term_in (assignment v) u) k.1.0 k.1.1 l))) in
+    let one = same_ground (term_in (assignment v) t) (term_in (assignment v) u) (λ none. k.0 (λ l. none (equal_normal_same es good (term_in (assignment v) t) (term_in (assignment v) u) k.1.0.0 k.1.1.0 l))) in
     subst (EquationHolds v) (sym r.2) (sym (freed_value (assignment v) t r.0.0 parts.0) ∙ one ∙ freed_value (assignment v) u r.0.1 parts.1)
 equation_holds theory good log v (holds (same_time (free_time i) (free_time j))) e h k =
     let g : equal_times i j ≡ e = cc in

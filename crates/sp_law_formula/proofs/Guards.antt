@@ -2,20 +2,20 @@
 use Rattle.std.proofs.Common.{◌≡◌, ℕ, zero, suc, true, List, [], ◌∷◌, Option, Some, None, option_and_then, refl, sym, ap, ◌∙◌, subst}
 use Rattle.std.proofs.lemmas.Bool.{and_parts}
 use Rattle.sp_spec.specs.Lists.{Member, Every}
-use Rattle.sp_spec.specs.Term.{Variable, Term, var, Terms, Ground, Values, valued}
+use Rattle.sp_spec.specs.Term.{Sort, Variable, Term, var, Terms, Ground, Values, valued}
 use Rattle.sp_spec.specs.Rule.{Action, action_at}
 use Rattle.sp_spec.specs.Guarded.{Place, free, bound, Atom, acts, same, same_time, before, last, Guarded, Assignment, place_in, term_in, time_in, action_in}
 use Rattle.sp_spec_system.specs.System.{Event, happening_actions}
 use Rattle.sp_spec.proofs.Lists.{every_member}
 use Rattle.sp_spec_system.specs.Picked.{first_some}
 use Rattle.sp_spec_formula.specs.Instantiate.{first_match}
-use Rattle.sp_spec_formula.specs.Instances.{Message, Slots, matched_action, place_value, value_in, side_value, place_of_bound, given, by_equalities, are_alike, are_settled}
+use Rattle.sp_spec_formula.specs.Instances.{Message, Slots, matched_action, place_value, value_in, place_of_bound, given, by_equalities, are_alike, are_settled}
 use Rattle.sp_spec.specs.Slots.{value_at}
 use Rattle.sp_spec.proofs.Options.{some_same, then_some}
 use Rattle.sp_spec.proofs.Slots.{AreGood}
 use Rattle.sp_spec.proofs.Variables.{where_value}
 use Rattle.sp_law_formula.proofs.Literals.{alike_same}
-use Rattle.sp_law_formula.proofs.Slots.{Agrees, Fits, IsGood, Grown, grown_same, grown_none, grown_twice, times_grown_none, term_given, times_grown_twice}
+use Rattle.sp_law_formula.proofs.Slots.{slot_sorts, Agrees, Fits, IsGood, Grown, grown_same, grown_none, grown_twice, times_grown_none, term_given, times_grown_twice}
 use Rattle.sp_law_formula.proofs.Matches.{Inherited, SlotsGrown, Reads, reads_before, action_matched, some_picked}
 
 -- a term with the slots' values put in, under values that are those of the slots
@@ -35,7 +35,7 @@ module _ (m : Assignment) (s : List Message) (h : Fits m.terms s m.bound_terms) 
   place_same (free x) u e = ap (valued m.terms) (sym (some_same (var x) u e))
   place_same (bound k) u e = value_here m.terms s m.bound_terms k u h e
 
-  value_same : (t : Term Place) (u : Term Variable) → value_in s t ≡ Some u → term_in m t ≡ valued m.terms u
+  pub value_same : (t : Term Place) (u : Term Variable) → value_in s t ≡ Some u → term_in m t ≡ valued m.terms u
   value_same t u e = where_value (place_value s) (place_in m) m.terms place_same t u e
 
   both_alike : (x y : Option (Term Variable)) → are_alike x y ≡ true → (u : Term Variable) × (x ≡ Some u) × (y ≡ Some u)
@@ -55,10 +55,10 @@ module _ (m : Assignment) (s : List Message) (h : Fits m.terms s m.bound_terms) 
   sides_same (last i ∷ atoms) e = absurd cc
 
 -- Equalities give values.
-module _ (Q : Term Variable → Type 0) where
-  -- the value of a side of an equality is good where the slots' values are
+module _ (Q : Term Variable → Type 0) (sorts : List Sort) where
+  -- the value of a side of an equality is good where the values of slots of these sorts are
   abbrev pub IsGoodSide : Term Place → Type 0
-  IsGoodSide t = (s : List Message) → AreGood (IsGood Q) s → (u : Term Variable) → side_value s t ≡ Some u → Q u
+  IsGoodSide t = (s : List Message) → slot_sorts s ≡ sorts → AreGood (IsGood Q) s → (u : Term Variable) → value_in s t ≡ Some u → Q u
 
   abbrev pub HasGoodSides : Atom → Type 0
   HasGoodSides (same t u) = IsGoodSide t × IsGoodSide u
@@ -76,16 +76,16 @@ module _ (Q : Term Variable → Type 0) where
   side_given s r (Some k) (Some t) None y p q e = grown_same Q s r (some_same s r e)
   side_given s r (Some k) (Some t) (Some l) (Some u) p q e = grown_same Q s r (some_same s r e)
 
-  pub equalities_given : (atoms : List Atom) → Every HasGoodSides atoms → (s r : List Message) → AreGood (IsGood Q) s → by_equalities s atoms ≡ Some r → Grown Q s r
-  equalities_given [] sides s r good e = grown_same Q s r (some_same s r e)
-  equalities_given (same t u ∷ atoms) sides s r good e =
-      let h = then_some (λ (p : List Message). by_equalities p atoms) (given s (place_of_bound t) (side_value s t) (place_of_bound u) (side_value s u)) r e in
-      let g = side_given s h.0 (place_of_bound t) (side_value s t) (place_of_bound u) (side_value s u) (sides.0.0 s good) (sides.0.1 s good) h.1 in
-      grown_twice Q s h.0 r g (equalities_given atoms sides.1 h.0 r (g.good good) h.2)
-  equalities_given (acts a i ∷ atoms) sides s r good e = equalities_given atoms sides.1 s r good e
-  equalities_given (same_time i j ∷ atoms) sides s r good e = equalities_given atoms sides.1 s r good e
-  equalities_given (before i j ∷ atoms) sides s r good e = equalities_given atoms sides.1 s r good e
-  equalities_given (last i ∷ atoms) sides s r good e = equalities_given atoms sides.1 s r good e
+  pub equalities_given : (atoms : List Atom) → Every HasGoodSides atoms → (s r : List Message) → slot_sorts s ≡ sorts → AreGood (IsGood Q) s → by_equalities s atoms ≡ Some r → Grown Q s r
+  equalities_given [] sides s r are good e = grown_same Q s r (some_same s r e)
+  equalities_given (same t u ∷ atoms) sides s r are good e =
+      let h = then_some (λ (p : List Message). by_equalities p atoms) (given s (place_of_bound t) (value_in s t) (place_of_bound u) (value_in s u)) r e in
+      let g = side_given s h.0 (place_of_bound t) (value_in s t) (place_of_bound u) (value_in s u) (sides.0.0 s are good) (sides.0.1 s are good) h.1 in
+      grown_twice Q s h.0 r g (equalities_given atoms sides.1 h.0 r (g.sorts ∙ are) (g.good good) h.2)
+  equalities_given (acts a i ∷ atoms) sides s r are good e = equalities_given atoms sides.1 s r are good e
+  equalities_given (same_time i j ∷ atoms) sides s r are good e = equalities_given atoms sides.1 s r are good e
+  equalities_given (before i j ∷ atoms) sides s r are good e = equalities_given atoms sides.1 s r are good e
+  equalities_given (last i ∷ atoms) sides s r are good e = equalities_given atoms sides.1 s r are good e
 
 -- an action of the guard is one of an event
 abbrev pub StandsIn : List Event → Assignment → Atom → Type 0

@@ -57,8 +57,8 @@ inequality_holds theory log v (fails (same t u)) p e h =
     let b = freed_value (assignment v) u p.1 parts.1 in
     let es = (signature_of theory).equations in (
       (λ k. h.0 (λ none. none (subst (λ (x : Ground). Equal es (term_in (assignment v) t) x) (a ∙ k ∙ sym b) end))),
-      subst (IsNormal es) a h.1.0,
-      subst (IsNormal es) b h.1.1,
+      subst (IsNormal es) a h.1.0.0,
+      subst (IsNormal es) b h.1.1.0,
     )
 inequality_holds theory log v (fails (acts a i)) p e h = absurd cc
 inequality_holds theory log v (fails (same_time i j)) p e h = absurd cc

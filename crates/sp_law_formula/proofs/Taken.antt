@@ -1,7 +1,7 @@
 -- What the row on universal formulas took: slots with values, and the body's instance at these. It takes no new numbers.
 use Rattle.std.proofs.Common.{◌≡◌, ◌≤◌, ℕ, zero, suc, Bool, true, false, if◌then◌else◌, ◌||◌, List, [], ◌∷◌, length, Option, Some, None, refl, sym, ◌∙◌, subst, le_refl, ◌++◌}
 use Rattle.sp_spec.specs.Lists.{Member, Every}
-use Rattle.sp_spec.specs.Term.{Names, Variable, Term, var, constant, name, app, Terms, MadeOf, AllMadeOf}
+use Rattle.sp_spec.specs.Term.{Names, Sort, Variable, Term, var, Terms, MadeOf, AllMadeOf}
 use Rattle.sp_spec.specs.Guarded.{Place, free, bound, bound_time, Binder, message, time, Atom, acts, same, same_time, before, last, Guarded, truth, falsity, holds, fails, all_of, one_of, some, every, Assignment}
 use Rattle.sp_spec.specs.Change.{changed}
 use Rattle.sp_spec_system.specs.System.{Event, System}
@@ -12,15 +12,26 @@ use Rattle.sp_law_system.proofs.Solutions.{Under, TimeUnder}
 use Rattle.sp_spec_system.specs.Picked.{first_some}
 use Rattle.sp_spec_formula.specs.Disjunction.{is_a_formula}
 use Rattle.sp_spec_formula.specs.Instantiate.{if_new, new_instance, with_formula, instantiate}
-use Rattle.sp_spec_formula.specs.Instances.{Message, Slots, empty_slots, side_value, by_equalities, are_settled, all_terms, all_times, filled, placed_each, free_each, instance, body_with, instance_by}
+use Rattle.sp_spec_formula.specs.Instances.{Message, Slots, empty_slots, place_value, value_in, by_equalities, are_settled, all_terms, all_times, filled, placed_each, free_each, instance, body_with, instance_by}
 use Rattle.sp_spec.specs.Slots.{slot}
 use Rattle.sp_spec.proofs.Options.{some_same, if_some, mapped, then_some}
 use Rattle.sp_spec.proofs.Slots.{AreGood, value_at_good}
+use Rattle.sp_spec.proofs.Variables.{where_made}
 use Rattle.sp_law_formula.proofs.Slots.{slot_sorts, Fits, TimesFit, IsGood, AreGoodTimes}
 use Rattle.sp_law_formula.proofs.Matches.{Inherited, some_picked}
 use Rattle.sp_law_formula.proofs.Guards.{HasGoodSides, equalities_given, StandsIn, IsGoodEvent, is_found}
 use Rattle.sp_law_formula.proofs.Bound.{no_slots, terms_good, times_good}
 use Rattle.sp_law_system.proofs.With.{formulas_numbered}
+
+-- the sorts of the messages that it binds, the innermost first
+abbrev pub binder_sorts : List Binder → List Sort
+binder_sorts bs = slot_sorts (empty_slots bs no_slots).terms
+
+-- each time that the formula binds has a position, of which B holds
+pub record ArePlaced (B : ℕ → Type 0) (bs : List Binder) (times : List (Option ℕ)) (positions : List ℕ) : Type 0 where
+  pub count : length times ≡ length (empty_slots bs no_slots).times
+  pub all : all_times times ≡ Some positions
+  pub good : AreGoodTimes B times
 
 -- the body, with what was put in and why
 pub record Taken (Q : Term Variable → Type 0) (B : ℕ → Type 0) (events : List Event) (bs : List Binder) (guard : List Atom) (f g : Guarded) : Type 0 where
@@ -28,12 +39,10 @@ pub record Taken (Q : Term Variable → Type 0) (B : ℕ → Type 0) (events : L
   pub times : List (Option ℕ)
   pub values : List (Term Variable)
   pub positions : List ℕ
-  pub sorts : slot_sorts terms ≡ slot_sorts (empty_slots bs no_slots).terms
-  pub count : length times ≡ length (empty_slots bs no_slots).times
+  pub sorts : slot_sorts terms ≡ binder_sorts bs
   pub good : AreGood (IsGood Q) terms
-  pub good_times : AreGoodTimes B times
   pub all_values : all_terms terms ≡ Some values
-  pub all_positions : all_times times ≡ Some positions
+  pub placed : ArePlaced B bs times positions
   pub settled : are_settled terms guard ≡ true
   pub stands : (m : Assignment) → Fits m.terms terms m.bound_terms → TimesFit m.times times m.bound_times → Every (StandsIn events m) guard
   pub result : g ≡ changed (instance values positions) f
@@ -58,7 +67,8 @@ body_put f (Some ts) None g e = absurd cc
 body_put f (Some ts) (Some js) g e = (ts, js, refl, refl, some_same (changed (instance ts js) f) g e)
 
 module _ (Q : Term Variable → Type 0) (Qs : Terms Variable → Type 0) (inherited : Inherited Q Qs) (B : ℕ → Type 0) where
-  pub is_taken : (s : System) (bs : List Binder) (guard : List Atom) (f g : Guarded) → Every (IsGoodEvent Q Qs inherited B) s.events → Every (HasGoodSides Q) guard
+  pub is_taken : (s : System) (bs : List Binder) (guard : List Atom) (f g : Guarded) → Every (IsGoodEvent Q Qs inherited B) s.events
+      → ((times : List (Option ℕ)) (positions : List ℕ) → ArePlaced B bs times positions → Every (HasGoodSides Q (binder_sorts bs)) guard)
       → new_instance s (every bs guard f) ≡ Some g → Taken Q B s.events bs guard f g
   is_taken s bs guard f g events sides e =
       let start = empty_slots bs no_slots in
@@ -67,20 +77,19 @@ module _ (Q : Term Variable → Type 0) (Qs : Terms Variable → Type 0) (inheri
       let r = x.0 in
       let i = is_new s (instance_by guard f r) g x.1 in
       let y = then_some (λ (terms : List Message). if are_settled terms guard then body_with f (all_terms terms) (all_times r.times) else None) (by_equalities r.terms guard) g i in
-      let grown = equalities_given Q guard sides r.terms y.0 (x.2.terms.good empty.0) y.1 in
       let z = if_some (are_settled y.0 guard) (body_with f (all_terms y.0) (all_times r.times)) g y.2 in
       let b = body_put f (all_terms y.0) (all_times r.times) g z.1 in
+      let placed : ArePlaced B bs r.times b.1 = record { count = x.2.times.count; all = b.3; good = x.2.times.good empty.1 } in
+      let grown = equalities_given Q (binder_sorts bs) guard (sides r.times b.1 placed) r.terms y.0 x.2.terms.sorts (x.2.terms.good empty.0) y.1 in
       record {
         terms = y.0;
         times = r.times;
         values = b.0;
         positions = b.1;
         sorts = grown.sorts ∙ x.2.terms.sorts;
-        count = x.2.times.count;
         good = grown.good (x.2.terms.good empty.0);
-        good_times = x.2.times.good empty.1;
         all_values = b.2;
-        all_positions = b.3;
+        placed = placed;
         settled = z.0;
         stands = λ m h k. x.3 m (record { terms = grown.weakens m.terms m.bound_terms h; times = k });
         result = b.4;
@@ -111,23 +120,23 @@ is_universal s t e =
     (r.0, universal_of s p.0 r.0 p.1 p.2, r.2)
 
 -- Numbers.
-side_in : (N : Names) → (P : Variable → Type 0) (s : List Message) → AreGood (IsGood (MadeOf N P)) s → (t : Term Place) (u : Term Variable) → side_value s t ≡ Some u → MadeOf N (AtFree P) t → MadeOf N P u
-side_in N P s good (var (free x)) u e h = subst (MadeOf N P) (sym (some_same (var x) u e)) h
-side_in N P s good (var (bound k)) u e h = (value_at_good (IsGood (MadeOf N P)) s good k u e).1.1
-side_in N P s good (constant c) u e h = subst (MadeOf N P) (sym (some_same (constant c) u e)) h
-side_in N P s good (name n) u e h = subst (MadeOf N P) (sym (some_same (name n) u e)) h
-side_in N P s good (app f ts) u e h = absurd cc
+place_in : (N : Names) → (P : Variable → Type 0) (s : List Message) → AreGood (IsGood (MadeOf N P)) s → (p : Place) (u : Term Variable) → place_value s p ≡ Some u → AtFree P p → MadeOf N P u
+place_in N P s good (free x) u e h = subst (MadeOf N P) (sym (some_same (var x) u e)) h
+place_in N P s good (bound k) u e h = (value_at_good (IsGood (MadeOf N P)) s good k u e).1.1
+
+side_in : (N : Names) → (P : Variable → Type 0) (s : List Message) → AreGood (IsGood (MadeOf N P)) s → (t : Term Place) (u : Term Variable) → value_in s t ≡ Some u → MadeOf N (AtFree P) t → MadeOf N P u
+side_in N P s good = where_made (place_value s) N (AtFree P) P (place_in N P s good)
 
 module _ (N : Names) (P : Variable → Type 0) (B : ℕ → Type 0) where
   variables_inherited : Inherited (MadeOf N P) (AllMadeOf N P)
   variables_inherited = record { under = λ f ts h. h; first = λ t ts h. h.0; rest = λ t ts h. h.1 }
 
-  sides_in : (a : Atom) → InAtom N P B a → HasGoodSides (MadeOf N P) a
-  sides_in (same t u) h = (λ s good x e. side_in N P s good t x e h.0, λ s good x e. side_in N P s good u x e h.1)
-  sides_in (acts a i) h = tt
-  sides_in (same_time i j) h = tt
-  sides_in (before i j) h = tt
-  sides_in (last i) h = tt
+  sides_in : (sorts : List Sort) (a : Atom) → InAtom N P B a → HasGoodSides (MadeOf N P) sorts a
+  sides_in sorts (same t u) h = (λ s are good x e. side_in N P s good t x e h.0, λ s are good x e. side_in N P s good u x e h.1)
+  sides_in sorts (acts a i) h = tt
+  sides_in sorts (same_time i j) h = tt
+  sides_in sorts (before i j) h = tt
+  sides_in sorts (last i) h = tt
 
   event_in : (e : Event) → InEvent N P B e → IsGoodEvent (MadeOf N P) (AllMadeOf N P) variables_inherited B e
   event_in e h = (h.0, (happening_made N P B e.happening h.1).actions)
@@ -149,8 +158,8 @@ module _ (N : Names) (P : Variable → Type 0) (B : ℕ → Type 0) where
   universal_in s g u events formulas =
       let h = every_member (InFormula N P B) s.formulas (every u.binders u.guard u.body) u.member formulas in
       let t = is_taken (MadeOf N P) (AllMadeOf N P) variables_inherited B s u.binders u.guard u.body g (every_weaken _ _ event_in s.events events)
-      (every_weaken (InAtom N P B) (HasGoodSides (MadeOf N P)) sides_in u.guard h.0) u.instantiated in
-      let puts = instance_puts t.values t.positions (terms_good (MadeOf N P) t.terms t.values t.all_values t.good) (times_good B t.times t.positions t.all_positions t.good_times) in
+      (λ times positions placed. every_weaken (InAtom N P B) (HasGoodSides (MadeOf N P) (binder_sorts u.binders)) (sides_in (binder_sorts u.binders)) u.guard h.0) u.instantiated in
+      let puts = instance_puts t.values t.positions (terms_good (MadeOf N P) t.terms t.values t.all_values t.good) (times_good B t.times t.positions t.placed.all t.placed.good) in
       subst (InFormula N P B) (sym t.result) (changed_in N P P B B (instance t.values t.positions) puts u.body h.1)
 
 pub instantiate_numbered : {N : Names} → (s t : System) → instantiate s ≡ Some t → IsNumbered N s → IsNumbered N t × (s.next ≤ t.next)

@@ -1,5 +1,6 @@
 -- The logs of steps of a theory that is searched are executions.
 use Rattle.sp_spec.proofs.Lists.{every_weaken}
+use Rattle.sp_spec.specs.Theory.{signature_of}
 use Rattle.sp_spec.specs.Written.{WrittenTheory, theory_of}
 use Rattle.sp_law_equal.specs.RightTheory.{HasNormalInstances, TakesFreshNames}
 use Rattle.sp_law_run.proofs.Written.{rules_right}
@@ -17,5 +18,5 @@ module _ (t : WrittenTheory) (s : IsSearched t) where
   executable = record {
     instances = checkable;
     distinct = (rules_right t.rules s.rule_names).distinct;
-    fresh = every_weaken IsClosedRule TakesFreshNames (λ r h. h.fresh) (theory_of t).rules (rules_closed t.rules s.basic s.right);
+    fresh = every_weaken IsClosedRule TakesFreshNames (λ r h. h.fresh) (theory_of t).rules (rules_closed (signature_of (theory_of t)) t.rules s.basic s.right);
   }

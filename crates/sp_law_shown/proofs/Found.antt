@@ -1,32 +1,31 @@
 -- What was found true over the trace of a log of steps is true over it, and over the trace of its execution.
-use Rattle.std.proofs.Common.{◌≡◌, ℕ, zero, true, List, [], ◌∷◌, Some, sym, subst}
+use Rattle.std.proofs.Common.{◌≡◌, zero, true, List, Some, sym, subst}
 use Rattle.std.specs.Prelude.{◌↔◌}
 use Rattle.sp_spec.specs.Lists.{Every, newest_first}
-use Rattle.sp_spec.specs.Term.{Term, var, constant, name, app, Terms, none, more}
 use Rattle.sp_spec.specs.Signature.{Signature}
 use Rattle.sp_spec.specs.Theory.{Restriction, Lemma, Theory, signature_of}
 use Rattle.sp_spec.specs.Written.{WrittenTheory, theory_of}
 use Rattle.sp_spec.specs.Execution.{Trace, IsExecution}
 use Rattle.sp_spec.specs.Truth.{IsTrueOver}
 use Rattle.sp_spec.specs.Verdict.{MeetsRestrictions, IsBrokenBy, IsSatisfiedBy, IsBrokenByLog, IsSatisfiedByLog}
-use Rattle.sp_spec.specs.Guarded.{Place, Atom, acts, same, same_time, before, last, Guarded, Guardeds, truth, falsity, holds, fails, all_of, one_of, some, every, no_more, and_then, GuardedHolds}
+use Rattle.sp_spec.specs.Guarded.{Guarded, GuardedHolds}
 use Rattle.sp_spec.specs.Log.{Entry, Log, log_trace, visible_trace}
-use Rattle.sp_law_truth.specs.Shown.{times_within, action_names}
+use Rattle.sp_law_truth.specs.Shown.{action_names}
 use Rattle.sp_law_truth.proofs.Shown.{equal_shown_same}
 use Rattle.sp_law_guard.specs.GuardedForm.{negate}
 use Rattle.sp_law_guard.specs.CheckedForm.{checked_form}
-use Rattle.sp_law_guard.proofs.Throughout.{Throughout, ThroughoutEach}
+use Rattle.sp_law_guard.proofs.Throughout.{throughout_weaken}
 use Rattle.sp_law_guard.proofs.Checked.{form_checked}
 use Rattle.sp_law_guard.proofs.Kept.{form_kept}
 use Rattle.sp_law_guard.proofs.Turned.{turned}
 use Rattle.sp_law_decide.specs.Deciding.{assignment_of, decided, empty}
-use Rattle.sp_law_decide.specs.Normal.{IsConstructorTerm, AreConstructorTerms, IsConstructorAtom, IsConstructorForm, AreConstructorForms, CanDecide}
+use Rattle.sp_law_decide.specs.Normal.{CanDecide}
+use Rattle.sp_law_decide.proofs.ConstructorForms.{OfConstructors, constructors}
 use Rattle.sp_law_decide.proofs.Told.{told}
 use Rattle.sp_law_run.proofs.Over.{execution_over}
 use Rattle.sp_law_found.specs.Found.{execution_of}
 use Rattle.sp_law_found.proofs.Runs.{log_runs}
 use Rattle.sp_law_tree.specs.BasicTheory.{IsBasicFormula}
-use Rattle.sp_law_tree.proofs.Flat.{FlatTerm, FlatTerms}
 use Rattle.sp_law_tree.proofs.Forms.{RightAtom, IsRight, right_negation, right_timed}
 use Rattle.sp_law_tree.proofs.PlacedForms.{form_right}
 use Rattle.sp_log.specs.Checking.{is_log}
@@ -39,45 +38,6 @@ use Rattle.sp_law_shown.proofs.Learning.{basic_names_none, into_reading}
 use Rattle.sp_law_shown.proofs.Traces.{normal_trace, visible_equal}
 use Rattle.sp_law_tree.proofs.BasicOver.{basic_rules_over}
 use Rattle.sp_spec.proofs.Lists.{each_among}
-
--- ---- no symbol stands in flat atoms
-
-module _ (signature : Signature) where
-  flat_constructor : (t : Term Place) → FlatTerm t → IsConstructorTerm signature t
-  flat_constructor (var p) h = tt
-  flat_constructor (constant c) h = tt
-  flat_constructor (name n) h = tt
-  flat_constructor (app f ts) h = absurd h
-
-  flat_constructors : (ts : Terms Place) → FlatTerms ts → AreConstructorTerms signature ts
-  flat_constructors none h = tt
-  flat_constructors (more t ts) h = (flat_constructor t h.0, flat_constructors ts h.1)
-
-  atom_constructors : (n : ℕ) (a : Atom) → RightAtom n a → IsConstructorAtom signature a
-  atom_constructors n (acts a i) h = flat_constructors a.args h.0.0
-  atom_constructors n (same t u) h = (flat_constructor t h.0.0, flat_constructor u h.0.1)
-  atom_constructors n (same_time i j) h = tt
-  atom_constructors n (before i j) h = tt
-  atom_constructors n (last i) h = tt
-
-  guard_constructors : (n : ℕ) (atoms : List Atom) → Every (RightAtom n) atoms → Every (IsConstructorAtom signature) atoms
-  guard_constructors n [] h = tt
-  guard_constructors n (a ∷ atoms) h = (atom_constructors n a h.0, guard_constructors n atoms h.1)
-
-  mutual
-    right_constructors : (n : ℕ) (g : Guarded) → Throughout RightAtom n g → IsConstructorForm signature g
-    right_constructors n truth h = tt
-    right_constructors n falsity h = tt
-    right_constructors n (holds a) h = atom_constructors n a h
-    right_constructors n (fails a) h = atom_constructors n a h
-    right_constructors n (all_of gs) h = each_right_constructors n gs h
-    right_constructors n (one_of gs) h = each_right_constructors n gs h
-    right_constructors n (some bs guard g) h = (guard_constructors (times_within bs n) guard h.0, right_constructors (times_within bs n) g h.1)
-    right_constructors n (every bs guard g) h = (guard_constructors (times_within bs n) guard h.0, right_constructors (times_within bs n) g h.1)
-
-    each_right_constructors : (n : ℕ) (gs : Guardeds) → ThroughoutEach RightAtom n gs → AreConstructorForms signature gs
-    each_right_constructors n no_more h = tt
-    each_right_constructors n (and_then g gs) h = (right_constructors n g h.0, each_right_constructors n gs h.1)
 
 -- ---- truth
 
@@ -94,13 +54,13 @@ module _ (t : WrittenTheory) (s : IsSearched t) (log : Log) (is : IsLogOfSteps (
   unrestricted : (trace : Trace) → MeetsRestrictions theory trace
   unrestricted trace = subst (λ (rs : List Restriction). Every (λ (r : Restriction). IsTrueOver signature trace r.formula) rs) (sym s.unrestricted) tt
 
-  module _ (g : Guarded) (right : IsRight g) where
+  module _ (g : Guarded) (right : IsRight signature g) where
     pub can_decide : CanDecide signature (log_trace log) g
     can_decide = record {
       normal_forms = s.normal_forms.normal_forms;
       keeps = s.normal_forms.keeps;
-      normal = normal_trace theory log is.0 is.1 (execution_over theory (basic_rules_over signature.symbols t.rules s.basic) (execution_of theory log) (visible_trace log) executed);
-      constructors = right_constructors signature zero g right.each;
+      normal = normal_trace theory log is.0 is.1 (execution_over theory (basic_rules_over signature t.rules s.basic) (execution_of theory log) (visible_trace log) executed);
+      constructors = constructors signature zero g (throughout_weaken (RightAtom signature) (OfConstructors signature) (λ n a h. h.0.2) zero g right.each);
       guarded = right.guarded;
     }
 
@@ -110,11 +70,11 @@ module _ (t : WrittenTheory) (s : IsSearched t) (log : Log) (is : IsLogOfSteps (
     over_steps : decided (log_trace log) empty g ≡ true → GuardedHolds signature (visible_trace log) (assignment_of empty) g
     over_steps e =
         (equal_shown_same signature (action_names g) (log_trace log) (visible_trace log) (visible_equal signature.equations (action_names g) log is.1)
-        (assignment_of empty) g (right_timed g right) (each_among (action_names g) (action_names g) (λ x m. m))).0 (over_log e)
+        (assignment_of empty) g (right_timed signature g right) (each_among (action_names g) (action_names g) (λ x m. m))).0 (over_log e)
 
-  module _ (lemma : Lemma) (basic : IsBasicFormula lemma.formula) (g : Guarded) (form : checked_form lemma.formula ≡ Some g) where
-    right : IsRight g
-    right = let c = form_checked lemma.formula g form in form_right lemma.formula g basic c.0 c.1
+  module _ (lemma : Lemma) (basic : IsBasicFormula signature lemma.formula) (g : Guarded) (form : checked_form lemma.formula ≡ Some g) where
+    right : IsRight signature g
+    right = let c = form_checked lemma.formula g form in form_right signature lemma.formula g basic c.0 c.1
 
     kept : (trace : Trace) → IsTrueOver signature trace lemma.formula ↔ GuardedHolds signature trace (assignment_of empty) g
     kept trace = form_kept signature trace lemma.formula g (form_checked lemma.formula g form).0 (assignment_of empty)
@@ -124,11 +84,11 @@ module _ (t : WrittenTheory) (s : IsSearched t) (log : Log) (is : IsLogOfSteps (
 
     breaks : decided (log_trace log) empty (negate g) ≡ true → FoundBreaks theory lemma log
     breaks e = record {
-      by_log = (is.0, unrestricted (log_trace log), not_true (log_trace log) (over_log (negate g) (right_negation g right) e));
+      by_log = (is.0, unrestricted (log_trace log), not_true (log_trace log) (over_log (negate g) (right_negation signature g right) e));
       executed = executed;
       in_reading =
-          into_reading lemma (basic_names_none lemma.formula basic) (IsBrokenByLog theory lemma log) (IsBrokenBy theory lemma (execution_of theory log))
-          (visible_trace log, executed, unrestricted (visible_trace log), not_true (visible_trace log) (over_steps (negate g) (right_negation g right) e));
+          into_reading lemma (basic_names_none signature lemma.formula basic) (IsBrokenByLog theory lemma log) (IsBrokenBy theory lemma (execution_of theory log))
+          (visible_trace log, executed, unrestricted (visible_trace log), not_true (visible_trace log) (over_steps (negate g) (right_negation signature g right) e));
     }
 
     satisfies : decided (log_trace log) empty g ≡ true → FoundSatisfies theory lemma log
@@ -136,7 +96,7 @@ module _ (t : WrittenTheory) (s : IsSearched t) (log : Log) (is : IsLogOfSteps (
       by_log = (is.0, unrestricted (log_trace log), (kept (log_trace log)).1 (over_log g right e));
       executed = executed;
       in_reading =
-          into_reading lemma (basic_names_none lemma.formula basic) (IsSatisfiedByLog theory lemma log) (IsSatisfiedBy theory lemma (execution_of theory log))
+          into_reading lemma (basic_names_none signature lemma.formula basic) (IsSatisfiedByLog theory lemma log) (IsSatisfiedBy theory lemma (execution_of theory log))
           (visible_trace log, executed, unrestricted (visible_trace log), (kept (visible_trace log)).1 (over_steps g right e));
     }
 

@@ -4,6 +4,7 @@ use Rattle.std.specs.Str.{bytes_eq}
 use Rattle.std.proofs.lemmas.Slice.Eq.{bytes_eq-Decides}
 use Rattle.std.proofs.lemmas.Bool.{false_from_ne_true}
 use Rattle.sp_spec.specs.Lists.{Member}
+use Rattle.sp_spec.specs.Signature.{Signature}
 use Rattle.sp_spec.specs.Formula.{Formula, truth, falsity, happens, equals, precedes, not_so, both, either, implies, for_all, for_some}
 use Rattle.sp_spec.specs.Theory.{Lemma}
 use Rattle.sp_spec.specs.Verdict.{names_learning, InReading}
@@ -17,18 +18,18 @@ no_learning : (symbol : List ℕ) → (Member symbol adversary_names → ⊥) �
 no_learning symbol apart = false_from_ne_true (bytes_eq symbol (codes "KU")) (λ e. apart (inr (inr (inr (inl (sym ((bytes_eq-Decides symbol (codes "KU")).0 e)))))))
 
 -- a basic formula names no learning
-pub basic_names_none : (f : Formula) → IsBasicFormula f → names_learning f ≡ false
-basic_names_none truth h = refl
-basic_names_none falsity h = refl
-basic_names_none (happens a i) h = no_learning a.symbol h.1
-basic_names_none (equals t u) h = refl
-basic_names_none (precedes i j) h = refl
-basic_names_none (not_so f) h = basic_names_none f h
-basic_names_none (both f g) h = none_learnt (names_learning f) (names_learning g) (basic_names_none f h.0) (basic_names_none g h.1)
-basic_names_none (either f g) h = none_learnt (names_learning f) (names_learning g) (basic_names_none f h.0) (basic_names_none g h.1)
-basic_names_none (implies f g) h = none_learnt (names_learning f) (names_learning g) (basic_names_none f h.0) (basic_names_none g h.1)
-basic_names_none (for_all x f) h = basic_names_none f h
-basic_names_none (for_some x f) h = basic_names_none f h
+pub basic_names_none : (signature : Signature) (f : Formula) → IsBasicFormula signature f → names_learning f ≡ false
+basic_names_none signature truth h = refl
+basic_names_none signature falsity h = refl
+basic_names_none signature (happens a i) h = no_learning a.symbol h.1
+basic_names_none signature (equals t u) h = refl
+basic_names_none signature (precedes i j) h = refl
+basic_names_none signature (not_so f) h = basic_names_none signature f h
+basic_names_none signature (both f g) h = none_learnt (names_learning f) (names_learning g) (basic_names_none signature f h.0) (basic_names_none signature g h.1)
+basic_names_none signature (either f g) h = none_learnt (names_learning f) (names_learning g) (basic_names_none signature f h.0) (basic_names_none signature g h.1)
+basic_names_none signature (implies f g) h = none_learnt (names_learning f) (names_learning g) (basic_names_none signature f h.0) (basic_names_none signature g h.1)
+basic_names_none signature (for_all x f) h = basic_names_none signature f h
+basic_names_none signature (for_some x f) h = basic_names_none signature f h
 
 -- what is read over executions
 module _ (lemma : Lemma) (none : names_learning lemma.formula ≡ false) (by_logs by_executions : Type 0) where

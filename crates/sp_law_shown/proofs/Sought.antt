@@ -69,7 +69,7 @@ kept_parts : (b : Bool) (entries : List Entry) (log : Log) → kept_if b entries
 kept_parts true entries log e = let g : newest_first entries ≡ log = cc in (refl, sym g)
 kept_parts false entries log e = absurd cc
 
-module _ (t : WrittenTheory) (searched : IsSearched t) (h : Guarded) (right : IsRight h) (constants : List (List ℕ)) (s : System) where
+module _ (t : WrittenTheory) (searched : IsSearched t) (h : Guarded) (right : IsRight (signature_of (theory_of t)) h) (constants : List (List ℕ)) (s : System) where
   abbrev theory : Theory
   theory = theory_of t
 
@@ -109,15 +109,17 @@ module _ (t : WrittenTheory) (searched : IsSearched t) (h : Guarded) (right : Is
       ∙ ap (λ (b : Bool). kept_if b w.0) passes
       ∙ ap (λ (l : Log). Some l) (sym w.2)
 
-right_root : (h : Guarded) → IsRootFormula h → IsRight h
-right_root h root =
+right_root : (signature : Signature) (h : Guarded) → IsRootFormula signature h → IsRight signature h
+right_root signature h root =
     let lemma = root.0 in
     let g = root.2 in
     let c = form_checked lemma.formula g root.3 in
-    let right : IsRight g = form_right lemma.formula g root.1 c.0 c.1 in
-    ⊎_elim (λ e. subst IsRight (sym e) right) (λ e. subst IsRight (sym e) (right_negation g right)) root.4
+    let right : IsRight signature g = form_right signature lemma.formula g root.1 c.0 c.1 in
+    ⊎_elim (λ e. subst (IsRight signature) (sym e) right) (λ e. subst (IsRight signature) (sym e) (right_negation signature g right)) root.4
 
 pub found_is_sought_lem : FoundIsSought
 found_is_sought_lem = record {
-  exact = λ t searched h root constants s log. (found_there t searched h (right_root h root) constants s log, sought_found t searched h (right_root h root) constants s log);
+  exact = λ t searched h root constants s log.
+      let right = right_root (signature_of (theory_of t)) h root in
+      (found_there t searched h right constants s log, sought_found t searched h right constants s log);
 }

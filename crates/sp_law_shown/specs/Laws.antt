@@ -1,5 +1,6 @@
 -- What holds of logs that were found.
 use Rattle.std.specs.Prelude.{◌≡◌, ◌↔◌, ◌⊎◌, ℕ, List, Some, true}
+use Rattle.sp_spec.specs.Signature.{Signature}
 use Rattle.sp_spec.specs.Theory.{Lemma, signature_of}
 use Rattle.sp_spec.specs.Written.{WrittenTheory, theory_of}
 use Rattle.sp_spec.specs.Guarded.{Guarded, GuardedHolds}
@@ -18,23 +19,23 @@ use Rattle.sp_law_shown.specs.Shown.{IsSearched, FoundBreaks, FoundSatisfies}
 -- Of entries, the oldest first, that pass the test of logs: where the negation of the lemma's guarded form is found true over the log's trace, the
 -- log breaks the lemma; where the form is found true, the log satisfies it.
 pub record FoundLogsShow : Type 0 where
-  pub breaks : (theory : WrittenTheory) → IsSearched theory → (lemma : Lemma) → IsBasicFormula lemma.formula
+  pub breaks : (theory : WrittenTheory) → IsSearched theory → (lemma : Lemma) → IsBasicFormula (signature_of (theory_of theory)) lemma.formula
       → (g : Guarded) → checked_form lemma.formula ≡ Some g
       → (entries : List Entry) → is_log (signature_of (theory_of theory)) (theory_of theory).rules entries ≡ true
       → decided (log_trace (newest_first entries)) empty (negate g) ≡ true → FoundBreaks (theory_of theory) lemma (newest_first entries)
-  pub satisfies : (theory : WrittenTheory) → IsSearched theory → (lemma : Lemma) → IsBasicFormula lemma.formula
+  pub satisfies : (theory : WrittenTheory) → IsSearched theory → (lemma : Lemma) → IsBasicFormula (signature_of (theory_of theory)) lemma.formula
       → (g : Guarded) → checked_form lemma.formula ≡ Some g
       → (entries : List Entry) → is_log (signature_of (theory_of theory)) (theory_of theory).rules entries ≡ true
       → decided (log_trace (newest_first entries)) empty g ≡ true → FoundSatisfies (theory_of theory) lemma (newest_first entries)
 
 -- A formula from which a proof begins: a lemma's guarded form, or its negation.
-abbrev pub IsRootFormula : Guarded → Type 0
-IsRootFormula h = (lemma : Lemma) × IsBasicFormula lemma.formula × (g : Guarded) × (checked_form lemma.formula ≡ Some g) × ((h ≡ g) ⊎ (h ≡ negate g))
+abbrev pub IsRootFormula : Signature → Guarded → Type 0
+IsRootFormula signature h = (lemma : Lemma) × IsBasicFormula signature lemma.formula × (g : Guarded) × (checked_form lemma.formula ≡ Some g) × ((h ≡ g) ⊎ (h ≡ negate g))
 
 -- The search ends at a system exactly where the candidate that the system suggests is a log of the theory over whose trace the formula is
 -- true, and it ends with that log.
 pub record FoundIsSought : Type 0 where
-  pub exact : (theory : WrittenTheory) → IsSearched theory → (h : Guarded) → IsRootFormula h → (constants : List (List ℕ)) (s : System) (log : Log)
+  pub exact : (theory : WrittenTheory) → IsSearched theory → (h : Guarded) → IsRootFormula (signature_of (theory_of theory)) h → (constants : List (List ℕ)) (s : System) (log : Log)
       → (found (signature_of (theory_of theory)) (theory_of theory).rules constants h s ≡ Some log)
       ↔ ((entries : List Entry) × (candidate constants s ≡ Some entries) × (log ≡ newest_first entries) × IsLog (theory_of theory) log
       × GuardedHolds (signature_of (theory_of theory)) (log_trace log) (assignment_of empty) h)

@@ -15,7 +15,7 @@ use Rattle.sp_law_tree.specs.BasicTheory.{IsBasicRule}
 -- A theory without findings, of basic rules, without restrictions, and whose terms have normal forms, as they have without equations of its own.
 pub record IsSearched (theory : WrittenTheory) : Type 0 where
   pub normal_forms : HasNormalForms (signature_of (theory_of theory))
-  pub basic : Every IsBasicRule theory.rules
+  pub basic : Every (IsBasicRule (signature_of (theory_of theory))) theory.rules
   pub rule_names : Distinct (map (λ (r : WrittenRule). r.name) theory.rules)
   pub right : Every (λ (r : WrittenRule). rule_is_wrong r ≡ false) theory.rules
   pub unrestricted : theory.restrictions ≡ []

@@ -4,14 +4,14 @@ use mathlib.Core.Path.{fun_ext}
 use Rattle.sp_spec.specs.Lists.{Every, Classically}
 use Rattle.sp_spec.specs.Term.{Names, Variable, Term, var, constant, name, app, Terms, none, more, Ground, Grounds, valued, valued_all, MadeOf, AllMadeOf}
 use Rattle.sp_spec.specs.Signature.{Signature, IsValue}
-use Rattle.sp_spec.specs.Equal.{Equal, IsNormal, AreNormal}
+use Rattle.sp_spec.specs.Equal.{Equal, IsNormal}
 use Rattle.sp_spec.specs.Rule.{Action, action_at}
 use Rattle.sp_spec.specs.Execution.{Trace}
 use Rattle.sp_spec.specs.Truth.{Acts}
 use Rattle.sp_spec.specs.Guarded.{Place, free, bound, Time, free_time, bound_time, Binder, message, time, Atom, acts, same, same_time, before, last, Guarded, truth, falsity, holds, fails, all_of, one_of, some, every, Guardeds, no_more, and_then, Assignment, with_term, with_time, place_in, term_in, action_in, time_in, pushed, AtomHolds, AtomsHold, SomeValues, EachValues, GuardedHolds, EachHolds, SomeHolds}
 use Rattle.sp_spec.specs.Change.{Change, placed, place_changed, time_changed, raised_place, raised, raised_time, under_message, under_time, under, atom_changed, changed, changed_each}
 use Rattle.sp_spec_system.specs.Numbered.{AtFree, AtFreeTime, InAtom, InFormula, InEach}
-use Rattle.sp_spec_system.specs.Solutions.{EachNormal, AtomSettled, Settled, EachSettled}
+use Rattle.sp_spec_system.specs.Solutions.{EachNormal, IsSettled, AreSettled, AtomSettled, Settled, EachSettled}
 use Rattle.sp_spec.proofs.Values.{valued-valued}
 
 -- The second assignment reads as the first does what the change puts in: for what is bound, and for the system's variables and times
@@ -160,8 +160,8 @@ module _ (N : Names) (A : Variable → Type 0) (B : ℕ → Type 0) where
 
     module _ (n : ℕ) where
       atom_settled : (c : Change) (m r : Assignment) → Reads A B c m r → (a : Atom) → InAtom N A B a → AtomSettled signature n m (atom_changed c a) ≡ AtomSettled signature n r a
-      atom_settled c m r h (acts a i) e = ap₂ (λ (x : Action ⊥) (p : ℕ). AreNormal signature.equations x.args × (p < n)) (action_read c m r h a e.0) (time_read c m r h i e.1)
-      atom_settled c m r h (same t u) e = ap₂ (λ x y. IsNormal signature.equations x × IsNormal signature.equations y) (term_read c m r h t e.0) (term_read c m r h u e.1)
+      atom_settled c m r h (acts a i) e = ap₂ (λ (x : Action ⊥) (p : ℕ). AreSettled signature x.args × (p < n)) (action_read c m r h a e.0) (time_read c m r h i e.1)
+      atom_settled c m r h (same t u) e = ap₂ (λ x y. IsSettled signature x × IsSettled signature y) (term_read c m r h t e.0) (term_read c m r h u e.1)
       atom_settled c m r h (same_time i j) e = ap₂ (λ x y. (x < n) × (y < n)) (time_read c m r h i e.0) (time_read c m r h j e.1)
       atom_settled c m r h (before i j) e = ap₂ (λ x y. (x < n) × (y < n)) (time_read c m r h i e.0) (time_read c m r h j e.1)
       atom_settled c m r h (last i) e = ap (λ x. x < n) (time_read c m r h i e)

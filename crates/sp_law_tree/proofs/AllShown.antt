@@ -22,7 +22,7 @@ use Rattle.sp_law_tree.proofs.Forms.{right_not_send}
 use Rattle.sp_law_tree.proofs.OverLogs.{lemma_right, trees_show_logs_lem}
 use Rattle.sp_law_tree.proofs.OverExecutions.{form_depends, logs_show_executions_lem}
 
-module _ (t : WrittenTheory) (forms : HasNormalForms (signature_of (theory_of t))) (rules : Every IsBasicRule t.rules) (clean : Every (λ (r : WrittenRule). rule_is_wrong r ≡ false) t.rules) where
+module _ (t : WrittenTheory) (forms : HasNormalForms (signature_of (theory_of t))) (rules : Every (IsBasicRule (signature_of (theory_of t))) t.rules) (clean : Every (λ (r : WrittenRule). rule_is_wrong r ≡ false) t.rules) where
   -- the theory without its restrictions: trees as they are so far don't look at them
   abbrev free_text : WrittenTheory
   free_text = record { name = t.name; symbols = t.symbols; equations = t.equations; rules = t.rules; restrictions = []; lemmas = t.lemmas }
@@ -68,9 +68,9 @@ module _ (t : WrittenTheory) (forms : HasNormalForms (signature_of (theory_of t)
   suits = text_suits free_text forms rules clean
 
   -- its executions have logs for what the lemma sees
-  logged : (lemma : Lemma) → IsBasicFormula lemma.formula → (g : Guarded) → checked_form lemma.formula ≡ Some g → HasLogsFor free (action_names g)
+  logged : (lemma : Lemma) → IsBasicFormula (signature_of free) lemma.formula → (g : Guarded) → checked_form lemma.formula ≡ Some g → HasLogsFor free (action_names g)
   logged lemma f g e =
-      logs_show_executions_lem.without_adversary free (rules_leave_adversary free_text rules) (none_concluded t.rules clean) forms.normal_forms (action_names g) (right_not_send g (lemma_right lemma f g e))
+      logs_show_executions_lem.without_adversary free (rules_leave_adversary (signature_of free) free_text rules) (none_concluded t.rules clean) forms.normal_forms (action_names g) (right_not_send (signature_of free) g (lemma_right (signature_of free) lemma f g e))
 
 pub lemmas_are_shown_lem : LemmasAreShown
 lemmas_are_shown_lem = record {

@@ -1,33 +1,34 @@
--- No symbol stands in a rule of a basic theory, so its terms are over any.
+-- The rules of a basic theory are over its signature's symbols.
 use Rattle.std.proofs.Common.{List, map}
 use Rattle.sp_spec.specs.Lists.{Every}
 use Rattle.sp_spec.specs.Term.{Term, var, constant, name, app, Terms, none, more}
-use Rattle.sp_spec.specs.Signature.{Symbol}
+use Rattle.sp_spec.specs.Signature.{Signature}
 use Rattle.sp_spec.specs.Rule.{OfArguments}
-use Rattle.sp_spec.specs.Formula.{Written}
 use Rattle.sp_spec.specs.Written.{WrittenRule, rule_of}
 use Rattle.sp_spec.proofs.Lists.{every_weaken}
 use Rattle.sp_law_equal.specs.Right.{IsTermOver, AreTermsOver, RulesAreOver}
+use Rattle.sp_law_decide.specs.Normal.{IsConstructorTerm, AreConstructorTerms}
 use Rattle.sp_law_run.proofs.Written.{rules_over}
-use Rattle.sp_law_tree.specs.BasicTheory.{IsBasicTerm, AreBasicTerms, IsBasicFact, IsBasicAction, IsBasicRule}
+use Rattle.sp_law_tree.specs.BasicTheory.{IsBasicFact, IsBasicAction, IsBasicRule}
 
-module _ (symbols : List Symbol) where
-  atomic_over : (t : Term Written) → IsBasicTerm t → IsTermOver symbols t
-  atomic_over (var x) h = tt
-  atomic_over (constant c) h = tt
-  atomic_over (name n) h = tt
-  atomic_over (app f ts) h = absurd h
+module _ (signature : Signature) where
+  mutual
+    constructor_over : {V : Type 0} (t : Term V) → IsConstructorTerm signature t → IsTermOver signature.symbols t
+    constructor_over (var x) h = tt
+    constructor_over (constant c) h = tt
+    constructor_over (name n) h = tt
+    constructor_over (app f ts) h = (h.1, constructors_over ts h.2)
 
-  atomics_over : (ts : Terms Written) → AreBasicTerms ts → AreTermsOver symbols ts
-  atomics_over none h = tt
-  atomics_over (more t ts) h = (atomic_over t h.0, atomics_over ts h.1)
+    constructors_over : {V : Type 0} (ts : Terms V) → AreConstructorTerms signature ts → AreTermsOver signature.symbols ts
+    constructors_over none h = tt
+    constructors_over (more t ts) h = (constructor_over t h.0, constructors_over ts h.1)
 
-  rule_over : (r : WrittenRule) → IsBasicRule r → OfArguments (AreTermsOver symbols) r.facts
+  rule_over : (r : WrittenRule) → IsBasicRule signature r → OfArguments (AreTermsOver signature.symbols) r.facts
   rule_over r h = record {
-    premises = every_weaken IsBasicFact _ (λ f k. atomics_over f.args k.0) r.facts.premises h.premises;
-    actions = every_weaken IsBasicAction _ (λ a k. atomics_over a.args k.0) r.facts.actions h.actions;
-    conclusions = every_weaken IsBasicFact _ (λ f k. atomics_over f.args k.0) r.facts.conclusions h.conclusions;
+    premises = every_weaken (IsBasicFact signature) _ (λ f k. constructors_over f.args k.0.0) r.facts.premises h.premises;
+    actions = every_weaken (IsBasicAction signature) _ (λ a k. constructors_over a.args k.0.0) r.facts.actions h.actions;
+    conclusions = every_weaken (IsBasicFact signature) _ (λ f k. constructors_over f.args k.0.0) r.facts.conclusions h.conclusions;
   }
 
-  pub basic_rules_over : (rs : List WrittenRule) → Every IsBasicRule rs → RulesAreOver symbols (map rule_of rs)
-  basic_rules_over rs h = rules_over symbols rs (every_weaken IsBasicRule _ rule_over rs h)
+  pub basic_rules_over : (rs : List WrittenRule) → Every (IsBasicRule signature) rs → RulesAreOver signature.symbols (map rule_of rs)
+  basic_rules_over rs h = rules_over signature.symbols rs (every_weaken (IsBasicRule signature) _ rule_over rs h)

@@ -4,7 +4,8 @@ use Rattle.std.proofs.Common.{◌≡◌, ◌⊎◌, ℕ, Bool, true, false, not,
 use Rattle.std.proofs.lemmas.Bool.{or_cases, or_left, or_right, or_parts}
 use Rattle.std.proofs.lemmas.Slice.Eq.{bytes_eq-Decides}
 use Rattle.sp_spec.specs.Lists.{Every}
-use Rattle.sp_spec.specs.Term.{MadeOf, AllMadeOf, Sort, Msg, Fresh, Pub, Variable, Term, var, constant, name, app, Terms, none, more, valued, valued_all, EachVariable, EachVariables}
+use Rattle.sp_spec.specs.Term.{any_names, AllMadeOf, Sort, Msg, Fresh, Pub, Variable, Term, var, constant, name, app, Terms, none, more, valued, valued_all, EachVariables}
+use Rattle.sp_spec.specs.Signature.{Signature}
 use Rattle.sp_spec.specs.Rule.{Fact, Facts, fact_at}
 use Rattle.sp_spec.specs.Formula.{Written}
 use Rattle.sp_spec.specs.Written.{WrittenRule, in_term, in_terms, in_facts, in_actions, occurrences, rule_names, place_of, numbered_in, sort_in, rule_of}
@@ -12,9 +13,11 @@ use Rattle.sp_spec.specs.Findings.{has_wide_fact, has_wide_action, has_two_sorts
 use Rattle.sp_spec.proofs.Lists.{every_map}
 use Rattle.sp_spec.specs.Log.{is_in}
 use Rattle.sp_law_system.specs.Rules.{IsClosedRule}
-use Rattle.sp_law_tree.specs.BasicTheory.{IsBasicTerm, AreBasicTerms, IsBasicFact, IsBasicRule}
+use Rattle.sp_law_system.proofs.Numbers.{each_valued_all}
+use Rattle.sp_law_tree.specs.BasicTheory.{AreBasicTerms, IsBasicFact, IsBasicRule}
 use Rattle.sp_spec.proofs.Occurrences.{facts_each}
 use Rattle.sp_law_tree.proofs.FreshRules.{fresh_premises}
+use Rattle.sp_law_tree.proofs.Named.{all_made_both}
 use Rattle.sp_law_equal.specs.RightTheory.{MakesNoFr, StandsIn, StandsAmong, HasVariable, no_fresh_names}
 
 -- no message is taken in
@@ -22,8 +25,8 @@ pub not_in : (b c : Bool) → (b ≡ true → ⊥) → (b && c) ≡ false
 not_in true c h = absurd (h refl)
 not_in false c h = refl
 
-no_input : (v : Written → Term Variable) (f : Fact Written) → IsBasicFact f → is_in (fact_at v f) ≡ false
-no_input v f h = not_in (bytes_eq f.symbol (codes "In")) (not f.persistent) (λ e. h.1 (inl (sym ((bytes_eq-Decides f.symbol (codes "In")).0 e))))
+no_input : (signature : Signature) (v : Written → Term Variable) (f : Fact Written) → IsBasicFact signature f → is_in (fact_at v f) ≡ false
+no_input signature v f h = not_in (bytes_eq f.symbol (codes "In")) (not f.persistent) (λ e. h.1 (inl (sym ((bytes_eq-Decides f.symbol (codes "In")).0 e))))
 
 -- ---- what is named in facts stands in them
 
@@ -82,27 +85,22 @@ bound_each facts (x ∷ xs) e =
       bound_each facts xs both.1,
     )
 
-module _ (facts : Facts Written) where
-  atomic_bound : (t : Term Written) → IsBasicTerm t → EachVariable (λ (x : Written). IsBound facts (variable_of facts x.name)) t
-      → MadeOf no_fresh_names (IsBound facts) (valued (numbered_in facts) t)
-  atomic_bound (var x) a h = h
-  atomic_bound (constant c) a h = tt
-  atomic_bound (name n) a h = absurd a
-  atomic_bound (app f ts) a h = absurd a
+module _ (signature : Signature) (facts : Facts Written) where
+  abbrev IsBoundName : Written → Type 0
+  IsBoundName x = IsBound facts (variable_of facts x.name)
 
-  atomics_bound : (ts : Terms Written) → AreBasicTerms ts → EachVariables (λ (x : Written). IsBound facts (variable_of facts x.name)) ts
-      → AllMadeOf no_fresh_names (IsBound facts) (valued_all (numbered_in facts) ts)
-  atomics_bound none a h = tt
-  atomics_bound (more t ts) a h = (atomic_bound t a.0 h.0, atomics_bound ts a.1 h.1)
+  arguments_bound : (ts : Terms Written) → AreBasicTerms signature ts → EachVariables IsBoundName ts → AllMadeOf no_fresh_names (IsBound facts) (valued_all (numbered_in facts) ts)
+  arguments_bound ts a h =
+      each_valued_all no_fresh_names IsBoundName (IsBound facts) (numbered_in facts) (λ x k. k) ts (all_made_both no_fresh_names any_names IsBoundName ts a.1 h)
 
-  conclusions_bound : (fs : List (Fact Written)) → Every IsBasicFact fs → has_unbound facts (in_facts fs) ≡ false
+  conclusions_bound : (fs : List (Fact Written)) → Every (IsBasicFact signature) fs → has_unbound facts (in_facts fs) ≡ false
       → Every (λ (f : Fact Variable). AllMadeOf no_fresh_names (IsBound facts) f.args) (map (fact_at (numbered_in facts)) fs)
-  conclusions_bound fs p e = go fs p (facts_each (λ (x : Written). IsBound facts (variable_of facts x.name)) fs (bound_each facts (in_facts fs) e))
+  conclusions_bound fs p e = go fs p (facts_each IsBoundName fs (bound_each facts (in_facts fs) e))
     where
-      go : (fs : List (Fact Written)) → Every IsBasicFact fs → Every (λ (f : Fact Written). EachVariables (λ (x : Written). IsBound facts (variable_of facts x.name)) f.args) fs
+      go : (fs : List (Fact Written)) → Every (IsBasicFact signature) fs → Every (λ (f : Fact Written). EachVariables IsBoundName f.args) fs
           → Every (λ (f : Fact Variable). AllMadeOf no_fresh_names (IsBound facts) f.args) (map (fact_at (numbered_in facts)) fs)
       go [] p h = tt
-      go (f ∷ fs) p h = (atomics_bound f.args p.0.0 h.0, go fs p.1 h.1)
+      go (f ∷ fs) p h = (arguments_bound f.args p.0.0 h.0, go fs p.1 h.1)
 
 -- ---- rules
 
@@ -123,11 +121,11 @@ has_none r e =
     let bound = or_parts (has_unbound r.facts (in_actions r.facts.actions)) _ arguments.1 in
     record { premises = premises.0; conclusions = conclusions.0; arguments = arguments.0; bound = bound.1 }
 
-rule_closed : (r : WrittenRule) → IsBasicRule r → rule_is_wrong r ≡ false → IsClosedRule (rule_of r)
-rule_closed r p e = record {
-  inputs = every_map IsBasicFact _ (fact_at (numbered_in r.facts)) (no_input (numbered_in r.facts)) r.facts.premises p.premises;
+rule_closed : (signature : Signature) (r : WrittenRule) → IsBasicRule signature r → rule_is_wrong r ≡ false → IsClosedRule (rule_of r)
+rule_closed signature r p e = record {
+  inputs = every_map (IsBasicFact signature) _ (fact_at (numbered_in r.facts)) (no_input signature (numbered_in r.facts)) r.facts.premises p.premises;
   fresh = fresh_premises r.facts r.facts.premises (λ f m. m) (has_none r e).premises (has_none r e).arguments;
-  bound = conclusions_bound r.facts r.facts.conclusions p.conclusions (has_none r e).bound;
+  bound = conclusions_bound signature r.facts r.facts.conclusions p.conclusions (has_none r e).bound;
 }
 
 -- no Fr is concluded
@@ -143,6 +141,7 @@ none_concluded rs e =
     (λ r h. every_map (λ (f : Fact Written). f.symbol ≡ codes "Fr" → ⊥) _ (fact_at (numbered_in r.facts)) (λ f k. k) r.facts.conclusions (no_fr r.facts.conclusions (has_none r h).conclusions))
     rs e
 
-pub rules_closed : (rs : List WrittenRule) → Every IsBasicRule rs → Every (λ (r : WrittenRule). rule_is_wrong r ≡ false) rs → Every IsClosedRule (map rule_of rs)
-rules_closed [] p e = tt
-rules_closed (r ∷ rs) p e = (rule_closed r p.0 e.0, rules_closed rs p.1 e.1)
+pub rules_closed : (signature : Signature) (rs : List WrittenRule) → Every (IsBasicRule signature) rs → Every (λ (r : WrittenRule). rule_is_wrong r ≡ false) rs
+    → Every IsClosedRule (map rule_of rs)
+rules_closed signature [] p e = tt
+rules_closed signature (r ∷ rs) p e = (rule_closed signature r p.0 e.0, rules_closed signature rs p.1 e.1)

@@ -25,13 +25,13 @@ use Rattle.sp_law_tree.proofs.Forms.{right_timed}
 use Rattle.sp_law_tree.proofs.OverLogs.{lemma_right}
 
 -- a formula with a guarded form depends on the actions that the form names
-pub form_depends : (signature : Signature) (lemma : Lemma) → IsBasicFormula lemma.formula → (g : Guarded) → checked_form lemma.formula ≡ Some g → DependsOn signature (action_names g) lemma.formula
+pub form_depends : (signature : Signature) (lemma : Lemma) → IsBasicFormula signature lemma.formula → (g : Guarded) → checked_form lemma.formula ≡ Some g → DependsOn signature (action_names g) lemma.formula
 form_depends signature lemma f g e = record {
   same = λ one other equal.
       let form = (form_checked lemma.formula g e).0 in
       let kept = form_kept signature one lemma.formula g form (assignment start) in
       let there = form_kept signature other lemma.formula g form (assignment start) in
-      let over = equal_shown_same signature (action_names g) one other equal (assignment start) g (right_timed g (lemma_right lemma f g e)) (every_itself (action_names g)) in
+      let over = equal_shown_same signature (action_names g) one other equal (assignment start) g (right_timed signature g (lemma_right signature lemma f g e)) (every_itself (action_names g)) in
       ((λ h. there.1 (over.0 (kept.0 h))), (λ h. kept.1 (over.1 (there.0 h))));
 }
 

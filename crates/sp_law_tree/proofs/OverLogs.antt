@@ -1,5 +1,6 @@
 -- What finished trees show of logs.
 use Rattle.std.proofs.Common.{zero, ◌≡◌, [], Some}
+use Rattle.sp_spec.specs.Signature.{Signature}
 use Rattle.sp_spec.specs.Theory.{Theory, Lemma, signature_of}
 use Rattle.sp_spec.specs.Guarded.{Guarded, GuardedHolds}
 use Rattle.sp_spec.specs.Log.{Log, IsLog, log_trace}
@@ -27,13 +28,14 @@ use Rattle.sp_law_tree.proofs.Forms.{IsRight, right_negation, right_numbered, ri
 use Rattle.sp_law_tree.proofs.PlacedForms.{form_right}
 
 -- a formula from which a finished tree grows is true over no log
-in_no_log : (theory : Theory) → SuitsProofs theory → (h : Guarded) → IsRight h → (context : Context) → IsContextOf theory context → Throughout (NamedAtom (names_in context.public_names)) zero h → (tree : Tree) → IsAccepted context (root h) tree → IsFinished tree
+in_no_log : (theory : Theory) → SuitsProofs theory → (h : Guarded) → IsRight (signature_of theory) h → (context : Context) → IsContextOf theory context → Throughout (NamedAtom (names_in context.public_names)) zero h → (tree : Tree) → IsAccepted context (root h) tree → IsFinished tree
     → (log : Log) → IsLog theory log → GuardedHolds (signature_of theory) (log_trace log) (assignment start) h → ⊥
 in_no_log theory suits h right context is_of named tree accepted finished log is_log holds =
-    finished_tree theory (moves_are_covered theory suits) context is_of tree (root h) (record { numbered = right_numbered (names_in context.public_names) h right named }) accepted finished log is_log start (right_solved theory log h right holds)
+    finished_tree theory (moves_are_covered theory suits) context is_of tree (root h) (record { numbered = right_numbered (signature_of theory) (names_in context.public_names) h right named }) accepted finished log is_log start
+    (right_solved theory suits.instances.normal_forms log h right holds)
 
-pub lemma_right : (lemma : Lemma) → IsBasicFormula lemma.formula → (g : Guarded) → checked_form lemma.formula ≡ Some g → IsRight g
-lemma_right lemma f g e = let c = form_checked lemma.formula g e in form_right lemma.formula g f c.0 c.1
+pub lemma_right : (signature : Signature) (lemma : Lemma) → IsBasicFormula signature lemma.formula → (g : Guarded) → checked_form lemma.formula ≡ Some g → IsRight signature g
+lemma_right signature lemma f g e = let c = form_checked lemma.formula g e in form_right signature lemma.formula g f c.0 c.1
 
 lemma_named : (N : Names) (lemma : Lemma) → HasNames N lemma.formula → (g : Guarded) → checked_form lemma.formula ≡ Some g → Throughout (NamedAtom N) zero g
 lemma_named N lemma names g e = form_named N lemma.formula g names (form_checked lemma.formula g e).0
@@ -44,10 +46,10 @@ trees_show_logs_lem = record {
       let signature = signature_of theory in
       let kept = form_kept signature (log_trace log) lemma.formula g (form_checked lemma.formula g e).0 (assignment start) in
       stable_truth signature (log_trace log) [] lemma.formula (λ broken.
-      in_no_log theory suits _ (right_negation g (lemma_right lemma f g e)) context is_of
+      in_no_log theory suits _ (right_negation signature g (lemma_right signature lemma f g e)) context is_of
       (negate_throughout (NamedAtom (names_in context.public_names)) zero g (lemma_named (names_in context.public_names) lemma names g e)) tree accepted finished log is_log
       ((turned signature (log_trace log) g (assignment start)).1 (λ holds. broken (kept.1 holds))));
   exists_trace = λ theory suits lemma f g e context is_of names tree accepted finished log is_log meets holds.
       let kept = form_kept (signature_of theory) (log_trace log) lemma.formula g (form_checked lemma.formula g e).0 (assignment start) in
-      in_no_log theory suits g (lemma_right lemma f g e) context is_of (lemma_named (names_in context.public_names) lemma names g e) tree accepted finished log is_log (kept.0 holds);
+      in_no_log theory suits g (lemma_right (signature_of theory) lemma f g e) context is_of (lemma_named (names_in context.public_names) lemma names g e) tree accepted finished log is_log (kept.0 holds);
 }

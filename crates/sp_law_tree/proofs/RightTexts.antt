@@ -40,29 +40,29 @@ instances_over theory rules_over =
 
 -- ---- of a text
 
-pub normal_instances : (t : WrittenTheory) → HasNormalForms (signature_of (theory_of t)) → Every IsBasicRule t.rules → HasNormalInstances (theory_of t)
+pub normal_instances : (t : WrittenTheory) → HasNormalForms (signature_of (theory_of t)) → Every (IsBasicRule (signature_of (theory_of t))) t.rules → HasNormalInstances (theory_of t)
 normal_instances t forms basic = record {
   normal_forms = forms.normal_forms;
   keeps = forms.keeps;
-  plain = rules_plain (signature_of (theory_of t)).equations t.rules basic;
+  plain = rules_plain (signature_of (theory_of t)) t.rules basic;
 }
 
-pub text_suits : (t : WrittenTheory) → HasNormalForms (signature_of (theory_of t)) → Every IsBasicRule t.rules → Every (λ (r : WrittenRule). rule_is_wrong r ≡ false) t.rules
+pub text_suits : (t : WrittenTheory) → HasNormalForms (signature_of (theory_of t)) → Every (IsBasicRule (signature_of (theory_of t))) t.rules → Every (λ (r : WrittenRule). rule_is_wrong r ≡ false) t.rules
     → SuitsProofs (theory_of t)
 text_suits t forms basic right = record {
   instances = normal_instances t forms basic;
-  closed = rules_closed t.rules basic right;
-  over = instances_over (theory_of t) (basic_rules_over (signature_of (theory_of t)).symbols t.rules basic);
+  closed = rules_closed (signature_of (theory_of t)) t.rules basic right;
+  over = instances_over (theory_of t) (basic_rules_over (signature_of (theory_of t)) t.rules basic);
 }
 
-right_text : (t : WrittenTheory) → HasNormalForms (signature_of (theory_of t)) → Every IsBasicRule t.rules → Every (λ (r : WrittenRule). rule_is_wrong r ≡ false) t.rules
+right_text : (t : WrittenTheory) → HasNormalForms (signature_of (theory_of t)) → Every (IsBasicRule (signature_of (theory_of t))) t.rules → Every (λ (r : WrittenRule). rule_is_wrong r ≡ false) t.rules
     → Distinct (map (λ (r : WrittenRule). r.name) t.rules) → IsRightTheory (theory_of t)
 right_text t forms basic right names =
-    let closed = rules_closed t.rules basic right in
+    let closed = rules_closed (signature_of (theory_of t)) t.rules basic right in
     record {
       instances = normal_instances t forms basic;
       declared = rules_right t.rules names;
-      over = basic_rules_over (signature_of (theory_of t)).symbols t.rules basic;
+      over = basic_rules_over (signature_of (theory_of t)) t.rules basic;
       takes_fresh = every_weaken IsClosedRule TakesFreshNames (λ r h. h.fresh) (theory_of t).rules closed;
       makes_no_fr = none_concluded t.rules right;
       bound = every_weaken IsClosedRule BindsConclusions (λ r h. h.bound) (theory_of t).rules closed;
@@ -87,6 +87,6 @@ module _ (theory : Theory) (right : IsRightTheory theory) (alone : LeavesAdversa
 pub texts_are_right_lem : TextsAreRight
 texts_are_right_lem = record {
   right = right_text;
-  alone = rules_leave_adversary;
+  alone = λ theory basic. rules_leave_adversary (signature_of (theory_of theory)) theory basic;
   suits = theory_suits;
 }

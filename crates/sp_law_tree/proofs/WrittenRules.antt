@@ -3,12 +3,14 @@
 use Rattle.std.proofs.Common.{◌≡◌, ◌<◌, ℕ, zero, suc, Bool, true, false, ◌||◌, if◌then◌else◌, List, [], ◌∷◌, ◌++◌, map, length, codes, sym, subst, inl, inr, arith, bytes_eq}
 use Rattle.sp_spec.specs.Lists.{Member, Every}
 use Rattle.sp_spec.specs.Term.{Variable, Term, var, constant, name, app, Terms, none, more, valued, valued_all}
-use Rattle.sp_spec.specs.Signature.{Equation}
+use Rattle.sp_spec.specs.Signature.{Signature}
 use Rattle.sp_spec.specs.Rule.{Fact, Action, Declared, Rule, fact_at, action_at, FactsMadeOf}
 use Rattle.sp_spec.specs.Formula.{Written}
+use Rattle.sp_spec.specs.Theory.{signature_of}
 use Rattle.sp_spec.specs.Written.{WrittenRule, WrittenTheory, occurrences, is_listed, rule_names, place_of, numbered_in, sort_in, rule_of, theory_of}
 use Rattle.sp_spec.proofs.Occurrences.{occurrences_each, names_have}
 use Rattle.sp_law_equal.specs.Destructors.{IsPlain, ArePlain}
+use Rattle.sp_law_decide.specs.Normal.{IsConstructorTerm, AreConstructorTerms}
 use Rattle.sp_law_erase.specs.Adversary.{adversary_names}
 use Rattle.sp_spec.proofs.Lists.{every_map, every_member, every_parts, member_mapped, length_map}
 use Rattle.sp_law_system.proofs.Numbers.{facts_valued}
@@ -17,7 +19,7 @@ use Rattle.sp_spec.specs.Constants.{in_facts, in_actions, in_rule, constants_of}
 use Rattle.sp_spec_system.specs.Numbered.{names_in}
 use Rattle.sp_law_tree.specs.Laws.{NamesStand}
 use Rattle.sp_law_tree.proofs.Named.{AreListed, facts_made, actions_made, rules_listed, lemma_has_names}
-use Rattle.sp_law_tree.specs.BasicTheory.{IsBasicTerm, AreBasicTerms, IsBasicFact, IsBasicAction, IsBasicRule}
+use Rattle.sp_law_tree.specs.BasicTheory.{IsBasicFact, IsBasicAction, IsBasicRule}
 use Rattle.sp_law_equal.specs.RightTheory.{FactsArePlain, RulesArePlain, adversary_facts, LeavesAdversaryAlone}
 
 place_under : (x : List ℕ) (xs : List (List ℕ)) → is_listed x xs ≡ true → place_of x xs < length xs
@@ -29,8 +31,8 @@ place_under x (z ∷ xs) e = at (bytes_eq z x) e (λ h. place_under x xs h)
     at false h later = let l = later h in omega (arith, l)
 
 -- the variables are numbered, and the names listed
-rule_numbered : (listed : List (List ℕ)) (r : WrittenRule) → IsBasicRule r → AreListed listed (in_rule r) → FactsMadeOf (names_in listed) (λ x. x.number < length (rule_of r).variables) (rule_of r).facts
-rule_numbered listed r basic stand =
+rule_numbered : (signature : Signature) (listed : List (List ℕ)) (r : WrittenRule) → IsBasicRule signature r → AreListed listed (in_rule r) → FactsMadeOf (names_in listed) (λ x. x.number < length (rule_of r).variables) (rule_of r).facts
+rule_numbered signature listed r basic stand =
     let names = rule_names r.facts in
     let declared : List ℕ → Declared = λ x. record { name = x; sort = sort_in r.facts x } in
     let IsNamed : Written → Type 0 = λ y. is_listed y.name names ≡ true in
@@ -40,43 +42,48 @@ rule_numbered listed r basic stand =
     facts_valued (names_in listed) IsNamed (λ x. x.number < length (map declared names)) (numbered_in r.facts)
     (λ y h. subst (λ (n : ℕ). place_of y.name names < n) (sym (length_map declared names)) (place_under y.name names h))
     r.facts (record {
-      premises = facts_made listed IsNamed r.facts.premises basic.premises first.0 each.premises;
-      actions = actions_made listed IsNamed r.facts.actions basic.actions second.0 each.actions;
-      conclusions = facts_made listed IsNamed r.facts.conclusions basic.conclusions second.1 each.conclusions;
+      premises = facts_made listed signature IsNamed r.facts.premises basic.premises first.0 each.premises;
+      actions = actions_made listed signature IsNamed r.facts.actions basic.actions second.0 each.actions;
+      conclusions = facts_made listed signature IsNamed r.facts.conclusions basic.conclusions second.1 each.conclusions;
     })
 
-each_numbered : (listed : List (List ℕ)) (rs : List WrittenRule) → Every IsBasicRule rs → Every (λ (r : WrittenRule). AreListed listed (in_rule r)) rs → RulesAreNumbered (names_in listed) (map rule_of rs)
-each_numbered listed [] p k = tt
-each_numbered listed (r ∷ rs) p k = (rule_numbered listed r p.0 k.0, each_numbered listed rs p.1 k.1)
+each_numbered : (signature : Signature) (listed : List (List ℕ)) (rs : List WrittenRule) → Every (IsBasicRule signature) rs → Every (λ (r : WrittenRule). AreListed listed (in_rule r)) rs
+    → RulesAreNumbered (names_in listed) (map rule_of rs)
+each_numbered signature listed [] p k = tt
+each_numbered signature listed (r ∷ rs) p k = (rule_numbered signature listed r p.0 k.0, each_numbered signature listed rs p.1 k.1)
 
 pub names_stand_lem : NamesStand
 names_stand_lem = record {
-  rules = λ theory basic. each_numbered (constants_of theory) theory.rules basic (rules_listed theory);
+  rules = λ theory basic. each_numbered (signature_of (theory_of theory)) (constants_of theory) theory.rules basic (rules_listed theory);
   lemmas = lemma_has_names;
 }
 
 -- no destructor stands in them
-module _ (es : List Equation) (v : Written → Term Variable) (v_plain : (x : Written) → IsPlain es (v x)) where
-  atomic_plain : (t : Term Written) → IsBasicTerm t → IsPlain es (valued v t)
-  atomic_plain (var x) h = v_plain x
-  atomic_plain (constant c) h = tt
-  atomic_plain (name n) h = absurd h
-  atomic_plain (app f ts) h = absurd h
+module _ (signature : Signature) where
+  module _ (v : Written → Term Variable) (v_plain : (x : Written) → IsPlain signature.equations (v x)) where
+    mutual
+      constructor_plain : (t : Term Written) → IsConstructorTerm signature t → IsPlain signature.equations (valued v t)
+      constructor_plain (var x) h = v_plain x
+      constructor_plain (constant c) h = tt
+      constructor_plain (name n) h = tt
+      constructor_plain (app f ts) h = (h.0, constructors_plain ts h.2)
 
-  atomics_plain : (ts : Terms Written) → AreBasicTerms ts → ArePlain es (valued_all v ts)
-  atomics_plain none h = tt
-  atomics_plain (more t ts) h = (atomic_plain t h.0, atomics_plain ts h.1)
+      constructors_plain : (ts : Terms Written) → AreConstructorTerms signature ts → ArePlain signature.equations (valued_all v ts)
+      constructors_plain none h = tt
+      constructors_plain (more t ts) h = (constructor_plain t h.0, constructors_plain ts h.1)
 
-rule_plain : (es : List Equation) (r : WrittenRule) → IsBasicRule r → FactsArePlain es (rule_of r).facts
-rule_plain es r h = record {
-  premises = every_map IsBasicFact _ (fact_at (numbered_in r.facts)) (λ f k. atomics_plain es (numbered_in r.facts) (λ x. tt) f.args k.0) r.facts.premises h.premises;
-  actions = every_map IsBasicAction _ (action_at (numbered_in r.facts)) (λ a k. atomics_plain es (numbered_in r.facts) (λ x. tt) a.args k.0) r.facts.actions h.actions;
-  conclusions = every_map IsBasicFact _ (fact_at (numbered_in r.facts)) (λ f k. atomics_plain es (numbered_in r.facts) (λ x. tt) f.args k.0) r.facts.conclusions h.conclusions;
-}
+  rule_plain : (r : WrittenRule) → IsBasicRule signature r → FactsArePlain signature.equations (rule_of r).facts
+  rule_plain r h =
+      let v = numbered_in r.facts in
+      record {
+        premises = every_map (IsBasicFact signature) _ (fact_at v) (λ f k. constructors_plain v (λ x. tt) f.args k.0.0) r.facts.premises h.premises;
+        actions = every_map (IsBasicAction signature) _ (action_at v) (λ a k. constructors_plain v (λ x. tt) a.args k.0.0) r.facts.actions h.actions;
+        conclusions = every_map (IsBasicFact signature) _ (fact_at v) (λ f k. constructors_plain v (λ x. tt) f.args k.0.0) r.facts.conclusions h.conclusions;
+      }
 
-pub rules_plain : (es : List Equation) (rs : List WrittenRule) → Every IsBasicRule rs → RulesArePlain es (map rule_of rs)
-rules_plain es [] h = tt
-rules_plain es (r ∷ rs) h = (rule_plain es r h.0, rules_plain es rs h.1)
+  pub rules_plain : (rs : List WrittenRule) → Every (IsBasicRule signature) rs → RulesArePlain signature.equations (map rule_of rs)
+  rules_plain [] h = tt
+  rules_plain (r ∷ rs) h = (rule_plain r h.0, rules_plain rs h.1)
 
 -- they leave the adversary alone
 among : (s : List ℕ) → Member s adversary_facts → Member s adversary_names
@@ -85,12 +92,12 @@ among s (inr (inl h)) = inr (inl h)
 among s (inr (inr (inl h))) = inr (inr (inl h))
 among s (inr (inr (inr h))) = absurd h
 
-pub rules_leave_adversary : (t : WrittenTheory) → Every IsBasicRule t.rules → LeavesAdversaryAlone (theory_of t)
-rules_leave_adversary t basic = record {
+pub rules_leave_adversary : (signature : Signature) (t : WrittenTheory) → Every (IsBasicRule signature) t.rules → LeavesAdversaryAlone (theory_of t)
+rules_leave_adversary signature t basic = record {
   premises = λ r m. let o = member_mapped rule_of r t.rules m in
       subst (λ (q : Rule). Every (λ (f : Fact Variable). Member f.symbol adversary_facts → ⊥) q.facts.premises) o.2
-      (every_map IsBasicFact _ (fact_at (numbered_in o.0.facts)) (λ f k l. k.1 (among f.symbol l)) o.0.facts.premises (every_member IsBasicRule t.rules o.0 o.1 basic).premises);
+      (every_map (IsBasicFact signature) _ (fact_at (numbered_in o.0.facts)) (λ f k l. k.1 (among f.symbol l)) o.0.facts.premises (every_member (IsBasicRule signature) t.rules o.0 o.1 basic).premises);
   actions = λ r m. let o = member_mapped rule_of r t.rules m in
       subst (λ (q : Rule). Every (λ (a : Action Variable). a.symbol ≡ codes "K" → ⊥) q.facts.actions) o.2
-      (every_map IsBasicAction _ (action_at (numbered_in o.0.facts)) (λ a k l. k.1 (inr (inr (inl (sym l))))) o.0.facts.actions (every_member IsBasicRule t.rules o.0 o.1 basic).actions);
+      (every_map (IsBasicAction signature) _ (action_at (numbered_in o.0.facts)) (λ a k l. k.1 (inr (inr (inl (sym l))))) o.0.facts.actions (every_member (IsBasicRule signature) t.rules o.0 o.1 basic).actions);
 }

@@ -1,45 +1,45 @@
--- Basic theories, the ones that are read so far: a term is a variable or a public name, and no fact is the adversary's.
-use Rattle.sp_spec.specs.Term.{Names, MadeOf, AllMadeOf, Term, var, constant, name, app, Terms, none, more}
+-- Basic theories, the ones that are read so far: a term is a constructor term without fresh names, of variables, public names, and symbols of the
+-- signature that are no destructors; and no fact is the adversary's. Source: Tamarin manual, "Property specification" (no reducible symbols in formulas).
+use Rattle.sp_spec.specs.Term.{Names, MadeOf, AllMadeOf, Term, Terms}
+use Rattle.sp_spec.specs.Signature.{Signature}
 use Rattle.sp_spec.specs.Formula.{Written, Formula, truth, falsity, happens, equals, precedes, not_so, both, either, implies, for_all, for_some}
 use Rattle.sp_spec.specs.Lists.{Member, Every}
 use Rattle.sp_spec.specs.Rule.{Fact, Action}
-use Rattle.sp_law_erase.specs.Adversary.{adversary_names}
 use Rattle.sp_spec.specs.Written.{WrittenRule}
+use Rattle.sp_law_equal.specs.RightTheory.{no_fresh_names}
+use Rattle.sp_law_decide.specs.Normal.{IsConstructorTerm, AreConstructorTerms}
+use Rattle.sp_law_erase.specs.Adversary.{adversary_names}
 
--- a variable or a public name
-abbrev pub IsBasicTerm : Term Written → Type 0
-IsBasicTerm (var x) = Unit {0}
-IsBasicTerm (constant c) = Unit {0}
-IsBasicTerm (name n) = ⊥
-IsBasicTerm (app f ts) = ⊥
+-- a constructor term over the signature, in which no fresh name stands
+abbrev pub IsBasicTerm : Signature → Term Written → Type 0
+IsBasicTerm signature t = IsConstructorTerm signature t × MadeOf no_fresh_names (λ x. Unit {0}) t
 
-abbrev pub AreBasicTerms : Terms Written → Type 0
-AreBasicTerms none = Unit {0}
-AreBasicTerms (more t ts) = IsBasicTerm t × AreBasicTerms ts
+abbrev pub AreBasicTerms : Signature → Terms Written → Type 0
+AreBasicTerms signature ts = AreConstructorTerms signature ts × AllMadeOf no_fresh_names (λ x. Unit {0}) ts
 
-abbrev pub IsBasicFact : Fact Written → Type 0
-IsBasicFact f = AreBasicTerms f.args × (Member f.symbol adversary_names → ⊥)
+abbrev pub IsBasicFact : Signature → Fact Written → Type 0
+IsBasicFact signature f = AreBasicTerms signature f.args × (Member f.symbol adversary_names → ⊥)
 
-abbrev pub IsBasicAction : Action Written → Type 0
-IsBasicAction a = AreBasicTerms a.args × (Member a.symbol adversary_names → ⊥)
+abbrev pub IsBasicAction : Signature → Action Written → Type 0
+IsBasicAction signature a = AreBasicTerms signature a.args × (Member a.symbol adversary_names → ⊥)
 
-pub record IsBasicRule (r : WrittenRule) : Type 0 where
-  pub premises : Every IsBasicFact r.facts.premises
-  pub actions : Every IsBasicAction r.facts.actions
-  pub conclusions : Every IsBasicFact r.facts.conclusions
+pub record IsBasicRule (signature : Signature) (r : WrittenRule) : Type 0 where
+  pub premises : Every (IsBasicFact signature) r.facts.premises
+  pub actions : Every (IsBasicAction signature) r.facts.actions
+  pub conclusions : Every (IsBasicFact signature) r.facts.conclusions
 
-abbrev pub IsBasicFormula : Formula → Type 0
-IsBasicFormula truth = Unit {0}
-IsBasicFormula falsity = Unit {0}
-IsBasicFormula (happens a i) = IsBasicAction a
-IsBasicFormula (equals t u) = IsBasicTerm t × IsBasicTerm u
-IsBasicFormula (precedes i j) = Unit {0}
-IsBasicFormula (not_so f) = IsBasicFormula f
-IsBasicFormula (both f g) = IsBasicFormula f × IsBasicFormula g
-IsBasicFormula (either f g) = IsBasicFormula f × IsBasicFormula g
-IsBasicFormula (implies f g) = IsBasicFormula f × IsBasicFormula g
-IsBasicFormula (for_all x f) = IsBasicFormula f
-IsBasicFormula (for_some x f) = IsBasicFormula f
+abbrev pub IsBasicFormula : Signature → Formula → Type 0
+IsBasicFormula signature truth = Unit {0}
+IsBasicFormula signature falsity = Unit {0}
+IsBasicFormula signature (happens a i) = IsBasicAction signature a
+IsBasicFormula signature (equals t u) = IsBasicTerm signature t × IsBasicTerm signature u
+IsBasicFormula signature (precedes i j) = Unit {0}
+IsBasicFormula signature (not_so f) = IsBasicFormula signature f
+IsBasicFormula signature (both f g) = IsBasicFormula signature f × IsBasicFormula signature g
+IsBasicFormula signature (either f g) = IsBasicFormula signature f × IsBasicFormula signature g
+IsBasicFormula signature (implies f g) = IsBasicFormula signature f × IsBasicFormula signature g
+IsBasicFormula signature (for_all x f) = IsBasicFormula signature f
+IsBasicFormula signature (for_some x f) = IsBasicFormula signature f
 
 -- the names in the formula are such ones
 abbrev pub HasNames : Names → Formula → Type 0

@@ -39,9 +39,9 @@ pub record AcceptedTreesShow : Type 0 where
 -- What a finished tree shows of learning logs, in a context that has the lemma's public names. From the negation of the lemma's guarded form: no log that meets the restrictions breaks the
 -- lemma. From the guarded form: none satisfies it.
 pub record TreesShowLogs : Type 0 where
-  pub all_traces : (theory : Theory) → SuitsProofs theory → (lemma : Lemma) → IsBasicFormula lemma.formula → (g : Guarded) → checked_form lemma.formula ≡ Some g
+  pub all_traces : (theory : Theory) → SuitsProofs theory → (lemma : Lemma) → IsBasicFormula (signature_of theory) lemma.formula → (g : Guarded) → checked_form lemma.formula ≡ Some g
       → (context : Context) → IsContextOf theory context → HasNames (names_in context.public_names) lemma.formula → (tree : Tree) → IsAccepted context (root (negate g)) tree → IsFinished tree → HoldsInAllLogs theory lemma
-  pub exists_trace : (theory : Theory) → SuitsProofs theory → (lemma : Lemma) → IsBasicFormula lemma.formula → (g : Guarded) → checked_form lemma.formula ≡ Some g
+  pub exists_trace : (theory : Theory) → SuitsProofs theory → (lemma : Lemma) → IsBasicFormula (signature_of theory) lemma.formula → (g : Guarded) → checked_form lemma.formula ≡ Some g
       → (context : Context) → IsContextOf theory context → HasNames (names_in context.public_names) lemma.formula → (tree : Tree) → IsAccepted context (root g) tree → IsFinished tree → HoldsInNoLog theory lemma
 
 -- What holds in all logs holds in all executions, where each execution has a log that shows what the restrictions and the lemma see of it;
@@ -59,19 +59,19 @@ pub record LogsShowExecutions : Type 0 where
 -- What a text gives whose terms have normal forms, and whose rules have no findings and names of their own: its theory is right, and leaves the adversary
 -- alone. What is right of a theory is all that covering asks of it.
 pub record TextsAreRight : Type 0 where
-  pub right : (theory : WrittenTheory) → HasNormalForms (signature_of (theory_of theory)) → Every IsBasicRule theory.rules → Every (λ (r : WrittenRule). rule_is_wrong r ≡ false) theory.rules
+  pub right : (theory : WrittenTheory) → HasNormalForms (signature_of (theory_of theory)) → Every (IsBasicRule (signature_of (theory_of theory))) theory.rules → Every (λ (r : WrittenRule). rule_is_wrong r ≡ false) theory.rules
       → Distinct (map (λ (r : WrittenRule). r.name) theory.rules) → IsRightTheory (theory_of theory)
-  pub alone : (theory : WrittenTheory) → Every IsBasicRule theory.rules → LeavesAdversaryAlone (theory_of theory)
+  pub alone : (theory : WrittenTheory) → Every (IsBasicRule (signature_of (theory_of theory))) theory.rules → LeavesAdversaryAlone (theory_of theory)
   pub suits : (theory : Theory) → IsRightTheory theory → LeavesAdversaryAlone theory → SuitsProofs theory
 
 -- What a finished tree shows of a lemma of a theory whose terms have normal forms, and without findings on its rules, steps of the adversary included. From
 -- the negation of the lemma's guarded form: every execution satisfies the lemma. From the guarded form: no execution does.
 pub record LemmasAreShown : Type 0 where
-  pub all_traces : (theory : WrittenTheory) → HasNormalForms (signature_of (theory_of theory)) → Every IsBasicRule theory.rules → Every (λ (r : WrittenRule). rule_is_wrong r ≡ false) theory.rules
-      → (lemma : Lemma) → IsBasicFormula lemma.formula → (g : Guarded) → checked_form lemma.formula ≡ Some g
+  pub all_traces : (theory : WrittenTheory) → HasNormalForms (signature_of (theory_of theory)) → Every (IsBasicRule (signature_of (theory_of theory))) theory.rules → Every (λ (r : WrittenRule). rule_is_wrong r ≡ false) theory.rules
+      → (lemma : Lemma) → IsBasicFormula (signature_of (theory_of theory)) lemma.formula → (g : Guarded) → checked_form lemma.formula ≡ Some g
       → (context : Context) → IsContextOf (theory_of theory) context → HasNames (names_in context.public_names) lemma.formula → (tree : Tree) → IsAccepted context (root (negate g)) tree → IsFinished tree → HoldsInAll (theory_of theory) lemma
-  pub exists_trace : (theory : WrittenTheory) → HasNormalForms (signature_of (theory_of theory)) → Every IsBasicRule theory.rules → Every (λ (r : WrittenRule). rule_is_wrong r ≡ false) theory.rules
-      → (lemma : Lemma) → IsBasicFormula lemma.formula → (g : Guarded) → checked_form lemma.formula ≡ Some g
+  pub exists_trace : (theory : WrittenTheory) → HasNormalForms (signature_of (theory_of theory)) → Every (IsBasicRule (signature_of (theory_of theory))) theory.rules → Every (λ (r : WrittenRule). rule_is_wrong r ≡ false) theory.rules
+      → (lemma : Lemma) → IsBasicFormula (signature_of (theory_of theory)) lemma.formula → (g : Guarded) → checked_form lemma.formula ≡ Some g
       → (context : Context) → IsContextOf (theory_of theory) context → HasNames (names_in context.public_names) lemma.formula → (tree : Tree) → IsAccepted context (root g) tree → IsFinished tree → HoldsInNone (theory_of theory) lemma
 
 -- a tree that is grown is accepted, and has at most as many steps as the budget says
@@ -81,5 +81,5 @@ pub record GrowthIsAccepted : Type 0 where
 
 -- The public names that stand in a text are all that its rules and its lemmas have, and no fresh name stands there.
 pub record NamesStand : Type 0 where
-  pub rules : (theory : WrittenTheory) → Every IsBasicRule theory.rules → RulesAreNumbered (names_in (constants_of theory)) (theory_of theory).rules
-  pub lemmas : (theory : WrittenTheory) → (lemma : Lemma) → Member lemma theory.lemmas → IsBasicFormula lemma.formula → HasNames (names_in (constants_of theory)) lemma.formula
+  pub rules : (theory : WrittenTheory) → Every (IsBasicRule (signature_of (theory_of theory))) theory.rules → RulesAreNumbered (names_in (constants_of theory)) (theory_of theory).rules
+  pub lemmas : (theory : WrittenTheory) → (lemma : Lemma) → Member lemma theory.lemmas → IsBasicFormula (signature_of (theory_of theory)) lemma.formula → HasNames (names_in (constants_of theory)) lemma.formula

@@ -1,5 +1,5 @@
 // What proof trees show. Below stand proof trees and growth (sp_spec_proof), the covering of rows and moves (sp_law_cover), and the laws of
-// equality, truth, guarded forms and erasing; above it stands the answer of the command (sp_analysis).
+// equality, truth, guarded forms, deciding and erasing; above it stands the answer of the command (sp_analysis).
 // It carries three promises: where an accepted tree from a lemma's negation is finished, the lemma holds in every execution of the theory,
 // steps of the adversary included; where one from the lemma itself is, no execution satisfies it; and what is grown is an accepted tree
 // within its budget of steps. All is said of the definitions.

@@ -47,6 +47,10 @@ sign_of s.Or = signs.Or
 sign_of s.Equals = signs.Equals
 sign_of s.Less = signs.Less
 sign_of s.Dash = signs.Dash
+sign_of s.OpenBrace = signs.OpenBrace
+sign_of s.CloseBrace = signs.CloseBrace
+sign_of s.Greater = signs.Greater
+sign_of s.Slash = signs.Slash
 
 abbrev pub class_of : Class → bytes.Class
 class_of c.Constant = bytes.Constant

@@ -128,6 +128,10 @@ fn short_sign(byte: u8) -> Option<Sign>
         b'=' => Some(Sign::Equals),
         b'<' => Some(Sign::Less),
         b'-' => Some(Sign::Dash),
+        b'{' => Some(Sign::OpenBrace),
+        b'}' => Some(Sign::CloseBrace),
+        b'>' => Some(Sign::Greater),
+        b'/' => Some(Sign::Slash),
         _ => None,
     }
 }

@@ -47,6 +47,14 @@ pub enum Sign {
     Less,
     /// `-`
     Dash,
+    /// `{`
+    OpenBrace,
+    /// `}`
+    CloseBrace,
+    /// `>`
+    Greater,
+    /// `/`
+    Slash,
 }
 
 /// What a token is: a word, a constant without its quotes, a sign, or a goal.

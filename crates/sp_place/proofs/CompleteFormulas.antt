@@ -3,12 +3,12 @@ use Rattle.std.proofs.Common.{◌≡◌, ℕ, suc, ◌+◌, ◌<◌, ◌==◌, l
 use Rattle.sp_spec_text.specs.Signs.{Sign}
 use Rattle.sp_spec_text.specs.Signs as s
 use Rattle.sp_spec_text.specs.Token.{Lexeme, word, constant, sign, solve}
-use Rattle.sp_spec.specs.Term.{Term}
+use Rattle.sp_spec.specs.Term.{Term, Terms}
 use Rattle.sp_spec.specs.Formula.{Written, Formula}
 use Rattle.sp_spec_text.specs.Names.{names_fact}
-use Rattle.sp_spec_text.specs.Lists.{IsNotFirst, AreItems}
+use Rattle.sp_spec_text.specs.Lists.{IsNotFirst}
 use Rattle.sp_spec_text.specs.Formulas as g
-use Rattle.sp_spec_text.specs.Formulas.{SpellsVariable, SpellsTerm, NoSign, SpellsUnit, SpellsNegation, SpellsConjunction, SpellsAnds, SpellsDisjunction, SpellsOrs, SpellsImplication, SpellsFormula, SpellsReach}
+use Rattle.sp_spec_text.specs.Formulas.{SpellsVariable, SpellsTerm, SpellsArguments, NoSign, SpellsUnit, SpellsNegation, SpellsConjunction, SpellsAnds, SpellsDisjunction, SpellsOrs, SpellsImplication, SpellsFormula, SpellsReach}
 use Rattle.sp_place.specs.Parts.{Awaited}
 use Rattle.sp_place.specs.Parts as a
 use Rattle.sp_place.specs.Table.{code, deep, is_sign}
@@ -16,7 +16,7 @@ use Rattle.sp_place.specs.Language.{Has, by_token, by_parts, HasAll, all_had, an
 use Rattle.sp_place.proofs.Tokens.{same_sign, fact_is_name}
 use Rattle.sp_place.proofs.CompleteParts.{one_had, Without, without, has_fact_name, has_variable, has_term, has_arguments, has_opened, has_binders}
 use Rattle.std.proofs.lemmas.Bool.{false_from_ne_true}
-use Rattle.sp_place.proofs.CompleteUnits.{Untailed, untailed, no_colon, more_left, closing_left, closing_none, truth_of_closing, unit_word, negation_of_unit, with_less, with_equals, unit_of_variable, opens, unit_of_term}
+use Rattle.sp_place.proofs.CompleteUnits.{Untailed, untailed, no_colon, untailed_apart, more_left, closing_left, closing_none, truth_of_closing, unit_word, negation_of_unit, with_less, with_equals, unit_of_variable, opens, unit_of_term}
 
 -- ---- what may follow
 
@@ -31,10 +31,10 @@ sign_differs z (sign y) tokens d = false_from_ne_true (code y == code z) (λ h. 
 sign_differs z (solve t) tokens d = refl
 
 unjoined_of : {tokens : List Lexeme} → Untailed tokens → NoSign tokens → Unjoined tokens
-unjoined_of (untailed {x = x} {tokens = ts} c o l e) d = unjoined (sign_differs s.And x ts d.no_and) (sign_differs s.Or x ts d.no_or) (sign_differs s.Implies x ts d.no_arrow)
+unjoined_of (untailed {x = x} {tokens = ts} c o b l e) d = unjoined (sign_differs s.And x ts d.no_and) (sign_differs s.Or x ts d.no_or) (sign_differs s.Implies x ts d.no_arrow)
 
 no_iff : {tokens : List Lexeme} → Untailed tokens → IsNotFirst (sign s.Iff) tokens → Without (is_sign s.Iff) tokens
-no_iff (untailed {x = x} {tokens = ts} c o l e) d = without (sign_differs s.Iff x ts d)
+no_iff (untailed {x = x} {tokens = ts} c o b l e) d = without (sign_differs s.Iff x ts d)
 
 more_none : {n : ℕ} {tokens : List Lexeme} → Unjoined tokens → Has (a.More n) tokens tokens
 more_none (unjoined c d i) = by_parts (rw (c, d, i) refl) all_had
@@ -67,7 +67,7 @@ whole_all : {m : ℕ} {parts : List Awaited} {tokens behind rest : List Lexeme} 
 whole_all {m} w h = and_all (w.start m 0 w.mid refl (closing_none w.ends) w.ends) (and_all w.more (and_all w.twice h))
 
 closes_one : {n k m : ℕ} {tokens mid behind rest : List Lexeme} → deep n k + 1 ≡ m → Untailed tokens → Has (a.More m) tokens mid → Has (a.Twice m) mid (sign s.Close ∷ behind) → Has (a.Closing n k) behind rest → Has (a.Closing n (suc k)) tokens rest
-closes_one {n} {k} {m} {mid = mid} {behind = behind} e (untailed {x = x} {tokens = ts} c o l q) h i j =
+closes_one {n} {k} {m} {mid = mid} {behind = behind} e (untailed {x = x} {tokens = ts} c o b l q) h i j =
     by_parts refl (and_all (subst (λ (d : ℕ). Has (a.More d) (x ∷ ts) mid) (sym e) h) (and_all (subst (λ (d : ℕ). Has (a.Twice d) mid (sign s.Close ∷ behind)) (sym e) i) (and_all (by_token refl all_had) (one_had j))))
 
 two_and : {p q : Awaited} {parts : List Awaited} {tokens mid rest : List Lexeme} → HasAll (p ∷ q ∷ []) tokens mid → HasAll parts mid rest → HasAll (p ∷ q ∷ parts) tokens rest
@@ -79,18 +79,18 @@ quantified_left {m} {d} {parts} {tokens} {rest = rest} e b w h = subst (λ (i : 
 
 -- the other side of an equation, the later time, the time of an action; each with the brackets behind it
 side_had : {n k m : ℕ} {tokens mid rest : List Lexeme} {x : Term Written} → deep n k ≡ m → SpellsTerm m tokens x mid → Untailed mid → Has (a.Closing n k) mid rest → Has (a.Side n k) (sign s.Equals ∷ tokens) rest
-side_had {n} {k} {tokens = tokens} {mid = mid} e t u c = by_token refl (and_all (subst (λ (d : ℕ). Has (a.Term d) tokens mid) (sym e) (has_term t (no_colon u))) (one_had c))
+side_had {n} {k} {tokens = tokens} {mid = mid} e t u c = by_token refl (and_all (subst (λ (d : ℕ). Has (a.Term d) tokens mid) (sym e) (has_term t (untailed_apart u))) (one_had c))
 
 later_had : {n k : ℕ} {tokens mid rest : List Lexeme} {v : Written} → SpellsVariable tokens v mid → Untailed mid → Has (a.Closing n k) mid rest → Has (a.Order n k) (sign s.Less ∷ tokens) rest
 later_had v u c = by_token refl (and_all (has_variable v (no_colon u)) (one_had c))
 
-arguments_had : {n k m : ℕ} {tokens mid behind rest : List Lexeme} {xs : List (Term Written)} {v : Written} → deep n k ≡ m → m < 128 → AreItems (SpellsTerm (m + 1)) s.Close tokens xs (sign s.At ∷ mid) → SpellsVariable mid v behind → Untailed behind
+arguments_had : {n k m : ℕ} {tokens mid behind rest : List Lexeme} {xs : Terms Written} {v : Written} → deep n k ≡ m → m < 128 → SpellsArguments (m + 1) tokens xs (sign s.At ∷ mid) → SpellsVariable mid v behind → Untailed behind
     → Has (a.Closing n k) behind rest → Has (a.Named n k) (sign s.Open ∷ tokens) rest
 arguments_had {n} {k} {tokens = tokens} {mid = mid} e lt h v u c =
     by_token (rw (opens n k e lt) refl) (and_all {part = a.Arguments (deep n k + 1)} (subst (λ (d : ℕ). Has (a.Arguments (d + 1)) tokens (sign s.At ∷ mid)) (sym e) (has_arguments h))
-    (and_all {part = a.Exactly s.At} (by_token refl all_had) (and_all {part = a.Variable} (has_variable v (no_colon u)) (one_had {part = a.Closing n k} c))))
+    (one_had {part = a.Shown n k} (by_token refl (and_all {part = a.Variable} (has_variable v (no_colon u)) (one_had {part = a.Closing n k} c)))))
 
-persistent_had : {n k m : ℕ} {w : List ℕ} {tokens mid behind rest : List Lexeme} {xs : List (Term Written)} {v : Written} → names_fact w ≡ true → deep n k ≡ m → m < 128 → AreItems (SpellsTerm (m + 1)) s.Close tokens xs (sign s.At ∷ mid) → SpellsVariable mid v behind → Untailed behind
+persistent_had : {n k m : ℕ} {w : List ℕ} {tokens mid behind rest : List Lexeme} {xs : Terms Written} {v : Written} → names_fact w ≡ true → deep n k ≡ m → m < 128 → SpellsArguments (m + 1) tokens xs (sign s.At ∷ mid) → SpellsVariable mid v behind → Untailed behind
     → Has (a.Closing n k) behind rest → Has (a.Unit n k) (sign s.Bang ∷ word w ∷ sign s.Open ∷ tokens) rest
 persistent_had {n} {k} {tokens = tokens} {mid = mid} d e lt h v u c =
     by_token (rw (opens n k e lt) refl) (and_all {part = a.FactName} (has_fact_name d) (and_all {part = a.Opened (deep n k)} (subst (λ (i : ℕ). Has (a.Opened i) (sign s.Open ∷ tokens) (sign s.At ∷ mid)) (sym e) (has_opened lt h))
@@ -104,7 +104,7 @@ both_ways e d = let none : true ≡ false = sym e ∙ d in cc
 mutual
   unit_had : {m : ℕ} {f : Formula} {tokens mid : List Lexeme} → SpellsUnit m tokens f mid → (n k : ℕ) (rest : List Lexeme) → deep n k ≡ m → Has (a.Closing n k) mid rest → Untailed rest → Has (a.Unit n k) tokens rest
   unit_had (g.bracketed {tokens = ts} lt h) n k rest e c u =
-      let w = formula_had h (untailed refl refl refl refl) (unjoined refl refl refl) (without refl) in
+      let w = formula_had h (untailed refl refl refl refl refl) (unjoined refl refl refl) (without refl) in
       let d = ap (λ (i : ℕ). i + 1) e in
       by_token (rw (opens n k e lt) refl) (one_had {part = a.Negation n (suc k)} (w.start n (suc k) rest d (closes_one d w.ends w.more w.twice c) u))
   unit_had (g.every lt b h) n k rest e c u = by_token (rw (opens n k e lt) refl) (quantified_left (ap (λ (i : ℕ). i + 1) e) b (reach_had h (closing_left k c u)) (one_had {part = a.Closing n k} c))
@@ -143,15 +143,15 @@ mutual
   formula_had : {m : ℕ} {f : Formula} {tokens rest : List Lexeme} → SpellsFormula m tokens f rest → Untailed rest → Unjoined rest → Without (is_sign s.Iff) rest → Whole m tokens rest
   formula_had {rest = rest} (g.one h) u j d = let f = implication_had h u j in record { mid = f.mid; behind = rest; start = f.start; ends = f.ends; more = f.more; twice = twice_none d }
   formula_had (g.two {mid = mid} h l) u j d =
-      let f = implication_had h (untailed refl refl refl refl) (unjoined refl refl refl) in
+      let f = implication_had h (untailed refl refl refl refl refl) (unjoined refl refl refl) in
       record { mid = f.mid; behind = sign s.Iff ∷ mid; start = f.start; ends = f.ends; more = f.more; twice = by_token refl (lone_first (implication_had l u j)) }
 
   reach_had : {m : ℕ} {f : Formula} {tokens rest : List Lexeme} → SpellsReach m tokens f rest → Untailed rest → Whole m tokens rest
   reach_had {rest = rest} (g.reach_one h d i) u = let f = implication_had h u (unjoined_of u d) in record { mid = f.mid; behind = rest; start = f.start; ends = f.ends; more = f.more; twice = twice_none (no_iff u i) }
   reach_had (g.reach_two {mid = mid} h l d) u =
-      let f = implication_had h (untailed refl refl refl refl) (unjoined refl refl refl) in
+      let f = implication_had h (untailed refl refl refl refl refl) (unjoined refl refl refl) in
       record { mid = f.mid; behind = sign s.Iff ∷ mid; start = f.start; ends = f.ends; more = f.more; twice = by_token refl (lone_first (implication_had l u (unjoined_of u d))) }
 
 -- a formula up to the quote behind it
 pub has_quoted : {f : Formula} {parts : List Awaited} {tokens rest end : List Lexeme} → SpellsFormula 0 tokens f (sign s.Quote ∷ rest) → HasAll parts rest end → HasAll (a.Negation 0 0 ∷ a.More 0 ∷ a.Twice 0 ∷ a.Exactly s.Quote ∷ parts) tokens end
-has_quoted h k = whole_all (formula_had h (untailed refl refl refl refl) (unjoined refl refl refl) (without refl)) (and_all (by_token refl all_had) k)
+has_quoted h k = whole_all (formula_had h (untailed refl refl refl refl refl) (unjoined refl refl refl) (without refl)) (and_all (by_token refl all_had) k)

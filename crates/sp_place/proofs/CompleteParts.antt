@@ -1,15 +1,14 @@
 -- The variables, terms and facts of the grammar are in the table.
-use Rattle.std.proofs.Common.{◌≡◌, ℕ, ◌+◌, ◌<◌, ◌==◌, lt-ltb, Bool, true, false, List, [], ◌∷◌, Some, None, refl, subst}
+use Rattle.std.proofs.Common.{◌≡◌, ℕ, ◌+◌, ◌<◌, ◌==◌, lt-ltb, eq-eqb, Bool, true, false, List, [], ◌∷◌, Some, None, refl, subst}
 use Rattle.sp_spec_text.specs.Signs.{Sign}
 use Rattle.sp_spec_text.specs.Signs as s
 use Rattle.sp_spec_text.specs.Token.{Lexeme, word, sign}
-use Rattle.sp_spec.specs.Term.{Term}
+use Rattle.sp_spec.specs.Term.{Term, Terms}
 use Rattle.sp_spec.specs.Rule.{Fact}
 use Rattle.sp_spec.specs.Formula.{Mark, Written}
 use Rattle.sp_spec_text.specs.Names.{IsName, names_fact, mark_of, mark_at}
-use Rattle.sp_spec_text.specs.Lists.{AreParts, last, next as next_part, AreItems, empty, some}
 use Rattle.sp_spec_text.specs.Formulas as g
-use Rattle.sp_spec_text.specs.Formulas.{SpellsVariable, SpellsTerm, SpellsFact, SpellsBinders}
+use Rattle.sp_spec_text.specs.Formulas.{SpellsVariable, SpellsTerm, SpellsTuple, SpellsArguments, SpellsTerms, SpellsFact, SpellsBinders}
 use Rattle.sp_place.specs.Parts.{Awaited}
 use Rattle.sp_place.specs.Parts as a
 use Rattle.sp_place.specs.Table.{code, is_sign}
@@ -59,36 +58,81 @@ variable_begins z d (g.sorted n e) = without refl
 
 -- ---- terms
 
-pub has_term : {n : ℕ} {tokens rest : List Lexeme} {x : Term Written} → SpellsTerm n tokens x rest → Without (is_sign s.Colon) rest → Has (a.Term n) tokens rest
-has_term g.fixed d = by_token refl all_had
-has_term (g.variable (g.marked {x = y} e n)) d = by_parts (rw (no_mark y s.Open e refl) refl) (one_had {part = a.Variable} (has_variable (g.marked e n) d))
-has_term (g.variable (g.unmarked n)) d = by_parts refl (one_had {part = a.Variable} (has_variable (g.unmarked n) d))
-has_term (g.variable (g.sorted n e)) d = by_parts refl (one_had {part = a.Variable} (has_variable (g.sorted n e) d))
-has_term {n} (g.brackets lt h) d = by_token (rw (lt-ltb n 128 lt) refl) (and_all {part = a.Term (n + 1)} (has_term h (without refl)) (one_had {part = a.Exactly s.Close} (by_token refl all_had)))
+-- a token stands there, and the first is no sign by which a variable or a term goes on
+pub data Apart : List Lexeme → Type 0 where
+  apart : {x : Lexeme} {tokens : List Lexeme} → is_sign s.Colon x ≡ false → is_sign s.Open x ≡ false → is_sign s.OpenBrace x ≡ false → Apart (x ∷ tokens)
+
+-- a sign that closes tuples
+pub record ClosesTuple (y : Sign) : Type 0 where
+  pub no_colon : (code y == code s.Colon) ≡ false
+  pub no_open : (code y == code s.Open) ≡ false
+  pub no_brace : (code y == code s.OpenBrace) ≡ false
+  pub no_comma : (code y == code s.Comma) ≡ false
+
+pub angle : ClosesTuple s.Greater
+angle = record { no_colon = refl; no_open = refl; no_brace = refl; no_comma = refl }
+
+pub brace : ClosesTuple s.CloseBrace
+brace = record { no_colon = refl; no_open = refl; no_brace = refl; no_comma = refl }
+
+closed_apart : {y : Sign} {tokens : List Lexeme} → ClosesTuple y → Apart (sign y ∷ tokens)
+closed_apart c = apart c.no_colon c.no_open c.no_brace
+
+tuple_ends : {n : ℕ} {y : Sign} {rest : List Lexeme} → ClosesTuple y → Has (a.MoreTuple n y) (sign y ∷ rest) rest
+tuple_ends {y = y} c = by_token (rw (c.no_comma, eq-eqb (code y) (code y) refl) refl) all_had
+
+variable_applied : {n : ℕ} {tokens : List Lexeme} → Apart tokens → Has (a.Applied n) tokens tokens
+variable_applied (apart c o b) = by_parts (rw (o, b) refl) (one_had {part = a.Sorted} (no_sort (without c)))
+
+variable_term : {n : ℕ} {tokens rest : List Lexeme} {v : Written} → SpellsVariable tokens v rest → Apart rest → Has (a.Term n) tokens rest
+variable_term (g.marked {x = y} e i) d = by_token (rw (no_mark y s.Open e refl, no_mark y s.Less e refl, is_some_of e) refl) (one_had {part = a.Name} (has_name i))
+variable_term {n} (g.unmarked i) d = by_token (rw i refl) (one_had {part = a.Applied n} (variable_applied d))
+variable_term {n} (g.sorted i e) d = by_token (rw i refl) (one_had {part = a.Applied n} (by_parts refl (one_had {part = a.Sorted} (by_token refl (one_had (has_sort e))))))
 
 term_begins : {n : ℕ} {tokens rest : List Lexeme} {x : Term Written} → SpellsTerm n tokens x rest → Without (is_sign s.Close) tokens
 term_begins g.fixed = without refl
 term_begins (g.variable h) = variable_begins s.Close refl h
 term_begins (g.brackets lt h) = without refl
+term_begins (g.tuple lt h) = without refl
+term_begins (g.application e lt h) = without refl
+term_begins (g.braced e lt h k) = without refl
 
--- ---- facts
-
-has_arguments_left : {n : ℕ} {tokens rest : List Lexeme} {xs : List (Term Written)} → AreParts (SpellsTerm n) s.Comma s.Close tokens xs rest → HasAll (a.Term n ∷ a.MoreArguments n ∷ []) tokens rest
-has_arguments_left (last h) = and_all (has_term h (without refl)) (one_had (by_token refl all_had))
-has_arguments_left (next_part h k) = and_all (has_term h (without refl)) (one_had (by_token refl (has_arguments_left k)))
-
-parts_begin : {n : ℕ} {tokens rest : List Lexeme} {xs : List (Term Written)} → AreParts (SpellsTerm n) s.Comma s.Close tokens xs rest → Without (is_sign s.Close) tokens
-parts_begin (last h) = term_begins h
-parts_begin (next_part h k) = term_begins h
+terms_begin : {n : ℕ} {tokens rest : List Lexeme} {xs : Terms Written} → SpellsTerms n tokens xs rest → Without (is_sign s.Close) tokens
+terms_begin (g.last_term h) = term_begins h
+terms_begin (g.next_term h k) = term_begins h
 
 some_arguments : {n : ℕ} {tokens rest : List Lexeme} → Without (is_sign s.Close) tokens → HasAll (a.Term n ∷ a.MoreArguments n ∷ []) tokens rest → Has (a.Arguments n) tokens rest
 some_arguments (without e) h = by_parts (rw e refl) h
 
-pub has_arguments : {n : ℕ} {tokens rest : List Lexeme} {xs : List (Term Written)} → AreItems (SpellsTerm n) s.Close tokens xs rest → Has (a.Arguments n) tokens rest
-has_arguments empty = by_token refl all_had
-has_arguments (some h) = some_arguments (parts_begin h) (has_arguments_left h)
+tuple_first : {n : ℕ} {y : Sign} (tokens : List Lexeme) {rest : List Lexeme} → HasAll (a.Term n ∷ a.MoreTuple n y ∷ []) tokens rest → Has (a.Tuple n y) tokens rest
+tuple_first [] (and_all h k) = elim h [ ]
+tuple_first (x ∷ tokens) h = by_parts refl h
 
-pub has_opened : {n : ℕ} {tokens rest : List Lexeme} {xs : List (Term Written)} → n < 128 → AreItems (SpellsTerm (n + 1)) s.Close tokens xs rest → Has (a.Opened n) (sign s.Open ∷ tokens) rest
+mutual
+  pub has_term : {n : ℕ} {tokens rest : List Lexeme} {x : Term Written} → SpellsTerm n tokens x rest → Apart rest → Has (a.Term n) tokens rest
+  has_term g.fixed d = by_token refl all_had
+  has_term (g.variable h) d = variable_term h d
+  has_term {n} (g.brackets lt h) d = by_token (rw (lt-ltb n 128 lt) refl) (and_all {part = a.Term (n + 1)} (has_term h (apart refl refl refl)) (one_had {part = a.Exactly s.Close} (by_token refl all_had)))
+  has_term {n} (g.tuple lt h) d = by_token (rw (lt-ltb n 128 lt) refl) (one_had {part = a.Tuple (n + 1) s.Greater} (has_tuple angle h))
+  has_term {n} (g.application e lt h) d = by_token (rw e refl) (one_had {part = a.Applied n} (by_token (rw (lt-ltb n 128 lt) refl) (one_had {part = a.Arguments (n + 1)} (has_arguments h))))
+  has_term {n} (g.braced e lt h k) d =
+      by_token (rw e refl) (one_had {part = a.Applied n} (by_token (rw (lt-ltb n 128 lt) refl) (and_all {part = a.Tuple (n + 1) s.CloseBrace} (has_tuple brace h) (one_had {part = a.Term (n + 1)} (has_term k d)))))
+
+  pub has_tuple : {n : ℕ} {y : Sign} {tokens rest : List Lexeme} {x : Term Written} → ClosesTuple y → SpellsTuple n y tokens x rest → Has (a.Tuple n y) tokens rest
+  has_tuple {tokens = ts} c (g.last_part h) = tuple_first ts (and_all (has_term h (closed_apart c)) (one_had (tuple_ends c)))
+  has_tuple {n} {y} {tokens = ts} c (g.next_part h lt k) = tuple_first ts (and_all (has_term h (apart refl refl refl)) (one_had {part = a.MoreTuple n y} (by_token (rw (lt-ltb n 128 lt) refl) (one_had {part = a.Tuple (n + 1) y} (has_tuple c k)))))
+
+  pub has_arguments : {n : ℕ} {tokens rest : List Lexeme} {xs : Terms Written} → SpellsArguments n tokens xs rest → Has (a.Arguments n) tokens rest
+  has_arguments g.no_argument = by_token refl all_had
+  has_arguments (g.some_arguments h) = some_arguments (terms_begin h) (has_terms h)
+
+  has_terms : {n : ℕ} {tokens rest : List Lexeme} {xs : Terms Written} → SpellsTerms n tokens xs rest → HasAll (a.Term n ∷ a.MoreArguments n ∷ []) tokens rest
+  has_terms (g.last_term h) = and_all (has_term h (apart refl refl refl)) (one_had (by_token refl all_had))
+  has_terms (g.next_term h k) = and_all (has_term h (apart refl refl refl)) (one_had (by_token refl (has_terms k)))
+
+-- ---- facts
+
+pub has_opened : {n : ℕ} {tokens rest : List Lexeme} {xs : Terms Written} → n < 128 → SpellsArguments (n + 1) tokens xs rest → Has (a.Opened n) (sign s.Open ∷ tokens) rest
 has_opened {n} lt h = by_token (rw (lt-ltb n 128 lt) refl) (one_had {part = a.Arguments (n + 1)} (has_arguments h))
 
 pub has_fact : {n : ℕ} {tokens rest : List Lexeme} {x : Fact Written} → SpellsFact n tokens x rest → Has (a.Fact n) tokens rest

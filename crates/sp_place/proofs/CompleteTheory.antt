@@ -3,22 +3,26 @@ use Rattle.std.proofs.Common.{◌≡◌, ℕ, ◌==◌, eq-eqb, Bool, true, fals
 use Rattle.sp_spec_text.specs.Signs.{Sign}
 use Rattle.sp_spec_text.specs.Signs as s
 use Rattle.sp_spec_text.specs.Token.{Lexeme, word, sign}
+use Rattle.sp_spec.specs.Term.{Term}
+use Rattle.sp_spec.specs.Signature.{Symbol}
 use Rattle.sp_spec.specs.Rule.{Fact}
 use Rattle.sp_spec.specs.Formula.{Written}
 use Rattle.sp_spec.specs.Theory.{TraceKind}
-use Rattle.sp_spec_text.specs.Lists.{AreParts, last, next as next_part, AreItems, empty, some}
+use Rattle.sp_spec_text.specs.Lists.{AreParts, last, next as next_part, AreItems, empty, some, AreListed, alone, and_more}
 use Rattle.sp_spec_text.specs.Formulas.{SpellsFact, linear, persistent}
 use Rattle.sp_spec_text.specs.Written.{Method, WrittenProof, WrittenCases, Item, WrittenText}
+use Rattle.sp_spec_text.specs.Numerals.{is_numeral}
 use Rattle.sp_spec_text.specs.Proofs as p
 use Rattle.sp_spec_text.specs.Proofs.{is_method, SpellsMethod, SpellsProof, SpellsMore}
 use Rattle.sp_spec_text.specs.Theories as g
-use Rattle.sp_spec_text.specs.Theories.{SpellsFacts, SpellsArrow, SpellsKind, SpellsItems, SpellsTheory}
+use Rattle.sp_spec_text.specs.Theories.{SpellsFacts, SpellsArrow, SpellsBuiltin, SpellsAttribute, SpellsFunction, SpellsEquation, SpellsKind, SpellsDeclaration, SpellsItems, SpellsTheory}
+use Rattle.sp_place.specs.Parts.{Awaited}
 use Rattle.sp_place.specs.Parts as a
-use Rattle.sp_place.specs.Table.{next, stuck, code, is_sign, is_item}
+use Rattle.sp_place.specs.Table.{next, becomes, stuck, code, is_sign, is_item}
 use Rattle.sp_place.specs.Language.{Has, by_token, by_parts, HasAll, all_had, and_all}
-use Rattle.sp_place.proofs.Tokens.{same_word}
+use Rattle.sp_place.proofs.Tokens.{same_word, is_some_of}
 use Rattle.sp_place.proofs.Had.{no_move}
-use Rattle.sp_place.proofs.CompleteParts.{one_had, Without, without, has_name, has_fact}
+use Rattle.sp_place.proofs.CompleteParts.{one_had, Without, without, Apart, apart, has_name, has_term, has_fact}
 use Rattle.std.proofs.lemmas.Bool.{false_from_ne_true}
 use Rattle.sp_place.proofs.CompleteFormulas.{has_quoted}
 
@@ -47,6 +51,18 @@ rule_stuck = refl
 lemma_stuck : next a.Proof (word (codes "lemma")) ≡ stuck
 unfolding is_method
 lemma_stuck = refl
+
+builtins_stuck : next a.Proof (word (codes "builtins")) ≡ stuck
+unfolding is_method
+builtins_stuck = refl
+
+functions_stuck : next a.Proof (word (codes "functions")) ≡ stuck
+unfolding is_method
+functions_stuck = refl
+
+equations_stuck : next a.Proof (word (codes "equations")) ≡ stuck
+unfolding is_method
+equations_stuck = refl
 
 end_stuck : next a.Proof (word (codes "end")) ≡ stuck
 unfolding is_method
@@ -122,13 +138,23 @@ has_kind g.no_kind = by_token refl all_had
 has_kind g.all_kind = by_token refl (and_all (by_token refl all_had) (and_all (by_token refl all_had) (one_had (by_token refl all_had))))
 has_kind g.exists_kind = by_token refl (and_all (by_token refl all_had) (and_all (by_token refl all_had) (one_had (by_token refl all_had))))
 
-item_or_stuck : (b c d : Bool) → (b || c || d) ≡ false → (b ≡ false) × (c ≡ false) × (d ≡ false)
-item_or_stuck true c d e = absurd (let none : ⊥ = cc in none)
-item_or_stuck false true d e = absurd (let none : ⊥ = cc in none)
-item_or_stuck false false d e = (refl, refl, e)
+none_is : (b c : Bool) → (b || c) ≡ false → (b ≡ false) × (c ≡ false)
+none_is true c e = absurd (let none : ⊥ = cc in none)
+none_is false c e = (refl, e)
 
 no_item_stuck : (w : List ℕ) → is_item (word w) ≡ false → next a.Items (word w) ≡ stuck
-no_item_stuck w e = let i = item_or_stuck (bytes_eq w (codes "rule")) (bytes_eq w (codes "lemma")) (bytes_eq w (codes "end")) e in rw (i.0, i.1, i.2) refl
+no_item_stuck w e =
+    let rule = bytes_eq w (codes "rule") in
+    let lemma = bytes_eq w (codes "lemma") in
+    let builtins = bytes_eq w (codes "builtins") in
+    let functions = bytes_eq w (codes "functions") in
+    let equations = bytes_eq w (codes "equations") in
+    let five = none_is (rule || lemma || builtins || functions || equations) (bytes_eq w (codes "end")) e in
+    let four = none_is (rule || lemma || builtins || functions) equations five.0 in
+    let three = none_is (rule || lemma || builtins) functions four.0 in
+    let two = none_is (rule || lemma) builtins three.0 in
+    let one = none_is rule lemma two.0 in
+    rw (one.0, one.1, two.1, three.1, four.1, five.1) refl
 
 below_of_items : (tokens : List Lexeme) {rest : List Lexeme} → Has a.Items tokens rest → Has a.Below tokens rest
 below_of_items [] h = elim h [ ]
@@ -143,17 +169,77 @@ stuck_differs : (v w : List ℕ) {tokens rest : List Lexeme} → next a.Proof (w
 stuck_differs v w {tokens} {rest} d h = false_from_ne_true (bytes_eq w v) (λ i. no_move a.Proof (word v) d (subst (λ (u : List ℕ). Has a.Proof (word u ∷ tokens) rest) (same_word w v i) h))
 
 proof_no_item : (w : List ℕ) {tokens rest : List Lexeme} → Has a.Proof (word w ∷ tokens) rest → is_item (word w) ≡ false
-proof_no_item w h = rw (stuck_differs (codes "rule") w rule_stuck h, stuck_differs (codes "lemma") w lemma_stuck h, stuck_differs (codes "end") w end_stuck h) refl
+proof_no_item w h = rw (stuck_differs (codes "rule") w rule_stuck h, stuck_differs (codes "lemma") w lemma_stuck h, stuck_differs (codes "builtins") w builtins_stuck h, stuck_differs (codes "functions") w functions_stuck h, stuck_differs (codes "equations") w equations_stuck h, stuck_differs (codes "end") w end_stuck h) refl
 
 below_of_proof : (tokens : List Lexeme) {mid rest : List Lexeme} → Has a.Proof tokens mid → Has a.Items mid rest → Has a.Below tokens rest
 below_of_proof [] h i = elim h [ ]
 below_of_proof (word w ∷ tokens) h i = by_parts (rw (proof_no_item w h) refl) (and_all {part = a.Proof} h (one_had {part = a.Items} i))
 below_of_proof (x ∷ tokens) h i = by_parts refl (and_all {part = a.Proof} h (one_had {part = a.Items} i))
 
+-- ---- declarations
+
+-- items begin with a word
+behind_of_items : (part : Awaited) → ((w : List ℕ) → next part (word w) ≡ becomes (a.Items ∷ [])) → (tokens : List Lexeme) {rest : List Lexeme} → Has a.Items tokens rest → Has part tokens rest
+behind_of_items part e [] h = elim h [ ]
+behind_of_items part e (word w ∷ tokens) h = by_parts (e w) (one_had {part = a.Items} h)
+behind_of_items part e (x ∷ tokens) h = absurd (no_move a.Items x refl h)
+
+items_without : (y : Sign) (tokens : List Lexeme) {rest : List Lexeme} → Has a.Items tokens rest → Without (is_sign y) tokens
+items_without y [] h = elim h [ ]
+items_without y (word w ∷ tokens) h = without refl
+items_without y (x ∷ tokens) h = absurd (no_move a.Items x refl h)
+
+items_apart : (tokens : List Lexeme) {rest : List Lexeme} → Has a.Items tokens rest → Apart tokens
+items_apart [] h = elim h [ ]
+items_apart (word w ∷ tokens) h = apart refl refl refl
+items_apart (x ∷ tokens) h = absurd (no_move a.Items x refl h)
+
+builtin_left : {b : List ℕ} {tokens mid rest : List Lexeme} → SpellsBuiltin tokens b mid → Has a.MoreBuiltins mid rest → HasAll (a.Name ∷ a.MoreBuiltins ∷ []) tokens rest
+builtin_left (g.single e) m = and_all (has_name e) (one_had m)
+builtin_left (g.joined e h) m = and_all (has_name e) (one_had (by_token refl (builtin_left h m)))
+
+builtins_left : {bs : List (List ℕ)} {tokens mid rest : List Lexeme} → AreListed SpellsBuiltin tokens bs mid → Has a.Items mid rest → HasAll (a.Name ∷ a.MoreBuiltins ∷ []) tokens rest
+builtins_left {mid = mid} (alone h) i = builtin_left h (behind_of_items a.MoreBuiltins (λ w. refl) mid i)
+builtins_left (and_more h k) i = builtin_left h (by_token refl (builtins_left k i))
+
+has_number : {k : List ℕ} {rest : List Lexeme} → is_numeral k ≡ true → Has a.Number (word k ∷ rest) rest
+has_number e = by_token (rw e refl) all_had
+
+has_attribute : {private : Bool} {tokens rest : List Lexeme} → SpellsAttribute tokens private rest → Has a.Attribute tokens rest
+has_attribute (g.attribute e) = by_token (rw (is_some_of e) refl) all_had
+
+attributes_left : {each : List Bool} {tokens rest : List Lexeme} → AreParts SpellsAttribute s.Comma s.CloseList tokens each rest → HasAll (a.Attribute ∷ a.MoreAttributes ∷ []) tokens rest
+attributes_left (last h) = and_all (has_attribute h) (one_had (by_token refl all_had))
+attributes_left (next_part h k) = and_all (has_attribute h) (one_had (by_token refl (attributes_left k)))
+
+no_attributes : {tokens : List Lexeme} → Without (is_sign s.OpenList) tokens → Has a.Attributes tokens tokens
+no_attributes (without e) = by_parts (rw e refl) all_had
+
+has_function : {f : Symbol} {tokens rest : List Lexeme} → SpellsFunction tokens f rest → Without (is_sign s.OpenList) rest → Has a.Function tokens rest
+has_function (g.plain e i) d = by_token (rw e refl) (and_all {part = a.Exactly s.Slash} (by_token refl all_had) (and_all (has_number i) (one_had (no_attributes d))))
+has_function (g.with_attributes e i h) d = by_token (rw e refl) (and_all {part = a.Exactly s.Slash} (by_token refl all_had) (and_all (has_number i) (one_had {part = a.Attributes} (by_token refl (attributes_left h)))))
+
+functions_left : {fs : List Symbol} {tokens mid rest : List Lexeme} → AreListed SpellsFunction tokens fs mid → Has a.Items mid rest → HasAll (a.Function ∷ a.MoreFunctions ∷ []) tokens rest
+functions_left {mid = mid} (alone h) i = and_all (has_function h (items_without s.OpenList mid i)) (one_had (behind_of_items a.MoreFunctions (λ w. refl) mid i))
+functions_left (and_more h k) i = and_all (has_function h (without refl)) (one_had (by_token refl (functions_left k i)))
+
+equation_left : {e : Term Written × Term Written} {tokens mid rest : List Lexeme} → SpellsEquation tokens e mid → Apart mid → Has a.MoreEquations mid rest → HasAll (a.Term 0 ∷ a.Exactly s.Equals ∷ a.Term 0 ∷ a.MoreEquations ∷ []) tokens rest
+equation_left (g.equation h k) d m = and_all (has_term h (apart refl refl refl)) (and_all (by_token refl all_had) (and_all (has_term k d) (one_had m)))
+
+equations_left : {es : List (Term Written × Term Written)} {tokens mid rest : List Lexeme} → AreListed SpellsEquation tokens es mid → Has a.Items mid rest → HasAll (a.Term 0 ∷ a.Exactly s.Equals ∷ a.Term 0 ∷ a.MoreEquations ∷ []) tokens rest
+equations_left {mid = mid} (alone h) i = equation_left h (items_apart mid i) (behind_of_items a.MoreEquations (λ w. refl) mid i)
+equations_left (and_more h k) i = equation_left h (apart refl refl refl) (by_token refl (equations_left k i))
+
+declaration_had : {x : Item} {tokens mid rest : List Lexeme} → SpellsDeclaration tokens x mid → Has a.Items mid rest → Has a.Items tokens rest
+declaration_had (g.builtins h) l = by_token refl (and_all (by_token refl all_had) (builtins_left h l))
+declaration_had (g.functions h) l = by_token refl (and_all (by_token refl all_had) (functions_left h l))
+declaration_had (g.equations h) l = by_token refl (and_all (by_token refl all_had) (equations_left h l))
+declaration_had (g.a_rule (g.rule n i j k)) l =
+    by_token refl (and_all (has_name n) (and_all (by_token refl all_had) (and_all (has_fact_list i) (and_all (has_arrow j) (and_all (has_fact_list k) (one_had l))))))
+
 items_had : {tokens end rest : List Lexeme} {items : List Item} → SpellsItems tokens items end → end ≡ word (codes "end") ∷ rest → Has a.Items tokens rest
 items_had {rest = rest} g.no_item e = subst (λ (ts : List Lexeme). Has a.Items ts rest) (sym e) (by_token refl all_had)
-items_had (g.rule_first (g.rule n i j k) l) e =
-    by_token refl (and_all (has_name n) (and_all (by_token refl all_had) (and_all (has_fact_list i) (and_all (has_arrow j) (and_all (has_fact_list k) (one_had (items_had l e)))))))
+items_had (g.declaration_first d l) e = declaration_had d (items_had l e)
 items_had (g.lemma_first {mid = mid} (g.lemma n k f) g.no_proof l) e =
     by_token refl (and_all (has_name n) (and_all (by_token refl all_had) (and_all (has_kind k) (has_quoted f (one_had (below_of_items mid (items_had l e)))))))
 items_had (g.lemma_first {behind = behind} (g.lemma n k f) (g.a_proof q) l) e =

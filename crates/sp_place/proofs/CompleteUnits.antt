@@ -2,11 +2,11 @@
 use Rattle.std.proofs.Common.{◌≡◌, ℕ, zero, suc, ◌+◌, ◌<◌, ◌⊎◌, inl, inr, nat_lt, lt-ltb, Bool, true, false, List, [], ◌∷◌, codes, refl, sym, ap, subst, bytes_eq}
 use Rattle.sp_spec_text.specs.Signs as s
 use Rattle.sp_spec_text.specs.Token.{Lexeme, word, sign}
-use Rattle.sp_spec.specs.Term.{Term}
+use Rattle.sp_spec.specs.Term.{Term, Terms}
 use Rattle.sp_spec.specs.Formula.{Written}
 use Rattle.sp_spec_text.specs.Names.{IsName, is_reserved, names_fact}
 use Rattle.sp_spec_text.specs.Formulas as g
-use Rattle.sp_spec_text.specs.Formulas.{SpellsVariable, SpellsTerm}
+use Rattle.sp_spec_text.specs.Formulas.{SpellsVariable, SpellsTerm, SpellsTuple, SpellsArguments}
 use Rattle.sp_place.specs.Parts as a
 use Rattle.sp_place.specs.Table.{next, stuck, deep, is_sign, is_quantifier, is_truth}
 use Rattle.sp_place.specs.Language.{Has, by_token, by_parts, HasAll, all_had, and_all}
@@ -14,31 +14,34 @@ use Rattle.sp_place.proofs.Tokens.{either_word, same_word, is_some_of}
 use Rattle.sp_place.proofs.Meaning.{MoreOf, no_more, more_and, more_or, more_then, TwiceOf, once, twice, ClosedOf}
 use Rattle.sp_place.proofs.SoundTheory.{has_means}
 use Rattle.sp_place.proofs.Had.{taken, become, no_move, none_left, one_of}
-use Rattle.sp_place.proofs.CompleteParts.{one_had, Without, without, no_mark, has_name, has_sort}
+use Rattle.sp_place.proofs.CompleteParts.{one_had, Without, without, Apart, apart, no_mark, has_name, has_sort, angle, brace, has_term, has_tuple, has_arguments}
 use Rattle.std.proofs.lemmas.Bool.{false_from_ne_true}
 
 -- ---- what may follow
 
 -- a token stands there, and the first is no sign by which a variable, a term or a fact goes on
 pub data Untailed : List Lexeme → Type 0 where
-  untailed : {x : Lexeme} {tokens : List Lexeme} → is_sign s.Colon x ≡ false → is_sign s.Open x ≡ false → is_sign s.Less x ≡ false → is_sign s.Equals x ≡ false → Untailed (x ∷ tokens)
+  untailed : {x : Lexeme} {tokens : List Lexeme} → is_sign s.Colon x ≡ false → is_sign s.Open x ≡ false → is_sign s.OpenBrace x ≡ false → is_sign s.Less x ≡ false → is_sign s.Equals x ≡ false → Untailed (x ∷ tokens)
 
 pub no_colon : {tokens : List Lexeme} → Untailed tokens → Without (is_sign s.Colon) tokens
-no_colon (untailed c o l e) = without c
+no_colon (untailed c o b l e) = without c
+
+pub untailed_apart : {tokens : List Lexeme} → Untailed tokens → Apart tokens
+untailed_apart (untailed c o b l e) = apart c o b
 
 more_begins : {n : ℕ} {tokens rest : List Lexeme} → MoreOf n tokens rest → Untailed rest → Untailed tokens
 more_begins (no_more d) u = u
-more_begins (more_and h m) u = untailed refl refl refl refl
-more_begins (more_or h m) u = untailed refl refl refl refl
-more_begins (more_then lt h m) u = untailed refl refl refl refl
+more_begins (more_and h m) u = untailed refl refl refl refl refl
+more_begins (more_or h m) u = untailed refl refl refl refl refl
+more_begins (more_then lt h m) u = untailed refl refl refl refl refl
 
 twice_begins : {n : ℕ} {tokens rest : List Lexeme} → TwiceOf n tokens rest → Untailed rest → Untailed tokens
 twice_begins (once d) u = u
-twice_begins (twice h m) u = untailed refl refl refl refl
+twice_begins (twice h m) u = untailed refl refl refl refl refl
 
 closed_begins : (n k : ℕ) {tokens rest : List Lexeme} → ClosedOf n k tokens rest → Untailed rest → Untailed tokens
 closed_begins n zero e u = subst Untailed (sym e) u
-closed_begins n (suc k) c u = more_begins c.more (twice_begins c.twice (untailed refl refl refl refl))
+closed_begins n (suc k) c u = more_begins c.more (twice_begins c.twice (untailed refl refl refl refl refl))
 
 pub more_left : {n : ℕ} {tokens rest : List Lexeme} → Has (a.More n) tokens rest → Untailed rest → Untailed tokens
 more_left h u = more_begins (has_means h) u
@@ -47,7 +50,7 @@ pub closing_left : {n : ℕ} (k : ℕ) {tokens rest : List Lexeme} → Has (a.Cl
 closing_left {n} k h u = closed_begins n k (has_means h) u
 
 pub closing_none : {n : ℕ} {tokens : List Lexeme} → Untailed tokens → Has (a.Closing n zero) tokens tokens
-closing_none (untailed c o l e) = by_parts refl all_had
+closing_none (untailed c o b l e) = by_parts refl all_had
 
 -- ---- behind what is a term, and maybe a unit
 
@@ -92,7 +95,7 @@ closing_again : {n k : ℕ} {tokens rest : List Lexeme} → Has (a.Closing n (su
 closing_again {n} {k} h = closed_parts (become (a.Closing n (suc k)) (sign s.Close) refl h)
 
 equals_tails : {tokens : List Lexeme} → Untailed (sign s.Equals ∷ tokens) → ⊥
-equals_tails (untailed c o l e) = let none : ⊥ = cc in none
+equals_tails (untailed c o b l e) = let none : ⊥ = cc in none
 
 both_of_closing : {n : ℕ} (k : ℕ) (tokens : List Lexeme) {rest : List Lexeme} → Has (a.Closing n k) tokens rest → Untailed rest → Has (a.Both n k) tokens rest
 both_of_closing k [] h u = elim h [ ]
@@ -105,7 +108,7 @@ pub truth_of_closing : {n k : ℕ} {tokens rest : List Lexeme} → Has (a.Closin
 truth_of_closing {n} {k} {tokens} {rest} h u = at (closing_left k h u) (both_of_closing k tokens h u)
   where
     at : {ts : List Lexeme} → Untailed ts → Has (a.Both n k) ts rest → Has (a.Truth n k) ts rest
-    at (untailed c o l e) b = by_parts (rw (c, o, l) refl) (one_had {part = a.Both n k} b)
+    at (untailed c o b l e) h = by_parts (rw (c, o, l, b) refl) (one_had {part = a.Both n k} h)
 
 -- ---- words
 
@@ -176,7 +179,7 @@ truth_of_order {n} {k} (with_equals {tokens = ts}) h = by_parts refl (one_had {p
 truth_of_order {n} {k} (with_close {tokens = ts}) h = by_parts refl (one_had {part = a.Both n k} (both_of_side k (sign s.Close ∷ ts) (one_of (become (a.Order n k) (sign s.Close) {parts = a.Side n k ∷ []} refl h))))
 
 pub unit_of_variable : {n k : ℕ} {tokens mid rest : List Lexeme} {v : Written} → SpellsVariable tokens v mid → GoesOn mid → Has (a.Order n k) mid rest → Has (a.Unit n k) tokens rest
-unit_of_variable {n} {k} (g.marked {x = y} e i) c h = by_token (rw (no_mark y s.Open e refl, is_some_of e) refl) (and_all {part = a.Name} (has_name i) (one_had {part = a.Order n k} h))
+unit_of_variable {n} {k} (g.marked {x = y} e i) c h = by_token (rw (no_mark y s.Open e refl, no_mark y s.Less e refl, is_some_of e) refl) (and_all {part = a.Name} (has_name i) (one_had {part = a.Order n k} h))
 unit_of_variable (g.unmarked i) c h = unit_word i (λ d. named_of_bare c (bare_of_order c h)) (λ d. bare_of_order c h) (truth_of_order c h)
 unit_of_variable {n} {k} {rest = rest} (g.sorted {k = v} {rest = ts} i e) c h =
     let bare : Has (a.Bare n k) (sign s.Colon ∷ word v ∷ ts) rest = by_token refl (and_all (has_sort e) (one_had h)) in
@@ -186,8 +189,41 @@ unit_of_variable {n} {k} {rest = rest} (g.sorted {k = v} {rest = ts} i e) c h =
 pub opens : (n k : ℕ) {m : ℕ} → deep n k ≡ m → m < 128 → nat_lt (deep n k) 128 ≡ true
 opens n k {m} e lt = subst (λ (i : ℕ). nat_lt i 128 ≡ true) (sym e) (lt-ltb m 128 lt)
 
+goes_apart : {tokens : List Lexeme} → GoesOn tokens → Apart tokens
+goes_apart with_less = apart refl refl refl
+goes_apart with_equals = apart refl refl refl
+goes_apart with_close = apart refl refl refl
+
+shown_of_side : {n k : ℕ} {tokens rest : List Lexeme} → GoesOn tokens → Has (a.Side n k) tokens rest → Has (a.Shown n k) tokens rest
+shown_of_side {n} {k} with_less h = by_parts refl (one_had {part = a.Side n k} h)
+shown_of_side {n} {k} with_equals h = by_parts refl (one_had {part = a.Side n k} h)
+shown_of_side {n} {k} with_close h = by_parts refl (one_had {part = a.Side n k} h)
+
+unit_of_application : {n k m : ℕ} {w : List ℕ} {tokens mid rest : List Lexeme} {xs : Terms Written} → IsName w → deep n k ≡ m → m < 128 → SpellsArguments (m + 1) tokens xs mid → GoesOn mid → Has (a.Side n k) mid rest
+    → Has (a.Unit n k) (word w ∷ sign s.Open ∷ tokens) rest
+unit_of_application {n} {k} {tokens = ts} {mid = mid} {rest = rest} i e lt h c l =
+    let arguments : Has (a.Arguments (deep n k + 1)) ts mid = subst (λ (d : ℕ). Has (a.Arguments (d + 1)) ts mid) (sym e) (has_arguments h) in
+    let named : Has (a.Named n k) (sign s.Open ∷ ts) rest = by_token (rw (opens n k e lt) refl) (and_all arguments (one_had {part = a.Shown n k} (shown_of_side c l))) in
+    unit_word i (λ d. named) (λ d. by_token (rw (opens n k e lt) refl) (and_all arguments (one_had {part = a.Side n k} l))) (by_parts refl (one_had named))
+
+unit_of_braced : {n k m : ℕ} {w : List ℕ} {tokens mid behind rest : List Lexeme} {x y : Term Written} → IsName w → deep n k ≡ m → m < 128 → SpellsTuple (m + 1) s.CloseBrace tokens x mid → SpellsTerm (m + 1) mid y behind → GoesOn behind
+    → Has (a.Side n k) behind rest → Has (a.Unit n k) (word w ∷ sign s.OpenBrace ∷ tokens) rest
+unit_of_braced {n} {k} {tokens = ts} {mid = mid} {behind = behind} {rest = rest} i e lt h j c l =
+    let tuple : Has (a.Tuple (deep n k + 1) s.CloseBrace) ts mid = subst (λ (d : ℕ). Has (a.Tuple (d + 1) s.CloseBrace) ts mid) (sym e) (has_tuple brace h) in
+    let key : Has (a.Term (deep n k + 1)) mid behind = subst (λ (d : ℕ). Has (a.Term (d + 1)) mid behind) (sym e) (has_term j (goes_apart c)) in
+    let bare : Has (a.Bare n k) (sign s.OpenBrace ∷ ts) rest = by_token (rw (opens n k e lt) refl) (and_all tuple (and_all key (one_had {part = a.Side n k} l))) in
+    let named : Has (a.Named n k) (sign s.OpenBrace ∷ ts) rest = by_parts refl (one_had bare) in
+    unit_word i (λ d. named) (λ d. bare) (by_parts refl (one_had named))
+
+unit_of_tuple : {n k m : ℕ} {tokens mid rest : List Lexeme} {x : Term Written} → deep n k ≡ m → m < 128 → SpellsTuple (m + 1) s.Greater tokens x mid → Has (a.Side n k) mid rest → Has (a.Unit n k) (sign s.Less ∷ tokens) rest
+unit_of_tuple {n} {k} {tokens = ts} {mid = mid} e lt h l =
+    by_token (rw (opens n k e lt) refl) (and_all {part = a.Tuple (deep n k + 1) s.Greater} (subst (λ (d : ℕ). Has (a.Tuple (d + 1) s.Greater) ts mid) (sym e) (has_tuple angle h)) (one_had {part = a.Side n k} l))
+
 pub unit_of_term : {m : ℕ} {tokens mid rest : List Lexeme} {x : Term Written} → SpellsTerm m tokens x mid → (n k : ℕ) → deep n k ≡ m → GoesOn mid → Has (a.Side n k) mid rest → Has (a.Unit n k) tokens rest
 unit_of_term g.fixed n k e c h = by_token refl (one_had {part = a.Side n k} h)
 unit_of_term (g.variable v) n k e c h = unit_of_variable v c (order_of_side c h)
 unit_of_term (g.brackets {tokens = ts} lt t) n k e c h =
     by_token (rw (opens n k e lt) refl) (one_had {part = a.Negation n (suc k)} (negation_of_unit ts (unit_of_term t n (suc k) (ap (λ (i : ℕ). i + 1) e) with_close (by_token refl (one_had {part = a.Side n k} h)))))
+unit_of_term (g.tuple lt t) n k e c h = unit_of_tuple e lt t h
+unit_of_term (g.application i lt t) n k e c h = unit_of_application i e lt t c h
+unit_of_term (g.braced i lt t y) n k e c h = unit_of_braced i e lt t y c h

@@ -3,7 +3,7 @@ use Rattle.std.proofs.Common.{◌≡◌, ℕ, zero, suc, ◌+◌, ◌<◌, ◌==
 use Rattle.sp_spec_text.specs.Signs.{Sign}
 use Rattle.sp_spec_text.specs.Signs as s
 use Rattle.sp_spec_text.specs.Token.{Lexeme, word, constant, sign, solve}
-use Rattle.sp_spec_text.specs.Names.{IsName, is_reserved, is_adversarial, names_fact, mark_of}
+use Rattle.sp_spec_text.specs.Names.{IsName, is_reserved, is_adversarial, names_fact, mark_of, privacy_of}
 use Rattle.sp_place.specs.Parts.{Awaited}
 use Rattle.sp_place.specs.Parts as a
 use Rattle.sp_place.specs.Table.{next, takes, deep, code}
@@ -28,6 +28,13 @@ msg_sort : next a.Sort (word (codes "msg")) ≡ takes []
 unfolding mark_of
 msg_sort = refl
 
+zero_number : next a.Number (word (codes "0")) ≡ takes []
+zero_number = refl
+
+private_attribute : next a.Attribute (word (codes "private")) ≡ takes []
+unfolding privacy_of
+private_attribute = refl
+
 -- ---- parts that end by themselves
 
 end_name : (rest : List Lexeme) → Has a.Name (word (codes "x") ∷ rest) rest
@@ -44,6 +51,16 @@ end_exactly y rest = by_token (rw (eq-eqb (code y) (code y) refl) refl) all_had
 
 end_opened : (n : ℕ) (rest : List Lexeme) → n < 128 → Has (a.Opened n) (sign s.Open ∷ sign s.Close ∷ rest) rest
 end_opened n rest lt = by_token (rw (lt-ltb n 128 lt) refl) (one_had {part = a.Arguments (n + 1)} (by_token refl all_had))
+
+end_tuple : (n : ℕ) (y : Sign) (rest : List Lexeme) → (code y == code s.Comma) ≡ false → Has (a.MoreTuple n y) (sign y ∷ rest) rest
+end_tuple n y rest e = by_token (rw (e, eq-eqb (code y) (code y) refl) refl) all_had
+
+end_attributes : (rest : List Lexeme) → Has a.Attributes (sign s.OpenList ∷ word (codes "private") ∷ sign s.CloseList ∷ rest) rest
+end_attributes rest = by_token refl (and_all (by_token private_attribute all_had) (one_had (by_token refl all_had)))
+
+-- `x/0[private]`
+end_function : (rest : List Lexeme) → Has a.Function (word (codes "x") ∷ sign s.Slash ∷ word (codes "0") ∷ sign s.OpenList ∷ word (codes "private") ∷ sign s.CloseList ∷ rest) rest
+end_function rest = by_token (rw x_named refl) (and_all {part = a.Exactly s.Slash} (by_token refl all_had) (and_all {part = a.Number} (by_token zero_number all_had) (one_had (end_attributes rest))))
 
 end_items : (rest : List Lexeme) → Has a.Items (word (codes "end") ∷ rest) rest
 end_items rest = by_token refl all_had
@@ -93,6 +110,9 @@ end_bare n k q = let h = end_order n k q in (h.0, by_parts refl (one_had h.1))
 end_named : (n k : ℕ) {rest : List Lexeme} → Quiet rest → (tokens : List Lexeme) × Has (a.Named n k) (sign s.Equals ∷ tokens) rest
 end_named n k q = let h = end_bare n k q in (h.0, by_parts refl (one_had h.1))
 
+end_shown : (n k : ℕ) {rest : List Lexeme} → Quiet rest → (tokens : List Lexeme) × Has (a.Shown n k) (sign s.Equals ∷ tokens) rest
+end_shown n k q = let h = other_side n k q in (h.0, by_parts refl (one_had h.1))
+
 end_both : (n k : ℕ) {rest : List Lexeme} → Quiet rest → (tokens : List Lexeme) × Has (a.Both n k) (sign s.Equals ∷ tokens) rest
 end_both n k q = let h = other_side n k q in (h.0, by_parts refl (one_had h.1))
 
@@ -139,6 +159,9 @@ finish a.FactName b f rest q = finished_by refl (end_fact_name rest)
 finish a.Sorted b f rest q = finished_by {tokens = sign s.Colon ∷ word (codes "msg") ∷ rest} refl (by_token refl (one_had (end_sort rest)))
 finish a.Variable b f rest q = finished_by {tokens = sign s.Tilde ∷ word (codes "x") ∷ rest} refl (by_token refl (one_had (end_name rest)))
 finish (a.Term n) b f rest q = finished_by {tokens = constant [] ∷ rest} refl (by_token refl all_had)
+finish (a.Applied n) b f rest q = finished_by {tokens = sign s.Colon ∷ word (codes "msg") ∷ rest} refl (by_parts refl (one_had {part = a.Sorted} (by_token refl (one_had (end_sort rest)))))
+finish (a.Tuple n y) b f rest q = finished_by {tokens = constant [] ∷ sign y ∷ rest} refl (by_parts refl (and_all {part = a.Term n} (by_token refl all_had) (one_had (end_tuple n y rest f.1))))
+finish (a.MoreTuple n y) b f rest q = finished_by refl (end_tuple n y rest f.1)
 finish (a.Arguments n) b f rest q = finished_by {tokens = sign s.Close ∷ rest} refl (by_token refl all_had)
 finish (a.MoreArguments n) b f rest q = finished_by {tokens = sign s.Close ∷ rest} refl (by_token refl all_had)
 finish (a.Fact n) b f rest q = finished_by {tokens = sign s.Bang ∷ word (codes "A") ∷ sign s.Open ∷ sign s.Close ∷ rest} refl (by_token refl (and_all (end_fact_name (sign s.Open ∷ sign s.Close ∷ rest)) (one_had (end_opened n rest f))))
@@ -150,6 +173,7 @@ finish (a.Side n k) b f rest q = finished_by refl (other_side n k (q f.1)).1
 finish (a.Order n k) b f rest q = finished_by refl (end_order n k (q f.1)).1
 finish (a.Bare n k) b f rest q = finished_by refl (end_bare n k (q f.1)).1
 finish (a.Named n k) b f rest q = finished_by refl (end_named n k (q f.1)).1
+finish (a.Shown n k) b f rest q = finished_by refl (end_shown n k (q f.1)).1
 finish (a.Truth n k) b f rest q = finished_by refl (end_truth n k (q f.1)).1
 finish (a.Both n k) b f rest q = finished_by refl (end_both n k (q f.1)).1
 finish (a.Closing n k) b f rest q = closing_finished (q f.1)
@@ -158,6 +182,14 @@ finish (a.Twice n) b f rest q = record { tokens = rest; had = end_twice n (q f.1
 finish a.Theory b f rest q = finished_by refl (end_theory rest)
 finish a.Begin b f rest q = finished_by {tokens = word (codes "begin") ∷ rest} refl (by_token refl all_had)
 finish a.Items b f rest q = finished_by refl (end_items rest)
+finish a.MoreBuiltins b f rest q = finished_by {tokens = word (codes "end") ∷ rest} refl (by_parts refl (one_had (end_items rest)))
+finish a.Function b f rest q = finished_by refl (end_function rest)
+finish a.Number b f rest q = finished_by {tokens = word (codes "0") ∷ rest} refl (by_token zero_number all_had)
+finish a.Attributes b f rest q = finished_by refl (end_attributes rest)
+finish a.Attribute b f rest q = finished_by {tokens = word (codes "private") ∷ rest} refl (by_token private_attribute all_had)
+finish a.MoreAttributes b f rest q = finished_by {tokens = sign s.CloseList ∷ rest} refl (by_token refl all_had)
+finish a.MoreFunctions b f rest q = finished_by {tokens = word (codes "end") ∷ rest} refl (by_parts refl (one_had (end_items rest)))
+finish a.MoreEquations b f rest q = finished_by {tokens = word (codes "end") ∷ rest} refl (by_parts refl (one_had (end_items rest)))
 finish a.FactList b f rest q = finished_by {tokens = sign s.OpenList ∷ sign s.CloseList ∷ rest} refl (by_token refl (one_had (end_facts s.CloseList rest)))
 finish (a.Facts y) b f rest q = finished_by refl (end_facts y rest)
 finish (a.MoreFacts y) b f rest q = finished_by refl (end_more_facts y rest f)

@@ -3,11 +3,11 @@ use Rattle.std.proofs.Common.{◌≡◌, ℕ, zero, suc, ◌+◌, ◌<◌, ◌�
 use Rattle.sp_spec_text.specs.Signs.{Sign}
 use Rattle.sp_spec_text.specs.Signs as s
 use Rattle.sp_spec_text.specs.Token.{Lexeme, word, sign}
-use Rattle.sp_spec.specs.Term.{Term}
+use Rattle.sp_spec.specs.Term.{Term, Terms}
 use Rattle.sp_spec.specs.Formula.{Mark, Written, Formula}
 use Rattle.sp_spec_text.specs.Names.{is_reserved, mark_of}
-use Rattle.sp_spec_text.specs.Lists.{IsNotFirst, AreParts, AreItems}
-use Rattle.sp_spec_text.specs.Formulas.{SpellsVariable, SpellsTerm, SpellsBinders, SpellsNegation, NoSign}
+use Rattle.sp_spec_text.specs.Lists.{IsNotFirst, AreParts}
+use Rattle.sp_spec_text.specs.Formulas.{SpellsVariable, SpellsTerm, SpellsTuple, SpellsArguments, SpellsTerms, SpellsBinders, SpellsNegation, NoSign}
 use Rattle.sp_place.specs.Table.{deep}
 
 -- the tokens begin with something that R spells
@@ -43,8 +43,24 @@ pub data AfterPart {A : Type 0} (R : List Lexeme → A → List Lexeme → Type 
   no_part : {rest : List Lexeme} → AfterPart R close (sign close ∷ rest) rest
   a_part : {xs : List A} {tokens rest : List Lexeme} → AreParts R s.Comma close tokens xs rest → AfterPart R close (sign s.Comma ∷ tokens) rest
 
+-- behind a name in a term
+pub data AppliedOf (n : ℕ) : List Lexeme → List Lexeme → Type 0 where
+  with_arguments : {xs : Terms Written} {tokens rest : List Lexeme} → n < 128 → SpellsArguments (n + 1) tokens xs rest → AppliedOf n (sign s.Open ∷ tokens) rest
+  with_braces : {x y : Term Written} {tokens mid rest : List Lexeme} → n < 128 → SpellsTuple (n + 1) s.CloseBrace tokens x mid → SpellsTerm (n + 1) mid y rest → AppliedOf n (sign s.OpenBrace ∷ tokens) rest
+  as_variable : {tokens rest : List Lexeme} → SortPart tokens rest → AppliedOf n tokens rest
+
+-- behind a term of a tuple
+pub data TupleBehind (n : ℕ) (close : Sign) : List Lexeme → List Lexeme → Type 0 where
+  no_term : {rest : List Lexeme} → TupleBehind n close (sign close ∷ rest) rest
+  a_tuple : {x : Term Written} {tokens rest : List Lexeme} → n < 128 → SpellsTuple (n + 1) close tokens x rest → TupleBehind n close (sign s.Comma ∷ tokens) rest
+
+-- behind an argument
+pub data ArgumentsBehind (n : ℕ) : List Lexeme → List Lexeme → Type 0 where
+  no_other : {rest : List Lexeme} → ArgumentsBehind n (sign s.Close ∷ rest) rest
+  others : {xs : Terms Written} {tokens rest : List Lexeme} → SpellsTerms n tokens xs rest → ArgumentsBehind n (sign s.Comma ∷ tokens) rest
+
 pub data OpenedArguments (n : ℕ) : List Lexeme → List Lexeme → Type 0 where
-  opened : {args : List (Term Written)} {tokens rest : List Lexeme} → n < 128 → AreItems (SpellsTerm (n + 1)) s.Close tokens args rest → OpenedArguments n (sign s.Open ∷ tokens) rest
+  opened : {args : Terms Written} {tokens rest : List Lexeme} → n < 128 → SpellsArguments (n + 1) tokens args rest → OpenedArguments n (sign s.Open ∷ tokens) rest
 
 -- behind a variable of a quantifier
 pub data AfterBinder : List Lexeme → List Lexeme → Type 0 where
@@ -92,11 +108,18 @@ pub data OrderOf (n k : ℕ) : List Lexeme → List Lexeme → Type 0 where
 -- behind a name
 pub data BareOf (n k : ℕ) : List Lexeme → List Lexeme → Type 0 where
   of_sort : {m : Mark} {w : List ℕ} {tokens rest : List Lexeme} → mark_of w ≡ Some m → OrderOf n k tokens rest → BareOf n k (sign s.Colon ∷ word w ∷ tokens) rest
+  of_arguments : {xs : Terms Written} {tokens mid rest : List Lexeme} → deep n k < 128 → SpellsArguments (deep n k + 1) tokens xs mid → SideOf n k mid rest → BareOf n k (sign s.Open ∷ tokens) rest
+  of_braces : {x y : Term Written} {tokens mid behind rest : List Lexeme} → deep n k < 128 → SpellsTuple (deep n k + 1) s.CloseBrace tokens x mid → SpellsTerm (deep n k + 1) mid y behind → SideOf n k behind rest → BareOf n k (sign s.OpenBrace ∷ tokens) rest
   of_none : {tokens rest : List Lexeme} → OrderOf n k tokens rest → BareOf n k tokens rest
+
+-- behind what may be a fact or a term
+pub data ShownOf (n k : ℕ) : List Lexeme → List Lexeme → Type 0 where
+  at_time : {v : Written} {tokens mid rest : List Lexeme} → SpellsVariable tokens v mid → ClosedOf n k mid rest → ShownOf n k (sign s.At ∷ tokens) rest
+  as_side : {tokens rest : List Lexeme} → SideOf n k tokens rest → ShownOf n k tokens rest
 
 -- behind a name that may name a fact
 pub data NamedOf (n k : ℕ) : List Lexeme → List Lexeme → Type 0 where
-  as_fact : {args : List (Term Written)} {v : Written} {tokens mid behind rest : List Lexeme} → deep n k < 128 → AreItems (SpellsTerm (deep n k + 1)) s.Close tokens args (sign s.At ∷ mid) → SpellsVariable mid v behind → ClosedOf n k behind rest
+  as_fact : {args : Terms Written} {v : Written} {tokens mid behind rest : List Lexeme} → deep n k < 128 → SpellsArguments (deep n k + 1) tokens args (sign s.At ∷ mid) → SpellsVariable mid v behind → ClosedOf n k behind rest
       → NamedOf n k (sign s.Open ∷ tokens) rest
   as_name : {tokens rest : List Lexeme} → BareOf n k tokens rest → NamedOf n k tokens rest
 

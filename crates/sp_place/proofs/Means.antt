@@ -4,19 +4,42 @@ use Rattle.sp_spec_text.specs.Signs as s
 use Rattle.sp_spec_text.specs.Token.{Lexeme, word, sign}
 use Rattle.sp_spec.specs.Theory.{TraceKind}
 use Rattle.sp_spec_text.specs.Names.{IsName, names_fact}
-use Rattle.sp_spec_text.specs.Lists.{AreItems}
-use Rattle.sp_spec_text.specs.Formulas.{SpellsVariable, SpellsTerm, SpellsFact, SpellsUnit, SpellsNegation}
+use Rattle.sp_spec_text.specs.Numerals.{is_numeral}
+use Rattle.sp_spec_text.specs.Lists.{AreParts, AreItems, AreListed}
+use Rattle.sp_spec_text.specs.Formulas.{SpellsVariable, SpellsTerm, SpellsTuple, SpellsArguments, SpellsFact, SpellsUnit, SpellsNegation}
 use Rattle.sp_spec_text.specs.Written.{WrittenProof, WrittenCases, Item}
 use Rattle.sp_spec_text.specs.Proofs.{SpellsMethod, SpellsProof, SpellsCases, SpellsMore}
-use Rattle.sp_spec_text.specs.Theories.{SpellsFacts, SpellsArrow, SpellsKind, SpellsProofPart, SpellsItems}
+use Rattle.sp_spec_text.specs.Theories.{SpellsFacts, SpellsArrow, SpellsBuiltin, SpellsAttribute, SpellsFunction, SpellsEquation, SpellsKind, SpellsProofPart, SpellsItems}
 use Rattle.sp_place.specs.Parts.{Awaited}
 use Rattle.sp_place.specs.Parts as a
 use Rattle.sp_place.specs.Table.{Move, takes, becomes, stuck, single, nests}
-use Rattle.sp_place.proofs.Meaning.{Spelled, OneSign, OneWord, OneName, OneSort, ThisWord, SortPart, AfterPart, OpenedArguments, AfterBinder, MoreOf, TwiceOf, ClosedOf, SideOf, OrderOf, BareOf, NamedOf, StartOf}
+use Rattle.sp_place.proofs.Meaning.{Spelled, OneSign, OneWord, OneName, OneSort, ThisWord, SortPart, AfterPart, AppliedOf, TupleBehind, ArgumentsBehind, OpenedArguments, AfterBinder, MoreOf, TwiceOf, ClosedOf, SideOf, OrderOf, BareOf, ShownOf, NamedOf, StartOf}
 
 -- items, and the word `end`
 abbrev pub ItemsOf : List Lexeme → List Lexeme → Type 0
 ItemsOf tokens rest = (items : List Item) × SpellsItems tokens items (word (codes "end") ∷ rest)
+
+-- one or more parts, and items
+pub record Listed {A : Type 0} (R : List Lexeme → A → List Lexeme → Type 0) (tokens rest : List Lexeme) : Type 0 where
+  pub parts : List A
+  pub mid : List Lexeme
+  pub listed : AreListed R tokens parts mid
+  pub items : ItemsOf mid rest
+
+-- behind such a part
+pub data ListedBehind {A : Type 0} (R : List Lexeme → A → List Lexeme → Type 0) : List Lexeme → List Lexeme → Type 0 where
+  no_more_parts : {tokens rest : List Lexeme} → ItemsOf tokens rest → ListedBehind R tokens rest
+  more_parts : {tokens rest : List Lexeme} → Listed R tokens rest → ListedBehind R (sign s.Comma ∷ tokens) rest
+
+-- behind a name of builtins
+pub data BuiltinBehind : List Lexeme → List Lexeme → Type 0 where
+  with_dash : {b : List ℕ} {tokens mid rest : List Lexeme} → SpellsBuiltin tokens b mid → ListedBehind SpellsBuiltin mid rest → BuiltinBehind (sign s.Dash ∷ tokens) rest
+  no_dash : {tokens rest : List Lexeme} → ListedBehind SpellsBuiltin tokens rest → BuiltinBehind tokens rest
+
+-- behind the arity of a function
+pub data AttributesOf : List Lexeme → List Lexeme → Type 0 where
+  no_attribute : {rest : List Lexeme} → AttributesOf rest rest
+  attributes : {each : List Bool} {tokens rest : List Lexeme} → AreParts SpellsAttribute s.Comma s.CloseList tokens each rest → AttributesOf (sign s.OpenList ∷ tokens) rest
 
 pub data TheoryOf : List Lexeme → List Lexeme → Type 0 where
   theory_of : {w : List ℕ} {items : List Item} {tokens rest : List Lexeme} → IsName w → SpellsItems tokens items (word (codes "end") ∷ rest) → TheoryOf (word (codes "theory") ∷ word w ∷ word (codes "begin") ∷ tokens) rest
@@ -41,8 +64,11 @@ Means a.FactName tokens rest = OneWord names_fact tokens rest
 Means a.Sorted tokens rest = SortPart tokens rest
 Means a.Variable tokens rest = Spelled SpellsVariable tokens rest
 Means (a.Term n) tokens rest = Spelled (SpellsTerm n) tokens rest
-Means (a.Arguments n) tokens rest = Spelled (AreItems (SpellsTerm n) s.Close) tokens rest
-Means (a.MoreArguments n) tokens rest = AfterPart (SpellsTerm n) s.Close tokens rest
+Means (a.Applied n) tokens rest = AppliedOf n tokens rest
+Means (a.Tuple n y) tokens rest = Spelled (SpellsTuple n y) tokens rest
+Means (a.MoreTuple n y) tokens rest = TupleBehind n y tokens rest
+Means (a.Arguments n) tokens rest = Spelled (SpellsArguments n) tokens rest
+Means (a.MoreArguments n) tokens rest = ArgumentsBehind n tokens rest
 Means (a.Fact n) tokens rest = Spelled (SpellsFact n) tokens rest
 Means (a.Opened n) tokens rest = OpenedArguments n tokens rest
 Means a.Binders tokens rest = AfterBinder tokens rest
@@ -52,6 +78,7 @@ Means (a.Side n k) tokens rest = SideOf n k tokens rest
 Means (a.Order n k) tokens rest = OrderOf n k tokens rest
 Means (a.Bare n k) tokens rest = BareOf n k tokens rest
 Means (a.Named n k) tokens rest = NamedOf n k tokens rest
+Means (a.Shown n k) tokens rest = ShownOf n k tokens rest
 Means (a.Truth n k) tokens rest = NamedOf n k tokens rest ⊎ ClosedOf n k tokens rest
 Means (a.Both n k) tokens rest = SideOf n k tokens rest ⊎ ClosedOf n k tokens rest
 Means (a.Closing n k) tokens rest = ClosedOf n k tokens rest
@@ -60,6 +87,14 @@ Means (a.Twice n) tokens rest = TwiceOf n tokens rest
 Means a.Theory tokens rest = TheoryOf tokens rest
 Means a.Begin tokens rest = ThisWord (codes "begin") tokens rest
 Means a.Items tokens rest = ItemsOf tokens rest
+Means a.MoreBuiltins tokens rest = BuiltinBehind tokens rest
+Means a.Function tokens rest = Spelled SpellsFunction tokens rest
+Means a.Number tokens rest = OneWord is_numeral tokens rest
+Means a.Attributes tokens rest = AttributesOf tokens rest
+Means a.Attribute tokens rest = Spelled SpellsAttribute tokens rest
+Means a.MoreAttributes tokens rest = AfterPart SpellsAttribute s.CloseList tokens rest
+Means a.MoreFunctions tokens rest = ListedBehind SpellsFunction tokens rest
+Means a.MoreEquations tokens rest = ListedBehind SpellsEquation tokens rest
 Means a.FactList tokens rest = Spelled SpellsFacts tokens rest
 Means (a.Facts y) tokens rest = Spelled (AreItems (SpellsFact 0) y) tokens rest
 Means (a.MoreFacts y) tokens rest = AfterPart (SpellsFact 0) y tokens rest

@@ -7,8 +7,8 @@ use Rattle.sp_spec_text.specs.Lists.{IsNotFirst}
 use Rattle.sp_spec_text.specs.Formulas as g
 use Rattle.sp_spec_text.specs.Formulas.{SpellsUnit, SpellsNegation, NoSign}
 use Rattle.sp_place.specs.Parts as a
-use Rattle.sp_place.specs.Table.{takes, becomes, deep, negation_move, side_closed, side_move, order_move, bare_move, named_move, truth_move, both_closed, both_move, closing_move, more_move, twice_move}
-use Rattle.sp_place.proofs.Meaning.{one_sign, one_word, led, MoreOf, no_more, more_and, more_or, more_then, TwiceOf, once, twice, ClosedOf, Equated, equated, SideOf, OrderOf, less, as_term, BareOf, of_sort, of_none, NamedOf, as_fact, as_name, StartOf, formula_first, term_first}
+use Rattle.sp_place.specs.Table.{takes, becomes, deep, negation_move, side_closed, side_move, order_move, bare_move, named_move, shown_move, truth_move, both_closed, both_move, closing_move, more_move, twice_move}
+use Rattle.sp_place.proofs.Meaning.{one_sign, one_word, led, MoreOf, no_more, more_and, more_or, more_then, TwiceOf, once, twice, ClosedOf, Equated, equated, SideOf, OrderOf, less, as_term, BareOf, of_sort, of_arguments, of_braces, of_none, ShownOf, at_time, as_side, NamedOf, as_fact, as_name, StartOf, formula_first, term_first}
 use Rattle.sp_place.proofs.Tokens.{same_word, some_is}
 use Rattle.sp_place.proofs.Means.{MeansAll, nothing, and_then, Sound, by_if, by_nests, nothing_is, one_is}
 use Rattle.sp_place.proofs.SoundFormulas.{lone_unit, lone_negation}
@@ -56,15 +56,31 @@ sound_order n k _ = λ ts r h. as_term (one_is h)
 with_sort : {n k : ℕ} {tokens rest : List Lexeme} → MeansAll (a.Sort ∷ a.Order n k ∷ []) tokens rest → BareOf n k (sign s.Colon ∷ tokens) rest
 with_sort (and_then (one_word {w = w} e) (and_then o nothing)) = of_sort (some_is (mark_of w) e).1 o
 
+with_terms : {n k : ℕ} {tokens rest : List Lexeme} → deep n k < 128 → MeansAll (a.Arguments (deep n k + 1) ∷ a.Side n k ∷ []) tokens rest → BareOf n k (sign s.Open ∷ tokens) rest
+with_terms lt (and_then h (and_then c nothing)) = of_arguments lt h.1 c
+
+with_key : {n k : ℕ} {tokens rest : List Lexeme} → deep n k < 128 → MeansAll (a.Tuple (deep n k + 1) s.CloseBrace ∷ a.Term (deep n k + 1) ∷ a.Side n k ∷ []) tokens rest → BareOf n k (sign s.OpenBrace ∷ tokens) rest
+with_key lt (and_then h (and_then i (and_then c nothing))) = of_braces lt h.1 i.1 c
+
 pub sound_bare : (n k : ℕ) (x : Lexeme) → Sound (a.Bare n k) x (bare_move n k x)
 sound_bare n k (sign s.Colon) = λ ts r h. with_sort h
+sound_bare n k (sign s.Open) = by_nests (Sound (a.Bare n k) (sign s.Open)) (deep n k) (takes (a.Arguments (deep n k + 1) ∷ a.Side n k ∷ [])) tt (λ lt ts r h. with_terms lt h)
+sound_bare n k (sign s.OpenBrace) = by_nests (Sound (a.Bare n k) (sign s.OpenBrace)) (deep n k) (takes (a.Tuple (deep n k + 1) s.CloseBrace ∷ a.Term (deep n k + 1) ∷ a.Side n k ∷ [])) tt (λ lt ts r h. with_key lt h)
 sound_bare n k _ = λ ts r h. of_none (one_is h)
 
-with_arguments : {n k : ℕ} {tokens rest : List Lexeme} → deep n k < 128 → MeansAll (a.Arguments (deep n k + 1) ∷ a.Exactly s.At ∷ a.Variable ∷ a.Closing n k ∷ []) tokens rest → NamedOf n k (sign s.Open ∷ tokens) rest
-with_arguments lt (and_then h (and_then one_sign (and_then v (and_then c nothing)))) = as_fact lt h.1 v.1 c
+shown_later : {n k : ℕ} {tokens rest : List Lexeme} → MeansAll (a.Variable ∷ a.Closing n k ∷ []) tokens rest → ShownOf n k (sign s.At ∷ tokens) rest
+shown_later (and_then v (and_then c nothing)) = at_time v.1 c
+
+pub sound_shown : (n k : ℕ) (x : Lexeme) → Sound (a.Shown n k) x (shown_move n k x)
+sound_shown n k (sign s.At) = λ ts r h. shown_later h
+sound_shown n k _ = λ ts r h. as_side (one_is h)
+
+fact_or_term : {n k : ℕ} {tokens rest : List Lexeme} → deep n k < 128 → MeansAll (a.Arguments (deep n k + 1) ∷ a.Shown n k ∷ []) tokens rest → NamedOf n k (sign s.Open ∷ tokens) rest
+fact_or_term lt (and_then h (and_then (at_time v c) nothing)) = as_fact lt h.1 v c
+fact_or_term lt (and_then h (and_then (as_side c) nothing)) = as_name (of_arguments lt h.1 c)
 
 pub sound_named : (n k : ℕ) (x : Lexeme) → Sound (a.Named n k) x (named_move n k x)
-sound_named n k (sign s.Open) = by_nests (Sound (a.Named n k) (sign s.Open)) (deep n k) (takes (a.Arguments (deep n k + 1) ∷ a.Exactly s.At ∷ a.Variable ∷ a.Closing n k ∷ [])) tt (λ lt ts r h. with_arguments lt h)
+sound_named n k (sign s.Open) = by_nests (Sound (a.Named n k) (sign s.Open)) (deep n k) (takes (a.Arguments (deep n k + 1) ∷ a.Shown n k ∷ [])) tt (λ lt ts r h. fact_or_term lt h)
 sound_named n k _ = λ ts r h. as_name (one_is h)
 
 both_truth : {n k : ℕ} {tokens rest : List Lexeme} → SideOf n k tokens rest ⊎ ClosedOf n k tokens rest → NamedOf n k tokens rest ⊎ ClosedOf n k tokens rest
@@ -75,6 +91,7 @@ pub sound_truth : (n k : ℕ) (x : Lexeme) → Sound (a.Truth n k) x (truth_move
 sound_truth n k (sign s.Colon) = λ ts r h. inl (one_is h)
 sound_truth n k (sign s.Open) = λ ts r h. inl (one_is h)
 sound_truth n k (sign s.Less) = λ ts r h. inl (one_is h)
+sound_truth n k (sign s.OpenBrace) = λ ts r h. inl (one_is h)
 sound_truth n k _ = λ ts r h. both_truth (one_is h)
 
 -- ---- behind a unit

@@ -9,7 +9,7 @@ use Rattle.sp_spec_text.specs.Formulas as g
 use Rattle.sp_spec_text.specs.Formulas.{SpellsVariable, SpellsUnit, SpellsNegation}
 use Rattle.sp_place.specs.Parts as a
 use Rattle.sp_place.specs.Table.{Move, takes, stuck, deep, is_quantifier, is_truth, word_move, unit_move, nests}
-use Rattle.sp_place.proofs.Meaning.{Spelled, one_sign, one_word, led, opened, OneClosed, ClosedOf, equated, OrderOf, less, as_term, BareOf, of_sort, of_none, NamedOf, as_fact, as_name, StartOf, formula_first, term_first}
+use Rattle.sp_place.proofs.Meaning.{Spelled, one_sign, one_word, led, opened, OneClosed, ClosedOf, equated, OrderOf, less, as_term, BareOf, of_sort, of_arguments, of_braces, of_none, NamedOf, as_fact, as_name, StartOf, formula_first, term_first}
 use Rattle.sp_place.proofs.Joining.{formula_of, reach_of}
 use Rattle.sp_place.proofs.Tokens.{either_word, names_truth, names_falsity, name_is, fact_is_name}
 use Rattle.sp_place.proofs.Means.{MeansAll, nothing, and_then, Sound, by_if, by_nests, one_is}
@@ -40,6 +40,8 @@ variable_first h (as_term k) = term_first (g.variable h) k
 
 bare_first : {n k : ℕ} {w : List ℕ} {tokens rest : List Lexeme} → IsName w → BareOf n k tokens rest → StartOf SpellsUnit n k (word w ∷ tokens) rest
 bare_first e (of_sort i o) = variable_first (g.sorted e i) o
+bare_first e (of_arguments lt h k) = term_first (g.application e lt h) k
+bare_first e (of_braces lt h i k) = term_first (g.braced e lt h i) k
 bare_first e (of_none o) = variable_first (g.unmarked e) o
 
 named_first : {n k : ℕ} {w : List ℕ} {tokens rest : List Lexeme} → names_fact w ≡ true → NamedOf n k tokens rest → StartOf SpellsUnit n k (word w ∷ tokens) rest
@@ -48,6 +50,9 @@ named_first {w = w} e (as_name b) = bare_first (fact_is_name w e) b
 
 marked_first : {n k : ℕ} {y : Sign} {m : Mark} {tokens rest : List Lexeme} → mark_at y ≡ Some m → MeansAll (a.Name ∷ a.Order n k ∷ []) tokens rest → StartOf SpellsUnit n k (sign y ∷ tokens) rest
 marked_first e (and_then n (and_then o nothing)) = variable_first (marked_variable e n).1 o
+
+tuple_first : {n k : ℕ} {tokens rest : List Lexeme} → deep n k < 128 → MeansAll (a.Tuple (deep n k + 1) s.Greater ∷ a.Side n k ∷ []) tokens rest → StartOf SpellsUnit n k (sign s.Less ∷ tokens) rest
+tuple_first lt (and_then h (and_then k nothing)) = term_first (g.tuple lt h.1) k
 
 persistent_first : {n k : ℕ} {tokens rest : List Lexeme} → MeansAll (a.FactName ∷ a.Opened (deep n k) ∷ a.Exactly s.At ∷ a.Variable ∷ a.Closing n k ∷ []) tokens rest → StartOf SpellsUnit n k (sign s.Bang ∷ tokens) rest
 persistent_first (and_then (one_word e) (and_then (opened lt h) (and_then one_sign (and_then v (and_then c nothing))))) = formula_first (g.action (g.persistent e lt h) v.1) c
@@ -80,6 +85,7 @@ sound_word n k w =
 
 pub sound_unit : (n k : ℕ) (x : Lexeme) → Sound (a.Unit n k) x (unit_move n k x)
 sound_unit n k (sign s.Open) = by_nests (Sound (a.Unit n k) (sign s.Open)) (deep n k) (takes (a.Negation n (suc k) ∷ [])) tt (λ lt ts r h. bracket_first lt (one_is h))
+sound_unit n k (sign s.Less) = by_nests (Sound (a.Unit n k) (sign s.Less)) (deep n k) (takes (a.Tuple (deep n k + 1) s.Greater ∷ a.Side n k ∷ [])) tt (λ lt ts r h. tuple_first lt h)
 sound_unit n k (constant c) = λ ts r h. term_first g.fixed (one_is h)
 sound_unit n k (sign s.Tilde) = λ ts r h. marked_first refl h
 sound_unit n k (sign s.Dollar) = λ ts r h. marked_first refl h

@@ -40,6 +40,9 @@ same_start x g = record { goes = λ m h. h; comes = λ m h. h; good = g }
 -- what a part needs does not depend on those behind it
 fits_so : (part : Awaited) (b : Bool) → Fits part b → Fits part true
 fits_so (a.Term n) b f = f
+fits_so (a.Applied n) b f = f
+fits_so (a.Tuple n y) b f = f
+fits_so (a.MoreTuple n y) b f = f
 fits_so (a.Arguments n) b f = f
 fits_so (a.MoreArguments n) b f = f
 fits_so (a.Fact n) b f = f
@@ -52,6 +55,7 @@ fits_so (a.Side n k) b f = (f.0, refl)
 fits_so (a.Order n k) b f = (f.0, refl)
 fits_so (a.Bare n k) b f = (f.0, refl)
 fits_so (a.Named n k) b f = (f.0, refl)
+fits_so (a.Shown n k) b f = (f.0, refl)
 fits_so (a.Truth n k) b f = (f.0, refl)
 fits_so (a.Both n k) b f = (f.0, refl)
 fits_so (a.Closing n k) b f = (f.0, refl)
@@ -67,6 +71,14 @@ fits_so a.Binders b f = tt
 fits_so a.Theory b f = tt
 fits_so a.Begin b f = tt
 fits_so a.Items b f = tt
+fits_so a.MoreBuiltins b f = tt
+fits_so a.Function b f = tt
+fits_so a.Number b f = tt
+fits_so a.Attributes b f = tt
+fits_so a.Attribute b f = tt
+fits_so a.MoreAttributes b f = tt
+fits_so a.MoreFunctions b f = tt
+fits_so a.MoreEquations b f = tt
 fits_so a.FactList b f = tt
 fits_so a.Arrow b f = tt
 fits_so a.Kind b f = tt

@@ -14,7 +14,8 @@ decode n =
     else if n == 8 then s.Iff else if n == 9 then s.Comma else if n == 10 then s.Colon else if n == 11 then s.Dot
     else if n == 12 then s.Quote else if n == 13 then s.Bang else if n == 14 then s.Tilde else if n == 15 then s.Dollar
     else if n == 16 then s.Hash else if n == 17 then s.At else if n == 18 then s.And else if n == 19 then s.Or
-    else if n == 20 then s.Equals else if n == 21 then s.Less else s.Dash
+    else if n == 20 then s.Equals else if n == 21 then s.Less else if n == 22 then s.Dash else if n == 23 then s.OpenBrace
+    else if n == 24 then s.CloseBrace else if n == 25 then s.Greater else s.Slash
 
 decoded : (x : Sign) → decode (code x) ≡ x
 unfolding decode
@@ -41,6 +42,10 @@ decoded s.Or = refl
 decoded s.Equals = refl
 decoded s.Less = refl
 decoded s.Dash = refl
+decoded s.OpenBrace = refl
+decoded s.CloseBrace = refl
+decoded s.Greater = refl
+decoded s.Slash = refl
 
 pub same_sign : (x y : Sign) → (code x == code y) ≡ true → x ≡ y
 same_sign x y e = sym (decoded x) ∙ ap decode (eqb-true (code x) (code y) e) ∙ decoded y

@@ -11,8 +11,11 @@ pub data Awaited : Type 0 where
   Sorted : Awaited  -- behind the name of a variable: `:` and a sort, or nothing
   Variable : Awaited
   Term : ℕ → Awaited
-  Arguments : ℕ → Awaited  -- behind the bracket of a fact
-  MoreArguments : ℕ → Awaited  -- behind an argument of a fact
+  Applied : ℕ → Awaited  -- behind a name in a term
+  Tuple : ℕ → Sign → Awaited  -- terms up to this sign
+  MoreTuple : ℕ → Sign → Awaited  -- behind a term of such a tuple
+  Arguments : ℕ → Awaited  -- behind the bracket of a fact or of an application
+  MoreArguments : ℕ → Awaited  -- behind such an argument
   Fact : ℕ → Awaited
   Opened : ℕ → Awaited  -- the arguments of a fact, from the bracket on
   Binders : Awaited  -- behind a variable of a quantifier
@@ -22,6 +25,7 @@ pub data Awaited : Type 0 where
   Order : ℕ → ℕ → Awaited  -- behind a variable
   Bare : ℕ → ℕ → Awaited  -- behind a name that stands alone
   Named : ℕ → ℕ → Awaited  -- behind a name that may name a fact
+  Shown : ℕ → ℕ → Awaited  -- behind what may be a fact or a term
   Truth : ℕ → ℕ → Awaited  -- behind `T` or `F`
   Both : ℕ → ℕ → Awaited  -- behind what is a term and a unit
   Closing : ℕ → ℕ → Awaited  -- behind a unit, up to the last of the brackets
@@ -30,6 +34,14 @@ pub data Awaited : Type 0 where
   Theory : Awaited
   Begin : Awaited  -- the word `begin`
   Items : Awaited  -- items, and the word `end`
+  MoreBuiltins : Awaited  -- behind a name of builtins: others, items, and the word `end`
+  Function : Awaited  -- the declaration of a function
+  Number : Awaited  -- the word of a number
+  Attributes : Awaited  -- the attributes of a function, or none
+  Attribute : Awaited  -- the word of an attribute
+  MoreAttributes : Awaited  -- behind an attribute
+  MoreFunctions : Awaited  -- behind the declaration of a function: others, items, and the word `end`
+  MoreEquations : Awaited  -- behind an equation: others, items, and the word `end`
   FactList : Awaited  -- facts in brackets
   Facts : Sign → Awaited  -- facts up to this sign
   MoreFacts : Sign → Awaited  -- behind a fact of such a list

@@ -26,6 +26,9 @@ is_closed (part ∷ parts) = closes_first part (is_closed parts)
 
 abbrev pub Fits : Awaited → Bool → Type 0
 Fits (a.Term n) b = n ≤ 128
+Fits (a.Applied n) b = n ≤ 128
+Fits (a.Tuple n y) b = (n ≤ 128) × ((code y == code s.Comma) ≡ false)
+Fits (a.MoreTuple n y) b = (n ≤ 128) × ((code y == code s.Comma) ≡ false)
 Fits (a.Arguments n) b = n ≤ 128
 Fits (a.MoreArguments n) b = n ≤ 128
 Fits (a.Fact n) b = n < 128
@@ -36,6 +39,7 @@ Fits (a.Side n k) b = (deep n k ≤ 128) × (b ≡ true)
 Fits (a.Order n k) b = (deep n k ≤ 128) × (b ≡ true)
 Fits (a.Bare n k) b = (deep n k ≤ 128) × (b ≡ true)
 Fits (a.Named n k) b = (deep n k ≤ 128) × (b ≡ true)
+Fits (a.Shown n k) b = (deep n k ≤ 128) × (b ≡ true)
 Fits (a.Truth n k) b = (deep n k ≤ 128) × (b ≡ true)
 Fits (a.Both n k) b = (deep n k ≤ 128) × (b ≡ true)
 Fits (a.Closing n k) b = (deep n k ≤ 128) × (b ≡ true)

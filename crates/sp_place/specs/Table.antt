@@ -5,7 +5,8 @@ use Rattle.std.specs.Str.{bytes_eq}
 use Rattle.sp_spec_text.specs.Signs.{Sign}
 use Rattle.sp_spec_text.specs.Signs as s
 use Rattle.sp_spec_text.specs.Token.{Lexeme, word, constant, sign, solve}
-use Rattle.sp_spec_text.specs.Names.{is_reserved, names_fact, mark_of, mark_at}
+use Rattle.sp_spec_text.specs.Names.{is_reserved, names_fact, mark_of, mark_at, privacy_of}
+use Rattle.sp_spec_text.specs.Numerals as numerals
 use Rattle.sp_spec_text.specs.Proofs.{is_method}
 use Rattle.sp_place.specs.Parts.{Awaited}
 use Rattle.sp_place.specs.Parts as a
@@ -42,6 +43,10 @@ code s.Or = 19
 code s.Equals = 20
 code s.Less = 21
 code s.Dash = 22
+code s.OpenBrace = 23
+code s.CloseBrace = 24
+code s.Greater = 25
+code s.Slash = 26
 
 abbrev pub is_sign : Sign → Lexeme → Bool
 is_sign x (word w) = false
@@ -83,6 +88,12 @@ is_fact_name x = is_such names_fact x
 abbrev pub is_sort : Lexeme → Bool
 is_sort x = is_such (λ w. is_some (mark_of w)) x
 
+abbrev pub is_numeral : Lexeme → Bool
+is_numeral x = is_such numerals.is_numeral x
+
+abbrev pub is_attribute : Lexeme → Bool
+is_attribute x = is_such (λ w. is_some (privacy_of w)) x
+
 abbrev pub is_step : Lexeme → Bool
 is_step (word w) = is_method w
 is_step (constant c) = false
@@ -118,7 +129,22 @@ abbrev pub term_move : ℕ → Lexeme → Move
 term_move n x =
     if is_constant x then takes []
     else if is_sign s.Open x then nests n (takes (a.Term (n + 1) ∷ a.Exactly s.Close ∷ []))
-    else becomes (a.Variable ∷ [])
+    else if is_sign s.Less x then nests n (takes (a.Tuple (n + 1) s.Greater ∷ []))
+    else if is_mark x then takes (a.Name ∷ [])
+    else if is_name x then takes (a.Applied n ∷ [])
+    else stuck
+
+abbrev pub applied_move : ℕ → Lexeme → Move
+applied_move n x =
+    if is_sign s.Open x then nests n (takes (a.Arguments (n + 1) ∷ []))
+    else if is_sign s.OpenBrace x then nests n (takes (a.Tuple (n + 1) s.CloseBrace ∷ a.Term (n + 1) ∷ []))
+    else becomes (a.Sorted ∷ [])
+
+abbrev pub tuple_move : ℕ → Sign → Move
+tuple_move n y = becomes (a.Term n ∷ a.MoreTuple n y ∷ [])
+
+abbrev pub more_tuple_move : ℕ → Sign → Lexeme → Move
+more_tuple_move n y x = if is_sign s.Comma x then nests n (takes (a.Tuple (n + 1) y ∷ [])) else single (is_sign y x)
 
 abbrev pub arguments_move : ℕ → Lexeme → Move
 arguments_move n x = if is_sign s.Close x then takes [] else becomes (a.Term n ∷ a.MoreArguments n ∷ [])
@@ -163,6 +189,7 @@ word_move n k x =
 abbrev pub unit_move : ℕ → ℕ → Lexeme → Move
 unit_move n k x =
     if is_sign s.Open x then nests (deep n k) (takes (a.Negation n (suc k) ∷ []))
+    else if is_sign s.Less x then nests (deep n k) (takes (a.Tuple (deep n k + 1) s.Greater ∷ a.Side n k ∷ []))
     else if is_constant x then takes (a.Side n k ∷ [])
     else if is_mark x then takes (a.Name ∷ a.Order n k ∷ [])
     else if is_sign s.Bang x then nests (deep n k) (takes (a.FactName ∷ a.Opened (deep n k) ∷ a.Exactly s.At ∷ a.Variable ∷ a.Closing n k ∷ []))
@@ -182,16 +209,21 @@ abbrev pub order_move : ℕ → ℕ → Lexeme → Move
 order_move n k x = if is_sign s.Less x then takes (a.Variable ∷ a.Closing n k ∷ []) else becomes (a.Side n k ∷ [])
 
 abbrev pub bare_move : ℕ → ℕ → Lexeme → Move
-bare_move n k x = if is_sign s.Colon x then takes (a.Sort ∷ a.Order n k ∷ []) else becomes (a.Order n k ∷ [])
+bare_move n k x =
+    if is_sign s.Colon x then takes (a.Sort ∷ a.Order n k ∷ [])
+    else if is_sign s.Open x then nests (deep n k) (takes (a.Arguments (deep n k + 1) ∷ a.Side n k ∷ []))
+    else if is_sign s.OpenBrace x then nests (deep n k) (takes (a.Tuple (deep n k + 1) s.CloseBrace ∷ a.Term (deep n k + 1) ∷ a.Side n k ∷ []))
+    else becomes (a.Order n k ∷ [])
 
 abbrev pub named_move : ℕ → ℕ → Lexeme → Move
-named_move n k x =
-    if is_sign s.Open x then nests (deep n k) (takes (a.Arguments (deep n k + 1) ∷ a.Exactly s.At ∷ a.Variable ∷ a.Closing n k ∷ []))
-    else becomes (a.Bare n k ∷ [])
+named_move n k x = if is_sign s.Open x then nests (deep n k) (takes (a.Arguments (deep n k + 1) ∷ a.Shown n k ∷ [])) else becomes (a.Bare n k ∷ [])
+
+abbrev pub shown_move : ℕ → ℕ → Lexeme → Move
+shown_move n k x = if is_sign s.At x then takes (a.Variable ∷ a.Closing n k ∷ []) else becomes (a.Side n k ∷ [])
 
 abbrev pub truth_move : ℕ → ℕ → Lexeme → Move
 truth_move n k x =
-    if is_sign s.Colon x || is_sign s.Open x || is_sign s.Less x then becomes (a.Named n k ∷ [])
+    if is_sign s.Colon x || is_sign s.Open x || is_sign s.Less x || is_sign s.OpenBrace x then becomes (a.Named n k ∷ [])
     else becomes (a.Both n k ∷ [])
 
 abbrev pub both_closed : ℕ → ℕ → Move
@@ -240,11 +272,39 @@ cases_move x =
 abbrev pub theory_move : Lexeme → Move
 theory_move x = if is_word (codes "theory") x then takes (a.Name ∷ a.Begin ∷ a.Items ∷ []) else stuck
 
+-- the word of builtins, functions or equations, or the word `end`
+abbrev pub declaration_move : Lexeme → Move
+declaration_move x =
+    if is_word (codes "builtins") x then takes (a.Exactly s.Colon ∷ a.Name ∷ a.MoreBuiltins ∷ [])
+    else if is_word (codes "functions") x then takes (a.Exactly s.Colon ∷ a.Function ∷ a.MoreFunctions ∷ [])
+    else if is_word (codes "equations") x then takes (a.Exactly s.Colon ∷ a.Term 0 ∷ a.Exactly s.Equals ∷ a.Term 0 ∷ a.MoreEquations ∷ [])
+    else single (is_word (codes "end") x)
+
 abbrev pub items_move : Lexeme → Move
 items_move x =
     if is_word (codes "rule") x then takes (a.Name ∷ a.Exactly s.Colon ∷ a.FactList ∷ a.Arrow ∷ a.FactList ∷ a.Items ∷ [])
     else if is_word (codes "lemma") x then takes (a.Name ∷ a.Exactly s.Colon ∷ a.Kind ∷ a.Negation 0 0 ∷ a.More 0 ∷ a.Twice 0 ∷ a.Exactly s.Quote ∷ a.Below ∷ [])
-    else single (is_word (codes "end") x)
+    else declaration_move x
+
+abbrev pub more_builtins_move : Lexeme → Move
+more_builtins_move x = if is_sign s.Dash x || is_sign s.Comma x then takes (a.Name ∷ a.MoreBuiltins ∷ []) else becomes (a.Items ∷ [])
+
+abbrev pub function_move : Lexeme → Move
+function_move x = if is_name x then takes (a.Exactly s.Slash ∷ a.Number ∷ a.Attributes ∷ []) else stuck
+
+abbrev pub attributes_move : Lexeme → Move
+attributes_move x = if is_sign s.OpenList x then takes (a.Attribute ∷ a.MoreAttributes ∷ []) else becomes []
+
+abbrev pub more_attributes_move : Lexeme → Move
+more_attributes_move x =
+    if is_sign s.Comma x then takes (a.Attribute ∷ a.MoreAttributes ∷ [])
+    else single (is_sign s.CloseList x)
+
+abbrev pub more_functions_move : Lexeme → Move
+more_functions_move x = if is_sign s.Comma x then takes (a.Function ∷ a.MoreFunctions ∷ []) else becomes (a.Items ∷ [])
+
+abbrev pub more_equations_move : Lexeme → Move
+more_equations_move x = if is_sign s.Comma x then takes (a.Term 0 ∷ a.Exactly s.Equals ∷ a.Term 0 ∷ a.MoreEquations ∷ []) else becomes (a.Items ∷ [])
 
 abbrev pub fact_list_move : Lexeme → Move
 fact_list_move x = if is_sign s.OpenList x then takes (a.Facts s.CloseList ∷ []) else stuck
@@ -269,7 +329,9 @@ kind_move x =
     else stuck
 
 abbrev pub is_item : Lexeme → Bool
-is_item x = is_word (codes "rule") x || is_word (codes "lemma") x || is_word (codes "end") x
+is_item x =
+    is_word (codes "rule") x || is_word (codes "lemma") x || is_word (codes "builtins") x || is_word (codes "functions") x || is_word (codes "equations") x
+    || is_word (codes "end") x
 
 abbrev pub below_move : Lexeme → Move
 below_move x = if is_item x then becomes (a.Items ∷ []) else becomes (a.Proof ∷ a.Items ∷ [])
@@ -284,6 +346,9 @@ next a.FactName x = single (is_fact_name x)
 next a.Sorted x = sorted_move x
 next a.Variable x = variable_move [] x
 next (a.Term n) x = term_move n x
+next (a.Applied n) x = applied_move n x
+next (a.Tuple n y) x = tuple_move n y
+next (a.MoreTuple n y) x = more_tuple_move n y x
 next (a.Arguments n) x = arguments_move n x
 next (a.MoreArguments n) x = more_arguments_move n x
 next (a.Fact n) x = fact_move n x
@@ -295,6 +360,7 @@ next (a.Side n k) x = side_move n k x
 next (a.Order n k) x = order_move n k x
 next (a.Bare n k) x = bare_move n k x
 next (a.Named n k) x = named_move n k x
+next (a.Shown n k) x = shown_move n k x
 next (a.Truth n k) x = truth_move n k x
 next (a.Both n k) x = both_move n k x
 next (a.Closing n k) x = closing_move n k
@@ -303,6 +369,14 @@ next (a.Twice n) x = twice_move n x
 next a.Theory x = theory_move x
 next a.Begin x = single (is_word (codes "begin") x)
 next a.Items x = items_move x
+next a.MoreBuiltins x = more_builtins_move x
+next a.Function x = function_move x
+next a.Number x = single (is_numeral x)
+next a.Attributes x = attributes_move x
+next a.Attribute x = single (is_attribute x)
+next a.MoreAttributes x = more_attributes_move x
+next a.MoreFunctions x = more_functions_move x
+next a.MoreEquations x = more_equations_move x
 next a.FactList x = fact_list_move x
 next (a.Facts y) x = facts_move y x
 next (a.MoreFacts y) x = more_facts_move y x

@@ -15,9 +15,15 @@ pub enum Awaited {
     Sorted,
     Variable,
     Term(u32),
-    /// Behind the bracket of a fact.
+    /// Behind a name in a term.
+    Applied(u32),
+    /// Terms up to this sign.
+    Tuple(u32, Sign),
+    /// Behind a term of such a tuple.
+    MoreTuple(u32, Sign),
+    /// Behind the bracket of a fact or of an application.
     Arguments(u32),
-    /// Behind an argument of a fact.
+    /// Behind such an argument.
     MoreArguments(u32),
     Fact(u32),
     /// The arguments of a fact, from the bracket on.
@@ -35,6 +41,8 @@ pub enum Awaited {
     Bare(u32, u32),
     /// Behind a name that may name a fact.
     Named(u32, u32),
+    /// Behind what may be a fact or a term.
+    Shown(u32, u32),
     /// Behind `T` or `F`.
     Truth(u32, u32),
     /// Behind what is a term and a unit.
@@ -50,6 +58,22 @@ pub enum Awaited {
     Begin,
     /// Items, and the word `end`.
     Items,
+    /// Behind a name of builtins: others, items, and the word `end`.
+    MoreBuiltins,
+    /// The declaration of a function.
+    Function,
+    /// The word of a number.
+    Number,
+    /// The attributes of a function, or none.
+    Attributes,
+    /// The word of an attribute.
+    Attribute,
+    /// Behind an attribute.
+    MoreAttributes,
+    /// Behind the declaration of a function: others, items, and the word `end`.
+    MoreFunctions,
+    /// Behind an equation: others, items, and the word `end`.
+    MoreEquations,
     /// Facts in brackets.
     FactList,
     /// Facts up to this sign.

@@ -67,6 +67,9 @@ pub fn unit<'a>(n: u32, k: u32, x: Lexeme<'a>) -> Move
     let m = deep(n, k);
     if is_sign(Sign::Open, x) {
         nests(m, Move::Takes(Expansion::One(Awaited::Negation(n, k + 1))))
+    } else if is_sign(Sign::Less, x) {
+        let tuple = Expansion::Two(Awaited::Tuple(m + 1, Sign::Greater), Awaited::Side(n, k));
+        nests(m, Move::Takes(tuple))
     } else if is_constant(x) {
         Move::Takes(Expansion::One(Awaited::Side(n, k)))
     } else if is_mark(x) {
@@ -119,10 +122,22 @@ pub fn order<'a>(n: u32, k: u32, x: Lexeme<'a>) -> Move
 }
 
 pub fn bare<'a>(n: u32, k: u32, x: Lexeme<'a>) -> Move
+    requires { spec.deep n k ≤ LIMIT }
     ensures { move_of result ≡ spec.bare_move n k (lexeme_of x.entry) }
 {
+    let m = deep(n, k);
     if is_sign(Sign::Colon, x) {
         Move::Takes(Expansion::Two(Awaited::Sort, Awaited::Order(n, k)))
+    } else if is_sign(Sign::Open, x) {
+        let application = Expansion::Two(Awaited::Arguments(m + 1), Awaited::Side(n, k));
+        nests(m, Move::Takes(application))
+    } else if is_sign(Sign::OpenBrace, x) {
+        let braced = Expansion::Three(
+            Awaited::Tuple(m + 1, Sign::CloseBrace),
+            Awaited::Term(m + 1),
+            Awaited::Side(n, k),
+        );
+        nests(m, Move::Takes(braced))
     } else {
         Move::Becomes(Expansion::One(Awaited::Order(n, k)))
     }
@@ -134,22 +149,31 @@ pub fn named<'a>(n: u32, k: u32, x: Lexeme<'a>) -> Move
 {
     if is_sign(Sign::Open, x) {
         let m = deep(n, k);
-        let action = Expansion::Four(
-            Awaited::Arguments(m + 1),
-            Awaited::Exactly(Sign::At),
-            Awaited::Variable,
-            Awaited::Closing(n, k),
-        );
-        nests(m, Move::Takes(action))
+        let arguments = Expansion::Two(Awaited::Arguments(m + 1), Awaited::Shown(n, k));
+        nests(m, Move::Takes(arguments))
     } else {
         Move::Becomes(Expansion::One(Awaited::Bare(n, k)))
+    }
+}
+
+pub fn shown<'a>(n: u32, k: u32, x: Lexeme<'a>) -> Move
+    ensures { move_of result ≡ spec.shown_move n k (lexeme_of x.entry) }
+{
+    if is_sign(Sign::At, x) {
+        Move::Takes(Expansion::Two(Awaited::Variable, Awaited::Closing(n, k)))
+    } else {
+        Move::Becomes(Expansion::One(Awaited::Side(n, k)))
     }
 }
 
 pub fn truth<'a>(n: u32, k: u32, x: Lexeme<'a>) -> Move
     ensures { move_of result ≡ spec.truth_move n k (lexeme_of x.entry) }
 {
-    if is_sign(Sign::Colon, x) || is_sign(Sign::Open, x) || is_sign(Sign::Less, x) {
+    if is_sign(Sign::Colon, x)
+        || is_sign(Sign::Open, x)
+        || is_sign(Sign::Less, x)
+        || is_sign(Sign::OpenBrace, x)
+    {
         Move::Becomes(Expansion::One(Awaited::Named(n, k)))
     } else {
         Move::Becomes(Expansion::One(Awaited::Both(n, k)))

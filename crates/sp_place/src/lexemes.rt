@@ -1,8 +1,10 @@
 // Tests on tokens.
 
-ghost use Rattle.std.specs.Prelude.{◌≡◌};
+ghost use Rattle.std.specs.Prelude.{◌≡◌, is_some};
 ghost use Rattle.sp_lex.specs.Views.{lexeme_of, sign_of};
 ghost use Rattle.sp_place.specs.Table as spec;
+ghost use Rattle.sp_spec_text.specs.Names as names;
+ghost use Rattle.sp_spec_text.specs.Numerals as numerals;
 ghost use Rattle.sp_spec_text.specs.Proofs as proofs;
 
 use sp_lex::{Lexeme, Sign};
@@ -35,6 +37,10 @@ fn code(sign: Sign) -> u8
         Sign::Equals => 20,
         Sign::Less => 21,
         Sign::Dash => 22,
+        Sign::OpenBrace => 23,
+        Sign::CloseBrace => 24,
+        Sign::Greater => 25,
+        Sign::Slash => 26,
     }
 }
 
@@ -116,6 +122,60 @@ pub fn is_sort<'a>(lexeme: Lexeme<'a>) -> bool
 {
     match lexeme {
         Lexeme::Word(found) => mark_of(found).is_some(),
+        Lexeme::Sign(_) => false,
+        Lexeme::Constant(_) => false,
+        Lexeme::Solve(_) => false,
+    }
+}
+
+/// Whether the bytes are digits.
+fn are_digits(bytes: &[u8]) -> bool
+    ensures { result ≡ numerals.are_digits bytes.now }
+{
+    for byte in bytes {
+        if !byte.is_ascii_digit() {
+            return false;
+        }
+    }
+    true
+}
+
+/// Whether a word is digits as a number is written: the first is 0 only where it stands alone.
+fn is_number(word: &str) -> bool
+    ensures { result ≡ numerals.is_numeral word.now }
+{
+    match word.as_bytes() {
+        [] => false,
+        [digit] => digit.is_ascii_digit(),
+        [first, others @ ..] => first.is_ascii_digit() && *first != b'0' && are_digits(others),
+    }
+}
+
+/// Whether it is the word of a number.
+pub fn is_numeral<'a>(lexeme: Lexeme<'a>) -> bool
+    ensures { result ≡ spec.is_numeral (lexeme_of lexeme.entry) }
+{
+    match lexeme {
+        Lexeme::Word(found) => is_number(found),
+        Lexeme::Sign(_) => false,
+        Lexeme::Constant(_) => false,
+        Lexeme::Solve(_) => false,
+    }
+}
+
+#[tactic(auto, unfolding(sp_spec_text::specs::Names::privacy_of))]
+fn says_privacy(word: &str) -> bool
+    ensures { result ≡ is_some (names.privacy_of word.now) }
+{
+    word == "private" || word == "public" || word == "constructor" || word == "destructor"
+}
+
+/// Whether it is an attribute of a function.
+pub fn is_attribute<'a>(lexeme: Lexeme<'a>) -> bool
+    ensures { result ≡ spec.is_attribute (lexeme_of lexeme.entry) }
+{
+    match lexeme {
+        Lexeme::Word(found) => says_privacy(found),
         Lexeme::Sign(_) => false,
         Lexeme::Constant(_) => false,
         Lexeme::Solve(_) => false,

@@ -9,7 +9,9 @@ ghost use Rattle.sp_place.specs.Texts.{Follows, Refuses};
 ghost use Rattle.sp_place.specs.Views.{all_of, awaited_of, expansion_of, move_of, parts_of};
 
 use crate::awaited::Awaited;
-use crate::lexemes::{is_fact_name, is_name, is_sign, is_sort, is_step, is_word};
+use crate::lexemes::{
+    is_attribute, is_fact_name, is_name, is_numeral, is_sign, is_sort, is_step, is_word,
+};
 use crate::moves::{Expansion, Move};
 use crate::terms::single;
 use crate::{formulas, terms, theories};
@@ -29,6 +31,9 @@ fn next<'a>(part: Awaited, x: Lexeme<'a>) -> Move
         Awaited::Sorted => terms::sorted(x),
         Awaited::Variable => terms::variable(x),
         Awaited::Term(n) => terms::term(n, x),
+        Awaited::Applied(n) => terms::applied(n, x),
+        Awaited::Tuple(n, close) => terms::tuple(n, close),
+        Awaited::MoreTuple(n, close) => terms::more_tuple(n, close, x),
         Awaited::Arguments(n) => terms::arguments(n, x),
         Awaited::MoreArguments(n) => terms::more_arguments(n, x),
         Awaited::Fact(n) => terms::fact(n, x),
@@ -40,6 +45,7 @@ fn next<'a>(part: Awaited, x: Lexeme<'a>) -> Move
         Awaited::Order(n, k) => formulas::order(n, k, x),
         Awaited::Bare(n, k) => formulas::bare(n, k, x),
         Awaited::Named(n, k) => formulas::named(n, k, x),
+        Awaited::Shown(n, k) => formulas::shown(n, k, x),
         Awaited::Truth(n, k) => formulas::truth(n, k, x),
         Awaited::Both(n, k) => formulas::both(n, k, x),
         Awaited::Closing(n, k) => formulas::closing(n, k),
@@ -48,6 +54,14 @@ fn next<'a>(part: Awaited, x: Lexeme<'a>) -> Move
         Awaited::Theory => theories::theory(x),
         Awaited::Begin => single(is_word("begin", x)),
         Awaited::Items => theories::items(x),
+        Awaited::MoreBuiltins => theories::more_builtins(x),
+        Awaited::Function => theories::function(x),
+        Awaited::Number => single(is_numeral(x)),
+        Awaited::Attributes => theories::attributes(x),
+        Awaited::Attribute => single(is_attribute(x)),
+        Awaited::MoreAttributes => theories::more_attributes(x),
+        Awaited::MoreFunctions => theories::more_functions(x),
+        Awaited::MoreEquations => theories::more_equations(x),
         Awaited::FactList => theories::fact_list(x),
         Awaited::Facts(sign) => theories::facts(sign, x),
         Awaited::MoreFacts(sign) => theories::more_facts(sign, x),

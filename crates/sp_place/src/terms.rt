@@ -1,7 +1,7 @@
 // What a token does to variables, terms and facts.
 
 ghost use Rattle.std.specs.Prelude.{◌≡◌, [], ◌∷◌, ◌≤◌};
-ghost use Rattle.sp_lex.specs.Views.{lexeme_of};
+ghost use Rattle.sp_lex.specs.Views.{lexeme_of, sign_of};
 ghost use Rattle.sp_place.specs.Table as spec;
 ghost use Rattle.sp_place.specs.Views.{move_of};
 
@@ -64,8 +64,57 @@ pub fn term<'a>(nesting: u32, x: Lexeme<'a>) -> Move
             nesting,
             Move::Takes(Expansion::Two(Awaited::Term(nesting + 1), Awaited::Exactly(Sign::Close))),
         )
+    } else if is_sign(Sign::Less, x) {
+        nests(
+            nesting,
+            Move::Takes(Expansion::One(Awaited::Tuple(nesting + 1, Sign::Greater))),
+        )
+    } else if is_mark(x) {
+        Move::Takes(Expansion::One(Awaited::Name))
+    } else if is_name(x) {
+        Move::Takes(Expansion::One(Awaited::Applied(nesting)))
     } else {
-        Move::Becomes(Expansion::One(Awaited::Variable))
+        Move::Stuck
+    }
+}
+
+pub fn applied<'a>(nesting: u32, x: Lexeme<'a>) -> Move
+    requires { nesting ≤ LIMIT }
+    ensures { move_of result ≡ spec.applied_move nesting (lexeme_of x.entry) }
+{
+    if is_sign(Sign::Open, x) {
+        nests(
+            nesting,
+            Move::Takes(Expansion::One(Awaited::Arguments(nesting + 1))),
+        )
+    } else if is_sign(Sign::OpenBrace, x) {
+        let braced = Expansion::Two(
+            Awaited::Tuple(nesting + 1, Sign::CloseBrace),
+            Awaited::Term(nesting + 1),
+        );
+        nests(nesting, Move::Takes(braced))
+    } else {
+        Move::Becomes(Expansion::One(Awaited::Sorted))
+    }
+}
+
+pub fn tuple(nesting: u32, close: Sign) -> Move
+    ensures { move_of result ≡ spec.tuple_move nesting (sign_of close) }
+{
+    Move::Becomes(Expansion::Two(Awaited::Term(nesting), Awaited::MoreTuple(nesting, close)))
+}
+
+pub fn more_tuple<'a>(nesting: u32, close: Sign, x: Lexeme<'a>) -> Move
+    requires { nesting ≤ LIMIT }
+    ensures { move_of result ≡ spec.more_tuple_move nesting (sign_of close) (lexeme_of x.entry) }
+{
+    if is_sign(Sign::Comma, x) {
+        nests(
+            nesting,
+            Move::Takes(Expansion::One(Awaited::Tuple(nesting + 1, close))),
+        )
+    } else {
+        single(is_sign(close, x))
     }
 }
 

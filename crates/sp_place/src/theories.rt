@@ -6,7 +6,7 @@ ghost use Rattle.sp_place.specs.Table as spec;
 ghost use Rattle.sp_place.specs.Views.{move_of};
 
 use crate::awaited::Awaited;
-use crate::lexemes::{is_sign, is_step, is_word};
+use crate::lexemes::{is_name, is_sign, is_step, is_word};
 use crate::moves::{Expansion, Move};
 use crate::terms::single;
 use sp_lex::{Lexeme, Sign};
@@ -45,7 +45,105 @@ pub fn items<'a>(x: Lexeme<'a>) -> Move
             Awaited::Below,
         ))
     } else {
+        declaration(x)
+    }
+}
+
+/// The word of builtins, functions or equations, or the word `end`.
+fn declaration<'a>(x: Lexeme<'a>) -> Move
+    ensures { move_of result ≡ spec.declaration_move (lexeme_of x.entry) }
+{
+    if is_word("builtins", x) {
+        Move::Takes(Expansion::Three(
+            Awaited::Exactly(Sign::Colon),
+            Awaited::Name,
+            Awaited::MoreBuiltins,
+        ))
+    } else if is_word("functions", x) {
+        Move::Takes(Expansion::Three(
+            Awaited::Exactly(Sign::Colon),
+            Awaited::Function,
+            Awaited::MoreFunctions,
+        ))
+    } else if is_word("equations", x) {
+        Move::Takes(Expansion::Five(
+            Awaited::Exactly(Sign::Colon),
+            Awaited::Term(0),
+            Awaited::Exactly(Sign::Equals),
+            Awaited::Term(0),
+            Awaited::MoreEquations,
+        ))
+    } else {
         single(is_word("end", x))
+    }
+}
+
+pub fn more_builtins<'a>(x: Lexeme<'a>) -> Move
+    ensures { move_of result ≡ spec.more_builtins_move (lexeme_of x.entry) }
+{
+    if is_sign(Sign::Dash, x) || is_sign(Sign::Comma, x) {
+        Move::Takes(Expansion::Two(Awaited::Name, Awaited::MoreBuiltins))
+    } else {
+        Move::Becomes(Expansion::One(Awaited::Items))
+    }
+}
+
+pub fn function<'a>(x: Lexeme<'a>) -> Move
+    ensures { move_of result ≡ spec.function_move (lexeme_of x.entry) }
+{
+    if is_name(x) {
+        Move::Takes(Expansion::Three(
+            Awaited::Exactly(Sign::Slash),
+            Awaited::Number,
+            Awaited::Attributes,
+        ))
+    } else {
+        Move::Stuck
+    }
+}
+
+pub fn attributes<'a>(x: Lexeme<'a>) -> Move
+    ensures { move_of result ≡ spec.attributes_move (lexeme_of x.entry) }
+{
+    if is_sign(Sign::OpenList, x) {
+        Move::Takes(Expansion::Two(Awaited::Attribute, Awaited::MoreAttributes))
+    } else {
+        Move::Becomes(Expansion::Zero)
+    }
+}
+
+pub fn more_attributes<'a>(x: Lexeme<'a>) -> Move
+    ensures { move_of result ≡ spec.more_attributes_move (lexeme_of x.entry) }
+{
+    if is_sign(Sign::Comma, x) {
+        Move::Takes(Expansion::Two(Awaited::Attribute, Awaited::MoreAttributes))
+    } else {
+        single(is_sign(Sign::CloseList, x))
+    }
+}
+
+pub fn more_functions<'a>(x: Lexeme<'a>) -> Move
+    ensures { move_of result ≡ spec.more_functions_move (lexeme_of x.entry) }
+{
+    if is_sign(Sign::Comma, x) {
+        Move::Takes(Expansion::Two(Awaited::Function, Awaited::MoreFunctions))
+    } else {
+        Move::Becomes(Expansion::One(Awaited::Items))
+    }
+}
+
+pub fn more_equations<'a>(x: Lexeme<'a>) -> Move
+    ensures { move_of result ≡ spec.more_equations_move (lexeme_of x.entry) }
+{
+    if is_sign(Sign::Comma, x) {
+        Move::Takes(Expansion::Four(
+            Awaited::Term(0),
+            Awaited::Exactly(Sign::Equals),
+            Awaited::Term(0),
+            Awaited::MoreEquations,
+        ))
+    } else {
+        Move::Becomes(Expansion::One(Awaited::Items))
     }
 }
 
@@ -113,10 +211,22 @@ pub fn kind<'a>(x: Lexeme<'a>) -> Move
     }
 }
 
+/// Whether it is the first word of an item, or the word `end`.
+fn is_item<'a>(x: Lexeme<'a>) -> bool
+    ensures { result ≡ spec.is_item (lexeme_of x.entry) }
+{
+    is_word("rule", x)
+        || is_word("lemma", x)
+        || is_word("builtins", x)
+        || is_word("functions", x)
+        || is_word("equations", x)
+        || is_word("end", x)
+}
+
 pub fn below<'a>(x: Lexeme<'a>) -> Move
     ensures { move_of result ≡ spec.below_move (lexeme_of x.entry) }
 {
-    if is_word("rule", x) || is_word("lemma", x) || is_word("end", x) {
+    if is_item(x) {
         Move::Becomes(Expansion::One(Awaited::Items))
     } else {
         Move::Becomes(Expansion::Two(Awaited::Proof, Awaited::Items))

@@ -1,15 +1,18 @@
 -- Lemmas that were read, and their guarded forms.
-use Rattle.std.proofs.Common.{◌≡◌, List, [], ◌∷◌, map, Option, Some, None, option_map, option_and_then, refl, sym, ap, ◌∙◌}
+use Rattle.std.proofs.Common.{◌≡◌, ℕ, List, [], ◌∷◌, map, Option, Some, None, option_map, option_and_then, refl, sym, ap, ◌∙◌}
 use Rattle.sp_spec.specs.Theory.{Lemma}
 use Rattle.sp_spec.specs.Guarded.{Guarded}
 use Rattle.sp_law_guard.specs.CheckedForm.{checked_form}
 use Rattle.sp_read_parts.specs.Formulas.{formula}
-use Rattle.sp_spec_text.specs.Written.{lemmas_in}
+use Rattle.sp_spec_text.specs.Written.{WrittenText, lemmas_in}
+use Rattle.sp_spec_text.specs.Declared.{theory_in}
 use Rattle.sp_written.specs.Views as view
 use Rattle.sp_written.specs.declared.theory.Item.{Item}
 use Rattle.sp_written.specs.declared.theory.Item.TheVariants as i
 use Rattle.sp_written.specs.declared.theory.WrittenLemma.{WrittenLemma}
 use Rattle.sp_pose.specs.Asked.{Asked, asked_with, lemmas_read, all_asked}
+use Rattle.sp_pose.specs.Posed.{IsPosedBy}
+use Rattle.sp_pose.specs.declared.problem.Problem.{Problem}
 
 abbrev pub AreForms : List WrittenLemma → List Guarded → Type 0
 AreForms [] [] = Unit {0}
@@ -39,7 +42,14 @@ has_forms (l ∷ ls) as' e = at (checked_form (formula l.formula)) refl (all_ask
         let same : asked_with l g ∷ bs ≡ as' = cc in
         record { forms = g ∷ h.forms; are = (is, h.are); is = sym same ∙ ap (λ (cs : List Asked). asked_with l g ∷ cs) h.is }
 
-pub lemmas_same : (xs : List Item) → lemmas_in (view.items xs) ≡ map view.lemma (lemmas_read xs)
+lemmas_same : (xs : List Item) → lemmas_in (view.items xs) ≡ map view.lemma (lemmas_read xs)
 lemmas_same [] = refl
 lemmas_same (i.Rule r ∷ xs) = lemmas_same xs
+lemmas_same (i.Builtins b ∷ xs) = lemmas_same xs
+lemmas_same (i.Functions f ∷ xs) = lemmas_same xs
+lemmas_same (i.Equations e ∷ xs) = lemmas_same xs
 lemmas_same (i.Lemma l ∷ xs) = ap (λ (ls : List Lemma). view.lemma l ∷ ls) (lemmas_same xs)
+
+-- the lemmas in memory are those that the text says
+pub lemmas_said : {text : List ℕ} (p : Problem) (posed : IsPosedBy text p) → (theory_in posed.said).lemmas ≡ map view.lemma (lemmas_read posed.theory.items.items)
+lemmas_said p posed = ap (λ (t : WrittenText). lemmas_in t.items) (sym posed.resolved_is) ∙ lemmas_same posed.theory.items.items

@@ -21,6 +21,9 @@ rules_read xs = map written.rule_of (rules_in (view.items xs))
 first_rules : (x : Item) (xs : List Item) → rules_read (x ∷ xs) ≡ rules_read (x ∷ []) ++ rules_read xs
 first_rules (i.Rule r) xs = refl
 first_rules (i.Lemma l) xs = refl
+first_rules (i.Builtins b) xs = refl
+first_rules (i.Functions f) xs = refl
+first_rules (i.Equations e) xs = refl
 
 pub rule_pushed : (out more all : List Rule) (place : ℕ) (xs : List Item) (x : Item) → place < length xs → x ≡ get_or xs place x → out ++ rules_read (drop place xs) ≡ all
     → more ≡ out ++ rules_read (x ∷ []) → more ++ rules_read (drop (place + 1) xs) ≡ all
@@ -34,6 +37,9 @@ rule_pushed out more all place xs x below is so pushed =
 pub last_read : (xs : List Item) (x : Item) → lemmas_read (xs ++ x ∷ []) ≡ lemmas_read xs ++ lemmas_read (x ∷ [])
 last_read [] x = refl
 last_read (i.Rule r ∷ xs) x = last_read xs x
+last_read (i.Builtins b ∷ xs) x = last_read xs x
+last_read (i.Functions f ∷ xs) x = last_read xs x
+last_read (i.Equations e ∷ xs) x = last_read xs x
 last_read (i.Lemma l ∷ xs) x = ap (λ (ls : List WrittenLemma). l ∷ ls) (last_read xs x)
 
 pub last_asked : (ls : List WrittenLemma) (l : WrittenLemma) → all_asked (ls ++ l ∷ []) ≡ asked_then (all_asked ls) l

@@ -4,4 +4,8 @@ pub mod Named
 pub mod Theories
 pub mod One
 pub mod Forms
-pub mod Each
+pub mod OneArity
+pub mod Constructors
+pub mod Known
+pub mod BasicTheories
+pub mod NumberedFacts

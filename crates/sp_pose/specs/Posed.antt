@@ -1,29 +1,48 @@
 -- What is known of a problem in memory, and of a text that was read.
 use Rattle.std.specs.Prelude.{◌≡◌, ◌≤◌, ℕ, List, Some, map, length}
-use Rattle.sp_spec.specs.Written.{theory_of}
+use Rattle.sp_spec.specs.Signature.{Signature}
+use Rattle.sp_spec.specs.Written.{rule_of, theory_of}
 use Rattle.sp_term.specs.View.{name_of}
+use Rattle.sp_spec.specs.Theory as spec
+use Rattle.sp_ground.specs.View.{signature_of}
 use Rattle.sp_fact.specs.BookView.{book_of}
 use Rattle.sp_spec.specs.Constants.{constants_of}
-use Rattle.sp_spec_text.specs.Written.{theory_in}
+use Rattle.sp_constants.specs.Constants.{constants_in}
+use Rattle.sp_spec_text.specs.Written.{WrittenText, rules_in}
+use Rattle.sp_spec_text.specs.Declared.{resolved, theory_in}
 use Rattle.sp_written.specs.Views as view
 use Rattle.sp_written.specs.declared.theory.ReadTheory.{ReadTheory}
 use Rattle.sp_spec_text.specs.Spans.{Rise}
 use Rattle.sp_spec_text.specs.Texts.{ArePlaces}
 use Rattle.sp_place.specs.Refused.{IsRefusedAt}
-use Rattle.sp_pose.specs.Problem.{Poses, IsReported}
+use Rattle.sp_pose.specs.Problem.{Poses, IsReported, some_have_forms, wants_forms}
 use Rattle.sp_pose.specs.Asked.{asked_of, lemmas_read, all_asked}
 use Rattle.sp_pose.specs.declared.problem.Problem.{Problem}
 use Rattle.sp_pose.specs.declared.problem.Read.{Read}
 use Rattle.sp_pose.specs.declared.problem.Read.TheVariants.{Refused, Reported, Posed}
 
--- it is what the text poses: the rules and the public names of the theory that was read, and its lemmas with their guarded forms
-pub record IsPosedBy (text : List ℕ) (p : Problem) : Type 0 where
-  pub theory : ReadTheory
-  pub poses : Poses text (view.theory theory)
-  pub rules_are : book_of p.rules ≡ (theory_of (theory_in (view.theory theory))).rules
-  pub constants_are : map name_of p.constants.items ≡ constants_of (theory_in (view.theory theory))
+-- It is made of this signature and of the theory in memory.
+pub record IsMadeOf (s : Signature) (theory : ReadTheory) (p : Problem) : Type 0 where
+  pub signature_is : signature_of p.signature ≡ s
+  pub rules_are : book_of p.rules ≡ map rule_of (rules_in (view.items theory.items.items))
+  pub constants_are : map name_of p.constants.items ≡ constants_in (view.items theory.items.items)
   pub lemmas_are : all_asked (lemmas_read theory.items.items) ≡ Some (map asked_of p.lemmas.items)
-  pub places_are : ArePlaces text (view.theory theory) (view.spans theory.items.items) p.behind_end
+  pub forms_are : p.wants_forms ≡ some_have_forms s.equations (rules_in (view.items theory.items.items))
+  pub end_is : p.behind_end ≡ theory.behind_end
+
+-- It is what the text poses: the signature, the rules and the public names of the theory that the text says, and its lemmas with their guarded forms. The
+-- theory in memory is that of the text with symbols in the place of the names that are such.
+pub record IsPosedBy (text : List ℕ) (p : Problem) : Type 0 where
+  pub said : WrittenText
+  pub theory : ReadTheory
+  pub resolved_is : view.theory theory ≡ resolved said
+  pub poses : Poses text said
+  pub signature_is : signature_of p.signature ≡ spec.signature_of (theory_of (theory_in said))
+  pub rules_are : book_of p.rules ≡ (theory_of (theory_in said)).rules
+  pub constants_are : map name_of p.constants.items ≡ constants_of (theory_in said)
+  pub lemmas_are : all_asked (lemmas_read theory.items.items) ≡ Some (map asked_of p.lemmas.items)
+  pub forms_are : p.wants_forms ≡ wants_forms said
+  pub places_are : ArePlaces text said (view.spans theory.items.items) p.behind_end
   pub rise : Rise text 0 (view.spans theory.items.items) p.behind_end
   pub within : p.behind_end ≤ length text
 

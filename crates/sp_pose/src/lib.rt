@@ -6,7 +6,6 @@
 #![tactic(auto)]
 
 mod kind;
-mod names;
 mod numbering;
 mod problem;
 

@@ -1,25 +1,32 @@
 // What a text sets out to prove.
 
-ghost use Rattle.std.specs.Prelude.{◌≡◌, ◌∷◌, [], ◌++◌, Some, IfOk, OnOk, map, option_map};
+ghost use Rattle.std.specs.Prelude.{◌≡◌, ◌∷◌, [], ◌++◌, Some, None, IfOk, OnOk, MatchOption, map, option_map};
 ghost use Rattle.sp_spec.specs.Written as written;
 ghost use Rattle.sp_fact.specs.View.{rule_of};
 ghost use Rattle.sp_fact.specs.BookView.{book_of};
 ghost use Rattle.sp_spec_text.specs.Written.{rules_in};
 ghost use Rattle.sp_written.specs.Views as view;
 ghost use Rattle.sp_pose.specs.Asked.{asked_of, asked_then, lemmas_read, all_asked};
-ghost use Rattle.sp_pose.specs.Posed.{IsRead};
+ghost use Rattle.sp_ground.specs.View.{equation_of, signature_of};
+ghost use Rattle.sp_pose.specs.Problem.{some_have_forms};
+ghost use Rattle.sp_pose.specs.Posed.{IsRead, IsMadeOf};
 
 use crate::numbering::numbered;
 use sp_constants::constants;
+use sp_declared::equations::equations;
+use sp_declared::resolved::resolved;
+use sp_declared::signature::signature;
+use sp_declared::symbols::symbols;
 use sp_fact::book::RuleBook;
 use sp_fact::rule::Rule;
 use sp_formula::formula::Formula;
+use sp_ground::signature::{Equation, Signature};
 use sp_guard::marks::checked_form;
 use sp_place::refused_at;
 use sp_read_theory::read_theory;
 use sp_term::term::Name;
-use sp_wf::report;
-use sp_written::{Item, Span, TraceKind, WrittenLemma, WrittenProof};
+use sp_wf::{actions_have_destructor, facts_have_destructor, report};
+use sp_written::{Item, ReadTheory, Span, TraceKind, WrittenLemma, WrittenProof};
 use std::alloc::{AllocError, Global};
 
 /// A lemma without fatal findings.
@@ -40,12 +47,16 @@ pub struct GuardedLemma<'a> {
 /// A theory without fatal findings.
 #[derive(Drop)]
 pub struct Problem<'a> {
+    /// its symbols and its equations, those of pairs first
+    pub signature: Signature,
     /// its rules, with their variables numbered
     pub rules: RuleBook,
     /// its public names, each once
     pub constants: Vec<Name>,
     /// its lemmas, with their guarded forms
     pub lemmas: Vec<GuardedLemma<'a>>,
+    /// whether a destructor stands in an action or a conclusion of a rule, so that it has other forms beside itself
+    pub wants_forms: bool,
     /// the place behind its word `end`
     pub behind_end: usize,
 }
@@ -71,7 +82,7 @@ fn push_rule(alloc: Global, rules: &mut Vec<Rule>, item: &Item) -> Result<(), Al
             rules.push(made)?;
             Ok(())
         }
-        Item::Lemma(_) => Ok(()),
+        _ => Ok(()),
     }
 }
 
@@ -92,11 +103,11 @@ fn push_lemma<'a>(lemmas: &mut Vec<WrittenLemma<'a>>, item: Item<'a>) -> Result<
     ensures { OnOk result (lemmas.new.items ≡ lemmas.old.items ++ lemmas_read (item.entry ∷ [])) }
 {
     match item {
-        Item::Rule(_) => Ok(()),
         Item::Lemma(lemma) => {
             lemmas.push(lemma)?;
             Ok(())
         }
+        _ => Ok(()),
     }
 }
 
@@ -149,36 +160,81 @@ fn guarded_lemmas<'a>(
     Ok(guarded)
 }
 
+/// Whether a destructor stands in an action or a conclusion of the item, if it is a rule.
+fn has_forms(equations: &Vec<Equation>, item: &Item) -> bool
+    ensures { result ≡ some_have_forms (map equation_of equations.now.items) (rules_in (view.item item.now ∷ [])) }
+{
+    match item {
+        Item::Rule(rule) => {
+            actions_have_destructor(equations, &rule.facts.actions)
+                || facts_have_destructor(equations, &rule.facts.conclusions)
+        }
+        _ => false,
+    }
+}
+
+/// Whether a destructor stands in an action or a conclusion of a rule.
+fn some_have_forms(equations: &Vec<Equation>, items: &Vec<Item>) -> bool
+    ensures { result ≡ some_have_forms (map equation_of equations.now.items) (rules_in (view.items items.now.items)) }
+{
+    for item in items {
+        if has_forms(equations, item) {
+            return true;
+        }
+    }
+    false
+}
+
+/// What a text poses, of its theory with symbols in the place of the names that are such; none where a lemma has no guarded form.
+fn posed<'a>(
+    alloc: Global,
+    signature: Signature,
+    theory: ReadTheory<'a>,
+) -> Result<Option<Problem<'a>>, AllocError>
+    ensures { IfOk result (λ o. MatchOption o (all_asked (lemmas_read theory.entry.items.items) ≡ None) (IsMadeOf (signature_of signature) theory.entry)) }
+{
+    let rules = rule_book(alloc, &theory.items)?;
+    let constants = constants(alloc, &theory)?;
+    let wants_forms = some_have_forms(&signature.equations, &theory.items);
+    let behind_end = theory.behind_end;
+    let lemmas = lemmas_of(alloc, theory.items)?;
+    let Some(lemmas) = guarded_lemmas(alloc, lemmas)? else {
+        return Ok(None);
+    };
+    Ok(Some(Problem {
+        signature,
+        rules,
+        constants,
+        lemmas,
+        wants_forms,
+        behind_end,
+    }))
+}
+
 /// What comes of reading a text.
 ///
 /// # Errors
 ///
 /// `AllocError` where memory is wanting.
-#[tactic(auto, using(crate::proofs::Posed::posing))]
 pub fn posed_by<'a>(alloc: Global, text: &'a [u8]) -> Result<Read<'a>, AllocError>
     ensures { IfOk result (IsRead text.now) }
 {
-    let Some(theory) = read_theory(alloc, text)? else {
+    let Some(read) = read_theory(alloc, text)? else {
         let Some(place) = refused_at(alloc, text)? else {
             unreachable!()
         };
         return Ok(Read::Refused(place));
     };
-    let lines = report(alloc, &theory)?;
+    let symbols = symbols(alloc, &read.items)?;
+    let theory = resolved(alloc, &symbols, read)?;
+    let equations = equations(alloc, &theory.items)?;
+    let lines = report(alloc, &symbols, &equations, &theory)?;
     if !lines.is_empty() {
         return Ok(Read::Reported(lines));
     }
-    let rules = rule_book(alloc, &theory.items)?;
-    let constants = constants(alloc, &theory)?;
-    let behind_end = theory.behind_end;
-    let lemmas = lemmas_of(alloc, theory.items)?;
-    let Some(lemmas) = guarded_lemmas(alloc, lemmas)? else {
+    let signature = signature(alloc, symbols, equations)?;
+    let Some(problem) = posed(alloc, signature, theory)? else {
         unreachable!()
     };
-    Ok(Read::Posed(Problem {
-        rules,
-        constants,
-        lemmas,
-        behind_end,
-    }))
+    Ok(Read::Posed(problem))
 }

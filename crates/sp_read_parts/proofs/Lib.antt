@@ -1,5 +1,6 @@
 pub mod One
 pub mod Steps
+pub mod Nested
 pub mod Loops
 pub mod Sequence
 pub mod Bindings

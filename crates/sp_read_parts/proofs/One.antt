@@ -1,15 +1,15 @@
 -- Each part is read in one way.
-use Rattle.std.proofs.Common.{◌≡◌, ℕ, Bool, List, [], ◌∷◌, Option, Some, None, refl, sym, ap, subst, ◌∙◌}
+use Rattle.std.proofs.Common.{◌≡◌, ℕ, ◌+◌, Bool, List, [], ◌∷◌, Option, Some, None, refl, sym, ap, subst, ◌∙◌}
 use Rattle.sp_spec_text.specs.Signs.{Sign}
 use Rattle.sp_spec_text.specs.Signs as s
-use Rattle.sp_spec_text.specs.Token.{Lexeme, constant, sign, solve}
-use Rattle.sp_spec.specs.Term.{Term, var}
+use Rattle.sp_spec_text.specs.Token.{Lexeme, word, constant, sign, solve}
+use Rattle.sp_spec.specs.Term.{Term, var, app, Terms, none, more}
 use Rattle.sp_spec.specs.Rule.{Fact}
 use Rattle.sp_spec.specs.Formula.{Mark, Written}
 use Rattle.sp_spec_text.specs.Names.{mark_at}
 use Rattle.sp_spec_text.specs.Lists.{AreParts, last, next, AreItems, empty, some}
 use Rattle.sp_spec_text.specs.Shapes.{written, fact}
-use Rattle.sp_read_parts.specs.Parts.{IsNameFirst, name, IsSort, sort, IsVariable, marked, sorted, unmarked, IsSingleTerm, variable, fixed, IsTerm, unbracketed, brackets, AreArguments, arguments, IsNamedFact, named, IsFact, linear, persistent, AreBinders, one_binder, more_binders}
+use Rattle.sp_read_parts.specs.Parts.{IsNameFirst, name, IsSort, sort, IsVariable, marked, sorted, unmarked, IsNoApplication, IsTerm, fixed, variable, brackets, tuple, application, braced, IsTuple, last_part, next_part, AreArguments, arguments, AreTermsTo, no_term, some_terms, AreTerms, last_term, next_term, IsNamedFact, named, IsFact, linear, persistent, AreBinders, one_binder, more_binders}
 
 -- what is read, and what follows it, are fixed by the tokens
 pub record One {A : Type 0} (R : List Lexeme → A → List Lexeme → Type 0) : Type 0 where
@@ -49,25 +49,76 @@ variable_sign n (marked e h) = let g = sym n ∙ e in cc
 variable_sign n (sorted h e) = elim h [ ]
 variable_sign n (unmarked h e) = elim h [ ]
 
-pub single_one : {tokens r q : List Lexeme} {x y : Term Written} → IsSingleTerm tokens x r → IsSingleTerm tokens y q → (x ≡ y) × (r ≡ q)
-single_one (variable h) (variable k) = let o = variable_one h k in (ap (λ (v : Written). var v) o.0, o.1)
-single_one (variable h) fixed = absurd (variable_constant h)
-single_one fixed (variable k) = absurd (variable_constant k)
-single_one fixed fixed = (refl, refl)
+-- ---- terms
 
-pub single_sign : {x : Sign} {tokens r : List Lexeme} {y : Term Written} → mark_at x ≡ None → IsSingleTerm (sign x ∷ tokens) y r → ⊥
-single_sign e (variable h) = variable_sign e h
+not_applied : {n : ℕ} {w : List ℕ} {tokens r : List Lexeme} {xs : Terms Written} → IsNoApplication (word w ∷ tokens) → AreArguments n tokens xs r → ⊥
+not_applied {w = w} d (arguments {tokens = ts} lt h) = d.no_bracket w ts refl
 
-pub term_one : {n : ℕ} {tokens r q : List Lexeme} {x y : Term Written} → IsTerm n tokens x r → IsTerm n tokens y q → (x ≡ y) × (r ≡ q)
-term_one (unbracketed h) (unbracketed k) = single_one h k
-term_one (unbracketed h) (brackets lt k) = absurd (single_sign refl h)
-term_one (brackets lt h) (unbracketed k) = absurd (single_sign refl k)
-term_one (brackets lt h) (brackets gt k) = let o = term_one h k in let e = o.1 in (o.0, cc)
+mutual
+  pub term_one : {n : ℕ} {tokens r q : List Lexeme} {x y : Term Written} → IsTerm n tokens x r → IsTerm n tokens y q → (x ≡ y) × (r ≡ q)
+  term_one fixed fixed = (refl, refl)
+  term_one fixed (variable d k) = absurd (variable_constant k)
+  term_one (variable d h) fixed = absurd (variable_constant h)
+  term_one (variable d h) (variable e k) = let o = variable_one h k in (ap (λ (v : Written). var v) o.0, o.1)
+  term_one (variable d h) (brackets lt k) = absurd (variable_sign refl h)
+  term_one (variable d h) (tuple lt k) = absurd (variable_sign refl h)
+  term_one (variable d h) (application i k) = absurd (not_applied d k)
+  term_one (variable d h) (braced {w = w} {tokens = ts} i lt k l) = absurd (d.no_brace w ts refl)
+  term_one (brackets lt h) (variable d k) = absurd (variable_sign refl k)
+  term_one (brackets lt h) (brackets gt k) = let o = term_one h k in let e = o.1 in (o.0, cc)
+  term_one (tuple lt h) (variable d k) = absurd (variable_sign refl k)
+  term_one (tuple lt h) (tuple gt k) = tuple_one (λ e. cc) h k
+  term_one (application i h) (variable d k) = absurd (not_applied d h)
+  term_one (application {w = w} i h) (application j k) = let o = arguments_one h k in (ap (λ (xs : Terms Written). app w xs) o.0, o.1)
+  term_one (application i h) (braced j lt k l) = elim h [ ]
+  term_one (braced {w = w} {tokens = ts} i lt k l) (variable d h) = absurd (d.no_brace w ts refl)
+  term_one (braced j lt k l) (application i h) = elim h [ ]
+  term_one (braced {n = n} {w = w} i lt h k) (braced {y = y} {mid = m} {rest = q} j gt l o) =
+      let a = tuple_one (λ e. cc) h l in
+      let b = term_one k (subst (λ (ts : List Lexeme). IsTerm (n + 1) ts y q) (sym a.1) o) in
+      (rw (a.0, b.0) refl, b.1)
 
--- no term begins with a sign that neither marks a variable nor opens a bracket
-pub term_sign : {n : ℕ} {x : Sign} {tokens r : List Lexeme} {y : Term Written} → mark_at x ≡ None → (x ≡ s.Open → ⊥) → IsTerm n (sign x ∷ tokens) y r → ⊥
-term_sign e d (unbracketed h) = single_sign e h
-term_sign e d (brackets lt h) = d refl
+  pub tuple_one : {n : ℕ} {close : Sign} {tokens r q : List Lexeme} {x y : Term Written} → (s.Comma ≡ close → ⊥) → IsTuple n close tokens x r → IsTuple n close tokens y q → (x ≡ y) × (r ≡ q)
+  tuple_one d (last_part h) (last_part k) = let o = term_one h k in let e = o.1 in (o.0, cc)
+  tuple_one d (last_part h) (next_part k lt l) = let e = (term_one h k).1 in absurd (d cc)
+  tuple_one d (next_part k lt l) (last_part h) = let e = (term_one k h).1 in absurd (d cc)
+  tuple_one {n} {close} d (next_part {mid = m} h lt k) (next_part {y = y} {mid = l} {rest = q} i gt j) =
+      let a = term_one h i in
+      let e = a.1 in
+      let f : l ≡ m = cc in
+      let b = tuple_one d k (subst (λ (ts : List Lexeme). IsTuple (n + 1) close ts y q) f j) in
+      (rw (a.0, b.0) refl, b.1)
+
+  pub arguments_one : {n : ℕ} {tokens r q : List Lexeme} {xs ys : Terms Written} → AreArguments n tokens xs r → AreArguments n tokens ys q → (xs ≡ ys) × (r ≡ q)
+  arguments_one (arguments lt h) (arguments gt k) = list_one h k
+
+  pub list_one : {n : ℕ} {tokens r q : List Lexeme} {xs ys : Terms Written} → AreTermsTo n tokens xs r → AreTermsTo n tokens ys q → (xs ≡ ys) × (r ≡ q)
+  list_one no_term no_term = (refl, refl)
+  list_one (no_term {rest = r}) (some_terms d k) = absurd (d r refl)
+  list_one (some_terms d k) (no_term {rest = r}) = absurd (d r refl)
+  list_one (some_terms d h) (some_terms e k) = terms_one h k
+
+  pub terms_one : {n : ℕ} {tokens r q : List Lexeme} {xs ys : Terms Written} → AreTerms n tokens xs r → AreTerms n tokens ys q → (xs ≡ ys) × (r ≡ q)
+  terms_one (last_term h) (last_term k) = let o = term_one h k in let e = o.1 in (ap (λ (x : Term Written). more x none) o.0, cc)
+  terms_one (last_term h) (next_term k l) = let e = (term_one h k).1 in absurd cc
+  terms_one (next_term k l) (last_term h) = let e = (term_one k h).1 in absurd cc
+  terms_one {n} (next_term {mid = m} h k) (next_term {xs = ys} {mid = l} {rest = q} i j) =
+      let a = term_one h i in
+      let e = a.1 in
+      let f : l ≡ m = cc in
+      let b = terms_one k (subst (λ (ts : List Lexeme). AreTerms n ts ys q) f j) in
+      (rw (a.0, b.0) refl, b.1)
+
+-- no term begins with a sign that neither marks a variable nor opens a bracket or a tuple
+pub term_sign : {n : ℕ} {x : Sign} {tokens r : List Lexeme} {y : Term Written} → mark_at x ≡ None → (x ≡ s.Open → ⊥) → (x ≡ s.Less → ⊥) → IsTerm n (sign x ∷ tokens) y r → ⊥
+term_sign e o l (variable d h) = variable_sign e h
+term_sign e o l (brackets lt h) = o refl
+term_sign e o l (tuple lt h) = l refl
+
+pub terms : {n : ℕ} → One (IsTerm n)
+terms = record { one = term_one }
+
+-- ---- lists
 
 pub parts_one : {A : Type 0} {R : List Lexeme → A → List Lexeme → Type 0} {between close : Sign} → One R → (between ≡ close → ⊥) → {tokens r q : List Lexeme} {xs ys : List A}
     → AreParts R between close tokens xs r → AreParts R between close tokens ys q → (xs ≡ ys) × (r ≡ q)
@@ -94,14 +145,10 @@ items_one o d c (empty {rest = r}) k = items_closed c k r refl
 items_one o d c (some h) (empty {rest = r}) = let e = items_closed c (some h) r refl in (sym e.0, sym e.1)
 items_one o d c (some h) (some k) = parts_one o d h k
 
-pub terms : {n : ℕ} → One (IsTerm n)
-terms = record { one = term_one }
-
-pub arguments_one : {n : ℕ} {tokens r q : List Lexeme} {xs ys : List (Term Written)} → AreArguments n tokens xs r → AreArguments n tokens ys q → (xs ≡ ys) × (r ≡ q)
-arguments_one (arguments lt h) (arguments gt k) = items_one terms (λ e. cc) (λ ts r x t. term_sign refl (λ e. cc) t) h k
+-- ---- facts and binders
 
 pub named_one : {n : ℕ} {p : Bool} {tokens r q : List Lexeme} {f g : Fact Written} → IsNamedFact n p tokens f r → IsNamedFact n p tokens g q → (f ≡ g) × (r ≡ q)
-named_one {p = p} (named {w = w} e h) (named f k) = let o = arguments_one h k in (ap (λ (xs : List (Term Written)). fact w p xs) o.0, o.1)
+named_one {p = p} (named {w = w} e h) (named f k) = let o = arguments_one h k in (ap (λ (xs : Terms Written). fact w p xs) o.0, o.1)
 
 pub fact_one : {n : ℕ} {tokens r q : List Lexeme} {f g : Fact Written} → IsFact n tokens f r → IsFact n tokens g q → (f ≡ g) × (r ≡ q)
 fact_one (linear h) (linear k) = named_one h k

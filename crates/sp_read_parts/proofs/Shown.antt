@@ -1,15 +1,15 @@
 -- What formulas in memory stand for, by how they are made.
 use Rattle.std.proofs.Common.{◌≡◌, sym, ap, ◌∙◌, map}
 use Rattle.std.specs.Global.{Vec, Box}
-use Rattle.sp_spec.specs.Formula.{Formula, truth, falsity, equals, precedes, both, either, implies}
+use Rattle.sp_spec.specs.Formula.{Formula, truth, falsity, happens, equals, precedes, both, either, implies}
 use Rattle.sp_spec_text.specs.Shapes.{quantified}
 use Rattle.sp_spec_text.specs.Formulas.{quantified_some, equivalent}
-use Rattle.sp_read_parts.specs.Reading.{happening_of, conjoint, disjoint}
-use Rattle.sp_read_parts.specs.Views.{variable, term, fact_of}
+use Rattle.sp_term.specs.declared.term.Term.{Term}
+use Rattle.sp_fact.specs.declared.fact.Action.{Action}
+use Rattle.sp_read_parts.specs.Reading.{conjoint, disjoint}
+use Rattle.sp_read_parts.specs.Views.{variable, term, action_of}
 use Rattle.sp_read_parts.specs.Formulas.{chain, formula_step, formula}
 use Rattle.sp_read_parts.specs.declared.written.WrittenVariable.{WrittenVariable}
-use Rattle.sp_read_parts.specs.declared.written.WrittenTerm.{WrittenTerm}
-use Rattle.sp_read_parts.specs.declared.written.WrittenFact.{WrittenFact}
 use Rattle.sp_read_parts.specs.declared.written.ReadFormula.{ReadFormula}
 use Rattle.sp_read_parts.specs.declared.written.ReadFormula.TheVariants as v
 use Rattle.sp_read_parts.specs.declared.written.ReadFormula.TheOpen.{ReadFormula-F}
@@ -21,10 +21,10 @@ true_shown = ap formula (sym v.rolls-True) ∙ fold-roll-ReadFormula Formula for
 pub false_shown : formula v.False ≡ falsity
 false_shown = ap formula (sym v.rolls-False) ∙ fold-roll-ReadFormula Formula formula_step ReadFormula-F.False
 
-pub happens_shown : (f : WrittenFact) (x : WrittenVariable) → formula (v.Happens f x) ≡ happening_of (fact_of f) (variable x)
-happens_shown f x = ap formula (sym (v.rolls-Happens f x)) ∙ fold-roll-ReadFormula Formula formula_step (ReadFormula-F.Happens f x)
+pub happens_shown : (a : Action WrittenVariable) (x : WrittenVariable) → formula (v.Happens a x) ≡ happens (action_of a) (variable x)
+happens_shown a x = ap formula (sym (v.rolls-Happens a x)) ∙ fold-roll-ReadFormula Formula formula_step (ReadFormula-F.Happens a x)
 
-pub equals_shown : (x y : WrittenTerm) → formula (v.Equals x y) ≡ equals (term x) (term y)
+pub equals_shown : (x y : Term WrittenVariable) → formula (v.Equals x y) ≡ equals (term x) (term y)
 equals_shown x y = ap formula (sym (v.rolls-Equals x y)) ∙ fold-roll-ReadFormula Formula formula_step (ReadFormula-F.Equals x y)
 
 pub precedes_shown : (x y : WrittenVariable) → formula (v.Precedes x y) ≡ precedes (variable x) (variable y)

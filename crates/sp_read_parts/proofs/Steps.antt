@@ -1,17 +1,16 @@
 -- What a part begins with says which way it is read; each way to get stuck leaves no reading.
-use Rattle.std.proofs.Common.{◌≡◌, ℕ, ◌+◌, ◌<◌, ◌≤◌, Bool, true, false, List, [], ◌∷◌, Some, None, refl, sym, ap, subst, ◌∙◌, arith}
+use Rattle.std.proofs.Common.{◌≡◌, ℕ, ◌+◌, ◌<◌, Bool, true, false, List, [], ◌∷◌, Some, None, refl, sym, ap, subst, ◌∙◌}
 use Rattle.sp_spec_text.specs.Signs.{Sign}
 use Rattle.sp_spec_text.specs.Signs as s
 use Rattle.sp_spec_text.specs.Token.{Lexeme, word, constant, sign, solve}
-use Rattle.sp_spec.specs.Term.{Term, var}
-use Rattle.sp_spec.specs.Term as t
+use Rattle.sp_spec.specs.Term.{Terms}
 use Rattle.sp_spec.specs.Rule.{Fact}
 use Rattle.sp_spec.specs.Formula.{Mark, Written}
 use Rattle.sp_spec_text.specs.Names.{IsName, names_fact, mark_of, mark_at}
-use Rattle.sp_spec_text.specs.Lists.{IsNotFirst, IsNoWord, NoReading, AreItems}
+use Rattle.sp_spec_text.specs.Lists.{IsNotFirst, IsNoWord, NoReading}
 use Rattle.sp_spec_text.specs.Shapes.{written, fact}
-use Rattle.sp_read_parts.specs.Parts.{IsNameFirst, name, IsSort, sort, IsVariable, marked, sorted, unmarked, IsSingleTerm, variable, fixed, IsTerm, unbracketed, brackets, AreArguments, arguments, IsNamedFact, named, IsFact, linear, persistent}
-use Rattle.sp_read_parts.proofs.One.{variable_constant, variable_solve, variable_sign, single_sign, term_one}
+use Rattle.sp_read_parts.specs.Parts.{IsNameFirst, name, IsSort, sort, IsVariable, marked, sorted, unmarked, AreArguments, arguments, AreTermsTo, IsNamedFact, named, IsFact, linear, persistent}
+use Rattle.sp_read_parts.proofs.One.{variable_constant, variable_solve, variable_sign}
 
 -- ---- names and variables
 
@@ -97,78 +96,25 @@ pub ruleset sorts = (sort_at, sort_no_word, sort_unknown)
 
 pub ruleset variables = (marked_at, sorted_at, unmarked, variable_nil, variable_no_mark, variable_no_name, variable_no_constant, variable_no_solve, variable_reserved, variable_no_sort)
 
--- ---- terms and facts
+-- ---- facts
 
-pub fixed_at : {c : List ℕ} {tokens rest : List Lexeme} → tokens ≡ constant c ∷ rest → IsSingleTerm tokens (t.constant c) rest
-fixed_at e = rw e fixed
-
-pub single_nil : {tokens : List Lexeme} → tokens ≡ [] → NoReading IsSingleTerm tokens
-single_nil e = record { none = λ x r h. at h e }
-  where
-    at : {ts r : List Lexeme} {x : Term Written} → IsSingleTerm ts x r → ts ≡ [] → ⊥
-    at (variable {v = v} {rest = r} h) e = (variable_nil e).none v r h
-    at fixed e = cc
-
--- a variable or a constant that does not begin with a constant is a variable
-no_single : {first : Lexeme} {tokens after : List Lexeme} → ((c : List ℕ) → first ≡ constant c → ⊥) → tokens ≡ first ∷ after → NoReading IsVariable tokens → NoReading IsSingleTerm tokens
-no_single {first} d e n = record { none = λ x r h. at h e n d }
-  where
-    at : {first : Lexeme} {ts r after : List Lexeme} {x : Term Written} → IsSingleTerm ts x r → ts ≡ first ∷ after → NoReading IsVariable ts → ((c : List ℕ) → first ≡ constant c → ⊥) → ⊥
-    at (variable {v = v} {rest = r} h) e n d = n.none v r h
-    at (fixed {c = c}) e n d = d c cc
-
-pub single_no_word : {w : List ℕ} {tokens after : List Lexeme} → tokens ≡ word w ∷ after → NoReading IsVariable tokens → NoReading IsSingleTerm tokens
-single_no_word e n = no_single (λ c g. cc) e n
-
-pub single_no_sign : {x : Sign} {tokens after : List Lexeme} → tokens ≡ sign x ∷ after → NoReading IsVariable tokens → NoReading IsSingleTerm tokens
-single_no_sign e n = no_single (λ c g. cc) e n
-
-pub single_no_solve : {s : List ℕ} {tokens after : List Lexeme} → tokens ≡ solve s ∷ after → NoReading IsSingleTerm tokens
-single_no_solve e = no_single (λ c g. cc) e (variable_no_solve e)
-
-pub brackets_at : {n : ℕ} {x : Term Written} {tokens inside ahead rest : List Lexeme} → tokens ≡ sign s.Open ∷ inside → n < 128 → IsTerm (n + 1) inside x ahead → ahead ≡ sign s.Close ∷ rest → IsTerm n tokens x rest
-brackets_at e lt h f = rw e (brackets lt (rw f at h))
-
-pub term_no_single : {n : ℕ} {tokens : List Lexeme} → IsNotFirst (sign s.Open) tokens → NoReading IsSingleTerm tokens → NoReading (IsTerm n) tokens
-term_no_single {n} d k = record { none = λ x r h. at h d k }
-  where
-    at : {ts r : List Lexeme} {x : Term Written} → IsTerm n ts x r → IsNotFirst (sign s.Open) ts → NoReading IsSingleTerm ts → ⊥
-    at (unbracketed {x = x} {rest = r} h) d k = k.none x r h
-    at (brackets {tokens = ts} lt h) d k = d ts refl
-
-under_bracket : {n : ℕ} {tokens inside rest : List Lexeme} {x : Term Written} → tokens ≡ sign s.Open ∷ inside → IsTerm n tokens x rest → (n < 128) × IsTerm (n + 1) inside x (sign s.Close ∷ rest)
-under_bracket {n} {rest = rest} {x = x} e h = at (subst (λ (ts : List Lexeme). IsTerm n ts x rest) e h)
-  where
-    at : {n : ℕ} {inside rest : List Lexeme} {x : Term Written} → IsTerm n (sign s.Open ∷ inside) x rest → (n < 128) × IsTerm (n + 1) inside x (sign s.Close ∷ rest)
-    at (unbracketed h) = absurd (single_sign refl h)
-    at (brackets lt h) = (lt, h)
-
-pub term_too_deep : {n : ℕ} {tokens inside : List Lexeme} → tokens ≡ sign s.Open ∷ inside → 128 ≤ n → NoReading (IsTerm n) tokens
-term_too_deep e le = record { none = λ x r h. let i = under_bracket e h in omega (arith, i.0) }
-
-pub term_no_inside : {n : ℕ} {tokens inside : List Lexeme} → tokens ≡ sign s.Open ∷ inside → NoReading (IsTerm (n + 1)) inside → NoReading (IsTerm n) tokens
-term_no_inside e k = record { none = λ x r h. k.none x (sign s.Close ∷ r) (under_bracket e h).1 }
-
-pub term_unclosed : {n : ℕ} {y : Term Written} {tokens inside ahead : List Lexeme} → tokens ≡ sign s.Open ∷ inside → IsTerm (n + 1) inside y ahead → IsNotFirst (sign s.Close) ahead → NoReading (IsTerm n) tokens
-term_unclosed e k d = record { none = λ x r h. d r (term_one k (under_bracket e h).1).1 }
-
-pub arguments_at : {n : ℕ} {args : List (Term Written)} {tokens inside rest : List Lexeme} → tokens ≡ sign s.Open ∷ inside → n < 128 → AreItems (IsTerm (n + 1)) s.Close inside args rest → AreArguments n tokens args rest
+pub arguments_at : {n : ℕ} {args : Terms Written} {tokens inside rest : List Lexeme} → tokens ≡ sign s.Open ∷ inside → n < 128 → AreTermsTo (n + 1) inside args rest → AreArguments n tokens args rest
 arguments_at e lt h = rw e (arguments lt h)
 
 pub no_arguments : {n : ℕ} {tokens : List Lexeme} → IsNotFirst (sign s.Open) tokens → NoReading (AreArguments n) tokens
 no_arguments {n} d = record { none = λ x r h. at h d }
   where
-    at : {ts r : List Lexeme} {xs : List (Term Written)} → AreArguments n ts xs r → IsNotFirst (sign s.Open) ts → ⊥
+    at : {ts r : List Lexeme} {xs : Terms Written} → AreArguments n ts xs r → IsNotFirst (sign s.Open) ts → ⊥
     at (arguments {tokens = ts} lt h) d = d ts refl
 
-pub no_argument_list : {n : ℕ} {tokens inside : List Lexeme} → tokens ≡ sign s.Open ∷ inside → NoReading (AreItems (IsTerm (n + 1)) s.Close) inside → NoReading (AreArguments n) tokens
+pub no_argument_list : {n : ℕ} {tokens inside : List Lexeme} → tokens ≡ sign s.Open ∷ inside → NoReading (AreTermsTo (n + 1)) inside → NoReading (AreArguments n) tokens
 no_argument_list {n} e k = record { none = λ x r h. at h e k }
   where
-    at : {ts r inside : List Lexeme} {xs : List (Term Written)} → AreArguments n ts xs r → ts ≡ sign s.Open ∷ inside → NoReading (AreItems (IsTerm (n + 1)) s.Close) inside → ⊥
-    at {inside = i} (arguments {args = xs} {tokens = ts} {rest = r} lt h) e k = let f : ts ≡ i = cc in k.none xs r (subst (λ (l : List Lexeme). AreItems (IsTerm (n + 1)) s.Close l xs r) f h)
+    at : {ts r inside : List Lexeme} {xs : Terms Written} → AreArguments n ts xs r → ts ≡ sign s.Open ∷ inside → NoReading (AreTermsTo (n + 1)) inside → ⊥
+    at {inside = i} (arguments {xs = xs} {tokens = ts} {rest = r} lt h) e k = let f : ts ≡ i = cc in k.none xs r (subst (λ (l : List Lexeme). AreTermsTo (n + 1) l xs r) f h)
 
-pub named_at : {n : ℕ} {p : Bool} {w : List ℕ} {args : List (Term Written)} {tokens after rest : List Lexeme} → tokens ≡ word w ∷ after → names_fact w ≡ true → AreArguments n after args rest → IsNamedFact n p tokens (fact w p args) rest
-named_at e f h = rw e (named f h)
+pub named_at : {n : ℕ} {p : Bool} {w : List ℕ} {f : Fact Written} {args : Terms Written} {tokens after rest : List Lexeme} → tokens ≡ word w ∷ after → names_fact w ≡ true → AreArguments n after args rest → f ≡ fact w p args → IsNamedFact n p tokens f rest
+named_at e f h d = rw (e, d) (named f h)
 
 pub named_no_word : {n : ℕ} {p : Bool} {tokens : List Lexeme} → IsNoWord tokens → NoReading (IsNamedFact n p) tokens
 named_no_word {n} {p} d = record { none = λ x r h. at h d }
@@ -176,10 +122,10 @@ named_no_word {n} {p} d = record { none = λ x r h. at h d }
     at : {ts r : List Lexeme} {f : Fact Written} → IsNamedFact n p ts f r → IsNoWord ts → ⊥
     at (named {w = w} {tokens = ts} e h) d = d w ts refl
 
-under_name : {n : ℕ} {p : Bool} {w : List ℕ} {tokens after rest : List Lexeme} {f : Fact Written} → tokens ≡ word w ∷ after → IsNamedFact n p tokens f rest → (names_fact w ≡ true) × (args : List (Term Written)) × AreArguments n after args rest
+under_name : {n : ℕ} {p : Bool} {w : List ℕ} {tokens after rest : List Lexeme} {f : Fact Written} → tokens ≡ word w ∷ after → IsNamedFact n p tokens f rest → (names_fact w ≡ true) × (args : Terms Written) × AreArguments n after args rest
 under_name {n} {p} {rest = rest} {f = f} e h = at (subst (λ (ts : List Lexeme). IsNamedFact n p ts f rest) e h)
   where
-    at : {w : List ℕ} {after rest : List Lexeme} {f : Fact Written} → IsNamedFact n p (word w ∷ after) f rest → (names_fact w ≡ true) × (args : List (Term Written)) × AreArguments n after args rest
+    at : {w : List ℕ} {after rest : List Lexeme} {f : Fact Written} → IsNamedFact n p (word w ∷ after) f rest → (names_fact w ≡ true) × (args : Terms Written) × AreArguments n after args rest
     at (named {args = xs} e h) = (e, xs, h)
 
 pub named_no_name : {n : ℕ} {p : Bool} {w : List ℕ} {tokens after : List Lexeme} → tokens ≡ word w ∷ after → names_fact w ≡ false → NoReading (IsNamedFact n p) tokens
@@ -204,10 +150,6 @@ no_linear {n} d k = record { none = λ x r h. at h d k }
     at : {ts r : List Lexeme} {f : Fact Written} → IsFact n ts f r → IsNotFirst (sign s.Bang) ts → NoReading (IsNamedFact n false) ts → ⊥
     at (linear {f = f} {rest = r} h) d k = k.none f r h
     at (persistent {tokens = ts} h) d k = d ts refl
-
-pub ruleset single_terms = (variable, fixed_at, single_nil, single_no_word, single_no_sign, single_no_solve)
-
-pub ruleset bracketed_terms = (unbracketed, brackets_at, term_no_single, term_too_deep, term_no_inside, term_unclosed)
 
 pub ruleset argument_lists = (arguments_at, no_arguments, no_argument_list)
 

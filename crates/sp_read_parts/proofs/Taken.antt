@@ -3,21 +3,22 @@ use Rattle.std.proofs.Common.{◌≡◌, ℕ, List, ◌∷◌, true, false, Some
 use Rattle.sp_spec_text.specs.Signs.{Sign}
 use Rattle.sp_spec_text.specs.Signs as s
 use Rattle.sp_spec_text.specs.Token.{Lexeme, word, sign}
-use Rattle.sp_spec.specs.Term.{Term}
+use Rattle.sp_spec.specs.Term.{Term, Terms}
 use Rattle.sp_spec.specs.Rule.{Fact}
 use Rattle.sp_spec.specs.Formula.{Written, Formula}
 use Rattle.sp_spec_text.specs.Names.{is_reserved, mark_at}
-use Rattle.sp_spec_text.specs.Lists.{IsNotFirst, NoReading, AreParts, last, next, AreItems, empty, some}
+use Rattle.sp_spec_text.specs.Lists.{IsNotFirst, NoReading}
 use Rattle.sp_read_parts.specs.Parts as f
-use Rattle.sp_read_parts.specs.Parts.{IsVariable, IsTerm, IsFact, AreBinders}
+use Rattle.sp_read_parts.specs.Parts.{IsVariable, IsTerm, IsTuple, AreTermsTo, AreTerms, IsFact, AreBinders}
 use Rattle.sp_spec_text.specs.Formulas as g
-use Rattle.sp_spec_text.specs.Formulas.{SpellsVariable, SpellsTerm, SpellsFact, SpellsBinders, NoSign, SpellsUnit, SpellsNegation, SpellsConjunction, SpellsAnds, SpellsDisjunction, SpellsOrs, SpellsImplication, SpellsFormula, SpellsReach}
+use Rattle.sp_spec_text.specs.Formulas.{SpellsVariable, SpellsTerm, SpellsTuple, SpellsArguments, SpellsTerms, SpellsFact, SpellsBinders, NoSign, SpellsUnit, SpellsNegation, SpellsConjunction, SpellsAnds, SpellsDisjunction, SpellsOrs, SpellsImplication, SpellsFormula, SpellsReach}
 use Rattle.sp_read_parts.specs.Reading.{two_sides, first, second, true_word, false_word, all_word, ex_word, conjoint, disjoint, a_unit, a_negation, a_chain, an_implication, a_whole, Reads, grouped, bound, shallow, from_group, from_binding, positive, negative, chained, lone, implying, single, double, GoesOn, ended, went}
 use Rattle.sp_read_parts.specs.Closed.{Closes, IsClosed}
 use Rattle.sp_read_parts.proofs.Atomic.{first_byte, no_constant, or_else_none}
+use Rattle.sp_read_parts.proofs.One.{term_sign}
 use Rattle.sp_read_parts.proofs.OneFormula.{reads_one}
 use Rattle.sp_read_parts.proofs.Faithful.{reads_spelled}
-use Rattle.sp_read_parts.proofs.Apart.{no_equality_word, no_order_word, no_action_word, sign_no_order, sign_no_action, fact_no_equality, fact_no_order, less_no_equality, not_is_reserved, reserved_no_fact, all_no_atom, ex_no_atom, group_no_equality}
+use Rattle.sp_read_parts.proofs.Apart.{EndsTerm, GoesTermOn, sign_ends, variable_term, no_equality_word, no_order_word, no_action_word, sign_no_order, sign_no_action, fact_no_equality, fact_no_order, less_no_equality, not_is_reserved, reserved_no_fact, all_no_atom, ex_no_atom, group_no_equality}
 
 -- ---- variables, terms and facts
 
@@ -26,22 +27,50 @@ variable_taken (g.marked e h) d = f.marked e (f.name h)
 variable_taken (g.unmarked h) d = f.unmarked (f.name h) d
 variable_taken (g.sorted h e) d = f.sorted (f.name h) (f.sort e)
 
-term_taken : {n : ℕ} {tokens rest : List Lexeme} {x : Term Written} → SpellsTerm n tokens x rest → IsNotFirst (sign s.Colon) rest → IsTerm n tokens x rest
-term_taken g.fixed d = f.unbracketed f.fixed
-term_taken (g.variable h) d = f.unbracketed (f.variable (variable_taken h d))
-term_taken (g.brackets lt h) d = f.brackets lt (term_taken h (λ r e. cc))
+-- no term begins with a closing bracket
+term_not_closed : {n : ℕ} {tokens rest : List Lexeme} {x : Term Written} → IsTerm n tokens x rest → IsNotFirst (sign s.Close) tokens
+term_not_closed {n} {rest = q} {x = x} h = λ r e. term_sign refl (λ d. cc) (λ d. cc) (subst (λ (ts : List Lexeme). IsTerm n ts x q) e h)
 
-parts_taken : {n : ℕ} {tokens rest : List Lexeme} {xs : List (Term Written)} → AreParts (SpellsTerm n) s.Comma s.Close tokens xs rest → AreParts (IsTerm n) s.Comma s.Close tokens xs rest
-parts_taken (last h) = last (term_taken h (λ r e. cc))
-parts_taken (next h k) = next (term_taken h (λ r e. cc)) (parts_taken k)
+terms_not_closed : {n : ℕ} {tokens rest : List Lexeme} {xs : Terms Written} → AreTerms n tokens xs rest → IsNotFirst (sign s.Close) tokens
+terms_not_closed (f.last_term h) = term_not_closed h
+terms_not_closed (f.next_term h k) = term_not_closed h
 
-items_taken : {n : ℕ} {tokens rest : List Lexeme} {xs : List (Term Written)} → AreItems (SpellsTerm n) s.Close tokens xs rest → AreItems (IsTerm n) s.Close tokens xs rest
-items_taken empty = empty
-items_taken (some h) = some (parts_taken h)
+-- what closes a tuple
+abbrev ClosesTuple : Sign → Type 0
+ClosesTuple s.Greater = Unit {0}
+ClosesTuple s.CloseBrace = Unit {0}
+ClosesTuple _ = ⊥
+
+tuple_ends : (close : Sign) → ClosesTuple close → (rest : List Lexeme) → EndsTerm (sign close ∷ rest)
+tuple_ends s.Greater c rest = sign_ends s.Greater rest (λ i. i)
+tuple_ends s.CloseBrace c rest = sign_ends s.CloseBrace rest (λ i. i)
+tuple_ends _ c rest = absurd c
+
+mutual
+  -- whatever follows, a word or a sign, but none by which the term goes on
+  pub term_taken : {n : ℕ} {tokens rest : List Lexeme} {x : Term Written} → SpellsTerm n tokens x rest → EndsTerm rest → IsTerm n tokens x rest
+  term_taken g.fixed e = f.fixed
+  term_taken (g.variable h) e = variable_term (variable_taken h e.no_colon) e.no_bracket e.no_brace
+  term_taken (g.brackets {rest = r} lt h) e = f.brackets lt (term_taken h (sign_ends s.Close r (λ i. i)))
+  term_taken (g.tuple lt h) e = f.tuple lt (tuple_taken tt h)
+  term_taken (g.application i lt h) e = f.application i (f.arguments lt (list_taken h))
+  term_taken (g.braced i lt h k) e = f.braced i lt (tuple_taken tt h) (term_taken k e)
+
+  tuple_taken : {n : ℕ} {close : Sign} {tokens rest : List Lexeme} {x : Term Written} → ClosesTuple close → SpellsTuple n close tokens x rest → IsTuple n close tokens x rest
+  tuple_taken {close = close} c (g.last_part {rest = r} h) = f.last_part (term_taken h (tuple_ends close c r))
+  tuple_taken c (g.next_part {mid = m} h lt k) = f.next_part (term_taken h (sign_ends s.Comma m (λ i. i))) lt (tuple_taken c k)
+
+  list_taken : {n : ℕ} {tokens rest : List Lexeme} {xs : Terms Written} → SpellsArguments n tokens xs rest → AreTermsTo n tokens xs rest
+  list_taken g.no_argument = f.no_term
+  list_taken (g.some_arguments h) = let i = terms_taken h in f.some_terms (terms_not_closed i) i
+
+  terms_taken : {n : ℕ} {tokens rest : List Lexeme} {xs : Terms Written} → SpellsTerms n tokens xs rest → AreTerms n tokens xs rest
+  terms_taken (g.last_term {rest = r} h) = f.last_term (term_taken h (sign_ends s.Close r (λ i. i)))
+  terms_taken (g.next_term {mid = m} h k) = f.next_term (term_taken h (sign_ends s.Comma m (λ i. i))) (terms_taken k)
 
 pub fact_taken : {n : ℕ} {tokens rest : List Lexeme} {x : Fact Written} → SpellsFact n tokens x rest → IsFact n tokens x rest
-fact_taken (g.linear e lt h) = f.linear (f.named e (f.arguments lt (items_taken h)))
-fact_taken (g.persistent e lt h) = f.persistent (f.named e (f.arguments lt (items_taken h)))
+fact_taken (g.linear e lt h) = f.linear (f.named e (f.arguments lt (list_taken h)))
+fact_taken (g.persistent e lt h) = f.persistent (f.named e (f.arguments lt (list_taken h)))
 
 variable_not_colon : {tokens rest : List Lexeme} {v : Written} → SpellsVariable tokens v rest → IsNotFirst (sign s.Colon) tokens
 variable_not_colon (g.marked {x = x} {m = m} e h) = λ r d. let i : x ≡ s.Colon = cc in let j : mark_at s.Colon ≡ Some m = subst (λ (y : Sign). mark_at y ≡ Some m) i e in cc
@@ -66,10 +95,16 @@ variable_is_name {w} (g.sorted {w = u} h e) d = let i : u ≡ w = cc in subst (�
 not_no_variable : {tokens rest after : List Lexeme} {v : Written} → SpellsVariable tokens v rest → tokens ≡ word (codes "not") ∷ after → ⊥
 not_no_variable h e = let i = variable_is_name h e in let j = not_is_reserved in let k : true ≡ false = cc in cc
 
+not_no_name : (w : List ℕ) → w ≡ codes "not" → is_reserved w ≡ false → ⊥
+not_no_name w d i = let j : is_reserved (codes "not") ≡ false = subst (λ (y : List ℕ). is_reserved y ≡ false) d i in let k = not_is_reserved in let l : true ≡ false = cc in cc
+
 not_no_term : {n : ℕ} {tokens rest after : List Lexeme} {x : Term Written} → SpellsTerm n tokens x rest → tokens ≡ word (codes "not") ∷ after → ⊥
 not_no_term g.fixed e = cc
 not_no_term (g.variable h) e = not_no_variable h e
 not_no_term (g.brackets lt h) e = cc
+not_no_term (g.tuple lt h) e = cc
+not_no_term (g.application {w = w} i lt h) e = let d : w ≡ codes "not" = cc in not_no_name w d i
+not_no_term (g.braced {w = w} i lt h k) e = let d : w ≡ codes "not" = cc in not_no_name w d i
 
 not_no_fact : {n : ℕ} {tokens rest after : List Lexeme} {x : Fact Written} → SpellsFact n tokens x rest → tokens ≡ word (codes "not") ∷ after → ⊥
 not_no_fact (g.linear {w = w} d lt h) e = let i : w ≡ codes "not" = cc in reserved_no_fact w (subst (λ (y : List ℕ). is_reserved y ≡ true) (sym i) not_is_reserved) d
@@ -91,22 +126,27 @@ unit_not_negated (g.order h k) = λ r e. not_no_variable h e
 record NoTail (rest : List Lexeme) : Type 0 where
   pub no_equals : IsNotFirst (sign s.Equals) rest
   pub no_less : IsNotFirst (sign s.Less) rest
-  pub no_open : IsNotFirst (sign s.Open) rest
-  pub no_colon : IsNotFirst (sign s.Colon) rest
+  pub ends : EndsTerm rest
 
 abbrev IsTail : Sign → Type 0
 IsTail s.Equals = Unit {0}
 IsTail s.Less = Unit {0}
 IsTail s.Open = Unit {0}
+IsTail s.OpenBrace = Unit {0}
 IsTail s.Colon = Unit {0}
 IsTail _ = ⊥
+
+going_tail : (x : Sign) → GoesTermOn x → IsTail x
+going_tail s.Colon g = tt
+going_tail s.Open g = tt
+going_tail s.OpenBrace g = tt
+going_tail _ g = absurd g
 
 no_tail : (x : Sign) (rest : List Lexeme) → (IsTail x → ⊥) → NoTail (sign x ∷ rest)
 no_tail x rest h = record {
   no_equals = λ r e. let i : s.Equals ≡ x = cc in h (subst IsTail i tt);
   no_less = λ r e. let i : s.Less ≡ x = cc in h (subst IsTail i tt);
-  no_open = λ r e. let i : s.Open ≡ x = cc in h (subst IsTail i tt);
-  no_colon = λ r e. let i : s.Colon ≡ x = cc in h (subst IsTail i tt);
+  ends = sign_ends x rest (λ g. h (going_tail x g));
 }
 
 ands_tail : {n : ℕ} {x y : Formula} {tokens rest : List Lexeme} → SpellsAnds n x tokens y rest → NoTail rest → NoTail tokens
@@ -139,11 +179,11 @@ mutual
       from_group (or_else_none (group_no_equality i t.no_equals) (or_else_none (sign_no_order refl) (or_else_none (sign_no_action (λ e. cc)) (no_constant (λ q e. cc) (λ q e. cc))))) (grouped lt i)
   unit_taken (g.every lt b h) t = from_binding all_no_atom (bound lt all_word (binders_taken b) (reach_taken h t))
   unit_taken (g.there_is lt b h) t = from_binding ex_no_atom (bound lt ex_word (binders_taken b) (reach_taken h t))
-  unit_taken g.true_unit t = shallow (second (no_equality_word t.no_equals t.no_colon) (second (no_order_word t.no_less t.no_colon) (second (no_action_word t.no_open) true_word)))
-  unit_taken g.false_unit t = shallow (second (no_equality_word t.no_equals t.no_colon) (second (no_order_word t.no_less t.no_colon) (second (no_action_word t.no_open) false_word)))
-  unit_taken (g.action h k) t = let i = fact_taken h in shallow (second (fact_no_equality i) (second (fact_no_order i) (first (two_sides i (variable_taken k t.no_colon)))))
-  unit_taken (g.equation h k) t = shallow (first (two_sides (term_taken h (λ r e. cc)) (term_taken k t.no_colon)))
-  unit_taken (g.order h k) t = let i = variable_taken h (λ r e. cc) in shallow (second (less_no_equality i) (first (two_sides i (variable_taken k t.no_colon))))
+  unit_taken g.true_unit t = shallow (second (no_equality_word t.no_equals t.ends) (second (no_order_word t.no_less t.ends.no_colon) (second (no_action_word t.ends.no_bracket) true_word)))
+  unit_taken g.false_unit t = shallow (second (no_equality_word t.no_equals t.ends) (second (no_order_word t.no_less t.ends.no_colon) (second (no_action_word t.ends.no_bracket) false_word)))
+  unit_taken (g.action h k) t = let i = fact_taken h in shallow (second (fact_no_equality i) (second (fact_no_order i) (first (two_sides i (variable_taken k t.ends.no_colon)))))
+  unit_taken (g.equation {mid = m} h k) t = shallow (first (two_sides (term_taken h (sign_ends s.Equals m (λ i. i))) (term_taken k t.ends)))
+  unit_taken (g.order h k) t = let i = variable_taken h (λ r e. cc) in shallow (second (less_no_equality i) (first (two_sides i (variable_taken k t.ends.no_colon))))
 
   negation_taken : {n : ℕ} {x : Formula} {tokens rest : List Lexeme} → SpellsNegation n tokens x rest → NoTail rest → Reads a_negation n tokens x rest
   negation_taken (g.unit_alone h) t = positive (unit_not_negated h) (unit_taken h t)

@@ -4,8 +4,8 @@ use Rattle.sp_spec.specs.Formula as f
 use Rattle.sp_spec.specs.Formula.{Formula}
 use Rattle.sp_spec_text.specs.Shapes.{quantified}
 use Rattle.sp_spec_text.specs.Formulas.{quantified_some, equivalent}
-use Rattle.sp_read_parts.specs.Reading.{happening_of, Joint, conjoint, disjoint, join}
-use Rattle.sp_read_parts.specs.Views.{variable, term, fact_of}
+use Rattle.sp_read_parts.specs.Reading.{Joint, conjoint, disjoint, join}
+use Rattle.sp_read_parts.specs.Views.{variable, term, action_of}
 use Rattle.sp_read_parts.specs.declared.written.ReadFormula.{ReadFormula, fold-ReadFormula}
 use Rattle.sp_read_parts.specs.declared.written.ReadFormula.TheOpen.{ReadFormula-F}
 
@@ -18,7 +18,7 @@ chain o f (g ∷ gs) = chain o (join o f g) gs
 abbrev pub formula_step : ReadFormula-F Formula → Formula
 formula_step ReadFormula-F.True = f.truth
 formula_step ReadFormula-F.False = f.falsity
-formula_step (ReadFormula-F.Happens x t) = happening_of (fact_of x) (variable t)
+formula_step (ReadFormula-F.Happens x t) = f.happens (action_of x) (variable t)
 formula_step (ReadFormula-F.Equals a b) = f.equals (term a) (term b)
 formula_step (ReadFormula-F.Precedes a b) = f.precedes (variable a) (variable b)
 formula_step (ReadFormula-F.Not a) = f.not_so a.value

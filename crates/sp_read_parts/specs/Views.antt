@@ -4,19 +4,21 @@ use Rattle.sp_lex.specs.declared.token.Token as lexer
 use Rattle.sp_spec_text.specs.Token.{Lexeme}
 use Rattle.sp_spec_text.specs.Lex.{lexemes}
 use Rattle.sp_lex.specs.Views.{tokens_of}
-use Rattle.sp_spec.specs.Term.{Fresh, Pub, Msg, Term, var}
+use Rattle.sp_spec.specs.Term.{Fresh, Pub, Msg}
 use Rattle.sp_spec.specs.Term as t
-use Rattle.sp_spec.specs.Rule.{Fact}
+use Rattle.sp_spec.specs.Rule as facts
 use Rattle.sp_spec.specs.Formula as f
 use Rattle.sp_spec.specs.Formula.{Written}
 use Rattle.sp_spec.specs.Written as spec
-use Rattle.sp_spec_text.specs.Shapes.{written, fact, rule_of}
+use Rattle.sp_spec_text.specs.Shapes.{written}
+use Rattle.sp_term.specs.View.{view_by, view_all_by}
+use Rattle.sp_term.specs.declared.term.Term.{Term}
+use Rattle.sp_fact.specs.View.{fact_by, action_by, facts_by}
+use Rattle.sp_fact.specs.declared.fact.Fact.{Fact}
+use Rattle.sp_fact.specs.declared.fact.Action.{Action}
 use Rattle.sp_read_parts.specs.declared.written.Mark.{Mark}
 use Rattle.sp_read_parts.specs.declared.written.Mark.TheVariants as m
 use Rattle.sp_read_parts.specs.declared.written.WrittenVariable.{WrittenVariable}
-use Rattle.sp_read_parts.specs.declared.written.WrittenTerm.{WrittenTerm}
-use Rattle.sp_read_parts.specs.declared.written.WrittenTerm.TheVariants as v
-use Rattle.sp_read_parts.specs.declared.written.WrittenFact.{WrittenFact}
 use Rattle.sp_read_parts.specs.declared.written.WrittenRule.{WrittenRule}
 
 -- the tokens as they read
@@ -37,18 +39,23 @@ mark m.Time = f.of_time
 abbrev pub variable : WrittenVariable → Written
 variable x = written x.name.now (mark x.mark)
 
-abbrev pub term : WrittenTerm → Term Written
-term (v.Variable x) = var (variable x)
-term (v.Constant c) = t.constant c.now
+abbrev pub term : Term WrittenVariable → t.Term Written
+term x = view_by variable x
 
-abbrev pub fact_of : WrittenFact → Fact Written
-fact_of f = fact f.symbol.now f.persistent (map term f.arguments.items)
+abbrev pub terms : List (Term WrittenVariable) → t.Terms Written
+terms xs = view_all_by variable xs
 
-abbrev pub facts_of : List WrittenFact → List (Fact Written)
+abbrev pub fact_of : Fact WrittenVariable → facts.Fact Written
+fact_of f = fact_by variable f
+
+abbrev pub facts_of : List (Fact WrittenVariable) → List (facts.Fact Written)
 facts_of fs = map fact_of fs
 
+abbrev pub action_of : Action WrittenVariable → facts.Action Written
+action_of a = action_by variable a
+
 abbrev pub rule : WrittenRule → spec.WrittenRule
-rule r = rule_of r.name.now (facts_of r.premises.items) (facts_of r.actions.items) (facts_of r.conclusions.items)
+rule r = record { name = r.name.now; facts = facts_by variable r.facts }
 
 abbrev pub rules : List WrittenRule → List spec.WrittenRule
 rules rs = map rule rs

@@ -1,8 +1,9 @@
 ghost use Rattle.sp_lex.specs.Views.{sign_of};
 ghost use Rattle.std.specs.Prelude.{◌≡◌, [], ◌∷◌, MatchOption, IfSome, ◌≤◌, ◌<◌, length};
-ghost use Rattle.sp_spec_text.specs.Token.{word, sign};
+ghost use Rattle.sp_spec_text.specs.Token.{word, constant, sign};
 ghost use Rattle.sp_lex.specs.Views.{lexeme_of};
 ghost use Rattle.sp_spec_text.specs.Lists.{IsNotFirst, IsNoWord};
+ghost use Rattle.sp_read_parts.specs.Parts.{IsNoConstant};
 ghost use Rattle.sp_read_parts.specs.Views.{seen_from};
 
 use sp_lex::{Lexeme, Sign, Token};
@@ -48,6 +49,17 @@ pub fn word<'a>(tokens: &[Token<'a>], at: usize) -> Option<(&'a str, usize)>
 {
     match split(tokens, at) {
         Some((Lexeme::Word(found), rest)) => Some((found, rest)),
+        _ => None,
+    }
+}
+
+/// A constant, and the tokens behind it.
+pub fn quoted<'a>(tokens: &[Token<'a>], at: usize) -> Option<(&'a str, usize)>
+    ensures value { MatchOption result (IsNoConstant (seen_from tokens.now at)) (λ x. seen_from tokens.now at ≡ constant x.0.now ∷ seen_from tokens.now x.1) }
+    ensures further { IfSome result (λ x. (at < x.1) × (x.1 ≤ length tokens.now)) }
+{
+    match split(tokens, at) {
+        Some((Lexeme::Constant(found), rest)) => Some((found, rest)),
         _ => None,
     }
 }

@@ -1,7 +1,8 @@
 ghost use Rattle.sp_lex.specs.Views.{sign_of};
 ghost use Rattle.sp_spec_text.specs.Signs as signs;
-ghost use Rattle.std.specs.Prelude.{◌≡◌, [], ◌∷◌, MatchOption, IfSome, IfOk, OnOk, map, ◌++◌, ◌≤◌, ◌<◌, length};
+ghost use Rattle.std.specs.Prelude.{◌≡◌, [], ◌∷◌, MatchOption, IfSome, IfOk, OnOk, ◌++◌, ◌≤◌, ◌<◌, length};
 ghost use Rattle.sp_spec_text.specs.Lists.{NoReading, AreParts, AreItems};
+ghost use Rattle.sp_spec_text.specs.Shapes.{fact};
 ghost use Rattle.sp_read_parts.specs.Parts.{AreArguments, IsNamedFact, IsFact};
 ghost use Rattle.sp_read_parts.specs.Views as view;
 ghost use Rattle.sp_read_parts.specs.Views.{seen_from};
@@ -10,7 +11,9 @@ use crate::cursor::{after, word};
 use crate::terms::{LIMIT, term_list};
 use crate::words::names_fact;
 use crate::written::{WrittenFact, WrittenTerm};
+use sp_fact::fact::Fact;
 use sp_lex::{Sign, Token};
+use sp_term::term::Name;
 use std::alloc::{AllocError, Global};
 
 /// The arguments of a fact in their brackets, and the place behind them.
@@ -22,7 +25,7 @@ pub fn arguments<'a>(
     at: usize,
 ) -> Result<Option<(Vec<WrittenTerm<'a>>, usize)>, AllocError>
     requires { nesting < LIMIT }
-    ensures value { IfOk result (λ o. MatchOption o (NoReading (AreArguments nesting) (seen_from tokens.now at)) (λ x. AreArguments nesting (seen_from tokens.now at) (map view.term x.0.items) (seen_from tokens.now x.1))) }
+    ensures value { IfOk result (λ o. MatchOption o (NoReading (AreArguments nesting) (seen_from tokens.now at)) (λ x. AreArguments nesting (seen_from tokens.now at) (view.terms x.0.items) (seen_from tokens.now x.1))) }
     ensures further { IfOk result (λ o. IfSome o (λ x. (at < x.1) × (x.1 ≤ length tokens.now))) }
 {
     let Some(inside) = after(Sign::Open, tokens, at) else {
@@ -32,6 +35,23 @@ pub fn arguments<'a>(
         return Ok(None);
     };
     Ok(Some((found, rest)))
+}
+
+/// The fact of this name over these arguments.
+fn fact_over<'a>(
+    alloc: Global,
+    symbol: &str,
+    persistent: bool,
+    args: Vec<WrittenTerm<'a>>,
+) -> Result<WrittenFact<'a>, AllocError>
+    ensures { IfOk result (λ f. view.fact_of f ≡ fact symbol.now persistent (view.terms args.entry.items)) }
+{
+    let symbol = Name::new(alloc, symbol)?;
+    Ok(Fact {
+        symbol,
+        persistent,
+        args,
+    })
 }
 
 /// A fact from its name on, and the place behind it.
@@ -53,17 +73,11 @@ pub fn named_fact<'a>(
     if !names_fact(symbol) {
         return Ok(None);
     }
-    let Some((arguments, rest)) = arguments(alloc, nesting, tokens, behind)? else {
+    let Some((args, rest)) = arguments(alloc, nesting, tokens, behind)? else {
         return Ok(None);
     };
-    Ok(Some((
-        WrittenFact {
-            symbol,
-            persistent,
-            arguments,
-        },
-        rest,
-    )))
+    let made = fact_over(alloc, symbol, persistent, args)?;
+    Ok(Some((made, rest)))
 }
 
 /// A fact, and the place behind it.

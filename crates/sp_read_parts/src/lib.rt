@@ -17,7 +17,9 @@ mod written;
 
 ghost use Rattle.sp_read_parts.specs.Closed.{ClosedFormulasAreOne};
 
-pub use written::{Mark, ReadFormula, WrittenFact, WrittenRule, WrittenTerm, WrittenVariable};
+pub use written::{
+    Mark, ReadFormula, WrittenAction, WrittenFact, WrittenRule, WrittenTerm, WrittenVariable,
+};
 
 /// What is spelled before a closing sign, and what follows it, are fixed by the tokens.
 pub fn closed_formulas_are_one()

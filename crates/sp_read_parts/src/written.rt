@@ -1,3 +1,8 @@
+// What texts write: terms and facts are those of any leaves, over variables with their marks.
+
+use sp_fact::fact::{Action, Fact, Facts};
+use sp_term::term::Term;
+
 /// How a text marks a variable.
 #[derive(Clone, Copy)]
 pub enum Mark {
@@ -20,28 +25,20 @@ pub struct WrittenVariable<'a> {
     pub mark: Mark,
 }
 
-/// A term as it is written, without its brackets.
-#[derive(Clone, Copy)]
-pub enum WrittenTerm<'a> {
-    Variable(WrittenVariable<'a>),
-    Constant(&'a str),
-}
+/// A term as it is written, without its brackets; a tuple is pairs within pairs.
+pub type WrittenTerm<'a> = Term<WrittenVariable<'a>>;
 
-/// A fact, or an action, in which the mark of persistence says nothing.
-#[derive(Drop)]
-pub struct WrittenFact<'a> {
-    pub symbol: &'a str,
-    pub persistent: bool,
-    pub arguments: Vec<WrittenTerm<'a>>,
-}
+/// A fact as it is written.
+pub type WrittenFact<'a> = Fact<WrittenVariable<'a>>;
+
+/// An action as it is written, without an exclamation mark, which says nothing there.
+pub type WrittenAction<'a> = Action<WrittenVariable<'a>>;
 
 /// A rule as it is written.
 #[derive(Drop)]
 pub struct WrittenRule<'a> {
     pub name: &'a str,
-    pub premises: Vec<WrittenFact<'a>>,
-    pub actions: Vec<WrittenFact<'a>>,
-    pub conclusions: Vec<WrittenFact<'a>>,
+    pub facts: Facts<WrittenVariable<'a>>,
 }
 
 /// A formula as it is written.
@@ -50,7 +47,7 @@ pub enum ReadFormula<'a> {
     True,
     False,
     /// `fact @ variable`
-    Happens(WrittenFact<'a>, WrittenVariable<'a>),
+    Happens(WrittenAction<'a>, WrittenVariable<'a>),
     Equals(WrittenTerm<'a>, WrittenTerm<'a>),
     Precedes(WrittenVariable<'a>, WrittenVariable<'a>),
     Not(Box<ReadFormula<'a>>),

@@ -53,3 +53,13 @@ no_rule kind.Out a b h = let n = ap two_bytes h in omega arith
 no_rule kind.In a b h = let n = ap two_bytes h in omega arith
 no_rule kind.Public a b h = let n = ap two_bytes h in omega arith
 no_rule kind.Own a b h = let n = ap two_bytes h in omega arith
+
+pub no_make : (k : Kind) (a b : List ℕ) → codes "make " ++ a ≡ kind_text k ++ b → ⊥
+no_make kind.Fresh a b h = let n = ap two_bytes h in omega arith
+no_make kind.Out a b h = let n = ap two_bytes h in omega arith
+no_make kind.In a b h = let n = ap two_bytes h in omega arith
+no_make kind.Public a b h = let n = ap two_bytes h in omega arith
+no_make kind.Own a b h = let n = ap two_bytes h in omega arith
+
+pub rule_no_make : (a b : List ℕ) → codes "rule " ++ a ≡ codes "make " ++ b → ⊥
+rule_no_make a b h = let n = ap two_bytes h in omega arith

@@ -11,6 +11,7 @@ pub mod Spoken
 pub mod Written
 pub mod FirstWords
 pub mod Exits
+pub mod ApplicationTexts
 pub mod StepTexts
 pub mod Passed
 pub mod Laws

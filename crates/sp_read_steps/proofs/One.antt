@@ -1,12 +1,12 @@
 -- Bytes are read in one way.
-use Rattle.std.proofs.Common.{◌≡◌, ℕ, List, [], Some, None, sym, ap, subst, ◌∙◌, arith}
+use Rattle.std.proofs.Common.{◌≡◌, ℕ, List, [], ◌∷◌, Some, None, sym, ap, subst, ◌∙◌, arith}
 use Rattle.sp_spec.specs.Term.{Ground}
 use Rattle.sp_spec.specs.Signature.{Symbol}
 use Rattle.sp_spec.specs.Execution.{Step}
 use Rattle.sp_read_steps.specs.declared.parts.Kind.{Kind}
-use Rattle.sp_read_steps.specs.Reading.{whole, over, opened, nothing, head, applied, paired, Reads, read_whole, read_over, read_pair, ReadsRow, last_term, next_term, NoReading, ReadsGiven, read_given, ReadsValues, last_value, next_value, ReadsRule, no_values, with_values, step_over, ReadsStep, read_rule, read_term}
+use Rattle.sp_read_steps.specs.Reading.{whole, over, opened, nothing, head, applied, paired, Reads, read_whole, read_over, read_pair, ReadsRow, last_term, next_term, NoReading, ReadsGiven, read_given, ReadsValues, last_value, next_value, ReadsRule, no_values, with_values, named, unpaired, pairing, ReadsApplication, no_terms, with_terms, with_parts, step_over, ReadsStep, read_rule, read_application, read_term}
 use Rattle.sp_read_steps.proofs.Found.{some_both}
-use Rattle.sp_read_steps.proofs.FirstWords.{kinds_one, no_rule}
+use Rattle.sp_read_steps.proofs.FirstWords.{kinds_one, no_rule, no_make, rule_no_make}
 
 pub at_nothing : {symbols : List Symbol} {bytes q : List ℕ} {u : Ground} → Reads symbols bytes u q → head symbols bytes ≡ nothing → ⊥
 at_nothing (read_whole e) h = cc
@@ -118,11 +118,42 @@ rule_one {symbols} (with_values {mid = i} n k) (with_values {mid = j} {gs = hs} 
     let v = values_one k (subst (λ (b : List ℕ). ReadsValues symbols b hs []) e l) in
     cc
 
+-- no name begins with the bracket of a pair
+pub no_name_opens : {bytes inside : List ℕ} {w : List ℕ × List ℕ} → named bytes ≡ Some w → bytes ≡ 60 ∷ inside → ⊥
+no_name_opens n e = let none = sym n ∙ ap named e in cc
+
+pub application_one : {symbols : List Symbol} {bytes r q : List ℕ} {s u : Step} → ReadsApplication symbols bytes s r → ReadsApplication symbols bytes u q → s ≡ u
+application_one (no_terms n) (no_terms m) = let s = some_both (sym n ∙ m) in cc
+application_one (no_terms n) (with_terms m k a) = let s = some_both (sym n ∙ m) in absurd (let none : ⊥ = cc in none)
+application_one (no_terms n) (with_parts e k a) = absurd (no_name_opens n e)
+application_one (with_terms n k a) (no_terms m) = let s = some_both (sym n ∙ m) in absurd (let none : ⊥ = cc in none)
+application_one {symbols} {u = u} (with_terms {f = f} {inside = i} {ts = ts} n k a) (with_terms {f = g} {inside = j} {ts = us} m l b) =
+    let s = some_both (sym n ∙ m) in
+    let e : j ≡ i = cc in
+    let o = row_one (λ c. let none : ⊥ = omega arith in none) k (subst (λ (x : List ℕ). ReadsRow symbols 41 x us []) e l) in
+    let c : unpaired f ts ≡ Some u = ap (λ (x : List ℕ). unpaired x ts) s.0 ∙ ap (unpaired g) o.0 ∙ b in
+    cc
+application_one (with_terms n k a) (with_parts e l b) = absurd (no_name_opens n e)
+application_one (with_parts e k a) (no_terms m) = absurd (no_name_opens m e)
+application_one (with_parts e k a) (with_terms m l b) = absurd (no_name_opens m e)
+application_one {symbols} {u = u} (with_parts {inside = i} {ts = ts} e k a) (with_parts {inside = j} {ts = us} f l b) =
+    let g : j ≡ i = cc in
+    let o = row_one (λ c. let none : ⊥ = omega arith in none) k (subst (λ (x : List ℕ). ReadsRow symbols 62 x us []) g l) in
+    let c : pairing symbols ts ≡ Some u = ap (pairing symbols) o.0 ∙ b in
+    cc
+
 pub step_one : {symbols : List Symbol} {bytes r q : List ℕ} {s u : Step} → ReadsStep symbols bytes s r → ReadsStep symbols bytes u q → s ≡ u
 step_one {symbols} {u = u} (read_rule {behind = a} e k) (read_rule {behind = b} f l) =
     let h : b ≡ a = cc in
     rule_one k (subst (λ (x : List ℕ). ReadsRule symbols x u []) h l)
 step_one (read_rule {behind = a} e k) (read_term {behind = b} j f l) = absurd (no_rule j a b (sym e ∙ f))
+step_one (read_rule {behind = a} e k) (read_application {behind = b} f l) = absurd (rule_no_make a b (sym e ∙ f))
+step_one (read_application {behind = a} e k) (read_rule {behind = b} f l) = absurd (rule_no_make b a (sym f ∙ e))
+step_one {symbols} {u = u} (read_application {behind = a} e k) (read_application {behind = b} f l) =
+    let h : b ≡ a = cc in
+    application_one k (subst (λ (x : List ℕ). ReadsApplication symbols x u []) h l)
+step_one (read_application {behind = a} e k) (read_term {behind = b} j f l) = absurd (no_make j a b (sym e ∙ f))
+step_one (read_term {behind = a} j e k) (read_application {behind = b} f l) = absurd (no_make j b a (sym f ∙ e))
 step_one (read_term {behind = a} j e k) (read_rule {behind = b} f l) = absurd (no_rule j b a (sym f ∙ e))
 step_one {symbols} (read_term {behind = a} i {t = t} e k) (read_term {behind = b} j {t = u} f l) =
     let o = kinds_one i j a b (sym e ∙ f) in

@@ -31,7 +31,7 @@ next_text t ts end h =
 
 -- ---- symbols over terms
 
-over_text : (f : List ℕ) (ts : List Ground) → 0 < length ts → is_pair f (row ts) ≡ false → term_text (app f (row ts)) ≡ f ++ 40 ∷ (arguments_text (row ts) ++ 41 ∷ [])
+pub over_text : (f : List ℕ) (ts : List Ground) → 0 < length ts → is_pair f (row ts) ≡ false → term_text (app f (row ts)) ≡ f ++ 40 ∷ (arguments_text (row ts) ++ 41 ∷ [])
 over_text f [] s h = absurd (let none : ⊥ = omega arith in none)
 over_text f (t ∷ ts) s h = rw h (ap (λ (xs : List ℕ). f ++ 40 ∷ xs) (sym (append_assoc (term_text t) (row_text false (row ts)) (41 ∷ []))))
 
@@ -64,12 +64,12 @@ alone_text (app f none) h = refl
 alone_text (app f (more t ts)) h = rw h refl
 
 -- the parts of a pair
-record Parts (t : Ground) (ts : List Ground) (w : Ground) : Type 0 where
-  right : Ground
-  behind : chain ts ≡ Some right
-  is : pair t right ≡ w
+pub record Parts (t : Ground) (ts : List Ground) (w : Ground) : Type 0 where
+  pub right : Ground
+  pub behind : chain ts ≡ Some right
+  pub is : pair t right ≡ w
 
-parts_of : (t : Ground) (ts : List Ground) (w : Ground) → paired_with t (chain ts) ≡ Some w → Parts t ts w
+pub parts_of : (t : Ground) (ts : List Ground) (w : Ground) → paired_with t (chain ts) ≡ Some w → Parts t ts w
 parts_of t ts w h = by_case (chain ts) refl h
   where
     by_case : (o : Option Ground) → chain ts ≡ o → paired_with t o ≡ Some w → Parts t ts w
@@ -77,7 +77,7 @@ parts_of t ts w h = by_case (chain ts) refl h
     by_case (Some u) e k = record { right = u; behind = e; is = cc }
 
 -- a term alone is no pair
-alone : (t w : Ground) → chain (t ∷ []) ≡ Some w → (is_pair_term t ≡ false) × (t ≡ w)
+pub alone : (t w : Ground) → chain (t ∷ []) ≡ Some w → (is_pair_term t ≡ false) × (t ≡ w)
 alone t w h = by_test (is_pair_term t) refl h
   where
     by_test : (x : Bool) → is_pair_term t ≡ x → cond {A = Option Ground} x None (Some t) ≡ Some w → (is_pair_term t ≡ false) × (t ≡ w)
@@ -94,7 +94,7 @@ chain_text (t ∷ u ∷ us) w h =
     let r = chain_text (u ∷ us) p.right p.behind in
     ap (text_at true) (sym p.is) ∙ ap (λ (xs : List ℕ). text_at false t ++ 44 ∷ 32 ∷ xs) (append-nil (text_at true p.right) ∙ r)
 
-chain_writable : (symbols : List Symbol) (ts : List Ground) (w : Ground) → HasSymbol symbols (codes "pair") 2 → AreWritable symbols (row ts) → chain ts ≡ Some w → IsWritable symbols w
+pub chain_writable : (symbols : List Symbol) (ts : List Ground) (w : Ground) → HasSymbol symbols (codes "pair") 2 → AreWritable symbols (row ts) → chain ts ≡ Some w → IsWritable symbols w
 chain_writable symbols [] w s a h = absurd (let none : ⊥ = cc in none)
 chain_writable symbols (t ∷ []) w s a h = subst (IsWritable symbols) (alone t w h).1 a.0
 chain_writable symbols (t ∷ u ∷ us) w s a h =
@@ -102,7 +102,7 @@ chain_writable symbols (t ∷ u ∷ us) w s a h =
     subst (IsWritable symbols) p.is (s, (a.0, (chain_writable symbols (u ∷ us) p.right s a.1 p.behind, tt)))
 
 -- the text of a pair is its terms in brackets
-tuple_text : (ts : List Ground) (w : Ground) → tuple ts ≡ Some w → term_text w ≡ 60 ∷ (arguments_text (row ts) ++ 62 ∷ [])
+pub tuple_text : (ts : List Ground) (w : Ground) → tuple ts ≡ Some w → term_text w ≡ 60 ∷ (arguments_text (row ts) ++ 62 ∷ [])
 tuple_text [] w h = absurd (let none : ⊥ = cc in none)
 tuple_text (t ∷ []) w h = absurd (let none : ⊥ = cc in none)
 tuple_text (t ∷ u ∷ us) w h =

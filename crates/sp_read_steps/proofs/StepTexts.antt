@@ -9,11 +9,12 @@ use Rattle.sp_spec_text.specs.Printed.{term_text, given_text, more_given_text, s
 use Rattle.sp_read_steps.specs.declared.parts.Kind.{Kind}
 use Rattle.sp_read_steps.specs.declared.parts.Kind.TheVariants as kind
 use Rattle.sp_spec_text.specs.StepLines.{HaveNames, IsWritable, IsGiven, IsWritableStep, IsStepLine}
-use Rattle.sp_read_steps.specs.Reading.{ends, kind_text, step_over, Reads, ReadsGiven, read_given, ReadsValues, last_value, next_value, ReadsRule, no_values, with_values, ReadsStep, read_rule, read_term}
+use Rattle.sp_read_steps.specs.Reading.{ends, kind_text, step_over, Reads, ReadsGiven, read_given, ReadsValues, last_value, next_value, ReadsRule, no_values, with_values, ReadsApplication, ReadsStep, read_rule, read_application, read_term}
 use Rattle.sp_read_steps.proofs.Words.{Stops, named_is, named_parts, named_before}
 use Rattle.sp_read_steps.proofs.Heads.{TextAt}
 use Rattle.sp_read_steps.proofs.Spoken.{reads_text}
 use Rattle.sp_read_steps.proofs.Written.{is_read}
+use Rattle.sp_read_steps.proofs.ApplicationTexts.{application_at, application_read}
 
 -- a value, and what stands behind it
 abbrev value_text : List ℕ × Ground → List ℕ → List ℕ
@@ -74,6 +75,11 @@ rule_line symbols (with_values {bytes = b} {r = r} {mid = mid} {gs = gs} n k) by
       writable = (named_is b r (58 ∷ 32 ∷ mid) n, v.are);
     }
 
+application_line : (symbols : List Symbol) {behind rest : List ℕ} {s : Step} → ReadsApplication symbols behind s rest → (bytes : List ℕ) → bytes ≡ codes "make " ++ behind → IsStepLine symbols bytes s
+application_line symbols {s = s} k bytes e =
+    let a = application_at symbols k in
+    subst (IsStepLine symbols bytes) a.is (record { text = e ∙ ap (λ (xs : List ℕ). codes "make " ++ xs) a.parts; writable = a.writable })
+
 over_line : (symbols : List Symbol) (k : Kind) (bytes behind : List ℕ) (t : Ground) → bytes ≡ kind_text k ++ behind → TextAt symbols behind t [] → IsStepLine symbols bytes (step_over k t)
 over_line symbols kind.Fresh bytes behind t e a = record { text = e ∙ ap (λ (xs : List ℕ). codes "fresh " ++ xs) (a.parts ∙ append-nil (term_text t)); writable = a.writable }
 over_line symbols kind.Out bytes behind t e a = record { text = e ∙ ap (λ (xs : List ℕ). codes "out " ++ xs) (a.parts ∙ append-nil (term_text t)); writable = a.writable }
@@ -83,6 +89,7 @@ over_line symbols kind.Own bytes behind t e a = record { text = e ∙ ap (λ (xs
 
 pub line_of_step : (symbols : List Symbol) {bytes rest : List ℕ} {s : Step} → ReadsStep symbols bytes s rest → IsStepLine symbols bytes s
 line_of_step symbols (read_rule {bytes} e k) = rule_line symbols k bytes e
+line_of_step symbols (read_application {bytes} e k) = application_line symbols k bytes e
 line_of_step symbols (read_term {bytes} {behind} k {t} e r) = over_line symbols k bytes behind t e (reads_text symbols r)
 
 -- ---- from the text to what is read
@@ -114,4 +121,4 @@ step_of_text symbols h bytes (take_out t) e w = read_term kind.Out e (whole_read
 step_of_text symbols h bytes (put_in t) e w = read_term kind.In e (whole_read symbols h t w)
 step_of_text symbols h bytes (know_public t) e w = read_term kind.Public e (whole_read symbols h t w)
 step_of_text symbols h bytes (make_own t) e w = read_term kind.Own e (whole_read symbols h t w)
-step_of_text symbols h bytes (apply_symbol f ts) e w = absurd w
+step_of_text symbols h bytes (apply_symbol f ts) e w = read_application e (application_read symbols h f ts w.0 w.1)

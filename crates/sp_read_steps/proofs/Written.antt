@@ -35,7 +35,7 @@ holds_has (s ∷ symbols) f n (p, inr m) = rw (holds_has symbols f n (p, m)) (or
 -- ---- what ends a term
 
 -- behind a word
-stops_ends : (rest : List ℕ) → ends rest ≡ true → Stops rest
+pub stops_ends : (rest : List ℕ) → ends rest ≡ true → Stops rest
 unfolding skip
 stops_ends [] h = record { no_digit = refl; skipped = refl }
 stops_ends (b ∷ rest) h = by_test (b == 44) (b == 41) (b == 62) refl refl refl h
@@ -149,8 +149,8 @@ read_name : (symbols : List Symbol) (n : ℕ) (rest : List ℕ) → 0 < n → n 
 read_name symbols n rest p h e = read_whole (head_name symbols n rest p h e)
 
 -- the texts of terms behind a first one, with a comma before each, are read as a row
-record AreRead (symbols : List Symbol) (ts : Grounds) : Type 0 where
-  in_row : (t : Ground) → IsRead symbols t → (rest : List ℕ) → ReadsRow symbols 41 (text_at false t ++ (row_text false ts ++ 41 ∷ rest)) (t ∷ list_of ts) rest
+pub record AreRead (symbols : List Symbol) (ts : Grounds) : Type 0 where
+  pub in_row : (t : Ground) → IsRead symbols t → (rest : List ℕ) → ReadsRow symbols 41 (text_at false t ++ (row_text false ts ++ 41 ∷ rest)) (t ∷ list_of ts) rest
 
 none_read : (symbols : List Symbol) → AreRead symbols none
 none_read symbols = record { in_row = λ t r rest. last_term (r.at_end (41 ∷ rest) refl) }
@@ -231,6 +231,6 @@ mutual
       read_applied symbols f t (more u (more v ts)) (symbol_named symbols f n s w.0) (holds_has symbols f n w.0) (and-false (bytes_eq f (codes "pair"))) (is_read symbols s t w.1.0)
       (more_read symbols u (more v ts) (is_read symbols s u w.1.1.0) (more_read symbols v ts (is_read symbols s v w.1.1.1.0) (are_read symbols s ts w.1.1.1.1)))
 
-  are_read : (symbols : List Symbol) → HaveNames symbols → (ts : Grounds) → AreWritable symbols ts → AreRead symbols ts
+  pub are_read : (symbols : List Symbol) → HaveNames symbols → (ts : Grounds) → AreWritable symbols ts → AreRead symbols ts
   are_read symbols s none w = none_read symbols
   are_read symbols s (more t ts) w = more_read symbols t ts (is_read symbols s t w.0) (are_read symbols s ts w.1)

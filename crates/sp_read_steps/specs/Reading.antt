@@ -7,7 +7,7 @@ use Rattle.sp_spec_text.specs.Lex.{is_first, is_digit, skip, before}
 use Rattle.sp_spec_text.specs.Names.{is_reserved}
 use Rattle.sp_spec.specs.Term.{var, constant, name, app, none, Ground}
 use Rattle.sp_spec.specs.Signature.{Symbol, pair}
-use Rattle.sp_spec.specs.Execution.{Step, make_fresh, use_rule, take_out, put_in, know_public, make_own}
+use Rattle.sp_spec.specs.Execution.{Step, make_fresh, use_rule, take_out, put_in, know_public, make_own, apply_symbol}
 use Rattle.sp_ground.specs.View.{row}
 use Rattle.sp_spec_text.specs.Printed.{is_pair}
 use Rattle.sp_spec_text.specs.Numerals.{are_digits, value, below_limit}
@@ -166,6 +166,32 @@ pub data ReadsRule (symbols : List Symbol) : List ℕ → Step → List ℕ → 
   no_values : {bytes r : List ℕ} → named bytes ≡ Some (r, 58 ∷ []) → ReadsRule symbols bytes (use_rule r []) []
   with_values : {bytes r mid : List ℕ} {gs : List (List ℕ × Ground)} → named bytes ≡ Some (r, 58 ∷ 32 ∷ mid) → ReadsValues symbols mid gs [] → ReadsRule symbols bytes (use_rule r gs) []
 
+-- the step of the pair of these two
+abbrev pub pair_of : Ground → Ground → Step
+pair_of t u = apply_symbol (codes "pair") (row (t ∷ u ∷ []))
+
+-- the same where there are both
+abbrev pub pair_step : Ground → Option Ground → Option Step
+pair_step t None = None
+pair_step t (Some u) = Some (pair_of t u)
+
+-- The step of the pair of these terms. Of more than two the right part is a pair inside of it, which must be over the symbols.
+abbrev pub pairing : List Symbol → List Ground → Option Step
+pairing symbols [] = None
+pairing symbols (t ∷ []) = None
+pairing symbols (t ∷ u ∷ []) = pair_step t (chain (u ∷ []))
+pairing symbols (t ∷ u ∷ w ∷ ws) = if has_symbol symbols (codes "pair") 2 then pair_step t (chain (u ∷ w ∷ ws)) else None
+
+-- the step of the symbol over these terms; a pair is not written so
+abbrev pub unpaired : List ℕ → List Ground → Option Step
+unpaired f ts = if is_pair f (row ts) then None else Some (apply_symbol f (row ts))
+
+-- behind the word `make`: any name, alone or over terms
+pub data ReadsApplication (symbols : List Symbol) : List ℕ → Step → List ℕ → Type 0 where
+  no_terms : {bytes f : List ℕ} → named bytes ≡ Some (f, []) → ReadsApplication symbols bytes (apply_symbol f none) []
+  with_terms : {bytes f inside : List ℕ} {ts : List Ground} {s : Step} → named bytes ≡ Some (f, 40 ∷ inside) → ReadsRow symbols 41 inside ts [] → unpaired f ts ≡ Some s → ReadsApplication symbols bytes s []
+  with_parts : {bytes inside : List ℕ} {ts : List Ground} {s : Step} → bytes ≡ 60 ∷ inside → ReadsRow symbols 62 inside ts [] → pairing symbols ts ≡ Some s → ReadsApplication symbols bytes s []
+
 abbrev pub kind_text : Kind → List ℕ
 kind_text kind.Fresh = codes "fresh "
 kind_text kind.Out = codes "out "
@@ -187,6 +213,7 @@ pub record NoKind (bytes : List ℕ) : Type 0 where
 -- a step, up to the end of the line
 pub data ReadsStep (symbols : List Symbol) : List ℕ → Step → List ℕ → Type 0 where
   read_rule : {bytes behind : List ℕ} {s : Step} → bytes ≡ codes "rule " ++ behind → ReadsRule symbols behind s [] → ReadsStep symbols bytes s []
+  read_application : {bytes behind : List ℕ} {s : Step} → bytes ≡ codes "make " ++ behind → ReadsApplication symbols behind s [] → ReadsStep symbols bytes s []
   read_term : {bytes behind : List ℕ} (k : Kind) {t : Ground} → bytes ≡ kind_text k ++ behind → Reads symbols behind t [] → ReadsStep symbols bytes (step_over k t) []
 
 -- ---- lines

@@ -7,6 +7,7 @@
 
 ghost use Rattle.sp_read_steps.specs.Laws.{StepsAreOne};
 
+mod applications;
 mod parts;
 mod read;
 mod steps;

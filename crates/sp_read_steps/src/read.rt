@@ -43,8 +43,8 @@ fn take_line(
 
 /// The steps of the lines of a text, or the number of its first line that isn't blank and is no step's.
 ///
-/// A line is a step's where, without the blanks around it, it is the text that the step prints; uses of symbols by the adversary are not
-/// read yet.
+/// A line is a step's where, without the blanks around it, it is the text that the step prints. What the adversary applies may be any
+/// name; whether it is a symbol is not asked here.
 ///
 /// # Errors
 ///

@@ -6,6 +6,7 @@ ghost use Rattle.sp_read_steps.specs.Reading as spec;
 ghost use Rattle.sp_read_steps.specs.Reading.{NoReading, NoWhole, NoKind, Reads, ReadsGiven, ReadsValues, ReadsRule, ReadsStep};
 ghost use Rattle.sp_read_steps.specs.View.{symbols_of};
 
+use crate::applications::application;
 use crate::parts::Kind;
 use crate::terms::term;
 use crate::texts::{after, behind, is_nothing, name};
@@ -156,6 +157,10 @@ pub fn step_of_line(
 {
     if let Some(rest) = after(line, b"rule ") {
         let made = rule(alloc, symbols, rest)?;
+        return Ok(made);
+    }
+    if let Some(rest) = after(line, b"make ") {
+        let made = application(alloc, symbols, rest)?;
         return Ok(made);
     }
     let Some((kind, rest)) = first_word(line) else {

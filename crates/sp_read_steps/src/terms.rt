@@ -22,7 +22,7 @@ use std::alloc::{AllocError, Global};
 use std::rc::Rc;
 
 /// Whether there is a symbol of this name, over as many arguments.
-fn has_symbol(symbols: &Vec<Symbol>, name: &str, arity: usize) -> bool
+pub fn has_symbol(symbols: &Vec<Symbol>, name: &str, arity: usize) -> bool
     ensures { result ≡ spec.has_symbol (symbols_of symbols.now.items) name.now arity }
 {
     for symbol in symbols {
@@ -153,7 +153,7 @@ fn are_two(terms: &Vec<GroundTerm>) -> bool
 }
 
 /// Whether the symbol over these terms is a pair.
-fn is_pair(symbol: &str, terms: &Vec<GroundTerm>) -> bool
+pub fn is_pair(symbol: &str, terms: &Vec<GroundTerm>) -> bool
     ensures { result ≡ text_spec.is_pair symbol.now (row (map ground_of terms.now.items)) }
 {
     symbol == "pair" && are_two(terms)
@@ -213,7 +213,7 @@ fn pop(terms: &mut Vec<GroundTerm>) -> Option<GroundTerm>
 
 /// Pairs nested on the right; none where the last of the terms is a pair.
 #[tactic(auto, using(crate::proofs::Pairs::chains))]
-fn chain(alloc: Global, mut terms: Vec<GroundTerm>) -> Result<Option<GroundTerm>, AllocError>
+pub fn chain(alloc: Global, mut terms: Vec<GroundTerm>) -> Result<Option<GroundTerm>, AllocError>
     ensures { IfOk result (λ o. option_map ground_of o ≡ spec.chain (map ground_of terms.items)) }
 {
     let Some(last) = pop(&mut terms) else {
@@ -293,7 +293,7 @@ pub fn term<'a>(
 
 /// Terms with a comma and a space between two, up to a closing byte, and what stands behind that.
 #[cycle(term)]
-fn row<'a>(
+pub fn row<'a>(
     alloc: Global,
     symbols: &Vec<Symbol>,
     room: u32,

@@ -3,17 +3,18 @@ use Rattle.std.proofs.Common.{◌≡◌, List, [], ◌∷◌, ◌++◌, codes, r
 use Rattle.std.proofs.lemmas.List.{append-nil}
 use Rattle.sp_spec_text.specs.Token.{Lexeme, word, Token}
 use Rattle.sp_spec_text.specs.Lex.{lexemes}
-use Rattle.sp_spec.specs.Written.{WrittenRule}
-use Rattle.sp_spec_text.specs.Written.{Item, rule_item}
+use Rattle.sp_spec_text.specs.Written.{Item}
 use Rattle.sp_written.specs.declared.theory.Item as rust
 use Rattle.sp_written.specs.declared.theory.Item.TheVariants as i
 use Rattle.sp_spec_text.specs.Spans.{Span}
 use Rattle.sp_spec_text.specs.Lists.{IsNotFirst, NoReading}
-use Rattle.sp_spec_text.specs.Theories.{SpellsRule, SpellsLemma, SpellsItems, no_item, rule_first, lemma_first}
-use Rattle.sp_read_theory.specs.Items.{ReadsItem, a_rule, a_lemma, NoItem, the_end, AreItemsToEnd, NoItems}
-use Rattle.sp_spec_text.specs.Spans.{EndsWith, AreSpans, no_span, past_rule, past_lemma}
+use Rattle.sp_spec_text.specs.Theories.{SpellsLemma, SpellsItems, no_item, declaration_first, lemma_first}
+use Rattle.sp_read_theory.specs.Items.{IsDeclaration, ReadsItem, a_declaration, a_lemma, NoItem, the_end, AreItemsToEnd, NoItems}
+use Rattle.sp_spec_text.specs.Spans.{EndsWith, AreSpans, no_span, past_declaration, past_lemma}
 use Rattle.sp_read_theory.specs.Views as view
-use Rattle.sp_read_theory.proofs.One.{rule_not_end, lemma_not_end, Behind, behind_rule, behind_lemma}
+use Rattle.sp_read_theory.proofs.One.{lemma_not_end}
+use Rattle.sp_read_theory.proofs.Declared.{declaration_spelled, declaration_taken, declaration_not_end}
+use Rattle.sp_read_theory.proofs.OneTheory.{items_word, Behind, behind_declaration, behind_lemma}
 use Rattle.sp_read_theory.proofs.Suffix.{ends_with}
 
 -- these items stand before the rest, and the proofs of their lemmas have these spans
@@ -28,15 +29,15 @@ gone_none tokens = record { goes = λ xs h. h; places = λ xs ss h. h; stops = �
 -- ---- one item
 
 before_items : {tokens rest : List Token} {x : Item} {spans : List Span} {others : List Item} → ReadsItem tokens x spans rest → AreItemsToEnd (lexemes rest) others → AreItemsToEnd (lexemes tokens) (x ∷ others)
-before_items (a_rule r e) h = rule_first r h
+before_items (a_declaration r e) h = declaration_first (declaration_spelled r) h
 before_items (a_lemma l b p) h = lemma_first l p.spells h
 
 before_spans : {tokens rest : List Token} {x : Item} {spans more : List Span} {others : List Item} → ReadsItem tokens x spans rest → AreSpans rest others more → AreSpans tokens (x ∷ others) (spans ++ more)
-before_spans (a_rule r e) h = past_rule r e h
+before_spans (a_declaration r e) h = past_declaration (declaration_spelled r) e h
 before_spans (a_lemma l b p) h = past_lemma l b p.spells p.ends h
 
 behind_item : {tokens rest : List Token} {x : Item} {spans : List Span} {items : List Item} → ReadsItem tokens x spans rest → AreItemsToEnd (lexemes tokens) items → Behind x (lexemes rest) items
-behind_item (a_rule r e) h = behind_rule r h
+behind_item (a_declaration r e) h = behind_declaration r h
 behind_item (a_lemma l b p) h = behind_lemma l p.spells p.greedy h
 
 pub gone_item : {tokens rest mid : List Token} {items : List Item} {spans more : List Span} {x : Item} → Gone tokens items spans rest → ReadsItem rest x more mid → Gone tokens (items ++ x ∷ []) (spans ++ more) mid
@@ -46,19 +47,22 @@ gone_item {x = x} g r = record {
   stops = λ n. g.stops (record { none = λ xs h. let b = behind_item r h in n.none b.others b.spelled });
 }
 
--- a rule has no proof, a lemma one span
+-- a declaration has no proof, a lemma one span
 pub spans_more : (xs ys : List rust.Item) → view.spans (xs ++ ys) ≡ view.spans xs ++ view.spans ys
 spans_more [] ys = refl
+spans_more (i.Builtins bs ∷ xs) ys = spans_more xs ys
+spans_more (i.Functions ss ∷ xs) ys = spans_more xs ys
+spans_more (i.Equations es ∷ xs) ys = spans_more xs ys
 spans_more (i.Rule r ∷ xs) ys = spans_more xs ys
 spans_more (i.Lemma l ∷ xs) ys = ap (λ (ss : List Span). view.span_of l.span ∷ ss) (spans_more xs ys)
 
-pub rule_item_at : {r : WrittenRule} {tokens rest : List Token} → SpellsRule (lexemes tokens) r (lexemes rest) → EndsWith tokens rest → ReadsItem tokens (rule_item r) [] rest
-rule_item_at h e = a_rule h e
+pub declaration_item_at : {x : Item} {spans : List Span} {tokens rest : List Token} → IsDeclaration (lexemes tokens) x (lexemes rest) → EndsWith tokens rest → spans ≡ [] → ReadsItem tokens x spans rest
+declaration_item_at h e n = rw n (a_declaration h e)
 
-pub no_item_at : {tokens : List Lexeme} → NoReading SpellsRule tokens → NoReading SpellsLemma tokens → NoItem tokens
-no_item_at n m = record { no_rule = n; no_lemma = m }
+pub no_item_at : {tokens : List Lexeme} → NoReading IsDeclaration tokens → NoReading SpellsLemma tokens → NoItem tokens
+no_item_at n m = record { no_declaration = n; no_lemma = m }
 
-pub ruleset one_item = (rule_item_at, no_item_at, ends_with)
+pub ruleset one_item = (declaration_item_at, no_item_at, ends_with)
 
 -- ---- the end
 
@@ -75,7 +79,7 @@ gone_too_far g e d = g.stops (record { none = λ xs h. at h refl e d })
   where
     at : {rest after ends : List Lexeme} {xs : List Item} → SpellsItems rest xs ends → ends ≡ the_end → rest ≡ word (codes "end") ∷ after → (after ≡ [] → ⊥) → ⊥
     at no_item f e d = d cc
-    at (rule_first r h) f e d = rule_not_end r e
+    at (declaration_first r h) f e d = declaration_not_end r e
     at (lemma_first l p h) f e d = lemma_not_end l e
 
 pub gone_nowhere : {tokens rest : List Token} {items : List Item} {spans : List Span} → Gone tokens items spans rest → IsNotFirst (word (codes "end")) (lexemes rest) → NoItem (lexemes rest) → NoItems (lexemes tokens)
@@ -83,7 +87,7 @@ gone_nowhere g d n = g.stops (record { none = λ xs h. at h refl d n })
   where
     at : {rest ends : List Lexeme} {xs : List Item} → SpellsItems rest xs ends → ends ≡ the_end → IsNotFirst (word (codes "end")) rest → NoItem rest → ⊥
     at no_item f d n = d [] f
-    at (rule_first {r = r} {mid = m} k h) f d n = n.no_rule.none r m k
+    at (declaration_first {x = x} {mid = m} k h) f d n = n.no_declaration.none x m (declaration_taken k (items_word h f))
     at (lemma_first {l = l} {behind = b} k p h) f d n = n.no_lemma.none l b k
 
 pub nothing_follows : {tokens last : List Lexeme} → tokens ≡ word (codes "end") ∷ last → last ≡ [] → tokens ≡ the_end

@@ -1,6 +1,11 @@
 pub mod One
 pub mod RuleParts
 pub mod LemmaParts
+pub mod Listed
+pub mod Numbers
+pub mod SymbolParts
+pub mod Declared
+pub mod OneTheory
 pub mod Suffix
 pub mod Spans
 pub mod Gone

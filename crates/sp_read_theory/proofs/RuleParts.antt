@@ -1,13 +1,13 @@
 -- Rules and the opening of a theory from their parts, and each part that may be missing.
-use Rattle.std.proofs.Common.{◌≡◌, ℕ, List, [], ◌∷◌, codes, refl, subst}
+use Rattle.std.proofs.Common.{◌≡◌, ℕ, List, [], ◌∷◌, map, codes, refl, subst}
 use Rattle.sp_spec_text.specs.Signs as s
 use Rattle.sp_spec_text.specs.Token.{Lexeme, word, sign}
-use Rattle.sp_spec.specs.Rule.{Fact}
+use Rattle.sp_spec.specs.Rule.{Fact, Action}
 use Rattle.sp_spec.specs.Formula.{Written}
 use Rattle.sp_spec.specs.Written.{WrittenRule}
 use Rattle.sp_spec_text.specs.Lists.{IsNotFirst, NoReading, AreItems}
 use Rattle.sp_read_parts.specs.Parts.{IsNameFirst, name, IsFact}
-use Rattle.sp_spec_text.specs.Shapes.{rule_of}
+use Rattle.sp_spec_text.specs.Shapes.{action_of}
 use Rattle.sp_read_parts.proofs.One.{One, name_one}
 use Rattle.sp_read_parts.proofs.Sequence.{Fixed, fixed_none, fixed_one, Then, no_first, no_second, Becomes, no_whole}
 use Rattle.sp_spec_text.specs.Theories as g
@@ -103,8 +103,9 @@ rule_parts = record { part = λ ts x r h. (at h).0; reads = λ ts x r h. (at h).
     at (g.rule {w = w} {premises = ps} {actions = as'} {conclusions = cs} {tokens = a} {mid = b} {behind = c} h i j k) =
         ((w, (ps, (as', cs))), record { mid = a; first = header h; second = record { mid = b; first = i; second = record { mid = c; first = j; second = k } } })
 
-pub rule_at : {w : List ℕ} {ps as' cs : List (Fact Written)} {tokens body mid behind rest : List Lexeme} → IsHeader (codes "rule") tokens w body → SpellsFacts body ps mid → SpellsArrow mid as' behind → SpellsFacts behind cs rest → SpellsRule tokens (rule_of w ps as' cs) rest
-rule_at (header h) i j k = g.rule h i j k
+pub rule_at : {w : List ℕ} {ps as' cs : List (Fact Written)} {shown : List (Action Written)} {tokens body mid behind rest : List Lexeme} → IsHeader (codes "rule") tokens w body → SpellsFacts body ps mid → SpellsArrow mid as' behind → SpellsFacts behind cs rest → shown ≡ map action_of as'
+    → SpellsRule tokens (record { name = w; facts = record { premises = ps; actions = shown; conclusions = cs } }) rest
+rule_at (header h) i j k e = rw e (g.rule h i j k)
 
 pub rule_no_header : {tokens : List Lexeme} → NoReading (IsHeader (codes "rule")) tokens → NoReading SpellsRule tokens
 rule_no_header n = no_whole rule_parts (no_first n)

@@ -12,8 +12,10 @@ use Rattle.sp_read_proof.proofs.One.{proof_one}
 use Rattle.sp_spec_text.specs.Theories as g
 use Rattle.sp_spec_text.specs.Theories.{SpellsProofPart, SpellsItems}
 use Rattle.sp_read_theory.specs.Items.{the_end}
-use Rattle.sp_spec_text.specs.Spans.{IsBehind, EndsAt, EndsWith, AreSpans, no_span, past_rule, past_lemma, is_feed, goes_on, Rise}
-use Rattle.sp_read_theory.proofs.One.{rules_one, lemmas_one}
+use Rattle.sp_spec_text.specs.Spans.{IsBehind, EndsAt, EndsWith, AreSpans, no_span, past_declaration, past_lemma, is_feed, goes_on, Rise}
+use Rattle.sp_read_theory.proofs.One.{lemmas_one}
+use Rattle.sp_read_theory.proofs.Declared.{StartsWord, declaration_one, declaration_taken, declaration_word, lemma_starts, declaration_not_lemma}
+use Rattle.sp_read_theory.proofs.OneTheory.{items_word}
 use Rattle.sp_read_theory.proofs.Suffix.{end_one, behind_one}
 
 -- ---- one span for each lemma
@@ -34,11 +36,21 @@ ends_one : (behind us vs : List Token) {s t : Span} (p : Option WrittenProof) �
 ends_one behind us vs None h k e f = (h.1 ∙ e ∙ sym k.1, h.0 ∙ sym k.0)
 ends_one behind us vs (Some p) h k e f = behind_one h k f
 
+spans_word : {tokens : List Token} {x : Item} {items : List Item} {ss : List Span} → AreSpans tokens (x ∷ items) ss → StartsWord (lexemes tokens)
+spans_word (past_declaration h e k) = declaration_word h
+spans_word (past_lemma l b c e h) = lemma_starts l
+
+no_spans : {us vs : List Token} {ss ts : List Span} → AreSpans us [] ss → AreSpans vs [] ts → ss ≡ ts
+no_spans no_span no_span = refl
+
 pub spans_one : {tokens : List Token} {items : List Item} {ss ts : List Span} → AreSpans tokens items ss → AreSpans tokens items ts → ss ≡ ts
 spans_one no_span no_span = refl
-spans_one {ts = ts} (past_rule {items = xs} r e h) (past_rule q f k) =
-    let o = end_one e f (rules_one.one r q).1 in
-    spans_one h (subst (λ (us : List Token). AreSpans us xs ts) (sym o) k)
+spans_one (past_declaration {items = []} r e h) (past_declaration q f k) = no_spans h k
+spans_one {ts = ts} (past_declaration {items = x ∷ xs} r e h) (past_declaration q f k) =
+    let o = end_one e f (declaration_one (declaration_taken r (spans_word h)) (declaration_taken q (spans_word k))).1 in
+    spans_one h (subst (λ (us : List Token). AreSpans us (x ∷ xs) ts) (sym o) k)
+spans_one (past_declaration r e h) (past_lemma l b c f k) = absurd (declaration_not_lemma r l)
+spans_one (past_lemma l b c f k) (past_declaration r e h) = absurd (declaration_not_lemma r l)
 spans_one (past_lemma {p = p} {items = xs} {span = s} {behind = y} {mid = m} l b c e h) (past_lemma {span = t} {spans = ts} {mid = n} o d i f k) =
     let u = behind_one b d (lemmas_one.one l o).1 in
     let i' = subst (λ (us : List Token). SpellsProofPart (lexemes us) p (lexemes n)) (sym u.1) i in
@@ -91,10 +103,21 @@ last_above : {end low : ℕ} (ts : List Token) → lexemes ts ≡ the_end → Ri
 last_above [] e h = absurd (let none : ⊥ = cc in none)
 last_above (t ∷ ts) e h = let o = rising_first h in omega (arith, o.0, o.1)
 
+first_above : {end low : ℕ} (ts : List Token) → StartsWord (lexemes ts) → Rising end low ts → low ≤ end
+first_above [] w h = let e = w.are in absurd (let none : ⊥ = cc in none)
+first_above (t ∷ ts) w h = let o = rising_first h in omega (arith, o.0, o.1)
+
+none_rise : {end : ℕ} (text : List ℕ) {tokens : List Token} {spans : List Span} {low : ℕ} → AreSpans tokens [] spans → low ≤ end → Rise text low spans end
+none_rise text no_span le = le
+
 pub rise : {end : ℕ} (text : List ℕ) {tokens : List Token} {items : List Item} {spans : List Span} {after : List Lexeme} {low : ℕ} → AreSpans tokens items spans → SpellsItems (lexemes tokens) items after → after ≡ the_end → Rising end low tokens → Rise text low spans end
 rise text {tokens = ts} no_span g.no_item e h = last_above ts e h
-rise text {after = after} (past_rule {items = xs} r b s) (g.rule_first q i) e h =
-    rise text s (subst (λ (us : List Lexeme). SpellsItems us xs after) (sym (rules_one.one r q).1) i) e (rising_ends b h)
+rise text {tokens = ts} (past_declaration {items = []} r b s) (g.declaration_first q i) e h = none_rise text s (first_above ts (declaration_word r) h)
+rise text {after = after} (past_declaration {items = x ∷ xs} r b s) (g.declaration_first q i) e h =
+    let o = (declaration_one (declaration_taken r (spans_word s)) (declaration_taken q (items_word i e))).1 in
+    rise text s (subst (λ (us : List Lexeme). SpellsItems us (x ∷ xs) after) (sym o) i) e (rising_ends b h)
+rise text (past_declaration r b s) (g.lemma_first o d i) e h = absurd (declaration_not_lemma r o)
+rise text (past_lemma l b c f k) (g.declaration_first q i) e h = absurd (declaration_not_lemma q l)
 rise text {after = after} (past_lemma {p = p} {items = xs} {span = s} {behind = y} {mid = m} l b c f k) (g.lemma_first {mid = n} o d i) e h =
     let u = rising_behind b h in
     let v = ends_above y m p s f u.2 in

@@ -1,17 +1,23 @@
 -- The opening of a theory, its items up to the end, and the parts of an item, as they are read.
-use Rattle.std.specs.Prelude.{◌≡◌, ℕ, List, [], ◌∷◌, Option, Some, None, codes}
+use Rattle.std.specs.Prelude.{◌≡◌, ℕ, Bool, true, false, List, [], ◌∷◌, Option, Some, None, codes}
+use Rattle.sp_spec_text.specs.Signs.{Sign}
 use Rattle.sp_spec_text.specs.Signs as s
 use Rattle.sp_spec_text.specs.Token.{Lexeme, word, sign, Token}
 use Rattle.sp_spec_text.specs.Lex.{lexemes}
+use Rattle.sp_spec.specs.Term.{Term}
+use Rattle.sp_spec.specs.Signature.{Symbol}
+use Rattle.sp_spec.specs.Formula.{Written}
 use Rattle.sp_spec.specs.Theory.{TraceKind, Lemma}
 use Rattle.sp_spec.specs.Written.{WrittenRule}
-use Rattle.sp_spec_text.specs.Names.{IsName}
-use Rattle.sp_spec_text.specs.Lists.{NoReading}
-use Rattle.sp_spec_text.specs.Written.{WrittenProof, Item, rule_item, lemma_item, WrittenText}
+use Rattle.sp_spec_text.specs.Names.{IsName, is_one_so}
+use Rattle.sp_spec_text.specs.Numerals.{is_numeral, value, counted}
+use Rattle.sp_spec_text.specs.Lists.{IsNotFirst, NoReading, AreParts, AreListed}
+use Rattle.sp_spec_text.specs.Written.{WrittenProof, Item, builtins_item, functions_item, equations_item, rule_item, lemma_item, WrittenText}
 use Rattle.sp_spec_text.specs.Spans.{Span}
 use Rattle.sp_spec_text.specs.Proofs.{SpellsProof}
-use Rattle.sp_spec_text.specs.Theories.{SpellsRule, SpellsKind, SpellsLemma, SpellsProofPart, SpellsItems, SpellsTheory}
+use Rattle.sp_spec_text.specs.Theories.{SpellsBuiltin, SpellsAttribute, SpellsRule, SpellsKind, SpellsLemma, SpellsProofPart, SpellsItems, SpellsTheory}
 use Rattle.sp_spec_text.specs.Spans.{IsBehind, EndsAt, EndsWith}
+use Rattle.sp_read_parts.specs.Parts.{IsTerm}
 
 -- `theory`, a name, and `begin`
 pub data IsOpening : List Lexeme → List ℕ → List Lexeme → Type 0 where
@@ -20,6 +26,59 @@ pub data IsOpening : List Lexeme → List ℕ → List Lexeme → Type 0 where
 -- the keyword, a name, and a colon
 pub data IsHeader (keyword : List ℕ) : List Lexeme → List ℕ → List Lexeme → Type 0 where
   header : {w : List ℕ} {rest : List Lexeme} → IsName w → IsHeader keyword (word keyword ∷ word w ∷ sign s.Colon ∷ rest) w rest
+
+-- ---- declarations as a reader from the left takes them: each part reaches as far as it can
+
+-- a part, and this sign, by which it could go on, does not follow
+pub record Reaches {A : Type 0} (R : List Lexeme → A → List Lexeme → Type 0) (x : Sign) (tokens : List Lexeme) (part : A) (rest : List Lexeme) : Type 0 where
+  pub spells : R tokens part rest
+  pub ended : IsNotFirst (sign x) rest
+
+-- names joined by `-`, all of them
+abbrev pub IsBuiltin : List Lexeme → List ℕ → List Lexeme → Type 0
+IsBuiltin = Reaches SpellsBuiltin s.Dash
+
+-- name `/` number
+pub data IsArity : List Lexeme → List ℕ × ℕ → List Lexeme → Type 0 where
+  arity : {w k : List ℕ} {rest : List Lexeme} → IsName w → is_numeral k ≡ true → IsArity (word w ∷ sign s.Slash ∷ word k ∷ rest) (w, counted (value 0 k)) rest
+
+-- attributes and `]`; whether one of them is `private`
+pub data AreAttributes : List Lexeme → Bool → List Lexeme → Type 0 where
+  attributes : {each : List Bool} {tokens rest : List Lexeme} → AreParts SpellsAttribute s.Comma s.CloseList tokens each rest → AreAttributes tokens (is_one_so each) rest
+
+-- attributes in their brackets, or no bracket
+pub data IsPrivacy : List Lexeme → Bool → List Lexeme → Type 0 where
+  unsaid : {rest : List Lexeme} → IsNotFirst (sign s.OpenList) rest → IsPrivacy rest false rest
+  said_so : {private : Bool} {tokens rest : List Lexeme} → AreAttributes tokens private rest → IsPrivacy (sign s.OpenList ∷ tokens) private rest
+
+-- a symbol with its arity, and whether it is private
+pub data IsFunction : List Lexeme → Symbol → List Lexeme → Type 0 where
+  function : {x : List ℕ × ℕ} {private : Bool} {tokens mid rest : List Lexeme} → IsArity tokens x mid → IsPrivacy mid private rest → IsFunction tokens (record { name = x.0; arity = x.1; private = private }) rest
+
+-- term `=` term
+pub data IsEquation : List Lexeme → Term Written × Term Written → List Lexeme → Type 0 where
+  equation : {x y : Term Written} {tokens mid rest : List Lexeme} → IsTerm 0 tokens x (sign s.Equals ∷ mid) → IsTerm 0 mid y rest → IsEquation tokens (x, y) rest
+
+-- one or more with commas, all of them
+abbrev pub AreAll : {A : Type 0} → (List Lexeme → A → List Lexeme → Type 0) → List Lexeme → List A → List Lexeme → Type 0
+AreAll R = Reaches (AreListed R) s.Comma
+
+-- a keyword and a colon
+abbrev pub Headed : List ℕ → List Lexeme → List Lexeme → Type 0
+Headed keyword tokens rest = tokens ≡ word keyword ∷ sign s.Colon ∷ rest
+
+-- they don't stand first
+pub record NotHeaded (keyword : List ℕ) (tokens : List Lexeme) : Type 0 where
+  pub none : (rest : List Lexeme) → Headed keyword tokens rest → ⊥
+
+-- builtins, functions or equations behind their keyword, or a rule
+pub data IsDeclaration : List Lexeme → Item → List Lexeme → Type 0 where
+  builtins : {bs : List (List ℕ)} {tokens rest : List Lexeme} → AreAll IsBuiltin tokens bs rest → IsDeclaration (word (codes "builtins") ∷ sign s.Colon ∷ tokens) (builtins_item bs) rest
+  functions : {ss : List Symbol} {tokens rest : List Lexeme} → AreAll IsFunction tokens ss rest → IsDeclaration (word (codes "functions") ∷ sign s.Colon ∷ tokens) (functions_item ss) rest
+  equations : {es : List (Term Written × Term Written)} {tokens rest : List Lexeme} → AreAll IsEquation tokens es rest → IsDeclaration (word (codes "equations") ∷ sign s.Colon ∷ tokens) (equations_item es) rest
+  a_rule : {r : WrittenRule} {tokens rest : List Lexeme} → SpellsRule tokens r rest → IsDeclaration tokens (rule_item r) rest
+
+-- ---- lemmas and items
 
 -- a word, a dash, another word and a double quote
 abbrev pub Dashed : List ℕ → List ℕ → List Lexeme → List Lexeme → Type 0
@@ -44,15 +103,15 @@ pub record ReadsProofPart (behind : List Token) (p : Option WrittenProof) (span 
   pub greedy : IsGreedy (lexemes behind) p
   pub ends : EndsAt behind rest p span
 
--- a rule, or a lemma with its proof if one begins behind it, and the span of that
+-- a declaration, or a lemma with its proof if one begins behind it, and the span of that
 pub data ReadsItem : List Token → Item → List Span → List Token → Type 0 where
-  a_rule : {r : WrittenRule} {tokens rest : List Token} → SpellsRule (lexemes tokens) r (lexemes rest) → EndsWith tokens rest → ReadsItem tokens (rule_item r) [] rest
+  a_declaration : {x : Item} {tokens rest : List Token} → IsDeclaration (lexemes tokens) x (lexemes rest) → EndsWith tokens rest → ReadsItem tokens x [] rest
   a_lemma : {l : Lemma} {p : Option WrittenProof} {span : Span} {tokens behind rest : List Token}
       → SpellsLemma (lexemes tokens) l (lexemes behind) → IsBehind tokens behind span.from → ReadsProofPart behind p span rest → ReadsItem tokens (lemma_item l p) (span ∷ []) rest
 
--- neither a rule nor a lemma begins there
+-- neither a declaration nor a lemma begins there
 pub record NoItem (tokens : List Lexeme) : Type 0 where
-  pub no_rule : NoReading SpellsRule tokens
+  pub no_declaration : NoReading IsDeclaration tokens
   pub no_lemma : NoReading SpellsLemma tokens
 
 -- the word `end`, and nothing behind it

@@ -5,8 +5,8 @@ ghost use Rattle.sp_spec_text.specs.Spans.{AreSpans};
 ghost use Rattle.sp_read_theory.specs.Views as view;
 ghost use Rattle.sp_read_theory.specs.Views.{seen_from};
 
+use crate::declarations::declaration;
 use crate::lemmas::lemma;
-use crate::rules::rule;
 use sp_lex::Token;
 use sp_read_parts::cursor::behind;
 use sp_written::Item;
@@ -22,7 +22,7 @@ fn push_item<'a>(found: &mut Vec<Item<'a>>, next: Item<'a>) -> Result<(), AllocE
     Ok(())
 }
 
-/// A rule, or a lemma with its proof, and the place behind it.
+/// A declaration, or a lemma with its proof, and the place behind it.
 #[tactic(auto, using(crate::proofs::Gone::one_item))]
 fn next_item<'a>(
     alloc: Global,
@@ -32,8 +32,8 @@ fn next_item<'a>(
     ensures value { IfOk result (λ o. MatchOption o (NoItem (seen_from tokens.now at)) (λ x. ReadsItem (tokens_of (drop at tokens.now)) (view.item x.0) (view.spans (x.0 ∷ [])) (tokens_of (drop x.1 tokens.now)))) }
     ensures further { IfOk result (λ o. IfSome o (λ x. (at < x.1) × (x.1 ≤ length tokens.now))) }
 {
-    if let Some((found, rest)) = rule(alloc, tokens, at)? {
-        return Ok(Some((Item::Rule(found), rest)));
+    if let Some((found, rest)) = declaration(alloc, tokens, at)? {
+        return Ok(Some((found, rest)));
     }
     let Some((found, rest)) = lemma(alloc, tokens, at)? else {
         return Ok(None);

@@ -1,15 +1,17 @@
-ghost use Rattle.std.specs.Prelude.{MatchOption, IfSome, IfOk, ◌≤◌, ◌<◌, length};
+ghost use Rattle.std.specs.Prelude.{◌≡◌, map, MatchOption, IfSome, IfOk, ◌≤◌, ◌<◌, length};
+ghost use Rattle.sp_spec_text.specs.Shapes as shapes;
 ghost use Rattle.sp_spec_text.specs.Lists.{NoReading};
 ghost use Rattle.sp_spec_text.specs.Theories.{SpellsFacts, SpellsArrow, SpellsRule};
 ghost use Rattle.sp_read_theory.specs.Items.{IsOpening, IsHeader};
 ghost use Rattle.sp_read_theory.specs.Views as view;
 ghost use Rattle.sp_read_theory.specs.Views.{seen_from};
 
+use sp_fact::fact::{Action, Facts};
 use sp_lex::{Sign, Token};
 use sp_read_parts::cursor::{after, behind};
 use sp_read_parts::facts::fact_list;
 use sp_read_parts::terms::name;
-use sp_read_parts::{WrittenFact, WrittenRule};
+use sp_read_parts::{WrittenAction, WrittenFact, WrittenRule};
 use std::alloc::{AllocError, Global};
 
 /// Facts in their brackets, and the place behind them.
@@ -53,6 +55,30 @@ fn arrow<'a>(
     Ok(Some((found, rest)))
 }
 
+/// What a trace shows where the fact stands in an arrow.
+fn action_of<'a>(found: WrittenFact<'a>) -> WrittenAction<'a>
+    ensures { view.action_of result ≡ shapes.action_of (view.fact_of found.entry) }
+{
+    Action {
+        symbol: found.symbol,
+        args: found.args,
+    }
+}
+
+/// Their actions, in the same order.
+fn actions_of<'a>(
+    alloc: Global,
+    facts: Vec<WrittenFact<'a>>,
+) -> Result<Vec<WrittenAction<'a>>, AllocError>
+    ensures { IfOk result (λ shown. map view.action_of shown.items ≡ map shapes.action_of (view.facts_of facts.entry.items)) }
+{
+    let mut shown = Vec::with_capacity(alloc, facts.len())?;
+    for fact in facts {
+        shown.push(action_of(fact))?;
+    }
+    Ok(shown)
+}
+
 /// A keyword, a name and a colon, and the place behind them.
 #[tactic(auto, using(crate::proofs::RuleParts::headers))]
 pub fn header<'a>(keyword: &str, tokens: &[Token<'a>], at: usize) -> Option<(&'a str, usize)>
@@ -81,21 +107,19 @@ pub fn rule<'a>(
     let Some((premises, labels)) = facts_in_brackets(alloc, tokens, body)? else {
         return Ok(None);
     };
-    let Some((actions, last)) = arrow(alloc, tokens, labels)? else {
+    let Some((labelled, last)) = arrow(alloc, tokens, labels)? else {
         return Ok(None);
     };
     let Some((conclusions, rest)) = facts_in_brackets(alloc, tokens, last)? else {
         return Ok(None);
     };
-    Ok(Some((
-        WrittenRule {
-            name,
-            premises,
-            actions,
-            conclusions,
-        },
-        rest,
-    )))
+    let actions = actions_of(alloc, labelled)?;
+    let facts = Facts {
+        premises,
+        actions,
+        conclusions,
+    };
+    Ok(Some((WrittenRule { name, facts }, rest)))
 }
 
 /// The name of a theory between `theory` and `begin`, and the place behind them.

@@ -1,29 +1,33 @@
 -- Of a text whose lines are replayed one thing is answered.
 use Rattle.std.proofs.Common.{◌≡◌, Bool, true, false, ℕ, List, [], ◌∷◌, ◌++◌, refl, sym, ap, ap₂, ◌∙◌, subst}
 use Rattle.sp_spec.specs.Rule.{Action}
-use Rattle.sp_spec.specs.Signature.{Signature, pair_symbols}
+use Rattle.sp_spec.specs.Signature.{Symbol, Signature}
 use Rattle.sp_spec.specs.Theory.{Lemma, signature_of}
 use Rattle.sp_spec.specs.Execution.{Step, Trace, Cause}
-use Rattle.sp_law_equal.proofs.Pairs.{pairs_have_normal_forms}
 use Rattle.sp_law_run.proofs.Runs.{runs_alike}
 use Rattle.sp_law_run.proofs.Written.{rules_right}
 use Rattle.sp_spec.specs.Lists.{newest_first}
 use Rattle.sp_spec_text.specs.Printed.{trace_block}
-use Rattle.sp_spec_text.specs.StepLines.{AreSteps, IsFirstUnread}
+use Rattle.sp_spec_text.specs.StepLines.{HaveNames, AreSteps, IsFirstUnread}
 use Rattle.sp_read_steps.proofs.Laws.{steps_are_one}
 use Rattle.sp_exec.specs.Replay.{IsReplayed, IsFirstFault}
 use Rattle.sp_exec.proofs.Replays.{one_trace, one_fault, no_execution}
-use Rattle.sp_spec_text.specs.Written.{WrittenText, theory_in}
+use Rattle.sp_spec_text.specs.Written.{WrittenText}
+use Rattle.sp_spec_text.specs.Declared.{theory_in}
 use Rattle.sp_spec_text.specs.Texts.{ArePlaces}
 use Rattle.sp_read_theory.proofs.Whole.{text_one, places_one}
 use Rattle.sp_pose.specs.Problem.{Poses}
 use Rattle.sp_pose.proofs.One.{not_posed}
+use Rattle.sp_pose.proofs.BasicTheories.{normal_forms}
 use Rattle.sp_replay.specs.Replay.{theory_said, lines_behind, HasLines, steps_done, IsUnread, IsStopped, IsMet, AreMet, met_lines, IsReplay}
 use Rattle.sp_replay.specs.Laws.{RepliesAreOne}
-use Rattle.sp_spec_text.proofs.SymbolNames.{pairs_have_names}
+use Rattle.sp_law_block.proofs.TextNames.{texts_have_names_lem}
 use Rattle.sp_spec.proofs.Lists.{newest_twice}
 
 -- ---- one theory, and one list of lines
+
+abbrev symbols_said : WrittenText → List Symbol
+symbols_said t = (signature_of (theory_said t)).symbols
 
 same_lines : {text : List ℕ} {t u : WrittenText} {found others : List (List ℕ)} → HasLines text t found → HasLines text u others → (t ≡ u) × (found ≡ others)
 same_lines {text} {t} {u} {found} {others} a b =
@@ -32,11 +36,20 @@ same_lines {text} {t} {u} {found} {others} a b =
     (theory, a.lines_are ∙ ap (lines_behind text) places.1 ∙ sym b.lines_are)
 
 -- and one list of steps
-same_steps : {found others : List (List ℕ)} {xs ys : List Step} → found ≡ others → AreSteps pair_symbols found xs → AreSteps pair_symbols others ys → xs ≡ ys
-same_steps {found} {others} {xs} {ys} e a b = steps_are_one.one pair_symbols pairs_have_names others xs ys (subst (λ (ls : List (List ℕ)). AreSteps pair_symbols ls xs) e a) b
+read_over : {t u : WrittenText} {found others : List (List ℕ)} {xs : List Step} → t ≡ u → found ≡ others → AreSteps (symbols_said t) found xs → AreSteps (symbols_said u) others xs
+read_over {u = u} {found = found} {xs = xs} e d a = subst (λ (ls : List (List ℕ)). AreSteps (symbols_said u) ls xs) d (subst (λ (w : WrittenText). AreSteps (symbols_said w) found xs) e a)
 
-read_or_unread : {found others : List (List ℕ)} {xs : List Step} {n : ℕ} → found ≡ others → AreSteps pair_symbols found xs → IsFirstUnread pair_symbols others n → ⊥
-read_or_unread {found} {others} {xs} {n} e a b = steps_are_one.apart pair_symbols pairs_have_names others xs n (subst (λ (ls : List (List ℕ)). AreSteps pair_symbols ls xs) e a) b
+unread_over : {t u : WrittenText} {found others : List (List ℕ)} {n : ℕ} → t ≡ u → found ≡ others → IsFirstUnread (symbols_said t) found n → IsFirstUnread (symbols_said u) others n
+unread_over {u = u} {found = found} {n = n} e d a = subst (λ (ls : List (List ℕ)). IsFirstUnread (symbols_said u) ls n) d (subst (λ (w : WrittenText). IsFirstUnread (symbols_said w) found n) e a)
+
+names_said : {text : List ℕ} {t : WrittenText} {found : List (List ℕ)} → HasLines text t found → HaveNames (symbols_said t)
+names_said {text = text} {t = t} a = texts_have_names_lem.symbols text t a.poses.says
+
+same_steps : {text : List ℕ} {t u : WrittenText} {found others : List (List ℕ)} {xs ys : List Step} → HasLines text t found → HasLines text u others → AreSteps (symbols_said t) found xs → AreSteps (symbols_said u) others ys → xs ≡ ys
+same_steps {u = u} {others = others} {xs = xs} {ys = ys} h k a b = let same = same_lines h k in steps_are_one.one (symbols_said u) (names_said k) others xs ys (read_over same.0 same.1 a) b
+
+read_or_unread : {text : List ℕ} {t u : WrittenText} {found others : List (List ℕ)} {xs : List Step} {n : ℕ} → HasLines text t found → HasLines text u others → AreSteps (symbols_said t) found xs → IsFirstUnread (symbols_said u) others n → ⊥
+read_or_unread {u = u} {others = others} {xs = xs} {n = n} h k a b = let same = same_lines h k in steps_are_one.apart (symbols_said u) (names_said k) others xs n (read_over same.0 same.1 a) b
 
 -- ---- traces
 
@@ -71,7 +84,7 @@ told_one {theory = theory} {steps = steps} {entries = entries} {others = others}
     let ran = steps_done (theory_said theory) steps in
     let right = rules_right (theory_in theory).rules poses.fine.rule_names in
     let traces = one_trace said ran (newest_first entries) (newest_first others) a.replayed b.replayed in
-    let shown = (runs_alike said pairs_have_normal_forms right (newest_first ran) a.replayed.executed.0 b.replayed.executed.0 a.replayed.shown b.replayed.shown a.replayed.executed.1 b.replayed.executed.1).1 in
+    let shown = (runs_alike said (normal_forms poses).normal_forms right (newest_first ran) a.replayed.executed.0 b.replayed.executed.0 a.replayed.shown b.replayed.shown a.replayed.executed.1 b.replayed.executed.1).1 in
     let over = subst (λ (t : Trace). AreMet (signature_of said) t said.lemmas met) shown a.met_are in
     (same_entries entries others traces, mets_one (signature_of said) b.replayed.shown said.lemmas met meets over b.met_are)
 
@@ -85,7 +98,7 @@ told_there a {theory} {steps} e d =
 one_replay : (text written other : List ℕ) → IsReplay text written → IsReplay text other → written ≡ other
 one_replay text written other a b =
     let same = same_lines a.has_lines b.has_lines in
-    let steps : a.steps ≡ b.steps = same_steps same.1 a.read b.read in
+    let steps : a.steps ≡ b.steps = same_steps a.has_lines b.has_lines a.read b.read in
     let told = told_one b.has_lines.poses (told_there a same.0 steps) (told_there b refl refl) in
     let lemmas : (theory_said a.theory).lemmas ≡ (theory_said b.theory).lemmas = ap (λ (t : WrittenText). (theory_said t).lemmas) same.0 in
     a.written_is
@@ -102,19 +115,19 @@ fault_there {n = n} {cause = cause} a {theory} {steps} e d =
 one_stop : (text : List ℕ) (n m : ℕ) (cause other : Cause) → IsStopped text n cause → IsStopped text m other → (n ≡ m) × (cause ≡ other)
 one_stop text n m cause other a b =
     let same = same_lines a.has_lines b.has_lines in
-    let steps : a.steps ≡ b.steps = same_steps same.1 a.read b.read in
+    let steps : a.steps ≡ b.steps = same_steps a.has_lines b.has_lines a.read b.read in
     one_fault (theory_said b.theory) (steps_done (theory_said b.theory) b.steps) n m cause other (fault_there a same.0 steps) b.fault
 
 replay_or_stop : (text written : List ℕ) (n : ℕ) (cause : Cause) → IsReplay text written → IsStopped text n cause → ⊥
 replay_or_stop text written n cause a b =
     let same = same_lines b.has_lines a.has_lines in
-    let steps : b.steps ≡ a.steps = same_steps same.1 b.read a.read in
+    let steps : b.steps ≡ a.steps = same_steps b.has_lines a.has_lines b.read a.read in
     no_execution (theory_said a.theory) (steps_done (theory_said a.theory) a.steps) n cause (fault_there b same.0 steps) a.replayed.shown a.replayed.executed
 
 one_unread_line : (text : List ℕ) (n m : ℕ) → IsUnread text n → IsUnread text m → n ≡ m
 one_unread_line text n m a b =
     let same = same_lines a.has_lines b.has_lines in
-    steps_are_one.one_unread pair_symbols pairs_have_names b.found n m (subst (λ (ls : List (List ℕ)). IsFirstUnread pair_symbols ls n) same.1 a.unread) b.unread
+    steps_are_one.one_unread (symbols_said b.theory) (names_said b.has_lines) b.found n m (unread_over same.0 same.1 a.unread) b.unread
 
 pub replies_are_one_lem : RepliesAreOne
 replies_are_one_lem = record {
@@ -122,8 +135,8 @@ replies_are_one_lem = record {
   one_stopped = one_stop;
   one_unread = one_unread_line;
   done_or_stopped = replay_or_stop;
-  done_or_unread = λ text written n a b. read_or_unread (same_lines a.has_lines b.has_lines).1 a.read b.unread;
-  stopped_or_unread = λ text n m cause a b. read_or_unread (same_lines a.has_lines b.has_lines).1 a.read b.unread;
+  done_or_unread = λ text written n a b. read_or_unread a.has_lines b.has_lines a.read b.unread;
+  stopped_or_unread = λ text n m cause a b. read_or_unread a.has_lines b.has_lines a.read b.unread;
   refused_or_done = λ text written place h a. h.nothing.none a.theory a.has_lines.poses.says;
   refused_or_stopped = λ text place n cause h a. h.nothing.none a.theory a.has_lines.poses.says;
   refused_or_unread = λ text place n h a. h.nothing.none a.theory a.has_lines.poses.says;

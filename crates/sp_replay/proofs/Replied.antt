@@ -2,12 +2,11 @@
 use Rattle.std.proofs.Common.{◌≡◌, ℕ, List, [], ◌++◌, map, drop, sym, ap, ◌∙◌, subst}
 use Rattle.sp_spec.specs.Lists.{Every, newest_first}
 use Rattle.sp_spec.specs.Signature as spec
-use Rattle.sp_spec.specs.Signature.{Symbol, with_pairs}
+use Rattle.sp_spec.specs.Signature.{Symbol}
 use Rattle.sp_spec.specs.Rule.{Rule}
 use Rattle.sp_spec.specs.Theory as theories
 use Rattle.sp_spec.specs.Theory.{Theory, Lemma}
 use Rattle.sp_spec.specs.Execution as execution
-use Rattle.sp_law_equal.proofs.Pairs.{pairs_have_normal_forms, pairs_keep_symbols}
 use Rattle.sp_law_run.specs.NormalStep.{normal_step, normal_trace}
 use Rattle.sp_law_equal.specs.Right.{AreRight}
 use Rattle.sp_law_run.proofs.Written.{rules_right}
@@ -16,7 +15,6 @@ use Rattle.sp_fact.specs.View.{rule_of}
 use Rattle.sp_fact.specs.BookView.{book_of}
 use Rattle.sp_ground.specs.View.{signature_of, symbol_of, step_of, entries_of, trace_of}
 use Rattle.sp_spec_text.specs.Printed.{trace_block}
-use Rattle.sp_ground.specs.declared.signature.Signature.{Signature}
 use Rattle.sp_ground.specs.declared.fact.Trace.{Trace}
 use Rattle.sp_ground.specs.declared.step.Step.{Step}
 use Rattle.sp_spec_text.specs.Blanks.{lines}
@@ -24,24 +22,27 @@ use Rattle.sp_spec_text.specs.StepLines.{AreSteps, IsFirstUnread}
 use Rattle.sp_exec.specs.Replay.{IsReplayed, IsFirstFault}
 use Rattle.sp_exec.specs.View.{cause_of}
 use Rattle.sp_exec.specs.declared.cause.Cause.{Cause}
-use Rattle.sp_spec_text.specs.Written.{rules_in, theory_in}
+use Rattle.sp_spec_text.specs.Declared.{theory_in}
 use Rattle.sp_written.specs.Views as view
 use Rattle.sp_pose.specs.Asked.{asked_of, lemmas_read}
 use Rattle.sp_pose.specs.Posed.{IsPosedBy}
 use Rattle.sp_pose.specs.declared.problem.Problem.{Problem}
-use Rattle.sp_pose.proofs.Theories.{theory_spelled}
+use Rattle.sp_pose.proofs.BasicTheories.{normal_forms, lemmas_are_basic}
+use Rattle.sp_pose.proofs.Known.{rules_are_over}
 use Rattle.sp_replay.specs.Held.{held, held_lines}
 use Rattle.sp_replay.specs.Replay.{theory_said, behind_line, HasLines, steps_done, IsUnread, IsStopped, AreMet, met_lines, IsReplay}
-use Rattle.sp_law_tree.proofs.BasicOver.{basic_rules_over}
-use Rattle.sp_pose.proofs.Forms.{asked_list, has_forms, lemmas_same}
+use Rattle.sp_pose.proofs.Forms.{asked_list, has_forms, lemmas_said}
 use Rattle.sp_replay.proofs.Truths.{lemmas_met, lines_same}
 
 -- the rules in memory are right
 pub posed_right : {text : List ℕ} (p : Problem) → IsPosedBy text p → AreRight (map rule_of p.rules.rules.items)
-posed_right p h = subst (λ (rs : List Rule). AreRight rs) (sym h.rules_are) (rules_right (theory_in (view.theory h.theory)).rules h.poses.fine.rule_names)
+posed_right p h = subst (λ (rs : List Rule). AreRight rs) (sym h.rules_are) (rules_right (theory_in h.said).rules h.poses.fine.rule_names)
 
-module _ {text : List ℕ} (p : Problem) (posed : IsPosedBy text p) (s : Signature) (pairs : signature_of s ≡ with_pairs [] []) (bytes : List ℕ) (behind : bytes ≡ behind_line (drop p.behind_end text)) where
-  has_lines : HasLines text (view.theory posed.theory) (lines bytes)
+module _ {text : List ℕ} (p : Problem) (posed : IsPosedBy text p) (bytes : List ℕ) (behind : bytes ≡ behind_line (drop p.behind_end text)) where
+  abbrev said : Theory
+  said = theory_said posed.said
+
+  has_lines : HasLines text posed.said (lines bytes)
   has_lines = record {
     poses = posed.poses;
     spans = view.spans posed.theory.items.items;
@@ -50,58 +51,56 @@ module _ {text : List ℕ} (p : Problem) (posed : IsPosedBy text p) (s : Signatu
     lines_are = ap lines behind;
   }
 
-  symbols_are : map symbol_of s.symbols.items ≡ (with_pairs [] []).symbols
-  symbols_are = ap (λ (x : spec.Signature). x.symbols) pairs
+  symbols_are : map symbol_of p.signature.symbols.items ≡ (theories.signature_of said).symbols
+  symbols_are = ap (λ (x : spec.Signature). x.symbols) posed.signature_is
 
-  pub unread_line : (number : ℕ) → IsFirstUnread (map symbol_of s.symbols.items) (lines bytes) number → IsUnread text number
+  pub unread_line : (number : ℕ) → IsFirstUnread (map symbol_of p.signature.symbols.items) (lines bytes) number → IsUnread text number
   unread_line number h = record {
-    theory = view.theory posed.theory;
+    theory = posed.said;
     found = lines bytes;
     has_lines = has_lines;
     unread = subst (λ (symbols : List Symbol). IsFirstUnread symbols (lines bytes) number) symbols_are h;
   }
 
-  module _ (steps : List Step) (read : AreSteps (map symbol_of s.symbols.items) (lines bytes) (map step_of steps)) where
-    read_over : AreSteps (with_pairs [] []).symbols (lines bytes) (map step_of steps)
+  module _ (steps : List Step) (read : AreSteps (map symbol_of p.signature.symbols.items) (lines bytes) (map step_of steps)) where
+    read_over : AreSteps (theories.signature_of said).symbols (lines bytes) (map step_of steps)
     read_over = subst (λ (symbols : List Symbol). AreSteps symbols (lines bytes) (map step_of steps)) symbols_are read
 
-    abbrev said : Theory
-    said = theory_said (view.theory posed.theory)
-
-    steps_are : map (normal_step (signature_of s).equations) (map step_of steps) ≡ steps_done said (map step_of steps)
-    steps_are = ap (λ (x : spec.Signature). map (normal_step x.equations) (map step_of steps)) pairs
+    steps_are : map (normal_step (signature_of p.signature).equations) (map step_of steps) ≡ steps_done said (map step_of steps)
+    steps_are = ap (λ (x : spec.Signature). map (normal_step x.equations) (map step_of steps)) posed.signature_is
 
     pub stopped_step : (number : ℕ) (cause : Cause)
-        → ((theory : Theory) → theory.rules ≡ book_of p.rules → theories.signature_of theory ≡ signature_of s → IsFirstFault theory (map (normal_step (signature_of s).equations) (map step_of steps)) number (cause_of cause))
+        → ((theory : Theory) → theory.rules ≡ book_of p.rules → theories.signature_of theory ≡ signature_of p.signature → IsFirstFault theory (map (normal_step (signature_of p.signature).equations) (map step_of steps)) number (cause_of cause))
         → IsStopped text number (cause_of cause)
     stopped_step number cause h = record {
-      theory = view.theory posed.theory;
+      theory = posed.said;
       found = lines bytes;
       has_lines = has_lines;
       steps = map step_of steps;
       read = read_over;
-      fault = subst (λ (xs : List execution.Step). IsFirstFault said xs number (cause_of cause)) steps_are (h said (sym posed.rules_are) (sym pairs));
+      fault = subst (λ (xs : List execution.Step). IsFirstFault said xs number (cause_of cause)) steps_are (h said (sym posed.rules_are) (sym posed.signature_is));
     }
 
     pub done_steps : (trace : Trace) (written : List ℕ)
-        → ((theory : Theory) → theory.rules ≡ book_of p.rules → theories.signature_of theory ≡ signature_of s → IsReplayed theory (map (normal_step (signature_of s).equations) (map step_of steps)) (trace_of trace))
+        → ((theory : Theory) → theory.rules ≡ book_of p.rules → theories.signature_of theory ≡ signature_of p.signature → IsReplayed theory (map (normal_step (signature_of p.signature).equations) (map step_of steps)) (trace_of trace))
         → written ≡ trace_block (entries_of trace) ++ held_lines (trace_of trace) (map asked_of p.lemmas.items) → IsReplay text written
     done_steps trace written h e =
-        let xs = posed.theory.items.items in
-        let ls = lemmas_read xs in
+        let ls = lemmas_read posed.theory.items.items in
+        let signature = theories.signature_of said in
+        let lemmas_are = lemmas_said p posed in
         let forms = has_forms ls (map asked_of p.lemmas.items) posed.lemmas_are in
-        let first = theory_spelled posed.poses.says.spells in
+        let good = normal_forms posed.poses in
         let done : IsReplayed said (steps_done said (map step_of steps)) (trace_of trace) =
-        subst (λ (ys : List execution.Step). IsReplayed said ys (trace_of trace)) steps_are (h said (sym posed.rules_are) (sym pairs)) in
-        let normal : normal_trace (theories.signature_of said).equations done.shown ≡ trace_of trace = done.each done.shown done.executed in
-        let basic : Every (λ (l : Lemma). IsBasicFormula l.formula) (map view.lemma ls) = subst (λ (ms : List Lemma). Every (λ (l : Lemma). IsBasicFormula l.formula) ms) (lemmas_same xs) first.lemmas_are in
-        let told = lemmas_met said pairs_have_normal_forms (pairs_keep_symbols (with_pairs [] []).symbols) (basic_rules_over (with_pairs [] []).symbols (rules_in (view.items xs)) first.rules_are)
-        (newest_first (steps_done said (map step_of steps))) done.shown done.executed ls forms.forms basic forms.are in
+        subst (λ (ys : List execution.Step). IsReplayed said ys (trace_of trace)) steps_are (h said (sym posed.rules_are) (sym posed.signature_is)) in
+        let normal : normal_trace signature.equations done.shown ≡ trace_of trace = done.each done.shown done.executed in
+        let basic : Every (λ (l : Lemma). IsBasicFormula signature l.formula) (map view.lemma ls) =
+        subst (λ (ms : List Lemma). Every (λ (l : Lemma). IsBasicFormula signature l.formula) ms) lemmas_are (lemmas_are_basic posed.poses) in
+        let told = lemmas_met said good.normal_forms good.keeps (rules_are_over posed.poses) (newest_first (steps_done said (map step_of steps))) done.shown done.executed ls forms.forms basic forms.are in
         let met = map (held (trace_of trace)) (asked_list ls forms.forms) in
-        let over : AreMet (theories.signature_of said) done.shown (map view.lemma ls) met =
-        subst (λ (t : execution.Trace). AreMet (theories.signature_of said) done.shown (map view.lemma ls) (map (held t) (asked_list ls forms.forms))) normal told in
+        let over : AreMet signature done.shown (map view.lemma ls) met =
+        subst (λ (t : execution.Trace). AreMet signature done.shown (map view.lemma ls) (map (held t) (asked_list ls forms.forms))) normal told in
         record {
-          theory = view.theory posed.theory;
+          theory = posed.said;
           found = lines bytes;
           has_lines = has_lines;
           steps = map step_of steps;
@@ -109,8 +108,8 @@ module _ {text : List ℕ} (p : Problem) (posed : IsPosedBy text p) (s : Signatu
           entries = entries_of trace;
           replayed = done;
           met = met;
-          met_are = subst (λ (ms : List Lemma). AreMet (theories.signature_of said) done.shown ms met) (sym (lemmas_same xs)) over;
+          met_are = subst (λ (ms : List Lemma). AreMet signature done.shown ms met) (sym lemmas_are) over;
           written_is = e
               ∙ ap (λ (words : List ℕ). trace_block (entries_of trace) ++ words)
-              (ap (held_lines (trace_of trace)) forms.is ∙ lines_same (trace_of trace) ls forms.forms ∙ ap (λ (ms : List Lemma). met_lines ms met) (sym (lemmas_same xs)));
+              (ap (held_lines (trace_of trace)) forms.is ∙ lines_same (trace_of trace) ls forms.forms ∙ ap (λ (ms : List Lemma). met_lines ms met) (sym lemmas_are));
         }

@@ -1,16 +1,16 @@
--- The symbols of the pairs have names, and their equations may be read from left to right.
-use Rattle.std.proofs.Common.{◌≡◌, [], map, sym, ap, subst}
+-- The symbols of a text have names, and its equations may be read from left to right.
+use Rattle.std.proofs.Common.{ℕ, List, map, sym, ap, subst}
 use Rattle.sp_spec.specs.Signature as spec
-use Rattle.sp_spec.specs.Signature.{with_pairs}
 use Rattle.sp_law_equal.specs.NormalForms.{HaveNormalForms}
-use Rattle.sp_law_equal.proofs.Pairs.{pairs_have_normal_forms}
+use Rattle.sp_law_block.proofs.TextNames.{texts_have_names_lem}
 use Rattle.sp_ground.specs.View.{symbol_of, signature_of}
-use Rattle.sp_ground.specs.declared.signature.Signature.{Signature}
 use Rattle.sp_spec_text.specs.StepLines.{HaveNames}
-use Rattle.sp_spec_text.proofs.SymbolNames.{pairs_have_names}
+use Rattle.sp_pose.specs.Posed.{IsPosedBy}
+use Rattle.sp_pose.specs.declared.problem.Problem.{Problem}
+use Rattle.sp_pose.proofs.BasicTheories.{normal_forms}
 
-pub have_names : (s : Signature) → signature_of s ≡ with_pairs [] [] → HaveNames (map symbol_of s.symbols.items)
-have_names s e = subst HaveNames (sym (ap (λ (x : spec.Signature). x.symbols) e)) pairs_have_names
+pub have_names : {text : List ℕ} (p : Problem) → IsPosedBy text p → HaveNames (map symbol_of p.signature.symbols.items)
+have_names {text = text} p h = subst HaveNames (sym (ap (λ (s : spec.Signature). s.symbols) h.signature_is)) (texts_have_names_lem.symbols text h.said h.poses.says)
 
-pub have_normal_forms : (s : Signature) → signature_of s ≡ with_pairs [] [] → HaveNormalForms (signature_of s).equations
-have_normal_forms s e = subst HaveNormalForms (sym (ap (λ (x : spec.Signature). x.equations) e)) pairs_have_normal_forms
+pub have_normal_forms : {text : List ℕ} (p : Problem) → IsPosedBy text p → HaveNormalForms (signature_of p.signature).equations
+have_normal_forms p h = subst HaveNormalForms (sym (ap (λ (s : spec.Signature). s.equations) h.signature_is)) (normal_forms h.poses).normal_forms

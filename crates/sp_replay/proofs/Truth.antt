@@ -25,39 +25,25 @@ use Rattle.sp_law_equal.specs.Right.{RulesAreOver}
 use Rattle.sp_law_run.specs.Laws.{IsTraceOver}
 use Rattle.sp_law_run.proofs.Over.{execution_over, normal_trace_over}
 use Rattle.sp_law_decide.specs.Deciding.{assignment_of, decided, empty}
-use Rattle.sp_law_decide.specs.Normal.{IsNormalAction, IsNormalTrace, HasConstructorTerms, HasAtomicTerms, CanDecide}
-use Rattle.sp_law_decide.specs.Normal as decide
-use Rattle.sp_law_decide.proofs.ConstructorForms.{form_keeps, atomic_formula}
+use Rattle.sp_law_decide.specs.Normal.{IsNormalAction, IsNormalTrace, HasConstructorTerms, CanDecide}
+use Rattle.sp_law_decide.proofs.ConstructorForms.{form_keeps}
 use Rattle.sp_law_decide.proofs.Told.{told}
-use Rattle.sp_law_tree.specs.BasicTheory.{IsBasicTerm, AreBasicTerms, IsBasicFormula}
+use Rattle.sp_law_tree.specs.BasicTheory.{IsBasicFormula}
 
--- ---- no symbol stands in a basic formula
+-- ---- a basic formula has constructor terms
 
-term_atomic : (t : Term Written) → IsBasicTerm t → decide.IsAtomic t
-term_atomic (var x) h = tt
-term_atomic (constant c) h = tt
-term_atomic (name n) h = tt
-term_atomic (app f ts) h = h
-
-terms_atomic : (ts : Terms Written) → AreBasicTerms ts → decide.AreAtomic ts
-terms_atomic none h = tt
-terms_atomic (more t ts) h = (term_atomic t h.0, terms_atomic ts h.1)
-
-formula_atomic : (f : Formula) → IsBasicFormula f → HasAtomicTerms f
-formula_atomic truth h = tt
-formula_atomic falsity h = tt
-formula_atomic (happens a i) h = terms_atomic a.args h.0
-formula_atomic (equals t u) h = (term_atomic t h.0, term_atomic u h.1)
-formula_atomic (precedes i j) h = tt
-formula_atomic (not_so f) h = formula_atomic f h
-formula_atomic (both f g) h = (formula_atomic f h.0, formula_atomic g h.1)
-formula_atomic (either f g) h = (formula_atomic f h.0, formula_atomic g h.1)
-formula_atomic (implies f g) h = (formula_atomic f h.0, formula_atomic g h.1)
-formula_atomic (for_all x f) h = formula_atomic f h
-formula_atomic (for_some x f) h = formula_atomic f h
-
-pub formula_constructors : (signature : Signature) (f : Formula) → IsBasicFormula f → HasConstructorTerms signature f
-formula_constructors signature f h = atomic_formula signature f (formula_atomic f h)
+pub formula_constructors : (signature : Signature) (f : Formula) → IsBasicFormula signature f → HasConstructorTerms signature f
+formula_constructors signature truth h = tt
+formula_constructors signature falsity h = tt
+formula_constructors signature (happens a i) h = h.0.0
+formula_constructors signature (equals t u) h = (h.0.0, h.1.0)
+formula_constructors signature (precedes i j) h = tt
+formula_constructors signature (not_so f) h = formula_constructors signature f h
+formula_constructors signature (both f g) h = (formula_constructors signature f h.0, formula_constructors signature g h.1)
+formula_constructors signature (either f g) h = (formula_constructors signature f h.0, formula_constructors signature g h.1)
+formula_constructors signature (implies f g) h = (formula_constructors signature f h.0, formula_constructors signature g h.1)
+formula_constructors signature (for_all x f) h = formula_constructors signature f h
+formula_constructors signature (for_some x f) h = formula_constructors signature f h
 
 -- ---- a trace and its normal form
 

@@ -31,7 +31,7 @@ met_as_told signature trace l false h = λ t. true≢false (sym (h.1 t))
 
 module _ (theory : Theory) (good : HaveNormalForms (signature_of theory).equations) (keeps : KeepSymbols (signature_of theory).symbols (signature_of theory).equations)
     (rules : RulesAreOver (signature_of theory).symbols theory.rules) (steps : List Step) (shown : Trace) (run : IsExecution theory steps shown) where
-  lemma_met : (l : WrittenLemma) (g : Guarded) → IsBasicFormula (formula l.formula) → checked_form (formula l.formula) ≡ Some g
+  lemma_met : (l : WrittenLemma) (g : Guarded) → IsBasicFormula (signature_of theory) (formula l.formula) → checked_form (formula l.formula) ≡ Some g
       → IsMet (signature_of theory) shown (held (normal_trace (signature_of theory).equations shown) (asked_with l g)) (view.lemma l)
   lemma_met l g basic e =
       let f = formula l.formula in
@@ -39,7 +39,7 @@ module _ (theory : Theory) (good : HaveNormalForms (signature_of theory).equatio
       met_as_told (signature_of theory) shown (view.lemma l) (decided (normal_trace (signature_of theory).equations shown) empty g)
       (true_where_decided theory good keeps rules steps shown run f g (formula_constructors (signature_of theory) f basic) c.0 c.1)
 
-  pub lemmas_met : (ls : List WrittenLemma) (gs : List Guarded) → Every (λ (l : Lemma). IsBasicFormula l.formula) (map view.lemma ls) → AreForms ls gs
+  pub lemmas_met : (ls : List WrittenLemma) (gs : List Guarded) → Every (λ (l : Lemma). IsBasicFormula (signature_of theory) l.formula) (map view.lemma ls) → AreForms ls gs
       → AreMet (signature_of theory) shown (map view.lemma ls) (map (held (normal_trace (signature_of theory).equations shown)) (asked_list ls gs))
   lemmas_met [] [] basic h = tt
   lemmas_met [] (g ∷ gs) basic h = absurd h

@@ -8,7 +8,6 @@ ghost use Rattle.sp_replay.specs.View.{IsReplyTo};
 use crate::written::written_by;
 use sp_exec::cause::Cause;
 use sp_exec::replay::{Replayed, replay};
-use sp_ground::signature::Signature;
 use sp_pose::{Problem, Read, posed_by};
 use sp_read_steps::{StepLines, read_steps};
 use std::alloc::{AllocError, Global};
@@ -47,7 +46,7 @@ fn replayed_on(alloc: Global, text: &[u8], problem: Problem) -> Result<Reply, Al
     requires { IsPosedBy text.now problem }
     ensures { IfOk result (IsReplyTo text.now) }
 {
-    let signature = Signature::pairs(alloc)?;
+    let signature = problem.signature;
     let lines = behind_line(&text[problem.behind_end..]);
     let steps = match read_steps(alloc, &signature.symbols, lines)? {
         StepLines::Unread(number) => return Ok(Reply::Unread(number)),

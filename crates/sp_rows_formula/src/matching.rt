@@ -109,20 +109,6 @@ pub fn matched_action(
     Ok(Some(Slots { messages, times }))
 }
 
-// The value of a side of an equality, if it is no application and has a value by now.
-fn side_value(
-    alloc: Global,
-    messages: &Messages,
-    side: &FormulaTerm,
-) -> Result<Option<Term>, AllocError>
-    ensures { IfOk result (λ o. option_map view o ≡ spec.side_value (messages_of messages.now) (placed_term side.now)) }
-{
-    match side {
-        Term::App(_, _, _) => Ok(None),
-        _ => resolve(alloc, messages, side),
-    }
-}
-
 // Gives the term the value, if it is a bound variable, and tells whether it may have it.
 fn give(messages: &mut Messages, term: &FormulaTerm, value: &Term) -> Result<bool, AllocError>
     ensures { IfOk result (λ b. answer b (messages_of messages.new) ≡ put_at (messages_of messages.old) (spec.place_of_bound (placed_term term.now)) (view value.now)) }
@@ -140,10 +126,10 @@ fn by_equality(
     left: &FormulaTerm,
     right: &FormulaTerm,
 ) -> Result<bool, AllocError>
-    ensures { IfOk result (λ b. answer b (messages_of messages.new) ≡ spec.given (messages_of messages.old) (spec.place_of_bound (placed_term left.now)) (spec.side_value (messages_of messages.old) (placed_term left.now)) (spec.place_of_bound (placed_term right.now)) (spec.side_value (messages_of messages.old) (placed_term right.now))) }
+    ensures { IfOk result (λ b. answer b (messages_of messages.new) ≡ spec.given (messages_of messages.old) (spec.place_of_bound (placed_term left.now)) (spec.value_in (messages_of messages.old) (placed_term left.now)) (spec.place_of_bound (placed_term right.now)) (spec.value_in (messages_of messages.old) (placed_term right.now))) }
 {
-    let first = side_value(alloc, messages, left)?;
-    let second = side_value(alloc, messages, right)?;
+    let first = resolve(alloc, messages, left)?;
+    let second = resolve(alloc, messages, right)?;
     match (first, second) {
         (None, Some(value)) => give(messages, left, &value),
         (Some(value), None) => give(messages, right, &value),

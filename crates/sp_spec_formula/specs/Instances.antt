@@ -3,7 +3,7 @@
 -- universally quantified formulas); Schmidt's thesis, chapter 3.
 use Rattle.std.specs.Prelude.{Option, ℕ, List, [], ◌∷◌, None, Bool, true, false, if◌then◌else◌, Some, zero, suc, option_map, ◌==◌, option_and_then, ◌&&◌}
 use Rattle.std.specs.Str.{bytes_eq}
-use Rattle.sp_spec.specs.Term.{Sort, Variable, Term, var, app, Terms, valued_where, valued_all_where}
+use Rattle.sp_spec.specs.Term.{Sort, Variable, Term, var, Terms, valued_where, valued_all_where}
 use Rattle.sp_spec.specs.Guarded.{Binder, message, time, Place, free, bound, Time, free_time, bound_time, Atom, same, acts, pushed, Guarded}
 use Rattle.sp_spec.specs.Same.{alike}
 use Rattle.sp_spec.specs.Slots.{Slot, slot, filled_at, value_at}
@@ -87,11 +87,6 @@ abbrev pub place_of_bound : Term Place → Option ℕ
 place_of_bound (var (bound k)) = Some k
 place_of_bound t = None
 
--- The value of a side of an equality that is no application: what is given to a variable is over the signature that way.
-abbrev pub side_value : List Message → Term Place → Option (Term Variable)
-side_value s (app f ts) = None
-side_value s t = value_in s t
-
 -- an equality gives a variable without value the value of its other side
 abbrev pub given : List Message → Option ℕ → Option (Term Variable) → Option ℕ → Option (Term Variable) → Option (List Message)
 given s (Some k) None l (Some u) = put_term s k u
@@ -101,7 +96,7 @@ given s k t l u = Some s
 abbrev pub by_equalities : List Message → List Atom → Option (List Message)
 by_equalities s [] = Some s
 by_equalities s (same t u ∷ atoms) =
-    option_and_then (λ r. by_equalities r atoms) (given s (place_of_bound t) (side_value s t) (place_of_bound u) (side_value s u))
+    option_and_then (λ r. by_equalities r atoms) (given s (place_of_bound t) (value_in s t) (place_of_bound u) (value_in s u))
 by_equalities s (a ∷ atoms) = by_equalities s atoms
 
 abbrev pub are_alike : Option (Term Variable) → Option (Term Variable) → Bool

@@ -1,14 +1,14 @@
 -- The solutions of a system: logs, with values for its variables. Source: CSF 2012, "Constraint solving" (models of constraint systems);
 -- Schmidt's thesis, chapter 3.
 use Rattle.std.specs.Prelude.{ℕ, [], List, ◌<◌, ◌∷◌, length, map, ◌≡◌}
-use Rattle.sp_spec.specs.Term.{Values, constant, Ground, Variable, Term, valued}
+use Rattle.sp_spec.specs.Term.{Values, constant, Ground, Grounds, Variable, Term, valued}
 use Rattle.sp_spec.specs.Guarded.{Assignment, Binder, message, time, with_term, with_time, Atom, acts, same, same_time, before, last, time_in, term_in, action_in, Guarded, truth, falsity, holds, fails, all_of, one_of, some, every, Guardeds, no_more, and_then, GuardedHolds}
 use Rattle.sp_spec.specs.Lists.{AtPosition, AtPlace, Every}
 use Rattle.sp_spec.specs.Rule.{facts_at, Facts}
 use Rattle.sp_spec.specs.Log.{Log, step, send, learn, Source, conclusion, log_trace}
 use Rattle.sp_spec.specs.Log as log
 use Rattle.sp_spec_system.specs.System.{Way, public_name, own_name, constructed, by_chain, Happening, rule_step, sending, learning, Event, Link, System}
-use Rattle.sp_spec.specs.Signature.{Signature, IsValue, IsValuation}
+use Rattle.sp_spec.specs.Signature.{Signature, IsOver, AreOver, IsValue, IsValuation}
 use Rattle.sp_spec.specs.Equal.{IsNormal, AreNormal}
 use Rattle.sp_spec.specs.Theory.{Theory, signature_of}
 
@@ -48,10 +48,17 @@ EachNormal signature n [] P m = P m
 EachNormal signature n (message sort ∷ bs) P m = (t : Ground) → IsValue signature sort t → IsNormal signature.equations t → EachNormal signature n bs P (with_term t m)
 EachNormal signature n (time ∷ bs) P m = (p : ℕ) → p < n → EachNormal signature n bs P (with_time p m)
 
--- the atom's terms have normal values, and its times are positions of a log of n entries
+-- the value is normal, and over the signature's symbols
+abbrev pub IsSettled : Signature → Ground → Type 0
+IsSettled signature t = IsNormal signature.equations t × IsOver signature.symbols t
+
+abbrev pub AreSettled : Signature → Grounds → Type 0
+AreSettled signature ts = AreNormal signature.equations ts × AreOver signature.symbols ts
+
+-- the atom's terms have such values, and its times are positions of a log of n entries
 abbrev pub AtomSettled : Signature → ℕ → Assignment → Atom → Type 0
-AtomSettled signature n m (acts a i) = AreNormal signature.equations (action_in m a).args × (time_in m i < n)
-AtomSettled signature n m (same t u) = IsNormal signature.equations (term_in m t) × IsNormal signature.equations (term_in m u)
+AtomSettled signature n m (acts a i) = AreSettled signature (action_in m a).args × (time_in m i < n)
+AtomSettled signature n m (same t u) = IsSettled signature (term_in m t) × IsSettled signature (term_in m u)
 AtomSettled signature n m (same_time i j) = (time_in m i < n) × (time_in m j < n)
 AtomSettled signature n m (before i j) = (time_in m i < n) × (time_in m j < n)
 AtomSettled signature n m (last i) = time_in m i < n

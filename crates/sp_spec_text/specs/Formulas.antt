@@ -5,12 +5,13 @@ use Rattle.std.specs.Prelude.{◌≡◌, ℕ, ◌+◌, ◌<◌, true, false, Lis
 use Rattle.sp_spec_text.specs.Signs.{Sign}
 use Rattle.sp_spec_text.specs.Signs as s
 use Rattle.sp_spec_text.specs.Token.{Lexeme, word, constant, sign}
-use Rattle.sp_spec.specs.Term.{Term, var}
+use Rattle.sp_spec.specs.Term.{Term, var, app, Terms, none, more}
 use Rattle.sp_spec.specs.Term as t
+use Rattle.sp_spec.specs.Signature.{pair}
 use Rattle.sp_spec.specs.Rule.{Fact}
 use Rattle.sp_spec.specs.Formula.{Mark, bare, Written, Formula, truth, falsity, happens, equals, precedes, not_so, both, either, implies, for_some}
 use Rattle.sp_spec_text.specs.Names.{IsName, names_fact, mark_of, mark_at}
-use Rattle.sp_spec_text.specs.Lists.{IsNotFirst, AreItems}
+use Rattle.sp_spec_text.specs.Lists.{IsNotFirst}
 use Rattle.sp_spec_text.specs.Shapes.{written, fact, action_of, quantified}
 
 -- var: `~` name ; `$` name ; `#` name ; name ; name `:` (fresh pub msg node)
@@ -19,16 +20,35 @@ pub data SpellsVariable : List Lexeme → Written → List Lexeme → Type 0 whe
   unmarked : {w : List ℕ} {rest : List Lexeme} → IsName w → SpellsVariable (word w ∷ rest) (written w bare) rest
   sorted : {w k : List ℕ} {m : Mark} {rest : List Lexeme} → IsName w → mark_of k ≡ Some m → SpellsVariable (word w ∷ sign s.Colon ∷ word k ∷ rest) (written w m) rest
 
--- term: constant ; var ; `(` term `)`
-pub data SpellsTerm : ℕ → List Lexeme → Term Written → List Lexeme → Type 0 where
-  fixed : {n : ℕ} {c : List ℕ} {rest : List Lexeme} → SpellsTerm n (constant c ∷ rest) (t.constant c) rest
-  variable : {n : ℕ} {v : Written} {tokens rest : List Lexeme} → SpellsVariable tokens v rest → SpellsTerm n tokens (var v) rest
-  brackets : {n : ℕ} {x : Term Written} {tokens rest : List Lexeme} → n < 128 → SpellsTerm (n + 1) tokens x (sign s.Close ∷ rest) → SpellsTerm n (sign s.Open ∷ tokens) x rest
+mutual
+  -- term: `<` term,+ `>` ; name `(` term,* `)` ; name `{` term,+ `}` term ; constant ; var ; `(` term `)`
+  pub data SpellsTerm : ℕ → List Lexeme → Term Written → List Lexeme → Type 0 where
+    fixed : {n : ℕ} {c : List ℕ} {rest : List Lexeme} → SpellsTerm n (constant c ∷ rest) (t.constant c) rest
+    variable : {n : ℕ} {v : Written} {tokens rest : List Lexeme} → SpellsVariable tokens v rest → SpellsTerm n tokens (var v) rest
+    brackets : {n : ℕ} {x : Term Written} {tokens rest : List Lexeme} → n < 128 → SpellsTerm (n + 1) tokens x (sign s.Close ∷ rest) → SpellsTerm n (sign s.Open ∷ tokens) x rest
+    tuple : {n : ℕ} {x : Term Written} {tokens rest : List Lexeme} → n < 128 → SpellsTuple (n + 1) s.Greater tokens x rest → SpellsTerm n (sign s.Less ∷ tokens) x rest
+    application : {n : ℕ} {w : List ℕ} {xs : Terms Written} {tokens rest : List Lexeme} → IsName w → n < 128 → SpellsArguments (n + 1) tokens xs rest → SpellsTerm n (word w ∷ sign s.Open ∷ tokens) (app w xs) rest
+    braced : {n : ℕ} {w : List ℕ} {x y : Term Written} {tokens mid rest : List Lexeme} → IsName w → n < 128 → SpellsTuple (n + 1) s.CloseBrace tokens x mid → SpellsTerm (n + 1) mid y rest → SpellsTerm n (word w ∷ sign s.OpenBrace ∷ tokens) (app w (more x (more y none))) rest
+
+  -- term,+ and a closing sign: the first, or the pair of the first and what is behind its comma, which nests one deeper
+  pub data SpellsTuple : ℕ → Sign → List Lexeme → Term Written → List Lexeme → Type 0 where
+    last_part : {n : ℕ} {close : Sign} {x : Term Written} {tokens rest : List Lexeme} → SpellsTerm n tokens x (sign close ∷ rest) → SpellsTuple n close tokens x rest
+    next_part : {n : ℕ} {close : Sign} {x y : Term Written} {tokens mid rest : List Lexeme} → SpellsTerm n tokens x (sign s.Comma ∷ mid) → n < 128 → SpellsTuple (n + 1) close mid y rest → SpellsTuple n close tokens (pair x y) rest
+
+  -- term,* `)`
+  pub data SpellsArguments : ℕ → List Lexeme → Terms Written → List Lexeme → Type 0 where
+    no_argument : {n : ℕ} {rest : List Lexeme} → SpellsArguments n (sign s.Close ∷ rest) none rest
+    some_arguments : {n : ℕ} {xs : Terms Written} {tokens rest : List Lexeme} → SpellsTerms n tokens xs rest → SpellsArguments n tokens xs rest
+
+  -- term,+ `)`
+  pub data SpellsTerms : ℕ → List Lexeme → Terms Written → List Lexeme → Type 0 where
+    last_term : {n : ℕ} {x : Term Written} {tokens rest : List Lexeme} → SpellsTerm n tokens x (sign s.Close ∷ rest) → SpellsTerms n tokens (more x none) rest
+    next_term : {n : ℕ} {x : Term Written} {xs : Terms Written} {tokens mid rest : List Lexeme} → SpellsTerm n tokens x (sign s.Comma ∷ mid) → SpellsTerms n mid xs rest → SpellsTerms n tokens (more x xs) rest
 
 -- fact: `!`? name `(` term,* `)`
 pub data SpellsFact (n : ℕ) : List Lexeme → Fact Written → List Lexeme → Type 0 where
-  linear : {w : List ℕ} {args : List (Term Written)} {tokens rest : List Lexeme} → names_fact w ≡ true → n < 128 → AreItems (SpellsTerm (n + 1)) s.Close tokens args rest → SpellsFact n (word w ∷ sign s.Open ∷ tokens) (fact w false args) rest
-  persistent : {w : List ℕ} {args : List (Term Written)} {tokens rest : List Lexeme} → names_fact w ≡ true → n < 128 → AreItems (SpellsTerm (n + 1)) s.Close tokens args rest → SpellsFact n (sign s.Bang ∷ word w ∷ sign s.Open ∷ tokens) (fact w true args) rest
+  linear : {w : List ℕ} {args : Terms Written} {tokens rest : List Lexeme} → names_fact w ≡ true → n < 128 → SpellsArguments (n + 1) tokens args rest → SpellsFact n (word w ∷ sign s.Open ∷ tokens) (fact w false args) rest
+  persistent : {w : List ℕ} {args : Terms Written} {tokens rest : List Lexeme} → names_fact w ≡ true → n < 128 → SpellsArguments (n + 1) tokens args rest → SpellsFact n (sign s.Bang ∷ word w ∷ sign s.Open ∷ tokens) (fact w true args) rest
 
 -- var+ `.`
 pub data SpellsBinders : List Lexeme → List Written → List Lexeme → Type 0 where

@@ -116,6 +116,8 @@ short_sign b =
     else if b == 126 then Some s.Tilde else if b == 36 then Some s.Dollar else if b == 35 then Some s.Hash
     else if b == 64 then Some s.At else if b == 38 then Some s.And else if b == 124 then Some s.Or
     else if b == 61 then Some s.Equals else if b == 60 then Some s.Less else if b == 45 then Some s.Dash
+    else if b == 123 then Some s.OpenBrace else if b == 125 then Some s.CloseBrace
+    else if b == 62 then Some s.Greater else if b == 47 then Some s.Slash
     else None
 
 abbrev pub short_piece : Option Sign → List ℕ → Piece

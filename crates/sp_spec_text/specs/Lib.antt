@@ -10,6 +10,7 @@ pub mod Lists
 pub mod Shapes
 pub mod Formulas
 pub mod Written
+pub mod Declared
 pub mod Proofs
 pub mod Theories
 pub mod Spans

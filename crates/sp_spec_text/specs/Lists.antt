@@ -24,3 +24,8 @@ pub data AreParts {A : Type 0} (R : List Lexeme → A → List Lexeme → Type 0
 pub data AreItems {A : Type 0} (R : List Lexeme → A → List Lexeme → Type 0) (close : Sign) : List Lexeme → List A → List Lexeme → Type 0 where
   empty : {rest : List Lexeme} → AreItems R close (sign close ∷ rest) [] rest
   some : {xs : List A} {tokens rest : List Lexeme} → AreParts R s.Comma close tokens xs rest → AreItems R close tokens xs rest
+
+-- one or more with commas, and nothing that closes them
+pub data AreListed {A : Type 0} (R : List Lexeme → A → List Lexeme → Type 0) : List Lexeme → List A → List Lexeme → Type 0 where
+  alone : {x : A} {tokens rest : List Lexeme} → R tokens x rest → AreListed R tokens (x ∷ []) rest
+  and_more : {x : A} {xs : List A} {tokens mid rest : List Lexeme} → R tokens x (sign s.Comma ∷ mid) → AreListed R mid xs rest → AreListed R tokens (x ∷ xs) rest

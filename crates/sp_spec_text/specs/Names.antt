@@ -53,3 +53,14 @@ mark_at s.Tilde = Some (of_sort Fresh)
 mark_at s.Dollar = Some (of_sort Pub)
 mark_at s.Hash = Some of_time
 mark_at _ = None
+
+-- whether a function with this attribute is private
+unfoldable pub privacy_of : List ℕ → Option Bool
+privacy_of w =
+    if bytes_eq w (codes "private") then Some true
+    else if bytes_eq w (codes "public") || bytes_eq w (codes "constructor") || bytes_eq w (codes "destructor") then Some false
+    else None
+
+abbrev pub is_one_so : List Bool → Bool
+is_one_so [] = false
+is_one_so (b ∷ bs) = b || is_one_so bs

@@ -1,6 +1,6 @@
 -- What the parts of a text stand for.
 use Rattle.std.specs.Prelude.{ℕ, Bool, List, [], ◌∷◌, map}
-use Rattle.sp_spec.specs.Term.{Term, Terms, none, more}
+use Rattle.sp_spec.specs.Term.{Terms}
 use Rattle.sp_spec.specs.Rule.{Fact, Action}
 use Rattle.sp_spec.specs.Formula.{Mark, Written, Formula, for_all}
 use Rattle.sp_spec.specs.Written.{WrittenRule}
@@ -8,12 +8,8 @@ use Rattle.sp_spec.specs.Written.{WrittenRule}
 abbrev pub written : List ℕ → Mark → Written
 written w m = record { name = w; mark = m }
 
-abbrev pub row : List (Term Written) → Terms Written
-row [] = none
-row (x ∷ xs) = more x (row xs)
-
-abbrev pub fact : List ℕ → Bool → List (Term Written) → Fact Written
-fact w persistent args = record { symbol = w; persistent = persistent; args = row args }
+abbrev pub fact : List ℕ → Bool → Terms Written → Fact Written
+fact w persistent args = record { symbol = w; persistent = persistent; args = args }
 
 -- an exclamation mark at an action says nothing
 abbrev pub action_of : Fact Written → Action Written

@@ -24,3 +24,7 @@ pub data Sign : Type 0 where
   Equals : Sign  -- `=`
   Less : Sign  -- `<`
   Dash : Sign  -- `-`
+  OpenBrace : Sign  -- `{`
+  CloseBrace : Sign  -- `}`
+  Greater : Sign  -- `>`
+  Slash : Sign  -- `/`

@@ -3,9 +3,8 @@ use Rattle.std.specs.Prelude.{◌≡◌, ℕ, ◌+◌, ◌≤◌, Bool, false, �
 use Rattle.sp_spec_text.specs.Token.{Token}
 use Rattle.sp_spec_text.specs.Lex.{lexemes}
 use Rattle.sp_spec.specs.Theory.{Lemma}
-use Rattle.sp_spec.specs.Written.{WrittenRule}
-use Rattle.sp_spec_text.specs.Written.{WrittenProof, Item, rule_item, lemma_item}
-use Rattle.sp_spec_text.specs.Theories.{SpellsRule, SpellsLemma, SpellsProofPart}
+use Rattle.sp_spec_text.specs.Written.{WrittenProof, Item, lemma_item}
+use Rattle.sp_spec_text.specs.Theories.{SpellsDeclaration, SpellsLemma, SpellsProofPart}
 
 -- from behind the closing quote of a lemma's formula to behind its proof; the same place where it has none
 pub record Span : Type 0 where
@@ -31,7 +30,7 @@ EndsWith tokens others = (before : List Token) × (tokens ≡ before ++ others)
 -- where the tokens spell these items, one span for each lemma
 pub data AreSpans : List Token → List Item → List Span → Type 0 where
   no_span : {tokens : List Token} → AreSpans tokens [] []
-  past_rule : {r : WrittenRule} {items : List Item} {spans : List Span} {tokens mid : List Token} → SpellsRule (lexemes tokens) r (lexemes mid) → EndsWith tokens mid → AreSpans mid items spans → AreSpans tokens (rule_item r ∷ items) spans
+  past_declaration : {x : Item} {items : List Item} {spans : List Span} {tokens mid : List Token} → SpellsDeclaration (lexemes tokens) x (lexemes mid) → EndsWith tokens mid → AreSpans mid items spans → AreSpans tokens (x ∷ items) spans
   past_lemma : {l : Lemma} {p : Option WrittenProof} {items : List Item} {span : Span} {spans : List Span} {tokens behind mid : List Token}
       → SpellsLemma (lexemes tokens) l (lexemes behind) → IsBehind tokens behind span.from
       → SpellsProofPart (lexemes behind) p (lexemes mid) → EndsAt behind mid p span

@@ -36,7 +36,7 @@ abbrev mutual
 abbrev pub IsGiven : List Symbol → List ℕ × Ground → Type 0
 IsGiven symbols g = IsNameWord g.0 × IsWritable symbols g.1
 
--- the adversary's use of a symbol is not read yet
+-- what the adversary applies may be any name, over as many arguments as one likes: whether there is such a symbol is asked when the step is done
 abbrev pub IsWritableStep : List Symbol → Step → Type 0
 IsWritableStep symbols (make_fresh t) = IsWritable symbols t
 IsWritableStep symbols (use_rule r given) = IsNameWord r × Every (IsGiven symbols) given
@@ -44,7 +44,7 @@ IsWritableStep symbols (take_out t) = IsWritable symbols t
 IsWritableStep symbols (put_in t) = IsWritable symbols t
 IsWritableStep symbols (know_public t) = IsWritable symbols t
 IsWritableStep symbols (make_own t) = IsWritable symbols t
-IsWritableStep symbols (apply_symbol f ts) = ⊥
+IsWritableStep symbols (apply_symbol f ts) = IsNameWord f × AreWritable symbols ts
 
 -- the line, without the blanks around it, is that of the step
 pub record IsStepLine (symbols : List Symbol) (line : List ℕ) (s : Step) : Type 0 where

@@ -1,18 +1,21 @@
 -- The grammar of theories without an adversary, line by line: which tokens spell which theory. `SpellsX tokens x rest` says that the tokens
 -- begin with a spelling of x, and that the rest follows. Facts and formulas stand in Formulas.antt, proofs in
 -- Proofs.antt. Source: Tamarin manual, "Syntax description".
-use Rattle.std.specs.Prelude.{ℕ, List, [], ◌∷◌, Option, Some, None, codes}
+use Rattle.std.specs.Prelude.{◌≡◌, ℕ, Bool, true, false, List, [], ◌∷◌, ◌++◌, Option, Some, None, codes}
 use Rattle.sp_spec_text.specs.Signs as s
 use Rattle.sp_spec_text.specs.Token.{Lexeme, word, sign}
+use Rattle.sp_spec.specs.Term.{Term}
+use Rattle.sp_spec.specs.Signature.{Symbol}
 use Rattle.sp_spec.specs.Rule.{Fact}
 use Rattle.sp_spec.specs.Formula.{Written, Formula}
 use Rattle.sp_spec.specs.Theory.{TraceKind, all_traces, exists_trace, Lemma}
 use Rattle.sp_spec.specs.Written.{WrittenRule}
-use Rattle.sp_spec_text.specs.Names.{IsName}
-use Rattle.sp_spec_text.specs.Lists.{AreItems}
+use Rattle.sp_spec_text.specs.Names.{IsName, privacy_of, is_one_so}
+use Rattle.sp_spec_text.specs.Numerals.{is_numeral, value, counted}
+use Rattle.sp_spec_text.specs.Lists.{AreParts, AreItems, AreListed}
 use Rattle.sp_spec_text.specs.Shapes.{rule_of}
-use Rattle.sp_spec_text.specs.Formulas.{SpellsFact, SpellsFormula}
-use Rattle.sp_spec_text.specs.Written.{WrittenProof, Item, rule_item, lemma_item, WrittenText}
+use Rattle.sp_spec_text.specs.Formulas.{SpellsTerm, SpellsFact, SpellsFormula}
+use Rattle.sp_spec_text.specs.Written.{WrittenProof, Item, builtins_item, functions_item, equations_item, rule_item, lemma_item, WrittenText}
 use Rattle.sp_spec_text.specs.Proofs.{SpellsProof}
 
 -- facts: `[` fact,* `]`
@@ -23,6 +26,25 @@ pub data SpellsFacts : List Lexeme → List (Fact Written) → List Lexeme → T
 pub data SpellsArrow : List Lexeme → List (Fact Written) → List Lexeme → Type 0 where
   unlabelled : {rest : List Lexeme} → SpellsArrow (sign s.Arrow ∷ rest) [] rest
   labelled : {fs : List (Fact Written)} {tokens rest : List Lexeme} → AreItems (SpellsFact 0) s.CloseArrow tokens fs rest → SpellsArrow (sign s.OpenArrow ∷ tokens) fs rest
+
+-- bname: names joined by `-`
+pub data SpellsBuiltin : List Lexeme → List ℕ → List Lexeme → Type 0 where
+  single : {w : List ℕ} {rest : List Lexeme} → IsName w → SpellsBuiltin (word w ∷ rest) w rest
+  joined : {w b : List ℕ} {tokens rest : List Lexeme} → IsName w → SpellsBuiltin tokens b rest → SpellsBuiltin (word w ∷ sign s.Dash ∷ tokens) (w ++ (codes "-" ++ b)) rest
+
+-- `private`, `public`, `constructor` or `destructor`; whether the symbol is private
+pub data SpellsAttribute : List Lexeme → Bool → List Lexeme → Type 0 where
+  attribute : {w : List ℕ} {private : Bool} {rest : List Lexeme} → privacy_of w ≡ Some private → SpellsAttribute (word w ∷ rest) private rest
+
+-- fdecl: name `/` number (`[` attribute,+ `]`)?
+pub data SpellsFunction : List Lexeme → Symbol → List Lexeme → Type 0 where
+  plain : {w k : List ℕ} {rest : List Lexeme} → IsName w → is_numeral k ≡ true → SpellsFunction (word w ∷ sign s.Slash ∷ word k ∷ rest) (record { name = w; arity = counted (value 0 k); private = false }) rest
+  with_attributes : {w k : List ℕ} {each : List Bool} {tokens rest : List Lexeme} → IsName w → is_numeral k ≡ true → AreParts SpellsAttribute s.Comma s.CloseList tokens each rest
+      → SpellsFunction (word w ∷ sign s.Slash ∷ word k ∷ sign s.OpenList ∷ tokens) (record { name = w; arity = counted (value 0 k); private = is_one_so each }) rest
+
+-- term `=` term
+pub data SpellsEquation : List Lexeme → Term Written × Term Written → List Lexeme → Type 0 where
+  equation : {x y : Term Written} {tokens mid rest : List Lexeme} → SpellsTerm 0 tokens x (sign s.Equals ∷ mid) → SpellsTerm 0 mid y rest → SpellsEquation tokens (x, y) rest
 
 -- rule: `rule` name `:` facts arrow facts
 pub data SpellsRule : List Lexeme → WrittenRule → List Lexeme → Type 0 where
@@ -45,10 +67,17 @@ pub data SpellsProofPart : List Lexeme → Option WrittenProof → List Lexeme �
   no_proof : {rest : List Lexeme} → SpellsProofPart rest None rest
   a_proof : {p : WrittenProof} {tokens rest : List Lexeme} → SpellsProof tokens p rest → SpellsProofPart tokens (Some p) rest
 
--- item*, each a rule, or a lemma and proof?
+-- an item without a proof: `builtins` `:` bname,+ ; `functions` `:` fdecl,+ ; `equations` `:` (term `=` term),+ ; rule
+pub data SpellsDeclaration : List Lexeme → Item → List Lexeme → Type 0 where
+  builtins : {bs : List (List ℕ)} {tokens rest : List Lexeme} → AreListed SpellsBuiltin tokens bs rest → SpellsDeclaration (word (codes "builtins") ∷ sign s.Colon ∷ tokens) (builtins_item bs) rest
+  functions : {ss : List Symbol} {tokens rest : List Lexeme} → AreListed SpellsFunction tokens ss rest → SpellsDeclaration (word (codes "functions") ∷ sign s.Colon ∷ tokens) (functions_item ss) rest
+  equations : {es : List (Term Written × Term Written)} {tokens rest : List Lexeme} → AreListed SpellsEquation tokens es rest → SpellsDeclaration (word (codes "equations") ∷ sign s.Colon ∷ tokens) (equations_item es) rest
+  a_rule : {r : WrittenRule} {tokens rest : List Lexeme} → SpellsRule tokens r rest → SpellsDeclaration tokens (rule_item r) rest
+
+-- item*, each of these, or a lemma and proof?
 pub data SpellsItems : List Lexeme → List Item → List Lexeme → Type 0 where
   no_item : {rest : List Lexeme} → SpellsItems rest [] rest
-  rule_first : {r : WrittenRule} {items : List Item} {tokens mid rest : List Lexeme} → SpellsRule tokens r mid → SpellsItems mid items rest → SpellsItems tokens (rule_item r ∷ items) rest
+  declaration_first : {x : Item} {items : List Item} {tokens mid rest : List Lexeme} → SpellsDeclaration tokens x mid → SpellsItems mid items rest → SpellsItems tokens (x ∷ items) rest
   lemma_first : {l : Lemma} {p : Option WrittenProof} {items : List Item} {tokens behind mid rest : List Lexeme} → SpellsLemma tokens l behind → SpellsProofPart behind p mid → SpellsItems mid items rest → SpellsItems tokens (lemma_item l p ∷ items) rest
 
 -- theory: `theory` name `begin` item* `end`

@@ -1,8 +1,12 @@
 -- A theory as a text writes it: its rules and lemmas in the order of the text, and the proofs that stand below lemmas.
 -- Source: Tamarin manual, "Theory files" and "Proofs".
 use Rattle.std.specs.Prelude.{ℕ, List, [], ◌∷◌, ◌++◌, map, Option}
+use Rattle.std.specs.List.{flat_map}
+use Rattle.sp_spec.specs.Term.{Term}
+use Rattle.sp_spec.specs.Signature.{Symbol}
+use Rattle.sp_spec.specs.Formula.{Written}
 use Rattle.sp_spec.specs.Theory.{Lemma}
-use Rattle.sp_spec.specs.Written.{WrittenRule, WrittenTheory}
+use Rattle.sp_spec.specs.Written.{WrittenRule}
 
 -- what a step of a proof says: a word, or the text between the brackets of `solve( )`
 pub data Method : Type 0 where
@@ -19,8 +23,11 @@ mutual
     no_case : WrittenCases
     then_case : List ℕ → WrittenProof → WrittenCases → WrittenCases
 
--- a rule, or a lemma and its proof if it has one
+-- builtins by their names, functions, equations, a rule, or a lemma and its proof if it has one
 pub data Item : Type 0 where
+  builtins_item : List (List ℕ) → Item
+  functions_item : List Symbol → Item
+  equations_item : List (Term Written × Term Written) → Item
   rule_item : WrittenRule → Item
   lemma_item : Lemma → Option WrittenProof → Item
 
@@ -28,19 +35,40 @@ pub record WrittenText : Type 0 where
   pub name : List ℕ
   pub items : List Item
 
--- ---- the theory that is written
+-- ---- what an item says
 
--- what an item says: no rule or one
+abbrev pub item_builtins : Item → List (List ℕ)
+item_builtins (builtins_item bs) = bs
+item_builtins item = []
+
+abbrev pub item_functions : Item → List Symbol
+item_functions (functions_item ss) = ss
+item_functions item = []
+
+abbrev pub item_equations : Item → List (Term Written × Term Written)
+item_equations (equations_item es) = es
+item_equations item = []
+
 abbrev pub item_rules : Item → List WrittenRule
 item_rules (rule_item r) = r ∷ []
-item_rules (lemma_item l p) = []
+item_rules item = []
 
 -- no lemma or one, with its proof if it has one
 abbrev pub item_lemmas : Item → List (Lemma × Option WrittenProof)
-item_lemmas (rule_item r) = []
 item_lemmas (lemma_item l p) = (l, p) ∷ []
+item_lemmas item = []
 
--- in the order of the text
+-- ---- and all of them, in the order of the text
+
+abbrev pub builtins_in : List Item → List (List ℕ)
+builtins_in items = flat_map item_builtins items
+
+abbrev pub functions_in : List Item → List Symbol
+functions_in items = flat_map item_functions items
+
+abbrev pub equations_in : List Item → List (Term Written × Term Written)
+equations_in items = flat_map item_equations items
+
 abbrev pub rules_in : List Item → List WrittenRule
 rules_in [] = []
 rules_in (x ∷ items) = item_rules x ++ rules_in items
@@ -62,10 +90,6 @@ proofs_in items = map (λ (q : Lemma × Option WrittenProof). q.1) (lemmas_with_
 -- the items with these proofs in the places of their own, one for each lemma
 abbrev pub with_proofs : List Item → List (Option WrittenProof) → List Item
 with_proofs [] proofs = []
-with_proofs (rule_item r ∷ items) proofs = rule_item r ∷ with_proofs items proofs
 with_proofs (lemma_item l p ∷ items) [] = lemma_item l p ∷ with_proofs items []
 with_proofs (lemma_item l p ∷ items) (q ∷ proofs) = lemma_item l q ∷ with_proofs items proofs
-
--- no item adds symbols, equations or restrictions yet
-abbrev pub theory_in : WrittenText → WrittenTheory
-theory_in t = record { name = t.name; symbols = []; equations = []; rules = rules_in t.items; restrictions = []; lemmas = lemmas_in t.items }
+with_proofs (item ∷ items) proofs = item ∷ with_proofs items proofs

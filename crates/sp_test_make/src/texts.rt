@@ -1,5 +1,6 @@
 // Tokens, facts, rules and formulas that are read from texts.
 
+use sp_fact::fact::{Action, Facts};
 use sp_lex::{Sign, Token, tokens};
 use sp_read_parts::facts::fact_list;
 use sp_read_parts::formulas::formula;
@@ -29,11 +30,20 @@ pub fn rule_in<'a>(
     parts: [&'a [u8]; 3],
 ) -> Result<WrittenRule<'a>, Fail> {
     let [premises, actions, conclusions] = parts;
+    let mut shown = Vec::new(alloc);
+    for fact in facts_in(alloc, actions)? {
+        shown.push(Action {
+            symbol: fact.symbol,
+            args: fact.args,
+        })?;
+    }
     Ok(WrittenRule {
         name,
-        premises: facts_in(alloc, premises)?,
-        actions: facts_in(alloc, actions)?,
-        conclusions: facts_in(alloc, conclusions)?,
+        facts: Facts {
+            premises: facts_in(alloc, premises)?,
+            actions: shown,
+            conclusions: facts_in(alloc, conclusions)?,
+        },
     })
 }
 

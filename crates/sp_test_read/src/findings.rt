@@ -1,10 +1,24 @@
 // What is wrong with rules and lemmas is found and told.
 
+use sp_declared::equations::equations;
+use sp_declared::resolved::resolved;
+use sp_declared::symbols::symbols;
 use sp_finding::rule_is_wrong;
 use sp_read_theory::read_theory;
 use sp_test_make::texts::rule_in;
 use sp_wf::report;
+use std::alloc::Global;
 use std::test::Fail;
+
+/// The report on the theory of a text.
+fn report_on(alloc: Global, text: &[u8]) -> Result<Vec<u8>, Fail> {
+    let read = read_theory(alloc, text)?.ok_or("read")?;
+    let symbols = symbols(alloc, &read.items)?;
+    let theory = resolved(alloc, &symbols, read)?;
+    let equations = equations(alloc, &theory.items)?;
+    let lines = report(alloc, &symbols, &equations, &theory)?;
+    Ok(lines)
+}
 
 #[test]
 fn wrong_rules_are_found(rt: HostRuntime) -> Result<(), Fail> {
@@ -82,8 +96,7 @@ fn items_are_reported_on(rt: HostRuntime) -> Result<(), Fail> {
         ),
     ];
     for (text, lines) in wanted {
-        let theory = read_theory(rt.alloc(), text)?.ok_or("read")?;
-        let found = report(rt.alloc(), &theory)?;
+        let found = report_on(rt.alloc(), text)?;
         assert!(rt; found.as_slice() == lines.as_bytes(), "{lines}");
     }
     Ok(())
@@ -128,8 +141,7 @@ rule R: [ ] --> [ ] lemma R: \"T\" rule R: [ ] --> [ ] end",
         ),
     ];
     for (text, lines) in wanted {
-        let theory = read_theory(rt.alloc(), text)?.ok_or("read")?;
-        let found = report(rt.alloc(), &theory)?;
+        let found = report_on(rt.alloc(), text)?;
         assert!(rt; found.as_slice() == lines.as_bytes(), "{lines}");
     }
     Ok(())

@@ -41,7 +41,17 @@ fn read(alloc: Global, text: &[u8]) -> Result<Option<(char, usize)>, Fail> {
 
 #[test]
 fn formulas_are_read(rt: HostRuntime) -> Result<(), Fail> {
-    let wanted: [(&[u8], Option<(char, usize)>); 20] = [
+    let wanted: [(&[u8], Option<(char, usize)>); 30] = [
+        (b"<x, y> = z\"", Some(('=', 8))),
+        (b"h(x) = h(<y>)\"", Some(('=', 12))),
+        (b"f{x, y}k = z\"", Some(('=', 10))),
+        (b"(f(x, g())) = 'a' & F\"", Some(('&', 15))),
+        (b"H(f{<x, 'c'>}h(y), k)@i\"", Some(('@', 20))),
+        (b"H(f(x)) = y\"", Some(('=', 10))),
+        (b"x < h(y)\"", None),
+        (b"<x, > = y\"", None),
+        (b"f{} = y\"", None),
+        (b"All(x) = y\"", None),
         (b"T\"", Some(('T', 2))),
         (b"(F)\" x", Some(('F', 4))),
         (b"(T) = x\"", Some(('=', 6))),

@@ -93,7 +93,7 @@ fn formulas_are_refused_at_their_first_wrong_token(rt: HostRuntime) -> Result<()
         (b"not (not T)", None),
         (b"F() @ i", None),
         (b"F(x:fresh, 'a') @ #i", None),
-        (b"In(x) @ i", Some(2)),
+        (b"In(x) @ i", Some(6)),
         (b"x:day = y", Some(2)),
         (b"All . T", Some(4)),
         (b"All x = T", Some(6)),

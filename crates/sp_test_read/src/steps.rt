@@ -66,7 +66,11 @@ fn write_step(alloc: Global, out: &mut String, step: &Step) -> Result<(), AllocE
             }
             Ok(())
         }
-        Step::ApplySymbol(_, _) => out.push_str("ApplySymbol"),
+        Step::ApplySymbol(symbol, terms) => {
+            out.push_str("ApplySymbol ")?;
+            out.push_str(symbol.text.as_str())?;
+            write_terms(alloc, out, terms)
+        }
     }
 }
 
@@ -101,6 +105,13 @@ fn steps_are_read(rt: HostRuntime) -> Result<(), Fail> {
         (
             "fresh ~n340282366920938463463374607431768211455",
             "MakeFresh 340282366920938463463374607431768211455;",
+        ),
+        ("make c", "ApplySymbol c[];"),
+        ("make nosuch('a')", "ApplySymbol nosuch[<a> ];"),
+        ("make pair('a')", "ApplySymbol pair[<a> ];"),
+        (
+            "make <'a', 'b', 'c'>",
+            "ApplySymbol pair[<a> pair[<b> <c> ] ];",
         ),
         ("rule Foo:", "UseRule Foo;"),
         ("rule Make: k = ~n1, k = ~n2", "UseRule Make k 1 k 2;"),
@@ -141,7 +152,11 @@ fn other_lines_are_no_steps(rt: HostRuntime) -> Result<(), Fail> {
         "rule Make: k = ~n1,",
         "rule Make: k=~n1",
         "make 'a'",
-        "make fst('a')",
+        "make c()",
+        "make pair('a', 'b')",
+        "make <'a', <'b', 'c'>>",
+        "make fst(nosuch('a'))",
+        "make end",
         "in h('a')",
         "in fst",
         "in fst()",

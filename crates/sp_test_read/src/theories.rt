@@ -121,9 +121,9 @@ fn items_are_read(rt: HostRuntime) -> Result<(), Fail> {
         return Err("rule")?;
     };
     assert_eq!(rt; rule.name, "Make");
-    assert_eq!(rt; rule.premises.len(), 2);
-    assert_eq!(rt; rule.actions.len(), 1);
-    assert_eq!(rt; rule.conclusions.len(), 0);
+    assert_eq!(rt; rule.facts.premises.len(), 2);
+    assert_eq!(rt; rule.facts.actions.len(), 1);
+    assert_eq!(rt; rule.facts.conclusions.len(), 0);
     Ok(())
 }
 

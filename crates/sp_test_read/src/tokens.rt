@@ -114,7 +114,7 @@ fn fault(alloc: Global, text: &[u8], kind: FaultKind) -> Result<Option<(usize, b
 #[test]
 fn the_first_fault_is_found(rt: HostRuntime) -> Result<(), Fail> {
     let wanted: [(&[u8], FaultKind, Option<usize>); 13] = [
-        (b"theory T / x", FaultKind::NoToken, Some(9)),
+        (b"theory T % x", FaultKind::NoToken, Some(9)),
         (b"a \xFF", FaultKind::NoToken, Some(2)),
         (b"a /* b", FaultKind::OpenComment, Some(2)),
         (b"a /* /* */ b", FaultKind::OpenComment, Some(2)),

@@ -21,3 +21,5 @@ mod proofs;
 mod stateful;
 #[cfg(test)]
 mod steps;
+#[cfg(test)]
+mod symbols;

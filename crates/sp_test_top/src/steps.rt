@@ -39,7 +39,11 @@ const BEHIND_FIRST: [(&str, u8, &str); 14] = [
     ("\nrule Make: k = ~n1, k = ~n1\n", 3, "step 1 refused (2)\n"),
     ("\npub ~n1\n", 3, "step 1 refused (5)\n"),
     ("\njump\n", 4, "refused: line 1\n"),
-    ("\npub 'a'\n\nmake fst('a')\n", 4, "refused: line 3\n"),
+    (
+        "\npub 'a'\n\nmake fst('a')\n",
+        0,
+        "trace:\nend of trace\nonce (all-traces): met\n",
+    ),
     ("\nfresh ~n1\nfresh ~n1\njump\n", 4, "refused: line 3\n"),
 ];
 

@@ -5,13 +5,14 @@ use Rattle.sp_spec.specs.Lists.{Member, Every}
 use Rattle.sp_spec.specs.Theory.{Theory, Lemma}
 use Rattle.sp_spec.specs.Written.{theory_of}
 use Rattle.sp_spec.specs.Verdict.{names_learning}
-use Rattle.sp_spec_text.specs.Texts.{IsTextOf}
 use Rattle.sp_spec_proof.specs.Tree.{steps}
-use Rattle.sp_spec_text.specs.Written.{WrittenProof, WrittenText, lemmas_with_proofs, without_proofs, theory_in}
+use Rattle.sp_spec_text.specs.Written.{WrittenProof, WrittenText, lemmas_with_proofs, without_proofs}
+use Rattle.sp_spec_text.specs.Declared.{resolved, theory_in}
 use Rattle.sp_spec_text.specs.Verdict.{summary_line}
 use Rattle.sp_spec_text.specs.Names.{IsNameWord}
 use Rattle.sp_spec_text.specs.Blanks.{lines}
 use Rattle.sp_check.specs.Skeleton as read
+use Rattle.sp_pose.specs.Problem.{Poses}
 use Rattle.sp_io.specs.Told.{extended}
 use Rattle.sp_spec_text.specs.Behind.{IsBehindEnd}
 use Rattle.sp_law_again.proofs.Behind.{behind_one}
@@ -49,8 +50,8 @@ record IsKnown (text : WrittenText) (lemma : Lemma) : Type 0 where
   named : IsNameWord lemma.name
   unlearnt : names_learning lemma.formula ≡ false
 
-all_known : (bytes : List ℕ) (text : WrittenText) → IsTextOf bytes text → Every (IsKnown text) (theory_in text).lemmas
-all_known bytes text says = go (theory_in text).lemmas (λ l m. m) (texts_have_names_lem.lemmas bytes text says) (lemmas_unlearnt bytes text says)
+all_known : (bytes : List ℕ) (text : WrittenText) → Poses bytes text → Every (IsKnown text) (theory_in text).lemmas
+all_known bytes text posing = go (theory_in text).lemmas (λ l m. m) (texts_have_names_lem.lemmas bytes text posing.says) (lemmas_unlearnt text posing)
   where
     go : (ls : List Lemma) → ((l : Lemma) → Member l ls → Member l (theory_in text).lemmas) → Every (λ (l : Lemma). IsNameWord l.name) ls → Every (λ (l : Lemma). names_learning l.formula ≡ false) ls
         → Every (IsKnown text) ls
@@ -101,9 +102,10 @@ tried_true : (budget : ℕ) (bytes text : List ℕ) (status : Status) → TriedR
 tried_true budget bytes text status r told behind_end =
     let written = r.analysis.theory in
     let theory = theory_of (theory_in written) in
-    let says = r.analysis.poses.says in
+    let posing = r.analysis.poses.poses in
+    let names = texts_have_names_lem.symbols bytes written posing.says in
     let ts = map told_of r.outcomes in
-    let right = outcomes_told written (setting_of (theory_in written)) budget (theory_in written).lemmas r.outcomes (all_known bytes written says) r.analysis.outcomes_are r.right
+    let right = outcomes_told written (setting_of (theory_in written)) budget (theory_in written).lemmas r.outcomes (all_known bytes written posing) r.analysis.outcomes_are r.right
     (executions_are_read_back_lem.tried budget bytes text r.outcomes r.analysis) in
     let same = behind_one text told (codes "\n/*\n" ++ (summary theory r.outcomes ++ codes "*/\n")) behind_end r.again.behind in
     let shape : codes "\n/*\n" ++ (summary theory r.outcomes ++ codes "*/\n") ≡ [] ++ 10 ∷ (codes "/*" ++ 10 ∷ (told_text theory ts ++ codes "*/\n")) =
@@ -112,20 +114,21 @@ tried_true budget bytes text status r told behind_end =
     let last : lines (codes "*/" ++ 10 ∷ []) ≡ codes "*/" ∷ [] ∷ [] = line_cut (codes "*/") [] (no_feed_in (codes "*/") refl) ∙ ap (λ (ls : List (List ℕ)). codes "*/" ∷ ls) one_empty in
     let all = ap lines (same ∙ shape) ∙ line_cut [] (codes "/*" ++ 10 ∷ inner) tt
     ∙ ap (λ (ls : List (List ℕ)). [] ∷ ls) (line_cut (codes "/*") inner (no_feed_in (codes "/*") refl))
-    ∙ ap (λ (ls : List (List ℕ)). [] ∷ codes "/*" ∷ ls) (told_lines written ts right (codes "*/\n") ∙ ap (λ (ls : List (List ℕ)). all_lines written ts ++ ls) last) in
-    lines_true written bytes says told ([] ∷ codes "/*" ∷ []) (codes "*/" ∷ [] ∷ []) ts right all (nothing_there, (opens_comment, tt)) (closes_comment, (nothing_there, tt))
+    ∙ ap (λ (ls : List (List ℕ)). [] ∷ codes "/*" ∷ ls) (told_lines written names ts right (codes "*/\n") ∙ ap (λ (ls : List (List ℕ)). all_lines written names ts ++ ls) last) in
+    lines_true written names bytes posing.says told ([] ∷ codes "/*" ∷ []) (codes "*/" ∷ [] ∷ []) ts right all (nothing_there, (opens_comment, tt)) (closes_comment, (nothing_there, tt))
 
 checked_true : (bytes text : List ℕ) (status : Status) → CheckedRightly bytes text status → LinesAreTrue bytes text
 checked_true bytes text status r =
     let written = r.checking.theory in
     let theory = theory_of (theory_in written) in
-    let says = r.checking.poses.says in
+    let posing = r.checking.poses.poses in
+    let names = texts_have_names_lem.symbols bytes written posing.says in
     let ts = map told_on r.judged in
-    let right = judged_told written (setting_of (theory_in written)) (lemmas_with_proofs written.items) r.judged (all_known bytes written says) r.checking.judged_are r.right
+    let right = judged_told written (setting_of (theory_in written)) (lemmas_with_proofs (resolved written).items) r.judged (all_known bytes written posing) r.checking.judged_are r.right
     (executions_are_read_back_lem.checked bytes text r.judged r.checking) in
     let shape : text ≡ told_text theory ts ++ [] = r.checking.written_is ∙ checked_told theory r.judged ∙ sym (append-nil (told_text theory ts)) in
-    let all = ap lines shape ∙ told_lines written ts right [] ∙ ap (λ (ls : List (List ℕ)). all_lines written ts ++ ls) one_empty in
-    lines_true written bytes says text [] ([] ∷ []) ts right all tt (nothing_there, tt)
+    let all = ap lines shape ∙ told_lines written names ts right [] ∙ ap (λ (ls : List (List ℕ)). all_lines written names ts ++ ls) one_empty in
+    lines_true written names bytes posing.says text [] ([] ∷ []) ts right all tt (nothing_there, tt)
 
 -- ---- what stands written
 

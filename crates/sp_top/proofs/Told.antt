@@ -8,13 +8,14 @@ use Rattle.sp_spec.specs.Written.{theory_of}
 use Rattle.sp_spec.specs.Execution.{Step}
 use Rattle.sp_spec.specs.Log.{Log, visible_trace}
 use Rattle.sp_spec.specs.Verdict.{HoldsInAll, HoldsInNone, IsBrokenBy, IsSatisfiedBy, names_learning, HoldsInAllLogs, HoldsInNoLog, IsBrokenByLog, IsSatisfiedByLog}
-use Rattle.sp_spec_text.specs.Written.{WrittenText, theory_in}
+use Rattle.sp_spec_text.specs.Written.{WrittenText}
+use Rattle.sp_spec_text.specs.Declared.{theory_in}
 use Rattle.sp_spec_text.specs.Texts.{IsTextOf}
 use Rattle.sp_spec_text.specs.Printed.{step_text}
 use Rattle.sp_spec_text.specs.Verdict.{Verdict, verified, falsified, summary_line}
 use Rattle.sp_spec_text.specs.Names.{IsWord}
 use Rattle.sp_spec_text.specs.Blanks.{lines}
-use Rattle.sp_spec_text.proofs.SymbolNames.{pairs_have_names}
+use Rattle.sp_spec_text.specs.StepLines.{HaveNames}
 use Rattle.sp_law_found.specs.Found.{execution_of}
 use Rattle.sp_law_shown.proofs.Learning.{out_of_reading}
 use Rattle.sp_law_block.specs.Block.{oldest_first, block_of}
@@ -74,7 +75,7 @@ module _ (theory : Theory) (lemma : Lemma) (none : names_learning lemma.formula 
 
 -- ---- lines
 
-module _ (text : WrittenText) where
+module _ (text : WrittenText) (names : HaveNames (signature_of (theory_of (theory_in text))).symbols) where
   abbrev theory : Theory
   theory = theory_of (theory_in text)
 
@@ -97,14 +98,14 @@ module _ (text : WrittenText) where
   block_is : (log : Option Log) → AreReadBack theory log → (behind : List ℕ) → lines (block_of theory log ++ behind) ≡ lines_below theory log ++ lines behind
   block_is None h behind = refl
   block_is (Some log) h behind =
-      block_cut (signature_of theory).symbols pairs_have_names (oldest_first (execution_of theory log)) (oldest_first (visible_trace log)) h.writable h.shown steps_are_read_back_lem
-      (action_no_feed (signature_of theory).symbols pairs_have_names) behind
+      block_cut (signature_of theory).symbols names (oldest_first (execution_of theory log)) (oldest_first (visible_trace log)) h.writable h.shown steps_are_read_back_lem
+      (action_no_feed (signature_of theory).symbols names) behind
 
   block_silent : (log : Option Log) → AreReadBack theory log → Every IsNoVerdict (lines_below theory log)
   block_silent None h = tt
   block_silent (Some log) h =
-      block_no_verdict (signature_of theory).symbols pairs_have_names (oldest_first (execution_of theory log)) (oldest_first (visible_trace log)) h.writable h.shown
-      (action_no_feed (signature_of theory).symbols pairs_have_names)
+      block_no_verdict (signature_of theory).symbols names (oldest_first (execution_of theory log)) (oldest_first (visible_trace log)) h.writable h.shown
+      (action_no_feed (signature_of theory).symbols names)
 
   pub told_lines : (ts : List Told) → Every (IsRightlyTold text) ts → (behind : List ℕ) → lines (told_text theory ts ++ behind) ≡ all_lines ts ++ lines behind
   told_lines ts h behind =

@@ -8,7 +8,7 @@ use Rattle.sp_top.specs.declared.Status.TheVariants.{Fine, Falsified, Incomplete
 use Rattle.sp_spec.specs.Lists.{Member, Every}
 use Rattle.sp_spec.specs.Written.{theory_of}
 use Rattle.sp_analysis.specs.Analysis.{Outcome, IsAnalysis}
-use Rattle.sp_spec_text.specs.Written.{theory_in}
+use Rattle.sp_spec_text.specs.Declared.{theory_in}
 use Rattle.sp_analysis.specs.Checking.{Judged, IsChecking}
 use Rattle.sp_analysis.specs.Laws.{Means, JudgedRightly, IsCheckedAgain}
 use Rattle.sp_top.specs.declared.words.Command.{Command}

@@ -10,7 +10,6 @@ use Rattle.sp_law_guard.specs.GuardedForm.{Meant, a_message, a_time, meant, mess
 use Rattle.sp_law_guard.specs.IsGuarded.{is_guarded}
 use Rattle.sp_law_guard.specs.CheckedForm.{fits, each_fits, marks_fit, has_wide, if_right, checked_form}
 use Rattle.sp_guard.specs.Unguarded.{first_unguarded}
-use Rattle.sp_guard.proofs.MarksFit.{both_fit}
 use Rattle.sp_guard.proofs.NoneUnguarded.{none_told as guarded_told}
 use Rattle.sp_wf.specs.Finding.{Finding, arity_above, without_binder, other_sort, mixed_at, told, are_none}
 use Rattle.sp_wf.specs.FormulaFindings.{wide_in, Role, as_message, as_time, Use, uses_as, role_of, uses, is_unbound, is_mixed, unbound_uses, other_uses, mixed_uses, wide_in_lemma, unbound_in_lemma, sorts_in_lemma, mixed_in_lemma, unguarded_at, unguarded_in_lemma}
@@ -62,6 +61,11 @@ each_other n role bs (x ∷ xs) = told_fits (fits x.mark (meant bs x.name)) (oth
 
 other_both : (n : List ℕ) (us vs : List Use) (a b : Bool) → are_none (other_uses n us) ≡ a → are_none (other_uses n vs) ≡ b → are_none (other_uses n (us ++ vs)) ≡ (a && b)
 other_both n us vs a b e k = other_append n us vs ∙ ap₂ (λ (c d : Bool). c && d) e k
+
+both_fit : (bs xs ys : List Written) → each_fits bs (xs ++ ys) ≡ (each_fits bs xs && each_fits bs ys)
+both_fit bs [] ys = refl
+both_fit bs (x ∷ xs) ys =
+    ap (λ (b : Bool). fits x.mark (meant bs x.name) && b) (both_fit bs xs ys) ∙ and_grouped (fits x.mark (meant bs x.name)) (each_fits bs xs) (each_fits bs ys)
 
 pub none_other : (n : List ℕ) (bs : List Written) (f : Formula) → are_none (other_uses n (uses bs f)) ≡ marks_fit bs f
 none_other n bs truth = refl

@@ -1,5 +1,5 @@
 -- What is told of formulas: of an equivalence each side once, and of quantifiers in a row what stands in their reach.
-use Rattle.std.proofs.Common.{◌≡◌, ℕ, Bool, true, false, not, ◌&&◌, ◌||◌, if◌then◌else◌, List, [], ◌∷◌, ◌++◌, map, refl, sym, ap, ap₂, ◌∙◌}
+use Rattle.std.proofs.Common.{◌≡◌, ℕ, Bool, true, false, not, ◌&&◌, if◌then◌else◌, List, [], ◌∷◌, ◌++◌, map, refl, sym, ap, ap₂, ◌∙◌}
 use Rattle.sp_spec.specs.Formula.{Written, Formula}
 use Rattle.sp_spec.specs.Lists.{Every, newest_first}
 use Rattle.sp_spec.proofs.Lists.{every_parts, every_append}
@@ -13,7 +13,7 @@ use Rattle.sp_guard.proofs.QuantifiedForm.{regrouped, inside}
 use Rattle.sp_law_guard.specs.GuardedForm.{guarded_form}
 use Rattle.sp_law_guard.specs.CheckedForm.{fits, marks_fit}
 use Rattle.sp_wf.specs.Finding.{Finding, without_binder, other_sort, mixed_at, line, told, are_none}
-use Rattle.sp_wf.specs.FormulaFindings.{wide_in, Use, uses, is_unbound, is_mixed, unbound_uses, other_uses, mixed_uses}
+use Rattle.sp_wf.specs.FormulaFindings.{Use, uses, is_unbound, is_mixed, unbound_uses, other_uses, mixed_uses}
 use Rattle.sp_wf.specs.Report.{lines_after}
 use Rattle.sp_wf.specs.Sought.{Kind, unbound, of_other_sort, mixed, sought, is_there}
 use Rattle.sp_wf.proofs.Telling.{told_both}
@@ -39,7 +39,7 @@ not_again : (fs : List Finding) (ls : List (List ℕ)) → Every (Stands ls) fs 
 not_again [] ls h = refl
 not_again (f ∷ fs) ls h = ap (λ (b : Bool). lines_after (if b then ls else ls ++ line f ∷ []) fs) h.0 ∙ not_again fs ls h.1
 
-both_orders : (xs ys : List Finding) (ls : List (List ℕ)) → lines_after ls ((xs ++ ys) ++ (ys ++ xs)) ≡ lines_after ls (xs ++ ys)
+pub both_orders : (xs ys : List Finding) (ls : List (List ℕ)) → lines_after ls ((xs ++ ys) ++ (ys ++ xs)) ≡ lines_after ls (xs ++ ys)
 both_orders xs ys ls =
     let stand = every_parts (Stands (lines_after ls (xs ++ ys))) xs ys (all_stand (xs ++ ys) ls) in
     sym (told_both (xs ++ ys) ls (ys ++ xs)) ∙ not_again (ys ++ xs) (lines_after ls (xs ++ ys)) (every_append (Stands (lines_after ls (xs ++ ys))) ys xs stand.1 stand.0)
@@ -68,18 +68,6 @@ sought_for_all bs vs all f e =
 pub sought_for_some : (bs vs all : List WrittenVariable) (f : Formula) → all ≡ bs ++ vs → uses (innermost_first all) f ≡ uses (innermost_first bs) (quantified_some (map variable vs) f)
 sought_for_some bs vs all f e =
     ap (λ (cs : List WrittenVariable). uses (innermost_first cs) f) e ∙ ap (λ (cs : List Written). uses cs f) (inside bs vs) ∙ some_used (innermost_first bs) (map variable vs) f
-
--- actions of too many arguments
-pub wide_equivalent : (ls : List (List ℕ)) (xs ys : List Finding) → lines_after (lines_after ls xs) ys ≡ lines_after ls ((xs ++ ys) ++ (ys ++ xs))
-wide_equivalent ls xs ys = told_both xs ls ys ∙ sym (both_orders xs ys ls)
-
-pub wide_for_all : (xs : List Written) (f : Formula) → wide_in f ≡ wide_in (quantified xs f)
-wide_for_all [] f = refl
-wide_for_all (x ∷ xs) f = wide_for_all xs f
-
-pub wide_for_some : (xs : List Written) (f : Formula) → wide_in f ≡ wide_in (quantified_some xs f)
-wide_for_some [] f = refl
-wide_for_some (x ∷ xs) f = wide_for_some xs f
 
 -- each kind is looked for by its own name too
 pub sought_unbound : (n : List ℕ) (us : List Use) → sought unbound n us ≡ unbound_uses n us

@@ -2,12 +2,8 @@
 use Rattle.std.proofs.Common.{◌≡◌, List, ◌++◌, refl}
 use Rattle.sp_spec.specs.Formula.{Written, Formula}
 use Rattle.sp_read_parts.specs.Reading.{Joint, conjoint, disjoint, join}
-use Rattle.sp_wf.specs.FormulaFindings.{uses, wide_in}
+use Rattle.sp_wf.specs.FormulaFindings.{uses}
 
 pub uses_joined : (bs : List Written) (o : Joint) (f g : Formula) → uses bs (join o f g) ≡ uses bs f ++ uses bs g
 uses_joined bs conjoint f g = refl
 uses_joined bs disjoint f g = refl
-
-pub wide_joined : (o : Joint) (f g : Formula) → wide_in (join o f g) ≡ wide_in f ++ wide_in g
-wide_joined conjoint f g = refl
-wide_joined disjoint f g = refl

@@ -10,3 +10,11 @@ pub mod Formulas
 pub mod Stepping
 pub mod NamesBefore
 pub mod Joints
+pub mod Declaring
+pub mod OnTerms
+pub mod EquationForms
+pub mod SymbolsClean
+pub mod UnknownClean
+pub mod EquationsClean
+pub mod EquationsOver
+pub mod ItemsClean

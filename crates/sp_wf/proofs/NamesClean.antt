@@ -9,7 +9,7 @@ use Rattle.sp_spec.specs.Written.{WrittenRule, is_listed}
 use Rattle.std.proofs.lemmas.List.{map-append}
 use Rattle.sp_spec_text.specs.Written.{Item, item_rules, item_lemmas, without_proofs, rules_in, lemmas_in}
 use Rattle.sp_spec_text.proofs.Items.{lemmas_begin}
-use Rattle.sp_wf.specs.Finding.{Finding, used_twice, told, are_none}
+use Rattle.sp_wf.specs.Finding.{used_twice, are_none}
 use Rattle.sp_wf.specs.Report.{names_of_rules, names_of_lemmas, used_again, repeated}
 use Rattle.sp_wf.proofs.Nothing.{both_false, both_true, and_grouped, told_not, none_append}
 use Rattle.sp_spec.proofs.Bools.{denied}

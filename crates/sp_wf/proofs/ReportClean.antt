@@ -1,135 +1,150 @@
 -- The report is empty exactly on well-formed theories.
-use Rattle.std.proofs.Common.{◌≡◌, ℕ, Bool, true, false, if◌then◌else◌, List, [], ◌∷◌, ◌++◌, codes, Some, refl, sym, ap, ◌∙◌, subst}
-use Rattle.sp_spec.specs.Lists.{Every}
+use Rattle.std.proofs.Common.{◌≡◌, ◌≤◌, ℕ, Bool, true, false, if◌then◌else◌, List, [], ◌∷◌, ◌++◌, codes, Some, refl, sym, ap, ◌∙◌, subst}
+use Rattle.sp_spec.specs.Lists.{Member, Every}
+use Rattle.sp_spec.specs.Signature.{Symbol, Equation, pair_symbols}
 use Rattle.sp_spec.specs.Theory.{Lemma}
 use Rattle.sp_spec.specs.Written.{WrittenRule, is_listed}
-use Rattle.sp_spec.specs.Findings.{rule_is_wrong}
 use Rattle.sp_spec.specs.Guarded.{Guarded}
 use Rattle.sp_law_guard.specs.CheckedForm.{checked_form}
-use Rattle.sp_spec.proofs.Lists.{every_append, every_parts}
-use Rattle.sp_spec_text.specs.Written.{Item, item_rules, item_lemmas, without_proofs, WrittenText, rules_in, lemmas_in, theory_in}
-use Rattle.sp_spec_text.proofs.Items.{lemmas_begin}
-use Rattle.sp_wf.specs.Finding.{Finding, line, are_none}
+use Rattle.sp_law_conv.specs.Laws.{EquationsAreOver}
+use Rattle.sp_spec.proofs.Lists.{every_from, every_member, every_parts, every_weaken, each_among, member_left}
+use Rattle.sp_spec_text.specs.Written.{Item, WrittenText, builtins_in, functions_in, rules_in, lemmas_in}
+use Rattle.sp_spec_text.specs.Declared.{Builtin, builtin_of, new_symbols, declared_symbols, all_symbols, Numbered, all_equations, their_equations, resolved}
+use Rattle.sp_wf.specs.Finding.{Finding, destructor_in_premise, destructor_in_formula, line, are_none}
+use Rattle.sp_wf.specs.SymbolFindings.{left_out, declared_otherwise, unknown_in_rule, unknown_in_formula, unknown_in_items, facts_have_destructor, formula_has_destructor, destructors_in_rule, destructors_in_lemma}
+use Rattle.sp_wf.specs.EquationFindings.{findings_on_equations}
 use Rattle.sp_wf.specs.RuleFindings.{wide_in_rule, sorts_in_rule, reserved_in_rule, arguments_in_rule, unbound_in_rule}
 use Rattle.sp_wf.specs.FormulaFindings.{wide_in_lemma, unbound_in_lemma, unguarded_in_lemma, sorts_in_lemma, mixed_in_lemma}
-use Rattle.sp_wf.specs.Report.{wide_in_item, wide_in_items, repeated, on_rules, on_lemmas, findings_on_rules, findings_on_lemmas, findings, lines_after, text_of}
-use Rattle.sp_wf.specs.Laws.{IsWellFormed, ReportIsRight}
-use Rattle.sp_wf.proofs.Nothing.{none_parts, none_both, nothing}
+use Rattle.sp_wf.specs.Report.{wide_in_items, repeated, on_rules, on_lemmas, findings_on_symbols, findings_on_rules, findings_on_lemmas, findings, lines_after, text_of}
+use Rattle.sp_wf.specs.Laws.{IsFineRule, IsFineLemma, IsWellFormed, ReportIsRight}
+use Rattle.sp_wf.proofs.Nothing.{none_parts, none_both, nothing, none_told, told_none}
 use Rattle.sp_wf.proofs.RuleClean.{RuleClean, clean_is_right, right_is_clean}
 use Rattle.sp_wf.proofs.NamesClean.{names_distinct, distinct_names}
 use Rattle.sp_wf.proofs.FormulaClean.{LemmaClean, clean_has_form, form_is_clean}
+use Rattle.sp_wf.proofs.SymbolsClean.{declared_well, none_otherwise, pairs_distinct}
+use Rattle.sp_wf.proofs.EquationsOver.{IsOverBoth}
+use Rattle.sp_wf.proofs.EquationsClean.{clean_accepted, accepted_clean}
+use Rattle.sp_wf.proofs.ItemsClean.{Clean, rules_clean, no_rule, lemmas_clean, no_lemma, wide_clean, no_wide, all_known, none_left_out, items_known, known_items, builtins_kept, functions_kept, declared_kept, numbered_over, written_over}
 
--- on each rule and each lemma
-abbrev Clean : {A : Type 0} → (A → List Finding) → A → Type 0
-Clean on x = are_none (on x) ≡ true
-
-rules_clean : (on : WrittenRule → List Finding) (rs : List WrittenRule) → are_none (on_rules on rs) ≡ true → Every (Clean on) rs
-rules_clean on [] e = tt
-rules_clean on (r ∷ rs) e = let k = none_parts (on r) (on_rules on rs) e in (k.0, rules_clean on rs k.1)
-
-no_rule : (on : WrittenRule → List Finding) (rs : List WrittenRule) → Every (Clean on) rs → are_none (on_rules on rs) ≡ true
-no_rule on [] h = refl
-no_rule on (r ∷ rs) h = none_both (on r) (on_rules on rs) h.0 (no_rule on rs h.1)
-
-lemmas_clean : (on : Lemma → List Finding) (ls : List Lemma) → are_none (on_lemmas on ls) ≡ true → Every (Clean on) ls
-lemmas_clean on [] e = tt
-lemmas_clean on (l ∷ ls) e = let k = none_parts (on l) (on_lemmas on ls) e in (k.0, lemmas_clean on ls k.1)
-
-no_lemma : (on : Lemma → List Finding) (ls : List Lemma) → Every (Clean on) ls → are_none (on_lemmas on ls) ≡ true
-no_lemma on [] h = refl
-no_lemma on (l ∷ ls) h = none_both (on l) (on_lemmas on ls) h.0 (no_lemma on ls h.1)
-
-abbrev RuleIsRight : WrittenRule → Type 0
-RuleIsRight r = rule_is_wrong r ≡ false
-
+-- the lemma has a guarded form
 abbrev pub HasForm : Lemma → Type 0
 HasForm l = (g : Guarded) × (checked_form l.formula ≡ Some g)
 
 right_rules : (rs : List WrittenRule) → Every (Clean wide_in_rule) rs → Every (Clean sorts_in_rule) rs → Every (Clean reserved_in_rule) rs → Every (Clean arguments_in_rule) rs
-    → Every (Clean unbound_in_rule) rs → Every RuleIsRight rs
+    → Every (Clean unbound_in_rule) rs → Every RuleClean rs
 right_rules [] w s p a u = tt
-right_rules (r ∷ rs) w s p a u =
-    (clean_is_right r (record { wide = w.0; sorts = s.0; reserved = p.0; arguments = a.0; unbound = u.0 }), right_rules rs w.1 s.1 p.1 a.1 u.1)
-
-every_rule : (P : WrittenRule → Type 0) → ((r : WrittenRule) → RuleClean r → P r) → (rs : List WrittenRule) → Every RuleIsRight rs → Every P rs
-every_rule P h [] e = tt
-every_rule P h (r ∷ rs) e = (h r (right_is_clean r e.0), every_rule P h rs e.1)
+right_rules (r ∷ rs) w s p a u = (record { wide = w.0; sorts = s.0; reserved = p.0; arguments = a.0; unbound = u.0 }, right_rules rs w.1 s.1 p.1 a.1 u.1)
 
 right_lemmas : (ls : List Lemma) → Every (Clean wide_in_lemma) ls → Every (Clean unbound_in_lemma) ls → Every (Clean unguarded_in_lemma) ls → Every (Clean sorts_in_lemma) ls
-    → Every (Clean mixed_in_lemma) ls → Every HasForm ls
+    → Every (Clean mixed_in_lemma) ls → Every LemmaClean ls
 right_lemmas [] w u g s m = tt
-right_lemmas (l ∷ ls) w u g s m =
-    (clean_has_form l (record { wide = w.0; unbound = u.0; unguarded = g.0; sorts = s.0; mixed = m.0 }), right_lemmas ls w.1 u.1 g.1 s.1 m.1)
+right_lemmas (l ∷ ls) w u g s m = (record { wide = w.0; unbound = u.0; unguarded = g.0; sorts = s.0; mixed = m.0 }, right_lemmas ls w.1 u.1 g.1 s.1 m.1)
 
-every_lemma : (P : Lemma → Type 0) → ((l : Lemma) → LemmaClean l → P l) → (ls : List Lemma) → Every HasForm ls → Every P ls
-every_lemma P h [] e = tt
-every_lemma P h (l ∷ ls) e = (h l (form_is_clean l e.0.0 e.0.1), every_lemma P h ls e.1)
-
--- on each item
-wide_clean : (xs : List Item) → are_none (wide_in_items xs) ≡ true → Every (Clean wide_in_rule) (rules_in xs) × Every (Clean wide_in_lemma) (lemmas_in xs)
-wide_clean [] e = (tt, tt)
-wide_clean (x ∷ xs) e =
-    let rs = item_rules x in
-    let ls = without_proofs (item_lemmas x) in
-    let k = none_parts (wide_in_item x) (wide_in_items xs) e in
-    let one = none_parts (on_rules wide_in_rule rs) (on_lemmas wide_in_lemma ls) k.0 in
-    let h = wide_clean xs k.1 in (
-      every_append (Clean wide_in_rule) rs (rules_in xs) (rules_clean wide_in_rule rs one.0) h.0,
-      subst (λ (ms : List Lemma). Every (Clean wide_in_lemma) ms) (sym (lemmas_begin x xs)) (every_append (Clean wide_in_lemma) ls (lemmas_in xs) (lemmas_clean wide_in_lemma ls one.1) h.1),
-    )
-
-no_wide : (xs : List Item) → Every (Clean wide_in_rule) (rules_in xs) → Every (Clean wide_in_lemma) (lemmas_in xs) → are_none (wide_in_items xs) ≡ true
-no_wide [] h k = refl
-no_wide (x ∷ xs) h k =
-    let rs = item_rules x in
-    let ls = without_proofs (item_lemmas x) in
-    let a = every_parts (Clean wide_in_rule) rs (rules_in xs) h in
-    let b = every_parts (Clean wide_in_lemma) ls (lemmas_in xs) (subst (λ (ms : List Lemma). Every (Clean wide_in_lemma) ms) (lemmas_begin x xs) k) in
-    none_both (wide_in_item x) (wide_in_items xs)
-    (none_both (on_rules wide_in_rule rs) (on_lemmas wide_in_lemma ls) (no_rule wide_in_rule rs a.0) (no_lemma wide_in_lemma ls b.0)) (no_wide xs a.1 b.1)
-
-well_formed : (t : WrittenText) → are_none (findings t) ≡ true → IsWellFormed (theory_in t)
-well_formed t e =
-    let rs = rules_in t.items in
-    let ls = lemmas_in t.items in
-    let a = none_parts (wide_in_items t.items) (repeated [] [] t.items ++ (findings_on_rules rs ++ findings_on_lemmas ls)) e in
-    let wide = wide_clean t.items a.0 in
-    let b = none_parts (repeated [] [] t.items) (findings_on_rules rs ++ findings_on_lemmas ls) a.1 in
-    let names = names_distinct t.items b.0 in
-    let c = none_parts (findings_on_rules rs) (findings_on_lemmas ls) b.1 in
-    let sorts = none_parts (on_rules sorts_in_rule rs) _ c.0 in
-    let wrong = none_parts (on_rules reserved_in_rule rs) _ sorts.1 in
-    let rest = none_parts (on_rules arguments_in_rule rs) (on_rules unbound_in_rule rs) wrong.1 in
-    let unbound = none_parts (on_lemmas unbound_in_lemma ls) _ c.1 in
-    let unguarded = none_parts (on_lemmas unguarded_in_lemma ls) _ unbound.1 in
-    let other = none_parts (on_lemmas sorts_in_lemma ls) (on_lemmas mixed_in_lemma ls) unguarded.1 in
+module _ (symbols : List Symbol) (es : List Equation) where
+  fine_rules : (rs : List WrittenRule) → Every RuleClean rs → Every (Clean (unknown_in_rule symbols)) rs → Every (Clean (destructors_in_rule es)) rs → Every (IsFineRule symbols es) rs
+  fine_rules [] c k d = tt
+  fine_rules (r ∷ rs) c k d = (
     record {
-      rule_names = names.0;
-      lemma_names = names.1;
-      rules = right_rules rs wide.0 (rules_clean sorts_in_rule rs sorts.0) (rules_clean reserved_in_rule rs wrong.0) (rules_clean arguments_in_rule rs rest.0)
-          (rules_clean unbound_in_rule rs rest.1);
-      lemmas = right_lemmas ls wide.1 (lemmas_clean unbound_in_lemma ls unbound.0) (lemmas_clean unguarded_in_lemma ls unguarded.0) (lemmas_clean sorts_in_lemma ls other.0)
-          (lemmas_clean mixed_in_lemma ls other.1);
-    }
+      right = clean_is_right r c.0;
+      known = nothing (unknown_in_rule symbols r) k.0;
+      plain = (none_told (facts_have_destructor es r.facts.premises) (destructor_in_premise r.name) [] d.0).0;
+    },
+    fine_rules rs c.1 k.1 d.1,
+  )
 
-none_stands : (t : WrittenText) → IsWellFormed (theory_in t) → are_none (findings t) ≡ true
-none_stands t h =
-    let rs = rules_in t.items in
-    let ls = lemmas_in t.items in
-    let rule = λ (on : WrittenRule → List Finding) (k : (r : WrittenRule) → RuleClean r → Clean on r). no_rule on rs (every_rule (Clean on) k rs h.rules) in
-    let lemma = λ (on : Lemma → List Finding) (k : (l : Lemma) → LemmaClean l → Clean on l). no_lemma on ls (every_lemma (Clean on) k ls h.lemmas) in
-    none_both (wide_in_items t.items) _
-    (no_wide t.items (every_rule (Clean wide_in_rule) (λ r c. c.wide) rs h.rules) (every_lemma (Clean wide_in_lemma) (λ l c. c.wide) ls h.lemmas))
-    (none_both (repeated [] [] t.items) _ (distinct_names t.items h.rule_names h.lemma_names)
-    (none_both (findings_on_rules rs) _
-    (none_both (on_rules sorts_in_rule rs) _ (rule sorts_in_rule (λ r c. c.sorts))
-    (none_both (on_rules reserved_in_rule rs) _ (rule reserved_in_rule (λ r c. c.reserved))
-    (none_both (on_rules arguments_in_rule rs) _ (rule arguments_in_rule (λ r c. c.arguments)) (rule unbound_in_rule (λ r c. c.unbound)))))
-    (none_both (on_lemmas unbound_in_lemma ls) _ (lemma unbound_in_lemma (λ l c. c.unbound))
-    (none_both (on_lemmas unguarded_in_lemma ls) _ (lemma unguarded_in_lemma (λ l c. c.unguarded))
-    (none_both (on_lemmas sorts_in_lemma ls) _ (lemma sorts_in_lemma (λ l c. c.sorts)) (lemma mixed_in_lemma (λ l c. c.mixed)))))))
+  fine_lemmas : (ls : List Lemma) → Every LemmaClean ls → Every (Clean (λ (l : Lemma). unknown_in_formula symbols l.formula)) ls → Every (Clean (destructors_in_lemma es)) ls
+      → Every (IsFineLemma symbols es) ls
+  fine_lemmas [] c k d = tt
+  fine_lemmas (l ∷ ls) c k d = (
+    record {
+      form = clean_has_form l c.0;
+      known = nothing (unknown_in_formula symbols l.formula) k.0;
+      plain = (none_told (formula_has_destructor es l.formula) (destructor_in_formula l.name) [] d.0).0;
+    },
+    fine_lemmas ls c.1 k.1 d.1,
+  )
 
--- each finding has a line, and each line a line feed
+  rule_clean : (r : WrittenRule) → IsFineRule symbols es r → RuleClean r
+  rule_clean r h = right_is_clean r h.right
+
+  rule_known : (r : WrittenRule) → IsFineRule symbols es r → Clean (unknown_in_rule symbols) r
+  rule_known r h = ap are_none h.known
+
+  rule_plain : (r : WrittenRule) → IsFineRule symbols es r → Clean (destructors_in_rule es) r
+  rule_plain r h = told_none (facts_have_destructor es r.facts.premises) (destructor_in_premise r.name) [] h.plain refl
+
+  lemma_clean : (l : Lemma) → IsFineLemma symbols es l → LemmaClean l
+  lemma_clean l h = form_is_clean l h.form.0 h.form.1
+
+  lemma_known : (l : Lemma) → IsFineLemma symbols es l → Clean (λ (m : Lemma). unknown_in_formula symbols m.formula) l
+  lemma_known l h = ap are_none h.known
+
+  lemma_plain : (l : Lemma) → IsFineLemma symbols es l → Clean (destructors_in_lemma es) l
+  lemma_plain l h = told_none (formula_has_destructor es l.formula) (destructor_in_formula l.name) [] h.plain refl
+
+-- ---- rules and lemmas
+
+module _ (es : List Equation) (rs : List WrittenRule) where
+  pub record RulesClean : Type 0 where
+    pub sorts : Every (Clean sorts_in_rule) rs
+    pub reserved : Every (Clean reserved_in_rule) rs
+    pub arguments : Every (Clean arguments_in_rule) rs
+    pub plain : Every (Clean (destructors_in_rule es)) rs
+    pub unbound : Every (Clean unbound_in_rule) rs
+
+  rules_all_clean : are_none (findings_on_rules es rs) ≡ true → RulesClean
+  rules_all_clean e =
+      let a = none_parts (on_rules sorts_in_rule rs) _ e in
+      let b = none_parts (on_rules reserved_in_rule rs) _ a.1 in
+      let c = none_parts (on_rules arguments_in_rule rs) _ b.1 in
+      let d = none_parts (on_rules (destructors_in_rule es) rs) (on_rules unbound_in_rule rs) c.1 in
+      record {
+        sorts = rules_clean sorts_in_rule rs a.0;
+        reserved = rules_clean reserved_in_rule rs b.0;
+        arguments = rules_clean arguments_in_rule rs c.0;
+        plain = rules_clean (destructors_in_rule es) rs d.0;
+        unbound = rules_clean unbound_in_rule rs d.1;
+      }
+
+  none_on_rules : Every RuleClean rs → Every (Clean (destructors_in_rule es)) rs → are_none (findings_on_rules es rs) ≡ true
+  none_on_rules h k =
+      let each_of = λ (on : WrittenRule → List Finding) (f : (r : WrittenRule) → RuleClean r → Clean on r). no_rule on rs (every_weaken RuleClean (Clean on) f rs h) in
+      none_both (on_rules sorts_in_rule rs) _ (each_of sorts_in_rule (λ r c. c.sorts))
+      (none_both (on_rules reserved_in_rule rs) _ (each_of reserved_in_rule (λ r c. c.reserved))
+      (none_both (on_rules arguments_in_rule rs) _ (each_of arguments_in_rule (λ r c. c.arguments))
+      (none_both (on_rules (destructors_in_rule es) rs) _ (no_rule (destructors_in_rule es) rs k) (each_of unbound_in_rule (λ r c. c.unbound)))))
+
+module _ (es : List Equation) (ls : List Lemma) where
+  pub record LemmasClean : Type 0 where
+    pub unbound : Every (Clean unbound_in_lemma) ls
+    pub unguarded : Every (Clean unguarded_in_lemma) ls
+    pub plain : Every (Clean (destructors_in_lemma es)) ls
+    pub sorts : Every (Clean sorts_in_lemma) ls
+    pub mixed : Every (Clean mixed_in_lemma) ls
+
+  lemmas_all_clean : are_none (findings_on_lemmas es ls) ≡ true → LemmasClean
+  lemmas_all_clean e =
+      let a = none_parts (on_lemmas unbound_in_lemma ls) _ e in
+      let b = none_parts (on_lemmas unguarded_in_lemma ls) _ a.1 in
+      let c = none_parts (on_lemmas (destructors_in_lemma es) ls) _ b.1 in
+      let d = none_parts (on_lemmas sorts_in_lemma ls) (on_lemmas mixed_in_lemma ls) c.1 in
+      record {
+        unbound = lemmas_clean unbound_in_lemma ls a.0;
+        unguarded = lemmas_clean unguarded_in_lemma ls b.0;
+        plain = lemmas_clean (destructors_in_lemma es) ls c.0;
+        sorts = lemmas_clean sorts_in_lemma ls d.0;
+        mixed = lemmas_clean mixed_in_lemma ls d.1;
+      }
+
+  none_on_lemmas : Every LemmaClean ls → Every (Clean (destructors_in_lemma es)) ls → are_none (findings_on_lemmas es ls) ≡ true
+  none_on_lemmas h k =
+      let each_of = λ (on : Lemma → List Finding) (f : (l : Lemma) → LemmaClean l → Clean on l). no_lemma on ls (every_weaken LemmaClean (Clean on) f ls h) in
+      none_both (on_lemmas unbound_in_lemma ls) _ (each_of unbound_in_lemma (λ l c. c.unbound))
+      (none_both (on_lemmas unguarded_in_lemma ls) _ (each_of unguarded_in_lemma (λ l c. c.unguarded))
+      (none_both (on_lemmas (destructors_in_lemma es) ls) _ (no_lemma (destructors_in_lemma es) ls k)
+      (none_both (on_lemmas sorts_in_lemma ls) _ (each_of sorts_in_lemma (λ l c. c.sorts)) (each_of mixed_in_lemma (λ l c. c.mixed)))))
+
+-- ---- each finding has a line, and each line a line feed
 record NotEmpty (xs : List (List ℕ)) : Type 0 where
   first : List ℕ
   rest : List (List ℕ)
@@ -156,6 +171,100 @@ some_text ls h e = at h.first (sym (ap text_of h.is) ∙ e)
 no_text : (fs : List Finding) → text_of (lines_after [] fs) ≡ [] → are_none fs ≡ true
 no_text [] e = refl
 no_text (f ∷ fs) e = absurd (some_text (lines_after (line f ∷ []) fs) (some_line fs (line f ∷ []) (record { first = line f; rest = []; is = refl })) e)
+
+-- ---- the whole
+
+-- what a text without findings says, by its resolved items
+module _ (t : WrittenText) where
+  abbrev all : List Symbol
+  all = all_symbols t.items
+
+  abbrev xs : List Item
+  xs = (resolved t).items
+
+  abbrev numbered : List Numbered
+  numbered = all_equations xs
+
+  abbrev rs : List WrittenRule
+  rs = rules_in xs
+
+  abbrev ls : List Lemma
+  ls = lemmas_in xs
+
+  abbrev on_both : List Finding
+  on_both = findings_on_rules (their_equations numbered) rs ++ findings_on_lemmas (their_equations numbered) ls
+
+  over_all : Every (IsOverBoth all) (their_equations numbered) → EquationsAreOver all (their_equations numbered)
+  over_all h = record {
+    left = λ e m. (every_member (IsOverBoth all) (their_equations numbered) e m h).left;
+    right = λ e m. (every_member (IsOverBoth all) (their_equations numbered) e m h).right;
+  }
+
+  all_over : EquationsAreOver all (their_equations numbered) → Every (IsOverBoth all) (their_equations numbered)
+  all_over h = every_from (IsOverBoth all) (their_equations numbered) (λ e m. record { left = h.left e m; right = h.right e m })
+
+  pairs_there : Every (λ (s : Symbol). Member s all) pair_symbols
+  pairs_there = each_among pair_symbols all (λ s m. member_left s pair_symbols (new_symbols pair_symbols (declared_symbols t.items)) m)
+
+  well_formed : are_none (findings t) ≡ true → IsWellFormed t
+  well_formed e =
+      let a = none_parts (findings_on_symbols all xs) _ e in
+      let b = none_parts (wide_in_items xs) _ a.1 in
+      let c = none_parts (findings_on_equations all numbered) _ b.1 in
+      let d = none_parts (repeated [] [] xs) on_both c.1 in
+      let f = none_parts (findings_on_rules (their_equations numbered) rs) (findings_on_lemmas (their_equations numbered) ls) d.1 in
+      let builtins = none_parts (left_out (builtins_in xs)) _ a.0 in
+      let symbols = none_parts (declared_otherwise all (declared_symbols xs)) (unknown_in_items all xs) builtins.1 in
+      let known = items_known all xs symbols.1 in
+      let wide = wide_clean xs b.0 in
+      let declared = declared_well pair_symbols (declared_symbols t.items) (ap (λ (ss : List Symbol). are_none (declared_otherwise all ss)) (sym (declared_kept t)) ∙ symbols.0) in
+      let in_builtins = (every_parts (λ (s : Symbol). Member s all) _ (functions_in xs) (subst (λ (ss : List Symbol). Every (λ (s : Symbol). Member s all) ss) (sym (declared_kept t)) declared)).0 in
+      let equations = numbered_over all xs pairs_there in_builtins known.equations in
+      let rules = rules_all_clean (their_equations numbered) rs f.0 in
+      let lemmas = lemmas_all_clean (their_equations numbered) ls f.1 in
+      let names = names_distinct xs d.0 in
+      record {
+        declares = record {
+          builtins = subst (λ (bs : List (List ℕ)). Every (λ (b : List ℕ). (found : Builtin) × (builtin_of b ≡ Some found)) bs) (builtins_kept all t.items) (all_known (builtins_in xs) builtins.0);
+          symbols = declared;
+          arities = subst (λ (ss : List Symbol). Every (λ (s : Symbol). s.arity ≤ 16) ss) (functions_kept all t.items) wide.symbols;
+        };
+        over = over_all equations;
+        accepted = clean_accepted all numbered c.0;
+        rule_names = names.0;
+        lemma_names = names.1;
+        rules = fine_rules all (their_equations numbered) rs (right_rules rs wide.rules rules.sorts rules.reserved rules.arguments rules.unbound) known.rules rules.plain;
+        lemmas = fine_lemmas all (their_equations numbered) ls (right_lemmas ls wide.lemmas lemmas.unbound lemmas.unguarded lemmas.sorts lemmas.mixed) known.lemmas lemmas.plain;
+      }
+
+  none_stands : IsWellFormed t → are_none (findings t) ≡ true
+  none_stands h =
+      let es = their_equations numbered in
+      let fine = IsFineRule all es in
+      let right = IsFineLemma all es in
+      let rules = every_weaken fine RuleClean (rule_clean all es) rs h.rules in
+      let lemmas = every_weaken right LemmaClean (lemma_clean all es) ls h.lemmas in
+      let builtins = none_left_out (builtins_in xs) (subst (λ (bs : List (List ℕ)). Every (λ (b : List ℕ). (found : Builtin) × (builtin_of b ≡ Some found)) bs) (sym (builtins_kept all t.items)) h.declares.builtins) in
+      let symbols = ap (λ (ss : List Symbol). are_none (declared_otherwise all ss)) (declared_kept t) ∙ none_otherwise pair_symbols (declared_symbols t.items) pairs_distinct h.declares.symbols in
+      let written = written_over all xs pairs_there (all_over h.over) in
+      let known = known_items all xs
+      (record {
+        rules = every_weaken fine (Clean (unknown_in_rule all)) (rule_known all es) rs h.rules;
+        lemmas = every_weaken right (Clean (λ (l : Lemma). unknown_in_formula all l.formula)) (lemma_known all es) ls h.lemmas;
+        equations = written;
+      }) in
+      let wide = no_wide xs
+      (record {
+        symbols = subst (λ (ss : List Symbol). Every (λ (s : Symbol). s.arity ≤ 16) ss) (sym (functions_kept all t.items)) h.declares.arities;
+        rules = every_weaken RuleClean (Clean wide_in_rule) (λ r c. c.wide) rs rules;
+        lemmas = every_weaken LemmaClean (Clean wide_in_lemma) (λ l c. c.wide) ls lemmas;
+      }) in
+      none_both (findings_on_symbols all xs) _ (none_both (left_out (builtins_in xs)) _ builtins (none_both (declared_otherwise all (declared_symbols xs)) _ symbols known))
+      (none_both (wide_in_items xs) _ wide
+      (none_both (findings_on_equations all numbered) _ (accepted_clean all numbered h.accepted)
+      (none_both (repeated [] [] xs) on_both (distinct_names xs h.rule_names h.lemma_names)
+      (none_both (findings_on_rules es rs) (findings_on_lemmas es ls) (none_on_rules es rs rules (every_weaken fine (Clean (destructors_in_rule es)) (rule_plain all es) rs h.rules))
+      (none_on_lemmas es ls lemmas (every_weaken right (Clean (destructors_in_lemma es)) (lemma_plain all es) ls h.lemmas))))))
 
 pub report_is_right : ReportIsRight
 report_is_right = record {

@@ -6,13 +6,14 @@ use Rattle.sp_spec.specs.Lists.{Every}
 use Rattle.sp_spec.specs.Rule.{Fact, Facts}
 use Rattle.sp_spec.specs.Formula.{Written}
 use Rattle.sp_spec.specs.Written.{is_listed, in_terms, in_facts, in_actions, occurrences}
-use Rattle.sp_spec.specs.Findings.{is_wide, is_fresh_variable, is_named, is_pub}
-use Rattle.sp_spec_text.specs.Shapes.{action_of, row}
-use Rattle.sp_read_parts.specs.Views.{term}
-use Rattle.sp_read_parts.specs.declared.written.WrittenTerm.{WrittenTerm}
-use Rattle.sp_read_parts.specs.declared.written.WrittenTerm.TheVariants as v
-use Rattle.sp_wf.specs.Finding.{Finding, arity_above, in_no_premise, line, told}
-use Rattle.sp_wf.specs.RuleFindings.{wide_facts, wide_actions, makes_fresh, first_sort, unbound}
+use Rattle.sp_spec.specs.Findings.{is_fresh_variable, is_named, is_pub}
+use Rattle.sp_spec.specs.Term.{var, constant, name, app, Terms, none, more, count}
+use Rattle.sp_term.specs.declared.term.Term.{Term}
+use Rattle.sp_read_parts.specs.Views.{terms}
+use Rattle.sp_read_parts.specs.declared.written.WrittenVariable.{WrittenVariable}
+use Rattle.sp_finding.proofs.Counted.{counted}
+use Rattle.sp_wf.specs.Finding.{Finding, in_no_premise, line, told}
+use Rattle.sp_wf.specs.RuleFindings.{makes_fresh, first_sort, unbound}
 use Rattle.sp_wf.specs.Report.{lines_after}
 use Rattle.sp_wf.specs.Told.{stands_among}
 use Rattle.sp_wf.proofs.RuleSorts.{member_named}
@@ -29,34 +30,41 @@ told_both (x ∷ xs) ls ys = told_both xs (if is_listed (line x) ls then ls else
 pub one_behind : (a b c : List (List ℕ)) (xs ys : List Finding) → b ≡ lines_after a xs → c ≡ lines_after b ys → c ≡ lines_after a (xs ++ ys)
 one_behind a b c xs ys e k = k ∙ ap (λ (ls : List (List ℕ)). lines_after ls ys) e ∙ told_both xs a ys
 
-as_facts : (fs : List (Fact Written)) → wide_actions (map action_of fs) ≡ wide_facts fs
-as_facts [] = refl
-as_facts (f ∷ fs) = ap (told (is_wide f.args) (arity_above f.symbol)) (as_facts fs)
-
-pub wide_rule : (ps acts cs : List (Fact Written)) (a b c d : List (List ℕ)) → b ≡ lines_after a (wide_facts ps) → c ≡ lines_after b (wide_facts acts) → d ≡ lines_after c (wide_facts cs)
-    → d ≡ lines_after a (wide_facts ps ++ (wide_actions (map action_of acts) ++ wide_facts cs))
-wide_rule ps acts cs a b c d e k h =
-    one_behind a b d (wide_facts ps) (wide_actions (map action_of acts) ++ wide_facts cs) e
-    (one_behind b c d (wide_actions (map action_of acts)) (wide_facts cs) (k ∙ ap (lines_after b) (sym (as_facts acts))) h)
+pub told_three : (a b c d : List (List ℕ)) (xs ys zs : List Finding) → b ≡ lines_after a xs → c ≡ lines_after b ys → d ≡ lines_after c zs → d ≡ lines_after a (xs ++ (ys ++ zs))
+told_three a b c d xs ys zs x y z = one_behind a b d xs (ys ++ zs) x (one_behind b c d ys zs y z)
 
 -- with another number of arguments there is not the one
-pub no_variable : (ts : List WrittenTerm) → (length ts ≡ 1 → ⊥) → is_fresh_variable (row (map term ts)) ≡ false
-no_variable [] h = refl
-no_variable (t ∷ []) h = absurd (h refl)
-no_variable (v.Variable y ∷ u ∷ ts) h = refl
-no_variable (v.Constant c ∷ u ∷ ts) h = refl
+no_variable_counted : (ts : Terms Written) → (count ts ≡ 1 → ⊥) → is_fresh_variable ts ≡ false
+no_variable_counted none h = refl
+no_variable_counted (more t none) h = absurd (h refl)
+no_variable_counted (more (var y) (more u ts)) h = refl
+no_variable_counted (more (constant c) (more u ts)) h = refl
+no_variable_counted (more (name n) (more u ts)) h = refl
+no_variable_counted (more (app f xs) (more u ts)) h = refl
 
-pub not_made : (x : List ℕ) (ts : List WrittenTerm) → (length ts ≡ 1 → ⊥) → makes_fresh x (row (map term ts)) ≡ false
-not_made x [] h = refl
-not_made x (t ∷ []) h = absurd (h refl)
-not_made x (v.Variable y ∷ u ∷ ts) h = refl
-not_made x (v.Constant c ∷ u ∷ ts) h = refl
+pub no_variable : (ts : List (Term WrittenVariable)) → (length ts ≡ 1 → ⊥) → is_fresh_variable (terms ts) ≡ false
+no_variable ts h = no_variable_counted (terms ts) (λ e. h (sym (counted ts) ∙ e))
+
+not_made_counted : (x : List ℕ) (ts : Terms Written) → (count ts ≡ 1 → ⊥) → makes_fresh x ts ≡ false
+not_made_counted x none h = refl
+not_made_counted x (more t none) h = absurd (h refl)
+not_made_counted x (more (var y) (more u ts)) h = refl
+not_made_counted x (more (constant c) (more u ts)) h = refl
+not_made_counted x (more (name n) (more u ts)) h = refl
+not_made_counted x (more (app f xs) (more u ts)) h = refl
+
+pub not_made : (x : List ℕ) (ts : List (Term WrittenVariable)) → (length ts ≡ 1 → ⊥) → makes_fresh x (terms ts) ≡ false
+not_made x ts h = not_made_counted x (terms ts) (λ e. h (sym (counted ts) ∙ e))
+
+pub named_or : (b : Bool) → (b || false) ≡ b
+named_or true = refl
+named_or false = refl
 
 or_grouped : (a b c : Bool) → (a || (b || c)) ≡ ((a || b) || c)
 or_grouped true b c = refl
 or_grouped false b c = refl
 
-named_in_either : (x : List ℕ) (xs ys : List Written) → is_named x (xs ++ ys) ≡ is_named x xs || is_named x ys
+pub named_in_either : (x : List ℕ) (xs ys : List Written) → is_named x (xs ++ ys) ≡ is_named x xs || is_named x ys
 named_in_either x [] ys = refl
 named_in_either x (y ∷ xs) ys = ap (λ (b : Bool). bytes_eq y.name x || b) (named_in_either x xs ys) ∙ or_grouped (bytes_eq y.name x) (is_named x xs) (is_named x ys)
 
@@ -103,3 +111,11 @@ named_behind (n ∷ names) x = ap (λ (ns : List (List ℕ)). n.now ∷ ns) (nam
 pub told_four : (a b c d e : List (List ℕ)) (ws xs ys zs : List Finding) → b ≡ lines_after a ws → c ≡ lines_after b xs → d ≡ lines_after c ys → e ≡ lines_after d zs
     → e ≡ lines_after a (ws ++ (xs ++ (ys ++ zs)))
 told_four a b c d e ws xs ys zs w x y z = one_behind a b e ws (xs ++ (ys ++ zs)) w (one_behind b c e xs (ys ++ zs) x (one_behind c d e ys zs y z))
+
+pub told_five : (a b c d e f : List (List ℕ)) (vs ws xs ys zs : List Finding) → b ≡ lines_after a vs → c ≡ lines_after b ws → d ≡ lines_after c xs → e ≡ lines_after d ys → f ≡ lines_after e zs
+    → f ≡ lines_after a (vs ++ (ws ++ (xs ++ (ys ++ zs))))
+told_five a b c d e f vs ws xs ys zs v w x y z = one_behind a b f vs (ws ++ (xs ++ (ys ++ zs))) v (told_four b c d e f ws xs ys zs w x y z)
+
+pub told_six : (a b c d e f g : List (List ℕ)) (us vs ws xs ys zs : List Finding) → b ≡ lines_after a us → c ≡ lines_after b vs → d ≡ lines_after c ws → e ≡ lines_after d xs
+    → f ≡ lines_after e ys → g ≡ lines_after f zs → g ≡ lines_after a (us ++ (vs ++ (ws ++ (xs ++ (ys ++ zs)))))
+told_six a b c d e f g us vs ws xs ys zs u v w x y z = one_behind a b g us (vs ++ (ws ++ (xs ++ (ys ++ zs)))) u (told_five b c d e f g vs ws xs ys zs v w x y z)

@@ -9,7 +9,7 @@ use Rattle.sp_wf.specs.Report.{lines_after}
 use Rattle.sp_wf.specs.Sought.{Kind, is_sought, said, sought, is_there}
 use Rattle.sp_wf.proofs.Telling.{told_both}
 
-told_append : (b : Bool) (finding : Finding) (xs ys : List Finding) → told b finding (xs ++ ys) ≡ told b finding xs ++ ys
+pub told_append : (b : Bool) (finding : Finding) (xs ys : List Finding) → told b finding (xs ++ ys) ≡ told b finding xs ++ ys
 told_append true finding xs ys = refl
 told_append false finding xs ys = refl
 
@@ -25,6 +25,9 @@ uses_both role bs (x ∷ xs) ys = ap (λ (us : List Use). record { variable = x;
 
 pub sought_on : (ls : List (List ℕ)) (k : Kind) (n : List ℕ) (us vs : List Use) → lines_after (lines_after ls (sought k n us)) (sought k n vs) ≡ lines_after ls (sought k n (us ++ vs))
 sought_on ls k n us vs = told_both (sought k n us) ls (sought k n vs) ∙ ap (lines_after ls) (sym (sought_both k n us vs))
+
+pub used_both : (k : Kind) (n : List ℕ) (role : Role) (bs xs ys : List Written) → sought k n (uses_as role bs (xs ++ ys)) ≡ sought k n (uses_as role bs xs) ++ sought k n (uses_as role bs ys)
+used_both k n role bs xs ys = ap (sought k n) (uses_both role bs xs ys) ∙ sought_both k n (uses_as role bs xs) (uses_as role bs ys)
 
 pub used_on : (ls : List (List ℕ)) (k : Kind) (n : List ℕ) (role : Role) (bs xs ys : List Written)
     → lines_after (lines_after ls (sought k n (uses_as role bs xs))) (sought k n (uses_as role bs ys)) ≡ lines_after ls (sought k n (uses_as role bs (xs ++ ys)))

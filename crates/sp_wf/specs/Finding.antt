@@ -1,10 +1,21 @@
 -- The fatal findings on a theory, in the order of their numbers, and the line that a report has for each. Source: Tamarin manual,
 -- "Checking well-formedness"; the words are this project's own.
-use Rattle.std.specs.Prelude.{ℕ, Bool, true, false, List, [], ◌∷◌, ◌++◌, codes}
+use Rattle.std.specs.Prelude.{ℕ, Bool, true, false, List, [], ◌∷◌, ◌++◌, codes, decimal}
 
 pub data Finding : Type 0 where
-  -- a fact or an action of this name has more than sixteen arguments
+  -- the builtin isn't one of those that are known
+  builtin_left_out : List ℕ → Finding
+  -- a symbol of this name stands before with another arity, or is private where this one isn't
+  declared_twice : List ℕ → Finding
+  -- no symbol of this name has this arity
+  unknown_symbol : List ℕ → ℕ → Finding
+  -- a symbol, a fact or an action of this name has more than sixteen arguments
   arity_above : List ℕ → Finding
+  -- an equation, by its number
+  wrong_shape : ℕ → Finding
+  private_constant : ℕ → Finding
+  -- two equations
+  clash : ℕ → ℕ → Finding
   -- two rules, or two lemmas, have this name
   used_twice : List ℕ → Finding
   -- in a rule, a variable
@@ -12,15 +23,26 @@ pub data Finding : Type 0 where
   -- in a rule, a fact
   reserved : List ℕ → List ℕ → Finding
   fr_argument : List ℕ → Finding
+  -- in a rule
+  destructor_in_premise : List ℕ → Finding
   -- in a rule, a variable that no premise binds
   in_no_premise : List ℕ → List ℕ → Finding
   -- in a formula, a variable that no quantifier binds
   without_binder : List ℕ → List ℕ → Finding
   not_guarded : List ℕ → List ℕ → Finding
+  destructor_in_formula : List ℕ → Finding
   other_sort : List ℕ → List ℕ → Finding
   mixed_at : List ℕ → List ℕ → Finding
 
 unfoldable pub line : Finding → List ℕ
+line (builtin_left_out b) = codes "fatal: builtin left out: " ++ b
+line (declared_twice f) = codes "fatal: symbol " ++ (f ++ codes " declared twice")
+line (unknown_symbol f n) = codes "fatal: unknown symbol " ++ (f ++ (codes "/" ++ decimal n))
+line (wrong_shape k) = codes "fatal: equation " ++ (decimal k ++ codes ": shape")
+line (private_constant k) = codes "fatal: equation " ++ (decimal k ++ codes ": private constant")
+line (clash j k) = codes "fatal: equations " ++ (decimal j ++ (codes " and " ++ (decimal k ++ codes " clash")))
+line (destructor_in_premise r) = codes "fatal: rule " ++ (r ++ codes ": destructor in a premise")
+line (destructor_in_formula n) = codes "fatal: formula " ++ (n ++ codes ": destructor")
 line (arity_above x) = codes "fatal: arity above 16: " ++ x
 line (used_twice x) = codes "fatal: name " ++ (x ++ codes " used twice")
 line (two_sorts r x) = codes "fatal: rule " ++ (r ++ (codes ": variable " ++ (x ++ codes " has two sorts")))

@@ -1,21 +1,47 @@
 -- The report is empty exactly on the theories that are analysed.
-use Rattle.std.specs.Prelude.{◌≡◌, ◌↔◌, [], map, false, Some}
-use Rattle.sp_spec.specs.Lists.{Every, Distinct}
-use Rattle.sp_spec.specs.Theory.{Lemma}
-use Rattle.sp_spec.specs.Written.{WrittenRule, WrittenTheory}
+use Rattle.std.specs.Prelude.{◌≡◌, ◌↔◌, ℕ, ◌≤◌, List, [], map, false, Some}
+use Rattle.sp_spec.specs.Lists.{Member, Every, Distinct}
+use Rattle.sp_spec.specs.Signature.{Symbol, Equation}
+use Rattle.sp_spec.specs.Theory.{Lemma, signature_of}
+use Rattle.sp_spec.specs.Written.{WrittenRule, theory_of}
 use Rattle.sp_spec.specs.Findings.{rule_is_wrong}
 use Rattle.sp_spec.specs.Guarded.{Guarded}
 use Rattle.sp_law_guard.specs.CheckedForm.{checked_form}
-use Rattle.sp_spec_text.specs.Written.{WrittenText, theory_in}
+use Rattle.sp_law_conv.specs.Accepted.{AreAccepted}
+use Rattle.sp_law_conv.specs.Laws.{EquationsAreOver}
+use Rattle.sp_spec_text.specs.Written.{WrittenText, builtins_in, functions_in}
+use Rattle.sp_spec_text.specs.Declared.{Builtin, builtin_of, declared_symbols, all_symbols, theory_in}
+use Rattle.sp_wf.specs.SymbolFindings.{unknown_in_rule, unknown_in_formula, facts_have_destructor, formula_has_destructor}
 use Rattle.sp_wf.specs.Report.{findings, report}
 
--- no two rules and no two lemmas have one name, nothing is wrong with a rule, and each lemma has a guarded form without findings
-pub record IsWellFormed (t : WrittenTheory) : Type 0 where
-  pub rule_names : Distinct (map (λ (r : WrittenRule). r.name) t.rules)
-  pub lemma_names : Distinct (map (λ (l : Lemma). l.name) t.lemmas)
-  pub rules : Every (λ (r : WrittenRule). rule_is_wrong r ≡ false) t.rules
-  pub lemmas : Every (λ (l : Lemma). (g : Guarded) × (checked_form l.formula ≡ Some g)) t.lemmas
+-- each builtin is known, each symbol is declared in one way and has no more than sixteen arguments
+pub record DeclaresWell (t : WrittenText) : Type 0 where
+  pub builtins : Every (λ (b : List ℕ). (found : Builtin) × (builtin_of b ≡ Some found)) (builtins_in t.items)
+  pub symbols : Every (λ (s : Symbol). Member s (all_symbols t.items)) (declared_symbols t.items)
+  pub arities : Every (λ (s : Symbol). s.arity ≤ 16) (functions_in t.items)
+
+-- nothing is wrong with the rule by itself, its symbols are there, and no destructor stands in a premise
+pub record IsFineRule (symbols : List Symbol) (es : List Equation) (r : WrittenRule) : Type 0 where
+  pub right : rule_is_wrong r ≡ false
+  pub known : unknown_in_rule symbols r ≡ []
+  pub plain : facts_have_destructor es r.facts.premises ≡ false
+
+-- it has a guarded form without findings, its symbols are there, and no destructor stands in it
+pub record IsFineLemma (symbols : List Symbol) (es : List Equation) (l : Lemma) : Type 0 where
+  pub form : (g : Guarded) × (checked_form l.formula ≡ Some g)
+  pub known : unknown_in_formula symbols l.formula ≡ []
+  pub plain : formula_has_destructor es l.formula ≡ false
+
+-- No two rules and no two lemmas have one name, and nothing is wrong with any of them, nor with the symbols and the equations.
+pub record IsWellFormed (t : WrittenText) : Type 0 where
+  pub declares : DeclaresWell t
+  pub over : let theory = theory_of (theory_in t) in EquationsAreOver (signature_of theory).symbols (signature_of theory).equations
+  pub accepted : let theory = theory_of (theory_in t) in AreAccepted (signature_of theory).symbols (signature_of theory).equations
+  pub rule_names : Distinct (map (λ (r : WrittenRule). r.name) (theory_in t).rules)
+  pub lemma_names : Distinct (map (λ (l : Lemma). l.name) (theory_in t).lemmas)
+  pub rules : let theory = theory_of (theory_in t) in Every (IsFineRule (signature_of theory).symbols (signature_of theory).equations) (theory_in t).rules
+  pub lemmas : let theory = theory_of (theory_in t) in Every (IsFineLemma (signature_of theory).symbols (signature_of theory).equations) (theory_in t).lemmas
 
 pub record ReportIsRight : Type 0 where
-  pub no_finding : (t : WrittenText) → (findings t ≡ []) ↔ IsWellFormed (theory_in t)
-  pub no_line : (t : WrittenText) → (report t ≡ []) ↔ IsWellFormed (theory_in t)
+  pub no_finding : (t : WrittenText) → (findings t ≡ []) ↔ IsWellFormed t
+  pub no_line : (t : WrittenText) → (report t ≡ []) ↔ IsWellFormed t

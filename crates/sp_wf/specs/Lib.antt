@@ -1,4 +1,6 @@
 pub mod Finding
+pub mod SymbolFindings
+pub mod EquationFindings
 pub mod RuleFindings
 pub mod FormulaFindings
 pub mod Report
@@ -6,3 +8,4 @@ pub mod Laws
 pub mod View
 pub mod Told
 pub mod Sought
+pub mod Atoms

@@ -1,13 +1,19 @@
 -- The tests that the code makes, one kind after the other, and item by item.
-use Rattle.std.specs.Prelude.{ℕ, Bool, false, ◌||◌, List, [], ◌∷◌, ◌++◌}
+use Rattle.std.specs.Prelude.{ℕ, Bool, false, ◌&&◌, ◌||◌, if◌then◌else◌, List, [], ◌∷◌, ◌++◌, map}
+use Rattle.std.specs.List.{flat_map}
 use Rattle.std.specs.Str.{bytes_eq}
 use Rattle.sp_spec.specs.Rule.{Fact}
 use Rattle.sp_spec.specs.Formula.{Written}
 use Rattle.sp_spec.specs.Theory.{Lemma}
 use Rattle.sp_spec.specs.Written.{WrittenRule, in_terms}
 use Rattle.sp_spec.specs.Findings.{is_named}
+use Rattle.sp_spec.specs.Signature.{Symbol, Equation}
 use Rattle.sp_spec_text.specs.Written.{Item}
-use Rattle.sp_wf.specs.Finding.{Finding, used_twice, told}
+use Rattle.sp_spec_text.specs.Declared.{Numbered, builtin_of, builtin_symbols}
+use Rattle.sp_ground.specs.View.{equation_of}
+use Rattle.sp_wf.specs.Finding.{Finding, used_twice, told, are_none}
+use Rattle.sp_wf.specs.SymbolFindings.{declared_otherwise, destructors_in_rule, destructors_in_lemma}
+use Rattle.sp_wf.specs.EquationFindings.{shapes, private_constants, clashes}
 use Rattle.sp_wf.specs.RuleFindings.{sorts_in_rule, reserved_in_rule, arguments_in_rule, unbound_in_rule}
 use Rattle.sp_wf.specs.FormulaFindings.{unbound_in_lemma, unguarded_in_lemma, sorts_in_lemma, mixed_in_lemma}
 use Rattle.sp_wf.specs.Report.{names_of_rules, names_of_lemmas}
@@ -25,13 +31,25 @@ abbrev pub on_rule : RuleFault → WrittenRule → List Finding
 on_rule r.Sorts = sorts_in_rule
 on_rule r.Reserved = reserved_in_rule
 on_rule r.Arguments = arguments_in_rule
+on_rule (r.Destructor es) = destructors_in_rule (map equation_of es.now.items)
 on_rule r.Unbound = unbound_in_rule
 
 abbrev pub on_lemma : LemmaFault → Lemma → List Finding
 on_lemma l.Unbound = unbound_in_lemma
 on_lemma l.Unguarded = unguarded_in_lemma
+on_lemma (l.Destructor es) = destructors_in_lemma (map equation_of es.now.items)
 on_lemma l.OtherSort = sorts_in_lemma
 on_lemma l.Mixed = mixed_in_lemma
+
+-- ---- symbols and equations
+
+-- the symbols of these builtins that are declared in another way
+abbrev pub otherwise_named : List Symbol → List (List ℕ) → List Finding
+otherwise_named symbols names = declared_otherwise symbols (flat_map (λ b. builtin_symbols (builtin_of b)) names)
+
+-- clashes, where each equation is as it should be by itself
+abbrev pub clashes_if_formed : List Symbol → List Equation → List Numbered → List Finding
+clashes_if_formed symbols es numbered = if are_none (shapes symbols es numbered) && are_none (private_constants symbols es numbered) then clashes numbered else []
 
 -- ---- names, where those before are known by a test
 

@@ -1,20 +1,41 @@
 -- What findings in memory stand for, and lines.
 use Rattle.std.specs.Prelude.{ℕ, List, String, map, string_bytes}
-use Rattle.sp_wf.specs.Finding.{Finding, arity_above, used_twice, two_sorts, reserved, fr_argument, in_no_premise, without_binder, not_guarded, other_sort, mixed_at}
+use Rattle.sp_ground.specs.View.{equation_of}
+use Rattle.sp_spec_text.specs.Declared.{Numbered}
+use Rattle.sp_wf.specs.Finding as f
+use Rattle.sp_wf.specs.Finding.{Finding}
 use Rattle.sp_wf.specs.declared.finding.Finding as memory
 use Rattle.sp_wf.specs.declared.finding.Finding.TheVariants as v
+use Rattle.sp_wf.specs.declared.finding.RuleFinding.{RuleFinding}
+use Rattle.sp_wf.specs.declared.finding.RuleFinding.TheVariants as r
+use Rattle.sp_wf.specs.declared.finding.FormulaFinding.{FormulaFinding}
+use Rattle.sp_wf.specs.declared.finding.FormulaFinding.TheVariants as l
+
+abbrev pub on_rule : List ℕ → RuleFinding → Finding
+on_rule rule (r.TwoSorts x) = f.two_sorts rule x.now
+on_rule rule (r.Reserved fact) = f.reserved rule fact.now
+on_rule rule r.FrArgument = f.fr_argument rule
+on_rule rule r.Destructor = f.destructor_in_premise rule
+on_rule rule (r.NotBound x) = f.in_no_premise rule x.now
+
+abbrev pub on_formula : List ℕ → FormulaFinding → Finding
+on_formula lemma (l.NotBound x) = f.without_binder lemma x.now
+on_formula lemma (l.NotGuarded x) = f.not_guarded lemma x.now
+on_formula lemma l.Destructor = f.destructor_in_formula lemma
+on_formula lemma (l.OtherSort x) = f.other_sort lemma x.now
+on_formula lemma (l.MixedAt x) = f.mixed_at lemma x.now
 
 abbrev pub finding_of : memory.Finding → Finding
-finding_of (v.ArityAbove x) = arity_above x.now
-finding_of (v.UsedTwice x) = used_twice x.now
-finding_of (v.TwoSorts r x) = two_sorts r.now x.now
-finding_of (v.Reserved r f) = reserved r.now f.now
-finding_of (v.FrArgument r) = fr_argument r.now
-finding_of (v.InNoPremise r x) = in_no_premise r.now x.now
-finding_of (v.WithoutBinder n x) = without_binder n.now x.now
-finding_of (v.NotGuarded n x) = not_guarded n.now x.now
-finding_of (v.OtherSort n x) = other_sort n.now x.now
-finding_of (v.MixedAt n x) = mixed_at n.now x.now
+finding_of (v.BuiltinLeftOut b) = f.builtin_left_out b.now
+finding_of (v.DeclaredTwice s) = f.declared_twice s.now
+finding_of (v.UnknownSymbol s n) = f.unknown_symbol s.now n
+finding_of (v.ArityAbove x) = f.arity_above x.now
+finding_of (v.WrongShape k) = f.wrong_shape k
+finding_of (v.PrivateConstant k) = f.private_constant k
+finding_of (v.Clash j k) = f.clash j k
+finding_of (v.UsedTwice x) = f.used_twice x.now
+finding_of (v.OnRule rule finding) = on_rule rule.now finding
+finding_of (v.OnFormula lemma finding) = on_formula lemma.now finding
 
 abbrev pub lines_of : {A : Type 0} → List (String A) → List (List ℕ)
 lines_of ls = map string_bytes ls

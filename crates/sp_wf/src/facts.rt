@@ -1,26 +1,28 @@
 // The findings on the facts of a rule.
 
-ghost use Rattle.std.specs.Prelude.{◌≡◌, OnOk};
+ghost use Rattle.std.specs.Prelude.{◌≡◌, OnOk, map};
 ghost use Rattle.sp_spec.specs.Findings as findings;
 ghost use Rattle.sp_read_parts.specs.Views as view;
-ghost use Rattle.sp_read_parts.specs.Views.{fact_of, facts_of};
+ghost use Rattle.sp_read_parts.specs.Views.{action_of, fact_of, facts_of, terms};
 ghost use Rattle.sp_wf.specs.RuleFindings as spec;
 ghost use Rattle.sp_wf.specs.Report.{lines_after};
 ghost use Rattle.sp_wf.specs.View.{lines_of};
 
-use crate::finding::{Finding, tell_if};
-use sp_read_parts::{Mark, WrittenFact, WrittenRule, WrittenTerm};
+use crate::finding::{Finding, RuleFinding, tell_if};
+use sp_finding::is_fr;
+use sp_read_parts::{Mark, WrittenAction, WrittenFact, WrittenRule, WrittenTerm};
+use sp_term::term::Term;
 use std::alloc::{AllocError, Global};
 
-/// The most arguments that a fact may have.
-const MOST_ARGUMENTS: usize = 16;
+/// The most arguments that a fact, an action or a symbol may have.
+pub const MOST_ARGUMENTS: usize = 16;
 
-/// Whether the fact has too many arguments.
+/// Whether there are too many arguments.
 #[tactic(auto, using(sp_finding::proofs::Counted::counted))]
-pub fn is_wide(fact: &WrittenFact) -> bool
-    ensures { result ≡ findings.is_wide (fact_of fact.now).args }
+pub fn are_too_many(args: &Vec<WrittenTerm>) -> bool
+    ensures { result ≡ findings.is_wide (terms args.now.items) }
 {
-    MOST_ARGUMENTS < fact.arguments.len()
+    MOST_ARGUMENTS < args.len()
 }
 
 /// Tells of each of the facts that has too many arguments.
@@ -33,18 +35,32 @@ fn tell_wide_facts(
     ensures { OnOk result (lines_of lines.new.items ≡ lines_after (lines_of lines.old.items) (spec.wide_facts (facts_of facts.now.items))) }
 {
     for fact in facts {
-        tell_if(
-            alloc,
-            lines,
-            is_wide(fact),
-            Finding::ArityAbove(fact.symbol),
-        )?;
+        let is_wrong = are_too_many(&fact.args);
+        let name = fact.symbol.text.as_str();
+        tell_if(alloc, lines, is_wrong, Finding::ArityAbove(name))?;
+    }
+    Ok(())
+}
+
+/// Tells of each of the actions that has too many arguments.
+#[tactic(auto, using(crate::proofs::Telling::told_on))]
+fn tell_wide_actions(
+    alloc: Global,
+    lines: &mut Vec<String>,
+    actions: &Vec<WrittenAction>,
+) -> Result<(), AllocError>
+    ensures { OnOk result (lines_of lines.new.items ≡ lines_after (lines_of lines.old.items) (spec.wide_actions (map action_of actions.now.items))) }
+{
+    for action in actions {
+        let is_wrong = are_too_many(&action.args);
+        let name = action.symbol.text.as_str();
+        tell_if(alloc, lines, is_wrong, Finding::ArityAbove(name))?;
     }
     Ok(())
 }
 
 /// Tells of each fact and each action of the rule that has too many arguments.
-#[tactic(auto, using(crate::proofs::Telling::wide_rule))]
+#[tactic(auto, using(crate::proofs::Telling::told_three))]
 pub fn tell_wide(
     alloc: Global,
     lines: &mut Vec<String>,
@@ -52,9 +68,9 @@ pub fn tell_wide(
 ) -> Result<(), AllocError>
     ensures { OnOk result (lines_of lines.new.items ≡ lines_after (lines_of lines.old.items) (spec.wide_in_rule (view.rule rule.now))) }
 {
-    tell_wide_facts(alloc, lines, &rule.premises)?;
-    tell_wide_facts(alloc, lines, &rule.actions)?;
-    tell_wide_facts(alloc, lines, &rule.conclusions)
+    tell_wide_facts(alloc, lines, &rule.facts.premises)?;
+    tell_wide_actions(alloc, lines, &rule.facts.actions)?;
+    tell_wide_facts(alloc, lines, &rule.facts.conclusions)
 }
 
 /// Whether it has one argument.
@@ -62,7 +78,7 @@ pub fn tell_wide(
 fn is_one(fact: &WrittenFact) -> bool
     ensures { result ≡ findings.is_one (fact_of fact.now).args }
 {
-    fact.arguments.len() == 1
+    fact.args.len() == 1
 }
 
 /// Whether what is marked so may be fresh.
@@ -83,12 +99,12 @@ pub fn may_be_fresh(mark: Mark) -> bool
 fn is_fresh_variable(fact: &WrittenFact) -> bool
     ensures { result ≡ findings.is_fresh_variable (fact_of fact.now).args }
 {
-    if fact.arguments.len() != 1 {
+    if fact.args.len() != 1 {
         return false;
     }
-    match fact.arguments[0] {
-        WrittenTerm::Variable(variable) => may_be_fresh(variable.mark),
-        WrittenTerm::Constant(_) => false,
+    match &fact.args[0] {
+        Term::Var(variable) => may_be_fresh(variable.mark),
+        _ => false,
     }
 }
 
@@ -103,8 +119,9 @@ fn tell_premises(
     ensures { OnOk result (lines_of lines.new.items ≡ lines_after (lines_of lines.old.items) (spec.wrong_premises rule.now (facts_of premises.now.items))) }
 {
     for fact in premises {
-        let is_wrong = fact.symbol == "Fr" && (fact.persistent || !is_one(fact));
-        tell_if(alloc, lines, is_wrong, Finding::Reserved(rule, fact.symbol))?;
+        let is_wrong = is_fr(fact) && (fact.persistent || !is_one(fact));
+        let finding = RuleFinding::Reserved(fact.symbol.text.as_str());
+        tell_if(alloc, lines, is_wrong, Finding::OnRule(rule, finding))?;
     }
     Ok(())
 }
@@ -120,8 +137,9 @@ fn tell_conclusions(
     ensures { OnOk result (lines_of lines.new.items ≡ lines_after (lines_of lines.old.items) (spec.wrong_conclusions rule.now (facts_of conclusions.now.items))) }
 {
     for fact in conclusions {
-        let is_wrong = fact.symbol == "Fr";
-        tell_if(alloc, lines, is_wrong, Finding::Reserved(rule, fact.symbol))?;
+        let is_wrong = is_fr(fact);
+        let finding = RuleFinding::Reserved(fact.symbol.text.as_str());
+        tell_if(alloc, lines, is_wrong, Finding::OnRule(rule, finding))?;
     }
     Ok(())
 }
@@ -135,8 +153,8 @@ pub fn tell_reserved(
 ) -> Result<(), AllocError>
     ensures { OnOk result (lines_of lines.new.items ≡ lines_after (lines_of lines.old.items) (spec.reserved_in_rule (view.rule rule.now))) }
 {
-    tell_premises(alloc, lines, rule.name, &rule.premises)?;
-    tell_conclusions(alloc, lines, rule.name, &rule.conclusions)
+    tell_premises(alloc, lines, rule.name, &rule.facts.premises)?;
+    tell_conclusions(alloc, lines, rule.name, &rule.facts.conclusions)
 }
 
 /// Tells of each premise Fr of one argument that is no variable that may be fresh.
@@ -148,10 +166,11 @@ pub fn tell_arguments(
 ) -> Result<(), AllocError>
     ensures { OnOk result (lines_of lines.new.items ≡ lines_after (lines_of lines.old.items) (spec.arguments_in_rule (view.rule rule.now))) }
 {
-    for fact in &rule.premises {
-        let is_wrong = fact.symbol == "Fr"
+    for fact in &rule.facts.premises {
+        let is_wrong = is_fr(fact)
             && (!fact.persistent && (is_one(fact) && !is_fresh_variable(fact)));
-        tell_if(alloc, lines, is_wrong, Finding::FrArgument(rule.name))?;
+        let finding = Finding::OnRule(rule.name, RuleFinding::FrArgument);
+        tell_if(alloc, lines, is_wrong, finding)?;
     }
     Ok(())
 }

@@ -4,40 +4,107 @@ ghost use Rattle.std.specs.Prelude.{◌≡◌, [], IfOk, OnOk, string_bytes};
 ghost use Rattle.sp_spec.specs.Written.{is_listed};
 ghost use Rattle.sp_wf.specs.Finding as spec;
 ghost use Rattle.sp_wf.specs.Report.{lines_after};
-ghost use Rattle.sp_wf.specs.View.{finding_of, lines_of};
+ghost use Rattle.sp_wf.specs.View.{finding_of, lines_of, on_formula, on_rule};
 
 use std::alloc::{AllocError, Global};
 
-/// A fatal finding on a theory. Of two names the first is that of the rule or the lemma.
+/// A fatal finding on a theory.
 #[derive(Clone, Copy)]
 pub enum Finding<'a> {
-    /// a fact or an action of this name has more than sixteen arguments
+    /// no builtin has this name
+    BuiltinLeftOut(&'a str),
+    /// a symbol of this name is declared in two ways
+    DeclaredTwice(&'a str),
+    /// no symbol has this name and so many arguments
+    UnknownSymbol(&'a str, usize),
+    /// a symbol, a fact or an action of this name has more than sixteen arguments
     ArityAbove(&'a str),
+    /// the equation of this number isn't of the form that is asked for
+    WrongShape(usize),
+    /// the right side of the equation of this number is a constant that is private
+    PrivateConstant(usize),
+    /// the equations of these numbers clash
+    Clash(usize, usize),
     /// two rules, or two lemmas, have this name
     UsedTwice(&'a str),
+    /// one on the rule of this name
+    OnRule(&'a str, RuleFinding<'a>),
+    /// one on the formula of the lemma of this name
+    OnFormula(&'a str, FormulaFinding<'a>),
+}
+
+/// What is wrong with a rule.
+#[derive(Clone, Copy)]
+pub enum RuleFinding<'a> {
     /// a variable stands with two sorts
-    TwoSorts(&'a str, &'a str),
+    TwoSorts(&'a str),
     /// a fact stands where it may not
-    Reserved(&'a str, &'a str),
+    Reserved(&'a str),
     /// the argument of an Fr is no variable that may be fresh
-    FrArgument(&'a str),
+    FrArgument,
+    /// a destructor stands in a premise
+    Destructor,
     /// a variable of an action or a conclusion stands in no premise
-    InNoPremise(&'a str, &'a str),
-    /// a variable of a formula has no binder
-    WithoutBinder(&'a str, &'a str),
+    NotBound(&'a str),
+}
+
+/// What is wrong with a formula.
+#[derive(Clone, Copy)]
+pub enum FormulaFinding<'a> {
+    /// a variable has no binder
+    NotBound(&'a str),
     /// a variable isn't guarded
-    NotGuarded(&'a str, &'a str),
+    NotGuarded(&'a str),
+    /// a destructor stands in it
+    Destructor,
     /// a variable is marked with another sort than its binder
-    OtherSort(&'a str, &'a str),
+    OtherSort(&'a str),
     /// a time stands for a message, or a message for a time
-    MixedAt(&'a str, &'a str),
+    MixedAt(&'a str),
 }
 
 #[tactic(auto, unfolding(crate::specs::Finding::line))]
-fn mixed_line(alloc: Global, lemma: &str, name: &str) -> Result<String, AllocError>
-    ensures { IfOk result (λ l. string_bytes l ≡ spec.line (spec.mixed_at lemma.now name.now)) }
+fn rule_line(alloc: Global, rule: &str, finding: RuleFinding) -> Result<String, AllocError>
+    ensures { IfOk result (λ l. string_bytes l ≡ spec.line (on_rule rule.now finding.entry)) }
 {
-    format!(in alloc; "fatal: formula {lemma}: time and message mixed at {name}")
+    match finding {
+        RuleFinding::TwoSorts(name) => {
+            format!(in alloc; "fatal: rule {rule}: variable {name} has two sorts")
+        }
+        RuleFinding::Reserved(fact) => {
+            format!(in alloc; "fatal: rule {rule}: reserved fact {fact}")
+        }
+        RuleFinding::FrArgument => format!(in alloc; "fatal: rule {rule}: Fr argument"),
+        RuleFinding::Destructor => {
+            format!(in alloc; "fatal: rule {rule}: destructor in a premise")
+        }
+        RuleFinding::NotBound(name) => {
+            format!(in alloc; "fatal: rule {rule}: variable {name} not bound")
+        }
+    }
+}
+
+#[tactic(auto, unfolding(crate::specs::Finding::line))]
+fn formula_line(alloc: Global, lemma: &str, finding: FormulaFinding) -> Result<String, AllocError>
+    ensures { IfOk result (λ l. string_bytes l ≡ spec.line (on_formula lemma.now finding.entry)) }
+{
+    match finding {
+        FormulaFinding::NotBound(name) => {
+            format!(in alloc; "fatal: formula {lemma}: variable {name} not bound")
+        }
+        FormulaFinding::NotGuarded(name) => {
+            format!(in alloc; "fatal: formula {lemma}: variable {name} not guarded")
+        }
+        FormulaFinding::Destructor => format!(in alloc; "fatal: formula {lemma}: destructor"),
+        FormulaFinding::OtherSort(name) => {
+            format!(in alloc;
+                "fatal: formula {lemma}: variable {name} has another sort than its binder"
+            )
+        }
+        FormulaFinding::MixedAt(name) => {
+            format!(in alloc; "fatal: formula {lemma}: time and message mixed at {name}")
+        }
+    }
 }
 
 /// The line of a finding.
@@ -46,30 +113,22 @@ fn line(alloc: Global, finding: Finding) -> Result<String, AllocError>
     ensures { IfOk result (λ l. string_bytes l ≡ spec.line (finding_of finding.entry)) }
 {
     match finding {
+        Finding::BuiltinLeftOut(name) => format!(in alloc; "fatal: builtin left out: {name}"),
+        Finding::DeclaredTwice(name) => format!(in alloc; "fatal: symbol {name} declared twice"),
+        Finding::UnknownSymbol(name, count) => {
+            format!(in alloc; "fatal: unknown symbol {name}/{count}")
+        }
         Finding::ArityAbove(name) => format!(in alloc; "fatal: arity above 16: {name}"),
+        Finding::WrongShape(number) => format!(in alloc; "fatal: equation {number}: shape"),
+        Finding::PrivateConstant(number) => {
+            format!(in alloc; "fatal: equation {number}: private constant")
+        }
+        Finding::Clash(first, second) => {
+            format!(in alloc; "fatal: equations {first} and {second} clash")
+        }
         Finding::UsedTwice(name) => format!(in alloc; "fatal: name {name} used twice"),
-        Finding::TwoSorts(rule, name) => {
-            format!(in alloc; "fatal: rule {rule}: variable {name} has two sorts")
-        }
-        Finding::Reserved(rule, fact) => {
-            format!(in alloc; "fatal: rule {rule}: reserved fact {fact}")
-        }
-        Finding::FrArgument(rule) => format!(in alloc; "fatal: rule {rule}: Fr argument"),
-        Finding::InNoPremise(rule, name) => {
-            format!(in alloc; "fatal: rule {rule}: variable {name} not bound")
-        }
-        Finding::WithoutBinder(lemma, name) => {
-            format!(in alloc; "fatal: formula {lemma}: variable {name} not bound")
-        }
-        Finding::NotGuarded(lemma, name) => {
-            format!(in alloc; "fatal: formula {lemma}: variable {name} not guarded")
-        }
-        Finding::OtherSort(lemma, name) => {
-            format!(in alloc;
-                "fatal: formula {lemma}: variable {name} has another sort than its binder"
-            )
-        }
-        Finding::MixedAt(lemma, name) => mixed_line(alloc, lemma, name),
+        Finding::OnRule(rule, finding) => rule_line(alloc, rule, finding),
+        Finding::OnFormula(lemma, finding) => formula_line(alloc, lemma, finding),
     }
 }
 

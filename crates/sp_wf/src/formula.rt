@@ -1,7 +1,6 @@
 // The findings on the formula of a lemma.
 
 ghost use Rattle.std.specs.Prelude.{◌≡◌, ◌&&◌, ℕ, List, [], if◌then◌else◌, IfOk, OnOk, map};
-ghost use Rattle.sp_spec_text.specs.Shapes.{row};
 ghost use Rattle.sp_spec.specs.Formula as formulas;
 ghost use Rattle.sp_read_parts.specs.Reading.{Joint};
 ghost use Rattle.sp_read_parts.specs.Formulas as written;
@@ -14,8 +13,7 @@ ghost use Rattle.sp_wf.specs.Report.{lines_after};
 ghost use Rattle.sp_wf.specs.Sought.{sought, sought_view};
 ghost use Rattle.sp_wf.specs.View.{lines_of};
 
-use crate::facts::is_wide;
-use crate::finding::{Finding, tell_if};
+use crate::finding::{Finding, FormulaFinding, tell_if};
 use crate::uses::{Search, Sought, tell_equation, tell_happening, tell_order};
 use sp_guard::form::{guarded_form, within};
 use sp_guard::marks::marks_fit;
@@ -38,9 +36,11 @@ fn tell_uses<'a>(
 {
     match formula {
         ReadFormula::True | ReadFormula::False => Ok(()),
-        ReadFormula::Happens(fact, at) => tell_happening(alloc, lines, search, binders, fact, *at),
+        ReadFormula::Happens(action, at) => {
+            tell_happening(alloc, lines, search, binders, action, *at)
+        }
         ReadFormula::Equals(left, right) => {
-            tell_equation(alloc, lines, search, binders, *left, *right)
+            tell_equation(alloc, lines, search, binders, left, right)
         }
         ReadFormula::Precedes(left, right) => {
             tell_order(alloc, lines, search, binders, *left, *right)
@@ -94,79 +94,6 @@ fn tell_later_uses<'a>(
     Ok(())
 }
 
-/// Tells of each action of the formula that has too many arguments.
-#[cycle(wide)]
-#[tactic(auto, using(crate::proofs::Telling::told_both, crate::proofs::Formulas::wide_equivalent, crate::proofs::Formulas::wide_for_all, crate::proofs::Formulas::wide_for_some))]
-fn tell_wide_in(
-    alloc: Global,
-    lines: &mut Vec<String>,
-    formula: &ReadFormula,
-) -> Result<(), AllocError>
-    ensures { OnOk result (lines_of lines.new.items ≡ lines_after (lines_of lines.old.items) (spec.wide_in (written.formula formula.now))) }
-{
-    match formula {
-        ReadFormula::True | ReadFormula::False => Ok(()),
-        ReadFormula::Happens(fact, _) => tell_if(
-            alloc,
-            lines,
-            is_wide(fact),
-            Finding::ArityAbove(fact.symbol),
-        ),
-        ReadFormula::Equals(_, _) | ReadFormula::Precedes(_, _) => Ok(()),
-        ReadFormula::Not(denied) => tell_wide_in(alloc, lines, denied),
-        ReadFormula::Both(left, right, more) | ReadFormula::Either(left, right, more) => {
-            tell_wide_in(alloc, lines, left)?;
-            tell_wide_in(alloc, lines, right)?;
-            tell_later_wide(alloc, lines, more)
-        }
-        ReadFormula::Implies(left, right) => {
-            tell_wide_in(alloc, lines, left)?;
-            tell_wide_in(alloc, lines, right)?;
-            Ok(())
-        }
-        ReadFormula::Equivalent(left, right) => {
-            tell_wide_in(alloc, lines, left)?;
-            tell_wide_in(alloc, lines, right)?;
-            Ok(())
-        }
-        ReadFormula::ForAll(_, body) => {
-            tell_wide_in(alloc, lines, body)?;
-            Ok(())
-        }
-        ReadFormula::ForSome(_, body) => {
-            tell_wide_in(alloc, lines, body)?;
-            Ok(())
-        }
-    }
-}
-
-/// The same in each of the formulas that follow.
-#[cycle(wide)]
-fn tell_later_wide(
-    alloc: Global,
-    lines: &mut Vec<String>,
-    more: &Vec<ReadFormula>,
-) -> Result<(), AllocError>
-    ensures { OnOk result ((o : Joint) (before : List (List ℕ)) (f : formulas.Formula) → lines_of lines.old.items ≡ lines_after before (spec.wide_in f)
-        → lines_of lines.new.items ≡ lines_after before (spec.wide_in (written.chain o f (map written.formula more.now.items)))) }
-{
-    for part in more {
-        tell_wide_in(alloc, lines, part)?;
-    }
-    Ok(())
-}
-
-/// Tells of each action of the lemma that has too many arguments.
-pub fn tell_wide_lemma(
-    alloc: Global,
-    lines: &mut Vec<String>,
-    lemma: &WrittenLemma,
-) -> Result<(), AllocError>
-    ensures { OnOk result (lines_of lines.new.items ≡ lines_after (lines_of lines.old.items) (spec.wide_in_lemma (view.lemma lemma.now))) }
-{
-    tell_wide_in(alloc, lines, &lemma.formula)
-}
-
 /// Tells of what is looked for, in the formula of the lemma.
 pub fn tell_lemma(
     alloc: Global,
@@ -206,7 +133,10 @@ fn tell_name<'a>(
     ensures { OnOk result (lines_of lines.new.items ≡ lines_after (lines_of lines.old.items) (spec.unguarded_at lemma.now (name_of name.entry))) }
 {
     match name {
-        Some(name) => tell_if(alloc, lines, true, Finding::NotGuarded(lemma, name)),
+        Some(name) => {
+            let finding = Finding::OnFormula(lemma, FormulaFinding::NotGuarded(name));
+            tell_if(alloc, lines, true, finding)
+        }
         None => Ok(()),
     }
 }

@@ -42,6 +42,7 @@ fn tell_item_name(
     ensures in_lemmas { OnOk result ((q : List ℕ) → contains_text lemmas.new q ≡ or_one_of (spec.names_of_lemmas (view.item item.now)) (contains_text lemmas.old) q) }
 {
     match item {
+        Item::Builtins(_) | Item::Functions(_) | Item::Equations(_) => Ok(()),
         Item::Rule(rule) => tell_name(alloc, lines, rules, rule.name),
         Item::Lemma(lemma) => tell_name(alloc, lines, lemmas, lemma.name),
     }

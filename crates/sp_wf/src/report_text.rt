@@ -1,58 +1,92 @@
 // The report on a theory.
 
-ghost use Rattle.std.specs.Prelude.{◌≡◌, ◌++◌, IfOk, OnOk};
+ghost use Rattle.std.specs.Prelude.{◌≡◌, ◌++◌, [], IfOk, OnOk, map};
+ghost use Rattle.sp_ground.specs.View.{equation_of, symbol_of};
 ghost use Rattle.sp_spec_text.specs.Written.{rules_in, lemmas_in};
 ghost use Rattle.sp_written.specs.Views as view;
 ghost use Rattle.sp_wf.specs.Report as spec;
+ghost use Rattle.sp_declared.specs.NumberedView.{numbered_of};
 ghost use Rattle.sp_wf.specs.View.{lines_of};
 
+use crate::equations::{tell_equations, without_numbers};
 use crate::names::tell_names;
+use crate::symbols::{tell_declared, tell_left_out};
 use crate::told::{LemmaFault, RuleFault, tell_arities, tell_lemmas, tell_rules};
+use crate::unknown::tell_all_unknown;
+use sp_declared::equations::NumberedEquation;
+use sp_ground::signature::{Equation, Symbol};
 use sp_written::{Item, ReadTheory};
 use std::alloc::{AllocError, Global};
 
 /// Tells of what is wrong with rules alone.
-#[tactic(auto, using(crate::proofs::Telling::told_four))]
+#[tactic(auto, using(crate::proofs::Telling::told_five))]
 fn tell_all_rules(
     alloc: Global,
     lines: &mut Vec<String>,
+    equations: &Vec<Equation>,
     items: &Vec<Item>,
 ) -> Result<(), AllocError>
-    ensures { OnOk result (lines_of lines.new.items ≡ spec.lines_after (lines_of lines.old.items) (spec.findings_on_rules (rules_in (view.items items.now.items)))) }
+    ensures { OnOk result (lines_of lines.new.items ≡ spec.lines_after (lines_of lines.old.items) (spec.findings_on_rules (map equation_of equations.now.items) (rules_in (view.items items.now.items)))) }
 {
     tell_rules(alloc, lines, RuleFault::Sorts, items)?;
     tell_rules(alloc, lines, RuleFault::Reserved, items)?;
     tell_rules(alloc, lines, RuleFault::Arguments, items)?;
+    tell_rules(alloc, lines, RuleFault::Destructor(equations), items)?;
     tell_rules(alloc, lines, RuleFault::Unbound, items)?;
     Ok(())
 }
 
 /// Tells of what is wrong with lemmas alone.
-#[tactic(auto, using(crate::proofs::Telling::told_four))]
+#[tactic(auto, using(crate::proofs::Telling::told_five))]
 fn tell_all_lemmas(
     alloc: Global,
     lines: &mut Vec<String>,
+    equations: &Vec<Equation>,
     items: &Vec<Item>,
 ) -> Result<(), AllocError>
-    ensures { OnOk result (lines_of lines.new.items ≡ spec.lines_after (lines_of lines.old.items) (spec.findings_on_lemmas (lemmas_in (view.items items.now.items)))) }
+    ensures { OnOk result (lines_of lines.new.items ≡ spec.lines_after (lines_of lines.old.items) (spec.findings_on_lemmas (map equation_of equations.now.items) (lemmas_in (view.items items.now.items)))) }
 {
     tell_lemmas(alloc, lines, LemmaFault::Unbound, items)?;
     tell_lemmas(alloc, lines, LemmaFault::Unguarded, items)?;
+    tell_lemmas(alloc, lines, LemmaFault::Destructor(equations), items)?;
     tell_lemmas(alloc, lines, LemmaFault::OtherSort, items)?;
     tell_lemmas(alloc, lines, LemmaFault::Mixed, items)?;
     Ok(())
 }
 
-/// The lines of the findings on a theory.
-#[tactic(auto, using(crate::proofs::Telling::told_four))]
-fn lines(alloc: Global, theory: &ReadTheory) -> Result<Vec<String>, AllocError>
-    ensures { IfOk result (λ ls. lines_of ls.items ≡ spec.lines (view.theory theory.now)) }
+/// Tells of what is wrong with builtins and symbols.
+#[tactic(auto, using(crate::proofs::Telling::told_three))]
+fn tell_symbols(
+    alloc: Global,
+    lines: &mut Vec<String>,
+    symbols: &Vec<Symbol>,
+    items: &Vec<Item>,
+) -> Result<(), AllocError>
+    ensures { OnOk result (lines_of lines.new.items ≡ spec.lines_after (lines_of lines.old.items) (spec.findings_on_symbols (map symbol_of symbols.now.items) (view.items items.now.items))) }
 {
+    tell_left_out(alloc, lines, items)?;
+    tell_declared(alloc, lines, symbols, items)?;
+    tell_all_unknown(alloc, lines, symbols, items)
+}
+
+/// The lines of the findings on a theory that declares these symbols and equations.
+#[tactic(auto, using(crate::proofs::Telling::told_six))]
+fn lines(
+    alloc: Global,
+    symbols: &Vec<Symbol>,
+    equations: &Vec<NumberedEquation>,
+    theory: &ReadTheory,
+) -> Result<Vec<String>, AllocError>
+    ensures { IfOk result (λ ls. lines_of ls.items ≡ spec.lines_after [] (spec.findings_by (map symbol_of symbols.now.items) (map numbered_of equations.now.items) (view.theory theory.now))) }
+{
+    let plain = without_numbers(alloc, equations)?;
     let mut lines = Vec::new(alloc);
+    tell_symbols(alloc, &mut lines, symbols, &theory.items)?;
     tell_arities(alloc, &mut lines, &theory.items)?;
+    tell_equations(alloc, &mut lines, symbols, &plain, equations)?;
     tell_names(alloc, &mut lines, &theory.items)?;
-    tell_all_rules(alloc, &mut lines, &theory.items)?;
-    tell_all_lemmas(alloc, &mut lines, &theory.items)?;
+    tell_all_rules(alloc, &mut lines, &plain, &theory.items)?;
+    tell_all_lemmas(alloc, &mut lines, &plain, &theory.items)?;
     Ok(lines)
 }
 
@@ -68,16 +102,21 @@ fn text_of(alloc: Global, lines: &Vec<String>) -> Result<Vec<u8>, AllocError>
     Ok(text)
 }
 
-/// The report on a theory: a line for each fatal finding, by the kind of finding, and then by the text. It is empty exactly where there
-/// are none, as `report_is_right` says.
+/// The report on a theory that declares these symbols and equations, and in which the names that are symbols are such: a line for each
+/// fatal finding, by the kind of finding, and then by the text. It is empty exactly where there are none, as `report_is_right` says.
 ///
 /// # Errors
 ///
 /// `AllocError` where memory is wanting.
-pub fn report(alloc: Global, theory: &ReadTheory) -> Result<Vec<u8>, AllocError>
-    ensures { IfOk result (λ text. text.items ≡ spec.report (view.theory theory.now)) }
+pub fn report(
+    alloc: Global,
+    symbols: &Vec<Symbol>,
+    equations: &Vec<NumberedEquation>,
+    theory: &ReadTheory,
+) -> Result<Vec<u8>, AllocError>
+    ensures { IfOk result (λ text. text.items ≡ spec.text_about (spec.findings_by (map symbol_of symbols.now.items) (map numbered_of equations.now.items) (view.theory theory.now))) }
 {
-    let lines = lines(alloc, theory)?;
+    let lines = lines(alloc, symbols, equations, theory)?;
     let text = text_of(alloc, &lines)?;
     Ok(text)
 }

@@ -1,35 +1,45 @@
 // The findings on each rule and each lemma, one kind after the other.
 
-ghost use Rattle.std.specs.Prelude.{◌≡◌, OnOk};
+ghost use Rattle.std.specs.Prelude.{◌≡◌, OnOk, map};
+ghost use Rattle.sp_ground.specs.View.{equation_of};
 ghost use Rattle.sp_spec_text.specs.Written.{item_rules, item_lemmas, without_proofs, rules_in, lemmas_in};
 ghost use Rattle.sp_written.specs.Views as view;
 ghost use Rattle.sp_read_parts.specs.Views as parts;
 ghost use Rattle.sp_wf.specs.Report as spec;
+ghost use Rattle.sp_wf.specs.SymbolFindings.{destructors_in_lemma};
 ghost use Rattle.sp_wf.specs.Told.{on_rule, on_lemma};
 ghost use Rattle.sp_wf.specs.View.{lines_of};
 
+use crate::atoms::{TermFault, tell_terms_of};
+use crate::destructors::tell_destructors;
 use crate::facts::{tell_arguments, tell_reserved, tell_wide};
-use crate::formula::{tell_lemma, tell_unguarded, tell_wide_lemma};
+use crate::formula::{tell_lemma, tell_unguarded};
+use crate::symbols::tell_wide_symbols;
 use crate::uses::Sought;
 use crate::variables::{tell_sorts, tell_unbound};
+use sp_ground::signature::Equation;
 use sp_read_parts::WrittenRule;
 use sp_written::{Item, WrittenLemma};
 use std::alloc::{AllocError, Global};
 
 /// What may be wrong with a rule.
 #[derive(Clone, Copy)]
-pub enum RuleFault {
+pub enum RuleFault<'a> {
     Sorts,
     Reserved,
     Arguments,
+    /// one of these equations
+    Destructor(&'a Vec<Equation>),
     Unbound,
 }
 
 /// What may be wrong with a lemma.
 #[derive(Clone, Copy)]
-pub enum LemmaFault {
+pub enum LemmaFault<'a> {
     Unbound,
     Unguarded,
+    /// one of these equations
+    Destructor(&'a Vec<Equation>),
     OtherSort,
     Mixed,
 }
@@ -40,12 +50,13 @@ fn tell_on_rule(
     fault: RuleFault,
     rule: &WrittenRule,
 ) -> Result<(), AllocError>
-    ensures { OnOk result (lines_of lines.new.items ≡ spec.lines_after (lines_of lines.old.items) (on_rule fault (parts.rule rule.now))) }
+    ensures { OnOk result (lines_of lines.new.items ≡ spec.lines_after (lines_of lines.old.items) (on_rule fault.entry (parts.rule rule.now))) }
 {
     match fault {
         RuleFault::Sorts => tell_sorts(alloc, lines, rule),
         RuleFault::Reserved => tell_reserved(alloc, lines, rule),
         RuleFault::Arguments => tell_arguments(alloc, lines, rule),
+        RuleFault::Destructor(equations) => tell_destructors(alloc, lines, equations, rule),
         RuleFault::Unbound => tell_unbound(alloc, lines, rule),
     }
 }
@@ -56,11 +67,11 @@ fn tell_if_rule(
     fault: RuleFault,
     item: &Item,
 ) -> Result<(), AllocError>
-    ensures { OnOk result (lines_of lines.new.items ≡ spec.lines_after (lines_of lines.old.items) (spec.on_rules (on_rule fault) (item_rules (view.item item.now)))) }
+    ensures { OnOk result (lines_of lines.new.items ≡ spec.lines_after (lines_of lines.old.items) (spec.on_rules (on_rule fault.entry) (item_rules (view.item item.now)))) }
 {
     match item {
         Item::Rule(rule) => tell_on_rule(alloc, lines, fault, rule),
-        Item::Lemma(_) => Ok(()),
+        _ => Ok(()),
     }
 }
 
@@ -71,12 +82,26 @@ pub fn tell_rules(
     fault: RuleFault,
     items: &Vec<Item>,
 ) -> Result<(), AllocError>
-    ensures { OnOk result (lines_of lines.new.items ≡ spec.lines_after (lines_of lines.old.items) (spec.on_rules (on_rule fault) (rules_in (view.items items.now.items)))) }
+    ensures { OnOk result (lines_of lines.new.items ≡ spec.lines_after (lines_of lines.old.items) (spec.on_rules (on_rule fault.entry) (rules_in (view.items items.now.items)))) }
 {
     for item in items {
         tell_if_rule(alloc, lines, fault, item)?;
     }
     Ok(())
+}
+
+/// Tells of the lemma where a destructor of these equations stands in its formula.
+#[tactic(auto, using(crate::proofs::OnTerms::destructors_told))]
+fn tell_lemma_destructors(
+    alloc: Global,
+    lines: &mut Vec<String>,
+    equations: &Vec<Equation>,
+    lemma: &WrittenLemma,
+) -> Result<(), AllocError>
+    ensures { OnOk result (lines_of lines.new.items ≡ spec.lines_after (lines_of lines.old.items) (destructors_in_lemma (map equation_of equations.now.items) (view.lemma lemma.now))) }
+{
+    let fault = TermFault::Destructor(equations, lemma.name);
+    tell_terms_of(alloc, lines, fault, &lemma.formula)
 }
 
 #[tactic(auto, using(crate::proofs::Formulas::sought_unbound, crate::proofs::Formulas::sought_other, crate::proofs::Formulas::sought_mixed))]
@@ -86,11 +111,12 @@ fn tell_on_lemma(
     fault: LemmaFault,
     lemma: &WrittenLemma,
 ) -> Result<(), AllocError>
-    ensures { OnOk result (lines_of lines.new.items ≡ spec.lines_after (lines_of lines.old.items) (on_lemma fault (view.lemma lemma.now))) }
+    ensures { OnOk result (lines_of lines.new.items ≡ spec.lines_after (lines_of lines.old.items) (on_lemma fault.entry (view.lemma lemma.now))) }
 {
     match fault {
         LemmaFault::Unbound => tell_lemma(alloc, lines, Sought::Unbound, lemma),
         LemmaFault::Unguarded => tell_unguarded(alloc, lines, lemma),
+        LemmaFault::Destructor(equations) => tell_lemma_destructors(alloc, lines, equations, lemma),
         LemmaFault::OtherSort => tell_lemma(alloc, lines, Sought::OtherSort, lemma),
         LemmaFault::Mixed => tell_lemma(alloc, lines, Sought::Mixed, lemma),
     }
@@ -102,11 +128,11 @@ fn tell_if_lemma(
     fault: LemmaFault,
     item: &Item,
 ) -> Result<(), AllocError>
-    ensures { OnOk result (lines_of lines.new.items ≡ spec.lines_after (lines_of lines.old.items) (spec.on_lemmas (on_lemma fault) (without_proofs (item_lemmas (view.item item.now))))) }
+    ensures { OnOk result (lines_of lines.new.items ≡ spec.lines_after (lines_of lines.old.items) (spec.on_lemmas (on_lemma fault.entry) (without_proofs (item_lemmas (view.item item.now))))) }
 {
     match item {
-        Item::Rule(_) => Ok(()),
         Item::Lemma(lemma) => tell_on_lemma(alloc, lines, fault, lemma),
+        _ => Ok(()),
     }
 }
 
@@ -117,7 +143,7 @@ pub fn tell_lemmas(
     fault: LemmaFault,
     items: &Vec<Item>,
 ) -> Result<(), AllocError>
-    ensures { OnOk result (lines_of lines.new.items ≡ spec.lines_after (lines_of lines.old.items) (spec.on_lemmas (on_lemma fault) (lemmas_in (view.items items.now.items)))) }
+    ensures { OnOk result (lines_of lines.new.items ≡ spec.lines_after (lines_of lines.old.items) (spec.on_lemmas (on_lemma fault.entry) (lemmas_in (view.items items.now.items)))) }
 {
     for item in items {
         tell_if_lemma(alloc, lines, fault, item)?;
@@ -125,16 +151,19 @@ pub fn tell_lemmas(
     Ok(())
 }
 
+#[tactic(auto, using(crate::proofs::OnTerms::wide_told))]
 fn tell_wide_item(alloc: Global, lines: &mut Vec<String>, item: &Item) -> Result<(), AllocError>
     ensures { OnOk result (lines_of lines.new.items ≡ spec.lines_after (lines_of lines.old.items) (spec.wide_in_item (view.item item.now))) }
 {
     match item {
+        Item::Builtins(_) | Item::Equations(_) => Ok(()),
+        Item::Functions(symbols) => tell_wide_symbols(alloc, lines, symbols),
         Item::Rule(rule) => tell_wide(alloc, lines, rule),
-        Item::Lemma(lemma) => tell_wide_lemma(alloc, lines, lemma),
+        Item::Lemma(lemma) => tell_terms_of(alloc, lines, TermFault::Wide, &lemma.formula),
     }
 }
 
-/// Tells of facts and actions that have too many arguments, in rules and lemmas alike.
+/// Tells of symbols, facts and actions that have too many arguments, in functions, rules and lemmas alike.
 pub fn tell_arities(
     alloc: Global,
     lines: &mut Vec<String>,

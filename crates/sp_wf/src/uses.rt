@@ -1,8 +1,7 @@
 // The findings on the variables of a formula where they are used.
 
-ghost use Rattle.std.specs.Prelude.{◌≡◌, [], ◌∷◌, ◌++◌, OnOk, map, option_map};
+ghost use Rattle.std.specs.Prelude.{◌≡◌, [], ◌∷◌, ◌++◌, OnOk, option_map};
 ghost use Rattle.sp_spec.specs.Written.{in_term, in_terms};
-ghost use Rattle.sp_spec_text.specs.Shapes.{row};
 ghost use Rattle.sp_read_parts.specs.Views as view;
 ghost use Rattle.sp_law_guard.specs.GuardedForm as forms;
 ghost use Rattle.sp_law_guard.specs.CheckedForm as checked;
@@ -12,9 +11,10 @@ ghost use Rattle.sp_wf.specs.Report.{lines_after};
 ghost use Rattle.sp_wf.specs.Sought.{is_sought, said, sought, is_there, role_view, sought_view, used};
 ghost use Rattle.sp_wf.specs.View.{finding_of, lines_of};
 
-use crate::finding::{Finding, tell_if};
+use crate::finding::{Finding, FormulaFinding, tell_if};
 use sp_guard::meaning::{Meaning, meant};
-use sp_read_parts::{Mark, WrittenFact, WrittenTerm, WrittenVariable};
+use sp_read_parts::{Mark, WrittenAction, WrittenTerm, WrittenVariable};
+use sp_term::term::Term;
 use std::alloc::{AllocError, Global};
 
 /// What has to stand at a place.
@@ -92,11 +92,12 @@ fn stands_at(sought: Sought, role: Role, mark: Mark, meaning: Option<Meaning>) -
 fn finding_at<'a>(search: Search<'a>, name: &'a str) -> Finding<'a>
     ensures { finding_of result ≡ said (sought_view search.entry.sought) search.entry.lemma.now name.entry.now }
 {
-    match search.sought {
-        Sought::Unbound => Finding::WithoutBinder(search.lemma, name),
-        Sought::OtherSort => Finding::OtherSort(search.lemma, name),
-        Sought::Mixed => Finding::MixedAt(search.lemma, name),
-    }
+    let finding = match search.sought {
+        Sought::Unbound => FormulaFinding::NotBound(name),
+        Sought::OtherSort => FormulaFinding::OtherSort(name),
+        Sought::Mixed => FormulaFinding::MixedAt(name),
+    };
+    Finding::OnFormula(search.lemma, finding)
 }
 
 /// Tells of the variable, used in this role within the reach of these binders.
@@ -115,25 +116,27 @@ pub fn tell_use<'a>(
     tell_if(alloc, lines, stands, finding_at(search, variable.name))
 }
 
-/// Tells of the term's variable.
+/// Tells of the variables of the term.
+#[cycle(terms)]
 fn tell_term<'a>(
     alloc: Global,
     lines: &mut Vec<String>,
     search: Search<'a>,
     binders: &Vec<WrittenVariable<'a>>,
     role: Role,
-    term: WrittenTerm<'a>,
+    term: &WrittenTerm<'a>,
 ) -> Result<(), AllocError>
-    ensures { OnOk result (lines_of lines.new.items ≡ lines_after (lines_of lines.old.items) (used (sought_view search.entry.sought) search.entry.lemma.now (role_view role) (innermost_first binders.now.items) (in_term (view.term term.entry)))) }
+    ensures { OnOk result (lines_of lines.new.items ≡ lines_after (lines_of lines.old.items) (used (sought_view search.entry.sought) search.entry.lemma.now (role_view role) (innermost_first binders.now.items) (in_term (view.term term.now)))) }
 {
     match term {
-        WrittenTerm::Variable(variable) => tell_use(alloc, lines, search, binders, role, variable),
-        WrittenTerm::Constant(_) => Ok(()),
+        Term::Var(variable) => tell_use(alloc, lines, search, binders, role, *variable),
+        Term::Constant(_) | Term::FreshName(_) => Ok(()),
+        Term::App(_, terms, _) => tell_terms(alloc, lines, search, binders, role, terms),
     }
 }
 
 /// Tells of the variables of the terms.
-#[tactic(auto, using(crate::proofs::Using::used_on))]
+#[cycle(terms)]
 fn tell_terms<'a>(
     alloc: Global,
     lines: &mut Vec<String>,
@@ -142,10 +145,10 @@ fn tell_terms<'a>(
     role: Role,
     terms: &Vec<WrittenTerm<'a>>,
 ) -> Result<(), AllocError>
-    ensures { OnOk result (lines_of lines.new.items ≡ lines_after (lines_of lines.old.items) (used (sought_view search.entry.sought) search.entry.lemma.now (role_view role) (innermost_first binders.now.items) (in_terms (row (map view.term terms.now.items))))) }
+    ensures { OnOk result (lines_of lines.new.items ≡ lines_after (lines_of lines.old.items) (used (sought_view search.entry.sought) search.entry.lemma.now (role_view role) (innermost_first binders.now.items) (in_terms (view.terms terms.now.items)))) }
 {
     for term in terms {
-        tell_term(alloc, lines, search, binders, role, *term)?;
+        tell_term(alloc, lines, search, binders, role, term)?;
     }
     Ok(())
 }
@@ -156,19 +159,12 @@ pub fn tell_happening<'a>(
     lines: &mut Vec<String>,
     search: Search<'a>,
     binders: &Vec<WrittenVariable<'a>>,
-    fact: &WrittenFact<'a>,
+    action: &WrittenAction<'a>,
     at: WrittenVariable<'a>,
 ) -> Result<(), AllocError>
-    ensures { OnOk result (lines_of lines.new.items ≡ lines_after (lines_of lines.old.items) (sought (sought_view search.entry.sought) search.entry.lemma.now (spec.uses_as spec.as_message (innermost_first binders.now.items) (in_terms (row (map view.term fact.now.arguments.items))) ++ spec.uses_as spec.as_time (innermost_first binders.now.items) (view.variable at.entry ∷ [])))) }
+    ensures { OnOk result (lines_of lines.new.items ≡ lines_after (lines_of lines.old.items) (sought (sought_view search.entry.sought) search.entry.lemma.now (spec.uses_as spec.as_message (innermost_first binders.now.items) (in_terms (view.terms action.now.args.items)) ++ spec.uses_as spec.as_time (innermost_first binders.now.items) (view.variable at.entry ∷ [])))) }
 {
-    tell_terms(
-        alloc,
-        lines,
-        search,
-        binders,
-        Role::Message,
-        &fact.arguments,
-    )?;
+    tell_terms(alloc, lines, search, binders, Role::Message, &action.args)?;
     tell_use(alloc, lines, search, binders, Role::Time, at)?;
     Ok(())
 }
@@ -191,21 +187,19 @@ pub fn tell_order<'a>(
 }
 
 /// Whether the term is a variable that means a time.
-fn is_time(binders: &Vec<WrittenVariable>, term: WrittenTerm) -> bool
-    ensures { result ≡ is_there (forms.term_time (innermost_first binders.now.items) (view.term term.entry)) }
+fn is_time(binders: &Vec<WrittenVariable>, term: &WrittenTerm) -> bool
+    ensures { result ≡ is_there (forms.term_time (innermost_first binders.now.items) (view.term term.now)) }
 {
     match term {
-        WrittenTerm::Variable(variable) => {
-            matches!(meant(binders, variable.name), Some(Meaning::Time(_)))
-        }
-        WrittenTerm::Constant(_) => false,
+        Term::Var(variable) => matches!(meant(binders, variable.name), Some(Meaning::Time(_))),
+        _ => false,
     }
 }
 
 /// What has to stand on both sides of an equation.
 #[tactic(auto, using(crate::proofs::Using::both_times))]
-fn role_of(binders: &Vec<WrittenVariable>, left: WrittenTerm, right: WrittenTerm) -> Role
-    ensures { role_view result ≡ spec.role_of (forms.term_time (innermost_first binders.now.items) (view.term left.entry)) (forms.term_time (innermost_first binders.now.items) (view.term right.entry)) }
+fn role_of(binders: &Vec<WrittenVariable>, left: &WrittenTerm, right: &WrittenTerm) -> Role
+    ensures { role_view result ≡ spec.role_of (forms.term_time (innermost_first binders.now.items) (view.term left.now)) (forms.term_time (innermost_first binders.now.items) (view.term right.now)) }
 {
     let first = is_time(binders, left);
     let second = is_time(binders, right);
@@ -223,10 +217,10 @@ pub fn tell_equation<'a>(
     lines: &mut Vec<String>,
     search: Search<'a>,
     binders: &Vec<WrittenVariable<'a>>,
-    left: WrittenTerm<'a>,
-    right: WrittenTerm<'a>,
+    left: &WrittenTerm<'a>,
+    right: &WrittenTerm<'a>,
 ) -> Result<(), AllocError>
-    ensures { OnOk result (lines_of lines.new.items ≡ lines_after (lines_of lines.old.items) (used (sought_view search.entry.sought) search.entry.lemma.now (spec.role_of (forms.term_time (innermost_first binders.now.items) (view.term left.entry)) (forms.term_time (innermost_first binders.now.items) (view.term right.entry))) (innermost_first binders.now.items) (in_term (view.term left.entry) ++ in_term (view.term right.entry)))) }
+    ensures { OnOk result (lines_of lines.new.items ≡ lines_after (lines_of lines.old.items) (used (sought_view search.entry.sought) search.entry.lemma.now (spec.role_of (forms.term_time (innermost_first binders.now.items) (view.term left.now)) (forms.term_time (innermost_first binders.now.items) (view.term right.now))) (innermost_first binders.now.items) (in_term (view.term left.now) ++ in_term (view.term right.now)))) }
 {
     let role = role_of(binders, left, right);
     tell_term(alloc, lines, search, binders, role, left)?;

@@ -3,7 +3,7 @@
 ghost use Rattle.std.specs.Prelude.{◌≡◌, ◌&&◌, not, OnOk, map, if◌then◌else◌};
 ghost use Rattle.sp_spec.specs.Term.{Fresh};
 ghost use Rattle.sp_spec.specs.Findings as findings;
-ghost use Rattle.sp_spec.specs.Written.{in_terms, in_facts, occurrences};
+ghost use Rattle.sp_spec.specs.Written.{in_term, in_terms, in_facts, occurrences};
 ghost use Rattle.sp_read_parts.specs.Views as view;
 ghost use Rattle.sp_read_parts.specs.Views.{fact_of, facts_of};
 ghost use Rattle.sp_term.specs.View.{sort_of};
@@ -13,10 +13,10 @@ ghost use Rattle.sp_wf.specs.Told.{stands_among};
 ghost use Rattle.sp_wf.specs.View.{lines_of};
 
 use crate::facts::may_be_fresh;
-use crate::finding::{Finding, tell_if};
-use sp_finding::occurrences;
+use crate::finding::{Finding, RuleFinding, tell_if};
+use sp_finding::{is_fr, occurrences};
 use sp_read_parts::{Mark, WrittenFact, WrittenRule, WrittenTerm, WrittenVariable};
-use sp_term::term::Sort;
+use sp_term::term::{Sort, Term};
 use std::alloc::{AllocError, Global};
 
 /// Whether the fact's one argument is the variable of this name, marked as what may be fresh.
@@ -24,12 +24,12 @@ use std::alloc::{AllocError, Global};
 fn makes_fresh(name: &str, fact: &WrittenFact) -> bool
     ensures { result ≡ spec.makes_fresh name.now (fact_of fact.now).args }
 {
-    if fact.arguments.len() != 1 {
+    if fact.args.len() != 1 {
         return false;
     }
-    match fact.arguments[0] {
-        WrittenTerm::Variable(variable) => variable.name == name && may_be_fresh(variable.mark),
-        WrittenTerm::Constant(_) => false,
+    match &fact.args[0] {
+        Term::Var(variable) => variable.name == name && may_be_fresh(variable.mark),
+        _ => false,
     }
 }
 
@@ -38,7 +38,7 @@ fn is_made_fresh(name: &str, premises: &Vec<WrittenFact>) -> bool
     ensures { result ≡ spec.is_made_fresh name.now (facts_of premises.now.items) }
 {
     for fact in premises {
-        if fact.symbol == "Fr" && (!fact.persistent && makes_fresh(name, fact)) {
+        if is_fr(fact) && (!fact.persistent && makes_fresh(name, fact)) {
             return true;
         }
     }
@@ -73,7 +73,7 @@ fn first_sort(rule: &WrittenRule, variables: &Vec<WrittenVariable>, name: &str) 
     requires { map view.variable variables.now.items ≡ occurrences (view.rule rule.now).facts }
     ensures { sort_of result ≡ spec.first_sort (view.rule rule.now).facts name.now }
 {
-    if is_made_fresh(name, &rule.premises) {
+    if is_made_fresh(name, &rule.facts.premises) {
         return Sort::Fresh;
     }
     sort_of_mark(first_mark(name, variables))
@@ -111,7 +111,7 @@ fn has_other_mark(rule: &WrittenRule, variables: &Vec<WrittenVariable>, name: &s
     requires { map view.variable variables.now.items ≡ occurrences (view.rule rule.now).facts }
     ensures { result ≡ spec.has_other_mark (view.rule rule.now).facts name.now }
 {
-    let by_fr = is_made_fresh(name, &rule.premises);
+    let by_fr = is_made_fresh(name, &rule.facts.premises);
     let sort = first_sort(rule, variables, name);
     stands_otherwise(by_fr, sort, name, variables)
 }
@@ -133,7 +133,7 @@ fn tell_two_sorts(
             alloc,
             lines,
             is_wrong,
-            Finding::TwoSorts(rule.name, variable.name),
+            Finding::OnRule(rule.name, RuleFinding::TwoSorts(variable.name)),
         )?;
     }
     Ok(())
@@ -151,15 +151,27 @@ pub fn tell_sorts(
     tell_two_sorts(alloc, lines, rule, &variables)
 }
 
-/// Whether a variable of this name stands in the fact.
-fn stands_in(name: &str, fact: &WrittenFact) -> bool
-    ensures { result ≡ findings.is_named name.now (in_terms (fact_of fact.now).args) }
+/// Whether a variable of this name stands in the term.
+#[cycle(stands)]
+#[tactic(auto, using(crate::proofs::Telling::named_or))]
+fn stands_in(name: &str, term: &WrittenTerm) -> bool
+    ensures { result ≡ findings.is_named name.now (in_term (view.term term.now)) }
 {
-    for term in &fact.arguments {
-        if let WrittenTerm::Variable(variable) = term {
-            if variable.name == name {
-                return true;
-            }
+    match term {
+        Term::Var(variable) => variable.name == name,
+        Term::Constant(_) | Term::FreshName(_) => false,
+        Term::App(_, terms, _) => stands_in_one(name, terms),
+    }
+}
+
+/// Whether a variable of this name stands in one of the terms.
+#[cycle(stands)]
+fn stands_in_one(name: &str, terms: &Vec<WrittenTerm>) -> bool
+    ensures { result ≡ findings.is_named name.now (in_terms (view.terms terms.now.items)) }
+{
+    for term in terms {
+        if stands_in(name, term) {
+            return true;
         }
     }
     false
@@ -170,7 +182,7 @@ fn stands_among(name: &str, facts: &Vec<WrittenFact>) -> bool
     ensures { result ≡ stands_among name.now (facts_of facts.now.items) }
 {
     for fact in facts {
-        if stands_in(name, fact) {
+        if stands_in_one(name, &fact.args) {
             return true;
         }
     }
@@ -194,7 +206,7 @@ fn is_unbound(rule: &WrittenRule, variables: &Vec<WrittenVariable>, name: &str) 
     ensures { result ≡ (not (findings.is_pub (spec.first_sort (view.rule rule.now).facts name.now)) && not (findings.is_named name.now (in_facts (view.rule rule.now).facts.premises))) }
 {
     let sort = first_sort(rule, variables, name);
-    !is_public(sort) && !stands_among(name, &rule.premises)
+    !is_public(sort) && !stands_among(name, &rule.facts.premises)
 }
 
 /// Tells of each of the variables that isn't public and stands in no premise.
@@ -214,7 +226,7 @@ fn tell_unbound_variables(
             alloc,
             lines,
             is_wrong,
-            Finding::InNoPremise(rule.name, variable.name),
+            Finding::OnRule(rule.name, RuleFinding::NotBound(variable.name)),
         )?;
     }
     Ok(())

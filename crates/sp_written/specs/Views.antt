@@ -3,7 +3,11 @@ use Rattle.std.specs.Prelude.{ℕ, List, [], ◌∷◌, length, option_map, map}
 use Rattle.sp_spec_nodes.specs.Preorder.{trees, first}
 use Rattle.sp_spec.specs.Theory as t
 use Rattle.sp_spec.specs.Theory.{Lemma}
-use Rattle.sp_read_parts.specs.Views.{rule}
+use Rattle.sp_spec.specs.Term.{Term}
+use Rattle.sp_spec.specs.Formula.{Written}
+use Rattle.sp_term.specs.View.{name_of}
+use Rattle.sp_ground.specs.View.{symbol_of}
+use Rattle.sp_read_parts.specs.Views.{term, rule}
 use Rattle.sp_read_parts.specs.Formulas.{formula}
 use Rattle.sp_spec_text.specs.Written as text
 use Rattle.sp_written.specs.declared.proof.Method.{Method}
@@ -13,6 +17,7 @@ use Rattle.sp_written.specs.declared.proof.WrittenProof.{WrittenProof}
 use Rattle.sp_written.specs.declared.theory.TraceKind.{TraceKind}
 use Rattle.sp_written.specs.declared.theory.TraceKind.TheVariants as k
 use Rattle.sp_written.specs.declared.theory.WrittenLemma.{WrittenLemma}
+use Rattle.sp_written.specs.declared.theory.WrittenEquation.{WrittenEquation}
 use Rattle.sp_written.specs.declared.theory.Item.{Item}
 use Rattle.sp_written.specs.declared.theory.Item.TheVariants as i
 use Rattle.sp_spec_text.specs.Spans as places
@@ -60,7 +65,13 @@ kind k.ExistsTrace = t.exists_trace
 abbrev pub lemma : WrittenLemma → Lemma
 lemma l = record { name = l.name.now; kind = kind l.kind; formula = formula l.formula }
 
+abbrev pub equation : WrittenEquation → Term Written × Term Written
+equation e = (term e.left, term e.right)
+
 abbrev pub item : Item → text.Item
+item (i.Builtins bs) = text.builtins_item (map name_of bs.items)
+item (i.Functions ss) = text.functions_item (map symbol_of ss.items)
+item (i.Equations es) = text.equations_item (map equation es.items)
 item (i.Rule r) = text.rule_item (rule r)
 item (i.Lemma l) = text.lemma_item (lemma l) (option_map proof l.proof)
 
@@ -73,8 +84,8 @@ span_of s = record { from = s.from; to = s.to }
 -- where the proofs of the lemmas stand
 abbrev pub spans : List Item → List places.Span
 spans [] = []
-spans (i.Rule r ∷ xs) = spans xs
 spans (i.Lemma l ∷ xs) = span_of l.span ∷ spans xs
+spans (x ∷ xs) = spans xs
 
 abbrev pub theory : ReadTheory → text.WrittenText
 theory r = record { name = r.name.now; items = items r.items.items }

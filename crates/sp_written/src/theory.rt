@@ -1,5 +1,7 @@
 use crate::proof::WrittenProof;
-use sp_read_parts::{ReadFormula, WrittenRule};
+use sp_ground::signature::Symbol;
+use sp_read_parts::{ReadFormula, WrittenRule, WrittenTerm};
+use sp_term::term::Name;
 
 /// Whether a lemma speaks of all traces, or says that there is one.
 #[derive(Clone, Copy)]
@@ -27,9 +29,21 @@ pub struct WrittenLemma<'a> {
     pub span: Span,
 }
 
+/// An equation as it is written.
+#[derive(Drop)]
+pub struct WrittenEquation<'a> {
+    pub left: WrittenTerm<'a>,
+    pub right: WrittenTerm<'a>,
+}
+
 /// An item of a theory.
 #[derive(Drop)]
 pub enum Item<'a> {
+    /// The names of builtins.
+    Builtins(Vec<Name>),
+    /// Symbols with their arities.
+    Functions(Vec<Symbol>),
+    Equations(Vec<WrittenEquation<'a>>),
     Rule(WrittenRule<'a>),
     Lemma(WrittenLemma<'a>),
 }

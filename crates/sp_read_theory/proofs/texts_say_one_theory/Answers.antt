@@ -1,4 +1,4 @@
-use Rattle.sp_read_theory.proofs.One.{theory_one}
+use Rattle.sp_read_theory.proofs.OneTheory.{theory_one}
 use Rattle.sp_read_theory.proofs.Whole.{text_one, places_one}
 use Rattle.sp_read_theory.proofs.texts_say_one_theory.Goals as goal
 

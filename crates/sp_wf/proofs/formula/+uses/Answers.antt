@@ -1,6 +1,5 @@
 use Rattle.std.proofs.Common.{◌≡◌, ℕ, List, OnOk, ⊎_elim, map, take, sym, ap, ◌∙◌}
 use Rattle.sp_spec.specs.Formula.{Formula}
-use Rattle.sp_read_parts.specs.Views.{variable}
 use Rattle.sp_read_parts.specs.Reading.{Joint, conjoint, disjoint, join}
 use Rattle.sp_read_parts.specs.Formulas.{chain, formula}
 use Rattle.sp_read_parts.specs.declared.written.ReadFormula.{ReadFormula}

@@ -1,11 +1,15 @@
+use Rattle.std.proofs.Common.{List, refl}
+use Rattle.sp_spec_text.specs.Written.{Item}
+use Rattle.sp_wf.specs.Finding.{Finding}
 use Rattle.sp_written.specs.Views as view
-use Rattle.sp_wf.specs.Report.{lines_after, wide_in_items}
+use Rattle.sp_wf.specs.Report.{lines_after, wide_in_item, wide_in_items}
 use Rattle.sp_wf.specs.View.{lines_of}
-use Rattle.sp_wf.proofs.Stepping.{next_wide}
+use Rattle.sp_wf.proofs.Stepping.{next_told}
 use Rattle.sp_wf.proofs.told.tell_arities.Goals as goal
 
 pub loop-item-preserved : goal.loop-item-preserved
 loop-item-preserved c =
-    next_wide view.item c.deref-item-items.result.now c.args.items.now.items c.loop-item.item-index c.item-item.result
-    (lines_of c.loop-item.lines.items) (lines_of c.tell_wide_item.new.lines.items) (lines_after (lines_of c.args.lines.now.items) (wide_in_items (view.items c.args.items.now.items)))
+    let all : List Item → List Finding = λ xs. wide_in_items xs in
+    next_told (wide_in_item) all (λ x xs. refl) view.item c.deref-item-items.result.now c.args.items.now.items c.loop-item.item-index c.item-item.result
+    (lines_of c.loop-item.lines.items) (lines_of c.tell_wide_item.new.lines.items) (lines_after (lines_of c.args.lines.now.items) (all (view.items c.args.items.now.items)))
     c.deref-item-items.ensures.value c.loop-item-test.true c.item-item.is c.in_ok-tell_wide_item.ensures c.loop-item.invariant

@@ -1,6 +1,5 @@
-use Rattle.std.proofs.Common.{[], ◌∷◌, map}
+use Rattle.std.proofs.Common.{[], ◌∷◌}
 use Rattle.sp_spec.specs.Written.{in_terms}
-use Rattle.sp_spec_text.specs.Shapes.{row}
 use Rattle.sp_read_parts.specs.Views as view
 use Rattle.sp_guard.specs.View.{innermost_first}
 use Rattle.sp_wf.specs.FormulaFindings.{as_message, as_time, uses_as}
@@ -13,5 +12,5 @@ pub returns : goal.returns
 returns c =
     let bs = innermost_first c.args.binders.now.items in
     sought_behind (lines_of c.args.lines.now.items) _ (lines_of c.tell_use.new.lines.items) (sought_view c.args.search.sought) c.args.search.lemma.now
-    (uses_as as_message bs (in_terms (row (map view.term c.args.fact.now.arguments.items)))) (uses_as as_time bs (view.variable c.args.at ∷ []))
+    (uses_as as_message bs (in_terms (view.terms c.args.action.now.args.items))) (uses_as as_time bs (view.variable c.args.at ∷ []))
     c.in_ok-tell_terms.ensures c.in_ok-tell_use.ensures

@@ -1,0 +1,10 @@
+use Rattle.std.proofs.Common.{◌≡◌, ◌++◌, map, drop}
+use Rattle.sp_ground.specs.View.{equation_of}
+use Rattle.sp_spec_text.specs.Written.{equations_in}
+use Rattle.sp_spec_text.specs.Declared as spec
+use Rattle.sp_written.specs.Views as view
+use Rattle.sp_declared.proofs.equations.written_equations.Given as goal
+
+abbrev pub invariant-loop-item : goal.invariant-loop-item
+invariant-loop-item l =
+    map equation_of l.found.items ++ map spec.equation_of (equations_in (view.items (drop l.item-index l.items.items))) ≡ map spec.equation_of (equations_in (view.items l.items.items))

@@ -1,0 +1,10 @@
+use Rattle.std.proofs.Common.{◌≡◌, map, take}
+use Rattle.sp_ground.specs.View.{symbol_of}
+use Rattle.sp_read_parts.specs.Formulas.{formula}
+use Rattle.sp_spec_text.specs.Declared.{resolved_formula}
+use Rattle.sp_declared.specs.View.{innermost_first}
+use Rattle.sp_declared.proofs.resolved.+resolving.Given as goal
+
+abbrev pub invariant-formulas-loop-part : goal.invariant-formulas-loop-part
+invariant-formulas-loop-part l =
+    map formula l.made.items ≡ map (resolved_formula (map symbol_of l.symbols.items) (innermost_first l.bound.items)) (map formula (take l.part-index l.part-items))

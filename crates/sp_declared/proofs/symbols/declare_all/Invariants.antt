@@ -1,0 +1,9 @@
+use Rattle.std.proofs.Common.{◌≡◌, map, drop}
+use Rattle.sp_ground.specs.View.{symbol_of}
+use Rattle.sp_declared.specs.Symbols.{declared_after}
+use Rattle.sp_declared.proofs.symbols.declare_all.Given as goal
+
+abbrev pub invariant-loop-symbol : goal.invariant-loop-symbol
+invariant-loop-symbol l =
+    declared_after (map symbol_of l.symbols.items) (map symbol_of (drop l.symbol-index l.symbol-items))
+    ≡ declared_after (map symbol_of l.fn.symbols.items) (map symbol_of l.more.items)

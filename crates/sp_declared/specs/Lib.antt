@@ -1,0 +1,4 @@
+pub mod Equations
+pub mod NumberedView
+pub mod Symbols
+pub mod View

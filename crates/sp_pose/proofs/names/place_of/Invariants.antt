@@ -1,7 +1,0 @@
-use Rattle.std.proofs.Common.{◌≡◌, ◌+◌, drop}
-use Rattle.sp_spec.specs.Written as written
-use Rattle.sp_pose.specs.Numbering.{texts_of}
-use Rattle.sp_pose.proofs.names.place_of.Given as goal
-
-abbrev pub invariant-loop-place : goal.invariant-loop-place
-invariant-loop-place l = written.place_of l.name (texts_of l.names.items) ≡ l.place + written.place_of l.name (texts_of (drop l.place l.listed-items))

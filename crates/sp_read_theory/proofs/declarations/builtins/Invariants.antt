@@ -1,0 +1,12 @@
+use Rattle.std.proofs.Common.{map, length, ◌≤◌, ◌-◌}
+use Rattle.sp_read_theory.specs.Items.{IsBuiltin, AreAll}
+use Rattle.sp_read_theory.specs.Views as view
+use Rattle.sp_read_theory.specs.Views.{seen_from}
+use Rattle.sp_read_theory.proofs.Listed.{Onward}
+use Rattle.sp_read_theory.proofs.declarations.builtins.Given as goal
+
+abbrev pub invariant-loop-found : goal.invariant-loop-found
+invariant-loop-found l = record { reads : Onward (AreAll IsBuiltin) (seen_from l.tokens l.at) (map view.name_of l.found.items) (seen_from l.tokens l.rest); further : l.at ≤ l.rest }
+
+abbrev pub decreases-loop-found : goal.decreases-loop-found
+decreases-loop-found l = length l.tokens - l.rest

@@ -1,0 +1,10 @@
+use Rattle.std.proofs.Common.{◌≡◌, drop, map}
+use Rattle.sp_ground.specs.View.{equation_of}
+use Rattle.sp_read_parts.specs.Views as parts
+use Rattle.sp_wf.specs.SymbolFindings as spec
+use Rattle.sp_wf.proofs.destructors.+destructors.Given as goal
+
+abbrev pub invariant-have_destructor-loop-term : goal.invariant-have_destructor-loop-term
+invariant-have_destructor-loop-term l =
+    spec.have_destructor (map equation_of l.equations.items) (parts.terms l.terms.items)
+    ≡ spec.have_destructor (map equation_of l.equations.items) (parts.terms (drop l.term-index l.term-items))

@@ -1,0 +1,10 @@
+use Rattle.std.proofs.Common.{◌≡◌, drop, map}
+use Rattle.sp_term.specs.View.{name_of}
+use Rattle.sp_ground.specs.View.{symbol_of}
+use Rattle.sp_wf.specs.SymbolFindings as spec
+use Rattle.sp_wf.proofs.unknown.has_symbol.Given as goal
+
+abbrev pub invariant-loop-symbol : goal.invariant-loop-symbol
+invariant-loop-symbol l =
+    spec.has_symbol (map symbol_of l.symbols.items) (name_of l.name) l.count
+    ≡ spec.has_symbol (map symbol_of (drop l.symbol-index l.symbol-items)) (name_of l.name) l.count

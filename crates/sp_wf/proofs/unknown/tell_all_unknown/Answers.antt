@@ -1,0 +1,17 @@
+use Rattle.std.proofs.Common.{List, map, refl}
+use Rattle.sp_ground.specs.View.{symbol_of}
+use Rattle.sp_spec_text.specs.Written.{Item}
+use Rattle.sp_wf.specs.SymbolFindings.{unknown_in_item, unknown_in_items}
+use Rattle.sp_written.specs.Views as view
+use Rattle.sp_wf.specs.Finding.{Finding}
+use Rattle.sp_wf.specs.Report.{lines_after}
+use Rattle.sp_wf.specs.View.{lines_of}
+use Rattle.sp_wf.proofs.Stepping.{next_told}
+use Rattle.sp_wf.proofs.unknown.tell_all_unknown.Goals as goal
+
+pub loop-item-preserved : goal.loop-item-preserved
+loop-item-preserved c =
+    let all : List Item → List Finding = λ xs. unknown_in_items (map symbol_of c.args.symbols.now.items) xs in
+    next_told (unknown_in_item (map symbol_of c.args.symbols.now.items)) all (λ x xs. refl) view.item c.deref-item-items.result.now c.args.items.now.items c.loop-item.item-index c.item-item.result
+    (lines_of c.loop-item.lines.items) (lines_of c.tell_unknown_in_item.new.lines.items) (lines_after (lines_of c.args.lines.now.items) (all (view.items c.args.items.now.items)))
+    c.deref-item-items.ensures.value c.loop-item-test.true c.item-item.is c.in_ok-tell_unknown_in_item.ensures c.loop-item.invariant

@@ -1,0 +1,12 @@
+use Rattle.std.proofs.Common.{◌≡◌, drop, map}
+use Rattle.sp_ground.specs.View.{symbol_of}
+use Rattle.sp_written.specs.Views as view
+use Rattle.sp_wf.specs.SymbolFindings as spec
+use Rattle.sp_wf.specs.Report.{lines_after}
+use Rattle.sp_wf.specs.View.{lines_of}
+use Rattle.sp_wf.proofs.unknown.tell_unknown_in_equations.Given as goal
+
+abbrev pub invariant-loop-equation : goal.invariant-loop-equation
+invariant-loop-equation l =
+    lines_after (lines_of l.lines.items) (spec.unknown_in_equations (map symbol_of l.symbols.items) (map view.equation (drop l.equation-index l.equations.items)))
+    ≡ lines_after (lines_of l.fn.lines.items) (spec.unknown_in_equations (map symbol_of l.symbols.items) (map view.equation l.equations.items))
