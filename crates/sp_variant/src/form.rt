@@ -1,0 +1,15 @@
+// A form of a rule.
+
+use sp_fact::fact::Facts;
+use sp_term::term::Term;
+
+/// A form of a rule: an instance of it in which equations were used at some places, in normal form.
+#[derive(Debug, Drop)]
+pub struct Form {
+    /// what is taken, shown and added
+    pub facts: Facts,
+    /// how many variables there are; they are numbered below this
+    pub count: usize,
+    /// what stands for each variable of the rule
+    pub kept: Vec<Term>,
+}
