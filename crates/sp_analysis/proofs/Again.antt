@@ -34,7 +34,6 @@ use Rattle.sp_law_block.specs.Block.{block_of, IsNumbered}
 use Rattle.sp_analysis.specs.Analysis.{Outcome, counted, summary, trees_of, IsOutcome, AreOutcomes, IsAnalysis}
 use Rattle.sp_analysis.specs.Checking.{IsVerdictIn, Judged, checked_text, IsJudged, AreJudged}
 use Rattle.sp_analysis.specs.Laws.{IsCheckedAgain, WrittenIsChecked}
-use Rattle.sp_spec_system.specs.Rules.{forms_of}
 
 -- ---- one lemma
 
@@ -123,7 +122,7 @@ trees_readable [] r = tt
 trees_readable (o ∷ os) r = (r.0, trees_readable os r.1)
 
 -- the trees that were grown are readable
-all_readable : (setting : Setting) (budget : ℕ) (ls : List Lemma) (os : List Outcome) → AreNamed (map forms_of setting.rules) → AreOutcomes setting budget [] ls os → Every (λ (o : Outcome). HavePlaces o.tree) os
+all_readable : (setting : Setting) (budget : ℕ) (ls : List Lemma) (os : List Outcome) → AreNamed setting.forms → AreOutcomes setting budget [] ls os → Every (λ (o : Outcome). HavePlaces o.tree) os
     → Every (λ (o : Outcome). IsReadable o.tree) os
 all_readable setting budget [] [] n h p = tt
 all_readable setting budget [] (o ∷ os) n h p = absurd h
@@ -143,7 +142,7 @@ written_is_checked_lem = record { checked = checked }
         let setting = setting_of theory in
         let words = summary (theory_of theory) outcomes in
         let js = all_again setting budget theory.lemmas outcomes a.outcomes_are in
-        let r = all_readable setting budget theory.lemmas outcomes (rules_named text a.theory a.poses.poses.says) a.outcomes_are a.places in
+        let r = all_readable setting budget theory.lemmas outcomes (rules_named text a.theory a.poses.says) a.outcomes_are a.places in
         let trees = trees_of outcomes in
         let again : WrittenText = record { name = a.theory.name; items = with_trees a.theory.items trees } in
         let same : theory_in again ≡ theory = same_theory a.theory trees in
@@ -152,7 +151,7 @@ written_is_checked_lem = record { checked = checked }
         let many : length trees ≡ length a.spans =
         length-map outcomes (λ (o : Outcome). o.tree) ∙ as_many setting budget theory.lemmas outcomes a.outcomes_are
         ∙ as_many_resolved (all_symbols a.theory.items) a.theory.items ∙ sym (each_lemma text a.theory a.spans a.behind_end a.places_are) in
-        let says = read_again text a.theory a.spans a.behind_end trees (codes "/*\n" ++ (words ++ codes "*/\n")) a.poses.poses.says a.places_are (trees_readable outcomes r) many in
+        let says = read_again text a.theory a.spans a.behind_end trees (codes "/*\n" ++ (words ++ codes "*/\n")) a.poses.says a.places_are (trees_readable outcomes r) many in
         record {
           judged = js;
           checking = record {
@@ -168,7 +167,7 @@ written_is_checked_lem = record { checked = checked }
           };
           same_theory = same;
           behind = subst (λ (bytes : List ℕ). IsBehindEnd bytes (codes "\n/*\n" ++ (words ++ codes "*/\n"))) (sym a.written_is)
-              (behind_end text a.theory a.spans a.behind_end trees (codes "/*\n" ++ (words ++ codes "*/\n")) a.poses.poses.says a.places_are (trees_readable outcomes r) many);
+              (behind_end text a.theory a.spans a.behind_end trees (codes "/*\n" ++ (words ++ codes "*/\n")) a.poses.says a.places_are (trees_readable outcomes r) many);
           proofs = trees_proofs text a.theory a.spans a.behind_end trees a.places_are many;
           verdicts = verdicts_again setting budget theory.lemmas outcomes a.outcomes_are;
           logs = logs_again setting budget theory.lemmas outcomes a.outcomes_are;

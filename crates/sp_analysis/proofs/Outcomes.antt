@@ -8,7 +8,6 @@ use Rattle.sp_spec.specs.Written.{theory_of}
 use Rattle.sp_spec.specs.Log.{Log}
 use Rattle.sp_spec.specs.Guarded.{Guarded}
 use Rattle.sp_law_guard.specs.CheckedForm.{checked_form}
-use Rattle.sp_law_found.specs.Found.{theory_of_rules}
 use Rattle.sp_read_parts.specs.Formulas.{formula}
 use Rattle.sp_spec_system.specs.System.{System}
 use Rattle.sp_spec_system.specs.Move.{Context}
@@ -24,7 +23,8 @@ use Rattle.sp_check.specs.Skeleton.{Skeleton, tree_of}
 use Rattle.sp_check.proofs.Right.{judgements_right}
 use Rattle.sp_spec.specs.Constants.{constants_of}
 use Rattle.sp_term.specs.View.{name_of}
-use Rattle.sp_fact.specs.BookView.{book_of}
+use Rattle.sp_fact.specs.View.{rule_of}
+use Rattle.sp_spec_forms.specs.Forms.{RuleForms, forms_of}
 use Rattle.sp_ground.specs.View.{signature_of}
 use Rattle.sp_skel.specs.Places.{HavePlaces}
 use Rattle.sp_skel.specs.TreeText.{tree_text}
@@ -37,16 +37,14 @@ use Rattle.sp_spec_text.specs.Spans.{Span, Rise, goes_on}
 use Rattle.sp_written.specs.declared.theory.WrittenLemma.{WrittenLemma}
 use Rattle.sp_law_again.specs.Again.{between, replaced}
 use Rattle.sp_pose.proofs.Forms.{AreForms, asked_list, has_forms, lemmas_said}
-use Rattle.sp_analysis.specs.Sought.{Goal, goal_of, sought, root_with, root_system, Setting, setting_of, context_with, context_of, proof_tree, grown_log}
+use Rattle.sp_analysis.specs.Sought.{Goal, goal_of, sought, root_with, root_system, Setting, setting_of, executed, context_with, context_of, proof_tree, grown_log}
 use Rattle.sp_spec_text.specs.Verdict.{Verdict, Says, summary_line}
-use Rattle.sp_law_block.specs.Block.{block_of, IsNumbered}
-use Rattle.sp_analysis.specs.Analysis.{Outcome, counted, summary, trees_of, IsOutcome, AreOutcomes}
-use Rattle.sp_analysis.specs.Checking.{proof_read, IsVerdictIn, Judged, checked_text, IsJudged, AreJudged}
+use Rattle.sp_law_block.specs.Block.{block_by, IsNumberedBy}
+use Rattle.sp_analysis.specs.Analysis.{Outcome, counted, summary_by, trees_of, IsOutcome, AreOutcomes}
+use Rattle.sp_analysis.specs.Checking.{proof_read, IsVerdictIn, Judged, checked_by, IsJudged, AreJudged}
 use Rattle.sp_pose.specs.Asked.{Asked, asked_of, asked_with, lemmas_read}
 use Rattle.sp_analysis.specs.Printed.{Printed, printed_of, by_tree, by_judgement, judged_log, goal_for, judged_so, to_print, all_to_print, IsNameable, AreNameable, line_of, lines, spliced, text_with, written_by}
-use Rattle.sp_analysis.proofs.Blocks.{block_by_rules, numbered_by_rules}
 use Rattle.sp_analysis.specs.View.{verdict_of}
-use Rattle.sp_pose.specs.Problem.{PosesProofs, WantsForms}
 use Rattle.sp_pose.specs.Posed.{IsPosedBy}
 use Rattle.sp_analysis.specs.Replies.{IsAnalysed, IsChecked, IsDone}
 use Rattle.sp_pose.specs.declared.problem.Problem.{Problem}
@@ -161,7 +159,7 @@ proofs_same setting budget text start end (l ∷ ls) (g ∷ gs) =
     (proofs_same setting budget text (goes_on text (view.span_of l.span)) end ls gs)
 
 lines_same : (setting : Setting) (budget : ℕ) (ls : List WrittenLemma) (gs : List Guarded)
-    → lines (all_to_print (Prove budget) setting [] (asked_list ls gs)) ≡ summary (theory_of_rules setting.rules) (outcomes_of setting budget ls gs)
+    → lines (all_to_print (Prove budget) setting [] (asked_list ls gs)) ≡ summary_by (executed setting) (outcomes_of setting budget ls gs)
 lines_same setting budget [] gs = refl
 lines_same setting budget (l ∷ ls) [] = refl
 lines_same setting budget (l ∷ ls) (g ∷ gs) =
@@ -180,17 +178,11 @@ outcomes_placed setting budget [] gs h = tt
 outcomes_placed setting budget (l ∷ ls) [] h = tt
 outcomes_placed setting budget (l ∷ ls) (g ∷ gs) h = (h.0.0, outcomes_placed setting budget ls gs h.1)
 
-outcomes_numbered : (setting : Setting) (budget : ℕ) (theory : Theory) → setting.rules ≡ theory.rules → (ls : List WrittenLemma) (gs : List Guarded)
-    → AreNameable (Prove budget) setting [] (asked_list ls gs) → Every (λ (o : Outcome). IsNumbered theory o.log) (outcomes_of setting budget ls gs)
-outcomes_numbered setting budget theory rules [] gs h = tt
-outcomes_numbered setting budget theory rules (l ∷ ls) [] h = tt
-outcomes_numbered setting budget theory rules (l ∷ ls) (g ∷ gs) h =
-    (numbered_by_rules (theory_of_rules setting.rules) theory rules (grown_log setting budget (goal_in l g)) h.0.1, outcomes_numbered setting budget theory rules ls gs h.1)
-
-summary_by_rules : (theory other : Theory) → theory.rules ≡ other.rules → (os : List Outcome) → summary theory os ≡ summary other os
-summary_by_rules theory other same [] = refl
-summary_by_rules theory other same (o ∷ os) =
-    ap₂ (λ (block rest : List ℕ). summary_line o.lemma.name o.lemma.kind o.verdict (counted (steps o.tree)) ++ (block ++ rest)) (block_by_rules theory other same o.log) (summary_by_rules theory other same os)
+outcomes_numbered : (setting : Setting) (budget : ℕ) (ls : List WrittenLemma) (gs : List Guarded)
+    → AreNameable (Prove budget) setting [] (asked_list ls gs) → Every (λ (o : Outcome). IsNumberedBy (executed setting) o.log) (outcomes_of setting budget ls gs)
+outcomes_numbered setting budget [] gs h = tt
+outcomes_numbered setting budget (l ∷ ls) [] h = tt
+outcomes_numbered setting budget (l ∷ ls) (g ∷ gs) h = (h.0.1, outcomes_numbered setting budget ls gs h.1)
 
 -- ---- lemmas whose proofs are checked
 
@@ -252,24 +244,18 @@ all_judged_right setting (i.Lemma l ∷ xs) [] h = absurd h
 all_judged_right setting (i.Lemma l ∷ xs) (g ∷ gs) h = (judged_right setting l g h.0, all_judged_right setting xs gs h.1)
 
 checked_same : (setting : Setting) (ls : List WrittenLemma) (gs : List Guarded)
-    → lines (all_to_print Check setting [] (asked_list ls gs)) ≡ checked_text (theory_of_rules setting.rules) (all_judged setting ls gs)
+    → lines (all_to_print Check setting [] (asked_list ls gs)) ≡ checked_by (executed setting) (all_judged setting ls gs)
 checked_same setting [] gs = refl
 checked_same setting (l ∷ ls) [] = refl
 checked_same setting (l ∷ ls) (g ∷ gs) =
     let p = to_print Check setting [] (asked_with l g) in
     ap (λ (rest : List ℕ). line_of p ++ (p.block ++ rest)) (checked_same setting ls gs)
 
-judged_numbered : (setting : Setting) (theory : Theory) → setting.rules ≡ theory.rules → (ls : List WrittenLemma) (gs : List Guarded) → AreNameable Check setting [] (asked_list ls gs)
-    → Every (λ (j : Judged). IsNumbered theory j.log) (all_judged setting ls gs)
-judged_numbered setting theory rules [] gs h = tt
-judged_numbered setting theory rules (l ∷ ls) [] h = tt
-judged_numbered setting theory rules (l ∷ ls) (g ∷ gs) h =
-    (numbered_by_rules (theory_of_rules setting.rules) theory rules (judged_log (judged_by setting l g)) h.0, judged_numbered setting theory rules ls gs h.1)
-
-checked_by_rules : (theory other : Theory) → theory.rules ≡ other.rules → (js : List Judged) → checked_text theory js ≡ checked_text other js
-checked_by_rules theory other same [] = refl
-checked_by_rules theory other same (j ∷ js) =
-    ap₂ (λ (block rest : List ℕ). summary_line j.lemma.name j.lemma.kind j.verdict (counted (read.steps j.proof)) ++ (block ++ rest)) (block_by_rules theory other same j.log) (checked_by_rules theory other same js)
+judged_numbered : (setting : Setting) (ls : List WrittenLemma) (gs : List Guarded) → AreNameable Check setting [] (asked_list ls gs)
+    → Every (λ (j : Judged). IsNumberedBy (executed setting) j.log) (all_judged setting ls gs)
+judged_numbered setting [] gs h = tt
+judged_numbered setting (l ∷ ls) [] h = tt
+judged_numbered setting (l ∷ ls) (g ∷ gs) h = (h.0, judged_numbered setting ls gs h.1)
 
 judged_verdicts : (setting : Setting) (ls : List WrittenLemma) (gs : List Guarded) → printed_verdicts (all_to_print Check setting [] (asked_list ls gs)) ≡ map (λ (j : Judged). j.verdict) (all_judged setting ls gs)
 judged_verdicts setting [] gs = refl
@@ -282,26 +268,22 @@ abbrev verdicts_in : List Tried → List memory.Verdict
 verdicts_in ts = map (λ (t : Tried). t.verdict) ts
 
 -- what the proofs of a problem have in common
-abbrev pub setting_for : Problem → Setting
-setting_for p = record { signature = signature_of p.signature; rules = book_of p.rules; constants = map name_of p.constants.items }
-
 abbrev setting_made : Signature → List Rule → List (List ℕ) → Setting
-setting_made signature rules constants = record { signature = signature; rules = rules; constants = constants }
+setting_made signature rules constants = record { signature = signature; forms = map (forms_of signature.equations) rules; constants = constants }
+
+abbrev pub setting_for : Problem → Setting
+setting_for p = setting_made (signature_of p.signature) (map rule_of p.rules.items) (map name_of p.constants.items)
+
+-- with these forms of its rules
+abbrev pub setting_with : Problem → List RuleForms → Setting
+setting_with p forms = record { signature = signature_of p.signature; forms = forms; constants = map name_of p.constants.items }
 
 setting_is : {text : List ℕ} (p : Problem) (posed : IsPosedBy text p) → setting_for p ≡ setting_of (theory_in posed.said)
 setting_is p posed =
     ap₂ (setting_made (signature_of p.signature)) posed.rules_are posed.constants_are
     ∙ ap (λ (x : Signature). setting_made x (theory_of (theory_in posed.said)).rules (constants_of (theory_in posed.said))) posed.signature_is
 
--- proofs of what is posed can be searched and checked
-proved_of : {text : List ℕ} {p : Problem} (posed : IsPosedBy text p) → p.wants_forms ≡ false → PosesProofs text posed.said
-proved_of posed single = record { poses = posed.poses; single = sym posed.forms_are ∙ single }
-
--- or they can't be
-pub wants : {text : List ℕ} {p : Problem} (posed : IsPosedBy text p) → p.wants_forms ≡ true → WantsForms text
-wants posed several = record { theory = posed.said; poses = posed.poses; several = sym posed.forms_are ∙ several }
-
-module _ {text : List ℕ} (p : Problem) (single : p.wants_forms ≡ false) (ts : List Tried) (written : List ℕ) (verdicts : List memory.Verdict) (posed : IsPosedBy text p) where
+module _ {text : List ℕ} (p : Problem) (ts : List Tried) (written : List ℕ) (verdicts : List memory.Verdict) (posed : IsPosedBy text p) where
   analysed : (budget : ℕ) → map printed_of ts ≡ all_to_print (Prove budget) (setting_for p) [] (map asked_of p.lemmas.items)
       → AreNameable (Prove budget) (setting_for p) [] (map asked_of p.lemmas.items)
       → written ≡ written_by (Prove budget) text (map printed_of ts) p.behind_end → verdicts ≡ verdicts_in ts → IsAnalysed budget text written (map verdict_of verdicts)
@@ -311,7 +293,6 @@ module _ {text : List ℕ} (p : Problem) (single : p.wants_forms ≡ false) (ts 
       let setting = setting_for p in
       let same = setting_is p posed in
       let h = has_forms ls (map asked_of p.lemmas.items) posed.lemmas_are in
-      let theory = theory_of (theory_in posed.said) in
       let os = outcomes_of setting budget ls h.forms in
       let all : map printed_of ts ≡ all_to_print (Prove budget) setting [] (asked_list ls h.forms) = prints ∙ ap (all_to_print (Prove budget) setting []) h.is in
       let named = subst (λ (as' : List Asked). AreNameable (Prove budget) setting [] as') h.is nameable in
@@ -321,16 +302,16 @@ module _ {text : List ℕ} (p : Problem) (single : p.wants_forms ≡ false) (ts 
         outcomes = os;
         analysis = record {
           theory = posed.said;
-          poses = proved_of posed single;
+          poses = posed.poses;
           outcomes_are = subst (λ (x : Setting). AreOutcomes x budget [] (theory_in posed.said).lemmas os) same right;
           places = outcomes_placed setting budget ls h.forms named;
-          numbers = outcomes_numbered setting budget theory posed.rules_are ls h.forms named;
+          numbers = subst (λ (x : Setting). Every (λ (o : Outcome). IsNumberedBy (executed x) o.log) os) same (outcomes_numbered setting budget ls h.forms named);
           spans = view.spans xs;
           behind_end = p.behind_end;
           places_are = posed.places_are;
           written_is = written_is ∙ ap (λ (ps : List Printed). text_with text ps p.behind_end) all
               ∙ ap₂ text_of (proofs_same setting budget text 0 p.behind_end ls h.forms ∙ ap (λ (ss : List Span). replaced text 0 ss (trees_of os) p.behind_end) (sym (spans_read xs)))
-              (lines_same setting budget ls h.forms ∙ summary_by_rules (theory_of_rules setting.rules) theory posed.rules_are os);
+              (lines_same setting budget ls h.forms ∙ ap (λ (x : Setting). summary_by (executed x) os) same);
         };
         verdicts_are = ap (map verdict_of) verdicts_are ∙ sym (tried_verdicts ts) ∙ ap printed_verdicts all ∙ verdicts_same setting budget ls h.forms;
       }
@@ -345,17 +326,16 @@ module _ {text : List ℕ} (p : Problem) (single : p.wants_forms ≡ false) (ts 
       let same = setting_is p posed in
       let h = has_forms ls (map asked_of p.lemmas.items) posed.lemmas_are in
       let js = all_judged setting ls h.forms in
-      let theory = theory_of (theory_in posed.said) in
       let all : map printed_of ts ≡ all_to_print Check setting [] (asked_list ls h.forms) = prints ∙ ap (all_to_print Check setting []) h.is in
       record {
         judged = js;
         checking = record {
           theory = posed.said;
-          poses = proved_of posed single;
+          poses = posed.poses;
           judged_are = subst (λ (t : WrittenText). AreJudged (setting_of (theory_in posed.said)) [] (lemmas_with_proofs t.items) js) posed.resolved_is
               (subst (λ (x : Setting). AreJudged x [] (lemmas_with_proofs (view.items xs)) js) same (all_judged_right setting xs h.forms h.are));
-          numbers = judged_numbered setting theory posed.rules_are ls h.forms (subst (λ (as' : List Asked). AreNameable Check setting [] as') h.is nameable);
-          written_is = written_is ∙ ap lines all ∙ checked_same setting ls h.forms ∙ checked_by_rules (theory_of_rules setting.rules) theory posed.rules_are js;
+          numbers = subst (λ (x : Setting). Every (λ (j : Judged). IsNumberedBy (executed x) j.log) js) same (judged_numbered setting ls h.forms (subst (λ (as' : List Asked). AreNameable Check setting [] as') h.is nameable));
+          written_is = written_is ∙ ap lines all ∙ checked_same setting ls h.forms ∙ ap (λ (x : Setting). checked_by (executed x) js) same;
         };
         verdicts_are = ap (map verdict_of) verdicts_are ∙ sym (tried_verdicts ts) ∙ ap printed_verdicts all ∙ judged_verdicts setting ls h.forms;
       }
@@ -377,16 +357,15 @@ pub record IsGrown (setting : Setting) (budget : ℕ) (a : Asked) (tree : Tree) 
   pub log_is : log ≡ grown_log setting budget (goal_for [] a)
 
 pub grown_printed : (setting : Setting) (budget : ℕ) (a : Asked) (tree : Tree) (log : Option Log) → IsGrown setting budget a tree log → (v : Verdict) (n : ℕ) (proof block : List ℕ)
-    → v ≡ by_tree a.kind log (finished tree) → n ≡ counted (steps tree) → proof ≡ tree_text 0 tree → block ≡ block_of (theory_of_rules setting.rules) log
+    → v ≡ by_tree a.kind log (finished tree) → n ≡ counted (steps tree) → proof ≡ tree_text 0 tree → block ≡ block_by (executed setting) log
     → made a.name a.kind a.span v n proof block ≡ to_print (Prove budget) setting [] a
 grown_printed setting budget a tree log is v n proof block verdict_is steps_is proof_is block_is =
     let goal = goal_for [] a in
-    let theory = theory_of_rules setting.rules in
     let t = proof_tree setting budget goal in
     ap₂ (λ (w : Verdict) (m : ℕ). made a.name a.kind a.span w m proof block)
     (verdict_is ∙ ap₂ (λ (l : Option Log) (u : Tree). by_tree a.kind l (finished u)) is.log_is is.tree_is) (steps_is ∙ ap (λ (u : Tree). counted (steps u)) is.tree_is)
     ∙ ap₂ (made a.name a.kind a.span (by_tree a.kind (grown_log setting budget goal) (finished t)) (counted (steps t)))
-    (proof_is ∙ ap (tree_text 0) is.tree_is) (block_is ∙ ap (block_of theory) is.log_is)
+    (proof_is ∙ ap (tree_text 0) is.tree_is) (block_is ∙ ap (block_by (executed setting)) is.log_is)
 
 pub grown_as : (setting : Setting) (budget : ℕ) (a : Asked) (context : Context) (f : Guarded) (s : System) (tree : Tree) (log : Option Log) → f ≡ sought a.kind a.form
     → context ≡ context_with setting [] f → s ≡ root_with [] f → tree ≡ grown_tree context s budget → log ≡ found_log context s tree → IsGrown setting budget a tree log
@@ -411,12 +390,12 @@ judged_as setting a context f s k j f_is context_is s_is k_is j_is =
     j_is ∙ ap₂ (λ (x : Context) (y : System). judgement x y k) c r ∙ ap (judgement (context_of setting goal) (root_system goal)) k_is
 
 pub judged_printed : (setting : Setting) (a : Asked) (k : Skeleton) (j : Judgement) → k ≡ proof_read a.proof → j ≡ judged_so setting (goal_for [] a) a.proof
-    → (v : Verdict) (n : ℕ) (proof block : List ℕ) → v ≡ by_judgement a.kind j → n ≡ counted (read.steps k) → proof ≡ [] → block ≡ block_of (theory_of_rules setting.rules) (judged_log j)
+    → (v : Verdict) (n : ℕ) (proof block : List ℕ) → v ≡ by_judgement a.kind j → n ≡ counted (read.steps k) → proof ≡ [] → block ≡ block_by (executed setting) (judged_log j)
     → made a.name a.kind a.span v n proof block ≡ to_print Check setting [] a
 judged_printed setting a k j k_is j_is v n proof block v_is n_is proof_is block_is =
     ap₂ (λ (w : Verdict) (m : ℕ). made a.name a.kind a.span w m proof block) (v_is ∙ ap (by_judgement a.kind) j_is) (n_is ∙ ap (λ (x : Skeleton). counted (read.steps x)) k_is)
     ∙ ap₂ (made a.name a.kind a.span (by_judgement a.kind (judged_so setting (goal_for [] a) a.proof)) (counted (read.steps (proof_read a.proof)))) proof_is
-    (block_is ∙ ap (λ (x : Judgement). block_of (theory_of_rules setting.rules) (judged_log x)) j_is)
+    (block_is ∙ ap (λ (x : Judgement). block_by (executed setting) (judged_log x)) j_is)
 
 -- ---- all of them, where none takes another
 

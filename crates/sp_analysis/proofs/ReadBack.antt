@@ -18,6 +18,7 @@ use Rattle.sp_law_guard.proofs.Checked.{form_checked}
 use Rattle.sp_law_guard.proofs.Throughout.{Throughout, negate_throughout}
 use Rattle.sp_law_found.specs.Found.{execution_of}
 use Rattle.sp_spec_text.specs.Written.{WrittenProof, WrittenText, lemmas_with_proofs, without_proofs}
+use Rattle.sp_spec_system.specs.Rules.{rules_of}
 use Rattle.sp_spec_text.specs.Declared.{resolved, theory_in}
 use Rattle.sp_spec_system.specs.System.{System}
 use Rattle.sp_spec_system.specs.Numbered.{names_in}
@@ -34,7 +35,7 @@ use Rattle.sp_solved.specs.Candidate.{candidate}
 use Rattle.sp_solved.specs.Found.{is_sought, kept_if}
 use Rattle.sp_law_shown.specs.Shown.{IsSearched}
 use Rattle.sp_law_shown.proofs.Executable.{executable, checkable}
-use Rattle.sp_pose.specs.Problem.{PosesProofs}
+use Rattle.sp_pose.specs.Problem.{Poses}
 use Rattle.sp_law_block.specs.Block.{oldest_first, IsNumbered}
 use Rattle.sp_law_block.proofs.CandidateNames.{candidates_have_names_lem, every_newest}
 use Rattle.sp_law_block.proofs.Ends.{ends_are_well_made_lem}
@@ -54,7 +55,7 @@ kept_entries : (b : Bool) (entries : List Entry) (log : Log) → kept_if b entri
 kept_entries true entries log e = (refl, cc)
 kept_entries false entries log e = absurd cc
 
-module _ (text : List ℕ) (written : WrittenText) (posing : PosesProofs text written) where
+module _ (text : List ℕ) (written : WrittenText) (posing : Poses text written) where
   abbrev theory : WrittenTheory
   theory = theory_in written
 
@@ -85,22 +86,22 @@ module _ (text : List ℕ) (written : WrittenText) (posing : PosesProofs text wr
   read_back : (goal : Goal) (s : System) → IsWellMade (context_of (setting_of theory) goal) s → (tree : Tree) (log : Log)
       → found_log (context_of (setting_of theory) goal) s tree ≡ Some log → IsNumbered (theory_of theory) (Some log) → IsReadBack (theory_of theory) log
   read_back goal s made tree log e numbers =
-      let rules = (theory_of theory).rules in
+      let rules = (rules_of (theory_of theory)).forms in
       let f = sought goal.kind goal.form in
       let constants = constants_of theory in
       let end = ends_are_well_made_lem.ends (theory_of theory) suits (context_of (setting_of theory) goal) (is_context written posing goal) s made tree log e in
       let q = then_some (λ (entries : List Entry). kept_if (is_sought signature rules f entries) entries) (candidate constants end.0) log end.2 in
       let k = kept_entries (is_sought signature rules f q.0) q.0 log q.2 in
       let is = (log_decides (theory_of theory) (checkable theory found_in) q.0).0 (and_parts (is_log signature rules q.0) (decided (log_trace (newest_first q.0)) empty f) k.0).0 in
-      let names = candidates_have_names_lem.names constants (texts_have_names_lem.constants text written posing.poses.says) end.0 end.1.numbered q.0 q.1 in
-      let named = texts_have_names_lem.rules text written posing.poses.says in
+      let names = candidates_have_names_lem.names constants (texts_have_names_lem.constants text written posing.says) end.0 end.1.numbered q.0 q.1 in
+      let named = texts_have_names_lem.rules text written posing.says in
       let exe = executable theory found_in in
       let newest = newest_first q.0 in
       let ends = subst (λ (l : Log). IsNumbered (theory_of theory) (Some l)) (sym k.1) numbers in
       let writable = every_newest (IsWritableStep signature.symbols) (execution_of (theory_of theory) newest) (logs_may_be_written_lem.steps theory exe named newest is.0 is.1 names ends) in
       subst (IsReadBack (theory_of theory)) k.1 (record {
         writable = writable;
-        read = steps_are_read_back_lem.read signature.symbols (texts_have_names_lem.symbols text written posing.poses.says) (oldest_first (execution_of (theory_of theory) newest)) writable;
+        read = steps_are_read_back_lem.read signature.symbols (texts_have_names_lem.symbols text written posing.says) (oldest_first (execution_of (theory_of theory) newest)) writable;
         shown = every_newest (Every (IsShownAction signature.symbols)) (visible_trace newest) (logs_may_be_written_lem.trace theory exe named suits.over.actions newest is.0 is.1 names);
       })
 
@@ -146,7 +147,7 @@ module _ (text : List ℕ) (written : WrittenText) (posing : PosesProofs text wr
 pub executions_are_read_back_lem : ExecutionsAreReadBack
 executions_are_read_back_lem = record {
   tried = λ budget text written outcomes a.
-      outcomes_read text a.theory a.poses budget (theory_in a.theory).lemmas outcomes (lemmas_of a.poses.poses) a.outcomes_are a.numbers;
+      outcomes_read text a.theory a.poses budget (theory_in a.theory).lemmas outcomes (lemmas_of a.poses) a.outcomes_are a.numbers;
   checked = λ text written judged c.
-      all_judged_read text c.theory c.poses (lemmas_with_proofs (resolved c.theory).items) judged (lemmas_of c.poses.poses) c.judged_are c.numbers;
+      all_judged_read text c.theory c.poses (lemmas_with_proofs (resolved c.theory).items) judged (lemmas_of c.poses) c.judged_are c.numbers;
 }

@@ -2,7 +2,8 @@
 use Rattle.std.proofs.Common.{inl, inr, ◌≡◌, ◌↔◌, ℕ, Bool, true, false, ◌&&◌, List, [], ◌∷◌, Option, Some, None, option_and_then, refl, sym, ap, ◌∙◌, subst}
 use Rattle.sp_spec.specs.Lists.{Member, Every, newest_first}
 use Rattle.sp_spec.proofs.Lists.{every_weaken}
-use Rattle.sp_spec.specs.Rule.{Rule}
+use Rattle.sp_spec_forms.specs.Forms.{RuleForms}
+use Rattle.sp_spec_system.specs.Rules.{rules_of}
 use Rattle.sp_spec.specs.Signature.{Signature}
 use Rattle.sp_spec.specs.Log.{Entry, Log, log_trace}
 use Rattle.sp_spec.specs.Theory.{TraceKind, all_traces, exists_trace, Lemma, signature_of}
@@ -40,7 +41,7 @@ use Rattle.sp_check.specs.Rejected.{ReadIsAccepted}
 use Rattle.sp_check.proofs.Right.{judgements_right}
 use Rattle.sp_spec_text.specs.Written.{WrittenProof, WrittenText, lemmas_with_proofs, without_proofs}
 use Rattle.sp_spec_text.specs.Declared.{resolved, theory_in}
-use Rattle.sp_pose.specs.Problem.{Poses, PosesProofs}
+use Rattle.sp_pose.specs.Problem.{Poses}
 use Rattle.sp_pose.proofs.BasicTheories.{normal_forms, lemmas_are_basic, rules_are_basic}
 
 -- a proof isn't rejected exactly where it is accepted
@@ -53,13 +54,13 @@ accepted_or_rejected context s k kind falsified log (tree, is, accepted, n, h) =
 accepted_or_rejected context s k kind incomplete log (tree, is, accepted, n, h) = (λ no. (tree, is, accepted), λ yes r. let e = r.2 in cc)
 
 -- a log that is found is one that passes both tests
-record IsFound (signature : Signature) (rules : List Rule) (f : Guarded) (log : Log) : Type 0 where
+record IsFound (signature : Signature) (rules : List RuleForms) (f : Guarded) (log : Log) : Type 0 where
   entries : List Entry
   is_log : is_log signature rules entries ≡ true
   is_true : decided (log_trace (newest_first entries)) empty f ≡ true
   log_is : newest_first entries ≡ log
 
-found_tested : (signature : Signature) (rules : List Rule) (constants : List (List ℕ)) (f : Guarded) (s : System) (log : Log) → found signature rules constants f s ≡ Some log
+found_tested : (signature : Signature) (rules : List RuleForms) (constants : List (List ℕ)) (f : Guarded) (s : System) (log : Log) → found signature rules constants f s ≡ Some log
     → IsFound signature rules f log
 found_tested signature rules constants f s log e = at (candidate constants s) e
   where
@@ -91,7 +92,7 @@ lemmas_unlearnt text posing =
     let signature = signature_of (theory_of (theory_in text)) in
     every_weaken (λ (l : Lemma). IsBasicFormula signature l.formula) (λ (l : Lemma). names_learning l.formula ≡ false) (λ l h. basic_names_none signature l.formula h) (theory_in text).lemmas (lemmas_are_basic posing)
 
-module _ {bytes : List ℕ} (text : WrittenText) (posing : PosesProofs bytes text) where
+module _ {bytes : List ℕ} (text : WrittenText) (posing : Poses bytes text) where
   abbrev theory : WrittenTheory
   theory = theory_in text
 
@@ -100,10 +101,10 @@ module _ {bytes : List ℕ} (text : WrittenText) (posing : PosesProofs bytes tex
 
   pub searched : IsSearched theory
   searched = record {
-    normal_forms = normal_forms posing.poses;
+    normal_forms = normal_forms posing;
     basic = rules_are_basic posing;
-    rule_names = posing.poses.fine.rule_names;
-    right = every_weaken (IsFineRule signature.symbols signature.equations) _ (λ r h. h.right) theory.rules posing.poses.fine.rules;
+    rule_names = posing.fine.rule_names;
+    right = every_weaken (IsFineRule signature.symbols signature.equations) _ (λ r h. h.right) theory.rules posing.fine.rules;
     unrestricted = refl;
   }
 
@@ -111,15 +112,15 @@ module _ {bytes : List ℕ} (text : WrittenText) (posing : PosesProofs bytes tex
   is_context goal = record { rules = refl; numbered = names_stand_lem.rules theory searched.basic }
 
   breaks : (l : Lemma) → IsBasicFormula signature l.formula → (g : Guarded) → checked_form l.formula ≡ Some g → (s : System) (log : Log)
-      → found (signature_of (theory_of theory)) (theory_of theory).rules (constants_of theory) (negate g) s ≡ Some log → FoundBreaks (theory_of theory) l log
+      → found (signature_of (theory_of theory)) (rules_of (theory_of theory)).forms (constants_of theory) (negate g) s ≡ Some log → FoundBreaks (theory_of theory) l log
   breaks l f g e s log is =
-      let h = found_tested (signature_of (theory_of theory)) (theory_of theory).rules (constants_of theory) (negate g) s log is in
+      let h = found_tested (signature_of (theory_of theory)) (rules_of (theory_of theory)).forms (constants_of theory) (negate g) s log is in
       subst (FoundBreaks (theory_of theory) l) h.log_is (found_logs_show_lem.breaks theory searched l f g e h.entries h.is_log h.is_true)
 
   satisfies : (l : Lemma) → IsBasicFormula signature l.formula → (g : Guarded) → checked_form l.formula ≡ Some g → (s : System) (log : Log)
-      → found (signature_of (theory_of theory)) (theory_of theory).rules (constants_of theory) g s ≡ Some log → FoundSatisfies (theory_of theory) l log
+      → found (signature_of (theory_of theory)) (rules_of (theory_of theory)).forms (constants_of theory) g s ≡ Some log → FoundSatisfies (theory_of theory) l log
   satisfies l f g e s log is =
-      let h = found_tested (signature_of (theory_of theory)) (theory_of theory).rules (constants_of theory) g s log is in
+      let h = found_tested (signature_of (theory_of theory)) (rules_of (theory_of theory)).forms (constants_of theory) g s log is in
       subst (FoundSatisfies (theory_of theory) l) h.log_is (found_logs_show_lem.satisfies theory searched l f g e h.entries h.is_log h.is_true)
 
   -- the log of a tree is one with which the search ends at some system
@@ -195,7 +196,7 @@ module _ {bytes : List ℕ} (text : WrittenText) (posing : PosesProofs bytes tex
 pub verdicts_are_right_lem : VerdictsAreRight
 verdicts_are_right_lem = record {
   right = λ budget text written outcomes a.
-      outcomes_right a.theory a.poses budget (theory_in a.theory).lemmas outcomes (lemmas_of a.poses.poses) a.outcomes_are;
+      outcomes_right a.theory a.poses budget (theory_in a.theory).lemmas outcomes (lemmas_of a.poses) a.outcomes_are;
   judged_right = λ text written judged c.
-      all_judged_right c.theory c.poses (lemmas_with_proofs (resolved c.theory).items) judged (lemmas_of c.poses.poses) c.judged_are;
+      all_judged_right c.theory c.poses (lemmas_with_proofs (resolved c.theory).items) judged (lemmas_of c.poses) c.judged_are;
 }

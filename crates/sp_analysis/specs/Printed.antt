@@ -3,7 +3,6 @@ use Rattle.std.specs.Prelude.{ℕ, Bool, true, false, List, [], ◌∷◌, ◌++
 use Rattle.sp_spec.specs.Log.{Log}
 use Rattle.sp_spec.specs.Theory.{TraceKind, all_traces, exists_trace}
 use Rattle.sp_spec.specs.Guarded.{Guarded}
-use Rattle.sp_law_found.specs.Found.{theory_of_rules}
 use Rattle.sp_spec_proof.specs.Tree.{steps}
 use Rattle.sp_search.specs.Finished.{finished}
 use Rattle.sp_skel.specs.Places.{HavePlaces}
@@ -15,9 +14,9 @@ use Rattle.sp_written.specs.Views as view
 use Rattle.sp_spec_text.specs.Written.{WrittenProof}
 use Rattle.sp_spec_text.specs.Spans.{Span, goes_on}
 use Rattle.sp_pose.specs.Asked.{Asked}
-use Rattle.sp_analysis.specs.Sought.{Goal, goal_of, root_system, Setting, context_of, proof_tree, grown_log}
+use Rattle.sp_analysis.specs.Sought.{Goal, goal_of, root_system, Setting, executed, context_of, proof_tree, grown_log}
 use Rattle.sp_spec_text.specs.Verdict.{Verdict, verified, falsified, incomplete, rejected, summary_line}
-use Rattle.sp_law_block.specs.Block.{block_of, IsNumbered}
+use Rattle.sp_law_block.specs.Block.{block_by, IsNumberedBy}
 use Rattle.sp_law_again.specs.Again.{between}
 use Rattle.sp_analysis.specs.Analysis.{counted}
 use Rattle.sp_analysis.specs.Checking.{proof_read}
@@ -88,7 +87,7 @@ to_print (Prove budget) setting taken a = record {
   steps = counted (steps (proof_tree setting budget (goal_for taken a)));
   span = a.span;
   proof = tree_text 0 (proof_tree setting budget (goal_for taken a));
-  block = block_of (theory_of_rules setting.rules) (grown_log setting budget (goal_for taken a));
+  block = block_by (executed setting) (grown_log setting budget (goal_for taken a));
 }
 to_print Check setting taken a = record {
   name = a.name;
@@ -97,7 +96,7 @@ to_print Check setting taken a = record {
   steps = counted (read.steps (proof_read a.proof));
   span = a.span;
   proof = [];
-  block = block_of (theory_of_rules setting.rules) (judged_log (judged_so setting (goal_for taken a) a.proof));
+  block = block_by (executed setting) (judged_log (judged_so setting (goal_for taken a) a.proof));
 }
 
 -- what a lemma of which this is printed gives to the proofs of the lemmas behind it: nothing as yet
@@ -113,8 +112,8 @@ all_to_print command setting taken (a ∷ rest) =
 -- each place that the grown proof names is one that a text can name, and each fresh name of the execution that is found
 abbrev pub IsNameable : Command → Setting → List Guarded → Asked → Type 0
 IsNameable (Prove budget) setting taken a =
-    HavePlaces (proof_tree setting budget (goal_for taken a)) × IsNumbered (theory_of_rules setting.rules) (grown_log setting budget (goal_for taken a))
-IsNameable Check setting taken a = IsNumbered (theory_of_rules setting.rules) (judged_log (judged_so setting (goal_for taken a) a.proof))
+    HavePlaces (proof_tree setting budget (goal_for taken a)) × IsNumberedBy (executed setting) (grown_log setting budget (goal_for taken a))
+IsNameable Check setting taken a = IsNumberedBy (executed setting) (judged_log (judged_so setting (goal_for taken a) a.proof))
 
 abbrev pub AreNameable : Command → Setting → List Guarded → List Asked → Type 0
 AreNameable command setting taken [] = Unit {0}

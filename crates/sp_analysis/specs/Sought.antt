@@ -1,6 +1,5 @@
 -- What a proof is to show, what it begins with, what it is made in, and the proof tree that is grown for it.
-use Rattle.std.specs.Prelude.{List, ℕ, Option, map, Some, [], ◌∷◌, ◌++◌}
-use Rattle.sp_spec.specs.Rule.{Rule}
+use Rattle.std.specs.Prelude.{List, ℕ, Option, Some, [], ◌∷◌, ◌++◌}
 use Rattle.sp_spec.specs.Signature.{Signature}
 use Rattle.sp_spec.specs.Theory.{TraceKind, all_traces, exists_trace, Lemma, signature_of}
 use Rattle.sp_spec.specs.Written.{WrittenTheory, theory_of}
@@ -14,7 +13,10 @@ use Rattle.sp_spec_proof.specs.Root.{root}
 use Rattle.sp_spec_proof.specs.Growth.{grown_tree}
 use Rattle.sp_spec.specs.Constants.{constants_of}
 use Rattle.sp_solved.specs.Found.{found}
-use Rattle.sp_spec_system.specs.Rules.{forms_of}
+use Rattle.sp_spec_system.specs.Rules.{rules_of}
+use Rattle.sp_spec_forms.specs.Forms.{RuleForms}
+use Rattle.sp_spec.specs.Execution.{Step}
+use Rattle.sp_law_found.specs.Found.{execution_by}
 use Rattle.sp_spec_text.specs.Verdict.{Verdict}
 
 -- What a proof is to show: the guarded form of a lemma, of this kind, where what stands outside holds: restrictions, and lemmas that were shown
@@ -48,22 +50,26 @@ root_with outside f = record (root f) { formulas = root_formulas outside f }
 abbrev pub root_system : Goal → System
 root_system goal = root_with goal.outside (sought goal.kind goal.form)
 
--- what the proofs of a theory's lemmas have in common: its signature, its rules, and the public names that stand in it
+-- what the proofs of a theory's lemmas have in common: its signature, its rules with their forms, and the public names that stand in it
 pub record Setting : Type 0 where
   pub signature : Signature
-  pub rules : List Rule
+  pub forms : List RuleForms
   pub constants : List (List ℕ)
 
 abbrev pub setting_of : WrittenTheory → Setting
-setting_of theory = record { signature = signature_of (theory_of theory); rules = (theory_of theory).rules; constants = constants_of theory }
+setting_of theory = record { signature = signature_of (theory_of theory); forms = (rules_of (theory_of theory)).forms; constants = constants_of theory }
+
+-- the steps that a log stands for
+abbrev pub executed : Setting → Log → List Step
+executed setting log = execution_by setting.signature.equations setting.forms log
 
 -- the search ends with a log over whose trace the formula is true
 abbrev pub context_with : Setting → List Guarded → Guarded → Context
 context_with setting outside f = record {
-  rules = record { signature = setting.signature; forms = map forms_of setting.rules };
+  rules = record { signature = setting.signature; forms = setting.forms };
   public_names = setting.constants;
   root = Some (record { formulas = root_formulas outside f });
-  found = found setting.signature setting.rules setting.constants f;
+  found = found setting.signature setting.forms setting.constants f;
 }
 
 -- It is the formula with which the proof of the goal begins: the log breaks a lemma on all traces, and satisfies one on some trace.

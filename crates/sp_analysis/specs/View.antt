@@ -2,7 +2,7 @@
 use Rattle.std.specs.Prelude.{map}
 use Rattle.sp_term.specs.View.{name_of}
 use Rattle.sp_ground.specs.View.{signature_of}
-use Rattle.sp_fact.specs.BookView.{book_of}
+use Rattle.sp_book.specs.BookView.{book_of}
 use Rattle.sp_check.specs.View.{clause_of}
 use Rattle.sp_analysis.specs.Sought as sought
 use Rattle.sp_spec_text.specs.Verdict as spec
@@ -17,4 +17,4 @@ verdict_of Incomplete = spec.incomplete
 verdict_of (Rejected step clause) = spec.rejected step (clause_of clause)
 
 abbrev pub setting_in : Setting → sought.Setting
-setting_in s = record { signature = signature_of s.signature; rules = book_of s.rules; constants = map name_of s.constants.items }
+setting_in s = record { signature = signature_of s.signature; forms = book_of s.book; constants = map name_of s.constants.items }

@@ -1,15 +1,15 @@
 // The block of an execution that was found.
 
-ghost use Rattle.std.specs.Prelude.{◌≡◌, ◌++◌, IfOk, OnOk, map, option_map, string_bytes};
-ghost use Rattle.sp_fact.specs.BookView.{book_of};
+ghost use Rattle.std.specs.Prelude.{◌≡◌, ◌++◌, IfOk, OnOk, Some, map, option_map, string_bytes};
 ghost use Rattle.sp_ground.specs.View.{step_of};
 ghost use Rattle.sp_log.specs.View.{log_of};
 ghost use Rattle.sp_spec.specs.Lists.{Every};
 ghost use Rattle.sp_show.specs.Numbers.{StepHasNames, numbered_names};
-ghost use Rattle.sp_law_found.specs.Found.{execution_of, theory_of_rules};
+ghost use Rattle.sp_analysis.specs.Sought.{executed};
+ghost use Rattle.sp_analysis.specs.View.{setting_in};
 ghost use Rattle.sp_law_block.specs.Block as spec;
 
-use sp_fact::book::RuleBook;
+use crate::setting::Setting;
 use sp_ground::step::Step;
 use sp_log::execution::execution;
 use sp_log::log::Log;
@@ -32,11 +32,16 @@ fn write_steps(alloc: Global, out: &mut String, steps: &Vec<Step>) -> Result<(),
 }
 
 /// The block of the execution that the log stands for.
-fn found_block(alloc: Global, rules: &RuleBook, log: &Log) -> Result<String, AllocError>
-    ensures text { IfOk result (λ text. string_bytes text ≡ spec.found_block (theory_of_rules (book_of rules.now)) (log_of log.now)) }
-    ensures numbered { OnOk result (Every (StepHasNames numbered_names) (execution_of (theory_of_rules (book_of rules.now)) (log_of log.now))) }
+fn found_block(alloc: Global, setting: &Setting, log: &Log) -> Result<String, AllocError>
+    ensures text { IfOk result (λ text. string_bytes text ≡ spec.block_by (executed (setting_in setting.now)) (Some (log_of log.now))) }
+    ensures numbered { OnOk result (Every (StepHasNames numbered_names) (executed (setting_in setting.now) (log_of log.now))) }
 {
-    let steps = execution(alloc, &rules.rules, log)?;
+    let steps = execution(
+        alloc,
+        &setting.signature.equations,
+        &setting.book.rules,
+        log,
+    )?;
     let trace = visible_trace(alloc, log)?;
     let mut out = String::from_str(alloc, "execution:\n")?;
     write_steps(alloc, &mut out, &steps)?;
@@ -50,12 +55,12 @@ fn found_block(alloc: Global, rules: &RuleBook, log: &Log) -> Result<String, All
 /// # Errors
 ///
 /// `AllocError` where memory is wanting.
-pub fn block_of(alloc: Global, rules: &RuleBook, log: Option<&Log>) -> Result<String, AllocError>
-    ensures text { IfOk result (λ text. string_bytes text ≡ spec.block_of (theory_of_rules (book_of rules.now)) (option_map (λ l. log_of l.now) log.entry)) }
-    ensures numbered { OnOk result (spec.IsNumbered (theory_of_rules (book_of rules.now)) (option_map (λ l. log_of l.now) log.entry)) }
+pub fn block_of(alloc: Global, setting: &Setting, log: Option<&Log>) -> Result<String, AllocError>
+    ensures text { IfOk result (λ text. string_bytes text ≡ spec.block_by (executed (setting_in setting.now)) (option_map (λ l. log_of l.now) log.entry)) }
+    ensures numbered { OnOk result (spec.IsNumberedBy (executed (setting_in setting.now)) (option_map (λ l. log_of l.now) log.entry)) }
 {
     match log {
-        Some(log) => found_block(alloc, rules, log),
+        Some(log) => found_block(alloc, setting, log),
         None => Ok(String::new(alloc)),
     }
 }

@@ -1,6 +1,6 @@
 // What comes of a text.
 
-ghost use Rattle.std.specs.Prelude.{◌≡◌, false, IfOk};
+ghost use Rattle.std.specs.Prelude.{IfOk};
 ghost use Rattle.sp_pose.specs.Posed.{IsPosedBy};
 ghost use Rattle.sp_analysis.specs.Replies.{IsReplyTo};
 
@@ -9,6 +9,7 @@ use crate::tried::all_tried;
 use crate::verdict::Verdict;
 use crate::written::{verdicts, written_by};
 use sp_pose::{Problem, Read, posed_by};
+use sp_variant::book::book;
 use std::alloc::{AllocError, Global};
 
 /// What is to be done with a text.
@@ -27,16 +28,13 @@ pub enum Reply {
     Refused(usize),
     /// There are findings on its theory, and these are their lines.
     Reported(Vec<u8>),
-    /// There are none, but some rule has other forms beside itself, over which no proofs are searched or checked yet.
-    WantsForms,
     /// What is written, and what is said of each lemma.
     Done(Vec<u8>, Vec<Verdict>),
 }
 
 /// What is done with a problem of the text.
 fn done(alloc: Global, command: Command, text: &[u8], problem: Problem) -> Result<Reply, AllocError>
-    requires posed { IsPosedBy text.now problem }
-    requires single { problem.wants_forms ≡ false }
+    requires { IsPosedBy text.now problem }
     ensures { IfOk result (IsReplyTo command text.now) }
 {
     let Problem {
@@ -45,11 +43,11 @@ fn done(alloc: Global, command: Command, text: &[u8], problem: Problem) -> Resul
         constants,
         lemmas,
         behind_end,
-        ..
     } = problem;
+    let book = book(alloc, &signature.equations, &rules)?;
     let setting = Setting {
         signature,
-        rules,
+        book,
         constants,
     };
     let tried = all_tried(alloc, command, &setting, lemmas)?;
@@ -70,7 +68,6 @@ pub fn answer(alloc: Global, command: Command, text: &[u8]) -> Result<Reply, All
     match posed_by(alloc, text)? {
         Read::Refused(place) => Ok(Reply::Refused(place)),
         Read::Reported(lines) => Ok(Reply::Reported(lines)),
-        Read::Posed(problem) if problem.wants_forms => Ok(Reply::WantsForms),
         Read::Posed(problem) => done(alloc, command, text, problem),
     }
 }

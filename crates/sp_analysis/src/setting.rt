@@ -1,6 +1,6 @@
 // What the proofs of a theory's lemmas have in common.
 
-use sp_fact::book::RuleBook;
+use sp_book::book::RuleBook;
 use sp_ground::signature::Signature;
 use sp_term::term::Name;
 
@@ -9,8 +9,8 @@ use sp_term::term::Name;
 pub struct Setting {
     /// the symbols and the equations of the theory
     pub signature: Signature,
-    /// its rules
-    pub rules: RuleBook,
+    /// its rules, with their forms
+    pub book: RuleBook,
     /// the public names that stand in it
     pub constants: Vec<Name>,
 }

@@ -86,7 +86,7 @@ fn context_of<'a>(setting: &'a Setting, formula: &'a Formula) -> Context<'a>
     ensures { moves.context_of result ≡ spec.context_with (setting_in setting.now) [] (formula_of formula.now) }
 {
     Context {
-        rules: &setting.rules,
+        rules: &setting.book,
         sought: Sought {
             signature: &setting.signature,
             constants: &setting.constants,
@@ -172,7 +172,7 @@ fn try_lemma<'a>(
     let verdict = by_tree(kind, &tree);
     let steps = steps(&tree);
     let proof = tree_text(alloc, &tree)?;
-    let block = block_of(alloc, &setting.rules, tree.found_log())?;
+    let block = block_of(alloc, setting, tree.found_log())?;
     Ok(Tried {
         name,
         kind,
@@ -227,7 +227,7 @@ fn judge_lemma<'a>(
     let judgement = judge(alloc, &context, root, &tree)?;
     let verdict = by_judgement(kind, &judgement);
     let steps = sp_check::steps(&tree);
-    let block = block_of(alloc, &setting.rules, judged_log(&judgement))?;
+    let block = block_of(alloc, setting, judged_log(&judgement))?;
     Ok(Tried {
         name,
         kind,

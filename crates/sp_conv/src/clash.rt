@@ -7,7 +7,8 @@ ghost use Rattle.sp_spec.specs.Substitution.{bound_to};
 ghost use Rattle.sp_term.specs.View.{variable_of, view, view_all};
 ghost use Rattle.sp_term.specs.Bindings.{bindings};
 ghost use Rattle.sp_ground.specs.View.{equation_of};
-ghost use Rattle.sp_law_conv.specs.Clash.{DoClash, DoClashBy, above, above_all, apart, shifted};
+ghost use Rattle.sp_spec_forms.specs.Shifted.{above, above_all, shifted};
+ghost use Rattle.sp_law_conv.specs.Clash.{DoClash, DoClashBy, apart};
 ghost use Rattle.sp_unify.specs.View.{pair_view};
 
 use sp_ground::signature::Equation;

@@ -1,31 +1,28 @@
--- The steps of a log whose names may be shown may be written, and its trace may be shown, where the actions of its rules are over the symbols.
-use Rattle.std.proofs.Common.{◌≡◌, ℕ, suc, Bool, true, false, if◌then◌else◌, List, [], ◌∷◌, Some, unwrap_or, sym, ap, ◌∙◌, subst}
-use Rattle.sp_spec.specs.Lists.{Member, Every}
-use Rattle.sp_spec.proofs.Lists.{every_member, every_append, every_parts, every_both, every_map, member_mapped}
-use Rattle.sp_spec.specs.Term.{Fresh, Names, AllMadeOf, Variable, var, constant, name, app, Ground, Grounds, none, more, Values}
-use Rattle.sp_spec.specs.Signature.{Symbol, Equation, HasSort, IsOver, AreOver, IsValuation}
-use Rattle.sp_spec.specs.Rule.{Fact, Action, Facts, Declared, Rule, action_at, facts_at, FactsMadeOf}
+-- The steps of a log whose names may be shown may be written, and its trace may be shown.
+use Rattle.std.proofs.Common.{ℕ, Bool, true, false, if◌then◌else◌, List, [], ◌∷◌, map, unwrap_or, refl, sym, subst, arith}
+use Rattle.sp_spec.specs.Lists.{Every}
+use Rattle.sp_spec.proofs.Lists.{every_member, every_append, every_parts, every_both, every_map, every_weaken}
+use Rattle.sp_spec.specs.Term.{Sort, Msg, Fresh, Pub, Names, AllMadeOf, Variable, var, constant, name, app, Ground, Grounds, none, more}
+use Rattle.sp_spec.specs.Signature.{Symbol, Equation, HasSort, IsOver, AreOver}
+use Rattle.sp_spec.specs.Rule.{Fact, Action, Facts, Declared, Rule, action_at, facts_at, AreNormalActions, OfArguments, FactsMadeOf}
 use Rattle.sp_spec.specs.Theory.{Theory, signature_of}
-use Rattle.sp_spec.specs.Written.{WrittenTheory, rule_of, theory_of}
+use Rattle.sp_spec.specs.Written.{theory_of}
 use Rattle.sp_spec.specs.Execution.{Step, make_fresh, Trace, with_entry}
-use Rattle.sp_spec.specs.Log.{Source, step, send, learn, Log, is_fr, first_arg, fresh_of, IsRuleInstance, rule_instance, IsLog, visible_trace}
-use Rattle.sp_law_equal.specs.Matching.{Bound}
-use Rattle.sp_law_equal.proofs.Forms.{normals}
+use Rattle.sp_spec.specs.Log.{Source, Entry, step, send, learn, Log, is_fr, first_arg, fresh_of, IsRuleInstance, rule_instance, IsLog, visible_trace}
+use Rattle.sp_law_equal.specs.Right.{AreTermsOver}
 use Rattle.sp_law_erase.specs.Adversary.{HasStepsAlone}
-use Rattle.sp_law_system.specs.Rules.{ActionsAreOver}
-use Rattle.sp_law_found.specs.Found.{matched_instance, bound_or_any, given_from, given_of, given_by, fresh_steps, entry_steps, execution_of}
+use Rattle.sp_spec_forms.specs.Forms.{forms_of}
+use Rattle.sp_law_found.specs.Found.{stand_in, given_by, fresh_steps, entry_steps, execution_of}
 use Rattle.sp_law_found.specs.Executable.{IsExecutable}
-use Rattle.sp_law_found.proofs.Fitting.{instance_fits}
-use Rattle.sp_law_found.proofs.Given.{own_agree, own_valuation, instance_gives}
-use Rattle.sp_law_found.proofs.Plain.{plain_instance, normal_valuation}
-use Rattle.sp_law_found.proofs.Premises.{AreOfFresh, of_fresh, fresh_sorts}
-use Rattle.sp_law_block.specs.Laws.{LogsMayBeWritten}
+use Rattle.sp_law_found.proofs.Entries.{Found, found}
+use Rattle.sp_law_found.proofs.Instances.{instance_over}
+use Rattle.sp_law_found.proofs.Premises.{fresh_sorts}
 use Rattle.sp_spec_text.specs.Names.{IsNameWord}
 use Rattle.sp_spec_text.specs.StepLines.{IsGiven, IsWritableStep}
+use Rattle.sp_law_block.specs.Laws.{LogsMayBeWritten}
 use Rattle.sp_law_block.specs.Shown.{shown_names, numbered_names, no_variable, HasNames, StepHasNames, LogHasNames, IsNamedRule, IsShownAction, IsShownTrace}
 use Rattle.sp_law_block.proofs.Writable.{term_writable}
-use Rattle.sp_law_block.proofs.GivenNames.{rule_given_named}
-use Rattle.sp_law_equal.specs.RightTheory.{FactsArePlain, TakesFreshNames}
+use Rattle.sp_law_block.proofs.GivenNames.{given_each, form_given_named}
 
 -- ---- what is made and given
 
@@ -56,56 +53,19 @@ module _ (symbols : List Symbol) where
       every_append (IsWritableStep symbols) (fresh_steps ts) (make_fresh t ∷ []) (fresh_writable ts sorts.1 shown.1 both.0)
       (term_writable symbols t (fresh_over t sorts.0) shown.0 both.1.0, tt)
 
-  names_given : (k : ℕ) (ds : List Declared) (bs : List Bound) → Every (λ (d : Declared). IsNameWord d.name) ds → ((x : Variable) → IsOver symbols (bound_or_any bs x))
-      → Every (λ (g : List ℕ × Ground). IsNameWord g.0 × IsOver symbols g.1) (given_from k ds bs)
-  names_given k [] bs named over = tt
-  names_given k (d ∷ ds) bs named over = ((named.0, over (record { sort = d.sort; number = k })), names_given (suc k) ds bs named.1 over)
+stand_in_shown : (s : Sort) → HasNames shown_names (stand_in s)
+stand_in_shown Msg = (refl, (refl, tt))
+stand_in_shown Fresh = omega arith
+stand_in_shown Pub = (refl, (refl, tt))
 
 -- ---- an entry
 
-module _ (theory : Theory) (good : IsExecutable theory) where
+module _ (theory : Theory) (good : IsExecutable theory) (named : Every IsNamedRule theory.rules) where
   abbrev es : List Equation
   es = (signature_of theory).equations
 
-  -- an entry is an instance of a rule under values that its facts give
-  record Used (r : List ℕ) (facts : Facts ⊥) : Type 0 where
-    rule : Rule
-    member : Member rule theory.rules
-    named : rule.name ≡ r
-    bindings : List Bound
-    given : unwrap_or (given_by theory.rules r facts) [] ≡ given_of rule bindings
-    instance : facts ≡ facts_at (bound_or_any bindings) rule.facts
-    valuation : IsValuation (signature_of theory) (bound_or_any bindings)
-    fresh : AreOfFresh facts.premises
-
-  used : (r : List ℕ) (facts : Facts ⊥) → IsRuleInstance theory r facts → Used r facts
-  used r facts (rule, member, named, v, valuation, normal) =
-      let w : Values = normals es v in
-      let over : IsValuation (signature_of theory) w = normal_valuation (signature_of theory) good.instances.keeps v valuation in
-      let plain = every_member (λ (q : Rule). FactsArePlain es q.facts) theory.rules rule member good.instances.plain in
-      let is : facts ≡ facts_at w rule.facts = plain_instance es good.instances.normal_forms v rule.facts plain facts normal in
-      let fit = instance_fits w (λ x. (over x).0) rule.facts in
-      let bs = fit.bindings in
-      let matched : matched_instance rule.facts facts ≡ Some bs = ap (matched_instance rule.facts) is ∙ fit.is in
-      let given : given_by theory.rules rule.name facts ≡ Some (given_of rule bs) = instance_gives theory.rules rule facts bs good.distinct member matched in
-      let fresh = every_member TakesFreshNames theory.rules rule member good.fresh in
-      record {
-        rule = rule;
-        member = member;
-        named = named;
-        bindings = bs;
-        given = ap (λ o. unwrap_or o []) (subst (λ (n : List ℕ). given_by theory.rules n facts ≡ Some (given_of rule bs)) named given);
-        instance = is ∙ sym (fit.same (bound_or_any bs) (own_agree w bs fit.agree)).0;
-        valuation = own_valuation (signature_of theory) w bs fit.agree over;
-        fresh = subst (λ (g : Facts ⊥). AreOfFresh g.premises) (sym is) (of_fresh w (λ x. (over x).0) rule.facts.premises fresh);
-      }
-
-module _ (theory : WrittenTheory) (good : IsExecutable (theory_of theory)) (named : Every IsNamedRule (theory_of theory).rules) where
-  abbrev rules : List Rule
-  rules = (theory_of theory).rules
-
   abbrev symbols : List Symbol
-  symbols = (signature_of (theory_of theory)).symbols
+  symbols = (signature_of theory).symbols
 
   abbrev AreShown : Facts ⊥ → Type 0
   AreShown facts = FactsMadeOf shown_names no_variable facts
@@ -113,75 +73,94 @@ module _ (theory : WrittenTheory) (good : IsExecutable (theory_of theory)) (name
   abbrev HasNumbers : Step → Type 0
   HasNumbers s = StepHasNames numbered_names s
 
-  given_shown : (r : List ℕ) (facts : Facts ⊥) (u : Used (theory_of theory) good r facts) → AreShown facts
-      → Every (λ (g : List ℕ × Ground). HasNames shown_names g.1) (given_of u.rule u.bindings)
-  given_shown r facts u shown =
-      let bs = u.bindings in
-      let w = member_mapped rule_of u.rule theory.rules u.member in
-      let here : AreShown (facts_at (bound_or_any bs) u.rule.facts) = subst AreShown u.instance shown in
-      let there : AreShown (facts_at (bound_or_any bs) (rule_of w.0).facts) = subst (λ (q : Rule). AreShown (facts_at (bound_or_any bs) q.facts)) (sym w.2) here in
-      subst (λ (q : Rule). Every (λ (g : List ℕ × Ground). HasNames shown_names g.1) (given_of q bs)) w.2 (rule_given_named shown_names w.0 bs there)
+  abbrev Given : Type 0
+  Given = List ℕ × Ground
 
-  entry_writable : (past : Log) (r : List ℕ) (facts : Facts ⊥) (os : List Source) → Used (theory_of theory) good r facts → AreShown facts
-      → Every HasNumbers (entry_steps (theory_of theory) past (step r facts os)) → Every (IsWritableStep symbols) (entry_steps (theory_of theory) past (step r facts os))
-  entry_writable past r facts os u shown numbered =
-      let given = given_of u.rule u.bindings in
-      let n = every_member IsNamedRule rules u.rule u.member named in
-      let over = names_given symbols 0 u.rule.variables u.bindings n.variables (λ x. (u.valuation x).1) in
-      let both : Every (λ (g : List ℕ × Ground). (IsNameWord g.0 × IsOver symbols g.1) × HasNames shown_names g.1) given =
-      every_both (λ (g : List ℕ × Ground). IsNameWord g.0 × IsOver symbols g.1) (λ (g : List ℕ × Ground). HasNames shown_names g.1)
-      (λ (g : List ℕ × Ground). (IsNameWord g.0 × IsOver symbols g.1) × HasNames shown_names g.1) (λ g a b. (a, b)) given over (given_shown r facts u shown) in
-      let numbers : Every (λ (g : List ℕ × Ground). HasNames numbered_names g.1) given =
-      subst (λ gs. Every (λ (g : List ℕ × Ground). HasNames numbered_names g.1) gs) u.given numbered.0 in
+  abbrev given_in : List ℕ → Facts ⊥ → List Given
+  given_in r facts = unwrap_or (given_by es (map (forms_of es) theory.rules) r facts) []
+
+  abbrev steps_of : Entry → List Step
+  steps_of e = entry_steps es (map (forms_of es) theory.rules) e
+
+  -- the values are over the symbols, and given to names
+  given_over : (r : List ℕ) (facts : Facts ⊥) → Found theory good r facts → Every (λ (g : Given). IsNameWord g.0 × IsOver symbols g.1) (given_in r facts)
+  given_over r facts i =
+      let rule = i.is_instance.0 in
+      let n = every_member IsNamedRule theory.rules rule i.is_instance.1 named in
+      given_each (λ (g : Given). IsNameWord g.0 × IsOver symbols g.1) i.values 0 rule.variables (given_in r facts) i.is_instance.3
+      (every_weaken (λ (d : Declared). IsNameWord d.name) (λ (d : Declared). (x : Variable) → IsNameWord d.name × IsOver symbols (i.values x))
+      (λ d h x. (h, (i.valuation x).1)) rule.variables n.variables)
+
+  given_shown : (r : List ℕ) (facts : Facts ⊥) → Found theory good r facts → AreShown facts → Every (λ (g : Given). HasNames shown_names g.1) (given_in r facts)
+  given_shown r facts i shown =
+      let made = (every_member IsNamedRule theory.rules i.rule i.member named).facts in
+      let forms = good.instances.forms in
+      subst (Every (λ (g : Given). HasNames shown_names g.1)) (sym i.given)
+      (form_given_named shown_names es forms.normal_forms forms.nameless i.rule made i.first.form i.first.member stand_in_shown facts i.first.bindings i.first.matched shown)
+
+  entry_writable : (r : List ℕ) (facts : Facts ⊥) (os : List Source) → Found theory good r facts → AreShown facts → Every HasNumbers (steps_of (step r facts os))
+      → Every (IsWritableStep symbols) (steps_of (step r facts os))
+  entry_writable r facts os i shown numbered =
+      let given = given_in r facts in
+      let over = given_over r facts i in
+      let both : Every (λ (g : Given). (IsNameWord g.0 × IsOver symbols g.1) × HasNames shown_names g.1) given =
+      every_both (λ (g : Given). IsNameWord g.0 × IsOver symbols g.1) (λ (g : Given). HasNames shown_names g.1)
+      (λ (g : Given). (IsNameWord g.0 × IsOver symbols g.1) × HasNames shown_names g.1) (λ g a b. (a, b)) given over (given_shown r facts i shown) in
       let written : Every (IsGiven symbols) given =
-      every_both (λ (g : List ℕ × Ground). (IsNameWord g.0 × IsOver symbols g.1) × HasNames shown_names g.1) (λ (g : List ℕ × Ground). HasNames numbered_names g.1)
-      (IsGiven symbols) (λ g a b. (a.0.0, term_writable symbols g.1 a.0.1 a.1 b)) given both numbers in
-      let name : IsNameWord r = subst IsNameWord u.named n.name in (
-        (name, subst (λ gs. Every (IsGiven symbols) gs) (sym u.given) written),
-        fresh_writable symbols (fresh_of facts.premises) (fresh_sorts facts.premises u.fresh) (fresh_named shown_names facts.premises shown.premises) numbered.1,
+      every_both (λ (g : Given). (IsNameWord g.0 × IsOver symbols g.1) × HasNames shown_names g.1) (λ (g : Given). HasNames numbered_names g.1)
+      (IsGiven symbols) (λ g a b. (a.0.0, term_writable symbols g.1 a.0.1 a.1 b)) given both numbered.0 in
+      let name : IsNameWord r = subst IsNameWord i.is_instance.2 (every_member IsNamedRule theory.rules i.is_instance.0 i.is_instance.1 named).name in (
+        (name, written),
+        fresh_writable symbols (fresh_of facts.premises) (fresh_sorts facts.premises i.fresh) (fresh_named shown_names facts.premises shown.premises) numbered.1,
       )
 
-  pub steps_writable : (log : Log) → IsLog (theory_of theory) log → HasStepsAlone log → LogHasNames shown_names log → Every HasNumbers (execution_of (theory_of theory) log)
-      → Every (IsWritableStep symbols) (execution_of (theory_of theory) log)
+  pub steps_writable : (log : Log) → IsLog theory log → HasStepsAlone log → LogHasNames shown_names log → Every HasNumbers (execution_of theory log)
+      → Every (IsWritableStep symbols) (execution_of theory log)
   steps_writable [] is alone shown numbered = tt
   steps_writable (step r facts os ∷ past) is alone shown numbered =
-      let both = every_parts HasNumbers (entry_steps (theory_of theory) past (step r facts os)) (execution_of (theory_of theory) past) numbered in
-      every_append (IsWritableStep symbols) (entry_steps (theory_of theory) past (step r facts os)) (execution_of (theory_of theory) past)
-      (entry_writable past r facts os (used (theory_of theory) good r facts (is.1 rule_instance)) shown.0 both.0)
+      let both = every_parts HasNumbers (steps_of (step r facts os)) (execution_of theory past) numbered in
+      every_append (IsWritableStep symbols) (steps_of (step r facts os)) (execution_of theory past)
+      (entry_writable r facts os (found theory good r facts (is.1 rule_instance)) shown.0 both.0)
       (steps_writable past is.0 alone.1 shown.1 both.1)
   steps_writable (send m ∷ past) is alone shown numbered = absurd alone.0
   steps_writable (learn m how ∷ past) is alone shown numbered = absurd alone.0
 
+  -- ---- the trace
+
+  normal_named : (xs ys : List (Action ⊥)) → AreNormalActions es xs ys → Every (λ (a : Action ⊥). IsNameWord a.symbol) xs → Every (λ (a : Action ⊥). IsNameWord a.symbol) ys
+  normal_named [] [] n h = tt
+  normal_named [] (y ∷ ys) n h = absurd n
+  normal_named (x ∷ xs) [] n h = absurd n
+  normal_named (x ∷ xs) (y ∷ ys) n h = (subst IsNameWord n.0 h.0, normal_named xs ys n.2 h.1)
+
   -- what an entry's actions say
-  actions_shown : ActionsAreOver (theory_of theory) → (r : List ℕ) (facts : Facts ⊥) → Used (theory_of theory) good r facts → AreShown facts
-      → Every (IsShownAction symbols) facts.actions
-  actions_shown acts r facts u shown =
-      let v = bound_or_any u.bindings in
-      let n = every_member IsNamedRule rules u.rule u.member named in
-      let names = every_map (λ (a : Action Variable). IsNameWord a.symbol) (λ (a : Action ⊥). IsNameWord a.symbol) (action_at v) (λ a h. h) u.rule.facts.actions n.actions in
-      let over = acts u.rule u.member v u.valuation in
-      let both : Every (λ (a : Action ⊥). IsNameWord a.symbol × AreOver symbols a.args) (facts_at v u.rule.facts).actions =
-      every_both (λ (a : Action ⊥). IsNameWord a.symbol) (λ (a : Action ⊥). AreOver symbols a.args) (λ (a : Action ⊥). IsNameWord a.symbol × AreOver symbols a.args)
-      (λ a h k. (h, k)) (facts_at v u.rule.facts).actions names over in
+  actions_shown : (r : List ℕ) (facts : Facts ⊥) → IsRuleInstance theory r facts → AreShown facts → Every (IsShownAction symbols) facts.actions
+  actions_shown r facts (rule, member, same, v, valuation, normal) shown =
+      let n = every_member IsNamedRule theory.rules rule member named in
+      let over = every_member (λ (q : Rule). OfArguments (AreTermsOver symbols) q.facts) theory.rules rule member good.instances.over.each in
+      let forms = good.instances.forms in
+      let names = normal_named (facts_at v rule.facts).actions facts.actions normal.actions
+      (every_map (λ (a : Action Variable). IsNameWord a.symbol) (λ (a : Action ⊥). IsNameWord a.symbol) (action_at v) (λ a h. h) rule.facts.actions n.actions) in
+      let terms = instance_over es forms.normal_forms symbols forms.keeps v (λ x. (valuation x).1) rule.facts facts over normal in
       every_both (λ (a : Action ⊥). IsNameWord a.symbol × AreOver symbols a.args) (λ (a : Action ⊥). AllMadeOf shown_names no_variable a.args) (IsShownAction symbols)
       (λ a h k. (h.0, h.1, k)) facts.actions
-      (subst (λ (f : Facts ⊥). Every (λ (a : Action ⊥). IsNameWord a.symbol × AreOver symbols a.args) f.actions) (sym u.instance) both) shown.actions
+      (every_both (λ (a : Action ⊥). IsNameWord a.symbol) (λ (a : Action ⊥). AreOver symbols a.args) (λ (a : Action ⊥). IsNameWord a.symbol × AreOver symbols a.args)
+      (λ a h k. (h, k)) facts.actions names terms.actions)
+      shown.actions
 
   with_entry_shown : (actions : List (Action ⊥)) (trace : Trace) → Every (IsShownAction symbols) actions → IsShownTrace symbols trace → IsShownTrace symbols (with_entry actions trace)
   with_entry_shown [] trace h k = k
   with_entry_shown (a ∷ actions) trace h k = (h, k)
 
-  pub trace_shown : ActionsAreOver (theory_of theory) → (log : Log) → IsLog (theory_of theory) log → HasStepsAlone log → LogHasNames shown_names log
-      → IsShownTrace symbols (visible_trace log)
-  trace_shown acts [] is alone shown = tt
-  trace_shown acts (step r facts os ∷ past) is alone shown =
-      with_entry_shown facts.actions (visible_trace past) (actions_shown acts r facts (used (theory_of theory) good r facts (is.1 rule_instance)) shown.0)
-      (trace_shown acts past is.0 alone.1 shown.1)
-  trace_shown acts (send m ∷ past) is alone shown = absurd alone.0
-  trace_shown acts (learn m how ∷ past) is alone shown = absurd alone.0
+  pub trace_shown : (log : Log) → IsLog theory log → HasStepsAlone log → LogHasNames shown_names log → IsShownTrace symbols (visible_trace log)
+  trace_shown [] is alone shown = tt
+  trace_shown (step r facts os ∷ past) is alone shown =
+      with_entry_shown facts.actions (visible_trace past) (actions_shown r facts (is.1 rule_instance) shown.0) (trace_shown past is.0 alone.1 shown.1)
+  trace_shown (send m ∷ past) is alone shown = absurd alone.0
+  trace_shown (learn m how ∷ past) is alone shown = absurd alone.0
 
 pub logs_may_be_written_lem : LogsMayBeWritten
 logs_may_be_written_lem = record {
-  steps = λ theory good named log is alone shown numbered. steps_writable theory good named log is alone shown numbered;
-  trace = λ theory good named acts log is alone shown. trace_shown theory good named acts log is alone shown;
+  steps = λ theory good named log is alone shown numbered. steps_writable (theory_of theory) good named log is alone shown numbered;
+  trace = λ theory good named acts log is alone shown. trace_shown (theory_of theory) good named log is alone shown;
 }

@@ -14,7 +14,8 @@ use Rattle.sp_spec_text.specs.Written.{Item, builtins_item, functions_item, equa
 use Rattle.sp_spec_text.specs.Declared.{is_constant, is_bare, resolved_name, resolved_term, resolved_formula, resolved_lemma, resolved_rule, resolved_item}
 use Rattle.sp_spec_text.specs.StepLines.{IsQuotable}
 use Rattle.sp_law_system.proofs.Numbers.{each_valued_all}
-use Rattle.sp_law_block.proofs.SpelledNames.{quotable_names, IsNamedVariable, IsNamedTerm, AreNamedTerms, IsNamedFact, IsNamedAction, IsNamedWritten, IsNamedLemma}
+use Rattle.sp_law_block.specs.Shown.{shown_names}
+use Rattle.sp_law_block.proofs.SpelledNames.{IsNamedVariable, IsNamedTerm, AreNamedTerms, IsNamedFact, IsNamedAction, IsNamedWritten, IsNamedLemma}
 use Rattle.sp_law_block.proofs.DeclaredNames.{IsNamedItem}
 
 module _ (symbols : List Symbol) where
@@ -64,7 +65,7 @@ module _ (symbols : List Symbol) where
       by_test false = h
 
   arguments_named : (ts : Terms Written) → AreNamedTerms ts → AreNamedTerms (valued_all (resolved_name symbols []) ts)
-  arguments_named ts h = each_valued_all quotable_names IsNamedVariable IsNamedVariable (resolved_name symbols []) name_named ts h
+  arguments_named ts h = each_valued_all shown_names IsNamedVariable IsNamedVariable (resolved_name symbols []) name_named ts h
 
   facts_named : (fs : List (Fact Written)) → Every IsNamedFact fs → Every IsNamedFact (map (fact_at (resolved_name symbols [])) fs)
   facts_named fs e = every_map IsNamedFact IsNamedFact (fact_at (resolved_name symbols [])) (λ f h. (h.0, arguments_named f.args h.1)) fs e

@@ -2,7 +2,7 @@
 use Rattle.std.proofs.Common.{◌≡◌, ℕ, Bool, true, false, List, [], ◌∷◌, ◌++◌, refl}
 use Rattle.std.specs.Prelude.{not, ◌&&◌}
 use Rattle.sp_spec.specs.Lists.{Every}
-use Rattle.sp_spec.specs.Term.{Names, public_name, fresh_name, Term, var, constant, name, app, Terms, none, more, MadeOf, AllMadeOf}
+use Rattle.sp_spec.specs.Term.{Term, var, constant, name, app, Terms, none, more, MadeOf, AllMadeOf}
 use Rattle.sp_spec.specs.Rule.{Fact, Action}
 use Rattle.sp_spec.specs.Formula.{Written, Formula}
 use Rattle.sp_spec.specs.Theory.{TraceKind, Lemma}
@@ -20,21 +20,18 @@ use Rattle.sp_spec_text.specs.Formulas.{SpellsVariable, SpellsTerm, SpellsTuple,
 use Rattle.sp_spec_text.specs.Theories as t
 use Rattle.sp_spec_text.specs.Theories.{SpellsFacts, SpellsArrow, SpellsRule, SpellsKind, SpellsLemma}
 use Rattle.sp_spec_text.specs.StepLines.{IsQuotable}
+use Rattle.sp_law_block.specs.Shown.{shown_names}
 use Rattle.sp_law_block.proofs.TokenWords.{Spoken}
-
--- public names that may stand in quotes; a text writes no fresh ones
-abbrev pub quotable_names : Names
-quotable_names (public_name c) = IsQuotable c
-quotable_names (fresh_name n) = Unit {0}
 
 abbrev pub IsNamedVariable : Written → Type 0
 IsNamedVariable x = IsNameWord x.name
 
+-- a text writes no fresh names
 abbrev pub IsNamedTerm : Term Written → Type 0
-IsNamedTerm t = MadeOf quotable_names IsNamedVariable t
+IsNamedTerm t = MadeOf shown_names IsNamedVariable t
 
 abbrev pub AreNamedTerms : Terms Written → Type 0
-AreNamedTerms ts = AllMadeOf quotable_names IsNamedVariable ts
+AreNamedTerms ts = AllMadeOf shown_names IsNamedVariable ts
 
 abbrev pub IsNamedFact : Fact Written → Type 0
 IsNamedFact f = IsNameWord f.symbol × AreNamedTerms f.args

@@ -2,7 +2,7 @@
 use Rattle.std.proofs.Common.{ℕ, Bool, true, false, if◌then◌else◌, List, [], ◌∷◌, ◌++◌, Option}
 use Rattle.sp_spec.specs.Lists.{Every, is_listed}
 use Rattle.sp_spec.specs.Term.{Variable, Term, var, constant, name, app, Terms, none, more, in_term, in_terms}
-use Rattle.sp_spec.specs.Rule.{Fact, Action, Declared, in_facts, in_actions, occurrences, action_at}
+use Rattle.sp_spec.specs.Rule.{Fact, Action, Declared, FactsMadeOf, in_facts, in_actions, occurrences, action_at}
 use Rattle.sp_spec.specs.Formula.{Written}
 use Rattle.sp_spec.specs.Theory.{Lemma}
 use Rattle.sp_spec.specs.Written.{WrittenRule, sort_in, names_after, rule_names, numbered_in, rule_of}
@@ -19,7 +19,8 @@ use Rattle.sp_spec_text.specs.Theories.{SpellsProofPart, SpellsItems, SpellsTheo
 use Rattle.sp_spec_text.specs.Texts.{IsTextOf}
 use Rattle.sp_spec_text.specs.Names.{IsNameWord}
 use Rattle.sp_spec_text.specs.StepLines.{IsQuotable}
-use Rattle.sp_law_block.specs.Shown.{IsNamedRule}
+use Rattle.sp_law_system.proofs.Numbers.{facts_valued}
+use Rattle.sp_law_block.specs.Shown.{shown_names, IsNamedRule}
 use Rattle.sp_law_block.specs.Laws.{TextsHaveNames}
 use Rattle.sp_law_block.proofs.TokenWords.{Spoken, tokens_spoken}
 use Rattle.sp_law_block.proofs.SpelledNames.{IsNamedVariable, IsNamedTerm, AreNamedTerms, IsNamedFact, IsNamedAction, quotable_in_terms, IsNamedWritten, IsNamedLemma, lemma_named}
@@ -113,12 +114,20 @@ every_name seen [] e k = e
 every_name seen (x ∷ xs) e k =
     let b = is_listed x.name seen in every_name (if b then seen else seen ++ x.name ∷ []) xs (every_then IsNameWord b x.name seen k.0 e) k.1
 
+written_facts : (r : WrittenRule) → IsNamedWritten r → FactsMadeOf shown_names IsNamedVariable r.facts
+written_facts r h = record {
+  premises = every_weaken IsNamedFact (λ (f : Fact Written). AreNamedTerms f.args) (λ f k. k.1) r.facts.premises h.premises;
+  actions = every_weaken IsNamedAction (λ (a : Action Written). AreNamedTerms a.args) (λ a k. k.1) r.facts.actions h.actions;
+  conclusions = every_weaken IsNamedFact (λ (f : Fact Written). AreNamedTerms f.args) (λ f k. k.1) r.facts.conclusions h.conclusions;
+}
+
 named_rule : (r : WrittenRule) → IsNamedWritten r → IsNamedRule (rule_of r)
 named_rule r h = record {
   name = h.name;
   variables = every_map IsNameWord (λ (d : Declared). IsNameWord d.name) (λ x. record { name = x; sort = sort_in r.facts x }) (λ x k. k) (rule_names r.facts)
       (every_name [] (occurrences r.facts) tt (named_occurrences r h));
   actions = every_map IsNamedAction (λ (a : Action Variable). IsNameWord a.symbol) (action_at (numbered_in r.facts)) (λ a k. k.0) r.facts.actions h.actions;
+  facts = facts_valued shown_names IsNamedVariable (λ (x : Variable). Unit {0}) (numbered_in r.facts) (λ x k. tt) r.facts (written_facts r h);
 }
 
 -- ---- the public names

@@ -18,15 +18,18 @@ abbrev pub steps_text : List Step → List ℕ
 steps_text [] = []
 steps_text (step ∷ steps) = step_text step ++ (codes "\n" ++ steps_text steps)
 
--- the steps that the log stands for, and its trace
-abbrev pub found_block : Theory → Log → List ℕ
-found_block theory log = codes "execution:\n" ++ (steps_text (oldest_first (execution_of theory log)) ++ trace_block (oldest_first (visible_trace log)))
+-- the steps that the log stands for, by what says which these are, and its trace
+abbrev pub block_by : (Log → List Step) → Option Log → List ℕ
+block_by steps_of None = []
+block_by steps_of (Some log) = codes "execution:\n" ++ (steps_text (oldest_first (steps_of log)) ++ trace_block (oldest_first (visible_trace log)))
 
 abbrev pub block_of : Theory → Option Log → List ℕ
-block_of theory None = []
-block_of theory (Some log) = found_block theory log
+block_of theory log = block_by (execution_of theory) log
 
 -- the numbers of the fresh names in the execution have an end
+abbrev pub IsNumberedBy : (Log → List Step) → Option Log → Type 0
+IsNumberedBy steps_of None = Unit {0}
+IsNumberedBy steps_of (Some log) = Every (StepHasNames numbered_names) (steps_of log)
+
 abbrev pub IsNumbered : Theory → Option Log → Type 0
-IsNumbered theory None = Unit {0}
-IsNumbered theory (Some log) = Every (StepHasNames numbered_names) (execution_of theory log)
+IsNumbered theory log = IsNumberedBy (execution_of theory) log

@@ -24,11 +24,12 @@ EntryHasNames N (learn m how) = HasNames N m
 abbrev pub LogHasNames : Names → Log → Type 0
 LogHasNames N log = Every (EntryHasNames N) log
 
--- a rule, its variables and its actions have names as a text may have them
+-- a rule, its variables and its actions have names as a text may have them, and the names in its facts may be shown
 pub record IsNamedRule (r : Rule) : Type 0 where
   pub name : IsNameWord r.name
   pub variables : Every (λ (d : Declared). IsNameWord d.name) r.variables
   pub actions : Every (λ (a : Action Variable). IsNameWord a.symbol) r.facts.actions
+  pub facts : FactsMadeOf shown_names (λ (x : Variable). Unit {0}) r.facts
 
 -- what an entry of a trace says is over the symbols, of names that may be shown
 abbrev pub IsShownAction : List Symbol → Action ⊥ → Type 0

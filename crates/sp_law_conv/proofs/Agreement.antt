@@ -13,7 +13,8 @@ use Rattle.sp_law_equal.proofs.Parts.{proper_is_part, part_keeps}
 use Rattle.sp_law_unify.specs.MostGeneral.{AreSolution}
 use Rattle.sp_law_unify.proofs.Values.{keeps_value}
 use Rattle.sp_law_unify.proofs.Unique.{unifier_law}
-use Rattle.sp_law_conv.specs.Clash.{above, shifted, apart, overlap, DoClash}
+use Rattle.sp_spec_forms.specs.Shifted.{above, shifted}
+use Rattle.sp_law_conv.specs.Clash.{apart, overlap, DoClash}
 use Rattle.sp_law_conv.proofs.Apart.{joined, joined_respects, joined_below, joined_shifted}
 
 -- whether two terms are the same can be told

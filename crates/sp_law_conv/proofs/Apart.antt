@@ -5,7 +5,7 @@ use Rattle.sp_spec.specs.Term.{Variable, Term, var, constant, name, app, Terms, 
 use Rattle.sp_spec.specs.Signature.{HasSort, RespectsSorts}
 use Rattle.sp_spec.proofs.Same.{same_fields}
 use Rattle.sp_law_unify.proofs.Values.{valued_then}
-use Rattle.sp_law_conv.specs.Clash.{above, above_all, shifted}
+use Rattle.sp_spec_forms.specs.Shifted.{above, above_all, shifted}
 
 -- values that are the same below the bound give the same values to terms below it
 module _ {W : Type 0} (m : ℕ) (v w : Variable → Term W) (same : (x : Variable) → x.number < m → v x ≡ w x) where

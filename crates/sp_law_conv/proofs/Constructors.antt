@@ -6,9 +6,9 @@ use Rattle.sp_spec.specs.Term.{Variable, Term, var, constant, name, app, Terms, 
 use Rattle.sp_spec.specs.Signature.{Symbol, Equation, HasSymbol}
 use Rattle.sp_law_equal.specs.Destructors.{HasRoot, IsDestructor, IsPlain, ArePlain}
 use Rattle.sp_law_equal.specs.SubtermRules.{IsPlainBelow}
-use Rattle.sp_law_equal.specs.Right.{IsTermOver, AreTermsOver}
+use Rattle.sp_law_equal.specs.Right.{IsTermOver, AreTermsOver, EquationsAreOver}
 use Rattle.sp_law_conv.specs.Accepted.{IsApplicationOf, IsDestructorOf, IsOfConstructors, AreOfConstructors, IsLeftSide, AreAccepted}
-use Rattle.sp_law_conv.specs.Laws.{HaveOneArity, EquationsAreOver}
+use Rattle.sp_law_conv.specs.Laws.{HaveOneArity}
 
 module _ (symbols : List Symbol) (es : List Equation) (one : HaveOneArity symbols) where
   -- a left side with this symbol at its root applies it to as many arguments as its arity says

@@ -9,8 +9,10 @@ use Rattle.sp_law_equal.specs.SubtermRules.{IsSimple, DoAgree, AreSubtermRules, 
 use Rattle.sp_law_equal.proofs.SubtermRules.{subterm_rules_have_normal_forms}
 use Rattle.sp_law_equal.proofs.Over.{keep_symbols}
 use Rattle.sp_law_conv.specs.Accepted.{IsConstant, AreAccepted}
-use Rattle.sp_law_conv.specs.Laws.{HaveOneArity, EquationsAreOver, AcceptedAreConvergent}
+use Rattle.sp_law_equal.specs.Right.{EquationsAreOver}
+use Rattle.sp_law_conv.specs.Laws.{HaveOneArity, AcceptedAreConvergent}
 use Rattle.sp_law_conv.proofs.Places.{member_place, place_one}
+use Rattle.sp_law_conv.proofs.Nameless.{accepted_nameless}
 use Rattle.sp_law_conv.proofs.Constructors.{left_plain, right_plain}
 use Rattle.sp_law_conv.proofs.Agreement.{agree_unless_clash, agree_turned, agrees_itself}
 
@@ -59,6 +61,7 @@ pub convergence_law : AcceptedAreConvergent
 convergence_law = record {
   subterm_rules = λ symbols es one over good. subterm_rules symbols es good one over;
   no_symbols = no_symbols;
+  no_names = accepted_nameless;
   public = λ symbols es good e m. (good.each e m).leads;
   normal_forms = λ symbols es one over good. subterm_rules_have_normal_forms es (subterm_rules symbols es good one over);
   keep = λ symbols es good. keep_symbols symbols es (no_symbols symbols es good);

@@ -1,5 +1,6 @@
 pub mod Places
 pub mod Apart
 pub mod Constructors
+pub mod Nameless
 pub mod Agreement
 pub mod Convergent

@@ -14,11 +14,11 @@ equal_truth signature trace f m w terms times bound_terms bound_times h =
     (equal_same signature trace trace (trace_itself signature.equations trace) m w (record { terms = terms; times = times; bound_terms = bound_terms; bound_times = bound_times }) f).0 h
 
 pub moves_are_covered : (theory : Theory) → SuitsProofs theory → MovesCover theory
-moves_are_covered theory p = moves_cover unifier_is_right theory p.instances.normal_forms p.instances.keeps p.instances.plain p.closed p.over equal_truth
+moves_are_covered theory p = moves_cover unifier_is_right theory p equal_truth
 
 pub nothing_is_lost_lem : NothingIsLost
 nothing_is_lost_lem = record {
-  rows = λ theory p. rows_cover unifier_is_right theory p.instances.normal_forms p.instances.keeps p.instances.plain p.closed p.over equal_truth;
-  contradictions = λ theory p. contradictions_hold unifier_is_right theory p.instances.normal_forms p.instances.keeps p.instances.plain p.closed p.over equal_truth;
+  rows = λ theory p. rows_cover unifier_is_right theory p equal_truth;
+  contradictions = λ theory p. contradictions_hold unifier_is_right theory p equal_truth;
   moves = moves_are_covered;
 }

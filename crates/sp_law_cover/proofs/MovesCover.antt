@@ -1,15 +1,16 @@
 -- Each move covers, with its cases simplified.
-use Rattle.std.proofs.Common.{◌≡◌, ◌≤◌, ◌<◌, ◌+◌, ℕ, Bool, true, false, if◌then◌else◌, List, [], ◌∷◌, map, length, Option, Some, None, option_map, is_some, refl, sym, subst, arith, le_refl, le_trans, slice_get}
+use Rattle.std.proofs.Common.{◌≡◌, ◌≤◌, ◌<◌, ◌+◌, ℕ, Bool, true, false, if◌then◌else◌, List, [], ◌∷◌, map, Option, Some, None, option_map, is_some, refl, sym, subst, arith, le_refl, le_trans, slice_get}
 use Rattle.sp_spec.specs.Lists.{Every}
 use Rattle.sp_spec.specs.Term.{Names, Variable, AllMadeOf}
-use Rattle.sp_spec.specs.Rule.{Action, Rule}
+use Rattle.sp_spec.specs.Rule.{Action}
+use Rattle.sp_spec.specs.Signature.{Equation}
 use Rattle.sp_spec.specs.Equal.{AreNormal}
 use Rattle.sp_spec.specs.Theory.{Theory, signature_of}
 use Rattle.sp_spec.specs.Truth.{Acts}
 use Rattle.sp_spec.specs.Guarded.{Place, Guarded, truth, falsity, holds, fails, all_of, one_of, some, every, acts, same, same_time, before, last, free_time, bound_time, action_in}
 use Rattle.sp_spec.specs.Log.{Log, IsLog, log_trace}
 use Rattle.sp_spec.specs.Substitution.{Binding, bound_to}
-use Rattle.sp_law_equal.specs.NormalForms.{HaveNormalForms, KeepSymbols}
+use Rattle.sp_law_equal.specs.NormalForms.{HaveNormalForms}
 use Rattle.sp_spec_system.specs.System.{Event, System, happening_actions}
 use Rattle.sp_spec_system.specs.Solutions.{Valuation, assignment, FormulaHolds, Solves}
 use Rattle.sp_spec_system.specs.Numbered.{names_in, InEvent, InFormula, IsNumbered}
@@ -28,7 +29,7 @@ use Rattle.sp_spec_system.specs.Cases.{where_same, renamed, system_if, named}
 use Rattle.sp_spec_formula.specs.Action.{with_step, by_actions, by_each, action_cases, action_at_time, is_adversary, solving_action, by_forms}
 use Rattle.sp_spec_graph.specs.Premise.{open_premise, premise_cases}
 use Rattle.sp_spec_proof.specs.Cases.{raw_cases, simple_case, cases}
-use Rattle.sp_law_system.specs.Rules.{InstancesAreOver, RulesAreNumbered, IsClosedRule, FormsAreNumbered}
+use Rattle.sp_law_system.specs.Rules.{SuitsProofs, RulesAreNumbered, IsNumberedForm, FormsAreNumbered, FormsAreWhole}
 use Rattle.sp_law_system.specs.Proofs.{IsContextOf, IsWellMade, IsKept, systems_of, IsPast, CoversBelow}
 use Rattle.sp_law_cover.specs.Laws.{MovesCover}
 use Rattle.sp_law_formula.proofs.Freed.{freed_action_in}
@@ -40,9 +41,10 @@ use Rattle.sp_law_formula.proofs.Actions.{named_systems, systems_append, at_even
 use Rattle.sp_law_formula.proofs.ActionCovers.{event_found, at_event_solved, new_step_solved}
 use Rattle.sp_law_graph.proofs.Premises.{premise_numbered, premise_covers}
 use Rattle.sp_law_cover.proofs.Simplifying.{no_solution, rows_cover, simplified_follows, covers_itself}
-use Rattle.sp_spec_system.specs.Rules.{RuleForms, Rules, forms_of, rules_of}
-use Rattle.sp_law_system.proofs.Forms.{forms_numbered}
-use Rattle.sp_law_equal.specs.RightTheory.{RulesArePlain}
+use Rattle.sp_spec_forms.specs.Numbering.{Form}
+use Rattle.sp_spec_forms.specs.Forms.{RuleForms, forms_of}
+use Rattle.sp_spec_system.specs.Rules.{Rules, rules_of}
+use Rattle.sp_law_forms.proofs.Whole.{forms_whole, forms_numbered}
 
 -- a solved action: the formula, its time and its terms
 pub record SolvesAction (rules : List RuleForms) (s : System) (f : Guarded) (cs : List Case) : Type 0 where
@@ -106,30 +108,40 @@ pub every_system : (P : System → Type 0) (cs : List Case) → Every P (systems
 every_system P [] h = tt
 every_system P (c ∷ cs) h = (h.0, every_system P cs h.1)
 
-module _ (N : Names) (right : UnifierIsRight) (theory : Theory) (good : HaveNormalForms (signature_of theory).equations) (keeps : KeepSymbols (signature_of theory).symbols (signature_of theory).equations)
-    (rules_numbered : RulesAreNumbered N theory.rules) (rules_plain : RulesArePlain (signature_of theory).equations theory.rules) (rules_closed : Every IsClosedRule theory.rules)
-    (over : InstancesAreOver theory) (equal_truth : EqualTruth) where
-  forms_numbered_by : (forms : List Rule) → RulesAreNumbered N forms → (s : System) → IsNumbered N s → (i : ℕ) → i < s.next → (a : Action Variable) → AllMadeOf N (Under s.next) a.args
-      → Every (Later N s.next) (by_forms forms s i a)
-  forms_numbered_by [] k s n i iu a au = tt
-  forms_numbered_by (r ∷ forms) k s n i iu a au =
-      let cs = by_actions (with_step s i r) a (renamed s.next r.facts).actions in
-      let num = step_numbered N theory s r i iu k.0 n in
+module _ (N : Names) (right : UnifierIsRight) (theory : Theory) (suits : SuitsProofs theory) (rules_numbered : RulesAreNumbered N theory.rules) (equal_truth : EqualTruth) where
+  abbrev es : List Equation
+  es = (signature_of theory).equations
+
+  abbrev good : HaveNormalForms es
+  good = suits.instances.forms.normal_forms
+
+  abbrev whole : FormsAreWhole theory
+  whole = forms_whole theory suits.instances
+
+  abbrev each_numbered : FormsAreNumbered N (map (forms_of es) theory.rules)
+  each_numbered = forms_numbered N theory suits.instances.forms rules_numbered
+
+  forms_numbered_by : (name : List ℕ) (forms : List Form) → Every (IsNumberedForm N) forms → (s : System) → IsNumbered N s → (i : ℕ) → i < s.next → (a : Action Variable) → AllMadeOf N (Under s.next) a.args
+      → Every (Later N s.next) (by_forms name forms s i a)
+  forms_numbered_by name [] k s n i iu a au = tt
+  forms_numbered_by name (form ∷ forms) k s n i iu a au =
+      let cs = by_actions (with_step s i name form) a (renamed s.next form.facts).actions in
+      let num = step_numbered N theory s name form i iu k.0 n in
       let own = (every_parts _ s.events (_ ∷ []) num.events).1.0.1.actions in
-      let wide : AllMadeOf N (Under (with_step s i r).next) a.args = each_weaken_all N (Under s.next) (Under (s.next + length r.variables)) (λ x h. omega (arith, h)) a.args au in
-      every_append (Later N s.next) cs (by_forms forms s i a) (same_numbered N right s.next (with_step s i r) (omega arith) num a (renamed s.next r.facts).actions wide own) (forms_numbered_by forms k.1 s n i iu a au)
+      let wide : AllMadeOf N (Under (with_step s i name form).next) a.args = each_weaken_all N (Under s.next) (Under (s.next + form.count)) (λ x h. omega (arith, h)) a.args au in
+      every_append (Later N s.next) cs (by_forms name forms s i a) (same_numbered N right s.next (with_step s i name form) (omega arith) num a (renamed s.next form.facts).actions wide own) (forms_numbered_by name forms k.1 s n i iu a au)
 
   by_each_numbered : (rules : List RuleForms) → FormsAreNumbered N rules → (s : System) → IsNumbered N s → (i : ℕ) → i < s.next → (a : Action Variable) → AllMadeOf N (Under s.next) a.args
       → Every (Later N s.next) (systems_of (by_each rules s i a))
   by_each_numbered [] k s n i iu a au = tt
   by_each_numbered (rule ∷ rules) k s n i iu a au =
-      let own = by_forms rule.forms s i a in
+      let own = by_forms rule.name rule.forms s i a in
       subst (Every (Later N s.next)) (sym (systems_append (named rule.name own) (by_each rules s i a)))
       (every_append (Later N s.next) (systems_of (named rule.name own)) (systems_of (by_each rules s i a))
-      (subst (Every (Later N s.next)) (sym (named_systems rule.name own)) (forms_numbered_by rule.forms k.0 s n i iu a au)) (by_each_numbered rules k.1 s n i iu a au))
+      (subst (Every (Later N s.next)) (sym (named_systems rule.name own)) (forms_numbered_by rule.name rule.forms k.0 s n i iu a au)) (by_each_numbered rules k.1 s n i iu a au))
 
   abbrev forms : List RuleForms
-  forms = map forms_of theory.rules
+  forms = map (forms_of es) theory.rules
 
   -- the parts of the action that is solved
   action_in_system : (s : System) (n : IsNumbered N s) (k : ℕ) (f : Guarded) (cs : List Case) → slice_get s.formulas k ≡ Some f → (r : SolvesAction forms s f cs) → (r.time < s.next) × AllMadeOf N (Under s.next) r.terms.args
@@ -139,7 +151,7 @@ module _ (N : Names) (right : UnifierIsRight) (theory : Theory) (good : HaveNorm
 
   cases_numbered : (s : System) → IsNumbered N s → (i : ℕ) → i < s.next → (a : Action Variable) → AllMadeOf N (Under s.next) a.args → (o : Option Event) → event_at i s.events ≡ o
       → Every (Later N s.next) (systems_of (action_cases forms s i a o))
-  cases_numbered s n i iu a au None e = by_each_numbered forms (forms_numbered N theory.rules rules_numbered) s n i iu a au
+  cases_numbered s n i iu a au None e = by_each_numbered forms each_numbered s n i iu a au
   cases_numbered s n i iu a au (Some d) e =
       let found = event_found i s.events d e in
       let inside = (every_member (InEvent N (Under s.next) (TimeUnder s.next)) s.events d found.0 n.events).1 in
@@ -168,10 +180,10 @@ module _ (N : Names) (right : UnifierIsRight) (theory : Theory) (good : HaveNorm
           → AreNormal (signature_of theory).equations (action_in (assignment v) f).args → Acts (signature_of theory).equations (log_trace log) (v.times i) (action_in (assignment v) f)
           → (o : Option Event) → event_at i s.events ≡ o → NoneSolved theory log v s.next (systems_of (action_cases forms s i a o)) → ⊥
       acting s n f a freed i iu au own log is v h normal_f y None e none =
-          new_step_solved N right theory good keeps rules_numbered rules_plain s n f a freed i iu au own log is v h y.2 y.0 y.1 y.3 normal_f y.4 none
+          new_step_solved N right theory good each_numbered whole s n f a freed i iu au own log is v h y.2 y.0 y.1 y.3 normal_f y.4 none
       acting s n f a freed i iu au own log is v h normal_f y (Some d) e none =
           let found = event_found i s.events d e in
-          at_event_solved N right theory good keeps rules_numbered rules_plain s n f a freed i iu au own log is v h d found.0 found.1 y.2 (v.times i) refl y.0 y.1 y.3 normal_f y.4
+          at_event_solved N right theory good each_numbered whole s n f a freed i iu au own log is v h d found.0 found.1 y.2 (v.times i) refl y.0 y.1 y.3 normal_f y.4
           (subst (NoneSolved theory log v s.next) (at_event_systems s a 0 (happening_actions d.happening)) none)
 
   by_rules : (context : Context) → context.rules ≡ rules_of theory → (s : System) (k : ℕ) (cs : List Case) → solving_action context.rules.forms s (slice_get s.formulas k) ≡ Some cs
@@ -202,7 +214,7 @@ module _ (N : Names) (right : UnifierIsRight) (theory : Theory) (good : HaveNorm
       at false k = absurd cc
   raw_numbered context r s (or k) cs e n = or_numbered s n k cs e
   raw_numbered context r s (action k) cs e n = action_numbered s n k cs (by_rules context r s k cs e)
-  raw_numbered context r s (premise i p) cs e n = premise_numbered N right theory good keeps rules_numbered rules_plain s n i p cs (by_premise_rules context r s i p cs e)
+  raw_numbered context r s (premise i p) cs e n = premise_numbered N right theory good each_numbered whole s n i p cs (by_premise_rules context r s i p cs e)
 
   raw_covers : (context : Context) → context.rules ≡ rules_of theory → (s : System) (move : Move) (cs : List Case) → raw_cases context s move ≡ Some cs → (move ≡ unproved → ⊥) → (move ≡ solved → ⊥) → IsNumbered N s → Covers theory s (systems_of cs)
   raw_covers context r s simplify cs e not_open not_end n = at (has_place context.rules s) e
@@ -213,24 +225,22 @@ module _ (N : Names) (right : UnifierIsRight) (theory : Theory) (good : HaveNorm
   raw_covers context r s contradiction cs e not_open not_end n = at (is_contradictory context.rules s) refl e
     where
       at : (b : Bool) → is_contradictory context.rules s ≡ b → (if b then Some [] else None) ≡ Some cs → Covers theory s (systems_of cs)
-      at true c k = record { covers = λ log is v h none. no_solution N right theory good keeps rules_plain rules_closed over equal_truth context.rules s c n log is v h }
+      at true c k = record { covers = λ log is v h none. no_solution N right theory suits equal_truth context.rules r s c n log is v h }
       at false c k = absurd cc
   raw_covers context r s unproved cs e not_open not_end n = absurd (not_open refl)
   raw_covers context r s solved cs e not_open not_end n = absurd (not_end refl)
   raw_covers context r s (or k) cs e not_open not_end n = or_covers theory s k cs e
   raw_covers context r s (action k) cs e not_open not_end n = action_covers s n k cs (by_rules context r s k cs e)
-  raw_covers context r s (premise i p) cs e not_open not_end n = premise_covers N right theory good keeps rules_numbered rules_plain s n i p cs (by_premise_rules context r s i p cs e)
+  raw_covers context r s (premise i p) cs e not_open not_end n = premise_covers N right theory good each_numbered whole s n i p cs (by_premise_rules context r s i p cs e)
 
-module _ (right : UnifierIsRight) (theory : Theory) (good : HaveNormalForms (signature_of theory).equations) (keeps : KeepSymbols (signature_of theory).symbols (signature_of theory).equations)
-    (rules_plain : RulesArePlain (signature_of theory).equations theory.rules) (rules_closed : Every IsClosedRule theory.rules)
-    (over : InstancesAreOver theory) (equal_truth : EqualTruth) where
+module _ (right : UnifierIsRight) (theory : Theory) (suits : SuitsProofs theory) (equal_truth : EqualTruth) where
   -- the cases, each simplified
   module _ (context : Context) (is_of : IsContextOf theory context) where
     abbrev N : Names
     N = names_in context.public_names
 
     simple_follows : (s : System) → IsNumbered N s → IsKept context s (simplified context.rules s) × Covers theory s (simplified context.rules s ∷ [])
-    simple_follows s n = simplified_follows theory (rows_cover right theory good keeps rules_plain rules_closed over equal_truth) context is_of 10000 s (record { numbered = n })
+    simple_follows s n = simplified_follows theory (rows_cover right theory suits equal_truth) context is_of 10000 s (record { numbered = n })
 
     simple_kept : (s : System) (cs : List Case) → Every (Later N s.next) (systems_of cs) → Every (IsKept context s) (systems_of (map (simple_case context.rules) cs))
     simple_kept s [] h = tt
@@ -247,13 +257,13 @@ module _ (right : UnifierIsRight) (theory : Theory) (good : HaveNormalForms (sig
     move_kept : (s : System) (move : Move) (cs : List Case) → cases context s move ≡ Some cs → IsWellMade context s → Every (IsKept context s) (systems_of cs)
     move_kept s move cs e made =
         let r = mapped (map (simple_case context.rules)) (raw_cases context s move) cs e in
-        subst (λ (x : List Case). Every (IsKept context s) (systems_of x)) (sym r.2) (simple_kept s r.0 (raw_numbered N right theory good keeps is_of.numbered rules_plain rules_closed over equal_truth context is_of.rules s move r.0 r.1 made.numbered))
+        subst (λ (x : List Case). Every (IsKept context s) (systems_of x)) (sym r.2) (simple_kept s r.0 (raw_numbered N right theory suits is_of.numbered equal_truth context is_of.rules s move r.0 r.1 made.numbered))
 
     move_covers : (s : System) (move : Move) (cs : List Case) → cases context s move ≡ Some cs → (move ≡ unproved → ⊥) → (move ≡ solved → ⊥) → IsWellMade context s → Covers theory s (systems_of cs)
     move_covers s move cs e not_open not_end made =
         let r = mapped (map (simple_case context.rules)) (raw_cases context s move) cs e in
-        let raw = raw_covers N right theory good keeps is_of.numbered rules_plain rules_closed over equal_truth context is_of.rules s move r.0 r.1 not_open not_end made.numbered in
-        let num = raw_numbered N right theory good keeps is_of.numbered rules_plain rules_closed over equal_truth context is_of.rules s move r.0 r.1 made.numbered in
+        let raw = raw_covers N right theory suits is_of.numbered equal_truth context is_of.rules s move r.0 r.1 not_open not_end made.numbered in
+        let num = raw_numbered N right theory suits is_of.numbered equal_truth context is_of.rules s move r.0 r.1 made.numbered in
         subst (λ (x : List Case). Covers theory s (systems_of x)) (sym r.2)
         (record { covers = λ log is v h none. raw.covers log is v h (simple_solved log is s.next v r.0 num none) })
 

@@ -1,14 +1,13 @@
 -- Each row covers, a contradiction has no solution, and so simplification covers.
-use Rattle.std.proofs.Common.{◌≡◌, ◌≤◌, ℕ, zero, suc, Bool, true, false, ◌||◌, List, [], ◌∷◌, ◌++◌, Option, Some, None, refl, sym, ap, ◌∙◌, ⊎_elim, le_refl, le_trans}
+use Rattle.std.proofs.Common.{◌≡◌, ◌≤◌, ℕ, zero, suc, Bool, true, false, ◌||◌, List, [], ◌∷◌, ◌++◌, Option, Some, None, refl, sym, ap, subst, ◌∙◌, ⊎_elim, le_refl, le_trans}
 use Rattle.std.proofs.lemmas.Bool.{or_cases}
 use Rattle.std.proofs.lemmas.List.{append_assoc}
 use Rattle.sp_spec.specs.Term.{Names}
-use Rattle.sp_spec.specs.Lists.{Every}
 use Rattle.sp_spec.specs.Theory.{Theory, signature_of}
 use Rattle.sp_spec.specs.Log.{Log}
-use Rattle.sp_law_equal.specs.NormalForms.{HaveNormalForms, KeepSymbols}
+use Rattle.sp_law_equal.specs.NormalForms.{HaveNormalForms}
 use Rattle.sp_spec_system.specs.System.{System}
-use Rattle.sp_spec_system.specs.Rules.{Rules}
+use Rattle.sp_spec_system.specs.Rules.{Rules, rules_of}
 use Rattle.sp_spec_system.specs.Solutions.{Valuation}
 use Rattle.sp_spec_system.specs.Numbered.{names_in, IsNumbered}
 use Rattle.sp_spec_system.specs.Covering.{Agrees, NoneSolved, Covers}
@@ -20,12 +19,13 @@ use Rattle.sp_spec_formula.specs.Split.{has_falsity}
 use Rattle.sp_spec_formula.specs.Unequal.{has_equal_pair}
 use Rattle.sp_spec_formula.specs.InOrder.{has_refuted}
 use Rattle.sp_spec_graph.specs.SourceTwice.{takes_fr_twice, used_twice, has_source_twice}
+use Rattle.sp_spec_graph.specs.ReducibleEvent.{has_reducible}
 use Rattle.sp_spec_system.specs.Picked.{some_two}
 use Rattle.sp_spec_formula.specs.Equate.{fails_to_equate}
 use Rattle.sp_spec_graph.specs.LinearOnce.{fails_to_link}
 use Rattle.sp_spec_graph.specs.FreshOnce.{fails_to_merge}
 use Rattle.sp_spec_system.specs.Move.{Context}
-use Rattle.sp_law_system.specs.Rules.{InstancesAreOver, IsClosedRule}
+use Rattle.sp_law_system.specs.Rules.{SuitsProofs}
 use Rattle.sp_law_system.specs.Proofs.{HasNoSolution, IsContextOf, IsWellMade, IsKept}
 use Rattle.sp_law_cover.specs.Laws.{IsTurn, ContradictionsHold, RowsCover}
 use Rattle.sp_law_formula.proofs.Literals.{covers_by_itself, action_stands_covers, action_stands_numbered, unequal_covers, unequal_row_numbered, equal_pair_contradicts}
@@ -38,9 +38,9 @@ use Rattle.sp_law_formula.proofs.Taken.{instantiate_numbered}
 use Rattle.sp_law_formula.proofs.Instantiates.{instantiate_covers}
 use Rattle.sp_law_graph.proofs.FreshOnce.{merge_contradicts, fr_twice_contradicts, fresh_once_covers, fresh_once_numbered}
 use Rattle.sp_law_graph.proofs.FreshFirst.{fresh_first_covers, fresh_first_numbered}
+use Rattle.sp_law_graph.proofs.ReducibleEvent.{reducible_contradicts}
 use Rattle.sp_law_formula.proofs.Opened.{EqualTruth, open_existential_covers}
 use Rattle.sp_law_formula.proofs.OpenedNumbers.{open_existential_numbered}
-use Rattle.sp_law_equal.specs.RightTheory.{RulesArePlain}
 
 -- one case after another
 pub covers_then : (theory : Theory) (s t : System) (cs : List System) → s.next ≤ t.next → Covers theory s (t ∷ []) → Covers theory t cs → Covers theory s cs
@@ -55,9 +55,10 @@ covers_then theory s t cs le a b = record {
 pub covers_itself : (theory : Theory) (s : System) → Covers theory s (s ∷ [])
 covers_itself theory s = covers_by_itself theory s s (λ log is v h. h)
 
-module _ (N : Names) (right : UnifierIsRight) (theory : Theory) (good : HaveNormalForms (signature_of theory).equations) (keeps : KeepSymbols (signature_of theory).symbols (signature_of theory).equations)
-    (rules_plain : RulesArePlain (signature_of theory).equations theory.rules) (rules_closed : Every IsClosedRule theory.rules)
-    (over : InstancesAreOver theory) (equal_truth : EqualTruth) where
+module _ (N : Names) (right : UnifierIsRight) (theory : Theory) (suits : SuitsProofs theory) (equal_truth : EqualTruth) where
+  abbrev good : HaveNormalForms (signature_of theory).equations
+  good = suits.instances.forms.normal_forms
+
   row_numbered : (rules : Rules) (row : Row) (s t : System) → by_row rules row s ≡ Some t → IsNumbered N s → IsNumbered N t × (s.next ≤ t.next)
   row_numbered rules row_split s t e n = split_numbered s t e n
   row_numbered rules row_open s t e n = open_existential_numbered s t e n
@@ -73,7 +74,7 @@ module _ (N : Names) (right : UnifierIsRight) (theory : Theory) (good : HaveNorm
 
   row_covers : (rules : Rules) (row : Row) (s t : System) → by_row rules row s ≡ Some t → IsNumbered N s → Covers theory s (t ∷ [])
   row_covers rules row_split s t e n = split_covers theory s t e
-  row_covers rules row_open s t e n = open_existential_covers N theory good keeps equal_truth s t e n
+  row_covers rules row_open s t e n = open_existential_covers N theory good suits.instances.forms.keeps equal_truth s t e n
   row_covers rules row_equate s t e n = equate_covers N right theory good s t e n
   row_covers rules row_unequal s t e n = unequal_covers theory s t e
   row_covers rules row_order s t e n = in_order_covers theory s t e
@@ -81,40 +82,40 @@ module _ (N : Names) (right : UnifierIsRight) (theory : Theory) (good : HaveNorm
   row_covers rules row_disjunction s t e n = disjunction_covers theory s t e
   row_covers rules row_linear_once s t e n = linear_once_covers N right theory s t e n
   row_covers rules row_fresh_once s t e n = fresh_once_covers N right theory s t e n
-  row_covers rules row_fresh_first s t e n = fresh_first_covers theory good rules_plain rules_closed s t e
-  row_covers rules row_instantiate s t e n = instantiate_covers theory good keeps over s t e n
+  row_covers rules row_fresh_first s t e n = fresh_first_covers theory good suits.instances.forms.nameless suits.instances.premises suits.closed s t e
+  row_covers rules row_instantiate s t e n = instantiate_covers theory good suits.instances.forms.keeps suits.over s t e n
 
-  pub no_solution : (rules : Rules) (s : System) → is_contradictory rules s ≡ true → IsNumbered N s → HasNoSolution theory s
-  no_solution rules s e n log is v h =
+  pub no_solution : (rules : Rules) → rules ≡ rules_of theory → (s : System) → is_contradictory rules s ≡ true → IsNumbered N s → HasNoSolution theory s
+  no_solution rules of s e n log is v h =
       either (has_falsity s.formulas) _ (λ k. some_falsity_contradicts theory log v s.formulas k h.formulas)
       (λ a. either (has_equal_pair s.unequal) _ (λ k. equal_pair_contradicts theory v s.unequal k h.unequal)
       (λ b. either (has_refuted s.order s.formulas) _ (λ k. some_refuted_contradicts log v s.order h.order theory s.formulas k h.formulas)
       (λ c. either (is_cyclic s.order) _ (λ k. cyclic_contradicts log v s.order h.order k)
       (λ d. either (has_source_twice s) _
       (λ k. either (some_two (used_twice s.events) s.links) (takes_fr_twice s.events) (λ l. used_twice_contradicts theory log is v s l h) (λ l. fr_twice_contradicts theory log is v s.events l h.events) k)
-      (λ f. either (fails_to_equate s s.formulas) _ (λ k. some_fails_contradicts N right theory good s n log v h s.formulas k h.formulas)
+      (λ f. either (has_reducible rules.signature.equations s.events) _
+      (λ k. reducible_contradicts theory good log is v (λ x. (h.sorts x).0) s.events (subst (λ (x : Rules). has_reducible x.signature.equations s.events ≡ true) of k) h.events)
+      (λ j. either (fails_to_equate s s.formulas) _ (λ k. some_fails_contradicts N right theory good s n log v h s.formulas k h.formulas)
       (λ g. either (fails_to_link s) (fails_to_merge s) (λ k. links_contradict N right theory s n log is v h k)
-      (λ k. merge_contradicts N right theory s k n log is v h) g) f) d) c) b) a) e
+      (λ k. merge_contradicts N right theory s k n log is v h) g) j) f) d) c) b) a) e
     where
       either : (a b : Bool) → (a ≡ true → ⊥) → (b ≡ true → ⊥) → (a || b) ≡ true → ⊥
       either a b first second k = ⊎_elim first second (or_cases a b k)
 
-module _ (right : UnifierIsRight) (theory : Theory) (good : HaveNormalForms (signature_of theory).equations) (keeps : KeepSymbols (signature_of theory).symbols (signature_of theory).equations)
-    (rules_plain : RulesArePlain (signature_of theory).equations theory.rules) (rules_closed : Every IsClosedRule theory.rules)
-    (over : InstancesAreOver theory) (equal_truth : EqualTruth) where
+module _ (right : UnifierIsRight) (theory : Theory) (suits : SuitsProofs theory) (equal_truth : EqualTruth) where
   pub rows_cover : RowsCover theory
   rows_cover = record {
     kept = λ context is_of row s t turn made.
-        let r = row_numbered (names_in context.public_names) right theory good keeps rules_plain rules_closed over equal_truth context.rules row s t turn.gives made.numbered in
+        let r = row_numbered (names_in context.public_names) right theory suits equal_truth context.rules row s t turn.gives made.numbered in
         record { well_made = record { numbered = r.0 }; next = r.1 };
     covers = λ context is_of row s t turn made.
-        row_covers (names_in context.public_names) right theory good keeps rules_plain rules_closed over equal_truth context.rules row s t turn.gives made.numbered;
+        row_covers (names_in context.public_names) right theory suits equal_truth context.rules row s t turn.gives made.numbered;
   }
 
   pub contradictions_hold : ContradictionsHold theory
   contradictions_hold = record {
     no_solution = λ context is_of s e made.
-        no_solution (names_in context.public_names) right theory good keeps rules_plain rules_closed over equal_truth context.rules s e made.numbered;
+        no_solution (names_in context.public_names) right theory suits equal_truth context.rules is_of.rules s e made.numbered;
   }
 
 -- rows that give nothing, and one more

@@ -8,6 +8,7 @@ pub mod SubtermRules
 pub mod Plain
 pub mod Values
 pub mod Over
+pub mod NormalNames
 pub mod Pairs
 pub mod Facts
 pub mod Decided

@@ -1,15 +1,15 @@
 -- The equations of pairs are subterm rules that bring in no symbols, so each term has one normal form, over the term's symbols.
-use Rattle.std.proofs.Common.{◌≡◌, ◌⊎◌, ⊎_elim, inl, inr, ℕ, List, [], false, refl, sym, ◌∙◌, subst, true≢false}
+use Rattle.std.proofs.Common.{◌≡◌, ◌⊎◌, ⊎_elim, inl, inr, ℕ, List, false, refl, sym, ◌∙◌, subst, true≢false}
 use Rattle.std.specs.Prelude.{codes}
 use Rattle.std.specs.Str.{bytes_eq}
 use Rattle.std.proofs.lemmas.Slice.Eq.{bytes_eq-Decides}
 use Rattle.sp_spec.specs.Lists.{Member}
 use Rattle.sp_spec.specs.Term.{app, none, more, Grounds}
-use Rattle.sp_spec.specs.Signature.{Equation, Symbol, pair, msg, pair_equations, with_pairs, HasSymbol}
+use Rattle.sp_spec.specs.Signature.{Equation, Symbol, pair, msg, pair_equations, HasSymbol}
 use Rattle.sp_law_equal.specs.Destructors.{HasRoot, IsDestructor, IsPlain}
 use Rattle.sp_law_equal.specs.Parts.{IsProperPart}
 use Rattle.sp_law_equal.specs.SubtermRules.{IsPlainBelow, IsSimple, DoAgree, AreSubtermRules, BringInNoSymbols}
-use Rattle.sp_law_equal.specs.NormalForms.{HaveNormalForms, KeepSymbols, HasNormalForms}
+use Rattle.sp_law_equal.specs.NormalForms.{HaveNormalForms, KeepSymbols}
 use Rattle.sp_law_equal.proofs.SubtermRules.{subterm_rules_have_normal_forms}
 use Rattle.sp_law_equal.proofs.Over.{keep_symbols}
 
@@ -75,7 +75,3 @@ pairs_bring_in_no_symbols symbols = record {
 
 pub pairs_keep_symbols : (symbols : List Symbol) → KeepSymbols symbols pair_equations
 pairs_keep_symbols symbols = keep_symbols symbols pair_equations (pairs_bring_in_no_symbols symbols)
-
--- so has a signature without equations of its own
-pub no_own_equations : (symbols : List Symbol) → HasNormalForms (with_pairs symbols [])
-no_own_equations symbols = record { normal_forms = pairs_have_normal_forms; keeps = pairs_keep_symbols (with_pairs symbols []).symbols }

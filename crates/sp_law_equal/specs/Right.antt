@@ -1,9 +1,9 @@
--- What is right of rules: their variables are declared where they are numbered, and names are used once; terms over a signature.
+-- What is right of rules and equations: their variables are declared where they are numbered, and names are used once; terms over a signature.
 -- Source: Tamarin manual, "Model specification using rules".
 use Rattle.std.specs.Prelude.{◌≡◌, List, map}
-use Rattle.sp_spec.specs.Lists.{Every, Distinct, AtPlace}
-use Rattle.sp_spec.specs.Term.{Variable, Term, var, constant, name, app, Terms, none, more, count, EachVariables}
-use Rattle.sp_spec.specs.Signature.{Symbol, HasSymbol}
+use Rattle.sp_spec.specs.Lists.{Member, Every, Distinct, AtPlace}
+use Rattle.sp_spec.specs.Term.{Variable, Term, var, constant, name, app, Terms, none, more, count, EachVariables, Names, MadeOf}
+use Rattle.sp_spec.specs.Signature.{Symbol, Equation, HasSymbol}
 use Rattle.sp_spec.specs.Rule.{Declared, Rule, OfArguments}
 
 -- each symbol of the term is one of these, over as many arguments as its arity
@@ -31,6 +31,20 @@ pub record IsRight (r : Rule) : Type 0 where
 pub record AreRight (rules : List Rule) : Type 0 where
   pub each : Every IsRight rules
   pub distinct : Distinct (map (λ (r : Rule). r.name) rules)
+
+-- each symbol of the equations is one of these
+pub record EquationsAreOver (symbols : List Symbol) (es : List Equation) : Type 0 where
+  pub left : (e : Equation) → Member e es → IsTermOver symbols e.left
+  pub right : (e : Equation) → Member e es → IsTermOver symbols e.right
+
+-- no name at all
+abbrev pub no_names : Names
+no_names n = ⊥
+
+-- no public name and no fresh one stands in the equations
+pub record HaveNoNames (es : List Equation) : Type 0 where
+  pub left : (e : Equation) → Member e es → MadeOf no_names (λ (x : Variable). Unit {0}) e.left
+  pub right : (e : Equation) → Member e es → MadeOf no_names (λ (x : Variable). Unit {0}) e.right
 
 -- the rules' terms are over these symbols
 pub record RulesAreOver (symbols : List Symbol) (rules : List Rule) : Type 0 where

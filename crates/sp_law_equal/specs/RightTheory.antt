@@ -7,7 +7,7 @@ use Rattle.sp_spec.specs.Signature.{Equation}
 use Rattle.sp_spec.specs.Rule.{Fact, Action, Facts, Rule, OfArguments, IsFreshVariable}
 use Rattle.sp_spec.specs.Theory.{Theory, signature_of}
 use Rattle.sp_spec.specs.Log.{is_fr}
-use Rattle.sp_law_equal.specs.NormalForms.{HaveNormalForms, KeepSymbols}
+use Rattle.sp_law_equal.specs.NormalForms.{HasNormalForms}
 use Rattle.sp_law_equal.specs.Destructors.{ArePlain}
 use Rattle.sp_law_equal.specs.Right.{AreRight, RulesAreOver}
 
@@ -15,15 +15,17 @@ use Rattle.sp_law_equal.specs.Right.{AreRight, RulesAreOver}
 abbrev pub FactsArePlain : List Equation → Facts Variable → Type 0
 FactsArePlain es facts = OfArguments (ArePlain es) facts
 
-abbrev pub RulesArePlain : List Equation → List Rule → Type 0
-RulesArePlain es rules = Every (λ (r : Rule). FactsArePlain es r.facts) rules
+-- no destructor stands in a premise
+abbrev pub HasPlainPremises : List Equation → Rule → Type 0
+HasPlainPremises es r = Every (λ (f : Fact Variable). ArePlain es f.args) r.facts.premises
 
--- Its equations may be read from left to right and bring in no new symbols, and no destructor stands in a rule: so the normal form of an instance of a
--- rule is the instance under the normal forms of the values.
+-- Its equations may be read from left to right and bring in no new symbols, the rules are over its symbols, and no destructor stands in a premise: so
+-- the normal form of an instance of a rule is an instance of one of its forms, and its premises are those of the rule under the normal forms of the
+-- values.
 pub record HasNormalInstances (theory : Theory) : Type 0 where
-  pub normal_forms : HaveNormalForms (signature_of theory).equations
-  pub keeps : KeepSymbols (signature_of theory).symbols (signature_of theory).equations
-  pub plain : RulesArePlain (signature_of theory).equations theory.rules
+  pub forms : HasNormalForms (signature_of theory)
+  pub over : RulesAreOver (signature_of theory).symbols theory.rules
+  pub premises : Every (HasPlainPremises (signature_of theory).equations) theory.rules
 
 -- what is fresh by a premise Fr is a variable of sort fresh
 abbrev pub TakesFreshNames : Rule → Type 0
@@ -64,7 +66,6 @@ pub record IsRightTheory (theory : Theory) : Type 0 where
   pub instances : HasNormalInstances theory
   -- variables are declared where they are numbered; no two of a rule have one name, nor have two rules
   pub declared : AreRight theory.rules
-  pub over : RulesAreOver (signature_of theory).symbols theory.rules
   pub takes_fresh : Every TakesFreshNames theory.rules
   pub makes_no_fr : Every MakesNoFr theory.rules
   pub bound : Every BindsConclusions theory.rules

@@ -12,9 +12,9 @@ use Rattle.sp_law_equal.specs.Normal.{reduced, normal}
 use Rattle.sp_law_equal.proofs.Forms.{Used, reduced_by, normal_all_of_normal}
 use Rattle.sp_law_unify.specs.MostGeneral.{AreSolution}
 use Rattle.sp_law_unify.proofs.Unique.{unifier_law}
-use Rattle.sp_law_conv.specs.Clash.{above, shifted}
+use Rattle.sp_spec_forms.specs.Shifted.{above, shifted}
 use Rattle.sp_law_conv.proofs.Apart.{joined}
-use Rattle.sp_law_forms.specs.Narrowing.{Chosen, if_unified, by_equation, choices}
+use Rattle.sp_spec_forms.specs.Narrowing.{Chosen, if_unified, by_equation, choices}
 use Rattle.sp_law_forms.specs.Laws.{IsNormalValuation}
 use Rattle.sp_law_forms.proofs.Shifted.{AgreeBelow, shift, shifted_below}
 use Rattle.sp_law_forms.proofs.Lists.{member_flat_map}

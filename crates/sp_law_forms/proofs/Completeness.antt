@@ -13,10 +13,11 @@ use Rattle.sp_law_equal.proofs.Facts.{facts_normal_form, facts_normal_form_only,
 use Rattle.sp_law_equal.specs.Right.{AreTermsOver}
 use Rattle.sp_law_equal.proofs.Forms.{normal_has_sort}
 use Rattle.sp_law_unify.proofs.Unique.{unifier_law}
-use Rattle.sp_law_conv.specs.Clash.{above_all}
-use Rattle.sp_law_forms.specs.Narrowing.{Chosen, narrow_facts}
-use Rattle.sp_law_forms.specs.Forms.{args_of, form_by, start, results, forms}
-use Rattle.sp_law_forms.specs.Numbering.{Form, numbered, seen}
+use Rattle.sp_spec_forms.specs.Shifted.{above_all}
+use Rattle.sp_spec_forms.specs.Narrowing.{Chosen, narrow_facts}
+use Rattle.sp_spec_forms.specs.Reducible.{args_of}
+use Rattle.sp_spec_forms.specs.Forms.{form_by, start, results, forms}
+use Rattle.sp_spec_forms.specs.Numbering.{Form, numbered, seen}
 use Rattle.sp_law_forms.specs.Laws.{IsNormalValuation, FormsAreComplete, IsRuleOver}
 use Rattle.sp_law_forms.proofs.Over.{all_over_at}
 use Rattle.sp_law_forms.proofs.Lists.{member_flat_map}

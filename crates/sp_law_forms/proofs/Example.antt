@@ -4,8 +4,8 @@ use Rattle.std.specs.Prelude.{codes}
 use Rattle.sp_spec.specs.Term.{Msg, Variable, Term, app, none, more}
 use Rattle.sp_spec.specs.Signature.{Equation, msg, pair, pair_equations}
 use Rattle.sp_spec.specs.Rule.{Facts, Declared, Rule}
-use Rattle.sp_law_forms.specs.Numbering.{Form}
-use Rattle.sp_law_forms.specs.Forms.{forms}
+use Rattle.sp_spec_forms.specs.Numbering.{Form}
+use Rattle.sp_spec_forms.specs.Forms.{forms}
 
 abbrev sign : Term Variable → Term Variable → Term Variable
 sign m k = app (codes "sign") (more m (more k none))

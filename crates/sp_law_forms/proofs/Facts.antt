@@ -6,7 +6,7 @@ use Rattle.sp_spec.specs.Rule.{Fact, Action, Facts, OfArguments, fact_at, action
 use Rattle.sp_spec.proofs.Lists.{every_append, every_parts, every_map, every_all, every_weaken}
 use Rattle.sp_spec.proofs.Values.{valued_all-valued_all}
 use Rattle.sp_law_system.proofs.TermValues.{valued_var_all}
-use Rattle.sp_law_forms.specs.Forms.{args_of}
+use Rattle.sp_spec_forms.specs.Reducible.{args_of}
 use Rattle.sp_law_forms.proofs.Lists.{every_of_map}
 
 abbrev pub made_fact : {V : Type 0} → Fact V → {W : Type 0} → Terms W → Fact W

@@ -9,6 +9,7 @@ pub mod Choice
 pub mod Narrow
 pub mod Sound
 pub mod Over
+pub mod Kept
 pub mod OverWays
 pub mod Plain
 pub mod Numbered
@@ -19,6 +20,7 @@ pub mod Results
 pub mod Proper
 pub mod Listed
 pub mod Completeness
+pub mod Whole
 pub mod Soundness
 pub mod Premises
 pub mod Single

@@ -1,10 +1,10 @@
 -- No left side matches a term in a form, and no two forms have the same facts.
-use Rattle.std.proofs.Common.{◌≡◌, ℕ, ◌<◌, Bool, true, false, not, ◌&&◌, cond, List, [], ◌∷◌, map, refl, sym, ap, ◌∙◌, subst, true≢false}
+use Rattle.std.proofs.Common.{◌≡◌, ℕ, Bool, true, false, not, ◌&&◌, cond, List, [], ◌∷◌, map, refl, sym, ap, ◌∙◌, subst, true≢false}
 use Rattle.std.proofs.lemmas.Bool.{and_from, and_parts}
 use Rattle.std.proofs.lemmas.Slice.Eq.{bytes_eq-Decides}
 use Rattle.std.specs.List.{filter, list_any}
 use Rattle.sp_spec.specs.Lists.{Member, Distinct}
-use Rattle.sp_spec.specs.Term.{Variable, Term, app, Terms, valued, EachVariable, EachVariables}
+use Rattle.sp_spec.specs.Term.{Variable, Term, app, Terms, valued}
 use Rattle.sp_spec.specs.Signature.{Equation}
 use Rattle.sp_spec.specs.Same.{same_variable, alike_all}
 use Rattle.sp_spec.specs.Rule.{Fact, Action, Facts, Rule}
@@ -12,52 +12,39 @@ use Rattle.sp_spec.proofs.Lists.{every_member, member_mapped, member_map}
 use Rattle.sp_law_equal.specs.Parts.{IsPartOfOne}
 use Rattle.sp_law_equal.proofs.Parts.{part_of_one_keeps}
 use Rattle.sp_spec.proofs.Same.{same_variable_decides, same_all_by_decides}
-use Rattle.sp_spec_formula.specs.ActionStands.{same_action}
-use Rattle.sp_law_run.specs.Taken.{same_choice}
-use Rattle.sp_law_forms.specs.Numbering.{Form, without_repeats}
-use Rattle.sp_law_forms.specs.Forms.{args_of, results, forms, is_matched, irreducible, irreducible_all, is_normal_form, same_list, alike_fact, alike_form}
+use Rattle.sp_spec_forms.specs.Alike.{same_action}
+use Rattle.sp_spec_forms.specs.Numbering.{Form, without_repeats}
+use Rattle.sp_spec_forms.specs.Alike.{same_flag, same_list, alike_fact}
+use Rattle.sp_spec_forms.specs.Reducible.{args_of, is_matched, irreducible, irreducible_all}
+use Rattle.sp_spec_forms.specs.Forms.{results, forms, is_normal_form, alike_form}
 use Rattle.sp_law_forms.specs.Laws.{AreOverMessages, FormsAreProper}
 use Rattle.sp_law_forms.proofs.Lists.{any_passes, all_from, member_passes, member_filtered}
-use Rattle.sp_law_forms.proofs.Facts.{of_arguments}
 use Rattle.sp_law_forms.proofs.Matched.{is_matched_from}
 use Rattle.sp_law_forms.proofs.Results.{nothing_lost}
 use Rattle.sp_law_forms.proofs.Proper.{form_normal, form_below}
 use Rattle.sp_law_forms.proofs.Renamed.{numbered_same}
 
 module _ (es : List Equation) (msg : AreOverMessages es) (rule : Rule) (form : Form) (m : Member form (forms es rule)) where
-  abbrev n : ℕ
-  n = form.count
-
-  abbrev IsBelow : Variable → Type 0
-  IsBelow x = x.number < n
-
   module _ (ts : Terms Variable) (mem : Member ts (args_of form.facts)) (f : List ℕ) (us : Terms Variable) (part : IsPartOfOne (app f us) ts) where
-    part_irreducible : irreducible es n (app f us) ≡ true
+    part_irreducible : irreducible es (app f us) ≡ true
     part_irreducible =
-        part_of_one_keeps (λ u. irreducible es n u ≡ true) (λ us. irreducible_all es n us ≡ true)
-        (λ g ws h. (and_parts (irreducible_all es n ws) (not (list_any (is_matched n (app g ws)) es)) h).0)
-        (λ u ws h. (and_parts (irreducible es n u) (irreducible_all es n ws) h).0)
-        (λ u ws h. (and_parts (irreducible es n u) (irreducible_all es n ws) h).1)
+        part_of_one_keeps (λ u. irreducible es u ≡ true) (λ us. irreducible_all es us ≡ true)
+        (λ g ws h. (and_parts (irreducible_all es ws) (not (list_any (is_matched (app g ws)) es)) h).0)
+        (λ u ws h. (and_parts (irreducible es u) (irreducible_all es ws) h).0)
+        (λ u ws h. (and_parts (irreducible es u) (irreducible_all es ws) h).1)
         (app f us) ts part
-        (every_member (λ ws. irreducible_all es n ws ≡ true) (args_of form.facts) ts mem
-        (all_from (irreducible_all es n) (args_of form.facts) (form_normal es rule form m)))
-
-    part_below : EachVariable IsBelow (app f us)
-    part_below =
-        part_of_one_keeps (λ u. EachVariable IsBelow u) (λ ws. EachVariables IsBelow ws) (λ g ws h. h) (λ u ws h. h.0) (λ u ws h. h.1)
-        (app f us) ts part
-        (every_member (λ ws. EachVariables IsBelow ws) (args_of form.facts) ts mem
-        (of_arguments (EachVariables IsBelow) form.facts (form_below es rule form m).0))
+        (every_member (λ ws. irreducible_all es ws ≡ true) (args_of form.facts) ts mem
+        (all_from (irreducible_all es) (args_of form.facts) (form_normal es rule form m)))
 
     none_matches : (e : Equation) → Member e es → (s : Variable → Term Variable) → valued s e.left ≡ app f us → ⊥
     none_matches e among s same =
-        let none = (and_parts (irreducible_all es n us) (not (list_any (is_matched n (app f us)) es)) part_irreducible).1 in
-        let found = is_matched_from n (app f us) e s (msg e among) part_below same in
-        true≢false (sym none ∙ ap not (any_passes (is_matched n (app f us)) e es among found))
+        let none = (and_parts (irreducible_all es us) (not (list_any (is_matched (app f us)) es)) part_irreducible).1 in
+        let found = is_matched_from (app f us) e s (msg e among) same in
+        true≢false (sym none ∙ ap not (any_passes (is_matched (app f us)) e es among found))
 
-same_choice_itself : (a : Bool) → same_choice a a ≡ true
-same_choice_itself true = refl
-same_choice_itself false = refl
+same_flag_itself : (a : Bool) → same_flag a a ≡ true
+same_flag_itself true = refl
+same_flag_itself false = refl
 
 same_list_itself : {A : Type 0} (test : A → A → Bool) → ((x : A) → test x x ≡ true) → (xs : List A) → same_list test xs xs ≡ true
 same_list_itself test h [] = refl
@@ -67,7 +54,7 @@ args_itself : (ts : Terms Variable) → alike_all ts ts ≡ true
 args_itself ts = (same_all_by_decides same_variable same_variable_decides ts ts).1 refl
 
 alike_fact_itself : (f : Fact Variable) → alike_fact f f ≡ true
-alike_fact_itself f = and_from _ _ ((bytes_eq-Decides f.symbol f.symbol).1 refl) (and_from _ _ (same_choice_itself f.persistent) (args_itself f.args))
+alike_fact_itself f = and_from _ _ ((bytes_eq-Decides f.symbol f.symbol).1 refl) (and_from _ _ (same_flag_itself f.persistent) (args_itself f.args))
 
 same_action_itself : (a : Action Variable) → same_action a a ≡ true
 same_action_itself a = and_from _ _ ((bytes_eq-Decides a.symbol a.symbol).1 refl) (args_itself a.args)

@@ -10,8 +10,8 @@ use Rattle.sp_law_equal.specs.NormalForms.{HasNormalForms}
 use Rattle.sp_law_equal.specs.Normal.{normal, normal_all, normal_fact, normal_action, normal_facts}
 use Rattle.sp_law_equal.proofs.Forms.{normal_of_normal, are_normal}
 use Rattle.sp_law_equal.proofs.Over.{count_normal, normal_all_over}
-use Rattle.sp_law_conv.specs.Clash.{above, above_all}
-use Rattle.sp_law_forms.specs.Narrowing.{Ways, both, each, choices, narrow, narrow_all, narrow_fact, narrow_action, narrow_facts}
+use Rattle.sp_spec_forms.specs.Shifted.{above, above_all}
+use Rattle.sp_spec_forms.specs.Narrowing.{Ways, both, each, choices, narrow, narrow_all, narrow_fact, narrow_action, narrow_facts}
 use Rattle.sp_law_forms.specs.Laws.{IsNormalValuation}
 use Rattle.sp_law_forms.proofs.Facts.{made_fact, made_action, made_facts, same_facts}
 use Rattle.sp_law_forms.proofs.Ways.{Completes, Nothing, completes_done, completes_in_turn, completes_both, completes_map, completes_each}

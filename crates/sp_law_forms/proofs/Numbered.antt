@@ -8,7 +8,7 @@ use Rattle.sp_spec.specs.Rule.{Facts, facts_at, occurrences, InFacts}
 use Rattle.sp_spec.proofs.Lists.{every_from, every_parts}
 use Rattle.sp_spec.proofs.Occurrences.{occurrences_each, terms_each}
 use Rattle.sp_spec.proofs.Same.{same_variable_decides, same_fields}
-use Rattle.sp_law_forms.specs.Numbering.{seen, place, renumbered, numbered}
+use Rattle.sp_spec_forms.specs.Numbering.{seen, place, renumbered, numbered}
 use Rattle.sp_law_forms.specs.Laws.{IsNormalValuation}
 use Rattle.sp_law_forms.proofs.Repeats.{kept_for}
 use Rattle.sp_law_forms.proofs.Facts.{SameArgs, same_facts_at, after, facts_after, args_at, arguments_weaken}

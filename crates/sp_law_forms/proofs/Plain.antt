@@ -14,14 +14,14 @@ use Rattle.sp_law_equal.proofs.Plain.{plain_matches_none, normal_plain_all}
 use Rattle.sp_law_equal.proofs.Forms.{normals}
 use Rattle.sp_law_equal.proofs.Values.{normal_forms_same}
 use Rattle.sp_law_unify.proofs.Unique.{unifier_law}
-use Rattle.sp_law_conv.specs.Clash.{above, shifted}
-use Rattle.sp_law_forms.specs.Narrowing.{Chosen, if_unified, by_equation, choices, narrow, narrow_all}
+use Rattle.sp_spec_forms.specs.Shifted.{above, shifted}
+use Rattle.sp_spec_forms.specs.Narrowing.{Chosen, if_unified, by_equation, choices, narrow, narrow_all}
 use Rattle.sp_law_forms.proofs.Lists.{flat_map_none}
 use Rattle.sp_law_forms.proofs.Shifted.{shift, valued_shifted}
 
 module _ (es : List Equation) (good : HaveNormalForms es) where
   -- no values make an application of a symbol that is no destructor the same as a left side over other variables
-  pub no_instance : (f : List ℕ) (us : Terms Variable) (n : ℕ) (e : Equation) → Member e es → (IsDestructor es f → ⊥)
+  no_instance : (f : List ℕ) (us : Terms Variable) (n : ℕ) (e : Equation) → Member e es → (IsDestructor es f → ⊥)
       → (v : Values) → RespectsSorts v → valued v (shifted n e.left) ≡ app f (valued_all v us) → ⊥
   no_instance f us n e m other v r same =
       plain_matches_none es good f (valued_all v us) other e m (λ x. v (shift n x)) (λ x. r (shift n x)) (sym (valued_shifted n v e.left) ∙ same)

@@ -12,8 +12,8 @@ use Rattle.sp_law_equal.specs.Normal.{normal, normal_all}
 use Rattle.sp_law_equal.specs.Pointwise.{EachWith, AreSameFacts}
 use Rattle.sp_law_equal.proofs.Chains.{equal_sym, equal_all_valued, same_fact_trans, same_action_trans}
 use Rattle.sp_law_equal.proofs.Forms.{normals, normals_respect, to_normal}
-use Rattle.sp_law_forms.specs.Numbering.{Form}
-use Rattle.sp_law_forms.specs.Forms.{rule_variables, forms}
+use Rattle.sp_spec_forms.specs.Numbering.{Form}
+use Rattle.sp_spec_forms.specs.Forms.{rule_variables, forms}
 use Rattle.sp_law_forms.specs.Laws.{FormsKeepPremises}
 use Rattle.sp_law_forms.proofs.Plain.{premises_kept}
 use Rattle.sp_law_forms.proofs.Soundness.{sound_law}

@@ -7,9 +7,9 @@ use Rattle.sp_spec.specs.Signature.{Equation}
 use Rattle.sp_spec.specs.Substitution.{Binding, bound_to}
 use Rattle.sp_spec.specs.Unifier.{mgu}
 use Rattle.sp_spec.specs.Rule.{Facts, Rule, InFacts, facts_at}
-use Rattle.sp_law_forms.specs.Narrowing.{Chosen, narrow_facts}
-use Rattle.sp_law_forms.specs.Numbering.{Form, numbered}
-use Rattle.sp_law_forms.specs.Forms.{rule_variables, form_by, start, results, forms, is_normal_form, alike_form}
+use Rattle.sp_spec_forms.specs.Narrowing.{Chosen, narrow_facts}
+use Rattle.sp_spec_forms.specs.Numbering.{Form, numbered}
+use Rattle.sp_spec_forms.specs.Forms.{rule_variables, form_by, start, results, forms, is_normal_form, alike_form}
 use Rattle.sp_law_forms.proofs.Lists.{member_flat_mapped, member_filtered, member_passes}
 use Rattle.sp_law_forms.proofs.Repeats.{member_once}
 use Rattle.sp_law_forms.proofs.Numbered.{numbered_below}

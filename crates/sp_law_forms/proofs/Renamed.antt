@@ -10,7 +10,7 @@ use Rattle.sp_spec.proofs.Lists.{every_from}
 use Rattle.sp_spec.proofs.Bools.{same_tests}
 use Rattle.sp_spec.proofs.Occurrences.{occurrences_each}
 use Rattle.sp_spec.proofs.Same.{same_variable_decides}
-use Rattle.sp_law_forms.specs.Numbering.{without_repeats, seen, place, renumbered, numbered}
+use Rattle.sp_spec_forms.specs.Numbering.{without_repeats, seen, place, renumbered, numbered}
 use Rattle.sp_law_forms.proofs.Facts.{arguments_weaken, SameArgs, same_facts_at, after, facts_after}
 use Rattle.sp_law_forms.proofs.Numbered.{same_valued_all}
 

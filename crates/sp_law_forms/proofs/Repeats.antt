@@ -1,7 +1,7 @@
 -- Lists of which only the first of those that are the same are kept.
 use Rattle.std.proofs.Common.{◌≡◌, inl, inr, Bool, true, false, not, List, [], ◌∷◌, refl, ap, subst}
 use Rattle.sp_spec.specs.Lists.{Member}
-use Rattle.sp_law_forms.specs.Numbering.{without_repeats}
+use Rattle.sp_spec_forms.specs.Numbering.{without_repeats}
 use Rattle.sp_law_forms.proofs.Lists.{member_filter, member_filtered}
 
 module _ {A : Type 0} (same : A → A → Bool) where

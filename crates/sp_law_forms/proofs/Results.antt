@@ -10,9 +10,10 @@ use Rattle.sp_spec.proofs.Lists.{every_all, every_map, every_weaken}
 use Rattle.sp_law_equal.specs.NormalForms.{HaveNormalForms}
 use Rattle.sp_law_equal.specs.Normal.{normal_fact, normal_action, normal_facts}
 use Rattle.sp_law_equal.proofs.Forms.{are_normal}
-use Rattle.sp_law_conv.specs.Clash.{above_all}
-use Rattle.sp_law_forms.specs.Numbering.{Form}
-use Rattle.sp_law_forms.specs.Forms.{above_each, args_of, irreducible_all, is_normal_form, alike_form, results, forms}
+use Rattle.sp_spec_forms.specs.Shifted.{above_all}
+use Rattle.sp_spec_forms.specs.Numbering.{Form}
+use Rattle.sp_spec_forms.specs.Reducible.{args_of, irreducible_all}
+use Rattle.sp_spec_forms.specs.Forms.{above_each, is_normal_form, alike_form, results, forms}
 use Rattle.sp_law_forms.proofs.Lists.{every_of_map, member_filter, all_pass}
 use Rattle.sp_law_forms.proofs.Facts.{of_arguments}
 use Rattle.sp_law_forms.proofs.Repeats.{kept_for}
@@ -55,6 +56,6 @@ module _ (es : List Equation) (good : HaveNormalForms es) (w : Values) (sorts : 
         actions = normal_action_args f.actions z.actions (ap (λ g. g.actions) e);
         conclusions = normal_args f.conclusions z.conclusions (ap (λ g. g.conclusions) e);
       } in
-      all_pass (irreducible_all es form.count) (args_of f)
-      (every_weaken IsNormalAt (λ ts. irreducible_all es form.count ts ≡ true) (λ ts h. irreducible_all_if es w sorts form.count ts h) (args_of f)
+      all_pass (irreducible_all es) (args_of f)
+      (every_weaken IsNormalAt (λ ts. irreducible_all es ts ≡ true) (λ ts h. irreducible_all_if es w sorts ts h) (args_of f)
       (of_arguments IsNormalAt f args))

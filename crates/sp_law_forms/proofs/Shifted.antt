@@ -2,7 +2,7 @@
 use Rattle.std.proofs.Common.{◌≡◌, ℕ, ◌+◌, ◌≤◌, ◌<◌, refl, ◌∙◌}
 use Rattle.sp_spec.specs.Term.{Variable, Term, var, valued}
 use Rattle.sp_law_unify.proofs.Values.{valued_then}
-use Rattle.sp_law_conv.specs.Clash.{above, shifted}
+use Rattle.sp_spec_forms.specs.Shifted.{above, shifted}
 use Rattle.sp_law_conv.proofs.Apart.{valued_below}
 
 -- the values of the variables with numbers below n are the same

@@ -1,24 +1,29 @@
 -- A rule without destructors has one form: itself, numbered.
-use Rattle.std.proofs.Common.{◌≡◌, ℕ, true, not, cond, List, [], ◌∷◌, ◌++◌, map, None, refl, ap, ap₂, ◌∙◌}
+use Rattle.std.proofs.Common.{◌≡◌, ℕ, Bool, true, false, not, cond, List, [], ◌∷◌, ◌++◌, map, refl, sym, ap, ap₂, ◌∙◌}
 use Rattle.std.proofs.lemmas.Bool.{and_from}
 use Rattle.std.specs.List.{filter, flat_map, list_any}
 use Rattle.sp_spec.specs.Lists.{Member, Every}
-use Rattle.sp_spec.specs.Term.{Variable, Term, var, constant, name, app, Terms, none, more, valued, valued_all}
-use Rattle.sp_spec.specs.Signature.{Equation}
+use Rattle.sp_spec.specs.Term.{Variable, Term, var, constant, name, app, Terms, none, more, Values, valued, valued_all}
+use Rattle.sp_spec.specs.Signature.{Equation, HasSort}
 use Rattle.sp_spec.specs.Unifier.{mgu}
 use Rattle.sp_spec.specs.Rule.{OfArguments, Fact, Action, Facts, Rule}
 use Rattle.sp_law_equal.specs.Destructors.{IsDestructor, IsPlain, ArePlain}
 use Rattle.sp_law_equal.specs.NormalForms.{HaveNormalForms}
-use Rattle.sp_law_unify.proofs.Unique.{unifier_law}
-use Rattle.sp_law_conv.specs.Clash.{shifted}
+use Rattle.sp_law_equal.specs.Matching.{any_of}
+use Rattle.sp_law_equal.proofs.Matches.{any_has_sort}
+use Rattle.sp_law_equal.proofs.Plain.{plain_matches_none}
+use Rattle.sp_spec.proofs.Values.{valued-valued}
+use Rattle.sp_law_unify.proofs.Sorts.{ground_sorts, sort_of_value}
 use Rattle.sp_law_system.proofs.TermValues.{valued_var_all}
-use Rattle.sp_law_forms.specs.Narrowing.{Chosen, both, each, narrow_fact, narrow_action, narrow_facts}
-use Rattle.sp_law_forms.specs.Forms.{leaves, is_matched, irreducible, irreducible_all, is_normal_form, alike_form, args_of, form_by, results, forms}
-use Rattle.sp_law_forms.specs.Numbering.{Form, seen, place, renumbered, numbered, without_repeats}
+use Rattle.sp_spec_forms.specs.Narrowing.{Chosen, both, each, narrow_fact, narrow_action, narrow_facts}
+use Rattle.sp_spec_forms.specs.Reducible.{is_matched, irreducible, irreducible_all, args_of}
+use Rattle.sp_spec_forms.specs.Forms.{is_normal_form, alike_form, form_by, results, forms}
+use Rattle.sp_spec_forms.specs.Numbering.{Form, seen, place, renumbered, numbered, without_repeats}
 use Rattle.sp_law_forms.specs.Laws.{PlainRulesStay}
 use Rattle.sp_law_forms.proofs.Lists.{none_passes, all_pass}
-use Rattle.sp_law_forms.proofs.Plain.{no_instance, narrow_all_plain}
-use Rattle.sp_law_forms.proofs.Facts.{facts_itself, of_arguments, args_at}
+use Rattle.sp_law_forms.proofs.Plain.{narrow_all_plain}
+use Rattle.sp_law_forms.proofs.Matched.{matched_instance}
+use Rattle.sp_law_forms.proofs.Facts.{after, facts_itself, of_arguments, args_at}
 use Rattle.sp_law_forms.proofs.Proper.{begin, variables_of}
 
 module _ (es : List Equation) (good : HaveNormalForms es) where
@@ -54,25 +59,36 @@ module _ (es : List Equation) (good : HaveNormalForms es) where
       ∙ ap (λ qs. map (λ (q : Rest). (made f.premises q.0, q.1)) qs ++ []) rest_is
 
   -- no left side matches a term without destructors
-  not_there : (f : List ℕ) (us : Terms Variable) (n : ℕ) (e : Equation) → Member e es → (IsDestructor es f → ⊥) → mgu ((shifted n e.left, app f us) ∷ []) ≡ None
-  not_there f us n e m other = (unifier_law.none ((shifted n e.left, app f us) ∷ [])).1 (λ v s. no_instance es good f us n e m other v s.respects s.makes_same.0)
+  not_there : (f : List ℕ) (us : Terms Variable) (e : Equation) → Member e es → (IsDestructor es f → ⊥) → is_matched (app f us) e ≡ false
+  not_there f us e m other = by_test (is_matched (app f us) e) refl
+    where
+      some_values : Values
+      some_values x = any_of x.sort
+
+      by_test : (c : Bool) → is_matched (app f us) e ≡ c → c ≡ false
+      by_test false k = refl
+      by_test true k =
+          let i = matched_instance (app f us) e k in
+          absurd (plain_matches_none es good f (valued_all some_values us) other e m (after some_values i.0)
+          (λ x. sort_of_value HasSort ground_sorts some_values (λ y. any_has_sort y.sort) x.sort (i.0 x) (i.1 x))
+          (sym (valued-valued i.0 some_values e.left) ∙ ap (valued some_values) i.2))
 
   mutual
-    irreducible_plain : (n : ℕ) (s : Variable → Variable) (t : Term Variable) → IsPlain es t → irreducible es n (valued (λ x. var (s x)) t) ≡ true
-    irreducible_plain n s (var x) p = refl
-    irreducible_plain n s (constant c) p = refl
-    irreducible_plain n s (name k) p = refl
-    irreducible_plain n s (app f ts) p =
+    irreducible_plain : (s : Variable → Variable) (t : Term Variable) → IsPlain es t → irreducible es (valued (λ x. var (s x)) t) ≡ true
+    irreducible_plain s (var x) p = refl
+    irreducible_plain s (constant c) p = refl
+    irreducible_plain s (name k) p = refl
+    irreducible_plain s (app f ts) p =
         let us = valued_all (λ x. var (s x)) ts in
-        and_from (irreducible_all es n us) (not (list_any (is_matched n (app f us)) es)) (irreducible_all_plain n s ts p.1)
+        and_from (irreducible_all es us) (not (list_any (is_matched (app f us)) es)) (irreducible_all_plain s ts p.1)
         (ap not
-        (none_passes (is_matched n (app f us)) es
-        (λ e m. ap (leaves (app f us)) (not_there f us n e m p.0))))
+        (none_passes (is_matched (app f us)) es
+        (λ e m. not_there f us e m p.0)))
 
-    irreducible_all_plain : (n : ℕ) (s : Variable → Variable) (ts : Terms Variable) → ArePlain es ts → irreducible_all es n (valued_all (λ x. var (s x)) ts) ≡ true
-    irreducible_all_plain n s none p = refl
-    irreducible_all_plain n s (more t ts) p =
-        and_from (irreducible es n (valued (λ x. var (s x)) t)) (irreducible_all es n (valued_all (λ x. var (s x)) ts)) (irreducible_plain n s t p.0) (irreducible_all_plain n s ts p.1)
+    irreducible_all_plain : (s : Variable → Variable) (ts : Terms Variable) → ArePlain es ts → irreducible_all es (valued_all (λ x. var (s x)) ts) ≡ true
+    irreducible_all_plain s none p = refl
+    irreducible_all_plain s (more t ts) p =
+        and_from (irreducible es (valued (λ x. var (s x)) t)) (irreducible_all es (valued_all (λ x. var (s x)) ts)) (irreducible_plain s t p.0) (irreducible_all_plain s ts p.1)
 
   module _ (rule : Rule) (plain : OfArguments Plain rule.facts) where
     abbrev itself : Form
@@ -81,11 +97,11 @@ module _ (es : List Equation) (good : HaveNormalForms es) where
     itself_normal : is_normal_form es itself ≡ true
     itself_normal =
         let xs = seen rule.facts (variables_of rule) in
-        let Irreducible : Terms Variable → Type 0 = λ ts. irreducible_all es itself.count ts ≡ true in
-        all_pass (irreducible_all es itself.count) (args_of itself.facts)
+        let Irreducible : Terms Variable → Type 0 = λ ts. irreducible_all es ts ≡ true in
+        all_pass (irreducible_all es) (args_of itself.facts)
         (of_arguments Irreducible itself.facts
         (args_at (renumbered xs) Plain Irreducible
-        (λ ts p. irreducible_all_plain itself.count (λ x. record { sort = x.sort; number = place xs x }) ts p) rule.facts plain))
+        (λ ts p. irreducible_all_plain (λ x. record { sort = x.sort; number = place xs x }) ts p) rule.facts plain))
 
     one_result : results es rule ≡ itself ∷ []
     one_result =

@@ -10,8 +10,8 @@ use Rattle.sp_spec.specs.Rule.{Fact, Action, Facts, fact_at, action_at, facts_at
 use Rattle.sp_spec.proofs.Lists.{member_mapped}
 use Rattle.sp_law_equal.specs.Pointwise.{EachWith, AreSameFacts}
 use Rattle.sp_law_equal.proofs.Chains.{equal_trans, equal_app}
-use Rattle.sp_law_conv.specs.Clash.{above, shifted}
-use Rattle.sp_law_forms.specs.Narrowing.{Chosen, Ways, in_turn, both, each, if_unified, by_equation, choices, narrow, narrow_all, narrow_fact, narrow_action, narrow_facts}
+use Rattle.sp_spec_forms.specs.Shifted.{above, shifted}
+use Rattle.sp_spec_forms.specs.Narrowing.{Chosen, Ways, in_turn, both, each, if_unified, by_equation, choices, narrow, narrow_all, narrow_fact, narrow_action, narrow_facts}
 use Rattle.sp_law_forms.proofs.Shifted.{shift, valued_shifted}
 use Rattle.sp_law_forms.proofs.Lists.{member_flat_mapped}
 

@@ -7,14 +7,13 @@ use Rattle.sp_spec.specs.Substitution.{Binding, bound_to}
 use Rattle.sp_spec.specs.Unifier.{mgu}
 use Rattle.sp_spec.specs.Rule.{OfArguments, Facts, Rule, facts_at}
 use Rattle.sp_law_equal.specs.Pointwise.{AreSameFacts}
-use Rattle.sp_law_equal.specs.Right.{AreTermsOver}
-use Rattle.sp_law_conv.specs.Laws.{EquationsAreOver}
+use Rattle.sp_law_equal.specs.Right.{AreTermsOver, EquationsAreOver}
 use Rattle.sp_spec.proofs.Values.{valued_all-valued_all}
 use Rattle.sp_law_unify.specs.MostGeneral.{AreSolution}
 use Rattle.sp_law_unify.proofs.Unique.{unifier_law}
-use Rattle.sp_law_forms.specs.Narrowing.{Chosen, narrow_facts}
-use Rattle.sp_law_forms.specs.Forms.{form_by, results, forms}
-use Rattle.sp_law_forms.specs.Numbering.{Form, numbered, seen, place, renumbered}
+use Rattle.sp_spec_forms.specs.Narrowing.{Chosen, narrow_facts}
+use Rattle.sp_spec_forms.specs.Forms.{form_by, results, forms}
+use Rattle.sp_spec_forms.specs.Numbering.{Form, numbered, seen, place, renumbered}
 use Rattle.sp_law_forms.specs.Laws.{FormsAreSound}
 use Rattle.sp_law_forms.proofs.Over.{over_at, unifier_over}
 use Rattle.sp_law_forms.proofs.OverWays.{over_facts}

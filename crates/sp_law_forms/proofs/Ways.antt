@@ -5,7 +5,7 @@ use Rattle.sp_spec.specs.Term.{Values}
 use Rattle.sp_spec.specs.Unifier.{MakesSame}
 use Rattle.sp_spec.proofs.Lists.{member_map}
 use Rattle.sp_law_equal.specs.Pointwise.{EachWith}
-use Rattle.sp_law_forms.specs.Narrowing.{Chosen, Ways, in_turn, both, each}
+use Rattle.sp_spec_forms.specs.Narrowing.{Chosen, Ways, in_turn, both, each}
 use Rattle.sp_law_forms.proofs.Lists.{member_flat_map}
 use Rattle.sp_law_forms.proofs.Shifted.{AgreeBelow}
 

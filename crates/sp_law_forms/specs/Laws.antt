@@ -10,11 +10,11 @@ use Rattle.sp_law_equal.specs.NormalForms.{HaveNormalForms, HasNormalForms}
 use Rattle.sp_law_equal.specs.Destructors.{ArePlain}
 use Rattle.sp_law_equal.specs.Parts.{IsPartOfOne}
 use Rattle.sp_law_equal.specs.Pointwise.{AreSameFacts}
-use Rattle.sp_law_equal.specs.Right.{AreTermsOver}
+use Rattle.sp_law_equal.specs.Right.{AreTermsOver, EquationsAreOver}
 use Rattle.sp_law_equal.specs.RightTheory.{FactsArePlain}
-use Rattle.sp_law_conv.specs.Laws.{EquationsAreOver}
-use Rattle.sp_law_forms.specs.Numbering.{Form, numbered}
-use Rattle.sp_law_forms.specs.Forms.{args_of, is_normal_form, rule_variables, results, forms}
+use Rattle.sp_spec_forms.specs.Numbering.{Form, numbered}
+use Rattle.sp_spec_forms.specs.Reducible.{args_of}
+use Rattle.sp_spec_forms.specs.Forms.{is_normal_form, rule_variables, results, forms}
 
 -- each variable has a normal value of its sort
 abbrev pub IsNormalValuation : Signature → Values → Type 0

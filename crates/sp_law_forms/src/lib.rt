@@ -1,8 +1,8 @@
 // Laws of the forms of rules (their variants): each instance of a rule has as its normal form an instance of one of its forms, and the other way round.
 // Below stand sp_spec, sp_law_equal (normal forms), sp_law_unify (the unifier is most general) and sp_law_conv (terms with their variables renamed apart);
-// sp_law_run and sp_spec_formula say when facts and actions are the same, and sp_law_decide, sp_law_system and sp_law_formula have lemmas on values of terms.
+// sp_law_decide and sp_law_system have lemmas on values of terms.
 // Carried here: the forms are complete, sound, in normal form and each listed once, for equations over which each term has one normal form.
-// What the forms are stands in specs/Forms.antt, with specs/Narrowing.antt and specs/Numbering.antt, and each lemma in a file of proofs/ by its subject.
+// What the forms are stands in sp_spec_forms, and each lemma in a file of proofs/ by its subject.
 // The functions do nothing when they run: the one clause of each is a law.
 #![tactic(auto)]
 

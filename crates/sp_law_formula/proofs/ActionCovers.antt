@@ -1,17 +1,16 @@
 -- The cases of an action cover, and keep the numbers.
-use Rattle.std.proofs.Common.{◌≡◌, ◌<◌, ◌+◌, ℕ, Bool, true, false, if◌then◌else◌, List, [], ◌∷◌, map, length, Some, refl, sym, ap, ◌∙◌, subst, inl, inr, arith, nat_eq, codes, bytes_eq}
+use Rattle.std.proofs.Common.{◌≡◌, ◌<◌, ◌+◌, ℕ, Bool, true, false, if◌then◌else◌, List, [], ◌∷◌, map, Some, refl, sym, ap, ◌∙◌, subst, inl, inr, arith, nat_eq, codes, bytes_eq}
 use Rattle.std.proofs.lemmas.Bool.{eqb-true, or_left, or_right}
 use Rattle.std.proofs.lemmas.Slice.Eq.{bytes_eq-Decides}
-use Rattle.sp_spec.specs.Lists.{Member, Every, AtPosition}
-use Rattle.sp_spec.specs.Term.{Names, Variable, Values, AllMadeOf}
-use Rattle.sp_spec.specs.Signature.{IsValuation}
-use Rattle.sp_spec.specs.Equal.{IsNormal, AreNormal}
+use Rattle.sp_spec.specs.Lists.{Member, AtPosition}
+use Rattle.sp_spec.specs.Term.{Names, Variable, AllMadeOf}
+use Rattle.sp_spec.specs.Signature.{Equation}
+use Rattle.sp_spec.specs.Equal.{AreNormal}
 use Rattle.sp_spec.specs.Rule.{Action, Facts, Rule, action_at, facts_at, SameAction}
 use Rattle.sp_spec.specs.Theory.{Theory, signature_of}
 use Rattle.sp_spec.specs.Guarded.{Place, action_in}
-use Rattle.sp_spec.specs.Log.{Log, Entry, step, send, learn, IsLog, log_trace, entry_actions}
+use Rattle.sp_spec.specs.Log.{Log, Entry, Source, step, send, learn, IsLog, log_trace, entry_actions}
 use Rattle.sp_law_equal.specs.NormalForms.{HaveNormalForms, KeepSymbols}
-use Rattle.sp_law_equal.proofs.Forms.{normal_has_sort, normals}
 use Rattle.sp_spec_system.specs.System.{rule_step, Event, System, happening_actions}
 use Rattle.sp_spec_system.specs.Solutions.{Valuation, assignment, HappensIn, Solves}
 use Rattle.sp_spec_system.specs.Numbered.{InEvent, IsNumbered}
@@ -24,15 +23,15 @@ use Rattle.sp_law_system.proofs.Solutions.{Under, TimeUnder, agrees_itself}
 use Rattle.sp_spec_system.specs.Formulas.{freed_action}
 use Rattle.sp_spec_system.specs.MakingOne.{event_at}
 use Rattle.sp_spec_system.specs.Cases.{renamed, named}
+use Rattle.sp_spec_forms.specs.Numbering.{Form}
+use Rattle.sp_spec_forms.specs.Forms.{RuleForms, forms, forms_of}
 use Rattle.sp_spec_formula.specs.Action.{with_step, by_actions, by_each, is_adversary, by_forms}
-use Rattle.sp_law_system.specs.Rules.{RulesAreNumbered}
+use Rattle.sp_law_system.specs.Rules.{IsNumberedForm, FormsAreNumbered, FormsAreWhole}
 use Rattle.sp_law_system.specs.Proofs.{systems_of}
 use Rattle.sp_law_formula.proofs.Freed.{freed_action_value}
 use Rattle.sp_law_formula.proofs.Learnt.{entry_normal}
-use Rattle.sp_law_formula.proofs.Entries.{traced, happened, entry_is_step, step_action_normal, same_normal_action, plain_step, beside, beside_agrees}
-use Rattle.sp_law_formula.proofs.Actions.{named_systems, systems_append, by_actions_solved, step_numbered, step_solved}
-use Rattle.sp_spec_system.specs.Rules.{RuleForms, forms_of}
-use Rattle.sp_law_equal.specs.RightTheory.{RulesArePlain}
+use Rattle.sp_law_formula.proofs.Entries.{traced, happened, entry_is_step, step_action_normal, same_normal_action, IsFormStep, form_step, numbered_form, beside, beside_agrees}
+use Rattle.sp_law_formula.proofs.Actions.{named_systems, systems_append, by_actions_solved, renamed_value, step_numbered, step_solved}
 
 pub event_found : (i : ℕ) (es : List Event) (e : Event) → event_at i es ≡ Some e → Member e es × (e.time ≡ i)
 event_found i [] e h = absurd cc
@@ -43,37 +42,38 @@ event_found i (d ∷ es) e h = at (nat_eq d.time i) refl h (λ k. event_found i 
     at false k l later = let r = later l in (inr r.0, r.1)
 
 -- the cases of one form are among those of its rule
-by_forms_part : (theory : Theory) (log : Log) (v : Valuation) (n : ℕ) (forms : List Rule) (s : System) (i : ℕ) (a : Action Variable) (r : Rule) → Member r forms
-    → NoneSolved theory log v n (by_forms forms s i a) → NoneSolved theory log v n (by_actions (with_step s i r) a (renamed s.next r.facts).actions)
-by_forms_part theory log v n [] s i a r m none = absurd m
-by_forms_part theory log v n (q ∷ forms) s i a r m none =
-    at m (every_parts _ (by_actions (with_step s i q) a (renamed s.next q.facts).actions) (by_forms forms s i a) none) (λ k l. by_forms_part theory log v n forms s i a r k l)
+by_forms_part : (theory : Theory) (log : Log) (v : Valuation) (n : ℕ) (name : List ℕ) (forms : List Form) (s : System) (i : ℕ) (a : Action Variable) (form : Form) → Member form forms
+    → NoneSolved theory log v n (by_forms name forms s i a) → NoneSolved theory log v n (by_actions (with_step s i name form) a (renamed s.next form.facts).actions)
+by_forms_part theory log v n name [] s i a form m none = absurd m
+by_forms_part theory log v n name (q ∷ forms) s i a form m none =
+    at m (every_parts _ (by_actions (with_step s i name q) a (renamed s.next q.facts).actions) (by_forms name forms s i a) none) (λ k l. by_forms_part theory log v n name forms s i a form k l)
   where
-    at : Member r (q ∷ forms) → NoneSolved theory log v n (by_actions (with_step s i q) a (renamed s.next q.facts).actions) × NoneSolved theory log v n (by_forms forms s i a)
-        → (Member r forms → NoneSolved theory log v n (by_forms forms s i a) → NoneSolved theory log v n (by_actions (with_step s i r) a (renamed s.next r.facts).actions))
-        → NoneSolved theory log v n (by_actions (with_step s i r) a (renamed s.next r.facts).actions)
-    at (inl g) parts later = subst (λ (x : Rule). NoneSolved theory log v n (by_actions (with_step s i x) a (renamed s.next x.facts).actions)) g parts.0
+    at : Member form (q ∷ forms) → NoneSolved theory log v n (by_actions (with_step s i name q) a (renamed s.next q.facts).actions) × NoneSolved theory log v n (by_forms name forms s i a)
+        → (Member form forms → NoneSolved theory log v n (by_forms name forms s i a) → NoneSolved theory log v n (by_actions (with_step s i name form) a (renamed s.next form.facts).actions))
+        → NoneSolved theory log v n (by_actions (with_step s i name form) a (renamed s.next form.facts).actions)
+    at (inl g) parts later = subst (λ (x : Form). NoneSolved theory log v n (by_actions (with_step s i name x) a (renamed s.next x.facts).actions)) g parts.0
     at (inr k) parts later = later k parts.1
 
 -- and those of the rule among those of all
 by_each_part : (theory : Theory) (log : Log) (v : Valuation) (n : ℕ) (rules : List RuleForms) (s : System) (i : ℕ) (a : Action Variable) (rule : RuleForms) → Member rule rules
-    → NoneSolved theory log v n (systems_of (by_each rules s i a)) → NoneSolved theory log v n (by_forms rule.forms s i a)
+    → NoneSolved theory log v n (systems_of (by_each rules s i a)) → NoneSolved theory log v n (by_forms rule.name rule.forms s i a)
 by_each_part theory log v n [] s i a rule m none = absurd m
 by_each_part theory log v n (q ∷ rules) s i a rule m none =
-    at m (every_parts _ (systems_of (named q.name (by_forms q.forms s i a))) (systems_of (by_each rules s i a))
-    (subst (NoneSolved theory log v n) (systems_append (named q.name (by_forms q.forms s i a)) (by_each rules s i a)) none))
+    at m (every_parts _ (systems_of (named q.name (by_forms q.name q.forms s i a))) (systems_of (by_each rules s i a))
+    (subst (NoneSolved theory log v n) (systems_append (named q.name (by_forms q.name q.forms s i a)) (by_each rules s i a)) none))
     (λ k l. by_each_part theory log v n rules s i a rule k l)
   where
-    at : Member rule (q ∷ rules) → NoneSolved theory log v n (systems_of (named q.name (by_forms q.forms s i a))) × NoneSolved theory log v n (systems_of (by_each rules s i a))
-        → (Member rule rules → NoneSolved theory log v n (systems_of (by_each rules s i a)) → NoneSolved theory log v n (by_forms rule.forms s i a)) → NoneSolved theory log v n (by_forms rule.forms s i a)
-    at (inl g) parts later = subst (λ (x : RuleForms). NoneSolved theory log v n (by_forms x.forms s i a)) g (subst (NoneSolved theory log v n) (named_systems q.name (by_forms q.forms s i a)) parts.0)
+    at : Member rule (q ∷ rules) → NoneSolved theory log v n (systems_of (named q.name (by_forms q.name q.forms s i a))) × NoneSolved theory log v n (systems_of (by_each rules s i a))
+        → (Member rule rules → NoneSolved theory log v n (systems_of (by_each rules s i a)) → NoneSolved theory log v n (by_forms rule.name rule.forms s i a)) → NoneSolved theory log v n (by_forms rule.name rule.forms s i a)
+    at (inl g) parts later =
+        subst (λ (x : RuleForms). NoneSolved theory log v n (by_forms x.name x.forms s i a)) g (subst (NoneSolved theory log v n) (named_systems q.name (by_forms q.name q.forms s i a)) parts.0)
     at (inr k) parts later = later k parts.1
 
--- the cases of a rule of the theory are among those of all
-rule_part : (theory : Theory) (log : Log) (v : Valuation) (n : ℕ) (rules : List Rule) (s : System) (i : ℕ) (a : Action Variable) (r : Rule) → Member r rules
-    → NoneSolved theory log v n (systems_of (by_each (map forms_of rules) s i a)) → NoneSolved theory log v n (by_actions (with_step s i r) a (renamed s.next r.facts).actions)
-rule_part theory log v n rules s i a r m none =
-    by_forms_part theory log v n (r ∷ []) s i a r (inl refl) (by_each_part theory log v n (map forms_of rules) s i a (forms_of r) (member_map forms_of r rules m) none)
+-- the cases of a form of a rule of the theory are among those of all
+form_part : (theory : Theory) (log : Log) (v : Valuation) (n : ℕ) (es : List Equation) (rules : List Rule) (s : System) (i : ℕ) (a : Action Variable) (r : Rule) → Member r rules → (form : Form) → Member form (forms es r)
+    → NoneSolved theory log v n (systems_of (by_each (map (forms_of es) rules) s i a)) → NoneSolved theory log v n (by_actions (with_step s i r.name form) a (renamed s.next form.facts).actions)
+form_part theory log v n es rules s i a r m form k none =
+    by_forms_part theory log v n r.name (forms es r) s i a form k (by_each_part theory log v n (map (forms_of es) rules) s i a (forms_of es r) (member_map (forms_of es) r rules m) none)
 
 -- an action that isn't the adversary's stands at a step
 not_adversary : (symbol : List ℕ) → is_adversary symbol ≡ false → (symbol ≡ codes "K" → ⊥) × (symbol ≡ codes "KU" → ⊥)
@@ -82,8 +82,8 @@ not_adversary symbol e = (
   (λ k. cc (e, or_right (bytes_eq symbol (codes "K")) (bytes_eq symbol (codes "KU")) ((bytes_eq-Decides symbol (codes "KU")).1 k))),
 )
 
-module _ (N : Names) (right : UnifierIsRight) (theory : Theory) (good : HaveNormalForms (signature_of theory).equations) (keeps : KeepSymbols (signature_of theory).symbols (signature_of theory).equations)
-    (rules_numbered : RulesAreNumbered N theory.rules) (rules_plain : RulesArePlain (signature_of theory).equations theory.rules) where
+module _ (N : Names) (right : UnifierIsRight) (theory : Theory) (good : HaveNormalForms (signature_of theory).equations)
+    (forms_numbered : FormsAreNumbered N (map (forms_of (signature_of theory).equations) theory.rules)) (forms_whole : FormsAreWhole theory) where
   module _ (s : System) (n : IsNumbered N s) (f : Action Place) (a : Action Variable) (freed : freed_action f ≡ Some a) (i : ℕ) (i_under : i < s.next) (a_under : AllMadeOf N (Under s.next) a.args)
       (own : is_adversary f.symbol ≡ false) (log : Log) (is : IsLog theory log) (v : Valuation) (h : Solves theory log v s) where
     same_symbol : f.symbol ≡ a.symbol
@@ -107,10 +107,44 @@ module _ (N : Names) (right : UnifierIsRight) (theory : Theory) (good : HaveNorm
         let made = happening_made N (Under s.next) (TimeUnder s.next) e.happening under in
         by_actions_solved N right theory log s s.next v v (agrees_itself s.next v) n h a own_actions a_under made.actions b.0 b.1 e2 none
 
-    -- by a new step of the entry's rule
+    -- by a new step with these values
+    by_values_solved : (name : List ℕ) (form : Form) → IsNumberedForm N form → (value : Valuation) → Agrees s.next v value → Solves theory log value (with_step s i name form)
+        → (shown : Action ⊥) → Member shown (facts_at value.terms (renamed s.next form.facts)).actions → AreNormal (signature_of theory).equations shown.args
+        → AreNormal (signature_of theory).equations (action_in (assignment v) f).args → SameAction (signature_of theory).equations (action_in (assignment v) f) shown
+        → NoneSolved theory log v s.next (by_actions (with_step s i name form) a (renamed s.next form.facts).actions) → ⊥
+    by_values_solved name form form_under value ag solved shown m shown_normal normal_f same_f none =
+        let num = step_numbered N theory s name form i i_under form_under n in
+        let b = member_mapped (action_at value.terms) shown (renamed s.next form.facts).actions m in
+        let same = same_normal_action (signature_of theory).equations good (action_in (assignment v) f) shown normal_f shown_normal same_f in
+        let a_same : action_at value.terms a ≡ action_at v.terms a = action_same N value.terms v.terms a (each_weaken_all N (Under s.next) _ ag.terms a.args a_under) in
+        let e2 : action_at value.terms a ≡ action_at value.terms b.0 = a_same ∙ sym (freed_action_value (assignment v) f a freed) ∙ same ∙ sym b.2 in
+        let wide = each_weaken_all N (Under s.next) (Under (s.next + form.count)) (λ x l. omega (arith, l)) a.args a_under in
+        let own_actions = (every_parts _ s.events (record { time = i; happening = rule_step name (renamed s.next form.facts) } ∷ []) num.events).1.0.1.actions in
+        by_actions_solved N right theory log (with_step s i name form) s.next v value ag num solved a (renamed s.next form.facts).actions wide own_actions b.0 b.1 e2 none
+
+    -- by a form of the entry's rule
+    by_form_solved : (r : List ℕ) (facts : Facts ⊥) (sources : List Source) → AtPosition log (v.times i) (step r facts sources) → IsFormStep theory r facts
+        → (shown : Action ⊥) → Member shown facts.actions → AreNormal (signature_of theory).equations shown.args
+        → AreNormal (signature_of theory).equations (action_in (assignment v) f).args → SameAction (signature_of theory).equations (action_in (assignment v) f) shown
+        → NoneSolved theory log v s.next (systems_of (by_each (map (forms_of (signature_of theory).equations) theory.rules) s i a)) → ⊥
+    by_form_solved r facts sources k of shown m shown_normal normal_f same_f none =
+        let es = (signature_of theory).equations in
+        let form = of.form in
+        let name = of.rule.name in
+        let form_under = numbered_form N es theory.rules forms_numbered of.rule of.member form of.among in
+        let here : AtPosition log (v.times i) (step name (facts_at of.values form.facts) sources) =
+        subst (λ (g : Facts ⊥). AtPosition log (v.times i) (step name g sources)) of.is (subst (λ (q : List ℕ). AtPosition log (v.times i) (step q facts sources)) (sym of.named) k) in
+        let value : Valuation = beside s.next v of.values in
+        let facts_same : facts ≡ facts_at value.terms (renamed s.next form.facts) = of.is ∙ sym (renamed_value N s.next form form_under v of.values) in
+        by_values_solved name form form_under value (beside_agrees s.next v of.values)
+        (step_solved N theory s name form i i_under form_under log v h n of.values of.sorts of.normal sources here)
+        shown (subst (λ (g : Facts ⊥). Member shown g.actions) facts_same m) shown_normal normal_f same_f
+        (form_part theory log v s.next es theory.rules s i a of.rule of.member form of.among none)
+
+    -- by a new step
     pub new_step_solved : (shown : Action ⊥) → (actions : List (Action ⊥)) → AtPosition (log_trace log) (v.times i) actions → Member shown actions
         → AreNormal (signature_of theory).equations (action_in (assignment v) f).args → SameAction (signature_of theory).equations (action_in (assignment v) f) shown
-        → NoneSolved theory log v s.next (systems_of (by_each (map forms_of theory.rules) s i a)) → ⊥
+        → NoneSolved theory log v s.next (systems_of (by_each (map (forms_of (signature_of theory).equations) theory.rules) s i a)) → ⊥
     new_step_solved shown actions there m normal_f same_f none =
         at (traced log (v.times i) actions there).0 (traced log (v.times i) actions there).1 (subst (Member shown) (traced log (v.times i) actions there).2 m)
       where
@@ -123,41 +157,5 @@ module _ (N : Names) (right : UnifierIsRight) (theory : Theory) (good : HaveNorm
         at (learn t how) k (inl l) = (named_not own).1 (sym (ap (λ (x : Action ⊥). x.symbol) l))
         at (learn t how) k (inr l) = l
         at (step r facts sources) k l =
-            let es = (signature_of theory).equations in
             let is_step = entry_is_step theory log is (v.times i) r facts sources k in
-            let rule = is_step.0 in
-            let w : Values = normals es is_step.3 in
-            let numbered_r = every_member _ theory.rules rule is_step.1 rules_numbered in
-            let plain_r = every_member _ theory.rules rule is_step.1 rules_plain in
-            let same_facts : facts ≡ facts_at w rule.facts = plain_step es good is_step.3 rule.facts plain_r facts is_step.5 in
-            let sorts : IsValuation (signature_of theory) w = λ x. (normal_has_sort es x.sort (is_step.3 x) (is_step.4 x).0, keeps.kept (is_step.3 x) (is_step.4 x).1) in
-            let are_normal : (x : Variable) → IsNormal es (w x) = λ x. good.is_normal (is_step.3 x) in
-            let here : AtPosition log (v.times i) (step rule.name (facts_at w rule.facts) sources) =
-            subst (λ (g : Facts ⊥). AtPosition log (v.times i) (step rule.name g sources)) same_facts (subst (λ (q : List ℕ). AtPosition log (v.times i) (step q facts sources)) (sym is_step.2) k) in
-            let solved = step_solved N theory s rule i i_under numbered_r log v h n w sorts are_normal sources here in
-            let num = step_numbered N theory s rule i i_under numbered_r n in
-            let value : Valuation = beside s.next v w in
-            let event : HappensIn log value (record { time = i; happening = rule_step rule.name (renamed s.next rule.facts) }) =
-            (every_parts (HappensIn log value) s.events (record { time = i; happening = rule_step rule.name (renamed s.next rule.facts) } ∷ []) solved.events).1.0 in
-            let ag = beside_agrees s.next v w in
-            let time : value.times i ≡ v.times i = ag.times i i_under in
-            let one : step rule.name (facts_at value.terms (renamed s.next rule.facts)) event.0 ≡ step r facts sources =
-            position_one log (value.times i) _ (step r facts sources) event.1 (subst (λ (p : ℕ). AtPosition log p (step r facts sources)) (sym time) k) in
-            let entry_facts : facts_at value.terms (renamed s.next rule.facts) ≡ facts = cc in
-            let shown_in : Member shown (map (action_at value.terms) (renamed s.next rule.facts).actions) = subst (λ (g : Facts ⊥). Member shown g.actions) (sym entry_facts) l in
-            let b = member_mapped (action_at value.terms) shown (renamed s.next rule.facts).actions shown_in in
-            let shown_normal = step_action_normal theory r facts is_step shown l in
-            let same = same_normal_action es good (action_in (assignment v) f) shown normal_f shown_normal same_f in
-            let a_same : action_at value.terms a ≡ action_at v.terms a = agree_action s.next v value ag a a_under in
-            let e2 : action_at value.terms a ≡ action_at value.terms b.0 = a_same ∙ sym (freed_action_value (assignment v) f a freed) ∙ same ∙ sym b.2 in
-            by_actions_solved N right theory log (with_step s i rule) s.next v value ag num solved a (renamed s.next rule.facts).actions (wide rule) (step_actions_under rule num) b.0 b.1 e2
-            (rule_part theory log v s.next theory.rules s i a rule is_step.1 none)
-          where
-            agree_action : (k : ℕ) (v w : Valuation) → Agrees k v w → (a : Action Variable) → AllMadeOf N (Under k) a.args → action_at w.terms a ≡ action_at v.terms a
-            agree_action k v w ag a u = action_same N w.terms v.terms a (each_weaken_all N (Under k) _ ag.terms a.args u)
-
-            wide : (rule : Rule) → AllMadeOf N (Under (s.next + length rule.variables)) a.args
-            wide rule = each_weaken_all N (Under s.next) (Under (s.next + length rule.variables)) (λ x h. omega (arith, h)) a.args a_under
-
-            step_actions_under : (rule : Rule) → IsNumbered N (with_step s i rule) → Every (λ (b : Action Variable). AllMadeOf N (Under (with_step s i rule).next) b.args) (renamed s.next rule.facts).actions
-            step_actions_under rule num = (every_parts _ s.events (record { time = i; happening = rule_step rule.name (renamed s.next rule.facts) } ∷ []) num.events).1.0.1.actions
+            by_form_solved r facts sources k (form_step theory good forms_whole r facts is_step) shown l (step_action_normal theory r facts is_step shown l) normal_f same_f none

@@ -1,10 +1,10 @@
--- The move on an action covers: the entry at its time has the action, and it is the event's, or an instance of some rule.
-use Rattle.std.proofs.Common.{◌≡◌, ◌<◌, ◌+◌, ℕ, suc, List, [], ◌∷◌, ◌++◌, length, Option, Some, None, option_map, option_and_then, refl, sym, ap, ◌∙◌, subst, inl, inr, arith, codes, decimal}
+-- The move on an action covers: the entry at its time has the action, and it is the event's, or that of a form of some rule.
+use Rattle.std.proofs.Common.{◌≡◌, ◌<◌, ◌+◌, ℕ, suc, List, [], ◌∷◌, ◌++◌, Option, Some, None, option_map, option_and_then, refl, sym, ap, ◌∙◌, subst, inl, inr, arith, codes, decimal}
 use Rattle.sp_spec.specs.Lists.{Member, Every, AtPosition}
 use Rattle.sp_spec.specs.Term.{Names, Variable, var, Values, AllMadeOf}
 use Rattle.sp_spec.specs.Signature.{IsValue, IsValuation}
 use Rattle.sp_spec.specs.Equal.{IsNormal}
-use Rattle.sp_spec.specs.Rule.{Action, Facts, Rule, action_at, facts_at, FactsMadeOf}
+use Rattle.sp_spec.specs.Rule.{Action, Facts, action_at, facts_at, FactsMadeOf}
 use Rattle.sp_spec.specs.Theory.{Theory, signature_of}
 use Rattle.sp_spec.specs.Log.{Log, step, Source}
 use Rattle.sp_spec.specs.Substitution.{Binding, bound_to}
@@ -25,6 +25,8 @@ use Rattle.sp_spec_system.specs.Cases.{where_same, case_if, renamed, system_if, 
 use Rattle.sp_spec_formula.specs.Action.{at_event, with_step, by_actions}
 use Rattle.sp_law_system.specs.Proofs.{systems_of}
 use Rattle.sp_law_formula.proofs.Entries.{beside, beside_agrees, beside_new, each_beside}
+use Rattle.sp_spec_forms.specs.Numbering.{Form}
+use Rattle.sp_law_system.specs.Rules.{IsNumberedForm}
 use Rattle.sp_law_system.proofs.With.{events_solve, next_solves, events_numbered, next_numbered}
 
 -- the systems of named cases are those that were named
@@ -74,34 +76,35 @@ module _ (N : Names) (right : UnifierIsRight) (theory : Theory) (log : Log) wher
           let fixes = right.fixes p.pairs bindings there w.terms (λ x. (h.sorts x).0) p.same in
           l.0 w ag (change_solves N theory log w bindings fixes (λ i. i) (λ i. refl) s n h)
 
--- a new step of a rule
-module _ (N : Names) (theory : Theory) (s : System) (r : Rule) (i : ℕ) (i_under : i < s.next) (r_under : FactsMadeOf N (λ x. x.number < length r.variables) r.facts) where
-  renamed_under : FactsMadeOf N (Under (s.next + length r.variables)) (renamed s.next r.facts)
-  renamed_under = facts_valued N (λ x. x.number < length r.variables) (Under (s.next + length r.variables)) _ (λ x h. omega (arith, h)) r.facts r_under
+-- a form's facts with new variables have the values that were given to these
+pub renamed_value : (N : Names) (next : ℕ) (form : Form) → IsNumberedForm N form → (v : Valuation) (w : Values) → facts_at (beside next v w).terms (renamed next form.facts) ≡ facts_at w form.facts
+renamed_value N next form form_under v w =
+    facts_at-facts_at (λ x. var (record { sort = x.sort; number = next + x.number })) (beside next v w).terms form.facts
+    ∙ facts_same N _ w form.facts (facts_weaken N _ _ (λ x k. beside_new next v w x) form.facts form_under)
 
-  pub step_numbered : IsNumbered N s → IsNumbered N (with_step s i r)
+-- a new step by a form of a rule
+module _ (N : Names) (theory : Theory) (s : System) (name : List ℕ) (form : Form) (i : ℕ) (i_under : i < s.next) (form_under : IsNumberedForm N form) where
+  renamed_under : FactsMadeOf N (Under (s.next + form.count)) (renamed s.next form.facts)
+  renamed_under = facts_valued N (λ x. x.number < form.count) (Under (s.next + form.count)) _ (λ x h. omega (arith, h)) form.facts form_under
+
+  pub step_numbered : IsNumbered N s → IsNumbered N (with_step s i name form)
   step_numbered n =
-      let next = s.next + length r.variables in
-      let event : Event = record { time = i; happening = rule_step r.name (renamed s.next r.facts) } in
+      let next = s.next + form.count in
+      let event : Event = record { time = i; happening = rule_step name (renamed s.next form.facts) } in
       let m = next_numbered s n next (omega arith) in
       let time : i < next = omega (arith, i_under) in
       events_numbered (with_next s next) m (s.events ++ event ∷ []) (every_append (InEvent N (Under next) (TimeUnder next)) s.events (event ∷ []) m.events ((time, renamed_under), tt))
 
   module _ (log : Log) (v : Valuation) (h : Solves theory log v s) (n : IsNumbered N s) (w : Values) (sorts : IsValuation (signature_of theory) w) (are_normal : (x : Variable) → IsNormal (signature_of theory).equations (w x))
-      (sources : List Source) (there : AtPosition log (v.times i) (step r.name (facts_at w r.facts) sources)) where
-    renamed_value : facts_at (beside s.next v w).terms (renamed s.next r.facts) ≡ facts_at w r.facts
-    renamed_value =
-        facts_at-facts_at (λ x. var (record { sort = x.sort; number = s.next + x.number })) (beside s.next v w).terms r.facts
-        ∙ facts_same N _ w r.facts (facts_weaken N _ _ (λ x k. beside_new s.next v w x) r.facts r_under)
-
-    pub step_solved : Solves theory log (beside s.next v w) (with_step s i r)
+      (sources : List Source) (there : AtPosition log (v.times i) (step name (facts_at w form.facts) sources)) where
+    pub step_solved : Solves theory log (beside s.next v w) (with_step s i name form)
     step_solved =
         let a = beside_agrees s.next v w in
         let old = agree_solves theory log s v (beside s.next v w) n a
         (each_beside s.next v w (λ sort t. IsNormal (signature_of theory).equations t) h.normal are_normal) (each_beside s.next v w (IsValue (signature_of theory)) h.sorts sorts) h in
-        let here : AtPosition log ((beside s.next v w).times i) (step r.name (facts_at (beside s.next v w).terms (renamed s.next r.facts)) sources) =
-        subst (λ (f : Facts ⊥). AtPosition log ((beside s.next v w).times i) (step r.name f sources)) (sym renamed_value)
-        (subst (λ (p : ℕ). AtPosition log p (step r.name (facts_at w r.facts) sources)) (sym (a.times i i_under)) there) in
-        let event : Event = record { time = i; happening = rule_step r.name (renamed s.next r.facts) } in
+        let here : AtPosition log ((beside s.next v w).times i) (step name (facts_at (beside s.next v w).terms (renamed s.next form.facts)) sources) =
+        subst (λ (f : Facts ⊥). AtPosition log ((beside s.next v w).times i) (step name f sources)) (sym (renamed_value N s.next form form_under v w))
+        (subst (λ (p : ℕ). AtPosition log p (step name (facts_at w form.facts) sources)) (sym (a.times i i_under)) there) in
+        let event : Event = record { time = i; happening = rule_step name (renamed s.next form.facts) } in
         let events = every_append (HappensIn log (beside s.next v w)) s.events (event ∷ []) old.events ((sources, here), tt) in
-        next_solves theory log (beside s.next v w) (with_events s (s.events ++ event ∷ [])) (events_solve theory log (beside s.next v w) s old (s.events ++ event ∷ []) events) (s.next + length r.variables)
+        next_solves theory log (beside s.next v w) (with_events s (s.events ++ event ∷ [])) (events_solve theory log (beside s.next v w) s old (s.events ++ event ∷ []) events) (s.next + form.count)

@@ -1,25 +1,24 @@
--- What the log says of an entry: its actions, its rule, and the new event that stands for it.
+-- What the log says of an entry: its actions, its rule and its form, and the new event that stands for it.
 use Rattle.std.proofs.Common.{◌≡◌, ◌+◌, ◌-◌, ℕ, suc, Bool, true, false, if◌then◌else◌, List, [], ◌∷◌, map, length, refl, sym, ap, ◌∙◌, subst, inl, inr, arith, nat_lt, lt-ltb}
 use Rattle.std.proofs.lemmas.Bool.{ltb-true}
-use Rattle.sp_spec.specs.Lists.{Member, AtPosition}
-use Rattle.sp_spec.specs.Term.{Sort, Variable, Ground, Grounds, Values, valued}
-use Rattle.sp_spec.specs.Signature.{Equation}
-use Rattle.sp_spec.specs.Equal.{AreNormal}
-use Rattle.sp_spec.specs.Rule.{Fact, Action, Facts, fact_at, action_at, facts_at, SameAction, AreNormalActions, IsNormalFormOf}
+use Rattle.sp_spec.specs.Lists.{Every, Member, AtPosition}
+use Rattle.sp_spec.specs.Term.{Names, Sort, Variable, Ground, Grounds, Values, valued}
+use Rattle.sp_spec.specs.Signature.{Equation, IsValuation}
+use Rattle.sp_spec.specs.Equal.{IsNormal, AreNormal}
+use Rattle.sp_spec.specs.Rule.{Action, Facts, Rule, action_at, facts_at, SameAction, AreNormalActions}
 use Rattle.sp_spec.specs.Theory.{Theory, signature_of}
 use Rattle.sp_spec.specs.Log.{Log, Entry, step, send, learn, Source, entry_actions, log_trace, IsRuleInstance, rule_instance, IsLog}
 use Rattle.sp_spec.proofs.Logs.{entry_behind}
-use Rattle.sp_spec.proofs.Facts.{made_facts}
+use Rattle.sp_spec.proofs.Lists.{every_member, member_map}
+use Rattle.sp_spec_forms.specs.Numbering.{Form}
+use Rattle.sp_spec_forms.specs.Forms.{RuleForms, forms, forms_of}
 use Rattle.sp_law_equal.specs.NormalForms.{HaveNormalForms}
-use Rattle.sp_law_equal.specs.Normal.{normal_fact, normal_action}
-use Rattle.sp_law_equal.proofs.Forms.{normals}
 use Rattle.sp_law_equal.proofs.Values.{equal_all_normal_same}
-use Rattle.sp_law_equal.proofs.Facts.{facts_normal_form_only}
+use Rattle.sp_law_equal.proofs.Facts.{one_normal_form}
+use Rattle.sp_law_system.specs.Rules.{IsNumberedForm, FormsAreNumbered, FormsAreWhole}
 use Rattle.sp_spec_system.specs.System.{Happening, rule_step, sending, learning, happening_actions}
 use Rattle.sp_spec_system.specs.Solutions.{Valuation, how_at, HappensAt}
 use Rattle.sp_spec_system.specs.Covering.{Agrees}
-use Rattle.sp_law_equal.specs.RightTheory.{FactsArePlain}
-use Rattle.sp_law_equal.proofs.PlainFacts.{plain_facts, plain_actions}
 
 pub length_trace : (log : Log) → length (log_trace log) ≡ length log
 length_trace [] = refl
@@ -59,14 +58,38 @@ same_normal_action es good a b m n h =
     let make : List ℕ → Grounds → Action ⊥ = λ s ts. record { symbol = s; args = ts } in
     ap (λ (s : List ℕ). make s a.args) h.0 ∙ ap (λ (ts : Grounds). make b.symbol ts) e
 
--- The facts of a plain rule under values in normal form are the normal form of those under the values.
-module _ (es : List Equation) (good : HaveNormalForms es) (v : Values) where
-  pub plain_step : (facts : Facts Variable) → FactsArePlain es facts → (g : Facts ⊥) → IsNormalFormOf es (facts_at v facts) g → g ≡ facts_at (normals es v) facts
-  plain_step facts h g n =
-      facts_normal_form_only es good (facts_at v facts) g n
-      ∙ ap (λ (x : List (Fact ⊥)). made_facts x (map (normal_action es) (map (action_at v) facts.actions)) (map (normal_fact es) (map (fact_at v) facts.conclusions))) (plain_facts es good v facts.premises h.premises)
-      ∙ ap (λ (x : List (Action ⊥)). made_facts (map (fact_at (normals es v)) facts.premises) x (map (normal_fact es) (map (fact_at v) facts.conclusions))) (plain_actions es good v facts.actions h.actions)
-      ∙ ap (λ (x : List (Fact ⊥)). made_facts (map (fact_at (normals es v)) facts.premises) (map (action_at (normals es v)) facts.actions) x) (plain_facts es good v facts.conclusions h.conclusions)
+-- What a step of the log is: a form of a rule of its name, under normal values over the signature.
+pub record IsFormStep (theory : Theory) (r : List ℕ) (facts : Facts ⊥) : Type 0 where
+  pub rule : Rule
+  pub member : Member rule theory.rules
+  pub named : rule.name ≡ r
+  pub form : Form
+  pub among : Member form (forms (signature_of theory).equations rule)
+  pub values : Values
+  pub sorts : IsValuation (signature_of theory) values
+  pub normal : (x : Variable) → IsNormal (signature_of theory).equations (values x)
+  pub is : facts ≡ facts_at values form.facts
+
+pub form_step : (theory : Theory) → HaveNormalForms (signature_of theory).equations → FormsAreWhole theory → (r : List ℕ) (facts : Facts ⊥) → IsRuleInstance theory r facts → IsFormStep theory r facts
+form_step theory good whole r facts is =
+    let w = whole.each is.0 is.1 is.3 is.4 in
+    record {
+      rule = is.0;
+      member = is.1;
+      named = is.2;
+      form = w.0;
+      among = w.2;
+      values = w.1;
+      sorts = w.3;
+      normal = w.4;
+      is = one_normal_form (signature_of theory).equations good (facts_at is.3 is.0.facts) facts (facts_at w.1 w.0.facts) is.5 w.5;
+    }
+
+-- numbered as all of them
+pub numbered_form : (N : Names) (es : List Equation) (rules : List Rule) → FormsAreNumbered N (map (forms_of es) rules) → (r : Rule) → Member r rules → (form : Form) → Member form (forms es r) → IsNumberedForm N form
+numbered_form N es rules h r m form k =
+    every_member (IsNumberedForm N) (forms es r) form k
+    (every_member (λ (rule : RuleForms). Every (IsNumberedForm N) rule.forms) (map (forms_of es) rules) (forms_of es r) (member_map (forms_of es) r rules m) h)
 
 -- Values for the numbers from a next one on, beside those below it.
 pub beside : ℕ → Valuation → Values → Valuation

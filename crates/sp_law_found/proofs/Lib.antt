@@ -1,8 +1,10 @@
 pub mod Fitting
+pub mod Matched
 pub mod Given
-pub mod Plain
+pub mod Instances
+pub mod Alike
 pub mod Labels
 pub mod Premises
 pub mod FreshRuns
+pub mod Entries
 pub mod Runs
-pub mod Rules

@@ -1,25 +1,27 @@
 -- Each entry of a log of steps can be done as its rule, behind its fresh names, and what is kept along the log.
-use Rattle.std.proofs.Common.{◌≡◌, ⊎_elim, ℕ, zero, suc, ◌+◌, false, List, [], ◌∷◌, ◌++◌, length, Some, unwrap_or, inl, inr, refl, sym, ap, ◌∙◌, subst, arith}
+use Rattle.std.proofs.Common.{◌≡◌, ⊎_elim, ℕ, zero, suc, ◌+◌, false, List, [], ◌∷◌, ◌++◌, map, length, unwrap_or, inl, inr, refl, sym, ap, ap₂, ◌∙◌, subst, arith}
 use Rattle.sp_spec.specs.Lists.{Member, Distinct, AtPlace, AtPosition}
-use Rattle.sp_spec.proofs.Lists.{every_member, member_left, member_right, distinct_apart, distinct_left}
-use Rattle.sp_spec.specs.Term.{Ground, Values}
-use Rattle.sp_spec.specs.Signature.{Equation, IsValuation}
-use Rattle.sp_spec.specs.Rule.{Fact, Facts, Rule, facts_at, Gives}
+use Rattle.sp_spec.proofs.Lists.{member_left, member_right, distinct_apart, distinct_left}
+use Rattle.sp_spec.specs.Term.{Ground}
+use Rattle.sp_spec.specs.Signature.{Equation}
+use Rattle.sp_spec.specs.Rule.{Fact, Action, Facts}
 use Rattle.sp_spec.specs.Theory.{Theory, signature_of}
-use Rattle.sp_spec.specs.Execution.{use_rule, State, Takes, IsInstance, Leads, Runs, IsExecution}
-use Rattle.sp_spec.specs.Log.{Source, conclusion, Entry, step, send, learn, Log, Concludes, fresh_of, all_fresh_uses, linear_sources, all_sources, HasSources, IsRuleInstance, rule_instance, premise_sources, fresh_names_once, IsLog, visible_trace}
-use Rattle.sp_law_equal.proofs.Forms.{normals}
+use Rattle.sp_spec.specs.Execution.{use_rule, Trace, with_entry, Takes, Leads, Runs}
+use Rattle.sp_spec.specs.Log.{Source, conclusion, Entry, step, send, learn, Log, Concludes, fresh_of, all_fresh_uses, linear_sources, all_sources, HasSources, rule_instance, premise_sources, fresh_names_once, IsLog, visible_trace}
+use Rattle.sp_law_equal.specs.Normal.{normal_fact, normal_action}
+use Rattle.sp_law_equal.proofs.Forms.{to_normal_all}
+use Rattle.sp_law_run.specs.NormalStep.{normal_trace}
+use Rattle.sp_spec_forms.specs.Forms.{forms_of}
 use Rattle.sp_law_run.proofs.Taking.{map_append}
 use Rattle.sp_law_erase.specs.Adversary.{HasStepsAlone}
-use Rattle.sp_law_found.specs.Found.{matched_instance, bound_or_any, given_of, given_by, fresh_steps, execution_of}
+use Rattle.sp_law_found.specs.Found.{given_by, fresh_steps, execution_of}
+use Rattle.sp_law_found.specs.Laws.{IsExecutionWith}
 use Rattle.sp_law_found.specs.Executable.{IsExecutable}
-use Rattle.sp_law_found.proofs.Fitting.{instance_fits}
-use Rattle.sp_law_found.proofs.Given.{own_agree, own_valuation, given_gives, instance_gives}
-use Rattle.sp_law_found.proofs.Plain.{plain_instance, normal_valuation}
+use Rattle.sp_law_found.proofs.Alike.{AreAlike, alike_append, takes_alike}
+use Rattle.sp_law_found.proofs.Entries.{Found, found}
 use Rattle.sp_law_found.proofs.Labels.{Labelled, facts_in, labelled, labelled_facts, Taking, take_all}
-use Rattle.sp_law_found.proofs.Premises.{AreOfFresh, of_fresh, fresh_sorts, linear_member, premises_apart, HasConclusions, premises_there}
-use Rattle.sp_law_found.proofs.FreshRuns.{state_of, with_fresh, with_made, fresh_keeps, fresh_there, made_either, run_fresh}
-use Rattle.sp_law_equal.specs.RightTheory.{FactsArePlain, TakesFreshNames}
+use Rattle.sp_law_found.proofs.Premises.{fresh_sorts, linear_member, premises_apart, HasConclusions, premises_there}
+use Rattle.sp_law_found.proofs.FreshRuns.{state_of, with_fresh, with_made_facts, with_made, fresh_keeps, fresh_there, fresh_alike, made_either, run_fresh}
 
 -- the conclusions of the entry at position p, from the k-th on
 abbrev concluded : ℕ → ℕ → List (Fact ⊥) → List Labelled
@@ -40,49 +42,40 @@ concluded_there p k (g ∷ fs) zero n f e at =
     inl (ap (λ (h : Fact ⊥). concluded_label p h k) at ∙ ap (concluded_label p f) number)
 concluded_there p k (g ∷ fs) (suc j) n f e at = let number : n ≡ suc k + j = omega (arith, e) in inr (concluded_there p (suc k) fs j n f number at)
 
+-- ---- traces
+
+-- an entry's actions in normal form, on a trace
+entry_normal : (es : List Equation) (actions shown : List (Action ⊥)) (earlier before : Trace) → map (normal_action es) actions ≡ shown → normal_trace es earlier ≡ before
+    → normal_trace es (with_entry actions earlier) ≡ with_entry shown before
+entry_normal es [] [] earlier before same old = old
+entry_normal es [] (b ∷ shown) earlier before same old = absurd cc
+entry_normal es (a ∷ actions) [] earlier before same old = absurd cc
+entry_normal es (a ∷ actions) (b ∷ shown) earlier before same old = ap₂ (λ (x : List (Action ⊥)) (xs : Trace). x ∷ xs) same old
+
+-- facts are the same as their normal forms
+alike_normal : (es : List Equation) (fs : List (Fact ⊥)) → AreAlike es fs (map (normal_fact es) fs)
+alike_normal es [] = tt
+alike_normal es (f ∷ fs) = ((refl, refl, to_normal_all es f.args), alike_normal es fs)
+
 module _ (theory : Theory) (good : IsExecutable theory) where
   abbrev es : List Equation
   es = (signature_of theory).equations
 
-  -- the values that are found for an entry are those of an instance of its rule
-  record Found (r : List ℕ) (facts : Facts ⊥) : Type 0 where
-    values : Values
-    is_instance : IsInstance theory (use_rule r (unwrap_or (given_by theory.rules r facts) [])) values facts
-    valuation : IsValuation (signature_of theory) values
-    fresh : AreOfFresh facts.premises
-
-  found : (r : List ℕ) (facts : Facts ⊥) → IsRuleInstance theory r facts → Found r facts
-  found r facts (rule, member, named, v, valuation, normal) =
-      let w : Values = normals es v in
-      let over : IsValuation (signature_of theory) w = normal_valuation (signature_of theory) good.instances.keeps v valuation in
-      let plain = every_member (λ (q : Rule). FactsArePlain es q.facts) theory.rules rule member good.instances.plain in
-      let is : facts ≡ facts_at w rule.facts = plain_instance es good.instances.normal_forms v rule.facts plain facts normal in
-      let fit = instance_fits w (λ x. (over x).0) rule.facts in
-      let bs = fit.bindings in
-      let matched : matched_instance rule.facts facts ≡ Some bs = ap (matched_instance rule.facts) is ∙ fit.is in
-      let given : given_by theory.rules rule.name facts ≡ Some (given_of rule bs) = instance_gives theory.rules rule facts bs good.distinct member matched in
-      let values_are : unwrap_or (given_by theory.rules r facts) [] ≡ given_of rule bs =
-      ap (λ o. unwrap_or o []) (subst (λ (n : List ℕ). given_by theory.rules n facts ≡ Some (given_of rule bs)) named given) in
-      let gives = subst (λ (g : List (List ℕ × Ground)). Gives zero rule.variables g (bound_or_any bs)) (sym values_are) (given_gives zero rule.variables bs) in
-      let same : facts_at (bound_or_any bs) rule.facts ≡ facts_at w rule.facts = (fit.same (bound_or_any bs) (own_agree w bs fit.agree)).0 in
-      let fresh = every_member TakesFreshNames theory.rules rule member good.fresh in
-      record {
-        values = bound_or_any bs;
-        is_instance = (rule, member, named, gives, is ∙ sym same);
-        valuation = own_valuation (signature_of theory) w bs fit.agree over;
-        fresh = subst (λ (g : Facts ⊥). AreOfFresh g.premises) (sym is) (of_fresh w (λ x. (over x).0) rule.facts.premises fresh);
-      }
-
-  -- the log is an execution whose state has all its conclusions but those that were taken, and the names that were made are used
+  -- The log is an execution, whose trace has the log's as its normal form. Its state has, modulo the equations, all the log's conclusions but those that
+  -- were taken; and the names that were made are used.
   record Carried (log : Log) : Type 0 where
     state : List Labelled
+    actual : List (Fact ⊥)
+    alike : AreAlike es actual (facts_in state)
     made : List Ground
-    runs : Runs theory (execution_of theory log) (state_of state made) (visible_trace log)
+    trace : Trace
+    shown : normal_trace es trace ≡ visible_trace log
+    runs : Runs theory (execution_of theory log) (state_of actual made) trace
     has : HasConclusions log state
     used : (t : Ground) → Member t made → Member t (all_fresh_uses log)
 
   -- an entry behind a log that is carried
-  module _ (past : Log) (r : List ℕ) (facts : Facts ⊥) (os : List Source) (old : Carried past) (i : Found r facts) (sources : HasSources facts.premises os past)
+  module _ (past : Log) (r : List ℕ) (facts : Facts ⊥) (os : List Source) (old : Carried past) (i : Found theory good r facts) (sources : HasSources facts.premises os past)
       (fresh_once : Distinct (all_fresh_uses (step r facts os ∷ past))) (sources_once : Distinct (all_sources (step r facts os ∷ past))) where
     abbrev names : List Ground
     names = fresh_of facts.premises
@@ -93,15 +86,18 @@ module _ (theory : Theory) (good : IsExecutable theory) where
     abbrev state_before : List Labelled
     state_before = with_fresh names old.state
 
-    abbrev made : List Ground
-    made = with_made names old.made
+    abbrev actual_before : List (Fact ⊥)
+    actual_before = with_made_facts names old.actual
+
+    abbrev made_after : List Ground
+    made_after = with_made names old.made
 
     has_before : HasConclusions past state_before
     has_before = record { there = λ p k e f at con free. fresh_keeps names old.state (conclusion p k, f) (old.has.there p k e f at con free) }
 
-    runs_before : Runs theory (fresh_steps names ++ execution_of theory past) (state_of state_before made) (visible_trace past)
+    runs_before : Runs theory (fresh_steps names ++ execution_of theory past) (state_of actual_before made_after) old.trace
     runs_before =
-        run_fresh theory names (execution_of theory past) old.state old.made (visible_trace past) old.runs (fresh_sorts facts.premises i.fresh)
+        run_fresh theory names (execution_of theory past) old.actual old.made old.trace old.runs (fresh_sorts facts.premises i.fresh)
         (distinct_left names (all_fresh_uses past) fresh_once)
         (λ t m k. distinct_apart t names (all_fresh_uses past) fresh_once m (old.used t k))
 
@@ -119,22 +115,35 @@ module _ (theory : Theory) (good : IsExecutable theory) where
     abbrev state_after : List Labelled
     state_after = new ++ taking.left
 
-    facts_after : facts_in state_after ≡ facts.conclusions ++ facts_in taking.left
-    facts_after =
-        map_append (λ (x : Labelled). x.1) new taking.left
-        ∙ ap (λ (fs : List (Fact ⊥)). fs ++ facts_in taking.left) (concluded_facts (length past) zero facts.conclusions)
+    -- so the premises can be taken from the state itself
+    takes : (left : List (Fact ⊥)) × Takes es i.actual.premises actual_before left × AreAlike es left (facts_in taking.left)
+    takes =
+        let there : Takes es i.actual.premises (facts_in state_before) (facts_in taking.left) =
+        subst (λ (fs : List (Fact ⊥)). Takes es fs (facts_in state_before) (facts_in taking.left)) (labelled_facts past facts.premises os sources ∙ sym i.premises) taking.takes in
+        takes_alike es i.actual.premises actual_before (facts_in state_before) (facts_in taking.left) (fresh_alike es names old.actual old.state old.alike) there
 
-    leads : Leads theory (use_rule r (unwrap_or (given_by theory.rules r facts) [])) facts (state_of state_before made) (state_of state_after made)
+    abbrev actual_after : List (Fact ⊥)
+    actual_after = i.actual.conclusions ++ takes.0
+
+    alike_after : AreAlike es actual_after (facts_in state_after)
+    alike_after =
+        let same : facts.conclusions ++ facts_in taking.left ≡ facts_in state_after =
+        ap (λ (fs : List (Fact ⊥)). fs ++ facts_in taking.left) (sym (concluded_facts (length past) zero facts.conclusions))
+        ∙ sym (map_append (λ (x : Labelled). x.1) new taking.left) in
+        let conclusions : AreAlike es i.actual.conclusions facts.conclusions =
+        subst (λ (f : Facts ⊥). AreAlike es i.actual.conclusions f.conclusions) i.normal (alike_normal es i.actual.conclusions) in
+        subst (AreAlike es actual_after) same (alike_append es i.actual.conclusions facts.conclusions takes.0 (facts_in taking.left) conclusions takes.2)
+
+    leads : Leads theory (use_rule r (unwrap_or (given_by es (map (forms_of es) theory.rules) r facts) [])) i.actual (state_of actual_before made_after) (state_of actual_after made_after)
     leads = record {
       values = i.values;
-      rest = facts_in taking.left;
+      rest = takes.0;
       named = (i.is_instance.0, i.is_instance.1, i.is_instance.2);
       is_instance = i.is_instance;
-      takes =
-          subst (λ (fs : List (Fact ⊥)). Takes es fs (facts_in state_before) (facts_in taking.left)) (labelled_facts past facts.premises os sources) taking.takes;
+      takes = takes.1;
       is_new = tt;
       sorts = i.valuation;
-      adds = ap (λ (fs : List (Fact ⊥)). let s : State = record { facts = fs; made = made } in s) facts_after;
+      adds = refl;
     }
 
     -- a conclusion of the log before that no entry takes was not taken by this one
@@ -156,8 +165,12 @@ module _ (theory : Theory) (good : IsExecutable theory) where
     carried_step : Carried (step r facts os ∷ past)
     carried_step = record {
       state = state_after;
-      made = made;
-      runs = (state_of state_before made, visible_trace past, facts, runs_before, leads, refl);
+      actual = actual_after;
+      alike = alike_after;
+      made = made_after;
+      trace = with_entry i.actual.actions old.trace;
+      shown = entry_normal es i.actual.actions facts.actions old.trace (visible_trace past) (ap (λ (f : Facts ⊥). f.actions) i.normal) old.shown;
+      runs = (state_of actual_before made_after, old.trace, i.actual, runs_before, leads, refl);
       has = record {
         there = λ p k e f at con free. ⊎_elim (λ here. new_there p k e f here.0 here.1 con) (λ earlier. old_there p k e f earlier con free) at;
       };
@@ -166,12 +179,24 @@ module _ (theory : Theory) (good : IsExecutable theory) where
     }
 
   carried : (log : Log) → IsLog theory log → HasStepsAlone log → Carried log
-  carried [] is alone = record { state = []; made = []; runs = (refl, refl); has = record { there = λ p k e f at con free. absurd at }; used = λ t m. m }
+  carried [] is alone = record {
+    state = [];
+    actual = [];
+    alike = tt;
+    made = [];
+    trace = [];
+    shown = refl;
+    runs = (refl, refl);
+    has = record { there = λ p k e f at con free. absurd at };
+    used = λ t m. m;
+  }
   carried (step r facts os ∷ past) is alone =
       let s = is.1 premise_sources in
-      carried_step past r facts os (carried past is.0 alone.1) (found r facts (is.1 rule_instance)) s.0 (is.1 fresh_names_once) s.1
+      carried_step past r facts os (carried past is.0 alone.1) (found theory good r facts (is.1 rule_instance)) s.0 (is.1 fresh_names_once) s.1
   carried (send m ∷ past) is alone = absurd alone.0
   carried (learn m how ∷ past) is alone = absurd alone.0
 
-  pub log_runs : (log : Log) → IsLog theory log → HasStepsAlone log → IsExecution theory (execution_of theory log) (visible_trace log)
-  log_runs log is alone = let c = carried log is alone in (state_of c.state c.made, c.runs)
+  pub log_runs : (log : Log) → IsLog theory log → HasStepsAlone log → IsExecutionWith theory (execution_of theory log) (visible_trace log)
+  log_runs log is alone =
+      let c = carried log is alone in
+      record { trace = c.trace; executed = (state_of c.actual c.made, c.runs); is = c.shown }

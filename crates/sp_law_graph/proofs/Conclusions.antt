@@ -1,10 +1,10 @@
--- A rule's conclusions as sources of a premise: the one that has the premise's value solves its case.
-use Rattle.std.proofs.Common.{◌≡◌, ◌+◌, ℕ, zero, suc, Bool, true, false, List, [], ◌∷◌, length, Option, Some, None, option_map, option_and_then, refl, sym, ap, ◌∙◌, subst, arith, ◌&&◌, if◌then◌else◌}
+-- A form's conclusions as sources of a premise: the one that has the premise's value solves its case.
+use Rattle.std.proofs.Common.{◌≡◌, ◌+◌, ℕ, zero, suc, Bool, true, false, List, [], ◌∷◌, Option, Some, None, option_map, option_and_then, refl, sym, ap, ◌∙◌, subst, arith, ◌&&◌, if◌then◌else◌}
 use Rattle.std.proofs.lemmas.Slice.Eq.{bytes_eq-Decides}
 use Rattle.std.specs.Str.{bytes_eq}
 use Rattle.sp_spec.specs.Lists.{Every, AtPlace}
 use Rattle.sp_spec.specs.Term.{Names, Variable, Values, valued_all, AllMadeOf}
-use Rattle.sp_spec.specs.Rule.{Fact, Rule, fact_at}
+use Rattle.sp_spec.specs.Rule.{Fact, fact_at}
 use Rattle.sp_spec.specs.Theory.{Theory}
 use Rattle.sp_spec.specs.Log.{Log}
 use Rattle.sp_spec.specs.Substitution.{Binding, bound_to}
@@ -15,7 +15,9 @@ use Rattle.sp_spec_system.specs.Solutions.{Valuation, Solves}
 use Rattle.sp_spec_system.specs.Numbered.{IsNumbered}
 use Rattle.sp_spec_system.specs.Covering.{Agrees, NoneSolved}
 use Rattle.sp_law_system.specs.Laws.{UnifierIsRight}
-use Rattle.sp_spec_system.specs.Equating.{argument_pairs, same_flag, unifier_of, system_changed, fact_pair}
+use Rattle.sp_spec_forms.specs.Alike.{same_flag}
+use Rattle.sp_spec_forms.specs.Numbering.{Form}
+use Rattle.sp_spec_system.specs.Equating.{argument_pairs, unifier_of, system_changed, fact_pair}
 use Rattle.sp_law_system.proofs.Merging.{Paired, argument_paired, OptionUnder, flag_same, argument_under}
 use Rattle.sp_law_system.proofs.Solutions.{Under, change_solves, change_numbered}
 use Rattle.sp_spec_system.specs.Cases.{system_if, where_same_fact}
@@ -37,49 +39,49 @@ one_fact_under N n f g a b = at (bytes_eq f.symbol g.symbol && same_flag f.persi
     at true = argument_under N n f.args g.args a b
     at false = tt
 
-module _ (N : Names) (right : UnifierIsRight) (s : System) (i p : ℕ) (f : Fact Variable) (r : Rule) where
+module _ (N : Names) (right : UnifierIsRight) (s : System) (i p : ℕ) (f : Fact Variable) (name : List ℕ) (form : Form) where
   abbrev limit : ℕ
-  limit = suc s.next + length r.variables
+  limit = suc s.next + form.count
 
   -- each of the conclusions from a place on
-  pub conclusions_numbered : ((k : ℕ) → IsNumbered N (with_source s i p r k)) → AllMadeOf N (Under limit) f.args
-      → (k : ℕ) (gs : List (Fact Variable)) → Every (λ (g : Fact Variable). AllMadeOf N (Under limit) g.args) gs → Every (Later N s.next) (by_conclusions s i p f r k gs)
+  pub conclusions_numbered : ((k : ℕ) → IsNumbered N (with_source s i p name form k)) → AllMadeOf N (Under limit) f.args
+      → (k : ℕ) (gs : List (Fact Variable)) → Every (λ (g : Fact Variable). AllMadeOf N (Under limit) g.args) gs → Every (Later N s.next) (by_conclusions s i p f name form k gs)
   conclusions_numbered n a k [] b = tt
   conclusions_numbered n a k (g ∷ gs) b =
-      every_append _ (system_if (where_same_fact (with_source s i p r k) f g)) (by_conclusions s i p f r (suc k) gs)
+      every_append _ (system_if (where_same_fact (with_source s i p name form k) f g)) (by_conclusions s i p f name form (suc k) gs)
       (at (unifier_of (fact_pair f g)) refl) (conclusions_numbered n a (suc k) gs b.1)
     where
       at : (o : Option (List Binding)) → unifier_of (fact_pair f g) ≡ o
-          → Every (Later N s.next) (system_if (option_map (λ bs. system_changed (bound_to bs) (λ i. i) (with_source s i p r k)) o))
+          → Every (Later N s.next) (system_if (option_map (λ bs. system_changed (bound_to bs) (λ i. i) (with_source s i p name form k)) o))
       at None h = tt
       at (Some bs) h =
           let within = unifier_within N right limit (fact_pair f g) bs h (one_fact_under N limit f g a b.0) in
-          ((change_numbered N limit bs within (λ j. j) (λ j l. l) (with_source s i p r k) refl (n k), omega arith), tt)
+          ((change_numbered N limit bs within (λ j. j) (λ j l. l) (with_source s i p name form k) refl (n k), omega arith), tt)
 
-  module _ (theory : Theory) (log : Log) (base : ℕ) (v w : Valuation) (ag : Agrees base v w) (k : ℕ) (n : IsNumbered N (with_source s i p r k)) (h : Solves theory log w (with_source s i p r k))
+  module _ (theory : Theory) (log : Log) (base : ℕ) (v w : Valuation) (ag : Agrees base v w) (k : ℕ) (n : IsNumbered N (with_source s i p name form k)) (h : Solves theory log w (with_source s i p name form k))
       (a : AllMadeOf N (Under limit) f.args) where
     -- the conclusion has the premise's value
     one_solved : (g : Fact Variable) → AllMadeOf N (Under limit) g.args → fact_at w.terms f ≡ fact_at w.terms g
-        → NoneSolved theory log v base (system_if (where_same_fact (with_source s i p r k) f g)) → ⊥
+        → NoneSolved theory log v base (system_if (where_same_fact (with_source s i p name form k) f g)) → ⊥
     one_solved g b same none = at (one_fact_paired w.terms limit f g a b same) (unifier_of (fact_pair f g)) refl none
       where
         at : Paired N w.terms limit (fact_pair f g) → (o : Option (List Binding)) → unifier_of (fact_pair f g) ≡ o
-            → NoneSolved theory log v base (system_if (option_map (λ bs. system_changed (bound_to bs) (λ i. i) (with_source s i p r k)) o)) → ⊥
+            → NoneSolved theory log v base (system_if (option_map (λ bs. system_changed (bound_to bs) (λ i. i) (with_source s i p name form k)) o)) → ⊥
         at q None e l = right.none q.pairs (sym (ap (option_and_then mgu) q.there) ∙ e) w.terms (λ x. (h.sorts x).0) q.same
         at q (Some bs) e l =
             let there : mgu q.pairs ≡ Some bs = sym (ap (option_and_then mgu) q.there) ∙ e in
             let fixes = right.fixes q.pairs bs there w.terms (λ x. (h.sorts x).0) q.same in
-            l.0 w ag (change_solves N theory log w bs fixes (λ j. j) (λ j. refl) (with_source s i p r k) n h)
+            l.0 w ag (change_solves N theory log w bs fixes (λ j. j) (λ j. refl) (with_source s i p name form k) n h)
 
     -- it stands at a place behind the first
     pub conclusion_solved : (g : Fact Variable) → AllMadeOf N (Under limit) g.args → fact_at w.terms f ≡ fact_at w.terms g
-        → (first : ℕ) (gs : List (Fact Variable)) (place : ℕ) → AtPlace gs place g → k ≡ first + place → NoneSolved theory log v base (by_conclusions s i p f r first gs) → ⊥
+        → (first : ℕ) (gs : List (Fact Variable)) (place : ℕ) → AtPlace gs place g → k ≡ first + place → NoneSolved theory log v base (by_conclusions s i p f name form first gs) → ⊥
     conclusion_solved g b same first [] place there e none = there
     conclusion_solved g b same first (c ∷ gs) zero there e none =
         let here : first ≡ k = omega (arith, e) in
-        let one = (every_parts _ (system_if (where_same_fact (with_source s i p r first) f c)) (by_conclusions s i p f r (suc first) gs) none).0 in
+        let one = (every_parts _ (system_if (where_same_fact (with_source s i p name form first) f c)) (by_conclusions s i p f name form (suc first) gs) none).0 in
         one_solved g b same
-        (subst (λ (x : Fact Variable). NoneSolved theory log v base (system_if (where_same_fact (with_source s i p r k) f x))) there
-        (subst (λ (j : ℕ). NoneSolved theory log v base (system_if (where_same_fact (with_source s i p r j) f c))) here one))
+        (subst (λ (x : Fact Variable). NoneSolved theory log v base (system_if (where_same_fact (with_source s i p name form k) f x))) there
+        (subst (λ (j : ℕ). NoneSolved theory log v base (system_if (where_same_fact (with_source s i p name form j) f c))) here one))
     conclusion_solved g b same first (c ∷ gs) (suc place) there e none =
-        conclusion_solved g b same (suc first) gs place there (omega (arith, e)) (every_parts _ (system_if (where_same_fact (with_source s i p r first) f c)) (by_conclusions s i p f r (suc first) gs) none).1
+        conclusion_solved g b same (suc first) gs place there (omega (arith, e)) (every_parts _ (system_if (where_same_fact (with_source s i p name form first) f c)) (by_conclusions s i p f name form (suc first) gs) none).1

@@ -4,7 +4,7 @@ use Rattle.std.proofs.lemmas.Bool.{or_cases, and_parts, not-true}
 use Rattle.sp_spec.specs.Lists.{Member, Every, AtPlace, AtPosition}
 use Rattle.sp_spec.specs.Term.{Names, Sort, Fresh, Variable, Term, var, constant, name, app, Terms, none, more, Ground, Values, valued, valued_all}
 use Rattle.sp_spec.specs.Signature.{HasSort, RespectsSorts}
-use Rattle.sp_spec.specs.Rule.{Fact, Facts, fact_at, facts_at}
+use Rattle.sp_spec.specs.Rule.{Fact, fact_at, facts_at}
 use Rattle.sp_spec.specs.Theory.{Theory, signature_of}
 use Rattle.sp_spec.specs.Same.{alike}
 use Rattle.sp_spec.specs.Log.{Log, Entry, learn, way_of_learning, IsLog, is_fr, fresh_of, fresh_uses}
@@ -33,7 +33,8 @@ use Rattle.sp_law_graph.proofs.Origins.{HaveFresh, closed_step, fresh_origin}
 use Rattle.sp_law_formula.proofs.Matches.{some_picked}
 use Rattle.sp_spec.proofs.Sorts.{is_name}
 use Rattle.sp_law_system.proofs.With.{BothUnder, order_solves, order_numbered}
-use Rattle.sp_law_equal.specs.RightTheory.{RulesArePlain}
+use Rattle.sp_law_equal.specs.Right.{HaveNoNames}
+use Rattle.sp_law_equal.specs.RightTheory.{HasPlainPremises}
 
 -- of each event that has the term in a premise other than an Fr, by what is missing
 missing_each : (P : ℕ × ℕ → Type 0) (order : List (ℕ × ℕ)) (i : ℕ) (t : Term Variable) (es : List Event)
@@ -126,13 +127,14 @@ own_sort theory log is p m a = (entry_behind theory log is p (learn m how.own_na
 happens_below : (log : Log) (v : Valuation) (p : ℕ) (h : Happening) → HappensAt log p v h → p < length log
 happens_below log v p h k = let d = happened log p v h k in position_below log p d.0 d.1
 
-module _ (theory : Theory) (good : HaveNormalForms (signature_of theory).equations) (rules_plain : RulesArePlain (signature_of theory).equations theory.rules) (rules_closed : Every IsClosedRule theory.rules) where
+module _ (theory : Theory) (good : HaveNormalForms (signature_of theory).equations) (nameless : HaveNoNames (signature_of theory).equations)
+    (premises_plain : Every (HasPlainPremises (signature_of theory).equations) theory.rules) (rules_closed : Every IsClosedRule theory.rules) where
   -- what is used as an Fr is a name
   used_name : (log : Log) → IsLog theory log → (v : Valuation) (p : ℕ) (a : Happening) (t : Term Variable) → HappensAt log p v a → Member t (happening_fresh a) → (n : ℕ) × (valued v.terms t ≡ name n)
   used_name log is v p (rule_step r f) t h m =
-      let c = closed_step theory good rules_plain rules_closed log is p r (facts_at v.terms f) h.0 h.1 in
+      let c = closed_step theory good nameless premises_plain rules_closed log is p r (facts_at v.terms f) h.0 h.1 in
       fresh_name c.values c.sorts c.rule.facts.premises c.closed.fresh (valued v.terms t)
-      (subst (λ (x : Facts ⊥). Member (valued v.terms t) (fresh_of x.premises)) c.is (fresh_member v.terms t f.premises m))
+      (subst (λ (x : List (Fact ⊥)). Member (valued v.terms t) (fresh_of x)) c.premises (fresh_member v.terms t f.premises m))
   used_name log is v p (sending u) t h m = absurd m
   used_name log is v p (learning u own_name) t h (inl e) = is_name (valued v.terms t) (subst (λ (x : Term Variable). HasSort Fresh (valued v.terms x)) e (own_sort theory log is p (valued v.terms u) h))
   used_name log is v p (learning u own_name) t h (inr m) = absurd m
@@ -148,7 +150,7 @@ module _ (theory : Theory) (good : HaveNormalForms (signature_of theory).equatio
       let w = taken_there t (happening_premises b) e in
       let y = premise_event log q v b k w.0 w.1 w.2 in
       let part : IsPartOfOne (name n.0) (valued_all v.terms w.1.args) = subst (λ (x : Ground). IsPartOfOne x (valued_all v.terms w.1.args)) n.1 (occurs_parts v.terms t w.1.args w.4) in
-      let o = fresh_origin theory good rules_plain rules_closed log is n.0 q y.0 y.1 y.2 y.3 w.0 (fact_at v.terms w.1) y.4 w.3 part in
+      let o = fresh_origin theory good nameless premises_plain rules_closed log is n.0 q y.0 y.1 y.2 y.3 w.0 (fact_at v.terms w.1) y.4 w.3 part in
       let one = one_position theory log is o.position p o.entry d.0 (name n.0) o.there d.1 o.uses (subst (λ (x : Ground). Member x (fresh_uses d.0)) n.1 d.2) in
       subst (λ (x : ℕ). x < q) one o.earlier
 

@@ -7,3 +7,4 @@ pub mod Origins
 pub mod Sources
 pub mod Waiting
 pub mod Two
+pub mod ReducibleEvent

@@ -3,7 +3,7 @@
 use Rattle.std.proofs.Common.{◌≡◌, ◌<◌, ℕ, zero, suc, Bool, true, false, if◌then◌else◌, List, [], ◌∷◌, map, refl, sym, ap, ◌∙◌, subst, inl, inr, ⊎_elim, arith, lt_trans}
 use Rattle.sp_spec.specs.Lists.{Member, Every, AtPlace, AtPosition}
 use Rattle.sp_spec.specs.Term.{MadeOf, AllMadeOf, Sort, Fresh, Pub, Variable, Term, var, constant, name, app, Terms, none, more, Ground, Values, valued, valued_all}
-use Rattle.sp_spec.specs.Signature.{HasSort, RespectsSorts}
+use Rattle.sp_spec.specs.Signature.{Equation, HasSort, RespectsSorts}
 use Rattle.sp_spec.specs.Rule.{Fact, Facts, Rule, fact_at, facts_at, in_of}
 use Rattle.sp_spec.specs.Theory.{Theory, signature_of}
 use Rattle.sp_spec.specs.Log.{Log, Entry, step, send, learn, Source, IsLog, Concludes, is_fr, fresh_of, fresh_uses, is_in}
@@ -13,10 +13,15 @@ use Rattle.sp_law_equal.specs.Parts.{IsPart, IsPartOfOne}
 use Rattle.sp_law_equal.proofs.Forms.{normals, normals_respect}
 use Rattle.sp_spec_graph.specs.Fresh.{first_term, fresh_terms}
 use Rattle.sp_law_system.specs.Rules.{IsClosedRule}
-use Rattle.sp_law_formula.proofs.Entries.{entry_is_step, plain_step}
+use Rattle.sp_law_equal.proofs.Facts.{facts_normal_form_only, facts_value}
+use Rattle.sp_law_equal.proofs.NormalNames.{normal_names_all}
+use Rattle.sp_law_equal.proofs.PlainFacts.{plain_facts}
+use Rattle.sp_law_formula.proofs.Entries.{entry_is_step}
 use Rattle.sp_law_graph.proofs.FreshOnce.{fresh_member}
 use Rattle.sp_law_graph.proofs.Sources.{place_mapped, every_place, source_there}
-use Rattle.sp_law_equal.specs.RightTheory.{FactsArePlain, RulesArePlain, StandsIn, StandsAmong, HasVariable, no_fresh_names}
+use Rattle.sp_law_equal.specs.Normal.{normal_fact, normal_facts}
+use Rattle.sp_law_equal.specs.Right.{HaveNoNames}
+use Rattle.sp_law_equal.specs.RightTheory.{HasPlainPremises, StandsIn, StandsAmong, HasVariable, no_fresh_names}
 
 module _ (v : Values) (n : ℕ) where
   -- a name that stands in the value of a term without names stands in that of one of its variables
@@ -86,31 +91,43 @@ module _ (v : Values) (sorts : RespectsSorts v) (fs : List (Fact Variable)) (hav
       let whole = in_fresh v n (v x.0) (subst (λ (s : Sort). HasSort s (v x.0)) x.1 (sorts x.0)) (⊎_elim (λ k. k) (λ k. absurd k) only) in
       subst (λ (t : Ground). Member t (fresh_of (map (fact_at v) fs))) whole (fresh_member v (var x.0) fs (fresh_there fs a f there e x.0 x.2))
 
-module _ (theory : Theory) (good : HaveNormalForms (signature_of theory).equations) (rules_plain : RulesArePlain (signature_of theory).equations theory.rules) (rules_closed : Every IsClosedRule theory.rules) where
-  -- a step is an instance of a closed rule
+-- a name in the normal form of an instance stands in the instance
+before_normal : (es : List Equation) → HaveNormalForms es → HaveNoNames es → (v : Values) (n : ℕ) (fs : List (Fact Variable)) (k : ℕ) (f : Fact ⊥) → AtPlace (map (normal_fact es) (map (fact_at v) fs)) k f
+    → IsPartOfOne (name n) f.args → (g : Fact Variable) × AtPlace fs k g × IsPartOfOne (name n) (valued_all v g.args)
+before_normal es good nameless v n [] k f there p = absurd there
+before_normal es good nameless v n (g ∷ fs) zero f there p = (g, refl, normal_names_all es good nameless n (valued_all v g.args) (subst (λ (d : Fact ⊥). IsPartOfOne (name n) d.args) (sym there) p))
+before_normal es good nameless v n (g ∷ fs) (suc k) f there p = before_normal es good nameless v n fs k f there p
+
+module _ (theory : Theory) (good : HaveNormalForms (signature_of theory).equations) (nameless : HaveNoNames (signature_of theory).equations)
+    (premises_plain : Every (HasPlainPremises (signature_of theory).equations) theory.rules) (rules_closed : Every IsClosedRule theory.rules) where
+  -- A step is the normal form of an instance of a closed rule, under normal values: its premises are those of the instance.
   pub record ClosedStep (facts : Facts ⊥) : Type 0 where
     pub rule : Rule
     pub closed : IsClosedRule rule
     pub values : Values
     pub sorts : RespectsSorts values
-    pub is : facts ≡ facts_at values rule.facts
+    pub premises : facts.premises ≡ map (fact_at values) rule.facts.premises
+    pub conclusions : facts.conclusions ≡ map (normal_fact (signature_of theory).equations) (map (fact_at values) rule.facts.conclusions)
 
   pub closed_step : (log : Log) → IsLog theory log → (q : ℕ) (r : List ℕ) (facts : Facts ⊥) (sources : List Source) → AtPosition log q (step r facts sources) → ClosedStep facts
   closed_step log is q r facts sources there =
       let s = entry_is_step theory log is q r facts sources there in
       let es = (signature_of theory).equations in
+      let own = s.0.facts in
+      let only : facts ≡ normal_facts es (facts_at s.3 own) = facts_normal_form_only es good (facts_at s.3 own) facts s.5 in
       record {
         rule = s.0;
         closed = every_member IsClosedRule theory.rules s.0 s.1 rules_closed;
         values = normals es s.3;
         sorts = normals_respect es s.3 (λ x. (s.4 x).0);
-        is = plain_step es good s.3 s.0.facts (every_member (λ (rule : Rule). FactsArePlain es rule.facts) theory.rules s.0 s.1 rules_plain) facts s.5;
+        premises = ap (λ (f : Facts ⊥). f.premises) only ∙ plain_facts es good s.3 own.premises (every_member (HasPlainPremises es) theory.rules s.0 s.1 premises_plain);
+        conclusions = ap (λ (f : Facts ⊥). f.conclusions) (only ∙ facts_value es good s.3 own);
       }
 
   -- no premise is an In
   no_input : (facts : Facts ⊥) → ClosedStep facts → (a : ℕ) (f : Fact ⊥) → AtPlace facts.premises a f → is_in f ≡ false
   no_input facts s a f there =
-      let r = place_mapped (fact_at s.values) s.rule.facts.premises a f (subst (λ (x : Facts ⊥). AtPlace x.premises a f) s.is there) in
+      let r = place_mapped (fact_at s.values) s.rule.facts.premises a f (subst (λ (x : List (Fact ⊥)). AtPlace x a f) s.premises there) in
       let own = every_place (λ (g : Fact Variable). is_in g ≡ false) s.rule.facts.premises a r.0 r.1 s.closed.inputs in
       subst (λ (g : Fact ⊥). is_in g ≡ false) r.2 own
 
@@ -124,21 +141,21 @@ module _ (theory : Theory) (good : HaveNormalForms (signature_of theory).equatio
 
   from_premise : (facts : Facts ⊥) → ClosedStep facts → (n k : ℕ) (f : Fact ⊥) → AtPlace facts.conclusions k f → IsPartOfOne (name n) f.args → From facts n
   from_premise facts s n k f there p =
+      let es = (signature_of theory).equations in
       let v = s.values in
       let own = s.rule.facts in
       let bound : Variable → Type 0 = λ x. (x.sort ≡ Pub → ⊥) → HasVariable x own.premises in
-      let c = place_mapped (fact_at v) own.conclusions k f (subst (λ (x : Facts ⊥). AtPlace x.conclusions k f) s.is there) in
-      let q : IsPartOfOne (name n) (valued_all v c.0.args) = subst (λ (g : Fact ⊥). IsPartOfOne (name n) g.args) (sym c.2) p in
-      let x = from_variables v n bound c.0.args (every_place (λ (g : Fact Variable). AllMadeOf no_fresh_names bound g.args) own.conclusions k c.0 c.1 s.closed.bound) q in
+      let c = before_normal es good nameless v n own.conclusions k f (subst (λ (x : List (Fact ⊥)). AtPlace x k f) s.conclusions there) p in
+      let x = from_variables v n bound c.0.args (every_place (λ (g : Fact Variable). AllMadeOf no_fresh_names bound g.args) own.conclusions k c.0 c.1 s.closed.bound) c.2 in
       let private = λ (e : x.0.sort ≡ Pub). in_public v n (v x.0) (subst (λ (z : Sort). HasSort z (v x.0)) e (s.sorts x.0)) x.2 in
       let r = in_premise v n x.0 x.2 own.premises (x.1 private) in
-      subst (λ (y : Facts ⊥). From y n) (sym s.is) (record {
+      record {
         place = r.0;
         fact = fact_at v r.1;
-        there = place_map (fact_at v) own.premises r.0 r.1 r.2;
+        there = subst (λ (z : List (Fact ⊥)). AtPlace z r.0 (fact_at v r.1)) (sym s.premises) (place_map (fact_at v) own.premises r.0 r.1 r.2);
         part = r.3;
-        used = λ e. fresh_used v s.sorts own.premises s.closed.fresh n r.0 r.1 r.2 e r.3;
-      })
+        used = λ e. subst (λ (z : List (Fact ⊥)). Member (name n) (fresh_of z)) (sym s.premises) (fresh_used v s.sorts own.premises s.closed.fresh n r.0 r.1 r.2 e r.3);
+      }
 
   -- an entry at an earlier position uses the Fr of the name
   pub record User (log : Log) (q n : ℕ) : Type 0 where

@@ -1,20 +1,18 @@
--- The move on a premise covers: the premise is what an earlier step concludes, and that step is an instance of some rule.
-use Rattle.std.proofs.Common.{◌≡◌, ◌<◌, ◌+◌, ℕ, suc, Bool, true, false, ◌||◌, if◌then◌else◌, List, [], ◌∷◌, length, Option, Some, None, option_and_then, refl, sym, ap, ◌∙◌, subst, inl, inr, arith, slice_get, map}
+-- The move on a premise covers: the premise is what an earlier step concludes, and that step is by a form of some rule.
+use Rattle.std.proofs.Common.{◌≡◌, ◌<◌, ◌+◌, ℕ, suc, Bool, true, false, ◌||◌, if◌then◌else◌, List, [], ◌∷◌, Option, Some, None, option_and_then, refl, sym, ap, ◌∙◌, subst, inl, inr, arith, slice_get, map}
 use Rattle.sp_spec.specs.Lists.{Member, Every, AtPlace, AtPosition}
-use Rattle.sp_spec.specs.Term.{Names, Variable, Grounds, Values, AllMadeOf}
-use Rattle.sp_spec.specs.Signature.{Equation, IsValuation}
-use Rattle.sp_spec.specs.Equal.{IsNormal}
-use Rattle.sp_spec.specs.Rule.{Fact, Facts, Rule, fact_at, facts_at, FactsMadeOf}
+use Rattle.sp_spec.specs.Term.{Names, Variable, Grounds, AllMadeOf}
+use Rattle.sp_spec.specs.Signature.{Equation}
+use Rattle.sp_spec.specs.Rule.{Fact, Facts, Rule, fact_at, facts_at}
 use Rattle.sp_spec.specs.Theory.{Theory, signature_of}
 use Rattle.sp_spec.specs.Log.{Log, Entry, step, send, learn, Source, conclusion, Concludes, IsLog, is_fr, is_in}
-use Rattle.sp_law_equal.specs.NormalForms.{HaveNormalForms, KeepSymbols}
-use Rattle.sp_law_equal.proofs.Forms.{normal_has_sort, normals}
+use Rattle.sp_law_equal.specs.NormalForms.{HaveNormalForms}
 use Rattle.sp_spec_system.specs.System.{happening_premises, Event, System}
 use Rattle.sp_spec_system.specs.Solutions.{Valuation, HappensIn, Solves}
 use Rattle.sp_spec_system.specs.Numbered.{InEvent, IsNumbered}
 use Rattle.sp_spec_system.specs.Covering.{Agrees, NoneSolved, Covers}
 use Rattle.sp_law_system.specs.Laws.{UnifierIsRight}
-use Rattle.sp_spec.proofs.Lists.{every_append, every_parts, every_member, position_one, place_got, member_map}
+use Rattle.sp_spec.proofs.Lists.{every_append, every_parts, every_member, place_got, member_map}
 use Rattle.sp_law_system.proofs.Facts.{valued_all_same}
 use Rattle.sp_law_system.proofs.Numbers.{each_weaken_all, happening_made}
 use Rattle.sp_law_system.proofs.Solutions.{Under, TimeUnder, agrees_then}
@@ -22,18 +20,17 @@ use Rattle.sp_spec_system.specs.MakingOne.{event_at}
 use Rattle.sp_spec_system.specs.Move.{Case}
 use Rattle.sp_spec_system.specs.Cases.{renamed, named}
 use Rattle.sp_spec_graph.specs.Premise.{awaiting, with_source, by_conclusions, by_each_source, premise_cases, is_linked, of_a_step, open_premise, source_forms}
-use Rattle.sp_law_system.specs.Rules.{RulesAreNumbered, FormsAreNumbered}
+use Rattle.sp_law_system.specs.Rules.{IsNumberedForm, FormsAreNumbered, FormsAreWhole}
 use Rattle.sp_law_system.specs.Proofs.{systems_of}
-use Rattle.sp_law_formula.proofs.Entries.{entry_is_step, plain_step, beside, beside_agrees}
-use Rattle.sp_law_formula.proofs.Actions.{named_systems, systems_append, step_numbered, step_solved}
+use Rattle.sp_law_formula.proofs.Entries.{entry_is_step, IsFormStep, form_step, numbered_form, beside, beside_agrees}
+use Rattle.sp_law_formula.proofs.Actions.{named_systems, systems_append, renamed_value, step_numbered, step_solved}
 use Rattle.sp_law_formula.proofs.ActionCovers.{event_found}
 use Rattle.sp_law_graph.proofs.Sources.{place_mapped, every_place, premise_event, source_there}
 use Rattle.sp_law_graph.proofs.Waiting.{timed, timed_agrees, timed_new, awaiting_numbered, awaiting_solved}
 use Rattle.sp_law_formula.proofs.Merged.{Later}
 use Rattle.sp_law_graph.proofs.Conclusions.{conclusions_numbered, conclusion_solved}
-use Rattle.sp_spec_system.specs.Rules.{RuleForms, forms_of}
-use Rattle.sp_law_system.proofs.Forms.{forms_numbered}
-use Rattle.sp_law_equal.specs.RightTheory.{RulesArePlain}
+use Rattle.sp_spec_forms.specs.Numbering.{Form}
+use Rattle.sp_spec_forms.specs.Forms.{RuleForms, forms, forms_of}
 
 -- An open premise: its event and its place, and what it is not.
 pub record OpenPremise (s : System) (i p : ℕ) (f : Fact Variable) : Type 0 where
@@ -85,51 +82,53 @@ premise_under {N} s n i p f o =
     (subst (λ (j : ℕ). j < s.next) o.at_time d.0, every_place _ (happening_premises o.event.happening) p f o.stands (happening_made N (Under s.next) (TimeUnder s.next) o.event.happening d.1).premises)
 
 -- the cases of one form are among those of its rule
-source_form_part : (theory : Theory) (log : Log) (v : Valuation) (n : ℕ) (forms : List Rule) (s : System) (i p : ℕ) (f : Fact Variable) (r : Rule) → Member r forms
-    → NoneSolved theory log v n (source_forms forms s i p f) → NoneSolved theory log v n (by_conclusions s i p f r 0 (renamed (suc s.next) r.facts).conclusions)
-source_form_part theory log v n [] s i p f r m none = absurd m
-source_form_part theory log v n (q ∷ forms) s i p f r m none =
-    at m (every_parts _ (by_conclusions s i p f q 0 (renamed (suc s.next) q.facts).conclusions) (source_forms forms s i p f) none) (λ k l. source_form_part theory log v n forms s i p f r k l)
+source_form_part : (theory : Theory) (log : Log) (v : Valuation) (n : ℕ) (name : List ℕ) (forms : List Form) (s : System) (i p : ℕ) (f : Fact Variable) (form : Form) → Member form forms
+    → NoneSolved theory log v n (source_forms name forms s i p f) → NoneSolved theory log v n (by_conclusions s i p f name form 0 (renamed (suc s.next) form.facts).conclusions)
+source_form_part theory log v n name [] s i p f form m none = absurd m
+source_form_part theory log v n name (q ∷ forms) s i p f form m none =
+    at m (every_parts _ (by_conclusions s i p f name q 0 (renamed (suc s.next) q.facts).conclusions) (source_forms name forms s i p f) none) (λ k l. source_form_part theory log v n name forms s i p f form k l)
   where
-    at : Member r (q ∷ forms) → NoneSolved theory log v n (by_conclusions s i p f q 0 (renamed (suc s.next) q.facts).conclusions) × NoneSolved theory log v n (source_forms forms s i p f)
-        → (Member r forms → NoneSolved theory log v n (source_forms forms s i p f) → NoneSolved theory log v n (by_conclusions s i p f r 0 (renamed (suc s.next) r.facts).conclusions))
-        → NoneSolved theory log v n (by_conclusions s i p f r 0 (renamed (suc s.next) r.facts).conclusions)
-    at (inl g) parts later = subst (λ (x : Rule). NoneSolved theory log v n (by_conclusions s i p f x 0 (renamed (suc s.next) x.facts).conclusions)) g parts.0
+    at : Member form (q ∷ forms) → NoneSolved theory log v n (by_conclusions s i p f name q 0 (renamed (suc s.next) q.facts).conclusions) × NoneSolved theory log v n (source_forms name forms s i p f)
+        → (Member form forms → NoneSolved theory log v n (source_forms name forms s i p f) → NoneSolved theory log v n (by_conclusions s i p f name form 0 (renamed (suc s.next) form.facts).conclusions))
+        → NoneSolved theory log v n (by_conclusions s i p f name form 0 (renamed (suc s.next) form.facts).conclusions)
+    at (inl g) parts later = subst (λ (x : Form). NoneSolved theory log v n (by_conclusions s i p f name x 0 (renamed (suc s.next) x.facts).conclusions)) g parts.0
     at (inr k) parts later = later k parts.1
 
 -- and those of the rule among those of all
 source_rule_part : (theory : Theory) (log : Log) (v : Valuation) (n : ℕ) (rules : List RuleForms) (s : System) (i p : ℕ) (f : Fact Variable) (rule : RuleForms) → Member rule rules
-    → NoneSolved theory log v n (systems_of (by_each_source rules s i p f)) → NoneSolved theory log v n (source_forms rule.forms s i p f)
+    → NoneSolved theory log v n (systems_of (by_each_source rules s i p f)) → NoneSolved theory log v n (source_forms rule.name rule.forms s i p f)
 source_rule_part theory log v n [] s i p f rule m none = absurd m
 source_rule_part theory log v n (q ∷ rules) s i p f rule m none =
-    at m (every_parts _ (systems_of (named q.name (source_forms q.forms s i p f))) (systems_of (by_each_source rules s i p f))
-    (subst (NoneSolved theory log v n) (systems_append (named q.name (source_forms q.forms s i p f)) (by_each_source rules s i p f)) none))
+    at m (every_parts _ (systems_of (named q.name (source_forms q.name q.forms s i p f))) (systems_of (by_each_source rules s i p f))
+    (subst (NoneSolved theory log v n) (systems_append (named q.name (source_forms q.name q.forms s i p f)) (by_each_source rules s i p f)) none))
     (λ k l. source_rule_part theory log v n rules s i p f rule k l)
   where
-    at : Member rule (q ∷ rules) → NoneSolved theory log v n (systems_of (named q.name (source_forms q.forms s i p f))) × NoneSolved theory log v n (systems_of (by_each_source rules s i p f))
-        → (Member rule rules → NoneSolved theory log v n (systems_of (by_each_source rules s i p f)) → NoneSolved theory log v n (source_forms rule.forms s i p f)) → NoneSolved theory log v n (source_forms rule.forms s i p f)
-    at (inl g) parts later = subst (λ (x : RuleForms). NoneSolved theory log v n (source_forms x.forms s i p f)) g (subst (NoneSolved theory log v n) (named_systems q.name (source_forms q.forms s i p f)) parts.0)
+    at : Member rule (q ∷ rules) → NoneSolved theory log v n (systems_of (named q.name (source_forms q.name q.forms s i p f))) × NoneSolved theory log v n (systems_of (by_each_source rules s i p f))
+        → (Member rule rules → NoneSolved theory log v n (systems_of (by_each_source rules s i p f)) → NoneSolved theory log v n (source_forms rule.name rule.forms s i p f))
+        → NoneSolved theory log v n (source_forms rule.name rule.forms s i p f)
+    at (inl g) parts later =
+        subst (λ (x : RuleForms). NoneSolved theory log v n (source_forms x.name x.forms s i p f)) g (subst (NoneSolved theory log v n) (named_systems q.name (source_forms q.name q.forms s i p f)) parts.0)
     at (inr k) parts later = later k parts.1
 
--- the cases of a rule of the theory are among those of all
-source_part : (theory : Theory) (log : Log) (v : Valuation) (n : ℕ) (rules : List Rule) (s : System) (i p : ℕ) (f : Fact Variable) (r : Rule) → Member r rules
-    → NoneSolved theory log v n (systems_of (by_each_source (map forms_of rules) s i p f)) → NoneSolved theory log v n (by_conclusions s i p f r 0 (renamed (suc s.next) r.facts).conclusions)
-source_part theory log v n rules s i p f r m none =
-    source_form_part theory log v n (r ∷ []) s i p f r (inl refl) (source_rule_part theory log v n (map forms_of rules) s i p f (forms_of r) (member_map forms_of r rules m) none)
+-- the cases of a form of a rule of the theory are among those of all
+source_part : (theory : Theory) (log : Log) (v : Valuation) (n : ℕ) (es : List Equation) (rules : List Rule) (s : System) (i p : ℕ) (f : Fact Variable) (r : Rule) → Member r rules → (form : Form) → Member form (forms es r)
+    → NoneSolved theory log v n (systems_of (by_each_source (map (forms_of es) rules) s i p f)) → NoneSolved theory log v n (by_conclusions s i p f r.name form 0 (renamed (suc s.next) form.facts).conclusions)
+source_part theory log v n es rules s i p f r m form k none =
+    source_form_part theory log v n r.name (forms es r) s i p f form k (source_rule_part theory log v n (map (forms_of es) rules) s i p f (forms_of es r) (member_map (forms_of es) r rules m) none)
 
 -- the system with a source
-module _ {N : Names} (theory : Theory) (s : System) (n : IsNumbered N s) (i : ℕ) (i_under : i < s.next) (p : ℕ) (r : Rule) (r_under : FactsMadeOf N (λ x. x.number < length r.variables) r.facts) where
-  source_numbered : (k : ℕ) → IsNumbered N (with_source s i p r k)
-  source_numbered k = step_numbered N theory (awaiting s i p k) r s.next (omega arith) r_under (awaiting_numbered s n i i_under p k)
+module _ {N : Names} (theory : Theory) (s : System) (n : IsNumbered N s) (i : ℕ) (i_under : i < s.next) (p : ℕ) (name : List ℕ) (form : Form) (form_under : IsNumberedForm N form) where
+  source_numbered : (k : ℕ) → IsNumbered N (with_source s i p name form k)
+  source_numbered k = step_numbered N theory (awaiting s i p k) name form s.next (omega arith) form_under (awaiting_numbered s n i i_under p k)
 
-  source_conclusions : Every (λ (g : Fact Variable). AllMadeOf N (Under (suc s.next + length r.variables)) g.args) (renamed (suc s.next) r.facts).conclusions
+  source_conclusions : Every (λ (g : Fact Variable). AllMadeOf N (Under (suc s.next + form.count)) g.args) (renamed (suc s.next) form.facts).conclusions
   source_conclusions = (every_parts _ s.events (_ ∷ []) (source_numbered 0).events).1.0.1.conclusions
 
-wide_premise : (N : Names) → (s : System) (r : Rule) (f : Fact Variable) → AllMadeOf N (Under s.next) f.args → AllMadeOf N (Under (suc s.next + length r.variables)) f.args
-wide_premise N s r f a = each_weaken_all N (Under s.next) (Under (suc s.next + length r.variables)) (λ x h. omega (arith, h)) f.args a
+wide_premise : (N : Names) → (s : System) (form : Form) (f : Fact Variable) → AllMadeOf N (Under s.next) f.args → AllMadeOf N (Under (suc s.next + form.count)) f.args
+wide_premise N s form f a = each_weaken_all N (Under s.next) (Under (suc s.next + form.count)) (λ x h. omega (arith, h)) f.args a
 
-module _ (N : Names) (right : UnifierIsRight) (theory : Theory) (good : HaveNormalForms (signature_of theory).equations) (keeps : KeepSymbols (signature_of theory).symbols (signature_of theory).equations)
-    (rules_numbered : RulesAreNumbered N theory.rules) (rules_plain : RulesArePlain (signature_of theory).equations theory.rules) where
+module _ (N : Names) (right : UnifierIsRight) (theory : Theory) (good : HaveNormalForms (signature_of theory).equations)
+    (forms_numbered : FormsAreNumbered N (map (forms_of (signature_of theory).equations) theory.rules)) (forms_whole : FormsAreWhole theory) where
   abbrev es : List Equation
   es = (signature_of theory).equations
 
@@ -137,73 +136,66 @@ module _ (N : Names) (right : UnifierIsRight) (theory : Theory) (good : HaveNorm
   module _ (s : System) (n : IsNumbered N s) (i p : ℕ) (f : Fact Variable) (i_under : i < s.next) (f_under : AllMadeOf N (Under s.next) f.args)
       (log : Log) (is : IsLog theory log) (v : Valuation) (h : Solves theory log v s) (q k : ℕ) (earlier : q < v.times i)
       (t : List ℕ) (taken : Facts ⊥) (takers : List Source) (taker_there : AtPosition log (v.times i) (step t taken takers)) (named_so : AtPlace takers p (conclusion q k)) where
-    abbrev before : Valuation
-    before = timed s.next q v
+    -- by a new step with these values
+    values_give : (name : List ℕ) (form : Form) → IsNumberedForm N form → (value : Valuation) → Agrees s.next v value → Solves theory log value (with_source s i p name form k)
+        → AtPlace (facts_at value.terms (renamed (suc s.next) form.facts)).conclusions k (fact_at v.terms f)
+        → NoneSolved theory log v s.next (by_conclusions s i p f name form 0 (renamed (suc s.next) form.facts).conclusions) → ⊥
+    values_give name form form_under value ag solved gives none =
+        let g = place_mapped (fact_at value.terms) (renamed (suc s.next) form.facts).conclusions k (fact_at v.terms f) gives in
+        let g_under = every_place _ (renamed (suc s.next) form.facts).conclusions k g.0 g.1 (source_conclusions theory s n i i_under p name form form_under) in
+        conclusion_solved N right s i p f name form theory log s.next v value ag k (source_numbered theory s n i i_under p name form form_under k) solved (wide_premise N s form f f_under) g.0 g_under
+        (agree_fact N s.next v value ag f f_under ∙ sym g.2) 0 (renamed (suc s.next) form.facts).conclusions k g.1 (omega arith) none
 
-    -- by an instance of that rule at these normal values
-    rule_gives : (r : Rule) → Member r theory.rules → (w : Values) → IsValuation (signature_of theory) w → ((x : Variable) → IsNormal es (w x)) → (sources : List Source)
-        → AtPosition log q (step r.name (facts_at w r.facts) sources) → AtPlace (facts_at w r.facts).conclusions k (fact_at v.terms f)
-        → NoneSolved theory log v s.next (systems_of (by_each_source (map forms_of theory.rules) s i p f)) → ⊥
-    rule_gives r member w sorts are_normal sources there gives none =
-        let r_under = every_member _ theory.rules r member rules_numbered in
-        let there_too = subst (λ (x : ℕ). AtPosition log x (step r.name (facts_at w r.facts) sources)) (sym (timed_new s.next q v)) there in
+    -- by a form of the entry's rule
+    form_gives : (r : List ℕ) (facts : Facts ⊥) (sources : List Source) → AtPosition log q (step r facts sources) → IsFormStep theory r facts → AtPlace facts.conclusions k (fact_at v.terms f)
+        → NoneSolved theory log v s.next (systems_of (by_each_source (map (forms_of es) theory.rules) s i p f)) → ⊥
+    form_gives r facts sources there of gives none =
+        let form = of.form in
+        let name = of.rule.name in
+        let form_under = numbered_form N es theory.rules forms_numbered of.rule of.member form of.among in
+        let before : Valuation = timed s.next q v in
+        let value : Valuation = beside (suc s.next) before of.values in
         let new_time : s.next < suc s.next = omega arith in
-        let solved : Solves theory log (beside (suc s.next) before w) (with_source s i p r k) =
-        step_solved N theory (awaiting s i p k) r s.next new_time r_under log before (awaiting_solved s n i i_under p k theory log v h q earlier t taken takers taker_there named_so)
-        (awaiting_numbered s n i i_under p k) w sorts are_normal sources there_too in
-        let value = beside (suc s.next) before w in
-        let reach = beside_agrees (suc s.next) before w in
-        let event = (every_parts (HappensIn log value) s.events (_ ∷ []) solved.events).1.0 in
-        let time : value.times s.next ≡ q = reach.times s.next new_time ∙ timed_new s.next q v in
-        given r r_under value (agrees_then s.next (suc s.next) v before value (omega arith) (timed_agrees s.next q v) reach) solved
-        (position_one log q (step r.name (facts_at value.terms (renamed (suc s.next) r.facts)) event.0) (step r.name (facts_at w r.facts) sources)
-        (subst (λ (x : ℕ). AtPosition log x (step r.name (facts_at value.terms (renamed (suc s.next) r.facts)) event.0)) time event.1) there)
-        gives (source_part theory log v s.next theory.rules s i p f r member none)
-      where
-        given : (r : Rule) → FactsMadeOf N (λ x. x.number < length r.variables) r.facts → (value : Valuation) → Agrees s.next v value → Solves theory log value (with_source s i p r k)
-            → {a b : List ℕ} {x y : List Source} {facts : Facts ⊥} → step a (facts_at value.terms (renamed (suc s.next) r.facts)) x ≡ step b facts y → AtPlace facts.conclusions k (fact_at v.terms f)
-            → NoneSolved theory log v s.next (by_conclusions s i p f r 0 (renamed (suc s.next) r.facts).conclusions) → ⊥
-        given r r_under value ag solved {a} {b} {x} {y} {facts} one gives none =
-            let same_facts : facts ≡ facts_at value.terms (renamed (suc s.next) r.facts) = cc in
-            let g = place_mapped (fact_at value.terms) (renamed (suc s.next) r.facts).conclusions k (fact_at v.terms f) (subst (λ (z : Facts ⊥). AtPlace z.conclusions k (fact_at v.terms f)) same_facts gives) in
-            let g_under = every_place _ (renamed (suc s.next) r.facts).conclusions k g.0 g.1 (source_conclusions theory s n i i_under p r r_under) in
-            conclusion_solved N right s i p f r theory log s.next v value ag k (source_numbered theory s n i i_under p r r_under k) solved (wide_premise N s r f f_under) g.0 g_under
-            (agree_fact N s.next v value ag f f_under ∙ sym g.2) 0 (renamed (suc s.next) r.facts).conclusions k g.1 (omega arith) none
+        let here : AtPosition log q (step name (facts_at of.values form.facts) sources) =
+        subst (λ (g : Facts ⊥). AtPosition log q (step name g sources)) of.is (subst (λ (o : List ℕ). AtPosition log q (step o facts sources)) (sym of.named) there) in
+        let there_too = subst (λ (x : ℕ). AtPosition log x (step name (facts_at of.values form.facts) sources)) (sym (timed_new s.next q v)) here in
+        let solved : Solves theory log value (with_source s i p name form k) =
+        step_solved N theory (awaiting s i p k) name form s.next new_time form_under log before (awaiting_solved s n i i_under p k theory log v h q earlier t taken takers taker_there named_so)
+        (awaiting_numbered s n i i_under p k) of.values of.sorts of.normal sources there_too in
+        let reach : Agrees (suc s.next) before value = beside_agrees (suc s.next) before of.values in
+        let facts_same : facts ≡ facts_at value.terms (renamed (suc s.next) form.facts) = of.is ∙ sym (renamed_value N (suc s.next) form form_under before of.values) in
+        values_give name form form_under value (agrees_then s.next (suc s.next) v before value (omega arith) (timed_agrees s.next q v) reach) solved
+        (subst (λ (z : Facts ⊥). AtPlace z.conclusions k (fact_at v.terms f)) facts_same gives)
+        (source_part theory log v s.next es theory.rules s i p f of.rule of.member form of.among none)
 
-    entry_gives : is_in f ≡ false → (e : Entry) → AtPosition log q e → Concludes e k (fact_at v.terms f) → NoneSolved theory log v s.next (systems_of (by_each_source (map forms_of theory.rules) s i p f)) → ⊥
+    entry_gives : is_in f ≡ false → (e : Entry) → AtPosition log q e → Concludes e k (fact_at v.terms f) → NoneSolved theory log v s.next (systems_of (by_each_source (map (forms_of es) theory.rules) s i p f)) → ⊥
     entry_gives no_in (send m) there gives none = let e : is_in f ≡ true = ap is_in gives.1 in cc
     entry_gives no_in (learn m how) there gives none = gives
     entry_gives no_in (step r facts sources) there gives none =
-        let is_step = entry_is_step theory log is q r facts sources there in
-        let rule = is_step.0 in
-        let w : Values = normals es is_step.3 in
-        let same_facts : facts ≡ facts_at w rule.facts = plain_step es good is_step.3 rule.facts (every_member _ theory.rules rule is_step.1 rules_plain) facts is_step.5 in
-        let sorts : IsValuation (signature_of theory) w = λ x. (normal_has_sort es x.sort (is_step.3 x) (is_step.4 x).0, keeps.kept (is_step.3 x) (is_step.4 x).1) in
-        rule_gives rule is_step.1 w sorts (λ x. good.is_normal (is_step.3 x)) sources
-        (subst (λ (g : Facts ⊥). AtPosition log q (step rule.name g sources)) same_facts (subst (λ (o : List ℕ). AtPosition log q (step o facts sources)) (sym is_step.2) there))
-        (subst (λ (g : Facts ⊥). AtPlace g.conclusions k (fact_at v.terms f)) same_facts gives) none
+        form_gives r facts sources there (form_step theory good forms_whole r facts (entry_is_step theory log is q r facts sources there)) gives none
 
-  source_forms_numbered : (forms : List Rule) → RulesAreNumbered N forms → (s : System) → IsNumbered N s → (i p : ℕ) (f : Fact Variable) → i < s.next → AllMadeOf N (Under s.next) f.args
-      → Every (Later N s.next) (source_forms forms s i p f)
-  source_forms_numbered [] k s n i p f iu fu = tt
-  source_forms_numbered (r ∷ forms) k s n i p f iu fu =
-      every_append (Later N s.next) (by_conclusions s i p f r 0 (renamed (suc s.next) r.facts).conclusions) (source_forms forms s i p f)
-      (conclusions_numbered N right s i p f r (source_numbered theory s n i iu p r k.0) (wide_premise N s r f fu) 0 (renamed (suc s.next) r.facts).conclusions (source_conclusions theory s n i iu p r k.0))
-      (source_forms_numbered forms k.1 s n i p f iu fu)
+  source_forms_numbered : (name : List ℕ) (forms : List Form) → Every (IsNumberedForm N) forms → (s : System) → IsNumbered N s → (i p : ℕ) (f : Fact Variable) → i < s.next → AllMadeOf N (Under s.next) f.args
+      → Every (Later N s.next) (source_forms name forms s i p f)
+  source_forms_numbered name [] k s n i p f iu fu = tt
+  source_forms_numbered name (form ∷ forms) k s n i p f iu fu =
+      every_append (Later N s.next) (by_conclusions s i p f name form 0 (renamed (suc s.next) form.facts).conclusions) (source_forms name forms s i p f)
+      (conclusions_numbered N right s i p f name form (source_numbered theory s n i iu p name form k.0) (wide_premise N s form f fu) 0 (renamed (suc s.next) form.facts).conclusions
+      (source_conclusions theory s n i iu p name form k.0))
+      (source_forms_numbered name forms k.1 s n i p f iu fu)
 
   by_each_source_numbered : (rules : List RuleForms) → FormsAreNumbered N rules → (s : System) → IsNumbered N s → (i p : ℕ) (f : Fact Variable) → i < s.next → AllMadeOf N (Under s.next) f.args
       → Every (Later N s.next) (systems_of (by_each_source rules s i p f))
   by_each_source_numbered [] k s n i p f iu fu = tt
   by_each_source_numbered (rule ∷ rules) k s n i p f iu fu =
-      let own = source_forms rule.forms s i p f in
+      let own = source_forms rule.name rule.forms s i p f in
       subst (Every (Later N s.next)) (sym (systems_append (named rule.name own) (by_each_source rules s i p f)))
       (every_append (Later N s.next) (systems_of (named rule.name own)) (systems_of (by_each_source rules s i p f))
-      (subst (Every (Later N s.next)) (sym (named_systems rule.name own)) (source_forms_numbered rule.forms k.0 s n i p f iu fu)) (by_each_source_numbered rules k.1 s n i p f iu fu))
+      (subst (Every (Later N s.next)) (sym (named_systems rule.name own)) (source_forms_numbered rule.name rule.forms k.0 s n i p f iu fu)) (by_each_source_numbered rules k.1 s n i p f iu fu))
 
-  open_numbered : (s : System) → IsNumbered N s → (i p : ℕ) (f : Fact Variable) → OpenPremise s i p f → Every (Later N s.next) (systems_of (by_each_source (map forms_of theory.rules) s i p f))
-  open_numbered s n i p f o = let u = premise_under s n i p f o in by_each_source_numbered (map forms_of theory.rules) (forms_numbered N theory.rules rules_numbered) s n i p f u.0 u.1
+  open_numbered : (s : System) → IsNumbered N s → (i p : ℕ) (f : Fact Variable) → OpenPremise s i p f → Every (Later N s.next) (systems_of (by_each_source (map (forms_of es) theory.rules) s i p f))
+  open_numbered s n i p f o = let u = premise_under s n i p f o in by_each_source_numbered (map (forms_of es) theory.rules) forms_numbered s n i p f u.0 u.1
 
-  open_covers : (s : System) → IsNumbered N s → (i p : ℕ) (f : Fact Variable) → OpenPremise s i p f → Covers theory s (systems_of (by_each_source (map forms_of theory.rules) s i p f))
+  open_covers : (s : System) → IsNumbered N s → (i p : ℕ) (f : Fact Variable) → OpenPremise s i p f → Covers theory s (systems_of (by_each_source (map (forms_of es) theory.rules) s i p f))
   open_covers s n i p f o = record {
     covers = λ log is v h none.
         let u = premise_under s n i p f o in
@@ -214,21 +206,21 @@ module _ (N : Names) (right : UnifierIsRight) (theory : Theory) (good : HaveNorm
   }
 
   -- The move on a premise keeps the numbers.
-  pub premise_numbered : (s : System) → IsNumbered N s → (i p : ℕ) (cs : List Case) → premise_cases (map forms_of theory.rules) s i p (open_premise s i p) ≡ Some cs → Every (Later N s.next) (systems_of cs)
+  pub premise_numbered : (s : System) → IsNumbered N s → (i p : ℕ) (cs : List Case) → premise_cases (map (forms_of es) theory.rules) s i p (open_premise s i p) ≡ Some cs → Every (Later N s.next) (systems_of cs)
   premise_numbered s n i p cs e = at (open_premise s i p) refl e
     where
-      at : (o : Option (Fact Variable)) → open_premise s i p ≡ o → premise_cases (map forms_of theory.rules) s i p o ≡ Some cs → Every (Later N s.next) (systems_of cs)
+      at : (o : Option (Fact Variable)) → open_premise s i p ≡ o → premise_cases (map (forms_of es) theory.rules) s i p o ≡ Some cs → Every (Later N s.next) (systems_of cs)
       at None k l = absurd cc
       at (Some f) k l =
-          let same : by_each_source (map forms_of theory.rules) s i p f ≡ cs = cc in
+          let same : by_each_source (map (forms_of es) theory.rules) s i p f ≡ cs = cc in
           subst (λ (x : List Case). Every (Later N s.next) (systems_of x)) same (open_numbered s n i p f (opened_premise s i p f k))
 
   -- It covers.
-  pub premise_covers : (s : System) → IsNumbered N s → (i p : ℕ) (cs : List Case) → premise_cases (map forms_of theory.rules) s i p (open_premise s i p) ≡ Some cs → Covers theory s (systems_of cs)
+  pub premise_covers : (s : System) → IsNumbered N s → (i p : ℕ) (cs : List Case) → premise_cases (map (forms_of es) theory.rules) s i p (open_premise s i p) ≡ Some cs → Covers theory s (systems_of cs)
   premise_covers s n i p cs e = at (open_premise s i p) refl e
     where
-      at : (o : Option (Fact Variable)) → open_premise s i p ≡ o → premise_cases (map forms_of theory.rules) s i p o ≡ Some cs → Covers theory s (systems_of cs)
+      at : (o : Option (Fact Variable)) → open_premise s i p ≡ o → premise_cases (map (forms_of es) theory.rules) s i p o ≡ Some cs → Covers theory s (systems_of cs)
       at None k l = absurd cc
       at (Some f) k l =
-          let same : by_each_source (map forms_of theory.rules) s i p f ≡ cs = cc in
+          let same : by_each_source (map (forms_of es) theory.rules) s i p f ≡ cs = cc in
           subst (λ (x : List Case). Covers theory s (systems_of x)) same (open_covers s n i p f (opened_premise s i p f k))

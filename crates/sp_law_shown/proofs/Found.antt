@@ -5,13 +5,16 @@ use Rattle.sp_spec.specs.Lists.{Every, newest_first}
 use Rattle.sp_spec.specs.Signature.{Signature}
 use Rattle.sp_spec.specs.Theory.{Restriction, Lemma, Theory, signature_of}
 use Rattle.sp_spec.specs.Written.{WrittenTheory, theory_of}
-use Rattle.sp_spec.specs.Execution.{Trace, IsExecution}
+use Rattle.sp_spec.specs.Execution.{Trace}
 use Rattle.sp_spec.specs.Truth.{IsTrueOver}
 use Rattle.sp_spec.specs.Verdict.{MeetsRestrictions, IsBrokenBy, IsSatisfiedBy, IsBrokenByLog, IsSatisfiedByLog}
 use Rattle.sp_spec.specs.Guarded.{Guarded, GuardedHolds}
 use Rattle.sp_spec.specs.Log.{Entry, Log, log_trace, visible_trace}
 use Rattle.sp_law_truth.specs.Shown.{action_names}
+use Rattle.sp_law_truth.specs.Same.{EqualTraces}
 use Rattle.sp_law_truth.proofs.Shown.{equal_shown_same}
+use Rattle.sp_law_truth.proofs.EqualTraces.{equal_same}
+use Rattle.sp_law_truth.proofs.ActsAlike.{equal_assignment}
 use Rattle.sp_law_guard.specs.GuardedForm.{negate}
 use Rattle.sp_law_guard.specs.CheckedForm.{checked_form}
 use Rattle.sp_law_guard.proofs.Throughout.{throughout_weaken}
@@ -22,9 +25,12 @@ use Rattle.sp_law_decide.specs.Deciding.{assignment_of, decided, empty}
 use Rattle.sp_law_decide.specs.Normal.{CanDecide}
 use Rattle.sp_law_decide.proofs.ConstructorForms.{OfConstructors, constructors}
 use Rattle.sp_law_decide.proofs.Told.{told}
-use Rattle.sp_law_run.proofs.Over.{execution_over}
+use Rattle.sp_law_run.specs.Laws.{IsTraceOver}
+use Rattle.sp_law_run.proofs.Over.{normal_trace_over, execution_over}
 use Rattle.sp_law_found.specs.Found.{execution_of}
+use Rattle.sp_law_found.specs.Laws.{IsExecutionWith}
 use Rattle.sp_law_found.proofs.Runs.{log_runs}
+use Rattle.sp_spec_system.specs.Rules.{rules_of}
 use Rattle.sp_law_tree.specs.BasicTheory.{IsBasicFormula}
 use Rattle.sp_law_tree.proofs.Forms.{RightAtom, IsRight, right_negation, right_timed}
 use Rattle.sp_law_tree.proofs.PlacedForms.{form_right}
@@ -35,8 +41,7 @@ use Rattle.sp_law_shown.specs.Shown.{IsSearched, FoundBreaks, FoundSatisfies}
 use Rattle.sp_law_shown.specs.Laws.{FoundLogsShow}
 use Rattle.sp_law_shown.proofs.Executable.{executable, checkable}
 use Rattle.sp_law_shown.proofs.Learning.{basic_names_none, into_reading}
-use Rattle.sp_law_shown.proofs.Traces.{normal_trace, visible_equal}
-use Rattle.sp_law_tree.proofs.BasicOver.{basic_rules_over}
+use Rattle.sp_law_shown.proofs.Traces.{log_normal, normal_equal, visible_equal}
 use Rattle.sp_spec.proofs.Lists.{each_among}
 
 -- ---- truth
@@ -48,8 +53,15 @@ module _ (t : WrittenTheory) (s : IsSearched t) (log : Log) (is : IsLogOfSteps (
   abbrev signature : Signature
   signature = signature_of theory
 
-  executed : IsExecution theory (execution_of theory log) (visible_trace log)
+  executed : IsExecutionWith theory (execution_of theory log) (visible_trace log)
   executed = log_runs theory (executable t s) log is.0 is.1
+
+  -- what the log shows is over the signature
+  visible_over : IsTraceOver signature.symbols (visible_trace log)
+  visible_over =
+      subst (IsTraceOver signature.symbols) executed.is
+      (normal_trace_over signature.symbols signature.equations s.normal_forms.keeps executed.trace
+      (execution_over theory (checkable t s).over (execution_of theory log) executed.trace executed.executed))
 
   unrestricted : (trace : Trace) → MeetsRestrictions theory trace
   unrestricted trace = subst (λ (rs : List Restriction). Every (λ (r : Restriction). IsTrueOver signature trace r.formula) rs) (sym s.unrestricted) tt
@@ -59,7 +71,7 @@ module _ (t : WrittenTheory) (s : IsSearched t) (log : Log) (is : IsLogOfSteps (
     can_decide = record {
       normal_forms = s.normal_forms.normal_forms;
       keeps = s.normal_forms.keeps;
-      normal = normal_trace theory log is.0 is.1 (execution_over theory (basic_rules_over signature t.rules s.basic) (execution_of theory log) (visible_trace log) executed);
+      normal = log_normal theory log is.0 is.1 visible_over;
       constructors = constructors signature zero g (throughout_weaken (RightAtom signature) (OfConstructors signature) (λ n a h. h.0.2) zero g right.each);
       guarded = right.guarded;
     }
@@ -67,10 +79,17 @@ module _ (t : WrittenTheory) (s : IsSearched t) (log : Log) (is : IsLogOfSteps (
     over_log : decided (log_trace log) empty g ≡ true → GuardedHolds signature (log_trace log) (assignment_of empty) g
     over_log e = ((told (log_trace log) g).guarded signature can_decide).0 e
 
-    over_steps : decided (log_trace log) empty g ≡ true → GuardedHolds signature (visible_trace log) (assignment_of empty) g
-    over_steps e =
+    over_visible : decided (log_trace log) empty g ≡ true → GuardedHolds signature (visible_trace log) (assignment_of empty) g
+    over_visible e =
         (equal_shown_same signature (action_names g) (log_trace log) (visible_trace log) (visible_equal signature.equations (action_names g) log is.1)
         (assignment_of empty) g (right_timed signature g right) (each_among (action_names g) (action_names g) (λ x m. m))).0 (over_log e)
+
+    -- the execution's trace has what is visible as its normal form
+    over_steps : decided (log_trace log) empty g ≡ true → GuardedHolds signature executed.trace (assignment_of empty) g
+    over_steps e =
+        let m = assignment_of empty in
+        let equal = subst (EqualTraces signature.equations executed.trace) executed.is (normal_equal signature.equations executed.trace) in
+        (equal_same signature executed.trace (visible_trace log) equal m m (equal_assignment signature.equations m) g).1 (over_visible e)
 
   module _ (lemma : Lemma) (basic : IsBasicFormula signature lemma.formula) (g : Guarded) (form : checked_form lemma.formula ≡ Some g) where
     right : IsRight signature g
@@ -88,7 +107,7 @@ module _ (t : WrittenTheory) (s : IsSearched t) (log : Log) (is : IsLogOfSteps (
       executed = executed;
       in_reading =
           into_reading lemma (basic_names_none signature lemma.formula basic) (IsBrokenByLog theory lemma log) (IsBrokenBy theory lemma (execution_of theory log))
-          (visible_trace log, executed, unrestricted (visible_trace log), not_true (visible_trace log) (over_steps (negate g) (right_negation signature g right) e));
+          (executed.trace, executed.executed, unrestricted executed.trace, not_true executed.trace (over_steps (negate g) (right_negation signature g right) e));
     }
 
     satisfies : decided (log_trace log) empty g ≡ true → FoundSatisfies theory lemma log
@@ -97,10 +116,10 @@ module _ (t : WrittenTheory) (s : IsSearched t) (log : Log) (is : IsLogOfSteps (
       executed = executed;
       in_reading =
           into_reading lemma (basic_names_none signature lemma.formula basic) (IsSatisfiedByLog theory lemma log) (IsSatisfiedBy theory lemma (execution_of theory log))
-          (visible_trace log, executed, unrestricted (visible_trace log), (kept (visible_trace log)).1 (over_steps g right e));
+          (executed.trace, executed.executed, unrestricted executed.trace, (kept executed.trace).1 (over_steps g right e));
     }
 
-is_log_of_steps : (t : WrittenTheory) → IsSearched t → (entries : List Entry) → is_log (signature_of (theory_of t)) (theory_of t).rules entries ≡ true
+is_log_of_steps : (t : WrittenTheory) → IsSearched t → (entries : List Entry) → is_log (signature_of (theory_of t)) (rules_of (theory_of t)).forms entries ≡ true
     → IsLogOfSteps (theory_of t) (newest_first entries)
 is_log_of_steps t s entries e = (log_decides (theory_of t) (checkable t s) entries).0 e
 

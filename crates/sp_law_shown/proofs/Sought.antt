@@ -19,6 +19,7 @@ use Rattle.sp_law_tree.proofs.Forms.{IsRight, right_negation}
 use Rattle.sp_law_tree.proofs.PlacedForms.{form_right}
 use Rattle.sp_spec_system.specs.System.{Happening, rule_step, sending, learning, Event, Link, System}
 use Rattle.sp_spec_system.specs.Order.{is_cyclic}
+use Rattle.sp_spec_system.specs.Rules.{rules_of}
 use Rattle.sp_log.specs.Checking.{is_log}
 use Rattle.sp_log.specs.Meaning.{IsLogOfSteps}
 use Rattle.sp_log.proofs.Checks.{log_decides}
@@ -86,11 +87,11 @@ module _ (t : WrittenTheory) (searched : IsSearched t) (h : Guarded) (right : Is
       → (decided (log_trace (newest_first entries)) empty h ≡ true) ↔ GuardedHolds signature (log_trace (newest_first entries)) (assignment_of empty) h
   truly entries is = (told (log_trace (newest_first entries)) h).guarded signature (can_decide t searched (newest_first entries) is h right)
 
-  found_there : (log : Log) → found signature theory.rules constants h s ≡ Some log → IsSought log
+  found_there : (log : Log) → found signature (rules_of theory).forms constants h s ≡ Some log → IsSought log
   found_there log e =
-      let q = then_some (λ (entries : List Entry). kept_if (is_sought signature theory.rules h entries) entries) (candidate constants s) log e in
-      let k = kept_parts (is_sought signature theory.rules h q.0) q.0 log q.2 in
-      let both = and_parts (is_log signature theory.rules q.0) (decided (log_trace (newest_first q.0)) empty h) k.0 in
+      let q = then_some (λ (entries : List Entry). kept_if (is_sought signature (rules_of theory).forms h entries) entries) (candidate constants s) log e in
+      let k = kept_parts (is_sought signature (rules_of theory).forms h q.0) q.0 log q.2 in
+      let both = and_parts (is_log signature (rules_of theory).forms q.0) (decided (log_trace (newest_first q.0)) empty h) k.0 in
       let is = (log_decides theory (checkable t searched) q.0).0 both.0 in (
         q.0,
         q.1,
@@ -99,13 +100,13 @@ module _ (t : WrittenTheory) (searched : IsSearched t) (h : Guarded) (right : Is
         subst (λ (l : Log). GuardedHolds signature (log_trace l) (assignment_of empty) h) (sym k.1) ((truly q.0 is).0 both.1),
       )
 
-  sought_found : (log : Log) → IsSought log → found signature theory.rules constants h s ≡ Some log
+  sought_found : (log : Log) → IsSought log → found signature (rules_of theory).forms constants h s ≡ Some log
   sought_found log w =
       let newest : IsLog theory (newest_first w.0) = subst (IsLog theory) w.2 w.3 in
       let is : IsLogOfSteps theory (newest_first w.0) = (newest, every_newest IsStep w.0 (candidate_steps constants s w.0 w.1)) in
       let truth : GuardedHolds signature (log_trace (newest_first w.0)) (assignment_of empty) h = subst (λ (l : Log). GuardedHolds signature (log_trace l) (assignment_of empty) h) w.2 w.4 in
-      let passes = and_from (is_log signature theory.rules w.0) (decided (log_trace (newest_first w.0)) empty h) ((log_decides theory (checkable t searched) w.0).1 is) ((truly w.0 is).1 truth) in
-      ap (option_and_then (λ (entries : List Entry). kept_if (is_sought signature theory.rules h entries) entries)) w.1
+      let passes = and_from (is_log signature (rules_of theory).forms w.0) (decided (log_trace (newest_first w.0)) empty h) ((log_decides theory (checkable t searched) w.0).1 is) ((truly w.0 is).1 truth) in
+      ap (option_and_then (λ (entries : List Entry). kept_if (is_sought signature (rules_of theory).forms h entries) entries)) w.1
       ∙ ap (λ (b : Bool). kept_if b w.0) passes
       ∙ ap (λ (l : Log). Some l) (sym w.2)
 

@@ -11,8 +11,10 @@ use Rattle.sp_spec.specs.Log.{Log, step, send, learn, log_trace, visible_trace, 
 use Rattle.sp_law_truth.specs.Same.{EqualTraces}
 use Rattle.sp_law_truth.specs.Shown.{only_actions, shown}
 use Rattle.sp_law_decide.specs.Normal.{IsNormalAction, IsNormalTrace}
+use Rattle.sp_law_run.specs.NormalStep.{normal_trace}
 use Rattle.sp_law_run.specs.Laws.{IsTraceOver}
 use Rattle.sp_law_erase.specs.Adversary.{HasStepsAlone}
+use Rattle.sp_law_erase.proofs.Sources.{same_normal_actions}
 use Rattle.sp_law_truth.proofs.Itself.{trace_itself}
 
 -- ---- normal forms
@@ -45,14 +47,19 @@ trace_over symbols (step r facts os ∷ past) alone h =
 trace_over symbols (send m ∷ past) alone h = absurd alone.0
 trace_over symbols (learn m how ∷ past) alone h = absurd alone.0
 
-pub normal_trace : (theory : Theory) (log : Log) → IsLog theory log → HasStepsAlone log → IsTraceOver (signature_of theory).symbols (visible_trace log)
+pub log_normal : (theory : Theory) (log : Log) → IsLog theory log → HasStepsAlone log → IsTraceOver (signature_of theory).symbols (visible_trace log)
     → IsNormalTrace (signature_of theory) (log_trace log)
-normal_trace theory log h alone over =
+log_normal theory log h alone over =
     every_both (Every (λ (a : Action ⊥). AreNormal (signature_of theory).equations a.args)) (Every (λ (a : Action ⊥). AreOver (signature_of theory).symbols a.args))
     (Every (IsNormalAction (signature_of theory)))
     (λ entry n o. every_both (λ (a : Action ⊥). AreNormal (signature_of theory).equations a.args) (λ (a : Action ⊥). AreOver (signature_of theory).symbols a.args)
     (IsNormalAction (signature_of theory)) (λ a k l. (k, l)) entry n o)
     (log_trace log) (trace_normal theory log h alone) (trace_over (signature_of theory).symbols log alone over)
+
+-- a trace is equal to its normal form
+pub normal_equal : (es : List Equation) (trace : Trace) → EqualTraces es trace (normal_trace es trace)
+normal_equal es [] = tt
+normal_equal es (actions ∷ trace) = (same_normal_actions es actions, normal_equal es trace)
 
 -- ---- what is shown
 

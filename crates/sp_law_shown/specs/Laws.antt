@@ -11,6 +11,7 @@ use Rattle.sp_law_decide.specs.Deciding.{assignment_of, decided, empty}
 use Rattle.sp_spec.specs.Lists.{newest_first}
 use Rattle.sp_law_tree.specs.BasicTheory.{IsBasicFormula}
 use Rattle.sp_spec_system.specs.System.{System}
+use Rattle.sp_spec_system.specs.Rules.{rules_of}
 use Rattle.sp_log.specs.Checking.{is_log}
 use Rattle.sp_solved.specs.Candidate.{candidate}
 use Rattle.sp_solved.specs.Found.{found}
@@ -21,11 +22,11 @@ use Rattle.sp_law_shown.specs.Shown.{IsSearched, FoundBreaks, FoundSatisfies}
 pub record FoundLogsShow : Type 0 where
   pub breaks : (theory : WrittenTheory) → IsSearched theory → (lemma : Lemma) → IsBasicFormula (signature_of (theory_of theory)) lemma.formula
       → (g : Guarded) → checked_form lemma.formula ≡ Some g
-      → (entries : List Entry) → is_log (signature_of (theory_of theory)) (theory_of theory).rules entries ≡ true
+      → (entries : List Entry) → is_log (signature_of (theory_of theory)) (rules_of (theory_of theory)).forms entries ≡ true
       → decided (log_trace (newest_first entries)) empty (negate g) ≡ true → FoundBreaks (theory_of theory) lemma (newest_first entries)
   pub satisfies : (theory : WrittenTheory) → IsSearched theory → (lemma : Lemma) → IsBasicFormula (signature_of (theory_of theory)) lemma.formula
       → (g : Guarded) → checked_form lemma.formula ≡ Some g
-      → (entries : List Entry) → is_log (signature_of (theory_of theory)) (theory_of theory).rules entries ≡ true
+      → (entries : List Entry) → is_log (signature_of (theory_of theory)) (rules_of (theory_of theory)).forms entries ≡ true
       → decided (log_trace (newest_first entries)) empty g ≡ true → FoundSatisfies (theory_of theory) lemma (newest_first entries)
 
 -- A formula from which a proof begins: a lemma's guarded form, or its negation.
@@ -36,6 +37,6 @@ IsRootFormula signature h = (lemma : Lemma) × IsBasicFormula signature lemma.fo
 -- true, and it ends with that log.
 pub record FoundIsSought : Type 0 where
   pub exact : (theory : WrittenTheory) → IsSearched theory → (h : Guarded) → IsRootFormula (signature_of (theory_of theory)) h → (constants : List (List ℕ)) (s : System) (log : Log)
-      → (found (signature_of (theory_of theory)) (theory_of theory).rules constants h s ≡ Some log)
+      → (found (signature_of (theory_of theory)) (rules_of (theory_of theory)).forms constants h s ≡ Some log)
       ↔ ((entries : List Entry) × (candidate constants s ≡ Some entries) × (log ≡ newest_first entries) × IsLog (theory_of theory) log
       × GuardedHolds (signature_of (theory_of theory)) (log_trace log) (assignment_of empty) h)

@@ -5,14 +5,14 @@ use Rattle.sp_spec.specs.Lists.{Every, Distinct}
 use Rattle.sp_spec.specs.Theory.{Theory, Lemma, signature_of}
 use Rattle.sp_spec.specs.Written.{WrittenRule, WrittenTheory, theory_of}
 use Rattle.sp_spec.specs.Findings.{rule_is_wrong}
-use Rattle.sp_spec.specs.Execution.{IsExecution}
 use Rattle.sp_spec.specs.Log.{Log, visible_trace}
 use Rattle.sp_spec.specs.Verdict.{IsBrokenByLog, IsSatisfiedByLog, IsBrokenInReading, IsSatisfiedInReading}
 use Rattle.sp_law_equal.specs.NormalForms.{HasNormalForms}
 use Rattle.sp_law_found.specs.Found.{execution_of}
+use Rattle.sp_law_found.specs.Laws.{IsExecutionWith}
 use Rattle.sp_law_tree.specs.BasicTheory.{IsBasicRule}
 
--- A theory without findings, of basic rules, without restrictions, and whose terms have normal forms, as they have without equations of its own.
+-- A theory without findings, of basic rules, without restrictions, and whose terms have normal forms.
 pub record IsSearched (theory : WrittenTheory) : Type 0 where
   pub normal_forms : HasNormalForms (signature_of (theory_of theory))
   pub basic : Every (IsBasicRule (signature_of (theory_of theory))) theory.rules
@@ -20,14 +20,14 @@ pub record IsSearched (theory : WrittenTheory) : Type 0 where
   pub right : Every (λ (r : WrittenRule). rule_is_wrong r ≡ false) theory.rules
   pub unrestricted : theory.restrictions ≡ []
 
--- The log breaks the lemma; its steps are an execution with its visible trace, and where the lemma is read over executions they break it too.
+-- The log breaks the lemma; its steps are an execution whose trace has its visible trace as normal form, and where the lemma is read over executions they break it too.
 pub record FoundBreaks (theory : Theory) (lemma : Lemma) (log : Log) : Type 0 where
   pub by_log : IsBrokenByLog theory lemma log
-  pub executed : IsExecution theory (execution_of theory log) (visible_trace log)
+  pub executed : IsExecutionWith theory (execution_of theory log) (visible_trace log)
   pub in_reading : IsBrokenInReading theory lemma log (execution_of theory log)
 
--- The log satisfies the lemma; its steps are an execution with its visible trace, and where the lemma is read over executions they satisfy it too.
+-- The log satisfies the lemma; its steps are an execution whose trace has its visible trace as normal form, and where the lemma is read over executions they satisfy it too.
 pub record FoundSatisfies (theory : Theory) (lemma : Lemma) (log : Log) : Type 0 where
   pub by_log : IsSatisfiedByLog theory lemma log
-  pub executed : IsExecution theory (execution_of theory log) (visible_trace log)
+  pub executed : IsExecutionWith theory (execution_of theory log) (visible_trace log)
   pub in_reading : IsSatisfiedInReading theory lemma log (execution_of theory log)

@@ -11,4 +11,3 @@ pub mod Unchanged
 pub mod Unifier
 pub mod Unifying
 pub mod With
-pub mod Forms

@@ -9,7 +9,8 @@ use Rattle.sp_spec.specs.Unifier.{Pair, MakesSame}
 use Rattle.sp_spec_system.specs.System.{Happening, rule_step, sending, learning}
 use Rattle.sp_spec_system.specs.Numbered.{InHappening}
 use Rattle.sp_law_system.specs.Laws.{PairsUnder}
-use Rattle.sp_spec_system.specs.Equating.{argument_pairs, same_flag, both_pairs, fact_pairs, action_pair, action_pairs, merging_pairs}
+use Rattle.sp_spec_forms.specs.Alike.{same_flag}
+use Rattle.sp_spec_system.specs.Equating.{argument_pairs, both_pairs, fact_pairs, action_pair, action_pairs, merging_pairs}
 use Rattle.sp_spec.proofs.Lists.{every_append}
 use Rattle.sp_law_system.proofs.Solutions.{Under, TimeUnder}
 

@@ -10,11 +10,11 @@ use Rattle.sp_spec.specs.Rule.{Fact, Facts, fact_at}
 use Rattle.sp_spec.specs.Formula.{Written}
 use Rattle.sp_spec.specs.Written.{WrittenRule, in_term, in_terms, in_facts, in_actions, occurrences, rule_names, place_of, numbered_in, sort_in, rule_of}
 use Rattle.sp_spec.specs.Findings.{has_wide_fact, has_wide_action, has_two_sorts, has_wrong_premise, is_fr_named, has_fr, has_wrong_argument, is_pub, is_named, has_unbound, rule_is_wrong}
-use Rattle.sp_spec.proofs.Lists.{every_map}
+use Rattle.sp_spec.proofs.Lists.{every_map, every_weaken}
 use Rattle.sp_spec.specs.Log.{is_in}
 use Rattle.sp_law_system.specs.Rules.{IsClosedRule}
 use Rattle.sp_law_system.proofs.Numbers.{each_valued_all}
-use Rattle.sp_law_tree.specs.BasicTheory.{AreBasicTerms, IsBasicFact, IsBasicRule}
+use Rattle.sp_law_tree.specs.BasicTheory.{IsBasicFact, IsBasicRule}
 use Rattle.sp_spec.proofs.Occurrences.{facts_each}
 use Rattle.sp_law_tree.proofs.FreshRules.{fresh_premises}
 use Rattle.sp_law_tree.proofs.Named.{all_made_both}
@@ -85,22 +85,25 @@ bound_each facts (x ∷ xs) e =
       bound_each facts xs both.1,
     )
 
-module _ (signature : Signature) (facts : Facts Written) where
+abbrev HasNoFreshNames : Fact Written → Type 0
+HasNoFreshNames f = AllMadeOf no_fresh_names (λ x. Unit {0}) f.args
+
+module _ (facts : Facts Written) where
   abbrev IsBoundName : Written → Type 0
   IsBoundName x = IsBound facts (variable_of facts x.name)
 
-  arguments_bound : (ts : Terms Written) → AreBasicTerms signature ts → EachVariables IsBoundName ts → AllMadeOf no_fresh_names (IsBound facts) (valued_all (numbered_in facts) ts)
+  arguments_bound : (ts : Terms Written) → AllMadeOf no_fresh_names (λ x. Unit {0}) ts → EachVariables IsBoundName ts → AllMadeOf no_fresh_names (IsBound facts) (valued_all (numbered_in facts) ts)
   arguments_bound ts a h =
-      each_valued_all no_fresh_names IsBoundName (IsBound facts) (numbered_in facts) (λ x k. k) ts (all_made_both no_fresh_names any_names IsBoundName ts a.1 h)
+      each_valued_all no_fresh_names IsBoundName (IsBound facts) (numbered_in facts) (λ x k. k) ts (all_made_both no_fresh_names any_names IsBoundName ts a h)
 
-  conclusions_bound : (fs : List (Fact Written)) → Every (IsBasicFact signature) fs → has_unbound facts (in_facts fs) ≡ false
+  conclusions_bound : (fs : List (Fact Written)) → Every HasNoFreshNames fs → has_unbound facts (in_facts fs) ≡ false
       → Every (λ (f : Fact Variable). AllMadeOf no_fresh_names (IsBound facts) f.args) (map (fact_at (numbered_in facts)) fs)
   conclusions_bound fs p e = go fs p (facts_each IsBoundName fs (bound_each facts (in_facts fs) e))
     where
-      go : (fs : List (Fact Written)) → Every (IsBasicFact signature) fs → Every (λ (f : Fact Written). EachVariables IsBoundName f.args) fs
+      go : (fs : List (Fact Written)) → Every HasNoFreshNames fs → Every (λ (f : Fact Written). EachVariables IsBoundName f.args) fs
           → Every (λ (f : Fact Variable). AllMadeOf no_fresh_names (IsBound facts) f.args) (map (fact_at (numbered_in facts)) fs)
       go [] p h = tt
-      go (f ∷ fs) p h = (arguments_bound f.args p.0.0 h.0, go fs p.1 h.1)
+      go (f ∷ fs) p h = (arguments_bound f.args p.0 h.0, go fs p.1 h.1)
 
 -- ---- rules
 
@@ -125,7 +128,7 @@ rule_closed : (signature : Signature) (r : WrittenRule) → IsBasicRule signatur
 rule_closed signature r p e = record {
   inputs = every_map (IsBasicFact signature) _ (fact_at (numbered_in r.facts)) (no_input signature (numbered_in r.facts)) r.facts.premises p.premises;
   fresh = fresh_premises r.facts r.facts.premises (λ f m. m) (has_none r e).premises (has_none r e).arguments;
-  bound = conclusions_bound signature r.facts r.facts.conclusions p.conclusions (has_none r e).bound;
+  bound = conclusions_bound r.facts r.facts.conclusions (every_weaken _ HasNoFreshNames (λ f k. k.0.1) r.facts.conclusions p.conclusions) (has_none r e).bound;
 }
 
 -- no Fr is concluded

@@ -17,7 +17,7 @@ use Rattle.sp_law_equal.specs.RightTheory.{no_fresh_names}
 use Rattle.sp_spec.proofs.Variables.{where_made, where_all_made}
 use Rattle.sp_law_guard.proofs.Places.{action_made, order_made, equality_made}
 use Rattle.sp_law_guard.proofs.Throughout.{times_bound, OfFormulas, OfAtoms, form_throughout, Throughout}
-use Rattle.sp_law_tree.specs.BasicTheory.{AreBasicTerms, IsBasicFact, IsBasicAction, IsBasicFormula, HasNames}
+use Rattle.sp_law_tree.specs.BasicTheory.{IsBasicFormula, HasNames}
 
 abbrev pub NamedTerm : Names → Term Place → Type 0
 NamedTerm N t = MadeOf N (λ p. Unit {0}) t
@@ -108,19 +108,19 @@ module _ (listed : List (List ℕ)) where
     all_listed_made none a k = tt
     all_listed_made (more t ts) a k = let both = every_parts _ (in_term t) (in_terms ts) k in (listed_made t a.0 both.0, all_listed_made ts a.1 both.1)
 
-  module _ (signature : Signature) (P : Written → Type 0) where
-    arguments_made : (ts : Terms Written) → AreBasicTerms signature ts → AreListed listed (in_terms ts) → EachVariables P ts → AllMadeOf (names_in listed) P ts
-    arguments_made ts a k h = all_made_both (names_in listed) any_names P ts (all_listed_made ts a.1 k) h
+  module _ (P : Written → Type 0) where
+    arguments_made : (ts : Terms Written) → AllMadeOf no_fresh_names any_written ts → AreListed listed (in_terms ts) → EachVariables P ts → AllMadeOf (names_in listed) P ts
+    arguments_made ts a k h = all_made_both (names_in listed) any_names P ts (all_listed_made ts a k) h
 
-    pub facts_made : (fs : List (Fact Written)) → Every (IsBasicFact signature) fs → AreListed listed (in_facts fs) → Every (λ (f : Fact Written). EachVariables P f.args) fs
+    pub facts_made : (fs : List (Fact Written)) → Every (λ (f : Fact Written). AllMadeOf no_fresh_names any_written f.args) fs → AreListed listed (in_facts fs) → Every (λ (f : Fact Written). EachVariables P f.args) fs
         → Every (λ (f : Fact Written). AllMadeOf (names_in listed) P f.args) fs
     facts_made [] a k h = tt
-    facts_made (f ∷ fs) a k h = let both = every_parts _ (in_terms f.args) (in_facts fs) k in (arguments_made f.args a.0.0 both.0 h.0, facts_made fs a.1 both.1 h.1)
+    facts_made (f ∷ fs) a k h = let both = every_parts _ (in_terms f.args) (in_facts fs) k in (arguments_made f.args a.0 both.0 h.0, facts_made fs a.1 both.1 h.1)
 
-    pub actions_made : (xs : List (Action Written)) → Every (IsBasicAction signature) xs → AreListed listed (in_actions xs) → Every (λ (a : Action Written). EachVariables P a.args) xs
+    pub actions_made : (xs : List (Action Written)) → Every (λ (a : Action Written). AllMadeOf no_fresh_names any_written a.args) xs → AreListed listed (in_actions xs) → Every (λ (a : Action Written). EachVariables P a.args) xs
         → Every (λ (a : Action Written). AllMadeOf (names_in listed) P a.args) xs
     actions_made [] a k h = tt
-    actions_made (x ∷ xs) a k h = let both = every_parts _ (in_terms x.args) (in_actions xs) k in (arguments_made x.args a.0.0 both.0 h.0, actions_made xs a.1 both.1 h.1)
+    actions_made (x ∷ xs) a k h = let both = every_parts _ (in_terms x.args) (in_actions xs) k in (arguments_made x.args a.0 both.0 h.0, actions_made xs a.1 both.1 h.1)
 
   formula_named : (signature : Signature) (f : Formula) → IsBasicFormula signature f → AreListed listed (in_formula f) → HasNames (names_in listed) f
   formula_named signature truth a k = tt

@@ -32,7 +32,7 @@ in_no_log : (theory : Theory) → SuitsProofs theory → (h : Guarded) → IsRig
     → (log : Log) → IsLog theory log → GuardedHolds (signature_of theory) (log_trace log) (assignment start) h → ⊥
 in_no_log theory suits h right context is_of named tree accepted finished log is_log holds =
     finished_tree theory (moves_are_covered theory suits) context is_of tree (root h) (record { numbered = right_numbered (signature_of theory) (names_in context.public_names) h right named }) accepted finished log is_log start
-    (right_solved theory suits.instances.normal_forms log h right holds)
+    (right_solved theory suits.instances.forms.normal_forms log h right holds)
 
 pub lemma_right : (signature : Signature) (lemma : Lemma) → IsBasicFormula signature lemma.formula → (g : Guarded) → checked_form lemma.formula ≡ Some g → IsRight signature g
 lemma_right signature lemma f g e = let c = form_checked lemma.formula g e in form_right signature lemma.formula g f c.0 c.1

@@ -19,7 +19,7 @@ use Rattle.sp_law_system.specs.Rules.{InstancesAreOver, IsClosedRule, SuitsProof
 use Rattle.sp_law_tree.specs.BasicTheory.{IsBasicRule}
 use Rattle.sp_law_tree.specs.Laws.{TextsAreRight}
 use Rattle.sp_law_tree.proofs.BasicOver.{basic_rules_over}
-use Rattle.sp_law_tree.proofs.WrittenRules.{rules_plain, rules_leave_adversary}
+use Rattle.sp_law_tree.proofs.WrittenRules.{premises_plain, rules_leave_adversary}
 use Rattle.sp_law_tree.proofs.ClosedRules.{not_in, none_concluded, rules_closed}
 
 -- ---- terms over the signature
@@ -42,9 +42,9 @@ instances_over theory rules_over =
 
 pub normal_instances : (t : WrittenTheory) → HasNormalForms (signature_of (theory_of t)) → Every (IsBasicRule (signature_of (theory_of t))) t.rules → HasNormalInstances (theory_of t)
 normal_instances t forms basic = record {
-  normal_forms = forms.normal_forms;
-  keeps = forms.keeps;
-  plain = rules_plain (signature_of (theory_of t)) t.rules basic;
+  forms = forms;
+  over = basic_rules_over (signature_of (theory_of t)) t.rules basic;
+  premises = premises_plain (signature_of (theory_of t)) t.rules basic;
 }
 
 pub text_suits : (t : WrittenTheory) → HasNormalForms (signature_of (theory_of t)) → Every (IsBasicRule (signature_of (theory_of t))) t.rules → Every (λ (r : WrittenRule). rule_is_wrong r ≡ false) t.rules
@@ -62,7 +62,6 @@ right_text t forms basic right names =
     record {
       instances = normal_instances t forms basic;
       declared = rules_right t.rules names;
-      over = basic_rules_over (signature_of (theory_of t)) t.rules basic;
       takes_fresh = every_weaken IsClosedRule TakesFreshNames (λ r h. h.fresh) (theory_of t).rules closed;
       makes_no_fr = none_concluded t.rules right;
       bound = every_weaken IsClosedRule BindsConclusions (λ r h. h.bound) (theory_of t).rules closed;
@@ -82,7 +81,7 @@ module _ (theory : Theory) (right : IsRightTheory theory) (alone : LeavesAdversa
   })
 
   theory_suits : SuitsProofs theory
-  theory_suits = record { instances = right.instances; closed = closed; over = instances_over theory right.over }
+  theory_suits = record { instances = right.instances; closed = closed; over = instances_over theory right.instances.over }
 
 pub texts_are_right_lem : TextsAreRight
 texts_are_right_lem = record {

@@ -1,5 +1,5 @@
--- Basic theories, the ones that are read so far: a term is a constructor term without fresh names, of variables, public names, and symbols of the
--- signature that are no destructors; and no fact is the adversary's. Source: Tamarin manual, "Property specification" (no reducible symbols in formulas).
+-- Basic theories, the ones that are read so far: a term is without fresh names, of variables, public names, and symbols of the signature; in premises
+-- and formulas none of these is a destructor; and no fact is the adversary's. Source: Tamarin manual, "Property specification" (no reducible symbols in formulas).
 use Rattle.sp_spec.specs.Term.{Names, MadeOf, AllMadeOf, Term, Terms}
 use Rattle.sp_spec.specs.Signature.{Signature}
 use Rattle.sp_spec.specs.Formula.{Written, Formula, truth, falsity, happens, equals, precedes, not_so, both, either, implies, for_all, for_some}
@@ -7,6 +7,7 @@ use Rattle.sp_spec.specs.Lists.{Member, Every}
 use Rattle.sp_spec.specs.Rule.{Fact, Action}
 use Rattle.sp_spec.specs.Written.{WrittenRule}
 use Rattle.sp_law_equal.specs.RightTheory.{no_fresh_names}
+use Rattle.sp_law_equal.specs.Right.{AreTermsOver}
 use Rattle.sp_law_decide.specs.Normal.{IsConstructorTerm, AreConstructorTerms}
 use Rattle.sp_law_erase.specs.Adversary.{adversary_names}
 
@@ -23,10 +24,14 @@ IsBasicFact signature f = AreBasicTerms signature f.args × (Member f.symbol adv
 abbrev pub IsBasicAction : Signature → Action Written → Type 0
 IsBasicAction signature a = AreBasicTerms signature a.args × (Member a.symbol adversary_names → ⊥)
 
+-- a destructor may stand in them
+abbrev pub AreOpenTerms : Signature → Terms Written → Type 0
+AreOpenTerms signature ts = AreTermsOver signature.symbols ts × AllMadeOf no_fresh_names (λ x. Unit {0}) ts
+
 pub record IsBasicRule (signature : Signature) (r : WrittenRule) : Type 0 where
   pub premises : Every (IsBasicFact signature) r.facts.premises
-  pub actions : Every (IsBasicAction signature) r.facts.actions
-  pub conclusions : Every (IsBasicFact signature) r.facts.conclusions
+  pub actions : Every (λ (a : Action Written). AreOpenTerms signature a.args × (Member a.symbol adversary_names → ⊥)) r.facts.actions
+  pub conclusions : Every (λ (f : Fact Written). AreOpenTerms signature f.args × (Member f.symbol adversary_names → ⊥)) r.facts.conclusions
 
 abbrev pub IsBasicFormula : Signature → Formula → Type 0
 IsBasicFormula signature truth = Unit {0}

@@ -1,13 +1,14 @@
 -- What the checking answers is right: each entry is tested as the definition says, behind a log.
-use Rattle.std.proofs.Common.{◌≡◌, ◌<◌, ⊎_elim, ℕ, zero, suc, Bool, true, false, if◌then◌else◌, List, [], ◌∷◌, ◌++◌, length, Option, Some, None, refl, sym, ap, ◌∙◌, subst, arith, append_assoc, true≢false}
+use Rattle.std.proofs.Common.{◌≡◌, ◌<◌, ⊎_elim, ℕ, zero, suc, Bool, true, false, if◌then◌else◌, List, [], ◌∷◌, ◌++◌, map, length, Option, Some, None, refl, sym, ap, ◌∙◌, subst, arith, append_assoc, true≢false}
 use Rattle.std.specs.Bool.{Decides}
 use Rattle.std.proofs.lemmas.List.{append-nil}
 use Rattle.std.proofs.lemmas.Bool.{and_parts, and_from, cases_order}
 use Rattle.sp_spec.specs.Lists.{newest_first}
 use Rattle.sp_spec.specs.Same.{same_term}
 use Rattle.sp_spec.specs.Theory.{Theory, signature_of}
-use Rattle.sp_spec.specs.Log.{Entry, step, send, learn, Log, fresh_uses, all_fresh_uses, sources_of, all_sources, IsRuleInstance}
+use Rattle.sp_spec.specs.Log.{Entry, step, send, learn, Log, fresh_uses, all_fresh_uses, sources_of, all_sources}
 use Rattle.sp_spec.proofs.Same.{same_term_decides}
+use Rattle.sp_spec_forms.specs.Forms.{RuleForms, forms_of}
 use Rattle.sp_spec.proofs.Logs.{log_sources, log_fresh, step_keeps}
 use Rattle.sp_law_erase.specs.Adversary.{IsStep}
 use Rattle.sp_log.specs.declared.check.Clause.{Clause}
@@ -16,13 +17,16 @@ use Rattle.sp_log.specs.declared.check.Checked.{Checked}
 use Rattle.sp_log.specs.declared.check.Checked.TheVariants.{Fine, Fails}
 use Rattle.sp_log.specs.Checking.{entry_is_instance, premises_have_sources, sources_are_right, names_are_new, same_source, are_new, broken, fails_or, check_behind, check_of, is_fine, is_log}
 use Rattle.sp_log.specs.Meaning.{clause_of, IsStepKeeping, rank, IsLogOfSteps, IsFirstBroken, IsChecked}
-use Rattle.sp_log.proofs.Instances.{any_decides}
+use Rattle.sp_log.proofs.Instances.{step_decides}
 use Rattle.sp_log.proofs.Premises.{sources_decide, same_source_decides}
 use Rattle.sp_log.proofs.New.{new_decides}
 use Rattle.sp_spec.proofs.Lists.{newest_append}
 use Rattle.sp_law_equal.specs.RightTheory.{HasNormalInstances}
 
 module _ (theory : Theory) where
+  abbrev by_forms : List RuleForms
+  by_forms = map (forms_of (signature_of theory).equations) theory.rules
+
   -- the entries before the others of a log are a log
   log_before : (xs ys : List Entry) → IsLogOfSteps theory (xs ++ ys) → IsLogOfSteps theory ys
   log_before [] ys h = h
@@ -56,12 +60,8 @@ module _ (theory : Theory) where
   -- ---- the tests
 
   module _ (good : HasNormalInstances theory) where
-    instance_decides : (e : Entry) (past : Log) → Decides (entry_is_instance (signature_of theory) theory.rules e) (IsStepKeeping theory Instance e past)
-    instance_decides (step r facts os) past =
-        let d = any_decides (signature_of theory) good.normal_forms good.keeps theory.rules good.plain r facts in (
-          λ t. let i = d.0 t in (tt, (i.0, i.1, i.2, i.3.0, i.3.1, i.3.2)),
-          λ h. let i : IsRuleInstance theory r facts = h.1 in d.1 (i.0, i.1, i.2, (i.3, i.4, i.5)),
-        )
+    instance_decides : (e : Entry) (past : Log) → Decides (entry_is_instance (signature_of theory) by_forms e) (IsStepKeeping theory Instance e past)
+    instance_decides (step r facts os) past = let d = step_decides theory good r facts in (λ t. (tt, d.0 t), λ h. d.1 h.1)
     instance_decides (send m) past = (λ t. absurd cc, λ h. absurd h.0)
     instance_decides (learn m how) past = (λ t. absurd cc, λ h. absurd h.0)
 
@@ -116,17 +116,17 @@ module _ (theory : Theory) where
       by_sources i false is =
           (refused (sources_are_right e earlier) (IsStepKeeping theory Sources e (newest_first earlier)) (sources_right e earlier log) is, below_one e (newest_first earlier) i)
 
-      by_instance : (b : Bool) → entry_is_instance (signature_of theory) theory.rules e ≡ b
+      by_instance : (b : Bool) → entry_is_instance (signature_of theory) by_forms e ≡ b
           → Told earlier e
           (if b then (if sources_are_right e earlier then (if names_are_new e earlier then None else Some Freshness) else Some Sources) else Some Instance)
       by_instance true is = by_sources ((instance_decides e (newest_first earlier)).0 is) (sources_are_right e earlier) refl
       by_instance false is = (
-        refused (entry_is_instance (signature_of theory) theory.rules e) (IsStepKeeping theory Instance e (newest_first earlier)) (instance_decides e (newest_first earlier)) is,
+        refused (entry_is_instance (signature_of theory) by_forms e) (IsStepKeeping theory Instance e (newest_first earlier)) (instance_decides e (newest_first earlier)) is,
         λ lesser l. absurd (omega (arith, l)),
       )
 
-      entry_told : Told earlier e (broken (signature_of theory) theory.rules earlier e)
-      entry_told = by_instance (entry_is_instance (signature_of theory) theory.rules e) refl
+      entry_told : Told earlier e (broken (signature_of theory) by_forms earlier e)
+      entry_told = by_instance (entry_is_instance (signature_of theory) by_forms e) refl
 
       -- the entry that is told first, or else what is answered of the later ones
       by_told : (later : List Entry) (o : Option Clause) → Told earlier e o → (c : Checked)
@@ -145,23 +145,23 @@ module _ (theory : Theory) where
       }
 
     check_right : (later earlier : List Entry) → IsLogOfSteps theory (newest_first earlier)
-        → IsChecked theory (earlier ++ later) (check_behind (signature_of theory) theory.rules earlier later)
+        → IsChecked theory (earlier ++ later) (check_behind (signature_of theory) by_forms earlier later)
     check_right [] earlier log = subst (λ (zs : List Entry). IsLogOfSteps theory (newest_first zs)) (sym (append-nil earlier)) log
     check_right (e ∷ later) earlier log =
-        by_told earlier e log later (broken (signature_of theory) theory.rules earlier e) (entry_told earlier e log)
-        (check_behind (signature_of theory) theory.rules (earlier ++ e ∷ []) later)
+        by_told earlier e log later (broken (signature_of theory) by_forms earlier e) (entry_told earlier e log)
+        (check_behind (signature_of theory) by_forms (earlier ++ e ∷ []) later)
         (λ whole.
-        subst (λ (zs : List Entry). IsChecked theory zs (check_behind (signature_of theory) theory.rules (earlier ++ e ∷ []) later))
+        subst (λ (zs : List Entry). IsChecked theory zs (check_behind (signature_of theory) by_forms (earlier ++ e ∷ []) later))
         (append_assoc earlier (e ∷ []) later)
         (check_right later (earlier ++ e ∷ []) (subst (λ (zs : Log). IsLogOfSteps theory zs) (sym (newest_append earlier (e ∷ []))) whole)))
 
     -- the answer is right
-    pub is_checked : (entries : List Entry) → IsChecked theory entries (check_of (signature_of theory) theory.rules entries)
+    pub is_checked : (entries : List Entry) → IsChecked theory entries (check_of (signature_of theory) by_forms entries)
     is_checked entries = check_right entries [] (tt, tt)
 
     -- and the test tells of logs
-    pub log_decides : (entries : List Entry) → Decides (is_log (signature_of theory) theory.rules entries) (IsLogOfSteps theory (newest_first entries))
-    log_decides entries = by_answer (check_of (signature_of theory) theory.rules entries) (is_checked entries)
+    pub log_decides : (entries : List Entry) → Decides (is_log (signature_of theory) by_forms entries) (IsLogOfSteps theory (newest_first entries))
+    log_decides entries = by_answer (check_of (signature_of theory) by_forms entries) (is_checked entries)
       where
         by_answer : (c : Checked) → IsChecked theory entries c → Decides (is_fine c) (IsLogOfSteps theory (newest_first entries))
         by_answer Fine h = (λ t. h, λ l. refl)

@@ -1,4 +1,5 @@
 pub mod Giving
+pub mod Normal
 pub mod Instances
 pub mod Premises
 pub mod New

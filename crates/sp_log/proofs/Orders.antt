@@ -3,10 +3,11 @@ use Rattle.std.proofs.Common.{◌≡◌, List, [], ◌∷◌, ◌++◌, map, ref
 use Rattle.std.proofs.lemmas.List.{append-nil}
 use Rattle.sp_spec.specs.Term.{Ground}
 use Rattle.sp_spec.specs.Rule.{Action, sends}
-use Rattle.sp_spec.specs.Theory.{Theory}
+use Rattle.sp_spec.specs.Signature.{Equation}
+use Rattle.sp_spec_forms.specs.Forms.{RuleForms}
 use Rattle.sp_spec.specs.Execution.{Step, make_fresh, Trace, with_entry}
 use Rattle.sp_spec.specs.Log.{Entry, step, send, learn, Log, entry_actions, log_trace, visible_trace}
-use Rattle.sp_law_found.specs.Found.{fresh_steps, entry_steps, execution_of}
+use Rattle.sp_law_found.specs.Found.{fresh_steps, entry_steps, execution_by}
 use Rattle.sp_spec.specs.Lists.{newest_first}
 use Rattle.sp_spec.proofs.Lists.{newest_twice, newest_append}
 
@@ -16,29 +17,24 @@ pub fresh_steps_newest : (ts : List Ground) → fresh_steps ts ≡ newest_first 
 fresh_steps_newest [] = refl
 fresh_steps_newest (t ∷ ts) = ap (λ (zs : List Step). zs ++ make_fresh t ∷ []) (fresh_steps_newest ts)
 
--- the steps of entries, each the oldest first
-abbrev pub steps_in : Theory → List Entry → List Step
-steps_in theory [] = []
-steps_in theory (e ∷ es) = newest_first (entry_steps theory [] e) ++ steps_in theory es
+module _ (es : List Equation) (rules : List RuleForms) where
+  -- the steps of entries, each the oldest first
+  abbrev pub steps_in : List Entry → List Step
+  steps_in [] = []
+  steps_in (e ∷ later) = newest_first (entry_steps es rules e) ++ steps_in later
 
--- what a rule does doesn't depend on the entries before
-past_alike : (theory : Theory) (past other : Log) (e : Entry) → entry_steps theory past e ≡ entry_steps theory other e
-past_alike theory past other (step r facts sources) = refl
-past_alike theory past other (send m) = refl
-past_alike theory past other (learn m how) = refl
+  execution_joined : (xs ys : Log) → execution_by es rules (xs ++ ys) ≡ execution_by es rules xs ++ execution_by es rules ys
+  execution_joined [] ys = refl
+  execution_joined (x ∷ xs) ys =
+      ap (λ (zs : List Step). entry_steps es rules x ++ zs) (execution_joined xs ys)
+      ∙ sym (append_assoc (entry_steps es rules x) (execution_by es rules xs) (execution_by es rules ys))
 
-execution_joined : (theory : Theory) (xs ys : Log) → execution_of theory (xs ++ ys) ≡ execution_of theory xs ++ execution_of theory ys
-execution_joined theory [] ys = refl
-execution_joined theory (x ∷ xs) ys =
-    ap₂ (λ (ws zs : List Step). ws ++ zs) (past_alike theory (xs ++ ys) xs x) (execution_joined theory xs ys)
-    ∙ sym (append_assoc (entry_steps theory xs x) (execution_of theory xs) (execution_of theory ys))
-
-pub steps_newest : (theory : Theory) (es : List Entry) → newest_first (steps_in theory es) ≡ execution_of theory (newest_first es)
-steps_newest theory [] = refl
-steps_newest theory (e ∷ es) =
-    newest_append (newest_first (entry_steps theory [] e)) (steps_in theory es)
-    ∙ ap₂ (λ (xs ys : List Step). xs ++ ys) (steps_newest theory es) (newest_twice (entry_steps theory [] e) ∙ sym (append-nil (entry_steps theory [] e)))
-    ∙ sym (execution_joined theory (newest_first es) (e ∷ []))
+  pub steps_newest : (entries : List Entry) → newest_first (steps_in entries) ≡ execution_by es rules (newest_first entries)
+  steps_newest [] = refl
+  steps_newest (e ∷ later) =
+      newest_append (newest_first (entry_steps es rules e)) (steps_in later)
+      ∙ ap₂ (λ (xs ys : List Step). xs ++ ys) (steps_newest later) (newest_twice (entry_steps es rules e) ∙ sym (append-nil (entry_steps es rules e)))
+      ∙ sym (execution_joined (newest_first later) (e ∷ []))
 
 -- ---- traces
 

@@ -1,10 +1,10 @@
 -- Lists that are not as long as each other have no element beside each.
 use Rattle.std.proofs.Common.{◌≡◌, ◌⊎◌, ⊎_elim, arith, suc, false, List, [], ◌∷◌, length, Option, Some, None, option_and_then, refl, ap}
-use Rattle.sp_spec.specs.Term.{Variable}
-use Rattle.sp_spec.specs.Rule.{Fact, Action}
+use Rattle.sp_spec.specs.Term.{Variable, Grounds, none, more}
+use Rattle.sp_spec.specs.Rule.{Fact, Action, Declared}
 use Rattle.sp_spec.specs.Log.{Source, Entry, linear_sources}
 use Rattle.sp_law_equal.specs.Matching.{Bound, matched_all}
-use Rattle.sp_law_found.specs.Found.{matched_facts, matched_actions}
+use Rattle.sp_law_found.specs.Found.{matched_facts, matched_actions, given_to}
 use Rattle.sp_log.specs.Checking.{alike_facts, alike_actions, has_source, have_sources}
 use Rattle.std.proofs.lemmas.Bool.{and_right}
 
@@ -49,3 +49,9 @@ pub no_sources : (fs : List (Fact ⊥)) (os : List Source) → (length fs ≡ 0)
 no_sources [] os h = refl
 no_sources (f ∷ fs) [] h = refl
 no_sources (f ∷ fs) (o ∷ os) h = absurd (⊎_elim (λ k. omega (arith, k)) (λ k. omega (arith, k)) h)
+
+-- where one list has ended, no name is given a value
+pub none_given : (ds : List Declared) (ts : Grounds) → (ds ≡ []) ⊎ (ts ≡ none) → given_to ds ts ≡ []
+none_given [] ts h = refl
+none_given (d ∷ ds) none h = refl
+none_given (d ∷ ds) (more t ts) h = ⊎_elim (λ e. absurd cc) (λ e. absurd cc) h

@@ -3,13 +3,17 @@
 -- is taken once, and a fresh name is made once).
 use Rattle.std.specs.Prelude.{ℕ, zero, Bool, true, false, not, ◌&&◌, ◌||◌, ◌==◌, if◌then◌else◌, List, [], ◌∷◌, ◌++◌, length, slice_get, Option, Some, None}
 use Rattle.std.specs.Str.{bytes_eq}
-use Rattle.sp_spec.specs.Term.{Variable}
-use Rattle.sp_spec.specs.Same.{same_term}
-use Rattle.sp_spec.specs.Signature.{Signature}
-use Rattle.sp_spec.specs.Rule.{Fact, Action, Facts, Rule, in_of}
+use Rattle.std.specs.List.{list_all, list_any}
+use Rattle.sp_spec.specs.Term.{Variable, Grounds}
+use Rattle.sp_spec.specs.Same.{same_term, same_terms}
+use Rattle.sp_spec.specs.Signature.{Equation, Signature}
+use Rattle.sp_spec.specs.Rule.{Fact, Action, Facts, in_of}
 use Rattle.sp_spec.specs.Log.{Source, fresh_rule, conclusion, Entry, step, send, learn, is_fr, fresh_uses, all_fresh_uses, sources_of, all_sources}
+use Rattle.sp_spec_forms.specs.Numbering.{Form}
+use Rattle.sp_spec_forms.specs.Reducible.{args_of}
+use Rattle.sp_spec_forms.specs.Forms.{RuleForms}
 use Rattle.sp_law_equal.specs.Matching.{Bound, has_sort}
-use Rattle.sp_law_equal.specs.Normal.{normal}
+use Rattle.sp_law_equal.specs.Normal.{normal_all}
 use Rattle.sp_law_run.specs.Taken.{same_choice, same_fact}
 use Rattle.sp_law_found.specs.Found.{matched_instance}
 use Rattle.sp_norm.specs.Over.{over}
@@ -18,17 +22,25 @@ use Rattle.sp_log.specs.declared.check.Clause.TheVariants.{Instance, Sources, Fr
 use Rattle.sp_log.specs.declared.check.Checked.{Checked}
 use Rattle.sp_log.specs.declared.check.Checked.TheVariants.{Fine, Fails}
 
--- a value of its variable's sort, over the signature's symbols, and in normal form
-abbrev pub is_normal_value : Signature → Bound → Bool
-is_normal_value signature b = has_sort b.0.sort b.1 && (over signature.symbols b.1 && same_term (normal signature.equations b.1) b.1)
+-- each term is its own normal form
+abbrev pub stay : List Equation → Grounds → Bool
+stay es ts = same_terms (normal_all es ts) ts
 
-abbrev pub are_normal_values : Signature → List Bound → Bool
-are_normal_values signature [] = true
-are_normal_values signature (b ∷ bs) = is_normal_value signature b && are_normal_values signature bs
+-- each term of the facts is
+abbrev pub are_in_normal_form : List Equation → Facts ⊥ → Bool
+are_in_normal_form es facts = list_all (stay es) (args_of facts)
 
-abbrev pub give_normal_values : Signature → Option (List Bound) → Bool
-give_normal_values signature None = false
-give_normal_values signature (Some bs) = are_normal_values signature bs
+-- a value of its variable's sort, over the signature's symbols
+abbrev pub is_value : Signature → Bound → Bool
+is_value signature b = has_sort b.0.sort b.1 && over signature.symbols b.1
+
+abbrev pub are_values : Signature → List Bound → Bool
+are_values signature [] = true
+are_values signature (b ∷ bs) = is_value signature b && are_values signature bs
+
+abbrev pub give_values : Signature → Option (List Bound) → Bool
+give_values signature None = false
+give_values signature (Some bs) = are_values signature bs
 
 -- facts of the same names, linear or persistent alike, one beside each
 abbrev pub alike_facts : List (Fact Variable) → List (Fact ⊥) → Bool
@@ -44,17 +56,18 @@ alike_actions _ _ = false
 abbrev pub are_alike : Facts Variable → Facts ⊥ → Bool
 are_alike p f = alike_facts p.premises f.premises && (alike_actions p.actions f.actions && alike_facts p.conclusions f.conclusions)
 
--- the facts are an instance of the rule, by the values that they give to its variables, in normal form
-abbrev pub is_instance : Signature → Rule → Facts ⊥ → Bool
-is_instance signature rule facts = are_alike rule.facts facts && give_normal_values signature (matched_instance rule.facts facts)
+-- the facts are an instance of the form, by the values that they give to its variables
+abbrev pub is_instance : Signature → Form → Facts ⊥ → Bool
+is_instance signature form facts = are_alike form.facts facts && give_values signature (matched_instance form.facts facts)
 
--- they are one of some rule of that name
-abbrev pub is_instance_of_any : Signature → List Rule → List ℕ → Facts ⊥ → Bool
+-- they are one of some form of a rule of that name
+abbrev pub is_instance_of_any : Signature → List RuleForms → List ℕ → Facts ⊥ → Bool
 is_instance_of_any signature [] r facts = false
-is_instance_of_any signature (rule ∷ rules) r facts = (bytes_eq rule.name r && is_instance signature rule facts) || is_instance_of_any signature rules r facts
+is_instance_of_any signature (rule ∷ rules) r facts =
+    (bytes_eq rule.name r && list_any (λ (form : Form). is_instance signature form facts) rule.forms) || is_instance_of_any signature rules r facts
 
-abbrev pub entry_is_instance : Signature → List Rule → Entry → Bool
-entry_is_instance signature rules (step r facts sources) = is_instance_of_any signature rules r facts
+abbrev pub entry_is_instance : Signature → List RuleForms → Entry → Bool
+entry_is_instance signature rules (step r facts sources) = are_in_normal_form signature.equations facts && is_instance_of_any signature rules r facts
 entry_is_instance signature rules (send m) = false
 entry_is_instance signature rules (learn m how) = false
 
@@ -108,7 +121,7 @@ abbrev pub names_are_new : Entry → List Entry → Bool
 names_are_new e earlier = are_new same_term (all_fresh_uses earlier) (fresh_uses e)
 
 -- the least clause that the entry breaks
-abbrev pub broken : Signature → List Rule → List Entry → Entry → Option Clause
+abbrev pub broken : Signature → List RuleForms → List Entry → Entry → Option Clause
 broken signature rules earlier e =
     if entry_is_instance signature rules e
     then (if sources_are_right e earlier then (if names_are_new e earlier then None else Some Freshness) else Some Sources)
@@ -120,12 +133,12 @@ fails_or n None later = later
 fails_or n (Some clause) later = Fails n clause
 
 -- the first entry that breaks a clause, behind these
-abbrev pub check_behind : Signature → List Rule → List Entry → List Entry → Checked
+abbrev pub check_behind : Signature → List RuleForms → List Entry → List Entry → Checked
 check_behind signature rules earlier [] = Fine
 check_behind signature rules earlier (e ∷ later) =
     fails_or (length earlier) (broken signature rules earlier e) (check_behind signature rules (earlier ++ e ∷ []) later)
 
-abbrev pub check_of : Signature → List Rule → List Entry → Checked
+abbrev pub check_of : Signature → List RuleForms → List Entry → Checked
 check_of signature rules entries = check_behind signature rules [] entries
 
 abbrev pub is_fine : Checked → Bool
@@ -133,5 +146,5 @@ is_fine Fine = true
 is_fine (Fails n clause) = false
 
 -- the entries, the oldest first, are a log of steps
-abbrev pub is_log : Signature → List Rule → List Entry → Bool
+abbrev pub is_log : Signature → List RuleForms → List Entry → Bool
 is_log signature rules entries = is_fine (check_of signature rules entries)

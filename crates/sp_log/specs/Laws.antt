@@ -1,6 +1,7 @@
 -- What holds of the checking of logs of steps.
-use Rattle.std.specs.Prelude.{◌≡◌, ◌↔◌, ℕ, List, true}
+use Rattle.std.specs.Prelude.{◌≡◌, ◌↔◌, ℕ, List, map, true}
 use Rattle.sp_spec.specs.Theory.{Theory, signature_of}
+use Rattle.sp_spec_forms.specs.Forms.{forms_of}
 use Rattle.sp_spec.specs.Log.{Entry}
 use Rattle.sp_spec.specs.Lists.{newest_first}
 use Rattle.sp_log.specs.declared.check.Clause.{Clause}
@@ -12,7 +13,7 @@ use Rattle.sp_law_equal.specs.RightTheory.{HasNormalInstances}
 -- Entries, the oldest first, pass the test exactly where they are a log of steps alone.
 pub record LogsAreChecked : Type 0 where
   pub each : (theory : Theory) → HasNormalInstances theory → (entries : List Entry)
-      → (is_log (signature_of theory) theory.rules entries ≡ true) ↔ IsLogOfSteps theory (newest_first entries)
+      → (is_log (signature_of theory) (map (forms_of (signature_of theory).equations) theory.rules) entries ≡ true) ↔ IsLogOfSteps theory (newest_first entries)
 
 -- Of the same entries there is one answer: they are a log of steps, or one entry of theirs is the first that breaks a clause, with one least clause.
 pub record ChecksAreOne : Type 0 where

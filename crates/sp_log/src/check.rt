@@ -5,18 +5,20 @@ ghost use Rattle.sp_spec.specs.Log.{fresh_uses, sources_of};
 ghost use Rattle.sp_spec.specs.Same.{same_term};
 ghost use Rattle.sp_spec.specs.Theory as spec_theory;
 ghost use Rattle.sp_ground.specs.View.{ground_of, signature_of};
-ghost use Rattle.sp_fact.specs.View.{rule_of};
+ghost use Rattle.sp_book.specs.View.{rule_forms_of};
 ghost use Rattle.sp_log.specs.Checking as spec;
 ghost use Rattle.sp_log.specs.Laws.{ChecksAreOne, LogsAreChecked};
 ghost use Rattle.sp_log.specs.Meaning.{IsChecked};
 ghost use Rattle.sp_log.specs.View.{IsUsed, entries_of, entry_of, source_of};
 ghost use Rattle.sp_law_equal.specs.RightTheory.{HasNormalInstances};
+ghost use Rattle.sp_spec_forms.specs.Forms.{forms_of};
 
 use crate::instance::is_instance_of_any;
 use crate::log::{Entry, Log, Source};
 use crate::names::{fresh_names, use_names};
+use crate::normal_form::are_in_normal_form;
 use crate::sources::{have_sources, linear_sources, name_sources};
-use sp_fact::rule::Rule;
+use sp_book::form::RuleForms;
 use sp_ground::signature::Signature;
 use sp_ground::term::GroundTerm;
 use std::alloc::{AllocError, Global};
@@ -78,11 +80,26 @@ fn names_are_new(
     Ok(are_new)
 }
 
+// Whether the entry is an instance, in normal form, of a rule of its name.
+fn entry_is_instance(
+    alloc: Global,
+    signature: &Signature,
+    rules: &Vec<RuleForms>,
+    entry: &Entry,
+) -> Result<bool, AllocError>
+    ensures { IfOk result (λ b. b ≡ spec.entry_is_instance (signature_of signature.now) (map rule_forms_of rules.now.items) (entry_of entry.now)) }
+{
+    if !are_in_normal_form(alloc, &signature.equations, &entry.facts)? {
+        return Ok(false);
+    }
+    is_instance_of_any(alloc, signature, rules, &entry.rule, &entry.facts)
+}
+
 // The least clause that the entry of this number breaks.
 fn broken(
     alloc: Global,
     signature: &Signature,
-    rules: &Vec<Rule>,
+    rules: &Vec<RuleForms>,
     entries: &Vec<Entry>,
     number: usize,
     entry: &Entry,
@@ -90,10 +107,10 @@ fn broken(
 ) -> Result<Option<Clause>, AllocError>
     requires { IsUsed used.old (map entry_of (take number entries.now.items)) }
     ensures tests { IfOk result (λ o. o
-        ≡ spec.broken (signature_of signature.now) (map rule_of rules.now.items) (map entry_of (take number entries.now.items)) (entry_of entry.now)) }
+        ≡ spec.broken (signature_of signature.now) (map rule_forms_of rules.now.items) (map entry_of (take number entries.now.items)) (entry_of entry.now)) }
     ensures adds { IfOk result (λ o. o ≡ None → IsUsed used.new (map entry_of (take number entries.now.items) ++ entry_of entry.now ∷ [])) }
 {
-    if !is_instance_of_any(alloc, signature, rules, &entry.rule, &entry.facts)? {
+    if !entry_is_instance(alloc, signature, rules, entry)? {
         return Ok(Some(Clause::Instance));
     }
     if !have_sources(entries, number, &entry.facts.premises, &entry.sources) {
@@ -112,10 +129,10 @@ fn broken(
 fn first_broken(
     alloc: Global,
     signature: &Signature,
-    rules: &Vec<Rule>,
+    rules: &Vec<RuleForms>,
     entries: &Vec<Entry>,
 ) -> Result<Checked, AllocError>
-    ensures { IfOk result (λ c. c ≡ spec.check_of (signature_of signature.now) (map rule_of rules.now.items) (map entry_of entries.now.items)) }
+    ensures { IfOk result (λ c. c ≡ spec.check_of (signature_of signature.now) (map rule_forms_of rules.now.items) (map entry_of entries.now.items)) }
 {
     let mut used = Used {
         sources: Vec::new(alloc),
@@ -129,7 +146,7 @@ fn first_broken(
     Ok(Checked::Fine)
 }
 
-/// Whether the entries are a log of the theory with these rules over the signature, or the first that isn't one behind those before it.
+/// Whether the entries are a log of the theory with the rules of these forms over the signature, or the first that isn't one behind those before it.
 ///
 /// # Errors
 ///
@@ -137,11 +154,12 @@ fn first_broken(
 pub fn check_log(
     alloc: Global,
     signature: &Signature,
-    rules: &Vec<Rule>,
+    rules: &Vec<RuleForms>,
     log: &Log,
 ) -> Result<Checked, AllocError>
-    ensures exact { IfOk result (λ c. c ≡ spec.check_of (signature_of signature.now) (map rule_of rules.now.items) (entries_of log.now)) }
-    ensures means { (theory : spec_theory.Theory) → HasNormalInstances theory → theory.rules ≡ map rule_of rules.now.items
+    ensures exact { IfOk result (λ c. c ≡ spec.check_of (signature_of signature.now) (map rule_forms_of rules.now.items) (entries_of log.now)) }
+    ensures means { (theory : spec_theory.Theory) → HasNormalInstances theory
+        → map (forms_of (spec_theory.signature_of theory).equations) theory.rules ≡ map rule_forms_of rules.now.items
         → spec_theory.signature_of theory ≡ signature_of signature.now → IfOk result (λ c. IsChecked theory (entries_of log.now) c) }
 {
     let answer = first_broken(alloc, signature, rules, &log.entries)?;

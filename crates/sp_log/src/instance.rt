@@ -1,22 +1,23 @@
-// Whether facts are an instance of a rule in normal form, by the values that they give to its variables.
+// Whether facts are an instance of a form of a rule, by the values that they give to its variables.
 
 ghost use Rattle.std.specs.Prelude.{◌≡◌, IfOk, map, option_map};
 ghost use Rattle.sp_law_found.specs.Found.{matched_actions, matched_facts, matched_instance};
 ghost use Rattle.sp_term.specs.View.{name_of};
-ghost use Rattle.sp_fact.specs.View.{action_of, fact_of, facts_of, rule_of};
+ghost use Rattle.std.specs.List.{list_any};
+ghost use Rattle.sp_book.specs.View.{form_of, rule_forms_of};
+ghost use Rattle.sp_fact.specs.View.{action_of, fact_of, facts_of};
 ghost use Rattle.sp_ground.specs.View.{ground_action, ground_fact, ground_facts, signature_of};
 ghost use Rattle.sp_norm.specs.Bounds.{answer, bound_of, bounds};
 ghost use Rattle.sp_log.specs.Checking as spec;
 
+use sp_book::form::{Form, RuleForms};
 use sp_fact::fact::{Action, Fact, Facts};
-use sp_fact::rule::Rule;
 use sp_ground::fact::{GroundAction, GroundFact, GroundFacts};
 use sp_ground::signature::Signature;
-use sp_norm::normal::normal;
 use sp_norm::over::is_over;
 use sp_term::matching::extend_all;
 use sp_term::subst::{Binding, Values};
-use sp_term::term::{Name, Never, has_sort, same};
+use sp_term::term::{Name, Never, has_sort};
 use std::alloc::{AllocError, Global};
 
 // Adds the bindings that the patterns want beside the facts.
@@ -116,72 +117,71 @@ fn are_alike(pattern: &Facts, facts: &GroundFacts) -> bool
         && alike_facts(&pattern.conclusions, &facts.conclusions)
 }
 
-// Whether the value is of its variable's sort, over the symbols, and in normal form.
-fn is_normal_value(
-    alloc: Global,
-    signature: &Signature,
-    bound: &Binding<Never>,
-) -> Result<bool, AllocError>
-    ensures { IfOk result (λ b. b ≡ spec.is_normal_value (signature_of signature.now) (bound_of bound.now)) }
+// Whether the value is of its variable's sort, and over the symbols.
+fn is_value(signature: &Signature, bound: &Binding<Never>) -> bool
+    ensures { result ≡ spec.is_value (signature_of signature.now) (bound_of bound.now) }
 {
-    if !has_sort(bound.variable.sort, &bound.term) {
-        return Ok(false);
-    }
-    if !is_over(&signature.symbols, &bound.term) {
-        return Ok(false);
-    }
-    let normal_form = normal(alloc, &signature.equations, &bound.term)?;
-    Ok(same(&normal_form, &bound.term))
+    has_sort(bound.variable.sort, &bound.term) && is_over(&signature.symbols, &bound.term)
 }
 
-fn are_normal_values(
-    alloc: Global,
-    signature: &Signature,
-    values: &Values,
-) -> Result<bool, AllocError>
-    ensures { IfOk result (λ b. b ≡ spec.are_normal_values (signature_of signature.now) (bounds values.now)) }
+fn are_values(signature: &Signature, values: &Values) -> bool
+    ensures { result ≡ spec.are_values (signature_of signature.now) (bounds values.now) }
 {
     for bound in &values.bindings {
-        if !is_normal_value(alloc, signature, bound)? {
-            return Ok(false);
+        if !is_value(signature, bound) {
+            return false;
         }
     }
-    Ok(true)
+    true
 }
 
 fn is_instance(
     alloc: Global,
     signature: &Signature,
-    rule: &Rule,
+    form: &Form,
     facts: &GroundFacts,
 ) -> Result<bool, AllocError>
-    ensures { IfOk result (λ b. b ≡ spec.is_instance (signature_of signature.now) (rule_of rule.now) (ground_facts facts.now)) }
+    ensures { IfOk result (λ b. b ≡ spec.is_instance (signature_of signature.now) (form_of form.now) (ground_facts facts.now)) }
 {
-    if !are_alike(&rule.facts, facts) {
+    if !are_alike(&form.facts, facts) {
         return Ok(false);
     }
-    match matched_values(alloc, &rule.facts, facts)? {
-        Some(values) => {
-            let are_normal = are_normal_values(alloc, signature, &values)?;
-            Ok(are_normal)
-        }
+    match matched_values(alloc, &form.facts, facts)? {
+        Some(values) => Ok(are_values(signature, &values)),
         None => Ok(false),
     }
 }
 
-/// Whether the facts are an instance, in normal form, of some rule of the name.
+fn is_instance_of_form(
+    alloc: Global,
+    signature: &Signature,
+    forms: &Vec<Form>,
+    facts: &GroundFacts,
+) -> Result<bool, AllocError>
+    ensures { IfOk result (λ b. b
+        ≡ list_any (λ form. spec.is_instance (signature_of signature.now) form (ground_facts facts.now)) (map form_of forms.now.items)) }
+{
+    for form in forms {
+        if is_instance(alloc, signature, form, facts)? {
+            return Ok(true);
+        }
+    }
+    Ok(false)
+}
+
+/// Whether the facts are an instance of some form of a rule of the name.
 pub fn is_instance_of_any(
     alloc: Global,
     signature: &Signature,
-    rules: &Vec<Rule>,
+    rules: &Vec<RuleForms>,
     name: &Name,
     facts: &GroundFacts,
 ) -> Result<bool, AllocError>
     ensures { IfOk result (λ b. b
-        ≡ spec.is_instance_of_any (signature_of signature.now) (map rule_of rules.now.items) (name_of name.now) (ground_facts facts.now)) }
+        ≡ spec.is_instance_of_any (signature_of signature.now) (map rule_forms_of rules.now.items) (name_of name.now) (ground_facts facts.now)) }
 {
     for rule in rules {
-        if rule.name == *name && is_instance(alloc, signature, rule, facts)? {
+        if rule.name == *name && is_instance_of_form(alloc, signature, &rule.forms, facts)? {
             return Ok(true);
         }
     }

@@ -10,7 +10,7 @@ use Rattle.sp_spec_system.specs.Move.{Case}
 use Rattle.sp_spec_formula.specs.Action.{is_adversary, action_at_time, action_cases, solving_action}
 use Rattle.sp_moves_formula.specs.Sought.{timed, sought}
 use Rattle.std.specs.Prelude.{if◌then◌else◌}
-use Rattle.sp_spec_system.specs.Rules.{RuleForms}
+use Rattle.sp_spec_forms.specs.Forms.{RuleForms}
 
 -- the cases of what is looked for
 abbrev pub sought_cases : List RuleForms → System → ℕ × Action Variable → List Case

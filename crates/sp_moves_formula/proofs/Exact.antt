@@ -10,7 +10,7 @@ use Rattle.sp_spec_formula.specs.Action.{is_adversary, action_at_time, solving_a
 use Rattle.sp_moves_formula.specs.WhyNot.{Clause, condition, why_no_disjunction, why_not_freed, why_no_action, why_not_formula, formula_cases, HasCases}
 use Rattle.sp_moves_formula.specs.Parts.{disjuncts, by_parts}
 use Rattle.sp_moves_formula.proofs.Parts.{parts_at}
-use Rattle.sp_spec_system.specs.Rules.{RuleForms}
+use Rattle.sp_spec_forms.specs.Forms.{RuleForms}
 
 by_freed : (rules : List RuleForms) (s : System) (i : ℕ) (symbol : List ℕ) (o : Option (Action Variable)) (b : Bool) → is_adversary symbol ≡ b
     → is_none (why_not_freed symbol o) ≡ is_some (let r : Option (List Case) = if b then None else action_at_time rules s i o in r)

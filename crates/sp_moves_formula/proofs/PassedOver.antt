@@ -1,16 +1,18 @@
--- A rule without an action of the name that is looked for gives no case.
+-- A rule none of whose forms has an action of the name that is looked for gives no case.
 use Rattle.std.proofs.Common.{◌≡◌, ℕ, Bool, true, false, List, [], ◌∷◌, ◌++◌, map, Option, None, option_map, refl, ap, ◌∙◌, if◌then◌else◌}
 use Rattle.std.specs.Str.{bytes_eq}
 use Rattle.sp_spec.specs.Term.{Variable, Term}
-use Rattle.sp_spec.specs.Rule.{Action, Rule, action_at}
+use Rattle.sp_spec.specs.Rule.{Action, action_at}
 use Rattle.sp_spec.specs.Substitution.{bound_to}
 use Rattle.sp_spec.specs.Unifier.{Pair}
 use Rattle.sp_spec_system.specs.System.{System}
 use Rattle.sp_spec_system.specs.Equating.{argument_pairs, unifier_of, system_changed}
-use Rattle.sp_spec_formula.specs.Action.{by_actions, with_step}
+use Rattle.sp_spec_formula.specs.Action.{by_actions, with_step, by_forms}
 use Rattle.sp_spec_system.specs.Cases.{system_if, named}
 use Rattle.sp_moves_formula.specs.Sought.{shifted, by_rule}
-use Rattle.sp_fact.specs.Book.{has_action}
+use Rattle.sp_book.specs.Book.{has_action, shows}
+use Rattle.sp_spec_forms.specs.Numbering.{Form}
+use Rattle.sp_spec_forms.specs.Forms.{RuleForms}
 use Rattle.std.proofs.lemmas.Bool.{or_parts}
 
 -- the systems in which two actions are one, where their names differ
@@ -27,5 +29,12 @@ none_acts s a v (b ∷ actions) e =
     other_name s (bytes_eq a.symbol b.symbol) (argument_pairs a.args (action_at v b).args) (by_actions s a (map (action_at v) actions)) parts.0
     ∙ none_acts s a v actions parts.1
 
-pub no_case : (r : Rule) (s : System) (i : ℕ) (a : Action Variable) → has_action a.symbol r.facts.actions ≡ false → by_rule r s i a ≡ []
-no_case r s i a e = ap (λ (systems : List System). named r.name (systems ++ [])) (none_acts (with_step s i r) a (shifted s.next) r.facts.actions e)
+none_of : (name : List ℕ) (forms : List Form) (s : System) (i : ℕ) (a : Action Variable) → shows a.symbol forms ≡ false → by_forms name forms s i a ≡ []
+none_of name [] s i a e = refl
+none_of name (form ∷ forms) s i a e =
+    let parts = or_parts (has_action a.symbol form.facts.actions) (shows a.symbol forms) e in
+    ap (λ (systems : List System). systems ++ by_forms name forms s i a) (none_acts (with_step s i name form) a (shifted s.next) form.facts.actions parts.0)
+    ∙ none_of name forms s i a parts.1
+
+pub no_case : (r : RuleForms) (s : System) (i : ℕ) (a : Action Variable) → shows a.symbol r.forms ≡ false → by_rule r s i a ≡ []
+no_case r s i a e = ap (named r.name) (none_of r.name r.forms s i a e)

@@ -1,13 +1,15 @@
 -- What the functions of this crate give, in parts of the written move.
-use Rattle.std.specs.Prelude.{ℕ, ◌+◌, List, [], ◌∷◌, if◌then◌else◌, Option, None, option_map}
+use Rattle.std.specs.Prelude.{ℕ, ◌+◌, List, if◌then◌else◌, Option, None, option_map}
 use Rattle.sp_spec.specs.Term.{Variable, Term, var}
-use Rattle.sp_spec.specs.Rule.{Action, Rule}
+use Rattle.sp_spec.specs.Rule.{Action}
 use Rattle.sp_spec.specs.Guarded.{Guarded, holds, acts, free_time}
 use Rattle.sp_spec_system.specs.Formulas.{freed_action}
 use Rattle.sp_spec_system.specs.System.{System}
 use Rattle.sp_spec_system.specs.Move.{Case}
-use Rattle.sp_spec_formula.specs.Action.{is_adversary, by_forms}
-use Rattle.sp_spec_system.specs.Cases.{named}
+use Rattle.sp_spec_formula.specs.Action.{is_adversary, by_actions, with_step, by_forms}
+use Rattle.sp_spec_system.specs.Cases.{renamed, named}
+use Rattle.sp_spec_forms.specs.Numbering.{Form}
+use Rattle.sp_spec_forms.specs.Forms.{RuleForms}
 
 -- an action, with its time
 abbrev pub timed : ℕ → Action Variable → ℕ × Action Variable
@@ -22,6 +24,10 @@ sought f = None
 abbrev pub shifted : ℕ → Variable → Term Variable
 shifted next x = var (record { sort = x.sort; number = next + x.number })
 
--- the cases of a new step of one rule, which is its only form
-abbrev pub by_rule : Rule → System → ℕ → Action Variable → List Case
-by_rule r s i a = named r.name (by_forms (r ∷ []) s i a)
+-- the systems with a new step by one form of a rule
+abbrev pub by_form : List ℕ → Form → System → ℕ → Action Variable → List System
+by_form name form s i a = by_actions (with_step s i name form) a (renamed s.next form.facts).actions
+
+-- the cases of a new step of one rule
+abbrev pub by_rule : RuleForms → System → ℕ → Action Variable → List Case
+by_rule r s i a = named r.name (by_forms r.name r.forms s i a)

@@ -8,7 +8,7 @@ use Rattle.sp_spec_system.specs.Formulas.{freed_action}
 use Rattle.sp_spec_system.specs.Move.{Move, or, action, Case}
 use Rattle.sp_spec_formula.specs.Action.{is_adversary, solving_action}
 use Rattle.sp_spec_formula.specs.Or.{disjunction_at, or_cases}
-use Rattle.sp_spec_system.specs.Rules.{RuleForms}
+use Rattle.sp_spec_forms.specs.Forms.{RuleForms}
 
 -- What fails of a move's condition: of these the first that does.
 pub data Clause : Type 0 where

@@ -8,7 +8,7 @@ ghost use Rattle.sp_fact.specs.View.{action_of};
 ghost use Rattle.sp_formula.specs.FormulaView.{formula_of};
 ghost use Rattle.sp_spec_formula.specs.Action as spec;
 ghost use Rattle.sp_moves_formula.specs.Sought.{sought, timed};
-ghost use Rattle.sp_spec_system.specs.Rules.{RuleForms};
+ghost use Rattle.sp_spec_forms.specs.Forms.{RuleForms};
 
 use sp_fact::fact::Action;
 use sp_formula::formula::{Atom, Formula, Moment};

@@ -4,16 +4,15 @@ ghost use Rattle.std.specs.Prelude.{◌≡◌, Some, IfOk, map, option_map};
 ghost use Rattle.sp_formula.specs.FormulaView.{formula_of};
 ghost use Rattle.sp_system.specs.SystemView.{system_of};
 ghost use Rattle.sp_moves_formula.specs.View.{case_of, move_of};
-ghost use Rattle.sp_fact.specs.BookView.{book_of};
+ghost use Rattle.sp_book.specs.BookView.{book_of};
 ghost use Rattle.sp_moves_formula.specs.WhyNot.{HasCases, why_no_disjunction, why_no_action, why_not_formula, formula_cases};
 ghost use Rattle.sp_moves_formula.specs.Applied.{clause_of, cases_of, failing};
-ghost use Rattle.sp_spec_system.specs.Rules.{forms_of};
 
 use crate::action::is_adversary;
 use crate::moves::{Case, Move};
 use crate::part::or_cases;
 use crate::solving::solving_action;
-use sp_fact::book::RuleBook;
+use sp_book::book::RuleBook;
 use sp_formula::formula::{Atom, Formula, Moment};
 use sp_system::freed::freed_action;
 use sp_system::system::System;
@@ -94,7 +93,7 @@ fn cases(
     system: &System,
     chosen: Move,
 ) -> Result<Option<Vec<Case>>, AllocError>
-    ensures { IfOk result (λ o. option_map (λ cs. map case_of cs.items) o ≡ formula_cases (map forms_of (book_of rules.now)) (system_of system.now) (move_of chosen)) }
+    ensures { IfOk result (λ o. option_map (λ cs. map case_of cs.items) o ≡ formula_cases (book_of rules.now) (system_of system.now) (move_of chosen)) }
 {
     match chosen {
         Move::Or(position) => or_cases(alloc, system, position),
@@ -115,8 +114,8 @@ pub fn apply(
     chosen: Move,
 ) -> Result<Applied, AllocError>
     ensures why { IfOk result (λ a. failing a ≡ why_not_formula (system_of system.now) (move_of chosen)) }
-    ensures gives { IfOk result (λ a. cases_of a ≡ formula_cases (map forms_of (book_of rules.now)) (system_of system.now) (move_of chosen)) }
-    ensures exact { HasCases (why_not_formula (system_of system.now) (move_of chosen)) (formula_cases (map forms_of (book_of rules.now)) (system_of system.now) (move_of chosen)) }
+    ensures gives { IfOk result (λ a. cases_of a ≡ formula_cases (book_of rules.now) (system_of system.now) (move_of chosen)) }
+    ensures exact { HasCases (why_not_formula (system_of system.now) (move_of chosen)) (formula_cases (book_of rules.now) (system_of system.now) (move_of chosen)) }
 {
     match cases(alloc, rules, system, chosen)? {
         Some(cases) => Ok(Applied::Cases(cases)),

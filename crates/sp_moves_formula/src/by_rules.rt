@@ -1,26 +1,28 @@
 // An action at a new step of some rule.
 
 ghost use Rattle.std.specs.Prelude.{◌≡◌, IfOk, map, slice_get};
-ghost use Rattle.sp_fact.specs.View.{rule_of, action_of};
-ghost use Rattle.sp_fact.specs.BookView.{book_of};
+ghost use Rattle.sp_fact.specs.View.{action_of};
+ghost use Rattle.sp_term.specs.View.{name_of};
+ghost use Rattle.sp_book.specs.View.{form_of, rule_forms_of};
+ghost use Rattle.sp_book.specs.BookView.{book_of};
 ghost use Rattle.sp_system.specs.SystemView.{system_of};
 ghost use Rattle.sp_spec_formula.specs.Action as spec;
 ghost use Rattle.sp_moves_formula.specs.View.{case_of};
-ghost use Rattle.sp_moves_formula.specs.Sought.{by_rule};
+ghost use Rattle.sp_moves_formula.specs.Sought.{by_form, by_rule};
 ghost use Rattle.sp_moves_formula.specs.Book.{by_found};
-ghost use Rattle.sp_spec_system.specs.Rules.{forms_of};
 
 use crate::moves::Case;
 use crate::named::named;
 use crate::renamed::renamed;
 use crate::where_same::by_actions;
-use sp_fact::book::RuleBook;
+use sp_book::book::RuleBook;
+use sp_book::form::{Form, RuleForms};
 use sp_fact::fact::Action;
-use sp_fact::rule::Rule;
 use sp_system::system::{Event, System, What};
+use sp_term::term::Name;
 use std::alloc::{AllocError, Global};
 
-/// The system with one more event: a step of the rule at the time, over variables that are new.
+/// The system with one more event: a step at the time by a form of the rule of this name, over variables that are new.
 ///
 /// # Errors
 ///
@@ -29,18 +31,55 @@ pub fn with_step(
     alloc: Global,
     system: &System,
     time: u128,
-    rule: &Rule,
+    name: &Name,
+    form: &Form,
 ) -> Result<System, AllocError>
-    ensures { IfOk result (λ s. system_of s ≡ spec.with_step (system_of system.now) time (rule_of rule.now)) }
+    ensures { IfOk result (λ s. system_of s ≡ spec.with_step (system_of system.now) time (name_of name.now) (form_of form.now)) }
 {
-    let Some(next) = system.next.checked_add(rule.variables.len() as u128) else {
+    let Some(next) = system.next.checked_add(form.count as u128) else {
         return Err(AllocError);
     };
-    let facts = renamed(alloc, system.next, &rule.facts)?;
-    let what = What::Rule(rule.name.copy()?);
+    let facts = renamed(alloc, system.next, &form.facts)?;
+    let what = What::Rule(name.copy()?);
     let mut made = system.copy(alloc)?;
     made.events.push(Event { time, what, facts })?;
     made.next = next;
+    Ok(made)
+}
+
+// By one form of the rule.
+fn by_form(
+    alloc: Global,
+    system: &System,
+    time: u128,
+    action: &Action,
+    name: &Name,
+    form: &Form,
+) -> Result<Vec<System>, AllocError>
+    ensures { IfOk result (λ ss. map system_of ss.items ≡ by_form (name_of name.now) (form_of form.now) (system_of system.now) time (action_of action.now)) }
+{
+    let facts = renamed(alloc, system.next, &form.facts)?;
+    let stepped = with_step(alloc, system, time, name, form)?;
+    let systems = by_actions(alloc, &stepped, action, &facts.actions)?;
+    Ok(systems)
+}
+
+// By each form of the rule, in their order.
+fn by_forms(
+    alloc: Global,
+    system: &System,
+    time: u128,
+    action: &Action,
+    rule: &RuleForms,
+) -> Result<Vec<System>, AllocError>
+    ensures { IfOk result (λ ss. map system_of ss.items
+        ≡ spec.by_forms (name_of rule.now.name) (map form_of rule.now.forms.items) (system_of system.now) time (action_of action.now)) }
+{
+    let mut made = Vec::new(alloc);
+    for form in &rule.forms {
+        let mut systems = by_form(alloc, system, time, action, &rule.name, form)?;
+        made.append(&mut systems)?;
+    }
     Ok(made)
 }
 
@@ -49,13 +88,11 @@ fn by_rule(
     system: &System,
     time: u128,
     action: &Action,
-    rule: &Rule,
+    rule: &RuleForms,
 ) -> Result<Vec<Case>, AllocError>
-    ensures { IfOk result (λ cs. map case_of cs.items ≡ by_rule (rule_of rule.now) (system_of system.now) time (action_of action.now)) }
+    ensures { IfOk result (λ cs. map case_of cs.items ≡ by_rule (rule_forms_of rule.now) (system_of system.now) time (action_of action.now)) }
 {
-    let facts = renamed(alloc, system.next, &rule.facts)?;
-    let stepped = with_step(alloc, system, time, rule)?;
-    let systems = by_actions(alloc, &stepped, action, &facts.actions)?;
+    let systems = by_forms(alloc, system, time, action, rule)?;
     let made = named(alloc, &rule.name, systems)?;
     Ok(made)
 }
@@ -89,7 +126,7 @@ pub fn by_each(
     time: u128,
     action: &Action,
 ) -> Result<Vec<Case>, AllocError>
-    ensures { IfOk result (λ cs. map case_of cs.items ≡ spec.by_each (map forms_of (book_of rules.now)) (system_of system.now) time (action_of action.now)) }
+    ensures { IfOk result (λ cs. map case_of cs.items ≡ spec.by_each (book_of rules.now) (system_of system.now) time (action_of action.now)) }
 {
     let mut made = Vec::new(alloc);
     for place in rules.places(&action.symbol) {

@@ -2,19 +2,18 @@
 
 ghost use Rattle.std.specs.Prelude.{◌≡◌, Some, IfOk, map, option_map, slice_get};
 ghost use Rattle.sp_fact.specs.View.{action_of};
-ghost use Rattle.sp_fact.specs.BookView.{book_of};
+ghost use Rattle.sp_book.specs.BookView.{book_of};
 ghost use Rattle.sp_formula.specs.FormulaView.{formula_of};
 ghost use Rattle.sp_system.specs.SystemView.{system_of};
 ghost use Rattle.sp_spec_system.specs.MakingOne as rows;
 ghost use Rattle.sp_spec_formula.specs.Action as spec;
 ghost use Rattle.sp_moves_formula.specs.View.{case_of};
-ghost use Rattle.sp_spec_system.specs.Rules.{forms_of};
 
 use crate::action::sought;
 use crate::at_event::at_event;
 use crate::by_rules::by_each;
 use crate::moves::Case;
-use sp_fact::book::RuleBook;
+use sp_book::book::RuleBook;
 use sp_fact::fact::Action;
 use sp_formula::formula::Formula;
 use sp_system::at_time::event_at;
@@ -28,7 +27,7 @@ fn action_cases(
     time: u128,
     action: &Action,
 ) -> Result<Vec<Case>, AllocError>
-    ensures { IfOk result (λ cs. map case_of cs.items ≡ spec.action_cases (map forms_of (book_of rules.now)) (system_of system.now) time (action_of action.now)
+    ensures { IfOk result (λ cs. map case_of cs.items ≡ spec.action_cases (book_of rules.now) (system_of system.now) time (action_of action.now)
         (rows.event_at time (system_of system.now).events)) }
 {
     match event_at(time, &system.events) {
@@ -46,7 +45,7 @@ fn solving(
     formula: &Formula,
 ) -> Result<Option<Vec<Case>>, AllocError>
     ensures { IfOk result (λ o. option_map (λ cs. map case_of cs.items) o
-        ≡ spec.solving_action (map forms_of (book_of rules.now)) (system_of system.now) (Some (formula_of formula.now))) }
+        ≡ spec.solving_action (book_of rules.now) (system_of system.now) (Some (formula_of formula.now))) }
 {
     let Some((time, action)) = sought(alloc, formula)? else {
         return Ok(None);
@@ -67,7 +66,7 @@ pub fn solving_action(
     position: usize,
 ) -> Result<Option<Vec<Case>>, AllocError>
     ensures { IfOk result (λ o. option_map (λ cs. map case_of cs.items) o
-        ≡ spec.solving_action (map forms_of (book_of rules.now)) (system_of system.now) (slice_get (system_of system.now).formulas position)) }
+        ≡ spec.solving_action (book_of rules.now) (system_of system.now) (slice_get (system_of system.now).formulas position)) }
 {
     match system.formulas.get(position) {
         Some(formula) => solving(alloc, rules, system, formula),

@@ -12,7 +12,7 @@ use Rattle.sp_spec_graph.specs.Premise.{is_linked, of_a_step, open_premise, prem
 use Rattle.sp_moves_formula.specs.WhyNot.{Clause, absent, condition, HasCases}
 use Rattle.sp_moves_graph.specs.Times.{formula_has, one_has, formulas_have, events_have, has_time}
 use Rattle.sp_moves_graph.specs.WhyNot.{why_not_open, why_not_of, why_not_graph, graph_cases}
-use Rattle.sp_spec_system.specs.Rules.{RuleForms}
+use Rattle.sp_spec_forms.specs.Forms.{RuleForms}
 
 -- an event's time is in the system
 no_event : (i : ℕ) (es : List Event) → events_have i es ≡ false → event_at i es ≡ None

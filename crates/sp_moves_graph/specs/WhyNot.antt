@@ -9,7 +9,7 @@ use Rattle.sp_spec_system.specs.Move.{Move, premise, Case}
 use Rattle.sp_spec_graph.specs.Premise.{is_linked, open_premise, premise_cases}
 use Rattle.sp_moves_formula.specs.WhyNot.{Clause, another_crate, absent, other_kind, condition}
 use Rattle.sp_moves_graph.specs.Times.{has_time}
-use Rattle.sp_spec_system.specs.Rules.{RuleForms}
+use Rattle.sp_spec_forms.specs.Forms.{RuleForms}
 
 -- the premise of that time and place, if its event has so many
 abbrev pub why_not_open : System → ℕ → ℕ → Option (Fact Variable) → Option Clause

@@ -2,7 +2,7 @@
 
 ghost use Rattle.std.specs.Prelude.{◌≡◌, ◌||◌, Some, IfOk, map, option_map};
 ghost use Rattle.sp_fact.specs.View.{fact_of};
-ghost use Rattle.sp_fact.specs.BookView.{book_of};
+ghost use Rattle.sp_book.specs.BookView.{book_of};
 ghost use Rattle.sp_spec.specs.Log.{is_fr, is_in};
 ghost use Rattle.sp_system.specs.SystemView.{event_of, system_of};
 ghost use Rattle.sp_spec_graph.specs.Premise as spec;
@@ -10,11 +10,10 @@ ghost use Rattle.sp_moves_formula.specs.View.{case_of, move_of};
 ghost use Rattle.sp_moves_formula.specs.Applied.{clause_of, cases_of, failing};
 ghost use Rattle.sp_moves_formula.specs.WhyNot.{HasCases};
 ghost use Rattle.sp_moves_graph.specs.WhyNot.{why_not_of, why_not_graph, graph_cases};
-ghost use Rattle.sp_spec_system.specs.Rules.{forms_of};
 
 use crate::premise::{is_linked, is_received, premise_cases};
 use crate::times::has_time;
-use sp_fact::book::RuleBook;
+use sp_book::book::RuleBook;
 use sp_fact::fact::Fact;
 pub use sp_moves_formula::apply::{Applied, Clause};
 use sp_moves_formula::moves::{Case, Move, Premise};
@@ -67,7 +66,7 @@ fn cases(
     system: &System,
     chosen: Move,
 ) -> Result<Option<Vec<Case>>, AllocError>
-    ensures { IfOk result (λ o. option_map (λ cs. map case_of cs.items) o ≡ graph_cases (map forms_of (book_of rules.now)) (system_of system.now) (move_of chosen)) }
+    ensures { IfOk result (λ o. option_map (λ cs. map case_of cs.items) o ≡ graph_cases (book_of rules.now) (system_of system.now) (move_of chosen)) }
 {
     match chosen {
         Move::Premise(premise) => premise_cases(alloc, rules, system, premise),
@@ -87,8 +86,8 @@ pub fn apply(
     chosen: Move,
 ) -> Result<Applied, AllocError>
     ensures why { IfOk result (λ a. failing a ≡ why_not_graph (system_of system.now) (move_of chosen)) }
-    ensures gives { IfOk result (λ a. cases_of a ≡ graph_cases (map forms_of (book_of rules.now)) (system_of system.now) (move_of chosen)) }
-    ensures exact { HasCases (why_not_graph (system_of system.now) (move_of chosen)) (graph_cases (map forms_of (book_of rules.now)) (system_of system.now) (move_of chosen)) }
+    ensures gives { IfOk result (λ a. cases_of a ≡ graph_cases (book_of rules.now) (system_of system.now) (move_of chosen)) }
+    ensures exact { HasCases (why_not_graph (system_of system.now) (move_of chosen)) (graph_cases (book_of rules.now) (system_of system.now) (move_of chosen)) }
 {
     match cases(alloc, rules, system, chosen)? {
         Some(cases) => Ok(Applied::Cases(cases)),

@@ -1,19 +1,20 @@
 // The steps that may give a premise.
 
 ghost use Rattle.std.specs.Prelude.{◌≡◌, ◌+◌, suc, IfOk, length, map, option_map};
-ghost use Rattle.sp_fact.specs.View.{rule_of, fact_of};
-ghost use Rattle.sp_fact.specs.BookView.{book_of};
+ghost use Rattle.sp_fact.specs.View.{fact_of};
+ghost use Rattle.sp_term.specs.View.{name_of};
+ghost use Rattle.sp_book.specs.View.{form_of, rule_forms_of};
+ghost use Rattle.sp_book.specs.BookView.{book_of};
 ghost use Rattle.sp_system.specs.SystemView.{link_of, system_of};
 ghost use Rattle.sp_spec.specs.Log.{is_in};
 ghost use Rattle.sp_spec_graph.specs.Premise as spec;
 ghost use Rattle.sp_spec_system.specs.Cases as cases_spec;
 ghost use Rattle.sp_moves_formula.specs.View.{case_of};
-ghost use Rattle.sp_moves_graph.specs.PremiseRules.{by_source};
-ghost use Rattle.sp_spec_system.specs.Rules.{forms_of};
+ghost use Rattle.sp_moves_graph.specs.PremiseRules.{by_form, by_source};
 
-use sp_fact::book::RuleBook;
+use sp_book::book::RuleBook;
+use sp_book::form::{Form, RuleForms};
 use sp_fact::fact::Fact;
-use sp_fact::rule::Rule;
 use sp_moves_formula::moves::Case;
 pub use sp_moves_formula::moves::Premise;
 use sp_moves_formula::named::named;
@@ -22,6 +23,7 @@ use sp_moves_formula::where_same::fact_unifier;
 use sp_rows_graph::fresh_once::is_fresh;
 use sp_system::at_time::premise_at;
 use sp_system::system::{Event, Link, System, What};
+use sp_term::term::Name;
 use std::alloc::{AllocError, Global};
 
 pub fn is_linked(links: &Vec<Link>, premise: Premise) -> bool
@@ -54,23 +56,25 @@ pub fn open_premise(system: &System, premise: Premise) -> Option<&Fact>
     }
 }
 
-// The system with a new step of the rule whose conclusion at the place is the premise.
+// The system with a new step by a form of the rule of this name, whose conclusion at the place is the premise.
 fn with_source(
     alloc: Global,
     system: &System,
     premise: Premise,
-    rule: &Rule,
+    name: &Name,
+    form: &Form,
     place: usize,
 ) -> Result<System, AllocError>
-    ensures { IfOk result (λ s. system_of s ≡ spec.with_source (system_of system.now) premise.time premise.place (rule_of rule.now) place) }
+    ensures { IfOk result (λ s. system_of s
+        ≡ spec.with_source (system_of system.now) premise.time premise.place (name_of name.now) (form_of form.now) place) }
 {
     let first = after(system.next)?;
-    let Some(next) = first.checked_add(rule.variables.len() as u128) else {
+    let Some(next) = first.checked_add(form.count as u128) else {
         return Err(AllocError);
     };
     let time = system.next;
-    let facts = renamed(alloc, first, &rule.facts)?;
-    let what = What::Rule(rule.name.copy()?);
+    let facts = renamed(alloc, first, &form.facts)?;
+    let what = What::Rule(name.copy()?);
     let mut made = system.copy(alloc)?;
     made.events.push(Event { time, what, facts })?;
     made.links.push(Link {
@@ -99,17 +103,19 @@ fn given_by(
     system: &System,
     premise: Premise,
     fact: &Fact,
-    rule: &Rule,
+    name: &Name,
+    form: &Form,
     place: usize,
     conclusion: &Fact,
 ) -> Result<Option<System>, AllocError>
     ensures { IfOk result (λ o. option_map system_of o
-        ≡ cases_spec.where_same_fact (spec.with_source (system_of system.now) premise.time premise.place (rule_of rule.now) place) (fact_of fact.now) (fact_of conclusion.now)) }
+        ≡ cases_spec.where_same_fact (spec.with_source (system_of system.now) premise.time premise.place (name_of name.now) (form_of form.now) place)
+        (fact_of fact.now) (fact_of conclusion.now)) }
 {
     let Some(subst) = fact_unifier(alloc, fact, conclusion)? else {
         return Ok(None);
     };
-    let given = with_source(alloc, system, premise, rule, place)?;
+    let given = with_source(alloc, system, premise, name, form, place)?;
     let made = given.with_terms(alloc, &subst)?;
     Ok(Some(made))
 }
@@ -119,17 +125,57 @@ fn by_conclusions(
     system: &System,
     premise: Premise,
     fact: &Fact,
-    rule: &Rule,
+    name: &Name,
+    form: &Form,
     conclusions: &Vec<Fact>,
 ) -> Result<Vec<System>, AllocError>
     ensures { IfOk result (λ ss. map system_of ss.items
-        ≡ spec.by_conclusions (system_of system.now) premise.time premise.place (fact_of fact.now) (rule_of rule.now) 0 (map fact_of conclusions.now.items)) }
+        ≡ spec.by_conclusions (system_of system.now) premise.time premise.place (fact_of fact.now) (name_of name.now) (form_of form.now) 0 (map fact_of conclusions.now.items)) }
 {
     let mut made = Vec::new(alloc);
     for (place, conclusion) in conclusions.iter().enumerate() {
-        if let Some(system) = given_by(alloc, system, premise, fact, rule, place, conclusion)? {
+        if let Some(system) = given_by(
+            alloc, system, premise, fact, name, form, place, conclusion,
+        )? {
             made.push(system)?;
         }
+    }
+    Ok(made)
+}
+
+// By one form of the rule.
+fn by_form(
+    alloc: Global,
+    system: &System,
+    premise: Premise,
+    fact: &Fact,
+    name: &Name,
+    form: &Form,
+) -> Result<Vec<System>, AllocError>
+    ensures { IfOk result (λ ss. map system_of ss.items
+        ≡ by_form (name_of name.now) (form_of form.now) (system_of system.now) premise.time premise.place (fact_of fact.now)) }
+{
+    let first = after(system.next)?;
+    let facts = renamed(alloc, first, &form.facts)?;
+    let systems = by_conclusions(alloc, system, premise, fact, name, form, &facts.conclusions)?;
+    Ok(systems)
+}
+
+// By each form of the rule, in their order.
+fn source_forms(
+    alloc: Global,
+    system: &System,
+    premise: Premise,
+    fact: &Fact,
+    rule: &RuleForms,
+) -> Result<Vec<System>, AllocError>
+    ensures { IfOk result (λ ss. map system_of ss.items
+        ≡ spec.source_forms (name_of rule.now.name) (map form_of rule.now.forms.items) (system_of system.now) premise.time premise.place (fact_of fact.now)) }
+{
+    let mut made = Vec::new(alloc);
+    for form in &rule.forms {
+        let mut systems = by_form(alloc, system, premise, fact, &rule.name, form)?;
+        made.append(&mut systems)?;
     }
     Ok(made)
 }
@@ -139,13 +185,11 @@ fn by_source(
     system: &System,
     premise: Premise,
     fact: &Fact,
-    rule: &Rule,
+    rule: &RuleForms,
 ) -> Result<Vec<Case>, AllocError>
-    ensures { IfOk result (λ cs. map case_of cs.items ≡ by_source (rule_of rule.now) (system_of system.now) premise.time premise.place (fact_of fact.now)) }
+    ensures { IfOk result (λ cs. map case_of cs.items ≡ by_source (rule_forms_of rule.now) (system_of system.now) premise.time premise.place (fact_of fact.now)) }
 {
-    let first = after(system.next)?;
-    let facts = renamed(alloc, first, &rule.facts)?;
-    let systems = by_conclusions(alloc, system, premise, fact, rule, &facts.conclusions)?;
+    let systems = source_forms(alloc, system, premise, fact, rule)?;
     let made = named(alloc, &rule.name, systems)?;
     Ok(made)
 }
@@ -157,7 +201,7 @@ fn by_each_source(
     premise: Premise,
     fact: &Fact,
 ) -> Result<Vec<Case>, AllocError>
-    ensures { IfOk result (λ cs. map case_of cs.items ≡ spec.by_each_source (map forms_of (book_of rules.now)) (system_of system.now) premise.time premise.place (fact_of fact.now)) }
+    ensures { IfOk result (λ cs. map case_of cs.items ≡ spec.by_each_source (book_of rules.now) (system_of system.now) premise.time premise.place (fact_of fact.now)) }
 {
     let mut made = Vec::new(alloc);
     for rule in &rules.rules {
@@ -167,7 +211,7 @@ fn by_each_source(
     Ok(made)
 }
 
-/// A case for each conclusion of each rule that may be the premise, before they are simplified; none where the premise isn't to have a
+/// A case for each conclusion of each form of each rule that may be the premise, before they are simplified; none where the premise isn't to have a
 /// step for its source.
 ///
 /// # Errors
@@ -180,7 +224,7 @@ pub fn premise_cases(
     premise: Premise,
 ) -> Result<Option<Vec<Case>>, AllocError>
     ensures { IfOk result (λ o. option_map (λ cs. map case_of cs.items) o
-        ≡ spec.premise_cases (map forms_of (book_of rules.now)) (system_of system.now) premise.time premise.place (spec.open_premise (system_of system.now) premise.time premise.place)) }
+        ≡ spec.premise_cases (book_of rules.now) (system_of system.now) premise.time premise.place (spec.open_premise (system_of system.now) premise.time premise.place)) }
 {
     let Some(fact) = open_premise(system, premise) else {
         return Ok(None);

@@ -2,6 +2,7 @@
 use Rattle.std.proofs.Common.{◌≡◌, ℕ, false, List, [], ◌∷◌, ◌++◌}
 use Rattle.std.proofs.lemmas.Bool.{or_parts}
 use Rattle.sp_spec.specs.Lists.{Every}
+use Rattle.sp_spec.proofs.Lists.{every_both}
 use Rattle.sp_spec.specs.Signature.{Signature}
 use Rattle.sp_spec.specs.Rule.{Fact, Action}
 use Rattle.sp_spec.specs.Formula.{Written, Formula, truth, falsity, happens, equals, precedes, not_so, both, either, implies, for_all, for_some}
@@ -11,12 +12,14 @@ use Rattle.sp_spec_text.specs.Written.{WrittenText}
 use Rattle.sp_spec_text.specs.Declared.{theory_in}
 use Rattle.sp_law_equal.specs.NormalForms.{HasNormalForms}
 use Rattle.sp_law_conv.specs.Accepted.{AreAccepted}
-use Rattle.sp_law_conv.specs.Laws.{HaveOneArity, EquationsAreOver}
+use Rattle.sp_law_equal.specs.Right.{EquationsAreOver}
+use Rattle.sp_law_conv.specs.Laws.{HaveOneArity}
 use Rattle.sp_law_conv.proofs.Convergent.{convergence_law}
-use Rattle.sp_law_tree.specs.BasicTheory.{IsBasicFact, IsBasicAction, IsBasicRule, IsBasicFormula}
-use Rattle.sp_wf.specs.SymbolFindings.{unknown_in, unknown_in_all, unknown_in_facts, unknown_in_actions, unknown_in_formula, has_destructor, have_destructor, facts_have_destructor, actions_have_destructor, formula_has_destructor}
+use Rattle.sp_law_tree.specs.BasicTheory.{IsBasicFact, IsBasicRule, IsBasicFormula}
+use Rattle.sp_wf.specs.SymbolFindings.{unknown_in, unknown_in_all, unknown_in_facts, unknown_in_actions, unknown_in_formula, has_destructor, have_destructor, facts_have_destructor, formula_has_destructor}
 use Rattle.sp_wf.specs.Laws.{IsFineRule, IsFineLemma}
-use Rattle.sp_pose.specs.Problem.{Poses, PosesProofs, has_forms, some_have_forms}
+use Rattle.sp_pose.specs.Problem.{Poses}
+use Rattle.sp_pose.proofs.Known.{facts_over, actions_over}
 use Rattle.sp_pose.proofs.OneArity.{have_one_arity}
 use Rattle.sp_pose.proofs.Constructors.{none_left, constructor_term, constructor_terms}
 use Rattle.sp_pose.proofs.Theories.{IsSpelledFact, IsSpelledAction, IsSpelledRule, IsSpelledFormula, theory_spelled}
@@ -29,29 +32,19 @@ module _ (s : Signature) (one : HaveOneArity s.symbols) (over : EquationsAreOver
       let plain = or_parts (have_destructor s.equations f.args) (facts_have_destructor s.equations fs) d in
       (((constructor_terms s one over good f.args known.0 plain.0, h.0.0), h.0.1), facts_basic fs h.1 known.1 plain.1)
 
-  actions_basic : (as' : List (Action Written)) → Every IsSpelledAction as' → unknown_in_actions s.symbols as' ≡ [] → actions_have_destructor s.equations as' ≡ false → Every (IsBasicAction s) as'
-  actions_basic [] h e d = tt
-  actions_basic (a ∷ as') h e d =
-      let known = none_left (unknown_in_all s.symbols a.args) (unknown_in_actions s.symbols as') e in
-      let plain = or_parts (have_destructor s.equations a.args) (actions_have_destructor s.equations as') d in
-      (((constructor_terms s one over good a.args known.0 plain.0, h.0.0), h.0.1), actions_basic as' h.1 known.1 plain.1)
-
-  rule_basic : (r : WrittenRule) → IsSpelledRule r → IsFineRule s.symbols s.equations r → has_forms s.equations r ≡ false → IsBasicRule s r
-  rule_basic r h fine single =
+  rule_basic : (r : WrittenRule) → IsSpelledRule r → IsFineRule s.symbols s.equations r → IsBasicRule s r
+  rule_basic r h fine =
       let known = none_left (unknown_in_facts s.symbols r.facts.premises) (unknown_in_actions s.symbols r.facts.actions ++ unknown_in_facts s.symbols r.facts.conclusions) fine.known in
       let behind = none_left (unknown_in_actions s.symbols r.facts.actions) (unknown_in_facts s.symbols r.facts.conclusions) known.1 in
-      let plain = or_parts (actions_have_destructor s.equations r.facts.actions) (facts_have_destructor s.equations r.facts.conclusions) single in
       record {
         premises = facts_basic r.facts.premises h.premises known.0 fine.plain;
-        actions = actions_basic r.facts.actions h.actions behind.0 plain.0;
-        conclusions = facts_basic r.facts.conclusions h.conclusions behind.1 plain.1;
+        actions = every_both IsSpelledAction _ _ (λ a k o. ((o, k.0), k.1)) r.facts.actions h.actions (actions_over s.symbols r.facts.actions behind.0);
+        conclusions = every_both IsSpelledFact _ _ (λ f k o. ((o, k.0), k.1)) r.facts.conclusions h.conclusions (facts_over s.symbols r.facts.conclusions behind.1);
       }
 
-  rules_basic : (rs : List WrittenRule) → Every IsSpelledRule rs → Every (IsFineRule s.symbols s.equations) rs → some_have_forms s.equations rs ≡ false → Every (IsBasicRule s) rs
-  rules_basic [] h fine single = tt
-  rules_basic (r ∷ rs) h fine single =
-      let parts = or_parts (has_forms s.equations r) (some_have_forms s.equations rs) single in
-      (rule_basic r h.0 fine.0 parts.0, rules_basic rs h.1 fine.1 parts.1)
+  rules_basic : (rs : List WrittenRule) → Every IsSpelledRule rs → Every (IsFineRule s.symbols s.equations) rs → Every (IsBasicRule s) rs
+  rules_basic [] h fine = tt
+  rules_basic (r ∷ rs) h fine = (rule_basic r h.0 fine.0, rules_basic rs h.1 fine.1)
 
   formula_basic : (f : Formula) → IsSpelledFormula f → unknown_in_formula s.symbols f ≡ [] → formula_has_destructor s.equations f ≡ false → IsBasicFormula s f
   formula_basic truth h e d = tt
@@ -88,12 +81,12 @@ signature_in t = signature_of (theory_of (theory_in t))
 pub normal_forms : {text : List ℕ} {t : WrittenText} → Poses text t → HasNormalForms (signature_of (theory_of (theory_in t)))
 normal_forms {t = t} p =
     let s = signature_in t in
-    record { normal_forms = convergence_law.normal_forms s.symbols s.equations (have_one_arity t.items) p.fine.over p.fine.accepted; keeps = convergence_law.keep s.symbols s.equations p.fine.accepted }
+    record { normal_forms = convergence_law.normal_forms s.symbols s.equations (have_one_arity t.items) p.fine.over p.fine.accepted; keeps = convergence_law.keep s.symbols s.equations p.fine.accepted; over = p.fine.over; nameless = convergence_law.no_names s.symbols s.equations p.fine.accepted }
 
--- destructors may stand in actions and conclusions
 pub lemmas_are_basic : {text : List ℕ} {t : WrittenText} → Poses text t → Every (λ (l : Lemma). IsBasicFormula (signature_of (theory_of (theory_in t))) l.formula) (theory_in t).lemmas
 lemmas_are_basic {t = t} p = lemmas_basic (signature_in t) (have_one_arity t.items) p.fine.over p.fine.accepted (theory_in t).lemmas (theory_spelled p.says.spells).lemmas_are p.fine.lemmas
 
-pub rules_are_basic : {text : List ℕ} {t : WrittenText} → PosesProofs text t → Every (IsBasicRule (signature_of (theory_of (theory_in t)))) (theory_in t).rules
+-- destructors may stand in actions and conclusions
+pub rules_are_basic : {text : List ℕ} {t : WrittenText} → Poses text t → Every (IsBasicRule (signature_of (theory_of (theory_in t)))) (theory_in t).rules
 rules_are_basic {t = t} p =
-    rules_basic (signature_in t) (have_one_arity t.items) p.poses.fine.over p.poses.fine.accepted (theory_in t).rules (theory_spelled p.poses.says.spells).rules_are p.poses.fine.rules p.single
+    rules_basic (signature_in t) (have_one_arity t.items) p.fine.over p.fine.accepted (theory_in t).rules (theory_spelled p.says.spells).rules_are p.fine.rules

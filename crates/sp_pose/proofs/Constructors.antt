@@ -8,9 +8,9 @@ use Rattle.sp_spec.specs.Term.{Variable, Term, var, constant, name, app, Terms, 
 use Rattle.sp_spec.specs.Signature.{Symbol, Equation, HasSymbol, Signature}
 use Rattle.sp_spec.specs.Formula.{Written}
 use Rattle.sp_law_equal.specs.Destructors.{HasRoot, IsDestructor}
-use Rattle.sp_law_equal.specs.Right.{IsTermOver}
+use Rattle.sp_law_equal.specs.Right.{IsTermOver, EquationsAreOver}
 use Rattle.sp_law_conv.specs.Accepted.{IsLeftSide, AreAccepted}
-use Rattle.sp_law_conv.specs.Laws.{HaveOneArity, EquationsAreOver}
+use Rattle.sp_law_conv.specs.Laws.{HaveOneArity}
 use Rattle.sp_law_decide.specs.Normal.{IsConstructorTerm, AreConstructorTerms}
 use Rattle.sp_conv.specs.Tests.{is_application, some_root, is_pair, is_destructor}
 use Rattle.sp_conv.proofs.Tests.{some_root_from}

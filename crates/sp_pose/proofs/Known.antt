@@ -34,11 +34,11 @@ module _ (symbols : List Symbol) where
     terms_over none e = tt
     terms_over (more t ts) e = let known = none_left (unknown_in symbols t) (unknown_in_all symbols ts) e in (term_over t known.0, terms_over ts known.1)
 
-  facts_over : (fs : List (Fact Written)) → unknown_in_facts symbols fs ≡ [] → Every (λ (f : Fact Written). AreTermsOver symbols f.args) fs
+  pub facts_over : (fs : List (Fact Written)) → unknown_in_facts symbols fs ≡ [] → Every (λ (f : Fact Written). AreTermsOver symbols f.args) fs
   facts_over [] e = tt
   facts_over (f ∷ fs) e = let known = none_left (unknown_in_all symbols f.args) (unknown_in_facts symbols fs) e in (terms_over f.args known.0, facts_over fs known.1)
 
-  actions_over : (as' : List (Action Written)) → unknown_in_actions symbols as' ≡ [] → Every (λ (a : Action Written). AreTermsOver symbols a.args) as'
+  pub actions_over : (as' : List (Action Written)) → unknown_in_actions symbols as' ≡ [] → Every (λ (a : Action Written). AreTermsOver symbols a.args) as'
   actions_over [] e = tt
   actions_over (a ∷ as') e = let known = none_left (unknown_in_all symbols a.args) (unknown_in_actions symbols as') e in (terms_over a.args known.0, actions_over as' known.1)
 

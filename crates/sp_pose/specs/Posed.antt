@@ -5,7 +5,7 @@ use Rattle.sp_spec.specs.Written.{rule_of, theory_of}
 use Rattle.sp_term.specs.View.{name_of}
 use Rattle.sp_spec.specs.Theory as spec
 use Rattle.sp_ground.specs.View.{signature_of}
-use Rattle.sp_fact.specs.BookView.{book_of}
+use Rattle.sp_fact.specs.View as memory
 use Rattle.sp_spec.specs.Constants.{constants_of}
 use Rattle.sp_constants.specs.Constants.{constants_in}
 use Rattle.sp_spec_text.specs.Written.{WrittenText, rules_in}
@@ -15,7 +15,7 @@ use Rattle.sp_written.specs.declared.theory.ReadTheory.{ReadTheory}
 use Rattle.sp_spec_text.specs.Spans.{Rise}
 use Rattle.sp_spec_text.specs.Texts.{ArePlaces}
 use Rattle.sp_place.specs.Refused.{IsRefusedAt}
-use Rattle.sp_pose.specs.Problem.{Poses, IsReported, some_have_forms, wants_forms}
+use Rattle.sp_pose.specs.Problem.{Poses, IsReported}
 use Rattle.sp_pose.specs.Asked.{asked_of, lemmas_read, all_asked}
 use Rattle.sp_pose.specs.declared.problem.Problem.{Problem}
 use Rattle.sp_pose.specs.declared.problem.Read.{Read}
@@ -24,10 +24,9 @@ use Rattle.sp_pose.specs.declared.problem.Read.TheVariants.{Refused, Reported, P
 -- It is made of this signature and of the theory in memory.
 pub record IsMadeOf (s : Signature) (theory : ReadTheory) (p : Problem) : Type 0 where
   pub signature_is : signature_of p.signature ≡ s
-  pub rules_are : book_of p.rules ≡ map rule_of (rules_in (view.items theory.items.items))
+  pub rules_are : map memory.rule_of p.rules.items ≡ map rule_of (rules_in (view.items theory.items.items))
   pub constants_are : map name_of p.constants.items ≡ constants_in (view.items theory.items.items)
   pub lemmas_are : all_asked (lemmas_read theory.items.items) ≡ Some (map asked_of p.lemmas.items)
-  pub forms_are : p.wants_forms ≡ some_have_forms s.equations (rules_in (view.items theory.items.items))
   pub end_is : p.behind_end ≡ theory.behind_end
 
 -- It is what the text poses: the signature, the rules and the public names of the theory that the text says, and its lemmas with their guarded forms. The
@@ -38,10 +37,9 @@ pub record IsPosedBy (text : List ℕ) (p : Problem) : Type 0 where
   pub resolved_is : view.theory theory ≡ resolved said
   pub poses : Poses text said
   pub signature_is : signature_of p.signature ≡ spec.signature_of (theory_of (theory_in said))
-  pub rules_are : book_of p.rules ≡ (theory_of (theory_in said)).rules
+  pub rules_are : map memory.rule_of p.rules.items ≡ (theory_of (theory_in said)).rules
   pub constants_are : map name_of p.constants.items ≡ constants_of (theory_in said)
   pub lemmas_are : all_asked (lemmas_read theory.items.items) ≡ Some (map asked_of p.lemmas.items)
-  pub forms_are : p.wants_forms ≡ wants_forms said
   pub places_are : ArePlaces text said (view.spans theory.items.items) p.behind_end
   pub rise : Rise text 0 (view.spans theory.items.items) p.behind_end
   pub within : p.behind_end ≤ length text

@@ -3,12 +3,10 @@
 ghost use Rattle.std.specs.Prelude.{◌≡◌, ◌∷◌, [], ◌++◌, Some, None, IfOk, OnOk, MatchOption, map, option_map};
 ghost use Rattle.sp_spec.specs.Written as written;
 ghost use Rattle.sp_fact.specs.View.{rule_of};
-ghost use Rattle.sp_fact.specs.BookView.{book_of};
 ghost use Rattle.sp_spec_text.specs.Written.{rules_in};
 ghost use Rattle.sp_written.specs.Views as view;
 ghost use Rattle.sp_pose.specs.Asked.{asked_of, asked_then, lemmas_read, all_asked};
-ghost use Rattle.sp_ground.specs.View.{equation_of, signature_of};
-ghost use Rattle.sp_pose.specs.Problem.{some_have_forms};
+ghost use Rattle.sp_ground.specs.View.{signature_of};
 ghost use Rattle.sp_pose.specs.Posed.{IsRead, IsMadeOf};
 
 use crate::numbering::numbered;
@@ -17,15 +15,14 @@ use sp_declared::equations::equations;
 use sp_declared::resolved::resolved;
 use sp_declared::signature::signature;
 use sp_declared::symbols::symbols;
-use sp_fact::book::RuleBook;
 use sp_fact::rule::Rule;
 use sp_formula::formula::Formula;
-use sp_ground::signature::{Equation, Signature};
+use sp_ground::signature::Signature;
 use sp_guard::marks::checked_form;
 use sp_place::refused_at;
 use sp_read_theory::read_theory;
 use sp_term::term::Name;
-use sp_wf::{actions_have_destructor, facts_have_destructor, report};
+use sp_wf::report;
 use sp_written::{Item, ReadTheory, Span, TraceKind, WrittenLemma, WrittenProof};
 use std::alloc::{AllocError, Global};
 
@@ -50,13 +47,11 @@ pub struct Problem<'a> {
     /// its symbols and its equations, those of pairs first
     pub signature: Signature,
     /// its rules, with their variables numbered
-    pub rules: RuleBook,
+    pub rules: Vec<Rule>,
     /// its public names, each once
     pub constants: Vec<Name>,
     /// its lemmas, with their guarded forms
     pub lemmas: Vec<GuardedLemma<'a>>,
-    /// whether a destructor stands in an action or a conclusion of a rule, so that it has other forms beside itself
-    pub wants_forms: bool,
     /// the place behind its word `end`
     pub behind_end: usize,
 }
@@ -86,16 +81,15 @@ fn push_rule(alloc: Global, rules: &mut Vec<Rule>, item: &Item) -> Result<(), Al
     }
 }
 
-/// The rules that are searched with.
-fn rule_book(alloc: Global, items: &Vec<Item>) -> Result<RuleBook, AllocError>
-    ensures { IfOk result (λ b. book_of b ≡ map written.rule_of (rules_in (view.items items.now.items))) }
+/// The rules among the items.
+fn rules_of(alloc: Global, items: &Vec<Item>) -> Result<Vec<Rule>, AllocError>
+    ensures { IfOk result (λ rs. map rule_of rs.items ≡ map written.rule_of (rules_in (view.items items.now.items))) }
 {
     let mut rules = Vec::new(alloc);
     for item in items {
         push_rule(alloc, &mut rules, item)?;
     }
-    let book = RuleBook::new(alloc, rules)?;
-    Ok(book)
+    Ok(rules)
 }
 
 /// Puts the item at the end, if it is a lemma.
@@ -160,31 +154,6 @@ fn guarded_lemmas<'a>(
     Ok(guarded)
 }
 
-/// Whether a destructor stands in an action or a conclusion of the item, if it is a rule.
-fn has_forms(equations: &Vec<Equation>, item: &Item) -> bool
-    ensures { result ≡ some_have_forms (map equation_of equations.now.items) (rules_in (view.item item.now ∷ [])) }
-{
-    match item {
-        Item::Rule(rule) => {
-            actions_have_destructor(equations, &rule.facts.actions)
-                || facts_have_destructor(equations, &rule.facts.conclusions)
-        }
-        _ => false,
-    }
-}
-
-/// Whether a destructor stands in an action or a conclusion of a rule.
-fn some_have_forms(equations: &Vec<Equation>, items: &Vec<Item>) -> bool
-    ensures { result ≡ some_have_forms (map equation_of equations.now.items) (rules_in (view.items items.now.items)) }
-{
-    for item in items {
-        if has_forms(equations, item) {
-            return true;
-        }
-    }
-    false
-}
-
 /// What a text poses, of its theory with symbols in the place of the names that are such; none where a lemma has no guarded form.
 fn posed<'a>(
     alloc: Global,
@@ -193,9 +162,8 @@ fn posed<'a>(
 ) -> Result<Option<Problem<'a>>, AllocError>
     ensures { IfOk result (λ o. MatchOption o (all_asked (lemmas_read theory.entry.items.items) ≡ None) (IsMadeOf (signature_of signature) theory.entry)) }
 {
-    let rules = rule_book(alloc, &theory.items)?;
+    let rules = rules_of(alloc, &theory.items)?;
     let constants = constants(alloc, &theory)?;
-    let wants_forms = some_have_forms(&signature.equations, &theory.items);
     let behind_end = theory.behind_end;
     let lemmas = lemmas_of(alloc, theory.items)?;
     let Some(lemmas) = guarded_lemmas(alloc, lemmas)? else {
@@ -206,7 +174,6 @@ fn posed<'a>(
         rules,
         constants,
         lemmas,
-        wants_forms,
         behind_end,
     }))
 }

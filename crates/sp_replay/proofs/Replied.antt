@@ -12,7 +12,7 @@ use Rattle.sp_law_equal.specs.Right.{AreRight}
 use Rattle.sp_law_run.proofs.Written.{rules_right}
 use Rattle.sp_law_tree.specs.BasicTheory.{IsBasicFormula}
 use Rattle.sp_fact.specs.View.{rule_of}
-use Rattle.sp_fact.specs.BookView.{book_of}
+use Rattle.sp_fact.specs.View.{rule_of}
 use Rattle.sp_ground.specs.View.{signature_of, symbol_of, step_of, entries_of, trace_of}
 use Rattle.sp_spec_text.specs.Printed.{trace_block}
 use Rattle.sp_ground.specs.declared.fact.Trace.{Trace}
@@ -35,7 +35,7 @@ use Rattle.sp_pose.proofs.Forms.{asked_list, has_forms, lemmas_said}
 use Rattle.sp_replay.proofs.Truths.{lemmas_met, lines_same}
 
 -- the rules in memory are right
-pub posed_right : {text : List ℕ} (p : Problem) → IsPosedBy text p → AreRight (map rule_of p.rules.rules.items)
+pub posed_right : {text : List ℕ} (p : Problem) → IsPosedBy text p → AreRight (map rule_of p.rules.items)
 posed_right p h = subst (λ (rs : List Rule). AreRight rs) (sym h.rules_are) (rules_right (theory_in h.said).rules h.poses.fine.rule_names)
 
 module _ {text : List ℕ} (p : Problem) (posed : IsPosedBy text p) (bytes : List ℕ) (behind : bytes ≡ behind_line (drop p.behind_end text)) where
@@ -70,7 +70,7 @@ module _ {text : List ℕ} (p : Problem) (posed : IsPosedBy text p) (bytes : Lis
     steps_are = ap (λ (x : spec.Signature). map (normal_step x.equations) (map step_of steps)) posed.signature_is
 
     pub stopped_step : (number : ℕ) (cause : Cause)
-        → ((theory : Theory) → theory.rules ≡ book_of p.rules → theories.signature_of theory ≡ signature_of p.signature → IsFirstFault theory (map (normal_step (signature_of p.signature).equations) (map step_of steps)) number (cause_of cause))
+        → ((theory : Theory) → theory.rules ≡ map rule_of p.rules.items → theories.signature_of theory ≡ signature_of p.signature → IsFirstFault theory (map (normal_step (signature_of p.signature).equations) (map step_of steps)) number (cause_of cause))
         → IsStopped text number (cause_of cause)
     stopped_step number cause h = record {
       theory = posed.said;
@@ -82,7 +82,7 @@ module _ {text : List ℕ} (p : Problem) (posed : IsPosedBy text p) (bytes : Lis
     }
 
     pub done_steps : (trace : Trace) (written : List ℕ)
-        → ((theory : Theory) → theory.rules ≡ book_of p.rules → theories.signature_of theory ≡ signature_of p.signature → IsReplayed theory (map (normal_step (signature_of p.signature).equations) (map step_of steps)) (trace_of trace))
+        → ((theory : Theory) → theory.rules ≡ map rule_of p.rules.items → theories.signature_of theory ≡ signature_of p.signature → IsReplayed theory (map (normal_step (signature_of p.signature).equations) (map step_of steps)) (trace_of trace))
         → written ≡ trace_block (entries_of trace) ++ held_lines (trace_of trace) (map asked_of p.lemmas.items) → IsReplay text written
     done_steps trace written h e =
         let ls = lemmas_read posed.theory.items.items in

@@ -52,7 +52,7 @@ fn replayed_on(alloc: Global, text: &[u8], problem: Problem) -> Result<Reply, Al
         StepLines::Unread(number) => return Ok(Reply::Unread(number)),
         StepLines::Steps(steps) => steps,
     };
-    match replay(alloc, &signature, &problem.rules.rules, &steps)? {
+    match replay(alloc, &signature, &problem.rules, &steps)? {
         Replayed::Refused(number, cause) => Ok(Reply::Stopped(number, cause)),
         Replayed::Done(trace) => {
             let written = written_by(alloc, &problem.lemmas, &trace)?;

@@ -5,6 +5,7 @@ ghost use Rattle.sp_fact.specs.View.{action_of};
 ghost use Rattle.sp_formula.specs.FormulaView.{formula_of};
 ghost use Rattle.sp_system.specs.SystemView.{event_of, system_of};
 ghost use Rattle.sp_spec_formula.specs.ActionStands as rows;
+ghost use Rattle.sp_spec_forms.specs.Alike.{same_action};
 ghost use Rattle.sp_rows_formula.specs.RowsView.{position_of};
 ghost use Rattle.sp_system.specs.Reduced.{Reduced};
 
@@ -18,7 +19,7 @@ use std::alloc::{AllocError, Global};
 
 /// Whether the actions are the same.
 pub fn same_action(a: &Action, b: &Action) -> bool
-    ensures { result ≡ rows.same_action (action_of a.now) (action_of b.now) }
+    ensures { result ≡ same_action (action_of a.now) (action_of b.now) }
 {
     a.symbol == b.symbol && all_same(&a.args, &b.args)
 }

@@ -24,6 +24,7 @@ use Rattle.sp_spec_formula.specs.Unequal.{has_equal_pair}
 use Rattle.sp_spec_formula.specs.InOrder.{has_refuted}
 use Rattle.sp_spec_system.specs.Order.{is_cyclic}
 use Rattle.sp_spec_graph.specs.SourceTwice.{has_source_twice}
+use Rattle.sp_spec_graph.specs.ReducibleEvent.{has_reducible}
 use Rattle.sp_spec_proof.specs.Choice.{Ranked, with_rank, places_from, premises_of, at_each_formula, each_premise, is_instance, first_instance, choice}
 use Rattle.sp_spec_formula.specs.Action.{solving_action}
 use Rattle.sp_spec_formula.specs.Or.{disjunction_at, or_cases}
@@ -42,7 +43,7 @@ kinds = (1, kind.Contradiction) ∷ (2, kind.Simplify) ∷ (3, kind.Solved) ∷ 
 -- a place at which a row fails is a contradiction
 fails_contradicts : (rules : Rules) (s : System) → fails_somewhere s ≡ true → is_contradictory rules s ≡ true
 fails_contradicts rules s e =
-    or_right (has_falsity s.formulas) _ (or_right (has_equal_pair s.unequal) _ (or_right (has_refuted s.order s.formulas) _ (or_right (is_cyclic s.order) _ (or_right (has_source_twice s) _ e))))
+    or_right (has_falsity s.formulas) _ (or_right (has_equal_pair s.unequal) _ (or_right (has_refuted s.order s.formulas) _ (or_right (is_cyclic s.order) _ (or_right (has_source_twice s) _ (or_right (has_reducible rules.signature.equations s.events) _ e)))))
 
 abbrev first_if : Bool → Move → Option Move
 first_if holds move = if holds then Some move else None

@@ -24,7 +24,8 @@ use Rattle.sp_spec_text.specs.Names.{IsName, IsWord}
 use Rattle.sp_skel.specs.Places.{HasPlace, HavePlaces, AllHavePlaces}
 use Rattle.sp_skel.specs.Spelling.{IsReadable, AreReadable, MayHaveCases, AreNamed}
 use Rattle.sp_skel.proofs.CaseNames.{at_named, part_named, case_named}
-use Rattle.sp_spec_system.specs.Rules.{RuleForms, Rules}
+use Rattle.sp_spec_system.specs.Rules.{Rules}
+use Rattle.sp_spec_forms.specs.Forms.{RuleForms}
 
 -- ---- cases with names
 
@@ -57,7 +58,7 @@ rule_named name (s ∷ t ∷ systems) h w = numbered_named name 1 (s ∷ t ∷ s
 each_named : (rules : List RuleForms) (s : System) (i : ℕ) (a : Action Variable) → AreNamed rules → CasesNamed (by_each rules s i a)
 each_named [] s i a h = tt
 each_named (r ∷ rules) s i a h =
-    let made = by_forms r.forms s i a in
+    let made = by_forms r.name r.forms s i a in
     named_append (named r.name made) (by_each rules s i a) (rule_named r.name made h.0 h.1) (each_named rules s i a h.2)
 
 part_cases_named : (s : System) (r : Found Guardeds) (k : ℕ) (fs : Guardeds) → CasesNamed (by_part s r k fs)
@@ -67,7 +68,7 @@ part_cases_named s r k (and_then f fs) = let n = part_named k in (n.0, n.1, part
 sources_named : (rules : List RuleForms) (s : System) (i p : ℕ) (f : Fact Variable) → AreNamed rules → CasesNamed (by_each_source rules s i p f)
 sources_named [] s i p f h = tt
 sources_named (r ∷ rules) s i p f h =
-    let made = source_forms r.forms s i p f in
+    let made = source_forms r.name r.forms s i p f in
     named_append (named r.name made) (by_each_source rules s i p f) (rule_named r.name made h.0 h.1) (sources_named rules s i p f h.2)
 
 action_named : (rules : List RuleForms) (s : System) (i : ℕ) (a : Action Variable) (o : Option Event) → AreNamed rules → CasesNamed (action_cases rules s i a o)

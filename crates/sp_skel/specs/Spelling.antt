@@ -8,7 +8,7 @@ use Rattle.sp_spec_system.specs.Words as words
 use Rattle.sp_spec_proof.specs.Tree.{Tree, node, Branches, no_branch, branch}
 use Rattle.sp_skel.specs.Places.{HasPlace}
 use Rattle.sp_spec_text.specs.Written.{Method, said, goal, WrittenProof, step, WrittenCases, no_case, then_case}
-use Rattle.sp_spec_system.specs.Rules.{RuleForms}
+use Rattle.sp_spec_forms.specs.Forms.{RuleForms}
 
 abbrev pub words_spelled : Words → Lexeme
 words_spelled (words.method w) = word w

@@ -2,7 +2,7 @@
 -- Source: CSF 2012, "Constraint solving" (a solved system gives a trace that satisfies the formula).
 use Rattle.std.specs.Prelude.{ℕ, Bool, ◌&&◌, if◌then◌else◌, List, Option, Some, None, option_and_then}
 use Rattle.sp_spec.specs.Signature.{Signature}
-use Rattle.sp_spec.specs.Rule.{Rule}
+use Rattle.sp_spec_forms.specs.Forms.{RuleForms}
 use Rattle.sp_spec.specs.Guarded.{Guarded}
 use Rattle.sp_spec.specs.Log.{Entry, Log, log_trace}
 use Rattle.sp_law_decide.specs.Deciding.{decided, empty}
@@ -12,12 +12,12 @@ use Rattle.sp_log.specs.Checking.{is_log}
 use Rattle.sp_solved.specs.Candidate.{candidate}
 
 -- entries, the oldest first, that are a log of the rules, and over whose whole trace the formula is true
-abbrev pub is_sought : Signature → List Rule → Guarded → List Entry → Bool
+abbrev pub is_sought : Signature → List RuleForms → Guarded → List Entry → Bool
 is_sought signature rules formula entries = is_log signature rules entries && decided (log_trace (newest_first entries)) empty formula
 
 abbrev pub kept_if : Bool → List Entry → Option Log
 kept_if b entries = if b then Some (newest_first entries) else None
 
-abbrev pub found : Signature → List Rule → List (List ℕ) → Guarded → System → Option Log
+abbrev pub found : Signature → List RuleForms → List (List ℕ) → Guarded → System → Option Log
 found signature rules constants formula s =
     option_and_then (λ (entries : List Entry). kept_if (is_sought signature rules formula entries) entries) (candidate constants s)

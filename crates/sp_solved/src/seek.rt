@@ -4,15 +4,15 @@ ghost use Rattle.std.specs.Prelude.{◌≡◌, IfOk, map, option_map};
 ghost use Rattle.sp_term.specs.View.{name_of};
 ghost use Rattle.sp_formula.specs.FormulaView.{formula_of};
 ghost use Rattle.sp_ground.specs.View.{signature_of};
-ghost use Rattle.sp_fact.specs.View.{rule_of};
+ghost use Rattle.sp_book.specs.View.{rule_forms_of};
 ghost use Rattle.sp_system.specs.SystemView.{system_of};
 ghost use Rattle.sp_log.specs.Checking as checking;
 ghost use Rattle.sp_log.specs.View.{entries_of, log_of};
 ghost use Rattle.sp_solved.specs.Found as spec;
 
 use crate::suggest::candidate;
+use sp_book::form::RuleForms;
 use sp_eval::truth::holds;
-use sp_fact::rule::Rule;
 use sp_formula::formula::Formula;
 use sp_ground::signature::Signature;
 use sp_log::check::{Checked, check_log};
@@ -33,14 +33,14 @@ pub struct Sought<'a> {
     pub formula: &'a Formula,
 }
 
-/// Whether the log is one of the rules.
+/// Whether the log is one of the rules of these forms.
 fn is_log(
     alloc: Global,
     signature: &Signature,
-    rules: &Vec<Rule>,
+    rules: &Vec<RuleForms>,
     log: &Log,
 ) -> Result<bool, AllocError>
-    ensures { IfOk result (λ b. b ≡ checking.is_log (signature_of signature.now) (map rule_of rules.now.items) (entries_of log.now)) }
+    ensures { IfOk result (λ b. b ≡ checking.is_log (signature_of signature.now) (map rule_forms_of rules.now.items) (entries_of log.now)) }
 {
     let checked = check_log(alloc, signature, rules, log)?;
     match checked {
@@ -49,14 +49,14 @@ fn is_log(
     }
 }
 
-/// Whether the log is one of the rules, and its trace makes the formula true.
+/// Whether the log is one of the rules of these forms, and its trace makes the formula true.
 fn is_sought(
     alloc: Global,
     sought: &Sought,
-    rules: &Vec<Rule>,
+    rules: &Vec<RuleForms>,
     log: &Log,
 ) -> Result<bool, AllocError>
-    ensures { IfOk result (λ b. b ≡ spec.is_sought (signature_of sought.now.signature.now) (map rule_of rules.now.items) (formula_of sought.now.formula.now) (entries_of log.now)) }
+    ensures { IfOk result (λ b. b ≡ spec.is_sought (signature_of sought.now.signature.now) (map rule_forms_of rules.now.items) (formula_of sought.now.formula.now) (entries_of log.now)) }
 {
     if !is_log(alloc, sought.signature, rules, log)? {
         return Ok(false);
@@ -74,10 +74,10 @@ fn is_sought(
 pub fn found(
     alloc: Global,
     sought: &Sought,
-    rules: &Vec<Rule>,
+    rules: &Vec<RuleForms>,
     system: &System,
 ) -> Result<Option<Log>, AllocError>
-    ensures { IfOk result (λ r. option_map log_of r ≡ spec.found (signature_of sought.now.signature.now) (map rule_of rules.now.items) (map name_of sought.now.constants.now.items) (formula_of sought.now.formula.now) (system_of system.now)) }
+    ensures { IfOk result (λ r. option_map log_of r ≡ spec.found (signature_of sought.now.signature.now) (map rule_forms_of rules.now.items) (map name_of sought.now.constants.now.items) (formula_of sought.now.formula.now) (system_of system.now)) }
 {
     let Some(log) = candidate(alloc, sought.constants, system)? else {
         return Ok(None);

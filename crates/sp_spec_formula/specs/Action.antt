@@ -1,38 +1,40 @@
 -- The move on an action: its event has it, or a new step of some rule. Source: CSF 2012, "Constraint solving" (the rule on actions).
-use Rattle.std.specs.Prelude.{ℕ, suc, List, [], ◌∷◌, ◌++◌, codes, decimal, ◌+◌, length, Option, Some, None, ◌||◌, Bool, bytes_eq, if◌then◌else◌}
+use Rattle.std.specs.Prelude.{ℕ, suc, List, [], ◌∷◌, ◌++◌, codes, decimal, ◌+◌, Option, Some, None, ◌||◌, Bool, bytes_eq, if◌then◌else◌}
 use Rattle.sp_spec.specs.Term.{Variable}
-use Rattle.sp_spec.specs.Rule.{Action, Rule}
+use Rattle.sp_spec.specs.Rule.{Action}
 use Rattle.sp_spec_system.specs.System.{System, rule_step, Event, happening_actions, with_events, with_next}
 use Rattle.sp_spec_system.specs.Move.{Case}
 use Rattle.sp_spec_system.specs.Cases.{where_same, case_if, renamed, system_if, named}
 use Rattle.sp_spec_system.specs.MakingOne.{event_at}
 use Rattle.sp_spec.specs.Guarded.{Guarded, holds, acts, free_time}
 use Rattle.sp_spec_system.specs.Formulas.{freed_action}
-use Rattle.sp_spec_system.specs.Rules.{RuleForms}
+use Rattle.sp_spec_forms.specs.Numbering.{Form}
+use Rattle.sp_spec_forms.specs.Forms.{RuleForms}
 
 -- each of an event's actions that may be this one, by its place
 abbrev pub at_event : System → Action Variable → ℕ → List (Action Variable) → List Case
 at_event s a n [] = []
 at_event s a n (b ∷ bs) = case_if (codes "at_" ++ decimal n) (where_same s a b) ++ at_event s a (suc n) bs
 
-abbrev pub with_step : System → ℕ → Rule → System
-with_step s i r =
-    with_next (with_events s (s.events ++ record { time = i; happening = rule_step r.name (renamed s.next r.facts) } ∷ [])) (s.next + length r.variables)
+-- a new step at that time by a form of the rule of this name
+abbrev pub with_step : System → ℕ → List ℕ → Form → System
+with_step s i name form =
+    with_next (with_events s (s.events ++ record { time = i; happening = rule_step name (renamed s.next form.facts) } ∷ [])) (s.next + form.count)
 
--- each of a rule's actions that may be this one
+-- each of a form's actions that may be this one
 abbrev pub by_actions : System → Action Variable → List (Action Variable) → List System
 by_actions s a [] = []
 by_actions s a (b ∷ bs) = system_if (where_same s a b) ++ by_actions s a bs
 
--- a new step at that time by each of these forms of a rule
-abbrev pub by_forms : List Rule → System → ℕ → Action Variable → List System
-by_forms [] s i a = []
-by_forms (r ∷ forms) s i a = by_actions (with_step s i r) a (renamed s.next r.facts).actions ++ by_forms forms s i a
+-- by each of these forms
+abbrev pub by_forms : List ℕ → List Form → System → ℕ → Action Variable → List System
+by_forms name [] s i a = []
+by_forms name (form ∷ forms) s i a = by_actions (with_step s i name form) a (renamed s.next form.facts).actions ++ by_forms name forms s i a
 
--- by each rule
+-- by each rule: its cases are those of its forms, one after the other
 abbrev pub by_each : List RuleForms → System → ℕ → Action Variable → List Case
 by_each [] s i a = []
-by_each (rule ∷ rules) s i a = named rule.name (by_forms rule.forms s i a) ++ by_each rules s i a
+by_each (rule ∷ rules) s i a = named rule.name (by_forms rule.name rule.forms s i a) ++ by_each rules s i a
 
 abbrev pub action_cases : List RuleForms → System → ℕ → Action Variable → Option Event → List Case
 action_cases rules s i a (Some e) = at_event s a 0 (happening_actions e.happening)

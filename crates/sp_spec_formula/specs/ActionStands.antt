@@ -1,17 +1,13 @@
 -- Action stands: an action that its event has. Source: CSF 2012, "Constraint solving" (an action of a node).
 use Rattle.std.specs.Prelude.{◌&&◌, Bool, ◌||◌, false, List, [], ◌∷◌, ℕ, ◌==◌, if◌then◌else◌, Option, Some, None, option_map}
-use Rattle.std.specs.Str.{bytes_eq}
 use Rattle.sp_spec.specs.Term.{Variable}
 use Rattle.sp_spec.specs.Rule.{Action}
-use Rattle.sp_spec.specs.Same.{alike_all}
+use Rattle.sp_spec_forms.specs.Alike.{same_action}
 use Rattle.sp_spec_system.specs.System.{Event, happening_actions, System}
 use Rattle.sp_spec.specs.Guarded.{free_time, acts, Guarded, holds}
 use Rattle.sp_spec_system.specs.Formulas.{freed_action, first_formula, spending}
 
 -- Action stands: an action that its event has is spent.
-abbrev pub same_action : Action Variable → Action Variable → Bool
-same_action a b = bytes_eq a.symbol b.symbol && alike_all a.args b.args
-
 abbrev pub is_among : Action Variable → List (Action Variable) → Bool
 is_among a [] = false
 is_among a (b ∷ bs) = same_action a b || is_among a bs

@@ -4,3 +4,4 @@ pub mod FreshOnce
 pub mod LinearOnce
 pub mod Premise
 pub mod SourceTwice
+pub mod ReducibleEvent

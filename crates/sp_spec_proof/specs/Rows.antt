@@ -16,6 +16,7 @@ use Rattle.sp_spec_graph.specs.FreshFirst.{fresh_first}
 use Rattle.sp_spec_formula.specs.Instantiate.{instantiate}
 use Rattle.sp_spec_system.specs.Order.{is_cyclic}
 use Rattle.sp_spec_graph.specs.SourceTwice.{has_source_twice}
+use Rattle.sp_spec_graph.specs.ReducibleEvent.{has_reducible}
 
 -- the elementary moves, in their order
 pub data Row : Type 0 where
@@ -63,7 +64,10 @@ fails_somewhere s = fails_to_equate s s.formulas || (fails_to_link s || fails_to
 
 abbrev pub is_contradictory : Rules → System → Bool
 is_contradictory rules s =
-    has_falsity s.formulas || (has_equal_pair s.unequal || (has_refuted s.order s.formulas || (is_cyclic s.order || (has_source_twice s || fails_somewhere s))))
+    has_falsity s.formulas
+    || (has_equal_pair s.unequal
+    || (has_refuted s.order s.formulas
+    || (is_cyclic s.order || (has_source_twice s || (has_reducible rules.signature.equations s.events || fails_somewhere s)))))
 
 -- some row has a place, be it one at which it fails
 abbrev pub has_place : Rules → System → Bool

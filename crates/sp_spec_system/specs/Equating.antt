@@ -1,8 +1,9 @@
 -- Putting terms for variables and one time for another throughout a system, and making two events one.
-use Rattle.std.specs.Prelude.{ℕ, ◌&&◌, ◌==◌, Bool, ◌||◌, List, [], ◌∷◌, false, ◌++◌, if◌then◌else◌, map, Option, Some, None, option_map, true, option_and_then, nat_lt}
+use Rattle.std.specs.Prelude.{ℕ, ◌&&◌, ◌==◌, Bool, ◌||◌, List, [], ◌∷◌, false, ◌++◌, if◌then◌else◌, map, Option, Some, None, option_map, option_and_then, nat_lt}
 use Rattle.std.specs.Str.{bytes_eq}
 use Rattle.sp_spec.specs.Term.{Variable, Term, valued, Terms, none, more}
 use Rattle.sp_spec.specs.Rule.{facts_at, Fact, Action}
+use Rattle.sp_spec_forms.specs.Alike.{same_flag}
 use Rattle.sp_spec_system.specs.System.{Way, by_chain, Happening, rule_step, sending, learning, Event, Link, System, with_events}
 use Rattle.sp_spec.specs.Unifier.{Pair, mgu}
 use Rattle.sp_spec.specs.Change.{free_change, changed, time_replaced}
@@ -63,11 +64,6 @@ argument_pairs none none = Some []
 argument_pairs none (more u us) = None
 argument_pairs (more t ts) none = None
 argument_pairs (more t ts) (more u us) = option_map (λ (pairs : List Pair). (t, u) ∷ pairs) (argument_pairs ts us)
-
-abbrev pub same_flag : Bool → Bool → Bool
-same_flag true b = b
-same_flag false true = false
-same_flag false false = true
 
 abbrev pub both_pairs : Option (List Pair) → Option (List Pair) → Option (List Pair)
 both_pairs (Some pairs) (Some more_pairs) = Some (pairs ++ more_pairs)

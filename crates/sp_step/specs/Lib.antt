@@ -3,3 +3,4 @@ pub mod WhyNot
 pub mod SimplifyView
 pub mod ReduceView
 pub mod WordsView
+pub mod Kept

@@ -6,7 +6,7 @@ ghost use Rattle.sp_log.specs.View.{log_of};
 ghost use Rattle.sp_step.specs.View.{context_of, rules_of};
 ghost use Rattle.sp_spec_system.specs.Move.{end_log};
 
-use sp_fact::book::RuleBook;
+use sp_book::book::RuleBook;
 use sp_ground::signature::Signature;
 use sp_log::log::Log;
 use sp_solved::{Sought, found};
@@ -18,14 +18,14 @@ use std::alloc::{AllocError, Global};
 pub struct Rules<'a> {
     /// the symbols and equations
     pub signature: &'a Signature,
-    /// the rules
+    /// the rules with their forms
     pub book: &'a RuleBook,
 }
 
 /// What a proof is made in: the theory's rules, and what the search ends with.
 #[derive(Clone, Copy)]
 pub struct Context<'a> {
-    /// the rules
+    /// the rules with their forms
     pub rules: &'a RuleBook,
     /// the log that is looked for
     pub sought: Sought<'a>,

@@ -1,8 +1,9 @@
 // One elementary move, by its row.
 
-ghost use Rattle.std.specs.Prelude.{IfOk};
+ghost use Rattle.std.specs.Prelude.{◌≡◌, IfOk};
 ghost use Rattle.sp_system.specs.SystemView.{system_of};
 ghost use Rattle.sp_spec_proof.specs.Rows as spec;
+ghost use Rattle.sp_step.specs.Kept.{keeps_terms};
 ghost use Rattle.sp_step.specs.ReduceView.{row_of};
 ghost use Rattle.sp_step.specs.View.{rules_of};
 ghost use Rattle.sp_system.specs.Reduced.{Reduced};
@@ -47,6 +48,18 @@ pub enum Row {
     FreshFirst,
     /// a universal formula has a new instance
     Instantiate,
+}
+
+impl Row {
+    /// Whether it puts no terms for variables, so that no term of an event changes.
+    pub fn keeps_terms(self) -> bool
+        ensures { result ≡ keeps_terms (row_of self) }
+    {
+        match self {
+            Row::Equate | Row::LinearOnce | Row::FreshOnce => false,
+            _ => true,
+        }
+    }
 }
 
 /// All elementary moves, in the order in which they are tried.

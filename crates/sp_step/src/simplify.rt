@@ -1,36 +1,40 @@
 // Simplification: elementary moves until none applies or a contradiction is seen.
 
-ghost use Rattle.std.specs.Prelude.{◌≡◌, IfOk, OnOk, is_some};
+ghost use Rattle.std.specs.Prelude.{◌≡◌, false, IfOk, OnOk, is_some, option_map, true};
 ghost use Rattle.sp_system.specs.SystemView.{system_of};
 ghost use Rattle.sp_system.specs.Reduced.{Reduced};
 ghost use Rattle.sp_spec_proof.specs.Rows as rows;
+ghost use Rattle.sp_spec_graph.specs.ReducibleEvent.{has_reducible};
+ghost use Rattle.sp_step.specs.ReduceView.{row_of};
 ghost use Rattle.sp_step.specs.SimplifyView as spec;
 ghost use Rattle.sp_step.specs.View.{rules_of};
 
 use crate::context::Rules;
-use crate::reduce::{ROWS, reduce};
+use crate::reduce::{ROWS, Row, reduce};
 use sp_rows_formula::contradiction::{has_equal_pair, has_falsity, has_refuted};
 use sp_rows_formula::equation::fails_to_equate;
 use sp_rows_graph::fresh_once::fails_to_merge;
 use sp_rows_graph::links::{fails_to_link, has_source_twice};
+use sp_rows_graph::reducible::has_reducible;
 use sp_system::order::is_cyclic;
 use sp_system::system::System;
 use std::alloc::{AllocError, Global};
 
-/// Does the first elementary move that applies; false where none does, and then the system stays.
+/// Does the first elementary move that applies, and tells which; none where none does, and then the system stays.
 ///
 /// # Errors
 ///
 /// `AllocError` where memory is wanting, or no number is left for a new variable.
-pub fn by_rows(alloc: Global, rules: &Rules, system: &mut System) -> Result<bool, AllocError>
-    ensures { IfOk result (λ b. Reduced b (system_of system.old) (system_of system.new) (rows.by_rows (rules_of rules.now) rows.rows (system_of system.old))) }
+pub fn by_rows(alloc: Global, rules: &Rules, system: &mut System) -> Result<Option<Row>, AllocError>
+    ensures does { IfOk result (λ o. Reduced (is_some o) (system_of system.old) (system_of system.new) (rows.by_rows (rules_of rules.now) rows.rows (system_of system.old))) }
+    ensures keeps { IfOk result (λ o. spec.some_keeps_terms (option_map row_of o) ≡ true → (system_of system.new).events ≡ (system_of system.old).events) }
 {
     for row in &ROWS {
         if reduce(alloc, rules, system, *row)? {
-            return Ok(true);
+            return Ok(Some(*row));
         }
     }
-    Ok(false)
+    Ok(None)
 }
 
 /// Whether some elementary move applies.
@@ -42,8 +46,8 @@ pub fn is_reducible(alloc: Global, rules: &Rules, system: &System) -> Result<boo
     ensures { IfOk result (λ b. b ≡ is_some (rows.by_rows (rules_of rules.now) rows.rows (system_of system.now))) }
 {
     let mut tried = system.copy(alloc)?;
-    let applies = by_rows(alloc, rules, &mut tried)?;
-    Ok(applies)
+    let row = by_rows(alloc, rules, &mut tried)?;
+    Ok(row.is_some())
 }
 
 // Whether a unification or a merge fails that an elementary move is to make.
@@ -70,12 +74,14 @@ pub fn has_place(alloc: Global, rules: &Rules, system: &System) -> Result<bool, 
     fails_somewhere(alloc, system)
 }
 
-/// Whether a contradiction is seen.
-///
-/// # Errors
-///
-/// `AllocError` where memory is wanting.
-pub fn is_contradictory(alloc: Global, rules: &Rules, system: &System) -> Result<bool, AllocError>
+// Whether a contradiction is seen, where it may be known that no equation could be used in an event.
+fn is_contradictory_where(
+    alloc: Global,
+    rules: &Rules,
+    system: &System,
+    irreducible: bool,
+) -> Result<bool, AllocError>
+    requires { irreducible ≡ true → has_reducible (rules_of rules.now).signature.equations (system_of system.now).events ≡ false }
     ensures { IfOk result (λ b. b ≡ rows.is_contradictory (rules_of rules.now) (system_of system.now)) }
 {
     if has_falsity(&system.formulas) || has_equal_pair(&system.unequal) {
@@ -87,20 +93,42 @@ pub fn is_contradictory(alloc: Global, rules: &Rules, system: &System) -> Result
     if has_source_twice(system) {
         return Ok(true);
     }
+    if !irreducible && has_reducible(alloc, &rules.signature.equations, &system.events)? {
+        return Ok(true);
+    }
     fails_somewhere(alloc, system)
 }
 
-// Does one more elementary move, if no contradiction is seen and some move applies; else the system stays.
-fn turn(alloc: Global, rules: &Rules, system: &mut System) -> Result<bool, AllocError>
-    ensures { IfOk result (λ b. Reduced b (system_of system.old) (system_of system.new) (spec.turned (rules_of rules.now) (system_of system.old))) }
+/// Whether a contradiction is seen.
+///
+/// # Errors
+///
+/// `AllocError` where memory is wanting.
+pub fn is_contradictory(alloc: Global, rules: &Rules, system: &System) -> Result<bool, AllocError>
+    ensures { IfOk result (λ b. b ≡ rows.is_contradictory (rules_of rules.now) (system_of system.now)) }
 {
-    if is_contradictory(alloc, rules, system)? {
-        return Ok(false);
+    is_contradictory_where(alloc, rules, system, false)
+}
+
+// Does one more elementary move, if no contradiction is seen and some move applies, and tells which; else the system stays.
+fn turn(
+    alloc: Global,
+    rules: &Rules,
+    system: &mut System,
+    irreducible: bool,
+) -> Result<Option<Row>, AllocError>
+    requires { irreducible ≡ true → has_reducible (rules_of rules.now).signature.equations (system_of system.old).events ≡ false }
+    ensures does { IfOk result (λ o. Reduced (is_some o) (system_of system.old) (system_of system.new) (spec.turned (rules_of rules.now) (system_of system.old))) }
+    ensures keeps { IfOk result (λ o. spec.some_keeps_terms (option_map row_of o) ≡ true → has_reducible (rules_of rules.now).signature.equations (system_of system.new).events ≡ false) }
+{
+    if is_contradictory_where(alloc, rules, system, irreducible)? {
+        return Ok(None);
     }
     by_rows(alloc, rules, system)
 }
 
-/// Does at most 10,000 elementary moves, up to a contradiction.
+/// Does at most 10,000 elementary moves, up to a contradiction. Whether an equation could be used in an event is asked again only where terms were put
+/// for variables.
 ///
 /// # Errors
 ///
@@ -108,10 +136,12 @@ fn turn(alloc: Global, rules: &Rules, system: &mut System) -> Result<bool, Alloc
 pub fn simplify(alloc: Global, rules: &Rules, system: &mut System) -> Result<(), AllocError>
     ensures { OnOk result (system_of system.new ≡ rows.simplified (rules_of rules.now) (system_of system.old)) }
 {
+    let mut irreducible = false;
     for turns in 0..10_000u64 {
-        if !turn(alloc, rules, system)? {
+        let Some(row) = turn(alloc, rules, system, irreducible)? else {
             return Ok(());
-        }
+        };
+        irreducible = row.keeps_terms();
     }
     Ok(())
 }

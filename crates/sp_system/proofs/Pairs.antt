@@ -5,7 +5,8 @@ use Rattle.sp_spec.specs.Unifier.{Pair}
 use Rattle.sp_term.specs.View.{view, view_all}
 use Rattle.sp_term.specs.declared.term.Term.{Term}
 use Rattle.sp_term.specs.declared.term.Variable.{Variable}
-use Rattle.sp_spec_system.specs.Equating.{argument_pairs, same_flag, both_pairs, fact_pairs, action_pair, action_pairs, fact_pair}
+use Rattle.sp_spec_forms.specs.Alike.{same_flag}
+use Rattle.sp_spec_system.specs.Equating.{argument_pairs, both_pairs, fact_pairs, action_pair, action_pairs, fact_pair}
 use Rattle.sp_fact.specs.View.{fact_of, action_of}
 use Rattle.sp_fact.specs.declared.fact.Fact.{Fact}
 use Rattle.sp_fact.specs.declared.fact.Action.{Action}

@@ -15,6 +15,7 @@ use sp_term::term::{Name, Sort, Term, copy};
 use sp_test_make::facts::{action, linear, persistent, rule};
 use sp_test_make::ground::{fact_of, public, shown};
 use sp_test_make::terms::variables;
+use sp_variant::book::book;
 use std::alloc::{AllocError, Global};
 use std::test::Fail;
 
@@ -162,10 +163,10 @@ const ANSWERS: [(&[Line], Checked); 8] = [
 fn first_broken_entries_are_told(rt: HostRuntime) -> Result<(), Fail> {
     let alloc = rt.alloc();
     let signature = Signature::pairs(alloc)?;
-    let rules = rules(alloc)?;
+    let book = book(alloc, &signature.equations, &rules(alloc)?)?;
     for (place, (lines, answer)) in ANSWERS.iter().enumerate() {
         let log = log(alloc, lines)?.copy(alloc)?;
-        let told = check_log(alloc, &signature, &rules, &log)?;
+        let told = check_log(alloc, &signature, &book.rules, &log)?;
         assert_eq!(rt; told, *answer, "{place}");
     }
     Ok(())
@@ -175,7 +176,9 @@ fn first_broken_entries_are_told(rt: HostRuntime) -> Result<(), Fail> {
 fn executions_make_names_and_use_rules(rt: HostRuntime) -> Result<(), Fail> {
     let alloc = rt.alloc();
     let log = log(alloc, &[Line::Make, Line::Use(0)])?;
-    let steps = execution(alloc, &rules(alloc)?, &log)?;
+    let equations = Signature::pairs(alloc)?.equations;
+    let book = book(alloc, &equations, &rules(alloc)?)?;
+    let steps = execution(alloc, &equations, &book.rules, &log)?;
     let lines = ["fresh ~n1", "rule Make: x = ~n1", "rule Use: x = ~n1"];
     assert_eq!(rt; steps.len(), lines.len());
     for (step, line) in steps.iter().zip(lines) {

@@ -1,6 +1,6 @@
 // Facts, the facts of a step, and rules.
 
-use sp_fact::book::RuleBook;
+use sp_book::book::RuleBook;
 use sp_fact::fact::{Action, Fact, Facts};
 use sp_fact::rule::{Declared, Rule};
 use sp_term::term::{Name, Sort, Term};

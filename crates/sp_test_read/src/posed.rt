@@ -96,7 +96,7 @@ end behind";
     let Read::Posed(problem) = posed_by(alloc, text)? else {
         return Err("nothing is posed".into());
     };
-    assert_eq!(rt; problem.rules.rules.len(), 1);
+    assert_eq!(rt; problem.rules.len(), 1);
     assert!(rt; are(&problem.constants, &["b", "a"]));
     assert_eq!(rt; problem.lemmas.len(), 1);
     let lemma = problem.lemmas.first().ok_or("lemma")?;

@@ -1,6 +1,6 @@
 // Systems and contexts that several files of tests begin with.
 
-use sp_fact::book::RuleBook;
+use sp_book::book::RuleBook;
 use sp_fact::fact::Facts;
 use sp_fact::rule::Rule;
 use sp_formula::formula::{Atom, Binder, Formula, Moment};
@@ -15,6 +15,7 @@ use sp_test_make::facts::{action, linear};
 use sp_test_make::formulas::{acts, bound, exists, free_constant, free_variable, same_time};
 use sp_test_make::systems::{event, system};
 use sp_test_make::terms::variables;
+use sp_variant::book::book;
 use std::alloc::{AllocError, Global};
 
 // the event of the rule with the premise Fr(~0) and the action A(~0)
@@ -89,12 +90,13 @@ pub struct Parts {
 impl Parts {
     /// The rules, no symbols and constants, and the formula that is sought.
     pub fn new(alloc: Global, rules: Vec<Rule>, formula: Formula) -> Result<Parts, AllocError> {
+        let signature = Signature {
+            symbols: Vec::new(alloc),
+            equations: Vec::new(alloc),
+        };
         Ok(Parts {
-            rules: RuleBook::new(alloc, rules)?,
-            signature: Signature {
-                symbols: Vec::new(alloc),
-                equations: Vec::new(alloc),
-            },
+            rules: book(alloc, &signature.equations, &rules)?,
+            signature,
             constants: Vec::new(alloc),
             formula,
         })

@@ -1,7 +1,7 @@
 // The moves of a proof: their cases, and why they are no instances.
 
 use crate::examples::Parts;
-use sp_fact::book::RuleBook;
+use sp_book::book::RuleBook;
 use sp_fact::fact::Action;
 use sp_fact::rule::Rule;
 use sp_formula::formula::{Atom, Formula, Moment};
@@ -18,6 +18,7 @@ use sp_test_make::facts::{action, actions_alone, linear, no_facts, no_rules, per
 use sp_test_make::formulas::{acts, free_variable};
 use sp_test_make::systems::{acting, event, link, system};
 use sp_test_make::terms::{constant, variable};
+use sp_variant::book::book;
 use std::alloc::{AllocError, Global};
 use std::test::Fail;
 
@@ -60,7 +61,7 @@ fn showing(alloc: Global) -> Result<RuleBook, AllocError> {
             actions_alone(alloc, three)
         )?,
     ]?;
-    RuleBook::new(alloc, rules)
+    book(alloc, &Vec::new(alloc), &rules)
 }
 
 // the action of the symbol over the message of number 0, at the time 5
@@ -235,7 +236,8 @@ fn taking(alloc: Global) -> Result<System, AllocError> {
 fn premises_are_taken_up(rt: HostRuntime) -> Result<(), Fail> {
     let alloc = rt.alloc();
     let other = rule(alloc, "Other", &[("x", Sort::Msg)], no_facts(alloc))?;
-    let rules = RuleBook::new(alloc, vec![in alloc; giving(alloc, "Give")?, other]?)?;
+    let all = vec![in alloc; giving(alloc, "Give")?, other]?;
+    let rules = book(alloc, &Vec::new(alloc), &all)?;
     let given = taking(alloc)?;
     let chosen = Move::Premise(Premise { time: 5, place: 2 });
     let found = cases_in(apply_to_graph(alloc, &rules, &given, chosen)?)?;

@@ -14,6 +14,8 @@ mod deep;
 #[cfg(test)]
 mod executions;
 #[cfg(test)]
+mod forms;
+#[cfg(test)]
 mod lemmas;
 #[cfg(test)]
 mod proofs;
@@ -23,3 +25,5 @@ mod stateful;
 mod steps;
 #[cfg(test)]
 mod symbols;
+#[cfg(test)]
+mod variants;

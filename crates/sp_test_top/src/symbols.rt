@@ -172,23 +172,6 @@ fn steps_with_symbols_are_replayed(rt: HostRuntime) -> Result<(), Fail> {
         let text = format!(in alloc; "{keys}{lines}")?;
         assert_answer(&rt, alloc, "replay", text.as_str(), *status, answer)?;
     }
-    // rules have forms then, which proofs don't look at yet
-    assert_answer(
-        &rt,
-        alloc,
-        "prove",
-        keys.as_str(),
-        4,
-        "refused: text at byte 0\n",
-    )?;
-    assert_answer(
-        &rt,
-        alloc,
-        "check",
-        keys.as_str(),
-        4,
-        "refused: text at byte 0\n",
-    )?;
     Ok(())
 }
 

@@ -6,7 +6,7 @@ use Rattle.sp_spec.specs.Lists.{Member}
 use Rattle.sp_top.specs.Command.{Request, fetched, IsAbout, command_word, request_for, IsLine, IsNoLine}
 use Rattle.sp_top.specs.Run.{IsCutShort, UsageExactly, ReadFaultExactly, TooLongExactly, AnswersExactly, HasVerdicts, IsRight, VerdictsHold}
 use Rattle.sp_top.specs.declared.words.Command.{Command}
-use Rattle.sp_top.specs.declared.words.Command.TheVariants.{Prove, Check, Replay}
+use Rattle.sp_top.specs.declared.words.Command.TheVariants.{Prove, Check, Replay, Variants}
 use Rattle.sp_top.proofs.TextStatus.{IsTextStatus, text_status, verdicts_status, status_is_one, verdicts_are_done, done_rightly}
 use Rattle.sp_top.specs.declared.Status.{Status}
 use Rattle.sp_top.specs.declared.Status.TheVariants.{Usage, ReadFault, WriteFault, NoMemory, TooLong}
@@ -19,12 +19,19 @@ same_command : (command other : Command) → command_word command ≡ command_wo
 same_command Prove Prove e = refl
 same_command Prove Check e = let f : 112 ≡ 99 = ap first_byte e in absurd (omega (arith, f))
 same_command Prove Replay e = let f : 112 ≡ 114 = ap first_byte e in absurd (omega (arith, f))
+same_command Prove Variants e = let f : 112 ≡ 118 = ap first_byte e in absurd (omega (arith, f))
 same_command Check Prove e = let f : 99 ≡ 112 = ap first_byte e in absurd (omega (arith, f))
 same_command Check Check e = refl
 same_command Check Replay e = let f : 99 ≡ 114 = ap first_byte e in absurd (omega (arith, f))
+same_command Check Variants e = let f : 99 ≡ 118 = ap first_byte e in absurd (omega (arith, f))
 same_command Replay Prove e = let f : 114 ≡ 112 = ap first_byte e in absurd (omega (arith, f))
 same_command Replay Check e = let f : 114 ≡ 99 = ap first_byte e in absurd (omega (arith, f))
 same_command Replay Replay e = refl
+same_command Replay Variants e = let f : 114 ≡ 118 = ap first_byte e in absurd (omega (arith, f))
+same_command Variants Prove e = let f : 118 ≡ 112 = ap first_byte e in absurd (omega (arith, f))
+same_command Variants Check e = let f : 118 ≡ 99 = ap first_byte e in absurd (omega (arith, f))
+same_command Variants Replay e = let f : 118 ≡ 114 = ap first_byte e in absurd (omega (arith, f))
+same_command Variants Variants e = refl
 
 -- a line asks for one thing
 pub line_asks_one : (words : List (List ℕ)) (request other : Request) → IsLine words request → IsLine words other → request ≡ other

@@ -31,7 +31,7 @@ use Rattle.sp_top.specs.Headline.{LinesAreTrue, Tells, VerdictsAreTrue}
 use Rattle.sp_top.specs.Run.{TriedRightly, CheckedRightly, DoneRightly, HasVerdicts, VerdictsHold}
 use Rattle.sp_top.specs.declared.Status.{Status}
 use Rattle.sp_top.specs.declared.words.Command.{Command}
-use Rattle.sp_top.specs.declared.words.Command.TheVariants.{Prove, Check, Replay}
+use Rattle.sp_top.specs.declared.words.Command.TheVariants.{Prove, Check, Replay, Variants}
 use Rattle.sp_top.proofs.Causes.{line_asks_one, about_one}
 use Rattle.sp_top.proofs.Told.{Told, told_text, IsRightlyTold, all_lines, told_lines, lines_true}
 
@@ -102,7 +102,7 @@ tried_true : (budget : ℕ) (bytes text : List ℕ) (status : Status) → TriedR
 tried_true budget bytes text status r told behind_end =
     let written = r.analysis.theory in
     let theory = theory_of (theory_in written) in
-    let posing = r.analysis.poses.poses in
+    let posing = r.analysis.poses in
     let names = texts_have_names_lem.symbols bytes written posing.says in
     let ts = map told_of r.outcomes in
     let right = outcomes_told written (setting_of (theory_in written)) budget (theory_in written).lemmas r.outcomes (all_known bytes written posing) r.analysis.outcomes_are r.right
@@ -121,7 +121,7 @@ checked_true : (bytes text : List ℕ) (status : Status) → CheckedRightly byte
 checked_true bytes text status r =
     let written = r.checking.theory in
     let theory = theory_of (theory_in written) in
-    let posing = r.checking.poses.poses in
+    let posing = r.checking.poses in
     let names = texts_have_names_lem.symbols bytes written posing.says in
     let ts = map told_on r.judged in
     let right = judged_told written (setting_of (theory_in written)) (lemmas_with_proofs (resolved written).items) r.judged (all_known bytes written posing) r.checking.judged_are r.right
@@ -136,6 +136,7 @@ done_true : (command : Command) (budget : ℕ) (bytes text told : List ℕ) (sta
 done_true Prove budget bytes text told status r t = tried_true budget bytes text status r told t
 done_true Check budget bytes text told status r t = subst (LinesAreTrue bytes) (sym t) (checked_true bytes text status r)
 done_true Replay budget bytes text told status r t = absurd t
+done_true Variants budget bytes text told status r t = absurd t
 
 module _ (words : List (List ℕ)) (holds : List ℕ → Option (Option (List ℕ))) (before now : ℕ) (old new : Option (List ℕ)) (status : Status) (h : VerdictsHold words holds before now old new status) where
   stands_written : (request : Request) (file bytes front written : List ℕ) → IsLine words request → IsAbout request file → holds file ≡ Some (Some bytes) → old ≡ Some front

@@ -5,12 +5,13 @@ use Rattle.sp_analysis.specs.Analysis.{Outcome}
 use Rattle.sp_spec_text.specs.Verdict.{Verdict}
 use Rattle.sp_analysis.specs.Checking.{Judged}
 use Rattle.sp_top.specs.declared.words.Command.{Command}
-use Rattle.sp_top.specs.declared.words.Command.TheVariants.{Prove, Check, Replay}
+use Rattle.sp_top.specs.declared.words.Command.TheVariants.{Prove, Check, Replay, Variants}
 use Rattle.sp_analysis.proofs.Right.{verdicts_are_right_lem}
 use Rattle.sp_analysis.proofs.AnswersOne.{answers_are_one_lem}
 use Rattle.sp_analysis.proofs.Again.{written_is_checked_lem}
 use Rattle.sp_replay.proofs.One.{replies_are_one_lem}
-use Rattle.sp_top.specs.Answer.{IsRefusal, IsReport, IsUnbuilt, IsLineRefusal, IsDoneWith, IsRefusedWith, CommandAnswer, is_rejected, is_falsified, is_incomplete, status_of, verdicts_of, verdicts_on}
+use Rattle.sp_variants.proofs.One.{lists_are_one_lem}
+use Rattle.sp_top.specs.Answer.{IsRefusal, IsReport, IsLineRefusal, IsDoneWith, IsRefusedWith, CommandAnswer, is_rejected, is_falsified, is_incomplete, status_of, verdicts_of, verdicts_on}
 use Rattle.sp_top.specs.Run.{HasVerdicts, DoneRightly}
 use Rattle.sp_top.specs.declared.Status.{Status}
 use Rattle.sp_top.specs.declared.Status.TheVariants.{Fine, Falsified, Incomplete, Rejected, Refused, Usage, ReadFault, WriteFault, NoMemory, TooLong}
@@ -67,46 +68,43 @@ done_status Prove budget bytes text status a = subst HasVerdicts (sym a.status_i
 done_status Check budget bytes text status a = subst HasVerdicts (sym a.status_is) (status_of_verdicts (verdicts_on a.judged))
 done_status Replay budget bytes text status (inl s) = subst HasVerdicts (sym s.status_is) (inr (inr (inr refl)))
 done_status Replay budget bytes text status (inr r) = subst HasVerdicts (sym r.status_is) (inl refl)
+done_status Variants budget bytes text status r = subst HasVerdicts (sym r.status_is) (inl refl)
 
 refused_with : (command : Command) (bytes text : List ℕ) (status : Status) → IsRefusedWith command bytes text status → status ≡ Refused
 refused_with command bytes text status (inl r) = r.status_is
 refused_with command bytes text status (inr (inl r)) = r.status_is
-refused_with command bytes text status (inr (inr (inl r))) = r.status_is
-refused_with command bytes text status (inr (inr (inr r))) = r.status_is
+refused_with command bytes text status (inr (inr r)) = r.status_is
 
 pub text_status : (command : Command) (budget : ℕ) (bytes text : List ℕ) (status : Status) → CommandAnswer command budget bytes text status → IsTextStatus status
 text_status command budget bytes text status (inl r) = subst IsTextStatus (sym (refused_with command bytes text status r)) refused_status
 text_status command budget bytes text status (inr done) = verdicts_status status (done_status command budget bytes text status done)
 
--- a text that is refused or reported on, or wants forms of its rules, isn't done with, nor one of which a line is refused
+-- a text that is refused or reported on isn't done with, nor one of which a line is refused
 no_text_done : (command : Command) (budget : ℕ) (bytes text other : List ℕ) (status another : Status) → IsRefusal bytes text status → IsDoneWith command budget bytes other another → ⊥
 no_text_done Prove budget bytes text other status another r a = answers_are_one_lem.no_analysis budget bytes other r.place a.outcomes r.refused a.analysis
 no_text_done Check budget bytes text other status another r a = answers_are_one_lem.no_checking bytes other r.place a.judged r.refused a.checking
 no_text_done Replay budget bytes text other status another r (inl s) = replies_are_one_lem.refused_or_stopped bytes r.place s.number s.cause r.refused s.stopped
 no_text_done Replay budget bytes text other status another r (inr a) = replies_are_one_lem.refused_or_done bytes other r.place r.refused a.replay
+no_text_done Variants budget bytes text other status another r a = lists_are_one_lem.refused_or_listed bytes other r.place r.refused a.listed
 
 reported_done : (command : Command) (budget : ℕ) (bytes text other : List ℕ) (status another : Status) → IsReport bytes text status → IsDoneWith command budget bytes other another → ⊥
 reported_done Prove budget bytes text other status another r a = answers_are_one_lem.not_analysed budget bytes text other a.outcomes r.report a.analysis
 reported_done Check budget bytes text other status another r a = answers_are_one_lem.not_checked bytes text other a.judged r.report a.checking
 reported_done Replay budget bytes text other status another r (inl s) = replies_are_one_lem.reported_or_stopped bytes text s.number s.cause r.report s.stopped
 reported_done Replay budget bytes text other status another r (inr a) = replies_are_one_lem.reported_or_done bytes text other r.report a.replay
-
-unbuilt_done : (command : Command) (budget : ℕ) (bytes text other : List ℕ) (status another : Status) → IsUnbuilt command bytes text status → IsDoneWith command budget bytes other another → ⊥
-unbuilt_done Prove budget bytes text other status another r a = answers_are_one_lem.wanting_or_analysed budget bytes other a.outcomes r.wants a.analysis
-unbuilt_done Check budget bytes text other status another r a = answers_are_one_lem.wanting_or_checked bytes other a.judged r.wants a.checking
-unbuilt_done Replay budget bytes text other status another r a = r.proves refl
+reported_done Variants budget bytes text other status another r a = lists_are_one_lem.reported_or_listed bytes text other r.report a.listed
 
 line_done : (command : Command) (budget : ℕ) (bytes text other : List ℕ) (status another : Status) → IsLineRefusal command bytes text status → IsDoneWith command budget bytes other another → ⊥
 line_done Prove budget bytes text other status another r a = let e = r.replays in cc
 line_done Check budget bytes text other status another r a = let e = r.replays in cc
+line_done Variants budget bytes text other status another r a = let e = r.replays in cc
 line_done Replay budget bytes text other status another r (inl s) = replies_are_one_lem.stopped_or_unread bytes s.number r.number s.cause s.stopped r.unread
 line_done Replay budget bytes text other status another r (inr a) = replies_are_one_lem.done_or_unread bytes other r.number a.replay r.unread
 
 refused_or_done : (command : Command) (budget : ℕ) (bytes text other : List ℕ) (status another : Status) → IsRefusedWith command bytes text status → IsDoneWith command budget bytes other another → ⊥
 refused_or_done command budget bytes text other status another (inl r) a = no_text_done command budget bytes text other status another r a
 refused_or_done command budget bytes text other status another (inr (inl r)) a = reported_done command budget bytes text other status another r a
-refused_or_done command budget bytes text other status another (inr (inr (inl r))) a = unbuilt_done command budget bytes text other status another r a
-refused_or_done command budget bytes text other status another (inr (inr (inr r))) a = line_done command budget bytes text other status another r a
+refused_or_done command budget bytes text other status another (inr (inr r)) a = line_done command budget bytes text other status another r a
 
 done_is_one : (command : Command) (budget : ℕ) (bytes text other : List ℕ) (status another : Status) → IsDoneWith command budget bytes text status → IsDoneWith command budget bytes other another → another ≡ status
 done_is_one Prove budget bytes text other status another a b =
@@ -115,6 +113,7 @@ done_is_one Prove budget bytes text other status another a b =
 done_is_one Check budget bytes text other status another a b =
     let same = (answers_are_one_lem.one_check bytes other text b.judged a.judged b.checking a.checking).1 in
     b.status_is ∙ ap (λ (js : List Judged). status_of (verdicts_on js)) same ∙ sym a.status_is
+done_is_one Variants budget bytes text other status another a b = b.status_is ∙ sym a.status_is
 done_is_one Replay budget bytes text other status another (inl s) (inl t) = t.status_is ∙ sym s.status_is
 done_is_one Replay budget bytes text other status another (inl s) (inr b) = absurd (replies_are_one_lem.done_or_stopped bytes other s.number s.cause b.replay s.stopped)
 done_is_one Replay budget bytes text other status another (inr a) (inl t) = absurd (replies_are_one_lem.done_or_stopped bytes text t.number t.cause a.replay t.stopped)
@@ -149,3 +148,4 @@ done_rightly Check budget bytes text status a = record {
   right = verdicts_are_right_lem.judged_right bytes text a.judged a.checking;
 }
 done_rightly Replay budget bytes text status a = a
+done_rightly Variants budget bytes text status a = a

@@ -9,15 +9,16 @@ use Rattle.sp_top.specs.declared.Status.TheVariants.{Fine, Falsified, Incomplete
 use Rattle.sp_top.specs.declared.Wanted.{Wanted}
 use Rattle.sp_top.specs.declared.Wanted.TheVariants as wanted
 use Rattle.sp_place.specs.Refused.{IsRefusedAt}
-use Rattle.sp_pose.specs.Problem.{IsReported, WantsForms}
+use Rattle.sp_pose.specs.Problem.{IsReported}
 use Rattle.sp_spec_text.specs.Verdict.{Verdict, verified, falsified, incomplete, rejected}
 use Rattle.sp_analysis.specs.Analysis.{Outcome, IsAnalysis}
 use Rattle.sp_analysis.specs.Checking.{Judged, IsChecking}
 use Rattle.sp_spec.specs.Execution.{Cause}
 use Rattle.sp_exec.specs.Replay.{rank}
 use Rattle.sp_replay.specs.Replay.{IsUnread, IsStopped, IsReplay}
+use Rattle.sp_variants.specs.Variants.{IsListed}
 use Rattle.sp_top.specs.declared.words.Command.{Command}
-use Rattle.sp_top.specs.declared.words.Command.TheVariants.{Prove, Check, Replay}
+use Rattle.sp_top.specs.declared.words.Command.TheVariants.{Prove, Check, Replay, Variants}
 
 -- how many bytes a text may have
 abbrev pub text_limit : ℕ
@@ -33,13 +34,6 @@ pub record IsRefusal (bytes text : List ℕ) (status : Status) : Type 0 where
 -- the text says a theory with fatal findings, and these are their lines
 pub record IsReport (bytes text : List ℕ) (status : Status) : Type 0 where
   pub report : IsReported bytes text
-  pub status_is : status ≡ Refused
-
--- proofs of the text's theory aren't searched or checked yet: a destructor stands in an action or a conclusion of a rule
-pub record IsUnbuilt (command : Command) (bytes text : List ℕ) (status : Status) : Type 0 where
-  pub proves : command ≡ Replay → ⊥
-  pub wants : WantsForms bytes
-  pub text_is : text ≡ codes "refused: text at byte 0\n"
   pub status_is : status ≡ Refused
 
 abbrev pub is_falsified : Verdict → Bool
@@ -110,14 +104,20 @@ pub record IsReplayed (bytes text : List ℕ) (status : Status) : Type 0 where
   pub replay : IsReplay bytes text
   pub status_is : status ≡ Fine
 
+-- the rules of the text, each with its forms
+pub record HasVariants (bytes text : List ℕ) (status : Status) : Type 0 where
+  pub listed : IsListed bytes text
+  pub status_is : status ≡ Fine
+
 abbrev pub IsDoneWith : Command → ℕ → List ℕ → List ℕ → Status → Type 0
 IsDoneWith Prove budget bytes text status = IsTried budget bytes text status
 IsDoneWith Check budget bytes text status = IsChecked bytes text status
 IsDoneWith Replay budget bytes text status = IsStepRefusal bytes text status ⊎ IsReplayed bytes text status
+IsDoneWith Variants budget bytes text status = HasVariants bytes text status
 
 -- the text, its theory or its lines are refused
 abbrev pub IsRefusedWith : Command → List ℕ → List ℕ → Status → Type 0
-IsRefusedWith command bytes text status = IsRefusal bytes text status ⊎ IsReport bytes text status ⊎ IsUnbuilt command bytes text status ⊎ IsLineRefusal command bytes text status
+IsRefusedWith command bytes text status = IsRefusal bytes text status ⊎ IsReport bytes text status ⊎ IsLineRefusal command bytes text status
 
 -- what the command answers to the bytes of a text, within so many moves
 abbrev pub CommandAnswer : Command → ℕ → List ℕ → List ℕ → Status → Type 0

@@ -3,7 +3,7 @@ use Rattle.std.specs.Prelude.{◌≡◌, ◌≢◌, ◌⊎◌, ℕ, List, [], �
 use Rattle.sp_analysis.specs.declared.replies.Command as asked
 use Rattle.sp_analysis.specs.declared.replies.Command.TheVariants as proofs
 use Rattle.sp_top.specs.declared.words.Command.{Command}
-use Rattle.sp_top.specs.declared.words.Command.TheVariants.{Prove, Check, Replay}
+use Rattle.sp_top.specs.declared.words.Command.TheVariants.{Prove, Check, Replay, Variants}
 use Rattle.sp_top.specs.declared.words.Request as memory
 
 -- What is asked for: what is to be done, how many moves a proof may have that is grown, of which lemma alone (of each lemma, where none is
@@ -30,6 +30,7 @@ abbrev pub command_word : Command → List ℕ
 command_word Prove = codes "prove"
 command_word Check = codes "check"
 command_word Replay = codes "replay"
+command_word Variants = codes "variants"
 
 -- the words say what to do, and with which file
 abbrev pub Say : List (List ℕ) → Command → List ℕ → Type 0

@@ -17,7 +17,7 @@ use Rattle.sp_top.specs.Command.{Request, IsAbout, IsLine}
 use Rattle.sp_top.specs.Run.{HasVerdicts}
 use Rattle.sp_top.specs.declared.Status.{Status}
 use Rattle.sp_top.specs.declared.words.Command.{Command}
-use Rattle.sp_top.specs.declared.words.Command.TheVariants.{Prove, Check, Replay}
+use Rattle.sp_top.specs.declared.words.Command.TheVariants.{Prove, Check, Replay, Variants}
 
 -- the line is one of the text, and these stand below it
 pub record IsLineAbove (text line : List ℕ) (below : List (List ℕ)) : Type 0 where
@@ -64,6 +64,7 @@ abbrev pub Tells : Command → List ℕ → List ℕ → Type 0
 Tells Prove written told = IsBehindEnd written told
 Tells Check written told = told ≡ written
 Tells Replay written told = ⊥
+Tells Variants written told = ⊥
 
 -- Each verdict that stands written is so: where the library tells the bytes of the file, and the sink what stood there before and now.
 pub record VerdictsAreTrue (words : List (List ℕ)) (holds : List ℕ → Option (Option (List ℕ))) (old new : Option (List ℕ)) (status : Status) : Type 0 where

@@ -1,7 +1,7 @@
 -- What the top call promises, clause by clause. `before` and `now` are a count of faults before and after the call.
 use Rattle.std.specs.Prelude.{◌≡◌, ◌≢◌, ◌⊎◌, ◌≤◌, ◌<◌, ℕ, List, Option, Some, None, length, take}
 use Rattle.sp_io.specs.Told.{Rose, extended, IsExtendedByPrefix}
-use Rattle.sp_top.specs.Answer.{text_limit, status_of, verdicts_of, verdicts_on, IsStepRefusal, IsReplayed, TextAnswer, MayBeTooLong, MayBeText, IsAnswer}
+use Rattle.sp_top.specs.Answer.{text_limit, status_of, verdicts_of, verdicts_on, IsStepRefusal, IsReplayed, HasVariants, TextAnswer, MayBeTooLong, MayBeText, IsAnswer}
 use Rattle.sp_top.specs.Command.{Request, fetched, IsAbout, IsLine, IsNoLine}
 use Rattle.sp_top.specs.declared.Status.{Status}
 use Rattle.sp_top.specs.declared.Status.TheVariants.{Fine, Falsified, Incomplete, Rejected, Usage, ReadFault, WriteFault, NoMemory, TooLong}
@@ -12,13 +12,13 @@ use Rattle.sp_spec_text.specs.Declared.{theory_in}
 use Rattle.sp_analysis.specs.Checking.{Judged, IsChecking}
 use Rattle.sp_analysis.specs.Laws.{Means, JudgedRightly, IsCheckedAgain}
 use Rattle.sp_top.specs.declared.words.Command.{Command}
-use Rattle.sp_top.specs.declared.words.Command.TheVariants.{Prove, Check, Replay}
+use Rattle.sp_top.specs.declared.words.Command.TheVariants.{Prove, Check, Replay, Variants}
 
 -- a fault of the sink or want of memory came before another cause could show
 abbrev pub IsCutShort : Status → Type 0
 IsCutShort status = (status ≡ WriteFault) ⊎ (status ≡ NoMemory)
 
--- the answer has verdicts on the lemmas of the text, or tells what became of steps
+-- the answer has verdicts on the lemmas of the text, or tells what became of steps, or which forms its rules have
 abbrev pub HasVerdicts : Status → Type 0
 HasVerdicts status = (status ≡ Fine) ⊎ (status ≡ Falsified) ⊎ (status ≡ Incomplete) ⊎ (status ≡ Rejected)
 
@@ -46,11 +46,13 @@ pub record CheckedRightly (bytes answer : List ℕ) (status : Status) : Type 0 w
   pub status_is : status ≡ status_of (verdicts_on judged)
   pub right : Every (JudgedRightly (theory_in checking.theory)) judged
 
--- The steps behind the text are an execution, whose trace is written with what is true over it, or the first that can't be done is named.
+-- The steps behind the text are an execution, whose trace is written with what is true over it, or the first that can't be done is named; and the
+-- rules that are written have these forms.
 abbrev pub DoneRightly : Command → ℕ → List ℕ → List ℕ → Status → Type 0
 DoneRightly Prove budget bytes answer status = TriedRightly budget bytes answer status
 DoneRightly Check budget bytes answer status = CheckedRightly bytes answer status
 DoneRightly Replay budget bytes answer status = IsStepRefusal bytes answer status ⊎ IsReplayed bytes answer status
+DoneRightly Variants budget bytes answer status = HasVariants bytes answer status
 
 module _ (words : List (List ℕ)) (holds : List ℕ → Option (Option (List ℕ))) where
   -- ReadFault comes only where the count of faults rose or absence is told of a text that is fetched, and always where absence is told

@@ -1,6 +1,6 @@
 // The top call: from the words of a command to the text that is written and the status.
-// Below stand what tries the lemmas of a text or checks their proofs (sp_analysis), what replays the steps behind it (sp_replay), and the library
-// that texts come from and the sink that answers go to (sp_io). The program stands above and only makes the words, the library and the sink.
+// Below stand what tries the lemmas of a text or checks their proofs (sp_analysis), what replays the steps behind it (sp_replay), what lists its rules'
+// forms (sp_variants), and the library that texts come from and the sink that answers go to (sp_io). The program stands above and only makes the words, the library and the sink.
 // It promises that what is written of each lemma is so, that each status comes by its cause alone, that what is written is the whole
 // answer or, after a fault of the sink, a prefix of that very answer, and that what is fetched is what the words ask for.
 #![tactic(auto)]
@@ -18,7 +18,7 @@ ghost use Rattle.sp_top.specs.Headline.{VerdictsAreTrue};
 ghost use Rattle.sp_top.specs.Run.{UsageExactly, ReadFaultExactly, TooLongExactly, AnswersExactly, VerdictsHold, WritesWhole, WritesPrefix, IsComplete, WriteFaultOnly, WritesNothing, AsksAsRequested};
 ghost use Rattle.sp_top.specs.declared.Status.TheVariants.{Fine, Falsified, Incomplete, Rejected, Refused};
 ghost use Rattle.sp_analysis.specs.View.{verdict_of};
-ghost use Rattle.sp_top.specs.declared.words.Command.TheVariants.{Replay};
+ghost use Rattle.sp_top.specs.declared.words.Command.TheVariants.{Replay, Variants};
 
 use sp_analysis::{Reply, Verdict};
 use sp_io::{FetchFail, Library, Sink, write_whole};
@@ -35,7 +35,7 @@ const TEXT_LIMIT: usize = 1_048_576;
 /// How a call ended; the number is the program's status.
 #[derive(Clone, Copy, Debug, PartialEq, Eq)]
 pub enum Status {
-    /// All is verified, or accepted, or without fatal finding.
+    /// All is verified, or accepted, or without fatal finding, or done.
     Fine = 0,
     /// Some lemma is falsified.
     Falsified = 1,
@@ -167,6 +167,18 @@ fn answer_steps(alloc: Global, bytes: &[u8]) -> Result<(Vec<u8>, Status), AllocE
     }
 }
 
+/// The whole answer to the bytes of a text whose rules' forms are listed.
+#[tactic(auto, using(crate::proofs::Answered::answers))]
+fn answer_forms(alloc: Global, bytes: &[u8]) -> Result<(Vec<u8>, Status), AllocError>
+    ensures { IfOk result (λ answer. CommandAnswer Variants 0 bytes.now answer.0.items answer.1) }
+{
+    match sp_variants::variants(alloc, bytes)? {
+        sp_variants::Reply::Refused(place) => refusal(alloc, place),
+        sp_variants::Reply::Reported(lines) => Ok((lines, Status::Refused)),
+        sp_variants::Reply::Done(written) => Ok((written, Status::Fine)),
+    }
+}
+
 /// The whole answer to the bytes of a text, as it was asked for.
 fn answer(alloc: Global, request: &Request, bytes: &[u8]) -> Result<(Vec<u8>, Status), AllocError>
     ensures { IfOk result (λ answer. TextAnswer (request_of request.now) bytes.now answer.0.items answer.1) }
@@ -175,6 +187,7 @@ fn answer(alloc: Global, request: &Request, bytes: &[u8]) -> Result<(Vec<u8>, St
         Command::Prove => answer_proofs(alloc, sp_analysis::Command::Prove(request.budget), bytes),
         Command::Check => answer_proofs(alloc, sp_analysis::Command::Check, bytes),
         Command::Replay => answer_steps(alloc, bytes),
+        Command::Variants => answer_forms(alloc, bytes),
     }
 }
 
@@ -190,7 +203,6 @@ fn answer_proofs(
     match sp_analysis::answer(alloc, command, bytes)? {
         Reply::Refused(place) => refusal(alloc, place),
         Reply::Reported(lines) => Ok((lines, Status::Refused)),
-        Reply::WantsForms => fixed(alloc, b"refused: text at byte 0\n", Status::Refused),
         Reply::Done(written, verdicts) => {
             let status = status_of(&verdicts);
             Ok((written, status))
@@ -265,7 +277,7 @@ pub fn run<L: Library, K: Sink>(
     // verified is satisfied by the execution whose steps stand below, and one that is falsified holds in none.
     ensures headline { VerdictsAreTrue words.now (L.holds library.old) (K.written out.old) (K.written out.new) result }
     // And exactly: what is written of each lemma is what is to be written of it. A proof that is checked is accepted exactly where its every
-    // step is an instance of a move, with the cases of that move. What is replayed is told as it is.
+    // step is an instance of a move, with the cases of that move. What is replayed is told as it is, and each rule with its forms.
     ensures verdicts { VerdictsHold words.now (L.holds library.old) (L.faults library.old) (L.faults library.new) (K.written out.old) (K.written out.new) result }
     // What stands written is the whole answer, or a prefix of it, or nothing.
     ensures whole { WritesWhole words.now (L.holds library.old) (L.faults library.old) (L.faults library.new) (K.written out.old) (K.written out.new) result }

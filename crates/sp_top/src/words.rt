@@ -13,6 +13,8 @@ pub enum Command {
     Check,
     /// The lines behind the theory are replayed as the steps of an execution.
     Replay,
+    /// The rules are written, each with its forms.
+    Variants,
 }
 
 /// How many moves a proof may have that is grown.
@@ -103,6 +105,7 @@ fn command_of(word: &str) -> Option<Command>
         "prove" => Some(Command::Prove),
         "check" => Some(Command::Check),
         "replay" => Some(Command::Replay),
+        "variants" => Some(Command::Variants),
         _ => None,
     }
 }

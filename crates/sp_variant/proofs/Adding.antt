@@ -2,7 +2,7 @@
 use Rattle.std.proofs.Common.{◌≡◌, ℕ, ◌+◌, ◌<◌, Bool, true, false, not, cond, ◌&&◌, ◌||◌, List, [], ◌∷◌, ◌++◌, drop, length, get_or, append-nil, append_assoc, refl, sym, ap, ◌∙◌, true≢false}
 use Rattle.std.specs.List.{filter, list_any}
 use Rattle.sp_spec.proofs.Lists.{next_there}
-use Rattle.sp_law_forms.specs.Numbering.{without_repeats}
+use Rattle.sp_spec_forms.specs.Numbering.{without_repeats}
 use Rattle.sp_variant.specs.Adding.{added_after}
 
 module _ {A : Type 0} (same : A → A → Bool) where

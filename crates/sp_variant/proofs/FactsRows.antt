@@ -5,7 +5,7 @@ use Rattle.std.proofs.lemmas.List.{map-append}
 use Rattle.sp_spec.specs.Term.{Variable}
 use Rattle.sp_spec.specs.Signature.{Equation}
 use Rattle.sp_spec.specs.Rule.{Fact, Action, Facts}
-use Rattle.sp_law_forms.specs.Narrowing.{Chosen, each, narrow_fact, narrow_action, narrow_facts}
+use Rattle.sp_spec_forms.specs.Narrowing.{Chosen, each, narrow_fact, narrow_action, narrow_facts}
 use Rattle.sp_variant.specs.Rows.{finished, with_conclusions, with_actions}
 
 abbrev Later : Type 0

@@ -4,9 +4,10 @@ use Rattle.std.proofs.lemmas.List.{map-append}
 use Rattle.std.specs.List.{filter}
 use Rattle.sp_spec.specs.Term.{Variable}
 use Rattle.sp_spec.specs.Rule.{Facts}
-use Rattle.sp_law_forms.specs.Numbering.{Form, without_repeats}
-use Rattle.sp_spec_formula.specs.ActionStands.{same_action}
-use Rattle.sp_law_forms.specs.Forms.{alike_fact, alike_form, same_list}
+use Rattle.sp_spec_forms.specs.Numbering.{Form, without_repeats}
+use Rattle.sp_spec_forms.specs.Alike.{same_action}
+use Rattle.sp_spec_forms.specs.Alike.{alike_fact, same_list}
+use Rattle.sp_spec_forms.specs.Forms.{alike_form}
 use Rattle.sp_law_forms.proofs.Irreducible.{alike_form_tells}
 use Rattle.sp_variant.specs.Adding.{added_after}
 use Rattle.sp_variant.proofs.Adding.{added_both, added_to_none}

@@ -12,7 +12,7 @@ use Rattle.sp_variant.specs.View.{chosen_of, list_by, terms_in, way_by}
 use Rattle.std.specs.Global.{Vec}
 use Rattle.sp_term.specs.declared.term.Term as memory
 use Rattle.sp_term.specs.declared.term.Variable as memory_variable
-use Rattle.sp_law_forms.specs.Narrowing.{Chosen, Ways, each, narrow, narrow_all}
+use Rattle.sp_spec_forms.specs.Narrowing.{Chosen, Ways, each, narrow, narrow_all}
 use Rattle.sp_variant.specs.Rows.{with_one_more, longer}
 
 -- what a row is with those after it

@@ -5,7 +5,7 @@ use Rattle.sp_spec.specs.Term.{Variable, Terms, in_terms}
 use Rattle.sp_spec.specs.Same.{same_variable}
 use Rattle.sp_spec.specs.Rule.{Fact, Action, Facts, in_facts, in_actions}
 use Rattle.sp_spec.proofs.Same.{same_variable_decides}
-use Rattle.sp_law_forms.specs.Numbering.{seen}
+use Rattle.sp_spec_forms.specs.Numbering.{seen}
 use Rattle.sp_variant.specs.Adding.{added_after}
 use Rattle.sp_variant.proofs.Adding.{added_both, added_to_none}
 

@@ -3,7 +3,7 @@ use Rattle.std.proofs.Common.{◌≡◌, ℕ, suc, ◌+◌, List, [], ◌∷◌,
 use Rattle.sp_spec.specs.Term.{Variable, Term, var, Terms, more}
 use Rattle.sp_spec.specs.Rule.{Declared, Rule}
 use Rattle.sp_term.specs.View.{terms_of}
-use Rattle.sp_law_forms.specs.Forms.{above_each, rule_variables, start}
+use Rattle.sp_spec_forms.specs.Forms.{above_each, rule_variables, start}
 
 above_both : (tss uss : List (Terms Variable)) → above_each (tss ++ uss) ≡ above_each tss + above_each uss
 above_both [] uss = omega arith

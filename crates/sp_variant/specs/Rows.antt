@@ -4,7 +4,7 @@ use Rattle.std.specs.List.{flat_map}
 use Rattle.sp_spec.specs.Term.{Variable, Terms}
 use Rattle.sp_spec.specs.Signature.{Equation}
 use Rattle.sp_spec.specs.Rule.{Fact, Action, Facts}
-use Rattle.sp_law_forms.specs.Narrowing.{Chosen, Ways, each, narrow_all, narrow_fact, narrow_action}
+use Rattle.sp_spec_forms.specs.Narrowing.{Chosen, Ways, each, narrow_all, narrow_fact, narrow_action}
 
 -- the row with one more, that is made in one of these ways
 abbrev pub with_one_more : {A : Type 0} → List A → List (A × Chosen) → List (List A × Chosen)

@@ -1,4 +1,4 @@
--- What the values here stand for.
+-- What the values stand for that are made within.
 use Rattle.std.specs.Prelude.{List, map}
 use Rattle.std.specs.Global.{Vec}
 use Rattle.sp_spec.specs.Term as terms
@@ -6,17 +6,9 @@ use Rattle.sp_term.specs.View.{view_all}
 use Rattle.sp_term.specs.declared.term.Term.{Term}
 use Rattle.sp_term.specs.declared.term.Variable.{Variable}
 use Rattle.sp_unify.specs.View.{pair_view}
-use Rattle.sp_fact.specs.View.{facts_of}
-use Rattle.sp_law_forms.specs.Numbering as forms
-use Rattle.sp_law_forms.specs.Narrowing as ways
-use Rattle.sp_variant.specs.declared.form.Form.{Form}
+use Rattle.sp_spec_forms.specs.Narrowing as ways
 use Rattle.sp_variant.specs.declared.narrowing.Chosen.{Chosen}
 use Rattle.sp_variant.specs.declared.narrowing.Way.{Way}
-
-abbrev pub form_of : Form → forms.Form
-form_of f = record { facts = facts_of f.facts; count = f.count; kept = view_all f.kept.items }
-
--- ---- within
 
 abbrev pub chosen_of : Chosen → ways.Chosen
 chosen_of s = record { pairs = map pair_view s.pairs.items; next = s.next }

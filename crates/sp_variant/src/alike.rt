@@ -2,12 +2,14 @@
 
 ghost use Rattle.std.specs.Prelude.{◌≡◌, [], ◌∷◌, OnOk};
 ghost use Rattle.std.specs.List.{list_any};
-ghost use Rattle.sp_law_forms.specs.Forms.{alike_form, same_list};
-ghost use Rattle.sp_variant.specs.View.{form_of, list_by};
+ghost use Rattle.sp_spec_forms.specs.Alike.{same_list};
+ghost use Rattle.sp_spec_forms.specs.Forms.{alike_form};
+ghost use Rattle.sp_book.specs.View.{form_of};
+ghost use Rattle.sp_variant.specs.View.{list_by};
 ghost use Rattle.sp_variant.specs.Adding.{added_after};
 
 use crate::arguments::HasArguments;
-use crate::form::Form;
+use sp_book::form::Form;
 use std::alloc::AllocError;
 
 /// Whether those at each place are the same, and as many.

@@ -5,8 +5,8 @@ ghost use Rattle.sp_spec.specs.Term as terms;
 ghost use Rattle.sp_spec.specs.Rule as rule;
 ghost use Rattle.sp_term.specs.View.{view_all};
 ghost use Rattle.sp_fact.specs.View.{fact_of, action_of};
-ghost use Rattle.sp_spec_formula.specs.ActionStands.{same_action};
-ghost use Rattle.sp_law_forms.specs.Forms.{alike_fact};
+ghost use Rattle.sp_spec_forms.specs.Alike.{same_action};
+ghost use Rattle.sp_spec_forms.specs.Alike.{alike_fact};
 
 use sp_fact::fact::{Action, Fact};
 use sp_term::term::{Term, all_same};

@@ -3,7 +3,7 @@
 ghost use Rattle.std.specs.Prelude.{◌≡◌, ◌++◌, IfOk, OnOk, map};
 ghost use Rattle.sp_fact.specs.View.{action_of, fact_of, facts_of};
 ghost use Rattle.sp_ground.specs.View.{equation_of};
-ghost use Rattle.sp_law_forms.specs.Narrowing as spec;
+ghost use Rattle.sp_spec_forms.specs.Narrowing as spec;
 ghost use Rattle.sp_variant.specs.View.{chosen_of, list_by, way_by};
 ghost use Rattle.sp_variant.specs.Rows.{longer, narrow_arguments, with_actions, with_conclusions, with_one_more};
 

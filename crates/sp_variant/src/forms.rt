@@ -1,28 +1,29 @@
 // The forms of a rule: all results of narrowing, in normal form, each once.
 
 ghost use Rattle.std.specs.Prelude.{◌≡◌, ◌++◌, IfOk, OnOk, map};
-ghost use Rattle.std.specs.List.{filter, list_all, list_any};
-ghost use Rattle.sp_term.specs.View.{view, view_all};
+ghost use Rattle.std.specs.List.{filter};
 ghost use Rattle.sp_fact.specs.View.{declared_of, facts_of, rule_of};
 ghost use Rattle.sp_ground.specs.View.{equation_of};
 ghost use Rattle.sp_unify.specs.View.{pair_view};
 ghost use Rattle.sp_spec.specs.Unifier.{mgu};
-ghost use Rattle.sp_law_forms.specs.Numbering.{without_repeats};
-ghost use Rattle.sp_law_forms.specs.Forms as spec;
-ghost use Rattle.sp_variant.specs.View.{form_of, list_by, terms_in};
+ghost use Rattle.sp_spec_forms.specs.Numbering.{without_repeats};
+ghost use Rattle.sp_spec_forms.specs.Forms as spec;
+ghost use Rattle.sp_book.specs.View.{form_of};
+ghost use Rattle.sp_variant.specs.View.{list_by, terms_in};
 
 use crate::alike::add;
 use crate::arguments::HasArguments;
 use crate::facts::narrow_facts;
-use crate::form::Form;
 use crate::narrowing::{Chosen, Way, sum};
 use crate::numbering::numbered;
-use sp_conv::{above_all, shifted};
+use sp_book::form::Form;
+use sp_book::reducible::irreducible_facts;
+use sp_conv::above_all;
 use sp_fact::fact::Facts;
 use sp_fact::rule::{Declared, Rule};
 use sp_ground::signature::Equation;
-use sp_term::apply::{apply, apply_all};
-use sp_term::term::{Term, Variable, copy, same};
+use sp_term::apply::apply_all;
+use sp_term::term::{Term, Variable};
 use sp_unify::unify::mgu;
 use std::alloc::{AllocError, Global};
 
@@ -101,115 +102,6 @@ fn results(alloc: Global, equations: &Vec<Equation>, rule: &Rule) -> Result<Vec<
 
 // ---- those in normal form
 
-/// Whether the equation's left side matches the term, whose variables have numbers below this.
-fn is_matched(
-    alloc: Global,
-    number: u128,
-    term: &Term,
-    equation: &Equation,
-) -> Result<bool, AllocError>
-    ensures { IfOk result (λ b. b ≡ spec.is_matched number (view term.now) (equation_of equation.now)) }
-{
-    let left = shifted(alloc, number, &equation.left)?;
-    let mut pairs = Vec::new(alloc);
-    pairs.push((left, copy(term)?))?;
-    let Some(unifier) = mgu(alloc, &pairs)? else {
-        return Ok(false);
-    };
-    let made = apply(alloc, &unifier, term)?;
-    let stays = same(&made, term);
-    Ok(stays)
-}
-
-/// Whether the left side of one of the equations does.
-fn some_matches(
-    alloc: Global,
-    number: u128,
-    term: &Term,
-    equations: &Vec<Equation>,
-) -> Result<bool, AllocError>
-    ensures { IfOk result (λ b. b ≡ list_any (spec.is_matched number (view term.now)) (map equation_of equations.now.items)) }
-{
-    for equation in equations {
-        if is_matched(alloc, number, term, equation)? {
-            return Ok(true);
-        }
-    }
-    Ok(false)
-}
-
-/// Whether no left side matches a term inside this one, whose variables have numbers below this.
-#[cycle(irreducible)]
-fn irreducible(
-    alloc: Global,
-    term: &Term,
-    equations: &Vec<Equation>,
-    number: u128,
-) -> Result<bool, AllocError>
-    ensures { IfOk result (λ b. b ≡ spec.irreducible (map equation_of equations.now.items) number (view term.now)) }
-{
-    match term {
-        Term::App(_, terms, _) => {
-            if !irreducible_all(alloc, terms, equations, number)? {
-                return Ok(false);
-            }
-            let matched = some_matches(alloc, number, term, equations)?;
-            Ok(!matched)
-        }
-        _ => Ok(true),
-    }
-}
-
-/// The same of each of the terms.
-#[cycle(irreducible)]
-fn irreducible_all(
-    alloc: Global,
-    terms: &Vec<Term>,
-    equations: &Vec<Equation>,
-    number: u128,
-) -> Result<bool, AllocError>
-    ensures { IfOk result (λ b. b ≡ spec.irreducible_all (map equation_of equations.now.items) number (view_all terms.now.items)) }
-{
-    for term in terms {
-        if !irreducible(alloc, term, equations, number)? {
-            return Ok(false);
-        }
-    }
-    Ok(true)
-}
-
-/// The same of each one's arguments.
-fn irreducible_each<T: HasArguments>(
-    alloc: Global,
-    all: &Vec<T>,
-    equations: &Vec<Equation>,
-    number: u128,
-) -> Result<bool, AllocError>
-    ensures { IfOk result (λ b. b ≡ list_all (spec.irreducible_all (map equation_of equations.now.items) number) (map T.args_of (list_by T.kind_of all.now))) }
-{
-    for one in all {
-        if !irreducible_all(alloc, one.arguments(), equations, number)? {
-            return Ok(false);
-        }
-    }
-    Ok(true)
-}
-
-/// Whether no left side matches a term in the form.
-fn is_normal_form(alloc: Global, equations: &Vec<Equation>, form: &Form) -> Result<bool, AllocError>
-    ensures { IfOk result (λ b. b ≡ spec.is_normal_form (map equation_of equations.now.items) (form_of form.now)) }
-{
-    let number = form.count as u128;
-    if !irreducible_each(alloc, &form.facts.premises, equations, number)? {
-        return Ok(false);
-    }
-    if !irreducible_each(alloc, &form.facts.actions, equations, number)? {
-        return Ok(false);
-    }
-    let conclusions = irreducible_each(alloc, &form.facts.conclusions, equations, number)?;
-    Ok(conclusions)
-}
-
 /// Those of these that are in normal form, each once.
 #[tactic(auto, using(crate::proofs::Once::forms_once))]
 fn once(alloc: Global, equations: &Vec<Equation>, all: Vec<Form>) -> Result<Vec<Form>, AllocError>
@@ -218,7 +110,7 @@ fn once(alloc: Global, equations: &Vec<Equation>, all: Vec<Form>) -> Result<Vec<
 {
     let mut forms = Vec::new(alloc);
     for form in all {
-        if is_normal_form(alloc, equations, &form)? {
+        if irreducible_facts(alloc, equations, &form.facts)? {
             add(&mut forms, form)?;
         }
     }

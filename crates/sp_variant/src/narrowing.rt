@@ -6,8 +6,8 @@ ghost use Rattle.sp_spec.specs.Term.{app};
 ghost use Rattle.sp_term.specs.View.{name_of, view, view_all};
 ghost use Rattle.sp_unify.specs.View.{pair_view};
 ghost use Rattle.sp_ground.specs.View.{equation_of};
-ghost use Rattle.sp_law_conv.specs.Clash.{above};
-ghost use Rattle.sp_law_forms.specs.Narrowing as spec;
+ghost use Rattle.sp_spec_forms.specs.Shifted.{above};
+ghost use Rattle.sp_spec_forms.specs.Narrowing as spec;
 ghost use Rattle.sp_variant.specs.View.{chosen_of, list_by, terms_in, way_by};
 ghost use Rattle.sp_variant.specs.Rows.{longer, with_one_more};
 

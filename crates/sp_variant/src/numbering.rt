@@ -7,12 +7,13 @@ ghost use Rattle.sp_spec.specs.Term.{in_term, in_terms};
 ghost use Rattle.sp_spec.specs.Same.{same_variable};
 ghost use Rattle.sp_term.specs.View.{variable_of, view, view_all};
 ghost use Rattle.sp_fact.specs.View.{facts_of};
-ghost use Rattle.sp_law_forms.specs.Numbering as spec;
-ghost use Rattle.sp_variant.specs.View.{form_of, list_by};
+ghost use Rattle.sp_spec_forms.specs.Numbering as spec;
+ghost use Rattle.sp_book.specs.View.{form_of};
+ghost use Rattle.sp_variant.specs.View.{list_by};
 ghost use Rattle.sp_variant.specs.Adding.{added_after};
 
 use crate::arguments::HasArguments;
-use crate::form::Form;
+use sp_book::form::Form;
 use sp_fact::fact::Facts;
 use sp_term::apply::{Assigns, apply_all};
 use sp_term::term::{Term, Variable};

@@ -9,7 +9,8 @@ use Rattle.sp_spec.specs.Substitution.{Binding, bound_to}
 use Rattle.sp_spec.specs.Unifier.{mgu}
 use Rattle.sp_spec.proofs.Bools.{denied}
 use Rattle.sp_spec_text.specs.Declared.{Numbered}
-use Rattle.sp_law_conv.specs.Clash.{DoClash, DoClashBy, shifted, apart, overlap}
+use Rattle.sp_spec_forms.specs.Shifted.{shifted}
+use Rattle.sp_law_conv.specs.Clash.{DoClash, DoClashBy, apart, overlap}
 use Rattle.sp_law_conv.specs.Accepted.{IsWellFormed, HasPrivateConstant, HasWrongShape}
 use Rattle.sp_conv.specs.Tests.{is_well_formed, has_private_constant}
 use Rattle.sp_conv.proofs.Tests.{alike_decides, is_well_formed_decides, has_private_constant_decides}

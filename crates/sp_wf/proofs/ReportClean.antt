@@ -6,7 +6,7 @@ use Rattle.sp_spec.specs.Theory.{Lemma}
 use Rattle.sp_spec.specs.Written.{WrittenRule, is_listed}
 use Rattle.sp_spec.specs.Guarded.{Guarded}
 use Rattle.sp_law_guard.specs.CheckedForm.{checked_form}
-use Rattle.sp_law_conv.specs.Laws.{EquationsAreOver}
+use Rattle.sp_law_equal.specs.Right.{EquationsAreOver}
 use Rattle.sp_spec.proofs.Lists.{every_from, every_member, every_parts, every_weaken, each_among, member_left}
 use Rattle.sp_spec_text.specs.Written.{Item, WrittenText, builtins_in, functions_in, rules_in, lemmas_in}
 use Rattle.sp_spec_text.specs.Declared.{Builtin, builtin_of, new_symbols, declared_symbols, all_symbols, Numbered, all_equations, their_equations, resolved}

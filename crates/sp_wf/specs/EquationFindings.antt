@@ -6,7 +6,8 @@ use Rattle.sp_spec.specs.Signature.{Symbol, Equation}
 use Rattle.sp_spec.specs.Substitution.{Binding, bound_to}
 use Rattle.sp_spec.specs.Unifier.{mgu}
 use Rattle.sp_spec_text.specs.Declared.{Numbered, their_equations}
-use Rattle.sp_law_conv.specs.Clash.{shifted, apart, overlap}
+use Rattle.sp_spec_forms.specs.Shifted.{shifted}
+use Rattle.sp_law_conv.specs.Clash.{apart, overlap}
 use Rattle.sp_conv.specs.Tests.{is_well_formed, has_private_constant}
 use Rattle.sp_wf.specs.Finding.{Finding, wrong_shape, private_constant, clash, told, are_none}
 

@@ -8,7 +8,7 @@ use Rattle.sp_spec.specs.Findings.{rule_is_wrong}
 use Rattle.sp_spec.specs.Guarded.{Guarded}
 use Rattle.sp_law_guard.specs.CheckedForm.{checked_form}
 use Rattle.sp_law_conv.specs.Accepted.{AreAccepted}
-use Rattle.sp_law_conv.specs.Laws.{EquationsAreOver}
+use Rattle.sp_law_equal.specs.Right.{EquationsAreOver}
 use Rattle.sp_spec_text.specs.Written.{WrittenText, builtins_in, functions_in}
 use Rattle.sp_spec_text.specs.Declared.{Builtin, builtin_of, declared_symbols, all_symbols, theory_in}
 use Rattle.sp_wf.specs.SymbolFindings.{unknown_in_rule, unknown_in_formula, facts_have_destructor, formula_has_destructor}

@@ -113,10 +113,6 @@ abbrev pub facts_have_destructor : {V : Type 0} → List Equation → List (Fact
 facts_have_destructor es [] = false
 facts_have_destructor es (f ∷ fs) = have_destructor es f.args || facts_have_destructor es fs
 
-abbrev pub actions_have_destructor : {V : Type 0} → List Equation → List (Action V) → Bool
-actions_have_destructor es [] = false
-actions_have_destructor es (a ∷ rest) = have_destructor es a.args || actions_have_destructor es rest
-
 abbrev pub formula_has_destructor : List Equation → Formula → Bool
 formula_has_destructor es truth = false
 formula_has_destructor es falsity = false

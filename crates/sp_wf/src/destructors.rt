@@ -51,23 +51,11 @@ pub fn have_destructor(equations: &Vec<Equation>, terms: &Vec<WrittenTerm>) -> b
 }
 
 /// Whether a destructor stands in one of the facts.
-pub fn facts_have_destructor(equations: &Vec<Equation>, facts: &Vec<WrittenFact>) -> bool
+fn facts_have_destructor(equations: &Vec<Equation>, facts: &Vec<WrittenFact>) -> bool
     ensures { result ≡ spec.facts_have_destructor (map equation_of equations.now.items) (parts.facts_of facts.now.items) }
 {
     for fact in facts {
         if have_destructor(equations, &fact.args) {
-            return true;
-        }
-    }
-    false
-}
-
-/// Whether a destructor stands in one of the actions.
-pub fn actions_have_destructor(equations: &Vec<Equation>, actions: &Vec<WrittenAction>) -> bool
-    ensures { result ≡ spec.actions_have_destructor (map equation_of equations.now.items) (map parts.action_of actions.now.items) }
-{
-    for action in actions {
-        if have_destructor(equations, &action.args) {
             return true;
         }
     }

@@ -23,7 +23,6 @@ mod variables;
 
 ghost use Rattle.sp_wf.specs.Laws.{ReportIsRight};
 
-pub use destructors::{actions_have_destructor, facts_have_destructor};
 pub use report_text::report;
 
 /// The report on a theory is empty exactly where there are no findings on it.

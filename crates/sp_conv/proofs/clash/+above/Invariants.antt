@@ -1,6 +1,6 @@
 use Rattle.std.proofs.Common.{◌≡◌, ◌+◌, drop}
 use Rattle.sp_term.specs.View.{view_all}
-use Rattle.sp_law_conv.specs.Clash.{above_all}
+use Rattle.sp_spec_forms.specs.Shifted.{above_all}
 use Rattle.sp_conv.proofs.clash.+above.Given as goal
 
 abbrev pub invariant-above_all-loop-term : goal.invariant-above_all-loop-term

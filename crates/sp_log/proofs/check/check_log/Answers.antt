@@ -1,6 +1,6 @@
 use Rattle.std.proofs.Common.{◌∙◌, sym, ap₂, subst, List}
 use Rattle.sp_spec.specs.Signature as signature
-use Rattle.sp_spec.specs.Rule.{Rule}
+use Rattle.sp_spec_forms.specs.Forms.{RuleForms}
 use Rattle.sp_log.specs.declared.check.Checked.{Checked}
 use Rattle.sp_log.specs.Checking.{check_of}
 use Rattle.sp_log.specs.Meaning.{IsChecked}
@@ -12,5 +12,5 @@ pub returns-clause-means : goal.returns-clause-means
 returns-clause-means c = λ theory good rules_same signature_same.
     let es = entries_of c.args.log.now in
     let answer =
-    ap₂ (λ (s : signature.Signature) (rs : List Rule). check_of s rs es) signature_same rules_same ∙ sym c.in_ok-answer.ensures in
+    ap₂ (λ (s : signature.Signature) (rs : List RuleForms). check_of s rs es) signature_same rules_same ∙ sym c.in_ok-answer.ensures in
     subst (λ (a : Checked). IsChecked theory es a) answer (is_checked theory good es)

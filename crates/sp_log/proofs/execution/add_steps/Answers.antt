@@ -4,8 +4,8 @@ use Rattle.sp_spec.specs.Execution.{use_rule}
 use Rattle.sp_spec.specs.Log.{fresh_of}
 use Rattle.sp_law_found.specs.Found.{given_by}
 use Rattle.sp_term.specs.View.{name_of}
-use Rattle.sp_ground.specs.View.{ground_fact, ground_facts, step_of}
-use Rattle.sp_fact.specs.View.{rule_of}
+use Rattle.sp_ground.specs.View.{equation_of, ground_fact, ground_facts, step_of}
+use Rattle.sp_book.specs.View.{rule_forms_of}
 use Rattle.sp_log.proofs.Orders.{steps_added}
 use Rattle.sp_log.proofs.execution.add_steps.Goals as goal
 
@@ -13,5 +13,5 @@ pub returns : goal.returns
 returns c =
     let e = c.args.entry.now in
     steps_added (map step_of c.args.steps.now.items) (map step_of c.push.new.self.items) (fresh_of (map ground_fact e.facts.premises.items))
-    (use_rule (name_of e.rule) (unwrap_or (given_by (map rule_of c.args.rules.now.items) (name_of e.rule) (ground_facts e.facts)) []))
+    (use_rule (name_of e.rule) (unwrap_or (given_by (map equation_of c.args.equations.now.items) (map rule_forms_of c.args.rules.now.items) (name_of e.rule) (ground_facts e.facts)) []))
     (grind (arith, common_steps))

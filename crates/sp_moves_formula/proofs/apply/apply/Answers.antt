@@ -1,34 +1,33 @@
 use Rattle.std.proofs.Common.{map, option_map, sym, ap, ◌∙◌}
 use Rattle.sp_system.specs.SystemView.{system_of}
 use Rattle.sp_moves_formula.specs.View.{case_of, move_of}
-use Rattle.sp_fact.specs.BookView.{book_of}
+use Rattle.sp_book.specs.BookView.{book_of}
 use Rattle.sp_moves_formula.specs.Applied.{clause_of}
 use Rattle.sp_moves_formula.specs.WhyNot.{why_not_formula, formula_cases}
 use Rattle.sp_moves_formula.proofs.Exact.{exactly, some_there, none_there}
 use Rattle.sp_moves_formula.proofs.apply.apply.Goals as goal
-use Rattle.sp_spec_system.specs.Rules.{forms_of}
 
 pub returns-in_err-cases-clause-exact : goal.returns-in_err-cases-clause-exact
-returns-in_err-cases-clause-exact c = exactly (map forms_of (book_of c.args.rules.now)) (system_of c.args.system.now) (move_of c.args.chosen)
+returns-in_err-cases-clause-exact c = exactly (book_of c.args.rules.now) (system_of c.args.system.now) (move_of c.args.chosen)
 
 pub returns-in_err-clause-in-None-clause-exact : goal.returns-in_err-clause-in-None-clause-exact
-returns-in_err-clause-in-None-clause-exact c = exactly (map forms_of (book_of c.args.rules.now)) (system_of c.args.system.now) (move_of c.args.chosen)
+returns-in_err-clause-in-None-clause-exact c = exactly (book_of c.args.rules.now) (system_of c.args.system.now) (move_of c.args.chosen)
 
 pub returns-in-Some-clause-exact : goal.returns-in-Some-clause-exact
-returns-in-Some-clause-exact c = exactly (map forms_of (book_of c.args.rules.now)) (system_of c.args.system.now) (move_of c.args.chosen)
+returns-in-Some-clause-exact c = exactly (book_of c.args.rules.now) (system_of c.args.system.now) (move_of c.args.chosen)
 
 pub returns-in-Some-clause-why : goal.returns-in-Some-clause-why
 returns-in-Some-clause-why c =
     some_there (why_not_formula (system_of c.args.system.now) (move_of c.args.chosen))
-    (formula_cases (map forms_of (book_of c.args.rules.now)) (system_of c.args.system.now) (move_of c.args.chosen))
+    (formula_cases (book_of c.args.rules.now) (system_of c.args.system.now) (move_of c.args.chosen))
     (map case_of c.in-Some.cases.items)
-    (exactly (map forms_of (book_of c.args.rules.now)) (system_of c.args.system.now) (move_of c.args.chosen))
+    (exactly (book_of c.args.rules.now) (system_of c.args.system.now) (move_of c.args.chosen))
     (ap (option_map (λ cs. map case_of cs.items)) (sym c.in-Some.is) ∙ c.in_ok-cases.ensures)
 
 pub unreachable-requires : goal.unreachable-requires
 unreachable-requires c =
     absurd (none_there (why_not_formula (system_of c.args.system.now) (move_of c.args.chosen))
-    (formula_cases (map forms_of (book_of c.args.rules.now)) (system_of c.args.system.now) (move_of c.args.chosen))
-    (exactly (map forms_of (book_of c.args.rules.now)) (system_of c.args.system.now) (move_of c.args.chosen))
+    (formula_cases (book_of c.args.rules.now) (system_of c.args.system.now) (move_of c.args.chosen))
+    (exactly (book_of c.args.rules.now) (system_of c.args.system.now) (move_of c.args.chosen))
     (ap (option_map (λ cs. map case_of cs.items)) (sym c.in-None.is) ∙ c.in_ok-cases.ensures)
     (ap (option_map clause_of) (sym c.in-None-2.is) ∙ c.in_ok-clause-in-None.ensures))

@@ -1,5 +1,5 @@
 use Rattle.sp_fact.specs.View.{action_of}
-use Rattle.sp_fact.specs.BookView.{book_of}
+use Rattle.sp_book.specs.BookView.{book_of}
 use Rattle.sp_system.specs.SystemView.{system_of}
 use Rattle.sp_moves_formula.proofs.Listed.{all_gone_by}
 use Rattle.sp_moves_formula.proofs.by_rules.by_each.Goals as goal

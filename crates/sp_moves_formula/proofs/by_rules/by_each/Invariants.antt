@@ -1,14 +1,13 @@
 use Rattle.std.proofs.Common.{◌≡◌, ◌++◌, map, drop}
 use Rattle.sp_fact.specs.View.{action_of}
-use Rattle.sp_fact.specs.BookView.{book_of}
+use Rattle.sp_book.specs.BookView.{book_of}
 use Rattle.sp_system.specs.SystemView.{system_of}
 use Rattle.sp_spec_formula.specs.Action as spec
 use Rattle.sp_moves_formula.specs.View.{case_of}
 use Rattle.sp_moves_formula.specs.Book.{by_places}
 use Rattle.sp_moves_formula.proofs.by_rules.by_each.Given as goal
-use Rattle.sp_spec_system.specs.Rules.{forms_of}
 
 abbrev pub invariant-loop-place : goal.invariant-loop-place
 invariant-loop-place l =
     map case_of l.made.items ++ by_places (book_of l.rules) (drop l.place-index l.place-items) (system_of l.system) l.time (action_of l.action)
-    ≡ spec.by_each (map forms_of (book_of l.rules)) (system_of l.system) l.time (action_of l.action)
+    ≡ spec.by_each (book_of l.rules) (system_of l.system) l.time (action_of l.action)

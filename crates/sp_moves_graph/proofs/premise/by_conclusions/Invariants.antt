@@ -1,10 +1,12 @@
 use Rattle.std.proofs.Common.{◌≡◌, ◌++◌, map, drop}
-use Rattle.sp_fact.specs.View.{rule_of, fact_of}
+use Rattle.sp_fact.specs.View.{fact_of}
+use Rattle.sp_term.specs.View.{name_of}
+use Rattle.sp_book.specs.View.{form_of}
 use Rattle.sp_system.specs.SystemView.{system_of}
 use Rattle.sp_spec_graph.specs.Premise as spec
 use Rattle.sp_moves_graph.proofs.premise.by_conclusions.Given as goal
 
 abbrev pub invariant-loop-place : goal.invariant-loop-place
 invariant-loop-place l =
-    map system_of l.made.items ++ spec.by_conclusions (system_of l.system) l.premise.time l.premise.place (fact_of l.fact) (rule_of l.rule) l.place (map fact_of (drop l.place l.conclusions.items))
-    ≡ spec.by_conclusions (system_of l.system) l.premise.time l.premise.place (fact_of l.fact) (rule_of l.rule) 0 (map fact_of l.conclusions.items)
+    map system_of l.made.items ++ spec.by_conclusions (system_of l.system) l.premise.time l.premise.place (fact_of l.fact) (name_of l.name) (form_of l.form) l.place (map fact_of (drop l.place l.conclusions.items))
+    ≡ spec.by_conclusions (system_of l.system) l.premise.time l.premise.place (fact_of l.fact) (name_of l.name) (form_of l.form) 0 (map fact_of l.conclusions.items)

@@ -1,6 +1,6 @@
 use Rattle.std.proofs.Common.{◌≡◌, length, map}
 use Rattle.std.specs.Slice.Iter.{iter_rest}
-use Rattle.sp_law_forms.specs.Forms.{same_list}
+use Rattle.sp_spec_forms.specs.Alike.{same_list}
 use Rattle.sp_variant.specs.View.{list_by}
 use Rattle.sp_variant.proofs.alike.same_list.Given as goal
 

@@ -1,8 +1,9 @@
 use Rattle.std.proofs.Common.{◌≡◌, Bool, map, drop}
 use Rattle.std.specs.List.{list_any}
-use Rattle.sp_law_forms.specs.Numbering.{Form}
-use Rattle.sp_law_forms.specs.Forms.{alike_form}
-use Rattle.sp_variant.specs.View.{form_of, list_by}
+use Rattle.sp_spec_forms.specs.Numbering.{Form}
+use Rattle.sp_spec_forms.specs.Forms.{alike_form}
+use Rattle.sp_book.specs.View.{form_of}
+use Rattle.sp_variant.specs.View.{list_by}
 use Rattle.sp_variant.proofs.alike.stands_among.Given as goal
 
 abbrev pub invariant-loop-other : goal.invariant-loop-other

@@ -1,6 +1,6 @@
 use Rattle.std.proofs.Common.{map, ap, ◌∙◌}
 use Rattle.sp_ground.specs.View.{equation_of}
-use Rattle.sp_law_forms.specs.Narrowing.{each}
+use Rattle.sp_spec_forms.specs.Narrowing.{each}
 use Rattle.sp_variant.specs.View.{chosen_of, list_by, way_by}
 use Rattle.sp_variant.specs.Rows.{narrow_arguments}
 use Rattle.sp_variant.proofs.Rows.{made_longer, longer_at, longer_begins, longer_done, one_row}

@@ -1,5 +1,5 @@
 use Rattle.std.proofs.Common.{◌≡◌, ◌+◌, map, drop}
-use Rattle.sp_law_forms.specs.Forms.{above_each}
+use Rattle.sp_spec_forms.specs.Forms.{above_each}
 use Rattle.sp_variant.specs.View.{list_by}
 use Rattle.sp_variant.proofs.forms.above_each.Given as goal
 

@@ -1,8 +1,9 @@
 use Rattle.std.proofs.Common.{◌≡◌, [], map}
 use Rattle.std.specs.List.{filter}
 use Rattle.sp_ground.specs.View.{equation_of}
-use Rattle.sp_law_forms.specs.Forms.{alike_form, is_normal_form}
-use Rattle.sp_variant.specs.View.{form_of, list_by}
+use Rattle.sp_spec_forms.specs.Forms.{alike_form, is_normal_form}
+use Rattle.sp_book.specs.View.{form_of}
+use Rattle.sp_variant.specs.View.{list_by}
 use Rattle.sp_variant.specs.Adding.{added_after}
 use Rattle.sp_variant.proofs.forms.once.Given as goal
 

@@ -1,6 +1,6 @@
 use Rattle.std.proofs.Common.{◌≡◌, ◌+◌, map, drop}
 use Rattle.sp_term.specs.View.{variable_of}
-use Rattle.sp_law_forms.specs.Numbering as spec
+use Rattle.sp_spec_forms.specs.Numbering as spec
 use Rattle.sp_variant.specs.View.{list_by}
 use Rattle.sp_variant.proofs.numbering.place.Given as goal
 

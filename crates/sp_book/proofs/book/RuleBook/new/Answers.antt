@@ -1,0 +1,9 @@
+use Rattle.sp_book.specs.View.{rule_forms_of}
+use Rattle.sp_book.specs.Book.{listed}
+use Rattle.sp_book.proofs.Listed.{next_at}
+use Rattle.sp_book.proofs.book.RuleBook.new.Goals as goal
+
+pub loop-place-preserved : goal.loop-place-preserved
+loop-place-preserved c = λ q.
+    next_at rule_forms_of c.deref-rule-items.result.now q c.loop-place.place (listed c.loop-place.by_action q) (listed c.note_rule.new.by_action q) c.rule-item.result
+    c.loop-place-test.true c.rule-item.is (c.in_ok-note_rule.ensures q) (c.loop-place.invariant q)

@@ -1,9 +1,0 @@
-use Rattle.sp_fact.specs.View.{rule_of}
-use Rattle.sp_fact.specs.Book.{listed}
-use Rattle.sp_fact.proofs.Listed.{next_at}
-use Rattle.sp_fact.proofs.book.RuleBook.new.Goals as goal
-
-pub loop-place-preserved : goal.loop-place-preserved
-loop-place-preserved c = λ q.
-    next_at rule_of c.deref-rule-items.result.now q c.loop-place.place (listed c.loop-place.by_action q) (listed c.note_rule.new.by_action q) c.rule-item.result
-    c.loop-place-test.true c.rule-item.is (c.in_ok-note_rule.ensures q) (c.loop-place.invariant q)

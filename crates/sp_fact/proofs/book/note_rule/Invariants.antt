@@ -1,9 +1,0 @@
-use Rattle.std.proofs.Common.{◌≡◌, ℕ, List, map, drop}
-use Rattle.sp_fact.specs.View.{action_of}
-use Rattle.sp_fact.specs.Book.{listed, noted_each}
-use Rattle.sp_fact.proofs.book.note_rule.Given as goal
-
-abbrev pub invariant-loop-action : goal.invariant-loop-action
-invariant-loop-action l =
-    (q : List ℕ) → noted_each l.place q (map action_of (drop l.action-index l.action-items)) (listed l.by_action q)
-    ≡ noted_each l.place q (map action_of l.rule.facts.actions.items) (listed l.initial.by_action q)

@@ -1,0 +1,12 @@
+use Rattle.std.proofs.Common.{◌≡◌, ◌++◌, map, drop}
+use Rattle.sp_term.specs.View.{name_of}
+use Rattle.sp_fact.specs.View.{action_of}
+use Rattle.sp_book.specs.View.{form_of}
+use Rattle.sp_system.specs.SystemView.{system_of}
+use Rattle.sp_spec_formula.specs.Action as spec
+use Rattle.sp_moves_formula.proofs.by_rules.by_forms.Given as goal
+
+abbrev pub invariant-loop-form : goal.invariant-loop-form
+invariant-loop-form l =
+    map system_of l.made.items ++ spec.by_forms (name_of l.rule.name) (map form_of (drop l.form-index l.form-items)) (system_of l.system) l.time (action_of l.action)
+    ≡ spec.by_forms (name_of l.rule.name) (map form_of l.rule.forms.items) (system_of l.system) l.time (action_of l.action)

@@ -1,0 +1,4 @@
+pub mod Text
+pub mod Variants
+pub mod View
+pub mod Laws
