@@ -2,7 +2,7 @@
 
 ghost use Rattle.std.specs.Prelude.{◌≡◌, ◌++◌, ◌+◌, ◌<◌, IfOk, drop, length, map, take, [], ◌∷◌};
 ghost use Rattle.sp_spec.specs.Term.{none, joined};
-ghost use Rattle.sp_spec.specs.Destruction.{destructions, way_among, way_to};
+ghost use Rattle.sp_spec.specs.Destruction.{destructions, is_public, way_among, way_to};
 ghost use Rattle.sp_term.specs.View.{name_of, view, view_all};
 ghost use Rattle.sp_ground.specs.View.{signature_of, symbol_of};
 ghost use Rattle.sp_conv.specs.Tests.{is_part, is_part_of_one};
@@ -45,6 +45,14 @@ fn stands_in_one(args: &Vec<Term>, wanted: &Term) -> bool
         }
     }
     false
+}
+
+// Whether the adversary may apply the symbol to so many arguments.
+#[tactic(auto, using(crate::proofs::Ways::public_same))]
+fn may_apply(symbols: &Vec<Symbol>, symbol: &Name, count: usize) -> bool
+    ensures { result ≡ is_public (map symbol_of symbols.now.items) (name_of symbol.now) count }
+{
+    has_public(symbols, symbol, count)
 }
 
 // The first terms, and behind them copies of these.
@@ -124,7 +132,7 @@ fn below_one(
     ensures { IfOk result (λ ds. map destruction_of ds.items ≡ map destruction_of found.items
         ++ along_from (map symbol_of symbols.now.items) (view wanted.now) (view_all sides.items) (way_among (view wanted.now) (name_of symbol.now) none (view_all args.now.items))) }
 {
-    if !has_public(symbols, symbol, args.len()) {
+    if !may_apply(symbols, symbol, args.len()) {
         return Ok(found);
     }
     for (place, term) in args.iter().enumerate() {

@@ -7,20 +7,19 @@ use Rattle.sp_term.specs.declared.term.Variable as leaf
 use Rattle.sp_term.specs.View.{name_of, variable_of, view, view_all}
 use Rattle.sp_term.proofs.Lists.{count-view_all}
 use Rattle.sp_ground.specs.View.{symbol_of}
-use Rattle.sp_norm.specs.Over.{any_public}
 use Rattle.sp_spec.specs.Same.{alike}
 use Rattle.sp_destruct.specs.View.{along_from, destruction_of}
-use Rattle.sp_destruct.proofs.Ways.{enters, nothing_below, passes, public_same, rest_at, row_at, row_more}
+use Rattle.sp_destruct.proofs.Ways.{enters, nothing_below, passes, rest_at, row_at, row_more}
 use Rattle.sp_destruct.proofs.destruction.+way.Goals as goal
 
-pub below_one-returns-then-not-has_public : goal.below_one-returns-then-not-has_public
-below_one-returns-then-not-has_public t c =
+pub below_one-returns-then-not-may_apply : goal.below_one-returns-then-not-may_apply
+below_one-returns-then-not-may_apply t c =
     let symbols = map symbol_of c.args.symbols.now.items in
     let f = name_of c.args.symbol.now in
     let ts = view_all c.args.args.now.items in
     let as_long : length c.args.args.now.items ≡ c.len.result = let o = c.args.args.now.ok in let l = c.len.ensures in omega (arith, o, l) in
     let no : is_public symbols f (count ts) ≡ false =
-    ap (is_public symbols f) (count-view_all variable_of c.args.args.now.items) ∙ sym (public_same symbols f (length c.args.args.now.items)) ∙ ap (any_public symbols f) as_long ∙ sym c.if-not-has_public.ensures.tests in
+    ap (is_public symbols f) (count-view_all variable_of c.args.args.now.items) ∙ ap (is_public symbols f) as_long ∙ sym c.if-not-may_apply.ensures in
     let nothing = nothing_below symbols (view c.args.wanted.now) f (view_all c.args.sides.items) none ts no in
     sym (ap (λ (ds : List Destruction). map destruction_of c.args.found.items ++ ds) nothing ∙ append-nil (map destruction_of c.args.found.items))
 
@@ -40,8 +39,7 @@ below_one-returns-then-stands_in t c =
     let back = view_all (drop (i + 1) xs) in
     let as_long : length xs ≡ c.len.result = let o = c.args.args.now.ok in let l = c.len.ensures in omega (arith, o, l) in
     let public : is_public symbols f (count (joined front (more (view x) back))) ≡ true =
-    ap (λ (us : Terms Variable). is_public symbols f (count us)) (sym (row_at xs i x below item)) ∙ ap (is_public symbols f) (count-view_all variable_of xs)
-    ∙ sym (public_same symbols f (length xs)) ∙ ap (any_public symbols f) as_long ∙ sym c.if-not-has_public.ensures.tests
+    ap (λ (us : Terms Variable). is_public symbols f (count us)) (sym (row_at xs i x below item)) ∙ ap (is_public symbols f) (count-view_all variable_of xs) ∙ ap (is_public symbols f) as_long ∙ sym c.if-not-may_apply.ensures
     in
     let apart : alike r (view x) ≡ false = sym c.if-same.ensures.tests in
     let step = enters symbols r f front (view x) back sides apart (sym c.if-stands_in.ensures) public in
