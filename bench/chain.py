@@ -1,11 +1,9 @@
 #!/usr/bin/env python3
 """Times provers on theories with N stages in a chain; see README.md beside it."""
 
-import os
 import sys
-import tempfile
 
-from timed import row_that_begins, timed
+from timed import each_size, row_that_begins
 
 SIZES = [5, 10, 20, 40, 160]
 
@@ -22,21 +20,11 @@ def theory(stages):
 
 
 def main(provers):
-    if not provers:
-        sys.exit("usage: chain.py PROVER..")
-    with tempfile.TemporaryDirectory() as folder:
-        for prover in provers:
-            print(prover)
-            before = None
-            for stages in SIZES:
-                path = os.path.join(folder, f"chain{stages}.spthy")
-                with open(path, "w", encoding="utf-8") as text:
-                    text.write(theory(stages))
-                seconds, mib, written = timed(prover, "prove", path)
-                line = row_that_begins(written, "follows (")
-                growth = f"{seconds / before:.1f} x" if before else ""
-                print(f"{stages:>4} stages {seconds:>9.4f} s {growth:>8} {mib:>7.1f} MiB  {line}")
-                before = seconds
+    before = 0
+    for stages, seconds, mib, written in each_size("chain.py", provers, "prove", SIZES, theory):
+        growth = "" if stages == SIZES[0] else f"{seconds / before:.1f} x"
+        print(f"{stages:>4} stages {seconds:>9.4f} s {growth:>8} {mib:>7.1f} MiB  {row_that_begins(written, 'follows (')}")
+        before = seconds
 
 
 if __name__ == "__main__":

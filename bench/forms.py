@@ -1,11 +1,9 @@
 #!/usr/bin/env python3
 """Times provers on the forms of a rule with N destructors; see README.md beside it."""
 
-import os
 import sys
-import tempfile
 
-from timed import row_that_begins, timed
+from timed import each_size, row_that_begins
 
 SIZES = range(1, 9)
 
@@ -18,17 +16,8 @@ def theory(count):
 
 
 def main(provers):
-    if not provers:
-        sys.exit("usage: forms.py PROVER..")
-    with tempfile.TemporaryDirectory() as folder:
-        for prover in provers:
-            print(prover)
-            for count in SIZES:
-                path = os.path.join(folder, f"forms{count}.spthy")
-                with open(path, "w", encoding="utf-8") as text:
-                    text.write(theory(count))
-                seconds, mib, written = timed(prover, "variants", path)
-                print(f"{count:>4} destructors {seconds:>9.4f} s {mib:>7.1f} MiB  {row_that_begins(written, 'rule R: ')}")
+    for count, seconds, mib, written in each_size("forms.py", provers, "variants", SIZES, theory):
+        print(f"{count:>4} destructors {seconds:>9.4f} s {mib:>7.1f} MiB  {row_that_begins(written, 'rule R: ')}")
 
 
 if __name__ == "__main__":

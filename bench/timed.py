@@ -2,6 +2,8 @@
 
 import os
 import subprocess
+import sys
+import tempfile
 import time
 
 RUNS = 5
@@ -28,3 +30,17 @@ def timed(prover, command, path):
 def row_that_begins(written, start):
     """The first line that begins so."""
     return next((row for row in written.split("\n") if row.startswith(start)), written[:60])
+
+
+def each_size(script, provers, command, sizes, text_of):
+    """Writes each prover's name, and gives each size with the time, the memory and the answer of the command on the text of that size."""
+    if not provers:
+        sys.exit(f"usage: {script} PROVER..")
+    with tempfile.TemporaryDirectory() as folder:
+        path = os.path.join(folder, "theory.spthy")
+        for prover in provers:
+            print(prover)
+            for size in sizes:
+                with open(path, "w", encoding="utf-8") as text:
+                    text.write(text_of(size))
+                yield size, *timed(prover, command, path)

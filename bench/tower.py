@@ -1,11 +1,9 @@
 #!/usr/bin/env python3
 """Times provers on normal forms of towers of nested decryptions; see README.md beside it."""
 
-import os
 import sys
-import tempfile
 
-from timed import row_that_begins, timed
+from timed import each_size, row_that_begins
 
 SIZES = [10, 100, 1_000]
 
@@ -24,17 +22,8 @@ def steps(height):
 
 
 def main(provers):
-    if not provers:
-        sys.exit("usage: tower.py PROVER..")
-    with tempfile.TemporaryDirectory() as folder:
-        for prover in provers:
-            print(prover)
-            for height in SIZES:
-                path = os.path.join(folder, f"tower{height}.spthy")
-                with open(path, "w", encoding="utf-8") as text:
-                    text.write(THEORY + steps(height))
-                seconds, mib, written = timed(prover, "replay", path)
-                print(f"{height:>6} high {seconds:>9.4f} s {mib:>7.1f} MiB  {row_that_begins(written, 'K(')}")
+    for height, seconds, mib, written in each_size("tower.py", provers, "replay", SIZES, lambda height: THEORY + steps(height)):
+        print(f"{height:>6} high {seconds:>9.4f} s {mib:>7.1f} MiB  {row_that_begins(written, 'K(')}")
 
 
 if __name__ == "__main__":

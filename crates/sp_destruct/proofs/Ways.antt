@@ -2,6 +2,7 @@
 use Rattle.std.proofs.Common.{◌≡◌, Bool, true, false, if◌then◌else◌, ◌||◌, List, [], ◌∷◌, ℕ, Option, Some, None, option_map, is_some, refl, sym, ap, ◌∙◌, ◌++◌, ◌+◌, ◌<◌, ◌&&◌, ◌==◌, not, length, get_or, take, drop}
 use Rattle.std.proofs.lemmas.List.{drop_more, take-append-drop, take_more}
 use Rattle.std.specs.Str.{bytes_eq}
+use Rattle.std.proofs.Math.Bool.{or-false}
 use Rattle.std.specs.Option.{option_or}
 use Rattle.sp_spec.specs.Term.{Variable, Term, var, constant, name, app, Terms, none, more, joined, count}
 use Rattle.sp_spec.specs.Signature.{Symbol}
@@ -22,15 +23,11 @@ some_or : {A : Type 0} (g : A → A) (o p : Option A) → is_some (option_or (op
 some_or g None p = refl
 some_or g (Some x) p = refl
 
-or_false : (b : Bool) → b || false ≡ b
-or_false true = refl
-or_false false = refl
-
 mutual
   pub way_found : (r t : Term Variable) → is_some (way_to r t) ≡ is_part r t
-  way_found r (var x) = some_if (alike r (var x)) None ∙ or_false (alike r (var x))
-  way_found r (constant c) = some_if (alike r (constant c)) None ∙ or_false (alike r (constant c))
-  way_found r (name n) = some_if (alike r (name n)) None ∙ or_false (alike r (name n))
+  way_found r (var x) = some_if (alike r (var x)) None ∙ or-false (alike r (var x))
+  way_found r (constant c) = some_if (alike r (constant c)) None ∙ or-false (alike r (constant c))
+  way_found r (name n) = some_if (alike r (name n)) None ∙ or-false (alike r (name n))
   way_found r (app f ts) = some_if (alike r (app f ts)) (way_among r f none ts) ∙ ap (λ b. alike r (app f ts) || b) (among_found r f none ts)
 
   among_found : (r : Term Variable) (f : List ℕ) (front ts : Terms Variable) → is_some (way_among r f front ts) ≡ is_part_of_one r ts
