@@ -35,7 +35,8 @@ use Rattle.sp_solved.specs.Candidate.{candidate}
 use Rattle.sp_solved.specs.Found.{is_sought, kept_if}
 use Rattle.sp_law_shown.specs.Shown.{IsSearched}
 use Rattle.sp_law_shown.proofs.Executable.{executable, checkable}
-use Rattle.sp_pose.specs.Problem.{Poses}
+use Rattle.sp_pose.specs.Problem.{PosesProofs}
+use Rattle.sp_pose.proofs.BasicTheories.{leaves_alone}
 use Rattle.sp_law_block.specs.Block.{oldest_first, IsNumbered}
 use Rattle.sp_law_block.proofs.CandidateNames.{candidates_have_names_lem, every_newest}
 use Rattle.sp_law_block.proofs.Ends.{ends_are_well_made_lem}
@@ -55,7 +56,7 @@ kept_entries : (b : Bool) (entries : List Entry) (log : Log) → kept_if b entri
 kept_entries true entries log e = (refl, cc)
 kept_entries false entries log e = absurd cc
 
-module _ (text : List ℕ) (written : WrittenText) (posing : Poses text written) where
+module _ (text : List ℕ) (written : WrittenText) (posing : PosesProofs text written) where
   abbrev theory : WrittenTheory
   theory = theory_in written
 
@@ -66,7 +67,7 @@ module _ (text : List ℕ) (written : WrittenText) (posing : Poses text written)
   found_in = searched written posing
 
   suits : SuitsProofs (theory_of theory)
-  suits = text_suits theory found_in.normal_forms found_in.basic found_in.right
+  suits = text_suits theory found_in.normal_forms found_in.basic found_in.right (leaves_alone posing)
 
   -- the system in which a proof begins
   begins_well : (l : Lemma) → IsLemmaOf theory l → (g : Guarded) → checked_form l.formula ≡ Some g → (kind : TraceKind)
@@ -93,15 +94,15 @@ module _ (text : List ℕ) (written : WrittenText) (posing : Poses text written)
       let q = then_some (λ (entries : List Entry). kept_if (is_sought signature rules f entries) entries) (candidate constants end.0) log end.2 in
       let k = kept_entries (is_sought signature rules f q.0) q.0 log q.2 in
       let is = (log_decides (theory_of theory) (checkable theory found_in) q.0).0 (and_parts (is_log signature rules q.0) (decided (log_trace (newest_first q.0)) empty f) k.0).0 in
-      let names = candidates_have_names_lem.names constants (texts_have_names_lem.constants text written posing.says) end.0 end.1.numbered q.0 q.1 in
-      let named = texts_have_names_lem.rules text written posing.says in
+      let names = candidates_have_names_lem.names constants (texts_have_names_lem.constants text written posing.poses.says) end.0 end.1.numbered q.0 q.1 in
+      let named = texts_have_names_lem.rules text written posing.poses.says in
       let exe = executable theory found_in in
       let newest = newest_first q.0 in
       let ends = subst (λ (l : Log). IsNumbered (theory_of theory) (Some l)) (sym k.1) numbers in
       let writable = every_newest (IsWritableStep signature.symbols) (execution_of (theory_of theory) newest) (logs_may_be_written_lem.steps theory exe named newest is.0 is.1 names ends) in
       subst (IsReadBack (theory_of theory)) k.1 (record {
         writable = writable;
-        read = steps_are_read_back_lem.read signature.symbols (texts_have_names_lem.symbols text written posing.says) (oldest_first (execution_of (theory_of theory) newest)) writable;
+        read = steps_are_read_back_lem.read signature.symbols (texts_have_names_lem.symbols text written posing.poses.says) (oldest_first (execution_of (theory_of theory) newest)) writable;
         shown = every_newest (Every (IsShownAction signature.symbols)) (visible_trace newest) (logs_may_be_written_lem.trace theory exe named suits.over.actions newest is.0 is.1 names);
       })
 

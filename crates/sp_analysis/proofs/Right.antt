@@ -17,12 +17,12 @@ use Rattle.sp_log.specs.Checking.{is_log}
 use Rattle.sp_solved.specs.Candidate.{candidate}
 use Rattle.sp_solved.specs.Found.{is_sought, kept_if, found}
 use Rattle.sp_law_shown.specs.Shown.{IsSearched, FoundBreaks, FoundSatisfies}
-use Rattle.sp_law_shown.proofs.Learning.{basic_names_none, into_reading}
+use Rattle.sp_law_shown.proofs.Learning.{into_reading}
 use Rattle.sp_spec_system.specs.Move.{Context}
 use Rattle.sp_spec_proof.specs.Tree.{Tree, IsAccepted, IsFinished, found_log}
 use Rattle.sp_spec_system.specs.Numbered.{names_in}
 use Rattle.sp_law_system.specs.Proofs.{IsContextOf}
-use Rattle.sp_law_tree.specs.BasicTheory.{IsBasicFormula, HasNames}
+use Rattle.sp_law_tree.specs.BasicTheory.{IsBasicFormula, HasNames, IsWithoutSends}
 use Rattle.sp_law_tree.proofs.WrittenRules.{names_stand_lem}
 use Rattle.sp_law_tree.proofs.AllShown.{lemmas_are_shown_lem}
 use Rattle.sp_law_tree.proofs.Growing.{grown_tree_accepted}
@@ -41,8 +41,8 @@ use Rattle.sp_check.specs.Rejected.{ReadIsAccepted}
 use Rattle.sp_check.proofs.Right.{judgements_right}
 use Rattle.sp_spec_text.specs.Written.{WrittenProof, WrittenText, lemmas_with_proofs, without_proofs}
 use Rattle.sp_spec_text.specs.Declared.{resolved, theory_in}
-use Rattle.sp_pose.specs.Problem.{Poses}
-use Rattle.sp_pose.proofs.BasicTheories.{normal_forms, lemmas_are_basic, rules_are_basic}
+use Rattle.sp_pose.specs.Problem.{PosesProofs}
+use Rattle.sp_pose.proofs.BasicTheories.{normal_forms, lemmas_are_basic, rules_are_basic, lemmas_unlearnt, lemmas_without_sends, leaves_alone}
 
 -- a proof isn't rejected exactly where it is accepted
 accepted_or_rejected : (context : Context) (s : System) (k : Skeleton) (kind : TraceKind) (v : Verdict) (log : Option Log) → IsVerdictIn context s k kind v log
@@ -76,23 +76,21 @@ found_tested signature rules constants f s log e = at (candidate constants s) e
 
 -- a lemma of the text, with the text's public names
 abbrev pub IsLemmaOf : WrittenTheory → Lemma → Type 0
-IsLemmaOf theory l = IsBasicFormula (signature_of (theory_of theory)) l.formula × HasNames (names_in (constants_of theory)) l.formula
+IsLemmaOf theory l =
+    IsBasicFormula (signature_of (theory_of theory)) l.formula × HasNames (names_in (constants_of theory)) l.formula
+    × (names_learning l.formula ≡ false) × IsWithoutSends l.formula
 
-pub lemmas_of : {bytes : List ℕ} {text : WrittenText} → Poses bytes text → Every (IsLemmaOf (theory_in text)) (theory_in text).lemmas
-lemmas_of {text = text} posing = go (theory_in text).lemmas (λ l m. m) (lemmas_are_basic posing)
+pub lemmas_of : {bytes : List ℕ} {text : WrittenText} → PosesProofs bytes text → Every (IsLemmaOf (theory_in text)) (theory_in text).lemmas
+lemmas_of {text = text} posing =
+    go (theory_in text).lemmas (λ l m. m) (lemmas_are_basic posing.poses) (lemmas_unlearnt posing.poses) (lemmas_without_sends posing)
   where
     go : (ls : List Lemma) → ((l : Lemma) → Member l ls → Member l (theory_in text).lemmas) → Every (λ (l : Lemma). IsBasicFormula (signature_of (theory_of (theory_in text))) l.formula) ls
-        → Every (IsLemmaOf (theory_in text)) ls
-    go [] among h = tt
-    go (l ∷ ls) among h = ((h.0, names_stand_lem.lemmas (theory_in text) l (among l (inl refl)) h.0), go ls (λ x m. among x (inr m)) h.1)
+        → Every (λ (l : Lemma). names_learning l.formula ≡ false) ls → Every (λ (l : Lemma). IsWithoutSends l.formula) ls → Every (IsLemmaOf (theory_in text)) ls
+    go [] among h u w = tt
+    go (l ∷ ls) among h u w =
+        ((h.0, names_stand_lem.lemmas (theory_in text) l (among l (inl refl)) h.0, u.0, w.0), go ls (λ x m. among x (inr m)) h.1 u.1 w.1)
 
--- no lemma of a text names learning
-pub lemmas_unlearnt : {bytes : List ℕ} (text : WrittenText) → Poses bytes text → Every (λ (l : Lemma). names_learning l.formula ≡ false) (theory_in text).lemmas
-lemmas_unlearnt text posing =
-    let signature = signature_of (theory_of (theory_in text)) in
-    every_weaken (λ (l : Lemma). IsBasicFormula signature l.formula) (λ (l : Lemma). names_learning l.formula ≡ false) (λ l h. basic_names_none signature l.formula h) (theory_in text).lemmas (lemmas_are_basic posing)
-
-module _ {bytes : List ℕ} (text : WrittenText) (posing : Poses bytes text) where
+module _ {bytes : List ℕ} (text : WrittenText) (posing : PosesProofs bytes text) where
   abbrev theory : WrittenTheory
   theory = theory_in text
 
@@ -101,27 +99,27 @@ module _ {bytes : List ℕ} (text : WrittenText) (posing : Poses bytes text) whe
 
   pub searched : IsSearched theory
   searched = record {
-    normal_forms = normal_forms posing;
-    basic = rules_are_basic posing;
-    rule_names = posing.fine.rule_names;
-    right = every_weaken (IsFineRule signature.symbols signature.equations) _ (λ r h. h.right) theory.rules posing.fine.rules;
+    normal_forms = normal_forms posing.poses;
+    basic = rules_are_basic posing.poses;
+    rule_names = posing.poses.fine.rule_names;
+    right = every_weaken (IsFineRule signature.symbols signature.equations) _ (λ r h. h.right) theory.rules posing.poses.fine.rules;
     unrestricted = refl;
   }
 
   pub is_context : (goal : Goal) → IsContextOf (theory_of theory) (context_of (setting_of theory) goal)
   is_context goal = record { rules = refl; numbered = names_stand_lem.rules theory searched.basic }
 
-  breaks : (l : Lemma) → IsBasicFormula signature l.formula → (g : Guarded) → checked_form l.formula ≡ Some g → (s : System) (log : Log)
+  breaks : (l : Lemma) → IsBasicFormula signature l.formula → names_learning l.formula ≡ false → (g : Guarded) → checked_form l.formula ≡ Some g → (s : System) (log : Log)
       → found (signature_of (theory_of theory)) (rules_of (theory_of theory)).forms (constants_of theory) (negate g) s ≡ Some log → FoundBreaks (theory_of theory) l log
-  breaks l f g e s log is =
+  breaks l f u g e s log is =
       let h = found_tested (signature_of (theory_of theory)) (rules_of (theory_of theory)).forms (constants_of theory) (negate g) s log is in
-      subst (FoundBreaks (theory_of theory) l) h.log_is (found_logs_show_lem.breaks theory searched l f g e h.entries h.is_log h.is_true)
+      subst (FoundBreaks (theory_of theory) l) h.log_is (found_logs_show_lem.breaks theory searched l f u g e h.entries h.is_log h.is_true)
 
-  satisfies : (l : Lemma) → IsBasicFormula signature l.formula → (g : Guarded) → checked_form l.formula ≡ Some g → (s : System) (log : Log)
+  satisfies : (l : Lemma) → IsBasicFormula signature l.formula → names_learning l.formula ≡ false → (g : Guarded) → checked_form l.formula ≡ Some g → (s : System) (log : Log)
       → found (signature_of (theory_of theory)) (rules_of (theory_of theory)).forms (constants_of theory) g s ≡ Some log → FoundSatisfies (theory_of theory) l log
-  satisfies l f g e s log is =
+  satisfies l f u g e s log is =
       let h = found_tested (signature_of (theory_of theory)) (rules_of (theory_of theory)).forms (constants_of theory) g s log is in
-      subst (FoundSatisfies (theory_of theory) l) h.log_is (found_logs_show_lem.satisfies theory searched l f g e h.entries h.is_log h.is_true)
+      subst (FoundSatisfies (theory_of theory) l) h.log_is (found_logs_show_lem.satisfies theory searched l f u g e h.entries h.is_log h.is_true)
 
   -- the log of a tree is one with which the search ends at some system
   ended : (goal : Goal) (tree : Tree) (log : Log) → Some log ≡ found_log (context_of (setting_of theory) goal) (root_system goal) tree
@@ -133,21 +131,21 @@ module _ {bytes : List ℕ} (text : WrittenText) (posing : Poses bytes text) whe
       → IsAccepted (context_of (setting_of theory) (goal_of [] kind g)) (root_system (goal_of [] kind g)) tree
       → log ≡ found_log (context_of (setting_of theory) (goal_of [] kind g)) (root_system (goal_of [] kind g)) tree → Says kind v log (IsFinished tree) → Means (theory_of theory) kind v log l
   shown l f g e all_traces verified None tree accepted is says =
-      into_reading l (basic_names_none signature l.formula f.0) (HoldsInAllLogs (theory_of theory) l) (HoldsInAll (theory_of theory) l)
-      (lemmas_are_shown_lem.all_traces theory searched.normal_forms searched.basic searched.right l f.0 g e (context_of (setting_of theory) (goal_of [] all_traces g)) (is_context (goal_of [] all_traces g)) f.1 tree accepted says)
+      into_reading l f.2 (HoldsInAllLogs (theory_of theory) l) (HoldsInAll (theory_of theory) l)
+      (lemmas_are_shown_lem.all_traces theory searched.normal_forms searched.basic searched.right (leaves_alone posing) l f.0 f.3 g e (context_of (setting_of theory) (goal_of [] all_traces g)) (is_context (goal_of [] all_traces g)) f.1 tree accepted says)
   shown l f g e all_traces verified (Some log) tree accepted is says = absurd says
   shown l f g e all_traces falsified None tree accepted is says = absurd says
   shown l f g e all_traces falsified (Some log) tree accepted is says =
-      let s = ended (goal_of [] all_traces g) tree log is in breaks l f.0 g e s.0 log s.1
+      let s = ended (goal_of [] all_traces g) tree log is in breaks l f.0 f.2 g e s.0 log s.1
   shown l f g e all_traces incomplete None tree accepted is says = tt
   shown l f g e all_traces incomplete (Some log) tree accepted is says = absurd says
   shown l f g e all_traces (rejected step clause) log tree accepted is says = absurd says
   shown l f g e exists_trace verified None tree accepted is says = absurd says
   shown l f g e exists_trace verified (Some log) tree accepted is says =
-      let s = ended (goal_of [] exists_trace g) tree log is in satisfies l f.0 g e s.0 log s.1
+      let s = ended (goal_of [] exists_trace g) tree log is in satisfies l f.0 f.2 g e s.0 log s.1
   shown l f g e exists_trace falsified None tree accepted is says =
-      into_reading l (basic_names_none signature l.formula f.0) (HoldsInNoLog (theory_of theory) l) (HoldsInNone (theory_of theory) l)
-      (lemmas_are_shown_lem.exists_trace theory searched.normal_forms searched.basic searched.right l f.0 g e (context_of (setting_of theory) (goal_of [] exists_trace g)) (is_context (goal_of [] exists_trace g)) f.1 tree accepted says)
+      into_reading l f.2 (HoldsInNoLog (theory_of theory) l) (HoldsInNone (theory_of theory) l)
+      (lemmas_are_shown_lem.exists_trace theory searched.normal_forms searched.basic searched.right (leaves_alone posing) l f.0 f.3 g e (context_of (setting_of theory) (goal_of [] exists_trace g)) (is_context (goal_of [] exists_trace g)) f.1 tree accepted says)
   shown l f g e exists_trace falsified (Some log) tree accepted is says = absurd says
   shown l f g e exists_trace incomplete None tree accepted is says = tt
   shown l f g e exists_trace incomplete (Some log) tree accepted is says = absurd says

@@ -18,7 +18,7 @@ use Rattle.sp_check.specs.Rejected.{IsRejectedAt}
 use Rattle.sp_spec_text.specs.Written.{WrittenProof, WrittenText, lemmas_with_proofs}
 use Rattle.sp_spec_text.specs.Declared.{resolved, theory_in}
 use Rattle.sp_skel.specs.Steps.{skeleton}
-use Rattle.sp_pose.specs.Problem.{Poses}
+use Rattle.sp_pose.specs.Problem.{PosesProofs}
 use Rattle.sp_analysis.specs.Sought.{Goal, goal_of, taken_by, root_system, Setting, setting_of, context_of}
 use Rattle.sp_analysis.specs.Analysis.{counted}
 use Rattle.sp_spec_text.specs.Verdict.{Verdict, rejected, Says, summary_line}
@@ -75,7 +75,7 @@ AreJudged setting taken (q ∷ qs) (j ∷ js) = IsJudged setting taken q.0 q.1 j
 -- text can name.
 pub record IsChecking (text written : List ℕ) (judged : List Judged) : Type 0 where
   pub theory : WrittenText
-  pub poses : Poses text theory
+  pub poses : PosesProofs text theory
   pub judged_are : AreJudged (setting_of (theory_in theory)) [] (lemmas_with_proofs (resolved theory).items) judged
   pub numbers : Every (λ (j : Judged). IsNumbered (theory_of (theory_in theory)) j.log) judged
   pub written_is : written ≡ checked_text (theory_of (theory_in theory)) judged

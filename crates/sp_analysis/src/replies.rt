@@ -1,6 +1,6 @@
 // What comes of a text.
 
-ghost use Rattle.std.specs.Prelude.{IfOk};
+ghost use Rattle.std.specs.Prelude.{◌≡◌, IfOk, false};
 ghost use Rattle.sp_pose.specs.Posed.{IsPosedBy};
 ghost use Rattle.sp_analysis.specs.Replies.{IsReplyTo};
 
@@ -28,13 +28,16 @@ pub enum Reply {
     Refused(usize),
     /// There are findings on its theory, and these are their lines.
     Reported(Vec<u8>),
+    /// There are none, but it speaks of the adversary, of whom no proofs are searched or checked yet.
+    WantsLearning,
     /// What is written, and what is said of each lemma.
     Done(Vec<u8>, Vec<Verdict>),
 }
 
 /// What is done with a problem of the text.
 fn done(alloc: Global, command: Command, text: &[u8], problem: Problem) -> Result<Reply, AllocError>
-    requires { IsPosedBy text.now problem }
+    requires posed { IsPosedBy text.now problem }
+    requires alone { problem.has_adversary ≡ false }
     ensures { IfOk result (IsReplyTo command text.now) }
 {
     let Problem {
@@ -43,6 +46,7 @@ fn done(alloc: Global, command: Command, text: &[u8], problem: Problem) -> Resul
         constants,
         lemmas,
         behind_end,
+        ..
     } = problem;
     let book = book(alloc, &signature.equations, &rules)?;
     let setting = Setting {
@@ -56,8 +60,8 @@ fn done(alloc: Global, command: Command, text: &[u8], problem: Problem) -> Resul
     Ok(Reply::Done(written, verdicts))
 }
 
-/// What comes of a text: it is refused at a place, or there are findings on its theory, or each of its lemmas is tried, or the proof of each
-/// is checked.
+/// What comes of a text: it is refused at a place, or there are findings on its theory, or it speaks of the adversary, or each of its lemmas is tried, or
+/// the proof of each is checked.
 ///
 /// # Errors
 ///
@@ -68,6 +72,7 @@ pub fn answer(alloc: Global, command: Command, text: &[u8]) -> Result<Reply, All
     match posed_by(alloc, text)? {
         Read::Refused(place) => Ok(Reply::Refused(place)),
         Read::Reported(lines) => Ok(Reply::Reported(lines)),
+        Read::Posed(problem) if problem.has_adversary => Ok(Reply::WantsLearning),
         Read::Posed(problem) => done(alloc, command, text, problem),
     }
 }

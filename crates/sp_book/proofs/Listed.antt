@@ -1,5 +1,6 @@
 -- What is listed under a name while rules are gone over.
 use Rattle.std.proofs.Common.{◌≡◌, ◌==◌, ◌+◌, ◌-◌, ◌<◌, ℕ, zero, suc, map, drop, drop-cons, get_or, add-one, append-nil, Bool, true, false, ◌||◌, List, [], ◌∷◌, ◌++◌, length, Some, refl, ap, sym, subst, ◌∙◌, if◌then◌else◌, append_assoc, slice_get, arith}
+use Rattle.std.proofs.Math.Bool.{or_assoc}
 use Rattle.sp_spec.specs.Term.{Variable}
 use Rattle.sp_spec.specs.Rule.{Action}
 use Rattle.sp_spec_forms.specs.Numbering.{Form}
@@ -54,10 +55,6 @@ one_noted here true false ps below = refl
 one_noted here false true ps below = noted_once here false ps below
 one_noted here false false ps below = refl
 
-either_first : (a b c : Bool) → ((a || b) || c) ≡ (a || (b || c))
-either_first true b c = refl
-either_first false b c = refl
-
 all_noted : (here : ℕ) (symbol : List ℕ) (actions : List (Action Variable)) (b : Bool) (ps : List ℕ) → EachBelow here ps
     → noted_each here symbol actions (with_place here b ps) ≡ with_place here (b || has_action symbol actions) ps
 all_noted here symbol [] true ps below = refl
@@ -65,7 +62,7 @@ all_noted here symbol [] false ps below = refl
 all_noted here symbol (a ∷ actions) b ps below =
     ap (noted_each here symbol actions) (one_noted here b (bytes_eq symbol a.symbol) ps below)
     ∙ all_noted here symbol actions (b || bytes_eq symbol a.symbol) ps below
-    ∙ ap (λ (t : Bool). with_place here t ps) (either_first b (bytes_eq symbol a.symbol) (has_action symbol actions))
+    ∙ ap (λ (t : Bool). with_place here t ps) (or_assoc b (bytes_eq symbol a.symbol) (has_action symbol actions))
 
 -- the same, for the actions of all forms
 forms_noted : (here : ℕ) (symbol : List ℕ) (forms : List Form) (b : Bool) (ps : List ℕ) → EachBelow here ps
@@ -76,7 +73,7 @@ forms_noted here symbol (form ∷ forms) b ps below =
     let c = has_action symbol form.facts.actions in
     ap (noted_forms here symbol forms) (all_noted here symbol form.facts.actions b ps below)
     ∙ forms_noted here symbol forms (b || c) ps below
-    ∙ ap (λ (t : Bool). with_place here t ps) (either_first b c (shows symbol forms))
+    ∙ ap (λ (t : Bool). with_place here t ps) (or_assoc b c (shows symbol forms))
 
 each_later : (here : ℕ) (ps : List ℕ) → EachBelow here ps → EachBelow (suc here) ps
 each_later here [] below = tt

@@ -1,5 +1,6 @@
 -- Open leaves and steps of a tree that is read are told by its nodes, one behind the other.
 use Rattle.std.proofs.Common.{◌≡◌, ℕ, ◌+◌, Bool, true, false, List, [], ◌∷◌, length, refl, ap, zero-add, add-zero, add_assoc, arith}
+use Rattle.std.proofs.Math.Bool.{or_assoc, or-false}
 use Rattle.std.specs.Prelude.{◌||◌}
 use Rattle.sp_spec_nodes.specs.Preorder.{AreTrees}
 use Rattle.sp_spec_nodes.proofs.Walks.{all_told, tree_told}
@@ -18,14 +19,6 @@ steps_from n = steps_at n.0
 abbrev pub steps_among : List NodeRead → ℕ
 steps_among ns = all_told 0 ◌+◌ steps_from ns
 
-regroup : (a b c : Bool) → ((a || b) || c) ≡ (a || (b || c))
-regroup true b c = refl
-regroup false b c = refl
-
-or_none : (a : Bool) → (a || false) ≡ a
-or_none true = refl
-or_none false = refl
-
 some_among : (names : List (List ℕ)) (ks : List Skeleton) → length ks ≡ length names → some_open (with_names names ks) ≡ all_told false ◌||◌ has_open ks
 some_among [] [] e = refl
 some_among [] (k ∷ ks) e = absurd (omega (arith, e))
@@ -40,7 +33,7 @@ steps_below (name ∷ names) (k ∷ ks) e = ap (λ (i : ℕ). steps k + i) (step
 
 pub open_told : (ns : List NodeRead) → AreTrees cases_at 1 ns → has_open (tree_read ns) ≡ open_among ns
 open_told ns h =
-    tree_told false ◌||◌ (λ b. refl) regroup cases_at over open_at has_open (λ n ks e. ap (λ (b : Bool). is_open n.0 || b) (some_among n.1 ks e)) or_none
+    tree_told false ◌||◌ (λ b. refl) or_assoc cases_at over open_at has_open (λ n ks e. ap (λ (b : Bool). is_open n.0 || b) (some_among n.1 ks e)) or-false
     (node_read (unknown []) none_read) ns h
 
 pub steps_told : (ns : List NodeRead) → AreTrees cases_at 1 ns → steps (tree_read ns) ≡ steps_among ns

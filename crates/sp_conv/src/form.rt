@@ -119,9 +119,9 @@ fn is_left_side(equations: &Vec<Equation>, term: &Term) -> bool
     }
 }
 
-// Whether the part is the term, or stands in it.
+/// Whether the part is the term, or stands in it.
 #[cycle(parts)]
-fn has_part(term: &Term, part: &Term) -> bool
+pub fn has_part(term: &Term, part: &Term) -> bool
     ensures { result ≡ is_part (view part.now) (view term.now) }
 {
     match term {

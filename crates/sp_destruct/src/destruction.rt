@@ -5,9 +5,9 @@ ghost use Rattle.sp_spec.specs.Term.{none, joined};
 ghost use Rattle.sp_spec.specs.Destruction.{destructions, is_public, way_among, way_to};
 ghost use Rattle.sp_term.specs.View.{name_of, view, view_all};
 ghost use Rattle.sp_ground.specs.View.{signature_of, symbol_of};
-ghost use Rattle.sp_conv.specs.Tests.{is_part, is_part_of_one};
 ghost use Rattle.sp_destruct.specs.View.{along_from, destruction_of};
 
+use sp_conv::form::has_part;
 use sp_ground::signature::{Signature, Symbol};
 use sp_norm::over::has_public;
 use sp_term::term::{Name, Term, copy, copy_all, same};
@@ -22,29 +22,6 @@ pub struct Destruction {
     pub sides: Vec<Term>,
     /// the right side
     pub result: Term,
-}
-
-// Whether the wanted term is the term, or stands in it.
-#[cycle(standing)]
-fn stands_in(term: &Term, wanted: &Term) -> bool
-    ensures { result ≡ is_part (view wanted.now) (view term.now) }
-{
-    match term {
-        Term::App(_, args, _) => same(wanted, term) || stands_in_one(args, wanted),
-        _ => same(wanted, term),
-    }
-}
-
-#[cycle(standing)]
-fn stands_in_one(args: &Vec<Term>, wanted: &Term) -> bool
-    ensures { result ≡ is_part_of_one (view wanted.now) (view_all args.now.items) }
-{
-    for term in args {
-        if stands_in(term, wanted) {
-            return true;
-        }
-    }
-    false
 }
 
 // Whether the adversary may apply the symbol to so many arguments.
@@ -136,7 +113,7 @@ fn below_one(
         return Ok(found);
     }
     for (place, term) in args.iter().enumerate() {
-        if stands_in(term, wanted) {
+        if has_part(term, wanted) {
             if same(wanted, term) {
                 return Ok(found);
             }

@@ -1,6 +1,7 @@
 -- How many arguments a fact has.
-use Rattle.std.proofs.Common.{arith, ◌≡◌, List, [], ◌∷◌, length, ℕ, false, not, ◌&&◌, refl, ap, sym, nat_eq, suc}
-use Rattle.sp_spec.specs.Term.{count}
+use Rattle.std.proofs.Common.{arith, ◌≡◌, List, [], ◌∷◌, length, ℕ, false, refl, ap, sym, ◌∙◌, nat_eq, suc}
+use Rattle.sp_spec.specs.Term.{var, constant, name, app, Terms, none, more, count}
+use Rattle.sp_spec.specs.Formula.{Written}
 use Rattle.sp_spec.specs.Findings.{is_one, is_fresh_variable}
 use Rattle.sp_term.specs.declared.term.Term.{Term}
 use Rattle.sp_read_parts.specs.declared.written.WrittenVariable.{WrittenVariable}
@@ -19,8 +20,14 @@ one [] = refl
 one (t ∷ []) = refl
 one (t ∷ u ∷ ts) = sym (more_than_one (length ts))
 
--- with another number of arguments there is no one argument to be wrong
-pub wrong_argument : (ts : List (Term WrittenVariable)) → (length ts ≡ 1 → ⊥) → (is_one (terms ts) && not (is_fresh_variable (terms ts))) ≡ false
-wrong_argument [] h = refl
-wrong_argument (t ∷ []) h = absurd (h refl)
-wrong_argument (t ∷ u ∷ ts) h = refl
+-- with another number of arguments there is not the one
+no_variable_counted : (ts : Terms Written) → (count ts ≡ 1 → ⊥) → is_fresh_variable ts ≡ false
+no_variable_counted none h = refl
+no_variable_counted (more t none) h = absurd (h refl)
+no_variable_counted (more (var y) (more u ts)) h = refl
+no_variable_counted (more (constant c) (more u ts)) h = refl
+no_variable_counted (more (name n) (more u ts)) h = refl
+no_variable_counted (more (app f xs) (more u ts)) h = refl
+
+pub no_variable : (ts : List (Term WrittenVariable)) → (length ts ≡ 1 → ⊥) → is_fresh_variable (terms ts) ≡ false
+no_variable ts h = no_variable_counted (terms ts) (λ e. h (sym (counted ts) ∙ e))

@@ -1,51 +1,27 @@
-// What may be wrong with a fact of a rule.
+// What may be wrong with a fact or an action of a rule.
 
-ghost use Rattle.std.specs.Prelude.{◌≡◌, ◌&&◌, not, map};
+ghost use Rattle.std.specs.Prelude.{◌≡◌};
 ghost use Rattle.sp_spec.specs.Findings as findings;
 ghost use Rattle.sp_read_parts.specs.Views as view;
-ghost use Rattle.sp_read_parts.specs.Views.{action_of, facts_of, fact_of, terms};
+ghost use Rattle.sp_read_parts.specs.Views.{action_of, fact_of, terms};
 
 use sp_read_parts::{Mark, WrittenAction, WrittenFact, WrittenTerm};
 use sp_term::term::Term;
 
-/// The most arguments that a fact may have.
-const MOST_ARGUMENTS: usize = 16;
+/// The most arguments that a fact, an action or a symbol may have.
+pub const MOST_ARGUMENTS: usize = 16;
 
 /// Whether there are too many arguments.
 #[tactic(auto, using(crate::proofs::Counted::counted))]
-fn are_too_many(args: &Vec<WrittenTerm>) -> bool
+pub fn are_too_many(args: &Vec<WrittenTerm>) -> bool
     ensures { result ≡ findings.is_wide (terms args.now.items) }
 {
     MOST_ARGUMENTS < args.len()
 }
 
-/// Whether a fact among them has too many arguments.
-pub fn has_wide_fact(facts: &Vec<WrittenFact>) -> bool
-    ensures { result ≡ findings.has_wide_fact (facts_of facts.now.items) }
-{
-    for fact in facts {
-        if are_too_many(&fact.args) {
-            return true;
-        }
-    }
-    false
-}
-
-/// Whether an action among them has too many arguments.
-pub fn has_wide_action(actions: &Vec<WrittenAction>) -> bool
-    ensures { result ≡ findings.has_wide_action (map action_of actions.now.items) }
-{
-    for action in actions {
-        if are_too_many(&action.args) {
-            return true;
-        }
-    }
-    false
-}
-
 /// Whether it has one argument.
 #[tactic(auto, using(crate::proofs::Counted::one))]
-fn is_one(fact: &WrittenFact) -> bool
+pub fn is_one(fact: &WrittenFact) -> bool
     ensures { result ≡ findings.is_one (fact_of fact.now).args }
 {
     fact.args.len() == 1
@@ -58,32 +34,65 @@ pub fn is_fr(fact: &WrittenFact) -> bool
     fact.symbol.text.as_str() == "Fr"
 }
 
-/// Whether a premise Fr is persistent, or hasn't one argument.
-pub fn has_wrong_premise(premises: &Vec<WrittenFact>) -> bool
-    ensures { result ≡ findings.has_wrong_premise (facts_of premises.now.items) }
+// Whether rules and the built-in rules share facts of this name.
+#[tactic(auto, unfolding(sp_spec::specs::Findings::is_shared))]
+fn is_shared(name: &str) -> bool
+    ensures { result ≡ findings.is_shared name.now }
 {
-    for fact in premises {
-        if is_fr(fact) && (fact.persistent || !is_one(fact)) {
-            return true;
-        }
-    }
-    false
+    name == "Fr" || name == "In" || name == "Out"
 }
 
-/// Whether one of the facts is an Fr.
-pub fn has_fr(facts: &Vec<WrittenFact>) -> bool
-    ensures { result ≡ findings.has_fr (facts_of facts.now.items) }
+// Whether it is such a fact, and persistent, or hasn't one argument.
+fn is_misused(fact: &WrittenFact) -> bool
+    ensures { result ≡ findings.is_misused (fact_of fact.now) }
 {
-    for fact in facts {
-        if is_fr(fact) {
-            return true;
-        }
-    }
-    false
+    is_shared(fact.symbol.text.as_str()) && (fact.persistent || !is_one(fact))
+}
+
+#[tactic(auto, unfolding(sp_spec::specs::Findings::is_no_premise))]
+fn names_no_premise(name: &str) -> bool
+    ensures { result ≡ findings.is_no_premise name.now }
+{
+    name == "Out" || name == "K" || name == "KU" || name == "KD"
+}
+
+#[tactic(auto, unfolding(sp_spec::specs::Findings::is_no_action))]
+fn names_no_action(name: &str) -> bool
+    ensures { result ≡ findings.is_no_action name.now }
+{
+    name == "K" || name == "KU" || name == "KD"
+}
+
+#[tactic(auto, unfolding(sp_spec::specs::Findings::is_no_conclusion))]
+fn names_no_conclusion(name: &str) -> bool
+    ensures { result ≡ findings.is_no_conclusion name.now }
+{
+    name == "In" || name == "Fr" || name == "K" || name == "KU" || name == "KD"
+}
+
+/// Whether the fact is reserved where it stands as a premise.
+pub fn is_wrong_premise(fact: &WrittenFact) -> bool
+    ensures { result ≡ findings.is_wrong_premise (fact_of fact.now) }
+{
+    names_no_premise(fact.symbol.text.as_str()) || is_misused(fact)
+}
+
+/// Whether the action is reserved.
+pub fn is_wrong_action(action: &WrittenAction) -> bool
+    ensures { result ≡ findings.is_no_action (action_of action.now).symbol }
+{
+    names_no_action(action.symbol.text.as_str())
+}
+
+/// Whether the fact is reserved where it stands as a conclusion.
+pub fn is_wrong_conclusion(fact: &WrittenFact) -> bool
+    ensures { result ≡ findings.is_wrong_conclusion (fact_of fact.now) }
+{
+    names_no_conclusion(fact.symbol.text.as_str()) || is_misused(fact)
 }
 
 /// Whether what is marked so may be fresh.
-fn may_be_fresh(mark: Mark) -> bool
+pub fn may_be_fresh(mark: Mark) -> bool
     ensures { result ≡ findings.may_be_fresh (view.mark mark) }
 {
     match mark {
@@ -95,28 +104,16 @@ fn may_be_fresh(mark: Mark) -> bool
     }
 }
 
-/// Whether its one argument is no variable that may be fresh.
-#[tactic(auto, using(crate::proofs::Counted::wrong_argument))]
-fn is_wrong_argument(fact: &WrittenFact) -> bool
-    ensures { result ≡ (findings.is_one (fact_of fact.now).args && not (findings.is_fresh_variable (fact_of fact.now).args)) }
+/// Whether its one argument is a variable that may be fresh.
+#[tactic(auto, using(crate::proofs::Counted::no_variable))]
+pub fn is_fresh_variable(fact: &WrittenFact) -> bool
+    ensures { result ≡ findings.is_fresh_variable (fact_of fact.now).args }
 {
     if fact.args.len() != 1 {
         return false;
     }
     match &fact.args[0] {
-        Term::Var(variable) => !may_be_fresh(variable.mark),
-        _ => true,
+        Term::Var(variable) => may_be_fresh(variable.mark),
+        _ => false,
     }
-}
-
-/// Whether the one argument of a premise Fr is no variable that may be fresh.
-pub fn has_wrong_argument(premises: &Vec<WrittenFact>) -> bool
-    ensures { result ≡ findings.has_wrong_argument (facts_of premises.now.items) }
-{
-    for fact in premises {
-        if is_fr(fact) && is_wrong_argument(fact) {
-            return true;
-        }
-    }
-    false
 }

@@ -30,7 +30,7 @@ use Rattle.sp_law_again.proofs.Moving.{front_of, move_declaration, move_lemma, n
 use Rattle.sp_law_again.proofs.Reached.{Parted, parted}
 use Rattle.sp_law_again.proofs.Places.{At, at_start, Claim, Again, settle, extend}
 use Rattle.sp_law_again.proofs.Stretches.{claim_end, claim_lemma, after_other, onwards}
-use Rattle.sp_read_theory.proofs.Spans.{proof_rest}
+use Rattle.sp_read_theory.proofs.Spans.{proof_rest, spans_word}
 
 -- ---- the tokens of an item
 
@@ -153,11 +153,6 @@ divided tokens {rest = rest} h =
       are = sym (take-append-drop n tokens);
       mid_is = sym (drop-map (λ (t : Token). t.lexeme) n tokens) ∙ ap (λ (xs : List Lexeme). drop n xs) f.are ∙ drop-append_seam f.front rest;
     }
-
--- a word stands first, as it does behind a declaration
-spans_word : {tokens : List Token} {x : Item} {items : List Item} {spans : List Span} → AreSpans tokens (x ∷ items) spans → StartsWord (lexemes tokens)
-spans_word (past_declaration h b s) = declaration_word h
-spans_word (past_lemma h b c f s) = lemma_starts h
 
 -- a declaration is cut off these bytes, and these tokens are left
 record Declared (text bytes : List ℕ) (x : Item) (mid : List Token) (end : ℕ) : Type 0 where

@@ -11,7 +11,7 @@ use Rattle.sp_spec.specs.Constants.{in_term, in_terms, in_formula}
 use Rattle.sp_spec.proofs.Lists.{every_map, every_append}
 use Rattle.sp_spec_text.specs.Signs.{Sign}
 use Rattle.sp_spec_text.specs.Token.{Lexeme}
-use Rattle.sp_spec_text.specs.Names.{is_reserved, is_capital, is_adversarial, names_fact, IsName, IsNameWord}
+use Rattle.sp_spec_text.specs.Names.{is_reserved, is_capital, is_learning, names_fact, IsName, IsNameWord}
 use Rattle.sp_spec_text.specs.Lists as l
 use Rattle.sp_spec_text.specs.Lists.{AreParts, AreItems, AreListed}
 use Rattle.sp_spec_text.specs.Shapes.{action_of, quantified}
@@ -109,7 +109,7 @@ fact_name true true c h = absurd (let none : ⊥ = cc in none)
 fact_name false b c h = absurd (let none : ⊥ = cc in none)
 
 pub symbol_named : (w : List ℕ) → names_fact w ≡ true → IsName w
-symbol_named w h = fact_name (is_capital w) (is_reserved w) (is_adversarial w) h
+symbol_named w h = fact_name (is_capital w) (is_reserved w) (is_learning w) h
 
 pub fact_named : {n : ℕ} {f : Fact Written} {tokens rest : List Lexeme} → SpellsFact n tokens f rest → Every Spoken tokens → Spelled (IsNamedFact f) rest
 fact_named (g.linear {w = w} e within h) k =

@@ -35,6 +35,12 @@ TakesFreshNames r = Every (λ (f : Fact Variable). is_fr f ≡ true → IsFreshV
 abbrev pub MakesNoFr : Rule → Type 0
 MakesNoFr r = Every (λ (f : Fact Variable). f.symbol ≡ codes "Fr" → ⊥) r.facts.conclusions
 
+-- What is sent in comes of the adversary alone, which alone takes what is put out; and rules know and show nothing in its stead.
+pub record LeavesReserved (r : Rule) : Type 0 where
+  pub premises : Every (λ (f : Fact Variable). Member f.symbol (codes "Out" ∷ codes "K" ∷ []) → ⊥) r.facts.premises
+  pub actions : Every (λ (a : Action Variable). Member a.symbol (codes "K" ∷ codes "KU" ∷ []) → ⊥) r.facts.actions
+  pub conclusions : Every (λ (f : Fact Variable). Member f.symbol (codes "In" ∷ codes "Fr" ∷ codes "K" ∷ []) → ⊥) r.facts.conclusions
+
 -- the variable stands in the term
 abbrev mutual
   pub StandsIn : Variable → Term Variable → Type 0
@@ -68,6 +74,7 @@ pub record IsRightTheory (theory : Theory) : Type 0 where
   pub declared : AreRight theory.rules
   pub takes_fresh : Every TakesFreshNames theory.rules
   pub makes_no_fr : Every MakesNoFr theory.rules
+  pub reserved : Every LeavesReserved theory.rules
   pub bound : Every BindsConclusions theory.rules
 
 -- the facts that the adversary takes and adds

@@ -5,4 +5,3 @@ pub mod Places
 pub mod Shown
 pub mod Steps
 pub mod Erased
-pub mod Needs

@@ -8,7 +8,7 @@ use Rattle.sp_law_equal.specs.NormalForms.{HaveNormalForms}
 use Rattle.sp_law_truth.specs.Same.{EqualTraces}
 use Rattle.sp_law_truth.specs.Shown.{without_empty}
 use Rattle.sp_law_erase.specs.Traces.{without_sends}
-use Rattle.sp_law_erase.specs.Adversary.{NamesNoAdversary, HasStepsAlone}
+use Rattle.sp_law_erase.specs.Adversary.{HasStepsAlone}
 use Rattle.sp_law_equal.specs.RightTheory.{MakesNoFr, LeavesAdversaryAlone}
 
 -- the log has steps alone, and shows the trace but for what the adversary sends and for entries without actions
@@ -17,9 +17,7 @@ pub record ErasesTo (theory : Theory) (trace : Trace) (log : Log) : Type 0 where
   pub steps_alone : HasStepsAlone log
   pub same_trace : EqualTraces (signature_of theory).equations (without_empty (without_sends trace)) (without_empty (log_trace log))
 
--- Over convergent equations each execution of a theory whose rules leave the adversary alone and make no Fr has such a log; and a theory whose rules
--- don't deal with the adversary leaves it alone.
+-- Over convergent equations each execution of a theory whose rules leave the adversary alone and make no Fr has such a log.
 pub record ExecutionsHaveLogs : Type 0 where
   pub each : (theory : Theory) → LeavesAdversaryAlone theory → Every MakesNoFr theory.rules → HaveNormalForms (signature_of theory).equations
       → (steps : List Step) (trace : Trace) → IsExecution theory steps trace → (log : Log) × ErasesTo theory trace log
-  pub left_alone : (theory : Theory) → NamesNoAdversary theory → LeavesAdversaryAlone theory

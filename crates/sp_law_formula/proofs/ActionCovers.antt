@@ -10,7 +10,7 @@ use Rattle.sp_spec.specs.Rule.{Action, Facts, Rule, action_at, facts_at, SameAct
 use Rattle.sp_spec.specs.Theory.{Theory, signature_of}
 use Rattle.sp_spec.specs.Guarded.{Place, action_in}
 use Rattle.sp_spec.specs.Log.{Log, Entry, Source, step, send, learn, IsLog, log_trace, entry_actions}
-use Rattle.sp_law_equal.specs.NormalForms.{HaveNormalForms, KeepSymbols}
+use Rattle.sp_law_equal.specs.NormalForms.{HaveNormalForms}
 use Rattle.sp_spec_system.specs.System.{rule_step, Event, System, happening_actions}
 use Rattle.sp_spec_system.specs.Solutions.{Valuation, assignment, HappensIn, Solves}
 use Rattle.sp_spec_system.specs.Numbered.{InEvent, IsNumbered}

@@ -8,7 +8,7 @@ use Rattle.sp_spec.specs.Same.{alike}
 use Rattle.sp_spec.specs.Destruction.{Destruction, Fork, way_to, way_among, is_public, along, along_way, destructions_by, destructions}
 use Rattle.sp_spec.proofs.Lists.{every_append, every_member}
 use Rattle.sp_law_equal.specs.Parts.{IsPart, IsPartOfOne}
-use Rattle.sp_law_formula.proofs.Literals.{alike_same}
+use Rattle.sp_spec.proofs.Same.{alike_same}
 
 -- the term stands in each that is entered on the way
 abbrev Enters : Term Variable → List Fork → Type 0

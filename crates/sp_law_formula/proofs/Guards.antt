@@ -14,7 +14,7 @@ use Rattle.sp_spec.specs.Slots.{value_at}
 use Rattle.sp_spec.proofs.Options.{some_same, then_some}
 use Rattle.sp_spec.proofs.Slots.{AreGood}
 use Rattle.sp_spec.proofs.Variables.{where_value}
-use Rattle.sp_law_formula.proofs.Literals.{alike_same}
+use Rattle.sp_spec.proofs.Same.{alike_same}
 use Rattle.sp_law_formula.proofs.Slots.{slot_sorts, Agrees, Fits, IsGood, Grown, grown_same, grown_none, grown_twice, times_grown_none, term_given, times_grown_twice}
 use Rattle.sp_law_formula.proofs.Matches.{Inherited, SlotsGrown, Reads, reads_before, action_matched, some_picked}
 

@@ -10,7 +10,7 @@ use Rattle.sp_spec.specs.Log.{Log, IsLog}
 use Rattle.sp_spec.specs.Same.{alike}
 use Rattle.sp_spec.specs.Substitution.{Binding}
 use Rattle.sp_spec.specs.Unifier.{Pair, mgu}
-use Rattle.sp_spec.proofs.Same.{same_by_decides, same_variable_decides}
+use Rattle.sp_spec.proofs.Same.{alike_same}
 use Rattle.sp_spec_system.specs.System.{System}
 use Rattle.sp_spec_system.specs.Solutions.{Valuation, assignment, FormulaHolds, AreUnequal, Solves}
 use Rattle.sp_spec_system.specs.Numbered.{InFormula, IsNumbered}
@@ -113,9 +113,6 @@ unequal_row_numbered {N} s t e n =
     )
 
 -- Contradictions. Two like terms have one value.
-pub alike_same : (t u : Term Variable) → alike t u ≡ true → t ≡ u
-alike_same t u e = (same_by_decides _ same_variable_decides t u).0 e
-
 pub equal_pair_contradicts : (theory : Theory) (v : Valuation) (pairs : List Pair) → has_equal_pair pairs ≡ true → Every (AreUnequal theory v) pairs → ⊥
 equal_pair_contradicts theory v [] e h = absurd cc
 equal_pair_contradicts theory v (p ∷ pairs) e h =

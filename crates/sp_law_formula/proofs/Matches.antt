@@ -12,7 +12,7 @@ use Rattle.std.specs.Option.{option_or}
 use Rattle.sp_spec_formula.specs.Instances.{Message, Slots, matched_place, matched_all, matched_time, both_slots, matched_action}
 use Rattle.sp_spec.proofs.Options.{some_same, if_some}
 use Rattle.sp_spec.proofs.Matching.{Matches, matched_all_so}
-use Rattle.sp_law_formula.proofs.Literals.{alike_same}
+use Rattle.sp_spec.proofs.Same.{alike_same}
 use Rattle.sp_law_formula.proofs.Slots.{Fits, TimesFit, Grown, grown_none, grown_same, grown_twice, term_given, TimesGrown, times_grown_same, time_given}
 
 -- what holds of an application holds of its arguments

@@ -7,7 +7,7 @@ use Rattle.sp_spec.specs.Slots.{slot}
 use Rattle.sp_spec_formula.specs.Instances.{Message, is_of_sort, put_term, with_position, put_time}
 use Rattle.sp_spec.proofs.Options.{some_same, if_some, mapped}
 use Rattle.sp_spec.proofs.Slots.{AreGood, Fills, filled_so}
-use Rattle.sp_law_formula.proofs.Literals.{alike_same}
+use Rattle.sp_spec.proofs.Same.{alike_same}
 
 abbrev pub slot_sorts : List Message → List Sort
 slot_sorts slots = map (λ (x : Message). x.kind) slots

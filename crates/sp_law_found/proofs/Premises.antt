@@ -2,7 +2,7 @@
 use Rattle.std.proofs.Common.{◌≡◌, ⊎_elim, ℕ, Bool, true, false, not, if◌then◌else◌, List, [], ◌∷◌, ◌++◌, map, inl, inr, refl, sym, ap, subst}
 use Rattle.std.specs.Prelude.{codes}
 use Rattle.std.specs.Str.{bytes_eq}
-use Rattle.std.proofs.lemmas.Bool.{and_parts}
+use Rattle.std.proofs.lemmas.Bool.{and_parts, not-true}
 use Rattle.std.proofs.lemmas.Slice.Eq.{bytes_eq-Decides}
 use Rattle.sp_spec.specs.Lists.{Member, Every, Distinct, AtPosition}
 use Rattle.sp_spec.proofs.Lists.{member_right, distinct_right}
@@ -13,7 +13,6 @@ use Rattle.sp_spec.specs.Log.{Source, fresh_rule, conclusion, Entry, Log, Conclu
 use Rattle.sp_law_erase.proofs.Origins.{source_share, fresh_share, linear_cons}
 use Rattle.sp_law_found.proofs.Labels.{Labelled, labelled, Apart}
 use Rattle.sp_spec.proofs.Facts.{same_fact_parts}
-use Rattle.sp_spec.proofs.Bools.{denied}
 
 -- ---- fresh names
 
@@ -35,7 +34,7 @@ of_fresh w respects (f ∷ fs) h = (one, of_fresh w respects fs h.1)
         let both = and_parts (bytes_eq f.symbol (codes "Fr")) (not f.persistent) e in (
           w x.0,
           subst (λ s. HasSort s (w x.0)) x.1 (respects x.0),
-          same_fact_parts (fact_at w f) (fr (w x.0)) ((bytes_eq-Decides f.symbol (codes "Fr")).0 both.0) (denied f.persistent both.1) (ap (valued_all w) x.2),
+          same_fact_parts (fact_at w f) (fr (w x.0)) ((bytes_eq-Decides f.symbol (codes "Fr")).0 both.0) (not-true f.persistent both.1) (ap (valued_all w) x.2),
         )
 
 pub fresh_sorts : (fs : List (Fact ⊥)) → AreOfFresh fs → Every (λ (t : Ground). HasSort Fresh t) (fresh_of fs)

@@ -1,5 +1,6 @@
 -- Fresh comes first: whoever has a fresh name in a premise other than an Fr is later than the event that uses the name's Fr.
 use Rattle.std.proofs.Common.{◌≡◌, ◌⊎◌, ◌≤◌, ◌<◌, ℕ, zero, suc, Bool, true, false, ◌&&◌, not, if◌then◌else◌, List, [], ◌∷◌, ◌++◌, map, length, Some, refl, sym, ap, ◌∙◌, subst, inl, inr, ⊎_elim, le_refl}
+use Rattle.sp_spec.proofs.Same.{alike_same}
 use Rattle.std.proofs.lemmas.Bool.{or_cases, and_parts, not-true}
 use Rattle.sp_spec.specs.Lists.{Member, Every, AtPlace, AtPosition}
 use Rattle.sp_spec.specs.Term.{Names, Sort, Fresh, Variable, Term, var, constant, name, app, Terms, none, more, Ground, Values, valued, valued_all}
@@ -25,7 +26,7 @@ use Rattle.sp_spec_graph.specs.FreshFirst.{occurs_in, occurs_among, has_taken, i
 use Rattle.sp_spec_system.specs.Picked.{if_any, first_some}
 use Rattle.sp_law_system.specs.Rules.{IsClosedRule}
 use Rattle.sp_spec.proofs.Options.{mapped}
-use Rattle.sp_law_formula.proofs.Literals.{alike_same, covers_by_itself}
+use Rattle.sp_law_formula.proofs.Literals.{covers_by_itself}
 use Rattle.sp_law_formula.proofs.Entries.{happened}
 use Rattle.sp_law_graph.proofs.FreshOnce.{one_position, fresh_values, fresh_member, happening_uses}
 use Rattle.sp_law_graph.proofs.Sources.{premise_event}

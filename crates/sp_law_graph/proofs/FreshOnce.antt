@@ -1,5 +1,6 @@
 -- Two events that use the same Fr are one entry of the log: the row makes them one, and where it can't there is no solution.
 use Rattle.std.proofs.Common.{◌≡◌, ◌≤◌, ◌<◌, ℕ, Bool, true, false, if◌then◌else◌, List, [], ◌∷◌, ◌++◌, map, Some, is_none, refl, sym, ap, ◌∙◌, subst, inl, inr, ⊎_elim}
+use Rattle.sp_spec.proofs.Same.{alike_same}
 use Rattle.std.proofs.lemmas.Bool.{or_cases, and_parts}
 use Rattle.sp_spec.specs.Lists.{Member, Every, Distinct, AtPosition}
 use Rattle.sp_spec.specs.Term.{Names, Variable, Term, Terms, none, more, Ground, Values, valued, valued_all}
@@ -21,7 +22,7 @@ use Rattle.sp_spec_system.specs.Picked.{first_two}
 use Rattle.sp_spec_graph.specs.FreshOnce.{times_of_fresh, fresh_once, cannot_merge, fails_to_merge}
 use Rattle.sp_spec_system.specs.MakingOne.{made_one}
 use Rattle.sp_spec.proofs.Options.{mapped, then_some}
-use Rattle.sp_law_formula.proofs.Literals.{alike_same, covers_by_itself}
+use Rattle.sp_law_formula.proofs.Literals.{covers_by_itself}
 use Rattle.sp_law_formula.proofs.Merged.{SolvedBy, NumberedFrom}
 use Rattle.sp_law_formula.proofs.Equations.{times_solved, times_numbered, not_none}
 

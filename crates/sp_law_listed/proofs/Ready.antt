@@ -1,6 +1,6 @@
 -- A system suggests a log exactly where it is listable.
 use Rattle.std.proofs.Common.{◌≡◌, ⊎_elim, ℕ, zero, suc, Bool, true, false, not, ◌&&◌, ◌||◌, ◌==◌, if◌then◌else◌, List, [], ◌∷◌, length, Option, Some, None, option_and_then, inl, inr, refl, sym, ap, ◌∙◌, subst}
-use Rattle.std.proofs.lemmas.Bool.{or_cases, and_parts, and_from, eqb-true, eq-eqb, or_right, or_left}
+use Rattle.std.proofs.lemmas.Bool.{or_cases, and_parts, and_from, eqb-true, eq-eqb, or_right, or_left, not-true}
 use Rattle.sp_spec.specs.Lists.{Member, Every, AtPlace}
 use Rattle.sp_spec.proofs.Lists.{every_member, every_from}
 use Rattle.sp_spec.specs.Term.{Variable}
@@ -17,7 +17,6 @@ use Rattle.sp_solved.proofs.Listed.{every_listed, every_left}
 use Rattle.sp_law_listed.specs.Laws.{HasSourceEvent, IsListable}
 use Rattle.sp_law_listed.proofs.Least.{all_are_listed}
 use Rattle.sp_law_listed.proofs.Sources.{place_there, past, past-first, IsLinked, HasSources, event_sourced, entries_there}
-use Rattle.sp_spec.proofs.Bools.{denied}
 
 -- ---- actions
 
@@ -122,7 +121,7 @@ ready_listable s e =
       steps = λ d m. every_member IsRuleStep s.events d m (each_is_step s.events begins.0);
       given = λ d m p f at n. subst (HasSourceEvent s d.time) (past-first p) (sourced_premises s d.time 0 (happening_premises d.happening) (every_member (IsSourced s) s.events d m each) p f at n);
       placed = λ a i m. event_there s.events i (each_has_place s.events s.formulas both.0 (holds (acts a (free_time i))) m);
-      acyclic = denied (is_cyclic s.order) rest.1;
+      acyclic = not-true (is_cyclic s.order) rest.1;
     }
 
 module _ (s : System) (listed : List Event) (is_order : in_order s.order s.events ≡ Some listed) where

@@ -103,7 +103,7 @@ one_instance theory right (apply_symbol h ts) v w f g a b = a ∙ sym b
 abbrev pub AreValues : Signature → List Bound → Type 0
 AreValues signature bs = Every (λ (b : Bound). IsValue signature b.0.sort b.1) bs
 
-any_is_value : (signature : Signature) (s : Sort) → IsValue signature s (any_of s)
+pub any_is_value : (signature : Signature) (s : Sort) → IsValue signature s (any_of s)
 any_is_value signature Msg = (tt, tt)
 any_is_value signature Fresh = (tt, tt)
 any_is_value signature Pub = (tt, tt)

@@ -5,9 +5,8 @@ use Rattle.sp_spec.specs.Written.{WrittenTheory, theory_of}
 use Rattle.sp_law_equal.specs.RightTheory.{HasNormalInstances, TakesFreshNames}
 use Rattle.sp_law_run.proofs.Written.{rules_right}
 use Rattle.sp_law_found.specs.Executable.{IsExecutable}
-use Rattle.sp_law_system.specs.Rules.{IsClosedRule}
 use Rattle.sp_law_tree.proofs.RightTexts.{normal_instances}
-use Rattle.sp_law_tree.proofs.ClosedRules.{rules_closed}
+use Rattle.sp_law_tree.proofs.ClosedRules.{IsRightRule, each_right}
 use Rattle.sp_law_shown.specs.Shown.{IsSearched}
 
 module _ (t : WrittenTheory) (s : IsSearched t) where
@@ -18,5 +17,5 @@ module _ (t : WrittenTheory) (s : IsSearched t) where
   executable = record {
     instances = checkable;
     distinct = (rules_right t.rules s.rule_names).distinct;
-    fresh = every_weaken IsClosedRule TakesFreshNames (λ r h. h.fresh) (theory_of t).rules (rules_closed (signature_of (theory_of t)) t.rules s.basic s.right);
+    fresh = every_weaken IsRightRule TakesFreshNames (λ r h. h.fresh) (theory_of t).rules (each_right (signature_of (theory_of t)) t.rules s.basic s.right);
   }

@@ -1,5 +1,5 @@
 -- What was found true over the trace of a log of steps is true over it, and over the trace of its execution.
-use Rattle.std.proofs.Common.{◌≡◌, zero, true, List, Some, sym, subst}
+use Rattle.std.proofs.Common.{◌≡◌, zero, true, List, Some, sym, subst, false}
 use Rattle.std.specs.Prelude.{◌↔◌}
 use Rattle.sp_spec.specs.Lists.{Every, newest_first}
 use Rattle.sp_spec.specs.Signature.{Signature}
@@ -7,7 +7,7 @@ use Rattle.sp_spec.specs.Theory.{Restriction, Lemma, Theory, signature_of}
 use Rattle.sp_spec.specs.Written.{WrittenTheory, theory_of}
 use Rattle.sp_spec.specs.Execution.{Trace}
 use Rattle.sp_spec.specs.Truth.{IsTrueOver}
-use Rattle.sp_spec.specs.Verdict.{MeetsRestrictions, IsBrokenBy, IsSatisfiedBy, IsBrokenByLog, IsSatisfiedByLog}
+use Rattle.sp_spec.specs.Verdict.{MeetsRestrictions, IsBrokenBy, IsSatisfiedBy, IsBrokenByLog, IsSatisfiedByLog, names_learning}
 use Rattle.sp_spec.specs.Guarded.{Guarded, GuardedHolds}
 use Rattle.sp_spec.specs.Log.{Entry, Log, log_trace, visible_trace}
 use Rattle.sp_law_truth.specs.Shown.{action_names}
@@ -32,7 +32,8 @@ use Rattle.sp_law_found.specs.Laws.{IsExecutionWith}
 use Rattle.sp_law_found.proofs.Runs.{log_runs}
 use Rattle.sp_spec_system.specs.Rules.{rules_of}
 use Rattle.sp_law_tree.specs.BasicTheory.{IsBasicFormula}
-use Rattle.sp_law_tree.proofs.Forms.{RightAtom, IsRight, right_negation, right_timed}
+use Rattle.sp_law_tree.proofs.Flat.{FlatAtom}
+use Rattle.sp_law_tree.proofs.Forms.{IsRight, right_negation, right_timed}
 use Rattle.sp_law_tree.proofs.PlacedForms.{form_right}
 use Rattle.sp_log.specs.Checking.{is_log}
 use Rattle.sp_log.specs.Meaning.{IsLogOfSteps}
@@ -40,7 +41,7 @@ use Rattle.sp_log.proofs.Checks.{log_decides}
 use Rattle.sp_law_shown.specs.Shown.{IsSearched, FoundBreaks, FoundSatisfies}
 use Rattle.sp_law_shown.specs.Laws.{FoundLogsShow}
 use Rattle.sp_law_shown.proofs.Executable.{executable, checkable}
-use Rattle.sp_law_shown.proofs.Learning.{basic_names_none, into_reading}
+use Rattle.sp_law_shown.proofs.Learning.{into_reading}
 use Rattle.sp_law_shown.proofs.Traces.{log_normal, normal_equal, visible_equal}
 use Rattle.sp_spec.proofs.Lists.{each_among}
 
@@ -72,7 +73,7 @@ module _ (t : WrittenTheory) (s : IsSearched t) (log : Log) (is : IsLogOfSteps (
       normal_forms = s.normal_forms.normal_forms;
       keeps = s.normal_forms.keeps;
       normal = log_normal theory log is.0 is.1 visible_over;
-      constructors = constructors signature zero g (throughout_weaken (RightAtom signature) (OfConstructors signature) (λ n a h. h.0.2) zero g right.each);
+      constructors = constructors signature zero g (throughout_weaken (FlatAtom signature) (OfConstructors signature) (λ n a h. h.2) zero g right.each);
       guarded = right.guarded;
     }
 
@@ -91,7 +92,7 @@ module _ (t : WrittenTheory) (s : IsSearched t) (log : Log) (is : IsLogOfSteps (
         let equal = subst (EqualTraces signature.equations executed.trace) executed.is (normal_equal signature.equations executed.trace) in
         (equal_same signature executed.trace (visible_trace log) equal m m (equal_assignment signature.equations m) g).1 (over_visible e)
 
-  module _ (lemma : Lemma) (basic : IsBasicFormula signature lemma.formula) (g : Guarded) (form : checked_form lemma.formula ≡ Some g) where
+  module _ (lemma : Lemma) (basic : IsBasicFormula signature lemma.formula) (unlearnt : names_learning lemma.formula ≡ false) (g : Guarded) (form : checked_form lemma.formula ≡ Some g) where
     right : IsRight signature g
     right = let c = form_checked lemma.formula g form in form_right signature lemma.formula g basic c.0 c.1
 
@@ -106,7 +107,7 @@ module _ (t : WrittenTheory) (s : IsSearched t) (log : Log) (is : IsLogOfSteps (
       by_log = (is.0, unrestricted (log_trace log), not_true (log_trace log) (over_log (negate g) (right_negation signature g right) e));
       executed = executed;
       in_reading =
-          into_reading lemma (basic_names_none signature lemma.formula basic) (IsBrokenByLog theory lemma log) (IsBrokenBy theory lemma (execution_of theory log))
+          into_reading lemma unlearnt (IsBrokenByLog theory lemma log) (IsBrokenBy theory lemma (execution_of theory log))
           (executed.trace, executed.executed, unrestricted executed.trace, not_true executed.trace (over_steps (negate g) (right_negation signature g right) e));
     }
 
@@ -115,7 +116,7 @@ module _ (t : WrittenTheory) (s : IsSearched t) (log : Log) (is : IsLogOfSteps (
       by_log = (is.0, unrestricted (log_trace log), (kept (log_trace log)).1 (over_log g right e));
       executed = executed;
       in_reading =
-          into_reading lemma (basic_names_none signature lemma.formula basic) (IsSatisfiedByLog theory lemma log) (IsSatisfiedBy theory lemma (execution_of theory log))
+          into_reading lemma unlearnt (IsSatisfiedByLog theory lemma log) (IsSatisfiedBy theory lemma (execution_of theory log))
           (executed.trace, executed.executed, unrestricted executed.trace, (kept executed.trace).1 (over_steps g right e));
     }
 
@@ -125,6 +126,6 @@ is_log_of_steps t s entries e = (log_decides (theory_of t) (checkable t s) entri
 
 pub found_logs_show_lem : FoundLogsShow
 found_logs_show_lem = record {
-  breaks = λ t s lemma basic g form entries e found. breaks t s (newest_first entries) (is_log_of_steps t s entries e) lemma basic g form found;
-  satisfies = λ t s lemma basic g form entries e found. satisfies t s (newest_first entries) (is_log_of_steps t s entries e) lemma basic g form found;
+  breaks = λ t s lemma basic unlearnt g form entries e found. breaks t s (newest_first entries) (is_log_of_steps t s entries e) lemma basic unlearnt g form found;
+  satisfies = λ t s lemma basic unlearnt g form entries e found. satisfies t s (newest_first entries) (is_log_of_steps t s entries e) lemma basic unlearnt g form found;
 }

@@ -1,10 +1,11 @@
 -- What holds of logs that were found.
-use Rattle.std.specs.Prelude.{◌≡◌, ◌↔◌, ◌⊎◌, ℕ, List, Some, true}
+use Rattle.std.specs.Prelude.{◌≡◌, ◌↔◌, ◌⊎◌, ℕ, List, Some, true, false}
 use Rattle.sp_spec.specs.Signature.{Signature}
 use Rattle.sp_spec.specs.Theory.{Lemma, signature_of}
 use Rattle.sp_spec.specs.Written.{WrittenTheory, theory_of}
 use Rattle.sp_spec.specs.Guarded.{Guarded, GuardedHolds}
 use Rattle.sp_spec.specs.Log.{Entry, Log, IsLog, log_trace}
+use Rattle.sp_spec.specs.Verdict.{names_learning}
 use Rattle.sp_law_guard.specs.GuardedForm.{negate}
 use Rattle.sp_law_guard.specs.CheckedForm.{checked_form}
 use Rattle.sp_law_decide.specs.Deciding.{assignment_of, decided, empty}
@@ -17,15 +18,15 @@ use Rattle.sp_solved.specs.Candidate.{candidate}
 use Rattle.sp_solved.specs.Found.{found}
 use Rattle.sp_law_shown.specs.Shown.{IsSearched, FoundBreaks, FoundSatisfies}
 
--- Of entries, the oldest first, that pass the test of logs: where the negation of the lemma's guarded form is found true over the log's trace, the
+-- Of entries, the oldest first, that pass the test of logs, and a lemma that names no learning: where the negation of the lemma's guarded form is found true over the log's trace, the
 -- log breaks the lemma; where the form is found true, the log satisfies it.
 pub record FoundLogsShow : Type 0 where
   pub breaks : (theory : WrittenTheory) → IsSearched theory → (lemma : Lemma) → IsBasicFormula (signature_of (theory_of theory)) lemma.formula
-      → (g : Guarded) → checked_form lemma.formula ≡ Some g
+      → names_learning lemma.formula ≡ false → (g : Guarded) → checked_form lemma.formula ≡ Some g
       → (entries : List Entry) → is_log (signature_of (theory_of theory)) (rules_of (theory_of theory)).forms entries ≡ true
       → decided (log_trace (newest_first entries)) empty (negate g) ≡ true → FoundBreaks (theory_of theory) lemma (newest_first entries)
   pub satisfies : (theory : WrittenTheory) → IsSearched theory → (lemma : Lemma) → IsBasicFormula (signature_of (theory_of theory)) lemma.formula
-      → (g : Guarded) → checked_form lemma.formula ≡ Some g
+      → names_learning lemma.formula ≡ false → (g : Guarded) → checked_form lemma.formula ≡ Some g
       → (entries : List Entry) → is_log (signature_of (theory_of theory)) (rules_of (theory_of theory)).forms entries ≡ true
       → decided (log_trace (newest_first entries)) empty g ≡ true → FoundSatisfies (theory_of theory) lemma (newest_first entries)
 

@@ -9,7 +9,7 @@ use Rattle.sp_spec.proofs.Lists.{every_weaken}
 use Rattle.sp_law_equal.specs.Right.{IsTermOver, AreTermsOver, RulesAreOver}
 use Rattle.sp_law_decide.specs.Normal.{IsConstructorTerm, AreConstructorTerms}
 use Rattle.sp_law_run.proofs.Written.{rules_over}
-use Rattle.sp_law_tree.specs.BasicTheory.{IsBasicFact, IsBasicRule}
+use Rattle.sp_law_tree.specs.BasicTheory.{IsBasicRule}
 
 module _ (signature : Signature) where
   mutual
@@ -25,9 +25,9 @@ module _ (signature : Signature) where
 
   rule_over : (r : WrittenRule) → IsBasicRule signature r → OfArguments (AreTermsOver signature.symbols) r.facts
   rule_over r h = record {
-    premises = every_weaken (IsBasicFact signature) _ (λ f k. constructors_over f.args k.0.0) r.facts.premises h.premises;
-    actions = every_weaken _ _ (λ a k. k.0.0) r.facts.actions h.actions;
-    conclusions = every_weaken _ _ (λ f k. k.0.0) r.facts.conclusions h.conclusions;
+    premises = every_weaken _ _ (λ f k. constructors_over f.args k.0) r.facts.premises h.premises;
+    actions = every_weaken _ _ (λ a k. k.0) r.facts.actions h.actions;
+    conclusions = every_weaken _ _ (λ f k. k.0) r.facts.conclusions h.conclusions;
   }
 
   pub basic_rules_over : (rs : List WrittenRule) → Every (IsBasicRule signature) rs → RulesAreOver signature.symbols (map rule_of rs)

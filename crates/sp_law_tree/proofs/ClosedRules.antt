@@ -1,32 +1,23 @@
--- A written rule of a basic theory without findings stands for a closed one: it takes no message in, and what is in its conclusions is
--- public or stands in its premises, and each Fr is of a variable of sort fresh.
+-- A written rule of a basic theory without findings stands for a right one: what is in its conclusions is public or stands in its premises, each Fr is
+-- of a variable of sort fresh, and no fact stands where it is reserved.
 use Rattle.std.proofs.Common.{◌≡◌, ◌⊎◌, ℕ, Bool, true, false, not, ◌&&◌, ◌||◌, List, [], ◌∷◌, ◌++◌, map, codes, refl, sym, ap, inl, inr, bytes_eq, ⊎_elim}
 use Rattle.std.proofs.lemmas.Bool.{or_cases, or_left, or_right, or_parts}
 use Rattle.std.proofs.lemmas.Slice.Eq.{bytes_eq-Decides}
-use Rattle.sp_spec.specs.Lists.{Every}
+use Rattle.sp_spec.specs.Lists.{Member, Every}
 use Rattle.sp_spec.specs.Term.{any_names, AllMadeOf, Sort, Msg, Fresh, Pub, Variable, Term, var, constant, name, app, Terms, none, more, valued, valued_all, EachVariables}
 use Rattle.sp_spec.specs.Signature.{Signature}
-use Rattle.sp_spec.specs.Rule.{Fact, Facts, fact_at}
+use Rattle.sp_spec.specs.Rule.{Fact, Action, Facts, Rule, fact_at, action_at}
 use Rattle.sp_spec.specs.Formula.{Written}
 use Rattle.sp_spec.specs.Written.{WrittenRule, in_term, in_terms, in_facts, in_actions, occurrences, rule_names, place_of, numbered_in, sort_in, rule_of}
-use Rattle.sp_spec.specs.Findings.{has_wide_fact, has_wide_action, has_two_sorts, has_wrong_premise, is_fr_named, has_fr, has_wrong_argument, is_pub, is_named, has_unbound, rule_is_wrong}
+use Rattle.sp_spec.specs.Findings.{has_wide_fact, has_wide_action, has_two_sorts, is_misused, is_no_premise, is_no_action, is_no_conclusion, is_wrong_premise, is_wrong_conclusion, has_wrong_premise, has_wrong_action, has_wrong_conclusion, has_wrong_argument, is_pub, is_named, has_unbound, rule_is_wrong}
 use Rattle.sp_spec.proofs.Lists.{every_map, every_weaken}
-use Rattle.sp_spec.specs.Log.{is_in}
-use Rattle.sp_law_system.specs.Rules.{IsClosedRule}
 use Rattle.sp_law_system.proofs.Numbers.{each_valued_all}
-use Rattle.sp_law_tree.specs.BasicTheory.{IsBasicFact, IsBasicRule}
+use Rattle.sp_law_tree.specs.BasicTheory.{IsBasicRule}
 use Rattle.sp_spec.proofs.Occurrences.{facts_each}
 use Rattle.sp_law_tree.proofs.FreshRules.{fresh_premises}
 use Rattle.sp_law_tree.proofs.Named.{all_made_both}
-use Rattle.sp_law_equal.specs.RightTheory.{MakesNoFr, StandsIn, StandsAmong, HasVariable, no_fresh_names}
-
--- no message is taken in
-pub not_in : (b c : Bool) → (b ≡ true → ⊥) → (b && c) ≡ false
-not_in true c h = absurd (h refl)
-not_in false c h = refl
-
-no_input : (signature : Signature) (v : Written → Term Variable) (f : Fact Written) → IsBasicFact signature f → is_in (fact_at v f) ≡ false
-no_input signature v f h = not_in (bytes_eq f.symbol (codes "In")) (not f.persistent) (λ e. h.1 (inl (sym ((bytes_eq-Decides f.symbol (codes "In")).0 e))))
+use Rattle.sp_law_equal.proofs.Pairs.{names_apart}
+use Rattle.sp_law_equal.specs.RightTheory.{TakesFreshNames, MakesNoFr, LeavesReserved, BindsConclusions, StandsIn, StandsAmong, HasVariable, no_fresh_names}
 
 -- ---- what is named in facts stands in them
 
@@ -110,7 +101,8 @@ module _ (facts : Facts Written) where
 -- what is no finding of a rule
 record HasNone (r : WrittenRule) : Type 0 where
   premises : has_wrong_premise r.facts.premises ≡ false
-  conclusions : has_fr r.facts.conclusions ≡ false
+  actions : has_wrong_action r.facts.actions ≡ false
+  conclusions : has_wrong_conclusion r.facts.conclusions ≡ false
   arguments : has_wrong_argument r.facts.premises ≡ false
   bound : has_unbound r.facts (in_facts r.facts.conclusions) ≡ false
 
@@ -119,32 +111,89 @@ has_none r e =
     let wide = or_parts (has_wide_fact r.facts.premises || (has_wide_action r.facts.actions || has_wide_fact r.facts.conclusions)) _ e in
     let sorts = or_parts (has_two_sorts r.facts (occurrences r.facts)) _ wide.1 in
     let premises = or_parts (has_wrong_premise r.facts.premises) _ sorts.1 in
-    let conclusions = or_parts (has_fr r.facts.conclusions) _ premises.1 in
+    let actions = or_parts (has_wrong_action r.facts.actions) _ premises.1 in
+    let conclusions = or_parts (has_wrong_conclusion r.facts.conclusions) _ actions.1 in
     let arguments = or_parts (has_wrong_argument r.facts.premises) _ conclusions.1 in
     let bound = or_parts (has_unbound r.facts (in_actions r.facts.actions)) _ arguments.1 in
-    record { premises = premises.0; conclusions = conclusions.0; arguments = arguments.0; bound = bound.1 }
+    record { premises = premises.0; actions = actions.0; conclusions = conclusions.0; arguments = arguments.0; bound = bound.1 }
 
-rule_closed : (signature : Signature) (r : WrittenRule) → IsBasicRule signature r → rule_is_wrong r ≡ false → IsClosedRule (rule_of r)
-rule_closed signature r p e = record {
-  inputs = every_map (IsBasicFact signature) _ (fact_at (numbered_in r.facts)) (no_input signature (numbered_in r.facts)) r.facts.premises p.premises;
-  fresh = fresh_premises r.facts r.facts.premises (λ f m. m) (has_none r e).premises (has_none r e).arguments;
-  bound = conclusions_bound r.facts r.facts.conclusions (every_weaken _ HasNoFreshNames (λ f k. k.0.1) r.facts.conclusions p.conclusions) (has_none r e).bound;
+-- what is right of the rule that a written rule stands for
+pub record IsRightRule (r : Rule) : Type 0 where
+  pub fresh : TakesFreshNames r
+  pub makes_no_fr : MakesNoFr r
+  pub reserved : LeavesReserved r
+  pub bound : BindsConclusions r
+
+-- ---- reserved names
+
+four_false : (a b c d : Bool) → (a || b || c || d) ≡ false → (a ≡ false) × ((b ≡ false) × (c ≡ false))
+four_false a b c d e =
+    let p = or_parts (a || b || c) d e in
+    let q = or_parts (a || b) c p.0 in
+    let r = or_parts a b q.0 in
+    (r.0, (r.1, q.1))
+
+no_premise : (w : List ℕ) → is_no_premise w ≡ false → Member w (codes "Out" ∷ codes "K" ∷ []) → ⊥
+unfolding is_no_premise
+no_premise w e m =
+    let parts = four_false (bytes_eq w (codes "Out")) (bytes_eq w (codes "K")) (bytes_eq w (codes "KU")) (bytes_eq w (codes "KD")) e in
+    ⊎_elim (λ h. names_apart w (codes "Out") parts.0 (sym h)) (λ k. ⊎_elim (λ h. names_apart w (codes "K") parts.1.0 (sym h)) (λ never. never) k) m
+
+no_action : (w : List ℕ) → is_no_action w ≡ false → Member w (codes "K" ∷ codes "KU" ∷ []) → ⊥
+unfolding is_no_action
+no_action w e m =
+    let p = or_parts (bytes_eq w (codes "K") || bytes_eq w (codes "KU")) (bytes_eq w (codes "KD")) e in
+    let q = or_parts (bytes_eq w (codes "K")) (bytes_eq w (codes "KU")) p.0 in
+    ⊎_elim (λ h. names_apart w (codes "K") q.0 (sym h)) (λ k. ⊎_elim (λ h. names_apart w (codes "KU") q.1 (sym h)) (λ never. never) k) m
+
+no_conclusion : (w : List ℕ) → is_no_conclusion w ≡ false → Member w (codes "In" ∷ codes "Fr" ∷ codes "K" ∷ []) → ⊥
+unfolding is_no_conclusion
+no_conclusion w e m =
+    let p = or_parts (bytes_eq w (codes "In") || bytes_eq w (codes "Fr") || bytes_eq w (codes "K") || bytes_eq w (codes "KU")) (bytes_eq w (codes "KD")) e in
+    let parts = four_false (bytes_eq w (codes "In")) (bytes_eq w (codes "Fr")) (bytes_eq w (codes "K")) (bytes_eq w (codes "KU")) p.0 in
+    ⊎_elim (λ h. names_apart w (codes "In") parts.0 (sym h)) (λ k. ⊎_elim (λ h. names_apart w (codes "Fr") parts.1.0 (sym h)) (λ l. ⊎_elim (λ h. names_apart w (codes "K") parts.1.1 (sym h)) (λ never. never) l) k) m
+
+premises_reserved : (fs : List (Fact Written)) → has_wrong_premise fs ≡ false → Every (λ (f : Fact Written). Member f.symbol (codes "Out" ∷ codes "K" ∷ []) → ⊥) fs
+premises_reserved [] e = tt
+premises_reserved (f ∷ fs) e =
+    let both = or_parts (is_wrong_premise f) (has_wrong_premise fs) e in
+    (no_premise f.symbol (or_parts (is_no_premise f.symbol) (is_misused f) both.0).0, premises_reserved fs both.1)
+
+actions_reserved : (xs : List (Action Written)) → has_wrong_action xs ≡ false → Every (λ (a : Action Written). Member a.symbol (codes "K" ∷ codes "KU" ∷ []) → ⊥) xs
+actions_reserved [] e = tt
+actions_reserved (a ∷ xs) e =
+    let both = or_parts (is_no_action a.symbol) (has_wrong_action xs) e in
+    (no_action a.symbol both.0, actions_reserved xs both.1)
+
+conclusions_reserved : (fs : List (Fact Written)) → has_wrong_conclusion fs ≡ false
+    → Every (λ (f : Fact Written). Member f.symbol (codes "In" ∷ codes "Fr" ∷ codes "K" ∷ []) → ⊥) fs
+conclusions_reserved [] e = tt
+conclusions_reserved (f ∷ fs) e =
+    let both = or_parts (is_wrong_conclusion f) (has_wrong_conclusion fs) e in
+    (no_conclusion f.symbol (or_parts (is_no_conclusion f.symbol) (is_misused f) both.0).0, conclusions_reserved fs both.1)
+
+rule_reserved : (r : WrittenRule) → HasNone r → LeavesReserved (rule_of r)
+rule_reserved r h = record {
+  premises = every_map _ _ (fact_at (numbered_in r.facts)) (λ f k. k) r.facts.premises (premises_reserved r.facts.premises h.premises);
+  actions = every_map _ _ (action_at (numbered_in r.facts)) (λ a k. k) r.facts.actions (actions_reserved r.facts.actions h.actions);
+  conclusions = every_map _ _ (fact_at (numbered_in r.facts)) (λ f k. k) r.facts.conclusions (conclusions_reserved r.facts.conclusions h.conclusions);
 }
 
--- no Fr is concluded
-no_fr : (fs : List (Fact Written)) → has_fr fs ≡ false → Every (λ (f : Fact Written). f.symbol ≡ codes "Fr" → ⊥) fs
-no_fr [] e = tt
-no_fr (f ∷ fs) e =
-    let both = or_parts (is_fr_named f) (has_fr fs) e in
-    ((λ k. cc (both.0, (bytes_eq-Decides f.symbol (codes "Fr")).1 k)), no_fr fs both.1)
+no_fr : (r : Rule) → LeavesReserved r → MakesNoFr r
+no_fr r h = every_weaken _ _ (λ f out k. out (inr (inl (sym k)))) r.facts.conclusions h.conclusions
 
-pub none_concluded : (rs : List WrittenRule) → Every (λ (r : WrittenRule). rule_is_wrong r ≡ false) rs → Every MakesNoFr (map rule_of rs)
-none_concluded rs e =
-    every_map (λ (r : WrittenRule). rule_is_wrong r ≡ false) MakesNoFr rule_of
-    (λ r h. every_map (λ (f : Fact Written). f.symbol ≡ codes "Fr" → ⊥) _ (fact_at (numbered_in r.facts)) (λ f k. k) r.facts.conclusions (no_fr r.facts.conclusions (has_none r h).conclusions))
-    rs e
+rule_right : (signature : Signature) (r : WrittenRule) → IsBasicRule signature r → rule_is_wrong r ≡ false → IsRightRule (rule_of r)
+rule_right signature r p e =
+    let clean = has_none r e in
+    let reserved = rule_reserved r clean in
+    record {
+      fresh = fresh_premises r.facts r.facts.premises (λ f m. m) clean.premises clean.arguments;
+      makes_no_fr = no_fr (rule_of r) reserved;
+      reserved = reserved;
+      bound = conclusions_bound r.facts r.facts.conclusions (every_weaken _ HasNoFreshNames (λ f k. k.1) r.facts.conclusions p.conclusions) clean.bound;
+    }
 
-pub rules_closed : (signature : Signature) (rs : List WrittenRule) → Every (IsBasicRule signature) rs → Every (λ (r : WrittenRule). rule_is_wrong r ≡ false) rs
-    → Every IsClosedRule (map rule_of rs)
-rules_closed signature [] p e = tt
-rules_closed signature (r ∷ rs) p e = (rule_closed signature r p.0 e.0, rules_closed signature rs p.1 e.1)
+pub each_right : (signature : Signature) (rs : List WrittenRule) → Every (IsBasicRule signature) rs → Every (λ (r : WrittenRule). rule_is_wrong r ≡ false) rs
+    → Every IsRightRule (map rule_of rs)
+each_right signature [] p e = tt
+each_right signature (r ∷ rs) p e = (rule_right signature r p.0 e.0, each_right signature rs p.1 e.1)

@@ -1,8 +1,7 @@
--- Guarded formulas whose atoms are flat and name no action of the adversary: they are timed, and a log over whose trace one is true
--- solves the system that begins with it.
-use Rattle.std.proofs.Common.{◌≡◌, ◌<◌, ℕ, zero, Bool, true, false, List, [], ◌∷◌, length, codes, refl, inl, inr, arith, sym, bytes_eq}
+-- Guarded formulas whose atoms are flat: they are timed, and a log over whose trace one is true solves the system that begins with it.
+use Rattle.std.proofs.Common.{◌≡◌, ◌<◌, ℕ, zero, Bool, true, false, List, [], ◌∷◌, length, codes, refl, arith, bytes_eq}
 use Rattle.std.proofs.lemmas.Slice.Eq.{bytes_eq-Decides}
-use Rattle.sp_spec.specs.Lists.{Member, Every}
+use Rattle.sp_spec.specs.Lists.{Every}
 use Rattle.sp_spec.specs.Term.{Names, Variable}
 use Rattle.sp_spec.specs.Signature.{Signature}
 use Rattle.sp_spec.specs.Theory.{Theory, signature_of}
@@ -10,16 +9,14 @@ use Rattle.sp_spec.specs.Guarded.{Place, free, bound, place_in, Atom, Guarded, G
 use Rattle.sp_spec.specs.Log.{Log, log_trace}
 use Rattle.sp_spec.proofs.Lists.{every_weaken}
 use Rattle.sp_law_equal.specs.NormalForms.{HaveNormalForms}
-use Rattle.sp_law_truth.specs.Shown.{times_within, action_names, IsTimedAtom, IsTimed}
+use Rattle.sp_law_truth.specs.Shown.{times_within, IsTimedAtom, IsTimed}
 use Rattle.sp_law_guard.specs.Closed.{IsClosedAtom}
 use Rattle.sp_law_guard.specs.GuardedForm.{negate}
 use Rattle.sp_law_guard.specs.IsGuarded.{is_guarded}
 use Rattle.sp_law_guard.proofs.Throughout.{Throughout, ThroughoutEach, negate_throughout, throughout_weaken, throughout_both}
 use Rattle.sp_law_guard.proofs.Timed.{timed}
-use Rattle.sp_law_guard.proofs.Named.{OfNames, named}
 use Rattle.sp_law_guard.proofs.Negated.{negate_guarded}
 use Rattle.sp_law_decide.proofs.Matched.{IsNormalValue}
-use Rattle.sp_law_erase.specs.Adversary.{adversary_names}
 use Rattle.sp_spec_system.specs.Solutions.{assignment, AtomSettled, Settled, EachSettled, Solves}
 use Rattle.sp_spec_system.specs.Numbered.{InFormula, InEach, IsNumbered}
 use Rattle.sp_spec_proof.specs.Root.{root}
@@ -28,23 +25,16 @@ use Rattle.sp_law_tree.proofs.Flat.{FlatAtom, closed_atom_in, each_in, Bounded, 
 use Rattle.sp_law_tree.proofs.Starts.{start, start_sorts, start_normal}
 use Rattle.sp_law_tree.proofs.Shown.{NamesNoSend}
 
-abbrev pub NotAdversary : List ℕ → Type 0
-NotAdversary s = Member s adversary_names → ⊥
-
--- n times are bound outside
-abbrev pub RightAtom : Signature → ℕ → Atom → Type 0
-RightAtom signature n a = FlatAtom signature n a × OfNames NotAdversary n a
-
 pub record IsRight (signature : Signature) (h : Guarded) : Type 0 where
-  pub each : Throughout (RightAtom signature) zero h
+  pub each : Throughout (FlatAtom signature) zero h
   pub guarded : is_guarded h ≡ true
 
 module _ (signature : Signature) where
   pub right_negation : (h : Guarded) → IsRight signature h → IsRight signature (negate h)
-  right_negation h r = record { each = negate_throughout (RightAtom signature) zero h r.each; guarded = negate_guarded h r.guarded }
+  right_negation h r = record { each = negate_throughout (FlatAtom signature) zero h r.each; guarded = negate_guarded h r.guarded }
 
   pub right_timed : (h : Guarded) → IsRight signature h → IsTimed zero h
-  right_timed h r = timed zero h (throughout_weaken (RightAtom signature) IsTimedAtom (λ n a p. p.0.0) zero h r.each) r.guarded
+  right_timed h r = timed zero h (throughout_weaken (FlatAtom signature) IsTimedAtom (λ n a p. p.0) zero h r.each) r.guarded
 
 -- what is sent isn't named
 other_name : (s : List ℕ) → (s ≡ codes "K" → ⊥) → bytes_eq s (codes "K") ≡ false
@@ -57,12 +47,9 @@ other_name s n = at (bytes_eq s (codes "K")) refl
 not_named : (x : List ℕ) (xs : List (List ℕ)) → (x ≡ codes "K" → ⊥) → NamesNoSend xs → NamesNoSend (x ∷ xs)
 not_named x xs n h = rw (other_name x n) h
 
-each_not_send : (names : List (List ℕ)) → Every NotAdversary names → NamesNoSend names
+pub each_not_send : (names : List (List ℕ)) → Every (λ (s : List ℕ). s ≡ codes "K" → ⊥) names → NamesNoSend names
 each_not_send [] e = refl
-each_not_send (x ∷ names) e = not_named x names (λ k. e.0 (inr (inr (inl (sym k))))) (each_not_send names e.1)
-
-pub right_not_send : (signature : Signature) (h : Guarded) → IsRight signature h → NamesNoSend (action_names h)
-right_not_send signature h r = each_not_send (action_names h) (named NotAdversary zero h (throughout_weaken (RightAtom signature) (OfNames NotAdversary) (λ n a p. p.1) zero h r.each))
+each_not_send (x ∷ names) e = not_named x names e.0 (each_not_send names e.1)
 
 -- nothing free stands in the atom, and its names are such ones
 abbrev pub ClosedNamed : Names → ℕ → Atom → Type 0
@@ -112,7 +99,7 @@ module _ (signature : Signature) (good : HaveNormalForms signature.equations) (l
 -- the system that begins with one
 pub right_numbered : (signature : Signature) (N : Names) (h : Guarded) → IsRight signature h → Throughout (NamedAtom N) zero h → IsNumbered N (root h)
 right_numbered signature N h r k =
-    let closed = throughout_weaken (RightAtom signature) (λ n a. IsClosedAtom a) (λ n a p. p.0.1) zero h r.each in
+    let closed = throughout_weaken (FlatAtom signature) (λ n a. IsClosedAtom a) (λ n a p. p.1) zero h r.each in
     record {
       events = tt;
       formulas = (closed_in N (λ x. x.number < zero) (λ i. i < zero) zero h (throughout_both (λ n a. IsClosedAtom a) (NamedAtom N) zero h closed k), tt);
@@ -133,12 +120,11 @@ pub right_solved : (theory : Theory) → HaveNormalForms (signature_of theory).e
     → GuardedHolds (signature_of theory) (log_trace log) (assignment start) h → Solves theory log start (root h)
 right_solved theory good log h r true_there =
     let signature = signature_of theory in
-    let flat = throughout_weaken (RightAtom signature) (FlatAtom signature) (λ n a p. p.0) zero h r.each in
     record {
       sorts = start_sorts signature;
       normal = start_normal signature;
       events = tt;
-      formulas = ((true_there, settled signature good (length log) h zero (assignment start) (start_bounded signature (length log)) flat), tt);
+      formulas = ((true_there, settled signature good (length log) h zero (assignment start) (start_bounded signature (length log)) r.each), tt);
       spent = tt;
       unequal = tt;
       links = tt;

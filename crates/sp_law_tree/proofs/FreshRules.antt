@@ -7,8 +7,9 @@ use Rattle.sp_spec.specs.Term.{Fresh, Pub, Msg, Variable, var, constant, name, a
 use Rattle.sp_spec.specs.Rule.{Fact, Facts, fact_at, IsFreshVariable}
 use Rattle.sp_spec.specs.Formula.{Written}
 use Rattle.sp_spec.specs.Written.{occurrences, is_argument, is_fr_argument, is_written, sort_in, numbered_in}
-use Rattle.sp_spec.specs.Findings.{is_fr_named, is_one, is_fresh_variable, has_wrong_premise, has_wrong_argument}
+use Rattle.sp_spec.specs.Findings.{is_fr_named, is_one, is_fresh_variable, is_wrong_premise, has_wrong_premise, has_wrong_argument}
 use Rattle.sp_spec.specs.Log.{is_fr}
+use Rattle.sp_spec.proofs.Findings.{fr_premise}
 
 argument_there : (x : List ℕ) (fs : List (Fact Written)) (f : Fact Written) → Member f fs → is_fr_named f ≡ true → is_argument x f.args ≡ true
     → is_fr_argument x fs ≡ true
@@ -51,8 +52,8 @@ pub fresh_premises : (facts : Facts Written) (fs : List (Fact Written)) → ((f 
     → Every (λ (f : Fact Variable). is_fr f ≡ true → IsFreshVariable f.args) (map (fact_at (numbered_in facts)) fs)
 fresh_premises facts [] among wrong other = tt
 fresh_premises facts (f ∷ fs) among wrong other =
-    let premise = or_parts (is_fr_named f && (f.persistent || not (is_one f.args))) (has_wrong_premise fs) wrong in
+    let premise = or_parts (is_wrong_premise f) (has_wrong_premise fs) wrong in
     let argument = or_parts (is_fr_named f && is_one f.args && not (is_fresh_variable f.args)) (has_wrong_argument fs) other in (
-      λ e. fresh_args facts f (among f (inl refl)) f.args refl (and_parts (is_fr_named f) (not f.persistent) e).0 premise.0 argument.0,
+      λ e. fresh_args facts f (among f (inl refl)) f.args refl (and_parts (is_fr_named f) (not f.persistent) e).0 (fr_premise f premise.0) argument.0,
       fresh_premises facts fs (λ g k. among g (inr k)) premise.1 argument.1,
     )

@@ -125,7 +125,7 @@ module _ (listed : List (List ℕ)) where
   formula_named : (signature : Signature) (f : Formula) → IsBasicFormula signature f → AreListed listed (in_formula f) → HasNames (names_in listed) f
   formula_named signature truth a k = tt
   formula_named signature falsity a k = tt
-  formula_named signature (happens x i) a k = all_listed_made x.args a.0.1 k
+  formula_named signature (happens x i) a k = all_listed_made x.args a.1 k
   formula_named signature (equals t u) a k = let both = every_parts _ (in_term t) (in_term u) k in (listed_made t a.0.1 both.0, listed_made u a.1.1 both.1)
   formula_named signature (precedes i j) a k = tt
   formula_named signature (not_so f) a k = formula_named signature f a k

@@ -1,5 +1,5 @@
 -- What a text gives whose rules have no findings, and what covering takes of it.
-use Rattle.std.proofs.Common.{◌≡◌, false, not, map, codes, sym, inl, bytes_eq}
+use Rattle.std.proofs.Common.{◌≡◌, Bool, true, false, not, ◌&&◌, map, codes, refl, sym, inl, bytes_eq}
 use Rattle.std.proofs.lemmas.Slice.Eq.{bytes_eq-Decides}
 use Rattle.sp_spec.specs.Lists.{Every, Distinct, Member}
 use Rattle.sp_spec.proofs.Lists.{every_from, every_map, every_member, every_weaken}
@@ -12,15 +12,15 @@ use Rattle.sp_spec.specs.Findings.{rule_is_wrong}
 use Rattle.sp_spec.specs.Log.{is_in}
 use Rattle.sp_law_equal.specs.Right.{AreTermsOver, RulesAreOver}
 use Rattle.sp_law_equal.specs.NormalForms.{HasNormalForms}
-use Rattle.sp_law_equal.specs.RightTheory.{HasNormalInstances, TakesFreshNames, BindsConclusions, IsRightTheory, adversary_facts, LeavesAdversaryAlone}
+use Rattle.sp_law_equal.specs.RightTheory.{HasNormalInstances, TakesFreshNames, MakesNoFr, LeavesReserved, BindsConclusions, IsRightTheory, adversary_facts, LeavesAdversaryAlone}
 use Rattle.sp_law_run.proofs.Written.{rules_right}
 use Rattle.sp_law_run.proofs.Over.{valued_all_over}
 use Rattle.sp_law_system.specs.Rules.{InstancesAreOver, IsClosedRule, SuitsProofs}
 use Rattle.sp_law_tree.specs.BasicTheory.{IsBasicRule}
 use Rattle.sp_law_tree.specs.Laws.{TextsAreRight}
 use Rattle.sp_law_tree.proofs.BasicOver.{basic_rules_over}
-use Rattle.sp_law_tree.proofs.WrittenRules.{premises_plain, rules_leave_adversary}
-use Rattle.sp_law_tree.proofs.ClosedRules.{not_in, none_concluded, rules_closed}
+use Rattle.sp_law_tree.proofs.WrittenRules.{premises_plain}
+use Rattle.sp_law_tree.proofs.ClosedRules.{IsRightRule, each_right}
 
 -- ---- terms over the signature
 
@@ -47,45 +47,50 @@ normal_instances t forms basic = record {
   premises = premises_plain (signature_of (theory_of t)) t.rules basic;
 }
 
-pub text_suits : (t : WrittenTheory) → HasNormalForms (signature_of (theory_of t)) → Every (IsBasicRule (signature_of (theory_of t))) t.rules → Every (λ (r : WrittenRule). rule_is_wrong r ≡ false) t.rules
-    → SuitsProofs (theory_of t)
-text_suits t forms basic right = record {
-  instances = normal_instances t forms basic;
-  closed = rules_closed (signature_of (theory_of t)) t.rules basic right;
-  over = instances_over (theory_of t) (basic_rules_over (signature_of (theory_of t)) t.rules basic);
-}
-
-right_text : (t : WrittenTheory) → HasNormalForms (signature_of (theory_of t)) → Every (IsBasicRule (signature_of (theory_of t))) t.rules → Every (λ (r : WrittenRule). rule_is_wrong r ≡ false) t.rules
+pub right_text : (t : WrittenTheory) → HasNormalForms (signature_of (theory_of t)) → Every (IsBasicRule (signature_of (theory_of t))) t.rules → Every (λ (r : WrittenRule). rule_is_wrong r ≡ false) t.rules
     → Distinct (map (λ (r : WrittenRule). r.name) t.rules) → IsRightTheory (theory_of t)
 right_text t forms basic right names =
-    let closed = rules_closed (signature_of (theory_of t)) t.rules basic right in
+    let each = each_right (signature_of (theory_of t)) t.rules basic right in
+    let rules = (theory_of t).rules in
     record {
       instances = normal_instances t forms basic;
       declared = rules_right t.rules names;
-      takes_fresh = every_weaken IsClosedRule TakesFreshNames (λ r h. h.fresh) (theory_of t).rules closed;
-      makes_no_fr = none_concluded t.rules right;
-      bound = every_weaken IsClosedRule BindsConclusions (λ r h. h.bound) (theory_of t).rules closed;
+      takes_fresh = every_weaken IsRightRule TakesFreshNames (λ r h. h.fresh) rules each;
+      makes_no_fr = every_weaken IsRightRule MakesNoFr (λ r h. h.makes_no_fr) rules each;
+      reserved = every_weaken IsRightRule LeavesReserved (λ r h. h.reserved) rules each;
+      bound = every_weaken IsRightRule BindsConclusions (λ r h. h.bound) rules each;
     }
 
 -- ---- of a theory
 
+not_in : (b c : Bool) → (b ≡ true → ⊥) → (b && c) ≡ false
+not_in true c h = absurd (h refl)
+not_in false c h = refl
+
 no_input : (f : Fact Variable) → (Member f.symbol adversary_facts → ⊥) → is_in f ≡ false
 no_input f h = not_in (bytes_eq f.symbol (codes "In")) (not f.persistent) (λ e. h (inl (sym ((bytes_eq-Decides f.symbol (codes "In")).0 e))))
 
-module _ (theory : Theory) (right : IsRightTheory theory) (alone : LeavesAdversaryAlone theory) where
+module _ (theory : Theory) (instances : HasNormalInstances theory) (fresh : Every TakesFreshNames theory.rules) (bound : Every BindsConclusions theory.rules) (alone : LeavesAdversaryAlone theory) where
   closed : Every IsClosedRule theory.rules
   closed = every_from IsClosedRule theory.rules (λ r m. record {
     inputs = every_weaken (λ (f : Fact Variable). Member f.symbol adversary_facts → ⊥) (λ (f : Fact Variable). is_in f ≡ false) no_input r.facts.premises (alone.premises r m);
-    fresh = every_member TakesFreshNames theory.rules r m right.takes_fresh;
-    bound = every_member BindsConclusions theory.rules r m right.bound;
+    fresh = every_member TakesFreshNames theory.rules r m fresh;
+    bound = every_member BindsConclusions theory.rules r m bound;
   })
 
-  theory_suits : SuitsProofs theory
-  theory_suits = record { instances = right.instances; closed = closed; over = instances_over theory right.instances.over }
+  parts_suit : SuitsProofs theory
+  parts_suit = record { instances = instances; closed = closed; over = instances_over theory instances.over }
+
+-- a text whose rules leave the adversary alone
+pub text_suits : (t : WrittenTheory) → HasNormalForms (signature_of (theory_of t)) → Every (IsBasicRule (signature_of (theory_of t))) t.rules → Every (λ (r : WrittenRule). rule_is_wrong r ≡ false) t.rules
+    → LeavesAdversaryAlone (theory_of t) → SuitsProofs (theory_of t)
+text_suits t forms basic right alone =
+    let each = each_right (signature_of (theory_of t)) t.rules basic right in
+    let rules = (theory_of t).rules in
+    parts_suit (theory_of t) (normal_instances t forms basic) (every_weaken IsRightRule TakesFreshNames (λ r h. h.fresh) rules each) (every_weaken IsRightRule BindsConclusions (λ r h. h.bound) rules each) alone
 
 pub texts_are_right_lem : TextsAreRight
 texts_are_right_lem = record {
   right = right_text;
-  alone = λ theory basic. rules_leave_adversary (signature_of (theory_of theory)) theory basic;
-  suits = theory_suits;
+  suits = λ theory right alone. parts_suit theory right.instances right.takes_fresh right.bound alone;
 }

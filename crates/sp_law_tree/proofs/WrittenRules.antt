@@ -1,26 +1,24 @@
--- A written rule of a basic theory stands for a rule whose variables are numbered, without destructors in its premises, that leaves the adversary
--- alone.
-use Rattle.std.proofs.Common.{◌≡◌, ◌<◌, ℕ, zero, suc, Bool, true, false, ◌||◌, if◌then◌else◌, List, [], ◌∷◌, ◌++◌, map, length, codes, sym, subst, inl, inr, arith, bytes_eq}
-use Rattle.sp_spec.specs.Lists.{Member, Every}
+-- A written rule of a basic theory stands for a rule whose variables are numbered, without destructors in its premises.
+use Rattle.std.proofs.Common.{◌≡◌, ◌<◌, ℕ, zero, suc, Bool, true, false, ◌||◌, if◌then◌else◌, List, [], ◌∷◌, ◌++◌, map, length, sym, subst, arith, bytes_eq}
+use Rattle.sp_spec.specs.Lists.{Every}
 use Rattle.sp_spec.specs.Term.{Variable, Term, var, constant, name, app, Terms, none, more, valued, valued_all}
 use Rattle.sp_spec.specs.Signature.{Signature}
-use Rattle.sp_spec.specs.Rule.{Fact, Action, Declared, Rule, fact_at, action_at, FactsMadeOf}
+use Rattle.sp_spec.specs.Rule.{Declared, fact_at, FactsMadeOf}
 use Rattle.sp_spec.specs.Formula.{Written}
 use Rattle.sp_spec.specs.Theory.{signature_of}
-use Rattle.sp_spec.specs.Written.{WrittenRule, WrittenTheory, occurrences, is_listed, rule_names, place_of, numbered_in, sort_in, rule_of, theory_of}
+use Rattle.sp_spec.specs.Written.{WrittenRule, occurrences, is_listed, rule_names, place_of, numbered_in, sort_in, rule_of, theory_of}
 use Rattle.sp_spec.proofs.Occurrences.{occurrences_each, names_have}
 use Rattle.sp_law_equal.specs.Destructors.{IsPlain, ArePlain}
 use Rattle.sp_law_decide.specs.Normal.{IsConstructorTerm, AreConstructorTerms}
-use Rattle.sp_law_erase.specs.Adversary.{adversary_names}
-use Rattle.sp_spec.proofs.Lists.{every_map, every_weaken, every_member, every_parts, member_mapped, length_map}
+use Rattle.sp_spec.proofs.Lists.{every_map, every_weaken, every_parts, length_map}
 use Rattle.sp_law_system.proofs.Numbers.{facts_valued}
 use Rattle.sp_law_system.specs.Rules.{RulesAreNumbered}
 use Rattle.sp_spec.specs.Constants.{in_facts, in_actions, in_rule, constants_of}
 use Rattle.sp_spec_system.specs.Numbered.{names_in}
 use Rattle.sp_law_tree.specs.Laws.{NamesStand}
 use Rattle.sp_law_tree.proofs.Named.{AreListed, facts_made, actions_made, rules_listed, lemma_has_names}
-use Rattle.sp_law_tree.specs.BasicTheory.{IsBasicFact, IsBasicRule}
-use Rattle.sp_law_equal.specs.RightTheory.{HasPlainPremises, adversary_facts, LeavesAdversaryAlone}
+use Rattle.sp_law_tree.specs.BasicTheory.{IsBasicRule}
+use Rattle.sp_law_equal.specs.RightTheory.{HasPlainPremises}
 
 place_under : (x : List ℕ) (xs : List (List ℕ)) → is_listed x xs ≡ true → place_of x xs < length xs
 place_under x [] e = absurd cc
@@ -42,9 +40,9 @@ rule_numbered signature listed r basic stand =
     facts_valued (names_in listed) IsNamed (λ x. x.number < length (map declared names)) (numbered_in r.facts)
     (λ y h. subst (λ (n : ℕ). place_of y.name names < n) (sym (length_map declared names)) (place_under y.name names h))
     r.facts (record {
-      premises = facts_made listed IsNamed r.facts.premises (every_weaken _ _ (λ f k. k.0.1) r.facts.premises basic.premises) first.0 each.premises;
-      actions = actions_made listed IsNamed r.facts.actions (every_weaken _ _ (λ a k. k.0.1) r.facts.actions basic.actions) second.0 each.actions;
-      conclusions = facts_made listed IsNamed r.facts.conclusions (every_weaken _ _ (λ f k. k.0.1) r.facts.conclusions basic.conclusions) second.1 each.conclusions;
+      premises = facts_made listed IsNamed r.facts.premises (every_weaken _ _ (λ f k. k.1) r.facts.premises basic.premises) first.0 each.premises;
+      actions = actions_made listed IsNamed r.facts.actions (every_weaken _ _ (λ a k. k.1) r.facts.actions basic.actions) second.0 each.actions;
+      conclusions = facts_made listed IsNamed r.facts.conclusions (every_weaken _ _ (λ f k. k.1) r.facts.conclusions basic.conclusions) second.1 each.conclusions;
     })
 
 each_numbered : (signature : Signature) (listed : List (List ℕ)) (rs : List WrittenRule) → Every (IsBasicRule signature) rs → Every (λ (r : WrittenRule). AreListed listed (in_rule r)) rs
@@ -75,24 +73,7 @@ module _ (signature : Signature) where
   rule_plain : (r : WrittenRule) → IsBasicRule signature r → HasPlainPremises signature.equations (rule_of r)
   rule_plain r h =
       let v = numbered_in r.facts in
-      every_map (IsBasicFact signature) _ (fact_at v) (λ f k. constructors_plain v (λ x. tt) f.args k.0.0) r.facts.premises h.premises
+      every_map _ _ (fact_at v) (λ f k. constructors_plain v (λ x. tt) f.args k.0) r.facts.premises h.premises
 
   pub premises_plain : (rs : List WrittenRule) → Every (IsBasicRule signature) rs → Every (HasPlainPremises signature.equations) (map rule_of rs)
   premises_plain rs h = every_map (IsBasicRule signature) (HasPlainPremises signature.equations) rule_of rule_plain rs h
-
--- they leave the adversary alone
-among : (s : List ℕ) → Member s adversary_facts → Member s adversary_names
-among s (inl h) = inl h
-among s (inr (inl h)) = inr (inl h)
-among s (inr (inr (inl h))) = inr (inr (inl h))
-among s (inr (inr (inr h))) = absurd h
-
-pub rules_leave_adversary : (signature : Signature) (t : WrittenTheory) → Every (IsBasicRule signature) t.rules → LeavesAdversaryAlone (theory_of t)
-rules_leave_adversary signature t basic = record {
-  premises = λ r m. let o = member_mapped rule_of r t.rules m in
-      subst (λ (q : Rule). Every (λ (f : Fact Variable). Member f.symbol adversary_facts → ⊥) q.facts.premises) o.2
-      (every_map (IsBasicFact signature) _ (fact_at (numbered_in o.0.facts)) (λ f k l. k.1 (among f.symbol l)) o.0.facts.premises (every_member (IsBasicRule signature) t.rules o.0 o.1 basic).premises);
-  actions = λ r m. let o = member_mapped rule_of r t.rules m in
-      subst (λ (q : Rule). Every (λ (a : Action Variable). a.symbol ≡ codes "K" → ⊥) q.facts.actions) o.2
-      (every_map _ _ (action_at (numbered_in o.0.facts)) (λ a k l. k.1 (inr (inr (inl (sym l))))) o.0.facts.actions (every_member (IsBasicRule signature) t.rules o.0 o.1 basic).actions);
-}

@@ -1,15 +1,15 @@
--- Basic theories, the ones that are read so far: a term is without fresh names, of variables, public names, and symbols of the signature; in premises
--- and formulas none of these is a destructor; and no fact is the adversary's. Source: Tamarin manual, "Property specification" (no reducible symbols in formulas).
+-- Basic theories: a term is without fresh names, of variables, public names, and symbols of the signature; in premises and formulas none of these is a
+-- destructor. Source: Tamarin manual, "Property specification" (no reducible symbols in formulas).
+use Rattle.std.specs.Prelude.{◌≡◌, List, ℕ, codes}
 use Rattle.sp_spec.specs.Term.{Names, MadeOf, AllMadeOf, Term, Terms}
 use Rattle.sp_spec.specs.Signature.{Signature}
 use Rattle.sp_spec.specs.Formula.{Written, Formula, truth, falsity, happens, equals, precedes, not_so, both, either, implies, for_all, for_some}
-use Rattle.sp_spec.specs.Lists.{Member, Every}
+use Rattle.sp_spec.specs.Lists.{Every}
 use Rattle.sp_spec.specs.Rule.{Fact, Action}
 use Rattle.sp_spec.specs.Written.{WrittenRule}
 use Rattle.sp_law_equal.specs.RightTheory.{no_fresh_names}
 use Rattle.sp_law_equal.specs.Right.{AreTermsOver}
 use Rattle.sp_law_decide.specs.Normal.{IsConstructorTerm, AreConstructorTerms}
-use Rattle.sp_law_erase.specs.Adversary.{adversary_names}
 
 -- a constructor term over the signature, in which no fresh name stands
 abbrev pub IsBasicTerm : Signature → Term Written → Type 0
@@ -18,25 +18,19 @@ IsBasicTerm signature t = IsConstructorTerm signature t × MadeOf no_fresh_names
 abbrev pub AreBasicTerms : Signature → Terms Written → Type 0
 AreBasicTerms signature ts = AreConstructorTerms signature ts × AllMadeOf no_fresh_names (λ x. Unit {0}) ts
 
-abbrev pub IsBasicFact : Signature → Fact Written → Type 0
-IsBasicFact signature f = AreBasicTerms signature f.args × (Member f.symbol adversary_names → ⊥)
-
-abbrev pub IsBasicAction : Signature → Action Written → Type 0
-IsBasicAction signature a = AreBasicTerms signature a.args × (Member a.symbol adversary_names → ⊥)
-
 -- a destructor may stand in them
 abbrev pub AreOpenTerms : Signature → Terms Written → Type 0
 AreOpenTerms signature ts = AreTermsOver signature.symbols ts × AllMadeOf no_fresh_names (λ x. Unit {0}) ts
 
 pub record IsBasicRule (signature : Signature) (r : WrittenRule) : Type 0 where
-  pub premises : Every (IsBasicFact signature) r.facts.premises
-  pub actions : Every (λ (a : Action Written). AreOpenTerms signature a.args × (Member a.symbol adversary_names → ⊥)) r.facts.actions
-  pub conclusions : Every (λ (f : Fact Written). AreOpenTerms signature f.args × (Member f.symbol adversary_names → ⊥)) r.facts.conclusions
+  pub premises : Every (λ (f : Fact Written). AreBasicTerms signature f.args) r.facts.premises
+  pub actions : Every (λ (a : Action Written). AreOpenTerms signature a.args) r.facts.actions
+  pub conclusions : Every (λ (f : Fact Written). AreOpenTerms signature f.args) r.facts.conclusions
 
 abbrev pub IsBasicFormula : Signature → Formula → Type 0
 IsBasicFormula signature truth = Unit {0}
 IsBasicFormula signature falsity = Unit {0}
-IsBasicFormula signature (happens a i) = IsBasicAction signature a
+IsBasicFormula signature (happens a i) = AreBasicTerms signature a.args
 IsBasicFormula signature (equals t u) = IsBasicTerm signature t × IsBasicTerm signature u
 IsBasicFormula signature (precedes i j) = Unit {0}
 IsBasicFormula signature (not_so f) = IsBasicFormula signature f
@@ -45,6 +39,24 @@ IsBasicFormula signature (either f g) = IsBasicFormula signature f × IsBasicFor
 IsBasicFormula signature (implies f g) = IsBasicFormula signature f × IsBasicFormula signature g
 IsBasicFormula signature (for_all x f) = IsBasicFormula signature f
 IsBasicFormula signature (for_some x f) = IsBasicFormula signature f
+
+-- it is so of the name of each action in the formula
+abbrev pub OfActionNames : (List ℕ → Type 0) → Formula → Type 0
+OfActionNames P truth = Unit {0}
+OfActionNames P falsity = Unit {0}
+OfActionNames P (happens a i) = P a.symbol
+OfActionNames P (equals t u) = Unit {0}
+OfActionNames P (precedes i j) = Unit {0}
+OfActionNames P (not_so f) = OfActionNames P f
+OfActionNames P (both f g) = OfActionNames P f × OfActionNames P g
+OfActionNames P (either f g) = OfActionNames P f × OfActionNames P g
+OfActionNames P (implies f g) = OfActionNames P f × OfActionNames P g
+OfActionNames P (for_all x f) = OfActionNames P f
+OfActionNames P (for_some x f) = OfActionNames P f
+
+-- no action is named as what the adversary sends
+abbrev pub IsWithoutSends : Formula → Type 0
+IsWithoutSends f = OfActionNames (λ s. s ≡ codes "K" → ⊥) f
 
 -- the names in the formula are such ones
 abbrev pub HasNames : Names → Formula → Type 0

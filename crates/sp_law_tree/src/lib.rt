@@ -22,7 +22,7 @@ pub fn logs_show_executions()
     ensures { LogsShowExecutions }
 {}
 
-/// A text without findings has a right theory that leaves the adversary alone.
+/// A text without findings has a right theory.
 pub fn texts_are_right()
     ensures { TextsAreRight }
 {}

@@ -169,7 +169,7 @@ module _ (theory : Theory) where
 
   -- ---- one fault
 
-  split_same : (xs ys : List Entry) (x y : Entry) (bs cs : List Entry) → length xs ≡ length ys → xs ++ x ∷ bs ≡ ys ++ y ∷ cs → (xs ≡ ys) × (x ≡ y)
+  pub split_same : (xs ys : List Entry) (x y : Entry) (bs cs : List Entry) → length xs ≡ length ys → xs ++ x ∷ bs ≡ ys ++ y ∷ cs → (xs ≡ ys) × (x ≡ y)
   split_same [] [] x y bs cs l e = (refl, cc)
   split_same [] (z ∷ ys) x y bs cs l e = absurd (omega (arith, l))
   split_same (z ∷ xs) [] x y bs cs l e = absurd (omega (arith, l))
@@ -180,7 +180,7 @@ module _ (theory : Theory) where
       let same = r.0 in
       (cc, r.1)
 
-  split_longer : (xs ys : List Entry) (x y : Entry) (bs cs : List Entry) → length xs < length ys → xs ++ x ∷ bs ≡ ys ++ y ∷ cs → (zs : List Entry) × (ys ≡ xs ++ x ∷ zs)
+  pub split_longer : (xs ys : List Entry) (x y : Entry) (bs cs : List Entry) → length xs < length ys → xs ++ x ∷ bs ≡ ys ++ y ∷ cs → (zs : List Entry) × (ys ≡ xs ++ x ∷ zs)
   split_longer [] [] x y bs cs l e = absurd (omega (arith, l))
   split_longer [] (z ∷ ys) x y bs cs l e = let same : z ≡ x = cc in (ys, ap (λ w. w ∷ ys) same)
   split_longer (z ∷ xs) [] x y bs cs l e = absurd (omega (arith, l))

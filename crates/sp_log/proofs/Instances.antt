@@ -1,5 +1,6 @@
 -- The tests of an entry tell whether it is an instance of a rule in normal form: by completeness and soundness of the rule's forms.
 use Rattle.std.proofs.Common.{◌≡◌, ⊎_elim, ℕ, Bool, true, false, cond, ◌&&◌, List, [], ◌∷◌, map, Option, Some, None, unwrap_or, inl, inr, refl, sym, ap, ◌∙◌, subst}
+use Rattle.sp_law_run.proofs.Instances.{any_is_value}
 use Rattle.std.specs.Bool.{Decides}
 use Rattle.std.specs.List.{list_any}
 use Rattle.std.specs.Str.{bytes_eq}
@@ -7,7 +8,7 @@ use Rattle.std.proofs.lemmas.Bool.{and_parts, and_from, or_cases, or_left, or_ri
 use Rattle.std.proofs.lemmas.Slice.Eq.{bytes_eq-Decides}
 use Rattle.sp_spec.specs.Lists.{Member}
 use Rattle.sp_spec.proofs.Lists.{every_member}
-use Rattle.sp_spec.specs.Term.{Sort, Msg, Fresh, Pub, Variable, Ground, Values}
+use Rattle.sp_spec.specs.Term.{Variable, Ground, Values}
 use Rattle.sp_spec.specs.Same.{same_variable}
 use Rattle.sp_spec.specs.Signature.{Signature, IsValue, IsValuation}
 use Rattle.sp_spec.specs.Rule.{Fact, Action, Facts, Rule, fact_at, action_at, facts_at, IsNormalFormOf, OfArguments}
@@ -38,11 +39,6 @@ use Rattle.sp_log.proofs.Normal.{normal_form_tells, normal_form_passes}
 -- ---- the values that are found
 
 module _ (signature : Signature) where
-  any_is_value : (s : Sort) → IsValue signature s (any_of s)
-  any_is_value Msg = (tt, tt)
-  any_is_value Fresh = (tt, tt)
-  any_is_value Pub = (tt, tt)
-
   value_tells : (b : Bound) → is_value signature b ≡ true → IsValue signature b.0.sort b.1
   value_tells b e =
       let both = and_parts (has_sort b.0.sort b.1) (over signature.symbols b.1) e in
@@ -69,7 +65,7 @@ module _ (signature : Signature) where
   values_are bs e x = by_value (lookup bs x) refl
     where
       by_value : (o : Option Ground) → lookup bs x ≡ o → IsValue signature x.sort (unwrap_or o (any_of x.sort))
-      by_value None k = any_is_value x.sort
+      by_value None k = any_is_value signature x.sort
       by_value (Some t) k = found_is_value bs e x t k
 
   values_from : (w : Values) → IsValuation signature w → (bs : List Bound) → AgreeWith w bs → are_values signature bs ≡ true

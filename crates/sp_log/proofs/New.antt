@@ -16,16 +16,16 @@ not_true : (b : Bool) → not b ≡ true → b ≡ true → ⊥
 not_true true e t = true≢false (sym e)
 not_true false e t = true≢false (sym t)
 
-is_not : (b : Bool) → (b ≡ true → ⊥) → not b ≡ true
+pub is_not : (b : Bool) → (b ≡ true → ⊥) → not b ≡ true
 is_not true h = absurd (h refl)
 is_not false h = refl
 
 module _ {A : Type 0} (same : A → A → Bool) (decides : (x y : A) → Decides (same x y) (x ≡ y)) where
-  one_tells : (ys : List A) (x : A) → is_one_of same ys x ≡ true → Member x ys
+  pub one_tells : (ys : List A) (x : A) → is_one_of same ys x ≡ true → Member x ys
   one_tells [] x e = absurd cc
   one_tells (y ∷ ys) x e = ⊎_elim (λ h. inl ((decides y x).0 h)) (λ h. inr (one_tells ys x h)) (or_cases (same y x) (is_one_of same ys x) e)
 
-  one_from : (ys : List A) (x : A) → Member x ys → is_one_of same ys x ≡ true
+  pub one_from : (ys : List A) (x : A) → Member x ys → is_one_of same ys x ≡ true
   one_from [] x m = absurd m
   one_from (y ∷ ys) x (inl e) = or_left (same y x) (is_one_of same ys x) ((decides y x).1 e)
   one_from (y ∷ ys) x (inr m) = or_right (same y x) (is_one_of same ys x) (one_from ys x m)

@@ -1,7 +1,7 @@
 -- The tests of sources and of what is new tell what the definition of logs says.
-use Rattle.std.proofs.Common.{◌≡◌, ℕ, zero, suc, Bool, true, false, not, List, [], ◌∷◌, ◌++◌, length, slice_get, Option, Some, None, inl, inr, refl, sym, ap, ◌∙◌, subst, arith}
+use Rattle.std.proofs.Common.{◌≡◌, ℕ, zero, suc, true, not, List, [], ◌∷◌, ◌++◌, length, slice_get, Option, Some, None, inl, inr, refl, sym, ap, ◌∙◌, subst, arith}
 use Rattle.std.specs.Bool.{Decides}
-use Rattle.std.proofs.lemmas.Bool.{and_parts, and_from, eqb-true, eq-eqb}
+use Rattle.std.proofs.lemmas.Bool.{and_parts, and_from, eqb-true, eq-eqb, not-true, not_from_false}
 use Rattle.sp_spec.specs.Lists.{AtPlace, AtPosition, newest_first}
 use Rattle.sp_spec.specs.Rule.{Fact, in_of}
 use Rattle.sp_spec.specs.Log.{Source, fresh_rule, conclusion, Entry, step, send, learn, Log, is_fr, Concludes, HasSources}
@@ -12,7 +12,7 @@ use Rattle.sp_spec.proofs.Lists.{place_got}
 
 -- ---- places and positions
 
-place_found : {A : Type 0} (xs : List A) (k : ℕ) (x : A) → AtPlace xs k x → slice_get xs k ≡ Some x
+pub place_found : {A : Type 0} (xs : List A) (k : ℕ) (x : A) → AtPlace xs k x → slice_get xs k ≡ Some x
 place_found [] k x a = absurd a
 place_found (y ∷ ys) zero x a = ap Some a
 place_found (y ∷ ys) (suc k) x a = place_found ys k x a
@@ -43,25 +43,25 @@ is_later [] x p z (inr a) = absurd a
 is_later (y ∷ ys) x p z (inl a) = let e = a.0 ∙ length_one_more ys x in inl (omega (arith, e), a.1)
 is_later (y ∷ ys) x p z (inr a) = inr (is_later ys x p z a)
 
-position_there : {A : Type 0} (xs : List A) (p : ℕ) (z : A) → slice_get xs p ≡ Some z → AtPosition (newest_first xs) p z
+pub position_there : {A : Type 0} (xs : List A) (p : ℕ) (z : A) → slice_get xs p ≡ Some z → AtPosition (newest_first xs) p z
 position_there [] p z e = absurd cc
 position_there (x ∷ xs) zero z e =
     let same : x ≡ z = cc in
     subst (λ w. AtPosition (newest_first xs ++ x ∷ []) zero w) same (oldest (newest_first xs) x)
 position_there (x ∷ xs) (suc p) z e = later (newest_first xs) x p z (position_there xs p z e)
 
-position_found : {A : Type 0} (xs : List A) (p : ℕ) (z : A) → AtPosition (newest_first xs) p z → slice_get xs p ≡ Some z
+pub position_found : {A : Type 0} (xs : List A) (p : ℕ) (z : A) → AtPosition (newest_first xs) p z → slice_get xs p ≡ Some z
 position_found [] p z a = absurd a
 position_found (x ∷ xs) zero z a = ap Some (is_oldest (newest_first xs) x z a)
 position_found (x ∷ xs) (suc p) z a = position_found xs p z (is_later (newest_first xs) x p z a)
 
 -- ---- sources of premises
 
-is_fact_tells : (o : Option (Fact ⊥)) (f : Fact ⊥) → is_fact o f ≡ true → o ≡ Some f
+pub is_fact_tells : (o : Option (Fact ⊥)) (f : Fact ⊥) → is_fact o f ≡ true → o ≡ Some f
 is_fact_tells None f e = absurd cc
 is_fact_tells (Some g) f e = ap Some ((same_fact_tells g f).0 e)
 
-is_fact_from : (o : Option (Fact ⊥)) (f : Fact ⊥) → o ≡ Some f → is_fact o f ≡ true
+pub is_fact_from : (o : Option (Fact ⊥)) (f : Fact ⊥) → o ≡ Some f → is_fact o f ≡ true
 is_fact_from None f e = absurd cc
 is_fact_from (Some g) f e = (same_fact_tells g f).1 cc
 
@@ -89,14 +89,6 @@ module _ (earlier : List Entry) where
   concludes_from : (p k : ℕ) (f : Fact ⊥) (e : Entry) → AtPosition past p e → Concludes e k f → concludes (slice_get earlier p) k f ≡ true
   concludes_from p k f e at c = ap (λ o. concludes o k f) (position_found earlier p e at) ∙ entry_from e k f c
 
-  is_false : (b : Bool) → not b ≡ true → b ≡ false
-  is_false true e = absurd cc
-  is_false false e = refl
-
-  not_false : (b : Bool) → b ≡ false → not b ≡ true
-  not_false true e = absurd cc
-  not_false false e = refl
-
   sources_tell : (fs : List (Fact ⊥)) (os : List Source) → have_sources fs os earlier ≡ true → HasSources fs os past
   sources_tell [] [] e = tt
   sources_tell [] (o ∷ os) e = absurd cc
@@ -105,7 +97,7 @@ module _ (earlier : List Entry) where
   sources_tell (f ∷ fs) (conclusion p k ∷ os) e =
       let both = and_parts (has_source f (conclusion p k) earlier) (have_sources fs os earlier) e in
       let here = and_parts (not (is_fr f)) (concludes (slice_get earlier p) k f) both.0 in
-      (is_false (is_fr f) here.0, concludes_tells p k f here.1, sources_tell fs os both.1)
+      (not-true (is_fr f) here.0, concludes_tells p k f here.1, sources_tell fs os both.1)
 
   sources_from : (fs : List (Fact ⊥)) (os : List Source) → HasSources fs os past → have_sources fs os earlier ≡ true
   sources_from [] [] h = refl
@@ -113,7 +105,7 @@ module _ (earlier : List Entry) where
   sources_from (f ∷ fs) [] h = absurd h
   sources_from (f ∷ fs) (fresh_rule ∷ os) h = and_from _ _ h.0 (sources_from fs os h.1)
   sources_from (f ∷ fs) (conclusion p k ∷ os) h =
-      and_from _ _ (and_from _ _ (not_false (is_fr f) h.0) (concludes_from p k f h.1.0 h.1.1 h.1.2)) (sources_from fs os h.2)
+      and_from _ _ (and_from _ _ (not_from_false (is_fr f) h.0) (concludes_from p k f h.1.0 h.1.1 h.1.2)) (sources_from fs os h.2)
 
   pub sources_decide : (fs : List (Fact ⊥)) (os : List Source) → Decides (have_sources fs os earlier) (HasSources fs os past)
   sources_decide fs os = (sources_tell fs os, sources_from fs os)

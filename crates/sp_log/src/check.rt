@@ -52,8 +52,8 @@ pub struct Used {
     pub names: Vec<GroundTerm>,
 }
 
-// Whether the entry names no linear source again.
-fn sources_are_new(
+/// Whether the entry names no linear source again.
+pub fn sources_are_new(
     alloc: Global,
     entry: &Entry,
     named: &mut Vec<Source>,
@@ -66,8 +66,8 @@ fn sources_are_new(
     Ok(are_new)
 }
 
-// Whether the entry uses no fresh name again.
-fn names_are_new(
+/// Whether the entry uses no fresh name again.
+pub fn names_are_new(
     alloc: Global,
     entry: &Entry,
     used: &mut Vec<GroundTerm>,
@@ -80,8 +80,8 @@ fn names_are_new(
     Ok(are_new)
 }
 
-// Whether the entry is an instance, in normal form, of a rule of its name.
-fn entry_is_instance(
+/// Whether the entry is an instance, in normal form, of a rule of its name.
+pub fn entry_is_instance(
     alloc: Global,
     signature: &Signature,
     rules: &Vec<RuleForms>,

@@ -7,11 +7,11 @@
 #![tactic(auto)]
 
 pub mod check;
-mod copying;
+pub mod copying;
 pub mod execution;
 mod instance;
 pub mod log;
-mod names;
+pub mod names;
 mod normal_form;
-mod sources;
+pub mod sources;
 pub mod trace;

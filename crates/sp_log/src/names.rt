@@ -27,7 +27,8 @@ pub fn fresh_names(alloc: Global, premises: &Vec<GroundFact>) -> Result<Vec<Grou
     Ok(names)
 }
 
-fn is_one_of(names: &Vec<GroundTerm>, name: &GroundTerm) -> bool
+/// Whether the name is one of these.
+pub fn is_one_of(names: &Vec<GroundTerm>, name: &GroundTerm) -> bool
     ensures { result ≡ spec.is_one_of same_term (map ground_of names.now.items) (ground_of name.now) }
 {
     for other in names {

@@ -25,8 +25,8 @@ fn is_same(a: &GroundFact, b: &GroundFact) -> bool
     a.symbol == b.symbol && a.persistent == b.persistent && all_same(&a.args, &b.args)
 }
 
-// Whether the entry gives the fact as its conclusion of the place.
-fn concludes(entry: &Entry, place: usize, fact: &GroundFact) -> bool
+/// Whether the entry gives the fact as its conclusion of the place.
+pub fn concludes(entry: &Entry, place: usize, fact: &GroundFact) -> bool
     ensures { result ≡ spec.concludes (Some (entry_of entry.now)) place (ground_fact fact.now) }
 {
     match entry.facts.conclusions.get(place) {

@@ -1,6 +1,6 @@
 -- What the tests of symbols tell.
 use Rattle.std.proofs.Common.{◌≡◌, ℕ, Bool, true, false, not, ◌&&◌, List, [], ◌∷◌, length, ⊎_elim, inl, inr, refl, sym, ap, ◌∙◌}
-use Rattle.std.proofs.lemmas.Bool.{and_parts, and_from, or_cases, or_left, or_right, eqb-true, eq-eqb}
+use Rattle.std.proofs.lemmas.Bool.{and_parts, and_from, or_cases, or_left, or_right, eqb-true, eq-eqb, not-true}
 use Rattle.std.proofs.lemmas.Slice.Eq.{bytes_eq-Decides}
 use Rattle.std.specs.Bool.{Decides}
 use Rattle.sp_spec.specs.Term.{var, constant, name, app, none, more, Ground, Grounds, count}
@@ -10,7 +10,6 @@ use Rattle.sp_term.specs.declared.term.Term as memory
 use Rattle.sp_ground.specs.View.{grounds_of}
 use Rattle.sp_ground.proofs.Lists.{count_grounds}
 use Rattle.sp_norm.specs.Over.{is_symbol, any_symbol, any_public, over, all_over}
-use Rattle.sp_spec.proofs.Bools.{denied}
 
 abbrev made : List ℕ → ℕ → Bool → Symbol
 made f n p = record { name = f; arity = n; private = p }
@@ -42,7 +41,7 @@ any_public_tells : (symbols : List Symbol) (f : List ℕ) (n : ℕ) → any_publ
 any_public_tells [] f n e = absurd cc
 any_public_tells (s ∷ symbols) f n e =
     ⊎_elim
-    (λ h. let both = and_parts (is_symbol s f n) (not s.private) h in inl (is_symbol_tells s f n both.0 ∙ ap (made f n) (denied s.private both.1)))
+    (λ h. let both = and_parts (is_symbol s f n) (not s.private) h in inl (is_symbol_tells s f n both.0 ∙ ap (made f n) (not-true s.private both.1)))
     (λ h. inr (any_public_tells symbols f n h))
     (or_cases (is_symbol s f n && not s.private) (any_public symbols f n) e)
 

@@ -3,7 +3,7 @@ use Rattle.std.proofs.Common.{◌≡◌, ℕ, zero, suc, ◌+◌, ◌<◌, ◌==
 use Rattle.sp_spec_text.specs.Signs.{Sign}
 use Rattle.sp_spec_text.specs.Signs as s
 use Rattle.sp_spec_text.specs.Token.{Lexeme, word, constant, sign, solve}
-use Rattle.sp_spec_text.specs.Names.{IsName, is_reserved, is_adversarial, names_fact, mark_of, privacy_of}
+use Rattle.sp_spec_text.specs.Names.{IsName, is_reserved, is_learning, names_fact, mark_of, privacy_of}
 use Rattle.sp_place.specs.Parts.{Awaited}
 use Rattle.sp_place.specs.Parts as a
 use Rattle.sp_place.specs.Table.{next, takes, deep, code}
@@ -21,7 +21,7 @@ unfolding is_reserved
 x_named = refl
 
 fact_named : names_fact (codes "A") ≡ true
-unfolding is_reserved is_adversarial
+unfolding is_reserved is_learning
 fact_named = refl
 
 msg_sort : next a.Sort (word (codes "msg")) ≡ takes []

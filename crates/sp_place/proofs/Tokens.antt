@@ -3,7 +3,7 @@ use Rattle.std.proofs.Common.{◌≡◌, ℕ, ◌==◌, eqb-true, if◌then◌el
 use Rattle.std.proofs.lemmas.Slice.Eq.{bytes_eq-Decides}
 use Rattle.sp_spec_text.specs.Signs.{Sign}
 use Rattle.sp_spec_text.specs.Signs as s
-use Rattle.sp_spec_text.specs.Names.{is_reserved, is_capital, is_adversarial, names_fact}
+use Rattle.sp_spec_text.specs.Names.{is_reserved, is_capital, is_learning, names_fact}
 use Rattle.sp_place.specs.Table.{code}
 use Rattle.std.proofs.lemmas.Bool.{or_cases}
 
@@ -78,12 +78,12 @@ fact_name false b c e = absurd (let none : ⊥ = cc in none)
 
 -- what names a fact is a name
 pub fact_is_name : (w : List ℕ) → names_fact w ≡ true → is_reserved w ≡ false
-fact_is_name w e = fact_name (is_capital w) (is_reserved w) (is_adversarial w) e
+fact_is_name w e = fact_name (is_capital w) (is_reserved w) (is_learning w) e
 
 pub names_truth : names_fact (codes "T") ≡ true
-unfolding is_reserved is_adversarial
+unfolding is_reserved is_learning
 names_truth = refl
 
 pub names_falsity : names_fact (codes "F") ≡ true
-unfolding is_reserved is_adversarial
+unfolding is_reserved is_learning
 names_falsity = refl

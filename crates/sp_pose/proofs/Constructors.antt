@@ -1,6 +1,6 @@
 -- Terms over a text's symbols in which no destructor stands, told by name and arity, are constructor terms.
 use Rattle.std.proofs.Common.{◌≡◌, ℕ, Bool, true, false, not, ◌==◌, List, [], ◌∷◌, ◌++◌, codes, refl, sym, ◌∙◌, subst, true≢false}
-use Rattle.std.proofs.lemmas.Bool.{and_from, or_parts}
+use Rattle.std.proofs.lemmas.Bool.{and_from, or_parts, not-false}
 use Rattle.std.proofs.lemmas.Bool.Decides.{Decides-and, Decides-not, Decides-eqb}
 use Rattle.std.proofs.lemmas.Slice.Eq.{bytes_eq-Decides}
 use Rattle.std.specs.Str.{bytes_eq}
@@ -16,7 +16,6 @@ use Rattle.sp_conv.specs.Tests.{is_application, some_root, is_pair, is_destructo
 use Rattle.sp_conv.proofs.Tests.{some_root_from}
 use Rattle.sp_wf.specs.Finding.{Finding, unknown_symbol, told}
 use Rattle.sp_wf.specs.SymbolFindings.{has_symbol, unknown_in, unknown_in_all, has_destructor, have_destructor}
-use Rattle.sp_wf.proofs.Nothing.{not_not}
 use Rattle.sp_wf.proofs.UnknownClean.{has_tells}
 
 -- ---- lists without entries
@@ -61,7 +60,7 @@ module _ (s : Signature) (one : HaveOneArity s.symbols) (over : EquationsAreOver
     constructor_term (app f ts) e d =
         let known = not_told (not (has_symbol s.symbols f (count ts))) (unknown_symbol f (count ts)) (unknown_in_all s.symbols ts) e in
         let plain = or_parts (is_destructor s.equations f (count ts)) (have_destructor s.equations ts) d in
-        let has = has_tells s.symbols f (count ts) (not_not (has_symbol s.symbols f (count ts)) known.0) in
+        let has = has_tells s.symbols f (count ts) (not-false (has_symbol s.symbols f (count ts)) known.0) in
         (no_destructor s.symbols s.equations one over good f (count ts) has plain.0, has, constructor_terms ts known.1 plain.1)
 
     pub constructor_terms : (ts : Terms Written) → unknown_in_all s.symbols ts ≡ [] → have_destructor s.equations ts ≡ false → AreConstructorTerms s ts

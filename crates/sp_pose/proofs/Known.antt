@@ -1,5 +1,6 @@
 -- The rules of a text without findings are over its symbols, whether or not destructors stand in them.
 use Rattle.std.proofs.Common.{◌≡◌, ℕ, List, [], ◌∷◌, ◌++◌, not}
+use Rattle.std.proofs.lemmas.Bool.{not-false}
 use Rattle.sp_spec.specs.Lists.{Every}
 use Rattle.sp_spec.specs.Term.{Term, var, constant, name, app, Terms, none, more, count}
 use Rattle.sp_spec.specs.Signature.{Symbol, Equation}
@@ -15,7 +16,6 @@ use Rattle.sp_law_run.proofs.Written.{rules_over}
 use Rattle.sp_wf.specs.Finding.{unknown_symbol}
 use Rattle.sp_wf.specs.SymbolFindings.{has_symbol, unknown_in, unknown_in_all, unknown_in_facts, unknown_in_actions}
 use Rattle.sp_wf.specs.Laws.{IsFineRule}
-use Rattle.sp_wf.proofs.Nothing.{not_not}
 use Rattle.sp_wf.proofs.UnknownClean.{has_tells}
 use Rattle.sp_pose.specs.Problem.{Poses}
 use Rattle.sp_pose.proofs.Constructors.{none_left, not_told}
@@ -28,7 +28,7 @@ module _ (symbols : List Symbol) where
     term_over (name n) e = tt
     term_over (app f ts) e =
         let known = not_told (not (has_symbol symbols f (count ts))) (unknown_symbol f (count ts)) (unknown_in_all symbols ts) e in
-        (has_tells symbols f (count ts) (not_not (has_symbol symbols f (count ts)) known.0), terms_over ts known.1)
+        (has_tells symbols f (count ts) (not-false (has_symbol symbols f (count ts)) known.0), terms_over ts known.1)
 
     terms_over : (ts : Terms Written) → unknown_in_all symbols ts ≡ [] → AreTermsOver symbols ts
     terms_over none e = tt

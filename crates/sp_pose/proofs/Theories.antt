@@ -1,12 +1,14 @@
--- A text without findings has basic rules and lemmas: what the grammar spells has no fresh names and names nothing of the adversary's, and the findings tell of
+-- A text without findings has basic rules and lemmas: what the grammar spells has no fresh names and doesn't name learning, and the findings tell of
 -- symbols that aren't there and of destructors.
-use Rattle.std.proofs.Common.{ℕ, Bool, true, false, if◌then◌else◌, List, [], ◌∷◌, map, not, ◌&&◌}
-use Rattle.sp_spec.specs.Lists.{Member, Every, is_listed}
+use Rattle.std.proofs.Common.{ℕ, Bool, true, false, if◌then◌else◌, List, [], ◌∷◌, map, not, ◌&&◌, ◌≡◌, codes, bytes_eq, refl}
+use Rattle.sp_spec.specs.Lists.{Every, is_listed}
 use Rattle.sp_spec.specs.Term.{MadeOf, AllMadeOf, Term, var, constant, name, app, Terms, none, more, valued_all}
 use Rattle.sp_spec.specs.Signature.{Symbol}
 use Rattle.sp_spec.specs.Rule.{Fact, Action, fact_at, action_at}
 use Rattle.sp_spec.specs.Formula.{Written, Formula, truth, falsity, happens, equals, precedes, not_so, both, either, implies, for_all, for_some}
 use Rattle.sp_spec.specs.Theory.{Lemma}
+use Rattle.sp_spec.specs.Verdict.{names_learning}
+use Rattle.sp_wf.proofs.Nothing.{both_false}
 use Rattle.sp_spec.specs.Written.{WrittenRule}
 use Rattle.sp_spec.proofs.Lists.{every_map}
 use Rattle.sp_spec_text.specs.Token.{Lexeme}
@@ -17,12 +19,11 @@ use Rattle.sp_spec_text.specs.Shapes.{action_of, quantified}
 use Rattle.sp_spec_text.specs.Formulas.{SpellsTerm, fixed, variable, brackets, tuple, application, braced, SpellsTuple, last_part, next_part, SpellsArguments, no_argument, some_arguments, SpellsTerms, last_term, next_term, SpellsFact, linear, persistent, quantified_some, SpellsUnit, bracketed, every, there_is, true_unit, false_unit, action, equation, order, SpellsNegation, unit_alone, negated, SpellsConjunction, conjunction, SpellsAnds, no_more_and, and_then, SpellsDisjunction, disjunction, SpellsOrs, no_more_or, or_then, SpellsImplication, alone, implication, SpellsFormula, one, two, SpellsReach, reach_one, reach_two}
 use Rattle.sp_spec_text.specs.Theories.{SpellsFacts, facts, SpellsArrow, unlabelled, labelled, SpellsRule, rule, SpellsLemma, lemma, SpellsDeclaration, builtins, functions, equations, a_rule, SpellsItems, no_item, declaration_first, lemma_first, SpellsTheory, theory}
 use Rattle.sp_law_equal.specs.RightTheory.{no_fresh_names}
-use Rattle.sp_law_erase.specs.Adversary.{adversary_names}
-use Rattle.sp_pose.proofs.Named.{no_adversary, every_item}
+use Rattle.sp_pose.proofs.Named.{not_learning, every_item}
 
 -- ---- what the grammar spells
 
--- no fresh name stands in it
+-- no fresh name stands in it, and no fact is named as learning is
 abbrev pub IsSpelledTerm : Term Written → Type 0
 IsSpelledTerm t = MadeOf no_fresh_names (λ x. Unit {0}) t
 
@@ -30,10 +31,10 @@ abbrev pub AreSpelledTerms : Terms Written → Type 0
 AreSpelledTerms ts = AllMadeOf no_fresh_names (λ x. Unit {0}) ts
 
 abbrev pub IsSpelledFact : Fact Written → Type 0
-IsSpelledFact f = AreSpelledTerms f.args × (Member f.symbol adversary_names → ⊥)
+IsSpelledFact f = AreSpelledTerms f.args × (bytes_eq f.symbol (codes "KU") ≡ false)
 
 abbrev pub IsSpelledAction : Action Written → Type 0
-IsSpelledAction a = AreSpelledTerms a.args × (Member a.symbol adversary_names → ⊥)
+IsSpelledAction a = AreSpelledTerms a.args × (bytes_eq a.symbol (codes "KU") ≡ false)
 
 pub record IsSpelledRule (r : WrittenRule) : Type 0 where
   pub premises : Every IsSpelledFact r.facts.premises
@@ -75,8 +76,8 @@ mutual
   terms_spelled (next_term t ts) = (term_spelled t, terms_spelled ts)
 
 fact_spelled : {n : ℕ} {f : Fact Written} {tokens rest : List Lexeme} → SpellsFact n tokens f rest → IsSpelledFact f
-fact_spelled (linear {w = w} named within ts) = (arguments_spelled ts, no_adversary w named)
-fact_spelled (persistent {w = w} named within ts) = (arguments_spelled ts, no_adversary w named)
+fact_spelled (linear {w = w} named within ts) = (arguments_spelled ts, not_learning w named)
+fact_spelled (persistent {w = w} named within ts) = (arguments_spelled ts, not_learning w named)
 
 facts_spelled : {fs : List (Fact Written)} {tokens rest : List Lexeme} → SpellsFacts tokens fs rest → Every IsSpelledFact fs
 facts_spelled (facts items) = every_item IsSpelledFact (λ ts x us. fact_spelled) items
@@ -222,3 +223,17 @@ module _ (symbols : List Symbol) where
 
 pub theory_spelled : {tokens : List Lexeme} {t : WrittenText} → SpellsTheory tokens t → AreSpelled (theory_in t).rules (theory_in t).lemmas
 theory_spelled (theory {items = items} named h) = items_kept (all_symbols items) h
+
+-- a formula of the grammar doesn't name learning
+pub unlearnt : (f : Formula) → IsSpelledFormula f → names_learning f ≡ false
+unlearnt truth h = refl
+unlearnt falsity h = refl
+unlearnt (happens a i) h = h.1
+unlearnt (equals t u) h = refl
+unlearnt (precedes i j) h = refl
+unlearnt (not_so f) h = unlearnt f h
+unlearnt (both f g) h = both_false (unlearnt f h.0) (unlearnt g h.1)
+unlearnt (either f g) h = both_false (unlearnt f h.0) (unlearnt g h.1)
+unlearnt (implies f g) h = both_false (unlearnt f h.0) (unlearnt g h.1)
+unlearnt (for_all x f) h = unlearnt f h
+unlearnt (for_some x f) h = unlearnt f h

@@ -1,3 +1,4 @@
+pub mod Adversary
 pub mod Problem
 pub mod Asked
 pub mod Posed

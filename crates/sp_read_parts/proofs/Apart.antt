@@ -6,7 +6,7 @@ use Rattle.sp_spec_text.specs.Token.{Lexeme, word, sign}
 use Rattle.sp_spec.specs.Term.{Term, var}
 use Rattle.sp_spec.specs.Rule.{Fact}
 use Rattle.sp_spec.specs.Formula.{Written, Formula}
-use Rattle.sp_spec_text.specs.Names.{is_reserved, is_capital, is_adversarial, names_fact, mark_at}
+use Rattle.sp_spec_text.specs.Names.{is_reserved, is_capital, is_learning, names_fact, mark_at}
 use Rattle.sp_spec_text.specs.Lists.{IsNotFirst, NoReading}
 use Rattle.sp_read_parts.specs.Parts as f
 use Rattle.sp_read_parts.specs.Parts.{IsVariable, IsNoApplication, IsTerm, IsFact}
@@ -157,7 +157,7 @@ reserved_is_out true false c e h = cc
 reserved_is_out true true c e h = cc
 
 pub reserved_no_fact : (w : List ℕ) → is_reserved w ≡ true → names_fact w ≡ true → ⊥
-reserved_no_fact w e h = reserved_is_out (is_capital w) (is_reserved w) (not (is_adversarial w)) e h
+reserved_no_fact w e h = reserved_is_out (is_capital w) (is_reserved w) (not (is_learning w)) e h
 
 reserved_no_term : {n : ℕ} {w : List ℕ} {tokens rest : List Lexeme} {x : Term Written} → is_reserved w ≡ true → IsTerm n (word w ∷ tokens) x rest → ⊥
 reserved_no_term e (f.variable c h) = let i = variable_name h in let d : true ≡ false = sym e ∙ i in cc

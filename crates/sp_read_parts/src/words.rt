@@ -21,12 +21,12 @@ pub fn is_reserved(word: &str) -> bool
         || word == "solve"
 }
 
-/// Whether only the adversary's rules speak of facts of this name.
-#[tactic(auto, unfolding(sp_spec_text::specs::Names::is_adversarial))]
-pub fn is_adversarial(word: &str) -> bool
-    ensures { result ≡ names.is_adversarial word.now }
+/// Whether it is the action of learning, of which no theory speaks so far.
+#[tactic(auto, unfolding(sp_spec_text::specs::Names::is_learning))]
+pub fn is_learning(word: &str) -> bool
+    ensures { result ≡ names.is_learning word.now }
 {
-    word == "In" || word == "Out" || word == "K" || word == "KU" || word == "KD"
+    word == "KU"
 }
 
 /// Whether it begins with a capital.
@@ -43,7 +43,7 @@ pub fn is_capital(word: &str) -> bool
 pub fn names_fact(word: &str) -> bool
     ensures { result ≡ names.names_fact word.now }
 {
-    is_capital(word) && !is_reserved(word) && !is_adversarial(word)
+    is_capital(word) && !is_reserved(word) && !is_learning(word)
 }
 
 /// The mark that this word is, behind the colon of a variable.

@@ -36,7 +36,7 @@ ends_one : (behind us vs : List Token) {s t : Span} (p : Option WrittenProof) �
 ends_one behind us vs None h k e f = (h.1 ∙ e ∙ sym k.1, h.0 ∙ sym k.0)
 ends_one behind us vs (Some p) h k e f = behind_one h k f
 
-spans_word : {tokens : List Token} {x : Item} {items : List Item} {ss : List Span} → AreSpans tokens (x ∷ items) ss → StartsWord (lexemes tokens)
+pub spans_word : {tokens : List Token} {x : Item} {items : List Item} {ss : List Span} → AreSpans tokens (x ∷ items) ss → StartsWord (lexemes tokens)
 spans_word (past_declaration h e k) = declaration_word h
 spans_word (past_lemma l b c e h) = lemma_starts l
 

@@ -1,5 +1,6 @@
 -- Symbols from their parts, and each part that may be missing; what a part reads is what the grammar spells.
 use Rattle.std.proofs.Common.{◌≡◌, ℕ, Bool, true, false, true≢false, List, ◌∷◌, Some, None, refl, sym, ap, subst, ◌∙◌}
+use Rattle.std.proofs.Math.Bool.{or_assoc}
 use Rattle.std.specs.Prelude.{◌||◌}
 use Rattle.sp_spec_text.specs.Signs as s
 use Rattle.sp_spec_text.specs.Token.{Lexeme, word, sign}
@@ -89,10 +90,6 @@ pub record Marked (tokens : List Lexeme) (found : Bool) (rest : List Lexeme) : T
 pub marked_none : (tokens : List Lexeme) → Marked tokens false tokens
 marked_none tokens = record { goes = λ p r h. h; stops = λ n. n }
 
-or_again : (a b c : Bool) → (a || (b || c)) ≡ ((a || b) || c)
-or_again true b c = refl
-or_again false b c = refl
-
 or_none : (a b : Bool) → (a || (b || false)) ≡ (a || b)
 or_none true b = refl
 or_none false true = refl
@@ -116,7 +113,7 @@ none_behind h e n = record { none = λ p r k. at k h e n }
 
 pub marked_more : {tokens rest mid after : List Lexeme} {found a : Bool} → Marked tokens found rest → SpellsAttribute rest a mid → mid ≡ sign s.Comma ∷ after → Marked tokens (found || a) after
 marked_more {tokens} {found = b} {a = a} g h e = record {
-  goes = λ p r k. subst (λ (c : Bool). AreAttributes tokens c r) (or_again b a p) (g.goes (a || p) r (one_more h e k));
+  goes = λ p r k. subst (λ (c : Bool). AreAttributes tokens c r) (sym (or_assoc b a p)) (g.goes (a || p) r (one_more h e k));
   stops = λ n. g.stops (none_behind h e n);
 }
 

@@ -35,7 +35,7 @@ use Rattle.sp_law_tree.specs.BasicTheory.{IsBasicFormula}
 pub formula_constructors : (signature : Signature) (f : Formula) → IsBasicFormula signature f → HasConstructorTerms signature f
 formula_constructors signature truth h = tt
 formula_constructors signature falsity h = tt
-formula_constructors signature (happens a i) h = h.0.0
+formula_constructors signature (happens a i) h = h.0
 formula_constructors signature (equals t u) h = (h.0.0, h.1.0)
 formula_constructors signature (precedes i j) h = tt
 formula_constructors signature (not_so f) h = formula_constructors signature f h

@@ -1,11 +1,7 @@
--- Tests that are the same, and what the denial of one tells.
-use Rattle.std.proofs.Common.{◌≡◌, Bool, true, false, not, refl, sym}
+-- Tests that are the same.
+use Rattle.std.proofs.Common.{◌≡◌, Bool, true, false, refl, sym}
 
 pub same_tests : (a b : Bool) → (a ≡ true → b ≡ true) → (b ≡ true → a ≡ true) → a ≡ b
 same_tests true b f g = sym (f refl)
 same_tests false true f g = g refl
 same_tests false false f g = refl
-
-pub denied : (b : Bool) → not b ≡ true → b ≡ false
-denied true e = absurd cc
-denied false e = refl

@@ -5,6 +5,7 @@ pub mod Same
 pub mod Facts
 pub mod Sorts
 pub mod Listed
+pub mod Findings
 pub mod Occurrences
 pub mod Values
 pub mod Variables

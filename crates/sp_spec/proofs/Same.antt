@@ -5,7 +5,7 @@ use Rattle.std.proofs.lemmas.Slice.Eq.{bytes_eq-Decides}
 use Rattle.std.specs.Bool.{Decides}
 use Rattle.std.specs.Str.{bytes_eq}
 use Rattle.sp_spec.specs.Term.{Sort, Msg, Fresh, Pub, Variable, Term, var, constant, name, app, Terms, none, more, Ground, Grounds}
-use Rattle.sp_spec.specs.Same.{same_sort, same_variable, same_by, same_all_by, no_test, same_term, same_terms}
+use Rattle.sp_spec.specs.Same.{same_sort, same_variable, same_by, same_all_by, no_test, same_term, same_terms, alike}
 
 same_sort_tells : (s u : Sort) → same_sort s u ≡ true → s ≡ u
 same_sort_tells Msg Msg e = refl
@@ -80,6 +80,9 @@ module _ {V : Type 0} (test : V → V → Bool) (decides : (x y : V) → Decides
 
   pub same_all_by_decides : (ts us : Terms V) → Decides (same_all_by test ts us) (ts ≡ us)
   same_all_by_decides ts us = (same_all_tells ts us, λ e. subst (λ (ws : Terms V). same_all_by test ts ws ≡ true) e (same_all_itself ts))
+
+pub alike_same : (t u : Term Variable) → alike t u ≡ true → t ≡ u
+alike_same t u e = (same_by_decides same_variable same_variable_decides t u).0 e
 
 pub no_test_decides : (x y : ⊥) → Decides (no_test x y) (x ≡ y)
 no_test_decides x y = absurd x

@@ -1,5 +1,5 @@
 -- What is wrong with a written rule though its grammar is right: the fatal findings on its facts, its actions and its variables. Source:
--- Tamarin manual, "Checking well-formedness".
+-- Tamarin manual, "Checking well-formedness" and "Built-in facts" (which facts are reserved).
 use Rattle.std.specs.Prelude.{ℕ, Bool, true, false, ◌&&◌, ◌||◌, nat_lt, not, List, [], ◌∷◌, codes}
 use Rattle.std.specs.Str.{bytes_eq}
 use Rattle.sp_spec.specs.Term.{Sort, Msg, Fresh, Pub, var, Terms, none, more, count}
@@ -40,7 +40,6 @@ abbrev pub has_two_sorts : Facts Written → List Written → Bool
 has_two_sorts facts [] = false
 has_two_sorts facts (x ∷ xs) = not (agrees (is_fr_argument x.name facts.premises) (sort_in facts x.name) x.mark) || has_two_sorts facts xs
 
--- Fr is linear, has one argument, and is no conclusion
 abbrev pub is_fr_named : Fact Written → Bool
 is_fr_named f = bytes_eq f.symbol (codes "Fr")
 
@@ -48,13 +47,42 @@ abbrev pub is_one : {V : Type 0} → Terms V → Bool
 is_one (more t none) = true
 is_one ts = false
 
+-- facts that rules and the built-in rules share: they are linear, and have one argument
+unfoldable pub is_shared : List ℕ → Bool
+is_shared w = bytes_eq w (codes "Fr") || bytes_eq w (codes "In") || bytes_eq w (codes "Out")
+
+abbrev pub is_misused : Fact Written → Bool
+is_misused f = is_shared f.symbol && (f.persistent || not (is_one f.args))
+
+-- what the built-in rules alone take, and what only definitions of them name
+unfoldable pub is_no_premise : List ℕ → Bool
+is_no_premise w = bytes_eq w (codes "Out") || bytes_eq w (codes "K") || bytes_eq w (codes "KU") || bytes_eq w (codes "KD")
+
+-- what they alone show
+unfoldable pub is_no_action : List ℕ → Bool
+is_no_action w = bytes_eq w (codes "K") || bytes_eq w (codes "KU") || bytes_eq w (codes "KD")
+
+-- what they alone add
+unfoldable pub is_no_conclusion : List ℕ → Bool
+is_no_conclusion w = bytes_eq w (codes "In") || bytes_eq w (codes "Fr") || bytes_eq w (codes "K") || bytes_eq w (codes "KU") || bytes_eq w (codes "KD")
+
+abbrev pub is_wrong_premise : Fact Written → Bool
+is_wrong_premise f = is_no_premise f.symbol || is_misused f
+
+abbrev pub is_wrong_conclusion : Fact Written → Bool
+is_wrong_conclusion f = is_no_conclusion f.symbol || is_misused f
+
 abbrev pub has_wrong_premise : List (Fact Written) → Bool
 has_wrong_premise [] = false
-has_wrong_premise (f ∷ fs) = (is_fr_named f && (f.persistent || not (is_one f.args))) || has_wrong_premise fs
+has_wrong_premise (f ∷ fs) = is_wrong_premise f || has_wrong_premise fs
 
-abbrev pub has_fr : List (Fact Written) → Bool
-has_fr [] = false
-has_fr (f ∷ fs) = is_fr_named f || has_fr fs
+abbrev pub has_wrong_action : List (Action Written) → Bool
+has_wrong_action [] = false
+has_wrong_action (a ∷ rest) = is_no_action a.symbol || has_wrong_action rest
+
+abbrev pub has_wrong_conclusion : List (Fact Written) → Bool
+has_wrong_conclusion [] = false
+has_wrong_conclusion (f ∷ fs) = is_wrong_conclusion f || has_wrong_conclusion fs
 
 -- the argument of Fr is a variable of sort fresh or msg
 abbrev pub may_be_fresh : Mark → Bool
@@ -89,6 +117,6 @@ abbrev pub rule_is_wrong : WrittenRule → Bool
 rule_is_wrong r =
     (has_wide_fact r.facts.premises || (has_wide_action r.facts.actions || has_wide_fact r.facts.conclusions))
     || (has_two_sorts r.facts (occurrences r.facts)
-    || (has_wrong_premise r.facts.premises || (has_fr r.facts.conclusions
+    || (has_wrong_premise r.facts.premises || (has_wrong_action r.facts.actions || (has_wrong_conclusion r.facts.conclusions
     || (has_wrong_argument r.facts.premises
-    || (has_unbound r.facts (in_actions r.facts.actions) || has_unbound r.facts (in_facts r.facts.conclusions))))))
+    || (has_unbound r.facts (in_actions r.facts.actions) || has_unbound r.facts (in_facts r.facts.conclusions)))))))

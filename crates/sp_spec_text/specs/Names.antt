@@ -31,12 +31,12 @@ abbrev pub is_capital : List ℕ → Bool
 is_capital [] = false
 is_capital (b ∷ bytes) = is_ascii_uppercase b
 
--- facts that only the adversary's rules speak of; no theory without an adversary names them
-unfoldable pub is_adversarial : List ℕ → Bool
-is_adversarial w = bytes_eq w (codes "In") || bytes_eq w (codes "Out") || bytes_eq w (codes "K") || bytes_eq w (codes "KU") || bytes_eq w (codes "KD")
+-- the action of learning, of which no theory speaks so far
+unfoldable pub is_learning : List ℕ → Bool
+is_learning w = bytes_eq w (codes "KU")
 
 abbrev pub names_fact : List ℕ → Bool
-names_fact w = is_capital w && not (is_reserved w) && not (is_adversarial w)
+names_fact w = is_capital w && not (is_reserved w) && not (is_learning w)
 
 -- the word behind the colon of a variable
 unfoldable pub mark_of : List ℕ → Option Mark

@@ -10,16 +10,18 @@ use std::alloc::{AllocError, Global};
 use std::rc::Rc;
 use std::test::Fail;
 
-fn x() -> Term {
+// the first variable
+pub(crate) fn x() -> Term {
     variable(Sort::Msg, 0)
 }
 
-fn y() -> Term {
+// the second
+pub(crate) fn y() -> Term {
     variable(Sort::Msg, 1)
 }
 
 // The symbol over these arguments.
-fn over(alloc: Global, symbol: &str, args: Vec<Term>) -> Result<Term, AllocError> {
+pub(crate) fn over(alloc: Global, symbol: &str, args: Vec<Term>) -> Result<Term, AllocError> {
     let name = Name::new(alloc, symbol)?;
     let nesting = nesting_over(&args)?;
     Ok(Term::App(name, Rc::new(alloc, args)?, nesting))

@@ -3,9 +3,7 @@
 use sp_declared::equations::equations;
 use sp_declared::resolved::resolved;
 use sp_declared::symbols::symbols;
-use sp_finding::rule_is_wrong;
 use sp_read_theory::read_theory;
-use sp_test_make::texts::rule_in;
 use sp_wf::report;
 use std::alloc::Global;
 use std::test::Fail;
@@ -21,35 +19,8 @@ fn report_on(alloc: Global, text: &[u8]) -> Result<Vec<u8>, Fail> {
 }
 
 #[test]
-fn wrong_rules_are_found(rt: HostRuntime) -> Result<(), Fail> {
-    let wanted: [([&[u8]; 3], bool); 9] = [
-        ([b"Fr(~k) ]", b"A(~k) ]", b"B(k) ]"], false),
-        ([b"]", b"A($x,'c') ]", b"]"], false),
-        ([b"]", b"A(x) ]", b"]"], true),
-        ([b"B(~k) ]", b"A(k) ]", b"]"], true),
-        ([b"!Fr(~k) ]", b"]", b"]"], true),
-        ([b"Fr() ]", b"]", b"]"], true),
-        ([b"Fr('c') ]", b"]", b"]"], true),
-        ([b"]", b"]", b"Fr($x) ]"], true),
-        (
-            [
-                b"]",
-                b"]",
-                b"B($a,$a,$a,$a,$a,$a,$a,$a,$a,$a,$a,$a,$a,$a,$a,$a,$a) ]",
-            ],
-            true,
-        ),
-    ];
-    for (parts, wrong) in wanted {
-        let rule = rule_in(rt.alloc(), "R", parts)?;
-        assert_eq!(rt; rule_is_wrong(rt.alloc(), &rule)?, wrong, "{parts:?}");
-    }
-    Ok(())
-}
-
-#[test]
 fn items_are_reported_on(rt: HostRuntime) -> Result<(), Fail> {
-    let wanted: [(&[u8], &str); 11] = [
+    let wanted: [(&[u8], &str); 16] = [
         (
             b"theory T begin rule R: [ A(x, y, ~y, ~x) ] --> [ ] end",
             "fatal: rule R: variable x has two sorts\nfatal: rule R: variable y has two sorts\n",
@@ -65,6 +36,26 @@ fn items_are_reported_on(rt: HostRuntime) -> Result<(), Fail> {
         (
             b"theory T begin rule R: [ !Fr(k) ] --> [ Fr($l), Fr() ] end",
             "fatal: rule R: reserved fact Fr\n",
+        ),
+        (
+            b"theory T begin rule R: [ Out(x), K(y), KD('c'), In(x) ] --[ K(x), KD(), In(x), Fr(x, y) ]-> [ In(x), K(x), KD(x), Out(x) ] end",
+            "fatal: rule R: reserved fact Out\nfatal: rule R: reserved fact K\nfatal: rule R: reserved fact KD\nfatal: rule R: reserved fact In\n",
+        ),
+        (
+            b"theory T begin rule R: [ !In(x) ] --[ K() ]-> [ Out(x, x) ] end",
+            "fatal: rule R: reserved fact In\nfatal: rule R: reserved fact K\nfatal: rule R: reserved fact Out\n",
+        ),
+        (
+            b"theory T begin rule R: [ Fr(), In() ] --> [ !Out('c') ] end",
+            "fatal: rule R: reserved fact Fr\nfatal: rule R: reserved fact In\nfatal: rule R: reserved fact Out\n",
+        ),
+        (
+            b"theory T begin rule R: [ In(x), Fr(~k) ] --[ In(x, x), Out(~k), Fr() ]-> [ Out(<x, ~k>) ] end",
+            "",
+        ),
+        (
+            b"theory T begin lemma l: \"All x #i. K(x)@i ==> (Ex #j. Out(x, x)@j) | (Ex #j. KD()@j)\" end",
+            "",
         ),
         (
             b"theory T begin rule R: [ Fr('c') ] --[ Fr('c', 'd') ]-> [ ] end",

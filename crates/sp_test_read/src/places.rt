@@ -69,7 +69,7 @@ fn formula_refused_at(alloc: Global, formula: &[u8]) -> Result<Option<usize>, Al
 #[test]
 fn formulas_are_refused_at_their_first_wrong_token(rt: HostRuntime) -> Result<(), Fail> {
     // places behind the first quote
-    let wanted: [(&[u8], Option<usize>); 30] = [
+    let wanted: [(&[u8], Option<usize>); 31] = [
         (b"(x) = y", None),
         (b"((x) = y)", None),
         (b"(T)", None),
@@ -93,7 +93,8 @@ fn formulas_are_refused_at_their_first_wrong_token(rt: HostRuntime) -> Result<()
         (b"not (not T)", None),
         (b"F() @ i", None),
         (b"F(x:fresh, 'a') @ #i", None),
-        (b"In(x) @ i", Some(6)),
+        (b"In(x) @ i", None),
+        (b"KU(x) @ i", Some(6)),
         (b"x:day = y", Some(2)),
         (b"All . T", Some(4)),
         (b"All x = T", Some(6)),

@@ -46,7 +46,7 @@ fn theories_are_read(rt: HostRuntime) -> Result<(), Fail> {
         (b"theory T begin lemma a: \"T & \" end", None),
         (b"theory T begin rule R: [ ] --> [ ] \"T\" end", None),
         (b"theory end begin end", None),
-        (b"theory T begin rule R: [In('c')] --> [] end", None),
+        (b"theory T begin rule R: [KU('c')] --> [] end", None),
         (b"theory T begin rule R: [B(x,)] --> [] end", None),
         (b"theory T begin rule let: [] --> [] end", None),
         (

@@ -6,6 +6,8 @@
 #![tactic(auto)]
 
 #[cfg(test)]
+mod adversary;
+#[cfg(test)]
 mod answers;
 #[cfg(test)]
 mod calls;

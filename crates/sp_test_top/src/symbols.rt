@@ -123,7 +123,7 @@ lemma paired: exists-trace \"Ex x #i. Made(x, c)@i & (Ex c #j. Shown(c, x)@j)\"
 end
 ";
 
-/// Lines behind it, the status, and the answer. (Out isn't in the language yet, so it is left out of the text.)
+/// Lines behind it, the status, and the answer.
 const STEPS: [(&str, u8, &str); 12] = [
     (
         "fresh ~n1\nrule Key: k = sdec(senc(~n1, 'x'), 'x')\nrule Show: k = ~n1\nrule Take:\n",
@@ -167,9 +167,8 @@ const STEPS: [(&str, u8, &str); 12] = [
 #[test]
 fn steps_with_symbols_are_replayed(rt: HostRuntime) -> Result<(), Fail> {
     let alloc = rt.alloc();
-    let keys = KEYS.replace(alloc, ", Out(g(~k))", "")?;
     for (lines, status, answer) in &STEPS {
-        let text = format!(in alloc; "{keys}{lines}")?;
+        let text = format!(in alloc; "{KEYS}{lines}")?;
         assert_answer(&rt, alloc, "replay", text.as_str(), *status, answer)?;
     }
     Ok(())

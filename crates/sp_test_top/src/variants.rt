@@ -13,19 +13,19 @@ const LISTED: [(&str, &str); 8] = [
   [ !Pk(pk(v0)), M(v1, sign(v1, v0)) ] --[ Eq(true, true) ]-> [ ]
 ",
     ),
-    // the ninth worked row's rules, with M for In and N for Out
+    // the ninth worked row's rules
     (
         "builtins: signing
 rule Key: [ Fr(~k) ] --> [ !Pk(pk(~k)), !Sk(~k) ]
-rule Sign: [ !Sk(k), Fr(~m) ] --[ Signed(~m) ]-> [ N(<~m, sign(~m, k)>) ]
-rule Check: [ !Pk(p), M(<m, s>) ] --[ Eq(verify(s, m, p), true), Accepted(m) ]-> [ ]",
+rule Sign: [ !Sk(k), Fr(~m) ] --[ Signed(~m) ]-> [ Out(<~m, sign(~m, k)>) ]
+rule Check: [ !Pk(p), In(<m, s>) ] --[ Eq(verify(s, m, p), true), Accepted(m) ]-> [ ]",
         "rule Key: 1 forms
   [ Fr(~v0) ] --[ ]-> [ !Pk(pk(~v0)), !Sk(~v0) ]
 rule Sign: 1 forms
-  [ !Sk(v0), Fr(~v1) ] --[ Signed(~v1) ]-> [ N(<~v1, sign(~v1, v0)>) ]
+  [ !Sk(v0), Fr(~v1) ] --[ Signed(~v1) ]-> [ Out(<~v1, sign(~v1, v0)>) ]
 rule Check: 2 forms
-  [ !Pk(v0), M(<v1, v2>) ] --[ Eq(verify(v2, v1, v0), true), Accepted(v1) ]-> [ ]
-  [ !Pk(pk(v0)), M(<v1, sign(v1, v0)>) ] --[ Eq(true, true), Accepted(v1) ]-> [ ]
+  [ !Pk(v0), In(<v1, v2>) ] --[ Eq(verify(v2, v1, v0), true), Accepted(v1) ]-> [ ]
+  [ !Pk(pk(v0)), In(<v1, sign(v1, v0)>) ] --[ Eq(true, true), Accepted(v1) ]-> [ ]
 ",
     ),
     // destructors within destructors: where the outer one takes what the inner one gives, both equations are used

@@ -24,7 +24,7 @@ use Rattle.sp_analysis.specs.Sought.{Setting, setting_of}
 use Rattle.sp_analysis.specs.Analysis.{Outcome, counted, summary, AreOutcomes}
 use Rattle.sp_analysis.specs.Checking.{Judged, checked_text, AreJudged}
 use Rattle.sp_analysis.specs.Laws.{Means, AreReadBack, JudgedRightly}
-use Rattle.sp_analysis.proofs.Right.{lemmas_unlearnt}
+use Rattle.sp_pose.proofs.BasicTheories.{lemmas_unlearnt}
 use Rattle.sp_analysis.proofs.ReadBack.{executions_are_read_back_lem}
 use Rattle.sp_top.specs.Command.{Request, IsAbout, IsLine}
 use Rattle.sp_top.specs.Headline.{LinesAreTrue, Tells, VerdictsAreTrue}
@@ -51,7 +51,7 @@ record IsKnown (text : WrittenText) (lemma : Lemma) : Type 0 where
   unlearnt : names_learning lemma.formula ≡ false
 
 all_known : (bytes : List ℕ) (text : WrittenText) → Poses bytes text → Every (IsKnown text) (theory_in text).lemmas
-all_known bytes text posing = go (theory_in text).lemmas (λ l m. m) (texts_have_names_lem.lemmas bytes text posing.says) (lemmas_unlearnt text posing)
+all_known bytes text posing = go (theory_in text).lemmas (λ l m. m) (texts_have_names_lem.lemmas bytes text posing.says) (lemmas_unlearnt posing)
   where
     go : (ls : List Lemma) → ((l : Lemma) → Member l ls → Member l (theory_in text).lemmas) → Every (λ (l : Lemma). IsNameWord l.name) ls → Every (λ (l : Lemma). names_learning l.formula ≡ false) ls
         → Every (IsKnown text) ls
@@ -102,7 +102,7 @@ tried_true : (budget : ℕ) (bytes text : List ℕ) (status : Status) → TriedR
 tried_true budget bytes text status r told behind_end =
     let written = r.analysis.theory in
     let theory = theory_of (theory_in written) in
-    let posing = r.analysis.poses in
+    let posing = r.analysis.poses.poses in
     let names = texts_have_names_lem.symbols bytes written posing.says in
     let ts = map told_of r.outcomes in
     let right = outcomes_told written (setting_of (theory_in written)) budget (theory_in written).lemmas r.outcomes (all_known bytes written posing) r.analysis.outcomes_are r.right
@@ -121,7 +121,7 @@ checked_true : (bytes text : List ℕ) (status : Status) → CheckedRightly byte
 checked_true bytes text status r =
     let written = r.checking.theory in
     let theory = theory_of (theory_in written) in
-    let posing = r.checking.poses in
+    let posing = r.checking.poses.poses in
     let names = texts_have_names_lem.symbols bytes written posing.says in
     let ts = map told_on r.judged in
     let right = judged_told written (setting_of (theory_in written)) (lemmas_with_proofs (resolved written).items) r.judged (all_known bytes written posing) r.checking.judged_are r.right

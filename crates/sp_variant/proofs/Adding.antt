@@ -1,5 +1,6 @@
 -- Lists that others are added to, unless the same stands there.
 use Rattle.std.proofs.Common.{◌≡◌, ℕ, ◌+◌, ◌<◌, Bool, true, false, not, cond, ◌&&◌, ◌||◌, List, [], ◌∷◌, ◌++◌, drop, length, get_or, append-nil, append_assoc, refl, sym, ap, ◌∙◌, true≢false}
+use Rattle.std.proofs.lemmas.Bool.{not-false}
 use Rattle.std.specs.List.{filter, list_any}
 use Rattle.sp_spec.proofs.Lists.{next_there}
 use Rattle.sp_spec_forms.specs.Numbering.{without_repeats}
@@ -40,10 +41,6 @@ module _ {A : Type 0} (same : A → A → Bool) where
       at y true e = refl
       at y false e = h y e
 
-  not_false : (b : Bool) → not b ≡ false → b ≡ true
-  not_false true e = refl
-  not_false false e = sym e
-
   -- whether it is none of these
   abbrev is_new : List A → A → Bool
   is_new before y = not (list_any (λ z. same z y) before)
@@ -79,7 +76,7 @@ module _ {A : Type 0} (same : A → A → Bool) where
         at : (b : Bool) → list_any (λ y. same y x) before ≡ b → ((ys : List A) → added_after same ys xs ≡ ys ++ filter (is_new ys) (without_repeats same xs))
             → added_after same (cond b before (before ++ x ∷ [])) xs
             ≡ before ++ cond (not b) (x ∷ filter (is_new before) (filter (λ y. not (same x y)) (without_repeats same xs))) (filter (is_new before) (filter (λ y. not (same x y)) (without_repeats same xs)))
-        at true e more = more before ∙ ap (λ ys. before ++ ys) (filter_kept (is_new before) (λ y. not (same x y)) (λ y k. any_along x y (not_false (same x y) k) before e) (without_repeats same xs))
+        at true e more = more before ∙ ap (λ ys. before ++ ys) (filter_kept (is_new before) (λ y. not (same x y)) (λ y k. any_along x y (not-false (same x y) k) before e) (without_repeats same xs))
         at false e more =
             more (before ++ x ∷ [])
             ∙ append_assoc before (x ∷ []) (filter (is_new (before ++ x ∷ [])) (without_repeats same xs))

@@ -1,13 +1,12 @@
 -- Which findings stand on equations, by their forms and by whether they clash.
 use Rattle.std.proofs.Common.{◌≡◌, ◌<◌, ◌+◌, ◌-◌, ℕ, Bool, true, false, not, ◌&&◌, ◌||◌, List, ◌∷◌, map, take, drop, length, get_or, MatchOption, is_some, Option, Some, None, refl, sym, ap, ap₂, ◌∙◌}
-use Rattle.std.proofs.lemmas.Bool.{and_right, both_ways, false_from_ne_true, not_from_false}
+use Rattle.std.proofs.lemmas.Bool.{and_right, both_ways, false_from_ne_true, not_from_false, not-true}
 use Rattle.std.proofs.lemmas.List.{take_rest}
 use Rattle.sp_spec.specs.Term.{Variable, Term, valued}
 use Rattle.sp_spec.specs.Same.{alike}
 use Rattle.sp_spec.specs.Signature.{Symbol, Equation}
 use Rattle.sp_spec.specs.Substitution.{Binding, bound_to}
 use Rattle.sp_spec.specs.Unifier.{mgu}
-use Rattle.sp_spec.proofs.Bools.{denied}
 use Rattle.sp_spec_text.specs.Declared.{Numbered}
 use Rattle.sp_spec_forms.specs.Shifted.{shifted}
 use Rattle.sp_law_conv.specs.Clash.{DoClash, DoClashBy, apart, overlap}
@@ -91,7 +90,7 @@ module _ (d e : Equation) where
   by_bindings : (o : Option (List Binding)) → mgu (overlap d e) ≡ o → differ_by d e o ≡ true → DoClash d e
   by_bindings None u h = absurd cc
   by_bindings (Some bs) u h =
-      (bs, record { unified = u; differ = λ k. both_ways (alike (left_under bs) (right_under bs)) (denied (alike (left_under bs) (right_under bs)) h) ((alike_decides (left_under bs) (right_under bs)).1 k) })
+      (bs, record { unified = u; differ = λ k. both_ways (alike (left_under bs) (right_under bs)) (not-true (alike (left_under bs) (right_under bs)) h) ((alike_decides (left_under bs) (right_under bs)).1 k) })
 
   pub clash_tells : do_clash d e ≡ true → DoClash d e
   clash_tells h = by_bindings (mgu (overlap d e)) refl h

@@ -4,10 +4,10 @@ use Rattle.std.proofs.lemmas.Bool.{and_parts, or_cases}
 use Rattle.std.specs.List.{flat_map}
 use Rattle.sp_spec.specs.Lists.{Member, Every}
 use Rattle.sp_spec.specs.Term.{Variable, Term}
-use Rattle.sp_spec.specs.Same.{same_variable, alike}
+use Rattle.sp_spec.specs.Same.{alike}
 use Rattle.sp_spec.specs.Signature.{Symbol, Equation, pair_symbols, pair_equations}
 use Rattle.sp_spec.specs.Formula.{Written}
-use Rattle.sp_spec.proofs.Same.{same_variable_decides, same_by_decides}
+use Rattle.sp_spec.proofs.Same.{alike_same}
 use Rattle.sp_spec.proofs.Lists.{every_member, every_append, every_parts}
 use Rattle.sp_spec_text.specs.Declared.{Builtin, hashing, symmetric_encryption, asymmetric_encryption, signing, revealing_signing, builtin_of, builtin_symbols, builtin_equations, symbols_of, equations_of, equation_names, equation_variable, equation_of, is_same_equation, stands_among, Numbered, new_equations, without_number, numbered_from, their_equations}
 use Rattle.sp_law_equal.specs.Right.{IsTermOver}
@@ -98,14 +98,11 @@ module _ (symbols : List Symbol) where
 
 -- ---- one that equals an earlier one is passed over
 
-alike_tells : (t u : Term Variable) → alike t u ≡ true → t ≡ u
-alike_tells t u = (same_by_decides same_variable same_variable_decides t u).0
-
 abbrev equation : Term Variable → Term Variable → Equation
 equation l r = record { left = l; right = r }
 
 same_tells : (d e : Equation) → is_same_equation d e ≡ true → d ≡ e
-same_tells d e h = let k = and_parts (alike d.left e.left) (alike d.right e.right) h in ap₂ equation (alike_tells d.left e.left k.0) (alike_tells d.right e.right k.1)
+same_tells d e h = let k = and_parts (alike d.left e.left) (alike d.right e.right) h in ap₂ equation (alike_same d.left e.left k.0) (alike_same d.right e.right k.1)
 
 among_member : (e : Equation) (ds : List Equation) → stands_among e ds ≡ true → Member e ds
 among_member e [] h = absurd cc

@@ -15,8 +15,7 @@ use Rattle.sp_wf.specs.Finding.{Finding, arity_above, without_binder, other_sort
 use Rattle.sp_wf.specs.FormulaFindings.{wide_in, Role, as_message, as_time, Use, uses_as, role_of, uses, is_unbound, is_mixed, unbound_uses, other_uses, mixed_uses, wide_in_lemma, unbound_in_lemma, sorts_in_lemma, mixed_in_lemma, unguarded_at, unguarded_in_lemma}
 use Rattle.sp_wf.specs.Sought.{is_there}
 use Rattle.sp_wf.proofs.Nothing.{both_true, and_grouped, told_not, told_step, none_append}
-use Rattle.sp_spec.proofs.Bools.{denied}
-use Rattle.std.proofs.lemmas.Bool.{and_right, and_parts, not_from_false}
+use Rattle.std.proofs.lemmas.Bool.{and_right, and_parts, not_from_false, not-true}
 
 -- actions of too many arguments
 not_or : (a b : Bool) → (not a && not b) ≡ not (a || b)
@@ -251,7 +250,7 @@ clean_has_form l c =
     let looked = ap (λ (b : Bool). are_none (if b then unguarded_at l.name (first_unguarded f) else [])) (both_true c.unbound (both_true c.sorts c.mixed)) in
     let none = none_named l.name (first_unguarded f) (sym looked ∙ c.unguarded) in
     let guarded = (guarded_told f form.0 form.1).0 none in
-    (form.0, ap (if_right f) form.1 ∙ chosen_some f form.0 guarded (sym (none_other l.name [] f) ∙ c.sorts) (denied (has_wide f) (sym (none_wide f) ∙ c.wide)))
+    (form.0, ap (if_right f) form.1 ∙ chosen_some f form.0 guarded (sym (none_other l.name [] f) ∙ c.sorts) (not-true (has_wide f) (sym (none_wide f) ∙ c.wide)))
 
 -- what a form without findings says
 record Right (f : Formula) : Type 0 where
@@ -268,7 +267,7 @@ right_of f g e = at (guarded_form [] f) refl e
     by h is true k again =
         let r = and_parts _ _ k in
         let s = and_parts _ _ r.1 in
-        record { form = h; form_is = is; guarded = r.0; fit = s.0; narrow = denied (has_wide f) s.1 }
+        record { form = h; form_is = is; guarded = r.0; fit = s.0; narrow = not-true (has_wide f) s.1 }
     by h is false k again = absurd cc
 
     at : (o : Option Guarded) → guarded_form [] f ≡ o → if_right f o ≡ Some g → Right f

@@ -12,9 +12,8 @@ use Rattle.sp_spec_text.proofs.Items.{lemmas_begin}
 use Rattle.sp_wf.specs.Finding.{used_twice, are_none}
 use Rattle.sp_wf.specs.Report.{names_of_rules, names_of_lemmas, used_again, repeated}
 use Rattle.sp_wf.proofs.Nothing.{both_false, both_true, and_grouped, told_not, none_append}
-use Rattle.sp_spec.proofs.Bools.{denied}
 use Rattle.sp_spec.proofs.Listed.{equal_names}
-use Rattle.std.proofs.lemmas.Bool.{false_from_ne_true, or_parts, and_parts, not_from_false}
+use Rattle.std.proofs.lemmas.Bool.{false_from_ne_true, or_parts, and_parts, not_from_false, not-true}
 
 abbrev pub rule_names : List Item → List (List ℕ)
 rule_names xs = map (λ (r : WrittenRule). r.name) (rules_in xs)
@@ -93,7 +92,7 @@ new_and_distinct before [] e = (tt, tt)
 new_and_distinct before (x ∷ xs) e =
     let k = and_parts (not (is_listed x before)) (all_new (x ∷ before) xs) e in
     let r = new_and_distinct (x ∷ before) xs k.1 in
-    ((denied (is_listed x before) k.0, drop_first before x xs r.0), (not_again before x xs r.0, r.1))
+    ((not-true (is_listed x before) k.0, drop_first before x xs r.0), (not_again before x xs r.0, r.1))
 
 all_are_new : (before xs : List (List ℕ)) → Every (New before) xs → Distinct xs → all_new before xs ≡ true
 all_are_new before [] h d = refl

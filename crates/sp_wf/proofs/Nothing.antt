@@ -10,10 +10,6 @@ pub both_true : {a b : Bool} → a ≡ true → b ≡ true → (a && b) ≡ true
 both_true {a = true} {b = b} e k = k
 both_true {a = false} {b = b} e k = absurd cc
 
-pub not_not : (b : Bool) → not b ≡ false → b ≡ true
-not_not true e = refl
-not_not false e = absurd cc
-
 pub and_grouped : (x y z : Bool) → (x && (y && z)) ≡ ((x && y) && z)
 and_grouped true y z = refl
 and_grouped false y z = refl

@@ -11,9 +11,10 @@ use Rattle.sp_spec.specs.Written.{occurrences, is_argument, is_fr_argument, is_m
 use Rattle.sp_spec.specs.Findings.{agrees, is_fr_named, is_one, may_be_fresh, is_fresh_variable, has_wrong_premise, has_wrong_argument, has_two_sorts, is_named}
 use Rattle.sp_wf.specs.Finding.{two_sorts, are_none}
 use Rattle.sp_wf.specs.RuleFindings.{makes_fresh, is_made_fresh, first_mark, sort_of_mark, first_sort, stands_otherwise, has_other_mark, two_sorted}
-use Rattle.sp_wf.proofs.Nothing.{both_false, not_not, none_told, told_none}
-use Rattle.std.proofs.lemmas.Bool.{or_right, or_left, or_parts}
+use Rattle.sp_wf.proofs.Nothing.{both_false, none_told, told_none}
+use Rattle.std.proofs.lemmas.Bool.{or_right, or_left, or_parts, not-false}
 use Rattle.sp_spec.proofs.Listed.{equal_names}
+use Rattle.sp_spec.proofs.Findings.{fr_premise}
 
 -- a right premise Fr makes its argument fresh
 right_makes : (fr persistent eq may : Bool) → (fr && (persistent || false)) ≡ false → ((fr && true) && not may) ≡ false → (fr && (not persistent && (eq && may))) ≡ (fr && eq)
@@ -45,7 +46,7 @@ made_fresh x [] p a = refl
 made_fresh x (f ∷ fs) p a =
     let q = or_parts _ _ p in
     let b = or_parts _ _ a in
-    ap₂ (λ (c d : Bool). c || d) (fact_makes x (is_fr_named f) f.persistent f.args q.0 b.0) (made_fresh x fs q.1 b.1)
+    ap₂ (λ (c d : Bool). c || d) (fact_makes x (is_fr_named f) f.persistent f.args (fr_premise f q.0) b.0) (made_fresh x fs q.1 b.1)
 
 -- marks of one sort
 agreed_sort : (s : Sort) (m : Mark) → agrees false s m ≡ true → sort_of_mark m ≡ s
@@ -129,7 +130,7 @@ abbrev pub Agreed : Bool → Sort → List ℕ → List Written → Type 0
 Agreed by_fr s x ys = Every (AgreesNamed by_fr s x) ys
 
 if_named : (c a : Bool) → (c && not a) ≡ false → c ≡ true → a ≡ true
-if_named true a e k = not_not a e
+if_named true a e k = not-false a e
 if_named false a e k = absurd cc
 
 unless_named : (c a : Bool) → (c ≡ true → a ≡ true) → (c && not a) ≡ false
@@ -215,7 +216,7 @@ OneMark facts x = has_other_mark facts x.name ≡ false
 
 each_agrees : (facts : Facts Written) (xs : List Written) → has_two_sorts facts xs ≡ false → Every (Given facts) xs
 each_agrees facts [] e = tt
-each_agrees facts (x ∷ xs) e = let r = or_parts _ _ e in (not_not _ r.0, each_agrees facts xs r.1)
+each_agrees facts (x ∷ xs) e = let r = or_parts _ _ e in (not-false _ r.0, each_agrees facts xs r.1)
 
 no_two_sorts : (facts : Facts Written) (xs : List Written) → Every (Given facts) xs → has_two_sorts facts xs ≡ false
 no_two_sorts facts [] h = refl

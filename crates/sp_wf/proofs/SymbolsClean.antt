@@ -1,6 +1,7 @@
 -- Each symbol is declared in one way exactly where each that is declared is the first of its name.
 use Rattle.std.proofs.Common.{◌≡◌, ◌⊎◌, ℕ, Bool, true, false, not, ◌||◌, ◌==◌, if◌then◌else◌, List, [], ◌∷◌, ◌++◌, map, inl, inr, ⊎_elim, refl, sym, ap, ◌∙◌, subst, append_assoc, append-nil, codes}
-use Rattle.std.proofs.lemmas.Bool.{both_ways, or_cases, or_left, or_right, false_from_ne_true}
+use Rattle.sp_law_equal.proofs.Pairs.{names_apart}
+use Rattle.std.proofs.lemmas.Bool.{both_ways, or_cases, or_left, or_right, false_from_ne_true, not-false}
 use Rattle.std.proofs.lemmas.Bool.Decides.{Decides-and, Decides-eqb}
 use Rattle.std.proofs.lemmas.List.{map-append}
 use Rattle.std.proofs.lemmas.Slice.Eq.{bytes_eq-Decides}
@@ -13,7 +14,7 @@ use Rattle.sp_spec.proofs.Lists.{member_map, every_from}
 use Rattle.sp_spec_text.specs.Declared.{is_named, new_symbols}
 use Rattle.sp_wf.specs.Finding.{declared_twice, are_none}
 use Rattle.sp_wf.specs.SymbolFindings.{is_same_symbol, differs, declared_otherwise}
-use Rattle.sp_wf.proofs.Nothing.{not_not, none_told, told_none}
+use Rattle.sp_wf.proofs.Nothing.{none_told, told_none}
 
 abbrev name_in : Symbol → List ℕ
 name_in s = s.name
@@ -34,7 +35,7 @@ is_first s [] d n = absurd cc
 is_first s (t ∷ symbols) d n = at (is_first s symbols) (bytes_eq t.name s.name) refl d n
   where
     at : (differs s symbols ≡ false → is_named s.name symbols ≡ true → Member s symbols) → (b : Bool) → bytes_eq t.name s.name ≡ b → (if b then not (is_same_symbol t s) else differs s symbols) ≡ false → (b || is_named s.name symbols) ≡ true → (t ≡ s) ⊎ Member s symbols
-    at before true e k h = let same = (same_symbol_decides t s).0 (not_not (is_same_symbol t s) k) in inl (same_parts t s ((bytes_eq-Decides t.name s.name).0 e) same.0 same.1)
+    at before true e k h = let same = (same_symbol_decides t s).0 (not-false (is_same_symbol t s) k) in inl (same_parts t s ((bytes_eq-Decides t.name s.name).0 e) same.0 same.1)
     at before false e k h = inr (before k h)
 
 first_is_same : (s : Symbol) (symbols : List Symbol) → Distinct (map name_in symbols) → Member s symbols → differs s symbols ≡ false
@@ -130,11 +131,8 @@ module _ (before declared : List Symbol) where
   none_otherwise d h = each_first (before ++ new_symbols before declared) declared (distinct_new before declared d) h
 
 -- the names of the symbols of pairs
-unlike : (f g : List ℕ) → bytes_eq f g ≡ false → f ≡ g → ⊥
-unlike f g h e = both_ways (bytes_eq f g) h ((bytes_eq-Decides f g).1 e)
-
 pub pairs_distinct : Distinct (map name_in pair_symbols)
 pairs_distinct = (
-  λ m. ⊎_elim (unlike (codes "fst") (codes "pair") refl) (λ k. ⊎_elim (unlike (codes "snd") (codes "pair") refl) (λ n. n) k) m,
-  (λ m. ⊎_elim (unlike (codes "snd") (codes "fst") refl) (λ n. n) m, (λ n. n, tt)),
+  λ m. ⊎_elim (names_apart (codes "fst") (codes "pair") refl) (λ k. ⊎_elim (names_apart (codes "snd") (codes "pair") refl) (λ n. n) k) m,
+  (λ m. ⊎_elim (names_apart (codes "snd") (codes "fst") refl) (λ n. n) m, (λ n. n, tt)),
 )

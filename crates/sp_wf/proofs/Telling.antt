@@ -1,12 +1,13 @@
 -- Lines that are told one after the other.
 use Rattle.std.proofs.Common.{◌≡◌, ℕ, Bool, true, false, not, ◌&&◌, ◌||◌, if◌then◌else◌, List, [], ◌∷◌, ◌++◌, map, length, refl, sym, ap, ◌∙◌}
+use Rattle.std.proofs.Math.Bool.{or_assoc}
 use denote.Ref.{Bor}
 use Rattle.std.specs.Str.{bytes_eq}
 use Rattle.sp_spec.specs.Lists.{Every}
 use Rattle.sp_spec.specs.Rule.{Fact, Facts}
 use Rattle.sp_spec.specs.Formula.{Written}
 use Rattle.sp_spec.specs.Written.{is_listed, in_terms, in_facts, in_actions, occurrences}
-use Rattle.sp_spec.specs.Findings.{is_fresh_variable, is_named, is_pub}
+use Rattle.sp_spec.specs.Findings.{is_named, is_pub}
 use Rattle.sp_spec.specs.Term.{var, constant, name, app, Terms, none, more, count}
 use Rattle.sp_term.specs.declared.term.Term.{Term}
 use Rattle.sp_read_parts.specs.Views.{terms}
@@ -34,17 +35,6 @@ pub told_three : (a b c d : List (List ℕ)) (xs ys zs : List Finding) → b ≡
 told_three a b c d xs ys zs x y z = one_behind a b d xs (ys ++ zs) x (one_behind b c d ys zs y z)
 
 -- with another number of arguments there is not the one
-no_variable_counted : (ts : Terms Written) → (count ts ≡ 1 → ⊥) → is_fresh_variable ts ≡ false
-no_variable_counted none h = refl
-no_variable_counted (more t none) h = absurd (h refl)
-no_variable_counted (more (var y) (more u ts)) h = refl
-no_variable_counted (more (constant c) (more u ts)) h = refl
-no_variable_counted (more (name n) (more u ts)) h = refl
-no_variable_counted (more (app f xs) (more u ts)) h = refl
-
-pub no_variable : (ts : List (Term WrittenVariable)) → (length ts ≡ 1 → ⊥) → is_fresh_variable (terms ts) ≡ false
-no_variable ts h = no_variable_counted (terms ts) (λ e. h (sym (counted ts) ∙ e))
-
 not_made_counted : (x : List ℕ) (ts : Terms Written) → (count ts ≡ 1 → ⊥) → makes_fresh x ts ≡ false
 not_made_counted x none h = refl
 not_made_counted x (more t none) h = absurd (h refl)
@@ -56,17 +46,9 @@ not_made_counted x (more (app f xs) (more u ts)) h = refl
 pub not_made : (x : List ℕ) (ts : List (Term WrittenVariable)) → (length ts ≡ 1 → ⊥) → makes_fresh x (terms ts) ≡ false
 not_made x ts h = not_made_counted x (terms ts) (λ e. h (sym (counted ts) ∙ e))
 
-pub named_or : (b : Bool) → (b || false) ≡ b
-named_or true = refl
-named_or false = refl
-
-or_grouped : (a b c : Bool) → (a || (b || c)) ≡ ((a || b) || c)
-or_grouped true b c = refl
-or_grouped false b c = refl
-
 pub named_in_either : (x : List ℕ) (xs ys : List Written) → is_named x (xs ++ ys) ≡ is_named x xs || is_named x ys
 named_in_either x [] ys = refl
-named_in_either x (y ∷ xs) ys = ap (λ (b : Bool). bytes_eq y.name x || b) (named_in_either x xs ys) ∙ or_grouped (bytes_eq y.name x) (is_named x xs) (is_named x ys)
+named_in_either x (y ∷ xs) ys = ap (λ (b : Bool). bytes_eq y.name x || b) (named_in_either x xs ys) ∙ sym (or_assoc (bytes_eq y.name x) (is_named x xs) (is_named x ys))
 
 pub among : (x : List ℕ) (fs : List (Fact Written)) → stands_among x fs ≡ is_named x (in_facts fs)
 among x [] = refl

@@ -1,6 +1,7 @@
 -- No unknown symbol is told of exactly where terms are over the symbols.
-use Rattle.std.proofs.Common.{◌≡◌, ℕ, suc, Bool, true, not, ◌&&◌, ◌==◌, List, [], ◌∷◌, inl, inr, ⊎_elim, refl, sym, ap, subst}
-use Rattle.std.proofs.lemmas.Bool.{or_cases, or_left, or_right}
+use Rattle.std.proofs.Common.{◌≡◌, ℕ, Bool, true, not, ◌&&◌, ◌==◌, List, [], ◌∷◌, inl, inr, ⊎_elim, refl, sym, ap, subst}
+use Rattle.sp_law_decide.proofs.Terms.{count_valued}
+use Rattle.std.proofs.lemmas.Bool.{or_cases, or_left, or_right, not-false}
 use Rattle.std.proofs.lemmas.Bool.Decides.{Decides-and, Decides-eqb}
 use Rattle.std.proofs.lemmas.Slice.Eq.{bytes_eq-Decides}
 use Rattle.std.specs.Bool.{Decides}
@@ -12,7 +13,7 @@ use Rattle.sp_spec.specs.Formula.{Written}
 use Rattle.sp_law_equal.specs.Right.{IsTermOver, AreTermsOver}
 use Rattle.sp_wf.specs.Finding.{unknown_symbol, are_none}
 use Rattle.sp_wf.specs.SymbolFindings.{has_symbol, unknown_in, unknown_in_all}
-use Rattle.sp_wf.proofs.Nothing.{not_not, none_told, told_none, none_parts, none_both}
+use Rattle.sp_wf.proofs.Nothing.{none_told, told_none, none_parts, none_both}
 use Rattle.sp_wf.proofs.SymbolsClean.{symbol, same_parts}
 
 is_it_decides : (s : Symbol) (f : List ℕ) (n : ℕ) → Decides (bytes_eq s.name f && (s.arity == n)) ((s.name ≡ f) × (s.arity ≡ n))
@@ -38,7 +39,7 @@ module _ (symbols : List Symbol) where
     known_over (name n) e = tt
     known_over (app f ts) e =
         let k = none_told (not (has_symbol symbols f (count ts))) (unknown_symbol f (count ts)) (unknown_in_all symbols ts) e in
-        (has_tells symbols f (count ts) (not_not (has_symbol symbols f (count ts)) k.0), all_known_over ts k.1)
+        (has_tells symbols f (count ts) (not-false (has_symbol symbols f (count ts)) k.0), all_known_over ts k.1)
 
     all_known_over : (ts : Terms Written) → are_none (unknown_in_all symbols ts) ≡ true → AreTermsOver symbols ts
     all_known_over none e = tt
@@ -58,10 +59,6 @@ module _ (symbols : List Symbol) where
     all_over_known (more t ts) o = none_both (unknown_in symbols t) (unknown_in_all symbols ts) (over_known t o.0) (all_over_known ts o.1)
 
 -- ---- with other variables
-
-count_valued : {V W : Type 0} (v : V → Term W) (ts : Terms V) → count (valued_all v ts) ≡ count ts
-count_valued v none = refl
-count_valued v (more t ts) = ap suc (count_valued v ts)
 
 module _ {V W : Type 0} (symbols : List Symbol) (v : V → Term W) (each : (x : V) → IsTermOver symbols (v x)) where
   mutual

@@ -1,12 +1,12 @@
 -- The findings on a rule, each where its condition holds, over premises, actions and conclusions from left to right. Source: Tamarin manual,
--- "Checking well-formedness" and "Model specification using rules" (Fr facts, sorts of variables).
+-- "Checking well-formedness", "Built-in facts" and "Model specification using rules" (Fr facts, sorts of variables).
 use Rattle.std.specs.Prelude.{ℕ, Bool, false, ◌&&◌, ◌||◌, not, if◌then◌else◌, List, [], ◌∷◌, ◌++◌}
 use Rattle.std.specs.Str.{bytes_eq}
 use Rattle.sp_spec.specs.Term.{Sort, Msg, Fresh, var, Terms, none, more}
 use Rattle.sp_spec.specs.Rule.{Fact, Action, Facts}
 use Rattle.sp_spec.specs.Formula.{Mark, bare, of_sort, of_time, Written}
 use Rattle.sp_spec.specs.Written.{WrittenRule, in_facts, in_actions, occurrences}
-use Rattle.sp_spec.specs.Findings.{is_wide, agrees, is_fr_named, is_one, may_be_fresh, is_fresh_variable, is_named, is_pub}
+use Rattle.sp_spec.specs.Findings.{is_wide, agrees, is_fr_named, is_one, is_no_action, is_wrong_premise, is_wrong_conclusion, may_be_fresh, is_fresh_variable, is_named, is_pub}
 use Rattle.sp_wf.specs.Finding.{Finding, arity_above, two_sorts, reserved, fr_argument, in_no_premise, told}
 
 -- a fact or an action of more than sixteen arguments
@@ -57,19 +57,23 @@ two_sorted r facts (x ∷ xs) = told (has_other_mark facts x.name) (two_sorts r 
 abbrev pub sorts_in_rule : WrittenRule → List Finding
 sorts_in_rule r = two_sorted r.name r.facts (occurrences r.facts)
 
--- Fr is linear, has one argument, and is no conclusion
+-- what is reserved, and what rules share with the built-in rules and is persistent or hasn't one argument
 abbrev pub wrong_premises : List ℕ → List (Fact Written) → List Finding
 wrong_premises r [] = []
-wrong_premises r (f ∷ fs) = told (is_fr_named f && (f.persistent || not (is_one f.args))) (reserved r f.symbol) (wrong_premises r fs)
+wrong_premises r (f ∷ fs) = told (is_wrong_premise f) (reserved r f.symbol) (wrong_premises r fs)
+
+abbrev pub wrong_actions : List ℕ → List (Action Written) → List Finding
+wrong_actions r [] = []
+wrong_actions r (a ∷ rest) = told (is_no_action a.symbol) (reserved r a.symbol) (wrong_actions r rest)
 
 abbrev pub wrong_conclusions : List ℕ → List (Fact Written) → List Finding
 wrong_conclusions r [] = []
-wrong_conclusions r (f ∷ fs) = told (is_fr_named f) (reserved r f.symbol) (wrong_conclusions r fs)
+wrong_conclusions r (f ∷ fs) = told (is_wrong_conclusion f) (reserved r f.symbol) (wrong_conclusions r fs)
 
 abbrev pub reserved_in_rule : WrittenRule → List Finding
-reserved_in_rule r = wrong_premises r.name r.facts.premises ++ wrong_conclusions r.name r.facts.conclusions
+reserved_in_rule r = wrong_premises r.name r.facts.premises ++ (wrong_actions r.name r.facts.actions ++ wrong_conclusions r.name r.facts.conclusions)
 
--- the argument of such an Fr is a variable of sort fresh or msg
+-- the argument of a linear Fr of one argument is a variable of sort fresh or msg
 abbrev pub wrong_arguments : List ℕ → List (Fact Written) → List Finding
 wrong_arguments r [] = []
 wrong_arguments r (f ∷ fs) = told (is_fr_named f && (not f.persistent && (is_one f.args && not (is_fresh_variable f.args)))) (fr_argument r) (wrong_arguments r fs)

@@ -1,7 +1,5 @@
 -- What findings in memory stand for, and lines.
 use Rattle.std.specs.Prelude.{ℕ, List, String, map, string_bytes}
-use Rattle.sp_ground.specs.View.{equation_of}
-use Rattle.sp_spec_text.specs.Declared.{Numbered}
 use Rattle.sp_wf.specs.Finding as f
 use Rattle.sp_wf.specs.Finding.{Finding}
 use Rattle.sp_wf.specs.declared.finding.Finding as memory

@@ -12,9 +12,9 @@ ghost use Rattle.sp_wf.specs.SymbolFindings as symbols;
 ghost use Rattle.sp_wf.specs.View.{lines_of};
 
 use crate::destructors::{has_destructor, have_destructor};
-use crate::facts::are_too_many;
 use crate::finding::{Finding, FormulaFinding, tell_if};
 use crate::unknown::{tell_unknown, tell_unknown_in_all};
+use sp_finding::are_too_many;
 use sp_ground::signature::{Equation, Symbol};
 use sp_read_parts::{ReadFormula, WrittenAction, WrittenTerm};
 use std::alloc::{AllocError, Global};

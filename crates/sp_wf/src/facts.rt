@@ -1,29 +1,19 @@
 // The findings on the facts of a rule.
 
 ghost use Rattle.std.specs.Prelude.{◌≡◌, OnOk, map};
-ghost use Rattle.sp_spec.specs.Findings as findings;
 ghost use Rattle.sp_read_parts.specs.Views as view;
-ghost use Rattle.sp_read_parts.specs.Views.{action_of, fact_of, facts_of, terms};
+ghost use Rattle.sp_read_parts.specs.Views.{action_of, facts_of};
 ghost use Rattle.sp_wf.specs.RuleFindings as spec;
 ghost use Rattle.sp_wf.specs.Report.{lines_after};
 ghost use Rattle.sp_wf.specs.View.{lines_of};
 
 use crate::finding::{Finding, RuleFinding, tell_if};
-use sp_finding::is_fr;
-use sp_read_parts::{Mark, WrittenAction, WrittenFact, WrittenRule, WrittenTerm};
-use sp_term::term::Term;
+use sp_finding::{
+    are_too_many, is_fr, is_fresh_variable, is_one, is_wrong_action, is_wrong_conclusion,
+    is_wrong_premise,
+};
+use sp_read_parts::{WrittenAction, WrittenFact, WrittenRule};
 use std::alloc::{AllocError, Global};
-
-/// The most arguments that a fact, an action or a symbol may have.
-pub const MOST_ARGUMENTS: usize = 16;
-
-/// Whether there are too many arguments.
-#[tactic(auto, using(sp_finding::proofs::Counted::counted))]
-pub fn are_too_many(args: &Vec<WrittenTerm>) -> bool
-    ensures { result ≡ findings.is_wide (terms args.now.items) }
-{
-    MOST_ARGUMENTS < args.len()
-}
 
 /// Tells of each of the facts that has too many arguments.
 #[tactic(auto, using(crate::proofs::Telling::told_on))]
@@ -73,42 +63,7 @@ pub fn tell_wide(
     tell_wide_facts(alloc, lines, &rule.facts.conclusions)
 }
 
-/// Whether it has one argument.
-#[tactic(auto, using(sp_finding::proofs::Counted::one))]
-fn is_one(fact: &WrittenFact) -> bool
-    ensures { result ≡ findings.is_one (fact_of fact.now).args }
-{
-    fact.args.len() == 1
-}
-
-/// Whether what is marked so may be fresh.
-pub fn may_be_fresh(mark: Mark) -> bool
-    ensures { result ≡ findings.may_be_fresh (view.mark mark) }
-{
-    match mark {
-        Mark::Bare => true,
-        Mark::Fresh => true,
-        Mark::Message => true,
-        Mark::Public => false,
-        Mark::Time => false,
-    }
-}
-
-/// Whether its one argument is a variable that may be fresh.
-#[tactic(auto, using(crate::proofs::Telling::no_variable))]
-fn is_fresh_variable(fact: &WrittenFact) -> bool
-    ensures { result ≡ findings.is_fresh_variable (fact_of fact.now).args }
-{
-    if fact.args.len() != 1 {
-        return false;
-    }
-    match &fact.args[0] {
-        Term::Var(variable) => may_be_fresh(variable.mark),
-        _ => false,
-    }
-}
-
-/// Tells of each premise Fr that is persistent, or hasn't one argument.
+/// Tells of each premise that is reserved.
 #[tactic(auto, using(crate::proofs::Telling::told_on))]
 fn tell_premises(
     alloc: Global,
@@ -119,14 +74,32 @@ fn tell_premises(
     ensures { OnOk result (lines_of lines.new.items ≡ lines_after (lines_of lines.old.items) (spec.wrong_premises rule.now (facts_of premises.now.items))) }
 {
     for fact in premises {
-        let is_wrong = is_fr(fact) && (fact.persistent || !is_one(fact));
+        let is_wrong = is_wrong_premise(fact);
         let finding = RuleFinding::Reserved(fact.symbol.text.as_str());
         tell_if(alloc, lines, is_wrong, Finding::OnRule(rule, finding))?;
     }
     Ok(())
 }
 
-/// Tells of each conclusion Fr.
+/// Tells of each action that is reserved.
+#[tactic(auto, using(crate::proofs::Telling::told_on))]
+fn tell_actions(
+    alloc: Global,
+    lines: &mut Vec<String>,
+    rule: &str,
+    actions: &Vec<WrittenAction>,
+) -> Result<(), AllocError>
+    ensures { OnOk result (lines_of lines.new.items ≡ lines_after (lines_of lines.old.items) (spec.wrong_actions rule.now (map action_of actions.now.items))) }
+{
+    for action in actions {
+        let is_wrong = is_wrong_action(action);
+        let finding = RuleFinding::Reserved(action.symbol.text.as_str());
+        tell_if(alloc, lines, is_wrong, Finding::OnRule(rule, finding))?;
+    }
+    Ok(())
+}
+
+/// Tells of each conclusion that is reserved.
 #[tactic(auto, using(crate::proofs::Telling::told_on))]
 fn tell_conclusions(
     alloc: Global,
@@ -137,15 +110,15 @@ fn tell_conclusions(
     ensures { OnOk result (lines_of lines.new.items ≡ lines_after (lines_of lines.old.items) (spec.wrong_conclusions rule.now (facts_of conclusions.now.items))) }
 {
     for fact in conclusions {
-        let is_wrong = is_fr(fact);
+        let is_wrong = is_wrong_conclusion(fact);
         let finding = RuleFinding::Reserved(fact.symbol.text.as_str());
         tell_if(alloc, lines, is_wrong, Finding::OnRule(rule, finding))?;
     }
     Ok(())
 }
 
-/// Tells of each fact of the rule that stands where it may not.
-#[tactic(auto, using(crate::proofs::Telling::one_behind))]
+/// Tells of each fact and each action of the rule that is reserved where it stands.
+#[tactic(auto, using(crate::proofs::Telling::told_three))]
 pub fn tell_reserved(
     alloc: Global,
     lines: &mut Vec<String>,
@@ -154,6 +127,7 @@ pub fn tell_reserved(
     ensures { OnOk result (lines_of lines.new.items ≡ lines_after (lines_of lines.old.items) (spec.reserved_in_rule (view.rule rule.now))) }
 {
     tell_premises(alloc, lines, rule.name, &rule.facts.premises)?;
+    tell_actions(alloc, lines, rule.name, &rule.facts.actions)?;
     tell_conclusions(alloc, lines, rule.name, &rule.facts.conclusions)
 }
 

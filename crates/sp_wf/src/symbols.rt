@@ -11,9 +11,9 @@ ghost use Rattle.sp_wf.specs.Report.{lines_after};
 ghost use Rattle.sp_wf.specs.Told.{otherwise_named};
 ghost use Rattle.sp_wf.specs.View.{lines_of};
 
-use crate::facts::MOST_ARGUMENTS;
 use crate::finding::{Finding, tell_if};
 use sp_declared::builtins::Builtin;
+use sp_finding::MOST_ARGUMENTS;
 use sp_ground::signature::Symbol;
 use sp_term::term::Name;
 use sp_written::Item;

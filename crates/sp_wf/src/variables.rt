@@ -12,9 +12,8 @@ ghost use Rattle.sp_wf.specs.Report.{lines_after};
 ghost use Rattle.sp_wf.specs.Told.{stands_among};
 ghost use Rattle.sp_wf.specs.View.{lines_of};
 
-use crate::facts::may_be_fresh;
 use crate::finding::{Finding, RuleFinding, tell_if};
-use sp_finding::{is_fr, occurrences};
+use sp_finding::{is_fr, may_be_fresh, occurrences};
 use sp_read_parts::{Mark, WrittenFact, WrittenRule, WrittenTerm, WrittenVariable};
 use sp_term::term::{Sort, Term};
 use std::alloc::{AllocError, Global};
@@ -153,7 +152,6 @@ pub fn tell_sorts(
 
 /// Whether a variable of this name stands in the term.
 #[cycle(stands)]
-#[tactic(auto, using(crate::proofs::Telling::named_or))]
 fn stands_in(name: &str, term: &WrittenTerm) -> bool
     ensures { result ≡ findings.is_named name.now (in_term (view.term term.now)) }
 {

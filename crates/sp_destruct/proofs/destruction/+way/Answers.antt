@@ -23,8 +23,8 @@ below_one-returns-then-not-may_apply t c =
     let nothing = nothing_below symbols (view c.args.wanted.now) f (view_all c.args.sides.items) none ts no in
     sym (ap (λ (ds : List Destruction). map destruction_of c.args.found.items ++ ds) nothing ∙ append-nil (map destruction_of c.args.found.items))
 
-pub below_one-returns-then-stands_in : goal.below_one-returns-then-stands_in
-below_one-returns-then-stands_in t c =
+pub below_one-returns-then-has_part : goal.below_one-returns-then-has_part
+below_one-returns-then-has_part t c =
     let symbols = map symbol_of c.args.symbols.now.items in
     let xs = c.args.args.now.items in
     let i = c.loop-place.place in
@@ -42,7 +42,7 @@ below_one-returns-then-stands_in t c =
     ap (λ (us : Terms Variable). is_public symbols f (count us)) (sym (row_at xs i x below item)) ∙ ap (is_public symbols f) (count-view_all variable_of xs) ∙ ap (is_public symbols f) as_long ∙ sym c.if-not-may_apply.ensures
     in
     let apart : alike r (view x) ≡ false = sym c.if-same.ensures.tests in
-    let step = enters symbols r f front (view x) back sides apart (sym c.if-stands_in.ensures) public in
+    let step = enters symbols r f front (view x) back sides apart (sym c.if-has_part.ensures) public in
     let way = c.loop-place.invariant ∙ ap (way_among r f front) (rest_at xs i x below item) in
     let one : Terms Variable → Destruction = λ us. record { pattern = view x; sides = us; result = r } in
     let row : map destruction_of c.in_ok-more.more.items ++ along_from symbols r (view_all c.in_ok-sides.sides.items) (way_to r (view x))
@@ -66,5 +66,5 @@ below_one-loop-place-preserved t c =
     let below = subst (λ (ys : List (memory.Term leaf.Variable)). i < length ys) same c.loop-place-test.true in
     let item = subst (λ (ys : List (memory.Term leaf.Variable)). x ≡ get_or ys i x) same c.term-item.is in
     c.loop-place.invariant ∙ ap (way_among r f (view_all (take i xs))) (rest_at xs i x below item)
-    ∙ passes r f (view_all (take i xs)) (view x) (view_all (drop (i + 1) xs)) (sym c.if-stands_in.ensures)
+    ∙ passes r f (view_all (take i xs)) (view x) (view_all (drop (i + 1) xs)) (sym c.if-has_part.ensures)
     ∙ ap (λ (us : Terms Variable). way_among r f us (view_all (drop (i + 1) xs))) (sym (row_more xs i x below item))

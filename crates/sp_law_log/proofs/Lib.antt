@@ -1,0 +1,10 @@
+pub mod Ways
+pub mod Places
+pub mod Destructions
+pub mod Entries
+pub mod NameParts
+pub mod Instances
+pub mod Origins
+pub mod Used
+pub mod Lasting
+pub mod Over

@@ -1,0 +1,5 @@
+pub mod Learnt
+pub mod Ways
+pub mod Clauses
+pub mod Checks
+pub mod Used

@@ -1,0 +1,5 @@
+pub mod View
+pub mod Learning
+pub mod Checking
+pub mod Meaning
+pub mod Laws
