@@ -52,18 +52,23 @@ def prefix(term):
     return f"{term[0]}({args})" if args else term[0]
 
 
-def printed(term):
+def quoted(name):
+    """The public name as a step line has it."""
+    return f"'{name}'"
+
+
+def printed(term, leaf=quoted):
     """The term as a step line has it: pairs nested on the right are one tuple."""
     if isinstance(term, str):
-        return f"'{term}'"
+        return leaf(term)
     if term[0] != "pair":
-        args = ", ".join(printed(arg) for arg in term[1:])
+        args = ", ".join(printed(arg, leaf) for arg in term[1:])
         return f"{term[0]}({args})" if args else term[0]
-    parts, rest = [printed(term[1])], term[2]
+    parts, rest = [printed(term[1], leaf)], term[2]
     while not isinstance(rest, str) and rest[0] == "pair":
-        parts.append(printed(rest[1]))
+        parts.append(printed(rest[1], leaf))
         rest = rest[2]
-    return "<" + ", ".join([*parts, printed(rest)]) + ">"
+    return "<" + ", ".join([*parts, printed(rest, leaf)]) + ">"
 
 
 def steps(term):

@@ -22,7 +22,7 @@ use Rattle.sp_spec_system.specs.Move.{Context}
 use Rattle.sp_spec_proof.specs.Tree.{Tree, IsAccepted, IsFinished, found_log}
 use Rattle.sp_spec_system.specs.Numbered.{names_in}
 use Rattle.sp_law_system.specs.Proofs.{IsContextOf}
-use Rattle.sp_law_tree.specs.BasicTheory.{IsBasicFormula, HasNames, IsWithoutSends}
+use Rattle.sp_law_tree.specs.BasicTheory.{IsBasicFormula, HasNames}
 use Rattle.sp_law_tree.proofs.WrittenRules.{names_stand_lem}
 use Rattle.sp_law_tree.proofs.AllShown.{lemmas_are_shown_lem}
 use Rattle.sp_law_tree.proofs.Growing.{grown_tree_accepted}
@@ -42,7 +42,7 @@ use Rattle.sp_check.proofs.Right.{judgements_right}
 use Rattle.sp_spec_text.specs.Written.{WrittenProof, WrittenText, lemmas_with_proofs, without_proofs}
 use Rattle.sp_spec_text.specs.Declared.{resolved, theory_in}
 use Rattle.sp_pose.specs.Problem.{PosesProofs}
-use Rattle.sp_pose.proofs.BasicTheories.{normal_forms, lemmas_are_basic, rules_are_basic, lemmas_unlearnt, lemmas_without_sends, leaves_alone}
+use Rattle.sp_pose.proofs.BasicTheories.{normal_forms, lemmas_are_basic, rules_are_basic, lemmas_unlearnt, keeps_public, leaves_alone}
 
 -- a proof isn't rejected exactly where it is accepted
 accepted_or_rejected : (context : Context) (s : System) (k : Skeleton) (kind : TraceKind) (v : Verdict) (log : Option Log) → IsVerdictIn context s k kind v log
@@ -78,17 +78,16 @@ found_tested signature rules constants f s log e = at (candidate constants s) e
 abbrev pub IsLemmaOf : WrittenTheory → Lemma → Type 0
 IsLemmaOf theory l =
     IsBasicFormula (signature_of (theory_of theory)) l.formula × HasNames (names_in (constants_of theory)) l.formula
-    × (names_learning l.formula ≡ false) × IsWithoutSends l.formula
+    × (names_learning l.formula ≡ false)
 
 pub lemmas_of : {bytes : List ℕ} {text : WrittenText} → PosesProofs bytes text → Every (IsLemmaOf (theory_in text)) (theory_in text).lemmas
 lemmas_of {text = text} posing =
-    go (theory_in text).lemmas (λ l m. m) (lemmas_are_basic posing.poses) (lemmas_unlearnt posing.poses) (lemmas_without_sends posing)
+    go (theory_in text).lemmas (λ l m. m) (lemmas_are_basic posing.poses) (lemmas_unlearnt posing.poses)
   where
     go : (ls : List Lemma) → ((l : Lemma) → Member l ls → Member l (theory_in text).lemmas) → Every (λ (l : Lemma). IsBasicFormula (signature_of (theory_of (theory_in text))) l.formula) ls
-        → Every (λ (l : Lemma). names_learning l.formula ≡ false) ls → Every (λ (l : Lemma). IsWithoutSends l.formula) ls → Every (IsLemmaOf (theory_in text)) ls
-    go [] among h u w = tt
-    go (l ∷ ls) among h u w =
-        ((h.0, names_stand_lem.lemmas (theory_in text) l (among l (inl refl)) h.0, u.0, w.0), go ls (λ x m. among x (inr m)) h.1 u.1 w.1)
+        → Every (λ (l : Lemma). names_learning l.formula ≡ false) ls → Every (IsLemmaOf (theory_in text)) ls
+    go [] among h u = tt
+    go (l ∷ ls) among h u = ((h.0, names_stand_lem.lemmas (theory_in text) l (among l (inl refl)) h.0, u.0), go ls (λ x m. among x (inr m)) h.1 u.1)
 
 module _ {bytes : List ℕ} (text : WrittenText) (posing : PosesProofs bytes text) where
   abbrev theory : WrittenTheory
@@ -132,7 +131,7 @@ module _ {bytes : List ℕ} (text : WrittenText) (posing : PosesProofs bytes tex
       → log ≡ found_log (context_of (setting_of theory) (goal_of [] kind g)) (root_system (goal_of [] kind g)) tree → Says kind v log (IsFinished tree) → Means (theory_of theory) kind v log l
   shown l f g e all_traces verified None tree accepted is says =
       into_reading l f.2 (HoldsInAllLogs (theory_of theory) l) (HoldsInAll (theory_of theory) l)
-      (lemmas_are_shown_lem.all_traces theory searched.normal_forms searched.basic searched.right (leaves_alone posing) l f.0 f.3 g e (context_of (setting_of theory) (goal_of [] all_traces g)) (is_context (goal_of [] all_traces g)) f.1 tree accepted says)
+      (lemmas_are_shown_lem.all_traces theory searched.normal_forms (keeps_public posing.poses) searched.basic searched.right (leaves_alone posing) l f.0 f.2 g e (context_of (setting_of theory) (goal_of [] all_traces g)) (is_context (goal_of [] all_traces g)) f.1 tree accepted says)
   shown l f g e all_traces verified (Some log) tree accepted is says = absurd says
   shown l f g e all_traces falsified None tree accepted is says = absurd says
   shown l f g e all_traces falsified (Some log) tree accepted is says =
@@ -145,7 +144,7 @@ module _ {bytes : List ℕ} (text : WrittenText) (posing : PosesProofs bytes tex
       let s = ended (goal_of [] exists_trace g) tree log is in satisfies l f.0 f.2 g e s.0 log s.1
   shown l f g e exists_trace falsified None tree accepted is says =
       into_reading l f.2 (HoldsInNoLog (theory_of theory) l) (HoldsInNone (theory_of theory) l)
-      (lemmas_are_shown_lem.exists_trace theory searched.normal_forms searched.basic searched.right (leaves_alone posing) l f.0 f.3 g e (context_of (setting_of theory) (goal_of [] exists_trace g)) (is_context (goal_of [] exists_trace g)) f.1 tree accepted says)
+      (lemmas_are_shown_lem.exists_trace theory searched.normal_forms (keeps_public posing.poses) searched.basic searched.right (leaves_alone posing) l f.0 f.2 g e (context_of (setting_of theory) (goal_of [] exists_trace g)) (is_context (goal_of [] exists_trace g)) f.1 tree accepted says)
   shown l f g e exists_trace falsified (Some log) tree accepted is says = absurd says
   shown l f g e exists_trace incomplete None tree accepted is says = tt
   shown l f g e exists_trace incomplete (Some log) tree accepted is says = absurd says

@@ -9,7 +9,7 @@ use Rattle.sp_exec.specs.Replay.{rank, IsReplayed, IsFirstFault}
 use Rattle.sp_spec.proofs.Lists.{newest_append}
 
 -- a step that is done fails for no cause
-leads_without : (theory : Theory) (step : Step) (facts : Facts ⊥) (before after : State) → Leads theory step facts before after → (cause : Cause) →
+pub leads_without : (theory : Theory) (step : Step) (facts : Facts ⊥) (before after : State) → Leads theory step facts before after → (cause : Cause) →
     IsNoStep cause theory step before → ⊥
 leads_without theory step facts before after l no_such_rule k = k l.named
 leads_without theory step facts before after l no_instance k = k l.values facts l.is_instance

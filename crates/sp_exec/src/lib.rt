@@ -7,7 +7,7 @@
 
 pub mod cause;
 mod given;
-mod instance;
+pub mod instance;
 mod machine;
 pub mod replay;
-mod taking;
+pub mod taking;

@@ -9,7 +9,7 @@ use sp_ground::fact::GroundFact;
 use sp_term::term::all_same;
 
 /// Whether two facts are the same.
-fn is_same(a: &GroundFact, b: &GroundFact) -> bool
+pub fn is_same(a: &GroundFact, b: &GroundFact) -> bool
     ensures { result ≡ same_fact (ground_fact a.now) (ground_fact b.now) }
 {
     a.symbol == b.symbol && a.persistent == b.persistent && all_same(&a.args, &b.args)

@@ -10,7 +10,7 @@ use Rattle.sp_spec.specs.Written.{theory_of}
 use Rattle.sp_spec.specs.Execution.{Step, make_fresh, Trace, with_entry}
 use Rattle.sp_spec.specs.Log.{Source, Entry, step, send, learn, Log, is_fr, first_arg, fresh_of, IsRuleInstance, rule_instance, IsLog, visible_trace}
 use Rattle.sp_law_equal.specs.Right.{AreTermsOver}
-use Rattle.sp_law_erase.specs.Adversary.{HasStepsAlone}
+use Rattle.sp_law_log.specs.StepsAlone.{HasStepsAlone}
 use Rattle.sp_spec_forms.specs.Forms.{forms_of}
 use Rattle.sp_law_found.specs.Found.{stand_in, given_by, fresh_steps, entry_steps, execution_of}
 use Rattle.sp_law_found.specs.Executable.{IsExecutable}

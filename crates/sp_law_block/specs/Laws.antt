@@ -7,7 +7,7 @@ use Rattle.sp_spec.specs.Written.{WrittenTheory, theory_of}
 use Rattle.sp_spec.specs.Constants.{constants_of}
 use Rattle.sp_spec.specs.Execution.{Step}
 use Rattle.sp_spec.specs.Log.{Entry, Log, IsLog, visible_trace}
-use Rattle.sp_law_erase.specs.Adversary.{HasStepsAlone}
+use Rattle.sp_law_log.specs.StepsAlone.{HasStepsAlone}
 use Rattle.sp_law_found.specs.Found.{execution_of}
 use Rattle.sp_law_found.specs.Executable.{IsExecutable}
 use Rattle.sp_spec_text.specs.Written.{WrittenText}

@@ -1,38 +1,37 @@
 -- Accepted equations are subterm rules that bring in no symbol.
-use Rattle.std.proofs.Common.{◌≡◌, ◌⊎◌, ⊎_elim, inl, inr, ℕ, Bool, false, List, refl, subst}
+use Rattle.std.proofs.Common.{◌≡◌, ⊎_elim, inl, inr, ℕ, false, List, refl, subst}
 use Rattle.std.proofs.lemmas.Bool.{cases_order}
 use Rattle.sp_spec.specs.Lists.{Member, AtPlace}
 use Rattle.sp_spec.specs.Term.{Variable, Term, var, constant, name, app, none, more}
-use Rattle.sp_spec.specs.Signature.{Symbol, Equation, HasSymbol}
-use Rattle.sp_law_equal.specs.Parts.{IsProperPart}
+use Rattle.sp_spec.specs.Signature.{Symbol, Equation, HasPublic}
 use Rattle.sp_law_equal.specs.SubtermRules.{IsSimple, DoAgree, AreSubtermRules, BringInNoSymbols}
 use Rattle.sp_law_equal.proofs.SubtermRules.{subterm_rules_have_normal_forms}
 use Rattle.sp_law_equal.proofs.Over.{keep_symbols}
 use Rattle.sp_law_conv.specs.Accepted.{IsConstant, AreAccepted}
-use Rattle.sp_law_equal.specs.Right.{EquationsAreOver}
+use Rattle.sp_law_equal.specs.Right.{EquationsAreOver, KeepPublic}
 use Rattle.sp_law_conv.specs.Laws.{HaveOneArity, AcceptedAreConvergent}
 use Rattle.sp_law_conv.proofs.Places.{member_place, place_one}
 use Rattle.sp_law_conv.proofs.Nameless.{accepted_nameless}
 use Rattle.sp_law_conv.proofs.Constructors.{left_plain, right_plain}
 use Rattle.sp_law_conv.proofs.Agreement.{agree_unless_clash, agree_turned, agrees_itself}
 
--- a constant is its symbol without arguments
-constant_symbol : (symbols : List Symbol) (private : Bool) (t : Term Variable) → IsConstant symbols private t → (c : List ℕ) × (t ≡ app c none) × HasSymbol symbols c 0
-constant_symbol symbols private (var x) h = absurd h
-constant_symbol symbols private (constant c) h = absurd h
-constant_symbol symbols private (name n) h = absurd h
-constant_symbol symbols private (app c none) h = (c, refl, (private, h))
-constant_symbol symbols private (app c (more t ts)) h = absurd h
+-- a constant that the adversary may apply is its symbol without arguments
+constant_symbol : (symbols : List Symbol) (t : Term Variable) → IsConstant symbols false t → (c : List ℕ) × (t ≡ app c none) × HasPublic symbols c 0
+constant_symbol symbols (var x) h = absurd h
+constant_symbol symbols (constant c) h = absurd h
+constant_symbol symbols (name n) h = absurd h
+constant_symbol symbols (app c none) h = (c, refl, h)
+constant_symbol symbols (app c (more t ts)) h = absurd h
 
 module _ (symbols : List Symbol) (es : List Equation) (good : AreAccepted symbols es) where
-  leads_somewhere : (e : Equation) → Member e es → IsProperPart e.right e.left ⊎ ((c : List ℕ) × (e.right ≡ app c none) × HasSymbol symbols c 0)
-  leads_somewhere e m = ⊎_elim (λ p. inl p) (λ c. inr (constant_symbol symbols false e.right c)) (good.each e m).leads
+  keeps_public : KeepPublic symbols es
+  keeps_public = record { each = λ e m. ⊎_elim (λ p. inl p) (λ c. inr (constant_symbol symbols e.right c)) (good.each e m).leads }
 
   no_symbols : BringInNoSymbols symbols es
-  no_symbols = record { each = leads_somewhere }
+  no_symbols = record { each = λ e m. ⊎_elim (λ p. inl p) (λ c. inr (c.0, c.1, (false, c.2))) (keeps_public.each e m) }
 
   simple : (e : Equation) → Member e es → IsSimple e
-  simple e m = ⊎_elim (λ p. inl p) (λ c. inr (c.0, c.1)) (leads_somewhere e m)
+  simple e m = ⊎_elim (λ p. inl p) (λ c. inr (c.0, c.1)) (keeps_public.each e m)
 
   -- an equation agrees with itself, and with each that stands at another place
   agree_at : (j k : ℕ) (d e : Equation) → Member d es → AtPlace es j d → AtPlace es k e → DoAgree d e
@@ -62,7 +61,7 @@ convergence_law = record {
   subterm_rules = λ symbols es one over good. subterm_rules symbols es good one over;
   no_symbols = no_symbols;
   no_names = accepted_nameless;
-  public = λ symbols es good e m. (good.each e m).leads;
+  public = keeps_public;
   normal_forms = λ symbols es one over good. subterm_rules_have_normal_forms es (subterm_rules symbols es good one over);
   keep = λ symbols es good. keep_symbols symbols es (no_symbols symbols es good);
 }

@@ -1,10 +1,11 @@
 -- What is right of rules and equations: their variables are declared where they are numbered, and names are used once; terms over a signature.
 -- Source: Tamarin manual, "Model specification using rules".
-use Rattle.std.specs.Prelude.{◌≡◌, List, map}
+use Rattle.std.specs.Prelude.{◌≡◌, ◌⊎◌, ℕ, List, map}
 use Rattle.sp_spec.specs.Lists.{Member, Every, Distinct, AtPlace}
 use Rattle.sp_spec.specs.Term.{Variable, Term, var, constant, name, app, Terms, none, more, count, EachVariables, Names, MadeOf}
-use Rattle.sp_spec.specs.Signature.{Symbol, Equation, HasSymbol}
+use Rattle.sp_spec.specs.Signature.{Symbol, Equation, HasSymbol, HasPublic}
 use Rattle.sp_spec.specs.Rule.{Declared, Rule, OfArguments}
+use Rattle.sp_law_equal.specs.Parts.{IsProperPart}
 
 -- each symbol of the term is one of these, over as many arguments as its arity
 abbrev mutual
@@ -45,6 +46,11 @@ no_names n = ⊥
 pub record HaveNoNames (es : List Equation) : Type 0 where
   pub left : (e : Equation) → Member e es → MadeOf no_names (λ (x : Variable). Unit {0}) e.left
   pub right : (e : Equation) → Member e es → MadeOf no_names (λ (x : Variable). Unit {0}) e.right
+
+-- Each right side is a proper part of its left side, or a constant that is a public symbol: the equations bring the adversary nothing that it can't make or
+-- take out. (With a private one, d(x) = s, the adversary knows s by applying d, and no log learns it.)
+pub record KeepPublic (symbols : List Symbol) (es : List Equation) : Type 0 where
+  pub each : (e : Equation) → Member e es → IsProperPart e.right e.left ⊎ ((c : List ℕ) × (e.right ≡ app c none) × HasPublic symbols c 0)
 
 -- the rules' terms are over these symbols
 pub record RulesAreOver (symbols : List Symbol) (rules : List Rule) : Type 0 where

@@ -9,7 +9,7 @@ use Rattle.sp_spec.specs.Theory.{Theory, signature_of}
 use Rattle.sp_spec.specs.Log.{is_fr}
 use Rattle.sp_law_equal.specs.NormalForms.{HasNormalForms}
 use Rattle.sp_law_equal.specs.Destructors.{ArePlain}
-use Rattle.sp_law_equal.specs.Right.{AreRight, RulesAreOver}
+use Rattle.sp_law_equal.specs.Right.{AreRight, RulesAreOver, KeepPublic}
 
 -- no destructor stands in the facts
 abbrev pub FactsArePlain : List Equation → Facts Variable → Type 0
@@ -62,10 +62,15 @@ abbrev pub no_fresh_names : Names
 no_fresh_names (public_name c) = Unit {0}
 no_fresh_names (fresh_name n) = ⊥
 
--- no fresh name stands in a conclusion, and each variable of one that isn't of sort pub stands in a premise
+-- no fresh name stands in the terms, and each variable there that isn't of sort pub stands in a premise
+abbrev pub AreBound : List (Fact Variable) → Terms Variable → Type 0
+AreBound premises ts = AllMadeOf no_fresh_names (λ x. (x.sort ≡ Pub → ⊥) → HasVariable x premises) ts
+
 abbrev pub BindsConclusions : Rule → Type 0
-BindsConclusions r =
-    Every (λ (f : Fact Variable). AllMadeOf no_fresh_names (λ x. (x.sort ≡ Pub → ⊥) → HasVariable x r.facts.premises) f.args) r.facts.conclusions
+BindsConclusions r = Every (λ (f : Fact Variable). AreBound r.facts.premises f.args) r.facts.conclusions
+
+abbrev pub BindsActions : Rule → Type 0
+BindsActions r = Every (λ (a : Action Variable). AreBound r.facts.premises a.args) r.facts.actions
 
 -- a theory whose text has no findings
 pub record IsRightTheory (theory : Theory) : Type 0 where
@@ -76,6 +81,8 @@ pub record IsRightTheory (theory : Theory) : Type 0 where
   pub makes_no_fr : Every MakesNoFr theory.rules
   pub reserved : Every LeavesReserved theory.rules
   pub bound : Every BindsConclusions theory.rules
+  pub bound_actions : Every BindsActions theory.rules
+  pub keeps_public : KeepPublic (signature_of theory).symbols (signature_of theory).equations
 
 -- the facts that the adversary takes and adds
 abbrev pub adversary_facts : List (List ℕ)

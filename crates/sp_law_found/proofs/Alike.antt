@@ -1,5 +1,7 @@
 -- States whose facts are the same one by one: what can be taken from one can be taken from the other.
-use Rattle.std.proofs.Common.{◌≡◌, Bool, true, false, if◌then◌else◌, List, [], ◌∷◌, ◌++◌, refl, ap, subst}
+use Rattle.std.proofs.Common.{◌≡◌, Bool, true, false, if◌then◌else◌, List, [], ◌∷◌, ◌++◌, refl, sym, ap, ◌∙◌, subst, ⊎_elim}
+use Rattle.sp_spec.specs.Lists.{Member}
+use Rattle.sp_spec.proofs.Lists.{member_left, member_right, member_either}
 use Rattle.sp_spec.specs.Signature.{Equation}
 use Rattle.sp_spec.specs.Rule.{Fact, SameFact}
 use Rattle.sp_spec.specs.Execution.{Takes}
@@ -69,3 +71,22 @@ module _ (es : List Equation) where
         (s.before, f, s.behind, s.is, same_fact_trans es w g f t.4 (same_fact_sym es f g s.same_middle), others.1),
         others.2,
       )
+
+  still_there : (b : Bool) (front : List (Fact ⊥)) (f : Fact ⊥) (back : List (Fact ⊥)) (g : Fact ⊥) → f.persistent ≡ b → g.persistent ≡ true
+      → Member g (front ++ f ∷ back) → Member g (front ++ (if b then f ∷ back else back))
+  still_there true front f back g e p m = m
+  still_there false front f back g e p m =
+      ⊎_elim (λ k. member_left g front back k)
+      (λ k.
+      ⊎_elim (λ same. let wrong : false ≡ true = sym e ∙ ap (λ (h : Fact ⊥). h.persistent) same ∙ p in absurd cc) (λ later. member_right g front back later) k)
+      (member_either g front (f ∷ back) m)
+
+  -- what is persistent stays when facts are taken
+  pub persistent_stays : (wanted fs rest : List (Fact ⊥)) → Takes es wanted fs rest → (g : Fact ⊥) → Member g fs → g.persistent ≡ true → Member g rest
+  persistent_stays [] fs rest t g m p = subst (λ (xs : List (Fact ⊥)). Member g xs) t m
+  persistent_stays (w ∷ wanted) fs rest t g m p =
+      let front = t.0 in
+      let f = t.1 in
+      let back = t.2 in
+      persistent_stays wanted (front ++ (if f.persistent then f ∷ back else back)) rest t.5 g
+      (still_there f.persistent front f back g refl p (subst (λ (xs : List (Fact ⊥)). Member g xs) t.3 m)) p

@@ -36,6 +36,10 @@ pub fresh_keeps : (ts : List Ground) (state : List Labelled) (y : Labelled) → 
 fresh_keeps [] state y m = m
 fresh_keeps (t ∷ ts) state y m = fresh_keeps ts ((fresh_rule, fr t) ∷ state) y (inr m)
 
+pub made_keeps : (ts : List Ground) (facts : List (Fact ⊥)) (g : Fact ⊥) → Member g facts → Member g (with_made_facts ts facts)
+made_keeps [] facts g m = m
+made_keeps (t ∷ ts) facts g m = made_keeps ts (fr t ∷ facts) g (inr m)
+
 pub fresh_there : (ts : List Ground) (state : List Labelled) (t : Ground) → Member t ts → Member (fresh_rule, fr t) (with_fresh ts state)
 fresh_there [] state t m = absurd m
 fresh_there (u ∷ ts) state t (inl e) =
@@ -52,7 +56,8 @@ made_either [] made t m = inr m
 made_either (u ∷ ts) made t m =
     ⊎_elim (λ k. inl (inr k)) (λ k. ⊎_elim (λ e. inl (inl e)) (λ old. inr old) k) (made_either ts (u ∷ made) t m)
 
-fresh_is_value : (signature : Signature) (t : Ground) → HasSort Fresh t → IsValue signature Fresh t
+-- a fresh name is over each signature
+pub fresh_is_value : (signature : Signature) (t : Ground) → HasSort Fresh t → IsValue signature Fresh t
 fresh_is_value signature (var x) h = absurd x
 fresh_is_value signature (constant c) h = absurd h
 fresh_is_value signature (name n) h = (tt, tt)

@@ -7,4 +7,5 @@ pub mod Labels
 pub mod Premises
 pub mod FreshRuns
 pub mod Entries
+pub mod Stepped
 pub mod Runs

@@ -10,7 +10,7 @@ use Rattle.sp_spec.specs.Term.{Fresh, Variable, Ground, Values, valued_all}
 use Rattle.sp_spec.specs.Signature.{HasSort, RespectsSorts}
 use Rattle.sp_spec.specs.Rule.{Fact, fact_at, fr, IsFreshVariable}
 use Rattle.sp_spec.specs.Log.{Source, fresh_rule, conclusion, Entry, Log, Concludes, is_fr, first_arg, fresh_of, linear_sources, all_sources, HasSources}
-use Rattle.sp_law_erase.proofs.Origins.{source_share, fresh_share, linear_cons}
+use Rattle.sp_law_log.proofs.Taking.{source_share, fresh_share, linear_cons}
 use Rattle.sp_law_found.proofs.Labels.{Labelled, labelled, Apart}
 use Rattle.sp_spec.proofs.Facts.{same_fact_parts}
 
@@ -56,7 +56,7 @@ fresh_member t (f ∷ fs) (inr m) = member_right t (fresh_share f) (fresh_of fs)
 
 -- ---- linear sources
 
-labelled_member : (o : Source) (f : Fact ⊥) (fs : List (Fact ⊥)) (os : List Source) → Member (o, f) (labelled fs os) → Member f fs
+pub labelled_member : (o : Source) (f : Fact ⊥) (fs : List (Fact ⊥)) (os : List Source) → Member (o, f) (labelled fs os) → Member f fs
 labelled_member o f [] os m = absurd m
 labelled_member o f (g ∷ fs) [] m = absurd m
 labelled_member o f (g ∷ fs) (p ∷ os) (inl e) = inl (ap (λ (z : Labelled). z.1) e)
@@ -98,24 +98,29 @@ premises_apart past (f ∷ fs) (conclusion p k ∷ os) h made d n = (
 
 -- ---- what a state has
 
--- each conclusion of the log stands in the state, if it isn't linear and taken
-pub record HasConclusions (log : Log) (state : List Labelled) : Type 0 where
-  pub there : (p k : ℕ) (e : Entry) (f : Fact ⊥) → AtPosition log p e → Concludes e k f → (f.persistent ≡ false → Member (conclusion p k) (all_sources log) → ⊥)
-      → Member (conclusion p k, f) state
+-- Some facts may be left aside: what a state has of them is said elsewhere.
+module _ (IsAside : Fact ⊥ → Type 0) where
+  -- each other conclusion of the log stands in the state, if it isn't linear and taken
+  pub record HasConclusions (log : Log) (state : List Labelled) : Type 0 where
+    pub there : (p k : ℕ) (e : Entry) (f : Fact ⊥) → AtPosition log p e → Concludes e k f → (IsAside f → ⊥) → (f.persistent ≡ false → Member (conclusion p k) (all_sources log) → ⊥)
+        → Member (conclusion p k, f) state
 
--- so premises with their sources in the log stand there, where theirs are no sources that were named before
-pub premises_there : (past : Log) (fs : List (Fact ⊥)) (os : List Source) (state : List Labelled) → HasSources fs os past → AreOfFresh fs → HasConclusions past state
-    → ((o : Source) → Member o (linear_sources fs os) → Member o (all_sources past) → ⊥) → ((t : Ground) → Member t (fresh_of fs) → Member (fresh_rule, fr t) state)
-    → Every (λ (p : Labelled). Member p state) (labelled fs os)
-premises_there past [] os state h made keeps old fresh = tt
-premises_there past (f ∷ fs) [] state h made keeps old fresh = tt
-premises_there past (f ∷ fs) (fresh_rule ∷ os) state h made keeps old fresh =
-    let t = made.0 h.0 in (
-      subst (λ (g : Fact ⊥). Member (fresh_rule, g) state) (sym t.2) (fresh t.0 (fresh_member t.0 (f ∷ fs) (inl t.2))),
-      premises_there past fs os state h.1 made.1 keeps old (λ u m. fresh u (member_right u (fresh_share f) (fresh_of fs) m)),
-    )
-premises_there past (f ∷ fs) (conclusion p k ∷ os) state h made keeps old fresh = (
-  keeps.there p k h.1.0 f h.1.1 h.1.2 (λ linear named. old (conclusion p k) (linear_member p k f linear (f ∷ fs) (conclusion p k ∷ os) (inl refl)) named),
-  premises_there past fs os state h.2 made.1 keeps (λ o m. old o (member_right o (source_share f (conclusion p k)) (linear_sources fs os) m))
-      (λ u m. fresh u (member_right u (fresh_share f) (fresh_of fs) m)),
-)
+  abbrev pub AreNotAside : List (Fact ⊥) → Type 0
+  AreNotAside fs = Every (λ (f : Fact ⊥). IsAside f → ⊥) fs
+
+  -- so premises with their sources in the log stand there, where theirs are no sources that were named before
+  pub premises_there : (past : Log) (fs : List (Fact ⊥)) (os : List Source) (state : List Labelled) → HasSources fs os past → AreOfFresh fs → AreNotAside fs → HasConclusions past state
+      → ((o : Source) → Member o (linear_sources fs os) → Member o (all_sources past) → ⊥) → ((t : Ground) → Member t (fresh_of fs) → Member (fresh_rule, fr t) state)
+      → Every (λ (p : Labelled). Member p state) (labelled fs os)
+  premises_there past [] os state h made other keeps old fresh = tt
+  premises_there past (f ∷ fs) [] state h made other keeps old fresh = tt
+  premises_there past (f ∷ fs) (fresh_rule ∷ os) state h made other keeps old fresh =
+      let t = made.0 h.0 in (
+        subst (λ (g : Fact ⊥). Member (fresh_rule, g) state) (sym t.2) (fresh t.0 (fresh_member t.0 (f ∷ fs) (inl t.2))),
+        premises_there past fs os state h.1 made.1 other.1 keeps old (λ u m. fresh u (member_right u (fresh_share f) (fresh_of fs) m)),
+      )
+  premises_there past (f ∷ fs) (conclusion p k ∷ os) state h made other keeps old fresh = (
+    keeps.there p k h.1.0 f h.1.1 h.1.2 other.0 (λ linear named. old (conclusion p k) (linear_member p k f linear (f ∷ fs) (conclusion p k ∷ os) (inl refl)) named),
+    premises_there past fs os state h.2 made.1 other.1 keeps (λ o m. old o (member_right o (source_share f (conclusion p k)) (linear_sources fs os) m))
+        (λ u m. fresh u (member_right u (fresh_share f) (fresh_of fs) m)),
+  )

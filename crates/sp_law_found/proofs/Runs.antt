@@ -1,202 +1,53 @@
--- Each entry of a log of steps can be done as its rule, behind its fresh names, and what is kept along the log.
-use Rattle.std.proofs.Common.{◌≡◌, ⊎_elim, ℕ, zero, suc, ◌+◌, false, List, [], ◌∷◌, ◌++◌, map, length, unwrap_or, inl, inr, refl, sym, ap, ap₂, ◌∙◌, subst, arith}
-use Rattle.sp_spec.specs.Lists.{Member, Distinct, AtPlace, AtPosition}
-use Rattle.sp_spec.proofs.Lists.{member_left, member_right, distinct_apart, distinct_left}
-use Rattle.sp_spec.specs.Term.{Ground}
+-- A log of steps is carried along by the steps that it stands for.
+use Rattle.std.proofs.Common.{◌≡◌, List, [], ◌∷◌, ◌++◌, map, refl, ap, ◌∙◌, subst}
 use Rattle.sp_spec.specs.Signature.{Equation}
-use Rattle.sp_spec.specs.Rule.{Fact, Action, Facts}
+use Rattle.sp_spec.specs.Rule.{Fact}
 use Rattle.sp_spec.specs.Theory.{Theory, signature_of}
-use Rattle.sp_spec.specs.Execution.{use_rule, Trace, with_entry, Takes, Leads, Runs}
-use Rattle.sp_spec.specs.Log.{Source, conclusion, Entry, step, send, learn, Log, Concludes, fresh_of, all_fresh_uses, linear_sources, all_sources, HasSources, rule_instance, premise_sources, fresh_names_once, IsLog, visible_trace}
-use Rattle.sp_law_equal.specs.Normal.{normal_fact, normal_action}
-use Rattle.sp_law_equal.proofs.Forms.{to_normal_all}
-use Rattle.sp_law_run.specs.NormalStep.{normal_trace}
+use Rattle.sp_spec.specs.Execution.{Step}
+use Rattle.sp_spec.specs.Log.{step, send, learn, Log, all_fresh_uses, rule_instance, premise_sources, fresh_names_once, IsLog, visible_trace}
 use Rattle.sp_spec_forms.specs.Forms.{forms_of}
-use Rattle.sp_law_run.proofs.Taking.{map_append}
-use Rattle.sp_law_erase.specs.Adversary.{HasStepsAlone}
-use Rattle.sp_law_found.specs.Found.{given_by, fresh_steps, execution_of}
+use Rattle.sp_law_log.specs.StepsAlone.{HasStepsAlone}
+use Rattle.sp_law_found.specs.Found.{entry_steps, execution_of}
 use Rattle.sp_law_found.specs.Laws.{IsExecutionWith}
 use Rattle.sp_law_found.specs.Executable.{IsExecutable}
-use Rattle.sp_law_found.proofs.Alike.{AreAlike, alike_append, takes_alike}
-use Rattle.sp_law_found.proofs.Entries.{Found, found}
-use Rattle.sp_law_found.proofs.Labels.{Labelled, facts_in, labelled, labelled_facts, Taking, take_all}
-use Rattle.sp_law_found.proofs.Premises.{fresh_sorts, linear_member, premises_apart, HasConclusions, premises_there}
-use Rattle.sp_law_found.proofs.FreshRuns.{state_of, with_fresh, with_made_facts, with_made, fresh_keeps, fresh_there, fresh_alike, made_either, run_fresh}
+use Rattle.sp_law_found.proofs.Entries.{found}
+use Rattle.sp_law_found.proofs.Premises.{AreNotAside, HasConclusions}
+use Rattle.sp_law_found.proofs.Stepped.{RunShowing, nothing_run, is_execution, stepped}
+use Rattle.sp_spec.proofs.Lists.{every_all}
 
--- the conclusions of the entry at position p, from the k-th on
-abbrev concluded : ℕ → ℕ → List (Fact ⊥) → List Labelled
-concluded p k [] = []
-concluded p k (f ∷ fs) = (conclusion p k, f) ∷ concluded p (suc k) fs
-
-concluded_facts : (p k : ℕ) (fs : List (Fact ⊥)) → facts_in (concluded p k fs) ≡ fs
-concluded_facts p k [] = refl
-concluded_facts p k (f ∷ fs) = ap (λ gs. f ∷ gs) (concluded_facts p (suc k) fs)
-
-abbrev concluded_label : ℕ → Fact ⊥ → ℕ → Labelled
-concluded_label p f k = (conclusion p k, f)
-
-concluded_there : (p k : ℕ) (fs : List (Fact ⊥)) (j n : ℕ) (f : Fact ⊥) → n ≡ k + j → AtPlace fs j f → Member (concluded_label p f n) (concluded p k fs)
-concluded_there p k [] j n f e at = absurd at
-concluded_there p k (g ∷ fs) zero n f e at =
-    let number : k ≡ n = omega (arith, e) in
-    inl (ap (λ (h : Fact ⊥). concluded_label p h k) at ∙ ap (concluded_label p f) number)
-concluded_there p k (g ∷ fs) (suc j) n f e at = let number : n ≡ suc k + j = omega (arith, e) in inr (concluded_there p (suc k) fs j n f number at)
-
--- ---- traces
-
--- an entry's actions in normal form, on a trace
-entry_normal : (es : List Equation) (actions shown : List (Action ⊥)) (earlier before : Trace) → map (normal_action es) actions ≡ shown → normal_trace es earlier ≡ before
-    → normal_trace es (with_entry actions earlier) ≡ with_entry shown before
-entry_normal es [] [] earlier before same old = old
-entry_normal es [] (b ∷ shown) earlier before same old = absurd cc
-entry_normal es (a ∷ actions) [] earlier before same old = absurd cc
-entry_normal es (a ∷ actions) (b ∷ shown) earlier before same old = ap₂ (λ (x : List (Action ⊥)) (xs : Trace). x ∷ xs) same old
-
--- facts are the same as their normal forms
-alike_normal : (es : List Equation) (fs : List (Fact ⊥)) → AreAlike es fs (map (normal_fact es) fs)
-alike_normal es [] = tt
-alike_normal es (f ∷ fs) = ((refl, refl, to_normal_all es f.args), alike_normal es fs)
+-- nothing is left aside
+abbrev NoFact : Fact ⊥ → Type 0
+NoFact f = ⊥
 
 module _ (theory : Theory) (good : IsExecutable theory) where
   abbrev es : List Equation
   es = (signature_of theory).equations
 
-  -- The log is an execution, whose trace has the log's as its normal form. Its state has, modulo the equations, all the log's conclusions but those that
-  -- were taken; and the names that were made are used.
+  -- The log's steps are an execution, whose trace has the log's as its normal form. Its state has, modulo the equations, all the log's conclusions but those
+  -- that were taken.
   record Carried (log : Log) : Type 0 where
-    state : List Labelled
-    actual : List (Fact ⊥)
-    alike : AreAlike es actual (facts_in state)
-    made : List Ground
-    trace : Trace
-    shown : normal_trace es trace ≡ visible_trace log
-    runs : Runs theory (execution_of theory log) (state_of actual made) trace
-    has : HasConclusions log state
-    used : (t : Ground) → Member t made → Member t (all_fresh_uses log)
-
-  -- an entry behind a log that is carried
-  module _ (past : Log) (r : List ℕ) (facts : Facts ⊥) (os : List Source) (old : Carried past) (i : Found theory good r facts) (sources : HasSources facts.premises os past)
-      (fresh_once : Distinct (all_fresh_uses (step r facts os ∷ past))) (sources_once : Distinct (all_sources (step r facts os ∷ past))) where
-    abbrev names : List Ground
-    names = fresh_of facts.premises
-
-    abbrev named : List Source
-    named = linear_sources facts.premises os
-
-    abbrev state_before : List Labelled
-    state_before = with_fresh names old.state
-
-    abbrev actual_before : List (Fact ⊥)
-    actual_before = with_made_facts names old.actual
-
-    abbrev made_after : List Ground
-    made_after = with_made names old.made
-
-    has_before : HasConclusions past state_before
-    has_before = record { there = λ p k e f at con free. fresh_keeps names old.state (conclusion p k, f) (old.has.there p k e f at con free) }
-
-    runs_before : Runs theory (fresh_steps names ++ execution_of theory past) (state_of actual_before made_after) old.trace
-    runs_before =
-        run_fresh theory names (execution_of theory past) old.actual old.made old.trace old.runs (fresh_sorts facts.premises i.fresh)
-        (distinct_left names (all_fresh_uses past) fresh_once)
-        (λ t m k. distinct_apart t names (all_fresh_uses past) fresh_once m (old.used t k))
-
-    taking : Taking es (labelled facts.premises os) state_before
-    taking =
-        take_all es (labelled facts.premises os) state_before
-        (premises_apart past facts.premises os sources i.fresh (distinct_left named (all_sources past) sources_once) (distinct_left names (all_fresh_uses past) fresh_once))
-        (premises_there past facts.premises os state_before sources i.fresh has_before
-        (λ o m k. distinct_apart o named (all_sources past) sources_once m k)
-        (λ t m. fresh_there names old.state t m))
-
-    abbrev new : List Labelled
-    new = concluded (length past) zero facts.conclusions
-
-    abbrev state_after : List Labelled
-    state_after = new ++ taking.left
-
-    -- so the premises can be taken from the state itself
-    takes : (left : List (Fact ⊥)) × Takes es i.actual.premises actual_before left × AreAlike es left (facts_in taking.left)
-    takes =
-        let there : Takes es i.actual.premises (facts_in state_before) (facts_in taking.left) =
-        subst (λ (fs : List (Fact ⊥)). Takes es fs (facts_in state_before) (facts_in taking.left)) (labelled_facts past facts.premises os sources ∙ sym i.premises) taking.takes in
-        takes_alike es i.actual.premises actual_before (facts_in state_before) (facts_in taking.left) (fresh_alike es names old.actual old.state old.alike) there
-
-    abbrev actual_after : List (Fact ⊥)
-    actual_after = i.actual.conclusions ++ takes.0
-
-    alike_after : AreAlike es actual_after (facts_in state_after)
-    alike_after =
-        let same : facts.conclusions ++ facts_in taking.left ≡ facts_in state_after =
-        ap (λ (fs : List (Fact ⊥)). fs ++ facts_in taking.left) (sym (concluded_facts (length past) zero facts.conclusions))
-        ∙ sym (map_append (λ (x : Labelled). x.1) new taking.left) in
-        let conclusions : AreAlike es i.actual.conclusions facts.conclusions =
-        subst (λ (f : Facts ⊥). AreAlike es i.actual.conclusions f.conclusions) i.normal (alike_normal es i.actual.conclusions) in
-        subst (AreAlike es actual_after) same (alike_append es i.actual.conclusions facts.conclusions takes.0 (facts_in taking.left) conclusions takes.2)
-
-    leads : Leads theory (use_rule r (unwrap_or (given_by es (map (forms_of es) theory.rules) r facts) [])) i.actual (state_of actual_before made_after) (state_of actual_after made_after)
-    leads = record {
-      values = i.values;
-      rest = takes.0;
-      named = (i.is_instance.0, i.is_instance.1, i.is_instance.2);
-      is_instance = i.is_instance;
-      takes = takes.1;
-      is_new = tt;
-      sorts = i.valuation;
-      adds = refl;
-    }
-
-    -- a conclusion of the log before that no entry takes was not taken by this one
-    old_there : (p k : ℕ) (e : Entry) (f : Fact ⊥) → AtPosition past p e → Concludes e k f
-        → (f.persistent ≡ false → Member (conclusion p k) (all_sources (step r facts os ∷ past)) → ⊥) → Member (conclusion p k, f) state_after
-    old_there p k e f at con free =
-        member_right (conclusion p k, f) new taking.left
-        (taking.keeps (conclusion p k, f)
-        (has_before.there p k e f at con (λ linear m. free linear (member_right (conclusion p k) named (all_sources past) m)))
-        (λ linear m. free linear (member_left (conclusion p k) named (all_sources past) (linear_member p k f linear facts.premises os m))))
-
-    new_there : (p k : ℕ) (e : Entry) (f : Fact ⊥) → p ≡ length past → step r facts os ≡ e → Concludes e k f → Member (conclusion p k, f) state_after
-    new_there p k e f position same con =
-        let at : AtPlace facts.conclusions k f = subst (λ (x : Entry). Concludes x k f) (sym same) con in
-        let number : k ≡ zero + k = omega arith in
-        let m = concluded_there (length past) zero facts.conclusions k k f number at in
-        member_left (conclusion p k, f) new taking.left (subst (λ (q : ℕ). Member (concluded_label q f k) new) (sym position) m)
-
-    carried_step : Carried (step r facts os ∷ past)
-    carried_step = record {
-      state = state_after;
-      actual = actual_after;
-      alike = alike_after;
-      made = made_after;
-      trace = with_entry i.actual.actions old.trace;
-      shown = entry_normal es i.actual.actions facts.actions old.trace (visible_trace past) (ap (λ (f : Facts ⊥). f.actions) i.normal) old.shown;
-      runs = (state_of actual_before made_after, old.trace, i.actual, runs_before, leads, refl);
-      has = record {
-        there = λ p k e f at con free. ⊎_elim (λ here. new_there p k e f here.0 here.1 con) (λ earlier. old_there p k e f earlier con free) at;
-      };
-      used = λ t m.
-          ⊎_elim (λ k. member_left t names (all_fresh_uses past) k) (λ k. member_right t names (all_fresh_uses past) (old.used t k)) (made_either names old.made t m);
-    }
+    run : RunShowing theory (visible_trace log) (all_fresh_uses log)
+    steps_are : run.steps ≡ execution_of theory log
+    has : HasConclusions NoFact log run.state
 
   carried : (log : Log) → IsLog theory log → HasStepsAlone log → Carried log
-  carried [] is alone = record {
-    state = [];
-    actual = [];
-    alike = tt;
-    made = [];
-    trace = [];
-    shown = refl;
-    runs = (refl, refl);
-    has = record { there = λ p k e f at con free. absurd at };
-    used = λ t m. m;
-  }
+  carried [] is alone = record { run = nothing_run theory; steps_are = refl; has = record { there = λ p k e f at con other free. absurd at } }
   carried (step r facts os ∷ past) is alone =
       let s = is.1 premise_sources in
-      carried_step past r facts os (carried past is.0 alone.1) (found theory good r facts (is.1 rule_instance)) s.0 (is.1 fresh_names_once) s.1
+      let old = carried past is.0 alone.1 in
+      let others : AreNotAside NoFact facts.premises = every_all (λ (f : Fact ⊥). NoFact f → ⊥) (λ f wrong. wrong) facts.premises in
+      let i = found theory good r facts (is.1 rule_instance) in
+      let next = stepped theory good past r facts os old.run i s.0 (is.1 fresh_names_once) s.1 NoFact others old.has in
+      record {
+        run = next.run;
+        steps_are = next.steps_are ∙ ap (λ (steps : List Step). entry_steps es (map (forms_of es) theory.rules) (step r facts os) ++ steps) old.steps_are;
+        has = next.has_others;
+      }
   carried (send m ∷ past) is alone = absurd alone.0
   carried (learn m how ∷ past) is alone = absurd alone.0
 
   pub log_runs : (log : Log) → IsLog theory log → HasStepsAlone log → IsExecutionWith theory (execution_of theory log) (visible_trace log)
   log_runs log is alone =
       let c = carried log is alone in
-      record { trace = c.trace; executed = (state_of c.actual c.made, c.runs); is = c.shown }
+      subst (λ (steps : List Step). IsExecutionWith theory steps (visible_trace log)) c.steps_are
+      (is_execution theory (visible_trace log) (all_fresh_uses log) c.run)

@@ -4,7 +4,7 @@ use Rattle.sp_spec.specs.Theory.{Theory, signature_of}
 use Rattle.sp_spec.specs.Execution.{Step, Trace, IsExecution}
 use Rattle.sp_law_run.specs.NormalStep.{normal_trace}
 use Rattle.sp_spec.specs.Log.{Log, visible_trace, IsLog}
-use Rattle.sp_law_erase.specs.Adversary.{HasStepsAlone}
+use Rattle.sp_law_log.specs.StepsAlone.{HasStepsAlone}
 use Rattle.sp_law_found.specs.Found.{execution_of}
 use Rattle.sp_law_found.specs.Executable.{IsExecutable}
 

@@ -24,7 +24,7 @@ symbol_fields s f n a b c =
     ap (λ g. made g s.arity s.private) a ∙ ap (λ m. made f m s.private) b ∙ ap (made f n) c
 
 -- the test tells the public symbols
-is_public_tells : (symbols : List Symbol) (f : List ℕ) (n : ℕ) → is_public symbols f n ≡ true → HasPublic symbols f n
+pub is_public_tells : (symbols : List Symbol) (f : List ℕ) (n : ℕ) → is_public symbols f n ≡ true → HasPublic symbols f n
 is_public_tells [] f n e = absurd cc
 is_public_tells (s ∷ symbols) f n e = at (symbol_test f n s) refl (λ k. is_public_tells symbols f n k) e
   where
@@ -35,7 +35,7 @@ is_public_tells (s ∷ symbols) f n e = at (symbol_test f n s) refl (λ k. is_pu
         inl (symbol_fields s f n ((bytes_eq-Decides s.name f).0 two.0) (eqb-true s.arity n two.1) (not-true s.private one.1))
     at false h later k = inr (later k)
 
-is_public_from : (symbols : List Symbol) (f : List ℕ) (n : ℕ) → HasPublic symbols f n → is_public symbols f n ≡ true
+pub is_public_from : (symbols : List Symbol) (f : List ℕ) (n : ℕ) → HasPublic symbols f n → is_public symbols f n ≡ true
 is_public_from [] f n m = absurd m
 is_public_from (s ∷ symbols) f n (inl e) =
     let itself : symbol_test f n (record { name = f; arity = n; private = false }) ≡ true =

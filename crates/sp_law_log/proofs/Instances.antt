@@ -4,16 +4,16 @@ use Rattle.std.proofs.lemmas.Bool.{and_parts, not-true}
 use Rattle.std.proofs.lemmas.Slice.Eq.{bytes_eq-Decides}
 use Rattle.std.specs.Str.{bytes_eq}
 use Rattle.sp_spec.specs.Lists.{Member, Every}
-use Rattle.sp_spec.specs.Term.{AllMadeOf, Sort, Pub, Variable, name, none, more, Ground, Grounds, Values, valued_all}
+use Rattle.sp_spec.specs.Term.{Sort, Pub, Variable, Terms, name, none, more, Ground, Grounds, Values, valued_all}
 use Rattle.sp_spec.specs.Signature.{Equation, HasSort, RespectsSorts}
-use Rattle.sp_spec.specs.Rule.{Fact, Facts, Rule, IsFreshVariable, fact_at, facts_at, fr}
+use Rattle.sp_spec.specs.Rule.{Fact, Action, Facts, Rule, IsFreshVariable, fact_at, action_at, facts_at, fr}
 use Rattle.sp_spec.specs.Theory.{Theory, signature_of}
 use Rattle.sp_spec.specs.Log.{IsRuleInstance, is_fr, first_arg, fresh_of}
 use Rattle.sp_spec.proofs.Facts.{same_fact_parts}
 use Rattle.sp_spec.proofs.Lists.{every_member, member_map, member_mapped, member_right}
 use Rattle.sp_law_equal.specs.Parts.{IsPart, IsPartOfOne}
-use Rattle.sp_law_equal.specs.Normal.{normal_fact, normal_facts}
-use Rattle.sp_law_equal.specs.RightTheory.{HasNormalInstances, HasPlainPremises, TakesFreshNames, BindsConclusions, HasVariable, no_fresh_names}
+use Rattle.sp_law_equal.specs.Normal.{normal_all, normal_fact, normal_action, normal_facts}
+use Rattle.sp_law_equal.specs.RightTheory.{HasNormalInstances, HasPlainPremises, TakesFreshNames, AreBound, BindsActions, BindsConclusions, HasVariable}
 use Rattle.sp_law_equal.proofs.Forms.{normals, normals_respect}
 use Rattle.sp_law_equal.proofs.Facts.{facts_normal_form_only, facts_value}
 use Rattle.sp_law_equal.proofs.NormalNames.{normal_names_all}
@@ -35,7 +35,7 @@ is_fr_of f t e args =
     let both = and_parts (bytes_eq f.symbol (codes "Fr")) (not f.persistent) e in
     same_fact_parts f (fr t) ((bytes_eq-Decides f.symbol (codes "Fr")).0 both.0) (not-true f.persistent both.1) args
 
-module _ (theory : Theory) (good : HasNormalInstances theory) (bound : Every BindsConclusions theory.rules) (fresh : Every TakesFreshNames theory.rules) where
+module _ (theory : Theory) (good : HasNormalInstances theory) (shown : Every BindsActions theory.rules) (bound : Every BindsConclusions theory.rules) (fresh : Every TakesFreshNames theory.rules) where
   abbrev es : List Equation
   es = (signature_of theory).equations
 
@@ -46,6 +46,7 @@ module _ (theory : Theory) (good : HasNormalInstances theory) (bound : Every Bin
     pub values : Values
     pub sorts : RespectsSorts values
     pub premises : facts.premises ≡ map (fact_at values) rule.facts.premises
+    pub actions : facts.actions ≡ map (normal_action es) (map (action_at values) rule.facts.actions)
     pub conclusions : facts.conclusions ≡ map (normal_fact es) (map (fact_at values) rule.facts.conclusions)
 
   pub normal_step : (r : List ℕ) (facts : Facts ⊥) → IsRuleInstance theory r facts → NormalStep facts
@@ -59,6 +60,7 @@ module _ (theory : Theory) (good : HasNormalInstances theory) (bound : Every Bin
         values = normals es s.3;
         sorts = normals_respect es s.3 (λ x. (s.4 x).0);
         premises = ap (λ (f : Facts ⊥). f.premises) only ∙ plain_facts es forms s.3 own.premises (every_member (HasPlainPremises es) theory.rules s.0 s.1 good.premises);
+        actions = ap (λ (f : Facts ⊥). f.actions) (only ∙ facts_value es forms s.3 own);
         conclusions = ap (λ (f : Facts ⊥). f.conclusions) (only ∙ facts_value es forms s.3 own);
       }
 
@@ -84,17 +86,32 @@ module _ (theory : Theory) (good : HasNormalInstances theory) (bound : Every Bin
     of_instance : (f : Fact Variable) → Member f s.rule.facts.premises → Member (fact_at s.values f) facts.premises
     of_instance f m = subst (λ (fs : List (Fact ⊥)). Member (fact_at s.values f) fs) (sym s.premises) (member_map (fact_at s.values) f s.rule.facts.premises m)
 
-    -- a name in a conclusion stands in a premise
-    pub from_premise : (f : Fact ⊥) → Member f facts.conclusions → IsPartOfOne (name n) f.args → (g : Fact ⊥) × Member g facts.premises × IsPartOfOne (name n) g.args
-    from_premise f m p =
+    -- a name in the normal form of what the rule has bound stands in a premise
+    bound_name : (ts : Terms Variable) → AreBound s.rule.facts.premises ts → IsPartOfOne (name n) (normal_all es (valued_all s.values ts))
+        → (g : Fact ⊥) × Member g facts.premises × IsPartOfOne (name n) g.args
+    bound_name ts binds p =
         let v = s.values in
-        let own = s.rule.facts in
-        let is_bound : Variable → Type 0 = λ x. (x.sort ≡ Pub → ⊥) → HasVariable x own.premises in
-        let a = member_mapped (normal_fact es) f (map (fact_at v) own.conclusions) (subst (λ (fs : List (Fact ⊥)). Member f fs) s.conclusions m) in
-        let b = member_mapped (fact_at v) a.0 own.conclusions a.1 in
-        let before = normal_names_all es good.forms.normal_forms good.forms.nameless n a.0.args (subst (λ (h : Fact ⊥). IsPartOfOne (name n) h.args) (sym a.2) p) in
-        let inside = subst (λ (h : Fact ⊥). IsPartOfOne (name n) h.args) (sym b.2) before in
-        let binds = every_member BindsConclusions theory.rules s.rule s.is_rule bound in
-        let x = from_variables v n is_bound b.0.args (every_member (λ (g : Fact Variable). AllMadeOf no_fresh_names is_bound g.args) own.conclusions b.0 b.1 binds) inside in
-        let r = in_premise v n x.0 x.2 own.premises (x.1 (not_public x.0 x.2)) in
+        let own = s.rule.facts.premises in
+        let is_bound : Variable → Type 0 = λ x. (x.sort ≡ Pub → ⊥) → HasVariable x own in
+        let inside = normal_names_all es good.forms.normal_forms good.forms.nameless n (valued_all v ts) p in
+        let x = from_variables v n is_bound ts binds inside in
+        let r = in_premise v n x.0 x.2 own (x.1 (not_public x.0 x.2)) in
         (fact_at v r.0, of_instance r.0 r.1, r.2)
+
+    pub conclusion_from : (f : Fact ⊥) → Member f facts.conclusions → IsPartOfOne (name n) f.args → (g : Fact ⊥) × Member g facts.premises × IsPartOfOne (name n) g.args
+    conclusion_from f m p =
+        let own = s.rule.facts.conclusions in
+        let a = member_mapped (normal_fact es) f (map (fact_at s.values) own) (subst (λ (fs : List (Fact ⊥)). Member f fs) s.conclusions m) in
+        let b = member_mapped (fact_at s.values) a.0 own a.1 in
+        let binds = every_member BindsConclusions theory.rules s.rule s.is_rule bound in
+        bound_name b.0.args (every_member (λ (g : Fact Variable). AreBound s.rule.facts.premises g.args) own b.0 b.1 binds)
+        (subst (λ (h : Fact ⊥). IsPartOfOne (name n) (normal_all es h.args)) (sym b.2) (subst (λ (h : Fact ⊥). IsPartOfOne (name n) h.args) (sym a.2) p))
+
+    pub action_from : (a : Action ⊥) → Member a facts.actions → IsPartOfOne (name n) a.args → (g : Fact ⊥) × Member g facts.premises × IsPartOfOne (name n) g.args
+    action_from f m p =
+        let own = s.rule.facts.actions in
+        let a = member_mapped (normal_action es) f (map (action_at s.values) own) (subst (λ (xs : List (Action ⊥)). Member f xs) s.actions m) in
+        let b = member_mapped (action_at s.values) a.0 own a.1 in
+        let binds = every_member BindsActions theory.rules s.rule s.is_rule shown in
+        bound_name b.0.args (every_member (λ (g : Action Variable). AreBound s.rule.facts.premises g.args) own b.0 b.1 binds)
+        (subst (λ (h : Action ⊥). IsPartOfOne (name n) (normal_all es h.args)) (sym b.2) (subst (λ (h : Action ⊥). IsPartOfOne (name n) h.args) (sym a.2) p))

@@ -8,3 +8,7 @@ pub mod Origins
 pub mod Used
 pub mod Lasting
 pub mod Over
+pub mod Rearranged
+pub mod Taking
+pub mod Below
+pub mod Sources

@@ -4,16 +4,16 @@ use Rattle.std.proofs.Common.{◌≡◌, ◌⊎◌, ⊎_elim, ℕ, Bool, true, f
 use Rattle.sp_spec.specs.Lists.{Member, Every, AtPosition}
 use Rattle.sp_spec.specs.Term.{app, name, none, more, Ground, Grounds, valued}
 use Rattle.sp_spec.specs.Signature.{Signature}
-use Rattle.sp_spec.specs.Rule.{Fact, Facts, out_of}
+use Rattle.sp_spec.specs.Rule.{Fact, Action, Facts, out_of}
 use Rattle.sp_spec.specs.Theory.{Theory, signature_of}
 use Rattle.sp_spec.specs.Log.{Source, fresh_rule, conclusion, How, public_name, own_name, constructed, by_chain, Entry, step, send, learn, Log, is_fr, fresh_of, fresh_uses, Concludes, HasSources, IsLearnt, AreLearnt, IsDestructed, IsChain, StartsChain, MayLearn, IsRuleInstance, Clause, rule_instance, premise_sources, sent_is_learnt, way_of_learning, Keeps, IsLog}
 use Rattle.sp_law_equal.specs.Parts.{IsPart, IsPartOfOne}
-use Rattle.sp_law_equal.specs.RightTheory.{HasNormalInstances, TakesFreshNames, BindsConclusions}
+use Rattle.sp_law_equal.specs.RightTheory.{HasNormalInstances, TakesFreshNames, BindsActions, BindsConclusions}
 use Rattle.sp_law_equal.proofs.Parts.{part_valued}
 use Rattle.sp_law_log.proofs.Places.{place_member}
 use Rattle.sp_law_log.proofs.Destructions.{gives_part}
 use Rattle.sp_law_log.proofs.NameParts.{part_within, in_public, in_fresh}
-use Rattle.sp_law_log.proofs.Instances.{normal_step, fr_premise, from_premise}
+use Rattle.sp_law_log.proofs.Instances.{normal_step, fr_premise, conclusion_from, action_from}
 
 -- a premise that is no Fr is what an earlier entry concludes
 pub source_of : (past : Log) (fs : List (Fact ⊥)) (sources : List Source) → HasSources fs sources past → (f : Fact ⊥) → Member f fs → is_fr f ≡ false
@@ -97,19 +97,27 @@ module _ (past : Log) (o : Origins past) (n : ℕ) where
   learnt_used signature m constructed h other p = made_used h.0 h.1 h.4 (subst (IsPart (name n)) h.2 p)
   learnt_used signature m (by_chain c k chain) h other p = chain_used signature m c k chain h m (ends_chain signature past chain h.4 m h.6) p
 
-module _ (theory : Theory) (good : HasNormalInstances theory) (bound : Every BindsConclusions theory.rules) (fresh : Every TakesFreshNames theory.rules) where
+module _ (theory : Theory) (good : HasNormalInstances theory) (shown : Every BindsActions theory.rules) (bound : Every BindsConclusions theory.rules) (fresh : Every TakesFreshNames theory.rules) where
   module _ (past : Log) (o : Origins past) (n : ℕ) where
-    -- a step uses itself the name in one of its conclusions, or an earlier entry does
+    -- a step uses itself the name in one of its premises, or an earlier entry does
+    from_premise : (r : List ℕ) (facts : Facts ⊥) (sources : List Source) → IsRuleInstance theory r facts → HasSources facts.premises sources past
+        → (g : Fact ⊥) × Member g facts.premises × IsPartOfOne (name n) g.args → Member (name n) (fresh_of facts.premises) ⊎ IsUsed past n
+    from_premise r facts sources is has g = at (is_fr g.0) refl
+      where
+        at : (b : Bool) → is_fr g.0 ≡ b → Member (name n) (fresh_of facts.premises) ⊎ IsUsed past n
+        at true e = inl (fr_premise theory good shown bound fresh facts (normal_step theory good shown bound fresh r facts is) n g.0 g.1 e g.2).1
+        at false e = inr (premise_used past o n facts.premises sources has g.0 g.1 e g.2)
+
+    -- and so the name in one of its conclusions, or of its actions
     pub conclusion_used : (r : List ℕ) (facts : Facts ⊥) (sources : List Source) → IsRuleInstance theory r facts → HasSources facts.premises sources past
         → (f : Fact ⊥) → Member f facts.conclusions → IsPartOfOne (name n) f.args → Member (name n) (fresh_of facts.premises) ⊎ IsUsed past n
     conclusion_used r facts sources is has f m p =
-        let s = normal_step theory good bound fresh r facts is in
-        let g = from_premise theory good bound fresh facts s n f m p in
-        at g.0 g.1 g.2 (is_fr g.0) refl
-      where
-        at : (g : Fact ⊥) → Member g facts.premises → IsPartOfOne (name n) g.args → (b : Bool) → is_fr g ≡ b → Member (name n) (fresh_of facts.premises) ⊎ IsUsed past n
-        at g k q true e = inl (fr_premise theory good bound fresh facts (normal_step theory good bound fresh r facts is) n g k e q).1
-        at g k q false e = inr (premise_used past o n facts.premises sources has g k e q)
+        from_premise r facts sources is has (conclusion_from theory good shown bound fresh facts (normal_step theory good shown bound fresh r facts is) n f m p)
+
+    pub action_used : (r : List ℕ) (facts : Facts ⊥) (sources : List Source) → IsRuleInstance theory r facts → HasSources facts.premises sources past
+        → (a : Action ⊥) → Member a facts.actions → IsPartOfOne (name n) a.args → Member (name n) (fresh_of facts.premises) ⊎ IsUsed past n
+    action_used r facts sources is has a m p =
+        from_premise r facts sources is has (action_from theory good shown bound fresh facts (normal_step theory good shown bound fresh r facts is) n a m p)
 
     -- so it is of each entry
     entry_concludes : (e : Entry) → ((clause : Clause) → Keeps theory clause e past) → (k : ℕ) (f : Fact ⊥) → Concludes e k f → IsPartOfOne (name n) f.args → IsUsed (e ∷ past) n

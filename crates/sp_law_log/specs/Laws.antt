@@ -4,12 +4,12 @@ use Rattle.sp_spec.specs.Lists.{Member, Every, AtPlace, AtPosition}
 use Rattle.sp_spec.specs.Term.{Variable, name, Ground, Grounds}
 use Rattle.sp_spec.specs.Signature.{Symbol, Equation, Signature, IsOver, AreOver}
 use Rattle.sp_spec.specs.Equal.{IsNormal, AreNormal}
-use Rattle.sp_spec.specs.Rule.{Fact, Facts, OfArguments, fr}
+use Rattle.sp_spec.specs.Rule.{Fact, Action, Facts, OfArguments, fr}
 use Rattle.sp_spec.specs.Theory.{Theory, signature_of}
 use Rattle.sp_spec.specs.Log.{Source, How, own_name, by_chain, Entry, step, send, learn, Log, is_fr, fresh_uses, IsDestructed, IsLog}
 use Rattle.sp_spec.specs.Destruction.{Destruction, Fork, way_to, along_way, destructions}
 use Rattle.sp_law_equal.specs.Parts.{IsPart, IsPartOfOne}
-use Rattle.sp_law_equal.specs.RightTheory.{HasNormalInstances, TakesFreshNames, BindsConclusions, StandsIn, StandsAmong}
+use Rattle.sp_law_equal.specs.RightTheory.{HasNormalInstances, TakesFreshNames, BindsActions, BindsConclusions, StandsIn, StandsAmong}
 use Rattle.sp_law_log.specs.Ways.{IsPublicFork, ArePublic, IsWay, destruction_below, IsOfPlace}
 
 -- Where the right side of an equation stands in its left side, a way leads there. Each place on it that is neither its beginning
@@ -56,13 +56,15 @@ IsUsedBefore log p n = (q : ℕ) × (e : Entry) × AtPosition log q e × Member 
 abbrev pub IsUsedUntil : Log → ℕ → ℕ → Type 0
 IsUsedUntil log p n = (q : ℕ) × (e : Entry) × AtPosition log q e × Member (name n) (fresh_uses e) × (q ≤ p)
 
--- Which entry uses a fresh name that stands in the entry at a position: in a premise Fr, in another premise, in a conclusion, in what is sent,
+-- Which entry uses a fresh name that stands in the entry at a position: in a premise Fr, in another premise, in an action, in a conclusion, in what is sent,
 -- in what is the adversary's own, in what is learnt otherwise, in a message of a chain.
 pub record HasOrigins (log : Log) : Type 0 where
   pub fresh_premise : (p : ℕ) (r : List ℕ) (facts : Facts ⊥) (sources : List Source) → AtPosition log p (step r facts sources) → (f : Fact ⊥) → Member f facts.premises → is_fr f ≡ true
       → (n : ℕ) → IsPartOfOne (name n) f.args → (f ≡ fr (name n)) × Member (name n) (fresh_uses (step r facts sources))
   pub premise : (p : ℕ) (r : List ℕ) (facts : Facts ⊥) (sources : List Source) → AtPosition log p (step r facts sources) → (f : Fact ⊥) → Member f facts.premises
       → (n : ℕ) → (f ≡ fr (name n) → ⊥) → IsPartOfOne (name n) f.args → IsUsedBefore log p n
+  pub action : (p : ℕ) (r : List ℕ) (facts : Facts ⊥) (sources : List Source) → AtPosition log p (step r facts sources) → (a : Action ⊥) → Member a facts.actions
+      → (n : ℕ) → IsPartOfOne (name n) a.args → IsUsedUntil log p n
   pub conclusion : (p : ℕ) (r : List ℕ) (facts : Facts ⊥) (sources : List Source) → AtPosition log p (step r facts sources) → (f : Fact ⊥) → Member f facts.conclusions
       → (n : ℕ) → IsPartOfOne (name n) f.args → IsUsedUntil log p n
   pub sent : (p : ℕ) (m : Ground) → AtPosition log p (send m) → (n : ℕ) → IsPart (name n) m → IsUsedBefore log p n
@@ -71,10 +73,10 @@ pub record HasOrigins (log : Log) : Type 0 where
   pub chain : (p c k : ℕ) (m : Ground) (messages : List Ground) → AtPosition log p (learn m (by_chain c k messages)) → (t : Ground) → Member t messages
       → (n : ℕ) → IsPart (name n) t → IsUsedBefore log p n
 
--- Where rules have normal instances, take fresh names by Fr alone, and bind their conclusions, each fresh name in a log was used by an Fr, or
+-- Where rules have normal instances, take fresh names by Fr alone, and bind their actions and conclusions, each fresh name in a log was used by an Fr, or
 -- as a name of the adversary's own, before it stands anywhere else.
 pub record NamesHaveOrigins : Type 0 where
-  pub each : (theory : Theory) → HasNormalInstances theory → Every BindsConclusions theory.rules → Every TakesFreshNames theory.rules
+  pub each : (theory : Theory) → HasNormalInstances theory → Every BindsActions theory.rules → Every BindsConclusions theory.rules → Every TakesFreshNames theory.rules
       → (log : Log) → IsLog theory log → HasOrigins log
 
 -- the messages that an entry sends or learns, with those of its chain

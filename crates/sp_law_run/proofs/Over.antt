@@ -14,7 +14,7 @@ use Rattle.sp_law_run.specs.NormalStep.{normal_trace}
 use Rattle.sp_law_equal.specs.Right.{IsTermOver, AreTermsOver, RulesAreOver}
 use Rattle.sp_law_run.specs.Laws.{IsTraceOver}
 
-count_valued : (v : Values) (ts : Terms Variable) → count (valued_all v ts) ≡ count ts
+pub count_valued : (v : Values) (ts : Terms Variable) → count (valued_all v ts) ≡ count ts
 count_valued v none = refl
 count_valued v (more t ts) = ap (λ k. suc k) (count_valued v ts)
 

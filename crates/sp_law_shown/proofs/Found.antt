@@ -42,7 +42,8 @@ use Rattle.sp_law_shown.specs.Shown.{IsSearched, FoundBreaks, FoundSatisfies}
 use Rattle.sp_law_shown.specs.Laws.{FoundLogsShow}
 use Rattle.sp_law_shown.proofs.Executable.{executable, checkable}
 use Rattle.sp_law_shown.proofs.Learning.{into_reading}
-use Rattle.sp_law_shown.proofs.Traces.{log_normal, normal_equal, visible_equal}
+use Rattle.sp_law_shown.proofs.Traces.{log_normal, visible_equal}
+use Rattle.sp_law_adversary.proofs.Learnt.{normal_trace_same}
 use Rattle.sp_spec.proofs.Lists.{each_among}
 
 -- ---- truth
@@ -89,7 +90,7 @@ module _ (t : WrittenTheory) (s : IsSearched t) (log : Log) (is : IsLogOfSteps (
     over_steps : decided (log_trace log) empty g ≡ true → GuardedHolds signature executed.trace (assignment_of empty) g
     over_steps e =
         let m = assignment_of empty in
-        let equal = subst (EqualTraces signature.equations executed.trace) executed.is (normal_equal signature.equations executed.trace) in
+        let equal = subst (EqualTraces signature.equations executed.trace) executed.is (normal_trace_same signature.equations executed.trace) in
         (equal_same signature executed.trace (visible_trace log) equal m m (equal_assignment signature.equations m) g).1 (over_visible e)
 
   module _ (lemma : Lemma) (basic : IsBasicFormula signature lemma.formula) (unlearnt : names_learning lemma.formula ≡ false) (g : Guarded) (form : checked_form lemma.formula ≡ Some g) where

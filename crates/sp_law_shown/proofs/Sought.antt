@@ -14,7 +14,7 @@ use Rattle.sp_spec.proofs.Options.{mapped, then_some}
 use Rattle.sp_law_guard.proofs.Checked.{form_checked}
 use Rattle.sp_law_decide.specs.Deciding.{assignment_of, decided, empty}
 use Rattle.sp_law_decide.proofs.Told.{told}
-use Rattle.sp_law_erase.specs.Adversary.{IsStep}
+use Rattle.sp_law_log.specs.StepsAlone.{IsStep}
 use Rattle.sp_law_tree.proofs.Forms.{IsRight, right_negation}
 use Rattle.sp_law_tree.proofs.PlacedForms.{form_right}
 use Rattle.sp_spec_system.specs.System.{Happening, rule_step, sending, learning, Event, Link, System}

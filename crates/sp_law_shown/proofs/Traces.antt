@@ -11,10 +11,9 @@ use Rattle.sp_spec.specs.Log.{Log, step, send, learn, log_trace, visible_trace, 
 use Rattle.sp_law_truth.specs.Same.{EqualTraces}
 use Rattle.sp_law_truth.specs.Shown.{only_actions, shown}
 use Rattle.sp_law_decide.specs.Normal.{IsNormalAction, IsNormalTrace}
-use Rattle.sp_law_run.specs.NormalStep.{normal_trace}
 use Rattle.sp_law_run.specs.Laws.{IsTraceOver}
-use Rattle.sp_law_erase.specs.Adversary.{HasStepsAlone}
-use Rattle.sp_law_erase.proofs.Sources.{same_normal_actions}
+use Rattle.sp_law_adversary.proofs.Truth.{shown_entry}
+use Rattle.sp_law_log.specs.StepsAlone.{HasStepsAlone}
 use Rattle.sp_law_truth.proofs.Itself.{trace_itself}
 
 -- ---- normal forms
@@ -56,22 +55,12 @@ log_normal theory log h alone over =
     (IsNormalAction (signature_of theory)) (λ a k l. (k, l)) entry n o)
     (log_trace log) (trace_normal theory log h alone) (trace_over (signature_of theory).symbols log alone over)
 
--- a trace is equal to its normal form
-pub normal_equal : (es : List Equation) (trace : Trace) → EqualTraces es trace (normal_trace es trace)
-normal_equal es [] = tt
-normal_equal es (actions ∷ trace) = (same_normal_actions es actions, normal_equal es trace)
-
 -- ---- what is shown
-
-entry_shown : (names : List (List ℕ)) (actions : List (Action ⊥)) (trace : Trace)
-    → shown names (with_entry actions trace) ≡ with_entry (only_actions names actions) (shown names trace)
-entry_shown names [] trace = refl
-entry_shown names (a ∷ actions) trace = refl
 
 pub visible_shown : (names : List (List ℕ)) (log : Log) → HasStepsAlone log → shown names (log_trace log) ≡ shown names (visible_trace log)
 visible_shown names [] alone = refl
 visible_shown names (step r facts os ∷ past) alone =
-    ap (with_entry (only_actions names facts.actions)) (visible_shown names past alone.1) ∙ sym (entry_shown names facts.actions (visible_trace past))
+    ap (with_entry (only_actions names facts.actions)) (visible_shown names past alone.1) ∙ sym (shown_entry names facts.actions (visible_trace past))
 visible_shown names (send m ∷ past) alone = absurd alone.0
 visible_shown names (learn m how ∷ past) alone = absurd alone.0
 

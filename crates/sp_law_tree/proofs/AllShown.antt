@@ -1,5 +1,5 @@
 -- What finished trees show of lemmas: of logs, and so of executions.
-use Rattle.std.proofs.Common.{◌≡◌, List, [], ◌∷◌, Some, false, codes}
+use Rattle.std.proofs.Common.{◌≡◌, List, [], ◌∷◌, Some, false}
 use Rattle.sp_spec.specs.Term.{Values}
 use Rattle.sp_spec.specs.Rule.{Facts}
 use Rattle.sp_spec.specs.Execution.{Step, use_rule, make_fresh, take_out, put_in, know_public, make_own, apply_symbol, State, Trace, IsNamed, IsInstance, Runs, IsExecution}
@@ -8,24 +8,24 @@ use Rattle.sp_spec.proofs.Lists.{every_weaken}
 use Rattle.sp_spec.specs.Theory.{Theory, Lemma, signature_of}
 use Rattle.sp_spec.specs.Written.{WrittenRule, WrittenTheory, theory_of}
 use Rattle.sp_spec.specs.Findings.{rule_is_wrong}
+use Rattle.sp_spec.specs.Formula.{Formula}
 use Rattle.sp_spec.specs.Guarded.{Guarded}
+use Rattle.sp_spec.specs.Verdict.{names_learning}
 use Rattle.sp_law_equal.specs.NormalForms.{HasNormalForms}
-use Rattle.sp_law_equal.specs.RightTheory.{MakesNoFr, LeavesAdversaryAlone}
+use Rattle.sp_law_equal.specs.RightTheory.{LeavesReserved, LeavesAdversaryAlone}
+use Rattle.sp_law_equal.specs.Right.{KeepPublic}
 use Rattle.sp_law_guard.proofs.Checked.{form_checked}
-use Rattle.sp_law_truth.specs.Shown.{action_names}
 use Rattle.sp_law_guard.specs.CheckedForm.{checked_form}
+use Rattle.sp_law_adversary.specs.Lemmas.{IsOfExecutions, HasLogs}
+use Rattle.sp_law_adversary.proofs.Lemmas.{logs_show}
 use Rattle.sp_law_system.specs.Rules.{SuitsProofs}
-use Rattle.sp_law_tree.specs.BasicTheory.{IsBasicRule, IsWithoutSends}
-use Rattle.sp_law_tree.specs.Executions.{HasLogsFor}
+use Rattle.sp_law_tree.specs.BasicTheory.{IsBasicRule}
 use Rattle.sp_law_tree.specs.Laws.{LemmasAreShown}
 use Rattle.sp_law_tree.proofs.ClosedRules.{IsRightRule, each_right}
 use Rattle.sp_law_tree.proofs.RightTexts.{text_suits}
-use Rattle.sp_law_tree.proofs.Forms.{each_not_send}
-use Rattle.sp_law_tree.proofs.PlacedForms.{form_names}
 use Rattle.sp_law_tree.proofs.OverLogs.{trees_show_logs_lem}
-use Rattle.sp_law_tree.proofs.OverExecutions.{form_depends, logs_show_executions_lem}
 
-module _ (t : WrittenTheory) (forms : HasNormalForms (signature_of (theory_of t))) (rules : Every (IsBasicRule (signature_of (theory_of t))) t.rules) (clean : Every (λ (r : WrittenRule). rule_is_wrong r ≡ false) t.rules) (alone : LeavesAdversaryAlone (theory_of t)) where
+module _ (t : WrittenTheory) (forms : HasNormalForms (signature_of (theory_of t))) (keeps : KeepPublic (signature_of (theory_of t)).symbols (signature_of (theory_of t)).equations) (rules : Every (IsBasicRule (signature_of (theory_of t))) t.rules) (clean : Every (λ (r : WrittenRule). rule_is_wrong r ≡ false) t.rules) (alone : LeavesAdversaryAlone (theory_of t)) where
   -- the theory without its restrictions: trees as they are so far don't look at them
   abbrev free_text : WrittenTheory
   free_text = record { name = t.name; symbols = t.symbols; equations = t.equations; rules = t.rules; restrictions = []; lemmas = t.lemmas }
@@ -73,18 +73,25 @@ module _ (t : WrittenTheory) (forms : HasNormalForms (signature_of (theory_of t)
   suits : SuitsProofs free
   suits = text_suits free_text forms rules clean alone_free
 
-  -- its executions have logs for what the lemma sees
-  logged : (lemma : Lemma) → IsWithoutSends lemma.formula → (g : Guarded) → checked_form lemma.formula ≡ Some g → HasLogsFor free (action_names g)
-  logged lemma w g e =
-      logs_show_executions_lem.without_adversary free alone_free (every_weaken IsRightRule MakesNoFr (λ r h. h.makes_no_fr) free.rules (each_right (signature_of free) t.rules rules clean)) forms.normal_forms (action_names g)
-      (each_not_send (action_names g) (form_names (λ s. s ≡ codes "K" → ⊥) lemma.formula g w (form_checked lemma.formula g e).0))
+  -- its executions have logs, which show of formulas that don't speak of learning what the executions show
+  has_logs : HasLogs free
+  has_logs = record {
+    normal_forms = forms.normal_forms;
+    keeps = keeps;
+    reserved = every_weaken IsRightRule LeavesReserved (λ r h. h.reserved) free.rules (each_right (signature_of free) t.rules rules clean);
+    restrictions = tt;
+  }
+
+-- a formula with a guarded form that doesn't speak of learning
+of_executions : (f : Formula) → names_learning f ≡ false → (g : Guarded) → checked_form f ≡ Some g → IsOfExecutions f
+of_executions f u g e = let c = form_checked f g e in ((g, c.0, c.1), u)
 
 pub lemmas_are_shown_lem : LemmasAreShown
 lemmas_are_shown_lem = record {
-  all_traces = λ t forms rules clean alone lemma f w g e context is_of names tree accepted finished steps trace execution meets.
-      logs_show_executions_lem.all (free t forms rules clean alone) lemma (action_names g) (logged t forms rules clean alone lemma w g e) tt (form_depends (signature_of (theory_of t)) lemma f g e)
-      (trees_show_logs_lem.all_traces (free t forms rules clean alone) (suits t forms rules clean alone) lemma f g e context (record { rules = is_of.rules; numbered = is_of.numbered }) names tree accepted finished) steps trace (execution_free t forms rules clean alone steps trace execution) tt;
-  exists_trace = λ t forms rules clean alone lemma f w g e context is_of names tree accepted finished steps trace execution meets.
-      logs_show_executions_lem.none (free t forms rules clean alone) lemma (action_names g) (logged t forms rules clean alone lemma w g e) tt (form_depends (signature_of (theory_of t)) lemma f g e)
-      (trees_show_logs_lem.exists_trace (free t forms rules clean alone) (suits t forms rules clean alone) lemma f g e context (record { rules = is_of.rules; numbered = is_of.numbered }) names tree accepted finished) steps trace (execution_free t forms rules clean alone steps trace execution) tt;
+  all_traces = λ t forms keeps rules clean alone lemma f u g e context is_of names tree accepted finished steps trace execution meets.
+      (logs_show (free t forms keeps rules clean alone) (has_logs t forms keeps rules clean alone) lemma (of_executions lemma.formula u g e)).0
+      (trees_show_logs_lem.all_traces (free t forms keeps rules clean alone) (suits t forms keeps rules clean alone) lemma f g e context (record { rules = is_of.rules; numbered = is_of.numbered }) names tree accepted finished) steps trace (execution_free t forms keeps rules clean alone steps trace execution) tt;
+  exists_trace = λ t forms keeps rules clean alone lemma f u g e context is_of names tree accepted finished steps trace execution meets.
+      (logs_show (free t forms keeps rules clean alone) (has_logs t forms keeps rules clean alone) lemma (of_executions lemma.formula u g e)).1
+      (trees_show_logs_lem.exists_trace (free t forms keeps rules clean alone) (suits t forms keeps rules clean alone) lemma f g e context (record { rules = is_of.rules; numbered = is_of.numbered }) names tree accepted finished) steps trace (execution_free t forms keeps rules clean alone steps trace execution) tt;
 }

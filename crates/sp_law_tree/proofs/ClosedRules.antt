@@ -1,4 +1,4 @@
--- A written rule of a basic theory without findings stands for a right one: what is in its conclusions is public or stands in its premises, each Fr is
+-- A written rule of a basic theory without findings stands for a right one: what is in its actions and conclusions is public or stands in its premises, each Fr is
 -- of a variable of sort fresh, and no fact stands where it is reserved.
 use Rattle.std.proofs.Common.{◌≡◌, ◌⊎◌, ℕ, Bool, true, false, not, ◌&&◌, ◌||◌, List, [], ◌∷◌, ◌++◌, map, codes, refl, sym, ap, inl, inr, bytes_eq, ⊎_elim}
 use Rattle.std.proofs.lemmas.Bool.{or_cases, or_left, or_right, or_parts}
@@ -10,14 +10,14 @@ use Rattle.sp_spec.specs.Rule.{Fact, Action, Facts, Rule, fact_at, action_at}
 use Rattle.sp_spec.specs.Formula.{Written}
 use Rattle.sp_spec.specs.Written.{WrittenRule, in_term, in_terms, in_facts, in_actions, occurrences, rule_names, place_of, numbered_in, sort_in, rule_of}
 use Rattle.sp_spec.specs.Findings.{has_wide_fact, has_wide_action, has_two_sorts, is_misused, is_no_premise, is_no_action, is_no_conclusion, is_wrong_premise, is_wrong_conclusion, has_wrong_premise, has_wrong_action, has_wrong_conclusion, has_wrong_argument, is_pub, is_named, has_unbound, rule_is_wrong}
-use Rattle.sp_spec.proofs.Lists.{every_map, every_weaken}
+use Rattle.sp_spec.proofs.Lists.{every_both, every_map, every_weaken}
 use Rattle.sp_law_system.proofs.Numbers.{each_valued_all}
 use Rattle.sp_law_tree.specs.BasicTheory.{IsBasicRule}
-use Rattle.sp_spec.proofs.Occurrences.{facts_each}
+use Rattle.sp_spec.proofs.Occurrences.{facts_each, actions_each}
 use Rattle.sp_law_tree.proofs.FreshRules.{fresh_premises}
 use Rattle.sp_law_tree.proofs.Named.{all_made_both}
 use Rattle.sp_law_equal.proofs.Pairs.{names_apart}
-use Rattle.sp_law_equal.specs.RightTheory.{TakesFreshNames, MakesNoFr, LeavesReserved, BindsConclusions, StandsIn, StandsAmong, HasVariable, no_fresh_names}
+use Rattle.sp_law_equal.specs.RightTheory.{TakesFreshNames, MakesNoFr, LeavesReserved, AreBound, BindsActions, BindsConclusions, StandsIn, StandsAmong, HasVariable, no_fresh_names}
 
 -- ---- what is named in facts stands in them
 
@@ -76,25 +76,24 @@ bound_each facts (x ∷ xs) e =
       bound_each facts xs both.1,
     )
 
-abbrev HasNoFreshNames : Fact Written → Type 0
-HasNoFreshNames f = AllMadeOf no_fresh_names (λ x. Unit {0}) f.args
-
 module _ (facts : Facts Written) where
   abbrev IsBoundName : Written → Type 0
   IsBoundName x = IsBound facts (variable_of facts x.name)
 
-  arguments_bound : (ts : Terms Written) → AllMadeOf no_fresh_names (λ x. Unit {0}) ts → EachVariables IsBoundName ts → AllMadeOf no_fresh_names (IsBound facts) (valued_all (numbered_in facts) ts)
+  abbrev AreBoundIn : Terms Written → Type 0
+  AreBoundIn ts = AreBound (map (fact_at (numbered_in facts)) facts.premises) (valued_all (numbered_in facts) ts)
+
+  arguments_bound : (ts : Terms Written) → AllMadeOf no_fresh_names (λ x. Unit {0}) ts → EachVariables IsBoundName ts → AreBoundIn ts
   arguments_bound ts a h =
       each_valued_all no_fresh_names IsBoundName (IsBound facts) (numbered_in facts) (λ x k. k) ts (all_made_both no_fresh_names any_names IsBoundName ts a h)
 
-  conclusions_bound : (fs : List (Fact Written)) → Every HasNoFreshNames fs → has_unbound facts (in_facts fs) ≡ false
-      → Every (λ (f : Fact Variable). AllMadeOf no_fresh_names (IsBound facts) f.args) (map (fact_at (numbered_in facts)) fs)
-  conclusions_bound fs p e = go fs p (facts_each IsBoundName fs (bound_each facts (in_facts fs) e))
-    where
-      go : (fs : List (Fact Written)) → Every HasNoFreshNames fs → Every (λ (f : Fact Written). EachVariables IsBoundName f.args) fs
-          → Every (λ (f : Fact Variable). AllMadeOf no_fresh_names (IsBound facts) f.args) (map (fact_at (numbered_in facts)) fs)
-      go [] p h = tt
-      go (f ∷ fs) p h = (arguments_bound f.args p.0 h.0, go fs p.1 h.1)
+  conclusions_bound : (fs : List (Fact Written)) → Every (λ (f : Fact Written). AllMadeOf no_fresh_names (λ x. Unit {0}) f.args) fs → has_unbound facts (in_facts fs) ≡ false
+      → Every (λ (f : Fact Written). AreBoundIn f.args) fs
+  conclusions_bound fs p e = every_both _ _ _ (λ f a h. arguments_bound f.args a h) fs p (facts_each IsBoundName fs (bound_each facts (in_facts fs) e))
+
+  actions_bound : (xs : List (Action Written)) → Every (λ (a : Action Written). AllMadeOf no_fresh_names (λ x. Unit {0}) a.args) xs → has_unbound facts (in_actions xs) ≡ false
+      → Every (λ (a : Action Written). AreBoundIn a.args) xs
+  actions_bound xs p e = every_both _ _ _ (λ x a h. arguments_bound x.args a h) xs p (actions_each IsBoundName xs (bound_each facts (in_actions xs) e))
 
 -- ---- rules
 
@@ -104,6 +103,7 @@ record HasNone (r : WrittenRule) : Type 0 where
   actions : has_wrong_action r.facts.actions ≡ false
   conclusions : has_wrong_conclusion r.facts.conclusions ≡ false
   arguments : has_wrong_argument r.facts.premises ≡ false
+  bound_actions : has_unbound r.facts (in_actions r.facts.actions) ≡ false
   bound : has_unbound r.facts (in_facts r.facts.conclusions) ≡ false
 
 has_none : (r : WrittenRule) → rule_is_wrong r ≡ false → HasNone r
@@ -115,7 +115,7 @@ has_none r e =
     let conclusions = or_parts (has_wrong_conclusion r.facts.conclusions) _ actions.1 in
     let arguments = or_parts (has_wrong_argument r.facts.premises) _ conclusions.1 in
     let bound = or_parts (has_unbound r.facts (in_actions r.facts.actions)) _ arguments.1 in
-    record { premises = premises.0; actions = actions.0; conclusions = conclusions.0; arguments = arguments.0; bound = bound.1 }
+    record { premises = premises.0; actions = actions.0; conclusions = conclusions.0; arguments = arguments.0; bound_actions = bound.0; bound = bound.1 }
 
 -- what is right of the rule that a written rule stands for
 pub record IsRightRule (r : Rule) : Type 0 where
@@ -123,6 +123,7 @@ pub record IsRightRule (r : Rule) : Type 0 where
   pub makes_no_fr : MakesNoFr r
   pub reserved : LeavesReserved r
   pub bound : BindsConclusions r
+  pub bound_actions : BindsActions r
 
 -- ---- reserved names
 
@@ -190,7 +191,10 @@ rule_right signature r p e =
       fresh = fresh_premises r.facts r.facts.premises (λ f m. m) clean.premises clean.arguments;
       makes_no_fr = no_fr (rule_of r) reserved;
       reserved = reserved;
-      bound = conclusions_bound r.facts r.facts.conclusions (every_weaken _ HasNoFreshNames (λ f k. k.1) r.facts.conclusions p.conclusions) clean.bound;
+      bound = every_map (λ (f : Fact Written). AreBoundIn r.facts f.args) (λ (f : Fact Variable). AreBound (rule_of r).facts.premises f.args) (fact_at (numbered_in r.facts)) (λ f k. k) r.facts.conclusions
+          (conclusions_bound r.facts r.facts.conclusions (every_weaken _ _ (λ f k. k.1) r.facts.conclusions p.conclusions) clean.bound);
+      bound_actions = every_map (λ (a : Action Written). AreBoundIn r.facts a.args) (λ (a : Action Variable). AreBound (rule_of r).facts.premises a.args) (action_at (numbered_in r.facts)) (λ a k. k) r.facts.actions
+          (actions_bound r.facts r.facts.actions (every_weaken _ _ (λ a k. k.1) r.facts.actions p.actions) clean.bound_actions);
     }
 
 pub each_right : (signature : Signature) (rs : List WrittenRule) → Every (IsBasicRule signature) rs → Every (λ (r : WrittenRule). rule_is_wrong r ≡ false) rs

@@ -1,6 +1,5 @@
 -- Guarded formulas whose atoms are flat: they are timed, and a log over whose trace one is true solves the system that begins with it.
 use Rattle.std.proofs.Common.{◌≡◌, ◌<◌, ℕ, zero, Bool, true, false, List, [], ◌∷◌, length, codes, refl, arith, bytes_eq}
-use Rattle.std.proofs.lemmas.Slice.Eq.{bytes_eq-Decides}
 use Rattle.sp_spec.specs.Lists.{Every}
 use Rattle.sp_spec.specs.Term.{Names, Variable}
 use Rattle.sp_spec.specs.Signature.{Signature}
@@ -23,7 +22,6 @@ use Rattle.sp_spec_proof.specs.Root.{root}
 use Rattle.sp_law_tree.proofs.Named.{NamedAtom}
 use Rattle.sp_law_tree.proofs.Flat.{FlatAtom, closed_atom_in, each_in, Bounded, flat_settled, each_bounded}
 use Rattle.sp_law_tree.proofs.Starts.{start, start_sorts, start_normal}
-use Rattle.sp_law_tree.proofs.Shown.{NamesNoSend}
 
 pub record IsRight (signature : Signature) (h : Guarded) : Type 0 where
   pub each : Throughout (FlatAtom signature) zero h
@@ -35,21 +33,6 @@ module _ (signature : Signature) where
 
   pub right_timed : (h : Guarded) → IsRight signature h → IsTimed zero h
   right_timed h r = timed zero h (throughout_weaken (FlatAtom signature) IsTimedAtom (λ n a p. p.0) zero h r.each) r.guarded
-
--- what is sent isn't named
-other_name : (s : List ℕ) → (s ≡ codes "K" → ⊥) → bytes_eq s (codes "K") ≡ false
-other_name s n = at (bytes_eq s (codes "K")) refl
-  where
-    at : (b : Bool) → bytes_eq s (codes "K") ≡ b → b ≡ false
-    at true e = absurd (n ((bytes_eq-Decides s (codes "K")).0 e))
-    at false e = refl
-
-not_named : (x : List ℕ) (xs : List (List ℕ)) → (x ≡ codes "K" → ⊥) → NamesNoSend xs → NamesNoSend (x ∷ xs)
-not_named x xs n h = rw (other_name x n) h
-
-pub each_not_send : (names : List (List ℕ)) → Every (λ (s : List ℕ). s ≡ codes "K" → ⊥) names → NamesNoSend names
-each_not_send [] e = refl
-each_not_send (x ∷ names) e = not_named x names e.0 (each_not_send names e.1)
 
 -- nothing free stands in the atom, and its names are such ones
 abbrev pub ClosedNamed : Names → ℕ → Atom → Type 0

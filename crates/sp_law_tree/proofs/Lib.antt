@@ -7,11 +7,9 @@ pub mod Growing
 pub mod Logs
 pub mod PlacedForms
 pub mod BasicOver
-pub mod Shown
 pub mod Starts
 pub mod Trees
 pub mod WrittenRules
 pub mod Named
 pub mod OverLogs
-pub mod OverExecutions
 pub mod RightTexts

@@ -1,18 +1,16 @@
--- The guarded form of a basic formula has flat atoms, and it names the actions that the formula names.
-use Rattle.std.proofs.Common.{◌≡◌, ℕ, zero, true, List, [], Some, sym, subst}
-use Rattle.sp_spec.specs.Lists.{Every}
+-- The guarded form of a basic formula has flat atoms.
+use Rattle.std.proofs.Common.{◌≡◌, ℕ, true, [], Some, sym, subst}
 use Rattle.sp_spec.specs.Signature.{Signature}
 use Rattle.sp_spec.specs.Formula.{Formula}
 use Rattle.sp_spec.specs.Guarded.{Time, free_time, bound_time, Guarded}
-use Rattle.sp_law_truth.specs.Shown.{IsBound, action_names}
+use Rattle.sp_law_truth.specs.Shown.{IsBound}
 use Rattle.sp_law_guard.specs.Closed.{IsClosedTime}
 use Rattle.sp_law_guard.specs.GuardedForm.{guarded_form}
 use Rattle.sp_law_guard.specs.IsGuarded.{is_guarded}
 use Rattle.sp_law_guard.proofs.Places.{term_closed, action_made, order_made, equality_made}
-use Rattle.sp_law_guard.proofs.Named.{OfNames, named}
 use Rattle.sp_law_guard.proofs.Throughout.{times_bound, OfFormulas, OfAtoms, form_throughout}
 use Rattle.sp_law_decide.proofs.ConstructorForms.{placed_constructor, placed_constructors}
-use Rattle.sp_law_tree.specs.BasicTheory.{IsBasicFormula, OfActionNames}
+use Rattle.sp_law_tree.specs.BasicTheory.{IsBasicFormula}
 use Rattle.sp_law_tree.proofs.Flat.{FlatAtom}
 use Rattle.sp_law_tree.proofs.Forms.{IsRight}
 
@@ -49,27 +47,3 @@ module _ (signature : Signature) where
 
   pub form_right : (f : Formula) (g : Guarded) → IsBasicFormula signature f → guarded_form [] f ≡ Some g → is_guarded g ≡ true → IsRight signature g
   form_right f g basic e guarded = record { each = form_throughout (FlatAtom signature) (IsBasicFormula signature) basic_parts basic_atoms [] f g basic e; guarded = guarded }
-
--- ---- the names of actions
-
-module _ (P : List ℕ → Type 0) where
-  name_parts : OfFormulas (OfActionNames P)
-  name_parts = record {
-    of_not = λ f w. w;
-    of_both = λ f g w. w;
-    of_either = λ f g w. w;
-    of_implies = λ f g w. w;
-    of_all = λ x f w. w;
-    of_some = λ x f w. w;
-  }
-
-  name_atoms : OfAtoms (OfNames P) (OfActionNames P)
-  name_atoms = record {
-    of_actions = λ bs a i atom w e. let r = action_made bs a i atom e in subst (OfNames P (times_bound bs)) (sym r.is) (subst P (sym r.symbol) w, tt);
-    of_equalities = λ bs t u atom w e. equality_made bs t u atom (OfNames P (times_bound bs)) e (λ i j k l. tt) (λ x y k l. tt);
-    of_order = λ bs i j atom w e. let r = order_made bs i j atom e in subst (OfNames P (times_bound bs)) (sym r.is) tt;
-  }
-
-  -- of each name that the guarded form has it is so where it is so of the formula's
-  pub form_names : (f : Formula) (g : Guarded) → OfActionNames P f → guarded_form [] f ≡ Some g → Every P (action_names g)
-  form_names f g w e = named P zero g (form_throughout (OfNames P) (OfActionNames P) name_parts name_atoms [] f g w e)

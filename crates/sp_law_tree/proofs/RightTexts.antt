@@ -10,9 +10,9 @@ use Rattle.sp_spec.specs.Theory.{Theory, signature_of}
 use Rattle.sp_spec.specs.Written.{WrittenRule, WrittenTheory, theory_of}
 use Rattle.sp_spec.specs.Findings.{rule_is_wrong}
 use Rattle.sp_spec.specs.Log.{is_in}
-use Rattle.sp_law_equal.specs.Right.{AreTermsOver, RulesAreOver}
+use Rattle.sp_law_equal.specs.Right.{AreTermsOver, RulesAreOver, KeepPublic}
 use Rattle.sp_law_equal.specs.NormalForms.{HasNormalForms}
-use Rattle.sp_law_equal.specs.RightTheory.{HasNormalInstances, TakesFreshNames, MakesNoFr, LeavesReserved, BindsConclusions, IsRightTheory, adversary_facts, LeavesAdversaryAlone}
+use Rattle.sp_law_equal.specs.RightTheory.{HasNormalInstances, TakesFreshNames, MakesNoFr, LeavesReserved, BindsActions, BindsConclusions, IsRightTheory, adversary_facts, LeavesAdversaryAlone}
 use Rattle.sp_law_run.proofs.Written.{rules_right}
 use Rattle.sp_law_run.proofs.Over.{valued_all_over}
 use Rattle.sp_law_system.specs.Rules.{InstancesAreOver, IsClosedRule, SuitsProofs}
@@ -47,9 +47,9 @@ normal_instances t forms basic = record {
   premises = premises_plain (signature_of (theory_of t)) t.rules basic;
 }
 
-pub right_text : (t : WrittenTheory) → HasNormalForms (signature_of (theory_of t)) → Every (IsBasicRule (signature_of (theory_of t))) t.rules → Every (λ (r : WrittenRule). rule_is_wrong r ≡ false) t.rules
+pub right_text : (t : WrittenTheory) → HasNormalForms (signature_of (theory_of t)) → KeepPublic (signature_of (theory_of t)).symbols (signature_of (theory_of t)).equations → Every (IsBasicRule (signature_of (theory_of t))) t.rules → Every (λ (r : WrittenRule). rule_is_wrong r ≡ false) t.rules
     → Distinct (map (λ (r : WrittenRule). r.name) t.rules) → IsRightTheory (theory_of t)
-right_text t forms basic right names =
+right_text t forms keeps basic right names =
     let each = each_right (signature_of (theory_of t)) t.rules basic right in
     let rules = (theory_of t).rules in
     record {
@@ -59,6 +59,8 @@ right_text t forms basic right names =
       makes_no_fr = every_weaken IsRightRule MakesNoFr (λ r h. h.makes_no_fr) rules each;
       reserved = every_weaken IsRightRule LeavesReserved (λ r h. h.reserved) rules each;
       bound = every_weaken IsRightRule BindsConclusions (λ r h. h.bound) rules each;
+      bound_actions = every_weaken IsRightRule BindsActions (λ r h. h.bound_actions) rules each;
+      keeps_public = keeps;
     }
 
 -- ---- of a theory

@@ -1,6 +1,6 @@
 -- Basic theories: a term is without fresh names, of variables, public names, and symbols of the signature; in premises and formulas none of these is a
 -- destructor. Source: Tamarin manual, "Property specification" (no reducible symbols in formulas).
-use Rattle.std.specs.Prelude.{◌≡◌, List, ℕ, codes}
+use Rattle.std.specs.Prelude.{List, ℕ}
 use Rattle.sp_spec.specs.Term.{Names, MadeOf, AllMadeOf, Term, Terms}
 use Rattle.sp_spec.specs.Signature.{Signature}
 use Rattle.sp_spec.specs.Formula.{Written, Formula, truth, falsity, happens, equals, precedes, not_so, both, either, implies, for_all, for_some}
@@ -39,24 +39,6 @@ IsBasicFormula signature (either f g) = IsBasicFormula signature f × IsBasicFor
 IsBasicFormula signature (implies f g) = IsBasicFormula signature f × IsBasicFormula signature g
 IsBasicFormula signature (for_all x f) = IsBasicFormula signature f
 IsBasicFormula signature (for_some x f) = IsBasicFormula signature f
-
--- it is so of the name of each action in the formula
-abbrev pub OfActionNames : (List ℕ → Type 0) → Formula → Type 0
-OfActionNames P truth = Unit {0}
-OfActionNames P falsity = Unit {0}
-OfActionNames P (happens a i) = P a.symbol
-OfActionNames P (equals t u) = Unit {0}
-OfActionNames P (precedes i j) = Unit {0}
-OfActionNames P (not_so f) = OfActionNames P f
-OfActionNames P (both f g) = OfActionNames P f × OfActionNames P g
-OfActionNames P (either f g) = OfActionNames P f × OfActionNames P g
-OfActionNames P (implies f g) = OfActionNames P f × OfActionNames P g
-OfActionNames P (for_all x f) = OfActionNames P f
-OfActionNames P (for_some x f) = OfActionNames P f
-
--- no action is named as what the adversary sends
-abbrev pub IsWithoutSends : Formula → Type 0
-IsWithoutSends f = OfActionNames (λ s. s ≡ codes "K" → ⊥) f
 
 -- the names in the formula are such ones
 abbrev pub HasNames : Names → Formula → Type 0

@@ -1,6 +1,6 @@
 -- What an accepted tree shows, and what growth owes.
-use Rattle.std.specs.Prelude.{◌≡◌, Some, None, true, false, ℕ, ◌≤◌, List, map, codes}
-use Rattle.sp_spec.specs.Theory.{Theory, Restriction, Lemma, signature_of}
+use Rattle.std.specs.Prelude.{◌≡◌, Some, None, true, false, ℕ, ◌≤◌, map}
+use Rattle.sp_spec.specs.Theory.{Theory, Lemma, signature_of}
 use Rattle.sp_spec_system.specs.System.{System}
 use Rattle.sp_spec_system.specs.Numbered.{names_in}
 use Rattle.sp_law_system.specs.Proofs.{HasNoSolution, IsContextOf, IsWellMade}
@@ -9,19 +9,19 @@ use Rattle.sp_spec_proof.specs.Tree.{Tree, IsAccepted, IsFinished, found_log, st
 use Rattle.sp_spec.specs.Log.{Log}
 use Rattle.sp_law_system.specs.Rules.{SuitsProofs, RulesAreNumbered}
 use Rattle.sp_spec_proof.specs.Growth.{has_end, grown_tree}
-use Rattle.sp_spec.specs.Lists.{Member, Every, Distinct, is_listed}
+use Rattle.sp_spec.specs.Lists.{Member, Every, Distinct}
 use Rattle.sp_spec.specs.Written.{WrittenRule, WrittenTheory, theory_of}
 use Rattle.sp_spec.specs.Constants.{constants_of}
 use Rattle.sp_spec.specs.Findings.{rule_is_wrong}
 use Rattle.sp_spec.specs.Guarded.{Guarded}
-use Rattle.sp_spec.specs.Verdict.{HoldsInAll, HoldsInNone, HoldsInAllLogs, HoldsInNoLog}
-use Rattle.sp_law_equal.specs.NormalForms.{HaveNormalForms, HasNormalForms}
+use Rattle.sp_spec.specs.Verdict.{names_learning, HoldsInAll, HoldsInNone, HoldsInAllLogs, HoldsInNoLog}
+use Rattle.sp_law_equal.specs.NormalForms.{HasNormalForms}
+use Rattle.sp_law_equal.specs.Right.{KeepPublic}
 use Rattle.sp_law_guard.specs.GuardedForm.{negate}
 use Rattle.sp_law_guard.specs.CheckedForm.{checked_form}
 use Rattle.sp_spec_proof.specs.Root.{root}
-use Rattle.sp_law_equal.specs.RightTheory.{MakesNoFr, IsRightTheory, LeavesAdversaryAlone}
-use Rattle.sp_law_tree.specs.BasicTheory.{HasNames, IsBasicRule, IsBasicFormula, IsWithoutSends}
-use Rattle.sp_law_tree.specs.Executions.{DependsOn, HasLogsFor}
+use Rattle.sp_law_equal.specs.RightTheory.{IsRightTheory, LeavesAdversaryAlone}
+use Rattle.sp_law_tree.specs.BasicTheory.{HasNames, IsBasicRule, IsBasicFormula}
 
 -- the tree theorem: where a tree is accepted, no leaf is left open and with none the search ends, the system at its root has no solution
 pub record FinishedTreesShow (theory : Theory) : Type 0 where
@@ -44,34 +44,22 @@ pub record TreesShowLogs : Type 0 where
   pub exists_trace : (theory : Theory) → SuitsProofs theory → (lemma : Lemma) → IsBasicFormula (signature_of theory) lemma.formula → (g : Guarded) → checked_form lemma.formula ≡ Some g
       → (context : Context) → IsContextOf theory context → HasNames (names_in context.public_names) lemma.formula → (tree : Tree) → IsAccepted context (root g) tree → IsFinished tree → HoldsInNoLog theory lemma
 
--- What holds in all logs holds in all executions, where each execution has a log that shows what the restrictions and the lemma see of it;
--- and so it is where the rules leave the adversary alone and make no Fr, for what names no action of sending.
-pub record LogsShowExecutions : Type 0 where
-  pub all : (theory : Theory) (lemma : Lemma) (names : List (List ℕ)) → HasLogsFor theory names
-      → Every (λ (r : Restriction). DependsOn (signature_of theory) names r.formula) theory.restrictions → DependsOn (signature_of theory) names lemma.formula
-      → HoldsInAllLogs theory lemma → HoldsInAll theory lemma
-  pub none : (theory : Theory) (lemma : Lemma) (names : List (List ℕ)) → HasLogsFor theory names
-      → Every (λ (r : Restriction). DependsOn (signature_of theory) names r.formula) theory.restrictions → DependsOn (signature_of theory) names lemma.formula
-      → HoldsInNoLog theory lemma → HoldsInNone theory lemma
-  pub without_adversary : (theory : Theory) → LeavesAdversaryAlone theory → Every MakesNoFr theory.rules → HaveNormalForms (signature_of theory).equations
-      → (names : List (List ℕ)) → is_listed (codes "K") names ≡ false → HasLogsFor theory names
-
--- What a text gives whose terms have normal forms, and whose rules have no findings and names of their own: its theory is right. What is right of a theory
+-- What a text gives whose terms have normal forms, whose equations keep to what is public, and whose rules have no findings and names of their own: its theory is right. What is right of a theory
 -- that leaves the adversary alone is all that covering asks of it.
 pub record TextsAreRight : Type 0 where
-  pub right : (theory : WrittenTheory) → HasNormalForms (signature_of (theory_of theory)) → Every (IsBasicRule (signature_of (theory_of theory))) theory.rules → Every (λ (r : WrittenRule). rule_is_wrong r ≡ false) theory.rules
+  pub right : (theory : WrittenTheory) → HasNormalForms (signature_of (theory_of theory)) → KeepPublic (signature_of (theory_of theory)).symbols (signature_of (theory_of theory)).equations → Every (IsBasicRule (signature_of (theory_of theory))) theory.rules → Every (λ (r : WrittenRule). rule_is_wrong r ≡ false) theory.rules
       → Distinct (map (λ (r : WrittenRule). r.name) theory.rules) → IsRightTheory (theory_of theory)
   pub suits : (theory : Theory) → IsRightTheory theory → LeavesAdversaryAlone theory → SuitsProofs theory
 
--- What a finished tree shows of a lemma that names no sending, of a theory that leaves the adversary alone, whose terms have normal
--- forms, and without findings on its rules: steps of the adversary are included. From
+-- What a finished tree shows of a lemma that doesn't speak of learning, of a theory that leaves the adversary alone, whose terms have normal
+-- forms, whose equations keep to what is public, and without findings on its rules: steps of the adversary are included. From
 -- the negation of the lemma's guarded form: every execution satisfies the lemma. From the guarded form: no execution does.
 pub record LemmasAreShown : Type 0 where
-  pub all_traces : (theory : WrittenTheory) → HasNormalForms (signature_of (theory_of theory)) → Every (IsBasicRule (signature_of (theory_of theory))) theory.rules → Every (λ (r : WrittenRule). rule_is_wrong r ≡ false) theory.rules
-      → LeavesAdversaryAlone (theory_of theory) → (lemma : Lemma) → IsBasicFormula (signature_of (theory_of theory)) lemma.formula → IsWithoutSends lemma.formula → (g : Guarded) → checked_form lemma.formula ≡ Some g
+  pub all_traces : (theory : WrittenTheory) → HasNormalForms (signature_of (theory_of theory)) → KeepPublic (signature_of (theory_of theory)).symbols (signature_of (theory_of theory)).equations → Every (IsBasicRule (signature_of (theory_of theory))) theory.rules → Every (λ (r : WrittenRule). rule_is_wrong r ≡ false) theory.rules
+      → LeavesAdversaryAlone (theory_of theory) → (lemma : Lemma) → IsBasicFormula (signature_of (theory_of theory)) lemma.formula → names_learning lemma.formula ≡ false → (g : Guarded) → checked_form lemma.formula ≡ Some g
       → (context : Context) → IsContextOf (theory_of theory) context → HasNames (names_in context.public_names) lemma.formula → (tree : Tree) → IsAccepted context (root (negate g)) tree → IsFinished tree → HoldsInAll (theory_of theory) lemma
-  pub exists_trace : (theory : WrittenTheory) → HasNormalForms (signature_of (theory_of theory)) → Every (IsBasicRule (signature_of (theory_of theory))) theory.rules → Every (λ (r : WrittenRule). rule_is_wrong r ≡ false) theory.rules
-      → LeavesAdversaryAlone (theory_of theory) → (lemma : Lemma) → IsBasicFormula (signature_of (theory_of theory)) lemma.formula → IsWithoutSends lemma.formula → (g : Guarded) → checked_form lemma.formula ≡ Some g
+  pub exists_trace : (theory : WrittenTheory) → HasNormalForms (signature_of (theory_of theory)) → KeepPublic (signature_of (theory_of theory)).symbols (signature_of (theory_of theory)).equations → Every (IsBasicRule (signature_of (theory_of theory))) theory.rules → Every (λ (r : WrittenRule). rule_is_wrong r ≡ false) theory.rules
+      → LeavesAdversaryAlone (theory_of theory) → (lemma : Lemma) → IsBasicFormula (signature_of (theory_of theory)) lemma.formula → names_learning lemma.formula ≡ false → (g : Guarded) → checked_form lemma.formula ≡ Some g
       → (context : Context) → IsContextOf (theory_of theory) context → HasNames (names_in context.public_names) lemma.formula → (tree : Tree) → IsAccepted context (root g) tree → IsFinished tree → HoldsInNone (theory_of theory) lemma
 
 -- a tree that is grown is accepted, and has at most as many steps as the budget says

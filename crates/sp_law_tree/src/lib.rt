@@ -1,11 +1,11 @@
 // What proof trees show. Below stand proof trees and growth (sp_spec_proof), the covering of rows and moves (sp_law_cover), and the laws of
-// equality, truth, guarded forms, deciding and erasing; above it stands the answer of the command (sp_analysis).
+// equality, truth, guarded forms, deciding and the adversary; above it stands the answer of the command (sp_analysis).
 // It carries three promises: where an accepted tree from a lemma's negation is finished, the lemma holds in every execution of the theory,
 // steps of the adversary included; where one from the lemma itself is, no execution satisfies it; and what is grown is an accepted tree
 // within its budget of steps. All is said of the definitions.
 #![tactic(auto)]
 
-ghost use Rattle.sp_law_tree.specs.Laws.{AcceptedTreesShow, TreesShowLogs, LogsShowExecutions, TextsAreRight, LemmasAreShown, NamesStand, GrowthIsAccepted};
+ghost use Rattle.sp_law_tree.specs.Laws.{AcceptedTreesShow, TreesShowLogs, TextsAreRight, LemmasAreShown, NamesStand, GrowthIsAccepted};
 
 /// The root of an accepted tree that is finished has no solution; where the search ends at a leaf, the tree has a log.
 pub fn accepted_trees_show()
@@ -15,11 +15,6 @@ pub fn accepted_trees_show()
 /// What finished trees show of learning logs.
 pub fn trees_show_logs()
     ensures { TreesShowLogs }
-{}
-
-/// What holds in all logs holds in all executions that have logs.
-pub fn logs_show_executions()
-    ensures { LogsShowExecutions }
 {}
 
 /// A text without findings has a right theory.

@@ -47,7 +47,11 @@ pub struct Log {
     pub entries: Vec<Entry>,
 }
 
-fn copy_messages(alloc: Global, messages: &Vec<GroundTerm>) -> Result<Vec<GroundTerm>, AllocError>
+/// Messages equal to these.
+pub fn copy_messages(
+    alloc: Global,
+    messages: &Vec<GroundTerm>,
+) -> Result<Vec<GroundTerm>, AllocError>
     ensures { IfOk result (λ ts. map ground_of ts.items ≡ map ground_of messages.now.items) }
 {
     let mut made = Vec::with_capacity(alloc, messages.len())?;

@@ -10,7 +10,7 @@ use Rattle.sp_spec.specs.Log.{Entry, step, send, learn, Log, fresh_uses, all_fre
 use Rattle.sp_spec.proofs.Same.{same_term_decides}
 use Rattle.sp_spec_forms.specs.Forms.{RuleForms, forms_of}
 use Rattle.sp_spec.proofs.Logs.{log_sources, log_fresh, step_keeps}
-use Rattle.sp_law_erase.specs.Adversary.{IsStep}
+use Rattle.sp_law_log.specs.StepsAlone.{IsStep}
 use Rattle.sp_log.specs.declared.check.Clause.{Clause}
 use Rattle.sp_log.specs.declared.check.Clause.TheVariants.{Instance, Sources, Freshness}
 use Rattle.sp_log.specs.declared.check.Checked.{Checked}

@@ -5,7 +5,7 @@ use Rattle.sp_spec.specs.Lists.{newest_first}
 use Rattle.sp_spec.specs.Theory.{Theory}
 use Rattle.sp_spec.specs.Log as spec
 use Rattle.sp_spec.specs.Log.{Entry, Log, Keeps, IsLog}
-use Rattle.sp_law_erase.specs.Adversary.{IsStep, HasStepsAlone}
+use Rattle.sp_law_log.specs.StepsAlone.{IsStep, HasStepsAlone}
 use Rattle.sp_log.specs.declared.check.Clause.{Clause}
 use Rattle.sp_log.specs.declared.check.Clause.TheVariants.{Instance, Sources, Freshness}
 use Rattle.sp_log.specs.declared.check.Checked.{Checked}

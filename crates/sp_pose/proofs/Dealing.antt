@@ -1,5 +1,4 @@
--- What is told of formulas that are joined and of quantifiers in a row; and what isn't dealt with: where no name is the adversary's, rules leave it alone and
--- formulas name no sending.
+-- What is told of formulas that are joined and of quantifiers in a row; and where no name is the adversary's, rules leave it alone.
 use Rattle.std.proofs.Common.{◌≡◌, ℕ, Bool, true, false, ◌||◌, List, [], ◌∷◌, codes, refl, sym, ◌∙◌, inl, inr, subst, bytes_eq, true≢false, ⊎_elim}
 use Rattle.std.proofs.lemmas.Bool.{or_parts}
 use Rattle.sp_spec.specs.Lists.{Member, Every}
@@ -7,15 +6,13 @@ use Rattle.sp_spec.proofs.Lists.{every_map, every_member, member_mapped}
 use Rattle.sp_spec.specs.Term.{Variable}
 use Rattle.sp_spec.specs.Rule.{Fact, Action, Rule, fact_at, action_at}
 use Rattle.sp_spec.specs.Formula.{Written, Formula, truth, falsity, happens, equals, precedes, not_so, both, either, implies, for_all, for_some}
-use Rattle.sp_spec.specs.Theory.{Lemma}
 use Rattle.sp_spec.specs.Written.{WrittenRule, WrittenTheory, numbered_in, rule_of, theory_of}
 use Rattle.sp_spec_text.specs.Shapes.{quantified}
 use Rattle.sp_spec_text.specs.Formulas.{quantified_some}
 use Rattle.sp_read_parts.specs.Reading.{Joint, conjoint, disjoint, join}
 use Rattle.sp_law_equal.proofs.Pairs.{names_apart}
 use Rattle.sp_law_equal.specs.RightTheory.{adversary_facts, LeavesAdversaryAlone}
-use Rattle.sp_law_tree.specs.BasicTheory.{IsWithoutSends}
-use Rattle.sp_pose.specs.Adversary.{is_adversarial, facts_deal, actions_deal, rule_deals, formula_deals, rules_deal, lemmas_deal}
+use Rattle.sp_pose.specs.Adversary.{is_adversarial, facts_deal, actions_deal, rule_deals, formula_deals, rules_deal}
 
 pub deals_for_all : (xs : List Written) (f : Formula) → formula_deals f ≡ formula_deals (quantified xs f)
 deals_for_all [] f = refl
@@ -68,20 +65,3 @@ rules_alone t e =
           (every_map _ _ (action_at (numbered_in o.0.facts)) (λ a k. k) o.0.facts.actions
           (actions_alone o.0.facts.actions (parts o.0 (every_member (λ (q : WrittenRule). rule_deals q ≡ false) t.rules o.0 o.1 each)).1));
     }
-
-formula_alone : (f : Formula) → formula_deals f ≡ false → IsWithoutSends f
-formula_alone truth e = tt
-formula_alone falsity e = tt
-formula_alone (happens a i) e = no_send a.symbol e
-formula_alone (equals t u) e = tt
-formula_alone (precedes i j) e = tt
-formula_alone (not_so f) e = formula_alone f e
-formula_alone (both f g) e = let p = or_parts (formula_deals f) (formula_deals g) e in (formula_alone f p.0, formula_alone g p.1)
-formula_alone (either f g) e = let p = or_parts (formula_deals f) (formula_deals g) e in (formula_alone f p.0, formula_alone g p.1)
-formula_alone (implies f g) e = let p = or_parts (formula_deals f) (formula_deals g) e in (formula_alone f p.0, formula_alone g p.1)
-formula_alone (for_all x f) e = formula_alone f e
-formula_alone (for_some x f) e = formula_alone f e
-
-pub lemmas_alone : (ls : List Lemma) → lemmas_deal ls ≡ false → Every (λ (l : Lemma). IsWithoutSends l.formula) ls
-lemmas_alone [] e = tt
-lemmas_alone (l ∷ ls) e = let p = or_parts (formula_deals l.formula) (lemmas_deal ls) e in (formula_alone l.formula p.0, lemmas_alone ls p.1)

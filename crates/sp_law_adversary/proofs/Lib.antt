@@ -1,0 +1,12 @@
+pub mod Held
+pub mod Grown
+pub mod Absorb
+pub mod Walk
+pub mod Make
+pub mod Followed
+pub mod RuleStep
+pub mod Founds
+pub mod Learnt
+pub mod Truth
+pub mod Lemmas
+pub mod Lost

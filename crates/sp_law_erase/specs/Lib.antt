@@ -1,3 +1,0 @@
-pub mod Traces
-pub mod Adversary
-pub mod Laws

@@ -1,0 +1,5 @@
+pub mod Lifted
+pub mod Kept
+pub mod Knowing
+pub mod Learning
+pub mod Steps

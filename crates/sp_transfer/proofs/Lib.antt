@@ -1,0 +1,9 @@
+pub mod Ordered
+pub mod Taking
+pub mod Run
+pub mod Entries
+pub mod Absorbing
+pub mod Down
+pub mod Sourced
+pub mod Steps
+pub mod Logged
