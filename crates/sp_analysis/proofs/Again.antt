@@ -142,7 +142,7 @@ written_is_checked_lem = record { checked = checked }
         let setting = setting_of theory in
         let words = summary (theory_of theory) outcomes in
         let js = all_again setting budget theory.lemmas outcomes a.outcomes_are in
-        let r = all_readable setting budget theory.lemmas outcomes (rules_named text a.theory a.poses.poses.says) a.outcomes_are a.places in
+        let r = all_readable setting budget theory.lemmas outcomes (rules_named text a.theory a.poses.says) a.outcomes_are a.places in
         let trees = trees_of outcomes in
         let again : WrittenText = record { name = a.theory.name; items = with_trees a.theory.items trees } in
         let same : theory_in again ≡ theory = same_theory a.theory trees in
@@ -151,7 +151,7 @@ written_is_checked_lem = record { checked = checked }
         let many : length trees ≡ length a.spans =
         length-map outcomes (λ (o : Outcome). o.tree) ∙ as_many setting budget theory.lemmas outcomes a.outcomes_are
         ∙ as_many_resolved (all_symbols a.theory.items) a.theory.items ∙ sym (each_lemma text a.theory a.spans a.behind_end a.places_are) in
-        let says = read_again text a.theory a.spans a.behind_end trees (codes "/*\n" ++ (words ++ codes "*/\n")) a.poses.poses.says a.places_are (trees_readable outcomes r) many in
+        let says = read_again text a.theory a.spans a.behind_end trees (codes "/*\n" ++ (words ++ codes "*/\n")) a.poses.says a.places_are (trees_readable outcomes r) many in
         record {
           judged = js;
           checking = record {
@@ -167,7 +167,7 @@ written_is_checked_lem = record { checked = checked }
           };
           same_theory = same;
           behind = subst (λ (bytes : List ℕ). IsBehindEnd bytes (codes "\n/*\n" ++ (words ++ codes "*/\n"))) (sym a.written_is)
-              (behind_end text a.theory a.spans a.behind_end trees (codes "/*\n" ++ (words ++ codes "*/\n")) a.poses.poses.says a.places_are (trees_readable outcomes r) many);
+              (behind_end text a.theory a.spans a.behind_end trees (codes "/*\n" ++ (words ++ codes "*/\n")) a.poses.says a.places_are (trees_readable outcomes r) many);
           proofs = trees_proofs text a.theory a.spans a.behind_end trees a.places_are many;
           verdicts = verdicts_again setting budget theory.lemmas outcomes a.outcomes_are;
           logs = logs_again setting budget theory.lemmas outcomes a.outcomes_are;

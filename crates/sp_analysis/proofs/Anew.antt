@@ -1,5 +1,5 @@
 -- A text with other proofs poses what it posed.
-use Rattle.std.proofs.Common.{◌≡◌, ◌≤◌, ℕ, suc, ◌||◌, List, [], ◌∷◌, ◌++◌, length, map, Some, refl, sym, ap, ◌∙◌, subst}
+use Rattle.std.proofs.Common.{◌≡◌, ◌≤◌, ℕ, suc, List, [], ◌∷◌, ◌++◌, length, map, Some, refl, sym, ap, subst}
 use Rattle.sp_spec.specs.Lists.{Member, Every, Distinct}
 use Rattle.sp_spec.specs.Signature.{Symbol, pair_symbols}
 use Rattle.sp_spec.specs.Theory.{Lemma, signature_of}
@@ -10,8 +10,7 @@ use Rattle.sp_spec_text.specs.Written.{Item, builtins_item, functions_item, equa
 use Rattle.sp_spec_text.specs.Declared.{Builtin, builtin_of, new_symbols, declared_symbols, resolved_item, theory_in}
 use Rattle.sp_spec_text.specs.Texts.{IsTextOf}
 use Rattle.sp_wf.specs.Laws.{DeclaresWell, IsFineRule, IsFineLemma, IsWellFormed}
-use Rattle.sp_pose.specs.Problem.{PosesProofs}
-use Rattle.sp_pose.specs.Adversary.{rules_deal, lemmas_deal}
+use Rattle.sp_pose.specs.Problem.{Poses}
 
 -- it has as many lemmas where names that are symbols are such
 pub as_many_resolved : (symbols : List Symbol) (items : List Item) → length (lemmas_in (map (resolved_item symbols) items)) ≡ length (lemmas_in items)
@@ -48,8 +47,5 @@ module _ (t u : WrittenText) (builtins : builtins_in u.items ≡ builtins_in t.i
       lemmas = over (λ w. let s = signature_of (theory_of w) in Every (IsFineLemma s.symbols s.equations) w.lemmas) fine.lemmas;
     }
 
-    pub posed_anew : {text written : List ℕ} → PosesProofs text t → IsTextOf written u → PosesProofs written u
-    posed_anew p says = record {
-      poses = record { says = says; fine = well_formed_anew p.poses.fine };
-      alone = ap (λ (w : WrittenTheory). rules_deal w.rules || lemmas_deal w.lemmas) same ∙ p.alone;
-    }
+    pub posed_anew : {text written : List ℕ} → Poses text t → IsTextOf written u → Poses written u
+    posed_anew p says = record { says = says; fine = well_formed_anew p.fine }

@@ -18,7 +18,7 @@ use Rattle.sp_spec_text.specs.Declared.{resolved, theory_in}
 use Rattle.sp_spec_text.specs.Spans.{Span}
 use Rattle.sp_spec_text.specs.Texts.{ArePlaces}
 use Rattle.sp_read_theory.proofs.Whole.{text_one, places_one}
-use Rattle.sp_pose.proofs.One.{one_report, not_posed, not_wanted}
+use Rattle.sp_pose.proofs.One.{one_report, not_posed}
 use Rattle.sp_analysis.specs.Sought.{Goal, goal_of, root_system, Setting, setting_of, context_of, proof_tree, grown_log}
 use Rattle.sp_spec_text.specs.Verdict.{Verdict, verified, falsified, incomplete, rejected, Says}
 use Rattle.sp_analysis.specs.Analysis.{Outcome, IsOutcome, AreOutcomes, analysed_text, IsAnalysis}
@@ -134,7 +134,7 @@ same_all_judged setting (q ∷ qs) (i ∷ is) (j ∷ js) h k =
 one_answer : (budget : ℕ) (text written other : List ℕ) (outcomes others : List Outcome) → IsAnalysis budget text written outcomes → IsAnalysis budget text other others
     → (written ≡ other) × (outcomes ≡ others)
 one_answer budget text written other outcomes others a b =
-    let theory = text_one a.poses.poses.says b.poses.poses.says in
+    let theory = text_one a.poses.says b.poses.says in
     let tried : AreOutcomes (setting_of (theory_in b.theory)) budget [] (theory_in b.theory).lemmas outcomes =
     subst (λ (t : WrittenText). AreOutcomes (setting_of (theory_in t)) budget [] (theory_in t).lemmas outcomes) theory a.outcomes_are in
     let same = same_outcomes (setting_of (theory_in b.theory)) budget (theory_in b.theory).lemmas outcomes others tried b.outcomes_are in
@@ -149,7 +149,7 @@ one_answer budget text written other outcomes others a b =
 
 one_check : (text written other : List ℕ) (js others : List Judged) → IsChecking text written js → IsChecking text other others → (written ≡ other) × (js ≡ others)
 one_check text written other js others a b =
-    let theory = text_one a.poses.poses.says b.poses.poses.says in
+    let theory = text_one a.poses.says b.poses.says in
     let all : AreJudged (setting_of (theory_in b.theory)) [] (lemmas_with_proofs (resolved b.theory).items) js =
     subst (λ (t : WrittenText). AreJudged (setting_of (theory_in t)) [] (lemmas_with_proofs (resolved t).items) js) theory a.judged_are in
     let same = same_all_judged (setting_of (theory_in b.theory)) (lemmas_with_proofs (resolved b.theory).items) js others all b.judged_are in
@@ -161,12 +161,8 @@ answers_are_one_lem = record {
   one_check = one_check;
   one_report = one_report;
   refused = λ text lines place h r. h.nothing.none r.theory r.says;
-  no_analysis = λ budget text written place outcomes h a. h.nothing.none a.theory a.poses.poses.says;
-  no_checking = λ text written place js h c. h.nothing.none c.theory c.poses.poses.says;
-  not_analysed = λ budget text lines written outcomes r a. not_posed r a.poses.poses;
-  not_checked = λ text lines written js r c. not_posed r c.poses.poses;
-  refused_or_wanting = λ text place h w. h.nothing.none w.theory w.poses.says;
-  reported_or_wanting = λ text lines r w. not_posed r w.poses;
-  wanting_or_analysed = λ budget text written outcomes w a. not_wanted w a.poses;
-  wanting_or_checked = λ text written js w c. not_wanted w c.poses;
+  no_analysis = λ budget text written place outcomes h a. h.nothing.none a.theory a.poses.says;
+  no_checking = λ text written place js h c. h.nothing.none c.theory c.poses.says;
+  not_analysed = λ budget text lines written outcomes r a. not_posed r a.poses;
+  not_checked = λ text lines written js r c. not_posed r c.poses;
 }

@@ -3,7 +3,7 @@ use Rattle.std.proofs.Common.{◌≡◌, ℕ, Bool, true, false, List, [], ◌�
 use Rattle.sp_spec.specs.Lists.{Every}
 use Rattle.sp_spec.specs.Rule.{Rule}
 use Rattle.sp_spec.specs.Signature.{Signature}
-use Rattle.sp_spec.specs.Theory.{TraceKind, all_traces, exists_trace, Theory, Lemma}
+use Rattle.sp_spec.specs.Theory.{TraceKind, all_traces, exists_trace, Lemma}
 use Rattle.sp_spec.specs.Written.{theory_of}
 use Rattle.sp_spec.specs.Log.{Log}
 use Rattle.sp_spec.specs.Guarded.{Guarded}
@@ -38,14 +38,13 @@ use Rattle.sp_written.specs.declared.theory.WrittenLemma.{WrittenLemma}
 use Rattle.sp_law_again.specs.Again.{between, replaced}
 use Rattle.sp_pose.proofs.Forms.{AreForms, asked_list, has_forms, lemmas_said}
 use Rattle.sp_analysis.specs.Sought.{Goal, goal_of, sought, root_with, root_system, Setting, setting_of, executed, context_with, context_of, proof_tree, grown_log}
-use Rattle.sp_spec_text.specs.Verdict.{Verdict, Says, summary_line}
+use Rattle.sp_spec_text.specs.Verdict.{Verdict, Says}
 use Rattle.sp_law_block.specs.Block.{block_by, IsNumberedBy}
 use Rattle.sp_analysis.specs.Analysis.{Outcome, counted, summary_by, trees_of, IsOutcome, AreOutcomes}
 use Rattle.sp_analysis.specs.Checking.{proof_read, IsVerdictIn, Judged, checked_by, IsJudged, AreJudged}
 use Rattle.sp_pose.specs.Asked.{Asked, asked_of, asked_with, lemmas_read}
 use Rattle.sp_analysis.specs.Printed.{Printed, printed_of, by_tree, by_judgement, judged_log, goal_for, judged_so, to_print, all_to_print, IsNameable, AreNameable, line_of, lines, spliced, text_with, written_by}
 use Rattle.sp_analysis.specs.View.{verdict_of}
-use Rattle.sp_pose.specs.Problem.{PosesProofs, WantsLearning}
 use Rattle.sp_pose.specs.Posed.{IsPosedBy}
 use Rattle.sp_analysis.specs.Replies.{IsAnalysed, IsChecked, IsDone}
 use Rattle.sp_pose.specs.declared.problem.Problem.{Problem}
@@ -284,15 +283,7 @@ setting_is p posed =
     ap₂ (setting_made (signature_of p.signature)) posed.rules_are posed.constants_are
     ∙ ap (λ (x : Signature). setting_made x (theory_of (theory_in posed.said)).rules (constants_of (theory_in posed.said))) posed.signature_is
 
--- proofs of what is posed can be searched and checked
-proved_of : {text : List ℕ} {p : Problem} (posed : IsPosedBy text p) → p.has_adversary ≡ false → PosesProofs text posed.said
-proved_of posed alone = record { poses = posed.poses; alone = sym posed.deals_is ∙ alone }
-
--- or they can't be
-pub wants : {text : List ℕ} {p : Problem} (posed : IsPosedBy text p) → p.has_adversary ≡ true → WantsLearning text
-wants posed deals = record { theory = posed.said; poses = posed.poses; deals = sym posed.deals_is ∙ deals }
-
-module _ {text : List ℕ} (p : Problem) (alone : p.has_adversary ≡ false) (ts : List Tried) (written : List ℕ) (verdicts : List memory.Verdict) (posed : IsPosedBy text p) where
+module _ {text : List ℕ} (p : Problem) (ts : List Tried) (written : List ℕ) (verdicts : List memory.Verdict) (posed : IsPosedBy text p) where
   analysed : (budget : ℕ) → map printed_of ts ≡ all_to_print (Prove budget) (setting_for p) [] (map asked_of p.lemmas.items)
       → AreNameable (Prove budget) (setting_for p) [] (map asked_of p.lemmas.items)
       → written ≡ written_by (Prove budget) text (map printed_of ts) p.behind_end → verdicts ≡ verdicts_in ts → IsAnalysed budget text written (map verdict_of verdicts)
@@ -311,7 +302,7 @@ module _ {text : List ℕ} (p : Problem) (alone : p.has_adversary ≡ false) (ts
         outcomes = os;
         analysis = record {
           theory = posed.said;
-          poses = proved_of posed alone;
+          poses = posed.poses;
           outcomes_are = subst (λ (x : Setting). AreOutcomes x budget [] (theory_in posed.said).lemmas os) same right;
           places = outcomes_placed setting budget ls h.forms named;
           numbers = subst (λ (x : Setting). Every (λ (o : Outcome). IsNumberedBy (executed x) o.log) os) same (outcomes_numbered setting budget ls h.forms named);
@@ -340,7 +331,7 @@ module _ {text : List ℕ} (p : Problem) (alone : p.has_adversary ≡ false) (ts
         judged = js;
         checking = record {
           theory = posed.said;
-          poses = proved_of posed alone;
+          poses = posed.poses;
           judged_are = subst (λ (t : WrittenText). AreJudged (setting_of (theory_in posed.said)) [] (lemmas_with_proofs t.items) js) posed.resolved_is
               (subst (λ (x : Setting). AreJudged x [] (lemmas_with_proofs (view.items xs)) js) same (all_judged_right setting xs h.forms h.are));
           numbers = subst (λ (x : Setting). Every (λ (j : Judged). IsNumberedBy (executed x) j.log) js) same (judged_numbered setting ls h.forms (subst (λ (as' : List Asked). AreNameable Check setting [] as') h.is nameable));

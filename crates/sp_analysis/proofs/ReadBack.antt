@@ -16,7 +16,7 @@ use Rattle.sp_law_guard.specs.GuardedForm.{negate}
 use Rattle.sp_law_guard.specs.CheckedForm.{checked_form}
 use Rattle.sp_law_guard.proofs.Checked.{form_checked}
 use Rattle.sp_law_guard.proofs.Throughout.{Throughout, negate_throughout}
-use Rattle.sp_law_found.specs.Found.{execution_of}
+use Rattle.sp_law_executed.specs.Executed.{executed_of}
 use Rattle.sp_spec_text.specs.Written.{WrittenProof, WrittenText, lemmas_with_proofs, without_proofs}
 use Rattle.sp_spec_system.specs.Rules.{rules_of}
 use Rattle.sp_spec_text.specs.Declared.{resolved, theory_in}
@@ -29,14 +29,13 @@ use Rattle.sp_law_tree.proofs.Forms.{right_negation, right_numbered}
 use Rattle.sp_law_tree.proofs.Named.{NamedAtom, form_named}
 use Rattle.sp_law_tree.proofs.OverLogs.{lemma_right}
 use Rattle.sp_law_tree.proofs.RightTexts.{text_suits}
-use Rattle.sp_log.specs.Checking.{is_log}
-use Rattle.sp_log.proofs.Checks.{log_decides}
+use Rattle.sp_learn.specs.Checking.{is_log}
+use Rattle.sp_learn.proofs.Checks.{log_decides}
 use Rattle.sp_solved.specs.Candidate.{candidate}
 use Rattle.sp_solved.specs.Found.{is_sought, kept_if}
 use Rattle.sp_law_shown.specs.Shown.{IsSearched}
-use Rattle.sp_law_shown.proofs.Executable.{executable, checkable}
-use Rattle.sp_pose.specs.Problem.{PosesProofs}
-use Rattle.sp_pose.proofs.BasicTheories.{leaves_alone}
+use Rattle.sp_law_shown.proofs.Executable.{runnable, checkable}
+use Rattle.sp_pose.specs.Problem.{Poses}
 use Rattle.sp_law_block.specs.Block.{oldest_first, IsNumbered}
 use Rattle.sp_law_block.proofs.CandidateNames.{candidates_have_names_lem, every_newest}
 use Rattle.sp_law_block.proofs.Ends.{ends_are_well_made_lem}
@@ -56,7 +55,7 @@ kept_entries : (b : Bool) (entries : List Entry) (log : Log) → kept_if b entri
 kept_entries true entries log e = (refl, cc)
 kept_entries false entries log e = absurd cc
 
-module _ (text : List ℕ) (written : WrittenText) (posing : PosesProofs text written) where
+module _ (text : List ℕ) (written : WrittenText) (posing : Poses text written) where
   abbrev theory : WrittenTheory
   theory = theory_in written
 
@@ -67,7 +66,7 @@ module _ (text : List ℕ) (written : WrittenText) (posing : PosesProofs text wr
   found_in = searched written posing
 
   suits : SuitsProofs (theory_of theory)
-  suits = text_suits theory found_in.normal_forms found_in.basic found_in.right (leaves_alone posing)
+  suits = text_suits theory found_in.normal_forms found_in.basic found_in.right
 
   -- the system in which a proof begins
   begins_well : (l : Lemma) → IsLemmaOf theory l → (g : Guarded) → checked_form l.formula ≡ Some g → (kind : TraceKind)
@@ -94,16 +93,17 @@ module _ (text : List ℕ) (written : WrittenText) (posing : PosesProofs text wr
       let q = then_some (λ (entries : List Entry). kept_if (is_sought signature rules f entries) entries) (candidate constants end.0) log end.2 in
       let k = kept_entries (is_sought signature rules f q.0) q.0 log q.2 in
       let is = (log_decides (theory_of theory) (checkable theory found_in) q.0).0 (and_parts (is_log signature rules q.0) (decided (log_trace (newest_first q.0)) empty f) k.0).0 in
-      let names = candidates_have_names_lem.names constants (texts_have_names_lem.constants text written posing.poses.says) end.0 end.1.numbered q.0 q.1 in
-      let named = texts_have_names_lem.rules text written posing.poses.says in
-      let exe = executable theory found_in in
+      let names = candidates_have_names_lem.names constants (texts_have_names_lem.constants text written posing.says) end.0 end.1.numbered q.0 q.1 in
+      let named = texts_have_names_lem.rules text written posing.says in
+      let symbols_named = texts_have_names_lem.symbols text written posing.says in
+      let good = runnable theory found_in in
       let newest = newest_first q.0 in
       let ends = subst (λ (l : Log). IsNumbered (theory_of theory) (Some l)) (sym k.1) numbers in
-      let writable = every_newest (IsWritableStep signature.symbols) (execution_of (theory_of theory) newest) (logs_may_be_written_lem.steps theory exe named newest is.0 is.1 names ends) in
+      let writable = every_newest (IsWritableStep signature.symbols) (executed_of (theory_of theory) newest) (logs_may_be_written_lem.steps theory good symbols_named named newest is names ends) in
       subst (IsReadBack (theory_of theory)) k.1 (record {
         writable = writable;
-        read = steps_are_read_back_lem.read signature.symbols (texts_have_names_lem.symbols text written posing.poses.says) (oldest_first (execution_of (theory_of theory) newest)) writable;
-        shown = every_newest (Every (IsShownAction signature.symbols)) (visible_trace newest) (logs_may_be_written_lem.trace theory exe named suits.over.actions newest is.0 is.1 names);
+        read = steps_are_read_back_lem.read signature.symbols symbols_named (oldest_first (executed_of (theory_of theory) newest)) writable;
+        shown = every_newest (Every (IsShownAction signature.symbols)) (visible_trace newest) (logs_may_be_written_lem.trace theory good named newest is names);
       })
 
   -- where there is none nothing is written

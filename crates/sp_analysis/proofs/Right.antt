@@ -13,7 +13,7 @@ use Rattle.sp_spec.specs.Verdict.{HoldsInAll, HoldsInNone, names_learning, Holds
 use Rattle.sp_law_guard.specs.GuardedForm.{negate}
 use Rattle.sp_law_guard.specs.CheckedForm.{checked_form}
 use Rattle.sp_law_decide.specs.Deciding.{decided, empty}
-use Rattle.sp_log.specs.Checking.{is_log}
+use Rattle.sp_learn.specs.Checking.{is_log}
 use Rattle.sp_solved.specs.Candidate.{candidate}
 use Rattle.sp_solved.specs.Found.{is_sought, kept_if, found}
 use Rattle.sp_law_shown.specs.Shown.{IsSearched, FoundBreaks, FoundSatisfies}
@@ -41,8 +41,8 @@ use Rattle.sp_check.specs.Rejected.{ReadIsAccepted}
 use Rattle.sp_check.proofs.Right.{judgements_right}
 use Rattle.sp_spec_text.specs.Written.{WrittenProof, WrittenText, lemmas_with_proofs, without_proofs}
 use Rattle.sp_spec_text.specs.Declared.{resolved, theory_in}
-use Rattle.sp_pose.specs.Problem.{PosesProofs}
-use Rattle.sp_pose.proofs.BasicTheories.{normal_forms, lemmas_are_basic, rules_are_basic, lemmas_unlearnt, keeps_public, leaves_alone}
+use Rattle.sp_pose.specs.Problem.{Poses}
+use Rattle.sp_pose.proofs.BasicTheories.{normal_forms, lemmas_are_basic, rules_are_basic, lemmas_unlearnt, keeps_public}
 
 -- a proof isn't rejected exactly where it is accepted
 accepted_or_rejected : (context : Context) (s : System) (k : Skeleton) (kind : TraceKind) (v : Verdict) (log : Option Log) → IsVerdictIn context s k kind v log
@@ -80,16 +80,16 @@ IsLemmaOf theory l =
     IsBasicFormula (signature_of (theory_of theory)) l.formula × HasNames (names_in (constants_of theory)) l.formula
     × (names_learning l.formula ≡ false)
 
-pub lemmas_of : {bytes : List ℕ} {text : WrittenText} → PosesProofs bytes text → Every (IsLemmaOf (theory_in text)) (theory_in text).lemmas
+pub lemmas_of : {bytes : List ℕ} {text : WrittenText} → Poses bytes text → Every (IsLemmaOf (theory_in text)) (theory_in text).lemmas
 lemmas_of {text = text} posing =
-    go (theory_in text).lemmas (λ l m. m) (lemmas_are_basic posing.poses) (lemmas_unlearnt posing.poses)
+    go (theory_in text).lemmas (λ l m. m) (lemmas_are_basic posing) (lemmas_unlearnt posing)
   where
     go : (ls : List Lemma) → ((l : Lemma) → Member l ls → Member l (theory_in text).lemmas) → Every (λ (l : Lemma). IsBasicFormula (signature_of (theory_of (theory_in text))) l.formula) ls
         → Every (λ (l : Lemma). names_learning l.formula ≡ false) ls → Every (IsLemmaOf (theory_in text)) ls
     go [] among h u = tt
     go (l ∷ ls) among h u = ((h.0, names_stand_lem.lemmas (theory_in text) l (among l (inl refl)) h.0, u.0), go ls (λ x m. among x (inr m)) h.1 u.1)
 
-module _ {bytes : List ℕ} (text : WrittenText) (posing : PosesProofs bytes text) where
+module _ {bytes : List ℕ} (text : WrittenText) (posing : Poses bytes text) where
   abbrev theory : WrittenTheory
   theory = theory_in text
 
@@ -98,10 +98,10 @@ module _ {bytes : List ℕ} (text : WrittenText) (posing : PosesProofs bytes tex
 
   pub searched : IsSearched theory
   searched = record {
-    normal_forms = normal_forms posing.poses;
-    basic = rules_are_basic posing.poses;
-    rule_names = posing.poses.fine.rule_names;
-    right = every_weaken (IsFineRule signature.symbols signature.equations) _ (λ r h. h.right) theory.rules posing.poses.fine.rules;
+    normal_forms = normal_forms posing;
+    basic = rules_are_basic posing;
+    rule_names = posing.fine.rule_names;
+    right = every_weaken (IsFineRule signature.symbols signature.equations) _ (λ r h. h.right) theory.rules posing.fine.rules;
     unrestricted = refl;
   }
 
@@ -131,7 +131,7 @@ module _ {bytes : List ℕ} (text : WrittenText) (posing : PosesProofs bytes tex
       → log ≡ found_log (context_of (setting_of theory) (goal_of [] kind g)) (root_system (goal_of [] kind g)) tree → Says kind v log (IsFinished tree) → Means (theory_of theory) kind v log l
   shown l f g e all_traces verified None tree accepted is says =
       into_reading l f.2 (HoldsInAllLogs (theory_of theory) l) (HoldsInAll (theory_of theory) l)
-      (lemmas_are_shown_lem.all_traces theory searched.normal_forms (keeps_public posing.poses) searched.basic searched.right (leaves_alone posing) l f.0 f.2 g e (context_of (setting_of theory) (goal_of [] all_traces g)) (is_context (goal_of [] all_traces g)) f.1 tree accepted says)
+      (lemmas_are_shown_lem.all_traces theory searched.normal_forms (keeps_public posing) searched.basic searched.right l f.0 f.2 g e (context_of (setting_of theory) (goal_of [] all_traces g)) (is_context (goal_of [] all_traces g)) f.1 tree accepted says)
   shown l f g e all_traces verified (Some log) tree accepted is says = absurd says
   shown l f g e all_traces falsified None tree accepted is says = absurd says
   shown l f g e all_traces falsified (Some log) tree accepted is says =
@@ -144,7 +144,7 @@ module _ {bytes : List ℕ} (text : WrittenText) (posing : PosesProofs bytes tex
       let s = ended (goal_of [] exists_trace g) tree log is in satisfies l f.0 f.2 g e s.0 log s.1
   shown l f g e exists_trace falsified None tree accepted is says =
       into_reading l f.2 (HoldsInNoLog (theory_of theory) l) (HoldsInNone (theory_of theory) l)
-      (lemmas_are_shown_lem.exists_trace theory searched.normal_forms (keeps_public posing.poses) searched.basic searched.right (leaves_alone posing) l f.0 f.2 g e (context_of (setting_of theory) (goal_of [] exists_trace g)) (is_context (goal_of [] exists_trace g)) f.1 tree accepted says)
+      (lemmas_are_shown_lem.exists_trace theory searched.normal_forms (keeps_public posing) searched.basic searched.right l f.0 f.2 g e (context_of (setting_of theory) (goal_of [] exists_trace g)) (is_context (goal_of [] exists_trace g)) f.1 tree accepted says)
   shown l f g e exists_trace falsified (Some log) tree accepted is says = absurd says
   shown l f g e exists_trace incomplete None tree accepted is says = tt
   shown l f g e exists_trace incomplete (Some log) tree accepted is says = absurd says

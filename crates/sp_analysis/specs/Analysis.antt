@@ -7,7 +7,7 @@ use Rattle.sp_spec.specs.Written.{theory_of}
 use Rattle.sp_spec.specs.Guarded.{Guarded}
 use Rattle.sp_spec.specs.Log.{Log}
 use Rattle.sp_spec.specs.Execution.{Step}
-use Rattle.sp_law_found.specs.Found.{execution_of}
+use Rattle.sp_law_executed.specs.Executed.{executed_of}
 use Rattle.sp_law_guard.specs.CheckedForm.{checked_form}
 use Rattle.sp_spec_proof.specs.Tree.{Tree, IsFinished, steps}
 use Rattle.sp_skel.specs.Places.{HavePlaces}
@@ -16,7 +16,7 @@ use Rattle.sp_spec_text.specs.Declared.{theory_in}
 use Rattle.sp_spec_text.specs.Spans.{Span}
 use Rattle.sp_spec_text.specs.Texts.{ArePlaces}
 use Rattle.sp_law_again.specs.Again.{replaced}
-use Rattle.sp_pose.specs.Problem.{PosesProofs}
+use Rattle.sp_pose.specs.Problem.{Poses}
 use Rattle.sp_analysis.specs.Sought.{goal_of, taken_by, Setting, setting_of, proof_tree, grown_log}
 use Rattle.sp_spec_text.specs.Verdict.{Verdict, Says, summary_line}
 use Rattle.sp_law_block.specs.Block.{block_by, IsNumbered}
@@ -38,7 +38,7 @@ summary_by steps_of [] = []
 summary_by steps_of (o ∷ os) = summary_line o.lemma.name o.lemma.kind o.verdict (counted (steps o.tree)) ++ (block_by steps_of o.log ++ summary_by steps_of os)
 
 abbrev pub summary : Theory → List Outcome → List ℕ
-summary theory os = summary_by (execution_of theory) os
+summary theory os = summary_by (executed_of theory) os
 
 abbrev pub trees_of : List Outcome → List Tree
 trees_of os = map (λ (o : Outcome). o.tree) os
@@ -69,7 +69,7 @@ AreOutcomes setting budget taken (l ∷ ls) (o ∷ os) = IsOutcome setting budge
 -- text can name, and so is each fresh name of an execution; were one not, that would be want of memory.
 pub record IsAnalysis (budget : ℕ) (text written : List ℕ) (outcomes : List Outcome) : Type 0 where
   pub theory : WrittenText
-  pub poses : PosesProofs text theory
+  pub poses : Poses text theory
   pub outcomes_are : AreOutcomes (setting_of (theory_in theory)) budget [] (theory_in theory).lemmas outcomes
   pub places : Every (λ (o : Outcome). HavePlaces o.tree) outcomes
   pub numbers : Every (λ (o : Outcome). IsNumbered (theory_of (theory_in theory)) o.log) outcomes

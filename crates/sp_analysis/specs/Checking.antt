@@ -8,7 +8,7 @@ use Rattle.sp_spec.specs.Written.{theory_of}
 use Rattle.sp_spec.specs.Guarded.{Guarded}
 use Rattle.sp_spec.specs.Log.{Log}
 use Rattle.sp_spec.specs.Execution.{Step}
-use Rattle.sp_law_found.specs.Found.{execution_of}
+use Rattle.sp_law_executed.specs.Executed.{executed_of}
 use Rattle.sp_law_guard.specs.CheckedForm.{checked_form}
 use Rattle.sp_spec_system.specs.System.{System}
 use Rattle.sp_spec_system.specs.Move.{Context, unproved}
@@ -18,7 +18,7 @@ use Rattle.sp_check.specs.Rejected.{IsRejectedAt}
 use Rattle.sp_spec_text.specs.Written.{WrittenProof, WrittenText, lemmas_with_proofs}
 use Rattle.sp_spec_text.specs.Declared.{resolved, theory_in}
 use Rattle.sp_skel.specs.Steps.{skeleton}
-use Rattle.sp_pose.specs.Problem.{PosesProofs}
+use Rattle.sp_pose.specs.Problem.{Poses}
 use Rattle.sp_analysis.specs.Sought.{Goal, goal_of, taken_by, root_system, Setting, setting_of, context_of}
 use Rattle.sp_analysis.specs.Analysis.{counted}
 use Rattle.sp_spec_text.specs.Verdict.{Verdict, rejected, Says, summary_line}
@@ -53,7 +53,7 @@ checked_by steps_of [] = []
 checked_by steps_of (j ∷ js) = summary_line j.lemma.name j.lemma.kind j.verdict (counted (steps j.proof)) ++ (block_by steps_of j.log ++ checked_by steps_of js)
 
 abbrev pub checked_text : Theory → List Judged → List ℕ
-checked_text theory js = checked_by (execution_of theory) js
+checked_text theory js = checked_by (executed_of theory) js
 
 -- It is that of the lemma and its proof, where these formulas are taken: the proof begins with the lemma's guarded form.
 pub record IsJudged (setting : Setting) (taken : List Guarded) (lemma : Lemma) (proof : Option WrittenProof) (j : Judged) : Type 0 where
@@ -75,7 +75,7 @@ AreJudged setting taken (q ∷ qs) (j ∷ js) = IsJudged setting taken q.0 q.1 j
 -- text can name.
 pub record IsChecking (text written : List ℕ) (judged : List Judged) : Type 0 where
   pub theory : WrittenText
-  pub poses : PosesProofs text theory
+  pub poses : Poses text theory
   pub judged_are : AreJudged (setting_of (theory_in theory)) [] (lemmas_with_proofs (resolved theory).items) judged
   pub numbers : Every (λ (j : Judged). IsNumbered (theory_of (theory_in theory)) j.log) judged
   pub written_is : written ≡ checked_text (theory_of (theory_in theory)) judged

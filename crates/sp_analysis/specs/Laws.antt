@@ -3,7 +3,7 @@ use Rattle.std.specs.Prelude.{◌≡◌, ◌↔◌, List, ℕ, Option, Some, Non
 use Rattle.sp_spec.specs.Lists.{Every}
 use Rattle.sp_spec.specs.Theory.{TraceKind, all_traces, exists_trace, Theory, Lemma, signature_of}
 use Rattle.sp_spec.specs.Log.{Log, visible_trace}
-use Rattle.sp_law_found.specs.Found.{execution_of}
+use Rattle.sp_law_executed.specs.Executed.{executed_of}
 use Rattle.sp_spec_text.specs.Printed.{step_text}
 use Rattle.sp_spec_text.specs.StepLines.{IsWritableStep, AreSteps}
 use Rattle.sp_law_block.specs.Block.{oldest_first}
@@ -17,7 +17,7 @@ use Rattle.sp_spec_text.specs.Written.{WrittenText, proofs_in}
 use Rattle.sp_spec_text.specs.Declared.{theory_in}
 use Rattle.sp_skel.specs.Spelling.{as_written}
 use Rattle.sp_place.specs.Refused.{IsRefusedAt}
-use Rattle.sp_pose.specs.Problem.{IsReported, WantsLearning}
+use Rattle.sp_pose.specs.Problem.{IsReported}
 use Rattle.sp_spec_text.specs.Behind.{IsBehindEnd}
 use Rattle.sp_law_shown.specs.Shown.{FoundBreaks, FoundSatisfies}
 use Rattle.sp_analysis.specs.Sought.{root_system, setting_of, context_of}
@@ -53,8 +53,7 @@ pub record VerdictsAreRight : Type 0 where
   pub judged_right : (text written : List ℕ) (judged : List Judged) (c : IsChecking text written judged)
       → Every (JudgedRightly (theory_in c.theory)) judged
 
--- Of a text one thing is written, by each command and budget; and only one of four things comes of it: it is refused, reported on, speaks of the adversary,
--- or is done with.
+-- Of a text one thing is written, by each command and budget; and only one of three things comes of it: it is refused, reported on, or done with.
 pub record AnswersAreOne : Type 0 where
   pub one : (budget : ℕ) (text written other : List ℕ) (outcomes others : List Outcome) → IsAnalysis budget text written outcomes → IsAnalysis budget text other others → (written ≡ other) × (outcomes ≡ others)
   pub one_check : (text written other : List ℕ) (judged others : List Judged) → IsChecking text written judged → IsChecking text other others → (written ≡ other) × (judged ≡ others)
@@ -64,10 +63,6 @@ pub record AnswersAreOne : Type 0 where
   pub no_checking : (text written : List ℕ) (place : ℕ) (judged : List Judged) → IsRefusedAt text place → IsChecking text written judged → ⊥
   pub not_analysed : (budget : ℕ) (text lines written : List ℕ) (outcomes : List Outcome) → IsReported text lines → IsAnalysis budget text written outcomes → ⊥
   pub not_checked : (text lines written : List ℕ) (judged : List Judged) → IsReported text lines → IsChecking text written judged → ⊥
-  pub refused_or_wanting : (text : List ℕ) (place : ℕ) → IsRefusedAt text place → WantsLearning text → ⊥
-  pub reported_or_wanting : (text lines : List ℕ) → IsReported text lines → WantsLearning text → ⊥
-  pub wanting_or_analysed : (budget : ℕ) (text written : List ℕ) (outcomes : List Outcome) → WantsLearning text → IsAnalysis budget text written outcomes → ⊥
-  pub wanting_or_checked : (text written : List ℕ) (judged : List Judged) → WantsLearning text → IsChecking text written judged → ⊥
 
 -- What was written says the same theory, and the trees that were grown are its proofs; checked, each lemma gets the same line, the same
 -- verdict and the same log. Behind its word `end` stands the summary.
@@ -86,8 +81,8 @@ pub record WrittenIsChecked : Type 0 where
 
 -- The steps that the log stands for may be written: their lines are read back as these steps, and none of its block begins as a verdict's does.
 pub record IsReadBack (theory : Theory) (log : Log) : Type 0 where
-  pub writable : Every (IsWritableStep (signature_of theory).symbols) (oldest_first (execution_of theory log))
-  pub read : AreSteps (signature_of theory).symbols (map step_text (oldest_first (execution_of theory log))) (oldest_first (execution_of theory log))
+  pub writable : Every (IsWritableStep (signature_of theory).symbols) (oldest_first (executed_of theory log))
+  pub read : AreSteps (signature_of theory).symbols (map step_text (oldest_first (executed_of theory log))) (oldest_first (executed_of theory log))
   pub shown : IsShownTrace (signature_of theory).symbols (oldest_first (visible_trace log))
 
 abbrev pub AreReadBack : Theory → Option Log → Type 0

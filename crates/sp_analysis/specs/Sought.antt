@@ -16,7 +16,7 @@ use Rattle.sp_solved.specs.Found.{found}
 use Rattle.sp_spec_system.specs.Rules.{rules_of}
 use Rattle.sp_spec_forms.specs.Forms.{RuleForms}
 use Rattle.sp_spec.specs.Execution.{Step}
-use Rattle.sp_law_found.specs.Found.{execution_by}
+use Rattle.sp_law_executed.specs.Executed.{linking_of, executed_by}
 use Rattle.sp_spec_text.specs.Verdict.{Verdict}
 
 -- What a proof is to show: the guarded form of a lemma, of this kind, where what stands outside holds: restrictions, and lemmas that were shown
@@ -61,7 +61,7 @@ setting_of theory = record { signature = signature_of (theory_of theory); forms 
 
 -- the steps that a log stands for
 abbrev pub executed : Setting → Log → List Step
-executed setting log = execution_by setting.signature.equations setting.forms log
+executed setting log = executed_by setting.signature.equations setting.forms (linking_of setting.signature) log
 
 -- the search ends with a log over whose trace the formula is true
 abbrev pub context_with : Setting → List Guarded → Guarded → Context

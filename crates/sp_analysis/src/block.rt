@@ -2,7 +2,7 @@
 
 ghost use Rattle.std.specs.Prelude.{◌≡◌, ◌++◌, IfOk, OnOk, Some, map, option_map, string_bytes};
 ghost use Rattle.sp_ground.specs.View.{step_of};
-ghost use Rattle.sp_log.specs.View.{log_of};
+ghost use Rattle.sp_learn.specs.View.{log_of};
 ghost use Rattle.sp_spec.specs.Lists.{Every};
 ghost use Rattle.sp_show.specs.Numbers.{StepHasNames, numbered_names};
 ghost use Rattle.sp_analysis.specs.Sought.{executed};
@@ -11,11 +11,11 @@ ghost use Rattle.sp_law_block.specs.Block as spec;
 
 use crate::setting::Setting;
 use sp_ground::step::Step;
-use sp_log::execution::execution;
-use sp_log::log::Log;
-use sp_log::trace::visible_trace;
+use sp_learn::log::Log;
+use sp_learn::trace::visible_trace;
 use sp_show::step::step_line;
 use sp_show::trace::trace_block;
+use sp_transfer::execution::to_execution;
 use std::alloc::{AllocError, Global};
 
 /// Puts each step on a line.
@@ -36,12 +36,7 @@ fn found_block(alloc: Global, setting: &Setting, log: &Log) -> Result<String, Al
     ensures text { IfOk result (λ text. string_bytes text ≡ spec.block_by (executed (setting_in setting.now)) (Some (log_of log.now))) }
     ensures numbered { OnOk result (Every (StepHasNames numbered_names) (executed (setting_in setting.now) (log_of log.now))) }
 {
-    let steps = execution(
-        alloc,
-        &setting.signature.equations,
-        &setting.book.rules,
-        log,
-    )?;
+    let steps = to_execution(alloc, &setting.signature, &setting.book, log)?;
     let trace = visible_trace(alloc, log)?;
     let mut out = String::from_str(alloc, "execution:\n")?;
     write_steps(alloc, &mut out, &steps)?;

@@ -1,6 +1,6 @@
 // What comes of a text.
 
-ghost use Rattle.std.specs.Prelude.{◌≡◌, IfOk, false};
+ghost use Rattle.std.specs.Prelude.{IfOk};
 ghost use Rattle.sp_pose.specs.Posed.{IsPosedBy};
 ghost use Rattle.sp_analysis.specs.Replies.{IsReplyTo};
 
@@ -28,16 +28,13 @@ pub enum Reply {
     Refused(usize),
     /// There are findings on its theory, and these are their lines.
     Reported(Vec<u8>),
-    /// There are none, but it speaks of the adversary, of whom no proofs are searched or checked yet.
-    WantsLearning,
-    /// What is written, and what is said of each lemma.
+    /// There are none; what is written, and what is said of each lemma.
     Done(Vec<u8>, Vec<Verdict>),
 }
 
 /// What is done with a problem of the text.
 fn done(alloc: Global, command: Command, text: &[u8], problem: Problem) -> Result<Reply, AllocError>
-    requires posed { IsPosedBy text.now problem }
-    requires alone { problem.has_adversary ≡ false }
+    requires { IsPosedBy text.now problem }
     ensures { IfOk result (IsReplyTo command text.now) }
 {
     let Problem {
@@ -46,7 +43,6 @@ fn done(alloc: Global, command: Command, text: &[u8], problem: Problem) -> Resul
         constants,
         lemmas,
         behind_end,
-        ..
     } = problem;
     let book = book(alloc, &signature.equations, &rules)?;
     let setting = Setting {
@@ -60,8 +56,7 @@ fn done(alloc: Global, command: Command, text: &[u8], problem: Problem) -> Resul
     Ok(Reply::Done(written, verdicts))
 }
 
-/// What comes of a text: it is refused at a place, or there are findings on its theory, or it speaks of the adversary, or each of its lemmas is tried, or
-/// the proof of each is checked.
+/// What comes of a text: it is refused at a place, or there are findings on its theory, or each of its lemmas is tried, or the proof of each is checked.
 ///
 /// # Errors
 ///
@@ -72,7 +67,6 @@ pub fn answer(alloc: Global, command: Command, text: &[u8]) -> Result<Reply, All
     match posed_by(alloc, text)? {
         Read::Refused(place) => Ok(Reply::Refused(place)),
         Read::Reported(lines) => Ok(Reply::Reported(lines)),
-        Read::Posed(problem) if problem.has_adversary => Ok(Reply::WantsLearning),
         Read::Posed(problem) => done(alloc, command, text, problem),
     }
 }

@@ -2,7 +2,7 @@
 use Rattle.std.proofs.Common.{◌≡◌, ℕ, List, Bool, true, false, Some, refl, sym, ap}
 use Rattle.std.specs.Prelude.{◌||◌}
 use Rattle.std.proofs.lemmas.Bool.{false≢true}
-use Rattle.sp_spec_system.specs.Move.{Move, simplify, contradiction, unproved, solved, or, action, premise}
+use Rattle.sp_spec_system.specs.Move.{Move, simplify, contradiction, unproved, solved, or, action, premise, know, chain}
 use Rattle.sp_spec_proof.specs.Tree.{Tree, node, Branches, no_branch, branch, IsLeft, IsFinished, AreFinished, is_solved}
 use Rattle.sp_spec_proof.specs.Growth.{has_end, some_end}
 use Rattle.sp_spec_proof.specs.Tree as tree
@@ -26,6 +26,8 @@ left_at solved = (λ _ e. absurd (false≢true (sym e)), λ h. absurd (h tt))
 left_at (or k) = (λ _ _ h. h, λ _. refl)
 left_at (action k) = (λ _ _ h. h, λ _. refl)
 left_at (premise i p) = (λ _ _ h. h, λ _. refl)
+left_at (know i) = (λ _ _ h. h, λ _. refl)
+left_at (chain i) = (λ _ _ h. h, λ _. refl)
 
 at_tree : (step : Step) (move : Move) (bs : BranchesRead) (t : Tree) (branches : Branches) → step ≡ known move → t ≡ node move branches
     → Neither (has_open (node_read (known move) bs)) (has_end (node move branches)) (IsFinished (node move branches)) → Neither (has_open (node_read step bs)) (has_end t) (IsFinished t)

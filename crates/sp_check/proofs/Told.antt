@@ -1,5 +1,5 @@
 -- Open leaves and steps of a tree that is read are told by its nodes, one behind the other.
-use Rattle.std.proofs.Common.{◌≡◌, ℕ, ◌+◌, Bool, true, false, List, [], ◌∷◌, length, refl, ap, zero-add, add-zero, add_assoc, arith}
+use Rattle.std.proofs.Common.{◌≡◌, ℕ, ◌+◌, Bool, false, List, [], ◌∷◌, length, refl, ap, zero-add, add-zero, add_assoc, arith}
 use Rattle.std.proofs.Math.Bool.{or_assoc, or-false}
 use Rattle.std.specs.Prelude.{◌||◌}
 use Rattle.sp_spec_nodes.specs.Preorder.{AreTrees}

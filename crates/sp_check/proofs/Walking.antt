@@ -3,7 +3,7 @@ use Rattle.std.proofs.Common.{◌≡◌, ℕ, ◌+◌, Bool, true, false, if◌t
 use Rattle.std.proofs.lemmas.Bool.{false≢true}
 use Rattle.sp_spec.specs.Log.{Log}
 use Rattle.sp_spec_system.specs.System.{System}
-use Rattle.sp_spec_system.specs.Move.{Move, simplify, contradiction, unproved, solved, or, action, premise, Context, Case, end_log}
+use Rattle.sp_spec_system.specs.Move.{Move, simplify, contradiction, unproved, solved, or, action, premise, know, chain, Context, Case, end_log}
 use Rattle.sp_spec_proof.specs.Cases.{cases}
 use Rattle.sp_spec_proof.specs.Tree.{node, no_branch, IsAccepted, AreAccepted, is_solved, first_log}
 use Rattle.sp_spec_proof.proofs.Logs.{log_last, log_regroup}
@@ -83,6 +83,8 @@ mutual
   walk_tells context before met s (node_read (known (or i)) bs) = cases_tell context before met s (or i) refl bs (λ cs names. branches_tell context (before + 1) met cs bs names) (cases context s (or i)) refl
   walk_tells context before met s (node_read (known (action i)) bs) = cases_tell context before met s (action i) refl bs (λ cs names. branches_tell context (before + 1) met cs bs names) (cases context s (action i)) refl
   walk_tells context before met s (node_read (known (premise i p)) bs) = cases_tell context before met s (premise i p) refl bs (λ cs names. branches_tell context (before + 1) met cs bs names) (cases context s (premise i p)) refl
+  walk_tells context before met s (node_read (known (know i)) bs) = cases_tell context before met s (know i) refl bs (λ cs names. branches_tell context (before + 1) met cs bs names) (cases context s (know i)) refl
+  walk_tells context before met s (node_read (known (chain i)) bs) = cases_tell context before met s (chain i) refl bs (λ cs names. branches_tell context (before + 1) met cs bs names) (cases context s (chain i)) refl
   walk_tells context before met s (node_read (unbuilt text) bs) = (1, refl, inl (refl, (tt, refl)))
   walk_tells context before met s (node_read (unknown text) bs) = (1, refl, inl (refl, λ h. h))
 

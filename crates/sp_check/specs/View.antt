@@ -1,6 +1,6 @@
 -- The trees and judgements that those in memory stand for.
 use Rattle.std.specs.Prelude.{ℕ, List, map, reverse, option_map, string_bytes, String}
-use Rattle.sp_log.specs.View.{log_of}
+use Rattle.sp_learn.specs.View.{log_of}
 use Rattle.sp_system.specs.SystemView.{system_of}
 use Rattle.sp_system.specs.declared.system.System.{System}
 use Rattle.sp_spec_system.specs.System as system

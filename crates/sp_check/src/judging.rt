@@ -4,7 +4,7 @@ ghost use Rattle.std.specs.Prelude.{◌≡◌, ◌+◌, [], ◌∷◌, ◌++◌,
 ghost use Rattle.sp_system.specs.SystemView.{system_of};
 ghost use Rattle.sp_spec_proof.specs.Cases as moves;
 ghost use Rattle.sp_spec_proof.specs.Tree as tree;
-ghost use Rattle.sp_log.specs.View.{log_of};
+ghost use Rattle.sp_learn.specs.View.{log_of};
 ghost use Rattle.sp_step.specs.View.{context_of, move_of, case_of};
 ghost use Rattle.sp_check.specs.Judging as spec;
 ghost use Rattle.sp_check.specs.Nodes.{NodeRead, systems_in, walk_all};
@@ -13,7 +13,7 @@ ghost use Rattle.sp_spec_system.specs.Move.{end_log};
 
 use crate::counts::has_open;
 use crate::skeleton::{Node, Skeleton, Step};
-use sp_log::log::Log;
+use sp_learn::log::Log;
 use sp_step::context::Context;
 use sp_step::moves::{Case, Move, cases};
 use sp_system::system::System;

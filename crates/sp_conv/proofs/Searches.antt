@@ -2,13 +2,13 @@
 use Rattle.std.proofs.Common.{◌≡◌, ◌<◌, ◌≤◌, ◌+◌, ℕ, zero, suc, List, [], ◌∷◌, map, length, get_or, ⊎_elim, refl, sym, ap, ◌∙◌, subst, arith}
 use Rattle.std.proofs.lemmas.Bool.{cases_eq}
 use Rattle.std.proofs.lemmas.Option.{slice_get_read}
-use Rattle.sp_spec.proofs.Lists.{length_map, place_got, place_map}
+use Rattle.sp_spec.proofs.Lists.{length_map, place_got, place_map, place_one}
 use Rattle.sp_spec.specs.Lists.{AtPlace}
 use Rattle.sp_spec.specs.Signature.{Symbol, Equation}
 use Rattle.sp_spec.specs.Substitution.{Binding}
 use Rattle.sp_law_conv.specs.Clash.{DoClash, DoClashBy}
 use Rattle.sp_law_conv.specs.Accepted.{HasWrongShape, HasPrivateConstant, AreAccepted}
-use Rattle.sp_law_conv.proofs.Places.{place_one, member_place}
+use Rattle.sp_law_conv.proofs.Places.{member_place}
 use Rattle.sp_conv.specs.Check.{IsFirst, IsFirstClash, IsOfNone}
 use Rattle.sp_conv.specs.Searches.{IsFirstBehind, NoneClashesBehind, NoTwoClash}
 use Rattle.sp_conv.proofs.Forms.{else_well_formed}

@@ -24,9 +24,9 @@ pub struct Destruction {
     pub result: Term,
 }
 
-// Whether the adversary may apply the symbol to so many arguments.
+/// Whether the adversary may apply the symbol to so many arguments.
 #[tactic(auto, using(crate::proofs::Ways::public_same))]
-fn may_apply(symbols: &Vec<Symbol>, symbol: &Name, count: usize) -> bool
+pub fn may_apply(symbols: &Vec<Symbol>, symbol: &Name, count: usize) -> bool
     ensures { result ≡ is_public (map symbol_of symbols.now.items) (name_of symbol.now) count }
 {
     has_public(symbols, symbol, count)

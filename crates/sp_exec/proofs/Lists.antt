@@ -1,10 +1,5 @@
 -- Lists that are built in front of what a function over the rest answers.
 use Rattle.std.proofs.Common.{◌≡◌, ◌<◌, ◌≤◌, ℕ, zero, suc, take, drop, get_or, arith, List, [], ◌∷◌, ◌++◌, Option, Some, None, option_map, refl, sym, ap, ◌∙◌, append_assoc, length, map}
-use Rattle.sp_spec.specs.Term.{count}
-use Rattle.sp_term.specs.View.{Never}
-use Rattle.sp_term.specs.declared.term.Term.{Term}
-use Rattle.sp_ground.specs.View.{grounds_of}
-use Rattle.sp_ground.proofs.Lists.{count_grounds}
 use Rattle.sp_law_run.proofs.Taking.{map_append}
 use Rattle.sp_spec.proofs.Lists.{length_map}
 
@@ -19,10 +14,6 @@ behind_none (Some rest) = refl
 pub behind_one : {A : Type 0} (front : List A) (x : A) (o : Option (List A)) → behind front (option_map (λ rest. x ∷ rest) o) ≡ behind (front ++ x ∷ []) o
 behind_one front x None = refl
 behind_one front x (Some rest) = ap Some (sym (append_assoc front (x ∷ []) rest))
-
--- as many terms as in memory
-pub counted : (ts : List (Term Never)) → count (grounds_of ts) ≡ length ts
-counted ts = count_grounds ts
 
 -- a list is what stands before a place, the element there, and what stands behind it
 at_place : {A : Type 0} (xs : List A) (i : ℕ) (x : A) → i < length xs → x ≡ get_or xs i x → xs ≡ take i xs ++ x ∷ drop (suc i) xs

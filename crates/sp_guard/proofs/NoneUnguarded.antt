@@ -12,6 +12,7 @@ use Rattle.sp_law_guard.specs.IsGuarded.{message_guarded, messages_in, each_guar
 use Rattle.sp_spec.proofs.Options.{mapped}
 use Rattle.sp_law_guard.proofs.Kept.{joined_forms}
 use Rattle.sp_guard.specs.Unguarded.{QuantifierAbove, nothing_above, turned, one_more, below_some, below_all, first_guarded, outermost_guarded, named_unless, unguarded, first_unguarded, UnguardedIsTold}
+use Rattle.sp_law_guard.proofs.Negated.{negated_guarded}
 
 -- the form is guarded, where its outermost quantifier is joined with the one above
 abbrev counted : QuantifierAbove → Guarded → Bool
@@ -30,13 +31,6 @@ none_above (some bs guard g) = ap (λ (n : ℕ). each_guarded n guard bs && is_g
 none_above (every bs guard g) = ap (λ (n : ℕ). each_guarded n guard bs && is_guarded g) (zero-add (messages_in bs))
 
 -- negation changes no guard
-atom_turned : (a : Atom) → is_guarded (negated_atom a) ≡ true
-atom_turned (acts a i) = refl
-atom_turned (same t u) = refl
-atom_turned (same_time i j) = refl
-atom_turned (before i j) = refl
-atom_turned (last i) = refl
-
 every_turned : (bs : List Binder) (guard : List Atom) (g : Guarded) → is_guarded (negate g) ≡ is_guarded g → is_guarded (negate (every bs guard g)) ≡ is_guarded (every bs guard g)
 every_turned [] (acts a i ∷ []) guarded.falsity below = refl
 every_turned bs guard g below = ap (λ (b : Bool). each_guarded (messages_in bs) guard bs && b) below
@@ -45,7 +39,7 @@ mutual
   guarded_turned : (g : Guarded) → is_guarded (negate g) ≡ is_guarded g
   guarded_turned guarded.truth = refl
   guarded_turned guarded.falsity = refl
-  guarded_turned (holds a) = atom_turned a
+  guarded_turned (holds a) = negated_guarded a
   guarded_turned (fails a) = refl
   guarded_turned (all_of gs) = each_turned gs
   guarded_turned (one_of gs) = each_turned gs

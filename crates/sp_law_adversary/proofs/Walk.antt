@@ -9,7 +9,7 @@ use Rattle.sp_spec.specs.Log.{How, public_name, own_name, constructed, by_chain,
 use Rattle.sp_law_log.specs.Ways.{args_with, sides, IsPublicFork, ArePublic, IsWay, destruction_below}
 use Rattle.sp_law_adversary.specs.Held.{HeldChain}
 use Rattle.sp_law_log.specs.Laws.{IsPlace}
-use Rattle.sp_law_log.proofs.Ways.{joined_again, joined_none}
+use Rattle.sp_law_log.proofs.Ways.{sides_end}
 use Rattle.sp_law_log.proofs.Destructions.{place_among}
 use Rattle.sp_law_run.proofs.Over.{count_valued}
 use Rattle.sp_spec.proofs.Lists.{every_append}
@@ -20,13 +20,6 @@ use Rattle.sp_law_adversary.proofs.Absorb.{IsHeldBy, held_by_end}
 use Rattle.std.specs.Bool.{Decides}
 use Rattle.sp_spec.specs.Same.{same_term}
 use Rattle.sp_spec.proofs.Same.{same_term_decides}
-
--- the arguments beside a way that goes on by a fork
-sides_end : (above : List Fork) (f : Fork) → sides (above ++ f ∷ []) ≡ joined (sides above) (joined f.front f.back)
-sides_end [] f = joined_none (joined f.front f.back)
-sides_end (a ∷ above) f =
-    ap (λ (ts : Terms Variable). joined (joined a.front a.back) ts) (sides_end above f)
-    ∙ sym (joined_again (joined a.front a.back) (sides above) (joined f.front f.back))
 
 module _ (log : Log) (v : Values) where
   pub learnt_joined : (ts us : Terms Variable) → AreLearnt log (valued_all v ts) → AreLearnt log (valued_all v us) → AreLearnt log (valued_all v (joined ts us))

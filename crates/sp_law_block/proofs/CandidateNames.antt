@@ -1,6 +1,6 @@
 -- The log that a system suggests has the public names of its system, which the text has, and those that its variables are given: what holds of
 -- both holds of the log's names.
-use Rattle.std.proofs.Common.{◌≡◌, ◌<◌, ℕ, Bool, true, false, if◌then◌else◌, List, [], ◌∷◌, length, Some, None, option_map, option_and_then, sym, subst}
+use Rattle.std.proofs.Common.{◌≡◌, ◌<◌, ℕ, Bool, true, false, if◌then◌else◌, List, [], ◌∷◌, length, map, Some, None, option_map, option_and_then, sym, subst}
 use Rattle.sp_spec.specs.Lists.{Member, Every, newest_first, is_listed}
 use Rattle.sp_spec.proofs.Lists.{every_member, every_parts, every_append, every_both, every_weaken, every_from}
 use Rattle.sp_spec.proofs.Options.{mapped, then_some}
@@ -8,13 +8,14 @@ use Rattle.sp_spec.proofs.Occurrences.{term_each, occurrences_each}
 use Rattle.sp_spec.specs.Term.{Names, public_name, Variable, Term, var, constant, name, app, Terms, none, more, Values, valued, MadeOf, AllMadeOf, EachVariable, EachVariables}
 use Rattle.sp_spec.specs.Rule.{Facts, FactsMadeOf, InFacts}
 use Rattle.sp_spec.specs.Log.{Entry, Source}
-use Rattle.sp_spec_system.specs.System.{Happening, rule_step, sending, learning, Event, Link, System}
-use Rattle.sp_spec_system.specs.Numbered.{names_in, InHappening, IsNumbered}
+use Rattle.sp_spec_system.specs.System.{Way, anyhow, own_name, constructed, chain_begun, chain_done, Happening, rule_step, sending, learning, Event, Link, System}
+use Rattle.sp_spec_system.specs.System as system
+use Rattle.sp_spec_system.specs.Numbered.{names_in, InWay, InHappening, IsNumbered}
 use Rattle.sp_law_system.proofs.Numbers.{each_valued, facts_valued}
-use Rattle.sp_law_block.specs.Shown.{shown_names, no_variable, HasNames, EntryHasNames, LogHasNames}
+use Rattle.sp_law_block.specs.Shown.{shown_names, no_variable, HasNames, HowHasNames, EntryHasNames, LogHasNames}
 use Rattle.sp_solved.specs.Listing.{in_order}
-use Rattle.sp_solved.specs.Naming.{in_term, in_way, in_step, in_events, variables_of, values_of}
-use Rattle.sp_solved.specs.Candidate.{is_ready, entry_at, event_sources, entries_of, logged, candidate}
+use Rattle.sp_solved.specs.Naming.{in_term, in_chain, in_way, in_step, in_events, variables_of, values_of}
+use Rattle.sp_solved.specs.Candidate.{is_ready, how_at, entry_at, event_sources, entries_of, logged, candidate}
 use Rattle.sp_law_truth.proofs.Only.{is_among_member}
 use Rattle.sp_spec_text.specs.StepLines.{IsQuotable}
 use Rattle.sp_law_block.specs.Laws.{CandidatesHaveNames}
@@ -56,11 +57,26 @@ module _ (N : Names) (listed : List (List ℕ)) (own : (c : List ℕ) → is_lis
     message_named : (m : Term Variable) → MadeOf (names_in listed) P m → Every IsGivenNames (in_term m) → HasNames N (valued v m)
     message_named m made each = each_valued N IsGivenNames no_variable v (λ x k. k) m (term_made P IsGivenNames m made (term_each IsGivenNames m each))
 
+    chain_named : (ts : List (Term Variable)) → Every (MadeOf (names_in listed) P) ts → Every IsGivenNames (in_chain ts)
+        → Every (HasNames N) (map (valued v) ts)
+    chain_named [] made each = tt
+    chain_named (t ∷ ts) made each =
+        let both = every_parts IsGivenNames (in_term t) (in_chain ts) each in (message_named t made.0 both.0, chain_named ts made.1 both.1)
+
+    way_named : (all : List Event) (way : Way) → InWay (names_in listed) P Q way → Every IsGivenNames (in_way way) → HowHasNames N (how_at all v way)
+    way_named all anyhow made each = tt
+    way_named all system.public_name made each = tt
+    way_named all own_name made each = tt
+    way_named all constructed made each = tt
+    way_named all (chain_begun i k ts) made each = chain_named ts made.1 each
+    way_named all (chain_done i k ts) made each = chain_named ts made.1 each
+
     entry_named : (all : List Event) (h : Happening) (sources : List Source) → InHappening (names_in listed) P Q h → Every IsGivenNames (in_step h) → EntryHasNames N (entry_at all v h sources)
     entry_named all (rule_step r facts) sources made each =
         facts_valued N IsGivenNames no_variable v (λ x k. k) facts (facts_made P IsGivenNames facts made (occurrences_each IsGivenNames facts each))
     entry_named all (sending m) sources made each = message_named m made each
-    entry_named all (learning m way) sources made each = message_named m made.0 (every_parts IsGivenNames (in_term m) (in_way way) each).0
+    entry_named all (learning m way) sources made each =
+        let both = every_parts IsGivenNames (in_term m) (in_way way) each in (message_named m made.0 both.0, way_named all way made.1 both.1)
 
     entries_named : (all : List Event) (links : List Link) (es : List Event) (entries : List Entry) → entries_of all links v es ≡ Some entries → Every IsNamedEvent es → Every (EntryHasNames N) entries
     entries_named all links [] entries e h = let nothing : List Entry = [] in let same : nothing ≡ entries = cc in subst (Every (EntryHasNames N)) same tt

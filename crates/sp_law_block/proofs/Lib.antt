@@ -6,6 +6,8 @@ pub mod ResolvedNames
 pub mod TextNames
 pub mod Writable
 pub mod GivenNames
+pub mod StepsOver
+pub mod StepNames
 pub mod LogSteps
 pub mod Ends
 pub mod PublicNames

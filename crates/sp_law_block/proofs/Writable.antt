@@ -13,6 +13,6 @@ module _ (symbols : List Symbol) where
     term_writable (name n) over shown numbered = (shown, numbered)
     term_writable (app f ts) over shown numbered = (over.0, terms_writable ts over.1 shown numbered)
 
-    terms_writable : (ts : Grounds) → AreOver symbols ts → AllMadeOf shown_names no_variable ts → AllMadeOf numbered_names no_variable ts → AreWritable symbols ts
+    pub terms_writable : (ts : Grounds) → AreOver symbols ts → AllMadeOf shown_names no_variable ts → AllMadeOf numbered_names no_variable ts → AreWritable symbols ts
     terms_writable none over shown numbered = tt
     terms_writable (more t ts) over shown numbered = (term_writable t over.0 shown.0 numbered.0, terms_writable ts over.1 shown.1 numbered.1)

@@ -4,8 +4,8 @@ use Rattle.std.specs.Prelude.{ℕ, List, [], ◌∷◌, ◌++◌, codes, Option,
 use Rattle.sp_spec.specs.Theory.{Theory}
 use Rattle.sp_spec.specs.Execution.{Step}
 use Rattle.sp_spec.specs.Log.{Log, visible_trace}
-use Rattle.sp_law_found.specs.Found.{execution_of}
 use Rattle.sp_spec.specs.Lists.{Every, newest_first}
+use Rattle.sp_law_executed.specs.Executed.{executed_of}
 use Rattle.sp_spec_text.specs.Printed.{step_text, trace_block}
 use Rattle.sp_show.specs.Numbers.{StepHasNames, numbered_names}
 
@@ -24,7 +24,7 @@ block_by steps_of None = []
 block_by steps_of (Some log) = codes "execution:\n" ++ (steps_text (oldest_first (steps_of log)) ++ trace_block (oldest_first (visible_trace log)))
 
 abbrev pub block_of : Theory → Option Log → List ℕ
-block_of theory log = block_by (execution_of theory) log
+block_of theory log = block_by (executed_of theory) log
 
 -- the numbers of the fresh names in the execution have an end
 abbrev pub IsNumberedBy : (Log → List Step) → Option Log → Type 0
@@ -32,4 +32,4 @@ IsNumberedBy steps_of None = Unit {0}
 IsNumberedBy steps_of (Some log) = Every (StepHasNames numbered_names) (steps_of log)
 
 abbrev pub IsNumbered : Theory → Option Log → Type 0
-IsNumbered theory log = IsNumberedBy (execution_of theory) log
+IsNumbered theory log = IsNumberedBy (executed_of theory) log

@@ -7,9 +7,8 @@ use Rattle.sp_spec.specs.Written.{WrittenTheory, theory_of}
 use Rattle.sp_spec.specs.Constants.{constants_of}
 use Rattle.sp_spec.specs.Execution.{Step}
 use Rattle.sp_spec.specs.Log.{Entry, Log, IsLog, visible_trace}
-use Rattle.sp_law_log.specs.StepsAlone.{HasStepsAlone}
-use Rattle.sp_law_found.specs.Found.{execution_of}
-use Rattle.sp_law_found.specs.Executable.{IsExecutable}
+use Rattle.sp_law_executed.specs.Executed.{executed_of}
+use Rattle.sp_law_executed.specs.Laws.{IsRunnable}
 use Rattle.sp_spec_text.specs.Written.{WrittenText}
 use Rattle.sp_spec_text.specs.Declared.{theory_in}
 use Rattle.sp_spec_text.specs.Texts.{IsTextOf}
@@ -18,7 +17,7 @@ use Rattle.sp_spec_system.specs.System.{System}
 use Rattle.sp_spec_system.specs.Numbered.{names_in, IsNumbered}
 use Rattle.sp_spec_system.specs.Move.{Context, end_log}
 use Rattle.sp_spec_proof.specs.Tree.{Tree, found_log}
-use Rattle.sp_law_system.specs.Rules.{SuitsProofs, ActionsAreOver}
+use Rattle.sp_law_system.specs.Rules.{SuitsProofs}
 use Rattle.sp_law_system.specs.Proofs.{IsContextOf, IsWellMade}
 use Rattle.sp_spec_text.specs.Names.{IsNameWord}
 use Rattle.sp_spec_text.specs.StepLines.{IsQuotable, HaveNames, IsWritableStep, AreSteps}
@@ -51,12 +50,12 @@ pub record CandidatesHaveNames : Type 0 where
       → (entries : List Entry) → candidate constants s ≡ Some entries → LogHasNames shown_names (newest_first entries)
 
 -- The execution of a log has its names, and is over the symbols; so has the log's trace. Where the numbers of names have an end, the steps may be
--- written.
+-- written, those of the adversary included.
 pub record LogsMayBeWritten : Type 0 where
-  pub steps : (theory : WrittenTheory) → IsExecutable (theory_of theory) → Every IsNamedRule (theory_of theory).rules
-      → (log : Log) → IsLog (theory_of theory) log → HasStepsAlone log → LogHasNames shown_names log
-      → Every (StepHasNames numbered_names) (execution_of (theory_of theory) log)
-      → Every (IsWritableStep (signature_of (theory_of theory)).symbols) (execution_of (theory_of theory) log)
-  pub trace : (theory : WrittenTheory) → IsExecutable (theory_of theory) → Every IsNamedRule (theory_of theory).rules → ActionsAreOver (theory_of theory)
-      → (log : Log) → IsLog (theory_of theory) log → HasStepsAlone log → LogHasNames shown_names log
+  pub steps : (theory : WrittenTheory) → IsRunnable (theory_of theory) → HaveNames (signature_of (theory_of theory)).symbols
+      → Every IsNamedRule (theory_of theory).rules → (log : Log) → IsLog (theory_of theory) log → LogHasNames shown_names log
+      → Every (StepHasNames numbered_names) (executed_of (theory_of theory) log)
+      → Every (IsWritableStep (signature_of (theory_of theory)).symbols) (executed_of (theory_of theory) log)
+  pub trace : (theory : WrittenTheory) → IsRunnable (theory_of theory) → Every IsNamedRule (theory_of theory).rules
+      → (log : Log) → IsLog (theory_of theory) log → LogHasNames shown_names log
       → IsShownTrace (signature_of (theory_of theory)).symbols (visible_trace log)

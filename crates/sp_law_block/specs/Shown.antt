@@ -6,7 +6,7 @@ use Rattle.sp_spec.specs.Signature.{Symbol, AreOver}
 use Rattle.sp_spec.specs.Rule.{Action, Declared, Rule, FactsMadeOf}
 use Rattle.sp_spec.specs.Execution.{Trace}
 pub use Rattle.sp_show.specs.Numbers.{no_variable, HasNames, StepHasNames, numbered_names}
-use Rattle.sp_spec.specs.Log.{Entry, step, send, learn, Log}
+use Rattle.sp_spec.specs.Log.{How, by_chain, Entry, step, send, learn, Log}
 use Rattle.sp_spec_text.specs.Names.{IsNameWord}
 use Rattle.sp_spec_text.specs.StepLines.{IsQuotable}
 
@@ -15,11 +15,16 @@ abbrev pub shown_names : Names
 shown_names (public_name c) = IsQuotable c
 shown_names (fresh_name n) = 0 < n
 
--- the names in the facts of a log's entries are such ones
+-- the names in the messages of a chain are such ones
+abbrev pub HowHasNames : Names → How → Type 0
+HowHasNames N (by_chain p k chain) = Every (HasNames N) chain
+HowHasNames N how = Unit {0}
+
+-- so are those in the facts and the messages of a log's entries
 abbrev pub EntryHasNames : Names → Entry → Type 0
 EntryHasNames N (step r facts sources) = FactsMadeOf N no_variable facts
 EntryHasNames N (send m) = HasNames N m
-EntryHasNames N (learn m how) = HasNames N m
+EntryHasNames N (learn m how) = HasNames N m × HowHasNames N how
 
 abbrev pub LogHasNames : Names → Log → Type 0
 LogHasNames N log = Every (EntryHasNames N) log

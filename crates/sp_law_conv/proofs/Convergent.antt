@@ -10,10 +10,11 @@ use Rattle.sp_law_equal.proofs.Over.{keep_symbols}
 use Rattle.sp_law_conv.specs.Accepted.{IsConstant, AreAccepted}
 use Rattle.sp_law_equal.specs.Right.{EquationsAreOver, KeepPublic}
 use Rattle.sp_law_conv.specs.Laws.{HaveOneArity, AcceptedAreConvergent}
-use Rattle.sp_law_conv.proofs.Places.{member_place, place_one}
+use Rattle.sp_law_conv.proofs.Places.{member_place}
 use Rattle.sp_law_conv.proofs.Nameless.{accepted_nameless}
 use Rattle.sp_law_conv.proofs.Constructors.{left_plain, right_plain}
 use Rattle.sp_law_conv.proofs.Agreement.{agree_unless_clash, agree_turned, agrees_itself}
+use Rattle.sp_spec.proofs.Lists.{place_one}
 
 -- a constant that the adversary may apply is its symbol without arguments
 constant_symbol : (symbols : List Symbol) (t : Term Variable) → IsConstant symbols false t → (c : List ℕ) × (t ≡ app c none) × HasPublic symbols c 0

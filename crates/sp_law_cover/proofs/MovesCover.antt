@@ -1,9 +1,10 @@
 -- Each move covers, with its cases simplified.
 use Rattle.std.proofs.Common.{◌≡◌, ◌≤◌, ◌<◌, ◌+◌, ℕ, Bool, true, false, if◌then◌else◌, List, [], ◌∷◌, map, Option, Some, None, option_map, is_some, refl, sym, subst, arith, le_refl, le_trans, slice_get}
 use Rattle.sp_spec.specs.Lists.{Every}
-use Rattle.sp_spec.specs.Term.{Names, Variable, AllMadeOf}
+use Rattle.sp_spec.specs.Term.{Names, fresh_name, Variable, AllMadeOf}
 use Rattle.sp_spec.specs.Rule.{Action}
 use Rattle.sp_spec.specs.Signature.{Equation}
+use Rattle.sp_spec.specs.Destruction.{destructions}
 use Rattle.sp_spec.specs.Equal.{AreNormal}
 use Rattle.sp_spec.specs.Theory.{Theory, signature_of}
 use Rattle.sp_spec.specs.Truth.{Acts}
@@ -24,10 +25,12 @@ use Rattle.sp_law_system.proofs.Solutions.{Under, TimeUnder, agrees_then, change
 use Rattle.sp_spec_system.specs.Formulas.{freed_action}
 use Rattle.sp_spec_system.specs.MakingOne.{event_at}
 use Rattle.sp_spec_proof.specs.Rows.{has_place, is_contradictory, simplified}
-use Rattle.sp_spec_system.specs.Move.{Move, simplify, contradiction, unproved, solved, or, action, premise, Context, Case, end_log}
+use Rattle.sp_spec_system.specs.Move.{Move, simplify, contradiction, unproved, solved, or, action, premise, know, chain, Context, Case, end_log}
 use Rattle.sp_spec_system.specs.Cases.{where_same, renamed, system_if, named}
-use Rattle.sp_spec_formula.specs.Action.{with_step, by_actions, by_each, action_cases, action_at_time, is_adversary, solving_action, by_forms}
+use Rattle.sp_spec_formula.specs.Action.{with_step, by_actions, by_each, action_cases, action_at_time, solving_action, by_forms, by_adversary}
 use Rattle.sp_spec_graph.specs.Premise.{open_premise, premise_cases}
+use Rattle.sp_spec_graph.specs.Know.{know_cases}
+use Rattle.sp_spec_graph.specs.Chain.{chain_cases}
 use Rattle.sp_spec_proof.specs.Cases.{raw_cases, simple_case, cases}
 use Rattle.sp_law_system.specs.Rules.{SuitsProofs, RulesAreNumbered, IsNumberedForm, FormsAreNumbered, FormsAreWhole}
 use Rattle.sp_law_system.specs.Proofs.{IsContextOf, IsWellMade, IsKept, systems_of, IsPast, CoversBelow}
@@ -37,9 +40,12 @@ use Rattle.sp_spec.proofs.Options.{mapped}
 use Rattle.sp_law_formula.proofs.Merged.{unifier_within, Later}
 use Rattle.sp_law_formula.proofs.Opened.{EqualTruth}
 use Rattle.sp_law_formula.proofs.Parts.{or_covers, or_numbered}
+use Rattle.sp_law_formula.proofs.ByAdversary.{adversary_numbered}
 use Rattle.sp_law_formula.proofs.Actions.{named_systems, systems_append, at_event_systems, step_numbered}
-use Rattle.sp_law_formula.proofs.ActionCovers.{event_found, at_event_solved, new_step_solved}
+use Rattle.sp_law_formula.proofs.ActionCovers.{event_found, at_event_solved, new_event_solved}
 use Rattle.sp_law_graph.proofs.Premises.{premise_numbered, premise_covers}
+use Rattle.sp_law_graph.proofs.Know.{know_numbered, know_covers}
+use Rattle.sp_law_graph.proofs.Chain.{chain_numbered, chain_covers}
 use Rattle.sp_law_cover.proofs.Simplifying.{no_solution, rows_cover, simplified_follows, covers_itself}
 use Rattle.sp_spec_forms.specs.Numbering.{Form}
 use Rattle.sp_spec_forms.specs.Forms.{RuleForms, forms_of}
@@ -53,16 +59,14 @@ pub record SolvesAction (rules : List RuleForms) (s : System) (f : Guarded) (cs 
   pub terms : Action Variable
   pub is_action : f ≡ holds (acts atom (free_time time))
   pub freed : freed_action atom ≡ Some terms
-  pub own : is_adversary atom.symbol ≡ false
   pub cases : cs ≡ action_cases rules s time terms (event_at time s.events)
 
 solving : (rules : List RuleForms) (s : System) (f : Guarded) (cs : List Case) → solving_action rules s (Some f) ≡ Some cs → SolvesAction rules s f cs
-solving rules s (holds (acts a (free_time i))) cs e = at (is_adversary a.symbol) (freed_action a) refl refl e
+solving rules s (holds (acts a (free_time i))) cs e = at (freed_action a) refl e
   where
-    at : (b : Bool) (o : Option (Action Variable)) → is_adversary a.symbol ≡ b → freed_action a ≡ o → (if b then None else action_at_time rules s i o) ≡ Some cs → SolvesAction rules s (holds (acts a (free_time i))) cs
-    at true o h k l = absurd cc
-    at false None h k l = absurd cc
-    at false (Some t) h k l = record { atom = a; time = i; terms = t; is_action = refl; freed = k; own = h; cases = let g : cs ≡ action_cases rules s i t (event_at i s.events) = cc in g }
+    at : (o : Option (Action Variable)) → freed_action a ≡ o → action_at_time rules s i o ≡ Some cs → SolvesAction rules s (holds (acts a (free_time i))) cs
+    at None k l = absurd cc
+    at (Some t) k l = record { atom = a; time = i; terms = t; is_action = refl; freed = k; cases = let g : cs ≡ action_cases rules s i t (event_at i s.events) = cc in g }
 solving rules s (holds (acts a (bound_time i))) cs e = absurd cc
 solving rules s (holds (same t u)) cs e = absurd cc
 solving rules s (holds (same_time i j)) cs e = absurd cc
@@ -151,7 +155,11 @@ module _ (N : Names) (right : UnifierIsRight) (theory : Theory) (suits : SuitsPr
 
   cases_numbered : (s : System) → IsNumbered N s → (i : ℕ) → i < s.next → (a : Action Variable) → AllMadeOf N (Under s.next) a.args → (o : Option Event) → event_at i s.events ≡ o
       → Every (Later N s.next) (systems_of (action_cases forms s i a o))
-  cases_numbered s n i iu a au None e = by_each_numbered forms each_numbered s n i iu a au
+  cases_numbered s n i iu a au None e =
+      let steps = by_each forms s i a in
+      let adversary = by_adversary s i a.symbol a.args in
+      subst (Every (Later N s.next)) (sym (systems_append steps adversary))
+      (every_append (Later N s.next) (systems_of steps) (systems_of adversary) (by_each_numbered forms each_numbered s n i iu a au) (adversary_numbered N s n i iu a.symbol a.args au))
   cases_numbered s n i iu a au (Some d) e =
       let found = event_found i s.events d e in
       let inside = (every_member (InEvent N (Under s.next) (TimeUnder s.next)) s.events d found.0 n.events).1 in
@@ -172,18 +180,18 @@ module _ (N : Names) (right : UnifierIsRight) (theory : Theory) (suits : SuitsPr
       record {
         covers = λ log is v h none.
             let f = subst (FormulaHolds theory log v) r.is_action (every_at _ s.formulas k p.0 p.1 h.formulas) in
-            f.0 (λ y. acting s n r.atom r.terms r.freed r.time i.0 i.1 r.own log is v h f.1.0.0 y (event_at r.time s.events) refl (subst (λ (x : List Case). NoneSolved theory log v s.next (systems_of x)) r.cases none));
+            f.0 (λ y. acting s n r.atom r.terms r.freed r.time i.0 i.1 log is v h f.1.0.0 y (event_at r.time s.events) refl (subst (λ (x : List Case). NoneSolved theory log v s.next (systems_of x)) r.cases none));
       }
     where
       acting : (s : System) (n : IsNumbered N s) (f : Action Place) (a : Action Variable) (freed : freed_action f ≡ Some a) (i : ℕ) (i_under : i < s.next) (a_under : AllMadeOf N (Under s.next) a.args)
-          (own : is_adversary f.symbol ≡ false) (log : Log) (is : IsLog theory log) (v : Valuation) (h : Solves theory log v s)
+          (log : Log) (is : IsLog theory log) (v : Valuation) (h : Solves theory log v s)
           → AreNormal (signature_of theory).equations (action_in (assignment v) f).args → Acts (signature_of theory).equations (log_trace log) (v.times i) (action_in (assignment v) f)
           → (o : Option Event) → event_at i s.events ≡ o → NoneSolved theory log v s.next (systems_of (action_cases forms s i a o)) → ⊥
-      acting s n f a freed i iu au own log is v h normal_f y None e none =
-          new_step_solved N right theory good each_numbered whole s n f a freed i iu au own log is v h y.2 y.0 y.1 y.3 normal_f y.4 none
-      acting s n f a freed i iu au own log is v h normal_f y (Some d) e none =
+      acting s n f a freed i iu au log is v h normal_f y None e none =
+          new_event_solved N right theory good each_numbered whole s n f a freed i iu au log is v h y.2 y.0 y.1 y.3 normal_f y.4 none
+      acting s n f a freed i iu au log is v h normal_f y (Some d) e none =
           let found = event_found i s.events d e in
-          at_event_solved N right theory good each_numbered whole s n f a freed i iu au own log is v h d found.0 found.1 y.2 (v.times i) refl y.0 y.1 y.3 normal_f y.4
+          at_event_solved N right theory good each_numbered whole s n f a freed i iu au log is v h d found.0 found.1 y.2 (v.times i) refl y.0 y.1 y.3 normal_f y.4
           (subst (NoneSolved theory log v s.next) (at_event_systems s a 0 (happening_actions d.happening)) none)
 
   by_rules : (context : Context) → context.rules ≡ rules_of theory → (s : System) (k : ℕ) (cs : List Case) → solving_action context.rules.forms s (slice_get s.formulas k) ≡ Some cs
@@ -193,6 +201,14 @@ module _ (N : Names) (right : UnifierIsRight) (theory : Theory) (suits : SuitsPr
   by_premise_rules : (context : Context) → context.rules ≡ rules_of theory → (s : System) (i p : ℕ) (cs : List Case) → premise_cases context.rules.forms s i p (open_premise s i p) ≡ Some cs
       → premise_cases forms s i p (open_premise s i p) ≡ Some cs
   by_premise_rules context r s i p cs e = subst (λ (rules : Rules). premise_cases rules.forms s i p (open_premise s i p) ≡ Some cs) r e
+
+  by_know_rules : (context : Context) → context.rules ≡ rules_of theory → (s : System) (i : ℕ) (cs : List Case) → know_cases context.rules s i ≡ Some cs
+      → know_cases (rules_of theory) s i ≡ Some cs
+  by_know_rules context r s i cs e = subst (λ (rules : Rules). know_cases rules s i ≡ Some cs) r e
+
+  by_chain_rules : (context : Context) → context.rules ≡ rules_of theory → (s : System) (i : ℕ) (cs : List Case)
+      → chain_cases (destructions context.rules.signature) s i ≡ Some cs → chain_cases (destructions (signature_of theory)) s i ≡ Some cs
+  by_chain_rules context r s i cs e = subst (λ (rules : Rules). chain_cases (destructions rules.signature) s i ≡ Some cs) r e
 
   -- before the cases are simplified
   raw_numbered : (context : Context) → context.rules ≡ rules_of theory → (s : System) (move : Move) (cs : List Case) → raw_cases context s move ≡ Some cs → IsNumbered N s → Every (Later N s.next) (systems_of cs)
@@ -215,23 +231,28 @@ module _ (N : Names) (right : UnifierIsRight) (theory : Theory) (suits : SuitsPr
   raw_numbered context r s (or k) cs e n = or_numbered s n k cs e
   raw_numbered context r s (action k) cs e n = action_numbered s n k cs (by_rules context r s k cs e)
   raw_numbered context r s (premise i p) cs e n = premise_numbered N right theory good each_numbered whole s n i p cs (by_premise_rules context r s i p cs e)
+  raw_numbered context r s (know i) cs e n = know_numbered N theory good each_numbered whole s n i cs (by_know_rules context r s i cs e)
+  raw_numbered context r s (chain i) cs e n = chain_numbered N right theory suits.instances s n i cs (by_chain_rules context r s i cs e)
 
-  raw_covers : (context : Context) → context.rules ≡ rules_of theory → (s : System) (move : Move) (cs : List Case) → raw_cases context s move ≡ Some cs → (move ≡ unproved → ⊥) → (move ≡ solved → ⊥) → IsNumbered N s → Covers theory s (systems_of cs)
-  raw_covers context r s simplify cs e not_open not_end n = at (has_place context.rules s) e
+  raw_covers : (context : Context) → context.rules ≡ rules_of theory → (s : System) (move : Move) (cs : List Case) → raw_cases context s move ≡ Some cs
+      → (move ≡ unproved → ⊥) → (move ≡ solved → ⊥) → IsNumbered N s → ((k : ℕ) → N (fresh_name k) → ⊥) → Covers theory s (systems_of cs)
+  raw_covers context r s simplify cs e not_open not_end n no_names = at (has_place context.rules s) e
     where
       at : (b : Bool) → (if b then Some (record { name = []; system = s } ∷ []) else None) ≡ Some cs → Covers theory s (systems_of cs)
       at true k = let one : Case = record { name = []; system = s } in let g : one ∷ [] ≡ cs = cc in subst (λ (x : List Case). Covers theory s (systems_of x)) g (covers_itself theory s)
       at false k = absurd cc
-  raw_covers context r s contradiction cs e not_open not_end n = at (is_contradictory context.rules s) refl e
+  raw_covers context r s contradiction cs e not_open not_end n no_names = at (is_contradictory context.rules s) refl e
     where
       at : (b : Bool) → is_contradictory context.rules s ≡ b → (if b then Some [] else None) ≡ Some cs → Covers theory s (systems_of cs)
       at true c k = record { covers = λ log is v h none. no_solution N right theory suits equal_truth context.rules r s c n log is v h }
       at false c k = absurd cc
-  raw_covers context r s unproved cs e not_open not_end n = absurd (not_open refl)
-  raw_covers context r s solved cs e not_open not_end n = absurd (not_end refl)
-  raw_covers context r s (or k) cs e not_open not_end n = or_covers theory s k cs e
-  raw_covers context r s (action k) cs e not_open not_end n = action_covers s n k cs (by_rules context r s k cs e)
-  raw_covers context r s (premise i p) cs e not_open not_end n = premise_covers N right theory good each_numbered whole s n i p cs (by_premise_rules context r s i p cs e)
+  raw_covers context r s unproved cs e not_open not_end n no_names = absurd (not_open refl)
+  raw_covers context r s solved cs e not_open not_end n no_names = absurd (not_end refl)
+  raw_covers context r s (or k) cs e not_open not_end n no_names = or_covers theory s k cs e
+  raw_covers context r s (action k) cs e not_open not_end n no_names = action_covers s n k cs (by_rules context r s k cs e)
+  raw_covers context r s (premise i p) cs e not_open not_end n no_names = premise_covers N right theory good each_numbered whole s n i p cs (by_premise_rules context r s i p cs e)
+  raw_covers context r s (know i) cs e not_open not_end n no_names = know_covers N theory good each_numbered whole no_names s n i cs (by_know_rules context r s i cs e)
+  raw_covers context r s (chain i) cs e not_open not_end n no_names = chain_covers N right theory suits.instances s n i cs (by_chain_rules context r s i cs e)
 
 module _ (right : UnifierIsRight) (theory : Theory) (suits : SuitsProofs theory) (equal_truth : EqualTruth) where
   -- the cases, each simplified
@@ -262,7 +283,7 @@ module _ (right : UnifierIsRight) (theory : Theory) (suits : SuitsProofs theory)
     move_covers : (s : System) (move : Move) (cs : List Case) → cases context s move ≡ Some cs → (move ≡ unproved → ⊥) → (move ≡ solved → ⊥) → IsWellMade context s → Covers theory s (systems_of cs)
     move_covers s move cs e not_open not_end made =
         let r = mapped (map (simple_case context.rules)) (raw_cases context s move) cs e in
-        let raw = raw_covers N right theory suits is_of.numbered equal_truth context is_of.rules s move r.0 r.1 not_open not_end made.numbered in
+        let raw = raw_covers N right theory suits is_of.numbered equal_truth context is_of.rules s move r.0 r.1 not_open not_end made.numbered (λ k h. h) in
         let num = raw_numbered N right theory suits is_of.numbered equal_truth context is_of.rules s move r.0 r.1 made.numbered in
         subst (λ (x : List Case). Covers theory s (systems_of x)) (sym r.2)
         (record { covers = λ log is v h none. raw.covers log is v h (simple_solved log is s.next v r.0 num none) })

@@ -1,5 +1,5 @@
 -- Each row covers, a contradiction has no solution, and so simplification covers.
-use Rattle.std.proofs.Common.{◌≡◌, ◌≤◌, ℕ, zero, suc, Bool, true, false, ◌||◌, List, [], ◌∷◌, ◌++◌, Option, Some, None, refl, sym, ap, subst, ◌∙◌, ⊎_elim, le_refl, le_trans}
+use Rattle.std.proofs.Common.{◌≡◌, ◌≤◌, ℕ, zero, suc, Bool, true, false, ◌||◌, List, [], ◌∷◌, ◌++◌, Option, Some, None, refl, sym, ap, subst, ◌∙◌, inl, inr, ⊎_elim, le_refl, le_trans}
 use Rattle.std.proofs.lemmas.Bool.{or_cases}
 use Rattle.std.proofs.lemmas.List.{append_assoc}
 use Rattle.sp_spec.specs.Term.{Names}
@@ -14,7 +14,7 @@ use Rattle.sp_spec_system.specs.Covering.{Agrees, NoneSolved, Covers}
 use Rattle.sp_spec_system.specs.Order.{is_cyclic}
 use Rattle.sp_law_system.specs.Laws.{UnifierIsRight}
 use Rattle.sp_law_system.proofs.Solutions.{agrees_then}
-use Rattle.sp_spec_proof.specs.Rows.{Row, row_split, row_open, row_equate, row_unequal, row_order, row_action_stands, row_disjunction, row_linear_once, row_fresh_once, row_fresh_first, row_instantiate, rows, by_row, first_of, by_rows, is_contradictory, goes_on, simplified_by}
+use Rattle.sp_spec_proof.specs.Rows.{Row, row_split, row_open, row_equate, row_unequal, row_order, row_action_stands, row_disjunction, row_send_input, row_send_learnt, row_learn_once, row_linear_once, row_fresh_once, row_settle_learn, row_fresh_first, row_instantiate, rows, by_row, first_of, by_rows, is_contradictory, goes_on, simplified_by}
 use Rattle.sp_spec_formula.specs.Split.{has_falsity}
 use Rattle.sp_spec_formula.specs.Unequal.{has_equal_pair}
 use Rattle.sp_spec_formula.specs.InOrder.{has_refuted}
@@ -24,6 +24,10 @@ use Rattle.sp_spec_system.specs.Picked.{some_two}
 use Rattle.sp_spec_formula.specs.Equate.{fails_to_equate}
 use Rattle.sp_spec_graph.specs.LinearOnce.{fails_to_link}
 use Rattle.sp_spec_graph.specs.FreshOnce.{fails_to_merge}
+use Rattle.sp_spec_graph.specs.LearnOnce.{learn_once, fails_to_learn}
+use Rattle.sp_spec_graph.specs.SettleLearn.{settle_learn}
+use Rattle.sp_spec_graph.specs.LearntEarly.{has_early}
+use Rattle.sp_spec.specs.Lists.{Member, Every}
 use Rattle.sp_spec_system.specs.Move.{Context}
 use Rattle.sp_law_system.specs.Rules.{SuitsProofs}
 use Rattle.sp_law_system.specs.Proofs.{HasNoSolution, IsContextOf, IsWellMade, IsKept}
@@ -38,6 +42,11 @@ use Rattle.sp_law_formula.proofs.Taken.{instantiate_numbered}
 use Rattle.sp_law_formula.proofs.Instantiates.{instantiate_covers}
 use Rattle.sp_law_graph.proofs.FreshOnce.{merge_contradicts, fr_twice_contradicts, fresh_once_covers, fresh_once_numbered}
 use Rattle.sp_law_graph.proofs.FreshFirst.{fresh_first_covers, fresh_first_numbered}
+use Rattle.sp_law_graph.proofs.SendInput.{send_input_covers, send_input_numbered}
+use Rattle.sp_law_graph.proofs.SendLearnt.{send_learnt_covers, send_learnt_numbered}
+use Rattle.sp_law_graph.proofs.LearnOnce.{learn_once_covers, learn_once_numbered, learning_contradicts}
+use Rattle.sp_law_graph.proofs.SettleLearn.{settle_learn_covers, settle_learn_numbered}
+use Rattle.sp_law_graph.proofs.LearntEarly.{early_contradicts}
 use Rattle.sp_law_graph.proofs.ReducibleEvent.{reducible_contradicts}
 use Rattle.sp_law_formula.proofs.Opened.{EqualTruth, open_existential_covers}
 use Rattle.sp_law_formula.proofs.OpenedNumbers.{open_existential_numbered}
@@ -59,31 +68,44 @@ module _ (N : Names) (right : UnifierIsRight) (theory : Theory) (suits : SuitsPr
   abbrev good : HaveNormalForms (signature_of theory).equations
   good = suits.instances.forms.normal_forms
 
-  row_numbered : (rules : Rules) (row : Row) (s t : System) → by_row rules row s ≡ Some t → IsNumbered N s → IsNumbered N t × (s.next ≤ t.next)
-  row_numbered rules row_split s t e n = split_numbered s t e n
-  row_numbered rules row_open s t e n = open_existential_numbered s t e n
-  row_numbered rules row_equate s t e n = equate_numbered N right s t e n
-  row_numbered rules row_unequal s t e n = unequal_row_numbered s t e n
-  row_numbered rules row_order s t e n = in_order_numbered s t e n
-  row_numbered rules row_action_stands s t e n = action_stands_numbered s t e n
-  row_numbered rules row_disjunction s t e n = disjunction_numbered s t e n
-  row_numbered rules row_linear_once s t e n = linear_once_numbered N right theory s t e n
-  row_numbered rules row_fresh_once s t e n = fresh_once_numbered N right theory s t e n
-  row_numbered rules row_fresh_first s t e n = fresh_first_numbered s t e n
-  row_numbered rules row_instantiate s t e n = instantiate_numbered s t e n
+  -- what settles a learn in the rules of the theory does so by its symbols
+  settled_by : (rules : Rules) → rules ≡ rules_of theory → (s t : System) → settle_learn rules.signature.symbols s ≡ Some t → settle_learn (signature_of theory).symbols s ≡ Some t
+  settled_by rules of s t e = subst (λ (x : Rules). settle_learn x.signature.symbols s ≡ Some t) of e
 
-  row_covers : (rules : Rules) (row : Row) (s t : System) → by_row rules row s ≡ Some t → IsNumbered N s → Covers theory s (t ∷ [])
-  row_covers rules row_split s t e n = split_covers theory s t e
-  row_covers rules row_open s t e n = open_existential_covers N theory good suits.instances.forms.keeps equal_truth s t e n
-  row_covers rules row_equate s t e n = equate_covers N right theory good s t e n
-  row_covers rules row_unequal s t e n = unequal_covers theory s t e
-  row_covers rules row_order s t e n = in_order_covers theory s t e
-  row_covers rules row_action_stands s t e n = action_stands_covers theory s t e
-  row_covers rules row_disjunction s t e n = disjunction_covers theory s t e
-  row_covers rules row_linear_once s t e n = linear_once_covers N right theory s t e n
-  row_covers rules row_fresh_once s t e n = fresh_once_covers N right theory s t e n
-  row_covers rules row_fresh_first s t e n = fresh_first_covers theory good suits.instances.forms.nameless suits.instances.premises suits.closed s t e
-  row_covers rules row_instantiate s t e n = instantiate_covers theory good suits.instances.forms.keeps suits.over s t e n
+  row_numbered : (rules : Rules) → rules ≡ rules_of theory → (row : Row) (s t : System) → by_row rules row s ≡ Some t → IsNumbered N s → IsNumbered N t × (s.next ≤ t.next)
+  row_numbered rules of row_split s t e n = split_numbered s t e n
+  row_numbered rules of row_open s t e n = open_existential_numbered s t e n
+  row_numbered rules of row_equate s t e n = equate_numbered N right s t e n
+  row_numbered rules of row_unequal s t e n = unequal_row_numbered s t e n
+  row_numbered rules of row_order s t e n = in_order_numbered s t e n
+  row_numbered rules of row_action_stands s t e n = action_stands_numbered s t e n
+  row_numbered rules of row_disjunction s t e n = disjunction_numbered s t e n
+  row_numbered rules of row_send_input s t e n = send_input_numbered s t e n
+  row_numbered rules of row_send_learnt s t e n = send_learnt_numbered s t e n
+  row_numbered rules of row_learn_once s t e n = learn_once_numbered N right theory s t e n
+  row_numbered rules of row_linear_once s t e n = linear_once_numbered N right theory s t e n
+  row_numbered rules of row_fresh_once s t e n = fresh_once_numbered N right theory s t e n
+  row_numbered rules of row_settle_learn s t e n = settle_learn_numbered theory s t (settled_by rules of s t e) n
+  row_numbered rules of row_fresh_first s t e n = fresh_first_numbered s t e n
+  row_numbered rules of row_instantiate s t e n = instantiate_numbered s t e n
+
+  -- where fresh comes first, no two events learn one message
+  row_covers : (rules : Rules) → rules ≡ rules_of theory → (row : Row) (s t : System) → by_row rules row s ≡ Some t → IsNumbered N s → (row ≡ row_fresh_first → learn_once s ≡ None) → Covers theory s (t ∷ [])
+  row_covers rules of row_split s t e n once = split_covers theory s t e
+  row_covers rules of row_open s t e n once = open_existential_covers N theory good suits.instances.forms.keeps equal_truth s t e n
+  row_covers rules of row_equate s t e n once = equate_covers N right theory good s t e n
+  row_covers rules of row_unequal s t e n once = unequal_covers theory s t e
+  row_covers rules of row_order s t e n once = in_order_covers theory s t e
+  row_covers rules of row_action_stands s t e n once = action_stands_covers theory s t e
+  row_covers rules of row_disjunction s t e n once = disjunction_covers theory s t e
+  row_covers rules of row_send_input s t e n once = send_input_covers s t e n theory suits.reserved
+  row_covers rules of row_send_learnt s t e n once = send_learnt_covers s t e n theory
+  row_covers rules of row_learn_once s t e n once = learn_once_covers N right theory s t e n
+  row_covers rules of row_linear_once s t e n once = linear_once_covers N right theory s t e n
+  row_covers rules of row_fresh_once s t e n once = fresh_once_covers N right theory s t e n
+  row_covers rules of row_settle_learn s t e n once = settle_learn_covers theory s t (settled_by rules of s t e) n
+  row_covers rules of row_fresh_first s t e n once = fresh_first_covers N right theory suits.instances suits.shown suits.bound suits.fresh s t e (once refl) n
+  row_covers rules of row_instantiate s t e n once = instantiate_covers theory suits.instances s t e n
 
   pub no_solution : (rules : Rules) → rules ≡ rules_of theory → (s : System) → is_contradictory rules s ≡ true → IsNumbered N s → HasNoSolution theory s
   no_solution rules of s e n log is v h =
@@ -93,23 +115,58 @@ module _ (N : Names) (right : UnifierIsRight) (theory : Theory) (suits : SuitsPr
       (λ c. either (is_cyclic s.order) _ (λ k. cyclic_contradicts log v s.order h.order k)
       (λ d. either (has_source_twice s) _
       (λ k. either (some_two (used_twice s.events) s.links) (takes_fr_twice s.events) (λ l. used_twice_contradicts theory log is v s l h) (λ l. fr_twice_contradicts theory log is v s.events l h.events) k)
-      (λ f. either (has_reducible rules.signature.equations s.events) _
+      (λ f. either (has_early s) _ (λ k. early_contradicts theory log is v s h k)
+      (λ g. either (has_reducible rules.signature.equations s.events) _
       (λ k. reducible_contradicts theory good log is v (λ x. (h.sorts x).0) s.events (subst (λ (x : Rules). has_reducible x.signature.equations s.events ≡ true) of k) h.events)
-      (λ j. either (fails_to_equate s s.formulas) _ (λ k. some_fails_contradicts N right theory good s n log v h s.formulas k h.formulas)
-      (λ g. either (fails_to_link s) (fails_to_merge s) (λ k. links_contradict N right theory s n log is v h k)
-      (λ k. merge_contradicts N right theory s k n log is v h) g) j) f) d) c) b) a) e
+      (λ j. either (fails_to_equate s s.formulas) _ (λ k. some_fails_contradicts N right theory good s n log v h s.formulas n.formulas k h.formulas)
+      (λ l. either (fails_to_learn s) _ (λ k. learning_contradicts N right theory s k n log is v h)
+      (λ m. either (fails_to_link s) (fails_to_merge s) (λ k. links_contradict N right theory s n log is v h k)
+      (λ k. merge_contradicts N right theory s k n log is v h) m) l) j) g) f) d) c) b) a) e
     where
       either : (a b : Bool) → (a ≡ true → ⊥) → (b ≡ true → ⊥) → (a || b) ≡ true → ⊥
       either a b first second k = ⊎_elim first second (or_cases a b k)
+
+-- ---- rows in their turn
+
+-- a row that stands before another in one way of dividing the list does so in each, where the other doesn't stand before it
+stays_before : (x y : Row) (front rest earlier later : List Row) → front ++ rest ≡ earlier ++ y ∷ later → Every (λ (z : Row). z ≡ y → ⊥) front → Member x front → Member x earlier
+stays_before x y [] rest earlier later e apart m = absurd m
+stays_before x y (z ∷ front) rest [] later e apart m = let first : z ≡ y = cc in absurd (apart.0 first)
+stays_before x y (z ∷ front) rest (w ∷ earlier) later e apart (inl m) = let first : z ≡ w = cc in inl (sym first ∙ m)
+stays_before x y (z ∷ front) rest (w ∷ earlier) later e apart (inr m) =
+    let others : front ++ rest ≡ earlier ++ y ∷ later = cc in
+    inr (stays_before x y front rest earlier later others apart.1 m)
+
+-- each of the rows that give nothing
+gives_nothing : (rules : Rules) (s : System) (earlier : List Row) → by_rows rules earlier s ≡ None → (row : Row) → Member row earlier → by_row rules row s ≡ None
+gives_nothing rules s [] e row m = absurd m
+gives_nothing rules s (r ∷ earlier) e row m = at (by_row rules r s) refl e m (λ k l. gives_nothing rules s earlier k row l)
+  where
+    at : (o : Option System) → by_row rules r s ≡ o → first_of o (by_rows rules earlier s) ≡ None → Member row (r ∷ earlier)
+        → (by_rows rules earlier s ≡ None → Member row earlier → by_row rules row s ≡ None) → by_row rules row s ≡ None
+    at (Some t) h k place later = absurd cc
+    at None h k (inl same) later = subst (λ (x : Row). by_row rules x s ≡ None) same h
+    at None h k (inr place) later = later k place
+
+-- when fresh comes first, learn once gives nothing
+learnt_once_by_then : (rules : Rules) (s : System) (row : Row) (t : System) → IsTurn rules s row t → row ≡ row_fresh_first → learn_once s ≡ None
+learnt_once_by_then rules s row t turn is =
+    let front : List Row = row_split ∷ row_open ∷ row_equate ∷ row_unequal ∷ row_order ∷ row_action_stands ∷ row_disjunction ∷ row_send_input ∷ row_send_learnt ∷ row_learn_once ∷ [] in
+    let rest : List Row = row_linear_once ∷ row_fresh_once ∷ row_settle_learn ∷ row_fresh_first ∷ row_instantiate ∷ [] in
+    let place : front ++ rest ≡ turn.earlier ++ row_fresh_first ∷ turn.later = subst (λ (x : Row). rows ≡ turn.earlier ++ x ∷ turn.later) is turn.place in
+    let apart : Every (λ (z : Row). z ≡ row_fresh_first → ⊥) front =
+    ((λ e. cc), ((λ e. cc), ((λ e. cc), ((λ e. cc), ((λ e. cc), ((λ e. cc), ((λ e. cc), ((λ e. cc), ((λ e. cc), ((λ e. cc), tt)))))))))) in
+    let there : Member row_learn_once front = inr (inr (inr (inr (inr (inr (inr (inr (inr (inl refl))))))))) in
+    gives_nothing rules s turn.earlier turn.nothing row_learn_once (stays_before row_learn_once row_fresh_first front rest turn.earlier turn.later place apart there)
 
 module _ (right : UnifierIsRight) (theory : Theory) (suits : SuitsProofs theory) (equal_truth : EqualTruth) where
   pub rows_cover : RowsCover theory
   rows_cover = record {
     kept = λ context is_of row s t turn made.
-        let r = row_numbered (names_in context.public_names) right theory suits equal_truth context.rules row s t turn.gives made.numbered in
+        let r = row_numbered (names_in context.public_names) right theory suits equal_truth context.rules is_of.rules row s t turn.gives made.numbered in
         record { well_made = record { numbered = r.0 }; next = r.1 };
     covers = λ context is_of row s t turn made.
-        row_covers (names_in context.public_names) right theory suits equal_truth context.rules row s t turn.gives made.numbered;
+        row_covers (names_in context.public_names) right theory suits equal_truth context.rules is_of.rules row s t turn.gives made.numbered (learnt_once_by_then context.rules s row t turn);
   }
 
   pub contradictions_hold : ContradictionsHold theory

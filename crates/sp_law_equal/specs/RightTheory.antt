@@ -83,13 +83,3 @@ pub record IsRightTheory (theory : Theory) : Type 0 where
   pub bound : Every BindsConclusions theory.rules
   pub bound_actions : Every BindsActions theory.rules
   pub keeps_public : KeepPublic (signature_of theory).symbols (signature_of theory).equations
-
--- the facts that the adversary takes and adds
-abbrev pub adversary_facts : List (List ℕ)
-adversary_facts = codes "In" ∷ codes "Out" ∷ codes "K" ∷ []
-
--- No premise of a rule is a fact of the adversary's, and no action is named as what it sends. Conclusions may be anything: an Out that no rule takes in
--- again does no harm.
-pub record LeavesAdversaryAlone (theory : Theory) : Type 0 where
-  pub premises : (r : Rule) → Member r theory.rules → Every (λ (f : Fact Variable). Member f.symbol adversary_facts → ⊥) r.facts.premises
-  pub actions : (r : Rule) → Member r theory.rules → Every (λ (a : Action Variable). a.symbol ≡ codes "K" → ⊥) r.facts.actions

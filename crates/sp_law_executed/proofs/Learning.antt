@@ -1,14 +1,14 @@
 -- The entries of the adversary's: what is learnt, in each way, and what is sent.
-use Rattle.std.proofs.Common.{◌≡◌, ⊎_elim, ℕ, zero, List, [], ◌∷◌, ◌++◌, length, inl, inr, refl, sym, ap, ◌∙◌, subst}
+use Rattle.std.proofs.Common.{◌≡◌, ⊎_elim, ℕ, zero, if◌then◌else◌, List, [], ◌∷◌, ◌++◌, length, inl, inr, refl, sym, ap, ◌∙◌, subst, append_assoc}
 use Rattle.std.specs.Prelude.{codes}
-use Rattle.sp_spec.specs.Lists.{Distinct}
+use Rattle.sp_spec.specs.Lists.{Distinct, AtPlace, AtPosition}
 use Rattle.sp_spec.specs.Term.{constant, none, more, Ground}
-use Rattle.sp_spec.specs.Signature.{Equation, IsOver, AreOver}
+use Rattle.sp_spec.specs.Signature.{Signature, Equation, IsOver, AreOver}
 use Rattle.sp_spec.specs.Equal.{IsNormal}
 use Rattle.sp_spec.specs.Rule.{Fact, Facts, in_of, out_of, knows, sends}
 use Rattle.sp_spec.specs.Theory.{Theory, signature_of}
-use Rattle.sp_spec.specs.Execution.{put_in, with_entry, Leads}
-use Rattle.sp_spec.specs.Log.{Entry, step, send, learn, Log, How, public_name, own_name, constructed, by_chain, Concludes, IsLearnt, StartsChain, MayLearn, fresh_uses, all_fresh_uses, visible_trace}
+use Rattle.sp_spec.specs.Execution.{Step, take_out, put_in, with_entry, Leads}
+use Rattle.sp_spec.specs.Log.{Entry, step, send, learn, Log, How, public_name, own_name, constructed, by_chain, Concludes, IsLearnt, IsChain, MayLearn, fresh_uses, all_fresh_uses, visible_trace}
 use Rattle.sp_law_equal.proofs.Chains.{same_fact_refl}
 use Rattle.sp_law_equal.proofs.Forms.{normal_of_normal}
 use Rattle.sp_law_equal.proofs.Pairs.{names_apart}
@@ -16,23 +16,26 @@ use Rattle.sp_law_log.specs.Laws.{HoldsInLog}
 use Rattle.sp_law_log.proofs.Places.{every_place}
 use Rattle.sp_law_found.proofs.FreshRuns.{state_of}
 use Rattle.sp_law_found.proofs.Stepped.{concluded_label, entry_normal}
-use Rattle.sp_law_executed.proofs.Lifted.{IsKnownIn, takes_known, reaches_chain}
-use Rattle.sp_law_executed.proofs.Kept.{Carried, WithKnown, has_later}
+use Rattle.sp_law_executed.specs.Executed.{linking_of, is_taken, messages_learnt, chain_steps, making, learning}
+use Rattle.sp_law_executed.proofs.Lifted.{IsKnownIn, takes_known}
+use Rattle.sp_law_executed.proofs.Links.{learnt_of, has_learnt, reaches_chain}
+use Rattle.sp_law_executed.proofs.Kept.{Taken, taken_in, and_taken, Carried, WithKnown, has_later}
 use Rattle.sp_law_executed.proofs.Knowing.{public_known, own_known, reached, constructed_known, out_known}
 
-abbrev learnt_of : Entry → Ground
-learnt_of (learn m how) = m
-learnt_of e = constant []
-
 module _ (theory : Theory) (past : Log) where
+  abbrev signature : Signature
+  signature = signature_of theory
+
   abbrev es : List Equation
-  es = (signature_of theory).equations
+  es = signature.equations
 
   -- a message that is known is learnt
-  carried_learn : (m : Ground) (how : How) → WithKnown theory past (fresh_uses (learn m how) ++ all_fresh_uses past) m
-      → Carried theory (learn m how ∷ past) (all_fresh_uses (learn m how ∷ past))
-  carried_learn m how c = record {
+  carried_learn : (taken : Taken) (m : Ground) (how : How) (steps : List Step)
+      → WithKnown theory taken past (fresh_uses (learn m how) ++ all_fresh_uses past) steps m
+      → Carried theory taken (learn m how ∷ past) (all_fresh_uses (learn m how ∷ past)) steps
+  carried_learn taken m how steps c = record {
     run = c.carried.run;
+    steps_are = c.carried.steps_are;
     has = record {
       others = record {
         there = λ p k e f at con other free.
@@ -47,32 +50,40 @@ module _ (theory : Theory) (past : Log) where
     };
   }
 
-  -- along the chain from what was put out
-  chain_known : (first m : Ground) → WithKnown theory past (all_fresh_uses past) first → (chain : List Ground)
-      → StartsChain (signature_of theory) past chain first m → WithKnown theory past (all_fresh_uses past) m
-  chain_known first m w [] h = absurd h
-  chain_known first m w (t ∷ chain) h =
-      let d = w.carried in
-      let known : IsKnownIn theory d.run.actual t = subst (λ (u : Ground). IsKnownIn theory d.run.actual u) (sym h.0) w.known in
-      reached theory past d m (reaches_chain theory d.run.made past d.run.actual t chain m d.has.learnt known h.1)
+  module _ (steps : List Step) (c : Carried theory (taken_in past) past (all_fresh_uses past) steps) where
+    -- along the chain from what was put out, which is taken if it wasn't yet
+    chain_known : (p k : ℕ) (e : Entry) (t : Ground) → IsOver signature.symbols t → AtPosition past p e → Concludes e k (out_of t)
+        → (chain : List Ground) (m : Ground) → IsChain signature past t chain m
+        → WithKnown theory (and_taken (taken_in past) p k) past (all_fresh_uses past)
+        ((chain_steps (linking_of signature) (messages_learnt past) t chain ++ (if is_taken past p k then [] else take_out t ∷ [])) ++ steps) m
+    chain_known p k e t over at con chain m h =
+        let first = if is_taken past p k then [] else take_out t ∷ [] in
+        let links = chain_steps (linking_of signature) (messages_learnt past) t chain in
+        let taken = and_taken (taken_in past) p k in
+        let w = out_known theory past (taken_in past) steps c p k e t over at con in
+        let d = w.carried in
+        let r = reaches_chain theory d.run.made (messages_learnt past) past (has_learnt past) d.run.actual t chain m
+        (λ n l. d.has.learnt n ((has_learnt past n).0 l)) w.known h in
+        subst (λ (xs : List Step). WithKnown theory taken past (all_fresh_uses past) xs m) (sym (append_assoc links first steps))
+        (reached theory past taken (first ++ steps) d m links r)
 
-  module _ (c : Carried theory past (all_fresh_uses past)) where
-    pub learnt_by : HoldsInLog theory past (IsOver (signature_of theory).symbols) (AreOver (signature_of theory).symbols) → (m : Ground) (how : How)
-        → MayLearn (signature_of theory) past m how → Distinct (all_fresh_uses (learn m how ∷ past))
-        → Carried theory (learn m how ∷ past) (all_fresh_uses (learn m how ∷ past))
-    learnt_by over m public_name may once = carried_learn m public_name (public_known theory past c m may)
-    learnt_by over m own_name may once = carried_learn m own_name (own_known theory past c m may once.0)
+    pub learnt_by : HoldsInLog theory past (IsOver signature.symbols) (AreOver signature.symbols) → (m : Ground) (how : How)
+        → MayLearn signature past m how → Distinct (all_fresh_uses (learn m how ∷ past))
+        → Carried theory (taken_in (learn m how ∷ past)) (learn m how ∷ past) (all_fresh_uses (learn m how ∷ past)) (learning (linking_of signature) past m how ++ steps)
+    learnt_by over m public_name may once = carried_learn (taken_in past) m public_name _ (public_known theory past (taken_in past) steps c m may)
+    learnt_by over m own_name may once = carried_learn (taken_in past) m own_name _ (own_known theory past (taken_in past) steps c m may once.0)
     learnt_by over m constructed may once =
-        carried_learn m constructed
-        (subst (λ (t : Ground). WithKnown theory past (all_fresh_uses past) t) (sym may.2) (constructed_known theory past c may.0 may.1 may.3 may.4))
-    learnt_by over m (by_chain p k chain) may once =
+        carried_learn (taken_in past) m constructed (making m ++ steps)
+        (subst (λ (t : Ground). WithKnown theory (taken_in past) past (all_fresh_uses past) (making t ++ steps) t) (sym may.2)
+        (constructed_known theory past (taken_in past) steps c may.0 may.1 may.3 may.4))
+    learnt_by over m (by_chain p k []) may once = absurd may.6
+    learnt_by over m (by_chain p k (t ∷ chain)) may once =
         let facts = may.1 in
-        let first = may.4 in
+        let con : AtPlace facts.conclusions k (out_of t) = subst (λ (u : Ground). AtPlace facts.conclusions k (out_of u)) (sym may.6.0) may.5 in
         let put_out =
-        every_place (λ (f : Fact ⊥). AreOver (signature_of theory).symbols f.args) facts.conclusions k (out_of first) may.5
-        (over.facts p may.0 facts may.2 may.3).conclusions in
-        let out = out_known theory past c p k (step may.0 facts may.2) first put_out.0 may.3 may.5 in
-        carried_learn m (by_chain p k chain) (chain_known first m out chain may.6)
+        every_place (λ (f : Fact ⊥). AreOver signature.symbols f.args) facts.conclusions k (out_of t) con (over.facts p may.0 facts may.2 may.3).conclusions in
+        carried_learn (and_taken (taken_in past) p k) m (by_chain p k (t ∷ chain)) (learning (linking_of signature) past m (by_chain p k (t ∷ chain)) ++ steps)
+        (chain_known p k (step may.0 facts may.2) t put_out.0 may.3 con chain m may.6.1)
 
     -- an In is no Out
     sends_no_out : (m : Ground) (k : ℕ) (e : Entry) (t : Ground) → send m ≡ e → Concludes e k (out_of t) → ⊥
@@ -81,7 +92,8 @@ module _ (theory : Theory) (past : Log) where
         names_apart (codes "Out") (codes "In") refl (ap (λ (f : Fact ⊥). f.symbol) is.1)
 
     -- a learnt message is put in
-    pub sent : (m : Ground) → IsLearnt past m → IsNormal es m → Carried theory (send m ∷ past) (all_fresh_uses (send m ∷ past))
+    pub sent : (m : Ground) → IsLearnt past m → IsNormal es m
+        → Carried theory (taken_in (send m ∷ past)) (send m ∷ past) (all_fresh_uses (send m ∷ past)) (put_in m ∷ steps)
     sent m learnt normal =
         let label = concluded_label (length past) (in_of m) zero in
         let state = label ∷ c.run.state in
@@ -98,7 +110,7 @@ module _ (theory : Theory) (past : Log) where
           sorts = (tt, known.0);
           adds = refl;
         } in
-        let old = has_later theory past c.run.actual actual (λ g n p. inr n) c.run.state state (λ y n. inr n) c.has in
+        let old = has_later theory (taken_in past) past c.run.actual actual (λ g n p. inr n) c.run.state state (λ y n. inr n) c.has in
         record {
           run = record {
             steps = put_in m ∷ c.run.steps;
@@ -113,6 +125,7 @@ module _ (theory : Theory) (past : Log) where
             runs = (state_of c.run.actual c.run.made, c.run.trace, facts, c.run.runs, leads, refl);
             used = c.run.used;
           };
+          steps_are = ap (λ (xs : List Step). put_in m ∷ xs) c.steps_are;
           has = record {
             others = record {
               there = λ p k e f at con other free.

@@ -1,30 +1,23 @@
--- The way up: from a destruction's pattern and side messages the adversary gets its result by applying the symbols above; and so along a chain.
-use Rattle.std.proofs.Common.{◌≡◌, inl, ℕ, Bool, true, false, List, [], ◌∷◌, ◌++◌, refl, sym, ap, ◌∙◌, subst, append_assoc, if◌then◌else◌}
+-- The way up: from a message at its end and the messages beside it the adversary gets the one where it begins, by applying the symbols above.
+use Rattle.std.proofs.Common.{◌≡◌, inl, ℕ, Bool, true, false, List, [], ◌∷◌, ◌++◌, map, refl, sym, ap, ◌∙◌, subst, append_assoc, if◌then◌else◌}
 use Rattle.sp_spec.specs.Lists.{Member}
 use Rattle.sp_spec.specs.Term.{Variable, Term, constant, app, Terms, none, more, Ground, Grounds, joined, count, Values, valued, valued_all}
-use Rattle.sp_spec.specs.Signature.{HasPublic, IsOver, AreOver, RespectsSorts}
-use Rattle.sp_spec.specs.Equal.{at_root, Equal, forth, end}
+use Rattle.sp_spec.specs.Signature.{HasPublic, IsOver, AreOver}
+use Rattle.sp_spec.specs.Equal.{Equal}
 use Rattle.sp_spec.specs.Rule.{Fact, Facts, SameFact, knows}
 use Rattle.sp_spec.specs.Theory.{Theory, signature_of}
 use Rattle.sp_spec.specs.Execution.{Step, apply_symbol, known_all, Takes, Leads, Trace, Runs}
-use Rattle.sp_spec.specs.Destruction.{Destruction, Fork}
-use Rattle.sp_spec.specs.Log.{Log, IsLearnt, AreLearnt, IsDestructed, IsChain}
-use Rattle.sp_spec.proofs.Lists.{every_append, member_right}
+use Rattle.sp_spec.specs.Destruction.{Fork}
+use Rattle.sp_spec.proofs.Lists.{member_right}
 use Rattle.sp_law_equal.specs.Parts.{IsPart}
-use Rattle.sp_law_equal.proofs.Chains.{equal_sym, equal_all_trans, same_fact_refl}
-use Rattle.sp_law_equal.proofs.Parts.{part_valued, part_over}
-use Rattle.sp_law_log.specs.Ways.{args_with, sides, IsPublicFork, ArePublic, IsWay, IsOfPlace}
+use Rattle.sp_law_equal.proofs.Chains.{equal_all_trans, same_fact_refl}
+use Rattle.sp_law_equal.proofs.Parts.{part_over}
+use Rattle.sp_law_log.specs.Ways.{args_with, sides, ArePublic, IsWay}
 use Rattle.sp_law_run.proofs.Over.{count_valued}
-use Rattle.sp_law_log.proofs.Ways.{way_part}
-use Rattle.sp_law_log.proofs.Destructions.{destruction_place}
 use Rattle.sp_law_found.proofs.Labels.{member_split}
 use Rattle.sp_law_found.proofs.FreshRuns.{state_of}
-
--- a way down to a place on it
-pub way_upto : (t : Term Variable) (above : List Fork) (f : Fork) (under : List Fork) (r : Term Variable) → IsWay t (above ++ f ∷ under) r
-    → IsWay t (above ++ f ∷ []) f.entered
-way_upto t [] f under r w = (w.0, refl)
-way_upto t (a ∷ above) f under r w = (w.0, way_upto a.entered above f under r w.1)
+use Rattle.sp_law_executed.specs.Executed.{level_of, raising}
+use Rattle.sp_law_executed.proofs.Raised.{shown, raising_is}
 
 -- what is persistent stays
 abbrev pub Persists : List (Fact ⊥) → List (Fact ⊥) → Type 0
@@ -81,9 +74,8 @@ module _ (theory : Theory) where
             (subst (λ (xs : List (Fact ⊥)). Takes (signature_of theory).equations (known_all ts) xs facts) s.2 (takes_known facts ts h.1)),
       )
 
-  -- steps of the adversary's that lead to where the message is known too
-  pub record Reaches (facts : List (Fact ⊥)) (made : List Ground) (t : Ground) : Type 0 where
-    pub steps : List Step
+  -- these steps of the adversary's lead to where the message is known too
+  pub record Reaches (facts : List (Fact ⊥)) (made : List Ground) (steps : List Step) (t : Ground) : Type 0 where
     pub later : List (Fact ⊥)
     pub runs : (past : List Step) (trace : Trace) → Runs theory past (state_of facts made) trace → Runs theory (steps ++ past) (state_of later made) trace
     pub added : List (Fact ⊥)
@@ -91,20 +83,21 @@ module _ (theory : Theory) where
     pub known : IsKnownIn later t
 
   module _ (made : List Ground) where
-    pub reaches_known : (facts : List (Fact ⊥)) (t : Ground) → IsKnownIn facts t → Reaches facts made t
-    reaches_known facts t h = record { steps = []; later = facts; runs = λ past trace r. r; added = []; is = refl; known = h }
+    pub reaches_known : (facts : List (Fact ⊥)) (t : Ground) → IsKnownIn facts t → Reaches facts made [] t
+    reaches_known facts t h = record { later = facts; runs = λ past trace r. r; added = []; is = refl; known = h }
 
     -- what was there is there still
-    pub reaches_keeps : (facts : List (Fact ⊥)) (t : Ground) (a : Reaches facts made t) (g : Fact ⊥) → Member g facts → Member g a.later
-    reaches_keeps facts t a g m = subst (λ (fs : List (Fact ⊥)). Member g fs) (sym a.is) (member_right g a.added facts m)
+    pub reaches_keeps : (facts : List (Fact ⊥)) (steps : List Step) (t : Ground) (a : Reaches facts made steps t) (g : Fact ⊥) → Member g facts
+        → Member g a.later
+    reaches_keeps facts steps t a g m = subst (λ (fs : List (Fact ⊥)). Member g fs) (sym a.is) (member_right g a.added facts m)
 
-    pub reaches_then : (facts : List (Fact ⊥)) (t u : Ground) (a : Reaches facts made t) → Reaches a.later made u → Reaches facts made u
-    reaches_then facts t u a b = record {
-      steps = b.steps ++ a.steps;
+    pub reaches_then : (facts : List (Fact ⊥)) (before after : List Step) (t u : Ground) (a : Reaches facts made before t) → Reaches a.later made after u
+        → Reaches facts made (after ++ before) u
+    reaches_then facts before after t u a b = record {
       later = b.later;
       runs = λ past trace r.
-          subst (λ (xs : List Step). Runs theory xs (state_of b.later made) trace) (sym (append_assoc b.steps a.steps past))
-          (b.runs (a.steps ++ past) trace (a.runs past trace r));
+          subst (λ (xs : List Step). Runs theory xs (state_of b.later made) trace) (sym (append_assoc after before past))
+          (b.runs (before ++ past) trace (a.runs past trace r));
       added = b.added ++ a.added;
       is = b.is ∙ ap (λ (fs : List (Fact ⊥)). b.added ++ fs) a.is ∙ sym (append_assoc b.added a.added facts);
       known = b.known;
@@ -112,10 +105,10 @@ module _ (theory : Theory) where
 
     -- a public symbol is applied
     pub reaches_app : (facts : List (Fact ⊥)) (f : List ℕ) (ts : Grounds) → HasPublic (signature_of theory).symbols f (count ts) → AreKnownIn facts ts
-        → Reaches facts made (app f ts)
+        → Reaches facts made (apply_symbol f ts ∷ []) (app f ts)
     reaches_app facts f ts public h =
-        let shown : Facts ⊥ = record { premises = known_all ts; actions = []; conclusions = knows (app f ts) ∷ [] } in
-        let leads : Leads theory (apply_symbol f ts) shown (state_of facts made) (state_of (knows (app f ts) ∷ facts) made) = record {
+        let applied : Facts ⊥ = record { premises = known_all ts; actions = []; conclusions = knows (app f ts) ∷ [] } in
+        let leads : Leads theory (apply_symbol f ts) applied (state_of facts made) (state_of (knows (app f ts) ∷ facts) made) = record {
           values = λ x. constant [];
           rest = facts;
           named = public;
@@ -126,9 +119,8 @@ module _ (theory : Theory) where
           adds = refl;
         } in
         record {
-          steps = apply_symbol f ts ∷ [];
           later = knows (app f ts) ∷ facts;
-          runs = λ past trace r. (state_of facts made, trace, shown, r, leads, refl);
+          runs = λ past trace r. (state_of facts made, trace, applied, r, leads, refl);
           added = knows (app f ts) ∷ [];
           is = refl;
           known = known_now facts (app f ts) ((false, public), are_over facts ts h);
@@ -136,27 +128,31 @@ module _ (theory : Theory) where
 
     -- up a way of public symbols, from the place at its end
     pub lift : (v : Values) (t : Term Variable) (forks : List Fork) (q : Term Variable) → IsWay t forks q → ArePublic (signature_of theory).symbols forks
-        → (facts : List (Fact ⊥)) → AreKnownIn facts (valued_all v (sides forks)) → IsKnownIn facts (valued v q) → Reaches facts made (valued v t)
+        → (facts : List (Fact ⊥)) → AreKnownIn facts (valued_all v (sides forks)) → IsKnownIn facts (valued v q)
+        → Reaches facts made (raising (map level_of forks) (shown v (sides forks)) (valued v q)) (valued v t)
     lift v t [] q way publics facts beside h = reaches_known facts (valued v t) (subst (λ (u : Term Variable). IsKnownIn facts (valued v u)) (sym way) h)
     lift v t (f ∷ forks) q way publics facts beside h =
         let parts = known_parts facts v (joined f.front f.back) (sides forks) beside in
+        let up = raising (map level_of forks) (shown v (sides forks)) (valued v q) in
         let inner = lift v f.entered forks q way.1 publics.1 facts parts.1 h in
         let args = args_with f f.entered in
-        let persists : Persists facts inner.later = λ g m persistent. reaches_keeps facts (valued v f.entered) inner g m in
+        let persists : Persists facts inner.later = λ g m persistent. reaches_keeps facts up (valued v f.entered) inner g m in
         let beside_known = all_known_stay facts inner.later persists (valued_all v (joined f.front f.back)) parts.0 in
         let args_known : AreKnownIn inner.later (valued_all v args) = known_among inner.later v f.front f.entered f.back beside_known inner.known in
         let public : HasPublic (signature_of theory).symbols f.symbol (count (valued_all v args)) =
         subst (λ (n : ℕ). HasPublic (signature_of theory).symbols f.symbol n) (sym (count_valued v args)) publics.0 in
-        subst (λ (u : Term Variable). Reaches facts made (valued v u)) (sym way.0)
-        (reaches_then facts (valued v f.entered) (valued v (app f.symbol args)) inner (reaches_app inner.later f.symbol (valued_all v args) public args_known))
+        let whole =
+        reaches_then facts up (apply_symbol f.symbol (valued_all v args) ∷ []) (valued v f.entered) (valued v (app f.symbol args)) inner
+        (reaches_app inner.later f.symbol (valued_all v args) public args_known) in
+        subst (λ (u : Term Variable). Reaches facts made (raising (map level_of (f ∷ forks)) (shown v (sides (f ∷ forks))) (valued v q)) (valued v u)) (sym way.0)
+        (subst (λ (steps : List Step). Reaches facts made steps (valued v (app f.symbol args))) (sym (raising_is v f forks q way.1)) whole)
 
     -- what is equal to a message, and stands in it, is known with it
-    reaches_equal : (facts : List (Fact ⊥)) (t u : Ground) → Equal (signature_of theory).equations u t → IsPart u t → Reaches facts made t
-        → Reaches facts made u
-    reaches_equal facts t u e p a =
+    pub reaches_equal : (facts : List (Fact ⊥)) (steps : List Step) (t u : Ground) → Equal (signature_of theory).equations u t → IsPart u t
+        → Reaches facts made steps t → Reaches facts made steps u
+    reaches_equal facts steps t u e p a =
         let h = a.known in
         record {
-          steps = a.steps;
           later = a.later;
           runs = a.runs;
           added = a.added;
@@ -166,48 +162,3 @@ module _ (theory : Theory) where
             (h.1.0, h.1.1, (h.1.2.0, h.1.2.1, equal_all_trans (signature_of theory).equations (more u none) (more t none) h.1.0.args (e, tt) h.1.2.2)),
           );
         }
-
-    module _ (log : Log) where
-      -- each message that the log has learnt is known there
-      abbrev pub KnowsLearnt : List (Fact ⊥) → Type 0
-      KnowsLearnt facts = (m : Ground) → IsLearnt log m → IsKnownIn facts m
-
-      pub all_learnt : (facts : List (Fact ⊥)) → KnowsLearnt facts → (ts : Grounds) → AreLearnt log ts → AreKnownIn facts ts
-      all_learnt facts all none h = tt
-      all_learnt facts all (more t ts) h = (all t h.0, all_learnt facts all ts h.1)
-
-      of_place : (d : Destruction) (p : IsOfPlace (signature_of theory) d) (v : Values) → RespectsSorts v → (facts : List (Fact ⊥))
-          → AreKnownIn facts (valued_all v (sides (p.above ++ p.fork ∷ []))) → IsKnownIn facts (valued v p.fork.entered)
-          → Reaches facts made (valued v p.equation.right)
-      of_place d p v respects facts beside h =
-          let e = p.equation in
-          let way = way_upto e.left p.above p.fork (p.next ∷ p.under) e.right p.way in
-          let publics = every_append (IsPublicFork (signature_of theory).symbols) p.above (p.fork ∷ []) p.publics (p.public, tt) in
-          let whole = lift v e.left (p.above ++ p.fork ∷ []) p.fork.entered way publics facts beside h in
-          let link : Equal (signature_of theory).equations (valued v e.left) (valued v e.right) = forth (at_root e p.is_equation v respects refl refl) end in
-          reaches_equal facts (valued v e.left) (valued v e.right) (equal_sym (signature_of theory).equations (valued v e.left) (valued v e.right) link)
-          (part_valued v e.right e.left (way_part e.right e.left (p.above ++ p.fork ∷ p.next ∷ p.under) p.way)) whole
-
-      -- along a link
-      pub reaches_link : (facts : List (Fact ⊥)) (t u : Ground) → KnowsLearnt facts → IsKnownIn facts t → IsDestructed (signature_of theory) log t u
-          → Reaches facts made u
-      reaches_link facts t u all h link =
-          let d = link.0 in
-          let v = link.2 in
-          let p = destruction_place (signature_of theory) d link.1 in
-          let side_are : d.sides ≡ sides (p.above ++ p.fork ∷ []) = ap (λ (x : Destruction). x.sides) p.is in
-          let pattern_is : d.pattern ≡ p.fork.entered = ap (λ (x : Destruction). x.pattern) p.is in
-          let result_is : d.result ≡ p.equation.right = ap (λ (x : Destruction). x.result) p.is in
-          subst (λ (m : Ground). Reaches facts made m) (ap (valued v) (sym result_is) ∙ sym link.6)
-          (of_place d p v link.3 facts
-          (subst (λ (ts : Terms Variable). AreKnownIn facts (valued_all v ts)) side_are (all_learnt facts all (valued_all v d.sides) link.5))
-          (subst (λ (m : Ground). IsKnownIn facts m) (link.4 ∙ ap (valued v) pattern_is) h))
-
-      -- along a chain
-      pub reaches_chain : (facts : List (Fact ⊥)) (t : Ground) (chain : List Ground) (m : Ground) → KnowsLearnt facts → IsKnownIn facts t
-          → IsChain (signature_of theory) log t chain m → Reaches facts made m
-      reaches_chain facts t [] m all h c = reaches_known facts m (subst (λ (u : Ground). IsKnownIn facts u) c h)
-      reaches_chain facts t (u ∷ chain) m all h c =
-          let a = reaches_link facts t u all h c.0 in
-          reaches_then facts u m a
-          (reaches_chain a.later u chain m (λ n k. known_stays facts a.later (λ g m persistent. reaches_keeps facts u a g m) n (all n k)) a.known c.1)

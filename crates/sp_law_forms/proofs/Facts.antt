@@ -1,5 +1,5 @@
 -- Facts whose variables are replaced, and the terms in them.
-use Rattle.std.proofs.Common.{◌≡◌, List, [], ◌∷◌, ◌++◌, map, refl, ap, ap₂, ◌∙◌}
+use Rattle.std.proofs.Common.{◌≡◌, List, [], ◌∷◌, ◌++◌, map, refl, ap, ap₂}
 use Rattle.sp_spec.specs.Lists.{Every}
 use Rattle.sp_spec.specs.Term.{Variable, Term, var, Terms, valued, valued_all}
 use Rattle.sp_spec.specs.Rule.{Fact, Action, Facts, OfArguments, fact_at, action_at, facts_at}
@@ -8,20 +8,13 @@ use Rattle.sp_spec.proofs.Values.{valued_all-valued_all}
 use Rattle.sp_law_system.proofs.TermValues.{valued_var_all}
 use Rattle.sp_spec_forms.specs.Reducible.{args_of}
 use Rattle.sp_law_forms.proofs.Lists.{every_of_map}
+use Rattle.sp_law_system.proofs.Facts.{parts_same}
 
 abbrev pub made_fact : {V : Type 0} → Fact V → {W : Type 0} → Terms W → Fact W
 made_fact f ts = record { symbol = f.symbol; persistent = f.persistent; args = ts }
 
 abbrev pub made_action : {V : Type 0} → Action V → {W : Type 0} → Terms W → Action W
 made_action a ts = record { symbol = a.symbol; args = ts }
-
-abbrev pub made_facts : {V : Type 0} → List (Fact V) → List (Action V) → List (Fact V) → Facts V
-made_facts ps as' cs = record { premises = ps; actions = as'; conclusions = cs }
-
-pub same_facts : {V : Type 0} (ps qs : List (Fact V)) (as' bs : List (Action V)) (cs ds : List (Fact V))
-    → ps ≡ qs → as' ≡ bs → cs ≡ ds → made_facts ps as' cs ≡ made_facts qs bs ds
-same_facts ps qs as' bs cs ds p a c =
-    ap (λ z. made_facts z as' cs) p ∙ ap (λ z. made_facts qs z cs) a ∙ ap (made_facts qs bs) c
 
 -- what holds of the terms of each fact and each action holds of all terms, and back
 module _ (P : Terms Variable → Type 0) (f : Facts Variable) where
@@ -76,7 +69,7 @@ module _ {V W : Type 0} (a b : V → Term W) where
 
   pub same_facts_at : (f : Facts V) → OfArguments SameArgs f → facts_at a f ≡ facts_at b f
   same_facts_at f h =
-      same_facts (map (fact_at a) f.premises) (map (fact_at b) f.premises) (map (action_at a) f.actions) (map (action_at b) f.actions)
+      parts_same (map (fact_at a) f.premises) (map (fact_at b) f.premises) (map (action_at a) f.actions) (map (action_at b) f.actions)
       (map (fact_at a) f.conclusions) (map (fact_at b) f.conclusions)
       (same_each_fact f.premises h.premises) (same_each_action f.actions h.actions) (same_each_fact f.conclusions h.conclusions)
 
@@ -95,7 +88,7 @@ module _ {U V W : Type 0} (v : V → Term W) (s : U → Term V) where
   -- one after the other is the composition of the two
   pub facts_after : (f : Facts U) → facts_at v (facts_at s f) ≡ facts_at after f
   facts_after f =
-      same_facts (map (fact_at v) (map (fact_at s) f.premises)) (map (fact_at after) f.premises)
+      parts_same (map (fact_at v) (map (fact_at s) f.premises)) (map (fact_at after) f.premises)
       (map (action_at v) (map (action_at s) f.actions)) (map (action_at after) f.actions)
       (map (fact_at v) (map (fact_at s) f.conclusions)) (map (fact_at after) f.conclusions)
       (fact_after f.premises) (action_after f.actions) (fact_after f.conclusions)
@@ -111,7 +104,7 @@ action_itself {V} (a ∷ xs) = ap₂ (λ b bs. b ∷ bs) (ap (λ (ts : Terms V).
 
 pub facts_itself : {V : Type 0} (f : Facts V) → facts_at var f ≡ f
 facts_itself f =
-    same_facts (map (fact_at var) f.premises) f.premises (map (action_at var) f.actions) f.actions (map (fact_at var) f.conclusions) f.conclusions
+    parts_same (map (fact_at var) f.premises) f.premises (map (action_at var) f.actions) f.actions (map (fact_at var) f.conclusions) f.conclusions
     (fact_itself f.premises) (action_itself f.actions) (fact_itself f.conclusions)
 
 -- what holds of the arguments of facts

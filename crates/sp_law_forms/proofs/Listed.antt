@@ -12,9 +12,8 @@ use Rattle.sp_spec.proofs.Lists.{every_member, member_mapped, member_map}
 use Rattle.sp_law_equal.specs.Parts.{IsPartOfOne}
 use Rattle.sp_law_equal.proofs.Parts.{part_of_one_keeps}
 use Rattle.sp_spec.proofs.Same.{same_variable_decides, same_all_by_decides}
-use Rattle.sp_spec_forms.specs.Alike.{same_action}
+use Rattle.sp_spec_forms.proofs.Alike.{alike_facts_from}
 use Rattle.sp_spec_forms.specs.Numbering.{Form, without_repeats}
-use Rattle.sp_spec_forms.specs.Alike.{same_flag, same_list, alike_fact}
 use Rattle.sp_spec_forms.specs.Reducible.{args_of, is_matched, irreducible, irreducible_all}
 use Rattle.sp_spec_forms.specs.Forms.{results, forms, is_normal_form, alike_form}
 use Rattle.sp_law_forms.specs.Laws.{AreOverMessages, FormsAreProper}
@@ -42,31 +41,8 @@ module _ (es : List Equation) (msg : AreOverMessages es) (rule : Rule) (form : F
         let found = is_matched_from (app f us) e s (msg e among) same in
         true≢false (sym none ∙ ap not (any_passes (is_matched (app f us)) e es among found))
 
-same_flag_itself : (a : Bool) → same_flag a a ≡ true
-same_flag_itself true = refl
-same_flag_itself false = refl
-
-same_list_itself : {A : Type 0} (test : A → A → Bool) → ((x : A) → test x x ≡ true) → (xs : List A) → same_list test xs xs ≡ true
-same_list_itself test h [] = refl
-same_list_itself test h (x ∷ xs) = and_from (test x x) (same_list test xs xs) (h x) (same_list_itself test h xs)
-
-args_itself : (ts : Terms Variable) → alike_all ts ts ≡ true
-args_itself ts = (same_all_by_decides same_variable same_variable_decides ts ts).1 refl
-
-alike_fact_itself : (f : Fact Variable) → alike_fact f f ≡ true
-alike_fact_itself f = and_from _ _ ((bytes_eq-Decides f.symbol f.symbol).1 refl) (and_from _ _ (same_flag_itself f.persistent) (args_itself f.args))
-
-same_action_itself : (a : Action Variable) → same_action a a ≡ true
-same_action_itself a = and_from _ _ ((bytes_eq-Decides a.symbol a.symbol).1 refl) (args_itself a.args)
-
 alike_form_from : (a b : Form) → a.facts ≡ b.facts → alike_form a b ≡ true
-alike_form_from a b e =
-    let f = a.facts in
-    let Alike : Facts Variable → Type 0 = λ g. (same_list alike_fact f.premises g.premises
-    && (same_list same_action f.actions g.actions && same_list alike_fact f.conclusions g.conclusions)) ≡ true in
-    subst Alike e
-    (and_from _ _ (same_list_itself alike_fact alike_fact_itself f.premises)
-    (and_from _ _ (same_list_itself same_action same_action_itself f.actions) (same_list_itself alike_fact alike_fact_itself f.conclusions)))
+alike_form_from a b e = alike_facts_from a.facts b.facts e
 
 -- what is kept of a list of distinct images has distinct images
 distinct_filter : {A B : Type 0} (f : A → B) (test : A → Bool) (xs : List A) → Distinct (map f xs) → Distinct (map f (filter test xs))

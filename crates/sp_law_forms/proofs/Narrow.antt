@@ -13,9 +13,10 @@ use Rattle.sp_law_equal.proofs.Over.{count_normal, normal_all_over}
 use Rattle.sp_spec_forms.specs.Shifted.{above, above_all}
 use Rattle.sp_spec_forms.specs.Narrowing.{Ways, both, each, choices, narrow, narrow_all, narrow_fact, narrow_action, narrow_facts}
 use Rattle.sp_law_forms.specs.Laws.{IsNormalValuation}
-use Rattle.sp_law_forms.proofs.Facts.{made_fact, made_action, made_facts, same_facts}
+use Rattle.sp_law_forms.proofs.Facts.{made_fact, made_action}
 use Rattle.sp_law_forms.proofs.Ways.{Completes, Nothing, completes_done, completes_in_turn, completes_both, completes_map, completes_each}
 use Rattle.sp_law_forms.proofs.Choice.{completes_choices}
+use Rattle.sp_law_system.proofs.Facts.{parts_of, parts_same}
 
 -- elements that are made the same, one by one
 each_same : {A B C : Type 0} (f : A → C) (g : B → C) (xs : List A) (ys : List B) → EachWith (λ x y. g y ≡ f x) xs ys → map g ys ≡ map f xs
@@ -110,7 +111,7 @@ module _ (signature : Signature) (good : HasNormalForms signature) (first : ℕ)
       (λ w ps. EachWith (λ x y. FactTo x w y) f.premises ps)
       (λ w (r : List (Action Variable) × List (Fact Variable)). EachWith (λ x y. ActionTo x w y) f.actions r.0 × EachWith (λ x y. FactTo x w y) f.conclusions r.1)
       (FactsTo f)
-      (λ ps (r : List (Action Variable) × List (Fact Variable)). made_facts ps r.0 r.1)
+      (λ ps (r : List (Action Variable) × List (Fact Variable)). parts_of ps r.0 r.1)
       (each (narrow_fact es) f.premises)
       (both (λ as' cs. (as', cs)) (each (narrow_action es) f.actions) (each (narrow_fact es) f.conclusions))
       (completes_list f.premises h.premises)
@@ -128,5 +129,5 @@ module _ (signature : Signature) (good : HasNormalForms signature) (first : ℕ)
       let one = each_same (λ x. normal_fact es (fact_at given x)) (fact_at w) f.premises ps p ∙ sym (map-map (fact_at given) (normal_fact es) f.premises) in
       let two = each_same (λ x. normal_action es (action_at given x)) (action_at w) f.actions r.0 q.0 ∙ sym (map-map (action_at given) (normal_action es) f.actions) in
       let three = each_same (λ x. normal_fact es (fact_at given x)) (fact_at w) f.conclusions r.1 q.1 ∙ sym (map-map (fact_at given) (normal_fact es) f.conclusions) in
-      same_facts (map (fact_at w) ps) (normal_facts es (facts_at given f)).premises (map (action_at w) r.0) (normal_facts es (facts_at given f)).actions
+      parts_same (map (fact_at w) ps) (normal_facts es (facts_at given f)).premises (map (action_at w) r.0) (normal_facts es (facts_at given f)).actions
       (map (fact_at w) r.1) (normal_facts es (facts_at given f)).conclusions one two three)

@@ -8,7 +8,7 @@ use Rattle.sp_spec.specs.Rule.{Facts, facts_at, occurrences, InFacts}
 use Rattle.sp_spec.proofs.Lists.{every_from, every_parts}
 use Rattle.sp_spec.proofs.Occurrences.{occurrences_each, terms_each}
 use Rattle.sp_spec.proofs.Same.{same_variable_decides, same_fields}
-use Rattle.sp_spec_forms.specs.Numbering.{seen, place, renumbered, numbered}
+use Rattle.sp_spec_forms.specs.Numbering.{without_repeats, seen, place, renumbered, numbered}
 use Rattle.sp_law_forms.specs.Laws.{IsNormalValuation}
 use Rattle.sp_law_forms.proofs.Repeats.{kept_for}
 use Rattle.sp_law_forms.proofs.Facts.{SameArgs, same_facts_at, after, facts_after, args_at, arguments_weaken}
@@ -28,7 +28,7 @@ back_sort (x ∷ xs) y zero = by_test (same_variable x (record { sort = y.sort; 
     by_test false e = refl
 back_sort (x ∷ xs) y (suc n) = back_sort xs y n
 
-back_place : (xs : List Variable) (x y : Variable) → Member x xs → y.sort ≡ x.sort → back xs y (place xs x) ≡ x
+pub back_place : (xs : List Variable) (x y : Variable) → Member x xs → y.sort ≡ x.sort → back xs y (place xs x) ≡ x
 back_place [] x y m s = absurd m
 back_place (z ∷ xs) x y m s = by_test (λ k. back_place xs x y k s) (same_variable z x) refl m
   where
@@ -40,7 +40,7 @@ back_place (z ∷ xs) x y m s = by_test (λ k. back_place xs x y k s) (same_vari
     by_test on false e (inl k) = absurd (true≢false (sym ((same_variable_decides z x).1 k) ∙ e))
     by_test on false e (inr k) = on k
 
-place_below : (xs : List Variable) (x : Variable) → Member x xs → place xs x < length xs
+pub place_below : (xs : List Variable) (x : Variable) → Member x xs → place xs x < length xs
 place_below [] x m = absurd m
 place_below (y ∷ ys) x m = by_test (place_below ys x) (same_variable y x) refl m
   where
@@ -93,15 +93,18 @@ module _ (xs : List Variable) where
     all_below_at none h = tt
     all_below_at (more t ts) h = (below_at t h.0, all_below_at ts h.1)
 
+-- each variable of a list is among those that are listed once
+pub each_once : (all : List Variable) → Every (λ (x : Variable). Member x (without_repeats same_variable all)) all
+each_once all =
+    every_from _ all
+    (λ x m.
+    let k = kept_for same_variable (λ y z. y ≡ z) (λ y. refl) (λ y z u e e'. e ∙ e') (λ y z e. (same_variable_decides y z).0 e) x all m in
+    subst (λ (y : Variable). Member y (without_repeats same_variable all)) k.2 k.1)
+
 module _ (f : Facts Variable) (kept : Terms Variable) where
   -- each variable of both is listed
   all_seen : Every (IsIn (seen f kept)) (occurrences f ++ in_terms kept)
-  all_seen =
-      let all = occurrences f ++ in_terms kept in
-      every_from (IsIn (seen f kept)) all
-      (λ x m.
-      let k = kept_for same_variable (λ y z. y ≡ z) (λ y. refl) (λ y z u e e'. e ∙ e') (λ y z e. (same_variable_decides y z).0 e) x all m in
-      subst (λ (y : Variable). Member y (seen f kept)) k.2 k.1)
+  all_seen = each_once (occurrences f ++ in_terms kept)
 
   facts_seen : InFacts (IsIn (seen f kept)) f
   facts_seen = occurrences_each (IsIn (seen f kept)) f (every_parts (IsIn (seen f kept)) (occurrences f) (in_terms kept) all_seen).0

@@ -33,13 +33,13 @@ forms_whole theory h = record {
       (c.0, c.1, c.2, c.3.0, c.3.1, c.4);
 }
 
-abbrev any_variable : Variable → Type 0
+abbrev pub any_variable : Variable → Type 0
 any_variable x = Unit {0}
 
 -- what is made of no names is made of any
 module _ (N : Names) where
   mutual
-    without_names : (t : Term Variable) → MadeOf no_names any_variable t → MadeOf N any_variable t
+    pub without_names : (t : Term Variable) → MadeOf no_names any_variable t → MadeOf N any_variable t
     without_names (var x) h = tt
     without_names (constant c) h = absurd h
     without_names (name n) h = absurd h
@@ -52,13 +52,13 @@ module _ (N : Names) where
 -- what holds of the names, and of the variables
 module _ (N : Names) (P : Variable → Type 0) where
   mutual
-    made_both : (t : Term Variable) → MadeOf N any_variable t → MadeOf any_names P t → MadeOf N P t
+    pub made_both : (t : Term Variable) → MadeOf N any_variable t → MadeOf any_names P t → MadeOf N P t
     made_both (var x) h k = k
     made_both (constant c) h k = h
     made_both (name n) h k = h
     made_both (app f ts) h k = all_made_both ts h k
 
-    all_made_both : (ts : Terms Variable) → AllMadeOf N any_variable ts → AllMadeOf any_names P ts → AllMadeOf N P ts
+    pub all_made_both : (ts : Terms Variable) → AllMadeOf N any_variable ts → AllMadeOf any_names P ts → AllMadeOf N P ts
     all_made_both none h k = tt
     all_made_both (more t ts) h k = (made_both t h.0 k.0, all_made_both ts h.1 k.1)
 

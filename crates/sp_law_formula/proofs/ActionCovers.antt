@@ -1,12 +1,11 @@
 -- The cases of an action cover, and keep the numbers.
-use Rattle.std.proofs.Common.{◌≡◌, ◌<◌, ◌+◌, ℕ, Bool, true, false, if◌then◌else◌, List, [], ◌∷◌, map, Some, refl, sym, ap, ◌∙◌, subst, inl, inr, arith, nat_eq, codes, bytes_eq}
-use Rattle.std.proofs.lemmas.Bool.{eqb-true, or_left, or_right}
-use Rattle.std.proofs.lemmas.Slice.Eq.{bytes_eq-Decides}
+use Rattle.std.proofs.Common.{◌≡◌, ◌<◌, ◌+◌, ℕ, Bool, true, false, if◌then◌else◌, List, [], ◌∷◌, ◌++◌, map, Some, refl, sym, ap, ◌∙◌, subst, inl, inr, arith, nat_eq}
+use Rattle.std.proofs.lemmas.Bool.{eqb-true}
 use Rattle.sp_spec.specs.Lists.{Member, AtPosition}
 use Rattle.sp_spec.specs.Term.{Names, Variable, AllMadeOf}
 use Rattle.sp_spec.specs.Signature.{Equation}
 use Rattle.sp_spec.specs.Equal.{AreNormal}
-use Rattle.sp_spec.specs.Rule.{Action, Facts, Rule, action_at, facts_at, SameAction}
+use Rattle.sp_spec.specs.Rule.{Action, Facts, Rule, sends, learns, action_at, facts_at, SameAction}
 use Rattle.sp_spec.specs.Theory.{Theory, signature_of}
 use Rattle.sp_spec.specs.Guarded.{Place, action_in}
 use Rattle.sp_spec.specs.Log.{Log, Entry, Source, step, send, learn, IsLog, log_trace, entry_actions}
@@ -22,12 +21,14 @@ use Rattle.sp_law_system.proofs.Numbers.{each_weaken_all, happening_made}
 use Rattle.sp_law_system.proofs.Solutions.{Under, TimeUnder, agrees_itself}
 use Rattle.sp_spec_system.specs.Formulas.{freed_action}
 use Rattle.sp_spec_system.specs.MakingOne.{event_at}
+use Rattle.sp_spec_system.specs.Move.{Case}
 use Rattle.sp_spec_system.specs.Cases.{renamed, named}
 use Rattle.sp_spec_forms.specs.Numbering.{Form}
 use Rattle.sp_spec_forms.specs.Forms.{RuleForms, forms, forms_of}
-use Rattle.sp_spec_formula.specs.Action.{with_step, by_actions, by_each, is_adversary, by_forms}
+use Rattle.sp_spec_formula.specs.Action.{with_step, by_actions, by_each, by_adversary, by_forms}
 use Rattle.sp_law_system.specs.Rules.{IsNumberedForm, FormsAreNumbered, FormsAreWhole}
 use Rattle.sp_law_system.specs.Proofs.{systems_of}
+use Rattle.sp_law_formula.proofs.ByAdversary.{send_covered, learn_covered}
 use Rattle.sp_law_formula.proofs.Freed.{freed_action_value}
 use Rattle.sp_law_formula.proofs.Learnt.{entry_normal}
 use Rattle.sp_law_formula.proofs.Entries.{traced, happened, entry_is_step, step_action_normal, same_normal_action, IsFormStep, form_step, numbered_form, beside, beside_agrees}
@@ -75,19 +76,15 @@ form_part : (theory : Theory) (log : Log) (v : Valuation) (n : ℕ) (es : List E
 form_part theory log v n es rules s i a r m form k none =
     by_forms_part theory log v n r.name (forms es r) s i a form k (by_each_part theory log v n (map (forms_of es) rules) s i a (forms_of es r) (member_map (forms_of es) r rules m) none)
 
--- an action that isn't the adversary's stands at a step
-not_adversary : (symbol : List ℕ) → is_adversary symbol ≡ false → (symbol ≡ codes "K" → ⊥) × (symbol ≡ codes "KU" → ⊥)
-not_adversary symbol e = (
-  (λ k. cc (e, or_left (bytes_eq symbol (codes "K")) (bytes_eq symbol (codes "KU")) ((bytes_eq-Decides symbol (codes "K")).1 k))),
-  (λ k. cc (e, or_right (bytes_eq symbol (codes "K")) (bytes_eq symbol (codes "KU")) ((bytes_eq-Decides symbol (codes "KU")).1 k))),
-)
-
 module _ (N : Names) (right : UnifierIsRight) (theory : Theory) (good : HaveNormalForms (signature_of theory).equations)
     (forms_numbered : FormsAreNumbered N (map (forms_of (signature_of theory).equations) theory.rules)) (forms_whole : FormsAreWhole theory) where
   module _ (s : System) (n : IsNumbered N s) (f : Action Place) (a : Action Variable) (freed : freed_action f ≡ Some a) (i : ℕ) (i_under : i < s.next) (a_under : AllMadeOf N (Under s.next) a.args)
-      (own : is_adversary f.symbol ≡ false) (log : Log) (is : IsLog theory log) (v : Valuation) (h : Solves theory log v s) where
-    same_symbol : f.symbol ≡ a.symbol
-    same_symbol = let e = freed_action_value (assignment v) f a freed in ap (λ (x : Action ⊥). x.symbol) e
+      (log : Log) (is : IsLog theory log) (v : Valuation) (h : Solves theory log v s) where
+    -- the action that the log shows
+    is_shown : (shown : Action ⊥) → AreNormal (signature_of theory).equations shown.args → AreNormal (signature_of theory).equations (action_in (assignment v) f).args
+        → SameAction (signature_of theory).equations (action_in (assignment v) f) shown → action_at v.terms a ≡ shown
+    is_shown shown shown_normal normal_f same_f =
+        sym (freed_action_value (assignment v) f a freed) ∙ same_normal_action (signature_of theory).equations good (action_in (assignment v) f) shown normal_f shown_normal same_f
 
     -- at the event's time
     pub at_event_solved : (e : Event) → Member e s.events → e.time ≡ i → (shown : Action ⊥) → (p : ℕ) → p ≡ v.times i → (actions : List (Action ⊥)) → AtPosition (log_trace log) p actions → Member shown actions
@@ -101,8 +98,7 @@ module _ (N : Names) (right : UnifierIsRight) (theory : Theory) (good : HaveNorm
         let one : entry.0 ≡ d.0 = position_one log p entry.0 d.0 entry.1 here in
         let b = member_mapped (action_at v.terms) shown own_actions (subst (Member shown) (entry.2 ∙ ap entry_actions one ∙ d.2) m) in
         let shown_normal = entry_normal theory log is p entry.0 entry.1 shown (subst (Member shown) entry.2 m) in
-        let same = same_normal_action (signature_of theory).equations good (action_in (assignment v) f) shown normal_f shown_normal same_f in
-        let e2 : action_at v.terms a ≡ action_at v.terms b.0 = sym (freed_action_value (assignment v) f a freed) ∙ same ∙ sym b.2 in
+        let e2 : action_at v.terms a ≡ action_at v.terms b.0 = is_shown shown shown_normal normal_f same_f ∙ sym b.2 in
         let under = (every_member (InEvent N (Under s.next) (TimeUnder s.next)) s.events e member n.events).1 in
         let made = happening_made N (Under s.next) (TimeUnder s.next) e.happening under in
         by_actions_solved N right theory log s s.next v v (agrees_itself s.next v) n h a own_actions a_under made.actions b.0 b.1 e2 none
@@ -115,9 +111,8 @@ module _ (N : Names) (right : UnifierIsRight) (theory : Theory) (good : HaveNorm
     by_values_solved name form form_under value ag solved shown m shown_normal normal_f same_f none =
         let num = step_numbered N theory s name form i i_under form_under n in
         let b = member_mapped (action_at value.terms) shown (renamed s.next form.facts).actions m in
-        let same = same_normal_action (signature_of theory).equations good (action_in (assignment v) f) shown normal_f shown_normal same_f in
         let a_same : action_at value.terms a ≡ action_at v.terms a = action_same N value.terms v.terms a (each_weaken_all N (Under s.next) _ ag.terms a.args a_under) in
-        let e2 : action_at value.terms a ≡ action_at value.terms b.0 = a_same ∙ sym (freed_action_value (assignment v) f a freed) ∙ same ∙ sym b.2 in
+        let e2 : action_at value.terms a ≡ action_at value.terms b.0 = a_same ∙ is_shown shown shown_normal normal_f same_f ∙ sym b.2 in
         let wide = each_weaken_all N (Under s.next) (Under (s.next + form.count)) (λ x l. omega (arith, l)) a.args a_under in
         let own_actions = (every_parts _ s.events (record { time = i; happening = rule_step name (renamed s.next form.facts) } ∷ []) num.events).1.0.1.actions in
         by_actions_solved N right theory log (with_step s i name form) s.next v value ag num solved a (renamed s.next form.facts).actions wide own_actions b.0 b.1 e2 none
@@ -141,21 +136,36 @@ module _ (N : Names) (right : UnifierIsRight) (theory : Theory) (good : HaveNorm
         shown (subst (λ (g : Facts ⊥). Member shown g.actions) facts_same m) shown_normal normal_f same_f
         (form_part theory log v s.next es theory.rules s i a of.rule of.member form of.among none)
 
-    -- by a new step
-    pub new_step_solved : (shown : Action ⊥) → (actions : List (Action ⊥)) → AtPosition (log_trace log) (v.times i) actions → Member shown actions
+    -- by a new event: a step, or what the adversary does
+    pub new_event_solved : (shown : Action ⊥) → (actions : List (Action ⊥)) → AtPosition (log_trace log) (v.times i) actions → Member shown actions
         → AreNormal (signature_of theory).equations (action_in (assignment v) f).args → SameAction (signature_of theory).equations (action_in (assignment v) f) shown
-        → NoneSolved theory log v s.next (systems_of (by_each (map (forms_of (signature_of theory).equations) theory.rules) s i a)) → ⊥
-    new_step_solved shown actions there m normal_f same_f none =
-        at (traced log (v.times i) actions there).0 (traced log (v.times i) actions there).1 (subst (Member shown) (traced log (v.times i) actions there).2 m)
+        → NoneSolved theory log v s.next (systems_of (by_each (map (forms_of (signature_of theory).equations) theory.rules) s i a ++ by_adversary s i a.symbol a.args)) → ⊥
+    new_event_solved shown actions there m normal_f same_f none =
+        at entry.0 entry.1 (subst (Member shown) entry.2 m)
+        (every_parts (λ (c : System). _) (systems_of own) (systems_of done) (subst (NoneSolved theory log v s.next) (systems_append own done) none))
       where
-        named_not : (is_adversary f.symbol ≡ false) → (shown.symbol ≡ codes "K" → ⊥) × (shown.symbol ≡ codes "KU" → ⊥)
-        named_not o = let k = not_adversary f.symbol o in ((λ x. k.0 (same_f.0 ∙ x)), (λ x. k.1 (same_f.0 ∙ x)))
+        own : List Case
+        own = by_each (map (forms_of (signature_of theory).equations) theory.rules) s i a
 
-        at : (e : Entry) → AtPosition log (v.times i) e → Member shown (entry_actions e) → ⊥
-        at (send t) k (inl l) = (named_not own).0 (sym (ap (λ (x : Action ⊥). x.symbol) l))
-        at (send t) k (inr l) = l
-        at (learn t how) k (inl l) = (named_not own).1 (sym (ap (λ (x : Action ⊥). x.symbol) l))
-        at (learn t how) k (inr l) = l
-        at (step r facts sources) k l =
+        done : List Case
+        done = by_adversary s i a.symbol a.args
+
+        entry : (e : Entry) × AtPosition log (v.times i) e × (actions ≡ entry_actions e)
+        entry = traced log (v.times i) actions there
+
+        -- an entry of this one action
+        alone : (b : Action ⊥) (e : Entry) → AtPosition log (v.times i) e → Member shown (entry_actions e) → b ≡ shown → action_at v.terms a ≡ b
+        alone b e k l one = is_shown shown (entry_normal theory log is (v.times i) e k shown l) normal_f same_f ∙ sym one
+
+        at : (e : Entry) → AtPosition log (v.times i) e → Member shown (entry_actions e) → NoneSolved theory log v s.next (systems_of own) × NoneSolved theory log v s.next (systems_of done) → ⊥
+        at (send t) k (inl l) parts =
+            let one = alone (sends t) (send t) k (inl l) l in
+            send_covered theory log v s h i a.symbol a.args t (ap (λ (x : Action ⊥). x.symbol) one) (ap (λ (x : Action ⊥). x.args) one) k parts.1
+        at (send t) k (inr l) parts = l
+        at (learn t how) k (inl l) parts =
+            let one = alone (learns t) (learn t how) k (inl l) l in
+            learn_covered theory log v s h i a.symbol a.args t how (ap (λ (x : Action ⊥). x.symbol) one) (ap (λ (x : Action ⊥). x.args) one) k parts.1
+        at (learn t how) k (inr l) parts = l
+        at (step r facts sources) k l parts =
             let is_step = entry_is_step theory log is (v.times i) r facts sources k in
-            by_form_solved r facts sources k (form_step theory good forms_whole r facts is_step) shown l (step_action_normal theory r facts is_step shown l) normal_f same_f none
+            by_form_solved r facts sources k (form_step theory good forms_whole r facts is_step) shown l (step_action_normal theory r facts is_step shown l) normal_f same_f parts.0

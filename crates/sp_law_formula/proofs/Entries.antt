@@ -17,7 +17,7 @@ use Rattle.sp_law_equal.proofs.Values.{equal_all_normal_same}
 use Rattle.sp_law_equal.proofs.Facts.{one_normal_form}
 use Rattle.sp_law_system.specs.Rules.{IsNumberedForm, FormsAreNumbered, FormsAreWhole}
 use Rattle.sp_spec_system.specs.System.{Happening, rule_step, sending, learning, happening_actions}
-use Rattle.sp_spec_system.specs.Solutions.{Valuation, how_at, HappensAt}
+use Rattle.sp_spec_system.specs.Solutions.{Valuation, HappensAt}
 use Rattle.sp_spec_system.specs.Covering.{Agrees}
 
 pub length_trace : (log : Log) → length (log_trace log) ≡ length log
@@ -34,7 +34,7 @@ traced (e ∷ log) p actions (inr a) = let r = traced log p actions a in (r.0, i
 pub happened : (log : Log) (p : ℕ) (v : Valuation) (h : Happening) → HappensAt log p v h → (e : Entry) × AtPosition log p e × (entry_actions e ≡ map (action_at v.terms) (happening_actions h))
 happened log p v (rule_step r facts) k = (step r (facts_at v.terms facts) k.0, k.1, refl)
 happened log p v (sending m) k = (send (valued v.terms m), k, refl)
-happened log p v (learning m way) k = (learn (valued v.terms m) (how_at v way), k, refl)
+happened log p v (learning m way) k = (learn (valued v.terms m) k.0, k.1, refl)
 
 -- a step of the log is an instance of a rule
 pub entry_is_step : (theory : Theory) (log : Log) → IsLog theory log → (p : ℕ) (r : List ℕ) (facts : Facts ⊥) (sources : List Source) → AtPosition log p (step r facts sources) → IsRuleInstance theory r facts

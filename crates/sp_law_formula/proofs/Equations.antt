@@ -1,34 +1,29 @@
 -- The row that equates terms and times, and the contradiction where it fails.
-use Rattle.std.proofs.Common.{◌≡◌, ◌≤◌, ◌<◌, ℕ, Bool, true, false, ◌&&◌, if◌then◌else◌, nat_eq, List, [], ◌∷◌, Option, Some, None, option_map, is_none, refl, sym, ap, ◌∙◌, subst, ⊎_elim, le_refl}
-use Rattle.std.proofs.lemmas.Bool.{or_cases, and_parts, eqb-true, eq-eqb}
+use Rattle.std.proofs.Common.{◌≡◌, ◌≤◌, ◌<◌, ℕ, Bool, true, false, if◌then◌else◌, nat_eq, List, [], ◌∷◌, Option, Some, None, is_none, refl, sym, ◌∙◌, subst, ⊎_elim, le_refl}
+use Rattle.std.proofs.lemmas.Bool.{or_cases, eqb-true, eq-eqb}
 use Rattle.sp_spec.specs.Lists.{Every, Classically}
 use Rattle.sp_spec.specs.Term.{Names, Ground, valued, MadeOf}
 use Rattle.sp_spec.specs.Theory.{Theory, signature_of}
 use Rattle.sp_spec.specs.Guarded.{free_time, same, same_time, Guarded, holds, term_in}
 use Rattle.sp_spec.specs.Log.{Log}
-use Rattle.sp_spec.specs.Substitution.{Binding, bound_to}
-use Rattle.sp_spec.specs.Unifier.{mgu}
 use Rattle.sp_law_equal.specs.NormalForms.{HaveNormalForms}
 use Rattle.sp_law_equal.proofs.Values.{equal_normal_same}
 use Rattle.sp_spec.proofs.Same.{same_by_decides}
-use Rattle.sp_spec_system.specs.System.{Event, System}
-use Rattle.sp_spec_system.specs.Solutions.{Valuation, assignment, FormulaHolds, HappensIn, Solves}
+use Rattle.sp_spec_system.specs.System.{System}
+use Rattle.sp_spec_system.specs.Solutions.{Valuation, assignment, FormulaHolds, Solves}
 use Rattle.sp_spec_system.specs.Numbered.{InFormula, IsNumbered}
 use Rattle.sp_spec_system.specs.Covering.{Covers}
 use Rattle.sp_law_system.specs.Laws.{UnifierIsRight}
-use Rattle.sp_spec_system.specs.Equating.{system_changed, smaller, larger}
-use Rattle.sp_spec.specs.Change.{time_replaced}
-use Rattle.sp_law_system.proofs.Bindings.{Fixes-none}
-use Rattle.sp_law_system.proofs.Unifying.{mgu_within}
-use Rattle.sp_law_system.proofs.Solutions.{Under, TimeUnder, change_solves, change_numbered}
+use Rattle.sp_law_system.proofs.Solutions.{Under, TimeUnder}
 use Rattle.sp_spec_system.specs.Formulas.{first_formula, spending, pair_of}
 use Rattle.sp_spec_formula.specs.Equate.{Equation, equal_terms, equal_times, equation_of, equated, equate, equation_fails, fails_to_equate}
-use Rattle.sp_spec_system.specs.MakingOne.{at_times, MergingEvents, merging_events, times_equated}
+use Rattle.sp_spec_system.specs.MakingOne.{made_one}
 use Rattle.sp_law_formula.proofs.Freed.{freed_value, freed_in}
 use Rattle.sp_spec.proofs.Options.{mapped, then_some}
 use Rattle.sp_law_formula.proofs.Literals.{covers_by_itself, pair_parts}
 use Rattle.sp_law_formula.proofs.Spending.{is_found, found_holds, spending_solves, spending_numbered}
-use Rattle.sp_law_formula.proofs.Merged.{merging_are, respects, replaced_same, replaced_under, SolvedBy, NumberedFrom, merged_solved, merged_numbered}
+use Rattle.sp_law_formula.proofs.Merged.{SolvedBy, NumberedFrom}
+use Rattle.sp_law_formula.proofs.MadeOne.{pairs_solved, pairs_numbered, made_one_holds, made_one_numbered}
 
 -- what an equation says, and whose numbers it has
 abbrev pub EquationHolds : Valuation → Equation → Type 0
@@ -73,56 +68,23 @@ equation_in N n (holds (same t u)) e h k =
 equation_in N n (holds (same_time (free_time i) (free_time j))) e h k = let g : equal_times i j ≡ e = cc in subst (EquationUnder N n) g k
 equation_in N n f e h k = absurd cc
 
--- events at the two times are at one position where the times are
-at_one : (v : Valuation) (i j : ℕ) → v.times i ≡ v.times j → (e d : Event) → at_times i j e d ≡ true → v.times e.time ≡ v.times d.time
-at_one v i j one e d k =
-    ⊎_elim
-    (λ l. let both = and_parts (nat_eq e.time i) (nat_eq d.time j) l in ap v.times (eqb-true e.time i both.0) ∙ one ∙ ap v.times (sym (eqb-true d.time j both.1)))
-    (λ l. let both = and_parts (nat_eq e.time j) (nat_eq d.time i) l in ap v.times (eqb-true e.time j both.0) ∙ sym one ∙ ap v.times (sym (eqb-true d.time i both.1)))
-    (or_cases (nat_eq e.time i && nat_eq d.time j) (nat_eq e.time j && nat_eq d.time i) k)
-
 module _ {N : Names} (right : UnifierIsRight) (s : System) (n : IsNumbered N s) where
-  -- where two times have one position, the system in which they are one has the same solution
-  pub times_solved : (theory : Theory) (log : Log) (v : Valuation) → Solves theory log v s → (i j : ℕ) → v.times i ≡ v.times j → SolvedBy theory log v (times_equated s i j (merging_events (at_times i j) s.events))
-  times_solved theory log v h i j one = at (merging_events (at_times i j) s.events) refl
-    where
-      at : (o : Option MergingEvents) → merging_events (at_times i j) s.events ≡ o → SolvedBy theory log v (times_equated s i j o)
-      at None k = change_solves N theory log v [] (Fixes-none v.terms) (time_replaced (smaller i j) (larger i j)) (replaced_same v.times i j one) s n h
-      at (Some r) k =
-          let solved = merging_are (at_times i j) (HappensIn log v) s.events r k h.events in
-          merged_solved right (at_times i j) s n r k theory log v h (at_one v i j one r.first r.second solved.one)
-
-  pub times_numbered : (i j : ℕ) → i < s.next → j < s.next → NumberedFrom N s.next (times_equated s i j (merging_events (at_times i j) s.events))
-  times_numbered i j a b = at (merging_events (at_times i j) s.events) refl
-    where
-      at : (o : Option MergingEvents) → merging_events (at_times i j) s.events ≡ o → NumberedFrom N s.next (times_equated s i j o)
-      at None k = (change_numbered N s.next [] (λ x l. l) (time_replaced (smaller i j) (larger i j)) (replaced_under s.next i j a b) s refl n, le_refl s.next)
-      at (Some r) k = merged_numbered right (at_times i j) s n r k
-
   -- a solution in which the equation holds is one after the equating
-  equated_solved : (theory : Theory) (log : Log) (v : Valuation) → Solves theory log v s → (e : Equation) → EquationHolds v e → SolvedBy theory log v (equated s e)
-  equated_solved theory log v h (equal_terms p) one = at (mgu (p ∷ [])) refl
+  equated_solved : (theory : Theory) (log : Log) (v : Valuation) → Solves theory log v s → (e : Equation) → EquationUnder N s.next e → EquationHolds v e → SolvedBy theory log v (equated s e)
+  equated_solved theory log v h (equal_terms p) u one = pairs_solved right s n (p ∷ []) theory log v h (one, tt)
+  equated_solved theory log v h (equal_times i j) u one = at (nat_eq i j)
     where
-      at : (o : Option (List Binding)) → mgu (p ∷ []) ≡ o → SolvedBy theory log v (option_map (λ bs. system_changed (bound_to bs) (λ i. i) s) o)
-      at None k = right.none (p ∷ []) k v.terms (respects theory log v s h) (one, tt)
-      at (Some bs) k = change_solves N theory log v bs (right.fixes (p ∷ []) bs k v.terms (respects theory log v s h) (one, tt)) (λ i. i) (λ i. refl) s n h
-  equated_solved theory log v h (equal_times i j) one = at (nat_eq i j)
-    where
-      at : (b : Bool) → SolvedBy theory log v (if b then Some s else times_equated s i j (merging_events (at_times i j) s.events))
+      at : (b : Bool) → SolvedBy theory log v (if b then Some s else made_one s (i, j))
       at true = h
-      at false = times_solved theory log v h i j one
+      at false = made_one_holds right s n theory log v h (i, j) u one
 
   equated_numbered : (e : Equation) → EquationUnder N s.next e → NumberedFrom N s.next (equated s e)
-  equated_numbered (equal_terms p) u = at (mgu (p ∷ [])) refl
-    where
-      at : (o : Option (List Binding)) → mgu (p ∷ []) ≡ o → NumberedFrom N s.next (option_map (λ bs. system_changed (bound_to bs) (λ i. i) s) o)
-      at None k = tt
-      at (Some bs) k = (change_numbered N s.next bs (mgu_within N (Under s.next) (p ∷ []) bs (u, tt) k) (λ i. i) (λ i l. l) s refl n, le_refl s.next)
+  equated_numbered (equal_terms p) u = pairs_numbered right s n (p ∷ []) (u, tt)
   equated_numbered (equal_times i j) u = at (nat_eq i j)
     where
-      at : (b : Bool) → NumberedFrom N s.next (if b then Some s else times_equated s i j (merging_events (at_times i j) s.events))
+      at : (b : Bool) → NumberedFrom N s.next (if b then Some s else made_one s (i, j))
       at true = (n, le_refl s.next)
-      at false = times_numbered i j u.0 u.1
+      at false = made_one_numbered right s n (i, j) u
 
 -- a system that has a solution is there
 pub not_none : (theory : Theory) (log : Log) (v : Valuation) (o : Option System) → is_none o ≡ true → SolvedBy theory log v o → ⊥
@@ -135,10 +97,11 @@ module _ (N : Names) (right : UnifierIsRight) where
       let q = then_some (λ r. equated (spending s r []) r.picked) (first_formula equation_of s.formulas) t e in
       let r = q.0 in
       let found = is_found equation_of s.formulas r q.1 in
+      let u = equation_in N s.next r.formula r.picked found.picks (found_holds equation_of s.formulas r found (InFormula N (Under s.next) (TimeUnder s.next)) n.formulas) in
       covers_by_itself theory s t (λ log is v h.
       let one = equation_holds theory good log v r.formula r.picked found.picks (found_holds equation_of s.formulas r found (FormulaHolds theory log v) h.formulas) in
       subst (SolvedBy theory log v) q.2
-      (equated_solved right (spending s r []) (spending_numbered equation_of s r found [] tt n) theory log v (spending_solves equation_of theory log v s r found [] tt h) r.picked one))
+      (equated_solved right (spending s r []) (spending_numbered equation_of s r found [] tt n) theory log v (spending_solves equation_of theory log v s r found [] tt h) r.picked u one))
 
   pub equate_numbered : (s t : System) → equate s ≡ Some t → IsNumbered N s → IsNumbered N t × (s.next ≤ t.next)
   equate_numbered s t e n =
@@ -150,11 +113,11 @@ module _ (N : Names) (right : UnifierIsRight) where
 
   -- Failing unification: an equation that a solution makes true can be put into the system.
   module _ (theory : Theory) (good : HaveNormalForms (signature_of theory).equations) (s : System) (n : IsNumbered N s) (log : Log) (v : Valuation) (h : Solves theory log v s) where
-    fails_contradicts : (f : Guarded) (o : Option Equation) → equation_of f ≡ o → equation_fails s o ≡ true → FormulaHolds theory log v f → ⊥
-    fails_contradicts f None k e l = absurd cc
-    fails_contradicts f (Some q) k e l = not_none theory log v (equated s q) e (equated_solved right s n theory log v h q (equation_holds theory good log v f q k l))
+    fails_contradicts : (f : Guarded) → InFormula N (Under s.next) (TimeUnder s.next) f → (o : Option Equation) → equation_of f ≡ o → equation_fails s o ≡ true → FormulaHolds theory log v f → ⊥
+    fails_contradicts f i None k e l = absurd cc
+    fails_contradicts f i (Some q) k e l = not_none theory log v (equated s q) e (equated_solved right s n theory log v h q (equation_in N s.next f q k i) (equation_holds theory good log v f q k l))
 
-    pub some_fails_contradicts : (fs : List Guarded) → fails_to_equate s fs ≡ true → Every (FormulaHolds theory log v) fs → ⊥
-    some_fails_contradicts [] e k = absurd cc
-    some_fails_contradicts (f ∷ fs) e k =
-        ⊎_elim (λ l. fails_contradicts f (equation_of f) refl l k.0) (λ l. some_fails_contradicts fs l k.1) (or_cases (equation_fails s (equation_of f)) (fails_to_equate s fs) e)
+    pub some_fails_contradicts : (fs : List Guarded) → Every (InFormula N (Under s.next) (TimeUnder s.next)) fs → fails_to_equate s fs ≡ true → Every (FormulaHolds theory log v) fs → ⊥
+    some_fails_contradicts [] i e k = absurd cc
+    some_fails_contradicts (f ∷ fs) i e k =
+        ⊎_elim (λ l. fails_contradicts f i.0 (equation_of f) refl l k.0) (λ l. some_fails_contradicts fs i.1 l k.1) (or_cases (equation_fails s (equation_of f)) (fails_to_equate s fs) e)

@@ -10,7 +10,7 @@ use Rattle.sp_spec.specs.Same.{same_sort}
 use Rattle.sp_spec.specs.Theory.{Theory, signature_of}
 use Rattle.sp_spec.specs.Guarded.{Place, Binder, Atom, acts, same, same_time, before, last, Guarded, every, Assignment, action_in, term_in, time_in, AtomHolds, AtomsHold, EachValues, GuardedHolds}
 use Rattle.sp_spec.specs.Log.{Log, Entry, entry_actions, log_trace, IsLog}
-use Rattle.sp_law_equal.specs.NormalForms.{HaveNormalForms, KeepSymbols}
+use Rattle.sp_law_equal.specs.RightTheory.{HasNormalInstances}
 use Rattle.sp_law_equal.proofs.Chains.{same_action_refl}
 use Rattle.sp_spec_system.specs.System.{Event, System, happening_actions}
 use Rattle.sp_spec_system.specs.Solutions.{Valuation, assignment, HappensIn, IsSettled, AreSettled, AtomSettled, Settled, FormulaHolds, Solves}
@@ -20,7 +20,6 @@ use Rattle.sp_spec.proofs.Lists.{every_append, every_member, every_weaken, posit
 use Rattle.sp_law_system.proofs.Changing.{changed_same, settled_same}
 use Rattle.sp_law_system.proofs.Solutions.{Under, TimeUnder}
 use Rattle.sp_spec_formula.specs.Instantiate.{instantiate}
-use Rattle.sp_law_system.specs.Rules.{InstancesAreOver}
 use Rattle.sp_spec_formula.specs.Instances.{Message, is_of_sort, value_in, instance}
 use Rattle.sp_law_formula.proofs.Literals.{covers_by_itself}
 use Rattle.sp_law_formula.proofs.Entries.{length_trace, happened}
@@ -108,8 +107,7 @@ shown_at [] p e a = absurd a
 shown_at (d ∷ log) p e (inl a) = inl (a.0 ∙ sym (length_trace log), ap entry_actions a.1)
 shown_at (d ∷ log) p e (inr a) = inr (shown_at log p e a)
 
-module _ (N : Names) (theory : Theory) (good : HaveNormalForms (signature_of theory).equations) (keeps : KeepSymbols (signature_of theory).symbols (signature_of theory).equations)
-    (over : InstancesAreOver theory) (log : Log) (is : IsLog theory log) (v : Valuation) where
+module _ (N : Names) (theory : Theory) (good : HasNormalInstances theory) (log : Log) (is : IsLog theory log) (v : Valuation) where
   -- the actions of an event are fine, and its time is a position
   event_fine : (e : Event) → HappensIn log v e → IsGoodEvent (IsFine theory v) (AreFine theory v) (fine_inherited theory v) (λ i. v.times i < length log) e
   event_fine e h =
@@ -119,7 +117,7 @@ module _ (N : Names) (theory : Theory) (good : HaveNormalForms (signature_of the
         every_from (λ (b : Action Variable). AreFine theory v b.args) (happening_actions e.happening) (λ b k.
             let shows = subst (Member (action_at v.terms b)) (sym d.2) (member_map (action_at v.terms) b (happening_actions e.happening) k) in (
               entry_normal theory log is p d.0 d.1 (action_at v.terms b) shows,
-              entry_over theory good keeps over log is p d.0 d.1 (action_at v.terms b) shows,
+              entry_over theory good log is p d.0 d.1 (action_at v.terms b) shows,
             )),
       )
 
@@ -175,9 +173,8 @@ module _ (N : Names) (theory : Theory) (good : HaveNormalForms (signature_of the
         subst (λ (X : Type 0). X) (sym (settled_same N A B sig n c (assignment v) m reads f i)) settled.1,
       )
 
-pub instantiate_covers : {N : Names} → (theory : Theory) → HaveNormalForms (signature_of theory).equations → KeepSymbols (signature_of theory).symbols (signature_of theory).equations → InstancesAreOver theory
-    → (s t : System) → instantiate s ≡ Some t → IsNumbered N s → Covers theory s (t ∷ [])
-instantiate_covers {N} theory good keeps over s t e n =
+pub instantiate_covers : {N : Names} → (theory : Theory) → HasNormalInstances theory → (s t : System) → instantiate s ≡ Some t → IsNumbered N s → Covers theory s (t ∷ [])
+instantiate_covers {N} theory good s t e n =
     let r = is_universal s t e in
     let g = r.0 in
     let u = r.1 in
@@ -185,10 +182,10 @@ instantiate_covers {N} theory good keeps over s t e n =
     let A = Under s.next in
     let B = TimeUnder s.next in
     covers_by_itself theory s t (λ log is v h.
-    let events = every_weaken _ _ (event_fine N theory good keeps over log is v) s.events h.events in
+    let events = every_weaken _ _ (event_fine N theory good log is v) s.events h.events in
     let holds = every_member (FormulaHolds theory log v) s.formulas f u.member h.formulas in
     let taken = is_taken (IsFine theory v) (AreFine theory v) (fine_inherited theory v) (λ i. v.times i < length log) s u.binders u.guard u.body g events
     (guard_fine theory (length log) v h.sorts u.binders u.guard u.body holds.1) u.instantiated in
-    let new = taken_holds N theory good keeps over log is v s u.binders u.guard u.body g h taken A B (every_member (InFormula N A B) s.formulas f u.member n.formulas).1 holds in
+    let new = taken_holds N theory good log is v s u.binders u.guard u.body g h taken A B (every_member (InFormula N A B) s.formulas f u.member n.formulas).1 holds in
     subst (Solves theory log v) (sym r.2)
     (formulas_solve theory log v s h (s.formulas ++ g ∷ []) (every_append (FormulaHolds theory log v) s.formulas (g ∷ []) h.formulas (new, tt))))

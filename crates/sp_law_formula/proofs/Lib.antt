@@ -1,7 +1,7 @@
 pub mod ActionCovers
 pub mod Actions
 pub mod Bound
-pub mod Destructions
+pub mod ByAdversary
 pub mod Disjunctions
 pub mod Entries
 pub mod Equations
@@ -9,6 +9,7 @@ pub mod Freed
 pub mod Guards
 pub mod Instantiates
 pub mod Learnt
+pub mod MadeOne
 pub mod Literals
 pub mod Matches
 pub mod Opened

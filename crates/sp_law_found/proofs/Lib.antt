@@ -8,4 +8,3 @@ pub mod Premises
 pub mod FreshRuns
 pub mod Entries
 pub mod Stepped
-pub mod Runs

@@ -14,7 +14,7 @@ use Rattle.sp_law_run.specs.NormalStep.{normal_trace}
 use Rattle.sp_spec_forms.specs.Forms.{forms_of}
 use Rattle.sp_law_run.proofs.Taking.{map_append}
 use Rattle.sp_law_found.specs.Found.{given_by, fresh_steps, entry_steps}
-use Rattle.sp_law_found.specs.Laws.{IsExecutionWith}
+use Rattle.sp_law_found.specs.Execution.{IsExecutionWith}
 use Rattle.sp_law_found.specs.Executable.{IsExecutable}
 use Rattle.sp_law_found.proofs.Alike.{persistent_stays, AreAlike, alike_append, takes_alike}
 use Rattle.sp_law_found.proofs.Entries.{Found}

@@ -1,14 +1,5 @@
-// Laws of logs that are found: a log of steps is an execution that shows what the log shows.
-// Below stand sp_spec (logs, executions), the laws of equality, sp_law_run (values given by name), sp_law_log (logs of steps) and sp_law_forms (forms of
-// rules).
-// Above will stand what prints the execution of a log that solves a system.
-// Carried here: the promise that each log of steps gives an execution, with the values that its facts give to the rules' variables.
-// The functions do nothing when they run: the one clause of each is a law.
+// What a step in a log stands for: the making of its fresh names and the use of its rule, with the values that its facts give to the rule's variables.
+// Below stand sp_spec (logs, executions), the laws of equality, sp_law_run (values given by name), sp_law_log (what stands in logs) and sp_law_forms (forms
+// of rules); above stand the executions of learning logs (sp_law_executed), and the steps of logs in memory (sp_log).
+// It carries no promise of its own: that an execution goes on with these steps is a part of the law of sp_law_executed.
 #![tactic(auto)]
-
-ghost use Rattle.sp_law_found.specs.Laws.{LogsAreExecutions};
-
-/// A log of steps gives an execution, whose trace has the log's as its normal form.
-pub fn logs_are_executions()
-    ensures { LogsAreExecutions }
-{}

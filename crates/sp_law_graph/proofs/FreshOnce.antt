@@ -1,30 +1,23 @@
 -- Two events that use the same Fr are one entry of the log: the row makes them one, and where it can't there is no solution.
-use Rattle.std.proofs.Common.{◌≡◌, ◌≤◌, ◌<◌, ℕ, Bool, true, false, if◌then◌else◌, List, [], ◌∷◌, ◌++◌, map, Some, is_none, refl, sym, ap, ◌∙◌, subst, inl, inr, ⊎_elim}
+use Rattle.std.proofs.Common.{◌≡◌, ◌⊎◌, ◌≤◌, ℕ, Bool, true, false, if◌then◌else◌, List, [], ◌∷◌, ◌++◌, map, Some, refl, sym, ap, ◌∙◌, subst, inl, inr, ⊎_elim}
 use Rattle.sp_spec.proofs.Same.{alike_same}
-use Rattle.std.proofs.lemmas.Bool.{or_cases, and_parts}
+use Rattle.std.proofs.lemmas.Bool.{or_cases}
 use Rattle.sp_spec.specs.Lists.{Member, Every, Distinct, AtPosition}
 use Rattle.sp_spec.specs.Term.{Names, Variable, Term, Terms, none, more, Ground, Values, valued, valued_all}
 use Rattle.sp_spec.specs.Rule.{Fact, fact_at, facts_at}
 use Rattle.sp_spec.specs.Theory.{Theory}
 use Rattle.sp_spec.specs.Same.{alike}
-use Rattle.sp_spec.specs.Log.{Log, Entry, step, send, learn, fresh_names_once, IsLog, is_fr, first_arg, fresh_of, fresh_uses, all_fresh_uses}
+use Rattle.sp_spec.specs.Log.{Log, How, Entry, step, send, learn, fresh_names_once, IsLog, is_fr, first_arg, fresh_of, fresh_uses, all_fresh_uses}
 use Rattle.sp_spec.proofs.Lists.{member_map, member_left, member_right, distinct_apart, distinct_left}
-use Rattle.sp_spec_system.specs.System.{public_name, own_name, constructed, by_chain, Happening, rule_step, sending, learning, Event, System}
-use Rattle.sp_spec_system.specs.Solutions.{Valuation, how_at, HappensAt, HappensIn, Solves}
-use Rattle.sp_spec_system.specs.Numbered.{InEvent, IsNumbered}
+use Rattle.sp_spec_system.specs.System.{anyhow, public_name, own_name, constructed, chain_begun, chain_done, Happening, rule_step, sending, learning, Event, System}
+use Rattle.sp_spec_system.specs.Solutions.{Valuation, HappensAt, HappensIn, Solves}
+use Rattle.sp_spec_system.specs.Numbered.{IsNumbered}
 use Rattle.sp_spec_system.specs.Covering.{Covers}
 use Rattle.sp_law_system.specs.Laws.{UnifierIsRight}
-use Rattle.sp_law_system.proofs.Solutions.{Under, TimeUnder}
 use Rattle.sp_spec_graph.specs.Fresh.{first_term, fresh_terms, happening_fresh, stands_in, share_one, shares_fresh}
 use Rattle.sp_spec_graph.specs.SourceTwice.{repeats, takes_fr_twice}
-use Rattle.sp_law_graph.proofs.Two.{two_found, two_contradict}
-use Rattle.sp_spec_system.specs.Picked.{first_two}
-use Rattle.sp_spec_graph.specs.FreshOnce.{times_of_fresh, fresh_once, cannot_merge, fails_to_merge}
-use Rattle.sp_spec_system.specs.MakingOne.{made_one}
-use Rattle.sp_spec.proofs.Options.{mapped, then_some}
-use Rattle.sp_law_formula.proofs.Literals.{covers_by_itself}
-use Rattle.sp_law_formula.proofs.Merged.{SolvedBy, NumberedFrom}
-use Rattle.sp_law_formula.proofs.Equations.{times_solved, times_numbered, not_none}
+use Rattle.sp_spec_graph.specs.FreshOnce.{fresh_once, fails_to_merge}
+use Rattle.sp_law_graph.proofs.OneEvent.{one_event_covers, one_event_numbered, apart_contradicts}
 
 -- the Fr that an entry of the log uses is among those that the log uses
 uses_among : (log : Log) (p : ℕ) (e : Entry) (t : Ground) → AtPosition log p e → Member t (fresh_uses e) → Member t (all_fresh_uses log)
@@ -68,20 +61,26 @@ shared_member (t ∷ ts) us e =
     (λ k. let r = shared_member ts us k in (r.0, inr r.1, r.2))
     (or_cases (stands_in t us) (share_one ts us) e)
 
--- the entry of what happens uses the values of the terms that this uses
-happening_values : (log : Log) (p : ℕ) (v : Valuation) (h : Happening) → HappensAt log p v h → (e : Entry) × AtPosition log p e × (fresh_uses e ≡ map (valued v.terms) (happening_fresh h))
-happening_values log p v (rule_step r facts) k = (step r (facts_at v.terms facts) k.0, k.1, fresh_values v.terms facts.premises)
-happening_values log p v (sending m) k = (send (valued v.terms m), k, refl)
-happening_values log p v (learning m public_name) k = (learn (valued v.terms m) (how_at v public_name), k, refl)
-happening_values log p v (learning m own_name) k = (learn (valued v.terms m) (how_at v own_name), k, refl)
-happening_values log p v (learning m constructed) k = (learn (valued v.terms m) (how_at v constructed), k, refl)
-happening_values log p v (learning m (by_chain i c ts)) k = (learn (valued v.terms m) (how_at v (by_chain i c ts)), k, refl)
+-- The entry of what happens uses the values of the terms that this uses. (What is learnt anyhow uses none, while its entry may.)
+happening_values : (log : Log) (p : ℕ) (v : Valuation) (h : Happening) → HappensAt log p v h
+    → (e : Entry) × AtPosition log p e × ((happening_fresh h ≡ []) ⊎ (fresh_uses e ≡ map (valued v.terms) (happening_fresh h)))
+happening_values log p v (rule_step r facts) k = (step r (facts_at v.terms facts) k.0, k.1, inr (fresh_values v.terms facts.premises))
+happening_values log p v (sending m) k = (send (valued v.terms m), k, inl refl)
+happening_values log p v (learning m own_name) k =
+    (learn (valued v.terms m) k.0, k.1, inr (subst (λ (how : How). fresh_uses (learn (valued v.terms m) how) ≡ valued v.terms m ∷ []) (sym k.2) refl))
+happening_values log p v (learning m anyhow) k = (learn (valued v.terms m) k.0, k.1, inl refl)
+happening_values log p v (learning m public_name) k = (learn (valued v.terms m) k.0, k.1, inl refl)
+happening_values log p v (learning m constructed) k = (learn (valued v.terms m) k.0, k.1, inl refl)
+happening_values log p v (learning m (chain_begun i c ts)) k = (learn (valued v.terms m) k.0, k.1, inl refl)
+happening_values log p v (learning m (chain_done i c ts)) k = (learn (valued v.terms m) k.0, k.1, inl refl)
 
 pub happening_uses : (log : Log) (p : ℕ) (v : Valuation) (h : Happening) → HappensAt log p v h → (t : Term Variable) → Member t (happening_fresh h)
     → (e : Entry) × AtPosition log p e × Member (valued v.terms t) (fresh_uses e)
-happening_uses log p v h k t m =
-    let d = happening_values log p v h k in
-    (d.0, d.1, subst (Member (valued v.terms t)) (sym d.2) (member_map (valued v.terms) t (happening_fresh h) m))
+happening_uses log p v h k t m = let d = happening_values log p v h k in (d.0, d.1, at d.0 d.2)
+  where
+    at : (e : Entry) → (happening_fresh h ≡ []) ⊎ (fresh_uses e ≡ map (valued v.terms) (happening_fresh h)) → Member (valued v.terms t) (fresh_uses e)
+    at e (inl nothing) = absurd (subst (Member t) nothing m)
+    at e (inr uses) = subst (Member (valued v.terms t)) (sym uses) (member_map (valued v.terms) t (happening_fresh h) m)
 
 -- two happenings that use one Fr are at one position
 one_time : (theory : Theory) (log : Log) → IsLog theory log → (v : Valuation) (p q : ℕ) (a b : Happening) → HappensAt log p v a → HappensAt log q v b → share_one (happening_fresh a) (happening_fresh b) ≡ true → p ≡ q
@@ -94,36 +93,16 @@ one_time theory log is v p q a b h k s =
 one_event : (theory : Theory) (log : Log) → IsLog theory log → (v : Valuation) (d e : Event) → HappensIn log v d → HappensIn log v e → shares_fresh d e ≡ true → v.times d.time ≡ v.times e.time
 one_event theory log is v d e h k s = one_time theory log is v (v.times d.time) (v.times e.time) d.happening e.happening h k s
 
--- what holds of the times of two events that use one Fr
-fresh_times : (P : Event → Type 0) (X : ℕ × ℕ → Type 0) (events : List Event) (p : ℕ × ℕ) → times_of_fresh events ≡ Some p → Every P events
-    → ((d e : Event) → shares_fresh d e ≡ true → P d → P e → X (d.time, e.time)) → X p
-fresh_times P X events p e h gives =
-    let r = mapped (λ (q : Event × Event). (q.0.time, q.1.time)) (first_two shares_fresh events) p e in
-    let two = two_found shares_fresh P events r.0 r.1 h in
-    subst X (sym r.2) (gives r.0.0 r.0.1 two.0 two.1 two.2)
-
 module _ (N : Names) (right : UnifierIsRight) (theory : Theory) where
   pub fresh_once_covers : (s t : System) → fresh_once s ≡ Some t → IsNumbered N s → Covers theory s (t ∷ [])
-  fresh_once_covers s t e n =
-      let q = then_some (made_one s) (times_of_fresh s.events) t e in
-      covers_by_itself theory s t (λ log is v h.
-      let one = fresh_times (HappensIn log v) (λ p. v.times p.0 ≡ v.times p.1) s.events q.0 q.1 h.events (λ d x k a b. one_event theory log is v d x a b k) in
-      subst (SolvedBy theory log v) q.2 (times_solved right s n theory log v h q.0.0 q.0.1 one))
+  fresh_once_covers = one_event_covers shares_fresh N right theory (one_event theory)
 
   pub fresh_once_numbered : (s t : System) → fresh_once s ≡ Some t → IsNumbered N s → IsNumbered N t × (s.next ≤ t.next)
-  fresh_once_numbered s t e n =
-      let q = then_some (made_one s) (times_of_fresh s.events) t e in
-      let under = fresh_times (InEvent N (Under s.next) (TimeUnder s.next)) (λ p. (p.0 < s.next) × (p.1 < s.next)) s.events q.0 q.1 n.events (λ d x k a b. (a.0, b.0)) in
-      subst (NumberedFrom N s.next) q.2 (times_numbered right s n q.0.0 q.0.1 under.0 under.1)
+  fresh_once_numbered = one_event_numbered shares_fresh N right theory (one_event theory)
 
-  -- Failing merge: any two events that use one Fr are one, so that their times can be made one.
+  -- Failing merge: any two events that use one Fr are one.
   pub merge_contradicts : (s : System) → fails_to_merge s ≡ true → IsNumbered N s → (log : Log) → IsLog theory log → (v : Valuation) → Solves theory log v s → ⊥
-  merge_contradicts s e n log is v h = two_contradict (cannot_merge s) (HappensIn log v) apart s.events e h.events
-    where
-      apart : (d x : Event) → cannot_merge s d x ≡ true → HappensIn log v d → HappensIn log v x → ⊥
-      apart d x c a b =
-          let both = and_parts (shares_fresh d x) (is_none (made_one s (d.time, x.time))) c in
-          not_none theory log v (made_one s (d.time, x.time)) both.1 (times_solved right s n theory log v h d.time x.time (one_event theory log is v d x a b both.0))
+  merge_contradicts s e n log is v h = apart_contradicts shares_fresh N right theory (one_event theory) s n log is v h e
 
 -- Source used twice: an entry uses no Fr twice.
 entry_distinct : (theory : Theory) (log : Log) → IsLog theory log → (p : ℕ) (e : Entry) → AtPosition log p e → Distinct (fresh_uses e)
@@ -137,9 +116,11 @@ repeats_contradicts v (t ∷ ts) e d =
     ⊎_elim (λ k. d.0 (member_map (valued v) t ts (stands_member t ts k))) (λ k. repeats_contradicts v ts k d.1) (or_cases (stands_in t ts) (repeats ts) e)
 
 fr_contradicts : (theory : Theory) (log : Log) → IsLog theory log → (v : Valuation) (p : ℕ) (a : Happening) → HappensAt log p v a → repeats (happening_fresh a) ≡ true → ⊥
-fr_contradicts theory log is v p a h e =
-    let d = happening_values log p v a h in
-    repeats_contradicts v.terms (happening_fresh a) e (subst Distinct d.2 (entry_distinct theory log is p d.0 d.1))
+fr_contradicts theory log is v p a h e = let d = happening_values log p v a h in at d.0 d.1 d.2
+  where
+    at : (d : Entry) → AtPosition log p d → (happening_fresh a ≡ []) ⊎ (fresh_uses d ≡ map (valued v.terms) (happening_fresh a)) → ⊥
+    at d there (inl nothing) = let none : repeats [] ≡ true = subst (λ (ts : List (Term Variable)). repeats ts ≡ true) nothing e in absurd cc
+    at d there (inr uses) = repeats_contradicts v.terms (happening_fresh a) e (subst Distinct uses (entry_distinct theory log is p d there))
 
 pub fr_twice_contradicts : (theory : Theory) (log : Log) → IsLog theory log → (v : Valuation) (es : List Event) → takes_fr_twice es ≡ true → Every (HappensIn log v) es → ⊥
 fr_twice_contradicts theory log is v [] e h = absurd cc

@@ -1,13 +1,13 @@
 -- Links: two premises with one linear source are one, and so are the sources of one premise. The row makes their times one, and where
 -- that can't be there is no solution.
-use Rattle.std.proofs.Common.{◌≡◌, ◌≤◌, ◌<◌, ℕ, Bool, true, false, not, ◌&&◌, nat_eq, slice_get, List, [], ◌∷◌, Option, Some, None, option_map, is_none, refl, sym, subst, ⊎_elim}
+use Rattle.std.proofs.Common.{◌≡◌, ◌≤◌, ℕ, Bool, true, false, not, ◌&&◌, nat_eq, slice_get, List, [], ◌∷◌, Option, Some, None, option_map, is_none, refl, sym, subst, ⊎_elim}
 use Rattle.std.proofs.lemmas.Bool.{or_cases, and_parts, eqb-true, eq-eqb}
 use Rattle.sp_spec.specs.Lists.{Every, AtPlace, AtPosition}
 use Rattle.sp_spec.specs.Term.{Names, Variable}
 use Rattle.sp_spec.specs.Rule.{Fact, Facts, fact_at}
 use Rattle.sp_spec.specs.Theory.{Theory}
 use Rattle.sp_spec.specs.Log.{Log, step, Source, conclusion, IsLog}
-use Rattle.sp_spec.proofs.Lists.{every_member, position_one, place_got}
+use Rattle.sp_spec.proofs.Lists.{every_both, every_member, position_one, place_got}
 use Rattle.sp_spec_system.specs.System.{Happening, Event, Link, System, happening_premises}
 use Rattle.sp_spec_system.specs.Solutions.{Valuation, LinkHolds, HappensAt, HappensIn, Solves}
 use Rattle.sp_spec_system.specs.Numbered.{IsNumbered}
@@ -24,7 +24,9 @@ use Rattle.sp_spec.proofs.Options.{mapped, then_some}
 use Rattle.sp_law_formula.proofs.Literals.{covers_by_itself}
 use Rattle.sp_law_graph.proofs.Sources.{premise_event, one_source, source_once}
 use Rattle.sp_law_formula.proofs.Merged.{SolvedBy, NumberedFrom}
-use Rattle.sp_law_formula.proofs.Equations.{times_solved, times_numbered, not_none}
+use Rattle.sp_law_formula.proofs.MadeOne.{made_one_holds, made_one_numbered}
+use Rattle.sp_law_formula.proofs.Equations.{not_none}
+use Rattle.sp_law_system.proofs.With.{BothUnder, LinkUnder}
 use Rattle.sp_law_formula.proofs.ActionCovers.{event_found}
 
 -- what holds of the times that links make one
@@ -114,35 +116,40 @@ module _ (theory : Theory) (log : Log) (is : IsLog theory log) (v : Valuation) w
   used_twice_contradicts s e h = two_contradict (used_twice s.events) (LinkHolds log v) (used_contradicts s.events h.events) s.links e h.links
 
 module _ (N : Names) (right : UnifierIsRight) (theory : Theory) where
+  times_in : (s : System) → IsNumbered N s → (p : ℕ × ℕ) → times_of_links s.events s.links ≡ Some p → BothUnder s.next p
+  times_in s n p e = times_found (LinkUnder s.next) (BothUnder s.next) s.events s.links p e n.links (λ l m c a b. (a.1, b.1)) (λ l m c a b. (a.0, b.0))
+
   pub linear_once_covers : (s t : System) → linear_once s ≡ Some t → IsNumbered N s → Covers theory s (t ∷ [])
   linear_once_covers s t e n =
       let q = then_some (made_one s) (times_of_links s.events s.links) t e in
       covers_by_itself theory s t (λ log is v h.
       let one = times_found (LinkHolds log v) (λ p. v.times p.0 ≡ v.times p.1) s.events s.links q.0 q.1 h.links (premises_one theory log is v s.events h.events) (sources_one theory log is v) in
-      subst (SolvedBy theory log v) q.2 (times_solved right s n theory log v h q.0.0 q.0.1 one))
+      subst (SolvedBy theory log v) q.2 (made_one_holds right s n theory log v h q.0 (times_in s n q.0 q.1) one))
 
   pub linear_once_numbered : (s t : System) → linear_once s ≡ Some t → IsNumbered N s → IsNumbered N t × (s.next ≤ t.next)
   linear_once_numbered s t e n =
       let q = then_some (made_one s) (times_of_links s.events s.links) t e in
-      let under = times_found (λ (l : Link). (l.from < s.next) × (l.to < s.next)) (λ p. (p.0 < s.next) × (p.1 < s.next)) s.events s.links q.0 q.1 n.links
-      (λ l m c a b. (a.1, b.1)) (λ l m c a b. (a.0, b.0)) in
-      subst (NumberedFrom N s.next) q.2 (times_numbered right s n q.0.0 q.0.1 under.0 under.1)
+      subst (NumberedFrom N s.next) q.2 (made_one_numbered right s n q.0 (times_in s n q.0 q.1))
 
   -- Failing unification of links: what two links say is one can be made one.
   module _ (s : System) (n : IsNumbered N s) (log : Log) (is : IsLog theory log) (v : Valuation) (h : Solves theory log v s) where
-    made_contradicts : (i j : ℕ) → is_none (made_one s (i, j)) ≡ true → v.times i ≡ v.times j → ⊥
-    made_contradicts i j e one = not_none theory log v (made_one s (i, j)) e (times_solved right s n theory log v h i j one)
+    abbrev Stands : Link → Type 0
+    Stands l = LinkUnder s.next l × LinkHolds log v l
 
-    cannot_contradict : (l m : Link) → cannot_link s l m ≡ true → LinkHolds log v l → LinkHolds log v m → ⊥
+    made_contradicts : (p : ℕ × ℕ) → is_none (made_one s p) ≡ true → BothUnder s.next p → v.times p.0 ≡ v.times p.1 → ⊥
+    made_contradicts p e under one = not_none theory log v (made_one s p) e (made_one_holds right s n theory log v h p under one)
+
+    cannot_contradict : (l m : Link) → cannot_link s l m ≡ true → Stands l → Stands m → ⊥
     cannot_contradict l m e a b =
         ⊎_elim
         (λ c.
         let both = and_parts (premises_clash s.events l m) (is_none (made_one s (premise_times (l, m)))) c in
-        made_contradicts l.to m.to both.1 (premises_one theory log is v s.events h.events l m both.0 a b))
+        made_contradicts (premise_times (l, m)) both.1 (a.0.1, b.0.1) (premises_one theory log is v s.events h.events l m both.0 a.1 b.1))
         (λ c.
         let both = and_parts (sources_clash l m) (is_none (made_one s (source_times (l, m)))) c in
-        made_contradicts l.from m.from both.1 (sources_one theory log is v l m both.0 a b))
+        made_contradicts (source_times (l, m)) both.1 (a.0.0, b.0.0) (sources_one theory log is v l m both.0 a.1 b.1))
         (or_cases (premises_clash s.events l m && is_none (made_one s (premise_times (l, m)))) (sources_clash l m && is_none (made_one s (source_times (l, m)))) e)
 
     pub links_contradict : fails_to_link s ≡ true → ⊥
-    links_contradict e = two_contradict (cannot_link s) (LinkHolds log v) cannot_contradict s.links e h.links
+    links_contradict e =
+        two_contradict (cannot_link s) Stands cannot_contradict s.links e (every_both (LinkUnder s.next) (LinkHolds log v) Stands (λ l i k. (i, k)) s.links n.links h.links)

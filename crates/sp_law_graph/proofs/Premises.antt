@@ -25,7 +25,8 @@ use Rattle.sp_law_system.specs.Proofs.{systems_of}
 use Rattle.sp_law_formula.proofs.Entries.{entry_is_step, IsFormStep, form_step, numbered_form, beside, beside_agrees}
 use Rattle.sp_law_formula.proofs.Actions.{named_systems, systems_append, renamed_value, step_numbered, step_solved}
 use Rattle.sp_law_formula.proofs.ActionCovers.{event_found}
-use Rattle.sp_law_graph.proofs.Sources.{place_mapped, every_place, premise_event, source_there}
+use Rattle.sp_law_log.proofs.Places.{every_place}
+use Rattle.sp_law_graph.proofs.Sources.{place_mapped, premise_event, source_there}
 use Rattle.sp_law_graph.proofs.Waiting.{timed, timed_agrees, timed_new, awaiting_numbered, awaiting_solved}
 use Rattle.sp_law_formula.proofs.Merged.{Later}
 use Rattle.sp_law_graph.proofs.Conclusions.{conclusions_numbered, conclusion_solved}

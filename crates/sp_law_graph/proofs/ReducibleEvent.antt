@@ -11,7 +11,7 @@ use Rattle.sp_law_equal.specs.NormalForms.{HaveNormalForms}
 use Rattle.sp_law_equal.proofs.Facts.{facts_normal_form_only}
 use Rattle.sp_spec_forms.specs.Reducible.{args_of, irreducible_all, irreducible_facts}
 use Rattle.sp_spec_system.specs.System.{Happening, rule_step, sending, learning, happening_facts, Event}
-use Rattle.sp_spec_system.specs.Solutions.{Valuation, how_at, HappensAt, HappensIn}
+use Rattle.sp_spec_system.specs.Solutions.{Valuation, HappensAt, HappensIn}
 use Rattle.sp_spec_graph.specs.ReducibleEvent.{has_reducible}
 use Rattle.sp_law_forms.proofs.Irreducible.{irreducible_all_if}
 use Rattle.sp_law_forms.proofs.Lists.{all_pass}
@@ -34,7 +34,7 @@ module _ (theory : Theory) (good : HaveNormalForms (signature_of theory).equatio
       all_pass (irreducible_all es) (args_of (happening_facts (sending m))) (e, (e, tt))
   happening_irreducible p (learning m way) k =
       let t = valued v.terms m in
-      let e = irreducible_all_if es v.terms sorts (more m none) (entry_normal theory log is p (learn t (how_at v way)) k (learns t) (inl refl)) in
+      let e = irreducible_all_if es v.terms sorts (more m none) (entry_normal theory log is p (learn t k.0) k.1 (learns t) (inl refl)) in
       all_pass (irreducible_all es) (args_of (happening_facts (learning m way))) (e, tt)
 
   pub reducible_contradicts : (events : List Event) → has_reducible es events ≡ true → Every (HappensIn log v) events → ⊥

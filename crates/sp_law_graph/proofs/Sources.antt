@@ -1,12 +1,12 @@
 -- The sources that the premises of a log's entries name: each is there, it came earlier, and a linear one is named once.
 use Rattle.std.proofs.Common.{◌≡◌, ◌<◌, ℕ, zero, suc, Bool, true, false, if◌then◌else◌, List, [], ◌∷◌, ◌++◌, map, refl, sym, ap, ◌∙◌, subst, inl, inr}
-use Rattle.sp_spec.specs.Lists.{Member, Every, Distinct, AtPlace, AtPosition}
+use Rattle.sp_spec.specs.Lists.{Member, Distinct, AtPlace, AtPosition}
 use Rattle.sp_spec.specs.Term.{Variable}
 use Rattle.sp_spec.specs.Rule.{Fact, Facts, fact_at, facts_at}
 use Rattle.sp_spec.specs.Theory.{Theory}
 use Rattle.sp_spec.specs.Log.{Log, Entry, step, send, learn, Source, fresh_rule, conclusion, is_fr, linear_sources, sources_of, all_sources, Concludes, HasSources, premise_sources, IsLog}
 use Rattle.sp_spec.proofs.Logs.{log_sources, IsBehind, entry_behind}
-use Rattle.sp_spec.proofs.Lists.{member_left, member_right, distinct_right, distinct_apart, position_below, position_one, distinct_left, place_map}
+use Rattle.sp_spec.proofs.Lists.{member_left, member_right, distinct_right, distinct_apart, position_below, position_one, distinct_left, place_map, place_one}
 use Rattle.sp_spec_system.specs.System.{Happening, rule_step, sending, learning, happening_premises}
 use Rattle.sp_spec_system.specs.Solutions.{Valuation, HappensAt}
 
@@ -15,18 +15,6 @@ pub place_mapped : {A B : Type 0} (f : A → B) (xs : List A) (k : ℕ) (y : B) 
 place_mapped f [] k y a = absurd a
 place_mapped f (x ∷ xs) zero y a = (x, refl, a)
 place_mapped f (x ∷ xs) (suc k) y a = place_mapped f xs k y a
-
--- what holds of each element holds of that at a place
-pub every_place : {A : Type 0} (P : A → Type 0) (xs : List A) (k : ℕ) (x : A) → AtPlace xs k x → Every P xs → P x
-every_place P [] k x a h = absurd a
-every_place P (y ∷ xs) zero x a h = subst P a h.0
-every_place P (y ∷ xs) (suc k) x a h = every_place P xs k x a h.1
-
--- one place has one element
-pub place_one : {A : Type 0} (xs : List A) (k : ℕ) (x y : A) → AtPlace xs k x → AtPlace xs k y → x ≡ y
-place_one [] k x y a b = absurd a
-place_one (z ∷ xs) zero x y a b = sym a ∙ b
-place_one (z ∷ xs) (suc k) x y a b = place_one xs k x y a b
 
 -- a premise of what happens is one of a step
 pub premise_event : (log : Log) (q : ℕ) (v : Valuation) (h : Happening) → HappensAt log q v h → (p : ℕ) (f : Fact Variable) → AtPlace (happening_premises h) p f

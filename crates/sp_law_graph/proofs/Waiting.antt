@@ -35,6 +35,19 @@ pub timed_new : (n q : ℕ) (v : Valuation) → (timed n q v).times n ≡ q
 unfolding timed
 timed_new n q v = rw (eq-eqb n n refl) refl
 
+-- the new time is before another where its value is
+pub timed_before : (n q : ℕ) (v : Valuation) (log : Log) (i : ℕ) → i < n → q < v.times i → v.times i < length log → IsBefore log (timed n q v) (n, i)
+timed_before n q v log i under earlier below =
+    let same = (timed_agrees n q v).times i under in (
+      subst (λ (x : ℕ). x < (timed n q v).times i) (sym (timed_new n q v)) (subst (λ (x : ℕ). q < x) (sym same) earlier),
+      subst (λ (x : ℕ). x < length log) (sym same) below,
+    )
+
+-- what solves the system does so with a value for the next number's time
+pub timed_solves : {N : Names} → (theory : Theory) (log : Log) (s : System) (v : Valuation) (q : ℕ) → IsNumbered N s → Solves theory log v s → Solves theory log (timed s.next q v) s
+unfolding timed
+timed_solves theory log s v q n h = agree_solves theory log s v (timed s.next q v) n (timed_agrees s.next q v) h.normal h.sorts h
+
 module _ {N : Names} (s : System) (n : IsNumbered N s) (i : ℕ) (i_under : i < s.next) (p k : ℕ) where
   abbrev link : Link
   link = record { from = s.next; conclusion = k; to = i; premise = p }
@@ -64,15 +77,11 @@ module _ {N : Names} (s : System) (n : IsNumbered N s) (i : ℕ) (i_under : i < 
     )
 
     new_order : IsBefore log value (s.next, i)
-    new_order = (
-      subst (λ (x : ℕ). x < value.times i) (sym (timed_new s.next q v)) (subst (λ (x : ℕ). q < x) (sym ((timed_agrees s.next q v).times i i_under)) earlier),
-      subst (λ (x : ℕ). x < length log) (sym ((timed_agrees s.next q v).times i i_under)) (position_below log (v.times i) (step r facts sources) premise_event),
-    )
+    new_order = timed_before s.next q v log i i_under earlier (position_below log (v.times i) (step r facts sources) premise_event)
 
     pub awaiting_solved : Solves theory log value (awaiting s i p k)
-    unfolding timed
     awaiting_solved =
-        let old = agree_solves theory log s v value n (timed_agrees s.next q v) h.normal h.sorts h in
+        let old = timed_solves theory log s v q n h in
         let linked = links_solve theory log value s old (s.links ++ link ∷ []) (every_append (LinkHolds log value) s.links (link ∷ []) old.links (new_link, tt)) in
         let ordered = order_solves theory log value (with_links s (s.links ++ link ∷ [])) linked (s.order ++ (s.next, i) ∷ []) (every_append (IsBefore log value) s.order ((s.next, i) ∷ []) old.order (new_order, tt)) in
         next_solves theory log value (with_order (with_links s (s.links ++ link ∷ [])) (s.order ++ (s.next, i) ∷ [])) ordered (suc s.next)

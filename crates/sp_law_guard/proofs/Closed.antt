@@ -11,7 +11,7 @@ use Rattle.sp_law_guard.proofs.Places.{term_closed, action_made, order_made, equ
 abbrev OfClosed : ℕ → Atom → Type 0
 OfClosed n a = IsClosedAtom a
 
-closed_time : (n : ℕ) (i : Time) → IsBound n i → IsClosedTime i
+pub closed_time : (n : ℕ) (i : Time) → IsBound n i → IsClosedTime i
 closed_time n (free_time i) b = b
 closed_time n (bound_time k) b = tt
 

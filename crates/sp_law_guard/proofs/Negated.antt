@@ -1,15 +1,11 @@
 -- Where each variable of a formula is guarded, so is each of its negation.
-use Rattle.std.proofs.Common.{◌≡◌, Bool, true, false, ◌&&◌, List, [], ◌∷◌, refl}
-use Rattle.std.proofs.lemmas.Bool.{and_parts}
+use Rattle.std.proofs.Common.{◌≡◌, true, ◌&&◌, List, [], ◌∷◌, refl}
+use Rattle.std.proofs.lemmas.Bool.{and_parts, and_from}
 use Rattle.sp_spec.specs.Guarded.{Binder, Atom, acts, same, same_time, before, last, Guarded, Guardeds, truth, falsity, holds, fails, all_of, one_of, some, every, no_more, and_then}
 use Rattle.sp_law_guard.specs.GuardedForm.{negated_atom, negate, negate_each}
 use Rattle.sp_law_guard.specs.IsGuarded.{messages_in, each_guarded, is_guarded, are_guarded}
 
-both_true : (x y : Bool) → x ≡ true → y ≡ true → (x && y) ≡ true
-both_true true y e k = k
-both_true false y e k = e
-
-negated_guarded : (a : Atom) → is_guarded (negated_atom a) ≡ true
+pub negated_guarded : (a : Atom) → is_guarded (negated_atom a) ≡ true
 negated_guarded (acts a i) = refl
 negated_guarded (same t u) = refl
 negated_guarded (same_time i j) = refl
@@ -21,7 +17,7 @@ body_guarded : (bs : List Binder) (guard : List Atom) (g h : Guarded) → (is_gu
     → (each_guarded (messages_in bs) guard bs && is_guarded g) ≡ true → (each_guarded (messages_in bs) guard bs && is_guarded h) ≡ true
 body_guarded bs guard g h below e =
     let r = and_parts (each_guarded (messages_in bs) guard bs) (is_guarded g) e in
-    both_true (each_guarded (messages_in bs) guard bs) (is_guarded h) r.0 (below r.1)
+    and_from (each_guarded (messages_in bs) guard bs) (is_guarded h) r.0 (below r.1)
 
 every_guarded : (bs : List Binder) (guard : List Atom) (g : Guarded) → (is_guarded g ≡ true → is_guarded (negate g) ≡ true)
     → is_guarded (every bs guard g) ≡ true → is_guarded (negate (every bs guard g)) ≡ true
@@ -43,4 +39,4 @@ mutual
   negate_each_guarded no_more e = refl
   negate_each_guarded (and_then g gs) e =
       let r = and_parts (is_guarded g) (are_guarded gs) e in
-      both_true (is_guarded (negate g)) (are_guarded (negate_each gs)) (negate_guarded g r.0) (negate_each_guarded gs r.1)
+      and_from (is_guarded (negate g)) (are_guarded (negate_each gs)) (negate_guarded g r.0) (negate_each_guarded gs r.1)

@@ -1,3 +1,4 @@
 pub mod Least
 pub mod Sources
+pub mod Settled
 pub mod Ready

@@ -10,12 +10,12 @@ use Rattle.sp_spec.specs.Log.{Entry, is_fr}
 use Rattle.sp_spec_system.specs.System.{Event, Link, System, happening_premises}
 use Rattle.sp_spec_system.specs.Order.{is_cyclic}
 use Rattle.sp_solved.specs.Listing.{in_order}
-use Rattle.sp_solved.specs.Candidate.{are_rule_steps, has_event, has_place, have_places, first_link, is_from_event, is_sourced, are_sourced, all_sourced, is_ready, place_of, logged, candidate}
+use Rattle.sp_solved.specs.Candidate.{are_settled, has_event, has_place, have_places, first_link, is_from_event, is_sourced, are_sourced, all_sourced, is_ready, place_of, logged, candidate}
 use Rattle.sp_solved.specs.Naming.{values_of}
-use Rattle.sp_solved.proofs.Alone.{IsRuleStep, all_are_steps, each_is_step}
 use Rattle.sp_solved.proofs.Listed.{every_listed, every_left}
 use Rattle.sp_law_listed.specs.Laws.{HasSourceEvent, IsListable}
 use Rattle.sp_law_listed.proofs.Least.{all_are_listed}
+use Rattle.sp_law_listed.proofs.Settled.{IsSettled, all_are_settled, each_is_settled}
 use Rattle.sp_law_listed.proofs.Sources.{place_there, past, past-first, IsLinked, HasSources, event_sourced, entries_there}
 
 -- ---- actions
@@ -102,8 +102,8 @@ module _ (s : System) where
 
 listable_ready : (s : System) → IsListable s → is_ready s ≡ true
 listable_ready s h =
-    and_from (are_rule_steps s.events) (have_places s.events s.formulas && (all_sourced s.events s.links s.events && not (is_cyclic s.order)))
-    (all_are_steps s.events (every_from IsRuleStep s.events h.steps))
+    and_from (are_settled s.events) (have_places s.events s.formulas && (all_sourced s.events s.links s.events && not (is_cyclic s.order)))
+    (all_are_settled s.events (every_from IsSettled s.events h.settled))
     (and_from (have_places s.events s.formulas) (all_sourced s.events s.links s.events && not (is_cyclic s.order))
     (all_have_places s.events s.formulas (λ f m. placed s.events f (λ b i is. h.placed b i (subst (λ (g : Guarded). Member g s.formulas) is m))))
     (and_from (all_sourced s.events s.links s.events) (not (is_cyclic s.order))
@@ -113,12 +113,12 @@ listable_ready s h =
 
 ready_listable : (s : System) → is_ready s ≡ true → IsListable s
 ready_listable s e =
-    let begins = and_parts (are_rule_steps s.events) (have_places s.events s.formulas && (all_sourced s.events s.links s.events && not (is_cyclic s.order))) e in
+    let begins = and_parts (are_settled s.events) (have_places s.events s.formulas && (all_sourced s.events s.links s.events && not (is_cyclic s.order))) e in
     let both = and_parts (have_places s.events s.formulas) (all_sourced s.events s.links s.events && not (is_cyclic s.order)) begins.1 in
     let rest = and_parts (all_sourced s.events s.links s.events) (not (is_cyclic s.order)) both.1 in
     let each = sourced_events s s.events rest.0 in
     record {
-      steps = λ d m. every_member IsRuleStep s.events d m (each_is_step s.events begins.0);
+      settled = λ d m. every_member IsSettled s.events d m (each_is_settled s.events begins.0);
       given = λ d m p f at n. subst (HasSourceEvent s d.time) (past-first p) (sourced_premises s d.time 0 (happening_premises d.happening) (every_member (IsSourced s) s.events d m each) p f at n);
       placed = λ a i m. event_there s.events i (each_has_place s.events s.formulas both.0 (holds (acts a (free_time i))) m);
       acyclic = not-true (is_cyclic s.order) rest.1;

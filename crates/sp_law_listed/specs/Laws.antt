@@ -7,16 +7,16 @@ use Rattle.sp_spec.specs.Guarded.{Place, holds, acts, free_time}
 use Rattle.sp_spec.specs.Log.{Entry, is_fr}
 use Rattle.sp_spec_system.specs.System.{Event, Link, System, happening_premises}
 use Rattle.sp_spec_system.specs.Order.{is_cyclic}
-use Rattle.sp_solved.specs.Candidate.{is_rule_step, first_link, candidate}
+use Rattle.sp_solved.specs.Candidate.{is_settled, first_link, candidate}
 
 -- the first link to the premise is from the time of an event
 abbrev pub HasSourceEvent : System → ℕ → ℕ → Type 0
 HasSourceEvent s i p = (l : Link) × (first_link s.links i p ≡ Some l) × (e : Event) × Member e s.events × (e.time ≡ l.from)
 
--- each event is a rule's step, each premise is an Fr or has a link from an event, each action that is to happen has an event at its time, and no time
--- is before itself
+-- for each event it is settled how what it learns is learnt, each premise is an Fr or has a link from an event, each action that is to happen has an
+-- event at its time, and no time is before itself
 pub record IsListable (s : System) : Type 0 where
-  pub steps : (e : Event) → Member e s.events → is_rule_step e.happening ≡ true
+  pub settled : (e : Event) → Member e s.events → is_settled e.happening ≡ true
   pub given : (e : Event) → Member e s.events → (p : ℕ) (f : Fact Variable) → AtPlace (happening_premises e.happening) p f → is_fr f ≡ false → HasSourceEvent s e.time p
   pub placed : (a : Action Place) (i : ℕ) → Member (holds (acts a (free_time i))) s.formulas → (e : Event) × Member e s.events × (e.time ≡ i)
   pub acyclic : is_cyclic s.order ≡ false

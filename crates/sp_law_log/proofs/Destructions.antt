@@ -8,12 +8,12 @@ use Rattle.sp_spec.specs.Lists.{Member, Every, AtPlace}
 use Rattle.sp_spec.specs.Term.{Variable, Term, Terms, none, joined, count}
 use Rattle.sp_spec.specs.Signature.{Symbol, Equation, Signature, HasPublic}
 use Rattle.sp_spec.specs.Destruction.{Destruction, Fork, way_to, is_public, along, along_way, destructions_by, destructions}
-use Rattle.sp_spec.proofs.Lists.{member_left, member_right, every_append, every_member}
+use Rattle.sp_spec.proofs.Lists.{member_left, member_right, every_append, every_member, place_member}
 use Rattle.sp_law_log.specs.Ways.{args_with, sides, IsPublicFork, ArePublic, destruction_below, IsOfPlace}
 use Rattle.sp_law_log.specs.Laws.{IsPlace}
 use Rattle.sp_law_equal.specs.Parts.{IsPart}
 use Rattle.sp_law_log.proofs.Ways.{joined_again, joined_none, way_leads, way_below, way_part}
-use Rattle.sp_law_log.proofs.Places.{each_placed, place_member}
+use Rattle.sp_law_log.proofs.Places.{each_placed}
 
 abbrev symbol_test : List ℕ → ℕ → Symbol → Bool
 symbol_test f n s = bytes_eq s.name f && (s.arity == n) && not s.private

@@ -28,6 +28,13 @@ pub record Lasts (theory : Theory) (P : Ground → Type 0) (Qs : Grounds → Typ
   pub nothing : Qs none
   pub together : (t : Ground) (ts : Grounds) → P t → Qs ts → Qs (more t ts)
 
+-- what holds of all messages that an entry learns holds of the one that is learnt
+pub message_first : (P : Ground → Type 0) (m : Ground) (how : How) → Every P (messages_of (learn m how)) → P m
+message_first P m public_name h = h.0
+message_first P m own_name h = h.0
+message_first P m constructed h = h.0
+message_first P m (by_chain c k chain) h = h.0
+
 module _ (theory : Theory) (P : Ground → Type 0) (Qs : Grounds → Type 0) (l : Lasts theory P Qs) where
   of_public : (m : Ground) → HasSort Pub m → P m
   of_public (var x) h = absurd x
@@ -61,16 +68,10 @@ module _ (theory : Theory) (P : Ground → Type 0) (Qs : Grounds → Type 0) (l 
   abbrev Messages : Log → Type 0
   Messages log = (p : ℕ) (e : Entry) → AtPosition log p e → Every P (messages_of e)
 
-  message_first : (m : Ground) (how : How) → Every P (messages_of (learn m how)) → P m
-  message_first m public_name h = h.0
-  message_first m own_name h = h.0
-  message_first m constructed h = h.0
-  message_first m (by_chain c k chain) h = h.0
-
   -- where it holds of the messages that came before
   module _ (past : Log) (is : IsLog theory past) (all : Messages past) where
     known : (m : Ground) → IsLearnt past m → P m
-    known m h = let at = h.1 in message_first m at.0 (all h.0 (learn m at.0) at.1)
+    known m h = let at = h.1 in message_first P m at.0 (all h.0 (learn m at.0) at.1)
 
     each_known : (ts : Grounds) → AreLearnt past ts → Qs ts
     each_known none h = l.nothing

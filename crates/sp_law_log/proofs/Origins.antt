@@ -10,10 +10,10 @@ use Rattle.sp_spec.specs.Log.{Source, fresh_rule, conclusion, How, public_name, 
 use Rattle.sp_law_equal.specs.Parts.{IsPart, IsPartOfOne}
 use Rattle.sp_law_equal.specs.RightTheory.{HasNormalInstances, TakesFreshNames, BindsActions, BindsConclusions}
 use Rattle.sp_law_equal.proofs.Parts.{part_valued}
-use Rattle.sp_law_log.proofs.Places.{place_member}
 use Rattle.sp_law_log.proofs.Destructions.{gives_part}
 use Rattle.sp_law_log.proofs.NameParts.{part_within, in_public, in_fresh}
 use Rattle.sp_law_log.proofs.Instances.{normal_step, fr_premise, conclusion_from, action_from}
+use Rattle.sp_spec.proofs.Lists.{place_member}
 
 -- a premise that is no Fr is what an earlier entry concludes
 pub source_of : (past : Log) (fs : List (Fact ⊥)) (sources : List Source) → HasSources fs sources past → (f : Fact ⊥) → Member f fs → is_fr f ≡ false

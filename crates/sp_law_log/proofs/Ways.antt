@@ -7,7 +7,7 @@ use Rattle.sp_spec.specs.Destruction.{Fork, way_to, way_among}
 use Rattle.sp_spec.proofs.Same.{alike_same, same_by_decides, same_variable_decides}
 use Rattle.sp_law_equal.specs.Parts.{IsPart, IsPartOfOne}
 use Rattle.sp_law_equal.proofs.Parts.{part_itself}
-use Rattle.sp_law_log.specs.Ways.{args_with, plug, IsWay}
+use Rattle.sp_law_log.specs.Ways.{args_with, plug, IsWay, sides}
 
 pub joined_again : {V : Type 0} (ts us ws : Terms V) → joined (joined ts us) ws ≡ joined ts (joined us ws)
 joined_again none us ws = refl
@@ -16,6 +16,13 @@ joined_again (more t ts) us ws = ap (more t) (joined_again ts us ws)
 pub joined_none : {V : Type 0} (ts : Terms V) → joined ts none ≡ ts
 joined_none none = refl
 joined_none (more t ts) = ap (more t) (joined_none ts)
+
+-- the arguments beside a way that goes on by a fork
+pub sides_end : (above : List Fork) (f : Fork) → sides (above ++ f ∷ []) ≡ joined (sides above) (joined f.front f.back)
+sides_end [] f = joined_none (joined f.front f.back)
+sides_end (a ∷ above) f =
+    ap (λ (ts : Terms Variable). joined (joined a.front a.back) ts) (sides_end above f)
+    ∙ sym (joined_again (joined a.front a.back) (sides above) (joined f.front f.back))
 
 -- the way leads to its end
 pub way_plug : (t : Term Variable) (forks : List Fork) (r : Term Variable) → IsWay t forks r → t ≡ plug forks r

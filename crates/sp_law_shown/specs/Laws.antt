@@ -13,7 +13,7 @@ use Rattle.sp_spec.specs.Lists.{newest_first}
 use Rattle.sp_law_tree.specs.BasicTheory.{IsBasicFormula}
 use Rattle.sp_spec_system.specs.System.{System}
 use Rattle.sp_spec_system.specs.Rules.{rules_of}
-use Rattle.sp_log.specs.Checking.{is_log}
+use Rattle.sp_learn.specs.Checking.{is_log}
 use Rattle.sp_solved.specs.Candidate.{candidate}
 use Rattle.sp_solved.specs.Found.{found}
 use Rattle.sp_law_shown.specs.Shown.{IsSearched, FoundBreaks, FoundSatisfies}

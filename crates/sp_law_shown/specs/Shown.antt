@@ -1,4 +1,4 @@
--- What a log of steps that was found shows of a lemma, in theories as they are read. Source: CSF 2012, "Security properties" (an execution whose trace
+-- What a log that was found shows of a lemma, in theories as they are read. Source: CSF 2012, "Security properties" (an execution whose trace
 -- falsifies the formula is an attack).
 use Rattle.std.specs.Prelude.{◌≡◌, [], map, false}
 use Rattle.sp_spec.specs.Lists.{Every, Distinct}
@@ -8,8 +8,8 @@ use Rattle.sp_spec.specs.Findings.{rule_is_wrong}
 use Rattle.sp_spec.specs.Log.{Log, visible_trace}
 use Rattle.sp_spec.specs.Verdict.{IsBrokenByLog, IsSatisfiedByLog, IsBrokenInReading, IsSatisfiedInReading}
 use Rattle.sp_law_equal.specs.NormalForms.{HasNormalForms}
-use Rattle.sp_law_found.specs.Found.{execution_of}
-use Rattle.sp_law_found.specs.Laws.{IsExecutionWith}
+use Rattle.sp_law_found.specs.Execution.{IsExecutionWith}
+use Rattle.sp_law_executed.specs.Executed.{executed_of}
 use Rattle.sp_law_tree.specs.BasicTheory.{IsBasicRule}
 
 -- A theory without findings, of basic rules, without restrictions, and whose terms have normal forms.
@@ -23,11 +23,11 @@ pub record IsSearched (theory : WrittenTheory) : Type 0 where
 -- The log breaks the lemma; its steps are an execution whose trace has its visible trace as normal form, and where the lemma is read over executions they break it too.
 pub record FoundBreaks (theory : Theory) (lemma : Lemma) (log : Log) : Type 0 where
   pub by_log : IsBrokenByLog theory lemma log
-  pub executed : IsExecutionWith theory (execution_of theory log) (visible_trace log)
-  pub in_reading : IsBrokenInReading theory lemma log (execution_of theory log)
+  pub executed : IsExecutionWith theory (executed_of theory log) (visible_trace log)
+  pub in_reading : IsBrokenInReading theory lemma log (executed_of theory log)
 
 -- The log satisfies the lemma; its steps are an execution whose trace has its visible trace as normal form, and where the lemma is read over executions they satisfy it too.
 pub record FoundSatisfies (theory : Theory) (lemma : Lemma) (log : Log) : Type 0 where
   pub by_log : IsSatisfiedByLog theory lemma log
-  pub executed : IsExecutionWith theory (execution_of theory log) (visible_trace log)
-  pub in_reading : IsSatisfiedInReading theory lemma log (execution_of theory log)
+  pub executed : IsExecutionWith theory (executed_of theory log) (visible_trace log)
+  pub in_reading : IsSatisfiedInReading theory lemma log (executed_of theory log)

@@ -1,6 +1,6 @@
-// The laws of what was found: a log of steps over whose trace a lemma's formula is false, or true, shows that of an execution; and the
-// search ends exactly with such a log. Below stand the checking of logs (sp_log), the logs that are looked for (sp_solved), the execution
-// of a log (sp_law_found), the deciding of truth (sp_law_decide), and what the rules and formulas that are read are like (sp_law_tree); above
+// The laws of what was found: a log over whose trace a lemma's formula is false, or true, shows that of an execution, steps of the adversary included;
+// and the search ends exactly with such a log. Below stand the checking of logs (sp_learn), the logs that are looked for (sp_solved), the execution
+// of a log (sp_law_executed), the deciding of truth (sp_law_decide), and what the rules and formulas that are read are like (sp_law_tree); above
 // stands the answer that a search gives (sp_analysis).
 // Carried here: the promise that what a found log says of a lemma is so of the execution that is printed for it.
 // Nothing here runs: the public function is a law, and its one clause says it.

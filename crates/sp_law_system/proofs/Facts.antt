@@ -35,10 +35,10 @@ valued_equal v w e t = valued_same any_names v w t (each_of_all _ e t)
 pub valued_all_equal : {V W : Type 0} (v w : V → Term W) → ((x : V) → v x ≡ w x) → (ts : Terms V) → valued_all v ts ≡ valued_all w ts
 valued_all_equal v w e ts = valued_all_same any_names v w ts (each_of_all_terms _ e ts)
 
-abbrev parts_of : {V : Type 0} → List (Fact V) → List (Action V) → List (Fact V) → Facts V
+abbrev pub parts_of : {V : Type 0} → List (Fact V) → List (Action V) → List (Fact V) → Facts V
 parts_of ps as' cs = record { premises = ps; actions = as'; conclusions = cs }
 
-parts_same : {V : Type 0} (p q : List (Fact V)) (a b : List (Action V)) (c d : List (Fact V)) → p ≡ q → a ≡ b → c ≡ d → parts_of p a c ≡ parts_of q b d
+pub parts_same : {V : Type 0} (p q : List (Fact V)) (a b : List (Action V)) (c d : List (Fact V)) → p ≡ q → a ≡ b → c ≡ d → parts_of p a c ≡ parts_of q b d
 parts_same p q a b c d e f g = ap (λ (x : _). parts_of x a c) e ∙ ap (λ (x : _). parts_of q x c) f ∙ ap (λ (x : _). parts_of q b x) g
 
 fact_same : (N : Names) → {V W : Type 0} (v w : V → Term W) (f : Fact V) → AllMadeOf N (λ x. v x ≡ w x) f.args → fact_at v f ≡ fact_at w f

@@ -2,12 +2,15 @@ pub mod Bindings
 pub mod Changing
 pub mod Facts
 pub mod Happenings
+pub mod LearntBy
 pub mod Merging
 pub mod Numbers
+pub mod OneHappening
 pub mod ShortPaths
 pub mod Solutions
 pub mod TermValues
 pub mod Unchanged
 pub mod Unifier
 pub mod Unifying
+pub mod WaysMerging
 pub mod With

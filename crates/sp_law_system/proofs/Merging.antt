@@ -1,18 +1,16 @@
--- Facts that have the same values give pairs that have, and so two events that are one entry of a log can be made one.
+-- Facts that have the same values give pairs that have.
 use Rattle.std.proofs.Common.{◌≡◌, ℕ, Bool, true, false, ◌&&◌, if◌then◌else◌, List, [], ◌∷◌, ◌++◌, map, Option, Some, None, option_map, refl, sym, ap}
 use Rattle.std.proofs.lemmas.Slice.Eq.{bytes_eq-Decides}
 use Rattle.std.specs.Str.{bytes_eq}
 use Rattle.sp_spec.specs.Lists.{Every}
-use Rattle.sp_spec.specs.Term.{Names, Variable, Term, Terms, none, more, Values, valued, valued_all, MadeOf, AllMadeOf}
+use Rattle.sp_spec.specs.Term.{Names, Variable, Terms, none, more, Values, valued, valued_all, AllMadeOf}
 use Rattle.sp_spec.specs.Rule.{Fact, Action, Facts, fact_at, action_at, facts_at, FactsMadeOf}
 use Rattle.sp_spec.specs.Unifier.{Pair, MakesSame}
-use Rattle.sp_spec_system.specs.System.{Happening, rule_step, sending, learning}
-use Rattle.sp_spec_system.specs.Numbered.{InHappening}
 use Rattle.sp_law_system.specs.Laws.{PairsUnder}
 use Rattle.sp_spec_forms.specs.Alike.{same_flag}
-use Rattle.sp_spec_system.specs.Equating.{argument_pairs, both_pairs, fact_pairs, action_pair, action_pairs, merging_pairs}
+use Rattle.sp_spec_system.specs.Equating.{argument_pairs, both_pairs, fact_pairs, action_pair, action_pairs}
 use Rattle.sp_spec.proofs.Lists.{every_append}
-use Rattle.sp_law_system.proofs.Solutions.{Under, TimeUnder}
+use Rattle.sp_law_system.proofs.Solutions.{Under}
 
 -- pairs that are there, have one value each, and have numbers below the limit
 pub record Paired (N : Names) (v : Values) (n : ℕ) (o : Option (List Pair)) : Type 0 where
@@ -21,7 +19,7 @@ pub record Paired (N : Names) (v : Values) (n : ℕ) (o : Option (List Pair)) : 
   pub same : MakesSame v pairs
   pub under : PairsUnder N n pairs
 
-same_append : (v : Values) (ps qs : List Pair) → MakesSame v ps → MakesSame v qs → MakesSame v (ps ++ qs)
+pub same_append : (v : Values) (ps qs : List Pair) → MakesSame v ps → MakesSame v qs → MakesSame v (ps ++ qs)
 same_append v [] qs h k = k
 same_append v (p ∷ ps) qs h k = (h.0, same_append v ps qs h.1 k)
 
@@ -87,18 +85,21 @@ actions_paired v n (x ∷ xs) (y ∷ ys) a b e =
     let tail : map (action_at v) xs ≡ map (action_at v) ys = cc in
     both_paired v n _ _ (action_paired v n x y a.0 b.0 head) (actions_paired v n xs ys a.1 b.1 tail)
 
+-- what makes two steps of one rule one
+abbrev pub step_pairs : List ℕ → Facts Variable → List ℕ → Facts Variable → Option (List Pair)
+step_pairs r f q g =
+    if bytes_eq r q
+    then both_pairs (fact_pairs f.premises g.premises) (both_pairs (action_pairs f.actions g.actions) (fact_pairs f.conclusions g.conclusions))
+    else None
+
 -- Two steps of one rule whose facts have the same values.
-pub merging_paired : {N : Names} → (v : Values) (n : ℕ) (r q : List ℕ) (f g : Facts Variable) → FactsMadeOf N (Under n) f → FactsMadeOf N (Under n) g → r ≡ q → facts_at v f ≡ facts_at v g
-    → Paired N v n (merging_pairs (rule_step r f) (rule_step q g))
-merging_paired v n r q f g a b named e =
+pub steps_paired : {N : Names} → (v : Values) (n : ℕ) (r q : List ℕ) (f g : Facts Variable) → FactsMadeOf N (Under n) f → FactsMadeOf N (Under n) g → r ≡ q → facts_at v f ≡ facts_at v g
+    → Paired N v n (step_pairs r f q g)
+steps_paired v n r q f g a b named e =
     let p = fact_paired v n f.premises g.premises a.premises b.premises (ap (λ (x : Facts ⊥). x.premises) e) in
     let s = actions_paired v n f.actions g.actions a.actions b.actions (ap (λ (x : Facts ⊥). x.actions) e) in
     let c = fact_paired v n f.conclusions g.conclusions a.conclusions b.conclusions (ap (λ (x : Facts ⊥). x.conclusions) e) in
     rw (same_text r q named) (both_paired v n _ _ p (both_paired v n _ _ s c))
-
--- Two messages that have the same value.
-pub message_paired : {N : Names} → (v : Values) (n : ℕ) (t u : Term Variable) → MadeOf N (Under n) t → MadeOf N (Under n) u → valued v t ≡ valued v u → Paired N v n (Some ((t, u) ∷ []))
-message_paired v n t u a b e = record { pairs = (t, u) ∷ []; there = refl; same = (e, tt); under = ((a, b), tt) }
 
 -- The pairs' variables are those of the facts.
 abbrev pub OptionUnder : Names → ℕ → Option (List Pair) → Type 0
@@ -141,16 +142,8 @@ actions_under N n [] (y ∷ ys) a b = tt
 actions_under N n (x ∷ xs) [] a b = tt
 actions_under N n (x ∷ xs) (y ∷ ys) a b = both_under N n (action_pair x y) (action_pairs xs ys) (action_under N n x y a.0 b.0) (actions_under N n xs ys a.1 b.1)
 
-pub merging_under : (N : Names) → (n : ℕ) (a b : Happening) → InHappening N (Under n) (TimeUnder n) a → InHappening N (Under n) (TimeUnder n) b → OptionUnder N n (merging_pairs a b)
-merging_under N n (rule_step r f) (rule_step q g) a b =
+pub steps_under : (N : Names) → (n : ℕ) (r q : List ℕ) (f g : Facts Variable) → FactsMadeOf N (Under n) f → FactsMadeOf N (Under n) g → OptionUnder N n (step_pairs r f q g)
+steps_under N n r q f g a b =
     if_under N n (bytes_eq r q) (both_pairs (fact_pairs f.premises g.premises) (both_pairs (action_pairs f.actions g.actions) (fact_pairs f.conclusions g.conclusions)))
     (both_under N n (fact_pairs f.premises g.premises) (both_pairs (action_pairs f.actions g.actions) (fact_pairs f.conclusions g.conclusions)) (fact_under N n f.premises g.premises a.premises b.premises)
     (both_under N n (action_pairs f.actions g.actions) (fact_pairs f.conclusions g.conclusions) (actions_under N n f.actions g.actions a.actions b.actions) (fact_under N n f.conclusions g.conclusions a.conclusions b.conclusions)))
-merging_under N n (sending m) (sending u) a b = ((a, b), tt)
-merging_under N n (learning m way) (learning u other) a b = ((a.0, b.0), tt)
-merging_under N n (rule_step r f) (sending u) a b = tt
-merging_under N n (rule_step r f) (learning u other) a b = tt
-merging_under N n (sending m) (rule_step q g) a b = tt
-merging_under N n (sending m) (learning u other) a b = tt
-merging_under N n (learning m way) (rule_step q g) a b = tt
-merging_under N n (learning m way) (sending u) a b = tt

@@ -5,7 +5,7 @@ use Rattle.sp_spec.specs.Rule.{Facts, fact_at, action_at, facts_at, FactsMadeOf}
 use Rattle.sp_spec.specs.Guarded.{Place, free, bound, Time, free_time, bound_time, Binder, message, time, Atom, acts, same, same_time, before, last, Guarded, truth, falsity, holds, fails, all_of, one_of, some, every, Guardeds, no_more, and_then, pushed}
 use Rattle.sp_spec.specs.Change.{Change, placed, place_changed, time_changed, raised_place, raised, raised_time, under_message, under_time, under, atom_changed, changed, changed_each}
 use Rattle.sp_spec_system.specs.Numbered.{AtFree, AtFreeTime, InAtom, InFormula, InEach, InWay, InHappening, InEvent}
-use Rattle.sp_spec_system.specs.System.{Way, public_name, own_name, constructed, by_chain, Happening, rule_step, sending, learning, happening_facts, Event}
+use Rattle.sp_spec_system.specs.System.{Way, anyhow, public_name, own_name, constructed, chain_begun, chain_done, Happening, rule_step, sending, learning, happening_facts, Event}
 use Rattle.sp_spec.proofs.Lists.{every_map, every_weaken}
 
 -- what holds of each variable of a term after values are put in
@@ -84,10 +84,12 @@ module _ (N : Names) (P P' : Variable → Type 0) (Q Q' : ℕ → Type 0) (h : (
     formulas_weaken (and_then f fs) e = (formula_weaken f e.0, formulas_weaken fs e.1)
 
   way_weaken : (way : Way) → InWay N P Q way → InWay N P' Q' way
+  way_weaken anyhow e = tt
   way_weaken public_name e = tt
   way_weaken own_name e = tt
   way_weaken constructed e = tt
-  way_weaken (by_chain i n ts) e = (k i e.0, every_weaken _ _ (each_weaken N P P' h) ts e.1)
+  way_weaken (chain_begun i n ts) e = (k i e.0, every_weaken _ _ (each_weaken N P P' h) ts e.1)
+  way_weaken (chain_done i n ts) e = (k i e.0, every_weaken _ _ (each_weaken N P P' h) ts e.1)
 
   happening_weaken : (x : Happening) → InHappening N P Q x → InHappening N P' Q' x
   happening_weaken (rule_step r facts) e = facts_weaken N P P' h facts e

@@ -1,13 +1,12 @@
 -- What covering asks of a theory and of its rules.
-use Rattle.std.specs.Prelude.{◌≡◌, ◌<◌, List, length, false}
+use Rattle.std.specs.Prelude.{◌<◌, List, length}
 use Rattle.sp_spec.specs.Lists.{Every, Member}
 use Rattle.sp_spec.specs.Equal.{IsNormal}
-use Rattle.sp_spec.specs.Rule.{Rule, FactsMadeOf, Fact, Action, facts_at, IsNormalFormOf}
+use Rattle.sp_spec.specs.Rule.{Rule, FactsMadeOf, Action, facts_at, IsNormalFormOf}
 use Rattle.sp_spec.specs.Term.{Names, Variable, Values}
 use Rattle.sp_spec.specs.Signature.{AreOver, IsValuation}
 use Rattle.sp_spec.specs.Theory.{Theory, signature_of}
-use Rattle.sp_spec.specs.Log.{is_in}
-use Rattle.sp_law_equal.specs.RightTheory.{HasNormalInstances, TakesFreshNames, BindsConclusions}
+use Rattle.sp_law_equal.specs.RightTheory.{HasNormalInstances, TakesFreshNames, LeavesReserved, BindsActions, BindsConclusions}
 use Rattle.sp_spec_forms.specs.Numbering.{Form}
 use Rattle.sp_spec_forms.specs.Forms.{RuleForms, forms}
 
@@ -35,27 +34,11 @@ ActionsAreOver theory =
     (r : Rule) → Member r theory.rules → (v : Values) → IsValuation (signature_of theory) v
     → Every (λ (a : Action ⊥). AreOver (signature_of theory).symbols a.args) (facts_at v r.facts).actions
 
--- and so are their conclusions, from which the adversary learns
-abbrev pub ConclusionsAreOver : Theory → Type 0
-ConclusionsAreOver theory =
-    (r : Rule) → Member r theory.rules → (v : Values) → IsValuation (signature_of theory) v
-    → Every (λ (f : Fact ⊥). AreOver (signature_of theory).symbols f.args) (facts_at v r.facts).conclusions
-
-pub record InstancesAreOver (theory : Theory) : Type 0 where
-  pub actions : ActionsAreOver theory
-  pub conclusions : ConclusionsAreOver theory
-
--- No premise of a rule is an In, in no conclusion stands a fresh name, and each variable of a conclusion that isn't of sort pub stands in a
--- premise: so what is in a conclusion was in a premise, and no message comes from the adversary. The argument of an Fr is a variable of
--- sort fresh.
-pub record IsClosedRule (r : Rule) : Type 0 where
-  pub inputs : Every (λ (f : Fact Variable). is_in f ≡ false) r.facts.premises
-  pub fresh : TakesFreshNames r
-  pub bound : BindsConclusions r
-
--- What is asked of a theory, so that rows and moves cover: its rules' instances have normal forms, no message of a rule comes from elsewhere, and the
--- actions and conclusions of its rules are over the signature.
+-- What is asked of a theory, so that rows and moves cover: its rules' instances have normal forms over the signature; an Fr is of a variable of sort fresh;
+-- no rule concludes an In, which the adversary sends; and each fresh name that a rule shows or concludes stands in one of its premises.
 pub record SuitsProofs (theory : Theory) : Type 0 where
   pub instances : HasNormalInstances theory
-  pub closed : Every IsClosedRule theory.rules
-  pub over : InstancesAreOver theory
+  pub fresh : Every TakesFreshNames theory.rules
+  pub reserved : Every LeavesReserved theory.rules
+  pub bound : Every BindsConclusions theory.rules
+  pub shown : Every BindsActions theory.rules

@@ -5,14 +5,14 @@ use Rattle.sp_spec.specs.Rule.{Facts}
 use Rattle.sp_spec.specs.Execution.{Step, use_rule, make_fresh, take_out, put_in, know_public, make_own, apply_symbol, State, Trace, IsNamed, IsInstance, Runs, IsExecution}
 use Rattle.sp_spec.specs.Lists.{Every}
 use Rattle.sp_spec.proofs.Lists.{every_weaken}
-use Rattle.sp_spec.specs.Theory.{Theory, Lemma, signature_of}
+use Rattle.sp_spec.specs.Theory.{Theory, signature_of}
 use Rattle.sp_spec.specs.Written.{WrittenRule, WrittenTheory, theory_of}
 use Rattle.sp_spec.specs.Findings.{rule_is_wrong}
 use Rattle.sp_spec.specs.Formula.{Formula}
 use Rattle.sp_spec.specs.Guarded.{Guarded}
 use Rattle.sp_spec.specs.Verdict.{names_learning}
 use Rattle.sp_law_equal.specs.NormalForms.{HasNormalForms}
-use Rattle.sp_law_equal.specs.RightTheory.{LeavesReserved, LeavesAdversaryAlone}
+use Rattle.sp_law_equal.specs.RightTheory.{LeavesReserved}
 use Rattle.sp_law_equal.specs.Right.{KeepPublic}
 use Rattle.sp_law_guard.proofs.Checked.{form_checked}
 use Rattle.sp_law_guard.specs.CheckedForm.{checked_form}
@@ -25,7 +25,7 @@ use Rattle.sp_law_tree.proofs.ClosedRules.{IsRightRule, each_right}
 use Rattle.sp_law_tree.proofs.RightTexts.{text_suits}
 use Rattle.sp_law_tree.proofs.OverLogs.{trees_show_logs_lem}
 
-module _ (t : WrittenTheory) (forms : HasNormalForms (signature_of (theory_of t))) (keeps : KeepPublic (signature_of (theory_of t)).symbols (signature_of (theory_of t)).equations) (rules : Every (IsBasicRule (signature_of (theory_of t))) t.rules) (clean : Every (λ (r : WrittenRule). rule_is_wrong r ≡ false) t.rules) (alone : LeavesAdversaryAlone (theory_of t)) where
+module _ (t : WrittenTheory) (forms : HasNormalForms (signature_of (theory_of t))) (keeps : KeepPublic (signature_of (theory_of t)).symbols (signature_of (theory_of t)).equations) (rules : Every (IsBasicRule (signature_of (theory_of t))) t.rules) (clean : Every (λ (r : WrittenRule). rule_is_wrong r ≡ false) t.rules) where
   -- the theory without its restrictions: trees as they are so far don't look at them
   abbrev free_text : WrittenTheory
   free_text = record { name = t.name; symbols = t.symbols; equations = t.equations; rules = t.rules; restrictions = []; lemmas = t.lemmas }
@@ -67,11 +67,8 @@ module _ (t : WrittenTheory) (forms : HasNormalForms (signature_of (theory_of t)
   execution_free : (steps : List Step) (trace : Trace) → IsExecution (theory_of t) steps trace → IsExecution free steps trace
   execution_free steps trace h = (h.0, runs_free steps h.0 trace h.1)
 
-  alone_free : LeavesAdversaryAlone free
-  alone_free = record { premises = alone.premises; actions = alone.actions }
-
   suits : SuitsProofs free
-  suits = text_suits free_text forms rules clean alone_free
+  suits = text_suits free_text forms rules clean
 
   -- its executions have logs, which show of formulas that don't speak of learning what the executions show
   has_logs : HasLogs free
@@ -88,10 +85,10 @@ of_executions f u g e = let c = form_checked f g e in ((g, c.0, c.1), u)
 
 pub lemmas_are_shown_lem : LemmasAreShown
 lemmas_are_shown_lem = record {
-  all_traces = λ t forms keeps rules clean alone lemma f u g e context is_of names tree accepted finished steps trace execution meets.
-      (logs_show (free t forms keeps rules clean alone) (has_logs t forms keeps rules clean alone) lemma (of_executions lemma.formula u g e)).0
-      (trees_show_logs_lem.all_traces (free t forms keeps rules clean alone) (suits t forms keeps rules clean alone) lemma f g e context (record { rules = is_of.rules; numbered = is_of.numbered }) names tree accepted finished) steps trace (execution_free t forms keeps rules clean alone steps trace execution) tt;
-  exists_trace = λ t forms keeps rules clean alone lemma f u g e context is_of names tree accepted finished steps trace execution meets.
-      (logs_show (free t forms keeps rules clean alone) (has_logs t forms keeps rules clean alone) lemma (of_executions lemma.formula u g e)).1
-      (trees_show_logs_lem.exists_trace (free t forms keeps rules clean alone) (suits t forms keeps rules clean alone) lemma f g e context (record { rules = is_of.rules; numbered = is_of.numbered }) names tree accepted finished) steps trace (execution_free t forms keeps rules clean alone steps trace execution) tt;
+  all_traces = λ t forms keeps rules clean lemma f u g e context is_of names tree accepted finished steps trace execution meets.
+      (logs_show (free t forms keeps rules clean) (has_logs t forms keeps rules clean) lemma (of_executions lemma.formula u g e)).0
+      (trees_show_logs_lem.all_traces (free t forms keeps rules clean) (suits t forms keeps rules clean) lemma f g e context (record { rules = is_of.rules; numbered = is_of.numbered }) names tree accepted finished) steps trace (execution_free t forms keeps rules clean steps trace execution) tt;
+  exists_trace = λ t forms keeps rules clean lemma f u g e context is_of names tree accepted finished steps trace execution meets.
+      (logs_show (free t forms keeps rules clean) (has_logs t forms keeps rules clean) lemma (of_executions lemma.formula u g e)).1
+      (trees_show_logs_lem.exists_trace (free t forms keeps rules clean) (suits t forms keeps rules clean) lemma f g e context (record { rules = is_of.rules; numbered = is_of.numbered }) names tree accepted finished) steps trace (execution_free t forms keeps rules clean steps trace execution) tt;
 }

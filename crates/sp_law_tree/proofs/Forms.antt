@@ -1,5 +1,5 @@
 -- Guarded formulas whose atoms are flat: they are timed, and a log over whose trace one is true solves the system that begins with it.
-use Rattle.std.proofs.Common.{◌≡◌, ◌<◌, ℕ, zero, Bool, true, false, List, [], ◌∷◌, length, codes, refl, arith, bytes_eq}
+use Rattle.std.proofs.Common.{◌≡◌, ◌<◌, ℕ, zero, true, List, length, arith}
 use Rattle.sp_spec.specs.Lists.{Every}
 use Rattle.sp_spec.specs.Term.{Names, Variable}
 use Rattle.sp_spec.specs.Signature.{Signature}

@@ -3,7 +3,7 @@ use Rattle.std.proofs.Common.{◌≡◌, ⊎_elim, Bool, true, false, if◌then�
 use Rattle.std.proofs.lemmas.Bool.{or_cases, or_parts}
 use Rattle.sp_spec.specs.Log.{Log}
 use Rattle.sp_spec_system.specs.System.{System}
-use Rattle.sp_spec_system.specs.Move.{simplify, contradiction, unproved, solved, or, action, premise, Context, Case, end_log}
+use Rattle.sp_spec_system.specs.Move.{simplify, contradiction, unproved, solved, or, action, premise, know, chain, Context, Case, end_log}
 use Rattle.sp_spec_proof.specs.Cases.{simple_case, cases}
 use Rattle.sp_spec_proof.specs.Tree.{Tree, node, Branches, no_branch, branch, IsAccepted, AreAccepted, IsFinished, AreFinished, is_solved, first_log, found_log, found_below}
 use Rattle.sp_spec_proof.specs.Growth.{has_end, some_end}
@@ -64,6 +64,8 @@ module _ (context : Context) where
     log_at_end (node (or k) branches) s a e = log_at_one branches (cases context s (or k)) a e
     log_at_end (node (action k) branches) s a e = log_at_one branches (cases context s (action k)) a e
     log_at_end (node (premise i p) branches) s a e = log_at_one branches (cases context s (premise i p)) a e
+    log_at_end (node (know i) branches) s a e = log_at_one branches (cases context s (know i)) a e
+    log_at_end (node (chain i) branches) s a e = log_at_one branches (cases context s (chain i)) a e
 
     log_at_one : (branches : Branches) (o : Option (List Case)) → AreAccepted context o branches → some_end branches ≡ true → IsThere (found_below context o branches)
     log_at_one no_branch o a e = absurd cc
@@ -86,6 +88,8 @@ module _ (context : Context) where
     no_log (node (or k) branches) s e = no_log_below branches (cases context s (or k)) e
     no_log (node (action k) branches) s e = no_log_below branches (cases context s (action k)) e
     no_log (node (premise i p) branches) s e = no_log_below branches (cases context s (premise i p)) e
+    no_log (node (know i) branches) s e = no_log_below branches (cases context s (know i)) e
+    no_log (node (chain i) branches) s e = no_log_below branches (cases context s (chain i)) e
 
     no_log_below : (branches : Branches) (o : Option (List Case)) → some_end branches ≡ false → found_below context o branches ≡ None
     no_log_below no_branch None e = refl
@@ -107,6 +111,8 @@ mutual
   finished_no_end (node (or k) branches) h = finished_none_end branches h.1
   finished_no_end (node (action k) branches) h = finished_none_end branches h.1
   finished_no_end (node (premise i p) branches) h = finished_none_end branches h.1
+  finished_no_end (node (know i) branches) h = finished_none_end branches h.1
+  finished_no_end (node (chain i) branches) h = finished_none_end branches h.1
 
   finished_none_end : (branches : Branches) → AreFinished branches → some_end branches ≡ false
   finished_none_end no_branch h = refl

@@ -1,22 +1,17 @@
 -- The guarded form of a basic formula has flat atoms.
-use Rattle.std.proofs.Common.{◌≡◌, ℕ, true, [], Some, sym, subst}
+use Rattle.std.proofs.Common.{◌≡◌, true, [], Some, sym, subst}
 use Rattle.sp_spec.specs.Signature.{Signature}
 use Rattle.sp_spec.specs.Formula.{Formula}
-use Rattle.sp_spec.specs.Guarded.{Time, free_time, bound_time, Guarded}
-use Rattle.sp_law_truth.specs.Shown.{IsBound}
-use Rattle.sp_law_guard.specs.Closed.{IsClosedTime}
+use Rattle.sp_spec.specs.Guarded.{Guarded}
 use Rattle.sp_law_guard.specs.GuardedForm.{guarded_form}
 use Rattle.sp_law_guard.specs.IsGuarded.{is_guarded}
+use Rattle.sp_law_guard.proofs.Closed.{closed_time}
 use Rattle.sp_law_guard.proofs.Places.{term_closed, action_made, order_made, equality_made}
 use Rattle.sp_law_guard.proofs.Throughout.{times_bound, OfFormulas, OfAtoms, form_throughout}
 use Rattle.sp_law_decide.proofs.ConstructorForms.{placed_constructor, placed_constructors}
 use Rattle.sp_law_tree.specs.BasicTheory.{IsBasicFormula}
 use Rattle.sp_law_tree.proofs.Flat.{FlatAtom}
 use Rattle.sp_law_tree.proofs.Forms.{IsRight}
-
-closed_time : (n : ℕ) (i : Time) → IsBound n i → IsClosedTime i
-closed_time n (bound_time k) h = tt
-closed_time n (free_time i) h = h
 
 module _ (signature : Signature) where
   -- the formula's parts and atoms

@@ -1,6 +1,5 @@
 -- Basic theories: a term is without fresh names, of variables, public names, and symbols of the signature; in premises and formulas none of these is a
 -- destructor. Source: Tamarin manual, "Property specification" (no reducible symbols in formulas).
-use Rattle.std.specs.Prelude.{List, ℕ}
 use Rattle.sp_spec.specs.Term.{Names, MadeOf, AllMadeOf, Term, Terms}
 use Rattle.sp_spec.specs.Signature.{Signature}
 use Rattle.sp_spec.specs.Formula.{Written, Formula, truth, falsity, happens, equals, precedes, not_so, both, either, implies, for_all, for_some}

@@ -20,7 +20,7 @@ use Rattle.sp_law_equal.specs.Right.{KeepPublic}
 use Rattle.sp_law_guard.specs.GuardedForm.{negate}
 use Rattle.sp_law_guard.specs.CheckedForm.{checked_form}
 use Rattle.sp_spec_proof.specs.Root.{root}
-use Rattle.sp_law_equal.specs.RightTheory.{IsRightTheory, LeavesAdversaryAlone}
+use Rattle.sp_law_equal.specs.RightTheory.{IsRightTheory}
 use Rattle.sp_law_tree.specs.BasicTheory.{HasNames, IsBasicRule, IsBasicFormula}
 
 -- the tree theorem: where a tree is accepted, no leaf is left open and with none the search ends, the system at its root has no solution
@@ -44,22 +44,22 @@ pub record TreesShowLogs : Type 0 where
   pub exists_trace : (theory : Theory) → SuitsProofs theory → (lemma : Lemma) → IsBasicFormula (signature_of theory) lemma.formula → (g : Guarded) → checked_form lemma.formula ≡ Some g
       → (context : Context) → IsContextOf theory context → HasNames (names_in context.public_names) lemma.formula → (tree : Tree) → IsAccepted context (root g) tree → IsFinished tree → HoldsInNoLog theory lemma
 
--- What a text gives whose terms have normal forms, whose equations keep to what is public, and whose rules have no findings and names of their own: its theory is right. What is right of a theory
--- that leaves the adversary alone is all that covering asks of it.
+-- What a text gives whose terms have normal forms, whose equations keep to what is public, and whose rules have no findings and names of their own: its
+-- theory is right. What is right of a theory is all that covering asks of it.
 pub record TextsAreRight : Type 0 where
   pub right : (theory : WrittenTheory) → HasNormalForms (signature_of (theory_of theory)) → KeepPublic (signature_of (theory_of theory)).symbols (signature_of (theory_of theory)).equations → Every (IsBasicRule (signature_of (theory_of theory))) theory.rules → Every (λ (r : WrittenRule). rule_is_wrong r ≡ false) theory.rules
       → Distinct (map (λ (r : WrittenRule). r.name) theory.rules) → IsRightTheory (theory_of theory)
-  pub suits : (theory : Theory) → IsRightTheory theory → LeavesAdversaryAlone theory → SuitsProofs theory
+  pub suits : (theory : Theory) → IsRightTheory theory → SuitsProofs theory
 
--- What a finished tree shows of a lemma that doesn't speak of learning, of a theory that leaves the adversary alone, whose terms have normal
--- forms, whose equations keep to what is public, and without findings on its rules: steps of the adversary are included. From
+-- What a finished tree shows of a lemma that doesn't speak of learning, of a theory whose terms have normal forms, whose equations keep to what is
+-- public, and without findings on its rules: steps of the adversary are included. From
 -- the negation of the lemma's guarded form: every execution satisfies the lemma. From the guarded form: no execution does.
 pub record LemmasAreShown : Type 0 where
   pub all_traces : (theory : WrittenTheory) → HasNormalForms (signature_of (theory_of theory)) → KeepPublic (signature_of (theory_of theory)).symbols (signature_of (theory_of theory)).equations → Every (IsBasicRule (signature_of (theory_of theory))) theory.rules → Every (λ (r : WrittenRule). rule_is_wrong r ≡ false) theory.rules
-      → LeavesAdversaryAlone (theory_of theory) → (lemma : Lemma) → IsBasicFormula (signature_of (theory_of theory)) lemma.formula → names_learning lemma.formula ≡ false → (g : Guarded) → checked_form lemma.formula ≡ Some g
+      → (lemma : Lemma) → IsBasicFormula (signature_of (theory_of theory)) lemma.formula → names_learning lemma.formula ≡ false → (g : Guarded) → checked_form lemma.formula ≡ Some g
       → (context : Context) → IsContextOf (theory_of theory) context → HasNames (names_in context.public_names) lemma.formula → (tree : Tree) → IsAccepted context (root (negate g)) tree → IsFinished tree → HoldsInAll (theory_of theory) lemma
   pub exists_trace : (theory : WrittenTheory) → HasNormalForms (signature_of (theory_of theory)) → KeepPublic (signature_of (theory_of theory)).symbols (signature_of (theory_of theory)).equations → Every (IsBasicRule (signature_of (theory_of theory))) theory.rules → Every (λ (r : WrittenRule). rule_is_wrong r ≡ false) theory.rules
-      → LeavesAdversaryAlone (theory_of theory) → (lemma : Lemma) → IsBasicFormula (signature_of (theory_of theory)) lemma.formula → names_learning lemma.formula ≡ false → (g : Guarded) → checked_form lemma.formula ≡ Some g
+      → (lemma : Lemma) → IsBasicFormula (signature_of (theory_of theory)) lemma.formula → names_learning lemma.formula ≡ false → (g : Guarded) → checked_form lemma.formula ≡ Some g
       → (context : Context) → IsContextOf (theory_of theory) context → HasNames (names_in context.public_names) lemma.formula → (tree : Tree) → IsAccepted context (root g) tree → IsFinished tree → HoldsInNone (theory_of theory) lemma
 
 -- a tree that is grown is accepted, and has at most as many steps as the budget says

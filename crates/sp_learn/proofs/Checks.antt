@@ -1,5 +1,5 @@
 -- What the checking answers is right, and of the same entries there is one answer.
-use Rattle.std.proofs.Common.{◌≡◌, ◌<◌, ⊎_elim, ℕ, List, [], ◌∷◌, ◌++◌, length, Option, Some, None, refl, sym, ap, ◌∙◌, subst, append_assoc}
+use Rattle.std.proofs.Common.{◌≡◌, ◌<◌, ⊎_elim, ℕ, List, [], ◌∷◌, ◌++◌, length, Option, Some, None, refl, sym, ap, ◌∙◌, subst, arith, append_assoc}
 use Rattle.std.specs.Bool.{Decides}
 use Rattle.std.proofs.lemmas.List.{append-nil}
 use Rattle.std.proofs.lemmas.Bool.{cases_order}
@@ -8,13 +8,38 @@ use Rattle.sp_spec.specs.Theory.{Theory, signature_of}
 use Rattle.sp_spec.specs.Log.{Entry, Log, Keeps, IsLog}
 use Rattle.sp_spec.proofs.Lists.{newest_append}
 use Rattle.sp_law_equal.specs.RightTheory.{HasNormalInstances}
-use Rattle.sp_log.proofs.Checks.{split_same, split_longer}
 use Rattle.sp_learn.specs.declared.check.Clause.{Clause}
 use Rattle.sp_learn.specs.declared.check.Checked.{Checked}
 use Rattle.sp_learn.specs.declared.check.Checked.TheVariants.{Fine, Fails}
 use Rattle.sp_learn.specs.Checking.{broken, fails_or, check_behind, check_of, is_fine, is_log}
 use Rattle.sp_learn.specs.Meaning.{clause_of, rank, IsFirstBroken, IsChecked}
 use Rattle.sp_learn.proofs.Clauses.{by_forms, same_rank, Told, entry_told}
+
+-- ---- lists that are split at an entry
+
+split_same : (xs ys : List Entry) (x y : Entry) (bs cs : List Entry) → length xs ≡ length ys → xs ++ x ∷ bs ≡ ys ++ y ∷ cs → (xs ≡ ys) × (x ≡ y)
+split_same [] [] x y bs cs l e = (refl, cc)
+split_same [] (z ∷ ys) x y bs cs l e = absurd (omega (arith, l))
+split_same (z ∷ xs) [] x y bs cs l e = absurd (omega (arith, l))
+split_same (z ∷ xs) (w ∷ ys) x y bs cs l e =
+    let first : z ≡ w = cc in
+    let rest : xs ++ x ∷ bs ≡ ys ++ y ∷ cs = cc in
+    let r = split_same xs ys x y bs cs (omega (arith, l)) rest in
+    let same = r.0 in
+    (cc, r.1)
+
+split_longer : (xs ys : List Entry) (x y : Entry) (bs cs : List Entry) → length xs < length ys → xs ++ x ∷ bs ≡ ys ++ y ∷ cs → (zs : List Entry) × (ys ≡ xs ++ x ∷ zs)
+split_longer [] [] x y bs cs l e = absurd (omega (arith, l))
+split_longer [] (z ∷ ys) x y bs cs l e = let same : z ≡ x = cc in (ys, ap (λ w. w ∷ ys) same)
+split_longer (z ∷ xs) [] x y bs cs l e = absurd (omega (arith, l))
+split_longer (z ∷ xs) (w ∷ ys) x y bs cs l e =
+    let first : w ≡ z = cc in
+    let rest : xs ++ x ∷ bs ≡ ys ++ y ∷ cs = cc in
+    let r = split_longer xs ys x y bs cs (omega (arith, l)) rest in
+    let same = r.1 in
+    (r.0, cc)
+
+-- ---- logs
 
 module _ (theory : Theory) where
   -- the entries before the others of a log are a log
@@ -84,7 +109,7 @@ module _ (theory : Theory) where
     not_later : (n m : ℕ) (clause other : Clause) → (f : IsFirstBroken theory entries n clause) → (g : IsFirstBroken theory entries m other)
         → length f.front < length g.front → ⊥
     not_later n m clause other f g l =
-        let r = split_longer theory f.front g.front f.entry g.entry f.back g.back l (sym f.splits ∙ g.splits) in
+        let r = split_longer f.front g.front f.entry g.entry f.back g.back l (sym f.splits ∙ g.splits) in
         f.breaks (kept_here f.front f.entry r.0 (subst (λ (zs : List Entry). IsLog theory (newest_first zs)) r.1 g.is_log) clause)
 
     not_greater : (n m : ℕ) (clause other : Clause) → (f : IsFirstBroken theory entries n clause) → (g : IsFirstBroken theory entries m other)
@@ -102,7 +127,7 @@ module _ (theory : Theory) where
       where
         same_length : length f.front ≡ length g.front → (n ≡ m) × (clause ≡ other)
         same_length e =
-            let s = split_same theory f.front g.front f.entry g.entry f.back g.back e (sym f.splits ∙ g.splits) in (
+            let s = split_same f.front g.front f.entry g.entry f.back g.back e (sym f.splits ∙ g.splits) in (
               f.counted ∙ e ∙ sym g.counted,
               ⊎_elim (same_rank clause other)
                   (λ u. ⊎_elim

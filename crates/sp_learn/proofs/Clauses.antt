@@ -9,7 +9,7 @@ use Rattle.sp_spec.specs.Rule.{Facts}
 use Rattle.sp_spec.specs.Theory.{Theory, signature_of}
 use Rattle.sp_spec.specs.Destruction.{destructions}
 use Rattle.sp_spec.specs.Log as spec
-use Rattle.sp_spec.specs.Log.{How, public_name, own_name, constructed, by_chain, Entry, step, send, learn, Log, fresh_uses, all_fresh_uses, sources_of, all_sources, IsDestructed, Keeps, IsLog}
+use Rattle.sp_spec.specs.Log.{public_name, own_name, constructed, by_chain, Entry, step, send, learn, Log, fresh_uses, all_fresh_uses, sources_of, all_sources, IsDestructed, Keeps, IsLog}
 use Rattle.sp_spec.proofs.Logs.{log_sources, log_fresh}
 use Rattle.sp_spec.proofs.Same.{same_term_decides}
 use Rattle.sp_spec_forms.specs.Forms.{RuleForms, forms_of}

@@ -3,3 +3,4 @@ pub mod Ways
 pub mod Clauses
 pub mod Checks
 pub mod Used
+pub mod Orders

@@ -11,7 +11,7 @@ use Rattle.sp_spec.specs.Signature.{Signature, HasPublic, HasSort}
 use Rattle.sp_spec.specs.Equal.{IsNormal}
 use Rattle.sp_spec.specs.Rule.{out_of}
 use Rattle.sp_spec.specs.Log.{How, public_name, own_name, constructed, by_chain, Entry, step, send, learn, Log, AreLearnt, IsDestructed, IsChain, IsMadeAlone, MayLearn}
-use Rattle.sp_spec.proofs.Lists.{place_got}
+use Rattle.sp_spec.proofs.Lists.{place_got, place_found}
 use Rattle.sp_spec.proofs.Same.{same_term_decides}
 use Rattle.sp_law_equal.specs.Normal.{normal}
 use Rattle.sp_law_equal.specs.NormalForms.{HaveNormalForms}
@@ -21,7 +21,7 @@ use Rattle.sp_norm.specs.Over.{any_public}
 use Rattle.sp_norm.proofs.Symbols.{any_public_decides}
 use Rattle.sp_learn.specs.Learning.{learnt_in, are_among, is_made, puts_out, leads, is_chain, may_learn, is_made_alone}
 use Rattle.sp_learn.proofs.Learnt.{are_learnt_decides}
-use Rattle.sp_log.proofs.Premises.{place_found, position_there, position_found, is_fact_tells, is_fact_from}
+use Rattle.sp_log.proofs.Premises.{position_there, position_found, is_fact_tells, is_fact_from}
 
 module _ (signature : Signature) (earlier : List Entry) where
   abbrev past : Log

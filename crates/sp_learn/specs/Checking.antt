@@ -6,19 +6,14 @@ use Rattle.sp_spec.specs.Destruction.{destructions}
 use Rattle.sp_spec.specs.Log.{by_chain, Entry, step, send, learn, all_sources, sources_of}
 use Rattle.sp_spec_forms.specs.Forms.{RuleForms}
 use Rattle.sp_link.specs.Links.{is_link}
-use Rattle.sp_log.specs.Checking.{are_in_normal_form, is_instance_of_any, have_sources, same_source, are_new, names_are_new}
+use Rattle.sp_log.specs.Checking.{step_is_instance, have_sources, same_source, are_new, names_are_new}
 use Rattle.sp_learn.specs.declared.check.Clause.{Clause}
 use Rattle.sp_learn.specs.declared.check.Clause.TheVariants.{Instance, Sources, Freshness, SentLearnt, LearntOnce, Way, MadeAlone, ChainIsNew}
 use Rattle.sp_learn.specs.declared.check.Checked.{Checked}
 use Rattle.sp_learn.specs.declared.check.Checked.TheVariants.{Fine, Fails}
 use Rattle.sp_learn.specs.Learning.{learnt_in, is_among, may_learn, is_made_alone, none_among}
 
--- a step is an instance, in normal form, of a rule of its name
-abbrev pub step_is_instance : Signature → List RuleForms → Entry → Bool
-step_is_instance signature rules (step r facts sources) = are_in_normal_form signature.equations facts && is_instance_of_any signature rules r facts
-step_is_instance signature rules e = true
-
--- its premises have their sources, and no linear source is named twice
+-- a step's premises have their sources, and no linear source is named twice
 abbrev pub step_has_sources : Entry → List Entry → Bool
 step_has_sources (step r facts sources) earlier =
     have_sources facts.premises sources earlier && are_new same_source (all_sources earlier) (sources_of (step r facts sources))

@@ -4,7 +4,7 @@ use Rattle.std.specs.Prelude.{◌≡◌, ◌<◌, ℕ, List, ◌∷◌, ◌++◌
 use Rattle.sp_spec.specs.Lists.{newest_first}
 use Rattle.sp_spec.specs.Theory.{Theory}
 use Rattle.sp_spec.specs.Log as spec
-use Rattle.sp_spec.specs.Log.{Entry, Log, Keeps, IsLog}
+use Rattle.sp_spec.specs.Log.{Entry, Keeps, IsLog}
 use Rattle.sp_learn.specs.declared.check.Clause.{Clause}
 use Rattle.sp_learn.specs.declared.check.Clause.TheVariants.{Instance, Sources, Freshness, SentLearnt, LearntOnce, Way, MadeAlone, ChainIsNew}
 use Rattle.sp_learn.specs.declared.check.Checked.{Checked}

@@ -1,6 +1,6 @@
 // The checking of learning logs.
 
-ghost use Rattle.std.specs.Prelude.{◌≡◌, ◌∷◌, [], ◌++◌, IfOk, None, map, take, true};
+ghost use Rattle.std.specs.Prelude.{◌≡◌, ◌∷◌, [], ◌++◌, IfOk, None, map, true};
 ghost use Rattle.sp_spec.specs.Destruction as spec_destruction;
 ghost use Rattle.sp_spec.specs.Log.{fresh_uses, learn};
 ghost use Rattle.sp_spec.specs.Same.{same_term};
@@ -25,7 +25,7 @@ use sp_book::form::RuleForms;
 use sp_destruct::destruction::{Destruction, chains_of};
 use sp_ground::signature::Signature;
 use sp_ground::term::GroundTerm;
-use sp_log::check::{entry_is_instance, names_are_new, sources_are_new};
+use sp_log::check::{names_are_new, sources_are_new, step_is_instance};
 use sp_log::log::{Entry as StepEntry, Source};
 use sp_log::names::is_one_of;
 use sp_term::term::{Sort, copy, has_sort};
@@ -86,7 +86,7 @@ fn broken_step(
         ≡ spec.broken (signature_of signature.now) (map rule_forms_of rules.now.items) (map entry_of earlier.now) (steps.entry_of step.now)) }
     ensures adds { IfOk result (λ o. o ≡ None → IsUsed used.new (map entry_of earlier.now ++ steps.entry_of step.now ∷ [])) }
 {
-    if !entry_is_instance(alloc, signature, rules, step)? {
+    if !step_is_instance(alloc, signature, rules, step)? {
         return Ok(Some(Clause::Instance));
     }
     if !have_sources(earlier, &step.facts.premises, &step.sources) {

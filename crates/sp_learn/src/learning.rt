@@ -13,7 +13,7 @@ ghost use Rattle.sp_link.specs.Links.{is_link};
 ghost use Rattle.sp_learn.specs.Learning as spec;
 ghost use Rattle.sp_learn.specs.View.{entry_of};
 
-use crate::log::Entry;
+use crate::log::{Entry, learnt_in};
 use crate::sources::puts_out;
 use sp_destruct::destruction::Destruction;
 use sp_ground::signature::{Equation, Signature, Symbol};
@@ -22,7 +22,7 @@ use sp_link::search::link;
 use sp_log::names::is_one_of;
 use sp_norm::normal::normal;
 use sp_norm::over::has_public;
-use sp_term::term::{Name, Sort, Term, copy, has_sort, same};
+use sp_term::term::{Name, Sort, Term, has_sort, same};
 use std::alloc::{AllocError, Global};
 
 // Whether each of the terms is one of the messages.
@@ -167,19 +167,6 @@ fn none_among(messages: &Vec<GroundTerm>, chain: &Vec<GroundTerm>) -> bool
         }
     }
     true
-}
-
-// The messages that entries learn.
-fn learnt_in(alloc: Global, entries: &[Entry]) -> Result<Vec<GroundTerm>, AllocError>
-    ensures { IfOk result (λ ms. map ground_of ms.items ≡ spec.learnt_in (map entry_of entries.now)) }
-{
-    let mut learnt = Vec::new(alloc);
-    for entry in entries {
-        if let Entry::Learn(message, _) = entry {
-            learnt.push(copy(message)?)?;
-        }
-    }
-    Ok(learnt)
 }
 
 /// Whether none of the messages was learnt before the entry at the position.

@@ -2,6 +2,7 @@
 
 ghost use Rattle.std.specs.Prelude.{◌≡◌, IfOk, map};
 ghost use Rattle.sp_ground.specs.View.{ground_of};
+ghost use Rattle.sp_learn.specs.Learning as spec;
 ghost use Rattle.sp_learn.specs.View.{entries_of, entry_of, how_of};
 
 use sp_ground::term::GroundTerm;
@@ -45,6 +46,23 @@ pub enum Entry {
 pub struct Log {
     /// the entries, the oldest first
     pub entries: Vec<Entry>,
+}
+
+/// The messages that entries learn.
+///
+/// # Errors
+///
+/// `AllocError` where memory is wanting.
+pub fn learnt_in(alloc: Global, entries: &[Entry]) -> Result<Vec<GroundTerm>, AllocError>
+    ensures { IfOk result (λ ms. map ground_of ms.items ≡ spec.learnt_in (map entry_of entries.now)) }
+{
+    let mut learnt = Vec::new(alloc);
+    for entry in entries {
+        if let Entry::Learn(message, _) = entry {
+            learnt.push(copy(message)?)?;
+        }
+    }
+    Ok(learnt)
 }
 
 /// Messages equal to these.

@@ -10,7 +10,8 @@ use Rattle.sp_law_conv.proofs.Places.{member_place}
 use Rattle.sp_link.specs.Links.{link_by, link, is_link, AllAmong}
 use Rattle.sp_link.specs.Laws.{HasLearnt}
 use Rattle.sp_link.proofs.Searching.{first_found, none_first}
-use Rattle.sp_link.proofs.Leading.{place_member, by_one}
+use Rattle.sp_link.proofs.Leading.{by_one}
+use Rattle.sp_spec.proofs.Lists.{place_member}
 
 -- where there is a link by one of them, a link is found
 link_there : (learnt : List Ground) (t u : Ground) (ds : List Destruction) (d : Destruction) → Member d ds → IsSome (link_by d learnt t u) → is_link ds learnt t u ≡ true

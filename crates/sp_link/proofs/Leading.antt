@@ -1,6 +1,5 @@
 -- Values of which a destruction leads from one message to the next are found by matching pattern, result and side messages one after the other.
-use Rattle.std.proofs.Common.{◌≡◌, ℕ, zero, suc, List, [], ◌∷◌, Option, Some, None, option_and_then, IsSome, ◌↔◌, refl, sym, ap, ◌∙◌, subst, inl, inr}
-use Rattle.sp_spec.specs.Lists.{Member, AtPlace}
+use Rattle.std.proofs.Common.{◌≡◌, ℕ, List, [], ◌∷◌, Option, Some, None, option_and_then, IsSome, ◌↔◌, refl, sym, ap, ◌∙◌, subst}
 use Rattle.sp_spec.specs.Term.{Variable, Term, app, none, more, Ground, Grounds, valued, valued_all}
 use Rattle.sp_spec.specs.Destruction.{Destruction}
 use Rattle.sp_spec.proofs.Options.{some_same, then_some}
@@ -9,13 +8,9 @@ use Rattle.sp_law_equal.specs.Matching.{Bound, value_in, matched, matched_all}
 use Rattle.sp_law_equal.proofs.Matches.{is_match, none_matches}
 use Rattle.sp_link.specs.Links.{sides_from, link_by, AllAmong, AreAt, Leads, LeadsBy, IsNotBefore}
 use Rattle.sp_link.proofs.Searching.{Fits, sides_found, none_fits}
+use Rattle.sp_spec.proofs.Lists.{place_member}
 
 -- ---- terms among messages have places, and terms at places are among them
-
-pub place_member : {A : Type 0} (xs : List A) (k : ℕ) (x : A) → AtPlace xs k x → Member x xs
-place_member [] k x a = absurd a
-place_member (y ∷ xs) zero x a = inl a
-place_member (y ∷ xs) (suc k) x a = inr (place_member xs k x a)
 
 pub at_among : (learnt : List Ground) (places : List ℕ) (ts : Grounds) → AreAt learnt places ts → AllAmong learnt ts
 at_among learnt [] none a = tt

@@ -6,9 +6,9 @@ use Rattle.std.specs.Option.{option_or}
 use Rattle.sp_spec.specs.Lists.{AtPlace}
 use Rattle.sp_spec.specs.Term.{Variable, Term, Terms, none, more, Ground, Grounds}
 use Rattle.sp_spec.proofs.Options.{mapped, then_some}
-use Rattle.sp_law_conv.proofs.Places.{place_one}
 use Rattle.sp_law_equal.specs.Matching.{Bound, matched, matched_all}
 use Rattle.sp_link.specs.Links.{first_from, sides_from, AreAt, IsNotBefore}
+use Rattle.sp_spec.proofs.Lists.{place_one}
 
 -- the search goes on with what stands at this place, and with nothing before it
 pub record FirstFound {A B : Type 0} (go_on : A → Option B) (place : ℕ) (xs : List A) (r : ℕ × B) : Type 0 where

@@ -3,7 +3,5 @@ pub mod Normal
 pub mod Instances
 pub mod Premises
 pub mod New
-pub mod Checks
 pub mod Uneven
-pub mod More
 pub mod Orders

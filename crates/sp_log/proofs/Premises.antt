@@ -2,20 +2,15 @@
 use Rattle.std.proofs.Common.{◌≡◌, ℕ, zero, suc, true, not, List, [], ◌∷◌, ◌++◌, length, slice_get, Option, Some, None, inl, inr, refl, sym, ap, ◌∙◌, subst, arith}
 use Rattle.std.specs.Bool.{Decides}
 use Rattle.std.proofs.lemmas.Bool.{and_parts, and_from, eqb-true, eq-eqb, not-true, not_from_false}
-use Rattle.sp_spec.specs.Lists.{AtPlace, AtPosition, newest_first}
+use Rattle.sp_spec.specs.Lists.{AtPosition, newest_first}
 use Rattle.sp_spec.specs.Rule.{Fact, in_of}
 use Rattle.sp_spec.specs.Log.{Source, fresh_rule, conclusion, Entry, step, send, learn, Log, is_fr, Concludes, HasSources}
 use Rattle.sp_law_run.specs.Taken.{same_fact}
 use Rattle.sp_law_run.proofs.Counted.{same_fact_tells}
 use Rattle.sp_log.specs.Checking.{is_fact, concludes, has_source, have_sources, same_source}
-use Rattle.sp_spec.proofs.Lists.{place_got}
+use Rattle.sp_spec.proofs.Lists.{place_got, place_found}
 
 -- ---- places and positions
-
-pub place_found : {A : Type 0} (xs : List A) (k : ℕ) (x : A) → AtPlace xs k x → slice_get xs k ≡ Some x
-place_found [] k x a = absurd a
-place_found (y ∷ ys) zero x a = ap Some a
-place_found (y ∷ ys) (suc k) x a = place_found ys k x a
 
 length_one_more : {A : Type 0} (xs : List A) (x : A) → length (xs ++ x ∷ []) ≡ suc (length xs)
 length_one_more [] x = refl

@@ -1,14 +1,14 @@
--- How a log of steps is checked: of each entry a test for each clause of the definition, over the entries before it. Lists of entries have the oldest
--- first here. Source of what is checked: CSF 2012, "Dependency graphs" (each node is an instance of a rule, each premise has one source, a linear fact
+-- The tests of a log that are about steps: whether an entry is an instance, where its premises come from, and whether what it uses is new. Lists of entries
+-- have the oldest first here. Source of what is checked: CSF 2012, "Dependency graphs" (each node is an instance of a rule, each premise has one source, a linear fact
 -- is taken once, and a fresh name is made once).
-use Rattle.std.specs.Prelude.{ℕ, zero, Bool, true, false, not, ◌&&◌, ◌||◌, ◌==◌, if◌then◌else◌, List, [], ◌∷◌, ◌++◌, length, slice_get, Option, Some, None}
+use Rattle.std.specs.Prelude.{ℕ, zero, Bool, true, false, not, ◌&&◌, ◌||◌, ◌==◌, List, [], ◌∷◌, ◌++◌, slice_get, Option, Some, None}
 use Rattle.std.specs.Str.{bytes_eq}
 use Rattle.std.specs.List.{list_all, list_any}
 use Rattle.sp_spec.specs.Term.{Variable, Grounds}
 use Rattle.sp_spec.specs.Same.{same_term, same_terms}
 use Rattle.sp_spec.specs.Signature.{Equation, Signature}
 use Rattle.sp_spec.specs.Rule.{Fact, Action, Facts, in_of}
-use Rattle.sp_spec.specs.Log.{Source, fresh_rule, conclusion, Entry, step, send, learn, is_fr, fresh_uses, all_fresh_uses, sources_of, all_sources}
+use Rattle.sp_spec.specs.Log.{Source, fresh_rule, conclusion, Entry, step, send, learn, is_fr, fresh_uses, all_fresh_uses}
 use Rattle.sp_spec_forms.specs.Numbering.{Form}
 use Rattle.sp_spec_forms.specs.Reducible.{args_of}
 use Rattle.sp_spec_forms.specs.Forms.{RuleForms}
@@ -17,10 +17,6 @@ use Rattle.sp_law_equal.specs.Normal.{normal_all}
 use Rattle.sp_law_run.specs.Taken.{same_choice, same_fact}
 use Rattle.sp_law_found.specs.Found.{matched_instance}
 use Rattle.sp_norm.specs.Over.{over}
-use Rattle.sp_log.specs.declared.check.Clause.{Clause}
-use Rattle.sp_log.specs.declared.check.Clause.TheVariants.{Instance, Sources, Freshness}
-use Rattle.sp_log.specs.declared.check.Checked.{Checked}
-use Rattle.sp_log.specs.declared.check.Checked.TheVariants.{Fine, Fails}
 
 -- each term is its own normal form
 abbrev pub stay : List Equation → Grounds → Bool
@@ -66,10 +62,10 @@ is_instance_of_any signature [] r facts = false
 is_instance_of_any signature (rule ∷ rules) r facts =
     (bytes_eq rule.name r && list_any (λ (form : Form). is_instance signature form facts) rule.forms) || is_instance_of_any signature rules r facts
 
-abbrev pub entry_is_instance : Signature → List RuleForms → Entry → Bool
-entry_is_instance signature rules (step r facts sources) = are_in_normal_form signature.equations facts && is_instance_of_any signature rules r facts
-entry_is_instance signature rules (send m) = false
-entry_is_instance signature rules (learn m how) = false
+-- a step is an instance, in normal form, of a rule of its name
+abbrev pub step_is_instance : Signature → List RuleForms → Entry → Bool
+step_is_instance signature rules (step r facts sources) = are_in_normal_form signature.equations facts && is_instance_of_any signature rules r facts
+step_is_instance signature rules e = true
 
 abbrev pub is_fact : Option (Fact ⊥) → Fact ⊥ → Bool
 is_fact None f = false
@@ -107,44 +103,6 @@ abbrev pub are_new : {A : Type 0} → (A → A → Bool) → List A → List A �
 are_new same before [] = true
 are_new same before (x ∷ xs) = not (is_one_of same before x) && are_new same (before ++ x ∷ []) xs
 
-abbrev pub premises_have_sources : Entry → List Entry → Bool
-premises_have_sources (step r facts sources) earlier = have_sources facts.premises sources earlier
-premises_have_sources (send m) earlier = false
-premises_have_sources (learn m how) earlier = false
-
--- each premise has its source, and no linear source is named twice
-abbrev pub sources_are_right : Entry → List Entry → Bool
-sources_are_right e earlier = premises_have_sources e earlier && are_new same_source (all_sources earlier) (sources_of e)
-
 -- no fresh name is used twice
 abbrev pub names_are_new : Entry → List Entry → Bool
 names_are_new e earlier = are_new same_term (all_fresh_uses earlier) (fresh_uses e)
-
--- the least clause that the entry breaks
-abbrev pub broken : Signature → List RuleForms → List Entry → Entry → Option Clause
-broken signature rules earlier e =
-    if entry_is_instance signature rules e
-    then (if sources_are_right e earlier then (if names_are_new e earlier then None else Some Freshness) else Some Sources)
-    else Some Instance
-
--- what is answered of an entry that breaks this, or else of the later ones
-abbrev pub fails_or : ℕ → Option Clause → Checked → Checked
-fails_or n None later = later
-fails_or n (Some clause) later = Fails n clause
-
--- the first entry that breaks a clause, behind these
-abbrev pub check_behind : Signature → List RuleForms → List Entry → List Entry → Checked
-check_behind signature rules earlier [] = Fine
-check_behind signature rules earlier (e ∷ later) =
-    fails_or (length earlier) (broken signature rules earlier e) (check_behind signature rules (earlier ++ e ∷ []) later)
-
-abbrev pub check_of : Signature → List RuleForms → List Entry → Checked
-check_of signature rules entries = check_behind signature rules [] entries
-
-abbrev pub is_fine : Checked → Bool
-is_fine Fine = true
-is_fine (Fails n clause) = false
-
--- the entries, the oldest first, are a log of steps
-abbrev pub is_log : Signature → List RuleForms → List Entry → Bool
-is_log signature rules entries = is_fine (check_of signature rules entries)

@@ -1,4 +1,2 @@
 pub mod View
 pub mod Checking
-pub mod Meaning
-pub mod Laws

@@ -1,4 +1,4 @@
-// The execution that a log of steps stands for.
+// The steps that an entry of a log stands for.
 
 ghost use Rattle.std.specs.Prelude.{◌≡◌, ◌++◌, [], IfOk, OnOk, map, option_map, unwrap_or};
 ghost use Rattle.sp_spec.specs.Execution.{make_fresh};
@@ -14,10 +14,10 @@ ghost use Rattle.sp_spec.specs.Lists.{newest_first};
 ghost use Rattle.sp_norm.specs.Bounds.{bounds};
 ghost use Rattle.sp_fact.specs.View.{declared_of};
 ghost use Rattle.sp_book.specs.View.{form_of, rule_forms_of};
-ghost use Rattle.sp_log.specs.View.{entry_of, log_of};
+ghost use Rattle.sp_log.specs.View.{entry_of};
 
 use crate::instance::matched_values;
-use crate::log::{Entry, Log};
+use crate::log::Entry;
 use crate::names::fresh_names;
 use sp_book::form::{Form, RuleForms};
 use sp_fact::rule::Declared;
@@ -199,8 +199,12 @@ fn make_names(
     Ok(())
 }
 
-// Adds the steps of the entry, which are the same whatever stands before it.
-fn add_steps(
+/// Adds the steps of the entry, which are the same whatever stands before it.
+///
+/// # Errors
+///
+/// `AllocError` where memory is wanting.
+pub fn add_steps(
     alloc: Global,
     equations: &Vec<Equation>,
     rules: &Vec<RuleForms>,
@@ -215,26 +219,4 @@ fn add_steps(
     let given = given_by(alloc, equations, rules, &entry.rule, &entry.facts)?;
     steps.push(Step::UseRule(name, given))?;
     Ok(())
-}
-
-/// The steps that the log stands for, the oldest first: of each entry, its fresh names are made, and then its rule is used, at the values that the
-/// first form gives of which the entry is an instance.
-///
-/// # Errors
-///
-/// `AllocError` where memory is wanting.
-pub fn execution(
-    alloc: Global,
-    equations: &Vec<Equation>,
-    rules: &Vec<RuleForms>,
-    log: &Log,
-) -> Result<Vec<Step>, AllocError>
-    ensures { IfOk result (λ ss. newest_first (map step_of ss.items)
-        ≡ found.execution_by (map equation_of equations.now.items) (map rule_forms_of rules.now.items) (log_of log.now)) }
-{
-    let mut steps = Vec::new(alloc);
-    for entry in &log.entries {
-        add_steps(alloc, equations, rules, entry, &mut steps)?;
-    }
-    Ok(steps)
 }

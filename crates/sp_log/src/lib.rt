@@ -1,9 +1,9 @@
-// Learning logs whose entries are steps of rules, in memory.
-// Below stand their definition (sp_spec), the laws of the forms of rules (sp_law_forms), the law that such a log stands for an execution
-// (sp_law_found), ground facts (sp_ground), normal forms (sp_norm), and the forms of rules in memory (sp_book); above stands the search for logs
-// that solve a system.
-// Carried here: a log is checked exactly as it is defined, with the first entry and the least clause that fail, and it gives its execution
-// and its traces.
+// Steps of rules in logs, in memory: their tests, and what they stand for.
+// Below stand the definition of logs (sp_spec), the laws of the forms of rules (sp_law_forms), the steps that an entry stands for (sp_law_found), ground
+// facts (sp_ground), normal forms (sp_norm), and the forms of rules in memory (sp_book); above stand learning logs, whose steps are these (sp_learn), and
+// what writes their executions (sp_transfer).
+// Carried here: a test for each clause of the definition that is about steps, exact, and the steps of an execution that an entry stands for. It carries no
+// promise on whole logs: that is sp_learn's.
 #![tactic(auto)]
 
 pub mod check;
@@ -14,4 +14,3 @@ pub mod log;
 pub mod names;
 mod normal_form;
 pub mod sources;
-pub mod trace;

@@ -1,7 +1,7 @@
-// Logs of steps.
+// Steps of logs.
 
 ghost use Rattle.std.specs.Prelude.{◌≡◌, IfOk, map};
-ghost use Rattle.sp_log.specs.View.{entries_of, entry_of, source_of};
+ghost use Rattle.sp_log.specs.View.{entry_of, source_of};
 
 use crate::copying::copy_of;
 use sp_ground::fact::GroundFacts;
@@ -26,13 +26,6 @@ pub struct Entry {
     pub facts: GroundFacts,
     /// the sources of its premises, in their order
     pub sources: Vec<Source>,
-}
-
-/// What rules did, one after the other.
-#[derive(Debug, Drop)]
-pub struct Log {
-    /// the entries, the oldest first
-    pub entries: Vec<Entry>,
 }
 
 fn copy_sources(alloc: Global, sources: &Vec<Source>) -> Result<Vec<Source>, AllocError>
@@ -62,22 +55,5 @@ impl Entry {
             facts,
             sources,
         })
-    }
-}
-
-impl Log {
-    /// An equal log.
-    ///
-    /// # Errors
-    ///
-    /// `AllocError` where memory is wanting.
-    pub fn copy(&self, alloc: Global) -> Result<Log, AllocError>
-        ensures { IfOk result (λ r. entries_of r ≡ entries_of self.now) }
-    {
-        let mut entries = Vec::with_capacity(alloc, self.entries.len())?;
-        for entry in &self.entries {
-            entries.push(entry.copy(alloc)?)?;
-        }
-        Ok(Log { entries })
     }
 }

@@ -1,6 +1,6 @@
-// The sources of premises: whether they are there, and new.
+// The sources of premises: whether an entry gives them, and whether they are new.
 
-ghost use Rattle.std.specs.Prelude.{◌≡◌, ◌++◌, IfOk, Some, map, take, true};
+ghost use Rattle.std.specs.Prelude.{◌≡◌, ◌++◌, IfOk, Some, map, true};
 ghost use Rattle.sp_spec.specs.Log as log;
 ghost use Rattle.sp_law_run.specs.Taken.{same_fact};
 ghost use Rattle.sp_ground.specs.View.{ground_fact};
@@ -33,45 +33,6 @@ pub fn concludes(entry: &Entry, place: usize, fact: &GroundFact) -> bool
         Some(conclusion) => is_same(conclusion, fact),
         None => false,
     }
-}
-
-// Whether the premise has the source in the first entries, as many as the number says.
-fn has_source(entries: &Vec<Entry>, number: usize, premise: &GroundFact, source: &Source) -> bool
-    ensures { result ≡ spec.has_source (ground_fact premise.now) (source_of source.now) (map entry_of (take number entries.now.items)) }
-{
-    match source {
-        Source::FreshRule => is_fresh(premise),
-        Source::Conclusion(position, place) => {
-            if is_fresh(premise) || *position >= number {
-                return false;
-            }
-            match entries.get(*position) {
-                Some(entry) => concludes(entry, *place, premise),
-                None => false,
-            }
-        }
-    }
-}
-
-/// Whether each premise has its source in the first entries, as many as the number says.
-pub fn have_sources(
-    entries: &Vec<Entry>,
-    number: usize,
-    premises: &Vec<GroundFact>,
-    sources: &Vec<Source>,
-) -> bool
-    ensures { result
-        ≡ spec.have_sources (map ground_fact premises.now.items) (map source_of sources.now.items) (map entry_of (take number entries.now.items)) }
-{
-    if premises.len() != sources.len() {
-        return false;
-    }
-    for (premise, source) in premises.iter().zip(sources) {
-        if !has_source(entries, number, premise, source) {
-            return false;
-        }
-    }
-    true
 }
 
 /// The sources of the linear premises.

@@ -1,5 +1,5 @@
 -- The move that looks for an action's event, by the action that it looks for.
-use Rattle.std.proofs.Common.{◌≡◌, ℕ, Bool, true, false, List, Option, Some, None, option_map, refl}
+use Rattle.std.proofs.Common.{◌≡◌, ℕ, List, Option, Some, None, option_map, refl}
 use Rattle.sp_spec.specs.Term.{Variable}
 use Rattle.sp_spec.specs.Rule.{Action}
 use Rattle.sp_spec.specs.Guarded.{Guarded, truth, falsity, holds, fails, all_of, one_of, some, every, acts, same, same_time, before, last, free_time, bound_time}
@@ -7,9 +7,8 @@ use Rattle.sp_spec_system.specs.System.{System}
 use Rattle.sp_spec_system.specs.Formulas.{freed_action}
 use Rattle.sp_spec_system.specs.MakingOne.{event_at}
 use Rattle.sp_spec_system.specs.Move.{Case}
-use Rattle.sp_spec_formula.specs.Action.{is_adversary, action_at_time, action_cases, solving_action}
+use Rattle.sp_spec_formula.specs.Action.{action_at_time, action_cases, solving_action}
 use Rattle.sp_moves_formula.specs.Sought.{timed, sought}
-use Rattle.std.specs.Prelude.{if◌then◌else◌}
 use Rattle.sp_spec_forms.specs.Forms.{RuleForms}
 
 -- the cases of what is looked for
@@ -20,15 +19,10 @@ by_time : (rules : List RuleForms) (s : System) (i : ℕ) (o : Option (Action Va
 by_time rules s i None = refl
 by_time rules s i (Some a) = refl
 
-by_name : (rules : List RuleForms) (s : System) (i : ℕ) (b : Bool) (o : Option (Action Variable))
-    → (let r : Option (List Case) = if b then None else action_at_time rules s i o in r) ≡ option_map (sought_cases rules s) (if b then None else option_map (timed i) o)
-by_name rules s i true o = refl
-by_name rules s i false o = by_time rules s i o
-
 pub solves : (rules : List RuleForms) (s : System) (f : Guarded) → solving_action rules s (Some f) ≡ option_map (sought_cases rules s) (sought f)
 solves rules s truth = refl
 solves rules s falsity = refl
-solves rules s (holds (acts a (free_time i))) = by_name rules s i (is_adversary a.symbol) (freed_action a)
+solves rules s (holds (acts a (free_time i))) = by_time rules s i (freed_action a)
 solves rules s (holds (acts a (bound_time k))) = refl
 solves rules s (holds (same t u)) = refl
 solves rules s (holds (same_time i j)) = refl

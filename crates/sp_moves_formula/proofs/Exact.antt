@@ -1,28 +1,25 @@
 -- A move that takes up a formula has cases exactly where no clause of its condition fails.
-use Rattle.std.proofs.Common.{◌≡◌, ℕ, Bool, true, false, if◌then◌else◌, List, Option, Some, None, option_map, option_and_then, is_none, is_some, slice_get, refl, sym, ap, ◌∙◌}
+use Rattle.std.proofs.Common.{◌≡◌, ℕ, true, false, List, Option, Some, None, option_map, option_and_then, is_none, is_some, slice_get, refl, sym, ap, ◌∙◌}
 use Rattle.sp_spec.specs.Term.{Variable}
 use Rattle.sp_spec.specs.Rule.{Action}
 use Rattle.sp_spec.specs.Guarded.{Guarded, truth, falsity, holds, fails, all_of, one_of, some, every, acts, same, same_time, before, last, free_time, bound_time}
 use Rattle.sp_spec_system.specs.System.{System}
 use Rattle.sp_spec_system.specs.Formulas.{freed_action}
-use Rattle.sp_spec_system.specs.Move.{Move, simplify, contradiction, unproved, solved, or, action, premise, Case}
-use Rattle.sp_spec_formula.specs.Action.{is_adversary, action_at_time, solving_action}
-use Rattle.sp_moves_formula.specs.WhyNot.{Clause, condition, why_no_disjunction, why_not_freed, why_no_action, why_not_formula, formula_cases, HasCases}
+use Rattle.sp_spec_system.specs.Move.{Move, simplify, contradiction, unproved, solved, or, action, premise, know, chain, Case}
+use Rattle.sp_spec_formula.specs.Action.{action_at_time, solving_action}
+use Rattle.sp_moves_formula.specs.WhyNot.{Clause, why_no_disjunction, why_not_freed, why_no_action, why_not_formula, formula_cases, HasCases}
 use Rattle.sp_moves_formula.specs.Parts.{disjuncts, by_parts}
 use Rattle.sp_moves_formula.proofs.Parts.{parts_at}
 use Rattle.sp_spec_forms.specs.Forms.{RuleForms}
 
-by_freed : (rules : List RuleForms) (s : System) (i : ℕ) (symbol : List ℕ) (o : Option (Action Variable)) (b : Bool) → is_adversary symbol ≡ b
-    → is_none (why_not_freed symbol o) ≡ is_some (let r : Option (List Case) = if b then None else action_at_time rules s i o in r)
-by_freed rules s i symbol None true e = refl
-by_freed rules s i symbol None false e = refl
-by_freed rules s i symbol (Some a) true e = ap (λ (b : Bool). is_none (let r : Option Clause = if b then Some condition else None in r)) e
-by_freed rules s i symbol (Some a) false e = ap (λ (b : Bool). is_none (let r : Option Clause = if b then Some condition else None in r)) e
+by_freed : (rules : List RuleForms) (s : System) (i : ℕ) (o : Option (Action Variable)) → is_none (why_not_freed o) ≡ is_some (action_at_time rules s i o)
+by_freed rules s i None = refl
+by_freed rules s i (Some a) = refl
 
 by_formula : (rules : List RuleForms) (s : System) (f : Guarded) → is_none (why_no_action (Some f)) ≡ is_some (solving_action rules s (Some f))
 by_formula rules s truth = refl
 by_formula rules s falsity = refl
-by_formula rules s (holds (acts a (free_time i))) = by_freed rules s i a.symbol (freed_action a) (is_adversary a.symbol) refl
+by_formula rules s (holds (acts a (free_time i))) = by_freed rules s i (freed_action a)
 by_formula rules s (holds (acts a (bound_time k))) = refl
 by_formula rules s (holds (same t u)) = refl
 by_formula rules s (holds (same_time i j)) = refl
@@ -57,6 +54,8 @@ exactly rules s solved = record { exact = refl }
 exactly rules s (or k) = record { exact = by_disjunction s k (slice_get s.formulas k) ∙ ap is_some (sym (parts_at s k)) }
 exactly rules s (action k) = record { exact = by_place rules s (slice_get s.formulas k) }
 exactly rules s (premise i p) = record { exact = refl }
+exactly rules s (know i) = record { exact = refl }
+exactly rules s (chain i) = record { exact = refl }
 
 differ : true ≡ false → ⊥
 differ e = absurd cc

@@ -1,3 +1,4 @@
+pub mod ByMessage
 pub mod ByAction
 pub mod PassedOver
 pub mod Listed

@@ -1,12 +1,12 @@
 -- Why a move is no instance, and the cases of the moves that take up a formula.
-use Rattle.std.specs.Prelude.{◌≡◌, ℕ, if◌then◌else◌, List, Option, Some, None, is_none, is_some, slice_get}
+use Rattle.std.specs.Prelude.{◌≡◌, List, Option, Some, None, is_none, is_some, slice_get}
 use Rattle.sp_spec.specs.Term.{Variable}
 use Rattle.sp_spec.specs.Rule.{Action}
 use Rattle.sp_spec.specs.Guarded.{Guarded, holds, acts, one_of, free_time}
 use Rattle.sp_spec_system.specs.System.{System}
 use Rattle.sp_spec_system.specs.Formulas.{freed_action}
 use Rattle.sp_spec_system.specs.Move.{Move, or, action, Case}
-use Rattle.sp_spec_formula.specs.Action.{is_adversary, solving_action}
+use Rattle.sp_spec_formula.specs.Action.{solving_action}
 use Rattle.sp_spec_formula.specs.Or.{disjunction_at, or_cases}
 use Rattle.sp_spec_forms.specs.Forms.{RuleForms}
 
@@ -26,15 +26,14 @@ why_no_disjunction None = Some absent
 why_no_disjunction (Some (one_of fs)) = None
 why_no_disjunction (Some f) = Some other_kind
 
--- the adversary's actions are of the kind, and no instance
-abbrev pub why_not_freed : List ℕ → Option (Action Variable) → Option Clause
-why_not_freed symbol None = Some other_kind
-why_not_freed symbol (Some a) = if is_adversary symbol then Some condition else None
+abbrev pub why_not_freed : Option (Action Variable) → Option Clause
+why_not_freed None = Some other_kind
+why_not_freed (Some a) = None
 
 -- the move asks for an action at a time of the system, over terms of the system
 abbrev pub why_no_action : Option Guarded → Option Clause
 why_no_action None = Some absent
-why_no_action (Some (holds (acts a (free_time i)))) = why_not_freed a.symbol (freed_action a)
+why_no_action (Some (holds (acts a (free_time i)))) = why_not_freed (freed_action a)
 why_no_action (Some f) = Some other_kind
 
 abbrev pub why_not_formula : System → Move → Option Clause

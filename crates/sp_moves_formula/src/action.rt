@@ -2,7 +2,6 @@
 
 ghost use Rattle.std.specs.Prelude.{◌≡◌, List, Some, is_some, IfOk, option_map};
 ghost use Rattle.sp_spec.specs.Rule as spec_rule;
-ghost use Rattle.sp_term.specs.View.{name_of};
 ghost use Rattle.sp_spec_system.specs.System as spec_system;
 ghost use Rattle.sp_fact.specs.View.{action_of};
 ghost use Rattle.sp_formula.specs.FormulaView.{formula_of};
@@ -13,15 +12,7 @@ ghost use Rattle.sp_spec_forms.specs.Forms.{RuleForms};
 use sp_fact::fact::Action;
 use sp_formula::formula::{Atom, Formula, Moment};
 use sp_system::freed::freed_action;
-use sp_term::term::Name;
 use std::alloc::{AllocError, Global};
-
-/// Whether an action of this name is the adversary's.
-pub fn is_adversary(symbol: &Name) -> bool
-    ensures { result ≡ spec.is_adversary (name_of symbol.now) }
-{
-    symbol.text.as_str() == "K" || symbol.text.as_str() == "KU"
-}
 
 /// The action whose event the formula lets look for, with its time.
 ///
@@ -33,9 +24,6 @@ pub fn sought(alloc: Global, formula: &Formula) -> Result<Option<(u128, Action)>
 {
     match formula {
         Formula::Holds(Atom::Acts(action, Moment::Free(time))) => {
-            if is_adversary(&action.symbol) {
-                return Ok(None);
-            }
             let Some(freed) = freed_action(alloc, action)? else {
                 return Ok(None);
             };

@@ -8,7 +8,6 @@ ghost use Rattle.sp_book.specs.BookView.{book_of};
 ghost use Rattle.sp_moves_formula.specs.WhyNot.{HasCases, why_no_disjunction, why_no_action, why_not_formula, formula_cases};
 ghost use Rattle.sp_moves_formula.specs.Applied.{clause_of, cases_of, failing};
 
-use crate::action::is_adversary;
 use crate::moves::{Case, Move};
 use crate::part::or_cases;
 use crate::solving::solving_action;
@@ -56,9 +55,6 @@ fn why_no_action(alloc: Global, formula: &Formula) -> Result<Option<Clause>, All
         Formula::Holds(Atom::Acts(action, Moment::Free(_))) => {
             if freed_action(alloc, action)?.is_none() {
                 return Ok(Some(Clause::OtherKind));
-            }
-            if is_adversary(&action.symbol) {
-                return Ok(Some(Clause::Condition));
             }
             Ok(None)
         }

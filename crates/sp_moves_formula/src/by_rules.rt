@@ -18,7 +18,8 @@ use crate::where_same::by_actions;
 use sp_book::book::RuleBook;
 use sp_book::form::{Form, RuleForms};
 use sp_fact::fact::Action;
-use sp_system::system::{Event, System, What};
+use sp_system::event::Event;
+use sp_system::system::System;
 use sp_term::term::Name;
 use std::alloc::{AllocError, Global};
 
@@ -40,9 +41,9 @@ pub fn with_step(
         return Err(AllocError);
     };
     let facts = renamed(alloc, system.next, &form.facts)?;
-    let what = What::Rule(name.copy()?);
+    let event = Event::step(time, name.copy()?, facts);
     let mut made = system.copy(alloc)?;
-    made.events.push(Event { time, what, facts })?;
+    made.events.push(event)?;
     made.next = next;
     Ok(made)
 }

@@ -19,6 +19,10 @@ pub enum Move {
     Action(usize),
     /// the source of this premise is looked for
     Premise(Premise),
+    /// how the message is learnt that is learnt at this time
+    Know(u128),
+    /// how the chain goes on that leads to the message learnt at this time
+    Chain(u128),
 }
 
 /// A premise, by the time of its event and its place there, from 0.

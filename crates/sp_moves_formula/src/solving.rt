@@ -1,4 +1,4 @@
-// The cases of an action: at its event, or at a new step of some rule.
+// The cases of an action: at its event, or at a new step of some rule, or at a new event at which the adversary does it.
 
 ghost use Rattle.std.specs.Prelude.{◌≡◌, Some, IfOk, map, option_map, slice_get};
 ghost use Rattle.sp_fact.specs.View.{action_of};
@@ -11,6 +11,7 @@ ghost use Rattle.sp_moves_formula.specs.View.{case_of};
 
 use crate::action::sought;
 use crate::at_event::at_event;
+use crate::by_adversary::by_adversary;
 use crate::by_rules::by_each;
 use crate::moves::Case;
 use sp_book::book::RuleBook;
@@ -31,8 +32,13 @@ fn action_cases(
         (rows.event_at time (system_of system.now).events)) }
 {
     match event_at(time, &system.events) {
-        Some(event) => at_event(alloc, system, action, &event.facts.actions),
-        None => by_each(alloc, rules, system, time, action),
+        Some(event) => at_event(alloc, system, action, event.actions()),
+        None => {
+            let mut made = by_each(alloc, rules, system, time, action)?;
+            let mut done = by_adversary(alloc, system, time, action)?;
+            made.append(&mut done)?;
+            Ok(made)
+        }
     }
 }
 

@@ -7,7 +7,7 @@ use Rattle.sp_spec.specs.Guarded.{Guarded}
 use Rattle.sp_formula.specs.FormulaView.{guardeds_of}
 use Rattle.sp_spec_system.specs.System.{happening_premises, Event, System}
 use Rattle.sp_spec_system.specs.MakingOne.{event_at}
-use Rattle.sp_spec_system.specs.Move.{Move, simplify, contradiction, unproved, solved, or, action, premise}
+use Rattle.sp_spec_system.specs.Move.{Move, simplify, contradiction, unproved, solved, or, action, premise, know, chain}
 use Rattle.sp_spec_graph.specs.Premise.{is_linked, of_a_step, open_premise, premise_cases}
 use Rattle.sp_moves_formula.specs.WhyNot.{Clause, absent, condition, HasCases}
 use Rattle.sp_moves_graph.specs.Times.{formula_has, one_has, formulas_have, events_have, has_time}
@@ -15,7 +15,7 @@ use Rattle.sp_moves_graph.specs.WhyNot.{why_not_open, why_not_of, why_not_graph,
 use Rattle.sp_spec_forms.specs.Forms.{RuleForms}
 
 -- an event's time is in the system
-no_event : (i : ℕ) (es : List Event) → events_have i es ≡ false → event_at i es ≡ None
+pub no_event : (i : ℕ) (es : List Event) → events_have i es ≡ false → event_at i es ≡ None
 no_event i [] e = refl
 no_event i (x ∷ es) e = at (x.time == i) e (no_event i es)
   where
@@ -23,7 +23,7 @@ no_event i (x ∷ es) e = at (x.time == i) e (no_event i es)
     at true h later = absurd cc
     at false h later = later h
 
-none_left : (a b : Bool) → (a || b) ≡ false → a ≡ false
+pub none_left : (a b : Bool) → (a || b) ≡ false → a ≡ false
 none_left false b e = refl
 none_left true b e = absurd cc
 
@@ -68,6 +68,8 @@ exactly rules s solved = record { exact = refl }
 exactly rules s (or k) = record { exact = refl }
 exactly rules s (action k) = record { exact = refl }
 exactly rules s (premise i p) = record { exact = by_time rules s i p (has_time i s) refl }
+exactly rules s (know i) = record { exact = refl }
+exactly rules s (chain i) = record { exact = refl }
 
 pub one_of_listed : (i : ℕ) (fs : List Guarded) → one_has i (guardeds_of fs) ≡ formulas_have i fs
 one_of_listed i [] = refl

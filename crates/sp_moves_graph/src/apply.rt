@@ -11,28 +11,30 @@ ghost use Rattle.sp_moves_formula.specs.Applied.{clause_of, cases_of, failing};
 ghost use Rattle.sp_moves_formula.specs.WhyNot.{HasCases};
 ghost use Rattle.sp_moves_graph.specs.WhyNot.{why_not_of, why_not_graph, graph_cases};
 
-use crate::premise::{is_linked, is_received, premise_cases};
+use crate::premise::premise_cases;
 use crate::times::has_time;
 use sp_book::book::RuleBook;
 use sp_fact::fact::Fact;
 pub use sp_moves_formula::apply::{Applied, Clause};
 use sp_moves_formula::moves::{Case, Move, Premise};
 use sp_rows_graph::fresh_once::is_fresh;
+use sp_rows_graph::send_input::{is_linked, is_received};
 use sp_system::at_time::event_at;
-use sp_system::system::{Event, System};
+use sp_system::event::Event;
+use sp_system::system::System;
 use std::alloc::{AllocError, Global};
 
 // Whether the premise needs no step for its source.
 fn is_closed(system: &System, premise: Premise, fact: &Fact) -> bool
     ensures { result ≡ (spec.is_linked (system_of system.now).links premise.time premise.place || (is_fr (fact_of fact.now) || is_in (fact_of fact.now))) }
 {
-    is_linked(&system.links, premise) || is_fresh(fact) || is_received(fact)
+    is_linked(&system.links, premise.time, premise.place) || is_fresh(fact) || is_received(fact)
 }
 
 fn why_not_of(system: &System, premise: Premise, event: &Event) -> Option<Clause>
     ensures { option_map clause_of result ≡ why_not_of (system_of system.now) premise.time premise.place (Some (event_of event.now)) }
 {
-    match event.facts.premises.get(premise.place) {
+    match event.premises().get(premise.place) {
         None => Some(Clause::Absent),
         Some(fact) => {
             if is_closed(system, premise, fact) {

@@ -1,12 +1,11 @@
 // The steps that may give a premise.
 
-ghost use Rattle.std.specs.Prelude.{◌≡◌, ◌+◌, suc, IfOk, length, map, option_map};
+ghost use Rattle.std.specs.Prelude.{◌≡◌, IfOk, map, option_map};
 ghost use Rattle.sp_fact.specs.View.{fact_of};
 ghost use Rattle.sp_term.specs.View.{name_of};
 ghost use Rattle.sp_book.specs.View.{form_of, rule_forms_of};
 ghost use Rattle.sp_book.specs.BookView.{book_of};
-ghost use Rattle.sp_system.specs.SystemView.{link_of, system_of};
-ghost use Rattle.sp_spec.specs.Log.{is_in};
+ghost use Rattle.sp_system.specs.SystemView.{system_of};
 ghost use Rattle.sp_spec_graph.specs.Premise as spec;
 ghost use Rattle.sp_spec_system.specs.Cases as cases_spec;
 ghost use Rattle.sp_moves_formula.specs.View.{case_of};
@@ -21,33 +20,19 @@ use sp_moves_formula::named::named;
 use sp_moves_formula::renamed::renamed;
 use sp_moves_formula::where_same::fact_unifier;
 use sp_rows_graph::fresh_once::is_fresh;
+use sp_rows_graph::learning::after;
+use sp_rows_graph::send_input::{is_linked, is_received};
 use sp_system::at_time::premise_at;
-use sp_system::system::{Event, Link, System, What};
+use sp_system::event::Event;
+use sp_system::system::{Link, System};
 use sp_term::term::Name;
 use std::alloc::{AllocError, Global};
-
-pub fn is_linked(links: &Vec<Link>, premise: Premise) -> bool
-    ensures { result ≡ spec.is_linked (map link_of links.now.items) premise.time premise.place }
-{
-    for link in links {
-        if link.to == premise.time && link.premise == premise.place {
-            return true;
-        }
-    }
-    false
-}
-
-pub fn is_received(fact: &Fact) -> bool
-    ensures { result ≡ is_in (fact_of fact.now) }
-{
-    fact.symbol.text.as_str() == "In" && !fact.persistent
-}
 
 /// The fact that is to have a step for its source: no Fr and no In, and without a link.
 pub fn open_premise(system: &System, premise: Premise) -> Option<&Fact>
     ensures { option_map (λ f. fact_of f.now) result ≡ spec.open_premise (system_of system.now) premise.time premise.place }
 {
-    if is_linked(&system.links, premise) {
+    if is_linked(&system.links, premise.time, premise.place) {
         return None;
     }
     match premise_at(&system.events, premise.time, premise.place) {
@@ -74,9 +59,9 @@ fn with_source(
     };
     let time = system.next;
     let facts = renamed(alloc, first, &form.facts)?;
-    let what = What::Rule(name.copy()?);
+    let event = Event::step(time, name.copy()?, facts);
     let mut made = system.copy(alloc)?;
-    made.events.push(Event { time, what, facts })?;
+    made.events.push(event)?;
     made.links.push(Link {
         from: time,
         conclusion: place,
@@ -86,15 +71,6 @@ fn with_source(
     made.order.push((time, premise.time))?;
     made.next = next;
     Ok(made)
-}
-
-fn after(number: u128) -> Result<u128, AllocError>
-    ensures { IfOk result (λ n. n ≡ suc number) }
-{
-    match number.checked_add(1) {
-        Some(next) => Ok(next),
-        None => Err(AllocError),
-    }
 }
 
 // The same, where the premise is that conclusion; none where it can't be.

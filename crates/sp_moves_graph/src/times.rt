@@ -6,7 +6,8 @@ ghost use Rattle.sp_system.specs.SystemView.{event_of, link_of, system_of};
 ghost use Rattle.sp_moves_graph.specs.Times as spec;
 
 use sp_formula::formula::{Atom, Formula, Moment};
-use sp_system::system::{Event, Link, System};
+use sp_system::event::Event;
+use sp_system::system::{Link, System};
 
 fn is_time(time: u128, moment: Moment) -> bool
     ensures { result ≡ spec.is_time time (moment_of moment) }

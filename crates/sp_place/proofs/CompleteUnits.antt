@@ -16,6 +16,7 @@ use Rattle.sp_place.proofs.SoundTheory.{has_means}
 use Rattle.sp_place.proofs.Had.{taken, become, no_move, none_left, one_of}
 use Rattle.sp_place.proofs.CompleteParts.{one_had, Without, without, Apart, apart, no_mark, has_name, has_sort, angle, brace, has_term, has_tuple, has_arguments}
 use Rattle.std.proofs.lemmas.Bool.{false_from_ne_true}
+use Rattle.sp_read_parts.proofs.Apart.{all_is_reserved, ex_is_reserved}
 
 -- ---- what may follow
 
@@ -112,14 +113,6 @@ truth_of_closing {n} {k} {tokens} {rest} h u = at (closing_left k h u) (both_of_
 
 -- ---- words
 
-all_reserved : is_reserved (codes "All") ≡ true
-unfolding is_reserved
-all_reserved = refl
-
-ex_reserved : is_reserved (codes "Ex") ≡ true
-unfolding is_reserved
-ex_reserved = refl
-
 reserved_not : {w v : List ℕ} → is_reserved v ≡ true → w ≡ v → IsName w → ⊥
 reserved_not {w} {v} e d n = let i : is_reserved v ≡ false = subst (λ (u : List ℕ). is_reserved u ≡ false) d n in let none : ⊥ = cc in none
 
@@ -127,8 +120,8 @@ no_quantifier : (w : List ℕ) → IsName w → is_quantifier (word w) ≡ false
 no_quantifier w n = false_from_ne_true (is_quantifier (word w)) (λ h. at (either_word w (codes "All") (codes "Ex") h))
   where
     at : (w ≡ codes "All") ⊎ (w ≡ codes "Ex") → ⊥
-    at (inl e) = reserved_not all_reserved e n
-    at (inr e) = reserved_not ex_reserved e n
+    at (inl e) = reserved_not all_is_reserved e n
+    at (inr e) = reserved_not ex_is_reserved e n
 
 pub unit_word : {n k : ℕ} {w : List ℕ} {tokens rest : List Lexeme} → IsName w → (names_fact w ≡ true → Has (a.Named n k) tokens rest) → (names_fact w ≡ false → Has (a.Bare n k) tokens rest) → Has (a.Truth n k) tokens rest → Has (a.Unit n k) (word w ∷ tokens) rest
 unit_word {n} {k} {w} {tokens} {rest} i named bare h = at (is_truth (word w)) refl (names_fact w) refl

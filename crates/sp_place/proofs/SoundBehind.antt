@@ -12,6 +12,7 @@ use Rattle.sp_place.proofs.Meaning.{one_sign, one_word, led, MoreOf, no_more, mo
 use Rattle.sp_place.proofs.Tokens.{same_word, some_is}
 use Rattle.sp_place.proofs.Means.{MeansAll, nothing, and_then, Sound, by_if, by_nests, nothing_is, one_is}
 use Rattle.sp_place.proofs.SoundFormulas.{lone_unit, lone_negation}
+use Rattle.sp_read_parts.proofs.Taken.{close_no_sign}
 
 -- ---- negations
 
@@ -95,9 +96,6 @@ sound_truth n k (sign s.OpenBrace) = λ ts r h. inl (one_is h)
 sound_truth n k _ = λ ts r h. both_truth (one_is h)
 
 -- ---- behind a unit
-
-close_no_sign : (rest : List Lexeme) → NoSign (sign s.Close ∷ rest)
-close_no_sign rest = record { no_and = λ r e. cc; no_or = λ r e. cc; no_arrow = λ r e. cc }
 
 both_again : {n k : ℕ} {tokens rest : List Lexeme} → SideOf n k tokens rest ⊎ ClosedOf n k tokens rest → SideOf n (suc k) (sign s.Close ∷ tokens) rest ⊎ ClosedOf n (suc k) (sign s.Close ∷ tokens) rest
 both_again (inl h) = inl (inr (led h))

@@ -13,7 +13,7 @@ use Rattle.sp_spec_text.specs.Declared.{theory_in}
 use Rattle.sp_law_equal.specs.NormalForms.{HasNormalForms}
 use Rattle.sp_law_conv.specs.Accepted.{AreAccepted}
 use Rattle.sp_law_equal.specs.Right.{EquationsAreOver, KeepPublic}
-use Rattle.sp_law_equal.specs.RightTheory.{IsRightTheory, LeavesAdversaryAlone}
+use Rattle.sp_law_equal.specs.RightTheory.{IsRightTheory}
 use Rattle.sp_spec.specs.Verdict.{names_learning}
 use Rattle.sp_law_conv.specs.Laws.{HaveOneArity}
 use Rattle.sp_law_conv.proofs.Convergent.{convergence_law}
@@ -21,9 +21,7 @@ use Rattle.sp_law_tree.specs.BasicTheory.{AreBasicTerms, IsBasicRule, IsBasicFor
 use Rattle.sp_law_tree.proofs.RightTexts.{texts_are_right_lem}
 use Rattle.sp_wf.specs.SymbolFindings.{unknown_in, unknown_in_all, unknown_in_facts, unknown_in_actions, unknown_in_formula, has_destructor, have_destructor, facts_have_destructor, formula_has_destructor}
 use Rattle.sp_wf.specs.Laws.{IsFineRule, IsFineLemma}
-use Rattle.sp_pose.specs.Problem.{Poses, PosesProofs}
-use Rattle.sp_pose.specs.Adversary.{rules_deal, lemmas_deal}
-use Rattle.sp_pose.proofs.Dealing.{rules_alone}
+use Rattle.sp_pose.specs.Problem.{Poses}
 use Rattle.sp_pose.proofs.Known.{facts_over, actions_over}
 use Rattle.sp_pose.proofs.OneArity.{have_one_arity}
 use Rattle.sp_pose.proofs.Constructors.{none_left, constructor_term, constructor_terms}
@@ -108,8 +106,3 @@ pub posed_is_right : {text : List ℕ} {t : WrittenText} → Poses text t → Is
 posed_is_right {t = t} p =
     texts_are_right_lem.right (theory_in t) (normal_forms p) (keeps_public p) (rules_are_basic p)
     (every_weaken (IsFineRule (signature_in t).symbols (signature_in t).equations) _ (λ r h. h.right) (theory_in t).rules p.fine.rules) p.fine.rule_names
-
--- ---- without an adversary
-
-pub leaves_alone : {text : List ℕ} {t : WrittenText} → PosesProofs text t → LeavesAdversaryAlone (theory_of (theory_in t))
-leaves_alone {t = t} p = rules_alone (theory_in t) (or_parts (rules_deal (theory_in t).rules) (lemmas_deal (theory_in t).lemmas) p.alone).0

@@ -20,7 +20,6 @@ use Rattle.sp_wf.specs.Report.{findings_by, text_about, report}
 use Rattle.sp_wf.specs.Laws.{IsFineLemma}
 use Rattle.sp_wf.proofs.ReportClean.{HasForm, report_is_right}
 use Rattle.sp_pose.specs.Problem.{Poses, IsReported}
-use Rattle.sp_pose.specs.Adversary.{items_deal}
 use Rattle.sp_pose.specs.Asked.{Asked, asked_with, lemmas_read, all_asked}
 use Rattle.sp_pose.specs.Posed.{IsMadeOf, IsPosedBy}
 use Rattle.sp_pose.specs.declared.problem.Problem.{Problem}
@@ -109,7 +108,6 @@ made {text = text} t read theory s p posing is over spans end places rise within
       rules_are = h.rules_are ∙ ap (λ (xs : List written.Item). map rule_of (rules_in xs)) items;
       constants_are = h.constants_are ∙ ap constants_in items;
       lemmas_are = h.lemmas_are;
-      deals_is = h.deals_is ∙ ap items_deal items;
       places_are = subst (λ (ss : List Span). ArePlaces text t ss p.behind_end) (sym spans) (subst (ArePlaces text t (view.spans read.items.items)) (sym behind) places);
       rise = subst (λ (ss : List Span). Rise text 0 ss p.behind_end) (sym spans) (subst (Rise text 0 (view.spans read.items.items)) (sym behind) rise);
       within = subst (λ (n : ℕ). n ≤ length text) (sym behind) within;

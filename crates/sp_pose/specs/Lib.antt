@@ -1,4 +1,3 @@
-pub mod Adversary
 pub mod Problem
 pub mod Asked
 pub mod Posed

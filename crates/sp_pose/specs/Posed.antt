@@ -16,7 +16,6 @@ use Rattle.sp_spec_text.specs.Spans.{Rise}
 use Rattle.sp_spec_text.specs.Texts.{ArePlaces}
 use Rattle.sp_place.specs.Refused.{IsRefusedAt}
 use Rattle.sp_pose.specs.Problem.{Poses, IsReported}
-use Rattle.sp_pose.specs.Adversary.{items_deal, has_adversary}
 use Rattle.sp_pose.specs.Asked.{asked_of, lemmas_read, all_asked}
 use Rattle.sp_pose.specs.declared.problem.Problem.{Problem}
 use Rattle.sp_pose.specs.declared.problem.Read.{Read}
@@ -28,7 +27,6 @@ pub record IsMadeOf (s : Signature) (theory : ReadTheory) (p : Problem) : Type 0
   pub rules_are : map memory.rule_of p.rules.items ≡ map rule_of (rules_in (view.items theory.items.items))
   pub constants_are : map name_of p.constants.items ≡ constants_in (view.items theory.items.items)
   pub lemmas_are : all_asked (lemmas_read theory.items.items) ≡ Some (map asked_of p.lemmas.items)
-  pub deals_is : p.has_adversary ≡ items_deal (view.items theory.items.items)
   pub end_is : p.behind_end ≡ theory.behind_end
 
 -- It is what the text poses: the signature, the rules and the public names of the theory that the text says, and its lemmas with their guarded forms. The
@@ -42,7 +40,6 @@ pub record IsPosedBy (text : List ℕ) (p : Problem) : Type 0 where
   pub rules_are : map memory.rule_of p.rules.items ≡ (theory_of (theory_in said)).rules
   pub constants_are : map name_of p.constants.items ≡ constants_of (theory_in said)
   pub lemmas_are : all_asked (lemmas_read theory.items.items) ≡ Some (map asked_of p.lemmas.items)
-  pub deals_is : p.has_adversary ≡ has_adversary said
   pub places_are : ArePlaces text said (view.spans theory.items.items) p.behind_end
   pub rise : Rise text 0 (view.spans theory.items.items) p.behind_end
   pub within : p.behind_end ≤ length text

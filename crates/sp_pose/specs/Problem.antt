@@ -1,10 +1,9 @@
 -- What a text sets out to prove.
-use Rattle.std.specs.Prelude.{◌≡◌, true, false, List, ℕ}
+use Rattle.std.specs.Prelude.{◌≡◌, List, ℕ}
 use Rattle.sp_spec_text.specs.Written.{WrittenText}
 use Rattle.sp_spec_text.specs.Texts.{IsTextOf}
 use Rattle.sp_wf.specs.Report.{report}
 use Rattle.sp_wf.specs.Laws.{IsWellFormed}
-use Rattle.sp_pose.specs.Adversary.{has_adversary}
 
 -- the text says the theory, and there are no fatal findings on it
 pub record Poses (text : List ℕ) (theory : WrittenText) : Type 0 where
@@ -17,14 +16,3 @@ pub record IsReported (text lines : List ℕ) : Type 0 where
   pub says : IsTextOf text theory
   pub wrong : IsWellFormed theory → ⊥
   pub lines_are : lines ≡ report theory
-
--- Proofs of such a theory can be searched and checked: so far, of one that doesn't speak of the adversary.
-pub record PosesProofs (text : List ℕ) (theory : WrittenText) : Type 0 where
-  pub poses : Poses text theory
-  pub alone : has_adversary theory ≡ false
-
--- the text poses a theory of which they can't be
-pub record WantsLearning (text : List ℕ) : Type 0 where
-  pub theory : WrittenText
-  pub poses : Poses text theory
-  pub deals : has_adversary theory ≡ true

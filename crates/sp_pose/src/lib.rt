@@ -5,7 +5,6 @@
 // names and lemmas are those that it says, each lemma by its guarded form.
 #![tactic(auto)]
 
-mod adversary;
 mod kind;
 mod numbering;
 mod problem;

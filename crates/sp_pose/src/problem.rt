@@ -9,7 +9,6 @@ ghost use Rattle.sp_pose.specs.Asked.{asked_of, asked_then, lemmas_read, all_ask
 ghost use Rattle.sp_ground.specs.View.{signature_of};
 ghost use Rattle.sp_pose.specs.Posed.{IsRead, IsMadeOf};
 
-use crate::adversary::items_deal;
 use crate::numbering::numbered;
 use sp_constants::constants;
 use sp_declared::equations::equations;
@@ -53,8 +52,6 @@ pub struct Problem<'a> {
     pub constants: Vec<Name>,
     /// its lemmas, with their guarded forms
     pub lemmas: Vec<GuardedLemma<'a>>,
-    /// whether a rule or a formula names a fact or an action of the adversary's
-    pub has_adversary: bool,
     /// the place behind its word `end`
     pub behind_end: usize,
 }
@@ -167,7 +164,6 @@ fn posed<'a>(
 {
     let rules = rules_of(alloc, &theory.items)?;
     let constants = constants(alloc, &theory)?;
-    let has_adversary = items_deal(&theory.items);
     let behind_end = theory.behind_end;
     let lemmas = lemmas_of(alloc, theory.items)?;
     let Some(lemmas) = guarded_lemmas(alloc, lemmas)? else {
@@ -178,7 +174,6 @@ fn posed<'a>(
         rules,
         constants,
         lemmas,
-        has_adversary,
         behind_end,
     }))
 }

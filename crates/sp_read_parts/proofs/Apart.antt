@@ -143,11 +143,11 @@ pub not_is_reserved : is_reserved (codes "not") ≡ true
 unfolding is_reserved
 not_is_reserved = refl
 
-all_is_reserved : is_reserved (codes "All") ≡ true
+pub all_is_reserved : is_reserved (codes "All") ≡ true
 unfolding is_reserved
 all_is_reserved = refl
 
-ex_is_reserved : is_reserved (codes "Ex") ≡ true
+pub ex_is_reserved : is_reserved (codes "Ex") ≡ true
 unfolding is_reserved
 ex_is_reserved = refl
 

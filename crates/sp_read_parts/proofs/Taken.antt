@@ -164,7 +164,7 @@ ors_not_and (g.or_then h k) a = λ r e. cc
 iff_no_sign : (rest : List Lexeme) → NoSign (sign s.Iff ∷ rest)
 iff_no_sign rest = record { no_and = λ r e. cc; no_or = λ r e. cc; no_arrow = λ r e. cc }
 
-close_no_sign : (rest : List Lexeme) → NoSign (sign s.Close ∷ rest)
+pub close_no_sign : (rest : List Lexeme) → NoSign (sign s.Close ∷ rest)
 close_no_sign rest = record { no_and = λ r e. cc; no_or = λ r e. cc; no_arrow = λ r e. cc }
 
 quote_no_sign : (rest : List Lexeme) → NoSign (sign s.Quote ∷ rest)

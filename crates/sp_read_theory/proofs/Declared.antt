@@ -10,7 +10,7 @@ use Rattle.sp_spec.specs.Written.{WrittenRule}
 use Rattle.sp_spec_text.specs.Lists.{IsNotFirst, NoReading, AreListed, alone, and_more}
 use Rattle.sp_spec_text.specs.Written.{Item, builtins_item, functions_item, equations_item, rule_item}
 use Rattle.sp_spec_text.specs.Theories as g
-use Rattle.sp_spec_text.specs.Theories.{SpellsBuiltin, SpellsFunction, SpellsEquation, SpellsRule, SpellsLemma, SpellsDeclaration}
+use Rattle.sp_spec_text.specs.Theories.{SpellsEquation, SpellsRule, SpellsLemma, SpellsDeclaration}
 use Rattle.sp_read_parts.specs.Parts.{IsTerm}
 use Rattle.sp_read_parts.proofs.One.{One, terms, term_one}
 use Rattle.sp_read_parts.proofs.Apart.{EndsTerm, sign_ends, word_ends}
@@ -30,7 +30,7 @@ headed_at e f = rw (e, f) refl
 pub not_headed_word : {keyword : List ℕ} {tokens : List Lexeme} → IsNotFirst (word keyword) tokens → NotHeaded keyword tokens
 not_headed_word d = record { none = λ r h. d (sign s.Colon ∷ r) h }
 
-tail_of : {x y : Lexeme} {r q : List Lexeme} → x ∷ r ≡ y ∷ q → r ≡ q
+pub tail_of : {x y : Lexeme} {r q : List Lexeme} → x ∷ r ≡ y ∷ q → r ≡ q
 tail_of e = cc
 
 pub not_headed_colon : {keyword : List ℕ} {tokens colon : List Lexeme} → tokens ≡ word keyword ∷ colon → IsNotFirst (sign s.Colon) colon → NotHeaded keyword tokens

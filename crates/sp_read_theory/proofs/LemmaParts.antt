@@ -17,14 +17,12 @@ use Rattle.sp_spec_text.specs.Theories.{SpellsKind, SpellsLemma}
 use Rattle.sp_read_theory.specs.Items.{IsHeader, header, Dashed, NotDashed, IsKind, ReadsProofPart, ReadsItem, a_lemma}
 use Rattle.sp_spec_text.specs.Spans.{IsBehind}
 use Rattle.sp_read_theory.proofs.One.{header_one, kinds}
+use Rattle.sp_read_theory.proofs.Declared.{tail_of}
 
 -- ---- two words and a dash
 
 pub dashed_at : {a b : List ℕ} {tokens dash next quote rest : List Lexeme} → tokens ≡ word a ∷ dash → dash ≡ sign s.Dash ∷ next → next ≡ word b ∷ quote → quote ≡ sign s.Quote ∷ rest → Dashed a b tokens rest
 dashed_at e f h k = rw (e, f, h, k) refl
-
-tail_of : {x y : Lexeme} {r q : List Lexeme} → x ∷ r ≡ y ∷ q → r ≡ q
-tail_of e = cc
 
 pub not_dashed_word : {a b : List ℕ} {tokens : List Lexeme} → IsNotFirst (word a) tokens → NotDashed a b tokens
 not_dashed_word {b = b} d = record { none = λ r h. d (sign s.Dash ∷ word b ∷ sign s.Quote ∷ r) h }

@@ -2,10 +2,9 @@
 use Rattle.std.proofs.Common.{◌≡◌, ◌≤◌, ◌<◌, ◌+◌, drop, slice_index_or, ℕ, ap₂, List, [], ◌∷◌, ◌++◌, length, map, Option, Some, None, option_and_then, refl, sym, ap, ◌∙◌, append_assoc}
 use Rattle.sp_spec.specs.Term.{Variable}
 use Rattle.sp_spec.specs.Guarded.{Place, Time, Guarded}
-use Rattle.sp_fact.specs.View.{action_of}
 use Rattle.sp_fact.specs.declared.fact.Action as memory_action
 use Rattle.sp_system.specs.SystemView.{event_of}
-use Rattle.sp_system.specs.declared.system.Event as memory_event
+use Rattle.sp_system.specs.declared.event.Event as memory_event
 use Rattle.sp_formula.specs.declared.place.Place as memory_place
 use Rattle.sp_formula.specs.FormulaView.{moment_of, atom_of}
 use Rattle.sp_formula.specs.PlaceView.{placed_action}
@@ -52,7 +51,7 @@ some_match pick s a i (e ∷ events) =
 
 -- one turn of the loop over events in memory: those of the next one come after those that were found
 pub event_turn : (s : Slots) (a : Action Place) (i : Time) (items : List memory_event.Event) (k : ℕ) (e : memory_event.Event) (found more grown : List memory.Slots) (all : List Slots)
-    → k < length items → e ≡ slice_index_or items k e → map slots_of more ≡ matches_at s a i e.time (map action_of e.facts.actions.items) → grown ≡ found ++ more
+    → k < length items → e ≡ slice_index_or items k e → map slots_of more ≡ matches_at s a i e.time (happening_actions (event_of e).happening) → grown ≡ found ++ more
     → map slots_of found ++ matches s a i (map event_of (drop k items)) ≡ all
     → map slots_of grown ++ matches s a i (map event_of (drop (k + 1) items)) ≡ all
 event_turn s a i items k e found more grown all h is m g before =

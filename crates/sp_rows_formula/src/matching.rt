@@ -9,6 +9,7 @@ ghost use Rattle.sp_fact.specs.View.{action_of};
 ghost use Rattle.sp_formula.specs.FormulaView.{moment_of, atom_of};
 ghost use Rattle.sp_formula.specs.PlaceView.{place_of, placed_term, placed_action};
 ghost use Rattle.sp_spec_formula.specs.Instances as spec;
+ghost use Rattle.sp_spec_system.specs.System.{happening_actions};
 ghost use Rattle.sp_system.specs.SystemView.{event_of};
 ghost use Rattle.sp_rows_formula.specs.MatchesView as found_by;
 ghost use Rattle.sp_rows_formula.specs.SlotsView.{messages_of, slots_of, put_at};
@@ -18,7 +19,7 @@ use sp_fact::fact::Action;
 use sp_formula::formula::{Atom, Moment};
 use sp_formula::place::{FormulaAction, FormulaTerm, Place};
 use sp_formula::slots::{fill, value_at};
-use sp_system::system::Event;
+use sp_system::event::Event;
 use sp_term::apply::{Resolves, resolve};
 use sp_term::matching::{Binds, extend_all};
 use sp_term::term::{Term, Variable, copy, same};
@@ -216,10 +217,10 @@ fn matches_at(
     moment: Moment,
     event: &Event,
 ) -> Result<Vec<Slots>, AllocError>
-    ensures { IfOk result (λ found. map slots_of found.items ≡ found_by.matches_at (slots_of slots.now) (placed_action action.now) (moment_of moment) event.now.time (map action_of event.now.facts.actions.items)) }
+    ensures { IfOk result (λ found. map slots_of found.items ≡ found_by.matches_at (slots_of slots.now) (placed_action action.now) (moment_of moment) event.now.time (happening_actions (event_of event.now).happening)) }
 {
     let mut found = Vec::new(alloc);
-    for other in &event.facts.actions {
+    for other in event.actions() {
         if let Some(made) = matched_action(alloc, slots, action, moment, other, event.time)? {
             found.push(made)?;
         }

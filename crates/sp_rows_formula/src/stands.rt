@@ -11,9 +11,10 @@ ghost use Rattle.sp_system.specs.Reduced.{Reduced};
 
 use sp_fact::fact::Action;
 use sp_formula::formula::{Atom, Formula, Moment};
+use sp_system::event::Event;
 use sp_system::freed::freed_action;
 use sp_system::spend::spend;
-use sp_system::system::{Event, System};
+use sp_system::system::System;
 use sp_term::term::all_same;
 use std::alloc::{AllocError, Global};
 
@@ -40,7 +41,7 @@ pub fn has_action(time: u128, action: &Action, events: &Vec<Event>) -> bool
     ensures { result ≡ rows.has_action time (action_of action.now) (map event_of events.now.items) }
 {
     for event in events {
-        if event.time == time && is_among(action, &event.facts.actions) {
+        if event.time == time && is_among(action, event.actions()) {
             return true;
         }
     }

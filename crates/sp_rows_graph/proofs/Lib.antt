@@ -1,2 +1,3 @@
 pub mod PairSearches
 pub mod FreshTerms
+pub mod Counts

@@ -1,13 +1,14 @@
--- The Fr of a premise, and what is missing for it.
-use Rattle.std.specs.Prelude.{ℕ, List, Option, Some, None, if◌then◌else◌}
+-- The Fr of a premise or of an event, and what is missing for it.
+use Rattle.std.specs.Prelude.{ℕ, List, [], ◌∷◌, Option, Some, None, if◌then◌else◌}
 use Rattle.sp_spec.specs.Term.{Variable, Term, Terms, none, more}
 use Rattle.sp_spec.specs.Rule.{Fact}
 use Rattle.sp_spec.specs.Log.{is_fr}
-use Rattle.sp_spec_system.specs.System.{System}
+use Rattle.sp_spec_system.specs.System.{own_name, Happening, learning, System}
 use Rattle.sp_spec_system.specs.Picked.{if_any}
+use Rattle.sp_spec_graph.specs.Fresh.{fresh_terms}
 use Rattle.sp_spec_graph.specs.FreshFirst.{missing_pairs}
 
--- the pairs that put the time before each event that takes the term, if some are missing
+-- the pairs that put the time before each event that has the term later, if some are missing
 abbrev pub missing_with : System → ℕ → Term Variable → Option (List (ℕ × ℕ))
 missing_with s i t = if_any (missing_pairs s.order i t s.events)
 
@@ -18,3 +19,13 @@ first_of (more t ts) = Some t
 -- the term whose Fr a premise uses
 abbrev pub fresh_one : Fact Variable → Option (Term Variable)
 fresh_one f = if is_fr f then first_of f.args else None
+
+-- what is learnt as a name of the adversary's own
+abbrev pub own_one : Happening → Option (Term Variable)
+own_one (learning m own_name) = Some m
+own_one h = None
+
+-- that name, or what the premises use where there is none
+abbrev pub fresh_behind : Option (Term Variable) → List (Fact Variable) → List (Term Variable)
+fresh_behind (Some m) premises = m ∷ []
+fresh_behind None premises = fresh_terms premises

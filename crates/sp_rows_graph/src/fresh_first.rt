@@ -4,16 +4,17 @@ ghost use Rattle.std.specs.Prelude.{◌≡◌, IfOk, map, option_map, option_and
 ghost use Rattle.sp_term.specs.View.{view, view_all};
 ghost use Rattle.sp_fact.specs.View.{fact_of};
 ghost use Rattle.sp_system.specs.SystemView.{event_of, system_of};
+ghost use Rattle.sp_spec_graph.specs.Fresh.{fresh_terms};
 ghost use Rattle.sp_spec_graph.specs.FreshFirst as rows;
-ghost use Rattle.sp_rows_graph.specs.FreshView.{fresh_one};
-ghost use Rattle.sp_rows_graph.specs.FreshView.{missing_with};
+ghost use Rattle.sp_rows_graph.specs.FreshView.{fresh_one, missing_with};
 ghost use Rattle.sp_spec_system.specs.Picked.{first_some};
 ghost use Rattle.sp_system.specs.Reduced.{Reduced};
 
-use crate::fresh_once::{fresh_term, is_fresh};
+use crate::fresh_once::{fresh_term, is_fresh, own_name};
 use sp_fact::fact::Fact;
+use sp_system::event::{Event, What};
 use sp_system::order::{add_pairs, is_before};
-use sp_system::system::{Event, System};
+use sp_system::system::System;
 use sp_term::term::{Term, same};
 use std::alloc::{AllocError, Global};
 
@@ -52,7 +53,24 @@ fn has_taken(term: &Term, premises: &Vec<Fact>) -> bool
     false
 }
 
-// Whether the event takes the term, and the time isn't before it.
+// Whether the event learns a message with the term.
+fn has_learnt(term: &Term, event: &Event) -> bool
+    ensures { result ≡ rows.has_learnt (view term.now) (event_of event.now).happening }
+{
+    match &event.what {
+        What::Learn(message, _) => has_term(message, term),
+        _ => false,
+    }
+}
+
+// Whether the event takes the term, or learns it at another time.
+fn comes_later(time: u128, term: &Term, event: &Event) -> bool
+    ensures { result ≡ rows.comes_later time (view term.now) (event_of event.now) }
+{
+    has_taken(term, event.premises()) || has_learnt(term, event) && event.time != time
+}
+
+// Whether the event has the term later, and the time isn't before it.
 fn is_missing(
     alloc: Global,
     order: &Vec<(u128, u128)>,
@@ -62,14 +80,14 @@ fn is_missing(
 ) -> Result<bool, AllocError>
     ensures { IfOk result (λ b. b ≡ rows.is_missing order.now.items time (view term.now) (event_of event.now)) }
 {
-    if !has_taken(term, &event.facts.premises) {
+    if !comes_later(time, term, event) {
         return Ok(false);
     }
     let is_there = is_before(alloc, order, time, event.time)?;
     Ok(!is_there)
 }
 
-// The pairs that put the time before each event that takes the term.
+// The pairs that put the time before each event that has the term later.
 fn missing_pairs(
     alloc: Global,
     system: &System,
@@ -87,8 +105,24 @@ fn missing_pairs(
     Ok(made)
 }
 
-// The same for the Fr that the premise is, if it is one and some are missing.
+// The same, if some are missing.
 fn missing_for(
+    alloc: Global,
+    system: &System,
+    time: u128,
+    term: &Term,
+) -> Result<Option<Vec<(u128, u128)>>, AllocError>
+    ensures { IfOk result (λ o. option_map (λ ps. ps.items) o ≡ missing_with (system_of system.now) time (view term.now)) }
+{
+    let pairs = missing_pairs(alloc, system, time, term)?;
+    if pairs.is_empty() {
+        return Ok(None);
+    }
+    Ok(Some(pairs))
+}
+
+// The same for the Fr that the premise is, if it is one.
+fn missing_for_premise(
     alloc: Global,
     system: &System,
     time: u128,
@@ -99,15 +133,31 @@ fn missing_for(
     let Some(term) = fresh_term(premise) else {
         return Ok(None);
     };
-    let pairs = missing_pairs(alloc, system, time, term)?;
-    if pairs.is_empty() {
-        return Ok(None);
+    let pairs = missing_for(alloc, system, time, term)?;
+    Ok(pairs)
+}
+
+// The pairs that are missing for the first Fr of the premises for which some are.
+#[tactic(auto, using(crate::proofs::FreshTerms::first_of_fact))]
+fn missing_for_premises(
+    alloc: Global,
+    system: &System,
+    time: u128,
+    premises: &Vec<Fact>,
+) -> Result<Option<Vec<(u128, u128)>>, AllocError>
+    ensures { IfOk result (λ o. option_map (λ ps. ps.items) o
+        ≡ first_some (missing_with (system_of system.now) time) (fresh_terms (map fact_of premises.now.items))) }
+{
+    for premise in premises {
+        if let Some(pairs) = missing_for_premise(alloc, system, time, premise)? {
+            return Ok(Some(pairs));
+        }
     }
-    Ok(Some(pairs))
+    Ok(None)
 }
 
 // The pairs that are missing for the first Fr of the event for which some are.
-#[tactic(auto, using(crate::proofs::FreshTerms::first_of_fact))]
+#[tactic(auto, using(crate::proofs::FreshTerms::missing_seen, crate::proofs::FreshTerms::first_alone))]
 fn missing_behind(
     alloc: Global,
     system: &System,
@@ -115,17 +165,22 @@ fn missing_behind(
 ) -> Result<Option<Vec<(u128, u128)>>, AllocError>
     ensures { IfOk result (λ o. option_map (λ ps. ps.items) o ≡ rows.missing_behind (system_of system.now) (event_of event.now)) }
 {
-    for premise in &event.facts.premises {
-        if let Some(pairs) = missing_for(alloc, system, event.time, premise)? {
-            return Ok(Some(pairs));
+    match own_name(event) {
+        Some(name) => {
+            let pairs = missing_for(alloc, system, event.time, name)?;
+            Ok(pairs)
+        }
+        None => {
+            let pairs = missing_for_premises(alloc, system, event.time, event.premises())?;
+            Ok(pairs)
         }
     }
-    Ok(None)
 }
 
 // The pairs that are missing for the first event for which some are.
 fn first_missing(alloc: Global, system: &System) -> Result<Option<Vec<(u128, u128)>>, AllocError>
-    ensures { IfOk result (λ o. option_map (λ ps. ps.items) o ≡ first_some (rows.missing_behind (system_of system.now)) (map event_of system.now.events.items)) }
+    ensures { IfOk result (λ o. option_map (λ ps. ps.items) o
+        ≡ first_some (rows.missing_behind (system_of system.now)) (map event_of system.now.events.items)) }
 {
     for event in &system.events {
         if let Some(pairs) = missing_behind(alloc, system, event)? {
@@ -135,7 +190,7 @@ fn first_missing(alloc: Global, system: &System) -> Result<Option<Vec<(u128, u12
     Ok(None)
 }
 
-/// Puts the first event that uses an Fr before each event that has its term in another premise; false if it is there already.
+/// Puts the first event that uses an Fr before each event that has its term in another premise, or learns it; false if it is there already.
 ///
 /// # Errors
 ///

@@ -8,13 +8,15 @@ ghost use Rattle.sp_system.specs.SystemView.{event_of, system_of};
 ghost use Rattle.sp_spec_graph.specs.FreshOnce as rows;
 ghost use Rattle.sp_spec_graph.specs.Fresh as fresh;
 ghost use Rattle.sp_spec_graph.specs.SourceTwice as source_twice;
-ghost use Rattle.sp_spec_system.specs.Picked as picked;
-ghost use Rattle.sp_rows_graph.specs.FreshView.{fresh_one};
+ghost use Rattle.sp_rows_graph.specs.FreshView.{fresh_one, own_one};
 ghost use Rattle.sp_system.specs.Reduced.{Reduced};
 
+use crate::shared::{Shared, fails_to_be_one, times_of};
 use sp_fact::fact::Fact;
-use sp_system::made_one::{made_one, stay_apart};
-use sp_system::system::{Event, System};
+use sp_system::event::{Event, What};
+use sp_system::made_one::made_one;
+use sp_system::system::System;
+use sp_system::way::Way;
 use sp_term::term::{Term, same};
 use std::alloc::{AllocError, Global};
 
@@ -51,13 +53,34 @@ fn stands_in(term: &Term, premises: &Vec<Fact>, start: usize) -> bool
     false
 }
 
-// Whether some Fr is used by premises of both lists.
-fn shares(left: &Vec<Fact>, right: &Vec<Fact>) -> bool
-    ensures { result ≡ fresh.share_one (fresh.fresh_terms (map fact_of left.now.items)) (fresh.fresh_terms (map fact_of right.now.items)) }
+// What the event learns as a name of the adversary's own.
+pub(crate) fn own_name(event: &Event) -> Option<&Term>
+    ensures { option_map (λ t. view t.now) result ≡ own_one (event_of event.now).happening }
 {
-    for premise in left {
+    match &event.what {
+        What::Learn(message, Way::OwnName) => Some(message),
+        _ => None,
+    }
+}
+
+// Whether the event uses the Fr of the term.
+#[tactic(auto, using(crate::proofs::FreshTerms::fresh_seen))]
+fn uses_fresh(term: &Term, event: &Event) -> bool
+    ensures { result ≡ fresh.stands_in (view term.now) (fresh.happening_fresh (event_of event.now).happening) }
+{
+    match own_name(event) {
+        Some(name) => same(term, name),
+        None => stands_in(term, event.premises(), 0),
+    }
+}
+
+// Whether the event uses an Fr that one of the premises uses.
+fn uses_one(premises: &Vec<Fact>, event: &Event) -> bool
+    ensures { result ≡ fresh.share_one (fresh.fresh_terms (map fact_of premises.now.items)) (fresh.happening_fresh (event_of event.now).happening) }
+{
+    for premise in premises {
         if let Some(term) = fresh_term(premise) {
-            if stands_in(term, right, 0) {
+            if uses_fresh(term, event) {
                 return true;
             }
         }
@@ -65,30 +88,15 @@ fn shares(left: &Vec<Fact>, right: &Vec<Fact>) -> bool
     false
 }
 
-// The first event from `start` on that uses an Fr of this one.
-fn sharing<'a>(event: &Event, events: &'a Vec<Event>, start: usize) -> Option<&'a Event>
-    requires { start ≤ length events.now.items }
-    ensures { option_map (λ d. (event_of event.now, event_of d.now)) result ≡ picked.first_with fresh.shares_fresh (event_of event.now) (map event_of (drop start events.now.items)) }
+// Whether the events use one Fr.
+#[tactic(auto, using(crate::proofs::FreshTerms::fresh_seen))]
+pub(crate) fn shares_fresh(event: &Event, other: &Event) -> bool
+    ensures { result ≡ fresh.shares_fresh (event_of event.now) (event_of other.now) }
 {
-    for position in start..events.len() {
-        let other = &events[position];
-        if shares(&event.facts.premises, &other.facts.premises) {
-            return Some(other);
-        }
+    match own_name(event) {
+        Some(name) => uses_fresh(name, other),
+        None => uses_one(event.premises(), other),
     }
-    None
-}
-
-// The times of the first two events that use one Fr.
-fn times_of_fresh(events: &Vec<Event>) -> Option<(u128, u128)>
-    ensures { result ≡ rows.times_of_fresh (map event_of events.now.items) }
-{
-    for (position, event) in events.iter().enumerate() {
-        if let Some(other) = sharing(event, events, position + 1) {
-            return Some((event.time, other.time));
-        }
-    }
-    None
 }
 
 /// Makes the times of the first two events that use one Fr one; false if there are none, or they can't be one.
@@ -99,43 +107,10 @@ fn times_of_fresh(events: &Vec<Event>) -> Option<(u128, u128)>
 pub fn fresh_once(alloc: Global, system: &mut System) -> Result<bool, AllocError>
     ensures { IfOk result (λ b. Reduced b (system_of system.old) (system_of system.new) (rows.fresh_once (system_of system.old))) }
 {
-    let Some((first, second)) = times_of_fresh(&system.events) else {
+    let Some((first, second)) = times_of(Shared::Fresh, &system.events) else {
         return Ok(false);
     };
     made_one(alloc, system, first, second)
-}
-
-fn cannot_merge(
-    alloc: Global,
-    system: &System,
-    left: &Event,
-    right: &Event,
-) -> Result<bool, AllocError>
-    ensures { IfOk result (λ b. b ≡ rows.cannot_merge (system_of system.now) (event_of left.now) (event_of right.now)) }
-{
-    if shares(&left.facts.premises, &right.facts.premises) {
-        stay_apart(alloc, system, left.time, right.time)
-    } else {
-        Ok(false)
-    }
-}
-
-// Whether some event from `start` on uses an Fr of this one and can't be one with it.
-fn fails_with(
-    alloc: Global,
-    system: &System,
-    event: &Event,
-    start: usize,
-) -> Result<bool, AllocError>
-    requires { start ≤ length system.now.events.items }
-    ensures { IfOk result (λ b. b ≡ picked.some_with (rows.cannot_merge (system_of system.now)) (event_of event.now) (map event_of (drop start system.now.events.items))) }
-{
-    for position in start..system.events.len() {
-        if cannot_merge(alloc, system, event, &system.events[position])? {
-            return Ok(true);
-        }
-    }
-    Ok(false)
 }
 
 /// Whether some two events that use one Fr can't be one.
@@ -146,12 +121,8 @@ fn fails_with(
 pub fn fails_to_merge(alloc: Global, system: &System) -> Result<bool, AllocError>
     ensures { IfOk result (λ b. b ≡ rows.fails_to_merge (system_of system.now)) }
 {
-    for (position, event) in system.events.iter().enumerate() {
-        if fails_with(alloc, system, event, position + 1)? {
-            return Ok(true);
-        }
-    }
-    Ok(false)
+    let fails = fails_to_be_one(alloc, Shared::Fresh, system)?;
+    Ok(fails)
 }
 
 // Whether some two of the premises are the same Fr.
@@ -168,12 +139,23 @@ fn repeats(premises: &Vec<Fact>) -> bool
     false
 }
 
+// Whether the event uses one Fr twice.
+#[tactic(auto, using(crate::proofs::FreshTerms::fresh_seen))]
+fn uses_twice(event: &Event) -> bool
+    ensures { result ≡ source_twice.repeats (fresh.happening_fresh (event_of event.now).happening) }
+{
+    match own_name(event) {
+        Some(_) => false,
+        None => repeats(event.premises()),
+    }
+}
+
 /// Whether two premises of one event are the same Fr.
 pub fn takes_fr_twice(events: &Vec<Event>) -> bool
     ensures { result ≡ source_twice.takes_fr_twice (map event_of events.now.items) }
 {
     for event in events {
-        if repeats(&event.facts.premises) {
+        if uses_twice(event) {
             return true;
         }
     }

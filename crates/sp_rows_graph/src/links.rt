@@ -11,8 +11,9 @@ ghost use Rattle.sp_system.specs.Reduced.{Reduced};
 
 use crate::fresh_once::takes_fr_twice;
 use sp_system::at_time::premise_at;
+use sp_system::event::Event;
 use sp_system::made_one::{made_one, stay_apart};
-use sp_system::system::{Event, Link, System};
+use sp_system::system::{Link, System};
 use std::alloc::{AllocError, Global};
 
 /// How two links clash.

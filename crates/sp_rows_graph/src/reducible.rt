@@ -7,7 +7,7 @@ ghost use Rattle.sp_spec_graph.specs.ReducibleEvent as rows;
 
 use sp_book::reducible::irreducible_facts;
 use sp_ground::signature::Equation;
-use sp_system::system::Event;
+use sp_system::event::Event;
 use std::alloc::{AllocError, Global};
 
 /// Whether an equation could be used inside a term of some event.
@@ -23,7 +23,7 @@ pub fn has_reducible(
     ensures { IfOk result (λ b. b ≡ rows.has_reducible (map equation_of equations.now.items) (map event_of events.now.items)) }
 {
     for event in events {
-        if !irreducible_facts(alloc, equations, &event.facts)? {
+        if !irreducible_facts(alloc, equations, event.facts())? {
             return Ok(true);
         }
     }

@@ -9,14 +9,14 @@ use Rattle.sp_spec.specs.Guarded.{Guarded}
 use Rattle.sp_spec.specs.Term.{Variable}
 use Rattle.sp_spec.specs.Rule.{Fact}
 use Rattle.sp_spec.proofs.Lists.{next_item}
-use Rattle.sp_spec_system.specs.System.{System}
+use Rattle.sp_spec_system.specs.System.{System, Event}
 use Rattle.sp_spec_system.specs.Picked.{first_some}
 use Rattle.sp_spec_system.specs.Rules.{Rules}
 use Rattle.sp_system.specs.SystemView.{event_of}
-use Rattle.sp_system.specs.declared.system.Event as memory
+use Rattle.sp_system.specs.declared.event.Event as memory
 use Rattle.sp_formula.specs.FormulaView.{formula_of}
 use Rattle.sp_formula.specs.declared.formula.Formula.{Formula}
-use Rattle.sp_spec_system.specs.Move.{Move, simplify, contradiction, solved, or, action, premise, Context, Case, end_log}
+use Rattle.sp_spec_system.specs.Move.{Move, simplify, contradiction, solved, or, action, premise, know, chain, Context, Case, end_log}
 use Rattle.sp_spec_proof.specs.Cases.{simple_case}
 use Rattle.sp_spec_proof.specs.Rows.{rows, by_rows, is_contradictory, fails_somewhere}
 use Rattle.sp_spec_formula.specs.Split.{has_falsity}
@@ -24,26 +24,40 @@ use Rattle.sp_spec_formula.specs.Unequal.{has_equal_pair}
 use Rattle.sp_spec_formula.specs.InOrder.{has_refuted}
 use Rattle.sp_spec_system.specs.Order.{is_cyclic}
 use Rattle.sp_spec_graph.specs.SourceTwice.{has_source_twice}
+use Rattle.sp_spec_graph.specs.LearntEarly.{has_early}
 use Rattle.sp_spec_graph.specs.ReducibleEvent.{has_reducible}
-use Rattle.sp_spec_proof.specs.Choice.{Ranked, with_rank, places_from, premises_of, at_each_formula, each_premise, is_instance, first_instance, choice}
+use Rattle.sp_spec_proof.specs.Choice.{Ranked, with_rank, places_from, at_each_formula, each_premise, at_each_message, passed_last, no_message_variable, is_fresh_variable, is_application, is_instance, first_instance, choice}
 use Rattle.sp_spec_formula.specs.Action.{solving_action}
 use Rattle.sp_spec_formula.specs.Or.{disjunction_at, or_cases}
 use Rattle.sp_spec_graph.specs.Premise.{open_premise, premise_cases}
+use Rattle.sp_spec_graph.specs.Know.{learnt_anyhow, is_message_variable}
 use Rattle.sp_moves_formula.specs.Parts.{disjuncts, by_parts}
 use Rattle.sp_moves_formula.proofs.Parts.{parts_at}
 use Rattle.sp_search.specs.declared.choose.MoveKind.{MoveKind}
 use Rattle.sp_search.specs.declared.choose.MoveKind.TheVariants as kind
+use Rattle.sp_search.specs.declared.learning.LearningKind.TheVariants as learning
 use Rattle.sp_search.specs.Choosing.{if_so, answer}
 
 -- ---- the kinds
 
 abbrev kinds : List (ℕ × MoveKind)
-kinds = (1, kind.Contradiction) ∷ (2, kind.Simplify) ∷ (3, kind.Solved) ∷ (4, kind.Or) ∷ (5, kind.Action) ∷ (7, kind.Premise) ∷ []
+kinds =
+    (1, kind.Contradiction)
+    ∷ (2, kind.Simplify)
+    ∷ (3, kind.Solved)
+    ∷ (4, kind.Or)
+    ∷ (5, kind.Action)
+    ∷ (6, kind.Learning learning.Chain)
+    ∷ (7, kind.Premise)
+    ∷ (8, kind.Learning learning.Fresh)
+    ∷ (9, kind.Learning learning.Application)
+    ∷ (10, kind.Learning learning.VariableChain)
+    ∷ []
 
 -- a place at which a row fails is a contradiction
 fails_contradicts : (rules : Rules) (s : System) → fails_somewhere s ≡ true → is_contradictory rules s ≡ true
 fails_contradicts rules s e =
-    or_right (has_falsity s.formulas) _ (or_right (has_equal_pair s.unequal) _ (or_right (has_refuted s.order s.formulas) _ (or_right (is_cyclic s.order) _ (or_right (has_source_twice s) _ (or_right (has_reducible rules.signature.equations s.events) _ e)))))
+    or_right (has_falsity s.formulas) _ (or_right (has_equal_pair s.unequal) _ (or_right (has_refuted s.order s.formulas) _ (or_right (is_cyclic s.order) _ (or_right (has_source_twice s) _ (or_right (has_early s) _ (or_right (has_reducible rules.signature.equations s.events) _ e))))))
 
 abbrev first_if : Bool → Move → Option Move
 first_if holds move = if holds then Some move else None
@@ -69,7 +83,11 @@ answers_are context s =
     by_tests context.rules (is_contradictory context.rules s) (is_some (by_rows context.rules rows s)) (fails_somewhere s) (is_some (end_log context s)) (record { name = []; system = s })
     (option_or (option_map (with_rank 4) (first_instance context s (at_each_formula or context s)))
     (option_or (option_map (with_rank 5) (first_instance context s (at_each_formula action context s)))
-    (option_or (option_map (with_rank 7) (first_instance context s (each_premise context s))) None)))
+    (option_or (option_map (with_rank 6) (first_instance context s (at_each_message chain passed_last no_message_variable context s)))
+    (option_or (option_map (with_rank 7) (first_instance context s (each_premise context s)))
+    (option_or (option_map (with_rank 8) (first_instance context s (at_each_message know learnt_anyhow is_fresh_variable context s)))
+    (option_or (option_map (with_rank 9) (first_instance context s (at_each_message know learnt_anyhow is_application context s)))
+    (option_or (option_map (with_rank 10) (first_instance context s (at_each_message chain passed_last is_message_variable context s))) None)))))))
     (fails_contradicts context.rules s)
 
 -- the kinds are gone over
@@ -89,7 +107,7 @@ next_place {X = X} context s move view all k x b below is here =
     ∙ ap (λ (t : Bool). if t then Some (move k) else rest (suc k)) here
     ∙ ap (λ (n : ℕ). if b then Some (move k) else rest n) (sym (add-one k))
 
-is_some_map : {A B : Type 0} (f : A → B) (o : Option A) → is_some (option_map f o) ≡ is_some o
+pub is_some_map : {A B : Type 0} (f : A → B) (o : Option A) → is_some (option_map f o) ≡ is_some o
 is_some_map f None = refl
 is_some_map f (Some a) = refl
 
@@ -117,11 +135,11 @@ is_open context s i p = is_some_map (map (simple_case context.rules)) (premise_c
     each None = refl
     each (Some f) = refl
 
--- ---- the premises of each event
+-- ---- the moves at each event
 
-pub next_event : (context : Context) (s : System) (all : List memory.Event) (k : ℕ) (e : memory.Event) → k < length all → e ≡ get_or all k e
-    → first_instance context s (flat_map premises_of (map event_of (drop k all)))
-    ≡ option_or (first_instance context s (premises_of (event_of e))) (first_instance context s (flat_map premises_of (map event_of (drop (k + 1) all))))
-next_event context s all k e below is =
-    ap (λ (es : List memory.Event). first_instance context s (flat_map premises_of (map event_of es))) (next_item all k e below is)
-    ∙ find-append (is_instance context s) (premises_of (event_of e)) (flat_map premises_of (map event_of (drop (k + 1) all)))
+pub next_event : (context : Context) (s : System) (moves : Event → List Move) (all : List memory.Event) (k : ℕ) (e : memory.Event) → k < length all → e ≡ get_or all k e
+    → first_instance context s (flat_map moves (map event_of (drop k all)))
+    ≡ option_or (first_instance context s (moves (event_of e))) (first_instance context s (flat_map moves (map event_of (drop (k + 1) all))))
+next_event context s moves all k e below is =
+    ap (λ (es : List memory.Event). first_instance context s (flat_map moves (map event_of es))) (next_item all k e below is)
+    ∙ find-append (is_instance context s) (moves (event_of e)) (flat_map moves (map event_of (drop (k + 1) all)))

@@ -7,11 +7,11 @@ use Rattle.std.specs.declared.boxed.Box.{Box}
 use Rattle.sp_spec_system.specs.System.{System}
 use Rattle.sp_spec_system.specs.Move.{Context}
 use Rattle.sp_spec_proof.specs.Choice.{Ranked}
-use Rattle.sp_log.specs.declared.log.Log.{Log}
+use Rattle.sp_learn.specs.declared.log.Log.{Log}
 use Rattle.sp_moves_formula.specs.declared.moves.Move as memory
 use Rattle.std.specs.declared.vec.Vec.{Vec}
 use Rattle.std.specs.declared.string.String.{String}
-use Rattle.sp_log.specs.View.{log_of}
+use Rattle.sp_learn.specs.View.{log_of}
 use Rattle.sp_search.specs.declared.node.Node.{Node}
 use Rattle.sp_search.specs.declared.node.OpenLeaf.{OpenLeaf}
 use Rattle.sp_search.specs.declared.node.Node.TheVariants.{Open, Ended, Inner}

@@ -5,6 +5,7 @@ pub mod Finished
 pub mod Gathering
 pub mod GrownNodes
 pub mod InOrder
+pub mod LearningMoves
 pub mod NextPlace
 pub mod Replaced
 pub mod Told

@@ -1,5 +1,5 @@
 -- A tree's first log, whether it is finished and its number of steps are told by its nodes.
-use Rattle.std.proofs.Common.{◌≡◌, ℕ, ◌+◌, Bool, true, false, ◌&&◌, List, Option, Some, None, refl, arith}
+use Rattle.std.proofs.Common.{◌≡◌, ℕ, ◌+◌, Bool, true, false, ◌&&◌, List, Option, None, refl, arith}
 use Rattle.sp_spec.specs.Log.{Log}
 use Rattle.sp_spec_proof.specs.Tree.{first_log, steps, steps_in}
 use Rattle.sp_spec_proof.proofs.Logs.{log_last, log_regroup}

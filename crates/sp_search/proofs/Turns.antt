@@ -2,7 +2,7 @@
 use Rattle.std.proofs.Common.{◌≡◌, ◌∙◌, ℕ, suc, ◌+◌, Bool, true, false, List, [], ◌∷◌, map, Option, Some, None, IfSome, refl, sym, ap, subst, add-one, true≢false}
 use Rattle.std.specs.Prelude.{option_map, is_some, if◌then◌else◌}
 use Rattle.sp_spec_system.specs.System.{System}
-use Rattle.sp_spec_system.specs.Move.{Move, simplify, contradiction, unproved, solved, or, action, premise, Context, Case, end_log}
+use Rattle.sp_spec_system.specs.Move.{Move, simplify, contradiction, unproved, solved, or, action, premise, know, chain, Context, Case, end_log}
 use Rattle.sp_spec_proof.specs.Cases.{simple_case, cases}
 use Rattle.sp_spec_system.specs.Rules.{Rules}
 use Rattle.sp_spec.specs.Log.{Log}
@@ -89,6 +89,8 @@ replaced_shows context s solved depth = ended_shows context.rules (end_log conte
 replaced_shows context s (or k) depth = ap (node (or k)) (leaves_show context (depth + 1) (cases context s (or k)))
 replaced_shows context s (action k) depth = ap (node (action k)) (leaves_show context (depth + 1) (cases context s (action k)))
 replaced_shows context s (premise i p) depth = ap (node (premise i p)) (leaves_show context (depth + 1) (cases context s (premise i p)))
+replaced_shows context s (know i) depth = ap (node (know i)) (leaves_show context (depth + 1) (cases context s (know i)))
+replaced_shows context s (chain i) depth = ap (node (chain i)) (leaves_show context (depth + 1) (cases context s (chain i)))
 
 ended_belongs : (context : Context) (depth : ℕ) (s : System) (o : Option Log) → end_log context s ≡ o → is_some o ≡ true → Belongs context depth s (ended_with o)
 ended_belongs context depth s None e some = absurd (true≢false (sym some))
@@ -102,6 +104,8 @@ replaced_belongs context s solved depth proper e = ended_belongs context depth s
 replaced_belongs context s (or n) depth proper e = (refl, refl, leaves_belong context (suc depth) (depth + 1) (add-one depth) (cases context s (or n)))
 replaced_belongs context s (action n) depth proper e = (refl, refl, leaves_belong context (suc depth) (depth + 1) (add-one depth) (cases context s (action n)))
 replaced_belongs context s (premise i p) depth proper e = (refl, refl, leaves_belong context (suc depth) (depth + 1) (add-one depth) (cases context s (premise i p)))
+replaced_belongs context s (know i) depth proper e = (refl, refl, leaves_belong context (suc depth) (depth + 1) (add-one depth) (cases context s (know i)))
+replaced_belongs context s (chain i) depth proper e = (refl, refl, leaves_belong context (suc depth) (depth + 1) (add-one depth) (cases context s (chain i)))
 
 leaf_becomes : (context : Context) (depth : ℕ) (s : System) (chosen : Option Ranked) (b : Bool)
     → Became (node unproved no_branch) (shown (opened context s chosen depth b).0) (opened context s chosen depth b).1 (if b then option_map (grown_leaf context s) chosen else None)

@@ -10,7 +10,8 @@ use Rattle.sp_spec_proof.specs.Choice.{first_instance, at_each_formula, each_pre
 use Rattle.sp_step.specs.View.{move_of}
 use Rattle.sp_search.specs.declared.choose.Ranked.{Ranked}
 use Rattle.sp_search.specs.declared.choose.MoveKind.{MoveKind}
-use Rattle.sp_search.specs.declared.choose.MoveKind.TheVariants.{Contradiction, Simplify, Solved, Or, Action, Premise}
+use Rattle.sp_search.specs.declared.choose.MoveKind.TheVariants.{Contradiction, Simplify, Solved, Or, Action, Premise, Learning}
+use Rattle.sp_search.specs.Learning.{each_move}
 
 abbrev pub ranked_of : Ranked → choice.Ranked
 ranked_of r = with_rank r.rank (move_of r.chosen)
@@ -25,6 +26,7 @@ asked context s Solved = if_so (is_some (end_log context s)) spec.solved
 asked context s Or = first_instance context s (at_each_formula spec.or context s)
 asked context s Action = first_instance context s (at_each_formula spec.action context s)
 asked context s Premise = first_instance context s (each_premise context s)
+asked context s (Learning kind) = first_instance context s (each_move kind s.events)
 
 -- with the kind's rank
 abbrev pub answer : Context → System → ℕ × MoveKind → Option choice.Ranked

@@ -1,20 +1,24 @@
 // The move that is chosen for a system.
 
-ghost use Rattle.std.specs.Prelude.{◌≡◌, IfOk, is_some, option_map};
+ghost use Rattle.std.specs.Prelude.{◌≡◌, IfOk, is_some, map, option_map};
 ghost use Rattle.sp_spec_system.specs.Move as spec;
 ghost use Rattle.sp_spec_graph.specs.Premise as premise_spec;
+ghost use Rattle.sp_fact.specs.View.{fact_of};
 ghost use Rattle.sp_system.specs.SystemView.{event_of, system_of};
 ghost use Rattle.sp_step.specs.View.{context_of, move_of};
-ghost use Rattle.sp_spec_proof.specs.Choice.{at_each_formula, choice, each_premise, first_instance, premises_of};
+ghost use Rattle.sp_spec_proof.specs.Choice.{at_each_formula, choice, each_premise, first_instance, places_from, premises_of};
 ghost use Rattle.sp_search.specs.Choosing.{asked, ranked_of};
 
+use crate::learning::{LearningKind, first_learning};
+use sp_fact::fact::Fact;
 use sp_step::action::is_solvable;
 use sp_step::context::Context;
 use sp_step::moves::Move;
 use sp_step::part::is_disjunction;
 use sp_step::premise::{Premise, open_premise};
 use sp_step::simplify::{is_contradictory, is_reducible};
-use sp_system::system::{Event, System};
+use sp_system::event::Event;
+use sp_system::system::System;
 use std::alloc::{AllocError, Global};
 
 /// A move that is chosen, and the rank of its kind.
@@ -41,16 +45,22 @@ pub enum MoveKind {
     Action,
     /// on a premise
     Premise,
+    /// on a message that is learnt
+    Learning(LearningKind),
 }
 
 // The kinds and their ranks, in the order in which they are asked.
-const KINDS: [(u64, MoveKind); 6] = [
+const KINDS: [(u64, MoveKind); 10] = [
     (1, MoveKind::Contradiction),
     (2, MoveKind::Simplify),
     (3, MoveKind::Solved),
     (4, MoveKind::Or),
     (5, MoveKind::Action),
+    (6, MoveKind::Learning(LearningKind::Chain)),
     (7, MoveKind::Premise),
+    (8, MoveKind::Learning(LearningKind::Fresh)),
+    (9, MoveKind::Learning(LearningKind::Application)),
+    (10, MoveKind::Learning(LearningKind::VariableChain)),
 ];
 
 /// The first instance of the first kind of moves that has one, with the rank of that kind; none where no kind has one.
@@ -99,6 +109,7 @@ fn asked(
         MoveKind::Or => Ok(first_disjunction(system)),
         MoveKind::Action => first_action(alloc, system),
         MoveKind::Premise => Ok(first_premise(system)),
+        MoveKind::Learning(kind) => first_learning(alloc, context, system, kind),
     }
 }
 
@@ -130,17 +141,23 @@ fn is_open(system: &System, time: u128, place: usize) -> bool
     open_premise(system, Premise { time, place }).is_some()
 }
 
-// On the first of the event's premises whose source can be looked for.
-fn first_of_event(system: &System, event: &Event) -> Option<Move>
-    ensures { (context : spec.Context) → option_map move_of result ≡ first_instance context (system_of system.now) (premises_of (event_of event.now)) }
+// On the first of the premises at the time whose source can be looked for.
+fn first_among(system: &System, time: u128, premises: &Vec<Fact>) -> Option<Move>
+    ensures { (context : spec.Context) → option_map move_of result
+        ≡ first_instance context (system_of system.now) (map (spec.premise time) (places_from 0 (map fact_of premises.now.items))) }
 {
-    let time = event.time;
-    for (place, _premise) in event.facts.premises.iter().enumerate() {
+    for (place, _premise) in premises.iter().enumerate() {
         if is_open(system, time, place) {
             return Some(Move::Premise(Premise { time, place }));
         }
     }
     None
+}
+
+fn first_of_event(system: &System, event: &Event) -> Option<Move>
+    ensures { (context : spec.Context) → option_map move_of result ≡ first_instance context (system_of system.now) (premises_of (event_of event.now)) }
+{
+    first_among(system, event.time, event.premises())
 }
 
 fn first_premise(system: &System) -> Option<Move>

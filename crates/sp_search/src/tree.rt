@@ -5,7 +5,7 @@ ghost use Rattle.sp_search.specs.Kinds.{case_count};
 ghost use Rattle.sp_search.specs.NodeView.{nodes_at};
 
 use crate::node::Node;
-use sp_log::log::Log;
+use sp_learn::log::Log;
 
 /// A proof tree: its nodes in preorder, each before the trees of its cases.
 #[derive(Debug, Drop)]
@@ -17,7 +17,7 @@ pub struct Tree {
 
 impl Tree {
     ghost use Rattle.std.specs.Prelude.{◌≡◌, option_map};
-    ghost use Rattle.sp_log.specs.View.{log_of};
+    ghost use Rattle.sp_learn.specs.View.{log_of};
     ghost use Rattle.sp_search.specs.Kept.{log_in};
     ghost use Rattle.sp_search.specs.View.{kept_of};
 

@@ -9,7 +9,7 @@ use Rattle.std.proofs.lemmas.Slice.Eq.{bytes_eq-Decides}
 use Rattle.std.proofs.Math.Nat.{mod-lt}
 use Rattle.sp_spec_text.specs.Bytes as class
 use Rattle.sp_spec_text.specs.Lex.{is_first, is_in, is_digit, skip}
-use Rattle.sp_spec_text.specs.Names.{is_reserved, IsName, IsWord}
+use Rattle.sp_spec_text.specs.Names.{is_reserved, IsName, IsWord, IsNameWord}
 use Rattle.sp_spec_text.specs.Numerals.{are_digits}
 use Rattle.sp_spec_text.proofs.Rests.{first_kept}
 use Rattle.sp_spec_text.proofs.Numerals.{digits_skipped}
@@ -66,6 +66,13 @@ part_digits ds = refl
 part_word : (ds : List ℕ) → are_digits ds ≡ true → IsWord (codes "case_" ++ ds)
 part_word ds h = (refl, part_digits ds ∙ digits_skipped ds h)
 
+chain_digits : (ds : List ℕ) → skip class.Word (codes "hain_" ++ ds) ≡ skip class.Word ds
+unfolding skip
+chain_digits ds = refl
+
+chain_word : (ds : List ℕ) → are_digits ds ≡ true → IsWord (codes "chain_" ++ ds)
+chain_word ds h = (refl, chain_digits ds ∙ digits_skipped ds h)
+
 case_word : (n ds : List ℕ) → IsWord n → are_digits ds ≡ true → IsWord (n ++ (codes "_case_" ++ ds))
 case_word [] ds h d = absurd h
 case_word (c ∷ w) ds h d = (h.0, skip_onto w (codes "_case_" ++ ds) h.1 refl ∙ case_digits ds ∙ digits_skipped ds d)
@@ -105,5 +112,30 @@ at_named n = (named_behind (codes "at") (decimal n), at_word (decimal n) (all_di
 pub part_named : (n : ℕ) → IsName (codes "case_" ++ decimal n) × IsWord (codes "case_" ++ decimal n)
 part_named n = (named_behind (codes "case") (decimal n), part_word (decimal n) (all_digits n))
 
+pub chain_named : (n : ℕ) → IsName (codes "chain_" ++ decimal n) × IsWord (codes "chain_" ++ decimal n)
+chain_named n = (named_behind (codes "chain") (decimal n), chain_word (decimal n) (all_digits n))
+
 pub case_named : (name : List ℕ) (k : ℕ) → IsWord name → IsName (name ++ (codes "_case_" ++ decimal k)) × IsWord (name ++ (codes "_case_" ++ decimal k))
 case_named name k h = (named_behind name (codes "case_" ++ decimal k), case_word name (decimal k) h (all_digits k))
+
+-- those of what the adversary does
+
+pub send_named : IsNameWord (codes "Send")
+unfolding is_reserved skip
+send_named = (refl, (refl, refl))
+
+pub learn_named : IsNameWord (codes "Learn")
+unfolding is_reserved skip
+learn_named = (refl, (refl, refl))
+
+pub made_named : IsNameWord (codes "made")
+unfolding is_reserved skip
+made_named = (refl, (refl, refl))
+
+pub own_named : IsNameWord (codes "own")
+unfolding is_reserved skip
+own_named = (refl, (refl, refl))
+
+pub done_named : IsNameWord (codes "done")
+unfolding is_reserved skip
+done_named = (refl, (refl, refl))

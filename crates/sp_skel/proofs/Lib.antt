@@ -4,7 +4,9 @@ pub mod Cut
 pub mod Decimals
 pub mod Goals
 pub mod InOrder
+pub mod LearningNames
 pub mod Levels
+pub mod NamedCases
 pub mod NamedPlaces
 pub mod Nodes
 pub mod Unbroken

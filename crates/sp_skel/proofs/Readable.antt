@@ -1,19 +1,22 @@
 -- The cases of accepted trees have names, or are alone.
 use Rattle.std.proofs.Common.{◌≡◌, ℕ, suc, Bool, true, false, if◌then◌else◌, List, [], ◌∷◌, ◌++◌, codes, map, Option, Some, None, option_map, refl, sym, ap, subst, ◌∙◌, ◌⊎◌, inl, inr}
 use Rattle.std.specs.Prelude.{decimal, is_some, slice_get}
-use Rattle.sp_spec.specs.Term.{Variable}
+use Rattle.sp_spec.specs.Term.{Variable, Term}
 use Rattle.sp_spec.specs.Rule.{Fact, Action}
 use Rattle.sp_spec.specs.Guarded.{Guarded, Guardeds, no_more, and_then}
 use Rattle.sp_spec.specs.Log.{Log}
+use Rattle.sp_spec.specs.Destruction.{Destruction, destructions}
 use Rattle.sp_spec_system.specs.System.{System, Event, happening_actions}
 use Rattle.sp_spec_system.specs.Formulas.{Found}
 use Rattle.sp_spec_system.specs.MakingOne.{event_at}
 use Rattle.sp_spec_proof.specs.Rows.{has_place, is_contradictory}
-use Rattle.sp_spec_system.specs.Move.{Move, simplify, contradiction, unproved, solved, or, action, premise, Context, Case, end_log}
-use Rattle.sp_spec_system.specs.Cases.{where_same, case_if, numbered, named}
-use Rattle.sp_spec_formula.specs.Action.{at_event, by_forms, by_each, action_cases, solving_action}
+use Rattle.sp_spec_system.specs.Move.{Move, simplify, contradiction, unproved, solved, or, action, premise, know, chain, Context, Case, end_log}
+use Rattle.sp_spec_system.specs.Cases.{where_same, case_if, named}
+use Rattle.sp_spec_formula.specs.Action.{at_event, by_forms, by_each, by_adversary, action_cases, solving_action}
 use Rattle.sp_spec_formula.specs.Or.{by_part, disjunction_at, or_cases}
 use Rattle.sp_spec_graph.specs.Premise.{source_forms, by_each_source, open_premise, premise_cases}
+use Rattle.sp_spec_graph.specs.Know.{wanted_at, made_case, own_case, by_each_output}
+use Rattle.sp_spec_graph.specs.Chain.{Begun, begun_at, done_case, by_destructions}
 use Rattle.sp_spec_proof.specs.Cases.{raw_cases, simple_case, cases}
 use Rattle.sp_spec_proof.specs.Tree.{Tree, node, Branches, no_branch, branch, IsAccepted, AreAccepted}
 use Rattle.sp_spec_proof.specs.Growth.{grown_tree}
@@ -23,37 +26,18 @@ use Rattle.sp_moves_formula.proofs.ByAction.{sought_cases, solves}
 use Rattle.sp_spec_text.specs.Names.{IsName, IsWord}
 use Rattle.sp_skel.specs.Places.{HasPlace, HavePlaces, AllHavePlaces}
 use Rattle.sp_skel.specs.Spelling.{IsReadable, AreReadable, MayHaveCases, AreNamed}
-use Rattle.sp_skel.proofs.CaseNames.{at_named, part_named, case_named}
+use Rattle.sp_skel.proofs.CaseNames.{at_named, part_named}
+use Rattle.sp_skel.proofs.NamedCases.{CasesNamed, named_append, if_named, rule_named}
+use Rattle.sp_skel.proofs.LearningNames.{adversary_named, made_cases_named, own_cases_named, outputs_named, done_cases_named, destructions_named}
 use Rattle.sp_spec_system.specs.Rules.{Rules}
 use Rattle.sp_spec_forms.specs.Forms.{RuleForms}
 
 -- ---- cases with names
 
-abbrev pub CasesNamed : List Case → Type 0
-CasesNamed [] = Unit {0}
-CasesNamed (c ∷ cs) = IsName c.name × IsWord c.name × CasesNamed cs
-
-named_append : (xs ys : List Case) → CasesNamed xs → CasesNamed ys → CasesNamed (xs ++ ys)
-named_append [] ys h k = k
-named_append (c ∷ xs) ys h k = (h.0, h.1, named_append xs ys h.2 k)
-
-if_named : (name : List ℕ) (o : Option System) → IsName name × IsWord name → CasesNamed (case_if name o)
-if_named name None h = tt
-if_named name (Some s) h = (h.0, h.1, tt)
-
 event_named : (s : System) (a : Action Variable) (n : ℕ) (bs : List (Action Variable)) → CasesNamed (at_event s a n bs)
 event_named s a n [] = tt
 event_named s a n (b ∷ bs) =
     named_append (case_if (codes "at_" ++ decimal n) (where_same s a b)) (at_event s a (suc n) bs) (if_named (codes "at_" ++ decimal n) (where_same s a b) (at_named n)) (event_named s a (suc n) bs)
-
-numbered_named : (name : List ℕ) (k : ℕ) (systems : List System) → IsWord name → CasesNamed (numbered name k systems)
-numbered_named name k [] h = tt
-numbered_named name k (s ∷ systems) h = let n = case_named name k h in (n.0, n.1, numbered_named name (suc k) systems h)
-
-rule_named : (name : List ℕ) (systems : List System) → IsName name → IsWord name → CasesNamed (named name systems)
-rule_named name [] h w = tt
-rule_named name (s ∷ []) h w = (h, w, tt)
-rule_named name (s ∷ t ∷ systems) h w = numbered_named name 1 (s ∷ t ∷ systems) w
 
 each_named : (rules : List RuleForms) (s : System) (i : ℕ) (a : Action Variable) → AreNamed rules → CasesNamed (by_each rules s i a)
 each_named [] s i a h = tt
@@ -73,7 +57,8 @@ sources_named (r ∷ rules) s i p f h =
 
 action_named : (rules : List RuleForms) (s : System) (i : ℕ) (a : Action Variable) (o : Option Event) → AreNamed rules → CasesNamed (action_cases rules s i a o)
 action_named rules s i a (Some e) h = event_named s a 0 (happening_actions e.happening)
-action_named rules s i a None h = each_named rules s i a h
+action_named rules s i a None h =
+    named_append (by_each rules s i a) (by_adversary s i a.symbol a.args) (each_named rules s i a h) (adversary_named s i a.symbol a.args)
 
 -- ---- the cases of a move
 
@@ -106,6 +91,23 @@ premise_fine : (rules : List RuleForms) (s : System) (i p : ℕ) (o : Option (Fa
 premise_fine rules s i p None cs h e = absurd (let none : ⊥ = cc in none)
 premise_fine rules s i p (Some f) cs h e = let g : by_each_source rules s i p f ≡ cs = cc in inl (subst CasesNamed g (sources_named rules s i p f h))
 
+know_fine : (rules : Rules) (s : System) (i : ℕ) (o : Option (Term Variable)) (cs : List Case) → AreNamed rules.forms
+    → option_map (λ m. made_case rules.signature.symbols s i m ++ (own_case s i m ++ by_each_output rules.forms s i)) o ≡ Some cs → Fine cs
+know_fine rules s i None cs h e = absurd (let none : ⊥ = cc in none)
+know_fine rules s i (Some m) cs h e =
+    let f : made_case rules.signature.symbols s i m ++ (own_case s i m ++ by_each_output rules.forms s i) ≡ cs = cc in
+    let made = made_case rules.signature.symbols s i m in
+    let own = own_case s i m in
+    let outputs = by_each_output rules.forms s i in
+    inl (subst CasesNamed f
+    (named_append made (own ++ outputs) (made_cases_named rules.signature.symbols s i m) (named_append own outputs (own_cases_named s i m) (outputs_named rules.forms s i h))))
+
+chain_fine : (ds : List Destruction) (s : System) (i : ℕ) (o : Option Begun) (cs : List Case) → option_map (λ (b : Begun). done_case s i b ++ by_destructions s i b 1 ds) o ≡ Some cs → Fine cs
+chain_fine ds s i None cs e = absurd (let none : ⊥ = cc in none)
+chain_fine ds s i (Some b) cs e =
+    let f : done_case s i b ++ by_destructions s i b 1 ds ≡ cs = cc in
+    inl (subst CasesNamed f (named_append (done_case s i b) (by_destructions s i b 1 ds) (done_cases_named s i b) (destructions_named s i b 1 ds)))
+
 raw_fine : (context : Context) (s : System) (move : Move) (cs : List Case) → AreNamed context.rules.forms → raw_cases context s move ≡ Some cs → Fine cs
 raw_fine context s simplify cs h e = at (has_place context.rules s) e
   where
@@ -125,6 +127,8 @@ raw_fine context s solved cs h e = at (is_some (end_log context s)) e
     at false e = absurd (let none : ⊥ = cc in none)
 raw_fine context s (or k) cs h e = or_fine s (disjunction_at k s.formulas) cs e
 raw_fine context s (premise i p) cs h e = premise_fine context.rules.forms s i p (open_premise s i p) cs h e
+raw_fine context s (know i) cs h e = know_fine context.rules s i (wanted_at context.rules.signature.symbols s i) cs h e
+raw_fine context s (chain i) cs h e = chain_fine (destructions context.rules.signature) s i (begun_at s i) cs e
 raw_fine context s (action k) cs h e = solving_fine context.rules.forms s (slice_get s.formulas k) cs h e
 
 simple_named : (rules : Rules) (cs : List Case) → CasesNamed cs → CasesNamed (map (simple_case rules) cs)
@@ -188,6 +192,8 @@ ends_or_may solved = inl refl
 ends_or_may (or k) = inr refl
 ends_or_may (action k) = inr refl
 ends_or_may (premise i p) = inr refl
+ends_or_may (know i) = inr refl
+ends_or_may (chain i) = inr refl
 
 either_fine : (context : Context) (s : System) (m : Move) (bs : Branches) → (m ≡ solved) ⊎ MayHaveCases m → AreNamed context.rules.forms → HasPlace m → AreAccepted context (cases context s m) bs → TreesReadable bs
     → IsReadable (node m bs)

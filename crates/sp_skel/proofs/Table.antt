@@ -5,7 +5,7 @@ use Rattle.std.proofs.lemmas.Slice.Eq.{bytes_eq-Decides}
 use Rattle.sp_spec_text.specs.Token.{word}
 use Rattle.sp_spec_text.specs.Lex.{is_end, is_solve, skip}
 use Rattle.sp_spec_text.specs.Proofs.{is_method}
-use Rattle.sp_spec_system.specs.Move.{Move, simplify, contradiction, unproved, solved, or, action, premise}
+use Rattle.sp_spec_system.specs.Move.{Move, simplify, contradiction, unproved, solved, or, action, premise, know, chain}
 use Rattle.sp_spec_system.specs.Words.{Argument, place, time, Words, method, goal, words_of, of_method, by_one, by_two, of_goal, number, stand_alone}
 use Rattle.sp_skel.specs.Laws.{IsGoal}
 use Rattle.sp_spec_text.specs.Names.{IsWord}
@@ -35,6 +35,8 @@ lines solved = record { says = refl; is_word = (refl, refl); goes_on = refl; no_
 lines (or k) = record { says = refl; unbroken = record { some = omega arith; unbroken = refl } }
 lines (action k) = record { says = refl; unbroken = record { some = omega arith; unbroken = refl } }
 lines (premise i p) = record { says = refl; unbroken = record { some = omega arith; unbroken = refl } }
+lines (know i) = record { says = refl; unbroken = record { some = omega arith; unbroken = refl } }
+lines (chain i) = record { says = refl; unbroken = record { some = omega arith; unbroken = refl } }
 
 -- ---- the inverse
 
@@ -83,8 +85,10 @@ unfolding of_goal
 goals_back w numbers m =
     goal_or w (codes "or") numbers m _ _ (one_back (codes "or") or (λ k. record { arguments = place k ∷ []; words_are = refl; numbers_are = refl }) numbers m)
     (goal_or w (codes "action") numbers m _ _ (one_back (codes "action") action (λ k. record { arguments = place k ∷ []; words_are = refl; numbers_are = refl }) numbers m)
-    (goal_or w (codes "premise") numbers m _ None (two_back (codes "premise") premise (λ i p. record { arguments = time i ∷ place p ∷ []; words_are = refl; numbers_are = refl }) numbers m)
-    (λ e. absurd (let none : ⊥ = cc in none))))
+    (goal_or w (codes "premise") numbers m _ _ (two_back (codes "premise") premise (λ i p. record { arguments = time i ∷ place p ∷ []; words_are = refl; numbers_are = refl }) numbers m)
+    (goal_or w (codes "know") numbers m _ _ (one_back (codes "know") know (λ i. record { arguments = time i ∷ []; words_are = refl; numbers_are = refl }) numbers m)
+    (goal_or w (codes "chain") numbers m _ None (one_back (codes "chain") chain (λ i. record { arguments = time i ∷ []; words_are = refl; numbers_are = refl }) numbers m)
+    (λ e. absurd (let none : ⊥ = cc in none))))))
 
 -- ---- the lines, by the words
 

@@ -97,7 +97,7 @@ is_unbuilt_method word = bytes_eq word (codes "induction")
 unfoldable pub is_unbuilt : List ℕ → List (List ℕ) → Bool
 is_unbuilt word others =
     if bytes_eq word (codes "more") || bytes_eq word (codes "finish") then are_none others
-    else if bytes_eq word (codes "know") || bytes_eq word (codes "chain") || bytes_eq word (codes "source") || bytes_eq word (codes "top") then is_one is_number others
+    else if bytes_eq word (codes "source") || bytes_eq word (codes "top") then is_one is_number others
     else if bytes_eq word (codes "compare") then are_two is_number is_number others
     else if bytes_eq word (codes "same") then are_sides others
     else false

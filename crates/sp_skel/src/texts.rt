@@ -269,7 +269,7 @@ pub fn is_unbuilt(word: &[u8], others: &[&[u8]]) -> bool
 {
     if is(word, "more") || is(word, "finish") {
         others.is_empty()
-    } else if is(word, "know") || is(word, "chain") || is(word, "source") || is(word, "top") {
+    } else if is(word, "source") || is(word, "top") {
         is_one_number(others)
     } else if is(word, "compare") {
         are_two_numbers(others)

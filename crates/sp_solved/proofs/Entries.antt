@@ -4,8 +4,8 @@ use Rattle.std.proofs.lemmas.List.{map-append}
 use Rattle.sp_spec.specs.Term.{Values}
 use Rattle.sp_spec.specs.Log as log
 use Rattle.sp_spec_system.specs.System.{Event, Link}
-use Rattle.sp_log.specs.View.{entry_of}
-use Rattle.sp_log.specs.declared.log.Entry.{Entry}
+use Rattle.sp_learn.specs.View.{entry_of}
+use Rattle.sp_learn.specs.declared.log.Entry.{Entry}
 use Rattle.sp_solved.specs.Candidate as spec
 use Rattle.sp_solved.proofs.Firsts.{behind, first_put}
 

@@ -3,7 +3,7 @@ use Rattle.std.proofs.Common.{◌≡◌, ◌<◌, ℕ, zero, suc, Bool, true, fa
 use denote.Ref.{Bor}
 use Rattle.sp_spec_system.specs.System as spec
 use Rattle.sp_system.specs.SystemView.{event_of}
-use Rattle.sp_system.specs.declared.system.Event.{Event}
+use Rattle.sp_system.specs.declared.event.Event.{Event}
 use Rattle.sp_solved.specs.Listing.{some_before, passed, first_free}
 use Rattle.sp_solved.specs.ListingView.{events_of, free_place}
 

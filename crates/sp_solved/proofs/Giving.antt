@@ -1,5 +1,5 @@
 -- Public names that are given one after the other.
-use Rattle.std.proofs.Common.{◌≡◌, ℕ, zero, suc, ◌+◌, ◌-◌, ◌<◌, Bool, true, false, if◌then◌else◌, List, [], ◌∷◌, ◌++◌, map, drop, length, get_or, refl, sym, ap, ◌∙◌, add-one, arith, append_assoc}
+use Rattle.std.proofs.Common.{◌≡◌, ℕ, zero, suc, ◌+◌, ◌-◌, ◌<◌, Bool, true, false, if◌then◌else◌, List, [], ◌∷◌, ◌++◌, map, drop, length, get_or, refl, sym, ap, ◌∙◌, add-one, append_assoc}
 use Rattle.std.proofs.Math.Seq.{drop-length}
 use Rattle.std.proofs.lemmas.List.{append-nil}
 use Rattle.sp_spec.specs.Term as spec
@@ -10,6 +10,7 @@ use Rattle.sp_term.specs.View.{variable_of}
 use Rattle.sp_term.specs.declared.term.Variable.{Variable}
 use Rattle.sp_solved.specs.Naming.{public_name, public_given}
 use Rattle.sp_spec.proofs.Lists.{next_item}
+use Rattle.sp_system.proofs.Turns.{one_less}
 
 pub none_left : (cs : List (List ℕ)) (n k : ℕ) → public_given cs n k [] ≡ []
 none_left cs zero k = refl
@@ -22,9 +23,6 @@ over_one cs m k (x ∷ xs) e = ap (λ (b : Bool). if b then public_given cs m (s
 one_given : (cs : List (List ℕ)) (m k : ℕ) (x : spec.Variable) (xs : List spec.Variable) → is_listed (public_name k) cs ≡ false
     → public_given cs (suc m) k (x ∷ xs) ≡ (x, constant (public_name k)) ∷ public_given cs m (suc k) xs
 one_given cs m k x xs e = ap (λ (b : Bool). if b then public_given cs m (suc k) (x ∷ xs) else (x, constant (public_name k)) ∷ public_given cs m (suc k) xs) e
-
-one_less : (total passed : ℕ) → passed < total → total - passed ≡ suc (total - (passed + 1))
-one_less total passed h = omega arith
 
 -- the name of this number is passed over
 pub passed_over : (cs : List (List ℕ)) (total passed : ℕ) (n : List ℕ) (xs : List spec.Variable) (before target : List Bound) → passed < total → n ≡ public_name (passed + 1) → is_listed n cs ≡ true

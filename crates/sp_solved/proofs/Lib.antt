@@ -7,4 +7,3 @@ pub mod Giving
 pub mod Rounds
 pub mod Constant
 pub mod Entries
-pub mod Alone

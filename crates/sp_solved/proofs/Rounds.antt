@@ -1,19 +1,17 @@
 -- Rounds in which events are taken.
-use Rattle.std.proofs.Common.{◌≡◌, ◌<◌, ◌+◌, ◌-◌, ℕ, suc, List, [], ◌∷◌, ◌++◌, Option, Some, None, option_map, option_and_then, sym, ap, ◌∙◌, arith}
+use Rattle.std.proofs.Common.{◌≡◌, ◌<◌, ◌+◌, ◌-◌, ℕ, List, [], ◌∷◌, ◌++◌, Option, Some, None, option_map, option_and_then, sym, ap, ◌∙◌}
 use Rattle.std.proofs.lemmas.List.{map-append}
 use denote.Ref.{Bor}
 use Rattle.sp_spec_system.specs.System as spec
 use Rattle.sp_system.specs.SystemView.{event_of}
-use Rattle.sp_system.specs.declared.system.Event.{Event}
+use Rattle.sp_system.specs.declared.event.Event.{Event}
 use Rattle.sp_solved.specs.Listing.{first_free, one_by_one}
 use Rattle.sp_solved.specs.ListingView.{events_of}
 use Rattle.sp_solved.proofs.Firsts.{behind, regrouped}
+use Rattle.sp_system.proofs.Turns.{one_less}
 
 abbrev in_round : (List spec.Event → Option (List spec.Event)) → Option (spec.Event × List spec.Event) → Option (List spec.Event)
 in_round later o = option_and_then (λ (p : spec.Event × List spec.Event). option_map (λ (es : List spec.Event). p.0 ∷ es) (later p.1)) o
-
-one_less : (total i : ℕ) → i < total → total - i ≡ suc (total - (i + 1))
-one_less total i h = omega arith
 
 pub stuck : (order : List (ℕ × ℕ)) (total i : ℕ) (left listed : List spec.Event) (target : Option (List spec.Event)) → i < total → first_free order left left ≡ None
     → behind listed (one_by_one (total - i) order left) ≡ target → None ≡ target

@@ -1,15 +1,15 @@
 -- The log that a solved system suggests: its events one after the other, each behind those that the order puts before it, with names for
 -- the variables that are left. Source: CSF 2012, "Constraint solving" (extracting an attack from a solved system).
-use Rattle.std.specs.Prelude.{ℕ, suc, ◌==◌, Bool, true, false, not, ◌&&◌, ◌||◌, if◌then◌else◌, List, [], ◌∷◌, Option, Some, None, option_map, option_and_then, unwrap_or}
-use Rattle.sp_spec.specs.Term.{Variable, Values, valued}
+use Rattle.std.specs.Prelude.{ℕ, suc, ◌==◌, Bool, true, false, not, ◌&&◌, ◌||◌, if◌then◌else◌, List, [], ◌∷◌, map, Option, Some, None, option_map, option_and_then, unwrap_or}
+use Rattle.sp_spec.specs.Term.{Variable, Term, var, Values, valued}
 use Rattle.sp_spec.specs.Rule.{Fact, facts_at}
 use Rattle.sp_spec.specs.Guarded.{Guarded, holds, acts, free_time}
-use Rattle.sp_spec.specs.Log.{Entry, step, send, learn, Source, fresh_rule, conclusion, is_fr}
-use Rattle.sp_spec_system.specs.System.{Happening, rule_step, sending, learning, Event, Link, System, happening_premises}
-use Rattle.sp_spec_system.specs.Solutions.{how_at}
+use Rattle.sp_spec.specs.Log.{Entry, step, send, learn, How, Source, fresh_rule, conclusion, is_fr}
+use Rattle.sp_spec.specs.Log as log
+use Rattle.sp_spec_system.specs.System.{Way, anyhow, public_name, own_name, constructed, chain_begun, chain_done, Happening, rule_step, sending, learning, Event, Link, System, happening_premises}
 use Rattle.sp_spec_system.specs.Order.{is_cyclic}
 use Rattle.sp_solved.specs.Listing.{in_order}
-use Rattle.sp_solved.specs.Naming.{values_of}
+use Rattle.sp_solved.specs.Naming.{if_fresh, values_of}
 
 -- ---- which systems suggest one
 
@@ -49,19 +49,28 @@ abbrev pub all_sourced : List Event → List Link → List Event → Bool
 all_sourced events links [] = true
 all_sourced events links (e ∷ es) = are_sourced events links e.time 0 (happening_premises e.happening) && all_sourced events links es
 
--- a rule's step; a test of logs in which the adversary sends or learns is not built
-abbrev pub is_rule_step : Happening → Bool
-is_rule_step (rule_step r facts) = true
-is_rule_step (sending m) = false
-is_rule_step (learning m way) = false
+-- a variable for which a public name may stand
+abbrev pub may_be_public : Term Variable → Bool
+may_be_public (var x) = if_fresh x.sort false true
+may_be_public t = false
 
-abbrev pub are_rule_steps : List Event → Bool
-are_rule_steps [] = true
-are_rule_steps (e ∷ es) = is_rule_step e.happening && are_rule_steps es
+-- it is settled how the message is learnt: a chain has all of its messages, and what is learnt anyhow becomes a public name
+abbrev pub is_settled_way : Term Variable → Way → Bool
+is_settled_way m anyhow = may_be_public m
+is_settled_way m (chain_begun i k ts) = false
+is_settled_way m way = true
 
--- each event is a rule's step, each action has an event, each premise a source, and the order no cycle
+abbrev pub is_settled : Happening → Bool
+is_settled (learning m way) = is_settled_way m way
+is_settled h = true
+
+abbrev pub are_settled : List Event → Bool
+are_settled [] = true
+are_settled (e ∷ es) = is_settled e.happening && are_settled es
+
+-- each learning is settled, each action has an event, each premise a source, and the order no cycle
 abbrev pub is_ready : System → Bool
-is_ready s = are_rule_steps s.events && (have_places s.events s.formulas && (all_sourced s.events s.links s.events && not (is_cyclic s.order)))
+is_ready s = are_settled s.events && (have_places s.events s.formulas && (all_sourced s.events s.links s.events && not (is_cyclic s.order)))
 
 -- ---- the log
 
@@ -91,11 +100,20 @@ sources_from listed links i p (f ∷ fs) =
 abbrev pub position_of : List Event → ℕ → ℕ
 position_of listed i = unwrap_or (place_of i listed) 0
 
+-- what is learnt anyhow is learnt as the public name that its variable is given
+abbrev pub how_at : List Event → Values → Way → How
+how_at listed v anyhow = log.public_name
+how_at listed v public_name = log.public_name
+how_at listed v own_name = log.own_name
+how_at listed v constructed = log.constructed
+how_at listed v (chain_begun i k ts) = log.by_chain (position_of listed i) k (map (valued v) ts)
+how_at listed v (chain_done i k ts) = log.by_chain (position_of listed i) k (map (valued v) ts)
+
 -- the entry of what happens, under these values, with these sources of its premises
 abbrev pub entry_at : List Event → Values → Happening → List Source → Entry
 entry_at listed v (rule_step r facts) sources = step r (facts_at v facts) sources
 entry_at listed v (sending m) sources = send (valued v m)
-entry_at listed v (learning m way) sources = learn (valued v m) (how_at (record { terms = v; times = position_of listed }) way)
+entry_at listed v (learning m way) sources = learn (valued v m) (how_at listed v way)
 
 abbrev pub event_sources : List Event → List Link → Event → Option (List Source)
 event_sources listed links e = sources_from listed links e.time 0 (happening_premises e.happening)

@@ -3,7 +3,7 @@ use Rattle.std.specs.Prelude.{ℕ, zero, suc, if◌then◌else◌, List, [], ◌
 use denote.Ref.{Bor}
 use Rattle.sp_spec_system.specs.System as spec
 use Rattle.sp_system.specs.SystemView.{event_of}
-use Rattle.sp_system.specs.declared.system.Event.{Event}
+use Rattle.sp_system.specs.declared.event.Event.{Event}
 use Rattle.sp_solved.specs.Listing.{some_before}
 
 -- events that are kept by reference

@@ -7,7 +7,7 @@ pub use Rattle.sp_spec.specs.Term.{in_term, in_terms}
 pub use Rattle.sp_spec.specs.Rule.{in_facts, in_actions, occurrences}
 use Rattle.sp_spec.specs.Written.{is_listed}
 use Rattle.sp_law_equal.specs.Matching.{Bound, value_in}
-use Rattle.sp_spec_system.specs.System.{Way, by_chain, Happening, rule_step, sending, learning, Event}
+use Rattle.sp_spec_system.specs.System.{Way, chain_begun, chain_done, Happening, rule_step, sending, learning, Event}
 
 -- ---- the variables, in the order in which they first stand
 
@@ -17,7 +17,8 @@ in_chain [] = []
 in_chain (t ∷ ts) = in_term t ++ in_chain ts
 
 abbrev pub in_way : Way → List Variable
-in_way (by_chain i k ts) = in_chain ts
+in_way (chain_begun i k ts) = in_chain ts
+in_way (chain_done i k ts) = in_chain ts
 in_way way = []
 
 -- those of what happens

@@ -6,7 +6,7 @@ ghost use Rattle.sp_solved.specs.Listing as spec;
 ghost use Rattle.sp_solved.specs.ListingView.{events_of, free_place};
 
 use sp_system::closed::ClosedOrder;
-use sp_system::system::Event;
+use sp_system::event::Event;
 use std::alloc::{AllocError, Global};
 
 /// Whether one of these events is before the time.

@@ -4,15 +4,18 @@ ghost use Rattle.std.specs.Prelude.{◌≡◌, ◌+◌, [], ◌∷◌, ◌++◌,
 ghost use Rattle.sp_spec.specs.Written as written;
 ghost use Rattle.sp_law_equal.specs.Matching.{value_in};
 ghost use Rattle.sp_term.specs.View.{name_of, variable_of, view, view_all};
-ghost use Rattle.sp_fact.specs.View.{action_of, fact_of};
+ghost use Rattle.sp_fact.specs.View.{action_of, fact_of, facts_of};
+ghost use Rattle.sp_spec_system.specs.System as system_spec;
 ghost use Rattle.sp_norm.specs.Bounds.{bounds};
 ghost use Rattle.sp_system.specs.SystemView.{event_of};
+ghost use Rattle.sp_system.specs.WayView.{way_of};
 ghost use Rattle.sp_solved.specs.ListingView.{events_of};
 ghost use Rattle.sp_solved.specs.Naming as spec;
 ghost use Rattle.sp_solved.specs.Naming.{once_after};
 
-use sp_fact::fact::{Action, Fact};
-use sp_system::system::Event;
+use sp_fact::fact::{Action, Fact, Facts};
+use sp_system::event::{Event, What};
+use sp_system::way::Way;
 use sp_term::subst::Values;
 use sp_term::term::{Name, Sort, Term, Variable};
 use std::alloc::{AllocError, Global};
@@ -83,15 +86,57 @@ fn see_actions(actions: &Vec<Action>, seen: &mut Vec<Variable>) -> Result<(), Al
     Ok(())
 }
 
-/// Puts the variables of an event at the end, each unless it is there.
+/// Puts the variables of the facts of a step at the end, each unless it is there.
 #[tactic(auto, using(crate::proofs::Stepping::seen_three))]
+fn see_step(facts: &Facts, seen: &mut Vec<Variable>) -> Result<(), AllocError>
+    ensures { OnOk result (map variable_of seen.new.items ≡ once_after (map variable_of seen.old.items) (spec.occurrences (facts_of facts.now))) }
+{
+    see_facts(&facts.premises, seen)?;
+    see_actions(&facts.actions, seen)?;
+    see_facts(&facts.conclusions, seen)?;
+    Ok(())
+}
+
+/// Puts the variables of the messages of a chain at the end, each unless it is there.
+#[tactic(auto, using(crate::proofs::Stepping::of_messages))]
+fn see_chain(messages: &Vec<Term>, seen: &mut Vec<Variable>) -> Result<(), AllocError>
+    ensures { OnOk result (map variable_of seen.new.items ≡ once_after (map variable_of seen.old.items) (spec.in_chain (map view messages.now.items))) }
+{
+    see_terms(messages, seen)?;
+    Ok(())
+}
+
+/// Puts the variables of a way of learning at the end, each unless it is there.
+fn see_way(way: &Way, seen: &mut Vec<Variable>) -> Result<(), AllocError>
+    ensures { OnOk result (map variable_of seen.new.items ≡ once_after (map variable_of seen.old.items) (spec.in_way (way_of way.now))) }
+{
+    match way {
+        Way::Anyhow | Way::PublicName | Way::OwnName | Way::Constructed => Ok(()),
+        Way::ChainBegun(chain) => see_chain(&chain.messages, seen),
+        Way::ChainDone(chain) => see_chain(&chain.messages, seen),
+    }
+}
+
+/// Puts the variables of what is learnt, and how, at the end, each unless it is there.
+#[tactic(auto, using(crate::proofs::Stepping::seen_both))]
+fn see_learnt(message: &Term, way: &Way, seen: &mut Vec<Variable>) -> Result<(), AllocError>
+    ensures { OnOk result (map variable_of seen.new.items
+        ≡ once_after (map variable_of seen.old.items) (spec.in_step (system_spec.learning (view message.now) (way_of way.now)))) }
+{
+    see_term(message, seen)?;
+    see_way(way, seen)?;
+    Ok(())
+}
+
+/// Puts the variables of an event at the end, each unless it is there.
 fn see_event(event: &Event, seen: &mut Vec<Variable>) -> Result<(), AllocError>
     ensures { OnOk result (map variable_of seen.new.items ≡ once_after (map variable_of seen.old.items) (spec.in_step (event_of event.now).happening)) }
 {
-    see_facts(&event.facts.premises, seen)?;
-    see_actions(&event.facts.actions, seen)?;
-    see_facts(&event.facts.conclusions, seen)?;
-    Ok(())
+    match &event.what {
+        What::Rule(_) => see_step(&event.facts, seen),
+        What::Send(message) => see_term(message, seen),
+        What::Learn(message, way) => see_learnt(message, way, seen),
+    }
 }
 
 /// The variables of the events, each once, in the order in which they first stand.

@@ -1,28 +1,37 @@
 // The log that a system suggests.
 
-ghost use Rattle.std.specs.Prelude.{◌≡◌, ◌&&◌, not, List, IfOk, map, option_map};
-ghost use Rattle.sp_term.specs.View.{name_of};
-ghost use Rattle.sp_fact.specs.View.{fact_of};
+ghost use Rattle.std.specs.Prelude.{◌≡◌, ◌&&◌, not, IfOk, map, option_map};
+ghost use Rattle.sp_spec.specs.Term.{valued};
+ghost use Rattle.sp_spec.specs.Log as spec_log;
+ghost use Rattle.sp_spec.specs.Rule.{facts_at};
+ghost use Rattle.sp_term.specs.View.{name_of, view};
+ghost use Rattle.sp_fact.specs.View.{fact_of, facts_of};
 ghost use Rattle.sp_formula.specs.FormulaView.{formula_of};
 ghost use Rattle.sp_law_equal.specs.Matching.{value_in};
+ghost use Rattle.sp_ground.specs.View.{ground_of};
 ghost use Rattle.sp_norm.specs.Bounds.{bounds};
-ghost use Rattle.sp_spec_system.specs.System.{happening_premises};
-ghost use Rattle.sp_spec_system.specs.System as spec_system;
 ghost use Rattle.sp_system.specs.SystemView.{event_of, link_of, system_of};
-ghost use Rattle.sp_log.specs.View.{entries_of, entry_of, source_of};
+ghost use Rattle.sp_system.specs.WayView.{way_of, done_of};
+ghost use Rattle.sp_log.specs.View as steps;
+ghost use Rattle.sp_log.specs.View.{source_of};
+ghost use Rattle.sp_learn.specs.View.{entries_of, entry_of, how_of};
 ghost use Rattle.sp_solved.specs.ListingView.{events_of};
 ghost use Rattle.sp_solved.specs.Candidate as spec;
 
 use crate::listing::in_order;
 use crate::naming::named;
-use sp_fact::fact::Fact;
+use sp_fact::fact::{Fact, Facts};
 use sp_formula::formula::{Atom, Formula, Moment};
-use sp_log::log::{Entry, Log, Source};
-use sp_norm::instance::facts_value;
+use sp_ground::term::GroundTerm;
+use sp_learn::log::{Entry, How, Log};
+use sp_log::log::{Entry as StepEntry, Source};
+use sp_norm::instance::{facts_value, value};
+use sp_system::event::{Event, What};
 use sp_system::order::is_cyclic;
-use sp_system::system::{Event, Link, System, What};
+use sp_system::system::{Link, System};
+use sp_system::way::{Chain, Way};
 use sp_term::subst::Values;
-use sp_term::term::Name;
+use sp_term::term::{Name, Sort, Term};
 use std::alloc::{AllocError, Global};
 
 /// Whether one of the events is at the time.
@@ -78,12 +87,12 @@ fn is_sourced(
     }
 }
 
-/// Whether it is so with each premise of the event.
-fn are_sourced(events: &Vec<Event>, links: &Vec<Link>, event: &Event) -> bool
-    ensures { result ≡ spec.are_sourced (map event_of events.now.items) (map link_of links.now.items) event.now.time 0 (happening_premises (event_of event.now).happening) }
+/// Whether it is so with each of the premises of the event at the time.
+fn are_sourced(events: &Vec<Event>, links: &Vec<Link>, time: u128, premises: &Vec<Fact>) -> bool
+    ensures { result ≡ spec.are_sourced (map event_of events.now.items) (map link_of links.now.items) time 0 (map fact_of premises.now.items) }
 {
-    for (premise, fact) in event.facts.premises.iter().enumerate() {
-        if !is_sourced(events, links, event.time, premise, fact) {
+    for (premise, fact) in premises.iter().enumerate() {
+        if !is_sourced(events, links, time, premise, fact) {
             return false;
         }
     }
@@ -95,19 +104,62 @@ fn all_sourced(events: &Vec<Event>, links: &Vec<Link>) -> bool
     ensures { result ≡ spec.all_sourced (map event_of events.now.items) (map link_of links.now.items) (map event_of events.now.items) }
 {
     for event in events {
-        if !are_sourced(events, links, event) {
+        if !are_sourced(events, links, event.time, event.premises()) {
             return false;
         }
     }
     true
 }
 
-/// Whether the system suggests a log. That premises have sources is asked first: most systems that are asked have an open one.
-#[tactic(auto, using(crate::proofs::Alone::steps_alone))]
+/// Whether the message is a variable for which a public name may stand.
+fn may_be_public(message: &Term) -> bool
+    ensures { result ≡ spec.may_be_public (view message.now) }
+{
+    match message {
+        Term::Var(variable) => variable.sort != Sort::Fresh,
+        _ => false,
+    }
+}
+
+/// Whether it is settled how the message is learnt.
+fn is_settled_way(message: &Term, way: &Way) -> bool
+    ensures { result ≡ spec.is_settled_way (view message.now) (way_of way.now) }
+{
+    match way {
+        Way::Anyhow => may_be_public(message),
+        Way::ChainBegun(_) => false,
+        Way::PublicName | Way::OwnName | Way::Constructed | Way::ChainDone(_) => true,
+    }
+}
+
+/// Whether it is settled how the event's message is learnt, if it learns one.
+fn is_settled(event: &Event) -> bool
+    ensures { result ≡ spec.is_settled (event_of event.now).happening }
+{
+    match &event.what {
+        What::Rule(_) | What::Send(_) => true,
+        What::Learn(message, way) => is_settled_way(message, way),
+    }
+}
+
+/// Whether it is settled how each message is learnt.
+fn are_settled(events: &Vec<Event>) -> bool
+    ensures { result ≡ spec.are_settled (map event_of events.now.items) }
+{
+    for event in events {
+        if !is_settled(event) {
+            return false;
+        }
+    }
+    true
+}
+
+/// Whether the system suggests a log. That premises have sources is asked early: most systems that are asked have an open one.
 fn is_ready(alloc: Global, system: &System) -> Result<bool, AllocError>
     ensures { IfOk result (λ b. b ≡ spec.is_ready (system_of system.now)) }
 {
-    if !have_places(&system.events, &system.formulas)
+    if !are_settled(&system.events)
+        || !have_places(&system.events, &system.formulas)
         || !all_sourced(&system.events, &system.links)
     {
         return Ok(false);
@@ -170,6 +222,27 @@ fn source(
     linked_source(listed, links, time, premise)
 }
 
+/// The sources of the premises of the event at the time, if each has one.
+fn sources(
+    alloc: Global,
+    listed: &Vec<&Event>,
+    links: &Vec<Link>,
+    time: u128,
+    premises: &Vec<Fact>,
+) -> Result<Option<Vec<Source>>, AllocError>
+    ensures { IfOk result (λ o. option_map (λ ss. map source_of ss.items) o
+        ≡ spec.sources_from (events_of listed.now.items) (map link_of links.now.items) time 0 (map fact_of premises.now.items)) }
+{
+    let mut made = Vec::with_capacity(alloc, premises.len())?;
+    for (premise, fact) in premises.iter().enumerate() {
+        let Some(source) = source(listed, links, time, premise, fact) else {
+            return Ok(None);
+        };
+        made.push(source)?;
+    }
+    Ok(Some(made))
+}
+
 /// The sources of the event's premises, if each has one.
 fn event_sources(
     alloc: Global,
@@ -179,34 +252,111 @@ fn event_sources(
 ) -> Result<Option<Vec<Source>>, AllocError>
     ensures { IfOk result (λ o. option_map (λ ss. map source_of ss.items) o ≡ spec.event_sources (events_of listed.now.items) (map link_of links.now.items) (event_of event.now)) }
 {
-    let mut made = Vec::with_capacity(alloc, event.facts.premises.len())?;
-    for (premise, fact) in event.facts.premises.iter().enumerate() {
-        let Some(source) = source(listed, links, event.time, premise, fact) else {
-            return Ok(None);
-        };
-        made.push(source)?;
-    }
-    Ok(Some(made))
+    let made = sources(alloc, listed, links, event.time, event.premises())?;
+    Ok(made)
 }
 
-/// The entry of an event under these values, with these sources.
+/// The position that the event at the time has among the listed ones, 0 where none has this time.
+fn position_of(listed: &Vec<&Event>, time: u128) -> usize
+    ensures { result ≡ spec.position_of (events_of listed.now.items) time }
+{
+    place_of(listed, time).unwrap_or(0)
+}
+
+/// The values of the messages.
+fn messages_value(
+    alloc: Global,
+    values: &Values,
+    messages: &Vec<Term>,
+) -> Result<Vec<GroundTerm>, AllocError>
+    ensures { IfOk result (λ ts. map ground_of ts.items ≡ map (valued (value_in (bounds values.now))) (map view messages.now.items)) }
+{
+    let mut made = Vec::with_capacity(alloc, messages.len())?;
+    for message in messages {
+        made.push(value(alloc, values, message)?)?;
+    }
+    Ok(made)
+}
+
+/// The chain with the values of its messages, from the position of its step.
+fn by_chain(
+    alloc: Global,
+    listed: &Vec<&Event>,
+    values: &Values,
+    chain: &Chain,
+) -> Result<How, AllocError>
+    ensures { IfOk result (λ h. how_of h ≡ spec.how_at (events_of listed.now.items) (value_in (bounds values.now)) (done_of chain.now)) }
+{
+    let messages = messages_value(alloc, values, &chain.messages)?;
+    Ok(How::Chain {
+        step: position_of(listed, chain.time),
+        conclusion: chain.conclusion,
+        messages,
+    })
+}
+
+/// The way of learning under these values.
+fn how_learnt(
+    alloc: Global,
+    listed: &Vec<&Event>,
+    values: &Values,
+    way: &Way,
+) -> Result<How, AllocError>
+    ensures { IfOk result (λ h. how_of h ≡ spec.how_at (events_of listed.now.items) (value_in (bounds values.now)) (way_of way.now)) }
+{
+    match way {
+        Way::Anyhow | Way::PublicName => Ok(How::PublicName),
+        Way::OwnName => Ok(How::OwnName),
+        Way::Constructed => Ok(How::Constructed),
+        Way::ChainBegun(chain) => by_chain(alloc, listed, values, chain),
+        Way::ChainDone(chain) => by_chain(alloc, listed, values, chain),
+    }
+}
+
+/// The step of the rule under these values, with these sources.
+fn step(
+    alloc: Global,
+    values: &Values,
+    rule: &Name,
+    facts: &Facts,
+    sources: Vec<Source>,
+) -> Result<StepEntry, AllocError>
+    ensures { IfOk result (λ e. steps.entry_of e
+        ≡ spec_log.step (name_of rule.now) (facts_at (value_in (bounds values.now)) (facts_of facts.now)) (map source_of sources.items)) }
+{
+    let rule = rule.copy()?;
+    let facts = facts_value(alloc, values, facts)?;
+    Ok(StepEntry {
+        rule,
+        facts,
+        sources,
+    })
+}
+
+/// The entry of what happens at the event under these values, with these sources of its premises.
 fn entry(
     alloc: Global,
+    listed: &Vec<&Event>,
     values: &Values,
     event: &Event,
     sources: Vec<Source>,
 ) -> Result<Entry, AllocError>
-    ensures { IfOk result (λ e. (listed : List spec_system.Event) → entry_of e ≡ spec.entry_at listed (value_in (bounds values.now)) (event_of event.now).happening (map source_of sources.items)) }
+    ensures { IfOk result (λ e. entry_of e
+        ≡ spec.entry_at (events_of listed.now.items) (value_in (bounds values.now)) (event_of event.now).happening (map source_of sources.items)) }
 {
     match &event.what {
         What::Rule(rule) => {
-            let rule = rule.copy()?;
-            let facts = facts_value(alloc, values, &event.facts)?;
-            Ok(Entry {
-                rule,
-                facts,
-                sources,
-            })
+            let step = step(alloc, values, rule, &event.facts, sources)?;
+            Ok(Entry::Step(step))
+        }
+        What::Send(message) => {
+            let message = value(alloc, values, message)?;
+            Ok(Entry::Send(message))
+        }
+        What::Learn(message, way) => {
+            let message = value(alloc, values, message)?;
+            let how = how_learnt(alloc, listed, values, way)?;
+            Ok(Entry::Learn(message, how))
         }
     }
 }
@@ -226,7 +376,7 @@ fn entries(
         let Some(sources) = event_sources(alloc, events, links, event)? else {
             return Ok(None);
         };
-        made.push(entry(alloc, &values, event, sources)?)?;
+        made.push(entry(alloc, events, &values, event, sources)?)?;
     }
     Ok(Some(made))
 }

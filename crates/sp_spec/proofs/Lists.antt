@@ -111,6 +111,23 @@ place_got [] k x h = absurd cc
 place_got (y ∷ xs) zero x h = let g : y ≡ x = cc in g
 place_got (y ∷ xs) (suc k) x h = place_got xs k x h
 
+pub place_found : {A : Type 0} (xs : List A) (k : ℕ) (x : A) → AtPlace xs k x → slice_get xs k ≡ Some x
+place_found [] k x a = absurd a
+place_found (y ∷ ys) zero x a = ap Some a
+place_found (y ∷ ys) (suc k) x a = place_found ys k x a
+
+-- at a place stands one element
+pub place_one : {A : Type 0} (xs : List A) (k : ℕ) (x y : A) → AtPlace xs k x → AtPlace xs k y → x ≡ y
+place_one [] k x y p q = absurd p
+place_one (z ∷ xs) zero x y p q = sym p ∙ q
+place_one (z ∷ xs) (suc k) x y p q = place_one xs k x y p q
+
+-- what stands at a place is a member
+pub place_member : {A : Type 0} (xs : List A) (k : ℕ) (x : A) → AtPlace xs k x → Member x xs
+place_member [] k x a = absurd a
+place_member (y ∷ xs) zero x a = inl a
+place_member (y ∷ xs) (suc k) x a = inr (place_member xs k x a)
+
 pub place_map : {A B : Type 0} (f : A → B) (xs : List A) (k : ℕ) (x : A) → AtPlace xs k x → AtPlace (map f xs) k (f x)
 place_map f [] k x a = absurd a
 place_map f (y ∷ xs) zero x a = ap f a

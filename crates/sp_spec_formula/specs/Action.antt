@@ -1,8 +1,8 @@
--- The move on an action: its event has it, or a new step of some rule. Source: CSF 2012, "Constraint solving" (the rule on actions).
-use Rattle.std.specs.Prelude.{ℕ, suc, List, [], ◌∷◌, ◌++◌, codes, decimal, ◌+◌, Option, Some, None, ◌||◌, Bool, bytes_eq, if◌then◌else◌}
-use Rattle.sp_spec.specs.Term.{Variable}
+-- The move on an action: its event has it, or a new step of some rule, or the adversary sends or learns. Source: CSF 2012, "Constraint solving" (the rule on actions).
+use Rattle.std.specs.Prelude.{ℕ, suc, List, [], ◌∷◌, ◌++◌, codes, decimal, ◌+◌, Option, Some, None, bytes_eq, if◌then◌else◌}
+use Rattle.sp_spec.specs.Term.{Variable, Terms, none, more}
 use Rattle.sp_spec.specs.Rule.{Action}
-use Rattle.sp_spec_system.specs.System.{System, rule_step, Event, happening_actions, with_events, with_next}
+use Rattle.sp_spec_system.specs.System.{System, anyhow, Happening, rule_step, sending, learning, Event, happening_actions, with_events, with_next}
 use Rattle.sp_spec_system.specs.Move.{Case}
 use Rattle.sp_spec_system.specs.Cases.{where_same, case_if, renamed, system_if, named}
 use Rattle.sp_spec_system.specs.MakingOne.{event_at}
@@ -36,19 +36,27 @@ abbrev pub by_each : List RuleForms → System → ℕ → Action Variable → L
 by_each [] s i a = []
 by_each (rule ∷ rules) s i a = named rule.name (by_forms rule.name rule.forms s i a) ++ by_each rules s i a
 
+-- a new event at that time at which the adversary does this
+abbrev pub done_there : List ℕ → System → ℕ → Happening → Case
+done_there named s i h = record { name = named; system = with_events s (s.events ++ record { time = i; happening = h } ∷ []) }
+
+-- that a message is sent, or learnt
+abbrev pub by_adversary : System → ℕ → List ℕ → Terms Variable → List Case
+by_adversary s i symbol (more m none) =
+    if bytes_eq symbol (codes "K") then done_there (codes "Send") s i (sending m) ∷ []
+    else if bytes_eq symbol (codes "KU") then done_there (codes "Learn") s i (learning m anyhow) ∷ []
+    else []
+by_adversary s i symbol ts = []
+
 abbrev pub action_cases : List RuleForms → System → ℕ → Action Variable → Option Event → List Case
 action_cases rules s i a (Some e) = at_event s a 0 (happening_actions e.happening)
-action_cases rules s i a None = by_each rules s i a
+action_cases rules s i a None = by_each rules s i a ++ by_adversary s i a.symbol a.args
 
 abbrev pub action_at_time : List RuleForms → System → ℕ → Option (Action Variable) → Option (List Case)
 action_at_time rules s i None = None
 action_at_time rules s i (Some a) = Some (action_cases rules s i a (event_at i s.events))
 
--- the adversary's actions are no instance as long as systems have no events of the adversary
-abbrev pub is_adversary : List ℕ → Bool
-is_adversary symbol = bytes_eq symbol (codes "K") || bytes_eq symbol (codes "KU")
-
--- an action at its event: each of the event's own actions, or a new step of some rule
+-- an action at its event: each of the event's own actions, or what has it
 abbrev pub solving_action : List RuleForms → System → Option Guarded → Option (List Case)
-solving_action rules s (Some (holds (acts a (free_time i)))) = if is_adversary a.symbol then None else action_at_time rules s i (freed_action a)
+solving_action rules s (Some (holds (acts a (free_time i)))) = action_at_time rules s i (freed_action a)
 solving_action rules s f = None

@@ -5,3 +5,11 @@ pub mod LinearOnce
 pub mod Premise
 pub mod SourceTwice
 pub mod ReducibleEvent
+pub mod Learning
+pub mod SendInput
+pub mod SendLearnt
+pub mod LearnOnce
+pub mod SettleLearn
+pub mod LearntEarly
+pub mod Know
+pub mod Chain

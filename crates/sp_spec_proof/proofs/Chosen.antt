@@ -1,15 +1,17 @@
 -- The move that is chosen is an instance, and never the one that leaves a leaf open.
-use Rattle.std.proofs.Common.{◌≡◌, ℕ, true, false, List, [], ◌∷◌, map, Option, Some, None, option_map, IfSome, refl}
+use Rattle.std.proofs.Common.{◌≡◌, ℕ, Bool, true, false, List, [], ◌∷◌, map, Option, Some, None, option_map, IfSome, refl}
 use Rattle.std.specs.Prelude.{flat_map}
 use Rattle.std.specs.Option.{option_or}
 use Rattle.std.proofs.lemmas.Bool.{cond_both}
 use Rattle.std.proofs.lemmas.Option.{IfSome_then}
 use Rattle.sp_spec.specs.Lists.{Every}
 use Rattle.sp_spec.proofs.Lists.{every_map, every_all, every_append}
-use Rattle.sp_spec_system.specs.System.{System, Event, happening_premises}
-use Rattle.sp_spec_system.specs.Move.{Move, Context, or, action, premise}
+use Rattle.sp_spec.specs.Term.{Variable, Term}
+use Rattle.sp_spec_system.specs.System.{System, Happening, Event, happening_premises}
+use Rattle.sp_spec_system.specs.Move.{Move, Context, or, action, premise, know, chain}
 use Rattle.sp_spec_system.specs.Picked.{first_some}
-use Rattle.sp_spec_proof.specs.Choice.{Picker, Ranked, with_rank, places_from, premises_of, pickers, is_instance, first_instance, picked, choice}
+use Rattle.sp_spec_graph.specs.Know.{learnt_anyhow, is_message_variable}
+use Rattle.sp_spec_proof.specs.Choice.{Picker, Ranked, with_rank, places_from, premises_of, passed_last, no_message_variable, is_fresh_variable, is_application, if_of_kind, at_message, pickers, is_instance, first_instance, picked, choice}
 use Rattle.sp_spec_proof.specs.Growth.{is_unproved}
 
 pub IfSome_map : {A B : Type 0} (f : A → B) (P : B → Type 0) (o : Option A) → IfSome o (λ x. P (f x)) → IfSome (option_map f o) P
@@ -36,12 +38,40 @@ premises_prove (e ∷ events) =
     every_append (λ (m : Move). is_unproved m ≡ false) (premises_of e) (flat_map premises_of events)
     (each_proves (premise e.time) (λ p. refl) (happening_premises e.happening)) (premises_prove events)
 
+messages_prove : (move : ℕ → Move) → ((i : ℕ) → is_unproved (move i) ≡ false) → (message : Happening → Option (Term Variable)) (kind : Term Variable → Bool)
+    (events : List Event) → AllProve (flat_map (at_message move message kind) events)
+messages_prove move each message kind [] = tt
+messages_prove move each message kind (e ∷ events) =
+    every_append (λ (m : Move). is_unproved m ≡ false) (at_message move message kind e) (flat_map (at_message move message kind) events)
+    (at (message e.happening)) (messages_prove move each message kind events)
+  where
+    at : (o : Option (Term Variable)) → AllProve (if_of_kind move kind e.time o)
+    at None = tt
+    at (Some m) = cond_both (kind m) (move e.time ∷ []) [] AllProve (λ _. (each e.time, tt)) (λ _. tt)
+
 module _ (context : Context) (s : System) where
   abbrev Proves : Picker → Type 0
   Proves kind = AllProve (kind.moves context s)
 
   all_prove : Every Proves pickers
-  all_prove = ((refl, tt), ((refl, tt), ((refl, tt), (each_proves or (λ p. refl) s.formulas, (each_proves action (λ p. refl) s.formulas, (premises_prove s.events, tt))))))
+  all_prove =
+      let chains = λ (kind : Term Variable → Bool). messages_prove chain (λ i. refl) passed_last kind s.events in
+      let messages = λ (kind : Term Variable → Bool). messages_prove know (λ i. refl) learnt_anyhow kind s.events in (
+        (refl, tt),
+        (
+          (refl, tt),
+          (
+            (refl, tt),
+            (
+              each_proves or (λ p. refl) s.formulas,
+              (
+                each_proves action (λ p. refl) s.formulas,
+                (chains no_message_variable, (premises_prove s.events, (messages is_fresh_variable, (messages is_application, (chains is_message_variable, tt))))),
+              ),
+            ),
+          ),
+        ),
+      )
 
   -- ---- the first instance
 

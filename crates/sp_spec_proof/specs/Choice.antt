@@ -1,8 +1,11 @@
 -- Choice: the move with which this project's own search goes on at a system.
-use Rattle.std.specs.Prelude.{Bool, is_some, ℕ, suc, List, [], ◌∷◌, map, flat_map, find, Option, option_map, ◌+◌}
-use Rattle.sp_spec_system.specs.System.{System, Event, happening_premises}
-use Rattle.sp_spec_system.specs.Move.{Move, Context, simplify, contradiction, solved, or, action, premise}
+use Rattle.std.specs.Prelude.{Bool, true, false, not, if◌then◌else◌, is_some, ℕ, suc, List, [], ◌∷◌, map, flat_map, find, Option, Some, None, option_map, ◌+◌}
+use Rattle.sp_spec.specs.Term.{Sort, Msg, Fresh, Pub, Variable, Term, var, app}
+use Rattle.sp_spec_system.specs.System.{System, Happening, Event, happening_premises}
+use Rattle.sp_spec_system.specs.Move.{Move, Context, simplify, contradiction, solved, or, action, premise, know, chain}
 use Rattle.sp_spec_system.specs.Picked.{first_some}
+use Rattle.sp_spec_graph.specs.Know.{learnt_anyhow, is_message_variable}
+use Rattle.sp_spec_graph.specs.Chain.{Begun, begun}
 use Rattle.sp_spec_proof.specs.Cases.{cases}
 
 -- a kind of moves: its rank, and the moves of that kind at a system, from the oldest on
@@ -38,6 +41,39 @@ premises_of e = map (premise e.time) (places_from 0 (happening_premises e.happen
 abbrev pub each_premise : Context → System → List Move
 each_premise context s = flat_map premises_of s.events
 
+-- ---- the moves on messages that are learnt, each at the events with a message of some kind
+
+-- the message that a chain has passed last
+abbrev pub passed_last : Happening → Option (Term Variable)
+passed_last h = option_map (λ (b : Begun). b.last) (begun h)
+
+abbrev pub no_message_variable : Term Variable → Bool
+no_message_variable m = not (is_message_variable m)
+
+abbrev pub is_fresh_sort : Sort → Bool
+is_fresh_sort Fresh = true
+is_fresh_sort Msg = false
+is_fresh_sort Pub = false
+
+abbrev pub is_fresh_variable : Term Variable → Bool
+is_fresh_variable (var x) = is_fresh_sort x.sort
+is_fresh_variable m = false
+
+-- a private constant is one too
+abbrev pub is_application : Term Variable → Bool
+is_application (app f ts) = true
+is_application m = false
+
+abbrev pub if_of_kind : (ℕ → Move) → (Term Variable → Bool) → ℕ → Option (Term Variable) → List Move
+if_of_kind move kind i None = []
+if_of_kind move kind i (Some m) = if kind m then move i ∷ [] else []
+
+abbrev pub at_message : (ℕ → Move) → (Happening → Option (Term Variable)) → (Term Variable → Bool) → Event → List Move
+at_message move message kind e = if_of_kind move kind e.time (message e.happening)
+
+abbrev pub at_each_message : (ℕ → Move) → (Happening → Option (Term Variable)) → (Term Variable → Bool) → Context → System → List Move
+at_each_message move message kind context s = flat_map (at_message move message kind) s.events
+
 -- the kinds, in the order in which they are asked
 abbrev pub pickers : List Picker
 pickers =
@@ -46,7 +82,11 @@ pickers =
     ∷ of_rank 3 (only solved)
     ∷ of_rank 4 (at_each_formula or)
     ∷ of_rank 5 (at_each_formula action)
+    ∷ of_rank 6 (at_each_message chain passed_last no_message_variable)
     ∷ of_rank 7 each_premise
+    ∷ of_rank 8 (at_each_message know learnt_anyhow is_fresh_variable)
+    ∷ of_rank 9 (at_each_message know learnt_anyhow is_application)
+    ∷ of_rank 10 (at_each_message chain passed_last is_message_variable)
     ∷ []
 
 abbrev pub is_instance : Context → System → Move → Bool

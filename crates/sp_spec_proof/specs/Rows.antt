@@ -13,6 +13,11 @@ use Rattle.sp_spec_formula.specs.Equate.{equate, fails_to_equate}
 use Rattle.sp_spec_graph.specs.LinearOnce.{linear_once, fails_to_link}
 use Rattle.sp_spec_formula.specs.Disjunction.{disjunction}
 use Rattle.sp_spec_graph.specs.FreshFirst.{fresh_first}
+use Rattle.sp_spec_graph.specs.SendInput.{send_input}
+use Rattle.sp_spec_graph.specs.SendLearnt.{send_learnt}
+use Rattle.sp_spec_graph.specs.LearnOnce.{learn_once, fails_to_learn}
+use Rattle.sp_spec_graph.specs.SettleLearn.{settle_learn}
+use Rattle.sp_spec_graph.specs.LearntEarly.{has_early}
 use Rattle.sp_spec_formula.specs.Instantiate.{instantiate}
 use Rattle.sp_spec_system.specs.Order.{is_cyclic}
 use Rattle.sp_spec_graph.specs.SourceTwice.{has_source_twice}
@@ -27,15 +32,21 @@ pub data Row : Type 0 where
   row_order : Row
   row_action_stands : Row
   row_disjunction : Row
+  row_send_input : Row
+  row_send_learnt : Row
+  row_learn_once : Row
   row_linear_once : Row
   row_fresh_once : Row
+  row_settle_learn : Row
   row_fresh_first : Row
   row_instantiate : Row
 
 abbrev pub rows : List Row
-rows = row_split ∷ row_open ∷ row_equate ∷ row_unequal ∷ row_order ∷ row_action_stands ∷ row_disjunction ∷ row_linear_once ∷ row_fresh_once ∷ row_fresh_first ∷ row_instantiate ∷ []
+rows =
+    row_split ∷ row_open ∷ row_equate ∷ row_unequal ∷ row_order ∷ row_action_stands ∷ row_disjunction
+    ∷ row_send_input ∷ row_send_learnt ∷ row_learn_once ∷ row_linear_once ∷ row_fresh_once ∷ row_settle_learn ∷ row_fresh_first ∷ row_instantiate ∷ []
 
--- in the rules of a proof, of which none of these needs anything
+-- in the rules of a proof, of which settling a learn needs the symbols
 abbrev pub by_row : Rules → Row → System → Option System
 by_row rules row_split s = split s
 by_row rules row_open s = open_existential s
@@ -44,8 +55,12 @@ by_row rules row_unequal s = unequal s
 by_row rules row_order s = in_order s
 by_row rules row_action_stands s = action_stands s
 by_row rules row_disjunction s = disjunction s
+by_row rules row_send_input s = send_input s
+by_row rules row_send_learnt s = send_learnt s
+by_row rules row_learn_once s = learn_once s
 by_row rules row_linear_once s = linear_once s
 by_row rules row_fresh_once s = fresh_once s
+by_row rules row_settle_learn s = settle_learn rules.signature.symbols s
 by_row rules row_fresh_first s = fresh_first s
 by_row rules row_instantiate s = instantiate s
 
@@ -60,14 +75,14 @@ by_rows rules (row ∷ more_rows) s = first_of (by_row rules row s) (by_rows rul
 
 -- a row has a place at which the unification or the merge fails
 abbrev pub fails_somewhere : System → Bool
-fails_somewhere s = fails_to_equate s s.formulas || (fails_to_link s || fails_to_merge s)
+fails_somewhere s = fails_to_equate s s.formulas || (fails_to_learn s || (fails_to_link s || fails_to_merge s))
 
 abbrev pub is_contradictory : Rules → System → Bool
 is_contradictory rules s =
     has_falsity s.formulas
     || (has_equal_pair s.unequal
     || (has_refuted s.order s.formulas
-    || (is_cyclic s.order || (has_source_twice s || (has_reducible rules.signature.equations s.events || fails_somewhere s)))))
+    || (is_cyclic s.order || (has_source_twice s || (has_early s || (has_reducible rules.signature.equations s.events || fails_somewhere s))))))
 
 -- some row has a place, be it one at which it fails
 abbrev pub has_place : Rules → System → Bool

@@ -1,5 +1,5 @@
 -- The moves of a proof, and what a proof is made in. Source: Tamarin manual, "Proofs"; CSF 2012, "Constraint solving" (case distinctions on a
--- disjunction, and on the rules that may have done an action or given a premise).
+-- disjunction, on the rules that may have done an action or given a premise, and on how a message is learnt).
 use Rattle.std.specs.Prelude.{ℕ, List, Option, option_and_then}
 use Rattle.sp_spec.specs.Guarded.{Guarded}
 use Rattle.sp_spec.specs.Log.{Log}
@@ -17,6 +17,10 @@ pub data Move : Type 0 where
   action : ℕ → Move
   -- a premise, by its event's time and its place
   premise : ℕ → ℕ → Move
+  -- a message that is learnt, by its event's time
+  know : ℕ → Move
+  -- a chain that leads to a message that is learnt, by its event's time
+  chain : ℕ → Move
 
 -- What a proof begins from: formulas that are to be true of the whole log.
 pub record Root : Type 0 where

@@ -4,7 +4,7 @@ use Rattle.sp_spec.specs.Term.{Names, public_name, fresh_name, Variable, MadeOf,
 use Rattle.sp_spec.specs.Guarded.{Place, free, bound, Time, free_time, bound_time, Atom, acts, same, same_time, before, last, Guarded, truth, falsity, holds, fails, all_of, one_of, some, every, Guardeds, no_more, and_then}
 use Rattle.sp_spec.specs.Lists.{Every, is_listed}
 use Rattle.sp_spec.specs.Rule.{FactsMadeOf}
-use Rattle.sp_spec_system.specs.System.{Way, by_chain, Happening, rule_step, sending, learning, Event, Link, System}
+use Rattle.sp_spec_system.specs.System.{Way, chain_begun, chain_done, Happening, rule_step, sending, learning, Event, Link, System}
 
 -- one of the system, and of each time
 abbrev pub AtFree : (Variable → Type 0) → Place → Type 0
@@ -39,7 +39,8 @@ abbrev mutual
 
 -- the messages of a chain are made of such names and of such variables, and its time is such a one
 abbrev pub InWay : Names → (Variable → Type 0) → (ℕ → Type 0) → Way → Type 0
-InWay N P Q (by_chain i k ts) = Q i × Every (MadeOf N P) ts
+InWay N P Q (chain_begun i k ts) = Q i × Every (MadeOf N P) ts
+InWay N P Q (chain_done i k ts) = Q i × Every (MadeOf N P) ts
 InWay N P Q way = Unit {0}
 
 -- so it is with what happens

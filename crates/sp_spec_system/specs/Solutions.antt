@@ -1,13 +1,13 @@
 -- The solutions of a system: logs, with values for its variables. Source: CSF 2012, "Constraint solving" (models of constraint systems);
 -- Schmidt's thesis, chapter 3.
-use Rattle.std.specs.Prelude.{ℕ, [], List, ◌<◌, ◌∷◌, length, map, ◌≡◌}
+use Rattle.std.specs.Prelude.{ℕ, [], List, ◌<◌, ◌∷◌, ◌++◌, length, map, ◌≡◌}
 use Rattle.sp_spec.specs.Term.{Values, constant, Ground, Grounds, Variable, Term, valued}
 use Rattle.sp_spec.specs.Guarded.{Assignment, Binder, message, time, with_term, with_time, Atom, acts, same, same_time, before, last, time_in, term_in, action_in, Guarded, truth, falsity, holds, fails, all_of, one_of, some, every, Guardeds, no_more, and_then, GuardedHolds}
 use Rattle.sp_spec.specs.Lists.{AtPosition, AtPlace, Every}
 use Rattle.sp_spec.specs.Rule.{facts_at, Facts}
-use Rattle.sp_spec.specs.Log.{Log, step, send, learn, Source, conclusion, log_trace}
+use Rattle.sp_spec.specs.Log.{Log, How, step, send, learn, Source, conclusion, log_trace}
 use Rattle.sp_spec.specs.Log as log
-use Rattle.sp_spec_system.specs.System.{Way, public_name, own_name, constructed, by_chain, Happening, rule_step, sending, learning, Event, Link, System}
+use Rattle.sp_spec_system.specs.System.{Way, anyhow, public_name, own_name, constructed, chain_begun, chain_done, Happening, rule_step, sending, learning, Event, Link, System}
 use Rattle.sp_spec.specs.Signature.{Signature, IsOver, AreOver, IsValue, IsValuation}
 use Rattle.sp_spec.specs.Equal.{IsNormal, AreNormal}
 use Rattle.sp_spec.specs.Theory.{Theory, signature_of}
@@ -20,18 +20,20 @@ pub record Valuation : Type 0 where
 abbrev pub assignment : Valuation → Assignment
 assignment v = record { terms = v.terms; times = v.times; bound_terms = λ k. constant []; bound_times = λ k. k }
 
--- the way under the values
-abbrev pub how_at : Valuation → Way → log.How
-how_at v public_name = log.public_name
-how_at v own_name = log.own_name
-how_at v constructed = log.constructed
-how_at v (by_chain i k ts) = log.by_chain (v.times i) k (map (valued v.terms) ts)
+-- how an entry learns is as the way says, under the values
+abbrev pub IsWayOf : Valuation → Way → How → Type 0
+IsWayOf v anyhow how = Unit {0}
+IsWayOf v public_name how = how ≡ log.public_name
+IsWayOf v own_name how = how ≡ log.own_name
+IsWayOf v constructed how = how ≡ log.constructed
+IsWayOf v (chain_begun i k ts) how = (others : List Ground) × (how ≡ log.by_chain (v.times i) k (map (valued v.terms) ts ++ others))
+IsWayOf v (chain_done i k ts) how = how ≡ log.by_chain (v.times i) k (map (valued v.terms) ts)
 
 -- the entry of the log at the event's time is what happens there
 abbrev pub HappensAt : Log → ℕ → Valuation → Happening → Type 0
 HappensAt log p v (rule_step r facts) = (sources : List Source) × AtPosition log p (step r (facts_at v.terms facts) sources)
 HappensAt log p v (sending m) = AtPosition log p (send (valued v.terms m))
-HappensAt log p v (learning m way) = AtPosition log p (learn (valued v.terms m) (how_at v way))
+HappensAt log p v (learning m way) = (how : How) × AtPosition log p (learn (valued v.terms m) how) × IsWayOf v way how
 
 abbrev pub HappensIn : Log → Valuation → Event → Type 0
 HappensIn log v e = HappensAt log (v.times e.time) v e.happening

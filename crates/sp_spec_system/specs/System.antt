@@ -4,13 +4,16 @@ use Rattle.sp_spec.specs.Term.{Variable, Term}
 use Rattle.sp_spec.specs.Rule.{Facts, Fact, Action, sends, learns, in_of}
 use Rattle.sp_spec.specs.Guarded.{Guarded}
 
--- How a message is learnt: as a public name, as a fresh name of the adversary's own, by applying a symbol, or by a chain of messages from the
--- argument of an Out conclusion, which is told by the time of its event and by its place. Source: CSF 2012, "Normal message deduction".
+-- How a message is learnt, as far as that is settled: anyhow; as a public name, as a fresh name of the adversary's own, by applying a symbol; or by a
+-- chain of messages from the argument of an Out conclusion, which is told by the time of its event and by its place: one that begins with these
+-- messages, or one that has no more. Source: CSF 2012, "Normal message deduction".
 pub data Way : Type 0 where
+  anyhow : Way
   public_name : Way
   own_name : Way
   constructed : Way
-  by_chain : ℕ → ℕ → List (Term Variable) → Way
+  chain_begun : ℕ → ℕ → List (Term Variable) → Way
+  chain_done : ℕ → ℕ → List (Term Variable) → Way
 
 -- what happens at an event
 pub data Happening : Type 0 where

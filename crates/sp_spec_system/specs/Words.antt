@@ -2,7 +2,7 @@
 -- Source: Tamarin manual, "Proofs" (methods stand as a word, goals in `solve( )`); the words are this project's own.
 use Rattle.std.specs.Prelude.{ℕ, ◌^◌, ◌<◌, Bool, true, false, ◌&&◌, nat_lt, if◌then◌else◌, List, [], ◌∷◌, ◌++◌, Option, Some, None, codes, decimal}
 use Rattle.std.specs.Str.{bytes_eq}
-use Rattle.sp_spec_system.specs.Move.{Move, simplify, contradiction, unproved, solved, or, action, premise}
+use Rattle.sp_spec_system.specs.Move.{Move, simplify, contradiction, unproved, solved, or, action, premise, know, chain}
 
 -- what the word of a goal is followed by
 pub data Argument : Type 0 where
@@ -23,6 +23,8 @@ words_of solved = method (codes "SOLVED")
 words_of (or k) = goal (codes "or") (place k ∷ [])
 words_of (action k) = goal (codes "action") (place k ∷ [])
 words_of (premise i p) = goal (codes "premise") (time i ∷ place p ∷ [])
+words_of (know i) = goal (codes "know") (time i ∷ [])
+words_of (chain i) = goal (codes "chain") (time i ∷ [])
 
 -- ---- the inverse
 
@@ -50,6 +52,8 @@ of_goal w numbers =
     if bytes_eq w (codes "or") then by_one or numbers
     else if bytes_eq w (codes "action") then by_one action numbers
     else if bytes_eq w (codes "premise") then by_two premise numbers
+    else if bytes_eq w (codes "know") then by_one know numbers
+    else if bytes_eq w (codes "chain") then by_one chain numbers
     else None
 
 -- ---- what a text can name

@@ -9,8 +9,7 @@ use Rattle.sp_spec_proof.specs.Rows.{has_place, is_contradictory}
 use Rattle.sp_spec_system.specs.Formulas.{freed_action}
 use Rattle.sp_spec_system.specs.Rules.{Rules}
 use Rattle.sp_spec_system.specs.MakingOne.{event_at}
-use Rattle.sp_spec_system.specs.Move.{Move, simplify, contradiction, unproved, solved, or, action, premise, Context, Case, end_log}
-use Rattle.sp_spec_formula.specs.Action.{is_adversary}
+use Rattle.sp_spec_system.specs.Move.{Move, simplify, contradiction, unproved, solved, or, action, premise, know, chain, Context, Case, end_log}
 use Rattle.sp_spec_graph.specs.Premise.{is_linked}
 use Rattle.sp_spec_proof.specs.Cases.{raw_cases, simple_case, cases}
 use Rattle.sp_moves_formula.specs.WhyNot.{Clause, another_crate, condition, absent, why_no_disjunction, why_not_freed, why_no_action, HasCases}
@@ -18,7 +17,10 @@ use Rattle.sp_moves_formula.proofs.Exact as formula
 use Rattle.sp_moves_graph.specs.Times.{has_time}
 use Rattle.sp_moves_graph.specs.WhyNot.{why_not_open, why_not_of}
 use Rattle.sp_moves_graph.proofs.Exact as graph
+use Rattle.sp_moves_know.specs.WhyNot.{why_not_known, why_not_chained}
+use Rattle.sp_moves_know.proofs.Exact as learning
 use Rattle.sp_step.specs.WhyNot.{unless, why_not, where_none, IsAsked}
+use Rattle.sp_moves_know.proofs.Exact.{known_asked, chained_asked}
 
 by_test : (b : Bool) (cs : List Case) → is_none (unless b) ≡ is_some (let r : Option (List Case) = if b then Some cs else None in r)
 by_test true cs = refl
@@ -32,6 +34,8 @@ raw context s solved = by_test (is_some (end_log context s)) []
 raw context s (or k) = (formula.exactly context.rules.forms s (or k)).exact
 raw context s (action k) = (formula.exactly context.rules.forms s (action k)).exact
 raw context s (premise i p) = (graph.exactly context.rules.forms s (premise i p)).exact
+raw context s (know i) = (learning.exactly context.rules s (know i)).exact
+raw context s (chain i) = (learning.exactly context.rules s (chain i)).exact
 
 simpler : (rules : Rules) (o : Option (List Case)) → is_some o ≡ is_some (option_map (map (simple_case rules)) o)
 simpler rules None = refl
@@ -44,7 +48,7 @@ by_failing : (b : Bool) → is_none (unless b) ≡ false → Some condition ≡ 
 by_failing true e = absurd cc
 by_failing false e = refl
 
-fails_there : (context : Context) (s : System) (m : Move) → is_none (why_not context s m) ≡ false → where_none s m ≡ why_not context s m
+fails_there : (context : Context) (s : System) (m : Move) → is_none (why_not context s m) ≡ false → where_none context.rules.signature.symbols s m ≡ why_not context s m
 fails_there context s simplify e = by_failing (has_place context.rules s) e
 fails_there context s contradiction e = by_failing (is_contradictory context.rules s) e
 fails_there context s unproved e = absurd cc
@@ -52,9 +56,11 @@ fails_there context s solved e = by_failing (is_some (end_log context s)) e
 fails_there context s (or k) e = refl
 fails_there context s (action k) e = refl
 fails_there context s (premise i p) e = refl
+fails_there context s (know i) e = refl
+fails_there context s (chain i) e = refl
 
 -- what fails where there are no cases
-pub none_there : (context : Context) (s : System) (m : Move) → None ≡ cases context s m → where_none s m ≡ why_not context s m
+pub none_there : (context : Context) (s : System) (m : Move) → None ≡ cases context s m → where_none context.rules.signature.symbols s m ≡ why_not context s m
 none_there context s m e = fails_there context s m ((exactly context s m).exact ∙ ap is_some (sym e))
 
 never : (b : Bool) (c : Clause) → (c ≡ another_crate → ⊥) → (let r : Option Clause = if b then Some c else None in r) ≡ Some another_crate → ⊥
@@ -64,9 +70,9 @@ never false c n e = absurd cc
 condition_differs : condition ≡ another_crate → ⊥
 condition_differs e = absurd cc
 
-freed_asked : (symbol : List ℕ) (o : Option (Action Variable)) → why_not_freed symbol o ≡ Some another_crate → ⊥
-freed_asked symbol None e = absurd cc
-freed_asked symbol (Some a) e = never (is_adversary symbol) condition condition_differs e
+freed_asked : (o : Option (Action Variable)) → why_not_freed o ≡ Some another_crate → ⊥
+freed_asked None e = absurd cc
+freed_asked (Some a) e = absurd cc
 
 unless_asked : (b : Bool) → unless b ≡ Some another_crate → ⊥
 unless_asked true e = absurd cc
@@ -87,7 +93,7 @@ action_asked : (o : Option Guarded) → why_no_action o ≡ Some another_crate �
 action_asked None e = absurd cc
 action_asked (Some truth) e = absurd cc
 action_asked (Some falsity) e = absurd cc
-action_asked (Some (holds (acts a (free_time i)))) e = freed_asked a.symbol (freed_action a) e
+action_asked (Some (holds (acts a (free_time i)))) e = freed_asked (freed_action a) e
 action_asked (Some (holds (acts a (bound_time k)))) e = absurd cc
 action_asked (Some (holds (same t u))) e = absurd cc
 action_asked (Some (holds (same_time i j))) e = absurd cc
@@ -99,6 +105,11 @@ action_asked (Some (one_of fs)) e = absurd cc
 action_asked (Some (some bs guard f)) e = absurd cc
 action_asked (Some (every bs guard f)) e = absurd cc
 
+-- what a move asks of a time, if the time is there
+time_asked : (why : Option Clause) (b : Bool) → (why ≡ Some another_crate → ⊥) → (let r : Option Clause = if b then why else Some absent in r) ≡ Some another_crate → ⊥
+time_asked why true h e = h e
+time_asked why false h e = absurd cc
+
 open_asked : (s : System) (i p : ℕ) (o : Option (Fact Variable)) → why_not_open s i p o ≡ Some another_crate → ⊥
 open_asked s i p None e = absurd cc
 open_asked s i p (Some f) e = never (is_linked s.links i p || (is_fr f || is_in f)) condition condition_differs e
@@ -107,10 +118,6 @@ event_asked : (s : System) (i p : ℕ) (o : Option Event) → why_not_of s i p o
 event_asked s i p None e = absurd cc
 event_asked s i p (Some event) e = open_asked s i p (slice_get (happening_premises event.happening) p) e
 
-premise_asked : (s : System) (i p : ℕ) (b : Bool) → (let r : Option Clause = if b then why_not_of s i p (event_at i s.events) else Some absent in r) ≡ Some another_crate → ⊥
-premise_asked s i p true e = event_asked s i p (event_at i s.events) e
-premise_asked s i p false e = absurd cc
-
 pub each_is_asked : (context : Context) (s : System) (m : Move) → IsAsked (why_not context s m)
 each_is_asked context s simplify = record { asked = unless_asked (has_place context.rules s) }
 each_is_asked context s contradiction = record { asked = unless_asked (is_contradictory context.rules s) }
@@ -118,4 +125,8 @@ each_is_asked context s unproved = record { asked = λ e. absurd cc }
 each_is_asked context s solved = record { asked = unless_asked (is_some (end_log context s)) }
 each_is_asked context s (or k) = record { asked = disjunction_asked (slice_get s.formulas k) }
 each_is_asked context s (action k) = record { asked = action_asked (slice_get s.formulas k) }
-each_is_asked context s (premise i p) = record { asked = premise_asked s i p (has_time i s) }
+each_is_asked context s (premise i p) = record { asked = time_asked (why_not_of s i p (event_at i s.events)) (has_time i s) (event_asked s i p (event_at i s.events)) }
+each_is_asked context s (know i) =
+    let symbols = context.rules.signature.symbols in
+    record { asked = time_asked (why_not_known symbols (event_at i s.events)) (has_time i s) (known_asked symbols (event_at i s.events)) }
+each_is_asked context s (chain i) = record { asked = time_asked (why_not_chained (event_at i s.events)) (has_time i s) (chained_asked (event_at i s.events)) }

@@ -1,3 +1,4 @@
 pub mod Exact
+pub mod Kept
 pub mod Turns
 pub mod RowSearches

@@ -18,8 +18,12 @@ all_rows =
     ∷ row.Order
     ∷ row.ActionStands
     ∷ row.Disjunction
+    ∷ row.SendInput
+    ∷ row.SendLearnt
+    ∷ row.LearnOnce
     ∷ row.LinearOnce
     ∷ row.FreshOnce
+    ∷ row.SettleLearn
     ∷ row.FreshFirst
     ∷ row.Instantiate
     ∷ []

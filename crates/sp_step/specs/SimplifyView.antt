@@ -13,7 +13,7 @@ unless false o = o
 abbrev pub turned : Rules → System → Option System
 turned rules s = unless (is_contradictory rules s) (by_rows rules rows s)
 
--- a move was done that puts no terms for variables
+-- a move was done that keeps terms
 abbrev pub some_keeps_terms : Option Row → Bool
 some_keeps_terms None = false
 some_keeps_terms (Some row) = keeps_terms row

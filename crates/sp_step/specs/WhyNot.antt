@@ -1,10 +1,12 @@
 -- Why a move is no instance.
-use Rattle.std.specs.Prelude.{◌≡◌, Bool, if◌then◌else◌, Option, Some, None, is_some}
+use Rattle.std.specs.Prelude.{◌≡◌, Bool, if◌then◌else◌, List, Option, Some, None, is_some}
+use Rattle.sp_spec.specs.Signature.{Symbol}
 use Rattle.sp_spec_system.specs.System.{System}
 use Rattle.sp_spec_proof.specs.Rows.{has_place, is_contradictory}
-use Rattle.sp_spec_system.specs.Move.{Move, simplify, contradiction, unproved, solved, or, action, premise, Context, end_log}
+use Rattle.sp_spec_system.specs.Move.{Move, simplify, contradiction, unproved, solved, or, action, premise, know, chain, Context, end_log}
 use Rattle.sp_moves_formula.specs.WhyNot.{Clause, another_crate, condition, why_not_formula}
 use Rattle.sp_moves_graph.specs.WhyNot.{why_not_graph}
+use Rattle.sp_moves_know.specs.WhyNot.{why_not_learning}
 
 -- a move that names nothing has its condition alone
 abbrev pub unless : Bool → Option Clause
@@ -18,13 +20,17 @@ why_not context s solved = unless (is_some (end_log context s))
 why_not context s (or k) = why_not_formula s (or k)
 why_not context s (action k) = why_not_formula s (action k)
 why_not context s (premise i p) = why_not_graph s (premise i p)
+why_not context s (know i) = why_not_learning context.rules.signature.symbols s (know i)
+why_not context s (chain i) = why_not_learning context.rules.signature.symbols s (chain i)
 
--- the clause that fails of a move that has no cases
-abbrev pub where_none : System → Move → Option Clause
-where_none s (or k) = why_not_formula s (or k)
-where_none s (action k) = why_not_formula s (action k)
-where_none s (premise i p) = why_not_graph s (premise i p)
-where_none s move = Some condition
+-- the clause that fails of a move that has no cases, over these symbols
+abbrev pub where_none : List Symbol → System → Move → Option Clause
+where_none symbols s (or k) = why_not_formula s (or k)
+where_none symbols s (action k) = why_not_formula s (action k)
+where_none symbols s (premise i p) = why_not_graph s (premise i p)
+where_none symbols s (know i) = why_not_learning symbols s (know i)
+where_none symbols s (chain i) = why_not_learning symbols s (chain i)
+where_none symbols s move = Some condition
 
 -- each move is one of those that are asked about
 pub record IsAsked (why : Option Clause) : Type 0 where

@@ -1,6 +1,7 @@
 // The cases of a move, simplified, or why it is no instance.
 
-ghost use Rattle.std.specs.Prelude.{◌≡◌, IfOk, option_map};
+ghost use Rattle.std.specs.Prelude.{◌≡◌, IfOk, map, option_map};
+ghost use Rattle.sp_ground.specs.View.{symbol_of};
 ghost use Rattle.sp_system.specs.SystemView.{system_of};
 ghost use Rattle.sp_spec_proof.specs.Cases as spec;
 ghost use Rattle.sp_moves_formula.specs.Applied.{clause_of, cases_of, failing};
@@ -11,19 +12,27 @@ ghost use Rattle.sp_step.specs.WhyNot.{IsAsked, why_not, where_none};
 
 use crate::context::Context;
 use crate::moves::{Move, cases};
+use sp_ground::signature::Symbol;
 use sp_moves_formula::apply as formula;
 pub use sp_moves_formula::apply::{Applied, Clause};
 use sp_moves_graph::apply as graph;
+use sp_moves_know::apply as know;
 use sp_system::system::System;
 use std::alloc::{AllocError, Global};
 
 // Why a move without cases is no instance.
-fn where_none(alloc: Global, system: &System, chosen: Move) -> Result<Option<Clause>, AllocError>
-    ensures { IfOk result (λ o. option_map clause_of o ≡ where_none (system_of system.now) (move_of chosen)) }
+fn where_none(
+    alloc: Global,
+    symbols: &Vec<Symbol>,
+    system: &System,
+    chosen: Move,
+) -> Result<Option<Clause>, AllocError>
+    ensures { IfOk result (λ o. option_map clause_of o ≡ where_none (map symbol_of symbols.now.items) (system_of system.now) (move_of chosen)) }
 {
     match chosen {
         Move::Or(_) | Move::Action(_) => formula::why_not(alloc, system, chosen),
         Move::Premise(_) => Ok(graph::why_not(system, chosen)),
+        Move::Know(_) | Move::Chain(_) => know::why_not(alloc, symbols, system, chosen),
         _ => Ok(Some(Clause::Condition)),
     }
 }
@@ -46,7 +55,7 @@ pub fn apply(
 {
     match cases(alloc, context, system, chosen)? {
         Some(cases) => Ok(Applied::Cases(cases)),
-        None => match where_none(alloc, system, chosen)? {
+        None => match where_none(alloc, &context.sought.signature.symbols, system, chosen)? {
             Some(clause) => Ok(Applied::NotAnInstance(clause)),
             None => unreachable!(),
         },

@@ -2,13 +2,13 @@
 
 ghost use Rattle.std.specs.Prelude.{◌≡◌, IfOk, is_some, option_map};
 ghost use Rattle.sp_system.specs.SystemView.{system_of};
-ghost use Rattle.sp_log.specs.View.{log_of};
+ghost use Rattle.sp_learn.specs.View.{log_of};
 ghost use Rattle.sp_step.specs.View.{context_of, rules_of};
 ghost use Rattle.sp_spec_system.specs.Move.{end_log};
 
 use sp_book::book::RuleBook;
 use sp_ground::signature::Signature;
-use sp_log::log::Log;
+use sp_learn::log::Log;
 use sp_solved::{Sought, found};
 use sp_system::system::System;
 use std::alloc::{AllocError, Global};

@@ -12,6 +12,8 @@ pub use sp_moves_formula::moves::{Case, Move};
 use sp_moves_formula::part::or_cases;
 use sp_moves_formula::solving::solving_action;
 use sp_moves_graph::premise::premise_cases;
+use sp_moves_know::chain::chain_cases;
+use sp_moves_know::know::know_cases;
 use sp_system::system::System;
 use std::alloc::{AllocError, Global};
 
@@ -69,6 +71,10 @@ fn raw_cases(
         Move::Or(position) => or_cases(alloc, system, position),
         Move::Action(position) => solving_action(alloc, context.rules, system, position),
         Move::Premise(premise) => premise_cases(alloc, context.rules, system, premise),
+        Move::Know(time) => {
+            know_cases(alloc, context.sought.signature, context.rules, system, time)
+        }
+        Move::Chain(time) => chain_cases(alloc, context.sought.signature, system, time),
     }
 }
 

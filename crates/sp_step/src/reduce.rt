@@ -19,7 +19,11 @@ use sp_rows_formula::order::in_order;
 use sp_rows_formula::stands::action_stands;
 use sp_rows_graph::fresh_first::fresh_first;
 use sp_rows_graph::fresh_once::fresh_once;
+use sp_rows_graph::learn_once::learn_once;
 use sp_rows_graph::links::linear_once;
+use sp_rows_graph::send_input::send_input;
+use sp_rows_graph::send_learnt::send_learnt;
+use sp_rows_graph::settle_learn::settle_learn;
 use sp_system::system::System;
 use std::alloc::{AllocError, Global};
 
@@ -40,10 +44,18 @@ pub enum Row {
     ActionStands,
     /// a disjunction with a part that is known is spent, and a false part is left out
     Disjunction,
+    /// what a premise In takes is sent before
+    SendInput,
+    /// what is sent is learnt before
+    SendLearnt,
+    /// events that learn one message are one
+    LearnOnce,
     /// premises with one linear source are one
     LinearOnce,
     /// events that use the same Fr are one
     FreshOnce,
+    /// it is settled in which way a message is learnt, where this is known
+    SettleLearn,
     /// an event that uses an Fr comes before those that have its term
     FreshFirst,
     /// a universal formula has a new instance
@@ -51,19 +63,19 @@ pub enum Row {
 }
 
 impl Row {
-    /// Whether it puts no terms for variables, so that no term of an event changes.
+    /// Whether it puts no terms for variables, and adds to the events only terms that stand inside of theirs.
     pub fn keeps_terms(self) -> bool
         ensures { result ≡ keeps_terms (row_of self) }
     {
         match self {
-            Row::Equate | Row::LinearOnce | Row::FreshOnce => false,
+            Row::Equate | Row::LearnOnce | Row::LinearOnce | Row::FreshOnce => false,
             _ => true,
         }
     }
 }
 
 /// All elementary moves, in the order in which they are tried.
-pub const ROWS: [Row; 11] = [
+pub const ROWS: [Row; 15] = [
     Row::Split,
     Row::OpenExistential,
     Row::Equate,
@@ -71,8 +83,12 @@ pub const ROWS: [Row; 11] = [
     Row::Order,
     Row::ActionStands,
     Row::Disjunction,
+    Row::SendInput,
+    Row::SendLearnt,
+    Row::LearnOnce,
     Row::LinearOnce,
     Row::FreshOnce,
+    Row::SettleLearn,
     Row::FreshFirst,
     Row::Instantiate,
 ];
@@ -98,8 +114,12 @@ pub fn reduce(
         Row::Order => in_order(alloc, system),
         Row::ActionStands => action_stands(alloc, system),
         Row::Disjunction => disjunction(alloc, system),
+        Row::SendInput => send_input(alloc, system),
+        Row::SendLearnt => send_learnt(alloc, system),
+        Row::LearnOnce => learn_once(alloc, system),
         Row::LinearOnce => linear_once(alloc, system),
         Row::FreshOnce => fresh_once(alloc, system),
+        Row::SettleLearn => settle_learn(alloc, &rules.signature.symbols, system),
         Row::FreshFirst => fresh_first(alloc, system),
         Row::Instantiate => instantiate(alloc, system),
     }

@@ -14,6 +14,8 @@ use crate::reduce::{ROWS, Row, reduce};
 use sp_rows_formula::contradiction::{has_equal_pair, has_falsity, has_refuted};
 use sp_rows_formula::equation::fails_to_equate;
 use sp_rows_graph::fresh_once::fails_to_merge;
+use sp_rows_graph::learn_once::fails_to_learn;
+use sp_rows_graph::learnt_early::has_early;
 use sp_rows_graph::links::{fails_to_link, has_source_twice};
 use sp_rows_graph::reducible::has_reducible;
 use sp_system::order::is_cyclic;
@@ -27,7 +29,9 @@ use std::alloc::{AllocError, Global};
 /// `AllocError` where memory is wanting, or no number is left for a new variable.
 pub fn by_rows(alloc: Global, rules: &Rules, system: &mut System) -> Result<Option<Row>, AllocError>
     ensures does { IfOk result (λ o. Reduced (is_some o) (system_of system.old) (system_of system.new) (rows.by_rows (rules_of rules.now) rows.rows (system_of system.old))) }
-    ensures keeps { IfOk result (λ o. spec.some_keeps_terms (option_map row_of o) ≡ true → (system_of system.new).events ≡ (system_of system.old).events) }
+    ensures keeps { IfOk result (λ o. spec.some_keeps_terms (option_map row_of o) ≡ true
+        → has_reducible (rules_of rules.now).signature.equations (system_of system.old).events ≡ false
+        → has_reducible (rules_of rules.now).signature.equations (system_of system.new).events ≡ false) }
 {
     for row in &ROWS {
         if reduce(alloc, rules, system, *row)? {
@@ -54,7 +58,10 @@ pub fn is_reducible(alloc: Global, rules: &Rules, system: &System) -> Result<boo
 fn fails_somewhere(alloc: Global, system: &System) -> Result<bool, AllocError>
     ensures { IfOk result (λ b. b ≡ rows.fails_somewhere (system_of system.now)) }
 {
-    if fails_to_equate(alloc, system)? || fails_to_link(alloc, system)? {
+    if fails_to_equate(alloc, system)? || fails_to_learn(alloc, system)? {
+        return Ok(true);
+    }
+    if fails_to_link(alloc, system)? {
         return Ok(true);
     }
     fails_to_merge(alloc, system)
@@ -90,7 +97,7 @@ fn is_contradictory_where(
     if has_refuted(alloc, &system.order, &system.formulas)? || is_cyclic(alloc, &system.order)? {
         return Ok(true);
     }
-    if has_source_twice(system) {
+    if has_source_twice(system) || has_early(alloc, system)? {
         return Ok(true);
     }
     if !irreducible && has_reducible(alloc, &rules.signature.equations, &system.events)? {

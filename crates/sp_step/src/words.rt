@@ -53,6 +53,8 @@ impl Words {
                     &[Argument::Time(*time), Argument::Place(*place)],
                 )
             }
+            Move::Know(time) => goal(alloc, "know", &[Argument::Time(*time)]),
+            Move::Chain(time) => goal(alloc, "chain", &[Argument::Time(*time)]),
         }
     }
 
@@ -164,6 +166,18 @@ fn premise(time: u128, place: u128) -> Option<Move>
     Some(Move::Premise(Premise { time, place }))
 }
 
+fn know(time: u128) -> Option<Move>
+    ensures { option_map move_of result ≡ spec.if_within (moves.know time) }
+{
+    Some(Move::Know(time))
+}
+
+fn chain(time: u128) -> Option<Move>
+    ensures { option_map move_of result ≡ spec.if_within (moves.chain time) }
+{
+    Some(Move::Chain(time))
+}
+
 /// The move that is said by the word of a goal and by the numbers behind it; `Some(None)` where no text can name it.
 #[tactic(auto, unfolding(sp_spec_system::specs::Words::of_goal))]
 pub fn of_goal(word: &[u8], numbers: &[u128]) -> Option<Option<Move>>
@@ -173,6 +187,8 @@ pub fn of_goal(word: &[u8], numbers: &[u128]) -> Option<Option<Move>>
         [formula] if is(word, "or") => Some(or(*formula)),
         [formula] if is(word, "action") => Some(action(*formula)),
         [time, place] if is(word, "premise") => Some(premise(*time, *place)),
+        [time] if is(word, "know") => Some(know(*time)),
+        [time] if is(word, "chain") => Some(chain(*time)),
         _ => None,
     }
 }

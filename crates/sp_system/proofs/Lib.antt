@@ -1,9 +1,11 @@
+pub mod EventFacts
 pub mod Pairs
 pub mod Paths
 pub mod WithoutSinks
 pub mod EndsKept
-pub mod MergingSearches
-pub mod Merges
-pub mod MergingPlaces
 pub mod Spends
 pub mod Listed
+pub mod MergingSearches
+pub mod MergingPlaces
+pub mod Merges
+pub mod Turns

@@ -2,7 +2,7 @@
 use Rattle.std.proofs.Common.{◌≡◌, ◌<◌, ℕ, zero, suc, List, [], ◌∷◌, ◌++◌, take, drop, length, Bool, true, false, if◌then◌else◌, Option, Some, None, option_map, option_and_then, refl, sym, ap, ap₂, ◌∙◌, arith}
 use Rattle.sp_spec_system.specs.System.{Event}
 use Rattle.sp_spec_system.specs.MakingOne.{MergingEvents, merging_behind, merging_with, merging_from, merging_events}
-use Rattle.sp_system.specs.MadeOneView.{merging_position, merging_after, merging_positions, merging, head_of, merging_there}
+use Rattle.sp_system.specs.MadeOneView.{merging_position, merging_after, merging_positions, merging_at, head_of, merging_there}
 
 record One (e : Event) (es : List Event) (r : MergingEvents) (k : ℕ) : Type 0 where
   first : r.first ≡ e
@@ -60,7 +60,7 @@ first-there one es = at (merging_events one es) (merging_positions one es) (are_
     at (Some r) None h = absurd h
     at (Some r) (Some p) h =
         ap (λ (xs : List Event). let t : MergingEvents = record { first = r.first; second = r.second; others = xs } in Some t) h.others
-        ∙ sym (ap₂ (λ (a b : Option Event). option_and_then (λ x. option_map (λ y. merging x y es p.1) b) a) h.first h.second)
+        ∙ sym (ap₂ (λ (a b : Option Event). option_and_then (λ x. option_map (λ y. merging_at x y es p.1) b) a) h.first h.second)
 
 headed : (es : List Event) (k : ℕ) (x : Event) → head_of (drop k es) ≡ Some x → k < length es
 headed [] k x e = absurd (none k e)

@@ -2,7 +2,7 @@
 use Rattle.std.proofs.Common.{◌≡◌, ◌<◌, ◌≤◌, ℕ, suc, ◌+◌, List, ◌∷◌, drop, length, map, Bool, true, false, if◌then◌else◌, Option, Some, None, option_map, refl, sym, ap, ap₂, ◌∙◌, arith, slice_index_or}
 use Rattle.std.proofs.lemmas.List.{drop_more, drop_all}
 use Rattle.sp_spec_system.specs.System as spec
-use Rattle.sp_system.specs.declared.system.Event.{Event}
+use Rattle.sp_system.specs.declared.event.Event.{Event}
 use Rattle.sp_system.specs.SystemView.{event_of}
 use Rattle.sp_system.specs.MadeOneView.{merging_position, both_on, merging_after, merging_positions}
 

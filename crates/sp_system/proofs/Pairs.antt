@@ -6,7 +6,7 @@ use Rattle.sp_term.specs.View.{view, view_all}
 use Rattle.sp_term.specs.declared.term.Term.{Term}
 use Rattle.sp_term.specs.declared.term.Variable.{Variable}
 use Rattle.sp_spec_forms.specs.Alike.{same_flag}
-use Rattle.sp_spec_system.specs.Equating.{argument_pairs, both_pairs, fact_pairs, action_pair, action_pairs, fact_pair}
+use Rattle.sp_spec_system.specs.Equating.{argument_pairs, both_pairs, common_pairs, fact_pairs, action_pair, action_pairs, fact_pair}
 use Rattle.sp_fact.specs.View.{fact_of, action_of}
 use Rattle.sp_fact.specs.declared.fact.Fact.{Fact}
 use Rattle.sp_fact.specs.declared.fact.Action.{Action}
@@ -105,3 +105,20 @@ module _ {A : Type 0} (p : A → A → Option (List Pair)) where
       ended (x ∷ l) [] e alike whole = absurd (omega arith)
       ended (x ∷ l) (y ∷ r) (inl e) alike whole = absurd cc
       ended (x ∷ l) (y ∷ r) (inr e) alike whole = absurd cc
+
+-- the pairs of the elements that both lists have
+abbrev pub common : List (Term Variable) → List (Term Variable) → List Pair
+common ts us = common_pairs (map view ts) (map view us)
+
+-- one turn of a loop that gathers them
+pub common_more : (made after all : List Pair) (left right after_left after_right : List (Term Variable)) (x y : Term Variable) → left ≡ x ∷ after_left → right ≡ y ∷ after_right
+    → after ≡ made ++ (view x, view y) ∷ [] → made ++ common left right ≡ all → after ++ common after_left after_right ≡ all
+common_more made after all left right after_left after_right x y e d grown before =
+    ap (λ (ps : List Pair). ps ++ common after_left after_right) grown ∙ append_assoc made ((view x, view y) ∷ []) (common after_left after_right)
+    ∙ ap₂ (λ (l r : List (Term Variable)). made ++ common l r) (sym e) (sym d) ∙ before
+
+pub common_end : (made all : List Pair) (left right : List (Term Variable)) → (left ≡ []) ⊎ (right ≡ []) → made ++ common left right ≡ all → made ≡ all
+common_end made all [] right h e = sym (append-nil made) ∙ e
+common_end made all (t ∷ ts) [] h e = sym (append-nil made) ∙ e
+common_end made all (t ∷ ts) (u ∷ us) (inl h) e = absurd cc
+common_end made all (t ∷ ts) (u ∷ us) (inr h) e = absurd cc

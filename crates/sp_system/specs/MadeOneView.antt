@@ -20,8 +20,8 @@ abbrev pub merging_positions : (Event → Event → Bool) → List Event → Opt
 merging_positions one [] = None
 merging_positions one (e ∷ es) = merging_after (merging_position one e es) (merging_positions one es)
 
-abbrev pub merging : Event → Event → List Event → ℕ → MergingEvents
-merging a b es j = record { first = a; second = b; others = take j es ++ drop (suc j) es }
+abbrev pub merging_at : Event → Event → List Event → ℕ → MergingEvents
+merging_at a b es j = record { first = a; second = b; others = take j es ++ drop (suc j) es }
 
 abbrev pub head_of : List Event → Option Event
 head_of [] = None
@@ -29,4 +29,4 @@ head_of (e ∷ es) = Some e
 
 -- the merging at two positions
 abbrev pub merging_there : List Event → ℕ × ℕ → Option MergingEvents
-merging_there es p = option_and_then (λ a. option_map (λ b. merging a b es p.1) (head_of (drop p.1 es))) (head_of (drop p.0 es))
+merging_there es p = option_and_then (λ a. option_map (λ b. merging_at a b es p.1) (head_of (drop p.1 es))) (head_of (drop p.0 es))

@@ -5,7 +5,7 @@ ghost use Rattle.sp_fact.specs.View.{fact_of};
 ghost use Rattle.sp_spec_system.specs.MakingOne as making_one;
 ghost use Rattle.sp_system.specs.SystemView.{event_of};
 
-use crate::system::Event;
+use crate::event::Event;
 use sp_fact::fact::Fact;
 
 /// The first event at the time.
@@ -25,7 +25,7 @@ pub fn premise_at(events: &Vec<Event>, time: u128, place: usize) -> Option<&Fact
     ensures { option_map (λ f. fact_of f.now) result ≡ making_one.premise_at (map event_of events.now.items) time place }
 {
     match event_at(time, events) {
-        Some(event) => event.facts.premises.get(place),
+        Some(event) => event.premises().get(place),
         None => None,
     }
 }

@@ -7,7 +7,8 @@ ghost use Rattle.sp_system.specs.SystemView.{system_of};
 ghost use Rattle.sp_system.specs.ClosedView.{kept, leads_to, noted};
 
 use crate::order::{is_among, leading};
-use crate::system::{System, copy_order};
+use crate::system::System;
+use crate::time::copy_order;
 use std::alloc::{AllocError, Global};
 use std::collections::BTreeMap;
 

@@ -1,69 +1,58 @@
 // Two times are made one, and with them the events at them.
 
-ghost use Rattle.std.specs.Prelude.{◌≡◌, ◌+◌, ◌≤◌, IfOk, drop, is_none, length, map, option_map};
+ghost use Rattle.std.specs.Prelude.{◌≡◌, IfOk, is_none, length, option_map, suc};
+ghost use Rattle.sp_spec.specs.Unifier as unifier_spec;
 ghost use Rattle.sp_term.specs.Bindings.{bindings};
-ghost use Rattle.sp_spec_system.specs.Equating.{merging_pairs, smaller, larger, unifier_of};
-ghost use Rattle.sp_system.specs.SystemView.{event_of, system_of};
 ghost use Rattle.sp_spec_system.specs.MakingOne as making_one;
-ghost use Rattle.sp_system.specs.MadeOneView.{merging_position, merging_positions};
+ghost use Rattle.sp_system.specs.SystemView.{system_of};
+ghost use Rattle.sp_system.specs.JoiningView.{joining_of, to_be_one};
 ghost use Rattle.sp_system.specs.Reduced.{Reduced};
 
-use crate::pairing::{merging_pairs, unifier_of};
-use crate::system::{Event, System};
+use crate::joining::{Joining, all_joined};
+use crate::system::System;
 use sp_term::subst::Subst;
+use sp_unify::unify::mgu;
 use std::alloc::{AllocError, Global};
 
-// Whether the one event is at the one time, and the other at the other.
-fn are_at(first: u128, second: u128, left: &Event, right: &Event) -> bool
-    ensures { result ≡ making_one.at_times first second (event_of left.now) (event_of right.now) }
-{
-    left.time == first && right.time == second || left.time == second && right.time == first
-}
-
-// The position of the first event from `start` on that is at the other of the times.
-fn other_of(
+// The two times have to be one in the system.
+fn to_be_one(
+    alloc: Global,
+    system: &System,
     first: u128,
     second: u128,
-    event: &Event,
-    events: &Vec<Event>,
-    start: usize,
-) -> Option<usize>
-    requires { start ≤ length events.now.items }
-    ensures { result ≡ option_map (λ k. start + k) (merging_position (making_one.at_times first second) (event_of event.now) (map event_of (drop start events.now.items))) }
+) -> Result<Joining, AllocError>
+    ensures { IfOk result (λ j. joining_of j ≡ to_be_one (system_of system.now) (first, second)) }
 {
-    for position in start..events.len() {
-        if are_at(first, second, event, &events[position]) {
-            return Some(position);
-        }
-    }
-    None
+    let system = system.copy(alloc)?;
+    let mut times = Vec::with_capacity(alloc, 1)?;
+    times.push((first, second))?;
+    Ok(Joining {
+        system,
+        pairs: Vec::new(alloc),
+        times,
+    })
 }
 
-// The positions of the first two events that are at the times.
-fn first_merging(first: u128, second: u128, events: &Vec<Event>) -> Option<(usize, usize)>
-    ensures { result ≡ merging_positions (making_one.at_times first second) (map event_of events.now.items) }
+// What comes of making the two times one, but for the pairs of terms that have to be the same then, if it can be.
+fn joined_times(
+    alloc: Global,
+    system: &System,
+    first: u128,
+    second: u128,
+) -> Result<Option<Joining>, AllocError>
+    ensures { IfOk result (λ o. option_map joining_of o ≡ making_one.all_joined (suc (length (system_of system.now).events)) (to_be_one (system_of system.now) (first, second))) }
 {
-    for (position, event) in events.iter().enumerate() {
-        if let Some(other) = other_of(first, second, event, events, position + 1) {
-            return Some((position, other));
-        }
-    }
-    None
+    let joining = to_be_one(alloc, system, first, second)?;
+    let turns = joining.system.events.len() + 1;
+    let made = all_joined(alloc, turns, joining)?;
+    Ok(made)
 }
 
-// The smaller and the larger.
-fn ordered(i: u128, j: u128) -> (u128, u128)
-    ensures { result ≡ (smaller i j, larger i j) }
+// What makes the terms the same that have to be.
+fn unifier(alloc: Global, joining: &Joining) -> Result<Option<Subst>, AllocError>
+    ensures { IfOk result (λ o. option_map bindings o ≡ unifier_spec.mgu (joining_of joining.now).pairs) }
 {
-    if j < i { (j, i) } else { (i, j) }
-}
-
-// What makes the two events one, if they can be.
-fn event_unifier(alloc: Global, left: &Event, right: &Event) -> Result<Option<Subst>, AllocError>
-    ensures { IfOk result (λ o. option_map bindings o ≡ unifier_of (merging_pairs (event_of left.now).happening (event_of right.now).happening)) }
-{
-    let pairs = merging_pairs(alloc, left, right)?;
-    let subst = unifier_of(alloc, pairs)?;
+    let subst = mgu(alloc, &joining.pairs)?;
     Ok(subst)
 }
 
@@ -80,19 +69,14 @@ pub fn made_one(
 ) -> Result<bool, AllocError>
     ensures { IfOk result (λ b. Reduced b (system_of system.old) (system_of system.new) (making_one.made_one (system_of system.old) (first, second))) }
 {
-    let Some((left, right)) = first_merging(first, second, &system.events) else {
-        let (small, large) = ordered(first, second);
-        system.change(alloc, &Subst::new(alloc), small, large)?;
-        return Ok(true);
-    };
-    let one = &system.events[left];
-    let other = &system.events[right];
-    let (small, large) = ordered(one.time, other.time);
-    let Some(subst) = event_unifier(alloc, one, other)? else {
+    let Some(joining) = joined_times(alloc, system, first, second)? else {
         return Ok(false);
     };
-    system.events.remove(right);
-    system.change(alloc, &subst, small, large)?;
+    let Some(subst) = unifier(alloc, &joining)? else {
+        return Ok(false);
+    };
+    let made = joining.system.with_terms(alloc, &subst)?;
+    *system = made;
     Ok(true)
 }
 
@@ -109,11 +93,9 @@ pub fn stay_apart(
 ) -> Result<bool, AllocError>
     ensures { IfOk result (λ b. b ≡ is_none (making_one.made_one (system_of system.now) (first, second))) }
 {
-    let Some((left, right)) = first_merging(first, second, &system.events) else {
-        return Ok(false);
+    let Some(joining) = joined_times(alloc, system, first, second)? else {
+        return Ok(true);
     };
-    let one = &system.events[left];
-    let other = &system.events[right];
-    let subst = event_unifier(alloc, one, other)?;
+    let subst = unifier(alloc, &joining)?;
     Ok(subst.is_none())
 }

@@ -6,7 +6,8 @@ ghost use Rattle.sp_spec_system.specs.System.{with_pairs};
 ghost use Rattle.sp_system.specs.OrderView as view;
 ghost use Rattle.sp_system.specs.SystemView.{system_of};
 
-use crate::system::{System, copy_order};
+use crate::system::System;
+use crate::time::copy_order;
 use std::alloc::{AllocError, Global};
 
 pub(crate) fn is_among(time: u128, times: &Vec<u128>) -> bool

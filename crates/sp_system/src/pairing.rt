@@ -1,13 +1,12 @@
-// The pairs of terms that make facts, actions and steps the same.
+// The pairs of terms that make facts and actions the same.
 
 ghost use Rattle.std.specs.Prelude.{◌≡◌, IfOk, map, option_map};
 ghost use Rattle.sp_term.specs.Bindings.{bindings};
 ghost use Rattle.sp_term.specs.View.{view_all};
 ghost use Rattle.sp_spec_system.specs.Equating as equating;
 ghost use Rattle.sp_fact.specs.View.{fact_of, action_of};
-ghost use Rattle.sp_system.specs.SystemView.{event_of, pair_of};
+ghost use Rattle.sp_system.specs.SystemView.{pair_of};
 
-use crate::system::Event;
 use sp_fact::fact::{Action, Fact};
 use sp_term::subst::Subst;
 use sp_term::term::{Term, copy};
@@ -105,36 +104,6 @@ pub fn action_pairs(
         };
         made.append(&mut pairs)?;
     }
-    Ok(Some(made))
-}
-
-/// The pairs that make two steps one, if they are of one rule.
-pub fn merging_pairs(
-    alloc: Global,
-    left: &Event,
-    right: &Event,
-) -> Result<Option<Vec<(Term, Term)>>, AllocError>
-    ensures { IfOk result (λ o. option_map (λ ps. map pair_of ps.items) o ≡ equating.merging_pairs (event_of left.now).happening (event_of right.now).happening) }
-{
-    if !left.what.is_same(&right.what) {
-        return Ok(None);
-    }
-    let Some(mut made) = fact_pairs(alloc, &left.facts.premises, &right.facts.premises)? else {
-        return Ok(None);
-    };
-    let Some(mut actions) = action_pairs(alloc, &left.facts.actions, &right.facts.actions)? else {
-        return Ok(None);
-    };
-    let Some(mut conclusions) = fact_pairs(
-        alloc,
-        &left.facts.conclusions,
-        &right.facts.conclusions,
-    )?
-    else {
-        return Ok(None);
-    };
-    made.append(&mut actions)?;
-    made.append(&mut conclusions)?;
     Ok(Some(made))
 }
 

@@ -1,35 +1,18 @@
 // Systems in memory.
 
-ghost use Rattle.std.specs.Prelude.{◌≡◌, [], ◌∷◌, ◌++◌, if◌then◌else◌, IfOk, OnOk, bytes_eq, drop, map};
+ghost use Rattle.std.specs.Prelude.{◌≡◌, [], IfOk, OnOk, map};
 ghost use Rattle.sp_spec.specs.Substitution.{bound_to};
 ghost use Rattle.sp_term.specs.Bindings.{bindings};
-ghost use Rattle.sp_spec_system.specs.Equating.{event_changed, pair_changed, link_changed, same_source, same_premise, has_link, joined_links, order_changed, system_changed};
+ghost use Rattle.sp_spec_system.specs.Equating.{event_changed, pair_changed, link_changed, same_source, same_premise, has_link, joined_links, system_changed};
 ghost use Rattle.sp_spec.specs.Change.{time_replaced};
-ghost use Rattle.sp_system.specs.SystemView.{rule_name_of, event_of, pair_of, link_of, system_of};
+ghost use Rattle.sp_system.specs.SystemView.{event_of, pair_of, link_of, system_of};
 
-use sp_fact::fact::Facts;
+use crate::event::Event;
+use crate::time::{changed_order, changed_time, copy_order};
 use sp_formula::formula::{Formula, changed_formulas, copy_formulas};
 use sp_term::subst::{Subst, apply};
-use sp_term::term::{Name, Term, copy};
+use sp_term::term::{Term, copy};
 use std::alloc::{AllocError, Global};
-
-/// What happens at an event.
-#[derive(Debug, Drop)]
-pub enum What {
-    /// a step of the rule of this name
-    Rule(Name),
-}
-
-/// What happens at a time.
-#[derive(Debug, Drop)]
-pub struct Event {
-    /// when
-    pub time: u128,
-    /// what
-    pub what: What,
-    /// its facts
-    pub facts: Facts,
-}
 
 /// Where a premise comes from: what one event concludes is a premise of another.
 #[derive(Clone, Copy, Debug, PartialEq, Eq)]
@@ -61,60 +44,6 @@ pub struct System {
     pub order: Vec<(u128, u128)>,
     /// a number above those of all variables and times
     pub next: u128,
-}
-
-impl What {
-    /// The same.
-    pub fn copy(&self) -> Result<What, AllocError>
-        ensures { IfOk result (λ w. rule_name_of w ≡ rule_name_of self.now) }
-    {
-        match self {
-            What::Rule(name) => {
-                let name = name.copy()?;
-                Ok(What::Rule(name))
-            }
-        }
-    }
-
-    /// Whether both are steps of one rule.
-    pub fn is_same(&self, other: &What) -> bool
-        ensures { result ≡ bytes_eq (rule_name_of self.now) (rule_name_of other.now) }
-    {
-        match (self, other) {
-            (What::Rule(left), What::Rule(right)) => *left == *right,
-        }
-    }
-}
-
-impl Event {
-    /// An equal event.
-    pub fn copy(&self, alloc: Global) -> Result<Event, AllocError>
-        ensures { IfOk result (λ e. event_of e ≡ event_of self.now) }
-    {
-        let what = self.what.copy()?;
-        let facts = self.facts.copy(alloc)?;
-        Ok(Event {
-            time: self.time,
-            what,
-            facts,
-        })
-    }
-
-    /// The event with each bound variable replaced, and with `small` in place of `large`.
-    pub fn changed(
-        &self,
-        alloc: Global,
-        subst: &Subst,
-        small: u128,
-        large: u128,
-    ) -> Result<Event, AllocError>
-        ensures { IfOk result (λ e. event_of e ≡ event_changed (bound_to (bindings subst.now)) (time_replaced small large) (event_of self.now)) }
-    {
-        let what = self.what.copy()?;
-        let facts = self.facts.changed(alloc, subst)?;
-        let time = if self.time == large { small } else { self.time };
-        Ok(Event { time, what, facts })
-    }
 }
 
 fn copy_events(alloc: Global, events: &Vec<Event>) -> Result<Vec<Event>, AllocError>
@@ -251,42 +180,6 @@ fn changed_links(
         if !has_link(&made, link) {
             made.push(link)?;
         }
-    }
-    Ok(made)
-}
-
-pub(crate) fn copy_order(
-    alloc: Global,
-    pairs: &Vec<(u128, u128)>,
-) -> Result<Vec<(u128, u128)>, AllocError>
-    ensures { IfOk result (λ ps. ps.items ≡ pairs.now.items) }
-{
-    let mut made = Vec::with_capacity(alloc, pairs.len())?;
-    for pair in pairs {
-        made.push((pair.0, pair.1))?;
-    }
-    Ok(made)
-}
-
-fn changed_time(small: u128, large: u128, time: u128) -> u128
-    ensures { result ≡ time_replaced small large time }
-{
-    if time == large { small } else { time }
-}
-
-fn changed_order(
-    alloc: Global,
-    small: u128,
-    large: u128,
-    pairs: &Vec<(u128, u128)>,
-) -> Result<Vec<(u128, u128)>, AllocError>
-    ensures { IfOk result (λ ps. ps.items ≡ map (order_changed (time_replaced small large)) pairs.now.items) }
-{
-    let mut made = Vec::with_capacity(alloc, pairs.len())?;
-    for pair in pairs {
-        let first = changed_time(small, large, pair.0);
-        let second = changed_time(small, large, pair.1);
-        made.push((first, second))?;
     }
     Ok(made)
 }

@@ -4,10 +4,9 @@ use sp_conv::check::{Checked, check_equations};
 use sp_conv::clash::clash;
 use sp_conv::form::{Form, form_of};
 use sp_ground::signature::{Equation, Signature, Symbol};
-use sp_term::term::{Name, Sort, Term, nesting_over};
-use sp_test_make::terms::{constant, pair, variable};
+use sp_term::term::{Name, Sort, Term};
+use sp_test_make::terms::{constant, over, pair, variable};
 use std::alloc::{AllocError, Global};
-use std::rc::Rc;
 use std::test::Fail;
 
 // the first variable
@@ -18,13 +17,6 @@ pub(crate) fn x() -> Term {
 // the second
 pub(crate) fn y() -> Term {
     variable(Sort::Msg, 1)
-}
-
-// The symbol over these arguments.
-pub(crate) fn over(alloc: Global, symbol: &str, args: Vec<Term>) -> Result<Term, AllocError> {
-    let name = Name::new(alloc, symbol)?;
-    let nesting = nesting_over(&args)?;
-    Ok(Term::App(name, Rc::new(alloc, args)?, nesting))
 }
 
 // d(left, y) = right

@@ -1,6 +1,6 @@
 // Learning logs that are checked, and their traces: a table whose answers are worked out by hand.
 
-use crate::equations::{over, x, y};
+use crate::equations::{x, y};
 use sp_fact::fact::{Fact, Facts};
 use sp_fact::rule::Rule;
 use sp_ground::fact::{GroundFact, GroundFacts};
@@ -14,7 +14,7 @@ use sp_show::trace::trace_block;
 use sp_term::term::{Name, Sort, Term};
 use sp_test_make::facts::{action, linear, rule};
 use sp_test_make::ground::{applied, fact_of, paired, public, shown};
-use sp_test_make::terms::{pair, variable, variables};
+use sp_test_make::terms::{over, pair, variable, variables};
 use sp_variant::book::book;
 use std::alloc::{AllocError, Global};
 use std::test::Fail;

@@ -1,6 +1,6 @@
-// What steps do on worked examples: equations that are accepted, ground terms and their normal forms, steps and the texts of them, executions, truth over a trace, logs of steps, learning logs, and links of chains.
+// What steps do on worked examples: equations that are accepted, ground terms and their normal forms, steps and the texts of them, executions, truth over a trace, learning logs, of steps alone too, and links of chains.
 // Below stand the makers of values (sp_test_make) and the crates of ground terms (sp_ground), normal forms (sp_norm), texts of steps
-// (sp_show), replayed executions (sp_exec), truth (sp_eval), logs (sp_log), destructions (sp_destruct), links (sp_link) and learning logs (sp_learn). Nothing stands above.
+// (sp_show), replayed executions (sp_exec), truth (sp_eval), steps of logs (sp_log), destructions (sp_destruct), links (sp_link) and learning logs (sp_learn). Nothing stands above.
 // Nothing is promised here. What no clause says is shown: that the definitions mean what is meant by them, by values from outside.
 #![tactic(auto)]
 

@@ -1,6 +1,6 @@
 // Destructions of equations, and links of chains by them: tables whose answers are worked out by hand.
 
-use crate::equations::{over, x, y};
+use crate::equations::{x, y};
 use crate::texts::{term_text, terms_text};
 use sp_destruct::destruction::{Destruction, chains_of};
 use sp_ground::signature::{Equation, Signature, Symbol};
@@ -11,7 +11,7 @@ use sp_term::apply::apply_all;
 use sp_term::subst::Values;
 use sp_term::term::{Name, Sort, Term, Variable};
 use sp_test_make::ground::{applied, public};
-use sp_test_make::terms::variable;
+use sp_test_make::terms::{over, variable};
 use std::alloc::{AllocError, Global};
 use std::test::Fail;
 

@@ -1,14 +1,17 @@
-// Logs that are checked, and what they stand for.
+// Learning logs of steps alone that are checked, and the steps and traces that they stand for.
 
+use sp_book::book::RuleBook;
 use sp_fact::fact::{Fact, Facts};
 use sp_fact::rule::Rule;
 use sp_ground::fact::GroundFacts;
-use sp_ground::signature::Signature;
+use sp_ground::signature::{Equation, Signature};
+use sp_ground::step::Step;
 use sp_ground::term::GroundTerm;
-use sp_log::check::{Checked, Clause, check_log};
-use sp_log::execution::execution;
-use sp_log::log::{Entry, Log, Source};
-use sp_log::trace::{visible_trace, whole_trace};
+use sp_learn::check::{Checked, Clause, check_log};
+use sp_learn::log::{Entry, Log};
+use sp_learn::trace::{visible_trace, whole_trace};
+use sp_log::execution::add_steps;
+use sp_log::log::{Entry as StepEntry, Source};
 use sp_show::step::step_line;
 use sp_show::trace::trace_block;
 use sp_term::term::{Name, Sort, Term, copy};
@@ -73,7 +76,7 @@ fn makes(
     name: &str,
     conclusion: (&str, bool),
     value: GroundTerm,
-) -> Result<Entry, AllocError> {
+) -> Result<StepEntry, AllocError> {
     let (symbol, persistent) = conclusion;
     let args = vec![in alloc; copy(&value)?]?;
     let facts = GroundFacts {
@@ -83,7 +86,7 @@ fn makes(
     };
     let sources = vec![in alloc; Source::FreshRule]?;
     let rule = Name::new(alloc, name)?;
-    Ok(Entry {
+    Ok(StepEntry {
         rule,
         facts,
         sources,
@@ -96,7 +99,7 @@ fn takes(
     name: &str,
     premise: (&str, bool),
     position: usize,
-) -> Result<Entry, AllocError> {
+) -> Result<StepEntry, AllocError> {
     let (symbol, persistent) = premise;
     let premise = fact_of(alloc, symbol, persistent, Term::FreshName(1))?;
     let facts = GroundFacts {
@@ -106,14 +109,14 @@ fn takes(
     };
     let sources = vec![in alloc; Source::Conclusion(position, 0)]?;
     let rule = Name::new(alloc, name)?;
-    Ok(Entry {
+    Ok(StepEntry {
         rule,
         facts,
         sources,
     })
 }
 
-fn entry(alloc: Global, line: Line) -> Result<Entry, AllocError> {
+fn step(alloc: Global, line: Line) -> Result<StepEntry, AllocError> {
     let name = Term::FreshName(1);
     match line {
         Line::Make => makes(alloc, "Make", ("Key", false), name),
@@ -127,7 +130,7 @@ fn entry(alloc: Global, line: Line) -> Result<Entry, AllocError> {
 fn log(alloc: Global, lines: &[Line]) -> Result<Log, AllocError> {
     let mut entries = Vec::new(alloc);
     for line in lines {
-        entries.push(entry(alloc, *line)?)?;
+        entries.push(Entry::Step(step(alloc, *line)?))?;
     }
     Ok(Log { entries })
 }
@@ -172,18 +175,39 @@ fn first_broken_entries_are_told(rt: HostRuntime) -> Result<(), Fail> {
     Ok(())
 }
 
+// the steps that the lines stand for, the oldest first
+fn steps_of(
+    alloc: Global,
+    equations: &Vec<Equation>,
+    book: &RuleBook,
+    lines: &[Line],
+) -> Result<Vec<Step>, AllocError> {
+    let mut steps = Vec::new(alloc);
+    for line in lines {
+        let entry = step(alloc, *line)?;
+        add_steps(alloc, equations, &book.rules, &entry, &mut steps)?;
+    }
+    Ok(steps)
+}
+
 #[test]
 fn executions_make_names_and_use_rules(rt: HostRuntime) -> Result<(), Fail> {
     let alloc = rt.alloc();
-    let log = log(alloc, &[Line::Make, Line::Use(0)])?;
     let equations = Signature::pairs(alloc)?.equations;
     let book = book(alloc, &equations, &rules(alloc)?)?;
-    let steps = execution(alloc, &equations, &book.rules, &log)?;
+    let steps = steps_of(alloc, &equations, &book, &[Line::Make, Line::Use(0)])?;
     let lines = ["fresh ~n1", "rule Make: x = ~n1", "rule Use: x = ~n1"];
     assert_eq!(rt; steps.len(), lines.len());
     for (step, line) in steps.iter().zip(lines) {
         assert_eq!(rt; step_line(alloc, step)?.as_str(), line);
     }
+    Ok(())
+}
+
+#[test]
+fn steps_show_their_actions(rt: HostRuntime) -> Result<(), Fail> {
+    let alloc = rt.alloc();
+    let log = log(alloc, &[Line::Make, Line::Use(0)])?;
     let whole = trace_block(alloc, &whole_trace(alloc, &log)?)?;
     assert_eq!(rt; whole.as_str(), "trace:\nA(~n1)\n\nend of trace\n");
     let visible = trace_block(alloc, &visible_trace(alloc, &log)?)?;

@@ -4,14 +4,15 @@ use crate::facts::{actions_alone, linear};
 use crate::terms::variable;
 use sp_fact::fact::{Action, Facts};
 use sp_formula::formula::Formula;
-use sp_system::system::{Event, Link, System, What};
+use sp_system::event::Event;
+use sp_system::system::{Link, System};
 use sp_term::term::{Name, Sort};
 use std::alloc::{AllocError, Global};
 
 /// The event of the rule at this time.
 pub fn event(alloc: Global, time: u128, rule: &str, facts: Facts) -> Result<Event, AllocError> {
-    let what = What::Rule(Name::new(alloc, rule)?);
-    Ok(Event { time, what, facts })
+    let rule = Name::new(alloc, rule)?;
+    Ok(Event::step(time, rule, facts))
 }
 
 /// The event of a rule that has these actions and no other facts.

@@ -23,12 +23,17 @@ pub fn constant(alloc: Global, text: &str) -> Result<Term, AllocError> {
     Ok(Term::Constant(Name::new(alloc, text)?))
 }
 
+/// The symbol over these terms.
+pub fn over(alloc: Global, symbol: &str, terms: Vec<Term>) -> Result<Term, AllocError> {
+    let name = Name::new(alloc, symbol)?;
+    let nesting = nesting_over(&terms)?;
+    Ok(Term::App(name, Rc::new(alloc, terms)?, nesting))
+}
+
 /// The pair of two terms.
 pub fn pair(alloc: Global, first: Term, second: Term) -> Result<Term, AllocError> {
     let parts = vec![in alloc; first, second]?;
-    let name = Name::new(alloc, "pair")?;
-    let nesting = nesting_over(&parts)?;
-    Ok(Term::App(name, Rc::new(alloc, parts)?, nesting))
+    over(alloc, "pair", parts)
 }
 
 /// Variables of these sorts and numbers.

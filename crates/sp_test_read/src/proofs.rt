@@ -62,6 +62,14 @@ fn write_move(alloc: Global, out: &mut String, chosen: Move) -> Result<(), Alloc
             let text = format!(in alloc; "action {place}")?;
             out.push_str(&text)
         }
+        Move::Know(time) => {
+            let text = format!(in alloc; "know {time}")?;
+            out.push_str(&text)
+        }
+        Move::Chain(time) => {
+            let text = format!(in alloc; "chain {time}")?;
+            out.push_str(&text)
+        }
     }
 }
 
@@ -208,8 +216,13 @@ fn goals_say_moves(rt: HostRuntime) -> Result<(), Fail> {
             "unbuilt or 18446744073709551616",
         ),
         ("by solve( or )", "unknown or"),
-        ("by solve( know 0 )", "unbuilt know 0"),
-        ("by solve( chain 0 )", "unbuilt chain 0"),
+        (
+            "by solve( know 18446744073709551616 )",
+            "know 18446744073709551616",
+        ),
+        ("by solve( know )", "unknown know"),
+        ("by solve( chain 0 )", "chain 0"),
+        ("by solve( chain 0 0 )", "unknown chain 0 0"),
         ("by solve( source 0 )", "unbuilt source 0"),
         ("by solve( top 0 )", "unbuilt top 0"),
         ("by solve( top 0 0 )", "unknown top 0 0"),

@@ -4,7 +4,7 @@ ghost use Rattle.std.specs.Prelude.{◌≡◌};
 ghost use Rattle.sp_search.specs.Kinds.{case_count};
 ghost use Rattle.sp_search.specs.NodeView.{node_at};
 
-use sp_log::log::Log;
+use sp_learn::log::Log;
 use sp_search::{Node, OpenLeaf, Tree};
 use sp_skel::tree_text;
 use sp_step::moves::Move;

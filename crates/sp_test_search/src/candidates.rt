@@ -6,12 +6,15 @@ use sp_fact::rule::Rule;
 use sp_formula::formula::{Atom, Formula, Moment};
 use sp_formula::place::FormulaAction;
 use sp_ground::term::GroundTerm;
-use sp_log::log::{Entry, Log, Source};
+use sp_learn::log::{Entry, How, Log};
+use sp_log::log::{Entry as StepEntry, Source};
 use sp_solved::{candidate, found};
+use sp_system::event::Event;
 use sp_system::system::{Link, System};
+use sp_system::way::{Chain, Way};
 use sp_term::term::{Name, Sort, Term};
 use sp_test_make::facts::{action, linear, rule};
-use sp_test_make::systems::{event, system};
+use sp_test_make::systems::{event, link, system};
 use sp_test_make::terms::{names, variable, variables};
 use std::alloc::{AllocError, Global};
 use std::test::Fail;
@@ -102,13 +105,45 @@ fn put_sources(alloc: Global, text: &mut String, sources: &Vec<Source>) -> Resul
     Ok(())
 }
 
-// the rule of the entry, the arguments of its actions, and the conclusions that give its premises
-fn put_entry(alloc: Global, text: &mut String, entry: &Entry) -> Result<(), AllocError> {
-    text.push_str(entry.rule.text.as_str())?;
-    for action in &entry.facts.actions {
+// the rule of the step, the arguments of its actions, and the conclusions that give its premises
+fn put_step(alloc: Global, text: &mut String, step: &StepEntry) -> Result<(), AllocError> {
+    text.push_str(step.rule.text.as_str())?;
+    for action in &step.facts.actions {
         put_terms(text, &action.args)?;
     }
-    put_sources(alloc, text, &entry.sources)?;
+    put_sources(alloc, text, &step.sources)
+}
+
+fn put_how(alloc: Global, text: &mut String, how: &How) -> Result<(), AllocError> {
+    match how {
+        How::PublicName => text.push_str(" public"),
+        How::OwnName => text.push_str(" own"),
+        How::Constructed => text.push_str(" made"),
+        How::Chain {
+            step,
+            conclusion,
+            messages,
+        } => {
+            let words = format!(in alloc; " chain {step}.{conclusion}")?;
+            text.push_str(words.as_str())?;
+            put_terms(text, messages)
+        }
+    }
+}
+
+fn put_entry(alloc: Global, text: &mut String, entry: &Entry) -> Result<(), AllocError> {
+    match entry {
+        Entry::Step(step) => put_step(alloc, text, step)?,
+        Entry::Send(message) => {
+            text.push_str("send ")?;
+            put_term(text, message)?;
+        }
+        Entry::Learn(message, how) => {
+            text.push_str("learn ")?;
+            put_term(text, message)?;
+            put_how(alloc, text, how)?;
+        }
+    }
     text.push_str(";")
 }
 
@@ -226,6 +261,61 @@ fn logs_are_suggested(rt: HostRuntime) -> Result<(), Fail> {
     Ok(())
 }
 
+// ---- what is sent and learnt
+
+const RECEIVING: Step<'static> = Step {
+    time: 3,
+    rule: "T",
+    takes: "In",
+    variables: &[(Sort::Msg, 1)],
+};
+
+// These steps; before RECEIVING, and behind FIRST, x1 is learnt in this way and sent.
+fn received(alloc: Global, steps: &[Step], way: Way) -> Result<System, AllocError> {
+    let mut made = of_steps(alloc, steps, None)?;
+    made.events
+        .push(Event::send(alloc, 2, variable(Sort::Msg, 1))?)?;
+    made.events
+        .push(Event::learn(alloc, 1, variable(Sort::Msg, 1), way)?)?;
+    made.links.push(link(2, 0, 3, 0))?;
+    for pair in [(5, 1), (1, 2), (2, 3)] {
+        made.order.push(pair)?;
+    }
+    Ok(made)
+}
+
+// x1 alone, from the first conclusion of FIRST
+fn chain(alloc: Global) -> Result<Chain, AllocError> {
+    let messages = vec![in alloc; variable(Sort::Msg, 1)]?;
+    Ok(Chain {
+        time: 5,
+        conclusion: 0,
+        messages,
+    })
+}
+
+const RECEIVED: &str = "learn 'a1' public;send 'a1';T 'a1' from 1.0;";
+
+// what is learnt anyhow is a public name, and a chain has to be done
+#[test]
+fn learning_logs_are_suggested(rt: HostRuntime) -> Result<(), Fail> {
+    let alloc = rt.alloc();
+    let begun = Way::ChainBegun(chain(alloc)?);
+    let done = Way::ChainDone(chain(alloc)?);
+    for (system, wanted) in [
+        (received(alloc, &[RECEIVING], Way::Anyhow)?, RECEIVED),
+        (received(alloc, &[RECEIVING, FIRST], begun)?, "none"),
+        (
+            received(alloc, &[RECEIVING, FIRST], done)?,
+            "P 'a1' 'a2';learn 'a1' chain 0.0 'a1';send 'a1';T 'a1' from 2.0;",
+        ),
+    ] {
+        let log = candidate(alloc, &Vec::new(alloc), &system)?;
+        assert_eq!(rt; text_of(alloc, &log)?.as_str(), wanted);
+    }
+    Ok(())
+}
+
 // Q: [ Fr(~x) ] --[ A(~x,y) ]-> [ ]
 fn making(alloc: Global) -> Result<Rule, AllocError> {
     let step = Step {
@@ -242,18 +332,44 @@ fn making(alloc: Global) -> Result<Rule, AllocError> {
     )
 }
 
-// what is sought, and the only step, which is one of the rule's, or isn't
+// T: [ In(x) ] --[ A(x) ]-> [ ]
+fn receiving(alloc: Global) -> Result<Rule, AllocError> {
+    let step = Step {
+        time: 0,
+        rule: "T",
+        takes: "In",
+        variables: &[(Sort::Msg, 0)],
+    };
+    rule(alloc, "T", &[("x", Sort::Msg)], facts(alloc, &step)?)
+}
+
+// what is sought, and the events, which are those of a log of the rules, or aren't
 #[test]
 fn logs_are_found(rt: HostRuntime) -> Result<(), Fail> {
     let alloc = rt.alloc();
-    for (sought, step, wanted) in [
-        (Formula::Truth, SECOND, "Q ~n1 'a1';"),
-        (Formula::Falsity, SECOND, "none"),
-        (Formula::Truth, FIRST, "none"),
+    let by_chain = Way::ChainDone(chain(alloc)?);
+    for (sought, system, wanted) in [
+        (
+            Formula::Truth,
+            of_steps(alloc, &[SECOND], None)?,
+            "Q ~n1 'a1';",
+        ),
+        (Formula::Falsity, of_steps(alloc, &[SECOND], None)?, "none"),
+        (Formula::Truth, of_steps(alloc, &[FIRST], None)?, "none"),
+        (
+            Formula::Truth,
+            received(alloc, &[RECEIVING], Way::Anyhow)?,
+            RECEIVED,
+        ),
+        (
+            Formula::Truth,
+            received(alloc, &[RECEIVING], by_chain)?,
+            "none",
+        ),
     ] {
-        let parts = Parts::new(alloc, vec![in alloc; making(alloc)?]?, sought)?;
+        let rules = vec![in alloc; making(alloc)?, receiving(alloc)?]?;
+        let parts = Parts::new(alloc, rules, sought)?;
         let context = parts.context();
-        let system = of_steps(alloc, &[step], None)?;
         let book = context.rules;
         let log = found(alloc, &context.sought, &book.rules, &system)?;
         assert_eq!(rt; text_of(alloc, &log)?.as_str(), wanted);

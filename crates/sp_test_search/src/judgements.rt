@@ -5,7 +5,7 @@ use sp_check::{Clause, Judgement, Node, Skeleton, Step, has_open, judge, steps};
 use sp_fact::fact::Facts;
 use sp_fact::rule::Rule;
 use sp_formula::formula::{Atom, Binder, Formula, Moment};
-use sp_log::log::Log;
+use sp_learn::log::{Entry, Log};
 use sp_step::moves::Move;
 use sp_term::term::Sort;
 use sp_test_make::facts::{action, linear, rule};
@@ -45,12 +45,16 @@ fn some(alloc: Global) -> Result<Formula, AllocError> {
     exists(alloc, binders, guard, Formula::Truth)
 }
 
-// the names of the rules in a log
+// the names of the rules in a log, or what else is done
 fn told_log(alloc: Global, log: &Log) -> Result<String, AllocError> {
     let mut out = String::from_str(alloc, "found")?;
     for entry in &log.entries {
         out.push_str(" ")?;
-        out.push_str(entry.rule.text.as_str())?;
+        match entry {
+            Entry::Step(step) => out.push_str(step.rule.text.as_str())?,
+            Entry::Send(_) => out.push_str("send")?,
+            Entry::Learn(_, _) => out.push_str("learn")?,
+        }
     }
     Ok(out)
 }

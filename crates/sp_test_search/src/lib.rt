@@ -18,6 +18,8 @@ mod instances;
 #[cfg(test)]
 mod judgements;
 #[cfg(test)]
+mod learning;
+#[cfg(test)]
 mod moves;
 #[cfg(test)]
 mod rows;

@@ -173,6 +173,30 @@ fn formulas_are_taken_up(rt: HostRuntime) -> Result<(), Fail> {
     Ok(())
 }
 
+// that the adversary learns is looked for
+fn learning(alloc: Global) -> Result<System, AllocError> {
+    let formulas = vec![in alloc; sought(alloc, "KU")?]?;
+    Ok(system(alloc, formulas, 6))
+}
+
+// What the adversary may have done is done at the time.
+#[test]
+fn actions_of_the_adversary_are_taken_up(rt: HostRuntime) -> Result<(), Fail> {
+    let alloc = rt.alloc();
+    let rules = showing(alloc)?;
+    let cases: [(System, Move, &str, Sizes); 2] = [
+        (two_actions(alloc)?, Move::Action(1), "Send ", (1, 2, 0, 6)),
+        (learning(alloc)?, Move::Action(0), "Learn ", (1, 1, 0, 6)),
+    ];
+    for (given, chosen, wanted, held) in cases {
+        let applied = apply_to_formula(alloc, &rules, &given, chosen)?;
+        let found = cases_in(applied)?;
+        assert_eq!(rt; names(alloc, &found)?.as_str(), wanted);
+        assert!(rt; all_have(&found, held));
+    }
+    Ok(())
+}
+
 #[test]
 fn clauses_of_formulas_are_told(rt: HostRuntime) -> Result<(), Fail> {
     let alloc = rt.alloc();
@@ -188,7 +212,7 @@ fn clauses_of_formulas_are_told(rt: HostRuntime) -> Result<(), Fail> {
         (Move::Action(3), Some(Clause::Absent)),
         (Move::Or(0), Some(Clause::OtherKind)),
         (Move::Action(2), Some(Clause::OtherKind)),
-        (Move::Action(1), Some(Clause::Condition)),
+        (Move::Action(1), None),
         (Move::Or(2), None),
         (Move::Action(0), None),
     ] {
@@ -196,7 +220,7 @@ fn clauses_of_formulas_are_told(rt: HostRuntime) -> Result<(), Fail> {
         assert_eq!(rt; clause_in(&applied), wanted);
     }
     assert!(rt; is_solvable(alloc, &sought(alloc, "A")?)?);
-    assert!(rt; !is_solvable(alloc, &sought(alloc, "K")?)?);
+    assert!(rt; is_solvable(alloc, &sought(alloc, "K")?)?);
     Ok(())
 }
 
@@ -302,7 +326,7 @@ fn clauses_of_moves_are_told(rt: HostRuntime) -> Result<(), Fail> {
         (Move::Simplify, Some(Clause::Condition)),
         (Move::Contradiction, Some(Clause::Condition)),
         (Move::Solved, Some(Clause::Condition)),
-        (Move::Action(1), Some(Clause::Condition)),
+        (Move::Action(1), None),
         (Move::Or(0), Some(Clause::OtherKind)),
         (Move::Action(2), Some(Clause::Absent)),
         (

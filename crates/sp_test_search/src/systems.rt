@@ -4,9 +4,10 @@ use sp_fact::fact::Facts;
 use sp_formula::formula::{Atom, Formula, Moment};
 use sp_formula::place::placed;
 use sp_formula::same::same_formula;
+use sp_system::event::Event;
+use sp_system::merging::happenings_merging;
 use sp_system::order::{is_before, is_cyclic};
-use sp_system::pairing::merging_pairs;
-use sp_system::system::{Event, System};
+use sp_system::system::System;
 use sp_term::subst::Subst;
 use sp_term::term::{Sort, Term, Variable, copy};
 use sp_test_make::facts::{action, linear};
@@ -104,9 +105,9 @@ fn events_are_paired(rt: HostRuntime) -> Result<(), Fail> {
     let left = using(alloc, 2, "R", variable(Sort::Msg, 0))?;
     for (rule, wanted) in [("R", Some(2)), ("S", None)] {
         let right = using(alloc, 3, rule, Term::Var(OTHER))?;
-        let found = merging_pairs(alloc, &left, &right)?;
+        let found = happenings_merging(alloc, &left, &right)?;
         let count = match found {
-            Some(pairs) => Some(pairs.len()),
+            Some(found) => Some(found.pairs.len()),
             None => None,
         };
         assert_eq!(rt; count, wanted);

@@ -1,6 +1,8 @@
-// Theories in which the adversary takes part: executions of them are replayed, and so far no proofs are searched or checked.
+// Theories in which the adversary takes part: an attack that is replayed and looked for, and where the adversary's facts may be named.
 
-use crate::calls::assert_answer;
+use crate::calls::{assert_answer, written_by};
+use sp_analysis::{Command, Reply, Verdict};
+use std::alloc::Global;
 use std::test::Fail;
 
 /// Needham and Schroeder's public key protocol.
@@ -61,16 +63,21 @@ const SECOND: &str = "aenc(<'2', ~n4, ~n5>, pk(~n1))";
 
 const SECOND_NAMED: &str = "aenc(<'2', ~n4, ~n5, 'B'>, pk(~n1))";
 
+/// The protocol with the responder's name in the second message.
+fn repaired_protocol(alloc: Global) -> Result<String, Fail> {
+    let sent = NEEDHAM_SCHROEDER.replace(alloc, "<'2', na, ~nb>", "<'2', na, ~nb, $B>")?;
+    let taken = sent
+        .as_str()
+        .replace(alloc, "<'2', ~na, nb>", "<'2', ~na, nb, $B>")?;
+    Ok(taken)
+}
+
 #[test]
 fn attacks_are_replayed(rt: HostRuntime) -> Result<(), Fail> {
     let alloc = rt.alloc();
     let attack = format!(in alloc; "{NEEDHAM_SCHROEDER}{LOWE}")?;
     assert_answer(&rt, alloc, "replay", attack.as_str(), 0, SEEN)?;
-    // with the responder's name in the second message
-    let sent = NEEDHAM_SCHROEDER.replace(alloc, "<'2', na, ~nb>", "<'2', na, ~nb, $B>")?;
-    let repaired = sent
-        .as_str()
-        .replace(alloc, "<'2', ~na, nb>", "<'2', ~na, nb, $B>")?;
+    let repaired = repaired_protocol(alloc)?;
     let as_it_was = format!(in alloc; "{repaired}{LOWE}")?;
     assert_answer(
         &rt,
@@ -93,61 +100,95 @@ fn attacks_are_replayed(rt: HostRuntime) -> Result<(), Fail> {
     Ok(())
 }
 
-/// Items, what is written of their rules, and of an execution without steps.
-const DEALING: [(&str, &str, &str); 8] = [
+/// What a proof of so many moves says of the only lemma of the text.
+fn verdict_within(alloc: Global, moves: u64, text: &str) -> Result<Verdict, Fail> {
+    let reply = sp_analysis::answer(alloc, Command::Prove(moves), text.as_bytes())?;
+    let Reply::Done(_, verdicts) = reply else {
+        return Err("no lemma is tried".into());
+    };
+    let verdict = verdicts.first().ok_or("verdict")?;
+    Ok(*verdict)
+}
+
+/// There is an attack on the protocol, so the lemma is never verified; there is none on the repaired one, so there it is never falsified. So few moves
+/// needn't decide either.
+#[test]
+fn attacks_are_never_overlooked_or_invented(rt: HostRuntime) -> Result<(), Fail> {
+    let alloc = rt.alloc();
+    let original = verdict_within(alloc, 200, NEEDHAM_SCHROEDER)?;
+    assert!(rt; original != Verdict::Verified);
+    let repaired = repaired_protocol(alloc)?;
+    let kept = verdict_within(alloc, 200, repaired.as_str())?;
+    assert!(rt; kept != Verdict::Falsified);
+    Ok(())
+}
+
+/// Items, what is written of their rules, how the summary begins that is written of their lemma, if they have one, and what an execution without steps says
+/// of it.
+const DEALING: [(&str, &str, &str, &str); 8] = [
     (
         "rule R: [ In(x) ] --> [ ]",
         "rule R: 1 forms\n  [ In(v0) ] --[ ]-> [ ]\n",
+        "*/\n",
         "",
     ),
     (
         "rule R: [ ] --> [ Out('c') ]",
         "rule R: 1 forms\n  [ ] --[ ]-> [ Out('c') ]\n",
+        "*/\n",
         "",
     ),
     (
         "rule R: [ ] --[ In() ]-> [ ]",
         "rule R: 1 forms\n  [ ] --[ In() ]-> [ ]\n",
+        "*/\n",
         "",
     ),
     (
         "rule R: [ ] --[ A(), Out('c', 'd') ]-> [ ]",
         "rule R: 1 forms\n  [ ] --[ A(), Out('c', 'd') ]-> [ ]\n",
+        "*/\n",
         "",
     ),
+    // the adversary sends what it knows
     (
         "lemma l: \"All x #i. K(x)@i ==> F\"",
         "",
+        "l (all-traces): falsified - found trace",
         "l (all-traces): met\n",
     ),
+    // no rule has these actions, and none is the adversary's
     (
         "lemma l: \"Ex x #i. A(x)@i & (All #j. K(x, x)@j ==> F)\"",
         "",
+        "l (all-traces): falsified - found trace",
         "l (all-traces): broken\n",
     ),
-    ("lemma l: \"Ex #i. KD()@i\"", "", "l (all-traces): broken\n"),
+    (
+        "lemma l: \"Ex #i. KD()@i\"",
+        "",
+        "l (all-traces): falsified - found trace",
+        "l (all-traces): broken\n",
+    ),
     (
         "lemma l: \"T | not (Ex #i. Out()@i)\"",
         "",
+        "l (all-traces): verified",
         "l (all-traces): met\n",
     ),
 ];
 
 #[test]
-fn proofs_await_learning(rt: HostRuntime) -> Result<(), Fail> {
+fn facts_of_the_adversary_are_taken(rt: HostRuntime) -> Result<(), Fail> {
     let alloc = rt.alloc();
-    for (items, forms, lemmas) in &DEALING {
+    for (items, forms, line, lemmas) in &DEALING {
         let text = format!(in alloc; "theory T begin {items} end")?;
-        for command in ["prove", "check"] {
-            assert_answer(
-                &rt,
-                alloc,
-                command,
-                text.as_str(),
-                4,
-                "refused: text at byte 0\n",
-            )?;
-        }
+        let written = written_by(alloc, "prove", text.as_str())?;
+        let (_, comment) = written.as_str().split_once("end\n/*\n").ok_or("summary")?;
+        assert!(rt; comment.starts_with(*line), "{written}");
+        let checked = written_by(alloc, "check", written.as_str())?;
+        let summary = format!(in alloc; "{checked}*/\n")?;
+        assert_eq!(rt; summary.as_str(), comment, "{written}");
         assert_answer(&rt, alloc, "variants", text.as_str(), 0, forms)?;
         let trace = format!(in alloc; "trace:\nend of trace\n{lemmas}")?;
         assert_answer(&rt, alloc, "replay", text.as_str(), 0, trace.as_str())?;

@@ -62,9 +62,51 @@ qed
 
 const TWO_STEPS: &str = "fresh ~n1\nrule Make: k = ~n1\nfresh ~n2\nrule Make: k = ~n2\n";
 
+/// A name that is put out is learnt where it is taken: by the one step that has it.
+const LEAK_LEARNT: &str = "simplify
+solve( action 0 )
+  case Leak
+  solve( action 0 )
+    case Send
+    solve( know 4 )
+      case own
+      by contradiction
+    next
+      case Leak
+      solve( chain 4 )
+        case done
+        SOLVED
+      qed
+    qed
+  qed
+qed
+";
+
+/// What no equation rewrites is made like any other message.
+const STUCK_MADE: &str = "simplify
+solve( action 0 )
+  case Stuck
+  solve( action 0 )
+    case Send
+    solve( know 3 )
+      case made
+      SOLVED
+    next
+      case Stuck
+      by sorry
+    qed
+  qed
+qed
+";
+
+const STUCK: &str = "builtins: symmetric-encryption
+rule Stuck: [ ] --[ M(sdec('a','b')) ]-> [ Out(sdec('a','b')) ]
+";
+
 /// Lemmas of both kinds, verified and falsified by an execution: no step; one step and two; steps in another order than that in which they
-/// were looked for; values of public variables, which are none of the theory's names; the first of two leaves.
-const FOUND: [Found; 11] = [
+/// were looked for; values of public variables, which are none of the theory's names; the first of two leaves;
+/// what the adversary takes, makes and sends.
+const FOUND: [Found; 14] = [
     Found {
         rules: MAKE,
         lemma: "some: exists-trace \"Ex x #i. A(x)@i\"",
@@ -174,6 +216,36 @@ const FOUND: [Found; 11] = [
         trace: "U(~n1)\nU(~n1)\n",
         replayed: "once (all-traces): broken\n",
         status: 1,
+    },
+    Found {
+        rules: "rule Leak: [ Fr(~k) ] --[ Secret(~k) ]-> [ Out(~k) ]\n",
+        lemma: "secrecy: \"All x #i. Secret(x)@i ==> not (Ex #j. K(x)@j)\"",
+        proof: LEAK_LEARNT,
+        line: "secrecy (all-traces): falsified - found trace (7 steps)\n",
+        steps: "fresh ~n1\nrule Leak: k = ~n1\nout ~n1\nin ~n1\n",
+        trace: "Secret(~n1)\nK(~n1)\n",
+        replayed: "secrecy (all-traces): broken\n",
+        status: 1,
+    },
+    Found {
+        rules: STUCK,
+        lemma: "m: exists-trace \"Ex x #i #j. M(x)@i & K(x)@j\"",
+        proof: STUCK_MADE,
+        line: "m (exists-trace): verified (5 steps)\n",
+        steps: "rule Stuck:\npub 'a'\npub 'b'\nmake sdec('a', 'b')\nin sdec('a', 'b')\n",
+        trace: "M(sdec('a', 'b'))\nK(sdec('a', 'b'))\n",
+        replayed: "m (exists-trace): met\n",
+        status: 0,
+    },
+    Found {
+        rules: "functions: g/1\n",
+        lemma: "k: exists-trace \"Ex x #i. K(g(x))@i\"",
+        proof: "simplify\nsolve( action 0 )\n  case Send\n  solve( know 2 )\n    case made\n    SOLVED\n  qed\nqed\n",
+        line: "k (exists-trace): verified (4 steps)\n",
+        steps: "pub 'a1'\nmake g('a1')\nin g('a1')\n",
+        trace: "K(g('a1'))\n",
+        replayed: "k (exists-trace): met\n",
+        status: 0,
     },
 ];
 

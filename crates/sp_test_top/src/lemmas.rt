@@ -334,8 +334,85 @@ qed
     },
 ];
 
+/// A secret under a key that nobody keeps.
+const ENCRYPTING: &str = "builtins: symmetric-encryption
+rule Enc: [ Fr(~s), Fr(~k) ] --[ Secret(~s) ]-> [ Out(senc(~s, ~k)) ]
+";
+
+/// Opening the message takes the key, and what opens to that is no key: a step has two names.
+const KEPT: [Tried; 1] = [Tried {
+    lemma: "secrecy: \"All x #i. Secret(x)@i ==> not (Ex #j. K(x)@j)\"",
+    tree: "simplify
+solve( action 0 )
+  case Enc
+  solve( action 0 )
+    case Send
+    solve( know 5 )
+      case own
+      by contradiction
+    next
+      case Enc
+      solve( chain 5 )
+        case chain_3
+        solve( chain 5 )
+          case done
+          solve( know 11 )
+            case own
+            by contradiction
+          next
+            case Enc
+            solve( chain 11 )
+              case chain_3
+              solve( chain 11 )
+                case done
+                by contradiction
+              qed
+            qed
+          qed
+        qed
+      qed
+    qed
+  qed
+qed
+",
+    line: "secrecy (all-traces): verified (12 steps)",
+}];
+
+/// What comes in goes out again; a secret stays in its step.
+const ECHOING: &str = "rule Echo: [ In(x) ] --> [ Out(x) ]
+rule Hide: [ Fr(~s) ] --[ Secret(~s) ]-> [ ]
+";
+
+/// What the echo gives back was learnt before its step.
+const HIDDEN: [Tried; 1] = [Tried {
+    lemma: "secrecy: \"All x #i. Secret(x)@i ==> not (Ex #j. K(x)@j)\"",
+    tree: "simplify
+solve( action 0 )
+  case Hide
+  solve( action 0 )
+    case Send
+    solve( know 4 )
+      case own
+      by contradiction
+    next
+      case Echo
+      by contradiction
+    qed
+  qed
+qed
+",
+    line: "secrecy (all-traces): verified (6 steps)",
+}];
+
+/// Nobody makes or puts out an application of a private symbol.
+const UNMADE: [Tried; 1] = [Tried {
+    lemma: "k: exists-trace \"Ex x #i. K(g(x))@i\"",
+    tree: "simplify\nsolve( action 0 )\n  case Send\n  by solve( know 2 )\nqed\n",
+    line: "k (exists-trace): falsified - no trace found (3 steps)",
+}];
+
 /// The theories, and how they end.
-const THEORIES: [Theory; 11] = [
+const THEORIES: [Theory; 14] = [
     Theory {
         rules: ONE_RULE,
         lemmas: &VERIFIED,
@@ -390,6 +467,21 @@ const THEORIES: [Theory; 11] = [
         rules: "",
         lemmas: &[],
         status: 0,
+    },
+    Theory {
+        rules: ENCRYPTING,
+        lemmas: &KEPT,
+        status: 0,
+    },
+    Theory {
+        rules: ECHOING,
+        lemmas: &HIDDEN,
+        status: 0,
+    },
+    Theory {
+        rules: "functions: g/1 [private]\n",
+        lemmas: &UNMADE,
+        status: 1,
     },
 ];
 

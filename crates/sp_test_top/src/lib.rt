@@ -1,6 +1,7 @@
 // What the program answers to commands on worked examples: proofs that are grown and checked, executions that are found and replayed, and
 // refusals.
-// Below stand the top call (sp_top), and the library and the sinks in memory that it is called with (sp_io). Nothing stands above.
+// Below stand the top call (sp_top), the library and the sinks in memory that it is called with (sp_io), and what comes of a text within so many moves
+// (sp_analysis). Nothing stands above.
 // Nothing is promised here. What no clause says is shown: that the headline speaks of what the language means, by answers that are worked
 // out by hand.
 #![tactic(auto)]
@@ -17,6 +18,8 @@ mod deep;
 mod executions;
 #[cfg(test)]
 mod forms;
+#[cfg(test)]
+mod learning;
 #[cfg(test)]
 mod lemmas;
 #[cfg(test)]

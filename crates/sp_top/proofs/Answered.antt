@@ -4,7 +4,7 @@ use Rattle.std.specs.Prelude.{decimal}
 use Rattle.sp_spec.specs.Execution.{Cause}
 use Rattle.sp_exec.specs.Replay.{rank}
 use Rattle.sp_place.specs.Refused.{IsRefusedAt}
-use Rattle.sp_pose.specs.Problem.{IsReported, WantsLearning}
+use Rattle.sp_pose.specs.Problem.{IsReported}
 use Rattle.sp_spec_text.specs.Verdict.{Verdict}
 use Rattle.sp_analysis.specs.Replies.{IsDone}
 use Rattle.sp_analysis.specs.declared.replies.Command as asked
@@ -14,7 +14,7 @@ use Rattle.sp_variants.specs.Variants.{IsListed}
 use Rattle.sp_top.specs.declared.words.Command.{Command}
 use Rattle.sp_top.specs.declared.words.Command.TheVariants.{Replay, Variants}
 use Rattle.sp_top.specs.Command.{of_proofs, budget_in}
-use Rattle.sp_top.specs.Answer.{Proves, IsDoneWith, CommandAnswer, status_of}
+use Rattle.sp_top.specs.Answer.{IsDoneWith, CommandAnswer, status_of}
 use Rattle.sp_top.specs.declared.Status.{Status}
 use Rattle.sp_top.specs.declared.Status.TheVariants.{Fine, Rejected, Refused}
 
@@ -25,15 +25,6 @@ refusal command budget {place = place} n e f = inl (inl (record { place = place;
 pub report : (command : Command) (budget : ℕ) {bytes text : List ℕ} {status : Status} → IsReported bytes text → status ≡ Refused → CommandAnswer command budget bytes text status
 report command budget r f = inl (inr (inl (record { report = r; status_is = f })))
 
-of_proofs_proves : (command : asked.Command) → Proves (of_proofs command)
-of_proofs_proves (proofs.Prove budget) = tt
-of_proofs_proves proofs.Check = tt
-
--- at byte 0
-pub unbuilt : (command : asked.Command) {bytes text : List ℕ} {status : Status} → WantsLearning bytes → text ≡ codes "refused: text at byte 0\n" → status ≡ Refused
-    → CommandAnswer (of_proofs command) (budget_in command) bytes text status
-unbuilt command w e f = inl (inr (inr (inl (record { proves = of_proofs_proves command; wants = w; text_is = e; status_is = f }))))
-
 done_with : (command : asked.Command) (bytes text : List ℕ) (verdicts : List Verdict) (status : Status) → IsDone command bytes text verdicts → status ≡ status_of verdicts → IsDoneWith (of_proofs command) (budget_in command) bytes text status
 done_with (proofs.Prove budget) bytes text verdicts status a e = record { outcomes = a.outcomes; analysis = a.analysis; status_is = e ∙ ap status_of a.verdicts_are }
 done_with proofs.Check bytes text verdicts status a e = record { judged = a.judged; checking = a.checking; status_is = e ∙ ap status_of a.verdicts_are }
@@ -43,7 +34,7 @@ done command {bytes} {text} verdicts {status} a e = inr (done_with command bytes
 
 pub line_refusal : {bytes text : List ℕ} {number : ℕ} {status : Status} → IsUnread bytes number → text ≡ codes "refused: line " ++ (decimal number ++ codes "\n") → status ≡ Refused
     → CommandAnswer Replay 0 bytes text status
-line_refusal {number = number} u e f = inl (inr (inr (inr (record { replays = cc; number = number; unread = u; text_is = e; status_is = f }))))
+line_refusal {number = number} u e f = inl (inr (inr (record { replays = cc; number = number; unread = u; text_is = e; status_is = f })))
 
 pub step_refusal : {bytes text : List ℕ} {number : ℕ} {cause : Cause} {status : Status} → IsStopped bytes number cause
     → text ≡ codes "step " ++ (decimal number ++ (codes " refused (" ++ (decimal (suc (rank cause)) ++ codes ")\n"))) → status ≡ Rejected → CommandAnswer Replay 0 bytes text status
@@ -55,4 +46,4 @@ replay_done r f = inr (inr (record { replay = r; status_is = f }))
 pub variants_done : {bytes text : List ℕ} {status : Status} → IsListed bytes text → status ≡ Fine → CommandAnswer Variants 0 bytes text status
 variants_done l f = inr (record { listed = l; status_is = f })
 
-pub ruleset answers = (refusal, report, unbuilt, done, line_refusal, step_refusal, replay_done, variants_done)
+pub ruleset answers = (refusal, report, done, line_refusal, step_refusal, replay_done, variants_done)

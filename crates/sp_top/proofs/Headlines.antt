@@ -102,7 +102,7 @@ tried_true : (budget : ℕ) (bytes text : List ℕ) (status : Status) → TriedR
 tried_true budget bytes text status r told behind_end =
     let written = r.analysis.theory in
     let theory = theory_of (theory_in written) in
-    let posing = r.analysis.poses.poses in
+    let posing = r.analysis.poses in
     let names = texts_have_names_lem.symbols bytes written posing.says in
     let ts = map told_of r.outcomes in
     let right = outcomes_told written (setting_of (theory_in written)) budget (theory_in written).lemmas r.outcomes (all_known bytes written posing) r.analysis.outcomes_are r.right
@@ -121,7 +121,7 @@ checked_true : (bytes text : List ℕ) (status : Status) → CheckedRightly byte
 checked_true bytes text status r =
     let written = r.checking.theory in
     let theory = theory_of (theory_in written) in
-    let posing = r.checking.poses.poses in
+    let posing = r.checking.poses in
     let names = texts_have_names_lem.symbols bytes written posing.says in
     let ts = map told_on r.judged in
     let right = judged_told written (setting_of (theory_in written)) (lemmas_with_proofs (resolved written).items) r.judged (all_known bytes written posing) r.checking.judged_are r.right

@@ -11,7 +11,7 @@ use Rattle.sp_analysis.proofs.AnswersOne.{answers_are_one_lem}
 use Rattle.sp_analysis.proofs.Again.{written_is_checked_lem}
 use Rattle.sp_replay.proofs.One.{replies_are_one_lem}
 use Rattle.sp_variants.proofs.One.{lists_are_one_lem}
-use Rattle.sp_top.specs.Answer.{IsRefusal, IsReport, IsUnbuilt, IsLineRefusal, IsDoneWith, IsRefusedWith, CommandAnswer, is_rejected, is_falsified, is_incomplete, status_of, verdicts_of, verdicts_on}
+use Rattle.sp_top.specs.Answer.{IsRefusal, IsReport, IsLineRefusal, IsDoneWith, IsRefusedWith, CommandAnswer, is_rejected, is_falsified, is_incomplete, status_of, verdicts_of, verdicts_on}
 use Rattle.sp_top.specs.Run.{HasVerdicts, DoneRightly}
 use Rattle.sp_top.specs.declared.Status.{Status}
 use Rattle.sp_top.specs.declared.Status.TheVariants.{Fine, Falsified, Incomplete, Rejected, Refused, Usage, ReadFault, WriteFault, NoMemory, TooLong}
@@ -73,14 +73,13 @@ done_status Variants budget bytes text status r = subst HasVerdicts (sym r.statu
 refused_with : (command : Command) (bytes text : List ℕ) (status : Status) → IsRefusedWith command bytes text status → status ≡ Refused
 refused_with command bytes text status (inl r) = r.status_is
 refused_with command bytes text status (inr (inl r)) = r.status_is
-refused_with command bytes text status (inr (inr (inl r))) = r.status_is
-refused_with command bytes text status (inr (inr (inr r))) = r.status_is
+refused_with command bytes text status (inr (inr r)) = r.status_is
 
 pub text_status : (command : Command) (budget : ℕ) (bytes text : List ℕ) (status : Status) → CommandAnswer command budget bytes text status → IsTextStatus status
 text_status command budget bytes text status (inl r) = subst IsTextStatus (sym (refused_with command bytes text status r)) refused_status
 text_status command budget bytes text status (inr done) = verdicts_status status (done_status command budget bytes text status done)
 
--- a text that is refused or reported on, or speaks of the adversary, isn't done with, nor one of which a line is refused
+-- a text that is refused or reported on isn't done with, nor one of which a line is refused
 no_text_done : (command : Command) (budget : ℕ) (bytes text other : List ℕ) (status another : Status) → IsRefusal bytes text status → IsDoneWith command budget bytes other another → ⊥
 no_text_done Prove budget bytes text other status another r a = answers_are_one_lem.no_analysis budget bytes other r.place a.outcomes r.refused a.analysis
 no_text_done Check budget bytes text other status another r a = answers_are_one_lem.no_checking bytes other r.place a.judged r.refused a.checking
@@ -95,12 +94,6 @@ reported_done Replay budget bytes text other status another r (inl s) = replies_
 reported_done Replay budget bytes text other status another r (inr a) = replies_are_one_lem.reported_or_done bytes text other r.report a.replay
 reported_done Variants budget bytes text other status another r a = lists_are_one_lem.reported_or_listed bytes text other r.report a.listed
 
-unbuilt_done : (command : Command) (budget : ℕ) (bytes text other : List ℕ) (status another : Status) → IsUnbuilt command bytes text status → IsDoneWith command budget bytes other another → ⊥
-unbuilt_done Prove budget bytes text other status another r a = answers_are_one_lem.wanting_or_analysed budget bytes other a.outcomes r.wants a.analysis
-unbuilt_done Check budget bytes text other status another r a = answers_are_one_lem.wanting_or_checked bytes other a.judged r.wants a.checking
-unbuilt_done Replay budget bytes text other status another r a = absurd r.proves
-unbuilt_done Variants budget bytes text other status another r a = absurd r.proves
-
 line_done : (command : Command) (budget : ℕ) (bytes text other : List ℕ) (status another : Status) → IsLineRefusal command bytes text status → IsDoneWith command budget bytes other another → ⊥
 line_done Prove budget bytes text other status another r a = let e = r.replays in cc
 line_done Check budget bytes text other status another r a = let e = r.replays in cc
@@ -111,8 +104,7 @@ line_done Replay budget bytes text other status another r (inr a) = replies_are_
 refused_or_done : (command : Command) (budget : ℕ) (bytes text other : List ℕ) (status another : Status) → IsRefusedWith command bytes text status → IsDoneWith command budget bytes other another → ⊥
 refused_or_done command budget bytes text other status another (inl r) a = no_text_done command budget bytes text other status another r a
 refused_or_done command budget bytes text other status another (inr (inl r)) a = reported_done command budget bytes text other status another r a
-refused_or_done command budget bytes text other status another (inr (inr (inl r))) a = unbuilt_done command budget bytes text other status another r a
-refused_or_done command budget bytes text other status another (inr (inr (inr r))) a = line_done command budget bytes text other status another r a
+refused_or_done command budget bytes text other status another (inr (inr r)) a = line_done command budget bytes text other status another r a
 
 done_is_one : (command : Command) (budget : ℕ) (bytes text other : List ℕ) (status another : Status) → IsDoneWith command budget bytes text status → IsDoneWith command budget bytes other another → another ≡ status
 done_is_one Prove budget bytes text other status another a b =

@@ -16,7 +16,7 @@ use Rattle.sp_spec_text.specs.Verdict.{Verdict, verified, falsified, summary_lin
 use Rattle.sp_spec_text.specs.Names.{IsWord}
 use Rattle.sp_spec_text.specs.Blanks.{lines}
 use Rattle.sp_spec_text.specs.StepLines.{HaveNames}
-use Rattle.sp_law_found.specs.Found.{execution_of}
+use Rattle.sp_law_executed.specs.Executed.{executed_of}
 use Rattle.sp_law_shown.proofs.Learning.{out_of_reading}
 use Rattle.sp_law_block.specs.Block.{oldest_first, block_of}
 use Rattle.sp_law_block.proofs.NoFeeds.{action_no_feed}
@@ -43,7 +43,7 @@ first_line t = verdict_line t.lemma.name t.lemma.kind t.verdict t.steps
 
 abbrev lines_below : Theory → Option Log → List (List ℕ)
 lines_below theory None = []
-lines_below theory (Some log) = block_lines (oldest_first (execution_of theory log)) (oldest_first (visible_trace log))
+lines_below theory (Some log) = block_lines (oldest_first (executed_of theory log)) (oldest_first (visible_trace log))
 
 -- it is told of a lemma of the text, and is so
 pub record IsRightlyTold (text : WrittenText) (t : Told) : Type 0 where
@@ -65,13 +65,13 @@ module _ (theory : Theory) (lemma : Lemma) (none : names_learning lemma.formula 
   means_refutation None h = out_of_reading lemma none (HoldsInNoLog theory lemma) (HoldsInNone theory lemma) h
   means_refutation (Some log) h = absurd h
 
-  means_attack : (log : Option Log) → Means theory all_traces falsified log lemma → (l : Log) × (log ≡ Some l) × IsBrokenBy theory lemma (execution_of theory l)
+  means_attack : (log : Option Log) → Means theory all_traces falsified log lemma → (l : Log) × (log ≡ Some l) × IsBrokenBy theory lemma (executed_of theory l)
   means_attack None h = absurd h
-  means_attack (Some log) h = (log, refl, out_of_reading lemma none (IsBrokenByLog theory lemma log) (IsBrokenBy theory lemma (execution_of theory log)) h.in_reading)
+  means_attack (Some log) h = (log, refl, out_of_reading lemma none (IsBrokenByLog theory lemma log) (IsBrokenBy theory lemma (executed_of theory log)) h.in_reading)
 
-  means_witness : (log : Option Log) → Means theory exists_trace verified log lemma → (l : Log) × (log ≡ Some l) × IsSatisfiedBy theory lemma (execution_of theory l)
+  means_witness : (log : Option Log) → Means theory exists_trace verified log lemma → (l : Log) × (log ≡ Some l) × IsSatisfiedBy theory lemma (executed_of theory l)
   means_witness None h = absurd h
-  means_witness (Some log) h = (log, refl, out_of_reading lemma none (IsSatisfiedByLog theory lemma log) (IsSatisfiedBy theory lemma (execution_of theory log)) h.in_reading)
+  means_witness (Some log) h = (log, refl, out_of_reading lemma none (IsSatisfiedByLog theory lemma log) (IsSatisfiedBy theory lemma (executed_of theory log)) h.in_reading)
 
 -- ---- lines
 
@@ -98,13 +98,13 @@ module _ (text : WrittenText) (names : HaveNames (signature_of (theory_of (theor
   block_is : (log : Option Log) → AreReadBack theory log → (behind : List ℕ) → lines (block_of theory log ++ behind) ≡ lines_below theory log ++ lines behind
   block_is None h behind = refl
   block_is (Some log) h behind =
-      block_cut (signature_of theory).symbols names (oldest_first (execution_of theory log)) (oldest_first (visible_trace log)) h.writable h.shown steps_are_read_back_lem
+      block_cut (signature_of theory).symbols names (oldest_first (executed_of theory log)) (oldest_first (visible_trace log)) h.writable h.shown steps_are_read_back_lem
       (action_no_feed (signature_of theory).symbols names) behind
 
   block_silent : (log : Option Log) → AreReadBack theory log → Every IsNoVerdict (lines_below theory log)
   block_silent None h = tt
   block_silent (Some log) h =
-      block_no_verdict (signature_of theory).symbols names (oldest_first (execution_of theory log)) (oldest_first (visible_trace log)) h.writable h.shown
+      block_no_verdict (signature_of theory).symbols names (oldest_first (executed_of theory log)) (oldest_first (visible_trace log)) h.writable h.shown
       (action_no_feed (signature_of theory).symbols names)
 
   pub told_lines : (ts : List Told) → Every (IsRightlyTold text) ts → (behind : List ℕ) → lines (told_text theory ts ++ behind) ≡ all_lines ts ++ lines behind
@@ -129,10 +129,10 @@ module _ (text : WrittenText) (names : HaveNames (signature_of (theory_of (theor
 
     -- the execution that stands below
     execution_there : (t : Told) → Member t ts → (log : Log) → t.log ≡ Some log → (below behind : List (List ℕ)) → below ≡ block t ++ behind → (IsSo : List Step → Type 0)
-        → IsSo (execution_of theory log) → IsExecutionBelow below theory IsSo
+        → IsSo (executed_of theory log) → IsExecutionBelow below theory IsSo
     execution_there t m log e below behind is IsSo so =
         let read = subst (AreReadBack theory) e (every_member (IsRightlyTold text) ts t m right).read in
-        let steps = oldest_first (execution_of theory log) in
+        let steps = oldest_first (executed_of theory log) in
         let entries = map entry_line (oldest_first (visible_trace log)) ++ codes "end of trace" ∷ [] in
         record {
           block = map step_text steps;
@@ -140,7 +140,7 @@ module _ (text : WrittenText) (names : HaveNames (signature_of (theory_of (theor
           lines_are = is ∙ ap (λ (o : Option Log). lines_below theory o ++ behind) e ∙ ap (λ (ls : List (List ℕ)). codes "execution:" ∷ ls) (append_assoc (map step_text steps) (codes "trace:" ∷ entries) behind);
           steps = steps;
           are_steps = read.read;
-          is_so = subst IsSo (sym (newest_twice (execution_of theory log))) so;
+          is_so = subst IsSo (sym (newest_twice (executed_of theory log))) so;
         }
 
     right_of : (t : Told) → Member t ts → (kind : TraceKind) (verdict : Verdict) → t.lemma.kind ≡ kind → t.verdict ≡ verdict → Means theory kind verdict t.log t.lemma

@@ -9,7 +9,7 @@ use Rattle.sp_top.specs.declared.Status.TheVariants.{Fine, Falsified, Incomplete
 use Rattle.sp_top.specs.declared.Wanted.{Wanted}
 use Rattle.sp_top.specs.declared.Wanted.TheVariants as wanted
 use Rattle.sp_place.specs.Refused.{IsRefusedAt}
-use Rattle.sp_pose.specs.Problem.{IsReported, WantsLearning}
+use Rattle.sp_pose.specs.Problem.{IsReported}
 use Rattle.sp_spec_text.specs.Verdict.{Verdict, verified, falsified, incomplete, rejected}
 use Rattle.sp_analysis.specs.Analysis.{Outcome, IsAnalysis}
 use Rattle.sp_analysis.specs.Checking.{Judged, IsChecking}
@@ -34,21 +34,6 @@ pub record IsRefusal (bytes text : List ℕ) (status : Status) : Type 0 where
 -- the text says a theory with fatal findings, and these are their lines
 pub record IsReport (bytes text : List ℕ) (status : Status) : Type 0 where
   pub report : IsReported bytes text
-  pub status_is : status ≡ Refused
-
--- it searches or checks proofs
-abbrev pub Proves : Command → Type 0
-Proves Prove = Unit {0}
-Proves Check = Unit {0}
-Proves Replay = ⊥
-Proves Variants = ⊥
-
--- The command searches or checks proofs, and the text speaks of the adversary: a rule or a formula names In, Out, K or KD. Of such texts proofs aren't
--- searched or checked yet.
-pub record IsUnbuilt (command : Command) (bytes text : List ℕ) (status : Status) : Type 0 where
-  pub proves : Proves command
-  pub wants : WantsLearning bytes
-  pub text_is : text ≡ codes "refused: text at byte 0\n"
   pub status_is : status ≡ Refused
 
 abbrev pub is_falsified : Verdict → Bool
@@ -132,7 +117,7 @@ IsDoneWith Variants budget bytes text status = HasVariants bytes text status
 
 -- the text, its theory or its lines are refused
 abbrev pub IsRefusedWith : Command → List ℕ → List ℕ → Status → Type 0
-IsRefusedWith command bytes text status = IsRefusal bytes text status ⊎ IsReport bytes text status ⊎ IsUnbuilt command bytes text status ⊎ IsLineRefusal command bytes text status
+IsRefusedWith command bytes text status = IsRefusal bytes text status ⊎ IsReport bytes text status ⊎ IsLineRefusal command bytes text status
 
 -- what the command answers to the bytes of a text, within so many moves
 abbrev pub CommandAnswer : Command → ℕ → List ℕ → List ℕ → Status → Type 0

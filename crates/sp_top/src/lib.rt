@@ -203,7 +203,6 @@ fn answer_proofs(
     match sp_analysis::answer(alloc, command, bytes)? {
         Reply::Refused(place) => refusal(alloc, place),
         Reply::Reported(lines) => Ok((lines, Status::Refused)),
-        Reply::WantsLearning => fixed(alloc, b"refused: text at byte 0\n", Status::Refused),
         Reply::Done(written, verdicts) => {
             let status = status_of(&verdicts);
             Ok((written, status))

@@ -7,3 +7,5 @@ pub mod Down
 pub mod Sourced
 pub mod Steps
 pub mod Logged
+pub mod Ways
+pub mod Executing

@@ -5,3 +5,4 @@ pub mod Absorbing
 pub mod Down
 pub mod Sourced
 pub mod Steps
+pub mod Executing

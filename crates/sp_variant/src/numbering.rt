@@ -41,9 +41,13 @@ fn see(seen: &mut Vec<Variable>, variable: Variable) -> Result<(), AllocError>
     Ok(())
 }
 
-/// The same of the variables of the term, from left to right.
+/// Puts the variables of the term at the end, from left to right, each unless it is there.
+///
+/// # Errors
+///
+/// `AllocError` where memory is wanting.
 #[cycle(see)]
-fn see_term(seen: &mut Vec<Variable>, term: &Term) -> Result<(), AllocError>
+pub fn see_term(seen: &mut Vec<Variable>, term: &Term) -> Result<(), AllocError>
     ensures { OnOk result (list_by variable_of seen.new ≡ added_after same_variable (list_by variable_of seen.old) (in_term (view term.now))) }
 {
     match term {
@@ -53,9 +57,13 @@ fn see_term(seen: &mut Vec<Variable>, term: &Term) -> Result<(), AllocError>
     }
 }
 
-/// The same of the variables of the terms, from left to right.
+/// Puts the variables of the terms at the end, from left to right, each unless it is there.
+///
+/// # Errors
+///
+/// `AllocError` where memory is wanting.
 #[cycle(see)]
-fn see_terms(seen: &mut Vec<Variable>, terms: &Vec<Term>) -> Result<(), AllocError>
+pub fn see_terms(seen: &mut Vec<Variable>, terms: &Vec<Term>) -> Result<(), AllocError>
     ensures { OnOk result (list_by variable_of seen.new ≡ added_after same_variable (list_by variable_of seen.old) (in_terms (view_all terms.now.items))) }
 {
     for term in terms {
@@ -88,7 +96,7 @@ fn seen(alloc: Global, facts: &Facts, kept: &Vec<Term>) -> Result<Vec<Variable>,
 }
 
 /// How many of these stand before the variable.
-fn place(variables: &Vec<Variable>, variable: Variable) -> usize
+pub fn place(variables: &Vec<Variable>, variable: Variable) -> usize
     ensures { result ≡ spec.place (list_by variable_of variables.now) (variable_of variable) }
 {
     for (place, x) in variables.iter().enumerate() {

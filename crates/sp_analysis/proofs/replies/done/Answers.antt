@@ -9,7 +9,7 @@ pub written_by-requires-clause-rise : goal.written_by-requires-clause-rise
 written_by-requires-clause-rise c =
     let prints = subst (λ (forms : List RuleForms). map printed_of c.in_ok-tried.tried.items ≡ all_to_print c.args.command (setting_with c.args.problem forms) [] (map asked_of c.args.problem.lemmas.items))
     c.in_ok-book.ensures c.in_ok-tried.ensures.printed in
-    rise_tried c.args.command (setting_for c.args.problem) c.args.problem c.in_ok-tried.tried.items c.requires.posed prints
+    rise_tried c.args.command (setting_for c.args.problem) c.args.problem c.in_ok-tried.tried.items c.requires prints
 
 pub returns : goal.returns
 returns c =
@@ -17,5 +17,5 @@ returns c =
     c.in_ok-book.ensures c.in_ok-tried.ensures.printed in
     let nameable = subst (λ (forms : List RuleForms). AreNameable c.args.command (setting_with c.args.problem forms) [] (map asked_of c.args.problem.lemmas.items))
     c.in_ok-book.ensures c.in_ok-tried.ensures.nameable in
-    is_done c.args.problem c.requires.alone c.in_ok-tried.tried.items c.in_ok-written.written.items c.in_ok-verdicts.verdicts.items c.requires.posed
+    is_done c.args.problem c.in_ok-tried.tried.items c.in_ok-written.written.items c.in_ok-verdicts.verdicts.items c.requires
     c.args.command prints nameable c.in_ok-written.ensures c.in_ok-verdicts.ensures

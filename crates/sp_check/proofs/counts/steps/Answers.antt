@@ -1,4 +1,4 @@
-use Rattle.std.proofs.Common.{◌≡◌, ◌+◌, ◌-◌, ◌^◌, min, ℕ, List, sym, ap, ◌∙◌, arith}
+use Rattle.std.proofs.Common.{◌≡◌, ◌-◌, ◌^◌, min, ℕ, List, sym, ap, ◌∙◌, arith}
 use Rattle.sp_check.specs.declared.skeleton.Node.{Node}
 use Rattle.sp_check.specs.Skeleton as spec
 use Rattle.sp_check.specs.View.{nodes_of, skeleton_of}

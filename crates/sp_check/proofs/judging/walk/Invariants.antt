@@ -1,6 +1,6 @@
 use Rattle.std.proofs.Common.{◌≡◌, None, drop, option_map}
 use Rattle.sp_system.specs.SystemView.{system_of}
-use Rattle.sp_log.specs.View.{log_of}
+use Rattle.sp_learn.specs.View.{log_of}
 use Rattle.sp_step.specs.View.{context_of}
 use Rattle.sp_check.specs.Judging as spec
 use Rattle.sp_check.specs.Nodes.{walk_all}

@@ -4,7 +4,7 @@ use Rattle.sp_learn.specs.declared.log.Entry.{Entry}
 use Rattle.sp_ground.specs.View.{ground_action}
 use Rattle.sp_spec.specs.Lists.{newest_first}
 use Rattle.sp_learn.specs.View.{entries_of, entry_of}
-use Rattle.sp_log.proofs.Orders.{shown_in, visible_newest}
+use Rattle.sp_learn.proofs.Orders.{shown_in, visible_newest}
 use Rattle.sp_learn.proofs.trace.visible_trace.Goals as goal
 
 pub returns : goal.returns

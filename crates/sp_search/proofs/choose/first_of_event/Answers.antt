@@ -1,30 +1,12 @@
-use Rattle.std.proofs.Common.{◌<◌, ◌≡◌, length, get_or, sym, ◌∙◌, arith}
+use Rattle.std.proofs.Common.{List, map, ap, ◌∙◌}
+use Rattle.sp_spec.specs.Term.{Variable}
+use Rattle.sp_spec.specs.Rule.{Fact}
 use Rattle.sp_spec_system.specs.Move.{premise}
-use Rattle.sp_fact.specs.View.{fact_of}
 use Rattle.sp_system.specs.SystemView.{system_of}
-use Rattle.sp_search.proofs.Choosing.{next_place, is_open}
+use Rattle.sp_spec_proof.specs.Choice.{first_instance, places_from}
 use Rattle.sp_search.proofs.choose.first_of_event.Goals as goal
 
-pub returns-then-is_open : goal.returns-then-is_open
-returns-then-is_open c context =
-    let s = system_of c.args.system.now in
-    let e = c.args.event.now in
-    let all = e.facts.premises.items in
-    let f = c._premise-item.result in
-    let k = c.loop-place.place in
-    let is : f ≡ get_or all k f = rw c.deref-premise-items.ensures.value at c._premise-item.is in
-    let below : k < length all = omega arith in
-    let step = next_place context s (premise e.time) fact_of all k f c.is_open.result below is (is_open context s e.time k ∙ sym c.is_open.ensures) in
-    sym (rw c.if-is_open.true at step) ∙ c.loop-place.invariant context
-
-pub loop-place-preserved : goal.loop-place-preserved
-loop-place-preserved c context =
-    let s = system_of c.args.system.now in
-    let e = c.args.event.now in
-    let all = e.facts.premises.items in
-    let f = c._premise-item.result in
-    let k = c.loop-place.place in
-    let is : f ≡ get_or all k f = rw c.deref-premise-items.ensures.value at c._premise-item.is in
-    let below : k < length all = omega arith in
-    let step = next_place context s (premise e.time) fact_of all k f c.is_open.result below is (is_open context s e.time k ∙ sym c.is_open.ensures) in
-    sym (rw c.if-is_open.false at step) ∙ c.loop-place.invariant context
+pub returns : goal.returns
+returns c context =
+    c.first_among.ensures context
+    ∙ ap (λ (fs : List (Fact Variable)). first_instance context (system_of c.args.system.now) (map (premise c.args.event.now.time) (places_from 0 fs))) c.premises.ensures

@@ -15,7 +15,7 @@ returns-in-Some c context =
     let is : e ≡ get_or all k e = c.event-item.is in
     let below : k < length all = c.loop-event-test.true in
     let here : first_instance context s (premises_of (event_of e)) ≡ Some (move_of c.in-Some.chosen) = sym (c.first_of_event.ensures context) ∙ ap (option_map move_of) c.in-Some.is in
-    let step = next_event context s all k e below is in
+    let step = next_event context s premises_of all k e below is in
     sym (rw here at step) ∙ c.loop-event.invariant context
 
 pub loop-event-preserved : goal.loop-event-preserved
@@ -27,5 +27,5 @@ loop-event-preserved c context =
     let is : e ≡ get_or all k e = c.event-item.is in
     let below : k < length all = c.loop-event-test.true in
     let here : first_instance context s (premises_of (event_of e)) ≡ None = sym (c.first_of_event.ensures context) ∙ ap (option_map move_of) c.in_default.is in
-    let step = next_event context s all k e below is in
+    let step = next_event context s premises_of all k e below is in
     sym (rw here at step) ∙ c.loop-event.invariant context

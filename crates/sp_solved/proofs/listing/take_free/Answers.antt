@@ -2,7 +2,7 @@ use Rattle.std.proofs.Common.{sym, ◌∙◌, arith}
 use Rattle.std.proofs.lemmas.List.{length-map}
 use denote.Ref.{Bor}
 use Rattle.sp_system.specs.SystemView.{event_of}
-use Rattle.sp_system.specs.declared.system.Event.{Event}
+use Rattle.sp_system.specs.declared.event.Event.{Event}
 use Rattle.sp_solved.specs.ListingView.{events_of}
 use Rattle.sp_solved.proofs.Free.{none_free, free_below, taken_there}
 use Rattle.sp_solved.proofs.listing.take_free.Goals as goal

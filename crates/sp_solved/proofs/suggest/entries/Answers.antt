@@ -20,4 +20,4 @@ loop-event-preserved c =
     let there = next_there c.deref-event-items.result.now xs i c.event-item.result c.deref-event-items.ensures.value c.loop-event-test.true c.event-item.is in
     entry_put (events_of xs) links v (events_of (drop i xs)) (events_of (drop (i + 1) xs)) (event_of c.event-item.result.now) c.loop-event.made.items c.push.new.self.items c.in_ok-entry.field-0
     (map source_of c.in-Some.sources.items) (entries_of (events_of xs) links v (events_of xs)) (ap events_of there)
-    (ap (option_map (λ (ss : Vec Source). map source_of ss.items)) (sym c.in-Some.is) ∙ c.in_ok-sources.ensures) (c.in_ok-entry.ensures (events_of xs)) c.in_ok-push.ensures.items c.loop-event.invariant
+    (ap (option_map (λ (ss : Vec Source). map source_of ss.items)) (sym c.in-Some.is) ∙ c.in_ok-sources.ensures) c.in_ok-entry.ensures c.in_ok-push.ensures.items c.loop-event.invariant

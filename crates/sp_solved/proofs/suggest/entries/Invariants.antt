@@ -2,7 +2,7 @@ use Rattle.std.proofs.Common.{◌≡◌, map, drop}
 use Rattle.sp_law_equal.specs.Matching.{value_in}
 use Rattle.sp_norm.specs.Bounds.{bounds}
 use Rattle.sp_system.specs.SystemView.{link_of}
-use Rattle.sp_log.specs.View.{entry_of}
+use Rattle.sp_learn.specs.View.{entry_of}
 use Rattle.sp_solved.specs.Candidate.{entries_of}
 use Rattle.sp_solved.specs.ListingView.{events_of}
 use Rattle.sp_solved.proofs.Firsts.{behind}

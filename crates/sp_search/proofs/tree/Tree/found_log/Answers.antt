@@ -1,6 +1,6 @@
 use Rattle.std.proofs.Common.{◌∙◌, sym, ap, Some}
-use Rattle.sp_log.specs.declared.log.Log.{Log}
-use Rattle.sp_log.specs.View.{log_of}
+use Rattle.sp_learn.specs.declared.log.Log.{Log}
+use Rattle.sp_learn.specs.View.{log_of}
 use Rattle.sp_search.specs.NodeView.{nodes_at}
 use Rattle.sp_search.proofs.InOrder.{log_here, log_nowhere}
 use Rattle.sp_search.proofs.Told.{log_told}

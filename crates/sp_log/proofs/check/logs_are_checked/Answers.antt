@@ -1,5 +1,0 @@
-use Rattle.sp_log.proofs.Checks.{log_decides}
-use Rattle.sp_log.proofs.check.logs_are_checked.Goals as goal
-
-pub returns : goal.returns
-returns c = record { each = λ theory good entries. log_decides theory good entries }

@@ -1,0 +1,5 @@
+pub mod Exact
+pub mod Begun
+pub mod Ends
+pub mod Numbers
+pub mod Same

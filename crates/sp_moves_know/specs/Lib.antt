@@ -1,0 +1,5 @@
+pub mod KnowRules
+pub mod RulesView
+pub mod WhyNot
+pub mod Linking
+pub mod BegunView

@@ -1,0 +1,51 @@
+// One time in place of another.
+
+ghost use Rattle.std.specs.Prelude.{◌≡◌, IfOk, map};
+ghost use Rattle.sp_spec_system.specs.Equating.{order_changed};
+ghost use Rattle.sp_spec.specs.Change.{time_replaced};
+
+use std::alloc::{AllocError, Global};
+
+/// The time, with `small` in place of `large`.
+pub fn changed_time(small: u128, large: u128, time: u128) -> u128
+    ensures { result ≡ time_replaced small large time }
+{
+    if time == large { small } else { time }
+}
+
+/// Equal pairs of times.
+///
+/// # Errors
+///
+/// `AllocError` where memory is wanting.
+pub fn copy_order(alloc: Global, pairs: &Vec<(u128, u128)>) -> Result<Vec<(u128, u128)>, AllocError>
+    ensures { IfOk result (λ ps. ps.items ≡ pairs.now.items) }
+{
+    let mut made = Vec::with_capacity(alloc, pairs.len())?;
+    for pair in pairs {
+        made.push((pair.0, pair.1))?;
+    }
+    Ok(made)
+}
+
+/// The pairs of times, with `small` in place of `large`.
+///
+/// # Errors
+///
+/// `AllocError` where memory is wanting.
+pub fn changed_order(
+    alloc: Global,
+    small: u128,
+    large: u128,
+    pairs: &Vec<(u128, u128)>,
+) -> Result<Vec<(u128, u128)>, AllocError>
+    ensures { IfOk result (λ ps. ps.items ≡ map (order_changed (time_replaced small large)) pairs.now.items) }
+{
+    let mut made = Vec::with_capacity(alloc, pairs.len())?;
+    for pair in pairs {
+        let first = changed_time(small, large, pair.0);
+        let second = changed_time(small, large, pair.1);
+        made.push((first, second))?;
+    }
+    Ok(made)
+}
