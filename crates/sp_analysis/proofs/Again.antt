@@ -8,7 +8,7 @@ use Rattle.sp_spec.specs.Written.{WrittenTheory, theory_of}
 use Rattle.sp_spec_system.specs.System.{System}
 use Rattle.sp_spec_system.specs.Move.{Context}
 use Rattle.sp_spec_proof.specs.Tree.{Tree, IsAccepted, IsFinished, found_log, steps}
-use Rattle.sp_law_tree.proofs.Growing.{grown_tree_accepted}
+use Rattle.sp_spec_proof.proofs.Growing.{grown_tree_accepted}
 use Rattle.sp_check.specs.Skeleton.{tree_of}
 use Rattle.sp_check.specs.Skeleton as read
 use Rattle.sp_check.proofs.Right.{judgements_right}
@@ -20,18 +20,19 @@ use Rattle.sp_skel.specs.Places.{HavePlaces}
 use Rattle.sp_skel.specs.Steps.{skeleton}
 use Rattle.sp_skel.specs.Spelling.{as_written, IsReadable, AreNamed}
 use Rattle.sp_skel.proofs.Readable.{grown_readable}
-use Rattle.sp_law_again.proofs.Named.{rules_named}
+use Rattle.sp_law_reread.proofs.Named.{rules_named}
 use Rattle.sp_skel.proofs.Spelled.{tree_says}
-use Rattle.sp_law_again.specs.Again.{as_proofs, with_trees}
+use Rattle.sp_law_reread.specs.Again.{as_proofs, with_trees}
 use Rattle.sp_spec_text.specs.Behind.{IsBehindEnd}
-use Rattle.sp_law_again.proofs.Behind.{behind_end}
-use Rattle.sp_law_again.proofs.Items.{read_again}
-use Rattle.sp_law_again.proofs.Replaced.{each_lemma, same_theory, trees_proofs}
+use Rattle.sp_law_reread.proofs.Behind.{behind_end}
+use Rattle.sp_law_reread.proofs.Items.{read_again}
+use Rattle.sp_law_reread.proofs.Replaced.{each_lemma, same_theory, trees_proofs}
 use Rattle.sp_analysis.proofs.Anew.{as_many_resolved, posed_anew}
 use Rattle.sp_analysis.specs.Sought.{goal_of, root_system, Setting, setting_of, context_of}
 use Rattle.sp_spec_text.specs.Verdict.{Verdict, verified, falsified, incomplete, rejected, Says, summary_line}
-use Rattle.sp_law_block.specs.Block.{block_of, IsNumbered}
-use Rattle.sp_analysis.specs.Analysis.{Outcome, counted, summary, trees_of, IsOutcome, AreOutcomes, IsAnalysis}
+use Rattle.sp_law_printed_log.specs.Block.{block_of, IsNumbered}
+use Rattle.sp_spec_text.specs.Numerals.{counted}
+use Rattle.sp_analysis.specs.Analysis.{Outcome, summary, trees_of, IsOutcome, AreOutcomes, IsAnalysis}
 use Rattle.sp_analysis.specs.Checking.{IsVerdictIn, Judged, checked_text, IsJudged, AreJudged}
 use Rattle.sp_analysis.specs.Laws.{IsCheckedAgain, WrittenIsChecked}
 

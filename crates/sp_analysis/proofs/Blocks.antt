@@ -7,8 +7,8 @@ use Rattle.sp_spec.specs.Lists.{Every, newest_first}
 use Rattle.sp_spec_text.specs.Printed.{trace_block}
 use Rattle.sp_spec.proofs.Lists.{newest_twice}
 use Rattle.sp_show.specs.Numbers.{StepHasNames, numbered_names}
-use Rattle.sp_law_block.proofs.CandidateNames.{every_newest}
-use Rattle.sp_law_block.specs.Block.{oldest_first, steps_text, block_by}
+use Rattle.sp_law_printed_log.proofs.CandidateNames.{every_newest}
+use Rattle.sp_law_printed_log.specs.Block.{oldest_first, steps_text, block_by}
 
 -- what stands the newest first, turned round
 turned : {A : Type 0} (xs ys : List A) → newest_first xs ≡ ys → xs ≡ oldest_first ys

@@ -1,5 +1,5 @@
 -- What is printed of the lemmas is what their outcomes say.
-use Rattle.std.proofs.Common.{◌≡◌, ℕ, Bool, true, false, List, [], ◌∷◌, ◌++◌, map, codes, Option, Some, None, option_map, refl, sym, ap, ap₂, ◌∙◌, subst, true≢false}
+use Rattle.std.proofs.Common.{◌≡◌, ℕ, Bool, true, false, List, [], ◌∷◌, ◌++◌, map, codes, Option, Some, None, option_map, Result, Ok, Err, IfOk, refl, sym, ap, ap₂, ◌∙◌, subst, true≢false}
 use Rattle.sp_spec.specs.Lists.{Every}
 use Rattle.sp_spec.specs.Rule.{Rule}
 use Rattle.sp_spec.specs.Signature.{Signature}
@@ -12,8 +12,7 @@ use Rattle.sp_read_parts.specs.Formulas.{formula}
 use Rattle.sp_spec_system.specs.System.{System}
 use Rattle.sp_spec_system.specs.Move.{Context}
 use Rattle.sp_spec_proof.specs.Tree.{Tree, IsAccepted, IsFinished, found_log, steps}
-use Rattle.sp_spec_proof.specs.Growth.{grown_tree}
-use Rattle.sp_law_tree.proofs.Logs.{no_log, finished_no_end}
+use Rattle.sp_spec_proof.proofs.TreeLogs.{no_log, finished_no_end}
 use Rattle.sp_search.specs.Finished.{finished}
 use Rattle.sp_search.proofs.Finished.{finished_decides}
 use Rattle.sp_check.specs.Judging as judging
@@ -25,7 +24,7 @@ use Rattle.sp_spec.specs.Constants.{constants_of}
 use Rattle.sp_term.specs.View.{name_of}
 use Rattle.sp_fact.specs.View.{rule_of}
 use Rattle.sp_spec_forms.specs.Forms.{RuleForms, forms_of}
-use Rattle.sp_ground.specs.View.{signature_of}
+use Rattle.sp_fact.specs.GroundView.{signature_of}
 use Rattle.sp_skel.specs.Places.{HavePlaces}
 use Rattle.sp_skel.specs.TreeText.{tree_text}
 use Rattle.sp_spec_text.specs.Written.{WrittenText, lemmas_with_proofs}
@@ -35,19 +34,21 @@ use Rattle.sp_written.specs.declared.theory.Item.{Item}
 use Rattle.sp_written.specs.declared.theory.Item.TheVariants as i
 use Rattle.sp_spec_text.specs.Spans.{Span, Rise, goes_on}
 use Rattle.sp_written.specs.declared.theory.WrittenLemma.{WrittenLemma}
-use Rattle.sp_law_again.specs.Again.{between, replaced}
+use Rattle.sp_law_reread.specs.Again.{between, replaced}
 use Rattle.sp_pose.proofs.Forms.{AreForms, asked_list, has_forms, lemmas_said}
-use Rattle.sp_analysis.specs.Sought.{Goal, goal_of, sought, root_with, root_system, Setting, setting_of, executed, context_with, context_of, proof_tree, grown_log}
+use Rattle.sp_analysis.specs.Sought.{Goal, goal_of, root_system, Setting, setting_of, executed, context_of, proof_tree, grown_log}
 use Rattle.sp_spec_text.specs.Verdict.{Verdict, Says}
-use Rattle.sp_law_block.specs.Block.{block_by, IsNumberedBy}
-use Rattle.sp_analysis.specs.Analysis.{Outcome, counted, summary_by, trees_of, IsOutcome, AreOutcomes}
+use Rattle.sp_law_printed_log.specs.Block.{block_by, IsNumberedBy}
+use Rattle.sp_spec_text.specs.Numerals.{counted}
+use Rattle.sp_analysis.specs.Analysis.{Outcome, summary_by, trees_of, IsOutcome, AreOutcomes}
 use Rattle.sp_analysis.specs.Checking.{proof_read, IsVerdictIn, Judged, checked_by, IsJudged, AreJudged}
 use Rattle.sp_pose.specs.Asked.{Asked, asked_of, asked_with, lemmas_read}
 use Rattle.sp_analysis.specs.Printed.{Printed, printed_of, by_tree, by_judgement, judged_log, goal_for, judged_so, to_print, all_to_print, IsNameable, AreNameable, line_of, lines, spliced, text_with, written_by}
 use Rattle.sp_analysis.specs.View.{verdict_of}
 use Rattle.sp_pose.specs.Posed.{IsPosedBy}
-use Rattle.sp_analysis.specs.Replies.{IsAnalysed, IsChecked, IsDone}
+use Rattle.sp_analysis.specs.Replies.{IsAnalysed, IsChecked, IsDone, IsAnswered}
 use Rattle.sp_pose.specs.declared.problem.Problem.{Problem}
+use Rattle.sp_analysis.specs.declared.replies.Answered.{Answered}
 use Rattle.sp_analysis.specs.declared.replies.Command.{Command}
 use Rattle.sp_analysis.specs.declared.replies.Command.TheVariants.{Prove, Check}
 use Rattle.sp_analysis.specs.declared.tried.Tried.{Tried}
@@ -340,11 +341,18 @@ module _ {text : List ℕ} (p : Problem) (ts : List Tried) (written : List ℕ) 
         verdicts_are = ap (map verdict_of) verdicts_are ∙ sym (tried_verdicts ts) ∙ ap printed_verdicts all ∙ judged_verdicts setting ls h.forms;
       }
 
-  pub is_done : (command : Command) → map printed_of ts ≡ all_to_print command (setting_for p) [] (map asked_of p.lemmas.items)
+  is_done : (command : Command) → map printed_of ts ≡ all_to_print command (setting_for p) [] (map asked_of p.lemmas.items)
       → AreNameable command (setting_for p) [] (map asked_of p.lemmas.items) → written ≡ written_by command text (map printed_of ts) p.behind_end → verdicts ≡ verdicts_in ts
       → IsDone command text written (map verdict_of verdicts)
   is_done (Prove budget) prints nameable written_is verdicts_are = analysed budget prints nameable written_is verdicts_are
   is_done Check prints nameable written_is verdicts_are = checked prints nameable written_is verdicts_are
+
+-- so of what was answered
+pub is_answered : {text : List ℕ} {E : Type 0} (p : Problem) (ts : List Tried) (r : Result Answered E) → IsPosedBy text p → (command : Command)
+    → map printed_of ts ≡ all_to_print command (setting_for p) [] (map asked_of p.lemmas.items) → AreNameable command (setting_for p) [] (map asked_of p.lemmas.items)
+    → IfOk r (λ a. a.written.items ≡ written_by command text (map printed_of ts) p.behind_end) → IfOk r (λ a. a.verdicts.items ≡ verdicts_in ts) → IfOk r (IsAnswered command text)
+is_answered p ts (Ok a) posed command prints nameable written_is verdicts_are = is_done p ts a.written.items a.verdicts.items posed command prints nameable written_is verdicts_are
+is_answered p ts (Err e) posed command prints nameable written_is verdicts_are = tt
 
 -- ---- what is printed of a tree that was grown
 
@@ -367,33 +375,13 @@ grown_printed setting budget a tree log is v n proof block verdict_is steps_is p
     ∙ ap₂ (made a.name a.kind a.span (by_tree a.kind (grown_log setting budget goal) (finished t)) (counted (steps t)))
     (proof_is ∙ ap (tree_text 0) is.tree_is) (block_is ∙ ap (block_by (executed setting)) is.log_is)
 
-pub grown_as : (setting : Setting) (budget : ℕ) (a : Asked) (context : Context) (f : Guarded) (s : System) (tree : Tree) (log : Option Log) → f ≡ sought a.kind a.form
-    → context ≡ context_with setting [] f → s ≡ root_with [] f → tree ≡ grown_tree context s budget → log ≡ found_log context s tree → IsGrown setting budget a tree log
-grown_as setting budget a context f s tree log f_is context_is s_is tree_is log_is =
-    let goal = goal_for [] a in
-    let c : context ≡ context_of setting goal = context_is ∙ ap (context_with setting []) f_is in
-    let r : s ≡ root_system goal = s_is ∙ ap (root_with []) f_is in
-    let t : tree ≡ proof_tree setting budget goal = tree_is ∙ ap₂ (λ (x : Context) (y : System). grown_tree x y budget) c r in
-    record {
-      tree_is = t;
-      log_is = log_is ∙ ap₂ (λ (x : Context) (y : System). found_log x y tree) c r ∙ ap (found_log (context_of setting goal) (root_system goal)) t;
-    }
-
 -- ---- what is printed of a proof that was read
 
-pub judged_as : (setting : Setting) (a : Asked) (context : Context) (f : Guarded) (s : System) (k : Skeleton) (j : Judgement) → f ≡ sought a.kind a.form → context ≡ context_with setting [] f
-    → s ≡ root_with [] f → k ≡ proof_read a.proof → j ≡ judgement context s k → j ≡ judged_so setting (goal_for [] a) a.proof
-judged_as setting a context f s k j f_is context_is s_is k_is j_is =
-    let goal = goal_for [] a in
-    let c : context ≡ context_of setting goal = context_is ∙ ap (context_with setting []) f_is in
-    let r : s ≡ root_system goal = s_is ∙ ap (root_with []) f_is in
-    j_is ∙ ap₂ (λ (x : Context) (y : System). judgement x y k) c r ∙ ap (judgement (context_of setting goal) (root_system goal)) k_is
-
-pub judged_printed : (setting : Setting) (a : Asked) (k : Skeleton) (j : Judgement) → k ≡ proof_read a.proof → j ≡ judged_so setting (goal_for [] a) a.proof
-    → (v : Verdict) (n : ℕ) (proof block : List ℕ) → v ≡ by_judgement a.kind j → n ≡ counted (read.steps k) → proof ≡ [] → block ≡ block_by (executed setting) (judged_log j)
+pub judged_printed : (setting : Setting) (a : Asked) (j : Judgement) → j ≡ judged_so setting (goal_for [] a) a.proof
+    → (v : Verdict) (n : ℕ) (proof block : List ℕ) → v ≡ by_judgement a.kind j → n ≡ counted (read.steps (proof_read a.proof)) → proof ≡ [] → block ≡ block_by (executed setting) (judged_log j)
     → made a.name a.kind a.span v n proof block ≡ to_print Check setting [] a
-judged_printed setting a k j k_is j_is v n proof block v_is n_is proof_is block_is =
-    ap₂ (λ (w : Verdict) (m : ℕ). made a.name a.kind a.span w m proof block) (v_is ∙ ap (by_judgement a.kind) j_is) (n_is ∙ ap (λ (x : Skeleton). counted (read.steps x)) k_is)
+judged_printed setting a j j_is v n proof block v_is n_is proof_is block_is =
+    ap₂ (λ (w : Verdict) (m : ℕ). made a.name a.kind a.span w m proof block) (v_is ∙ ap (by_judgement a.kind) j_is) n_is
     ∙ ap₂ (made a.name a.kind a.span (by_judgement a.kind (judged_so setting (goal_for [] a) a.proof)) (counted (read.steps (proof_read a.proof)))) proof_is
     (block_is ∙ ap (λ (x : Judgement). block_by (executed setting) (judged_log x)) j_is)
 

@@ -6,7 +6,7 @@ use Rattle.sp_spec.specs.Log.{Entry, Log, log_trace, visible_trace}
 use Rattle.std.proofs.lemmas.Bool.{and_parts}
 use Rattle.sp_law_decide.specs.Deciding.{decided, empty}
 use Rattle.sp_spec_text.specs.StepLines.{IsWritableStep}
-use Rattle.sp_law_block.specs.Shown.{IsShownAction}
+use Rattle.sp_law_printed_log.specs.Shown.{IsShownAction}
 use Rattle.sp_spec.specs.Signature.{Signature}
 use Rattle.sp_spec.specs.Theory.{TraceKind, all_traces, exists_trace, Lemma, signature_of}
 use Rattle.sp_spec.specs.Written.{WrittenTheory, theory_of}
@@ -16,7 +16,7 @@ use Rattle.sp_law_guard.specs.GuardedForm.{negate}
 use Rattle.sp_law_guard.specs.CheckedForm.{checked_form}
 use Rattle.sp_law_guard.proofs.Checked.{form_checked}
 use Rattle.sp_law_guard.proofs.Throughout.{Throughout, negate_throughout}
-use Rattle.sp_law_executed.specs.Executed.{executed_of}
+use Rattle.sp_law_log_execution.specs.Executed.{executed_of}
 use Rattle.sp_spec_text.specs.Written.{WrittenProof, WrittenText, lemmas_with_proofs, without_proofs}
 use Rattle.sp_spec_system.specs.Rules.{rules_of}
 use Rattle.sp_spec_text.specs.Declared.{resolved, theory_in}
@@ -26,22 +26,22 @@ use Rattle.sp_spec_proof.specs.Tree.{Tree, found_log}
 use Rattle.sp_law_system.specs.Rules.{SuitsProofs}
 use Rattle.sp_law_system.specs.Proofs.{IsWellMade}
 use Rattle.sp_law_tree.proofs.Forms.{right_negation, right_numbered}
-use Rattle.sp_law_tree.proofs.Named.{NamedAtom, form_named}
+use Rattle.sp_law_basic.proofs.Named.{NamedAtom, form_named}
 use Rattle.sp_law_tree.proofs.OverLogs.{lemma_right}
-use Rattle.sp_law_tree.proofs.RightTexts.{text_suits}
+use Rattle.sp_law_tree.proofs.Suited.{text_suits}
 use Rattle.sp_learn.specs.Checking.{is_log}
 use Rattle.sp_learn.proofs.Checks.{log_decides}
 use Rattle.sp_solved.specs.Candidate.{candidate}
 use Rattle.sp_solved.specs.Found.{is_sought, kept_if}
-use Rattle.sp_law_shown.specs.Shown.{IsSearched}
-use Rattle.sp_law_shown.proofs.Executable.{runnable, checkable}
+use Rattle.sp_law_found_log.specs.Shown.{IsSearched}
+use Rattle.sp_law_found_log.proofs.Executable.{runnable, checkable}
 use Rattle.sp_pose.specs.Problem.{Poses}
-use Rattle.sp_law_block.specs.Block.{oldest_first, IsNumbered}
-use Rattle.sp_law_block.proofs.CandidateNames.{candidates_have_names_lem, every_newest}
-use Rattle.sp_law_block.proofs.Ends.{ends_are_well_made_lem}
-use Rattle.sp_law_block.proofs.LogSteps.{logs_may_be_written_lem}
-use Rattle.sp_law_block.proofs.ReadBack.{steps_are_read_back_lem}
-use Rattle.sp_law_block.proofs.TextNames.{texts_have_names_lem}
+use Rattle.sp_law_printed_log.specs.Block.{oldest_first, IsNumbered}
+use Rattle.sp_law_printed_log.proofs.CandidateNames.{candidates_have_names_lem, every_newest}
+use Rattle.sp_law_tree.proofs.WellMadeEnds.{ends_are_well_made_lem}
+use Rattle.sp_law_printed_log.proofs.LogSteps.{logs_may_be_written_lem}
+use Rattle.sp_law_printed_log.proofs.ReadBack.{steps_are_read_back_lem}
+use Rattle.sp_law_printed_log.proofs.TextNames.{texts_have_names_lem}
 use Rattle.sp_check.specs.Skeleton.{Skeleton}
 use Rattle.sp_spec_text.specs.Verdict.{Verdict, verified, falsified, incomplete, rejected}
 use Rattle.sp_analysis.specs.Sought.{Goal, goal_of, sought, root_system, setting_of, context_of, proof_tree}

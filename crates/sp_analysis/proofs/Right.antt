@@ -16,18 +16,18 @@ use Rattle.sp_law_decide.specs.Deciding.{decided, empty}
 use Rattle.sp_learn.specs.Checking.{is_log}
 use Rattle.sp_solved.specs.Candidate.{candidate}
 use Rattle.sp_solved.specs.Found.{is_sought, kept_if, found}
-use Rattle.sp_law_shown.specs.Shown.{IsSearched, FoundBreaks, FoundSatisfies}
-use Rattle.sp_law_shown.proofs.Learning.{into_reading}
+use Rattle.sp_law_found_log.specs.Shown.{IsSearched, FoundBreaks, FoundSatisfies}
+use Rattle.sp_law_found_log.proofs.Learning.{into_reading}
 use Rattle.sp_spec_system.specs.Move.{Context}
 use Rattle.sp_spec_proof.specs.Tree.{Tree, IsAccepted, IsFinished, found_log}
 use Rattle.sp_spec_system.specs.Numbered.{names_in}
 use Rattle.sp_law_system.specs.Proofs.{IsContextOf}
-use Rattle.sp_law_tree.specs.BasicTheory.{IsBasicFormula, HasNames}
+use Rattle.sp_law_basic.specs.BasicTheory.{IsBasicFormula, HasNames}
 use Rattle.sp_law_tree.proofs.WrittenRules.{names_stand_lem}
 use Rattle.sp_law_tree.proofs.AllShown.{lemmas_are_shown_lem}
-use Rattle.sp_law_tree.proofs.Growing.{grown_tree_accepted}
-use Rattle.sp_law_tree.proofs.Logs.{log_found}
-use Rattle.sp_law_shown.proofs.Found.{found_logs_show_lem}
+use Rattle.sp_spec_proof.proofs.Growing.{grown_tree_accepted}
+use Rattle.sp_spec_proof.proofs.TreeLogs.{log_found}
+use Rattle.sp_law_found_log.proofs.Found.{found_logs_show_lem}
 use Rattle.sp_spec.specs.Constants.{constants_of}
 use Rattle.sp_wf.specs.Laws.{IsFineRule}
 use Rattle.sp_analysis.specs.Sought.{Goal, goal_of, root_system, setting_of, context_of}

@@ -2,7 +2,7 @@
 use Rattle.std.proofs.Common.{◌≡◌, ◌<◌, ◌≤◌, ◌+◌, ℕ, arith, List, [], ◌∷◌, ◌++◌, map, codes, length, get_or, drop, sym, ap, ◌∙◌, subst, append_assoc}
 use Rattle.sp_spec_text.specs.Spans.{Span, Rise, goes_on}
 use Rattle.sp_written.specs.Views as view
-use Rattle.sp_law_again.specs.Again.{between}
+use Rattle.sp_law_reread.specs.Again.{between}
 use Rattle.sp_spec.proofs.Lists.{next_item}
 use Rattle.sp_analysis.specs.Printed.{printed_of, spliced}
 use Rattle.sp_analysis.specs.declared.tried.Tried.{Tried}

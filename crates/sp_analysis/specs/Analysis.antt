@@ -1,13 +1,13 @@
 -- What is written of a text whose lemmas have been tried: the text with a proof tree behind each lemma's formula, and a comment with the
 -- verdicts and the executions that were found. Source of the shape: Tamarin manual, "Proofs" and "Output"; the words are this project's own.
-use Rattle.std.specs.Prelude.{◌≡◌, ℕ, ◌^◌, ◌-◌, min, Option, Some, List, [], ◌∷◌, ◌++◌, map, codes}
+use Rattle.std.specs.Prelude.{◌≡◌, ℕ, Option, Some, List, [], ◌∷◌, ◌++◌, map, codes}
 use Rattle.sp_spec.specs.Lists.{Every}
 use Rattle.sp_spec.specs.Theory.{Theory, Lemma}
 use Rattle.sp_spec.specs.Written.{theory_of}
 use Rattle.sp_spec.specs.Guarded.{Guarded}
 use Rattle.sp_spec.specs.Log.{Log}
 use Rattle.sp_spec.specs.Execution.{Step}
-use Rattle.sp_law_executed.specs.Executed.{executed_of}
+use Rattle.sp_law_log_execution.specs.Executed.{executed_of}
 use Rattle.sp_law_guard.specs.CheckedForm.{checked_form}
 use Rattle.sp_spec_proof.specs.Tree.{Tree, IsFinished, steps}
 use Rattle.sp_skel.specs.Places.{HavePlaces}
@@ -15,11 +15,12 @@ use Rattle.sp_spec_text.specs.Written.{WrittenText}
 use Rattle.sp_spec_text.specs.Declared.{theory_in}
 use Rattle.sp_spec_text.specs.Spans.{Span}
 use Rattle.sp_spec_text.specs.Texts.{ArePlaces}
-use Rattle.sp_law_again.specs.Again.{replaced}
+use Rattle.sp_law_reread.specs.Again.{replaced}
 use Rattle.sp_pose.specs.Problem.{Poses}
 use Rattle.sp_analysis.specs.Sought.{goal_of, taken_by, Setting, setting_of, proof_tree, grown_log}
+use Rattle.sp_spec_text.specs.Numerals.{counted}
 use Rattle.sp_spec_text.specs.Verdict.{Verdict, Says, summary_line}
-use Rattle.sp_law_block.specs.Block.{block_by, IsNumbered}
+use Rattle.sp_law_printed_log.specs.Block.{block_by, IsNumbered}
 
 -- what came of a lemma; with the log with which the search ended, if it did
 pub record Outcome : Type 0 where
@@ -27,10 +28,6 @@ pub record Outcome : Type 0 where
   pub tree : Tree
   pub log : Option Log
   pub verdict : Verdict
-
--- a count beyond the program's numbers stands still at their end
-abbrev pub counted : ℕ → ℕ
-counted n = min n (2 ^ 64 - 1)
 
 -- a line for each lemma, with the execution that was found behind it
 abbrev pub summary_by : (Log → List Step) → List Outcome → List ℕ

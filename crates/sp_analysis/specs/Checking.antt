@@ -8,7 +8,7 @@ use Rattle.sp_spec.specs.Written.{theory_of}
 use Rattle.sp_spec.specs.Guarded.{Guarded}
 use Rattle.sp_spec.specs.Log.{Log}
 use Rattle.sp_spec.specs.Execution.{Step}
-use Rattle.sp_law_executed.specs.Executed.{executed_of}
+use Rattle.sp_law_log_execution.specs.Executed.{executed_of}
 use Rattle.sp_law_guard.specs.CheckedForm.{checked_form}
 use Rattle.sp_spec_system.specs.System.{System}
 use Rattle.sp_spec_system.specs.Move.{Context, unproved}
@@ -20,9 +20,9 @@ use Rattle.sp_spec_text.specs.Declared.{resolved, theory_in}
 use Rattle.sp_skel.specs.Steps.{skeleton}
 use Rattle.sp_pose.specs.Problem.{Poses}
 use Rattle.sp_analysis.specs.Sought.{Goal, goal_of, taken_by, root_system, Setting, setting_of, context_of}
-use Rattle.sp_analysis.specs.Analysis.{counted}
+use Rattle.sp_spec_text.specs.Numerals.{counted}
 use Rattle.sp_spec_text.specs.Verdict.{Verdict, rejected, Says, summary_line}
-use Rattle.sp_law_block.specs.Block.{block_by, IsNumbered}
+use Rattle.sp_law_printed_log.specs.Block.{block_by, IsNumbered}
 
 -- the tree that the proof of a lemma says
 abbrev pub proof_read : Option WrittenProof → Skeleton

@@ -3,11 +3,11 @@ use Rattle.std.specs.Prelude.{◌≡◌, ◌↔◌, List, ℕ, Option, Some, Non
 use Rattle.sp_spec.specs.Lists.{Every}
 use Rattle.sp_spec.specs.Theory.{TraceKind, all_traces, exists_trace, Theory, Lemma, signature_of}
 use Rattle.sp_spec.specs.Log.{Log, visible_trace}
-use Rattle.sp_law_executed.specs.Executed.{executed_of}
+use Rattle.sp_law_log_execution.specs.Executed.{executed_of}
 use Rattle.sp_spec_text.specs.Printed.{step_text}
 use Rattle.sp_spec_text.specs.StepLines.{IsWritableStep, AreSteps}
-use Rattle.sp_law_block.specs.Block.{oldest_first}
-use Rattle.sp_law_block.specs.Shown.{IsShownTrace}
+use Rattle.sp_law_printed_log.specs.Block.{oldest_first}
+use Rattle.sp_law_printed_log.specs.Shown.{IsShownTrace}
 use Rattle.sp_spec.specs.Written.{WrittenTheory, theory_of}
 use Rattle.sp_spec.specs.Verdict.{HoldsInReading, HoldsInNoReading}
 use Rattle.sp_check.specs.Rejected.{ReadIsAccepted}
@@ -19,7 +19,7 @@ use Rattle.sp_skel.specs.Spelling.{as_written}
 use Rattle.sp_place.specs.Refused.{IsRefusedAt}
 use Rattle.sp_pose.specs.Problem.{IsReported}
 use Rattle.sp_spec_text.specs.Behind.{IsBehindEnd}
-use Rattle.sp_law_shown.specs.Shown.{FoundBreaks, FoundSatisfies}
+use Rattle.sp_law_found_log.specs.Shown.{FoundBreaks, FoundSatisfies}
 use Rattle.sp_analysis.specs.Sought.{root_system, setting_of, context_of}
 use Rattle.sp_analysis.specs.Analysis.{Outcome, summary, trees_of, IsAnalysis}
 use Rattle.sp_analysis.specs.Checking.{Judged, IsChecking}

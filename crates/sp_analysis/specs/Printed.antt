@@ -16,9 +16,9 @@ use Rattle.sp_spec_text.specs.Spans.{Span, goes_on}
 use Rattle.sp_pose.specs.Asked.{Asked}
 use Rattle.sp_analysis.specs.Sought.{Goal, goal_of, root_system, Setting, executed, context_of, proof_tree, grown_log}
 use Rattle.sp_spec_text.specs.Verdict.{Verdict, verified, falsified, incomplete, rejected, summary_line}
-use Rattle.sp_law_block.specs.Block.{block_by, IsNumberedBy}
-use Rattle.sp_law_again.specs.Again.{between}
-use Rattle.sp_analysis.specs.Analysis.{counted}
+use Rattle.sp_law_printed_log.specs.Block.{block_by, IsNumberedBy}
+use Rattle.sp_law_reread.specs.Again.{between}
+use Rattle.sp_spec_text.specs.Numerals.{counted}
 use Rattle.sp_analysis.specs.Checking.{proof_read}
 use Rattle.sp_analysis.specs.View.{verdict_of}
 use Rattle.sp_analysis.specs.declared.tried.Tried.{Tried}

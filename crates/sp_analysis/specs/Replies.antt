@@ -1,15 +1,12 @@
--- What is answered to a text, by what is to be done with it.
+-- What is done with a text, by what is to be done with it.
 use Rattle.std.specs.Prelude.{◌≡◌, ℕ, List, map}
-use Rattle.sp_place.specs.Refused.{IsRefusedAt}
-use Rattle.sp_pose.specs.Problem.{IsReported}
 use Rattle.sp_spec_text.specs.Verdict.{Verdict}
 use Rattle.sp_analysis.specs.Analysis.{Outcome, IsAnalysis}
 use Rattle.sp_analysis.specs.Checking.{Judged, IsChecking}
 use Rattle.sp_analysis.specs.View.{verdict_of}
 use Rattle.sp_analysis.specs.declared.replies.Command.{Command}
 use Rattle.sp_analysis.specs.declared.replies.Command.TheVariants.{Prove, Check}
-use Rattle.sp_analysis.specs.declared.replies.Reply.{Reply}
-use Rattle.sp_analysis.specs.declared.replies.Reply.TheVariants.{Refused, Reported, Done}
+use Rattle.sp_analysis.specs.declared.replies.Answered.{Answered}
 
 -- what is written where each lemma is tried within so many moves, and what is said of them
 pub record IsAnalysed (budget : ℕ) (text written : List ℕ) (verdicts : List Verdict) : Type 0 where
@@ -27,8 +24,5 @@ abbrev pub IsDone : Command → List ℕ → List ℕ → List Verdict → Type 
 IsDone (Prove budget) text written verdicts = IsAnalysed budget text written verdicts
 IsDone Check text written verdicts = IsChecked text written verdicts
 
--- the text is refused at a place, or has findings, or it is done with
-abbrev pub IsReplyTo : Command → List ℕ → Reply → Type 0
-IsReplyTo command text (Refused place) = IsRefusedAt text place
-IsReplyTo command text (Reported lines) = IsReported text lines.items
-IsReplyTo command text (Done written verdicts) = IsDone command text written.items (map verdict_of verdicts.items)
+abbrev pub IsAnswered : Command → List ℕ → Answered → Type 0
+IsAnswered command text a = IsDone command text a.written.items (map verdict_of a.verdicts.items)

@@ -16,7 +16,7 @@ use Rattle.sp_solved.specs.Found.{found}
 use Rattle.sp_spec_system.specs.Rules.{rules_of}
 use Rattle.sp_spec_forms.specs.Forms.{RuleForms}
 use Rattle.sp_spec.specs.Execution.{Step}
-use Rattle.sp_law_executed.specs.Executed.{linking_of, executed_by}
+use Rattle.sp_law_log_execution.specs.Executed.{linking_of, executed_by}
 use Rattle.sp_spec_text.specs.Verdict.{Verdict}
 
 -- What a proof is to show: the guarded form of a lemma, of this kind, where what stands outside holds: restrictions, and lemmas that were shown

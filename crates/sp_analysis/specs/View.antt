@@ -1,7 +1,7 @@
 -- The verdicts and settings that those in memory stand for.
 use Rattle.std.specs.Prelude.{map}
 use Rattle.sp_term.specs.View.{name_of}
-use Rattle.sp_ground.specs.View.{signature_of}
+use Rattle.sp_fact.specs.GroundView.{signature_of}
 use Rattle.sp_book.specs.BookView.{book_of}
 use Rattle.sp_check.specs.View.{clause_of}
 use Rattle.sp_analysis.specs.Sought as sought

@@ -1,16 +1,16 @@
 // The block of an execution that was found.
 
 ghost use Rattle.std.specs.Prelude.{◌≡◌, ◌++◌, IfOk, OnOk, Some, map, option_map, string_bytes};
-ghost use Rattle.sp_ground.specs.View.{step_of};
+ghost use Rattle.sp_fact.specs.GroundView.{step_of};
 ghost use Rattle.sp_learn.specs.View.{log_of};
 ghost use Rattle.sp_spec.specs.Lists.{Every};
 ghost use Rattle.sp_show.specs.Numbers.{StepHasNames, numbered_names};
 ghost use Rattle.sp_analysis.specs.Sought.{executed};
 ghost use Rattle.sp_analysis.specs.View.{setting_in};
-ghost use Rattle.sp_law_block.specs.Block as spec;
+ghost use Rattle.sp_law_printed_log.specs.Block as spec;
 
 use crate::setting::Setting;
-use sp_ground::step::Step;
+use sp_fact::step::Step;
 use sp_learn::log::Log;
 use sp_learn::trace::visible_trace;
 use sp_show::step::step_line;

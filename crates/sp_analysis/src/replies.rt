@@ -1,14 +1,18 @@
 // What comes of a text.
 
-ghost use Rattle.std.specs.Prelude.{IfOk};
+ghost use Rattle.std.specs.Prelude.{◌≡◌, ◌≤◌, IfOk, length, map};
+ghost use Rattle.sp_written.specs.Views as view;
+ghost use Rattle.sp_spec_text.specs.Spans.{Rise};
 ghost use Rattle.sp_pose.specs.Posed.{IsPosedBy};
-ghost use Rattle.sp_analysis.specs.Replies.{IsReplyTo};
+ghost use Rattle.sp_pose.specs.Replies.{IsReplyTo};
+ghost use Rattle.sp_analysis.specs.Printed as print;
+ghost use Rattle.sp_analysis.specs.Replies.{IsAnswered};
 
 use crate::setting::Setting;
-use crate::tried::all_tried;
+use crate::tried::{Tried, all_tried};
 use crate::verdict::Verdict;
 use crate::written::{verdicts, written_by};
-use sp_pose::{Problem, Read, posed_by};
+use sp_pose::{Problem, Read, Reply, posed_by};
 use sp_variant::book::book;
 use std::alloc::{AllocError, Global};
 
@@ -21,39 +25,58 @@ pub enum Command {
     Check,
 }
 
-/// What comes of a text.
+/// What comes of a text without findings.
 #[derive(Drop)]
-pub enum Reply {
-    /// It says no theory, and is refused at this place.
-    Refused(usize),
-    /// There are findings on its theory, and these are their lines.
-    Reported(Vec<u8>),
-    /// There are none; what is written, and what is said of each lemma.
-    Done(Vec<u8>, Vec<Verdict>),
+pub struct Answered {
+    /// what is written
+    pub written: Vec<u8>,
+    /// what is said of each lemma
+    pub verdicts: Vec<Verdict>,
+}
+
+/// What is written of the lemmas that have been tried, and what is said of them.
+fn answered_by(
+    alloc: Global,
+    command: Command,
+    text: &[u8],
+    lemmas: &Vec<Tried>,
+    end: usize,
+) -> Result<Answered, AllocError>
+    requires rise { Rise text.now 0 (map (λ t. view.span_of t.span) lemmas.now.items) end }
+    requires end { end ≤ length text.now }
+    ensures written { IfOk result (λ a. a.written.items ≡ print.written_by command text.now (map print.printed_of lemmas.now.items) end) }
+    ensures verdicts { IfOk result (λ a. a.verdicts.items ≡ map (λ t. t.verdict) lemmas.now.items) }
+{
+    let written = written_by(alloc, command, text, lemmas, end)?;
+    let verdicts = verdicts(alloc, lemmas)?;
+    Ok(Answered { written, verdicts })
 }
 
 /// What is done with a problem of the text.
-fn done(alloc: Global, command: Command, text: &[u8], problem: Problem) -> Result<Reply, AllocError>
+fn done(
+    alloc: Global,
+    command: Command,
+    text: &[u8],
+    problem: Problem,
+) -> Result<Answered, AllocError>
     requires { IsPosedBy text.now problem }
-    ensures { IfOk result (IsReplyTo command text.now) }
+    ensures { IfOk result (IsAnswered command text.now) }
 {
+    let book = book(alloc, &problem.signature.equations, &problem.rules)?;
     let Problem {
         signature,
-        rules,
+        rules: _,
         constants,
         lemmas,
         behind_end,
     } = problem;
-    let book = book(alloc, &signature.equations, &rules)?;
     let setting = Setting {
         signature,
         book,
         constants,
     };
     let tried = all_tried(alloc, command, &setting, lemmas)?;
-    let written = written_by(alloc, command, text, &tried, behind_end)?;
-    let verdicts = verdicts(alloc, &tried)?;
-    Ok(Reply::Done(written, verdicts))
+    answered_by(alloc, command, text, &tried, behind_end)
 }
 
 /// What comes of a text: it is refused at a place, or there are findings on its theory, or each of its lemmas is tried, or the proof of each is checked.
@@ -61,12 +84,15 @@ fn done(alloc: Global, command: Command, text: &[u8], problem: Problem) -> Resul
 /// # Errors
 ///
 /// `AllocError` where memory is wanting, or no number is left for a new variable.
-pub fn answer(alloc: Global, command: Command, text: &[u8]) -> Result<Reply, AllocError>
-    ensures { IfOk result (IsReplyTo command text.now) }
+pub fn answer(alloc: Global, command: Command, text: &[u8]) -> Result<Reply<Answered>, AllocError>
+    ensures { IfOk result (IsReplyTo (IsAnswered command) text.now) }
 {
     match posed_by(alloc, text)? {
         Read::Refused(place) => Ok(Reply::Refused(place)),
         Read::Reported(lines) => Ok(Reply::Reported(lines)),
-        Read::Posed(problem) => done(alloc, command, text, problem),
+        Read::Posed(problem) => {
+            let answered = done(alloc, command, text, problem)?;
+            Ok(Reply::Done(answered))
+        }
     }
 }

@@ -1,7 +1,7 @@
 // What the proofs of a theory's lemmas have in common.
 
 use sp_book::book::RuleBook;
-use sp_ground::signature::Signature;
+use sp_fact::signature::Signature;
 use sp_term::term::Name;
 
 /// What the proofs of a theory's lemmas have in common.

@@ -5,12 +5,17 @@ ghost use Rattle.sp_spec.specs.Lists.{Every};
 ghost use Rattle.sp_written.specs.Views as view;
 ghost use Rattle.sp_formula.specs.FormulaView.{formula_of};
 ghost use Rattle.sp_step.specs.View as moves;
+ghost use Rattle.sp_spec_proof.specs.Growth as growth;
+ghost use Rattle.sp_spec_proof.specs.Tree.{found_log};
 ghost use Rattle.sp_system.specs.SystemView.{system_of};
 ghost use Rattle.sp_search.specs.Finished.{finished};
 ghost use Rattle.sp_search.specs.Kept.{log_in};
 ghost use Rattle.sp_search.specs.View.{kept_of, tree_of};
 ghost use Rattle.sp_learn.specs.View.{log_of};
+ghost use Rattle.sp_check.specs.Judging as judging;
+ghost use Rattle.sp_check.specs.Skeleton as read;
 ghost use Rattle.sp_check.specs.View.{skeleton_of, judgement_of};
+ghost use Rattle.sp_spec_text.specs.Numerals.{counted};
 ghost use Rattle.sp_analysis.specs.Sought as spec;
 ghost use Rattle.sp_analysis.specs.Checking.{proof_read};
 ghost use Rattle.sp_analysis.specs.View.{setting_in, verdict_of};
@@ -69,7 +74,7 @@ fn root(alloc: Global, sought: &Formula) -> Result<System, AllocError>
     ensures { IfOk result (λ s. system_of s ≡ spec.root_with [] (formula_of sought.now)) }
 {
     let mut formulas = Vec::new(alloc);
-    formulas.push(sought.copy(alloc)?)?;
+    formulas.push(sought.clone()?)?;
     Ok(System {
         events: Vec::new(alloc),
         formulas,
@@ -148,6 +153,43 @@ fn by_judgement(kind: TraceKind, judgement: &Judgement) -> Verdict
     }
 }
 
+/// The formula that the proof of the lemma begins with.
+fn sought_by(alloc: Global, lemma: GuardedLemma) -> Result<Formula, AllocError>
+    ensures { IfOk result (λ f. formula_of f ≡ spec.sought (view.kind lemma.entry.kind) (formula_of lemma.entry.form)) }
+{
+    sought(alloc, lemma.kind, lemma.form)
+}
+
+/// The tree of at most so many moves that is grown for the formula.
+fn grown_over(
+    alloc: Global,
+    setting: &Setting,
+    budget: u64,
+    formula: &Formula,
+) -> Result<Tree, AllocError>
+    ensures tree { IfOk result (λ t. tree_of t ≡ growth.grown_tree (spec.context_with (setting_in setting.now) [] (formula_of formula.now)) (spec.root_with [] (formula_of formula.now)) budget) }
+    ensures log { IfOk result (λ t. log_in (kept_of t) ≡ found_log (spec.context_with (setting_in setting.now) [] (formula_of formula.now)) (spec.root_with [] (formula_of formula.now)) (growth.grown_tree (spec.context_with (setting_in setting.now) [] (formula_of formula.now)) (spec.root_with [] (formula_of formula.now)) budget)) }
+{
+    let context = context_of(setting, formula);
+    let root = root(alloc, formula)?;
+    let tree = grown_tree(alloc, &context, root, budget)?;
+    Ok(tree)
+}
+
+/// The tree of at most so many moves that is grown for the lemma, where none is taken from another.
+fn grown(
+    alloc: Global,
+    setting: &Setting,
+    budget: u64,
+    lemma: GuardedLemma,
+) -> Result<Tree, AllocError>
+    ensures tree { IfOk result (λ t. tree_of t ≡ spec.proof_tree (setting_in setting.now) budget (print.goal_for [] (ask.asked_of lemma.entry))) }
+    ensures log { IfOk result (λ t. log_in (kept_of t) ≡ spec.grown_log (setting_in setting.now) budget (print.goal_for [] (ask.asked_of lemma.entry))) }
+{
+    let formula = sought_by(alloc, lemma)?;
+    grown_over(alloc, setting, budget, &formula)
+}
+
 /// What comes of the lemma where a proof of at most so many moves is grown for it; no lemma takes another as yet.
 fn try_lemma<'a>(
     alloc: Global,
@@ -158,17 +200,10 @@ fn try_lemma<'a>(
     ensures printed { IfOk result (λ t. print.printed_of t ≡ print.to_print (Command.Prove budget) (setting_in setting.now) [] (ask.asked_of lemma.entry)) }
     ensures nameable { OnOk result (print.IsNameable (Command.Prove budget) (setting_in setting.now) [] (ask.asked_of lemma.entry)) }
 {
-    let GuardedLemma {
-        name,
-        kind,
-        form,
-        proof: _,
-        span,
-    } = lemma;
-    let formula = sought(alloc, kind, form)?;
-    let context = context_of(setting, &formula);
-    let root = root(alloc, &formula)?;
-    let tree = grown_tree(alloc, &context, root, budget)?;
+    let name = lemma.name;
+    let kind = lemma.kind;
+    let span = lemma.span;
+    let tree = grown(alloc, setting, budget, lemma)?;
     let verdict = by_tree(kind, &tree);
     let steps = steps(&tree);
     let proof = tree_text(alloc, &tree)?;
@@ -204,6 +239,49 @@ fn judged_log(judgement: &Judgement) -> Option<&Log>
     }
 }
 
+/// The judgement of a tree that was read as a proof that begins with the formula.
+fn judged_over(
+    alloc: Global,
+    setting: &Setting,
+    formula: &Formula,
+    tree: &Skeleton,
+) -> Result<Judgement, AllocError>
+    ensures { IfOk result (λ j. judgement_of j ≡ judging.judgement (spec.context_with (setting_in setting.now) [] (formula_of formula.now)) (spec.root_with [] (formula_of formula.now)) (skeleton_of tree.now)) }
+{
+    let context = context_of(setting, formula);
+    let root = root(alloc, formula)?;
+    let judgement = judge(alloc, &context, root, tree)?;
+    Ok(judgement)
+}
+
+/// The judgement of a tree that was read as a proof of the lemma.
+fn judged_with(
+    alloc: Global,
+    setting: &Setting,
+    lemma: GuardedLemma,
+    tree: &Skeleton,
+) -> Result<Judgement, AllocError>
+    ensures { IfOk result (λ j. judgement_of j ≡ judging.judgement (spec.context_of (setting_in setting.now) (print.goal_for [] (ask.asked_of lemma.entry))) (spec.root_system (print.goal_for [] (ask.asked_of lemma.entry))) (skeleton_of tree.now)) }
+{
+    let formula = sought_by(alloc, lemma)?;
+    judged_over(alloc, setting, &formula, tree)
+}
+
+/// The judgement of the lemma's proof, and how many moves that has.
+fn judged(
+    alloc: Global,
+    setting: &Setting,
+    lemma: GuardedLemma,
+) -> Result<(Judgement, u64), AllocError>
+    ensures judgement { IfOk result (λ r. judgement_of r.0 ≡ print.judged_so (setting_in setting.now) (print.goal_for [] (ask.asked_of lemma.entry)) (ask.asked_of lemma.entry).proof) }
+    ensures steps { IfOk result (λ r. r.1 ≡ counted (read.steps (proof_read (ask.asked_of lemma.entry).proof))) }
+{
+    let tree = read_proof(alloc, &lemma.proof)?;
+    let judgement = judged_with(alloc, setting, lemma, &tree)?;
+    let steps = sp_check::steps(&tree);
+    Ok((judgement, steps))
+}
+
 /// What comes of the lemma where its proof is checked.
 fn judge_lemma<'a>(
     alloc: Global,
@@ -213,20 +291,11 @@ fn judge_lemma<'a>(
     ensures printed { IfOk result (λ t. print.printed_of t ≡ print.to_print Command.Check (setting_in setting.now) [] (ask.asked_of lemma.entry)) }
     ensures nameable { OnOk result (print.IsNameable Command.Check (setting_in setting.now) [] (ask.asked_of lemma.entry)) }
 {
-    let GuardedLemma {
-        name,
-        kind,
-        form,
-        proof,
-        span,
-    } = lemma;
-    let tree = read_proof(alloc, &proof)?;
-    let formula = sought(alloc, kind, form)?;
-    let context = context_of(setting, &formula);
-    let root = root(alloc, &formula)?;
-    let judgement = judge(alloc, &context, root, &tree)?;
+    let name = lemma.name;
+    let kind = lemma.kind;
+    let span = lemma.span;
+    let (judgement, steps) = judged(alloc, setting, lemma)?;
     let verdict = by_judgement(kind, &judgement);
-    let steps = sp_check::steps(&tree);
     let block = block_of(alloc, setting, judged_log(&judgement))?;
     Ok(Tried {
         name,

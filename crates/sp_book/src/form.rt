@@ -5,7 +5,7 @@ use sp_fact::rule::Declared;
 use sp_term::term::{Name, Term};
 
 /// A form of a rule: an instance of it in which equations were used at some places, in normal form.
-#[derive(Debug, Drop)]
+#[derive(Drop)]
 pub struct Form {
     /// what is taken, shown and added
     pub facts: Facts,
@@ -16,7 +16,7 @@ pub struct Form {
 }
 
 /// A rule by its forms.
-#[derive(Debug, Drop)]
+#[derive(Drop)]
 pub struct RuleForms {
     /// its name
     pub name: Name,

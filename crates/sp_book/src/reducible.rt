@@ -4,11 +4,11 @@ ghost use Rattle.std.specs.Prelude.{◌≡◌, IfOk, map};
 ghost use Rattle.std.specs.List.{list_all, list_any};
 ghost use Rattle.sp_term.specs.View.{view, view_all};
 ghost use Rattle.sp_fact.specs.View.{action_of, fact_of, facts_of};
-ghost use Rattle.sp_ground.specs.View.{equation_of};
+ghost use Rattle.sp_fact.specs.GroundView.{equation_of};
 ghost use Rattle.sp_spec_forms.specs.Reducible as spec;
 
 use sp_fact::fact::{Action, Fact, Facts};
-use sp_ground::signature::Equation;
+use sp_fact::signature::Equation;
 use sp_term::found::matches;
 use sp_term::term::Term;
 use std::alloc::{AllocError, Global};

@@ -5,11 +5,11 @@ use Rattle.sp_spec_nodes.specs.Preorder.{trees, AreTrees, first}
 use Rattle.sp_spec_nodes.proofs.Preorder.{count_trees}
 use Rattle.sp_spec.specs.Log.{Log}
 use Rattle.sp_spec_system.specs.System.{System}
-use Rattle.sp_spec_system.specs.Move.{Context, Case, end_log}
+use Rattle.sp_spec_system.specs.Move.{Context, Case, end_log, systems_in}
 use Rattle.sp_spec_proof.specs.Cases.{cases}
 use Rattle.sp_spec_proof.specs.Tree.{is_solved, first_log}
 use Rattle.sp_check.specs.Skeleton.{Step, known, unbuilt, unknown, Skeleton, node_read, none_read, branch_names}
-use Rattle.sp_check.specs.Nodes.{NodeRead, with_names, cases_at, over, tree_read, systems_in, node_walked, walk_all}
+use Rattle.sp_check.specs.Nodes.{NodeRead, with_names, cases_at, over, tree_read, node_walked, walk_all}
 use Rattle.sp_check.specs.Judging.{Checked, fails, leads_to, ends_with, are_named, cases_checked, log_checked, step_checked, NodesJudged, passed, stopped, walked_on, walk, walk_checked}
 use Rattle.sp_spec_text.specs.Verdict.{clause_cases}
 use Rattle.sp_check.proofs.Names.{named_as_many}

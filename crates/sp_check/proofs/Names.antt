@@ -9,7 +9,6 @@ use Rattle.std.proofs.lemmas.Slice.Eq.{bytes_eq-Decides}
 use Rattle.sp_spec_system.specs.Move.{Case}
 use Rattle.sp_moves_formula.specs.declared.moves.Case as memory
 use Rattle.sp_step.specs.View.{case_of}
-use Rattle.sp_check.specs.View.{names_of}
 use Rattle.sp_check.specs.Rejected.{case_names}
 use Rattle.sp_check.specs.Judging.{are_named}
 
@@ -25,6 +24,6 @@ named_decides (c ∷ cs) (name ∷ names) =
 pub named_as_many : (cs : List Case) (names : List (List ℕ)) → are_named cs names ≡ true → length cs ≡ length names
 named_as_many cs names e = sym (length-map cs (λ (c : Case). c.name)) ∙ ap length (sym ((named_decides cs names).0 e))
 
-pub as_many : {A : Type 0} (cs : List memory.Case) (names : List (String A)) → are_named (map case_of cs) (names_of names) ≡ true → length cs ≡ length names
+pub as_many : {A : Type 0} (cs : List memory.Case) (names : List (String A)) → are_named (map case_of cs) (map string_bytes names) ≡ true → length cs ≡ length names
 as_many cs names e =
-    sym (length-map cs case_of) ∙ named_as_many (map case_of cs) (names_of names) e ∙ length-map names string_bytes
+    sym (length-map cs case_of) ∙ named_as_many (map case_of cs) (map string_bytes names) e ∙ length-map names string_bytes

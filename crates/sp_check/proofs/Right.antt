@@ -6,7 +6,7 @@ use Rattle.sp_spec_system.specs.System.{System}
 use Rattle.sp_spec_system.specs.Move.{Context}
 use Rattle.sp_spec_proof.specs.Tree.{Tree, IsAccepted, IsFinished, found_log}
 use Rattle.sp_spec_proof.specs.Growth.{has_end}
-use Rattle.sp_law_tree.proofs.Logs.{log_at_end, no_log, finished_no_end}
+use Rattle.sp_spec_proof.proofs.TreeLogs.{log_at_end, no_log, finished_no_end}
 use Rattle.sp_check.specs.Skeleton.{Skeleton, tree_of, has_open}
 use Rattle.sp_check.specs.Rejected.{ReadIsAccepted, IsRejectedAt}
 use Rattle.sp_spec_text.specs.Verdict.{Clause}

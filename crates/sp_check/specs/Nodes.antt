@@ -1,9 +1,9 @@
 -- Proof trees that are read, as lists of their nodes in preorder, and how they are walked there.
-use Rattle.std.specs.Prelude.{ℕ, ◌+◌, List, [], ◌∷◌, ◌++◌, map, length, Option, Some}
+use Rattle.std.specs.Prelude.{ℕ, ◌+◌, List, [], ◌∷◌, ◌++◌, length, Option, Some}
 use Rattle.sp_spec.specs.Log.{Log}
 use Rattle.sp_spec_nodes.specs.Preorder.{trees, first}
 use Rattle.sp_spec_system.specs.System.{System}
-use Rattle.sp_spec_system.specs.Move.{Context, Case}
+use Rattle.sp_spec_system.specs.Move.{Context, systems_in}
 use Rattle.sp_spec_proof.specs.Tree.{first_log}
 use Rattle.sp_check.specs.Skeleton.{Step, unknown, Skeleton, node_read, BranchesRead, none_read, branch_read}
 use Rattle.sp_check.specs.Judging.{Checked, fails, leads_to, ends_with, step_checked, NodesJudged, passed, stopped}
@@ -26,10 +26,6 @@ over n ks = node_read n.0 (with_names n.1 ks)
 -- the tree that the nodes stand for, if they stand for one
 abbrev pub tree_read : List NodeRead → Skeleton
 tree_read ns = first (node_read (unknown []) none_read) (trees cases_at over ns)
-
--- the systems of cases
-abbrev pub systems_in : List Case → List System
-systems_in cs = map (λ c. c.system) cs
 
 -- A walk over nodes in preorder, behind nodes that have been met before, and the first log among them: these are the systems of the trees
 -- that begin there, one behind the other. A node is checked for the first, and in its place come those of its cases.

@@ -1,5 +1,5 @@
 -- The trees and judgements that those in memory stand for.
-use Rattle.std.specs.Prelude.{ℕ, List, map, reverse, option_map, string_bytes, String}
+use Rattle.std.specs.Prelude.{List, map, reverse, option_map, string_bytes}
 use Rattle.sp_learn.specs.View.{log_of}
 use Rattle.sp_system.specs.SystemView.{system_of}
 use Rattle.sp_system.specs.declared.system.System.{System}
@@ -27,11 +27,8 @@ step_of (Known move) = spec.known (move_of move)
 step_of (Unbuilt text) = spec.unbuilt text.items
 step_of (Unknown text) = spec.unknown text.items
 
-abbrev pub names_of : {A : Type 0} → List (String A) → List (List ℕ)
-names_of names = map string_bytes names
-
 abbrev pub node_of : Node → NodeRead
-node_of n = (step_of n.step, names_of n.cases.items)
+node_of n = (step_of n.step, map string_bytes n.cases.items)
 
 abbrev pub nodes_of : List Node → List NodeRead
 nodes_of ns = map node_of ns

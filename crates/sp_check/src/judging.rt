@@ -1,15 +1,15 @@
 // Trees that were read are judged.
 
-ghost use Rattle.std.specs.Prelude.{◌≡◌, ◌+◌, [], ◌∷◌, ◌++◌, Some, None, IfOk, OnOk, MatchOption, List, map, option_map};
+ghost use Rattle.std.specs.Prelude.{◌≡◌, ◌+◌, [], ◌∷◌, ◌++◌, Some, None, IfOk, OnOk, MatchOption, List, map, option_map, string_bytes};
 ghost use Rattle.sp_system.specs.SystemView.{system_of};
 ghost use Rattle.sp_spec_proof.specs.Cases as moves;
 ghost use Rattle.sp_spec_proof.specs.Tree as tree;
 ghost use Rattle.sp_learn.specs.View.{log_of};
 ghost use Rattle.sp_step.specs.View.{context_of, move_of, case_of};
 ghost use Rattle.sp_check.specs.Judging as spec;
-ghost use Rattle.sp_check.specs.Nodes.{NodeRead, systems_in, walk_all};
-ghost use Rattle.sp_check.specs.View.{step_of, names_of, node_of, skeleton_of, systems_of, judgement_of, checked_of, walked_of};
-ghost use Rattle.sp_spec_system.specs.Move.{end_log};
+ghost use Rattle.sp_check.specs.Nodes.{NodeRead, walk_all};
+ghost use Rattle.sp_check.specs.View.{step_of, node_of, skeleton_of, systems_of, judgement_of, checked_of, walked_of};
+ghost use Rattle.sp_spec_system.specs.Move.{end_log, systems_in};
 
 use crate::counts::has_open;
 use crate::skeleton::{Node, Skeleton, Step};
@@ -31,7 +31,7 @@ pub enum Clause {
 }
 
 /// What comes of a tree that was read.
-#[derive(Debug, Drop)]
+#[derive(Drop)]
 pub enum Judgement {
     /// the first step that fails, counted from 1 in preorder, and the first clause that it fails of
     Rejected(u64, Clause),
@@ -66,7 +66,7 @@ enum NodesJudged {
 }
 
 fn are_named(cases: &Vec<Case>, names: &Vec<String>) -> bool
-    ensures { result ≡ spec.are_named (map case_of cases.now.items) (names_of names.now.items) }
+    ensures { result ≡ spec.are_named (map case_of cases.now.items) (map string_bytes names.now.items) }
 {
     if cases.len() != names.len() {
         return false;
@@ -79,6 +79,17 @@ fn are_named(cases: &Vec<Case>, names: &Vec<String>) -> bool
     true
 }
 
+// The branches' names against these cases.
+fn names_checked(found: Vec<Case>, names: &Vec<String>) -> Checked
+    ensures { checked_of result ≡ spec.names_checked (map string_bytes names.now.items) (map case_of found.items) }
+{
+    if are_named(&found, names) {
+        Checked::LeadsTo(found)
+    } else {
+        Checked::Fails(Clause::Cases)
+    }
+}
+
 fn cases_checked(
     alloc: Global,
     context: &Context,
@@ -86,15 +97,11 @@ fn cases_checked(
     chosen: Move,
     names: &Vec<String>,
 ) -> Result<Checked, AllocError>
-    ensures { IfOk result (λ c. checked_of c ≡ spec.cases_checked (names_of names.now.items) (moves.cases (context_of context.now) (system_of system.now) (move_of chosen))) }
+    ensures { IfOk result (λ c. checked_of c ≡ spec.cases_checked (map string_bytes names.now.items) (moves.cases (context_of context.now) (system_of system.now) (move_of chosen))) }
 {
-    let Some(found) = cases(alloc, context, system, chosen)? else {
-        return Ok(Checked::Fails(Clause::Instance));
-    };
-    if are_named(&found, names) {
-        Ok(Checked::LeadsTo(found))
-    } else {
-        Ok(Checked::Fails(Clause::Cases))
+    match cases(alloc, context, system, chosen)? {
+        Some(found) => Ok(names_checked(found, names)),
+        None => Ok(Checked::Fails(Clause::Instance)),
     }
 }
 
@@ -105,7 +112,7 @@ fn log_checked(
     system: &System,
     names: &Vec<String>,
 ) -> Result<Checked, AllocError>
-    ensures { IfOk result (λ c. checked_of c ≡ spec.log_checked (names_of names.now.items) (end_log (context_of context.now) (system_of system.now))) }
+    ensures { IfOk result (λ c. checked_of c ≡ spec.log_checked (map string_bytes names.now.items) (end_log (context_of context.now) (system_of system.now))) }
 {
     let Some(log) = context.found(alloc, system)? else {
         return Ok(Checked::Fails(Clause::Instance));
@@ -125,7 +132,7 @@ fn move_checked(
     chosen: Move,
     names: &Vec<String>,
 ) -> Result<Checked, AllocError>
-    ensures { IfOk result (λ c. checked_of c ≡ spec.move_checked (context_of context.now) (system_of system.now) (move_of chosen) (names_of names.now.items)) }
+    ensures { IfOk result (λ c. checked_of c ≡ spec.move_checked (context_of context.now) (system_of system.now) (move_of chosen) (map string_bytes names.now.items)) }
 {
     match chosen {
         Move::Solved => log_checked(alloc, context, system, names),
@@ -139,7 +146,7 @@ fn node_checked(
     system: &System,
     node: &Node,
 ) -> Result<Checked, AllocError>
-    ensures { IfOk result (λ c. checked_of c ≡ spec.step_checked (context_of context.now) (system_of system.now) (step_of node.now.step) (names_of node.now.cases.items)) }
+    ensures { IfOk result (λ c. checked_of c ≡ spec.step_checked (context_of context.now) (system_of system.now) (step_of node.now.step) (map string_bytes node.now.cases.items)) }
 {
     match &node.step {
         Step::Known(chosen) => move_checked(alloc, context, system, *chosen, &node.cases),

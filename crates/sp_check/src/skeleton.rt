@@ -7,7 +7,7 @@ use sp_step::moves::Move;
 use std::alloc::{AllocError, Global};
 
 /// What the text of a node says.
-#[derive(Debug, Drop)]
+#[derive(Drop)]
 pub enum Step {
     /// a move
     Known(Move),
@@ -18,7 +18,7 @@ pub enum Step {
 }
 
 /// A node of a proof tree as it is read.
-#[derive(Debug, Drop)]
+#[derive(Drop)]
 pub struct Node {
     /// what it says
     pub step: Step,
@@ -27,7 +27,7 @@ pub struct Node {
 }
 
 /// A proof tree as it is read, before it is judged.
-#[derive(Debug, Drop)]
+#[derive(Drop)]
 pub struct Skeleton {
     /// its nodes in preorder: each stands before the trees of its cases, the first first
     pub nodes: Vec<Node>,

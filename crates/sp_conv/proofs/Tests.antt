@@ -8,12 +8,12 @@ use Rattle.std.specs.Cmp.{booleans_Decides}
 use Rattle.std.specs.Str.{bytes_eq}
 use Rattle.sp_spec.specs.Lists.{Member}
 use Rattle.sp_spec.specs.Term.{Sort, Msg, Fresh, Pub, Variable, Term, var, constant, name, app, Terms, none, more, count}
-use Rattle.sp_spec.specs.Same.{same_variable, alike}
+use Rattle.sp_spec.specs.Same.{same_variable, alike, is_part, is_part_of_one}
 use Rattle.sp_spec.specs.Signature.{Symbol, Equation}
 use Rattle.sp_spec.proofs.Same.{same_variable_decides, same_by_decides}
 use Rattle.sp_law_equal.specs.Parts.{IsPart, IsPartOfOne, IsProperPart}
 use Rattle.sp_law_conv.specs.Accepted.{IsApplicationOf, IsDestructorOf, IsOfConstructors, AreOfConstructors, IsLeftSide, IsConstant, IsWellFormed, HasPrivateConstant}
-use Rattle.sp_conv.specs.Tests.{is_application, some_root, is_pair, is_destructor, is_msg, of_constructors, all_of_constructors, is_left_side, is_part, is_part_of_one, is_proper_part, names_constant, has_constant, is_constant, have_form, leads, is_well_formed, has_private_constant}
+use Rattle.sp_conv.specs.Tests.{is_application, some_root, is_pair, is_destructor, is_msg, of_constructors, all_of_constructors, is_left_side, is_proper_part, names_constant, has_constant, is_constant, have_form, leads, is_well_formed, has_private_constant}
 
 never : Decides false ⊥
 never = (λ e. absurd cc, λ h. absurd h)

@@ -3,7 +3,7 @@ use Rattle.std.specs.Prelude.{ℕ, Bool, true, false, not, ◌&&◌, ◌||◌, �
 use Rattle.std.specs.Bool.{beq}
 use Rattle.std.specs.Str.{bytes_eq}
 use Rattle.sp_spec.specs.Term.{Sort, Msg, Variable, Term, var, constant, name, app, Terms, none, more, count}
-use Rattle.sp_spec.specs.Same.{alike}
+use Rattle.sp_spec.specs.Same.{is_part_of_one}
 use Rattle.sp_spec.specs.Signature.{Symbol, Equation}
 
 abbrev pub no_terms : Terms Variable → Bool
@@ -52,15 +52,6 @@ is_root d ts = not (no_terms ts) && not (is_pair d)
 abbrev pub is_left_side : List Equation → Term Variable → Bool
 is_left_side es (app d ts) = is_root d ts && all_of_constructors es ts
 is_left_side es t = false
-
-abbrev mutual
-  pub is_part : Term Variable → Term Variable → Bool
-  is_part r (app f ts) = alike r (app f ts) || is_part_of_one r ts
-  is_part r t = alike r t
-
-  pub is_part_of_one : Term Variable → Terms Variable → Bool
-  is_part_of_one r none = false
-  is_part_of_one r (more t ts) = is_part r t || is_part_of_one r ts
 
 abbrev pub is_proper_part : Term Variable → Term Variable → Bool
 is_proper_part r (app f ts) = is_part_of_one r ts

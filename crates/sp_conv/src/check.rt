@@ -2,19 +2,19 @@
 
 ghost use Rattle.std.specs.Prelude.{IfOk, MatchOption, map};
 ghost use Rattle.sp_term.specs.Bindings.{bindings};
-ghost use Rattle.sp_ground.specs.View.{equation_of, symbol_of};
+ghost use Rattle.sp_fact.specs.GroundView.{equation_of, symbol_of};
 ghost use Rattle.sp_conv.specs.Check.{IsFirst, IsFirstClash, IsOfNone, IsVerdictOn};
 ghost use Rattle.sp_conv.specs.Forms.{IsForm};
 ghost use Rattle.sp_conv.specs.Searches.{IsFirstBehind, NoneClashesBehind, NoTwoClash};
 
 use crate::clash::clash;
 use crate::form::{Form, form_of};
-use sp_ground::signature::{Equation, Symbol};
+use sp_fact::signature::{Equation, Symbol};
 use sp_term::subst::Subst;
 use std::alloc::{AllocError, Global};
 
 /// What comes of the test; places are counted from 0.
-#[derive(Debug, Drop)]
+#[derive(Drop)]
 pub enum Checked {
     /// the equations are accepted
     Accepted,

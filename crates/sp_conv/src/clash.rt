@@ -6,15 +6,15 @@ ghost use Rattle.sp_spec.specs.Term.{valued, var};
 ghost use Rattle.sp_spec.specs.Substitution.{bound_to};
 ghost use Rattle.sp_term.specs.View.{variable_of, view, view_all};
 ghost use Rattle.sp_term.specs.Bindings.{bindings};
-ghost use Rattle.sp_ground.specs.View.{equation_of};
+ghost use Rattle.sp_fact.specs.GroundView.{equation_of};
 ghost use Rattle.sp_spec_forms.specs.Shifted.{above, above_all, shifted};
 ghost use Rattle.sp_law_conv.specs.Clash.{DoClash, DoClashBy, apart};
 ghost use Rattle.sp_unify.specs.View.{pair_view};
 
-use sp_ground::signature::Equation;
+use sp_fact::signature::Equation;
 use sp_term::apply::{Assigns, apply};
 use sp_term::subst::Subst;
-use sp_term::term::{Term, Variable, copy, same};
+use sp_term::term::{Term, Variable, same};
 use sp_unify::unify::mgu;
 use std::alloc::{AllocError, Global};
 
@@ -113,7 +113,7 @@ fn overlap(
 ) -> Result<Vec<(Term, Term)>, AllocError>
     ensures { IfOk result (λ ps. map pair_view ps.items ≡ (view first.now.left, shifted by (view second.now.left)) ∷ []) }
 {
-    let left = copy(&first.left)?;
+    let left = first.left.clone()?;
     let right = shifted(alloc, by, &second.left)?;
     let mut pairs = Vec::new(alloc);
     pairs.push((left, right))?;

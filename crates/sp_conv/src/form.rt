@@ -2,11 +2,12 @@
 
 ghost use Rattle.std.specs.Prelude.{◌≡◌, map};
 ghost use Rattle.sp_term.specs.View.{name_of, view, view_all};
-ghost use Rattle.sp_ground.specs.View.{equation_of, symbol_of};
+ghost use Rattle.sp_fact.specs.GroundView.{equation_of, symbol_of};
 ghost use Rattle.sp_conv.specs.Forms.{IsForm};
-ghost use Rattle.sp_conv.specs.Tests.{all_of_constructors, are_as_many, has_constant, have_form, is_application, is_constant, is_constructor, is_destructor, is_left_side, is_pair, is_part, is_part_of_one, is_proper_part, is_root, leads, names_constant, no_terms, of_constructors, some_root};
+ghost use Rattle.sp_spec.specs.Same.{is_part, is_part_of_one};
+ghost use Rattle.sp_conv.specs.Tests.{all_of_constructors, are_as_many, has_constant, have_form, is_application, is_constant, is_constructor, is_destructor, is_left_side, is_pair, is_proper_part, is_root, leads, names_constant, no_terms, of_constructors, some_root};
 
-use sp_ground::signature::{Equation, Symbol};
+use sp_fact::signature::{Equation, Symbol};
 use sp_term::term::{Name, Sort, Term, same};
 
 /// What an equation is like by itself.

@@ -5,3 +5,7 @@ pub mod Places
 pub mod Resolving
 pub mod Signatures
 pub mod Stepping
+pub mod Once
+pub mod ConstantSteps
+pub mod Joints
+pub mod Theory

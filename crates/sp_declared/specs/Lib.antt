@@ -2,3 +2,4 @@ pub mod Equations
 pub mod NumberedView
 pub mod Symbols
 pub mod View
+pub mod Constants

@@ -1,5 +1,5 @@
 -- What an equation with its number stands for.
-use Rattle.sp_ground.specs.View.{equation_of}
+use Rattle.sp_fact.specs.GroundView.{equation_of}
 use Rattle.sp_spec_text.specs.Declared.{Numbered}
 use Rattle.sp_declared.specs.declared.equations.NumberedEquation.{NumberedEquation}
 

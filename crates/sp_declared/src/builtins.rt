@@ -4,11 +4,11 @@ ghost use Rattle.std.specs.Prelude.{◌≡◌, [], ◌∷◌, IfOk, map, option_
 ghost use Rattle.sp_spec.specs.Term.{app};
 ghost use Rattle.sp_spec.specs.Signature.{msg};
 ghost use Rattle.sp_term.specs.View.{view, view_all};
-ghost use Rattle.sp_ground.specs.View.{symbol_of, equation_of};
+ghost use Rattle.sp_fact.specs.GroundView.{symbol_of, equation_of};
 ghost use Rattle.sp_spec_text.specs.Declared as spec;
 ghost use Rattle.sp_declared.specs.View.{builtin};
 
-use sp_ground::signature::{Equation, Symbol};
+use sp_fact::signature::{Equation, Symbol};
 use sp_term::term::{Name, Sort, Term, Variable, nesting_over};
 use std::alloc::{AllocError, Global};
 use std::rc::Rc;
@@ -48,6 +48,17 @@ fn public(alloc: Global, name: &str, arity: usize) -> Result<Symbol, AllocError>
         arity,
         private: false,
     })
+}
+
+/// The public symbols of these names and arities.
+fn all_public(alloc: Global, declared: &[(&str, usize)]) -> Result<Vec<Symbol>, AllocError>
+    ensures { IfOk result (λ ss. map symbol_of ss.items ≡ map (λ d. spec.public d.0.now d.1) declared.now) }
+{
+    let mut made = Vec::with_capacity(alloc, declared.len())?;
+    for (name, arity) in declared {
+        made.push(public(alloc, name, *arity)?)?;
+    }
+    Ok(made)
 }
 
 /// The symbol over these arguments.
@@ -129,6 +140,24 @@ fn revelation(alloc: Global) -> Result<Equation, AllocError>
     Ok(Equation { left, right })
 }
 
+/// The equation alone.
+fn alone(alloc: Global, equation: Equation) -> Result<Vec<Equation>, AllocError>
+    ensures { IfOk result (λ es. map equation_of es.items ≡ equation_of equation ∷ []) }
+{
+    let mut made = Vec::new(alloc);
+    made.push(equation)?;
+    Ok(made)
+}
+
+/// The equations of signatures that reveal what is signed.
+fn revealing(alloc: Global) -> Result<Vec<Equation>, AllocError>
+    ensures { IfOk result (λ es. map equation_of es.items ≡ spec.equations_of spec.revealing_signing) }
+{
+    let mut made = alone(alloc, verification(alloc, "revealVerify", "revealSign")?)?;
+    made.push(revelation(alloc)?)?;
+    Ok(made)
+}
+
 impl Builtin {
     /// The builtin with this name; none where no builtin has it.
     #[tactic(auto, unfolding(sp_spec_text::specs::Declared::builtin_of))]
@@ -158,35 +187,27 @@ impl Builtin {
     pub fn symbols(self, alloc: Global) -> Result<Vec<Symbol>, AllocError>
         ensures { IfOk result (λ ss. map symbol_of ss.items ≡ spec.symbols_of (builtin self)) }
     {
-        let mut made = Vec::new(alloc);
         match self {
-            Builtin::Hashing => {
-                made.push(public(alloc, "h", 1)?)?;
-            }
-            Builtin::SymmetricEncryption => {
-                made.push(public(alloc, "senc", 2)?)?;
-                made.push(public(alloc, "sdec", 2)?)?;
-            }
+            Builtin::Hashing => all_public(alloc, &[("h", 1)]),
+            Builtin::SymmetricEncryption => all_public(alloc, &[("senc", 2), ("sdec", 2)]),
             Builtin::AsymmetricEncryption => {
-                made.push(public(alloc, "aenc", 2)?)?;
-                made.push(public(alloc, "adec", 2)?)?;
-                made.push(public(alloc, "pk", 1)?)?;
+                all_public(alloc, &[("aenc", 2), ("adec", 2), ("pk", 1)])
             }
-            Builtin::Signing => {
-                made.push(public(alloc, "sign", 2)?)?;
-                made.push(public(alloc, "verify", 3)?)?;
-                made.push(public(alloc, "pk", 1)?)?;
-                made.push(public(alloc, "true", 0)?)?;
-            }
-            Builtin::RevealingSigning => {
-                made.push(public(alloc, "revealSign", 2)?)?;
-                made.push(public(alloc, "revealVerify", 3)?)?;
-                made.push(public(alloc, "getMessage", 1)?)?;
-                made.push(public(alloc, "pk", 1)?)?;
-                made.push(public(alloc, "true", 0)?)?;
-            }
+            Builtin::Signing => all_public(
+                alloc,
+                &[("sign", 2), ("verify", 3), ("pk", 1), ("true", 0)],
+            ),
+            Builtin::RevealingSigning => all_public(
+                alloc,
+                &[
+                    ("revealSign", 2),
+                    ("revealVerify", 3),
+                    ("getMessage", 1),
+                    ("pk", 1),
+                    ("true", 0),
+                ],
+            ),
         }
-        Ok(made)
     }
 
     /// The equations that it declares.
@@ -197,17 +218,12 @@ impl Builtin {
     pub fn equations(self, alloc: Global) -> Result<Vec<Equation>, AllocError>
         ensures { IfOk result (λ es. map equation_of es.items ≡ spec.equations_of (builtin self)) }
     {
-        let mut made = Vec::new(alloc);
         match self {
-            Builtin::Hashing => {}
-            Builtin::SymmetricEncryption => made.push(symmetric_decryption(alloc)?)?,
-            Builtin::AsymmetricEncryption => made.push(asymmetric_decryption(alloc)?)?,
-            Builtin::Signing => made.push(verification(alloc, "verify", "sign")?)?,
-            Builtin::RevealingSigning => {
-                made.push(verification(alloc, "revealVerify", "revealSign")?)?;
-                made.push(revelation(alloc)?)?;
-            }
+            Builtin::Hashing => Ok(Vec::new(alloc)),
+            Builtin::SymmetricEncryption => alone(alloc, symmetric_decryption(alloc)?),
+            Builtin::AsymmetricEncryption => alone(alloc, asymmetric_decryption(alloc)?),
+            Builtin::Signing => alone(alloc, verification(alloc, "verify", "sign")?),
+            Builtin::RevealingSigning => revealing(alloc),
         }
-        Ok(made)
     }
 }

@@ -5,7 +5,7 @@ ghost use Rattle.sp_spec.specs.Term as terms;
 ghost use Rattle.sp_spec.specs.Formula.{Written};
 ghost use Rattle.sp_spec.specs.Signature as signature;
 ghost use Rattle.sp_term.specs.View.{name_of, sort_of, variable_of};
-ghost use Rattle.sp_ground.specs.View.{equation_of};
+ghost use Rattle.sp_fact.specs.GroundView.{equation_of};
 ghost use Rattle.sp_read_parts.specs.Views as parts;
 ghost use Rattle.sp_spec_text.specs.Written.{item_builtins, item_equations, builtins_in, equations_in};
 ghost use Rattle.sp_spec_text.specs.Declared as spec;
@@ -16,7 +16,7 @@ ghost use Rattle.sp_declared.specs.NumberedView.{numbered_of};
 
 use crate::builtins::Builtin;
 use crate::names::{names, place_of, push_variables};
-use sp_ground::signature::{Equation, Signature};
+use sp_fact::signature::{Equation, Signature};
 use sp_read_parts::{Mark, WrittenVariable};
 use sp_term::apply::{Assigns, apply};
 use sp_term::term::{Name, Sort, Term, Variable, same};
@@ -24,7 +24,7 @@ use sp_written::{Item, WrittenEquation};
 use std::alloc::{AllocError, Global};
 
 /// An equation, and which one of the text's it is.
-#[derive(Debug, Drop)]
+#[derive(Drop)]
 pub struct NumberedEquation {
     /// its place among the equations of the text, from 1 on; 0 where it is one of pairs or of a builtin
     pub number: usize,

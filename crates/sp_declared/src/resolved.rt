@@ -1,11 +1,15 @@
 // The names of a theory that are symbols: a bare name without a binder, of which a symbol of arity 0 is declared.
 
-ghost use Rattle.std.specs.Prelude.{◌≡◌, [], ◌∷◌, ◌++◌, IfOk, map};
+ghost use Rattle.std.specs.Prelude.{◌≡◌, [], ◌∷◌, ◌++◌, IfOk, IsOkAnd, map};
+ghost use Rattle.sp_spec.specs.Lists.{newest_first};
 ghost use Rattle.sp_spec.specs.Term.{app, none};
-ghost use Rattle.sp_spec.specs.Formula.{Written};
-ghost use Rattle.sp_ground.specs.View.{symbol_of};
+ghost use Rattle.sp_spec.specs.Formula.{Written, happens, equals, not_so, both, either, implies};
+ghost use Rattle.sp_fact.specs.GroundView.{symbol_of};
+ghost use Rattle.sp_read_parts.specs.Reading.{conjoint, disjoint};
 ghost use Rattle.sp_read_parts.specs.Views as parts;
 ghost use Rattle.sp_read_parts.specs.Formulas as forms;
+ghost use Rattle.sp_spec_text.specs.Shapes.{quantified};
+ghost use Rattle.sp_spec_text.specs.Formulas.{quantified_some, equivalent};
 ghost use Rattle.sp_spec_text.specs.Declared as spec;
 ghost use Rattle.sp_written.specs.Views as view;
 ghost use Rattle.sp_declared.specs.Symbols.{names_symbol};
@@ -13,8 +17,8 @@ ghost use Rattle.sp_declared.specs.View.{innermost_first, named, texts_of};
 
 use crate::names::is_listed;
 use crate::symbols::names_constant;
-use sp_ground::signature::Symbol;
-use sp_read_parts::{Mark, ReadFormula, WrittenRule, WrittenTerm, WrittenVariable};
+use sp_fact::signature::Symbol;
+use sp_read_parts::{Mark, ReadFormula, WrittenAction, WrittenRule, WrittenTerm, WrittenVariable};
 use sp_term::apply::{Assigns, apply};
 use sp_term::term::{Name, Term, nesting_over};
 use sp_written::{Item, ReadTheory, WrittenEquation, WrittenLemma};
@@ -111,6 +115,122 @@ fn copy_all<'a>(
     Ok(made)
 }
 
+/// The formula in a box.
+fn in_box<'a>(alloc: Global, made: ReadFormula<'a>) -> Result<Box<ReadFormula<'a>>, AllocError>
+    ensures { IfOk result (λ f. forms.formula f.value ≡ forms.formula made.entry) }
+{
+    let boxed = Box::new(alloc, made)?;
+    Ok(boxed)
+}
+
+/// That the action stands at the time, with symbols in the place of the names that are such.
+fn happening<'a>(
+    alloc: Global,
+    symbols: &Vec<Symbol>,
+    bound: &Vec<&'a str>,
+    action: &WrittenAction<'a>,
+    at: WrittenVariable<'a>,
+) -> Result<Box<ReadFormula<'a>>, AllocError>
+    ensures { IfOk result (λ f. forms.formula f.value ≡ spec.resolved_formula (map symbol_of symbols.now.items) (innermost_first bound.now.items) (happens (parts.action_of action.now) (parts.variable at.entry))) }
+{
+    let resolving = Resolving { symbols, bound };
+    let action = action.changed(alloc, &resolving)?;
+    in_box(alloc, ReadFormula::Happens(action, at))
+}
+
+/// That the terms are equal, with symbols in the place of the names that are such.
+fn equality<'a>(
+    alloc: Global,
+    symbols: &Vec<Symbol>,
+    bound: &Vec<&'a str>,
+    left: &WrittenTerm<'a>,
+    right: &WrittenTerm<'a>,
+) -> Result<Box<ReadFormula<'a>>, AllocError>
+    ensures { IfOk result (λ f. forms.formula f.value ≡ spec.resolved_formula (map symbol_of symbols.now.items) (innermost_first bound.now.items) (equals (parts.term left.now) (parts.term right.now))) }
+{
+    let resolving = Resolving { symbols, bound };
+    let left = apply(alloc, &resolving, left)?;
+    let right = apply(alloc, &resolving, right)?;
+    in_box(alloc, ReadFormula::Equals(left, right))
+}
+
+/// What is made of a formula in memory, or want of memory.
+type Made<'a> = Result<Box<ReadFormula<'a>>, AllocError>;
+
+/// That the formula doesn't hold.
+fn negation<'a>(alloc: Global, denied: Made<'a>) -> Made<'a>
+    ensures { IfOk result (λ f. IsOkAnd denied.entry (λ d. forms.formula f.value ≡ not_so (forms.formula d.value))) }
+{
+    let denied = denied?;
+    in_box(alloc, ReadFormula::Not(denied))
+}
+
+/// All of them: two formulas, and those that follow.
+fn conjunction<'a>(
+    alloc: Global,
+    left: Made<'a>,
+    right: Made<'a>,
+    more: Result<Vec<ReadFormula<'a>>, AllocError>,
+) -> Made<'a>
+    ensures { IfOk result (λ f. IsOkAnd left.entry (λ l. IsOkAnd right.entry (λ r. IsOkAnd more.entry (λ m. forms.formula f.value ≡ forms.chain conjoint (both (forms.formula l.value) (forms.formula r.value)) (map forms.formula m.items))))) }
+{
+    let left = left?;
+    let right = right?;
+    let more = more?;
+    in_box(alloc, ReadFormula::Both(left, right, more))
+}
+
+/// One of them: two formulas, and those that follow.
+fn disjunction<'a>(
+    alloc: Global,
+    left: Made<'a>,
+    right: Made<'a>,
+    more: Result<Vec<ReadFormula<'a>>, AllocError>,
+) -> Made<'a>
+    ensures { IfOk result (λ f. IsOkAnd left.entry (λ l. IsOkAnd right.entry (λ r. IsOkAnd more.entry (λ m. forms.formula f.value ≡ forms.chain disjoint (either (forms.formula l.value) (forms.formula r.value)) (map forms.formula m.items))))) }
+{
+    let left = left?;
+    let right = right?;
+    let more = more?;
+    in_box(alloc, ReadFormula::Either(left, right, more))
+}
+
+/// That the first formula implies the second.
+fn implication<'a>(alloc: Global, left: Made<'a>, right: Made<'a>) -> Made<'a>
+    ensures { IfOk result (λ f. IsOkAnd left.entry (λ l. IsOkAnd right.entry (λ r. forms.formula f.value ≡ implies (forms.formula l.value) (forms.formula r.value)))) }
+{
+    let left = left?;
+    let right = right?;
+    in_box(alloc, ReadFormula::Implies(left, right))
+}
+
+/// That each formula implies the other.
+fn equivalence<'a>(alloc: Global, left: Made<'a>, right: Made<'a>) -> Made<'a>
+    ensures { IfOk result (λ f. IsOkAnd left.entry (λ l. IsOkAnd right.entry (λ r. forms.formula f.value ≡ equivalent (forms.formula l.value) (forms.formula r.value)))) }
+{
+    let left = left?;
+    let right = right?;
+    in_box(alloc, ReadFormula::Equivalent(left, right))
+}
+
+/// That the formula holds of all values of the variables.
+fn for_all<'a>(alloc: Global, variables: &Vec<WrittenVariable<'a>>, body: Made<'a>) -> Made<'a>
+    ensures { IfOk result (λ f. IsOkAnd body.entry (λ b. forms.formula f.value ≡ quantified (map parts.variable variables.now.items) (forms.formula b.value))) }
+{
+    let body = body?;
+    let variables = copy_all(alloc, variables)?;
+    in_box(alloc, ReadFormula::ForAll(variables, body))
+}
+
+/// That the formula holds of some values of the variables.
+fn for_some<'a>(alloc: Global, variables: &Vec<WrittenVariable<'a>>, body: Made<'a>) -> Made<'a>
+    ensures { IfOk result (λ f. IsOkAnd body.entry (λ b. forms.formula f.value ≡ quantified_some (map parts.variable variables.now.items) (forms.formula b.value))) }
+{
+    let body = body?;
+    let variables = copy_all(alloc, variables)?;
+    in_box(alloc, ReadFormula::ForSome(variables, body))
+}
+
 /// The formula with symbols in the place of the names that are such.
 #[cycle(resolving)]
 fn formula<'a>(
@@ -121,59 +241,8 @@ fn formula<'a>(
 ) -> Result<ReadFormula<'a>, AllocError>
     ensures { IfOk result (λ f. forms.formula f ≡ spec.resolved_formula (map symbol_of symbols.now.items) (innermost_first bound.now.items) (forms.formula whole.now)) }
 {
-    let resolving = Resolving { symbols, bound };
-    match whole {
-        ReadFormula::True => Ok(ReadFormula::True),
-        ReadFormula::False => Ok(ReadFormula::False),
-        ReadFormula::Happens(action, at) => {
-            let action = action.changed(alloc, &resolving)?;
-            Ok(ReadFormula::Happens(action, *at))
-        }
-        ReadFormula::Equals(left, right) => {
-            let left = apply(alloc, &resolving, left)?;
-            let right = apply(alloc, &resolving, right)?;
-            Ok(ReadFormula::Equals(left, right))
-        }
-        ReadFormula::Precedes(first, second) => Ok(ReadFormula::Precedes(*first, *second)),
-        ReadFormula::Not(denied) => {
-            let denied = boxed(alloc, symbols, bound, denied)?;
-            Ok(ReadFormula::Not(denied))
-        }
-        ReadFormula::Both(left, right, more) => {
-            let left = boxed(alloc, symbols, bound, left)?;
-            let right = boxed(alloc, symbols, bound, right)?;
-            let more = formulas(alloc, symbols, bound, more)?;
-            Ok(ReadFormula::Both(left, right, more))
-        }
-        ReadFormula::Either(left, right, more) => {
-            let left = boxed(alloc, symbols, bound, left)?;
-            let right = boxed(alloc, symbols, bound, right)?;
-            let more = formulas(alloc, symbols, bound, more)?;
-            Ok(ReadFormula::Either(left, right, more))
-        }
-        ReadFormula::Implies(left, right) => {
-            let left = boxed(alloc, symbols, bound, left)?;
-            let right = boxed(alloc, symbols, bound, right)?;
-            Ok(ReadFormula::Implies(left, right))
-        }
-        ReadFormula::Equivalent(left, right) => {
-            let left = boxed(alloc, symbols, bound, left)?;
-            let right = boxed(alloc, symbols, bound, right)?;
-            Ok(ReadFormula::Equivalent(left, right))
-        }
-        ReadFormula::ForAll(variables, body) => {
-            let inner = within(alloc, &*bound, &*variables)?;
-            let body = boxed(alloc, symbols, &inner, body)?;
-            let variables = copy_all(alloc, &*variables)?;
-            Ok(ReadFormula::ForAll(variables, body))
-        }
-        ReadFormula::ForSome(variables, body) => {
-            let inner = within(alloc, &*bound, &*variables)?;
-            let body = boxed(alloc, symbols, &inner, body)?;
-            let variables = copy_all(alloc, &*variables)?;
-            Ok(ReadFormula::ForSome(variables, body))
-        }
-    }
+    let made = boxed(alloc, symbols, bound, whole)?;
+    Ok(Box::into_inner(made))
 }
 
 /// The same in a box.
@@ -186,9 +255,64 @@ fn boxed<'a>(
 ) -> Result<Box<ReadFormula<'a>>, AllocError>
     ensures { IfOk result (λ f. forms.formula f.value ≡ spec.resolved_formula (map symbol_of symbols.now.items) (innermost_first bound.now.items) (forms.formula whole.now)) }
 {
-    let made = formula(alloc, symbols, bound, whole)?;
-    let boxed = Box::new(alloc, made)?;
-    Ok(boxed)
+    match whole {
+        ReadFormula::True => in_box(alloc, ReadFormula::True),
+        ReadFormula::False => in_box(alloc, ReadFormula::False),
+        ReadFormula::Happens(action, at) => happening(alloc, symbols, bound, action, *at),
+        ReadFormula::Equals(left, right) => equality(alloc, symbols, bound, left, right),
+        ReadFormula::Precedes(first, second) => {
+            in_box(alloc, ReadFormula::Precedes(*first, *second))
+        }
+        ReadFormula::Not(denied) => {
+            let made = boxed(alloc, symbols, bound, denied);
+            negation(alloc, made)
+        }
+        ReadFormula::Both(left, right, more) => {
+            let first = boxed(alloc, symbols, bound, left);
+            let second = boxed(alloc, symbols, bound, right);
+            let others = formulas(alloc, symbols, bound, more);
+            conjunction(alloc, first, second, others)
+        }
+        ReadFormula::Either(left, right, more) => {
+            let first = boxed(alloc, symbols, bound, left);
+            let second = boxed(alloc, symbols, bound, right);
+            let others = formulas(alloc, symbols, bound, more);
+            disjunction(alloc, first, second, others)
+        }
+        ReadFormula::Implies(left, right) => {
+            let first = boxed(alloc, symbols, bound, left);
+            let second = boxed(alloc, symbols, bound, right);
+            implication(alloc, first, second)
+        }
+        ReadFormula::Equivalent(left, right) => {
+            let first = boxed(alloc, symbols, bound, left);
+            let second = boxed(alloc, symbols, bound, right);
+            equivalence(alloc, first, second)
+        }
+        ReadFormula::ForAll(variables, body) => {
+            let made = inside(alloc, symbols, bound, variables, body);
+            for_all(alloc, variables, made)
+        }
+        ReadFormula::ForSome(variables, body) => {
+            let made = inside(alloc, symbols, bound, variables, body);
+            for_some(alloc, variables, made)
+        }
+    }
+}
+
+/// The same of the formula that these variables are bound in.
+#[cycle(resolving)]
+fn inside<'a>(
+    alloc: Global,
+    symbols: &Vec<Symbol>,
+    bound: &Vec<&'a str>,
+    variables: &Vec<WrittenVariable<'a>>,
+    body: &ReadFormula<'a>,
+) -> Result<Box<ReadFormula<'a>>, AllocError>
+    ensures { IfOk result (λ f. forms.formula f.value ≡ spec.resolved_formula (map symbol_of symbols.now.items) (newest_first (texts_of bound.now.items ++ map named (map parts.variable variables.now.items))) (forms.formula body.now)) }
+{
+    let inner = within(alloc, bound, variables)?;
+    boxed(alloc, symbols, &inner, body)
 }
 
 /// The same of each of these formulas.
@@ -250,6 +374,31 @@ fn rule<'a>(
     })
 }
 
+/// The formula, outside of which nothing is bound, with symbols in the place of the names that are such.
+fn closed_formula<'a>(
+    alloc: Global,
+    symbols: &Vec<Symbol>,
+    written: &ReadFormula<'a>,
+) -> Result<ReadFormula<'a>, AllocError>
+    ensures { IfOk result (λ f. forms.formula f ≡ spec.resolved_formula (map symbol_of symbols.now.items) [] (forms.formula written.now)) }
+{
+    let bound = Vec::new(alloc);
+    formula(alloc, symbols, &bound, written)
+}
+
+/// The lemma with this formula in the place of its own.
+fn with_formula<'a>(written: WrittenLemma<'a>, formula: ReadFormula<'a>) -> WrittenLemma<'a>
+    ensures { result ≡ record written.entry { formula = formula.entry } }
+{
+    WrittenLemma {
+        name: written.name,
+        kind: written.kind,
+        formula,
+        proof: written.proof,
+        span: written.span,
+    }
+}
+
 /// The lemma with symbols in the place of the names that are such; its proof stays as it is.
 fn lemma<'a>(
     alloc: Global,
@@ -260,15 +409,8 @@ fn lemma<'a>(
     ensures proof { IfOk result (λ l. l.proof ≡ written.entry.proof) }
     ensures span { IfOk result (λ l. l.span ≡ written.entry.span) }
 {
-    let bound = Vec::new(alloc);
-    let formula = formula(alloc, symbols, &bound, &written.formula)?;
-    Ok(WrittenLemma {
-        name: written.name,
-        kind: written.kind,
-        formula,
-        proof: written.proof,
-        span: written.span,
-    })
+    let formula = closed_formula(alloc, symbols, &written.formula)?;
+    Ok(with_formula(written, formula))
 }
 
 /// The item with symbols in the place of the names that are such.

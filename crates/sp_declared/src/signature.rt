@@ -1,12 +1,12 @@
 // The signature of a theory: its symbols and its equations.
 
 ghost use Rattle.std.specs.Prelude.{◌≡◌, IfOk, map};
-ghost use Rattle.sp_ground.specs.View.{symbol_of, equation_of, signature_of};
+ghost use Rattle.sp_fact.specs.GroundView.{symbol_of, equation_of, signature_of};
 ghost use Rattle.sp_spec_text.specs.Declared.{their_equations};
 ghost use Rattle.sp_declared.specs.NumberedView.{numbered_of};
 
 use crate::equations::NumberedEquation;
-use sp_ground::signature::{Equation, Signature, Symbol};
+use sp_fact::signature::{Equation, Signature, Symbol};
 use std::alloc::{AllocError, Global};
 
 /// The equations without their numbers.

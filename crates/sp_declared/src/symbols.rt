@@ -2,14 +2,14 @@
 
 ghost use Rattle.std.specs.Prelude.{◌≡◌, [], ◌∷◌, IfOk, OnOk, map};
 ghost use Rattle.sp_term.specs.View.{name_of};
-ghost use Rattle.sp_ground.specs.View.{symbol_of};
+ghost use Rattle.sp_fact.specs.GroundView.{symbol_of};
 ghost use Rattle.sp_spec_text.specs.Written.{item_builtins, item_functions, builtins_in, functions_in};
 ghost use Rattle.sp_spec_text.specs.Declared as spec;
 ghost use Rattle.sp_written.specs.Views as view;
 ghost use Rattle.sp_declared.specs.Symbols.{declared_after, symbols_named};
 
 use crate::builtins::Builtin;
-use sp_ground::signature::{Signature, Symbol};
+use sp_fact::signature::{Signature, Symbol};
 use sp_term::term::Name;
 use sp_written::Item;
 use std::alloc::{AllocError, Global};
@@ -53,7 +53,7 @@ fn declare(symbols: &mut Vec<Symbol>, symbol: Symbol) -> Result<(), AllocError>
 fn copy(symbol: &Symbol) -> Result<Symbol, AllocError>
     ensures { IfOk result (λ s. symbol_of s ≡ symbol_of symbol.now) }
 {
-    let name = symbol.name.copy()?;
+    let name = symbol.name.clone()?;
     Ok(Symbol {
         name,
         arity: symbol.arity,

@@ -1,1 +1,4 @@
 pub mod Ways
+pub mod Searching
+pub mod Leading
+pub mod Deciding

@@ -6,12 +6,11 @@ use Rattle.std.proofs.Math.Bool.{or-false}
 use Rattle.std.specs.Option.{option_or}
 use Rattle.sp_spec.specs.Term.{Variable, Term, var, constant, name, app, Terms, none, more, joined, count}
 use Rattle.sp_spec.specs.Signature.{Symbol}
-use Rattle.sp_spec.specs.Same.{alike}
+use Rattle.sp_spec.specs.Same.{alike, is_part, is_part_of_one}
 use Rattle.sp_spec.specs.Destruction.{Fork, way_to, way_among, is_public, along}
 use Rattle.sp_term.specs.declared.term.Term as memory
 use Rattle.sp_term.specs.declared.term.Variable as leaf
 use Rattle.sp_term.specs.View.{view, view_all}
-use Rattle.sp_conv.specs.Tests.{is_part, is_part_of_one}
 use Rattle.sp_norm.specs.Over.{any_public}
 use Rattle.sp_destruct.specs.View.{along_from}
 

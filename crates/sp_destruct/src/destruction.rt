@@ -4,17 +4,17 @@ ghost use Rattle.std.specs.Prelude.{◌≡◌, ◌++◌, ◌+◌, ◌<◌, IfOk,
 ghost use Rattle.sp_spec.specs.Term.{none, joined};
 ghost use Rattle.sp_spec.specs.Destruction.{destructions, is_public, way_among, way_to};
 ghost use Rattle.sp_term.specs.View.{name_of, view, view_all};
-ghost use Rattle.sp_ground.specs.View.{signature_of, symbol_of};
+ghost use Rattle.sp_fact.specs.GroundView.{signature_of, symbol_of};
 ghost use Rattle.sp_destruct.specs.View.{along_from, destruction_of};
 
 use sp_conv::form::has_part;
-use sp_ground::signature::{Signature, Symbol};
+use sp_fact::signature::{Signature, Symbol};
 use sp_norm::over::has_public;
-use sp_term::term::{Name, Term, copy, copy_all, same};
+use sp_term::term::{Name, Term, copied, same};
 use std::alloc::{AllocError, Global};
 
 /// From a message of the pattern, and from the side messages, follows the result.
-#[derive(Debug, Drop)]
+#[derive(Drop)]
 pub struct Destruction {
     /// what is destructed
     pub pattern: Term,
@@ -37,7 +37,7 @@ fn with_copies(mut terms: Vec<Term>, others: &[Term]) -> Result<Vec<Term>, Alloc
     ensures { IfOk result (λ ts. view_all ts.items ≡ joined (view_all terms.items) (view_all others.now)) }
 {
     for term in others {
-        terms.push(copy(term)?)?;
+        terms.push(term.clone()?)?;
     }
     Ok(terms)
 }
@@ -52,9 +52,22 @@ fn with_siblings(terms: Vec<Term>, args: &Vec<Term>, place: usize) -> Result<Vec
     with_copies(front, &args[place + 1..])
 }
 
+// The destruction of the term.
+fn one(wanted: &Term, term: &Term, sides: &Vec<Term>) -> Result<Destruction, AllocError>
+    ensures { IfOk result (λ d. destruction_of d ≡ record { pattern = view term.now; sides = view_all sides.now.items; result = view wanted.now }) }
+{
+    let pattern = term.clone()?;
+    let sides = copied(sides)?;
+    let result = wanted.clone()?;
+    Ok(Destruction {
+        pattern,
+        sides,
+        result,
+    })
+}
+
 // The destruction of the term, behind these.
 fn with_one(
-    alloc: Global,
     wanted: &Term,
     term: &Term,
     sides: &Vec<Term>,
@@ -63,11 +76,8 @@ fn with_one(
     ensures { IfOk result (λ ds. map destruction_of ds.items ≡ map destruction_of found.items
         ++ record { pattern = view term.now; sides = view_all sides.now.items; result = view wanted.now } ∷ []) }
 {
-    found.push(Destruction {
-        pattern: copy(term)?,
-        sides: copy_all(alloc, sides)?,
-        result: copy(wanted)?,
-    })?;
+    let made = one(wanted, term, sides)?;
+    found.push(made)?;
     Ok(found)
 }
 
@@ -118,7 +128,7 @@ fn below_one(
                 return Ok(found);
             }
             let sides = with_siblings(sides, args, place)?;
-            let more = with_one(alloc, wanted, term, &sides, found)?;
+            let more = with_one(wanted, term, &sides, found)?;
             return below(alloc, term, wanted, symbols, sides, more);
         }
     }

@@ -8,19 +8,19 @@ ghost use Rattle.sp_formula.specs.FormulaView.{binder_of};
 ghost use Rattle.sp_eval.specs.View.{times_of, environment_of};
 
 use sp_formula::formula::Binder;
-use sp_formula::slots::{Slot, copy_slots};
+use sp_formula::slots::Slot;
 use sp_term::term::Never;
 use std::alloc::{AllocError, Global};
 
 /// What is bound of messages, the innermost binder first.
-#[derive(Debug, Drop)]
+#[derive(Drop)]
 pub(crate) struct Messages {
     /// the slots
     pub(crate) slots: Vec<Slot<Never>>,
 }
 
 /// What is bound, the innermost binder first.
-#[derive(Debug, Drop)]
+#[derive(Drop)]
 pub(crate) struct Environment {
     /// the messages
     pub(crate) messages: Messages,
@@ -45,19 +45,21 @@ pub(crate) fn fill_time(times: &mut Vec<Option<u64>>, place: u64, position: u64)
     }
 }
 
-impl Environment {
-    /// An equal environment.
-    pub(crate) fn copy(&self, alloc: Global) -> Result<Environment, AllocError>
-        ensures { IfOk result (λ e. environment_of e ≡ environment_of self.now) }
-    {
-        let slots = copy_slots(alloc, &self.messages.slots)?;
-        let times = copy_times(alloc, &self.times)?;
+impl Clone for Environment {
+    ghost is_clone = { λ e f. environment_of f ≡ environment_of e };
+
+    #[tactic(auto, using(sp_term::proofs::Cloned::cloned))]
+    fn clone(&self) -> Result<Environment, AllocError> {
+        let slots = self.messages.slots.clone()?;
+        let times = Vec::from_slice(*self.times.allocator(), &self.times)?;
         Ok(Environment {
             messages: Messages { slots },
             times,
         })
     }
+}
 
+impl Environment {
     /// One more binder, the innermost, without a value.
     fn bind(&mut self, binder: Binder) -> Result<(), AllocError>
         ensures { IfOk result (λ done. environment_of self.new ≡ deciding.entered (binder_of binder ∷ []) (environment_of self.old)) }
@@ -73,16 +75,6 @@ impl Environment {
     }
 }
 
-fn copy_times(alloc: Global, times: &Vec<Option<u64>>) -> Result<Vec<Option<u64>>, AllocError>
-    ensures { IfOk result (λ t. times_of t.items ≡ times_of times.now.items) }
-{
-    let mut made = Vec::with_capacity(alloc, times.len())?;
-    for time in times {
-        made.push(*time)?;
-    }
-    Ok(made)
-}
-
 /// Within the reach of these binders, the outermost first.
 pub(crate) fn entered(
     alloc: Global,
@@ -91,7 +83,7 @@ pub(crate) fn entered(
 ) -> Result<Environment, AllocError>
     ensures { IfOk result (λ e. environment_of e ≡ deciding.entered (map binder_of binders.now.items) (environment_of outside.now)) }
 {
-    let mut inside = outside.copy(alloc)?;
+    let mut inside = outside.clone()?;
     for binder in binders {
         inside.bind(*binder)?;
     }

@@ -5,14 +5,14 @@ ghost use Rattle.sp_law_decide.specs.Deciding as deciding;
 ghost use Rattle.sp_formula.specs.FormulaView.{atom_of, binder_of};
 ghost use Rattle.sp_formula.specs.PlaceView.{placed_term};
 ghost use Rattle.sp_term.specs.Bindings.{answer};
-ghost use Rattle.sp_ground.specs.View.{trace_of};
+ghost use Rattle.sp_fact.specs.GroundView.{trace_of};
 ghost use Rattle.sp_eval.specs.View.{messages_of, environment_of, environments_of};
 
 use crate::environment::{Environment, Messages, entered};
 use crate::matching::{add, by_actions};
+use sp_fact::ground_fact::Trace;
 use sp_formula::formula::{Atom, Binder};
 use sp_formula::place::{FormulaTerm, Place};
-use sp_ground::fact::Trace;
 use sp_term::apply::apply;
 use sp_term::leaves::each_leaf;
 use sp_term::matching::Binds;

@@ -11,15 +11,15 @@ ghost use Rattle.sp_formula.specs.FormulaView.{moment_of, atom_of};
 ghost use Rattle.sp_formula.specs.PlaceView.{place_of, placed_action};
 ghost use Rattle.sp_term.specs.Bindings.{answer};
 ghost use Rattle.sp_term.specs.View.{never_of};
-ghost use Rattle.sp_ground.specs.View.{ground_of, ground_action, trace_of};
+ghost use Rattle.sp_fact.specs.GroundView.{ground_of, ground_action, trace_of};
 ghost use Rattle.sp_eval.specs.View.{messages_of, times_of, environment_of, environments_of};
 
 use crate::environment::{Environment, Messages, fill_time};
+use sp_fact::ground_fact::{GroundAction, Trace};
+use sp_fact::ground_term::GroundTerm;
 use sp_formula::formula::{Atom, Moment};
 use sp_formula::place::{FormulaAction, Place};
 use sp_formula::slots::fill;
-use sp_ground::fact::{GroundAction, Trace};
-use sp_ground::term::GroundTerm;
 use sp_term::matching::{Binds, extend_all};
 use sp_term::term::{Never, Term};
 use std::alloc::{AllocError, Global};
@@ -83,7 +83,7 @@ fn by_action(
     if action.symbol != shown.symbol {
         return Ok(None);
     }
-    let mut made = env.copy(alloc)?;
+    let mut made = env.clone()?;
     let found = extend_all(&action.args, &shown.args, &mut made.messages)?;
     if found && match_time(time, position, &mut made.times) {
         Ok(Some(made))

@@ -4,16 +4,17 @@ ghost use Rattle.std.specs.Prelude.{◌≡◌, IfOk, map};
 ghost use Rattle.sp_law_decide.specs.Deciding as deciding;
 ghost use Rattle.sp_law_decide.specs.Deciding.{decided, empty};
 ghost use Rattle.sp_law_decide.specs.Laws.{TellsTruth};
-ghost use Rattle.sp_formula.specs.FormulaView.{atom_of, guardeds_of, formula_of};
-ghost use Rattle.sp_ground.specs.View.{trace_of};
+ghost use Rattle.sp_spec.specs.Guarded.{guardeds_of};
+ghost use Rattle.sp_formula.specs.FormulaView.{atom_of, formula_of};
+ghost use Rattle.sp_fact.specs.GroundView.{trace_of};
 ghost use Rattle.sp_eval.specs.View.{environment_of};
 ghost use Rattle.sp_eval.specs.Found.{for_one, for_each};
 
-use crate::atom::{atom_true, atoms_true};
+use crate::atom::{atom_false, atom_true, atoms_true};
 use crate::environment::{Environment, Messages};
 use crate::equality::candidates;
+use sp_fact::ground_fact::Trace;
 use sp_formula::formula::{Atom, Binder, Formula};
-use sp_ground::fact::Trace;
 use std::alloc::{AllocError, Global};
 
 /// Whether the formula holds over the trace. Over a trace in normal form, for a formula that is guarded and has no destructors, this is
@@ -50,10 +51,7 @@ fn holds_in(
         Formula::Truth => Ok(true),
         Formula::Falsity => Ok(false),
         Formula::Holds(atom) => atom_true(alloc, trace, env, atom),
-        Formula::Fails(atom) => {
-            let holds = atom_true(alloc, trace, env, atom)?;
-            Ok(!holds)
-        }
+        Formula::Fails(atom) => atom_false(alloc, trace, env, atom),
         Formula::AllOf(parts) => each_holds(parts, alloc, trace, env),
         Formula::OneOf(parts) => one_holds(parts, alloc, trace, env),
         Formula::Exists(binders, guard, body) => {

@@ -8,17 +8,17 @@ ghost use Rattle.sp_law_decide.specs.Deciding as deciding;
 ghost use Rattle.sp_formula.specs.FormulaView.{moment_of};
 ghost use Rattle.sp_formula.specs.PlaceView.{place_of};
 ghost use Rattle.sp_term.specs.View.{never_of};
-ghost use Rattle.sp_ground.specs.View.{ground_of};
+ghost use Rattle.sp_fact.specs.GroundView.{ground_of};
 ghost use Rattle.sp_eval.specs.View.{messages_of, times_of};
 
 use crate::environment::Messages;
+use sp_fact::ground_term::GroundTerm;
 use sp_formula::formula::Moment;
 use sp_formula::place::Place;
 use sp_formula::slots::value_at;
-use sp_ground::term::GroundTerm;
 use sp_term::apply::Assigns;
 use sp_term::leaves::Tests;
-use sp_term::term::{Name, Never, Term, copy};
+use sp_term::term::{Name, Never, Term};
 use std::alloc::{AllocError, Global};
 
 /// What stands for what has no value: the empty public name.
@@ -44,7 +44,7 @@ impl Assigns<Place, Never> for Messages {
     fn value(&self, alloc: Global, leaf: &Place) -> Result<GroundTerm, AllocError> {
         match leaf {
             Place::Bound(place) => match value_at(&self.slots, *place) {
-                Some(value) => copy(value),
+                Some(value) => value.clone(),
                 None => empty_name(alloc),
             },
             Place::Free(_) => empty_name(alloc),

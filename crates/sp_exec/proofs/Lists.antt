@@ -2,10 +2,7 @@
 use Rattle.std.proofs.Common.{◌≡◌, ◌<◌, ◌≤◌, ℕ, zero, suc, take, drop, get_or, arith, List, [], ◌∷◌, ◌++◌, Option, Some, None, option_map, refl, sym, ap, ◌∙◌, append_assoc, length, map}
 use Rattle.sp_law_run.proofs.Taking.{map_append}
 use Rattle.sp_spec.proofs.Lists.{length_map}
-
--- what is answered for the rest, behind these
-abbrev pub behind : {A : Type 0} → List A → Option (List A) → Option (List A)
-behind front o = option_map (λ rest. front ++ rest) o
+use Rattle.sp_spec.proofs.Options.{behind}
 
 pub behind_none : {A : Type 0} (o : Option (List A)) → o ≡ behind [] o
 behind_none None = refl

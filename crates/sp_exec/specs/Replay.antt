@@ -4,7 +4,7 @@ use Rattle.std.specs.Prelude.{◌≡◌, ◌<◌, ℕ, suc, List, ◌∷◌, ◌
 use Rattle.sp_spec.specs.Theory.{Theory, signature_of}
 use Rattle.sp_spec.specs.Execution.{Step, State, Trace, Runs, IsExecution, Cause, no_such_rule, no_instance, premise_absent, fresh_name_twice, wrong_sort, IsNoStep}
 use Rattle.sp_law_run.specs.NormalStep.{normal_trace}
-use Rattle.sp_ground.specs.View.{trace_of}
+use Rattle.sp_fact.specs.GroundView.{trace_of}
 use Rattle.sp_spec.specs.Lists.{newest_first}
 use Rattle.sp_exec.specs.View.{cause_of}
 use Rattle.sp_exec.specs.declared.replay.Replayed.{Replayed}

@@ -3,7 +3,7 @@ use Rattle.std.specs.Prelude.{List, map, Bool, if◌then◌else◌, Option, Some
 use Rattle.sp_spec.specs.Rule.{Fact}
 use Rattle.sp_spec.specs.Execution as execution
 use Rattle.sp_spec.specs.Execution.{no_such_rule, no_instance, premise_absent, fresh_name_twice, wrong_sort}
-use Rattle.sp_ground.specs.View.{ground_of, ground_fact, ground_facts, ground_action}
+use Rattle.sp_fact.specs.GroundView.{ground_of, ground_fact, ground_facts, ground_action}
 use Rattle.sp_exec.specs.Next as spec
 use Rattle.sp_exec.specs.declared.cause.Cause.{Cause}
 use Rattle.sp_exec.specs.declared.cause.Cause.TheVariants.{NoSuchRule, NoInstance, PremiseAbsent, FreshNameTwice, WrongSort}

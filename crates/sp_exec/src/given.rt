@@ -3,18 +3,18 @@
 ghost use Rattle.std.specs.Prelude.{◌≡◌, IfOk, map, option_map};
 ghost use Rattle.sp_law_run.specs.Given as spec;
 ghost use Rattle.sp_term.specs.View.{name_of, sort_of};
-ghost use Rattle.sp_ground.specs.View.{given_of, ground_of, symbol_of};
+ghost use Rattle.sp_fact.specs.GroundView.{given_of, ground_of, symbol_of};
 ghost use Rattle.sp_norm.specs.Bounds.{bounds};
 ghost use Rattle.sp_fact.specs.View.{declared_of};
 ghost use Rattle.sp_exec.specs.Next as next;
 
+use sp_fact::ground_term::GroundTerm;
 use sp_fact::rule::Declared;
-use sp_ground::signature::Symbol;
-use sp_ground::step::Given;
-use sp_ground::term::GroundTerm;
+use sp_fact::signature::Symbol;
+use sp_fact::step::Given;
 use sp_norm::over::is_over;
 use sp_term::subst::Values;
-use sp_term::term::{Name, Sort, Variable, copy, has_sort};
+use sp_term::term::{Name, Sort, Variable, has_sort};
 use std::alloc::{AllocError, Global};
 
 /// The first value that is given to the name.
@@ -48,7 +48,7 @@ pub fn bound_by(
                     sort: declared.sort,
                     number: number as u128,
                 };
-                values.push(variable, copy(value)?)?;
+                values.push(variable, value.clone()?)?;
             }
             None => return Ok(None),
         }

@@ -6,26 +6,26 @@ ghost use Rattle.sp_spec.specs.Rule as spec;
 ghost use Rattle.sp_spec.specs.Rule.{in_of, knows, sends};
 ghost use Rattle.sp_spec.specs.Execution as execution;
 ghost use Rattle.sp_term.specs.View.{name_of};
-ghost use Rattle.sp_ground.specs.View.{given_of, ground_action, ground_fact, ground_of, grounds_of, signature_of, step_of, symbol_of};
+ghost use Rattle.sp_fact.specs.GroundView.{given_of, ground_action, ground_fact, ground_of, grounds_of, signature_of, step_of, symbol_of};
 ghost use Rattle.sp_fact.specs.View.{rule_of};
 ghost use Rattle.sp_exec.specs.Next as next;
 ghost use Rattle.sp_exec.specs.View.{answer_of};
 
 use crate::cause::Cause;
 use crate::given::{are_values, bound_by, is_value};
+use sp_fact::ground_fact::{GroundAction, GroundFact, GroundFacts};
+use sp_fact::ground_term::GroundTerm;
 use sp_fact::rule::Rule;
-use sp_ground::fact::{GroundAction, GroundFact, GroundFacts};
-use sp_ground::signature::{Signature, Symbol};
-use sp_ground::step::{Given, Step};
-use sp_ground::term::GroundTerm;
+use sp_fact::signature::{Signature, Symbol};
+use sp_fact::step::{Given, Step};
 use sp_norm::instance::facts_value;
 use sp_norm::over::{are_over, has_public};
-use sp_term::term::{Name, Sort, Term, copy, copy_all, nesting_over};
+use sp_term::term::{Name, Sort, Term, copied, nesting_over};
 use std::alloc::{AllocError, Global};
 use std::rc::Rc;
 
 /// The facts of a step, and whether its terms have their sorts.
-#[derive(Debug, Drop)]
+#[derive(Drop)]
 pub struct Instance {
     /// what is taken, shown and added
     pub facts: GroundFacts,
@@ -90,7 +90,7 @@ fn about(
 {
     let symbol = Name::new(alloc, symbol)?;
     let mut args = Vec::new(alloc);
-    args.push(copy(term)?)?;
+    args.push(term.clone()?)?;
     Ok(GroundFact {
         symbol,
         persistent,
@@ -183,8 +183,8 @@ fn known_application(
 ) -> Result<GroundFact, AllocError>
     ensures { IfOk result (λ f. ground_fact f ≡ knows (app (name_of symbol.now) (grounds_of terms.now.items))) }
 {
-    let name = symbol.copy()?;
-    let args = copy_all(alloc, terms)?;
+    let name = symbol.clone()?;
+    let args = copied(terms)?;
     let nesting = nesting_over(&args)?;
     let shared = Rc::new(alloc, args)?;
     let term = Term::App(name, shared, nesting);
@@ -193,7 +193,7 @@ fn known_application(
 }
 
 /// The adversary applies a symbol to what it knows.
-#[tactic(auto, using(sp_ground::proofs::Lists::count_grounds))]
+#[tactic(auto, using(sp_fact::proofs::Lists::count_grounds))]
 fn applies(
     alloc: Global,
     symbols: &Vec<Symbol>,

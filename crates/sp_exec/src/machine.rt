@@ -3,7 +3,7 @@
 ghost use Rattle.std.specs.Prelude.{◌≡◌, ◌++◌, IfOk, OnOk, map};
 ghost use Rattle.sp_law_equal.specs.Normal.{normal_facts};
 ghost use Rattle.sp_law_run.specs.NormalStep.{normal_step};
-ghost use Rattle.sp_ground.specs.View.{equation_of, ground_action, ground_fact, ground_facts, ground_of, signature_of, step_of};
+ghost use Rattle.sp_fact.specs.GroundView.{equation_of, ground_action, ground_fact, ground_facts, ground_of, signature_of, step_of};
 ghost use Rattle.sp_fact.specs.View.{rule_of};
 ghost use Rattle.sp_exec.specs.Next as spec;
 ghost use Rattle.sp_exec.specs.View.{instance_in, outcome_of, reached_by};
@@ -11,18 +11,18 @@ ghost use Rattle.sp_exec.specs.View.{instance_in, outcome_of, reached_by};
 use crate::cause::Cause;
 use crate::instance::{Instance, instance_of};
 use crate::taking::take_all;
+use sp_fact::ground_fact::{GroundAction, GroundFact};
+use sp_fact::ground_term::GroundTerm;
 use sp_fact::rule::Rule;
-use sp_ground::fact::{GroundAction, GroundFact};
-use sp_ground::signature::{Equation, Signature};
-use sp_ground::step::Step;
-use sp_ground::term::GroundTerm;
+use sp_fact::signature::{Equation, Signature};
+use sp_fact::step::Step;
 use sp_norm::normal::normal_facts;
 use sp_norm::step::normal_step;
-use sp_term::term::{copy, same};
+use sp_term::term::same;
 use std::alloc::{AllocError, Global};
 
 /// What was reached: the facts in normal form, the fresh names made, and the entries of the trace, each the oldest first.
-#[derive(Debug, Drop)]
+#[derive(Drop)]
 pub struct Machine {
     /// the facts that are there, as often as they stand here
     pub facts: Vec<GroundFact>,
@@ -59,7 +59,7 @@ fn make(made: &mut Vec<GroundTerm>, step: &Step) -> Result<(), AllocError>
     ensures { OnOk result (map ground_of made.new.items ≡ spec.made_after (step_of step.now) (map ground_of made.old.items)) }
 {
     if let Step::MakeFresh(term) = step {
-        made.push(copy(term)?)?;
+        made.push(term.clone()?)?;
     }
     Ok(())
 }

@@ -5,21 +5,21 @@ ghost use Rattle.sp_spec.specs.Theory as spec;
 ghost use Rattle.sp_law_equal.specs.NormalForms.{HaveNormalForms};
 ghost use Rattle.sp_law_run.specs.NormalStep.{normal_step};
 ghost use Rattle.sp_law_equal.specs.Right.{AreRight};
-ghost use Rattle.sp_ground.specs.View.{signature_of, step_of};
+ghost use Rattle.sp_fact.specs.GroundView.{signature_of, step_of};
 ghost use Rattle.sp_fact.specs.View.{rule_of};
 ghost use Rattle.sp_exec.specs.Laws.{ReplaysAreOne};
 ghost use Rattle.sp_exec.specs.Replay.{IsReplay};
 
 use crate::cause::Cause;
 use crate::machine::Machine;
+use sp_fact::ground_fact::Trace;
 use sp_fact::rule::Rule;
-use sp_ground::fact::Trace;
-use sp_ground::signature::Signature;
-use sp_ground::step::Step;
+use sp_fact::signature::Signature;
+use sp_fact::step::Step;
 use std::alloc::{AllocError, Global};
 
 /// What comes of the steps.
-#[derive(Debug, Drop)]
+#[derive(Drop)]
 pub enum Replayed {
     /// they are an execution, with this trace in normal form
     Done(Trace),

@@ -2,10 +2,10 @@
 
 ghost use Rattle.std.specs.Prelude.{◌≡◌, ◌<◌, IfSome, map, option_map, remove, vec_len};
 ghost use Rattle.sp_law_run.specs.Taken.{removed, same_fact, taken, without};
-ghost use Rattle.sp_ground.specs.View.{ground_fact};
+ghost use Rattle.sp_fact.specs.GroundView.{ground_fact};
 ghost use Rattle.sp_exec.specs.View.{left_over};
 
-use sp_ground::fact::GroundFact;
+use sp_fact::ground_fact::GroundFact;
 use sp_term::term::all_same;
 
 /// Whether two facts are the same.

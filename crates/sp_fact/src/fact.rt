@@ -5,11 +5,11 @@ ghost use Rattle.sp_spec.specs.Rule.{fact_at, action_at, facts_at};
 ghost use Rattle.sp_fact.specs.View.{fact_by, action_by, facts_by};
 
 use sp_term::apply::{Assigns, apply_all};
-use sp_term::term::{Leaf, Name, Term, Variable, copy_all};
+use sp_term::term::{Leaf, Name, Term, Variable, copied};
 use std::alloc::{AllocError, Global};
 
 /// A state fact, linear or persistent.
-#[derive(Debug, Drop)]
+#[derive(Drop)]
 pub struct Fact<L = Variable> {
     /// its name
     pub symbol: Name,
@@ -20,7 +20,7 @@ pub struct Fact<L = Variable> {
 }
 
 /// What a trace shows of a step.
-#[derive(Debug, Drop)]
+#[derive(Drop)]
 pub struct Action<L = Variable> {
     /// its name
     pub symbol: Name,
@@ -29,7 +29,7 @@ pub struct Action<L = Variable> {
 }
 
 /// What a step takes, shows and adds.
-#[derive(Debug, Drop)]
+#[derive(Drop)]
 pub struct Facts<L = Variable> {
     /// what is taken
     pub premises: Vec<Fact<L>>,
@@ -39,13 +39,12 @@ pub struct Facts<L = Variable> {
     pub conclusions: Vec<Fact<L>>,
 }
 
-impl<L: Leaf> Fact<L> {
-    /// An equal fact.
-    pub fn copy(&self, alloc: Global) -> Result<Fact<L>, AllocError>
-        ensures { IfOk result (λ f. fact_by L.leaf_of f ≡ fact_by L.leaf_of self.now) }
-    {
-        let symbol = self.symbol.copy()?;
-        let args = copy_all(alloc, &self.args)?;
+impl<L: Leaf> Clone for Fact<L> {
+    ghost is_clone = { λ f g. fact_by L.leaf_of g ≡ fact_by L.leaf_of f };
+
+    fn clone(&self) -> Result<Fact<L>, AllocError> {
+        let symbol = self.symbol.clone()?;
+        let args = copied(&self.args)?;
         Ok(Fact {
             symbol,
             persistent: self.persistent,
@@ -63,7 +62,7 @@ impl<L> Fact<L> {
     ) -> Result<Fact<M>, AllocError>
         ensures { IfOk result (λ f. fact_by F.to_of f ≡ fact_at (F.value_of values.now) (fact_by F.from_of self.now)) }
     {
-        let symbol = self.symbol.copy()?;
+        let symbol = self.symbol.clone()?;
         let args = apply_all(alloc, values, &self.args)?;
         Ok(Fact {
             symbol,
@@ -73,13 +72,12 @@ impl<L> Fact<L> {
     }
 }
 
-impl<L: Leaf> Action<L> {
-    /// An equal action.
-    pub fn copy(&self, alloc: Global) -> Result<Action<L>, AllocError>
-        ensures { IfOk result (λ a. action_by L.leaf_of a ≡ action_by L.leaf_of self.now) }
-    {
-        let symbol = self.symbol.copy()?;
-        let args = copy_all(alloc, &self.args)?;
+impl<L: Leaf> Clone for Action<L> {
+    ghost is_clone = { λ a b. action_by L.leaf_of b ≡ action_by L.leaf_of a };
+
+    fn clone(&self) -> Result<Action<L>, AllocError> {
+        let symbol = self.symbol.clone()?;
+        let args = copied(&self.args)?;
         Ok(Action { symbol, args })
     }
 }
@@ -93,33 +91,10 @@ impl<L> Action<L> {
     ) -> Result<Action<M>, AllocError>
         ensures { IfOk result (λ a. action_by F.to_of a ≡ action_at (F.value_of values.now) (action_by F.from_of self.now)) }
     {
-        let symbol = self.symbol.copy()?;
+        let symbol = self.symbol.clone()?;
         let args = apply_all(alloc, values, &self.args)?;
         Ok(Action { symbol, args })
     }
-}
-
-fn copy_facts<L: Leaf>(alloc: Global, facts: &Vec<Fact<L>>) -> Result<Vec<Fact<L>>, AllocError>
-    ensures { IfOk result (λ fs. map (fact_by L.leaf_of) fs.items ≡ map (fact_by L.leaf_of) facts.now.items) }
-{
-    let mut made = Vec::with_capacity(alloc, facts.len())?;
-    for fact in facts {
-        made.push(fact.copy(alloc)?)?;
-    }
-    Ok(made)
-}
-
-fn copy_actions<L: Leaf>(
-    alloc: Global,
-    actions: &Vec<Action<L>>,
-) -> Result<Vec<Action<L>>, AllocError>
-    ensures { IfOk result (λ xs. map (action_by L.leaf_of) xs.items ≡ map (action_by L.leaf_of) actions.now.items) }
-{
-    let mut made = Vec::with_capacity(alloc, actions.len())?;
-    for action in actions {
-        made.push(action.copy(alloc)?)?;
-    }
-    Ok(made)
 }
 
 fn changed_facts<L, M: Drop, F: Assigns<L, M>>(
@@ -150,14 +125,14 @@ fn changed_actions<L, M: Drop, F: Assigns<L, M>>(
     Ok(made)
 }
 
-impl<L: Leaf> Facts<L> {
-    /// Equal facts.
-    pub fn copy(&self, alloc: Global) -> Result<Facts<L>, AllocError>
-        ensures { IfOk result (λ f. facts_by L.leaf_of f ≡ facts_by L.leaf_of self.now) }
-    {
-        let premises = copy_facts(alloc, &self.premises)?;
-        let actions = copy_actions(alloc, &self.actions)?;
-        let conclusions = copy_facts(alloc, &self.conclusions)?;
+impl<L: Leaf> Clone for Facts<L> {
+    ghost is_clone = { λ f g. facts_by L.leaf_of g ≡ facts_by L.leaf_of f };
+
+    #[tactic(auto, using(sp_term::proofs::Cloned::cloned))]
+    fn clone(&self) -> Result<Facts<L>, AllocError> {
+        let premises = self.premises.clone()?;
+        let actions = self.actions.clone()?;
+        let conclusions = self.conclusions.clone()?;
         Ok(Facts {
             premises,
             actions,

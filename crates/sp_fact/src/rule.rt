@@ -4,7 +4,7 @@ use crate::fact::Facts;
 use sp_term::term::{Name, Sort};
 
 /// A variable of a rule, by its name.
-#[derive(Debug, Drop)]
+#[derive(Drop)]
 pub struct Declared {
     /// its name
     pub name: Name,
@@ -13,7 +13,7 @@ pub struct Declared {
 }
 
 /// A rule; the variable of number k is the k-th of the list.
-#[derive(Debug, Drop)]
+#[derive(Drop)]
 pub struct Rule {
     /// its name
     pub name: Name,

@@ -1,9 +1,9 @@
 -- What a quantified formula in memory stands for, and what becomes of the parts of a formula under a change.
 use Rattle.std.proofs.Common.{◌≡◌, List, [], ◌∷◌, map, refl, sym, ap, ap₂, ◌∙◌}
 use Rattle.std.specs.Global.{Vec, Box}
-use Rattle.sp_spec.specs.Guarded.{Binder, Atom, Guarded, some, every, all_of, one_of, and_then}
+use Rattle.sp_spec.specs.Guarded.{Binder, Atom, Guarded, some, every, all_of, one_of, and_then, guardeds_of}
 use Rattle.sp_spec.specs.Change.{Change, under, atom_changed, changed, changed_each}
-use Rattle.sp_formula.specs.FormulaView.{atom_of, binder_of, guardeds_of, formula_step, formula_of}
+use Rattle.sp_formula.specs.FormulaView.{atom_of, binder_of, formula_step, formula_of}
 use Rattle.sp_formula.specs.declared.formula.Atom as memory_atom
 use Rattle.sp_formula.specs.declared.formula.Binder as memory_binder
 use Rattle.sp_formula.specs.declared.formula.Formula.{Formula}

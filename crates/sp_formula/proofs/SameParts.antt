@@ -1,8 +1,7 @@
 -- Lists that are the same are as long as each other.
 use Rattle.std.proofs.Common.{◌≡◌, true, List, [], ◌∷◌, length, suc, refl, ap}
 use Rattle.std.proofs.lemmas.Bool.{and_parts}
-use Rattle.sp_spec.specs.Guarded.{Binder, Atom, Guarded}
-use Rattle.sp_formula.specs.FormulaView.{guardeds_of}
+use Rattle.sp_spec.specs.Guarded.{Binder, Atom, Guarded, guardeds_of}
 use Rattle.sp_spec.specs.SameFormula.{same_binder, same_binders, same_atom, same_atoms, same_formula, same_formulas}
 
 pub same_binders-length : (bs cs : List Binder) → same_binders bs cs ≡ true → length bs ≡ length cs

@@ -1,5 +1,5 @@
 -- The formulas that formulas in memory stand for.
-use Rattle.std.specs.Prelude.{List, [], ◌∷◌, map}
+use Rattle.std.specs.Prelude.{map}
 use Rattle.sp_spec.specs.Guarded as spec
 use Rattle.sp_term.specs.View.{sort_of}
 use Rattle.sp_formula.specs.PlaceView.{placed_term, placed_action}
@@ -26,18 +26,14 @@ abbrev pub binder_of : Binder → spec.Binder
 binder_of (Message sort) = spec.message (sort_of sort)
 binder_of Time = spec.time
 
-abbrev pub guardeds_of : List spec.Guarded → spec.Guardeds
-guardeds_of [] = spec.no_more
-guardeds_of (f ∷ fs) = spec.and_then f (guardeds_of fs)
-
 -- one level, with each formula inside already seen
 abbrev pub formula_step : Formula-F spec.Guarded → spec.Guarded
 formula_step Formula-F.Truth = spec.truth
 formula_step Formula-F.Falsity = spec.falsity
 formula_step (Formula-F.Holds a) = spec.holds (atom_of a)
 formula_step (Formula-F.Fails a) = spec.fails (atom_of a)
-formula_step (Formula-F.AllOf fs) = spec.all_of (guardeds_of fs.items)
-formula_step (Formula-F.OneOf fs) = spec.one_of (guardeds_of fs.items)
+formula_step (Formula-F.AllOf fs) = spec.all_of (spec.guardeds_of fs.items)
+formula_step (Formula-F.OneOf fs) = spec.one_of (spec.guardeds_of fs.items)
 formula_step (Formula-F.Exists bs guard f) = spec.some (map binder_of bs.items) (map atom_of guard.items) f.value
 formula_step (Formula-F.ForAll bs guard f) = spec.every (map binder_of bs.items) (map atom_of guard.items) f.value
 

@@ -10,7 +10,7 @@ ghost use Rattle.sp_formula.specs.FormulaView.{moment_of, atom_of, binder_of, fo
 
 use crate::place::{FormulaAction, FormulaTerm, InFormula};
 use sp_term::subst::{Subst, apply};
-use sp_term::term::{Sort, copy};
+use sp_term::term::Sort;
 use std::alloc::{AllocError, Global};
 
 /// A time of a formula.
@@ -23,7 +23,7 @@ pub enum Moment {
 }
 
 /// What a formula says without connectives.
-#[derive(Debug, Drop)]
+#[derive(Drop)]
 pub enum Atom {
     /// the action stands at the time
     Acts(FormulaAction, Moment),
@@ -45,7 +45,7 @@ pub enum Binder {
 }
 
 /// A guarded formula: negation stands at atoms alone, and each quantifier has a guard.
-#[derive(Debug, Drop)]
+#[derive(Drop)]
 pub enum Formula {
     /// what always holds
     Truth,
@@ -83,26 +83,27 @@ impl Moment {
     }
 }
 
-impl Atom {
-    /// An equal atom.
-    pub fn copy(&self, alloc: Global) -> Result<Atom, AllocError>
-        ensures { IfOk result (λ a. atom_of a ≡ atom_of self.now) }
-    {
+impl Clone for Atom {
+    ghost is_clone = { λ a b. atom_of b ≡ atom_of a };
+
+    fn clone(&self) -> Result<Atom, AllocError> {
         match self {
             Atom::Acts(action, time) => {
-                let action = action.copy(alloc)?;
+                let action = action.clone()?;
                 Ok(Atom::Acts(action, *time))
             }
             Atom::Same(left, right) => {
-                let left = copy(left)?;
-                let right = copy(right)?;
+                let left = left.clone()?;
+                let right = right.clone()?;
                 Ok(Atom::Same(left, right))
             }
             Atom::SameTime(first, second) => Ok(Atom::SameTime(*first, *second)),
             Atom::Before(first, second) => Ok(Atom::Before(*first, *second)),
         }
     }
+}
 
+impl Atom {
     /// The atom with each bound variable of the system replaced, and with `small` in place of `large`.
     pub fn changed(
         &self,
@@ -135,16 +136,6 @@ impl Atom {
     }
 }
 
-fn copy_atoms(alloc: Global, atoms: &Vec<Atom>) -> Result<Vec<Atom>, AllocError>
-    ensures { IfOk result (λ xs. map atom_of xs.items ≡ map atom_of atoms.now.items) }
-{
-    let mut made = Vec::with_capacity(alloc, atoms.len())?;
-    for atom in atoms {
-        made.push(atom.copy(alloc)?)?;
-    }
-    Ok(made)
-}
-
 fn changed_atoms(
     alloc: Global,
     subst: &Subst,
@@ -161,56 +152,70 @@ fn changed_atoms(
     Ok(made)
 }
 
-impl Formula {
-    /// An equal formula.
-    #[cycle(copy)]
-    pub fn copy(&self, alloc: Global) -> Result<Formula, AllocError>
-        ensures { IfOk result (λ f. formula_of f ≡ formula_of self.now) }
-    {
-        match self {
-            Formula::Truth => Ok(Formula::Truth),
-            Formula::Falsity => Ok(Formula::Falsity),
-            Formula::Holds(atom) => Ok(Formula::Holds(atom.copy(alloc)?)),
-            Formula::Fails(atom) => Ok(Formula::Fails(atom.copy(alloc)?)),
-            Formula::AllOf(formulas) => Ok(Formula::AllOf(copy_formulas(alloc, formulas)?)),
-            Formula::OneOf(formulas) => Ok(Formula::OneOf(copy_formulas(alloc, formulas)?)),
-            Formula::Exists(binders, guard, body) => {
-                let binders = copy_binders(alloc, binders)?;
-                let guard = copy_atoms(alloc, guard)?;
-                let body = body.copy(alloc)?;
-                let boxed = Box::new(alloc, body)?;
-                Ok(Formula::Exists(binders, guard, boxed))
-            }
-            Formula::ForAll(binders, guard, body) => {
-                let binders = copy_binders(alloc, binders)?;
-                let guard = copy_atoms(alloc, guard)?;
-                let body = body.copy(alloc)?;
-                let boxed = Box::new(alloc, body)?;
-                Ok(Formula::ForAll(binders, guard, boxed))
-            }
+impl Clone for Formula {
+    ghost is_clone = { λ f g. formula_of g ≡ formula_of f };
+
+    fn clone(&self) -> Result<Formula, AllocError> {
+        cloned(self)
+    }
+}
+
+// What a quantifier binds, and its guard.
+#[tactic(auto, using(sp_term::proofs::Cloned::cloned))]
+fn bound_cloned(
+    binders: &Vec<Binder>,
+    guard: &Vec<Atom>,
+) -> Result<(Vec<Binder>, Vec<Atom>), AllocError>
+    ensures binders { IfOk result (λ p. map binder_of p.0.items ≡ map binder_of binders.now.items) }
+    ensures guard { IfOk result (λ p. map atom_of p.1.items ≡ map atom_of guard.now.items) }
+{
+    let binders = Vec::from_slice(*binders.allocator(), binders)?;
+    let guard = guard.clone()?;
+    Ok((binders, guard))
+}
+
+#[cycle(clone)]
+fn cloned(formula: &Formula) -> Result<Formula, AllocError>
+    ensures { IfOk result (λ f. formula_of f ≡ formula_of formula.now) }
+{
+    match formula {
+        Formula::Truth => Ok(Formula::Truth),
+        Formula::Falsity => Ok(Formula::Falsity),
+        Formula::Holds(atom) => Ok(Formula::Holds(atom.clone()?)),
+        Formula::Fails(atom) => Ok(Formula::Fails(atom.clone()?)),
+        Formula::AllOf(formulas) => Ok(Formula::AllOf(all_cloned(formulas)?)),
+        Formula::OneOf(formulas) => Ok(Formula::OneOf(all_cloned(formulas)?)),
+        Formula::Exists(binders, guard, body) => {
+            let (binders, guard) = bound_cloned(binders, guard)?;
+            let body = body_cloned(body)?;
+            Ok(Formula::Exists(binders, guard, body))
+        }
+        Formula::ForAll(binders, guard, body) => {
+            let (binders, guard) = bound_cloned(binders, guard)?;
+            let body = body_cloned(body)?;
+            Ok(Formula::ForAll(binders, guard, body))
         }
     }
 }
 
-/// Equal formulas.
-#[cycle(copy)]
-pub fn copy_formulas(alloc: Global, formulas: &Vec<Formula>) -> Result<Vec<Formula>, AllocError>
-    ensures { IfOk result (λ fs. map formula_of fs.items ≡ map formula_of formulas.now.items) }
+#[cycle(clone)]
+fn body_cloned(body: &Box<Formula>) -> Result<Box<Formula>, AllocError>
+    ensures { IfOk result (λ b. formula_of b.value ≡ formula_of body.now.value) }
 {
-    let mut made = Vec::with_capacity(alloc, formulas.len())?;
-    for formula in formulas {
-        made.push(formula.copy(alloc)?)?;
-    }
-    Ok(made)
+    let alloc = *Box::allocator(body);
+    let made = cloned(body)?;
+    let boxed = Box::new(alloc, made)?;
+    Ok(boxed)
 }
 
-/// The same binders.
-pub fn copy_binders(alloc: Global, binders: &Vec<Binder>) -> Result<Vec<Binder>, AllocError>
-    ensures { IfOk result (λ bs. map binder_of bs.items ≡ map binder_of binders.now.items) }
+// The loop stands here, since a recursion can't go through a vector's own clone.
+#[cycle(clone)]
+fn all_cloned(formulas: &Vec<Formula>) -> Result<Vec<Formula>, AllocError>
+    ensures { IfOk result (λ fs. map formula_of fs.items ≡ map formula_of formulas.now.items) }
 {
-    let mut made = Vec::with_capacity(alloc, binders.len())?;
-    for binder in binders {
-        made.push(*binder)?;
+    let mut made = Vec::with_capacity(*formulas.allocator(), formulas.len())?;
+    for formula in formulas {
+        made.push(cloned(formula)?)?;
     }
     Ok(made)
 }
@@ -247,13 +252,13 @@ impl Formula {
                 Ok(Formula::OneOf(formulas))
             }
             Formula::Exists(binders, guard, body) => {
-                let binders = copy_binders(alloc, binders)?;
+                let binders = Vec::from_slice(alloc, binders.as_slice())?;
                 let guard = changed_atoms(alloc, subst, small, large, guard)?;
                 let body = changed_body(alloc, subst, small, large, body)?;
                 Ok(Formula::Exists(binders, guard, body))
             }
             Formula::ForAll(binders, guard, body) => {
-                let binders = copy_binders(alloc, binders)?;
+                let binders = Vec::from_slice(alloc, binders.as_slice())?;
                 let guard = changed_atoms(alloc, subst, small, large, guard)?;
                 let body = changed_body(alloc, subst, small, large, body)?;
                 Ok(Formula::ForAll(binders, guard, body))

@@ -59,7 +59,7 @@ impl Leaf for Place {
 }
 
 /// A variable as a leaf of a formula.
-#[derive(Clone, Copy, Debug)]
+#[derive(Clone, Copy)]
 pub struct Placing {}
 
 impl Assigns<Variable, Place> for Placing {

@@ -1,7 +1,8 @@
 // Whether formulas are the same up to the names of bound variables, which bound places leave out.
 
 ghost use Rattle.std.specs.Prelude.{◌≡◌, map};
-ghost use Rattle.sp_formula.specs.FormulaView.{moment_of, binder_of, atom_of, guardeds_of, formula_of};
+ghost use Rattle.sp_spec.specs.Guarded.{guardeds_of};
+ghost use Rattle.sp_formula.specs.FormulaView.{moment_of, binder_of, atom_of, formula_of};
 ghost use Rattle.sp_spec.specs.SameFormula as spec;
 
 use crate::formula::{Atom, Binder, Formula, Moment};

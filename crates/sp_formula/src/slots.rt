@@ -9,11 +9,11 @@ ghost use Rattle.sp_term.specs.View.{view_by};
 ghost use Rattle.sp_term.specs.Bindings.{answer};
 ghost use Rattle.sp_formula.specs.SlotsView.{slot_by, slots_by};
 
-use sp_term::term::{Leaf, Sort, Term, Variable, copy, has_sort, same};
-use std::alloc::{AllocError, Global};
+use sp_term::term::{Leaf, Sort, Term, Variable, has_sort, same};
+use std::alloc::AllocError;
 
 /// A bound message.
-#[derive(Debug, Drop)]
+#[derive(Drop)]
 pub struct Slot<M = Variable> {
     /// what it ranges over
     pub sort: Sort,
@@ -21,13 +21,12 @@ pub struct Slot<M = Variable> {
     pub value: Option<Term<M>>,
 }
 
-impl<M: Leaf> Slot<M> {
-    /// An equal slot.
-    fn copy(&self) -> Result<Slot<M>, AllocError>
-        ensures { IfOk result (λ s. slot_by M.leaf_of s ≡ slot_by M.leaf_of self.now) }
-    {
+impl<M: Leaf> Clone for Slot<M> {
+    ghost is_clone = { λ s t. slot_by M.leaf_of t ≡ slot_by M.leaf_of s };
+
+    fn clone(&self) -> Result<Slot<M>, AllocError> {
         let value = match &self.value {
-            Some(term) => Some(copy(term)?),
+            Some(term) => Some(term.clone()?),
             None => None,
         };
         Ok(Slot {
@@ -35,21 +34,6 @@ impl<M: Leaf> Slot<M> {
             value,
         })
     }
-}
-
-/// Equal slots.
-///
-/// # Errors
-///
-/// `AllocError` where memory is wanting.
-pub fn copy_slots<M: Leaf>(alloc: Global, slots: &Vec<Slot<M>>) -> Result<Vec<Slot<M>>, AllocError>
-    ensures { IfOk result (λ xs. slots_by M.leaf_of xs.items ≡ slots_by M.leaf_of slots.now.items) }
-{
-    let mut made = Vec::with_capacity(alloc, slots.len())?;
-    for slot in slots {
-        made.push(slot.copy()?)?;
-    }
-    Ok(made)
 }
 
 /// The value of the message at the place, if there is one.
@@ -90,7 +74,7 @@ pub fn fill<M: Leaf>(
             if !has_sort(sort, term) {
                 return Ok(false);
             }
-            let value = Some(copy(term)?);
+            let value = Some(term.clone()?);
             slots[index] = Slot { sort, value };
             Ok(true)
         }

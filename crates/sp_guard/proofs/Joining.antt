@@ -1,18 +1,10 @@
 -- The parts of a conjunction are parted one after the other.
 use Rattle.std.proofs.Common.{◌≡◌, refl, sym, ap, ◌∙◌, List, [], ◌∷◌, ◌++◌, map}
 use mathlib.Core.List.{map-append}
-use Rattle.sp_spec.specs.Guarded.{Atom, acts, same, Guarded, holds, and_then}
-use Rattle.sp_formula.specs.FormulaView.{guardeds_of, formula_of}
+use Rattle.sp_spec.specs.Guarded.{Atom, acts, same, Guarded, holds}
+use Rattle.sp_formula.specs.FormulaView.{formula_of}
 use Rattle.sp_formula.specs.declared.formula.Formula.{Formula}
-use Rattle.sp_law_guard.specs.GuardedForm.{listed, parts_of, guard_in, rest_in}
-
-pub listed_so : (gs : List Guarded) → listed gs ≡ guardeds_of gs
-listed_so [] = refl
-listed_so (g ∷ gs) = ap (and_then g) (listed_so gs)
-
-pub parts_so : (gs : List Guarded) → parts_of (guardeds_of gs) ≡ gs
-parts_so [] = refl
-parts_so (g ∷ gs) = ap (λ (hs : List Guarded). g ∷ hs) (parts_so gs)
+use Rattle.sp_law_guard.specs.GuardedForm.{guard_in, rest_in}
 
 guard_more : (gs hs : List Guarded) → guard_in (gs ++ hs) ≡ guard_in gs ++ guard_in hs
 guard_more [] hs = refl

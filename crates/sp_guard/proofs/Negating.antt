@@ -1,7 +1,6 @@
 -- How negation goes through the parts of a formula, and that a universal quantifier is turned, or an action's negation taken back.
 use Rattle.std.proofs.Common.{◌≡◌, refl, ap, ◌∙◌, true, false, List, [], ◌∷◌, map}
-use Rattle.sp_spec.specs.Guarded.{Binder, Atom, acts, same, same_time, before, last, Guarded, falsity, holds, some, every, and_then}
-use Rattle.sp_formula.specs.FormulaView.{guardeds_of}
+use Rattle.sp_spec.specs.Guarded.{Binder, Atom, acts, same, same_time, before, last, Guarded, falsity, holds, some, every, and_then, guardeds_of}
 use Rattle.sp_law_guard.specs.GuardedForm.{negate, negate_each}
 use Rattle.sp_guard.specs.NegatedAction.{is_action, is_negated_action, held}
 

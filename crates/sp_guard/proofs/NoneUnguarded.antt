@@ -4,10 +4,10 @@ use Rattle.std.specs.Prelude.{◌↔◌}
 use Rattle.std.specs.Option.{option_or, is_none}
 use Rattle.std.proofs.Math.Bool.{and_assoc, and-true}
 use Rattle.sp_spec.specs.Formula.{Written, Formula, truth, falsity, happens, equals, precedes, not_so, both, either, implies, for_all, for_some}
-use Rattle.sp_spec.specs.Guarded.{Binder, message, time, Atom, acts, same, same_time, before, last, Guarded, Guardeds, holds, fails, all_of, one_of, some, every, no_more, and_then}
+use Rattle.sp_spec.specs.Guarded.{Binder, message, time, Atom, acts, same, same_time, before, last, Guarded, Guardeds, holds, fails, all_of, one_of, some, every, no_more, and_then, parts_of, guardeds_of}
 use Rattle.sp_spec.specs.Guarded as guarded
 use Rattle.sp_spec_text.specs.Formulas.{equivalent}
-use Rattle.sp_law_guard.specs.GuardedForm.{meant, time_place, placed_action, term_time, acts_at, before_at, equality_at, binder_of, listed, parts_of, conjuncts, disjuncts, conjunction, disjunction, negated_atom, negate, negate_each, guard_in, rest_in, body_of, existential, guarded_form}
+use Rattle.sp_law_guard.specs.GuardedForm.{meant, time_place, placed_action, term_time, acts_at, before_at, equality_at, binder_of, conjuncts, disjuncts, conjunction, disjunction, negated_atom, negate, negate_each, guard_in, rest_in, body_of, existential, guarded_form}
 use Rattle.sp_law_guard.specs.IsGuarded.{message_guarded, messages_in, each_guarded, is_guarded, are_guarded}
 use Rattle.sp_spec.proofs.Options.{mapped}
 use Rattle.sp_law_guard.proofs.Kept.{joined_forms}
@@ -72,21 +72,21 @@ counted_turned above (some bs guard g) = ap (λ (b : Bool). each_guarded (above.
 counted_turned above (every bs guard g) = every_counted above bs guard g (guarded_turned g)
 
 -- conjunctions and disjunctions
-parts_guarded : (gs : Guardeds) → are_guarded (listed (parts_of gs)) ≡ are_guarded gs
+parts_guarded : (gs : Guardeds) → are_guarded (guardeds_of (parts_of gs)) ≡ are_guarded gs
 parts_guarded no_more = refl
 parts_guarded (and_then g gs) = ap (λ (b : Bool). is_guarded g && b) (parts_guarded gs)
 
-conjuncts_guarded : (g : Guarded) → are_guarded (listed (conjuncts g)) ≡ is_guarded g
+conjuncts_guarded : (g : Guarded) → are_guarded (guardeds_of (conjuncts g)) ≡ is_guarded g
 conjuncts_guarded (all_of gs) = parts_guarded gs
 conjuncts_guarded g = and-true _
 
-disjuncts_guarded : (g : Guarded) → are_guarded (listed (disjuncts g)) ≡ is_guarded g
+disjuncts_guarded : (g : Guarded) → are_guarded (guardeds_of (disjuncts g)) ≡ is_guarded g
 disjuncts_guarded (one_of gs) = parts_guarded gs
 disjuncts_guarded g = and-true _
 
-appended_guarded : (gs hs : List Guarded) → are_guarded (listed (gs ++ hs)) ≡ are_guarded (listed gs) && are_guarded (listed hs)
+appended_guarded : (gs hs : List Guarded) → are_guarded (guardeds_of (gs ++ hs)) ≡ are_guarded (guardeds_of gs) && are_guarded (guardeds_of hs)
 appended_guarded [] hs = refl
-appended_guarded (g ∷ gs) hs = ap (λ (b : Bool). is_guarded g && b) (appended_guarded gs hs) ∙ sym (and_assoc (is_guarded g) (are_guarded (listed gs)) (are_guarded (listed hs)))
+appended_guarded (g ∷ gs) hs = ap (λ (b : Bool). is_guarded g && b) (appended_guarded gs hs) ∙ sym (and_assoc (is_guarded g) (are_guarded (guardeds_of gs)) (are_guarded (guardeds_of hs)))
 
 conjunction_guarded : (g h : Guarded) → is_guarded (conjunction g h) ≡ is_guarded g && is_guarded h
 conjunction_guarded g h = appended_guarded (conjuncts g) (conjuncts h) ∙ ap₂ (λ (a b : Bool). a && b) (conjuncts_guarded g) (conjuncts_guarded h)
@@ -95,7 +95,7 @@ disjunction_guarded : (g h : Guarded) → is_guarded (disjunction g h) ≡ is_gu
 disjunction_guarded g h = appended_guarded (disjuncts g) (disjuncts h) ∙ ap₂ (λ (a b : Bool). a && b) (disjuncts_guarded g) (disjuncts_guarded h)
 
 -- quantifiers
-rest_guarded : (gs : List Guarded) → are_guarded (listed (rest_in gs)) ≡ are_guarded (listed gs)
+rest_guarded : (gs : List Guarded) → are_guarded (guardeds_of (rest_in gs)) ≡ are_guarded (guardeds_of gs)
 rest_guarded [] = refl
 rest_guarded (holds (acts a i) ∷ gs) = rest_guarded gs
 rest_guarded (holds (same t u) ∷ gs) = rest_guarded gs
@@ -104,7 +104,7 @@ rest_guarded (holds (before i j) ∷ gs) = rest_guarded gs
 rest_guarded (holds (last i) ∷ gs) = rest_guarded gs
 rest_guarded (g ∷ gs) = ap (λ (b : Bool). is_guarded g && b) (rest_guarded gs)
 
-body_guarded : (gs : List Guarded) → is_guarded (body_of gs) ≡ are_guarded (listed gs)
+body_guarded : (gs : List Guarded) → is_guarded (body_of gs) ≡ are_guarded (guardeds_of gs)
 body_guarded [] = refl
 body_guarded (g ∷ []) = sym (and-true (is_guarded g))
 body_guarded (g ∷ h ∷ gs) = refl

@@ -1,8 +1,8 @@
 -- The guarded form of several quantifiers in a row, and of an equivalence.
-use Rattle.std.specs.Prelude.{List, [], ◌∷◌, Option, option_map}
+use Rattle.std.specs.Prelude.{List, [], ◌∷◌}
 use Rattle.sp_spec.specs.Formula.{Written}
 use Rattle.sp_spec.specs.Guarded.{Guarded}
-use Rattle.sp_law_guard.specs.GuardedForm.{binder_of, negate, existential, conjunction, disjunction, both_forms}
+use Rattle.sp_law_guard.specs.GuardedForm.{binder_of, negate, existential, conjunction, disjunction}
 
 abbrev pub for_all_form : Written → Guarded → Guarded
 for_all_form x g = negate (existential (binder_of x.mark) (negate g))
@@ -14,5 +14,8 @@ abbrev pub each_bound : (Written → Guarded → Guarded) → List Written → G
 each_bound bind [] g = g
 each_bound bind (x ∷ xs) g = bind x (each_bound bind xs g)
 
-abbrev pub equivalent_forms : Option Guarded → Option Guarded → Option Guarded
-equivalent_forms g h = both_forms conjunction (both_forms disjunction (option_map negate g) h) (both_forms disjunction (option_map negate h) g)
+abbrev pub implied_form : Guarded → Guarded → Guarded
+implied_form g h = disjunction (negate g) h
+
+abbrev pub equivalent_form : Guarded → Guarded → Guarded
+equivalent_form g h = conjunction (implied_form g h) (implied_form h g)

@@ -1,7 +1,7 @@
 // The guarded form of a written formula.
 
 ghost use Rattle.std.specs.Prelude.{◌≡◌, ◌++◌, IfOk, map, option_map};
-ghost use Rattle.sp_spec.specs.Guarded.{holds};
+ghost use Rattle.sp_spec.specs.Guarded.{Guarded, holds};
 ghost use Rattle.sp_spec_text.specs.Shapes.{quantified};
 ghost use Rattle.sp_spec_text.specs.Formulas.{quantified_some};
 ghost use Rattle.sp_spec.specs.Formula as formulas;
@@ -11,7 +11,8 @@ ghost use Rattle.sp_read_parts.specs.Formulas as written;
 ghost use Rattle.sp_formula.specs.FormulaView.{atom_of, formula_of};
 ghost use Rattle.sp_law_guard.specs.GuardedForm as spec;
 ghost use Rattle.sp_guard.specs.View.{innermost_first};
-ghost use Rattle.sp_guard.specs.Bound.{for_all_form, for_some_form, each_bound, equivalent_forms};
+ghost use Rattle.sp_guard.specs.Bound.{for_all_form, for_some_form, each_bound, implied_form, equivalent_form};
+ghost use Rattle.sp_guard.specs.Pairs.{joined_by};
 
 use crate::join::{conjunction, disjunction, existential};
 use crate::negate::negate;
@@ -41,58 +42,68 @@ fn negated(alloc: Global, form: Option<Formula>) -> Result<Option<Formula>, Allo
     }
 }
 
-fn both(
-    alloc: Global,
-    left: Option<Formula>,
-    right: Option<Formula>,
-) -> Result<Option<Formula>, AllocError>
-    ensures { IfOk result (λ o. option_map formula_of o ≡ spec.both_forms spec.conjunction (option_map formula_of left) (option_map formula_of right)) }
+/// Both forms, if there are two.
+fn paired(left: Option<Formula>, right: Option<Formula>) -> Option<(Formula, Formula)>
+    ensures { (join : Guarded → Guarded → Guarded) → joined_by join result ≡ spec.both_forms join (option_map formula_of left) (option_map formula_of right) }
 {
-    let Some(left) = left else {
-        return Ok(None);
-    };
-    let Some(right) = right else {
-        return Ok(None);
-    };
-    let made = conjunction(alloc, left, right)?;
-    Ok(Some(made))
+    match (left, right) {
+        (Some(left), Some(right)) => Some((left, right)),
+        _ => None,
+    }
 }
 
-fn either(
-    alloc: Global,
-    left: Option<Formula>,
-    right: Option<Formula>,
-) -> Result<Option<Formula>, AllocError>
-    ensures { IfOk result (λ o. option_map formula_of o ≡ spec.both_forms spec.disjunction (option_map formula_of left) (option_map formula_of right)) }
+fn both(alloc: Global, forms: Option<(Formula, Formula)>) -> Result<Option<Formula>, AllocError>
+    ensures { IfOk result (λ o. option_map formula_of o ≡ joined_by spec.conjunction forms) }
 {
-    let Some(left) = left else {
-        return Ok(None);
-    };
-    let Some(right) = right else {
-        return Ok(None);
-    };
-    let made = disjunction(alloc, left, right)?;
-    Ok(Some(made))
+    match forms {
+        Some((left, right)) => {
+            let made = conjunction(alloc, left, right)?;
+            Ok(Some(made))
+        }
+        None => Ok(None),
+    }
+}
+
+fn either(alloc: Global, forms: Option<(Formula, Formula)>) -> Result<Option<Formula>, AllocError>
+    ensures { IfOk result (λ o. option_map formula_of o ≡ joined_by spec.disjunction forms) }
+{
+    match forms {
+        Some((left, right)) => {
+            let made = disjunction(alloc, left, right)?;
+            Ok(Some(made))
+        }
+        None => Ok(None),
+    }
+}
+
+// The one implies the other.
+fn implied(alloc: Global, left: Formula, right: Formula) -> Result<Formula, AllocError>
+    ensures { IfOk result (λ g. formula_of g ≡ implied_form (formula_of left) (formula_of right)) }
+{
+    let denied = negate(alloc, left)?;
+    let made = disjunction(alloc, denied, right)?;
+    Ok(made)
+}
+
+// The same of their copies.
+fn implied_anew(alloc: Global, left: &Formula, right: &Formula) -> Result<Formula, AllocError>
+    ensures { IfOk result (λ g. formula_of g ≡ implied_form (formula_of left.now) (formula_of right.now)) }
+{
+    let left = left.clone()?;
+    let right = right.clone()?;
+    let made = implied(alloc, left, right)?;
+    Ok(made)
 }
 
 fn implication(
     alloc: Global,
-    left: Option<Formula>,
-    right: Option<Formula>,
+    forms: Option<(Formula, Formula)>,
 ) -> Result<Option<Formula>, AllocError>
-    ensures { IfOk result (λ o. option_map formula_of o ≡ spec.both_forms spec.disjunction (option_map spec.negate (option_map formula_of left)) (option_map formula_of right)) }
+    ensures { IfOk result (λ o. option_map formula_of o ≡ joined_by implied_form forms) }
 {
-    let denied = negated(alloc, left)?;
-    let made = either(alloc, denied, right)?;
-    Ok(made)
-}
-
-fn copied(alloc: Global, form: &Option<Formula>) -> Result<Option<Formula>, AllocError>
-    ensures { IfOk result (λ o. option_map formula_of o ≡ option_map formula_of form.now) }
-{
-    match form {
-        Some(form) => {
-            let made = form.copy(alloc)?;
+    match forms {
+        Some((left, right)) => {
+            let made = implied(alloc, left, right)?;
             Ok(Some(made))
         }
         None => Ok(None),
@@ -100,19 +111,28 @@ fn copied(alloc: Global, form: &Option<Formula>) -> Result<Option<Formula>, Allo
 }
 
 // Each implies the other.
+fn equivalent(alloc: Global, left: Formula, right: Formula) -> Result<Formula, AllocError>
+    ensures { IfOk result (λ g. formula_of g ≡ equivalent_form (formula_of left) (formula_of right)) }
+{
+    let forth = implied_anew(alloc, &left, &right)?;
+    let back = implied(alloc, right, left)?;
+    let made = conjunction(alloc, forth, back)?;
+    Ok(made)
+}
+
 fn equivalence(
     alloc: Global,
-    left: Option<Formula>,
-    right: Option<Formula>,
+    forms: Option<(Formula, Formula)>,
 ) -> Result<Option<Formula>, AllocError>
-    ensures { IfOk result (λ o. option_map formula_of o ≡ equivalent_forms (option_map formula_of left) (option_map formula_of right)) }
+    ensures { IfOk result (λ o. option_map formula_of o ≡ joined_by equivalent_form forms) }
 {
-    let first = copied(alloc, &left)?;
-    let second = copied(alloc, &right)?;
-    let forth = implication(alloc, first, second)?;
-    let back = implication(alloc, right, left)?;
-    let made = both(alloc, forth, back)?;
-    Ok(made)
+    match forms {
+        Some((left, right)) => {
+            let made = equivalent(alloc, left, right)?;
+            Ok(Some(made))
+        }
+        None => Ok(None),
+    }
 }
 
 // The formula for all values of the binders.
@@ -197,29 +217,44 @@ pub fn guarded_form<'a>(
         }
         ReadFormula::Both(left, right, more) => {
             let first = guarded_form(alloc, binders, left)?;
-            let second = guarded_form(alloc, binders, right)?;
-            let form = both(alloc, first, second)?;
+            let forms = paired_with(alloc, binders, first, right)?;
+            let form = both(alloc, forms)?;
             and_all(alloc, binders, form, more)
         }
         ReadFormula::Either(left, right, more) => {
             let first = guarded_form(alloc, binders, left)?;
-            let second = guarded_form(alloc, binders, right)?;
-            let form = either(alloc, first, second)?;
+            let forms = paired_with(alloc, binders, first, right)?;
+            let form = either(alloc, forms)?;
             or_any(alloc, binders, form, more)
         }
         ReadFormula::Implies(left, right) => {
             let first = guarded_form(alloc, binders, left)?;
-            let second = guarded_form(alloc, binders, right)?;
-            implication(alloc, first, second)
+            let forms = paired_with(alloc, binders, first, right)?;
+            implication(alloc, forms)
         }
         ReadFormula::Equivalent(left, right) => {
             let first = guarded_form(alloc, binders, left)?;
-            let second = guarded_form(alloc, binders, right)?;
-            equivalence(alloc, first, second)
+            let forms = paired_with(alloc, binders, first, right)?;
+            equivalence(alloc, forms)
         }
         ReadFormula::ForAll(more, body) => for_all(alloc, binders, more, body),
         ReadFormula::ForSome(more, body) => for_some(alloc, binders, more, body),
     }
+}
+
+// The form, and that of the formula beside it, if there are both.
+#[cycle(form)]
+fn paired_with<'a>(
+    alloc: Global,
+    binders: &Vec<WrittenVariable<'a>>,
+    form: Option<Formula>,
+    right: &ReadFormula<'a>,
+) -> Result<Option<(Formula, Formula)>, AllocError>
+    ensures { IfOk result (λ o. (join : Guarded → Guarded → Guarded) → joined_by join o
+        ≡ spec.both_forms join (option_map formula_of form) (spec.guarded_form (innermost_first binders.now.items) (written.formula right.now))) }
+{
+    let other = guarded_form(alloc, binders, right)?;
+    Ok(paired(form, other))
 }
 
 // The form that is made so far, and all that follow.
@@ -236,7 +271,7 @@ fn and_all<'a>(
     let mut made = form;
     for part in more {
         let next = guarded_form(alloc, binders, part)?;
-        made = both(alloc, made, next)?;
+        made = both(alloc, paired(made, next))?;
     }
     Ok(made)
 }
@@ -255,7 +290,7 @@ fn or_any<'a>(
     let mut made = form;
     for part in more {
         let next = guarded_form(alloc, binders, part)?;
-        made = either(alloc, made, next)?;
+        made = either(alloc, paired(made, next))?;
     }
     Ok(made)
 }

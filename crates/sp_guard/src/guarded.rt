@@ -3,7 +3,8 @@
 ghost use Rattle.std.specs.Prelude.{◌≡◌, ◌&&◌, ◌||◌, [], ◌∷◌, map};
 ghost use Rattle.sp_spec.specs.Guarded as spec_guarded;
 ghost use Rattle.sp_formula.specs.PlaceView.{place_of, placed_term};
-ghost use Rattle.sp_formula.specs.FormulaView.{moment_of, atom_of, binder_of, guardeds_of, formula_of};
+ghost use Rattle.sp_spec.specs.Guarded.{guardeds_of};
+ghost use Rattle.sp_formula.specs.FormulaView.{moment_of, atom_of, binder_of, formula_of};
 ghost use Rattle.sp_law_guard.specs.IsGuarded as spec;
 
 use sp_formula::formula::{Atom, Binder, Formula, Moment};

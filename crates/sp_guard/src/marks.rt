@@ -1,6 +1,6 @@
 // The findings on a written formula, and its guarded form where there are none.
 
-ghost use Rattle.std.specs.Prelude.{◌≡◌, [], ◌∷◌, ◌++◌, ◌&&◌, not, IfOk, map, option_map};
+ghost use Rattle.std.specs.Prelude.{◌≡◌, [], ◌∷◌, ◌++◌, ◌&&◌, not, if◌then◌else◌, Some, None, IfOk, map, option_map};
 ghost use Rattle.sp_spec.specs.Written.{in_term, in_terms};
 ghost use Rattle.sp_spec.specs.Findings.{is_wide};
 ghost use Rattle.sp_spec_text.specs.Shapes.{quantified};
@@ -209,15 +209,30 @@ fn or_wide(so_far: bool, more: &Vec<ReadFormula>) -> bool
     wide
 }
 
-// Whether there are no findings on the formula with this guarded form.
-fn is_right(alloc: Global, formula: &ReadFormula, form: &Formula) -> Result<bool, AllocError>
-    ensures { IfOk result (λ b. b ≡ (is_guarded (formula_of form.now) && (spec.marks_fit [] (written.formula formula.now) && not (spec.has_wide (written.formula formula.now))))) }
+// Whether the formula's variables are marked as their binders are, and no action of it has too many arguments.
+fn is_plain(alloc: Global, formula: &ReadFormula) -> Result<bool, AllocError>
+    ensures { IfOk result (λ b. b ≡ (spec.marks_fit [] (written.formula formula.now) && not (spec.has_wide (written.formula formula.now)))) }
 {
     let none = Vec::new(alloc);
     let fit = marks_fit(alloc, &none, formula)?;
     let wide = has_wide(formula);
-    let guarded = is_guarded(form);
-    Ok(guarded && fit && !wide)
+    Ok(fit && !wide)
+}
+
+// The guarded form of a formula outside of all binders.
+fn closed_form(alloc: Global, formula: &ReadFormula) -> Result<Option<Formula>, AllocError>
+    ensures { IfOk result (λ o. option_map formula_of o ≡ forms.guarded_form [] (written.formula formula.now)) }
+{
+    let none = Vec::new(alloc);
+    guarded_form(alloc, &none, formula)
+}
+
+// The form, where it is guarded and its formula is plain.
+fn if_guarded(form: Formula, plain: bool) -> Option<Formula>
+    ensures { option_map formula_of result ≡ (if is_guarded (formula_of form) && plain then Some (formula_of form) else None) }
+{
+    let right = is_guarded(&form) && plain;
+    right.then_some(form)
 }
 
 /// The guarded form of the formula. None where it has none, or there are findings on it.
@@ -228,12 +243,9 @@ fn is_right(alloc: Global, formula: &ReadFormula, form: &Formula) -> Result<bool
 pub fn checked_form(alloc: Global, formula: &ReadFormula) -> Result<Option<Formula>, AllocError>
     ensures { IfOk result (λ o. option_map formula_of o ≡ spec.checked_form (written.formula formula.now)) }
 {
-    let none = Vec::new(alloc);
-    let Some(form) = guarded_form(alloc, &none, formula)? else {
+    let plain = is_plain(alloc, formula)?;
+    let Some(form) = closed_form(alloc, formula)? else {
         return Ok(None);
     };
-    if !is_right(alloc, formula, &form)? {
-        return Ok(None);
-    }
-    Ok(Some(form))
+    Ok(if_guarded(form, plain))
 }

@@ -2,7 +2,8 @@
 
 ghost use Rattle.std.specs.Prelude.{◌≡◌, IfOk, map};
 ghost use Rattle.sp_spec.specs.Guarded as guarded;
-ghost use Rattle.sp_formula.specs.FormulaView.{atom_of, binder_of, guardeds_of, formula_of};
+ghost use Rattle.sp_spec.specs.Guarded.{guardeds_of};
+ghost use Rattle.sp_formula.specs.FormulaView.{atom_of, binder_of, formula_of};
 ghost use Rattle.sp_law_guard.specs.GuardedForm as spec;
 ghost use Rattle.sp_guard.specs.NegatedAction.{is_action, is_negated_action, held};
 

@@ -83,7 +83,7 @@ pub fn action_placed<'a>(
     let Some(time) = time_place(meant(binders, at.name)) else {
         return Ok(None);
     };
-    let symbol = action.symbol.copy()?;
+    let symbol = action.symbol.clone()?;
     Ok(Some(Atom::Acts(FormulaAction { symbol, args }, time)))
 }
 

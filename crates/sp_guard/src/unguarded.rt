@@ -1,6 +1,6 @@
 // The first variable of a written formula that is not guarded, in the order of the text.
 
-ghost use Rattle.std.specs.Prelude.{◌≡◌, ◌≤◌, ◌<◌, ◌+◌, ◌^◌, IfOk, length, map};
+ghost use Rattle.std.specs.Prelude.{◌≡◌, ◌≤◌, ◌<◌, ◌+◌, ◌^◌, ◌++◌, IfOk, length, map};
 ghost use Rattle.std.specs.Option.{option_or};
 ghost use Rattle.sp_read_parts.specs.Views as view;
 ghost use Rattle.sp_spec.specs.Formula as formulas;
@@ -78,6 +78,16 @@ impl QuantifierAbove {
             above = above.below(variable);
         }
         above
+    }
+
+    /// Below an All of these variables.
+    fn below_all(self, variables: &Vec<WrittenVariable>) -> QuantifierAbove
+        requires { self.of_all + length variables.now.items < 2 ^ 64 }
+        ensures exact { above_of result ≡ spec.turned (below_each (map view.variable variables.now.items) (spec.turned (above_of self))) }
+        ensures all_more { result.of_all ≤ self.of_all + length variables.now.items }
+        ensures no_more { result.of_some ≤ self.of_some }
+    {
+        self.turned().below_each(variables).turned()
     }
 }
 
@@ -165,28 +175,45 @@ fn unguarded<'a>(
         ReadFormula::Not(denied) => unguarded(alloc, binders, above.turned(), denied),
         ReadFormula::Both(left, right, more) | ReadFormula::Either(left, right, more) => {
             let first = unguarded(alloc, binders, NOTHING_ABOVE, left)?;
-            let found = or_unguarded(alloc, first, binders, NOTHING_ABOVE, right)?;
+            let found = or_unguarded_alone(alloc, first, binders, right)?;
             or_unguarded_later(alloc, found, binders, more)
         }
         ReadFormula::Implies(left, right) | ReadFormula::Equivalent(left, right) => {
             let found = unguarded(alloc, binders, NOTHING_ABOVE, left)?;
-            or_unguarded(alloc, found, binders, NOTHING_ABOVE, right)
+            or_unguarded_alone(alloc, found, binders, right)
         }
         ReadFormula::ForAll(named, body) => {
-            let found = named_by(alloc, &*binders, above.of_all, formula, &*named)?;
-            let inner = within(alloc, &*binders, &*named)?;
-            let below = above.turned().below_each(named).turned();
-            let first = or_unguarded(alloc, found, &inner, below, body)?;
-            Ok(first)
+            let below = above.below_all(named);
+            unguarded_behind(alloc, body, named, binders, above.of_all, below, formula)
         }
         ReadFormula::ForSome(named, body) => {
-            let found = named_by(alloc, &*binders, above.of_some, formula, &*named)?;
-            let inner = within(alloc, &*binders, &*named)?;
             let below = above.below_each(named);
-            let first = or_unguarded(alloc, found, &inner, below, body)?;
-            Ok(first)
+            unguarded_behind(alloc, body, named, binders, above.of_some, below, formula)
         }
     }
+}
+
+// The first of the names behind this quantifier that is not guarded, or else the first such variable of its body. The quantifier that
+// it is joined with binds `outer` messages, and `below` are those above the body.
+#[cycle(unguarded)]
+fn unguarded_behind<'a>(
+    alloc: Global,
+    body: &ReadFormula<'a>,
+    named: &Vec<WrittenVariable<'a>>,
+    binders: &Vec<WrittenVariable<'a>>,
+    outer: u64,
+    below: QuantifierAbove,
+    quantifier: &ReadFormula<'a>,
+) -> Result<Option<&'a str>, AllocError>
+    requires few_outside { outer ≤ length binders.now.items }
+    requires few_in_some { below.of_some ≤ length binders.now.items + length named.now.items }
+    requires few_in_all { below.of_all ≤ length binders.now.items + length named.now.items }
+    ensures { IfOk result (λ o. name_of o ≡ option_or (named_in_form outer (form.guarded_form (innermost_first binders.now.items) (written.formula quantifier.now)) (map view.variable named.now.items))
+        (spec.unguarded (innermost_first (binders.now.items ++ named.now.items)) (above_of below) (written.formula body.now))) }
+{
+    let found = named_by(alloc, binders, outer, quantifier, named)?;
+    let inner = within(alloc, binders, named)?;
+    or_unguarded(alloc, found, &inner, below, body)
 }
 
 // What is found already, or else the first variable that is not guarded in the formulas that follow.
@@ -202,9 +229,22 @@ fn or_unguarded_later<'a>(
 {
     let mut found = before;
     for part in more {
-        found = or_unguarded(alloc, found, binders, NOTHING_ABOVE, part)?;
+        found = or_unguarded_alone(alloc, found, binders, part)?;
     }
     Ok(found)
+}
+
+// What is found already, or else the first variable that is not guarded in a formula that no quantifier stands directly above.
+#[cycle(unguarded)]
+fn or_unguarded_alone<'a>(
+    alloc: Global,
+    found: Option<&'a str>,
+    binders: &Vec<WrittenVariable<'a>>,
+    formula: &ReadFormula<'a>,
+) -> Result<Option<&'a str>, AllocError>
+    ensures { IfOk result (λ o. name_of o ≡ option_or (name_of found.entry) (spec.unguarded (innermost_first binders.now.items) spec.nothing_above (written.formula formula.now))) }
+{
+    or_unguarded(alloc, found, binders, NOTHING_ABOVE, formula)
 }
 
 /// What is found already, or else the first variable inside these binders that is not guarded.

@@ -61,7 +61,7 @@ impl Library for SureLibrary {
 }
 
 /// A sink that takes every piece whole, and keeps and tells nothing. It never fails.
-#[derive(Clone, Copy, Debug)]
+#[derive(Clone, Copy)]
 pub struct SureSink;
 
 impl Sink for SureSink {

@@ -1,6 +1,5 @@
 -- What holds of accepted equations.
 use Rattle.std.specs.Prelude.{◌≡◌, ℕ, List}
-use Rattle.sp_spec.specs.Lists.{Member}
 use Rattle.sp_spec.specs.Signature.{Symbol, Equation, HasSymbol}
 use Rattle.sp_law_equal.specs.SubtermRules.{AreSubtermRules, BringInNoSymbols}
 use Rattle.sp_law_equal.specs.NormalForms.{HaveNormalForms, KeepSymbols}

@@ -19,13 +19,14 @@ use Rattle.sp_spec_system.specs.Covering.{NoneSolved, Covers}
 use Rattle.sp_law_system.specs.Laws.{UnifierIsRight}
 use Rattle.sp_spec_system.specs.Equating.{action_pair, unifier_of, system_changed}
 use Rattle.sp_spec.proofs.Lists.{every_append, every_parts, every_member, every_at}
-use Rattle.sp_law_system.proofs.Numbers.{each_weaken_all, happening_made}
+use Rattle.sp_law_equal.proofs.Made.{each_weaken_all}
+use Rattle.sp_law_system.proofs.Numbers.{happening_made}
 use Rattle.sp_law_system.proofs.Merging.{action_under}
 use Rattle.sp_law_system.proofs.Solutions.{Under, TimeUnder, agrees_then, change_numbered}
 use Rattle.sp_spec_system.specs.Formulas.{freed_action}
 use Rattle.sp_spec_system.specs.MakingOne.{event_at}
 use Rattle.sp_spec_proof.specs.Rows.{has_place, is_contradictory, simplified}
-use Rattle.sp_spec_system.specs.Move.{Move, simplify, contradiction, unproved, solved, or, action, premise, know, chain, Context, Case, end_log}
+use Rattle.sp_spec_system.specs.Move.{Move, simplify, contradiction, unproved, solved, or, action, premise, know, chain, Context, Case, end_log, systems_in}
 use Rattle.sp_spec_system.specs.Cases.{where_same, renamed, system_if, named}
 use Rattle.sp_spec_formula.specs.Action.{with_step, by_actions, by_each, action_cases, action_at_time, solving_action, by_forms, by_adversary}
 use Rattle.sp_spec_graph.specs.Premise.{open_premise, premise_cases}
@@ -33,7 +34,7 @@ use Rattle.sp_spec_graph.specs.Know.{know_cases}
 use Rattle.sp_spec_graph.specs.Chain.{chain_cases}
 use Rattle.sp_spec_proof.specs.Cases.{raw_cases, simple_case, cases}
 use Rattle.sp_law_system.specs.Rules.{SuitsProofs, RulesAreNumbered, IsNumberedForm, FormsAreNumbered, FormsAreWhole}
-use Rattle.sp_law_system.specs.Proofs.{IsContextOf, IsWellMade, IsKept, systems_of, IsPast, CoversBelow}
+use Rattle.sp_law_system.specs.Proofs.{IsContextOf, IsWellMade, IsKept, IsPast, CoversBelow}
 use Rattle.sp_law_cover.specs.Laws.{MovesCover}
 use Rattle.sp_law_formula.proofs.Freed.{freed_action_in}
 use Rattle.sp_spec.proofs.Options.{mapped}
@@ -108,7 +109,7 @@ goes_below theory s cs c = record { below = λ log is v h none. c.covers log is 
     each log v (c ∷ cs) none = ((λ w agrees h. none.0 log ([], refl) w h), each log v cs none.1)
 
 -- what holds of the systems of cases
-pub every_system : (P : System → Type 0) (cs : List Case) → Every P (systems_of cs) → Every (λ (c : Case). P c.system) cs
+pub every_system : (P : System → Type 0) (cs : List Case) → Every P (systems_in cs) → Every (λ (c : Case). P c.system) cs
 every_system P [] h = tt
 every_system P (c ∷ cs) h = (h.0, every_system P cs h.1)
 
@@ -136,12 +137,12 @@ module _ (N : Names) (right : UnifierIsRight) (theory : Theory) (suits : SuitsPr
       every_append (Later N s.next) cs (by_forms name forms s i a) (same_numbered N right s.next (with_step s i name form) (omega arith) num a (renamed s.next form.facts).actions wide own) (forms_numbered_by name forms k.1 s n i iu a au)
 
   by_each_numbered : (rules : List RuleForms) → FormsAreNumbered N rules → (s : System) → IsNumbered N s → (i : ℕ) → i < s.next → (a : Action Variable) → AllMadeOf N (Under s.next) a.args
-      → Every (Later N s.next) (systems_of (by_each rules s i a))
+      → Every (Later N s.next) (systems_in (by_each rules s i a))
   by_each_numbered [] k s n i iu a au = tt
   by_each_numbered (rule ∷ rules) k s n i iu a au =
       let own = by_forms rule.name rule.forms s i a in
       subst (Every (Later N s.next)) (sym (systems_append (named rule.name own) (by_each rules s i a)))
-      (every_append (Later N s.next) (systems_of (named rule.name own)) (systems_of (by_each rules s i a))
+      (every_append (Later N s.next) (systems_in (named rule.name own)) (systems_in (by_each rules s i a))
       (subst (Every (Later N s.next)) (sym (named_systems rule.name own)) (forms_numbered_by rule.name rule.forms k.0 s n i iu a au)) (by_each_numbered rules k.1 s n i iu a au))
 
   abbrev forms : List RuleForms
@@ -154,25 +155,25 @@ module _ (N : Names) (right : UnifierIsRight) (theory : Theory) (suits : SuitsPr
       (i.1, freed_action_in N (Under s.next) r.atom r.terms r.freed i.0)
 
   cases_numbered : (s : System) → IsNumbered N s → (i : ℕ) → i < s.next → (a : Action Variable) → AllMadeOf N (Under s.next) a.args → (o : Option Event) → event_at i s.events ≡ o
-      → Every (Later N s.next) (systems_of (action_cases forms s i a o))
+      → Every (Later N s.next) (systems_in (action_cases forms s i a o))
   cases_numbered s n i iu a au None e =
       let steps = by_each forms s i a in
       let adversary = by_adversary s i a.symbol a.args in
       subst (Every (Later N s.next)) (sym (systems_append steps adversary))
-      (every_append (Later N s.next) (systems_of steps) (systems_of adversary) (by_each_numbered forms each_numbered s n i iu a au) (adversary_numbered N s n i iu a.symbol a.args au))
+      (every_append (Later N s.next) (systems_in steps) (systems_in adversary) (by_each_numbered forms each_numbered s n i iu a au) (adversary_numbered N s n i iu a.symbol a.args au))
   cases_numbered s n i iu a au (Some d) e =
       let found = event_found i s.events d e in
       let inside = (every_member (InEvent N (Under s.next) (TimeUnder s.next)) s.events d found.0 n.events).1 in
       subst (Every (Later N s.next)) (sym (at_event_systems s a 0 (happening_actions d.happening))) (same_numbered N right s.next s (le_refl s.next) n a (happening_actions d.happening) au (happening_made N (Under s.next) (TimeUnder s.next) d.happening inside).actions)
 
-  action_numbered : (s : System) → IsNumbered N s → (k : ℕ) (cs : List Case) → solving_action forms s (slice_get s.formulas k) ≡ Some cs → Every (Later N s.next) (systems_of cs)
+  action_numbered : (s : System) → IsNumbered N s → (k : ℕ) (cs : List Case) → solving_action forms s (slice_get s.formulas k) ≡ Some cs → Every (Later N s.next) (systems_in cs)
   action_numbered s n k cs e =
       let p = at_place forms s k cs e in
       let r = p.2 in
       let i = action_in_system s n k p.0 cs p.1 r in
-      subst (λ (x : List Case). Every (Later N s.next) (systems_of x)) (sym r.cases) (cases_numbered s n r.time i.0 r.terms i.1 (event_at r.time s.events) refl)
+      subst (λ (x : List Case). Every (Later N s.next) (systems_in x)) (sym r.cases) (cases_numbered s n r.time i.0 r.terms i.1 (event_at r.time s.events) refl)
 
-  action_covers : (s : System) → IsNumbered N s → (k : ℕ) (cs : List Case) → solving_action forms s (slice_get s.formulas k) ≡ Some cs → Covers theory s (systems_of cs)
+  action_covers : (s : System) → IsNumbered N s → (k : ℕ) (cs : List Case) → solving_action forms s (slice_get s.formulas k) ≡ Some cs → Covers theory s (systems_in cs)
   action_covers s n k cs e =
       let p = at_place forms s k cs e in
       let r = p.2 in
@@ -180,13 +181,13 @@ module _ (N : Names) (right : UnifierIsRight) (theory : Theory) (suits : SuitsPr
       record {
         covers = λ log is v h none.
             let f = subst (FormulaHolds theory log v) r.is_action (every_at _ s.formulas k p.0 p.1 h.formulas) in
-            f.0 (λ y. acting s n r.atom r.terms r.freed r.time i.0 i.1 log is v h f.1.0.0 y (event_at r.time s.events) refl (subst (λ (x : List Case). NoneSolved theory log v s.next (systems_of x)) r.cases none));
+            f.0 (λ y. acting s n r.atom r.terms r.freed r.time i.0 i.1 log is v h f.1.0.0 y (event_at r.time s.events) refl (subst (λ (x : List Case). NoneSolved theory log v s.next (systems_in x)) r.cases none));
       }
     where
       acting : (s : System) (n : IsNumbered N s) (f : Action Place) (a : Action Variable) (freed : freed_action f ≡ Some a) (i : ℕ) (i_under : i < s.next) (a_under : AllMadeOf N (Under s.next) a.args)
           (log : Log) (is : IsLog theory log) (v : Valuation) (h : Solves theory log v s)
           → AreNormal (signature_of theory).equations (action_in (assignment v) f).args → Acts (signature_of theory).equations (log_trace log) (v.times i) (action_in (assignment v) f)
-          → (o : Option Event) → event_at i s.events ≡ o → NoneSolved theory log v s.next (systems_of (action_cases forms s i a o)) → ⊥
+          → (o : Option Event) → event_at i s.events ≡ o → NoneSolved theory log v s.next (systems_in (action_cases forms s i a o)) → ⊥
       acting s n f a freed i iu au log is v h normal_f y None e none =
           new_event_solved N right theory good each_numbered whole s n f a freed i iu au log is v h y.2 y.0 y.1 y.3 normal_f y.4 none
       acting s n f a freed i iu au log is v h normal_f y (Some d) e none =
@@ -211,22 +212,22 @@ module _ (N : Names) (right : UnifierIsRight) (theory : Theory) (suits : SuitsPr
   by_chain_rules context r s i cs e = subst (λ (rules : Rules). chain_cases (destructions rules.signature) s i ≡ Some cs) r e
 
   -- before the cases are simplified
-  raw_numbered : (context : Context) → context.rules ≡ rules_of theory → (s : System) (move : Move) (cs : List Case) → raw_cases context s move ≡ Some cs → IsNumbered N s → Every (Later N s.next) (systems_of cs)
+  raw_numbered : (context : Context) → context.rules ≡ rules_of theory → (s : System) (move : Move) (cs : List Case) → raw_cases context s move ≡ Some cs → IsNumbered N s → Every (Later N s.next) (systems_in cs)
   raw_numbered context r s simplify cs e n = at (has_place context.rules s) e
     where
-      at : (b : Bool) → (if b then Some (record { name = []; system = s } ∷ []) else None) ≡ Some cs → Every (Later N s.next) (systems_of cs)
-      at true k = let one : Case = record { name = []; system = s } in let g : one ∷ [] ≡ cs = cc in subst (λ (x : List Case). Every (Later N s.next) (systems_of x)) g ((n, le_refl s.next), tt)
+      at : (b : Bool) → (if b then Some (record { name = []; system = s } ∷ []) else None) ≡ Some cs → Every (Later N s.next) (systems_in cs)
+      at true k = let one : Case = record { name = []; system = s } in let g : one ∷ [] ≡ cs = cc in subst (λ (x : List Case). Every (Later N s.next) (systems_in x)) g ((n, le_refl s.next), tt)
       at false k = absurd cc
   raw_numbered context r s contradiction cs e n = at (is_contradictory context.rules s) e
     where
-      at : (b : Bool) → (if b then Some [] else None) ≡ Some cs → Every (Later N s.next) (systems_of cs)
-      at true k = let none : List Case = [] in let g : none ≡ cs = cc in subst (λ (x : List Case). Every (Later N s.next) (systems_of x)) g tt
+      at : (b : Bool) → (if b then Some [] else None) ≡ Some cs → Every (Later N s.next) (systems_in cs)
+      at true k = let none : List Case = [] in let g : none ≡ cs = cc in subst (λ (x : List Case). Every (Later N s.next) (systems_in x)) g tt
       at false k = absurd cc
-  raw_numbered context r s unproved cs e n = let none : List Case = [] in let g : none ≡ cs = cc in subst (λ (x : List Case). Every (Later N s.next) (systems_of x)) g tt
+  raw_numbered context r s unproved cs e n = let none : List Case = [] in let g : none ≡ cs = cc in subst (λ (x : List Case). Every (Later N s.next) (systems_in x)) g tt
   raw_numbered context r s solved cs e n = at (is_some (end_log context s)) e
     where
-      at : (b : Bool) → (if b then Some [] else None) ≡ Some cs → Every (Later N s.next) (systems_of cs)
-      at true k = let none : List Case = [] in let g : none ≡ cs = cc in subst (λ (x : List Case). Every (Later N s.next) (systems_of x)) g tt
+      at : (b : Bool) → (if b then Some [] else None) ≡ Some cs → Every (Later N s.next) (systems_in cs)
+      at true k = let none : List Case = [] in let g : none ≡ cs = cc in subst (λ (x : List Case). Every (Later N s.next) (systems_in x)) g tt
       at false k = absurd cc
   raw_numbered context r s (or k) cs e n = or_numbered s n k cs e
   raw_numbered context r s (action k) cs e n = action_numbered s n k cs (by_rules context r s k cs e)
@@ -235,15 +236,15 @@ module _ (N : Names) (right : UnifierIsRight) (theory : Theory) (suits : SuitsPr
   raw_numbered context r s (chain i) cs e n = chain_numbered N right theory suits.instances s n i cs (by_chain_rules context r s i cs e)
 
   raw_covers : (context : Context) → context.rules ≡ rules_of theory → (s : System) (move : Move) (cs : List Case) → raw_cases context s move ≡ Some cs
-      → (move ≡ unproved → ⊥) → (move ≡ solved → ⊥) → IsNumbered N s → ((k : ℕ) → N (fresh_name k) → ⊥) → Covers theory s (systems_of cs)
+      → (move ≡ unproved → ⊥) → (move ≡ solved → ⊥) → IsNumbered N s → ((k : ℕ) → N (fresh_name k) → ⊥) → Covers theory s (systems_in cs)
   raw_covers context r s simplify cs e not_open not_end n no_names = at (has_place context.rules s) e
     where
-      at : (b : Bool) → (if b then Some (record { name = []; system = s } ∷ []) else None) ≡ Some cs → Covers theory s (systems_of cs)
-      at true k = let one : Case = record { name = []; system = s } in let g : one ∷ [] ≡ cs = cc in subst (λ (x : List Case). Covers theory s (systems_of x)) g (covers_itself theory s)
+      at : (b : Bool) → (if b then Some (record { name = []; system = s } ∷ []) else None) ≡ Some cs → Covers theory s (systems_in cs)
+      at true k = let one : Case = record { name = []; system = s } in let g : one ∷ [] ≡ cs = cc in subst (λ (x : List Case). Covers theory s (systems_in x)) g (covers_itself theory s)
       at false k = absurd cc
   raw_covers context r s contradiction cs e not_open not_end n no_names = at (is_contradictory context.rules s) refl e
     where
-      at : (b : Bool) → is_contradictory context.rules s ≡ b → (if b then Some [] else None) ≡ Some cs → Covers theory s (systems_of cs)
+      at : (b : Bool) → is_contradictory context.rules s ≡ b → (if b then Some [] else None) ≡ Some cs → Covers theory s (systems_in cs)
       at true c k = record { covers = λ log is v h none. no_solution N right theory suits equal_truth context.rules r s c n log is v h }
       at false c k = absurd cc
   raw_covers context r s unproved cs e not_open not_end n no_names = absurd (not_open refl)
@@ -263,34 +264,34 @@ module _ (right : UnifierIsRight) (theory : Theory) (suits : SuitsProofs theory)
     simple_follows : (s : System) → IsNumbered N s → IsKept context s (simplified context.rules s) × Covers theory s (simplified context.rules s ∷ [])
     simple_follows s n = simplified_follows theory (rows_cover right theory suits equal_truth) context is_of 10000 s (record { numbered = n })
 
-    simple_kept : (s : System) (cs : List Case) → Every (Later N s.next) (systems_of cs) → Every (IsKept context s) (systems_of (map (simple_case context.rules) cs))
+    simple_kept : (s : System) (cs : List Case) → Every (Later N s.next) (systems_in cs) → Every (IsKept context s) (systems_in (map (simple_case context.rules) cs))
     simple_kept s [] h = tt
     simple_kept s (c ∷ cs) h =
         let f = simple_follows c.system h.0.0 in
         (record { well_made = f.0.well_made; next = le_trans h.0.1 f.0.next }, simple_kept s cs h.1)
 
-    simple_solved : (log : Log) → IsLog theory log → (n : ℕ) (v : Valuation) (cs : List Case) → Every (Later N n) (systems_of cs) → NoneSolved theory log v n (systems_of (map (simple_case context.rules) cs)) → NoneSolved theory log v n (systems_of cs)
+    simple_solved : (log : Log) → IsLog theory log → (n : ℕ) (v : Valuation) (cs : List Case) → Every (Later N n) (systems_in cs) → NoneSolved theory log v n (systems_in (map (simple_case context.rules) cs)) → NoneSolved theory log v n (systems_in cs)
     simple_solved log is n v [] h none = tt
     simple_solved log is n v (c ∷ cs) h none =
         let f = simple_follows c.system h.0.0 in
         ((λ w a k. f.1.covers log is w k ((λ x b l. none.0 x (agrees_then n c.system.next v w x h.0.1 a b) l), tt)), simple_solved log is n v cs h.1 none.1)
 
-    move_kept : (s : System) (move : Move) (cs : List Case) → cases context s move ≡ Some cs → IsWellMade context s → Every (IsKept context s) (systems_of cs)
+    move_kept : (s : System) (move : Move) (cs : List Case) → cases context s move ≡ Some cs → IsWellMade context s → Every (IsKept context s) (systems_in cs)
     move_kept s move cs e made =
         let r = mapped (map (simple_case context.rules)) (raw_cases context s move) cs e in
-        subst (λ (x : List Case). Every (IsKept context s) (systems_of x)) (sym r.2) (simple_kept s r.0 (raw_numbered N right theory suits is_of.numbered equal_truth context is_of.rules s move r.0 r.1 made.numbered))
+        subst (λ (x : List Case). Every (IsKept context s) (systems_in x)) (sym r.2) (simple_kept s r.0 (raw_numbered N right theory suits is_of.numbered equal_truth context is_of.rules s move r.0 r.1 made.numbered))
 
-    move_covers : (s : System) (move : Move) (cs : List Case) → cases context s move ≡ Some cs → (move ≡ unproved → ⊥) → (move ≡ solved → ⊥) → IsWellMade context s → Covers theory s (systems_of cs)
+    move_covers : (s : System) (move : Move) (cs : List Case) → cases context s move ≡ Some cs → (move ≡ unproved → ⊥) → (move ≡ solved → ⊥) → IsWellMade context s → Covers theory s (systems_in cs)
     move_covers s move cs e not_open not_end made =
         let r = mapped (map (simple_case context.rules)) (raw_cases context s move) cs e in
         let raw = raw_covers N right theory suits is_of.numbered equal_truth context is_of.rules s move r.0 r.1 not_open not_end made.numbered (λ k h. h) in
         let num = raw_numbered N right theory suits is_of.numbered equal_truth context is_of.rules s move r.0 r.1 made.numbered in
-        subst (λ (x : List Case). Covers theory s (systems_of x)) (sym r.2)
+        subst (λ (x : List Case). Covers theory s (systems_in x)) (sym r.2)
         (record { covers = λ log is v h none. raw.covers log is v h (simple_solved log is s.next v r.0 num none) })
 
   pub moves_cover : MovesCover theory
   moves_cover = record {
     kept = move_kept;
     covers = move_covers;
-    covers_below = λ context is_of s move cs e not_open not_end made. goes_below theory s (systems_of cs) (move_covers context is_of s move cs e not_open not_end made);
+    covers_below = λ context is_of s move cs e not_open not_end made. goes_below theory s (systems_in cs) (move_covers context is_of s move cs e not_open not_end made);
   }

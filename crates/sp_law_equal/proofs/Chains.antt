@@ -23,6 +23,12 @@ module _ (es : List Equation) where
   equal_sym t u (forth l h) = equal_trans u _ t (equal_sym _ u h) (back l end)
   equal_sym t u (back l h) = equal_trans u _ t (equal_sym _ u h) (forth l end)
 
+  -- what each rewriting keeps is the same of equal terms
+  pub chain_kept : {A : Type 0} (f : Ground → A) → ((t u : Ground) → Rewriting es t u → f t ≡ f u) → (t u : Ground) → Equal es t u → f t ≡ f u
+  chain_kept f kept t u end = refl
+  chain_kept f kept t u (forth l h) = kept _ _ l ∙ chain_kept f kept _ u h
+  chain_kept f kept t u (back l h) = sym (kept _ _ l) ∙ chain_kept f kept _ u h
+
   -- a place of a term that each rewriting may stand in
   in_place : (c : Ground → Ground) → ((t u : Ground) → Rewriting es t u → Rewriting es (c t) (c u)) → (t u : Ground) → Equal es t u → Equal es (c t) (c u)
   in_place c on t u end = end

@@ -13,3 +13,4 @@ pub mod Pairs
 pub mod Facts
 pub mod Decided
 pub mod PlainFacts
+pub mod Made

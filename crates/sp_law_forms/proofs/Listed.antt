@@ -1,17 +1,14 @@
 -- No left side matches a term in a form, and no two forms have the same facts.
-use Rattle.std.proofs.Common.{◌≡◌, ℕ, Bool, true, false, not, ◌&&◌, cond, List, [], ◌∷◌, map, refl, sym, ap, ◌∙◌, subst, true≢false}
-use Rattle.std.proofs.lemmas.Bool.{and_from, and_parts}
-use Rattle.std.proofs.lemmas.Slice.Eq.{bytes_eq-Decides}
+use Rattle.std.proofs.Common.{◌≡◌, ℕ, Bool, true, false, not, cond, List, [], ◌∷◌, map, sym, ap, ◌∙◌, subst, true≢false}
+use Rattle.std.proofs.lemmas.Bool.{and_parts}
 use Rattle.std.specs.List.{filter, list_any}
 use Rattle.sp_spec.specs.Lists.{Member, Distinct}
 use Rattle.sp_spec.specs.Term.{Variable, Term, app, Terms, valued}
 use Rattle.sp_spec.specs.Signature.{Equation}
-use Rattle.sp_spec.specs.Same.{same_variable, alike_all}
-use Rattle.sp_spec.specs.Rule.{Fact, Action, Facts, Rule}
+use Rattle.sp_spec.specs.Rule.{Rule}
 use Rattle.sp_spec.proofs.Lists.{every_member, member_mapped, member_map}
 use Rattle.sp_law_equal.specs.Parts.{IsPartOfOne}
 use Rattle.sp_law_equal.proofs.Parts.{part_of_one_keeps}
-use Rattle.sp_spec.proofs.Same.{same_variable_decides, same_all_by_decides}
 use Rattle.sp_spec_forms.proofs.Alike.{alike_facts_from}
 use Rattle.sp_spec_forms.specs.Numbering.{Form, without_repeats}
 use Rattle.sp_spec_forms.specs.Reducible.{args_of, is_matched, irreducible, irreducible_all}

@@ -10,7 +10,7 @@ use Rattle.sp_spec.proofs.Same.{same_variable_decides}
 use Rattle.sp_spec.proofs.Bindings.{is_match, none_matches}
 use Rattle.sp_law_unify.specs.MostGeneral.{IsOfSort}
 use Rattle.sp_law_unify.proofs.Sorts.{nothing_put}
-use Rattle.sp_law_system.proofs.Numbers.{each_weaken}
+use Rattle.sp_law_equal.proofs.Made.{each_weaken}
 use Rattle.sp_spec_forms.specs.Reducible.{is_matched}
 use Rattle.sp_law_forms.proofs.Numbered.{same_valued}
 

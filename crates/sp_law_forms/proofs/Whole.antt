@@ -13,7 +13,7 @@ use Rattle.sp_law_equal.specs.Right.{no_names, HaveNoNames}
 use Rattle.sp_law_equal.specs.NormalForms.{HasNormalForms}
 use Rattle.sp_law_equal.specs.RightTheory.{HasNormalInstances}
 use Rattle.sp_law_system.specs.Rules.{RulesAreNumbered, IsNumberedForm, FormsAreNumbered, FormsAreWhole}
-use Rattle.sp_law_system.proofs.Numbers.{each_valued, each_valued_all, facts_valued, facts_weaken}
+use Rattle.sp_law_equal.proofs.Made.{each_valued, each_valued_all, facts_valued, facts_weaken, all_made_both}
 use Rattle.sp_law_system.proofs.Unifying.{mgu_within}
 use Rattle.sp_spec_forms.specs.Narrowing.{Chosen, narrow_facts}
 use Rattle.sp_spec_forms.specs.Forms.{RuleForms, rule_variables, form_by, results, forms, forms_of}
@@ -51,22 +51,11 @@ module _ (N : Names) where
 
 -- what holds of the names, and of the variables
 module _ (N : Names) (P : Variable → Type 0) where
-  mutual
-    pub made_both : (t : Term Variable) → MadeOf N any_variable t → MadeOf any_names P t → MadeOf N P t
-    made_both (var x) h k = k
-    made_both (constant c) h k = h
-    made_both (name n) h k = h
-    made_both (app f ts) h k = all_made_both ts h k
-
-    pub all_made_both : (ts : Terms Variable) → AllMadeOf N any_variable ts → AllMadeOf any_names P ts → AllMadeOf N P ts
-    all_made_both none h k = tt
-    all_made_both (more t ts) h k = (made_both t h.0 k.0, all_made_both ts h.1 k.1)
-
   facts_made_both : (f : Facts Variable) → FactsMadeOf N any_variable f → FactsMadeOf any_names P f → FactsMadeOf N P f
   facts_made_both f h k = record {
-    premises = every_both _ _ _ (λ (g : Fact Variable) a b. all_made_both g.args a b) f.premises h.premises k.premises;
-    actions = every_both _ _ _ (λ (g : Action Variable) a b. all_made_both g.args a b) f.actions h.actions k.actions;
-    conclusions = every_both _ _ _ (λ (g : Fact Variable) a b. all_made_both g.args a b) f.conclusions h.conclusions k.conclusions;
+    premises = every_both _ _ _ (λ (g : Fact Variable) a b. all_made_both N any_names P g.args a b) f.premises h.premises k.premises;
+    actions = every_both _ _ _ (λ (g : Action Variable) a b. all_made_both N any_names P g.args a b) f.actions h.actions k.actions;
+    conclusions = every_both _ _ _ (λ (g : Fact Variable) a b. all_made_both N any_names P g.args a b) f.conclusions h.conclusions k.conclusions;
   }
 
 module _ (N : Names) (es : List Equation) (nameless : HaveNoNames es) where

@@ -17,17 +17,17 @@ use Rattle.sp_spec_system.specs.Covering.{Agrees, NoneSolved}
 use Rattle.sp_law_system.specs.Laws.{UnifierIsRight}
 use Rattle.sp_spec.proofs.Lists.{every_parts, every_member, member_mapped, position_one, member_map}
 use Rattle.sp_law_system.proofs.Facts.{action_same}
-use Rattle.sp_law_system.proofs.Numbers.{each_weaken_all, happening_made}
+use Rattle.sp_law_equal.proofs.Made.{each_weaken_all}
+use Rattle.sp_law_system.proofs.Numbers.{happening_made}
 use Rattle.sp_law_system.proofs.Solutions.{Under, TimeUnder, agrees_itself}
 use Rattle.sp_spec_system.specs.Formulas.{freed_action}
 use Rattle.sp_spec_system.specs.MakingOne.{event_at}
-use Rattle.sp_spec_system.specs.Move.{Case}
+use Rattle.sp_spec_system.specs.Move.{Case, systems_in}
 use Rattle.sp_spec_system.specs.Cases.{renamed, named}
 use Rattle.sp_spec_forms.specs.Numbering.{Form}
 use Rattle.sp_spec_forms.specs.Forms.{RuleForms, forms, forms_of}
 use Rattle.sp_spec_formula.specs.Action.{with_step, by_actions, by_each, by_adversary, by_forms}
 use Rattle.sp_law_system.specs.Rules.{IsNumberedForm, FormsAreNumbered, FormsAreWhole}
-use Rattle.sp_law_system.specs.Proofs.{systems_of}
 use Rattle.sp_law_formula.proofs.ByAdversary.{send_covered, learn_covered}
 use Rattle.sp_law_formula.proofs.Freed.{freed_action_value}
 use Rattle.sp_law_formula.proofs.Learnt.{entry_normal}
@@ -57,22 +57,22 @@ by_forms_part theory log v n name (q ∷ forms) s i a form m none =
 
 -- and those of the rule among those of all
 by_each_part : (theory : Theory) (log : Log) (v : Valuation) (n : ℕ) (rules : List RuleForms) (s : System) (i : ℕ) (a : Action Variable) (rule : RuleForms) → Member rule rules
-    → NoneSolved theory log v n (systems_of (by_each rules s i a)) → NoneSolved theory log v n (by_forms rule.name rule.forms s i a)
+    → NoneSolved theory log v n (systems_in (by_each rules s i a)) → NoneSolved theory log v n (by_forms rule.name rule.forms s i a)
 by_each_part theory log v n [] s i a rule m none = absurd m
 by_each_part theory log v n (q ∷ rules) s i a rule m none =
-    at m (every_parts _ (systems_of (named q.name (by_forms q.name q.forms s i a))) (systems_of (by_each rules s i a))
+    at m (every_parts _ (systems_in (named q.name (by_forms q.name q.forms s i a))) (systems_in (by_each rules s i a))
     (subst (NoneSolved theory log v n) (systems_append (named q.name (by_forms q.name q.forms s i a)) (by_each rules s i a)) none))
     (λ k l. by_each_part theory log v n rules s i a rule k l)
   where
-    at : Member rule (q ∷ rules) → NoneSolved theory log v n (systems_of (named q.name (by_forms q.name q.forms s i a))) × NoneSolved theory log v n (systems_of (by_each rules s i a))
-        → (Member rule rules → NoneSolved theory log v n (systems_of (by_each rules s i a)) → NoneSolved theory log v n (by_forms rule.name rule.forms s i a)) → NoneSolved theory log v n (by_forms rule.name rule.forms s i a)
+    at : Member rule (q ∷ rules) → NoneSolved theory log v n (systems_in (named q.name (by_forms q.name q.forms s i a))) × NoneSolved theory log v n (systems_in (by_each rules s i a))
+        → (Member rule rules → NoneSolved theory log v n (systems_in (by_each rules s i a)) → NoneSolved theory log v n (by_forms rule.name rule.forms s i a)) → NoneSolved theory log v n (by_forms rule.name rule.forms s i a)
     at (inl g) parts later =
         subst (λ (x : RuleForms). NoneSolved theory log v n (by_forms x.name x.forms s i a)) g (subst (NoneSolved theory log v n) (named_systems q.name (by_forms q.name q.forms s i a)) parts.0)
     at (inr k) parts later = later k parts.1
 
 -- the cases of a form of a rule of the theory are among those of all
 form_part : (theory : Theory) (log : Log) (v : Valuation) (n : ℕ) (es : List Equation) (rules : List Rule) (s : System) (i : ℕ) (a : Action Variable) (r : Rule) → Member r rules → (form : Form) → Member form (forms es r)
-    → NoneSolved theory log v n (systems_of (by_each (map (forms_of es) rules) s i a)) → NoneSolved theory log v n (by_actions (with_step s i r.name form) a (renamed s.next form.facts).actions)
+    → NoneSolved theory log v n (systems_in (by_each (map (forms_of es) rules) s i a)) → NoneSolved theory log v n (by_actions (with_step s i r.name form) a (renamed s.next form.facts).actions)
 form_part theory log v n es rules s i a r m form k none =
     by_forms_part theory log v n r.name (forms es r) s i a form k (by_each_part theory log v n (map (forms_of es) rules) s i a (forms_of es r) (member_map (forms_of es) r rules m) none)
 
@@ -121,7 +121,7 @@ module _ (N : Names) (right : UnifierIsRight) (theory : Theory) (good : HaveNorm
     by_form_solved : (r : List ℕ) (facts : Facts ⊥) (sources : List Source) → AtPosition log (v.times i) (step r facts sources) → IsFormStep theory r facts
         → (shown : Action ⊥) → Member shown facts.actions → AreNormal (signature_of theory).equations shown.args
         → AreNormal (signature_of theory).equations (action_in (assignment v) f).args → SameAction (signature_of theory).equations (action_in (assignment v) f) shown
-        → NoneSolved theory log v s.next (systems_of (by_each (map (forms_of (signature_of theory).equations) theory.rules) s i a)) → ⊥
+        → NoneSolved theory log v s.next (systems_in (by_each (map (forms_of (signature_of theory).equations) theory.rules) s i a)) → ⊥
     by_form_solved r facts sources k of shown m shown_normal normal_f same_f none =
         let es = (signature_of theory).equations in
         let form = of.form in
@@ -139,10 +139,10 @@ module _ (N : Names) (right : UnifierIsRight) (theory : Theory) (good : HaveNorm
     -- by a new event: a step, or what the adversary does
     pub new_event_solved : (shown : Action ⊥) → (actions : List (Action ⊥)) → AtPosition (log_trace log) (v.times i) actions → Member shown actions
         → AreNormal (signature_of theory).equations (action_in (assignment v) f).args → SameAction (signature_of theory).equations (action_in (assignment v) f) shown
-        → NoneSolved theory log v s.next (systems_of (by_each (map (forms_of (signature_of theory).equations) theory.rules) s i a ++ by_adversary s i a.symbol a.args)) → ⊥
+        → NoneSolved theory log v s.next (systems_in (by_each (map (forms_of (signature_of theory).equations) theory.rules) s i a ++ by_adversary s i a.symbol a.args)) → ⊥
     new_event_solved shown actions there m normal_f same_f none =
         at entry.0 entry.1 (subst (Member shown) entry.2 m)
-        (every_parts (λ (c : System). _) (systems_of own) (systems_of done) (subst (NoneSolved theory log v s.next) (systems_append own done) none))
+        (every_parts (λ (c : System). _) (systems_in own) (systems_in done) (subst (NoneSolved theory log v s.next) (systems_append own done) none))
       where
         own : List Case
         own = by_each (map (forms_of (signature_of theory).equations) theory.rules) s i a
@@ -157,7 +157,7 @@ module _ (N : Names) (right : UnifierIsRight) (theory : Theory) (good : HaveNorm
         alone : (b : Action ⊥) (e : Entry) → AtPosition log (v.times i) e → Member shown (entry_actions e) → b ≡ shown → action_at v.terms a ≡ b
         alone b e k l one = is_shown shown (entry_normal theory log is (v.times i) e k shown l) normal_f same_f ∙ sym one
 
-        at : (e : Entry) → AtPosition log (v.times i) e → Member shown (entry_actions e) → NoneSolved theory log v s.next (systems_of own) × NoneSolved theory log v s.next (systems_of done) → ⊥
+        at : (e : Entry) → AtPosition log (v.times i) e → Member shown (entry_actions e) → NoneSolved theory log v s.next (systems_in own) × NoneSolved theory log v s.next (systems_in done) → ⊥
         at (send t) k (inl l) parts =
             let one = alone (sends t) (send t) k (inl l) l in
             send_covered theory log v s h i a.symbol a.args t (ap (λ (x : Action ⊥). x.symbol) one) (ap (λ (x : Action ⊥). x.args) one) k parts.1

@@ -17,42 +17,41 @@ use Rattle.sp_law_system.specs.Laws.{UnifierIsRight}
 use Rattle.sp_spec_system.specs.Equating.{action_pair, unifier_of, system_changed}
 use Rattle.sp_spec.proofs.Lists.{every_append, every_parts}
 use Rattle.sp_law_system.proofs.Facts.{facts_same, facts_at-facts_at}
-use Rattle.sp_law_system.proofs.Numbers.{facts_valued, facts_weaken}
+use Rattle.sp_law_equal.proofs.Made.{facts_valued, facts_weaken}
 use Rattle.sp_law_system.proofs.Merging.{Paired, action_paired}
 use Rattle.sp_law_system.proofs.Solutions.{Under, TimeUnder, agree_solves, change_solves}
-use Rattle.sp_spec_system.specs.Move.{Case}
+use Rattle.sp_spec_system.specs.Move.{Case, systems_in}
 use Rattle.sp_spec_system.specs.Cases.{where_same, case_if, renamed, system_if, numbered, named}
 use Rattle.sp_spec_formula.specs.Action.{at_event, with_step, by_actions}
-use Rattle.sp_law_system.specs.Proofs.{systems_of}
 use Rattle.sp_law_formula.proofs.Entries.{beside, beside_agrees, beside_new, each_beside}
 use Rattle.sp_spec_forms.specs.Numbering.{Form}
 use Rattle.sp_law_system.specs.Rules.{IsNumberedForm}
 use Rattle.sp_law_system.proofs.With.{events_solve, next_solves, events_numbered, next_numbered}
 
 -- the systems of named cases are those that were named
-numbered_systems : (name : List ℕ) (k : ℕ) (ss : List System) → systems_of (numbered name k ss) ≡ ss
+numbered_systems : (name : List ℕ) (k : ℕ) (ss : List System) → systems_in (numbered name k ss) ≡ ss
 numbered_systems name k [] = refl
 numbered_systems name k (s ∷ ss) = ap (λ (xs : List System). s ∷ xs) (numbered_systems name (suc k) ss)
 
-pub named_systems : (name : List ℕ) (ss : List System) → systems_of (named name ss) ≡ ss
+pub named_systems : (name : List ℕ) (ss : List System) → systems_in (named name ss) ≡ ss
 named_systems name [] = refl
 named_systems name (s ∷ []) = refl
 named_systems name (s ∷ t ∷ ss) = numbered_systems name 1 (s ∷ t ∷ ss)
 
-pub systems_append : (xs ys : List Case) → systems_of (xs ++ ys) ≡ systems_of xs ++ systems_of ys
+pub systems_append : (xs ys : List Case) → systems_in (xs ++ ys) ≡ systems_in xs ++ systems_in ys
 systems_append [] ys = refl
 systems_append (x ∷ xs) ys = ap (λ (r : List System). x.system ∷ r) (systems_append xs ys)
 
-case_systems : (name : List ℕ) (o : Option System) → systems_of (case_if name o) ≡ system_if o
+case_systems : (name : List ℕ) (o : Option System) → systems_in (case_if name o) ≡ system_if o
 case_systems name None = refl
 case_systems name (Some s) = refl
 
 -- the cases at an event, without their names
-pub at_event_systems : (s : System) (a : Action Variable) (n : ℕ) (bs : List (Action Variable)) → systems_of (at_event s a n bs) ≡ by_actions s a bs
+pub at_event_systems : (s : System) (a : Action Variable) (n : ℕ) (bs : List (Action Variable)) → systems_in (at_event s a n bs) ≡ by_actions s a bs
 at_event_systems s a n [] = refl
 at_event_systems s a n (b ∷ bs) =
     systems_append (case_if (codes "at_" ++ decimal n) (where_same s a b)) (at_event s a (suc n) bs)
-    ∙ ap (λ (xs : List System). xs ++ systems_of (at_event s a (suc n) bs)) (case_systems (codes "at_" ++ decimal n) (where_same s a b))
+    ∙ ap (λ (xs : List System). xs ++ systems_in (at_event s a (suc n) bs)) (case_systems (codes "at_" ++ decimal n) (where_same s a b))
     ∙ ap (λ (xs : List System). system_if (where_same s a b) ++ xs) (at_event_systems s a (suc n) bs)
 
 module _ (N : Names) (right : UnifierIsRight) (theory : Theory) (log : Log) where

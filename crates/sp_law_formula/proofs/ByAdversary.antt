@@ -10,7 +10,7 @@ use Rattle.sp_spec_system.specs.Solutions.{Valuation, HappensAt, HappensIn, Solv
 use Rattle.sp_spec_system.specs.Numbered.{InHappening, InEvent, IsNumbered}
 use Rattle.sp_spec_system.specs.Covering.{NoneSolved}
 use Rattle.sp_spec_formula.specs.Action.{done_there, by_adversary}
-use Rattle.sp_law_system.specs.Proofs.{systems_of}
+use Rattle.sp_spec_system.specs.Move.{systems_in}
 use Rattle.sp_law_system.proofs.Solutions.{Under, TimeUnder, agrees_itself}
 use Rattle.sp_law_system.proofs.With.{events_solve, events_numbered}
 use Rattle.sp_law_formula.proofs.Merged.{Later}
@@ -29,7 +29,7 @@ module _ (theory : Theory) (log : Log) (v : Valuation) (s : System) (h : Solves 
       events_solve theory log v s h (s.events ++ event ∷ []) (every_append (HappensIn log v) s.events (event ∷ []) h.events (k, tt))
 
   abbrev NoneOf : List ℕ → Terms Variable → Type 0
-  NoneOf symbol args = NoneSolved theory log v s.next (systems_of (by_adversary s i symbol args))
+  NoneOf symbol args = NoneSolved theory log v s.next (systems_in (by_adversary s i symbol args))
 
   pub send_covered : (symbol : List ℕ) (args : Terms Variable) (t : Ground) → symbol ≡ codes "K" → valued_all v.terms args ≡ more t none
       → AtPosition log (v.times i) (send t) → NoneOf symbol args → ⊥
@@ -59,12 +59,12 @@ module _ (N : Names) (s : System) (n : IsNumbered N s) (i : ℕ) (i_under : i < 
       )
 
   pub adversary_numbered : (symbol : List ℕ) (args : Terms Variable) → AllMadeOf N (Under s.next) args
-      → Every (Later N s.next) (systems_of (by_adversary s i symbol args))
+      → Every (Later N s.next) (systems_in (by_adversary s i symbol args))
   adversary_numbered symbol none u = tt
   adversary_numbered symbol (more m (more t ts)) u = tt
   adversary_numbered symbol (more m none) u = at (bytes_eq symbol (codes "K")) (bytes_eq symbol (codes "KU"))
     where
-      at : (b c : Bool) → Every (Later N s.next) (systems_of (
+      at : (b c : Bool) → Every (Later N s.next) (systems_in (
           if b then done_there (codes "Send") s i (sending m) ∷ []
           else if c then done_there (codes "Learn") s i (learning m anyhow) ∷ [] else []))
       at true c = (done_numbered (sending m) u.0, tt)

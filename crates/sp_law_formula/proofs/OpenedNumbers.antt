@@ -7,7 +7,8 @@ use Rattle.sp_spec.specs.Change.{Change, atom_changed, changed, opened, opening,
 use Rattle.sp_spec_system.specs.System.{System, with_next}
 use Rattle.sp_spec_system.specs.Numbered.{AtFree, AtFreeTime, InAtom, InFormula, IsNumbered}
 use Rattle.sp_spec.proofs.Lists.{every_append, every_map}
-use Rattle.sp_law_system.proofs.Numbers.{PutsIn, atom_changed_in, changed_in, each_weaken}
+use Rattle.sp_law_equal.proofs.Made.{each_weaken}
+use Rattle.sp_law_system.proofs.Numbers.{PutsIn, atom_changed_in, changed_in}
 use Rattle.sp_law_system.proofs.Solutions.{Under, TimeUnder}
 use Rattle.sp_spec_system.specs.Formulas.{first_formula}
 use Rattle.sp_spec_formula.specs.Open.{Existential, existential_of, opened_at, open_existential}

@@ -13,7 +13,7 @@ use Rattle.sp_spec_system.specs.Solutions.{Valuation, assignment}
 use Rattle.sp_spec_system.specs.Numbered.{AtFree, AtFreeTime}
 use Rattle.sp_spec_system.specs.Covering.{Agrees}
 use Rattle.sp_law_system.proofs.Facts.{valued_same}
-use Rattle.sp_law_system.proofs.Numbers.{each_weaken}
+use Rattle.sp_law_equal.proofs.Made.{each_weaken}
 use Rattle.sp_law_system.proofs.Solutions.{Under, TimeUnder}
 
 -- one more value, and one more position

@@ -11,9 +11,8 @@ use Rattle.sp_spec_system.specs.Numbered.{InFormula, InEach, IsNumbered}
 use Rattle.sp_spec_system.specs.Covering.{NoneSolved, Covers}
 use Rattle.sp_law_system.proofs.Solutions.{Under, TimeUnder, agrees_itself}
 use Rattle.sp_spec_system.specs.Formulas.{Found, behind}
-use Rattle.sp_spec_system.specs.Move.{Case}
+use Rattle.sp_spec_system.specs.Move.{Case, systems_in}
 use Rattle.sp_spec_formula.specs.Or.{by_part, disjunction_at, or_cases}
-use Rattle.sp_law_system.specs.Proofs.{systems_of}
 use Rattle.sp_spec.proofs.Options.{mapped}
 use Rattle.sp_law_formula.proofs.Merged.{Later}
 use Rattle.sp_law_formula.proofs.Spending.{IsFound, found_holds, spending_solves, spending_numbered}
@@ -41,14 +40,14 @@ picked_parts f fs e = absurd cc
 
 module _ (s : System) (r : Found Guardeds) (found : IsFound parts_if s.formulas r) where
   some_part_solved : (theory : Theory) (log : Log) (v : Valuation) → Solves theory log v s → (k : ℕ) (fs : Guardeds) → SomeHolds (signature_of theory) (log_trace log) (assignment v) fs
-      → EachSettled (signature_of theory) (length log) (assignment v) fs → NoneSolved theory log v s.next (systems_of (by_part s r k fs)) → ⊥
+      → EachSettled (signature_of theory) (length log) (assignment v) fs → NoneSolved theory log v s.next (systems_in (by_part s r k fs)) → ⊥
   some_part_solved theory log v h k no_more one settled none = one
   some_part_solved theory log v h k (and_then f fs) (inl true_part) settled none =
       none.0 v (agrees_itself s.next v) (spending_solves parts_if theory log v s r found (f ∷ []) ((true_part, settled.0), tt) h)
   some_part_solved theory log v h k (and_then f fs) (inr one) settled none = some_part_solved theory log v h (suc k) fs one settled.1 none.1
 
 module _ (N : Names) (s : System) (r : Found Guardeds) (found : IsFound parts_if s.formulas r) where
-  each_part_numbered : IsNumbered N s → (k : ℕ) (fs : Guardeds) → InEach N (Under s.next) (TimeUnder s.next) fs → Every (Later N s.next) (systems_of (by_part s r k fs))
+  each_part_numbered : IsNumbered N s → (k : ℕ) (fs : Guardeds) → InEach N (Under s.next) (TimeUnder s.next) fs → Every (Later N s.next) (systems_in (by_part s r k fs))
   each_part_numbered n k no_more i = tt
   each_part_numbered n k (and_then f fs) i = ((spending_numbered parts_if s r found (f ∷ []) (i.0, tt) n, le_refl s.next), each_part_numbered n (suc k) fs i.1)
 
@@ -57,21 +56,21 @@ or_found : (s : System) (o : Option (Found Guardeds)) (cs : List Case) → or_ca
 or_found s None cs e = absurd cc
 or_found s (Some r) cs e = (r, refl, let g : by_part s r 1 r.picked ≡ cs = cc in g)
 
-pub or_covers : (theory : Theory) (s : System) (k : ℕ) (cs : List Case) → or_cases s (disjunction_at k s.formulas) ≡ Some cs → Covers theory s (systems_of cs)
+pub or_covers : (theory : Theory) (s : System) (k : ℕ) (cs : List Case) → or_cases s (disjunction_at k s.formulas) ≡ Some cs → Covers theory s (systems_in cs)
 or_covers theory s k cs e =
     let q = or_found s (disjunction_at k s.formulas) cs e in
     let r = q.0 in
     let found = disjunction_found k s.formulas r q.1 in
-    subst (λ (x : List Case). Covers theory s (systems_of x)) q.2 (record {
+    subst (λ (x : List Case). Covers theory s (systems_in x)) q.2 (record {
       covers = λ log is v h none.
           let true_one = subst (FormulaHolds theory log v) (picked_parts r.formula r.picked found.picks) (found_holds parts_if s.formulas r found (FormulaHolds theory log v) h.formulas) in
           true_one.0 (λ one. some_part_solved s r found theory log v h 1 r.picked one true_one.1 none);
     })
 
-pub or_numbered : {N : Names} → (s : System) → IsNumbered N s → (k : ℕ) (cs : List Case) → or_cases s (disjunction_at k s.formulas) ≡ Some cs → Every (Later N s.next) (systems_of cs)
+pub or_numbered : {N : Names} → (s : System) → IsNumbered N s → (k : ℕ) (cs : List Case) → or_cases s (disjunction_at k s.formulas) ≡ Some cs → Every (Later N s.next) (systems_in cs)
 or_numbered {N} s n k cs e =
     let q = or_found s (disjunction_at k s.formulas) cs e in
     let r = q.0 in
     let found = disjunction_found k s.formulas r q.1 in
     let i = subst (InFormula N (Under s.next) (TimeUnder s.next)) (picked_parts r.formula r.picked found.picks) (found_holds parts_if s.formulas r found (InFormula N (Under s.next) (TimeUnder s.next)) n.formulas) in
-    subst (λ (x : List Case). Every (Later N s.next) (systems_of x)) q.2 (each_part_numbered N s r found n 1 r.picked i)
+    subst (λ (x : List Case). Every (Later N s.next) (systems_in x)) q.2 (each_part_numbered N s r found n 1 r.picked i)

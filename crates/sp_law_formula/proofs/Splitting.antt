@@ -4,14 +4,14 @@ use Rattle.std.proofs.lemmas.Bool.{or_cases}
 use Rattle.sp_spec.specs.Lists.{Every}
 use Rattle.sp_spec.specs.Term.{Names, Variable}
 use Rattle.sp_spec.specs.Theory.{Theory, signature_of}
-use Rattle.sp_spec.specs.Guarded.{Guarded, truth, falsity, all_of, Guardeds, no_more, and_then, EachHolds}
+use Rattle.sp_spec.specs.Guarded.{Guarded, truth, falsity, all_of, Guardeds, no_more, and_then, EachHolds, parts_of}
 use Rattle.sp_spec.specs.Log.{Log, log_trace}
 use Rattle.sp_spec_system.specs.System.{System}
 use Rattle.sp_spec_system.specs.Solutions.{Valuation, assignment, FormulaHolds, EachSettled, Solves}
 use Rattle.sp_spec_system.specs.Numbered.{InFormula, InEach, IsNumbered}
 use Rattle.sp_spec_system.specs.Covering.{Covers}
 use Rattle.sp_law_system.proofs.Solutions.{Under, TimeUnder}
-use Rattle.sp_spec_system.specs.Formulas.{first_formula, spending, parts_of}
+use Rattle.sp_spec_system.specs.Formulas.{first_formula, spending}
 use Rattle.sp_spec_formula.specs.Split.{split_of, split, is_falsity, has_falsity}
 use Rattle.sp_spec.proofs.Options.{mapped}
 use Rattle.sp_law_formula.proofs.Literals.{covers_by_itself}

@@ -7,7 +7,8 @@ use Rattle.sp_spec.specs.Change.{changed}
 use Rattle.sp_spec_system.specs.System.{Event, System}
 use Rattle.sp_spec_system.specs.Numbered.{AtFree, AtFreeTime, InAtom, InFormula, InEvent, IsNumbered}
 use Rattle.sp_spec.proofs.Lists.{every_append, every_member, every_weaken}
-use Rattle.sp_law_system.proofs.Numbers.{each_valued, happening_made, PutsIn, changed_in}
+use Rattle.sp_law_equal.proofs.Made.{each_valued}
+use Rattle.sp_law_system.proofs.Numbers.{happening_made, PutsIn, changed_in}
 use Rattle.sp_law_system.proofs.Solutions.{Under, TimeUnder}
 use Rattle.sp_spec_system.specs.Picked.{first_some}
 use Rattle.sp_spec_formula.specs.Disjunction.{is_a_formula}

@@ -19,11 +19,10 @@ use Rattle.sp_spec_system.specs.Solutions.{Valuation, Solves}
 use Rattle.sp_spec_system.specs.Numbered.{IsNumbered}
 use Rattle.sp_spec_system.specs.Covering.{NoneSolved, Covers}
 use Rattle.sp_spec_system.specs.Cases.{case_if}
-use Rattle.sp_spec_system.specs.Move.{Case}
+use Rattle.sp_spec_system.specs.Move.{Case, systems_in}
 use Rattle.sp_spec_graph.specs.Know.{with_way}
 use Rattle.sp_spec_graph.specs.Chain.{Begun, begun_at, with_same, is_pub_sort, is_no_end, done_case, numbered_from, with_link, by_destructions, chain_cases}
 use Rattle.sp_law_system.specs.Laws.{UnifierIsRight}
-use Rattle.sp_law_system.specs.Proofs.{systems_of}
 use Rattle.sp_law_system.proofs.Solutions.{agrees_itself}
 use Rattle.sp_law_formula.proofs.Actions.{systems_append}
 use Rattle.sp_law_formula.proofs.Merged.{Later, respects}
@@ -69,21 +68,21 @@ module _ (N : Names) (right : UnifierIsRight) (theory : Theory) (instances : Has
     done_way : IsNumbered N (with_way s i done)
     done_way = way_numbered s i done n (under.from, under.passed)
 
-    done_numbered : Every (Later N s.next) (systems_of (done_case s i b))
+    done_numbered : Every (Later N s.next) (systems_in (done_case s i b))
     done_numbered = at (is_no_end b.last)
       where
-        at : (c : Bool) → Every (Later N s.next) (systems_of (if c then [] else case_if (codes "done") (with_same (with_way s i done) b.last b.message)))
+        at : (c : Bool) → Every (Later N s.next) (systems_in (if c then [] else case_if (codes "done") (with_same (with_way s i done) b.last b.message)))
         at true = tt
         at false = same_numbered N right (with_way s i done) done_way b.last b.message (codes "done") s.next (le_refl s.next) under.last under.message
 
     links_numbered : (k : ℕ) (ds : List Destruction) → ((d : Destruction) → Member d ds → Member d (destructions signature))
-        → Every (Later N s.next) (systems_of (by_destructions s i b k ds))
+        → Every (Later N s.next) (systems_in (by_destructions s i b k ds))
     links_numbered k [] among = tt
     links_numbered k (d ∷ ds) among =
         let label = codes "chain_" ++ decimal k in
         let own = link_case label d in
         subst (Every (Later N s.next)) (sym (systems_append own (by_destructions s i b (suc k) ds)))
-        (every_append (Later N s.next) (systems_of own) (systems_of (by_destructions s i b (suc k) ds))
+        (every_append (Later N s.next) (systems_in own) (systems_in (by_destructions s i b (suc k) ds))
         (link_numbered N right theory nameless s n i under.time b under.from under.passed under.last d (among d (inl refl)) label)
         (links_numbered (suc k) ds (λ c m. among c (inr m))))
 
@@ -92,7 +91,7 @@ module _ (N : Names) (right : UnifierIsRight) (theory : Theory) (instances : Has
       m = valued v.terms b.message
 
       abbrev NoneOf : List Case → Type 0
-      NoneOf cs = NoneSolved theory log v s.next (systems_of cs)
+      NoneOf cs = NoneSolved theory log v s.next (systems_in cs)
 
       abbrev Learnt : List Ground → Type 0
       Learnt others = AtPosition log (v.times i) (learn m (by_chain (v.times b.from) b.conclusion (map (valued v.terms) b.passed ++ others)))
@@ -121,7 +120,7 @@ module _ (N : Names) (right : UnifierIsRight) (theory : Theory) (instances : Has
       link_part k (c ∷ ds) d among none_solved =
           let label = codes "chain_" ++ decimal k in
           at label among
-          (every_parts _ (systems_of (link_case label c)) (systems_of (by_destructions s i b (suc k) ds))
+          (every_parts _ (systems_in (link_case label c)) (systems_in (by_destructions s i b (suc k) ds))
           (subst (NoneSolved theory log v s.next) (systems_append (link_case label c) (by_destructions s i b (suc k) ds)) none_solved))
           (λ l. link_part (suc k) ds d l)
         where
@@ -162,21 +161,21 @@ module _ (N : Names) (right : UnifierIsRight) (theory : Theory) (instances : Has
 
   -- The move on a chain keeps the numbers.
   pub chain_numbered : (s : System) → IsNumbered N s → (i : ℕ) (cs : List Case) → chain_cases (destructions (signature_of theory)) s i ≡ Some cs
-      → Every (Later N s.next) (systems_of cs)
+      → Every (Later N s.next) (systems_in cs)
   chain_numbered s n i cs e =
       let r = mapped (cases_for s i) (begun_at s i) cs e in
       let b = r.0 in
       let a = chained s i b r.1 in
       let ended = done_case s i b in
       let further = by_destructions s i b 1 (destructions signature) in
-      subst (λ (x : List Case). Every (Later N s.next) (systems_of x)) (sym r.2)
+      subst (λ (x : List Case). Every (Later N s.next) (systems_in x)) (sym r.2)
       (subst (Every (Later N s.next)) (sym (systems_append ended further))
-      (every_append (Later N s.next) (systems_of ended) (systems_of further) (done_numbered s n i b a)
+      (every_append (Later N s.next) (systems_in ended) (systems_in further) (done_numbered s n i b a)
       (links_numbered s n i b a 1 (destructions signature) (λ d m. m))))
 
   -- It covers.
   pub chain_covers : (s : System) → IsNumbered N s → (i : ℕ) (cs : List Case) → chain_cases (destructions (signature_of theory)) s i ≡ Some cs
-      → Covers theory s (systems_of cs)
+      → Covers theory s (systems_in cs)
   chain_covers s n i cs e = record {
     covers = λ log is v h none_solved.
         let r = mapped (cases_for s i) (begun_at s i) cs e in
@@ -184,8 +183,8 @@ module _ (N : Names) (right : UnifierIsRight) (theory : Theory) (instances : Has
         let a = chained s i b r.1 in
         let ended = done_case s i b in
         let further = by_destructions s i b 1 (destructions signature) in
-        let none_of = subst (λ (x : List Case). NoneSolved theory log v s.next (systems_of x)) r.2 none_solved in
-        let parts = every_parts _ (systems_of ended) (systems_of further) (subst (NoneSolved theory log v s.next) (systems_append ended further) none_of) in
+        let none_of = subst (λ (x : List Case). NoneSolved theory log v s.next (systems_in x)) r.2 none_solved in
+        let parts = every_parts _ (systems_in ended) (systems_in further) (subst (NoneSolved theory log v s.next) (systems_append ended further) none_of) in
         let learnt = chain_learnt s i b a log v h.events in
         chain_solved s n i b a log is v h learnt.0 learnt.1 parts.0 parts.1;
   }

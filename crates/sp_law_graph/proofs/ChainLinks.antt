@@ -18,9 +18,9 @@ use Rattle.sp_spec_graph.specs.Know.{with_way}
 use Rattle.sp_spec_graph.specs.Chain.{Begun, with_same, numbered_from, variables_of, with_link}
 use Rattle.sp_law_forms.specs.Laws.{IsNormalValuation}
 use Rattle.sp_law_system.specs.Laws.{UnifierIsRight}
-use Rattle.sp_law_system.specs.Proofs.{systems_of}
+use Rattle.sp_spec_system.specs.Move.{systems_in}
 use Rattle.sp_law_system.proofs.Facts.{valued_same}
-use Rattle.sp_law_system.proofs.Numbers.{each_weaken}
+use Rattle.sp_law_equal.proofs.Made.{each_weaken}
 use Rattle.sp_law_system.proofs.Solutions.{Under, agree_solves, agrees_then}
 use Rattle.sp_law_system.proofs.With.{next_solves, next_numbered}
 use Rattle.sp_law_formula.proofs.Entries.{beside, beside_agrees, each_beside}
@@ -33,22 +33,22 @@ use Rattle.sp_law_graph.proofs.NewEvents.{SolvedLater}
 
 -- ---- two terms that are to be the same
 
-case_numbered : (N : Names) (k n : ℕ) (name : List ℕ) (o : Option System) → k ≤ n → NumberedFrom N n o → Every (Later N k) (systems_of (case_if name o))
+case_numbered : (N : Names) (k n : ℕ) (name : List ℕ) (o : Option System) → k ≤ n → NumberedFrom N n o → Every (Later N k) (systems_in (case_if name o))
 case_numbered N k n name None le h = tt
 case_numbered N k n name (Some t) le h = ((h.0, le_trans le h.1), tt)
 
 case_solved : (theory : Theory) (log : Log) (base : ℕ) (v w : Valuation) (name : List ℕ) (o : Option System) → Agrees base v w → SolvedBy theory log w o
-    → NoneSolved theory log v base (systems_of (case_if name o)) → ⊥
+    → NoneSolved theory log v base (systems_in (case_if name o)) → ⊥
 case_solved theory log base v w name None agrees h none_solved = h
 case_solved theory log base v w name (Some t) agrees h none_solved = none_solved.0 w agrees h
 
 module _ (N : Names) (right : UnifierIsRight) (t : System) (n : IsNumbered N t) (a c : Term Variable) (name : List ℕ) where
   pub same_numbered : (k : ℕ) → k ≤ t.next → MadeOf N (Under t.next) a → MadeOf N (Under t.next) c
-      → Every (Later N k) (systems_of (case_if name (with_same t a c)))
+      → Every (Later N k) (systems_in (case_if name (with_same t a c)))
   same_numbered k le ua uc = case_numbered N k t.next name (with_same t a c) le (pairs_numbered right t n ((a, c) ∷ []) ((ua, uc), tt))
 
   pub same_solved : (theory : Theory) (log : Log) (base : ℕ) (v w : Valuation) → Agrees base v w → Solves theory log w t → valued w.terms a ≡ valued w.terms c
-      → NoneSolved theory log v base (systems_of (case_if name (with_same t a c))) → ⊥
+      → NoneSolved theory log v base (systems_in (case_if name (with_same t a c))) → ⊥
   same_solved theory log base v w agrees h e none_solved =
       case_solved theory log base v w name (with_same t a c) agrees (pairs_solved right t n ((a, c) ∷ []) theory log w h (e, tt)) none_solved
 
@@ -102,7 +102,7 @@ module _ (N : Names) (right : UnifierIsRight) (theory : Theory) (nameless : Have
   further : (t : Term Variable) → MadeOf N (Under wide) t → MadeOf N (Under (with_link s i b d).next) t
   further = each_weaken N (Under wide) (Under (with_link s i b d).next) (λ x k. let le = link_later.1 in omega (arith, k, le))
 
-  pub link_numbered : (name : List ℕ) → Every (Later N s.next) (systems_of (case_if name (with_same (with_link s i b d) b.last (valued new d.pattern))))
+  pub link_numbered : (name : List ℕ) → Every (Later N s.next) (systems_in (case_if name (with_same (with_link s i b d) b.last (valued new d.pattern))))
   link_numbered name =
       let le = link_later.1 in
       same_numbered N right (with_link s i b d) link_later.0 b.last (valued new d.pattern) name s.next (omega (arith, le))
@@ -157,7 +157,7 @@ module _ (N : Names) (right : UnifierIsRight) (theory : Theory) (nameless : Have
         learnings_solved i theory log is (valued_all new d.sides) settled settled_numbered made.1 i_wide value settled_solved known_so
         (position_below log (value.times i) (learn m how) here)
 
-    pub link_solved : (name : List ℕ) → NoneSolved theory log v s.next (systems_of (case_if name (with_same (with_link s i b d) b.last (valued new d.pattern))))
+    pub link_solved : (name : List ℕ) → NoneSolved theory log v s.next (systems_in (case_if name (with_same (with_link s i b d) b.last (valued new d.pattern))))
         → ⊥
     link_solved name none_solved =
         let so = link_solution in

@@ -18,13 +18,13 @@ use Rattle.sp_law_equal.specs.Right.{HaveNoNames}
 use Rattle.sp_law_equal.specs.RightTheory.{StandsIn, StandsAmong}
 use Rattle.sp_law_forms.specs.Laws.{IsNormalValuation}
 use Rattle.sp_law_forms.proofs.Numbered.{back_place, place_below, each_once, at_places, at_places_good, same_valued, same_valued_all}
-use Rattle.sp_law_forms.proofs.Whole.{any_variable, without_names, made_both, all_made_both}
+use Rattle.sp_law_forms.proofs.Whole.{any_variable, without_names}
 use Rattle.sp_law_forms.proofs.Repeats.{member_once}
 use Rattle.sp_law_formula.proofs.Entries.{beside, beside_new}
 use Rattle.sp_law_log.specs.Laws.{StandsInDestruction}
 use Rattle.sp_law_log.specs.Ways.{args_with, sides, IsWay}
 use Rattle.sp_law_log.proofs.Destructions.{destruction_place}
-use Rattle.sp_law_system.proofs.Numbers.{each_valued, each_valued_all, each_weaken, each_weaken_all}
+use Rattle.sp_law_equal.proofs.Made.{each_valued, each_valued_all, each_weaken, each_weaken_all, made_both, all_made_both}
 use Rattle.sp_law_system.proofs.Solutions.{Under}
 
 -- ---- what a destruction is made of
@@ -130,11 +130,11 @@ module _ (d : Destruction) where
       let within : (x : Variable) → IsIn x → MadeOf N (Under (n + variables_of d)) (numbered_from n d x) =
       λ x k. let less = place_below once x k in let below : n + place once x < n + length once = omega (arith, less) in below in (
         each_valued N IsIn (Under (n + variables_of d)) (numbered_from n d) within d.pattern
-            (made_both N IsIn d.pattern made.0 (term_each IsIn d.pattern parts.0)),
+            (made_both N any_names IsIn d.pattern made.0 (term_each IsIn d.pattern parts.0)),
         each_valued_all N IsIn (Under (n + variables_of d)) (numbered_from n d) within d.sides
-            (all_made_both N IsIn d.sides made.1 (terms_each IsIn d.sides parts.1)),
+            (all_made_both N any_names IsIn d.sides made.1 (terms_each IsIn d.sides parts.1)),
         each_valued N IsIn (Under (n + variables_of d)) (numbered_from n d) within d.result
-            (made_both N IsIn d.result made.2 (term_each IsIn d.result parts.2)),
+            (made_both N any_names IsIn d.result made.2 (term_each IsIn d.result parts.2)),
       )
 
   module _ (w base : Values) where

@@ -6,7 +6,7 @@ use Rattle.sp_spec.specs.Term.{Names, Sort, Fresh, Variable, Term, var, constant
 use Rattle.sp_spec.specs.Signature.{HasSort, RespectsSorts}
 use Rattle.sp_spec.specs.Rule.{Fact, IsFreshVariable, fact_at, facts_at, fr}
 use Rattle.sp_spec.specs.Theory.{Theory}
-use Rattle.sp_spec.specs.Same.{alike}
+use Rattle.sp_spec.specs.Same.{alike, is_part, is_part_of_one}
 use Rattle.sp_spec.specs.Log.{Log, How, step, send, learn, rule_instance, way_of_learning, IsLog, is_fr, fresh_of, fresh_uses}
 use Rattle.sp_spec.specs.Log as logs
 use Rattle.sp_spec.proofs.Lists.{every_append, every_from, every_member, every_weaken, member_mapped, position_below, position_one, place_member}
@@ -32,7 +32,7 @@ use Rattle.sp_law_system.proofs.With.{BothUnder, order_solves, order_numbered}
 use Rattle.sp_law_formula.proofs.Literals.{covers_by_itself}
 use Rattle.sp_law_formula.proofs.Matches.{some_picked}
 use Rattle.sp_spec_graph.specs.Fresh.{first_term, fresh_terms, happening_fresh}
-use Rattle.sp_spec_graph.specs.FreshFirst.{occurs_in, occurs_among, has_taken, has_learnt, comes_later, is_missing, missing_pairs, missing_behind, fresh_first}
+use Rattle.sp_spec_graph.specs.FreshFirst.{has_taken, has_learnt, comes_later, is_missing, missing_pairs, missing_behind, fresh_first}
 use Rattle.sp_spec_graph.specs.LearnOnce.{learn_same, learn_once}
 use Rattle.sp_law_graph.proofs.FreshOnce.{one_position, fresh_values, fresh_member, happening_uses}
 use Rattle.sp_law_graph.proofs.LearnOnce.{each_learns_another}
@@ -88,13 +88,13 @@ fresh_first_numbered {N} s t e n =
 
 -- a premise other than an Fr in which the term stands
 taken_there : (t : Term Variable) (fs : List (Fact Variable)) → has_taken t fs ≡ true
-    → (a : ℕ) × (f : Fact Variable) × AtPlace fs a f × (is_fr f ≡ false) × (occurs_among t f.args ≡ true)
+    → (a : ℕ) × (f : Fact Variable) × AtPlace fs a f × (is_fr f ≡ false) × (is_part_of_one t f.args ≡ true)
 taken_there t [] e = absurd cc
 taken_there t (f ∷ fs) e =
     ⊎_elim
-    (λ k. let both = and_parts (not (is_fr f)) (occurs_among t f.args) k in (zero, f, refl, not-true (is_fr f) both.0, both.1))
+    (λ k. let both = and_parts (not (is_fr f)) (is_part_of_one t f.args) k in (zero, f, refl, not-true (is_fr f) both.0, both.1))
     (λ k. let r = taken_there t fs k in (suc r.0, r.1, r.2, r.3, r.4))
-    (or_cases (not (is_fr f) && occurs_among t f.args) (has_taken t fs) e)
+    (or_cases (not (is_fr f) && is_part_of_one t f.args) (has_taken t fs) e)
 
 -- the value of a term stands in the values of the terms in which it stands
 module _ (v : Values) (t : Term Variable) where
@@ -102,15 +102,15 @@ module _ (v : Values) (t : Term Variable) where
   alike_part u e = subst (λ (w : Term Variable). IsPart (valued v t) (valued v w)) (alike_same t u e) (part_itself (valued v t))
 
   mutual
-    occurs_part : (u : Term Variable) → occurs_in t u ≡ true → IsPart (valued v t) (valued v u)
+    occurs_part : (u : Term Variable) → is_part t u ≡ true → IsPart (valued v t) (valued v u)
     occurs_part (var x) e = alike_part (var x) e
     occurs_part (constant c) e = alike_part (constant c) e
     occurs_part (name n) e = alike_part (name n) e
-    occurs_part (app f us) e = ⊎_elim (λ k. alike_part (app f us) k) (λ k. inr (occurs_parts us k)) (or_cases (alike t (app f us)) (occurs_among t us) e)
+    occurs_part (app f us) e = ⊎_elim (λ k. alike_part (app f us) k) (λ k. inr (occurs_parts us k)) (or_cases (alike t (app f us)) (is_part_of_one t us) e)
 
-    occurs_parts : (us : Terms Variable) → occurs_among t us ≡ true → IsPartOfOne (valued v t) (valued_all v us)
+    occurs_parts : (us : Terms Variable) → is_part_of_one t us ≡ true → IsPartOfOne (valued v t) (valued_all v us)
     occurs_parts none e = absurd cc
-    occurs_parts (more u us) e = ⊎_elim (λ k. inl (occurs_part u k)) (λ k. inr (occurs_parts us k)) (or_cases (occurs_in t u) (occurs_among t us) e)
+    occurs_parts (more u us) e = ⊎_elim (λ k. inl (occurs_part u k)) (λ k. inr (occurs_parts us k)) (or_cases (is_part t u) (is_part_of_one t us) e)
 
 -- what a rule takes fresh is a variable of sort fresh
 abbrev TakesFresh : List (Fact Variable) → Type 0
@@ -138,7 +138,7 @@ fresh_name v sorts fs h t m =
     is_name t (subst (λ (s : Sort). HasSort s t) x.1 (subst (HasSort x.0.sort) whole (sorts x.0)))
 
 -- a term whose value is a name is the one that stands in it
-only_itself : (v : Values) (t u : Term Variable) (n : ℕ) → occurs_in t u ≡ true → valued v u ≡ name n → t ≡ u
+only_itself : (v : Values) (t u : Term Variable) (n : ℕ) → is_part t u ≡ true → valued v u ≡ name n → t ≡ u
 only_itself v t (var x) n e k = alike_same t (var x) e
 only_itself v t (constant c) n e k = alike_same t (constant c) e
 only_itself v t (name j) n e k = alike_same t (name j) e
@@ -222,7 +222,7 @@ module _ (N : Names) (right : UnifierIsRight) (theory : Theory) (good : HasNorma
           user_at q (origins.premise q y.0 y.1 y.2 y.3 f (place_member y.1.premises w.0 f y.4) n other part)
 
       -- what learns a message with the name is later, or learns the name itself as the adversary's own
-      learnt_later : (q : ℕ) (u : Term Variable) (way : Way) → HappensAt log q v (learning u way) → occurs_in t u ≡ true
+      learnt_later : (q : ℕ) (u : Term Variable) (way : Way) → HappensAt log q v (learning u way) → is_part t u ≡ true
           → (p < q) ⊎ ((a ≡ learning t own_name) × (t ≡ u))
       learnt_later q u way k e = at k.0 k.1
         where

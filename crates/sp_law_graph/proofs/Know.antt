@@ -22,10 +22,9 @@ use Rattle.sp_spec_system.specs.Solutions.{Valuation, Solves}
 use Rattle.sp_spec_system.specs.Numbered.{IsNumbered}
 use Rattle.sp_spec_system.specs.Covering.{NoneSolved, Covers}
 use Rattle.sp_spec_system.specs.Cases.{renamed, named}
-use Rattle.sp_spec_system.specs.Move.{Case}
+use Rattle.sp_spec_system.specs.Move.{Case, systems_in}
 use Rattle.sp_spec_system.specs.Rules.{rules_of}
 use Rattle.sp_spec_graph.specs.Know.{wanted_at, with_way, made_case, own_if, own_case, by_outputs, output_forms, by_each_output, know_cases, with_learnings}
-use Rattle.sp_law_system.specs.Proofs.{systems_of}
 use Rattle.sp_law_system.specs.Rules.{IsNumberedForm, FormsAreNumbered, FormsAreWhole}
 use Rattle.sp_law_system.proofs.Solutions.{Under, agrees_itself}
 use Rattle.sp_law_formula.proofs.Actions.{named_systems, systems_append, renamed_value}
@@ -61,17 +60,17 @@ form_part theory log v n rule (q ∷ forms) s i form m none_solved =
 
 -- and those of the rule among those of all
 rule_part : (theory : Theory) (log : Log) (v : Valuation) (n : ℕ) (rules : List RuleForms) (s : System) (i : ℕ) (rule : RuleForms) → Member rule rules
-    → NoneSolved theory log v n (systems_of (by_each_output rules s i)) → NoneByRule theory log v n s i rule
+    → NoneSolved theory log v n (systems_in (by_each_output rules s i)) → NoneByRule theory log v n s i rule
 rule_part theory log v n [] s i rule m none_solved = absurd m
 rule_part theory log v n (q ∷ rules) s i rule m none_solved =
-    at m (every_parts _ (systems_of (named q.name (output_forms q.name q.forms s i))) (systems_of (by_each_output rules s i))
+    at m (every_parts _ (systems_in (named q.name (output_forms q.name q.forms s i))) (systems_in (by_each_output rules s i))
     (subst (NoneSolved theory log v n) (systems_append (named q.name (output_forms q.name q.forms s i)) (by_each_output rules s i)) none_solved))
     (λ k l. rule_part theory log v n rules s i rule k l)
   where
     at : Member rule (q ∷ rules)
-        → NoneSolved theory log v n (systems_of (named q.name (output_forms q.name q.forms s i)))
-        × NoneSolved theory log v n (systems_of (by_each_output rules s i))
-        → (Member rule rules → NoneSolved theory log v n (systems_of (by_each_output rules s i)) → NoneByRule theory log v n s i rule)
+        → NoneSolved theory log v n (systems_in (named q.name (output_forms q.name q.forms s i)))
+        × NoneSolved theory log v n (systems_in (by_each_output rules s i))
+        → (Member rule rules → NoneSolved theory log v n (systems_in (by_each_output rules s i)) → NoneByRule theory log v n s i rule)
         → NoneByRule theory log v n s i rule
     at (inl g) parts later =
         subst (NoneByRule theory log v n s i) g (subst (NoneSolved theory log v n) (named_systems q.name (output_forms q.name q.forms s i)) parts.0)
@@ -90,34 +89,34 @@ module _ (N : Names) (theory : Theory) (s : System) (n : IsNumbered N s) (i : �
       (form_conclusions N theory s n i i_under rule form k.0))
       (output_forms_numbered rule forms k.1)
 
-  each_output_numbered : (rules : List RuleForms) → FormsAreNumbered N rules → Every (Later N s.next) (systems_of (by_each_output rules s i))
+  each_output_numbered : (rules : List RuleForms) → FormsAreNumbered N rules → Every (Later N s.next) (systems_in (by_each_output rules s i))
   each_output_numbered [] k = tt
   each_output_numbered (rule ∷ rules) k =
       let own = output_forms rule.name rule.forms s i in
       subst (Every (Later N s.next)) (sym (systems_append (named rule.name own) (by_each_output rules s i)))
-      (every_append (Later N s.next) (systems_of (named rule.name own)) (systems_of (by_each_output rules s i))
+      (every_append (Later N s.next) (systems_in (named rule.name own)) (systems_in (by_each_output rules s i))
       (subst (Every (Later N s.next)) (sym (named_systems rule.name own)) (output_forms_numbered rule.name rule.forms k.0)) (each_output_numbered rules k.1))
 
   abbrev symbols : List Symbol
   symbols = (signature_of theory).symbols
 
-  made_numbered : (m : Term Variable) → MadeOf N (Under s.next) m → Every (Later N s.next) (systems_of (made_case symbols s i m))
+  made_numbered : (m : Term Variable) → MadeOf N (Under s.next) m → Every (Later N s.next) (systems_in (made_case symbols s i m))
   made_numbered (var x) u = tt
   made_numbered (constant c) u = tt
   made_numbered (name k) u = tt
   made_numbered (app f ts) u = at (is_public symbols f (count ts))
     where
-      at : (b : Bool) → Every (Later N s.next) (systems_of (if b then made_of_parts s i ts ∷ [] else []))
+      at : (b : Bool) → Every (Later N s.next) (systems_in (if b then made_of_parts s i ts ∷ [] else []))
       at true = (learnings_numbered i ts (with_way s i ways.constructed) (way_numbered s i ways.constructed n tt) u i_under, tt)
       at false = tt
 
-  own_numbered : (m : Term Variable) → Every (Later N s.next) (systems_of (own_case s i m))
+  own_numbered : (m : Term Variable) → Every (Later N s.next) (systems_in (own_case s i m))
   own_numbered (constant c) = tt
   own_numbered (name k) = tt
   own_numbered (app f ts) = tt
   own_numbered (var x) = at x.sort
     where
-      at : (sort : Sort) → Every (Later N s.next) (systems_of (own_if s i sort))
+      at : (sort : Sort) → Every (Later N s.next) (systems_in (own_if s i sort))
       at Fresh = ((way_numbered s i ways.own_name n tt, le_refl s.next), tt)
       at Msg = tt
       at Pub = tt
@@ -126,19 +125,19 @@ module _ (N : Names) (theory : Theory) (s : System) (n : IsNumbered N s) (i : �
   module _ (log : Log) (is : IsLog theory log) (v : Valuation) (h : Solves theory log v s) where
     made_solved : (f : List ℕ) (us : Terms Variable) → AllMadeOf N (Under s.next) us → HasPublic symbols f (count (valued_all v.terms us))
         → AreLearntBefore log (v.times i) (valued_all v.terms us) → AtPosition log (v.times i) (learn (app f (valued_all v.terms us)) constructed)
-        → NoneSolved theory log v s.next (systems_of (made_case symbols s i (app f us))) → ⊥
+        → NoneSolved theory log v s.next (systems_in (made_case symbols s i (app f us))) → ⊥
     made_solved f us under public known there none_solved =
         let m : Ground = app f (valued_all v.terms us) in
         let test = is_public_from symbols f (count us) (subst (HasPublic symbols f) (count_valued v.terms us) public) in
         let settled = way_solved s i ways.constructed theory log v (way_at log (v.times i) v ways.constructed m constructed there refl) h in
         let so = learnings_solved i theory log is us (with_way s i ways.constructed) (way_numbered s i ways.constructed n tt) under i_under v settled known
         (position_below log (v.times i) (learn m constructed) there) in
-        (subst (λ (b : Bool). NoneSolved theory log v s.next (systems_of (if b then made_of_parts s i us ∷ [] else []))) test none_solved).0 so.0 so.1 so.2
+        (subst (λ (b : Bool). NoneSolved theory log v s.next (systems_in (if b then made_of_parts s i us ∷ [] else []))) test none_solved).0 so.0 so.1 so.2
 
     own_solved : (x : Variable) → x.sort ≡ Fresh → AtPosition log (v.times i) (learn (v.terms x) own_name)
-        → NoneSolved theory log v s.next (systems_of (own_case s i (var x))) → ⊥
+        → NoneSolved theory log v s.next (systems_in (own_case s i (var x))) → ⊥
     own_solved x e there none_solved =
-        (subst (λ (sort : Sort). NoneSolved theory log v s.next (systems_of (own_if s i sort))) e none_solved).0 v (agrees_itself s.next v)
+        (subst (λ (sort : Sort). NoneSolved theory log v s.next (systems_in (own_if s i sort))) e none_solved).0 v (agrees_itself s.next v)
         (way_solved s i ways.own_name theory log v (way_at log (v.times i) v ways.own_name (v.terms x) own_name there refl) h)
 
 -- a chain begins with its first message
@@ -162,7 +161,7 @@ module _ (N : Names) (theory : Theory) (good : HaveNormalForms (signature_of the
   module _ (s : System) (n : IsNumbered N s) (i : ℕ) (i_under : i < s.next) (log : Log) (is : IsLog theory log) (v : Valuation)
       (h : Solves theory log v s) where
     abbrev NoneOf : List Case → Type 0
-    NoneOf cs = NoneSolved theory log v s.next (systems_of cs)
+    NoneOf cs = NoneSolved theory log v s.next (systems_in cs)
 
     -- by a form of the rule of the step that puts out the chain's first message
     chain_solved : (m : Ground) (q k : ℕ) (chain : List Ground) → AtPosition log (v.times i) (learn m (by_chain q k chain)) → q < v.times i
@@ -217,7 +216,7 @@ module _ (N : Names) (theory : Theory) (good : HaveNormalForms (signature_of the
 
   -- The move on a message keeps the numbers.
   pub know_numbered : (s : System) → IsNumbered N s → (i : ℕ) (cs : List Case) → know_cases (rules_of theory) s i ≡ Some cs
-      → Every (Later N s.next) (systems_of cs)
+      → Every (Later N s.next) (systems_in cs)
   know_numbered s n i cs e =
       let symbols = (signature_of theory).symbols in
       let r = mapped (cases_for s i) (wanted_at symbols s i) cs e in
@@ -226,18 +225,18 @@ module _ (N : Names) (theory : Theory) (good : HaveNormalForms (signature_of the
       let made = made_case symbols s i m in
       let own = own_case s i m in
       let outputs = by_each_output rules s i in
-      let both : Every (Later N s.next) (systems_of own ++ systems_of outputs) =
-      every_append (Later N s.next) (systems_of own) (systems_of outputs) (own_numbered N theory s n i u.0 m)
+      let both : Every (Later N s.next) (systems_in own ++ systems_in outputs) =
+      every_append (Later N s.next) (systems_in own) (systems_in outputs) (own_numbered N theory s n i u.0 m)
       (each_output_numbered N theory s n i u.0 rules forms_numbered) in
-      let all : Every (Later N s.next) (systems_of made ++ systems_of (own ++ outputs)) =
-      every_append (Later N s.next) (systems_of made) (systems_of (own ++ outputs)) (made_numbered N theory s n i u.0 m u.1)
+      let all : Every (Later N s.next) (systems_in made ++ systems_in (own ++ outputs)) =
+      every_append (Later N s.next) (systems_in made) (systems_in (own ++ outputs)) (made_numbered N theory s n i u.0 m u.1)
       (subst (Every (Later N s.next)) (sym (systems_append own outputs)) both) in
-      subst (λ (x : List Case). Every (Later N s.next) (systems_of x)) (sym r.2)
+      subst (λ (x : List Case). Every (Later N s.next) (systems_in x)) (sym r.2)
       (subst (Every (Later N s.next)) (sym (systems_append made (own ++ outputs))) all)
 
   -- It covers.
   pub know_covers : ((k : ℕ) → N (fresh_name k) → ⊥) → (s : System) → IsNumbered N s → (i : ℕ) (cs : List Case) → know_cases (rules_of theory) s i ≡ Some cs
-      → Covers theory s (systems_of cs)
+      → Covers theory s (systems_in cs)
   know_covers no_names s n i cs e = record {
     covers = λ log is v h none_solved.
         let symbols = (signature_of theory).symbols in
@@ -248,11 +247,11 @@ module _ (N : Names) (theory : Theory) (good : HaveNormalForms (signature_of the
         let made = made_case symbols s i m in
         let own = own_case s i m in
         let outputs = by_each_output rules s i in
-        let none_of : NoneSolved theory log v s.next (systems_of (made ++ (own ++ outputs))) =
-        subst (λ (x : List Case). NoneSolved theory log v s.next (systems_of x)) r.2 none_solved in
-        let first = every_parts _ (systems_of made) (systems_of (own ++ outputs))
+        let none_of : NoneSolved theory log v s.next (systems_in (made ++ (own ++ outputs))) =
+        subst (λ (x : List Case). NoneSolved theory log v s.next (systems_in x)) r.2 none_solved in
+        let first = every_parts _ (systems_in made) (systems_in (own ++ outputs))
         (subst (NoneSolved theory log v s.next) (systems_append made (own ++ outputs)) none_of) in
-        let rest = every_parts _ (systems_of own) (systems_of outputs) (subst (NoneSolved theory log v s.next) (systems_append own outputs) first.1) in
+        let rest = every_parts _ (systems_in own) (systems_in outputs) (subst (NoneSolved theory log v s.next) (systems_append own outputs) first.1) in
         let here = asked_learnt symbols s i m a log v h.events in
         let b = entry_behind theory log is (v.times i) (learn (valued v.terms m) here.0) here.1 in
         by_way s n i u.0 log is v h no_names m u.1 a.is_wanted first.0 rest.0 rest.1 here.0 here.1 b (b.keeps way_of_learning);

@@ -16,7 +16,7 @@ use Rattle.sp_spec_system.specs.Numbered.{InEvent, IsNumbered}
 use Rattle.sp_spec_system.specs.MakingOne.{learnt_by_at}
 use Rattle.sp_spec_system.specs.Cases.{renamed, system_if}
 use Rattle.sp_spec_formula.specs.Action.{with_step}
-use Rattle.sp_spec_graph.specs.SendInput.{only_term}
+use Rattle.sp_spec_system.specs.Picked.{only_term}
 use Rattle.sp_spec_graph.specs.Know.{put_out, with_output, by_outputs}
 use Rattle.sp_law_system.specs.Rules.{IsNumberedForm}
 use Rattle.sp_law_system.proofs.LearntBy.{learnt_by_at_numbered, learnt_by_at_happens}

@@ -12,7 +12,7 @@ use Rattle.sp_spec_system.specs.Covering.{Agrees}
 use Rattle.sp_spec_system.specs.MakingOne.{learnt_by_at}
 use Rattle.sp_law_system.proofs.Facts.{valued_all_same}
 use Rattle.sp_law_system.proofs.LearntBy.{IsWayAt, learnt_by_at_happens, learnt_by_at_numbered}
-use Rattle.sp_law_system.proofs.Numbers.{each_weaken_all}
+use Rattle.sp_law_equal.proofs.Made.{each_weaken_all}
 use Rattle.sp_law_system.proofs.Solutions.{Under, TimeUnder, agrees_itself, agrees_then}
 use Rattle.sp_law_system.proofs.With.{events_solve, events_numbered}
 use Rattle.sp_law_formula.proofs.Merged.{Later}

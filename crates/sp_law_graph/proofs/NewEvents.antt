@@ -12,7 +12,7 @@ use Rattle.sp_spec_system.specs.Solutions.{Valuation, HappensAt, HappensIn, IsBe
 use Rattle.sp_spec_system.specs.Numbered.{InHappening, InEvent, IsNumbered}
 use Rattle.sp_spec_system.specs.Covering.{Agrees}
 use Rattle.sp_spec_system.specs.Order.{is_before}
-use Rattle.sp_law_system.proofs.Numbers.{each_weaken}
+use Rattle.sp_law_equal.proofs.Made.{each_weaken}
 use Rattle.sp_law_system.proofs.Solutions.{Under, TimeUnder, agrees_itself}
 use Rattle.sp_law_system.proofs.With.{BothUnder, events_solve, order_solves, next_solves, events_numbered, order_numbered, next_numbered}
 use Rattle.sp_spec_graph.specs.Learning.{is_learning_of, learning_of, with_event, learnt_from, learnt_before}

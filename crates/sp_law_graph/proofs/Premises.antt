@@ -14,14 +14,14 @@ use Rattle.sp_spec_system.specs.Covering.{Agrees, NoneSolved, Covers}
 use Rattle.sp_law_system.specs.Laws.{UnifierIsRight}
 use Rattle.sp_spec.proofs.Lists.{every_append, every_parts, every_member, place_got, member_map}
 use Rattle.sp_law_system.proofs.Facts.{valued_all_same}
-use Rattle.sp_law_system.proofs.Numbers.{each_weaken_all, happening_made}
+use Rattle.sp_law_equal.proofs.Made.{each_weaken_all}
+use Rattle.sp_law_system.proofs.Numbers.{happening_made}
 use Rattle.sp_law_system.proofs.Solutions.{Under, TimeUnder, agrees_then}
 use Rattle.sp_spec_system.specs.MakingOne.{event_at}
-use Rattle.sp_spec_system.specs.Move.{Case}
+use Rattle.sp_spec_system.specs.Move.{Case, systems_in}
 use Rattle.sp_spec_system.specs.Cases.{renamed, named}
 use Rattle.sp_spec_graph.specs.Premise.{awaiting, with_source, by_conclusions, by_each_source, premise_cases, is_linked, of_a_step, open_premise, source_forms}
 use Rattle.sp_law_system.specs.Rules.{IsNumberedForm, FormsAreNumbered, FormsAreWhole}
-use Rattle.sp_law_system.specs.Proofs.{systems_of}
 use Rattle.sp_law_formula.proofs.Entries.{entry_is_step, IsFormStep, form_step, numbered_form, beside, beside_agrees}
 use Rattle.sp_law_formula.proofs.Actions.{named_systems, systems_append, renamed_value, step_numbered, step_solved}
 use Rattle.sp_law_formula.proofs.ActionCovers.{event_found}
@@ -97,15 +97,15 @@ source_form_part theory log v n name (q ∷ forms) s i p f form m none =
 
 -- and those of the rule among those of all
 source_rule_part : (theory : Theory) (log : Log) (v : Valuation) (n : ℕ) (rules : List RuleForms) (s : System) (i p : ℕ) (f : Fact Variable) (rule : RuleForms) → Member rule rules
-    → NoneSolved theory log v n (systems_of (by_each_source rules s i p f)) → NoneSolved theory log v n (source_forms rule.name rule.forms s i p f)
+    → NoneSolved theory log v n (systems_in (by_each_source rules s i p f)) → NoneSolved theory log v n (source_forms rule.name rule.forms s i p f)
 source_rule_part theory log v n [] s i p f rule m none = absurd m
 source_rule_part theory log v n (q ∷ rules) s i p f rule m none =
-    at m (every_parts _ (systems_of (named q.name (source_forms q.name q.forms s i p f))) (systems_of (by_each_source rules s i p f))
+    at m (every_parts _ (systems_in (named q.name (source_forms q.name q.forms s i p f))) (systems_in (by_each_source rules s i p f))
     (subst (NoneSolved theory log v n) (systems_append (named q.name (source_forms q.name q.forms s i p f)) (by_each_source rules s i p f)) none))
     (λ k l. source_rule_part theory log v n rules s i p f rule k l)
   where
-    at : Member rule (q ∷ rules) → NoneSolved theory log v n (systems_of (named q.name (source_forms q.name q.forms s i p f))) × NoneSolved theory log v n (systems_of (by_each_source rules s i p f))
-        → (Member rule rules → NoneSolved theory log v n (systems_of (by_each_source rules s i p f)) → NoneSolved theory log v n (source_forms rule.name rule.forms s i p f))
+    at : Member rule (q ∷ rules) → NoneSolved theory log v n (systems_in (named q.name (source_forms q.name q.forms s i p f))) × NoneSolved theory log v n (systems_in (by_each_source rules s i p f))
+        → (Member rule rules → NoneSolved theory log v n (systems_in (by_each_source rules s i p f)) → NoneSolved theory log v n (source_forms rule.name rule.forms s i p f))
         → NoneSolved theory log v n (source_forms rule.name rule.forms s i p f)
     at (inl g) parts later =
         subst (λ (x : RuleForms). NoneSolved theory log v n (source_forms x.name x.forms s i p f)) g (subst (NoneSolved theory log v n) (named_systems q.name (source_forms q.name q.forms s i p f)) parts.0)
@@ -113,7 +113,7 @@ source_rule_part theory log v n (q ∷ rules) s i p f rule m none =
 
 -- the cases of a form of a rule of the theory are among those of all
 source_part : (theory : Theory) (log : Log) (v : Valuation) (n : ℕ) (es : List Equation) (rules : List Rule) (s : System) (i p : ℕ) (f : Fact Variable) (r : Rule) → Member r rules → (form : Form) → Member form (forms es r)
-    → NoneSolved theory log v n (systems_of (by_each_source (map (forms_of es) rules) s i p f)) → NoneSolved theory log v n (by_conclusions s i p f r.name form 0 (renamed (suc s.next) form.facts).conclusions)
+    → NoneSolved theory log v n (systems_in (by_each_source (map (forms_of es) rules) s i p f)) → NoneSolved theory log v n (by_conclusions s i p f r.name form 0 (renamed (suc s.next) form.facts).conclusions)
 source_part theory log v n es rules s i p f r m form k none =
     source_form_part theory log v n r.name (forms es r) s i p f form k (source_rule_part theory log v n (map (forms_of es) rules) s i p f (forms_of es r) (member_map (forms_of es) r rules m) none)
 
@@ -149,7 +149,7 @@ module _ (N : Names) (right : UnifierIsRight) (theory : Theory) (good : HaveNorm
 
     -- by a form of the entry's rule
     form_gives : (r : List ℕ) (facts : Facts ⊥) (sources : List Source) → AtPosition log q (step r facts sources) → IsFormStep theory r facts → AtPlace facts.conclusions k (fact_at v.terms f)
-        → NoneSolved theory log v s.next (systems_of (by_each_source (map (forms_of es) theory.rules) s i p f)) → ⊥
+        → NoneSolved theory log v s.next (systems_in (by_each_source (map (forms_of es) theory.rules) s i p f)) → ⊥
     form_gives r facts sources there of gives none =
         let form = of.form in
         let name = of.rule.name in
@@ -169,7 +169,7 @@ module _ (N : Names) (right : UnifierIsRight) (theory : Theory) (good : HaveNorm
         (subst (λ (z : Facts ⊥). AtPlace z.conclusions k (fact_at v.terms f)) facts_same gives)
         (source_part theory log v s.next es theory.rules s i p f of.rule of.member form of.among none)
 
-    entry_gives : is_in f ≡ false → (e : Entry) → AtPosition log q e → Concludes e k (fact_at v.terms f) → NoneSolved theory log v s.next (systems_of (by_each_source (map (forms_of es) theory.rules) s i p f)) → ⊥
+    entry_gives : is_in f ≡ false → (e : Entry) → AtPosition log q e → Concludes e k (fact_at v.terms f) → NoneSolved theory log v s.next (systems_in (by_each_source (map (forms_of es) theory.rules) s i p f)) → ⊥
     entry_gives no_in (send m) there gives none = let e : is_in f ≡ true = ap is_in gives.1 in cc
     entry_gives no_in (learn m how) there gives none = gives
     entry_gives no_in (step r facts sources) there gives none =
@@ -185,18 +185,18 @@ module _ (N : Names) (right : UnifierIsRight) (theory : Theory) (good : HaveNorm
       (source_forms_numbered name forms k.1 s n i p f iu fu)
 
   by_each_source_numbered : (rules : List RuleForms) → FormsAreNumbered N rules → (s : System) → IsNumbered N s → (i p : ℕ) (f : Fact Variable) → i < s.next → AllMadeOf N (Under s.next) f.args
-      → Every (Later N s.next) (systems_of (by_each_source rules s i p f))
+      → Every (Later N s.next) (systems_in (by_each_source rules s i p f))
   by_each_source_numbered [] k s n i p f iu fu = tt
   by_each_source_numbered (rule ∷ rules) k s n i p f iu fu =
       let own = source_forms rule.name rule.forms s i p f in
       subst (Every (Later N s.next)) (sym (systems_append (named rule.name own) (by_each_source rules s i p f)))
-      (every_append (Later N s.next) (systems_of (named rule.name own)) (systems_of (by_each_source rules s i p f))
+      (every_append (Later N s.next) (systems_in (named rule.name own)) (systems_in (by_each_source rules s i p f))
       (subst (Every (Later N s.next)) (sym (named_systems rule.name own)) (source_forms_numbered rule.name rule.forms k.0 s n i p f iu fu)) (by_each_source_numbered rules k.1 s n i p f iu fu))
 
-  open_numbered : (s : System) → IsNumbered N s → (i p : ℕ) (f : Fact Variable) → OpenPremise s i p f → Every (Later N s.next) (systems_of (by_each_source (map (forms_of es) theory.rules) s i p f))
+  open_numbered : (s : System) → IsNumbered N s → (i p : ℕ) (f : Fact Variable) → OpenPremise s i p f → Every (Later N s.next) (systems_in (by_each_source (map (forms_of es) theory.rules) s i p f))
   open_numbered s n i p f o = let u = premise_under s n i p f o in by_each_source_numbered (map (forms_of es) theory.rules) forms_numbered s n i p f u.0 u.1
 
-  open_covers : (s : System) → IsNumbered N s → (i p : ℕ) (f : Fact Variable) → OpenPremise s i p f → Covers theory s (systems_of (by_each_source (map (forms_of es) theory.rules) s i p f))
+  open_covers : (s : System) → IsNumbered N s → (i p : ℕ) (f : Fact Variable) → OpenPremise s i p f → Covers theory s (systems_in (by_each_source (map (forms_of es) theory.rules) s i p f))
   open_covers s n i p f o = record {
     covers = λ log is v h none.
         let u = premise_under s n i p f o in
@@ -207,21 +207,21 @@ module _ (N : Names) (right : UnifierIsRight) (theory : Theory) (good : HaveNorm
   }
 
   -- The move on a premise keeps the numbers.
-  pub premise_numbered : (s : System) → IsNumbered N s → (i p : ℕ) (cs : List Case) → premise_cases (map (forms_of es) theory.rules) s i p (open_premise s i p) ≡ Some cs → Every (Later N s.next) (systems_of cs)
+  pub premise_numbered : (s : System) → IsNumbered N s → (i p : ℕ) (cs : List Case) → premise_cases (map (forms_of es) theory.rules) s i p (open_premise s i p) ≡ Some cs → Every (Later N s.next) (systems_in cs)
   premise_numbered s n i p cs e = at (open_premise s i p) refl e
     where
-      at : (o : Option (Fact Variable)) → open_premise s i p ≡ o → premise_cases (map (forms_of es) theory.rules) s i p o ≡ Some cs → Every (Later N s.next) (systems_of cs)
+      at : (o : Option (Fact Variable)) → open_premise s i p ≡ o → premise_cases (map (forms_of es) theory.rules) s i p o ≡ Some cs → Every (Later N s.next) (systems_in cs)
       at None k l = absurd cc
       at (Some f) k l =
           let same : by_each_source (map (forms_of es) theory.rules) s i p f ≡ cs = cc in
-          subst (λ (x : List Case). Every (Later N s.next) (systems_of x)) same (open_numbered s n i p f (opened_premise s i p f k))
+          subst (λ (x : List Case). Every (Later N s.next) (systems_in x)) same (open_numbered s n i p f (opened_premise s i p f k))
 
   -- It covers.
-  pub premise_covers : (s : System) → IsNumbered N s → (i p : ℕ) (cs : List Case) → premise_cases (map (forms_of es) theory.rules) s i p (open_premise s i p) ≡ Some cs → Covers theory s (systems_of cs)
+  pub premise_covers : (s : System) → IsNumbered N s → (i p : ℕ) (cs : List Case) → premise_cases (map (forms_of es) theory.rules) s i p (open_premise s i p) ≡ Some cs → Covers theory s (systems_in cs)
   premise_covers s n i p cs e = at (open_premise s i p) refl e
     where
-      at : (o : Option (Fact Variable)) → open_premise s i p ≡ o → premise_cases (map (forms_of es) theory.rules) s i p o ≡ Some cs → Covers theory s (systems_of cs)
+      at : (o : Option (Fact Variable)) → open_premise s i p ≡ o → premise_cases (map (forms_of es) theory.rules) s i p o ≡ Some cs → Covers theory s (systems_in cs)
       at None k l = absurd cc
       at (Some f) k l =
           let same : by_each_source (map (forms_of es) theory.rules) s i p f ≡ cs = cc in
-          subst (λ (x : List Case). Covers theory s (systems_of x)) same (open_covers s n i p f (opened_premise s i p f k))
+          subst (λ (x : List Case). Covers theory s (systems_in x)) same (open_covers s n i p f (opened_premise s i p f k))

@@ -14,13 +14,14 @@ use Rattle.sp_spec_system.specs.System.{sending, happening_premises, Event, Link
 use Rattle.sp_spec_system.specs.Solutions.{Valuation, HappensIn, Solves}
 use Rattle.sp_spec_system.specs.Numbered.{InEvent, IsNumbered}
 use Rattle.sp_spec_system.specs.Covering.{Covers}
-use Rattle.sp_spec_system.specs.Picked.{first_some}
-use Rattle.sp_law_system.proofs.Numbers.{each_weaken, happening_made}
+use Rattle.sp_spec_system.specs.Picked.{first_some, only_term}
+use Rattle.sp_law_equal.proofs.Made.{each_weaken}
+use Rattle.sp_law_system.proofs.Numbers.{happening_made}
 use Rattle.sp_law_system.proofs.Solutions.{Under, TimeUnder}
 use Rattle.sp_law_system.proofs.With.{events_solve, events_numbered}
 use Rattle.sp_law_formula.proofs.Matches.{some_picked}
 use Rattle.sp_spec_graph.specs.Premise.{is_linked, awaiting}
-use Rattle.sp_spec_graph.specs.SendInput.{Input, only_term, input_at, input_from, open_input, with_sending, send_input}
+use Rattle.sp_spec_graph.specs.SendInput.{Input, input_at, input_from, open_input, with_sending, send_input}
 use Rattle.sp_law_log.proofs.Places.{every_place}
 use Rattle.sp_law_graph.proofs.Sources.{premise_event}
 use Rattle.sp_law_graph.proofs.Learnt.{Sent, input_sent}

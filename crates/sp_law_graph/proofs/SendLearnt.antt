@@ -62,11 +62,6 @@ module _ {N : Names} (s t : System) (e : send_learnt s ≡ Some t) (n : IsNumber
       subst (InHappening N (Under s.next) (TimeUnder s.next)) a.sends
       (every_member (InEvent N (Under s.next) (TimeUnder s.next)) s.events a.event a.stands n.events).1
 
-  pub send_learnt_numbered : IsNumbered N t × (s.next ≤ t.next)
-  send_learnt_numbered =
-      let P : System → Type 0 = λ w. IsNumbered N w × (s.next ≤ w.next) in
-      subst P (sym a.is) (learnt_before_numbered s n a.message message_under a.event.time time_under)
-
   pub send_learnt_covers : (theory : Theory) → Covers theory s (t ∷ [])
   send_learnt_covers theory = record {
     covers = λ log is v h none.
@@ -79,3 +74,9 @@ module _ {N : Names} (s t : System) (e : send_learnt s ≡ Some t) (n : IsNumber
         let so = subst (SolvedLater theory log s.next v) (sym a.is) new in
         none.0 so.0 so.1 so.2;
   }
+
+pub send_learnt_numbered : {N : Names} (s t : System) → send_learnt s ≡ Some t → IsNumbered N s → IsNumbered N t × (s.next ≤ t.next)
+send_learnt_numbered {N = N} s t e n =
+    let x = adds s t e in
+    let P : System → Type 0 = λ w. IsNumbered N w × (s.next ≤ w.next) in
+    subst P (sym x.is) (learnt_before_numbered s n x.message (message_under s t e n) x.event.time (time_under s t e n))

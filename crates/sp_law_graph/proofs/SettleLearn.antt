@@ -3,7 +3,7 @@ use Rattle.std.proofs.Common.{◌≡◌, ◌≤◌, ◌<◌, ℕ, zero, Bool, tr
 use Rattle.std.proofs.lemmas.Slice.Eq.{bytes_eq-Decides}
 use Rattle.std.specs.Str.{bytes_eq}
 use Rattle.sp_spec.specs.Lists.{Member, AtPosition}
-use Rattle.sp_spec.specs.Term.{Names, Sort, Msg, Fresh, Pub, Variable, Term, var, constant, name, app, Terms, none, more, MadeOf, AllMadeOf, Values, valued, valued_all}
+use Rattle.sp_spec.specs.Term.{Names, Sort, Msg, Fresh, Pub, Variable, Term, var, constant, name, app, Terms, none, more, MadeOf, AllMadeOf, Values, valued, valued_all, list_of}
 use Rattle.sp_spec.specs.Signature.{Symbol, HasSort, RespectsSorts}
 use Rattle.sp_spec.specs.Destruction.{is_public}
 use Rattle.sp_spec.specs.Theory.{Theory, signature_of}
@@ -17,7 +17,7 @@ use Rattle.sp_spec_system.specs.Numbered.{InWay, InHappening, InEvent, IsNumbere
 use Rattle.sp_spec_system.specs.Covering.{Covers}
 use Rattle.sp_spec_system.specs.Picked.{first_some}
 use Rattle.sp_spec_system.specs.MakingOne.{learnt_by_at}
-use Rattle.sp_law_system.proofs.Numbers.{each_weaken_all}
+use Rattle.sp_law_equal.proofs.Made.{each_weaken_all}
 use Rattle.sp_law_system.proofs.Solutions.{Under, TimeUnder, agrees_itself, agrees_then}
 use Rattle.sp_law_system.proofs.With.{events_solve, events_numbered}
 use Rattle.sp_law_system.proofs.LearntBy.{IsWayAt, learnt_by_at_happens, learnt_by_at_numbered}
@@ -28,12 +28,8 @@ use Rattle.sp_law_graph.proofs.Learnt.{AreLearntBefore, learnt_public, learnt_ma
 use Rattle.sp_law_graph.proofs.KnowParts.{way_at, still_learnt}
 use Rattle.sp_law_graph.proofs.NewEvents.{SolvedLater, learnt_before_numbered, learnt_before_solved}
 
-abbrev listed : Terms Variable → List (Term Variable)
-listed none = []
-listed (more t ts) = t ∷ listed ts
-
 abbrev settling_as : ℕ → Way → Terms Variable → Settling
-settling_as i way ts = record { time = i; way = way; parts = listed ts }
+settling_as i way ts = record { time = i; way = way; parts = list_of ts }
 
 module _ (theory : Theory) (N : Names) (n i : ℕ) (m : Term Variable) where
   -- What the settling says holds of each entry that learns the message: so it was learnt, and its parts before.
@@ -118,7 +114,7 @@ settled_learning symbols i (learning m (chain_done j k ts)) x e = absurd cc
 
 module _ {N : Names} (i : ℕ) where
   each_numbered : (ts : Terms Variable) (s : System) → IsNumbered N s → AllMadeOf N (Under s.next) ts → i < s.next
-      → IsNumbered N (each_learnt_before i (listed ts) s) × (s.next ≤ (each_learnt_before i (listed ts) s).next)
+      → IsNumbered N (each_learnt_before i (list_of ts) s) × (s.next ≤ (each_learnt_before i (list_of ts) s).next)
   each_numbered none s n under i_under = (n, le_refl s.next)
   each_numbered (more t ts) s n under i_under =
       let one = learnt_before_numbered s n t under.0 i i_under in
@@ -130,7 +126,7 @@ module _ {N : Names} (i : ℕ) where
   each_solved : (theory : Theory) (log : Log) → IsLog theory log → (ts : Terms Variable) (s : System) → IsNumbered N s → AllMadeOf N (Under s.next) ts
       → i < s.next
       → (v : Valuation) → Solves theory log v s → AreLearntBefore log (v.times i) (valued_all v.terms ts) → v.times i < length log
-      → SolvedLater theory log s.next v (each_learnt_before i (listed ts) s)
+      → SolvedLater theory log s.next v (each_learnt_before i (list_of ts) s)
   each_solved theory log is none s n under i_under v h known below = (v, agrees_itself s.next v, h)
   each_solved theory log is (more t ts) s n under i_under v h known below =
       let first = known.0 in
@@ -155,6 +151,7 @@ module _ (theory : Theory) {N : Names} (s t : System) (e : settle_learn (signatu
     settling : Settling
     stands : Member event s.events
     learns : event.happening ≡ learning message anyhow
+    made : MadeOf N (Under s.next) message
     settled : Settled theory N s.next event.time message settling
     is : t ≡ with_settling s settling
 
@@ -164,7 +161,17 @@ module _ (theory : Theory) {N : Names} (s t : System) (e : settle_learn (signatu
       let r = mapped (with_settling s) (first_some (settled_event symbols) s.events) t e in
       let d = some_picked (settled_event symbols) s.events r.0 r.1 in
       let l = settled_learning symbols d.0.time d.0.happening r.0 d.2 in
-      record { event = d.0; message = l.0; settling = r.0; stands = d.1; learns = l.1; settled = settled theory N s.next d.0.time l.0 r.0 l.2; is = r.2 }
+      let happening = (every_member (InEvent N (Under s.next) (TimeUnder s.next)) s.events d.0 d.1 n.events).1 in
+      record {
+        event = d.0;
+        message = l.0;
+        settling = r.0;
+        stands = d.1;
+        learns = l.1;
+        made = (subst (InHappening N (Under s.next) (TimeUnder s.next)) l.1 happening).0;
+        settled = settled theory N s.next d.0.time l.0 r.0 l.2;
+        is = r.2;
+      }
 
   abbrev a : Settles
   a = settles
@@ -176,26 +183,16 @@ module _ (theory : Theory) {N : Names} (s t : System) (e : settle_learn (signatu
   with_way = with_events s (learnt_by_at i a.settled.way s.events)
 
   -- the row's system
-  result : t ≡ each_learnt_before i (listed a.settled.parts) with_way
+  result : t ≡ each_learnt_before i (list_of a.settled.parts) with_way
   result = a.is ∙ ap (with_settling s) a.settled.is
 
   time_in : i < s.next
   time_in = (every_member (InEvent N (Under s.next) (TimeUnder s.next)) s.events a.event a.stands n.events).0
 
-  message_in : MadeOf N (Under s.next) a.message
-  message_in =
-      (subst (InHappening N (Under s.next) (TimeUnder s.next)) a.learns
-      (every_member (InEvent N (Under s.next) (TimeUnder s.next)) s.events a.event a.stands n.events).1).0
-
   way_numbered : IsNumbered N with_way
   way_numbered =
       events_numbered s n (learnt_by_at i a.settled.way s.events)
       (learnt_by_at_numbered N (Under s.next) (TimeUnder s.next) i a.settled.way a.settled.way_in s.events n.events)
-
-  pub settle_learn_numbered : IsNumbered N t × (s.next ≤ t.next)
-  settle_learn_numbered =
-      let P : System → Type 0 = λ w. IsNumbered N w × (s.next ≤ w.next) in
-      subst P (sym result) (each_numbered i a.settled.parts with_way way_numbered (a.settled.parts_in message_in) time_in)
 
   module _ (log : Log) (is : IsLog theory log) (v : Valuation) (h : Solves theory log v s) where
     here : HappensAt log (v.times i) v (learning a.message anyhow)
@@ -213,7 +210,14 @@ module _ (theory : Theory) {N : Names} (s t : System) (e : settle_learn (signatu
         (learnt_by_at_happens log v i a.settled.way way_there s.events h.events) in
         let below = position_below log (v.times i) (learn (valued v.terms a.message) here.0) here.1 in
         subst (SolvedLater theory log s.next v) (sym result)
-        (each_solved i theory log is a.settled.parts with_way way_numbered (a.settled.parts_in message_in) time_in v way_solved settled_so.1 below)
+        (each_solved i theory log is a.settled.parts with_way way_numbered (a.settled.parts_in a.made) time_in v way_solved settled_so.1 below)
 
   pub settle_learn_covers : Covers theory s (t ∷ [])
   settle_learn_covers = record { covers = λ log is v h none. let so = settle_solved log is v h in none.0 so.0 so.1 so.2 }
+
+pub settle_learn_numbered : (theory : Theory) {N : Names} (s t : System) → settle_learn (signature_of theory).symbols s ≡ Some t → IsNumbered N s → IsNumbered N t × (s.next ≤ t.next)
+settle_learn_numbered theory {N = N} s t e n =
+    let x = settles theory s t e n in
+    let P : System → Type 0 = λ w. IsNumbered N w × (s.next ≤ w.next) in
+    subst P (sym (result theory s t e n))
+    (each_numbered x.event.time x.settled.parts (with_way theory s t e n) (way_numbered theory s t e n) (x.settled.parts_in x.made) (time_in theory s t e n))

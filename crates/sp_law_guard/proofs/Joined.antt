@@ -4,11 +4,11 @@ use Rattle.std.specs.Prelude.{◌↔◌}
 use Rattle.sp_spec.specs.Lists.{Classically}
 use Rattle.sp_spec.specs.Signature.{Signature}
 use Rattle.sp_spec.specs.Execution.{Trace}
-use Rattle.sp_spec.specs.Guarded.{Binder, message, time, acts, same, same_time, before, last, Guarded, Guardeds, truth, falsity, holds, fails, all_of, one_of, some, every, no_more, and_then, Assignment, AtomsHold, SomeValues, GuardedHolds, EachHolds, SomeHolds}
+use Rattle.sp_spec.specs.Guarded.{Binder, message, time, acts, same, same_time, before, last, Guarded, Guardeds, truth, falsity, holds, fails, all_of, one_of, some, every, no_more, and_then, Assignment, AtomsHold, SomeValues, GuardedHolds, EachHolds, SomeHolds, parts_of, guardeds_of}
 use Rattle.sp_law_truth.proofs.Stable.{classically}
 use Rattle.sp_law_truth.proofs.StableGuarded.{stable_guarded}
 use Rattle.sp_law_truth.proofs.AsTrue.{as_itself, as_both, as_either, as_classically, as_turned, as_through}
-use Rattle.sp_law_guard.specs.GuardedForm.{listed, parts_of, conjuncts, disjuncts, conjunction, disjunction, guard_in, rest_in, body_of, existential}
+use Rattle.sp_law_guard.specs.GuardedForm.{conjuncts, disjuncts, conjunction, disjunction, guard_in, rest_in, body_of, existential}
 use Rattle.sp_law_guard.proofs.Values.{some_as}
 
 module _ (signature : Signature) (trace : Trace) where
@@ -16,10 +16,10 @@ module _ (signature : Signature) (trace : Trace) where
   Holds m g = GuardedHolds signature trace m g
 
   abbrev EachOf : Assignment → List Guarded → Type 0
-  EachOf m gs = EachHolds signature trace m (listed gs)
+  EachOf m gs = EachHolds signature trace m (guardeds_of gs)
 
   abbrev SomeOf : Assignment → List Guarded → Type 0
-  SomeOf m gs = SomeHolds signature trace m (listed gs)
+  SomeOf m gs = SomeHolds signature trace m (guardeds_of gs)
 
   module _ (m : Assignment) where
     each_appended : (gs hs : List Guarded) → EachOf m (gs ++ hs) ↔ (EachOf m gs × EachOf m hs)

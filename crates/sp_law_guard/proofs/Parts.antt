@@ -2,9 +2,9 @@
 use Rattle.std.proofs.Common.{List, [], ◌∷◌, ◌++◌}
 use Rattle.std.specs.Prelude.{◌↔◌}
 use Rattle.sp_spec.specs.Lists.{Every}
-use Rattle.sp_spec.specs.Guarded.{acts, same, same_time, before, last, Guarded, Guardeds, truth, falsity, holds, fails, all_of, one_of, some, every, no_more, and_then}
+use Rattle.sp_spec.specs.Guarded.{acts, same, same_time, before, last, Guarded, Guardeds, truth, falsity, holds, fails, all_of, one_of, some, every, no_more, and_then, parts_of, guardeds_of}
 use Rattle.sp_spec.proofs.Lists.{every_append}
-use Rattle.sp_law_guard.specs.GuardedForm.{listed, parts_of, conjuncts, disjuncts, conjunction, disjunction, rest_in, body_of}
+use Rattle.sp_law_guard.specs.GuardedForm.{conjuncts, disjuncts, conjunction, disjunction, rest_in, body_of}
 
 abbrev pub EachIs : (Guarded → Type 0) → Guardeds → Type 0
 EachIs R no_more = Unit {0}
@@ -20,7 +20,7 @@ module _ (R : Guarded → Type 0) (parts : IsOfParts R) where
   each_part no_more e = tt
   each_part (and_then g gs) e = (e.0, each_part gs e.1)
 
-  each_listed : (gs : List Guarded) → Every R gs → EachIs R (listed gs)
+  each_listed : (gs : List Guarded) → Every R gs → EachIs R (guardeds_of gs)
   each_listed [] e = tt
   each_listed (g ∷ gs) e = (e.0, each_listed gs e.1)
 
@@ -34,12 +34,12 @@ module _ (R : Guarded → Type 0) (parts : IsOfParts R) where
 
   pub conjunction_is : (g h : Guarded) → R g → R h → R (conjunction g h)
   conjunction_is g h r s =
-      (parts.of_all (listed (conjuncts g ++ conjuncts h))).1
+      (parts.of_all (guardeds_of (conjuncts g ++ conjuncts h))).1
       (each_listed (conjuncts g ++ conjuncts h) (every_append R (conjuncts g) (conjuncts h) (conjuncts_are g r) (conjuncts_are h s)))
 
   pub disjunction_is : (g h : Guarded) → R g → R h → R (disjunction g h)
   disjunction_is g h r s =
-      (parts.of_one (listed (disjuncts g ++ disjuncts h))).1
+      (parts.of_one (guardeds_of (disjuncts g ++ disjuncts h))).1
       (each_listed (disjuncts g ++ disjuncts h) (every_append R (disjuncts g) (disjuncts h) (disjuncts_are g r) (disjuncts_are h s)))
 
   rest_are : (gs : List Guarded) → Every R gs → Every R (rest_in gs)
@@ -60,7 +60,7 @@ module _ (R : Guarded → Type 0) (parts : IsOfParts R) where
   body_is : (gs : List Guarded) → Every R gs → R (body_of gs)
   body_is [] e = parts.of_truth
   body_is (g ∷ []) e = e.0
-  body_is (g ∷ h ∷ gs) e = (parts.of_all (listed (g ∷ h ∷ gs))).1 (each_listed (g ∷ h ∷ gs) e)
+  body_is (g ∷ h ∷ gs) e = (parts.of_all (guardeds_of (g ∷ h ∷ gs))).1 (each_listed (g ∷ h ∷ gs) e)
 
   -- the body of a quantifier over that formula
   pub quantified_is : (g : Guarded) → R g → R (body_of (rest_in (conjuncts g)))

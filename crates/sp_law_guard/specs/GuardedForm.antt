@@ -6,7 +6,7 @@ use Rattle.sp_spec.specs.Term.{Msg, Term, var, constant, name, app, Terms, value
 use Rattle.sp_spec.specs.Rule.{Action}
 use Rattle.sp_spec.specs.Formula.{Mark, bare, of_sort, of_time, Written, Formula}
 use Rattle.sp_spec.specs.Formula as f
-use Rattle.sp_spec.specs.Guarded.{Place, bound, Time, bound_time, Binder, message, time, Atom, acts, same, same_time, before, last, Guarded, Guardeds, truth, falsity, holds, fails, all_of, one_of, some, every, no_more, and_then}
+use Rattle.sp_spec.specs.Guarded.{Place, bound, Time, bound_time, Binder, message, time, Atom, acts, same, same_time, before, last, Guarded, Guardeds, truth, falsity, holds, fails, all_of, one_of, some, every, no_more, and_then, parts_of, guardeds_of}
 
 -- What a name means: the innermost binder of that name, a message or a time, counted apart from the innermost outwards.
 pub data Meant : Type 0 where
@@ -88,15 +88,6 @@ binder_of of_time = time
 binder_of bare = message Msg
 binder_of (of_sort sort) = message sort
 
--- lists of formulas
-abbrev pub listed : List Guarded → Guardeds
-listed [] = no_more
-listed (g ∷ gs) = and_then g (listed gs)
-
-abbrev pub parts_of : Guardeds → List Guarded
-parts_of no_more = []
-parts_of (and_then g gs) = g ∷ parts_of gs
-
 -- conjunctions and disjunctions are flat
 abbrev pub conjuncts : Guarded → List Guarded
 conjuncts (all_of gs) = parts_of gs
@@ -107,10 +98,10 @@ disjuncts (one_of gs) = parts_of gs
 disjuncts g = g ∷ []
 
 abbrev pub conjunction : Guarded → Guarded → Guarded
-conjunction g h = all_of (listed (conjuncts g ++ conjuncts h))
+conjunction g h = all_of (guardeds_of (conjuncts g ++ conjuncts h))
 
 abbrev pub disjunction : Guarded → Guarded → Guarded
-disjunction g h = one_of (listed (disjuncts g ++ disjuncts h))
+disjunction g h = one_of (guardeds_of (disjuncts g ++ disjuncts h))
 
 -- The negation. That of an action is every without binders, with the action as guard and falsity as body, and back again.
 abbrev pub negated_atom : Atom → Guarded
@@ -153,7 +144,7 @@ rest_in (g ∷ gs) = g ∷ rest_in gs
 abbrev pub body_of : List Guarded → Guarded
 body_of [] = truth
 body_of (g ∷ []) = g
-body_of (g ∷ h ∷ gs) = all_of (listed (g ∷ h ∷ gs))
+body_of (g ∷ h ∷ gs) = all_of (guardeds_of (g ∷ h ∷ gs))
 
 -- quantifiers that stand directly below one another are one
 abbrev pub existential : Binder → Guarded → Guarded

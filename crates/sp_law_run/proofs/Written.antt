@@ -5,12 +5,13 @@ use Rattle.std.proofs.lemmas.Slice.Eq.{bytes_eq-Decides}
 use Rattle.std.specs.Str.{bytes_eq}
 use Rattle.sp_spec.specs.Lists.{Member, Every, Distinct, AtPlace}
 use Rattle.sp_spec.proofs.Lists.{every_map, member_either, place_map, map-map}
-use Rattle.sp_spec.specs.Term.{Variable, Term, var, constant, name, app, Terms, none, more, count, valued, valued_all, EachVariable, EachVariables}
+use Rattle.sp_spec.specs.Term.{Variable, Term, var, constant, name, app, Terms, none, more, count, valued, valued_all, any_names, EachVariables}
 use Rattle.sp_spec.specs.Signature.{Symbol, HasSymbol}
 use Rattle.sp_spec.specs.Rule.{Fact, Action, Facts, Declared, Rule, fact_at, action_at, facts_at, OfArguments}
 use Rattle.sp_spec.specs.Formula.{Written}
 use Rattle.sp_spec.specs.Written.{WrittenRule, occurrences, is_listed, names_after, rule_names, place_of, numbered_in, sort_in, rule_of}
 use Rattle.sp_spec.proofs.Occurrences.{occurrences_each, names_have}
+use Rattle.sp_law_equal.proofs.Made.{each_valued_all}
 use Rattle.sp_law_equal.specs.Right.{IsTermOver, AreTermsOver, IsDeclared, IsRight, AreRight, RulesAreOver}
 use Rattle.sp_spec.proofs.Listed.{listed_member}
 
@@ -51,18 +52,6 @@ arguments_valued P Q v h facts k = record {
   conclusions = every_map (λ (f : Fact Written). P f.args) (λ (f : Fact Variable). Q f.args) (fact_at v) (λ f p. h f.args p) facts.conclusions k.conclusions;
 }
 
-module _ (P : Written → Type 0) (Q : Variable → Type 0) (v : Written → Term Variable) (gives : (x : Written) → P x → EachVariable Q (v x)) where
-  mutual
-    each_valued : (t : Term Written) → EachVariable P t → EachVariable Q (valued v t)
-    each_valued (var x) h = gives x h
-    each_valued (constant c) h = tt
-    each_valued (name n) h = tt
-    each_valued (app f ts) h = each_valued_all ts h
-
-    each_valued_all : (ts : Terms Written) → EachVariables P ts → EachVariables Q (valued_all v ts)
-    each_valued_all none h = tt
-    each_valued_all (more t ts) h = (each_valued t h.0, each_valued_all ts h.1)
-
 rule_right : (r : WrittenRule) → IsRight (rule_of r)
 rule_right r =
     let listed = rule_names r.facts in
@@ -71,7 +60,7 @@ rule_right r =
     let names_again : map (λ (d : Declared). d.name) (map declared listed) ≡ listed = same_names declared listed (λ x. refl) in
     record {
       declared = arguments_valued (EachVariables IsListed) (EachVariables (IsDeclared (map declared listed))) (numbered_in r.facts)
-          (each_valued_all IsListed (IsDeclared (map declared listed)) (numbered_in r.facts)
+          (each_valued_all any_names IsListed (IsDeclared (map declared listed)) (numbered_in r.facts)
           (λ y h. (declared y.name, place_map declared listed (place_of y.name listed) y.name (place_there y.name listed h), refl)))
           r.facts (occurrences_each IsListed r.facts (names_have [] (occurrences r.facts)));
       distinct = subst (λ (xs : List (List ℕ)). Distinct xs) (sym names_again) (names_distinct [] (occurrences r.facts) tt);

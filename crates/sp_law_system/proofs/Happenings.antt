@@ -12,7 +12,7 @@ use Rattle.sp_spec_system.specs.Numbered.{InWay, InHappening}
 use Rattle.sp_spec_system.specs.Equating.{way_changed, happening_changed}
 use Rattle.sp_spec.proofs.Lists.{every_map, every_all, every_weaken, map_each, map-map}
 use Rattle.sp_law_system.proofs.Facts.{valued_same, facts_same, fixed_term, fixed_facts}
-use Rattle.sp_law_system.proofs.Numbers.{each_weaken, facts_weaken, each_valued, facts_valued}
+use Rattle.sp_law_equal.proofs.Made.{each_weaken, facts_weaken, each_valued, facts_valued}
 
 -- the values of a message and of a way are what the log has to have
 module _ (v w : Valuation) where

@@ -1,50 +1,13 @@
 -- Which variables and times stand in a formula, under weakening and change.
 use Rattle.std.proofs.Common.{ℕ, suc, zero, List, [], ◌∷◌}
-use Rattle.sp_spec.specs.Term.{Names, Variable, Term, var, constant, name, app, Terms, none, more, valued, valued_all, MadeOf, AllMadeOf}
-use Rattle.sp_spec.specs.Rule.{Facts, fact_at, action_at, facts_at, FactsMadeOf}
+use Rattle.sp_spec.specs.Term.{Names, Variable, Term, var, MadeOf}
+use Rattle.sp_spec.specs.Rule.{FactsMadeOf}
 use Rattle.sp_spec.specs.Guarded.{Place, free, bound, Time, free_time, bound_time, Binder, message, time, Atom, acts, same, same_time, before, last, Guarded, truth, falsity, holds, fails, all_of, one_of, some, every, Guardeds, no_more, and_then, pushed}
 use Rattle.sp_spec.specs.Change.{Change, placed, place_changed, time_changed, raised_place, raised, raised_time, under_message, under_time, under, atom_changed, changed, changed_each}
 use Rattle.sp_spec_system.specs.Numbered.{AtFree, AtFreeTime, InAtom, InFormula, InEach, InWay, InHappening, InEvent}
 use Rattle.sp_spec_system.specs.System.{Way, anyhow, public_name, own_name, constructed, chain_begun, chain_done, Happening, rule_step, sending, learning, happening_facts, Event}
 use Rattle.sp_spec.proofs.Lists.{every_map, every_weaken}
-
--- what holds of each variable of a term after values are put in
-mutual
-  pub each_valued : (N : Names) → {V W : Type 0} (P : V → Type 0) (Q : W → Type 0) (v : V → Term W) → ((x : V) → P x → MadeOf N Q (v x)) → (t : Term V) → MadeOf N P t → MadeOf N Q (valued v t)
-  each_valued N P Q v h (var x) e = h x e
-  each_valued N P Q v h (constant c) e = e
-  each_valued N P Q v h (name n) e = e
-  each_valued N P Q v h (app f ts) e = each_valued_all N P Q v h ts e
-
-  pub each_valued_all : (N : Names) → {V W : Type 0} (P : V → Type 0) (Q : W → Type 0) (v : V → Term W) → ((x : V) → P x → MadeOf N Q (v x)) → (ts : Terms V) → AllMadeOf N P ts → AllMadeOf N Q (valued_all v ts)
-  each_valued_all N P Q v h none e = tt
-  each_valued_all N P Q v h (more t ts) e = (each_valued N P Q v h t e.0, each_valued_all N P Q v h ts e.1)
-
-mutual
-  pub each_weaken : (N : Names) → {V : Type 0} (P Q : V → Type 0) → ((x : V) → P x → Q x) → (t : Term V) → MadeOf N P t → MadeOf N Q t
-  each_weaken N P Q h (var x) e = h x e
-  each_weaken N P Q h (constant c) e = e
-  each_weaken N P Q h (name n) e = e
-  each_weaken N P Q h (app f ts) e = each_weaken_all N P Q h ts e
-
-  pub each_weaken_all : (N : Names) → {V : Type 0} (P Q : V → Type 0) → ((x : V) → P x → Q x) → (ts : Terms V) → AllMadeOf N P ts → AllMadeOf N Q ts
-  each_weaken_all N P Q h none e = tt
-  each_weaken_all N P Q h (more t ts) e = (each_weaken N P Q h t e.0, each_weaken_all N P Q h ts e.1)
-
--- the variables of a rule's facts after values are put in
-pub facts_valued : (N : Names) → {V W : Type 0} (P : V → Type 0) (Q : W → Type 0) (v : V → Term W) → ((x : V) → P x → MadeOf N Q (v x)) → (facts : Facts V) → FactsMadeOf N P facts → FactsMadeOf N Q (facts_at v facts)
-facts_valued N P Q v h facts e = record {
-  premises = every_map _ _ (fact_at v) (λ f k. each_valued_all N P Q v h f.args k) facts.premises e.premises;
-  actions = every_map _ _ (action_at v) (λ a k. each_valued_all N P Q v h a.args k) facts.actions e.actions;
-  conclusions = every_map _ _ (fact_at v) (λ f k. each_valued_all N P Q v h f.args k) facts.conclusions e.conclusions;
-}
-
-pub facts_weaken : (N : Names) → {V : Type 0} (P Q : V → Type 0) → ((x : V) → P x → Q x) → (facts : Facts V) → FactsMadeOf N P facts → FactsMadeOf N Q facts
-facts_weaken N P Q h facts e = record {
-  premises = every_weaken _ _ (λ f k. each_weaken_all N P Q h f.args k) facts.premises e.premises;
-  actions = every_weaken _ _ (λ a k. each_weaken_all N P Q h a.args k) facts.actions e.actions;
-  conclusions = every_weaken _ _ (λ f k. each_weaken_all N P Q h f.args k) facts.conclusions e.conclusions;
-}
+use Rattle.sp_law_equal.proofs.Made.{each_valued, each_valued_all, each_weaken, each_weaken_all, facts_weaken}
 
 -- the facts of what happens
 pub happening_made : (N : Names) → (P : Variable → Type 0) (Q : ℕ → Type 0) (h : Happening) → InHappening N P Q h → FactsMadeOf N P (happening_facts h)

@@ -18,7 +18,8 @@ use Rattle.sp_spec_system.specs.Equating.{happening_changed, event_changed, pair
 use Rattle.sp_spec.proofs.Lists.{every_map, every_both, every_append}
 use Rattle.sp_law_system.proofs.Facts.{fixed_term}
 use Rattle.sp_law_system.proofs.Happenings.{agree_term, agree_happening, change_happening, happening_in}
-use Rattle.sp_law_system.proofs.Numbers.{PutsIn, changed_in, each_valued}
+use Rattle.sp_law_equal.proofs.Made.{each_valued}
+use Rattle.sp_law_system.proofs.Numbers.{PutsIn, changed_in}
 use Rattle.sp_law_system.proofs.Changing.{Reads, changed_same, settled_same}
 use Rattle.sp_law_system.proofs.Unchanged.{agree_same, agree_settled}
 

@@ -8,7 +8,7 @@ use Rattle.sp_spec.specs.Substitution.{Binding, bound_to, followed_by}
 use Rattle.sp_spec.specs.Same.{same_variable}
 use Rattle.sp_spec.specs.Unifier.{Pair, Difference, no_difference, clash, binding, occurs, may_stand, with_term, by_number, by_sorts, with_variable, or_then, difference, differences, first_difference, go_on, unified, mgu, occurrences_of}
 use Rattle.sp_law_unify.proofs.Values.{bound_to-followed_by, bound_to-one}
-use Rattle.sp_law_system.proofs.Numbers.{each_valued}
+use Rattle.sp_law_equal.proofs.Made.{each_valued}
 
 -- of a chain of differences the first one counts
 or_then_keeps : (D : Difference → Type 0) (d e : Difference) → D d → D e → D (or_then d e)

@@ -9,7 +9,8 @@ use Rattle.sp_spec.proofs.Lists.{every_weaken}
 use Rattle.sp_spec_system.specs.System.{Event, Link, System, with_events, with_formulas, with_spent, with_unequal, with_links, with_order, with_next}
 use Rattle.sp_spec_system.specs.Solutions.{Valuation, HappensIn, LinkHolds, FormulaHolds, AreUnequal, IsBefore, Solves}
 use Rattle.sp_spec_system.specs.Numbered.{InFormula, InEvent, IsNumbered}
-use Rattle.sp_law_system.proofs.Numbers.{each_weaken, formula_weaken, event_weaken}
+use Rattle.sp_law_equal.proofs.Made.{each_weaken}
+use Rattle.sp_law_system.proofs.Numbers.{formula_weaken, event_weaken}
 use Rattle.sp_law_system.proofs.Solutions.{Under, TimeUnder}
 
 -- the terms of a pair, both times of a pair, and both of a link

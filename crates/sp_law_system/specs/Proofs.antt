@@ -1,10 +1,10 @@
 -- What is kept throughout a proof, and what its cases owe.
-use Rattle.std.specs.Prelude.{◌≡◌, ◌≤◌, List, map, ◌++◌}
+use Rattle.std.specs.Prelude.{◌≡◌, ◌≤◌, List, ◌++◌}
 use Rattle.sp_spec.specs.Theory.{Theory}
 use Rattle.sp_spec.specs.Log.{Log, IsLog, Entry}
 use Rattle.sp_spec_system.specs.System.{System}
 use Rattle.sp_spec_system.specs.Solutions.{Valuation, Solves}
-use Rattle.sp_spec_system.specs.Move.{Context, Case}
+use Rattle.sp_spec_system.specs.Move.{Context}
 use Rattle.sp_spec_system.specs.Numbered.{names_in, IsNumbered}
 use Rattle.sp_spec.specs.Lists.{Every}
 use Rattle.sp_law_system.specs.Rules.{RulesAreNumbered}
@@ -27,9 +27,6 @@ pub record IsWellMade (context : Context) (s : System) : Type 0 where
 pub record IsKept (context : Context) (s t : System) : Type 0 where
   pub well_made : IsWellMade context t
   pub next : s.next ≤ t.next
-
-abbrev pub systems_of : List Case → List System
-systems_of cs = map (λ c. c.system) cs
 
 -- a log by then: what is left of it without its newest entries
 abbrev pub IsPast : Log → Log → Type 0

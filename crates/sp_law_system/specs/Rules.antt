@@ -2,9 +2,9 @@
 use Rattle.std.specs.Prelude.{◌<◌, List, length}
 use Rattle.sp_spec.specs.Lists.{Every, Member}
 use Rattle.sp_spec.specs.Equal.{IsNormal}
-use Rattle.sp_spec.specs.Rule.{Rule, FactsMadeOf, Action, facts_at, IsNormalFormOf}
+use Rattle.sp_spec.specs.Rule.{Rule, FactsMadeOf, facts_at, IsNormalFormOf}
 use Rattle.sp_spec.specs.Term.{Names, Variable, Values}
-use Rattle.sp_spec.specs.Signature.{AreOver, IsValuation}
+use Rattle.sp_spec.specs.Signature.{IsValuation}
 use Rattle.sp_spec.specs.Theory.{Theory, signature_of}
 use Rattle.sp_law_equal.specs.RightTheory.{HasNormalInstances, TakesFreshNames, LeavesReserved, BindsActions, BindsConclusions}
 use Rattle.sp_spec_forms.specs.Numbering.{Form}
@@ -27,12 +27,6 @@ pub record FormsAreWhole (theory : Theory) : Type 0 where
       → (form : Form) × (w : Values) × Member form (forms (signature_of theory).equations r) × IsValuation (signature_of theory) w
       × ((x : Variable) → IsNormal (signature_of theory).equations (w x))
       × IsNormalFormOf (signature_of theory).equations (facts_at v r.facts) (facts_at w form.facts)
-
--- the actions of the rules' instances are over the signature
-abbrev pub ActionsAreOver : Theory → Type 0
-ActionsAreOver theory =
-    (r : Rule) → Member r theory.rules → (v : Values) → IsValuation (signature_of theory) v
-    → Every (λ (a : Action ⊥). AreOver (signature_of theory).symbols a.args) (facts_at v r.facts).actions
 
 -- What is asked of a theory, so that rows and moves cover: its rules' instances have normal forms over the signature; an Fr is of a variable of sort fresh;
 -- no rule concludes an In, which the adversary sends; and each fresh name that a rule shows or concludes stands in one of its premises.

@@ -19,10 +19,10 @@ use Rattle.sp_law_guard.specs.CheckedForm.{checked_form}
 use Rattle.sp_law_adversary.specs.Lemmas.{IsOfExecutions, HasLogs}
 use Rattle.sp_law_adversary.proofs.Lemmas.{logs_show}
 use Rattle.sp_law_system.specs.Rules.{SuitsProofs}
-use Rattle.sp_law_tree.specs.BasicTheory.{IsBasicRule}
+use Rattle.sp_law_basic.specs.BasicTheory.{IsBasicRule}
 use Rattle.sp_law_tree.specs.Laws.{LemmasAreShown}
-use Rattle.sp_law_tree.proofs.ClosedRules.{IsRightRule, each_right}
-use Rattle.sp_law_tree.proofs.RightTexts.{text_suits}
+use Rattle.sp_law_basic.proofs.ClosedRules.{IsRightRule, each_right}
+use Rattle.sp_law_tree.proofs.Suited.{text_suits}
 use Rattle.sp_law_tree.proofs.OverLogs.{trees_show_logs_lem}
 
 module _ (t : WrittenTheory) (forms : HasNormalForms (signature_of (theory_of t))) (keeps : KeepPublic (signature_of (theory_of t)).symbols (signature_of (theory_of t)).equations) (rules : Every (IsBasicRule (signature_of (theory_of t))) t.rules) (clean : Every (λ (r : WrittenRule). rule_is_wrong r ≡ false) t.rules) where

@@ -13,7 +13,7 @@ use Rattle.sp_law_decide.proofs.Matched.{IsNormalValue}
 use Rattle.sp_law_decide.proofs.Terms.{constructor_normal, constructors_normal}
 use Rattle.sp_spec_system.specs.Numbered.{AtFree, AtFreeTime, InAtom}
 use Rattle.sp_spec_system.specs.Solutions.{EachNormal, AtomSettled}
-use Rattle.sp_law_tree.proofs.Named.{NamedTerm, NamedTerms, NamedAtom}
+use Rattle.sp_law_basic.proofs.Named.{NamedTerm, NamedTerms, NamedAtom}
 
 -- n times are bound outside
 abbrev pub FlatAtom : Signature → ℕ → Atom → Type 0

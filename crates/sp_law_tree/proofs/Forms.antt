@@ -19,7 +19,7 @@ use Rattle.sp_law_decide.proofs.Matched.{IsNormalValue}
 use Rattle.sp_spec_system.specs.Solutions.{assignment, AtomSettled, Settled, EachSettled, Solves}
 use Rattle.sp_spec_system.specs.Numbered.{InFormula, InEach, IsNumbered}
 use Rattle.sp_spec_proof.specs.Root.{root}
-use Rattle.sp_law_tree.proofs.Named.{NamedAtom}
+use Rattle.sp_law_basic.proofs.Named.{NamedAtom}
 use Rattle.sp_law_tree.proofs.Flat.{FlatAtom, closed_atom_in, each_in, Bounded, flat_settled, each_bounded}
 use Rattle.sp_law_tree.proofs.Starts.{start, start_sorts, start_normal}
 

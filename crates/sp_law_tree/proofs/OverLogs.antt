@@ -16,12 +16,12 @@ use Rattle.sp_law_system.specs.Rules.{SuitsProofs}
 use Rattle.sp_law_cover.proofs.Covering.{moves_are_covered}
 use Rattle.sp_spec_proof.specs.Tree.{Tree, IsAccepted, IsFinished}
 use Rattle.sp_spec_proof.specs.Root.{root}
-use Rattle.sp_law_tree.specs.BasicTheory.{HasNames, IsBasicFormula}
+use Rattle.sp_law_basic.specs.BasicTheory.{HasNames, IsBasicFormula}
 use Rattle.sp_law_tree.specs.Laws.{TreesShowLogs}
 use Rattle.sp_spec.specs.Term.{Names}
 use Rattle.sp_spec_system.specs.Numbered.{names_in}
 use Rattle.sp_law_guard.proofs.Throughout.{Throughout, negate_throughout}
-use Rattle.sp_law_tree.proofs.Named.{NamedAtom, form_named}
+use Rattle.sp_law_basic.proofs.Named.{NamedAtom, form_named}
 use Rattle.sp_law_tree.proofs.Trees.{finished_tree}
 use Rattle.sp_law_tree.proofs.Starts.{start}
 use Rattle.sp_law_tree.proofs.Forms.{IsRight, right_negation, right_numbered, right_solved}

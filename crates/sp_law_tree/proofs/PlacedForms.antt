@@ -9,7 +9,7 @@ use Rattle.sp_law_guard.proofs.Closed.{closed_time}
 use Rattle.sp_law_guard.proofs.Places.{term_closed, action_made, order_made, equality_made}
 use Rattle.sp_law_guard.proofs.Throughout.{times_bound, OfFormulas, OfAtoms, form_throughout}
 use Rattle.sp_law_decide.proofs.ConstructorForms.{placed_constructor, placed_constructors}
-use Rattle.sp_law_tree.specs.BasicTheory.{IsBasicFormula}
+use Rattle.sp_law_basic.specs.BasicTheory.{IsBasicFormula}
 use Rattle.sp_law_tree.proofs.Flat.{FlatAtom}
 use Rattle.sp_law_tree.proofs.Forms.{IsRight}
 

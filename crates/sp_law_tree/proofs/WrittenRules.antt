@@ -1,24 +1,20 @@
--- A written rule of a basic theory stands for a rule whose variables are numbered, without destructors in its premises.
+-- A written rule of a basic theory stands for a rule whose variables are numbered.
 use Rattle.std.proofs.Common.{◌≡◌, ◌<◌, ℕ, zero, suc, Bool, true, false, ◌||◌, if◌then◌else◌, List, [], ◌∷◌, ◌++◌, map, length, sym, subst, arith, bytes_eq}
 use Rattle.sp_spec.specs.Lists.{Every}
-use Rattle.sp_spec.specs.Term.{Variable, Term, var, constant, name, app, Terms, none, more, valued, valued_all}
 use Rattle.sp_spec.specs.Signature.{Signature}
-use Rattle.sp_spec.specs.Rule.{Declared, fact_at, FactsMadeOf}
+use Rattle.sp_spec.specs.Rule.{Declared, FactsMadeOf}
 use Rattle.sp_spec.specs.Formula.{Written}
 use Rattle.sp_spec.specs.Theory.{signature_of}
 use Rattle.sp_spec.specs.Written.{WrittenRule, occurrences, is_listed, rule_names, place_of, numbered_in, sort_in, rule_of, theory_of}
 use Rattle.sp_spec.proofs.Occurrences.{occurrences_each, names_have}
-use Rattle.sp_law_equal.specs.Destructors.{IsPlain, ArePlain}
-use Rattle.sp_law_decide.specs.Normal.{IsConstructorTerm, AreConstructorTerms}
-use Rattle.sp_spec.proofs.Lists.{every_map, every_weaken, every_parts, length_map}
-use Rattle.sp_law_system.proofs.Numbers.{facts_valued}
+use Rattle.sp_spec.proofs.Lists.{every_weaken, every_parts, length_map}
+use Rattle.sp_law_equal.proofs.Made.{facts_valued}
 use Rattle.sp_law_system.specs.Rules.{RulesAreNumbered}
 use Rattle.sp_spec.specs.Constants.{in_facts, in_actions, in_rule, constants_of}
 use Rattle.sp_spec_system.specs.Numbered.{names_in}
 use Rattle.sp_law_tree.specs.Laws.{NamesStand}
-use Rattle.sp_law_tree.proofs.Named.{AreListed, facts_made, actions_made, rules_listed, lemma_has_names}
-use Rattle.sp_law_tree.specs.BasicTheory.{IsBasicRule}
-use Rattle.sp_law_equal.specs.RightTheory.{HasPlainPremises}
+use Rattle.sp_law_tree.proofs.Listed.{AreListed, facts_made, actions_made, rules_listed, lemma_has_names}
+use Rattle.sp_law_basic.specs.BasicTheory.{IsBasicRule}
 
 place_under : (x : List ℕ) (xs : List (List ℕ)) → is_listed x xs ≡ true → place_of x xs < length xs
 place_under x [] e = absurd cc
@@ -55,25 +51,3 @@ names_stand_lem = record {
   rules = λ theory basic. each_numbered (signature_of (theory_of theory)) (constants_of theory) theory.rules basic (rules_listed theory);
   lemmas = lemma_has_names;
 }
-
--- no destructor stands in their premises
-module _ (signature : Signature) where
-  module _ (v : Written → Term Variable) (v_plain : (x : Written) → IsPlain signature.equations (v x)) where
-    mutual
-      constructor_plain : (t : Term Written) → IsConstructorTerm signature t → IsPlain signature.equations (valued v t)
-      constructor_plain (var x) h = v_plain x
-      constructor_plain (constant c) h = tt
-      constructor_plain (name n) h = tt
-      constructor_plain (app f ts) h = (h.0, constructors_plain ts h.2)
-
-      constructors_plain : (ts : Terms Written) → AreConstructorTerms signature ts → ArePlain signature.equations (valued_all v ts)
-      constructors_plain none h = tt
-      constructors_plain (more t ts) h = (constructor_plain t h.0, constructors_plain ts h.1)
-
-  rule_plain : (r : WrittenRule) → IsBasicRule signature r → HasPlainPremises signature.equations (rule_of r)
-  rule_plain r h =
-      let v = numbered_in r.facts in
-      every_map _ _ (fact_at v) (λ f k. constructors_plain v (λ x. tt) f.args k.0) r.facts.premises h.premises
-
-  pub premises_plain : (rs : List WrittenRule) → Every (IsBasicRule signature) rs → Every (HasPlainPremises signature.equations) (map rule_of rs)
-  premises_plain rs h = every_map (IsBasicRule signature) (HasPlainPremises signature.equations) rule_of rule_plain rs h

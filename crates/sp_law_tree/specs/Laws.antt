@@ -1,5 +1,5 @@
 -- What an accepted tree shows, and what growth owes.
-use Rattle.std.specs.Prelude.{◌≡◌, Some, None, true, false, ℕ, ◌≤◌, map}
+use Rattle.std.specs.Prelude.{◌≡◌, Some, None, true, false, ℕ, ◌≤◌}
 use Rattle.sp_spec.specs.Theory.{Theory, Lemma, signature_of}
 use Rattle.sp_spec_system.specs.System.{System}
 use Rattle.sp_spec_system.specs.Numbered.{names_in}
@@ -9,7 +9,7 @@ use Rattle.sp_spec_proof.specs.Tree.{Tree, IsAccepted, IsFinished, found_log, st
 use Rattle.sp_spec.specs.Log.{Log}
 use Rattle.sp_law_system.specs.Rules.{SuitsProofs, RulesAreNumbered}
 use Rattle.sp_spec_proof.specs.Growth.{has_end, grown_tree}
-use Rattle.sp_spec.specs.Lists.{Member, Every, Distinct}
+use Rattle.sp_spec.specs.Lists.{Member, Every}
 use Rattle.sp_spec.specs.Written.{WrittenRule, WrittenTheory, theory_of}
 use Rattle.sp_spec.specs.Constants.{constants_of}
 use Rattle.sp_spec.specs.Findings.{rule_is_wrong}
@@ -21,7 +21,7 @@ use Rattle.sp_law_guard.specs.GuardedForm.{negate}
 use Rattle.sp_law_guard.specs.CheckedForm.{checked_form}
 use Rattle.sp_spec_proof.specs.Root.{root}
 use Rattle.sp_law_equal.specs.RightTheory.{IsRightTheory}
-use Rattle.sp_law_tree.specs.BasicTheory.{HasNames, IsBasicRule, IsBasicFormula}
+use Rattle.sp_law_basic.specs.BasicTheory.{HasNames, IsBasicRule, IsBasicFormula}
 
 -- the tree theorem: where a tree is accepted, no leaf is left open and with none the search ends, the system at its root has no solution
 pub record FinishedTreesShow (theory : Theory) : Type 0 where
@@ -36,6 +36,11 @@ pub record AcceptedTreesShow : Type 0 where
   pub ends : (context : Context) (s : System) (tree : Tree) → IsAccepted context s tree → has_end tree ≡ true → (log : Log) × (found_log context s tree ≡ Some log)
   pub no_end : (context : Context) (s : System) (tree : Tree) → has_end tree ≡ false → found_log context s tree ≡ None
 
+-- The search ends, if it does, at a system that is well made.
+pub record EndsAreWellMade : Type 0 where
+  pub ends : (theory : Theory) → SuitsProofs theory → (context : Context) → IsContextOf theory context → (s : System) → IsWellMade context s
+      → (tree : Tree) (log : Log) → found_log context s tree ≡ Some log → (t : System) × IsWellMade context t × (end_log context t ≡ Some log)
+
 -- What a finished tree shows of learning logs, in a context that has the lemma's public names. From the negation of the lemma's guarded form: no log that meets the restrictions breaks the
 -- lemma. From the guarded form: none satisfies it.
 pub record TreesShowLogs : Type 0 where
@@ -44,11 +49,8 @@ pub record TreesShowLogs : Type 0 where
   pub exists_trace : (theory : Theory) → SuitsProofs theory → (lemma : Lemma) → IsBasicFormula (signature_of theory) lemma.formula → (g : Guarded) → checked_form lemma.formula ≡ Some g
       → (context : Context) → IsContextOf theory context → HasNames (names_in context.public_names) lemma.formula → (tree : Tree) → IsAccepted context (root g) tree → IsFinished tree → HoldsInNoLog theory lemma
 
--- What a text gives whose terms have normal forms, whose equations keep to what is public, and whose rules have no findings and names of their own: its
--- theory is right. What is right of a theory is all that covering asks of it.
-pub record TextsAreRight : Type 0 where
-  pub right : (theory : WrittenTheory) → HasNormalForms (signature_of (theory_of theory)) → KeepPublic (signature_of (theory_of theory)).symbols (signature_of (theory_of theory)).equations → Every (IsBasicRule (signature_of (theory_of theory))) theory.rules → Every (λ (r : WrittenRule). rule_is_wrong r ≡ false) theory.rules
-      → Distinct (map (λ (r : WrittenRule). r.name) theory.rules) → IsRightTheory (theory_of theory)
+-- what is right of a theory is all that covering asks of it
+pub record RightTheoriesSuit : Type 0 where
   pub suits : (theory : Theory) → IsRightTheory theory → SuitsProofs theory
 
 -- What a finished tree shows of a lemma that doesn't speak of learning, of a theory whose terms have normal forms, whose equations keep to what is

@@ -5,11 +5,16 @@
 // within its budget of steps. All is said of the definitions.
 #![tactic(auto)]
 
-ghost use Rattle.sp_law_tree.specs.Laws.{AcceptedTreesShow, TreesShowLogs, TextsAreRight, LemmasAreShown, NamesStand, GrowthIsAccepted};
+ghost use Rattle.sp_law_tree.specs.Laws.{AcceptedTreesShow, EndsAreWellMade, TreesShowLogs, RightTheoriesSuit, LemmasAreShown, NamesStand, GrowthIsAccepted};
 
 /// The root of an accepted tree that is finished has no solution; where the search ends at a leaf, the tree has a log.
 pub fn accepted_trees_show()
     ensures { AcceptedTreesShow }
+{}
+
+/// The search ends, if it does, at a system that is well made.
+pub fn ends_are_well_made()
+    ensures { EndsAreWellMade }
 {}
 
 /// What finished trees show of learning logs.
@@ -17,9 +22,9 @@ pub fn trees_show_logs()
     ensures { TreesShowLogs }
 {}
 
-/// A text without findings has a right theory.
-pub fn texts_are_right()
-    ensures { TextsAreRight }
+/// What is right of a theory is all that covering asks of it.
+pub fn right_theories_suit()
+    ensures { RightTheoriesSuit }
 {}
 
 /// What finished trees show of lemmas.

@@ -14,8 +14,8 @@ use Rattle.sp_spec.proofs.Logs.{log_sources, log_fresh}
 use Rattle.sp_spec.proofs.Same.{same_term_decides}
 use Rattle.sp_spec_forms.specs.Forms.{RuleForms, forms_of}
 use Rattle.sp_law_equal.specs.RightTheory.{HasNormalInstances}
-use Rattle.sp_link.specs.Links.{is_link}
-use Rattle.sp_link.proofs.Deciding.{in_log}
+use Rattle.sp_destruct.specs.Links.{is_link}
+use Rattle.sp_destruct.proofs.Deciding.{in_log}
 use Rattle.sp_log.specs.Checking.{have_sources, same_source, are_new}
 use Rattle.sp_log.proofs.Instances.{step_decides}
 use Rattle.sp_log.proofs.New.{new_decides, is_not}

@@ -3,7 +3,7 @@ use Rattle.std.proofs.Common.{◌≡◌, List, [], ◌∷◌, ◌++◌, map, sym
 use Rattle.std.proofs.lemmas.List.{append-nil}
 use Rattle.sp_spec.specs.Term.{Ground}
 use Rattle.sp_spec.specs.Log.{Source, Entry, sources_of, all_sources, fresh_uses, all_fresh_uses}
-use Rattle.sp_ground.specs.View.{ground_of}
+use Rattle.sp_fact.specs.GroundView.{ground_of}
 use Rattle.sp_log.specs.View.{source_of}
 use Rattle.sp_learn.specs.declared.check.Used.{Used}
 use Rattle.sp_learn.specs.Learning.{learnt_by, learnt_in}

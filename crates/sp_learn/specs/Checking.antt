@@ -5,7 +5,7 @@ use Rattle.sp_spec.specs.Signature.{Signature}
 use Rattle.sp_spec.specs.Destruction.{destructions}
 use Rattle.sp_spec.specs.Log.{by_chain, Entry, step, send, learn, all_sources, sources_of}
 use Rattle.sp_spec_forms.specs.Forms.{RuleForms}
-use Rattle.sp_link.specs.Links.{is_link}
+use Rattle.sp_destruct.specs.Links.{is_link}
 use Rattle.sp_log.specs.Checking.{step_is_instance, have_sources, same_source, are_new, names_are_new}
 use Rattle.sp_learn.specs.declared.check.Clause.{Clause}
 use Rattle.sp_learn.specs.declared.check.Clause.TheVariants.{Instance, Sources, Freshness, SentLearnt, LearntOnce, Way, MadeAlone, ChainIsNew}

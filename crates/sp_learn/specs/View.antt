@@ -2,7 +2,7 @@
 use Rattle.std.specs.Prelude.{◌≡◌, List, map}
 use Rattle.sp_spec.specs.Log as spec
 use Rattle.sp_spec.specs.Lists.{newest_first}
-use Rattle.sp_ground.specs.View.{ground_of}
+use Rattle.sp_fact.specs.GroundView.{ground_of}
 use Rattle.sp_log.specs.View as steps
 use Rattle.sp_log.specs.View.{source_of}
 use Rattle.sp_learn.specs.Learning.{learnt_in}

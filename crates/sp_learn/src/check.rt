@@ -7,7 +7,7 @@ ghost use Rattle.sp_spec.specs.Same.{same_term};
 ghost use Rattle.sp_spec.specs.Theory as spec_theory;
 ghost use Rattle.sp_spec_forms.specs.Forms.{forms_of};
 ghost use Rattle.sp_law_equal.specs.RightTheory.{HasNormalInstances};
-ghost use Rattle.sp_ground.specs.View.{ground_of, signature_of};
+ghost use Rattle.sp_fact.specs.GroundView.{ground_of, signature_of};
 ghost use Rattle.sp_book.specs.View.{rule_forms_of};
 ghost use Rattle.sp_destruct.specs.View.{destruction_of};
 ghost use Rattle.sp_log.specs.Checking.{are_new};
@@ -23,12 +23,12 @@ use crate::log::{Entry, How, Log};
 use crate::sources::have_sources;
 use sp_book::form::RuleForms;
 use sp_destruct::destruction::{Destruction, chains_of};
-use sp_ground::signature::Signature;
-use sp_ground::term::GroundTerm;
+use sp_fact::ground_term::GroundTerm;
+use sp_fact::signature::Signature;
 use sp_log::check::{names_are_new, sources_are_new, step_is_instance};
 use sp_log::log::{Entry as StepEntry, Source};
 use sp_log::names::is_one_of;
-use sp_term::term::{Sort, copy, has_sort};
+use sp_term::term::{Sort, has_sort};
 use std::alloc::{AllocError, Global};
 
 /// What a log owes of each entry, by the definition of logs.
@@ -62,7 +62,7 @@ pub enum Checked {
 }
 
 /// What the entries before have used and learnt.
-#[derive(Debug, Drop)]
+#[derive(Drop)]
 pub struct Used {
     /// the linear sources that they named
     pub sources: Vec<Source>,
@@ -115,7 +115,7 @@ fn name_is_new(
         if is_one_of(names, message) {
             return Ok(false);
         }
-        names.push(copy(message)?)?;
+        names.push(message.clone()?)?;
     }
     Ok(true)
 }
@@ -248,7 +248,7 @@ fn broken_learn(
         message,
         how,
     )?;
-    used.learnt.push(copy(message)?)?;
+    used.learnt.push(message.clone()?)?;
     Ok(clause)
 }
 

@@ -1,17 +1,17 @@
 // Learning logs.
 
 ghost use Rattle.std.specs.Prelude.{◌≡◌, IfOk, map};
-ghost use Rattle.sp_ground.specs.View.{ground_of};
+ghost use Rattle.sp_fact.specs.GroundView.{ground_of};
 ghost use Rattle.sp_learn.specs.Learning as spec;
 ghost use Rattle.sp_learn.specs.View.{entries_of, entry_of, how_of};
 
-use sp_ground::term::GroundTerm;
+use sp_fact::ground_term::GroundTerm;
 use sp_log::log::Entry as StepEntry;
-use sp_term::term::copy;
+use sp_term::term::copied;
 use std::alloc::{AllocError, Global};
 
 /// How a message is learnt.
-#[derive(Debug, Drop)]
+#[derive(Drop)]
 pub enum How {
     /// as a public name
     PublicName,
@@ -31,7 +31,7 @@ pub enum How {
 }
 
 /// What a rule did, or what the adversary sent or learnt.
-#[derive(Debug, Drop)]
+#[derive(Drop)]
 pub enum Entry {
     /// an instance of a rule
     Step(StepEntry),
@@ -42,7 +42,7 @@ pub enum Entry {
 }
 
 /// What was done, one after the other.
-#[derive(Debug, Drop)]
+#[derive(Drop)]
 pub struct Log {
     /// the entries, the oldest first
     pub entries: Vec<Entry>,
@@ -59,35 +59,16 @@ pub fn learnt_in(alloc: Global, entries: &[Entry]) -> Result<Vec<GroundTerm>, Al
     let mut learnt = Vec::new(alloc);
     for entry in entries {
         if let Entry::Learn(message, _) = entry {
-            learnt.push(copy(message)?)?;
+            learnt.push(message.clone()?)?;
         }
     }
     Ok(learnt)
 }
 
-/// Messages equal to these.
-pub fn copy_messages(
-    alloc: Global,
-    messages: &Vec<GroundTerm>,
-) -> Result<Vec<GroundTerm>, AllocError>
-    ensures { IfOk result (λ ts. map ground_of ts.items ≡ map ground_of messages.now.items) }
-{
-    let mut made = Vec::with_capacity(alloc, messages.len())?;
-    for message in messages {
-        made.push(copy(message)?)?;
-    }
-    Ok(made)
-}
+impl Clone for How {
+    ghost is_clone = { λ g h. how_of h ≡ how_of g };
 
-impl How {
-    /// The same way.
-    ///
-    /// # Errors
-    ///
-    /// `AllocError` where memory is wanting.
-    pub fn copy(&self, alloc: Global) -> Result<How, AllocError>
-        ensures { IfOk result (λ h. how_of h ≡ how_of self.now) }
-    {
+    fn clone(&self) -> Result<How, AllocError> {
         match self {
             How::PublicName => Ok(How::PublicName),
             How::OwnName => Ok(How::OwnName),
@@ -97,7 +78,7 @@ impl How {
                 conclusion,
                 messages,
             } => {
-                let messages = copy_messages(alloc, messages)?;
+                let messages = copied(messages)?;
                 Ok(How::Chain {
                     step: *step,
                     conclusion: *conclusion,
@@ -108,40 +89,28 @@ impl How {
     }
 }
 
-impl Entry {
-    /// An equal entry.
-    ///
-    /// # Errors
-    ///
-    /// `AllocError` where memory is wanting.
-    pub fn copy(&self, alloc: Global) -> Result<Entry, AllocError>
-        ensures { IfOk result (λ e. entry_of e ≡ entry_of self.now) }
-    {
+impl Clone for Entry {
+    ghost is_clone = { λ e f. entry_of f ≡ entry_of e };
+
+    fn clone(&self) -> Result<Entry, AllocError> {
         match self {
-            Entry::Step(step) => Ok(Entry::Step(step.copy(alloc)?)),
-            Entry::Send(message) => Ok(Entry::Send(copy(message)?)),
+            Entry::Step(step) => Ok(Entry::Step(step.clone()?)),
+            Entry::Send(message) => Ok(Entry::Send(message.clone()?)),
             Entry::Learn(message, how) => {
-                let message = copy(message)?;
-                let how = how.copy(alloc)?;
+                let message = message.clone()?;
+                let how = how.clone()?;
                 Ok(Entry::Learn(message, how))
             }
         }
     }
 }
 
-impl Log {
-    /// An equal log.
-    ///
-    /// # Errors
-    ///
-    /// `AllocError` where memory is wanting.
-    pub fn copy(&self, alloc: Global) -> Result<Log, AllocError>
-        ensures { IfOk result (λ r. entries_of r ≡ entries_of self.now) }
-    {
-        let mut entries = Vec::with_capacity(alloc, self.entries.len())?;
-        for entry in &self.entries {
-            entries.push(entry.copy(alloc)?)?;
-        }
+impl Clone for Log {
+    ghost is_clone = { λ r s. entries_of s ≡ entries_of r };
+
+    #[tactic(auto, using(sp_term::proofs::Cloned::cloned))]
+    fn clone(&self) -> Result<Log, AllocError> {
+        let entries = self.entries.clone()?;
         Ok(Log { entries })
     }
 }

@@ -4,15 +4,15 @@ ghost use Rattle.std.specs.Prelude.{◌≡◌, Some, false, map, slice_get};
 ghost use Rattle.sp_spec.specs.Term.{more, none};
 ghost use Rattle.sp_law_run.specs.Taken.{same_fact};
 ghost use Rattle.sp_spec.specs.Same.{same_terms};
-ghost use Rattle.sp_ground.specs.View.{ground_fact, ground_of, grounds_of};
+ghost use Rattle.sp_fact.specs.GroundView.{ground_fact, ground_of, grounds_of};
 ghost use Rattle.sp_log.specs.Checking as steps;
 ghost use Rattle.sp_log.specs.View.{source_of};
 ghost use Rattle.sp_learn.specs.Learning as spec;
 ghost use Rattle.sp_learn.specs.View.{entry_of};
 
 use crate::log::Entry;
-use sp_ground::fact::GroundFact;
-use sp_ground::term::GroundTerm;
+use sp_fact::ground_fact::GroundFact;
+use sp_fact::ground_term::GroundTerm;
 use sp_log::log::Source;
 use sp_log::sources;
 use sp_term::term::same;

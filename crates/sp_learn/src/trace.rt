@@ -3,15 +3,14 @@
 ghost use Rattle.std.specs.Prelude.{◌≡◌, ◌∷◌, [], ◌++◌, IfOk, OnOk, map};
 ghost use Rattle.sp_spec.specs.Log.{entry_actions, log_trace, visible_trace};
 ghost use Rattle.sp_spec.specs.Rule.{learns, sends};
-ghost use Rattle.sp_ground.specs.View.{ground_action, ground_of, trace_of};
+ghost use Rattle.sp_fact.specs.GroundView.{ground_action, ground_of, trace_of};
 ghost use Rattle.sp_learn.specs.View.{entry_of, log_of};
 
 use crate::log::{Entry, Log};
 use sp_fact::fact::Action;
-use sp_ground::fact::{GroundAction, Trace};
-use sp_ground::term::GroundTerm;
-use sp_log::copying::copy_actions;
-use sp_term::term::{Name, copy};
+use sp_fact::ground_fact::{GroundAction, Trace};
+use sp_fact::ground_term::GroundTerm;
+use sp_term::term::Name;
 use std::alloc::{AllocError, Global};
 
 // The action of sending a message.
@@ -20,7 +19,7 @@ fn sending(alloc: Global, message: &GroundTerm) -> Result<GroundAction, AllocErr
 {
     let symbol = Name::new(alloc, "K")?;
     let mut args = Vec::with_capacity(alloc, 1)?;
-    args.push(copy(message)?)?;
+    args.push(message.clone()?)?;
     Ok(Action { symbol, args })
 }
 
@@ -30,16 +29,20 @@ fn learning(alloc: Global, message: &GroundTerm) -> Result<GroundAction, AllocEr
 {
     let symbol = Name::new(alloc, "KU")?;
     let mut args = Vec::with_capacity(alloc, 1)?;
-    args.push(copy(message)?)?;
+    args.push(message.clone()?)?;
     Ok(Action { symbol, args })
 }
 
 // The actions of an entry.
+#[tactic(auto, using(sp_term::proofs::Cloned::cloned))]
 fn actions_of(alloc: Global, entry: &Entry) -> Result<Vec<GroundAction>, AllocError>
     ensures { IfOk result (λ xs. map ground_action xs.items ≡ entry_actions (entry_of entry.now)) }
 {
     match entry {
-        Entry::Step(step) => copy_actions(alloc, &step.facts.actions),
+        Entry::Step(step) => {
+            let actions = step.facts.actions.clone()?;
+            Ok(actions)
+        }
         Entry::Send(message) => {
             let mut actions = Vec::with_capacity(alloc, 1)?;
             actions.push(sending(alloc, message)?)?;

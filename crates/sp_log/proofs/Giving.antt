@@ -11,7 +11,7 @@ use Rattle.sp_law_equal.specs.Matching.{Bound, matched_all}
 use Rattle.sp_spec.proofs.Same.{no_test_decides}
 use Rattle.sp_spec.proofs.Bindings.{all_given}
 use Rattle.sp_law_run.specs.Taken.{same_choice}
-use Rattle.sp_law_found.specs.Found.{matched_facts, matched_actions, matched_instance}
+use Rattle.sp_law_log_steps.specs.Found.{matched_facts, matched_actions, matched_instance}
 use Rattle.sp_log.specs.Checking.{alike_facts, alike_actions, are_alike}
 use Rattle.sp_spec.proofs.Facts.{made_facts, made_fact, made_action}
 

@@ -28,8 +28,8 @@ use Rattle.sp_law_forms.proofs.Completeness.{complete_law}
 use Rattle.sp_law_forms.proofs.Soundness.{sound_law}
 use Rattle.sp_law_run.specs.Given.{AgreeWith}
 use Rattle.sp_law_run.specs.Taken.{same_choice}
-use Rattle.sp_law_found.specs.Found.{matched_instance}
-use Rattle.sp_law_found.proofs.Fitting.{instance_fits}
+use Rattle.sp_law_log_steps.specs.Found.{matched_instance}
+use Rattle.sp_law_log_steps.proofs.Fitting.{instance_fits}
 use Rattle.sp_norm.specs.Over.{over}
 use Rattle.sp_norm.proofs.Symbols.{over_decides}
 use Rattle.sp_log.specs.Checking.{are_in_normal_form, is_value, are_values, give_values, alike_facts, alike_actions, are_alike, is_instance, is_instance_of_any}

@@ -2,7 +2,7 @@
 use Rattle.std.proofs.Common.{◌≡◌, List, [], ◌∷◌, ◌++◌, map, refl, sym, ap, ◌∙◌, append_assoc}
 use Rattle.sp_spec.specs.Term.{Ground}
 use Rattle.sp_spec.specs.Execution.{Step, make_fresh}
-use Rattle.sp_law_found.specs.Found.{fresh_steps}
+use Rattle.sp_law_log_steps.specs.Found.{fresh_steps}
 use Rattle.sp_spec.specs.Lists.{newest_first}
 use Rattle.sp_spec.proofs.Lists.{newest_twice}
 

@@ -4,7 +4,7 @@ use Rattle.sp_spec.specs.Term.{Variable, Grounds, none, more}
 use Rattle.sp_spec.specs.Rule.{Fact, Action, Declared}
 use Rattle.sp_spec.specs.Log.{Source, Entry, linear_sources}
 use Rattle.sp_law_equal.specs.Matching.{Bound, matched_all}
-use Rattle.sp_law_found.specs.Found.{matched_facts, matched_actions, given_to}
+use Rattle.sp_law_log_steps.specs.Found.{matched_facts, matched_actions, given_to}
 use Rattle.sp_log.specs.Checking.{alike_facts, alike_actions, has_source, have_sources}
 use Rattle.std.proofs.lemmas.Bool.{and_right}
 

@@ -15,7 +15,7 @@ use Rattle.sp_spec_forms.specs.Forms.{RuleForms}
 use Rattle.sp_law_equal.specs.Matching.{Bound, has_sort}
 use Rattle.sp_law_equal.specs.Normal.{normal_all}
 use Rattle.sp_law_run.specs.Taken.{same_choice, same_fact}
-use Rattle.sp_law_found.specs.Found.{matched_instance}
+use Rattle.sp_law_log_steps.specs.Found.{matched_instance}
 use Rattle.sp_norm.specs.Over.{over}
 
 -- each term is its own normal form

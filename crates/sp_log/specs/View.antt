@@ -2,7 +2,7 @@
 use Rattle.std.specs.Prelude.{map}
 use Rattle.sp_spec.specs.Log as spec
 use Rattle.sp_term.specs.View.{name_of}
-use Rattle.sp_ground.specs.View.{ground_facts}
+use Rattle.sp_fact.specs.GroundView.{ground_facts}
 use Rattle.sp_log.specs.declared.log.Source.{Source}
 use Rattle.sp_log.specs.declared.log.Source.TheVariants.{FreshRule, Conclusion}
 use Rattle.sp_log.specs.declared.log.Entry.{Entry}

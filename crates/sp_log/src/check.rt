@@ -3,7 +3,7 @@
 ghost use Rattle.std.specs.Prelude.{◌≡◌, ◌++◌, IfOk, map, true};
 ghost use Rattle.sp_spec.specs.Log.{fresh_uses, sources_of};
 ghost use Rattle.sp_spec.specs.Same.{same_term};
-ghost use Rattle.sp_ground.specs.View.{ground_of, signature_of};
+ghost use Rattle.sp_fact.specs.GroundView.{ground_of, signature_of};
 ghost use Rattle.sp_book.specs.View.{rule_forms_of};
 ghost use Rattle.sp_log.specs.Checking as spec;
 ghost use Rattle.sp_log.specs.View.{entry_of, source_of};
@@ -14,8 +14,8 @@ use crate::names::{fresh_names, use_names};
 use crate::normal_form::are_in_normal_form;
 use crate::sources::{linear_sources, name_sources};
 use sp_book::form::RuleForms;
-use sp_ground::signature::Signature;
-use sp_ground::term::GroundTerm;
+use sp_fact::ground_term::GroundTerm;
+use sp_fact::signature::Signature;
 use std::alloc::{AllocError, Global};
 
 /// Whether the entry names no linear source again.

@@ -7,9 +7,9 @@ ghost use Rattle.sp_spec.specs.Term as spec_term;
 ghost use Rattle.sp_spec.specs.Term.{valued_all};
 ghost use Rattle.sp_spec_forms.specs.Forms as spec;
 ghost use Rattle.sp_law_equal.specs.Normal.{normal_all};
-ghost use Rattle.sp_law_found.specs.Found as found;
+ghost use Rattle.sp_law_log_steps.specs.Found as found;
 ghost use Rattle.sp_term.specs.View.{name_of, never_of, sort_of, variable_of};
-ghost use Rattle.sp_ground.specs.View.{equation_of, given_of, ground_fact, ground_facts, ground_of, grounds_of, step_of};
+ghost use Rattle.sp_fact.specs.GroundView.{equation_of, given_of, ground_fact, ground_facts, ground_of, grounds_of, step_of};
 ghost use Rattle.sp_spec.specs.Lists.{newest_first};
 ghost use Rattle.sp_norm.specs.Bounds.{bounds};
 ghost use Rattle.sp_fact.specs.View.{declared_of};
@@ -20,15 +20,15 @@ use crate::instance::matched_values;
 use crate::log::Entry;
 use crate::names::fresh_names;
 use sp_book::form::{Form, RuleForms};
+use sp_fact::ground_fact::{GroundFact, GroundFacts};
+use sp_fact::ground_term::GroundTerm;
 use sp_fact::rule::Declared;
-use sp_ground::fact::{GroundFact, GroundFacts};
-use sp_ground::signature::Equation;
-use sp_ground::step::{Given, Step};
-use sp_ground::term::GroundTerm;
+use sp_fact::signature::Equation;
+use sp_fact::step::{Given, Step};
 use sp_norm::normal::normal_all;
 use sp_term::apply::{Assigns, apply_all};
 use sp_term::subst::Values;
-use sp_term::term::{Name, Never, Sort, Term, Variable, copy};
+use sp_term::term::{Name, Never, Sort, Term, Variable};
 use std::alloc::{AllocError, Global};
 
 // What is given to a variable that stands in no fact, and may be written.
@@ -52,7 +52,7 @@ fn bound_or_any(
     ensures { IfOk result (λ t. ground_of t ≡ found.bound_or_any (bounds values.now) (variable_of variable)) }
 {
     match values.get(variable) {
-        Some(value) => copy(value),
+        Some(value) => value.clone(),
         None => stand_in(alloc, variable.sort),
     }
 }
@@ -104,8 +104,8 @@ fn given_to(
 {
     let mut given = Vec::with_capacity(alloc, variables.len())?;
     for (declared, value) in variables.iter().zip(values) {
-        let variable = declared.name.copy()?;
-        let value = copy(value)?;
+        let variable = declared.name.clone()?;
+        let value = value.clone()?;
         given.push(Given { variable, value })?;
     }
     Ok(given)
@@ -194,7 +194,7 @@ fn make_names(
 {
     let names = fresh_names(alloc, premises)?;
     for name in &names {
-        steps.push(Step::MakeFresh(copy(name)?))?;
+        steps.push(Step::MakeFresh(name.clone()?))?;
     }
     Ok(())
 }
@@ -215,7 +215,7 @@ pub fn add_steps(
         ≡ map step_of steps.old.items ++ newest_first (found.entry_steps (map equation_of equations.now.items) (map rule_forms_of rules.now.items) (entry_of entry.now))) }
 {
     make_names(alloc, &entry.facts.premises, steps)?;
-    let name = entry.rule.copy()?;
+    let name = entry.rule.clone()?;
     let given = given_by(alloc, equations, rules, &entry.rule, &entry.facts)?;
     steps.push(Step::UseRule(name, given))?;
     Ok(())

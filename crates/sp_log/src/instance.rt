@@ -1,19 +1,19 @@
 // Whether facts are an instance of a form of a rule, by the values that they give to its variables.
 
 ghost use Rattle.std.specs.Prelude.{◌≡◌, IfOk, map, option_map};
-ghost use Rattle.sp_law_found.specs.Found.{matched_actions, matched_facts, matched_instance};
+ghost use Rattle.sp_law_log_steps.specs.Found.{matched_actions, matched_facts, matched_instance};
 ghost use Rattle.sp_term.specs.View.{name_of};
 ghost use Rattle.std.specs.List.{list_any};
 ghost use Rattle.sp_book.specs.View.{form_of, rule_forms_of};
 ghost use Rattle.sp_fact.specs.View.{action_of, fact_of, facts_of};
-ghost use Rattle.sp_ground.specs.View.{ground_action, ground_fact, ground_facts, signature_of};
+ghost use Rattle.sp_fact.specs.GroundView.{ground_action, ground_fact, ground_facts, signature_of};
 ghost use Rattle.sp_norm.specs.Bounds.{answer, bound_of, bounds};
 ghost use Rattle.sp_log.specs.Checking as spec;
 
 use sp_book::form::{Form, RuleForms};
 use sp_fact::fact::{Action, Fact, Facts};
-use sp_ground::fact::{GroundAction, GroundFact, GroundFacts};
-use sp_ground::signature::Signature;
+use sp_fact::ground_fact::{GroundAction, GroundFact, GroundFacts};
+use sp_fact::signature::Signature;
 use sp_norm::over::is_over;
 use sp_term::matching::extend_all;
 use sp_term::subst::{Binding, Values};

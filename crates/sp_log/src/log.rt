@@ -1,12 +1,11 @@
 // Steps of logs.
 
-ghost use Rattle.std.specs.Prelude.{◌≡◌, IfOk, map};
-ghost use Rattle.sp_log.specs.View.{entry_of, source_of};
+ghost use Rattle.std.specs.Prelude.{◌≡◌};
+ghost use Rattle.sp_log.specs.View.{entry_of};
 
-use crate::copying::copy_of;
-use sp_ground::fact::GroundFacts;
+use sp_fact::ground_fact::GroundFacts;
 use sp_term::term::Name;
-use std::alloc::{AllocError, Global};
+use std::alloc::AllocError;
 
 /// Where a premise comes from.
 #[derive(Clone, Copy, Debug, PartialEq, Eq)]
@@ -18,7 +17,7 @@ pub enum Source {
 }
 
 /// What a rule did: an instance of it, with a source for each of its premises.
-#[derive(Debug, Drop)]
+#[derive(Drop)]
 pub struct Entry {
     /// the rule's name
     pub rule: Name,
@@ -28,28 +27,13 @@ pub struct Entry {
     pub sources: Vec<Source>,
 }
 
-fn copy_sources(alloc: Global, sources: &Vec<Source>) -> Result<Vec<Source>, AllocError>
-    ensures { IfOk result (λ os. map source_of os.items ≡ map source_of sources.now.items) }
-{
-    let mut made = Vec::with_capacity(alloc, sources.len())?;
-    for source in sources {
-        made.push(*source)?;
-    }
-    Ok(made)
-}
+impl Clone for Entry {
+    ghost is_clone = { λ e f. entry_of f ≡ entry_of e };
 
-impl Entry {
-    /// An equal entry.
-    ///
-    /// # Errors
-    ///
-    /// `AllocError` where memory is wanting.
-    pub fn copy(&self, alloc: Global) -> Result<Entry, AllocError>
-        ensures { IfOk result (λ e. entry_of e ≡ entry_of self.now) }
-    {
-        let rule = self.rule.copy()?;
-        let facts = copy_of(alloc, &self.facts)?;
-        let sources = copy_sources(alloc, &self.sources)?;
+    fn clone(&self) -> Result<Entry, AllocError> {
+        let rule = self.rule.clone()?;
+        let facts = self.facts.clone()?;
+        let sources = Vec::from_slice(*self.sources.allocator(), &self.sources)?;
         Ok(Entry {
             rule,
             facts,

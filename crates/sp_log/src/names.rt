@@ -3,13 +3,13 @@
 ghost use Rattle.std.specs.Prelude.{◌≡◌, ◌++◌, IfOk, map, true};
 ghost use Rattle.sp_spec.specs.Log as log;
 ghost use Rattle.sp_spec.specs.Same.{same_term};
-ghost use Rattle.sp_ground.specs.View.{ground_fact, ground_of};
+ghost use Rattle.sp_fact.specs.GroundView.{ground_fact, ground_of};
 ghost use Rattle.sp_log.specs.Checking as spec;
 
 use crate::sources::is_fresh;
-use sp_ground::fact::GroundFact;
-use sp_ground::term::GroundTerm;
-use sp_term::term::{copy, same};
+use sp_fact::ground_fact::GroundFact;
+use sp_fact::ground_term::GroundTerm;
+use sp_term::term::same;
 use std::alloc::{AllocError, Global};
 
 /// The names whose Fr the premises use.
@@ -20,7 +20,7 @@ pub fn fresh_names(alloc: Global, premises: &Vec<GroundFact>) -> Result<Vec<Grou
     for premise in premises {
         if is_fresh(premise) {
             if let Some(name) = premise.args.first() {
-                names.push(copy(name)?)?;
+                names.push(name.clone()?)?;
             }
         }
     }
@@ -48,7 +48,7 @@ pub fn use_names(used: &mut Vec<GroundTerm>, names: &Vec<GroundTerm>) -> Result<
         if is_one_of(used, name) {
             return Ok(false);
         }
-        used.push(copy(name)?)?;
+        used.push(name.clone()?)?;
     }
     Ok(true)
 }

@@ -2,12 +2,12 @@
 
 ghost use Rattle.std.specs.Prelude.{◌≡◌, IfOk, map};
 ghost use Rattle.std.specs.List.{list_all};
-ghost use Rattle.sp_ground.specs.View.{equation_of, ground_action, ground_fact, ground_facts, grounds_of};
+ghost use Rattle.sp_fact.specs.GroundView.{equation_of, ground_action, ground_fact, ground_facts, grounds_of};
 ghost use Rattle.sp_log.specs.Checking as spec;
 
-use sp_ground::fact::{GroundAction, GroundFact, GroundFacts};
-use sp_ground::signature::Equation;
-use sp_ground::term::GroundTerm;
+use sp_fact::ground_fact::{GroundAction, GroundFact, GroundFacts};
+use sp_fact::ground_term::GroundTerm;
+use sp_fact::signature::Equation;
 use sp_norm::normal::normal_all;
 use sp_term::term::all_same;
 use std::alloc::{AllocError, Global};

@@ -3,12 +3,12 @@
 ghost use Rattle.std.specs.Prelude.{◌≡◌, ◌++◌, IfOk, Some, map, true};
 ghost use Rattle.sp_spec.specs.Log as log;
 ghost use Rattle.sp_law_run.specs.Taken.{same_fact};
-ghost use Rattle.sp_ground.specs.View.{ground_fact};
+ghost use Rattle.sp_fact.specs.GroundView.{ground_fact};
 ghost use Rattle.sp_log.specs.Checking as spec;
 ghost use Rattle.sp_log.specs.View.{entry_of, source_of};
 
 use crate::log::{Entry, Source};
-use sp_ground::fact::GroundFact;
+use sp_fact::ground_fact::GroundFact;
 use sp_term::term::all_same;
 use std::alloc::{AllocError, Global};
 

@@ -1,8 +1,8 @@
 -- The cases of a disjunction, by its position.
 use Rattle.std.proofs.Common.{◌≡◌, ℕ, zero, suc, List, [], ◌∷◌, ◌++◌, take, drop, Option, Some, None, option_map, option_and_then, slice_get, refl, ap, ap₂, ◌∙◌, codes, decimal}
-use Rattle.sp_spec.specs.Guarded.{Guarded, truth, falsity, holds, fails, all_of, one_of, some, every, Guardeds, no_more, and_then}
+use Rattle.sp_spec.specs.Guarded.{Guarded, truth, falsity, holds, fails, all_of, one_of, some, every, Guardeds, no_more, and_then, parts_of}
 use Rattle.sp_spec_system.specs.System.{System}
-use Rattle.sp_spec_system.specs.Formulas.{Found, behind, spending, parts_of}
+use Rattle.sp_spec_system.specs.Formulas.{Found, behind, spending}
 use Rattle.sp_spec_system.specs.Move.{Case}
 use Rattle.sp_spec_formula.specs.Or.{by_part, disjunction_at, or_cases}
 use Rattle.sp_system.specs.SpendView.{spending_at}

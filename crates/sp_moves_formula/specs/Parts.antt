@@ -1,9 +1,8 @@
 -- The parts of a disjunction that stands at a position, as lists.
 use Rattle.std.specs.Prelude.{ℕ, suc, List, [], ◌∷◌, ◌++◌, Option, Some, None, codes, decimal}
-use Rattle.sp_spec.specs.Guarded.{Guarded, one_of}
+use Rattle.sp_spec.specs.Guarded.{Guarded, one_of, parts_of}
 use Rattle.sp_spec_system.specs.System.{System}
 use Rattle.sp_spec_system.specs.Move.{Case}
-use Rattle.sp_spec_system.specs.Formulas.{parts_of}
 use Rattle.sp_system.specs.SpendView.{spending_at}
 
 abbrev pub disjuncts : Guarded → Option (List Guarded)

@@ -1,6 +1,6 @@
 -- What the functions of this crate give, in parts of the written move.
 use Rattle.std.specs.Prelude.{ℕ, ◌+◌, List, [], ◌∷◌, if◌then◌else◌, Option, Some, None, option_map, bytes_eq, codes}
-use Rattle.sp_spec.specs.Term.{Variable, Term, var, Terms, none, more}
+use Rattle.sp_spec.specs.Term.{Variable, Term, var}
 use Rattle.sp_spec.specs.Rule.{Action}
 use Rattle.sp_spec.specs.Guarded.{Guarded, holds, acts, free_time}
 use Rattle.sp_spec_system.specs.Formulas.{freed_action}
@@ -31,11 +31,6 @@ by_form name form s i a = by_actions (with_step s i name form) a (renamed s.next
 -- the cases of a new step of one rule
 abbrev pub by_rule : RuleForms → System → ℕ → Action Variable → List Case
 by_rule r s i a = named r.name (by_forms r.name r.forms s i a)
-
--- the term, if it is the only one
-abbrev pub only_one : Terms Variable → Option (Term Variable)
-only_one (more t none) = Some t
-only_one ts = None
 
 -- the case in which the adversary does what the name says with the message
 abbrev pub by_message : System → ℕ → List ℕ → Term Variable → List Case

@@ -31,7 +31,7 @@ pub enum Clause {
 }
 
 /// What applying a move gives.
-#[derive(Debug, Drop)]
+#[derive(Drop)]
 pub enum Applied {
     /// its cases
     Cases(Vec<Case>),

@@ -1,19 +1,20 @@
 // An action that the adversary does, at a new event.
 
-ghost use Rattle.std.specs.Prelude.{◌≡◌, [], ◌∷◌, ◌++◌, IfOk, codes, map, option_map};
+ghost use Rattle.std.specs.Prelude.{◌≡◌, [], ◌∷◌, ◌++◌, IfOk, codes, map};
 ghost use Rattle.sp_term.specs.View.{name_of, view, view_all};
 ghost use Rattle.sp_spec_system.specs.System as system_spec;
 ghost use Rattle.sp_system.specs.SystemView.{event_of, system_of};
 ghost use Rattle.sp_spec_formula.specs.Action as spec;
 ghost use Rattle.sp_moves_formula.specs.View.{case_of};
-ghost use Rattle.sp_moves_formula.specs.Sought.{only_one, by_message};
+ghost use Rattle.sp_moves_formula.specs.Sought.{by_message};
 
 use crate::moves::Case;
 use sp_fact::fact::Action;
 use sp_system::event::Event;
+use sp_system::picked::only_term;
 use sp_system::system::System;
 use sp_system::way::Way;
-use sp_term::term::{Name, Term, copy};
+use sp_term::term::{Name, Term};
 use std::alloc::{AllocError, Global};
 
 // The case of this name, in which the system has the event too.
@@ -21,7 +22,7 @@ fn with_event(alloc: Global, system: &System, name: &str, event: Event) -> Resul
     ensures { IfOk result (λ c. case_of c
         ≡ record { name = name.now; system = system_spec.with_events (system_of system.now) ((system_of system.now).events ++ event_of event ∷ []) }) }
 {
-    let mut made = system.copy(alloc)?;
+    let mut made = system.clone()?;
     made.events.push(event)?;
     let name = String::from_str(alloc, name)?;
     Ok(Case { name, system: made })
@@ -30,7 +31,7 @@ fn with_event(alloc: Global, system: &System, name: &str, event: Event) -> Resul
 fn sent(alloc: Global, system: &System, time: u128, message: &Term) -> Result<Case, AllocError>
     ensures { IfOk result (λ c. case_of c ≡ spec.done_there (codes "Send") (system_of system.now) time (system_spec.sending (view message.now))) }
 {
-    let event = Event::send(alloc, time, copy(message)?)?;
+    let event = Event::send(alloc, time, message.clone()?)?;
     let made = with_event(alloc, system, "Send", event)?;
     Ok(made)
 }
@@ -38,7 +39,7 @@ fn sent(alloc: Global, system: &System, time: u128, message: &Term) -> Result<Ca
 fn learnt(alloc: Global, system: &System, time: u128, message: &Term) -> Result<Case, AllocError>
     ensures { IfOk result (λ c. case_of c ≡ spec.done_there (codes "Learn") (system_of system.now) time (system_spec.learning (view message.now) system_spec.anyhow)) }
 {
-    let event = Event::learn(alloc, time, copy(message)?, Way::Anyhow)?;
+    let event = Event::learn(alloc, time, message.clone()?, Way::Anyhow)?;
     let made = with_event(alloc, system, "Learn", event)?;
     Ok(made)
 }
@@ -61,18 +62,6 @@ fn by_message(
     Ok(made)
 }
 
-// The term, if it is the only one.
-#[tactic(auto, using(crate::proofs::ByMessage::one_there, crate::proofs::ByMessage::not_one))]
-fn only_one(terms: &Vec<Term>) -> Option<&Term>
-    ensures { option_map (λ t. view t.now) result ≡ only_one (view_all terms.now.items) }
-{
-    if terms.len() == 1 {
-        terms.first()
-    } else {
-        None
-    }
-}
-
 /// The case in which the adversary does this at the time, if it may be the adversary's.
 ///
 /// # Errors
@@ -87,7 +76,7 @@ pub fn by_adversary(
 ) -> Result<Vec<Case>, AllocError>
     ensures { IfOk result (λ cs. map case_of cs.items ≡ spec.by_adversary (system_of system.now) time (name_of action.now.symbol) (view_all action.now.args.items)) }
 {
-    match only_one(&action.args) {
+    match only_term(&action.args) {
         Some(message) => by_message(alloc, system, time, &action.symbol, message),
         None => Ok(Vec::new(alloc)),
     }

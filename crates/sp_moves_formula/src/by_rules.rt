@@ -41,8 +41,8 @@ pub fn with_step(
         return Err(AllocError);
     };
     let facts = renamed(alloc, system.next, &form.facts)?;
-    let event = Event::step(time, name.copy()?, facts);
-    let mut made = system.copy(alloc)?;
+    let event = Event::step(time, name.clone()?, facts);
+    let mut made = system.clone()?;
     made.events.push(event)?;
     made.next = next;
     Ok(made)

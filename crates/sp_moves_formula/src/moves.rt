@@ -35,7 +35,7 @@ pub struct Premise {
 }
 
 /// One of the systems that a move leads to.
-#[derive(Debug, Drop)]
+#[derive(Drop)]
 pub struct Case {
     /// its name; empty where a move has one case alone
     pub name: String,

@@ -42,8 +42,8 @@ fn with_part(
     ensures { IfOk result (λ s. system_of s ≡ spending_at (system_of system.now) position (formula_of part.now ∷ [])) }
 {
     let mut instead = Vec::new(alloc);
-    instead.push(part.copy(alloc)?)?;
-    let mut made = system.copy(alloc)?;
+    instead.push(part.clone()?)?;
+    let mut made = system.clone()?;
     spend_for(&mut made, position, instead)?;
     Ok(made)
 }

@@ -3,8 +3,7 @@ use Rattle.std.proofs.Common.{◌≡◌, ℕ, Bool, true, false, ◌||◌, ◌==
 use Rattle.sp_spec.specs.Term.{Variable}
 use Rattle.sp_spec.specs.Rule.{Fact}
 use Rattle.sp_spec.specs.Log.{is_fr, is_in}
-use Rattle.sp_spec.specs.Guarded.{Guarded}
-use Rattle.sp_formula.specs.FormulaView.{guardeds_of}
+use Rattle.sp_spec.specs.Guarded.{Guarded, guardeds_of}
 use Rattle.sp_spec_system.specs.System.{happening_premises, Event, System}
 use Rattle.sp_spec_system.specs.MakingOne.{event_at}
 use Rattle.sp_spec_system.specs.Move.{Move, simplify, contradiction, unproved, solved, or, action, premise, know, chain}

@@ -59,8 +59,8 @@ fn with_source(
     };
     let time = system.next;
     let facts = renamed(alloc, first, &form.facts)?;
-    let event = Event::step(time, name.copy()?, facts);
-    let mut made = system.copy(alloc)?;
+    let event = Event::step(time, name.clone()?, facts);
+    let mut made = system.clone()?;
     made.events.push(event)?;
     made.links.push(Link {
         from: time,

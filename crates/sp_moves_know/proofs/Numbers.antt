@@ -4,12 +4,9 @@ use Rattle.sp_spec.specs.Term.{Variable, in_term, in_terms}
 use Rattle.sp_spec.specs.Same.{same_variable}
 use Rattle.sp_spec.specs.Destruction.{Destruction}
 use Rattle.sp_spec.proofs.Same.{same_variable_decides}
-use Rattle.sp_variant.specs.Adding.{added_after}
 use Rattle.sp_variant.proofs.Adding.{added_both, added_to_none}
+use Rattle.sp_variant.proofs.Seen.{added}
 use Rattle.sp_moves_know.specs.Linking.{seen_in}
-
-abbrev added : List Variable → List Variable → List Variable
-added = added_after same_variable
 
 -- those of the pattern, of the side messages and of the result, added one after the other
 pub seen_in_turn : (d : Destruction) (s s1 s2 s3 : List Variable) → s ≡ [] → s1 ≡ added s (in_term d.pattern) → s2 ≡ added s1 (in_terms d.sides)

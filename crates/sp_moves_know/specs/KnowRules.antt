@@ -1,13 +1,17 @@
 -- The cases that one form, one rule and one message give.
-use Rattle.std.specs.Prelude.{ℕ, suc, List, ◌++◌}
+use Rattle.std.specs.Prelude.{ℕ, suc, List, [], ◌∷◌, ◌++◌}
 use Rattle.sp_spec.specs.Term.{Variable, Term}
 use Rattle.sp_spec.specs.Signature.{Symbol}
 use Rattle.sp_spec_forms.specs.Numbering.{Form}
 use Rattle.sp_spec_forms.specs.Forms.{RuleForms}
-use Rattle.sp_spec_system.specs.System.{System}
+use Rattle.sp_spec_system.specs.System.{System, chain_begun, with_pairs, with_next}
 use Rattle.sp_spec_system.specs.Cases.{renamed, named}
 use Rattle.sp_spec_system.specs.Move.{Case}
-use Rattle.sp_spec_graph.specs.Know.{made_case, own_case, by_outputs, output_forms, by_each_output}
+use Rattle.sp_spec_graph.specs.Know.{with_way, made_case, own_case, by_outputs, output_forms, by_each_output}
+
+-- a chain begins with this message, put out at the place by an event that is still to be made, of the next number and before that time
+abbrev pub with_begun : System → ℕ → ℕ → Term Variable → System
+with_begun s i k t = with_next (with_pairs (with_way s i (chain_begun s.next k (t ∷ []))) ((s.next, i) ∷ [])) (suc s.next)
 
 -- the systems in which a chain begins with what a conclusion of this form puts out
 abbrev pub output_form : List ℕ → Form → System → ℕ → List System

@@ -1,7 +1,7 @@
 // The cases of a move on what is learnt, or why it is no instance.
 
 ghost use Rattle.std.specs.Prelude.{◌≡◌, Some, IfOk, map, option_map};
-ghost use Rattle.sp_ground.specs.View.{symbol_of};
+ghost use Rattle.sp_fact.specs.GroundView.{symbol_of};
 ghost use Rattle.sp_system.specs.SystemView.{event_of, system_of};
 ghost use Rattle.sp_moves_formula.specs.View.{case_of, move_of};
 ghost use Rattle.sp_moves_formula.specs.Applied.{clause_of, cases_of, failing};
@@ -12,7 +12,7 @@ ghost use Rattle.sp_moves_know.specs.WhyNot.{why_not_known, why_not_know, why_no
 use crate::chain::chain_cases;
 use crate::know::{is_unasked, know_cases, learnt_anyhow};
 use sp_book::book::RuleBook;
-use sp_ground::signature::{Signature, Symbol};
+use sp_fact::signature::{Signature, Symbol};
 pub use sp_moves_formula::apply::{Applied, Clause};
 use sp_moves_formula::moves::{Case, Move};
 use sp_moves_graph::times::has_time;

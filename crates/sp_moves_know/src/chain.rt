@@ -6,7 +6,7 @@ ghost use Rattle.sp_spec.specs.Destruction.{destructions};
 ghost use Rattle.sp_spec.specs.Unifier as unifying;
 ghost use Rattle.sp_term.specs.Bindings.{bindings};
 ghost use Rattle.sp_term.specs.View.{name_of, view, view_all};
-ghost use Rattle.sp_ground.specs.View.{signature_of};
+ghost use Rattle.sp_fact.specs.GroundView.{signature_of};
 ghost use Rattle.sp_destruct.specs.View.{destruction_of};
 ghost use Rattle.sp_spec_system.specs.System as system_spec;
 ghost use Rattle.sp_spec_system.specs.Cases as cases;
@@ -21,14 +21,14 @@ ghost use Rattle.sp_moves_know.specs.Linking.{by_destruction, with_longer};
 use crate::know::{with_learnings, with_way};
 use crate::link::{ChainLink, new_link};
 use sp_destruct::destruction::{Destruction, chains_of};
-use sp_ground::signature::Signature;
+use sp_fact::signature::Signature;
 use sp_moves_formula::moves::Case;
 use sp_system::at_time::event_at;
 use sp_system::event::{Event, What};
 use sp_system::system::System;
 use sp_system::way::{Chain, Way};
 use sp_term::subst::Subst;
-use sp_term::term::{Name, Sort, Term, copy};
+use sp_term::term::{Name, Sort, Term};
 use sp_unify::unify::mgu;
 use std::alloc::{AllocError, Global};
 
@@ -82,7 +82,7 @@ fn unifier(alloc: Global, left: &Term, right: &Term) -> Result<Option<Subst>, Al
     ensures { IfOk result (λ o. option_map bindings o ≡ unifying.mgu ((view left.now, view right.now) ∷ [])) }
 {
     let mut pairs = Vec::new(alloc);
-    pairs.push((copy(left)?, copy(right)?))?;
+    pairs.push((left.clone()?, right.clone()?))?;
     let subst = mgu(alloc, &pairs)?;
     Ok(subst)
 }
@@ -121,7 +121,7 @@ fn done(
     let Some(subst) = unifier(alloc, begun.last, begun.message)? else {
         return Ok(None);
     };
-    let way = Way::ChainDone(begun.chain.copy(alloc)?);
+    let way = Way::ChainDone(begun.chain.clone()?);
     let ended = with_way(alloc, system, time, &way)?;
     let made = ended.with_terms(alloc, &subst)?;
     Ok(Some(made))
@@ -156,12 +156,12 @@ fn done_case(
 }
 
 // The chain, begun with one message more.
-fn longer(alloc: Global, chain: &Chain, message: &Term) -> Result<Way, AllocError>
+fn longer(chain: &Chain, message: &Term) -> Result<Way, AllocError>
     ensures { IfOk result (λ w. ways.way_of w
         ≡ system_spec.chain_begun chain.now.time chain.now.conclusion (map view chain.now.messages.items ++ view message.now ∷ [])) }
 {
-    let mut made = chain.copy(alloc)?;
-    made.messages.push(copy(message)?)?;
+    let mut made = chain.clone()?;
+    made.messages.push(message.clone()?)?;
     Ok(Way::ChainBegun(made))
 }
 
@@ -176,7 +176,7 @@ fn with_link(
     ensures { IfOk result (λ s. system_of s ≡ with_longer (system_of system.now) time chain.now.time chain.now.conclusion (map view chain.now.messages.items)
         (view_all link.now.sides.items) (view link.now.message) link.now.next) }
 {
-    let way = longer(alloc, chain, &link.message)?;
+    let way = longer(chain, &link.message)?;
     let mut made = with_way(alloc, system, time, &way)?;
     made.next = link.next;
     with_learnings(alloc, &mut made, time, &link.sides)?;

@@ -5,7 +5,7 @@ ghost use Rattle.sp_spec.specs.Term.{app, count};
 ghost use Rattle.sp_spec.specs.Destruction.{is_public};
 ghost use Rattle.sp_term.specs.View.{name_of, view, view_all};
 ghost use Rattle.sp_fact.specs.View.{fact_of};
-ghost use Rattle.sp_ground.specs.View.{signature_of, symbol_of};
+ghost use Rattle.sp_fact.specs.GroundView.{signature_of, symbol_of};
 ghost use Rattle.sp_book.specs.View.{form_of, rule_forms_of};
 ghost use Rattle.sp_book.specs.BookView.{book_of};
 ghost use Rattle.sp_system.specs.SystemView.{event_of, system_of};
@@ -14,25 +14,25 @@ ghost use Rattle.sp_spec_system.specs.System.{chain_begun};
 ghost use Rattle.sp_spec_graph.specs.Know as spec;
 ghost use Rattle.sp_spec_graph.specs.SettleLearn.{settling};
 ghost use Rattle.sp_moves_formula.specs.View.{case_of};
-ghost use Rattle.sp_moves_know.specs.KnowRules.{output_form, output_cases, cases_for};
+ghost use Rattle.sp_moves_know.specs.KnowRules.{with_begun, output_form, output_cases, cases_for};
 
 use sp_book::book::RuleBook;
 use sp_book::form::{Form, RuleForms};
 use sp_destruct::destruction::may_apply;
 use sp_fact::fact::Fact;
-use sp_ground::signature::{Signature, Symbol};
+use sp_fact::signature::{Signature, Symbol};
 use sp_moves_formula::by_rules::with_step;
 use sp_moves_formula::moves::Case;
 use sp_moves_formula::named::named;
 use sp_moves_formula::renamed::renamed;
 use sp_rows_graph::learning::{add_learning, after, learn_by};
-use sp_rows_graph::send_input::only_term;
 use sp_rows_graph::settle_learn::settling_at;
 use sp_system::at_time::event_at;
 use sp_system::event::{Event, What};
+use sp_system::picked::only_term;
 use sp_system::system::System;
 use sp_system::way::{Chain, Way};
-use sp_term::term::{Name, Sort, Term, copy};
+use sp_term::term::{Name, Sort, Term};
 use std::alloc::{AllocError, Global};
 
 /// Each of the messages is learnt anyhow, at a new event before the time.
@@ -62,7 +62,7 @@ pub fn with_learnings(
 pub fn with_way(alloc: Global, system: &System, time: u128, way: &Way) -> Result<System, AllocError>
     ensures { IfOk result (λ s. system_of s ≡ spec.with_way (system_of system.now) time (way_of way.now)) }
 {
-    let mut made = system.copy(alloc)?;
+    let mut made = system.clone()?;
     learn_by(alloc, &mut made, time, way)?;
     Ok(made)
 }
@@ -194,12 +194,30 @@ fn put_out(fact: &Fact) -> Option<&Term>
 fn begun_by(alloc: Global, time: u128, place: usize, message: &Term) -> Result<Way, AllocError>
     ensures { IfOk result (λ w. way_of w ≡ chain_begun time place (view message.now ∷ [])) }
 {
-    let messages = vec![in alloc; copy(message)?]?;
+    let messages = vec![in alloc; message.clone()?]?;
     Ok(Way::ChainBegun(Chain {
         time,
         conclusion: place,
         messages,
     }))
+}
+
+// A copy of the system, in which a chain begins with this message, put out at the place by an event of the next number, before the time.
+fn with_begun(
+    alloc: Global,
+    system: &System,
+    time: u128,
+    place: usize,
+    message: &Term,
+) -> Result<System, AllocError>
+    ensures { IfOk result (λ s. system_of s ≡ with_begun (system_of system.now) time place (view message.now)) }
+{
+    let next = after(system.next)?;
+    let way = begun_by(alloc, system.next, place, message)?;
+    let mut begun = with_way(alloc, system, time, &way)?;
+    begun.order.push((system.next, time))?;
+    begun.next = next;
+    Ok(begun)
 }
 
 // The system with a new step by a form of the rule of this name, where a chain begins with this message, which the conclusion at the place puts out.
@@ -215,13 +233,8 @@ fn with_output(
     ensures { IfOk result (λ s. system_of s
         ≡ spec.with_output (system_of system.now) time (name_of name.now) (form_of form.now) place (view message.now)) }
 {
-    let next = after(system.next)?;
-    let from = system.next;
-    let way = begun_by(alloc, from, place, message)?;
-    let mut begun = with_way(alloc, system, time, &way)?;
-    begun.order.push((from, time))?;
-    begun.next = next;
-    let made = with_step(alloc, &begun, from, name, form)?;
+    let begun = with_begun(alloc, system, time, place, message)?;
+    let made = with_step(alloc, &begun, system.next, name, form)?;
     Ok(made)
 }
 

@@ -16,7 +16,7 @@ use sp_variant::numbering::{place, see_term, see_terms};
 use std::alloc::{AllocError, Global};
 
 /// A destruction over variables of new numbers.
-#[derive(Debug, Drop)]
+#[derive(Drop)]
 pub struct ChainLink {
     /// what is destructed
     pub pattern: Term,

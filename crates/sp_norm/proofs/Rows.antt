@@ -5,7 +5,7 @@ use Rattle.sp_spec.specs.Signature.{Equation}
 use Rattle.sp_law_equal.specs.Normal.{normal, normal_all}
 use Rattle.sp_term.specs.View.{Never}
 use Rattle.sp_term.specs.declared.term.Term.{Term}
-use Rattle.sp_ground.specs.View.{row, ground_of, grounds_of}
+use Rattle.sp_fact.specs.GroundView.{row, ground_of, grounds_of}
 
 row-normal : (es : List Equation) (ts : List (Term Never)) → row (map (λ t. normal es (ground_of t)) ts) ≡ normal_all es (grounds_of ts)
 row-normal es [] = refl

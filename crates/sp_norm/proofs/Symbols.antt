@@ -7,8 +7,8 @@ use Rattle.sp_spec.specs.Term.{var, constant, name, app, none, more, Ground, Gro
 use Rattle.sp_spec.specs.Signature.{Symbol, HasSymbol, HasPublic, IsOver, AreOver}
 use Rattle.sp_term.specs.View.{Never}
 use Rattle.sp_term.specs.declared.term.Term as memory
-use Rattle.sp_ground.specs.View.{grounds_of}
-use Rattle.sp_ground.proofs.Lists.{count_grounds}
+use Rattle.sp_fact.specs.GroundView.{grounds_of}
+use Rattle.sp_fact.proofs.Lists.{count_grounds}
 use Rattle.sp_norm.specs.Over.{is_symbol, any_symbol, any_public, over, all_over}
 
 abbrev made : List ℕ → ℕ → Bool → Symbol

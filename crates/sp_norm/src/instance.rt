@@ -7,15 +7,15 @@ ghost use Rattle.sp_spec.specs.Rule.{facts_at};
 ghost use Rattle.sp_law_equal.specs.Matching.{any_of, value_in};
 ghost use Rattle.sp_term.specs.View.{sort_of, variable_of, never_of, view};
 ghost use Rattle.sp_fact.specs.View.{facts_of};
-ghost use Rattle.sp_ground.specs.View.{ground_facts, ground_of};
+ghost use Rattle.sp_fact.specs.GroundView.{ground_facts, ground_of};
 ghost use Rattle.sp_norm.specs.Bounds.{bounds};
 
 use sp_fact::fact::Facts;
-use sp_ground::fact::GroundFacts;
-use sp_ground::term::GroundTerm;
+use sp_fact::ground_fact::GroundFacts;
+use sp_fact::ground_term::GroundTerm;
 use sp_term::apply::{Assigns, apply};
 use sp_term::subst::Values;
-use sp_term::term::{Name, Never, Sort, Term, Variable, copy};
+use sp_term::term::{Name, Never, Sort, Term, Variable};
 use std::alloc::{AllocError, Global};
 
 // What stands for a variable without a value.
@@ -40,7 +40,7 @@ pub fn variable_value(
     ensures { IfOk result (λ t. ground_of t ≡ value_in (bounds values.now) (variable_of variable)) }
 {
     match values.get(variable) {
-        Some(value) => copy(value),
+        Some(value) => value.clone(),
         None => any(alloc, variable.sort),
     }
 }

@@ -2,15 +2,15 @@
 
 ghost use Rattle.std.specs.Prelude.{◌≡◌, IfOk, map};
 ghost use Rattle.sp_law_equal.specs.Normal.{normal, normal_action, normal_all, normal_fact, normal_facts, reduced};
-ghost use Rattle.sp_ground.specs.View.{equation_of, ground_action, ground_fact, ground_facts, ground_of, grounds_of};
+ghost use Rattle.sp_fact.specs.GroundView.{equation_of, ground_action, ground_fact, ground_facts, ground_of, grounds_of};
 
 use crate::instance::value;
 use sp_fact::fact::{Action, Fact, Facts};
-use sp_ground::fact::{GroundAction, GroundFact, GroundFacts};
-use sp_ground::signature::Equation;
-use sp_ground::term::GroundTerm;
+use sp_fact::ground_fact::{GroundAction, GroundFact, GroundFacts};
+use sp_fact::ground_term::GroundTerm;
+use sp_fact::signature::Equation;
 use sp_term::found::matches;
-use sp_term::term::{Term, copy, nesting_over};
+use sp_term::term::{Term, nesting_over};
 use std::alloc::{AllocError, Global};
 use std::rc::Rc;
 
@@ -28,7 +28,7 @@ fn reduced(
             return Ok(made);
         }
     }
-    copy(term)
+    term.clone()
 }
 
 /// The normal form of a term.
@@ -42,10 +42,10 @@ pub fn normal(
 {
     match term {
         Term::Var(never) => match never.leaf {},
-        Term::Constant(name) => Ok(Term::Constant(name.copy()?)),
+        Term::Constant(name) => Ok(Term::Constant(name.clone()?)),
         Term::FreshName(n) => Ok(Term::FreshName(*n)),
         Term::App(symbol, terms, _) => {
-            let name = symbol.copy()?;
+            let name = symbol.clone()?;
             let made = normal_all(alloc, equations, terms)?;
             let nesting = nesting_over(&made)?;
             let shared = Rc::new(alloc, made)?;
@@ -79,7 +79,7 @@ pub fn normal_fact(
 ) -> Result<GroundFact, AllocError>
     ensures { IfOk result (λ f. ground_fact f ≡ normal_fact (map equation_of equations.now.items) (ground_fact fact.now)) }
 {
-    let symbol = fact.symbol.copy()?;
+    let symbol = fact.symbol.clone()?;
     let args = normal_all(alloc, equations, &fact.args)?;
     Ok(Fact {
         symbol,
@@ -96,7 +96,7 @@ pub fn normal_action(
 ) -> Result<GroundAction, AllocError>
     ensures { IfOk result (λ a. ground_action a ≡ normal_action (map equation_of equations.now.items) (ground_action action.now)) }
 {
-    let symbol = action.symbol.copy()?;
+    let symbol = action.symbol.clone()?;
     let args = normal_all(alloc, equations, &action.args)?;
     Ok(Action { symbol, args })
 }

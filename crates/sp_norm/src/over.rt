@@ -3,11 +3,11 @@
 ghost use Rattle.std.specs.Prelude.{◌≡◌, ◌↔◌, IsTrue, map};
 ghost use Rattle.sp_spec.specs.Signature.{AreOver, HasPublic, HasSort, HasSymbol, IsOver};
 ghost use Rattle.sp_term.specs.View.{name_of, sort_of};
-ghost use Rattle.sp_ground.specs.View.{ground_of, grounds_of, symbol_of};
+ghost use Rattle.sp_fact.specs.GroundView.{ground_of, grounds_of, symbol_of};
 ghost use Rattle.sp_norm.specs.Over.{all_over, any_public, any_symbol, is_symbol, over};
 
-use sp_ground::signature::Symbol;
-use sp_ground::term::GroundTerm;
+use sp_fact::ground_term::GroundTerm;
+use sp_fact::signature::Symbol;
 use sp_term::term::{Name, Sort, Term, has_sort};
 
 fn is_symbol(symbol: &Symbol, name: &Name, count: usize) -> bool

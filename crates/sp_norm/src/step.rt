@@ -1,12 +1,12 @@
 // Steps with their terms in normal form.
 
 ghost use Rattle.std.specs.Prelude.{◌≡◌, IfOk, map};
-ghost use Rattle.sp_ground.specs.View.{equation_of, given_of, step_of};
+ghost use Rattle.sp_fact.specs.GroundView.{equation_of, given_of, step_of};
 ghost use Rattle.sp_law_run.specs.NormalStep.{normal_given, normal_step};
 
 use crate::normal::{normal, normal_all};
-use sp_ground::signature::Equation;
-use sp_ground::step::{Given, Step};
+use sp_fact::signature::Equation;
+use sp_fact::step::{Given, Step};
 use std::alloc::{AllocError, Global};
 
 fn each_normal_given(
@@ -18,7 +18,7 @@ fn each_normal_given(
 {
     let mut made = Vec::with_capacity(alloc, given.len())?;
     for one in given {
-        let variable = one.variable.copy()?;
+        let variable = one.variable.clone()?;
         let value = normal(alloc, equations, &one.value)?;
         made.push(Given { variable, value })?;
     }
@@ -36,7 +36,7 @@ pub fn normal_step(
     match step {
         Step::MakeFresh(term) => Ok(Step::MakeFresh(normal(alloc, equations, term)?)),
         Step::UseRule(rule, given) => {
-            let name = rule.copy()?;
+            let name = rule.clone()?;
             let made = each_normal_given(alloc, equations, given)?;
             Ok(Step::UseRule(name, made))
         }
@@ -45,7 +45,7 @@ pub fn normal_step(
         Step::KnowPublic(term) => Ok(Step::KnowPublic(normal(alloc, equations, term)?)),
         Step::MakeOwn(term) => Ok(Step::MakeOwn(normal(alloc, equations, term)?)),
         Step::ApplySymbol(symbol, terms) => {
-            let name = symbol.copy()?;
+            let name = symbol.clone()?;
             let made = normal_all(alloc, equations, terms)?;
             Ok(Step::ApplySymbol(name, made))
         }

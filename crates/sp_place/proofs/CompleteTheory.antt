@@ -14,6 +14,7 @@ use Rattle.sp_spec_text.specs.Written.{Method, WrittenProof, WrittenCases, Item,
 use Rattle.sp_spec_text.specs.Numerals.{is_numeral}
 use Rattle.sp_spec_text.specs.Proofs as p
 use Rattle.sp_spec_text.specs.Proofs.{is_method, SpellsMethod, SpellsProof, SpellsMore}
+use Rattle.sp_spec_text.proofs.Methods.{solved_none, by_none}
 use Rattle.sp_spec_text.specs.Theories as g
 use Rattle.sp_spec_text.specs.Theories.{SpellsFacts, SpellsArrow, SpellsBuiltin, SpellsAttribute, SpellsFunction, SpellsEquation, SpellsKind, SpellsDeclaration, SpellsItems, SpellsTheory}
 use Rattle.sp_place.specs.Parts.{Awaited}
@@ -27,14 +28,6 @@ use Rattle.std.proofs.lemmas.Bool.{false_from_ne_true}
 use Rattle.sp_place.proofs.CompleteFormulas.{has_quoted}
 
 -- ---- words
-
-solved_no_method : is_method (codes "SOLVED") ≡ false
-unfolding is_method
-solved_no_method = refl
-
-by_no_method : is_method (codes "by") ≡ false
-unfolding is_method
-by_no_method = refl
 
 -- a method is no word that is none
 method_differs : (w v : List ℕ) → is_method w ≡ true → is_method v ≡ false → bytes_eq w v ≡ false
@@ -75,7 +68,7 @@ has_method (p.by_word e) = by_token (rw e refl) all_had
 has_method p.by_goal = by_token refl all_had
 
 method_first : {x : Method} {tokens mid rest : List Lexeme} → SpellsMethod tokens x mid → Has a.Behind mid rest → Has a.Proof tokens rest
-method_first (p.by_word {w = w} e) h = by_token (rw (method_differs w (codes "SOLVED") e solved_no_method, method_differs w (codes "by") e by_no_method, e) refl) (one_had {part = a.Behind} h)
+method_first (p.by_word {w = w} e) h = by_token (rw (method_differs w (codes "SOLVED") e solved_none, method_differs w (codes "by") e by_none, e) refl) (one_had {part = a.Behind} h)
 method_first p.by_goal h = by_token refl (one_had h)
 
 behind_of_proof : (tokens : List Lexeme) {rest : List Lexeme} → Has a.Proof tokens rest → Has a.Behind tokens rest

@@ -1,6 +1,16 @@
 -- What the code's values stand for.
 use Rattle.std.specs.Prelude.{List, [], ◌∷◌, map, reverse}
 use Rattle.sp_lex.specs.Views.{sign_of}
+use Rattle.sp_place.specs.declared.awaited.OneToken as rust_token
+use Rattle.sp_place.specs.declared.awaited.OneToken.TheVariants as token
+use Rattle.sp_place.specs.declared.awaited.TermPart as rust_term
+use Rattle.sp_place.specs.declared.awaited.TermPart.TheVariants as term
+use Rattle.sp_place.specs.declared.awaited.FormulaPart as rust_formula
+use Rattle.sp_place.specs.declared.awaited.FormulaPart.TheVariants as formula
+use Rattle.sp_place.specs.declared.awaited.TheoryPart as rust_theory
+use Rattle.sp_place.specs.declared.awaited.TheoryPart.TheVariants as theory
+use Rattle.sp_place.specs.declared.awaited.ProofPart as rust_proof
+use Rattle.sp_place.specs.declared.awaited.ProofPart.TheVariants as proof
 use Rattle.sp_place.specs.declared.awaited.Awaited as rust_part
 use Rattle.sp_place.specs.declared.awaited.Awaited.TheVariants as a
 use Rattle.sp_place.specs.declared.moves.Expansion.{Expansion}
@@ -11,58 +21,73 @@ use Rattle.sp_place.specs.Parts.{Awaited}
 use Rattle.sp_place.specs.Parts as p
 use Rattle.sp_place.specs.Table.{Move, takes, becomes, stuck}
 
+abbrev pub one_token_of : rust_token.OneToken → Awaited
+one_token_of (token.Exactly x) = p.Exactly (sign_of x)
+one_token_of token.Name = p.Name
+one_token_of token.Sort = p.Sort
+one_token_of token.FactName = p.FactName
+one_token_of token.Begin = p.Begin
+one_token_of token.Number = p.Number
+one_token_of token.Attribute = p.Attribute
+one_token_of token.Traces = p.Traces
+one_token_of token.Trace = p.Trace
+one_token_of token.Case = p.Case
+one_token_of token.Method = p.Method
+
+abbrev pub term_part_of : rust_term.TermPart → Awaited
+term_part_of term.Sorted = p.Sorted
+term_part_of term.Variable = p.Variable
+term_part_of (term.Term n) = p.Term n
+term_part_of (term.Applied n) = p.Applied n
+term_part_of (term.Tuple n x) = p.Tuple n (sign_of x)
+term_part_of (term.MoreTuple n x) = p.MoreTuple n (sign_of x)
+term_part_of (term.Arguments n) = p.Arguments n
+term_part_of (term.MoreArguments n) = p.MoreArguments n
+term_part_of (term.Fact n) = p.Fact n
+term_part_of (term.Opened n) = p.Opened n
+term_part_of term.Binders = p.Binders
+
+abbrev pub formula_part_of : rust_formula.FormulaPart → Awaited
+formula_part_of (formula.Negation n k) = p.Negation n k
+formula_part_of (formula.Unit n k) = p.Unit n k
+formula_part_of (formula.Side n k) = p.Side n k
+formula_part_of (formula.Order n k) = p.Order n k
+formula_part_of (formula.Bare n k) = p.Bare n k
+formula_part_of (formula.Named n k) = p.Named n k
+formula_part_of (formula.Shown n k) = p.Shown n k
+formula_part_of (formula.Truth n k) = p.Truth n k
+formula_part_of (formula.Both n k) = p.Both n k
+formula_part_of (formula.Closing n k) = p.Closing n k
+formula_part_of (formula.More n) = p.More n
+formula_part_of (formula.Twice n) = p.Twice n
+
+abbrev pub theory_part_of : rust_theory.TheoryPart → Awaited
+theory_part_of theory.Theory = p.Theory
+theory_part_of theory.Items = p.Items
+theory_part_of theory.MoreBuiltins = p.MoreBuiltins
+theory_part_of theory.Function = p.Function
+theory_part_of theory.Attributes = p.Attributes
+theory_part_of theory.MoreAttributes = p.MoreAttributes
+theory_part_of theory.MoreFunctions = p.MoreFunctions
+theory_part_of theory.MoreEquations = p.MoreEquations
+theory_part_of theory.FactList = p.FactList
+theory_part_of (theory.Facts x) = p.Facts (sign_of x)
+theory_part_of (theory.MoreFacts x) = p.MoreFacts (sign_of x)
+theory_part_of theory.Arrow = p.Arrow
+theory_part_of theory.Kind = p.Kind
+
+abbrev pub proof_part_of : rust_proof.ProofPart → Awaited
+proof_part_of proof.Below = p.Below
+proof_part_of proof.Proof = p.Proof
+proof_part_of proof.Behind = p.Behind
+proof_part_of proof.Cases = p.Cases
+
 abbrev pub awaited_of : rust_part.Awaited → Awaited
-awaited_of (a.Exactly x) = p.Exactly (sign_of x)
-awaited_of a.Name = p.Name
-awaited_of a.Sort = p.Sort
-awaited_of a.FactName = p.FactName
-awaited_of a.Sorted = p.Sorted
-awaited_of a.Variable = p.Variable
-awaited_of (a.Term n) = p.Term n
-awaited_of (a.Applied n) = p.Applied n
-awaited_of (a.Tuple n x) = p.Tuple n (sign_of x)
-awaited_of (a.MoreTuple n x) = p.MoreTuple n (sign_of x)
-awaited_of (a.Arguments n) = p.Arguments n
-awaited_of (a.MoreArguments n) = p.MoreArguments n
-awaited_of (a.Fact n) = p.Fact n
-awaited_of (a.Opened n) = p.Opened n
-awaited_of a.Binders = p.Binders
-awaited_of (a.Negation n k) = p.Negation n k
-awaited_of (a.Unit n k) = p.Unit n k
-awaited_of (a.Side n k) = p.Side n k
-awaited_of (a.Order n k) = p.Order n k
-awaited_of (a.Bare n k) = p.Bare n k
-awaited_of (a.Named n k) = p.Named n k
-awaited_of (a.Shown n k) = p.Shown n k
-awaited_of (a.Truth n k) = p.Truth n k
-awaited_of (a.Both n k) = p.Both n k
-awaited_of (a.Closing n k) = p.Closing n k
-awaited_of (a.More n) = p.More n
-awaited_of (a.Twice n) = p.Twice n
-awaited_of a.Theory = p.Theory
-awaited_of a.Begin = p.Begin
-awaited_of a.Items = p.Items
-awaited_of a.MoreBuiltins = p.MoreBuiltins
-awaited_of a.Function = p.Function
-awaited_of a.Number = p.Number
-awaited_of a.Attributes = p.Attributes
-awaited_of a.Attribute = p.Attribute
-awaited_of a.MoreAttributes = p.MoreAttributes
-awaited_of a.MoreFunctions = p.MoreFunctions
-awaited_of a.MoreEquations = p.MoreEquations
-awaited_of a.FactList = p.FactList
-awaited_of (a.Facts x) = p.Facts (sign_of x)
-awaited_of (a.MoreFacts x) = p.MoreFacts (sign_of x)
-awaited_of a.Arrow = p.Arrow
-awaited_of a.Kind = p.Kind
-awaited_of a.Traces = p.Traces
-awaited_of a.Trace = p.Trace
-awaited_of a.Below = p.Below
-awaited_of a.Proof = p.Proof
-awaited_of a.Behind = p.Behind
-awaited_of a.Case = p.Case
-awaited_of a.Cases = p.Cases
-awaited_of a.Method = p.Method
+awaited_of (a.Token part) = one_token_of part
+awaited_of (a.Term part) = term_part_of part
+awaited_of (a.Formula part) = formula_part_of part
+awaited_of (a.Theory part) = theory_part_of part
+awaited_of (a.Proof part) = proof_part_of part
 
 abbrev pub expansion_of : Expansion → List rust_part.Awaited
 expansion_of Zero = []

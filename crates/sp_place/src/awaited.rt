@@ -1,9 +1,8 @@
 use sp_lex::Sign;
 
-/// A part that a text still has to have at a place of it. The numbers are the nesting; where there are two, the nesting of a unit of a
-/// formula and the brackets behind its beginning that hold nothing but what was read since, so that they may hold a term or a formula.
+/// A part that is one token.
 #[derive(Clone, Copy)]
-pub enum Awaited {
+pub enum OneToken {
     /// This sign.
     Exactly(Sign),
     Name,
@@ -11,6 +10,25 @@ pub enum Awaited {
     Sort,
     /// The name of a fact.
     FactName,
+    /// The word `begin`.
+    Begin,
+    /// The word of a number.
+    Number,
+    /// The word of an attribute.
+    Attribute,
+    /// The word `traces`.
+    Traces,
+    /// The word `trace`.
+    Trace,
+    /// The word `case`.
+    Case,
+    /// The method behind `by`.
+    Method,
+}
+
+/// A part of a variable, of a term or of a fact.
+#[derive(Clone, Copy)]
+pub enum TermPart {
     /// Behind the name of a variable: `:` and a sort, or nothing.
     Sorted,
     Variable,
@@ -30,6 +48,12 @@ pub enum Awaited {
     Opened(u32),
     /// Behind a variable of a quantifier.
     Binders,
+}
+
+/// A part of a formula. Where there are two numbers, they are the nesting of a unit and the brackets behind its beginning that hold
+/// nothing but what was read since, so that they may hold a term or a formula.
+#[derive(Clone, Copy)]
+pub enum FormulaPart {
     /// A unit, or `not` and a unit.
     Negation(u32, u32),
     Unit(u32, u32),
@@ -53,21 +77,20 @@ pub enum Awaited {
     More(u32),
     /// Behind an implication.
     Twice(u32),
+}
+
+/// A part of a theory.
+#[derive(Clone, Copy)]
+pub enum TheoryPart {
     Theory,
-    /// The word `begin`.
-    Begin,
     /// Items, and the word `end`.
     Items,
     /// Behind a name of builtins: others, items, and the word `end`.
     MoreBuiltins,
     /// The declaration of a function.
     Function,
-    /// The word of a number.
-    Number,
     /// The attributes of a function, or none.
     Attributes,
-    /// The word of an attribute.
-    Attribute,
     /// Behind an attribute.
     MoreAttributes,
     /// Behind the declaration of a function: others, items, and the word `end`.
@@ -83,19 +106,26 @@ pub enum Awaited {
     Arrow,
     /// The kind of a lemma, and the quote behind it.
     Kind,
-    /// The word `traces`.
-    Traces,
-    /// The word `trace`.
-    Trace,
+}
+
+/// A part of a proof.
+#[derive(Clone, Copy)]
+pub enum ProofPart {
     /// Behind a lemma: its proof or none, items, and the word `end`.
     Below,
     Proof,
     /// Behind a method.
     Behind,
-    /// The word `case`.
-    Case,
     /// Behind a case.
     Cases,
-    /// The method behind `by`.
-    Method,
+}
+
+/// A part that a text still has to have at a place of it. The numbers are the nesting.
+#[derive(Clone, Copy)]
+pub enum Awaited {
+    Token(OneToken),
+    Term(TermPart),
+    Formula(FormulaPart),
+    Theory(TheoryPart),
+    Proof(ProofPart),
 }

@@ -6,7 +6,7 @@ ghost use Rattle.sp_lex.specs.Views.{lexeme_of};
 ghost use Rattle.sp_place.specs.Table as spec;
 ghost use Rattle.sp_place.specs.Views.{move_of};
 
-use crate::awaited::Awaited;
+use crate::awaited::{Awaited, FormulaPart, OneToken, TermPart};
 use crate::lexemes::{is_constant, is_fact_name, is_mark, is_name, is_sign, is_word};
 use crate::moves::{Expansion, Move};
 use crate::terms::{LIMIT, nests};
@@ -26,9 +26,12 @@ pub fn negation<'a>(n: u32, k: u32, x: Lexeme<'a>) -> Move
     ensures { move_of result ≡ spec.negation_move n k (lexeme_of x.entry) }
 {
     if is_word("not", x) {
-        Move::Takes(Expansion::Two(Awaited::Unit(deep(n, k), 0), Awaited::Closing(n, k)))
+        Move::Takes(Expansion::Two(
+            Awaited::Formula(FormulaPart::Unit(deep(n, k), 0)),
+            Awaited::Formula(FormulaPart::Closing(n, k)),
+        ))
     } else {
-        Move::Becomes(Expansion::One(Awaited::Unit(n, k)))
+        Move::Becomes(Expansion::One(Awaited::Formula(FormulaPart::Unit(n, k))))
     }
 }
 
@@ -40,20 +43,20 @@ fn word<'a>(n: u32, k: u32, x: Lexeme<'a>) -> Move
     if is_word("All", x) || is_word("Ex", x) {
         let m = deep(n, k);
         let body = Expansion::Six(
-            Awaited::Variable,
-            Awaited::Binders,
-            Awaited::Negation(m + 1, 0),
-            Awaited::More(m + 1),
-            Awaited::Twice(m + 1),
-            Awaited::Closing(n, k),
+            Awaited::Term(TermPart::Variable),
+            Awaited::Term(TermPart::Binders),
+            Awaited::Formula(FormulaPart::Negation(m + 1, 0)),
+            Awaited::Formula(FormulaPart::More(m + 1)),
+            Awaited::Formula(FormulaPart::Twice(m + 1)),
+            Awaited::Formula(FormulaPart::Closing(n, k)),
         );
         nests(m, Move::Takes(body))
     } else if is_word("T", x) || is_word("F", x) {
-        Move::Takes(Expansion::One(Awaited::Truth(n, k)))
+        Move::Takes(Expansion::One(Awaited::Formula(FormulaPart::Truth(n, k))))
     } else if is_fact_name(x) {
-        Move::Takes(Expansion::One(Awaited::Named(n, k)))
+        Move::Takes(Expansion::One(Awaited::Formula(FormulaPart::Named(n, k))))
     } else if is_name(x) {
-        Move::Takes(Expansion::One(Awaited::Bare(n, k)))
+        Move::Takes(Expansion::One(Awaited::Formula(FormulaPart::Bare(n, k))))
     } else {
         Move::Stuck
     }
@@ -66,21 +69,30 @@ pub fn unit<'a>(n: u32, k: u32, x: Lexeme<'a>) -> Move
 {
     let m = deep(n, k);
     if is_sign(Sign::Open, x) {
-        nests(m, Move::Takes(Expansion::One(Awaited::Negation(n, k + 1))))
+        nests(
+            m,
+            Move::Takes(Expansion::One(Awaited::Formula(FormulaPart::Negation(n, k + 1)))),
+        )
     } else if is_sign(Sign::Less, x) {
-        let tuple = Expansion::Two(Awaited::Tuple(m + 1, Sign::Greater), Awaited::Side(n, k));
+        let tuple = Expansion::Two(
+            Awaited::Term(TermPart::Tuple(m + 1, Sign::Greater)),
+            Awaited::Formula(FormulaPart::Side(n, k)),
+        );
         nests(m, Move::Takes(tuple))
     } else if is_constant(x) {
-        Move::Takes(Expansion::One(Awaited::Side(n, k)))
+        Move::Takes(Expansion::One(Awaited::Formula(FormulaPart::Side(n, k))))
     } else if is_mark(x) {
-        Move::Takes(Expansion::Two(Awaited::Name, Awaited::Order(n, k)))
+        Move::Takes(Expansion::Two(
+            Awaited::Token(OneToken::Name),
+            Awaited::Formula(FormulaPart::Order(n, k)),
+        ))
     } else if is_sign(Sign::Bang, x) {
         let persistent = Expansion::Five(
-            Awaited::FactName,
-            Awaited::Opened(m),
-            Awaited::Exactly(Sign::At),
-            Awaited::Variable,
-            Awaited::Closing(n, k),
+            Awaited::Token(OneToken::FactName),
+            Awaited::Term(TermPart::Opened(m)),
+            Awaited::Token(OneToken::Exactly(Sign::At)),
+            Awaited::Term(TermPart::Variable),
+            Awaited::Formula(FormulaPart::Closing(n, k)),
         );
         nests(m, Move::Takes(persistent))
     } else {
@@ -94,7 +106,7 @@ fn side_closed(n: u32, k: u32) -> Move
     if k == 0 {
         Move::Stuck
     } else {
-        Move::Takes(Expansion::One(Awaited::Side(n, k - 1)))
+        Move::Takes(Expansion::One(Awaited::Formula(FormulaPart::Side(n, k - 1))))
     }
 }
 
@@ -103,7 +115,10 @@ pub fn side<'a>(n: u32, k: u32, x: Lexeme<'a>) -> Move
     ensures { move_of result ≡ spec.side_move n k (lexeme_of x.entry) }
 {
     if is_sign(Sign::Equals, x) {
-        Move::Takes(Expansion::Two(Awaited::Term(deep(n, k)), Awaited::Closing(n, k)))
+        Move::Takes(Expansion::Two(
+            Awaited::Term(TermPart::Term(deep(n, k))),
+            Awaited::Formula(FormulaPart::Closing(n, k)),
+        ))
     } else if is_sign(Sign::Close, x) {
         side_closed(n, k)
     } else {
@@ -115,9 +130,12 @@ pub fn order<'a>(n: u32, k: u32, x: Lexeme<'a>) -> Move
     ensures { move_of result ≡ spec.order_move n k (lexeme_of x.entry) }
 {
     if is_sign(Sign::Less, x) {
-        Move::Takes(Expansion::Two(Awaited::Variable, Awaited::Closing(n, k)))
+        Move::Takes(Expansion::Two(
+            Awaited::Term(TermPart::Variable),
+            Awaited::Formula(FormulaPart::Closing(n, k)),
+        ))
     } else {
-        Move::Becomes(Expansion::One(Awaited::Side(n, k)))
+        Move::Becomes(Expansion::One(Awaited::Formula(FormulaPart::Side(n, k))))
     }
 }
 
@@ -127,19 +145,25 @@ pub fn bare<'a>(n: u32, k: u32, x: Lexeme<'a>) -> Move
 {
     let m = deep(n, k);
     if is_sign(Sign::Colon, x) {
-        Move::Takes(Expansion::Two(Awaited::Sort, Awaited::Order(n, k)))
+        Move::Takes(Expansion::Two(
+            Awaited::Token(OneToken::Sort),
+            Awaited::Formula(FormulaPart::Order(n, k)),
+        ))
     } else if is_sign(Sign::Open, x) {
-        let application = Expansion::Two(Awaited::Arguments(m + 1), Awaited::Side(n, k));
+        let application = Expansion::Two(
+            Awaited::Term(TermPart::Arguments(m + 1)),
+            Awaited::Formula(FormulaPart::Side(n, k)),
+        );
         nests(m, Move::Takes(application))
     } else if is_sign(Sign::OpenBrace, x) {
         let braced = Expansion::Three(
-            Awaited::Tuple(m + 1, Sign::CloseBrace),
-            Awaited::Term(m + 1),
-            Awaited::Side(n, k),
+            Awaited::Term(TermPart::Tuple(m + 1, Sign::CloseBrace)),
+            Awaited::Term(TermPart::Term(m + 1)),
+            Awaited::Formula(FormulaPart::Side(n, k)),
         );
         nests(m, Move::Takes(braced))
     } else {
-        Move::Becomes(Expansion::One(Awaited::Order(n, k)))
+        Move::Becomes(Expansion::One(Awaited::Formula(FormulaPart::Order(n, k))))
     }
 }
 
@@ -149,10 +173,13 @@ pub fn named<'a>(n: u32, k: u32, x: Lexeme<'a>) -> Move
 {
     if is_sign(Sign::Open, x) {
         let m = deep(n, k);
-        let arguments = Expansion::Two(Awaited::Arguments(m + 1), Awaited::Shown(n, k));
+        let arguments = Expansion::Two(
+            Awaited::Term(TermPart::Arguments(m + 1)),
+            Awaited::Formula(FormulaPart::Shown(n, k)),
+        );
         nests(m, Move::Takes(arguments))
     } else {
-        Move::Becomes(Expansion::One(Awaited::Bare(n, k)))
+        Move::Becomes(Expansion::One(Awaited::Formula(FormulaPart::Bare(n, k))))
     }
 }
 
@@ -160,9 +187,12 @@ pub fn shown<'a>(n: u32, k: u32, x: Lexeme<'a>) -> Move
     ensures { move_of result ≡ spec.shown_move n k (lexeme_of x.entry) }
 {
     if is_sign(Sign::At, x) {
-        Move::Takes(Expansion::Two(Awaited::Variable, Awaited::Closing(n, k)))
+        Move::Takes(Expansion::Two(
+            Awaited::Term(TermPart::Variable),
+            Awaited::Formula(FormulaPart::Closing(n, k)),
+        ))
     } else {
-        Move::Becomes(Expansion::One(Awaited::Side(n, k)))
+        Move::Becomes(Expansion::One(Awaited::Formula(FormulaPart::Side(n, k))))
     }
 }
 
@@ -174,9 +204,9 @@ pub fn truth<'a>(n: u32, k: u32, x: Lexeme<'a>) -> Move
         || is_sign(Sign::Less, x)
         || is_sign(Sign::OpenBrace, x)
     {
-        Move::Becomes(Expansion::One(Awaited::Named(n, k)))
+        Move::Becomes(Expansion::One(Awaited::Formula(FormulaPart::Named(n, k))))
     } else {
-        Move::Becomes(Expansion::One(Awaited::Both(n, k)))
+        Move::Becomes(Expansion::One(Awaited::Formula(FormulaPart::Both(n, k))))
     }
 }
 
@@ -184,9 +214,9 @@ fn both_closed(n: u32, k: u32) -> Move
     ensures { move_of result ≡ spec.both_closed n k }
 {
     if k == 0 {
-        Move::Becomes(Expansion::One(Awaited::Closing(n, 0)))
+        Move::Becomes(Expansion::One(Awaited::Formula(FormulaPart::Closing(n, 0))))
     } else {
-        Move::Takes(Expansion::One(Awaited::Both(n, k - 1)))
+        Move::Takes(Expansion::One(Awaited::Formula(FormulaPart::Both(n, k - 1))))
     }
 }
 
@@ -194,11 +224,11 @@ pub fn both<'a>(n: u32, k: u32, x: Lexeme<'a>) -> Move
     ensures { move_of result ≡ spec.both_move n k (lexeme_of x.entry) }
 {
     if is_sign(Sign::Equals, x) {
-        Move::Becomes(Expansion::One(Awaited::Side(n, k)))
+        Move::Becomes(Expansion::One(Awaited::Formula(FormulaPart::Side(n, k))))
     } else if is_sign(Sign::Close, x) {
         both_closed(n, k)
     } else {
-        Move::Becomes(Expansion::One(Awaited::Closing(n, k)))
+        Move::Becomes(Expansion::One(Awaited::Formula(FormulaPart::Closing(n, k))))
     }
 }
 
@@ -211,10 +241,10 @@ pub fn closing(n: u32, k: u32) -> Move
     } else {
         let m = deep(n, k);
         Move::Becomes(Expansion::Four(
-            Awaited::More(m),
-            Awaited::Twice(m),
-            Awaited::Exactly(Sign::Close),
-            Awaited::Closing(n, k - 1),
+            Awaited::Formula(FormulaPart::More(m)),
+            Awaited::Formula(FormulaPart::Twice(m)),
+            Awaited::Token(OneToken::Exactly(Sign::Close)),
+            Awaited::Formula(FormulaPart::Closing(n, k - 1)),
         ))
     }
 }
@@ -224,11 +254,17 @@ pub fn more<'a>(n: u32, x: Lexeme<'a>) -> Move
     ensures { move_of result ≡ spec.more_move n (lexeme_of x.entry) }
 {
     if is_sign(Sign::And, x) || is_sign(Sign::Or, x) {
-        Move::Takes(Expansion::Two(Awaited::Negation(n, 0), Awaited::More(n)))
+        Move::Takes(Expansion::Two(
+            Awaited::Formula(FormulaPart::Negation(n, 0)),
+            Awaited::Formula(FormulaPart::More(n)),
+        ))
     } else if is_sign(Sign::Implies, x) {
         nests(
             n,
-            Move::Takes(Expansion::Two(Awaited::Negation(n + 1, 0), Awaited::More(n + 1))),
+            Move::Takes(Expansion::Two(
+                Awaited::Formula(FormulaPart::Negation(n + 1, 0)),
+                Awaited::Formula(FormulaPart::More(n + 1)),
+            )),
         )
     } else {
         Move::Becomes(Expansion::Zero)
@@ -239,7 +275,10 @@ pub fn twice<'a>(n: u32, x: Lexeme<'a>) -> Move
     ensures { move_of result ≡ spec.twice_move n (lexeme_of x.entry) }
 {
     if is_sign(Sign::Iff, x) {
-        Move::Takes(Expansion::Two(Awaited::Negation(n, 0), Awaited::More(n)))
+        Move::Takes(Expansion::Two(
+            Awaited::Formula(FormulaPart::Negation(n, 0)),
+            Awaited::Formula(FormulaPart::More(n)),
+        ))
     } else {
         Move::Becomes(Expansion::Zero)
     }

@@ -6,9 +6,9 @@ ghost use Rattle.sp_place.specs.Parts as a;
 ghost use Rattle.sp_place.specs.Stack.{Fits, Good};
 ghost use Rattle.sp_place.specs.Table as spec;
 ghost use Rattle.sp_place.specs.Texts.{Follows, Refuses};
-ghost use Rattle.sp_place.specs.Views.{all_of, awaited_of, expansion_of, move_of, parts_of};
+ghost use Rattle.sp_place.specs.Views.{all_of, awaited_of, expansion_of, formula_part_of, move_of, parts_of, proof_part_of, one_token_of, term_part_of, theory_part_of};
 
-use crate::awaited::Awaited;
+use crate::awaited::{Awaited, FormulaPart, OneToken, ProofPart, TermPart, TheoryPart};
 use crate::lexemes::{
     is_attribute, is_fact_name, is_name, is_numeral, is_sign, is_sort, is_step, is_word,
 };
@@ -18,63 +18,110 @@ use crate::{formulas, terms, theories};
 use sp_lex::Lexeme;
 use std::alloc::{AllocError, Global};
 
+/// What the token does to a part that is one token.
+fn next_token<'a>(part: OneToken, x: Lexeme<'a>) -> Move
+    ensures { move_of result ≡ spec.next (one_token_of part) (lexeme_of x.entry) }
+{
+    match part {
+        OneToken::Exactly(sign) => single(is_sign(sign, x)),
+        OneToken::Name => single(is_name(x)),
+        OneToken::Sort => single(is_sort(x)),
+        OneToken::FactName => single(is_fact_name(x)),
+        OneToken::Begin => single(is_word("begin", x)),
+        OneToken::Number => single(is_numeral(x)),
+        OneToken::Attribute => single(is_attribute(x)),
+        OneToken::Traces => single(is_word("traces", x)),
+        OneToken::Trace => single(is_word("trace", x)),
+        OneToken::Case => single(is_word("case", x)),
+        OneToken::Method => single(is_step(x)),
+    }
+}
+
+/// What the token does to a part of a term or of a fact.
+fn next_in_term<'a>(part: TermPart, x: Lexeme<'a>) -> Move
+    requires { Fits (term_part_of part) true }
+    ensures { move_of result ≡ spec.next (term_part_of part) (lexeme_of x.entry) }
+{
+    match part {
+        TermPart::Sorted => terms::sorted(x),
+        TermPart::Variable => terms::variable(x),
+        TermPart::Term(n) => terms::term(n, x),
+        TermPart::Applied(n) => terms::applied(n, x),
+        TermPart::Tuple(n, close) => terms::tuple(n, close),
+        TermPart::MoreTuple(n, close) => terms::more_tuple(n, close, x),
+        TermPart::Arguments(n) => terms::arguments(n, x),
+        TermPart::MoreArguments(n) => terms::more_arguments(n, x),
+        TermPart::Fact(n) => terms::fact(n, x),
+        TermPart::Opened(n) => terms::opened(n, x),
+        TermPart::Binders => terms::binders(x),
+    }
+}
+
+/// What the token does to a part of a formula.
+fn next_in_formula<'a>(part: FormulaPart, x: Lexeme<'a>) -> Move
+    requires { Fits (formula_part_of part) true }
+    ensures { move_of result ≡ spec.next (formula_part_of part) (lexeme_of x.entry) }
+{
+    match part {
+        FormulaPart::Negation(n, k) => formulas::negation(n, k, x),
+        FormulaPart::Unit(n, k) => formulas::unit(n, k, x),
+        FormulaPart::Side(n, k) => formulas::side(n, k, x),
+        FormulaPart::Order(n, k) => formulas::order(n, k, x),
+        FormulaPart::Bare(n, k) => formulas::bare(n, k, x),
+        FormulaPart::Named(n, k) => formulas::named(n, k, x),
+        FormulaPart::Shown(n, k) => formulas::shown(n, k, x),
+        FormulaPart::Truth(n, k) => formulas::truth(n, k, x),
+        FormulaPart::Both(n, k) => formulas::both(n, k, x),
+        FormulaPart::Closing(n, k) => formulas::closing(n, k),
+        FormulaPart::More(n) => formulas::more(n, x),
+        FormulaPart::Twice(n) => formulas::twice(n, x),
+    }
+}
+
+/// What the token does to a part of a theory.
+fn next_in_theory<'a>(part: TheoryPart, x: Lexeme<'a>) -> Move
+    ensures { move_of result ≡ spec.next (theory_part_of part) (lexeme_of x.entry) }
+{
+    match part {
+        TheoryPart::Theory => theories::theory(x),
+        TheoryPart::Items => theories::items(x),
+        TheoryPart::MoreBuiltins => theories::more_builtins(x),
+        TheoryPart::Function => theories::function(x),
+        TheoryPart::Attributes => theories::attributes(x),
+        TheoryPart::MoreAttributes => theories::more_attributes(x),
+        TheoryPart::MoreFunctions => theories::more_functions(x),
+        TheoryPart::MoreEquations => theories::more_equations(x),
+        TheoryPart::FactList => theories::fact_list(x),
+        TheoryPart::Facts(sign) => theories::facts(sign, x),
+        TheoryPart::MoreFacts(sign) => theories::more_facts(sign, x),
+        TheoryPart::Arrow => theories::arrow(x),
+        TheoryPart::Kind => theories::kind(x),
+    }
+}
+
+/// What the token does to a part of a proof.
+fn next_in_proof<'a>(part: ProofPart, x: Lexeme<'a>) -> Move
+    ensures { move_of result ≡ spec.next (proof_part_of part) (lexeme_of x.entry) }
+{
+    match part {
+        ProofPart::Below => theories::below(x),
+        ProofPart::Proof => theories::proof(x),
+        ProofPart::Behind => theories::behind(x),
+        ProofPart::Cases => theories::cases(x),
+    }
+}
+
 /// What the token does to this part.
 fn next<'a>(part: Awaited, x: Lexeme<'a>) -> Move
     requires { Fits (awaited_of part) true }
     ensures { move_of result ≡ spec.next (awaited_of part) (lexeme_of x.entry) }
 {
     match part {
-        Awaited::Exactly(sign) => single(is_sign(sign, x)),
-        Awaited::Name => single(is_name(x)),
-        Awaited::Sort => single(is_sort(x)),
-        Awaited::FactName => single(is_fact_name(x)),
-        Awaited::Sorted => terms::sorted(x),
-        Awaited::Variable => terms::variable(x),
-        Awaited::Term(n) => terms::term(n, x),
-        Awaited::Applied(n) => terms::applied(n, x),
-        Awaited::Tuple(n, close) => terms::tuple(n, close),
-        Awaited::MoreTuple(n, close) => terms::more_tuple(n, close, x),
-        Awaited::Arguments(n) => terms::arguments(n, x),
-        Awaited::MoreArguments(n) => terms::more_arguments(n, x),
-        Awaited::Fact(n) => terms::fact(n, x),
-        Awaited::Opened(n) => terms::opened(n, x),
-        Awaited::Binders => terms::binders(x),
-        Awaited::Negation(n, k) => formulas::negation(n, k, x),
-        Awaited::Unit(n, k) => formulas::unit(n, k, x),
-        Awaited::Side(n, k) => formulas::side(n, k, x),
-        Awaited::Order(n, k) => formulas::order(n, k, x),
-        Awaited::Bare(n, k) => formulas::bare(n, k, x),
-        Awaited::Named(n, k) => formulas::named(n, k, x),
-        Awaited::Shown(n, k) => formulas::shown(n, k, x),
-        Awaited::Truth(n, k) => formulas::truth(n, k, x),
-        Awaited::Both(n, k) => formulas::both(n, k, x),
-        Awaited::Closing(n, k) => formulas::closing(n, k),
-        Awaited::More(n) => formulas::more(n, x),
-        Awaited::Twice(n) => formulas::twice(n, x),
-        Awaited::Theory => theories::theory(x),
-        Awaited::Begin => single(is_word("begin", x)),
-        Awaited::Items => theories::items(x),
-        Awaited::MoreBuiltins => theories::more_builtins(x),
-        Awaited::Function => theories::function(x),
-        Awaited::Number => single(is_numeral(x)),
-        Awaited::Attributes => theories::attributes(x),
-        Awaited::Attribute => single(is_attribute(x)),
-        Awaited::MoreAttributes => theories::more_attributes(x),
-        Awaited::MoreFunctions => theories::more_functions(x),
-        Awaited::MoreEquations => theories::more_equations(x),
-        Awaited::FactList => theories::fact_list(x),
-        Awaited::Facts(sign) => theories::facts(sign, x),
-        Awaited::MoreFacts(sign) => theories::more_facts(sign, x),
-        Awaited::Arrow => theories::arrow(x),
-        Awaited::Kind => theories::kind(x),
-        Awaited::Traces => single(is_word("traces", x)),
-        Awaited::Trace => single(is_word("trace", x)),
-        Awaited::Below => theories::below(x),
-        Awaited::Proof => theories::proof(x),
-        Awaited::Behind => theories::behind(x),
-        Awaited::Case => single(is_word("case", x)),
-        Awaited::Cases => theories::cases(x),
-        Awaited::Method => single(is_step(x)),
+        Awaited::Token(part) => next_token(part, x),
+        Awaited::Term(part) => next_in_term(part, x),
+        Awaited::Formula(part) => next_in_formula(part, x),
+        Awaited::Theory(part) => next_in_theory(part, x),
+        Awaited::Proof(part) => next_in_proof(part, x),
     }
 }
 
@@ -167,7 +214,7 @@ pub fn start(alloc: Global) -> Result<Vec<Awaited>, AllocError>
     ensures { IfOk result (λ parts. parts_of parts.items ≡ a.Theory ∷ []) }
 {
     let mut parts = Vec::new(alloc);
-    push(&mut parts, Awaited::Theory)?;
+    push(&mut parts, Awaited::Theory(TheoryPart::Theory))?;
     Ok(parts)
 }
 

@@ -5,7 +5,7 @@ ghost use Rattle.sp_lex.specs.Views.{lexeme_of, sign_of};
 ghost use Rattle.sp_place.specs.Table as spec;
 ghost use Rattle.sp_place.specs.Views.{move_of};
 
-use crate::awaited::Awaited;
+use crate::awaited::{Awaited, OneToken, TermPart};
 use crate::lexemes::{is_constant, is_fact_name, is_mark, is_name, is_sign};
 use crate::moves::{Expansion, Move};
 use sp_lex::{Lexeme, Sign};
@@ -35,7 +35,7 @@ pub fn sorted<'a>(x: Lexeme<'a>) -> Move
     ensures { move_of result ≡ spec.sorted_move (lexeme_of x.entry) }
 {
     if is_sign(Sign::Colon, x) {
-        Move::Takes(Expansion::One(Awaited::Sort))
+        Move::Takes(Expansion::One(Awaited::Token(OneToken::Sort)))
     } else {
         Move::Becomes(Expansion::Zero)
     }
@@ -45,9 +45,9 @@ pub fn variable<'a>(x: Lexeme<'a>) -> Move
     ensures { move_of result ≡ spec.variable_move [] (lexeme_of x.entry) }
 {
     if is_mark(x) {
-        Move::Takes(Expansion::One(Awaited::Name))
+        Move::Takes(Expansion::One(Awaited::Token(OneToken::Name)))
     } else if is_name(x) {
-        Move::Takes(Expansion::One(Awaited::Sorted))
+        Move::Takes(Expansion::One(Awaited::Term(TermPart::Sorted)))
     } else {
         Move::Stuck
     }
@@ -62,17 +62,20 @@ pub fn term<'a>(nesting: u32, x: Lexeme<'a>) -> Move
     } else if is_sign(Sign::Open, x) {
         nests(
             nesting,
-            Move::Takes(Expansion::Two(Awaited::Term(nesting + 1), Awaited::Exactly(Sign::Close))),
+            Move::Takes(Expansion::Two(
+                Awaited::Term(TermPart::Term(nesting + 1)),
+                Awaited::Token(OneToken::Exactly(Sign::Close)),
+            )),
         )
     } else if is_sign(Sign::Less, x) {
         nests(
             nesting,
-            Move::Takes(Expansion::One(Awaited::Tuple(nesting + 1, Sign::Greater))),
+            Move::Takes(Expansion::One(Awaited::Term(TermPart::Tuple(nesting + 1, Sign::Greater)))),
         )
     } else if is_mark(x) {
-        Move::Takes(Expansion::One(Awaited::Name))
+        Move::Takes(Expansion::One(Awaited::Token(OneToken::Name)))
     } else if is_name(x) {
-        Move::Takes(Expansion::One(Awaited::Applied(nesting)))
+        Move::Takes(Expansion::One(Awaited::Term(TermPart::Applied(nesting))))
     } else {
         Move::Stuck
     }
@@ -85,23 +88,26 @@ pub fn applied<'a>(nesting: u32, x: Lexeme<'a>) -> Move
     if is_sign(Sign::Open, x) {
         nests(
             nesting,
-            Move::Takes(Expansion::One(Awaited::Arguments(nesting + 1))),
+            Move::Takes(Expansion::One(Awaited::Term(TermPart::Arguments(nesting + 1)))),
         )
     } else if is_sign(Sign::OpenBrace, x) {
         let braced = Expansion::Two(
-            Awaited::Tuple(nesting + 1, Sign::CloseBrace),
-            Awaited::Term(nesting + 1),
+            Awaited::Term(TermPart::Tuple(nesting + 1, Sign::CloseBrace)),
+            Awaited::Term(TermPart::Term(nesting + 1)),
         );
         nests(nesting, Move::Takes(braced))
     } else {
-        Move::Becomes(Expansion::One(Awaited::Sorted))
+        Move::Becomes(Expansion::One(Awaited::Term(TermPart::Sorted)))
     }
 }
 
 pub fn tuple(nesting: u32, close: Sign) -> Move
     ensures { move_of result ≡ spec.tuple_move nesting (sign_of close) }
 {
-    Move::Becomes(Expansion::Two(Awaited::Term(nesting), Awaited::MoreTuple(nesting, close)))
+    Move::Becomes(Expansion::Two(
+        Awaited::Term(TermPart::Term(nesting)),
+        Awaited::Term(TermPart::MoreTuple(nesting, close)),
+    ))
 }
 
 pub fn more_tuple<'a>(nesting: u32, close: Sign, x: Lexeme<'a>) -> Move
@@ -111,7 +117,7 @@ pub fn more_tuple<'a>(nesting: u32, close: Sign, x: Lexeme<'a>) -> Move
     if is_sign(Sign::Comma, x) {
         nests(
             nesting,
-            Move::Takes(Expansion::One(Awaited::Tuple(nesting + 1, close))),
+            Move::Takes(Expansion::One(Awaited::Term(TermPart::Tuple(nesting + 1, close)))),
         )
     } else {
         single(is_sign(close, x))
@@ -124,7 +130,10 @@ pub fn arguments<'a>(nesting: u32, x: Lexeme<'a>) -> Move
     if is_sign(Sign::Close, x) {
         Move::Takes(Expansion::Zero)
     } else {
-        Move::Becomes(Expansion::Two(Awaited::Term(nesting), Awaited::MoreArguments(nesting)))
+        Move::Becomes(Expansion::Two(
+            Awaited::Term(TermPart::Term(nesting)),
+            Awaited::Term(TermPart::MoreArguments(nesting)),
+        ))
     }
 }
 
@@ -132,7 +141,10 @@ pub fn more_arguments<'a>(nesting: u32, x: Lexeme<'a>) -> Move
     ensures { move_of result ≡ spec.more_arguments_move nesting (lexeme_of x.entry) }
 {
     if is_sign(Sign::Comma, x) {
-        Move::Takes(Expansion::Two(Awaited::Term(nesting), Awaited::MoreArguments(nesting)))
+        Move::Takes(Expansion::Two(
+            Awaited::Term(TermPart::Term(nesting)),
+            Awaited::Term(TermPart::MoreArguments(nesting)),
+        ))
     } else if is_sign(Sign::Close, x) {
         Move::Takes(Expansion::Zero)
     } else {
@@ -144,9 +156,12 @@ pub fn fact<'a>(nesting: u32, x: Lexeme<'a>) -> Move
     ensures { move_of result ≡ spec.fact_move nesting (lexeme_of x.entry) }
 {
     if is_sign(Sign::Bang, x) {
-        Move::Takes(Expansion::Two(Awaited::FactName, Awaited::Opened(nesting)))
+        Move::Takes(Expansion::Two(
+            Awaited::Token(OneToken::FactName),
+            Awaited::Term(TermPart::Opened(nesting)),
+        ))
     } else if is_fact_name(x) {
-        Move::Takes(Expansion::One(Awaited::Opened(nesting)))
+        Move::Takes(Expansion::One(Awaited::Term(TermPart::Opened(nesting))))
     } else {
         Move::Stuck
     }
@@ -159,7 +174,7 @@ pub fn opened<'a>(nesting: u32, x: Lexeme<'a>) -> Move
     if is_sign(Sign::Open, x) {
         nests(
             nesting,
-            Move::Takes(Expansion::One(Awaited::Arguments(nesting + 1))),
+            Move::Takes(Expansion::One(Awaited::Term(TermPart::Arguments(nesting + 1)))),
         )
     } else {
         Move::Stuck
@@ -172,9 +187,15 @@ pub fn binders<'a>(x: Lexeme<'a>) -> Move
     if is_sign(Sign::Dot, x) {
         Move::Takes(Expansion::Zero)
     } else if is_mark(x) {
-        Move::Takes(Expansion::Two(Awaited::Name, Awaited::Binders))
+        Move::Takes(Expansion::Two(
+            Awaited::Token(OneToken::Name),
+            Awaited::Term(TermPart::Binders),
+        ))
     } else if is_name(x) {
-        Move::Takes(Expansion::Two(Awaited::Sorted, Awaited::Binders))
+        Move::Takes(Expansion::Two(
+            Awaited::Term(TermPart::Sorted),
+            Awaited::Term(TermPart::Binders),
+        ))
     } else {
         Move::Stuck
     }

@@ -5,7 +5,7 @@ ghost use Rattle.sp_lex.specs.Views.{lexeme_of, sign_of};
 ghost use Rattle.sp_place.specs.Table as spec;
 ghost use Rattle.sp_place.specs.Views.{move_of};
 
-use crate::awaited::Awaited;
+use crate::awaited::{Awaited, FormulaPart, OneToken, ProofPart, TermPart, TheoryPart};
 use crate::lexemes::{is_name, is_sign, is_step, is_word};
 use crate::moves::{Expansion, Move};
 use crate::terms::single;
@@ -15,7 +15,11 @@ pub fn theory<'a>(x: Lexeme<'a>) -> Move
     ensures { move_of result ≡ spec.theory_move (lexeme_of x.entry) }
 {
     if is_word("theory", x) {
-        Move::Takes(Expansion::Three(Awaited::Name, Awaited::Begin, Awaited::Items))
+        Move::Takes(Expansion::Three(
+            Awaited::Token(OneToken::Name),
+            Awaited::Token(OneToken::Begin),
+            Awaited::Theory(TheoryPart::Items),
+        ))
     } else {
         Move::Stuck
     }
@@ -26,23 +30,23 @@ pub fn items<'a>(x: Lexeme<'a>) -> Move
 {
     if is_word("rule", x) {
         Move::Takes(Expansion::Six(
-            Awaited::Name,
-            Awaited::Exactly(Sign::Colon),
-            Awaited::FactList,
-            Awaited::Arrow,
-            Awaited::FactList,
-            Awaited::Items,
+            Awaited::Token(OneToken::Name),
+            Awaited::Token(OneToken::Exactly(Sign::Colon)),
+            Awaited::Theory(TheoryPart::FactList),
+            Awaited::Theory(TheoryPart::Arrow),
+            Awaited::Theory(TheoryPart::FactList),
+            Awaited::Theory(TheoryPart::Items),
         ))
     } else if is_word("lemma", x) {
         Move::Takes(Expansion::Eight(
-            Awaited::Name,
-            Awaited::Exactly(Sign::Colon),
-            Awaited::Kind,
-            Awaited::Negation(0, 0),
-            Awaited::More(0),
-            Awaited::Twice(0),
-            Awaited::Exactly(Sign::Quote),
-            Awaited::Below,
+            Awaited::Token(OneToken::Name),
+            Awaited::Token(OneToken::Exactly(Sign::Colon)),
+            Awaited::Theory(TheoryPart::Kind),
+            Awaited::Formula(FormulaPart::Negation(0, 0)),
+            Awaited::Formula(FormulaPart::More(0)),
+            Awaited::Formula(FormulaPart::Twice(0)),
+            Awaited::Token(OneToken::Exactly(Sign::Quote)),
+            Awaited::Proof(ProofPart::Below),
         ))
     } else {
         declaration(x)
@@ -55,23 +59,23 @@ fn declaration<'a>(x: Lexeme<'a>) -> Move
 {
     if is_word("builtins", x) {
         Move::Takes(Expansion::Three(
-            Awaited::Exactly(Sign::Colon),
-            Awaited::Name,
-            Awaited::MoreBuiltins,
+            Awaited::Token(OneToken::Exactly(Sign::Colon)),
+            Awaited::Token(OneToken::Name),
+            Awaited::Theory(TheoryPart::MoreBuiltins),
         ))
     } else if is_word("functions", x) {
         Move::Takes(Expansion::Three(
-            Awaited::Exactly(Sign::Colon),
-            Awaited::Function,
-            Awaited::MoreFunctions,
+            Awaited::Token(OneToken::Exactly(Sign::Colon)),
+            Awaited::Theory(TheoryPart::Function),
+            Awaited::Theory(TheoryPart::MoreFunctions),
         ))
     } else if is_word("equations", x) {
         Move::Takes(Expansion::Five(
-            Awaited::Exactly(Sign::Colon),
-            Awaited::Term(0),
-            Awaited::Exactly(Sign::Equals),
-            Awaited::Term(0),
-            Awaited::MoreEquations,
+            Awaited::Token(OneToken::Exactly(Sign::Colon)),
+            Awaited::Term(TermPart::Term(0)),
+            Awaited::Token(OneToken::Exactly(Sign::Equals)),
+            Awaited::Term(TermPart::Term(0)),
+            Awaited::Theory(TheoryPart::MoreEquations),
         ))
     } else {
         single(is_word("end", x))
@@ -82,9 +86,12 @@ pub fn more_builtins<'a>(x: Lexeme<'a>) -> Move
     ensures { move_of result ≡ spec.more_builtins_move (lexeme_of x.entry) }
 {
     if is_sign(Sign::Dash, x) || is_sign(Sign::Comma, x) {
-        Move::Takes(Expansion::Two(Awaited::Name, Awaited::MoreBuiltins))
+        Move::Takes(Expansion::Two(
+            Awaited::Token(OneToken::Name),
+            Awaited::Theory(TheoryPart::MoreBuiltins),
+        ))
     } else {
-        Move::Becomes(Expansion::One(Awaited::Items))
+        Move::Becomes(Expansion::One(Awaited::Theory(TheoryPart::Items)))
     }
 }
 
@@ -93,9 +100,9 @@ pub fn function<'a>(x: Lexeme<'a>) -> Move
 {
     if is_name(x) {
         Move::Takes(Expansion::Three(
-            Awaited::Exactly(Sign::Slash),
-            Awaited::Number,
-            Awaited::Attributes,
+            Awaited::Token(OneToken::Exactly(Sign::Slash)),
+            Awaited::Token(OneToken::Number),
+            Awaited::Theory(TheoryPart::Attributes),
         ))
     } else {
         Move::Stuck
@@ -106,7 +113,10 @@ pub fn attributes<'a>(x: Lexeme<'a>) -> Move
     ensures { move_of result ≡ spec.attributes_move (lexeme_of x.entry) }
 {
     if is_sign(Sign::OpenList, x) {
-        Move::Takes(Expansion::Two(Awaited::Attribute, Awaited::MoreAttributes))
+        Move::Takes(Expansion::Two(
+            Awaited::Token(OneToken::Attribute),
+            Awaited::Theory(TheoryPart::MoreAttributes),
+        ))
     } else {
         Move::Becomes(Expansion::Zero)
     }
@@ -116,7 +126,10 @@ pub fn more_attributes<'a>(x: Lexeme<'a>) -> Move
     ensures { move_of result ≡ spec.more_attributes_move (lexeme_of x.entry) }
 {
     if is_sign(Sign::Comma, x) {
-        Move::Takes(Expansion::Two(Awaited::Attribute, Awaited::MoreAttributes))
+        Move::Takes(Expansion::Two(
+            Awaited::Token(OneToken::Attribute),
+            Awaited::Theory(TheoryPart::MoreAttributes),
+        ))
     } else {
         single(is_sign(Sign::CloseList, x))
     }
@@ -126,9 +139,12 @@ pub fn more_functions<'a>(x: Lexeme<'a>) -> Move
     ensures { move_of result ≡ spec.more_functions_move (lexeme_of x.entry) }
 {
     if is_sign(Sign::Comma, x) {
-        Move::Takes(Expansion::Two(Awaited::Function, Awaited::MoreFunctions))
+        Move::Takes(Expansion::Two(
+            Awaited::Theory(TheoryPart::Function),
+            Awaited::Theory(TheoryPart::MoreFunctions),
+        ))
     } else {
-        Move::Becomes(Expansion::One(Awaited::Items))
+        Move::Becomes(Expansion::One(Awaited::Theory(TheoryPart::Items)))
     }
 }
 
@@ -137,13 +153,13 @@ pub fn more_equations<'a>(x: Lexeme<'a>) -> Move
 {
     if is_sign(Sign::Comma, x) {
         Move::Takes(Expansion::Four(
-            Awaited::Term(0),
-            Awaited::Exactly(Sign::Equals),
-            Awaited::Term(0),
-            Awaited::MoreEquations,
+            Awaited::Term(TermPart::Term(0)),
+            Awaited::Token(OneToken::Exactly(Sign::Equals)),
+            Awaited::Term(TermPart::Term(0)),
+            Awaited::Theory(TheoryPart::MoreEquations),
         ))
     } else {
-        Move::Becomes(Expansion::One(Awaited::Items))
+        Move::Becomes(Expansion::One(Awaited::Theory(TheoryPart::Items)))
     }
 }
 
@@ -151,7 +167,7 @@ pub fn fact_list<'a>(x: Lexeme<'a>) -> Move
     ensures { move_of result ≡ spec.fact_list_move (lexeme_of x.entry) }
 {
     if is_sign(Sign::OpenList, x) {
-        Move::Takes(Expansion::One(Awaited::Facts(Sign::CloseList)))
+        Move::Takes(Expansion::One(Awaited::Theory(TheoryPart::Facts(Sign::CloseList))))
     } else {
         Move::Stuck
     }
@@ -163,7 +179,10 @@ pub fn facts<'a>(close: Sign, x: Lexeme<'a>) -> Move
     if is_sign(close, x) {
         Move::Takes(Expansion::Zero)
     } else {
-        Move::Becomes(Expansion::Two(Awaited::Fact(0), Awaited::MoreFacts(close)))
+        Move::Becomes(Expansion::Two(
+            Awaited::Term(TermPart::Fact(0)),
+            Awaited::Theory(TheoryPart::MoreFacts(close)),
+        ))
     }
 }
 
@@ -171,7 +190,10 @@ pub fn more_facts<'a>(close: Sign, x: Lexeme<'a>) -> Move
     ensures { move_of result ≡ spec.more_facts_move (sign_of close) (lexeme_of x.entry) }
 {
     if is_sign(Sign::Comma, x) {
-        Move::Takes(Expansion::Two(Awaited::Fact(0), Awaited::MoreFacts(close)))
+        Move::Takes(Expansion::Two(
+            Awaited::Term(TermPart::Fact(0)),
+            Awaited::Theory(TheoryPart::MoreFacts(close)),
+        ))
     } else {
         single(is_sign(close, x))
     }
@@ -183,7 +205,7 @@ pub fn arrow<'a>(x: Lexeme<'a>) -> Move
     if is_sign(Sign::Arrow, x) {
         Move::Takes(Expansion::Zero)
     } else if is_sign(Sign::OpenArrow, x) {
-        Move::Takes(Expansion::One(Awaited::Facts(Sign::CloseArrow)))
+        Move::Takes(Expansion::One(Awaited::Theory(TheoryPart::Facts(Sign::CloseArrow))))
     } else {
         Move::Stuck
     }
@@ -196,15 +218,15 @@ pub fn kind<'a>(x: Lexeme<'a>) -> Move
         Move::Takes(Expansion::Zero)
     } else if is_word("all", x) {
         Move::Takes(Expansion::Three(
-            Awaited::Exactly(Sign::Dash),
-            Awaited::Traces,
-            Awaited::Exactly(Sign::Quote),
+            Awaited::Token(OneToken::Exactly(Sign::Dash)),
+            Awaited::Token(OneToken::Traces),
+            Awaited::Token(OneToken::Exactly(Sign::Quote)),
         ))
     } else if is_word("exists", x) {
         Move::Takes(Expansion::Three(
-            Awaited::Exactly(Sign::Dash),
-            Awaited::Trace,
-            Awaited::Exactly(Sign::Quote),
+            Awaited::Token(OneToken::Exactly(Sign::Dash)),
+            Awaited::Token(OneToken::Trace),
+            Awaited::Token(OneToken::Exactly(Sign::Quote)),
         ))
     } else {
         Move::Stuck
@@ -227,9 +249,12 @@ pub fn below<'a>(x: Lexeme<'a>) -> Move
     ensures { move_of result ≡ spec.below_move (lexeme_of x.entry) }
 {
     if is_item(x) {
-        Move::Becomes(Expansion::One(Awaited::Items))
+        Move::Becomes(Expansion::One(Awaited::Theory(TheoryPart::Items)))
     } else {
-        Move::Becomes(Expansion::Two(Awaited::Proof, Awaited::Items))
+        Move::Becomes(Expansion::Two(
+            Awaited::Proof(ProofPart::Proof),
+            Awaited::Theory(TheoryPart::Items),
+        ))
     }
 }
 
@@ -239,9 +264,9 @@ pub fn proof<'a>(x: Lexeme<'a>) -> Move
     if is_word("SOLVED", x) {
         Move::Takes(Expansion::Zero)
     } else if is_word("by", x) {
-        Move::Takes(Expansion::One(Awaited::Method))
+        Move::Takes(Expansion::One(Awaited::Token(OneToken::Method)))
     } else if is_step(x) {
-        Move::Takes(Expansion::One(Awaited::Behind))
+        Move::Takes(Expansion::One(Awaited::Proof(ProofPart::Behind)))
     } else {
         Move::Stuck
     }
@@ -251,9 +276,13 @@ pub fn behind<'a>(x: Lexeme<'a>) -> Move
     ensures { move_of result ≡ spec.behind_move (lexeme_of x.entry) }
 {
     if is_word("case", x) {
-        Move::Takes(Expansion::Three(Awaited::Name, Awaited::Proof, Awaited::Cases))
+        Move::Takes(Expansion::Three(
+            Awaited::Token(OneToken::Name),
+            Awaited::Proof(ProofPart::Proof),
+            Awaited::Proof(ProofPart::Cases),
+        ))
     } else {
-        Move::Becomes(Expansion::One(Awaited::Proof))
+        Move::Becomes(Expansion::One(Awaited::Proof(ProofPart::Proof)))
     }
 }
 
@@ -263,7 +292,12 @@ pub fn cases<'a>(x: Lexeme<'a>) -> Move
     if is_word("qed", x) {
         Move::Takes(Expansion::Zero)
     } else if is_word("next", x) {
-        Move::Takes(Expansion::Four(Awaited::Case, Awaited::Name, Awaited::Proof, Awaited::Cases))
+        Move::Takes(Expansion::Four(
+            Awaited::Token(OneToken::Case),
+            Awaited::Token(OneToken::Name),
+            Awaited::Proof(ProofPart::Proof),
+            Awaited::Proof(ProofPart::Cases),
+        ))
     } else {
         Move::Stuck
     }

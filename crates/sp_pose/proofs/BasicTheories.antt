@@ -17,8 +17,8 @@ use Rattle.sp_law_equal.specs.RightTheory.{IsRightTheory}
 use Rattle.sp_spec.specs.Verdict.{names_learning}
 use Rattle.sp_law_conv.specs.Laws.{HaveOneArity}
 use Rattle.sp_law_conv.proofs.Convergent.{convergence_law}
-use Rattle.sp_law_tree.specs.BasicTheory.{AreBasicTerms, IsBasicRule, IsBasicFormula}
-use Rattle.sp_law_tree.proofs.RightTexts.{texts_are_right_lem}
+use Rattle.sp_law_basic.specs.BasicTheory.{AreBasicTerms, IsBasicRule, IsBasicFormula}
+use Rattle.sp_law_basic.proofs.RightTexts.{texts_are_right_lem}
 use Rattle.sp_wf.specs.SymbolFindings.{unknown_in, unknown_in_all, unknown_in_facts, unknown_in_actions, unknown_in_formula, has_destructor, have_destructor, facts_have_destructor, formula_has_destructor}
 use Rattle.sp_wf.specs.Laws.{IsFineRule, IsFineLemma}
 use Rattle.sp_pose.specs.Problem.{Poses}

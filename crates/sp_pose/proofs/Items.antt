@@ -10,7 +10,8 @@ use Rattle.sp_written.specs.Views as view
 use Rattle.sp_written.specs.declared.theory.Item.{Item}
 use Rattle.sp_written.specs.declared.theory.Item.TheVariants as i
 use Rattle.sp_written.specs.declared.theory.WrittenLemma.{WrittenLemma}
-use Rattle.sp_pose.specs.Asked.{Asked, asked_with, asked_then, lemmas_read, all_asked}
+use Rattle.sp_pose.specs.Asked.{Asked, asked_of, asked_with, asked_then, lemmas_read, all_asked}
+use Rattle.sp_pose.specs.declared.problem.GuardedLemma.{GuardedLemma}
 use Rattle.sp_spec.proofs.Lists.{next_item}
 
 -- ---- rules
@@ -59,3 +60,11 @@ last_asked (k ∷ ls) l =
     at (Some g) None last = refl
     at (Some g) (Some as') None = refl
     at (Some g) (Some as') (Some h) = refl
+
+-- one more, whose guarded form is there where the lemma has one
+pub one_asked : (as' : List Asked) (l : WrittenLemma) (o : Option GuardedLemma) (form : Option Guarded) → option_map asked_of o ≡ option_map (λ (g : Guarded). asked_with l g) form
+    → option_map (λ (m : GuardedLemma). as' ++ asked_of m ∷ []) o ≡ option_map (λ (g : Guarded). as' ++ asked_with l g ∷ []) form
+one_asked as' l None None e = refl
+one_asked as' l None (Some g) e = ap (option_map (λ (a : Asked). as' ++ a ∷ [])) e
+one_asked as' l (Some m) None e = ap (option_map (λ (a : Asked). as' ++ a ∷ [])) e
+one_asked as' l (Some m) (Some g) e = ap (option_map (λ (a : Asked). as' ++ a ∷ [])) e

@@ -6,7 +6,7 @@ use Rattle.sp_spec.specs.Signature.{Symbol, Equation, Signature}
 use Rattle.sp_spec.specs.Theory.{Lemma, signature_of}
 use Rattle.sp_spec.specs.Written.{rule_of, theory_of}
 use Rattle.sp_spec.specs.Guarded.{Guarded}
-use Rattle.sp_constants.specs.Constants.{constants_in}
+use Rattle.sp_declared.specs.Constants.{constants_in}
 use Rattle.sp_spec_text.specs.Written as written
 use Rattle.sp_spec_text.specs.Written.{WrittenText, rules_in, lemmas_in}
 use Rattle.sp_spec_text.specs.Declared.{all_symbols, resolved_item, resolved, Numbered, all_equations, their_equations, theory_in}

@@ -2,3 +2,4 @@ pub mod Problem
 pub mod Asked
 pub mod Posed
 pub mod Numbering
+pub mod Replies

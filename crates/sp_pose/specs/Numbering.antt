@@ -1,18 +1,14 @@
 -- The numbers that a rule's variables are given, and their names.
 use Rattle.std.specs.Prelude.{◌≡◌, ℕ, List, [], ◌∷◌, map, if◌then◌else◌}
 use Rattle.std.specs.Str.{bytes_eq}
-use denote.Ref.{Bor}
 use Rattle.sp_spec.specs.Term.{Sort, Msg, Variable, Term, var}
 use Rattle.sp_spec.specs.Rule as spec
 use Rattle.sp_spec.specs.Rule.{Facts}
 use Rattle.sp_spec.specs.Formula.{Written}
 use Rattle.sp_spec.specs.Written.{occurrences, rule_names, sort_in, place_of}
 use Rattle.sp_read_parts.specs.Views as view
+use Rattle.sp_declared.specs.View.{texts_of}
 use Rattle.sp_pose.specs.declared.numbering.Numbering.{Numbering}
-
--- names that are kept as parts of a text
-abbrev pub texts_of : List (Bor (List ℕ)) → List (List ℕ)
-texts_of names = map (λ n. n.now) names
 
 -- a name with its sort in these facts
 abbrev pub declared_in : Facts Written → List ℕ → spec.Declared

@@ -4,10 +4,10 @@ use Rattle.sp_spec.specs.Signature.{Signature}
 use Rattle.sp_spec.specs.Written.{rule_of, theory_of}
 use Rattle.sp_term.specs.View.{name_of}
 use Rattle.sp_spec.specs.Theory as spec
-use Rattle.sp_ground.specs.View.{signature_of}
+use Rattle.sp_fact.specs.GroundView.{signature_of}
 use Rattle.sp_fact.specs.View as memory
 use Rattle.sp_spec.specs.Constants.{constants_of}
-use Rattle.sp_constants.specs.Constants.{constants_in}
+use Rattle.sp_declared.specs.Constants.{constants_in}
 use Rattle.sp_spec_text.specs.Written.{WrittenText, rules_in}
 use Rattle.sp_spec_text.specs.Declared.{resolved, theory_in}
 use Rattle.sp_written.specs.Views as view

@@ -7,7 +7,8 @@ ghost use Rattle.sp_spec.specs.Written as written;
 ghost use Rattle.sp_read_parts.specs.Views as view;
 ghost use Rattle.sp_term.specs.View as memory;
 ghost use Rattle.sp_fact.specs.View.{declared_of, rule_of};
-ghost use Rattle.sp_pose.specs.Numbering.{declared_in, numbered_by, sort_among, texts_of, Numbers};
+ghost use Rattle.sp_declared.specs.View.{texts_of};
+ghost use Rattle.sp_pose.specs.Numbering.{declared_in, numbered_by, sort_among, Numbers};
 
 use sp_declared::names::{names, place_of};
 use sp_fact::rule::{Declared, Rule};

@@ -5,19 +5,22 @@ ghost use Rattle.sp_spec.specs.Written as written;
 ghost use Rattle.sp_fact.specs.View.{rule_of};
 ghost use Rattle.sp_spec_text.specs.Written.{rules_in};
 ghost use Rattle.sp_written.specs.Views as view;
-ghost use Rattle.sp_pose.specs.Asked.{asked_of, asked_then, lemmas_read, all_asked};
-ghost use Rattle.sp_ground.specs.View.{signature_of};
+ghost use Rattle.sp_formula.specs.FormulaView.{formula_of};
+ghost use Rattle.sp_law_guard.specs.CheckedForm as guard;
+ghost use Rattle.sp_read_parts.specs.Formulas.{formula};
+ghost use Rattle.sp_pose.specs.Asked.{asked_of, asked_with, asked_then, lemmas_read, all_asked};
+ghost use Rattle.sp_fact.specs.GroundView.{signature_of};
 ghost use Rattle.sp_pose.specs.Posed.{IsRead, IsMadeOf};
 
 use crate::numbering::numbered;
-use sp_constants::constants;
 use sp_declared::equations::equations;
+use sp_declared::public_names::constants;
 use sp_declared::resolved::resolved;
 use sp_declared::signature::signature;
 use sp_declared::symbols::symbols;
 use sp_fact::rule::Rule;
+use sp_fact::signature::Signature;
 use sp_formula::formula::Formula;
-use sp_ground::signature::Signature;
 use sp_guard::marks::checked_form;
 use sp_place::refused_at;
 use sp_read_theory::read_theory;
@@ -116,6 +119,54 @@ fn lemmas_of<'a>(alloc: Global, items: Vec<Item<'a>>) -> Result<Vec<WrittenLemma
     Ok(lemmas)
 }
 
+/// The lemma with this guarded form.
+fn guarded_by<'a>(lemma: WrittenLemma<'a>, form: Formula) -> GuardedLemma<'a>
+    ensures { asked_of result ≡ asked_with lemma.entry (formula_of form) }
+{
+    GuardedLemma {
+        name: lemma.name,
+        kind: lemma.kind,
+        form,
+        proof: lemma.proof,
+        span: lemma.span,
+    }
+}
+
+/// The lemma with this guarded form, if it has one.
+fn with_form<'a>(lemma: WrittenLemma<'a>, form: Option<Formula>) -> Option<GuardedLemma<'a>>
+    ensures { option_map asked_of result ≡ option_map (λ g. asked_with lemma.entry g) (option_map formula_of form) }
+{
+    match form {
+        Some(form) => Some(guarded_by(lemma, form)),
+        None => None,
+    }
+}
+
+/// The lemma with its guarded form; none where it has none.
+fn guarded_lemma<'a>(
+    alloc: Global,
+    lemma: WrittenLemma<'a>,
+) -> Result<Option<GuardedLemma<'a>>, AllocError>
+    ensures { IfOk result (λ o. option_map asked_of o ≡ option_map (λ g. asked_with lemma.entry g) (guard.checked_form (formula lemma.entry.formula))) }
+{
+    let form = checked_form(alloc, &lemma.formula)?;
+    Ok(with_form(lemma, form))
+}
+
+/// The lemmas, and one more; none where there is none more.
+fn and_one<'a>(
+    mut lemmas: Vec<GuardedLemma<'a>>,
+    last: Option<GuardedLemma<'a>>,
+) -> Result<Option<Vec<GuardedLemma<'a>>>, AllocError>
+    ensures { IfOk result (λ o. option_map (λ ls. map asked_of ls.items) o ≡ option_map (λ l. map asked_of lemmas.entry.items ++ asked_of l ∷ []) last.entry) }
+{
+    let Some(last) = last else {
+        return Ok(None);
+    };
+    lemmas.push(last)?;
+    Ok(Some(lemmas))
+}
+
 /// The lemmas, and one more with its guarded form; none where it has none.
 fn with_lemma<'a>(
     alloc: Global,
@@ -124,20 +175,11 @@ fn with_lemma<'a>(
 ) -> Result<Option<Vec<GuardedLemma<'a>>>, AllocError>
     ensures { IfOk result (λ o. option_map (λ ls. map asked_of ls.items) o ≡ asked_then (option_map (λ ls. map asked_of ls.items) others.entry) lemma.entry) }
 {
-    let Some(mut guarded) = others else {
+    let Some(others) = others else {
         return Ok(None);
     };
-    let Some(form) = checked_form(alloc, &lemma.formula)? else {
-        return Ok(None);
-    };
-    guarded.push(GuardedLemma {
-        name: lemma.name,
-        kind: lemma.kind,
-        form,
-        proof: lemma.proof,
-        span: lemma.span,
-    })?;
-    Ok(Some(guarded))
+    let last = guarded_lemma(alloc, lemma)?;
+    and_one(others, last)
 }
 
 /// The lemmas with their guarded forms; none where one has none.
@@ -154,6 +196,17 @@ fn guarded_lemmas<'a>(
     Ok(guarded)
 }
 
+/// The lemmas among the items, with their guarded forms; none where one has none.
+fn lemmas_in<'a>(
+    alloc: Global,
+    items: Vec<Item<'a>>,
+) -> Result<Option<Vec<GuardedLemma<'a>>>, AllocError>
+    ensures { IfOk result (λ o. option_map (λ ls. map asked_of ls.items) o ≡ all_asked (lemmas_read items.entry.items)) }
+{
+    let lemmas = lemmas_of(alloc, items)?;
+    guarded_lemmas(alloc, lemmas)
+}
+
 /// What a text poses, of its theory with symbols in the place of the names that are such; none where a lemma has no guarded form.
 fn posed<'a>(
     alloc: Global,
@@ -165,8 +218,7 @@ fn posed<'a>(
     let rules = rules_of(alloc, &theory.items)?;
     let constants = constants(alloc, &theory)?;
     let behind_end = theory.behind_end;
-    let lemmas = lemmas_of(alloc, theory.items)?;
-    let Some(lemmas) = guarded_lemmas(alloc, lemmas)? else {
+    let Some(lemmas) = lemmas_in(alloc, theory.items)? else {
         return Ok(None);
     };
     Ok(Some(Problem {

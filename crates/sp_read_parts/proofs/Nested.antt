@@ -39,14 +39,14 @@ under_angle : {n : ℕ} {tokens rest : List Lexeme} {x : Term Written} → IsTer
 under_angle (variable d h) = absurd (variable_sign refl h)
 under_angle (tuple lt h) = (lt, h)
 
-pub angled_at : {n k : ℕ} {x : Term Written} {tokens rest : List Lexeme} → n < 128 → k ≡ n + 1 → IsTuple k s.Greater tokens x rest → IsTerm n (sign s.Less ∷ tokens) x rest
-angled_at {x = x} {tokens = ts} {rest = r} lt e h = tuple lt (subst (λ (m : ℕ). IsTuple m s.Greater ts x r) e h)
+pub angled_at : {n k : ℕ} {x : Term Written} {tokens inside rest : List Lexeme} → tokens ≡ sign s.Less ∷ inside → n < 128 → k ≡ n + 1 → IsTuple k s.Greater inside x rest → IsTerm n tokens x rest
+angled_at {x = x} {inside = ts} {rest = r} d lt e h = rw d (tuple lt (subst (λ (m : ℕ). IsTuple m s.Greater ts x r) e h))
 
-pub angle_too_deep : {n : ℕ} {tokens : List Lexeme} → 128 ≤ n → NoReading (IsTerm n) (sign s.Less ∷ tokens)
-angle_too_deep le = record { none = λ x r h. let i = (under_angle h).0 in omega (arith, le, i) }
+pub angle_too_deep : {n : ℕ} {tokens inside : List Lexeme} → tokens ≡ sign s.Less ∷ inside → 128 ≤ n → NoReading (IsTerm n) tokens
+angle_too_deep {n} {inside = ts} d le = subst (NoReading (IsTerm n)) (sym d) (record { none = λ x r h. let i = (under_angle h).0 in omega (arith, le, i) })
 
-pub angle_no_tuple : {n k : ℕ} {tokens : List Lexeme} → k ≡ n + 1 → NoReading (IsTuple k s.Greater) tokens → NoReading (IsTerm n) (sign s.Less ∷ tokens)
-angle_no_tuple {tokens = ts} e d = record { none = λ x r h. d.none x r (subst (λ (m : ℕ). IsTuple m s.Greater ts x r) (sym e) (under_angle h).1) }
+pub angle_no_tuple : {n k : ℕ} {tokens inside : List Lexeme} → tokens ≡ sign s.Less ∷ inside → k ≡ n + 1 → NoReading (IsTuple k s.Greater) inside → NoReading (IsTerm n) tokens
+angle_no_tuple {n} {inside = ts} d e k = subst (NoReading (IsTerm n)) (sym d) (record { none = λ x r h. k.none x r (subst (λ (m : ℕ). IsTuple m s.Greater ts x r) (sym e) (under_angle h).1) })
 
 pub ruleset angled_terms = (angled_at, angle_too_deep, angle_no_tuple)
 

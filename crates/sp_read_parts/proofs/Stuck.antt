@@ -1,5 +1,5 @@
 -- What a part of a formula begins with says which way it is read; each way to get stuck leaves no reading.
-use Rattle.std.proofs.Common.{◌≡◌, ℕ, ◌+◌, ◌<◌, ◌≤◌, Bool, List, ◌∷◌, codes, refl, sym, subst, arith}
+use Rattle.std.proofs.Common.{◌≡◌, ℕ, ◌+◌, ◌<◌, ◌≤◌, Bool, List, [], ◌∷◌, ◌++◌, codes, refl, sym, subst, arith}
 use Rattle.sp_spec_text.specs.Signs as s
 use Rattle.sp_spec_text.specs.Token.{Lexeme, word, sign}
 use Rattle.sp_spec.specs.Formula.{Written, Formula, not_so, implies}
@@ -7,7 +7,8 @@ use Rattle.sp_spec_text.specs.Lists.{IsNotFirst, NoReading}
 use Rattle.sp_read_parts.specs.Parts.{AreBinders}
 use Rattle.sp_spec_text.specs.Formulas.{equivalent}
 use Rattle.sp_read_parts.specs.Reading.{IsAtom, IsQuantifier, bind, Joint, disjoint, sign_of, join, a_group, a_binding, a_unit, a_negation, a_chain, an_implication, a_whole, below, Reads, grouped, bound, shallow, from_group, from_binding, positive, negative, chained, lone, implying, single, double, GoesOn, ended, went}
-use Rattle.sp_read_parts.proofs.Chains.{chain_pushed}
+use Rattle.sp_read_parts.specs.Formulas.{linked}
+use Rattle.sp_read_parts.proofs.Chains.{linked_more}
 use Rattle.sp_read_parts.proofs.One.{binders_one}
 use Rattle.sp_read_parts.proofs.OneFormula.{quantifier_one, reads_one}
 
@@ -39,7 +40,7 @@ pub ruleset groups = (group_at, group_too_deep, no_group, group_no_inside, group
 
 -- ---- bindings
 
-pub binding_at : {n : ℕ} {k : Bool} {vs : List Written} {f g : Formula} {tokens inner body rest : List Lexeme} → n < 128 → IsQuantifier tokens k inner → AreBinders inner vs body → Reads a_whole (n + 1) body f rest → g ≡ bind k vs f → Reads a_binding n tokens g rest
+binding_at : {n : ℕ} {k : Bool} {vs : List Written} {f g : Formula} {tokens inner body rest : List Lexeme} → n < 128 → IsQuantifier tokens k inner → AreBinders inner vs body → Reads a_whole (n + 1) body f rest → g ≡ bind k vs f → Reads a_binding n tokens g rest
 binding_at lt q b h e = rw e (bound lt q b h)
 
 record UnderBinding (n : ℕ) (tokens : List Lexeme) (rest : List Lexeme) : Type 0 where
@@ -56,20 +57,20 @@ record UnderBinding (n : ℕ) (tokens : List Lexeme) (rest : List Lexeme) : Type
 under_binding : {n : ℕ} {f : Formula} {tokens rest : List Lexeme} → Reads a_binding n tokens f rest → UnderBinding n tokens rest
 under_binding (bound {k = k} {vs = vs} {f = f} {inner = i} {body = b} lt q bs h) = record { kind = k; binders = vs; within = f; inner = i; body = b; shallow_enough = lt; quantifier = q; bindings = bs; reads = h }
 
-pub binding_too_deep : {n : ℕ} {tokens : List Lexeme} → 128 ≤ n → NoReading (Reads a_binding n) tokens
+binding_too_deep : {n : ℕ} {tokens : List Lexeme} → 128 ≤ n → NoReading (Reads a_binding n) tokens
 binding_too_deep le = record { none = λ f r h. let i = (under_binding h).shallow_enough in omega (arith, le, i) }
 
-pub no_binding : {n : ℕ} {tokens : List Lexeme} → NoReading IsQuantifier tokens → NoReading (Reads a_binding n) tokens
+no_binding : {n : ℕ} {tokens : List Lexeme} → NoReading IsQuantifier tokens → NoReading (Reads a_binding n) tokens
 no_binding k = record { none = λ f r h. let i = under_binding h in k.none i.kind i.inner i.quantifier }
 
-pub binding_no_binders : {n : ℕ} {k : Bool} {tokens inner : List Lexeme} → IsQuantifier tokens k inner → NoReading AreBinders inner → NoReading (Reads a_binding n) tokens
+binding_no_binders : {n : ℕ} {k : Bool} {tokens inner : List Lexeme} → IsQuantifier tokens k inner → NoReading AreBinders inner → NoReading (Reads a_binding n) tokens
 binding_no_binders q d = record {
   none = λ f r h.
       let i = under_binding h in
       d.none i.binders i.body (subst (λ (ts : List Lexeme). AreBinders ts i.binders i.body) (sym (quantifier_one q i.quantifier).1) i.bindings);
 }
 
-pub binding_no_body : {n : ℕ} {k : Bool} {vs : List Written} {tokens inner body : List Lexeme} → IsQuantifier tokens k inner → AreBinders inner vs body → NoReading (Reads a_whole (n + 1)) body → NoReading (Reads a_binding n) tokens
+binding_no_body : {n : ℕ} {k : Bool} {vs : List Written} {tokens inner body : List Lexeme} → IsQuantifier tokens k inner → AreBinders inner vs body → NoReading (Reads a_whole (n + 1)) body → NoReading (Reads a_binding n) tokens
 binding_no_body {n} q b d = record {
   none = λ f r h.
       let i = under_binding h in
@@ -77,11 +78,9 @@ binding_no_body {n} q b d = record {
       d.none i.within r (subst (λ (ts : List Lexeme). Reads a_whole (n + 1) ts i.within r) (sym o.1) i.reads);
 }
 
-pub ruleset bound_formulas = (binding_at, binding_too_deep, no_binding, binding_no_binders, binding_no_body)
-
 -- ---- units and negations
 
-pub no_unit : {n : ℕ} {tokens : List Lexeme} → NoReading (IsAtom n) tokens → NoReading (Reads a_group n) tokens → NoReading (Reads a_binding n) tokens → NoReading (Reads a_unit n) tokens
+no_unit : {n : ℕ} {tokens : List Lexeme} → NoReading (IsAtom n) tokens → NoReading (Reads a_group n) tokens → NoReading (Reads a_binding n) tokens → NoReading (Reads a_unit n) tokens
 no_unit {n} a g b = record { none = λ f r h. at h a g b }
   where
     at : {ts r : List Lexeme} {f : Formula} → Reads a_unit n ts f r → NoReading (IsAtom n) ts → NoReading (Reads a_group n) ts → NoReading (Reads a_binding n) ts → ⊥
@@ -89,7 +88,24 @@ no_unit {n} a g b = record { none = λ f r h. at h a g b }
     at (from_group {f = f} {rest = r} d h) a g b = g.none f r h
     at (from_binding {f = f} {rest = r} d h) a g b = b.none f r h
 
-pub ruleset units = (shallow, from_group, from_binding, no_unit)
+pub unit_bound : {n : ℕ} {k : Bool} {vs : List Written} {f g : Formula} {tokens inner body rest : List Lexeme} → NoReading (IsAtom n) tokens → n < 128 → IsQuantifier tokens k inner → AreBinders inner vs body
+    → Reads a_whole (n + 1) body f rest → g ≡ bind k vs f → Reads a_unit n tokens g rest
+unit_bound a lt q b h e = from_binding a (binding_at lt q b h e)
+
+pub unit_too_deep : {n : ℕ} {tokens : List Lexeme} → NoReading (IsAtom n) tokens → NoReading (Reads a_group n) tokens → 128 ≤ n → NoReading (Reads a_unit n) tokens
+unit_too_deep a g le = no_unit a g (binding_too_deep le)
+
+pub unit_unbound : {n : ℕ} {tokens : List Lexeme} → NoReading (IsAtom n) tokens → NoReading (Reads a_group n) tokens → NoReading IsQuantifier tokens → NoReading (Reads a_unit n) tokens
+unit_unbound a g k = no_unit a g (no_binding k)
+
+pub unit_no_binders : {n : ℕ} {k : Bool} {tokens inner : List Lexeme} → NoReading (IsAtom n) tokens → NoReading (Reads a_group n) tokens → IsQuantifier tokens k inner → NoReading AreBinders inner → NoReading (Reads a_unit n) tokens
+unit_no_binders a g q d = no_unit a g (binding_no_binders q d)
+
+pub unit_no_body : {n : ℕ} {k : Bool} {vs : List Written} {tokens inner body : List Lexeme} → NoReading (IsAtom n) tokens → NoReading (Reads a_group n) tokens → IsQuantifier tokens k inner → AreBinders inner vs body
+    → NoReading (Reads a_whole (n + 1)) body → NoReading (Reads a_unit n) tokens
+unit_no_body a g q b d = no_unit a g (binding_no_body q b d)
+
+pub ruleset units = (shallow, from_group, unit_bound, unit_too_deep, unit_unbound, unit_no_binders, unit_no_body)
 
 pub negative_at : {n : ℕ} {f g : Formula} {tokens after rest : List Lexeme} → tokens ≡ word (codes "not") ∷ after → Reads a_unit n after f rest → g ≡ not_so f → Reads a_negation n tokens g rest
 negative_at e h d = rw (e, d) (negative h)
@@ -112,24 +128,30 @@ pub ruleset negations = (positive, negative_at, no_positive, no_negative)
 
 -- ---- chains
 
--- the chain up to the rest, which may go on
-pub record Joined (o : Joint) (n : ℕ) (tokens : List Lexeme) (left : Formula) (rest : List Lexeme) : Type 0 where
-  pub goes : (h : Formula) (r : List Lexeme) → GoesOn o n left rest h r → Reads (a_chain o) n tokens h r
-  pub stops : NoReading (GoesOn o n left) rest → NoReading (Reads (a_chain o) n) tokens
+-- behind these parts, and a sign behind each, the next part is awaited
+pub record Joined (o : Joint) (n : ℕ) (tokens : List Lexeme) (fs : List Formula) (rest : List Lexeme) : Type 0 where
+  pub goes : (f g : Formula) (mid r : List Lexeme) → Reads (below o) n rest f mid → GoesOn o n (linked o (fs ++ f ∷ [])) mid g r → Reads (a_chain o) n tokens g r
+  pub stops : (f : Formula) (mid : List Lexeme) → Reads (below o) n rest f mid → NoReading (GoesOn o n (linked o (fs ++ f ∷ []))) mid → NoReading (Reads (a_chain o) n) tokens
+  pub lacks : NoReading (Reads (below o) n) rest → NoReading (Reads (a_chain o) n) tokens
 
-pub joined_first : (o : Joint) {n : ℕ} {f : Formula} {tokens rest : List Lexeme} → Reads (below o) n tokens f rest → Joined o n tokens f rest
-joined_first o {n} k = record { goes = λ h r m. chained k m; stops = λ d. record { none = λ g r h. at h k d } }
+no_chain : (o : Joint) {n : ℕ} {tokens : List Lexeme} → NoReading (Reads (below o) n) tokens → NoReading (Reads (a_chain o) n) tokens
+no_chain o {n} k = record { none = λ g r h. at h k }
+  where
+    at : {ts r : List Lexeme} {g : Formula} → Reads (a_chain o) n ts g r → NoReading (Reads (below o) n) ts → ⊥
+    at (chained {f = x} {mid = m} i j) k = k.none x m i
+
+-- behind its first part a chain goes on
+no_first : (o : Joint) {n : ℕ} {f : Formula} {tokens rest : List Lexeme} → Reads (below o) n tokens f rest → NoReading (GoesOn o n f) rest → NoReading (Reads (a_chain o) n) tokens
+no_first o {n} k d = record { none = λ g r h. at h k d }
   where
     at : {ts r rest : List Lexeme} {f g : Formula} → Reads (a_chain o) n ts g r → Reads (below o) n ts f rest → NoReading (GoesOn o n f) rest → ⊥
     at {f = f} (chained {f = x} {g = g} {mid = m} {rest = r} i j) k d =
         let a = reads_one k i in
         d.none g r (subst (λ (ts : List Lexeme). GoesOn o n f ts g r) (sym a.1) (subst (λ (y : Formula). GoesOn o n y m g r) (sym a.0) j))
 
-pub joined_more : (o : Joint) {n : ℕ} {f g h : Formula} {tokens rest after ahead : List Lexeme} → Joined o n tokens f rest → rest ≡ sign (sign_of o) ∷ after → Reads (below o) n after g ahead → h ≡ join o f g → Joined o n tokens h ahead
-joined_more o {n} {f} {g} {h} {ahead = ahead} j e k d = record {
-  goes = λ x r m. j.goes x r (went e k (subst (λ (y : Formula). GoesOn o n y ahead x r) d m));
-  stops = λ n. j.stops (record { none = λ x r m. at m e k d n });
-}
+-- a chain goes on with the part behind its sign
+no_next : (o : Joint) {n : ℕ} {f g h : Formula} {rest after ahead : List Lexeme} → rest ≡ sign (sign_of o) ∷ after → Reads (below o) n after g ahead → h ≡ join o f g → NoReading (GoesOn o n h) ahead → NoReading (GoesOn o n f) rest
+no_next o {n} e k c d = record { none = λ x r m. at m e k c d }
   where
     at : {ts r after ahead : List Lexeme} {f g h x : Formula} → GoesOn o n f ts x r → ts ≡ sign (sign_of o) ∷ after → Reads (below o) n after g ahead → h ≡ join o f g → NoReading (GoesOn o n h) ahead → ⊥
     at {after = after} (ended d) e k c b = d after e
@@ -138,23 +160,27 @@ joined_more o {n} {f} {g} {h} {ahead = ahead} j e k d = record {
         let a = reads_one k (subst (λ (ts : List Lexeme). Reads (below o) n ts y m) v i) in
         b.none x r (subst (λ (w : Formula). GoesOn o n w ahead x r) (sym c) (subst (λ (ts : List Lexeme). GoesOn o n (join o f z) ts x r) (sym a.1) (subst (λ (w : Formula). GoesOn o n (join o f w) m x r) (sym a.0) l)))
 
-pub joined_end : (o : Joint) {n : ℕ} {f : Formula} {tokens rest : List Lexeme} → Joined o n tokens f rest → IsNotFirst (sign (sign_of o)) rest → Reads (a_chain o) n tokens f rest
-joined_end o {f = f} {rest = rest} j d = j.goes f rest (ended d)
-
-pub joined_no_part : (o : Joint) {n : ℕ} {f : Formula} {tokens rest after : List Lexeme} → Joined o n tokens f rest → rest ≡ sign (sign_of o) ∷ after → NoReading (Reads (below o) n) after → NoReading (Reads (a_chain o) n) tokens
-joined_no_part o {n} j e d = j.stops (record { none = λ g r h. at h e d })
+no_part : (o : Joint) {n : ℕ} {f : Formula} {rest after : List Lexeme} → rest ≡ sign (sign_of o) ∷ after → NoReading (Reads (below o) n) after → NoReading (GoesOn o n f) rest
+no_part o {n} e d = record { none = λ g r h. at h e d }
   where
     at : {ts r after : List Lexeme} {f g : Formula} → GoesOn o n f ts g r → ts ≡ sign (sign_of o) ∷ after → NoReading (Reads (below o) n) after → ⊥
     at {after = after} (ended d) e k = d after e
     at {after = after} (went {g = y} {after = us} {mid = m} c i l) e k = let v : us ≡ after = cc in k.none y m (subst (λ (ts : List Lexeme). Reads (below o) n ts y m) v i)
 
-pub no_chain : (o : Joint) {n : ℕ} {tokens : List Lexeme} → NoReading (Reads (below o) n) tokens → NoReading (Reads (a_chain o) n) tokens
-no_chain o {n} k = record { none = λ g r h. at h k }
-  where
-    at : {ts r : List Lexeme} {g : Formula} → Reads (a_chain o) n ts g r → NoReading (Reads (below o) n) ts → ⊥
-    at (chained {f = x} {mid = m} i j) k = k.none x m i
+pub joined_none : (o : Joint) (n : ℕ) (tokens : List Lexeme) → Joined o n tokens [] tokens
+joined_none o n tokens = record { goes = λ f g mid r k m. chained k m; stops = λ f mid k d. no_first o k d; lacks = λ d. no_chain o d }
 
-pub ruleset chains = (joined_first, joined_more, chain_pushed, joined_end, joined_no_part, no_chain)
+pub joined_more : (o : Joint) {n : ℕ} {fs : List Formula} {f : Formula} {tokens rest ahead after : List Lexeme} → Joined o n tokens fs rest → Reads (below o) n rest f ahead → ahead ≡ sign (sign_of o) ∷ after → Joined o n tokens (fs ++ f ∷ []) after
+joined_more o {n} {fs} {f} {ahead = ahead} j h e = record {
+  goes = λ g x mid r k m. j.goes f x ahead r h (went e k (subst (λ (y : Formula). GoesOn o n y mid x r) (linked_more o fs f g) m));
+  stops = λ g mid k d. j.stops f ahead h (no_next o e k (linked_more o fs f g) d);
+  lacks = λ d. j.stops f ahead h (no_part o e d);
+}
+
+pub joined_end : (o : Joint) {n : ℕ} {fs : List Formula} {f : Formula} {tokens rest ahead : List Lexeme} → Joined o n tokens fs rest → Reads (below o) n rest f ahead → IsNotFirst (sign (sign_of o)) ahead → Reads (a_chain o) n tokens (linked o (fs ++ f ∷ [])) ahead
+joined_end o {fs = fs} {f = f} {ahead = ahead} j k d = j.goes f (linked o (fs ++ f ∷ [])) ahead ahead k (ended d)
+
+pub ruleset chains = (joined_none, joined_more, joined_end)
 
 -- ---- implications and whole formulas
 

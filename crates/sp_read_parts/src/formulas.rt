@@ -1,9 +1,10 @@
 ghost use Rattle.sp_lex.specs.Views.{sign_of};
-ghost use Rattle.std.specs.Prelude.{◌≡◌, MatchOption, IfSome, IfOk, map, ◌≤◌, ◌<◌, length};
-ghost use Rattle.sp_spec.specs.Formula.{not_so, both, either, implies};
+ghost use Rattle.std.specs.Prelude.{◌≡◌, [], ◌∷◌, ◌++◌, MatchOption, IfSome, IfOk, OnOk, map, ◌+◌, ◌≤◌, ◌<◌, length};
+ghost use Rattle.sp_spec.specs.Formula.{not_so, implies};
 ghost use Rattle.sp_spec_text.specs.Lists.{NoReading};
 ghost use Rattle.sp_spec_text.specs.Formulas.{equivalent};
-ghost use Rattle.sp_read_parts.specs.Reading.{IsQuantifier, bind, conjoint, disjoint, a_group, a_binding, a_unit, a_negation, a_chain, an_implication, a_whole, Reads};
+ghost use Rattle.sp_read_parts.specs.Reading.{IsAtom, IsQuantifier, bind, disjoint, a_group, a_unit, a_chain, an_implication, a_whole, below};
+ghost use Rattle.sp_read_parts.specs.Reading.{sign_of as between};
 ghost use Rattle.sp_read_parts.specs.Closed.{Closes, IsClosed};
 ghost use Rattle.sp_read_parts.specs.Views as parts;
 ghost use Rattle.sp_read_parts.specs.Views.{seen_from};
@@ -30,83 +31,154 @@ fn quantifier<'a>(tokens: &[Token<'a>], at: usize) -> Option<(bool, usize)>
     Some((false, rest))
 }
 
+/// A formula in a box.
+fn boxed<'a>(alloc: Global, found: ReadFormula<'a>) -> Result<Box<ReadFormula<'a>>, AllocError>
+    ensures { IfOk result (λ f. view.formula f.value ≡ view.formula found.entry) }
+{
+    let made = Box::new(alloc, found)?;
+    Ok(made)
+}
+
 /// The formula behind its binders.
 fn bound<'a>(
     alloc: Global,
     every: bool,
     binders: Vec<WrittenVariable<'a>>,
-    found: ReadFormula<'a>,
-) -> Result<ReadFormula<'a>, AllocError>
-    ensures { IfOk result (λ x. view.formula x ≡ bind every (map parts.variable binders.entry.items) (view.formula found.entry)) }
+    found: Box<ReadFormula<'a>>,
+) -> Result<Box<ReadFormula<'a>>, AllocError>
+    ensures { IfOk result (λ f. view.formula f.value ≡ bind every (map parts.variable binders.entry.items) (view.formula found.entry.value)) }
 {
-    let within = Box::new(alloc, found)?;
     if every {
-        Ok(ReadFormula::ForAll(binders, within))
+        boxed(alloc, ReadFormula::ForAll(binders, found))
     } else {
-        Ok(ReadFormula::ForSome(binders, within))
+        boxed(alloc, ReadFormula::ForSome(binders, found))
     }
 }
 
 /// What is not so.
-fn negated<'a>(alloc: Global, found: ReadFormula<'a>) -> Result<ReadFormula<'a>, AllocError>
-    ensures { IfOk result (λ x. view.formula x ≡ not_so (view.formula found.entry)) }
-{
-    let denied = Box::new(alloc, found)?;
-    Ok(ReadFormula::Not(denied))
-}
-
-/// All of them.
-fn all_of<'a>(
+fn negated<'a>(
     alloc: Global,
-    left: ReadFormula<'a>,
-    right: ReadFormula<'a>,
-    more: Vec<ReadFormula<'a>>,
-) -> Result<ReadFormula<'a>, AllocError>
-    ensures { IfOk result (λ x. view.formula x ≡ view.chain conjoint (both (view.formula left.entry) (view.formula right.entry)) (map view.formula more.entry.items)) }
+    found: Box<ReadFormula<'a>>,
+) -> Result<Box<ReadFormula<'a>>, AllocError>
+    ensures { IfOk result (λ f. view.formula f.value ≡ not_so (view.formula found.entry.value)) }
 {
-    let first = Box::new(alloc, left)?;
-    let second = Box::new(alloc, right)?;
-    Ok(ReadFormula::Both(first, second, more))
-}
-
-/// One of them.
-fn one_of<'a>(
-    alloc: Global,
-    left: ReadFormula<'a>,
-    right: ReadFormula<'a>,
-    more: Vec<ReadFormula<'a>>,
-) -> Result<ReadFormula<'a>, AllocError>
-    ensures { IfOk result (λ x. view.formula x ≡ view.chain disjoint (either (view.formula left.entry) (view.formula right.entry)) (map view.formula more.entry.items)) }
-{
-    let first = Box::new(alloc, left)?;
-    let second = Box::new(alloc, right)?;
-    Ok(ReadFormula::Either(first, second, more))
+    boxed(alloc, ReadFormula::Not(found))
 }
 
 /// The first implies the second.
 fn implied<'a>(
     alloc: Global,
-    left: ReadFormula<'a>,
-    right: ReadFormula<'a>,
-) -> Result<ReadFormula<'a>, AllocError>
-    ensures { IfOk result (λ x. view.formula x ≡ implies (view.formula left.entry) (view.formula right.entry)) }
+    left: Box<ReadFormula<'a>>,
+    right: Box<ReadFormula<'a>>,
+) -> Result<Box<ReadFormula<'a>>, AllocError>
+    ensures { IfOk result (λ f. view.formula f.value ≡ implies (view.formula left.entry.value) (view.formula right.entry.value)) }
 {
-    let first = Box::new(alloc, left)?;
-    let second = Box::new(alloc, right)?;
-    Ok(ReadFormula::Implies(first, second))
+    boxed(alloc, ReadFormula::Implies(left, right))
 }
 
 /// Each implies the other.
 fn equivalent<'a>(
     alloc: Global,
-    left: ReadFormula<'a>,
-    right: ReadFormula<'a>,
-) -> Result<ReadFormula<'a>, AllocError>
-    ensures { IfOk result (λ x. view.formula x ≡ equivalent (view.formula left.entry) (view.formula right.entry)) }
+    left: Box<ReadFormula<'a>>,
+    right: Box<ReadFormula<'a>>,
+) -> Result<Box<ReadFormula<'a>>, AllocError>
+    ensures { IfOk result (λ f. view.formula f.value ≡ equivalent (view.formula left.entry.value) (view.formula right.entry.value)) }
 {
-    let first = Box::new(alloc, left)?;
-    let second = Box::new(alloc, right)?;
-    Ok(ReadFormula::Equivalent(first, second))
+    boxed(alloc, ReadFormula::Equivalent(left, right))
+}
+
+/// What joins formulas, grouped to the left.
+#[derive(Clone, Copy)]
+enum Joint {
+    /// All of them.
+    And,
+    /// One of them.
+    Or,
+}
+
+/// The sign between two parts.
+fn sign_between(joint: Joint) -> Sign
+    ensures { sign_of result ≡ between (view.joint joint) }
+{
+    match joint {
+        Joint::And => Sign::And,
+        Joint::Or => Sign::Or,
+    }
+}
+
+/// Puts a formula at the end.
+fn push_part<'a>(
+    found: &mut Vec<ReadFormula<'a>>,
+    next: Box<ReadFormula<'a>>,
+) -> Result<(), AllocError>
+    ensures { OnOk result (map view.formula found.new.items ≡ map view.formula found.old.items ++ view.formula next.entry.value ∷ []) }
+{
+    found.push(Box::into_inner(next))?;
+    Ok(())
+}
+
+/// Takes the first formula, into a box.
+#[tactic(auto, using(crate::proofs::Chains::first_taken))]
+fn first_of<'a>(
+    alloc: Global,
+    formulas: &mut Vec<ReadFormula<'a>>,
+) -> Result<Box<ReadFormula<'a>>, AllocError>
+    requires { 0 < length formulas.old.items }
+    ensures value { IfOk result (λ f. map view.formula formulas.old.items ≡ view.formula f.value ∷ map view.formula formulas.new.items) }
+    ensures rest { OnOk result (length formulas.new.items + 1 ≡ length formulas.old.items) }
+{
+    boxed(alloc, formulas.remove(0))
+}
+
+/// These formulas joined, two or more.
+fn several<'a>(
+    alloc: Global,
+    joint: Joint,
+    mut formulas: Vec<ReadFormula<'a>>,
+) -> Result<Box<ReadFormula<'a>>, AllocError>
+    requires { 1 < length formulas.items }
+    ensures { IfOk result (λ f. view.formula f.value ≡ view.linked (view.joint joint) (map view.formula formulas.entry.items)) }
+{
+    let first = first_of(alloc, &mut formulas)?;
+    let second = first_of(alloc, &mut formulas)?;
+    match joint {
+        Joint::And => boxed(alloc, ReadFormula::Both(first, second, formulas)),
+        Joint::Or => boxed(alloc, ReadFormula::Either(first, second, formulas)),
+    }
+}
+
+/// The parts before the last one and the last one, joined.
+fn joined<'a>(
+    alloc: Global,
+    joint: Joint,
+    mut formulas: Vec<ReadFormula<'a>>,
+    last: Box<ReadFormula<'a>>,
+) -> Result<Box<ReadFormula<'a>>, AllocError>
+    ensures { IfOk result (λ f. view.formula f.value ≡ view.linked (view.joint joint) (map view.formula formulas.entry.items ++ view.formula last.entry.value ∷ [])) }
+{
+    if formulas.is_empty() {
+        return Ok(last);
+    }
+    push_part(&mut formulas, last)?;
+    several(alloc, joint, formulas)
+}
+
+/// A formula without formulas in it, in a box, and the place behind it.
+fn boxed_atom<'a>(
+    alloc: Global,
+    nesting: u32,
+    tokens: &[Token<'a>],
+    at: usize,
+) -> Result<Option<(Box<ReadFormula<'a>>, usize)>, AllocError>
+    requires { nesting ≤ LIMIT }
+    ensures value { IfOk result (λ o. MatchOption o (NoReading (IsAtom nesting) (seen_from tokens.now at)) (λ x. IsAtom nesting (seen_from tokens.now at) (view.formula x.0.value) (seen_from tokens.now x.1))) }
+    ensures further { IfOk result (view.IsFurther tokens.now at) }
+{
+    let Some((found, rest)) = atom(alloc, nesting, tokens, at)? else {
+        return Ok(None);
+    };
+    let made = boxed(alloc, found)?;
+    Ok(Some((made, rest)))
 }
 
 /// A formula in brackets, and the place behind them.
@@ -117,10 +189,10 @@ fn group<'a>(
     nesting: u32,
     tokens: &[Token<'a>],
     at: usize,
-) -> Result<Option<(ReadFormula<'a>, usize)>, AllocError>
+) -> Result<Option<(Box<ReadFormula<'a>>, usize)>, AllocError>
     requires { nesting ≤ LIMIT }
-    ensures value { IfOk result (λ o. MatchOption o (NoReading (Reads a_group nesting) (seen_from tokens.now at)) (λ x. Reads a_group nesting (seen_from tokens.now at) (view.formula x.0) (seen_from tokens.now x.1))) }
-    ensures further { IfOk result (λ o. IfSome o (λ x. (at < x.1) × (x.1 ≤ length tokens.now))) }
+    ensures value { IfOk result (view.IsRead a_group nesting tokens.now at) }
+    ensures further { IfOk result (view.IsFurther tokens.now at) }
 {
     if nesting >= LIMIT {
         return Ok(None);
@@ -137,19 +209,25 @@ fn group<'a>(
     Ok(Some((found, rest)))
 }
 
-/// A quantified formula, and the place behind it.
+/// A formula that no sign joins to another: an atom, one in brackets or a quantified one, and the place behind it.
 #[cycle(formulas)]
-#[tactic(auto, using(crate::proofs::Stuck::bound_formulas))]
-fn binding<'a>(
+#[tactic(auto, using(crate::proofs::Stuck::units))]
+fn unit<'a>(
     alloc: Global,
     nesting: u32,
     tokens: &[Token<'a>],
     at: usize,
-) -> Result<Option<(ReadFormula<'a>, usize)>, AllocError>
+) -> Result<Option<(Box<ReadFormula<'a>>, usize)>, AllocError>
     requires { nesting ≤ LIMIT }
-    ensures value { IfOk result (λ o. MatchOption o (NoReading (Reads a_binding nesting) (seen_from tokens.now at)) (λ x. Reads a_binding nesting (seen_from tokens.now at) (view.formula x.0) (seen_from tokens.now x.1))) }
-    ensures further { IfOk result (λ o. IfSome o (λ x. (at < x.1) × (x.1 ≤ length tokens.now))) }
+    ensures value { IfOk result (view.IsRead a_unit nesting tokens.now at) }
+    ensures further { IfOk result (view.IsFurther tokens.now at) }
 {
+    if let Some((found, rest)) = boxed_atom(alloc, nesting, tokens, at)? {
+        return Ok(Some((found, rest)));
+    }
+    if let Some((found, rest)) = group(alloc, nesting, tokens, at)? {
+        return Ok(Some((found, rest)));
+    }
     if nesting >= LIMIT {
         return Ok(None);
     }
@@ -166,122 +244,62 @@ fn binding<'a>(
     Ok(Some((made, rest)))
 }
 
-/// A formula that no sign joins to another, and the place behind it.
-#[cycle(formulas)]
-#[tactic(auto, using(crate::proofs::Stuck::units))]
-fn unit<'a>(
-    alloc: Global,
-    nesting: u32,
-    tokens: &[Token<'a>],
-    at: usize,
-) -> Result<Option<(ReadFormula<'a>, usize)>, AllocError>
-    requires { nesting ≤ LIMIT }
-    ensures value { IfOk result (λ o. MatchOption o (NoReading (Reads a_unit nesting) (seen_from tokens.now at)) (λ x. Reads a_unit nesting (seen_from tokens.now at) (view.formula x.0) (seen_from tokens.now x.1))) }
-    ensures further { IfOk result (λ o. IfSome o (λ x. (at < x.1) × (x.1 ≤ length tokens.now))) }
-{
-    if let Some((found, rest)) = atom(alloc, nesting, tokens, at)? {
-        return Ok(Some((found, rest)));
-    }
-    if let Some((found, rest)) = group(alloc, nesting, tokens, at)? {
-        return Ok(Some((found, rest)));
-    }
-    let Some((found, rest)) = binding(alloc, nesting, tokens, at)? else {
-        return Ok(None);
-    };
-    Ok(Some((found, rest)))
-}
-
-/// A unit, behind `not` or without it, and the place behind it.
+/// What a chain of this kind is made of: units, behind `not` or without it, or conjunctions; and the place behind it.
 #[cycle(formulas)]
 #[tactic(auto, using(crate::proofs::Stuck::negations))]
-fn negation<'a>(
+fn part<'a>(
     alloc: Global,
+    joint: Joint,
     nesting: u32,
     tokens: &[Token<'a>],
     at: usize,
-) -> Result<Option<(ReadFormula<'a>, usize)>, AllocError>
+) -> Result<Option<(Box<ReadFormula<'a>>, usize)>, AllocError>
     requires { nesting ≤ LIMIT }
-    ensures value { IfOk result (λ o. MatchOption o (NoReading (Reads a_negation nesting) (seen_from tokens.now at)) (λ x. Reads a_negation nesting (seen_from tokens.now at) (view.formula x.0) (seen_from tokens.now x.1))) }
-    ensures further { IfOk result (λ o. IfSome o (λ x. (at < x.1) × (x.1 ≤ length tokens.now))) }
+    ensures value { IfOk result (view.IsRead (below (view.joint joint)) nesting tokens.now at) }
+    ensures further { IfOk result (view.IsFurther tokens.now at) }
 {
-    let Some(denied) = behind("not", tokens, at) else {
-        return unit(alloc, nesting, tokens, at);
-    };
-    let Some((found, rest)) = unit(alloc, nesting, tokens, denied)? else {
-        return Ok(None);
-    };
-    let made = negated(alloc, found)?;
-    Ok(Some((made, rest)))
+    match joint {
+        Joint::And => {
+            let Some(denied) = behind("not", tokens, at) else {
+                return unit(alloc, nesting, tokens, at);
+            };
+            let Some((found, rest)) = unit(alloc, nesting, tokens, denied)? else {
+                return Ok(None);
+            };
+            let made = negated(alloc, found)?;
+            Ok(Some((made, rest)))
+        }
+        Joint::Or => chain(alloc, Joint::And, nesting, tokens, at),
+    }
 }
 
-/// Negations joined by `&`, and the place behind them.
+/// Parts joined by `&` or by `|`, and the place behind them.
 #[cycle(formulas)]
 #[tactic(auto, using(crate::proofs::Stuck::chains))]
-fn conjunction<'a>(
+fn chain<'a>(
     alloc: Global,
+    joint: Joint,
     nesting: u32,
     tokens: &[Token<'a>],
     at: usize,
-) -> Result<Option<(ReadFormula<'a>, usize)>, AllocError>
+) -> Result<Option<(Box<ReadFormula<'a>>, usize)>, AllocError>
     requires { nesting ≤ LIMIT }
-    ensures value { IfOk result (λ o. MatchOption o (NoReading (Reads (a_chain conjoint) nesting) (seen_from tokens.now at)) (λ x. Reads (a_chain conjoint) nesting (seen_from tokens.now at) (view.formula x.0) (seen_from tokens.now x.1))) }
-    ensures further { IfOk result (λ o. IfSome o (λ x. (at < x.1) × (x.1 ≤ length tokens.now))) }
+    ensures value { IfOk result (view.IsRead (a_chain (view.joint joint)) nesting tokens.now at) }
+    ensures further { IfOk result (view.IsFurther tokens.now at) }
 {
-    let Some((first, next)) = negation(alloc, nesting, tokens, at)? else {
-        return Ok(None);
-    };
-    let Some(behind) = after(Sign::And, tokens, next) else {
-        return Ok(Some((first, next)));
-    };
-    let Some((second, ahead)) = negation(alloc, nesting, tokens, behind)? else {
-        return Ok(None);
-    };
-    let mut more = Vec::new(alloc);
-    let mut rest = ahead;
-    while let Some(behind) = after(Sign::And, tokens, rest) {
-        let Some((right, ahead)) = negation(alloc, nesting, tokens, behind)? else {
+    let mut found = Vec::new(alloc);
+    let mut rest = at;
+    loop {
+        let Some((next, ahead)) = part(alloc, joint, nesting, tokens, rest)? else {
             return Ok(None);
         };
-        more.push(right)?;
-        rest = ahead;
-    }
-    let made = all_of(alloc, first, second, more)?;
-    Ok(Some((made, rest)))
-}
-
-/// Conjunctions joined by `|`, and the place behind them.
-#[cycle(formulas)]
-#[tactic(auto, using(crate::proofs::Stuck::chains))]
-fn disjunction<'a>(
-    alloc: Global,
-    nesting: u32,
-    tokens: &[Token<'a>],
-    at: usize,
-) -> Result<Option<(ReadFormula<'a>, usize)>, AllocError>
-    requires { nesting ≤ LIMIT }
-    ensures value { IfOk result (λ o. MatchOption o (NoReading (Reads (a_chain disjoint) nesting) (seen_from tokens.now at)) (λ x. Reads (a_chain disjoint) nesting (seen_from tokens.now at) (view.formula x.0) (seen_from tokens.now x.1))) }
-    ensures further { IfOk result (λ o. IfSome o (λ x. (at < x.1) × (x.1 ≤ length tokens.now))) }
-{
-    let Some((first, next)) = conjunction(alloc, nesting, tokens, at)? else {
-        return Ok(None);
-    };
-    let Some(behind) = after(Sign::Or, tokens, next) else {
-        return Ok(Some((first, next)));
-    };
-    let Some((second, ahead)) = conjunction(alloc, nesting, tokens, behind)? else {
-        return Ok(None);
-    };
-    let mut more = Vec::new(alloc);
-    let mut rest = ahead;
-    while let Some(behind) = after(Sign::Or, tokens, rest) {
-        let Some((right, ahead)) = conjunction(alloc, nesting, tokens, behind)? else {
-            return Ok(None);
+        let Some(more) = after(sign_between(joint), tokens, ahead) else {
+            let made = joined(alloc, joint, found, next)?;
+            return Ok(Some((made, ahead)));
         };
-        more.push(right)?;
-        rest = ahead;
+        push_part(&mut found, next)?;
+        rest = more;
     }
-    let made = one_of(alloc, first, second, more)?;
-    Ok(Some((made, rest)))
 }
 
 /// A disjunction, or one that implies what follows, and the place behind it.
@@ -292,12 +310,12 @@ fn implication<'a>(
     nesting: u32,
     tokens: &[Token<'a>],
     at: usize,
-) -> Result<Option<(ReadFormula<'a>, usize)>, AllocError>
+) -> Result<Option<(Box<ReadFormula<'a>>, usize)>, AllocError>
     requires { nesting ≤ LIMIT }
-    ensures value { IfOk result (λ o. MatchOption o (NoReading (Reads an_implication nesting) (seen_from tokens.now at)) (λ x. Reads an_implication nesting (seen_from tokens.now at) (view.formula x.0) (seen_from tokens.now x.1))) }
-    ensures further { IfOk result (λ o. IfSome o (λ x. (at < x.1) × (x.1 ≤ length tokens.now))) }
+    ensures value { IfOk result (view.IsRead an_implication nesting tokens.now at) }
+    ensures further { IfOk result (view.IsFurther tokens.now at) }
 {
-    let Some((left, ahead)) = disjunction(alloc, nesting, tokens, at)? else {
+    let Some((left, ahead)) = chain(alloc, Joint::Or, nesting, tokens, at)? else {
         return Ok(None);
     };
     let Some(behind) = after(Sign::Implies, tokens, ahead) else {
@@ -321,10 +339,10 @@ fn whole<'a>(
     nesting: u32,
     tokens: &[Token<'a>],
     at: usize,
-) -> Result<Option<(ReadFormula<'a>, usize)>, AllocError>
+) -> Result<Option<(Box<ReadFormula<'a>>, usize)>, AllocError>
     requires { nesting ≤ LIMIT }
-    ensures value { IfOk result (λ o. MatchOption o (NoReading (Reads a_whole nesting) (seen_from tokens.now at)) (λ x. Reads a_whole nesting (seen_from tokens.now at) (view.formula x.0) (seen_from tokens.now x.1))) }
-    ensures further { IfOk result (λ o. IfSome o (λ x. (at < x.1) × (x.1 ≤ length tokens.now))) }
+    ensures value { IfOk result (view.IsRead a_whole nesting tokens.now at) }
+    ensures further { IfOk result (view.IsFurther tokens.now at) }
 {
     let Some((left, ahead)) = implication(alloc, nesting, tokens, at)? else {
         return Ok(None);
@@ -364,5 +382,5 @@ pub fn formula<'a>(
     let Some(rest) = after(close, tokens, ahead) else {
         return Ok(None);
     };
-    Ok(Some((found, rest)))
+    Ok(Some((Box::into_inner(found), rest)))
 }

@@ -151,7 +151,7 @@ fn over_two<'a>(
 ///
 /// There is no memory.
 #[cycle(terms)]
-#[tactic(auto, using(crate::proofs::Nested::all_terms))]
+#[tactic(auto, using(crate::proofs::Nested::all_terms, crate::proofs::Nested::angled_terms))]
 pub fn term<'a>(
     alloc: Global,
     nesting: u32,
@@ -170,7 +170,10 @@ pub fn term<'a>(
         return bracketed(alloc, nesting, tokens, inside);
     }
     if let Some(inside) = after(Sign::Less, tokens, at) {
-        return angled(alloc, nesting, tokens, inside);
+        let Some(within) = deeper(nesting) else {
+            return Ok(None);
+        };
+        return tuple(alloc, Sign::Greater, within, tokens, inside);
     }
     let Some((symbol, behind)) = name(tokens, at) else {
         return Ok(lone(tokens, at));
@@ -209,31 +212,9 @@ fn bracketed<'a>(
     Ok(Some((found, rest)))
 }
 
-/// A tuple behind `<`, and the place behind its `>`.
-#[cycle(terms)]
-#[tactic(auto, using(crate::proofs::Nested::angled_terms))]
-fn angled<'a>(
-    alloc: Global,
-    nesting: u32,
-    tokens: &[Token<'a>],
-    at: usize,
-) -> Result<Option<(WrittenTerm<'a>, usize)>, AllocError>
-    requires { nesting ≤ LIMIT }
-    ensures value { IfOk result (λ o. MatchOption o (NoReading (IsTerm nesting) (sign signs.Less ∷ seen_from tokens.now at)) (λ x. IsTerm nesting (sign signs.Less ∷ seen_from tokens.now at) (view.term x.0) (seen_from tokens.now x.1))) }
-    ensures further { IfOk result (λ o. IfSome o (λ x. (at < x.1) × (x.1 ≤ length tokens.now))) }
-{
-    let Some(within) = deeper(nesting) else {
-        return Ok(None);
-    };
-    let Some((found, rest)) = tuple(alloc, Sign::Greater, within, tokens, at)? else {
-        return Ok(None);
-    };
-    Ok(Some((found, rest)))
-}
-
 /// A symbol's arguments behind its bracket, and the place behind the bracket that closes them.
 #[cycle(terms)]
-#[tactic(auto, using(crate::proofs::Nested::applied_terms))]
+#[tactic(auto, using(crate::proofs::Nested::applied_terms, crate::proofs::Nested::term_lists))]
 fn applied<'a>(
     alloc: Global,
     symbol: &str,
@@ -249,7 +230,11 @@ fn applied<'a>(
     let Some(within) = deeper(nesting) else {
         return Ok(None);
     };
-    let Some((args, rest)) = term_list(alloc, within, tokens, at)? else {
+    if let Some(rest) = after(Sign::Close, tokens, at) {
+        let made = application(alloc, symbol, Vec::new(alloc))?;
+        return Ok(Some((made, rest)));
+    }
+    let Some((args, rest)) = terms(alloc, within, tokens, at)? else {
         return Ok(None);
     };
     let made = application(alloc, symbol, args)?;
@@ -361,7 +346,6 @@ fn terms<'a>(
 /// # Errors
 ///
 /// There is no memory.
-#[cycle(terms)]
 #[tactic(auto, using(crate::proofs::Nested::term_lists))]
 pub fn term_list<'a>(
     alloc: Global,

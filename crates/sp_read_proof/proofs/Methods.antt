@@ -6,6 +6,7 @@ use Rattle.sp_spec_text.specs.Lists.{IsNotFirst, NoReading}
 use Rattle.sp_read_parts.specs.Parts.{IsNameFirst}
 use Rattle.sp_spec_text.specs.Written.{Method, said, goal}
 use Rattle.sp_spec_text.specs.Proofs.{is_method, SpellsMethod, by_word, by_goal}
+use Rattle.sp_spec_text.proofs.Methods.{solved_none, by_none, case_none}
 use Rattle.sp_read_proof.specs.Lines.{Line, leaf, cases, IsLine, solved_line, by_line, move_line, case_line, Behind, ended, another, IsBehind, qed_line, next_line}
 
 -- ---- methods
@@ -58,18 +59,6 @@ method_one (by_goal {text = t} {rest = r}) k = goal_is k refl
 -- words with which other parts of proofs begin are no methods
 pub no_word : {w : List ℕ} {x : Method} {tokens mid rest : List Lexeme} → is_method w ≡ false → SpellsMethod tokens x rest → tokens ≡ word w ∷ mid → ⊥
 no_word n h e = true≢false (sym (method_word h e).0 ∙ n)
-
-solved_none : is_method (codes "SOLVED") ≡ false
-unfolding is_method
-solved_none = refl
-
-by_none : is_method (codes "by") ≡ false
-unfolding is_method
-by_none = refl
-
-case_none : is_method (codes "case") ≡ false
-unfolding is_method
-case_none = refl
 
 pub method_not_solved : {x : Method} {tokens mid rest : List Lexeme} → SpellsMethod tokens x rest → tokens ≡ word (codes "SOLVED") ∷ mid → ⊥
 method_not_solved h e = no_word solved_none h e

@@ -5,10 +5,10 @@ use Rattle.std.specs.Str.{bytes_eq}
 use Rattle.std.proofs.lemmas.Slice.Eq.{bytes_eq-Decides}
 use Rattle.std.proofs.Math.Bool.{and-false}
 use Rattle.sp_spec_text.specs.Lex.{skip}
-use Rattle.sp_spec.specs.Term.{app, none, more, Ground, Grounds}
+use Rattle.sp_spec.specs.Term.{app, none, more, Ground, Grounds, list_of}
 use Rattle.sp_spec.specs.Signature.{Symbol, pair}
 use Rattle.sp_spec.specs.Execution.{Step, apply_symbol}
-use Rattle.sp_ground.specs.View.{row}
+use Rattle.sp_fact.specs.GroundView.{row}
 use Rattle.sp_spec_text.specs.Names.{is_reserved, IsNameWord}
 use Rattle.sp_spec_text.specs.Printed.{is_pair, text_at, row_text, term_text}
 use Rattle.sp_spec_text.specs.StepLines.{HaveNames, IsWritable, AreWritable, IsWritableStep}
@@ -16,7 +16,7 @@ use Rattle.sp_read_steps.specs.Reading.{named, has_symbol, chain, tuple, pair_st
 use Rattle.sp_read_steps.proofs.Words.{named_is, named_parts, named_before}
 use Rattle.sp_read_steps.proofs.Heads.{has_holds}
 use Rattle.sp_read_steps.proofs.Spoken.{RowAt, row_at, over_text, alone, parts_of, chain_writable, tuple_text}
-use Rattle.sp_read_steps.proofs.Written.{holds_has, stops_ends, stops_bracket, list_of, row_list, is_read, are_read}
+use Rattle.sp_read_steps.proofs.Written.{holds_has, stops_ends, stops_bracket, row_list, is_read, are_read}
 
 -- ---- from what is read to the text
 

@@ -5,7 +5,7 @@ use Rattle.std.proofs.lemmas.Bool.{ne_eqb, and_parts, not-true, lt-ltb}
 use Rattle.sp_spec.specs.Term.{Ground}
 use Rattle.sp_spec.specs.Signature.{Symbol, pair}
 use Rattle.sp_spec.specs.Execution.{Step}
-use Rattle.sp_ground.specs.View.{row}
+use Rattle.sp_fact.specs.GroundView.{row}
 use Rattle.sp_spec_text.specs.Printed.{are_two}
 use Rattle.sp_read_steps.specs.Reading.{has_symbol, is_pair_term, paired_with, chain, pair_step, pairing}
 

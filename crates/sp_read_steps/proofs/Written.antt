@@ -8,9 +8,9 @@ use Rattle.std.proofs.Math.Bool.{and-false, or-true}
 use Rattle.sp_spec_text.specs.Bytes as class
 use Rattle.sp_spec_text.specs.Lex.{is_first, is_constant_byte, skip, before}
 use Rattle.sp_spec.specs.Lists.{Every}
-use Rattle.sp_spec.specs.Term.{var, constant, name, app, none, more, Ground, Grounds, count}
+use Rattle.sp_spec.specs.Term.{var, constant, name, app, none, more, Ground, Grounds, count, list_of}
 use Rattle.sp_spec.specs.Signature.{Symbol, HasSymbol, pair}
-use Rattle.sp_ground.specs.View.{row}
+use Rattle.sp_fact.specs.GroundView.{row}
 use Rattle.sp_spec_text.specs.Printed.{is_pair, text_at, row_text, term_text}
 use Rattle.sp_spec_text.specs.Names.{IsWord}
 use Rattle.sp_spec_text.specs.StepLines.{HaveNames, IsQuotable, IsWritable, AreWritable}
@@ -106,10 +106,6 @@ head_name symbols n rest p h e =
     ∙ ap (λ (xs : List ℕ). of_number (number_of xs) rest) w ∙ ap (λ (o : Option ℕ). of_number o rest) (number_of_decimal n p h) ∙ rw e refl
 
 -- ---- terms
-
-abbrev pub list_of : Grounds → List Ground
-list_of none = []
-list_of (more t ts) = t ∷ list_of ts
 
 pub row_list : (ts : Grounds) → row (list_of ts) ≡ ts
 row_list none = refl

@@ -3,8 +3,8 @@ use Rattle.std.specs.Prelude.{◌≡◌, ◌⊎◌, ℕ, Bool, true, false, List
 use Rattle.sp_term.specs.View.{name_of}
 use Rattle.sp_spec.specs.Signature.{Symbol}
 use Rattle.sp_spec.specs.Execution.{Step}
-use Rattle.sp_ground.specs.declared.signature.Symbol as memory
-use Rattle.sp_ground.specs.View.{ground_of, step_of, symbol_of}
+use Rattle.sp_fact.specs.declared.signature.Symbol as memory
+use Rattle.sp_fact.specs.GroundView.{ground_of, step_of, symbol_of}
 use Rattle.sp_read_steps.specs.declared.parts.Head as memory_head
 use Rattle.sp_read_steps.specs.declared.parts.Head.TheVariants as h
 use Rattle.sp_read_steps.specs.declared.parts.StepLines as memory_lines

@@ -2,16 +2,16 @@
 
 ghost use Rattle.std.specs.Prelude.{◌≡◌, ◌≢◌, ◌&&◌, not, nat_lt, [], ◌∷◌, MatchOption, IfOk, codes, map, option_map};
 ghost use Rattle.sp_term.specs.View.{name_of};
-ghost use Rattle.sp_ground.specs.View.{ground_of, step_of};
+ghost use Rattle.sp_fact.specs.GroundView.{ground_of, step_of};
 ghost use Rattle.sp_read_steps.specs.Reading as spec;
 ghost use Rattle.sp_read_steps.specs.Reading.{NoReading, NoWhole, ReadsRow, ReadsApplication};
 ghost use Rattle.sp_read_steps.specs.View.{symbols_of};
 
 use crate::terms::{chain, has_symbol, is_pair, row};
 use crate::texts::{behind, is_nothing, name};
-use sp_ground::signature::Symbol;
-use sp_ground::step::Step;
-use sp_ground::term::GroundTerm;
+use sp_fact::ground_term::GroundTerm;
+use sp_fact::signature::Symbol;
+use sp_fact::step::Step;
 use sp_term::term::{MOST_NESTED, Name};
 use std::alloc::{AllocError, Global};
 

@@ -1,5 +1,5 @@
 // Reads the steps of an execution from the lines of a replay.
-// Below stand ground terms and steps in memory (sp_ground), the texts in which they are printed, the words of texts, and which lines are those
+// Below stand ground terms and steps in memory (sp_fact), the texts in which they are printed, the words of texts, and which lines are those
 // of steps (sp_spec_text, specs/Printed.antt, Lex.antt, Names.antt, StepLines.antt); above stands the replaying of steps (sp_exec).
 // specs/Reading.antt says which lines are those of steps as a reader from the left takes them.
 // Carried here: the promise that lines are read exactly. The steps are those that print as the lines, or the first other line is told.

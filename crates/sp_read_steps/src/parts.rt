@@ -1,7 +1,7 @@
 // What is found in a line.
 
-use sp_ground::step::Step;
-use sp_ground::term::GroundTerm;
+use sp_fact::ground_term::GroundTerm;
+use sp_fact::step::Step;
 use sp_term::term::Name;
 
 /// How a term begins.

@@ -1,7 +1,7 @@
 // The lines of a text, one after the other.
 
 ghost use Rattle.std.specs.Prelude.{◌≡◌, [], ◌∷◌, ◌++◌, IfOk, OnOk, map};
-ghost use Rattle.sp_ground.specs.View.{symbol_of, step_of};
+ghost use Rattle.sp_fact.specs.GroundView.{symbol_of, step_of};
 ghost use Rattle.sp_spec_text.specs.Blanks.{lines};
 ghost use Rattle.sp_spec_text.specs.StepLines.{HaveNames};
 ghost use Rattle.sp_read_steps.specs.View.{Takes, AreStepLines};
@@ -9,8 +9,8 @@ ghost use Rattle.sp_read_steps.specs.View.{Takes, AreStepLines};
 use crate::parts::StepLines;
 use crate::steps::step_of_line;
 use crate::texts::{cut, is_nothing, trimmed};
-use sp_ground::signature::Symbol;
-use sp_ground::step::Step;
+use sp_fact::signature::Symbol;
+use sp_fact::step::Step;
 use std::alloc::{AllocError, Global};
 
 /// Puts a step at the end.

@@ -1,7 +1,7 @@
 // Steps in lines.
 
 ghost use Rattle.std.specs.Prelude.{◌≡◌, [], ◌∷◌, ◌++◌, MatchOption, IfOk, OnOk, map};
-ghost use Rattle.sp_ground.specs.View.{ground_of, given_of, step_of};
+ghost use Rattle.sp_fact.specs.GroundView.{ground_of, given_of, step_of};
 ghost use Rattle.sp_read_steps.specs.Reading as spec;
 ghost use Rattle.sp_read_steps.specs.Reading.{NoReading, NoWhole, NoKind, Reads, ReadsGiven, ReadsValues, ReadsRule, ReadsStep};
 ghost use Rattle.sp_read_steps.specs.View.{symbols_of};
@@ -10,9 +10,9 @@ use crate::applications::application;
 use crate::parts::Kind;
 use crate::terms::term;
 use crate::texts::{after, behind, is_nothing, name};
-use sp_ground::signature::Symbol;
-use sp_ground::step::{Given, Step};
-use sp_ground::term::GroundTerm;
+use sp_fact::ground_term::GroundTerm;
+use sp_fact::signature::Symbol;
+use sp_fact::step::{Given, Step};
 use sp_term::term::{MOST_NESTED, Name};
 use std::alloc::{AllocError, Global};
 

@@ -3,7 +3,7 @@
 ghost use Rattle.std.specs.Prelude.{◌≡◌, ◌≢◌, [], ◌∷◌, ◌++◌, ◌+◌, length, MatchOption, IfSome, IfOk, OnOk, map, option_map};
 ghost use Rattle.sp_spec_text.specs.Lex as lex;
 ghost use Rattle.sp_spec_text.specs.Bytes as class;
-ghost use Rattle.sp_ground.specs.View.{ground_of, row};
+ghost use Rattle.sp_fact.specs.GroundView.{ground_of, row};
 ghost use Rattle.std.specs.Rc.{rc_str_bytes};
 ghost use Rattle.sp_spec.specs.Signature as signature;
 ghost use Rattle.sp_spec_text.specs.Printed as text_spec;
@@ -15,8 +15,8 @@ use crate::parts::Head;
 use crate::texts::{
     after, before, behind, bytes_before, number_of, skip_constant, skip_word, split, word,
 };
-use sp_ground::signature::Symbol;
-use sp_ground::term::GroundTerm;
+use sp_fact::ground_term::GroundTerm;
+use sp_fact::signature::Symbol;
 use sp_term::term::{Name, Term, nesting_over};
 use std::alloc::{AllocError, Global};
 use std::rc::Rc;

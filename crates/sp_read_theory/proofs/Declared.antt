@@ -1,5 +1,5 @@
 -- Declarations from their parts, and each part that may be missing; they are read in one way, and where a word follows as the grammar spells them.
-use Rattle.std.proofs.Common.{◌≡◌, ℕ, List, ◌∷◌, codes, refl, sym, ap, subst, ◌∙◌, arith}
+use Rattle.std.proofs.Common.{◌≡◌, ℕ, ◌<◌, ◌≤◌, List, ◌∷◌, codes, Option, Some, None, MatchOption, IfSome, Result, Ok, Err, IfOk, refl, sym, ap, subst, ◌∙◌, arith}
 use Rattle.sp_spec_text.specs.Signs as s
 use Rattle.sp_spec_text.specs.Token.{Lexeme, word, sign}
 use Rattle.sp_spec.specs.Term.{Term}
@@ -18,6 +18,8 @@ use Rattle.sp_read_parts.proofs.Sequence.{Fixed, fixed_none, fixed_one, Then, no
 use Rattle.sp_read_parts.proofs.Spelled.{term_spelled}
 use Rattle.sp_read_parts.proofs.Taken.{term_taken}
 use Rattle.sp_read_theory.specs.Items.{IsBuiltin, IsFunction, IsEquation, equation, AreAll, Headed, NotHeaded, IsDeclaration, builtins, functions, equations, a_rule}
+use Rattle.sp_written.specs.declared.theory.Item as rust
+use Rattle.sp_read_theory.specs.Views.{item}
 use Rattle.sp_read_theory.proofs.Listed.{all_one, builtins_one}
 use Rattle.sp_read_theory.proofs.SymbolParts.{functions_one, function_spelled, function_taken}
 use Rattle.sp_read_theory.proofs.One.{third_byte, rule_one, rule_word, lemma_word}
@@ -76,15 +78,6 @@ equations_one = record { one = equation_one }
 
 -- ---- declarations from their parts
 
-pub builtins_at : {bs : List (List ℕ)} {tokens inside rest : List Lexeme} → Headed (codes "builtins") tokens inside → AreAll IsBuiltin inside bs rest → IsDeclaration tokens (builtins_item bs) rest
-builtins_at e h = rw e (builtins h)
-
-pub functions_at : {ss : List Symbol} {tokens inside rest : List Lexeme} → Headed (codes "functions") tokens inside → AreAll IsFunction inside ss rest → IsDeclaration tokens (functions_item ss) rest
-functions_at e h = rw e (functions h)
-
-pub equations_at : {es : List (Term Written × Term Written)} {tokens inside rest : List Lexeme} → Headed (codes "equations") tokens inside → AreAll IsEquation inside es rest → IsDeclaration tokens (equations_item es) rest
-equations_at e h = rw e (equations h)
-
 -- what is read behind a keyword
 under_builtins : {tokens inside rest : List Lexeme} {x : Item} → IsDeclaration tokens x rest → Headed (codes "builtins") tokens inside → (bs : List (List ℕ)) × (x ≡ builtins_item bs) × AreAll IsBuiltin inside bs rest
 under_builtins {inside = i} (builtins {bs = bs} {tokens = ts} {rest = r} h) e = let f : ts ≡ i = cc in (bs, refl, subst (λ (us : List Lexeme). AreAll IsBuiltin us bs r) f h)
@@ -122,7 +115,35 @@ no_declaration b f e n = record { none = λ x r h. at h b f e n }
     at (equations {tokens = ts} h) b f e n = e.none ts refl
     at (a_rule {r = x} {rest = r} h) b f e n = n.none x r h
 
-pub ruleset declarations = (builtins_at, no_builtins, functions_at, no_functions, equations_at, no_equations, a_rule, no_declaration)
+pub ruleset kinds_of_items = (builtins, functions, equations, a_rule)
+
+under_keyword : {keyword : List ℕ} {tokens inside rest : List Lexeme} {x : Item} → Headed keyword tokens inside → IsDeclaration (word keyword ∷ sign s.Colon ∷ inside) x rest → IsDeclaration tokens x rest
+under_keyword {rest = r} {x} e h = subst (λ (us : List Lexeme). IsDeclaration us x r) (sym e) h
+
+-- what stands behind a keyword and is read is read with it
+pub keyword_read : {E : Type 0} (r : Result (Option (rust.Item × ℕ)) E) (keyword : List ℕ) (missing : Type 0) (tokens inside : List Lexeme) (seen : ℕ → List Lexeme)
+    → Headed keyword tokens inside → (missing → NoReading IsDeclaration tokens)
+    → IfOk r (λ o. MatchOption o missing (λ x. IsDeclaration (word keyword ∷ sign s.Colon ∷ inside) (item x.0) (seen x.1)))
+    → IfOk r (λ o. MatchOption o (NoReading IsDeclaration tokens) (λ x. IsDeclaration tokens (item x.0) (seen x.1)))
+keyword_read (Ok None) keyword missing tokens inside seen e n h = n h
+keyword_read (Ok (Some x)) keyword missing tokens inside seen e n h = under_keyword e h
+keyword_read (Err f) keyword missing tokens inside seen e n h = h
+
+-- and goes on behind it
+pub further_read : {E : Type 0} (r : Result (Option (rust.Item × ℕ)) E) (at inside end : ℕ) → at < inside
+    → IfOk r (λ o. IfSome o (λ x. (inside < x.1) × (x.1 ≤ end))) → IfOk r (λ o. IfSome o (λ x. (at < x.1) × (x.1 ≤ end)))
+further_read (Ok None) at inside end lt h = h
+further_read (Ok (Some x)) at inside end lt h = (let less = h.0 in omega arith, h.1)
+further_read (Err f) at inside end lt h = h
+
+-- a rule, where no keyword stands
+pub rule_read : {E : Type 0} (r : Result (Option (rust.Item × ℕ)) E) (tokens : List Lexeme) (seen : ℕ → List Lexeme)
+    → NotHeaded (codes "builtins") tokens → NotHeaded (codes "functions") tokens → NotHeaded (codes "equations") tokens
+    → IfOk r (λ o. MatchOption o (NoReading SpellsRule tokens) (λ x. IsDeclaration tokens (item x.0) (seen x.1)))
+    → IfOk r (λ o. MatchOption o (NoReading IsDeclaration tokens) (λ x. IsDeclaration tokens (item x.0) (seen x.1)))
+rule_read (Ok None) tokens seen b f e h = no_declaration b f e h
+rule_read (Ok (Some x)) tokens seen b f e h = h
+rule_read (Err g) tokens seen b f e h = h
 
 -- ---- in one way
 

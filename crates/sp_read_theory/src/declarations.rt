@@ -1,14 +1,17 @@
 // What a theory declares: builtins, functions and equations, each a list with commas that nothing closes; and rules.
 
-ghost use Rattle.std.specs.Prelude.{◌≡◌, ◌++◌, [], ◌∷◌, map, MatchOption, IfSome, IfOk, OnOk, ◌≤◌, ◌<◌, length};
+ghost use Rattle.std.specs.Prelude.{◌≡◌, ◌++◌, [], ◌∷◌, map, MatchOption, IfSome, IfOk, OnOk, ◌≤◌, ◌<◌, length, codes};
+ghost use Rattle.sp_spec_text.specs.Signs as signs;
+ghost use Rattle.sp_spec_text.specs.Token.{word, sign};
 ghost use Rattle.sp_spec_text.specs.Lists.{NoReading};
+ghost use Rattle.sp_spec_text.specs.Theories.{SpellsRule};
 ghost use Rattle.sp_read_theory.specs.Items.{IsBuiltin, IsFunction, IsEquation, AreAll, Headed, NotHeaded, IsDeclaration};
 ghost use Rattle.sp_read_theory.specs.Views as view;
 ghost use Rattle.sp_read_theory.specs.Views.{seen_from};
 
 use crate::rules::rule;
 use crate::symbols::function;
-use sp_ground::signature::Symbol;
+use sp_fact::signature::Symbol;
 use sp_lex::{Sign, Token};
 use sp_read_parts::cursor::{after, behind};
 use sp_read_parts::terms::{name, term};
@@ -178,8 +181,75 @@ fn equations<'a>(
     }
 }
 
+/// The item of builtins that stand behind their keyword, and the place behind the last.
+#[tactic(auto, using(crate::proofs::Declared::kinds_of_items))]
+fn builtins_item<'a>(
+    alloc: Global,
+    tokens: &[Token<'a>],
+    at: usize,
+) -> Result<Option<(Item<'a>, usize)>, AllocError>
+    ensures value { IfOk result (λ o. MatchOption o (NoReading (AreAll IsBuiltin) (seen_from tokens.now at)) (λ x. IsDeclaration (word (codes "builtins") ∷ sign signs.Colon ∷ seen_from tokens.now at) (view.item x.0) (seen_from tokens.now x.1))) }
+    ensures spans { IfOk result (λ o. IfSome o (λ x. view.spans (x.0 ∷ []) ≡ [])) }
+    ensures further { IfOk result (λ o. IfSome o (λ x. (at < x.1) × (x.1 ≤ length tokens.now))) }
+{
+    let Some((found, rest)) = builtins(alloc, tokens, at)? else {
+        return Ok(None);
+    };
+    Ok(Some((Item::Builtins(found), rest)))
+}
+
+/// The item of functions that stand behind their keyword, and the place behind the last.
+#[tactic(auto, using(crate::proofs::Declared::kinds_of_items))]
+fn functions_item<'a>(
+    alloc: Global,
+    tokens: &[Token<'a>],
+    at: usize,
+) -> Result<Option<(Item<'a>, usize)>, AllocError>
+    ensures value { IfOk result (λ o. MatchOption o (NoReading (AreAll IsFunction) (seen_from tokens.now at)) (λ x. IsDeclaration (word (codes "functions") ∷ sign signs.Colon ∷ seen_from tokens.now at) (view.item x.0) (seen_from tokens.now x.1))) }
+    ensures spans { IfOk result (λ o. IfSome o (λ x. view.spans (x.0 ∷ []) ≡ [])) }
+    ensures further { IfOk result (λ o. IfSome o (λ x. (at < x.1) × (x.1 ≤ length tokens.now))) }
+{
+    let Some((found, rest)) = functions(alloc, tokens, at)? else {
+        return Ok(None);
+    };
+    Ok(Some((Item::Functions(found), rest)))
+}
+
+/// The item of equations that stand behind their keyword, and the place behind the last.
+#[tactic(auto, using(crate::proofs::Declared::kinds_of_items))]
+fn equations_item<'a>(
+    alloc: Global,
+    tokens: &[Token<'a>],
+    at: usize,
+) -> Result<Option<(Item<'a>, usize)>, AllocError>
+    ensures value { IfOk result (λ o. MatchOption o (NoReading (AreAll IsEquation) (seen_from tokens.now at)) (λ x. IsDeclaration (word (codes "equations") ∷ sign signs.Colon ∷ seen_from tokens.now at) (view.item x.0) (seen_from tokens.now x.1))) }
+    ensures spans { IfOk result (λ o. IfSome o (λ x. view.spans (x.0 ∷ []) ≡ [])) }
+    ensures further { IfOk result (λ o. IfSome o (λ x. (at < x.1) × (x.1 ≤ length tokens.now))) }
+{
+    let Some((found, rest)) = equations(alloc, tokens, at)? else {
+        return Ok(None);
+    };
+    Ok(Some((Item::Equations(found), rest)))
+}
+
+/// The item of a rule, and the place behind it.
+#[tactic(auto, using(crate::proofs::Declared::kinds_of_items))]
+fn rule_item<'a>(
+    alloc: Global,
+    tokens: &[Token<'a>],
+    at: usize,
+) -> Result<Option<(Item<'a>, usize)>, AllocError>
+    ensures value { IfOk result (λ o. MatchOption o (NoReading SpellsRule (seen_from tokens.now at)) (λ x. IsDeclaration (seen_from tokens.now at) (view.item x.0) (seen_from tokens.now x.1))) }
+    ensures spans { IfOk result (λ o. IfSome o (λ x. view.spans (x.0 ∷ []) ≡ [])) }
+    ensures further { IfOk result (λ o. IfSome o (λ x. (at < x.1) × (x.1 ≤ length tokens.now))) }
+{
+    let Some((found, rest)) = rule(alloc, tokens, at)? else {
+        return Ok(None);
+    };
+    Ok(Some((Item::Rule(found), rest)))
+}
+
 /// What a theory declares here, or a rule, and the place behind it.
-#[tactic(auto, using(crate::proofs::Declared::declarations))]
 pub fn declaration<'a>(
     alloc: Global,
     tokens: &[Token<'a>],
@@ -191,25 +261,13 @@ pub fn declaration<'a>(
     ensures further { IfOk result (λ o. IfSome o (λ x. (at < x.1) × (x.1 ≤ length tokens.now))) }
 {
     if let Some(inside) = headed("builtins", tokens, at) {
-        let Some((found, rest)) = builtins(alloc, tokens, inside)? else {
-            return Ok(None);
-        };
-        return Ok(Some((Item::Builtins(found), rest)));
+        return builtins_item(alloc, tokens, inside);
     }
     if let Some(inside) = headed("functions", tokens, at) {
-        let Some((found, rest)) = functions(alloc, tokens, inside)? else {
-            return Ok(None);
-        };
-        return Ok(Some((Item::Functions(found), rest)));
+        return functions_item(alloc, tokens, inside);
     }
     if let Some(inside) = headed("equations", tokens, at) {
-        let Some((found, rest)) = equations(alloc, tokens, inside)? else {
-            return Ok(None);
-        };
-        return Ok(Some((Item::Equations(found), rest)));
+        return equations_item(alloc, tokens, inside);
     }
-    let Some((found, rest)) = rule(alloc, tokens, at)? else {
-        return Ok(None);
-    };
-    Ok(Some((Item::Rule(found), rest)))
+    rule_item(alloc, tokens, at)
 }

@@ -11,6 +11,7 @@ ghost use Rattle.sp_read_theory.specs.Views.{seen_from};
 
 use crate::rules::header;
 use sp_lex::{Sign, Token};
+use sp_read_parts::ReadFormula;
 use sp_read_parts::cursor::{after, behind};
 use sp_read_parts::formulas::formula;
 use sp_read_proof::proof;
@@ -55,17 +56,26 @@ fn place_before(tokens: &[Token], rest: usize) -> usize
     tokens[rest - 1].end
 }
 
+/// A lemma without its proof.
+#[derive(Drop)]
+struct Stated<'a> {
+    name: &'a str,
+    kind: TraceKind,
+    formula: ReadFormula<'a>,
+    /// The place in the text behind it, where its proof is to stand.
+    place: usize,
+}
+
 /// A lemma without its proof, and the place behind it.
 #[tactic(auto, using(crate::proofs::LemmaParts::whole_lemmas, crate::proofs::Suffix::is_behind))]
 fn statement<'a>(
     alloc: Global,
     tokens: &[Token<'a>],
     at: usize,
-) -> Result<Option<(WrittenLemma<'a>, usize)>, AllocError>
-    ensures value { IfOk result (λ o. MatchOption o (NoReading SpellsLemma (seen_from tokens.now at)) (λ x. SpellsLemma (seen_from tokens.now at) (view.lemma x.0) (seen_from tokens.now x.1))) }
+) -> Result<Option<(Stated<'a>, usize)>, AllocError>
+    ensures value { IfOk result (λ o. MatchOption o (NoReading SpellsLemma (seen_from tokens.now at)) (λ x. SpellsLemma (seen_from tokens.now at) (record { name = x.0.name.now; kind = view.kind x.0.kind; formula = view.formula x.0.formula }) (seen_from tokens.now x.1))) }
     ensures further { IfOk result (λ o. IfSome o (λ x. (at < x.1) × (x.1 ≤ length tokens.now))) }
-    // Its proof is to stand directly behind it.
-    ensures place { IfOk result (λ o. IfSome o (λ x. IsBehind (tokens_of (drop at tokens.now)) (tokens_of (drop x.1 tokens.now)) x.0.span.from)) }
+    ensures place { IfOk result (λ o. IfSome o (λ x. IsBehind (tokens_of (drop at tokens.now)) (tokens_of (drop x.1 tokens.now)) x.0.place)) }
 {
     let Some((name, next)) = header("lemma", tokens, at) else {
         return Ok(None);
@@ -78,15 +88,11 @@ fn statement<'a>(
     };
     let place = place_before(tokens, rest);
     Ok(Some((
-        WrittenLemma {
+        Stated {
             name,
             kind,
             formula,
-            proof: None,
-            span: Span {
-                from: place,
-                to: place,
-            },
+            place,
         },
         rest,
     )))
@@ -127,7 +133,7 @@ pub fn lemma<'a>(
     let Some((stated, behind)) = statement(alloc, tokens, at)? else {
         return Ok(None);
     };
-    let (proof, span, rest) = proof_part(alloc, tokens, stated.span.from, behind)?;
+    let (proof, span, rest) = proof_part(alloc, tokens, stated.place, behind)?;
     Ok(Some((
         WrittenLemma {
             name: stated.name,

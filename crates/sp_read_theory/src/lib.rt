@@ -1,5 +1,5 @@
 // Reads theories: what they declare, rules and lemmas in any order, lemmas with their kind of trace, and the proofs that stand below lemmas.
-// Below stand names, facts and symbols (sp_term, sp_fact, sp_ground), tokens (sp_lex), terms, facts and formulas as they are read
+// Below stand names, facts and symbols (sp_term, sp_fact), tokens (sp_lex), terms, facts and formulas as they are read
 // (sp_read_parts), theories in memory (sp_written), and proofs (sp_read_proof);
 // what makes rules and formulas in memory of a theory stands above.
 // Carried here: the promise that texts are read exactly. What is read is what the text says by the grammar (sp_spec_text,

@@ -10,7 +10,7 @@ ghost use Rattle.sp_read_theory.specs.Items.{IsArity, AreAttributes, IsPrivacy, 
 ghost use Rattle.sp_read_theory.specs.Views as view;
 ghost use Rattle.sp_read_theory.specs.Views.{seen_from};
 
-use sp_ground::signature::Symbol;
+use sp_fact::signature::Symbol;
 use sp_lex::{Sign, Token};
 use sp_read_parts::cursor::{after, word};
 use sp_read_parts::terms::name;

@@ -21,7 +21,7 @@ use Rattle.sp_pose.proofs.One.{not_posed}
 use Rattle.sp_pose.proofs.BasicTheories.{normal_forms}
 use Rattle.sp_replay.specs.Replay.{theory_said, lines_behind, HasLines, steps_done, IsUnread, IsStopped, IsMet, AreMet, met_lines, IsReplay}
 use Rattle.sp_replay.specs.Laws.{RepliesAreOne}
-use Rattle.sp_law_block.proofs.TextNames.{texts_have_names_lem}
+use Rattle.sp_law_printed_log.proofs.TextNames.{texts_have_names_lem}
 use Rattle.sp_spec.proofs.Lists.{newest_twice}
 
 -- ---- one theory, and one list of lines

@@ -10,13 +10,13 @@ use Rattle.sp_spec.specs.Execution as execution
 use Rattle.sp_law_run.specs.NormalStep.{normal_step, normal_trace}
 use Rattle.sp_law_equal.specs.Right.{AreRight}
 use Rattle.sp_law_run.proofs.Written.{rules_right}
-use Rattle.sp_law_tree.specs.BasicTheory.{IsBasicFormula}
+use Rattle.sp_law_basic.specs.BasicTheory.{IsBasicFormula}
 use Rattle.sp_fact.specs.View.{rule_of}
 use Rattle.sp_fact.specs.View.{rule_of}
-use Rattle.sp_ground.specs.View.{signature_of, symbol_of, step_of, entries_of, trace_of}
+use Rattle.sp_fact.specs.GroundView.{signature_of, symbol_of, step_of, entries_of, trace_of}
 use Rattle.sp_spec_text.specs.Printed.{trace_block}
-use Rattle.sp_ground.specs.declared.fact.Trace.{Trace}
-use Rattle.sp_ground.specs.declared.step.Step.{Step}
+use Rattle.sp_fact.specs.declared.ground_fact.Trace.{Trace}
+use Rattle.sp_fact.specs.declared.step.Step.{Step}
 use Rattle.sp_spec_text.specs.Blanks.{lines}
 use Rattle.sp_spec_text.specs.StepLines.{AreSteps, IsFirstUnread}
 use Rattle.sp_exec.specs.Replay.{IsReplayed, IsFirstFault}

@@ -2,8 +2,8 @@
 use Rattle.std.proofs.Common.{ℕ, List, map, sym, ap, subst}
 use Rattle.sp_spec.specs.Signature as spec
 use Rattle.sp_law_equal.specs.NormalForms.{HaveNormalForms}
-use Rattle.sp_law_block.proofs.TextNames.{texts_have_names_lem}
-use Rattle.sp_ground.specs.View.{symbol_of, signature_of}
+use Rattle.sp_law_printed_log.proofs.TextNames.{texts_have_names_lem}
+use Rattle.sp_fact.specs.GroundView.{symbol_of, signature_of}
 use Rattle.sp_spec_text.specs.StepLines.{HaveNames}
 use Rattle.sp_pose.specs.Posed.{IsPosedBy}
 use Rattle.sp_pose.specs.declared.problem.Problem.{Problem}

@@ -28,7 +28,7 @@ use Rattle.sp_law_decide.specs.Deciding.{assignment_of, decided, empty}
 use Rattle.sp_law_decide.specs.Normal.{IsNormalAction, IsNormalTrace, HasConstructorTerms, CanDecide}
 use Rattle.sp_law_decide.proofs.ConstructorForms.{form_keeps}
 use Rattle.sp_law_decide.proofs.Told.{told}
-use Rattle.sp_law_tree.specs.BasicTheory.{IsBasicFormula}
+use Rattle.sp_law_basic.specs.BasicTheory.{IsBasicFormula}
 
 -- ---- a basic formula has constructor terms
 

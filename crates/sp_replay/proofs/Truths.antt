@@ -13,7 +13,7 @@ use Rattle.sp_law_guard.proofs.Checked.{form_checked}
 use Rattle.sp_law_run.specs.NormalStep.{normal_trace}
 use Rattle.sp_law_equal.specs.Right.{RulesAreOver}
 use Rattle.sp_law_decide.specs.Deciding.{decided, empty}
-use Rattle.sp_law_tree.specs.BasicTheory.{IsBasicFormula}
+use Rattle.sp_law_basic.specs.BasicTheory.{IsBasicFormula}
 use Rattle.sp_read_parts.specs.Formulas.{formula}
 use Rattle.sp_written.specs.Views as view
 use Rattle.sp_written.specs.declared.theory.WrittenLemma.{WrittenLemma}

@@ -10,7 +10,7 @@ mod written;
 
 ghost use Rattle.sp_replay.specs.Laws.{RepliesAreOne};
 
-pub use replay::{Reply, replayed};
+pub use replay::{Attempt, replayed};
 pub use sp_exec::cause::Cause;
 
 /// Of a text one thing is answered.

@@ -2,23 +2,20 @@
 
 ghost use Rattle.std.specs.Prelude.{◌≡◌, IfOk};
 ghost use Rattle.sp_pose.specs.Posed.{IsPosedBy};
+ghost use Rattle.sp_pose.specs.Replies.{IsReplyTo};
 ghost use Rattle.sp_replay.specs.Replay as spec;
-ghost use Rattle.sp_replay.specs.View.{IsReplyTo};
+ghost use Rattle.sp_replay.specs.View.{IsDone};
 
 use crate::written::written_by;
 use sp_exec::cause::Cause;
 use sp_exec::replay::{Replayed, replay};
-use sp_pose::{Problem, Read, posed_by};
+use sp_pose::{Problem, Read, Reply, posed_by};
 use sp_read_steps::{StepLines, read_steps};
 use std::alloc::{AllocError, Global};
 
-/// What comes of a text whose lines are replayed.
+/// What comes of the lines behind a text that are replayed.
 #[derive(Drop)]
-pub enum Reply {
-    /// It says no theory, and is refused at this place.
-    Refused(usize),
-    /// There are findings on its theory, and these are their lines.
-    Reported(Vec<u8>),
+pub enum Attempt {
     /// This line, counted from 1 behind that of `end`, is no step's.
     Unread(usize),
     /// This step, counted from 1, can't be done, for this cause.
@@ -42,21 +39,21 @@ fn behind_line(text: &[u8]) -> &[u8]
 }
 
 /// The steps behind the theory, replayed.
-fn replayed_on(alloc: Global, text: &[u8], problem: Problem) -> Result<Reply, AllocError>
+fn replayed_on(alloc: Global, text: &[u8], problem: Problem) -> Result<Attempt, AllocError>
     requires { IsPosedBy text.now problem }
-    ensures { IfOk result (IsReplyTo text.now) }
+    ensures { IfOk result (IsDone text.now) }
 {
     let signature = problem.signature;
     let lines = behind_line(&text[problem.behind_end..]);
     let steps = match read_steps(alloc, &signature.symbols, lines)? {
-        StepLines::Unread(number) => return Ok(Reply::Unread(number)),
+        StepLines::Unread(number) => return Ok(Attempt::Unread(number)),
         StepLines::Steps(steps) => steps,
     };
     match replay(alloc, &signature, &problem.rules, &steps)? {
-        Replayed::Refused(number, cause) => Ok(Reply::Stopped(number, cause)),
+        Replayed::Refused(number, cause) => Ok(Attempt::Stopped(number, cause)),
         Replayed::Done(trace) => {
             let written = written_by(alloc, &problem.lemmas, &trace)?;
-            Ok(Reply::Done(written))
+            Ok(Attempt::Done(written))
         }
     }
 }
@@ -67,12 +64,15 @@ fn replayed_on(alloc: Global, text: &[u8], problem: Problem) -> Result<Reply, Al
 /// # Errors
 ///
 /// `AllocError` where memory is wanting.
-pub fn replayed(alloc: Global, text: &[u8]) -> Result<Reply, AllocError>
-    ensures { IfOk result (IsReplyTo text.now) }
+pub fn replayed(alloc: Global, text: &[u8]) -> Result<Reply<Attempt>, AllocError>
+    ensures { IfOk result (IsReplyTo IsDone text.now) }
 {
     match posed_by(alloc, text)? {
         Read::Refused(place) => Ok(Reply::Refused(place)),
         Read::Reported(lines) => Ok(Reply::Reported(lines)),
-        Read::Posed(problem) => replayed_on(alloc, text, problem),
+        Read::Posed(problem) => {
+            let attempt = replayed_on(alloc, text, problem)?;
+            Ok(Reply::Done(attempt))
+        }
     }
 }

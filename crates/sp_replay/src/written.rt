@@ -1,14 +1,14 @@
 // The trace, and what is true over it.
 
 ghost use Rattle.std.specs.Prelude.{◌≡◌, ◌++◌, IfOk, OnOk, map};
-ghost use Rattle.sp_ground.specs.View.{entries_of, trace_of};
+ghost use Rattle.sp_fact.specs.GroundView.{entries_of, trace_of};
 ghost use Rattle.sp_spec_text.specs.Printed.{trace_block};
 ghost use Rattle.sp_pose.specs.Asked.{asked_of};
 ghost use Rattle.sp_replay.specs.Held.{held_line, held_lines};
 ghost use Rattle.sp_replay.specs.Replay as spec;
 
 use sp_eval::truth::holds;
-use sp_ground::fact::Trace;
+use sp_fact::ground_fact::Trace;
 use sp_pose::{GuardedLemma, kind_text};
 use sp_show::trace::trace_block;
 use std::alloc::{AllocError, Global};

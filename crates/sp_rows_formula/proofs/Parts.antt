@@ -3,10 +3,10 @@ use Rattle.std.proofs.Common.{◌≡◌, ◌<◌, ℕ, ◌+◌, List, [], ◌∷
 use Rattle.std.specs.Global.{Vec}
 use Rattle.std.specs.List.{remove}
 use Rattle.std.proofs.lemmas.List.{length-map}
-use Rattle.sp_spec.specs.Guarded.{Guarded, truth, falsity, holds, fails, all_of, one_of, some, every, Guardeds, and_then}
+use Rattle.sp_spec.specs.Guarded.{Guarded, truth, falsity, holds, fails, all_of, one_of, some, every, Guardeds, and_then, guardeds_of}
 use Rattle.sp_formula.specs.declared.formula.Formula.{Formula}
 use Rattle.sp_formula.specs.declared.formula.Formula.TheVariants.{OneOf}
-use Rattle.sp_formula.specs.FormulaView.{formula_of, guardeds_of}
+use Rattle.sp_formula.specs.FormulaView.{formula_of}
 use Rattle.sp_formula.proofs.Formulas.{one_shown}
 use Rattle.sp_spec_formula.specs.Split.{is_falsity}
 use Rattle.sp_spec_formula.specs.Disjunction.{without_false, disjunction_of}

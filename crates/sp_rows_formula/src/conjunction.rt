@@ -7,7 +7,7 @@ ghost use Rattle.sp_spec_formula.specs.Split as rows;
 ghost use Rattle.sp_rows_formula.specs.RowsView.{picked_of, position_of};
 ghost use Rattle.sp_system.specs.Reduced.{Reduced};
 
-use sp_formula::formula::{Formula, copy_formulas};
+use sp_formula::formula::Formula;
 use sp_system::spend::spend_for;
 use sp_system::system::System;
 use std::alloc::{AllocError, Global};
@@ -19,7 +19,7 @@ fn parts_of(alloc: Global, formula: &Formula) -> Result<Option<Vec<Formula>>, Al
     match formula {
         Formula::Truth => Ok(Some(Vec::new(alloc))),
         Formula::AllOf(formulas) => {
-            let parts = copy_formulas(alloc, formulas)?;
+            let parts = formulas.clone()?;
             Ok(Some(parts))
         }
         _ => Ok(None),

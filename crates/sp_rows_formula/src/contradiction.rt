@@ -2,7 +2,7 @@
 
 ghost use Rattle.std.specs.Prelude.{◌≡◌, IfOk, map};
 ghost use Rattle.sp_formula.specs.FormulaView.{formula_of};
-ghost use Rattle.sp_system.specs.SystemView.{pair_of};
+ghost use Rattle.sp_unify.specs.View.{pair_view};
 ghost use Rattle.sp_spec_formula.specs.Split as rows;
 ghost use Rattle.sp_spec_formula.specs.InOrder as in_order;
 ghost use Rattle.sp_spec_formula.specs.Unequal as unequal_spec;
@@ -14,7 +14,7 @@ use std::alloc::{AllocError, Global};
 
 /// Whether some pair that is said to be unequal is twice the same term.
 pub fn has_equal_pair(pairs: &Vec<(Term, Term)>) -> bool
-    ensures { result ≡ unequal_spec.has_equal_pair (map pair_of pairs.now.items) }
+    ensures { result ≡ unequal_spec.has_equal_pair (map pair_view pairs.now.items) }
 {
     for pair in pairs {
         if same(&pair.0, &pair.1) {

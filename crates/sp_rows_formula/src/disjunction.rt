@@ -1,8 +1,8 @@
 // Disjunctions.
 
 ghost use Rattle.std.specs.Prelude.{◌≡◌, IfOk, map, option_map};
-ghost use Rattle.sp_spec.specs.Guarded.{one_of};
-ghost use Rattle.sp_formula.specs.FormulaView.{formula_of, guardeds_of};
+ghost use Rattle.sp_spec.specs.Guarded.{one_of, guardeds_of};
+ghost use Rattle.sp_formula.specs.FormulaView.{formula_of};
 ghost use Rattle.sp_system.specs.SystemView.{system_of};
 ghost use Rattle.sp_spec_formula.specs.Disjunction as rows;
 ghost use Rattle.sp_rows_formula.specs.PartsView.{false_of};
@@ -10,7 +10,7 @@ ghost use Rattle.sp_rows_formula.specs.RowsView.{picked_of, position_of};
 ghost use Rattle.sp_system.specs.Reduced.{Reduced};
 
 use crate::contradiction::is_falsity;
-use sp_formula::formula::{Formula, copy_formulas};
+use sp_formula::formula::Formula;
 use sp_formula::same::same_formula;
 use sp_system::spend::spend_for;
 use sp_system::system::System;
@@ -69,13 +69,13 @@ fn position_of_false(parts: &Vec<Formula>) -> Option<usize>
 }
 
 // The parts but the first that is false, if one is.
-fn without_false(alloc: Global, parts: &Vec<Formula>) -> Result<Option<Vec<Formula>>, AllocError>
+fn without_false(parts: &Vec<Formula>) -> Result<Option<Vec<Formula>>, AllocError>
     ensures { IfOk result (λ o. option_map (λ fs. guardeds_of (map formula_of fs.items)) o ≡ rows.without_false (guardeds_of (map formula_of parts.now.items))) }
 {
     let Some(position) = position_of_false(parts) else {
         return Ok(None);
     };
-    let mut kept = copy_formulas(alloc, parts)?;
+    let mut kept = parts.clone()?;
     kept.remove(position);
     Ok(Some(kept))
 }
@@ -104,7 +104,7 @@ fn instead_of_parts(
     if some_known(system, parts) {
         return Ok(Some(Vec::new(alloc)));
     }
-    let Some(kept) = without_false(alloc, parts)? else {
+    let Some(kept) = without_false(parts)? else {
         return Ok(None);
     };
     let mut instead = Vec::new(alloc);

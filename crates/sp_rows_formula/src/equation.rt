@@ -2,7 +2,8 @@
 
 ghost use Rattle.std.specs.Prelude.{◌≡◌, [], ◌∷◌, IfOk, map, option_map};
 ghost use Rattle.sp_formula.specs.FormulaView.{formula_of};
-ghost use Rattle.sp_system.specs.SystemView.{pair_of, system_of};
+ghost use Rattle.sp_unify.specs.View.{pair_view};
+ghost use Rattle.sp_system.specs.SystemView.{system_of};
 ghost use Rattle.sp_spec_formula.specs.Equate as rows;
 ghost use Rattle.sp_rows_formula.specs.EquationView as view;
 ghost use Rattle.sp_rows_formula.specs.RowsView.{position_of};
@@ -21,7 +22,7 @@ use sp_unify::unify::mgu;
 use std::alloc::{AllocError, Global};
 
 /// What is said to be the same.
-#[derive(Debug, Drop)]
+#[derive(Drop)]
 pub enum Equation {
     /// two terms
     Terms((Term, Term)),
@@ -63,7 +64,7 @@ fn first_equation(
 
 // What makes the terms the same, if they have a unifier.
 fn unifier(alloc: Global, pair: (Term, Term)) -> Result<Option<Subst>, AllocError>
-    ensures { IfOk result (λ o. option_map bindings o ≡ mgu (pair_of pair ∷ [])) }
+    ensures { IfOk result (λ o. option_map bindings o ≡ mgu (pair_view pair ∷ [])) }
 {
     let mut pairs = Vec::new(alloc);
     pairs.push(pair)?;
@@ -73,7 +74,7 @@ fn unifier(alloc: Global, pair: (Term, Term)) -> Result<Option<Subst>, AllocErro
 
 // Makes the terms the same throughout, if they have a unifier.
 fn terms_equated(alloc: Global, system: &mut System, pair: (Term, Term)) -> Result<bool, AllocError>
-    ensures { IfOk result (λ b. Reduced b (system_of system.old) (system_of system.new) (rows.equated (system_of system.old) (rows.equal_terms (pair_of pair)))) }
+    ensures { IfOk result (λ b. Reduced b (system_of system.old) (system_of system.new) (rows.equated (system_of system.old) (rows.equal_terms (pair_view pair)))) }
 {
     let Some(subst) = unifier(alloc, pair)? else {
         return Ok(false);

@@ -34,7 +34,7 @@ fn opened_parts(
 }
 
 /// What opening a formula gives.
-#[derive(Debug, Drop)]
+#[derive(Drop)]
 pub struct Opened {
     /// what stands in its place
     pub parts: Vec<Formula>,

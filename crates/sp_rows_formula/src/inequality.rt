@@ -2,7 +2,8 @@
 
 ghost use Rattle.std.specs.Prelude.{◌≡◌, IfOk, OnOk, map, option_map};
 ghost use Rattle.sp_formula.specs.FormulaView.{formula_of};
-ghost use Rattle.sp_system.specs.SystemView.{pair_of, system_of};
+ghost use Rattle.sp_unify.specs.View.{pair_view};
+ghost use Rattle.sp_system.specs.SystemView.{system_of};
 ghost use Rattle.sp_spec_formula.specs.Unequal as unequal_spec;
 ghost use Rattle.sp_rows_formula.specs.RowsView.{position_of, keeping};
 ghost use Rattle.sp_system.specs.Reduced.{Reduced};
@@ -16,7 +17,7 @@ use sp_unify::unify::mgu;
 use std::alloc::{AllocError, Global};
 
 fn inequality_of(alloc: Global, formula: &Formula) -> Result<Option<(Term, Term)>, AllocError>
-    ensures { IfOk result (λ o. option_map pair_of o ≡ unequal_spec.inequality_of (formula_of formula.now)) }
+    ensures { IfOk result (λ o. option_map pair_view o ≡ unequal_spec.inequality_of (formula_of formula.now)) }
 {
     match formula {
         Formula::Fails(Atom::Same(left, right)) => freed_pair(alloc, left, right),
@@ -28,7 +29,7 @@ fn position_of_inequality(
     alloc: Global,
     formulas: &Vec<Formula>,
 ) -> Result<Option<(usize, (Term, Term))>, AllocError>
-    ensures { IfOk result (λ o. option_map (λ p. (p.0, pair_of p.1)) o ≡ position_of unequal_spec.inequality_of (map formula_of formulas.now.items)) }
+    ensures { IfOk result (λ o. option_map (λ p. (p.0, pair_view p.1)) o ≡ position_of unequal_spec.inequality_of (map formula_of formulas.now.items)) }
 {
     for (position, formula) in formulas.iter().enumerate() {
         if let Some(pair) = inequality_of(alloc, formula)? {
@@ -40,7 +41,7 @@ fn position_of_inequality(
 
 // Keeps the pair as an unequal pair, if it has a unifier.
 fn keep(alloc: Global, system: &mut System, pair: (Term, Term)) -> Result<(), AllocError>
-    ensures { OnOk result (system_of system.new ≡ keeping (system_of system.old) (pair_of pair)) }
+    ensures { OnOk result (system_of system.new ≡ keeping (system_of system.old) (pair_view pair)) }
 {
     let mut pairs = Vec::new(alloc);
     pairs.push(pair)?;

@@ -46,7 +46,7 @@ fn instance_by(
 ) -> Result<Option<Formula>, AllocError>
     ensures { IfOk result (λ o. option_map formula_of o ≡ spec.instance_by (map atom_of guard.now.items) (formula_of body.now) (slots_of slots.now)) }
 {
-    let mut messages = slots.messages.copy(alloc)?;
+    let mut messages = slots.messages.clone()?;
     if !by_equalities(alloc, &mut messages, guard)? {
         return Ok(None);
     }

@@ -14,7 +14,7 @@ ghost use Rattle.sp_system.specs.SystemView.{event_of};
 ghost use Rattle.sp_rows_formula.specs.MatchesView as found_by;
 ghost use Rattle.sp_rows_formula.specs.SlotsView.{messages_of, slots_of, put_at};
 
-use crate::slots::{Messages, Slots, copy_times, put_time};
+use crate::slots::{Messages, Slots, put_time};
 use sp_fact::fact::Action;
 use sp_formula::formula::{Atom, Moment};
 use sp_formula::place::{FormulaAction, FormulaTerm, Place};
@@ -22,7 +22,7 @@ use sp_formula::slots::{fill, value_at};
 use sp_system::event::Event;
 use sp_term::apply::{Resolves, resolve};
 use sp_term::matching::{Binds, extend_all};
-use sp_term::term::{Term, Variable, copy, same};
+use sp_term::term::{Term, Variable, same};
 use std::alloc::{AllocError, Global};
 
 // What is bound takes the value of the term beside it, and a variable of the system stands for itself.
@@ -64,7 +64,7 @@ impl Resolves<Place, Variable> for Messages {
     fn value_where(&self, _alloc: Global, leaf: &Place) -> Result<Option<Term>, AllocError> {
         match leaf {
             Place::Bound(place) => match value_at(&self.slots, *place) {
-                Some(value) => Ok(Some(copy(value)?)),
+                Some(value) => Ok(Some(value.clone()?)),
                 None => Ok(None),
             },
             Place::Free(variable) => Ok(Some(Term::Var(*variable))),
@@ -99,11 +99,11 @@ pub fn matched_action(
     if action.symbol != other.symbol {
         return Ok(None);
     }
-    let mut messages = slots.messages.copy(alloc)?;
+    let mut messages = slots.messages.clone()?;
     if !extend_all(&action.args, &other.args, &mut messages)? {
         return Ok(None);
     }
-    let times = copy_times(alloc, &slots.times)?;
+    let times = Vec::from_slice(alloc, &slots.times)?;
     let Some(times) = matched_time(times, moment, time) else {
         return Ok(None);
     };

@@ -11,14 +11,14 @@ ghost use Rattle.sp_rows_formula.specs.InsideView.{inside_of};
 ghost use Rattle.sp_rows_formula.specs.OpeningView.{change_of, put};
 
 use crate::inside::Inside;
-use sp_formula::formula::{Atom, Binder, Formula, Moment, copy_binders};
+use sp_formula::formula::{Atom, Binder, Formula, Moment};
 use sp_formula::place::{FormulaTerm, Place, placed};
 use sp_term::apply::{Assigns, apply};
 use sp_term::term::{Term, Variable};
 use std::alloc::{AllocError, Global};
 
 /// What stands for the variables that binders bind, in the order of the binders: the innermost is the last one.
-#[derive(Debug, Drop)]
+#[derive(Drop)]
 pub struct Values {
     /// for those of messages
     pub messages: Vec<Term>,
@@ -55,7 +55,7 @@ impl<'a> Assigns<Place, Place> for ValuesInside<'a> {
 }
 
 /// New variables for binders.
-#[derive(Debug, Drop)]
+#[derive(Drop)]
 pub struct NewVariables {
     /// what stands for the variables that are bound
     pub values: Values,
@@ -203,6 +203,38 @@ impl Values {
         Ok(made)
     }
 
+    // The existential formula over the body, with the values put into its guard.
+    fn existential(
+        &self,
+        alloc: Global,
+        within: Inside,
+        binders: &Vec<Binder>,
+        guard: &Vec<Atom>,
+        body: Box<Formula>,
+    ) -> Result<Formula, AllocError>
+        ensures { IfOk result (λ f. formula_of f ≡ guarded.some (map binder_of binders.now.items) (map (atom_changed (inside_of within (change_of self.now))) (map atom_of guard.now.items)) (formula_of body.value)) }
+    {
+        let binders = Vec::from_slice(alloc, binders.as_slice())?;
+        let guard = self.atoms_inside(alloc, within, guard)?;
+        Ok(Formula::Exists(binders, guard, body))
+    }
+
+    // The universal formula over the body, with the values put into its guard.
+    fn universal(
+        &self,
+        alloc: Global,
+        within: Inside,
+        binders: &Vec<Binder>,
+        guard: &Vec<Atom>,
+        body: Box<Formula>,
+    ) -> Result<Formula, AllocError>
+        ensures { IfOk result (λ f. formula_of f ≡ guarded.every (map binder_of binders.now.items) (map (atom_changed (inside_of within (change_of self.now))) (map atom_of guard.now.items)) (formula_of body.value)) }
+    {
+        let binders = Vec::from_slice(alloc, binders.as_slice())?;
+        let guard = self.atoms_inside(alloc, within, guard)?;
+        Ok(Formula::ForAll(binders, guard, body))
+    }
+
     #[cycle(formula_inside)]
     fn formula_inside(
         &self,
@@ -227,17 +259,13 @@ impl Values {
             }
             Formula::Exists(binders, guard, body) => {
                 let within = inside.under(binders)?;
-                let binders = copy_binders(alloc, binders)?;
-                let guard = self.atoms_inside(alloc, within, guard)?;
                 let body = self.body_inside(alloc, within, body)?;
-                Ok(Formula::Exists(binders, guard, body))
+                self.existential(alloc, within, binders, guard, body)
             }
             Formula::ForAll(binders, guard, body) => {
                 let within = inside.under(binders)?;
-                let binders = copy_binders(alloc, binders)?;
-                let guard = self.atoms_inside(alloc, within, guard)?;
                 let body = self.body_inside(alloc, within, body)?;
-                Ok(Formula::ForAll(binders, guard, body))
+                self.universal(alloc, within, binders, guard, body)
             }
         }
     }

@@ -7,19 +7,19 @@ ghost use Rattle.sp_spec_formula.specs.Instances as spec;
 ghost use Rattle.sp_rows_formula.specs.SlotsView.{messages_of, slots_of};
 
 use sp_formula::formula::Binder;
-use sp_formula::slots::{Slot, copy_slots};
-use sp_term::term::{Term, copy};
+use sp_formula::slots::Slot;
+use sp_term::term::Term;
 use std::alloc::{AllocError, Global};
 
 /// What a quantifier binds of messages, the innermost first.
-#[derive(Debug, Drop)]
+#[derive(Drop)]
 pub struct Messages {
     /// the slots
     pub slots: Vec<Slot>,
 }
 
 /// What a quantifier binds, the innermost first.
-#[derive(Debug, Drop)]
+#[derive(Drop)]
 pub struct Slots {
     /// the messages
     pub messages: Messages,
@@ -27,33 +27,14 @@ pub struct Slots {
     pub times: Vec<Option<u128>>,
 }
 
-impl Messages {
-    /// Equal slots.
-    ///
-    /// # Errors
-    ///
-    /// `AllocError` where memory is wanting.
-    pub fn copy(&self, alloc: Global) -> Result<Messages, AllocError>
-        ensures { IfOk result (λ s. messages_of s ≡ messages_of self.now) }
-    {
-        let slots = copy_slots(alloc, &self.slots)?;
+impl Clone for Messages {
+    ghost is_clone = { λ m n. messages_of n ≡ messages_of m };
+
+    #[tactic(auto, using(sp_term::proofs::Cloned::cloned))]
+    fn clone(&self) -> Result<Messages, AllocError> {
+        let slots = self.slots.clone()?;
         Ok(Messages { slots })
     }
-}
-
-/// Equal values.
-///
-/// # Errors
-///
-/// `AllocError` where memory is wanting.
-pub fn copy_times(alloc: Global, times: &Vec<Option<u128>>) -> Result<Vec<Option<u128>>, AllocError>
-    ensures { IfOk result (λ xs. xs.items ≡ times.now.items) }
-{
-    let mut made = Vec::with_capacity(alloc, times.len())?;
-    for time in times {
-        made.push(*time)?;
-    }
-    Ok(made)
 }
 
 /// The values of all, if each has one.
@@ -69,7 +50,7 @@ pub fn all_terms(alloc: Global, messages: &Messages) -> Result<Option<Vec<Term>>
         let Some(value) = &slot.value else {
             return Ok(None);
         };
-        made.push(copy(value)?)?;
+        made.push(value.clone()?)?;
     }
     Ok(Some(made))
 }

@@ -1,17 +1,11 @@
--- Terms of which there isn't just one, and applications that are neither over none nor over two.
+-- Applications that are neither over none nor over two.
 use Rattle.std.proofs.Common.{◌≡◌, ℕ, List, [], ◌∷◌, length, None, refl}
 use Rattle.sp_spec.specs.Term.{app}
 use Rattle.sp_spec.specs.Signature.{Symbol}
 use Rattle.sp_term.specs.declared.term.Term.{Term}
 use Rattle.sp_term.specs.declared.term.Variable.{Variable}
 use Rattle.sp_term.specs.View.{view_all}
-use Rattle.sp_spec_graph.specs.SendInput.{only_term}
 use Rattle.sp_spec_graph.specs.SettleLearn.{settling}
-
-pub not_alone : (ts : List (Term Variable)) → (length ts ≡ 1 → ⊥) → only_term (view_all ts) ≡ None
-not_alone [] more = refl
-not_alone (x ∷ []) more = absurd (more refl)
-not_alone (x ∷ y ∷ ts) more = refl
 
 pub neither : (symbols : List Symbol) (i : ℕ) (f : List ℕ) (ts : List (Term Variable)) → (length ts ≡ 0 → ⊥) → (length ts ≡ 2 → ⊥)
     → settling symbols i (app f (view_all ts)) ≡ None

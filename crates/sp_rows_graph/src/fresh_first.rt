@@ -1,6 +1,7 @@
 // Events that use the Fr of a term come before those that have the term.
 
 ghost use Rattle.std.specs.Prelude.{◌≡◌, IfOk, map, option_map, option_and_then};
+ghost use Rattle.sp_spec.specs.Same.{is_part, is_part_of_one};
 ghost use Rattle.sp_term.specs.View.{view, view_all};
 ghost use Rattle.sp_fact.specs.View.{fact_of};
 ghost use Rattle.sp_system.specs.SystemView.{event_of, system_of};
@@ -21,7 +22,7 @@ use std::alloc::{AllocError, Global};
 // Whether the sought term stands in this one.
 #[cycle(occurs)]
 fn has_term(term: &Term, sought: &Term) -> bool
-    ensures { result ≡ rows.occurs_in (view sought.now) (view term.now) }
+    ensures { result ≡ is_part (view sought.now) (view term.now) }
 {
     match term {
         Term::App(_, terms, _) => same(sought, term) || have_term(terms, sought),
@@ -31,7 +32,7 @@ fn has_term(term: &Term, sought: &Term) -> bool
 
 #[cycle(occurs)]
 fn have_term(terms: &Vec<Term>, sought: &Term) -> bool
-    ensures { result ≡ rows.occurs_among (view sought.now) (view_all terms.now.items) }
+    ensures { result ≡ is_part_of_one (view sought.now) (view_all terms.now.items) }
 {
     for term in terms {
         if has_term(term, sought) {

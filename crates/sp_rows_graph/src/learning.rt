@@ -14,7 +14,7 @@ use sp_system::joining::learnt_by_at;
 use sp_system::order::is_before;
 use sp_system::system::System;
 use sp_system::way::Way;
-use sp_term::term::{Term, copy, same};
+use sp_term::term::{Term, same};
 use std::alloc::{AllocError, Global};
 use std::mem;
 
@@ -119,7 +119,7 @@ pub fn add_learning(
         ≡ spec.with_event (system_spec.with_pairs (system_of system.old) ((system.old.next, time) ∷ []))
         (system_spec.learning (view message.now) system_spec.anyhow)) }
 {
-    let message = copy(message)?;
+    let message = message.clone()?;
     let event = Event::learn(alloc, system.next, message, Way::Anyhow)?;
     system.order.push((system.next, time))?;
     add_event(system, event)?;

@@ -1,12 +1,12 @@
 // Terms of events inside of which an equation could be used.
 
 ghost use Rattle.std.specs.Prelude.{◌≡◌, IfOk, map};
-ghost use Rattle.sp_ground.specs.View.{equation_of};
+ghost use Rattle.sp_fact.specs.GroundView.{equation_of};
 ghost use Rattle.sp_system.specs.SystemView.{event_of};
 ghost use Rattle.sp_spec_graph.specs.ReducibleEvent as rows;
 
 use sp_book::reducible::irreducible_facts;
-use sp_ground::signature::Equation;
+use sp_fact::signature::Equation;
 use sp_system::event::Event;
 use std::alloc::{AllocError, Global};
 

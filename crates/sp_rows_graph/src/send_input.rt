@@ -2,7 +2,6 @@
 
 ghost use Rattle.std.specs.Prelude.{◌≡◌, IfOk, OnOk, map, option_map};
 ghost use Rattle.sp_spec.specs.Log.{is_in};
-ghost use Rattle.sp_term.specs.View.{view, view_all};
 ghost use Rattle.sp_fact.specs.View.{fact_of};
 ghost use Rattle.sp_system.specs.SystemView.{event_of, link_of, system_of};
 ghost use Rattle.sp_system.specs.Reduced.{Reduced};
@@ -14,12 +13,13 @@ ghost use Rattle.sp_rows_graph.specs.InputView.{input_of};
 use crate::learning::add_event;
 use sp_fact::fact::Fact;
 use sp_system::event::Event;
+use sp_system::picked::only_term;
 use sp_system::system::{Link, System};
-use sp_term::term::{Term, copy};
+use sp_term::term::Term;
 use std::alloc::{AllocError, Global};
 
 /// A premise In, and its message.
-#[derive(Debug, Drop)]
+#[derive(Drop)]
 pub struct Input {
     /// the time of its event
     pub time: u128,
@@ -48,17 +48,6 @@ pub fn is_linked(links: &Vec<Link>, time: u128, place: usize) -> bool
     false
 }
 
-/// The term, if there is just one.
-pub fn only_term(terms: &Vec<Term>) -> Option<&Term>
-    ensures { option_map (λ t. view t.now) result ≡ rows.only_term (view_all terms.now.items) }
-{
-    if terms.len() == 1 {
-        terms.first()
-    } else {
-        None
-    }
-}
-
 // The premise at the place, if it is an In without a link.
 fn input_at(
     links: &Vec<Link>,
@@ -74,7 +63,7 @@ fn input_at(
     let Some(term) = only_term(&fact.args) else {
         return Ok(None);
     };
-    let message = copy(term)?;
+    let message = term.clone()?;
     Ok(Some(Input {
         time,
         premise: place,

@@ -11,7 +11,7 @@ ghost use Rattle.sp_rows_graph.specs.LearningView.{at_time};
 use crate::learning::{is_unlearnt, learn_before};
 use sp_system::event::{Event, What};
 use sp_system::system::System;
-use sp_term::term::{Term, copy};
+use sp_term::term::Term;
 use std::alloc::{AllocError, Global};
 
 // What is sent at the event.
@@ -38,7 +38,7 @@ fn unlearnt_sending(
     if !is_unlearnt(alloc, system, message, event.time)? {
         return Ok(None);
     }
-    let message = copy(message)?;
+    let message = message.clone()?;
     Ok(Some((message, event.time)))
 }
 

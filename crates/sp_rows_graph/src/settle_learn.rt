@@ -4,7 +4,7 @@ ghost use Rattle.std.specs.Prelude.{◌≡◌, [], IfOk, OnOk, map, option_map};
 ghost use Rattle.sp_spec.specs.Destruction.{is_public};
 ghost use Rattle.sp_spec.specs.Term.{app};
 ghost use Rattle.sp_term.specs.View.{name_of, view, view_all};
-ghost use Rattle.sp_ground.specs.View.{symbol_of};
+ghost use Rattle.sp_fact.specs.GroundView.{symbol_of};
 ghost use Rattle.sp_system.specs.SystemView.{event_of, system_of};
 ghost use Rattle.sp_system.specs.Reduced.{Reduced};
 ghost use Rattle.sp_spec_graph.specs.SettleLearn as rows;
@@ -13,15 +13,15 @@ ghost use Rattle.sp_rows_graph.specs.SettlingView.{settling_of, publicly, made_o
 
 use crate::learning::{learn_before, learn_by};
 use sp_destruct::destruction::may_apply;
-use sp_ground::signature::Symbol;
+use sp_fact::signature::Symbol;
 use sp_system::event::{Event, What};
 use sp_system::system::System;
 use sp_system::way::Way;
-use sp_term::term::{Name, Sort, Term, copy};
+use sp_term::term::{Name, Sort, Term};
 use std::alloc::{AllocError, Global};
 
 /// In which way the message at a time is learnt.
-#[derive(Debug, Drop)]
+#[derive(Drop)]
 pub struct Settling {
     /// the time
     pub time: u128,
@@ -70,8 +70,8 @@ fn made_of_both(
         return Ok(None);
     }
     let mut parts = Vec::with_capacity(alloc, 2)?;
-    parts.push(copy(left)?)?;
-    parts.push(copy(right)?)?;
+    parts.push(left.clone()?)?;
+    parts.push(right.clone()?)?;
     Ok(Some(Settling {
         time,
         way: Way::Constructed,

@@ -6,7 +6,7 @@ use sp_step::moves::Move;
 use sp_system::system::System;
 
 /// A leaf that is not proved yet.
-#[derive(Debug, Drop)]
+#[derive(Drop)]
 pub struct OpenLeaf {
     /// the system to be solved
     pub system: System,
@@ -17,7 +17,7 @@ pub struct OpenLeaf {
 }
 
 /// A node of a proof tree.
-#[derive(Debug, Drop)]
+#[derive(Drop)]
 pub enum Node {
     /// an open leaf
     Open(Box<OpenLeaf>),

@@ -8,7 +8,7 @@ use crate::node::Node;
 use sp_learn::log::Log;
 
 /// A proof tree: its nodes in preorder, each before the trees of its cases.
-#[derive(Debug, Drop)]
+#[derive(Drop)]
 pub struct Tree {
     /// the nodes, of which the first is the root
     pub nodes: Vec<Node>,

@@ -3,15 +3,15 @@
 ghost use Rattle.std.specs.Prelude.{◌≡◌, ◌++◌, IfOk, OnOk, codes, map, string_bytes};
 ghost use Rattle.sp_spec.specs.Term.{app};
 ghost use Rattle.sp_term.specs.View.{name_of};
-ghost use Rattle.sp_ground.specs.View.{given_of, ground_of, grounds_of, step_of};
+ghost use Rattle.sp_fact.specs.GroundView.{given_of, ground_of, grounds_of, step_of};
 ghost use Rattle.sp_spec_text.specs.Printed.{given_text, step_text, term_text};
 ghost use Rattle.sp_spec.specs.Lists.{Every};
 ghost use Rattle.sp_show.specs.Numbers.{HasNames, HaveNames, StepHasNames, numbered_names};
 ghost use Rattle.sp_show.specs.Runs.{given_start};
 
 use crate::term::{write_application, write_term};
-use sp_ground::step::{Given, Step};
-use sp_ground::term::GroundTerm;
+use sp_fact::ground_term::GroundTerm;
+use sp_fact::step::{Given, Step};
 use sp_term::term::Name;
 use std::alloc::{AllocError, Global};
 

@@ -3,12 +3,12 @@
 ghost use Rattle.std.specs.Prelude.{◌≡◌, ◌<◌, ◌^◌, ◌++◌, OnOk, true, codes, decimal, string_bytes};
 ghost use Rattle.sp_spec.specs.Term.{app};
 ghost use Rattle.sp_term.specs.View.{name_of};
-ghost use Rattle.sp_ground.specs.View.{ground_of, grounds_of};
+ghost use Rattle.sp_fact.specs.GroundView.{ground_of, grounds_of};
 ghost use Rattle.sp_spec_text.specs.Printed.{arguments_text, is_pair, term_text, text_at};
 ghost use Rattle.sp_show.specs.Numbers.{HasNames, HaveNames, numbered_names};
 ghost use Rattle.sp_show.specs.Runs.{closing, opening, separator, terms_run};
 
-use sp_ground::term::GroundTerm;
+use sp_fact::ground_term::GroundTerm;
 use sp_term::term::{Name, Term};
 use std::alloc::AllocError;
 

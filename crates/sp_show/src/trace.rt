@@ -1,11 +1,11 @@
 // The texts of actions and traces.
 
 ghost use Rattle.std.specs.Prelude.{◌≡◌, ◌++◌, IfOk, OnOk, map, string_bytes};
-ghost use Rattle.sp_ground.specs.View.{entries_of, ground_action};
+ghost use Rattle.sp_fact.specs.GroundView.{entries_of, ground_action};
 ghost use Rattle.sp_spec_text.specs.Printed.{action_text, entry_text, trace_block};
 
 use crate::term::{write_arguments, write_separator};
-use sp_ground::fact::{GroundAction, Trace};
+use sp_fact::ground_fact::{GroundAction, Trace};
 use std::alloc::{AllocError, Global};
 
 /// Puts the text of the action.

@@ -20,7 +20,7 @@ use Rattle.sp_spec_graph.specs.Chain.{Begun, begun_at, done_case, by_destruction
 use Rattle.sp_spec_proof.specs.Cases.{raw_cases, simple_case, cases}
 use Rattle.sp_spec_proof.specs.Tree.{Tree, node, Branches, no_branch, branch, IsAccepted, AreAccepted}
 use Rattle.sp_spec_proof.specs.Growth.{grown_tree}
-use Rattle.sp_law_tree.proofs.Growing.{grown_tree_accepted}
+use Rattle.sp_spec_proof.proofs.Growing.{grown_tree_accepted}
 use Rattle.sp_moves_formula.specs.Sought.{sought}
 use Rattle.sp_moves_formula.proofs.ByAction.{sought_cases, solves}
 use Rattle.sp_spec_text.specs.Names.{IsName, IsWord}

@@ -4,9 +4,6 @@ use denote.Ref.{Bor}
 use Rattle.std.specs.declared.string.String.{String}
 use Rattle.std.specs.declared.alloc.Global.{Global}
 
-abbrev pub names_of : List (String Global) → List (List ℕ)
-names_of names = map string_bytes names
-
 -- the innermost first, which is the last in memory
 abbrev pub around_of : List (Bor (List (String Global))) → List (List (List ℕ))
-around_of around = reverse (map (λ (names : Bor (List (String Global))). names_of names.now) around)
+around_of around = reverse (map (λ (names : Bor (List (String Global))). map string_bytes names.now) around)

@@ -1,10 +1,10 @@
 // The texts of trees, written node by node.
 
-ghost use Rattle.std.specs.Prelude.{◌≡◌, ◌∷◌, ◌++◌, suc, length, codes, OnOk, IfOk, string_bytes};
+ghost use Rattle.std.specs.Prelude.{◌≡◌, ◌∷◌, ◌++◌, suc, length, map, codes, OnOk, IfOk, string_bytes};
 ghost use Rattle.sp_step.specs.View.{move_of};
 ghost use Rattle.sp_search.specs.NodeView.{node_at};
 ghost use Rattle.sp_search.specs.View.{tree_of};
-ghost use Rattle.sp_skel.specs.AroundView.{around_of, names_of};
+ghost use Rattle.sp_skel.specs.AroundView.{around_of};
 ghost use Rattle.sp_skel.specs.Nodes as nodes;
 ghost use Rattle.sp_skel.specs.Places.{HasPlace, HavePlaces};
 ghost use Rattle.sp_skel.specs.TreeText as spec;
@@ -23,7 +23,7 @@ fn write_case<'a>(
     later: &'a [String],
 ) -> Result<(), AllocError>
     ensures text { OnOk result (string_bytes out.new ≡ string_bytes out.old ++ spec.line (suc (length (around_of around.old.items))) (codes "case " ++ string_bytes name.now)) }
-    ensures around { OnOk result (around_of around.new.items ≡ names_of later.now ∷ around_of around.old.items) }
+    ensures around { OnOk result (around_of around.new.items ≡ map string_bytes later.now ∷ around_of around.old.items) }
 {
     push_names(around, later)?;
     write_line(out, depth(around), "case ", name)
@@ -69,8 +69,8 @@ fn write_move<'a>(
     name: &String,
     later: &'a [String],
 ) -> Result<(), AllocError>
-    ensures text { OnOk result (string_bytes out.new ≡ string_bytes out.old ++ (nodes.over_cases (around_of around.old.items) (move_of chosen.now) (string_bytes name.now) (names_of later.now)).0) }
-    ensures around { OnOk result (around_of around.new.items ≡ (nodes.over_cases (around_of around.old.items) (move_of chosen.now) (string_bytes name.now) (names_of later.now)).1) }
+    ensures text { OnOk result (string_bytes out.new ≡ string_bytes out.old ++ (nodes.over_cases (around_of around.old.items) (move_of chosen.now) (string_bytes name.now) (map string_bytes later.now)).0) }
+    ensures around { OnOk result (around_of around.new.items ≡ (nodes.over_cases (around_of around.old.items) (move_of chosen.now) (string_bytes name.now) (map string_bytes later.now)).1) }
     ensures place { OnOk result (HasPlace (move_of chosen.now)) }
 {
     let words = move_text(alloc, chosen)?;

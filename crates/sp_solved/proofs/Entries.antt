@@ -7,7 +7,8 @@ use Rattle.sp_spec_system.specs.System.{Event, Link}
 use Rattle.sp_learn.specs.View.{entry_of}
 use Rattle.sp_learn.specs.declared.log.Entry.{Entry}
 use Rattle.sp_solved.specs.Candidate as spec
-use Rattle.sp_solved.proofs.Firsts.{behind, first_put}
+use Rattle.sp_spec.proofs.Options.{behind}
+use Rattle.sp_solved.proofs.Firsts.{first_put}
 
 pub entry_put : (listed : List Event) (links : List Link) (v : Values) (events others : List Event) (e : Event) (made now : List Entry) (d : Entry) (sources : List log.Source) (target : Option (List log.Entry))
     → events ≡ e ∷ others → Some sources ≡ spec.event_sources listed links e → entry_of d ≡ spec.entry_at listed v e.happening sources → now ≡ made ++ d ∷ []

@@ -1,9 +1,6 @@
 -- Lists that are made of one element after the other, as long as each is there.
 use Rattle.std.proofs.Common.{◌≡◌, List, [], ◌∷◌, ◌++◌, Option, Some, None, option_map, option_and_then, refl, sym, ap, ◌∙◌, append_assoc}
-
--- those that are there, and then these
-abbrev pub behind : {A : Type 0} → List A → Option (List A) → Option (List A)
-behind there o = option_map (λ xs. there ++ xs) o
+use Rattle.sp_spec.proofs.Options.{behind}
 
 -- what is made of the first, and then the rest
 abbrev pub with_first : {A B : Type 0} → (B → A) → Option (List A) → Option B → Option (List A)

@@ -7,7 +7,8 @@ use Rattle.sp_system.specs.SystemView.{event_of}
 use Rattle.sp_system.specs.declared.event.Event.{Event}
 use Rattle.sp_solved.specs.Listing.{first_free, one_by_one}
 use Rattle.sp_solved.specs.ListingView.{events_of}
-use Rattle.sp_solved.proofs.Firsts.{behind, regrouped}
+use Rattle.sp_spec.proofs.Options.{behind}
+use Rattle.sp_solved.proofs.Firsts.{regrouped}
 use Rattle.sp_system.proofs.Turns.{one_less}
 
 abbrev in_round : (List spec.Event → Option (List spec.Event)) → Option (spec.Event × List spec.Event) → Option (List spec.Event)

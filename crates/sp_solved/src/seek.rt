@@ -3,7 +3,7 @@
 ghost use Rattle.std.specs.Prelude.{◌≡◌, IfOk, map, option_map};
 ghost use Rattle.sp_term.specs.View.{name_of};
 ghost use Rattle.sp_formula.specs.FormulaView.{formula_of};
-ghost use Rattle.sp_ground.specs.View.{signature_of};
+ghost use Rattle.sp_fact.specs.GroundView.{signature_of};
 ghost use Rattle.sp_book.specs.View.{rule_forms_of};
 ghost use Rattle.sp_system.specs.SystemView.{system_of};
 ghost use Rattle.sp_learn.specs.Checking as checking;
@@ -13,8 +13,8 @@ ghost use Rattle.sp_solved.specs.Found as spec;
 use crate::suggest::candidate;
 use sp_book::form::RuleForms;
 use sp_eval::truth::holds;
+use sp_fact::signature::Signature;
 use sp_formula::formula::Formula;
-use sp_ground::signature::Signature;
 use sp_learn::check::{Checked, check_log};
 use sp_learn::log::Log;
 use sp_learn::trace::whole_trace;

@@ -8,7 +8,7 @@ ghost use Rattle.sp_term.specs.View.{name_of, view};
 ghost use Rattle.sp_fact.specs.View.{fact_of, facts_of};
 ghost use Rattle.sp_formula.specs.FormulaView.{formula_of};
 ghost use Rattle.sp_law_equal.specs.Matching.{value_in};
-ghost use Rattle.sp_ground.specs.View.{ground_of};
+ghost use Rattle.sp_fact.specs.GroundView.{ground_of};
 ghost use Rattle.sp_norm.specs.Bounds.{bounds};
 ghost use Rattle.sp_system.specs.SystemView.{event_of, link_of, system_of};
 ghost use Rattle.sp_system.specs.WayView.{way_of, done_of};
@@ -21,8 +21,8 @@ ghost use Rattle.sp_solved.specs.Candidate as spec;
 use crate::listing::in_order;
 use crate::naming::named;
 use sp_fact::fact::{Fact, Facts};
+use sp_fact::ground_term::GroundTerm;
 use sp_formula::formula::{Atom, Formula, Moment};
-use sp_ground::term::GroundTerm;
 use sp_learn::log::{Entry, How, Log};
 use sp_log::log::{Entry as StepEntry, Source};
 use sp_norm::instance::{facts_value, value};
@@ -324,7 +324,7 @@ fn step(
     ensures { IfOk result (λ e. steps.entry_of e
         ≡ spec_log.step (name_of rule.now) (facts_at (value_in (bounds values.now)) (facts_of facts.now)) (map source_of sources.items)) }
 {
-    let rule = rule.copy()?;
+    let rule = rule.clone()?;
     let facts = facts_value(alloc, values, facts)?;
     Ok(StepEntry {
         rule,

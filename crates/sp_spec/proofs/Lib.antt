@@ -14,3 +14,4 @@ pub mod Matching
 pub mod Bindings
 pub mod Standing
 pub mod Logs
+pub mod Guardeds

@@ -1,5 +1,5 @@
 -- What an option is made of where it is there, and what follows where a result is.
-use Rattle.std.proofs.Common.{◌≡◌, Bool, true, false, if◌then◌else◌, Option, Some, None, option_map, option_and_then, Result, Ok, Err, IfOk, OnOk, refl}
+use Rattle.std.proofs.Common.{◌≡◌, Bool, true, false, if◌then◌else◌, List, ◌++◌, Option, Some, None, option_map, option_and_then, Result, Ok, Err, IfOk, OnOk, refl}
 
 pub some_same : {A : Type 0} (x y : A) → Some x ≡ Some y → y ≡ x
 some_same x y e = let g : y ≡ x = cc in g
@@ -28,3 +28,7 @@ ok_so (Err e) P Q h k = k
 pub on_so : {T E : Type 0} (r : Result T E) (P Q : Type 0) → (P → Q) → OnOk r P → OnOk r Q
 on_so (Ok x) P Q h k = h k
 on_so (Err e) P Q h k = k
+
+-- these, and then those that are there
+abbrev pub behind : {A : Type 0} → List A → Option (List A) → Option (List A)
+behind front o = option_map (λ rest. front ++ rest) o

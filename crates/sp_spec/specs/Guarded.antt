@@ -46,6 +46,15 @@ mutual
     no_more : Guardeds
     and_then : Guarded → Guardeds → Guardeds
 
+-- the parts of a conjunction or a disjunction, as a list, and of a list
+abbrev pub parts_of : Guardeds → List Guarded
+parts_of no_more = []
+parts_of (and_then g gs) = g ∷ parts_of gs
+
+abbrev pub guardeds_of : List Guarded → Guardeds
+guardeds_of [] = no_more
+guardeds_of (g ∷ gs) = and_then g (guardeds_of gs)
+
 -- values of the system's variables and of what is bound
 pub record Assignment : Type 0 where
   pub terms : Values

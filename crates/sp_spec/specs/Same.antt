@@ -1,5 +1,5 @@
 -- Tests of equality, as an algorithm runs them.
-use Rattle.std.specs.Prelude.{Bool, true, false, ◌&&◌, ◌==◌}
+use Rattle.std.specs.Prelude.{Bool, true, false, ◌&&◌, ◌||◌, ◌==◌}
 use Rattle.std.specs.Str.{bytes_eq}
 use Rattle.sp_spec.specs.Term.{Sort, Msg, Fresh, Pub, Variable, Term, var, constant, name, app, Terms, none, more, Ground, Grounds}
 
@@ -42,3 +42,13 @@ alike t u = same_by same_variable t u
 
 abbrev pub alike_all : Terms Variable → Terms Variable → Bool
 alike_all ts us = same_all_by same_variable ts us
+
+-- whether the first term is the second or stands in it
+abbrev mutual
+  pub is_part : Term Variable → Term Variable → Bool
+  is_part r (app f ts) = alike r (app f ts) || is_part_of_one r ts
+  is_part r t = alike r t
+
+  pub is_part_of_one : Term Variable → Terms Variable → Bool
+  is_part_of_one r none = false
+  is_part_of_one r (more t ts) = is_part r t || is_part_of_one r ts

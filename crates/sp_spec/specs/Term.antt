@@ -127,6 +127,11 @@ abbrev pub count : {V : Type 0} → Terms V → ℕ
 count none = 0
 count (more t ts) = suc (count ts)
 
+-- each by itself
+abbrev pub list_of : {V : Type 0} → Terms V → List (Term V)
+list_of none = []
+list_of (more t ts) = t ∷ list_of ts
+
 -- one after the other
 abbrev pub joined : {V : Type 0} → Terms V → Terms V → Terms V
 joined none us = us

@@ -1,9 +1,9 @@
 -- Split: a conjunction. Source: CSF 2012, "Constraint solving" (the rules on formulas).
 -- The elementary move and its contradiction: falsity is among the formulas.
 use Rattle.std.specs.Prelude.{List, [], ◌∷◌, Option, Some, None, option_map, Bool, true, false, ◌||◌}
-use Rattle.sp_spec.specs.Guarded.{Guarded, truth, all_of, falsity}
+use Rattle.sp_spec.specs.Guarded.{Guarded, truth, all_of, falsity, parts_of}
 use Rattle.sp_spec_system.specs.System.{System}
-use Rattle.sp_spec_system.specs.Formulas.{first_formula, parts_of, spending}
+use Rattle.sp_spec_system.specs.Formulas.{first_formula, spending}
 
 -- Split: the parts of a conjunction stand in its place, and truth has none.
 abbrev pub split_of : Guarded → Option (List Guarded)

@@ -1,8 +1,8 @@
 -- Fresh comes first: who uses the Fr of a term is before all that have the term. Source: CSF 2012, "Constraint solving" (fresh names are
 -- unique and have one origin).
 use Rattle.std.specs.Prelude.{◌||◌, Bool, false, ◌&&◌, ◌==◌, not, List, [], ◌∷◌, ℕ, if◌then◌else◌, Option, option_map}
-use Rattle.sp_spec.specs.Term.{Variable, Term, var, constant, name, app, Terms, none, more}
-use Rattle.sp_spec.specs.Same.{alike}
+use Rattle.sp_spec.specs.Term.{Variable, Term}
+use Rattle.sp_spec.specs.Same.{is_part, is_part_of_one}
 use Rattle.sp_spec.specs.Rule.{Fact}
 use Rattle.sp_spec.specs.Log.{is_fr}
 use Rattle.sp_spec_system.specs.System.{Happening, rule_step, sending, learning, Event, happening_premises, System, with_pairs}
@@ -13,23 +13,12 @@ use Rattle.sp_spec_system.specs.Picked.{if_any, first_some}
 -- Fresh comes first: an event that uses the Fr of a term, be it as a name of the adversary's own, is before each event, itself included, that has the
 -- term in a premise other than an Fr, and before each other event that learns a message with the term. (Of two events with one Fr, fresh once makes one, and
 -- of two that learn one message learn once.) All that is missing for one Fr is added at once.
-abbrev mutual
-  pub occurs_in : Term Variable → Term Variable → Bool
-  occurs_in t (var x) = alike t (var x)
-  occurs_in t (constant c) = alike t (constant c)
-  occurs_in t (name n) = alike t (name n)
-  occurs_in t (app f us) = alike t (app f us) || occurs_among t us
-
-  pub occurs_among : Term Variable → Terms Variable → Bool
-  occurs_among t none = false
-  occurs_among t (more u us) = occurs_in t u || occurs_among t us
-
 abbrev pub has_taken : Term Variable → List (Fact Variable) → Bool
 has_taken t [] = false
-has_taken t (f ∷ fs) = (not (is_fr f) && occurs_among t f.args) || has_taken t fs
+has_taken t (f ∷ fs) = (not (is_fr f) && is_part_of_one t f.args) || has_taken t fs
 
 abbrev pub has_learnt : Term Variable → Happening → Bool
-has_learnt t (learning m way) = occurs_in t m
+has_learnt t (learning m way) = is_part t m
 has_learnt t (sending m) = false
 has_learnt t (rule_step r facts) = false
 

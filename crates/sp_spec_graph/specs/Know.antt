@@ -10,12 +10,12 @@ use Rattle.sp_spec_forms.specs.Numbering.{Form}
 use Rattle.sp_spec_forms.specs.Forms.{RuleForms}
 use Rattle.sp_spec_system.specs.System.{Way, anyhow, own_name, constructed, chain_begun, Happening, learning, Event, System, with_events, with_pairs, with_next}
 use Rattle.sp_spec_system.specs.MakingOne.{learnt_by_at, event_at}
+use Rattle.sp_spec_system.specs.Picked.{only_term}
 use Rattle.sp_spec_system.specs.Cases.{renamed, system_if, named}
 use Rattle.sp_spec_system.specs.Move.{Case}
 use Rattle.sp_spec_system.specs.Rules.{Rules}
 use Rattle.sp_spec_formula.specs.Action.{with_step}
 use Rattle.sp_spec_graph.specs.Learning.{with_event}
-use Rattle.sp_spec_graph.specs.SendInput.{only_term}
 use Rattle.sp_spec_graph.specs.SettleLearn.{settling}
 
 -- ---- what is asked for

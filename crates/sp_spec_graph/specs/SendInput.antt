@@ -1,11 +1,11 @@
 -- Send for an In premise: what a premise In takes the adversary sends before. Source: CSF 2012, "Constraint solving" (premises of protocol rules).
-use Rattle.std.specs.Prelude.{ℕ, suc, not, ◌&&◌, if◌then◌else◌, List, [], ◌∷◌, ◌++◌, Option, Some, None, option_map}
+use Rattle.std.specs.Prelude.{ℕ, suc, not, ◌&&◌, if◌then◌else◌, List, [], ◌∷◌, ◌++◌, Option, None, option_map}
 use Rattle.std.specs.Option.{option_or}
-use Rattle.sp_spec.specs.Term.{Variable, Term, Terms, none, more}
+use Rattle.sp_spec.specs.Term.{Variable, Term}
 use Rattle.sp_spec.specs.Rule.{Fact}
 use Rattle.sp_spec.specs.Log.{is_in}
 use Rattle.sp_spec_system.specs.System.{sending, Event, Link, System, happening_premises, with_links, with_pairs}
-use Rattle.sp_spec_system.specs.Picked.{first_some}
+use Rattle.sp_spec_system.specs.Picked.{first_some, only_term}
 use Rattle.sp_spec_graph.specs.Learning.{with_event}
 use Rattle.sp_spec_graph.specs.Premise.{is_linked}
 
@@ -14,10 +14,6 @@ pub record Input : Type 0 where
   pub time : ℕ
   pub premise : ℕ
   pub message : Term Variable
-
-abbrev pub only_term : Terms Variable → Option (Term Variable)
-only_term (more t none) = Some t
-only_term ts = None
 
 abbrev pub input_at : List Link → ℕ → ℕ → Fact Variable → Option Input
 input_at links i p f =

@@ -1,2 +1,4 @@
 pub mod Chosen
+pub mod Growing
 pub mod Logs
+pub mod TreeLogs

@@ -1,7 +1,7 @@
 -- The formulas of a system: their terms, and the first formula of which something is picked.
 use Rattle.std.specs.Prelude.{Option, Some, None, option_map, option_and_then, List, ◌∷◌, [], ◌++◌}
 use Rattle.sp_spec.specs.Term.{Variable, Term, var, Terms, valued_where, valued_all_where}
-use Rattle.sp_spec.specs.Guarded.{Place, free, bound, Guarded, Guardeds, no_more, and_then}
+use Rattle.sp_spec.specs.Guarded.{Place, free, bound, Guarded}
 use Rattle.sp_spec.specs.Rule.{Action}
 use Rattle.sp_spec_system.specs.System.{System, with_formulas, with_spent}
 use Rattle.sp_spec.specs.Unifier.{Pair}
@@ -19,11 +19,6 @@ freed_all ts = valued_all_where freed_place ts
 
 abbrev pub freed_action : Action Place → Option (Action Variable)
 freed_action a = option_map (λ us. record { symbol = a.symbol; args = us }) (freed_all a.args)
-
--- the parts of a conjunction or a disjunction
-abbrev pub parts_of : Guardeds → List Guarded
-parts_of no_more = []
-parts_of (and_then f fs) = f ∷ parts_of fs
 
 -- the first formula of which something is picked, with what stands before and behind it
 pub record Found (A : Type 0) : Type 0 where

@@ -1,6 +1,6 @@
 -- The moves of a proof, and what a proof is made in. Source: Tamarin manual, "Proofs"; CSF 2012, "Constraint solving" (case distinctions on a
 -- disjunction, on the rules that may have done an action or given a premise, and on how a message is learnt).
-use Rattle.std.specs.Prelude.{ℕ, List, Option, option_and_then}
+use Rattle.std.specs.Prelude.{ℕ, List, map, Option, option_and_then}
 use Rattle.sp_spec.specs.Guarded.{Guarded}
 use Rattle.sp_spec.specs.Log.{Log}
 use Rattle.sp_spec_system.specs.System.{System}
@@ -43,3 +43,7 @@ end_log context s = option_and_then (λ (r : Root). context.found s) context.roo
 pub record Case : Type 0 where
   pub name : List ℕ
   pub system : System
+
+-- the systems of cases
+abbrev pub systems_in : List Case → List System
+systems_in cs = map (λ c. c.system) cs

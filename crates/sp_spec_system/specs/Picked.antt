@@ -1,6 +1,7 @@
--- What is picked from a list: the first of its elements, or the first two, of a kind.
+-- What is picked from a list: the first of its elements, or the first two, of a kind; or the only one.
 use Rattle.std.specs.Prelude.{Bool, if◌then◌else◌, List, [], ◌∷◌, Option, Some, None, ℕ, ◌||◌, false}
 use Rattle.std.specs.Option.{option_or}
+use Rattle.sp_spec.specs.Term.{Variable, Term, Terms, none, more}
 
 -- the first two, in the order of the list
 abbrev pub first_with : {A : Type 0} → (A → A → Bool) → A → List A → Option (A × A)
@@ -27,3 +28,8 @@ some_with test l (m ∷ ms) = test l m || some_with test l ms
 abbrev pub some_two : {A : Type 0} → (A → A → Bool) → List A → Bool
 some_two test [] = false
 some_two test (l ∷ ls) = some_with test l ls || some_two test ls
+
+-- the term, if it is the only one
+abbrev pub only_term : Terms Variable → Option (Term Variable)
+only_term (more t none) = Some t
+only_term ts = None

@@ -2,11 +2,11 @@
 use Rattle.std.proofs.Common.{◌≡◌, List, [], ◌∷◌, ◌++◌, map, Option, length, refl, sym, ap, ◌∙◌, arith}
 use Rattle.std.proofs.lemmas.List.{map-append}
 use Rattle.sp_spec.specs.Theory.{Lemma}
-use Rattle.sp_spec.specs.Signature.{pair_symbols, pair_equations}
+use Rattle.sp_spec.specs.Signature.{pair_symbols}
 use Rattle.sp_spec.specs.Written.{WrittenRule, WrittenTheory}
 use Rattle.std.specs.List.{flat_map}
 use Rattle.sp_spec.specs.Signature.{Symbol}
-use Rattle.sp_spec_text.specs.Written.{WrittenProof, Item, builtins_item, functions_item, equations_item, rule_item, lemma_item, item_builtins, item_functions, item_equations, item_rules, item_lemmas, WrittenText, builtins_in, functions_in, equations_in, rules_in, lemmas_with_proofs, without_proofs, lemmas_in, proofs_in, with_proofs}
+use Rattle.sp_spec_text.specs.Written.{WrittenProof, Item, builtins_item, functions_item, equations_item, rule_item, lemma_item, item_builtins, item_functions, item_equations, item_rules, item_lemmas, WrittenText, rules_in, lemmas_with_proofs, without_proofs, lemmas_in, proofs_in, with_proofs}
 use Rattle.sp_spec_text.specs.Declared.{declared_symbols, all_symbols, new_symbols, declared_equations, added_equations, their_equations, resolved_item, resolved, theory_in}
 
 pub lemmas_begin : (x : Item) (items : List Item) → lemmas_in (x ∷ items) ≡ without_proofs (item_lemmas x) ++ lemmas_in items

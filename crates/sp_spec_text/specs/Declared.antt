@@ -5,7 +5,7 @@ use Rattle.std.specs.Prelude.{ℕ, suc, Bool, true, false, not, ◌&&◌, ◌||�
 use Rattle.std.specs.List.{flat_map}
 use Rattle.std.specs.Str.{bytes_eq}
 use Rattle.sp_spec.specs.Lists.{is_listed}
-use Rattle.sp_spec.specs.Term.{Sort, Msg, Fresh, Pub, Variable, Term, var, app, Terms, none, more, valued, in_term}
+use Rattle.sp_spec.specs.Term.{Sort, Msg, Pub, Variable, Term, var, app, Terms, none, more, valued, in_term}
 use Rattle.sp_spec.specs.Same.{alike}
 use Rattle.sp_spec.specs.Signature.{Symbol, Equation, msg, pair_symbols, pair_equations}
 use Rattle.sp_spec.specs.Rule.{action_at, facts_at}

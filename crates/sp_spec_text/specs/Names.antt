@@ -31,7 +31,7 @@ abbrev pub is_capital : List ℕ → Bool
 is_capital [] = false
 is_capital (b ∷ bytes) = is_ascii_uppercase b
 
--- the action of learning, of which no theory speaks so far
+-- the action of what the adversary learns, which names no fact in the grammar so far
 unfoldable pub is_learning : List ℕ → Bool
 is_learning w = bytes_eq w (codes "KU")
 

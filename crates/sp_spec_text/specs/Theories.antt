@@ -1,4 +1,4 @@
--- The grammar of theories without an adversary, line by line: which tokens spell which theory. `SpellsX tokens x rest` says that the tokens
+-- The grammar of theories, line by line: which tokens spell which theory. `SpellsX tokens x rest` says that the tokens
 -- begin with a spelling of x, and that the rest follows. Facts and formulas stand in Formulas.antt, proofs in
 -- Proofs.antt. Source: Tamarin manual, "Syntax description".
 use Rattle.std.specs.Prelude.{◌≡◌, ℕ, Bool, true, false, List, [], ◌∷◌, ◌++◌, Option, Some, None, codes}

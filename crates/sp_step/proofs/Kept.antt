@@ -16,7 +16,7 @@ use Rattle.sp_spec_system.specs.Rules.{Rules}
 use Rattle.sp_spec_system.specs.Formulas.{first_formula, spending}
 use Rattle.sp_spec_system.specs.MakingOne.{happening_by, learnt_by_at}
 use Rattle.sp_spec_system.specs.Order.{is_before, is_cyclic}
-use Rattle.sp_spec_system.specs.Picked.{first_some}
+use Rattle.sp_spec_system.specs.Picked.{first_some, only_term}
 use Rattle.sp_spec_formula.specs.Split.{split_of, has_falsity}
 use Rattle.sp_spec_formula.specs.Open.{existential_of, opened_at}
 use Rattle.sp_spec_formula.specs.Unequal.{inequality_of, unequal_at, has_equal_pair}
@@ -27,7 +27,7 @@ use Rattle.sp_spec_formula.specs.Instantiate.{new_instance, with_formula}
 use Rattle.sp_spec_graph.specs.ReducibleEvent.{has_reducible}
 use Rattle.sp_spec_graph.specs.Learning.{learning_of, is_unlearnt, learnt_from, learnt_before}
 use Rattle.sp_spec_graph.specs.Premise.{is_linked}
-use Rattle.sp_spec_graph.specs.SendInput.{Input, only_term, input_at, input_from, open_input, with_sending}
+use Rattle.sp_spec_graph.specs.SendInput.{Input, input_at, input_from, open_input, with_sending}
 use Rattle.sp_spec_graph.specs.SendLearnt.{sent, if_unlearnt, unlearnt_sending}
 use Rattle.sp_spec_graph.specs.SettleLearn.{Settling, of_sort_pub, made_of, settling, settling_of, settled_event, each_learnt_before, with_settling}
 use Rattle.sp_spec_graph.specs.FreshFirst.{missing_behind}

@@ -2,7 +2,7 @@
 use Rattle.std.specs.Prelude.{map, Some, [], ◌∷◌}
 use Rattle.sp_term.specs.View.{name_of}
 use Rattle.sp_formula.specs.FormulaView.{formula_of}
-use Rattle.sp_ground.specs.View.{signature_of}
+use Rattle.sp_fact.specs.GroundView.{signature_of}
 use Rattle.sp_solved.specs.Found.{found}
 use Rattle.sp_spec_system.specs.Move as spec
 use Rattle.sp_step.specs.declared.context.Context.{Context}

@@ -1,7 +1,7 @@
 // The cases of a move, simplified, or why it is no instance.
 
 ghost use Rattle.std.specs.Prelude.{◌≡◌, IfOk, map, option_map};
-ghost use Rattle.sp_ground.specs.View.{symbol_of};
+ghost use Rattle.sp_fact.specs.GroundView.{symbol_of};
 ghost use Rattle.sp_system.specs.SystemView.{system_of};
 ghost use Rattle.sp_spec_proof.specs.Cases as spec;
 ghost use Rattle.sp_moves_formula.specs.Applied.{clause_of, cases_of, failing};
@@ -12,7 +12,7 @@ ghost use Rattle.sp_step.specs.WhyNot.{IsAsked, why_not, where_none};
 
 use crate::context::Context;
 use crate::moves::{Move, cases};
-use sp_ground::signature::Symbol;
+use sp_fact::signature::Symbol;
 use sp_moves_formula::apply as formula;
 pub use sp_moves_formula::apply::{Applied, Clause};
 use sp_moves_graph::apply as graph;

@@ -7,7 +7,7 @@ ghost use Rattle.sp_step.specs.View.{context_of, rules_of};
 ghost use Rattle.sp_spec_system.specs.Move.{end_log};
 
 use sp_book::book::RuleBook;
-use sp_ground::signature::Signature;
+use sp_fact::signature::Signature;
 use sp_learn::log::Log;
 use sp_solved::{Sought, found};
 use sp_system::system::System;

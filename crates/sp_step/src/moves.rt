@@ -29,7 +29,7 @@ fn unsimplified(
         return Ok(None);
     }
     let name = String::new(alloc);
-    let system = system.copy(alloc)?;
+    let system = system.clone()?;
     let mut made = Vec::new(alloc);
     made.push(Case { name, system })?;
     Ok(Some(made))

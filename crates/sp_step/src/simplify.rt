@@ -49,7 +49,7 @@ pub fn by_rows(alloc: Global, rules: &Rules, system: &mut System) -> Result<Opti
 pub fn is_reducible(alloc: Global, rules: &Rules, system: &System) -> Result<bool, AllocError>
     ensures { IfOk result (λ b. b ≡ is_some (rows.by_rows (rules_of rules.now) rows.rows (system_of system.now))) }
 {
-    let mut tried = system.copy(alloc)?;
+    let mut tried = system.clone()?;
     let row = by_rows(alloc, rules, &mut tried)?;
     Ok(row.is_some())
 }

@@ -21,7 +21,7 @@ pub enum Argument {
 }
 
 /// The words of a move.
-#[derive(Debug, Drop)]
+#[derive(Drop)]
 pub enum Words {
     /// a word alone
     Method(&'static str),

@@ -4,8 +4,8 @@ pub mod Paths
 pub mod WithoutSinks
 pub mod EndsKept
 pub mod Spends
-pub mod Listed
 pub mod MergingSearches
 pub mod MergingPlaces
 pub mod Merges
 pub mod Turns
+pub mod OnlyOne

@@ -1,12 +1,14 @@
 -- Pairs of two lists, element by element, as a loop gathers them.
 use Rattle.std.proofs.Common.{◌≡◌, suc, List, [], ◌∷◌, ◌++◌, map, length, Bool, true, false, ◌&&◌, if◌then◌else◌, Option, Some, None, option_map, refl, sym, ap, ap₂, ◌∙◌, append_assoc, append-nil, ◌⊎◌, inl, inr, arith}
 use Rattle.std.specs.Str.{bytes_eq}
+use Rattle.std.specs.List.{AllZip}
 use Rattle.sp_spec.specs.Unifier.{Pair}
 use Rattle.sp_term.specs.View.{view, view_all}
 use Rattle.sp_term.specs.declared.term.Term.{Term}
 use Rattle.sp_term.specs.declared.term.Variable.{Variable}
 use Rattle.sp_spec_forms.specs.Alike.{same_flag}
 use Rattle.sp_spec_system.specs.Equating.{argument_pairs, both_pairs, common_pairs, fact_pairs, action_pair, action_pairs, fact_pair}
+use Rattle.sp_unify.specs.View.{pair_view}
 use Rattle.sp_fact.specs.View.{fact_of, action_of}
 use Rattle.sp_fact.specs.declared.fact.Fact.{Fact}
 use Rattle.sp_fact.specs.declared.fact.Action.{Action}
@@ -122,3 +124,10 @@ common_end made all [] right h e = sym (append-nil made) ∙ e
 common_end made all (t ∷ ts) [] h e = sym (append-nil made) ∙ e
 common_end made all (t ∷ ts) (u ∷ us) (inl h) e = absurd cc
 common_end made all (t ∷ ts) (u ∷ us) (inr h) e = absurd cc
+
+-- clones of pairs are the same pairs
+pub cloned_pairs : (ps qs : List (Term Variable × Term Variable)) → AllZip (λ p q. (view q.0 ≡ view p.0) × (view q.1 ≡ view p.1)) ps qs → map pair_view qs ≡ map pair_view ps
+cloned_pairs [] [] h = refl
+cloned_pairs [] (q ∷ qs) h = absurd h
+cloned_pairs (p ∷ ps) [] h = absurd h
+cloned_pairs (p ∷ ps) (q ∷ qs) h = let e = cloned_pairs ps qs h.1 in let d = h.0 in let l = d.0 in let r = d.1 in cc

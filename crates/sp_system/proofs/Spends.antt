@@ -7,7 +7,8 @@ use Rattle.sp_spec_system.specs.System as spec
 use Rattle.sp_formula.specs.declared.formula.Formula.{Formula}
 use Rattle.sp_system.specs.declared.system.System.{System}
 use Rattle.sp_formula.specs.FormulaView.{formula_of}
-use Rattle.sp_system.specs.SystemView.{event_of, pair_of, link_of, system_of}
+use Rattle.sp_unify.specs.View.{pair_view}
+use Rattle.sp_system.specs.SystemView.{event_of, link_of, system_of}
 use Rattle.sp_system.specs.SpendView.{spending_at}
 
 pub as_many : (m s : System) → system_of m ≡ system_of s → length m.formulas.items ≡ length s.formulas.items
@@ -32,9 +33,9 @@ put_between fs gs k =
 
 pub spends_one : (m : System) (fs gs spent : List Formula) (k : ℕ) (f : Formula) → k < length m.formulas.items → f ≡ slice_index_or (drop k m.formulas.items) 0 f
     → fs ≡ (take k m.formulas.items ++ gs) ++ remove (drop k m.formulas.items) 0 → spent ≡ m.spent.items ++ f ∷ []
-    → (record { events = map event_of m.events.items; formulas = map formula_of fs; spent = map formula_of spent; unequal = map pair_of m.unequal.items; links = map link_of m.links.items; order = m.order.items; next = m.next }) ≡ spending_at (system_of m) k (map formula_of gs)
+    → (record { events = map event_of m.events.items; formulas = map formula_of fs; spent = map formula_of spent; unequal = map pair_view m.unequal.items; links = map link_of m.links.items; order = m.order.items; next = m.next }) ≡ spending_at (system_of m) k (map formula_of gs)
 spends_one m fs gs spent k f h is built grown =
-    let made : List Guarded → List Guarded → spec.System = λ xs ys. record { events = map event_of m.events.items; formulas = xs; spent = ys; unequal = map pair_of m.unequal.items; links = map link_of m.links.items; order = m.order.items; next = m.next } in
+    let made : List Guarded → List Guarded → spec.System = λ xs ys. record { events = map event_of m.events.items; formulas = xs; spent = ys; unequal = map pair_view m.unequal.items; links = map link_of m.links.items; order = m.order.items; next = m.next } in
     ap₂ made
     (ap (map formula_of) built ∙ put_between m.formulas.items gs k)
     (ap (map formula_of) grown ∙ map-append formula_of m.spent.items (f ∷ []) ∙ ap (λ (xs : List Guarded). map formula_of m.spent.items ++ xs) (one_there m.formulas.items k f h is))

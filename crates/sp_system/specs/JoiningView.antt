@@ -5,10 +5,11 @@ use Rattle.sp_spec_system.specs.Equating.{Merging, order_changed}
 use Rattle.sp_spec_system.specs.MakingOne.{at_times, happening_by, merging_events, learnt_by_at, one_time, with_one_time, with_times, joined}
 use Rattle.sp_spec_system.specs.MakingOne as spec
 use Rattle.sp_system.specs.declared.joining.Joining as memory
-use Rattle.sp_system.specs.SystemView.{pair_of, system_of}
+use Rattle.sp_unify.specs.View.{pair_view}
+use Rattle.sp_system.specs.SystemView.{system_of}
 
 abbrev pub joining_of : memory.Joining → spec.Joining
-joining_of j = record { system = system_of j.system; pairs = map pair_of j.pairs.items; times = j.times.items }
+joining_of j = record { system = system_of j.system; pairs = map pair_view j.pairs.items; times = j.times.items }
 
 -- the two times are one in it, whatever happens there
 abbrev pub in_one_time : ℕ × ℕ → spec.Joining → spec.Joining

@@ -7,10 +7,10 @@ use Rattle.sp_spec_system.specs.Equating.{both_pairs, fact_pairs, action_pairs}
 use Rattle.sp_spec_system.specs.Equating as spec
 use Rattle.sp_system.specs.declared.merging.Merging as memory
 use Rattle.sp_system.specs.WayView.{way_of}
-use Rattle.sp_system.specs.SystemView.{pair_of}
+use Rattle.sp_unify.specs.View.{pair_view}
 
 abbrev pub merging_of : memory.Merging → spec.Merging
-merging_of m = record { pairs = map pair_of m.pairs.items; times = m.times.items; way = way_of m.way }
+merging_of m = record { pairs = map pair_view m.pairs.items; times = m.times.items; way = way_of m.way }
 
 -- the pairs that make the facts of two steps the same
 abbrev pub facts_merging : Facts Variable → Facts Variable → Option (List Pair)

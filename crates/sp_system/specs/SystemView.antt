@@ -1,9 +1,6 @@
 -- The systems that systems in memory stand for.
 use Rattle.std.specs.Prelude.{ℕ, map}
-use Rattle.sp_spec.specs.Unifier.{Pair}
-use Rattle.sp_term.specs.View.{view}
-use Rattle.sp_term.specs.declared.term.Term.{Term}
-use Rattle.sp_term.specs.declared.term.Variable.{Variable}
+use Rattle.sp_unify.specs.View.{pair_view}
 use Rattle.sp_spec_system.specs.System as spec
 use Rattle.sp_formula.specs.FormulaView.{formula_of}
 use Rattle.sp_system.specs.declared.event.Event.{Event}
@@ -20,15 +17,12 @@ event_of e = event_with e.time (happening_of e.what e.facts)
 abbrev pub link_of : Link → spec.Link
 link_of l = record { from = l.from; conclusion = l.conclusion; to = l.to; premise = l.premise }
 
-abbrev pub pair_of : Term Variable × Term Variable → Pair
-pair_of p = (view p.0, view p.1)
-
 abbrev pub system_of : System → spec.System
 system_of s = record {
   events = map event_of s.events.items;
   formulas = map formula_of s.formulas.items;
   spent = map formula_of s.spent.items;
-  unequal = map pair_of s.unequal.items;
+  unequal = map pair_view s.unequal.items;
   links = map link_of s.links.items;
   order = s.order.items;
   next = s.next;

@@ -9,14 +9,14 @@ ghost use Rattle.sp_spec_system.specs.System as system_spec;
 ghost use Rattle.sp_system.specs.EventFacts.{action_on};
 
 use sp_fact::fact::{Action, Fact, Facts};
-use sp_term::term::{Name, Term, copy};
+use sp_term::term::{Name, Term};
 use std::alloc::{AllocError, Global};
 
 fn only(alloc: Global, message: &Term) -> Result<Vec<Term>, AllocError>
     ensures { IfOk result (λ ts. map view ts.items ≡ view message.now ∷ []) }
 {
     let mut args = Vec::with_capacity(alloc, 1)?;
-    args.push(copy(message)?)?;
+    args.push(message.clone()?)?;
     Ok(args)
 }
 

@@ -8,7 +8,6 @@ ghost use Rattle.sp_system.specs.ClosedView.{kept, leads_to, noted};
 
 use crate::order::{is_among, leading};
 use crate::system::System;
-use crate::time::copy_order;
 use std::alloc::{AllocError, Global};
 use std::collections::BTreeMap;
 
@@ -86,7 +85,7 @@ impl System {
     pub fn close_order(&self, alloc: Global) -> Result<ClosedOrder, AllocError>
         ensures { IfOk result (λ c. c.pairs.items ≡ (system_of self.now).order) }
     {
-        let pairs = copy_order(alloc, &self.order)?;
+        let pairs = Vec::from_slice(alloc, &self.order)?;
         let closed = ClosedOrder::new(alloc, pairs)?;
         Ok(closed)
     }

@@ -8,11 +8,11 @@ use crate::time::changed_time;
 use crate::way::Way;
 use sp_fact::fact::{Action, Fact, Facts};
 use sp_term::subst::{Subst, apply};
-use sp_term::term::{Name, Term, copy};
+use sp_term::term::{Name, Term};
 use std::alloc::{AllocError, Global};
 
 /// What happens at an event.
-#[derive(Debug, Drop)]
+#[derive(Drop)]
 pub enum What {
     /// a step of the rule of this name
     Rule(Name),
@@ -23,7 +23,7 @@ pub enum What {
 }
 
 /// What happens at a time.
-#[derive(Debug, Drop)]
+#[derive(Drop)]
 pub struct Event {
     /// when
     pub time: u128,
@@ -119,30 +119,9 @@ impl Event {
         &self.facts
     }
 
-    /// An equal event.
-    ///
-    /// # Errors
-    ///
-    /// `AllocError` where memory is wanting.
-    pub fn copy(&self, alloc: Global) -> Result<Event, AllocError>
-        ensures { IfOk result (λ e. event_of e ≡ event_of self.now) }
-    {
-        match &self.what {
-            What::Rule(rule) => {
-                let rule = rule.copy()?;
-                let facts = self.facts.copy(alloc)?;
-                Ok(Event::step(self.time, rule, facts))
-            }
-            What::Send(message) => {
-                let message = copy(message)?;
-                Event::send(alloc, self.time, message)
-            }
-            What::Learn(message, way) => {
-                let message = copy(message)?;
-                let way = way.copy(alloc)?;
-                Event::learn(alloc, self.time, message, way)
-            }
-        }
+    // Where the event's facts are.
+    fn allocator(&self) -> Global {
+        *self.facts.premises.allocator()
     }
 
     /// The event with each bound variable replaced, and with the time `small` in place of `large`.
@@ -162,7 +141,7 @@ impl Event {
         let time = changed_time(small, large, self.time);
         match &self.what {
             What::Rule(rule) => {
-                let rule = rule.copy()?;
+                let rule = rule.clone()?;
                 let facts = self.facts.changed(alloc, subst)?;
                 Ok(Event::step(time, rule, facts))
             }
@@ -189,11 +168,36 @@ impl Event {
         let Event { time, what, facts } = self;
         match what {
             What::Learn(message, _) => {
-                let way = way.copy(alloc)?;
+                let way = way.clone()?;
                 Event::learn(alloc, time, message, way)
             }
             What::Rule(rule) => Ok(Event::step(time, rule, facts)),
             What::Send(message) => Event::send(alloc, time, message),
+        }
+    }
+}
+
+impl Clone for Event {
+    ghost use Rattle.sp_system.specs.SystemView.{event_of};
+
+    ghost is_clone = { λ e f. event_of f ≡ event_of e };
+
+    fn clone(&self) -> Result<Event, AllocError> {
+        match &self.what {
+            What::Rule(rule) => {
+                let rule = rule.clone()?;
+                let facts = self.facts.clone()?;
+                Ok(Event::step(self.time, rule, facts))
+            }
+            What::Send(message) => {
+                let message = message.clone()?;
+                Event::send(self.allocator(), self.time, message)
+            }
+            What::Learn(message, way) => {
+                let message = message.clone()?;
+                let way = way.clone()?;
+                Event::learn(self.allocator(), self.time, message, way)
+            }
         }
     }
 }

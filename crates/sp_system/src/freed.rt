@@ -8,7 +8,7 @@ ghost use Rattle.sp_fact.specs.View.{action_of};
 ghost use Rattle.sp_formula.specs.PlaceView.{place_of, placed_action, placed_term};
 ghost use Rattle.sp_spec_system.specs.Formulas as formulas_spec;
 ghost use Rattle.sp_spec_system.specs.Formulas.{freed_place};
-ghost use Rattle.sp_system.specs.SystemView.{pair_of};
+ghost use Rattle.sp_unify.specs.View.{pair_view};
 
 use sp_fact::fact::Action;
 use sp_formula::place::{FormulaAction, FormulaTerm, Place};
@@ -52,7 +52,7 @@ pub fn freed_pair(
     left: &FormulaTerm,
     right: &FormulaTerm,
 ) -> Result<Option<(Term, Term)>, AllocError>
-    ensures { IfOk result (λ o. option_map pair_of o ≡ formulas_spec.pair_of (placed_term left.now) (placed_term right.now)) }
+    ensures { IfOk result (λ o. option_map pair_view o ≡ formulas_spec.pair_of (placed_term left.now) (placed_term right.now)) }
 {
     let Some(first) = freed(alloc, left)? else {
         return Ok(None);
@@ -70,6 +70,6 @@ pub fn freed_action(alloc: Global, action: &FormulaAction) -> Result<Option<Acti
     let Some(args) = resolve_all(alloc, &Freeing {}, &action.args)? else {
         return Ok(None);
     };
-    let symbol = action.symbol.copy()?;
+    let symbol = action.symbol.clone()?;
     Ok(Some(Action { symbol, args }))
 }

@@ -16,6 +16,7 @@ mod meeting;
 pub mod merging;
 pub mod order;
 pub mod pairing;
+pub mod picked;
 pub mod spend;
 pub mod system;
 mod time;

@@ -23,7 +23,7 @@ fn to_be_one(
 ) -> Result<Joining, AllocError>
     ensures { IfOk result (λ j. joining_of j ≡ to_be_one (system_of system.now) (first, second)) }
 {
-    let system = system.copy(alloc)?;
+    let system = system.clone()?;
     let mut times = Vec::with_capacity(alloc, 1)?;
     times.push((first, second))?;
     Ok(Joining {

@@ -5,14 +5,15 @@ ghost use Rattle.sp_term.specs.View.{view};
 ghost use Rattle.sp_fact.specs.View.{facts_of};
 ghost use Rattle.sp_spec_system.specs.Equating as equating;
 ghost use Rattle.sp_system.specs.WayView.{begun_of, done_of, way_of};
-ghost use Rattle.sp_system.specs.SystemView.{event_of, pair_of};
+ghost use Rattle.sp_unify.specs.View.{pair_view};
+ghost use Rattle.sp_system.specs.SystemView.{event_of};
 ghost use Rattle.sp_system.specs.MergingView.{merging_of, facts_merging};
 
 use crate::event::{Event, What};
 use crate::pairing::{action_pairs, fact_pairs};
-use crate::way::{Chain, Way, copy_messages};
+use crate::way::{Chain, Way};
 use sp_fact::fact::Facts;
-use sp_term::term::{Term, copy};
+use sp_term::term::{Term, copied};
 use std::alloc::{AllocError, Global};
 
 /// What makes two happenings one.
@@ -32,7 +33,7 @@ fn step_pairs(
     left: &Facts,
     right: &Facts,
 ) -> Result<Option<Vec<(Term, Term)>>, AllocError>
-    ensures { IfOk result (λ o. option_map (λ ps. map pair_of ps.items) o ≡ facts_merging (facts_of left.now) (facts_of right.now)) }
+    ensures { IfOk result (λ o. option_map (λ ps. map pair_view ps.items) o ≡ facts_merging (facts_of left.now) (facts_of right.now)) }
 {
     let Some(mut made) = fact_pairs(alloc, &left.premises, &right.premises)? else {
         return Ok(None);
@@ -54,12 +55,12 @@ fn common_pairs(
     left: &Vec<Term>,
     right: &Vec<Term>,
 ) -> Result<Vec<(Term, Term)>, AllocError>
-    ensures { IfOk result (λ ps. map pair_of ps.items ≡ equating.common_pairs (map view left.now.items) (map view right.now.items)) }
+    ensures { IfOk result (λ ps. map pair_view ps.items ≡ equating.common_pairs (map view left.now.items) (map view right.now.items)) }
 {
     let mut made = Vec::new(alloc);
     for (t, u) in left.iter().zip(right) {
-        let first = copy(t)?;
-        let second = copy(u)?;
+        let first = t.clone()?;
+        let second = u.clone()?;
         made.push((first, second))?;
     }
     Ok(made)
@@ -69,7 +70,7 @@ fn common_pairs(
 fn same_way(alloc: Global, way: &Way) -> Result<Option<Merging>, AllocError>
     ensures { IfOk result (λ o. option_map merging_of o ≡ equating.same_way (way_of way.now)) }
 {
-    let way = way.copy(alloc)?;
+    let way = way.clone()?;
     Ok(Some(Merging {
         pairs: Vec::new(alloc),
         times: Vec::new(alloc),
@@ -120,7 +121,7 @@ fn both_begun(alloc: Global, left: &Chain, right: &Chain) -> Result<Option<Mergi
     ensures { IfOk result (λ o. option_map merging_of o ≡ equating.ways_merging (begun_of left.now) (begun_of right.now)) }
 {
     let fits = left.conclusion == right.conclusion;
-    let messages = copy_messages(alloc, longer(left, right))?;
+    let messages = copied(longer(left, right))?;
     let way = Way::ChainBegun(Chain {
         time: left.time,
         conclusion: left.conclusion,
@@ -134,7 +135,7 @@ fn begun_and_done(alloc: Global, left: &Chain, right: &Chain) -> Result<Option<M
     ensures { IfOk result (λ o. option_map merging_of o ≡ equating.ways_merging (begun_of left.now) (done_of right.now)) }
 {
     let fits = left.conclusion == right.conclusion && !is_longer(left, right);
-    let done = right.copy(alloc)?;
+    let done = right.clone()?;
     chains_merging(alloc, fits, left, right, Way::ChainDone(done))
 }
 
@@ -143,7 +144,7 @@ fn done_and_begun(alloc: Global, left: &Chain, right: &Chain) -> Result<Option<M
     ensures { IfOk result (λ o. option_map merging_of o ≡ equating.ways_merging (done_of left.now) (begun_of right.now)) }
 {
     let fits = left.conclusion == right.conclusion && !is_longer(right, left);
-    let done = left.copy(alloc)?;
+    let done = left.clone()?;
     chains_merging(alloc, fits, left, right, Way::ChainDone(done))
 }
 
@@ -152,7 +153,7 @@ fn both_done(alloc: Global, left: &Chain, right: &Chain) -> Result<Option<Mergin
     ensures { IfOk result (λ o. option_map merging_of o ≡ equating.ways_merging (done_of left.now) (done_of right.now)) }
 {
     let fits = left.conclusion == right.conclusion && left.messages.len() == right.messages.len();
-    let done = left.copy(alloc)?;
+    let done = left.clone()?;
     chains_merging(alloc, fits, left, right, Way::ChainDone(done))
 }
 
@@ -180,7 +181,7 @@ pub fn ways_merging(alloc: Global, left: &Way, right: &Way) -> Result<Option<Mer
 
 // Nothing is learnt, and these pairs have to be the same.
 fn of_pairs(alloc: Global, pairs: Vec<(Term, Term)>) -> Merging
-    ensures { merging_of result ≡ equating.of_pairs (map pair_of pairs.items) }
+    ensures { merging_of result ≡ equating.of_pairs (map pair_view pairs.items) }
 {
     Merging {
         pairs,
@@ -190,10 +191,10 @@ fn of_pairs(alloc: Global, pairs: Vec<(Term, Term)>) -> Merging
 }
 
 fn one_pair(alloc: Global, left: &Term, right: &Term) -> Result<Vec<(Term, Term)>, AllocError>
-    ensures { IfOk result (λ ps. map pair_of ps.items ≡ (view left.now, view right.now) ∷ []) }
+    ensures { IfOk result (λ ps. map pair_view ps.items ≡ (view left.now, view right.now) ∷ []) }
 {
-    let left = copy(left)?;
-    let right = copy(right)?;
+    let left = left.clone()?;
+    let right = right.clone()?;
     let mut made = Vec::with_capacity(alloc, 1)?;
     made.push((left, right))?;
     Ok(made)

@@ -7,7 +7,6 @@ ghost use Rattle.sp_system.specs.OrderView as view;
 ghost use Rattle.sp_system.specs.SystemView.{system_of};
 
 use crate::system::System;
-use crate::time::copy_order;
 use std::alloc::{AllocError, Global};
 
 pub(crate) fn is_among(time: u128, times: &Vec<u128>) -> bool
@@ -109,7 +108,7 @@ fn without_sinks(alloc: Global, pairs: &Vec<(u128, u128)>) -> Result<Vec<(u128, 
 pub fn is_cyclic(alloc: Global, order: &Vec<(u128, u128)>) -> Result<bool, AllocError>
     ensures { IfOk result (λ b. b ≡ spec.is_cyclic order.now.items) }
 {
-    let mut left = copy_order(alloc, order)?;
+    let mut left = Vec::from_slice(alloc, order)?;
     while !left.is_empty() {
         let next = without_sinks(alloc, &left)?;
         if next.len() == left.len() {

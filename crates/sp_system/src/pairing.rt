@@ -5,11 +5,11 @@ ghost use Rattle.sp_term.specs.Bindings.{bindings};
 ghost use Rattle.sp_term.specs.View.{view_all};
 ghost use Rattle.sp_spec_system.specs.Equating as equating;
 ghost use Rattle.sp_fact.specs.View.{fact_of, action_of};
-ghost use Rattle.sp_system.specs.SystemView.{pair_of};
+ghost use Rattle.sp_unify.specs.View.{pair_view};
 
 use sp_fact::fact::{Action, Fact};
 use sp_term::subst::Subst;
-use sp_term::term::{Term, copy};
+use sp_term::term::Term;
 use sp_unify::unify::mgu;
 use std::alloc::{AllocError, Global};
 
@@ -19,15 +19,15 @@ pub fn argument_pairs(
     left: &Vec<Term>,
     right: &Vec<Term>,
 ) -> Result<Option<Vec<(Term, Term)>>, AllocError>
-    ensures { IfOk result (λ o. option_map (λ ps. map pair_of ps.items) o ≡ equating.argument_pairs (view_all left.now.items) (view_all right.now.items)) }
+    ensures { IfOk result (λ o. option_map (λ ps. map pair_view ps.items) o ≡ equating.argument_pairs (view_all left.now.items) (view_all right.now.items)) }
 {
     if left.len() != right.len() {
         return Ok(None);
     }
     let mut made = Vec::with_capacity(alloc, left.len())?;
     for (t, u) in left.iter().zip(right) {
-        let first = copy(t)?;
-        let second = copy(u)?;
+        let first = t.clone()?;
+        let second = u.clone()?;
         made.push((first, second))?;
     }
     Ok(Some(made))
@@ -39,7 +39,7 @@ pub fn fact_pair(
     left: &Fact,
     right: &Fact,
 ) -> Result<Option<Vec<(Term, Term)>>, AllocError>
-    ensures { IfOk result (λ o. option_map (λ ps. map pair_of ps.items) o ≡ equating.fact_pair (fact_of left.now) (fact_of right.now)) }
+    ensures { IfOk result (λ o. option_map (λ ps. map pair_view ps.items) o ≡ equating.fact_pair (fact_of left.now) (fact_of right.now)) }
 {
     if left.symbol == right.symbol && left.persistent == right.persistent {
         let pairs = argument_pairs(alloc, &left.args, &right.args)?;
@@ -55,7 +55,7 @@ pub fn fact_pairs(
     left: &Vec<Fact>,
     right: &Vec<Fact>,
 ) -> Result<Option<Vec<(Term, Term)>>, AllocError>
-    ensures { IfOk result (λ o. option_map (λ ps. map pair_of ps.items) o ≡ equating.fact_pairs (map fact_of left.now.items) (map fact_of right.now.items)) }
+    ensures { IfOk result (λ o. option_map (λ ps. map pair_view ps.items) o ≡ equating.fact_pairs (map fact_of left.now.items) (map fact_of right.now.items)) }
 {
     if left.len() != right.len() {
         return Ok(None);
@@ -76,7 +76,7 @@ pub fn action_pair(
     left: &Action,
     right: &Action,
 ) -> Result<Option<Vec<(Term, Term)>>, AllocError>
-    ensures { IfOk result (λ o. option_map (λ ps. map pair_of ps.items) o ≡ equating.action_pair (action_of left.now) (action_of right.now)) }
+    ensures { IfOk result (λ o. option_map (λ ps. map pair_view ps.items) o ≡ equating.action_pair (action_of left.now) (action_of right.now)) }
 {
     if left.symbol == right.symbol {
         let pairs = argument_pairs(alloc, &left.args, &right.args)?;
@@ -92,7 +92,7 @@ pub fn action_pairs(
     left: &Vec<Action>,
     right: &Vec<Action>,
 ) -> Result<Option<Vec<(Term, Term)>>, AllocError>
-    ensures { IfOk result (λ o. option_map (λ ps. map pair_of ps.items) o ≡ equating.action_pairs (map action_of left.now.items) (map action_of right.now.items)) }
+    ensures { IfOk result (λ o. option_map (λ ps. map pair_view ps.items) o ≡ equating.action_pairs (map action_of left.now.items) (map action_of right.now.items)) }
 {
     if left.len() != right.len() {
         return Ok(None);
@@ -116,7 +116,7 @@ pub fn unifier_of(
     alloc: Global,
     pairs: Option<Vec<(Term, Term)>>,
 ) -> Result<Option<Subst>, AllocError>
-    ensures { IfOk result (λ o. option_map bindings o ≡ equating.unifier_of (option_map (λ ps. map pair_of ps.items) pairs)) }
+    ensures { IfOk result (λ o. option_map bindings o ≡ equating.unifier_of (option_map (λ ps. map pair_view ps.items) pairs)) }
 {
     let Some(pairs) = pairs else {
         return Ok(None);

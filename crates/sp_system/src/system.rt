@@ -5,13 +5,14 @@ ghost use Rattle.sp_spec.specs.Substitution.{bound_to};
 ghost use Rattle.sp_term.specs.Bindings.{bindings};
 ghost use Rattle.sp_spec_system.specs.Equating.{event_changed, pair_changed, link_changed, same_source, same_premise, has_link, joined_links, system_changed};
 ghost use Rattle.sp_spec.specs.Change.{time_replaced};
-ghost use Rattle.sp_system.specs.SystemView.{event_of, pair_of, link_of, system_of};
+ghost use Rattle.sp_unify.specs.View.{pair_view};
+ghost use Rattle.sp_system.specs.SystemView.{event_of, link_of, system_of};
 
 use crate::event::Event;
-use crate::time::{changed_order, changed_time, copy_order};
-use sp_formula::formula::{Formula, changed_formulas, copy_formulas};
+use crate::time::{changed_order, changed_time};
+use sp_formula::formula::{Formula, changed_formulas};
 use sp_term::subst::{Subst, apply};
-use sp_term::term::{Term, copy};
+use sp_term::term::Term;
 use std::alloc::{AllocError, Global};
 
 /// Where a premise comes from: what one event concludes is a premise of another.
@@ -28,7 +29,7 @@ pub struct Link {
 }
 
 /// What a log has to satisfy.
-#[derive(Debug, Drop)]
+#[derive(Drop)]
 pub struct System {
     /// the events that it has
     pub events: Vec<Event>,
@@ -44,16 +45,6 @@ pub struct System {
     pub order: Vec<(u128, u128)>,
     /// a number above those of all variables and times
     pub next: u128,
-}
-
-fn copy_events(alloc: Global, events: &Vec<Event>) -> Result<Vec<Event>, AllocError>
-    ensures { IfOk result (λ es. map event_of es.items ≡ map event_of events.now.items) }
-{
-    let mut made = Vec::with_capacity(alloc, events.len())?;
-    for event in events {
-        made.push(event.copy(alloc)?)?;
-    }
-    Ok(made)
 }
 
 fn changed_events(
@@ -72,34 +63,16 @@ fn changed_events(
     Ok(made)
 }
 
-fn copy_pair(pair: &(Term, Term)) -> Result<(Term, Term), AllocError>
-    ensures { IfOk result (λ p. pair_of p ≡ pair_of pair.now) }
-{
-    let left = copy(&pair.0)?;
-    let right = copy(&pair.1)?;
-    Ok((left, right))
-}
-
 fn changed_pair(
     alloc: Global,
     subst: &Subst,
     pair: &(Term, Term),
 ) -> Result<(Term, Term), AllocError>
-    ensures { IfOk result (λ p. pair_of p ≡ pair_changed (bound_to (bindings subst.now)) (pair_of pair.now)) }
+    ensures { IfOk result (λ p. pair_view p ≡ pair_changed (bound_to (bindings subst.now)) (pair_view pair.now)) }
 {
     let left = apply(alloc, subst, &pair.0)?;
     let right = apply(alloc, subst, &pair.1)?;
     Ok((left, right))
-}
-
-fn copy_pairs(alloc: Global, pairs: &Vec<(Term, Term)>) -> Result<Vec<(Term, Term)>, AllocError>
-    ensures { IfOk result (λ ps. map pair_of ps.items ≡ map pair_of pairs.now.items) }
-{
-    let mut made = Vec::with_capacity(alloc, pairs.len())?;
-    for pair in pairs {
-        made.push(copy_pair(pair)?)?;
-    }
-    Ok(made)
 }
 
 fn changed_pairs(
@@ -107,7 +80,7 @@ fn changed_pairs(
     subst: &Subst,
     pairs: &Vec<(Term, Term)>,
 ) -> Result<Vec<(Term, Term)>, AllocError>
-    ensures { IfOk result (λ ps. map pair_of ps.items ≡ map (pair_changed (bound_to (bindings subst.now))) (map pair_of pairs.now.items)) }
+    ensures { IfOk result (λ ps. map pair_view ps.items ≡ map (pair_changed (bound_to (bindings subst.now))) (map pair_view pairs.now.items)) }
 {
     let mut made = Vec::with_capacity(alloc, pairs.len())?;
     for pair in pairs {
@@ -144,16 +117,6 @@ impl Link {
     }
 }
 
-fn copy_links(alloc: Global, links: &Vec<Link>) -> Result<Vec<Link>, AllocError>
-    ensures { IfOk result (λ ls. map link_of ls.items ≡ map link_of links.now.items) }
-{
-    let mut made = Vec::with_capacity(alloc, links.len())?;
-    for link in links {
-        made.push(*link)?;
-    }
-    Ok(made)
-}
-
 fn has_link(links: &Vec<Link>, link: Link) -> bool
     ensures { result ≡ has_link (map link_of links.now.items) (link_of link) }
 {
@@ -184,17 +147,18 @@ fn changed_links(
     Ok(made)
 }
 
-impl System {
-    /// An equal system.
-    pub fn copy(&self, alloc: Global) -> Result<System, AllocError>
-        ensures { IfOk result (λ s. system_of s ≡ system_of self.now) }
-    {
-        let events = copy_events(alloc, &self.events)?;
-        let formulas = copy_formulas(alloc, &self.formulas)?;
-        let spent = copy_formulas(alloc, &self.spent)?;
-        let unequal = copy_pairs(alloc, &self.unequal)?;
-        let links = copy_links(alloc, &self.links)?;
-        let order = copy_order(alloc, &self.order)?;
+impl Clone for System {
+    ghost is_clone = { λ s t. system_of t ≡ system_of s };
+
+    #[tactic(auto, using(sp_term::proofs::Cloned::cloned, crate::proofs::Pairs::cloned_pairs))]
+    fn clone(&self) -> Result<System, AllocError> {
+        let alloc = *self.events.allocator();
+        let events = self.events.clone()?;
+        let formulas = self.formulas.clone()?;
+        let spent = self.spent.clone()?;
+        let unequal = self.unequal.clone()?;
+        let links = Vec::from_slice(alloc, &self.links)?;
+        let order = Vec::from_slice(alloc, &self.order)?;
         Ok(System {
             events,
             formulas,
@@ -205,7 +169,9 @@ impl System {
             next: self.next,
         })
     }
+}
 
+impl System {
     /// The system with each bound variable replaced, and with the time `small` in place of `large`.
     pub fn changed(
         &self,

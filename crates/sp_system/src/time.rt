@@ -13,21 +13,6 @@ pub fn changed_time(small: u128, large: u128, time: u128) -> u128
     if time == large { small } else { time }
 }
 
-/// Equal pairs of times.
-///
-/// # Errors
-///
-/// `AllocError` where memory is wanting.
-pub fn copy_order(alloc: Global, pairs: &Vec<(u128, u128)>) -> Result<Vec<(u128, u128)>, AllocError>
-    ensures { IfOk result (λ ps. ps.items ≡ pairs.now.items) }
-{
-    let mut made = Vec::with_capacity(alloc, pairs.len())?;
-    for pair in pairs {
-        made.push((pair.0, pair.1))?;
-    }
-    Ok(made)
-}
-
 /// The pairs of times, with `small` in place of `large`.
 ///
 /// # Errors

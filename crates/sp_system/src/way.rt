@@ -11,11 +11,11 @@ ghost use Rattle.sp_system.specs.WayView.{way_of, chain_of};
 
 use crate::time::changed_time;
 use sp_term::subst::{Subst, apply};
-use sp_term::term::{Term, copy};
+use sp_term::term::{Term, copied};
 use std::alloc::{AllocError, Global};
 
 /// Messages that lead from what an event puts out to what is learnt.
-#[derive(Debug, Drop)]
+#[derive(Drop)]
 pub struct Chain {
     /// the time of the event that puts it out
     pub time: u128,
@@ -26,7 +26,7 @@ pub struct Chain {
 }
 
 /// How a message is learnt.
-#[derive(Debug, Drop)]
+#[derive(Drop)]
 pub enum Way {
     /// this isn't settled
     Anyhow,
@@ -40,16 +40,6 @@ pub enum Way {
     ChainBegun(Chain),
     /// by a chain that has no more than these messages
     ChainDone(Chain),
-}
-
-pub(crate) fn copy_messages(alloc: Global, messages: &Vec<Term>) -> Result<Vec<Term>, AllocError>
-    ensures { IfOk result (λ ts. map view ts.items ≡ map view messages.now.items) }
-{
-    let mut made = Vec::with_capacity(alloc, messages.len())?;
-    for message in messages {
-        made.push(copy(message)?)?;
-    }
-    Ok(made)
 }
 
 fn changed_messages(
@@ -66,23 +56,20 @@ fn changed_messages(
     Ok(made)
 }
 
-impl Chain {
-    /// An equal chain.
-    ///
-    /// # Errors
-    ///
-    /// `AllocError` where memory is wanting.
-    pub fn copy(&self, alloc: Global) -> Result<Chain, AllocError>
-        ensures { IfOk result (λ c. chain_of c ≡ chain_of self.now) }
-    {
-        let messages = copy_messages(alloc, &self.messages)?;
+impl Clone for Chain {
+    ghost is_clone = { λ c d. chain_of d ≡ chain_of c };
+
+    fn clone(&self) -> Result<Chain, AllocError> {
+        let messages = copied(&self.messages)?;
         Ok(Chain {
             time: self.time,
             conclusion: self.conclusion,
             messages,
         })
     }
+}
 
+impl Chain {
     // The chain with each bound variable replaced, and with `small` in place of `large`.
     fn changed(
         &self,
@@ -102,31 +89,28 @@ impl Chain {
     }
 }
 
-impl Way {
-    /// The same way.
-    ///
-    /// # Errors
-    ///
-    /// `AllocError` where memory is wanting.
-    pub fn copy(&self, alloc: Global) -> Result<Way, AllocError>
-        ensures { IfOk result (λ w. way_of w ≡ way_of self.now) }
-    {
+impl Clone for Way {
+    ghost is_clone = { λ v w. way_of w ≡ way_of v };
+
+    fn clone(&self) -> Result<Way, AllocError> {
         match self {
             Way::Anyhow => Ok(Way::Anyhow),
             Way::PublicName => Ok(Way::PublicName),
             Way::OwnName => Ok(Way::OwnName),
             Way::Constructed => Ok(Way::Constructed),
             Way::ChainBegun(chain) => {
-                let chain = chain.copy(alloc)?;
+                let chain = chain.clone()?;
                 Ok(Way::ChainBegun(chain))
             }
             Way::ChainDone(chain) => {
-                let chain = chain.copy(alloc)?;
+                let chain = chain.clone()?;
                 Ok(Way::ChainDone(chain))
             }
         }
     }
+}
 
+impl Way {
     /// The way with each bound variable replaced, and with the time `small` in place of `large`.
     ///
     /// # Errors

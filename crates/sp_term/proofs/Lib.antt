@@ -1,4 +1,5 @@
 pub mod Lists
+pub mod Cloned
 pub mod Applied
 pub mod Loops
 pub mod Rows

@@ -38,10 +38,10 @@ pub fn apply<L, M: Drop, F: Assigns<L, M>>(
 {
     match term {
         Term::Var(x) => values.value(alloc, x),
-        Term::Constant(name) => Ok(Term::Constant(name.copy()?)),
+        Term::Constant(name) => Ok(Term::Constant(name.clone()?)),
         Term::FreshName(n) => Ok(Term::FreshName(*n)),
         Term::App(symbol, terms, _) => {
-            let name = symbol.copy()?;
+            let name = symbol.clone()?;
             let made = apply_all(alloc, values, terms)?;
             let nesting = nesting_over(&made)?;
             let shared = Rc::new(alloc, made)?;
@@ -95,13 +95,13 @@ pub fn resolve<L, M: Drop, F: Resolves<L, M>>(
 {
     match term {
         Term::Var(x) => values.value_where(alloc, x),
-        Term::Constant(name) => Ok(Some(Term::Constant(name.copy()?))),
+        Term::Constant(name) => Ok(Some(Term::Constant(name.clone()?))),
         Term::FreshName(n) => Ok(Some(Term::FreshName(*n))),
         Term::App(symbol, terms, _) => {
             let Some(made) = resolve_all(alloc, values, terms)? else {
                 return Ok(None);
             };
-            let name = symbol.copy()?;
+            let name = symbol.clone()?;
             let nesting = nesting_over(&made)?;
             let shared = Rc::new(alloc, made)?;
             Ok(Some(Term::App(name, shared, nesting)))

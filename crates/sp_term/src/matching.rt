@@ -3,7 +3,7 @@
 ghost use Rattle.std.specs.Prelude.{◌≡◌, IfOk, Option};
 ghost use Rattle.sp_spec.specs.Term as spec;
 ghost use Rattle.sp_spec.specs.Matching.{matched_by, matched_all_by};
-ghost use Rattle.sp_term.specs.Bindings.{answer};
+ghost use Rattle.sp_term.specs.Bindings.{answer, are_one_name};
 ghost use Rattle.sp_term.specs.View.{view_by, view_all_by};
 
 use crate::term::Term;
@@ -41,18 +41,24 @@ pub fn extend<L, M, B: Binds<L, M>>(
 ) -> Result<bool, AllocError>
     ensures { IfOk result (λ b. answer b (B.bindings found.new) ≡ matched_by B.bound_by (view_by B.from_of pattern.now) (view_by B.to_of term.now) (B.bindings found.old)) }
 {
+    match pattern {
+        Term::Var(x) => found.bind(x, term),
+        Term::App(f, patterns, _) => match term {
+            Term::App(g, terms, _) if *f == *g => extend_all(patterns, terms, found),
+            _ => Ok(false),
+        },
+        _ => Ok(is_one_name::<L, M, B>(pattern, term)),
+    }
+}
+
+/// Whether the two are one name, public or fresh.
+fn is_one_name<L, M, B: Binds<L, M>>(pattern: &Term<L>, term: &Term<M>) -> bool
+    ensures { result ≡ are_one_name (view_by B.from_of pattern.now) (view_by B.to_of term.now) }
+{
     match (pattern, term) {
-        (Term::Var(x), _) => found.bind(x, term),
-        (Term::Constant(c), Term::Constant(d)) => Ok(*c == *d),
-        (Term::FreshName(m), Term::FreshName(n)) => Ok(*m == *n),
-        (Term::App(f, ps, _), Term::App(g, ts, _)) => {
-            if *f == *g {
-                extend_all(ps, ts, found)
-            } else {
-                Ok(false)
-            }
-        }
-        _ => Ok(false),
+        (Term::Constant(c), Term::Constant(d)) => *c == *d,
+        (Term::FreshName(m), Term::FreshName(n)) => *m == *n,
+        _ => false,
     }
 }
 

@@ -11,11 +11,11 @@ ghost use Rattle.sp_term.specs.View.{variable_of, view, view_by, view_all};
 use crate::apply::Assigns;
 pub use crate::apply::{apply, apply_all};
 use crate::matching::Binds;
-use crate::term::{Leaf, Never, Term, Variable, copy, has_sort, same};
+use crate::term::{Leaf, Never, Term, Variable, has_sort, same};
 use std::alloc::{AllocError, Global};
 
 /// A variable and the term that is put for it.
-#[derive(Debug, Drop)]
+#[derive(Drop)]
 pub struct Binding<M> {
     /// the variable
     pub variable: Variable,
@@ -24,7 +24,7 @@ pub struct Binding<M> {
 }
 
 /// Terms for variables; of several bindings the first counts.
-#[derive(Debug, Drop)]
+#[derive(Drop)]
 pub struct Bindings<M> {
     /// the bindings, in the order in which they were made
     pub bindings: Vec<Binding<M>>,
@@ -90,7 +90,7 @@ impl<M: Leaf> Binds<Variable, M> for Bindings<M> {
         if !has_sort(variable.sort, term) {
             return Ok(false);
         }
-        self.push(*variable, copy(term)?)?;
+        self.push(*variable, term.clone()?)?;
         Ok(true)
     }
 }
@@ -108,7 +108,7 @@ impl Assigns<Variable, Variable> for Subst {
 
     fn value(&self, _alloc: Global, leaf: &Variable) -> Result<Term, AllocError> {
         match self.get(*leaf) {
-            Some(term) => copy(term),
+            Some(term) => term.clone(),
             None => Ok(Term::Var(*leaf)),
         }
     }

@@ -15,7 +15,7 @@ use std::fmt;
 use std::rc::{Rc, RcStr};
 
 /// The sort of a variable; fresh and pub are subsorts of msg.
-#[derive(Clone, Copy, Debug, PartialEq, Eq, PartialOrd, Ord)]
+#[derive(Clone, Copy, Debug, PartialEq, Eq)]
 pub enum Sort {
     /// any message
     Msg,
@@ -26,7 +26,7 @@ pub enum Sort {
 }
 
 /// A variable of a rule or of a system.
-#[derive(Clone, Copy, Debug, PartialEq, Eq, PartialOrd, Ord)]
+#[derive(Clone, Copy, Debug, PartialEq, Eq)]
 pub struct Variable {
     /// what it ranges over
     pub sort: Sort,
@@ -35,7 +35,7 @@ pub struct Variable {
 }
 
 /// The name of a symbol, of a public constant, of a fact or of a rule; copies share the text.
-#[derive(Debug, PartialEq, Eq, PartialOrd, Ord, Drop)]
+#[derive(Debug, PartialEq, Eq, Drop)]
 pub struct Name {
     /// the name's bytes
     pub text: RcStr,
@@ -49,11 +49,12 @@ impl Name {
         let text = RcStr::from_str(alloc, text)?;
         Ok(Name { text })
     }
+}
 
-    /// The same name.
-    pub fn copy(&self) -> Result<Name, AllocError>
-        ensures { IfOk result (λ n. name_of n ≡ name_of self.now) }
-    {
+impl Clone for Name {
+    ghost is_clone = { λ m n. name_of n ≡ name_of m };
+
+    fn clone(&self) -> Result<Name, AllocError> {
         let text = self.text.clone()?;
         Ok(Name { text })
     }
@@ -98,7 +99,7 @@ impl<T> fmt::Debug for Only<T> {
 }
 
 /// A message term over leaves of a kind: over variables one of a rule or of a system.
-#[derive(Debug, Drop)]
+#[derive(Drop)]
 pub enum Term<L = Variable> {
     /// a variable, or another leaf
     Var(L),
@@ -229,30 +230,31 @@ pub fn all_same<L: Leaf>(xs: &Vec<Term<L>>, ys: &Vec<Term<L>>) -> bool
     true
 }
 
-/// A term equal to this one; its names and argument lists are shared with it.
-pub fn copy<L: Leaf>(term: &Term<L>) -> Result<Term<L>, AllocError>
-    ensures { IfOk result (λ t. view_by L.leaf_of t ≡ view_by L.leaf_of term.now) }
-{
-    match term {
-        Term::Var(x) => Ok(Term::Var(*x)),
-        Term::Constant(name) => Ok(Term::Constant(name.copy()?)),
-        Term::FreshName(n) => Ok(Term::FreshName(*n)),
-        Term::App(symbol, terms, nesting) => {
-            let name = symbol.copy()?;
-            let shared = terms.clone()?;
-            Ok(Term::App(name, shared, *nesting))
+// The names and the argument lists of a copy are shared with the term.
+impl<L: Leaf> Clone for Term<L> {
+    ghost is_clone = { λ s t. view_by L.leaf_of t ≡ view_by L.leaf_of s };
+
+    fn clone(&self) -> Result<Term<L>, AllocError> {
+        match self {
+            Term::Var(x) => Ok(Term::Var(*x)),
+            Term::Constant(name) => Ok(Term::Constant(name.clone()?)),
+            Term::FreshName(n) => Ok(Term::FreshName(*n)),
+            Term::App(symbol, terms, nesting) => {
+                let name = symbol.clone()?;
+                let shared = terms.clone()?;
+                Ok(Term::App(name, shared, *nesting))
+            }
         }
     }
 }
 
-/// Terms equal to these.
-pub fn copy_all<L: Leaf>(alloc: Global, terms: &Vec<Term<L>>) -> Result<Vec<Term<L>>, AllocError>
-    ensures { IfOk result (λ ts. view_all_by L.leaf_of ts.items ≡ view_all_by L.leaf_of terms.now.items) }
+/// Equal terms: `clone` by what the terms stand for.
+#[tactic(auto, using(crate::proofs::Cloned::cloned))]
+pub fn copied<L: Leaf>(terms: &Vec<Term<L>>) -> Result<Vec<Term<L>>, AllocError>
+    ensures each { IfOk result (λ ts. map (view_by L.leaf_of) ts.items ≡ map (view_by L.leaf_of) terms.now.items) }
+    ensures all { IfOk result (λ ts. view_all_by L.leaf_of ts.items ≡ view_all_by L.leaf_of terms.now.items) }
 {
-    let mut made = Vec::with_capacity(alloc, terms.len())?;
-    for term in terms {
-        made.push(copy(term)?)?;
-    }
+    let made = terms.clone()?;
     Ok(made)
 }
 

@@ -4,16 +4,15 @@ ghost use Rattle.std.specs.Prelude.{IfOk, map};
 ghost use Rattle.sp_law_equal.specs.NormalForms.{HaveNormalForms};
 ghost use Rattle.sp_law_equal.specs.Right.{AreRight};
 ghost use Rattle.sp_fact.specs.View.{rule_of};
-ghost use Rattle.sp_ground.specs.View.{signature_of};
+ghost use Rattle.sp_fact.specs.GroundView.{signature_of};
 
 use sp_exec::replay::{Replayed, replay};
 use sp_fact::rule::Rule;
-use sp_ground::signature::Signature;
-use sp_ground::step::Step;
-use sp_ground::term::GroundTerm;
+use sp_fact::signature::Signature;
+use sp_fact::step::Step;
 use sp_law_equal::pairs_are_convergent;
+use sp_read_steps::{StepLines, read_steps};
 use sp_show::trace::trace_block;
-use sp_test_make::ground::{applied, apply_symbol, paired, public};
 use std::alloc::{AllocError, Global};
 use std::test::Fail;
 
@@ -31,23 +30,19 @@ fn no_rules(alloc: Global) -> Vec<Rule>
     Vec::new(alloc)
 }
 
-// <'a', 'b'>
-fn both(alloc: Global) -> Result<GroundTerm, AllocError> {
-    paired(alloc, public(alloc, "a")?, public(alloc, "b")?)
-}
+/// The adversary makes a pair, takes it apart again, and sends what it takes apart as it is written.
+const PROJECTION: &[u8] = b"pub 'a'
+pub 'b'
+make <'a', 'b'>
+make fst(<'a', 'b'>)
+in fst(<'a', 'b'>)";
 
-// pub 'a', pub 'b', make <'a', 'b'>, make fst(<'a', 'b'>), in fst(<'a', 'b'>)
-fn projection(alloc: Global) -> Result<Vec<Step>, AllocError> {
-    let parts = vec![in alloc; public(alloc, "a")?, public(alloc, "b")?]?;
-    let known = vec![in alloc; both(alloc)?]?;
-    let sent = applied(alloc, "fst", vec![in alloc; both(alloc)?]?)?;
-    let steps = vec![in alloc;
-        Step::KnowPublic(public(alloc, "a")?),
-        Step::KnowPublic(public(alloc, "b")?),
-        apply_symbol(alloc, "pair", parts)?,
-        apply_symbol(alloc, "fst", known)?,
-        Step::PutIn(sent),
-    ]?;
+#[tactic(auto, using(sp_spec_text::proofs::SymbolNames::of_pairs))]
+fn projection(alloc: Global) -> Result<Vec<Step>, Fail> {
+    let signature = Signature::pairs(alloc)?;
+    let StepLines::Steps(steps) = read_steps(alloc, &signature.symbols, PROJECTION)? else {
+        return Err("a line is no step's".into());
+    };
     Ok(steps)
 }
 

@@ -32,20 +32,6 @@ pub fn action(alloc: Global, symbol: &str, args: Vec<Term>) -> Result<Action, Al
     Ok(Action { symbol, args })
 }
 
-/// The facts of a step that takes and gives nothing, and has these actions.
-pub fn actions_alone(alloc: Global, actions: Vec<Action>) -> Facts {
-    Facts {
-        premises: Vec::new(alloc),
-        actions,
-        conclusions: Vec::new(alloc),
-    }
-}
-
-/// The facts of a step that takes, shows and gives nothing.
-pub fn no_facts(alloc: Global) -> Facts {
-    actions_alone(alloc, Vec::new(alloc))
-}
-
 /// The rule of this name over variables of these names and sorts.
 pub fn rule(
     alloc: Global,

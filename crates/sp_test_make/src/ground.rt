@@ -1,8 +1,8 @@
 // Ground terms, facts and actions over them, and steps.
 
-use sp_ground::fact::{GroundAction, GroundFact};
-use sp_ground::step::{Given, Step};
-use sp_ground::term::GroundTerm;
+use sp_fact::ground_fact::{GroundAction, GroundFact};
+use sp_fact::ground_term::GroundTerm;
+use sp_fact::step::{Given, Step};
 use sp_term::term::{Name, Term, nesting_over};
 use std::alloc::{AllocError, Global};
 use std::rc::Rc;

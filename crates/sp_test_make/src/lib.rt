@@ -6,6 +6,9 @@
 pub mod facts;
 pub mod formulas;
 pub mod ground;
+pub mod plain;
+pub mod plain_systems;
 pub mod systems;
 pub mod terms;
 pub mod texts;
+pub mod values;

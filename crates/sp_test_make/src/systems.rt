@@ -1,8 +1,8 @@
 // Events, links and systems.
 
-use crate::facts::{actions_alone, linear};
+use crate::facts::linear;
 use crate::terms::variable;
-use sp_fact::fact::{Action, Facts};
+use sp_fact::fact::Facts;
 use sp_formula::formula::Formula;
 use sp_system::event::Event;
 use sp_system::system::{Link, System};
@@ -13,16 +13,6 @@ use std::alloc::{AllocError, Global};
 pub fn event(alloc: Global, time: u128, rule: &str, facts: Facts) -> Result<Event, AllocError> {
     let rule = Name::new(alloc, rule)?;
     Ok(Event::step(time, rule, facts))
-}
-
-/// The event of a rule that has these actions and no other facts.
-pub fn acting(
-    alloc: Global,
-    time: u128,
-    rule: &str,
-    actions: Vec<Action>,
-) -> Result<Event, AllocError> {
-    event(alloc, time, rule, actions_alone(alloc, actions))
 }
 
 /// The event of a rule that takes the fresh names of these numbers.
@@ -43,16 +33,6 @@ pub fn taking_fresh(
         conclusions: Vec::new(alloc),
     };
     event(alloc, time, rule, facts)
-}
-
-/// The events of these rules at the times 1, 2, .., each of which takes one fresh name: 0, 1, ..
-pub fn takers(alloc: Global, rules: &[&str]) -> Result<Vec<Event>, AllocError> {
-    let mut made = Vec::new(alloc);
-    for (i, rule) in rules.iter().enumerate() {
-        let number = i as u128;
-        made.push(taking_fresh(alloc, number + 1, rule, &[number])?)?;
-    }
-    Ok(made)
 }
 
 /// The conclusion of an event that gives the premise of another one.

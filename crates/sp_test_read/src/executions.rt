@@ -15,7 +15,7 @@ struct Execution {
     learnt: &'static str,
 }
 
-const EXECUTIONS: [Execution; 24] = [
+static EXECUTIONS: [Execution; 24] = [
     // a key is put out beside what it hides
     Execution {
         items: "builtins: symmetric-encryption rule Init: [ Fr(~k), Fr(~m) ] --> [ Out(senc(~m, ~k)), Out(~k) ]",
@@ -217,7 +217,7 @@ fn executions_have_their_logs(rt: HostRuntime) -> Result<(), Fail> {
 }
 
 /// Theories, and lines of which the last is no step.
-const NONE: [(&str, &str); 9] = [
+static NONE: [(&str, &str); 9] = [
     // the key isn't known
     (
         "builtins: symmetric-encryption rule Init: [ Fr(~k), Fr(~m) ] --> [ Out(senc(~m, ~k)), Out(~k) ]",

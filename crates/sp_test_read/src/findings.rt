@@ -18,120 +18,124 @@ fn report_on(alloc: Global, text: &[u8]) -> Result<Vec<u8>, Fail> {
     Ok(lines)
 }
 
+/// Theories of one item, and their reports.
+static ITEMS: [(&[u8], &str); 16] = [
+    (
+        b"theory T begin rule R: [ A(x, y, ~y, ~x) ] --> [ ] end",
+        "fatal: rule R: variable x has two sorts\nfatal: rule R: variable y has two sorts\n",
+    ),
+    (
+        b"theory T begin rule R: [ Fr(k) ] --[ A($k) ]-> [ ] end",
+        "fatal: rule R: variable k has two sorts\n",
+    ),
+    (
+        b"theory T begin rule R: [ A(x) ] --[ B(#x) ]-> [ ] end",
+        "fatal: rule R: variable x has two sorts\n",
+    ),
+    (
+        b"theory T begin rule R: [ !Fr(k) ] --> [ Fr($l), Fr() ] end",
+        "fatal: rule R: reserved fact Fr\n",
+    ),
+    (
+        b"theory T begin rule R: [ Out(x), K(y), KD('c'), In(x) ] --[ K(x), KD(), In(x), Fr(x, y) ]-> [ In(x), K(x), KD(x), Out(x) ] end",
+        "fatal: rule R: reserved fact Out\nfatal: rule R: reserved fact K\nfatal: rule R: reserved fact KD\nfatal: rule R: reserved fact In\n",
+    ),
+    (
+        b"theory T begin rule R: [ !In(x) ] --[ K() ]-> [ Out(x, x) ] end",
+        "fatal: rule R: reserved fact In\nfatal: rule R: reserved fact K\nfatal: rule R: reserved fact Out\n",
+    ),
+    (
+        b"theory T begin rule R: [ Fr(), In() ] --> [ !Out('c') ] end",
+        "fatal: rule R: reserved fact Fr\nfatal: rule R: reserved fact In\nfatal: rule R: reserved fact Out\n",
+    ),
+    (
+        b"theory T begin rule R: [ In(x), Fr(~k) ] --[ In(x, x), Out(~k), Fr() ]-> [ Out(<x, ~k>) ] end",
+        "",
+    ),
+    (
+        b"theory T begin lemma l: \"All x #i. K(x)@i ==> (Ex #j. Out(x, x)@j) | (Ex #j. KD()@j)\" end",
+        "",
+    ),
+    (
+        b"theory T begin rule R: [ Fr('c') ] --[ Fr('c', 'd') ]-> [ ] end",
+        "fatal: rule R: Fr argument\n",
+    ),
+    (
+        b"theory T begin rule R: [ ] --[ A($x, y) ]-> [ B(y, ~z) ] end",
+        "fatal: rule R: variable y not bound\nfatal: rule R: variable z not bound\n",
+    ),
+    (
+        b"theory T begin lemma l: \"All x #i. A(x, y)@i ==> B(y)@j\" end",
+        "fatal: formula l: variable y not bound\nfatal: formula l: variable j not bound\n",
+    ),
+    (
+        b"theory T begin lemma l: \"All x #i. F ==> (Ex y. A(x)@i)\" end",
+        "fatal: formula l: variable x not guarded\n",
+    ),
+    (
+        b"theory T begin lemma l: \"All ~x #i. A($x)@i ==> A(x)@i\" end",
+        "fatal: formula l: variable x has another sort than its binder\n",
+    ),
+    (
+        b"theory T begin lemma l: \"All x #i. A(x)@i ==> x < i | i = z\" end",
+        "fatal: formula l: variable z not bound\nfatal: formula l: time and message mixed at x\nfatal: formula l: time and message mixed at i\n",
+    ),
+    (
+        b"theory T begin lemma l: \"a = b <=> b = c\" end",
+        "fatal: formula l: variable a not bound\nfatal: formula l: variable b not bound\nfatal: formula l: variable c not bound\n",
+    ),
+];
+
 #[test]
 fn items_are_reported_on(rt: HostRuntime) -> Result<(), Fail> {
-    let wanted: [(&[u8], &str); 16] = [
-        (
-            b"theory T begin rule R: [ A(x, y, ~y, ~x) ] --> [ ] end",
-            "fatal: rule R: variable x has two sorts\nfatal: rule R: variable y has two sorts\n",
-        ),
-        (
-            b"theory T begin rule R: [ Fr(k) ] --[ A($k) ]-> [ ] end",
-            "fatal: rule R: variable k has two sorts\n",
-        ),
-        (
-            b"theory T begin rule R: [ A(x) ] --[ B(#x) ]-> [ ] end",
-            "fatal: rule R: variable x has two sorts\n",
-        ),
-        (
-            b"theory T begin rule R: [ !Fr(k) ] --> [ Fr($l), Fr() ] end",
-            "fatal: rule R: reserved fact Fr\n",
-        ),
-        (
-            b"theory T begin rule R: [ Out(x), K(y), KD('c'), In(x) ] --[ K(x), KD(), In(x), Fr(x, y) ]-> [ In(x), K(x), KD(x), Out(x) ] end",
-            "fatal: rule R: reserved fact Out\nfatal: rule R: reserved fact K\nfatal: rule R: reserved fact KD\nfatal: rule R: reserved fact In\n",
-        ),
-        (
-            b"theory T begin rule R: [ !In(x) ] --[ K() ]-> [ Out(x, x) ] end",
-            "fatal: rule R: reserved fact In\nfatal: rule R: reserved fact K\nfatal: rule R: reserved fact Out\n",
-        ),
-        (
-            b"theory T begin rule R: [ Fr(), In() ] --> [ !Out('c') ] end",
-            "fatal: rule R: reserved fact Fr\nfatal: rule R: reserved fact In\nfatal: rule R: reserved fact Out\n",
-        ),
-        (
-            b"theory T begin rule R: [ In(x), Fr(~k) ] --[ In(x, x), Out(~k), Fr() ]-> [ Out(<x, ~k>) ] end",
-            "",
-        ),
-        (
-            b"theory T begin lemma l: \"All x #i. K(x)@i ==> (Ex #j. Out(x, x)@j) | (Ex #j. KD()@j)\" end",
-            "",
-        ),
-        (
-            b"theory T begin rule R: [ Fr('c') ] --[ Fr('c', 'd') ]-> [ ] end",
-            "fatal: rule R: Fr argument\n",
-        ),
-        (
-            b"theory T begin rule R: [ ] --[ A($x, y) ]-> [ B(y, ~z) ] end",
-            "fatal: rule R: variable y not bound\nfatal: rule R: variable z not bound\n",
-        ),
-        (
-            b"theory T begin lemma l: \"All x #i. A(x, y)@i ==> B(y)@j\" end",
-            "fatal: formula l: variable y not bound\nfatal: formula l: variable j not bound\n",
-        ),
-        (
-            b"theory T begin lemma l: \"All x #i. F ==> (Ex y. A(x)@i)\" end",
-            "fatal: formula l: variable x not guarded\n",
-        ),
-        (
-            b"theory T begin lemma l: \"All ~x #i. A($x)@i ==> A(x)@i\" end",
-            "fatal: formula l: variable x has another sort than its binder\n",
-        ),
-        (
-            b"theory T begin lemma l: \"All x #i. A(x)@i ==> x < i | i = z\" end",
-            "fatal: formula l: variable z not bound\nfatal: formula l: time and message mixed at x\nfatal: formula l: time and message mixed at i\n",
-        ),
-        (
-            b"theory T begin lemma l: \"a = b <=> b = c\" end",
-            "fatal: formula l: variable a not bound\nfatal: formula l: variable b not bound\nfatal: formula l: variable c not bound\n",
-        ),
-    ];
-    for (text, lines) in wanted {
+    for (text, lines) in &ITEMS {
         let found = report_on(rt.alloc(), text)?;
         assert!(rt; found.as_slice() == lines.as_bytes(), "{lines}");
     }
     Ok(())
 }
 
-#[test]
-fn theories_are_reported_on(rt: HostRuntime) -> Result<(), Fail> {
-    let wanted: [(&[u8], &str); 4] = [
-        // nothing is wrong: a rule and a lemma may have one name
-        (
-            b"theory T begin
+/// Theories, and their reports.
+static THEORIES: [(&[u8], &str); 4] = [
+    // nothing is wrong: a rule and a lemma may have one name
+    (
+        b"theory T begin
 lemma N: \"All x #i. A(x)@i ==> Ex #j. B(x, 'c')@j & j < i\"
 rule N: [ Fr(k), A(~k, $a) ] --[ B(k:msg, $b) ]-> [ C(k) ]
 rule M: [ ] --> [ ] end",
-            "",
-        ),
-        // the lines are in order, and each stands once
-        (
-            b"theory T begin
+        "",
+    ),
+    // the lines are in order, and each stands once
+    (
+        b"theory T begin
 rule R: [ ] --[ A(x) ]-> [ ]
 lemma l: \"Ex x. T\"
 rule R: [ ] --[ A(~y, y), A(x) ]-> [ ]
 lemma l: \"A(x)@x\" end",
-            "fatal: name R used twice\nfatal: name l used twice\nfatal: rule R: variable y has two sorts\nfatal: rule R: variable x not bound\nfatal: rule R: variable y not bound\nfatal: formula l: variable x not bound\nfatal: formula l: variable x not guarded\n",
-        ),
-        // arities are told in the order of the text
-        (
-            b"theory T begin
+        "fatal: name R used twice\nfatal: name l used twice\nfatal: rule R: variable y has two sorts\nfatal: rule R: variable x not bound\nfatal: rule R: variable y not bound\nfatal: formula l: variable x not bound\nfatal: formula l: variable x not guarded\n",
+    ),
+    // arities are told in the order of the text
+    (
+        b"theory T begin
 lemma l: \"Ex x #i. A(x,x,x,x,x,x,x,x,x,x,x,x,x,x,x,x,x)@i & C(x,x,x,x,x,x,x,x,x,x,x,x,x,x,x,x,x)@i\"
 rule R: [ B($a,$a,$a,$a,$a,$a,$a,$a,$a,$a,$a,$a,$a,$a,$a,$a,$a) ]
   --[ D($a,$a,$a,$a,$a,$a,$a,$a,$a,$a,$a,$a,$a,$a,$a,$a) ]->
   [ C($a,$a,$a,$a,$a,$a,$a,$a,$a,$a,$a,$a,$a,$a,$a,$a,$a) ]
 lemma m: \"Ex x #i. E(x,x,x,x,x,x,x,x,x,x,x,x,x,x,x,x,x)@i\" end",
-            "fatal: arity above 16: A\nfatal: arity above 16: C\nfatal: arity above 16: B\nfatal: arity above 16: E\n",
-        ),
-        // names are told in the order of the text, where items of the other kind have them too, and once where they are used again
-        (
-            b"theory T begin
+        "fatal: arity above 16: A\nfatal: arity above 16: C\nfatal: arity above 16: B\nfatal: arity above 16: E\n",
+    ),
+    // names are told in the order of the text, where items of the other kind have them too, and once where they are used again
+    (
+        b"theory T begin
 rule R: [ ] --> [ ] lemma l: \"T\" rule l: [ ] --> [ ] lemma R: \"T\" lemma l: \"T\"
 rule R: [ ] --> [ ] lemma R: \"T\" rule R: [ ] --> [ ] end",
-            "fatal: name l used twice\nfatal: name R used twice\n",
-        ),
-    ];
-    for (text, lines) in wanted {
+        "fatal: name l used twice\nfatal: name R used twice\n",
+    ),
+];
+
+#[test]
+fn theories_are_reported_on(rt: HostRuntime) -> Result<(), Fail> {
+    for (text, lines) in &THEORIES {
         let found = report_on(rt.alloc(), text)?;
         assert!(rt; found.as_slice() == lines.as_bytes(), "{lines}");
     }

@@ -39,42 +39,44 @@ fn read(alloc: Global, text: &[u8]) -> Result<Option<(char, usize)>, Fail> {
     }
 }
 
+/// Texts, the letters of the formulas that they begin with, and how many tokens those have.
+static FORMULAS: [(&[u8], Option<(char, usize)>); 30] = [
+    (b"<x, y> = z\"", Some(('=', 8))),
+    (b"h(x) = h(<y>)\"", Some(('=', 12))),
+    (b"f{x, y}k = z\"", Some(('=', 10))),
+    (b"(f(x, g())) = 'a' & F\"", Some(('&', 15))),
+    (b"H(f{<x, 'c'>}h(y), k)@i\"", Some(('@', 20))),
+    (b"H(f(x)) = y\"", Some(('=', 10))),
+    (b"x < h(y)\"", None),
+    (b"<x, > = y\"", None),
+    (b"f{} = y\"", None),
+    (b"All(x) = y\"", None),
+    (b"T\"", Some(('T', 2))),
+    (b"(F)\" x", Some(('F', 4))),
+    (b"(T) = x\"", Some(('=', 6))),
+    (b"((x)) = 'a'\"", Some(('=', 8))),
+    (b"T(x)@i\"", Some(('@', 7))),
+    (b"!A(x, ~y)@i:node\"", Some(('@', 13))),
+    (b"#i < j\"", Some(('<', 5))),
+    (b"not (T) & F\"", Some(('&', 7))),
+    (b"T & F | T & F\"", Some(('|', 8))),
+    (b"T ==> F ==> T\"", Some(('>', 6))),
+    (b"T <=> F ==> T\"", Some(('~', 6))),
+    (b"All x. x = x <=> T <=> F\"", Some(('~', 11))),
+    (b"(All x #i. x = x) | Ex y. T\"", Some(('|', 16))),
+    (b"not All x. T\"", Some(('-', 6))),
+    (b"T <=> F <=> T\"", None),
+    (b"x & T\"", None),
+    (b"(T\"", None),
+    (b"All . T\"", None),
+    (b"solve(x) = y\"", None),
+    (b"x = /* y */ solve(y)\"", None),
+];
+
 #[test]
 fn formulas_are_read(rt: HostRuntime) -> Result<(), Fail> {
-    let wanted: [(&[u8], Option<(char, usize)>); 30] = [
-        (b"<x, y> = z\"", Some(('=', 8))),
-        (b"h(x) = h(<y>)\"", Some(('=', 12))),
-        (b"f{x, y}k = z\"", Some(('=', 10))),
-        (b"(f(x, g())) = 'a' & F\"", Some(('&', 15))),
-        (b"H(f{<x, 'c'>}h(y), k)@i\"", Some(('@', 20))),
-        (b"H(f(x)) = y\"", Some(('=', 10))),
-        (b"x < h(y)\"", None),
-        (b"<x, > = y\"", None),
-        (b"f{} = y\"", None),
-        (b"All(x) = y\"", None),
-        (b"T\"", Some(('T', 2))),
-        (b"(F)\" x", Some(('F', 4))),
-        (b"(T) = x\"", Some(('=', 6))),
-        (b"((x)) = 'a'\"", Some(('=', 8))),
-        (b"T(x)@i\"", Some(('@', 7))),
-        (b"!A(x, ~y)@i:node\"", Some(('@', 13))),
-        (b"#i < j\"", Some(('<', 5))),
-        (b"not (T) & F\"", Some(('&', 7))),
-        (b"T & F | T & F\"", Some(('|', 8))),
-        (b"T ==> F ==> T\"", Some(('>', 6))),
-        (b"T <=> F ==> T\"", Some(('~', 6))),
-        (b"All x. x = x <=> T <=> F\"", Some(('~', 11))),
-        (b"(All x #i. x = x) | Ex y. T\"", Some(('|', 16))),
-        (b"not All x. T\"", Some(('-', 6))),
-        (b"T <=> F <=> T\"", None),
-        (b"x & T\"", None),
-        (b"(T\"", None),
-        (b"All . T\"", None),
-        (b"solve(x) = y\"", None),
-        (b"x = /* y */ solve(y)\"", None),
-    ];
-    for (text, want) in wanted {
-        assert_eq!(rt; read(rt.alloc(), text)?, want, "{text:?}");
+    for (text, want) in &FORMULAS {
+        assert_eq!(rt; read(rt.alloc(), text)?, *want, "{text:?}");
     }
     Ok(())
 }
@@ -108,70 +110,76 @@ fn negation(alloc: Global, text: &[u8]) -> Result<(char, usize, usize), Fail> {
     Ok(outermost(&negate(alloc, form)?))
 }
 
+/// Texts, and the outermost parts of their forms.
+static FORMS: [(&[u8], Option<(char, usize, usize)>); 14] = [
+    (b"not F\"", Some(('T', 0, 0))),
+    (b"All x #i. A(x)@i ==> x = x\"", Some(('A', 2, 1))),
+    (b"Ex x #i. A(x)@i & x = x\"", Some(('E', 2, 2))),
+    (b"Ex x y #i. A(x)@i & y = x\"", Some(('E', 3, 2))),
+    (b"Ex x y #i. A(x)@i & y = y\"", None),
+    (b"(Ex #i. A()@i) & T & F\"", Some(('&', 3, 0))),
+    (b"not (Ex x #i. A(x)@i)\"", Some(('A', 2, 1))),
+    (b"(Ex #i. A()@i) <=> (Ex #i. B()@i)\"", Some(('&', 2, 0))),
+    (
+        b"All x #i #j. A(x)@i & A(x)@j ==> #i < #j\"",
+        Some(('A', 3, 2)),
+    ),
+    (b"All x. x = x\"", None),
+    (b"Ex x #i. A(~x)@i\"", None),
+    (b"Ex x #i. A(x)@x\"", None),
+    (b"Ex #i. A(y)@i\"", None),
+    (b"Ex x #i. A(x,x,x,x,x,x,x,x,x,x,x,x,x,x,x,x,x)@i\"", None),
+];
+
+/// Texts, and the outermost parts of the negations of their forms.
+static NEGATIONS: [(&[u8], (char, usize, usize)); 4] = [
+    (b"All x #i #j. A(x)@i & A(x)@j ==> #i = #j\"", ('E', 3, 2)),
+    (b"Ex x #i. A(x)@i\"", ('A', 2, 1)),
+    (b"(Ex #i. A()@i) & T & F\"", ('|', 3, 0)),
+    (b"F\"", ('T', 0, 0)),
+];
+
 #[test]
 fn formulas_have_forms_and_negations(rt: HostRuntime) -> Result<(), Fail> {
     let alloc = rt.alloc();
-    let wanted: [(&[u8], Option<(char, usize, usize)>); 14] = [
-        (b"not F\"", Some(('T', 0, 0))),
-        (b"All x #i. A(x)@i ==> x = x\"", Some(('A', 2, 1))),
-        (b"Ex x #i. A(x)@i & x = x\"", Some(('E', 2, 2))),
-        (b"Ex x y #i. A(x)@i & y = x\"", Some(('E', 3, 2))),
-        (b"Ex x y #i. A(x)@i & y = y\"", None),
-        (b"(Ex #i. A()@i) & T & F\"", Some(('&', 3, 0))),
-        (b"not (Ex x #i. A(x)@i)\"", Some(('A', 2, 1))),
-        (b"(Ex #i. A()@i) <=> (Ex #i. B()@i)\"", Some(('&', 2, 0))),
-        (
-            b"All x #i #j. A(x)@i & A(x)@j ==> #i < #j\"",
-            Some(('A', 3, 2)),
-        ),
-        (b"All x. x = x\"", None),
-        (b"Ex x #i. A(~x)@i\"", None),
-        (b"Ex x #i. A(x)@x\"", None),
-        (b"Ex #i. A(y)@i\"", None),
-        (b"Ex x #i. A(x,x,x,x,x,x,x,x,x,x,x,x,x,x,x,x,x)@i\"", None),
-    ];
-    for (text, want) in wanted {
-        assert_eq!(rt; form(alloc, text)?, want, "{text:?}");
+    for (text, want) in &FORMS {
+        assert_eq!(rt; form(alloc, text)?, *want, "{text:?}");
     }
-    let negated: [(&[u8], (char, usize, usize)); 4] = [
-        (b"All x #i #j. A(x)@i & A(x)@j ==> #i = #j\"", ('E', 3, 2)),
-        (b"Ex x #i. A(x)@i\"", ('A', 2, 1)),
-        (b"(Ex #i. A()@i) & T & F\"", ('|', 3, 0)),
-        (b"F\"", ('T', 0, 0)),
-    ];
-    for (text, want) in negated {
-        assert_eq!(rt; negation(alloc, text)?, want, "{text:?}");
+    for (text, want) in &NEGATIONS {
+        assert_eq!(rt; negation(alloc, text)?, *want, "{text:?}");
     }
     Ok(())
 }
 
+/// Texts, and the first variables of their formulas that aren't guarded.
+static UNGUARDED: [(&[u8], Option<&str>); 16] = [
+    (b"All x #i. A(x)@i ==> x = x\"", None),
+    (b"All x y #i. A(x)@i ==> x = y\"", Some("y")),
+    (b"All x y #i. A(y)@i ==> x = y\"", Some("x")),
+    (b"Ex x #i #j. A(x)@i & #i < #j\"", Some("j")),
+    (b"Ex x #i. A()@i & not A(x)@i\"", Some("x")),
+    (b"Ex x. Ex y #i. A(y)@i & x = y\"", None),
+    (b"Ex y. Ex x #i. A()@i & x = y\"", Some("y")),
+    (b"Ex y #i. A(y)@i & (Ex x. x = y)\"", None),
+    (b"Ex x. not (All y #i. A(y)@i ==> not (x = y))\"", None),
+    (b"Ex x. not (Ex y #i. A(y)@i & x = y)\"", Some("x")),
+    (b"Ex y. not (All x #i. A()@i ==> not (x = y))\"", Some("y")),
+    (b"(Ex #i. A()@i) ==> (Ex x. x = x)\"", Some("x")),
+    (b"(Ex #i. A()@i) <=> (Ex #j. B()@j)\"", None),
+    (b"(Ex #i. A()@i) <=> (All x. x = x)\"", Some("x")),
+    (b"(Ex y. y = y) <=> (All x. x = x)\"", Some("y")),
+    (
+        b"All #i. A()@i ==> not ((Ex #j. B()@j) <=> (Ex x. not (x = x)))\"",
+        Some("x"),
+    ),
+];
+
 #[test]
 fn the_first_unguarded_variable_is_named(rt: HostRuntime) -> Result<(), Fail> {
     let alloc = rt.alloc();
-    let wanted: [(&[u8], Option<&str>); 16] = [
-        (b"All x #i. A(x)@i ==> x = x\"", None),
-        (b"All x y #i. A(x)@i ==> x = y\"", Some("y")),
-        (b"All x y #i. A(y)@i ==> x = y\"", Some("x")),
-        (b"Ex x #i #j. A(x)@i & #i < #j\"", Some("j")),
-        (b"Ex x #i. A()@i & not A(x)@i\"", Some("x")),
-        (b"Ex x. Ex y #i. A(y)@i & x = y\"", None),
-        (b"Ex y. Ex x #i. A()@i & x = y\"", Some("y")),
-        (b"Ex y #i. A(y)@i & (Ex x. x = y)\"", None),
-        (b"Ex x. not (All y #i. A(y)@i ==> not (x = y))\"", None),
-        (b"Ex x. not (Ex y #i. A(y)@i & x = y)\"", Some("x")),
-        (b"Ex y. not (All x #i. A()@i ==> not (x = y))\"", Some("y")),
-        (b"(Ex #i. A()@i) ==> (Ex x. x = x)\"", Some("x")),
-        (b"(Ex #i. A()@i) <=> (Ex #j. B()@j)\"", None),
-        (b"(Ex #i. A()@i) <=> (All x. x = x)\"", Some("x")),
-        (b"(Ex y. y = y) <=> (All x. x = x)\"", Some("y")),
-        (
-            b"All #i. A()@i ==> not ((Ex #j. B()@j) <=> (Ex x. not (x = x)))\"",
-            Some("x"),
-        ),
-    ];
-    for (text, name) in wanted {
+    for (text, name) in &UNGUARDED {
         let read = formula_in(alloc, text)?;
-        assert!(rt; first_unguarded(alloc, &read)? == name, "{text:?}");
+        assert!(rt; first_unguarded(alloc, &read)? == *name, "{text:?}");
     }
     Ok(())
 }

@@ -3,7 +3,11 @@
 ghost use Rattle.sp_pose.specs.Posed.{IsPosedBy};
 
 use sp_exec::replay::{Replayed, replay};
-use sp_ground::term::GroundTerm;
+use sp_fact::ground_fact::Trace;
+use sp_fact::ground_term::GroundTerm;
+use sp_fact::rule::Rule;
+use sp_fact::signature::Signature;
+use sp_fact::step::Step;
 use sp_learn::check::{Checked, check_log};
 use sp_learn::log::{Entry, How, Log};
 use sp_learn::trace::visible_trace;
@@ -59,33 +63,53 @@ fn learnt_in(alloc: Global, log: &Log) -> Result<String, AllocError> {
     Ok(out)
 }
 
-/// The log of the steps of these lines over what the text poses, of which the trace that replaying gives is also told; none where they can't be done.
-fn followed(
+/// Whether the log keeps the clauses of logs.
+fn keeps_clauses(
     alloc: Global,
-    text: &[u8],
-    problem: Problem,
-    lines: &[u8],
-) -> Result<Option<(Log, String)>, Fail>
-    requires { IsPosedBy text.now problem }
-{
-    let signature = problem.signature;
-    let StepLines::Steps(steps) = read_steps(alloc, &signature.symbols, lines)? else {
-        return Err("a line is no step's".into());
-    };
-    let log = to_log(alloc, &signature, &problem.rules, &steps)?;
-    let replayed = replay(alloc, &signature, &problem.rules, &steps)?;
+    signature: &Signature,
+    rules: &Vec<Rule>,
+    log: &Log,
+) -> Result<bool, AllocError> {
+    let book = book(alloc, &signature.equations, rules)?;
+    Ok(check_log(alloc, signature, &book.rules, log)? == Checked::Fine)
+}
+
+/// The log of these steps, and the trace of their replay; neither where they can't be done.
+fn logged(
+    alloc: Global,
+    signature: &Signature,
+    rules: &Vec<Rule>,
+    steps: &Vec<Step>,
+    replayed: Replayed,
+) -> Result<Option<(Log, Trace)>, Fail> {
+    let log = to_log(alloc, signature, rules, steps)?;
     match (replayed, log) {
         (Replayed::Done(trace), Some(log)) => {
-            let book = book(alloc, &signature.equations, &problem.rules)?;
-            if check_log(alloc, &signature, &book.rules, &log)? != Checked::Fine {
-                return Err("the log breaks a clause".into());
+            if keeps_clauses(alloc, signature, rules, &log)? {
+                Ok(Some((log, trace)))
+            } else {
+                Err("the log breaks a clause".into())
             }
-            let shown = trace_block(alloc, &trace)?;
-            Ok(Some((log, shown)))
         }
         (Replayed::Refused(_, _), None) => Ok(None),
         _ => Err("there is a log of what is no execution, or none of one".into()),
     }
+}
+
+/// The log of the steps of these lines over what the text poses, and the trace that replaying gives; none where they can't be done.
+fn followed(
+    alloc: Global,
+    text: &[u8],
+    problem: &Problem,
+    lines: &[u8],
+) -> Result<Option<(Log, Trace)>, Fail>
+    requires { IsPosedBy text.now problem.now }
+{
+    let StepLines::Steps(steps) = read_steps(alloc, &problem.signature.symbols, lines)? else {
+        return Err("a line is no step's".into());
+    };
+    let replayed = replay(alloc, &problem.signature, &problem.rules, &steps)?;
+    logged(alloc, &problem.signature, &problem.rules, &steps, replayed)
 }
 
 /// The log of the steps of these lines over a theory.
@@ -93,12 +117,12 @@ pub(crate) fn log_of(
     alloc: Global,
     theory: &str,
     lines: &str,
-) -> Result<Option<(Log, String)>, Fail> {
+) -> Result<Option<(Log, Trace)>, Fail> {
     let text = theory.as_bytes();
     let Read::Posed(problem) = posed_by(alloc, text)? else {
         return Err("nothing is posed".into());
     };
-    followed(alloc, text, problem, lines.as_bytes())
+    followed(alloc, text, &problem, lines.as_bytes())
 }
 
 /// What the log of the steps shows, which is what replaying shows, and learns.
@@ -107,7 +131,7 @@ pub(crate) fn told_of(alloc: Global, theory: &str, lines: &str) -> Result<Option
         return Ok(None);
     };
     let trace = trace_block(alloc, &visible_trace(alloc, &log)?)?;
-    if trace != replayed {
+    if trace != trace_block(alloc, &replayed)? {
         return Err("the log shows another trace".into());
     }
     let learnt = learnt_in(alloc, &log)?;

@@ -116,147 +116,156 @@ fn read(alloc: Global, text: &str) -> Result<Option<(String, String, usize)>, Fa
     Ok(Some((written, tree, rest)))
 }
 
+/// Texts, the proofs that they begin with, the trees that stand in those, and how many tokens they have.
+static PROOFS: [(&str, &str, &str, usize); 7] = [
+    ("SOLVED", "SOLVED", "SOLVED", 1),
+    ("by sorry", "sorry", "sorry", 2),
+    ("by induction lemma", "induction", "unbuilt induction", 2),
+    (
+        "by solve( no ( goal ) )",
+        "( no ( goal ) )",
+        "unknown no ( goal )",
+        2,
+    ),
+    (
+        "simplify by contradiction end",
+        "simplify []; contradiction",
+        "simplify []; contradiction",
+        3,
+    ),
+    (
+        "simplify\nsolve( action 0 )\n  case Make\n  solve( action 0 )\n    case Make\n    by contradiction\n  qed\nqed\n",
+        "simplify []; ( action 0 ) [Make]; ( action 0 ) [Make]; contradiction",
+        "simplify []; action 0 [Make]; action 0 [Make]; contradiction",
+        11,
+    ),
+    (
+        "solve( action 1 )\n  case R.1_done\n  SOLVED\nnext\n  case case\n  by sorry\nnext case qed by simplify qed qed",
+        "( action 1 ) [R.1_done] [case] [qed]; SOLVED; sorry; simplify",
+        "action 1 [R.1_done] [case] [qed]; SOLVED; sorry; simplify",
+        15,
+    ),
+];
+
 #[test]
 fn proofs_are_read(rt: HostRuntime) -> Result<(), Fail> {
-    for (text, written, tree, count) in [
-        ("SOLVED", "SOLVED", "SOLVED", 1),
-        ("by sorry", "sorry", "sorry", 2),
-        ("by induction lemma", "induction", "unbuilt induction", 2),
-        (
-            "by solve( no ( goal ) )",
-            "( no ( goal ) )",
-            "unknown no ( goal )",
-            2,
-        ),
-        (
-            "simplify by contradiction end",
-            "simplify []; contradiction",
-            "simplify []; contradiction",
-            3,
-        ),
-        (
-            "simplify\nsolve( action 0 )\n  case Make\n  solve( action 0 )\n    case Make\n    by contradiction\n  qed\nqed\n",
-            "simplify []; ( action 0 ) [Make]; ( action 0 ) [Make]; contradiction",
-            "simplify []; action 0 [Make]; action 0 [Make]; contradiction",
-            11,
-        ),
-        (
-            "solve( action 1 )\n  case R.1_done\n  SOLVED\nnext\n  case case\n  by sorry\nnext case qed by simplify qed qed",
-            "( action 1 ) [R.1_done] [case] [qed]; SOLVED; sorry; simplify",
-            "action 1 [R.1_done] [case] [qed]; SOLVED; sorry; simplify",
-            15,
-        ),
-    ] {
+    for (text, written, tree, count) in &PROOFS {
         let found = read(rt.alloc(), text)?.ok_or("proof")?;
-        assert_eq!(rt; found.0.as_str(), written, "{text}");
-        assert_eq!(rt; found.1.as_str(), tree, "{text}");
-        assert_eq!(rt; found.2, count, "{text}");
+        assert_eq!(rt; found.0.as_str(), *written, "{text}");
+        assert_eq!(rt; found.1.as_str(), *tree, "{text}");
+        assert_eq!(rt; found.2, *count, "{text}");
     }
     Ok(())
 }
 
+/// Texts that begin with no proof.
+static OTHERS: [&str; 19] = [
+    "",
+    "by",
+    "by SOLVED",
+    "simplify",
+    "simplify case",
+    "simplify case a by sorry",
+    "simplify case a by sorry next",
+    "simplify case a by sorry next by sorry qed",
+    "simplify case a by sorry case b by sorry qed",
+    "simplify case end by sorry qed",
+    "simplify case last by sorry qed",
+    "simplify case a qed",
+    "simplify qed",
+    "case a by sorry qed",
+    "solved",
+    "qed",
+    "lemma",
+    "( by sorry )",
+    "'c'",
+];
+
 #[test]
 fn other_tokens_are_no_proofs(rt: HostRuntime) -> Result<(), Fail> {
-    for text in [
-        "",
-        "by",
-        "by SOLVED",
-        "simplify",
-        "simplify case",
-        "simplify case a by sorry",
-        "simplify case a by sorry next",
-        "simplify case a by sorry next by sorry qed",
-        "simplify case a by sorry case b by sorry qed",
-        "simplify case end by sorry qed",
-        "simplify case last by sorry qed",
-        "simplify case a qed",
-        "simplify qed",
-        "case a by sorry qed",
-        "solved",
-        "qed",
-        "lemma",
-        "( by sorry )",
-        "'c'",
-    ] {
+    for text in &OTHERS {
         assert!(rt; read(rt.alloc(), text)?.is_none(), "{text}");
     }
     Ok(())
 }
 
+/// Proofs of one goal, and the trees that stand in them.
+static GOALS: [(&str, &str); 44] = [
+    ("by solve(action 0)", "action 0"),
+    (
+        "by solve ( \n\taction 18446744073709551615\r )",
+        "action 18446744073709551615",
+    ),
+    (
+        "by solve( action 18446744073709551616 )",
+        "unbuilt action 18446744073709551616",
+    ),
+    (
+        "by solve( action 340282366920938463463374607431768211455 )",
+        "unbuilt action 340282366920938463463374607431768211455",
+    ),
+    (
+        "by solve( action 340282366920938463463374607431768211456 )",
+        "unknown action 340282366920938463463374607431768211456",
+    ),
+    ("by solve( action 00 )", "unknown action 00"),
+    ("by solve( action  0 )", "unknown action  0"),
+    ("by solve( action +1 )", "unknown action +1"),
+    ("by solve( action )", "unknown action"),
+    ("by solve( action 1 2 )", "unknown action 1 2"),
+    ("by solve( Action 1 )", "unknown Action 1"),
+    ("by solve( )", "unknown "),
+    ("by solve( or 12 )", "or 12"),
+    (
+        "by solve( or 18446744073709551616 )",
+        "unbuilt or 18446744073709551616",
+    ),
+    ("by solve( or )", "unknown or"),
+    (
+        "by solve( know 18446744073709551616 )",
+        "know 18446744073709551616",
+    ),
+    ("by solve( know )", "unknown know"),
+    ("by solve( chain 0 )", "chain 0"),
+    ("by solve( chain 0 0 )", "unknown chain 0 0"),
+    ("by solve( source 0 )", "unbuilt source 0"),
+    ("by solve( top 0 )", "unbuilt top 0"),
+    ("by solve( top 0 0 )", "unknown top 0 0"),
+    ("by solve( premise 20 1 )", "premise 20 1"),
+    (
+        "by solve( premise 340282366920938463463374607431768211455 0 )",
+        "premise 340282366920938463463374607431768211455 0",
+    ),
+    (
+        "by solve( premise 0 18446744073709551616 )",
+        "unbuilt premise 0 18446744073709551616",
+    ),
+    ("by solve( premise 0 01 )", "unknown premise 0 01"),
+    ("by solve( premise 0 )", "unknown premise 0"),
+    ("by solve( premise 0 1 2 )", "unknown premise 0 1 2"),
+    ("by solve( compare 1 0 )", "unbuilt compare 1 0"),
+    ("by solve( compare 1 01 )", "unknown compare 1 01"),
+    ("by solve( more )", "unbuilt more"),
+    ("by solve( more 1 )", "unknown more 1"),
+    ("by solve( finish )", "unbuilt finish"),
+    ("by solve( same $3 $1 )", "unbuilt same $3 $1"),
+    ("by solve( same ~1 $2 )", "unbuilt same ~1 $2"),
+    ("by solve( same 'a' $1 )", "unbuilt same 'a' $1"),
+    ("by solve( same $1 'a (b' )", "unbuilt same $1 'a (b'"),
+    ("by solve( same 'a' 'b' )", "unknown same 'a' 'b'"),
+    ("by solve( same '' $1 )", "unknown same '' $1"),
+    ("by solve( same $1 $ )", "unknown same $1 $"),
+    ("by solve( same $1 $01 )", "unknown same $1 $01"),
+    ("by solve( same $1 )", "unknown same $1"),
+    ("by solve( same $1 $2 $3 )", "unknown same $1 $2 $3"),
+    ("by solve( simplify )", "unknown simplify"),
+];
+
 #[test]
 fn goals_say_moves(rt: HostRuntime) -> Result<(), Fail> {
-    for (text, tree) in [
-        ("by solve(action 0)", "action 0"),
-        (
-            "by solve ( \n\taction 18446744073709551615\r )",
-            "action 18446744073709551615",
-        ),
-        (
-            "by solve( action 18446744073709551616 )",
-            "unbuilt action 18446744073709551616",
-        ),
-        (
-            "by solve( action 340282366920938463463374607431768211455 )",
-            "unbuilt action 340282366920938463463374607431768211455",
-        ),
-        (
-            "by solve( action 340282366920938463463374607431768211456 )",
-            "unknown action 340282366920938463463374607431768211456",
-        ),
-        ("by solve( action 00 )", "unknown action 00"),
-        ("by solve( action  0 )", "unknown action  0"),
-        ("by solve( action +1 )", "unknown action +1"),
-        ("by solve( action )", "unknown action"),
-        ("by solve( action 1 2 )", "unknown action 1 2"),
-        ("by solve( Action 1 )", "unknown Action 1"),
-        ("by solve( )", "unknown "),
-        ("by solve( or 12 )", "or 12"),
-        (
-            "by solve( or 18446744073709551616 )",
-            "unbuilt or 18446744073709551616",
-        ),
-        ("by solve( or )", "unknown or"),
-        (
-            "by solve( know 18446744073709551616 )",
-            "know 18446744073709551616",
-        ),
-        ("by solve( know )", "unknown know"),
-        ("by solve( chain 0 )", "chain 0"),
-        ("by solve( chain 0 0 )", "unknown chain 0 0"),
-        ("by solve( source 0 )", "unbuilt source 0"),
-        ("by solve( top 0 )", "unbuilt top 0"),
-        ("by solve( top 0 0 )", "unknown top 0 0"),
-        ("by solve( premise 20 1 )", "premise 20 1"),
-        (
-            "by solve( premise 340282366920938463463374607431768211455 0 )",
-            "premise 340282366920938463463374607431768211455 0",
-        ),
-        (
-            "by solve( premise 0 18446744073709551616 )",
-            "unbuilt premise 0 18446744073709551616",
-        ),
-        ("by solve( premise 0 01 )", "unknown premise 0 01"),
-        ("by solve( premise 0 )", "unknown premise 0"),
-        ("by solve( premise 0 1 2 )", "unknown premise 0 1 2"),
-        ("by solve( compare 1 0 )", "unbuilt compare 1 0"),
-        ("by solve( compare 1 01 )", "unknown compare 1 01"),
-        ("by solve( more )", "unbuilt more"),
-        ("by solve( more 1 )", "unknown more 1"),
-        ("by solve( finish )", "unbuilt finish"),
-        ("by solve( same $3 $1 )", "unbuilt same $3 $1"),
-        ("by solve( same ~1 $2 )", "unbuilt same ~1 $2"),
-        ("by solve( same 'a' $1 )", "unbuilt same 'a' $1"),
-        ("by solve( same $1 'a (b' )", "unbuilt same $1 'a (b'"),
-        ("by solve( same 'a' 'b' )", "unknown same 'a' 'b'"),
-        ("by solve( same '' $1 )", "unknown same '' $1"),
-        ("by solve( same $1 $ )", "unknown same $1 $"),
-        ("by solve( same $1 $01 )", "unknown same $1 $01"),
-        ("by solve( same $1 )", "unknown same $1"),
-        ("by solve( same $1 $2 $3 )", "unknown same $1 $2 $3"),
-        ("by solve( simplify )", "unknown simplify"),
-    ] {
+    for (text, tree) in &GOALS {
         let found = read(rt.alloc(), text)?.ok_or("proof")?;
-        assert_eq!(rt; found.1.as_str(), tree, "{text}");
+        assert_eq!(rt; found.1.as_str(), *tree, "{text}");
         assert_eq!(rt; found.2, 2, "{text}");
     }
     Ok(())

@@ -1,8 +1,8 @@
 // The lines of a replay are read as steps.
 
-use sp_ground::signature::Signature;
-use sp_ground::step::Step;
-use sp_ground::term::GroundTerm;
+use sp_fact::ground_term::GroundTerm;
+use sp_fact::signature::Signature;
+use sp_fact::step::Step;
 use sp_read_steps::{StepLines, read_steps};
 use sp_term::term::Term;
 use std::alloc::{AllocError, Global};
@@ -95,86 +95,92 @@ fn read(alloc: Global, text: &str) -> Result<String, AllocError> {
     Ok(out)
 }
 
+/// Texts and their steps.
+static STEPS: [(&str, &str); 15] = [
+    ("", ""),
+    ("\n \t\r\n", ""),
+    ("pub 'a'", "KnowPublic <a>;"),
+    ("in fst(<'a', 'b'>)", "PutIn fst[pair[<a> <b> ] ];"),
+    (
+        "fresh ~n340282366920938463463374607431768211455",
+        "MakeFresh 340282366920938463463374607431768211455;",
+    ),
+    ("make c", "ApplySymbol c[];"),
+    ("make nosuch('a')", "ApplySymbol nosuch[<a> ];"),
+    ("make pair('a')", "ApplySymbol pair[<a> ];"),
+    (
+        "make <'a', 'b', 'c'>",
+        "ApplySymbol pair[<a> pair[<b> <c> ] ];",
+    ),
+    ("rule Foo:", "UseRule Foo;"),
+    ("rule Make: k = ~n1, k = ~n2", "UseRule Make k 1 k 2;"),
+    ("rule M.1_a: x.1 = ~n1", "UseRule M.1_a x.1 1;"),
+    (
+        "pub <'a', 'b', 'c'>",
+        "KnowPublic pair[<a> pair[<b> <c> ] ];",
+    ),
+    (
+        "pub <<'a', 'b'>, 'c'>",
+        "KnowPublic pair[pair[<a> <b> ] <c> ];",
+    ),
+    (
+        "\n  own ~n7 \r\n\nout snd('x y')\t\n",
+        "MakeOwn 7;TakeOut snd[<x y> ];",
+    ),
+];
+
 #[test]
 fn steps_are_read(rt: HostRuntime) -> Result<(), Fail> {
-    for (text, steps) in [
-        ("", ""),
-        ("\n \t\r\n", ""),
-        ("pub 'a'", "KnowPublic <a>;"),
-        ("in fst(<'a', 'b'>)", "PutIn fst[pair[<a> <b> ] ];"),
-        (
-            "fresh ~n340282366920938463463374607431768211455",
-            "MakeFresh 340282366920938463463374607431768211455;",
-        ),
-        ("make c", "ApplySymbol c[];"),
-        ("make nosuch('a')", "ApplySymbol nosuch[<a> ];"),
-        ("make pair('a')", "ApplySymbol pair[<a> ];"),
-        (
-            "make <'a', 'b', 'c'>",
-            "ApplySymbol pair[<a> pair[<b> <c> ] ];",
-        ),
-        ("rule Foo:", "UseRule Foo;"),
-        ("rule Make: k = ~n1, k = ~n2", "UseRule Make k 1 k 2;"),
-        ("rule M.1_a: x.1 = ~n1", "UseRule M.1_a x.1 1;"),
-        (
-            "pub <'a', 'b', 'c'>",
-            "KnowPublic pair[<a> pair[<b> <c> ] ];",
-        ),
-        (
-            "pub <<'a', 'b'>, 'c'>",
-            "KnowPublic pair[pair[<a> <b> ] <c> ];",
-        ),
-        (
-            "\n  own ~n7 \r\n\nout snd('x y')\t\n",
-            "MakeOwn 7;TakeOut snd[<x y> ];",
-        ),
-    ] {
-        assert_eq!(rt; read(rt.alloc(), text)?.as_str(), steps, "{text}");
+    for (text, steps) in &STEPS {
+        assert_eq!(rt; read(rt.alloc(), text)?.as_str(), *steps, "{text}");
     }
     Ok(())
 }
 
+/// Lines that are no steps'.
+static OTHERS: [&str; 36] = [
+    "jump",
+    "fresh ~n0",
+    "fresh ~n01",
+    "fresh ~n",
+    "fresh ~n1.5",
+    "fresh ~n340282366920938463463374607431768211456",
+    "rule end:",
+    "rule Make: end = ~n1",
+    "rule M.a: x = ~n1",
+    "rule All: All = ~n1",
+    "rule Make:k = ~n1",
+    "rule Make: k = ~n1,",
+    "rule Make: k=~n1",
+    "make 'a'",
+    "make c()",
+    "make pair('a', 'b')",
+    "make <'a', <'b', 'c'>>",
+    "make fst(nosuch('a'))",
+    "make end",
+    "in h('a')",
+    "in fst",
+    "in fst()",
+    "pub <'a', <'b', 'c'>>",
+    "pub <'a'>",
+    "pub <'a','b'>",
+    "pub pair('a','b')",
+    "pub pair('a', 'b')",
+    "pub fst('a', 'b')",
+    "pub  'a'",
+    "pub ''",
+    "pub 'a",
+    "pub 'a' 'b'",
+    "pub 'a'b",
+    "pub\t'a'",
+    "Pub 'a'",
+    "pub",
+];
+
 #[test]
 fn other_lines_are_no_steps(rt: HostRuntime) -> Result<(), Fail> {
     let alloc = rt.alloc();
-    for text in [
-        "jump",
-        "fresh ~n0",
-        "fresh ~n01",
-        "fresh ~n",
-        "fresh ~n1.5",
-        "fresh ~n340282366920938463463374607431768211456",
-        "rule end:",
-        "rule Make: end = ~n1",
-        "rule M.a: x = ~n1",
-        "rule All: All = ~n1",
-        "rule Make:k = ~n1",
-        "rule Make: k = ~n1,",
-        "rule Make: k=~n1",
-        "make 'a'",
-        "make c()",
-        "make pair('a', 'b')",
-        "make <'a', <'b', 'c'>>",
-        "make fst(nosuch('a'))",
-        "make end",
-        "in h('a')",
-        "in fst",
-        "in fst()",
-        "pub <'a', <'b', 'c'>>",
-        "pub <'a'>",
-        "pub <'a','b'>",
-        "pub pair('a','b')",
-        "pub pair('a', 'b')",
-        "pub fst('a', 'b')",
-        "pub  'a'",
-        "pub ''",
-        "pub 'a",
-        "pub 'a' 'b'",
-        "pub 'a'b",
-        "pub\t'a'",
-        "Pub 'a'",
-        "pub",
-    ] {
+    for text in &OTHERS {
         let lines = format!(in alloc; "\nfresh ~n1\n{text}\njump")?;
         assert_eq!(rt; read(alloc, &lines)?.as_str(), "unread 3", "{text}");
     }

@@ -24,68 +24,70 @@ fn shape(alloc: Global, text: &[u8]) -> Result<Option<Shape>, AllocError> {
     Ok(Some((count, last.from, last.to, theory.behind_end)))
 }
 
+/// Texts, and the shapes of their theories.
+static SHAPES: [(&[u8], Option<Shape>); 28] = [
+    (b"theory T begin end", Some((0, 0, 0, 18))),
+    (b"theory T /* end */ begin // x\n end", Some((0, 0, 0, 34))),
+    (b"theory T begin /* end", None),
+    (b"theory T begin solve(x) end", None),
+    (
+        b"theory T begin rule R: [ ] --> [ ] rule S: [ ] --[ A('c') ]-> [ ] end \"",
+        Some((2, 0, 0, 69)),
+    ),
+    (
+        b"theory T begin lemma a: \"All x. not x = x\" end",
+        Some((1, 42, 42, 46)),
+    ),
+    (b"theory T begin lemma a: exists-traces \"T\" end", None),
+    (b"theory T begin lemma a: all-trace \"T\" end", None),
+    (b"theory T begin lemma a: \"T end", None),
+    (b"theory T begin lemma a: \"T\"", None),
+    (b"theory T begin lemma a: \"T & \" end", None),
+    (b"theory T begin rule R: [ ] --> [ ] \"T\" end", None),
+    (b"theory end begin end", None),
+    (b"theory T begin rule R: [KU('c')] --> [] end", None),
+    (b"theory T begin rule R: [B(x,)] --> [] end", None),
+    (b"theory T begin rule let: [] --> [] end", None),
+    (
+        b"theory T begin rule R: [!B(((x:pub)),'c')] --> [] end",
+        Some((1, 0, 0, 53)),
+    ),
+    // with proofs
+    (
+        b"theory T begin lemma a: \"T\" by sorry end",
+        Some((1, 27, 36, 40)),
+    ),
+    (
+        b"theory T begin lemma a: \"T\" /* by */ SOLVED // qed\n end",
+        Some((1, 27, 43, 55)),
+    ),
+    (
+        b"theory T begin lemma a: \"T\" simplify solve( end ) by sorry\nend",
+        Some((1, 27, 58, 62)),
+    ),
+    (
+        b"theory T begin lemma a: \"T\" simplify case x SOLVED next case y by contradiction qed rule R: [ ] --> [ ] end",
+        Some((2, 27, 83, 107)),
+    ),
+    (
+        b"theory T begin lemma a: \"T\" by sorry lemma b: \"F\" end",
+        Some((2, 49, 49, 53)),
+    ),
+    (b"theory T begin lemma a: \"T\" by end", None),
+    (
+        b"theory T begin lemma a: \"T\" simplify case x by sorry end",
+        None,
+    ),
+    (b"theory T begin lemma a: \"T\" by sorry by sorry end", None),
+    (b"theory T begin by sorry end", None),
+    (b"theory T begin rule R: [ ] --> [ ] by sorry end", None),
+    (b"theory T begin lemma a: \"T\" simplify end", None),
+];
+
 #[test]
 fn theories_are_read(rt: HostRuntime) -> Result<(), Fail> {
-    let wanted: [(&[u8], Option<Shape>); 28] = [
-        (b"theory T begin end", Some((0, 0, 0, 18))),
-        (b"theory T /* end */ begin // x\n end", Some((0, 0, 0, 34))),
-        (b"theory T begin /* end", None),
-        (b"theory T begin solve(x) end", None),
-        (
-            b"theory T begin rule R: [ ] --> [ ] rule S: [ ] --[ A('c') ]-> [ ] end \"",
-            Some((2, 0, 0, 69)),
-        ),
-        (
-            b"theory T begin lemma a: \"All x. not x = x\" end",
-            Some((1, 42, 42, 46)),
-        ),
-        (b"theory T begin lemma a: exists-traces \"T\" end", None),
-        (b"theory T begin lemma a: all-trace \"T\" end", None),
-        (b"theory T begin lemma a: \"T end", None),
-        (b"theory T begin lemma a: \"T\"", None),
-        (b"theory T begin lemma a: \"T & \" end", None),
-        (b"theory T begin rule R: [ ] --> [ ] \"T\" end", None),
-        (b"theory end begin end", None),
-        (b"theory T begin rule R: [KU('c')] --> [] end", None),
-        (b"theory T begin rule R: [B(x,)] --> [] end", None),
-        (b"theory T begin rule let: [] --> [] end", None),
-        (
-            b"theory T begin rule R: [!B(((x:pub)),'c')] --> [] end",
-            Some((1, 0, 0, 53)),
-        ),
-        // with proofs
-        (
-            b"theory T begin lemma a: \"T\" by sorry end",
-            Some((1, 27, 36, 40)),
-        ),
-        (
-            b"theory T begin lemma a: \"T\" /* by */ SOLVED // qed\n end",
-            Some((1, 27, 43, 55)),
-        ),
-        (
-            b"theory T begin lemma a: \"T\" simplify solve( end ) by sorry\nend",
-            Some((1, 27, 58, 62)),
-        ),
-        (
-            b"theory T begin lemma a: \"T\" simplify case x SOLVED next case y by contradiction qed rule R: [ ] --> [ ] end",
-            Some((2, 27, 83, 107)),
-        ),
-        (
-            b"theory T begin lemma a: \"T\" by sorry lemma b: \"F\" end",
-            Some((2, 49, 49, 53)),
-        ),
-        (b"theory T begin lemma a: \"T\" by end", None),
-        (
-            b"theory T begin lemma a: \"T\" simplify case x by sorry end",
-            None,
-        ),
-        (b"theory T begin lemma a: \"T\" by sorry by sorry end", None),
-        (b"theory T begin by sorry end", None),
-        (b"theory T begin rule R: [ ] --> [ ] by sorry end", None),
-        (b"theory T begin lemma a: \"T\" simplify end", None),
-    ];
-    for (text, want) in wanted {
-        assert_eq!(rt; shape(rt.alloc(), text)?, want, "{text:?}");
+    for (text, want) in &SHAPES {
+        assert_eq!(rt; shape(rt.alloc(), text)?, *want, "{text:?}");
     }
     Ok(())
 }

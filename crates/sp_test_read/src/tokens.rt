@@ -40,63 +40,65 @@ fn has_tokens(
     Ok(right)
 }
 
+/// Texts and their tokens.
+static TOKENS: [(&[u8], &[(Kind, &[u8], usize, usize)]); 10] = [
+    (
+        b"R.1_S.2 'a b'--[x]->.1 end?",
+        &[
+            (Kind::Word, b"R.1_S.2", 0, 7),
+            (Kind::Constant, b"a b", 8, 13),
+            (Kind::Sign, b"", 13, 16),
+            (Kind::Word, b"x", 16, 17),
+            (Kind::Sign, b"", 17, 20),
+            (Kind::Sign, b"", 20, 21),
+            (Kind::Word, b"1", 21, 22),
+            (Kind::Word, b"end", 23, 26),
+        ],
+    ),
+    (
+        b"a // end\nb",
+        &[(Kind::Word, b"a", 0, 1), (Kind::Word, b"b", 9, 10)],
+    ),
+    (
+        b"/* end */ b end c",
+        &[(Kind::Word, b"b", 10, 11), (Kind::Word, b"end", 12, 15)],
+    ),
+    (
+        b"/* /* */ */a/**/b",
+        &[(Kind::Word, b"a", 11, 12), (Kind::Word, b"b", 16, 17)],
+    ),
+    (
+        b"//* \xFF ' */\n/* \xFF ' // */ a",
+        &[(Kind::Word, b"a", 24, 25)],
+    ),
+    (
+        b"solve( f(x) ')' )x",
+        &[
+            (Kind::Goal, b" f(x) ')' ", 0, 17),
+            (Kind::Word, b"x", 17, 18),
+        ],
+    ),
+    (
+        b"solve // (\n /* ( */ ('(\xFF))",
+        &[(Kind::Goal, b"'(\xFF)", 0, 26)],
+    ),
+    (b"solve('a'')", &[(Kind::Goal, b"'a''", 0, 11)]),
+    (
+        b"solve x solve.1()",
+        &[
+            (Kind::Word, b"solve", 0, 5),
+            (Kind::Word, b"x", 6, 7),
+            (Kind::Word, b"solve.1", 8, 15),
+            (Kind::Sign, b"", 15, 16),
+            (Kind::Sign, b"", 16, 17),
+        ],
+    ),
+    (b"solve", &[(Kind::Word, b"solve", 0, 5)]),
+];
+
 #[test]
 fn texts_are_cut(rt: HostRuntime) -> Result<(), Fail> {
-    let wanted: [(&[u8], &[(Kind, &[u8], usize, usize)]); 10] = [
-        (
-            b"R.1_S.2 'a b'--[x]->.1 end?",
-            &[
-                (Kind::Word, b"R.1_S.2", 0, 7),
-                (Kind::Constant, b"a b", 8, 13),
-                (Kind::Sign, b"", 13, 16),
-                (Kind::Word, b"x", 16, 17),
-                (Kind::Sign, b"", 17, 20),
-                (Kind::Sign, b"", 20, 21),
-                (Kind::Word, b"1", 21, 22),
-                (Kind::Word, b"end", 23, 26),
-            ],
-        ),
-        (
-            b"a // end\nb",
-            &[(Kind::Word, b"a", 0, 1), (Kind::Word, b"b", 9, 10)],
-        ),
-        (
-            b"/* end */ b end c",
-            &[(Kind::Word, b"b", 10, 11), (Kind::Word, b"end", 12, 15)],
-        ),
-        (
-            b"/* /* */ */a/**/b",
-            &[(Kind::Word, b"a", 11, 12), (Kind::Word, b"b", 16, 17)],
-        ),
-        (
-            b"//* \xFF ' */\n/* \xFF ' // */ a",
-            &[(Kind::Word, b"a", 24, 25)],
-        ),
-        (
-            b"solve( f(x) ')' )x",
-            &[
-                (Kind::Goal, b" f(x) ')' ", 0, 17),
-                (Kind::Word, b"x", 17, 18),
-            ],
-        ),
-        (
-            b"solve // (\n /* ( */ ('(\xFF))",
-            &[(Kind::Goal, b"'(\xFF)", 0, 26)],
-        ),
-        (b"solve('a'')", &[(Kind::Goal, b"'a''", 0, 11)]),
-        (
-            b"solve x solve.1()",
-            &[
-                (Kind::Word, b"solve", 0, 5),
-                (Kind::Word, b"x", 6, 7),
-                (Kind::Word, b"solve.1", 8, 15),
-                (Kind::Sign, b"", 15, 16),
-                (Kind::Sign, b"", 16, 17),
-            ],
-        ),
-        (b"solve", &[(Kind::Word, b"solve", 0, 5)]),
-    ];
-    for (text, tokens) in wanted {
+    for (text, tokens) in &TOKENS {
         assert!(rt; has_tokens(rt.alloc(), text, tokens)?, "{text:?}");
     }
     Ok(())
@@ -111,25 +113,27 @@ fn fault(alloc: Global, text: &[u8], kind: FaultKind) -> Result<Option<(usize, b
     }
 }
 
+/// Texts, and of which kind and where their first fault is.
+static FAULTS: [(&[u8], FaultKind, Option<usize>); 13] = [
+    (b"theory T % x", FaultKind::NoToken, Some(9)),
+    (b"a \xFF", FaultKind::NoToken, Some(2)),
+    (b"a /* b", FaultKind::OpenComment, Some(2)),
+    (b"a /* /* */ b", FaultKind::OpenComment, Some(2)),
+    (b"solve /*", FaultKind::OpenComment, Some(6)),
+    (b"/*/", FaultKind::OpenComment, Some(0)),
+    (b"a 'b", FaultKind::NoConstant, Some(2)),
+    (b"a ''", FaultKind::NoConstant, Some(2)),
+    (b" solve ( (x) ')'", FaultKind::OpenSolve, Some(1)),
+    (b"solve( 'a' /* ) /*", FaultKind::OpenComment, Some(16)),
+    (b"solve( ') )", FaultKind::NoToken, None),
+    (b"a end ''", FaultKind::NoToken, None),
+    (b"a b.c \t\r\n// '", FaultKind::NoToken, None),
+];
+
 #[test]
 fn the_first_fault_is_found(rt: HostRuntime) -> Result<(), Fail> {
-    let wanted: [(&[u8], FaultKind, Option<usize>); 13] = [
-        (b"theory T % x", FaultKind::NoToken, Some(9)),
-        (b"a \xFF", FaultKind::NoToken, Some(2)),
-        (b"a /* b", FaultKind::OpenComment, Some(2)),
-        (b"a /* /* */ b", FaultKind::OpenComment, Some(2)),
-        (b"solve /*", FaultKind::OpenComment, Some(6)),
-        (b"/*/", FaultKind::OpenComment, Some(0)),
-        (b"a 'b", FaultKind::NoConstant, Some(2)),
-        (b"a ''", FaultKind::NoConstant, Some(2)),
-        (b" solve ( (x) ')'", FaultKind::OpenSolve, Some(1)),
-        (b"solve( 'a' /* ) /*", FaultKind::OpenComment, Some(16)),
-        (b"solve( ') )", FaultKind::NoToken, None),
-        (b"a end ''", FaultKind::NoToken, None),
-        (b"a b.c \t\r\n// '", FaultKind::NoToken, None),
-    ];
-    for (text, kind, place) in wanted {
-        let found = fault(rt.alloc(), text, kind)?;
+    for (text, kind, place) in &FAULTS {
+        let found = fault(rt.alloc(), text, *kind)?;
         assert_eq!(rt; found, place.map(|place| (place, true)), "{text:?}");
     }
     Ok(())

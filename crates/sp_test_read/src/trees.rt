@@ -66,7 +66,8 @@ fn over_all(alloc: Global, chosen: Move, cases: Vec<(String, Tree)>) -> Result<T
 
 // the move over one case of this name
 fn over(alloc: Global, chosen: Move, name: &str, tree: Tree) -> Result<Tree, AllocError> {
-    let cases = vec![in alloc; case(alloc, name, tree)?]?;
+    let mut cases = Vec::new(alloc);
+    cases.push(case(alloc, name, tree)?)?;
     over_all(alloc, chosen, cases)
 }
 
@@ -79,40 +80,36 @@ fn with_only_cases(alloc: Global) -> Result<Tree, AllocError> {
 }
 
 fn with_three_cases(alloc: Global) -> Result<Tree, AllocError> {
-    let premise = Premise { time: 20, place: 1 };
-    let cases = vec![in alloc;
-        case(alloc, "", open_leaf(alloc)?)?,
-        case(alloc, "at_1", leaf(alloc, Move::Simplify)?)?,
-        case(alloc, "Give", leaf(alloc, Move::Premise(premise))?)?,
-    ]?;
+    let premise = Move::Premise(Premise { time: 20, place: 1 });
+    let mut cases = Vec::new(alloc);
+    cases.push(case(alloc, "", open_leaf(alloc)?)?)?;
+    cases.push(case(alloc, "at_1", leaf(alloc, Move::Simplify)?)?)?;
+    cases.push(case(alloc, "Give", leaf(alloc, premise)?)?)?;
     over_all(alloc, Move::Or(3), cases)
 }
 
 fn with_ends(alloc: Global) -> Result<Tree, AllocError> {
     let below = over(alloc, Move::Simplify, "", ended(alloc)?)?;
-    let cases = vec![in alloc;
-        case(alloc, "One", below)?,
-        case(alloc, "Two", leaf(alloc, Move::Solved)?)?,
-    ]?;
+    let mut cases = Vec::new(alloc);
+    cases.push(case(alloc, "One", below)?)?;
+    cases.push(case(alloc, "Two", leaf(alloc, Move::Solved)?)?)?;
     over_all(alloc, Move::Action(0), cases)
 }
 
 #[test]
 fn trees_are_written(rt: HostRuntime) -> Result<(), Fail> {
     let alloc = rt.alloc();
-    let trees = vec![in alloc;
-        with_only_cases(alloc)?,
-        with_three_cases(alloc)?,
-        with_ends(alloc)?,
-    ]?;
-    let texts = [
-        "simplify\nsolve( action 0 )\n  case Make\n  solve( action 10 )\n    case Make\n    by contradiction\n  qed\nqed\n",
-        "solve( or 3 )\n  case \n  by sorry\nnext\n  case at_1\n  by simplify\nnext\n  case Give\n  by solve( premise 20 1 )\nqed\n",
-        "solve( action 0 )\n  case One\n  simplify\n  SOLVED\nnext\n  case Two\n  SOLVED\nqed\n",
-    ];
-    assert_eq!(rt; trees.len(), texts.len());
-    for (tree, text) in trees.iter().zip(texts) {
-        assert_eq!(rt; tree_text(alloc, tree)?.as_str(), text);
-    }
+    assert_eq!(rt;
+        tree_text(alloc, &with_only_cases(alloc)?)?.as_str(),
+        "simplify\nsolve( action 0 )\n  case Make\n  solve( action 10 )\n    case Make\n    by contradiction\n  qed\nqed\n"
+    );
+    assert_eq!(rt;
+        tree_text(alloc, &with_three_cases(alloc)?)?.as_str(),
+        "solve( or 3 )\n  case \n  by sorry\nnext\n  case at_1\n  by simplify\nnext\n  case Give\n  by solve( premise 20 1 )\nqed\n"
+    );
+    assert_eq!(rt;
+        tree_text(alloc, &with_ends(alloc)?)?.as_str(),
+        "solve( action 0 )\n  case One\n  simplify\n  SOLVED\nnext\n  case Two\n  SOLVED\nqed\n"
+    );
     Ok(())
 }

@@ -1,78 +1,21 @@
 // The log that a solved system suggests, and the log that is looked for.
 
 use crate::examples::Parts;
-use sp_fact::fact::Facts;
-use sp_fact::rule::Rule;
-use sp_formula::formula::{Atom, Formula, Moment};
-use sp_formula::place::FormulaAction;
-use sp_ground::term::GroundTerm;
+use sp_fact::ground_term::GroundTerm;
+use sp_formula::formula::Moment;
 use sp_learn::log::{Entry, How, Log};
 use sp_log::log::{Entry as StepEntry, Source};
 use sp_solved::{candidate, found};
-use sp_system::event::Event;
-use sp_system::system::{Link, System};
-use sp_system::way::{Chain, Way};
-use sp_term::term::{Name, Sort, Term};
-use sp_test_make::facts::{action, linear, rule};
-use sp_test_make::systems::{event, link, system};
-use sp_test_make::terms::{names, variable, variables};
+use sp_term::term::{Sort, Term};
+use sp_test_make::plain::{
+    NO_FACTS, PlainEvent, PlainFact, PlainFacts, PlainRule, PlainTerm, PlainWay, rules_of,
+};
+use sp_test_make::plain_systems::{
+    EMPTY, PlainAtom, PlainFormula, PlainSystem, formula_of, system_of,
+};
+use sp_test_make::terms::names;
 use std::alloc::{AllocError, Global};
 use std::test::Fail;
-
-// A step at a time: the rule takes this fact of its first variable, if it takes one, and shows A of its variables.
-#[derive(Clone, Copy)]
-struct Step<'a> {
-    time: u128,
-    rule: &'a str,
-    takes: &'a str,
-    variables: &'a [(Sort, u128)],
-}
-
-// A system, the theory's constants, and the log that is wanted: each rule with the arguments of its action, and the sources that aren't
-// the fresh rule.
-#[derive(Clone, Copy)]
-struct Case<'a> {
-    steps: &'a [Step<'a>],
-    links: &'a [Link],
-    order: &'a [(u128, u128)],
-    acts_at: Option<u128>,
-    constants: &'a [&'a str],
-    wanted: &'a str,
-}
-
-fn facts(alloc: Global, step: &Step) -> Result<Facts, AllocError> {
-    let mut premises = Vec::new(alloc);
-    if !step.takes.is_empty() {
-        let mut args = Vec::new(alloc);
-        if let Some((sort, number)) = step.variables.first() {
-            args.push(variable(*sort, *number))?;
-        }
-        premises.push(linear(alloc, step.takes, args)?)?;
-    }
-    let shown = action(alloc, "A", variables(alloc, step.variables)?)?;
-    Ok(Facts {
-        premises,
-        actions: vec![in alloc; shown]?,
-        conclusions: Vec::new(alloc),
-    })
-}
-
-// events of the steps, and perhaps an action that waits for its event
-fn of_steps(alloc: Global, steps: &[Step], acts_at: Option<u128>) -> Result<System, AllocError> {
-    let mut made = system(alloc, Vec::new(alloc), 100);
-    for step in steps {
-        made.events
-            .push(event(alloc, step.time, step.rule, facts(alloc, step)?)?)?;
-    }
-    if let Some(time) = acts_at {
-        let symbol = Name::new(alloc, "A")?;
-        let args = Vec::new(alloc);
-        let action = FormulaAction { symbol, args };
-        made.formulas
-            .push(Formula::Holds(Atom::Acts(action, Moment::Free(time))))?;
-    }
-    Ok(made)
-}
 
 fn put_term(text: &mut String, term: &GroundTerm) -> Result<(), AllocError> {
     match term {
@@ -161,218 +104,312 @@ fn text_of(alloc: Global, log: &Option<Log>) -> Result<String, AllocError> {
     Ok(text)
 }
 
-const FIRST: Step<'static> = Step {
-    time: 5,
-    rule: "P",
-    takes: "",
-    variables: &[(Sort::Msg, 1), (Sort::Pub, 2)],
+// ---- steps alone
+
+const X1: PlainTerm<'static> = PlainTerm::Variable(Sort::Msg, 1);
+
+const PUBLIC: PlainTerm<'static> = PlainTerm::Variable(Sort::Pub, 2);
+
+const FRESH7: PlainTerm<'static> = PlainTerm::Variable(Sort::Fresh, 7);
+
+const FRESH8: PlainTerm<'static> = PlainTerm::Variable(Sort::Fresh, 8);
+
+// P at 5 shows A(x1, $2)
+const FIRST: PlainEvent<'static> = PlainEvent::Step(
+    5,
+    "P",
+    PlainFacts {
+        actions: &[("A", &[X1, PUBLIC])],
+        ..NO_FACTS
+    },
+);
+
+// Q at 3 takes Fr(~7) and shows A(~7, x1)
+const SECOND: PlainEvent<'static> = PlainEvent::Step(
+    3,
+    "Q",
+    PlainFacts {
+        premises: &[PlainFact::Linear("Fr", &[FRESH7])],
+        actions: &[("A", &[FRESH7, X1])],
+        ..NO_FACTS
+    },
+);
+
+// R at 4 takes Fr(~8) and shows A(~8, ~7)
+const THIRD: PlainEvent<'static> = PlainEvent::Step(
+    4,
+    "R",
+    PlainFacts {
+        premises: &[PlainFact::Linear("Fr", &[FRESH8])],
+        actions: &[("A", &[FRESH8, FRESH7])],
+        ..NO_FACTS
+    },
+);
+
+// S at 4 takes Key(x1) and shows A(x1)
+const TAKING: PlainEvent<'static> = PlainEvent::Step(
+    4,
+    "S",
+    PlainFacts {
+        premises: &[PlainFact::Linear("Key", &[X1])],
+        actions: &[("A", &[X1])],
+        ..NO_FACTS
+    },
+);
+
+// the system in which nothing stands, and whose next number is above those of the steps
+const NO_STEP: PlainSystem<'static> = PlainSystem { next: 100, ..EMPTY };
+
+const ONE_STEP: PlainSystem<'static> = PlainSystem {
+    events: &[FIRST],
+    ..NO_STEP
 };
 
-const SECOND: Step<'static> = Step {
-    time: 3,
-    rule: "Q",
-    takes: "Fr",
-    variables: &[(Sort::Fresh, 7), (Sort::Msg, 1)],
+const TWO_STEPS: PlainSystem<'static> = PlainSystem {
+    events: &[FIRST, SECOND],
+    ..NO_STEP
 };
 
-const THIRD: Step<'static> = Step {
-    time: 4,
-    rule: "R",
-    takes: "Fr",
-    variables: &[(Sort::Fresh, 8), (Sort::Fresh, 7)],
-};
+// an action that waits for its event at 5, where FIRST is, or at 6
+const WAITS_AT_5: PlainFormula<'static> = PlainFormula::Holds(PlainAtom::Acts(
+    "A",
+    &[],
+    Moment::Free(5),
+));
 
-const TAKING: Step<'static> = Step {
-    time: 4,
-    rule: "S",
-    takes: "Key",
-    variables: &[(Sort::Msg, 1)],
-};
+const WAITS_AT_6: PlainFormula<'static> = PlainFormula::Holds(PlainAtom::Acts(
+    "A",
+    &[],
+    Moment::Free(6),
+));
 
-// SECOND gives what TAKING takes
-const LINK: Link = Link {
-    from: 3,
-    conclusion: 0,
-    to: 4,
-    premise: 0,
-};
+// A system, the theory's constants, which names are not to be, and the log that is wanted: each rule with the arguments of its action,
+// and the sources that aren't the fresh rule.
+static SUGGESTED: [(PlainSystem<'static>, &[&str], &str); 11] = [
+    (NO_STEP, &[], ""),
+    (TWO_STEPS, &[], "P 'a1' 'a2';Q ~n1 'a1';"),
+    (
+        PlainSystem {
+            order: &[(3, 5)],
+            ..TWO_STEPS
+        },
+        &[],
+        "Q ~n1 'a1';P 'a1' 'a2';",
+    ),
+    (
+        PlainSystem {
+            order: &[(3, 9), (9, 5)],
+            ..TWO_STEPS
+        },
+        &[],
+        "Q ~n1 'a1';P 'a1' 'a2';",
+    ),
+    (ONE_STEP, &["b", "a1", "a3"], "P 'a2' 'a4';"),
+    (
+        PlainSystem {
+            events: &[SECOND, THIRD],
+            order: &[(4, 3)],
+            ..NO_STEP
+        },
+        &[],
+        "R ~n1 ~n2;Q ~n2 'a1';",
+    ),
+    (
+        PlainSystem {
+            formulas: &[WAITS_AT_5],
+            ..ONE_STEP
+        },
+        &[],
+        "P 'a1' 'a2';",
+    ),
+    (
+        PlainSystem {
+            formulas: &[WAITS_AT_6],
+            ..ONE_STEP
+        },
+        &[],
+        "none",
+    ),
+    // nothing gives what TAKING takes
+    (
+        PlainSystem {
+            events: &[FIRST, TAKING],
+            ..NO_STEP
+        },
+        &[],
+        "none",
+    ),
+    (
+        PlainSystem {
+            order: &[(8, 9), (9, 8)],
+            ..ONE_STEP
+        },
+        &[],
+        "none",
+    ),
+    // SECOND gives it
+    (
+        PlainSystem {
+            events: &[TAKING, FIRST, SECOND],
+            links: &[(3, 0, 4, 0)],
+            order: &[(5, 3), (3, 4)],
+            ..NO_STEP
+        },
+        &[],
+        "P 'a1' 'a2';Q ~n1 'a1';S 'a1' from 1.0;",
+    ),
+];
 
-fn wanting<'a>(
-    steps: &'a [Step<'a>],
-    order: &'a [(u128, u128)],
-    acts_at: Option<u128>,
-    constants: &'a [&'a str],
-    wanted: &'a str,
-) -> Case<'a> {
-    Case {
-        steps,
-        links: &[],
-        order,
-        acts_at,
-        constants,
-        wanted,
-    }
-}
-
-// The log that the case's system suggests.
-fn suggested(alloc: Global, case: &Case) -> Result<String, AllocError> {
-    let mut system = of_steps(alloc, case.steps, case.acts_at)?;
-    system.links = case.links.to_vec(alloc)?;
-    system.order = case.order.to_vec(alloc)?;
-    let constants = names(alloc, case.constants)?;
+// The log that the system suggests where these are the theory's constants.
+fn suggested(alloc: Global, given: &PlainSystem, constants: &[&str]) -> Result<String, AllocError> {
+    let system = system_of(alloc, given)?;
+    let constants = names(alloc, constants)?;
     let log = candidate(alloc, &constants, &system)?;
     text_of(alloc, &log)
 }
 
-// the steps, the order of times, an action that waits, and the constants that names are not to be
 #[test]
 fn logs_are_suggested(rt: HostRuntime) -> Result<(), Fail> {
     let alloc = rt.alloc();
-    let both = &[FIRST, SECOND];
-    let ordered = "Q ~n1 'a1';P 'a1' 'a2';";
-    for case in [
-        wanting(&[], &[], None, &[], ""),
-        wanting(both, &[], None, &[], "P 'a1' 'a2';Q ~n1 'a1';"),
-        wanting(both, &[(3, 5)], None, &[], ordered),
-        wanting(both, &[(3, 9), (9, 5)], None, &[], ordered),
-        wanting(&[FIRST], &[], None, &["b", "a1", "a3"], "P 'a2' 'a4';"),
-        wanting(
-            &[SECOND, THIRD],
-            &[(4, 3)],
-            None,
-            &[],
-            "R ~n1 ~n2;Q ~n2 'a1';",
-        ),
-        wanting(&[FIRST], &[], Some(5), &[], "P 'a1' 'a2';"),
-        wanting(&[FIRST], &[], Some(6), &[], "none"),
-        wanting(&[FIRST, TAKING], &[], None, &[], "none"),
-        wanting(&[FIRST], &[(8, 9), (9, 8)], None, &[], "none"),
-        Case {
-            steps: &[TAKING, FIRST, SECOND],
-            links: &[LINK],
-            order: &[(5, 3), (3, 4)],
-            acts_at: None,
-            constants: &[],
-            wanted: "P 'a1' 'a2';Q ~n1 'a1';S 'a1' from 1.0;",
-        },
-    ] {
-        assert_eq!(rt; suggested(alloc, &case)?.as_str(), case.wanted);
+    for (i, (given, constants, wanted)) in SUGGESTED.iter().enumerate() {
+        let found = suggested(alloc, given, *constants)?;
+        assert_eq!(rt; found.as_str(), *wanted, "{i}");
     }
     Ok(())
 }
 
 // ---- what is sent and learnt
 
-const RECEIVING: Step<'static> = Step {
-    time: 3,
-    rule: "T",
-    takes: "In",
-    variables: &[(Sort::Msg, 1)],
-};
+// T at 3 takes In(x1) and shows A(x1)
+const RECEIVING: PlainEvent<'static> = PlainEvent::Step(
+    3,
+    "T",
+    PlainFacts {
+        premises: &[PlainFact::Linear("In", &[X1])],
+        actions: &[("A", &[X1])],
+        ..NO_FACTS
+    },
+);
 
-// These steps; before RECEIVING, and behind FIRST, x1 is learnt in this way and sent.
-fn received(alloc: Global, steps: &[Step], way: Way) -> Result<System, AllocError> {
-    let mut made = of_steps(alloc, steps, None)?;
-    made.events
-        .push(Event::send(alloc, 2, variable(Sort::Msg, 1))?)?;
-    made.events
-        .push(Event::learn(alloc, 1, variable(Sort::Msg, 1), way)?)?;
-    made.links.push(link(2, 0, 3, 0))?;
-    for pair in [(5, 1), (1, 2), (2, 3)] {
-        made.order.push(pair)?;
-    }
-    Ok(made)
-}
+const SENT: PlainEvent<'static> = PlainEvent::Send(2, X1);
+
+const LEARNT_ANYHOW: PlainEvent<'static> = PlainEvent::Learn(1, X1, PlainWay::Anyhow);
 
 // x1 alone, from the first conclusion of FIRST
-fn chain(alloc: Global) -> Result<Chain, AllocError> {
-    let messages = vec![in alloc; variable(Sort::Msg, 1)]?;
-    Ok(Chain {
-        time: 5,
-        conclusion: 0,
-        messages,
-    })
-}
+const LEARNT_BY_BEGUN: PlainEvent<'static> = PlainEvent::Learn(
+    1,
+    X1,
+    PlainWay::ChainBegun(5, &[X1]),
+);
 
-const RECEIVED: &str = "learn 'a1' public;send 'a1';T 'a1' from 1.0;";
+const LEARNT_BY_CHAIN: PlainEvent<'static> = PlainEvent::Learn(
+    1,
+    X1,
+    PlainWay::ChainDone(5, &[X1]),
+);
+
+// Before RECEIVING, and behind FIRST if that is there, x1 is learnt and sent.
+const RECEIVED: PlainSystem<'static> = PlainSystem {
+    events: &[RECEIVING, SENT, LEARNT_ANYHOW],
+    links: &[(2, 0, 3, 0)],
+    order: &[(5, 1), (1, 2), (2, 3)],
+    ..NO_STEP
+};
+
+const OF_RECEIVED: &str = "learn 'a1' public;send 'a1';T 'a1' from 1.0;";
 
 // what is learnt anyhow is a public name, and a chain has to be done
+static LEARNT: [(PlainSystem<'static>, &str); 3] = [
+    (RECEIVED, OF_RECEIVED),
+    (
+        PlainSystem {
+            events: &[RECEIVING, FIRST, SENT, LEARNT_BY_BEGUN],
+            ..RECEIVED
+        },
+        "none",
+    ),
+    (
+        PlainSystem {
+            events: &[RECEIVING, FIRST, SENT, LEARNT_BY_CHAIN],
+            ..RECEIVED
+        },
+        "P 'a1' 'a2';learn 'a1' chain 0.0 'a1';send 'a1';T 'a1' from 2.0;",
+    ),
+];
+
 #[test]
 fn learning_logs_are_suggested(rt: HostRuntime) -> Result<(), Fail> {
     let alloc = rt.alloc();
-    let begun = Way::ChainBegun(chain(alloc)?);
-    let done = Way::ChainDone(chain(alloc)?);
-    for (system, wanted) in [
-        (received(alloc, &[RECEIVING], Way::Anyhow)?, RECEIVED),
-        (received(alloc, &[RECEIVING, FIRST], begun)?, "none"),
-        (
-            received(alloc, &[RECEIVING, FIRST], done)?,
-            "P 'a1' 'a2';learn 'a1' chain 0.0 'a1';send 'a1';T 'a1' from 2.0;",
-        ),
-    ] {
-        let log = candidate(alloc, &Vec::new(alloc), &system)?;
-        assert_eq!(rt; text_of(alloc, &log)?.as_str(), wanted);
+    for (i, (given, wanted)) in LEARNT.iter().enumerate() {
+        let found = suggested(alloc, given, &[])?;
+        assert_eq!(rt; found.as_str(), *wanted, "{i}");
     }
     Ok(())
 }
 
-// Q: [ Fr(~x) ] --[ A(~x,y) ]-> [ ]
-fn making(alloc: Global) -> Result<Rule, AllocError> {
-    let step = Step {
-        time: 0,
-        rule: "Q",
-        takes: "Fr",
-        variables: &[(Sort::Fresh, 0), (Sort::Msg, 1)],
-    };
-    rule(
-        alloc,
-        "Q",
-        &[("x", Sort::Fresh), ("y", Sort::Msg)],
-        facts(alloc, &step)?,
-    )
+// Q: [ Fr(~x) ] --[ A(~x,y) ]-> [ ]; T: [ In(x) ] --[ A(x) ]-> [ ]
+static RULES: [PlainRule<'static>; 2] = [
+    PlainRule {
+        name: "Q",
+        variables: &[("x", Sort::Fresh), ("y", Sort::Msg)],
+        facts: PlainFacts {
+            premises: &[PlainFact::Linear("Fr", &[PlainTerm::Variable(Sort::Fresh, 0)])],
+            actions: &[("A", &[PlainTerm::Variable(Sort::Fresh, 0), X1])],
+            ..NO_FACTS
+        },
+    },
+    PlainRule {
+        name: "T",
+        variables: &[("x", Sort::Msg)],
+        facts: PlainFacts {
+            premises: &[PlainFact::Linear("In", &[PlainTerm::Variable(Sort::Msg, 0)])],
+            actions: &[("A", &[PlainTerm::Variable(Sort::Msg, 0)])],
+            ..NO_FACTS
+        },
+    },
+];
+
+const SECOND_ALONE: PlainSystem<'static> = PlainSystem {
+    events: &[SECOND],
+    ..NO_STEP
+};
+
+// what is sought, a system whose events are those of a log of the rules, or aren't, and the log
+static FOUND: [(PlainFormula<'static>, PlainSystem<'static>, &str); 5] = [
+    (PlainFormula::Truth, SECOND_ALONE, "Q ~n1 'a1';"),
+    (PlainFormula::Falsity, SECOND_ALONE, "none"),
+    (PlainFormula::Truth, ONE_STEP, "none"),
+    (PlainFormula::Truth, RECEIVED, OF_RECEIVED),
+    (
+        PlainFormula::Truth,
+        PlainSystem {
+            events: &[RECEIVING, SENT, LEARNT_BY_CHAIN],
+            ..RECEIVED
+        },
+        "none",
+    ),
+];
+
+// the log of the rules that is found in the system
+fn log_found(
+    alloc: Global,
+    sought: &PlainFormula,
+    given: &PlainSystem,
+) -> Result<String, AllocError> {
+    let parts = Parts::new(alloc, rules_of(alloc, &RULES)?, formula_of(alloc, sought)?)?;
+    let system = system_of(alloc, given)?;
+    let context = parts.context();
+    let book = context.rules;
+    let log = found(alloc, &context.sought, &book.rules, &system)?;
+    text_of(alloc, &log)
 }
 
-// T: [ In(x) ] --[ A(x) ]-> [ ]
-fn receiving(alloc: Global) -> Result<Rule, AllocError> {
-    let step = Step {
-        time: 0,
-        rule: "T",
-        takes: "In",
-        variables: &[(Sort::Msg, 0)],
-    };
-    rule(alloc, "T", &[("x", Sort::Msg)], facts(alloc, &step)?)
-}
-
-// what is sought, and the events, which are those of a log of the rules, or aren't
 #[test]
 fn logs_are_found(rt: HostRuntime) -> Result<(), Fail> {
     let alloc = rt.alloc();
-    let by_chain = Way::ChainDone(chain(alloc)?);
-    for (sought, system, wanted) in [
-        (
-            Formula::Truth,
-            of_steps(alloc, &[SECOND], None)?,
-            "Q ~n1 'a1';",
-        ),
-        (Formula::Falsity, of_steps(alloc, &[SECOND], None)?, "none"),
-        (Formula::Truth, of_steps(alloc, &[FIRST], None)?, "none"),
-        (
-            Formula::Truth,
-            received(alloc, &[RECEIVING], Way::Anyhow)?,
-            RECEIVED,
-        ),
-        (
-            Formula::Truth,
-            received(alloc, &[RECEIVING], by_chain)?,
-            "none",
-        ),
-    ] {
-        let rules = vec![in alloc; making(alloc)?, receiving(alloc)?]?;
-        let parts = Parts::new(alloc, rules, sought)?;
-        let context = parts.context();
-        let book = context.rules;
-        let log = found(alloc, &context.sought, &book.rules, &system)?;
-        assert_eq!(rt; text_of(alloc, &log)?.as_str(), wanted);
+    for (i, (sought, given, wanted)) in FOUND.iter().enumerate() {
+        let found = log_found(alloc, sought, given)?;
+        assert_eq!(rt; found.as_str(), *wanted, "{i}");
     }
     Ok(())
 }

@@ -1,68 +1,73 @@
 // Systems and contexts that several files of tests begin with.
 
 use sp_book::book::RuleBook;
-use sp_fact::fact::Facts;
 use sp_fact::rule::Rule;
-use sp_formula::formula::{Atom, Binder, Formula, Moment};
-use sp_ground::signature::Signature;
+use sp_fact::signature::Signature;
+use sp_formula::formula::{Binder, Formula, Moment};
 use sp_solved::Sought;
 use sp_step::context::Context;
 use sp_step::reduce::{Row, reduce};
 use sp_step::simplify::is_contradictory;
-use sp_system::event::Event;
 use sp_system::system::System;
 use sp_term::term::{Name, Sort};
-use sp_test_make::facts::{action, linear};
-use sp_test_make::formulas::{acts, bound, exists, free_constant, free_variable, same_time};
-use sp_test_make::systems::{event, system};
-use sp_test_make::terms::variables;
+use sp_test_make::plain::{PlainEvent, PlainFact, PlainFacts, PlainTerm};
+use sp_test_make::plain_systems::{EMPTY, PlainAtom, PlainFormula, PlainLeaf, PlainSystem};
 use sp_variant::book::book;
 use std::alloc::{AllocError, Global};
 
-// the event of the rule with the premise Fr(~0) and the action A(~0)
-fn using(alloc: Global, time: u128, rule: &str) -> Result<Event, AllocError> {
-    let premise = linear(alloc, "Fr", variables(alloc, &[(Sort::Fresh, 0)])?)?;
-    let shown = action(alloc, "A", variables(alloc, &[(Sort::Fresh, 0)])?)?;
-    let facts = Facts {
-        premises: vec![in alloc; premise]?,
-        actions: vec![in alloc; shown]?,
-        conclusions: Vec::new(alloc),
-    };
-    event(alloc, time, rule, facts)
-}
-
 /// There are ~x, i, y and j with A(y) at j and A(~x) at i, and not y = ~x.
-pub fn two_that_differ(alloc: Global) -> Result<Formula, AllocError> {
-    let binders = vec![in alloc;
+pub const TWO_THAT_DIFFER: PlainFormula<'static> = PlainFormula::Exists(
+    &[
         Binder::Message(Sort::Fresh),
         Binder::Time,
         Binder::Message(Sort::Msg),
         Binder::Time,
-    ]?;
-    let guard = vec![in alloc;
-        acts(alloc, "A", bound(0), Moment::Bound(0))?,
-        acts(alloc, "A", bound(1), Moment::Bound(1))?,
-    ]?;
-    let body = Formula::Fails(Atom::Same(bound(0), bound(1)));
-    exists(alloc, binders, guard, body)
-}
+    ],
+    &[
+        PlainAtom::Acts("A", &[PlainLeaf::Bound(0)], Moment::Bound(0)),
+        PlainAtom::Acts("A", &[PlainLeaf::Bound(1)], Moment::Bound(1)),
+    ],
+    &PlainFormula::Fails(PlainAtom::Same(PlainLeaf::Bound(0), PlainLeaf::Bound(1))),
+);
 
-/// The events of R and of this rule at 2 and 3 with one Fr; and: ~0 isn't 'c', two differ, A(~0) at 2, and 2 isn't 3.
-pub fn sharing(alloc: Global, rule: &str) -> Result<System, AllocError> {
-    let fresh = free_variable(Sort::Fresh, 0);
-    let other = Atom::Same(free_variable(Sort::Fresh, 0), free_constant(alloc, "c")?);
-    let stands = acts(alloc, "A", fresh, Moment::Free(2))?;
-    let formulas = vec![in alloc;
-        Formula::Fails(other),
-        two_that_differ(alloc)?,
-        Formula::Holds(stands),
-        Formula::Fails(same_time(2, 3)),
-    ]?;
-    let mut made = system(alloc, formulas, 4);
-    made.events.push(using(alloc, 2, "R")?)?;
-    made.events.push(using(alloc, 3, rule)?)?;
-    Ok(made)
-}
+/// The premise Fr(~0) and the action A(~0).
+pub const USING: PlainFacts<'static> = PlainFacts {
+    premises: &[PlainFact::Linear("Fr", &[PlainTerm::Variable(Sort::Fresh, 0)])],
+    actions: &[("A", &[PlainTerm::Variable(Sort::Fresh, 0)])],
+    conclusions: &[],
+};
+
+/// Two events of R at 2 and 3 with one Fr; and: ~0 isn't 'c', two differ, A(~0) at 2, and 2 isn't 3.
+pub const SHARING: PlainSystem<'static> = PlainSystem {
+    events: &[
+        PlainEvent::Step(2, "R", USING),
+        PlainEvent::Step(3, "R", USING),
+    ],
+    formulas: &[
+        PlainFormula::Fails(PlainAtom::Same(
+            PlainLeaf::Free(Sort::Fresh, 0),
+            PlainLeaf::Public("c"),
+        )),
+        TWO_THAT_DIFFER,
+        PlainFormula::Holds(PlainAtom::Acts(
+            "A",
+            &[PlainLeaf::Free(Sort::Fresh, 0)],
+            Moment::Free(2),
+        )),
+        PlainFormula::Fails(PlainAtom::SameTime(Moment::Free(2), Moment::Free(3))),
+    ],
+    next: 4,
+    ..EMPTY
+};
+
+/// The second event is one of S.
+pub const SHARING_OF_TWO: PlainSystem<'static> = PlainSystem {
+    events: &[
+        PlainEvent::Step(2, "R", USING),
+        PlainEvent::Step(3, "S", USING),
+    ],
+    ..SHARING
+};
 
 /// The numbers of events, formulas, spent formulas, unequal pairs and ordered pairs, and the next number.
 pub type Sizes = (usize, usize, usize, usize, usize, u128);
@@ -124,7 +129,7 @@ pub fn no_rules(alloc: Global) -> Result<Parts, AllocError> {
 /// What the row makes of the system, if it applies.
 pub fn reduced(alloc: Global, row: Row, given: &System) -> Result<Option<System>, AllocError> {
     let parts = no_rules(alloc)?;
-    let mut made = given.copy(alloc)?;
+    let mut made = given.clone()?;
     let applies = reduce(alloc, &parts.context().theory(), &mut made, row)?;
     Ok(if applies { Some(made) } else { None })
 }

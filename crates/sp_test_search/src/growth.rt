@@ -5,37 +5,50 @@ ghost use Rattle.sp_search.specs.Kinds.{case_count};
 ghost use Rattle.sp_search.specs.NodeView.{node_at};
 
 use crate::examples::Parts;
-use sp_fact::rule::Rule;
-use sp_formula::formula::{Atom, Formula, Moment};
+use sp_formula::formula::{Binder, Moment};
 use sp_search::{Node, OpenLeaf, Ranked, Tree, choice, grown_tree, is_finished, steps};
 use sp_step::moves::Move;
+use sp_system::system::System;
 use sp_term::term::Sort;
-use sp_test_make::facts::{action, actions_alone, rule};
-use sp_test_make::formulas::{acts, bound, exists, free_constant, messages_and_times};
+use sp_test_make::plain::{NO_FACTS, PlainFacts, PlainRule, PlainTerm, rules_of};
+use sp_test_make::plain_systems::{PlainAtom, PlainFormula, PlainLeaf, formula_of};
 use sp_test_make::systems::system_of_one;
-use sp_test_make::terms::constant;
 use std::alloc::{AllocError, Global};
 use std::test::Fail;
 
 // the rule R with the action A('c')
-fn rules(alloc: Global) -> Result<Vec<Rule>, AllocError> {
-    let args = vec![in alloc; constant(alloc, "c")?]?;
-    let actions = vec![in alloc; action(alloc, "A", args)?]?;
-    Ok(vec![in alloc; rule(alloc, "R", &[], actions_alone(alloc, actions))?]?)
-}
+static RULES: [PlainRule<'static>; 1] = [PlainRule {
+    name: "R",
+    variables: &[],
+    facts: PlainFacts {
+        actions: &[("A", &[PlainTerm::Public("c")])],
+        ..NO_FACTS
+    },
+}];
 
 // there are x and i with A(x) at i, and not x = x
-fn refuted(alloc: Global) -> Result<Formula, AllocError> {
-    let binders = messages_and_times(alloc, &[Sort::Msg])?;
-    let guard = acts(alloc, "A", bound(0), Moment::Bound(0))?;
-    let body = Formula::Fails(Atom::Same(bound(0), bound(0)));
-    exists(alloc, binders, vec![in alloc; guard]?, body)
-}
+const REFUTED: PlainFormula<'static> = PlainFormula::Exists(
+    &[Binder::Message(Sort::Msg), Binder::Time],
+    &[PlainAtom::Acts("A", &[PlainLeaf::Bound(0)], Moment::Bound(0))],
+    &PlainFormula::Fails(PlainAtom::Same(PlainLeaf::Bound(0), PlainLeaf::Bound(0))),
+);
 
 // A('c') at the time 0
-fn wanted(alloc: Global) -> Result<Formula, AllocError> {
-    let atom = acts(alloc, "A", free_constant(alloc, "c")?, Moment::Free(0))?;
-    Ok(Formula::Holds(atom))
+const WANTED: PlainFormula<'static> = PlainFormula::Holds(PlainAtom::Acts(
+    "A",
+    &[PlainLeaf::Public("c")],
+    Moment::Free(0),
+));
+
+// the system of the formula, whose next number is 1
+fn of_one(alloc: Global, formula: &PlainFormula) -> Result<System, AllocError> {
+    system_of_one(alloc, formula_of(alloc, formula)?, 1)
+}
+
+// the rule, where the log that is looked for makes the formula true
+fn looked_for(alloc: Global, sought: &PlainFormula) -> Result<Parts, AllocError> {
+    let rules = rules_of(alloc, &RULES)?;
+    Parts::new(alloc, rules, formula_of(alloc, sought)?)
 }
 
 // the action of the first formula
@@ -55,7 +68,7 @@ fn alone(alloc: Global, node: Node) -> Result<Tree, AllocError>
 
 fn open_leaf(alloc: Global, chosen: Option<Ranked>) -> Result<Tree, AllocError> {
     let leaf = OpenLeaf {
-        system: system_of_one(alloc, wanted(alloc)?, 1)?,
+        system: of_one(alloc, &WANTED)?,
         choice: chosen,
         depth: 1,
     };
@@ -88,11 +101,11 @@ fn contradiction(alloc: Global) -> Result<Tree, AllocError> {
 
 // a simplification, below it a contradiction and two open leaves
 fn three_cases(alloc: Global) -> Result<Tree, AllocError> {
-    let cases = vec![in alloc;
-        case(alloc, "a", contradiction(alloc)?)?,
-        case(alloc, "b", open_leaf(alloc, Some(ACTION))?)?,
-        case(alloc, "c", open_leaf(alloc, None)?)?,
-    ]?;
+    let mut cases = Vec::new(alloc);
+    cases.push(case(alloc, "a", contradiction(alloc)?)?)?;
+    for (name, chosen) in [("b", Some(ACTION)), ("c", None)] {
+        cases.push(case(alloc, name, open_leaf(alloc, chosen)?)?)?;
+    }
     over_all(alloc, Move::Simplify, cases)
 }
 
@@ -107,17 +120,18 @@ fn trees_are_counted(rt: HostRuntime) -> Result<(), Fail> {
 }
 
 // What a grown tree is: how many steps it has, whether it is finished, and how many entries its log has.
-type Grown = (u64, bool, Option<usize>);
+type Shape = (u64, bool, Option<usize>);
 
 // the tree of the system with this formula, grown where the log that is looked for makes the other one true
-fn grown(alloc: Global, root: Formula, sought: Formula, budget: u64) -> Result<Grown, AllocError> {
-    let parts = Parts::new(alloc, rules(alloc)?, sought)?;
-    let tree = grown_tree(
-        alloc,
-        &parts.context(),
-        system_of_one(alloc, root, 1)?,
-        budget,
-    )?;
+fn grown(
+    alloc: Global,
+    root: &PlainFormula,
+    sought: &PlainFormula,
+    budget: u64,
+) -> Result<Shape, AllocError> {
+    let root = of_one(alloc, root)?;
+    let parts = looked_for(alloc, sought)?;
+    let tree = grown_tree(alloc, &parts.context(), root, budget)?;
     let entries = match tree.found_log() {
         Some(log) => Some(log.entries.len()),
         None => None,
@@ -125,25 +139,31 @@ fn grown(alloc: Global, root: Formula, sought: Formula, budget: u64) -> Result<G
     Ok((steps(&tree), is_finished(&tree), entries))
 }
 
-// to a proof, or to a log
+const TRUTH: PlainFormula<'static> = PlainFormula::Truth;
+
+const FALSITY: PlainFormula<'static> = PlainFormula::Falsity;
+
+// a formula, what is sought, the number of steps, and what the tree is: a proof, or one with a log
+static GROWN: [(PlainFormula<'static>, PlainFormula<'static>, u64, Shape); 8] = [
+    (REFUTED, TRUTH, 0, (0, false, None)),
+    (REFUTED, TRUTH, 1, (1, false, None)),
+    (REFUTED, TRUTH, 2, (2, true, None)),
+    (REFUTED, TRUTH, 3, (2, true, None)),
+    (WANTED, TRUTH, 1, (1, false, None)),
+    (WANTED, TRUTH, 2, (2, false, Some(1))),
+    (WANTED, TRUTH, 5, (2, false, Some(1))),
+    (WANTED, FALSITY, 5, (1, false, None)),
+];
+
 #[test]
 fn trees_are_grown(rt: HostRuntime) -> Result<(), Fail> {
     let alloc = rt.alloc();
-    for (root, sought, budget, expected) in [
-        (refuted(alloc)?, Formula::Truth, 0, (0, false, None)),
-        (refuted(alloc)?, Formula::Truth, 1, (1, false, None)),
-        (refuted(alloc)?, Formula::Truth, 2, (2, true, None)),
-        (refuted(alloc)?, Formula::Truth, 3, (2, true, None)),
-        (wanted(alloc)?, Formula::Truth, 1, (1, false, None)),
-        (wanted(alloc)?, Formula::Truth, 2, (2, false, Some(1))),
-        (wanted(alloc)?, Formula::Truth, 5, (2, false, Some(1))),
-        (wanted(alloc)?, Formula::Falsity, 5, (1, false, None)),
-    ] {
-        let found = grown(alloc, root, sought, budget)?;
-        assert_eq!(rt; found, expected, "{budget}");
+    for (i, (root, sought, budget, expected)) in GROWN.iter().enumerate() {
+        let found = grown(alloc, root, sought, *budget)?;
+        assert_eq!(rt; found, *expected, "{i}");
     }
-    let parts = Parts::new(alloc, rules(alloc)?, Formula::Truth)?;
-    let root = system_of_one(alloc, wanted(alloc)?, 1)?;
+    let root = of_one(alloc, &WANTED)?;
+    let parts = looked_for(alloc, &TRUTH)?;
     assert_eq!(rt; choice(alloc, &parts.context(), &root)?, Some(ACTION));
     Ok(())
 }

@@ -1,140 +1,220 @@
 // Instances of universal formulas.
 
 use crate::examples::reduced;
-use sp_formula::formula::{Atom, Binder, Formula, Moment};
+use sp_formula::formula::{Binder, Moment};
 use sp_formula::same::same_formula;
 use sp_step::reduce::Row;
-use sp_system::event::Event;
 use sp_system::system::System;
-use sp_term::term::{Sort, Term};
-use sp_test_make::facts::action;
-use sp_test_make::formulas::{acts, bound, for_all, free_constant, messages_and_times};
-use sp_test_make::systems::{acting, system_of_one};
-use sp_test_make::terms::{constant, variable};
+use sp_term::term::Sort;
+use sp_test_make::plain::{NO_FACTS, PlainEvent, PlainFacts, PlainTerm};
+use sp_test_make::plain_systems::{
+    EMPTY, PlainAtom, PlainFormula, PlainLeaf, PlainSystem, formula_of, system_of,
+};
 use std::alloc::{AllocError, Global};
 use std::test::Fail;
 
-// the event at the time with the action A, for each of these
-fn showing(alloc: Global, time: u128, shown: Vec<Term>) -> Result<Event, AllocError> {
-    let mut actions = Vec::new(alloc);
-    for term in shown {
-        actions.push(action(alloc, "A", vec![in alloc; term]?)?)?;
-    }
-    acting(alloc, time, "R", actions)
-}
+// A('c') happens at 1
+const SHOWN: PlainSystem<'static> = PlainSystem {
+    events: &[PlainEvent::Step(
+        1,
+        "R",
+        PlainFacts {
+            actions: &[("A", &[PlainTerm::Public("c")])],
+            ..NO_FACTS
+        },
+    )],
+    ..EMPTY
+};
 
-// A(x)@i in a guard, for the message and the time at these places
-fn comes(alloc: Global, message: u64, time: u64) -> Result<Atom, AllocError> {
-    acts(alloc, "A", bound(message), Moment::Bound(time))
-}
+// A(x)@i in a guard, for the innermost message and the innermost time, and for those around them
+const COMES: PlainAtom<'static> = PlainAtom::Acts("A", &[PlainLeaf::Bound(0)], Moment::Bound(0));
 
-// the formula is universal, and A('c') happens at 1
-fn over_one(alloc: Global, formula: Formula) -> Result<System, AllocError> {
-    let mut made = system_of_one(alloc, formula, 9)?;
-    let shown = vec![in alloc; constant(alloc, "c")?]?;
-    made.events.push(showing(alloc, 1, shown)?)?;
-    Ok(made)
-}
+const OTHER_COMES: PlainAtom<'static> = PlainAtom::Acts(
+    "A",
+    &[PlainLeaf::Bound(1)],
+    Moment::Bound(1),
+);
 
 // whether the formula is what the next instance appends, or there is no instance and none is wanted
-fn gives(alloc: Global, given: &System, wanted: Option<&Formula>) -> Result<bool, AllocError> {
-    let made = reduced(alloc, Row::Instantiate, given)?;
-    Ok(match (&made, wanted) {
-        (Some(made), Some(wanted)) => match made.formulas.last() {
-            Some(last) => {
-                made.formulas.len() == given.formulas.len() + 1 && same_formula(last, wanted)
-            }
-            None => false,
-        },
-        (None, None) => true,
-        _ => false,
-    })
+fn gives(alloc: Global, given: &System, wanted: &Option<PlainFormula>) -> Result<bool, AllocError> {
+    match (reduced(alloc, Row::Instantiate, given)?, wanted) {
+        (Some(made), Some(wanted)) => {
+            let wanted = formula_of(alloc, wanted)?;
+            Ok(match made.formulas.last() {
+                Some(last) => {
+                    made.formulas.len() == given.formulas.len() + 1 && same_formula(last, &wanted)
+                }
+                None => false,
+            })
+        }
+        (None, None) => Ok(true),
+        _ => Ok(false),
+    }
 }
 
-// 'c' is a message and a public name, and not fresh
+// For all messages of a sort that A comes with, falsity; 'c' is a message and a public name, and not fresh.
+static BODIES: [(PlainFormula<'static>, Option<PlainFormula<'static>>); 3] = [
+    (
+        PlainFormula::ForAll(
+            &[Binder::Message(Sort::Msg), Binder::Time],
+            &[COMES],
+            &PlainFormula::Falsity,
+        ),
+        Some(PlainFormula::Falsity),
+    ),
+    (
+        PlainFormula::ForAll(
+            &[Binder::Message(Sort::Pub), Binder::Time],
+            &[COMES],
+            &PlainFormula::Falsity,
+        ),
+        Some(PlainFormula::Falsity),
+    ),
+    (
+        PlainFormula::ForAll(
+            &[Binder::Message(Sort::Fresh), Binder::Time],
+            &[COMES],
+            &PlainFormula::Falsity,
+        ),
+        None,
+    ),
+];
+
 #[test]
 fn bodies_are_appended_once(rt: HostRuntime) -> Result<(), Fail> {
     let alloc = rt.alloc();
-    for (sort, wanted) in [
-        (Sort::Msg, Some(Formula::Falsity)),
-        (Sort::Pub, Some(Formula::Falsity)),
-        (Sort::Fresh, None),
-    ] {
-        let binders = messages_and_times(alloc, &[sort])?;
-        let guard = vec![in alloc; comes(alloc, 0, 0)?]?;
-        let formula = for_all(alloc, binders, guard, Formula::Falsity)?;
-        let mut given = over_one(alloc, formula)?;
-        assert!(rt; gives(alloc, &given, wanted.as_ref())?);
-        given.spent.push(Formula::Falsity)?;
-        assert!(rt; gives(alloc, &given, None)?);
+    for (i, (formula, wanted)) in BODIES.iter().enumerate() {
+        let mut given = system_of(alloc, &SHOWN)?;
+        given.formulas.push(formula_of(alloc, formula)?)?;
+        assert!(rt; gives(alloc, &given, wanted)?, "{i}");
+        given
+            .spent
+            .push(formula_of(alloc, &PlainFormula::Falsity)?)?;
+        assert!(rt; gives(alloc, &given, &None)?, "{i}");
     }
     Ok(())
 }
 
 // for all x #i y #j, if A(x)@i and A(y)@j, then x = y
-fn at_most_one(alloc: Global) -> Result<Formula, AllocError> {
-    let binders = messages_and_times(alloc, &[Sort::Msg, Sort::Msg])?;
-    let guard = vec![in alloc; comes(alloc, 1, 1)?, comes(alloc, 0, 0)?]?;
-    let body = Formula::Holds(Atom::Same(bound(1), bound(0)));
-    for_all(alloc, binders, guard, body)
-}
-
-fn same_constants(alloc: Global, left: &str, right: &str) -> Result<Formula, AllocError> {
-    let left = free_constant(alloc, left)?;
-    let right = free_constant(alloc, right)?;
-    Ok(Formula::Holds(Atom::Same(left, right)))
-}
+const AT_MOST_ONE: PlainFormula<'static> = PlainFormula::ForAll(
+    &[
+        Binder::Message(Sort::Msg),
+        Binder::Time,
+        Binder::Message(Sort::Msg),
+        Binder::Time,
+    ],
+    &[OTHER_COMES, COMES],
+    &PlainFormula::Holds(PlainAtom::Same(PlainLeaf::Bound(1), PlainLeaf::Bound(0))),
+);
 
 // A('c') and A('d') happen at 1, A('e') at 2
-fn three_actions(alloc: Global) -> Result<System, AllocError> {
-    let mut made = system_of_one(alloc, at_most_one(alloc)?, 9)?;
-    let both = vec![in alloc; constant(alloc, "c")?, constant(alloc, "d")?]?;
-    made.events.push(showing(alloc, 1, both)?)?;
-    let last = vec![in alloc; constant(alloc, "e")?]?;
-    made.events.push(showing(alloc, 2, last)?)?;
-    Ok(made)
+static THREE_ACTIONS: PlainSystem<'static> = PlainSystem {
+    events: &[
+        PlainEvent::Step(
+            1,
+            "R",
+            PlainFacts {
+                actions: &[
+                    ("A", &[PlainTerm::Public("c")]),
+                    ("A", &[PlainTerm::Public("d")]),
+                ],
+                ..NO_FACTS
+            },
+        ),
+        PlainEvent::Step(
+            2,
+            "R",
+            PlainFacts {
+                actions: &[("A", &[PlainTerm::Public("e")])],
+                ..NO_FACTS
+            },
+        ),
+    ],
+    formulas: &[AT_MOST_ONE],
+    ..EMPTY
+};
+
+static PAIRS: [(&str, &str); 9] = [
+    ("c", "c"),
+    ("c", "d"),
+    ("c", "e"),
+    ("d", "c"),
+    ("d", "d"),
+    ("d", "e"),
+    ("e", "c"),
+    ("e", "d"),
+    ("e", "e"),
+];
+
+fn same_constants<'a>(left: &'a str, right: &'a str) -> PlainFormula<'a> {
+    PlainFormula::Holds(PlainAtom::Same(PlainLeaf::Public(left), PlainLeaf::Public(right)))
 }
 
 #[test]
 fn pairs_of_actions_are_gone_over_in_order(rt: HostRuntime) -> Result<(), Fail> {
     let alloc = rt.alloc();
-    let mut given = three_actions(alloc)?;
-    for (left, right) in [
-        ("c", "c"),
-        ("c", "d"),
-        ("c", "e"),
-        ("d", "c"),
-        ("d", "d"),
-        ("d", "e"),
-        ("e", "c"),
-        ("e", "d"),
-        ("e", "e"),
-    ] {
-        let next = same_constants(alloc, left, right)?;
-        assert!(rt; gives(alloc, &given, Some(&next))?, "{left} {right}");
-        given.spent.push(next)?;
+    let mut given = system_of(alloc, &THREE_ACTIONS)?;
+    for (left, right) in PAIRS.iter() {
+        let next = same_constants(left, right);
+        assert!(rt; gives(alloc, &given, &Some(next))?, "{left} {right}");
+        given.spent.push(formula_of(alloc, &next)?)?;
     }
-    assert!(rt; gives(alloc, &given, None)?);
+    assert!(rt; gives(alloc, &given, &None)?);
     Ok(())
 }
 
-// A guard binds a public name by an equality; a variable that ranges over any message is none.
-#[test]
-fn equalities_bind(rt: HostRuntime) -> Result<(), Fail> {
-    let alloc = rt.alloc();
-    let binders = vec![in alloc;
+// for all x $p #i, if A(x)@i and p = x, then p = x
+const EQUAL: PlainFormula<'static> = PlainFormula::ForAll(
+    &[
         Binder::Message(Sort::Msg),
         Binder::Message(Sort::Pub),
         Binder::Time,
-    ]?;
-    let equal = Atom::Same(bound(0), bound(1));
-    let body = Formula::Holds(equal.copy(alloc)?);
-    let guard = vec![in alloc; comes(alloc, 1, 0)?, equal]?;
-    let mut given = over_one(alloc, for_all(alloc, binders, guard, body)?)?;
-    let wanted = same_constants(alloc, "c", "c")?;
-    assert!(rt; gives(alloc, &given, Some(&wanted))?);
-    let shown = vec![in alloc; variable(Sort::Msg, 3)]?;
-    given.events = vec![in alloc; showing(alloc, 1, shown)?]?;
-    assert!(rt; gives(alloc, &given, None)?);
+    ],
+    &[
+        PlainAtom::Acts("A", &[PlainLeaf::Bound(1)], Moment::Bound(0)),
+        PlainAtom::Same(PlainLeaf::Bound(0), PlainLeaf::Bound(1)),
+    ],
+    &PlainFormula::Holds(PlainAtom::Same(PlainLeaf::Bound(0), PlainLeaf::Bound(1))),
+);
+
+// 'c' is 'c'
+const C_IS_C: PlainFormula<'static> = PlainFormula::Holds(PlainAtom::Same(
+    PlainLeaf::Public("c"),
+    PlainLeaf::Public("c"),
+));
+
+// A guard binds a public name by an equality; a variable that ranges over any message is none.
+static BOUND: [(PlainSystem<'static>, Option<PlainFormula<'static>>); 2] = [
+    (
+        PlainSystem {
+            formulas: &[EQUAL],
+            ..SHOWN
+        },
+        Some(C_IS_C),
+    ),
+    (
+        PlainSystem {
+            events: &[PlainEvent::Step(
+                1,
+                "R",
+                PlainFacts {
+                    actions: &[("A", &[PlainTerm::Variable(Sort::Msg, 3)])],
+                    ..NO_FACTS
+                },
+            )],
+            formulas: &[EQUAL],
+            ..EMPTY
+        },
+        None,
+    ),
+];
+
+#[test]
+fn equalities_bind(rt: HostRuntime) -> Result<(), Fail> {
+    let alloc = rt.alloc();
+    for (i, (given, wanted)) in BOUND.iter().enumerate() {
+        let given = system_of(alloc, given)?;
+        assert!(rt; gives(alloc, &given, wanted)?, "{i}");
+    }
     Ok(())
 }

@@ -2,47 +2,65 @@
 
 use crate::examples::Parts;
 use sp_check::{Clause, Judgement, Node, Skeleton, Step, has_open, judge, steps};
-use sp_fact::fact::Facts;
-use sp_fact::rule::Rule;
-use sp_formula::formula::{Atom, Binder, Formula, Moment};
+use sp_formula::formula::{Binder, Moment};
 use sp_learn::log::{Entry, Log};
+use sp_step::context::Context;
 use sp_step::moves::Move;
 use sp_term::term::Sort;
-use sp_test_make::facts::{action, linear, rule};
-use sp_test_make::formulas::{acts, bound, exists, messages_and_times};
+use sp_test_make::plain::{PlainFact, PlainFacts, PlainRule, PlainTerm, rules_of};
+use sp_test_make::plain_systems::{PlainAtom, PlainFormula, PlainLeaf, formula_of};
 use sp_test_make::systems::system_of_one;
-use sp_test_make::terms::variables;
 use std::alloc::{AllocError, Global};
 use std::test::Fail;
 
-// NAME: [ Fr(~k) ] --[ A(~k) ]-> [ ]
-fn making(alloc: Global, name: &str) -> Result<Rule, AllocError> {
-    let premise = linear(alloc, "Fr", variables(alloc, &[(Sort::Fresh, 0)])?)?;
-    let shown = action(alloc, "A", variables(alloc, &[(Sort::Fresh, 0)])?)?;
-    let facts = Facts {
-        premises: vec![in alloc; premise]?,
-        actions: vec![in alloc; shown]?,
-        conclusions: Vec::new(alloc),
-    };
-    rule(alloc, name, &[("k", Sort::Fresh)], facts)
-}
+// [ Fr(~k) ] --[ A(~k) ]-> [ ]
+const MAKING: PlainFacts<'static> = PlainFacts {
+    premises: &[PlainFact::Linear("Fr", &[PlainTerm::Variable(Sort::Fresh, 0)])],
+    actions: &[("A", &[PlainTerm::Variable(Sort::Fresh, 0)])],
+    conclusions: &[],
+};
+
+const MAKE: PlainRule<'static> = PlainRule {
+    name: "Make",
+    variables: &[("k", Sort::Fresh)],
+    facts: MAKING,
+};
+
+const AGAIN: PlainRule<'static> = PlainRule {
+    name: "Again",
+    variables: &[("k", Sort::Fresh)],
+    facts: MAKING,
+};
+
+static MAKE_ALONE: [PlainRule<'static>; 1] = [MAKE];
+
+static MAKE_AND_AGAIN: [PlainRule<'static>; 2] = [MAKE, AGAIN];
 
 // A doesn't come once: there are x, i and j with A(x) at i and at j, and i isn't j
-fn not_once(alloc: Global) -> Result<Formula, AllocError> {
-    let binders = vec![in alloc; Binder::Message(Sort::Msg), Binder::Time, Binder::Time]?;
-    let guard = vec![in alloc;
-        acts(alloc, "A", bound(0), Moment::Bound(1))?,
-        acts(alloc, "A", bound(0), Moment::Bound(0))?,
-    ]?;
-    let body = Formula::Fails(Atom::SameTime(Moment::Bound(1), Moment::Bound(0)));
-    exists(alloc, binders, guard, body)
-}
+static NOT_ONCE: PlainFormula<'static> = PlainFormula::Exists(
+    &[Binder::Message(Sort::Msg), Binder::Time, Binder::Time],
+    &[
+        PlainAtom::Acts("A", &[PlainLeaf::Bound(0)], Moment::Bound(1)),
+        PlainAtom::Acts("A", &[PlainLeaf::Bound(0)], Moment::Bound(0)),
+    ],
+    &PlainFormula::Fails(PlainAtom::SameTime(Moment::Bound(1), Moment::Bound(0))),
+);
 
 // A comes
-fn some(alloc: Global) -> Result<Formula, AllocError> {
-    let binders = messages_and_times(alloc, &[Sort::Msg])?;
-    let guard = vec![in alloc; acts(alloc, "A", bound(0), Moment::Bound(0))?]?;
-    exists(alloc, binders, guard, Formula::Truth)
+static SOME: PlainFormula<'static> = PlainFormula::Exists(
+    &[Binder::Message(Sort::Msg), Binder::Time],
+    &[PlainAtom::Acts("A", &[PlainLeaf::Bound(0)], Moment::Bound(0))],
+    &PlainFormula::Truth,
+);
+
+// the search for this formula by these rules
+fn searched(
+    alloc: Global,
+    rules: &[PlainRule],
+    sought: &PlainFormula,
+) -> Result<Parts, AllocError> {
+    let rules = rules_of(alloc, rules)?;
+    Parts::new(alloc, rules, formula_of(alloc, sought)?)
 }
 
 // the names of the rules in a log, or what else is done
@@ -70,194 +88,229 @@ fn told(alloc: Global, judgement: Judgement) -> Result<String, AllocError> {
     }
 }
 
+// what is judged of the proof, whose root has this formula
+fn judged(
+    alloc: Global,
+    context: &Context,
+    root: &PlainFormula,
+    proof: &Skeleton,
+) -> Result<String, AllocError> {
+    let root = system_of_one(alloc, formula_of(alloc, root)?, 0)?;
+    told(alloc, judge(alloc, context, root, proof)?)
+}
+
+// what is done at a node: a move, or a text that names a step that isn't built, or none
+#[derive(Clone, Copy)]
+enum Done {
+    Known(Move),
+    Unbuilt(&'static [u8]),
+    Unknown(&'static [u8]),
+}
+
+impl Done {
+    fn step(self, alloc: Global) -> Result<Step, AllocError> {
+        match self {
+            Done::Known(chosen) => Ok(Step::Known(chosen)),
+            Done::Unbuilt(text) => Ok(Step::Unbuilt(text.to_vec(alloc)?)),
+            Done::Unknown(text) => Ok(Step::Unknown(text.to_vec(alloc)?)),
+        }
+    }
+}
+
 // a node with cases of these names
-fn node(alloc: Global, step: Step, names: &[&str]) -> Result<Node, AllocError> {
+fn node(alloc: Global, done: Done, names: &[&str]) -> Result<Node, AllocError> {
     let mut cases = Vec::with_capacity(alloc, names.len())?;
     for name in names {
         cases.push(String::from_str(alloc, name)?)?;
     }
+    let step = done.step(alloc)?;
     Ok(Node { step, cases })
 }
 
-// moves with the names of their cases, in preorder
-fn tree(alloc: Global, moves: &[(Move, &[&str])]) -> Result<Skeleton, Fail> {
-    let mut nodes = Vec::with_capacity(alloc, moves.len())?;
-    for (chosen, names) in moves {
-        nodes.push(node(alloc, Step::Known(*chosen), names)?)?;
+// what is done, with the names of the cases of each, in preorder
+type Nodes = &'static [(Done, &'static [&'static str])];
+
+fn tree(alloc: Global, given: &[(Done, &[&str])]) -> Result<Option<Skeleton>, AllocError> {
+    let mut nodes = Vec::with_capacity(alloc, given.len())?;
+    for (done, names) in given {
+        nodes.push(node(alloc, *done, *names)?)?;
     }
-    let tree = Skeleton::new(nodes).ok_or("tree")?;
-    Ok(tree)
+    Ok(Skeleton::new(nodes))
 }
 
-// the first three steps of the proof that A comes once, the last of which looks for the event of this action, above a leaf
-fn three_steps(alloc: Global, position: usize, step: Step) -> Result<Skeleton, Fail> {
-    let nodes = vec![in alloc;
-        node(alloc, Step::Known(Move::Simplify), &[""])?,
-        node(alloc, Step::Known(Move::Action(0)), &["Make"])?,
-        node(alloc, Step::Known(Move::Action(position)), &["Make"])?,
-        node(alloc, step, &[])?,
-    ]?;
-    let tree = Skeleton::new(nodes).ok_or("tree")?;
-    Ok(tree)
-}
+const SIMPLIFY: (Done, &[&str]) = (Done::Known(Move::Simplify), &[""]);
 
-// A proof, how many steps it has, and what comes of it.
-type Case = (Skeleton, u64, &'static str);
+// looks for the event of the action at the position, which Make has
+const FIRST_MADE: (Done, &[&str]) = (Done::Known(Move::Action(0)), &["Make"]);
 
-// whole proofs that A comes once
-fn of_proofs(alloc: Global) -> Result<Vec<Case>, Fail> {
-    let unbuilt = Step::Unbuilt(b"induction".to_vec(alloc)?);
-    let unknown = Step::Unknown(b"contradict".to_vec(alloc)?);
-    Ok(vec![in alloc;
-        (
-            three_steps(alloc, 0, Step::Known(Move::Contradiction))?,
-            4,
-            "finished"
-        ),
-        (
-            three_steps(alloc, 0, Step::Known(Move::Unproved))?,
-            3,
-            "incomplete"
-        ),
-        (
-            three_steps(alloc, 1, Step::Known(Move::Contradiction))?,
-            4,
-            "3: instance"
-        ),
-        (three_steps(alloc, 0, unbuilt)?, 4, "4: instance"),
-        (three_steps(alloc, 0, unknown)?, 4, "4: move"),
-    ]?)
-}
+const SECOND_MADE: (Done, &[&str]) = (Done::Known(Move::Action(1)), &["Make"]);
 
-// a case is left out, has another name, or is one too many
-fn of_other_cases(alloc: Global) -> Result<Vec<Case>, Fail> {
-    let left_out = tree(
-        alloc,
+const CONTRADICTION: (Done, &[&str]) = (Done::Known(Move::Contradiction), &[]);
+
+const SOLVED: (Done, &[&str]) = (Done::Known(Move::Solved), &[]);
+
+const UNPROVED: (Done, &[&str]) = (Done::Known(Move::Unproved), &[]);
+
+// Proofs that A comes once, how many steps each has, and what comes of it: whole ones; and those in which a case is left out, has
+// another name, or is one too many.
+static PROOFS: [(Nodes, u64, &str); 8] = [
+    (
+        &[SIMPLIFY, FIRST_MADE, FIRST_MADE, CONTRADICTION],
+        4,
+        "finished",
+    ),
+    (
+        &[SIMPLIFY, FIRST_MADE, FIRST_MADE, UNPROVED],
+        3,
+        "incomplete",
+    ),
+    (
+        &[SIMPLIFY, FIRST_MADE, SECOND_MADE, CONTRADICTION],
+        4,
+        "3: instance",
+    ),
+    (
         &[
-            (Move::Simplify, &[""]),
-            (Move::Action(0), &["Make"]),
-            (Move::Action(0), &[]),
+            SIMPLIFY,
+            FIRST_MADE,
+            FIRST_MADE,
+            (Done::Unbuilt(b"induction"), &[]),
         ],
-    )?;
-    let other = tree(
-        alloc,
+        4,
+        "4: instance",
+    ),
+    (
         &[
-            (Move::Simplify, &[""]),
-            (Move::Action(0), &["Made"]),
-            (Move::Unproved, &[]),
+            SIMPLIFY,
+            FIRST_MADE,
+            FIRST_MADE,
+            (Done::Unknown(b"contradict"), &[]),
         ],
-    )?;
-    let too_many = tree(
-        alloc,
-        &[(Move::Unproved, &[""]), (Move::Contradiction, &[])],
-    )?;
-    Ok(vec![in alloc;
-        (left_out, 3, "3: cases"),
-        (other, 2, "2: cases"),
-        (too_many, 1, "1: cases"),
-    ]?)
-}
+        4,
+        "4: move",
+    ),
+    (
+        &[SIMPLIFY, FIRST_MADE, (Done::Known(Move::Action(0)), &[])],
+        3,
+        "3: cases",
+    ),
+    (
+        &[
+            SIMPLIFY,
+            (Done::Known(Move::Action(0)), &["Made"]),
+            UNPROVED,
+        ],
+        2,
+        "2: cases",
+    ),
+    (
+        &[(Done::Known(Move::Unproved), &[""]), CONTRADICTION],
+        1,
+        "1: cases",
+    ),
+];
 
 #[test]
 fn proofs_are_judged(rt: HostRuntime) -> Result<(), Fail> {
     let alloc = rt.alloc();
-    let rules = vec![in alloc; making(alloc, "Make")?]?;
-    let parts = Parts::new(alloc, rules, not_once(alloc)?)?;
-    let context = parts.context();
-    let mut cases = of_proofs(alloc)?;
-    cases.append(&mut of_other_cases(alloc)?)?;
-    for (i, (proof, count, wanted)) in cases.iter().enumerate() {
-        let root = system_of_one(alloc, not_once(alloc)?, 0)?;
-        let judgement = judge(alloc, &context, root, proof)?;
-        assert_eq!(rt; told(alloc, judgement)?.as_str(), *wanted, "{i}");
-        assert_eq!(rt; steps(proof), *count, "{i}");
+    let parts = searched(alloc, &MAKE_ALONE, &NOT_ONCE)?;
+    for (i, (nodes, count, wanted)) in PROOFS.iter().enumerate() {
+        let proof = tree(alloc, *nodes)?.ok_or("tree")?;
+        let found = judged(alloc, &parts.context(), &NOT_ONCE, &proof)?;
+        assert_eq!(rt; found.as_str(), *wanted, "{i}");
+        assert_eq!(rt; steps(&proof), *count, "{i}");
     }
     Ok(())
 }
 
-// the search for A by these ends below Make and below Again
-fn of_both(alloc: Global, first: Move, second: Move) -> Result<Skeleton, Fail> {
-    tree(
-        alloc,
-        &[
-            (Move::Simplify, &[""]),
-            (Move::Action(0), &["Make", "Again"]),
-            (first, &[]),
-            (second, &[]),
-        ],
-    )
-}
+// looks for the event of A, which Make and Again have
+const EITHER_MADE: (Done, &[&str]) = (Done::Known(Move::Action(0)), &["Make", "Again"]);
 
+// The search for A, which ends below Make and below Again; whether a leaf is open; and what comes of it.
 // `Make` and `Again` both do A: the search may end at either, with a log of that rule alone.
+static LOGS: [(Nodes, bool, &str); 5] = [
+    (
+        &[SIMPLIFY, EITHER_MADE, SOLVED, SOLVED],
+        false,
+        "found Make",
+    ),
+    (
+        &[SIMPLIFY, EITHER_MADE, UNPROVED, SOLVED],
+        true,
+        "found Again",
+    ),
+    (
+        &[SIMPLIFY, EITHER_MADE, SOLVED, UNPROVED],
+        true,
+        "found Make",
+    ),
+    (
+        &[SIMPLIFY, EITHER_MADE, UNPROVED, UNPROVED],
+        true,
+        "incomplete",
+    ),
+    (
+        &[SIMPLIFY, EITHER_MADE, SOLVED, CONTRADICTION],
+        false,
+        "4: instance",
+    ),
+];
+
 #[test]
 fn first_logs_are_given(rt: HostRuntime) -> Result<(), Fail> {
     let alloc = rt.alloc();
-    let rules = vec![in alloc; making(alloc, "Make")?, making(alloc, "Again")?]?;
-    let parts = Parts::new(alloc, rules, some(alloc)?)?;
-    let context = parts.context();
-    for (first, second, is_open, wanted) in [
-        (Move::Solved, Move::Solved, false, "found Make"),
-        (Move::Unproved, Move::Solved, true, "found Again"),
-        (Move::Solved, Move::Unproved, true, "found Make"),
-        (Move::Unproved, Move::Unproved, true, "incomplete"),
-        (Move::Solved, Move::Contradiction, false, "4: instance"),
-    ] {
-        let proof = of_both(alloc, first, second)?;
-        let root = system_of_one(alloc, some(alloc)?, 0)?;
-        let judgement = judge(alloc, &context, root, &proof)?;
-        assert_eq!(rt; told(alloc, judgement)?.as_str(), wanted);
-        assert_eq!(rt; has_open(&proof), is_open);
+    let parts = searched(alloc, &MAKE_AND_AGAIN, &SOME)?;
+    for (i, (nodes, is_open, wanted)) in LOGS.iter().enumerate() {
+        let proof = tree(alloc, *nodes)?.ok_or("tree")?;
+        let found = judged(alloc, &parts.context(), &SOME, &proof)?;
+        assert_eq!(rt; found.as_str(), *wanted, "{i}");
+        assert_eq!(rt; has_open(&proof), *is_open, "{i}");
     }
     Ok(())
 }
+
+// a case where the search ends
+static LATE: [(Done, &[&str]); 4] = [
+    SIMPLIFY,
+    FIRST_MADE,
+    (Done::Known(Move::Solved), &[""]),
+    UNPROVED,
+];
 
 // Without an event there is no log in which A comes; and where the search ends there is no case.
 #[test]
 fn other_ends_are_rejected(rt: HostRuntime) -> Result<(), Fail> {
     let alloc = rt.alloc();
-    let rules = vec![in alloc; making(alloc, "Make")?]?;
-    let parts = Parts::new(alloc, rules, some(alloc)?)?;
-    let context = parts.context();
+    let parts = searched(alloc, &MAKE_ALONE, &SOME)?;
     let early = Skeleton::leaf(alloc, Step::Known(Move::Solved))?;
-    let late = tree(
-        alloc,
-        &[
-            (Move::Simplify, &[""]),
-            (Move::Action(0), &["Make"]),
-            (Move::Solved, &[""]),
-            (Move::Unproved, &[]),
-        ],
-    )?;
-    for (proof, wanted) in [(&early, "1: instance"), (&late, "3: cases")] {
-        let root = system_of_one(alloc, some(alloc)?, 0)?;
-        let judgement = judge(alloc, &context, root, proof)?;
-        assert_eq!(rt; told(alloc, judgement)?.as_str(), wanted);
-    }
+    let found = judged(alloc, &parts.context(), &SOME, &early)?;
+    assert_eq!(rt; found.as_str(), "1: instance");
+    let late = tree(alloc, &LATE)?.ok_or("tree")?;
+    let found = judged(alloc, &parts.context(), &SOME, &late)?;
+    assert_eq!(rt; found.as_str(), "3: cases");
     Ok(())
 }
 
-// a node with cases of these names, and so many leaves behind it
-fn over_leaves(
-    alloc: Global,
-    names: &[&str],
-    leaves: usize,
-) -> Result<Option<Skeleton>, AllocError> {
-    let mut nodes = vec![in alloc; node(alloc, Step::Known(Move::Simplify), names)?]?;
-    for _ in 0..leaves {
-        nodes.push(node(alloc, Step::Known(Move::Unproved), &[])?)?;
-    }
-    Ok(Skeleton::new(nodes))
-}
+// Nodes, and whether they are one tree: where each case has its nodes, and none are left.
+static TREES: [(Nodes, bool); 6] = [
+    (&[TWO_CASES, UNPROVED, UNPROVED], true),
+    (&[TWO_CASES, UNPROVED], false),
+    (&[TWO_CASES, UNPROVED, UNPROVED, UNPROVED], false),
+    (&[NO_CASES], true),
+    (&[NO_CASES, UNPROVED], false),
+    (&[], false),
+];
 
-// Nodes are a tree where each case has its nodes, and none are left.
+const TWO_CASES: (Done, &[&str]) = (Done::Known(Move::Simplify), &["a", "b"]);
+
+const NO_CASES: (Done, &[&str]) = (Done::Known(Move::Simplify), &[]);
+
 #[test]
 fn nodes_are_one_tree(rt: HostRuntime) -> Result<(), Fail> {
     let alloc = rt.alloc();
-    assert!(rt; over_leaves(alloc, &["a", "b"], 2)?.is_some());
-    assert!(rt; over_leaves(alloc, &["a", "b"], 1)?.is_none());
-    assert!(rt; over_leaves(alloc, &["a", "b"], 3)?.is_none());
-    assert!(rt; over_leaves(alloc, &[], 0)?.is_some());
-    assert!(rt; over_leaves(alloc, &[], 1)?.is_none());
-    assert!(rt; Skeleton::new(Vec::new(alloc)).is_none());
+    for (i, (nodes, wanted)) in TREES.iter().enumerate() {
+        let found = tree(alloc, *nodes)?;
+        assert_eq!(rt; found.is_some(), *wanted, "{i}");
+    }
     Ok(())
 }

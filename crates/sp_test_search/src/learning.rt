@@ -2,8 +2,7 @@
 
 use crate::examples::{contradicts, reduced};
 use sp_book::book::RuleBook;
-use sp_fact::fact::Facts;
-use sp_ground::signature::{Equation, Signature, Symbol};
+use sp_fact::signature::{Equation, Signature, Symbol};
 use sp_moves_know::chain::chain_cases;
 use sp_moves_know::know::know_cases;
 use sp_step::moves::Case;
@@ -12,9 +11,11 @@ use sp_system::event::{Event, What};
 use sp_system::system::System;
 use sp_system::way::{Chain, Way};
 use sp_term::term::{Name, Sort, Term, Variable};
-use sp_test_make::facts::{linear, no_facts, rule};
-use sp_test_make::systems::{event, link, system};
-use sp_test_make::terms::{constant, over, pair, variable};
+use sp_test_make::plain::{
+    NO_FACTS, PlainEvent, PlainFact, PlainFacts, PlainRule, PlainTerm, PlainWay, event_of,
+    rules_of, term_of,
+};
+use sp_test_make::plain_systems::{EMPTY, PlainSystem, system_of};
 use sp_variant::book::book;
 use std::alloc::{AllocError, Global};
 use std::test::Fail;
@@ -107,15 +108,19 @@ fn put_event(alloc: Global, text: &mut String, event: &Event) -> Result<(), Allo
 }
 
 // the events, the pairs of the order, and the next number
-fn text_of(alloc: Global, system: &System) -> Result<String, AllocError> {
-    let mut text = String::new(alloc);
+fn put_system(alloc: Global, text: &mut String, system: &System) -> Result<(), AllocError> {
     for event in &system.events {
-        put_event(alloc, &mut text, event)?;
+        put_event(alloc, text, event)?;
     }
-    put_order(alloc, &mut text, &system.order)?;
+    put_order(alloc, text, &system.order)?;
     let next = system.next;
     let words = format!(in alloc; "next {next}")?;
-    text.push_str(&words)?;
+    text.push_str(&words)
+}
+
+fn text_of(alloc: Global, system: &System) -> Result<String, AllocError> {
+    let mut text = String::new(alloc);
+    put_system(alloc, &mut text, system)?;
     Ok(text)
 }
 
@@ -133,176 +138,211 @@ fn put_order(
 
 // ---- systems
 
-fn x(number: u128) -> Term {
-    variable(Sort::Msg, number)
-}
+const X0: PlainTerm<'static> = PlainTerm::Variable(Sort::Msg, 0);
 
-fn hash(alloc: Global, message: Term) -> Result<Term, AllocError> {
-    over(alloc, "h", vec![in alloc; message]?)
-}
+const X1: PlainTerm<'static> = PlainTerm::Variable(Sort::Msg, 1);
 
-fn hidden(alloc: Global, message: Term, key: Term) -> Result<Term, AllocError> {
-    over(alloc, "senc", vec![in alloc; message, key]?)
-}
+const X2: PlainTerm<'static> = PlainTerm::Variable(Sort::Msg, 2);
 
-// the system of these events, whose next number is this
-fn of_events(alloc: Global, events: Vec<Event>, next: u128) -> System {
-    let mut made = system(alloc, Vec::new(alloc), next);
-    made.events = events;
-    made
-}
+const FRESH: PlainTerm<'static> = PlainTerm::Variable(Sort::Fresh, 1);
 
-// the system in which this is learnt at 5
-fn learning(alloc: Global, message: Term, way: Way) -> Result<System, AllocError> {
-    let event = Event::learn(alloc, 5, message, way)?;
-    Ok(of_events(alloc, vec![in alloc; event]?, 6))
-}
+const HASH: PlainTerm<'static> = PlainTerm::Over("h", &[X0]);
+
+const PAIR: PlainTerm<'static> = PlainTerm::Over("pair", &[X0, X1]);
+
+// the system in which nothing stands, and whose next number is 6
+const SIX: PlainSystem<'static> = PlainSystem { next: 6, ..EMPTY };
 
 // the step R at 5 takes In(x0)
-fn receiving(alloc: Global) -> Result<System, AllocError> {
-    let mut facts = no_facts(alloc);
-    facts
-        .premises
-        .push(linear(alloc, "In", vec![in alloc; x(0)]?)?)?;
-    let step = event(alloc, 5, "R", facts)?;
-    Ok(of_events(alloc, vec![in alloc; step]?, 6))
-}
+const RECEIVING: PlainSystem<'static> = PlainSystem {
+    events: &[PlainEvent::Step(
+        5,
+        "R",
+        PlainFacts {
+            premises: &[PlainFact::Linear("In", &[X0])],
+            ..NO_FACTS
+        },
+    )],
+    ..SIX
+};
 
 // x0 is sent at 5, and learnt at 4
-fn sending(alloc: Global) -> Result<System, AllocError> {
-    let events = vec![in alloc;
-        Event::send(alloc, 5, x(0))?,
-        Event::learn(alloc, 4, x(0), Way::Anyhow)?,
-    ]?;
-    Ok(of_events(alloc, events, 6))
-}
+const SENDING: PlainSystem<'static> = PlainSystem {
+    events: &[
+        PlainEvent::Send(5, X0),
+        PlainEvent::Learn(4, X0, PlainWay::Anyhow),
+    ],
+    ..SIX
+};
 
-// ~1 is learnt at 3 and at 4, in these ways
-fn learnt_twice(alloc: Global, first: Way, second: Way) -> Result<System, AllocError> {
-    let events = vec![in alloc;
-        Event::learn(alloc, 3, variable(Sort::Fresh, 1), first)?,
-        Event::learn(alloc, 4, variable(Sort::Fresh, 1), second)?,
-    ]?;
-    Ok(of_events(alloc, events, 6))
-}
+// ~1 is learnt at 3 and at 4
+const LEARNT_TWICE: PlainSystem<'static> = PlainSystem {
+    events: &[
+        PlainEvent::Learn(3, FRESH, PlainWay::Anyhow),
+        PlainEvent::Learn(4, FRESH, PlainWay::OwnName),
+    ],
+    ..SIX
+};
+
+// ~1 is made at 3, and is an own name at 4
+const MADE_AND_OWN: PlainSystem<'static> = PlainSystem {
+    events: &[
+        PlainEvent::Learn(3, FRESH, PlainWay::Constructed),
+        PlainEvent::Learn(4, FRESH, PlainWay::OwnName),
+    ],
+    ..SIX
+};
 
 // ---- rows
 
 // a system, a row, and what it makes of it, if it applies
-type Applied = (System, Row, Option<&'static str>);
+type Applied = (PlainSystem<'static>, Row, Option<&'static str>);
 
-fn of_sendings(alloc: Global) -> Result<Vec<Applied>, AllocError> {
-    let mut linked = receiving(alloc)?;
-    linked.links.push(link(4, 0, 5, 0))?;
-    let unlearnt = of_events(alloc, vec![in alloc; Event::send(alloc, 5, x(0))?]?, 6);
-    let mut ordered = sending(alloc)?;
-    ordered.order.push((4, 5))?;
-    Ok(vec![in alloc;
-        (
-            receiving(alloc)?,
-            Row::SendInput,
-            Some("5 R; 6 send x0; 6<5 next 7")
-        ),
-        (linked, Row::SendInput, None),
-        (
-            unlearnt,
-            Row::SendLearnt,
-            Some("5 send x0; 6 learn x0 anyhow; 6<5 next 7")
-        ),
-        (
-            sending(alloc)?,
-            Row::SendLearnt,
-            Some("5 send x0; 4 learn x0 anyhow; 4<5 next 6")
-        ),
-        (ordered, Row::SendLearnt, None),
-    ]?)
-}
+const OF_SENDINGS: [Applied; 5] = [
+    (
+        RECEIVING,
+        Row::SendInput,
+        Some("5 R; 6 send x0; 6<5 next 7"),
+    ),
+    (
+        PlainSystem {
+            links: &[(4, 0, 5, 0)],
+            ..RECEIVING
+        },
+        Row::SendInput,
+        None,
+    ),
+    (
+        PlainSystem {
+            events: &[PlainEvent::Send(5, X0)],
+            ..SIX
+        },
+        Row::SendLearnt,
+        Some("5 send x0; 6 learn x0 anyhow; 6<5 next 7"),
+    ),
+    (
+        SENDING,
+        Row::SendLearnt,
+        Some("5 send x0; 4 learn x0 anyhow; 4<5 next 6"),
+    ),
+    (
+        PlainSystem {
+            order: &[(4, 5)],
+            ..SENDING
+        },
+        Row::SendLearnt,
+        None,
+    ),
+];
 
-fn of_learnings(alloc: Global) -> Result<Vec<Applied>, AllocError> {
-    let parts = pair(alloc, x(0), x(1))?;
-    let name = constant(alloc, "c")?;
-    let own = variable(Sort::Fresh, 1);
-    Ok(vec![in alloc;
-        (
-            learnt_twice(alloc, Way::Anyhow, Way::OwnName)?,
-            Row::LearnOnce,
-            Some("3 learn ~1 own; next 6")
-        ),
-        (
-            learnt_twice(alloc, Way::Constructed, Way::OwnName)?,
-            Row::LearnOnce,
-            None
-        ),
-        (
-            learning(alloc, parts, Way::Anyhow)?,
-            Row::SettleLearn,
-            Some("5 learn pair( x0 x1 ) made; 6 learn x0 anyhow; 7 learn x1 anyhow; 6<5 7<5 next 8")
-        ),
-        (
-            learning(alloc, name, Way::Anyhow)?,
-            Row::SettleLearn,
-            Some("5 learn 'c' public; next 6")
-        ),
-        (learning(alloc, own, Way::Anyhow)?, Row::SettleLearn, None),
-    ]?)
+const OF_LEARNINGS: [Applied; 5] = [
+    (LEARNT_TWICE, Row::LearnOnce, Some("3 learn ~1 own; next 6")),
+    (MADE_AND_OWN, Row::LearnOnce, None),
+    (
+        PlainSystem {
+            events: &[PlainEvent::Learn(5, PAIR, PlainWay::Anyhow)],
+            ..SIX
+        },
+        Row::SettleLearn,
+        Some("5 learn pair( x0 x1 ) made; 6 learn x0 anyhow; 7 learn x1 anyhow; 6<5 7<5 next 8"),
+    ),
+    (
+        PlainSystem {
+            events: &[PlainEvent::Learn(5, PlainTerm::Public("c"), PlainWay::Anyhow)],
+            ..SIX
+        },
+        Row::SettleLearn,
+        Some("5 learn 'c' public; next 6"),
+    ),
+    (
+        PlainSystem {
+            events: &[PlainEvent::Learn(5, FRESH, PlainWay::Anyhow)],
+            ..SIX
+        },
+        Row::SettleLearn,
+        None,
+    ),
+];
+
+static TABLES: [&[Applied]; 2] = [&OF_SENDINGS, &OF_LEARNINGS];
+
+// the text of what the row makes of the system, or `none`
+fn text_made(alloc: Global, given: &PlainSystem, row: Row) -> Result<String, AllocError> {
+    let given = system_of(alloc, given)?;
+    match reduced(alloc, row, &given)? {
+        Some(made) => text_of(alloc, &made),
+        None => String::from_str(alloc, "none"),
+    }
 }
 
 #[test]
 fn rows_of_the_adversary_are_applied(rt: HostRuntime) -> Result<(), Fail> {
     let alloc = rt.alloc();
-    let mut cases = of_sendings(alloc)?;
-    cases.append(&mut of_learnings(alloc)?)?;
-    for (i, case) in cases.into_iter().enumerate() {
-        let (given, row, wanted) = case;
-        match (reduced(alloc, row, &given)?, wanted) {
-            (Some(made), Some(wanted)) => {
-                assert_eq!(rt; text_of(alloc, &made)?.as_str(), wanted);
-            }
-            (None, None) => {}
-            _ => assert!(rt; false, "{i}"),
+    for cases in TABLES.iter() {
+        for (i, (given, row, wanted)) in cases.iter().enumerate() {
+            let found = text_made(alloc, given, *row)?;
+            assert_eq!(rt; found.as_str(), wanted.unwrap_or("none"), "{i}");
         }
     }
     Ok(())
 }
 
-// x0 is learnt at 4, and x1 at 6 by a chain that begins with x0, from a step at 5; one of the times is before the other
-fn early(alloc: Global, order: (u128, u128)) -> Result<System, AllocError> {
-    let way = Way::ChainBegun(chain(5, vec![in alloc; x(0)]?));
-    let events = vec![in alloc;
-        Event::learn(alloc, 4, x(0), Way::Anyhow)?,
-        event(alloc, 5, "R", no_facts(alloc))?,
-        Event::learn(alloc, 6, x(1), way)?,
-    ]?;
-    let mut made = of_events(alloc, events, 7);
-    made.order.push(order)?;
-    Ok(made)
-}
+// x0 is learnt at 4, and x1 at 6 by a chain that begins with x0, from a step at 5
+const EARLY: PlainSystem<'static> = PlainSystem {
+    events: &[
+        PlainEvent::Learn(4, X0, PlainWay::Anyhow),
+        PlainEvent::Step(5, "R", NO_FACTS),
+        PlainEvent::Learn(6, X1, PlainWay::ChainBegun(5, &[X0])),
+    ],
+    next: 7,
+    ..EMPTY
+};
 
-// of what the first conclusion of the step puts out
-fn chain(time: u128, messages: Vec<Term>) -> Chain {
-    Chain {
-        time,
-        conclusion: 0,
-        messages,
-    }
-}
+// a system, and whether a contradiction is seen in it
+static CONTRADICTIONS: [(PlainSystem<'static>, bool); 4] = [
+    (
+        PlainSystem {
+            order: &[(4, 5)],
+            ..EARLY
+        },
+        true,
+    ),
+    (
+        PlainSystem {
+            order: &[(5, 4)],
+            ..EARLY
+        },
+        false,
+    ),
+    (MADE_AND_OWN, true),
+    (LEARNT_TWICE, false),
+];
 
 #[test]
 fn contradictions_of_the_adversary_are_seen(rt: HostRuntime) -> Result<(), Fail> {
     let alloc = rt.alloc();
-    for (given, wanted) in [
-        (early(alloc, (4, 5))?, true),
-        (early(alloc, (5, 4))?, false),
-        (learnt_twice(alloc, Way::Constructed, Way::OwnName)?, true),
-        (learnt_twice(alloc, Way::Anyhow, Way::OwnName)?, false),
-    ] {
+    for (i, (given, wanted)) in CONTRADICTIONS.iter().enumerate() {
+        let given = system_of(alloc, given)?;
         let found = contradicts(alloc, &given)?;
-        assert_eq!(rt; found, wanted);
+        assert_eq!(rt; found, *wanted, "{i}");
     }
     Ok(())
 }
 
 // ---- moves
+
+// the left side of an equation whose right side is x
+static OPENED: PlainTerm<'static> = PlainTerm::Over(
+    "sdec",
+    &[PlainTerm::Over("senc", &[X0, X1]), X1],
+);
+
+// sdec(senc(x, y), y) = x
+fn opening(alloc: Global) -> Result<Equation, AllocError> {
+    let left = term_of(alloc, &OPENED)?;
+    let right = term_of(alloc, &X0)?;
+    Ok(Equation { left, right })
+}
 
 // The symbols of pairs, h/1, senc/2 and sdec/2; with sdec(senc(x, y), y) = x behind the equations of pairs.
 fn signature(alloc: Global) -> Result<Signature, AllocError> {
@@ -315,38 +355,44 @@ fn signature(alloc: Global) -> Result<Signature, AllocError> {
             private: false,
         })?;
     }
-    let whole = hidden(alloc, x(0), x(1))?;
-    let left = over(alloc, "sdec", vec![in alloc; whole, x(1)]?)?;
-    made.equations.push(Equation { left, right: x(0) })?;
+    made.equations.push(opening(alloc)?)?;
     Ok(made)
 }
 
 // Give: [ ] --> [ Out(h(x)), S(x), Out(x) ]
+static GIVING: [PlainRule<'static>; 1] = [PlainRule {
+    name: "Give",
+    variables: &[("x", Sort::Msg)],
+    facts: PlainFacts {
+        conclusions: &[
+            PlainFact::Linear("Out", &[HASH]),
+            PlainFact::Linear("S", &[X0]),
+            PlainFact::Linear("Out", &[X0]),
+        ],
+        ..NO_FACTS
+    },
+}];
+
 fn giving(alloc: Global, signature: &Signature) -> Result<RuleBook, AllocError> {
-    let first = vec![in alloc; hash(alloc, x(0))?]?;
-    let facts = Facts {
-        premises: Vec::new(alloc),
-        actions: Vec::new(alloc),
-        conclusions: vec![in alloc;
-            linear(alloc, "Out", first)?,
-            linear(alloc, "S", vec![in alloc; x(0)]?)?,
-            linear(alloc, "Out", vec![in alloc; x(0)]?)?,
-        ]?,
-    };
-    let rules = vec![in alloc; rule(alloc, "Give", &[("x", Sort::Msg)], facts)?]?;
+    let rules = rules_of(alloc, &GIVING)?;
     book(alloc, &signature.equations, &rules)
 }
 
-// each case by its name and its system, one a line; or `none`
+// the name of the case and its system
+fn put_case(alloc: Global, text: &mut String, case: &Case) -> Result<(), AllocError> {
+    text.push_str(&case.name)?;
+    text.push_str(": ")?;
+    put_system(alloc, text, &case.system)?;
+    text.push_str("\n")
+}
+
+// the cases, one a line; or `none`
 fn texts_of(alloc: Global, cases: &Option<Vec<Case>>) -> Result<String, AllocError> {
     let mut text = String::new(alloc);
     match cases {
         Some(cases) => {
             for case in cases {
-                text.push_str(&case.name)?;
-                text.push_str(": ")?;
-                text.push_str(&text_of(alloc, &case.system)?)?;
-                text.push_str("\n")?;
+                put_case(alloc, &mut text, case)?;
             }
         }
         None => text.push_str("none")?,
@@ -365,21 +411,31 @@ Give_case_1: 5 learn ~1 chain 6.0 ( h( x7 ) ); 6 Give; 6<5 next 8
 Give_case_2: 5 learn ~1 chain 6.2 ( x7 ); 6 Give; 6<5 next 8
 ";
 
+// what is learnt at 5, and the cases of that
+static KNOWN: [(PlainEvent<'static>, &str); 5] = [
+    (PlainEvent::Learn(5, HASH, PlainWay::Anyhow), OF_HASH),
+    (PlainEvent::Learn(5, FRESH, PlainWay::Anyhow), OF_FRESH),
+    (PlainEvent::Learn(5, HASH, PlainWay::Constructed), "none"),
+    (PlainEvent::Learn(5, PAIR, PlainWay::Anyhow), "none"),
+    (PlainEvent::Learn(5, X0, PlainWay::Anyhow), "none"),
+];
+
+// the system of this event alone
+fn of_event(alloc: Global, plain: &PlainEvent) -> Result<System, AllocError> {
+    let mut made = system_of(alloc, &SIX)?;
+    made.events.push(event_of(alloc, plain)?)?;
+    Ok(made)
+}
+
 #[test]
 fn messages_are_known(rt: HostRuntime) -> Result<(), Fail> {
     let alloc = rt.alloc();
     let signature = signature(alloc)?;
     let rules = giving(alloc, &signature)?;
-    for (message, way, wanted) in [
-        (hash(alloc, x(0))?, Way::Anyhow, OF_HASH),
-        (variable(Sort::Fresh, 1), Way::Anyhow, OF_FRESH),
-        (hash(alloc, x(0))?, Way::Constructed, "none"),
-        (pair(alloc, x(0), x(1))?, Way::Anyhow, "none"),
-        (x(0), Way::Anyhow, "none"),
-    ] {
-        let given = learning(alloc, message, way)?;
+    for (i, (learnt, wanted)) in KNOWN.iter().enumerate() {
+        let given = of_event(alloc, learnt)?;
         let cases = know_cases(alloc, &signature, &rules, &given, 5)?;
-        assert_eq!(rt; texts_of(alloc, &cases)?.as_str(), wanted);
+        assert_eq!(rt; texts_of(alloc, &cases)?.as_str(), *wanted, "{i}");
     }
     Ok(())
 }
@@ -399,22 +455,35 @@ chain_2: 5 learn x0 chain 4.0 ( pair( x6 x7 ) x7 ); next 8
 chain_3: 5 learn x0 chain 4.0 ( senc( x6 x7 ) x6 ); 8 learn x7 anyhow; 8<5 next 9
 ";
 
+// what is learnt at 5, and how the chain goes on
+static CHAINS: [(PlainEvent<'static>, &str); 4] = [
+    (
+        PlainEvent::Learn(5, X0, PlainWay::ChainBegun(4, &[OF_PAIR])),
+        PAST_PAIR,
+    ),
+    (
+        PlainEvent::Learn(5, X0, PlainWay::ChainBegun(4, &[OF_HIDDEN])),
+        PAST_HIDDEN,
+    ),
+    (
+        PlainEvent::Learn(5, X0, PlainWay::ChainBegun(4, &[X1])),
+        PAST_VARIABLE,
+    ),
+    (PlainEvent::Learn(5, X0, PlainWay::Anyhow), "none"),
+];
+
+const OF_PAIR: PlainTerm<'static> = PlainTerm::Over("pair", &[X1, X2]);
+
+const OF_HIDDEN: PlainTerm<'static> = PlainTerm::Over("senc", &[X1, X2]);
+
 #[test]
 fn chains_go_on(rt: HostRuntime) -> Result<(), Fail> {
     let alloc = rt.alloc();
     let signature = signature(alloc)?;
-    for (last, wanted) in [
-        (pair(alloc, x(1), x(2))?, PAST_PAIR),
-        (hidden(alloc, x(1), x(2))?, PAST_HIDDEN),
-        (x(1), PAST_VARIABLE),
-    ] {
-        let way = Way::ChainBegun(chain(4, vec![in alloc; last]?));
-        let given = learning(alloc, x(0), way)?;
+    for (i, (learnt, wanted)) in CHAINS.iter().enumerate() {
+        let given = of_event(alloc, learnt)?;
         let cases = chain_cases(alloc, &signature, &given, 5)?;
-        assert_eq!(rt; texts_of(alloc, &cases)?.as_str(), wanted);
+        assert_eq!(rt; texts_of(alloc, &cases)?.as_str(), *wanted, "{i}");
     }
-    let given = learning(alloc, x(0), Way::Anyhow)?;
-    let cases = chain_cases(alloc, &signature, &given, 5)?;
-    assert_eq!(rt; texts_of(alloc, &cases)?.as_str(), "none");
     Ok(())
 }

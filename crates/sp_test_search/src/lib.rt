@@ -3,6 +3,7 @@
 // Nothing stands above.
 // Nothing is promised here: what the clauses of those crates don't say is shown, that they say what is meant, by values that come from
 // outside.
+// A table is a static: a function that names a constant makes its value anew, step by step, and each step is proved.
 #![tactic(auto)]
 
 #[cfg(test)]

@@ -1,13 +1,14 @@
 // Terms, facts and formulas in memory: put in for variables, copied, told apart, unified.
 
 use sp_fact::fact::Facts;
-use sp_formula::formula::{Binder, Formula, Moment};
+use sp_formula::formula::{Binder, Moment};
 use sp_formula::same::same_formula;
 use sp_term::subst::{Subst, apply, apply_all};
-use sp_term::term::{Sort, Term, Variable, copy, copy_all, same};
-use sp_test_make::facts::{action, persistent};
-use sp_test_make::formulas::{acts, before, bound, exists, for_all};
-use sp_test_make::terms::{constant, pair, variable};
+use sp_term::term::{Sort, Term, Variable, same};
+use sp_test_make::plain::{
+    NO_FACTS, PlainFact, PlainFacts, PlainTerm, facts_of, term_of, terms_of,
+};
+use sp_test_make::plain_systems::{PlainAtom, PlainFormula, PlainLeaf, formula_of};
 use sp_unify::unify::mgu;
 use std::alloc::{AllocError, Global};
 use std::test::Fail;
@@ -22,6 +23,11 @@ const SECOND: Variable = Variable {
     number: 1,
 };
 
+const THIRD: Variable = Variable {
+    sort: Sort::Msg,
+    number: 2,
+};
+
 // what is put in for one variable
 fn binding(alloc: Global, variable: Variable, term: Term) -> Result<Subst, AllocError> {
     let mut made = Subst::new(alloc);
@@ -29,79 +35,120 @@ fn binding(alloc: Global, variable: Variable, term: Term) -> Result<Subst, Alloc
     Ok(made)
 }
 
+// the messages x and y, a fresh variable f, a public one p, the public name 'c' and the fresh name ~n7
+const X: PlainTerm<'static> = PlainTerm::Variable(Sort::Msg, 0);
+
+const Y: PlainTerm<'static> = PlainTerm::Variable(Sort::Msg, 1);
+
+const F: PlainTerm<'static> = PlainTerm::Variable(Sort::Fresh, 2);
+
+const P: PlainTerm<'static> = PlainTerm::Variable(Sort::Pub, 3);
+
+const C: PlainTerm<'static> = PlainTerm::Public("c");
+
+const N: PlainTerm<'static> = PlainTerm::FreshName(7);
+
+fn is_wanted(alloc: Global, made: &Term, wanted: &PlainTerm) -> Result<bool, AllocError> {
+    let wanted = term_of(alloc, wanted)?;
+    Ok(same(made, &wanted))
+}
+
+// ~n7 is put in for the first variable, and the message of number 2 for the second one
+fn both(alloc: Global) -> Result<Subst, AllocError> {
+    let first = binding(alloc, FIRST, Term::FreshName(7))?;
+    let second = binding(alloc, SECOND, Term::Var(THIRD))?;
+    first.then(alloc, second)
+}
+
+// what is put into the terms
+fn put_in(alloc: Global, given: &[PlainTerm]) -> Result<Vec<Term>, AllocError> {
+    let given = terms_of(alloc, given)?;
+    let both = both(alloc)?;
+    apply_all(alloc, &both, &given)
+}
+
+const GIVEN: PlainTerm<'static> = PlainTerm::Over("pair", &[X, Y]);
+
+static PUT_IN: PlainTerm<'static> = PlainTerm::Over(
+    "pair",
+    &[N, PlainTerm::Variable(Sort::Msg, 2)],
+);
+
 #[test]
 fn terms_are_put_in(rt: HostRuntime) -> Result<(), Fail> {
     let alloc = rt.alloc();
-    let first = binding(alloc, FIRST, Term::FreshName(7))?;
-    let second = binding(alloc, SECOND, variable(Sort::Msg, 2))?;
-    let both = first.then(alloc, second)?;
-    let given = pair(alloc, Term::Var(FIRST), Term::Var(SECOND))?;
-    let wanted = pair(alloc, Term::FreshName(7), variable(Sort::Msg, 2))?;
-    let made = apply(alloc, &both, &given)?;
-    assert!(rt; same(&made, &wanted));
-    assert!(rt; !same(&made, &given));
-    let all = apply_all(alloc, &both, &vec![in alloc; given]?)?;
-    assert!(rt; same(all.first().ok_or("made")?, &wanted));
-    let copied = copy(&made)?;
-    assert!(rt; same(&copied, &wanted));
+    let all = put_in(alloc, &[GIVEN])?;
+    assert!(rt; is_wanted(alloc, all.first().ok_or("made")?, &PUT_IN)?);
+    let both = both(alloc)?;
     let bound = both.get(FIRST).ok_or("bound")?;
     assert!(rt; same(bound, &Term::FreshName(7)));
+    let given = term_of(alloc, &GIVEN)?;
+    let made = apply(alloc, &both, &given)?;
+    assert!(rt; is_wanted(alloc, &made, &PUT_IN)?);
+    assert!(rt; !same(&made, &given));
+    let copied = made.clone()?;
+    assert!(rt; is_wanted(alloc, &copied, &PUT_IN)?);
     Ok(())
 }
 
 // Two terms, a third one, and what that becomes under their unifier.
-type Unified = (Term, Term, Term, Option<Term>);
+static UNIFIED: [(
+    PlainTerm<'static>,
+    PlainTerm<'static>,
+    PlainTerm<'static>,
+    Option<PlainTerm<'static>>,
+); 7] = [
+    (
+        PlainTerm::Over("pair", &[X, Y]),
+        PlainTerm::Over("pair", &[Y, F]),
+        X,
+        Some(F),
+    ),
+    (Y, X, Y, Some(X)),
+    (P, C, P, Some(C)),
+    (F, N, F, Some(N)),
+    (F, P, X, None),
+    (F, C, X, None),
+    (X, PlainTerm::Over("pair", &[X, Y]), X, None),
+];
 
-// x and y are messages, f is fresh and p public
-fn unified(alloc: Global) -> Result<Vec<Unified>, AllocError> {
-    let x = variable(Sort::Msg, 0);
-    let y = variable(Sort::Msg, 1);
-    let f = variable(Sort::Fresh, 2);
-    let p = variable(Sort::Pub, 3);
-    let c = constant(alloc, "c")?;
-    let n = Term::FreshName(7);
-    let mut rows = Vec::new(alloc);
-    let left = pair(alloc, copy(&x)?, copy(&y)?)?;
-    let right = pair(alloc, copy(&y)?, copy(&f)?)?;
-    rows.push((left, right, copy(&x)?, Some(copy(&f)?)))?;
-    rows.push((copy(&y)?, copy(&x)?, copy(&y)?, Some(copy(&x)?)))?;
-    rows.push((copy(&p)?, copy(&c)?, copy(&p)?, Some(copy(&c)?)))?;
-    rows.push((copy(&f)?, copy(&n)?, copy(&f)?, Some(n)))?;
-    rows.push((copy(&f)?, p, copy(&x)?, None))?;
-    rows.push((f, c, copy(&x)?, None))?;
-    let around = pair(alloc, copy(&x)?, y)?;
-    rows.push((copy(&x)?, around, x, None))?;
-    Ok(rows)
+// what the third term becomes under the unifier of the first two
+fn unified(
+    alloc: Global,
+    left: &PlainTerm,
+    right: &PlainTerm,
+    asked: &PlainTerm,
+) -> Result<Option<Term>, AllocError> {
+    let left = term_of(alloc, left)?;
+    let right = term_of(alloc, right)?;
+    let pairs = vec![in alloc; (left, right)]?;
+    let Some(subst) = mgu(alloc, &pairs)? else {
+        return Ok(None);
+    };
+    let asked = term_of(alloc, asked)?;
+    let made = apply(alloc, &subst, &asked)?;
+    Ok(Some(made))
 }
 
 #[test]
 fn terms_are_unified(rt: HostRuntime) -> Result<(), Fail> {
     let alloc = rt.alloc();
-    for (i, row) in unified(alloc)?.into_iter().enumerate() {
-        let (left, right, asked, wanted) = row;
-        let pairs = vec![in alloc; (left, right)]?;
-        match (mgu(alloc, &pairs)?, wanted) {
+    for (i, (left, right, asked, wanted)) in UNIFIED.iter().enumerate() {
+        match (unified(alloc, left, right, asked)?, wanted) {
             (None, None) => {}
-            (Some(subst), Some(wanted)) => {
-                let made = apply(alloc, &subst, &asked)?;
-                assert!(rt; same(&made, &wanted), "{i}");
-            }
+            (Some(made), Some(wanted)) => assert!(rt; is_wanted(alloc, &made, wanted)?, "{i}"),
             _ => assert!(rt; false, "{i}"),
         }
     }
     Ok(())
 }
 
-// the premise !F(term) and the action A(term)
-fn facts(alloc: Global, term: Term) -> Result<Facts, AllocError> {
-    let premise = persistent(alloc, "F", vec![in alloc; copy(&term)?]?)?;
-    let shown = action(alloc, "A", vec![in alloc; term]?)?;
-    Ok(Facts {
-        premises: vec![in alloc; premise]?,
-        actions: vec![in alloc; shown]?,
-        conclusions: Vec::new(alloc),
-    })
-}
+// the premise !F(x) and the action A(x)
+static OF_X: PlainFacts<'static> = PlainFacts {
+    premises: &[PlainFact::Persistent("F", &[X])],
+    actions: &[("A", &[X])],
+    ..NO_FACTS
+};
 
 fn are_about(facts: &Facts, term: &Term) -> bool {
     match (facts.premises.first(), facts.actions.first()) {
@@ -118,65 +165,93 @@ fn are_about(facts: &Facts, term: &Term) -> bool {
 #[test]
 fn facts_are_copied_and_changed(rt: HostRuntime) -> Result<(), Fail> {
     let alloc = rt.alloc();
-    let given = facts(alloc, Term::Var(FIRST))?;
-    let copied = given.copy(alloc)?;
+    let given = facts_of(alloc, &OF_X)?;
+    let copied = given.clone()?;
     assert!(rt; are_about(&copied, &Term::Var(FIRST)));
     let subst = binding(alloc, FIRST, Term::FreshName(7))?;
     let changed = given.changed(alloc, &subst)?;
     assert!(rt; are_about(&changed, &Term::FreshName(7)));
-    let all = copy_all(alloc, &vec![in alloc; Term::Var(FIRST)]?)?;
+    let all = vec![in alloc; Term::Var(FIRST)]?.clone()?;
     assert_eq!(rt; all.len(), 1);
     Ok(())
 }
 
-// both: for all x with A(x) at the time, falsity; and: the first is before the second, or truth
-fn nested(alloc: Global, time: u128, first: u128, second: u128) -> Result<Formula, AllocError> {
-    let guard = acts(alloc, "A", bound(0), Moment::Free(time))?;
-    let every = for_all(
-        alloc,
-        vec![in alloc; Binder::Message(Sort::Msg)]?,
-        vec![in alloc; guard]?,
-        Formula::Falsity,
-    )?;
-    let either = vec![in alloc; Formula::Holds(before(first, second)), Formula::Truth]?;
-    Ok(Formula::AllOf(vec![in alloc; every, Formula::OneOf(either)]?))
-}
+// both: for all x with A(x) at 2, falsity; and: 3 is before 2, or truth
+const NESTED: PlainFormula<'static> = PlainFormula::AllOf(&[
+    PlainFormula::ForAll(
+        &[Binder::Message(Sort::Msg)],
+        &[PlainAtom::Acts("A", &[PlainLeaf::Bound(0)], Moment::Free(2))],
+        &PlainFormula::Falsity,
+    ),
+    PlainFormula::OneOf(&[
+        PlainFormula::Holds(PlainAtom::Before(Moment::Free(3), Moment::Free(2))),
+        PlainFormula::Truth,
+    ]),
+]);
 
-// there is a message of the sort such that A of what stands at the place happens at 2
-fn some_message(alloc: Global, sort: Sort, place: u64) -> Result<Formula, AllocError> {
-    let guard = acts(alloc, "A", bound(place), Moment::Free(2))?;
-    let binders = vec![in alloc; Binder::Message(sort)]?;
-    exists(alloc, binders, vec![in alloc; guard]?, Formula::Truth)
+// the same, with 1 in place of 2
+static NESTED_AT_1: PlainFormula<'static> = PlainFormula::AllOf(&[
+    PlainFormula::ForAll(
+        &[Binder::Message(Sort::Msg)],
+        &[PlainAtom::Acts("A", &[PlainLeaf::Bound(0)], Moment::Free(1))],
+        &PlainFormula::Falsity,
+    ),
+    PlainFormula::OneOf(&[
+        PlainFormula::Holds(PlainAtom::Before(Moment::Free(3), Moment::Free(1))),
+        PlainFormula::Truth,
+    ]),
+]);
+
+// A of the innermost message happens at 2, and of the one around it
+const INNER: PlainAtom<'static> = PlainAtom::Acts("A", &[PlainLeaf::Bound(0)], Moment::Free(2));
+
+const OUTER: PlainAtom<'static> = PlainAtom::Acts("A", &[PlainLeaf::Bound(1)], Moment::Free(2));
+
+// there is a message of the sort with that action
+const SOME_PUBLIC: PlainFormula<'static> = PlainFormula::Exists(
+    &[Binder::Message(Sort::Pub)],
+    &[INNER],
+    &PlainFormula::Truth,
+);
+
+const SOME_FRESH: PlainFormula<'static> = PlainFormula::Exists(
+    &[Binder::Message(Sort::Fresh)],
+    &[INNER],
+    &PlainFormula::Truth,
+);
+
+const SOME_OUTER: PlainFormula<'static> = PlainFormula::Exists(
+    &[Binder::Message(Sort::Pub)],
+    &[OUTER],
+    &PlainFormula::Truth,
+);
+
+// two formulas, and whether a copy of the first is the second
+static TOLD_APART: [(PlainFormula<'static>, PlainFormula<'static>, bool); 5] = [
+    (SOME_PUBLIC, SOME_PUBLIC, true),
+    (SOME_PUBLIC, SOME_FRESH, false),
+    (SOME_PUBLIC, SOME_OUTER, false),
+    (SOME_PUBLIC, NESTED, false),
+    (NESTED, NESTED, true),
+];
+
+fn copy_is(alloc: Global, left: &PlainFormula, right: &PlainFormula) -> Result<bool, AllocError> {
+    let left = formula_of(alloc, left)?;
+    let right = formula_of(alloc, right)?;
+    let copied = left.clone()?;
+    Ok(same_formula(&copied, &right))
 }
 
 #[test]
 fn formulas_are_changed_and_told_apart(rt: HostRuntime) -> Result<(), Fail> {
     let alloc = rt.alloc();
-    let given = nested(alloc, 2, 3, 2)?;
-    let message = some_message(alloc, Sort::Pub, 0)?;
-    let changed = given.changed(alloc, &Subst::new(alloc), 1, 2)?;
-    let cases = [
-        (
-            message.copy(alloc)?,
-            some_message(alloc, Sort::Pub, 0)?,
-            true,
-        ),
-        (
-            message.copy(alloc)?,
-            some_message(alloc, Sort::Fresh, 0)?,
-            false,
-        ),
-        (
-            message.copy(alloc)?,
-            some_message(alloc, Sort::Pub, 1)?,
-            false,
-        ),
-        (message, nested(alloc, 2, 3, 2)?, false),
-        (given.copy(alloc)?, nested(alloc, 2, 3, 2)?, true),
-        (changed, nested(alloc, 1, 3, 1)?, true),
-    ];
-    for (i, (left, right, wanted)) in cases.iter().enumerate() {
-        assert_eq!(rt; same_formula(left, right), *wanted, "{i}");
+    for (i, (left, right, wanted)) in TOLD_APART.iter().enumerate() {
+        let found = copy_is(alloc, left, right)?;
+        assert_eq!(rt; found, *wanted, "{i}");
     }
+    let given = formula_of(alloc, &NESTED)?;
+    let changed = given.changed(alloc, &Subst::new(alloc), 1, 2)?;
+    let wanted = formula_of(alloc, &NESTED_AT_1)?;
+    assert!(rt; same_formula(&changed, &wanted));
     Ok(())
 }

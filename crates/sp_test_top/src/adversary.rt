@@ -1,7 +1,8 @@
 // Theories in which the adversary takes part: an attack that is replayed and looked for, and where the adversary's facts may be named.
 
 use crate::calls::{assert_answer, written_by};
-use sp_analysis::{Command, Reply, Verdict};
+use sp_analysis::{Command, Verdict};
+use sp_pose::Reply;
 use std::alloc::Global;
 use std::test::Fail;
 
@@ -103,10 +104,10 @@ fn attacks_are_replayed(rt: HostRuntime) -> Result<(), Fail> {
 /// What a proof of so many moves says of the only lemma of the text.
 fn verdict_within(alloc: Global, moves: u64, text: &str) -> Result<Verdict, Fail> {
     let reply = sp_analysis::answer(alloc, Command::Prove(moves), text.as_bytes())?;
-    let Reply::Done(_, verdicts) = reply else {
+    let Reply::Done(answer) = reply else {
         return Err("no lemma is tried".into());
     };
-    let verdict = verdicts.first().ok_or("verdict")?;
+    let verdict = answer.verdicts.first().ok_or("verdict")?;
     Ok(*verdict)
 }
 
@@ -125,7 +126,7 @@ fn attacks_are_never_overlooked_or_invented(rt: HostRuntime) -> Result<(), Fail>
 
 /// Items, what is written of their rules, how the summary begins that is written of their lemma, if they have one, and what an execution without steps says
 /// of it.
-const DEALING: [(&str, &str, &str, &str); 8] = [
+static DEALING: [(&str, &str, &str, &str); 8] = [
     (
         "rule R: [ In(x) ] --> [ ]",
         "rule R: 1 forms\n  [ In(v0) ] --[ ]-> [ ]\n",
@@ -197,7 +198,7 @@ fn facts_of_the_adversary_are_taken(rt: HostRuntime) -> Result<(), Fail> {
 }
 
 /// Items, and what each command answers.
-const REFUSED: [(&str, &str); 4] = [
+static REFUSED: [(&str, &str); 4] = [
     // a finding is told first
     (
         "rule R: [ K(x) ] --> [ ]",

@@ -11,7 +11,7 @@ use std::test::Fail;
 const LIMIT: usize = 1_048_576;
 
 /// Short texts under their names.
-const TEXTS: [(&str, &[u8]); 11] = [
+static TEXTS: [(&str, &[u8]); 11] = [
     ("short", b"no theory"),
     (
         "wrong",
@@ -93,7 +93,7 @@ fn library(alloc: Global) -> Result<MemLibrary, AllocError> {
 }
 
 /// The line of a command, the status, and the answer.
-const ANSWERS: [(&str, u8, &str); 23] = [
+static ANSWERS: [(&str, u8, &str); 23] = [
     ("spthy prove", 5, "refused: usage\n"),
     ("spthy prove short more", 5, "refused: usage\n"),
     ("spthy look short", 5, "refused: usage\n"),

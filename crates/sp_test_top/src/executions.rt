@@ -106,7 +106,7 @@ rule Stuck: [ ] --[ M(sdec('a','b')) ]-> [ Out(sdec('a','b')) ]
 /// Lemmas of both kinds, verified and falsified by an execution: no step; one step and two; steps in another order than that in which they
 /// were looked for; values of public variables, which are none of the theory's names; the first of two leaves;
 /// what the adversary takes, makes and sends.
-const FOUND: [Found; 14] = [
+static FOUND: [Found; 14] = [
     Found {
         rules: MAKE,
         lemma: "some: exists-trace \"Ex x #i. A(x)@i\"",

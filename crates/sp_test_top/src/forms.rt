@@ -34,7 +34,7 @@ rule Show: [ Q(x, y) ] --[ Shown(x, y) ]-> [ ]
 ";
 
 /// The rules, a lemma over them, and what is written of it.
-const TRIED: [(&str, &str, &str); 10] = [
+static TRIED: [(&str, &str, &str); 10] = [
     // the key that checks is that with which the message was signed
     (
         SIGNED,

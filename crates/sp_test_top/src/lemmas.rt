@@ -412,7 +412,7 @@ const UNMADE: [Tried; 1] = [Tried {
 }];
 
 /// The theories, and how they end.
-const THEORIES: [Theory; 14] = [
+static THEORIES: [Theory; 14] = [
     Theory {
         rules: ONE_RULE,
         lemmas: &VERIFIED,

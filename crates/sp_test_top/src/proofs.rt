@@ -23,7 +23,7 @@ qed
 ";
 
 /// Proofs, the status of the check, and what is said of the lemma.
-const CHECKED: [(&str, u8, &str); 13] = [
+static CHECKED: [(&str, u8, &str); 13] = [
     (PROOF, 0, "verified (4 steps)"),
     ("", 2, "analysis incomplete (0 steps)"),
     ("by sorry\n", 2, "analysis incomplete (0 steps)"),
@@ -132,7 +132,7 @@ end of trace
 ";
 
 /// Proofs that simplify systems in which an equation has no unifier, the status of the check, and what is said.
-const FAILING: [(&str, u8, &str); 2] = [
+static FAILING: [(&str, u8, &str); 2] = [
     (
         "lemma l: \"not ('a' = 'b')\" simplify by contradiction",
         0,

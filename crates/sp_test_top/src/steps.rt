@@ -10,7 +10,7 @@ lemma once: \"All x #i #j. A(x)@i & A(x)@j ==> #i = #j\"
 end";
 
 /// Lines behind the first theory, the status, and the answer.
-const BEHIND_FIRST: [(&str, u8, &str); 14] = [
+static BEHIND_FIRST: [(&str, u8, &str); 14] = [
     (
         "\npub 'a'\nin 'a'\n",
         0,

@@ -7,7 +7,7 @@ use std::alloc::Global;
 use std::test::Fail;
 
 /// What stands in a theory, and the report on it.
-const REPORTED: [(&str, &str); 22] = [
+static REPORTED: [(&str, &str); 22] = [
     (
         "builtins: diffie-hellman",
         "fatal: builtin left out: diffie-hellman\n",
@@ -124,7 +124,7 @@ end
 ";
 
 /// Lines behind it, the status, and the answer.
-const STEPS: [(&str, u8, &str); 12] = [
+static STEPS: [(&str, u8, &str); 12] = [
     (
         "fresh ~n1\nrule Key: k = sdec(senc(~n1, 'x'), 'x')\nrule Show: k = ~n1\nrule Take:\n",
         0,
@@ -175,7 +175,7 @@ fn steps_with_symbols_are_replayed(rt: HostRuntime) -> Result<(), Fail> {
 }
 
 /// Rules whose terms have symbols, lemmas, and the beginning of the line of each.
-const PROVED: [(&str, &str); 8] = [
+static PROVED: [(&str, &str); 8] = [
     // Fresh names of two steps differ, and so do their hashes.
     (
         "lemma once: \"All x #i #j. A(x, x)@i & A(x, x)@j ==> #i = #j\"",

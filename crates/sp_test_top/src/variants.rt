@@ -4,7 +4,7 @@ use crate::calls::assert_answer;
 use std::test::Fail;
 
 /// What stands in a theory, and what is written of it.
-const LISTED: [(&str, &str); 8] = [
+static LISTED: [(&str, &str); 8] = [
     ("", ""),
     (
         "builtins: signing rule Check: [ !Pk(p), M(m, s) ] --[ Eq(verify(s, m, p), true) ]-> [ ]",
@@ -13,7 +13,7 @@ const LISTED: [(&str, &str); 8] = [
   [ !Pk(pk(v0)), M(v1, sign(v1, v0)) ] --[ Eq(true, true) ]-> [ ]
 ",
     ),
-    // the ninth worked row's rules
+    // signing: a key, a signature by it, and its check, which has a form where it holds
     (
         "builtins: signing
 rule Key: [ Fr(~k) ] --> [ !Pk(pk(~k)), !Sk(~k) ]

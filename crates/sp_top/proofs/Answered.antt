@@ -10,7 +10,7 @@ use Rattle.sp_analysis.specs.Replies.{IsDone}
 use Rattle.sp_analysis.specs.declared.replies.Command as asked
 use Rattle.sp_analysis.specs.declared.replies.Command.TheVariants as proofs
 use Rattle.sp_replay.specs.Replay.{IsUnread, IsStopped, IsReplay}
-use Rattle.sp_variants.specs.Variants.{IsListed}
+use Rattle.sp_rule_forms.specs.Variants.{IsListed}
 use Rattle.sp_top.specs.declared.words.Command.{Command}
 use Rattle.sp_top.specs.declared.words.Command.TheVariants.{Replay, Variants}
 use Rattle.sp_top.specs.Command.{of_proofs, budget_in}

@@ -15,13 +15,14 @@ use Rattle.sp_check.specs.Skeleton as read
 use Rattle.sp_pose.specs.Problem.{Poses}
 use Rattle.sp_io.specs.Told.{extended}
 use Rattle.sp_spec_text.specs.Behind.{IsBehindEnd}
-use Rattle.sp_law_again.proofs.Behind.{behind_one}
-use Rattle.sp_law_block.specs.Block.{block_of}
-use Rattle.sp_law_block.proofs.NoFeeds.{line_cut, no_feed_in}
-use Rattle.sp_law_block.proofs.Sections.{IsNoVerdict, nothing_there, behind_word}
-use Rattle.sp_law_block.proofs.TextNames.{texts_have_names_lem}
+use Rattle.sp_law_reread.proofs.Behind.{behind_one}
+use Rattle.sp_law_printed_log.specs.Block.{block_of}
+use Rattle.sp_law_printed_log.proofs.NoFeeds.{line_cut, no_feed_in}
+use Rattle.sp_law_printed_log.proofs.Sections.{IsNoVerdict, nothing_there, behind_word}
+use Rattle.sp_law_printed_log.proofs.TextNames.{texts_have_names_lem}
 use Rattle.sp_analysis.specs.Sought.{Setting, setting_of}
-use Rattle.sp_analysis.specs.Analysis.{Outcome, counted, summary, AreOutcomes}
+use Rattle.sp_spec_text.specs.Numerals.{counted}
+use Rattle.sp_analysis.specs.Analysis.{Outcome, summary, AreOutcomes}
 use Rattle.sp_analysis.specs.Checking.{Judged, checked_text, AreJudged}
 use Rattle.sp_analysis.specs.Laws.{Means, AreReadBack, JudgedRightly}
 use Rattle.sp_pose.proofs.BasicTheories.{lemmas_unlearnt}

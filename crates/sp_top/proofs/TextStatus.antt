@@ -10,7 +10,7 @@ use Rattle.sp_analysis.proofs.Right.{verdicts_are_right_lem}
 use Rattle.sp_analysis.proofs.AnswersOne.{answers_are_one_lem}
 use Rattle.sp_analysis.proofs.Again.{written_is_checked_lem}
 use Rattle.sp_replay.proofs.One.{replies_are_one_lem}
-use Rattle.sp_variants.proofs.One.{lists_are_one_lem}
+use Rattle.sp_rule_forms.proofs.One.{lists_are_one_lem}
 use Rattle.sp_top.specs.Answer.{IsRefusal, IsReport, IsLineRefusal, IsDoneWith, IsRefusedWith, CommandAnswer, is_rejected, is_falsified, is_incomplete, status_of, verdicts_of, verdicts_on}
 use Rattle.sp_top.specs.Run.{HasVerdicts, DoneRightly}
 use Rattle.sp_top.specs.declared.Status.{Status}

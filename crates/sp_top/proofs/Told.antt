@@ -16,14 +16,14 @@ use Rattle.sp_spec_text.specs.Verdict.{Verdict, verified, falsified, summary_lin
 use Rattle.sp_spec_text.specs.Names.{IsWord}
 use Rattle.sp_spec_text.specs.Blanks.{lines}
 use Rattle.sp_spec_text.specs.StepLines.{HaveNames}
-use Rattle.sp_law_executed.specs.Executed.{executed_of}
-use Rattle.sp_law_shown.proofs.Learning.{out_of_reading}
-use Rattle.sp_law_block.specs.Block.{oldest_first, block_of}
-use Rattle.sp_law_block.proofs.NoFeeds.{action_no_feed}
-use Rattle.sp_law_block.proofs.ReadBack.{steps_are_read_back_lem}
-use Rattle.sp_law_block.proofs.Sections.{IsNoVerdict, pass, section_lines, Begins, begins, sections_text, IsCut, sections_cut}
-use Rattle.sp_law_block.proofs.BlockLines.{entry_line, block_lines, block_cut, block_no_verdict}
-use Rattle.sp_law_block.proofs.VerdictLines.{verdict_line, summary_cut, verdict_no_feed, tells_verified, tells_attack, tells_witness, tells_none}
+use Rattle.sp_law_log_execution.specs.Executed.{executed_of}
+use Rattle.sp_law_found_log.proofs.Learning.{out_of_reading}
+use Rattle.sp_law_printed_log.specs.Block.{oldest_first, block_of}
+use Rattle.sp_law_printed_log.proofs.NoFeeds.{action_no_feed}
+use Rattle.sp_law_printed_log.proofs.ReadBack.{steps_are_read_back_lem}
+use Rattle.sp_law_printed_log.proofs.Sections.{IsNoVerdict, pass, section_lines, Begins, begins, sections_text, IsCut, sections_cut}
+use Rattle.sp_law_printed_log.proofs.BlockLines.{entry_line, block_lines, block_cut, block_no_verdict}
+use Rattle.sp_law_printed_log.proofs.VerdictLines.{verdict_line, summary_cut, verdict_no_feed, tells_verified, tells_attack, tells_witness, tells_none}
 use Rattle.sp_analysis.specs.Laws.{Means, AreReadBack}
 use Rattle.sp_top.specs.Headline.{IsLineAbove, IsLemmaOf, IsExecutionBelow, LinesAreTrue}
 

@@ -16,7 +16,7 @@ use Rattle.sp_analysis.specs.Checking.{Judged, IsChecking}
 use Rattle.sp_spec.specs.Execution.{Cause}
 use Rattle.sp_exec.specs.Replay.{rank}
 use Rattle.sp_replay.specs.Replay.{IsUnread, IsStopped, IsReplay}
-use Rattle.sp_variants.specs.Variants.{IsListed}
+use Rattle.sp_rule_forms.specs.Variants.{IsListed}
 use Rattle.sp_top.specs.declared.words.Command.{Command}
 use Rattle.sp_top.specs.declared.words.Command.TheVariants.{Prove, Check, Replay, Variants}
 

@@ -1,6 +1,6 @@
 // The top call: from the words of a command to the text that is written and the status.
 // Below stand what tries the lemmas of a text or checks their proofs (sp_analysis), what replays the steps behind it (sp_replay), what lists its rules'
-// forms (sp_variants), and the library that texts come from and the sink that answers go to (sp_io). The program stands above and only makes the words, the library and the sink.
+// forms (sp_rule_forms), and the library that texts come from and the sink that answers go to (sp_io). The program stands above and only makes the words, the library and the sink.
 // It promises that what is written of each lemma is so, that each status comes by its cause alone, that what is written is the whole
 // answer or, after a fault of the sink, a prefix of that very answer, and that what is fetched is what the words ask for.
 #![tactic(auto)]
@@ -20,9 +20,10 @@ ghost use Rattle.sp_top.specs.declared.Status.TheVariants.{Fine, Falsified, Inco
 ghost use Rattle.sp_analysis.specs.View.{verdict_of};
 ghost use Rattle.sp_top.specs.declared.words.Command.TheVariants.{Replay, Variants};
 
-use sp_analysis::{Reply, Verdict};
+use sp_analysis::Verdict;
 use sp_io::{FetchFail, Library, Sink, write_whole};
-use sp_replay::Cause;
+use sp_pose::Reply;
+use sp_replay::{Attempt, Cause};
 use std::alloc::{AllocError, Global};
 
 mod words;
@@ -159,11 +160,11 @@ fn answer_steps(alloc: Global, bytes: &[u8]) -> Result<(Vec<u8>, Status), AllocE
     ensures { IfOk result (λ answer. CommandAnswer Replay 0 bytes.now answer.0.items answer.1) }
 {
     match sp_replay::replayed(alloc, bytes)? {
-        sp_replay::Reply::Refused(place) => refusal(alloc, place),
-        sp_replay::Reply::Reported(lines) => Ok((lines, Status::Refused)),
-        sp_replay::Reply::Unread(number) => line_refusal(alloc, number),
-        sp_replay::Reply::Stopped(number, cause) => step_refusal(alloc, number, cause),
-        sp_replay::Reply::Done(written) => Ok((written, Status::Fine)),
+        Reply::Refused(place) => refusal(alloc, place),
+        Reply::Reported(lines) => Ok((lines, Status::Refused)),
+        Reply::Done(Attempt::Unread(number)) => line_refusal(alloc, number),
+        Reply::Done(Attempt::Stopped(number, cause)) => step_refusal(alloc, number, cause),
+        Reply::Done(Attempt::Done(written)) => Ok((written, Status::Fine)),
     }
 }
 
@@ -172,10 +173,10 @@ fn answer_steps(alloc: Global, bytes: &[u8]) -> Result<(Vec<u8>, Status), AllocE
 fn answer_forms(alloc: Global, bytes: &[u8]) -> Result<(Vec<u8>, Status), AllocError>
     ensures { IfOk result (λ answer. CommandAnswer Variants 0 bytes.now answer.0.items answer.1) }
 {
-    match sp_variants::variants(alloc, bytes)? {
-        sp_variants::Reply::Refused(place) => refusal(alloc, place),
-        sp_variants::Reply::Reported(lines) => Ok((lines, Status::Refused)),
-        sp_variants::Reply::Done(written) => Ok((written, Status::Fine)),
+    match sp_rule_forms::variants(alloc, bytes)? {
+        Reply::Refused(place) => refusal(alloc, place),
+        Reply::Reported(lines) => Ok((lines, Status::Refused)),
+        Reply::Done(written) => Ok((written, Status::Fine)),
     }
 }
 
@@ -203,9 +204,9 @@ fn answer_proofs(
     match sp_analysis::answer(alloc, command, bytes)? {
         Reply::Refused(place) => refusal(alloc, place),
         Reply::Reported(lines) => Ok((lines, Status::Refused)),
-        Reply::Done(written, verdicts) => {
-            let status = status_of(&verdicts);
-            Ok((written, status))
+        Reply::Done(answer) => {
+            let status = status_of(&answer.verdicts);
+            Ok((answer.written, status))
         }
     }
 }

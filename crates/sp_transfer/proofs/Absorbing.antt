@@ -11,9 +11,9 @@ use Rattle.sp_term.specs.View.{name_of, Never}
 use Rattle.sp_term.specs.declared.term.Name.{Name}
 use Rattle.sp_term.specs.declared.term.Term.{Term}
 use Rattle.sp_term.specs.declared.term.Term.TheVariants.{App}
-use Rattle.sp_ground.specs.View.{ground_of, grounds_of}
+use Rattle.sp_fact.specs.GroundView.{ground_of, grounds_of}
 use Rattle.std.proofs.Math.Bool.{and-true, and-false}
-use Rattle.sp_ground.proofs.Applied.{ground_app}
+use Rattle.sp_fact.proofs.Applied.{ground_app}
 use Rattle.sp_norm.specs.Over.{any_public}
 use Rattle.sp_destruct.proofs.Ways.{public_same}
 use Rattle.sp_law_adversary.specs.Learning.{Chain, by, is_learnt, learnt_by, unless_learnt, way_at_end, absorbed}

@@ -4,7 +4,7 @@ use Rattle.std.specs.declared.rc.Rc.{Rc}
 use Rattle.std.specs.Prelude.{unwrap_or}
 use Rattle.std.specs.Option.{option_or}
 use Rattle.sp_spec.specs.Term.{Term, Variable, app, none, more, Terms, joined, Ground, Values, valued}
-use Rattle.sp_spec.specs.Same.{alike}
+use Rattle.sp_spec.specs.Same.{alike, is_part}
 use Rattle.sp_spec.specs.Destruction.{Fork, way_to, way_among}
 use Rattle.sp_spec.specs.Log.{Log}
 use Rattle.sp_term.specs.declared.term.Name.{Name}
@@ -14,7 +14,6 @@ use Rattle.sp_term.specs.declared.term.Term.TheVariants.{App, rolls-App}
 use Rattle.sp_term.specs.declared.term.Term.TheFolds.{fold-roll-Term}
 use Rattle.sp_term.specs.declared.term.Term.TheOpen.{Term-F}
 use Rattle.sp_term.specs.View.{name_of, variable_of, view, view_all, view_step}
-use Rattle.sp_conv.specs.Tests.{is_part}
 use Rattle.sp_law_adversary.specs.Learning.{Chain, chain_from, chain_down, way_learnt}
 use Rattle.sp_destruct.proofs.Ways.{way_found, goes_on}
 use Rattle.sp_transfer.specs.Down.{chain_among}

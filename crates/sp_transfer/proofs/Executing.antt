@@ -13,10 +13,10 @@ use Rattle.sp_spec.specs.Log.{Entry, step, send, learn, Log, IsLog, visible_trac
 use Rattle.sp_spec_forms.specs.Forms.{RuleForms, forms_of}
 use Rattle.sp_term.specs.View.{terms_of}
 use Rattle.sp_learn.specs.Learning.{learnt_by, learnt_in}
-use Rattle.sp_law_executed.specs.Executed.{Level, Linking, in_front, args_between, sides_below, raised, raising, if_there, messages_at, messages_learnt, takes_from, is_taken, link_steps, chain_steps, making, from_out, executed_entry, executed_by, linking_of}
-use Rattle.sp_law_executed.specs.Laws.{IsRunnable}
-use Rattle.sp_law_executed.proofs.Steps.{log_runs}
-use Rattle.sp_law_found.specs.Execution.{IsExecutionWith}
+use Rattle.sp_law_log_execution.specs.Executed.{Level, Linking, in_front, args_between, sides_below, raised, raising, if_there, messages_at, messages_learnt, takes_from, is_taken, link_steps, chain_steps, making, from_out, executed_entry, executed_by, linking_of}
+use Rattle.sp_law_log_execution.specs.Laws.{IsRunnable}
+use Rattle.sp_law_log_execution.proofs.Steps.{log_runs}
+use Rattle.sp_law_log_steps.specs.Execution.{IsExecutionWith}
 
 -- ---- arguments
 

@@ -6,7 +6,7 @@ use Rattle.std.specs.Option.{option_or}
 use Rattle.sp_spec.specs.Term.{Variable, Term, Terms, none, more, joined, count}
 use Rattle.sp_spec.specs.Signature.{Symbol}
 use Rattle.sp_spec.specs.Destruction.{Fork, way_to, way_among, is_public}
-use Rattle.sp_law_executed.specs.Executed.{Level, level_of, ways_along}
+use Rattle.sp_law_log_execution.specs.Executed.{Level, level_of, ways_along}
 
 abbrev pub levels : Option (List Fork) → Option (List Level)
 levels o = option_map (map level_of) o

@@ -3,7 +3,7 @@ use Rattle.std.specs.Prelude.{[], if◌then◌else◌, Option, None, unwrap_or}
 use Rattle.sp_spec.specs.Term.{Term, Variable, none, more, Terms, Ground, Values, valued}
 use Rattle.sp_spec.specs.Destruction.{way_to}
 use Rattle.sp_spec.specs.Log.{Log}
-use Rattle.sp_conv.specs.Tests.{is_part}
+use Rattle.sp_spec.specs.Same.{is_part}
 use Rattle.sp_law_adversary.specs.Learning.{Chain, chain_from, chain_down, way_learnt}
 
 -- into the first of these in which the term stands

@@ -3,7 +3,7 @@ use Rattle.std.specs.Prelude.{Vec, List, map}
 use Rattle.std.specs.Global.{Global}
 use Rattle.sp_term.specs.View.{name_of}
 use Rattle.sp_destruct.specs.View.{destruction_of}
-use Rattle.sp_law_executed.specs.Executed as spec
+use Rattle.sp_law_log_execution.specs.Executed as spec
 use Rattle.sp_transfer.specs.declared.level.Level.{Level}
 use Rattle.sp_transfer.specs.declared.way.Linking.{Linking}
 

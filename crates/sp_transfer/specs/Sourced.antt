@@ -3,7 +3,7 @@ use Rattle.std.specs.Prelude.{Vec, List, [], ◌∷◌, if◌then◌else◌, map
 use Rattle.std.specs.Global.{Global}
 use Rattle.sp_spec.specs.Rule.{Fact}
 use Rattle.sp_law_run.specs.Taken.{same_fact}
-use Rattle.sp_ground.specs.View.{ground_fact}
+use Rattle.sp_fact.specs.GroundView.{ground_fact}
 use Rattle.sp_log.specs.View.{source_of}
 use Rattle.sp_log.specs.declared.log.Source.{Source}
 use Rattle.sp_transfer.specs.Construction as spec

@@ -2,7 +2,7 @@
 use Rattle.std.specs.Prelude.{List, map}
 use Rattle.sp_spec.specs.Lists.{newest_first}
 use Rattle.sp_spec.specs.Log as log
-use Rattle.sp_ground.specs.View.{ground_of}
+use Rattle.sp_fact.specs.GroundView.{ground_of}
 use Rattle.sp_learn.specs.View.{entry_of}
 use Rattle.sp_learn.specs.declared.log.Entry.{Entry}
 use Rattle.sp_law_adversary.specs.Learning as learning

@@ -2,16 +2,15 @@
 
 ghost use Rattle.std.specs.Prelude.{◌≡◌, ◌++◌, [], IfOk, OnOk, map, slice_get, unwrap_or};
 ghost use Rattle.sp_spec.specs.Lists.{newest_first};
-ghost use Rattle.sp_law_executed.specs.Executed as spec;
-ghost use Rattle.sp_ground.specs.View.{ground_of, step_of};
+ghost use Rattle.sp_law_log_execution.specs.Executed as spec;
+ghost use Rattle.sp_fact.specs.GroundView.{ground_of, step_of};
 ghost use Rattle.sp_transfer.specs.Executing.{linking_in};
 
 use crate::raising::raise;
 use crate::way::Linking;
-use sp_ground::step::Step;
-use sp_ground::term::GroundTerm;
-use sp_link::search::link;
-use sp_term::term::copy;
+use sp_destruct::search::link;
+use sp_fact::ground_term::GroundTerm;
+use sp_fact::step::Step;
 use std::alloc::{AllocError, Global};
 
 // The messages at these places.
@@ -25,7 +24,7 @@ fn messages_at(
     let mut found = Vec::with_capacity(alloc, places.len())?;
     for place in places {
         if let Some(message) = learnt.get(*place) {
-            found.push(copy(message)?)?;
+            found.push(message.clone()?)?;
         }
     }
     Ok(found)

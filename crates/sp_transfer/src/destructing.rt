@@ -6,7 +6,7 @@ ghost use Rattle.sp_spec.specs.Destruction.{way_to};
 ghost use Rattle.sp_law_equal.specs.Matching.{value_in};
 ghost use Rattle.sp_law_adversary.specs.Learning as spec;
 ghost use Rattle.sp_term.specs.View.{name_of, view, view_all};
-ghost use Rattle.sp_ground.specs.View.{equation_of, ground_of, grounds_of, signature_of, symbol_of};
+ghost use Rattle.sp_fact.specs.GroundView.{equation_of, ground_of, grounds_of, signature_of, symbol_of};
 ghost use Rattle.sp_norm.specs.Bounds.{bounds};
 ghost use Rattle.sp_learn.specs.View.{how_of};
 ghost use Rattle.sp_transfer.specs.Down.{chain_among};
@@ -14,18 +14,18 @@ ghost use Rattle.sp_transfer.specs.View.{chain_of, log_in};
 
 use crate::learning::{Chain, absorb, is_learnt, learn, way_learnt};
 use sp_conv::form::has_part;
-use sp_ground::signature::{Equation, Signature, Symbol};
-use sp_ground::term::GroundTerm;
-use sp_learn::log::{Entry, How, copy_messages};
+use sp_fact::ground_term::GroundTerm;
+use sp_fact::signature::{Equation, Signature, Symbol};
+use sp_learn::log::{Entry, How};
 use sp_norm::instance::value;
 use sp_term::found::matches;
 use sp_term::subst::Values;
-use sp_term::term::{Name, Term, copy, nesting_over, same};
+use sp_term::term::{Name, Term, copied, nesting_over, same};
 use std::alloc::{AllocError, Global};
 use std::rc::Rc;
 
 // The chain by which a message was learnt, taken further to this end.
-fn chain_by(alloc: Global, how: Option<&How>, end: &GroundTerm) -> Result<Option<Chain>, AllocError>
+fn chain_by(how: Option<&How>, end: &GroundTerm) -> Result<Option<Chain>, AllocError>
     ensures { IfOk result (λ o. option_map chain_of o ≡ spec.chain_from (option_map (λ h. how_of h.now) how.entry) (ground_of end.now) None) }
 {
     match how {
@@ -36,8 +36,8 @@ fn chain_by(alloc: Global, how: Option<&How>, end: &GroundTerm) -> Result<Option
                 messages,
             },
         ) => {
-            let mut longer = copy_messages(alloc, messages)?;
-            longer.push(copy(end)?)?;
+            let mut longer = copied(messages)?;
+            longer.push(end.clone()?)?;
             Ok(Some(Chain {
                 position: *step,
                 place: *conclusion,
@@ -105,7 +105,7 @@ fn down_among(
             if let Some(How::Constructed) = how {
                 return chain_down(alloc, term, wanted, entries, values, end);
             }
-            return chain_by(alloc, how, end);
+            return chain_by(how, end);
         }
     }
     Ok(None)
@@ -184,7 +184,7 @@ pub fn apply_symbol(
     ensures { OnOk result (log_in entries.new.items
         ≡ spec.applied (signature_of signature.now) (name_of symbol.now) (grounds_of terms.items) (log_in entries.old.items)) }
 {
-    let name = symbol.copy()?;
+    let name = symbol.clone()?;
     let nesting = nesting_over(&terms)?;
     let shared = Rc::new(alloc, terms)?;
     let message = Term::App(name, shared, nesting);

@@ -6,10 +6,10 @@ ghost use Rattle.sp_spec.specs.Lists.{newest_first};
 ghost use Rattle.sp_spec.specs.Log as learning;
 ghost use Rattle.sp_spec.specs.Theory as theory;
 ghost use Rattle.sp_spec_forms.specs.Forms.{forms_of};
-ghost use Rattle.sp_law_found.specs.Execution.{IsExecutionWith};
-ghost use Rattle.sp_law_executed.specs.Executed as spec;
-ghost use Rattle.sp_law_executed.specs.Laws.{IsRunnable};
-ghost use Rattle.sp_ground.specs.View.{equation_of, ground_of, signature_of, step_of};
+ghost use Rattle.sp_law_log_steps.specs.Execution.{IsExecutionWith};
+ghost use Rattle.sp_law_log_execution.specs.Executed as spec;
+ghost use Rattle.sp_law_log_execution.specs.Laws.{IsRunnable};
+ghost use Rattle.sp_fact.specs.GroundView.{equation_of, ground_of, signature_of, step_of};
 ghost use Rattle.sp_book.specs.View.{rule_forms_of};
 ghost use Rattle.sp_learn.specs.View as view;
 ghost use Rattle.sp_learn.specs.View.{entry_of, how_of};
@@ -20,12 +20,12 @@ use crate::chain::add_chain;
 use crate::way::{Linking, linking_of};
 use sp_book::book::RuleBook;
 use sp_book::form::RuleForms;
-use sp_ground::signature::{Equation, Signature};
-use sp_ground::step::Step;
-use sp_ground::term::GroundTerm;
+use sp_fact::ground_term::GroundTerm;
+use sp_fact::signature::{Equation, Signature};
+use sp_fact::step::Step;
 use sp_learn::log::{Entry, How, Log, learnt_in};
 use sp_log::execution::add_steps;
-use sp_term::term::{Term, copy, copy_all};
+use sp_term::term::{Term, copied};
 use std::alloc::{AllocError, Global};
 
 // Whether the entry learns by a chain from that conclusion of the step at the position.
@@ -68,7 +68,7 @@ fn add_taking(
         ++ (if spec.is_taken (log_in earlier.now) conclusion.0 conclusion.1 then [] else execution.take_out (ground_of message.now) ∷ [])) }
 {
     if !is_taken(earlier, conclusion.0, conclusion.1) {
-        steps.push(Step::TakeOut(copy(message)?))?;
+        steps.push(Step::TakeOut(message.clone()?))?;
     }
     Ok(())
 }
@@ -94,12 +94,12 @@ fn add_from_out(
 }
 
 // Adds the step that makes the message, if it is an application.
-fn add_making(alloc: Global, message: &GroundTerm, steps: &mut Vec<Step>) -> Result<(), AllocError>
+fn add_making(message: &GroundTerm, steps: &mut Vec<Step>) -> Result<(), AllocError>
     ensures { OnOk result (map step_of steps.new.items ≡ map step_of steps.old.items ++ spec.making (ground_of message.now)) }
 {
     if let Term::App(symbol, terms, _) = message {
-        let name = symbol.copy()?;
-        let applied = copy_all(alloc, terms)?;
+        let name = symbol.clone()?;
+        let applied = copied(terms)?;
         steps.push(Step::ApplySymbol(name, applied))?;
     }
     Ok(())
@@ -110,8 +110,8 @@ fn add_own(message: &GroundTerm, steps: &mut Vec<Step>) -> Result<(), AllocError
     ensures { OnOk result (map step_of steps.new.items
         ≡ map step_of steps.old.items ++ execution.make_fresh (ground_of message.now) ∷ execution.make_own (ground_of message.now) ∷ []) }
 {
-    steps.push(Step::MakeFresh(copy(message)?))?;
-    steps.push(Step::MakeOwn(copy(message)?))?;
+    steps.push(Step::MakeFresh(message.clone()?))?;
+    steps.push(Step::MakeOwn(message.clone()?))?;
     Ok(())
 }
 
@@ -129,11 +129,11 @@ fn add_learning(
 {
     match how {
         How::PublicName => {
-            steps.push(Step::KnowPublic(copy(message)?))?;
+            steps.push(Step::KnowPublic(message.clone()?))?;
             Ok(())
         }
         How::OwnName => add_own(message, steps),
-        How::Constructed => add_making(alloc, message, steps),
+        How::Constructed => add_making(message, steps),
         How::Chain {
             step,
             conclusion,
@@ -166,7 +166,7 @@ fn add_entry_steps(
     match entry {
         Entry::Step(step) => add_steps(alloc, equations, rules, step, steps),
         Entry::Send(message) => {
-            steps.push(Step::PutIn(copy(message)?))?;
+            steps.push(Step::PutIn(message.clone()?))?;
             Ok(())
         }
         Entry::Learn(message, how) => add_learning(alloc, linking, earlier, message, how, steps),

@@ -4,21 +4,21 @@ ghost use Rattle.std.specs.Prelude.{◌≡◌, ◌∷◌, ◌&&◌, ◌==◌, If
 ghost use Rattle.std.specs.Str.{bytes_eq};
 ghost use Rattle.sp_law_adversary.specs.Learning as spec;
 ghost use Rattle.sp_term.specs.View.{name_of};
-ghost use Rattle.sp_ground.specs.View.{ground_of, grounds_of, symbol_of};
+ghost use Rattle.sp_fact.specs.GroundView.{ground_of, grounds_of, symbol_of};
 ghost use Rattle.sp_norm.specs.Over.{any_public};
 ghost use Rattle.sp_learn.specs.View.{entry_of, how_of};
 ghost use Rattle.sp_transfer.specs.Absorbing.{absorbed_parts};
 ghost use Rattle.sp_transfer.specs.View.{chain_of, log_in};
 
-use sp_ground::signature::Symbol;
-use sp_ground::term::GroundTerm;
-use sp_learn::log::{Entry, How, copy_messages};
+use sp_fact::ground_term::GroundTerm;
+use sp_fact::signature::Symbol;
+use sp_learn::log::{Entry, How};
 use sp_norm::over::has_public;
-use sp_term::term::{Name, Term, copy, same};
+use sp_term::term::{Name, Term, copied, same};
 use std::alloc::{AllocError, Global};
 
 /// A chain so far, from what a step puts out.
-#[derive(Debug, Drop)]
+#[derive(Drop)]
 pub struct Chain {
     /// the step's position, counted from 0, the oldest first
     pub position: usize,
@@ -30,11 +30,11 @@ pub struct Chain {
 
 impl Chain {
     /// The chain with one more message.
-    pub fn with_message(&self, alloc: Global, message: &GroundTerm) -> Result<Chain, AllocError>
+    pub fn with_message(&self, message: &GroundTerm) -> Result<Chain, AllocError>
         ensures { IfOk result (λ c. chain_of c ≡ spec.with_message (chain_of self.now) (ground_of message.now)) }
     {
-        let mut messages = copy_messages(alloc, &self.messages)?;
-        messages.push(copy(message)?)?;
+        let mut messages = copied(&self.messages)?;
+        messages.push(message.clone()?)?;
         Ok(Chain {
             position: self.position,
             place: self.place,
@@ -43,10 +43,10 @@ impl Chain {
     }
 
     /// How its last message is learnt by it.
-    pub fn way(&self, alloc: Global) -> Result<How, AllocError>
+    pub fn way(&self) -> Result<How, AllocError>
         ensures { IfOk result (λ h. how_of h ≡ spec.by (chain_of self.now)) }
     {
-        let messages = copy_messages(alloc, &self.messages)?;
+        let messages = copied(&self.messages)?;
         Ok(How::Chain {
             step: self.position,
             conclusion: self.place,
@@ -91,7 +91,7 @@ pub fn learn(entries: &mut Vec<Entry>, message: &GroundTerm, how: How) -> Result
     if is_learnt(entries, message) {
         return Ok(());
     }
-    add_entry(entries, Entry::Learn(copy(message)?, how))
+    add_entry(entries, Entry::Learn(message.clone()?, how))
 }
 
 // Whether the symbol over so many arguments is a pair.
@@ -123,9 +123,9 @@ fn way_at_end(
             if stands_alone(symbols, symbol, terms.len()) {
                 return Ok(How::Constructed);
             }
-            chain.way(alloc)
+            chain.way()
         }
-        _ => chain.way(alloc),
+        _ => chain.way(),
     }
 }
 
@@ -182,7 +182,7 @@ fn absorb_parts(
     ensures { OnOk result (log_in entries.new.items ≡ absorbed_parts (map symbol_of symbols.now.items) (chain_of chain.now) (grounds_of parts.now.items) (log_in entries.old.items)) }
 {
     for part in parts {
-        let longer = chain.with_message(alloc, part)?;
+        let longer = chain.with_message(part)?;
         absorb(alloc, symbols, &longer, part, entries)?;
     }
     Ok(())

@@ -5,7 +5,7 @@ ghost use Rattle.std.specs.Prelude.{◌+◌, ◌<◌, ◌^◌};
 use sp_term::term::Name;
 
 /// One step down in a term: the symbol, and how many of its arguments stand before the one that is entered, and behind it.
-#[derive(Debug, Drop)]
+#[derive(Drop)]
 pub struct Level {
     /// the symbol
     pub symbol: Name,

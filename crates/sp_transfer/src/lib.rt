@@ -1,7 +1,7 @@
 // From executions to learning logs, and back: what the adversary gets in an execution it learns, each message once and in normal form; and what it learns
 // in a log it gets by steps of its own.
-// Below stand sp_exec (instances of steps), sp_learn (learning logs), sp_link (links of chains), sp_norm (normal forms), the theorem on the adversary
-// (sp_law_adversary), and the law that a log stands for an execution (sp_law_executed).
+// Below stand sp_exec (instances of steps), sp_learn (learning logs), sp_destruct (links of chains), sp_norm (normal forms), the theorem on the adversary
+// (sp_law_adversary), and the law that a log stands for an execution (sp_law_log_execution).
 // Above stands what prints the executions of logs that are found; what reads logs off executions will.
 // Carried here: the log of an execution of a right theory is a learning log, passes the test of logs, and shows the execution's trace in normal form;
 // and the steps of a learning log are an execution with the log's visible trace.

@@ -4,15 +4,15 @@ ghost use Rattle.std.specs.Prelude.{◌≡◌, ◌++◌, ◌∷◌, [], IfOk, dr
 ghost use Rattle.sp_spec.specs.Lists.{newest_first};
 ghost use Rattle.sp_spec.specs.Execution as execution;
 ghost use Rattle.sp_spec.specs.Term.{app};
-ghost use Rattle.sp_law_executed.specs.Executed as spec;
+ghost use Rattle.sp_law_log_execution.specs.Executed as spec;
 ghost use Rattle.sp_term.specs.View.{name_of};
-ghost use Rattle.sp_ground.specs.View.{ground_of, grounds_of, step_of};
+ghost use Rattle.sp_fact.specs.GroundView.{ground_of, grounds_of, step_of};
 ghost use Rattle.sp_transfer.specs.Executing.{level_of};
 
 use crate::level::Level;
-use sp_ground::step::Step;
-use sp_ground::term::GroundTerm;
-use sp_term::term::{Name, Term, copy, copy_all, nesting_over};
+use sp_fact::ground_term::GroundTerm;
+use sp_fact::step::Step;
+use sp_term::term::{Name, Term, copied, nesting_over};
 use std::alloc::{AllocError, Global};
 use std::rc::Rc;
 
@@ -24,7 +24,7 @@ fn with_copies(
     ensures { IfOk result (λ ms. map ground_of ms.items ≡ map ground_of made.items ++ map ground_of messages.now) }
 {
     for message in messages {
-        made.push(copy(message)?)?;
+        made.push(message.clone()?)?;
     }
     Ok(made)
 }
@@ -59,7 +59,7 @@ fn arguments(
     ensures { IfOk result (λ ts. grounds_of ts.items ≡ spec.args_between (level_of level.now) (map ground_of messages.now) (ground_of entered.now)) }
 {
     let mut made = with_first(Vec::new(alloc), messages, level.front)?;
-    made.push(copy(entered)?)?;
+    made.push(entered.clone()?)?;
     with_first(made, behind(messages, level.front), level.back)
 }
 
@@ -74,10 +74,10 @@ fn apply(
     ensures adds { IfOk result (λ t. map step_of steps.new.items
         ≡ map step_of steps.old.items ++ execution.apply_symbol (name_of symbol.now) (grounds_of messages.items) ∷ []) }
 {
-    let applied = copy_all(alloc, &messages)?;
-    steps.push(Step::ApplySymbol(symbol.copy()?, applied))?;
+    let applied = copied(&messages)?;
+    steps.push(Step::ApplySymbol(symbol.clone()?, applied))?;
     let nesting = nesting_over(&messages)?;
-    let name = symbol.copy()?;
+    let name = symbol.clone()?;
     let shared = Rc::new(alloc, messages)?;
     Ok(Term::App(name, shared, nesting))
 }
@@ -95,7 +95,7 @@ pub fn raise(
         ++ newest_first (spec.raising (map level_of levels.now) (map ground_of messages.now) (ground_of end.now))) }
 {
     let Some((level, below)) = levels.split_first() else {
-        return copy(end);
+        return end.clone();
     };
     let sides = behind(messages, level.front + level.back);
     let entered = raise(alloc, below, sides, end, steps)?;

@@ -1,19 +1,19 @@
 // The facts of a state, each with the source that the log has for it.
 
 ghost use Rattle.std.specs.Prelude.{◌≡◌, ◌<◌, ◌++◌, ◌∷◌, [], IfOk, IfSome, OnOk, map, option_map, remove, vec_len};
-ghost use Rattle.sp_ground.specs.View.{ground_fact, step_of};
+ghost use Rattle.sp_fact.specs.GroundView.{ground_fact, step_of};
 ghost use Rattle.sp_log.specs.View.{source_of};
 ghost use Rattle.sp_transfer.specs.Construction as spec;
 ghost use Rattle.sp_transfer.specs.Sourced.{all_taken, found, given_of, one_taken};
 
 use sp_exec::taking::is_same;
-use sp_ground::fact::GroundFact;
-use sp_ground::step::Step;
+use sp_fact::ground_fact::GroundFact;
+use sp_fact::step::Step;
 use sp_log::log::Source;
 use std::alloc::{AllocError, Global};
 
 /// A fact in normal form, with its source; what is made or known has none in the log.
-#[derive(Debug, Drop)]
+#[derive(Drop)]
 pub struct Given {
     /// the fact
     pub fact: GroundFact,
@@ -70,7 +70,6 @@ pub fn take_all(
 
 // Adds the conclusions of the entry at the position.
 fn add_concluded(
-    alloc: Global,
     facts: &mut Vec<Given>,
     position: usize,
     conclusions: &Vec<GroundFact>,
@@ -78,7 +77,7 @@ fn add_concluded(
     ensures { OnOk result (map given_of facts.new.items ≡ map given_of facts.old.items ++ spec.concluded position 0 (map ground_fact conclusions.now.items)) }
 {
     for (place, conclusion) in conclusions.iter().enumerate() {
-        let fact = conclusion.copy(alloc)?;
+        let fact = conclusion.clone()?;
         let source = Source::Conclusion(position, place);
         facts.push(Given { fact, source })?;
     }
@@ -87,14 +86,13 @@ fn add_concluded(
 
 // Adds what has no entry.
 fn add_without_source(
-    alloc: Global,
     facts: &mut Vec<Given>,
     conclusions: &Vec<GroundFact>,
 ) -> Result<(), AllocError>
     ensures { OnOk result (map given_of facts.new.items ≡ map given_of facts.old.items ++ spec.without_source (map ground_fact conclusions.now.items)) }
 {
     for conclusion in conclusions {
-        let fact = conclusion.copy(alloc)?;
+        let fact = conclusion.clone()?;
         let source = Source::FreshRule;
         facts.push(Given { fact, source })?;
     }
@@ -113,7 +111,7 @@ pub fn add(
         ≡ map given_of facts.old.items ++ spec.added (step_of step.now) position (map ground_fact conclusions.now.items)) }
 {
     match step {
-        Step::UseRule(_, _) | Step::PutIn(_) => add_concluded(alloc, facts, position, conclusions),
-        _ => add_without_source(alloc, facts, conclusions),
+        Step::UseRule(_, _) | Step::PutIn(_) => add_concluded(facts, position, conclusions),
+        _ => add_without_source(facts, conclusions),
     }
 }

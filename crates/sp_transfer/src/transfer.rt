@@ -5,7 +5,7 @@ ghost use Rattle.sp_spec.specs.Lists.{newest_first};
 ghost use Rattle.sp_spec.specs.Execution.{IsExecution, Trace};
 ghost use Rattle.sp_spec.specs.Theory as theory;
 ghost use Rattle.sp_law_equal.specs.RightTheory.{IsRightTheory};
-ghost use Rattle.sp_ground.specs.View.{ground_facts, ground_of, signature_of, step_of, symbol_of};
+ghost use Rattle.sp_fact.specs.GroundView.{ground_facts, ground_of, signature_of, step_of, symbol_of};
 ghost use Rattle.sp_fact.specs.View.{rule_of};
 ghost use Rattle.sp_log.specs.View.{source_of};
 ghost use Rattle.sp_learn.specs.View as view;
@@ -19,19 +19,18 @@ use crate::destructing::apply_symbol;
 use crate::learning::{Chain, absorb, add_entry, learn};
 use crate::state::{Given, add, take_all};
 use sp_exec::instance::instance_of;
+use sp_fact::ground_fact::GroundFacts;
+use sp_fact::ground_term::GroundTerm;
 use sp_fact::rule::Rule;
-use sp_ground::fact::GroundFacts;
-use sp_ground::signature::{Signature, Symbol};
-use sp_ground::step::Step;
-use sp_ground::term::GroundTerm;
+use sp_fact::signature::{Signature, Symbol};
+use sp_fact::step::Step;
 use sp_learn::log::{Entry, How, Log};
 use sp_log::log::{Entry as StepEntry, Source};
 use sp_norm::normal::{normal, normal_all, normal_facts};
-use sp_term::term::copy;
 use std::alloc::{AllocError, Global};
 
 /// What the steps so far lead to.
-#[derive(Debug, Drop)]
+#[derive(Drop)]
 pub struct Followed {
     /// the facts of the state
     pub facts: Vec<Given>,
@@ -53,7 +52,7 @@ fn take_from(
     match sources.first() {
         Some(Source::Conclusion(position, place)) => {
             let mut messages = Vec::with_capacity(alloc, 1)?;
-            messages.push(copy(message)?)?;
+            messages.push(message.clone()?)?;
             let chain = Chain {
                 position: *position,
                 place: *place,
@@ -80,7 +79,7 @@ fn log_step(
     match step {
         Step::MakeFresh(_) => Ok(()),
         Step::UseRule(name, _) => {
-            let rule = name.copy()?;
+            let rule = name.clone()?;
             let entry = StepEntry {
                 rule,
                 facts,

@@ -3,19 +3,19 @@
 ghost use Rattle.std.specs.Prelude.{◌≡◌, ◌++◌, ◌+◌, ◌<◌, suc, [], IfOk, length, map, option_map};
 ghost use Rattle.sp_spec.specs.Destruction as destruction;
 ghost use Rattle.sp_spec.specs.Term.{none};
-ghost use Rattle.sp_law_executed.specs.Executed as spec;
+ghost use Rattle.sp_law_log_execution.specs.Executed as spec;
 ghost use Rattle.sp_term.specs.View.{name_of, view, view_all};
-ghost use Rattle.sp_ground.specs.View.{signature_of, symbol_of};
+ghost use Rattle.sp_fact.specs.GroundView.{signature_of, symbol_of};
 ghost use Rattle.sp_transfer.specs.Executing.{level_of, levels_of, linking_in};
 
 use crate::level::Level;
 use sp_destruct::destruction::{Destruction, chains_of, may_apply};
-use sp_ground::signature::{Signature, Symbol};
+use sp_fact::signature::{Signature, Symbol};
 use sp_term::term::{Name, Term, same};
 use std::alloc::{AllocError, Global};
 
 /// What links go by.
-#[derive(Debug, Drop)]
+#[derive(Drop)]
 pub struct Linking {
     /// the destructions
     pub destructions: Vec<Destruction>,
@@ -29,7 +29,7 @@ fn level(symbol: &Name, place: usize, count: usize) -> Result<Level, AllocError>
     ensures named { IfOk result (λ l. name_of l.symbol ≡ name_of symbol.now) }
     ensures counted { IfOk result (λ l. (l.front ≡ place) × (l.front + suc l.back ≡ count)) }
 {
-    let symbol = symbol.copy()?;
+    let symbol = symbol.clone()?;
     Ok(Level {
         symbol,
         front: place,
@@ -78,7 +78,7 @@ fn copy_levels(alloc: Global, levels: &[Level]) -> Result<Vec<Level>, AllocError
     let mut made = Vec::with_capacity(alloc, levels.len())?;
     for level in levels {
         made.push(Level {
-            symbol: level.symbol.copy()?,
+            symbol: level.symbol.clone()?,
             front: level.front,
             back: level.back,
         })?;

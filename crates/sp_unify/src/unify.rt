@@ -13,7 +13,7 @@ ghost use Rattle.sp_unify.specs.View.{found_of, pair_view, step_of};
 
 use sp_term::leaves::{Tests, some_leaf};
 use sp_term::subst::{Subst, apply};
-use sp_term::term::{Sort, Term, Variable, copy};
+use sp_term::term::{Sort, Term, Variable};
 use std::alloc::{AllocError, Global};
 
 // The first difference of two terms.
@@ -83,7 +83,7 @@ fn next_step(alloc: Global, subst: &Subst, pairs: &[(Term, Term)]) -> Result<Ste
         match difference_of(&left, &right) {
             Found::Same => {}
             Found::Clash => return Ok(Step::Fails),
-            Found::Bind(variable, term) => return Ok(Step::Binds(variable, copy(term)?)),
+            Found::Bind(variable, term) => return Ok(Step::Binds(variable, term.clone()?)),
         }
     }
     Ok(Step::Done)

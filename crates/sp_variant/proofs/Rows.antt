@@ -76,15 +76,6 @@ one_row {A = A} kind_of no_rows rows w s e is row chosen =
 
 -- ---- terms as rows
 
-pub listed : (ts us : List (Term Variable)) → terms_of ts ≡ terms_of us → ts ≡ us
-listed [] [] e = refl
-listed [] (u ∷ us) e = absurd cc
-listed (t ∷ ts) [] e = absurd cc
-listed (t ∷ ts) (u ∷ us) e =
-    let first : t ≡ u = cc in
-    let rest : terms_of ts ≡ terms_of us = cc in
-    ap₂ (λ x xs. x ∷ xs) first (listed ts us rest)
-
 -- terms that are narrowed one after the other are made as rows
 abbrev pub as_terms : List (Term Variable) × Chosen → Terms Variable × Chosen
 as_terms r = (terms_of r.0, r.1)

@@ -17,7 +17,7 @@ of_actions : (as' : List (Action Variable)) → flat_map (λ a. in_terms a.args)
 of_actions [] = refl
 of_actions (a ∷ as') = ap (λ xs. in_terms a.args ++ xs) (of_actions as')
 
-abbrev added : List Variable → List Variable → List Variable
+abbrev pub added : List Variable → List Variable → List Variable
 added = added_after same_variable
 
 -- those of premises, actions, conclusions and terms, added one after the other

@@ -59,7 +59,7 @@ impl HasArguments for Fact {
     }
 
     fn over(&self, arguments: Vec<Term>) -> Result<Fact, AllocError> {
-        let symbol = self.symbol.copy()?;
+        let symbol = self.symbol.clone()?;
         Ok(Fact {
             symbol,
             persistent: self.persistent,
@@ -68,7 +68,7 @@ impl HasArguments for Fact {
     }
 
     fn duplicate(&self, alloc: Global) -> Result<Fact, AllocError> {
-        self.copy(alloc)
+        self.clone()
     }
 
     fn is_alike(&self, other: &Fact) -> bool {
@@ -94,7 +94,7 @@ impl HasArguments for Action {
     }
 
     fn over(&self, arguments: Vec<Term>) -> Result<Action, AllocError> {
-        let symbol = self.symbol.copy()?;
+        let symbol = self.symbol.clone()?;
         Ok(Action {
             symbol,
             args: arguments,
@@ -102,7 +102,7 @@ impl HasArguments for Action {
     }
 
     fn duplicate(&self, alloc: Global) -> Result<Action, AllocError> {
-        self.copy(alloc)
+        self.clone()
     }
 
     fn is_alike(&self, other: &Action) -> bool {

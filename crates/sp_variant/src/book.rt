@@ -2,7 +2,7 @@
 
 ghost use Rattle.std.specs.Prelude.{◌≡◌, IfOk, map};
 ghost use Rattle.sp_fact.specs.View.{declared_of, rule_of};
-ghost use Rattle.sp_ground.specs.View.{equation_of};
+ghost use Rattle.sp_fact.specs.GroundView.{equation_of};
 ghost use Rattle.sp_spec_forms.specs.Forms.{forms_of};
 ghost use Rattle.sp_book.specs.View.{rule_forms_of};
 ghost use Rattle.sp_book.specs.BookView.{book_of};
@@ -11,7 +11,7 @@ use crate::forms::forms;
 use sp_book::book::RuleBook;
 use sp_book::form::RuleForms;
 use sp_fact::rule::{Declared, Rule};
-use sp_ground::signature::Equation;
+use sp_fact::signature::Equation;
 use std::alloc::{AllocError, Global};
 
 // Equal ones.
@@ -20,7 +20,7 @@ fn copies(alloc: Global, variables: &Vec<Declared>) -> Result<Vec<Declared>, All
 {
     let mut made = Vec::with_capacity(alloc, variables.len())?;
     for variable in variables {
-        let name = variable.name.copy()?;
+        let name = variable.name.clone()?;
         made.push(Declared {
             name,
             sort: variable.sort,
@@ -41,7 +41,7 @@ pub fn rule_forms(
 ) -> Result<RuleForms, AllocError>
     ensures { IfOk result (λ r. rule_forms_of r ≡ forms_of (map equation_of equations.now.items) (rule_of rule.now)) }
 {
-    let name = rule.name.copy()?;
+    let name = rule.name.clone()?;
     let variables = copies(alloc, &rule.variables)?;
     let forms = forms(alloc, equations, rule)?;
     Ok(RuleForms {

@@ -2,7 +2,7 @@
 
 ghost use Rattle.std.specs.Prelude.{◌≡◌, ◌++◌, IfOk, OnOk, map};
 ghost use Rattle.sp_fact.specs.View.{action_of, fact_of, facts_of};
-ghost use Rattle.sp_ground.specs.View.{equation_of};
+ghost use Rattle.sp_fact.specs.GroundView.{equation_of};
 ghost use Rattle.sp_spec_forms.specs.Narrowing as spec;
 ghost use Rattle.sp_variant.specs.View.{chosen_of, list_by, way_by};
 ghost use Rattle.sp_variant.specs.Rows.{longer, narrow_arguments, with_actions, with_conclusions, with_one_more};
@@ -10,7 +10,7 @@ ghost use Rattle.sp_variant.specs.Rows.{longer, narrow_arguments, with_actions, 
 use crate::arguments::HasArguments;
 use crate::narrowing::{Chosen, Way, empty, narrow_all};
 use sp_fact::fact::{Action, Fact, Facts};
-use sp_ground::signature::Equation;
+use sp_fact::signature::Equation;
 use std::alloc::{AllocError, Global};
 
 /// Equal ones.

@@ -3,7 +3,7 @@
 ghost use Rattle.std.specs.Prelude.{◌≡◌, ◌++◌, IfOk, OnOk, map};
 ghost use Rattle.std.specs.List.{filter};
 ghost use Rattle.sp_fact.specs.View.{declared_of, facts_of, rule_of};
-ghost use Rattle.sp_ground.specs.View.{equation_of};
+ghost use Rattle.sp_fact.specs.GroundView.{equation_of};
 ghost use Rattle.sp_unify.specs.View.{pair_view};
 ghost use Rattle.sp_spec.specs.Unifier.{mgu};
 ghost use Rattle.sp_spec_forms.specs.Numbering.{without_repeats};
@@ -21,7 +21,7 @@ use sp_book::reducible::irreducible_facts;
 use sp_conv::above_all;
 use sp_fact::fact::Facts;
 use sp_fact::rule::{Declared, Rule};
-use sp_ground::signature::Equation;
+use sp_fact::signature::Equation;
 use sp_term::apply::apply_all;
 use sp_term::term::{Term, Variable};
 use sp_unify::unify::mgu;

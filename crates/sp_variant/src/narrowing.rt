@@ -5,15 +5,15 @@ ghost use Rattle.std.specs.List.{flat_map};
 ghost use Rattle.sp_spec.specs.Term.{app};
 ghost use Rattle.sp_term.specs.View.{name_of, view, view_all};
 ghost use Rattle.sp_unify.specs.View.{pair_view};
-ghost use Rattle.sp_ground.specs.View.{equation_of};
+ghost use Rattle.sp_fact.specs.GroundView.{equation_of};
 ghost use Rattle.sp_spec_forms.specs.Shifted.{above};
 ghost use Rattle.sp_spec_forms.specs.Narrowing as spec;
 ghost use Rattle.sp_variant.specs.View.{chosen_of, list_by, terms_in, way_by};
 ghost use Rattle.sp_variant.specs.Rows.{longer, with_one_more};
 
 use sp_conv::{above, shifted};
-use sp_ground::signature::Equation;
-use sp_term::term::{Name, Term, copy, copy_all, nesting_over};
+use sp_fact::signature::Equation;
+use sp_term::term::{Name, Term, copied, nesting_over};
 use sp_unify::unify::mgu;
 use std::alloc::{AllocError, Global};
 use std::rc::Rc;
@@ -51,17 +51,16 @@ fn push_pairs(pairs: &mut Vec<(Term, Term)>, others: &Vec<(Term, Term)>) -> Resu
     ensures { OnOk result (map pair_view pairs.new.items ≡ map pair_view pairs.old.items ++ map pair_view others.now.items) }
 {
     for (left, right) in others {
-        pairs.push((copy(left)?, copy(right)?))?;
+        pairs.push((left.clone()?, right.clone()?))?;
     }
     Ok(())
 }
 
-impl Chosen {
-    /// The same.
-    pub fn copy(&self, alloc: Global) -> Result<Chosen, AllocError>
-        ensures { IfOk result (λ s. chosen_of s ≡ chosen_of self.now) }
-    {
-        let mut pairs = Vec::with_capacity(alloc, self.pairs.len())?;
+impl Clone for Chosen {
+    ghost is_clone = { λ s t. chosen_of t ≡ chosen_of s };
+
+    fn clone(&self) -> Result<Chosen, AllocError> {
+        let mut pairs = Vec::with_capacity(*self.pairs.allocator(), self.pairs.len())?;
         push_pairs(&mut pairs, &self.pairs)?;
         Ok(Chosen {
             pairs,
@@ -99,8 +98,8 @@ fn behind(next: u128, equation: &Equation) -> Result<u128, AllocError>
 fn as_it_is(alloc: Global, term: &Term, chosen: &Chosen) -> Result<Vec<Way<Term>>, AllocError>
     ensures { IfOk result (λ ws. map (way_by view) ws.items ≡ (view term.now, chosen_of chosen.now) ∷ []) }
 {
-    let value = copy(term)?;
-    let chosen = chosen.copy(alloc)?;
+    let value = term.clone()?;
+    let chosen = chosen.clone()?;
     let mut ways = Vec::new(alloc);
     ways.push(Way { value, chosen })?;
     Ok(ways)
@@ -118,7 +117,7 @@ fn push_by_equation(
         ≡ map (way_by view) ways.old.items ++ spec.by_equation (view term.now) (chosen_of chosen.now) (equation_of equation.now)) }
 {
     let left = shifted(alloc, chosen.next, &equation.left)?;
-    let pairs = with_pair(alloc, copy(term)?, left, &chosen.pairs)?;
+    let pairs = with_pair(alloc, term.clone()?, left, &chosen.pairs)?;
     if mgu(alloc, &pairs)?.is_none() {
         return Ok(());
     }
@@ -152,7 +151,7 @@ fn choices(
 fn application(alloc: Global, symbol: &Name, terms: Vec<Term>) -> Result<Term, AllocError>
     ensures { IfOk result (λ t. view t ≡ app (name_of symbol.now) (view_all terms.items)) }
 {
-    let name = symbol.copy()?;
+    let name = symbol.clone()?;
     let nesting = nesting_over(&terms)?;
     let shared = Rc::new(alloc, terms)?;
     Ok(Term::App(name, shared, nesting))
@@ -179,10 +178,10 @@ fn at_root(
 }
 
 /// The terms with one more at the end.
-fn with_last(alloc: Global, before: &Vec<Term>, last: Term) -> Result<Vec<Term>, AllocError>
+fn with_last(before: &Vec<Term>, last: Term) -> Result<Vec<Term>, AllocError>
     ensures { IfOk result (λ ts. list_by view ts ≡ list_by view before.now ++ view last ∷ []) }
 {
-    let mut terms = copy_all(alloc, before)?;
+    let mut terms = copied(before)?;
     terms.push(last)?;
     Ok(terms)
 }
@@ -199,7 +198,7 @@ fn push_longer(
 {
     for way in found {
         let Way { value, chosen } = way;
-        let value = with_last(alloc, before, value)?;
+        let value = with_last(before, value)?;
         rows.push(Way { value, chosen })?;
     }
     Ok(())
@@ -210,7 +209,7 @@ pub fn empty<T: Drop>(alloc: Global, chosen: &Chosen) -> Result<Way<Vec<T>>, All
     ensures row { IfOk result (λ w. w.value.items ≡ []) }
     ensures way { IfOk result (λ w. chosen_of w.chosen ≡ chosen_of chosen.now) }
 {
-    let chosen = chosen.copy(alloc)?;
+    let chosen = chosen.clone()?;
     let value = Vec::new(alloc);
     Ok(Way { value, chosen })
 }

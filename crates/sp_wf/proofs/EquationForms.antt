@@ -16,6 +16,7 @@ use Rattle.sp_conv.proofs.Tests.{alike_decides, is_well_formed_decides, has_priv
 use Rattle.sp_wf.specs.Finding.{wrong_shape, private_constant, are_none}
 use Rattle.sp_wf.specs.EquationFindings.{shapes, private_constants, differ_by, do_clash, clashes_with, clashes}
 use Rattle.sp_wf.specs.Report.{lines_after}
+use Rattle.sp_wf.specs.Told.{is_formed}
 use Rattle.sp_spec.proofs.Lists.{next_there}
 use Rattle.sp_wf.proofs.Nothing.{told_not}
 use Rattle.sp_wf.proofs.Telling.{told_both}
@@ -56,22 +57,30 @@ module _ (symbols : List Symbol) (es : List Equation) (e : Equation) where
 -- ---- neither on any of the equations
 
 module _ (symbols : List Symbol) (es : List Equation) where
-  turned : (a b c d : Bool) → ((not a && b) && (not c && d)) ≡ (not (a || c) && (b && d))
+  turned : (a b c d : Bool) → ((not a && b) && (not c && d)) ≡ ((not a && not c) && (b && d))
   turned true b c d = refl
   turned false true c d = refl
   turned false false true d = refl
   turned false false false d = refl
 
   -- one equation more
-  pub none_of_both : (e : Numbered) (rest : List Numbered)
+  one_more_formed : (e : Numbered) (rest : List Numbered)
       → (are_none (shapes symbols es (e ∷ rest)) && are_none (private_constants symbols es (e ∷ rest)))
-      ≡ (not ((not (is_well_formed symbols es e.1) && not (has_private_constant symbols es e.1)) || has_private_constant symbols es e.1)
-      && (are_none (shapes symbols es rest) && are_none (private_constants symbols es rest)))
-  none_of_both e rest =
+      ≡ (is_formed symbols es e.1 && (are_none (shapes symbols es rest) && are_none (private_constants symbols es rest)))
+  one_more_formed e rest =
       let a = not (is_well_formed symbols es e.1) && not (has_private_constant symbols es e.1) in
       let c = has_private_constant symbols es e.1 in
       ap₂ (λ (x y : Bool). x && y) (told_not a (wrong_shape e.0) (shapes symbols es rest)) (told_not c (private_constant e.0) (private_constants symbols es rest))
       ∙ turned a (are_none (shapes symbols es rest)) c (are_none (private_constants symbols es rest))
+
+  abbrev pub all_formed : List Numbered → Bool
+  all_formed numbered = are_none (shapes symbols es numbered) && are_none (private_constants symbols es numbered)
+
+  -- one equation, and then the others
+  pub next_formed : {A : Type 0} (view : A → Numbered) (ys : List A) (i : ℕ) (x : A) → i < length ys → x ≡ get_or ys i x
+      → all_formed (map view (drop i ys)) ≡ (is_formed symbols es (view x).1 && all_formed (map view (drop (i + 1) ys)))
+  next_formed {A = A} view ys i x h e =
+      ap (λ (zs : List A). all_formed (map view zs)) (next_there ys ys i x refl h e) ∙ one_more_formed (view x) (map view (drop (i + 1) ys))
 
 -- ---- two that clash
 

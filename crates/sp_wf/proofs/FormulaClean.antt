@@ -1,5 +1,5 @@
 -- No finding stands on a formula exactly where it has a guarded form without findings.
-use Rattle.std.proofs.Common.{◌≡◌, ℕ, Bool, true, false, not, ◌&&◌, ◌||◌, if◌then◌else◌, List, [], ◌∷◌, ◌++◌, Option, Some, None, option_map, option_and_then, refl, sym, ap, ap₂, ◌∙◌}
+use Rattle.std.proofs.Common.{◌≡◌, ℕ, Bool, true, false, not, ◌&&◌, ◌||◌, if◌then◌else◌, List, [], ◌∷◌, ◌++◌, Option, Some, None, is_some, option_map, option_and_then, refl, sym, ap, ap₂, ◌∙◌}
 use Rattle.sp_spec.specs.Term.{Term, var, constant, name, app, Terms, none, more}
 use Rattle.sp_spec.specs.Formula.{Written, Formula, truth, falsity, happens, equals, precedes, not_so, both, either, implies, for_all, for_some}
 use Rattle.sp_spec.specs.Theory.{Lemma}
@@ -115,6 +115,10 @@ as_append role bs (x ∷ xs) ys =
 mapped_there : {A B : Type 0} (f : A → B) (o : Option A) → is_there (option_map f o) ≡ is_there o
 mapped_there f None = refl
 mapped_there f (Some x) = refl
+
+pub some_there : {A B : Type 0} (f : A → B) (o : Option A) (p : Option B) → option_map f o ≡ p → is_some o ≡ is_there p
+some_there f None p e = ap is_there e
+some_there f (Some x) p e = ap is_there e
 
 message_there : (o : Option Meant) → is_there (message_place o) ≡ (is_placed as_message o && true)
 message_there None = refl

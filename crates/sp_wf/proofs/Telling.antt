@@ -97,7 +97,3 @@ told_four a b c d e ws xs ys zs w x y z = one_behind a b e ws (xs ++ (ys ++ zs))
 pub told_five : (a b c d e f : List (List ℕ)) (vs ws xs ys zs : List Finding) → b ≡ lines_after a vs → c ≡ lines_after b ws → d ≡ lines_after c xs → e ≡ lines_after d ys → f ≡ lines_after e zs
     → f ≡ lines_after a (vs ++ (ws ++ (xs ++ (ys ++ zs))))
 told_five a b c d e f vs ws xs ys zs v w x y z = one_behind a b f vs (ws ++ (xs ++ (ys ++ zs))) v (told_four b c d e f ws xs ys zs w x y z)
-
-pub told_six : (a b c d e f g : List (List ℕ)) (us vs ws xs ys zs : List Finding) → b ≡ lines_after a us → c ≡ lines_after b vs → d ≡ lines_after c ws → e ≡ lines_after d xs
-    → f ≡ lines_after e ys → g ≡ lines_after f zs → g ≡ lines_after a (us ++ (vs ++ (ws ++ (xs ++ (ys ++ zs)))))
-told_six a b c d e f g us vs ws xs ys zs u v w x y z = one_behind a b g us (vs ++ (ws ++ (xs ++ (ys ++ zs)))) u (told_five b c d e f g vs ws xs ys zs v w x y z)

@@ -5,7 +5,7 @@ use Rattle.sp_spec.specs.Signature.{Symbol, Equation}
 use Rattle.sp_spec.specs.Rule.{Action}
 use Rattle.sp_spec.specs.Formula.{Written, Formula, truth, falsity, happens, equals, precedes, not_so, both, either, implies, for_all, for_some}
 use Rattle.sp_spec.specs.Findings.{is_wide}
-use Rattle.sp_ground.specs.View.{symbol_of, equation_of}
+use Rattle.sp_fact.specs.GroundView.{symbol_of, equation_of}
 use Rattle.sp_wf.specs.Finding.{Finding, arity_above, destructor_in_formula, told}
 use Rattle.sp_wf.specs.SymbolFindings.{unknown_in, unknown_in_all, has_destructor, have_destructor}
 use Rattle.sp_wf.specs.declared.atoms.TermFault.{TermFault}

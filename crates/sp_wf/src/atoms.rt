@@ -1,7 +1,7 @@
 // The findings on the terms of a formula, whatever binds their variables.
 
 ghost use Rattle.std.specs.Prelude.{◌≡◌, ◌||◌, ℕ, List, OnOk, map};
-ghost use Rattle.sp_ground.specs.View.{equation_of};
+ghost use Rattle.sp_fact.specs.GroundView.{equation_of};
 ghost use Rattle.sp_spec.specs.Formula as formulas;
 ghost use Rattle.sp_read_parts.specs.Reading.{Joint};
 ghost use Rattle.sp_read_parts.specs.Views as parts;
@@ -14,8 +14,8 @@ ghost use Rattle.sp_wf.specs.View.{lines_of};
 use crate::destructors::{has_destructor, have_destructor};
 use crate::finding::{Finding, FormulaFinding, tell_if};
 use crate::unknown::{tell_unknown, tell_unknown_in_all};
+use sp_fact::signature::{Equation, Symbol};
 use sp_finding::are_too_many;
-use sp_ground::signature::{Equation, Symbol};
 use sp_read_parts::{ReadFormula, WrittenAction, WrittenTerm};
 use std::alloc::{AllocError, Global};
 
@@ -108,24 +108,12 @@ pub fn tell_terms_of(
             tell_terms_of(alloc, lines, fault, right)?;
             tell_later_terms(alloc, lines, fault, more)
         }
-        ReadFormula::Implies(left, right) => {
+        ReadFormula::Implies(left, right) | ReadFormula::Equivalent(left, right) => {
             tell_terms_of(alloc, lines, fault, left)?;
-            tell_terms_of(alloc, lines, fault, right)?;
-            Ok(())
+            tell_terms_of(alloc, lines, fault, right)
         }
-        ReadFormula::Equivalent(left, right) => {
-            tell_terms_of(alloc, lines, fault, left)?;
-            tell_terms_of(alloc, lines, fault, right)?;
-            Ok(())
-        }
-        ReadFormula::ForAll(_, body) => {
-            tell_terms_of(alloc, lines, fault, body)?;
-            Ok(())
-        }
-        ReadFormula::ForSome(_, body) => {
-            tell_terms_of(alloc, lines, fault, body)?;
-            Ok(())
-        }
+        ReadFormula::ForAll(_, body) => tell_terms_of(alloc, lines, fault, body),
+        ReadFormula::ForSome(_, body) => tell_terms_of(alloc, lines, fault, body),
     }
 }
 

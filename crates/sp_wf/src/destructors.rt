@@ -3,7 +3,7 @@
 ghost use Rattle.std.specs.Prelude.{◌≡◌, OnOk, map};
 ghost use Rattle.sp_spec.specs.Term.{count};
 ghost use Rattle.sp_term.specs.View.{name_of};
-ghost use Rattle.sp_ground.specs.View.{equation_of};
+ghost use Rattle.sp_fact.specs.GroundView.{equation_of};
 ghost use Rattle.sp_conv.specs.Tests.{is_destructor};
 ghost use Rattle.sp_read_parts.specs.Views as parts;
 ghost use Rattle.sp_wf.specs.SymbolFindings as spec;
@@ -12,7 +12,7 @@ ghost use Rattle.sp_wf.specs.View.{lines_of};
 
 use crate::finding::{Finding, RuleFinding, tell_if};
 use sp_conv::form::is_destructor;
-use sp_ground::signature::Equation;
+use sp_fact::signature::Equation;
 use sp_read_parts::{WrittenAction, WrittenFact, WrittenRule, WrittenTerm};
 use sp_term::term::{Name, Term};
 use std::alloc::{AllocError, Global};

@@ -1,13 +1,13 @@
 // The findings on equations.
 
 ghost use Rattle.std.specs.Prelude.{◌≡◌, ◌&&◌, not, IfOk, OnOk, map};
-ghost use Rattle.sp_ground.specs.View.{equation_of, symbol_of};
+ghost use Rattle.sp_fact.specs.GroundView.{equation_of, symbol_of};
 ghost use Rattle.sp_spec_text.specs.Declared.{their_equations};
 ghost use Rattle.sp_conv.specs.Tests.{is_well_formed, has_private_constant};
 ghost use Rattle.sp_wf.specs.EquationFindings as spec;
 ghost use Rattle.sp_wf.specs.Finding.{are_none};
 ghost use Rattle.sp_wf.specs.Report.{lines_after};
-ghost use Rattle.sp_wf.specs.Told.{clashes_if_formed};
+ghost use Rattle.sp_wf.specs.Told.{is_formed, clashes_if_formed};
 ghost use Rattle.sp_declared.specs.NumberedView.{numbered_of};
 ghost use Rattle.sp_wf.specs.View.{lines_of};
 
@@ -15,8 +15,7 @@ use crate::finding::{Finding, tell_if};
 use sp_conv::clash::clash;
 use sp_conv::form::{Form, form_of};
 use sp_declared::equations::NumberedEquation;
-use sp_ground::signature::{Equation, Symbol};
-use sp_term::term::copy;
+use sp_fact::signature::{Equation, Symbol};
 use std::alloc::{AllocError, Global};
 
 /// The equations without their numbers.
@@ -32,8 +31,8 @@ pub fn without_numbers(
 {
     let mut made = Vec::new(alloc);
     for numbered in equations {
-        let left = copy(&numbered.equation.left)?;
-        let right = copy(&numbered.equation.right)?;
+        let left = numbered.equation.left.clone()?;
+        let right = numbered.equation.right.clone()?;
         made.push(Equation { left, right })?;
     }
     Ok(made)
@@ -103,8 +102,15 @@ fn tell_private_constants(
     Ok(())
 }
 
+/// Whether neither is to be told of the equation, one of these.
+fn is_formed(symbols: &Vec<Symbol>, equations: &Vec<Equation>, equation: &Equation) -> bool
+    ensures { result ≡ is_formed (map symbol_of symbols.now.items) (map equation_of equations.now.items) (equation_of equation.now) }
+{
+    !has_wrong_shape(symbols, equations, equation)
+        && !has_private_constant(symbols, equations, equation)
+}
+
 /// Whether neither is to be told of any of the equations.
-#[tactic(auto, using(crate::proofs::EquationForms::none_of_both))]
 fn are_formed(
     symbols: &Vec<Symbol>,
     equations: &Vec<Equation>,
@@ -113,9 +119,7 @@ fn are_formed(
     ensures { result ≡ (are_none (spec.shapes (map symbol_of symbols.now.items) (map equation_of equations.now.items) (map numbered_of numbered.now.items)) && are_none (spec.private_constants (map symbol_of symbols.now.items) (map equation_of equations.now.items) (map numbered_of numbered.now.items))) }
 {
     for one in numbered {
-        if has_wrong_shape(symbols, equations, &one.equation)
-            || has_private_constant(symbols, equations, &one.equation)
-        {
+        if !is_formed(symbols, equations, &one.equation) {
             return false;
         }
     }

@@ -1,16 +1,17 @@
 // The findings on the formula of a lemma.
 
-ghost use Rattle.std.specs.Prelude.{◌≡◌, ◌&&◌, ℕ, List, [], if◌then◌else◌, IfOk, OnOk, map};
+ghost use Rattle.std.specs.Prelude.{◌≡◌, ◌&&◌, ◌++◌, ℕ, List, [], if◌then◌else◌, IfOk, OnOk, map};
 ghost use Rattle.sp_spec.specs.Formula as formulas;
 ghost use Rattle.sp_read_parts.specs.Reading.{Joint};
 ghost use Rattle.sp_read_parts.specs.Formulas as written;
 ghost use Rattle.sp_written.specs.Views as view;
+ghost use Rattle.sp_law_guard.specs.GuardedForm as forms;
 ghost use Rattle.sp_guard.specs.View.{innermost_first};
 ghost use Rattle.sp_guard.specs.FirstNamed.{name_of};
 ghost use Rattle.sp_wf.specs.Finding.{are_none};
 ghost use Rattle.sp_wf.specs.FormulaFindings as spec;
 ghost use Rattle.sp_wf.specs.Report.{lines_after};
-ghost use Rattle.sp_wf.specs.Sought.{sought, sought_view};
+ghost use Rattle.sp_wf.specs.Sought.{sought, sought_view, is_there};
 ghost use Rattle.sp_wf.specs.View.{lines_of};
 
 use crate::finding::{Finding, FormulaFinding, tell_if};
@@ -51,27 +52,30 @@ fn tell_uses<'a>(
             tell_uses(alloc, lines, search, binders, right)?;
             tell_later_uses(alloc, lines, search, binders, more)
         }
-        ReadFormula::Implies(left, right) => {
+        ReadFormula::Implies(left, right) | ReadFormula::Equivalent(left, right) => {
             tell_uses(alloc, lines, search, binders, left)?;
-            tell_uses(alloc, lines, search, binders, right)?;
-            Ok(())
+            tell_uses(alloc, lines, search, binders, right)
         }
-        ReadFormula::Equivalent(left, right) => {
-            tell_uses(alloc, lines, search, binders, left)?;
-            tell_uses(alloc, lines, search, binders, right)?;
-            Ok(())
-        }
-        ReadFormula::ForAll(more, body) => {
-            let inner = within(alloc, &*binders, &*more)?;
-            tell_uses(alloc, lines, search, &inner, body)?;
-            Ok(())
-        }
-        ReadFormula::ForSome(more, body) => {
-            let inner = within(alloc, &*binders, &*more)?;
-            tell_uses(alloc, lines, search, &inner, body)?;
-            Ok(())
+        ReadFormula::ForAll(more, body) | ReadFormula::ForSome(more, body) => {
+            tell_uses_behind(alloc, lines, search, binders, more, body)
         }
     }
+}
+
+/// The same behind a quantifier, whose binders stand within the reach of the others.
+#[cycle(uses)]
+fn tell_uses_behind<'a>(
+    alloc: Global,
+    lines: &mut Vec<String>,
+    search: Search<'a>,
+    binders: &Vec<WrittenVariable<'a>>,
+    more: &Vec<WrittenVariable<'a>>,
+    body: &ReadFormula<'a>,
+) -> Result<(), AllocError>
+    ensures { OnOk result (lines_of lines.new.items ≡ lines_after (lines_of lines.old.items) (sought (sought_view search.entry.sought) search.entry.lemma.now (spec.uses (innermost_first (binders.now.items ++ more.now.items)) (written.formula body.now)))) }
+{
+    let inner = within(alloc, binders, more)?;
+    tell_uses(alloc, lines, search, &inner, body)
 }
 
 /// The same in each of the formulas that follow.
@@ -111,14 +115,26 @@ pub fn tell_lemma(
     tell_uses(alloc, lines, search, &none, &lemma.formula)
 }
 
+/// Whether the formula has a guarded form within the reach of these binders.
+#[tactic(auto, using(crate::proofs::FormulaClean::some_there))]
+fn has_form<'a>(
+    alloc: Global,
+    binders: &Vec<WrittenVariable<'a>>,
+    formula: &ReadFormula<'a>,
+) -> Result<bool, AllocError>
+    ensures { IfOk result (λ b. b ≡ is_there (forms.guarded_form (innermost_first binders.now.items) (written.formula formula.now))) }
+{
+    let form = guarded_form(alloc, binders, formula)?;
+    Ok(form.is_some())
+}
+
 /// Whether each variable has a binder, and is marked and used as that is.
 #[tactic(auto, using(crate::proofs::Formulas::used_rightly))]
 fn is_used_rightly(alloc: Global, lemma: &WrittenLemma) -> Result<bool, AllocError>
     ensures { IfOk result (λ b. b ≡ (are_none (spec.unbound_in_lemma (view.lemma lemma.now)) && (are_none (spec.sorts_in_lemma (view.lemma lemma.now)) && are_none (spec.mixed_in_lemma (view.lemma lemma.now))))) }
 {
     let none = Vec::new(alloc);
-    let form = guarded_form(alloc, &none, &lemma.formula)?;
-    let has_form = form.is_some();
+    let has_form = has_form(alloc, &none, &lemma.formula)?;
     let fit = marks_fit(alloc, &none, &lemma.formula)?;
     Ok(has_form && fit)
 }

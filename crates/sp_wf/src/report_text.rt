@@ -1,10 +1,13 @@
 // The report on a theory.
 
 ghost use Rattle.std.specs.Prelude.{◌≡◌, ◌++◌, [], IfOk, OnOk, map};
-ghost use Rattle.sp_ground.specs.View.{equation_of, symbol_of};
+ghost use Rattle.sp_fact.specs.GroundView.{equation_of, symbol_of};
+ghost use Rattle.sp_spec_text.specs.Declared.{their_equations};
 ghost use Rattle.sp_spec_text.specs.Written.{rules_in, lemmas_in};
 ghost use Rattle.sp_written.specs.Views as view;
 ghost use Rattle.sp_wf.specs.Report as spec;
+ghost use Rattle.sp_wf.specs.EquationFindings.{findings_on_equations};
+ghost use Rattle.sp_wf.specs.Told.{findings_on_items};
 ghost use Rattle.sp_declared.specs.NumberedView.{numbered_of};
 ghost use Rattle.sp_wf.specs.View.{lines_of};
 
@@ -14,7 +17,7 @@ use crate::symbols::{tell_declared, tell_left_out};
 use crate::told::{LemmaFault, RuleFault, tell_arities, tell_lemmas, tell_rules};
 use crate::unknown::tell_all_unknown;
 use sp_declared::equations::NumberedEquation;
-use sp_ground::signature::{Equation, Symbol};
+use sp_fact::signature::{Equation, Symbol};
 use sp_written::{Item, ReadTheory};
 use std::alloc::{AllocError, Global};
 
@@ -69,8 +72,57 @@ fn tell_symbols(
     tell_all_unknown(alloc, lines, symbols, items)
 }
 
+/// Tells of what is wrong with rules and lemmas, of their names first.
+#[tactic(auto, using(crate::proofs::Telling::told_three))]
+fn tell_items(
+    alloc: Global,
+    lines: &mut Vec<String>,
+    equations: &Vec<Equation>,
+    items: &Vec<Item>,
+) -> Result<(), AllocError>
+    ensures { OnOk result (lines_of lines.new.items ≡ spec.lines_after (lines_of lines.old.items) (findings_on_items (map equation_of equations.now.items) (view.items items.now.items))) }
+{
+    tell_names(alloc, lines, items)?;
+    tell_all_rules(alloc, lines, equations, items)?;
+    tell_all_lemmas(alloc, lines, equations, items)
+}
+
+/// Tells of what is wrong with equations, given without their numbers and with them, and then with rules and lemmas.
+#[tactic(auto, using(crate::proofs::Telling::one_behind))]
+fn tell_equations_and_items(
+    alloc: Global,
+    lines: &mut Vec<String>,
+    symbols: &Vec<Symbol>,
+    plain: &Vec<Equation>,
+    equations: &Vec<NumberedEquation>,
+    items: &Vec<Item>,
+) -> Result<(), AllocError>
+    requires { map equation_of plain.now.items ≡ their_equations (map numbered_of equations.now.items) }
+    ensures { OnOk result (lines_of lines.new.items ≡ spec.lines_after (lines_of lines.old.items) (findings_on_equations (map symbol_of symbols.now.items) (map numbered_of equations.now.items) ++ findings_on_items (their_equations (map numbered_of equations.now.items)) (view.items items.now.items))) }
+{
+    tell_equations(alloc, lines, symbols, plain, equations)?;
+    tell_items(alloc, lines, plain, items)
+}
+
+/// Tells of what is wrong with a theory that declares these symbols and equations; the equations are given without their numbers and with them.
+#[tactic(auto, using(crate::proofs::Telling::told_three))]
+fn tell_all(
+    alloc: Global,
+    lines: &mut Vec<String>,
+    symbols: &Vec<Symbol>,
+    plain: &Vec<Equation>,
+    equations: &Vec<NumberedEquation>,
+    theory: &ReadTheory,
+) -> Result<(), AllocError>
+    requires { map equation_of plain.now.items ≡ their_equations (map numbered_of equations.now.items) }
+    ensures { OnOk result (lines_of lines.new.items ≡ spec.lines_after (lines_of lines.old.items) (spec.findings_by (map symbol_of symbols.now.items) (map numbered_of equations.now.items) (view.theory theory.now))) }
+{
+    tell_symbols(alloc, lines, symbols, &theory.items)?;
+    tell_arities(alloc, lines, &theory.items)?;
+    tell_equations_and_items(alloc, lines, symbols, plain, equations, &theory.items)
+}
+
 /// The lines of the findings on a theory that declares these symbols and equations.
-#[tactic(auto, using(crate::proofs::Telling::told_six))]
 fn lines(
     alloc: Global,
     symbols: &Vec<Symbol>,
@@ -81,12 +133,7 @@ fn lines(
 {
     let plain = without_numbers(alloc, equations)?;
     let mut lines = Vec::new(alloc);
-    tell_symbols(alloc, &mut lines, symbols, &theory.items)?;
-    tell_arities(alloc, &mut lines, &theory.items)?;
-    tell_equations(alloc, &mut lines, symbols, &plain, equations)?;
-    tell_names(alloc, &mut lines, &theory.items)?;
-    tell_all_rules(alloc, &mut lines, &plain, &theory.items)?;
-    tell_all_lemmas(alloc, &mut lines, &plain, &theory.items)?;
+    tell_all(alloc, &mut lines, symbols, &plain, equations, theory)?;
     Ok(lines)
 }
 

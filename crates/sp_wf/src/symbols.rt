@@ -2,7 +2,7 @@
 
 ghost use Rattle.std.specs.Prelude.{◌≡◌, OnOk, map};
 ghost use Rattle.sp_term.specs.View.{name_of};
-ghost use Rattle.sp_ground.specs.View.{symbol_of};
+ghost use Rattle.sp_fact.specs.GroundView.{symbol_of};
 ghost use Rattle.sp_spec_text.specs.Written.{item_builtins, item_functions, builtins_in, functions_in};
 ghost use Rattle.sp_spec_text.specs.Declared.{builtin_of, builtin_symbols, declared_symbols};
 ghost use Rattle.sp_written.specs.Views as view;
@@ -13,8 +13,8 @@ ghost use Rattle.sp_wf.specs.View.{lines_of};
 
 use crate::finding::{Finding, tell_if};
 use sp_declared::builtins::Builtin;
+use sp_fact::signature::Symbol;
 use sp_finding::MOST_ARGUMENTS;
-use sp_ground::signature::Symbol;
 use sp_term::term::Name;
 use sp_written::Item;
 use std::alloc::{AllocError, Global};

@@ -1,7 +1,7 @@
 // The findings on each rule and each lemma, one kind after the other.
 
 ghost use Rattle.std.specs.Prelude.{◌≡◌, OnOk, map};
-ghost use Rattle.sp_ground.specs.View.{equation_of};
+ghost use Rattle.sp_fact.specs.GroundView.{equation_of};
 ghost use Rattle.sp_spec_text.specs.Written.{item_rules, item_lemmas, without_proofs, rules_in, lemmas_in};
 ghost use Rattle.sp_written.specs.Views as view;
 ghost use Rattle.sp_read_parts.specs.Views as parts;
@@ -17,7 +17,7 @@ use crate::formula::{tell_lemma, tell_unguarded};
 use crate::symbols::tell_wide_symbols;
 use crate::uses::Sought;
 use crate::variables::{tell_sorts, tell_unbound};
-use sp_ground::signature::Equation;
+use sp_fact::signature::Equation;
 use sp_read_parts::WrittenRule;
 use sp_written::{Item, WrittenLemma};
 use std::alloc::{AllocError, Global};

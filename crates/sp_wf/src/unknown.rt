@@ -3,7 +3,7 @@
 ghost use Rattle.std.specs.Prelude.{◌≡◌, [], not, OnOk, map};
 ghost use Rattle.sp_spec.specs.Term.{count};
 ghost use Rattle.sp_term.specs.View.{name_of};
-ghost use Rattle.sp_ground.specs.View.{symbol_of};
+ghost use Rattle.sp_fact.specs.GroundView.{symbol_of};
 ghost use Rattle.sp_read_parts.specs.Views as parts;
 ghost use Rattle.sp_written.specs.Views as view;
 ghost use Rattle.sp_wf.specs.Finding.{told, unknown_symbol};
@@ -13,7 +13,7 @@ ghost use Rattle.sp_wf.specs.View.{lines_of};
 
 use crate::atoms::{TermFault, tell_terms_of};
 use crate::finding::{Finding, tell_if};
-use sp_ground::signature::Symbol;
+use sp_fact::signature::Symbol;
 use sp_read_parts::{WrittenAction, WrittenFact, WrittenRule, WrittenTerm};
 use sp_term::term::{Name, Term};
 use sp_written::{Item, WrittenEquation};

@@ -6,7 +6,7 @@ use Rattle.sp_spec.specs.Theory.{Lemma}
 use Rattle.sp_spec.specs.Term.{Term}
 use Rattle.sp_spec.specs.Formula.{Written}
 use Rattle.sp_term.specs.View.{name_of}
-use Rattle.sp_ground.specs.View.{symbol_of}
+use Rattle.sp_fact.specs.GroundView.{symbol_of}
 use Rattle.sp_read_parts.specs.Views.{term, rule}
 use Rattle.sp_read_parts.specs.Formulas.{formula}
 use Rattle.sp_spec_text.specs.Written as text

@@ -1,5 +1,5 @@
 use crate::proof::WrittenProof;
-use sp_ground::signature::Symbol;
+use sp_fact::signature::Symbol;
 use sp_read_parts::{ReadFormula, WrittenRule, WrittenTerm};
 use sp_term::term::Name;
 

@@ -1,6 +1,6 @@
 use Rattle.sp_law_cover.proofs.Covering.{moves_are_covered}
 use Rattle.sp_law_tree.proofs.Trees.{finished_trees_show}
-use Rattle.sp_law_tree.proofs.Logs.{log_found, log_at_end, no_log}
+use Rattle.sp_spec_proof.proofs.TreeLogs.{log_found, log_at_end, no_log}
 use Rattle.sp_law_tree.proofs.accepted_trees_show.Goals as goal
 
 pub returns : goal.returns

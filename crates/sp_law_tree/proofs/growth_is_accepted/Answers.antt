@@ -1,4 +1,4 @@
-use Rattle.sp_law_tree.proofs.Growing.{grown_tree_accepted, grown_tree_steps}
+use Rattle.sp_spec_proof.proofs.Growing.{grown_tree_accepted, grown_tree_steps}
 use Rattle.sp_law_tree.proofs.growth_is_accepted.Goals as goal
 
 pub returns : goal.returns

@@ -1,7 +1,7 @@
 use Rattle.std.proofs.Common.{map, string_bytes, ap, ◌∙◌, ◌++◌}
 use Rattle.sp_analysis.specs.Sought.{executed}
 use Rattle.sp_analysis.specs.View.{setting_in}
-use Rattle.sp_ground.specs.View.{entries_of, step_of}
+use Rattle.sp_fact.specs.GroundView.{entries_of, step_of}
 use Rattle.sp_learn.specs.View.{log_of}
 use Rattle.sp_analysis.proofs.Blocks.{block_written, steps_numbered}
 use Rattle.sp_analysis.proofs.block.found_block.Goals as goal

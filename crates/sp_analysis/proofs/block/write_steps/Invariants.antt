@@ -1,8 +1,8 @@
 use Rattle.std.proofs.Common.{◌≡◌, ◌++◌, map, drop, string_bytes}
 use Rattle.sp_spec.specs.Lists.{Every}
-use Rattle.sp_ground.specs.View.{step_of}
+use Rattle.sp_fact.specs.GroundView.{step_of}
 use Rattle.sp_show.specs.Numbers.{StepHasNames, numbered_names}
-use Rattle.sp_law_block.specs.Block as spec
+use Rattle.sp_law_printed_log.specs.Block as spec
 use Rattle.sp_analysis.proofs.block.write_steps.Given as goal
 
 abbrev pub invariant-loop-step : goal.invariant-loop-step

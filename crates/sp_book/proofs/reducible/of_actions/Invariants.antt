@@ -3,7 +3,7 @@ use Rattle.std.specs.List.{list_all}
 use Rattle.sp_spec.specs.Term.{Variable}
 use Rattle.sp_spec.specs.Rule.{Action}
 use Rattle.sp_fact.specs.View.{action_of}
-use Rattle.sp_ground.specs.View.{equation_of}
+use Rattle.sp_fact.specs.GroundView.{equation_of}
 use Rattle.sp_spec_forms.specs.Reducible.{irreducible_all}
 use Rattle.sp_book.proofs.reducible.of_actions.Given as goal
 

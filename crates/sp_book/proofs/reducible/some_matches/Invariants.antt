@@ -1,7 +1,7 @@
 use Rattle.std.proofs.Common.{◌≡◌, map, drop}
 use Rattle.std.specs.List.{list_any}
 use Rattle.sp_term.specs.View.{view}
-use Rattle.sp_ground.specs.View.{equation_of}
+use Rattle.sp_fact.specs.GroundView.{equation_of}
 use Rattle.sp_spec_forms.specs.Reducible.{is_matched}
 use Rattle.sp_book.proofs.reducible.some_matches.Given as goal
 

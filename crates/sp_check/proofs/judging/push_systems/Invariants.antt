@@ -1,6 +1,6 @@
 use Rattle.std.proofs.Common.{◌≡◌, ◌++◌, map, vec_len}
 use Rattle.sp_step.specs.View.{case_of}
-use Rattle.sp_check.specs.Nodes.{systems_in}
+use Rattle.sp_spec_system.specs.Move.{systems_in}
 use Rattle.sp_check.specs.View.{systems_of}
 use Rattle.sp_check.proofs.judging.push_systems.Given as goal
 

@@ -1,6 +1,6 @@
 use Rattle.std.proofs.Common.{map, arith}
 use Rattle.sp_term.specs.Bindings.{bindings}
-use Rattle.sp_ground.specs.View.{equation_of}
+use Rattle.sp_fact.specs.GroundView.{equation_of}
 use Rattle.sp_conv.proofs.Searches.{item_at, all_passed, between_more, between_all, behind_found}
 use Rattle.sp_conv.proofs.check.first_behind.Goals as goal
 use Rattle.sp_conv.proofs.check.first_behind.Goals.{then-place-behind+in_ok-found+in_default, else-place-behind}

@@ -1,6 +1,6 @@
 use Rattle.std.proofs.Common.{map}
 use Rattle.sp_term.specs.Bindings.{bindings}
-use Rattle.sp_ground.specs.View.{equation_of}
+use Rattle.sp_fact.specs.GroundView.{equation_of}
 use Rattle.sp_conv.proofs.Searches.{item_at, all_passed, none_clash_more, none_clash_at_all, clash_found}
 use Rattle.sp_conv.proofs.check.first_clash.Goals as goal
 

@@ -1,6 +1,6 @@
 use Rattle.std.proofs.Common.{rules, map, sym, subst}
 use denote.Enum.Bare.{same_true, same_false}
-use Rattle.sp_ground.specs.View.{equation_of, symbol_of}
+use Rattle.sp_fact.specs.GroundView.{equation_of, symbol_of}
 use Rattle.sp_conv.specs.contracts.form.Form.{the_type}
 use Rattle.sp_conv.specs.declared.form.Form.{Form}
 use Rattle.sp_conv.specs.Forms.{IsForm}

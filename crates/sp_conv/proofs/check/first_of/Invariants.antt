@@ -1,5 +1,5 @@
 use Rattle.std.proofs.Common.{map}
-use Rattle.sp_ground.specs.View.{equation_of, symbol_of}
+use Rattle.sp_fact.specs.GroundView.{equation_of, symbol_of}
 use Rattle.sp_conv.specs.Forms.{IsForm}
 use Rattle.sp_conv.proofs.Searches.{NoneBefore}
 use Rattle.sp_conv.proofs.check.first_of.Given as goal

@@ -1,6 +1,6 @@
 use Rattle.std.proofs.Common.{◌≡◌, drop, map}
 use Rattle.sp_term.specs.View.{view_all}
-use Rattle.sp_ground.specs.View.{equation_of}
+use Rattle.sp_fact.specs.GroundView.{equation_of}
 use Rattle.sp_conv.specs.Tests.{all_of_constructors}
 use Rattle.sp_conv.proofs.form.+constructors.Given as goal
 

@@ -1,6 +1,6 @@
 use Rattle.std.proofs.Common.{◌≡◌, drop}
 use Rattle.sp_term.specs.View.{view, view_all}
-use Rattle.sp_conv.specs.Tests.{is_part_of_one}
+use Rattle.sp_spec.specs.Same.{is_part_of_one}
 use Rattle.sp_conv.proofs.form.+parts.Given as goal
 
 abbrev pub invariant-one_has_part-loop-term : goal.invariant-one_has_part-loop-term

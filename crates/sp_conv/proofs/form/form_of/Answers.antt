@@ -1,5 +1,5 @@
 use Rattle.std.proofs.Common.{map, sym}
-use Rattle.sp_ground.specs.View.{equation_of, symbol_of}
+use Rattle.sp_fact.specs.GroundView.{equation_of, symbol_of}
 use Rattle.sp_conv.proofs.Forms.{without_form, formed_leads, private_leads, leads_wrong}
 use Rattle.sp_conv.proofs.form.form_of.Goals as goal
 

@@ -1,7 +1,7 @@
 use Rattle.std.proofs.Common.{not, map, sym, ap, ◌∙◌}
 use Rattle.sp_term.specs.View.{name_of, variable_of}
 use Rattle.sp_term.proofs.Lists.{count-view_all}
-use Rattle.sp_ground.specs.View.{equation_of}
+use Rattle.sp_fact.specs.GroundView.{equation_of}
 use Rattle.sp_conv.specs.Tests.{is_destructor}
 use Rattle.sp_conv.proofs.form.is_constructor.Goals as goal
 

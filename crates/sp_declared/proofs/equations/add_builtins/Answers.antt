@@ -1,6 +1,6 @@
 use Rattle.std.proofs.Common.{[], ◌∷◌, map, sym, ap, ◌∙◌}
 use Rattle.std.proofs.lemmas.List.{map-append}
-use Rattle.sp_ground.specs.View.{equation_of}
+use Rattle.sp_fact.specs.GroundView.{equation_of}
 use Rattle.sp_spec_text.specs.Declared.{without_number}
 use Rattle.sp_declared.specs.NumberedView.{numbered_of}
 use Rattle.sp_declared.specs.Equations.{added_after}

@@ -1,7 +1,7 @@
 use Rattle.std.proofs.Common.{◌≡◌, ◌+◌, length, [], ◌∷◌, map, sym, ap, ◌∙◌, arith}
 use Rattle.std.proofs.lemmas.List.{map-append, length_push}
 use Rattle.sp_spec.proofs.Lists.{length_map}
-use Rattle.sp_ground.specs.View.{equation_of}
+use Rattle.sp_fact.specs.GroundView.{equation_of}
 use Rattle.sp_spec_text.specs.Declared.{numbered_from}
 use Rattle.sp_declared.specs.NumberedView.{numbered_of}
 use Rattle.sp_declared.specs.Equations.{added_after}

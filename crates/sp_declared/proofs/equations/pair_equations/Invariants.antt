@@ -1,5 +1,5 @@
 use Rattle.std.proofs.Common.{◌≡◌, map}
-use Rattle.sp_ground.specs.View.{equation_of}
+use Rattle.sp_fact.specs.GroundView.{equation_of}
 use Rattle.sp_spec_text.specs.Declared as spec
 use Rattle.sp_declared.specs.NumberedView.{numbered_of}
 use Rattle.sp_declared.proofs.equations.pair_equations.Given as goal

@@ -1,6 +1,6 @@
 use Rattle.std.proofs.Common.{◌++◌, append_assoc, map, refl}
 use Rattle.sp_term.specs.View.{name_of}
-use Rattle.sp_ground.specs.View.{equation_of}
+use Rattle.sp_fact.specs.GroundView.{equation_of}
 use Rattle.sp_spec_text.specs.Declared.{builtin_of, builtin_equations}
 use Rattle.sp_declared.specs.Equations.{equations_named}
 use Rattle.sp_declared.proofs.Stepping.{next}

@@ -1,5 +1,5 @@
 use Rattle.std.proofs.Common.{◌≡◌, ◌++◌, map, drop}
-use Rattle.sp_ground.specs.View.{equation_of}
+use Rattle.sp_fact.specs.GroundView.{equation_of}
 use Rattle.sp_term.specs.View.{name_of}
 use Rattle.sp_declared.specs.Equations.{equations_named}
 use Rattle.sp_declared.proofs.equations.push_builtins.Given as goal

@@ -1,6 +1,6 @@
 use Rattle.std.proofs.Common.{◌++◌, append_assoc, map}
 use Rattle.std.proofs.lemmas.List.{map-append}
-use Rattle.sp_ground.specs.View.{equation_of}
+use Rattle.sp_fact.specs.GroundView.{equation_of}
 use Rattle.sp_spec_text.specs.Written.{item_equations, equations_in}
 use Rattle.sp_spec_text.specs.Declared as spec
 use Rattle.sp_written.specs.Views as view

@@ -1,5 +1,5 @@
 use Rattle.std.proofs.Common.{◌≡◌, map, take}
-use Rattle.sp_ground.specs.View.{symbol_of}
+use Rattle.sp_fact.specs.GroundView.{symbol_of}
 use Rattle.sp_spec_text.specs.Declared.{resolved_equation}
 use Rattle.sp_written.specs.Views as view
 use Rattle.sp_declared.proofs.resolved.equations.Given as goal

@@ -1,5 +1,5 @@
 use Rattle.std.proofs.Common.{◌≡◌, map, drop}
-use Rattle.sp_ground.specs.View.{symbol_of}
+use Rattle.sp_fact.specs.GroundView.{symbol_of}
 use Rattle.sp_declared.specs.Symbols.{declared_after}
 use Rattle.sp_declared.proofs.symbols.declare_all.Given as goal
 

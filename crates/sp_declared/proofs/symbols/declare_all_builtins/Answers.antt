@@ -1,6 +1,6 @@
 use Rattle.std.proofs.Common.{map}
 use Rattle.std.proofs.lemmas.List.Concat.{flat_map-append}
-use Rattle.sp_ground.specs.View.{symbol_of}
+use Rattle.sp_fact.specs.GroundView.{symbol_of}
 use Rattle.sp_spec_text.specs.Written.{item_builtins, builtins_in}
 use Rattle.sp_spec_text.specs.Declared.{builtin_of, builtin_symbols}
 use Rattle.sp_written.specs.Views as view

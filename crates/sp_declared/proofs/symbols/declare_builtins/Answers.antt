@@ -1,6 +1,6 @@
 use Rattle.std.proofs.Common.{map, refl}
 use Rattle.sp_term.specs.View.{name_of}
-use Rattle.sp_ground.specs.View.{symbol_of}
+use Rattle.sp_fact.specs.GroundView.{symbol_of}
 use Rattle.sp_spec_text.specs.Declared.{builtin_of, builtin_symbols}
 use Rattle.sp_declared.specs.Symbols.{declared_after, symbols_named}
 use Rattle.sp_declared.proofs.Declaring.{declared_both}

@@ -6,7 +6,7 @@ use Rattle.sp_term.specs.declared.term.Term as memory
 use Rattle.sp_term.specs.declared.term.Variable as leaf
 use Rattle.sp_term.specs.View.{name_of, variable_of, view, view_all}
 use Rattle.sp_term.proofs.Lists.{count-view_all}
-use Rattle.sp_ground.specs.View.{symbol_of}
+use Rattle.sp_fact.specs.GroundView.{symbol_of}
 use Rattle.sp_spec.specs.Same.{alike}
 use Rattle.sp_destruct.specs.View.{along_from, destruction_of}
 use Rattle.sp_destruct.proofs.Ways.{enters, nothing_below, passes, rest_at, row_at, row_more}

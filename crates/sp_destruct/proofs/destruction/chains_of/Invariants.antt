@@ -1,6 +1,6 @@
 use Rattle.std.proofs.Common.{◌≡◌, ◌++◌, drop, map}
 use Rattle.sp_spec.specs.Destruction.{destructions, destructions_by}
-use Rattle.sp_ground.specs.View.{equation_of, signature_of, symbol_of}
+use Rattle.sp_fact.specs.GroundView.{equation_of, signature_of, symbol_of}
 use Rattle.sp_destruct.specs.View.{destruction_of}
 use Rattle.sp_destruct.proofs.destruction.chains_of.Given as goal
 

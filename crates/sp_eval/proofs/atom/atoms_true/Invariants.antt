@@ -2,7 +2,7 @@ use Rattle.std.proofs.Common.{◌≡◌, map, drop}
 use Rattle.sp_law_decide.specs.Deciding as deciding
 use Rattle.sp_law_decide.specs.Deciding.{assignment_of}
 use Rattle.sp_formula.specs.FormulaView.{atom_of}
-use Rattle.sp_ground.specs.View.{trace_of}
+use Rattle.sp_fact.specs.GroundView.{trace_of}
 use Rattle.sp_eval.specs.View.{environment_of}
 use Rattle.sp_eval.proofs.atom.atoms_true.Given as goal
 

@@ -1,6 +1,6 @@
 use Rattle.std.proofs.Common.{◌≡◌, map, drop}
 use Rattle.sp_law_decide.specs.Deciding as deciding
-use Rattle.sp_ground.specs.View.{ground_action}
+use Rattle.sp_fact.specs.GroundView.{ground_action}
 use Rattle.sp_eval.proofs.atom.is_among.Given as goal
 
 abbrev pub invariant-loop-shown : goal.invariant-loop-shown

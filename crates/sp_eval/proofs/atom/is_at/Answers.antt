@@ -1,5 +1,5 @@
 use Rattle.std.proofs.Common.{map, sym, ◌∙◌, arith}
-use Rattle.sp_ground.specs.View.{ground_action, entries_of}
+use Rattle.sp_fact.specs.GroundView.{ground_action, entries_of}
 use Rattle.sp_spec.proofs.Lists.{length_map}
 use Rattle.sp_eval.proofs.Traces.{at_entry, at_end, mapped_there}
 use Rattle.sp_eval.proofs.atom.is_at.Goals as goal

@@ -1,7 +1,7 @@
 use Rattle.std.proofs.Common.{◌≡◌, map, drop, [], ◌∷◌}
 use Rattle.sp_law_decide.specs.Deciding as deciding
 use Rattle.sp_formula.specs.FormulaView.{atom_of}
-use Rattle.sp_ground.specs.View.{trace_of}
+use Rattle.sp_fact.specs.GroundView.{trace_of}
 use Rattle.sp_eval.specs.View.{environment_of, environments_of}
 use Rattle.sp_eval.proofs.matching.by_actions.Given as goal
 

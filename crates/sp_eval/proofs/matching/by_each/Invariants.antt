@@ -2,7 +2,7 @@ use Rattle.std.proofs.Common.{◌≡◌, ◌++◌, drop}
 use Rattle.sp_law_decide.specs.Deciding as deciding
 use Rattle.sp_formula.specs.FormulaView.{moment_of}
 use Rattle.sp_formula.specs.PlaceView.{placed_action}
-use Rattle.sp_ground.specs.View.{trace_of}
+use Rattle.sp_fact.specs.GroundView.{trace_of}
 use Rattle.sp_eval.specs.View.{environments_of}
 use Rattle.sp_eval.proofs.matching.by_each.Given as goal
 

@@ -3,7 +3,7 @@ use Rattle.std.proofs.lemmas.Grind.{common_steps}
 use Rattle.sp_law_decide.specs.Deciding as deciding
 use Rattle.sp_formula.specs.FormulaView.{moment_of}
 use Rattle.sp_formula.specs.PlaceView.{placed_action}
-use Rattle.sp_ground.specs.View.{entries_of}
+use Rattle.sp_fact.specs.GroundView.{entries_of}
 use Rattle.sp_eval.specs.View.{environment_of, environments_of}
 use Rattle.sp_eval.proofs.Traces.{onward, trace_onward}
 use Rattle.sp_eval.proofs.matching.by_trace.Goals as goal

@@ -1,7 +1,7 @@
 use Rattle.std.proofs.Common.{◌≡◌, ◌++◌, map, drop}
 use Rattle.sp_formula.specs.FormulaView.{moment_of}
 use Rattle.sp_formula.specs.PlaceView.{placed_action}
-use Rattle.sp_ground.specs.View.{ground_action}
+use Rattle.sp_fact.specs.GroundView.{ground_action}
 use Rattle.sp_eval.specs.View.{environment_of, environments_of}
 use Rattle.sp_eval.proofs.Traces.{onward}
 use Rattle.sp_eval.proofs.matching.by_trace.Given as goal

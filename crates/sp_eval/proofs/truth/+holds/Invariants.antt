@@ -1,7 +1,8 @@
 use Rattle.std.proofs.Common.{◌≡◌, map, drop}
 use Rattle.sp_law_decide.specs.Deciding as deciding
-use Rattle.sp_formula.specs.FormulaView.{atom_of, guardeds_of, formula_of}
-use Rattle.sp_ground.specs.View.{trace_of}
+use Rattle.sp_spec.specs.Guarded.{guardeds_of}
+use Rattle.sp_formula.specs.FormulaView.{atom_of, formula_of}
+use Rattle.sp_fact.specs.GroundView.{trace_of}
 use Rattle.sp_eval.specs.View.{environment_of}
 use Rattle.sp_eval.specs.Found.{for_one, for_each}
 use Rattle.sp_eval.proofs.truth.+holds.Given as goal

@@ -5,7 +5,7 @@ use Rattle.sp_law_decide.proofs.Told.{told}
 use Rattle.sp_term.specs.View.{never_of}
 use Rattle.sp_formula.specs.FormulaView.{formula_of}
 use Rattle.sp_formula.specs.SlotsView.{slots_by}
-use Rattle.sp_ground.specs.View.{trace_of}
+use Rattle.sp_fact.specs.GroundView.{trace_of}
 use Rattle.sp_eval.specs.View.{times_of}
 use Rattle.sp_eval.proofs.truth.holds.Goals as goal
 

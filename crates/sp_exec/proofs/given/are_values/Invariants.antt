@@ -1,5 +1,5 @@
 use Rattle.std.proofs.Common.{◌≡◌, drop, map}
-use Rattle.sp_ground.specs.View.{symbol_of}
+use Rattle.sp_fact.specs.GroundView.{symbol_of}
 use Rattle.sp_norm.specs.Bounds.{bounds, bound_of}
 use Rattle.sp_exec.specs.Next.{are_values}
 use Rattle.sp_exec.proofs.given.are_values.Given as goal

@@ -1,7 +1,7 @@
 use Rattle.std.proofs.Common.{◌≡◌, drop, map}
 use Rattle.sp_law_run.specs.Given as spec
 use Rattle.sp_term.specs.View.{name_of}
-use Rattle.sp_ground.specs.View.{given_of}
+use Rattle.sp_fact.specs.GroundView.{given_of}
 use Rattle.sp_exec.proofs.given.given_value.Given as goal
 
 abbrev pub invariant-loop-one : goal.invariant-loop-one

@@ -1,6 +1,6 @@
 use Rattle.std.proofs.Common.{◌≡◌, ◌++◌, drop, map}
 use Rattle.sp_spec.specs.Execution.{known_all}
-use Rattle.sp_ground.specs.View.{ground_fact, grounds_of}
+use Rattle.sp_fact.specs.GroundView.{ground_fact, grounds_of}
 use Rattle.sp_exec.proofs.instance.all_known.Given as goal
 
 abbrev pub invariant-loop-term : goal.invariant-loop-term

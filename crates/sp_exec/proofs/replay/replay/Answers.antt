@@ -1,7 +1,7 @@
 use Rattle.std.proofs.Common.{◌≡◌, ◌<◌, ◌≤◌, ◌∙◌, List, length, get_or, map, sym, ap, subst}
 use Rattle.sp_law_run.specs.NormalStep.{normal_step}
-use Rattle.sp_ground.specs.declared.step.Step.{Step}
-use Rattle.sp_ground.specs.View.{signature_of, step_of}
+use Rattle.sp_fact.specs.declared.step.Step.{Step}
+use Rattle.sp_fact.specs.GroundView.{signature_of, step_of}
 use Rattle.sp_fact.specs.View.{rule_of}
 use Rattle.sp_exec.specs.View.{cause_of, outcome_of, reached_by}
 use Rattle.sp_exec.proofs.Reached.{goes_on, is_refused, is_done}

@@ -1,6 +1,6 @@
 use Rattle.std.proofs.Common.{take, map}
 use Rattle.sp_law_run.specs.NormalStep.{normal_step}
-use Rattle.sp_ground.specs.View.{equation_of, signature_of, step_of}
+use Rattle.sp_fact.specs.GroundView.{equation_of, signature_of, step_of}
 use Rattle.sp_fact.specs.View.{rule_of}
 use Rattle.sp_exec.specs.View.{reached_by}
 use Rattle.sp_exec.proofs.Reached.{ReachesEach}

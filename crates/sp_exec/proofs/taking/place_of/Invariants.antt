@@ -1,7 +1,7 @@
 use Rattle.std.proofs.Common.{◌≡◌, take, drop, map}
 use Rattle.sp_law_run.specs.Taken.{removed}
-use Rattle.sp_ground.specs.View.{ground_fact}
-use Rattle.sp_exec.proofs.Lists.{behind}
+use Rattle.sp_fact.specs.GroundView.{ground_fact}
+use Rattle.sp_spec.proofs.Options.{behind}
 use Rattle.sp_exec.proofs.taking.place_of.Given as goal
 
 abbrev pub invariant-loop-place : goal.invariant-loop-place

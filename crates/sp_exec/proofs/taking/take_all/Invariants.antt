@@ -1,6 +1,6 @@
 use Rattle.std.proofs.Common.{◌≡◌, drop, map}
 use Rattle.sp_law_run.specs.Taken.{taken}
-use Rattle.sp_ground.specs.View.{ground_fact}
+use Rattle.sp_fact.specs.GroundView.{ground_fact}
 use Rattle.sp_exec.proofs.taking.take_all.Given as goal
 
 abbrev pub invariant-loop-premise : goal.invariant-loop-premise

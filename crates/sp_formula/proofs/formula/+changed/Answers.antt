@@ -38,7 +38,7 @@ Formula::changed-returns-in_ok-body-in-Exists t c =
     some_shown cs atoms made
     ∙ some_changed d (map binder_of bs.items) (map binder_of cs.items) (map atom_of guard.items) (map atom_of atoms.items) (formula_of body.value) (formula_of made.value) d
     (sym (under-free_change (bound_to (bindings c.args.subst.now)) (time_replaced c.args.small c.args.large) (map binder_of bs.items)))
-    c.in_ok-binders-in-Exists.ensures c.in_ok-guard-in-Exists.ensures (c.in_ok-body-in-Exists.ensures ∙ ap (λ (f : Formula). changed d (formula_of f)) c.deref.ensures)
+    (ap (map binder_of) (c.in_ok-binders-in-Exists.ensures.items ∙ c.as_slice.ensures.value)) c.in_ok-guard-in-Exists.ensures (c.in_ok-body-in-Exists.ensures ∙ ap (λ (f : Formula). changed d (formula_of f)) c.deref.ensures)
     ∙ sym (ap (λ (f : Formula). changed d (formula_of f)) c.in-Exists.is ∙ ap (changed d) (some_shown bs guard body))
 
 pub Formula::changed-returns-in_ok-body-in-ForAll : goal.Formula::changed-returns-in_ok-body-in-ForAll
@@ -53,5 +53,5 @@ Formula::changed-returns-in_ok-body-in-ForAll t c =
     every_shown cs atoms made
     ∙ every_changed d (map binder_of bs.items) (map binder_of cs.items) (map atom_of guard.items) (map atom_of atoms.items) (formula_of body.value) (formula_of made.value) d
     (sym (under-free_change (bound_to (bindings c.args.subst.now)) (time_replaced c.args.small c.args.large) (map binder_of bs.items)))
-    c.in_ok-binders-in-ForAll.ensures c.in_ok-guard-in-ForAll.ensures (c.in_ok-body-in-ForAll.ensures ∙ ap (λ (f : Formula). changed d (formula_of f)) c.deref-in-ForAll.ensures)
+    (ap (map binder_of) (c.in_ok-binders-in-ForAll.ensures.items ∙ c.as_slice-in-ForAll.ensures.value)) c.in_ok-guard-in-ForAll.ensures (c.in_ok-body-in-ForAll.ensures ∙ ap (λ (f : Formula). changed d (formula_of f)) c.deref-in-ForAll.ensures)
     ∙ sym (ap (λ (f : Formula). changed d (formula_of f)) c.in-ForAll.is ∙ ap (changed d) (every_shown bs guard body))

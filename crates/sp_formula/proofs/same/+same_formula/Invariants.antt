@@ -1,6 +1,7 @@
 use Rattle.std.proofs.Common.{◌≡◌, length, map}
 use Rattle.std.specs.Slice.Iter.{iter_rest}
-use Rattle.sp_formula.specs.FormulaView.{guardeds_of, formula_of}
+use Rattle.sp_spec.specs.Guarded.{guardeds_of}
+use Rattle.sp_formula.specs.FormulaView.{formula_of}
 use Rattle.sp_spec.specs.SameFormula.{same_formulas}
 use Rattle.sp_formula.proofs.same.+same_formula.Given as goal
 

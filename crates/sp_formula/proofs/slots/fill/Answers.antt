@@ -32,10 +32,10 @@ returns-in-Some g c =
     kept_value (same_by m.test) (has_sort_by m.of_sort) c.args.beyond (view_by m.leaf_of c.args.term.now) (slot_by m.leaf_of) c.args.slots.now.items c.args.place s
     (omega (arith, c.if-index-len.false, c.len.ensures, c.args.slots.now.ok.0)) c.index-slot.ensures (view_by m.leaf_of c.in-Some.value) (let e = c.in-Some.is in cc) c.same.result c.same.ensures.tests
 
-pub returns-in_ok-copy-in-None : goal.returns-in_ok-copy-in-None
-returns-in_ok-copy-in-None g c =
+pub returns-in_ok-clone-in-None : goal.returns-in_ok-clone-in-None
+returns-in_ok-clone-in-None g c =
     let m = g.M.Leaf in
     let s = c.index-slot.result.now in
     new_value (same_by m.test) (has_sort_by m.of_sort) c.args.beyond (view_by m.leaf_of c.args.term.now) (slot_by m.leaf_of) c.args.slots.now.items c.args.place s _
     (omega (arith, c.if-index-len.false, c.len.ensures, c.args.slots.now.ok.0)) c.index-slot.ensures (let e = c.in-None.is in cc)
-    (sym c.has_sort.ensures ∙ c.if-not-has_sort.false) (ap (λ (t : Term m.Kind). slot (sort_of s.sort) (Some t)) c.in_ok-copy-in-None.ensures)
+    (sym c.has_sort.ensures ∙ c.if-not-has_sort.false) (ap (λ (t : Term m.Kind). slot (sort_of s.sort) (Some t)) c.in_ok-clone-in-None.ensures.cases)

@@ -1,5 +1,6 @@
 use Rattle.std.proofs.Common.{◌≡◌, drop, map}
-use Rattle.sp_formula.specs.FormulaView.{guardeds_of, formula_of}
+use Rattle.sp_spec.specs.Guarded.{guardeds_of}
+use Rattle.sp_formula.specs.FormulaView.{formula_of}
 use Rattle.sp_law_guard.specs.IsGuarded.{are_guarded}
 use Rattle.sp_guard.proofs.guarded.+guarded.Given as goal
 

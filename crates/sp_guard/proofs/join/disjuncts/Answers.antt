@@ -3,7 +3,7 @@ use Rattle.sp_formula.specs.FormulaView.{formula_of}
 use Rattle.sp_formula.specs.declared.formula.Formula.{Formula}
 use Rattle.sp_formula.proofs.Formulas.{one_shown}
 use Rattle.sp_law_guard.specs.GuardedForm.{disjuncts}
-use Rattle.sp_guard.proofs.Joining.{parts_so}
+use Rattle.sp_spec.proofs.Guardeds.{parts_so}
 use Rattle.sp_guard.proofs.join.disjuncts.Goals as goal
 
 pub returns-in-OneOf : goal.returns-in-OneOf

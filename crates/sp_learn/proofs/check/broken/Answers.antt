@@ -1,7 +1,7 @@
 use Rattle.std.proofs.Common.{[], ◌∷◌, ◌++◌, map, sym, ap, subst}
 use Rattle.std.proofs.lemmas.List.{append-nil}
 use Rattle.sp_spec.specs.Log as spec
-use Rattle.sp_ground.specs.View.{ground_of}
+use Rattle.sp_fact.specs.GroundView.{ground_of}
 use Rattle.sp_log.specs.View.{source_of}
 use Rattle.sp_learn.specs.View.{IsUsed, entry_of}
 use Rattle.sp_learn.proofs.Used.{used_more}

@@ -1,6 +1,6 @@
 use Rattle.std.proofs.Common.{map, sym}
 use Rattle.std.proofs.lemmas.List.{append-nil}
-use Rattle.sp_ground.specs.View.{ground_of}
+use Rattle.sp_fact.specs.GroundView.{ground_of}
 use Rattle.sp_log.specs.View as steps
 use Rattle.sp_learn.specs.View.{entry_of}
 use Rattle.sp_learn.proofs.Used.{used_more}

@@ -1,5 +1,5 @@
 use Rattle.std.proofs.Common.{◌≡◌, drop, map, take}
-use Rattle.sp_ground.specs.View.{signature_of}
+use Rattle.sp_fact.specs.GroundView.{signature_of}
 use Rattle.sp_book.specs.View.{rule_forms_of}
 use Rattle.sp_learn.specs.Checking.{check_of, check_behind}
 use Rattle.sp_learn.specs.View.{IsUsed, entry_of}

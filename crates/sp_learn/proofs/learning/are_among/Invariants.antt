@@ -1,5 +1,5 @@
 use Rattle.std.proofs.Common.{◌≡◌, drop, map}
-use Rattle.sp_ground.specs.View.{ground_of, grounds_of}
+use Rattle.sp_fact.specs.GroundView.{ground_of, grounds_of}
 use Rattle.sp_learn.specs.Learning as spec
 use Rattle.sp_learn.proofs.learning.are_among.Given as goal
 

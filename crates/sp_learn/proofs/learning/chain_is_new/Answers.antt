@@ -1,7 +1,7 @@
 use Rattle.std.proofs.Common.{List, take, map, sym, ap, ◌∙◌}
 use Rattle.std.proofs.lemmas.List.{take-map, take_min}
 use Rattle.sp_spec.specs.Term.{Ground}
-use Rattle.sp_ground.specs.View.{ground_of}
+use Rattle.sp_fact.specs.GroundView.{ground_of}
 use Rattle.sp_learn.specs.Learning as spec
 use Rattle.sp_learn.specs.View.{entry_of}
 use Rattle.sp_learn.specs.declared.log.Entry.{Entry}

@@ -2,8 +2,8 @@ use Rattle.std.proofs.Common.{◌≡◌, ℕ, Bool, ◌&&◌, ◌||◌, ◌==◌
 use Rattle.std.specs.Str.{bytes_eq}
 use Rattle.sp_term.specs.View.{name_of, never_of}
 use Rattle.sp_term.proofs.Lists.{count-view_all}
-use Rattle.sp_ground.specs.View.{ground_of, signature_of}
-use Rattle.sp_ground.proofs.Applied.{ground_app}
+use Rattle.sp_fact.specs.GroundView.{ground_of, signature_of}
+use Rattle.sp_fact.proofs.Applied.{ground_app}
 use Rattle.sp_norm.specs.Over.{any_public}
 use Rattle.sp_learn.specs.Learning as spec
 use Rattle.sp_learn.proofs.learning.is_made_alone.Goals as goal

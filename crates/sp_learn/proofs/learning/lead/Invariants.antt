@@ -1,7 +1,7 @@
 use Rattle.std.proofs.Common.{◌≡◌, drop, map}
-use Rattle.sp_ground.specs.View.{ground_of}
+use Rattle.sp_fact.specs.GroundView.{ground_of}
 use Rattle.sp_destruct.specs.View.{destruction_of}
-use Rattle.sp_link.specs.Links.{is_link}
+use Rattle.sp_destruct.specs.Links.{is_link}
 use Rattle.sp_learn.specs.Learning as spec
 use Rattle.sp_learn.proofs.learning.lead.Given as goal
 

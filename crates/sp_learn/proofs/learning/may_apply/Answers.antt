@@ -2,7 +2,7 @@ use Rattle.std.proofs.Common.{◌≡◌, Bool, true, false, ◌&&◌, length, ma
 use Rattle.sp_spec.specs.Term.{count}
 use Rattle.sp_term.specs.View.{name_of, never_of}
 use Rattle.sp_term.proofs.Lists.{count-view_all}
-use Rattle.sp_ground.specs.View.{ground_of, grounds_of, symbol_of}
+use Rattle.sp_fact.specs.GroundView.{ground_of, grounds_of, symbol_of}
 use Rattle.sp_norm.specs.Over.{any_public}
 use Rattle.sp_learn.specs.Learning as spec
 use Rattle.sp_learn.proofs.learning.may_apply.Goals as goal

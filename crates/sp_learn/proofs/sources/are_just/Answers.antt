@@ -4,7 +4,7 @@ use Rattle.sp_spec.specs.Term.{more, none, Ground}
 use Rattle.sp_spec.specs.Same.{same_term, same_terms}
 use Rattle.sp_term.specs.View.{Never}
 use Rattle.sp_term.specs.declared.term.Term.{Term}
-use Rattle.sp_ground.specs.View.{ground_of, grounds_of}
+use Rattle.sp_fact.specs.GroundView.{ground_of, grounds_of}
 use Rattle.sp_learn.proofs.sources.are_just.Goals as goal
 
 -- two terms and more are not one

@@ -1,7 +1,7 @@
 use Rattle.std.proofs.Common.{◌++◌, List, map, sym, ap, ◌∙◌}
 use Rattle.std.proofs.lemmas.List.{append-nil, at_drop_all}
 use Rattle.sp_learn.specs.declared.log.Entry.{Entry}
-use Rattle.sp_ground.specs.View.{ground_action}
+use Rattle.sp_fact.specs.GroundView.{ground_action}
 use Rattle.sp_spec.specs.Lists.{newest_first}
 use Rattle.sp_learn.specs.View.{entries_of, entry_of}
 use Rattle.sp_learn.proofs.Orders.{shown_in, visible_newest}

@@ -1,5 +1,5 @@
 use Rattle.std.proofs.Common.{◌≡◌, ◌++◌, drop, map}
-use Rattle.sp_ground.specs.View.{ground_action}
+use Rattle.sp_fact.specs.GroundView.{ground_action}
 use Rattle.sp_learn.specs.View.{entries_of, entry_of}
 use Rattle.sp_learn.proofs.Orders.{shown_in}
 use Rattle.sp_learn.proofs.trace.visible_trace.Given as goal

@@ -1,6 +1,6 @@
 use Rattle.std.proofs.Common.{◌≡◌, ◌++◌, drop, map}
 use Rattle.sp_spec.specs.Log.{entry_actions}
-use Rattle.sp_ground.specs.View.{ground_action}
+use Rattle.sp_fact.specs.GroundView.{ground_action}
 use Rattle.sp_learn.specs.View.{entries_of, entry_of}
 use Rattle.sp_learn.proofs.trace.whole_trace.Given as goal
 

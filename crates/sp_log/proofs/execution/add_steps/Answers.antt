@@ -2,9 +2,9 @@ use Rattle.std.proofs.Common.{[], map, unwrap_or, arith}
 use Rattle.std.proofs.lemmas.Grind.{common_steps}
 use Rattle.sp_spec.specs.Execution.{use_rule}
 use Rattle.sp_spec.specs.Log.{fresh_of}
-use Rattle.sp_law_found.specs.Found.{given_by}
+use Rattle.sp_law_log_steps.specs.Found.{given_by}
 use Rattle.sp_term.specs.View.{name_of}
-use Rattle.sp_ground.specs.View.{equation_of, ground_fact, ground_facts, step_of}
+use Rattle.sp_fact.specs.GroundView.{equation_of, ground_fact, ground_facts, step_of}
 use Rattle.sp_book.specs.View.{rule_forms_of}
 use Rattle.sp_log.proofs.Orders.{steps_added}
 use Rattle.sp_log.proofs.execution.add_steps.Goals as goal

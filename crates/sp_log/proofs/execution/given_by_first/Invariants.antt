@@ -1,7 +1,7 @@
 use Rattle.std.proofs.Common.{◌≡◌, drop, map}
-use Rattle.sp_ground.specs.View.{equation_of, ground_facts}
+use Rattle.sp_fact.specs.GroundView.{equation_of, ground_facts}
 use Rattle.sp_book.specs.View.{form_of, rule_forms_of}
-use Rattle.sp_law_found.specs.Found as spec
+use Rattle.sp_law_log_steps.specs.Found as spec
 use Rattle.sp_log.proofs.execution.given_by_first.Given as goal
 
 abbrev pub invariant-loop-form : goal.invariant-loop-form

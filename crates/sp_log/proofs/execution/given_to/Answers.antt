@@ -3,7 +3,7 @@ use Rattle.std.proofs.lemmas.List.{append-nil}
 use Rattle.std.proofs.lemmas.Slice.Zip.{either_empty_from_Zip}
 use Rattle.std.specs.Slice.Iter.{iter_rest}
 use Rattle.sp_spec.specs.Term.{Ground}
-use Rattle.sp_ground.specs.View.{given_of, grounds_of}
+use Rattle.sp_fact.specs.GroundView.{given_of, grounds_of}
 use Rattle.sp_fact.specs.View.{declared_of}
 use Rattle.sp_log.proofs.Uneven.{none_given}
 use Rattle.sp_log.proofs.execution.given_to.Goals as goal

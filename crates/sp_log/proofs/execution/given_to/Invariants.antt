@@ -1,7 +1,7 @@
 use Rattle.std.proofs.Common.{◌≡◌, ◌++◌, map}
 use Rattle.std.specs.Slice.Iter.{iter_rest}
-use Rattle.sp_law_found.specs.Found as spec
-use Rattle.sp_ground.specs.View.{given_of, grounds_of}
+use Rattle.sp_law_log_steps.specs.Found as spec
+use Rattle.sp_fact.specs.GroundView.{given_of, grounds_of}
 use Rattle.sp_fact.specs.View.{declared_of}
 use Rattle.sp_log.proofs.execution.given_to.Given as goal
 

@@ -1,6 +1,6 @@
 use Rattle.std.proofs.Common.{◌≡◌, ◌++◌, drop, map}
 use Rattle.sp_spec.specs.Execution.{make_fresh}
-use Rattle.sp_ground.specs.View.{ground_of, step_of}
+use Rattle.sp_fact.specs.GroundView.{ground_of, step_of}
 use Rattle.sp_log.proofs.execution.make_names.Given as goal
 
 abbrev pub invariant-loop-name : goal.invariant-loop-name

@@ -1,6 +1,6 @@
 use Rattle.std.proofs.Common.{sym, ◌∙◌, map, arith}
 use Rattle.sp_fact.specs.View.{action_of}
-use Rattle.sp_ground.specs.View.{ground_action}
+use Rattle.sp_fact.specs.GroundView.{ground_action}
 use Rattle.sp_log.proofs.Uneven.{uneven_actions}
 use Rattle.sp_spec.proofs.Lists.{length_map}
 use Rattle.sp_log.proofs.instance.alike_actions.Goals as goal

@@ -1,6 +1,6 @@
 use Rattle.std.proofs.Common.{sym, ◌∙◌, map, arith}
 use Rattle.sp_fact.specs.View.{fact_of}
-use Rattle.sp_ground.specs.View.{ground_fact}
+use Rattle.sp_fact.specs.GroundView.{ground_fact}
 use Rattle.sp_log.proofs.Uneven.{uneven_facts}
 use Rattle.sp_spec.proofs.Lists.{length_map}
 use Rattle.sp_log.proofs.instance.alike_facts.Goals as goal

@@ -1,5 +1,5 @@
 use Rattle.std.proofs.Common.{◌≡◌, drop, map}
-use Rattle.sp_ground.specs.View.{signature_of}
+use Rattle.sp_fact.specs.GroundView.{signature_of}
 use Rattle.sp_norm.specs.Bounds.{bounds, bound_of}
 use Rattle.sp_log.specs.Checking.{are_values}
 use Rattle.sp_log.proofs.instance.are_values.Given as goal

@@ -1,6 +1,6 @@
 use Rattle.std.proofs.Common.{sym, ◌∙◌, map, arith}
 use Rattle.sp_fact.specs.View.{action_of}
-use Rattle.sp_ground.specs.View.{ground_action}
+use Rattle.sp_fact.specs.GroundView.{ground_action}
 use Rattle.sp_norm.specs.Bounds.{bounds}
 use Rattle.sp_log.proofs.Uneven.{uneven_matched_actions}
 use Rattle.sp_spec.proofs.Lists.{length_map}

@@ -1,8 +1,8 @@
 use Rattle.std.proofs.Common.{◌≡◌, length, map}
 use Rattle.std.specs.Slice.Iter.{iter_rest}
 use Rattle.sp_fact.specs.View.{action_of}
-use Rattle.sp_ground.specs.View.{ground_action}
-use Rattle.sp_law_found.specs.Found.{matched_actions}
+use Rattle.sp_fact.specs.GroundView.{ground_action}
+use Rattle.sp_law_log_steps.specs.Found.{matched_actions}
 use Rattle.sp_norm.specs.Bounds.{bounds}
 use Rattle.sp_log.proofs.instance.extend_actions.Given as goal
 

@@ -1,8 +1,8 @@
 use Rattle.std.proofs.Common.{◌≡◌, length, map}
 use Rattle.std.specs.Slice.Iter.{iter_rest}
 use Rattle.sp_fact.specs.View.{fact_of}
-use Rattle.sp_ground.specs.View.{ground_fact}
-use Rattle.sp_law_found.specs.Found.{matched_facts}
+use Rattle.sp_fact.specs.GroundView.{ground_fact}
+use Rattle.sp_law_log_steps.specs.Found.{matched_facts}
 use Rattle.sp_norm.specs.Bounds.{bounds}
 use Rattle.sp_log.proofs.instance.extend_facts.Given as goal
 

@@ -1,6 +1,6 @@
 use Rattle.std.proofs.Common.{◌≡◌, drop, map}
 use Rattle.sp_term.specs.View.{name_of}
-use Rattle.sp_ground.specs.View.{ground_facts, signature_of}
+use Rattle.sp_fact.specs.GroundView.{ground_facts, signature_of}
 use Rattle.sp_book.specs.View.{rule_forms_of}
 use Rattle.sp_log.specs.Checking.{is_instance_of_any}
 use Rattle.sp_log.proofs.instance.is_instance_of_any.Given as goal

@@ -1,6 +1,6 @@
 use Rattle.std.proofs.Common.{◌≡◌, List, drop, map}
 use Rattle.std.specs.List.{list_any}
-use Rattle.sp_ground.specs.View.{signature_of, ground_facts}
+use Rattle.sp_fact.specs.GroundView.{signature_of, ground_facts}
 use Rattle.sp_spec_forms.specs.Numbering.{Form}
 use Rattle.sp_book.specs.View.{form_of}
 use Rattle.sp_log.specs.Checking.{is_instance}

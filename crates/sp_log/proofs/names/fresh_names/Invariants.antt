@@ -1,6 +1,6 @@
 use Rattle.std.proofs.Common.{◌≡◌, ◌++◌, drop, map}
 use Rattle.sp_spec.specs.Log.{fresh_of}
-use Rattle.sp_ground.specs.View.{ground_fact, ground_of}
+use Rattle.sp_fact.specs.GroundView.{ground_fact, ground_of}
 use Rattle.sp_log.proofs.names.fresh_names.Given as goal
 
 abbrev pub invariant-loop-premise : goal.invariant-loop-premise

@@ -1,6 +1,6 @@
 use Rattle.std.proofs.Common.{◌≡◌, drop, map}
 use Rattle.sp_spec.specs.Same.{same_term}
-use Rattle.sp_ground.specs.View.{ground_of}
+use Rattle.sp_fact.specs.GroundView.{ground_of}
 use Rattle.sp_log.specs.Checking.{is_one_of}
 use Rattle.sp_log.proofs.names.is_one_of.Given as goal
 

@@ -1,6 +1,6 @@
 use Rattle.std.proofs.Common.{◌≡◌, drop, map}
 use Rattle.std.specs.List.{list_all}
-use Rattle.sp_ground.specs.View.{equation_of, ground_fact}
+use Rattle.sp_fact.specs.GroundView.{equation_of, ground_fact}
 use Rattle.sp_log.specs.Checking.{stay}
 use Rattle.sp_log.proofs.normal_form.facts_stay.Given as goal
 

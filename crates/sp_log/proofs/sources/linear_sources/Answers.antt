@@ -3,7 +3,7 @@ use Rattle.std.proofs.lemmas.List.{append-nil}
 use Rattle.std.proofs.lemmas.Slice.Zip.{either_empty_from_Zip}
 use Rattle.std.specs.Slice.Iter.{iter_rest}
 use Rattle.sp_spec.specs.Log as spec
-use Rattle.sp_ground.specs.View.{ground_fact}
+use Rattle.sp_fact.specs.GroundView.{ground_fact}
 use Rattle.sp_log.specs.View.{source_of}
 use Rattle.sp_log.proofs.Uneven.{no_sources}
 use Rattle.sp_log.proofs.sources.linear_sources.Goals as goal

@@ -1,7 +1,7 @@
 use Rattle.std.proofs.Common.{◌≡◌, ◌++◌, map}
 use Rattle.std.specs.Slice.Iter.{iter_rest}
 use Rattle.sp_spec.specs.Log.{linear_sources}
-use Rattle.sp_ground.specs.View.{ground_fact}
+use Rattle.sp_fact.specs.GroundView.{ground_fact}
 use Rattle.sp_log.specs.View.{source_of}
 use Rattle.sp_log.proofs.sources.linear_sources.Given as goal
 

@@ -1,5 +1,5 @@
 use Rattle.std.proofs.Common.{map, option_map, sym, ap, ◌∙◌}
-use Rattle.sp_ground.specs.View.{symbol_of}
+use Rattle.sp_fact.specs.GroundView.{symbol_of}
 use Rattle.sp_system.specs.SystemView.{system_of}
 use Rattle.sp_moves_formula.specs.View.{case_of, move_of}
 use Rattle.sp_moves_formula.specs.Applied.{clause_of}

@@ -18,5 +18,5 @@ returns c =
     (bindings c.in-Some.subst)
     (ap (option_map bindings) (sym c.in-Some.is) ∙ c.in_ok-subst.ensures)
     (c.in_ok-ended.ensures
-    ∙ ap (with_way s i) (ap (λ (p : ℕ × ℕ × List (Term Variable)). chain_done p.0 p.1 p.2) c.in_ok-copy.ensures))
+    ∙ ap (with_way s i) (ap (λ (p : ℕ × ℕ × List (Term Variable)). chain_done p.0 p.1 p.2) c.in_ok-clone.ensures.cases))
     c.in_ok-made.ensures

@@ -2,7 +2,7 @@ use Rattle.std.proofs.Common.{map, sym, ap, ◌∙◌}
 use Rattle.sp_spec.specs.Destruction.{is_public}
 use Rattle.sp_term.specs.View.{name_of, variable_of}
 use Rattle.sp_term.proofs.Lists.{count-view_all}
-use Rattle.sp_ground.specs.View.{symbol_of}
+use Rattle.sp_fact.specs.GroundView.{symbol_of}
 use Rattle.sp_moves_know.proofs.know.is_public_over.Goals as goal
 
 pub returns : goal.returns

@@ -1,6 +1,6 @@
 use Rattle.std.proofs.Common.{◌≡◌, take, map}
 use Rattle.sp_law_equal.specs.Normal.{normal}
-use Rattle.sp_ground.specs.View.{equation_of, ground_of}
+use Rattle.sp_fact.specs.GroundView.{equation_of, ground_of}
 use Rattle.sp_norm.proofs.normal.+normal.Given as goal
 
 abbrev pub invariant-normal_all-loop-term : goal.invariant-normal_all-loop-term

@@ -1,6 +1,6 @@
 use Rattle.std.proofs.Common.{◌≡◌, take, map}
 use Rattle.sp_law_equal.specs.Normal.{normal_fact}
-use Rattle.sp_ground.specs.View.{equation_of, ground_fact}
+use Rattle.sp_fact.specs.GroundView.{equation_of, ground_fact}
 use Rattle.sp_norm.proofs.normal.each_normal_fact.Given as goal
 
 abbrev pub invariant-loop-fact : goal.invariant-loop-fact

@@ -1,6 +1,6 @@
 use Rattle.std.proofs.Common.{◌≡◌, drop, map}
 use Rattle.sp_law_equal.specs.Normal.{reduced}
-use Rattle.sp_ground.specs.View.{equation_of, ground_of}
+use Rattle.sp_fact.specs.GroundView.{equation_of, ground_of}
 use Rattle.sp_norm.proofs.normal.reduced.Given as goal
 
 abbrev pub invariant-loop-equation : goal.invariant-loop-equation

@@ -1,7 +1,7 @@
 use Rattle.std.proofs.Common.{map, arith, sym, ap, ◌∙◌}
 use Rattle.sp_term.specs.View.{name_of}
-use Rattle.sp_ground.specs.View.{symbol_of, ground_of, grounds_of}
-use Rattle.sp_ground.proofs.Applied.{ground_app}
+use Rattle.sp_fact.specs.GroundView.{symbol_of, ground_of, grounds_of}
+use Rattle.sp_fact.proofs.Applied.{ground_app}
 use Rattle.sp_norm.specs.Over.{over, all_over}
 use Rattle.sp_norm.proofs.Symbols.{over_by_arguments, over_without_symbol}
 use Rattle.sp_norm.proofs.over.+over.Goals as goal

@@ -1,5 +1,5 @@
 use Rattle.std.proofs.Common.{◌≡◌, drop, map}
-use Rattle.sp_ground.specs.View.{grounds_of, symbol_of}
+use Rattle.sp_fact.specs.GroundView.{grounds_of, symbol_of}
 use Rattle.sp_norm.specs.Over.{all_over}
 use Rattle.sp_norm.proofs.over.+over.Given as goal
 

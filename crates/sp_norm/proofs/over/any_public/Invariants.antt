@@ -1,6 +1,6 @@
 use Rattle.std.proofs.Common.{◌≡◌, drop, map}
 use Rattle.sp_term.specs.View.{name_of}
-use Rattle.sp_ground.specs.View.{symbol_of}
+use Rattle.sp_fact.specs.GroundView.{symbol_of}
 use Rattle.sp_norm.specs.Over.{any_public}
 use Rattle.sp_norm.proofs.over.any_public.Given as goal
 

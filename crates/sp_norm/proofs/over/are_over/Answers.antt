@@ -1,5 +1,5 @@
 use Rattle.std.proofs.Common.{◌∙◌, sym, map}
-use Rattle.sp_ground.specs.View.{grounds_of, symbol_of}
+use Rattle.sp_fact.specs.GroundView.{grounds_of, symbol_of}
 use Rattle.sp_norm.proofs.Symbols.{all_over_decides}
 use Rattle.sp_norm.proofs.over.are_over.Goals as goal
 

@@ -1,6 +1,6 @@
 use Rattle.std.proofs.Common.{◌∙◌, sym, map}
 use Rattle.sp_term.specs.View.{name_of}
-use Rattle.sp_ground.specs.View.{symbol_of}
+use Rattle.sp_fact.specs.GroundView.{symbol_of}
 use Rattle.sp_norm.proofs.Symbols.{any_public_decides}
 use Rattle.sp_norm.proofs.over.has_public.Goals as goal
 

@@ -1,5 +1,5 @@
 use Rattle.std.proofs.Common.{◌∙◌, sym, map}
-use Rattle.sp_ground.specs.View.{ground_of, symbol_of}
+use Rattle.sp_fact.specs.GroundView.{ground_of, symbol_of}
 use Rattle.sp_norm.proofs.Symbols.{over_decides}
 use Rattle.sp_norm.proofs.over.is_over.Goals as goal
 

@@ -1,5 +1,5 @@
 use Rattle.std.proofs.Common.{◌≡◌, take, map}
-use Rattle.sp_ground.specs.View.{equation_of, given_of}
+use Rattle.sp_fact.specs.GroundView.{equation_of, given_of}
 use Rattle.sp_law_run.specs.NormalStep.{normal_given}
 use Rattle.sp_norm.proofs.step.each_normal_given.Given as goal
 

@@ -1,6 +1,7 @@
 use Rattle.std.proofs.Common.{◌≡◌, take, map}
 use Rattle.sp_read_parts.specs.Views as written
-use Rattle.sp_pose.specs.Numbering.{declared_in, texts_of}
+use Rattle.sp_declared.specs.View.{texts_of}
+use Rattle.sp_pose.specs.Numbering.{declared_in}
 use Rattle.sp_fact.specs.View.{declared_of}
 use Rattle.sp_pose.proofs.numbering.declared.Given as goal
 

@@ -2,7 +2,7 @@ use Rattle.std.proofs.Common.{map}
 use Rattle.sp_term.specs.View.{name_of}
 use Rattle.sp_read_parts.specs.Views as view
 use Rattle.sp_fact.specs.View.{declared_of, facts_of}
-use Rattle.sp_pose.specs.Numbering.{texts_of}
+use Rattle.sp_declared.specs.View.{texts_of}
 use Rattle.sp_pose.proofs.NumberedFacts.{numbered_rule}
 use Rattle.sp_pose.proofs.numbering.numbered.Goals as goal
 

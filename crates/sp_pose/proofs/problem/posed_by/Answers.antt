@@ -1,5 +1,5 @@
 use Rattle.std.proofs.Common.{◌≡◌, [], map}
-use Rattle.sp_ground.specs.View.{symbol_of, signature_of}
+use Rattle.sp_fact.specs.GroundView.{symbol_of, signature_of}
 use Rattle.sp_declared.specs.NumberedView.{numbered_of}
 use Rattle.sp_written.specs.Views as view
 use Rattle.sp_pose.proofs.Posed.{no_lines, some_lines, reported, poses, report_on, resolved_same, signature_same, forms_there, made}

@@ -6,9 +6,6 @@ use Rattle.sp_read_parts.specs.Views.{seen_from}
 use Rattle.sp_read_parts.proofs.Loops.{Going}
 use Rattle.sp_read_parts.proofs.terms.+terms.Given as goal
 
-abbrev pub decreases-term_list : goal.decreases-term_list
-decreases-term_list l = 8 * (128 - l.nesting) + 4
-
 abbrev pub decreases-terms : goal.decreases-terms
 decreases-terms l = 8 * (128 - l.nesting) + 3
 
@@ -20,9 +17,6 @@ decreases-term l = 8 * (128 - l.nesting) + 2
 
 abbrev pub decreases-bracketed : goal.decreases-bracketed
 decreases-bracketed l = 8 * (128 - l.nesting)
-
-abbrev pub decreases-angled : goal.decreases-angled
-decreases-angled l = 8 * (128 - l.nesting)
 
 abbrev pub decreases-applied : goal.decreases-applied
 decreases-applied l = 8 * (128 - l.nesting)

@@ -1,5 +1,5 @@
 use Rattle.std.proofs.Common.{map, ap, ◌∙◌}
-use Rattle.sp_ground.specs.View.{ground_of, step_of}
+use Rattle.sp_fact.specs.GroundView.{ground_of, step_of}
 use Rattle.sp_read_steps.specs.Reading.{unpaired}
 use Rattle.sp_read_steps.specs.View.{symbols_of}
 use Rattle.sp_read_steps.proofs.Exits.{application_of_row}

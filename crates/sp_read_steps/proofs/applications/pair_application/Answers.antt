@@ -1,5 +1,5 @@
 use Rattle.std.proofs.Common.{◌∷◌, map, refl}
-use Rattle.sp_ground.specs.View.{ground_of, step_of}
+use Rattle.sp_fact.specs.GroundView.{ground_of, step_of}
 use Rattle.sp_read_steps.specs.View.{symbols_of}
 use Rattle.sp_read_steps.proofs.Exits.{pair_of_row}
 use Rattle.sp_read_steps.proofs.applications.pair_application.Goals as goal

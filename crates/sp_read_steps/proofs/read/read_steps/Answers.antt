@@ -1,6 +1,6 @@
 use Rattle.std.proofs.Common.{arith, map}
 use Rattle.std.specs.Prelude.{option_map}
-use Rattle.sp_ground.specs.View.{step_of}
+use Rattle.sp_fact.specs.GroundView.{step_of}
 use Rattle.sp_read_steps.proofs.Passed.{unread_line, more_lines, last_line}
 use Rattle.sp_read_steps.proofs.read.read_steps.Goals as goal
 

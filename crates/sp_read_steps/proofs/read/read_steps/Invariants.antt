@@ -1,5 +1,5 @@
 use Rattle.std.proofs.Common.{◌+◌, ◌≤◌, length, map}
-use Rattle.sp_ground.specs.View.{symbol_of, step_of}
+use Rattle.sp_fact.specs.GroundView.{symbol_of, step_of}
 use Rattle.sp_spec_text.specs.Blanks.{lines}
 use Rattle.sp_read_steps.proofs.Passed.{Passed}
 use Rattle.sp_read_steps.proofs.read.read_steps.Given as goal

@@ -1,4 +1,4 @@
-use Rattle.sp_ground.specs.View.{step_of}
+use Rattle.sp_fact.specs.GroundView.{step_of}
 use Rattle.sp_read_steps.specs.Reading.{read_term}
 use Rattle.sp_read_steps.specs.View.{symbols_of}
 use Rattle.sp_read_steps.proofs.Exits.{rule_step, application_step}

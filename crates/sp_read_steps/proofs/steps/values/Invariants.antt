@@ -1,5 +1,5 @@
 use Rattle.std.proofs.Common.{length, map}
-use Rattle.sp_ground.specs.View.{given_of}
+use Rattle.sp_fact.specs.GroundView.{given_of}
 use Rattle.sp_read_steps.specs.Reading.{ReadsValues}
 use Rattle.sp_read_steps.specs.View.{symbols_of}
 use Rattle.sp_read_steps.proofs.Going.{Going}

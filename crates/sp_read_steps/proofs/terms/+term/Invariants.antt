@@ -1,5 +1,5 @@
 use Rattle.std.proofs.Common.{◌+◌, ◌*◌, ◌≤◌, length, map}
-use Rattle.sp_ground.specs.View.{ground_of}
+use Rattle.sp_fact.specs.GroundView.{ground_of}
 use Rattle.sp_read_steps.specs.Reading.{ReadsRow}
 use Rattle.sp_read_steps.specs.View.{symbols_of}
 use Rattle.sp_read_steps.proofs.Going.{Going}

@@ -1,7 +1,7 @@
 use Rattle.std.proofs.Common.{◌≡◌, List, map, Some, sym, ap, ◌∙◌}
 use Rattle.sp_spec.specs.Term.{Ground}
 use Rattle.sp_spec.specs.Signature.{pair}
-use Rattle.sp_ground.specs.View.{ground_of}
+use Rattle.sp_fact.specs.GroundView.{ground_of}
 use Rattle.sp_read_steps.specs.Reading.{chain}
 use Rattle.sp_read_steps.proofs.Pairs.{onto, onto_last, chain_pair, chain_last}
 use Rattle.sp_read_steps.proofs.terms.chain.Goals as goal

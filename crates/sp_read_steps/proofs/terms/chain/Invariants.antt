@@ -1,5 +1,5 @@
 use Rattle.std.proofs.Common.{◌≡◌, length, map, Some}
-use Rattle.sp_ground.specs.View.{ground_of}
+use Rattle.sp_fact.specs.GroundView.{ground_of}
 use Rattle.sp_read_steps.specs.Reading.{chain}
 use Rattle.sp_read_steps.proofs.Pairs.{onto}
 use Rattle.sp_read_steps.proofs.terms.chain.Given as goal

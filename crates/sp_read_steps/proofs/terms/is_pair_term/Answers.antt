@@ -2,8 +2,8 @@ use Rattle.std.proofs.Common.{List, ℕ, Vec, Global, sym, ap, ◌∙◌}
 use Rattle.sp_spec_text.specs.Printed.{is_pair}
 use Rattle.sp_term.specs.View.{name_of, Never}
 use Rattle.sp_term.specs.declared.term.Term.{Term}
-use Rattle.sp_ground.specs.View.{ground_of, grounds_of}
-use Rattle.sp_ground.proofs.Applied.{ground_app}
+use Rattle.sp_fact.specs.GroundView.{ground_of, grounds_of}
+use Rattle.sp_fact.proofs.Applied.{ground_app}
 use Rattle.sp_read_steps.specs.Reading.{is_pair_term}
 use Rattle.sp_read_steps.proofs.terms.is_pair_term.Goals as goal
 

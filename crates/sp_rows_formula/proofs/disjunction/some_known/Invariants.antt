@@ -1,5 +1,6 @@
 use Rattle.std.proofs.Common.{◌≡◌, map, drop}
-use Rattle.sp_formula.specs.FormulaView.{formula_of, guardeds_of}
+use Rattle.sp_spec.specs.Guarded.{guardeds_of}
+use Rattle.sp_formula.specs.FormulaView.{formula_of}
 use Rattle.sp_system.specs.SystemView.{system_of}
 use Rattle.sp_spec_formula.specs.Disjunction as rows
 use Rattle.sp_rows_formula.proofs.disjunction.some_known.Given as goal

@@ -1,5 +1,5 @@
 use Rattle.std.proofs.Common.{◌≡◌, map, drop}
-use Rattle.sp_ground.specs.View.{equation_of}
+use Rattle.sp_fact.specs.GroundView.{equation_of}
 use Rattle.sp_system.specs.SystemView.{event_of}
 use Rattle.sp_spec_graph.specs.ReducibleEvent as rows
 use Rattle.sp_rows_graph.proofs.reducible.has_reducible.Given as goal

@@ -1,5 +1,5 @@
 use Rattle.std.proofs.Common.{◌≡◌, map, drop}
-use Rattle.sp_ground.specs.View.{symbol_of}
+use Rattle.sp_fact.specs.GroundView.{symbol_of}
 use Rattle.sp_system.specs.SystemView.{event_of}
 use Rattle.sp_spec_graph.specs.SettleLearn as rows
 use Rattle.sp_spec_system.specs.Picked.{first_some}

@@ -2,7 +2,7 @@ use Rattle.std.proofs.Common.{map, sym, ◌∙◌, true≢false, arith}
 use Rattle.std.specs.Vec.{vec_len}
 use Rattle.std.proofs.lemmas.Bool.{eq-eqb}
 use Rattle.sp_term.specs.View.{name_of}
-use Rattle.sp_ground.specs.View.{symbol_of}
+use Rattle.sp_fact.specs.GroundView.{symbol_of}
 use Rattle.sp_rows_graph.proofs.Counts.{neither}
 use Rattle.sp_rows_graph.proofs.settle_learn.of_application.Goals as goal
 

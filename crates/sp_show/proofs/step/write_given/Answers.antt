@@ -1,6 +1,6 @@
 use Rattle.std.proofs.Common.{◌≡◌, ℕ, List, ◌++◌, true, map, ap, ◌∙◌, string_bytes, arith}
 use Rattle.std.proofs.lemmas.Grind.{common_steps}
-use Rattle.sp_ground.specs.View.{given_of}
+use Rattle.sp_fact.specs.GroundView.{given_of}
 use Rattle.sp_show.specs.Runs.{given_run}
 use Rattle.sp_show.proofs.Texts.{all_given_run}
 use Rattle.sp_show.proofs.step.write_given.Goals as goal

@@ -1,6 +1,6 @@
 use Rattle.std.proofs.Common.{◌≡◌, ◌++◌, true, drop, map, string_bytes}
 use Rattle.sp_spec.specs.Lists.{Every}
-use Rattle.sp_ground.specs.View.{given_of}
+use Rattle.sp_fact.specs.GroundView.{given_of}
 use Rattle.sp_show.specs.Numbers.{HasNames, numbered_names}
 use Rattle.sp_show.specs.Runs.{given_run}
 use Rattle.sp_show.proofs.step.write_given.Given as goal

@@ -2,9 +2,9 @@ use Rattle.std.proofs.Common.{◌++◌, sym, ap, subst, ◌∙◌, string_bytes}
 use Rattle.std.proofs.lemmas.Result.{on_ok_weaker}
 use Rattle.sp_spec.specs.Term.{Ground, app}
 use Rattle.sp_term.specs.View.{name_of}
-use Rattle.sp_ground.specs.View.{ground_of, grounds_of}
+use Rattle.sp_fact.specs.GroundView.{ground_of, grounds_of}
 use Rattle.sp_spec_text.specs.Printed.{text_at}
-use Rattle.sp_ground.proofs.Applied.{ground_app}
+use Rattle.sp_fact.proofs.Applied.{ground_app}
 use Rattle.sp_show.specs.Numbers.{HasNames, numbered_names}
 use Rattle.sp_show.proofs.Texts.{written_application}
 use Rattle.sp_show.proofs.term.+text.Goals as goal

@@ -1,5 +1,5 @@
 use Rattle.std.proofs.Common.{◌≡◌, ◌++◌, true, drop, string_bytes}
-use Rattle.sp_ground.specs.View.{grounds_of}
+use Rattle.sp_fact.specs.GroundView.{grounds_of}
 use Rattle.sp_show.specs.Numbers.{HaveNames, numbered_names}
 use Rattle.sp_show.specs.Runs.{terms_run}
 use Rattle.sp_show.proofs.term.+text.Given as goal

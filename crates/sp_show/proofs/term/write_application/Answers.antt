@@ -1,7 +1,7 @@
 use Rattle.std.proofs.Common.{false, string_bytes}
 use Rattle.std.proofs.lemmas.Result.{on_ok_weaker}
 use Rattle.sp_term.specs.View.{name_of}
-use Rattle.sp_ground.specs.View.{grounds_of}
+use Rattle.sp_fact.specs.GroundView.{grounds_of}
 use Rattle.sp_show.proofs.Texts.{written_application}
 use Rattle.sp_show.proofs.term.write_application.Goals as goal
 

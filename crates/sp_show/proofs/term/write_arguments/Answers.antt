@@ -1,6 +1,6 @@
 use Rattle.std.proofs.Common.{ℕ, List, ◌++◌, ap, ◌∙◌, string_bytes}
 use Rattle.std.proofs.lemmas.Result.{on_ok_weaker}
-use Rattle.sp_ground.specs.View.{grounds_of}
+use Rattle.sp_fact.specs.GroundView.{grounds_of}
 use Rattle.sp_show.proofs.Texts.{arguments_run}
 use Rattle.sp_show.proofs.term.write_arguments.Goals as goal
 

@@ -1,6 +1,6 @@
 use Rattle.std.proofs.Common.{◌≡◌, ℕ, List, ◌++◌, true, map, ap, ◌∙◌, string_bytes, arith}
 use Rattle.std.proofs.lemmas.Grind.{common_steps}
-use Rattle.sp_ground.specs.View.{ground_action}
+use Rattle.sp_fact.specs.GroundView.{ground_action}
 use Rattle.sp_show.specs.Runs.{actions_run}
 use Rattle.sp_show.proofs.Texts.{entry_run}
 use Rattle.sp_show.proofs.trace.write_entry.Goals as goal

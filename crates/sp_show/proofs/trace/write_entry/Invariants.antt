@@ -1,5 +1,5 @@
 use Rattle.std.proofs.Common.{◌≡◌, ◌++◌, true, drop, map, string_bytes}
-use Rattle.sp_ground.specs.View.{ground_action}
+use Rattle.sp_fact.specs.GroundView.{ground_action}
 use Rattle.sp_show.specs.Runs.{actions_run}
 use Rattle.sp_show.proofs.trace.write_entry.Given as goal
 

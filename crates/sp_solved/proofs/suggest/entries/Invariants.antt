@@ -5,7 +5,7 @@ use Rattle.sp_system.specs.SystemView.{link_of}
 use Rattle.sp_learn.specs.View.{entry_of}
 use Rattle.sp_solved.specs.Candidate.{entries_of}
 use Rattle.sp_solved.specs.ListingView.{events_of}
-use Rattle.sp_solved.proofs.Firsts.{behind}
+use Rattle.sp_spec.proofs.Options.{behind}
 use Rattle.sp_solved.proofs.suggest.entries.Given as goal
 
 abbrev pub invariant-loop-event : goal.invariant-loop-event

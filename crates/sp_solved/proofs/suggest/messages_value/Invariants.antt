@@ -1,7 +1,7 @@
 use Rattle.std.proofs.Common.{◌≡◌, take, map}
 use Rattle.sp_spec.specs.Term.{valued}
 use Rattle.sp_term.specs.View.{view}
-use Rattle.sp_ground.specs.View.{ground_of}
+use Rattle.sp_fact.specs.GroundView.{ground_of}
 use Rattle.sp_law_equal.specs.Matching.{value_in}
 use Rattle.sp_norm.specs.Bounds.{bounds}
 use Rattle.sp_solved.proofs.suggest.messages_value.Given as goal

@@ -4,7 +4,7 @@ use Rattle.sp_system.specs.SystemView.{link_of}
 use Rattle.sp_log.specs.View.{source_of}
 use Rattle.sp_solved.specs.Candidate.{sources_from}
 use Rattle.sp_solved.specs.ListingView.{events_of}
-use Rattle.sp_solved.proofs.Firsts.{behind}
+use Rattle.sp_spec.proofs.Options.{behind}
 use Rattle.sp_solved.proofs.suggest.sources.Given as goal
 
 abbrev pub invariant-loop-premise : goal.invariant-loop-premise

@@ -14,4 +14,4 @@ pub returns : goal.returns
 returns c =
     let tried : Option spec.System = by_rows (rules_of c.args.rules.now) rows (system_of c.in_ok-tried.tried) in
     c.is_some.ensures ∙ told (is_some c.in_ok-row.row) (system_of c.in_ok-tried.tried) (system_of c.by_rows.new.system) tried c.in_ok-row.ensures.does
-    ∙ ap (λ (s : spec.System). is_some (by_rows (rules_of c.args.rules.now) rows s)) c.in_ok-tried.ensures
+    ∙ ap (λ (s : spec.System). is_some (by_rows (rules_of c.args.rules.now) rows s)) c.in_ok-tried.ensures.cases

@@ -2,8 +2,8 @@ use Rattle.std.proofs.Common.{◌∙◌, ◌+◌, ◌++◌, List, drop, map, sym
 use Rattle.sp_spec.specs.Lists.{newest_first}
 use Rattle.sp_spec.specs.Execution.{Step}
 use Rattle.sp_spec.proofs.Lists.{next_item}
-use Rattle.sp_ground.specs.View.{ground_of, step_of}
-use Rattle.sp_law_executed.specs.Executed.{chain_steps}
+use Rattle.sp_fact.specs.GroundView.{ground_of, step_of}
+use Rattle.sp_law_log_execution.specs.Executed.{chain_steps}
 use Rattle.sp_transfer.specs.Executing.{linking_in}
 use Rattle.sp_transfer.proofs.Executing.{chain_more}
 use Rattle.sp_transfer.proofs.chain.add_chain.Goals as goal

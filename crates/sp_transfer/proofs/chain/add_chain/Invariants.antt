@@ -1,7 +1,7 @@
 use Rattle.std.proofs.Common.{◌≡◌, ◌++◌, drop, map}
 use Rattle.sp_spec.specs.Lists.{newest_first}
-use Rattle.sp_ground.specs.View.{ground_of, step_of}
-use Rattle.sp_law_executed.specs.Executed as spec
+use Rattle.sp_fact.specs.GroundView.{ground_of, step_of}
+use Rattle.sp_law_log_execution.specs.Executed as spec
 use Rattle.sp_transfer.specs.Executing.{linking_in}
 use Rattle.sp_transfer.proofs.chain.add_chain.Given as goal
 

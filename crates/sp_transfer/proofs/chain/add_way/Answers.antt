@@ -1,8 +1,8 @@
 use Rattle.std.proofs.Common.{◌∙◌, ◌++◌, map, ap, sym}
 use Rattle.std.proofs.lemmas.List.{append-nil}
 use Rattle.sp_spec.specs.Lists.{newest_first}
-use Rattle.sp_law_executed.specs.Executed as spec
-use Rattle.sp_ground.specs.View.{ground_of, step_of}
+use Rattle.sp_law_log_execution.specs.Executed as spec
+use Rattle.sp_fact.specs.GroundView.{ground_of, step_of}
 use Rattle.sp_transfer.specs.Executing.{levels_of}
 use Rattle.sp_transfer.proofs.Executing.{is_absent, way_absent}
 use Rattle.sp_transfer.proofs.chain.add_way.Goals as goal

@@ -1,11 +1,11 @@
 use Rattle.std.proofs.Common.{◌∙◌, ◌++◌, ◌+◌, map, drop, slice_index_or, sym, ap}
 use Rattle.std.proofs.lemmas.Grind.{get_or_default_zero}
 use Rattle.sp_spec.proofs.Lists.{next_item}
-use Rattle.sp_ground.specs.View.{ground_of}
-use Rattle.sp_law_executed.specs.Executed as spec
+use Rattle.sp_fact.specs.GroundView.{ground_of}
+use Rattle.sp_law_log_execution.specs.Executed as spec
 use Rattle.sp_transfer.proofs.Executing.{is_absent, is_there, message_absent, message_there}
 use Rattle.sp_transfer.proofs.chain.messages_at.Goals as goal
-use Rattle.sp_transfer.proofs.chain.messages_at.Goals.{in-Some+in_ok-copy+in_ok-push, in_default}
+use Rattle.sp_transfer.proofs.chain.messages_at.Goals.{in-Some+in_ok-clone+in_ok-push, in_default}
 
 pub loop-place-preserved : goal.loop-place-preserved
 loop-place-preserved c =
@@ -18,13 +18,13 @@ loop-place-preserved c =
     let read = c.deref.result.now in
     let next = ap (λ ks. map ground_of found ++ spec.messages_at (map ground_of learnt) ks) (sym (next_item places i k c.loop-place-test.true (sym (get_or_default_zero places i k c.loop-place-test.true)))) in
     elim c.match-get.branch [
-      | in-Some+in_ok-copy+in_ok-push w ↦
+      | in-Some+in_ok-clone+in_ok-push w ↦
           (let t = w.in-Some.message.now in
-          let u = w.in_ok-copy.field-0 in
+          let u = w.in_ok-clone.field-0 in
           let there = is_there read learnt k t c.deref.ensures.value w.in-Some.ensures.lookup.3.0 w.in-Some.ensures.lookup.3.1 in
           ap (λ v. map ground_of v.items ++ spec.messages_at (map ground_of learnt) rest) w.found-is
           ∙ ap (λ ts. map ground_of ts ++ spec.messages_at (map ground_of learnt) rest) w.in_ok-push.ensures.items
-          ∙ message_there ground_of learnt k rest found t u there w.in_ok-copy.ensures ∙ next ∙ c.loop-place.invariant)
+          ∙ message_there ground_of learnt k rest found t u there w.in_ok-clone.ensures.cases ∙ next ∙ c.loop-place.invariant)
       | in_default w ↦
           (ap (λ v. map ground_of v.items ++ spec.messages_at (map ground_of learnt) rest) w.found-is
           ∙ ap (λ ms. map ground_of found ++ ms)

@@ -1,6 +1,6 @@
 use Rattle.std.proofs.Common.{◌≡◌, ◌++◌, drop, map}
-use Rattle.sp_ground.specs.View.{ground_of}
-use Rattle.sp_law_executed.specs.Executed as spec
+use Rattle.sp_fact.specs.GroundView.{ground_of}
+use Rattle.sp_law_log_execution.specs.Executed as spec
 use Rattle.sp_transfer.proofs.chain.messages_at.Given as goal
 
 abbrev pub invariant-loop-place : goal.invariant-loop-place

@@ -2,7 +2,7 @@ use Rattle.std.proofs.Common.{◌≡◌, ◌∙◌, IfOk, Option, option_map, sy
 use Rattle.sp_law_equal.specs.Matching.{value_in}
 use Rattle.sp_law_adversary.specs.Learning.{Chain}
 use Rattle.sp_term.specs.View.{view, view_all}
-use Rattle.sp_ground.specs.View.{ground_of}
+use Rattle.sp_fact.specs.GroundView.{ground_of}
 use Rattle.sp_norm.specs.Bounds.{bounds}
 use Rattle.sp_transfer.specs.Down.{chain_among}
 use Rattle.sp_transfer.specs.View.{chain_of, log_in}

@@ -1,7 +1,7 @@
 use Rattle.std.proofs.Common.{◌≡◌, drop}
 use Rattle.sp_law_equal.specs.Matching.{value_in}
 use Rattle.sp_term.specs.View.{view, view_all}
-use Rattle.sp_ground.specs.View.{ground_of}
+use Rattle.sp_fact.specs.GroundView.{ground_of}
 use Rattle.sp_norm.specs.Bounds.{bounds}
 use Rattle.sp_transfer.specs.Down.{chain_among}
 use Rattle.sp_transfer.specs.View.{log_in}

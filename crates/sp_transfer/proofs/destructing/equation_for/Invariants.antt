@@ -1,5 +1,5 @@
 use Rattle.std.proofs.Common.{◌≡◌, drop, map}
-use Rattle.sp_ground.specs.View.{equation_of, ground_of}
+use Rattle.sp_fact.specs.GroundView.{equation_of, ground_of}
 use Rattle.sp_law_adversary.specs.Learning as spec
 use Rattle.sp_transfer.proofs.destructing.equation_for.Given as goal
 

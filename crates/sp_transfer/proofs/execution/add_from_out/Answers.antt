@@ -3,8 +3,8 @@ use Rattle.std.proofs.lemmas.Result.{IfOk-equal}
 use Rattle.sp_spec.specs.Execution.{Step, take_out}
 use Rattle.sp_spec.specs.Lists.{newest_first}
 use Rattle.sp_spec.specs.Term.{Ground}
-use Rattle.sp_law_executed.specs.Executed.{chain_steps, from_out, is_taken, messages_learnt}
-use Rattle.sp_ground.specs.View.{ground_of, step_of}
+use Rattle.sp_law_log_execution.specs.Executed.{chain_steps, from_out, is_taken, messages_learnt}
+use Rattle.sp_fact.specs.GroundView.{ground_of, step_of}
 use Rattle.sp_learn.specs.View.{entry_of}
 use Rattle.sp_transfer.specs.Executing.{linking_in}
 use Rattle.sp_transfer.specs.View.{log_in}

@@ -1,7 +1,7 @@
 use Rattle.std.proofs.Common.{◌+◌, ◌∙◌, drop, map, sym, ap}
 use Rattle.sp_spec.proofs.Lists.{next_item}
 use Rattle.sp_learn.specs.View.{entry_of}
-use Rattle.sp_law_executed.specs.Executed as spec
+use Rattle.sp_law_log_execution.specs.Executed as spec
 use Rattle.sp_transfer.specs.View.{log_in}
 use Rattle.sp_transfer.proofs.Executing.{taken_here, taken_later}
 use Rattle.sp_transfer.proofs.execution.is_taken.Goals as goal

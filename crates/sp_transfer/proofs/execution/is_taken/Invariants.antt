@@ -1,5 +1,5 @@
 use Rattle.std.proofs.Common.{◌≡◌, drop}
-use Rattle.sp_law_executed.specs.Executed as spec
+use Rattle.sp_law_log_execution.specs.Executed as spec
 use Rattle.sp_transfer.specs.View.{log_in}
 use Rattle.sp_transfer.proofs.execution.is_taken.Given as goal
 

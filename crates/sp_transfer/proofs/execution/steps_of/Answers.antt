@@ -1,8 +1,8 @@
 use Rattle.std.proofs.Common.{◌≤◌, ◌∙◌, ◌++◌, length, map, take, sym, ap, subst, List}
 use Rattle.std.proofs.lemmas.List.{append-nil, drop_all}
 use Rattle.sp_spec.specs.Lists.{newest_first}
-use Rattle.sp_law_executed.specs.Executed.{Linking, executed_by}
-use Rattle.sp_ground.specs.View.{equation_of, step_of}
+use Rattle.sp_law_log_execution.specs.Executed.{Linking, executed_by}
+use Rattle.sp_fact.specs.GroundView.{equation_of, step_of}
 use Rattle.sp_book.specs.View.{rule_forms_of}
 use Rattle.sp_learn.specs.View.{entry_of}
 use Rattle.sp_learn.specs.declared.log.Entry as memory

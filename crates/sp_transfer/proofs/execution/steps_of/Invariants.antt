@@ -1,5 +1,5 @@
 use Rattle.std.proofs.Common.{◌≡◌, ◌++◌, [], drop, map, take}
-use Rattle.sp_ground.specs.View.{equation_of, step_of}
+use Rattle.sp_fact.specs.GroundView.{equation_of, step_of}
 use Rattle.sp_book.specs.View.{rule_forms_of}
 use Rattle.sp_learn.specs.View.{entry_of}
 use Rattle.sp_transfer.specs.Executing.{linking_in}

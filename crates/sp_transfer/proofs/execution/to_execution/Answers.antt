@@ -1,6 +1,6 @@
 use Rattle.std.proofs.Common.{map}
 use Rattle.sp_spec.specs.Lists.{newest_first}
-use Rattle.sp_ground.specs.View.{signature_of, step_of}
+use Rattle.sp_fact.specs.GroundView.{signature_of, step_of}
 use Rattle.sp_book.specs.View.{rule_forms_of}
 use Rattle.sp_learn.specs.View.{log_of}
 use Rattle.sp_transfer.proofs.Executing.{is_executed}

@@ -4,7 +4,7 @@ use Rattle.sp_term.proofs.Lists.{count-view_all}
 use Rattle.sp_spec.specs.Term.{count, Ground}
 use Rattle.sp_spec.specs.Log.{constructed, Log}
 use Rattle.sp_law_adversary.specs.Learning as spec
-use Rattle.sp_ground.specs.View.{ground_of, grounds_of, symbol_of}
+use Rattle.sp_fact.specs.GroundView.{ground_of, grounds_of, symbol_of}
 use Rattle.sp_transfer.specs.Absorbing.{absorbed_parts}
 use Rattle.sp_transfer.specs.View.{chain_of, log_in}
 use Rattle.sp_transfer.proofs.Absorbing.{is_pair, of_app, absorbed_end, absorbed_learnt, absorbed_pair}

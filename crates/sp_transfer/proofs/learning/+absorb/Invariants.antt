@@ -1,5 +1,5 @@
 use Rattle.std.proofs.Common.{◌≡◌, drop, map}
-use Rattle.sp_ground.specs.View.{grounds_of, symbol_of}
+use Rattle.sp_fact.specs.GroundView.{grounds_of, symbol_of}
 use Rattle.sp_transfer.specs.Absorbing.{absorbed_parts}
 use Rattle.sp_transfer.specs.View.{chain_of, log_in}
 use Rattle.sp_transfer.proofs.learning.+absorb.Given as goal

@@ -1,5 +1,5 @@
 use Rattle.std.proofs.Common.{◌∙◌, is_some, sym, ap}
-use Rattle.sp_ground.specs.View.{ground_of}
+use Rattle.sp_fact.specs.GroundView.{ground_of}
 use Rattle.sp_learn.specs.View.{how_of}
 use Rattle.sp_transfer.specs.View.{log_in}
 use Rattle.sp_transfer.proofs.Entries.{learnt_some, mapped_some}

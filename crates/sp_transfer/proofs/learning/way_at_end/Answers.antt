@@ -3,7 +3,7 @@ use Rattle.sp_term.specs.View.{name_of, never_of}
 use Rattle.sp_term.proofs.Lists.{count-view_all}
 use Rattle.sp_spec.specs.Log.{How, constructed}
 use Rattle.sp_law_adversary.specs.Learning.{way_at_end, by}
-use Rattle.sp_ground.specs.View.{ground_of, grounds_of, symbol_of}
+use Rattle.sp_fact.specs.GroundView.{ground_of, grounds_of, symbol_of}
 use Rattle.sp_norm.specs.Over.{any_public}
 use Rattle.sp_learn.specs.View.{how_of}
 use Rattle.sp_transfer.specs.View.{chain_of}

@@ -1,5 +1,5 @@
 use Rattle.std.proofs.Common.{◌-◌, ◌≤◌, ◌∙◌, ◌∷◌, length, take, sym, ap, arith}
-use Rattle.sp_ground.specs.View.{ground_of}
+use Rattle.sp_fact.specs.GroundView.{ground_of}
 use Rattle.sp_learn.specs.View.{entry_of, how_of}
 use Rattle.sp_transfer.specs.View.{log_in}
 use Rattle.sp_transfer.proofs.Entries.{log_back, way_here, way_before, way_passed}

@@ -1,5 +1,5 @@
 use Rattle.std.proofs.Common.{◌≡◌, take}
-use Rattle.sp_ground.specs.View.{ground_of}
+use Rattle.sp_fact.specs.GroundView.{ground_of}
 use Rattle.sp_law_adversary.specs.Learning as spec
 use Rattle.sp_transfer.specs.View.{log_in}
 use Rattle.sp_transfer.proofs.learning.way_learnt.Given as goal

@@ -4,8 +4,8 @@ use Rattle.std.proofs.lemmas.Result.{IfOk-weaker}
 use Rattle.sp_spec.specs.Lists.{newest_first}
 use Rattle.sp_spec.specs.Term.{Ground}
 use Rattle.sp_spec.specs.Execution as execution
-use Rattle.sp_law_executed.specs.Executed as spec
-use Rattle.sp_ground.specs.View.{ground_of, grounds_of, step_of}
+use Rattle.sp_law_log_execution.specs.Executed as spec
+use Rattle.sp_fact.specs.GroundView.{ground_of, grounds_of, step_of}
 use Rattle.sp_transfer.specs.Executing.{level_of}
 use Rattle.sp_transfer.proofs.Executing.{raised_more, raising_more}
 use Rattle.sp_transfer.proofs.raising.+raise.Goals as goal

@@ -2,8 +2,8 @@ use Rattle.std.proofs.Common.{◌≡◌, ◌++◌, ◌∷◌, [], List, map, tak
 use Rattle.std.proofs.lemmas.List.{map-append, drop-map}
 use Rattle.std.proofs.lemmas.Result.{IfOk-weaker}
 use Rattle.sp_spec.specs.Term.{Ground}
-use Rattle.sp_law_executed.specs.Executed as spec
-use Rattle.sp_ground.specs.View.{ground_of, grounds_of}
+use Rattle.sp_law_log_execution.specs.Executed as spec
+use Rattle.sp_fact.specs.GroundView.{ground_of, grounds_of}
 use Rattle.sp_transfer.specs.Executing.{level_of}
 use Rattle.sp_transfer.proofs.Executing.{args_made}
 use Rattle.sp_transfer.proofs.raising.arguments.Goals as goal
@@ -17,8 +17,8 @@ returns c =
     let front : map ground_of c.in_ok-made.made.items ≡ take l.front ms =
     c.in_ok-made.ensures ∙ ap (λ ts. map ground_of ts ++ take l.front ms) c.new.ensures.items in
     let entered = ap (map ground_of) c.in_ok-push.ensures.items
-    ∙ map-append ground_of c.in_ok-made.made.items (c.in_ok-copy.field-0 ∷ [])
-    ∙ ap₂ (λ (ts : List Ground) (u : Ground). ts ++ u ∷ []) front c.in_ok-copy.ensures in
+    ∙ map-append ground_of c.in_ok-made.made.items (c.in_ok-clone.field-0 ∷ [])
+    ∙ ap₂ (λ (ts : List Ground) (u : Ground). ts ++ u ∷ []) front c.in_ok-clone.ensures.cases in
     let back = ap (λ ts. take l.back (map ground_of ts)) c.behind.ensures ∙ ap (take l.back) (sym (drop-map ground_of l.front messages)) in
     IfOk-weaker c.with_first-2.result
     (λ ts. map ground_of ts.items ≡ map ground_of c.push.new.self.items ++ take l.back (map ground_of c.behind.result.now))

@@ -1,5 +1,5 @@
 use Rattle.std.proofs.Common.{◌≡◌, ◌++◌, drop, map}
-use Rattle.sp_ground.specs.View.{ground_of}
+use Rattle.sp_fact.specs.GroundView.{ground_of}
 use Rattle.sp_transfer.proofs.raising.with_copies.Given as goal
 
 abbrev pub invariant-loop-message : goal.invariant-loop-message

@@ -1,7 +1,7 @@
 use Rattle.std.proofs.Common.{◌≡◌, ◌++◌, ◌∙◌, IfOk, List, map, sym, ap, subst, take}
 use Rattle.std.proofs.lemmas.List.{take-map, take_min}
 use Rattle.sp_spec.specs.Term.{Ground}
-use Rattle.sp_ground.specs.View.{ground_of}
+use Rattle.sp_fact.specs.GroundView.{ground_of}
 use Rattle.sp_transfer.proofs.raising.with_first.Goals as goal
 
 pub returns : goal.returns

@@ -1,5 +1,5 @@
 use Rattle.std.proofs.Common.{◌≡◌, take, drop, map}
-use Rattle.sp_ground.specs.View.{ground_fact}
+use Rattle.sp_fact.specs.GroundView.{ground_fact}
 use Rattle.sp_transfer.specs.Sourced.{found, given_of}
 use Rattle.sp_transfer.proofs.Sourced.{behind}
 use Rattle.sp_transfer.proofs.state.place_of.Given as goal

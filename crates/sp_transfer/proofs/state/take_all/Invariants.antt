@@ -1,5 +1,5 @@
 use Rattle.std.proofs.Common.{◌≡◌, drop, map}
-use Rattle.sp_ground.specs.View.{ground_fact}
+use Rattle.sp_fact.specs.GroundView.{ground_fact}
 use Rattle.sp_log.specs.View.{source_of}
 use Rattle.sp_transfer.specs.Construction as spec
 use Rattle.sp_transfer.specs.Sourced.{given_of}

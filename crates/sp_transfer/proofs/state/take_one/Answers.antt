@@ -1,5 +1,5 @@
 use Rattle.std.proofs.Common.{◌∙◌, ◌∷◌, [], map, sym, ap, if◌then◌else◌, Some}
-use Rattle.sp_ground.specs.View.{ground_fact}
+use Rattle.sp_fact.specs.GroundView.{ground_fact}
 use Rattle.sp_log.specs.View.{source_of}
 use Rattle.sp_transfer.specs.Sourced.{found, given_of}
 use Rattle.sp_transfer.proofs.Sourced.{all_left, nothing_taken, taken_found}

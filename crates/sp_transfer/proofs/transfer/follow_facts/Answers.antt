@@ -1,5 +1,5 @@
 use Rattle.std.proofs.Common.{◌≡◌, ◌∙◌, Global, Option, Vec, length, map, sym, ap, arith}
-use Rattle.sp_ground.specs.View.{ground_facts, signature_of, step_of}
+use Rattle.sp_fact.specs.GroundView.{ground_facts, signature_of, step_of}
 use Rattle.sp_log.specs.View.{source_of}
 use Rattle.sp_log.specs.declared.log.Source.{Source}
 use Rattle.sp_transfer.specs.Sourced.{all_taken, given_of}

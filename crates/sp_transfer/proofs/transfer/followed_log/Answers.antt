@@ -1,7 +1,7 @@
 use Rattle.std.proofs.Common.{◌∙◌, List, map, ap, ap₂}
 use Rattle.sp_spec.specs.Log.{Log}
-use Rattle.sp_ground.specs.declared.step.Step.{Step}
-use Rattle.sp_ground.specs.View.{signature_of, step_of}
+use Rattle.sp_fact.specs.declared.step.Step.{Step}
+use Rattle.sp_fact.specs.GroundView.{signature_of, step_of}
 use Rattle.sp_fact.specs.View.{rule_of}
 use Rattle.sp_transfer.specs.Construction.{Given, at_start}
 use Rattle.sp_transfer.specs.Sourced.{given_of}

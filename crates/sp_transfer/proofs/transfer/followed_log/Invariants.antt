@@ -1,6 +1,6 @@
 use Rattle.std.proofs.Common.{◌≡◌, drop, map}
 use Rattle.sp_spec.specs.Lists.{newest_first}
-use Rattle.sp_ground.specs.View.{signature_of, step_of}
+use Rattle.sp_fact.specs.GroundView.{signature_of, step_of}
 use Rattle.sp_fact.specs.View.{rule_of}
 use Rattle.sp_transfer.specs.Construction.{followed}
 use Rattle.sp_transfer.specs.Steps.{followed_of, followed_on}

@@ -2,7 +2,7 @@ use Rattle.std.proofs.Common.{◌≡◌, ◌∙◌, List, map, Option, Some, Non
 use Rattle.sp_spec.specs.Lists.{newest_first}
 use Rattle.sp_spec.specs.Rule.{Rule}
 use Rattle.sp_spec.specs.Signature as signature
-use Rattle.sp_ground.specs.View.{step_of}
+use Rattle.sp_fact.specs.GroundView.{step_of}
 use Rattle.sp_learn.specs.declared.log.Log.{Log}
 use Rattle.sp_learn.specs.View.{entries_of, log_of}
 use Rattle.sp_transfer.specs.Construction.{followed}

@@ -6,7 +6,7 @@ use Rattle.sp_term.specs.declared.term.Variable as leaf
 use Rattle.sp_term.specs.View.{name_of, variable_of, view, view_all}
 use Rattle.sp_term.proofs.Lists.{count-view_all}
 use Rattle.sp_destruct.proofs.Ways.{rest_at, row_more}
-use Rattle.sp_law_executed.specs.Executed as spec
+use Rattle.sp_law_log_execution.specs.Executed as spec
 use Rattle.sp_transfer.specs.Executing.{level_of, levels_of}
 use Rattle.sp_transfer.proofs.Ways.{back_counted, enters, front_counted, level_made, levels, passes}
 use Rattle.sp_transfer.proofs.way.+down.Goals as goal

@@ -1,8 +1,8 @@
 use Rattle.std.proofs.Common.{◌≡◌, ◌∙◌, ◌++◌, ◌+◌, ◌<◌, true, suc, [], ◌∷◌, List, map, take, length, get_or, sym, ap, subst, arith}
 use Rattle.std.proofs.lemmas.List.{map-append}
 use Rattle.sp_spec.specs.Destruction.{is_public}
-use Rattle.sp_ground.specs.View.{symbol_of}
-use Rattle.sp_law_executed.specs.Executed as spec
+use Rattle.sp_fact.specs.GroundView.{symbol_of}
+use Rattle.sp_law_log_execution.specs.Executed as spec
 use Rattle.sp_term.specs.View.{name_of}
 use Rattle.sp_transfer.specs.declared.level.Level as memory
 use Rattle.sp_transfer.specs.Executing.{level_of, levels_of}

@@ -1,6 +1,6 @@
 use Rattle.std.proofs.Common.{◌≡◌, ◌++◌, [], drop, map, take}
-use Rattle.sp_ground.specs.View.{symbol_of}
-use Rattle.sp_law_executed.specs.Executed as spec
+use Rattle.sp_fact.specs.GroundView.{symbol_of}
+use Rattle.sp_law_log_execution.specs.Executed as spec
 use Rattle.sp_transfer.specs.Executing.{level_of, levels_of}
 use Rattle.sp_transfer.proofs.way.ways_along.Given as goal
 

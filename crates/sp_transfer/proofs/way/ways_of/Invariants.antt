@@ -1,6 +1,6 @@
 use Rattle.std.proofs.Common.{◌≡◌, ◌++◌, drop, map}
-use Rattle.sp_ground.specs.View.{equation_of, signature_of, symbol_of}
-use Rattle.sp_law_executed.specs.Executed.{destruction_ways, ways_by}
+use Rattle.sp_fact.specs.GroundView.{equation_of, signature_of, symbol_of}
+use Rattle.sp_law_log_execution.specs.Executed.{destruction_ways, ways_by}
 use Rattle.sp_transfer.specs.Executing.{levels_of}
 use Rattle.sp_transfer.proofs.way.ways_of.Given as goal
 

@@ -3,7 +3,7 @@ use Rattle.sp_spec.specs.Rule as spec
 use Rattle.sp_spec.proofs.Lists.{map-map}
 use Rattle.sp_term.proofs.Loops.{one_more}
 use Rattle.sp_fact.specs.View.{rule_of}
-use Rattle.sp_ground.specs.View.{equation_of}
+use Rattle.sp_fact.specs.GroundView.{equation_of}
 use Rattle.sp_spec_forms.specs.Forms.{RuleForms, forms_of}
 use Rattle.sp_book.specs.View.{rule_forms_of}
 use Rattle.sp_variant.proofs.book.book.Goals as goal

@@ -1,6 +1,6 @@
 use Rattle.std.proofs.Common.{◌≡◌, map, take}
 use Rattle.sp_fact.specs.View.{rule_of}
-use Rattle.sp_ground.specs.View.{equation_of}
+use Rattle.sp_fact.specs.GroundView.{equation_of}
 use Rattle.sp_spec_forms.specs.Forms.{forms_of}
 use Rattle.sp_book.specs.View.{rule_forms_of}
 use Rattle.sp_variant.proofs.book.book.Given as goal

@@ -1,5 +1,5 @@
 use Rattle.std.proofs.Common.{map, ap, ◌∙◌}
-use Rattle.sp_ground.specs.View.{equation_of}
+use Rattle.sp_fact.specs.GroundView.{equation_of}
 use Rattle.sp_spec_forms.specs.Narrowing.{each}
 use Rattle.sp_variant.specs.View.{chosen_of, list_by, way_by}
 use Rattle.sp_variant.specs.Rows.{narrow_arguments}

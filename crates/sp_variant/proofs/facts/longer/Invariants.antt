@@ -1,5 +1,5 @@
 use Rattle.std.proofs.Common.{◌≡◌, map, take}
-use Rattle.sp_ground.specs.View.{equation_of}
+use Rattle.sp_fact.specs.GroundView.{equation_of}
 use Rattle.sp_variant.specs.View.{list_by, way_by}
 use Rattle.sp_variant.specs.Rows.{longer, narrow_arguments}
 use Rattle.sp_variant.proofs.facts.longer.Given as goal

@@ -2,7 +2,7 @@ use Rattle.std.proofs.Common.{map, ap, ◌∙◌}
 use Rattle.std.specs.List.{flat_map}
 use Rattle.std.proofs.lemmas.List.{take_all}
 use Rattle.sp_fact.specs.View.{fact_of, facts_of}
-use Rattle.sp_ground.specs.View.{equation_of}
+use Rattle.sp_fact.specs.GroundView.{equation_of}
 use Rattle.sp_variant.specs.View.{chosen_of, list_by, way_by}
 use Rattle.sp_variant.specs.Rows.{with_actions}
 use Rattle.sp_variant.proofs.FactsRows.{facts_in_rows}

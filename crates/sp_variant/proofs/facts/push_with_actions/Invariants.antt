@@ -1,7 +1,7 @@
 use Rattle.std.proofs.Common.{◌≡◌, ◌++◌, map, take}
 use Rattle.std.specs.List.{flat_map}
 use Rattle.sp_fact.specs.View.{action_of, fact_of, facts_of}
-use Rattle.sp_ground.specs.View.{equation_of}
+use Rattle.sp_fact.specs.GroundView.{equation_of}
 use Rattle.sp_variant.specs.View.{list_by, way_by}
 use Rattle.sp_variant.specs.Rows.{with_conclusions}
 use Rattle.sp_variant.proofs.facts.push_with_actions.Given as goal

@@ -1,5 +1,5 @@
 use Rattle.std.proofs.Common.{map, sym, ◌∙◌}
-use Rattle.sp_ground.specs.View.{equation_of}
+use Rattle.sp_fact.specs.GroundView.{equation_of}
 use Rattle.sp_spec_forms.specs.Forms.{is_normal_form}
 use Rattle.sp_book.specs.View.{form_of}
 use Rattle.sp_variant.specs.View.{list_by}

@@ -1,6 +1,6 @@
 use Rattle.std.proofs.Common.{◌≡◌, [], map}
 use Rattle.std.specs.List.{filter}
-use Rattle.sp_ground.specs.View.{equation_of}
+use Rattle.sp_fact.specs.GroundView.{equation_of}
 use Rattle.sp_spec_forms.specs.Forms.{alike_form, is_normal_form}
 use Rattle.sp_book.specs.View.{form_of}
 use Rattle.sp_variant.specs.View.{list_by}

@@ -1,6 +1,6 @@
 use Rattle.std.proofs.Common.{map, sym, ap, ◌∙◌}
 use Rattle.sp_term.specs.View.{view}
-use Rattle.sp_ground.specs.View.{equation_of}
+use Rattle.sp_fact.specs.GroundView.{equation_of}
 use Rattle.sp_spec_forms.specs.Narrowing.{each, narrow}
 use Rattle.sp_variant.specs.View.{chosen_of, list_by, way_by}
 use Rattle.sp_variant.proofs.Rows.{as_terms, made_longer, longer_at, longer_begins, longer_done, narrow_all-each, one_row, rows_as_terms}

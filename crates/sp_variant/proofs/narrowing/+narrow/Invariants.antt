@@ -1,6 +1,6 @@
 use Rattle.std.proofs.Common.{◌≡◌, map, take, drop}
 use Rattle.sp_term.specs.View.{view}
-use Rattle.sp_ground.specs.View.{equation_of}
+use Rattle.sp_fact.specs.GroundView.{equation_of}
 use Rattle.sp_spec_forms.specs.Narrowing.{each, narrow}
 use Rattle.sp_variant.specs.View.{chosen_of, list_by, way_by}
 use Rattle.sp_variant.specs.Rows.{longer}

@@ -2,7 +2,7 @@ use Rattle.std.proofs.Common.{◌≡◌, map}
 use Rattle.std.specs.List.{flat_map}
 use Rattle.sp_spec.specs.Term.{app}
 use Rattle.sp_term.specs.View.{name_of, view}
-use Rattle.sp_ground.specs.View.{equation_of}
+use Rattle.sp_fact.specs.GroundView.{equation_of}
 use Rattle.sp_spec_forms.specs.Narrowing.{choices}
 use Rattle.sp_variant.specs.View.{terms_in, way_by}
 use Rattle.sp_variant.proofs.narrowing.at_root.Given as goal

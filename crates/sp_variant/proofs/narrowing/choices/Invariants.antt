@@ -1,7 +1,7 @@
 use Rattle.std.proofs.Common.{◌≡◌, ◌++◌, map, drop}
 use Rattle.std.specs.List.{flat_map}
 use Rattle.sp_term.specs.View.{view}
-use Rattle.sp_ground.specs.View.{equation_of}
+use Rattle.sp_fact.specs.GroundView.{equation_of}
 use Rattle.sp_spec_forms.specs.Narrowing.{by_equation, choices}
 use Rattle.sp_variant.specs.View.{chosen_of, way_by}
 use Rattle.sp_variant.proofs.narrowing.choices.Given as goal

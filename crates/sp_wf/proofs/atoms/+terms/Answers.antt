@@ -15,49 +15,48 @@ use Rattle.sp_spec.proofs.Options.{on_so}
 use Rattle.sp_wf.proofs.Telling.{told_both}
 use Rattle.sp_wf.proofs.atoms.+terms.Goals as goal
 
-pub tell_terms_of-returns-in_ok-tell_terms_of-in-Implies-2 : goal.tell_terms_of-returns-in_ok-tell_terms_of-in-Implies-2
-tell_terms_of-returns-in_ok-tell_terms_of-in-Implies-2 t c =
+pub tell_terms_of-returns-in_ok-tell_terms_of-in-Implies : goal.tell_terms_of-returns-in_ok-tell_terms_of-in-Implies
+tell_terms_of-returns-in_ok-tell_terms_of-in-Implies t c =
     let old = lines_of c.args.lines.now.items in
     let told : Formula → List Finding = on_terms (fault_of c.args.fault) in
     let left = c.in-Implies.left in
     let right = c.in-Implies.right in
-    let first : lines_of c.tell_terms_of-in-Implies.new.lines.items ≡ lines_after old (told (formula left.value)) =
+    let one = told (formula left.value) in
+    let other = told (formula right.value) in
+    let first : lines_of c.tell_terms_of-in-Implies.new.lines.items ≡ lines_after old one =
     c.in_ok-tell_terms_of-in-Implies.ensures ∙ ap (λ (f : ReadFormula). lines_after old (told (formula f))) c.deref-in-Implies.ensures in
-    c.in_ok-tell_terms_of-in-Implies-2.ensures
+    let shown : lines_after (lines_after old one) other ≡ lines_after old (told (formula c.args.formula.now)) =
+    ⊎_elim (λ e. told_both one old other ∙ ap (lines_after old) (sym (ap told (ap formula e ∙ implies_shown left right))))
+    (λ e. told_equivalent old one other ∙ ap (lines_after old) (sym (ap told (ap formula e ∙ equivalent_shown left right)))) c.in-Implies.is in
+    on_so c.tell_terms_of-in-Implies-2.result _ (lines_of c.tell_terms_of-in-Implies-2.new.lines.items ≡ lines_after old (told (formula c.args.formula.now)))
+    (λ second.
+    second
     ∙ ap (λ (f : ReadFormula). lines_after (lines_of c.tell_terms_of-in-Implies.new.lines.items) (told (formula f))) c.deref-in-Implies-2.ensures
-    ∙ ap (λ (ls : List (List ℕ)). lines_after ls (told (formula right.value))) first
-    ∙ told_both (told (formula left.value)) old (told (formula right.value))
-    ∙ ap (lines_after old) (sym (ap told (ap formula c.in-Implies.is ∙ implies_shown left right)))
+    ∙ ap (λ (ls : List (List ℕ)). lines_after ls other) first
+    ∙ shown)
+    c.tell_terms_of-in-Implies-2.ensures
 
-pub tell_terms_of-returns-in_ok-tell_terms_of-in-Equivalent-2 : goal.tell_terms_of-returns-in_ok-tell_terms_of-in-Equivalent-2
-tell_terms_of-returns-in_ok-tell_terms_of-in-Equivalent-2 t c =
-    let old = lines_of c.args.lines.now.items in
-    let told : Formula → List Finding = on_terms (fault_of c.args.fault) in
-    let left = c.in-Equivalent.left in
-    let right = c.in-Equivalent.right in
-    let first : lines_of c.tell_terms_of-in-Equivalent.new.lines.items ≡ lines_after old (told (formula left.value)) =
-    c.in_ok-tell_terms_of-in-Equivalent.ensures ∙ ap (λ (f : ReadFormula). lines_after old (told (formula f))) c.deref-in-Equivalent.ensures in
-    c.in_ok-tell_terms_of-in-Equivalent-2.ensures
-    ∙ ap (λ (f : ReadFormula). lines_after (lines_of c.tell_terms_of-in-Equivalent.new.lines.items) (told (formula f))) c.deref-in-Equivalent-2.ensures
-    ∙ ap (λ (ls : List (List ℕ)). lines_after ls (told (formula right.value))) first
-    ∙ told_equivalent old (told (formula left.value)) (told (formula right.value))
-    ∙ ap (lines_after old) (sym (ap told (ap formula c.in-Equivalent.is ∙ equivalent_shown left right)))
-
-pub tell_terms_of-returns-in_ok-tell_terms_of-in-ForAll : goal.tell_terms_of-returns-in_ok-tell_terms_of-in-ForAll
-tell_terms_of-returns-in_ok-tell_terms_of-in-ForAll t c =
-    c.in_ok-tell_terms_of-in-ForAll.ensures
+pub tell_terms_of-returns-in-ForAll : goal.tell_terms_of-returns-in-ForAll
+tell_terms_of-returns-in-ForAll t c =
+    on_so c.tell_terms_of-in-ForAll.result _ (lines_of c.tell_terms_of-in-ForAll.new.lines.items ≡ lines_after (lines_of c.args.lines.now.items) (on_terms (fault_of c.args.fault) (formula c.args.formula.now)))
+    (λ inside.
+    inside
     ∙ ap (lines_after (lines_of c.args.lines.now.items))
     (ap (λ (f : ReadFormula). on_terms (fault_of c.args.fault) (formula f)) c.deref-in-ForAll.ensures
     ∙ told_for_all (fault_of c.args.fault) (map variable c.in-ForAll.field-0.items) (formula c.in-ForAll.body.value)
-    ∙ sym (ap (on_terms (fault_of c.args.fault)) (ap formula c.in-ForAll.is ∙ every_shown c.in-ForAll.field-0 c.in-ForAll.body)))
+    ∙ sym (ap (on_terms (fault_of c.args.fault)) (ap formula c.in-ForAll.is ∙ every_shown c.in-ForAll.field-0 c.in-ForAll.body))))
+    c.tell_terms_of-in-ForAll.ensures
 
-pub tell_terms_of-returns-in_ok-tell_terms_of-in-ForSome : goal.tell_terms_of-returns-in_ok-tell_terms_of-in-ForSome
-tell_terms_of-returns-in_ok-tell_terms_of-in-ForSome t c =
-    c.in_ok-tell_terms_of-in-ForSome.ensures
+pub tell_terms_of-returns-in-ForSome : goal.tell_terms_of-returns-in-ForSome
+tell_terms_of-returns-in-ForSome t c =
+    on_so c.tell_terms_of-in-ForSome.result _ (lines_of c.tell_terms_of-in-ForSome.new.lines.items ≡ lines_after (lines_of c.args.lines.now.items) (on_terms (fault_of c.args.fault) (formula c.args.formula.now)))
+    (λ inside.
+    inside
     ∙ ap (lines_after (lines_of c.args.lines.now.items))
     (ap (λ (f : ReadFormula). on_terms (fault_of c.args.fault) (formula f)) c.deref-in-ForSome.ensures
     ∙ told_for_some (fault_of c.args.fault) (map variable c.in-ForSome.field-0.items) (formula c.in-ForSome.body.value)
-    ∙ sym (ap (on_terms (fault_of c.args.fault)) (ap formula c.in-ForSome.is ∙ some_shown c.in-ForSome.field-0 c.in-ForSome.body)))
+    ∙ sym (ap (on_terms (fault_of c.args.fault)) (ap formula c.in-ForSome.is ∙ some_shown c.in-ForSome.field-0 c.in-ForSome.body))))
+    c.tell_terms_of-in-ForSome.ensures
 
 pub tell_terms_of-returns-in_ok-tell_terms_of-in-Both-2 : goal.tell_terms_of-returns-in_ok-tell_terms_of-in-Both-2
 tell_terms_of-returns-in_ok-tell_terms_of-in-Both-2 t c =

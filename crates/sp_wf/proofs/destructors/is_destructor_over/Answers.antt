@@ -1,6 +1,6 @@
 use Rattle.std.proofs.Common.{map, sym, ap, ◌∙◌}
 use Rattle.sp_term.specs.View.{name_of}
-use Rattle.sp_ground.specs.View.{equation_of}
+use Rattle.sp_fact.specs.GroundView.{equation_of}
 use Rattle.sp_conv.specs.Tests.{is_destructor}
 use Rattle.sp_finding.proofs.Counted.{counted}
 use Rattle.sp_wf.proofs.destructors.is_destructor_over.Goals as goal

@@ -1,6 +1,6 @@
 use Rattle.std.proofs.Common.{◌∙◌}
 use Rattle.sp_term.specs.Bindings.{bindings}
-use Rattle.sp_ground.specs.View.{equation_of}
+use Rattle.sp_fact.specs.GroundView.{equation_of}
 use Rattle.sp_wf.proofs.EquationForms.{some_clash}
 use Rattle.sp_wf.proofs.equations.do_clash.Goals as goal
 

@@ -1,5 +1,5 @@
 use Rattle.std.proofs.Common.{map, sym}
-use Rattle.sp_ground.specs.View.{equation_of, symbol_of}
+use Rattle.sp_fact.specs.GroundView.{equation_of, symbol_of}
 use Rattle.sp_wf.proofs.EquationForms.{private_of_formed, private_of_private, private_of_wrong}
 use Rattle.sp_wf.proofs.equations.has_private_constant.Goals as goal
 

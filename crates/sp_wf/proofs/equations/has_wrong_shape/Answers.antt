@@ -1,5 +1,5 @@
 use Rattle.std.proofs.Common.{map, sym}
-use Rattle.sp_ground.specs.View.{equation_of, symbol_of}
+use Rattle.sp_fact.specs.GroundView.{equation_of, symbol_of}
 use Rattle.sp_wf.proofs.EquationForms.{shape_of_formed, shape_of_private, shape_of_wrong}
 use Rattle.sp_wf.proofs.equations.has_wrong_shape.Goals as goal
 

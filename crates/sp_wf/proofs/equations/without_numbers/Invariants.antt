@@ -1,5 +1,5 @@
 use Rattle.std.proofs.Common.{◌≡◌, ◌++◌, drop, map}
-use Rattle.sp_ground.specs.View.{equation_of}
+use Rattle.sp_fact.specs.GroundView.{equation_of}
 use Rattle.sp_spec_text.specs.Declared.{their_equations}
 use Rattle.sp_declared.specs.NumberedView.{numbered_of}
 use Rattle.sp_wf.proofs.equations.without_numbers.Given as goal

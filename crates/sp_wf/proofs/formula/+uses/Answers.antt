@@ -1,4 +1,4 @@
-use Rattle.std.proofs.Common.{◌≡◌, ℕ, List, OnOk, ⊎_elim, map, take, sym, ap, ◌∙◌}
+use Rattle.std.proofs.Common.{◌≡◌, ℕ, List, OnOk, ⊎_elim, ◌++◌, map, take, refl, sym, ap, ◌∙◌}
 use Rattle.sp_spec.specs.Formula.{Formula}
 use Rattle.sp_read_parts.specs.Reading.{Joint, conjoint, disjoint, join}
 use Rattle.sp_read_parts.specs.Formulas.{chain, formula}
@@ -17,8 +17,8 @@ use Rattle.sp_wf.proofs.Joints.{uses_joined}
 use Rattle.sp_wf.proofs.Using.{sought_on}
 use Rattle.sp_wf.proofs.formula.+uses.Goals as goal
 
-pub tell_uses-returns-in_ok-tell_uses-in-Implies-2 : goal.tell_uses-returns-in_ok-tell_uses-in-Implies-2
-tell_uses-returns-in_ok-tell_uses-in-Implies-2 t c =
+pub tell_uses-returns-in_ok-tell_uses-in-Implies : goal.tell_uses-returns-in_ok-tell_uses-in-Implies
+tell_uses-returns-in_ok-tell_uses-in-Implies t c =
     let old = lines_of c.args.lines.now.items in
     let kind = sought_view c.args.search.sought in
     let name = c.args.search.lemma.now in
@@ -26,52 +26,38 @@ tell_uses-returns-in_ok-tell_uses-in-Implies-2 t c =
     let told : Formula → List Finding = λ f. sought kind name (uses bs f) in
     let left = c.in-Implies.left in
     let right = c.in-Implies.right in
+    let one = uses bs (formula left.value) in
+    let other = uses bs (formula right.value) in
     let first : lines_of c.tell_uses-in-Implies.new.lines.items ≡ lines_after old (told (formula left.value)) =
     c.in_ok-tell_uses-in-Implies.ensures ∙ ap (λ (f : ReadFormula). lines_after old (told (formula f))) c.deref-in-Implies.ensures in
-    c.in_ok-tell_uses-in-Implies-2.ensures
+    let shown : lines_after (lines_after old (sought kind name one)) (sought kind name other) ≡ lines_after old (told (formula c.args.formula.now)) =
+    ⊎_elim (λ e. sought_on old kind name one other ∙ ap (lines_after old) (sym (ap told (ap formula e ∙ implies_shown left right))))
+    (λ e. sought_equivalent old kind name one other ∙ ap (lines_after old) (sym (ap told (ap formula e ∙ equivalent_shown left right)))) c.in-Implies.is in
+    on_so c.tell_uses-in-Implies-2.result _ (lines_of c.tell_uses-in-Implies-2.new.lines.items ≡ lines_after old (told (formula c.args.formula.now)))
+    (λ second.
+    second
     ∙ ap (λ (f : ReadFormula). lines_after (lines_of c.tell_uses-in-Implies.new.lines.items) (told (formula f))) c.deref-in-Implies-2.ensures
     ∙ ap (λ (ls : List (List ℕ)). lines_after ls (told (formula right.value))) first
-    ∙ sought_on old kind name (uses bs (formula left.value)) (uses bs (formula right.value))
-    ∙ ap (lines_after old) (sym (ap told (ap formula c.in-Implies.is ∙ implies_shown left right)))
+    ∙ shown)
+    c.tell_uses-in-Implies-2.ensures
 
-pub tell_uses-returns-in_ok-tell_uses-in-Equivalent-2 : goal.tell_uses-returns-in_ok-tell_uses-in-Equivalent-2
-tell_uses-returns-in_ok-tell_uses-in-Equivalent-2 t c =
+pub tell_uses-returns-in-ForAll : goal.tell_uses-returns-in-ForAll
+tell_uses-returns-in-ForAll t c =
     let old = lines_of c.args.lines.now.items in
-    let kind = sought_view c.args.search.sought in
-    let name = c.args.search.lemma.now in
-    let bs = innermost_first c.args.binders.now.items in
-    let told : Formula → List Finding = λ f. sought kind name (uses bs f) in
-    let left = c.in-Equivalent.left in
-    let right = c.in-Equivalent.right in
-    let first : lines_of c.tell_uses-in-Equivalent.new.lines.items ≡ lines_after old (told (formula left.value)) =
-    c.in_ok-tell_uses-in-Equivalent.ensures ∙ ap (λ (f : ReadFormula). lines_after old (told (formula f))) c.deref-in-Equivalent.ensures in
-    c.in_ok-tell_uses-in-Equivalent-2.ensures
-    ∙ ap (λ (f : ReadFormula). lines_after (lines_of c.tell_uses-in-Equivalent.new.lines.items) (told (formula f))) c.deref-in-Equivalent-2.ensures
-    ∙ ap (λ (ls : List (List ℕ)). lines_after ls (told (formula right.value))) first
-    ∙ sought_equivalent old kind name (uses bs (formula left.value)) (uses bs (formula right.value))
-    ∙ ap (lines_after old) (sym (ap told (ap formula c.in-Equivalent.is ∙ equivalent_shown left right)))
-
-pub tell_uses-returns-in_ok-tell_uses-in-ForAll : goal.tell_uses-returns-in_ok-tell_uses-in-ForAll
-tell_uses-returns-in_ok-tell_uses-in-ForAll t c =
     let bs = c.args.binders.now.items in
-    let inner = c.in_ok-inner-in-ForAll.inner.items in
+    let outer = innermost_first bs in
+    let named = c.in-ForAll.more in
+    let inner = innermost_first (bs ++ named.items) in
     let body = c.in-ForAll.body in
-    c.in_ok-tell_uses-in-ForAll.ensures
-    ∙ ap (λ us. lines_after (lines_of c.args.lines.now.items) (sought (sought_view c.args.search.sought) c.args.search.lemma.now us))
-    (ap (λ (f : ReadFormula). uses (innermost_first inner) (formula f)) c.deref-in-ForAll.ensures
-    ∙ sought_for_all bs c.in-ForAll.more.items inner (formula body.value) c.in_ok-inner-in-ForAll.ensures
-    ∙ sym (ap (uses (innermost_first bs)) (ap formula c.in-ForAll.is ∙ every_shown c.in-ForAll.more body)))
-
-pub tell_uses-returns-in_ok-tell_uses-in-ForSome : goal.tell_uses-returns-in_ok-tell_uses-in-ForSome
-tell_uses-returns-in_ok-tell_uses-in-ForSome t c =
-    let bs = c.args.binders.now.items in
-    let inner = c.in_ok-inner-in-ForSome.inner.items in
-    let body = c.in-ForSome.body in
-    c.in_ok-tell_uses-in-ForSome.ensures
-    ∙ ap (λ us. lines_after (lines_of c.args.lines.now.items) (sought (sought_view c.args.search.sought) c.args.search.lemma.now us))
-    (ap (λ (f : ReadFormula). uses (innermost_first inner) (formula f)) c.deref-in-ForSome.ensures
-    ∙ sought_for_some bs c.in-ForSome.more.items inner (formula body.value) c.in_ok-inner-in-ForSome.ensures
-    ∙ sym (ap (uses (innermost_first bs)) (ap formula c.in-ForSome.is ∙ some_shown c.in-ForSome.more body)))
+    let shown : uses inner (formula body.value) ≡ uses outer (formula c.args.formula.now) =
+    ⊎_elim (λ e. sought_for_all bs named.items (bs ++ named.items) (formula body.value) refl ∙ sym (ap (uses outer) (ap formula e ∙ every_shown named body)))
+    (λ e. sought_for_some bs named.items (bs ++ named.items) (formula body.value) refl ∙ sym (ap (uses outer) (ap formula e ∙ some_shown named body))) c.in-ForAll.is in
+    on_so c.tell_uses_behind.result _ (lines_of c.tell_uses_behind.new.lines.items ≡ lines_after old (sought (sought_view c.args.search.sought) c.args.search.lemma.now (uses outer (formula c.args.formula.now))))
+    (λ inside.
+    inside
+    ∙ ap (λ us. lines_after old (sought (sought_view c.args.search.sought) c.args.search.lemma.now us))
+    (ap (λ (f : ReadFormula). uses inner (formula f)) c.deref-in-ForAll.ensures ∙ shown))
+    c.tell_uses_behind.ensures
 
 pub tell_uses-returns-in_ok-tell_uses-in-Both-2 : goal.tell_uses-returns-in_ok-tell_uses-in-Both-2
 tell_uses-returns-in_ok-tell_uses-in-Both-2 t c =

@@ -1,5 +1,5 @@
 use Rattle.std.proofs.Common.{◌≡◌, drop, map}
-use Rattle.sp_ground.specs.View.{symbol_of}
+use Rattle.sp_fact.specs.GroundView.{symbol_of}
 use Rattle.sp_spec_text.specs.Written.{functions_in}
 use Rattle.sp_wf.specs.SymbolFindings.{declared_otherwise}
 use Rattle.sp_written.specs.Views as view

@@ -1,6 +1,6 @@
 use Rattle.std.proofs.Common.{List, map}
 use Rattle.std.specs.List.{flat_map}
-use Rattle.sp_ground.specs.View.{symbol_of}
+use Rattle.sp_fact.specs.GroundView.{symbol_of}
 use Rattle.sp_term.specs.View.{name_of}
 use Rattle.sp_term.specs.declared.term.Name.{Name}
 use Rattle.sp_spec_text.specs.Declared.{builtin_of, builtin_symbols}

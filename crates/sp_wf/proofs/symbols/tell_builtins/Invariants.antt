@@ -1,6 +1,6 @@
 use Rattle.std.proofs.Common.{◌≡◌, drop, map}
 use Rattle.sp_term.specs.View.{name_of}
-use Rattle.sp_ground.specs.View.{symbol_of}
+use Rattle.sp_fact.specs.GroundView.{symbol_of}
 use Rattle.sp_wf.specs.Told.{otherwise_named}
 use Rattle.sp_wf.specs.Report.{lines_after}
 use Rattle.sp_wf.specs.View.{lines_of}

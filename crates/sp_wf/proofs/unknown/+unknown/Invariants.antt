@@ -1,5 +1,5 @@
 use Rattle.std.proofs.Common.{◌≡◌, drop, map}
-use Rattle.sp_ground.specs.View.{symbol_of}
+use Rattle.sp_fact.specs.GroundView.{symbol_of}
 use Rattle.sp_read_parts.specs.Views as parts
 use Rattle.sp_wf.specs.SymbolFindings as spec
 use Rattle.sp_wf.specs.Report.{lines_after}

@@ -1,5 +1,5 @@
 use Rattle.std.proofs.Common.{List, map, refl}
-use Rattle.sp_ground.specs.View.{symbol_of}
+use Rattle.sp_fact.specs.GroundView.{symbol_of}
 use Rattle.sp_spec_text.specs.Written.{Item}
 use Rattle.sp_wf.specs.SymbolFindings.{unknown_in_item, unknown_in_items}
 use Rattle.sp_written.specs.Views as view

@@ -1,5 +1,5 @@
 use Rattle.std.proofs.Common.{List, ◌++◌, map, sym, append_assoc}
-use Rattle.sp_ground.specs.View.{symbol_of}
+use Rattle.sp_fact.specs.GroundView.{symbol_of}
 use Rattle.sp_read_parts.specs.Views.{term}
 use Rattle.sp_written.specs.Views as view
 use Rattle.sp_written.specs.declared.theory.WrittenEquation.{WrittenEquation}

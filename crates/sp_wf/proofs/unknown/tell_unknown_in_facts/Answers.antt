@@ -1,5 +1,5 @@
 use Rattle.std.proofs.Common.{List, map, refl}
-use Rattle.sp_ground.specs.View.{symbol_of}
+use Rattle.sp_fact.specs.GroundView.{symbol_of}
 use Rattle.sp_fact.specs.declared.fact.Fact.{Fact}
 use Rattle.sp_read_parts.specs.declared.written.WrittenVariable.{WrittenVariable}
 use Rattle.sp_read_parts.specs.Views as parts

@@ -1,6 +1,7 @@
-use Rattle.std.proofs.Common.{sym, ap, ◌∙◌, map}
-use Rattle.sp_spec.specs.Guarded.{all_of, one_of}
-use Rattle.sp_spec.specs.Change.{changed}
+use Rattle.std.proofs.Common.{◌≡◌, refl, sym, ap, ◌∙◌, map}
+use Rattle.sp_spec.proofs.Options.{ok_so}
+use Rattle.sp_spec.specs.Guarded.{all_of, one_of, some, every}
+use Rattle.sp_spec.specs.Change.{atom_changed, changed}
 use Rattle.sp_formula.specs.FormulaView.{atom_of, binder_of, formula_of}
 use Rattle.sp_formula.specs.declared.formula.Formula.{Formula}
 use Rattle.sp_formula.proofs.Formulas.{all_shown, one_shown, some_shown, every_shown, each_changed, some_changed, every_changed}
@@ -31,14 +32,15 @@ formula_inside-returns-in_ok-body-in-Exists t c =
     let bs = c.in-Exists.binders in
     let guard = c.in-Exists.guard in
     let body = c.in-Exists.body in
-    let cs = c.in_ok-binders-in-Exists.binders in
-    let atoms = c.in_ok-guard-in-Exists.guard in
     let made = c.in_ok-body-in-Exists.body in
-    some_shown cs atoms made
-    ∙ some_changed d (map binder_of bs.items) (map binder_of cs.items) (map atom_of guard.items) (map atom_of atoms.items) (formula_of body.value) (formula_of made.value) e
+    let atoms = map (atom_changed e) (map atom_of guard.items) in
+    let shown : some (map binder_of bs.items) atoms (formula_of made.value) ≡ changed d (formula_of c.args.formula.now) =
+    some_changed d (map binder_of bs.items) (map binder_of bs.items) (map atom_of guard.items) atoms (formula_of body.value) (formula_of made.value) e
     (c.in_ok-within-in-Exists.ensures (change_of c.args.self.now))
-    c.in_ok-binders-in-Exists.ensures c.in_ok-guard-in-Exists.ensures (c.in_ok-body-in-Exists.ensures ∙ ap (λ (f : Formula). changed e (formula_of f)) c.deref.ensures)
-    ∙ sym (ap (λ (f : Formula). changed d (formula_of f)) c.in-Exists.is ∙ ap (changed d) (some_shown bs guard body))
+    refl refl (c.in_ok-body-in-Exists.ensures ∙ ap (λ (f : Formula). changed e (formula_of f)) c.deref.ensures)
+    ∙ sym (ap (λ (f : Formula). changed d (formula_of f)) c.in-Exists.is ∙ ap (changed d) (some_shown bs guard body)) in
+    ok_so c.existential.result (λ f. formula_of f ≡ some (map binder_of bs.items) atoms (formula_of made.value)) (λ f. formula_of f ≡ changed d (formula_of c.args.formula.now))
+    (λ f told. told ∙ shown) c.existential.ensures
 
 pub formula_inside-returns-in_ok-body-in-ForAll : goal.formula_inside-returns-in_ok-body-in-ForAll
 formula_inside-returns-in_ok-body-in-ForAll t c =
@@ -47,11 +49,12 @@ formula_inside-returns-in_ok-body-in-ForAll t c =
     let bs = c.in-ForAll.binders in
     let guard = c.in-ForAll.guard in
     let body = c.in-ForAll.body in
-    let cs = c.in_ok-binders-in-ForAll.binders in
-    let atoms = c.in_ok-guard-in-ForAll.guard in
     let made = c.in_ok-body-in-ForAll.body in
-    every_shown cs atoms made
-    ∙ every_changed d (map binder_of bs.items) (map binder_of cs.items) (map atom_of guard.items) (map atom_of atoms.items) (formula_of body.value) (formula_of made.value) e
+    let atoms = map (atom_changed e) (map atom_of guard.items) in
+    let shown : every (map binder_of bs.items) atoms (formula_of made.value) ≡ changed d (formula_of c.args.formula.now) =
+    every_changed d (map binder_of bs.items) (map binder_of bs.items) (map atom_of guard.items) atoms (formula_of body.value) (formula_of made.value) e
     (c.in_ok-within-in-ForAll.ensures (change_of c.args.self.now))
-    c.in_ok-binders-in-ForAll.ensures c.in_ok-guard-in-ForAll.ensures (c.in_ok-body-in-ForAll.ensures ∙ ap (λ (f : Formula). changed e (formula_of f)) c.deref-in-ForAll.ensures)
-    ∙ sym (ap (λ (f : Formula). changed d (formula_of f)) c.in-ForAll.is ∙ ap (changed d) (every_shown bs guard body))
+    refl refl (c.in_ok-body-in-ForAll.ensures ∙ ap (λ (f : Formula). changed e (formula_of f)) c.deref-in-ForAll.ensures)
+    ∙ sym (ap (λ (f : Formula). changed d (formula_of f)) c.in-ForAll.is ∙ ap (changed d) (every_shown bs guard body)) in
+    ok_so c.universal.result (λ f. formula_of f ≡ every (map binder_of bs.items) atoms (formula_of made.value)) (λ f. formula_of f ≡ changed d (formula_of c.args.formula.now))
+    (λ f told. told ∙ shown) c.universal.ensures

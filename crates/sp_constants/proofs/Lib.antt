@@ -1,4 +1,0 @@
-pub mod Once
-pub mod Stepping
-pub mod Joints
-pub mod Theory

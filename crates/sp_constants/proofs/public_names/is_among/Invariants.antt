@@ -1,7 +1,0 @@
-use Rattle.std.proofs.Common.{◌≡◌, map, drop}
-use Rattle.sp_spec.specs.Written.{is_listed}
-use Rattle.sp_term.specs.View.{name_of}
-use Rattle.sp_constants.proofs.public_names.is_among.Given as goal
-
-abbrev pub invariant-loop-other : goal.invariant-loop-other
-invariant-loop-other l = is_listed (name_of l.name) (map name_of l.names.items) ≡ is_listed (name_of l.name) (map name_of (drop l.other-index l.names.items))

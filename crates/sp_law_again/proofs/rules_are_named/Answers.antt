@@ -1,5 +1,0 @@
-use Rattle.sp_law_again.proofs.Named.{rules_named}
-use Rattle.sp_law_again.proofs.rules_are_named.Goals as goal
-
-pub returns : goal.returns
-returns c = record { named = rules_named }

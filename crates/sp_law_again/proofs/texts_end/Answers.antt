@@ -1,5 +1,0 @@
-use Rattle.sp_law_again.proofs.Behind.{behind_end, behind_one}
-use Rattle.sp_law_again.proofs.texts_end.Goals as goal
-
-pub returns : goal.returns
-returns c = record { behind = behind_end; one = behind_one }

@@ -1,0 +1,2 @@
+pub mod BasicTheory
+pub mod Laws

@@ -1,5 +1,0 @@
-use Rattle.sp_law_block.proofs.CandidateNames.{candidates_have_names_lem}
-use Rattle.sp_law_block.proofs.candidates_have_names.Goals as goal
-
-pub returns : goal.returns
-returns c = candidates_have_names_lem

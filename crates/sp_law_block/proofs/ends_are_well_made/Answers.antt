@@ -1,5 +1,0 @@
-use Rattle.sp_law_block.proofs.Ends.{ends_are_well_made_lem}
-use Rattle.sp_law_block.proofs.ends_are_well_made.Goals as goal
-
-pub returns : goal.returns
-returns c = ends_are_well_made_lem

@@ -1,5 +1,0 @@
-use Rattle.sp_law_block.proofs.TextNames.{texts_have_names_lem}
-use Rattle.sp_law_block.proofs.texts_have_names.Goals as goal
-
-pub returns : goal.returns
-returns c = texts_have_names_lem

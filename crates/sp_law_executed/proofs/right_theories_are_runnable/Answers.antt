@@ -1,9 +1,0 @@
-use Rattle.sp_law_executed.proofs.right_theories_are_runnable.Goals as goal
-
-pub returns : goal.returns
-returns c = record {
-  each = λ theory good. record {
-    executable = record { instances = good.instances; distinct = good.declared.distinct; fresh = good.takes_fresh };
-    reserved = good.reserved;
-  };
-}

@@ -1,5 +1,0 @@
-use Rattle.sp_law_listed.proofs.Ready.{suggests, suggests_alone}
-use Rattle.sp_law_listed.proofs.solved_systems_suggest_logs.Goals as goal
-
-pub returns : goal.returns
-returns c = record { suggest = suggests; no_others = suggests_alone }

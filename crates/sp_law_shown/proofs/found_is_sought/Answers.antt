@@ -1,5 +1,0 @@
-use Rattle.sp_law_shown.proofs.Sought.{found_is_sought_lem}
-use Rattle.sp_law_shown.proofs.found_is_sought.Goals as goal
-
-pub returns : goal.returns
-returns c = found_is_sought_lem

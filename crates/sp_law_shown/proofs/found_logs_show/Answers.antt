@@ -1,5 +1,0 @@
-use Rattle.sp_law_shown.proofs.Found.{found_logs_show_lem}
-use Rattle.sp_law_shown.proofs.found_logs_show.Goals as goal
-
-pub returns : goal.returns
-returns c = found_logs_show_lem

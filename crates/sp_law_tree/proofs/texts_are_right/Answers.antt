@@ -1,5 +1,0 @@
-use Rattle.sp_law_tree.proofs.RightTexts.{texts_are_right_lem}
-use Rattle.sp_law_tree.proofs.texts_are_right.Goals as goal
-
-pub returns : goal.returns
-returns c = texts_are_right_lem

@@ -1,6 +1,0 @@
-use Rattle.std.proofs.Common.{◌≡◌, ◌++◌, drop, map}
-use Rattle.sp_ground.specs.View.{ground_of}
-use Rattle.sp_learn.proofs.log.copy_messages.Given as goal
-
-abbrev pub invariant-loop-message : goal.invariant-loop-message
-invariant-loop-message l = map ground_of l.made.items ++ map ground_of (drop l.message-index l.message-items) ≡ map ground_of l.messages.items
