@@ -1,13 +1,9 @@
-// The program: the words of the command line, files and standard input, standard output, and the status.
-// It stands on `sp_top`, whose `run` it calls, and on `sp_io`, whose library and sink it brings. Nothing stands above it.
-// It promises that its library and its sink keep the clauses of `sp_io`: they fail only where their count rises, give
-// at most as many bytes as they may, and take what they say. What files hold and the terminal shows isn't told.
+// The program: it hands the words of the command line, the files and the terminal to the top call, whose status it ends with.
+// It stands on `sp_top`, whose `run` it calls, and on `sp_host`, whose files and terminal it brings. Nothing stands above it.
+// It promises nothing of its own: what is said of a call stands on `run`, and of files and the terminal on `sp_host`.
 #![tactic(auto)]
 
-mod files;
-mod terminal;
-
-use files::Files;
+use sp_host::{Files, Terminal};
 use sp_top::{Status, Words, run};
 use std::alloc::AllocError;
 use std::env;
@@ -37,7 +33,7 @@ fn main(rt: HostRuntime) -> ExitCode {
     let status = match words(&rt) {
         Ok(words) => {
             let mut library = Files::new(&rt);
-            let mut sink = terminal::Terminal::new(&rt);
+            let mut sink = Terminal::new(&rt);
             run(rt.alloc(), &words, &mut library, &mut sink)
         }
         Err(_) => Status::NoMemory,
