@@ -6,7 +6,7 @@ use Rattle.sp_spec.specs.Log.{Log}
 use Rattle.sp_spec.specs.Theory.{TraceKind, all_traces, exists_trace, Theory, Lemma}
 use Rattle.sp_spec.specs.Written.{WrittenTheory, theory_of}
 use Rattle.sp_spec_system.specs.System.{System}
-use Rattle.sp_spec_system.specs.Move.{Context}
+use Rattle.sp_spec_system.specs.Move.{Context, root_system}
 use Rattle.sp_spec_proof.specs.Tree.{Tree, IsAccepted, IsFinished, found_log, steps}
 use Rattle.sp_spec_proof.proofs.Growing.{grown_tree_accepted}
 use Rattle.sp_check.specs.Skeleton.{tree_of}
@@ -28,13 +28,14 @@ use Rattle.sp_law_reread.proofs.Behind.{behind_end}
 use Rattle.sp_law_reread.proofs.Items.{read_again}
 use Rattle.sp_law_reread.proofs.Replaced.{each_lemma, same_theory, trees_proofs}
 use Rattle.sp_analysis.proofs.Anew.{as_many_resolved, posed_anew}
-use Rattle.sp_analysis.specs.Sought.{goal_of, root_system, Setting, setting_of, context_of}
+use Rattle.sp_analysis.specs.Sought.{root_of, Setting, setting_of, context_of}
 use Rattle.sp_spec_text.specs.Verdict.{Verdict, verified, falsified, incomplete, rejected, Says, summary_line}
 use Rattle.sp_law_printed_log.specs.Block.{block_of, IsNumbered}
 use Rattle.sp_spec_text.specs.Numerals.{counted}
 use Rattle.sp_analysis.specs.Analysis.{Outcome, summary, trees_of, IsOutcome, AreOutcomes, IsAnalysis}
 use Rattle.sp_analysis.specs.Checking.{IsVerdictIn, Judged, checked_text, IsJudged, AreJudged}
 use Rattle.sp_analysis.specs.Laws.{IsCheckedAgain, WrittenIsChecked}
+use Rattle.sp_analysis.proofs.NoneTaken.{outcome_parts, judged_from}
 
 -- ---- one lemma
 
@@ -49,18 +50,18 @@ verdict_again context s exists_trace (rejected step clause) log t a e is says = 
 
 module _ (setting : Setting) (budget : ℕ) where
   abbrev judged_of : (l : Lemma) (o : Outcome) → IsOutcome setting budget [] l o → Judged
-  judged_of l o h = record { lemma = o.lemma; goal = goal_of [] l.kind h.form; proof = skeleton (as_written o.tree); log = o.log; verdict = o.verdict }
+  judged_of l o h = record { lemma = o.lemma; root = root_of [] l.kind h.form; proof = skeleton (as_written o.tree); log = o.log; verdict = o.verdict }
 
   judged_again : (l : Lemma) (o : Outcome) (h : IsOutcome setting budget [] l o) → IsReadable o.tree → IsJudged setting [] l (Some (as_written o.tree)) (judged_of l o h)
   judged_again l o h r =
-      let context = context_of setting (goal_of [] l.kind h.form) in
-      let s = root_system (goal_of [] l.kind h.form) in
+      let context = context_of setting (root_of [] l.kind h.form) in
+      let s = root_system (root_of [] l.kind h.form) in
       record {
         lemma_is = h.lemma_is;
         proof_is = refl;
         form = h.form;
         form_is = h.form_is;
-        goal_is = refl;
+        root_is = refl;
         verdict_is =
             verdict_again context s l.kind o.verdict o.log o.tree
             (subst (λ (t : Tree). IsAccepted context s t) (sym h.tree_is) (grown_tree_accepted context s budget))
@@ -77,46 +78,50 @@ module _ (setting : Setting) (budget : ℕ) where
   all_again [] [] h = []
   all_again [] (o ∷ os) h = []
   all_again (l ∷ ls) [] h = []
-  all_again (l ∷ ls) (o ∷ os) h = judged_of l o h.0 ∷ all_again ls os h.1
+  all_again (l ∷ ls) (o ∷ os) h = judged_of l o h.0 ∷ all_again ls os (outcome_parts setting budget l ls o os h).1
 
   are_again : (qs : List (Lemma × Option WrittenProof)) (os : List Outcome) (h : AreOutcomes setting budget [] (without_proofs qs) os) → Every (λ (o : Outcome). IsReadable o.tree) os
       → AreJudged setting [] (proved_by qs (as_proofs (trees_of os))) (all_again (without_proofs qs) os h)
   are_again [] [] h r = tt
   are_again [] (o ∷ os) h r = absurd h
   are_again (q ∷ qs) [] h r = absurd h
-  are_again (q ∷ qs) (o ∷ os) h r = (judged_again q.0 o h.0 r.0, are_again qs os h.1 r.1)
+  are_again (q ∷ qs) (o ∷ os) h r =
+      let parts = outcome_parts setting budget q.0 (without_proofs qs) o os h in
+      judged_from setting (q.0, Some (as_written o.tree)) (proved_by qs (as_proofs (trees_of os))) (judged_of q.0 o h.0) (all_again (without_proofs qs) os parts.1) (judged_again q.0 o h.0 r.0)
+      (are_again qs os parts.1 r.1)
 
   lines_again : (theory : Theory) (ls : List Lemma) (os : List Outcome) (h : AreOutcomes setting budget [] ls os) → Every (λ (o : Outcome). IsReadable o.tree) os → summary theory os ≡ checked_text theory (all_again ls os h)
   lines_again theory [] [] h r = refl
   lines_again theory [] (o ∷ os) h r = absurd h
   lines_again theory (l ∷ ls) [] h r = absurd h
   lines_again theory (l ∷ ls) (o ∷ os) h r =
-      ap₂ (λ (n : ℕ) (rest : List ℕ). summary_line o.lemma.name o.lemma.kind o.verdict n ++ (block_of theory o.log ++ rest)) (sym (steps_again o r.0)) (lines_again theory ls os h.1 r.1)
+      ap₂ (λ (n : ℕ) (rest : List ℕ). summary_line o.lemma.name o.lemma.kind o.verdict n ++ (block_of theory o.log ++ rest)) (sym (steps_again o r.0))
+      (lines_again theory ls os (outcome_parts setting budget l ls o os h).1 r.1)
 
   verdicts_again : (ls : List Lemma) (os : List Outcome) (h : AreOutcomes setting budget [] ls os) → map (λ (j : Judged). j.verdict) (all_again ls os h) ≡ map (λ (o : Outcome). o.verdict) os
   verdicts_again [] [] h = refl
   verdicts_again [] (o ∷ os) h = absurd h
   verdicts_again (l ∷ ls) [] h = absurd h
-  verdicts_again (l ∷ ls) (o ∷ os) h = ap (λ (vs : List Verdict). o.verdict ∷ vs) (verdicts_again ls os h.1)
+  verdicts_again (l ∷ ls) (o ∷ os) h = ap (λ (vs : List Verdict). o.verdict ∷ vs) (verdicts_again ls os (outcome_parts setting budget l ls o os h).1)
 
   logs_again : (ls : List Lemma) (os : List Outcome) (h : AreOutcomes setting budget [] ls os) → map (λ (j : Judged). j.log) (all_again ls os h) ≡ map (λ (o : Outcome). o.log) os
   logs_again [] [] h = refl
   logs_again [] (o ∷ os) h = absurd h
   logs_again (l ∷ ls) [] h = absurd h
-  logs_again (l ∷ ls) (o ∷ os) h = ap (λ (xs : List (Option Log)). o.log ∷ xs) (logs_again ls os h.1)
+  logs_again (l ∷ ls) (o ∷ os) h = ap (λ (xs : List (Option Log)). o.log ∷ xs) (logs_again ls os (outcome_parts setting budget l ls o os h).1)
 
   numbers_again : (theory : Theory) (ls : List Lemma) (os : List Outcome) (h : AreOutcomes setting budget [] ls os) → Every (λ (o : Outcome). IsNumbered theory o.log) os
       → Every (λ (j : Judged). IsNumbered theory j.log) (all_again ls os h)
   numbers_again theory [] [] h n = tt
   numbers_again theory [] (o ∷ os) h n = absurd h
   numbers_again theory (l ∷ ls) [] h n = absurd h
-  numbers_again theory (l ∷ ls) (o ∷ os) h n = (n.0, numbers_again theory ls os h.1 n.1)
+  numbers_again theory (l ∷ ls) (o ∷ os) h n = (n.0, numbers_again theory ls os (outcome_parts setting budget l ls o os h).1 n.1)
 
   as_many : (ls : List Lemma) (os : List Outcome) → AreOutcomes setting budget [] ls os → length os ≡ length ls
   as_many [] [] h = refl
   as_many [] (o ∷ os) h = absurd h
   as_many (l ∷ ls) [] h = absurd h
-  as_many (l ∷ ls) (o ∷ os) h = ap suc (as_many ls os h.1)
+  as_many (l ∷ ls) (o ∷ os) h = ap suc (as_many ls os (outcome_parts setting budget l ls o os h).1)
 
 trees_readable : (os : List Outcome) → Every (λ (o : Outcome). IsReadable o.tree) os → Every IsReadable (trees_of os)
 trees_readable [] r = tt
@@ -130,8 +135,8 @@ all_readable setting budget [] (o ∷ os) n h p = absurd h
 all_readable setting budget (l ∷ ls) [] n h p = absurd h
 all_readable setting budget (l ∷ ls) (o ∷ os) n h p =
     let grown = h.0.tree_is in (
-      subst IsReadable (sym grown) (grown_readable (context_of setting (goal_of [] l.kind h.0.form)) (root_system (goal_of [] l.kind h.0.form)) budget n (subst HavePlaces grown p.0)),
-      all_readable setting budget ls os n h.1 p.1,
+      subst IsReadable (sym grown) (grown_readable (context_of setting (root_of [] l.kind h.0.form)) (root_system (root_of [] l.kind h.0.form)) budget n (subst HavePlaces grown p.0)),
+      all_readable setting budget ls os n (outcome_parts setting budget l ls o os h).1 p.1,
     )
 
 pub written_is_checked_lem : WrittenIsChecked

@@ -5,7 +5,7 @@ use Rattle.sp_spec.specs.Theory.{TraceKind, all_traces, exists_trace, Lemma}
 use Rattle.sp_spec.specs.Written.{theory_of}
 use Rattle.sp_spec.specs.Guarded.{Guarded}
 use Rattle.sp_spec_system.specs.System.{System}
-use Rattle.sp_spec_system.specs.Move.{Context}
+use Rattle.sp_spec_system.specs.Move.{Context, Root, root_system}
 use Rattle.sp_spec_proof.specs.Tree.{Tree, IsAccepted, IsFinished, found_log}
 use Rattle.sp_search.specs.Finished.{finished}
 use Rattle.sp_search.proofs.Finished.{finished_decides}
@@ -19,12 +19,13 @@ use Rattle.sp_spec_text.specs.Spans.{Span}
 use Rattle.sp_spec_text.specs.Texts.{ArePlaces}
 use Rattle.sp_read_theory.proofs.Whole.{text_one, places_one}
 use Rattle.sp_pose.proofs.One.{one_report, not_posed}
-use Rattle.sp_analysis.specs.Sought.{Goal, goal_of, root_system, Setting, setting_of, context_of, proof_tree, grown_log}
+use Rattle.sp_analysis.specs.Sought.{root_of, Setting, setting_of, context_of, proof_tree, grown_log}
 use Rattle.sp_spec_text.specs.Verdict.{Verdict, verified, falsified, incomplete, rejected, Says}
 use Rattle.sp_analysis.specs.Analysis.{Outcome, IsOutcome, AreOutcomes, analysed_text, IsAnalysis}
 use Rattle.sp_analysis.specs.Checking.{Judged, checked_text, IsVerdictIn, IsVerdictOn, IsJudged, AreJudged, IsChecking}
 use Rattle.sp_analysis.specs.Printed.{by_leaves, by_tree, by_judgement, judged_log}
 use Rattle.sp_analysis.specs.Laws.{AnswersAreOne}
+use Rattle.sp_analysis.proofs.NoneTaken.{outcome_parts, judged_parts}
 use Rattle.std.proofs.lemmas.Bool.{false_from_ne_true}
 
 -- ---- verdicts
@@ -87,8 +88,8 @@ same_outcome : (setting : Setting) (budget : ℕ) (l : Lemma) (o p : Outcome) �
 same_outcome setting budget l o p h k =
     let forms : Some h.form ≡ Some k.form = sym h.form_is ∙ k.form_is in
     let form : h.form ≡ k.form = cc in
-    let tree : o.tree ≡ p.tree = h.tree_is ∙ ap (λ (g : Guarded). proof_tree setting budget (goal_of [] l.kind g)) form ∙ sym k.tree_is in
-    let log : o.log ≡ p.log = h.log_is ∙ ap (λ (g : Guarded). grown_log setting budget (goal_of [] l.kind g)) form ∙ sym k.log_is in
+    let tree : o.tree ≡ p.tree = h.tree_is ∙ ap (λ (g : Guarded). proof_tree setting budget (root_of [] l.kind g)) form ∙ sym k.tree_is in
+    let log : o.log ≡ p.log = h.log_is ∙ ap (λ (g : Guarded). grown_log setting budget (root_of [] l.kind g)) form ∙ sym k.log_is in
     let says : Says l.kind o.verdict p.log (IsFinished p.tree) =
     subst (λ (t : Tree). Says l.kind o.verdict p.log (IsFinished t)) tree (subst (λ (x : Option Log). Says l.kind o.verdict x (IsFinished o.tree)) log h.verdict_is) in
     let verdict = by_its_tree l.kind p.tree o.verdict p.log says ∙ sym (by_its_tree l.kind p.tree p.verdict p.log k.verdict_is) in
@@ -101,24 +102,26 @@ same_outcomes setting budget [] (o ∷ os) ps h k = absurd h
 same_outcomes setting budget (l ∷ ls) [] ps h k = absurd h
 same_outcomes setting budget (l ∷ ls) (o ∷ os) [] h k = absurd k
 same_outcomes setting budget (l ∷ ls) (o ∷ os) (p ∷ ps) h k =
-    ap₂ (λ (x : Outcome) (xs : List Outcome). x ∷ xs) (same_outcome setting budget l o p h.0 k.0) (same_outcomes setting budget ls os ps h.1 k.1)
+    let one = outcome_parts setting budget l ls o os h in
+    let other = outcome_parts setting budget l ls p ps k in
+    ap₂ (λ (x : Outcome) (xs : List Outcome). x ∷ xs) (same_outcome setting budget l o p one.0 other.0) (same_outcomes setting budget ls os ps one.1 other.1)
 
-abbrev judged : Lemma → Goal → Skeleton → Option Log → Verdict → Judged
-judged l goal k log v = record { lemma = l; goal = goal; proof = k; log = log; verdict = v }
+abbrev judged : Lemma → Root → Skeleton → Option Log → Verdict → Judged
+judged l root k log v = record { lemma = l; root = root; proof = k; log = log; verdict = v }
 
 same_judged : (setting : Setting) (l : Lemma) (p : Option WrittenProof) (i j : Judged) → IsJudged setting [] l p i → IsJudged setting [] l p j → i ≡ j
 same_judged setting l p i j h k =
     let forms : Some h.form ≡ Some k.form = sym h.form_is ∙ k.form_is in
     let form : h.form ≡ k.form = cc in
-    let goal : i.goal ≡ j.goal = h.goal_is ∙ ap (goal_of [] l.kind) form ∙ sym k.goal_is in
+    let root : i.root ≡ j.root = h.root_is ∙ ap (root_of [] l.kind) form ∙ sym k.root_is in
     let proof : i.proof ≡ j.proof = h.proof_is ∙ sym k.proof_is in
-    let moved : IsVerdictOn setting j.goal j.proof i.verdict i.log =
-    subst (λ (g : Goal). IsVerdictOn setting g j.proof i.verdict i.log) goal (subst (λ (x : Skeleton). IsVerdictOn setting i.goal x i.verdict i.log) proof h.verdict_is) in
-    let first = by_its_judgement (context_of setting j.goal) (root_system j.goal) j.proof j.goal.kind i.verdict i.log moved in
-    let second = by_its_judgement (context_of setting j.goal) (root_system j.goal) j.proof j.goal.kind j.verdict j.log k.verdict_is in
-    ap₂ (λ (m : Lemma) (g : Goal). judged m g i.proof i.log i.verdict) (h.lemma_is ∙ sym k.lemma_is) goal
-    ∙ ap (λ (x : Skeleton). judged j.lemma j.goal x i.log i.verdict) proof
-    ∙ ap₂ (judged j.lemma j.goal j.proof) (first.1 ∙ sym second.1) (first.0 ∙ sym second.0)
+    let moved : IsVerdictOn setting l.kind j.root j.proof i.verdict i.log =
+    subst (λ (g : Root). IsVerdictOn setting l.kind g j.proof i.verdict i.log) root (subst (λ (x : Skeleton). IsVerdictOn setting l.kind i.root x i.verdict i.log) proof h.verdict_is) in
+    let first = by_its_judgement (context_of setting j.root) (root_system j.root) j.proof l.kind i.verdict i.log moved in
+    let second = by_its_judgement (context_of setting j.root) (root_system j.root) j.proof l.kind j.verdict j.log k.verdict_is in
+    ap₂ (λ (m : Lemma) (g : Root). judged m g i.proof i.log i.verdict) (h.lemma_is ∙ sym k.lemma_is) root
+    ∙ ap (λ (x : Skeleton). judged j.lemma j.root x i.log i.verdict) proof
+    ∙ ap₂ (judged j.lemma j.root j.proof) (first.1 ∙ sym second.1) (first.0 ∙ sym second.0)
 
 same_all_judged : (setting : Setting) (qs : List (Lemma × Option WrittenProof)) (is js : List Judged) → AreJudged setting [] qs is → AreJudged setting [] qs js → is ≡ js
 same_all_judged setting [] [] [] h k = refl
@@ -127,7 +130,9 @@ same_all_judged setting [] (i ∷ is) js h k = absurd h
 same_all_judged setting (q ∷ qs) [] js h k = absurd h
 same_all_judged setting (q ∷ qs) (i ∷ is) [] h k = absurd k
 same_all_judged setting (q ∷ qs) (i ∷ is) (j ∷ js) h k =
-    ap₂ (λ (x : Judged) (xs : List Judged). x ∷ xs) (same_judged setting q.0 q.1 i j h.0 k.0) (same_all_judged setting qs is js h.1 k.1)
+    let one = judged_parts setting q qs i is h in
+    let other = judged_parts setting q qs j js k in
+    ap₂ (λ (x : Judged) (xs : List Judged). x ∷ xs) (same_judged setting q.0 q.1 i j one.0 other.0) (same_all_judged setting qs is js one.1 other.1)
 
 -- ---- answers
 

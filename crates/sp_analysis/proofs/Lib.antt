@@ -1,3 +1,4 @@
+pub mod NoneTaken
 pub mod Right
 pub mod AnswersOne
 pub mod Writing

@@ -10,7 +10,7 @@ use Rattle.sp_spec.specs.Guarded.{Guarded}
 use Rattle.sp_law_guard.specs.CheckedForm.{checked_form}
 use Rattle.sp_read_parts.specs.Formulas.{formula}
 use Rattle.sp_spec_system.specs.System.{System}
-use Rattle.sp_spec_system.specs.Move.{Context}
+use Rattle.sp_spec_system.specs.Move.{Context, Root, root_system}
 use Rattle.sp_spec_proof.specs.Tree.{Tree, IsAccepted, IsFinished, found_log, steps}
 use Rattle.sp_spec_proof.proofs.TreeLogs.{no_log, finished_no_end}
 use Rattle.sp_search.specs.Finished.{finished}
@@ -36,17 +36,18 @@ use Rattle.sp_spec_text.specs.Spans.{Span, Rise, goes_on}
 use Rattle.sp_written.specs.declared.theory.WrittenLemma.{WrittenLemma}
 use Rattle.sp_law_reread.specs.Again.{between, replaced}
 use Rattle.sp_pose.proofs.Forms.{AreForms, asked_list, has_forms, lemmas_said}
-use Rattle.sp_analysis.specs.Sought.{Goal, goal_of, root_system, Setting, setting_of, executed, context_of, proof_tree, grown_log}
+use Rattle.sp_analysis.specs.Sought.{root_of, Setting, setting_of, executed, context_of, proof_tree, grown_log}
 use Rattle.sp_spec_text.specs.Verdict.{Verdict, Says}
 use Rattle.sp_law_printed_log.specs.Block.{block_by, IsNumberedBy}
 use Rattle.sp_spec_text.specs.Numerals.{counted}
 use Rattle.sp_analysis.specs.Analysis.{Outcome, summary_by, trees_of, IsOutcome, AreOutcomes}
 use Rattle.sp_analysis.specs.Checking.{proof_read, IsVerdictIn, Judged, checked_by, IsJudged, AreJudged}
 use Rattle.sp_pose.specs.Asked.{Asked, asked_of, asked_with, lemmas_read}
-use Rattle.sp_analysis.specs.Printed.{Printed, printed_of, by_tree, by_judgement, judged_log, goal_for, judged_so, to_print, all_to_print, IsNameable, AreNameable, line_of, lines, spliced, text_with, written_by}
+use Rattle.sp_analysis.specs.Printed.{Printed, printed_of, by_tree, by_judgement, judged_log, root_for, judged_so, to_print, all_to_print, IsNameable, AreNameable, line_of, lines, spliced, text_with, written_by}
 use Rattle.sp_analysis.specs.View.{verdict_of}
 use Rattle.sp_pose.specs.Posed.{IsPosedBy}
 use Rattle.sp_analysis.specs.Replies.{IsAnalysed, IsChecked, IsDone, IsAnswered}
+use Rattle.sp_analysis.proofs.NoneTaken.{outcomes_from, judged_from, all_printed, nameable_parts, nameable_from}
 use Rattle.sp_pose.specs.declared.problem.Problem.{Problem}
 use Rattle.sp_analysis.specs.declared.replies.Answered.{Answered}
 use Rattle.sp_analysis.specs.declared.replies.Command.{Command}
@@ -79,7 +80,9 @@ spans_to_print : (command : Command) (setting : Setting) (ls : List WrittenLemma
 spans_to_print command setting [] [] h = refl
 spans_to_print command setting [] (g ∷ gs) h = absurd h
 spans_to_print command setting (l ∷ ls) [] h = absurd h
-spans_to_print command setting (l ∷ ls) (g ∷ gs) h = ap₂ (λ (s : Span) (ss : List Span). s ∷ ss) (span_to_print command setting l g) (spans_to_print command setting ls gs h.1)
+spans_to_print command setting (l ∷ ls) (g ∷ gs) h =
+    ap printed_spans (all_printed command setting (asked_with l g) (asked_list ls gs))
+    ∙ ap₂ (λ (s : Span) (ss : List Span). s ∷ ss) (span_to_print command setting l g) (spans_to_print command setting ls gs h.1)
 
 tried_spans : (ts : List Tried) → printed_spans (map printed_of ts) ≡ map (λ (t : Tried). view.span_of t.span) ts
 tried_spans [] = refl
@@ -106,15 +109,15 @@ rise_tried {text} command setting p ts posed prints =
 -- ---- lemmas that are tried
 
 -- what a lemma is to show where nothing is taken
-abbrev goal_in : WrittenLemma → Guarded → Goal
-goal_in l g = goal_of [] (view.kind l.kind) g
+abbrev root_in : WrittenLemma → Guarded → Root
+root_in l g = root_of [] (view.kind l.kind) g
 
 abbrev outcome_of : Setting → ℕ → WrittenLemma → Guarded → Outcome
 outcome_of setting budget l g = record {
   lemma = view.lemma l;
-  tree = proof_tree setting budget (goal_in l g);
-  log = grown_log setting budget (goal_in l g);
-  verdict = by_tree (view.kind l.kind) (grown_log setting budget (goal_in l g)) (finished (proof_tree setting budget (goal_in l g)));
+  tree = proof_tree setting budget (root_in l g);
+  log = grown_log setting budget (root_in l g);
+  verdict = by_tree (view.kind l.kind) (grown_log setting budget (root_in l g)) (finished (proof_tree setting budget (root_in l g)));
 }
 
 abbrev outcomes_of : Setting → ℕ → List WrittenLemma → List Guarded → List Outcome
@@ -133,7 +136,7 @@ verdict_right exists_trace tree None false h k = λ f. true≢false (sym (k f))
 outcome_right : (setting : Setting) (budget : ℕ) (l : WrittenLemma) (g : Guarded) → checked_form (formula l.formula) ≡ Some g
     → IsOutcome setting budget [] (view.lemma l) (outcome_of setting budget l g)
 outcome_right setting budget l g e =
-    let tree = proof_tree setting budget (goal_in l g) in
+    let tree = proof_tree setting budget (root_in l g) in
     let d = finished_decides tree in
     record {
       lemma_is = refl;
@@ -141,7 +144,7 @@ outcome_right setting budget l g e =
       form_is = e;
       tree_is = refl;
       log_is = refl;
-      verdict_is = verdict_right (view.kind l.kind) tree (grown_log setting budget (goal_in l g)) (finished tree) d.0 d.1;
+      verdict_is = verdict_right (view.kind l.kind) tree (grown_log setting budget (root_in l g)) (finished tree) d.0 d.1;
     }
 
 outcomes_right : (setting : Setting) (budget : ℕ) (ls : List WrittenLemma) (gs : List Guarded) → AreForms ls gs
@@ -149,14 +152,17 @@ outcomes_right : (setting : Setting) (budget : ℕ) (ls : List WrittenLemma) (gs
 outcomes_right setting budget [] [] h = tt
 outcomes_right setting budget [] (g ∷ gs) h = absurd h
 outcomes_right setting budget (l ∷ ls) [] h = absurd h
-outcomes_right setting budget (l ∷ ls) (g ∷ gs) h = (outcome_right setting budget l g h.0, outcomes_right setting budget ls gs h.1)
+outcomes_right setting budget (l ∷ ls) (g ∷ gs) h =
+    outcomes_from setting budget (view.lemma l) (map view.lemma ls) (outcome_of setting budget l g) (outcomes_of setting budget ls gs) (outcome_right setting budget l g h.0)
+    (outcomes_right setting budget ls gs h.1)
 
 proofs_same : (setting : Setting) (budget : ℕ) (text : List ℕ) (start end : ℕ) (ls : List WrittenLemma) (gs : List Guarded)
     → spliced text start (all_to_print (Prove budget) setting [] (asked_list ls gs)) end ≡ replaced text start (spans_of ls) (trees_of (outcomes_of setting budget ls gs)) end
 proofs_same setting budget text start end [] gs = refl
 proofs_same setting budget text start end (l ∷ ls) [] = refl
 proofs_same setting budget text start end (l ∷ ls) (g ∷ gs) =
-    ap (λ (rest : List ℕ). between start l.span.from text ++ (codes "\n" ++ (tree_text 0 (proof_tree setting budget (goal_in l g)) ++ rest)))
+    ap (λ (ps : List Printed). spliced text start ps end) (all_printed (Prove budget) setting (asked_with l g) (asked_list ls gs))
+    ∙ ap (λ (rest : List ℕ). between start l.span.from text ++ (codes "\n" ++ (tree_text 0 (proof_tree setting budget (root_in l g)) ++ rest)))
     (proofs_same setting budget text (goes_on text (view.span_of l.span)) end ls gs)
 
 lines_same : (setting : Setting) (budget : ℕ) (ls : List WrittenLemma) (gs : List Guarded)
@@ -165,35 +171,38 @@ lines_same setting budget [] gs = refl
 lines_same setting budget (l ∷ ls) [] = refl
 lines_same setting budget (l ∷ ls) (g ∷ gs) =
     let p = to_print (Prove budget) setting [] (asked_with l g) in
-    ap (λ (rest : List ℕ). line_of p ++ (p.block ++ rest)) (lines_same setting budget ls gs)
+    ap lines (all_printed (Prove budget) setting (asked_with l g) (asked_list ls gs)) ∙ ap (λ (rest : List ℕ). line_of p ++ (p.block ++ rest)) (lines_same setting budget ls gs)
 
 verdicts_same : (setting : Setting) (budget : ℕ) (ls : List WrittenLemma) (gs : List Guarded)
     → printed_verdicts (all_to_print (Prove budget) setting [] (asked_list ls gs)) ≡ map (λ (o : Outcome). o.verdict) (outcomes_of setting budget ls gs)
 verdicts_same setting budget [] gs = refl
 verdicts_same setting budget (l ∷ ls) [] = refl
-verdicts_same setting budget (l ∷ ls) (g ∷ gs) = ap (λ (vs : List Verdict). (outcome_of setting budget l g).verdict ∷ vs) (verdicts_same setting budget ls gs)
+verdicts_same setting budget (l ∷ ls) (g ∷ gs) =
+    ap printed_verdicts (all_printed (Prove budget) setting (asked_with l g) (asked_list ls gs)) ∙ ap (λ (vs : List Verdict). (outcome_of setting budget l g).verdict ∷ vs) (verdicts_same setting budget ls gs)
 
 outcomes_placed : (setting : Setting) (budget : ℕ) (ls : List WrittenLemma) (gs : List Guarded) → AreNameable (Prove budget) setting [] (asked_list ls gs)
     → Every (λ (o : Outcome). HavePlaces o.tree) (outcomes_of setting budget ls gs)
 outcomes_placed setting budget [] gs h = tt
 outcomes_placed setting budget (l ∷ ls) [] h = tt
-outcomes_placed setting budget (l ∷ ls) (g ∷ gs) h = (h.0.0, outcomes_placed setting budget ls gs h.1)
+outcomes_placed setting budget (l ∷ ls) (g ∷ gs) h =
+    let parts = nameable_parts (Prove budget) setting (asked_with l g) (asked_list ls gs) h in (parts.0.0, outcomes_placed setting budget ls gs parts.1)
 
 outcomes_numbered : (setting : Setting) (budget : ℕ) (ls : List WrittenLemma) (gs : List Guarded)
     → AreNameable (Prove budget) setting [] (asked_list ls gs) → Every (λ (o : Outcome). IsNumberedBy (executed setting) o.log) (outcomes_of setting budget ls gs)
 outcomes_numbered setting budget [] gs h = tt
 outcomes_numbered setting budget (l ∷ ls) [] h = tt
-outcomes_numbered setting budget (l ∷ ls) (g ∷ gs) h = (h.0.1, outcomes_numbered setting budget ls gs h.1)
+outcomes_numbered setting budget (l ∷ ls) (g ∷ gs) h =
+    let parts = nameable_parts (Prove budget) setting (asked_with l g) (asked_list ls gs) h in (parts.0.1, outcomes_numbered setting budget ls gs parts.1)
 
 -- ---- lemmas whose proofs are checked
 
 abbrev judged_by : Setting → WrittenLemma → Guarded → Judgement
-judged_by setting l g = judged_so setting (goal_in l g) (option_map view.proof l.proof)
+judged_by setting l g = judged_so setting (root_in l g) (option_map view.proof l.proof)
 
 abbrev judged_of : Setting → WrittenLemma → Guarded → Judged
 judged_of setting l g = record {
   lemma = view.lemma l;
-  goal = goal_in l g;
+  root = root_in l g;
   proof = proof_read (option_map view.proof l.proof);
   log = judged_log (judged_by setting l g);
   verdict = by_judgement (view.kind l.kind) (judged_by setting l g);
@@ -229,8 +238,8 @@ judged_right setting l g e = record {
   proof_is = refl;
   form = g;
   form_is = e;
-  goal_is = refl;
-  verdict_is = verdict_on (context_of setting (goal_in l g)) (root_system (goal_in l g)) (proof_read (option_map view.proof l.proof)) (view.kind l.kind) (judged_by setting l g) refl;
+  root_is = refl;
+  verdict_is = verdict_on (context_of setting (root_in l g)) (root_system (root_in l g)) (proof_read (option_map view.proof l.proof)) (view.kind l.kind) (judged_by setting l g) refl;
 }
 
 all_judged_right : (setting : Setting) (xs : List Item) (gs : List Guarded) → AreForms (lemmas_read xs) gs
@@ -242,7 +251,9 @@ all_judged_right setting (i.Builtins b ∷ xs) gs h = all_judged_right setting x
 all_judged_right setting (i.Functions f ∷ xs) gs h = all_judged_right setting xs gs h
 all_judged_right setting (i.Equations e ∷ xs) gs h = all_judged_right setting xs gs h
 all_judged_right setting (i.Lemma l ∷ xs) [] h = absurd h
-all_judged_right setting (i.Lemma l ∷ xs) (g ∷ gs) h = (judged_right setting l g h.0, all_judged_right setting xs gs h.1)
+all_judged_right setting (i.Lemma l ∷ xs) (g ∷ gs) h =
+    judged_from setting (view.lemma l, option_map view.proof l.proof) (lemmas_with_proofs (view.items xs)) (judged_of setting l g) (all_judged setting (lemmas_read xs) gs) (judged_right setting l g h.0)
+    (all_judged_right setting xs gs h.1)
 
 checked_same : (setting : Setting) (ls : List WrittenLemma) (gs : List Guarded)
     → lines (all_to_print Check setting [] (asked_list ls gs)) ≡ checked_by (executed setting) (all_judged setting ls gs)
@@ -250,18 +261,20 @@ checked_same setting [] gs = refl
 checked_same setting (l ∷ ls) [] = refl
 checked_same setting (l ∷ ls) (g ∷ gs) =
     let p = to_print Check setting [] (asked_with l g) in
-    ap (λ (rest : List ℕ). line_of p ++ (p.block ++ rest)) (checked_same setting ls gs)
+    ap lines (all_printed Check setting (asked_with l g) (asked_list ls gs)) ∙ ap (λ (rest : List ℕ). line_of p ++ (p.block ++ rest)) (checked_same setting ls gs)
 
 judged_numbered : (setting : Setting) (ls : List WrittenLemma) (gs : List Guarded) → AreNameable Check setting [] (asked_list ls gs)
     → Every (λ (j : Judged). IsNumberedBy (executed setting) j.log) (all_judged setting ls gs)
 judged_numbered setting [] gs h = tt
 judged_numbered setting (l ∷ ls) [] h = tt
-judged_numbered setting (l ∷ ls) (g ∷ gs) h = (h.0, judged_numbered setting ls gs h.1)
+judged_numbered setting (l ∷ ls) (g ∷ gs) h =
+    let parts = nameable_parts Check setting (asked_with l g) (asked_list ls gs) h in (parts.0, judged_numbered setting ls gs parts.1)
 
 judged_verdicts : (setting : Setting) (ls : List WrittenLemma) (gs : List Guarded) → printed_verdicts (all_to_print Check setting [] (asked_list ls gs)) ≡ map (λ (j : Judged). j.verdict) (all_judged setting ls gs)
 judged_verdicts setting [] gs = refl
 judged_verdicts setting (l ∷ ls) [] = refl
-judged_verdicts setting (l ∷ ls) (g ∷ gs) = ap (λ (vs : List Verdict). (judged_of setting l g).verdict ∷ vs) (judged_verdicts setting ls gs)
+judged_verdicts setting (l ∷ ls) (g ∷ gs) =
+    ap printed_verdicts (all_printed Check setting (asked_with l g) (asked_list ls gs)) ∙ ap (λ (vs : List Verdict). (judged_of setting l g).verdict ∷ vs) (judged_verdicts setting ls gs)
 
 -- ---- what has been written is what is to be written
 
@@ -361,36 +374,37 @@ made name kind span v n proof block = record { name = name; kind = kind; verdict
 
 -- the tree, its log and its text are those of the lemma
 pub record IsGrown (setting : Setting) (budget : ℕ) (a : Asked) (tree : Tree) (log : Option Log) : Type 0 where
-  pub tree_is : tree ≡ proof_tree setting budget (goal_for [] a)
-  pub log_is : log ≡ grown_log setting budget (goal_for [] a)
+  pub tree_is : tree ≡ proof_tree setting budget (root_for [] a)
+  pub log_is : log ≡ grown_log setting budget (root_for [] a)
 
 pub grown_printed : (setting : Setting) (budget : ℕ) (a : Asked) (tree : Tree) (log : Option Log) → IsGrown setting budget a tree log → (v : Verdict) (n : ℕ) (proof block : List ℕ)
     → v ≡ by_tree a.kind log (finished tree) → n ≡ counted (steps tree) → proof ≡ tree_text 0 tree → block ≡ block_by (executed setting) log
     → made a.name a.kind a.span v n proof block ≡ to_print (Prove budget) setting [] a
 grown_printed setting budget a tree log is v n proof block verdict_is steps_is proof_is block_is =
-    let goal = goal_for [] a in
-    let t = proof_tree setting budget goal in
+    let root = root_for [] a in
+    let t = proof_tree setting budget root in
     ap₂ (λ (w : Verdict) (m : ℕ). made a.name a.kind a.span w m proof block)
     (verdict_is ∙ ap₂ (λ (l : Option Log) (u : Tree). by_tree a.kind l (finished u)) is.log_is is.tree_is) (steps_is ∙ ap (λ (u : Tree). counted (steps u)) is.tree_is)
-    ∙ ap₂ (made a.name a.kind a.span (by_tree a.kind (grown_log setting budget goal) (finished t)) (counted (steps t)))
+    ∙ ap₂ (made a.name a.kind a.span (by_tree a.kind (grown_log setting budget root) (finished t)) (counted (steps t)))
     (proof_is ∙ ap (tree_text 0) is.tree_is) (block_is ∙ ap (block_by (executed setting)) is.log_is)
 
 -- ---- what is printed of a proof that was read
 
-pub judged_printed : (setting : Setting) (a : Asked) (j : Judgement) → j ≡ judged_so setting (goal_for [] a) a.proof
+pub judged_printed : (setting : Setting) (a : Asked) (j : Judgement) → j ≡ judged_so setting (root_for [] a) a.proof
     → (v : Verdict) (n : ℕ) (proof block : List ℕ) → v ≡ by_judgement a.kind j → n ≡ counted (read.steps (proof_read a.proof)) → proof ≡ [] → block ≡ block_by (executed setting) (judged_log j)
     → made a.name a.kind a.span v n proof block ≡ to_print Check setting [] a
 judged_printed setting a j j_is v n proof block v_is n_is proof_is block_is =
     ap₂ (λ (w : Verdict) (m : ℕ). made a.name a.kind a.span w m proof block) (v_is ∙ ap (by_judgement a.kind) j_is) n_is
-    ∙ ap₂ (made a.name a.kind a.span (by_judgement a.kind (judged_so setting (goal_for [] a) a.proof)) (counted (read.steps (proof_read a.proof)))) proof_is
+    ∙ ap₂ (made a.name a.kind a.span (by_judgement a.kind (judged_so setting (root_for [] a) a.proof)) (counted (read.steps (proof_read a.proof)))) proof_is
     (block_is ∙ ap (λ (x : Judgement). block_by (executed setting) (judged_log x)) j_is)
 
 -- ---- all of them, where none takes another
 
 pub each_printed : (command : Command) (setting : Setting) (as' : List Asked) → map (to_print command setting []) as' ≡ all_to_print command setting [] as'
 each_printed command setting [] = refl
-each_printed command setting (a ∷ rest) = ap (λ (ps : List Printed). to_print command setting [] a ∷ ps) (each_printed command setting rest)
+each_printed command setting (a ∷ rest) =
+    ap (λ (ps : List Printed). to_print command setting [] a ∷ ps) (each_printed command setting rest) ∙ sym (all_printed command setting a rest)
 
 pub each_nameable : (command : Command) (setting : Setting) (as' : List Asked) → Every (IsNameable command setting []) as' → AreNameable command setting [] as'
 each_nameable command setting [] h = tt
-each_nameable command setting (a ∷ rest) h = (h.0, each_nameable command setting rest h.1)
+each_nameable command setting (a ∷ rest) h = nameable_from command setting a rest h.0 (each_nameable command setting rest h.1)

@@ -14,27 +14,31 @@ use Rattle.sp_law_guard.specs.GuardedForm.{negate}
 use Rattle.sp_law_guard.specs.CheckedForm.{checked_form}
 use Rattle.sp_law_decide.specs.Deciding.{decided, empty}
 use Rattle.sp_learn.specs.Checking.{is_log}
-use Rattle.sp_solved.specs.Candidate.{candidate}
+use Rattle.sp_spec_solved.specs.Candidate.{candidate}
 use Rattle.sp_solved.specs.Found.{is_sought, kept_if, found}
 use Rattle.sp_law_found_log.specs.Shown.{IsSearched, FoundBreaks, FoundSatisfies}
 use Rattle.sp_law_found_log.proofs.Learning.{into_reading}
-use Rattle.sp_spec_system.specs.Move.{Context}
+use Rattle.sp_spec_system.specs.Move.{InductionCases, Root, root_system, Context}
 use Rattle.sp_spec_proof.specs.Tree.{Tree, IsAccepted, IsFinished, found_log}
 use Rattle.sp_spec_system.specs.Numbered.{names_in}
-use Rattle.sp_law_system.specs.Proofs.{IsContextOf}
+use Rattle.sp_law_cover.specs.Contexts.{IsContextOf}
 use Rattle.sp_law_basic.specs.BasicTheory.{IsBasicFormula, HasNames}
+use Rattle.sp_law_tree.specs.Laws.{BeginsWith}
 use Rattle.sp_law_tree.proofs.WrittenRules.{names_stand_lem}
 use Rattle.sp_law_tree.proofs.AllShown.{lemmas_are_shown_lem}
 use Rattle.sp_spec_proof.proofs.Growing.{grown_tree_accepted}
 use Rattle.sp_spec_proof.proofs.TreeLogs.{log_found}
+use Rattle.sp_law_found_log.specs.Laws.{IsRootFormula}
 use Rattle.sp_law_found_log.proofs.Found.{found_logs_show_lem}
+use Rattle.sp_law_found_log.proofs.Ends.{searches_end_as_sought_lem}
 use Rattle.sp_spec.specs.Constants.{constants_of}
 use Rattle.sp_wf.specs.Laws.{IsFineRule}
-use Rattle.sp_analysis.specs.Sought.{Goal, goal_of, root_system, setting_of, context_of}
+use Rattle.sp_analysis.specs.Sought.{sought, root_of, setting_of, context_of}
 use Rattle.sp_analysis.specs.Analysis.{Outcome, IsOutcome, AreOutcomes}
 use Rattle.sp_analysis.specs.Laws.{Means, IsRejected, JudgedRightly, VerdictsAreRight}
 use Rattle.sp_spec_text.specs.Verdict.{Verdict, verified, falsified, incomplete, rejected, Says}
 use Rattle.sp_analysis.specs.Checking.{IsVerdictIn, IsVerdictOn, Judged, IsJudged, AreJudged}
+use Rattle.sp_analysis.proofs.NoneTaken.{outcome_parts, judged_parts}
 use Rattle.sp_spec_system.specs.System.{System}
 use Rattle.sp_check.specs.Skeleton.{Skeleton}
 use Rattle.sp_check.specs.Rejected.{ReadIsAccepted}
@@ -105,8 +109,27 @@ module _ {bytes : List ℕ} (text : WrittenText) (posing : Poses bytes text) whe
     unrestricted = refl;
   }
 
-  pub is_context : (goal : Goal) → IsContextOf (theory_of theory) (context_of (setting_of theory) goal)
-  is_context goal = record { rules = refl; numbered = names_stand_lem.rules theory searched.basic }
+  -- a proof of a lemma begins from its guarded form, or from the negation of that
+  formula_from : (l : Lemma) → IsBasicFormula signature l.formula → (g : Guarded) → checked_form l.formula ≡ Some g → (kind : TraceKind) → IsRootFormula signature (sought kind g)
+  formula_from l f g e all_traces = (l, f, g, e, inr refl)
+  formula_from l f g e exists_trace = (l, f, g, e, inl refl)
+
+  pub is_context : (l : Lemma) → IsBasicFormula signature l.formula → (g : Guarded) → checked_form l.formula ≡ Some g → (taken : List Guarded) (kind : TraceKind)
+      → IsContextOf (theory_of theory) (context_of (setting_of theory) (root_of taken kind g))
+  is_context l f g e taken kind = record {
+    rules = refl;
+    numbered = names_stand_lem.rules theory searched.basic;
+    induction = record { kept = λ r is i has. absurd (no_cases r is i has); covers = λ r is i has. absurd (no_cases r is i has) };
+    ends = searches_end_as_sought_lem.ends theory searched (sought kind g) (formula_from l f g e kind) (context_of (setting_of theory) (root_of taken kind g)) (root_of taken kind g) refl refl
+        (λ s. refl);
+    table = record { taken = []; begun = tt; alone = tt; entries = tt };
+  }
+    where
+      no_cases : (r : Root) → Some (root_of taken kind g) ≡ Some r → (i : InductionCases) → r.cases ≡ Some i → ⊥
+      no_cases r is i has =
+          let one : root_of taken kind g ≡ r = cc in
+          let none : None ≡ Some i = ap (λ (x : Root). x.cases) one ∙ has in
+          cc
 
   breaks : (l : Lemma) → IsBasicFormula signature l.formula → names_learning l.formula ≡ false → (g : Guarded) → checked_form l.formula ≡ Some g → (s : System) (log : Log)
       → found (signature_of (theory_of theory)) (rules_of (theory_of theory)).forms (constants_of theory) (negate g) s ≡ Some log → FoundBreaks (theory_of theory) l log
@@ -121,30 +144,36 @@ module _ {bytes : List ℕ} (text : WrittenText) (posing : Poses bytes text) whe
       subst (FoundSatisfies (theory_of theory) l) h.log_is (found_logs_show_lem.satisfies theory searched l f u g e h.entries h.is_log h.is_true)
 
   -- the log of a tree is one with which the search ends at some system
-  ended : (goal : Goal) (tree : Tree) (log : Log) → Some log ≡ found_log (context_of (setting_of theory) goal) (root_system goal) tree
-      → (s : System) × ((context_of (setting_of theory) goal).found s ≡ Some log)
-  ended goal tree log e = log_found (context_of (setting_of theory) goal) tree (root_system goal) log (sym e)
+  ended : (root : Root) (tree : Tree) (log : Log) → Some log ≡ found_log (context_of (setting_of theory) root) (root_system root) tree
+      → (s : System) × ((context_of (setting_of theory) root).found s ≡ Some log)
+  ended root tree log e = log_found (context_of (setting_of theory) root) tree (root_system root) log (sym e)
+
+  -- such a proof begins from nothing else where nothing is taken
+  begins : (kind : TraceKind) (g : Guarded) → BeginsWith (context_of (setting_of theory) (root_of [] kind g)) (sought kind g)
+  begins kind g = record { root = root_of [] kind g; is_root = refl; alone = refl }
 
   -- an accepted tree shows what it says
   shown : (l : Lemma) → IsLemmaOf theory l → (g : Guarded) → checked_form l.formula ≡ Some g → (kind : TraceKind) (v : Verdict) (log : Option Log) (tree : Tree)
-      → IsAccepted (context_of (setting_of theory) (goal_of [] kind g)) (root_system (goal_of [] kind g)) tree
-      → log ≡ found_log (context_of (setting_of theory) (goal_of [] kind g)) (root_system (goal_of [] kind g)) tree → Says kind v log (IsFinished tree) → Means (theory_of theory) kind v log l
+      → IsAccepted (context_of (setting_of theory) (root_of [] kind g)) (root_system (root_of [] kind g)) tree
+      → log ≡ found_log (context_of (setting_of theory) (root_of [] kind g)) (root_system (root_of [] kind g)) tree → Says kind v log (IsFinished tree) → Means (theory_of theory) kind v log l
   shown l f g e all_traces verified None tree accepted is says =
       into_reading l f.2 (HoldsInAllLogs (theory_of theory) l) (HoldsInAll (theory_of theory) l)
-      (lemmas_are_shown_lem.all_traces theory searched.normal_forms (keeps_public posing) searched.basic searched.right l f.0 f.2 g e (context_of (setting_of theory) (goal_of [] all_traces g)) (is_context (goal_of [] all_traces g)) f.1 tree accepted says)
+      (lemmas_are_shown_lem.all_traces theory searched.normal_forms (keeps_public posing) searched.basic searched.right l f.0 f.2 g e (context_of (setting_of theory) (root_of [] all_traces g)) (is_context l f.0 g e [] all_traces)
+      (begins all_traces g) f.1 tree accepted says)
   shown l f g e all_traces verified (Some log) tree accepted is says = absurd says
   shown l f g e all_traces falsified None tree accepted is says = absurd says
   shown l f g e all_traces falsified (Some log) tree accepted is says =
-      let s = ended (goal_of [] all_traces g) tree log is in breaks l f.0 f.2 g e s.0 log s.1
+      let s = ended (root_of [] all_traces g) tree log is in breaks l f.0 f.2 g e s.0 log s.1
   shown l f g e all_traces incomplete None tree accepted is says = tt
   shown l f g e all_traces incomplete (Some log) tree accepted is says = absurd says
   shown l f g e all_traces (rejected step clause) log tree accepted is says = absurd says
   shown l f g e exists_trace verified None tree accepted is says = absurd says
   shown l f g e exists_trace verified (Some log) tree accepted is says =
-      let s = ended (goal_of [] exists_trace g) tree log is in satisfies l f.0 f.2 g e s.0 log s.1
+      let s = ended (root_of [] exists_trace g) tree log is in satisfies l f.0 f.2 g e s.0 log s.1
   shown l f g e exists_trace falsified None tree accepted is says =
       into_reading l f.2 (HoldsInNoLog (theory_of theory) l) (HoldsInNone (theory_of theory) l)
-      (lemmas_are_shown_lem.exists_trace theory searched.normal_forms (keeps_public posing) searched.basic searched.right l f.0 f.2 g e (context_of (setting_of theory) (goal_of [] exists_trace g)) (is_context (goal_of [] exists_trace g)) f.1 tree accepted says)
+      (lemmas_are_shown_lem.exists_trace theory searched.normal_forms (keeps_public posing) searched.basic searched.right l f.0 f.2 g e (context_of (setting_of theory) (root_of [] exists_trace g)) (is_context l f.0 g e [] exists_trace)
+      (begins exists_trace g) f.1 tree accepted says)
   shown l f g e exists_trace falsified (Some log) tree accepted is says = absurd says
   shown l f g e exists_trace incomplete None tree accepted is says = tt
   shown l f g e exists_trace incomplete (Some log) tree accepted is says = absurd says
@@ -152,7 +181,7 @@ module _ {bytes : List ℕ} (text : WrittenText) (posing : Poses bytes text) whe
 
   -- so does a proof that was read; one that is rejected shows nothing
   read_shown : (l : Lemma) → IsLemmaOf theory l → (g : Guarded) → checked_form l.formula ≡ Some g → (kind : TraceKind) (k : Skeleton) (v : Verdict) (log : Option Log)
-      → IsVerdictOn (setting_of theory) (goal_of [] kind g) k v log → Means (theory_of theory) kind v log l
+      → IsVerdictOn (setting_of theory) kind (root_of [] kind g) k v log → Means (theory_of theory) kind v log l
   read_shown l f g e all_traces k (rejected step clause) None h = tt
   read_shown l f g e exists_trace k (rejected step clause) None h = tt
   read_shown l f g e kind k (rejected step clause) (Some log) (h, n) = absurd (let x : Some log ≡ None = n in cc)
@@ -162,10 +191,10 @@ module _ {bytes : List ℕ} (text : WrittenText) (posing : Poses bytes text) whe
 
   judged_right : (l : Lemma) (p : Option WrittenProof) (j : Judged) → IsLemmaOf theory l → IsJudged (setting_of theory) [] l p j → JudgedRightly theory j
   judged_right l p j f h =
-      let so = subst (λ (goal : Goal). IsVerdictOn (setting_of theory) goal j.proof j.verdict j.log) h.goal_is h.verdict_is in
+      let so = subst (λ (root : Root). IsVerdictOn (setting_of theory) l.kind root j.proof j.verdict j.log) h.root_is h.verdict_is in
       record {
         means = subst (λ (m : Lemma). Means (theory_of theory) m.kind j.verdict j.log m) (sym h.lemma_is) (read_shown l f h.form h.form_is l.kind j.proof j.verdict j.log so);
-        accepts = accepted_or_rejected (context_of (setting_of theory) j.goal) (root_system j.goal) j.proof j.goal.kind j.verdict j.log h.verdict_is;
+        accepts = accepted_or_rejected (context_of (setting_of theory) j.root) (root_system j.root) j.proof l.kind j.verdict j.log h.verdict_is;
       }
 
   all_judged_right : (qs : List (Lemma × Option WrittenProof)) (js : List Judged) → Every (λ (l : Lemma). IsLemmaOf theory l) (without_proofs qs) → AreJudged (setting_of theory) [] qs js
@@ -173,12 +202,12 @@ module _ {bytes : List ℕ} (text : WrittenText) (posing : Poses bytes text) whe
   all_judged_right [] [] f h = tt
   all_judged_right [] (j ∷ js) f h = absurd h
   all_judged_right (q ∷ qs) [] f h = absurd h
-  all_judged_right (q ∷ qs) (j ∷ js) f h = (judged_right q.0 q.1 j f.0 h.0, all_judged_right qs js f.1 h.1)
+  all_judged_right (q ∷ qs) (j ∷ js) f h = let parts = judged_parts (setting_of theory) q qs j js h in (judged_right q.0 q.1 j f.0 parts.0, all_judged_right qs js f.1 parts.1)
 
   outcome_right : (budget : ℕ) (l : Lemma) (o : Outcome) → IsLemmaOf theory l → IsOutcome (setting_of theory) budget [] l o → Means (theory_of theory) o.lemma.kind o.verdict o.log o.lemma
   outcome_right budget l o f h =
-      let context = context_of (setting_of theory) (goal_of [] l.kind h.form) in
-      let s = root_system (goal_of [] l.kind h.form) in
+      let context = context_of (setting_of theory) (root_of [] l.kind h.form) in
+      let s = root_system (root_of [] l.kind h.form) in
       subst (λ (m : Lemma). Means (theory_of theory) m.kind o.verdict o.log m) (sym h.lemma_is)
       (shown l f h.form h.form_is l.kind o.verdict o.log o.tree (subst (λ (t : Tree). IsAccepted context s t) (sym h.tree_is) (grown_tree_accepted context s budget))
       (h.log_is ∙ ap (found_log context s) (sym h.tree_is)) h.verdict_is)
@@ -188,7 +217,8 @@ module _ {bytes : List ℕ} (text : WrittenText) (posing : Poses bytes text) whe
   outcomes_right budget [] [] f h = tt
   outcomes_right budget [] (o ∷ os) f h = absurd h
   outcomes_right budget (l ∷ ls) [] f h = absurd h
-  outcomes_right budget (l ∷ ls) (o ∷ os) f h = (outcome_right budget l o f.0 h.0, outcomes_right budget ls os f.1 h.1)
+  outcomes_right budget (l ∷ ls) (o ∷ os) f h =
+      let parts = outcome_parts (setting_of theory) budget l ls o os h in (outcome_right budget l o f.0 parts.0, outcomes_right budget ls os f.1 parts.1)
 
 pub verdicts_are_right_lem : VerdictsAreRight
 verdicts_are_right_lem = record {

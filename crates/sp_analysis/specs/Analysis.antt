@@ -17,7 +17,7 @@ use Rattle.sp_spec_text.specs.Spans.{Span}
 use Rattle.sp_spec_text.specs.Texts.{ArePlaces}
 use Rattle.sp_law_reread.specs.Again.{replaced}
 use Rattle.sp_pose.specs.Problem.{Poses}
-use Rattle.sp_analysis.specs.Sought.{goal_of, taken_by, Setting, setting_of, proof_tree, grown_log}
+use Rattle.sp_analysis.specs.Sought.{root_of, taken_by, Setting, setting_of, proof_tree, grown_log}
 use Rattle.sp_spec_text.specs.Numerals.{counted}
 use Rattle.sp_spec_text.specs.Verdict.{Verdict, Says, summary_line}
 use Rattle.sp_law_printed_log.specs.Block.{block_by, IsNumbered}
@@ -51,8 +51,8 @@ pub record IsOutcome (setting : Setting) (budget : ℕ) (taken : List Guarded) (
   pub lemma_is : o.lemma ≡ lemma
   pub form : Guarded
   pub form_is : checked_form lemma.formula ≡ Some form
-  pub tree_is : o.tree ≡ proof_tree setting budget (goal_of taken lemma.kind form)
-  pub log_is : o.log ≡ grown_log setting budget (goal_of taken lemma.kind form)
+  pub tree_is : o.tree ≡ proof_tree setting budget (root_of taken lemma.kind form)
+  pub log_is : o.log ≡ grown_log setting budget (root_of taken lemma.kind form)
   pub verdict_is : Says lemma.kind o.verdict o.log (IsFinished o.tree)
 
 -- one for each lemma, in the order of the text; each takes what those before it gave

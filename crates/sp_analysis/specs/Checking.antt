@@ -11,7 +11,7 @@ use Rattle.sp_spec.specs.Execution.{Step}
 use Rattle.sp_law_log_execution.specs.Executed.{executed_of}
 use Rattle.sp_law_guard.specs.CheckedForm.{checked_form}
 use Rattle.sp_spec_system.specs.System.{System}
-use Rattle.sp_spec_system.specs.Move.{Context, unproved}
+use Rattle.sp_spec_system.specs.Move.{Context, unproved, Root, root_system}
 use Rattle.sp_spec_proof.specs.Tree.{Tree, IsAccepted, IsFinished, found_log}
 use Rattle.sp_check.specs.Skeleton.{Skeleton, node_read, none_read, known, tree_of, steps}
 use Rattle.sp_check.specs.Rejected.{IsRejectedAt}
@@ -19,7 +19,7 @@ use Rattle.sp_spec_text.specs.Written.{WrittenProof, WrittenText, lemmas_with_pr
 use Rattle.sp_spec_text.specs.Declared.{resolved, theory_in}
 use Rattle.sp_skel.specs.Steps.{skeleton}
 use Rattle.sp_pose.specs.Problem.{Poses}
-use Rattle.sp_analysis.specs.Sought.{Goal, goal_of, taken_by, root_system, Setting, setting_of, context_of}
+use Rattle.sp_analysis.specs.Sought.{root_of, taken_by, Setting, setting_of, context_of}
 use Rattle.sp_spec_text.specs.Numerals.{counted}
 use Rattle.sp_spec_text.specs.Verdict.{Verdict, rejected, Says, summary_line}
 use Rattle.sp_law_printed_log.specs.Block.{block_by, IsNumbered}
@@ -36,14 +36,14 @@ IsVerdictIn context s k kind (rejected step clause) log = IsRejectedAt context s
 IsVerdictIn context s k kind verdict log =
     (t : Tree) × (tree_of k ≡ Some t) × IsAccepted context s t × (log ≡ found_log context s t) × Says kind verdict log (IsFinished t)
 
--- so of a proof of the goal
-abbrev pub IsVerdictOn : Setting → Goal → Skeleton → Verdict → Option Log → Type 0
-IsVerdictOn setting goal k verdict log = IsVerdictIn (context_of setting goal) (root_system goal) k goal.kind verdict log
+-- so of a proof that begins from the root, of a lemma of this kind
+abbrev pub IsVerdictOn : Setting → TraceKind → Root → Skeleton → Verdict → Option Log → Type 0
+IsVerdictOn setting kind root k verdict log = IsVerdictIn (context_of setting root) (root_system root) k kind verdict log
 
--- what came of a lemma whose proof was checked, with what that is to show
+-- what came of a lemma whose proof was checked, with what that begins from
 pub record Judged : Type 0 where
   pub lemma : Lemma
-  pub goal : Goal
+  pub root : Root
   pub proof : Skeleton
   pub log : Option Log
   pub verdict : Verdict
@@ -61,8 +61,8 @@ pub record IsJudged (setting : Setting) (taken : List Guarded) (lemma : Lemma) (
   pub proof_is : j.proof ≡ proof_read proof
   pub form : Guarded
   pub form_is : checked_form lemma.formula ≡ Some form
-  pub goal_is : j.goal ≡ goal_of taken lemma.kind form
-  pub verdict_is : IsVerdictOn setting j.goal j.proof j.verdict j.log
+  pub root_is : j.root ≡ root_of taken lemma.kind form
+  pub verdict_is : IsVerdictOn setting lemma.kind j.root j.proof j.verdict j.log
 
 -- one for each lemma, in the order of the text; each takes what those before it gave
 abbrev pub AreJudged : Setting → List Guarded → List (Lemma × Option WrittenProof) → List Judged → Type 0

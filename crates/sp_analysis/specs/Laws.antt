@@ -20,7 +20,8 @@ use Rattle.sp_place.specs.Refused.{IsRefusedAt}
 use Rattle.sp_pose.specs.Problem.{IsReported}
 use Rattle.sp_spec_text.specs.Behind.{IsBehindEnd}
 use Rattle.sp_law_found_log.specs.Shown.{FoundBreaks, FoundSatisfies}
-use Rattle.sp_analysis.specs.Sought.{root_system, setting_of, context_of}
+use Rattle.sp_spec_system.specs.Move.{root_system}
+use Rattle.sp_analysis.specs.Sought.{setting_of, context_of}
 use Rattle.sp_analysis.specs.Analysis.{Outcome, summary, trees_of, IsAnalysis}
 use Rattle.sp_analysis.specs.Checking.{Judged, IsChecking}
 
@@ -44,7 +45,7 @@ IsRejected verdict = (step : ℕ) × (clause : Clause) × (verdict ≡ rejected 
 -- and an instance of it, and has its cases, by name and in order.
 pub record JudgedRightly (theory : WrittenTheory) (j : Judged) : Type 0 where
   pub means : Means (theory_of theory) j.lemma.kind j.verdict j.log j.lemma
-  pub accepts : (IsRejected j.verdict → ⊥) ↔ ReadIsAccepted (context_of (setting_of theory) j.goal) (root_system j.goal) j.proof
+  pub accepts : (IsRejected j.verdict → ⊥) ↔ ReadIsAccepted (context_of (setting_of theory) j.root) (root_system j.root) j.proof
 
 -- What is written of a lemma is so, steps of the adversary included.
 pub record VerdictsAreRight : Type 0 where

@@ -5,8 +5,7 @@ ghost use Rattle.sp_spec.specs.Lists.{Every};
 ghost use Rattle.sp_written.specs.Views as view;
 ghost use Rattle.sp_formula.specs.FormulaView.{formula_of};
 ghost use Rattle.sp_step.specs.View as moves;
-ghost use Rattle.sp_spec_proof.specs.Growth as growth;
-ghost use Rattle.sp_spec_proof.specs.Tree.{found_log};
+ghost use Rattle.sp_spec_system.specs.Move.{root_system};
 ghost use Rattle.sp_system.specs.SystemView.{system_of};
 ghost use Rattle.sp_search.specs.Finished.{finished};
 ghost use Rattle.sp_search.specs.Kept.{log_in};
@@ -71,7 +70,7 @@ fn sought(alloc: Global, kind: TraceKind, form: Formula) -> Result<Formula, Allo
 
 /// The system in which a proof begins.
 fn root(alloc: Global, sought: &Formula) -> Result<System, AllocError>
-    ensures { IfOk result (λ s. system_of s ≡ spec.root_with [] (formula_of sought.now)) }
+    ensures { IfOk result (λ s. system_of s ≡ root_system (spec.root_with [] (formula_of sought.now))) }
 {
     let mut formulas = Vec::new(alloc);
     formulas.push(sought.clone()?)?;
@@ -82,13 +81,15 @@ fn root(alloc: Global, sought: &Formula) -> Result<System, AllocError>
         unequal: Vec::new(alloc),
         links: Vec::new(alloc),
         order: Vec::new(alloc),
+        last: None,
+        closed: false,
         next: 0,
     })
 }
 
 /// What the lemma's proof is made in: the search ends with a log over whose trace the formula is true.
 fn context_of<'a>(setting: &'a Setting, formula: &'a Formula) -> Context<'a>
-    ensures { moves.context_of result ≡ spec.context_with (setting_in setting.now) [] (formula_of formula.now) }
+    ensures { moves.context_of result ≡ spec.context_of (setting_in setting.now) (spec.root_with [] (formula_of formula.now)) }
 {
     Context {
         rules: &setting.book,
@@ -167,8 +168,8 @@ fn grown_over(
     budget: u64,
     formula: &Formula,
 ) -> Result<Tree, AllocError>
-    ensures tree { IfOk result (λ t. tree_of t ≡ growth.grown_tree (spec.context_with (setting_in setting.now) [] (formula_of formula.now)) (spec.root_with [] (formula_of formula.now)) budget) }
-    ensures log { IfOk result (λ t. log_in (kept_of t) ≡ found_log (spec.context_with (setting_in setting.now) [] (formula_of formula.now)) (spec.root_with [] (formula_of formula.now)) (growth.grown_tree (spec.context_with (setting_in setting.now) [] (formula_of formula.now)) (spec.root_with [] (formula_of formula.now)) budget)) }
+    ensures tree { IfOk result (λ t. tree_of t ≡ spec.proof_tree (setting_in setting.now) budget (spec.root_with [] (formula_of formula.now))) }
+    ensures log { IfOk result (λ t. log_in (kept_of t) ≡ spec.grown_log (setting_in setting.now) budget (spec.root_with [] (formula_of formula.now))) }
 {
     let context = context_of(setting, formula);
     let root = root(alloc, formula)?;
@@ -183,8 +184,8 @@ fn grown(
     budget: u64,
     lemma: GuardedLemma,
 ) -> Result<Tree, AllocError>
-    ensures tree { IfOk result (λ t. tree_of t ≡ spec.proof_tree (setting_in setting.now) budget (print.goal_for [] (ask.asked_of lemma.entry))) }
-    ensures log { IfOk result (λ t. log_in (kept_of t) ≡ spec.grown_log (setting_in setting.now) budget (print.goal_for [] (ask.asked_of lemma.entry))) }
+    ensures tree { IfOk result (λ t. tree_of t ≡ spec.proof_tree (setting_in setting.now) budget (print.root_for [] (ask.asked_of lemma.entry))) }
+    ensures log { IfOk result (λ t. log_in (kept_of t) ≡ spec.grown_log (setting_in setting.now) budget (print.root_for [] (ask.asked_of lemma.entry))) }
 {
     let formula = sought_by(alloc, lemma)?;
     grown_over(alloc, setting, budget, &formula)
@@ -246,7 +247,7 @@ fn judged_over(
     formula: &Formula,
     tree: &Skeleton,
 ) -> Result<Judgement, AllocError>
-    ensures { IfOk result (λ j. judgement_of j ≡ judging.judgement (spec.context_with (setting_in setting.now) [] (formula_of formula.now)) (spec.root_with [] (formula_of formula.now)) (skeleton_of tree.now)) }
+    ensures { IfOk result (λ j. judgement_of j ≡ judging.judgement (spec.context_of (setting_in setting.now) (spec.root_with [] (formula_of formula.now))) (root_system (spec.root_with [] (formula_of formula.now))) (skeleton_of tree.now)) }
 {
     let context = context_of(setting, formula);
     let root = root(alloc, formula)?;
@@ -261,7 +262,7 @@ fn judged_with(
     lemma: GuardedLemma,
     tree: &Skeleton,
 ) -> Result<Judgement, AllocError>
-    ensures { IfOk result (λ j. judgement_of j ≡ judging.judgement (spec.context_of (setting_in setting.now) (print.goal_for [] (ask.asked_of lemma.entry))) (spec.root_system (print.goal_for [] (ask.asked_of lemma.entry))) (skeleton_of tree.now)) }
+    ensures { IfOk result (λ j. judgement_of j ≡ judging.judgement (spec.context_of (setting_in setting.now) (print.root_for [] (ask.asked_of lemma.entry))) (root_system (print.root_for [] (ask.asked_of lemma.entry))) (skeleton_of tree.now)) }
 {
     let formula = sought_by(alloc, lemma)?;
     judged_over(alloc, setting, &formula, tree)
@@ -273,7 +274,7 @@ fn judged(
     setting: &Setting,
     lemma: GuardedLemma,
 ) -> Result<(Judgement, u64), AllocError>
-    ensures judgement { IfOk result (λ r. judgement_of r.0 ≡ print.judged_so (setting_in setting.now) (print.goal_for [] (ask.asked_of lemma.entry)) (ask.asked_of lemma.entry).proof) }
+    ensures judgement { IfOk result (λ r. judgement_of r.0 ≡ print.judged_so (setting_in setting.now) (print.root_for [] (ask.asked_of lemma.entry)) (ask.asked_of lemma.entry).proof) }
     ensures steps { IfOk result (λ r. r.1 ≡ counted (read.steps (proof_read (ask.asked_of lemma.entry).proof))) }
 {
     let tree = read_proof(alloc, &lemma.proof)?;

@@ -1,7 +1,8 @@
 -- Traces in memory have their oldest entry first.
-use Rattle.std.proofs.Common.{◌≡◌, ℕ, zero, suc, ◌+◌, ◌<◌, ◌≤◌, Bool, true, false, ◌==◌, if◌then◌else◌, List, [], ◌∷◌, ◌++◌, length, map, get_or, refl, sym, ap, ◌∙◌, arith}
-use Rattle.std.proofs.lemmas.Bool.{eq-eqb, ne_eqb}
+use Rattle.std.proofs.Common.{◌≡◌, ℕ, zero, suc, ◌+◌, ◌-◌, ◌<◌, ◌≤◌, Bool, true, false, ◌==◌, if◌then◌else◌, List, [], ◌∷◌, ◌++◌, length, map, get_or, refl, sym, ap, ◌∙◌, arith}
+use Rattle.std.proofs.lemmas.Bool.{eq-eqb, eqb-true, ne_eqb}
 use mathlib.Core.List.{append_assoc, append-nil}
+use Rattle.sp_spec.proofs.Bools.{same_tests}
 use Rattle.sp_spec.specs.Rule.{Action}
 use Rattle.sp_spec.specs.Execution.{Trace}
 use Rattle.sp_spec.specs.Guarded.{Place, Time, Atom}
@@ -13,6 +14,20 @@ use Rattle.sp_eval.specs.View.{environment_of, environments_of}
 module _ {A : Type 0} where
   pub newest_more : (x : A) (xs past : List A) → newest_first (x ∷ xs) ++ past ≡ newest_first xs ++ x ∷ past
   newest_more x xs past = append_assoc (newest_first xs) (x ∷ []) past
+
+  newest_length : (xs past : List A) → length (newest_first xs ++ past) ≡ length xs + length past
+  newest_length [] past = omega arith
+  newest_length (x ∷ xs) past = let e = ap length (newest_more x xs past) in let f = newest_length xs (x ∷ past) in omega (arith, e, f)
+
+  pub newest_count : (xs : List A) → length (newest_first xs) ≡ length xs
+  newest_count xs = let e = ap length (append-nil (newest_first xs)) in let f = newest_length xs [] in omega (arith, e, f)
+
+-- the position before that of all entries' number is that of the newest
+pub at_newest : (p n m : ℕ) → 0 < n → m ≡ n → (p == n - 1) ≡ (suc p == m)
+at_newest p n m l e =
+    same_tests (p == n - 1) (suc p == m)
+    (λ h. let same : p ≡ n - 1 = eqb-true p (n - 1) h in eq-eqb (suc p) m (omega (arith, same, l, e)))
+    (λ h. let same : suc p ≡ m = eqb-true (suc p) m h in eq-eqb p (n - 1) (omega (arith, same, l, e)))
 
 -- from a position on, the oldest entry first
 abbrev pub onward : Action Place → Time → ℕ → List (List (Action ⊥)) → Environment → List Environment
@@ -69,10 +84,6 @@ module _ (a : Action ⊥) where
       ∙ ap (λ (p : ℕ). is_at (newest_first entries ++ first ∷ past) p a) (let j : length past + suc k ≡ suc (length past) + k = omega arith in j)
       ∙ at_from entries (first ∷ past) k entry (omega (arith, l)) e
 
-  newest_length : (entries : List (List (Action ⊥))) (past : Trace) → length (newest_first entries ++ past) ≡ length entries + length past
-  newest_length [] past = omega arith
-  newest_length (entry ∷ entries) past = let e = ap length (newest_more entry entries past) in let f = newest_length entries (entry ∷ past) in omega (arith, e, f)
-
   pub at_entry : (entries : List (List (Action ⊥))) (p : ℕ) (entry : List (Action ⊥)) → p < length entries → entry ≡ get_or entries p entry → is_at (newest_first entries) p a ≡ is_among a entry
   at_entry entries p entry l e =
       ap (λ (t : Trace). is_at t p a) (sym (append-nil (newest_first entries)))
@@ -80,7 +91,7 @@ module _ (a : Action ⊥) where
       ∙ at_from entries [] p entry l e
 
   pub at_end : (entries : List (List (Action ⊥))) (p : ℕ) → length entries ≤ p → is_at (newest_first entries) p a ≡ false
-  at_end entries p l = let e = ap length (append-nil (newest_first entries)) in let f = newest_length entries [] in at_beyond (newest_first entries) p (omega (arith, e, f, l))
+  at_end entries p l = let e = newest_count entries in at_beyond (newest_first entries) p (omega (arith, e, l))
 
 pub mapped_there : {A B : Type 0} (f : A → B) (xs : List A) (k : ℕ) (x : A) → k < length xs → x ≡ get_or xs k x → f x ≡ get_or (map f xs) k (f x)
 mapped_there f [] k x l e = absurd (omega (arith, l))

@@ -1,6 +1,6 @@
 // The truth of atoms, where what is bound has its values.
 
-ghost use Rattle.std.specs.Prelude.{◌≡◌, not, IfOk, map};
+ghost use Rattle.std.specs.Prelude.{◌≡◌, ◌==◌, not, suc, length, IfOk, map};
 ghost use Rattle.sp_spec.specs.Guarded as guarded;
 ghost use Rattle.sp_spec.specs.Guarded.{term_in};
 ghost use Rattle.sp_spec.specs.Same.{same_term};
@@ -57,6 +57,14 @@ fn happens(
     Ok(is_at(trace, time_value(time, &env.times), &shown))
 }
 
+/// Whether the position is that of the newest entry.
+fn is_last(trace: &Trace, position: u64) -> bool
+    ensures { result ≡ (suc position == length (trace_of trace.now)) }
+{
+    let count = trace.entries.len();
+    count > 0 && position as usize == count - 1
+}
+
 /// Whether the terms have the same value.
 fn equal(
     alloc: Global,
@@ -89,6 +97,7 @@ pub(crate) fn atom_true(
         Atom::Before(first, second) => {
             Ok(time_value(*first, &env.times) < time_value(*second, &env.times))
         }
+        Atom::Last(time) => Ok(is_last(trace, time_value(*time, &env.times))),
     }
 }
 

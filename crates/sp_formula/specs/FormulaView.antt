@@ -6,7 +6,7 @@ use Rattle.sp_formula.specs.PlaceView.{placed_term, placed_action}
 use Rattle.sp_formula.specs.declared.formula.Moment.{Moment}
 use Rattle.sp_formula.specs.declared.formula.Moment.TheVariants as moment
 use Rattle.sp_formula.specs.declared.formula.Atom.{Atom}
-use Rattle.sp_formula.specs.declared.formula.Atom.TheVariants.{Acts, Same, SameTime, Before}
+use Rattle.sp_formula.specs.declared.formula.Atom.TheVariants.{Acts, Same, SameTime, Before, Last}
 use Rattle.sp_formula.specs.declared.formula.Binder.{Binder}
 use Rattle.sp_formula.specs.declared.formula.Binder.TheVariants.{Message, Time}
 use Rattle.sp_formula.specs.declared.formula.Formula.{Formula, fold-Formula}
@@ -21,6 +21,7 @@ atom_of (Acts a i) = spec.acts (placed_action a) (moment_of i)
 atom_of (Same t u) = spec.same (placed_term t) (placed_term u)
 atom_of (SameTime i j) = spec.same_time (moment_of i) (moment_of j)
 atom_of (Before i j) = spec.before (moment_of i) (moment_of j)
+atom_of (Last i) = spec.last (moment_of i)
 
 abbrev pub binder_of : Binder → spec.Binder
 binder_of (Message sort) = spec.message (sort_of sort)

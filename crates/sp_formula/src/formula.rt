@@ -33,6 +33,8 @@ pub enum Atom {
     SameTime(Moment, Moment),
     /// the first time is before the second
     Before(Moment, Moment),
+    /// the time is the last one
+    Last(Moment),
 }
 
 /// What a quantifier binds.
@@ -99,6 +101,7 @@ impl Clone for Atom {
             }
             Atom::SameTime(first, second) => Ok(Atom::SameTime(*first, *second)),
             Atom::Before(first, second) => Ok(Atom::Before(*first, *second)),
+            Atom::Last(time) => Ok(Atom::Last(*time)),
         }
     }
 }
@@ -132,6 +135,7 @@ impl Atom {
                 first.changed(small, large),
                 second.changed(small, large),
             )),
+            Atom::Last(time) => Ok(Atom::Last(time.changed(small, large))),
         }
     }
 }

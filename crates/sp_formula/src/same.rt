@@ -52,6 +52,7 @@ fn same_atom(left: &Atom, right: &Atom) -> bool
         (Atom::Same(t, u), Atom::Same(v, w)) => same(t, v) && same(u, w),
         (Atom::SameTime(i, j), Atom::SameTime(k, l)) => same_moment(*i, *k) && same_moment(*j, *l),
         (Atom::Before(i, j), Atom::Before(k, l)) => same_moment(*i, *k) && same_moment(*j, *l),
+        (Atom::Last(i), Atom::Last(k)) => same_moment(*i, *k),
         _ => false,
     }
 }

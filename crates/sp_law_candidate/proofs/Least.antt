@@ -3,8 +3,8 @@ use Rattle.std.proofs.Common.{◌≡◌, ℕ, zero, suc, Bool, true, false, ◌|
 use Rattle.sp_spec.specs.Lists.{Every}
 use Rattle.sp_spec_system.specs.System.{Event}
 use Rattle.sp_spec_system.specs.Order.{is_before, is_cyclic}
-use Rattle.sp_solved.specs.Listing.{some_before, passed, first_free, one_by_one}
-use Rattle.sp_solved.proofs.Listed.{taken, length_middle}
+use Rattle.sp_spec_solved.specs.Listing.{some_before, passed, first_free, one_by_one}
+use Rattle.sp_law_candidate.proofs.Listed.{taken, length_middle}
 use Rattle.sp_law_system.proofs.ShortPaths.{before_before, not_before_itself}
 
 -- none of them is before the event

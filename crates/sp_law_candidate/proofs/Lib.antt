@@ -1,3 +1,5 @@
+pub mod Listed
+pub mod Names
 pub mod Least
 pub mod Sources
 pub mod Settled

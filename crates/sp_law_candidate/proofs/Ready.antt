@@ -9,10 +9,10 @@ use Rattle.sp_spec.specs.Guarded.{Place, Atom, free_time, bound_time, acts, same
 use Rattle.sp_spec.specs.Log.{Entry, is_fr}
 use Rattle.sp_spec_system.specs.System.{Event, Link, System, happening_premises}
 use Rattle.sp_spec_system.specs.Order.{is_cyclic}
-use Rattle.sp_solved.specs.Listing.{in_order}
-use Rattle.sp_solved.specs.Candidate.{are_settled, has_event, has_place, have_places, first_link, is_from_event, is_sourced, are_sourced, all_sourced, is_ready, place_of, logged, candidate}
-use Rattle.sp_solved.specs.Naming.{values_of}
-use Rattle.sp_solved.proofs.Listed.{every_listed, every_left}
+use Rattle.sp_spec_solved.specs.Listing.{in_order}
+use Rattle.sp_spec_solved.specs.Candidate.{are_settled, has_event, has_place, have_places, first_link, is_from_event, is_sourced, are_sourced, all_sourced, is_ready, place_of, logged, candidate}
+use Rattle.sp_spec_solved.specs.Naming.{values_of}
+use Rattle.sp_law_candidate.proofs.Listed.{every_listed, every_left}
 use Rattle.sp_law_candidate.specs.Laws.{HasSourceEvent, IsListable}
 use Rattle.sp_law_candidate.proofs.Least.{all_are_listed}
 use Rattle.sp_law_candidate.proofs.Settled.{IsSettled, all_are_settled, each_is_settled}

@@ -3,7 +3,7 @@ use Rattle.std.proofs.Common.{◌≡◌, true, List, [], ◌∷◌, refl}
 use Rattle.std.proofs.lemmas.Bool.{and_parts, and_from}
 use Rattle.sp_spec.specs.Lists.{Every}
 use Rattle.sp_spec_system.specs.System.{Event}
-use Rattle.sp_solved.specs.Candidate.{is_settled, are_settled}
+use Rattle.sp_spec_solved.specs.Candidate.{is_settled, are_settled}
 
 abbrev pub IsSettled : Event → Type 0
 IsSettled d = is_settled d.happening ≡ true

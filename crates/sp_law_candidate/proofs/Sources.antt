@@ -6,7 +6,7 @@ use Rattle.sp_spec.specs.Term.{Variable, Values}
 use Rattle.sp_spec.specs.Rule.{Fact}
 use Rattle.sp_spec.specs.Log.{Entry, Source, fresh_rule, conclusion, is_fr}
 use Rattle.sp_spec_system.specs.System.{Event, Link, happening_premises}
-use Rattle.sp_solved.specs.Candidate.{place_of, first_link, given_by, linked_source, source_of, sources_from, entry_at, event_sources, entries_of}
+use Rattle.sp_spec_solved.specs.Candidate.{place_of, first_link, given_by, linked_source, source_of, sources_from, entry_at, event_sources, entries_of}
 
 -- ---- places
 

@@ -1,3 +1,5 @@
 pub mod Covering
 pub mod MovesCover
+pub mod Once
 pub mod Simplifying
+pub mod SolvedAction

@@ -1,5 +1,5 @@
 -- Each move covers, with its cases simplified.
-use Rattle.std.proofs.Common.{◌≡◌, ◌≤◌, ◌<◌, ◌+◌, ℕ, Bool, true, false, if◌then◌else◌, List, [], ◌∷◌, map, Option, Some, None, option_map, is_some, refl, sym, subst, arith, le_refl, le_trans, slice_get}
+use Rattle.std.proofs.Common.{◌≡◌, ◌≤◌, ◌<◌, ◌+◌, ℕ, Bool, true, false, if◌then◌else◌, List, [], ◌∷◌, map, Option, Some, None, option_map, is_some, refl, sym, subst, arith, le_refl, le_trans, slice_get, ◌++◌, length}
 use Rattle.sp_spec.specs.Lists.{Every}
 use Rattle.sp_spec.specs.Term.{Names, fresh_name, Variable, AllMadeOf}
 use Rattle.sp_spec.specs.Rule.{Action}
@@ -8,13 +8,13 @@ use Rattle.sp_spec.specs.Destruction.{destructions}
 use Rattle.sp_spec.specs.Equal.{AreNormal}
 use Rattle.sp_spec.specs.Theory.{Theory, signature_of}
 use Rattle.sp_spec.specs.Truth.{Acts}
-use Rattle.sp_spec.specs.Guarded.{Place, Guarded, truth, falsity, holds, fails, all_of, one_of, some, every, acts, same, same_time, before, last, free_time, bound_time, action_in}
+use Rattle.sp_spec.specs.Guarded.{Place, Guarded, action_in}
 use Rattle.sp_spec.specs.Log.{Log, IsLog, log_trace}
 use Rattle.sp_spec.specs.Substitution.{Binding, bound_to}
 use Rattle.sp_law_equal.specs.NormalForms.{HaveNormalForms}
 use Rattle.sp_spec_system.specs.System.{Event, System, happening_actions}
 use Rattle.sp_spec_system.specs.Solutions.{Valuation, assignment, FormulaHolds, Solves}
-use Rattle.sp_spec_system.specs.Numbered.{names_in, InEvent, InFormula, IsNumbered}
+use Rattle.sp_spec_system.specs.Numbered.{names_in, InEvent, InFormula, IsNumbered, HappenOnce}
 use Rattle.sp_spec_system.specs.Covering.{NoneSolved, Covers}
 use Rattle.sp_law_system.specs.Laws.{UnifierIsRight}
 use Rattle.sp_spec_system.specs.Equating.{action_pair, unifier_of, system_changed}
@@ -28,65 +28,35 @@ use Rattle.sp_spec_system.specs.MakingOne.{event_at}
 use Rattle.sp_spec_proof.specs.Rows.{has_place, is_contradictory, simplified}
 use Rattle.sp_spec_system.specs.Move.{Move, simplify, contradiction, unproved, solved, or, action, premise, know, chain, Context, Case, end_log, systems_in}
 use Rattle.sp_spec_system.specs.Cases.{where_same, renamed, system_if, named}
-use Rattle.sp_spec_formula.specs.Action.{with_step, by_actions, by_each, action_cases, action_at_time, solving_action, by_forms, by_adversary}
+use Rattle.sp_spec_formula.specs.Action.{with_step, by_actions, by_each, at_each, action_cases, solving_action, by_forms, by_adversary}
 use Rattle.sp_spec_graph.specs.Premise.{open_premise, premise_cases}
 use Rattle.sp_spec_graph.specs.Know.{know_cases}
 use Rattle.sp_spec_graph.specs.Chain.{chain_cases}
 use Rattle.sp_spec_proof.specs.Cases.{raw_cases, simple_case, cases}
 use Rattle.sp_law_system.specs.Rules.{SuitsProofs, RulesAreNumbered, IsNumberedForm, FormsAreNumbered, FormsAreWhole}
-use Rattle.sp_law_system.specs.Proofs.{IsContextOf, IsWellMade, IsKept, IsPast, CoversBelow}
+use Rattle.sp_law_system.specs.Proofs.{IsWellMade, IsKept, IsPast}
+use Rattle.sp_law_cover.specs.Admitted.{Admits, CoversBelow}
+use Rattle.sp_law_cover.specs.Contexts.{IsContextOf}
 use Rattle.sp_law_cover.specs.Laws.{MovesCover}
 use Rattle.sp_law_formula.proofs.Freed.{freed_action_in}
 use Rattle.sp_spec.proofs.Options.{mapped}
 use Rattle.sp_law_formula.proofs.Merged.{unifier_within, Later}
 use Rattle.sp_law_formula.proofs.Opened.{EqualTruth}
 use Rattle.sp_law_formula.proofs.Parts.{or_covers, or_numbered}
+use Rattle.sp_law_formula.proofs.AtEach.{at_each_numbered, at_each_solved}
 use Rattle.sp_law_formula.proofs.ByAdversary.{adversary_numbered}
 use Rattle.sp_law_formula.proofs.Actions.{named_systems, systems_append, at_event_systems, step_numbered}
 use Rattle.sp_law_formula.proofs.ActionCovers.{event_found, at_event_solved, new_event_solved}
 use Rattle.sp_law_graph.proofs.Premises.{premise_numbered, premise_covers}
 use Rattle.sp_law_graph.proofs.Know.{know_numbered, know_covers}
 use Rattle.sp_law_graph.proofs.Chain.{chain_numbered, chain_covers}
+use Rattle.sp_law_cover.proofs.SolvedAction.{SolvesAction, at_place}
+use Rattle.sp_law_cover.proofs.Once.{raw_once}
 use Rattle.sp_law_cover.proofs.Simplifying.{no_solution, rows_cover, simplified_follows, covers_itself}
 use Rattle.sp_spec_forms.specs.Numbering.{Form}
 use Rattle.sp_spec_forms.specs.Forms.{RuleForms, forms_of}
 use Rattle.sp_spec_system.specs.Rules.{Rules, rules_of}
 use Rattle.sp_law_forms.proofs.Whole.{forms_whole, forms_numbered}
-
--- a solved action: the formula, its time and its terms
-pub record SolvesAction (rules : List RuleForms) (s : System) (f : Guarded) (cs : List Case) : Type 0 where
-  pub atom : Action Place
-  pub time : ℕ
-  pub terms : Action Variable
-  pub is_action : f ≡ holds (acts atom (free_time time))
-  pub freed : freed_action atom ≡ Some terms
-  pub cases : cs ≡ action_cases rules s time terms (event_at time s.events)
-
-solving : (rules : List RuleForms) (s : System) (f : Guarded) (cs : List Case) → solving_action rules s (Some f) ≡ Some cs → SolvesAction rules s f cs
-solving rules s (holds (acts a (free_time i))) cs e = at (freed_action a) refl e
-  where
-    at : (o : Option (Action Variable)) → freed_action a ≡ o → action_at_time rules s i o ≡ Some cs → SolvesAction rules s (holds (acts a (free_time i))) cs
-    at None k l = absurd cc
-    at (Some t) k l = record { atom = a; time = i; terms = t; is_action = refl; freed = k; cases = let g : cs ≡ action_cases rules s i t (event_at i s.events) = cc in g }
-solving rules s (holds (acts a (bound_time i))) cs e = absurd cc
-solving rules s (holds (same t u)) cs e = absurd cc
-solving rules s (holds (same_time i j)) cs e = absurd cc
-solving rules s (holds (before i j)) cs e = absurd cc
-solving rules s (holds (last i)) cs e = absurd cc
-solving rules s (fails a) cs e = absurd cc
-solving rules s truth cs e = absurd cc
-solving rules s falsity cs e = absurd cc
-solving rules s (all_of fs) cs e = absurd cc
-solving rules s (one_of fs) cs e = absurd cc
-solving rules s (some bs guard f) cs e = absurd cc
-solving rules s (every bs guard f) cs e = absurd cc
-
-at_place : (rules : List RuleForms) (s : System) (k : ℕ) (cs : List Case) → solving_action rules s (slice_get s.formulas k) ≡ Some cs → (f : Guarded) × (slice_get s.formulas k ≡ Some f) × SolvesAction rules s f cs
-at_place rules s k cs e = at (slice_get s.formulas k) refl e
-  where
-    at : (o : Option Guarded) → slice_get s.formulas k ≡ o → solving_action rules s o ≡ Some cs → (f : Guarded) × (slice_get s.formulas k ≡ Some f) × SolvesAction rules s f cs
-    at None h l = absurd cc
-    at (Some f) h l = (f, h, solving rules s f cs l)
 
 module _ (N : Names) (right : UnifierIsRight) where
   same_numbered : (base : ℕ) (s : System) → base ≤ s.next → IsNumbered N s → (a : Action Variable) (bs : List (Action Variable)) → AllMadeOf N (Under s.next) a.args → Every (λ (b : Action Variable). AllMadeOf N (Under s.next) b.args) bs
@@ -100,13 +70,14 @@ module _ (N : Names) (right : UnifierIsRight) where
       at (Some bindings) e =
           ((change_numbered N s.next bindings (unifier_within N right s.next (action_pair a b) bindings e (action_under N s.next a b ia ib.0)) (λ i. i) (λ i h. h) s refl n, le), tt)
 
--- a log is what it was by now
-goes_below : (theory : Theory) (s : System) (cs : List System) → Covers theory s cs → CoversBelow theory s cs
-goes_below theory s cs c = record { below = λ log is v h none. c.covers log is v h (each log v cs none) }
+-- a log is what it was by now, and what covers over all logs does so over admitted ones
+goes_below : (theory : Theory) (context : Context) (s : System) (cs : List System) → Covers theory s cs → CoversBelow theory context s cs
+goes_below theory context s cs c = record { below = λ log is admitted v h none. c.covers log is v h (each log admitted v cs none) }
   where
-    each : (log : Log) (v : Valuation) (cs : List System) → Every (λ (c : System). (past : Log) → IsPast past log → (w : Valuation) → Solves theory past w c → ⊥) cs → NoneSolved theory log v s.next cs
-    each log v [] none = tt
-    each log v (c ∷ cs) none = ((λ w agrees h. none.0 log ([], refl) w h), each log v cs none.1)
+    each : (log : Log) → Admits theory context log → (v : Valuation) (cs : List System)
+        → Every (λ (c : System). (past : Log) → IsPast past log → Admits theory context past → (w : Valuation) → Solves theory past w c → ⊥) cs → NoneSolved theory log v s.next cs
+    each log admitted v [] none = tt
+    each log admitted v (c ∷ cs) none = ((λ w agrees h. none.0 log ([], refl) admitted w h), each log admitted v cs none.1)
 
 -- what holds of the systems of cases
 pub every_system : (P : System → Type 0) (cs : List Case) → Every P (systems_in cs) → Every (λ (c : Case). P c.system) cs
@@ -156,11 +127,15 @@ module _ (N : Names) (right : UnifierIsRight) (theory : Theory) (suits : SuitsPr
 
   cases_numbered : (s : System) → IsNumbered N s → (i : ℕ) → i < s.next → (a : Action Variable) → AllMadeOf N (Under s.next) a.args → (o : Option Event) → event_at i s.events ≡ o
       → Every (Later N s.next) (systems_in (action_cases forms s i a o))
-  cases_numbered s n i iu a au None e =
-      let steps = by_each forms s i a in
-      let adversary = by_adversary s i a.symbol a.args in
-      subst (Every (Later N s.next)) (sym (systems_append steps adversary))
-      (every_append (Later N s.next) (systems_in steps) (systems_in adversary) (by_each_numbered forms each_numbered s n i iu a au) (adversary_numbered N s n i iu a.symbol a.args au))
+  cases_numbered s n i iu a au None e = at s.closed
+    where
+      at : (b : Bool) → Every (Later N s.next) (systems_in (if b then at_each s i s.events else by_each forms s i a ++ by_adversary s i a.symbol a.args))
+      at true = at_each_numbered right s n i iu s.events n.events
+      at false =
+          let steps = by_each forms s i a in
+          let adversary = by_adversary s i a.symbol a.args in
+          subst (Every (Later N s.next)) (sym (systems_append steps adversary))
+          (every_append (Later N s.next) (systems_in steps) (systems_in adversary) (by_each_numbered forms each_numbered s n i iu a au) (adversary_numbered N s n i iu a.symbol a.args au))
   cases_numbered s n i iu a au (Some d) e =
       let found = event_found i s.events d e in
       let inside = (every_member (InEvent N (Under s.next) (TimeUnder s.next)) s.events d found.0 n.events).1 in
@@ -181,16 +156,19 @@ module _ (N : Names) (right : UnifierIsRight) (theory : Theory) (suits : SuitsPr
       record {
         covers = λ log is v h none.
             let f = subst (FormulaHolds theory log v) r.is_action (every_at _ s.formulas k p.0 p.1 h.formulas) in
-            f.0 (λ y. acting s n r.atom r.terms r.freed r.time i.0 i.1 log is v h f.1.0.0 y (event_at r.time s.events) refl (subst (λ (x : List Case). NoneSolved theory log v s.next (systems_in x)) r.cases none));
+            f.0 (λ y. acting s n r.atom r.terms r.freed r.time i.0 i.1 log is v h f.1.1 f.1.0.0 y (event_at r.time s.events) refl (subst (λ (x : List Case). NoneSolved theory log v s.next (systems_in x)) r.cases none));
       }
     where
       acting : (s : System) (n : IsNumbered N s) (f : Action Place) (a : Action Variable) (freed : freed_action f ≡ Some a) (i : ℕ) (i_under : i < s.next) (a_under : AllMadeOf N (Under s.next) a.args)
-          (log : Log) (is : IsLog theory log) (v : Valuation) (h : Solves theory log v s)
+          (log : Log) (is : IsLog theory log) (v : Valuation) (h : Solves theory log v s) → v.times i < length log
           → AreNormal (signature_of theory).equations (action_in (assignment v) f).args → Acts (signature_of theory).equations (log_trace log) (v.times i) (action_in (assignment v) f)
           → (o : Option Event) → event_at i s.events ≡ o → NoneSolved theory log v s.next (systems_in (action_cases forms s i a o)) → ⊥
-      acting s n f a freed i iu au log is v h normal_f y None e none =
-          new_event_solved N right theory good each_numbered whole s n f a freed i iu au log is v h y.2 y.0 y.1 y.3 normal_f y.4 none
-      acting s n f a freed i iu au log is v h normal_f y (Some d) e none =
+      acting s n f a freed i iu au log is v h there normal_f y None e none = at s.closed refl none
+        where
+          at : (b : Bool) → s.closed ≡ b → NoneSolved theory log v s.next (systems_in (if b then at_each s i s.events else by_each forms s i a ++ by_adversary s i a.symbol a.args)) → ⊥
+          at true k none = at_each_solved right s n i iu theory log v h k there none
+          at false k none = new_event_solved N right theory good each_numbered whole s n f a freed i iu au log is v h y.2 y.0 y.1 y.3 normal_f y.4 none
+      acting s n f a freed i iu au log is v h there normal_f y (Some d) e none =
           let found = event_found i s.events d e in
           at_event_solved N right theory good each_numbered whole s n f a freed i iu au log is v h d found.0 found.1 y.2 (v.times i) refl y.0 y.1 y.3 normal_f y.4
           (subst (NoneSolved theory log v s.next) (at_event_systems s a 0 (happening_actions d.happening)) none)
@@ -261,25 +239,27 @@ module _ (right : UnifierIsRight) (theory : Theory) (suits : SuitsProofs theory)
     abbrev N : Names
     N = names_in context.public_names
 
-    simple_follows : (s : System) → IsNumbered N s → IsKept context s (simplified context.rules s) × Covers theory s (simplified context.rules s ∷ [])
-    simple_follows s n = simplified_follows theory (rows_cover right theory suits equal_truth) context is_of 10000 s (record { numbered = n })
+    simple_follows : (s : System) → IsNumbered N s → HappenOnce s.events → IsKept context s (simplified context.rules s) × Covers theory s (simplified context.rules s ∷ [])
+    simple_follows s n o = simplified_follows theory (rows_cover right theory suits equal_truth) context is_of 10000 s (record { numbered = n; once = o })
 
-    simple_kept : (s : System) (cs : List Case) → Every (Later N s.next) (systems_in cs) → Every (IsKept context s) (systems_in (map (simple_case context.rules) cs))
-    simple_kept s [] h = tt
-    simple_kept s (c ∷ cs) h =
-        let f = simple_follows c.system h.0.0 in
-        (record { well_made = f.0.well_made; next = le_trans h.0.1 f.0.next }, simple_kept s cs h.1)
+    simple_kept : (s : System) (cs : List Case) → Every (Later N s.next) (systems_in cs) → Every (λ (c : System). HappenOnce c.events) (systems_in cs) → Every (IsKept context s) (systems_in (map (simple_case context.rules) cs))
+    simple_kept s [] h o = tt
+    simple_kept s (c ∷ cs) h o =
+        let f = simple_follows c.system h.0.0 o.0 in
+        (record { well_made = f.0.well_made; next = le_trans h.0.1 f.0.next }, simple_kept s cs h.1 o.1)
 
-    simple_solved : (log : Log) → IsLog theory log → (n : ℕ) (v : Valuation) (cs : List Case) → Every (Later N n) (systems_in cs) → NoneSolved theory log v n (systems_in (map (simple_case context.rules) cs)) → NoneSolved theory log v n (systems_in cs)
-    simple_solved log is n v [] h none = tt
-    simple_solved log is n v (c ∷ cs) h none =
-        let f = simple_follows c.system h.0.0 in
-        ((λ w a k. f.1.covers log is w k ((λ x b l. none.0 x (agrees_then n c.system.next v w x h.0.1 a b) l), tt)), simple_solved log is n v cs h.1 none.1)
+    simple_solved : (log : Log) → IsLog theory log → (n : ℕ) (v : Valuation) (cs : List Case) → Every (Later N n) (systems_in cs) → Every (λ (c : System). HappenOnce c.events) (systems_in cs)
+        → NoneSolved theory log v n (systems_in (map (simple_case context.rules) cs)) → NoneSolved theory log v n (systems_in cs)
+    simple_solved log is n v [] h o none = tt
+    simple_solved log is n v (c ∷ cs) h o none =
+        let f = simple_follows c.system h.0.0 o.0 in
+        ((λ w a k. f.1.covers log is w k ((λ x b l. none.0 x (agrees_then n c.system.next v w x h.0.1 a b) l), tt)), simple_solved log is n v cs h.1 o.1 none.1)
 
     move_kept : (s : System) (move : Move) (cs : List Case) → cases context s move ≡ Some cs → IsWellMade context s → Every (IsKept context s) (systems_in cs)
     move_kept s move cs e made =
         let r = mapped (map (simple_case context.rules)) (raw_cases context s move) cs e in
-        subst (λ (x : List Case). Every (IsKept context s) (systems_in x)) (sym r.2) (simple_kept s r.0 (raw_numbered N right theory suits is_of.numbered equal_truth context is_of.rules s move r.0 r.1 made.numbered))
+        let num = raw_numbered N right theory suits is_of.numbered equal_truth context is_of.rules s move r.0 r.1 made.numbered in
+        subst (λ (x : List Case). Every (IsKept context s) (systems_in x)) (sym r.2) (simple_kept s r.0 num (raw_once context s move r.0 r.1 made.numbered made.once))
 
     move_covers : (s : System) (move : Move) (cs : List Case) → cases context s move ≡ Some cs → (move ≡ unproved → ⊥) → (move ≡ solved → ⊥) → IsWellMade context s → Covers theory s (systems_in cs)
     move_covers s move cs e not_open not_end made =
@@ -287,11 +267,11 @@ module _ (right : UnifierIsRight) (theory : Theory) (suits : SuitsProofs theory)
         let raw = raw_covers N right theory suits is_of.numbered equal_truth context is_of.rules s move r.0 r.1 not_open not_end made.numbered (λ k h. h) in
         let num = raw_numbered N right theory suits is_of.numbered equal_truth context is_of.rules s move r.0 r.1 made.numbered in
         subst (λ (x : List Case). Covers theory s (systems_in x)) (sym r.2)
-        (record { covers = λ log is v h none. raw.covers log is v h (simple_solved log is s.next v r.0 num none) })
+        (record { covers = λ log is v h none. raw.covers log is v h (simple_solved log is s.next v r.0 num (raw_once context s move r.0 r.1 made.numbered made.once) none) })
 
   pub moves_cover : MovesCover theory
   moves_cover = record {
     kept = move_kept;
     covers = move_covers;
-    covers_below = λ context is_of s move cs e not_open not_end made. goes_below theory s (systems_in cs) (move_covers context is_of s move cs e not_open not_end made);
+    covers_below = λ context is_of s move cs e not_open not_end made. goes_below theory context s (systems_in cs) (move_covers context is_of s move cs e not_open not_end made);
   }

@@ -4,20 +4,21 @@ use Rattle.std.proofs.lemmas.Bool.{or_cases}
 use Rattle.std.proofs.lemmas.List.{append_assoc}
 use Rattle.sp_spec.specs.Term.{Names}
 use Rattle.sp_spec.specs.Theory.{Theory, signature_of}
-use Rattle.sp_spec.specs.Log.{Log}
+use Rattle.sp_spec.specs.Log.{Log, IsLog}
 use Rattle.sp_law_equal.specs.NormalForms.{HaveNormalForms}
 use Rattle.sp_spec_system.specs.System.{System}
 use Rattle.sp_spec_system.specs.Rules.{Rules, rules_of}
-use Rattle.sp_spec_system.specs.Solutions.{Valuation}
+use Rattle.sp_spec_system.specs.Solutions.{Valuation, Solves}
 use Rattle.sp_spec_system.specs.Numbered.{names_in, IsNumbered}
 use Rattle.sp_spec_system.specs.Covering.{Agrees, NoneSolved, Covers}
 use Rattle.sp_spec_system.specs.Order.{is_cyclic}
 use Rattle.sp_law_system.specs.Laws.{UnifierIsRight}
 use Rattle.sp_law_system.proofs.Solutions.{agrees_then}
-use Rattle.sp_spec_proof.specs.Rows.{Row, row_split, row_open, row_equate, row_unequal, row_order, row_action_stands, row_disjunction, row_send_input, row_send_learnt, row_learn_once, row_linear_once, row_fresh_once, row_settle_learn, row_fresh_first, row_instantiate, rows, by_row, first_of, by_rows, is_contradictory, goes_on, simplified_by}
+use Rattle.sp_spec_proof.specs.Rows.{Row, row_split, row_open, row_equate, row_unequal, row_order, row_last, row_action_stands, row_disjunction, row_send_input, row_send_learnt, row_learn_once, row_linear_once, row_fresh_once, row_settle_learn, row_fresh_first, row_instantiate, rows, by_row, first_of, by_rows, fails_somewhere, is_contradictory, goes_on, simplified_by}
 use Rattle.sp_spec_formula.specs.Split.{has_falsity}
 use Rattle.sp_spec_formula.specs.Unequal.{has_equal_pair}
 use Rattle.sp_spec_formula.specs.InOrder.{has_refuted}
+use Rattle.sp_spec_formula.specs.Last.{fails_to_last, has_later, has_last_refuted, has_unlast}
 use Rattle.sp_spec_graph.specs.SourceTwice.{takes_fr_twice, used_twice, has_source_twice}
 use Rattle.sp_spec_graph.specs.ReducibleEvent.{has_reducible}
 use Rattle.sp_spec_system.specs.Picked.{some_two}
@@ -30,12 +31,16 @@ use Rattle.sp_spec_graph.specs.LearntEarly.{has_early}
 use Rattle.sp_spec.specs.Lists.{Member, Every}
 use Rattle.sp_spec_system.specs.Move.{Context}
 use Rattle.sp_law_system.specs.Rules.{SuitsProofs}
-use Rattle.sp_law_system.specs.Proofs.{HasNoSolution, IsContextOf, IsWellMade, IsKept}
+use Rattle.sp_law_system.specs.Proofs.{IsWellMade, IsKept}
+use Rattle.sp_law_cover.specs.Admitted.{HasNoSolution}
+use Rattle.sp_law_cover.specs.Contexts.{IsContextOf}
 use Rattle.sp_law_cover.specs.Laws.{IsTurn, ContradictionsHold, RowsCover}
+use Rattle.sp_law_cover.proofs.Once.{row_once}
 use Rattle.sp_law_formula.proofs.Literals.{covers_by_itself, action_stands_covers, action_stands_numbered, unequal_covers, unequal_row_numbered, equal_pair_contradicts}
 use Rattle.sp_law_formula.proofs.Splitting.{split_covers, split_numbered, some_falsity_contradicts}
 use Rattle.sp_law_formula.proofs.Orders.{in_order_covers, in_order_numbered, cyclic_contradicts, some_refuted_contradicts}
 use Rattle.sp_law_formula.proofs.Equations.{equate_covers, equate_numbered, some_fails_contradicts}
+use Rattle.sp_law_formula.proofs.Lasts.{sets_last_covers, sets_last_numbered, some_last_fails_contradicts, later_contradicts, some_last_refuted_contradicts, unlast_contradicts}
 use Rattle.sp_law_formula.proofs.Disjunctions.{disjunction_covers, disjunction_numbered}
 use Rattle.sp_law_graph.proofs.LinearOnce.{linear_once_covers, linear_once_numbered, used_twice_contradicts, links_contradict}
 use Rattle.sp_law_formula.proofs.Taken.{instantiate_numbered}
@@ -50,6 +55,9 @@ use Rattle.sp_law_graph.proofs.LearntEarly.{early_contradicts}
 use Rattle.sp_law_graph.proofs.ReducibleEvent.{reducible_contradicts}
 use Rattle.sp_law_formula.proofs.Opened.{EqualTruth, open_existential_covers}
 use Rattle.sp_law_formula.proofs.OpenedNumbers.{open_existential_numbered}
+
+either : (a b : Bool) → (a ≡ true → ⊥) → (b ≡ true → ⊥) → (a || b) ≡ true → ⊥
+either a b first second k = ⊎_elim first second (or_cases a b k)
 
 -- one case after another
 pub covers_then : (theory : Theory) (s t : System) (cs : List System) → s.next ≤ t.next → Covers theory s (t ∷ []) → Covers theory t cs → Covers theory s cs
@@ -78,6 +86,7 @@ module _ (N : Names) (right : UnifierIsRight) (theory : Theory) (suits : SuitsPr
   row_numbered rules of row_equate s t e n = equate_numbered N right s t e n
   row_numbered rules of row_unequal s t e n = unequal_row_numbered s t e n
   row_numbered rules of row_order s t e n = in_order_numbered s t e n
+  row_numbered rules of row_last s t e n = sets_last_numbered N right s t e n
   row_numbered rules of row_action_stands s t e n = action_stands_numbered s t e n
   row_numbered rules of row_disjunction s t e n = disjunction_numbered s t e n
   row_numbered rules of row_send_input s t e n = send_input_numbered s t e n
@@ -96,6 +105,7 @@ module _ (N : Names) (right : UnifierIsRight) (theory : Theory) (suits : SuitsPr
   row_covers rules of row_equate s t e n once = equate_covers N right theory good s t e n
   row_covers rules of row_unequal s t e n once = unequal_covers theory s t e
   row_covers rules of row_order s t e n once = in_order_covers theory s t e
+  row_covers rules of row_last s t e n once = sets_last_covers N right theory s t e n
   row_covers rules of row_action_stands s t e n once = action_stands_covers theory s t e
   row_covers rules of row_disjunction s t e n once = disjunction_covers theory s t e
   row_covers rules of row_send_input s t e n once = send_input_covers s t e n theory suits.reserved
@@ -106,6 +116,15 @@ module _ (N : Names) (right : UnifierIsRight) (theory : Theory) (suits : SuitsPr
   row_covers rules of row_settle_learn s t e n once = settle_learn_covers theory s t (settled_by rules of s t e) n
   row_covers rules of row_fresh_first s t e n once = fresh_first_covers N right theory suits.instances suits.shown suits.bound suits.fresh s t e (once refl) n
   row_covers rules of row_instantiate s t e n once = instantiate_covers theory suits.instances s t e n
+
+  -- where a unification or a merge fails that a row is to make
+  fails_nowhere : (rules : Rules) → rules ≡ rules_of theory → (s : System) → IsNumbered N s → (log : Log) → IsLog theory log → (v : Valuation) → Solves theory log v s → fails_somewhere s ≡ true → ⊥
+  fails_nowhere rules of s n log is v h e =
+      either (fails_to_equate s s.formulas) _ (λ k. some_fails_contradicts N right theory good s n log v h s.formulas n.formulas k h.formulas)
+      (λ a. either (fails_to_last s s.formulas) _ (λ k. some_last_fails_contradicts N right theory s n log v h s.formulas n.formulas k h.formulas)
+      (λ b. either (fails_to_learn s) _ (λ k. learning_contradicts N right theory s k n log is v h)
+      (λ c. either (fails_to_link s) (fails_to_merge s) (λ k. links_contradict N right theory s n log is v h k)
+      (λ k. merge_contradicts N right theory s k n log is v h) c) b) a) e
 
   pub no_solution : (rules : Rules) → rules ≡ rules_of theory → (s : System) → is_contradictory rules s ≡ true → IsNumbered N s → HasNoSolution theory s
   no_solution rules of s e n log is v h =
@@ -118,13 +137,10 @@ module _ (N : Names) (right : UnifierIsRight) (theory : Theory) (suits : SuitsPr
       (λ f. either (has_early s) _ (λ k. early_contradicts theory log is v s h k)
       (λ g. either (has_reducible rules.signature.equations s.events) _
       (λ k. reducible_contradicts theory good log is v (λ x. (h.sorts x).0) s.events (subst (λ (x : Rules). has_reducible x.signature.equations s.events ≡ true) of k) h.events)
-      (λ j. either (fails_to_equate s s.formulas) _ (λ k. some_fails_contradicts N right theory good s n log v h s.formulas n.formulas k h.formulas)
-      (λ l. either (fails_to_learn s) _ (λ k. learning_contradicts N right theory s k n log is v h)
-      (λ m. either (fails_to_link s) (fails_to_merge s) (λ k. links_contradict N right theory s n log is v h k)
-      (λ k. merge_contradicts N right theory s k n log is v h) m) l) j) g) f) d) c) b) a) e
-    where
-      either : (a b : Bool) → (a ≡ true → ⊥) → (b ≡ true → ⊥) → (a || b) ≡ true → ⊥
-      either a b first second k = ⊎_elim first second (or_cases a b k)
+      (λ j. either (fails_somewhere s) _ (λ k. fails_nowhere rules of s n log is v h k)
+      (λ l. either (has_later s.last s.order) _ (λ k. later_contradicts log v s.last h.last s.order h.order k)
+      (λ m. either (has_last_refuted s.last s.formulas) (has_unlast s) (λ k. some_last_refuted_contradicts log v theory s.last h.last s.formulas k h.formulas) (λ k. unlast_contradicts log v theory s h k) m)
+      l) j) g) f) d) c) b) a) e
 
 -- ---- rows in their turn
 
@@ -151,12 +167,12 @@ gives_nothing rules s (r ∷ earlier) e row m = at (by_row rules r s) refl e m (
 -- when fresh comes first, learn once gives nothing
 learnt_once_by_then : (rules : Rules) (s : System) (row : Row) (t : System) → IsTurn rules s row t → row ≡ row_fresh_first → learn_once s ≡ None
 learnt_once_by_then rules s row t turn is =
-    let front : List Row = row_split ∷ row_open ∷ row_equate ∷ row_unequal ∷ row_order ∷ row_action_stands ∷ row_disjunction ∷ row_send_input ∷ row_send_learnt ∷ row_learn_once ∷ [] in
+    let front : List Row = row_split ∷ row_open ∷ row_equate ∷ row_unequal ∷ row_order ∷ row_last ∷ row_action_stands ∷ row_disjunction ∷ row_send_input ∷ row_send_learnt ∷ row_learn_once ∷ [] in
     let rest : List Row = row_linear_once ∷ row_fresh_once ∷ row_settle_learn ∷ row_fresh_first ∷ row_instantiate ∷ [] in
     let place : front ++ rest ≡ turn.earlier ++ row_fresh_first ∷ turn.later = subst (λ (x : Row). rows ≡ turn.earlier ++ x ∷ turn.later) is turn.place in
     let apart : Every (λ (z : Row). z ≡ row_fresh_first → ⊥) front =
-    ((λ e. cc), ((λ e. cc), ((λ e. cc), ((λ e. cc), ((λ e. cc), ((λ e. cc), ((λ e. cc), ((λ e. cc), ((λ e. cc), ((λ e. cc), tt)))))))))) in
-    let there : Member row_learn_once front = inr (inr (inr (inr (inr (inr (inr (inr (inr (inl refl))))))))) in
+    ((λ e. cc), ((λ e. cc), ((λ e. cc), ((λ e. cc), ((λ e. cc), ((λ e. cc), ((λ e. cc), ((λ e. cc), ((λ e. cc), ((λ e. cc), ((λ e. cc), tt))))))))))) in
+    let there : Member row_learn_once front = inr (inr (inr (inr (inr (inr (inr (inr (inr (inr (inl refl)))))))))) in
     gives_nothing rules s turn.earlier turn.nothing row_learn_once (stays_before row_learn_once row_fresh_first front rest turn.earlier turn.later place apart there)
 
 module _ (right : UnifierIsRight) (theory : Theory) (suits : SuitsProofs theory) (equal_truth : EqualTruth) where
@@ -164,7 +180,7 @@ module _ (right : UnifierIsRight) (theory : Theory) (suits : SuitsProofs theory)
   rows_cover = record {
     kept = λ context is_of row s t turn made.
         let r = row_numbered (names_in context.public_names) right theory suits equal_truth context.rules is_of.rules row s t turn.gives made.numbered in
-        record { well_made = record { numbered = r.0 }; next = r.1 };
+        record { well_made = record { numbered = r.0; once = row_once context.rules row s t turn.gives made.numbered made.once }; next = r.1 };
     covers = λ context is_of row s t turn made.
         row_covers (names_in context.public_names) right theory suits equal_truth context.rules is_of.rules row s t turn.gives made.numbered (learnt_once_by_then context.rules s row t turn);
   }

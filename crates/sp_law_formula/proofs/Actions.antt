@@ -26,7 +26,7 @@ use Rattle.sp_spec_formula.specs.Action.{at_event, with_step, by_actions}
 use Rattle.sp_law_formula.proofs.Entries.{beside, beside_agrees, beside_new, each_beside}
 use Rattle.sp_spec_forms.specs.Numbering.{Form}
 use Rattle.sp_law_system.specs.Rules.{IsNumberedForm}
-use Rattle.sp_law_system.proofs.With.{events_solve, next_solves, events_numbered, next_numbered}
+use Rattle.sp_law_system.proofs.With.{events_solve, found_behind, next_solves, events_numbered, next_numbered}
 
 -- the systems of named cases are those that were named
 numbered_systems : (name : List ℕ) (k : ℕ) (ss : List System) → systems_in (numbered name k ss) ≡ ss
@@ -42,7 +42,7 @@ pub systems_append : (xs ys : List Case) → systems_in (xs ++ ys) ≡ systems_i
 systems_append [] ys = refl
 systems_append (x ∷ xs) ys = ap (λ (r : List System). x.system ∷ r) (systems_append xs ys)
 
-case_systems : (name : List ℕ) (o : Option System) → systems_in (case_if name o) ≡ system_if o
+pub case_systems : (name : List ℕ) (o : Option System) → systems_in (case_if name o) ≡ system_if o
 case_systems name None = refl
 case_systems name (Some s) = refl
 
@@ -106,4 +106,4 @@ module _ (N : Names) (theory : Theory) (s : System) (name : List ℕ) (form : Fo
         (subst (λ (p : ℕ). AtPosition log p (step name (facts_at w form.facts) sources)) (sym (a.times i i_under)) there) in
         let event : Event = record { time = i; happening = rule_step name (renamed s.next form.facts) } in
         let events = every_append (HappensIn log (beside s.next v w)) s.events (event ∷ []) old.events ((sources, here), tt) in
-        next_solves theory log (beside s.next v w) (with_events s (s.events ++ event ∷ [])) (events_solve theory log (beside s.next v w) s old (s.events ++ event ∷ []) events) (s.next + form.count)
+        next_solves theory log (beside s.next v w) (with_events s (s.events ++ event ∷ [])) (events_solve theory log (beside s.next v w) s old (s.events ++ event ∷ []) (found_behind (beside s.next v w) s.events (event ∷ [])) events) (s.next + form.count)

@@ -12,7 +12,7 @@ use Rattle.sp_spec_system.specs.Covering.{NoneSolved}
 use Rattle.sp_spec_formula.specs.Action.{done_there, by_adversary}
 use Rattle.sp_spec_system.specs.Move.{systems_in}
 use Rattle.sp_law_system.proofs.Solutions.{Under, TimeUnder, agrees_itself}
-use Rattle.sp_law_system.proofs.With.{events_solve, events_numbered}
+use Rattle.sp_law_system.proofs.With.{events_solve, found_behind, events_numbered}
 use Rattle.sp_law_formula.proofs.Merged.{Later}
 
 -- a list of one message
@@ -26,7 +26,7 @@ module _ (theory : Theory) (log : Log) (v : Valuation) (s : System) (h : Solves 
   done_solved : (x : Happening) → HappensAt log (v.times i) v x → Solves theory log v (with_events s (s.events ++ record { time = i; happening = x } ∷ []))
   done_solved x k =
       let event : Event = record { time = i; happening = x } in
-      events_solve theory log v s h (s.events ++ event ∷ []) (every_append (HappensIn log v) s.events (event ∷ []) h.events (k, tt))
+      events_solve theory log v s h (s.events ++ event ∷ []) (found_behind v s.events (event ∷ [])) (every_append (HappensIn log v) s.events (event ∷ []) h.events (k, tt))
 
   abbrev NoneOf : List ℕ → Terms Variable → Type 0
   NoneOf symbol args = NoneSolved theory log v s.next (systems_in (by_adversary s i symbol args))

@@ -45,7 +45,7 @@ same_ground t u c =
     let decides = same_by_decides test (λ x y. absurd x) t u in
     told _ decides.0 decides.1 c
 
-same_number : (i j : ℕ) → Classically (i ≡ j) → i ≡ j
+pub same_number : (i j : ℕ) → Classically (i ≡ j) → i ≡ j
 same_number i j c = told (nat_eq i j) (eqb-true i j) (eq-eqb i j) c
 
 equation_holds : (theory : Theory) → HaveNormalForms (signature_of theory).equations → (log : Log) (v : Valuation) (f : Guarded) (e : Equation) → equation_of f ≡ Some e → FormulaHolds theory log v f → EquationHolds v e
@@ -70,7 +70,7 @@ equation_in N n f e h k = absurd cc
 
 module _ {N : Names} (right : UnifierIsRight) (s : System) (n : IsNumbered N s) where
   -- a solution in which the equation holds is one after the equating
-  equated_solved : (theory : Theory) (log : Log) (v : Valuation) → Solves theory log v s → (e : Equation) → EquationUnder N s.next e → EquationHolds v e → SolvedBy theory log v (equated s e)
+  pub equated_solved : (theory : Theory) (log : Log) (v : Valuation) → Solves theory log v s → (e : Equation) → EquationUnder N s.next e → EquationHolds v e → SolvedBy theory log v (equated s e)
   equated_solved theory log v h (equal_terms p) u one = pairs_solved right s n (p ∷ []) theory log v h (one, tt)
   equated_solved theory log v h (equal_times i j) u one = at (nat_eq i j)
     where
@@ -78,7 +78,7 @@ module _ {N : Names} (right : UnifierIsRight) (s : System) (n : IsNumbered N s) 
       at true = h
       at false = made_one_holds right s n theory log v h (i, j) u one
 
-  equated_numbered : (e : Equation) → EquationUnder N s.next e → NumberedFrom N s.next (equated s e)
+  pub equated_numbered : (e : Equation) → EquationUnder N s.next e → NumberedFrom N s.next (equated s e)
   equated_numbered (equal_terms p) u = pairs_numbered right s n (p ∷ []) (u, tt)
   equated_numbered (equal_times i j) u = at (nat_eq i j)
     where

@@ -1,5 +1,6 @@
 pub mod ActionCovers
 pub mod Actions
+pub mod AtEach
 pub mod Bound
 pub mod ByAdversary
 pub mod Disjunctions
@@ -8,6 +9,7 @@ pub mod Equations
 pub mod Freed
 pub mod Guards
 pub mod Instantiates
+pub mod Lasts
 pub mod Learnt
 pub mod MadeOne
 pub mod Literals
@@ -22,3 +24,6 @@ pub mod Spending
 pub mod Splitting
 pub mod Taken
 pub mod Merged
+pub mod MergedKept
+pub mod Once
+pub mod OnceRows

@@ -23,6 +23,7 @@ use Rattle.sp_law_system.proofs.LearntBy.{learnt_by_at_happens, learnt_by_at_num
 use Rattle.sp_law_system.proofs.OneHappening.{AreMerged, one_happening, merging_under}
 use Rattle.sp_law_system.proofs.Solutions.{Under, TimeUnder, change_solves, change_numbered}
 use Rattle.sp_law_system.proofs.With.{BothUnder, events_solve, events_numbered}
+use Rattle.sp_law_formula.proofs.MergedKept.{merging_found}
 use Rattle.sp_law_formula.proofs.Merged.{AreMerging, merging_are, merging_fewer, respects, replaced_same, replaced_under, ThereIs, IfThere, then_there, then_if_there, SolvedBy, Later, NumberedFrom}
 
 -- events at the two times are at one position where the times are
@@ -66,7 +67,7 @@ record IsSolved (theory : Theory) (log : Log) (v : Valuation) (j : Joining) : Ty
 abbrev SolvedIn : Theory → Log → Valuation → ℕ → Joining → Type 0
 SolvedIn theory log v turns j = IsSolved theory log v j × (length j.times + length j.system.events ≤ turns)
 
-abbrev joined_by : ℕ × ℕ → Joining → MergingEvents → Merging → Joining
+abbrev pub joined_by : ℕ × ℕ → Joining → MergingEvents → Merging → Joining
 joined_by p j r m = record {
   system = with_one_time p (with_events j.system (learnt_by_at r.first.time m.way r.others));
   pairs = j.pairs ++ m.pairs;
@@ -141,7 +142,8 @@ module _ {N : Names} (next : ℕ) (p : ℕ × ℕ) (j : Joining) (n : IsJoined N
             let g = h.1 in
             let solved : IsSolved theory log v (joined_by p j r m.by) = record {
               solves = one_time_solves (with_events j.system left) (events_numbered j.system n.numbered left inside)
-                  (events_solve theory log v j.system h.0.solves left here);
+                  (events_solve theory log v j.system h.0.solves left
+                  (merging_found v (at_times p.0 p.1) j.system.events r found (at_one v p.0 p.1 one r.first r.second events.one) r.first.time m.by.way) here);
               same = same_append v.terms j.pairs m.by.pairs h.0.same m.same;
               one = times_one (j.times ++ m.by.times) (every_append _ j.times m.by.times h.0.one m.times);
             } in

@@ -52,7 +52,7 @@ module _ (N : Names) (s : System) (r : Found Guardeds) (found : IsFound parts_if
   each_part_numbered n k (and_then f fs) i = ((spending_numbered parts_if s r found (f ∷ []) (i.0, tt) n, le_refl s.next), each_part_numbered n (suc k) fs i.1)
 
 -- the disjunction whose parts are the cases
-or_found : (s : System) (o : Option (Found Guardeds)) (cs : List Case) → or_cases s o ≡ Some cs → (r : Found Guardeds) × (o ≡ Some r) × (by_part s r 1 r.picked ≡ cs)
+pub or_found : (s : System) (o : Option (Found Guardeds)) (cs : List Case) → or_cases s o ≡ Some cs → (r : Found Guardeds) × (o ≡ Some r) × (by_part s r 1 r.picked ≡ cs)
 or_found s None cs e = absurd cc
 or_found s (Some r) cs e = (r, refl, let g : by_part s r 1 r.picked ≡ cs = cc in g)
 

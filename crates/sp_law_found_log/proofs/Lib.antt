@@ -3,3 +3,4 @@ pub mod Traces
 pub mod Found
 pub mod Sought
 pub mod Learning
+pub mod Ends

@@ -18,7 +18,7 @@ use Rattle.sp_spec_system.specs.System.{System}
 use Rattle.sp_spec_system.specs.Rules.{rules_of}
 use Rattle.sp_learn.specs.Checking.{is_log}
 use Rattle.sp_learn.proofs.Checks.{log_decides}
-use Rattle.sp_solved.specs.Candidate.{candidate}
+use Rattle.sp_spec_solved.specs.Candidate.{candidate}
 use Rattle.sp_solved.specs.Found.{is_sought, kept_if, found}
 use Rattle.sp_law_found_log.specs.Shown.{IsSearched}
 use Rattle.sp_law_found_log.specs.Laws.{IsRootFormula, FoundIsSought}

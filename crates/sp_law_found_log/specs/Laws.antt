@@ -1,5 +1,5 @@
 -- What holds of logs that were found.
-use Rattle.std.specs.Prelude.{◌≡◌, ◌↔◌, ◌⊎◌, ℕ, List, Some, true, false}
+use Rattle.std.specs.Prelude.{◌≡◌, ◌↔◌, ◌⊎◌, ℕ, List, [], ◌∷◌, Some, true, false}
 use Rattle.sp_spec.specs.Signature.{Signature}
 use Rattle.sp_spec.specs.Theory.{Lemma, signature_of}
 use Rattle.sp_spec.specs.Written.{WrittenTheory, theory_of}
@@ -13,9 +13,11 @@ use Rattle.sp_spec.specs.Lists.{newest_first}
 use Rattle.sp_law_basic.specs.BasicTheory.{IsBasicFormula}
 use Rattle.sp_spec_system.specs.System.{System}
 use Rattle.sp_spec_system.specs.Rules.{rules_of}
+use Rattle.sp_spec_system.specs.Move.{Root, asked_formulas, Context}
 use Rattle.sp_learn.specs.Checking.{is_log}
-use Rattle.sp_solved.specs.Candidate.{candidate}
+use Rattle.sp_spec_solved.specs.Candidate.{candidate}
 use Rattle.sp_solved.specs.Found.{found}
+use Rattle.sp_law_cover.specs.Contexts.{EndsAsSought}
 use Rattle.sp_law_found_log.specs.Shown.{IsSearched, FoundBreaks, FoundSatisfies}
 
 -- Of entries, the oldest first, that pass the test of logs, and a lemma that names no learning: where the negation of the lemma's guarded form is found true over the log's trace, the
@@ -41,3 +43,10 @@ pub record FoundIsSought : Type 0 where
       → (found (signature_of (theory_of theory)) (rules_of (theory_of theory)).forms constants h s ≡ Some log)
       ↔ ((entries : List Entry) × (candidate constants s ≡ Some entries) × (log ≡ newest_first entries) × IsLog (theory_of theory) log
       × GuardedHolds (signature_of (theory_of theory)) (log_trace log) (assignment_of empty) h)
+
+-- So a context whose search ends with what is found, and whose root asks for such a formula alone, ends its search as it is to.
+pub record SearchesEndAsSought : Type 0 where
+  pub ends : (theory : WrittenTheory) → IsSearched theory → (h : Guarded) → IsRootFormula (signature_of (theory_of theory)) h
+      → (context : Context) (root : Root) → context.root ≡ Some root → asked_formulas root ≡ h ∷ []
+      → ((s : System) → context.found s ≡ found (signature_of (theory_of theory)) (rules_of (theory_of theory)).forms context.public_names h s)
+      → EndsAsSought (theory_of theory) context

@@ -6,7 +6,7 @@
 // Nothing here runs: the public function is a law, and its one clause says it.
 #![tactic(auto)]
 
-ghost use Rattle.sp_law_found_log.specs.Laws.{FoundLogsShow, FoundIsSought};
+ghost use Rattle.sp_law_found_log.specs.Laws.{FoundLogsShow, FoundIsSought, SearchesEndAsSought};
 
 /// A log that was found breaks the lemma, or satisfies it, and so does its execution.
 pub fn found_logs_show()
@@ -16,4 +16,9 @@ pub fn found_logs_show()
 /// The search ends at a system exactly where its candidate is a log of the theory over whose trace the formula is true.
 pub fn found_is_sought()
     ensures { FoundIsSought }
+{}
+
+/// A context whose search ends with what is found ends its search as it is to.
+pub fn searches_end_as_sought()
+    ensures { SearchesEndAsSought }
 {}

@@ -21,7 +21,8 @@ use Rattle.sp_spec_graph.specs.Know.{put_out, with_output, by_outputs}
 use Rattle.sp_law_system.specs.Rules.{IsNumberedForm}
 use Rattle.sp_law_system.proofs.LearntBy.{learnt_by_at_numbered, learnt_by_at_happens}
 use Rattle.sp_law_system.proofs.Solutions.{Under, TimeUnder, agrees_then}
-use Rattle.sp_law_system.proofs.With.{BothUnder, events_numbered, order_numbered, next_numbered, events_solve, order_solves, next_solves}
+use Rattle.sp_law_formula.proofs.MergedKept.{learnt_found}
+use Rattle.sp_law_system.proofs.With.{BothUnder, found_with, events_numbered, order_numbered, next_numbered, events_solve, order_solves, next_solves}
 use Rattle.sp_law_formula.proofs.Actions.{step_numbered, step_solved}
 use Rattle.sp_law_formula.proofs.Merged.{Later}
 use Rattle.sp_spec.specs.Signature.{IsValuation}
@@ -155,7 +156,7 @@ module _ (N : Names) (theory : Theory) (s : System) (n : IsNumbered N s) (i : �
         let is_way = way_at log (value.times i) value (way place t) m (by_chain q place (first ∷ others)) here (others, same_chain) in
         let parts = every_parts (HappensIn log value) s.events (new ∷ []) stepped_solved.events in
         let events = learnt_by_at i (way place t) s.events in
-        events_solve theory log value (with_step base s.next name form) stepped_solved (events ++ new ∷ [])
+        events_solve theory log value (with_step base s.next name form) stepped_solved (events ++ new ∷ []) (found_with value s.events events (new ∷ []) (learnt_found value i (way place t) s.events))
         (every_append (HappensIn log value) events (new ∷ []) (learnt_by_at_happens log value i (way place t) is_way s.events parts.0) parts.1)
 
     one_solved : (g : Fact Variable) → fact_at value.terms g ≡ out_of first

@@ -14,6 +14,7 @@ use Rattle.sp_law_system.proofs.Facts.{valued_all_same}
 use Rattle.sp_law_system.proofs.LearntBy.{IsWayAt, learnt_by_at_happens, learnt_by_at_numbered}
 use Rattle.sp_law_equal.proofs.Made.{each_weaken_all}
 use Rattle.sp_law_system.proofs.Solutions.{Under, TimeUnder, agrees_itself, agrees_then}
+use Rattle.sp_law_formula.proofs.MergedKept.{learnt_found}
 use Rattle.sp_law_system.proofs.With.{events_solve, events_numbered}
 use Rattle.sp_law_formula.proofs.Merged.{Later}
 use Rattle.sp_spec_graph.specs.Know.{with_way, with_learnings}
@@ -37,7 +38,7 @@ module _ (s : System) (i : ℕ) (way : Way) where
 
   pub way_solved : (theory : Theory) (log : Log) (v : Valuation) → IsWayAt log (v.times i) v way → Solves theory log v s
       → Solves theory log v (with_way s i way)
-  way_solved theory log v is h = events_solve theory log v s h (learnt_by_at i way s.events) (learnt_by_at_happens log v i way is s.events h.events)
+  way_solved theory log v is h = events_solve theory log v s h (learnt_by_at i way s.events) (learnt_found v i way s.events) (learnt_by_at_happens log v i way is s.events h.events)
 
 -- ---- the parts
 

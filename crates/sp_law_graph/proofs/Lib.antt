@@ -23,3 +23,4 @@ pub mod LearntEarly
 pub mod ReducibleEvent
 pub mod Conclusions
 pub mod Premises
+pub mod Once

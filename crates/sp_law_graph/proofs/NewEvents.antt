@@ -14,7 +14,7 @@ use Rattle.sp_spec_system.specs.Covering.{Agrees}
 use Rattle.sp_spec_system.specs.Order.{is_before}
 use Rattle.sp_law_equal.proofs.Made.{each_weaken}
 use Rattle.sp_law_system.proofs.Solutions.{Under, TimeUnder, agrees_itself}
-use Rattle.sp_law_system.proofs.With.{BothUnder, events_solve, order_solves, next_solves, events_numbered, order_numbered, next_numbered}
+use Rattle.sp_law_system.proofs.With.{BothUnder, events_solve, found_behind, order_solves, next_solves, events_numbered, order_numbered, next_numbered}
 use Rattle.sp_spec_graph.specs.Learning.{is_learning_of, learning_of, with_event, learnt_from, learnt_before}
 use Rattle.sp_law_graph.proofs.Learnt.{learnt_at_one}
 use Rattle.sp_law_graph.proofs.Waiting.{timed, timed_terms, timed_agrees, timed_new, timed_before, timed_solves}
@@ -35,7 +35,7 @@ module _ (s : System) (h : Happening) where
       → Solves theory log v (with_event s h)
   event_solved theory log v k here =
       let es = s.events ++ new ∷ [] in
-      let more_events = events_solve theory log v s k es (every_append (HappensIn log v) s.events (new ∷ []) k.events (here, tt)) in
+      let more_events = events_solve theory log v s k es (found_behind v s.events (new ∷ [])) (every_append (HappensIn log v) s.events (new ∷ []) k.events (here, tt)) in
       next_solves theory log v (with_events s es) more_events (suc s.next)
 
 -- values that agree with these on the numbers kept, by which the log solves the system

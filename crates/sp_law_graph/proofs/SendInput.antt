@@ -18,7 +18,7 @@ use Rattle.sp_spec_system.specs.Picked.{first_some, only_term}
 use Rattle.sp_law_equal.proofs.Made.{each_weaken}
 use Rattle.sp_law_system.proofs.Numbers.{happening_made}
 use Rattle.sp_law_system.proofs.Solutions.{Under, TimeUnder}
-use Rattle.sp_law_system.proofs.With.{events_solve, events_numbered}
+use Rattle.sp_law_system.proofs.With.{events_solve, found_behind, events_numbered}
 use Rattle.sp_law_formula.proofs.Matches.{some_picked}
 use Rattle.sp_spec_graph.specs.Premise.{is_linked, awaiting}
 use Rattle.sp_spec_graph.specs.SendInput.{Input, input_at, input_from, open_input, with_sending, send_input}
@@ -173,7 +173,7 @@ module _ {N : Names} (s t : System) (e : send_input s ≡ Some t) (n : IsNumbere
         let here_too = subst (λ (x : ℕ). AtPosition log x (send (valued v.terms m))) (sym (timed_new s.next q v)) here in
         let sends : HappensIn log u new = subst (λ (terms : Values). AtPosition log (u.times s.next) (send (valued terms m)))
         (sym (timed_terms s.next q v)) here_too in
-        events_solve theory log u (awaiting s i place zero) waits (s.events ++ new ∷ [])
+        events_solve theory log u (awaiting s i place zero) waits (s.events ++ new ∷ []) (found_behind u s.events (new ∷ []))
         (every_append (HappensIn log u) s.events (new ∷ []) waits.events (sends, tt))
 
   pub send_input_covers : (theory : Theory) → Every LeavesReserved theory.rules → Covers theory s (t ∷ [])

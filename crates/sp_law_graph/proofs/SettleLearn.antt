@@ -19,6 +19,7 @@ use Rattle.sp_spec_system.specs.Picked.{first_some}
 use Rattle.sp_spec_system.specs.MakingOne.{learnt_by_at}
 use Rattle.sp_law_equal.proofs.Made.{each_weaken_all}
 use Rattle.sp_law_system.proofs.Solutions.{Under, TimeUnder, agrees_itself, agrees_then}
+use Rattle.sp_law_formula.proofs.MergedKept.{learnt_found}
 use Rattle.sp_law_system.proofs.With.{events_solve, events_numbered}
 use Rattle.sp_law_system.proofs.LearntBy.{IsWayAt, learnt_by_at_happens, learnt_by_at_numbered}
 use Rattle.sp_law_formula.proofs.Matches.{some_picked}
@@ -206,7 +207,7 @@ module _ (theory : Theory) {N : Names} (s t : System) (e : settle_learn (signatu
 
     settle_solved : SolvedLater theory log s.next v t
     settle_solved =
-        let way_solved = events_solve theory log v s h (learnt_by_at i a.settled.way s.events)
+        let way_solved = events_solve theory log v s h (learnt_by_at i a.settled.way s.events) (learnt_found v i a.settled.way s.events)
         (learnt_by_at_happens log v i a.settled.way way_there s.events h.events) in
         let below = position_below log (v.times i) (learn (valued v.terms a.message) here.0) here.1 in
         subst (SolvedLater theory log s.next v) (sym result)

@@ -13,14 +13,14 @@ use Rattle.sp_spec_system.specs.System as system
 use Rattle.sp_spec_system.specs.Numbered.{names_in, InWay, InHappening, IsNumbered}
 use Rattle.sp_law_equal.proofs.Made.{each_valued, facts_valued}
 use Rattle.sp_law_printed_log.specs.Shown.{shown_names, no_variable, HasNames, HowHasNames, EntryHasNames, LogHasNames}
-use Rattle.sp_solved.specs.Listing.{in_order}
-use Rattle.sp_solved.specs.Naming.{in_term, in_chain, in_way, in_step, in_events, variables_of, values_of}
-use Rattle.sp_solved.specs.Candidate.{is_ready, how_at, entry_at, event_sources, entries_of, logged, candidate}
+use Rattle.sp_spec_solved.specs.Listing.{in_order}
+use Rattle.sp_spec_solved.specs.Naming.{in_term, in_chain, in_way, in_step, in_events, variables_of, values_of}
+use Rattle.sp_spec_solved.specs.Candidate.{is_ready, how_at, entry_at, event_sources, entries_of, logged, candidate}
 use Rattle.sp_law_truth.proofs.Only.{is_among_member}
 use Rattle.sp_spec_text.specs.StepLines.{IsQuotable}
 use Rattle.sp_law_printed_log.specs.Laws.{CandidatesHaveNames}
-use Rattle.sp_solved.proofs.Listed.{every_listed}
-use Rattle.sp_solved.proofs.Names.{all_seen}
+use Rattle.sp_law_candidate.proofs.Listed.{every_listed}
+use Rattle.sp_law_candidate.proofs.Names.{all_seen}
 use Rattle.sp_law_printed_log.proofs.GivenVariables.{value_shown}
 
 -- ---- names of facts

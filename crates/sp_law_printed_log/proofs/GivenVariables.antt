@@ -5,8 +5,8 @@ use Rattle.sp_spec.proofs.Lists.{every_member, every_append}
 use Rattle.sp_spec.specs.Term.{Variable, Ground, constant}
 use Rattle.sp_law_equal.specs.Matching.{Bound, any_of, value_in}
 use Rattle.sp_law_printed_log.specs.Shown.{shown_names, HasNames}
-use Rattle.sp_solved.specs.Naming.{fresh_among, others_among, fresh_given, public_name, public_given, given}
-use Rattle.sp_solved.proofs.Names.{found_is_there, value_given}
+use Rattle.sp_spec_solved.specs.Naming.{fresh_among, others_among, fresh_given, public_name, public_given, given}
+use Rattle.sp_law_candidate.proofs.Names.{found_is_there, value_given}
 use Rattle.sp_law_printed_log.proofs.PublicNames.{public_name_quotable}
 
 -- ---- the names that are given

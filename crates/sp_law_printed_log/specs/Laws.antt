@@ -18,7 +18,7 @@ use Rattle.sp_spec_system.specs.Numbered.{names_in, IsNumbered}
 use Rattle.sp_spec_text.specs.Names.{IsNameWord}
 use Rattle.sp_spec_text.specs.StepLines.{IsQuotable, HaveNames, IsWritableStep, AreSteps}
 use Rattle.sp_spec_text.specs.Blanks.{lines}
-use Rattle.sp_solved.specs.Candidate.{candidate}
+use Rattle.sp_spec_solved.specs.Candidate.{candidate}
 use Rattle.sp_law_printed_log.specs.Block.{steps_text}
 use Rattle.sp_law_printed_log.specs.Shown.{shown_names, numbered_names, StepHasNames, LogHasNames, IsNamedRule, IsShownTrace}
 

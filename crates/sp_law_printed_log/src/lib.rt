@@ -1,5 +1,5 @@
 // What is printed of an execution that was found is read back as that execution. Below stand what is printed and which lines are those of
-// steps (sp_spec_text, sp_show), the logs that systems suggest (sp_solved) and their executions (sp_law_log_execution); above stands what is written of
+// steps (sp_spec_text, sp_show), the logs that systems suggest (sp_law_candidate) and their executions (sp_law_log_execution); above stands what is written of
 // a text (sp_analysis).
 // Carried here: the promise that the lines of a found block are the step lines of its execution, and that no other line of a block begins as a verdict's.
 // Nothing here runs: each public function is a law, and its one clause says it.

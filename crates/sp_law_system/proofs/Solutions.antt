@@ -1,6 +1,6 @@
 -- What keeps a solution: values that agree on the numbers of the system, and replacing that changes no value.
-use Rattle.std.proofs.Common.{◌≡◌, ◌≤◌, ◌<◌, ℕ, List, [], ◌∷◌, map, length, refl, sym, ◌∙◌, subst, lt_of_lt_of_le, Bool, true, false, if◌then◌else◌, ◌++◌}
-use Rattle.sp_spec.specs.Lists.{Every, AtPlace, AtPosition}
+use Rattle.std.proofs.Common.{◌≡◌, ◌≤◌, ◌<◌, ℕ, List, [], ◌∷◌, map, length, refl, sym, ◌∙◌, subst, lt_of_lt_of_le, Bool, true, false, if◌then◌else◌, ◌++◌, suc, ap, Option, Some, None, IfSome, option_map}
+use Rattle.sp_spec.specs.Lists.{Member, Every, AtPlace, AtPosition}
 use Rattle.sp_spec.specs.Term.{Names, Variable, Term, valued, MadeOf}
 use Rattle.sp_spec.specs.Signature.{IsValuation}
 use Rattle.sp_spec.specs.Equal.{IsNormal}
@@ -11,11 +11,11 @@ use Rattle.sp_spec.specs.Substitution.{Binding, bound_to, Fixes}
 use Rattle.sp_spec.specs.Unifier.{Pair}
 use Rattle.sp_spec.specs.Change.{free_change, changed}
 use Rattle.sp_spec_system.specs.System.{Event, Link, System}
-use Rattle.sp_spec_system.specs.Solutions.{Valuation, assignment, LinkHolds, HappensAt, HappensIn, FormulaHolds, AreUnequal, IsBefore, Solves}
+use Rattle.sp_spec_system.specs.Solutions.{Valuation, assignment, LinkHolds, HappensAt, HappensIn, FormulaHolds, AreUnequal, IsBefore, IsLast, Solves}
 use Rattle.sp_spec_system.specs.Numbered.{InFormula, InEvent, IsNumbered}
 use Rattle.sp_spec_system.specs.Covering.{Agrees}
 use Rattle.sp_spec_system.specs.Equating.{happening_changed, event_changed, pair_changed, link_changed, has_link, joined_links, order_changed, system_changed}
-use Rattle.sp_spec.proofs.Lists.{every_map, every_both, every_append}
+use Rattle.sp_spec.proofs.Lists.{every_map, every_both, every_append, every_member, member_map}
 use Rattle.sp_law_system.proofs.Facts.{fixed_term}
 use Rattle.sp_law_system.proofs.Happenings.{agree_term, agree_happening, change_happening, happening_in}
 use Rattle.sp_law_equal.proofs.Made.{each_valued}
@@ -74,6 +74,10 @@ module _ (N : Names) (limit : ℕ) (v w : Valuation) (a : Agrees limit v w) (the
     subst (λ (q : ℕ). q < length log) (sym (a.times p.1 b.1)) h.1,
   )
 
+  agree_last : (o : Option ℕ) → IfSome o (TimeUnder limit) → IsLast log v o → IsLast log w o
+  agree_last None b h = tt
+  agree_last (Some i) b h = ap suc (a.times i b) ∙ h
+
 -- A solution stays one under values that agree below the next number, if they respect sorts and are normal.
 pub agree_solves : {N : Names} → (theory : Theory) (log : Log) (s : System) (v w : Valuation) → IsNumbered N s → Agrees s.next v w → ((x : Variable) → IsNormal (signature_of theory).equations (w.terms x)) → IsValuation (signature_of theory) w.terms
     → Solves theory log v s → Solves theory log w s
@@ -86,6 +90,8 @@ agree_solves {N} theory log s v w n a normal sorts h = record {
   unequal = every_both _ _ _ (agree_unequal N s.next v w a theory log) s.unequal n.unequal h.unequal;
   links = every_both _ _ _ (agree_link N s.next v w a theory log) s.links n.links h.links;
   order = every_both _ _ _ (agree_order N s.next v w a theory log) s.order n.order h.order;
+  last = agree_last N s.next v w a theory log s.last n.last h.last;
+  closed = λ c p l. let b = h.closed c p l in (b.0, b.1, a.times b.0.time (every_member _ s.events b.0 b.1 n.events).0 ∙ b.2);
 }
 
 -- what holds of some links and of others holds where equal ones are one
@@ -135,6 +141,14 @@ module _ (N : Names) (theory : Theory) (log : Log) (v : Valuation) (bs : List Bi
     subst (λ (q : ℕ). AtPlace h.2 l.premise (conclusion q l.conclusion)) (sym (same_times l.from)) h.4,
   )
 
+  change_last : (o : Option ℕ) → IsLast log v o → IsLast log v (option_map times o)
+  change_last None h = tt
+  change_last (Some i) h = ap suc (same_times i) ∙ h
+
+  change_closed : (es : List Event) (p : ℕ) → ((e : Event) × Member e es × (v.times e.time ≡ p))
+      → (e : Event) × Member e (map (event_changed (bound_to bs) times) es) × (v.times e.time ≡ p)
+  change_closed es p a = (event_changed (bound_to bs) times a.0, member_map (event_changed (bound_to bs) times) a.0 es a.1, same_times a.0.time ∙ a.2)
+
   change_formulas : (A : Variable → Type 0) (B : ℕ → Type 0) (fs : List Guarded) → Every (InFormula N A B) fs → Every (FormulaHolds theory log v) fs
       → Every (FormulaHolds theory log v) (map (changed (free_change (bound_to bs) times)) fs)
   change_formulas A B [] n h = tt
@@ -151,6 +165,8 @@ module _ (N : Names) (theory : Theory) (log : Log) (v : Valuation) (bs : List Bi
     unequal = every_map _ _ (pair_changed (bound_to bs)) change_unequal s.unequal h.unequal;
     links = every_link (LinkHolds log v) [] (map (link_changed times) s.links) tt (every_map _ _ (link_changed times) change_link s.links h.links);
     order = every_map _ _ (order_changed times) change_order s.order h.order;
+    last = change_last s.last h.last;
+    closed = λ c p l. change_closed s.events p (h.closed c p l);
   }
 
 -- and its numbers stay below the next one
@@ -176,4 +192,9 @@ module _ (N : Names) (n : ℕ) (bs : List Binding) (within : (x : Variable) → 
             (subst (λ (m : ℕ). Every (λ (l : Link). (l.from < m) × (l.to < m)) s.links) e k.links)));
         order = subst (λ (m : ℕ). Every (λ (p : ℕ × ℕ). (p.0 < m) × (p.1 < m)) (map (order_changed times) s.order)) (sym e)
             (every_map _ _ (order_changed times) (λ p b. (times_within p.0 b.0, times_within p.1 b.1)) s.order (subst (λ (m : ℕ). Every (λ (p : ℕ × ℕ). (p.0 < m) × (p.1 < m)) s.order) e k.order));
+        last = subst (λ (m : ℕ). IfSome (option_map times s.last) (TimeUnder m)) (sym e) (at s.last (subst (λ (m : ℕ). IfSome s.last (TimeUnder m)) e k.last));
       }
+    where
+      at : (o : Option ℕ) → IfSome o (TimeUnder n) → IfSome (option_map times o) (TimeUnder n)
+      at None h = tt
+      at (Some i) h = times_within i h

@@ -21,7 +21,8 @@ use Rattle.sp_spec_system.specs.Numbered.{InFormula, InEach, IsNumbered}
 use Rattle.sp_spec_proof.specs.Root.{root}
 use Rattle.sp_law_basic.proofs.Named.{NamedAtom}
 use Rattle.sp_law_tree.proofs.Flat.{FlatAtom, closed_atom_in, each_in, Bounded, flat_settled, each_bounded}
-use Rattle.sp_law_tree.proofs.Starts.{start, start_sorts, start_normal}
+use Rattle.sp_law_cover.specs.Admitted.{start}
+use Rattle.sp_law_tree.proofs.Starts.{start_sorts, start_normal}
 
 pub record IsRight (signature : Signature) (h : Guarded) : Type 0 where
   pub each : Throughout (FlatAtom signature) zero h
@@ -90,6 +91,7 @@ right_numbered signature N h r k =
       unequal = tt;
       links = tt;
       order = tt;
+      last = tt;
     }
 
 start_bounded : (signature : Signature) (limit : ℕ) → Bounded signature limit zero (assignment start)
@@ -112,4 +114,6 @@ right_solved theory good log h r true_there =
       unequal = tt;
       links = tt;
       order = tt;
+      last = tt;
+      closed = λ e. absurd cc;
     }

@@ -8,7 +8,8 @@ use Rattle.sp_spec_system.specs.System.{System}
 use Rattle.sp_spec_system.specs.Move.{Context, Case, end_log, systems_in}
 use Rattle.sp_spec_proof.specs.Cases.{cases}
 use Rattle.sp_spec_proof.specs.Tree.{Tree, node, Branches, no_branch, branch, is_solved, first_log, found_log, found_below}
-use Rattle.sp_law_system.specs.Proofs.{IsContextOf, IsWellMade, IsKept}
+use Rattle.sp_law_system.specs.Proofs.{IsWellMade, IsKept}
+use Rattle.sp_law_cover.specs.Contexts.{IsContextOf}
 use Rattle.sp_law_cover.specs.Laws.{MovesCover}
 use Rattle.sp_law_cover.proofs.Covering.{moves_are_covered}
 use Rattle.sp_law_cover.proofs.MovesCover.{every_system}

@@ -1,10 +1,12 @@
 -- What an accepted tree shows, and what growth owes.
-use Rattle.std.specs.Prelude.{◌≡◌, Some, None, true, false, ℕ, ◌≤◌}
+use Rattle.std.specs.Prelude.{◌≡◌, [], ◌∷◌, Some, None, true, false, ℕ, ◌≤◌}
 use Rattle.sp_spec.specs.Theory.{Theory, Lemma, signature_of}
 use Rattle.sp_spec_system.specs.System.{System}
 use Rattle.sp_spec_system.specs.Numbered.{names_in}
-use Rattle.sp_law_system.specs.Proofs.{HasNoSolution, IsContextOf, IsWellMade}
-use Rattle.sp_spec_system.specs.Move.{Context, end_log}
+use Rattle.sp_law_system.specs.Proofs.{IsWellMade}
+use Rattle.sp_law_cover.specs.Admitted.{HasNoAdmitted}
+use Rattle.sp_law_cover.specs.Contexts.{IsContextOf}
+use Rattle.sp_spec_system.specs.Move.{Root, root_formulas, Context, end_log}
 use Rattle.sp_spec_proof.specs.Tree.{Tree, IsAccepted, IsFinished, found_log, steps}
 use Rattle.sp_spec.specs.Log.{Log}
 use Rattle.sp_law_system.specs.Rules.{SuitsProofs, RulesAreNumbered}
@@ -23,10 +25,10 @@ use Rattle.sp_spec_proof.specs.Root.{root}
 use Rattle.sp_law_equal.specs.RightTheory.{IsRightTheory}
 use Rattle.sp_law_basic.specs.BasicTheory.{HasNames, IsBasicRule, IsBasicFormula}
 
--- the tree theorem: where a tree is accepted, no leaf is left open and with none the search ends, the system at its root has no solution
+-- the tree theorem: where a tree is accepted, no leaf is left open and with none the search ends, no admitted log solves the system at its root
 pub record FinishedTreesShow (theory : Theory) : Type 0 where
   pub no_solution : (context : Context) → IsContextOf theory context → (s : System) (tree : Tree)
-      → IsWellMade context s → IsAccepted context s tree → IsFinished tree → HasNoSolution theory s
+      → IsWellMade context s → IsAccepted context s tree → IsFinished tree → HasNoAdmitted theory context s
 
 -- A finished tree has a root without solutions. An accepted tree has a log exactly where the search ends at some leaf, and then it is the
 -- log with which it ends at some system.
@@ -41,13 +43,19 @@ pub record EndsAreWellMade : Type 0 where
   pub ends : (theory : Theory) → SuitsProofs theory → (context : Context) → IsContextOf theory context → (s : System) → IsWellMade context s
       → (tree : Tree) (log : Log) → found_log context s tree ≡ Some log → (t : System) × IsWellMade context t × (end_log context t ≡ Some log)
 
+-- A proof in the context begins from this formula alone: there is no restriction, and nothing is taken.
+pub record BeginsWith (context : Context) (f : Guarded) : Type 0 where
+  pub root : Root
+  pub is_root : context.root ≡ Some root
+  pub alone : root_formulas root ≡ f ∷ []
+
 -- What a finished tree shows of learning logs, in a context that has the lemma's public names. From the negation of the lemma's guarded form: no log that meets the restrictions breaks the
 -- lemma. From the guarded form: none satisfies it.
 pub record TreesShowLogs : Type 0 where
   pub all_traces : (theory : Theory) → SuitsProofs theory → (lemma : Lemma) → IsBasicFormula (signature_of theory) lemma.formula → (g : Guarded) → checked_form lemma.formula ≡ Some g
-      → (context : Context) → IsContextOf theory context → HasNames (names_in context.public_names) lemma.formula → (tree : Tree) → IsAccepted context (root (negate g)) tree → IsFinished tree → HoldsInAllLogs theory lemma
+      → (context : Context) → IsContextOf theory context → BeginsWith context (negate g) → HasNames (names_in context.public_names) lemma.formula → (tree : Tree) → IsAccepted context (root (negate g)) tree → IsFinished tree → HoldsInAllLogs theory lemma
   pub exists_trace : (theory : Theory) → SuitsProofs theory → (lemma : Lemma) → IsBasicFormula (signature_of theory) lemma.formula → (g : Guarded) → checked_form lemma.formula ≡ Some g
-      → (context : Context) → IsContextOf theory context → HasNames (names_in context.public_names) lemma.formula → (tree : Tree) → IsAccepted context (root g) tree → IsFinished tree → HoldsInNoLog theory lemma
+      → (context : Context) → IsContextOf theory context → BeginsWith context g → HasNames (names_in context.public_names) lemma.formula → (tree : Tree) → IsAccepted context (root g) tree → IsFinished tree → HoldsInNoLog theory lemma
 
 -- what is right of a theory is all that covering asks of it
 pub record RightTheoriesSuit : Type 0 where
@@ -59,10 +67,10 @@ pub record RightTheoriesSuit : Type 0 where
 pub record LemmasAreShown : Type 0 where
   pub all_traces : (theory : WrittenTheory) → HasNormalForms (signature_of (theory_of theory)) → KeepPublic (signature_of (theory_of theory)).symbols (signature_of (theory_of theory)).equations → Every (IsBasicRule (signature_of (theory_of theory))) theory.rules → Every (λ (r : WrittenRule). rule_is_wrong r ≡ false) theory.rules
       → (lemma : Lemma) → IsBasicFormula (signature_of (theory_of theory)) lemma.formula → names_learning lemma.formula ≡ false → (g : Guarded) → checked_form lemma.formula ≡ Some g
-      → (context : Context) → IsContextOf (theory_of theory) context → HasNames (names_in context.public_names) lemma.formula → (tree : Tree) → IsAccepted context (root (negate g)) tree → IsFinished tree → HoldsInAll (theory_of theory) lemma
+      → (context : Context) → IsContextOf (theory_of theory) context → BeginsWith context (negate g) → HasNames (names_in context.public_names) lemma.formula → (tree : Tree) → IsAccepted context (root (negate g)) tree → IsFinished tree → HoldsInAll (theory_of theory) lemma
   pub exists_trace : (theory : WrittenTheory) → HasNormalForms (signature_of (theory_of theory)) → KeepPublic (signature_of (theory_of theory)).symbols (signature_of (theory_of theory)).equations → Every (IsBasicRule (signature_of (theory_of theory))) theory.rules → Every (λ (r : WrittenRule). rule_is_wrong r ≡ false) theory.rules
       → (lemma : Lemma) → IsBasicFormula (signature_of (theory_of theory)) lemma.formula → names_learning lemma.formula ≡ false → (g : Guarded) → checked_form lemma.formula ≡ Some g
-      → (context : Context) → IsContextOf (theory_of theory) context → HasNames (names_in context.public_names) lemma.formula → (tree : Tree) → IsAccepted context (root g) tree → IsFinished tree → HoldsInNone (theory_of theory) lemma
+      → (context : Context) → IsContextOf (theory_of theory) context → BeginsWith context g → HasNames (names_in context.public_names) lemma.formula → (tree : Tree) → IsAccepted context (root g) tree → IsFinished tree → HoldsInNone (theory_of theory) lemma
 
 -- a tree that is grown is accepted, and has at most as many steps as the budget says
 pub record GrowthIsAccepted : Type 0 where

@@ -43,7 +43,7 @@ is_there (g ∷ fs) (suc k) = further g fs k (disjunction_at k fs) (option_and_t
 
 spent_there : (s : System) (k : ℕ) (r : Found Guardeds) (fs : List Guarded) → Stands s.formulas k r → spending s r fs ≡ spending_at s k fs
 spent_there s k r fs h =
-    let made : List Guarded → List Guarded → System = λ gs ds. record { events = s.events; formulas = gs; spent = s.spent ++ ds; unequal = s.unequal; links = s.links; order = s.order; next = s.next } in
+    let made : List Guarded → List Guarded → System = λ gs ds. record s { formulas = gs; spent = s.spent ++ ds } in
     ap₂ made (ap₂ (λ (xs ys : List Guarded). xs ++ (fs ++ ys)) h.front h.back) h.formula
 
 each_part : (s : System) (k : ℕ) (r : Found Guardeds) → Stands s.formulas k r → (n : ℕ) (fs : Guardeds) → by_part s r n fs ≡ by_parts s k n (parts_of fs)

@@ -1,6 +1,7 @@
-// The cases of an action: at its event, or at a new step of some rule, or at a new event at which the adversary does it.
+// The cases of an action: at its event, or at a new step of some rule, or at a new event at which the adversary does it; in a closed system at some event
+// that it has.
 
-ghost use Rattle.std.specs.Prelude.{◌≡◌, Some, IfOk, map, option_map, slice_get};
+ghost use Rattle.std.specs.Prelude.{◌≡◌, ◌++◌, Some, IfOk, map, option_map, slice_get};
 ghost use Rattle.sp_fact.specs.View.{action_of};
 ghost use Rattle.sp_book.specs.BookView.{book_of};
 ghost use Rattle.sp_formula.specs.FormulaView.{formula_of};
@@ -10,6 +11,7 @@ ghost use Rattle.sp_spec_formula.specs.Action as spec;
 ghost use Rattle.sp_moves_formula.specs.View.{case_of};
 
 use crate::action::sought;
+use crate::at_each::at_each;
 use crate::at_event::at_event;
 use crate::by_adversary::by_adversary;
 use crate::by_rules::by_each;
@@ -20,6 +22,23 @@ use sp_formula::formula::Formula;
 use sp_system::at_time::event_at;
 use sp_system::system::System;
 use std::alloc::{AllocError, Global};
+
+// At a new event.
+fn anew(
+    alloc: Global,
+    rules: &RuleBook,
+    system: &System,
+    time: u128,
+    action: &Action,
+) -> Result<Vec<Case>, AllocError>
+    ensures { IfOk result (λ cs. map case_of cs.items ≡ spec.by_each (book_of rules.now) (system_of system.now) time (action_of action.now)
+        ++ spec.by_adversary (system_of system.now) time (action_of action.now).symbol (action_of action.now).args) }
+{
+    let mut made = by_each(alloc, rules, system, time, action)?;
+    let mut done = by_adversary(alloc, system, time, action)?;
+    made.append(&mut done)?;
+    Ok(made)
+}
 
 fn action_cases(
     alloc: Global,
@@ -34,10 +53,11 @@ fn action_cases(
     match event_at(time, &system.events) {
         Some(event) => at_event(alloc, system, action, event.actions()),
         None => {
-            let mut made = by_each(alloc, rules, system, time, action)?;
-            let mut done = by_adversary(alloc, system, time, action)?;
-            made.append(&mut done)?;
-            Ok(made)
+            if system.closed {
+                at_each(alloc, system, time)
+            } else {
+                anew(alloc, rules, system, time, action)
+            }
         }
     }
 }

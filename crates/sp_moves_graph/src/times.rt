@@ -26,6 +26,7 @@ fn atom_has(time: u128, atom: &Atom) -> bool
         Atom::Same(_, _) => false,
         Atom::SameTime(left, right) => is_time(time, *left) || is_time(time, *right),
         Atom::Before(left, right) => is_time(time, *left) || is_time(time, *right),
+        Atom::Last(moment) => is_time(time, *moment),
     }
 }
 

@@ -6,3 +6,4 @@ pub mod SlotValues
 pub mod Matchings
 pub mod Parts
 pub mod Spent
+pub mod Endings

@@ -40,7 +40,7 @@ is_there pick (f ∷ fs) = there f fs (pick f) (first_formula pick fs) (position
 
 spent_there : {A : Type 0} (s : System) (r : Found A) (p : ℕ × A) (fs : List Guarded) → Stands s.formulas r p → spending s r fs ≡ spending_at s p.0 fs
 spent_there s r p fs h =
-    let made : List Guarded → List Guarded → System = λ gs ds. record { events = s.events; formulas = gs; spent = s.spent ++ ds; unequal = s.unequal; links = s.links; order = s.order; next = s.next } in
+    let made : List Guarded → List Guarded → System = λ gs ds. record s { formulas = gs; spent = s.spent ++ ds } in
     ap₂ made (ap₂ (λ (xs ys : List Guarded). xs ++ (fs ++ ys)) h.front h.back) h.formula
 
 -- a row that spends the formula and goes on with what it picked of it

@@ -21,7 +21,7 @@ unfolding cut
 spent_changed terms times s k =
     let g : Guarded → Guarded = changed (free_change terms times) in
     let t : System = system_changed terms times s in
-    let made : List Guarded → List Guarded → System = λ fs ds. record { events = t.events; formulas = fs; spent = ds; unequal = t.unequal; links = t.links; order = t.order; next = t.next } in
+    let made : List Guarded → List Guarded → System = λ fs ds. record t { formulas = fs; spent = ds } in
     ap₂ made (cut_map g k s.formulas)
     (map-append g s.spent (take 1 (drop k s.formulas))
     ∙ ap (λ (xs : List Guarded). map g s.spent ++ xs) (sym (take-map g 1 (drop k s.formulas)) ∙ ap (take 1) (sym (drop-map g k s.formulas))))

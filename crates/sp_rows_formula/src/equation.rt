@@ -1,6 +1,6 @@
 // Terms and times that are said to be the same.
 
-ghost use Rattle.std.specs.Prelude.{◌≡◌, [], ◌∷◌, IfOk, map, option_map};
+ghost use Rattle.std.specs.Prelude.{◌≡◌, [], ◌∷◌, IfOk, Some, map, option_map};
 ghost use Rattle.sp_formula.specs.FormulaView.{formula_of};
 ghost use Rattle.sp_unify.specs.View.{pair_view};
 ghost use Rattle.sp_system.specs.SystemView.{system_of};
@@ -83,19 +83,28 @@ fn terms_equated(alloc: Global, system: &mut System, pair: (Term, Term)) -> Resu
     Ok(true)
 }
 
+// Makes the times one, if they can be.
+pub(crate) fn times_equated(
+    alloc: Global,
+    system: &mut System,
+    first: u128,
+    second: u128,
+) -> Result<bool, AllocError>
+    ensures { IfOk result (λ b. Reduced b (system_of system.old) (system_of system.new) (rows.equated (system_of system.old) (rows.equal_times first second))) }
+{
+    if first == second {
+        return Ok(true);
+    }
+    made_one(alloc, system, first, second)
+}
+
 // Makes what is said to be the same the same, if it can be.
 fn equated(alloc: Global, system: &mut System, equation: Equation) -> Result<bool, AllocError>
     ensures { IfOk result (λ b. Reduced b (system_of system.old) (system_of system.new) (rows.equated (system_of system.old) (view.equation equation))) }
 {
     match equation {
         Equation::Terms(pair) => terms_equated(alloc, system, pair),
-        Equation::Times(first, second) => {
-            if first == second {
-                Ok(true)
-            } else {
-                made_one(alloc, system, first, second)
-            }
-        }
+        Equation::Times(first, second) => times_equated(alloc, system, first, second),
     }
 }
 
@@ -117,6 +126,21 @@ pub fn equate(alloc: Global, system: &mut System) -> Result<bool, AllocError>
     Ok(true)
 }
 
+// Whether the times can't be one.
+pub(crate) fn times_fail(
+    alloc: Global,
+    system: &System,
+    first: u128,
+    second: u128,
+) -> Result<bool, AllocError>
+    ensures { IfOk result (λ b. b ≡ rows.equation_fails (system_of system.now) (Some (rows.equal_times first second))) }
+{
+    if first == second {
+        return Ok(false);
+    }
+    stay_apart(alloc, system, first, second)
+}
+
 fn equation_fails(alloc: Global, system: &System, formula: &Formula) -> Result<bool, AllocError>
     ensures { IfOk result (λ b. b ≡ rows.equation_fails (system_of system.now) (rows.equation_of (formula_of formula.now))) }
 {
@@ -125,13 +149,7 @@ fn equation_fails(alloc: Global, system: &System, formula: &Formula) -> Result<b
             let subst = unifier(alloc, pair)?;
             Ok(subst.is_none())
         }
-        Some(Equation::Times(first, second)) => {
-            if first == second {
-                Ok(false)
-            } else {
-                stay_apart(alloc, system, first, second)
-            }
-        }
+        Some(Equation::Times(first, second)) => times_fail(alloc, system, first, second),
         None => Ok(false),
     }
 }

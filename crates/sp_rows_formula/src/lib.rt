@@ -13,6 +13,7 @@ pub mod existential;
 pub mod inequality;
 pub mod inside;
 pub mod instances;
+pub mod last;
 pub mod matching;
 pub mod opening;
 pub mod order;

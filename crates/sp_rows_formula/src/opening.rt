@@ -185,6 +185,7 @@ impl Values {
                 self.in_moment(inside, *first),
                 self.in_moment(inside, *second),
             )),
+            Atom::Last(time) => Ok(Atom::Last(self.in_moment(inside, *time))),
         }
     }
 

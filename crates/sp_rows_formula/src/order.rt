@@ -30,7 +30,7 @@ fn are_apart(
 }
 
 // Whether the first time is the second one, or after it.
-fn is_not_before(
+pub(crate) fn is_not_before(
     alloc: Global,
     order: &Vec<(u128, u128)>,
     first: u128,

@@ -2,7 +2,7 @@
 use Rattle.std.proofs.Common.{◌≡◌, ℕ, ◌+◌, ◌<◌, Bool, true, false, List, [], ◌∷◌, length, map, drop, get_or, Option, Some, None, refl, sym, ap, ◌∙◌, add-one, slice_get, suc, option_and_then, true≢false}
 use Rattle.std.specs.Prelude.{is_some, option_map, if◌then◌else◌, ◌||◌, flat_map}
 use Rattle.std.specs.Option.{option_or}
-use Rattle.std.proofs.lemmas.Bool.{or_right}
+use Rattle.std.proofs.lemmas.Bool.{or_left, or_right}
 use Rattle.std.proofs.lemmas.List.Folds.{find-append}
 use Rattle.std.proofs.lemmas.Option.{slice_get-map, slice_get-get_or}
 use Rattle.sp_spec.specs.Guarded.{Guarded}
@@ -57,7 +57,8 @@ kinds =
 -- a place at which a row fails is a contradiction
 fails_contradicts : (rules : Rules) (s : System) → fails_somewhere s ≡ true → is_contradictory rules s ≡ true
 fails_contradicts rules s e =
-    or_right (has_falsity s.formulas) _ (or_right (has_equal_pair s.unequal) _ (or_right (has_refuted s.order s.formulas) _ (or_right (is_cyclic s.order) _ (or_right (has_source_twice s) _ (or_right (has_early s) _ (or_right (has_reducible rules.signature.equations s.events) _ e))))))
+    or_right (has_falsity s.formulas) _ (or_right (has_equal_pair s.unequal) _ (or_right (has_refuted s.order s.formulas) _ (or_right (is_cyclic s.order) _
+    (or_right (has_source_twice s) _ (or_right (has_early s) _ (or_right (has_reducible rules.signature.equations s.events) _ (or_left (fails_somewhere s) _ e)))))))
 
 abbrev first_if : Bool → Move → Option Move
 first_if holds move = if holds then Some move else None

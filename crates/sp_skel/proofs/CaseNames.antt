@@ -59,6 +59,13 @@ case_digits ds = refl
 at_word : (ds : List ℕ) → are_digits ds ≡ true → IsWord (codes "at_" ++ ds)
 at_word ds h = (refl, at_digits ds ∙ digits_skipped ds h)
 
+event_digits : (ds : List ℕ) → skip class.Word (codes "vent_" ++ ds) ≡ skip class.Word ds
+unfolding skip
+event_digits ds = refl
+
+event_word : (ds : List ℕ) → are_digits ds ≡ true → IsWord (codes "event_" ++ ds)
+event_word ds h = (refl, event_digits ds ∙ digits_skipped ds h)
+
 part_digits : (ds : List ℕ) → skip class.Word (codes "ase_" ++ ds) ≡ skip class.Word ds
 unfolding skip
 part_digits ds = refl
@@ -108,6 +115,9 @@ named_behind w rest =
 
 pub at_named : (n : ℕ) → IsName (codes "at_" ++ decimal n) × IsWord (codes "at_" ++ decimal n)
 at_named n = (named_behind (codes "at") (decimal n), at_word (decimal n) (all_digits n))
+
+pub event_named : (n : ℕ) → IsName (codes "event_" ++ decimal n) × IsWord (codes "event_" ++ decimal n)
+event_named n = (named_behind (codes "event") (decimal n), event_word (decimal n) (all_digits n))
 
 pub part_named : (n : ℕ) → IsName (codes "case_" ++ decimal n) × IsWord (codes "case_" ++ decimal n)
 part_named n = (named_behind (codes "case") (decimal n), part_word (decimal n) (all_digits n))

@@ -8,11 +8,11 @@ use Rattle.sp_spec.specs.Log.{Log}
 use Rattle.sp_spec.specs.Destruction.{Destruction, destructions}
 use Rattle.sp_spec_system.specs.System.{System, Event, happening_actions}
 use Rattle.sp_spec_system.specs.Formulas.{Found}
-use Rattle.sp_spec_system.specs.MakingOne.{event_at}
+use Rattle.sp_spec_system.specs.MakingOne.{event_at, made_one}
 use Rattle.sp_spec_proof.specs.Rows.{has_place, is_contradictory}
 use Rattle.sp_spec_system.specs.Move.{Move, simplify, contradiction, unproved, solved, or, action, premise, know, chain, Context, Case, end_log}
 use Rattle.sp_spec_system.specs.Cases.{where_same, case_if, named}
-use Rattle.sp_spec_formula.specs.Action.{at_event, by_forms, by_each, by_adversary, action_cases, solving_action}
+use Rattle.sp_spec_formula.specs.Action.{at_event, by_forms, by_each, by_adversary, at_each, action_cases, solving_action}
 use Rattle.sp_spec_formula.specs.Or.{by_part, disjunction_at, or_cases}
 use Rattle.sp_spec_graph.specs.Premise.{source_forms, by_each_source, open_premise, premise_cases}
 use Rattle.sp_spec_graph.specs.Know.{wanted_at, made_case, own_case, by_each_output}
@@ -26,7 +26,7 @@ use Rattle.sp_moves_formula.proofs.ByAction.{sought_cases, solves}
 use Rattle.sp_spec_text.specs.Names.{IsName, IsWord}
 use Rattle.sp_skel.specs.Places.{HasPlace, HavePlaces, AllHavePlaces}
 use Rattle.sp_skel.specs.Spelling.{IsReadable, AreReadable, MayHaveCases, AreNamed}
-use Rattle.sp_skel.proofs.CaseNames.{at_named, part_named}
+use Rattle.sp_skel.proofs.CaseNames.{at_named, event_named, part_named}
 use Rattle.sp_skel.proofs.NamedCases.{CasesNamed, named_append, if_named, rule_named}
 use Rattle.sp_skel.proofs.LearningNames.{adversary_named, made_cases_named, own_cases_named, outputs_named, done_cases_named, destructions_named}
 use Rattle.sp_spec_system.specs.Rules.{Rules}
@@ -34,10 +34,16 @@ use Rattle.sp_spec_forms.specs.Forms.{RuleForms}
 
 -- ---- cases with names
 
-event_named : (s : System) (a : Action Variable) (n : ℕ) (bs : List (Action Variable)) → CasesNamed (at_event s a n bs)
-event_named s a n [] = tt
-event_named s a n (b ∷ bs) =
-    named_append (case_if (codes "at_" ++ decimal n) (where_same s a b)) (at_event s a (suc n) bs) (if_named (codes "at_" ++ decimal n) (where_same s a b) (at_named n)) (event_named s a (suc n) bs)
+actions_named : (s : System) (a : Action Variable) (n : ℕ) (bs : List (Action Variable)) → CasesNamed (at_event s a n bs)
+actions_named s a n [] = tt
+actions_named s a n (b ∷ bs) =
+    named_append (case_if (codes "at_" ++ decimal n) (where_same s a b)) (at_event s a (suc n) bs) (if_named (codes "at_" ++ decimal n) (where_same s a b) (at_named n)) (actions_named s a (suc n) bs)
+
+events_named : (s : System) (i : ℕ) (es : List Event) → CasesNamed (at_each s i es)
+events_named s i [] = tt
+events_named s i (e ∷ es) =
+    let name = codes "event_" ++ decimal e.time in
+    named_append (case_if name (made_one s (i, e.time))) (at_each s i es) (if_named name (made_one s (i, e.time)) (event_named e.time)) (events_named s i es)
 
 each_named : (rules : List RuleForms) (s : System) (i : ℕ) (a : Action Variable) → AreNamed rules → CasesNamed (by_each rules s i a)
 each_named [] s i a h = tt
@@ -56,9 +62,14 @@ sources_named (r ∷ rules) s i p f h =
     named_append (named r.name made) (by_each_source rules s i p f) (rule_named r.name made h.0 h.1) (sources_named rules s i p f h.2)
 
 action_named : (rules : List RuleForms) (s : System) (i : ℕ) (a : Action Variable) (o : Option Event) → AreNamed rules → CasesNamed (action_cases rules s i a o)
-action_named rules s i a (Some e) h = event_named s a 0 (happening_actions e.happening)
+action_named rules s i a (Some e) h = actions_named s a 0 (happening_actions e.happening)
 action_named rules s i a None h =
-    named_append (by_each rules s i a) (by_adversary s i a.symbol a.args) (each_named rules s i a h) (adversary_named s i a.symbol a.args)
+    either s.closed (at_each s i s.events) (by_each rules s i a ++ by_adversary s i a.symbol a.args) (events_named s i s.events)
+    (named_append (by_each rules s i a) (by_adversary s i a.symbol a.args) (each_named rules s i a h) (adversary_named s i a.symbol a.args))
+  where
+    either : (b : Bool) (xs ys : List Case) → CasesNamed xs → CasesNamed ys → CasesNamed (if b then xs else ys)
+    either true xs ys h k = h
+    either false xs ys h k = k
 
 -- ---- the cases of a move
 

@@ -6,7 +6,7 @@ use Rattle.sp_spec.specs.Log as log
 use Rattle.sp_spec_system.specs.System.{Event, Link}
 use Rattle.sp_learn.specs.View.{entry_of}
 use Rattle.sp_learn.specs.declared.log.Entry.{Entry}
-use Rattle.sp_solved.specs.Candidate as spec
+use Rattle.sp_spec_solved.specs.Candidate as spec
 use Rattle.sp_spec.proofs.Options.{behind}
 use Rattle.sp_solved.proofs.Firsts.{first_put}
 

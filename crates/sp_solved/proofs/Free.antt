@@ -4,7 +4,7 @@ use denote.Ref.{Bor}
 use Rattle.sp_spec_system.specs.System as spec
 use Rattle.sp_system.specs.SystemView.{event_of}
 use Rattle.sp_system.specs.declared.event.Event.{Event}
-use Rattle.sp_solved.specs.Listing.{some_before, passed, first_free}
+use Rattle.sp_spec_solved.specs.Listing.{some_before, passed, first_free}
 use Rattle.sp_solved.specs.ListingView.{events_of, free_place}
 
 some_suc : (o : Option ℕ) (k : ℕ) → option_map (λ (j : ℕ). suc j) o ≡ Some k → (j : ℕ) × (o ≡ Some j) × (k ≡ suc j)

@@ -8,7 +8,7 @@ use Rattle.sp_spec.specs.Written.{is_listed}
 use Rattle.sp_law_equal.specs.Matching.{Bound}
 use Rattle.sp_term.specs.View.{variable_of}
 use Rattle.sp_term.specs.declared.term.Variable.{Variable}
-use Rattle.sp_solved.specs.Naming.{public_name, public_given}
+use Rattle.sp_spec_solved.specs.Naming.{public_name, public_given}
 use Rattle.sp_spec.proofs.Lists.{next_item}
 use Rattle.sp_system.proofs.Turns.{one_less}
 

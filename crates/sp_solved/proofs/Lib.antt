@@ -1,7 +1,5 @@
 pub mod Firsts
-pub mod Listed
 pub mod Free
-pub mod Names
 pub mod Stepping
 pub mod Giving
 pub mod Rounds

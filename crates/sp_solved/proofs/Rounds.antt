@@ -5,7 +5,7 @@ use denote.Ref.{Bor}
 use Rattle.sp_spec_system.specs.System as spec
 use Rattle.sp_system.specs.SystemView.{event_of}
 use Rattle.sp_system.specs.declared.event.Event.{Event}
-use Rattle.sp_solved.specs.Listing.{first_free, one_by_one}
+use Rattle.sp_spec_solved.specs.Listing.{first_free, one_by_one}
 use Rattle.sp_solved.specs.ListingView.{events_of}
 use Rattle.sp_spec.proofs.Options.{behind}
 use Rattle.sp_solved.proofs.Firsts.{regrouped}

@@ -2,7 +2,7 @@
 use Rattle.std.proofs.Common.{◌≡◌, ℕ, ◌+◌, ◌<◌, if◌then◌else◌, List, [], ◌∷◌, ◌++◌, drop, length, get_or, refl, sym, ap, ◌∙◌}
 use Rattle.sp_spec.specs.Term.{Variable, Term}
 use Rattle.sp_term.specs.View.{terms_of}
-use Rattle.sp_solved.specs.Naming.{is_seen, once_after, in_term, in_terms, in_chain}
+use Rattle.sp_spec_solved.specs.Naming.{is_seen, once_after, in_term, in_terms, in_chain}
 use Rattle.sp_spec.proofs.Lists.{next_there}
 
 pub once_both : (xs seen ys : List Variable) → once_after (once_after seen xs) ys ≡ once_after seen (xs ++ ys)

@@ -9,7 +9,7 @@ use Rattle.sp_law_decide.specs.Deciding.{decided, empty}
 use Rattle.sp_spec.specs.Lists.{newest_first}
 use Rattle.sp_spec_system.specs.System.{System}
 use Rattle.sp_learn.specs.Checking.{is_log}
-use Rattle.sp_solved.specs.Candidate.{candidate}
+use Rattle.sp_spec_solved.specs.Candidate.{candidate}
 
 -- entries, the oldest first, that are a log of the rules, and over whose whole trace the formula is true
 abbrev pub is_sought : Signature → List RuleForms → Guarded → List Entry → Bool

@@ -1,6 +1,2 @@
-pub mod Listing
 pub mod ListingView
-pub mod Naming
-pub mod Candidate
 pub mod Found
-pub mod Laws

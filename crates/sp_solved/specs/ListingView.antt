@@ -4,7 +4,7 @@ use denote.Ref.{Bor}
 use Rattle.sp_spec_system.specs.System as spec
 use Rattle.sp_system.specs.SystemView.{event_of}
 use Rattle.sp_system.specs.declared.event.Event.{Event}
-use Rattle.sp_solved.specs.Listing.{some_before}
+use Rattle.sp_spec_solved.specs.Listing.{some_before}
 
 -- events that are kept by reference
 abbrev pub events_of : List (Bor Event) → List spec.Event

@@ -2,7 +2,7 @@
 
 ghost use Rattle.std.specs.Prelude.{◌≡◌, IfOk, map, option_map};
 ghost use Rattle.sp_system.specs.SystemView.{event_of};
-ghost use Rattle.sp_solved.specs.Listing as spec;
+ghost use Rattle.sp_spec_solved.specs.Listing as spec;
 ghost use Rattle.sp_solved.specs.ListingView.{events_of, free_place};
 
 use sp_system::closed::ClosedOrder;

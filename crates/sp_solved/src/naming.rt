@@ -10,8 +10,8 @@ ghost use Rattle.sp_norm.specs.Bounds.{bounds};
 ghost use Rattle.sp_system.specs.SystemView.{event_of};
 ghost use Rattle.sp_system.specs.WayView.{way_of};
 ghost use Rattle.sp_solved.specs.ListingView.{events_of};
-ghost use Rattle.sp_solved.specs.Naming as spec;
-ghost use Rattle.sp_solved.specs.Naming.{once_after};
+ghost use Rattle.sp_spec_solved.specs.Naming as spec;
+ghost use Rattle.sp_spec_solved.specs.Naming.{once_after};
 
 use sp_fact::fact::{Action, Fact, Facts};
 use sp_system::event::{Event, What};

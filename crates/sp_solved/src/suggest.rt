@@ -16,7 +16,7 @@ ghost use Rattle.sp_log.specs.View as steps;
 ghost use Rattle.sp_log.specs.View.{source_of};
 ghost use Rattle.sp_learn.specs.View.{entries_of, entry_of, how_of};
 ghost use Rattle.sp_solved.specs.ListingView.{events_of};
-ghost use Rattle.sp_solved.specs.Candidate as spec;
+ghost use Rattle.sp_spec_solved.specs.Candidate as spec;
 
 use crate::listing::in_order;
 use crate::naming::named;

@@ -5,7 +5,7 @@ use Rattle.sp_spec.specs.Rule.{Action}
 use Rattle.sp_spec_system.specs.System.{System, anyhow, Happening, rule_step, sending, learning, Event, happening_actions, with_events, with_next}
 use Rattle.sp_spec_system.specs.Move.{Case}
 use Rattle.sp_spec_system.specs.Cases.{where_same, case_if, renamed, system_if, named}
-use Rattle.sp_spec_system.specs.MakingOne.{event_at}
+use Rattle.sp_spec_system.specs.MakingOne.{event_at, made_one}
 use Rattle.sp_spec.specs.Guarded.{Guarded, holds, acts, free_time}
 use Rattle.sp_spec_system.specs.Formulas.{freed_action}
 use Rattle.sp_spec_forms.specs.Numbering.{Form}
@@ -48,9 +48,15 @@ by_adversary s i symbol (more m none) =
     else []
 by_adversary s i symbol ts = []
 
+-- each event of these, by its time: it is the one at this time
+abbrev pub at_each : System → ℕ → List Event → List Case
+at_each s i [] = []
+at_each s i (e ∷ es) = case_if (codes "event_" ++ decimal e.time) (made_one s (i, e.time)) ++ at_each s i es
+
+-- In a closed system nothing new happens.
 abbrev pub action_cases : List RuleForms → System → ℕ → Action Variable → Option Event → List Case
 action_cases rules s i a (Some e) = at_event s a 0 (happening_actions e.happening)
-action_cases rules s i a None = by_each rules s i a ++ by_adversary s i a.symbol a.args
+action_cases rules s i a None = if s.closed then at_each s i s.events else by_each rules s i a ++ by_adversary s i a.symbol a.args
 
 abbrev pub action_at_time : List RuleForms → System → ℕ → Option (Action Variable) → Option (List Case)
 action_at_time rules s i None = None

@@ -3,8 +3,10 @@ pub mod ActionStands
 pub mod Disjunction
 pub mod Equate
 pub mod InOrder
+pub mod Induction
 pub mod Instances
 pub mod Instantiate
+pub mod Last
 pub mod Open
 pub mod Or
 pub mod Split

@@ -7,6 +7,7 @@ use Rattle.sp_spec_formula.specs.Split.{split, has_falsity}
 use Rattle.sp_spec_formula.specs.Open.{open_existential}
 use Rattle.sp_spec_formula.specs.Unequal.{unequal, has_equal_pair}
 use Rattle.sp_spec_formula.specs.InOrder.{in_order, has_refuted}
+use Rattle.sp_spec_formula.specs.Last.{sets_last, fails_to_last, has_later, has_last_refuted, has_unlast}
 use Rattle.sp_spec_formula.specs.ActionStands.{action_stands}
 use Rattle.sp_spec_graph.specs.FreshOnce.{fresh_once, fails_to_merge}
 use Rattle.sp_spec_formula.specs.Equate.{equate, fails_to_equate}
@@ -30,6 +31,7 @@ pub data Row : Type 0 where
   row_equate : Row
   row_unequal : Row
   row_order : Row
+  row_last : Row
   row_action_stands : Row
   row_disjunction : Row
   row_send_input : Row
@@ -43,7 +45,7 @@ pub data Row : Type 0 where
 
 abbrev pub rows : List Row
 rows =
-    row_split ∷ row_open ∷ row_equate ∷ row_unequal ∷ row_order ∷ row_action_stands ∷ row_disjunction
+    row_split ∷ row_open ∷ row_equate ∷ row_unequal ∷ row_order ∷ row_last ∷ row_action_stands ∷ row_disjunction
     ∷ row_send_input ∷ row_send_learnt ∷ row_learn_once ∷ row_linear_once ∷ row_fresh_once ∷ row_settle_learn ∷ row_fresh_first ∷ row_instantiate ∷ []
 
 -- in the rules of a proof, of which settling a learn needs the symbols
@@ -53,6 +55,7 @@ by_row rules row_open s = open_existential s
 by_row rules row_equate s = equate s
 by_row rules row_unequal s = unequal s
 by_row rules row_order s = in_order s
+by_row rules row_last s = sets_last s
 by_row rules row_action_stands s = action_stands s
 by_row rules row_disjunction s = disjunction s
 by_row rules row_send_input s = send_input s
@@ -75,14 +78,15 @@ by_rows rules (row ∷ more_rows) s = first_of (by_row rules row s) (by_rows rul
 
 -- a row has a place at which the unification or the merge fails
 abbrev pub fails_somewhere : System → Bool
-fails_somewhere s = fails_to_equate s s.formulas || (fails_to_learn s || (fails_to_link s || fails_to_merge s))
+fails_somewhere s = fails_to_equate s s.formulas || (fails_to_last s s.formulas || (fails_to_learn s || (fails_to_link s || fails_to_merge s)))
 
 abbrev pub is_contradictory : Rules → System → Bool
 is_contradictory rules s =
     has_falsity s.formulas
     || (has_equal_pair s.unequal
     || (has_refuted s.order s.formulas
-    || (is_cyclic s.order || (has_source_twice s || (has_early s || (has_reducible rules.signature.equations s.events || fails_somewhere s))))))
+    || (is_cyclic s.order || (has_source_twice s || (has_early s || (has_reducible rules.signature.equations s.events
+    || (fails_somewhere s || (has_later s.last s.order || (has_last_refuted s.last s.formulas || has_unlast s)))))))))
 
 -- some row has a place, be it one at which it fails
 abbrev pub has_place : Rules → System → Bool

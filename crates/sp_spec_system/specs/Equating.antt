@@ -56,6 +56,8 @@ system_changed terms times s = record {
   unequal = map (pair_changed terms) s.unequal;
   links = joined_links [] (map (link_changed times) s.links);
   order = map (order_changed times) s.order;
+  last = option_map times s.last;
+  closed = s.closed;
   next = s.next;
 }
 

@@ -2,6 +2,7 @@ pub mod Cases
 pub mod Covering
 pub mod Equating
 pub mod Formulas
+pub mod Head
 pub mod MakingOne
 pub mod Move
 pub mod Numbered

@@ -1,8 +1,8 @@
 -- Systems whose numbers are below their next one: what is new gets a number that nothing uses.
-use Rattle.std.specs.Prelude.{ℕ, true, List, ◌≡◌, ◌<◌}
+use Rattle.std.specs.Prelude.{ℕ, true, IfSome, List, map, ◌≡◌, ◌<◌}
 use Rattle.sp_spec.specs.Term.{Names, public_name, fresh_name, Variable, MadeOf, AllMadeOf, Term}
 use Rattle.sp_spec.specs.Guarded.{Place, free, bound, Time, free_time, bound_time, Atom, acts, same, same_time, before, last, Guarded, truth, falsity, holds, fails, all_of, one_of, some, every, Guardeds, no_more, and_then}
-use Rattle.sp_spec.specs.Lists.{Every, is_listed}
+use Rattle.sp_spec.specs.Lists.{Every, Distinct, is_listed}
 use Rattle.sp_spec.specs.Rule.{FactsMadeOf}
 use Rattle.sp_spec_system.specs.System.{Way, chain_begun, chain_done, Happening, rule_step, sending, learning, Event, Link, System}
 
@@ -57,6 +57,10 @@ abbrev pub names_in : List (List ℕ) → Names
 names_in listed (public_name c) = is_listed c listed ≡ true
 names_in listed (fresh_name n) = ⊥
 
+-- no two events have one time
+abbrev pub HappenOnce : List Event → Type 0
+HappenOnce events = Distinct (map (λ (e : Event). e.time) events)
+
 -- Each number that stands in the system is below the next one, and each name is one of these.
 pub record IsNumbered (N : Names) (s : System) : Type 0 where
   pub events : Every (InEvent N (λ x. x.number < s.next) (λ i. i < s.next)) s.events
@@ -65,3 +69,4 @@ pub record IsNumbered (N : Names) (s : System) : Type 0 where
   pub unequal : Every (λ (p : Term Variable × Term Variable). MadeOf N (λ x. x.number < s.next) p.0 × MadeOf N (λ x. x.number < s.next) p.1) s.unequal
   pub links : Every (λ (l : Link). (l.from < s.next) × (l.to < s.next)) s.links
   pub order : Every (λ (p : ℕ × ℕ). (p.0 < s.next) × (p.1 < s.next)) s.order
+  pub last : IfSome s.last (λ i. i < s.next)

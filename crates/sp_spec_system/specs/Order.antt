@@ -27,3 +27,8 @@ begins_cycle order (p ∷ pairs) = is_before order p.0 p.0 || begins_cycle order
 
 abbrev pub is_cyclic : List (ℕ × ℕ) → Bool
 is_cyclic order = begins_cycle order order
+
+-- one of these pairs begins at the time
+abbrev pub begins_at : ℕ → List (ℕ × ℕ) → Bool
+begins_at i [] = false
+begins_at i (p ∷ pairs) = (p.0 == i) || begins_at i pairs

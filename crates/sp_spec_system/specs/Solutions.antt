@@ -1,9 +1,9 @@
 -- The solutions of a system: logs, with values for its variables. Source: CSF 2012, "Constraint solving" (models of constraint systems);
 -- Schmidt's thesis, chapter 3.
-use Rattle.std.specs.Prelude.{ℕ, [], List, ◌<◌, ◌∷◌, ◌++◌, length, map, ◌≡◌}
+use Rattle.std.specs.Prelude.{ℕ, suc, true, Option, IfSome, [], List, ◌<◌, ◌∷◌, ◌++◌, length, map, ◌≡◌}
 use Rattle.sp_spec.specs.Term.{Values, constant, Ground, Grounds, Variable, Term, valued}
 use Rattle.sp_spec.specs.Guarded.{Assignment, Binder, message, time, with_term, with_time, Atom, acts, same, same_time, before, last, time_in, term_in, action_in, Guarded, truth, falsity, holds, fails, all_of, one_of, some, every, Guardeds, no_more, and_then, GuardedHolds}
-use Rattle.sp_spec.specs.Lists.{AtPosition, AtPlace, Every}
+use Rattle.sp_spec.specs.Lists.{AtPosition, AtPlace, Every, Member}
 use Rattle.sp_spec.specs.Rule.{facts_at, Facts}
 use Rattle.sp_spec.specs.Log.{Log, How, step, send, learn, Source, conclusion, log_trace}
 use Rattle.sp_spec.specs.Log as log
@@ -96,6 +96,14 @@ AreUnequal theory v p =
 abbrev pub IsBefore : Log → Valuation → ℕ × ℕ → Type 0
 IsBefore log v p = (v.times p.0 < v.times p.1) × (v.times p.1 < length log)
 
+-- the time, if one is said to be the last, has the position of the log's newest entry
+abbrev pub IsLast : Log → Valuation → Option ℕ → Type 0
+IsLast log v known = IfSome known (λ i. suc (v.times i) ≡ length log)
+
+-- each position of the log is that of one of these events
+abbrev pub AreAll : Log → Valuation → List Event → Type 0
+AreAll log v events = (p : ℕ) → p < length log → (e : Event) × Member e events × (v.times e.time ≡ p)
+
 -- The log, with values for the system's variables, is a solution of the system.
 pub record Solves (theory : Theory) (log : Log) (v : Valuation) (s : System) : Type 0 where
   pub sorts : IsValuation (signature_of theory) v.terms
@@ -106,3 +114,5 @@ pub record Solves (theory : Theory) (log : Log) (v : Valuation) (s : System) : T
   pub unequal : Every (AreUnequal theory v) s.unequal
   pub links : Every (LinkHolds log v) s.links
   pub order : Every (IsBefore log v) s.order
+  pub last : IsLast log v s.last
+  pub closed : s.closed ≡ true → AreAll log v s.events

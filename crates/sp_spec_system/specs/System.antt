@@ -1,5 +1,5 @@
 -- Constraint systems. Source: CSF 2012, "Constraint solving" (constraint systems); Schmidt's thesis, chapter 3; Meier's thesis, chapter 3.
-use Rattle.std.specs.Prelude.{ℕ, List, [], ◌∷◌, ◌++◌}
+use Rattle.std.specs.Prelude.{ℕ, Bool, false, Option, None, List, [], ◌∷◌, ◌++◌}
 use Rattle.sp_spec.specs.Term.{Variable, Term}
 use Rattle.sp_spec.specs.Rule.{Facts, Fact, Action, sends, learns, in_of}
 use Rattle.sp_spec.specs.Guarded.{Guarded}
@@ -49,7 +49,7 @@ pub record Link : Type 0 where
   pub premise : ℕ
 
 -- Message variables and times share the numbers; the next one is used by nothing yet. Spent formulas hold too. Of an order pair the
--- first time is before the second.
+-- first time is before the second. At most one time is said to be the last one. In a closed system nothing happens but its events.
 pub record System : Type 0 where
   pub events : List Event
   pub formulas : List Guarded
@@ -57,30 +57,42 @@ pub record System : Type 0 where
   pub unequal : List (Term Variable × Term Variable)
   pub links : List Link
   pub order : List (ℕ × ℕ)
+  pub last : Option ℕ
+  pub closed : Bool
   pub next : ℕ
 
 -- a system with another part in the place of its own
 abbrev pub with_events : System → List Event → System
-with_events s x = record { events = x; formulas = s.formulas; spent = s.spent; unequal = s.unequal; links = s.links; order = s.order; next = s.next }
+with_events s x = record s { events = x }
 
 abbrev pub with_formulas : System → List Guarded → System
-with_formulas s x = record { events = s.events; formulas = x; spent = s.spent; unequal = s.unequal; links = s.links; order = s.order; next = s.next }
+with_formulas s x = record s { formulas = x }
 
 abbrev pub with_spent : System → List Guarded → System
-with_spent s x = record { events = s.events; formulas = s.formulas; spent = x; unequal = s.unequal; links = s.links; order = s.order; next = s.next }
+with_spent s x = record s { spent = x }
 
 abbrev pub with_unequal : System → List (Term Variable × Term Variable) → System
-with_unequal s x = record { events = s.events; formulas = s.formulas; spent = s.spent; unequal = x; links = s.links; order = s.order; next = s.next }
+with_unequal s x = record s { unequal = x }
 
 abbrev pub with_links : System → List Link → System
-with_links s x = record { events = s.events; formulas = s.formulas; spent = s.spent; unequal = s.unequal; links = x; order = s.order; next = s.next }
+with_links s x = record s { links = x }
 
 abbrev pub with_order : System → List (ℕ × ℕ) → System
-with_order s x = record { events = s.events; formulas = s.formulas; spent = s.spent; unequal = s.unequal; links = s.links; order = x; next = s.next }
+with_order s x = record s { order = x }
+
+abbrev pub with_last : System → Option ℕ → System
+with_last s x = record s { last = x }
+
+abbrev pub with_closed : System → Bool → System
+with_closed s x = record s { closed = x }
 
 abbrev pub with_next : System → ℕ → System
-with_next s x = record { events = s.events; formulas = s.formulas; spent = s.spent; unequal = s.unequal; links = s.links; order = s.order; next = x }
+with_next s x = record s { next = x }
 
 -- with more order pairs
 abbrev pub with_pairs : System → List (ℕ × ℕ) → System
 with_pairs s pairs = with_order s (s.order ++ pairs)
+
+-- nothing but these formulas
+abbrev pub formulas_alone : List Guarded → System
+formulas_alone fs = record { events = []; formulas = fs; spent = []; unequal = []; links = []; order = []; last = None; closed = false; next = 0 }

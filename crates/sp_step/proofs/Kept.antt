@@ -33,7 +33,7 @@ use Rattle.sp_spec_graph.specs.SettleLearn.{Settling, of_sort_pub, made_of, sett
 use Rattle.sp_spec_graph.specs.FreshFirst.{missing_behind}
 use Rattle.sp_spec_graph.specs.LearntEarly.{has_early}
 use Rattle.sp_spec_graph.specs.SourceTwice.{has_source_twice}
-use Rattle.sp_spec_proof.specs.Rows.{Row, row_split, row_open, row_equate, row_unequal, row_order, row_action_stands, row_disjunction, row_send_input, row_send_learnt, row_learn_once, row_linear_once, row_fresh_once, row_settle_learn, row_fresh_first, row_instantiate, by_row, is_contradictory, fails_somewhere}
+use Rattle.sp_spec_proof.specs.Rows.{Row, row_split, row_open, row_equate, row_unequal, row_order, row_last, row_action_stands, row_disjunction, row_send_input, row_send_learnt, row_learn_once, row_linear_once, row_fresh_once, row_settle_learn, row_fresh_first, row_instantiate, by_row, is_contradictory}
 use Rattle.sp_step.specs.Kept.{keeps_terms}
 use Rattle.sp_moves_graph.proofs.Exact.{none_left}
 
@@ -224,7 +224,7 @@ module _ (es : List Equation) where
 -- where no contradiction is seen no equation could be used in an event
 pub not_reducible : (rules : Rules) (s : System) → is_contradictory rules s ≡ false → has_reducible rules.signature.equations s.events ≡ false
 not_reducible rules s e =
-    none_left (has_reducible rules.signature.equations s.events) (fails_somewhere s)
+    none_left (has_reducible rules.signature.equations s.events) _
     (right_none (has_early s) _
     (right_none (has_source_twice s) _ (right_none (is_cyclic s.order) _ (right_none (has_refuted s.order s.formulas) _ (right_none (has_equal_pair s.unequal) _ (right_none (has_falsity s.formulas) _ e))))))
 
@@ -236,6 +236,7 @@ row_keeps rules row_open s t k e h = made rules.signature.equations (opened_at s
 row_keeps rules row_equate s t k e h = absurd cc
 row_keeps rules row_unequal s t k e h = made rules.signature.equations (unequal_at s) (first_formula inequality_of s.formulas) t (always _ (λ r. h) _) e
 row_keeps rules row_order s t k e h = made rules.signature.equations (ordered_at s) (first_formula (order_of s.order) s.formulas) t (always _ (λ r. h) _) e
+row_keeps rules row_last s t k e h = absurd cc
 row_keeps rules row_action_stands s t k e h = made rules.signature.equations (λ r. spending s r []) (first_formula (standing_of s.events) s.formulas) t (always _ (λ r. h) _) e
 row_keeps rules row_disjunction s t k e h = made rules.signature.equations (λ r. spending s r r.picked) (first_formula (instead_of s) s.formulas) t (always _ (λ r. h) _) e
 row_keeps rules row_send_input s t k e h = made rules.signature.equations (with_sending s) (first_some (open_input s.links) s.events) t (input_sent rules.signature.equations s h) e

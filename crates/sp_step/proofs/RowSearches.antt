@@ -16,6 +16,7 @@ all_rows =
     ∷ row.Equate
     ∷ row.Unequal
     ∷ row.Order
+    ∷ row.Last
     ∷ row.ActionStands
     ∷ row.Disjunction
     ∷ row.SendInput

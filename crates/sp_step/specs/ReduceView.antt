@@ -1,7 +1,7 @@
 -- The written rows that rows in memory stand for.
 use Rattle.sp_spec_proof.specs.Rows as spec
 use Rattle.sp_step.specs.declared.reduce.Row.{Row}
-use Rattle.sp_step.specs.declared.reduce.Row.TheVariants.{Split, OpenExistential, Equate, Unequal, Order, ActionStands, Disjunction, SendInput, SendLearnt, LearnOnce, LinearOnce, FreshOnce, SettleLearn, FreshFirst, Instantiate}
+use Rattle.sp_step.specs.declared.reduce.Row.TheVariants.{Split, OpenExistential, Equate, Unequal, Order, Last, ActionStands, Disjunction, SendInput, SendLearnt, LearnOnce, LinearOnce, FreshOnce, SettleLearn, FreshFirst, Instantiate}
 
 abbrev pub row_of : Row → spec.Row
 row_of Split = spec.row_split
@@ -9,6 +9,7 @@ row_of OpenExistential = spec.row_open
 row_of Equate = spec.row_equate
 row_of Unequal = spec.row_unequal
 row_of Order = spec.row_order
+row_of Last = spec.row_last
 row_of ActionStands = spec.row_action_stands
 row_of Disjunction = spec.row_disjunction
 row_of SendInput = spec.row_send_input

@@ -1,5 +1,5 @@
 -- The contexts that those in memory stand for.
-use Rattle.std.specs.Prelude.{map, Some, [], ◌∷◌}
+use Rattle.std.specs.Prelude.{map, false, Some, None, []}
 use Rattle.sp_term.specs.View.{name_of}
 use Rattle.sp_formula.specs.FormulaView.{formula_of}
 use Rattle.sp_fact.specs.GroundView.{signature_of}
@@ -20,6 +20,14 @@ abbrev pub context_of : Context → spec.Context
 context_of c = record {
   rules = record { signature = signature_of c.sought.signature.now; forms = book_of c.rules.now };
   public_names = map name_of c.sought.constants.now.items;
-  root = Some (record { formulas = formula_of c.sought.formula.now ∷ [] });
+  root = Some (record {
+    restrictions = [];
+    taken = [];
+    sought = formula_of c.sought.formula.now;
+    begins_with_induction = false;
+    consecutive = false;
+    cases = None;
+  });
+  table = [];
   found = found (signature_of c.sought.signature.now) (book_of c.rules.now) (map name_of c.sought.constants.now.items) (formula_of c.sought.formula.now);
 }

@@ -15,6 +15,7 @@ use sp_rows_formula::equation::equate;
 use sp_rows_formula::existential::open_existential;
 use sp_rows_formula::inequality::unequal;
 use sp_rows_formula::instances::instantiate;
+use sp_rows_formula::last::sets_last;
 use sp_rows_formula::order::in_order;
 use sp_rows_formula::stands::action_stands;
 use sp_rows_graph::fresh_first::fresh_first;
@@ -40,6 +41,8 @@ pub enum Row {
     Unequal,
     /// of two times the one is before the other
     Order,
+    /// a time is said to be the last one, or comes before the one that is
+    Last,
     /// an action that its event has is spent
     ActionStands,
     /// a disjunction with a part that is known is spent, and a false part is left out
@@ -68,19 +71,20 @@ impl Row {
         ensures { result ≡ keeps_terms (row_of self) }
     {
         match self {
-            Row::Equate | Row::LearnOnce | Row::LinearOnce | Row::FreshOnce => false,
+            Row::Equate | Row::Last | Row::LearnOnce | Row::LinearOnce | Row::FreshOnce => false,
             _ => true,
         }
     }
 }
 
 /// All elementary moves, in the order in which they are tried.
-pub const ROWS: [Row; 15] = [
+pub const ROWS: [Row; 16] = [
     Row::Split,
     Row::OpenExistential,
     Row::Equate,
     Row::Unequal,
     Row::Order,
+    Row::Last,
     Row::ActionStands,
     Row::Disjunction,
     Row::SendInput,
@@ -112,6 +116,7 @@ pub fn reduce(
         Row::Equate => equate(alloc, system),
         Row::Unequal => unequal(alloc, system),
         Row::Order => in_order(alloc, system),
+        Row::Last => sets_last(alloc, system),
         Row::ActionStands => action_stands(alloc, system),
         Row::Disjunction => disjunction(alloc, system),
         Row::SendInput => send_input(alloc, system),

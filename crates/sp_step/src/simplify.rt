@@ -1,8 +1,9 @@
 // Simplification: elementary moves until none applies or a contradiction is seen.
 
-ghost use Rattle.std.specs.Prelude.{◌≡◌, false, IfOk, OnOk, is_some, option_map, true};
+ghost use Rattle.std.specs.Prelude.{◌≡◌, ◌||◌, false, IfOk, OnOk, is_some, option_map, true};
 ghost use Rattle.sp_system.specs.SystemView.{system_of};
 ghost use Rattle.sp_system.specs.Reduced.{Reduced};
+ghost use Rattle.sp_spec_formula.specs.Last as last_spec;
 ghost use Rattle.sp_spec_proof.specs.Rows as rows;
 ghost use Rattle.sp_spec_graph.specs.ReducibleEvent.{has_reducible};
 ghost use Rattle.sp_step.specs.ReduceView.{row_of};
@@ -13,6 +14,7 @@ use crate::context::Rules;
 use crate::reduce::{ROWS, Row, reduce};
 use sp_rows_formula::contradiction::{has_equal_pair, has_falsity, has_refuted};
 use sp_rows_formula::equation::fails_to_equate;
+use sp_rows_formula::last::{fails_to_last, has_last_refuted, has_later, has_unlast};
 use sp_rows_graph::fresh_once::fails_to_merge;
 use sp_rows_graph::learn_once::fails_to_learn;
 use sp_rows_graph::learnt_early::has_early;
@@ -58,10 +60,10 @@ pub fn is_reducible(alloc: Global, rules: &Rules, system: &System) -> Result<boo
 fn fails_somewhere(alloc: Global, system: &System) -> Result<bool, AllocError>
     ensures { IfOk result (λ b. b ≡ rows.fails_somewhere (system_of system.now)) }
 {
-    if fails_to_equate(alloc, system)? || fails_to_learn(alloc, system)? {
+    if fails_to_equate(alloc, system)? || fails_to_last(alloc, system)? {
         return Ok(true);
     }
-    if fails_to_link(alloc, system)? {
+    if fails_to_learn(alloc, system)? || fails_to_link(alloc, system)? {
         return Ok(true);
     }
     fails_to_merge(alloc, system)
@@ -79,6 +81,16 @@ pub fn has_place(alloc: Global, rules: &Rules, system: &System) -> Result<bool, 
         return Ok(true);
     }
     fails_somewhere(alloc, system)
+}
+
+// Whether some time is after the last one, or a time is said not to be the last one that is.
+fn ends_wrongly(alloc: Global, system: &System) -> Result<bool, AllocError>
+    ensures { IfOk result (λ b. let s = system_of system.now in b ≡ (last_spec.has_later s.last s.order || (last_spec.has_last_refuted s.last s.formulas || last_spec.has_unlast s))) }
+{
+    if has_later(system.last, &system.order) || has_last_refuted(system.last, &system.formulas) {
+        return Ok(true);
+    }
+    has_unlast(alloc, system)
 }
 
 // Whether a contradiction is seen, where it may be known that no equation could be used in an event.
@@ -103,7 +115,10 @@ fn is_contradictory_where(
     if !irreducible && has_reducible(alloc, &rules.signature.equations, &system.events)? {
         return Ok(true);
     }
-    fails_somewhere(alloc, system)
+    if fails_somewhere(alloc, system)? {
+        return Ok(true);
+    }
+    ends_wrongly(alloc, system)
 }
 
 /// Whether a contradiction is seen.

@@ -33,9 +33,9 @@ put_between fs gs k =
 
 pub spends_one : (m : System) (fs gs spent : List Formula) (k : ℕ) (f : Formula) → k < length m.formulas.items → f ≡ slice_index_or (drop k m.formulas.items) 0 f
     → fs ≡ (take k m.formulas.items ++ gs) ++ remove (drop k m.formulas.items) 0 → spent ≡ m.spent.items ++ f ∷ []
-    → (record { events = map event_of m.events.items; formulas = map formula_of fs; spent = map formula_of spent; unequal = map pair_view m.unequal.items; links = map link_of m.links.items; order = m.order.items; next = m.next }) ≡ spending_at (system_of m) k (map formula_of gs)
+    → (record (system_of m) { formulas = map formula_of fs; spent = map formula_of spent }) ≡ spending_at (system_of m) k (map formula_of gs)
 spends_one m fs gs spent k f h is built grown =
-    let made : List Guarded → List Guarded → spec.System = λ xs ys. record { events = map event_of m.events.items; formulas = xs; spent = ys; unequal = map pair_view m.unequal.items; links = map link_of m.links.items; order = m.order.items; next = m.next } in
+    let made : List Guarded → List Guarded → spec.System = λ xs ys. record (system_of m) { formulas = xs; spent = ys } in
     ap₂ made
     (ap (map formula_of) built ∙ put_between m.formulas.items gs k)
     (ap (map formula_of) grown ∙ map-append formula_of m.spent.items (f ∷ []) ∙ ap (λ (xs : List Guarded). map formula_of m.spent.items ++ xs) (one_there m.formulas.items k f h is))

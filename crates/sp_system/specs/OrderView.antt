@@ -1,6 +1,7 @@
 -- The times from which a path of order pairs leads to a time, in rounds over the pairs: in each, those at which a pair begins that ends at
 -- the time, or at one from which a path is known by then.
 use Rattle.std.specs.Prelude.{ℕ, zero, suc, List, [], ◌∷◌, ◌++◌, ◌==◌, ◌&&◌, ◌||◌, not, Bool, false, if◌then◌else◌}
+pub use Rattle.sp_spec_system.specs.Order.{begins_at}
 
 abbrev pub among : ℕ → List ℕ → Bool
 among i [] = false
@@ -22,11 +23,6 @@ next_round (p ∷ pairs) j ks = next_round pairs j (known_by p j ks)
 abbrev pub rounds : ℕ → List (ℕ × ℕ) → ℕ → List ℕ → List ℕ
 rounds zero order j ks = ks
 rounds (suc n) order j ks = rounds n order j (next_round order j ks)
-
--- one of these pairs begins at the time
-abbrev pub begins_at : ℕ → List (ℕ × ℕ) → Bool
-begins_at i [] = false
-begins_at i (p ∷ pairs) = (p.0 == i) || begins_at i pairs
 
 -- the pairs that are kept, and of the others those that end where one begins that is left by then
 abbrev pub without_sinks : List (ℕ × ℕ) → List (ℕ × ℕ) → List (ℕ × ℕ)

@@ -5,12 +5,4 @@ use Rattle.sp_spec_system.specs.System.{System}
 
 -- the formula at this position is spent, and these stand in its place
 abbrev pub spending_at : System → ℕ → List Guarded → System
-spending_at s k fs = record {
-  events = s.events;
-  formulas = take k s.formulas ++ (fs ++ drop (suc k) s.formulas);
-  spent = s.spent ++ take 1 (drop k s.formulas);
-  unequal = s.unequal;
-  links = s.links;
-  order = s.order;
-  next = s.next;
-}
+spending_at s k fs = record s { formulas = take k s.formulas ++ (fs ++ drop (suc k) s.formulas); spent = s.spent ++ take 1 (drop k s.formulas) }

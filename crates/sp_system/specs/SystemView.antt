@@ -25,5 +25,7 @@ system_of s = record {
   unequal = map pair_view s.unequal.items;
   links = map link_of s.links.items;
   order = s.order.items;
+  last = s.last;
+  closed = s.closed;
   next = s.next;
 }

@@ -88,6 +88,8 @@ fn merged_events(
         unequal,
         links,
         order,
+        last,
+        closed,
         next,
     } = system;
     events.remove(position);
@@ -99,6 +101,8 @@ fn merged_events(
         unequal,
         links,
         order,
+        last,
+        closed,
         next,
     })
 }

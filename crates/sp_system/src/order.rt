@@ -74,7 +74,8 @@ pub fn is_before(
     Ok(is_among(first, &known))
 }
 
-fn begins_at(time: u128, pairs: &[(u128, u128)]) -> bool
+/// Whether one of these pairs begins at the time.
+pub fn begins_at(time: u128, pairs: &[(u128, u128)]) -> bool
     ensures { result ≡ view.begins_at time pairs.now }
 {
     for pair in pairs {

@@ -9,7 +9,7 @@ ghost use Rattle.sp_unify.specs.View.{pair_view};
 ghost use Rattle.sp_system.specs.SystemView.{event_of, link_of, system_of};
 
 use crate::event::Event;
-use crate::time::{changed_order, changed_time};
+use crate::time::{changed_last, changed_order, changed_time};
 use sp_formula::formula::{Formula, changed_formulas};
 use sp_term::subst::{Subst, apply};
 use sp_term::term::Term;
@@ -43,6 +43,10 @@ pub struct System {
     pub links: Vec<Link>,
     /// the pairs of times of which the first is before the second
     pub order: Vec<(u128, u128)>,
+    /// the time that is said to be the last one, if one is
+    pub last: Option<u128>,
+    /// whether nothing happens but at its events
+    pub closed: bool,
     /// a number above those of all variables and times
     pub next: u128,
 }
@@ -166,6 +170,8 @@ impl Clone for System {
             unequal,
             links,
             order,
+            last: self.last,
+            closed: self.closed,
             next: self.next,
         })
     }
@@ -195,6 +201,8 @@ impl System {
             unequal,
             links,
             order,
+            last: changed_last(small, large, self.last),
+            closed: self.closed,
             next: self.next,
         })
     }

@@ -1,6 +1,6 @@
 // One time in place of another.
 
-ghost use Rattle.std.specs.Prelude.{◌≡◌, IfOk, map};
+ghost use Rattle.std.specs.Prelude.{◌≡◌, IfOk, map, option_map};
 ghost use Rattle.sp_spec_system.specs.Equating.{order_changed};
 ghost use Rattle.sp_spec.specs.Change.{time_replaced};
 
@@ -11,6 +11,16 @@ pub fn changed_time(small: u128, large: u128, time: u128) -> u128
     ensures { result ≡ time_replaced small large time }
 {
     if time == large { small } else { time }
+}
+
+/// The time that is said to be the last one, with `small` in place of `large`.
+pub fn changed_last(small: u128, large: u128, last: Option<u128>) -> Option<u128>
+    ensures { result ≡ option_map (time_replaced small large) last }
+{
+    match last {
+        Some(time) => Some(changed_time(small, large, time)),
+        None => None,
+    }
 }
 
 /// The pairs of times, with `small` in place of `large`.

@@ -42,6 +42,8 @@ pub enum PlainAtom<'a> {
     SameTime(Moment, Moment),
     /// the first time is before the second
     Before(Moment, Moment),
+    /// the time is the last one
+    Last(Moment),
 }
 
 fn acts_of(
@@ -70,6 +72,7 @@ fn atom_of(alloc: Global, plain: &PlainAtom) -> Result<Atom, AllocError> {
         PlainAtom::Same(left, right) => same_of(alloc, left, right),
         PlainAtom::SameTime(first, second) => Ok(Atom::SameTime(*first, *second)),
         PlainAtom::Before(first, second) => Ok(Atom::Before(*first, *second)),
+        PlainAtom::Last(time) => Ok(Atom::Last(*time)),
     }
 }
 
@@ -165,6 +168,10 @@ pub struct PlainSystem<'a> {
     pub links: &'a [(u128, usize, u128, usize)],
     /// the pairs of times of which the first is before the second
     pub order: &'a [(u128, u128)],
+    /// the time that is said to be the last one, if one is
+    pub last: Option<u128>,
+    /// whether nothing happens but at its events
+    pub closed: bool,
     /// a number above those of all variables and times
     pub next: u128,
 }
@@ -177,6 +184,8 @@ pub const EMPTY: PlainSystem<'static> = PlainSystem {
     unequal: &[],
     links: &[],
     order: &[],
+    last: None,
+    closed: false,
     next: 9,
 };
 
@@ -203,5 +212,7 @@ pub fn system_of(alloc: Global, plain: &PlainSystem) -> Result<System, AllocErro
         made.links.push(link(*from, *conclusion, *to, *premise))?;
     }
     made.order = plain.order.to_vec(alloc)?;
+    made.last = plain.last;
+    made.closed = plain.closed;
     Ok(made)
 }

@@ -54,6 +54,8 @@ pub fn system(alloc: Global, formulas: Vec<Formula>, next: u128) -> System {
         unequal: Vec::new(alloc),
         links: Vec::new(alloc),
         order: Vec::new(alloc),
+        last: None,
+        closed: false,
         next,
     }
 }

@@ -107,7 +107,6 @@ fn put_event(alloc: Global, text: &mut String, event: &Event) -> Result<(), Allo
     text.push_str("; ")
 }
 
-// the events, the pairs of the order, and the next number
 fn put_system(alloc: Global, text: &mut String, system: &System) -> Result<(), AllocError> {
     for event in &system.events {
         put_event(alloc, text, event)?;
@@ -118,7 +117,8 @@ fn put_system(alloc: Global, text: &mut String, system: &System) -> Result<(), A
     text.push_str(&words)
 }
 
-fn text_of(alloc: Global, system: &System) -> Result<String, AllocError> {
+/// The events, the pairs of the order, and the next number.
+pub fn text_of(alloc: Global, system: &System) -> Result<String, AllocError> {
     let mut text = String::new(alloc);
     put_system(alloc, &mut text, system)?;
     Ok(text)

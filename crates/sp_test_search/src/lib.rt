@@ -19,7 +19,11 @@ mod instances;
 #[cfg(test)]
 mod judgements;
 #[cfg(test)]
+mod lasts;
+#[cfg(test)]
 mod learning;
+#[cfg(test)]
+mod merged;
 #[cfg(test)]
 mod moves;
 #[cfg(test)]

@@ -33,8 +33,8 @@ const C: PlainTerm<'static> = PlainTerm::Public("c");
 
 const FREE_X0: PlainLeaf<'static> = PlainLeaf::Free(Sort::Msg, 0);
 
-// One: A(~x); Other: B(x); Three: B(x), A(x), A('c')
-static SHOWING: [PlainRule<'static>; 3] = [
+/// One: A(~x); Other: B(x); Three: B(x), A(x), A('c')
+pub static SHOWING: [PlainRule<'static>; 3] = [
     PlainRule {
         name: "One",
         variables: &[("x", Sort::Fresh)],
@@ -61,13 +61,14 @@ static SHOWING: [PlainRule<'static>; 3] = [
     },
 ];
 
-fn book_of(alloc: Global, rules: &[PlainRule]) -> Result<RuleBook, AllocError> {
+/// The rules with their forms, without equations.
+pub fn book_of(alloc: Global, rules: &[PlainRule]) -> Result<RuleBook, AllocError> {
     let rules = rules_of(alloc, rules)?;
     book(alloc, &Vec::new(alloc), &rules)
 }
 
-// the action of the symbol over the message of number 0, at the time 5
-const A_SOUGHT: PlainFormula<'static> = PlainFormula::Holds(PlainAtom::Acts(
+/// A of the message of number 0, at the time 5.
+pub const A_SOUGHT: PlainFormula<'static> = PlainFormula::Holds(PlainAtom::Acts(
     "A",
     &[FREE_X0],
     Moment::Free(5),
@@ -79,7 +80,8 @@ const B_SOUGHT: PlainFormula<'static> = PlainFormula::Holds(PlainAtom::Acts(
     Moment::Free(5),
 ));
 
-const K_SOUGHT: PlainFormula<'static> = PlainFormula::Holds(PlainAtom::Acts(
+/// K of it.
+pub const K_SOUGHT: PlainFormula<'static> = PlainFormula::Holds(PlainAtom::Acts(
     "K",
     &[FREE_X0],
     Moment::Free(5),
@@ -108,8 +110,8 @@ const WITH_PARTS: PlainSystem<'static> = PlainSystem {
     ..TWO_ACTIONS
 };
 
-// A and K are looked for, and Three has come at 5
-const WITH_EVENT: PlainSystem<'static> = PlainSystem {
+/// A and K are looked for, and Three has come at 5.
+pub const WITH_EVENT: PlainSystem<'static> = PlainSystem {
     events: &[PlainEvent::Step(
         5,
         "Three",
@@ -121,8 +123,8 @@ const WITH_EVENT: PlainSystem<'static> = PlainSystem {
     ..TWO_ACTIONS
 };
 
-// the names of the cases, with a space behind each
-fn names(alloc: Global, cases: &Vec<Case>) -> Result<String, AllocError> {
+/// The names of the cases, with a space behind each.
+pub fn names(alloc: Global, cases: &Vec<Case>) -> Result<String, AllocError> {
     let mut all = String::new(alloc);
     for case in cases {
         all.push_str(case.name.as_str())?;
@@ -145,8 +147,8 @@ fn clause_in(applied: &Applied) -> Option<Clause> {
     }
 }
 
-// what a case has: its events, formulas and spent formulas, and the next number
-type Sizes = (usize, usize, usize, u128);
+/// What a case has: its events, formulas and spent formulas, and the next number.
+pub type Sizes = (usize, usize, usize, u128);
 
 fn sizes(system: &System) -> Sizes {
     (
@@ -157,8 +159,8 @@ fn sizes(system: &System) -> Sizes {
     )
 }
 
-// whether each case has so much, and no disjunction
-fn all_have(cases: &Vec<Case>, wanted: Sizes) -> bool {
+/// Whether each case has so much, and no disjunction.
+pub fn all_have(cases: &Vec<Case>, wanted: Sizes) -> bool {
     for case in cases {
         let formulas = &case.system.formulas;
         if sizes(&case.system) != wanted || formulas.iter().any(|formula| is_disjunction(formula)) {
@@ -168,8 +170,8 @@ fn all_have(cases: &Vec<Case>, wanted: Sizes) -> bool {
     true
 }
 
-// the cases of a move that a formula allows
-fn taken_up(
+/// The cases of a move that a formula allows.
+pub fn taken_up(
     alloc: Global,
     rules: &RuleBook,
     given: &PlainSystem,
@@ -179,8 +181,8 @@ fn taken_up(
     cases_in(apply_to_formula(alloc, rules, &given, chosen)?)
 }
 
-// A system, a move, the names of its cases, and what each of them has.
-type TakenUp = (PlainSystem<'static>, Move, &'static str, Sizes);
+/// A system, a move, the names of its cases, and what each of them has.
+pub type TakenUp = (PlainSystem<'static>, Move, &'static str, Sizes);
 
 // Each rule with such an action is tried, each such action of the event, and each part.
 static FORMULAS: [TakenUp; 3] = [

@@ -26,6 +26,7 @@ use Rattle.sp_analysis.specs.Analysis.{Outcome, summary, AreOutcomes}
 use Rattle.sp_analysis.specs.Checking.{Judged, checked_text, AreJudged}
 use Rattle.sp_analysis.specs.Laws.{Means, AreReadBack, JudgedRightly}
 use Rattle.sp_pose.proofs.BasicTheories.{lemmas_unlearnt}
+use Rattle.sp_analysis.proofs.NoneTaken.{outcome_parts, judged_parts}
 use Rattle.sp_analysis.proofs.ReadBack.{executions_are_read_back_lem}
 use Rattle.sp_top.specs.Command.{Request, IsAbout, IsLine}
 use Rattle.sp_top.specs.Headline.{LinesAreTrue, Tells, VerdictsAreTrue}
@@ -66,8 +67,9 @@ outcomes_told text setting budget [] [] k h m r = tt
 outcomes_told text setting budget [] (o ∷ os) k h m r = absurd h
 outcomes_told text setting budget (l ∷ ls) [] k h m r = absurd h
 outcomes_told text setting budget (l ∷ ls) (o ∷ os) k h m r =
-    let known = subst (IsKnown text) (sym h.0.lemma_is) k.0 in
-    (record { stands = known.stands; named = known.named.1; unlearnt = known.unlearnt; means = m.0; read = r.0 }, outcomes_told text setting budget ls os k.1 h.1 m.1 r.1)
+    let parts = outcome_parts setting budget l ls o os h in
+    let known = subst (IsKnown text) (sym parts.0.lemma_is) k.0 in
+    (record { stands = known.stands; named = known.named.1; unlearnt = known.unlearnt; means = m.0; read = r.0 }, outcomes_told text setting budget ls os k.1 parts.1 m.1 r.1)
 
 -- ---- proofs that are checked
 
@@ -84,8 +86,9 @@ judged_told text setting [] [] k h m r = tt
 judged_told text setting [] (j ∷ js) k h m r = absurd h
 judged_told text setting (q ∷ qs) [] k h m r = absurd h
 judged_told text setting (q ∷ qs) (j ∷ js) k h m r =
-    let known = subst (IsKnown text) (sym h.0.lemma_is) k.0 in
-    (record { stands = known.stands; named = known.named.1; unlearnt = known.unlearnt; means = m.0.means; read = r.0 }, judged_told text setting qs js k.1 h.1 m.1 r.1)
+    let parts = judged_parts setting q qs j js h in
+    let known = subst (IsKnown text) (sym parts.0.lemma_is) k.0 in
+    (record { stands = known.stands; named = known.named.1; unlearnt = known.unlearnt; means = m.0.means; read = r.0 }, judged_told text setting qs js k.1 parts.1 m.1 r.1)
 
 -- ---- lines around them
 

@@ -3,7 +3,7 @@ use denote.Ref.{Bor}
 use Rattle.sp_spec_system.specs.System as spec
 use Rattle.sp_system.specs.SystemView.{event_of}
 use Rattle.sp_system.specs.declared.event.Event.{Event}
-use Rattle.sp_solved.specs.Listing.{in_order}
+use Rattle.sp_spec_solved.specs.Listing.{in_order}
 use Rattle.sp_solved.specs.ListingView.{events_of}
 use Rattle.sp_solved.proofs.Rounds.{stuck, one_linear_source}
 use Rattle.sp_solved.proofs.listing.in_order.Goals as goal

@@ -1,7 +1,7 @@
 use Rattle.std.proofs.Common.{◌≡◌, ◌-◌, ◌++◌, List, map, length, option_map}
 use Rattle.sp_spec_system.specs.System.{Event}
 use Rattle.sp_system.specs.SystemView.{event_of}
-use Rattle.sp_solved.specs.Listing.{one_by_one, in_order}
+use Rattle.sp_spec_solved.specs.Listing.{one_by_one, in_order}
 use Rattle.sp_solved.specs.ListingView.{events_of}
 use Rattle.sp_solved.proofs.listing.in_order.Given as goal
 

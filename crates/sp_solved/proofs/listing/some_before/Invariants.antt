@@ -1,5 +1,5 @@
 use Rattle.std.proofs.Common.{◌≡◌, drop}
-use Rattle.sp_solved.specs.Listing.{some_before}
+use Rattle.sp_spec_solved.specs.Listing.{some_before}
 use Rattle.sp_solved.specs.ListingView.{events_of}
 use Rattle.sp_solved.proofs.listing.some_before.Given as goal
 

@@ -1,6 +1,6 @@
 use Rattle.std.proofs.Common.{map, refl}
 use Rattle.sp_term.specs.View.{variable_of, view, view_all}
-use Rattle.sp_solved.specs.Naming.{once_after, in_term, in_terms}
+use Rattle.sp_spec_solved.specs.Naming.{once_after, in_term, in_terms}
 use Rattle.sp_solved.proofs.Stepping.{next}
 use Rattle.sp_solved.proofs.naming.+seeing.Goals as goal
 

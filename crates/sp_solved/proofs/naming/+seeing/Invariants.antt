@@ -1,6 +1,6 @@
 use Rattle.std.proofs.Common.{◌≡◌, map, drop}
 use Rattle.sp_term.specs.View.{variable_of, view_all}
-use Rattle.sp_solved.specs.Naming.{once_after, in_terms}
+use Rattle.sp_spec_solved.specs.Naming.{once_after, in_terms}
 use Rattle.sp_solved.proofs.naming.+seeing.Given as goal
 
 abbrev pub invariant-see_terms-loop-term : goal.invariant-see_terms-loop-term

@@ -4,7 +4,7 @@ use Rattle.sp_solved.proofs.Constant.{ground_constant}
 use Rattle.sp_term.specs.View.{name_of, variable_of, Never}
 use Rattle.sp_norm.specs.Bounds.{bounds}
 use Rattle.sp_term.specs.declared.subst.Bindings.{Bindings}
-use Rattle.sp_solved.specs.Naming.{public_given}
+use Rattle.sp_spec_solved.specs.Naming.{public_given}
 use Rattle.sp_solved.proofs.Giving.{all_given, passed_over, given_one}
 use Rattle.sp_solved.proofs.naming.give_public.Goals as goal
 use Rattle.sp_solved.proofs.naming.give_public.Goals.{then-not-is_listed+in_ok-push, else-not-is_listed}

@@ -1,7 +1,7 @@
 use Rattle.std.proofs.Common.{◌≡◌, ◌+◌, ◌-◌, ◌≤◌, ◌++◌, length, map, drop}
 use Rattle.sp_term.specs.View.{name_of, variable_of}
 use Rattle.sp_norm.specs.Bounds.{bounds}
-use Rattle.sp_solved.specs.Naming.{public_given}
+use Rattle.sp_spec_solved.specs.Naming.{public_given}
 use Rattle.sp_solved.proofs.naming.give_public.Given as goal
 
 abbrev pub invariant-loop-passed : goal.invariant-loop-passed

@@ -1,6 +1,6 @@
 use Rattle.std.proofs.Common.{◌≡◌, map, drop}
 use Rattle.sp_term.specs.View.{variable_of}
-use Rattle.sp_solved.specs.Naming.{is_seen}
+use Rattle.sp_spec_solved.specs.Naming.{is_seen}
 use Rattle.sp_solved.proofs.naming.is_seen.Given as goal
 
 abbrev pub invariant-loop-other : goal.invariant-loop-other

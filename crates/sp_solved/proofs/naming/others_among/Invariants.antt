@@ -1,6 +1,6 @@
 use Rattle.std.proofs.Common.{◌≡◌, ◌++◌, map, drop}
 use Rattle.sp_term.specs.View.{variable_of}
-use Rattle.sp_solved.specs.Naming.{others_among}
+use Rattle.sp_spec_solved.specs.Naming.{others_among}
 use Rattle.sp_solved.proofs.naming.others_among.Given as goal
 
 abbrev pub invariant-loop-variable : goal.invariant-loop-variable

@@ -1,7 +1,7 @@
 use Rattle.std.proofs.Common.{map, refl}
 use Rattle.sp_term.specs.View.{variable_of}
 use Rattle.sp_fact.specs.View.{action_of}
-use Rattle.sp_solved.specs.Naming.{once_after, in_terms, in_actions}
+use Rattle.sp_spec_solved.specs.Naming.{once_after, in_terms, in_actions}
 use Rattle.sp_solved.proofs.Stepping.{next}
 use Rattle.sp_solved.proofs.naming.see_actions.Goals as goal
 

@@ -1,7 +1,7 @@
 use Rattle.std.proofs.Common.{◌≡◌, map, drop}
 use Rattle.sp_term.specs.View.{variable_of}
 use Rattle.sp_fact.specs.View.{fact_of}
-use Rattle.sp_solved.specs.Naming.{once_after, in_facts}
+use Rattle.sp_spec_solved.specs.Naming.{once_after, in_facts}
 use Rattle.sp_solved.proofs.naming.see_facts.Given as goal
 
 abbrev pub invariant-loop-fact : goal.invariant-loop-fact

@@ -2,7 +2,7 @@ use Rattle.std.proofs.Common.{[], map, refl}
 use Rattle.sp_term.specs.View.{variable_of}
 use Rattle.sp_system.specs.SystemView.{event_of}
 use Rattle.sp_solved.specs.ListingView.{events_of}
-use Rattle.sp_solved.specs.Naming.{once_after, in_step, in_events}
+use Rattle.sp_spec_solved.specs.Naming.{once_after, in_step, in_events}
 use Rattle.sp_solved.proofs.Stepping.{next}
 use Rattle.sp_solved.proofs.naming.variables.Goals as goal
 

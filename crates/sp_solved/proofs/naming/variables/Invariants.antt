@@ -1,7 +1,7 @@
 use Rattle.std.proofs.Common.{◌≡◌, [], map, drop}
 use Rattle.sp_term.specs.View.{variable_of}
 use Rattle.sp_solved.specs.ListingView.{events_of}
-use Rattle.sp_solved.specs.Naming.{once_after, in_events}
+use Rattle.sp_spec_solved.specs.Naming.{once_after, in_events}
 use Rattle.sp_solved.proofs.naming.variables.Given as goal
 
 abbrev pub invariant-loop-event : goal.invariant-loop-event

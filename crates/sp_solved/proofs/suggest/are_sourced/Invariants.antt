@@ -1,7 +1,7 @@
 use Rattle.std.proofs.Common.{◌≡◌, map, drop}
 use Rattle.sp_fact.specs.View.{fact_of}
 use Rattle.sp_system.specs.SystemView.{event_of, link_of}
-use Rattle.sp_solved.specs.Candidate.{are_sourced}
+use Rattle.sp_spec_solved.specs.Candidate.{are_sourced}
 use Rattle.sp_solved.proofs.suggest.are_sourced.Given as goal
 
 abbrev pub invariant-loop-premise : goal.invariant-loop-premise

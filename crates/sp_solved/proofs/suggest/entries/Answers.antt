@@ -5,7 +5,7 @@ use Rattle.sp_norm.specs.Bounds.{bounds}
 use Rattle.sp_system.specs.SystemView.{event_of, link_of}
 use Rattle.sp_log.specs.View.{source_of}
 use Rattle.sp_log.specs.declared.log.Source.{Source}
-use Rattle.sp_solved.specs.Candidate.{entries_of}
+use Rattle.sp_spec_solved.specs.Candidate.{entries_of}
 use Rattle.sp_solved.specs.ListingView.{events_of}
 use Rattle.sp_spec.proofs.Lists.{next_there}
 use Rattle.sp_solved.proofs.Entries.{entry_put}

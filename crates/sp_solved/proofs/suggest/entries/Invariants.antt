@@ -3,7 +3,7 @@ use Rattle.sp_law_equal.specs.Matching.{value_in}
 use Rattle.sp_norm.specs.Bounds.{bounds}
 use Rattle.sp_system.specs.SystemView.{link_of}
 use Rattle.sp_learn.specs.View.{entry_of}
-use Rattle.sp_solved.specs.Candidate.{entries_of}
+use Rattle.sp_spec_solved.specs.Candidate.{entries_of}
 use Rattle.sp_solved.specs.ListingView.{events_of}
 use Rattle.sp_spec.proofs.Options.{behind}
 use Rattle.sp_solved.proofs.suggest.entries.Given as goal

@@ -1,7 +1,7 @@
 use Rattle.std.proofs.Common.{◌≡◌, map, drop}
 use Rattle.sp_formula.specs.FormulaView.{formula_of}
 use Rattle.sp_system.specs.SystemView.{event_of}
-use Rattle.sp_solved.specs.Candidate.{have_places}
+use Rattle.sp_spec_solved.specs.Candidate.{have_places}
 use Rattle.sp_solved.proofs.suggest.have_places.Given as goal
 
 abbrev pub invariant-loop-formula : goal.invariant-loop-formula

@@ -1,5 +1,5 @@
 use Rattle.std.proofs.Common.{◌≡◌, ◌+◌, ℕ, drop, option_map}
-use Rattle.sp_solved.specs.Candidate.{place_of}
+use Rattle.sp_spec_solved.specs.Candidate.{place_of}
 use Rattle.sp_solved.specs.ListingView.{events_of}
 use Rattle.sp_solved.proofs.suggest.place_of.Given as goal
 

@@ -2,7 +2,7 @@ use Rattle.std.proofs.Common.{◌≡◌, map, drop}
 use Rattle.sp_fact.specs.View.{fact_of}
 use Rattle.sp_system.specs.SystemView.{link_of}
 use Rattle.sp_log.specs.View.{source_of}
-use Rattle.sp_solved.specs.Candidate.{sources_from}
+use Rattle.sp_spec_solved.specs.Candidate.{sources_from}
 use Rattle.sp_solved.specs.ListingView.{events_of}
 use Rattle.sp_spec.proofs.Options.{behind}
 use Rattle.sp_solved.proofs.suggest.sources.Given as goal

@@ -1,9 +1,7 @@
 -- The names that variables are given: all get one, of their sorts, different ones, and none of the theory's.
-use Rattle.std.proofs.Common.{◌≡◌, ◌⊎◌, ⊎_elim, ◌≤◌, ◌<◌, ℕ, zero, suc, ◌+◌, ◌^◌, Bool, true, false, ◌||◌, if◌then◌else◌, List, [], ◌∷◌, ◌++◌, length, map, Option, Some, None, unwrap_or, inl, inr, refl, sym, ap, ap₂, ◌∙◌, subst, true≢false, arith}
-use Rattle.std.specs.Prelude.{decimal}
+use Rattle.std.proofs.Common.{◌≡◌, ◌⊎◌, ⊎_elim, ◌≤◌, ◌<◌, ℕ, zero, suc, ◌+◌, Bool, true, false, ◌||◌, if◌then◌else◌, List, [], ◌∷◌, ◌++◌, length, map, Option, Some, None, unwrap_or, inl, inr, refl, sym, ap, ap₂, ◌∙◌, subst, true≢false, arith}
 use Rattle.std.specs.Str.{bytes_eq}
 use Rattle.std.proofs.lemmas.Bool.{or_cases}
-use Rattle.std.proofs.lemmas.Fmt.{decimal_injective}
 use Rattle.std.proofs.lemmas.List.{map-append}
 use Rattle.std.proofs.lemmas.Slice.Eq.{bytes_eq-Decides}
 use Rattle.sp_spec.specs.Lists.{Member, Every, Distinct}
@@ -14,14 +12,16 @@ use Rattle.sp_spec.specs.Same.{same_variable}
 use Rattle.sp_spec.specs.Written.{is_listed}
 use Rattle.sp_law_equal.specs.Matching.{Bound, lookup, any_of, value_in}
 use Rattle.sp_spec.proofs.Same.{same_variable_decides}
-use Rattle.sp_solved.specs.Naming.{is_seen, once_after, if_fresh, fresh_among, others_among, fresh_given, public_name, public_given, given}
+use Rattle.sp_spec_solved.specs.Numeral.{numeral}
+use Rattle.sp_spec_solved.specs.Naming.{is_seen, once_after, if_fresh, fresh_among, others_among, fresh_given, public_name, public_given, given}
+use Rattle.sp_spec_solved.proofs.Numeral.{numeral_injective}
 use Rattle.sp_spec.proofs.Listed.{listed_member}
 use Rattle.sp_law_equal.proofs.Matches.{any_has_sort}
 
 -- ---- names by their numbers
 
-pub public_names_differ : (j k : ℕ) → j < 2 ^ 64 → k < 2 ^ 64 → public_name j ≡ public_name k → j ≡ k
-public_names_differ j k p q e = decimal_injective j k p q (let g : decimal j ≡ decimal k = cc in g)
+public_names_differ : (j k : ℕ) → public_name j ≡ public_name k → j ≡ k
+public_names_differ j k e = numeral_injective j k (let g : numeral j ≡ numeral k = cc in g)
 
 -- ---- without a name
 
@@ -68,45 +68,45 @@ public_tried constants (suc n) k (x ∷ xs) =
     else (x, constant (public_name k)) ∷ public_tried constants n (suc k) xs
 
 -- the names from a number on are listed here as there
-abbrev AreListedAlike : List (List ℕ) → List (List ℕ) → ℕ → ℕ → Type 0
-AreListedAlike cs ds n k = (j : ℕ) → k ≤ j → j < k + n → is_listed (public_name j) cs ≡ is_listed (public_name j) ds
+abbrev AreListedAlike : List (List ℕ) → List (List ℕ) → ℕ → Type 0
+AreListedAlike cs ds k = (j : ℕ) → k ≤ j → is_listed (public_name j) cs ≡ is_listed (public_name j) ds
 
-later_alike : (cs ds : List (List ℕ)) (n k : ℕ) → AreListedAlike cs ds (suc n) k → AreListedAlike cs ds n (suc k)
-later_alike cs ds n k h = λ j p q. h j (omega arith) (omega arith)
+later_alike : (cs ds : List (List ℕ)) (k : ℕ) → AreListedAlike cs ds k → AreListedAlike cs ds (suc k)
+later_alike cs ds k h = λ j p. h j (omega arith)
 
 -- names of later numbers are given as before
-given_same : (cs ds : List (List ℕ)) (n k : ℕ) (ys : List Variable) → AreListedAlike cs ds n k → public_given cs n k ys ≡ public_given ds n k ys
+given_same : (cs ds : List (List ℕ)) (n k : ℕ) (ys : List Variable) → AreListedAlike cs ds k → public_given cs n k ys ≡ public_given ds n k ys
 given_same cs ds zero k [] h = refl
 given_same cs ds zero k (y ∷ ys) h = ap (λ (bs : List Bound). (y, constant (public_name k)) ∷ bs) (given_same cs ds zero k ys h)
 given_same cs ds (suc n) k [] h = refl
 given_same cs ds (suc n) k (y ∷ ys) h =
-    ap (λ (b : Bool). if b then public_given cs n (suc k) (y ∷ ys) else (y, constant (public_name k)) ∷ public_given cs n (suc k) ys) (h k (omega arith) (omega arith))
+    ap (λ (b : Bool). if b then public_given cs n (suc k) (y ∷ ys) else (y, constant (public_name k)) ∷ public_given cs n (suc k) ys) (h k (omega arith))
     ∙ ap₂ (λ (as' bs : List Bound). if is_listed (public_name k) ds then as' else (y, constant (public_name k)) ∷ bs)
-    (given_same cs ds n (suc k) (y ∷ ys) (later_alike cs ds n k h)) (given_same cs ds n (suc k) ys (later_alike cs ds n k h))
+    (given_same cs ds n (suc k) (y ∷ ys) (later_alike cs ds k h)) (given_same cs ds n (suc k) ys (later_alike cs ds k h))
 
-tried_same : (cs ds : List (List ℕ)) (n k : ℕ) (ys : List Variable) → AreListedAlike cs ds n k → public_tried cs n k ys ≡ public_tried ds n k ys
+tried_same : (cs ds : List (List ℕ)) (n k : ℕ) (ys : List Variable) → AreListedAlike cs ds k → public_tried cs n k ys ≡ public_tried ds n k ys
 tried_same cs ds zero k ys h = refl
 tried_same cs ds (suc n) k [] h = refl
 tried_same cs ds (suc n) k (y ∷ ys) h =
-    ap (λ (b : Bool). if b then public_tried cs n (suc k) (y ∷ ys) else (y, constant (public_name k)) ∷ public_tried cs n (suc k) ys) (h k (omega arith) (omega arith))
+    ap (λ (b : Bool). if b then public_tried cs n (suc k) (y ∷ ys) else (y, constant (public_name k)) ∷ public_tried cs n (suc k) ys) (h k (omega arith))
     ∙ ap₂ (λ (as' bs : List Bound). if is_listed (public_name k) ds then as' else (y, constant (public_name k)) ∷ bs)
-    (tried_same cs ds n (suc k) (y ∷ ys) (later_alike cs ds n k h)) (tried_same cs ds n (suc k) ys (later_alike cs ds n k h))
+    (tried_same cs ds n (suc k) (y ∷ ys) (later_alike cs ds k h)) (tried_same cs ds n (suc k) ys (later_alike cs ds k h))
 
 -- of so many names the constants can't be all: they don't run out
-enough : (cs : List (List ℕ)) (n k : ℕ) (ys : List Variable) → length ys + length cs ≤ n → k + n ≤ 2 ^ 64 → public_given cs n k ys ≡ public_tried cs n k ys
-enough cs zero k [] h l = refl
-enough cs zero k (y ∷ ys) h l = absurd (omega arith)
-enough cs (suc n) k [] h l = refl
-enough cs (suc n) k (y ∷ ys) h l =
+enough : (cs : List (List ℕ)) (n k : ℕ) (ys : List Variable) → length ys + length cs ≤ n → public_given cs n k ys ≡ public_tried cs n k ys
+enough cs zero k [] h = refl
+enough cs zero k (y ∷ ys) h = absurd (omega arith)
+enough cs (suc n) k [] h = refl
+enough cs (suc n) k (y ∷ ys) h =
     at (is_listed (public_name k) cs) refl
-    (λ e. let f = without_fewer (public_name k) cs e in enough (without (public_name k) cs) n (suc k) (y ∷ ys) (omega arith) (omega arith))
-    (enough cs n (suc k) ys (omega arith) (omega arith))
+    (λ e. let f = without_fewer (public_name k) cs e in enough (without (public_name k) cs) n (suc k) (y ∷ ys) (omega arith))
+    (enough cs n (suc k) ys (omega arith))
   where
-    apart : (j : ℕ) → suc k ≤ j → j < suc k + n → public_name k ≡ public_name j → ⊥
-    apart j p q e = let same = public_names_differ k j (omega arith) (omega arith) e in omega arith
+    apart : (j : ℕ) → suc k ≤ j → public_name k ≡ public_name j → ⊥
+    apart j p e = let same = public_names_differ k j e in omega arith
 
-    alike : AreListedAlike cs (without (public_name k) cs) n (suc k)
-    alike = λ j p q. sym (others_stay (public_name k) (public_name j) cs (apart j p q))
+    alike : AreListedAlike cs (without (public_name k) cs) (suc k)
+    alike = λ j p. sym (others_stay (public_name k) (public_name j) cs (apart j p))
 
     at : (b : Bool) → is_listed (public_name k) cs ≡ b
         → (is_listed (public_name k) cs ≡ true → public_given (without (public_name k) cs) n (suc k) (y ∷ ys) ≡ public_tried (without (public_name k) cs) n (suc k) (y ∷ ys))
@@ -173,43 +173,38 @@ fresh_differ n (x ∷ xs) =
     (λ m. let r = fresh_from (suc n) xs (name n) m in let same : n ≡ r.0 = (let e = r.1 in cc) in let h = r.2 in omega arith, fresh_differ (suc n) xs)
 
 -- of a public name that is tried and given: its number, and that the theory doesn't have it
-pub record IsGiven (cs : List (List ℕ)) (from limit : ℕ) (t : Ground) : Type 0 where
+pub record IsGiven (cs : List (List ℕ)) (from : ℕ) (t : Ground) : Type 0 where
   pub number : ℕ
   pub is : t ≡ constant (public_name number)
   pub from_here : from ≤ number
-  pub below : number < limit
   pub new : is_listed (public_name number) cs ≡ false
 
-later_given : (cs : List (List ℕ)) (k n : ℕ) (t : Ground) → IsGiven cs (suc k) (suc k + n) t → IsGiven cs k (k + suc n) t
-later_given cs k n t g =
-    let h = g.from_here in
-    let b = g.below in
-    record { number = g.number; is = g.is; from_here = omega arith; below = omega arith; new = g.new }
+later_given : (cs : List (List ℕ)) (k : ℕ) (t : Ground) → IsGiven cs (suc k) t → IsGiven cs k t
+later_given cs k t g = let h = g.from_here in record { number = g.number; is = g.is; from_here = omega arith; new = g.new }
 
-public_from : (cs : List (List ℕ)) (n k : ℕ) (xs : List Variable) (t : Ground) → Member t (values_in (public_tried cs n k xs)) → IsGiven cs k (k + n) t
+public_from : (cs : List (List ℕ)) (n k : ℕ) (xs : List Variable) (t : Ground) → Member t (values_in (public_tried cs n k xs)) → IsGiven cs k t
 public_from cs zero k xs t m = absurd m
 public_from cs (suc n) k [] t m = absurd m
-public_from cs (suc n) k (x ∷ xs) t m = at (is_listed (public_name k) cs) refl m (λ ys l. later_given cs k n t (public_from cs n (suc k) ys t l))
+public_from cs (suc n) k (x ∷ xs) t m = at (is_listed (public_name k) cs) refl m (λ ys l. later_given cs k t (public_from cs n (suc k) ys t l))
   where
     at : (b : Bool) → is_listed (public_name k) cs ≡ b
         → Member t (values_in (if b then public_tried cs n (suc k) (x ∷ xs) else (x, constant (public_name k)) ∷ public_tried cs n (suc k) xs))
-        → ((ys : List Variable) → Member t (values_in (public_tried cs n (suc k) ys)) → IsGiven cs k (k + suc n) t) → IsGiven cs k (k + suc n) t
+        → ((ys : List Variable) → Member t (values_in (public_tried cs n (suc k) ys)) → IsGiven cs k t) → IsGiven cs k t
     at true s l later = later (x ∷ xs) l
-    at false s (inl e) later = record { number = k; is = sym e; from_here = omega arith; below = omega arith; new = s }
+    at false s (inl e) later = record { number = k; is = sym e; from_here = omega arith; new = s }
     at false s (inr l) later = later xs l
 
-public_differ : (cs : List (List ℕ)) (n k : ℕ) (xs : List Variable) → k + n ≤ 2 ^ 64 → Distinct (values_in (public_tried cs n k xs))
-public_differ cs zero k xs h = tt
-public_differ cs (suc n) k [] h = tt
-public_differ cs (suc n) k (x ∷ xs) h = at (is_listed (public_name k) cs) (λ ys. public_differ cs n (suc k) ys (omega arith))
+public_differ : (cs : List (List ℕ)) (n k : ℕ) (xs : List Variable) → Distinct (values_in (public_tried cs n k xs))
+public_differ cs zero k xs = tt
+public_differ cs (suc n) k [] = tt
+public_differ cs (suc n) k (x ∷ xs) = at (is_listed (public_name k) cs) (λ ys. public_differ cs n (suc k) ys)
   where
     again : Member (constant (public_name k)) (values_in (public_tried cs n (suc k) xs)) → ⊥
     again m =
         let g = public_from cs n (suc k) xs (constant (public_name k)) m in
         let from_here = g.from_here in
-        let below = g.below in
         let names : public_name k ≡ public_name g.number = (let e = g.is in cc) in
-        let same = public_names_differ k g.number (omega arith) (omega arith) names in
+        let same = public_names_differ k g.number names in
         omega arith
 
     at : (b : Bool) → ((ys : List Variable) → Distinct (values_in (public_tried cs n (suc k) ys)))
@@ -259,15 +254,6 @@ among_either (y ∷ ys) x m = at y.sort m (λ k. among_either ys x k)
     at Msg (inl e) later = inr (inl e)
     at Msg (inr k) later = ⊎_elim (λ l. inl l) (λ l. inr (inr l)) (later k)
 
-others_fewer : (xs : List Variable) → length (others_among xs) ≤ length xs
-others_fewer [] = omega arith
-others_fewer (x ∷ xs) = at x.sort (others_fewer xs)
-  where
-    at : (s : Sort) → length (others_among xs) ≤ length xs → length (if_fresh s (others_among xs) (x ∷ others_among xs)) ≤ suc (length xs)
-    at Fresh h = omega arith
-    at Pub h = omega arith
-    at Msg h = omega arith
-
 abbrev Sorted : Bound → Type 0
 Sorted b = HasSort b.0.sort b.1
 
@@ -308,9 +294,6 @@ fresh_variables : (n : ℕ) (xs : List Variable) → variables_in (fresh_given n
 fresh_variables n [] = refl
 fresh_variables n (x ∷ xs) = ap (λ (ys : List Variable). x ∷ ys) (fresh_variables (suc n) xs)
 
-room_given : (cs : List (List ℕ)) (xs : List Variable) → length xs + length cs < 2 ^ 64 → 1 + Limit cs xs ≤ 2 ^ 64
-room_given cs xs room = let h = others_fewer xs in omega arith
-
 given_variables : (cs : List (List ℕ)) (xs : List Variable) → variables_in (given cs xs) ≡ fresh_among xs ++ others_among xs
 given_variables cs xs =
     map-append (λ (b : Bound). b.0) (fresh_given 1 (fresh_among xs)) (public_given cs (Limit cs xs) 1 (others_among xs))
@@ -326,10 +309,10 @@ value_given cs xs x m =
 abbrev IsGivenAs : List (List ℕ) → List Variable → Variable → Ground → Type 0
 IsGivenAs cs xs x t = Member (x, t) (fresh_given 1 (fresh_among xs)) ⊎ Member (x, t) (public_tried cs (Limit cs xs) 1 (others_among xs))
 
-given_as : (cs : List (List ℕ)) (xs : List Variable) → length xs + length cs < 2 ^ 64 → (x : Variable) (t : Ground) → lookup (given cs xs) x ≡ Some t → IsGivenAs cs xs x t
-given_as cs xs room x t e =
+given_as : (cs : List (List ℕ)) (xs : List Variable) → (x : Variable) (t : Ground) → lookup (given cs xs) x ≡ Some t → IsGivenAs cs xs x t
+given_as cs xs x t e =
     member_either (x, t) (fresh_given 1 (fresh_among xs)) (public_tried cs (Limit cs xs) 1 (others_among xs))
-    (subst (λ (bs : List Bound). Member (x, t) (fresh_given 1 (fresh_among xs) ++ bs)) (enough cs (Limit cs xs) 1 (others_among xs) (omega arith) (room_given cs xs room))
+    (subst (λ (bs : List Bound). Member (x, t) (fresh_given 1 (fresh_among xs) ++ bs)) (enough cs (Limit cs xs) 1 (others_among xs) (omega arith))
     (found_is_there (given cs xs) x t e))
 
 its_value : (bs : List Bound) (x : Variable) (t : Ground) → Member (x, t) bs → Member t (values_in bs)
@@ -342,19 +325,19 @@ no_both cs xs x y t m k =
     let e : name f.0 ≡ constant (public_name p.number) = sym f.1 ∙ p.is in
     cc
 
-differ : (cs : List (List ℕ)) (xs : List Variable) → length xs + length cs < 2 ^ 64 → (x y : Variable) (t : Ground) → IsGivenAs cs xs x t → IsGivenAs cs xs y t → x ≡ y
-differ cs xs room x y t (inl m) (inl k) = same_value (fresh_given 1 (fresh_among xs)) x y t (fresh_differ 1 (fresh_among xs)) m k
-differ cs xs room x y t (inl m) (inr k) = absurd (no_both cs xs x y t m k)
-differ cs xs room x y t (inr m) (inl k) = absurd (no_both cs xs y x t k m)
-differ cs xs room x y t (inr m) (inr k) =
-    same_value (public_tried cs (Limit cs xs) 1 (others_among xs)) x y t (public_differ cs (Limit cs xs) 1 (others_among xs) (room_given cs xs room)) m k
+differ : (cs : List (List ℕ)) (xs : List Variable) → (x y : Variable) (t : Ground) → IsGivenAs cs xs x t → IsGivenAs cs xs y t → x ≡ y
+differ cs xs x y t (inl m) (inl k) = same_value (fresh_given 1 (fresh_among xs)) x y t (fresh_differ 1 (fresh_among xs)) m k
+differ cs xs x y t (inl m) (inr k) = absurd (no_both cs xs x y t m k)
+differ cs xs x y t (inr m) (inl k) = absurd (no_both cs xs y x t k m)
+differ cs xs x y t (inr m) (inr k) =
+    same_value (public_tried cs (Limit cs xs) 1 (others_among xs)) x y t (public_differ cs (Limit cs xs) 1 (others_among xs)) m k
 
-pub apart : (cs : List (List ℕ)) (xs : List Variable) → length xs + length cs < 2 ^ 64 → (x y : Variable) → Member x xs → Member y xs → value_in (given cs xs) x ≡ value_in (given cs xs) y → x ≡ y
-apart cs xs room x y m k e =
+pub apart : (cs : List (List ℕ)) (xs : List Variable) → (x y : Variable) → Member x xs → Member y xs → value_in (given cs xs) x ≡ value_in (given cs xs) y → x ≡ y
+apart cs xs x y m k e =
     let a = value_given cs xs x m in
     let b = value_given cs xs y k in
     let same : b.0 ≡ a.0 = sym (value_of_found (given cs xs) y b.0 b.1) ∙ sym e ∙ value_of_found (given cs xs) x a.0 a.1 in
-    differ cs xs room x y a.0 (given_as cs xs room x a.0 a.1) (given_as cs xs room y a.0 (b.1 ∙ ap Some same))
+    differ cs xs x y a.0 (given_as cs xs x a.0 a.1) (given_as cs xs y a.0 (b.1 ∙ ap Some same))
 
 not_taken : (cs : List (List ℕ)) (xs : List Variable) (x : Variable) (t : Ground) (c : List ℕ) → Member c cs → t ≡ constant c → IsGivenAs cs xs x t → ⊥
 not_taken cs xs x t c m e (inl k) =
@@ -367,10 +350,10 @@ not_taken cs xs x t c m e (inr k) =
     let same : public_name p.number ≡ c = cc in
     true≢false (sym (listed_member c cs m) ∙ ap (λ (d : List ℕ). is_listed d cs) (sym same) ∙ p.new)
 
-pub others : (cs : List (List ℕ)) (xs : List Variable) → length xs + length cs < 2 ^ 64 → (x : Variable) → Member x xs → (c : List ℕ) → Member c cs → value_in (given cs xs) x ≡ constant c → ⊥
-others cs xs room x m c k e =
+pub others : (cs : List (List ℕ)) (xs : List Variable) → (x : Variable) → Member x xs → (c : List ℕ) → Member c cs → value_in (given cs xs) x ≡ constant c → ⊥
+others cs xs x m c k e =
     let a = value_given cs xs x m in
-    not_taken cs xs x a.0 c k (sym (value_of_found (given cs xs) x a.0 a.1) ∙ e) (given_as cs xs room x a.0 a.1)
+    not_taken cs xs x a.0 c k (sym (value_of_found (given cs xs) x a.0 a.1) ∙ e) (given_as cs xs x a.0 a.1)
 
 -- ---- each variable that stands somewhere is one of those that are named
 

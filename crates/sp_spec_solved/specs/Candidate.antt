@@ -8,8 +8,8 @@ use Rattle.sp_spec.specs.Log.{Entry, step, send, learn, How, Source, fresh_rule,
 use Rattle.sp_spec.specs.Log as log
 use Rattle.sp_spec_system.specs.System.{Way, anyhow, public_name, own_name, constructed, chain_begun, chain_done, Happening, rule_step, sending, learning, Event, Link, System, happening_premises}
 use Rattle.sp_spec_system.specs.Order.{is_cyclic}
-use Rattle.sp_solved.specs.Listing.{in_order}
-use Rattle.sp_solved.specs.Naming.{if_fresh, values_of}
+use Rattle.sp_spec_solved.specs.Listing.{in_order}
+use Rattle.sp_spec_solved.specs.Naming.{if_fresh, values_of}
 
 -- ---- which systems suggest one
 

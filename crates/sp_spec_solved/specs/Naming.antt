@@ -1,6 +1,6 @@
 -- Values for the variables that are left in a list of events: fresh names ~n1, ~n2, .. for the fresh ones, and public names 'a1', 'a2', .. for
 -- the others, but those that the theory has. Source: CSF 2012, "Constraint solving" (extracting an attack from a solved system).
-use Rattle.std.specs.Prelude.{ℕ, zero, suc, ◌+◌, Bool, false, ◌||◌, if◌then◌else◌, List, [], ◌∷◌, ◌++◌, length, codes, decimal}
+use Rattle.std.specs.Prelude.{ℕ, zero, suc, ◌+◌, Bool, false, ◌||◌, if◌then◌else◌, List, [], ◌∷◌, ◌++◌, length, codes}
 use Rattle.sp_spec.specs.Term.{Sort, Msg, Fresh, Pub, Variable, Term, constant, name, Values}
 use Rattle.sp_spec.specs.Same.{same_variable}
 pub use Rattle.sp_spec.specs.Term.{in_term, in_terms}
@@ -8,6 +8,7 @@ pub use Rattle.sp_spec.specs.Rule.{in_facts, in_actions, occurrences}
 use Rattle.sp_spec.specs.Written.{is_listed}
 use Rattle.sp_law_equal.specs.Matching.{Bound, value_in}
 use Rattle.sp_spec_system.specs.System.{Way, chain_begun, chain_done, Happening, rule_step, sending, learning, Event}
+use Rattle.sp_spec_solved.specs.Numeral.{numeral}
 
 -- ---- the variables, in the order in which they first stand
 
@@ -64,7 +65,7 @@ fresh_given n [] = []
 fresh_given n (x ∷ xs) = (x, name n) ∷ fresh_given (suc n) xs
 
 abbrev pub public_name : ℕ → List ℕ
-public_name k = codes "a" ++ decimal k
+public_name k = codes "a" ++ numeral k
 
 -- the public names from a number on, as far as so many names go, but those of the theory; the last for all variables that are left then
 abbrev pub public_given : List (List ℕ) → ℕ → ℕ → List Variable → List Bound

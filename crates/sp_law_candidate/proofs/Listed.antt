@@ -6,8 +6,8 @@ use Rattle.sp_spec.specs.Lists.{Every}
 use Rattle.sp_spec.proofs.Lists.{every_parts, every_append}
 use Rattle.sp_spec_system.specs.System.{Event}
 use Rattle.sp_spec_system.specs.Order.{is_before}
-use Rattle.sp_solved.specs.Listing.{some_before, passed, first_free, one_by_one}
-use Rattle.sp_solved.specs.Laws.{StandBehind}
+use Rattle.sp_spec_solved.specs.Listing.{some_before, passed, first_free, one_by_one}
+use Rattle.sp_law_candidate.specs.Laws.{StandBehind}
 
 -- what is taken stands between two parts, and none that was left is before it
 pub record IsTaken (order : List (ℕ × ℕ)) (left events : List Event) (e : Event) (others : List Event) : Type 0 where

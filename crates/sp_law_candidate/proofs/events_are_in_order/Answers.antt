@@ -1,6 +1,6 @@
 use Rattle.std.proofs.Common.{length, refl}
-use Rattle.sp_solved.proofs.Listed.{all_listed, stand_behind}
-use Rattle.sp_solved.proofs.events_are_in_order.Goals as goal
+use Rattle.sp_law_candidate.proofs.Listed.{all_listed, stand_behind}
+use Rattle.sp_law_candidate.proofs.events_are_in_order.Goals as goal
 
 pub returns : goal.returns
 returns c = record {

@@ -1,0 +1,8 @@
+use Rattle.std.proofs.Common.{◌≡◌, map, drop}
+use Rattle.sp_formula.specs.FormulaView.{formula_of}
+use Rattle.sp_system.specs.SystemView.{system_of}
+use Rattle.sp_spec_formula.specs.Last as rows
+use Rattle.sp_rows_formula.proofs.last.some_behind_all.Given as goal
+
+abbrev pub invariant-loop-formula : goal.invariant-loop-formula
+invariant-loop-formula l = rows.some_behind_all (system_of l.system) (system_of l.system).formulas ≡ rows.some_behind_all (system_of l.system) (map formula_of (drop l.formula-index l.formula-items))

@@ -1,0 +1,4 @@
+pub mod Listing
+pub mod Numeral
+pub mod Naming
+pub mod Candidate
