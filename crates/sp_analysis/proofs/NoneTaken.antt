@@ -1,5 +1,5 @@
 -- No lemma takes another as yet: so what comes of the lemmas behind one is what comes of them alone.
-use Rattle.std.proofs.Common.{◌≡◌, ℕ, List, [], ◌∷◌, ◌++◌, Option, refl, sym, ap, subst}
+use Rattle.std.proofs.Common.{◌≡◌, ℕ, List, [], ◌∷◌, Option, refl, sym, ap, subst}
 use Rattle.sp_spec.specs.Theory.{Lemma}
 use Rattle.sp_spec.specs.Guarded.{Guarded}
 use Rattle.sp_spec_text.specs.Verdict.{Verdict}

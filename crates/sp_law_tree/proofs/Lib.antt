@@ -9,3 +9,4 @@ pub mod OverLogs
 pub mod Listed
 pub mod Suited
 pub mod WellMadeEnds
+pub mod Roots

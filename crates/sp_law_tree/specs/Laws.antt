@@ -1,12 +1,16 @@
 -- What an accepted tree shows, and what growth owes.
-use Rattle.std.specs.Prelude.{◌≡◌, [], ◌∷◌, Some, None, true, false, ℕ, ◌≤◌}
+use Rattle.std.specs.Prelude.{◌≡◌, ◌⊎◌, [], ◌∷◌, Some, None, true, false, ℕ, ◌≤◌}
+use Rattle.sp_spec.specs.Signature.{Signature}
+use Rattle.sp_spec.specs.Term.{Names}
+use Rattle.sp_spec.specs.Formula.{Formula}
 use Rattle.sp_spec.specs.Theory.{Theory, Lemma, signature_of}
 use Rattle.sp_spec_system.specs.System.{System}
 use Rattle.sp_spec_system.specs.Numbered.{names_in}
 use Rattle.sp_law_system.specs.Proofs.{IsWellMade}
-use Rattle.sp_law_cover.specs.Admitted.{HasNoAdmitted}
+use Rattle.sp_law_cover.specs.Admitted.{start, Admits, HasNoAdmitted}
 use Rattle.sp_law_cover.specs.Contexts.{IsContextOf}
-use Rattle.sp_spec_system.specs.Move.{Root, root_formulas, Context, end_log}
+use Rattle.sp_spec_system.specs.Move.{Root, root_formulas, root_system, Context, end_log}
+use Rattle.sp_spec_system.specs.Solutions.{Solves}
 use Rattle.sp_spec_proof.specs.Tree.{Tree, IsAccepted, IsFinished, found_log, steps}
 use Rattle.sp_spec.specs.Log.{Log}
 use Rattle.sp_law_system.specs.Rules.{SuitsProofs, RulesAreNumbered}
@@ -17,7 +21,7 @@ use Rattle.sp_spec.specs.Constants.{constants_of}
 use Rattle.sp_spec.specs.Findings.{rule_is_wrong}
 use Rattle.sp_spec.specs.Guarded.{Guarded}
 use Rattle.sp_spec.specs.Verdict.{names_learning, HoldsInAll, HoldsInNone, HoldsInAllLogs, HoldsInNoLog}
-use Rattle.sp_law_equal.specs.NormalForms.{HasNormalForms}
+use Rattle.sp_law_equal.specs.NormalForms.{HaveNormalForms, HasNormalForms}
 use Rattle.sp_law_equal.specs.Right.{KeepPublic}
 use Rattle.sp_law_guard.specs.GuardedForm.{negate}
 use Rattle.sp_law_guard.specs.CheckedForm.{checked_form}
@@ -42,6 +46,21 @@ pub record AcceptedTreesShow : Type 0 where
 pub record EndsAreWellMade : Type 0 where
   pub ends : (theory : Theory) → SuitsProofs theory → (context : Context) → IsContextOf theory context → (s : System) → IsWellMade context s
       → (tree : Tree) (log : Log) → found_log context s tree ≡ Some log → (t : System) × IsWellMade context t × (end_log context t ≡ Some log)
+
+-- a formula from which a proof may begin: the guarded form of a basic formula with these names, or the negation of that form
+abbrev pub IsRightForm : Signature → Names → Guarded → Type 0
+IsRightForm signature N h =
+    (f : Formula) × IsBasicFormula signature f × HasNames N f × (g : Guarded) × (checked_form f ≡ Some g) × ((h ≡ g) ⊎ (h ≡ negate g))
+
+-- each of the formulas of the root is such a one
+abbrev pub IsRightRoot : Theory → Context → Root → Type 0
+IsRightRoot theory context r = Every (IsRightForm (signature_of theory) (names_in context.public_names)) (root_formulas r)
+
+-- The system in which a proof begins is well made; and an admitted log solves it, under the values with which a proof begins.
+pub record RootsAreSolved : Type 0 where
+  pub well_made : (theory : Theory) (context : Context) (r : Root) → IsRightRoot theory context r → IsWellMade context (root_system r)
+  pub solved : (theory : Theory) → HaveNormalForms (signature_of theory).equations → (context : Context) (r : Root) → context.root ≡ Some r → IsRightRoot theory context r
+      → (log : Log) → Admits theory context log → Solves theory log start (root_system r)
 
 -- A proof in the context begins from this formula alone: there is no restriction, and nothing is taken.
 pub record BeginsWith (context : Context) (f : Guarded) : Type 0 where

@@ -5,7 +5,7 @@
 // within its budget of steps. All is said of the definitions.
 #![tactic(auto)]
 
-ghost use Rattle.sp_law_tree.specs.Laws.{AcceptedTreesShow, EndsAreWellMade, TreesShowLogs, RightTheoriesSuit, LemmasAreShown, NamesStand, GrowthIsAccepted};
+ghost use Rattle.sp_law_tree.specs.Laws.{AcceptedTreesShow, EndsAreWellMade, RootsAreSolved, TreesShowLogs, RightTheoriesSuit, LemmasAreShown, NamesStand, GrowthIsAccepted};
 
 /// The root of an accepted tree that is finished has no solution; where the search ends at a leaf, the tree has a log.
 pub fn accepted_trees_show()
@@ -15,6 +15,11 @@ pub fn accepted_trees_show()
 /// The search ends, if it does, at a system that is well made.
 pub fn ends_are_well_made()
     ensures { EndsAreWellMade }
+{}
+
+/// The system in which a proof begins is well made, and each admitted log solves it.
+pub fn roots_are_solved()
+    ensures { RootsAreSolved }
 {}
 
 /// What finished trees show of learning logs.
