@@ -5,7 +5,7 @@ use Rattle.sp_spec.specs.Lists.{newest_first}
 use Rattle.sp_spec.specs.Same.{same_term}
 use Rattle.sp_spec.specs.Term.{Ground}
 use Rattle.sp_spec.specs.Log.{How, Log, step, send, learn}
-use Rattle.sp_spec.proofs.Lists.{length_map, newest_last}
+use Rattle.sp_spec.proofs.Lists.{newest_last}
 use Rattle.sp_law_adversary.specs.Learning.{way_learnt, is_learnt}
 use Rattle.sp_learn.specs.declared.log.Entry as memory
 use Rattle.sp_learn.specs.declared.log.Entry.TheVariants.{Step, Send, Learn}
@@ -58,9 +58,6 @@ mapped_some f None = refl
 mapped_some f (Some x) = refl
 
 -- as many
-newest_length : {A : Type 0} (xs : List A) → length (newest_first xs) ≡ length xs
-newest_length [] = refl
-newest_length (x ∷ xs) = let e = newest_length xs in length_push (newest_first xs) x ∙ omega (arith, e)
-
 pub log_length : (entries : List memory.Entry) → length (log_in entries) ≡ length entries
-log_length entries = newest_length (map entry_of entries) ∙ length_map entry_of entries
+log_length [] = refl
+log_length (entry ∷ entries) = let e = log_length entries in length_push (log_in entries) (entry_of entry) ∙ omega (arith, e)
