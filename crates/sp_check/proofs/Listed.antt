@@ -8,7 +8,7 @@ use Rattle.sp_spec_system.specs.System.{System}
 use Rattle.sp_spec_system.specs.Move.{Context, Case, end_log, systems_in}
 use Rattle.sp_spec_proof.specs.Cases.{cases}
 use Rattle.sp_spec_proof.specs.Tree.{is_solved, first_log}
-use Rattle.sp_check.specs.Skeleton.{Step, known, unbuilt, unknown, Skeleton, node_read, none_read, branch_names}
+use Rattle.sp_check.specs.Skeleton.{Step, known, unknown, Skeleton, node_read, none_read, branch_names}
 use Rattle.sp_check.specs.Nodes.{NodeRead, with_names, cases_at, over, tree_read, node_walked, walk_all}
 use Rattle.sp_check.specs.Judging.{Checked, fails, leads_to, ends_with, are_named, cases_checked, log_checked, step_checked, NodesJudged, passed, stopped, walked_on, walk, walk_checked}
 use Rattle.sp_spec_text.specs.Verdict.{clause_cases}
@@ -45,7 +45,6 @@ move_fits names ends o false = cases_fit names o
 
 step_fits : (context : Context) (s : System) (step : Step) (names : List (List ℕ)) → Fits names (step_checked context s step names)
 step_fits context s (known move) names = move_fits names (end_log context s) (cases context s move) (is_solved move)
-step_fits context s (unbuilt text) names = tt
 step_fits context s (unknown text) names = tt
 
 module _ (context : Context) where

@@ -2,7 +2,7 @@
 use Rattle.std.proofs.Common.{◌≡◌, ℕ, List, Bool, true, false, Some, refl, sym, ap}
 use Rattle.std.specs.Prelude.{◌||◌}
 use Rattle.std.proofs.lemmas.Bool.{false≢true}
-use Rattle.sp_spec_system.specs.Move.{Move, simplify, contradiction, unproved, solved, or, action, premise, know, chain}
+use Rattle.sp_spec_system.specs.Move.{Move, unproved, solved}
 use Rattle.sp_spec_proof.specs.Tree.{Tree, node, Branches, no_branch, branch, IsLeft, IsFinished, AreFinished, is_solved}
 use Rattle.sp_spec_proof.specs.Growth.{has_end, some_end}
 use Rattle.sp_spec_proof.specs.Tree as tree
@@ -19,15 +19,9 @@ both P Q false true c d f g = (λ _ e. absurd (false≢true (sym e)), λ h. g.1 
 both P Q false false c d f g = (λ e l. (f.0 refl refl, g.0 e l), λ h. g.1 h.1)
 
 left_at : (move : Move) → Neither (is_open (known move)) (is_solved move) (IsLeft move → ⊥)
-left_at simplify = (λ _ _ h. h, λ _. refl)
-left_at contradiction = (λ _ _ h. h, λ _. refl)
 left_at unproved = (λ e _. absurd (false≢true (sym e)), λ h. absurd (h tt))
 left_at solved = (λ _ e. absurd (false≢true (sym e)), λ h. absurd (h tt))
-left_at (or k) = (λ _ _ h. h, λ _. refl)
-left_at (action k) = (λ _ _ h. h, λ _. refl)
-left_at (premise i p) = (λ _ _ h. h, λ _. refl)
-left_at (know i) = (λ _ _ h. h, λ _. refl)
-left_at (chain i) = (λ _ _ h. h, λ _. refl)
+left_at move = (λ _ _ h. h, λ _. refl)
 
 at_tree : (step : Step) (move : Move) (bs : BranchesRead) (t : Tree) (branches : Branches) → step ≡ known move → t ≡ node move branches
     → Neither (has_open (node_read (known move) bs)) (has_end (node move branches)) (IsFinished (node move branches)) → Neither (has_open (node_read step bs)) (has_end t) (IsFinished t)

@@ -5,7 +5,7 @@ use Rattle.sp_spec_system.specs.System.{System}
 use Rattle.sp_spec_system.specs.Move.{Move, Context, Case}
 use Rattle.sp_spec_proof.specs.Cases.{cases}
 use Rattle.sp_spec_proof.specs.Tree.{Tree, node, Branches, no_branch, branch, IsAccepted, AreAccepted, is_solved, first_log, found_log, found_below}
-use Rattle.sp_check.specs.Skeleton.{Step, known, unbuilt, unknown, Skeleton, node_read, BranchesRead, none_read, branch_read, branch_names, tree_of, branches_of}
+use Rattle.sp_check.specs.Skeleton.{Step, known, unknown, Skeleton, node_read, BranchesRead, none_read, branch_read, branch_names, tree_of, branches_of}
 use Rattle.sp_check.specs.Rejected.{case_names, IsFine, ReadIsAccepted}
 
 -- what a node is that stands for a tree
@@ -17,7 +17,6 @@ pub record NodeIs (step : Step) (bs : BranchesRead) (t : Tree) : Type 0 where
   pub tree_is : t ≡ node move branches
 
 pub node_is : (step : Step) (bs : BranchesRead) (t : Tree) → tree_of (node_read step bs) ≡ Some t → NodeIs step bs t
-node_is (unbuilt text) bs t e = absurd (let none : ⊥ = cc in none)
 node_is (unknown text) bs t e = absurd (let none : ⊥ = cc in none)
 node_is (known move) bs t e = by_branches (branches_of bs) refl e
   where

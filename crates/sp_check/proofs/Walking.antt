@@ -3,11 +3,11 @@ use Rattle.std.proofs.Common.{◌≡◌, ℕ, ◌+◌, Bool, true, false, if◌t
 use Rattle.std.proofs.lemmas.Bool.{false≢true}
 use Rattle.sp_spec.specs.Log.{Log}
 use Rattle.sp_spec_system.specs.System.{System}
-use Rattle.sp_spec_system.specs.Move.{Move, simplify, contradiction, unproved, solved, or, action, premise, know, chain, Context, Case, end_log}
+use Rattle.sp_spec_system.specs.Move.{Move, solved, Context, Case, end_log}
 use Rattle.sp_spec_proof.specs.Cases.{cases}
 use Rattle.sp_spec_proof.specs.Tree.{node, no_branch, IsAccepted, AreAccepted, is_solved, first_log}
 use Rattle.sp_spec_proof.proofs.Logs.{log_last, log_regroup}
-use Rattle.sp_check.specs.Skeleton.{known, unbuilt, unknown, Skeleton, node_read, BranchesRead, none_read, branch_read, branch_names, nodes, nodes_in}
+use Rattle.sp_check.specs.Skeleton.{known, unknown, Skeleton, node_read, BranchesRead, none_read, branch_read, branch_names, nodes, nodes_in}
 use Rattle.sp_check.specs.Rejected.{case_names, IsRejectedAt, AreRejectedAt}
 use Rattle.sp_spec_text.specs.Verdict.{clause_cases}
 use Rattle.sp_check.specs.Judging.{are_named, fails, leads_to, cases_checked, log_checked, NodesJudged, passed, stopped, walked_on, walk, walk_checked}
@@ -77,15 +77,8 @@ first_tells context before met c cs name k bs e (stopped n clause) h later = (h.
 mutual
   pub walk_tells : (context : Context) (before : ℕ) (met : Option Log) (s : System) (k : Skeleton) → WalkTells context before met s k (walk context before met s k)
   walk_tells context before met s (node_read (known solved) bs) = end_tells context before met s bs (end_log context s) refl
-  walk_tells context before met s (node_read (known simplify) bs) = cases_tell context before met s simplify refl bs (λ cs names. branches_tell context (before + 1) met cs bs names) (cases context s simplify) refl
-  walk_tells context before met s (node_read (known contradiction) bs) = cases_tell context before met s contradiction refl bs (λ cs names. branches_tell context (before + 1) met cs bs names) (cases context s contradiction) refl
-  walk_tells context before met s (node_read (known unproved) bs) = cases_tell context before met s unproved refl bs (λ cs names. branches_tell context (before + 1) met cs bs names) (cases context s unproved) refl
-  walk_tells context before met s (node_read (known (or i)) bs) = cases_tell context before met s (or i) refl bs (λ cs names. branches_tell context (before + 1) met cs bs names) (cases context s (or i)) refl
-  walk_tells context before met s (node_read (known (action i)) bs) = cases_tell context before met s (action i) refl bs (λ cs names. branches_tell context (before + 1) met cs bs names) (cases context s (action i)) refl
-  walk_tells context before met s (node_read (known (premise i p)) bs) = cases_tell context before met s (premise i p) refl bs (λ cs names. branches_tell context (before + 1) met cs bs names) (cases context s (premise i p)) refl
-  walk_tells context before met s (node_read (known (know i)) bs) = cases_tell context before met s (know i) refl bs (λ cs names. branches_tell context (before + 1) met cs bs names) (cases context s (know i)) refl
-  walk_tells context before met s (node_read (known (chain i)) bs) = cases_tell context before met s (chain i) refl bs (λ cs names. branches_tell context (before + 1) met cs bs names) (cases context s (chain i)) refl
-  walk_tells context before met s (node_read (unbuilt text) bs) = (1, refl, inl (refl, (tt, refl)))
+  walk_tells context before met s (node_read (known move) bs) =
+      cases_tell context before met s move refl bs (λ cs names. branches_tell context (before + 1) met cs bs names) (cases context s move) refl
   walk_tells context before met s (node_read (unknown text) bs) = (1, refl, inl (refl, λ h. h))
 
   pub branches_tell : (context : Context) (before : ℕ) (met : Option Log) (cs : List Case) (bs : BranchesRead) → branch_names bs ≡ case_names cs

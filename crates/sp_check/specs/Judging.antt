@@ -5,7 +5,7 @@ use Rattle.sp_spec_system.specs.System.{System}
 use Rattle.sp_spec_system.specs.Move.{Move, Context, Case, end_log}
 use Rattle.sp_spec_proof.specs.Cases.{cases}
 use Rattle.sp_spec_proof.specs.Tree.{is_solved, first_log}
-use Rattle.sp_check.specs.Skeleton.{Step, known, unbuilt, unknown, Skeleton, node_read, BranchesRead, none_read, branch_read, branch_names, has_open}
+use Rattle.sp_check.specs.Skeleton.{Step, known, unknown, Skeleton, node_read, BranchesRead, none_read, branch_read, branch_names, has_open}
 use Rattle.sp_spec_text.specs.Verdict.{Clause, clause_move, clause_instance, clause_cases}
 
 -- What comes of a tree: the number of the step that is rejected, and the clause that it fails of; else the log of the first leaf with
@@ -46,7 +46,6 @@ move_checked context s move names = if is_solved move then log_checked names (en
 
 abbrev pub step_checked : Context → System → Step → List (List ℕ) → Checked
 step_checked context s (known move) names = move_checked context s move names
-step_checked context s (unbuilt text) names = fails clause_instance
 step_checked context s (unknown text) names = fails clause_move
 
 -- What comes of a walk in preorder: no node fails, so many have been met by then, and this is the first log that has; or the node of this

@@ -5,18 +5,16 @@ use Rattle.sp_spec_system.specs.System.{System}
 use Rattle.sp_spec_system.specs.Move.{Context, Case}
 use Rattle.sp_spec_proof.specs.Cases.{cases}
 use Rattle.sp_spec_proof.specs.Tree.{Tree, IsAccepted}
-use Rattle.sp_check.specs.Skeleton.{Step, known, unbuilt, unknown, Skeleton, node_read, BranchesRead, none_read, branch_read, branch_names, tree_of, nodes}
+use Rattle.sp_check.specs.Skeleton.{Step, known, unknown, Skeleton, node_read, BranchesRead, none_read, branch_read, branch_names, tree_of, nodes}
 use Rattle.sp_spec_text.specs.Verdict.{Clause, clause_move, clause_instance, clause_cases}
 
 abbrev pub IsMove : Step → Type 0
 IsMove (known move) = Unit {0}
-IsMove (unbuilt text) = Unit {0}
 IsMove (unknown text) = ⊥
 
 -- the cases of what a node says; none where it is no instance
 abbrev pub step_cases : Context → System → Step → Option (List Case)
 step_cases context s (known move) = cases context s move
-step_cases context s (unbuilt text) = None
 step_cases context s (unknown text) = None
 
 abbrev pub case_names : List Case → List (List ℕ)

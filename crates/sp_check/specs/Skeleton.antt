@@ -4,10 +4,9 @@ use Rattle.sp_spec_system.specs.Move.{Move}
 use Rattle.sp_spec_proof.specs.Tree.{Tree, node, Branches, no_branch, branch, step_of}
 use Rattle.sp_spec_proof.specs.Growth.{is_unproved}
 
--- What a node's text says: a move; a move of which there are no instances yet, by its text; or no move.
+-- What a node's text says: a move, or no move, by its text.
 pub data Step : Type 0 where
   known : Move → Step
-  unbuilt : List ℕ → Step
   unknown : List ℕ → Step
 
 mutual
@@ -26,7 +25,6 @@ branch_names (branch_read name k branches) = name ∷ branch_names branches
 -- the tree, if each node says a known move
 abbrev pub node_of : Step → Option Branches → Option Tree
 node_of (known move) branches = option_map (node move) branches
-node_of (unbuilt text) branches = None
 node_of (unknown text) branches = None
 
 abbrev mutual
@@ -49,7 +47,6 @@ abbrev mutual
 -- how many nodes aren't open leaves
 abbrev pub steps_at : Step → ℕ
 steps_at (known move) = step_of move
-steps_at (unbuilt text) = 1
 steps_at (unknown text) = 1
 
 abbrev mutual
@@ -63,7 +60,6 @@ abbrev mutual
 -- whether some node is an open leaf
 abbrev pub is_open : Step → Bool
 is_open (known move) = is_unproved move
-is_open (unbuilt text) = false
 is_open (unknown text) = false
 
 abbrev mutual

@@ -10,7 +10,7 @@ use Rattle.sp_check.specs.Skeleton as spec
 use Rattle.sp_spec_text.specs.Verdict as clause
 use Rattle.sp_check.specs.Judging as judging
 use Rattle.sp_check.specs.declared.skeleton.Step.{Step}
-use Rattle.sp_check.specs.declared.skeleton.Step.TheVariants.{Known, Unbuilt, Unknown}
+use Rattle.sp_check.specs.declared.skeleton.Step.TheVariants.{Known, Unknown}
 use Rattle.sp_check.specs.declared.skeleton.Node.{Node}
 use Rattle.sp_check.specs.declared.skeleton.Skeleton.{Skeleton}
 use Rattle.sp_check.specs.declared.judging.Clause.{Clause}
@@ -24,7 +24,6 @@ use Rattle.sp_check.specs.declared.judging.NodesJudged.TheVariants.{Passed, Stop
 
 abbrev pub step_of : Step → spec.Step
 step_of (Known move) = spec.known (move_of move)
-step_of (Unbuilt text) = spec.unbuilt text.items
 step_of (Unknown text) = spec.unknown text.items
 
 abbrev pub node_of : Node → NodeRead

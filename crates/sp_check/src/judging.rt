@@ -94,10 +94,10 @@ fn cases_checked(
     alloc: Global,
     context: &Context,
     system: &System,
-    chosen: Move,
+    chosen: &Move,
     names: &Vec<String>,
 ) -> Result<Checked, AllocError>
-    ensures { IfOk result (λ c. checked_of c ≡ spec.cases_checked (map string_bytes names.now.items) (moves.cases (context_of context.now) (system_of system.now) (move_of chosen))) }
+    ensures { IfOk result (λ c. checked_of c ≡ spec.cases_checked (map string_bytes names.now.items) (moves.cases (context_of context.now) (system_of system.now) (move_of chosen.now))) }
 {
     match cases(alloc, context, system, chosen)? {
         Some(found) => Ok(names_checked(found, names)),
@@ -129,10 +129,10 @@ fn move_checked(
     alloc: Global,
     context: &Context,
     system: &System,
-    chosen: Move,
+    chosen: &Move,
     names: &Vec<String>,
 ) -> Result<Checked, AllocError>
-    ensures { IfOk result (λ c. checked_of c ≡ spec.move_checked (context_of context.now) (system_of system.now) (move_of chosen) (map string_bytes names.now.items)) }
+    ensures { IfOk result (λ c. checked_of c ≡ spec.move_checked (context_of context.now) (system_of system.now) (move_of chosen.now) (map string_bytes names.now.items)) }
 {
     match chosen {
         Move::Solved => log_checked(alloc, context, system, names),
@@ -149,8 +149,7 @@ fn node_checked(
     ensures { IfOk result (λ c. checked_of c ≡ spec.step_checked (context_of context.now) (system_of system.now) (step_of node.now.step) (map string_bytes node.now.cases.items)) }
 {
     match &node.step {
-        Step::Known(chosen) => move_checked(alloc, context, system, *chosen, &node.cases),
-        Step::Unbuilt(_) => Ok(Checked::Fails(Clause::Instance)),
+        Step::Known(chosen) => move_checked(alloc, context, system, chosen, &node.cases),
         Step::Unknown(_) => Ok(Checked::Fails(Clause::Move)),
     }
 }

@@ -11,8 +11,6 @@ use std::alloc::{AllocError, Global};
 pub enum Step {
     /// a move
     Known(Move),
-    /// a move of which there are no instances yet, by its text
-    Unbuilt(Vec<u8>),
     /// no move, by its text
     Unknown(Vec<u8>),
 }

@@ -212,6 +212,7 @@ module _ (N : Names) (right : UnifierIsRight) (theory : Theory) (suits : SuitsPr
   raw_numbered context r s (premise i p) cs e n = premise_numbered N right theory good each_numbered whole s n i p cs (by_premise_rules context r s i p cs e)
   raw_numbered context r s (know i) cs e n = know_numbered N theory good each_numbered whole s n i cs (by_know_rules context r s i cs e)
   raw_numbered context r s (chain i) cs e n = chain_numbered N right theory suits.instances s n i cs (by_chain_rules context r s i cs e)
+  raw_numbered context r s move cs e n = absurd cc
 
   raw_covers : (context : Context) → context.rules ≡ rules_of theory → (s : System) (move : Move) (cs : List Case) → raw_cases context s move ≡ Some cs
       → (move ≡ unproved → ⊥) → (move ≡ solved → ⊥) → IsNumbered N s → ((k : ℕ) → N (fresh_name k) → ⊥) → Covers theory s (systems_in cs)
@@ -232,6 +233,7 @@ module _ (N : Names) (right : UnifierIsRight) (theory : Theory) (suits : SuitsPr
   raw_covers context r s (premise i p) cs e not_open not_end n no_names = premise_covers N right theory good each_numbered whole s n i p cs (by_premise_rules context r s i p cs e)
   raw_covers context r s (know i) cs e not_open not_end n no_names = know_covers N theory good each_numbered whole no_names s n i cs (by_know_rules context r s i cs e)
   raw_covers context r s (chain i) cs e not_open not_end n no_names = chain_covers N right theory suits.instances s n i cs (by_chain_rules context r s i cs e)
+  raw_covers context r s move cs e not_open not_end n no_names = absurd cc
 
 module _ (right : UnifierIsRight) (theory : Theory) (suits : SuitsProofs theory) (equal_truth : EqualTruth) where
   -- the cases, each simplified

@@ -55,3 +55,4 @@ raw_once context s (action k) cs e n h =
 raw_once context s (premise i p) cs e n h = premise_once context.rules.forms s n h i p cs e
 raw_once context s (know i) cs e n h = know_once context.rules s n h i cs e
 raw_once context s (chain i) cs e n h = chain_once (destructions context.rules.signature) s n h i cs e
+raw_once context s move cs e n h = absurd cc

@@ -1,5 +1,6 @@
 -- Each row covers, a contradiction has no solution, and so simplification covers.
-use Rattle.std.proofs.Common.{◌≡◌, ◌≤◌, ℕ, zero, suc, Bool, true, false, ◌||◌, List, [], ◌∷◌, ◌++◌, Option, Some, None, refl, sym, ap, subst, ◌∙◌, inl, inr, ⊎_elim, le_refl, le_trans}
+use Rattle.std.proofs.Common.{◌≡◌, ◌≤◌, ℕ, zero, suc, Bool, true, false, ◌||◌, if◌then◌else◌, List, [], ◌∷◌, ◌++◌, Option, Some, None, refl, sym, ap, subst, ◌∙◌, inl, inr, ⊎_elim, le_refl, le_trans}
+use Rattle.std.specs.List.{list_any}
 use Rattle.std.proofs.lemmas.Bool.{or_cases}
 use Rattle.std.proofs.lemmas.List.{append_assoc}
 use Rattle.sp_spec.specs.Term.{Names}
@@ -11,15 +12,11 @@ use Rattle.sp_spec_system.specs.Rules.{Rules, rules_of}
 use Rattle.sp_spec_system.specs.Solutions.{Valuation, Solves}
 use Rattle.sp_spec_system.specs.Numbered.{names_in, IsNumbered}
 use Rattle.sp_spec_system.specs.Covering.{Agrees, NoneSolved, Covers}
-use Rattle.sp_spec_system.specs.Order.{is_cyclic}
 use Rattle.sp_law_system.specs.Laws.{UnifierIsRight}
 use Rattle.sp_law_system.proofs.Solutions.{agrees_then}
-use Rattle.sp_spec_proof.specs.Rows.{Row, row_split, row_open, row_equate, row_unequal, row_order, row_last, row_action_stands, row_disjunction, row_send_input, row_send_learnt, row_learn_once, row_linear_once, row_fresh_once, row_settle_learn, row_fresh_first, row_instantiate, rows, by_row, first_of, by_rows, fails_somewhere, is_contradictory, goes_on, simplified_by}
-use Rattle.sp_spec_formula.specs.Split.{has_falsity}
-use Rattle.sp_spec_formula.specs.Unequal.{has_equal_pair}
-use Rattle.sp_spec_formula.specs.InOrder.{has_refuted}
-use Rattle.sp_spec_formula.specs.Last.{fails_to_last, has_later, has_last_refuted, has_unlast}
-use Rattle.sp_spec_graph.specs.SourceTwice.{takes_fr_twice, used_twice, has_source_twice}
+use Rattle.sp_spec_proof.specs.Rows.{Row, row_split, row_open, row_equate, row_unequal, row_order, row_last, row_action_stands, row_disjunction, row_send_input, row_send_learnt, row_learn_once, row_linear_once, row_fresh_once, row_settle_learn, row_fresh_first, row_instantiate, rows, by_row, first_of, by_rows, fails_somewhere, Contradiction, false_formula, equal_unequal_pair, refuted_literal, cyclic_order, source_used_twice, learnt_too_early, reducible_term, failing_row, time_after_last, refuted_last, last_in_closed, contradictions, by_contradiction, is_contradictory, goes_on, simplified_by}
+use Rattle.sp_spec_formula.specs.Last.{fails_to_last}
+use Rattle.sp_spec_graph.specs.SourceTwice.{takes_fr_twice, used_twice}
 use Rattle.sp_spec_graph.specs.ReducibleEvent.{has_reducible}
 use Rattle.sp_spec_system.specs.Picked.{some_two}
 use Rattle.sp_spec_formula.specs.Equate.{fails_to_equate}
@@ -27,8 +24,7 @@ use Rattle.sp_spec_graph.specs.LinearOnce.{fails_to_link}
 use Rattle.sp_spec_graph.specs.FreshOnce.{fails_to_merge}
 use Rattle.sp_spec_graph.specs.LearnOnce.{learn_once, fails_to_learn}
 use Rattle.sp_spec_graph.specs.SettleLearn.{settle_learn}
-use Rattle.sp_spec_graph.specs.LearntEarly.{has_early}
-use Rattle.sp_spec.specs.Lists.{Member, Every}
+use Rattle.sp_spec.specs.Lists.{Member}
 use Rattle.sp_spec_system.specs.Move.{Context}
 use Rattle.sp_law_system.specs.Rules.{SuitsProofs}
 use Rattle.sp_law_system.specs.Proofs.{IsWellMade, IsKept}
@@ -126,32 +122,64 @@ module _ (N : Names) (right : UnifierIsRight) (theory : Theory) (suits : SuitsPr
       (λ c. either (fails_to_link s) (fails_to_merge s) (λ k. links_contradict N right theory s n log is v h k)
       (λ k. merge_contradicts N right theory s k n log is v h) c) b) a) e
 
+  -- each contradiction
+  contradicts : (rules : Rules) → rules ≡ rules_of theory → (s : System) → IsNumbered N s → (log : Log) → IsLog theory log → (v : Valuation) → Solves theory log v s
+      → (c : Contradiction) → by_contradiction rules s c ≡ true → ⊥
+  contradicts rules of s n log is v h false_formula k = some_falsity_contradicts theory log v s.formulas k h.formulas
+  contradicts rules of s n log is v h equal_unequal_pair k = equal_pair_contradicts theory v s.unequal k h.unequal
+  contradicts rules of s n log is v h refuted_literal k = some_refuted_contradicts log v s.order h.order theory s.formulas k h.formulas
+  contradicts rules of s n log is v h cyclic_order k = cyclic_contradicts log v s.order h.order k
+  contradicts rules of s n log is v h source_used_twice k =
+      either (some_two (used_twice s.events) s.links) (takes_fr_twice s.events) (λ l. used_twice_contradicts theory log is v s l h) (λ l. fr_twice_contradicts theory log is v s.events l h.events) k
+  contradicts rules of s n log is v h learnt_too_early k = early_contradicts theory log is v s h k
+  contradicts rules of s n log is v h reducible_term k =
+      reducible_contradicts theory good log is v (λ x. (h.sorts x).0) s.events (subst (λ (x : Rules). has_reducible x.signature.equations s.events ≡ true) of k) h.events
+  contradicts rules of s n log is v h failing_row k = fails_nowhere rules of s n log is v h k
+  contradicts rules of s n log is v h time_after_last k = later_contradicts log v s.last h.last s.order h.order k
+  contradicts rules of s n log is v h refuted_last k = some_last_refuted_contradicts log v theory s.last h.last s.formulas k h.formulas
+  contradicts rules of s n log is v h last_in_closed k = unlast_contradicts log v theory s h k
+
   pub no_solution : (rules : Rules) → rules ≡ rules_of theory → (s : System) → is_contradictory rules s ≡ true → IsNumbered N s → HasNoSolution theory s
-  no_solution rules of s e n log is v h =
-      either (has_falsity s.formulas) _ (λ k. some_falsity_contradicts theory log v s.formulas k h.formulas)
-      (λ a. either (has_equal_pair s.unequal) _ (λ k. equal_pair_contradicts theory v s.unequal k h.unequal)
-      (λ b. either (has_refuted s.order s.formulas) _ (λ k. some_refuted_contradicts log v s.order h.order theory s.formulas k h.formulas)
-      (λ c. either (is_cyclic s.order) _ (λ k. cyclic_contradicts log v s.order h.order k)
-      (λ d. either (has_source_twice s) _
-      (λ k. either (some_two (used_twice s.events) s.links) (takes_fr_twice s.events) (λ l. used_twice_contradicts theory log is v s l h) (λ l. fr_twice_contradicts theory log is v s.events l h.events) k)
-      (λ f. either (has_early s) _ (λ k. early_contradicts theory log is v s h k)
-      (λ g. either (has_reducible rules.signature.equations s.events) _
-      (λ k. reducible_contradicts theory good log is v (λ x. (h.sorts x).0) s.events (subst (λ (x : Rules). has_reducible x.signature.equations s.events ≡ true) of k) h.events)
-      (λ j. either (fails_somewhere s) _ (λ k. fails_nowhere rules of s n log is v h k)
-      (λ l. either (has_later s.last s.order) _ (λ k. later_contradicts log v s.last h.last s.order h.order k)
-      (λ m. either (has_last_refuted s.last s.formulas) (has_unlast s) (λ k. some_last_refuted_contradicts log v theory s.last h.last s.formulas k h.formulas) (λ k. unlast_contradicts log v theory s h k) m)
-      l) j) g) f) d) c) b) a) e
+  no_solution rules of s e n log is v h = none (by_contradiction rules s) (contradicts rules of s n log is v h) contradictions e
+    where
+      none : {A : Type 0} (test : A → Bool) → ((x : A) → test x ≡ true → ⊥) → (xs : List A) → list_any test xs ≡ true → ⊥
+      none test each [] e = cc
+      none test each (x ∷ xs) e = either (test x) (list_any test xs) (each x) (λ k. none test each xs k) e
 
 -- ---- rows in their turn
 
--- a row that stands before another in one way of dividing the list does so in each, where the other doesn't stand before it
-stays_before : (x y : Row) (front rest earlier later : List Row) → front ++ rest ≡ earlier ++ y ∷ later → Every (λ (z : Row). z ≡ y → ⊥) front → Member x front → Member x earlier
-stays_before x y [] rest earlier later e apart m = absurd m
-stays_before x y (z ∷ front) rest [] later e apart m = let first : z ≡ y = cc in absurd (apart.0 first)
-stays_before x y (z ∷ front) rest (w ∷ earlier) later e apart (inl m) = let first : z ≡ w = cc in inl (sym first ∙ m)
-stays_before x y (z ∷ front) rest (w ∷ earlier) later e apart (inr m) =
-    let others : front ++ rest ≡ earlier ++ y ∷ later = cc in
-    inr (stays_before x y front rest earlier later others apart.1 m)
+-- a row of the one kind stands in the list before all of the other
+abbrev stands_before : (Row → Bool) → (Row → Bool) → List Row → Bool
+stands_before first second [] = false
+stands_before first second (x ∷ xs) = if second x then false else first x || stands_before first second xs
+
+-- so it does however the list is divided at one of the other
+before_it : (first second : Row → Bool) (y : Row) → second y ≡ true → (earlier later : List Row) → stands_before first second (earlier ++ y ∷ later) ≡ true
+    → (x : Row) × Member x earlier × (first x ≡ true)
+before_it first second y is [] later e = at (second y) is e
+  where
+    at : (b : Bool) → b ≡ true → (if b then false else first y || stands_before first second later) ≡ true → (x : Row) × Member x [] × (first x ≡ true)
+    at true k l = absurd cc
+    at false k l = absurd cc
+before_it first second y is (z ∷ earlier) later e = at (second z) e (λ k. before_it first second y is earlier later k)
+  where
+    at : (b : Bool) → (if b then false else first z || stands_before first second (earlier ++ y ∷ later)) ≡ true
+        → (stands_before first second (earlier ++ y ∷ later) ≡ true → (x : Row) × Member x earlier × (first x ≡ true)) → (x : Row) × Member x (z ∷ earlier) × (first x ≡ true)
+    at true l again = absurd cc
+    at false l again =
+        ⊎_elim (λ k. (z, inl refl, k)) (λ k. let r = again k in (r.0, inr r.1, r.2)) (or_cases (first z) (stands_before first second (earlier ++ y ∷ later)) l)
+
+abbrev is_learn_once : Row → Bool
+is_learn_once row_learn_once = true
+is_learn_once row = false
+
+abbrev is_fresh_first : Row → Bool
+is_fresh_first row_fresh_first = true
+is_fresh_first row = false
+
+it_is_learn_once : (row : Row) → is_learn_once row ≡ true → row ≡ row_learn_once
+it_is_learn_once row_learn_once e = refl
+it_is_learn_once row e = absurd cc
 
 -- each of the rows that give nothing
 gives_nothing : (rules : Rules) (s : System) (earlier : List Row) → by_rows rules earlier s ≡ None → (row : Row) → Member row earlier → by_row rules row s ≡ None
@@ -167,13 +195,9 @@ gives_nothing rules s (r ∷ earlier) e row m = at (by_row rules r s) refl e m (
 -- when fresh comes first, learn once gives nothing
 learnt_once_by_then : (rules : Rules) (s : System) (row : Row) (t : System) → IsTurn rules s row t → row ≡ row_fresh_first → learn_once s ≡ None
 learnt_once_by_then rules s row t turn is =
-    let front : List Row = row_split ∷ row_open ∷ row_equate ∷ row_unequal ∷ row_order ∷ row_last ∷ row_action_stands ∷ row_disjunction ∷ row_send_input ∷ row_send_learnt ∷ row_learn_once ∷ [] in
-    let rest : List Row = row_linear_once ∷ row_fresh_once ∷ row_settle_learn ∷ row_fresh_first ∷ row_instantiate ∷ [] in
-    let place : front ++ rest ≡ turn.earlier ++ row_fresh_first ∷ turn.later = subst (λ (x : Row). rows ≡ turn.earlier ++ x ∷ turn.later) is turn.place in
-    let apart : Every (λ (z : Row). z ≡ row_fresh_first → ⊥) front =
-    ((λ e. cc), ((λ e. cc), ((λ e. cc), ((λ e. cc), ((λ e. cc), ((λ e. cc), ((λ e. cc), ((λ e. cc), ((λ e. cc), ((λ e. cc), ((λ e. cc), tt))))))))))) in
-    let there : Member row_learn_once front = inr (inr (inr (inr (inr (inr (inr (inr (inr (inr (inl refl)))))))))) in
-    gives_nothing rules s turn.earlier turn.nothing row_learn_once (stays_before row_learn_once row_fresh_first front rest turn.earlier turn.later place apart there)
+    let place : rows ≡ turn.earlier ++ row_fresh_first ∷ turn.later = subst (λ (x : Row). rows ≡ turn.earlier ++ x ∷ turn.later) is turn.place in
+    let found = before_it is_learn_once is_fresh_first row_fresh_first refl turn.earlier turn.later (subst (λ (xs : List Row). stands_before is_learn_once is_fresh_first xs ≡ true) place refl) in
+    gives_nothing rules s turn.earlier turn.nothing row_learn_once (subst (λ (x : Row). Member x turn.earlier) (it_is_learn_once found.0 found.2) found.1)
 
 module _ (right : UnifierIsRight) (theory : Theory) (suits : SuitsProofs theory) (equal_truth : EqualTruth) where
   pub rows_cover : RowsCover theory

@@ -18,7 +18,7 @@ use Rattle.sp_spec_text.specs.Theories.{SpellsLemma, SpellsDeclaration, SpellsPr
 use Rattle.sp_read_theory.specs.Items.{the_end}
 use Rattle.sp_spec_text.specs.Texts.{IsTextOf, ArePlaces}
 use Rattle.sp_read_theory.proofs.One.{lemmas_one}
-use Rattle.sp_read_theory.proofs.Declared.{StartsWord, declaration_one, declaration_taken, declaration_word, lemma_starts, declaration_not_lemma}
+use Rattle.sp_read_theory.proofs.Declared.{declaration_one, declaration_taken, declaration_not_lemma}
 use Rattle.sp_read_theory.proofs.OneTheory.{items_word}
 use Rattle.sp_skel.specs.Spelling.{spelled, IsReadable}
 use Rattle.sp_skel.proofs.Spelled.{tree_spells}

@@ -8,13 +8,13 @@ use Rattle.sp_spec_system.specs.Move.{Move}
 use Rattle.sp_spec_system.specs.Words.{Words, method, goal, words_of, AreWithin, words_text, goal_text, stand_alone}
 use Rattle.sp_spec_proof.specs.Tree.{Tree, node, Branches, no_branch, branch}
 use Rattle.sp_skel.specs.TreeText.{indent, line, move_text, leading, tree_text, cases_text}
-use Rattle.sp_skel.specs.Places.{HasPlace}
+use Rattle.sp_skel.specs.Places.{HasSides, IsSaid}
 use Rattle.sp_skel.specs.Spelling.{IsReadable, AreReadable}
 use Rattle.sp_skel.proofs.Blanks.{gap_blank, Ends, piece_word, gap_word, space, line_end, bracket_ends, gap_bracket, solve_goal, is_word_solve}
 use Rattle.sp_skel.proofs.Goals.{Closes, closes_goal}
 use Rattle.sp_skel.proofs.ReadBack.{name_goes_on, name_no_goal, word_by, word_case, word_next, word_qed}
 use Rattle.sp_skel.proofs.Spelled.{HaveCase}
-use Rattle.sp_skel.proofs.Table.{IsLine, lines}
+use Rattle.sp_skel.proofs.Table.{IsLine, lines, read_back}
 use Rattle.sp_law_reread.proofs.Leads.{Leads, past_gap, past_one}
 
 pub leads_at : {to bytes others : List ℕ} → bytes ≡ others → Leads to others → Leads to bytes
@@ -34,19 +34,19 @@ leads_goal inside rest closes l =
 
 -- ---- moves and cases
 
-leads_words : {to : List ℕ} (m : Move) (ws : Words) (rest : List ℕ) → IsLine m ws → AreWithin ws → Leads to (10 ∷ rest) → Leads to (words_text ws ++ 10 ∷ rest)
-leads_words m (method w) rest line h l = leads_word w 10 rest line.is_word line_end line.goes_on line.no_goal l
-leads_words m (goal w arguments) rest line h l =
+leads_words : {to : List ℕ} (m : Move) (ws : Words) (rest : List ℕ) → IsLine m ws → AreWithin ws → HasSides m → Leads to (10 ∷ rest) → Leads to (words_text ws ++ 10 ∷ rest)
+leads_words m (method w) rest line h sides l = leads_word w 10 rest line.is_word line_end line.goes_on line.no_goal l
+leads_words m (goal w arguments) rest line h sides l =
     let inside : List ℕ = goal_text w arguments in
-    leads_at (ap (λ (bytes : List ℕ). codes "solve(" ++ bytes) (append_assoc inside (codes ")") (10 ∷ rest))) (leads_goal inside (10 ∷ rest) (closes_goal w arguments line.unbroken h) l)
+    leads_at (ap (λ (bytes : List ℕ). codes "solve(" ++ bytes) (append_assoc inside (codes ")") (10 ∷ rest))) (leads_goal inside (10 ∷ rest) (closes_goal w arguments line.unbroken (read_back m w arguments line h sides)) l)
 
-leads_move : {to : List ℕ} (m : Move) (rest : List ℕ) → HasPlace m → Leads to (10 ∷ rest) → Leads to (move_text m ++ 10 ∷ rest)
-leads_move m rest h l = leads_words m (words_of m) rest (lines m) h l
+leads_move : {to : List ℕ} (m : Move) (rest : List ℕ) → IsSaid m → Leads to (10 ∷ rest) → Leads to (move_text m ++ 10 ∷ rest)
+leads_move m rest h l = leads_words m (words_of m) rest (lines m) h.0 h.1 l
 
-leads_by : {to : List ℕ} (m : Move) (rest : List ℕ) → HasPlace m → Leads to (10 ∷ rest) → Leads to ((codes "by " ++ move_text m) ++ 10 ∷ rest)
+leads_by : {to : List ℕ} (m : Move) (rest : List ℕ) → IsSaid m → Leads to (10 ∷ rest) → Leads to ((codes "by " ++ move_text m) ++ 10 ∷ rest)
 leads_by m rest h l = leads_word (codes "by") 32 (move_text m ++ 10 ∷ rest) word_by space refl refl (leads_blank 32 refl (leads_move m rest h l))
 
-leads_leaf : {to : List ℕ} (m : Move) (rest : List ℕ) → HasPlace m → Leads to (10 ∷ rest) → Leads to ((leading m ++ move_text m) ++ 10 ∷ rest)
+leads_leaf : {to : List ℕ} (m : Move) (rest : List ℕ) → IsSaid m → Leads to (10 ∷ rest) → Leads to ((leading m ++ move_text m) ++ 10 ∷ rest)
 leads_leaf {to} m rest h l = at (stand_alone (words_of m))
   where
     at : (b : Bool) → Leads to (((if b then [] else codes "by ") ++ move_text m) ++ 10 ∷ rest)

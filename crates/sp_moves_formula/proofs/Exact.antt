@@ -5,7 +5,7 @@ use Rattle.sp_spec.specs.Rule.{Action}
 use Rattle.sp_spec.specs.Guarded.{Guarded, truth, falsity, holds, fails, all_of, one_of, some, every, acts, same, same_time, before, last, free_time, bound_time}
 use Rattle.sp_spec_system.specs.System.{System}
 use Rattle.sp_spec_system.specs.Formulas.{freed_action}
-use Rattle.sp_spec_system.specs.Move.{Move, simplify, contradiction, unproved, solved, or, action, premise, know, chain, Case}
+use Rattle.sp_spec_system.specs.Move.{Move, or, action, Case}
 use Rattle.sp_spec_formula.specs.Action.{action_at_time, solving_action}
 use Rattle.sp_moves_formula.specs.WhyNot.{Clause, why_no_disjunction, why_not_freed, why_no_action, why_not_formula, formula_cases, HasCases}
 use Rattle.sp_moves_formula.specs.Parts.{disjuncts, by_parts}
@@ -47,15 +47,9 @@ by_disjunction s k (Some (some bs guard f)) = refl
 by_disjunction s k (Some (every bs guard f)) = refl
 
 pub exactly : (rules : List RuleForms) (s : System) (m : Move) → HasCases (why_not_formula s m) (formula_cases rules s m)
-exactly rules s simplify = record { exact = refl }
-exactly rules s contradiction = record { exact = refl }
-exactly rules s unproved = record { exact = refl }
-exactly rules s solved = record { exact = refl }
 exactly rules s (or k) = record { exact = by_disjunction s k (slice_get s.formulas k) ∙ ap is_some (sym (parts_at s k)) }
 exactly rules s (action k) = record { exact = by_place rules s (slice_get s.formulas k) }
-exactly rules s (premise i p) = record { exact = refl }
-exactly rules s (know i) = record { exact = refl }
-exactly rules s (chain i) = record { exact = refl }
+exactly rules s move = record { exact = refl }
 
 differ : true ≡ false → ⊥
 differ e = absurd cc

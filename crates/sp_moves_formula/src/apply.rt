@@ -8,7 +8,7 @@ ghost use Rattle.sp_book.specs.BookView.{book_of};
 ghost use Rattle.sp_moves_formula.specs.WhyNot.{HasCases, why_no_disjunction, why_no_action, why_not_formula, formula_cases};
 ghost use Rattle.sp_moves_formula.specs.Applied.{clause_of, cases_of, failing};
 
-use crate::moves::{Case, Move};
+use crate::moves::{Case, Move, formula_at};
 use crate::part::or_cases;
 use crate::solving::solving_action;
 use sp_book::book::RuleBook;
@@ -67,15 +67,15 @@ fn why_no_action(alloc: Global, formula: &Formula) -> Result<Option<Clause>, All
 /// # Errors
 ///
 /// `AllocError` where memory is wanting.
-pub fn why_not(alloc: Global, system: &System, chosen: Move) -> Result<Option<Clause>, AllocError>
-    ensures { IfOk result (λ o. option_map clause_of o ≡ why_not_formula (system_of system.now) (move_of chosen)) }
+pub fn why_not(alloc: Global, system: &System, chosen: &Move) -> Result<Option<Clause>, AllocError>
+    ensures { IfOk result (λ o. option_map clause_of o ≡ why_not_formula (system_of system.now) (move_of chosen.now)) }
 {
     match chosen {
-        Move::Or(position) => match system.formulas.get(position) {
+        Move::Or(place) => match formula_at(system, *place) {
             Some(formula) => Ok(why_no_disjunction(formula)),
             None => Ok(Some(Clause::Absent)),
         },
-        Move::Action(position) => match system.formulas.get(position) {
+        Move::Action(place) => match formula_at(system, *place) {
             Some(formula) => why_no_action(alloc, formula),
             None => Ok(Some(Clause::Absent)),
         },
@@ -87,13 +87,13 @@ fn cases(
     alloc: Global,
     rules: &RuleBook,
     system: &System,
-    chosen: Move,
+    chosen: &Move,
 ) -> Result<Option<Vec<Case>>, AllocError>
-    ensures { IfOk result (λ o. option_map (λ cs. map case_of cs.items) o ≡ formula_cases (book_of rules.now) (system_of system.now) (move_of chosen)) }
+    ensures { IfOk result (λ o. option_map (λ cs. map case_of cs.items) o ≡ formula_cases (book_of rules.now) (system_of system.now) (move_of chosen.now)) }
 {
     match chosen {
-        Move::Or(position) => or_cases(alloc, system, position),
-        Move::Action(position) => solving_action(alloc, rules, system, position),
+        Move::Or(place) => or_cases(alloc, system, *place),
+        Move::Action(place) => solving_action(alloc, rules, system, *place),
         _ => Ok(None),
     }
 }
@@ -107,11 +107,11 @@ pub fn apply(
     alloc: Global,
     rules: &RuleBook,
     system: &System,
-    chosen: Move,
+    chosen: &Move,
 ) -> Result<Applied, AllocError>
-    ensures why { IfOk result (λ a. failing a ≡ why_not_formula (system_of system.now) (move_of chosen)) }
-    ensures gives { IfOk result (λ a. cases_of a ≡ formula_cases (book_of rules.now) (system_of system.now) (move_of chosen)) }
-    ensures exact { HasCases (why_not_formula (system_of system.now) (move_of chosen)) (formula_cases (book_of rules.now) (system_of system.now) (move_of chosen)) }
+    ensures why { IfOk result (λ a. failing a ≡ why_not_formula (system_of system.now) (move_of chosen.now)) }
+    ensures gives { IfOk result (λ a. cases_of a ≡ formula_cases (book_of rules.now) (system_of system.now) (move_of chosen.now)) }
+    ensures exact { HasCases (why_not_formula (system_of system.now) (move_of chosen.now)) (formula_cases (book_of rules.now) (system_of system.now) (move_of chosen.now)) }
 {
     match cases(alloc, rules, system, chosen)? {
         Some(cases) => Ok(Applied::Cases(cases)),

@@ -8,7 +8,7 @@ ghost use Rattle.sp_moves_formula.specs.View.{case_of};
 ghost use Rattle.sp_system.specs.SpendView.{spending_at};
 ghost use Rattle.sp_moves_formula.specs.Parts.{disjuncts, by_parts};
 
-use crate::moves::Case;
+use crate::moves::{Case, place_in};
 use sp_formula::formula::Formula;
 use sp_system::spend::spend_for;
 use sp_system::system::System;
@@ -109,7 +109,7 @@ fn cases_at(
     }
 }
 
-/// A case for each part of the disjunction at the position, before they are simplified; none where there is no disjunction.
+/// A case for each part of the disjunction at the place, before they are simplified; none where there is no disjunction.
 ///
 /// # Errors
 ///
@@ -117,11 +117,14 @@ fn cases_at(
 pub fn or_cases(
     alloc: Global,
     system: &System,
-    position: usize,
+    place: u128,
 ) -> Result<Option<Vec<Case>>, AllocError>
     ensures { IfOk result (λ o. option_map (λ cs. map case_of cs.items) o
-        ≡ spec.or_cases (system_of system.now) (spec.disjunction_at position (system_of system.now).formulas)) }
+        ≡ spec.or_cases (system_of system.now) (spec.disjunction_at place (system_of system.now).formulas)) }
 {
+    let Some(position) = place_in(&system.formulas, place) else {
+        return Ok(None);
+    };
     let made = cases_at(alloc, system, position)?;
     Ok(made)
 }

@@ -15,7 +15,7 @@ use crate::at_each::at_each;
 use crate::at_event::at_event;
 use crate::by_adversary::by_adversary;
 use crate::by_rules::by_each;
-use crate::moves::Case;
+use crate::moves::{Case, formula_at};
 use sp_book::book::RuleBook;
 use sp_fact::fact::Action;
 use sp_formula::formula::Formula;
@@ -80,7 +80,7 @@ fn solving(
     Ok(Some(made))
 }
 
-/// The cases of the action that stands at the position, before they are simplified; none where there is no action to look for.
+/// The cases of the action that stands at the place, before they are simplified; none where there is no action to look for.
 ///
 /// # Errors
 ///
@@ -89,12 +89,12 @@ pub fn solving_action(
     alloc: Global,
     rules: &RuleBook,
     system: &System,
-    position: usize,
+    place: u128,
 ) -> Result<Option<Vec<Case>>, AllocError>
     ensures { IfOk result (λ o. option_map (λ cs. map case_of cs.items) o
-        ≡ spec.solving_action (book_of rules.now) (system_of system.now) (slice_get (system_of system.now).formulas position)) }
+        ≡ spec.solving_action (book_of rules.now) (system_of system.now) (slice_get (system_of system.now).formulas place)) }
 {
-    match system.formulas.get(position) {
+    match formula_at(system, place) {
         Some(formula) => solving(alloc, rules, system, formula),
         None => Ok(None),
     }

@@ -1,7 +1,7 @@
--- Whether a time occurs in a system.
-use Rattle.std.specs.Prelude.{ℕ, ◌==◌, ◌||◌, Bool, false, List, [], ◌∷◌}
+-- Whether a time occurs in the parts of a system, one after the other.
+use Rattle.std.specs.Prelude.{ℕ, ◌==◌, ◌||◌, Bool, false, List, [], ◌∷◌, Option, Some, None}
 use Rattle.sp_spec.specs.Guarded.{Time, free_time, bound_time, Atom, acts, same, same_time, before, last, Guarded, truth, falsity, holds, fails, all_of, one_of, some, every, Guardeds, no_more, and_then}
-use Rattle.sp_spec_system.specs.System.{Event, Link, System}
+use Rattle.sp_spec_system.specs.System.{Way, chain_begun, chain_done, Happening, learning, Event, Link, System}
 
 abbrev pub is_time : ℕ → Time → Bool
 is_time i (free_time j) = j == i
@@ -37,9 +37,21 @@ abbrev pub formulas_have : ℕ → List Guarded → Bool
 formulas_have i [] = false
 formulas_have i (f ∷ fs) = formula_has i f || formulas_have i fs
 
+abbrev pub way_has : ℕ → Way → Bool
+way_has i (chain_begun j k ts) = j == i
+way_has i (chain_done j k ts) = j == i
+way_has i way = false
+
+abbrev pub happening_has : ℕ → Happening → Bool
+happening_has i (learning m way) = way_has i way
+happening_has i h = false
+
+abbrev pub event_has : ℕ → Event → Bool
+event_has i e = (e.time == i) || happening_has i e.happening
+
 abbrev pub events_have : ℕ → List Event → Bool
 events_have i [] = false
-events_have i (e ∷ es) = (e.time == i) || events_have i es
+events_have i (e ∷ es) = event_has i e || events_have i es
 
 abbrev pub links_have : ℕ → List Link → Bool
 links_have i [] = false
@@ -49,5 +61,10 @@ abbrev pub order_has : ℕ → List (ℕ × ℕ) → Bool
 order_has i [] = false
 order_has i (p ∷ ps) = ((p.0 == i) || (p.1 == i)) || order_has i ps
 
-abbrev pub has_time : ℕ → System → Bool
-has_time i s = events_have i s.events || (formulas_have i s.formulas || (formulas_have i s.spent || (links_have i s.links || order_has i s.order)))
+abbrev pub is_last : ℕ → Option ℕ → Bool
+is_last i None = false
+is_last i (Some j) = j == i
+
+abbrev pub some_part_has : ℕ → System → Bool
+some_part_has i s =
+    events_have i s.events || (formulas_have i s.formulas || (formulas_have i s.spent || (links_have i s.links || (order_has i s.order || is_last i s.last))))

@@ -11,12 +11,12 @@ ghost use Rattle.sp_moves_formula.specs.Applied.{clause_of, cases_of, failing};
 ghost use Rattle.sp_moves_formula.specs.WhyNot.{HasCases};
 ghost use Rattle.sp_moves_graph.specs.WhyNot.{why_not_of, why_not_graph, graph_cases};
 
-use crate::premise::premise_cases;
+use crate::premise::{Premise, premise_cases};
 use crate::times::has_time;
 use sp_book::book::RuleBook;
 use sp_fact::fact::Fact;
 pub use sp_moves_formula::apply::{Applied, Clause};
-use sp_moves_formula::moves::{Case, Move, Premise};
+use sp_moves_formula::moves::{Case, Move, place_in};
 use sp_rows_graph::fresh_once::is_fresh;
 use sp_rows_graph::send_input::{is_linked, is_received};
 use sp_system::at_time::event_at;
@@ -31,7 +31,7 @@ fn is_closed(system: &System, premise: Premise, fact: &Fact) -> bool
     is_linked(&system.links, premise.time, premise.place) || is_fresh(fact) || is_received(fact)
 }
 
-fn why_not_of(system: &System, premise: Premise, event: &Event) -> Option<Clause>
+fn why_not_at(system: &System, premise: Premise, event: &Event) -> Option<Clause>
     ensures { option_map clause_of result ≡ why_not_of (system_of system.now) premise.time premise.place (Some (event_of event.now)) }
 {
     match event.premises().get(premise.place) {
@@ -46,18 +46,27 @@ fn why_not_of(system: &System, premise: Premise, event: &Event) -> Option<Clause
     }
 }
 
-/// Why a move that takes up a premise is no instance, if it is none.
-pub fn why_not(system: &System, chosen: Move) -> Option<Clause>
-    ensures { option_map clause_of result ≡ why_not_graph (system_of system.now) (move_of chosen) }
+fn why_not_of(system: &System, time: u128, place: u128, event: &Event) -> Option<Clause>
+    ensures { option_map clause_of result ≡ why_not_of (system_of system.now) time place (Some (event_of event.now)) }
 {
-    let Move::Premise(premise) = chosen else {
+    match place_in(event.premises(), place) {
+        Some(place) => why_not_at(system, Premise { time, place }, event),
+        None => Some(Clause::Absent),
+    }
+}
+
+/// Why a move that takes up a premise is no instance, if it is none.
+pub fn why_not(system: &System, chosen: &Move) -> Option<Clause>
+    ensures { option_map clause_of result ≡ why_not_graph (system_of system.now) (move_of chosen.now) }
+{
+    let Move::Premise(time, place) = chosen else {
         return Some(Clause::AnotherCrate);
     };
-    if !has_time(premise.time, system) {
+    if !has_time(*time, system) {
         return Some(Clause::Absent);
     }
-    match event_at(premise.time, &system.events) {
-        Some(event) => why_not_of(system, premise, event),
+    match event_at(*time, &system.events) {
+        Some(event) => why_not_of(system, *time, *place, event),
         None => Some(Clause::OtherKind),
     }
 }
@@ -66,12 +75,12 @@ fn cases(
     alloc: Global,
     rules: &RuleBook,
     system: &System,
-    chosen: Move,
+    chosen: &Move,
 ) -> Result<Option<Vec<Case>>, AllocError>
-    ensures { IfOk result (λ o. option_map (λ cs. map case_of cs.items) o ≡ graph_cases (book_of rules.now) (system_of system.now) (move_of chosen)) }
+    ensures { IfOk result (λ o. option_map (λ cs. map case_of cs.items) o ≡ graph_cases (book_of rules.now) (system_of system.now) (move_of chosen.now)) }
 {
     match chosen {
-        Move::Premise(premise) => premise_cases(alloc, rules, system, premise),
+        Move::Premise(time, place) => premise_cases(alloc, rules, system, *time, *place),
         _ => Ok(None),
     }
 }
@@ -85,11 +94,11 @@ pub fn apply(
     alloc: Global,
     rules: &RuleBook,
     system: &System,
-    chosen: Move,
+    chosen: &Move,
 ) -> Result<Applied, AllocError>
-    ensures why { IfOk result (λ a. failing a ≡ why_not_graph (system_of system.now) (move_of chosen)) }
-    ensures gives { IfOk result (λ a. cases_of a ≡ graph_cases (book_of rules.now) (system_of system.now) (move_of chosen)) }
-    ensures exact { HasCases (why_not_graph (system_of system.now) (move_of chosen)) (graph_cases (book_of rules.now) (system_of system.now) (move_of chosen)) }
+    ensures why { IfOk result (λ a. failing a ≡ why_not_graph (system_of system.now) (move_of chosen.now)) }
+    ensures gives { IfOk result (λ a. cases_of a ≡ graph_cases (book_of rules.now) (system_of system.now) (move_of chosen.now)) }
+    ensures exact { HasCases (why_not_graph (system_of system.now) (move_of chosen.now)) (graph_cases (book_of rules.now) (system_of system.now) (move_of chosen.now)) }
 {
     match cases(alloc, rules, system, chosen)? {
         Some(cases) => Ok(Applied::Cases(cases)),

@@ -1,6 +1,6 @@
 // The steps that may give a premise.
 
-ghost use Rattle.std.specs.Prelude.{◌≡◌, IfOk, map, option_map};
+ghost use Rattle.std.specs.Prelude.{◌≡◌, ⊤, IfOk, MatchOption, map, option_map};
 ghost use Rattle.sp_fact.specs.View.{fact_of};
 ghost use Rattle.sp_term.specs.View.{name_of};
 ghost use Rattle.sp_book.specs.View.{form_of, rule_forms_of};
@@ -8,25 +8,46 @@ ghost use Rattle.sp_book.specs.BookView.{book_of};
 ghost use Rattle.sp_system.specs.SystemView.{system_of};
 ghost use Rattle.sp_spec_graph.specs.Premise as spec;
 ghost use Rattle.sp_spec_system.specs.Cases as cases_spec;
+ghost use Rattle.sp_spec_system.specs.MakingOne as making_one;
 ghost use Rattle.sp_moves_formula.specs.View.{case_of};
 ghost use Rattle.sp_moves_graph.specs.PremiseRules.{by_form, by_source};
 
 use sp_book::book::RuleBook;
 use sp_book::form::{Form, RuleForms};
 use sp_fact::fact::Fact;
-use sp_moves_formula::moves::Case;
-pub use sp_moves_formula::moves::Premise;
+use sp_moves_formula::moves::{Case, place_in};
 use sp_moves_formula::named::named;
 use sp_moves_formula::renamed::renamed;
 use sp_moves_formula::where_same::fact_unifier;
 use sp_rows_graph::fresh_once::is_fresh;
 use sp_rows_graph::learning::after;
 use sp_rows_graph::send_input::{is_linked, is_received};
-use sp_system::at_time::premise_at;
+use sp_system::at_time::{event_at, premise_at};
 use sp_system::event::Event;
 use sp_system::system::{Link, System};
 use sp_term::term::Name;
 use std::alloc::{AllocError, Global};
+
+/// A premise, by the time of its event and its place there, from 0.
+#[derive(Clone, Copy)]
+pub struct Premise {
+    /// the time
+    pub time: u128,
+    /// the place
+    pub place: usize,
+}
+
+impl Premise {
+    /// The premise of this time and place, if the first event at the time has so many.
+    pub fn named(system: &System, time: u128, place: u128) -> Option<Premise>
+        ensures there { option_map (λ p. p.place) result ≡ option_map (λ f. place) (making_one.premise_at (system_of system.now).events time place) }
+        ensures then { MatchOption result ⊤ (λ p. p.time ≡ time) }
+    {
+        let event = event_at(time, &system.events)?;
+        let place = place_in(event.premises(), place)?;
+        Some(Premise { time, place })
+    }
+}
 
 /// The fact that is to have a step for its source: no Fr and no In, and without a link.
 pub fn open_premise(system: &System, premise: Premise) -> Option<&Fact>
@@ -187,13 +208,7 @@ fn by_each_source(
     Ok(made)
 }
 
-/// A case for each conclusion of each form of each rule that may be the premise, before they are simplified; none where the premise isn't to have a
-/// step for its source.
-///
-/// # Errors
-///
-/// `AllocError` where memory is wanting, or no number is left.
-pub fn premise_cases(
+fn cases_of(
     alloc: Global,
     rules: &RuleBook,
     system: &System,
@@ -207,4 +222,27 @@ pub fn premise_cases(
     };
     let made = by_each_source(alloc, rules, system, premise, fact)?;
     Ok(Some(made))
+}
+
+/// A case for each conclusion of each form of each rule that may be the premise, before they are simplified; none where the premise isn't to have a
+/// step for its source.
+///
+/// # Errors
+///
+/// `AllocError` where memory is wanting, or no number is left.
+pub fn premise_cases(
+    alloc: Global,
+    rules: &RuleBook,
+    system: &System,
+    time: u128,
+    place: u128,
+) -> Result<Option<Vec<Case>>, AllocError>
+    ensures { IfOk result (λ o. option_map (λ cs. map case_of cs.items) o
+        ≡ spec.premise_cases (book_of rules.now) (system_of system.now) time place (spec.open_premise (system_of system.now) time place)) }
+{
+    let Some(premise) = Premise::named(system, time, place) else {
+        return Ok(None);
+    };
+    let made = cases_of(alloc, rules, system, premise)?;
+    Ok(made)
 }

@@ -3,11 +3,13 @@
 ghost use Rattle.std.specs.Prelude.{◌≡◌, map};
 ghost use Rattle.sp_formula.specs.FormulaView.{moment_of, atom_of, formula_of};
 ghost use Rattle.sp_system.specs.SystemView.{event_of, link_of, system_of};
+ghost use Rattle.sp_spec_system.specs.Occurring as occurring;
 ghost use Rattle.sp_moves_graph.specs.Times as spec;
 
 use sp_formula::formula::{Atom, Formula, Moment};
-use sp_system::event::Event;
+use sp_system::event::{Event, What};
 use sp_system::system::{Link, System};
+use sp_system::way::Way;
 
 fn is_time(time: u128, moment: Moment) -> bool
     ensures { result ≡ spec.is_time time (moment_of moment) }
@@ -69,11 +71,24 @@ fn formulas_have(time: u128, formulas: &Vec<Formula>) -> bool
     false
 }
 
+fn event_has(time: u128, event: &Event) -> bool
+    ensures { result ≡ spec.event_has time (event_of event.now) }
+{
+    if event.time == time {
+        return true;
+    }
+    match &event.what {
+        What::Learn(_, Way::ChainBegun(chain)) => chain.time == time,
+        What::Learn(_, Way::ChainDone(chain)) => chain.time == time,
+        _ => false,
+    }
+}
+
 fn events_have(time: u128, events: &Vec<Event>) -> bool
     ensures { result ≡ spec.events_have time (map event_of events.now.items) }
 {
     for event in events {
-        if event.time == time {
+        if event_has(time, event) {
             return true;
         }
     }
@@ -102,13 +117,20 @@ fn order_has(time: u128, order: &Vec<(u128, u128)>) -> bool
     false
 }
 
-/// Whether the time occurs anywhere in the system.
-pub fn has_time(time: u128, system: &System) -> bool
-    ensures { result ≡ spec.has_time time (system_of system.now) }
+fn some_part_has(time: u128, system: &System) -> bool
+    ensures { result ≡ spec.some_part_has time (system_of system.now) }
 {
     events_have(time, &system.events)
         || formulas_have(time, &system.formulas)
         || formulas_have(time, &system.spent)
         || links_have(time, &system.links)
         || order_has(time, &system.order)
+        || system.last == Some(time)
+}
+
+/// Whether the time occurs anywhere in the system.
+pub fn has_time(time: u128, system: &System) -> bool
+    ensures { result ≡ occurring.has_time time (system_of system.now) }
+{
+    some_part_has(time, system)
 }

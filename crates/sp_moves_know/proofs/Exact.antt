@@ -5,18 +5,14 @@ use Rattle.sp_spec.specs.Signature.{Symbol}
 use Rattle.sp_spec_system.specs.System.{Event, System}
 use Rattle.sp_spec_system.specs.MakingOne.{event_at}
 use Rattle.sp_spec_system.specs.Rules.{Rules}
-use Rattle.sp_spec_system.specs.Move.{Move, simplify, contradiction, unproved, solved, or, action, premise, know, chain, Case}
+use Rattle.sp_spec_system.specs.Move.{Move, know, chain, Case}
 use Rattle.sp_spec_graph.specs.SettleLearn.{settling}
 use Rattle.sp_spec_graph.specs.Know.{learnt_anyhow, is_message_variable, if_wanted, wanted_at}
 use Rattle.sp_spec_graph.specs.Chain.{Begun, begun, begun_at}
 use Rattle.sp_moves_formula.specs.WhyNot.{Clause, another_crate, absent, condition, HasCases}
-use Rattle.sp_moves_graph.specs.Times.{events_have, has_time}
-use Rattle.sp_moves_graph.proofs.Exact.{no_event, none_left}
+use Rattle.sp_spec_system.specs.Occurring.{has_time}
+use Rattle.sp_moves_graph.proofs.Exact.{no_time}
 use Rattle.sp_moves_know.specs.WhyNot.{why_not_wanted, why_not_known, why_not_begun, why_not_chained, why_not_learning, learning_cases}
-
--- a time that isn't in the system is no event's
-no_time : (s : System) (i : ℕ) → has_time i s ≡ false → event_at i s.events ≡ None
-no_time s i e = no_event i s.events (none_left (events_have i s.events) _ e)
 
 -- ---- how a message is learnt
 
@@ -42,7 +38,7 @@ by_event symbols f (Some e) = by_message symbols f (learnt_anyhow e.happening)
 by_time : (symbols : List Symbol) (f : Term Variable → List Case) (s : System) (i : ℕ) (b : Bool) → has_time i s ≡ b
     → is_none (let r : Option Clause = if b then why_not_known symbols (event_at i s.events) else Some absent in r) ≡ is_some (option_map f (wanted_at symbols s i))
 by_time symbols f s i true e = by_event symbols f (event_at i s.events)
-by_time symbols f s i false e = sym (ap (λ (o : Option Event). is_some (option_map f (wanted_by symbols o))) (no_time s i e))
+by_time symbols f s i false e = sym (ap (λ (o : Option Event). is_some (option_map f (wanted_by symbols o))) (no_time i s e))
 
 -- ---- how a chain goes on
 
@@ -61,18 +57,12 @@ by_chained f (Some e) = by_begun f (begun e.happening)
 by_chain_time : (f : Begun → List Case) (s : System) (i : ℕ) (b : Bool) → has_time i s ≡ b
     → is_none (let r : Option Clause = if b then why_not_chained (event_at i s.events) else Some absent in r) ≡ is_some (option_map f (begun_at s i))
 by_chain_time f s i true e = by_chained f (event_at i s.events)
-by_chain_time f s i false e = sym (ap (λ (o : Option Event). is_some (option_map f (begun_by o))) (no_time s i e))
+by_chain_time f s i false e = sym (ap (λ (o : Option Event). is_some (option_map f (begun_by o))) (no_time i s e))
 
 pub exactly : (rules : Rules) (s : System) (m : Move) → HasCases (why_not_learning rules.signature.symbols s m) (learning_cases rules s m)
-exactly rules s simplify = record { exact = refl }
-exactly rules s contradiction = record { exact = refl }
-exactly rules s unproved = record { exact = refl }
-exactly rules s solved = record { exact = refl }
-exactly rules s (or k) = record { exact = refl }
-exactly rules s (action k) = record { exact = refl }
-exactly rules s (premise i p) = record { exact = refl }
 exactly rules s (know i) = record { exact = by_time rules.signature.symbols _ s i (has_time i s) refl }
 exactly rules s (chain i) = record { exact = by_chain_time _ s i (has_time i s) refl }
+exactly rules s move = record { exact = refl }
 
 -- ---- these moves are asked about
 

@@ -11,7 +11,7 @@ use Rattle.sp_spec_graph.specs.SettleLearn.{settling}
 use Rattle.sp_spec_graph.specs.Know.{learnt_anyhow, is_message_variable, know_cases}
 use Rattle.sp_spec_graph.specs.Chain.{Begun, begun, chain_cases}
 use Rattle.sp_moves_formula.specs.WhyNot.{Clause, another_crate, absent, other_kind, condition}
-use Rattle.sp_moves_graph.specs.Times.{has_time}
+use Rattle.sp_spec_system.specs.Occurring.{has_time}
 
 -- the move asks for a message that is learnt anyhow, no message variable, and not settled
 abbrev pub why_not_wanted : List Symbol → Option (Term Variable) → Option Clause

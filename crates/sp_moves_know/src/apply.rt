@@ -88,13 +88,13 @@ pub fn why_not(
     alloc: Global,
     symbols: &Vec<Symbol>,
     system: &System,
-    chosen: Move,
+    chosen: &Move,
 ) -> Result<Option<Clause>, AllocError>
-    ensures { IfOk result (λ o. option_map clause_of o ≡ why_not_learning (map symbol_of symbols.now.items) (system_of system.now) (move_of chosen)) }
+    ensures { IfOk result (λ o. option_map clause_of o ≡ why_not_learning (map symbol_of symbols.now.items) (system_of system.now) (move_of chosen.now)) }
 {
     match chosen {
-        Move::Know(time) => why_not_know(alloc, symbols, system, time),
-        Move::Chain(time) => Ok(why_not_chain(system, time)),
+        Move::Know(time) => why_not_know(alloc, symbols, system, *time),
+        Move::Chain(time) => Ok(why_not_chain(system, *time)),
         _ => Ok(Some(Clause::AnotherCrate)),
     }
 }
@@ -104,14 +104,14 @@ fn cases(
     signature: &Signature,
     rules: &RuleBook,
     system: &System,
-    chosen: Move,
+    chosen: &Move,
 ) -> Result<Option<Vec<Case>>, AllocError>
     ensures { IfOk result (λ o. option_map (λ cs. map case_of cs.items) o
-        ≡ learning_cases (rules_of signature.now rules.now) (system_of system.now) (move_of chosen)) }
+        ≡ learning_cases (rules_of signature.now rules.now) (system_of system.now) (move_of chosen.now)) }
 {
     match chosen {
-        Move::Know(time) => know_cases(alloc, signature, rules, system, time),
-        Move::Chain(time) => chain_cases(alloc, signature, system, time),
+        Move::Know(time) => know_cases(alloc, signature, rules, system, *time),
+        Move::Chain(time) => chain_cases(alloc, signature, system, *time),
         _ => Ok(None),
     }
 }
@@ -126,12 +126,12 @@ pub fn apply(
     signature: &Signature,
     rules: &RuleBook,
     system: &System,
-    chosen: Move,
+    chosen: &Move,
 ) -> Result<Applied, AllocError>
-    ensures why { IfOk result (λ a. failing a ≡ why_not_learning (map symbol_of signature.now.symbols.items) (system_of system.now) (move_of chosen)) }
-    ensures gives { IfOk result (λ a. cases_of a ≡ learning_cases (rules_of signature.now rules.now) (system_of system.now) (move_of chosen)) }
-    ensures exact { HasCases (why_not_learning (map symbol_of signature.now.symbols.items) (system_of system.now) (move_of chosen))
-        (learning_cases (rules_of signature.now rules.now) (system_of system.now) (move_of chosen)) }
+    ensures why { IfOk result (λ a. failing a ≡ why_not_learning (map symbol_of signature.now.symbols.items) (system_of system.now) (move_of chosen.now)) }
+    ensures gives { IfOk result (λ a. cases_of a ≡ learning_cases (rules_of signature.now rules.now) (system_of system.now) (move_of chosen.now)) }
+    ensures exact { HasCases (why_not_learning (map symbol_of signature.now.symbols.items) (system_of system.now) (move_of chosen.now))
+        (learning_cases (rules_of signature.now rules.now) (system_of system.now) (move_of chosen.now)) }
 {
     match cases(alloc, signature, rules, system, chosen)? {
         Some(cases) => Ok(Applied::Cases(cases)),

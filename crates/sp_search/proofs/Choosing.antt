@@ -2,7 +2,6 @@
 use Rattle.std.proofs.Common.{◌≡◌, ℕ, ◌+◌, ◌<◌, Bool, true, false, List, [], ◌∷◌, length, map, drop, get_or, Option, Some, None, refl, sym, ap, ◌∙◌, add-one, slice_get, suc, option_and_then, true≢false}
 use Rattle.std.specs.Prelude.{is_some, option_map, if◌then◌else◌, ◌||◌, flat_map}
 use Rattle.std.specs.Option.{option_or}
-use Rattle.std.proofs.lemmas.Bool.{or_left, or_right}
 use Rattle.std.proofs.lemmas.List.Folds.{find-append}
 use Rattle.std.proofs.lemmas.Option.{slice_get-map, slice_get-get_or}
 use Rattle.sp_spec.specs.Guarded.{Guarded}
@@ -18,15 +17,10 @@ use Rattle.sp_formula.specs.FormulaView.{formula_of}
 use Rattle.sp_formula.specs.declared.formula.Formula.{Formula}
 use Rattle.sp_spec_system.specs.Move.{Move, simplify, contradiction, solved, or, action, premise, know, chain, Context, Case, end_log}
 use Rattle.sp_spec_proof.specs.Cases.{simple_case}
-use Rattle.sp_spec_proof.specs.Rows.{rows, by_rows, is_contradictory, fails_somewhere}
-use Rattle.sp_spec_formula.specs.Split.{has_falsity}
-use Rattle.sp_spec_formula.specs.Unequal.{has_equal_pair}
-use Rattle.sp_spec_formula.specs.InOrder.{has_refuted}
-use Rattle.sp_spec_system.specs.Order.{is_cyclic}
-use Rattle.sp_spec_graph.specs.SourceTwice.{has_source_twice}
-use Rattle.sp_spec_graph.specs.LearntEarly.{has_early}
-use Rattle.sp_spec_graph.specs.ReducibleEvent.{has_reducible}
-use Rattle.sp_spec_proof.specs.Choice.{Ranked, with_rank, places_from, at_each_formula, each_premise, at_each_message, passed_last, no_message_variable, is_fresh_variable, is_application, is_instance, first_instance, choice}
+use Rattle.sp_spec_proof.specs.Rows.{rows, by_rows, failing_row, is_contradictory, fails_somewhere}
+use Rattle.sp_spec_proof.proofs.Contradictions.{one_holds}
+use Rattle.sp_spec_proof.specs.Choice.{Ranked, with_rank, is_instance, first_instance, picked, choice}
+use Rattle.sp_spec_proof.specs.Kinds.{pickers_by, are_consecutive, places_from, at_each_formula, at_each_event, premises_of, at_message, passed_last, no_message_variable, is_fresh_variable, is_application}
 use Rattle.sp_spec_formula.specs.Action.{solving_action}
 use Rattle.sp_spec_formula.specs.Or.{disjunction_at, or_cases}
 use Rattle.sp_spec_graph.specs.Premise.{open_premise, premise_cases}
@@ -56,9 +50,7 @@ kinds =
 
 -- a place at which a row fails is a contradiction
 fails_contradicts : (rules : Rules) (s : System) → fails_somewhere s ≡ true → is_contradictory rules s ≡ true
-fails_contradicts rules s e =
-    or_right (has_falsity s.formulas) _ (or_right (has_equal_pair s.unequal) _ (or_right (has_refuted s.order s.formulas) _ (or_right (is_cyclic s.order) _
-    (or_right (has_source_twice s) _ (or_right (has_early s) _ (or_right (has_reducible rules.signature.equations s.events) _ (or_left (fails_somewhere s) _ e)))))))
+fails_contradicts rules s e = one_holds rules s failing_row e
 
 abbrev first_if : Bool → Move → Option Move
 first_if holds move = if holds then Some move else None
@@ -78,18 +70,22 @@ by_tests rules false false true ends case later h = absurd (true≢false (sym (h
 by_tests rules false false false true case later h = refl
 by_tests rules false false false false case later h = refl
 
-pub answers_are : (context : Context) (s : System) → first_some (answer context s) kinds ≡ choice context s
-unfolding choice
-answers_are context s =
+each_kind : (context : Context) (s : System) → first_some (answer context s) kinds ≡ first_some (picked context s) (pickers_by false)
+each_kind context s =
     by_tests context.rules (is_contradictory context.rules s) (is_some (by_rows context.rules rows s)) (fails_somewhere s) (is_some (end_log context s)) (record { name = []; system = s })
     (option_or (option_map (with_rank 4) (first_instance context s (at_each_formula or context s)))
     (option_or (option_map (with_rank 5) (first_instance context s (at_each_formula action context s)))
-    (option_or (option_map (with_rank 6) (first_instance context s (at_each_message chain passed_last no_message_variable context s)))
-    (option_or (option_map (with_rank 7) (first_instance context s (each_premise context s)))
-    (option_or (option_map (with_rank 8) (first_instance context s (at_each_message know learnt_anyhow is_fresh_variable context s)))
-    (option_or (option_map (with_rank 9) (first_instance context s (at_each_message know learnt_anyhow is_application context s)))
-    (option_or (option_map (with_rank 10) (first_instance context s (at_each_message chain passed_last is_message_variable context s))) None)))))))
+    (option_or (option_map (with_rank 6) (first_instance context s (at_each_event (at_message chain passed_last no_message_variable) context s)))
+    (option_or (option_map (with_rank 7) (first_instance context s (at_each_event premises_of context s)))
+    (option_or (option_map (with_rank 8) (first_instance context s (at_each_event (at_message know learnt_anyhow is_fresh_variable) context s)))
+    (option_or (option_map (with_rank 9) (first_instance context s (at_each_event (at_message know learnt_anyhow is_application) context s)))
+    (option_or (option_map (with_rank 10) (first_instance context s (at_each_event (at_message chain passed_last is_message_variable) context s))) None)))))))
     (fails_contradicts context.rules s)
+
+-- a context in memory isn't consecutive
+pub answers_are : (context : Context) (s : System) → are_consecutive context.root ≡ false → first_some (answer context s) kinds ≡ choice context s
+unfolding choice
+answers_are context s apart = each_kind context s ∙ ap (λ (b : Bool). first_some (picked context s) (pickers_by b)) (sym apart)
 
 -- the kinds are gone over
 pub next_kind : (context : Context) (s : System) (all : List (ℕ × MoveKind)) (i : ℕ) (k : ℕ × MoveKind) → i < length all → k ≡ get_or all i k

@@ -4,19 +4,13 @@ use Rattle.std.specs.Bool.{Decides}
 use Rattle.std.proofs.lemmas.Bool.{false≢true}
 use Rattle.std.proofs.lemmas.Bool.Decides.{Decides-and}
 use Rattle.sp_spec_proof.specs.Tree.{Tree, node, Branches, no_branch, branch, IsLeft, IsFinished, AreFinished}
-use Rattle.sp_spec_system.specs.Move.{Move, simplify, contradiction, unproved, solved, or, action, premise, know, chain}
+use Rattle.sp_spec_system.specs.Move.{Move, unproved, solved}
 use Rattle.sp_search.specs.Finished.{finished, all_finished, is_left}
 
 done_decides : (m : Move) → Decides (not (is_left m)) (IsLeft m → ⊥)
-done_decides simplify = (λ _ h. absurd h, λ _. refl)
-done_decides contradiction = (λ _ h. absurd h, λ _. refl)
 done_decides unproved = (λ e. absurd (false≢true e), λ h. absurd (h tt))
 done_decides solved = (λ e. absurd (false≢true e), λ h. absurd (h tt))
-done_decides (or k) = (λ _ h. absurd h, λ _. refl)
-done_decides (action k) = (λ _ h. absurd h, λ _. refl)
-done_decides (premise i p) = (λ _ h. absurd h, λ _. refl)
-done_decides (know i) = (λ _ h. absurd h, λ _. refl)
-done_decides (chain i) = (λ _ h. absurd h, λ _. refl)
+done_decides move = (λ _ h. absurd h, λ _. refl)
 
 mutual
   pub finished_decides : (t : Tree) → Decides (finished t) (IsFinished t)

@@ -6,7 +6,8 @@ use Rattle.sp_spec_system.specs.System.{System, Event}
 use Rattle.sp_spec_system.specs.Move.{Move, know, chain, Context}
 use Rattle.sp_spec_graph.specs.Know.{learnt_anyhow, is_message_variable}
 use Rattle.sp_spec_proof.specs.Cases.{raw_cases, simple_case}
-use Rattle.sp_spec_proof.specs.Choice.{passed_last, no_message_variable, is_fresh_variable, is_application, if_of_kind, is_instance, first_instance}
+use Rattle.sp_spec_proof.specs.Choice.{is_instance, first_instance}
+use Rattle.sp_spec_proof.specs.Kinds.{passed_last, no_message_variable, is_fresh_variable, is_application, if_of_kind}
 use Rattle.sp_moves_formula.specs.WhyNot.{Clause}
 use Rattle.sp_moves_know.specs.WhyNot.{why_not_learning}
 use Rattle.sp_moves_know.proofs.Exact.{exactly}

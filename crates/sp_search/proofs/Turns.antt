@@ -2,7 +2,7 @@
 use Rattle.std.proofs.Common.{◌≡◌, ◌∙◌, ℕ, suc, ◌+◌, Bool, true, false, List, [], ◌∷◌, map, Option, Some, None, IfSome, refl, sym, ap, subst, add-one, true≢false}
 use Rattle.std.specs.Prelude.{option_map, is_some, if◌then◌else◌}
 use Rattle.sp_spec_system.specs.System.{System}
-use Rattle.sp_spec_system.specs.Move.{Move, simplify, contradiction, unproved, solved, or, action, premise, know, chain, Context, Case, end_log}
+use Rattle.sp_spec_system.specs.Move.{Move, unproved, solved, Context, Case, end_log}
 use Rattle.sp_spec_proof.specs.Cases.{simple_case, cases}
 use Rattle.sp_spec_system.specs.Rules.{Rules}
 use Rattle.sp_spec.specs.Log.{Log}
@@ -82,30 +82,17 @@ ended_shows rules None = refl
 ended_shows rules (Some log) = refl
 
 replaced_shows : (context : Context) (s : System) (m : Move) (depth : ℕ) → shown (replaced context s m depth) ≡ node m (open_leaves (cases context s m))
-replaced_shows context s simplify depth = ap (node simplify) (leaves_show context (depth + 1) (cases context s simplify))
-replaced_shows context s contradiction depth = ap (node contradiction) (leaves_show context (depth + 1) (cases context s contradiction))
-replaced_shows context s unproved depth = ap (node unproved) (leaves_show context (depth + 1) (cases context s unproved))
 replaced_shows context s solved depth = ended_shows context.rules (end_log context s)
-replaced_shows context s (or k) depth = ap (node (or k)) (leaves_show context (depth + 1) (cases context s (or k)))
-replaced_shows context s (action k) depth = ap (node (action k)) (leaves_show context (depth + 1) (cases context s (action k)))
-replaced_shows context s (premise i p) depth = ap (node (premise i p)) (leaves_show context (depth + 1) (cases context s (premise i p)))
-replaced_shows context s (know i) depth = ap (node (know i)) (leaves_show context (depth + 1) (cases context s (know i)))
-replaced_shows context s (chain i) depth = ap (node (chain i)) (leaves_show context (depth + 1) (cases context s (chain i)))
+replaced_shows context s move depth = ap (node move) (leaves_show context (depth + 1) (cases context s move))
 
 ended_belongs : (context : Context) (depth : ℕ) (s : System) (o : Option Log) → end_log context s ≡ o → is_some o ≡ true → Belongs context depth s (ended_with o)
 ended_belongs context depth s None e some = absurd (true≢false (sym some))
 ended_belongs context depth s (Some log) e some = e
 
 replaced_belongs : (context : Context) (s : System) (m : Move) (depth : ℕ) → is_unproved m ≡ false → is_instance context s m ≡ true → Belongs context depth s (replaced context s m depth)
-replaced_belongs context s simplify depth proper e = (refl, refl, leaves_belong context (suc depth) (depth + 1) (add-one depth) (cases context s simplify))
-replaced_belongs context s contradiction depth proper e = (refl, refl, leaves_belong context (suc depth) (depth + 1) (add-one depth) (cases context s contradiction))
 replaced_belongs context s unproved depth proper e = absurd (true≢false proper)
 replaced_belongs context s solved depth proper e = ended_belongs context depth s (end_log context s) refl (log_told context.rules (is_some (end_log context s)) e)
-replaced_belongs context s (or n) depth proper e = (refl, refl, leaves_belong context (suc depth) (depth + 1) (add-one depth) (cases context s (or n)))
-replaced_belongs context s (action n) depth proper e = (refl, refl, leaves_belong context (suc depth) (depth + 1) (add-one depth) (cases context s (action n)))
-replaced_belongs context s (premise i p) depth proper e = (refl, refl, leaves_belong context (suc depth) (depth + 1) (add-one depth) (cases context s (premise i p)))
-replaced_belongs context s (know i) depth proper e = (refl, refl, leaves_belong context (suc depth) (depth + 1) (add-one depth) (cases context s (know i)))
-replaced_belongs context s (chain i) depth proper e = (refl, refl, leaves_belong context (suc depth) (depth + 1) (add-one depth) (cases context s (chain i)))
+replaced_belongs context s move depth proper e = (refl, refl, leaves_belong context (suc depth) (depth + 1) (add-one depth) (cases context s move))
 
 leaf_becomes : (context : Context) (depth : ℕ) (s : System) (chosen : Option Ranked) (b : Bool)
     → Became (node unproved no_branch) (shown (opened context s chosen depth b).0) (opened context s chosen depth b).1 (if b then option_map (grown_leaf context s) chosen else None)

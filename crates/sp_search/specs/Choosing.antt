@@ -6,7 +6,8 @@ use Rattle.sp_spec_system.specs.Move as spec
 use Rattle.sp_spec_system.specs.Move.{Context, end_log}
 use Rattle.sp_spec_proof.specs.Rows.{rows, by_rows, is_contradictory}
 use Rattle.sp_spec_proof.specs.Choice as choice
-use Rattle.sp_spec_proof.specs.Choice.{first_instance, at_each_formula, each_premise, with_rank}
+use Rattle.sp_spec_proof.specs.Choice.{first_instance, with_rank}
+use Rattle.sp_spec_proof.specs.Kinds.{at_each_formula, at_each_event, premises_of}
 use Rattle.sp_step.specs.View.{move_of}
 use Rattle.sp_search.specs.declared.choose.Ranked.{Ranked}
 use Rattle.sp_search.specs.declared.choose.MoveKind.{MoveKind}
@@ -25,7 +26,7 @@ asked context s Simplify = if_so (is_some (by_rows context.rules rows s)) spec.s
 asked context s Solved = if_so (is_some (end_log context s)) spec.solved
 asked context s Or = first_instance context s (at_each_formula spec.or context s)
 asked context s Action = first_instance context s (at_each_formula spec.action context s)
-asked context s Premise = first_instance context s (each_premise context s)
+asked context s Premise = first_instance context s (at_each_event premises_of context s)
 asked context s (Learning kind) = first_instance context s (each_move kind s.events)
 
 -- with the kind's rank

@@ -6,7 +6,8 @@ ghost use Rattle.sp_spec_graph.specs.Premise as premise_spec;
 ghost use Rattle.sp_fact.specs.View.{fact_of};
 ghost use Rattle.sp_system.specs.SystemView.{event_of, system_of};
 ghost use Rattle.sp_step.specs.View.{context_of, move_of};
-ghost use Rattle.sp_spec_proof.specs.Choice.{at_each_formula, choice, each_premise, first_instance, places_from, premises_of};
+ghost use Rattle.sp_spec_proof.specs.Choice.{choice, first_instance};
+ghost use Rattle.sp_spec_proof.specs.Kinds.{at_each_event, at_each_formula, places_from, premises_of};
 ghost use Rattle.sp_search.specs.Choosing.{asked, ranked_of};
 
 use crate::learning::{LearningKind, first_learning};
@@ -22,7 +23,7 @@ use sp_system::system::System;
 use std::alloc::{AllocError, Global};
 
 /// A move that is chosen, and the rank of its kind.
-#[derive(Clone, Copy, Debug, PartialEq, Eq)]
+#[derive(Debug, PartialEq, Eq, Drop)]
 pub struct Ranked {
     /// the rank
     pub rank: u64,
@@ -118,7 +119,7 @@ fn first_disjunction(system: &System) -> Option<Move>
 {
     for (place, formula) in system.formulas.iter().enumerate() {
         if is_disjunction(formula) {
-            return Some(Move::Or(place));
+            return Some(Move::Or(place as u128));
         }
     }
     None
@@ -129,7 +130,7 @@ fn first_action(alloc: Global, system: &System) -> Result<Option<Move>, AllocErr
 {
     for (place, formula) in system.formulas.iter().enumerate() {
         if is_solvable(alloc, formula)? {
-            return Ok(Some(Move::Action(place)));
+            return Ok(Some(Move::Action(place as u128)));
         }
     }
     Ok(None)
@@ -148,7 +149,7 @@ fn first_among(system: &System, time: u128, premises: &Vec<Fact>) -> Option<Move
 {
     for (place, _premise) in premises.iter().enumerate() {
         if is_open(system, time, place) {
-            return Some(Move::Premise(Premise { time, place }));
+            return Some(Move::Premise(time, place as u128));
         }
     }
     None
@@ -161,7 +162,7 @@ fn first_of_event(system: &System, event: &Event) -> Option<Move>
 }
 
 fn first_premise(system: &System) -> Option<Move>
-    ensures { (context : spec.Context) → option_map move_of result ≡ first_instance context (system_of system.now) (each_premise context (system_of system.now)) }
+    ensures { (context : spec.Context) → option_map move_of result ≡ first_instance context (system_of system.now) (at_each_event premises_of context (system_of system.now)) }
 {
     for event in &system.events {
         if let Some(chosen) = first_of_event(system, event) {

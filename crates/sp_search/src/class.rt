@@ -11,8 +11,8 @@ use crate::node::Node;
 use std::alloc::AllocError;
 
 // The rank of a leaf's move and its depth; none where no move is chosen. The sum is wider than the two, so that it always fits.
-fn class_of(chosen: Option<Ranked>, depth: u64) -> Option<u128>
-    ensures { result ≡ choice.class_of (option_map ranked_of chosen) depth }
+fn class_of(chosen: &Option<Ranked>, depth: u64) -> Option<u128>
+    ensures { result ≡ choice.class_of (option_map ranked_of chosen.now) depth }
 {
     match chosen {
         Some(ranked) => Some(u128::from(ranked.rank) + u128::from(depth)),
@@ -24,7 +24,7 @@ fn class_at(node: &Node) -> Option<u128>
     ensures { result ≡ turning.class_at (node_at node.now) }
 {
     match node {
-        Node::Open(leaf) => class_of(leaf.choice, leaf.depth),
+        Node::Open(leaf) => class_of(&leaf.choice, leaf.depth),
         Node::Ended(_) | Node::Inner(_, _) => None,
     }
 }

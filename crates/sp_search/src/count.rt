@@ -13,8 +13,8 @@ use crate::tree::Tree;
 use sp_step::moves::Move;
 
 // Whether a system with this move may have a solution.
-fn is_left_by(chosen: Move) -> bool
-    ensures { result ≡ is_left (move_of chosen) }
+fn is_left_by(chosen: &Move) -> bool
+    ensures { result ≡ is_left (move_of chosen.now) }
 {
     match chosen {
         Move::Unproved | Move::Solved => true,
@@ -27,7 +27,7 @@ fn leaves_none(node: &Node) -> bool
 {
     match node {
         Node::Open(_) | Node::Ended(_) => false,
-        Node::Inner(chosen, _) => !is_left_by(*chosen),
+        Node::Inner(chosen, _) => !is_left_by(chosen),
     }
 }
 

@@ -83,9 +83,9 @@ fn cases_of(
     alloc: Global,
     context: &Context,
     system: &System,
-    chosen: Move,
+    chosen: &Move,
 ) -> Result<Vec<Case>, AllocError>
-    ensures { IfOk result (λ cs. map case_of cs.items ≡ growing.cases_or_none (cases (context_of context.now) (system_of system.now) (move_of chosen))) }
+    ensures { IfOk result (λ cs. map case_of cs.items ≡ growing.cases_or_none (cases (context_of context.now) (system_of system.now) (move_of chosen.now))) }
 {
     match cases(alloc, context, system, chosen)? {
         Some(found) => Ok(found),
@@ -111,17 +111,18 @@ fn replaced(
     alloc: Global,
     context: &Context,
     leaf: &OpenLeaf,
-    chosen: Move,
+    chosen: &Move,
 ) -> Result<Vec<Node>, AllocError>
-    ensures { IfOk result (λ ns. nodes_at ns.items ≡ turning.replaced_nodes (context_of context.now) (system_of leaf.now.system) (move_of chosen) leaf.now.depth) }
+    ensures { IfOk result (λ ns. nodes_at ns.items ≡ turning.replaced_nodes (context_of context.now) (system_of leaf.now.system) (move_of chosen.now) leaf.now.depth) }
 {
-    if chosen == Move::Solved {
+    if matches!(chosen, Move::Solved) {
         let mut nodes = Vec::new(alloc);
         nodes.push(ended(alloc, context, &leaf.system)?)?;
         return Ok(nodes);
     }
     let depth = deeper(leaf.depth)?;
     let found = cases_of(alloc, context, &leaf.system, chosen)?;
+    let chosen = chosen.clone()?;
     move_nodes(alloc, context, chosen, depth, found)
 }
 
@@ -142,10 +143,10 @@ fn grown_at(alloc: Global, context: &Context, tree: Tree, place: usize) -> Resul
     let Some(leaf) = leaf_at(&tree.nodes, place) else {
         return Ok(tree);
     };
-    let Some(ranked) = leaf.choice else {
+    let Some(ranked) = &leaf.choice else {
         return Ok(tree);
     };
-    let made = replaced(alloc, context, leaf, ranked.chosen)?;
+    let made = replaced(alloc, context, leaf, &ranked.chosen)?;
     let Tree { mut nodes } = tree;
     let _replaced = nodes.splice(place..place + 1, made)?;
     Ok(Tree { nodes })

@@ -1,7 +1,8 @@
 // The moves on messages that are learnt.
 
 ghost use Rattle.std.specs.Prelude.{◌≡◌, IfOk, option_map};
-ghost use Rattle.sp_spec_proof.specs.Choice.{first_instance, passed_last};
+ghost use Rattle.sp_spec_proof.specs.Choice.{first_instance};
+ghost use Rattle.sp_spec_proof.specs.Kinds.{passed_last};
 ghost use Rattle.sp_term.specs.View.{view};
 ghost use Rattle.sp_system.specs.SystemView.{event_of, system_of};
 ghost use Rattle.sp_step.specs.View.{context_of, move_of};
@@ -78,7 +79,7 @@ fn first_at(
     let Some(chosen) = offered(event, kind) else {
         return Ok(None);
     };
-    let clause = why_not(alloc, &context.sought.signature.symbols, system, chosen)?;
+    let clause = why_not(alloc, &context.sought.signature.symbols, system, &chosen)?;
     if clause.is_some() {
         return Ok(None);
     }

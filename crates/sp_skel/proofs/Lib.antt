@@ -10,6 +10,9 @@ pub mod NamedCases
 pub mod NamedPlaces
 pub mod Nodes
 pub mod Unbroken
+pub mod Pieces
+pub mod Constants
+pub mod Sides
 pub mod ReadBack
 pub mod Readable
 pub mod Said

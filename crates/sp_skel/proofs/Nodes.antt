@@ -1,5 +1,5 @@
 -- The text that is written node by node is the tree's.
-use Rattle.std.proofs.Common.{arith, ◌≡◌, ◌∙◌, refl, sym, ap, ℕ, zero, suc, ◌+◌, List, [], ◌∷◌, ◌++◌, codes, length, take, drop, subst, append_assoc}
+use Rattle.std.proofs.Common.{arith, ◌≡◌, ◌∙◌, refl, sym, ap, ℕ, suc, ◌+◌, List, [], ◌∷◌, ◌++◌, codes, length, take, drop, subst, append_assoc}
 use Rattle.std.proofs.lemmas.List.{append-nil}
 use Rattle.sp_spec_system.specs.Move.{Move, unproved, solved}
 use Rattle.sp_spec_proof.specs.Tree.{Tree, node, Branches, no_branch, branch}
@@ -8,7 +8,7 @@ use Rattle.sp_spec_nodes.proofs.Preorder.{count_trees}
 use Rattle.sp_spec_nodes.proofs.Gathered.{one_tree}
 use Rattle.sp_search.specs.Kept.{Kept, inner, nothing, with_names, shown, shown_all}
 use Rattle.sp_search.specs.Kinds.{Kind, open_leaf, end_at, choice, case_count, tree_over, all_kept, kept}
-use Rattle.sp_skel.specs.Nodes.{behind, leaf, over_cases, written, all_written}
+use Rattle.sp_skel.specs.Nodes.{behind, leaf, over_cases, all_written}
 use Rattle.sp_skel.specs.TreeText.{line, leading, move_text, tree_text, cases_text}
 
 -- ---- what stands behind a tree

@@ -12,12 +12,12 @@ use Rattle.sp_spec_proof.specs.Tree.{Tree, node, Branches, no_branch, branch}
 use Rattle.sp_skel.specs.TreeText.{indent, line, move_text, leading, tree_text, cases_text}
 use Rattle.sp_spec_text.specs.Proofs.{SpellsProof}
 use Rattle.sp_skel.specs.Laws.{ReadsBack}
-use Rattle.sp_skel.specs.Places.{HasPlace}
+use Rattle.sp_skel.specs.Places.{HasSides, IsSaid}
 use Rattle.sp_skel.specs.Spelling.{words_spelled, move_spelled, behind_by, spelled, cases_spelled, as_written, IsReadable, AreReadable}
 use Rattle.sp_skel.proofs.Blanks.{Lexes, lexes_blank, space, line_end, lexes_word, lexes_goal}
 use Rattle.sp_skel.proofs.Goals.{closes_goal}
 use Rattle.sp_skel.proofs.Spelled.{HaveCase, tree_spells, tree_says}
-use Rattle.sp_skel.proofs.Table.{IsLine, lines}
+use Rattle.sp_skel.proofs.Table.{IsLine, lines, read_back}
 
 lexes_at : {size : ℕ} {bytes others : List ℕ} {xs : List Lexeme} → bytes ≡ others → Lexes size others xs → Lexes size bytes xs
 lexes_at {size} {xs = xs} e l = subst (λ (b : List ℕ). Lexes size b xs) (sym e) l
@@ -56,20 +56,20 @@ pub word_qed : IsWord (codes "qed")
 unfolding skip
 word_qed = (refl, refl)
 
-lexes_words : {size : ℕ} {xs : List Lexeme} (m : Move) (ws : Words) (rest : List ℕ) → IsLine m ws → AreWithin ws → Lexes size (10 ∷ rest) xs → Lexes size (words_text ws ++ 10 ∷ rest) (words_spelled ws ∷ xs)
-lexes_words m (method w) rest line h l = lexes_word w 10 rest line.is_word line_end line.goes_on line.no_goal l
-lexes_words m (goal w arguments) rest line h l =
+lexes_words : {size : ℕ} {xs : List Lexeme} (m : Move) (ws : Words) (rest : List ℕ) → IsLine m ws → AreWithin ws → HasSides m → Lexes size (10 ∷ rest) xs → Lexes size (words_text ws ++ 10 ∷ rest) (words_spelled ws ∷ xs)
+lexes_words m (method w) rest line h sides l = lexes_word w 10 rest line.is_word line_end line.goes_on line.no_goal l
+lexes_words m (goal w arguments) rest line h sides l =
     let inside : List ℕ = goal_text w arguments in
-    lexes_at (ap (λ (bytes : List ℕ). codes "solve(" ++ bytes) (append_assoc inside (codes ")") (10 ∷ rest))) (lexes_goal inside (10 ∷ rest) (closes_goal w arguments line.unbroken h) l)
+    lexes_at (ap (λ (bytes : List ℕ). codes "solve(" ++ bytes) (append_assoc inside (codes ")") (10 ∷ rest))) (lexes_goal inside (10 ∷ rest) (closes_goal w arguments line.unbroken (read_back m w arguments line h sides)) l)
 
-lexes_move : {size : ℕ} {xs : List Lexeme} (m : Move) (rest : List ℕ) → HasPlace m → Lexes size (10 ∷ rest) xs → Lexes size (move_text m ++ 10 ∷ rest) (move_spelled m ∷ xs)
-lexes_move m rest h l = lexes_words m (words_of m) rest (lines m) h l
+lexes_move : {size : ℕ} {xs : List Lexeme} (m : Move) (rest : List ℕ) → IsSaid m → Lexes size (10 ∷ rest) xs → Lexes size (move_text m ++ 10 ∷ rest) (move_spelled m ∷ xs)
+lexes_move m rest h l = lexes_words m (words_of m) rest (lines m) h.0 h.1 l
 
-lexes_by : {size : ℕ} {xs : List Lexeme} (m : Move) (rest : List ℕ) → HasPlace m → Lexes size (10 ∷ rest) xs → Lexes size ((codes "by " ++ move_text m) ++ 10 ∷ rest) (word (codes "by") ∷ move_spelled m ∷ xs)
+lexes_by : {size : ℕ} {xs : List Lexeme} (m : Move) (rest : List ℕ) → IsSaid m → Lexes size (10 ∷ rest) xs → Lexes size ((codes "by " ++ move_text m) ++ 10 ∷ rest) (word (codes "by") ∷ move_spelled m ∷ xs)
 lexes_by m rest h l = lexes_word (codes "by") 32 (move_text m ++ 10 ∷ rest) word_by space refl refl (lexes_blank 32 refl (lexes_move m rest h l))
 
 -- a move without cases
-lexes_leaf : {size : ℕ} {xs : List Lexeme} (m : Move) (rest : List ℕ) → HasPlace m → Lexes size (10 ∷ rest) xs → Lexes size ((leading m ++ move_text m) ++ 10 ∷ rest) (behind_by m (move_spelled m ∷ xs))
+lexes_leaf : {size : ℕ} {xs : List Lexeme} (m : Move) (rest : List ℕ) → IsSaid m → Lexes size (10 ∷ rest) xs → Lexes size ((leading m ++ move_text m) ++ 10 ∷ rest) (behind_by m (move_spelled m ∷ xs))
 lexes_leaf {size} {xs} m rest h l = at (stand_alone (words_of m))
   where
     at : (b : Bool) → Lexes size (((if b then [] else codes "by ") ++ move_text m) ++ 10 ∷ rest) (if b then move_spelled m ∷ xs else word (codes "by") ∷ move_spelled m ∷ xs)

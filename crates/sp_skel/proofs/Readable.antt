@@ -10,7 +10,7 @@ use Rattle.sp_spec_system.specs.System.{System, Event, happening_actions}
 use Rattle.sp_spec_system.specs.Formulas.{Found}
 use Rattle.sp_spec_system.specs.MakingOne.{event_at, made_one}
 use Rattle.sp_spec_proof.specs.Rows.{has_place, is_contradictory}
-use Rattle.sp_spec_system.specs.Move.{Move, simplify, contradiction, unproved, solved, or, action, premise, know, chain, Context, Case, end_log}
+use Rattle.sp_spec_system.specs.Move.{Move, simplify, contradiction, unproved, solved, or, action, premise, know, chain, induction, source, compare, top, same, more_events, finish, Context, Case, end_log}
 use Rattle.sp_spec_system.specs.Cases.{where_same, case_if, named}
 use Rattle.sp_spec_formula.specs.Action.{at_event, by_forms, by_each, by_adversary, at_each, action_cases, solving_action}
 use Rattle.sp_spec_formula.specs.Or.{by_part, disjunction_at, or_cases}
@@ -24,7 +24,7 @@ use Rattle.sp_spec_proof.proofs.Growing.{grown_tree_accepted}
 use Rattle.sp_moves_formula.specs.Sought.{sought}
 use Rattle.sp_moves_formula.proofs.ByAction.{sought_cases, solves}
 use Rattle.sp_spec_text.specs.Names.{IsName, IsWord}
-use Rattle.sp_skel.specs.Places.{HasPlace, HavePlaces, AllHavePlaces}
+use Rattle.sp_skel.specs.Places.{HasSides, IsSaid, HavePlaces, AllHavePlaces}
 use Rattle.sp_skel.specs.Spelling.{IsReadable, AreReadable, MayHaveCases, AreNamed}
 use Rattle.sp_skel.proofs.CaseNames.{at_named, event_named, part_named}
 use Rattle.sp_skel.proofs.NamedCases.{CasesNamed, named_append, if_named, rule_named}
@@ -141,6 +141,13 @@ raw_fine context s (premise i p) cs h e = premise_fine context.rules.forms s i p
 raw_fine context s (know i) cs h e = know_fine context.rules s i (wanted_at context.rules.signature.symbols s i) cs h e
 raw_fine context s (chain i) cs h e = chain_fine (destructions context.rules.signature) s i (begun_at s i) cs e
 raw_fine context s (action k) cs h e = solving_fine context.rules.forms s (slice_get s.formulas k) cs h e
+raw_fine context s induction cs h e = absurd (let none : ⊥ = cc in none)
+raw_fine context s (source i) cs h e = absurd (let none : ⊥ = cc in none)
+raw_fine context s (compare i j) cs h e = absurd (let none : ⊥ = cc in none)
+raw_fine context s (top k) cs h e = absurd (let none : ⊥ = cc in none)
+raw_fine context s (same a b) cs h e = absurd (let none : ⊥ = cc in none)
+raw_fine context s more_events cs h e = absurd (let none : ⊥ = cc in none)
+raw_fine context s finish cs h e = absurd (let none : ⊥ = cc in none)
 
 simple_named : (rules : Rules) (cs : List Case) → CasesNamed cs → CasesNamed (map (simple_case rules) cs)
 simple_named rules [] h = tt
@@ -163,7 +170,7 @@ abbrev pub TreesReadable : Branches → Type 0
 TreesReadable no_branch = Unit {0}
 TreesReadable (branch n t bs) = IsReadable t × TreesReadable bs
 
-node_named : (m : Move) (bs : Branches) → HasPlace m → MayHaveCases m → AreReadable bs → IsReadable (node m bs)
+node_named : (m : Move) (bs : Branches) → IsSaid m → MayHaveCases m → AreReadable bs → IsReadable (node m bs)
 node_named m no_branch p may r = p
 node_named m (branch [] t no_branch) p may r = absurd r.1
 node_named m (branch [] t (branch n u bs)) p may r = absurd r.1
@@ -175,12 +182,12 @@ all_named context [] (branch name t bs) n h r = absurd h
 all_named context (c ∷ cs) no_branch n h r = absurd h
 all_named context (c ∷ cs) (branch name t bs) n h r = (subst IsName (sym h.0) n.0, subst IsWord (sym h.0) n.1, r.0, all_named context cs bs n.2 h.2 r.1)
 
-only_unnamed : (context : Context) (m : Move) (s : System) (bs : Branches) → HasPlace m → MayHaveCases m → AreAccepted context (Some (record { name = []; system = s } ∷ [])) bs → TreesReadable bs → IsReadable (node m bs)
+only_unnamed : (context : Context) (m : Move) (s : System) (bs : Branches) → IsSaid m → MayHaveCases m → AreAccepted context (Some (record { name = []; system = s } ∷ [])) bs → TreesReadable bs → IsReadable (node m bs)
 only_unnamed context m s no_branch p may h r = absurd h
 only_unnamed context m s (branch name t no_branch) p may h r = subst (λ (n : List ℕ). IsReadable (node m (branch n t no_branch))) (sym h.0) (p, may, r.0)
 only_unnamed context m s (branch name t (branch n u bs)) p may h r = absurd h.2
 
-node_fine : (context : Context) (m : Move) (bs : Branches) (o : Option (List Case)) → ((cs : List Case) → o ≡ Some cs → Fine cs) → HasPlace m → MayHaveCases m → AreAccepted context o bs → TreesReadable bs → IsReadable (node m bs)
+node_fine : (context : Context) (m : Move) (bs : Branches) (o : Option (List Case)) → ((cs : List Case) → o ≡ Some cs → Fine cs) → IsSaid m → MayHaveCases m → AreAccepted context o bs → TreesReadable bs → IsReadable (node m bs)
 node_fine context m bs None f p may h r = absurd h
 node_fine context m bs (Some cs) f p may h r = at (f cs refl)
   where
@@ -191,22 +198,20 @@ node_fine context m bs (Some cs) f p may h r = at (f cs refl)
 -- where the search ends no case is left
 end_fine : (context : Context) (o : Option Log) (bs : Branches) → AreAccepted context (option_map (map (simple_case context.rules)) (if is_some o then Some [] else None)) bs → IsReadable (node solved bs)
 end_fine context None bs h = absurd h
-end_fine context (Some log) no_branch h = tt
+end_fine context (Some log) no_branch h = (tt, tt)
 end_fine context (Some log) (branch name t bs) h = absurd h
 
 -- the end of the search, or a move that may have cases
 ends_or_may : (m : Move) → (m ≡ solved) ⊎ MayHaveCases m
-ends_or_may simplify = inr refl
-ends_or_may contradiction = inr refl
-ends_or_may unproved = inr refl
 ends_or_may solved = inl refl
-ends_or_may (or k) = inr refl
-ends_or_may (action k) = inr refl
-ends_or_may (premise i p) = inr refl
-ends_or_may (know i) = inr refl
-ends_or_may (chain i) = inr refl
+ends_or_may m = inr refl
 
-either_fine : (context : Context) (s : System) (m : Move) (bs : Branches) → (m ≡ solved) ⊎ MayHaveCases m → AreNamed context.rules.forms → HasPlace m → AreAccepted context (cases context s m) bs → TreesReadable bs
+-- a move of sides has no cases as yet
+has_sides : (context : Context) (s : System) (m : Move) (bs : Branches) → AreAccepted context (cases context s m) bs → HasSides m
+has_sides context s (same a b) bs h = absurd h
+has_sides context s m bs h = tt
+
+either_fine : (context : Context) (s : System) (m : Move) (bs : Branches) → (m ≡ solved) ⊎ MayHaveCases m → AreNamed context.rules.forms → IsSaid m → AreAccepted context (cases context s m) bs → TreesReadable bs
     → IsReadable (node m bs)
 either_fine context s m bs (inl e) n p h r =
     subst (λ (x : Move). IsReadable (node x bs)) (sym e) (end_fine context (end_log context s) bs (subst (λ (x : Move). AreAccepted context (cases context s x) bs) e h))
@@ -214,7 +219,7 @@ either_fine context s m bs (inr may) n p h r = node_fine context m bs (cases con
 
 mutual
   pub tree_readable : (context : Context) (s : System) (t : Tree) → AreNamed context.rules.forms → HavePlaces t → IsAccepted context s t → IsReadable t
-  tree_readable context s (node m bs) n p h = either_fine context s m bs (ends_or_may m) n p.0 h (trees_readable context (cases context s m) bs n p.1 h)
+  tree_readable context s (node m bs) n p h = either_fine context s m bs (ends_or_may m) n (p.0, has_sides context s m bs h) h (trees_readable context (cases context s m) bs n p.1 h)
 
   trees_readable : (context : Context) (o : Option (List Case)) (bs : Branches) → AreNamed context.rules.forms → AllHavePlaces bs → AreAccepted context o bs → TreesReadable bs
   trees_readable context None bs n p h = absurd h

@@ -4,16 +4,16 @@ use Rattle.std.proofs.lemmas.Slice.Eq.{bytes_eq-Decides}
 use Rattle.sp_spec_text.specs.Token.{Lexeme, word}
 use Rattle.sp_spec_text.specs.Written.{said, step, no_case}
 use Rattle.sp_spec_system.specs.Move.{Move}
-use Rattle.sp_spec_system.specs.Words.{Words, method, goal, words_of, AreWithin, if_within, stand_alone}
+use Rattle.sp_spec_system.specs.Words.{Words, method, goal, words_of, AreWithin, stand_alone}
 use Rattle.sp_spec_proof.specs.Tree.{Tree, node, Branches, no_branch, branch}
 use Rattle.sp_check.specs.Skeleton.{known, tree_of, branches_of}
 use Rattle.sp_spec_text.specs.Proofs as grammar
 use Rattle.sp_spec_text.specs.Proofs.{SpellsMethod, by_word, by_goal, SpellsProof, by_method, method_proof, method_cases, SpellsCases, case, qed, next}
 use Rattle.sp_skel.specs.Steps.{step_said, skeleton, branches}
-use Rattle.sp_skel.specs.Places.{HasPlace}
+use Rattle.sp_skel.specs.Places.{HasSides, IsSaid}
 use Rattle.sp_skel.specs.Spelling.{words_spelled, move_spelled, spelled, cases_spelled, words_said, move_said, as_written, all_as_written, MayHaveCases, IsReadable, AreReadable}
-use Rattle.sp_skel.proofs.Goals.{named_within, goal_says}
-use Rattle.sp_skel.proofs.Table.{IsLine, lines}
+use Rattle.sp_skel.proofs.Goals.{goal_says}
+use Rattle.sp_skel.proofs.Table.{IsLine, lines, sided, read_back}
 
 -- ---- moves
 
@@ -37,12 +37,12 @@ leaf_spells m rest = at (stand_alone (words_of m)) refl
     at true h = alone_spells (words_of m) h rest
     at false h = by_method (move_spells m h rest)
 
-words_say : (m : Move) (ws : Words) → IsLine m ws → AreWithin ws → if_within m ≡ Some m → step_said (words_said ws) ≡ known m
-words_say m (method w) line h n = rw line.says refl
-words_say m (goal w arguments) line h n = goal_says m w arguments line.unbroken h line.says n
+words_say : (m : Move) (ws : Words) → IsLine m ws → AreWithin ws → HasSides m → step_said (words_said ws) ≡ known m
+words_say m (method w) line h sides = rw line.says refl
+words_say m (goal w arguments) line h sides = goal_says m w arguments line.unbroken (read_back m w arguments line h sides) (line.says (sided m sides))
 
-pub move_says : (m : Move) → HasPlace m → step_said (move_said m) ≡ known m
-move_says m h = words_say m (words_of m) (lines m) h (named_within m h)
+pub move_says : (m : Move) → IsSaid m → step_said (move_said m) ≡ known m
+move_says m h = words_say m (words_of m) (lines m) h.0 h.1
 
 -- ---- trees
 
@@ -66,7 +66,7 @@ mutual
       case h.0 (tree_spells t h.2 (word (codes "next") ∷ cases_spelled (branch m u bs) rest)) (next (cases_spell (branch m u bs) tt h.3 rest))
 
 -- a known move over cases that say these branches
-node_says : (m : Move) (bs : Branches) → HasPlace m → branches_of (branches (all_as_written bs)) ≡ Some bs → tree_of (skeleton (as_written (node m bs))) ≡ Some (node m bs)
+node_says : (m : Move) (bs : Branches) → IsSaid m → branches_of (branches (all_as_written bs)) ≡ Some bs → tree_of (skeleton (as_written (node m bs))) ≡ Some (node m bs)
 node_says m bs h e = rw (move_says m h, e) refl
 
 mutual

@@ -4,7 +4,7 @@ use Rattle.sp_spec_text.specs.Token.{Lexeme, Token}
 use Rattle.sp_spec_text.specs.Lex.{AreTokens, lexemes}
 use Rattle.sp_spec_system.specs.System.{System}
 use Rattle.sp_spec_system.specs.Move.{Move, Context}
-use Rattle.sp_spec_system.specs.Words.{Argument, method, goal, words_of, of_method, of_goal, number}
+use Rattle.sp_spec_system.specs.Words.{Argument, method, goal, words_of, of_method, Said, of_goal, said_of, IsSided}
 use Rattle.sp_spec_proof.specs.Tree.{Tree, IsAccepted}
 use Rattle.sp_spec_proof.specs.Growth.{grown_tree}
 use Rattle.sp_skel.specs.TreeText.{tree_text}
@@ -15,16 +15,17 @@ use Rattle.sp_skel.specs.Steps.{skeleton}
 use Rattle.sp_skel.specs.Places.{HavePlaces}
 use Rattle.sp_skel.specs.Spelling.{as_written, IsReadable, AreNamed}
 
--- the move is written as a goal of this word, and these numbers stand behind it
-pub record IsGoal (w numbers : List ℕ) (move : Move) : Type 0 where
+-- the move is written as a goal of this word, and this stands behind it
+pub record IsGoal (w : List ℕ) (said : List Said) (move : Move) : Type 0 where
   pub arguments : List Argument
   pub words_are : words_of move ≡ goal w arguments
-  pub numbers_are : map number arguments ≡ numbers
+  pub said_are : map said_of arguments ≡ said
+  pub sided : IsSided move
 
 -- the table of words and its inverse have the same lines
 pub record WordsAreMoves : Type 0 where
   pub methods : (w : List ℕ) (move : Move) → (of_method w ≡ Some move) ↔ (words_of move ≡ method w)
-  pub goals : (w numbers : List ℕ) (move : Move) → (of_goal w numbers ≡ Some move) ↔ IsGoal w numbers move
+  pub goals : (w : List ℕ) (said : List Said) (move : Move) → (of_goal w said ≡ Some move) ↔ IsGoal w said move
 
 -- the last bytes of a text of this size begin with a proof that says the tree, and behind it follows the rest
 pub record ReadsBack (size : ℕ) (bytes : List ℕ) (t : Tree) (rest : List Lexeme) : Type 0 where

@@ -6,7 +6,7 @@ use Rattle.sp_spec_system.specs.Move.{Move}
 use Rattle.sp_spec_system.specs.Words.{Words, words_of, goal_text, stand_alone}
 use Rattle.sp_spec_system.specs.Words as words
 use Rattle.sp_spec_proof.specs.Tree.{Tree, node, Branches, no_branch, branch}
-use Rattle.sp_skel.specs.Places.{HasPlace}
+use Rattle.sp_skel.specs.Places.{IsSaid}
 use Rattle.sp_spec_text.specs.Written.{Method, said, goal, WrittenProof, step, WrittenCases, no_case, then_case}
 use Rattle.sp_spec_forms.specs.Forms.{RuleForms}
 
@@ -55,9 +55,9 @@ MayHaveCases move = stand_alone (words_of move) ≡ false
 -- Each case has a name, or it is its node's only one and has none.
 abbrev mutual
   pub IsReadable : Tree → Type 0
-  IsReadable (node move no_branch) = HasPlace move
-  IsReadable (node move (branch [] tree no_branch)) = HasPlace move × MayHaveCases move × IsReadable tree
-  IsReadable (node move (branch name tree branches)) = HasPlace move × MayHaveCases move × AreReadable (branch name tree branches)
+  IsReadable (node move no_branch) = IsSaid move
+  IsReadable (node move (branch [] tree no_branch)) = IsSaid move × MayHaveCases move × IsReadable tree
+  IsReadable (node move (branch name tree branches)) = IsSaid move × MayHaveCases move × AreReadable (branch name tree branches)
 
   pub AreReadable : Branches → Type 0
   AreReadable no_branch = Unit {0}

@@ -1,31 +1,25 @@
 -- What the methods of a proof say. Source: Tamarin manual, "Proofs".
-use Rattle.std.specs.Prelude.{ℕ, if◌then◌else◌, List, [], ◌∷◌, Option, Some, None, option_map, option_and_then}
+use Rattle.std.specs.Prelude.{ℕ, List, [], ◌∷◌, Option, Some, None, option_and_then}
 use Rattle.sp_spec_system.specs.Move.{Move}
-use Rattle.sp_spec_system.specs.Words.{of_method, of_goal, if_within}
+use Rattle.sp_spec_system.specs.Words.{of_method, of_goal}
 use Rattle.sp_spec_text.specs.Written.{Method, said, goal, WrittenProof, step, WrittenCases, no_case, then_case}
 use Rattle.sp_check.specs.Nodes.{NodeRead}
-use Rattle.sp_check.specs.Skeleton.{Step, known, unbuilt, unknown, Skeleton, node_read, BranchesRead, none_read, branch_read}
+use Rattle.sp_check.specs.Skeleton.{Step, known, unknown, Skeleton, node_read, BranchesRead, none_read, branch_read}
 use Rattle.sp_spec_text.specs.Blanks.{trimmed}
-use Rattle.sp_skel.specs.MoveTexts.{words, numbers, is_unbuilt_method, is_unbuilt}
+use Rattle.sp_skel.specs.MoveTexts.{words, all_said}
 
--- what a word says, by the move that it is
-abbrev pub method_step : List ℕ → Option Move → Step
-method_step w (Some move) = known move
-method_step w None = if is_unbuilt_method w then unbuilt w else unknown w
+-- what a word or a text says, by the move that it is
+abbrev pub step_by : List ℕ → Option Move → Step
+step_by text (Some move) = known move
+step_by text None = unknown text
 
 abbrev pub step_of_word : List ℕ → Step
-step_of_word w = method_step w (of_method w)
+step_of_word w = step_by w (of_method w)
 
--- What a goal's text says, by its words, and by the move that they are, if a text can name it: at a place beyond those of lists there is
--- no formula and no premise, and so no instance.
-abbrev pub goal_step : List ℕ → List ℕ → List (List ℕ) → Option (Option Move) → Step
-goal_step text w others (Some (Some move)) = known move
-goal_step text w others (Some None) = unbuilt text
-goal_step text w others None = if is_unbuilt w others then unbuilt text else unknown text
-
+-- what a goal's text says, by its words
 abbrev pub step_of_words : List ℕ → List (List ℕ) → Step
 step_of_words text [] = unknown text
-step_of_words text (w ∷ others) = goal_step text w others (option_map if_within (option_and_then (of_goal w) (numbers others)))
+step_of_words text (w ∷ others) = step_by text (option_and_then (of_goal w) (all_said others))
 
 abbrev pub trimmed_step : List ℕ → Step
 trimmed_step text = step_of_words text (words text)

@@ -1,13 +1,17 @@
 // What the methods of a proof say.
 
-ghost use Rattle.std.specs.Prelude.{◌≡◌, ◌∷◌, IfOk, map};
+ghost use Rattle.std.specs.Prelude.{◌≡◌, ◌∷◌, IfOk, map, option_map, option_and_then};
 ghost use Rattle.sp_written.specs.Views as view;
+ghost use Rattle.sp_step.specs.View.{move_of};
+ghost use Rattle.sp_step.specs.WordsView.{said_of};
+ghost use Rattle.sp_spec_system.specs.Words.{of_goal};
 ghost use Rattle.sp_check.specs.View.{step_of};
 ghost use Rattle.sp_skel.specs.Steps as spec;
 
-use crate::texts::{is_unbuilt, is_unbuilt_method, numbers, trimmed, words};
+use crate::texts::{all_said, trimmed, words};
 use sp_check::Step;
-use sp_step::words::{of_goal, of_method};
+use sp_step::moves::Move;
+use sp_step::words::{Said, of_goal, of_method};
 use sp_written::Method;
 use std::alloc::{AllocError, Global};
 
@@ -19,10 +23,16 @@ fn step_of_word(alloc: Global, word: &str) -> Result<Step, AllocError>
         return Ok(Step::Known(chosen));
     }
     let text = word.as_bytes().to_vec(alloc)?;
-    if is_unbuilt_method(word) {
-        Ok(Step::Unbuilt(text))
-    } else {
-        Ok(Step::Unknown(text))
+    Ok(Step::Unknown(text))
+}
+
+/// The move that is said by the word of a goal, and by what stands behind it, if that says something.
+fn move_said(word: &[u8], said: Option<Vec<Said>>) -> Result<Option<Move>, AllocError>
+    ensures { IfOk result (λ o. option_map move_of o ≡ option_and_then (of_goal word.now) (option_map (λ xs. map said_of xs.items) said)) }
+{
+    match said {
+        Some(said) => of_goal(word, &said),
+        None => Ok(None),
     }
 }
 
@@ -35,16 +45,13 @@ fn step_of_words(
 ) -> Result<Step, AllocError>
     ensures { IfOk result (λ x. step_of x ≡ spec.step_of_words text.now (word.now ∷ map (λ w. w.now) others.now)) }
 {
-    let said = match numbers(alloc, others)? {
-        Some(numbers) => of_goal(word, &numbers),
-        None => None,
-    };
-    let text = text.to_vec(alloc)?;
-    match said {
-        Some(Some(chosen)) => Ok(Step::Known(chosen)),
-        Some(None) => Ok(Step::Unbuilt(text)),
-        None if is_unbuilt(word, others) => Ok(Step::Unbuilt(text)),
-        None => Ok(Step::Unknown(text)),
+    let said = all_said(alloc, others)?;
+    match move_said(word, said)? {
+        Some(chosen) => Ok(Step::Known(chosen)),
+        None => {
+            let text = text.to_vec(alloc)?;
+            Ok(Step::Unknown(text))
+        }
     }
 }
 

@@ -1,12 +1,16 @@
 // The texts of moves.
 
-ghost use Rattle.std.specs.Prelude.{◌≡◌, [], ◌∷◌, ◌++◌, ◌+◌, ◌-◌, ◌*◌, ◌<◌, ◌≤◌, ⊤, length, map, reverse, IfOk, MatchOption, option_map};
+ghost use Rattle.std.specs.Prelude.{◌≡◌, [], ◌∷◌, ◌++◌, ◌+◌, ◌-◌, ◌*◌, ◌<◌, ◌≤◌, ⊤, length, map, reverse, IfOk, IfSome, IsUtf8, MatchOption, option_map, option_and_then};
+ghost use Rattle.std.specs.List.{list_all};
 ghost use Rattle.sp_spec_text.specs.Lex as lex;
 ghost use Rattle.sp_spec_text.specs.Blanks as blanks;
 ghost use Rattle.sp_spec_text.specs.Numerals.{below_limit};
+ghost use Rattle.sp_moves_formula.specs.View.{side_of};
+ghost use Rattle.sp_step.specs.WordsView.{said_of};
 ghost use Rattle.sp_skel.specs.MoveTexts as spec;
 
-use sp_step::words::is;
+use sp_step::words::{Said, Side};
+use sp_term::term::Name;
 use std::alloc::{AllocError, Global};
 
 fn split(text: &[u8]) -> Option<(u8, &[u8])>
@@ -147,135 +151,92 @@ fn with_digit(number: u128, digit: u8) -> Option<u128>
     tens.checked_add(u128::from(digit - b'0'))
 }
 
-/// Whether it is `~N` or `$N`.
-fn is_variable(word: &[u8]) -> bool
-    ensures { result ≡ spec.is_variable word.now }
-{
-    match split(word) {
-        Some((byte, number)) => (byte == b'~' || byte == b'$') && number_of(number).is_some(),
-        None => false,
-    }
-}
+// ---- sides
 
-/// Whether bytes of a constant stand here, and a quote behind them with which the text ends.
-#[tactic(auto, unfolding(crate::specs::MoveTexts::ends_constant))]
-fn ends_constant(text: &[u8]) -> bool
-    ensures { result ≡ spec.ends_constant text.now }
+/// Whether each byte is one of a constant.
+fn are_constant(bytes: &[u8]) -> bool
+    ensures { result ≡ list_all lex.is_constant_byte bytes.now }
 {
-    let mut rest = text;
-    while let Some((byte, behind)) = split(rest) {
-        if behind.is_empty() {
-            return byte == b'\'';
-        }
-        if !is_constant_byte(byte) {
+    for byte in bytes {
+        if !is_constant_byte(*byte) {
             return false;
         }
-        rest = behind;
     }
-    false
+    true
 }
 
-fn begins_constant(text: &[u8]) -> bool
-    ensures { result ≡ spec.begins_constant text.now }
+/// The bytes of a constant, before the quote with which the text ends.
+#[tactic(auto, using(crate::proofs::Constants::constants))]
+fn unquoted(text: &[u8]) -> Option<&[u8]>
+    ensures value { option_map (λ x. x.now) result ≡ spec.unquoted text.now }
+    ensures utf8 { IfSome result (λ x. IsUtf8 x.now) }
 {
-    match split(text) {
-        Some((byte, _)) => is_constant_byte(byte),
-        None => false,
+    let (body, last) = split_last(text)?;
+    if last == b'\'' && are_constant(body) {
+        Some(body)
+    } else {
+        None
     }
 }
 
-/// Whether it is a constant in its quotes.
-fn is_constant(word: &[u8]) -> bool
-    ensures { result ≡ spec.is_constant word.now }
+/// These bytes as text.
+fn as_text(bytes: &[u8]) -> &str
+    requires { IsUtf8 bytes.now }
+    ensures { result.now ≡ bytes.now }
+{
+    match str::from_utf8(bytes) {
+        Ok(text) => text,
+        Err(_) => unreachable!(),
+    }
+}
+
+/// The constant of which the first quote stands before this text.
+fn constant_of(alloc: Global, text: &[u8]) -> Result<Option<Side>, AllocError>
+    ensures { IfOk result (λ o. option_map side_of o ≡ option_and_then spec.constant_of (spec.unquoted text.now)) }
+{
+    match unquoted(text) {
+        Some(body) if !body.is_empty() => {
+            let name = Name::new(alloc, as_text(body))?;
+            Ok(Some(Side::Constant(name)))
+        }
+        _ => Ok(None),
+    }
+}
+
+/// `~N`, `$N`, or a constant in quotes.
+fn side(alloc: Global, word: &[u8]) -> Result<Option<Side>, AllocError>
+    ensures { IfOk result (λ o. option_map side_of o ≡ spec.side_of word.now) }
 {
     match split(word) {
-        Some((byte, body)) => byte == b'\'' && begins_constant(body) && ends_constant(body),
-        None => false,
+        Some((b'~', digits)) => Ok(number_of(digits).map(Side::Fresh)),
+        Some((b'$', digits)) => Ok(number_of(digits).map(Side::Public)),
+        Some((b'\'', behind)) => constant_of(alloc, behind),
+        _ => Ok(None),
     }
 }
 
 // ---- what stands behind the word of a move
 
-/// The numbers that all words are, if they are numbers.
-pub fn numbers(alloc: Global, words: &[&[u8]]) -> Result<Option<Vec<u128>>, AllocError>
-    ensures { IfOk result (λ o. option_map (λ ns. ns.items) o ≡ spec.numbers (map (λ w. w.now) words.now)) }
+/// A side, or else a number.
+fn said_by(alloc: Global, word: &[u8]) -> Result<Option<Said>, AllocError>
+    ensures { IfOk result (λ o. option_map said_of o ≡ spec.said_by word.now) }
 {
-    let mut numbers = Vec::with_capacity(alloc, words.len())?;
+    match side(alloc, word)? {
+        Some(side) => Ok(Some(Said::Named(side))),
+        None => Ok(number_of(word).map(Said::Digits)),
+    }
+}
+
+/// What all words say, if each says something.
+pub fn all_said(alloc: Global, words: &[&[u8]]) -> Result<Option<Vec<Said>>, AllocError>
+    ensures { IfOk result (λ o. option_map (λ xs. map said_of xs.items) o ≡ spec.all_said (map (λ w. w.now) words.now)) }
+{
+    let mut said = Vec::with_capacity(alloc, words.len())?;
     for word in words {
-        let Some(number) = number_of(word) else {
+        let Some(one) = said_by(alloc, word)? else {
             return Ok(None);
         };
-        numbers.push(number)?;
+        said.push(one)?;
     }
-    Ok(Some(numbers))
-}
-
-fn is_number(word: &[u8]) -> bool
-    ensures { result ≡ spec.is_number word.now }
-{
-    number_of(word).is_some()
-}
-
-/// Whether it is a variable or a constant.
-fn is_side(word: &[u8]) -> bool
-    ensures { result ≡ spec.is_side word.now }
-{
-    is_variable(word) || is_constant(word)
-}
-
-fn is_one_number(words: &[&[u8]]) -> bool
-    ensures { result ≡ spec.is_one spec.is_number (map (λ w. w.now) words.now) }
-{
-    match words {
-        [number] => is_number(number),
-        _ => false,
-    }
-}
-
-fn are_two_numbers(words: &[&[u8]]) -> bool
-    ensures { result ≡ spec.are_two spec.is_number spec.is_number (map (λ w. w.now) words.now) }
-{
-    match words {
-        [first, second] => is_number(first) && is_number(second),
-        _ => false,
-    }
-}
-
-/// Whether they are two variables or constants, and not two constants.
-fn are_sides(words: &[&[u8]]) -> bool
-    ensures { result ≡ spec.are_sides (map (λ w. w.now) words.now) }
-{
-    match words {
-        [first, second] => {
-            is_variable(first) && is_side(second) || is_constant(first) && is_variable(second)
-        }
-        _ => false,
-    }
-}
-
-// ---- moves of which there are no instances yet
-
-/// Whether the word is the text of one.
-pub fn is_unbuilt_method(word: &str) -> bool
-    ensures { result ≡ spec.is_unbuilt_method word.now }
-{
-    word == "induction"
-}
-
-/// Whether the word and those behind it are the text of one.
-#[tactic(auto, unfolding(crate::specs::MoveTexts::is_unbuilt))]
-pub fn is_unbuilt(word: &[u8], others: &[&[u8]]) -> bool
-    ensures { result ≡ spec.is_unbuilt word.now (map (λ w. w.now) others.now) }
-{
-    if is(word, "more") || is(word, "finish") {
-        others.is_empty()
-    } else if is(word, "source") || is(word, "top") {
-        is_one_number(others)
-    } else if is(word, "compare") {
-        are_two_numbers(others)
-    } else if is(word, "same") {
-        are_sides(others)
-    } else {
-        false
-    }
+    Ok(Some(said))
 }

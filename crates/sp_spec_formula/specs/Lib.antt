@@ -11,3 +11,5 @@ pub mod Open
 pub mod Or
 pub mod Split
 pub mod Unequal
+pub mod Sides
+pub mod Top

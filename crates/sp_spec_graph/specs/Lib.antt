@@ -13,3 +13,6 @@ pub mod SettleLearn
 pub mod LearntEarly
 pub mod Know
 pub mod Chain
+pub mod Compare
+pub mod More
+pub mod Source

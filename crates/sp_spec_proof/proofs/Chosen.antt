@@ -11,7 +11,8 @@ use Rattle.sp_spec_system.specs.System.{System, Happening, Event, happening_prem
 use Rattle.sp_spec_system.specs.Move.{Move, Context, or, action, premise, know, chain}
 use Rattle.sp_spec_system.specs.Picked.{first_some}
 use Rattle.sp_spec_graph.specs.Know.{learnt_anyhow, is_message_variable}
-use Rattle.sp_spec_proof.specs.Choice.{Picker, Ranked, with_rank, places_from, premises_of, passed_last, no_message_variable, is_fresh_variable, is_application, if_of_kind, at_message, pickers, is_instance, first_instance, picked, choice}
+use Rattle.sp_spec_proof.specs.Kinds.{Picker, of_rank, places_from, premises_of, passed_last, no_message_variable, is_fresh_variable, is_application, if_of_kind, at_message, EventKind, event_kinds, at_each_event, all_at, event_pickers, pickers_by, are_consecutive, pickers}
+use Rattle.sp_spec_proof.specs.Choice.{Ranked, with_rank, is_instance, first_instance, picked, choice}
 use Rattle.sp_spec_proof.specs.Growth.{is_unproved}
 
 pub IfSome_map : {A B : Type 0} (f : A → B) (P : B → Type 0) (o : Option A) → IfSome o (λ x. P (f x)) → IfSome (option_map f o) P
@@ -32,46 +33,56 @@ each_proves move each xs =
     every_map (λ (p : ℕ). is_unproved (move p) ≡ false) (λ (m : Move). is_unproved m ≡ false) move (λ p h. h) (places_from 0 xs)
     (every_all (λ (p : ℕ). is_unproved (move p) ≡ false) each (places_from 0 xs))
 
-premises_prove : (events : List Event) → AllProve (flat_map premises_of events)
-premises_prove [] = tt
-premises_prove (e ∷ events) =
-    every_append (λ (m : Move). is_unproved m ≡ false) (premises_of e) (flat_map premises_of events)
-    (each_proves (premise e.time) (λ p. refl) (happening_premises e.happening)) (premises_prove events)
+premises_prove : (e : Event) → AllProve (premises_of e)
+premises_prove e = each_proves (premise e.time) (λ p. refl) (happening_premises e.happening)
 
-messages_prove : (move : ℕ → Move) → ((i : ℕ) → is_unproved (move i) ≡ false) → (message : Happening → Option (Term Variable)) (kind : Term Variable → Bool)
-    (events : List Event) → AllProve (flat_map (at_message move message kind) events)
-messages_prove move each message kind [] = tt
-messages_prove move each message kind (e ∷ events) =
-    every_append (λ (m : Move). is_unproved m ≡ false) (at_message move message kind e) (flat_map (at_message move message kind) events)
-    (at (message e.happening)) (messages_prove move each message kind events)
+message_proves : (move : ℕ → Move) → ((i : ℕ) → is_unproved (move i) ≡ false) → (message : Happening → Option (Term Variable)) (kind : Term Variable → Bool) (e : Event) →
+    AllProve (at_message move message kind e)
+message_proves move each message kind e = at (message e.happening)
   where
     at : (o : Option (Term Variable)) → AllProve (if_of_kind move kind e.time o)
     at None = tt
     at (Some m) = cond_both (kind m) (move e.time ∷ []) [] AllProve (λ _. (each e.time, tt)) (λ _. tt)
 
+-- ---- the kinds at events
+
+abbrev EventProves : EventKind → Type 0
+EventProves kind = (e : Event) → AllProve (kind.1 e)
+
+event_kinds_prove : Every EventProves event_kinds
+event_kinds_prove = (
+  message_proves chain (λ i. refl) passed_last no_message_variable,
+  (
+    premises_prove,
+    (
+      message_proves know (λ i. refl) learnt_anyhow is_fresh_variable,
+      (message_proves know (λ i. refl) learnt_anyhow is_application, (message_proves chain (λ i. refl) passed_last is_message_variable, tt)),
+    ),
+  ),
+)
+
+events_prove : (moves : Event → List Move) → ((e : Event) → AllProve (moves e)) → (events : List Event) → AllProve (flat_map moves events)
+events_prove moves each [] = tt
+events_prove moves each (e ∷ events) =
+    every_append (λ (m : Move). is_unproved m ≡ false) (moves e) (flat_map moves events) (each e) (events_prove moves each events)
+
+all_at_prove : (kinds : List EventKind) → Every EventProves kinds → (e : Event) → AllProve (all_at kinds e)
+all_at_prove [] h e = tt
+all_at_prove (kind ∷ kinds) h e =
+    every_append (λ (m : Move). is_unproved m ≡ false) (kind.1 e) (all_at kinds e) (h.0 e) (all_at_prove kinds h.1 e)
+
 module _ (context : Context) (s : System) where
   abbrev Proves : Picker → Type 0
   Proves kind = AllProve (kind.moves context s)
 
-  all_prove : Every Proves pickers
-  all_prove =
-      let chains = λ (kind : Term Variable → Bool). messages_prove chain (λ i. refl) passed_last kind s.events in
-      let messages = λ (kind : Term Variable → Bool). messages_prove know (λ i. refl) learnt_anyhow kind s.events in (
-        (refl, tt),
-        (
-          (refl, tt),
-          (
-            (refl, tt),
-            (
-              each_proves or (λ p. refl) s.formulas,
-              (
-                each_proves action (λ p. refl) s.formulas,
-                (chains no_message_variable, (premises_prove s.events, (messages is_fresh_variable, (messages is_application, (chains is_message_variable, tt))))),
-              ),
-            ),
-          ),
-        ),
-      )
+  each_event_proves : (consecutive : Bool) → Every Proves (event_pickers consecutive)
+  each_event_proves false =
+      every_map EventProves Proves (λ (kind : EventKind). of_rank kind.0 (at_each_event kind.1)) (λ kind h. events_prove kind.1 h s.events) event_kinds event_kinds_prove
+  each_event_proves true = (events_prove (all_at event_kinds) (all_at_prove event_kinds event_kinds_prove) s.events, tt)
+
+  all_prove : (consecutive : Bool) → Every Proves (pickers_by consecutive)
+  all_prove consecutive =
+      ((refl, tt), ((refl, tt), ((refl, tt), (each_proves or (λ p. refl) s.formulas, (each_proves action (λ p. refl) s.formulas, each_event_proves consecutive)))))
 
   -- ---- the first instance
 
@@ -93,7 +104,7 @@ module _ (context : Context) (s : System) where
 
   choice_is_made : IfSome (choice context s) (λ (r : Ranked). IsMade r.move)
   unfolding choice
-  choice_is_made = picked_is_made pickers all_prove
+  choice_is_made = picked_is_made (pickers context) (all_prove (are_consecutive context.root))
 
   pub choice_is_instance : IfSome (choice context s) (λ (r : Ranked). is_instance context s r.move ≡ true)
   choice_is_instance = IfSome_then (choice context s) choice_is_made (λ r h. h.0)

@@ -3,7 +3,7 @@ use Rattle.std.proofs.Common.{◌≡◌, ◌≤◌, ℕ, zero, suc, ◌+◌, Boo
 use Rattle.std.proofs.lemmas.Bool.{cond_both}
 use Rattle.std.proofs.lemmas.Option.{IfSome_then}
 use Rattle.sp_spec_system.specs.System.{System}
-use Rattle.sp_spec_system.specs.Move.{Move, simplify, contradiction, unproved, solved, or, action, premise, know, chain, Context, Case}
+use Rattle.sp_spec_system.specs.Move.{Move, unproved, Context, Case}
 use Rattle.sp_spec_proof.specs.Cases.{cases}
 use Rattle.sp_spec_proof.specs.Choice.{Ranked, choice, class_of}
 use Rattle.sp_spec_proof.specs.Tree.{Tree, node, Branches, no_branch, branch, IsAccepted, AreAccepted, step_of, steps, steps_in}
@@ -33,15 +33,8 @@ open_leaves_steps None = refl
 open_leaves_steps (Some cs) = leaves_steps cs
 
 step_of_one : (move : Move) → step_of move ≤ 1
-step_of_one simplify = omega arith
-step_of_one contradiction = omega arith
 step_of_one unproved = omega arith
-step_of_one solved = omega arith
-step_of_one (or k) = omega arith
-step_of_one (action k) = omega arith
-step_of_one (premise i p) = omega arith
-step_of_one (know i) = omega arith
-step_of_one (chain i) = omega arith
+step_of_one move = omega arith
 
 grown_leaf_steps : (context : Context) (s : System) (chosen : Ranked) → steps (grown_leaf context s chosen) ≤ 1
 grown_leaf_steps context s chosen = omega (arith, step_of_one chosen.move, open_leaves_steps (cases context s chosen.move))

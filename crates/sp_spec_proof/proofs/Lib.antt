@@ -1,3 +1,4 @@
+pub mod Contradictions
 pub mod Chosen
 pub mod Growing
 pub mod Logs

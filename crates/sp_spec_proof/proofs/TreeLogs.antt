@@ -3,7 +3,7 @@ use Rattle.std.proofs.Common.{◌≡◌, ⊎_elim, Bool, true, false, if◌then�
 use Rattle.std.proofs.lemmas.Bool.{or_cases, or_parts}
 use Rattle.sp_spec.specs.Log.{Log}
 use Rattle.sp_spec_system.specs.System.{System}
-use Rattle.sp_spec_system.specs.Move.{simplify, contradiction, unproved, solved, or, action, premise, know, chain, Context, Case, end_log}
+use Rattle.sp_spec_system.specs.Move.{solved, Context, Case, end_log}
 use Rattle.sp_spec_proof.specs.Cases.{simple_case, cases}
 use Rattle.sp_spec_proof.specs.Tree.{Tree, node, Branches, no_branch, branch, IsAccepted, AreAccepted, IsFinished, AreFinished, is_solved, first_log, found_log, found_below}
 use Rattle.sp_spec_proof.specs.Growth.{has_end, some_end}
@@ -58,14 +58,7 @@ module _ (context : Context) where
   mutual
     pub log_at_end : (tree : Tree) (s : System) → IsAccepted context s tree → has_end tree ≡ true → IsThere (found_log context s tree)
     log_at_end (node solved branches) s a e = there_if context (end_log context s) branches a
-    log_at_end (node simplify branches) s a e = log_at_one branches (cases context s simplify) a e
-    log_at_end (node contradiction branches) s a e = log_at_one branches (cases context s contradiction) a e
-    log_at_end (node unproved branches) s a e = log_at_one branches (cases context s unproved) a e
-    log_at_end (node (or k) branches) s a e = log_at_one branches (cases context s (or k)) a e
-    log_at_end (node (action k) branches) s a e = log_at_one branches (cases context s (action k)) a e
-    log_at_end (node (premise i p) branches) s a e = log_at_one branches (cases context s (premise i p)) a e
-    log_at_end (node (know i) branches) s a e = log_at_one branches (cases context s (know i)) a e
-    log_at_end (node (chain i) branches) s a e = log_at_one branches (cases context s (chain i)) a e
+    log_at_end (node move branches) s a e = log_at_one branches (cases context s move) a e
 
     log_at_one : (branches : Branches) (o : Option (List Case)) → AreAccepted context o branches → some_end branches ≡ true → IsThere (found_below context o branches)
     log_at_one no_branch o a e = absurd cc
@@ -82,14 +75,7 @@ module _ (context : Context) where
   mutual
     pub no_log : (tree : Tree) (s : System) → has_end tree ≡ false → found_log context s tree ≡ None
     no_log (node solved branches) s e = absurd cc
-    no_log (node simplify branches) s e = no_log_below branches (cases context s simplify) e
-    no_log (node contradiction branches) s e = no_log_below branches (cases context s contradiction) e
-    no_log (node unproved branches) s e = no_log_below branches (cases context s unproved) e
-    no_log (node (or k) branches) s e = no_log_below branches (cases context s (or k)) e
-    no_log (node (action k) branches) s e = no_log_below branches (cases context s (action k)) e
-    no_log (node (premise i p) branches) s e = no_log_below branches (cases context s (premise i p)) e
-    no_log (node (know i) branches) s e = no_log_below branches (cases context s (know i)) e
-    no_log (node (chain i) branches) s e = no_log_below branches (cases context s (chain i)) e
+    no_log (node move branches) s e = no_log_below branches (cases context s move) e
 
     no_log_below : (branches : Branches) (o : Option (List Case)) → some_end branches ≡ false → found_below context o branches ≡ None
     no_log_below no_branch None e = refl
@@ -105,14 +91,7 @@ module _ (context : Context) where
 mutual
   pub finished_no_end : (tree : Tree) → IsFinished tree → has_end tree ≡ false
   finished_no_end (node solved branches) h = absurd (h.0 tt)
-  finished_no_end (node simplify branches) h = finished_none_end branches h.1
-  finished_no_end (node contradiction branches) h = finished_none_end branches h.1
-  finished_no_end (node unproved branches) h = finished_none_end branches h.1
-  finished_no_end (node (or k) branches) h = finished_none_end branches h.1
-  finished_no_end (node (action k) branches) h = finished_none_end branches h.1
-  finished_no_end (node (premise i p) branches) h = finished_none_end branches h.1
-  finished_no_end (node (know i) branches) h = finished_none_end branches h.1
-  finished_no_end (node (chain i) branches) h = finished_none_end branches h.1
+  finished_no_end (node move branches) h = finished_none_end branches h.1
 
   finished_none_end : (branches : Branches) → AreFinished branches → some_end branches ≡ false
   finished_none_end no_branch h = refl

@@ -1,6 +1,9 @@
+pub mod ButFinish
 pub mod Cases
 pub mod Choice
+pub mod Finish
 pub mod Growth
+pub mod Kinds
 pub mod Root
 pub mod Rows
 pub mod Tree

@@ -1,6 +1,7 @@
 -- Contradictions, elementary moves in the order in which they are tried, and simplification. Source: CSF 2012, "Constraint solving" (the
 -- simplification rules); Meier's thesis, chapter 3. Each elementary move is done at its lowest position.
 use Rattle.std.specs.Prelude.{List, [], ◌∷◌, Option, Some, None, ◌||◌, Bool, is_some, true, false, ℕ, zero, suc}
+use Rattle.std.specs.List.{list_any}
 use Rattle.sp_spec_system.specs.System.{System}
 use Rattle.sp_spec_system.specs.Rules.{Rules}
 use Rattle.sp_spec_formula.specs.Split.{split, has_falsity}
@@ -80,13 +81,40 @@ by_rows rules (row ∷ more_rows) s = first_of (by_row rules row s) (by_rows rul
 abbrev pub fails_somewhere : System → Bool
 fails_somewhere s = fails_to_equate s s.formulas || (fails_to_last s s.formulas || (fails_to_learn s || (fails_to_link s || fails_to_merge s)))
 
+-- what shows that a system has no solution, in the order in which it is looked for
+pub data Contradiction : Type 0 where
+  false_formula : Contradiction
+  equal_unequal_pair : Contradiction
+  refuted_literal : Contradiction
+  cyclic_order : Contradiction
+  source_used_twice : Contradiction
+  learnt_too_early : Contradiction
+  reducible_term : Contradiction
+  failing_row : Contradiction
+  time_after_last : Contradiction
+  refuted_last : Contradiction
+  last_in_closed : Contradiction
+
+abbrev pub contradictions : List Contradiction
+contradictions =
+    false_formula ∷ equal_unequal_pair ∷ refuted_literal ∷ cyclic_order ∷ source_used_twice ∷ learnt_too_early ∷ reducible_term
+    ∷ failing_row ∷ time_after_last ∷ refuted_last ∷ last_in_closed ∷ []
+
+abbrev pub by_contradiction : Rules → System → Contradiction → Bool
+by_contradiction rules s false_formula = has_falsity s.formulas
+by_contradiction rules s equal_unequal_pair = has_equal_pair s.unequal
+by_contradiction rules s refuted_literal = has_refuted s.order s.formulas
+by_contradiction rules s cyclic_order = is_cyclic s.order
+by_contradiction rules s source_used_twice = has_source_twice s
+by_contradiction rules s learnt_too_early = has_early s
+by_contradiction rules s reducible_term = has_reducible rules.signature.equations s.events
+by_contradiction rules s failing_row = fails_somewhere s
+by_contradiction rules s time_after_last = has_later s.last s.order
+by_contradiction rules s refuted_last = has_last_refuted s.last s.formulas
+by_contradiction rules s last_in_closed = has_unlast s
+
 abbrev pub is_contradictory : Rules → System → Bool
-is_contradictory rules s =
-    has_falsity s.formulas
-    || (has_equal_pair s.unequal
-    || (has_refuted s.order s.formulas
-    || (is_cyclic s.order || (has_source_twice s || (has_early s || (has_reducible rules.signature.equations s.events
-    || (fails_somewhere s || (has_later s.last s.order || (has_last_refuted s.last s.formulas || has_unlast s)))))))))
+is_contradictory rules s = list_any (by_contradiction rules s) contradictions
 
 -- some row has a place, be it one at which it fails
 abbrev pub has_place : Rules → System → Bool

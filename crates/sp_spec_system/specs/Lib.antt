@@ -12,3 +12,5 @@ pub mod Solutions
 pub mod System
 pub mod Words
 pub mod Rules
+pub mod Occurring
+pub mod Together

@@ -7,6 +7,12 @@ use Rattle.sp_spec_system.specs.System.{System, formulas_alone}
 use Rattle.sp_spec_system.specs.Head.{Head}
 use Rattle.sp_spec_system.specs.Rules.{Rules}
 
+-- a side of the move `same`: a variable of sort fresh or pub, by its number, or a public name
+pub data Side : Type 0 where
+  fresh_side : ℕ → Side
+  public_side : ℕ → Side
+  constant_side : List ℕ → Side
+
 pub data Move : Type 0 where
   simplify : Move
   contradiction : Move
@@ -22,6 +28,20 @@ pub data Move : Type 0 where
   know : ℕ → Move
   -- a chain that leads to a message that is learnt, by its event's time
   chain : ℕ → Move
+  -- the empty trace, and one that isn't
+  induction : Move
+  -- a message that is learnt, by its event's time and the source table
+  source : ℕ → Move
+  -- two times
+  compare : ℕ → ℕ → Move
+  -- a message variable, by its number
+  top : ℕ → Move
+  -- two terms that stand for names
+  same : Side → Side → Move
+  -- nothing more happens, or something does
+  more_events : Move
+  -- the search ends here: nothing is left to decide, and no log has been found
+  finish : Move
 
 -- a case without a name has the empty one
 pub record Case : Type 0 where

@@ -14,7 +14,7 @@ use Rattle.sp_spec_graph.specs.Premise.{is_linked}
 use Rattle.sp_spec_proof.specs.Cases.{raw_cases, simple_case, cases}
 use Rattle.sp_moves_formula.specs.WhyNot.{Clause, another_crate, condition, absent, why_no_disjunction, why_not_freed, why_no_action, HasCases}
 use Rattle.sp_moves_formula.proofs.Exact as formula
-use Rattle.sp_moves_graph.specs.Times.{has_time}
+use Rattle.sp_spec_system.specs.Occurring.{has_time}
 use Rattle.sp_moves_graph.specs.WhyNot.{why_not_open, why_not_of}
 use Rattle.sp_moves_graph.proofs.Exact as graph
 use Rattle.sp_moves_know.specs.WhyNot.{why_not_known, why_not_chained}
@@ -36,6 +36,7 @@ raw context s (action k) = (formula.exactly context.rules.forms s (action k)).ex
 raw context s (premise i p) = (graph.exactly context.rules.forms s (premise i p)).exact
 raw context s (know i) = (learning.exactly context.rules s (know i)).exact
 raw context s (chain i) = (learning.exactly context.rules s (chain i)).exact
+raw context s move = refl
 
 simpler : (rules : Rules) (o : Option (List Case)) → is_some o ≡ is_some (option_map (map (simple_case rules)) o)
 simpler rules None = refl
@@ -53,11 +54,7 @@ fails_there context s simplify e = by_failing (has_place context.rules s) e
 fails_there context s contradiction e = by_failing (is_contradictory context.rules s) e
 fails_there context s unproved e = absurd cc
 fails_there context s solved e = by_failing (is_some (end_log context s)) e
-fails_there context s (or k) e = refl
-fails_there context s (action k) e = refl
-fails_there context s (premise i p) e = refl
-fails_there context s (know i) e = refl
-fails_there context s (chain i) e = refl
+fails_there context s move e = refl
 
 -- what fails where there are no cases
 pub none_there : (context : Context) (s : System) (m : Move) → None ≡ cases context s m → where_none context.rules.signature.symbols s m ≡ why_not context s m
@@ -130,3 +127,4 @@ each_is_asked context s (know i) =
     let symbols = context.rules.signature.symbols in
     record { asked = time_asked (why_not_known symbols (event_at i s.events)) (has_time i s) (known_asked symbols (event_at i s.events)) }
 each_is_asked context s (chain i) = record { asked = time_asked (why_not_chained (event_at i s.events)) (has_time i s) (chained_asked (event_at i s.events)) }
+each_is_asked context s move = record { asked = λ e. absurd cc }

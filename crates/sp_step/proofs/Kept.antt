@@ -15,12 +15,12 @@ use Rattle.sp_spec_system.specs.System.{Way, anyhow, public_name, own_name, cons
 use Rattle.sp_spec_system.specs.Rules.{Rules}
 use Rattle.sp_spec_system.specs.Formulas.{first_formula, spending}
 use Rattle.sp_spec_system.specs.MakingOne.{happening_by, learnt_by_at}
-use Rattle.sp_spec_system.specs.Order.{is_before, is_cyclic}
+use Rattle.sp_spec_system.specs.Order.{is_before}
 use Rattle.sp_spec_system.specs.Picked.{first_some, only_term}
-use Rattle.sp_spec_formula.specs.Split.{split_of, has_falsity}
+use Rattle.sp_spec_formula.specs.Split.{split_of}
 use Rattle.sp_spec_formula.specs.Open.{existential_of, opened_at}
-use Rattle.sp_spec_formula.specs.Unequal.{inequality_of, unequal_at, has_equal_pair}
-use Rattle.sp_spec_formula.specs.InOrder.{order_of, ordered_at, has_refuted}
+use Rattle.sp_spec_formula.specs.Unequal.{inequality_of, unequal_at}
+use Rattle.sp_spec_formula.specs.InOrder.{order_of, ordered_at}
 use Rattle.sp_spec_formula.specs.ActionStands.{standing_of}
 use Rattle.sp_spec_formula.specs.Disjunction.{instead_of}
 use Rattle.sp_spec_formula.specs.Instantiate.{new_instance, with_formula}
@@ -31,11 +31,9 @@ use Rattle.sp_spec_graph.specs.SendInput.{Input, input_at, input_from, open_inpu
 use Rattle.sp_spec_graph.specs.SendLearnt.{sent, if_unlearnt, unlearnt_sending}
 use Rattle.sp_spec_graph.specs.SettleLearn.{Settling, of_sort_pub, made_of, settling, settling_of, settled_event, each_learnt_before, with_settling}
 use Rattle.sp_spec_graph.specs.FreshFirst.{missing_behind}
-use Rattle.sp_spec_graph.specs.LearntEarly.{has_early}
-use Rattle.sp_spec_graph.specs.SourceTwice.{has_source_twice}
-use Rattle.sp_spec_proof.specs.Rows.{Row, row_split, row_open, row_equate, row_unequal, row_order, row_last, row_action_stands, row_disjunction, row_send_input, row_send_learnt, row_learn_once, row_linear_once, row_fresh_once, row_settle_learn, row_fresh_first, row_instantiate, by_row, is_contradictory}
+use Rattle.sp_spec_proof.specs.Rows.{Row, row_split, row_open, row_equate, row_unequal, row_order, row_last, row_action_stands, row_disjunction, row_send_input, row_send_learnt, row_learn_once, row_linear_once, row_fresh_once, row_settle_learn, row_fresh_first, row_instantiate, by_row, reducible_term, is_contradictory}
+use Rattle.sp_spec_proof.proofs.Contradictions.{none_holds}
 use Rattle.sp_step.specs.Kept.{keeps_terms}
-use Rattle.sp_moves_graph.proofs.Exact.{none_left}
 
 -- ---- tests
 
@@ -50,10 +48,6 @@ no_more false b e h = absurd cc
 and_parts : (a b : Bool) → (a && b) ≡ true → (a ≡ true) × (b ≡ true)
 and_parts true b e = (refl, e)
 and_parts false b e = absurd cc
-
-right_none : (a b : Bool) → (a || b) ≡ false → b ≡ false
-right_none true b e = absurd cc
-right_none false b e = e
 
 -- ---- what is picked
 
@@ -223,10 +217,7 @@ module _ (es : List Equation) where
 
 -- where no contradiction is seen no equation could be used in an event
 pub not_reducible : (rules : Rules) (s : System) → is_contradictory rules s ≡ false → has_reducible rules.signature.equations s.events ≡ false
-not_reducible rules s e =
-    none_left (has_reducible rules.signature.equations s.events) _
-    (right_none (has_early s) _
-    (right_none (has_source_twice s) _ (right_none (is_cyclic s.order) _ (right_none (has_refuted s.order s.formulas) _ (right_none (has_equal_pair s.unequal) _ (right_none (has_falsity s.formulas) _ e))))))
+not_reducible rules s e = none_holds rules s reducible_term e
 
 -- where a row that keeps terms applies, no equation could be used in an event behind it if none could be before
 pub row_keeps : (rules : Rules) (row : Row) (s t : System) → keeps_terms row ≡ true → by_row rules row s ≡ Some t

@@ -22,6 +22,8 @@ why_not context s (action k) = why_not_formula s (action k)
 why_not context s (premise i p) = why_not_graph s (premise i p)
 why_not context s (know i) = why_not_learning context.rules.signature.symbols s (know i)
 why_not context s (chain i) = why_not_learning context.rules.signature.symbols s (chain i)
+-- the others have no cases as yet
+why_not context s move = Some condition
 
 -- the clause that fails of a move that has no cases, over these symbols
 abbrev pub where_none : List Symbol → System → Move → Option Clause

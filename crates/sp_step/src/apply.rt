@@ -25,13 +25,13 @@ fn where_none(
     alloc: Global,
     symbols: &Vec<Symbol>,
     system: &System,
-    chosen: Move,
+    chosen: &Move,
 ) -> Result<Option<Clause>, AllocError>
-    ensures { IfOk result (λ o. option_map clause_of o ≡ where_none (map symbol_of symbols.now.items) (system_of system.now) (move_of chosen)) }
+    ensures { IfOk result (λ o. option_map clause_of o ≡ where_none (map symbol_of symbols.now.items) (system_of system.now) (move_of chosen.now)) }
 {
     match chosen {
         Move::Or(_) | Move::Action(_) => formula::why_not(alloc, system, chosen),
-        Move::Premise(_) => Ok(graph::why_not(system, chosen)),
+        Move::Premise(..) => Ok(graph::why_not(system, chosen)),
         Move::Know(_) | Move::Chain(_) => know::why_not(alloc, symbols, system, chosen),
         _ => Ok(Some(Clause::Condition)),
     }
@@ -46,12 +46,12 @@ pub fn apply(
     alloc: Global,
     context: &Context,
     system: &System,
-    chosen: Move,
+    chosen: &Move,
 ) -> Result<Applied, AllocError>
-    ensures why { IfOk result (λ a. failing a ≡ why_not (context_of context.now) (system_of system.now) (move_of chosen)) }
-    ensures gives { IfOk result (λ a. cases_of a ≡ spec.cases (context_of context.now) (system_of system.now) (move_of chosen)) }
-    ensures exact { HasCases (why_not (context_of context.now) (system_of system.now) (move_of chosen)) (spec.cases (context_of context.now) (system_of system.now) (move_of chosen)) }
-    ensures asked { IsAsked (why_not (context_of context.now) (system_of system.now) (move_of chosen)) }
+    ensures why { IfOk result (λ a. failing a ≡ why_not (context_of context.now) (system_of system.now) (move_of chosen.now)) }
+    ensures gives { IfOk result (λ a. cases_of a ≡ spec.cases (context_of context.now) (system_of system.now) (move_of chosen.now)) }
+    ensures exact { HasCases (why_not (context_of context.now) (system_of system.now) (move_of chosen.now)) (spec.cases (context_of context.now) (system_of system.now) (move_of chosen.now)) }
+    ensures asked { IsAsked (why_not (context_of context.now) (system_of system.now) (move_of chosen.now)) }
 {
     match cases(alloc, context, system, chosen)? {
         Some(cases) => Ok(Applied::Cases(cases)),

@@ -50,9 +50,9 @@ fn raw_cases(
     alloc: Global,
     context: &Context,
     system: &System,
-    chosen: Move,
+    chosen: &Move,
 ) -> Result<Option<Vec<Case>>, AllocError>
-    ensures { IfOk result (λ o. option_map (λ cs. map case_of cs.items) o ≡ cases_spec.raw_cases (context_of context.now) (system_of system.now) (move_of chosen)) }
+    ensures { IfOk result (λ o. option_map (λ cs. map case_of cs.items) o ≡ cases_spec.raw_cases (context_of context.now) (system_of system.now) (move_of chosen.now)) }
 {
     match chosen {
         Move::Simplify => {
@@ -68,13 +68,21 @@ fn raw_cases(
         }
         Move::Unproved => Ok(Some(Vec::new(alloc))),
         Move::Solved => ended(alloc, context, system),
-        Move::Or(position) => or_cases(alloc, system, position),
-        Move::Action(position) => solving_action(alloc, context.rules, system, position),
-        Move::Premise(premise) => premise_cases(alloc, context.rules, system, premise),
+        Move::Or(place) => or_cases(alloc, system, *place),
+        Move::Action(place) => solving_action(alloc, context.rules, system, *place),
+        Move::Premise(time, place) => premise_cases(alloc, context.rules, system, *time, *place),
         Move::Know(time) => {
-            know_cases(alloc, context.sought.signature, context.rules, system, time)
+            know_cases(
+                alloc,
+                context.sought.signature,
+                context.rules,
+                system,
+                *time,
+            )
         }
-        Move::Chain(time) => chain_cases(alloc, context.sought.signature, system, time),
+        Move::Chain(time) => chain_cases(alloc, context.sought.signature, system, *time),
+        // these have no cases as yet
+        _ => Ok(None),
     }
 }
 
@@ -100,9 +108,9 @@ pub fn cases(
     alloc: Global,
     context: &Context,
     system: &System,
-    chosen: Move,
+    chosen: &Move,
 ) -> Result<Option<Vec<Case>>, AllocError>
-    ensures { IfOk result (λ o. option_map (λ cs. map case_of cs.items) o ≡ cases_spec.cases (context_of context.now) (system_of system.now) (move_of chosen)) }
+    ensures { IfOk result (λ o. option_map (λ cs. map case_of cs.items) o ≡ cases_spec.cases (context_of context.now) (system_of system.now) (move_of chosen.now)) }
 {
     let Some(raw) = raw_cases(alloc, context, system, chosen)? else {
         return Ok(None);

@@ -85,7 +85,7 @@ pub fn has_place(alloc: Global, rules: &Rules, system: &System) -> Result<bool, 
 
 // Whether some time is after the last one, or a time is said not to be the last one that is.
 fn ends_wrongly(alloc: Global, system: &System) -> Result<bool, AllocError>
-    ensures { IfOk result (λ b. let s = system_of system.now in b ≡ (last_spec.has_later s.last s.order || (last_spec.has_last_refuted s.last s.formulas || last_spec.has_unlast s))) }
+    ensures { IfOk result (λ b. let s = system_of system.now in b ≡ (last_spec.has_later s.last s.order || (last_spec.has_last_refuted s.last s.formulas || (last_spec.has_unlast s || false)))) }
 {
     if has_later(system.last, &system.order) || has_last_refuted(system.last, &system.formulas) {
         return Ok(true);

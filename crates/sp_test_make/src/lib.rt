@@ -7,6 +7,7 @@ pub mod facts;
 pub mod formulas;
 pub mod ground;
 pub mod plain;
+pub mod plain_moves;
 pub mod plain_systems;
 pub mod systems;
 pub mod terms;

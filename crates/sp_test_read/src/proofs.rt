@@ -4,6 +4,7 @@ use sp_check::{Skeleton, Step};
 use sp_read_proof::proof;
 use sp_skel::skeleton;
 use sp_step::moves::Move;
+use sp_step::words::Side;
 use sp_test_make::texts::tokens_in;
 use sp_written::{Method, WrittenProof};
 use std::alloc::{AllocError, Global};
@@ -44,42 +45,53 @@ fn write_proof(out: &mut String, proof: &WrittenProof) -> Result<(), AllocError>
     Ok(())
 }
 
-fn write_move(alloc: Global, out: &mut String, chosen: Move) -> Result<(), AllocError> {
+fn write_numbers(out: &mut String, word: &str, numbers: &[u128]) -> Result<(), AllocError> {
+    out.push_str(word)?;
+    for number in numbers {
+        write!(out, " {number}")?;
+    }
+    Ok(())
+}
+
+fn write_side(out: &mut String, side: &Side) -> Result<(), AllocError> {
+    match side {
+        Side::Fresh(number) => write!(out, " fresh {number}"),
+        Side::Public(number) => write!(out, " public {number}"),
+        Side::Constant(name) => {
+            out.push_str(" constant ")?;
+            out.push_str(name.text.as_str())
+        }
+    }
+}
+
+fn write_move(out: &mut String, chosen: &Move) -> Result<(), AllocError> {
     match chosen {
         Move::Simplify => out.push_str("simplify"),
         Move::Contradiction => out.push_str("contradiction"),
         Move::Unproved => out.push_str("sorry"),
         Move::Solved => out.push_str("SOLVED"),
-        Move::Or(place) => {
-            let text = format!(in alloc; "or {place}")?;
-            out.push_str(&text)
+        Move::Induction => out.push_str("induction"),
+        Move::Or(place) => write_numbers(out, "or", &[*place]),
+        Move::Action(place) => write_numbers(out, "action", &[*place]),
+        Move::Premise(time, place) => write_numbers(out, "premise", &[*time, *place]),
+        Move::Know(time) => write_numbers(out, "know", &[*time]),
+        Move::Chain(time) => write_numbers(out, "chain", &[*time]),
+        Move::Source(time) => write_numbers(out, "source", &[*time]),
+        Move::Compare(first, second) => write_numbers(out, "compare", &[*first, *second]),
+        Move::Top(number) => write_numbers(out, "top", &[*number]),
+        Move::Same(left, right) => {
+            out.push_str("same")?;
+            write_side(out, left)?;
+            write_side(out, right)
         }
-        Move::Premise(premise) => {
-            let text = format!(in alloc; "premise {} {}", premise.time, premise.place)?;
-            out.push_str(&text)
-        }
-        Move::Action(place) => {
-            let text = format!(in alloc; "action {place}")?;
-            out.push_str(&text)
-        }
-        Move::Know(time) => {
-            let text = format!(in alloc; "know {time}")?;
-            out.push_str(&text)
-        }
-        Move::Chain(time) => {
-            let text = format!(in alloc; "chain {time}")?;
-            out.push_str(&text)
-        }
+        Move::MoreEvents => out.push_str("more"),
+        Move::Finish => out.push_str("finish"),
     }
 }
 
-fn write_step(alloc: Global, out: &mut String, step: &Step) -> Result<(), AllocError> {
+fn write_step(out: &mut String, step: &Step) -> Result<(), AllocError> {
     match step {
-        Step::Known(chosen) => write_move(alloc, out, *chosen),
-        Step::Unbuilt(text) => {
-            out.push_str("unbuilt ")?;
-            write_bytes(out, text)
-        }
+        Step::Known(chosen) => write_move(out, chosen),
         Step::Unknown(text) => {
             out.push_str("unknown ")?;
             write_bytes(out, text)
@@ -88,12 +100,12 @@ fn write_step(alloc: Global, out: &mut String, step: &Step) -> Result<(), AllocE
 }
 
 // the steps of a tree in preorder, each with the names of its cases in square brackets
-fn write_tree(alloc: Global, out: &mut String, skeleton: &Skeleton) -> Result<(), AllocError> {
+fn write_tree(out: &mut String, skeleton: &Skeleton) -> Result<(), AllocError> {
     for (i, node) in skeleton.nodes.iter().enumerate() {
         if i > 0 {
             out.push_str("; ")?;
         }
-        write_step(alloc, out, &node.step)?;
+        write_step(out, &node.step)?;
         for name in &node.cases {
             out.push_str(" [")?;
             out.push_str(name)?;
@@ -112,7 +124,7 @@ fn read(alloc: Global, text: &str) -> Result<Option<(String, String, usize)>, Fa
     let mut written = String::new(alloc);
     write_proof(&mut written, &read)?;
     let mut tree = String::new(alloc);
-    write_tree(alloc, &mut tree, &skeleton(alloc, &read)?)?;
+    write_tree(&mut tree, &skeleton(alloc, &read)?)?;
     Ok(Some((written, tree, rest)))
 }
 
@@ -120,7 +132,7 @@ fn read(alloc: Global, text: &str) -> Result<Option<(String, String, usize)>, Fa
 static PROOFS: [(&str, &str, &str, usize); 7] = [
     ("SOLVED", "SOLVED", "SOLVED", 1),
     ("by sorry", "sorry", "sorry", 2),
-    ("by induction lemma", "induction", "unbuilt induction", 2),
+    ("by induction lemma", "induction", "induction", 2),
     (
         "by solve( no ( goal ) )",
         "( no ( goal ) )",
@@ -190,7 +202,7 @@ fn other_tokens_are_no_proofs(rt: HostRuntime) -> Result<(), Fail> {
 }
 
 /// Proofs of one goal, and the trees that stand in them.
-static GOALS: [(&str, &str); 44] = [
+static GOALS: [(&str, &str); 61] = [
     ("by solve(action 0)", "action 0"),
     (
         "by solve ( \n\taction 18446744073709551615\r )",
@@ -198,11 +210,11 @@ static GOALS: [(&str, &str); 44] = [
     ),
     (
         "by solve( action 18446744073709551616 )",
-        "unbuilt action 18446744073709551616",
+        "action 18446744073709551616",
     ),
     (
         "by solve( action 340282366920938463463374607431768211455 )",
-        "unbuilt action 340282366920938463463374607431768211455",
+        "action 340282366920938463463374607431768211455",
     ),
     (
         "by solve( action 340282366920938463463374607431768211456 )",
@@ -218,7 +230,7 @@ static GOALS: [(&str, &str); 44] = [
     ("by solve( or 12 )", "or 12"),
     (
         "by solve( or 18446744073709551616 )",
-        "unbuilt or 18446744073709551616",
+        "or 18446744073709551616",
     ),
     ("by solve( or )", "unknown or"),
     (
@@ -228,8 +240,8 @@ static GOALS: [(&str, &str); 44] = [
     ("by solve( know )", "unknown know"),
     ("by solve( chain 0 )", "chain 0"),
     ("by solve( chain 0 0 )", "unknown chain 0 0"),
-    ("by solve( source 0 )", "unbuilt source 0"),
-    ("by solve( top 0 )", "unbuilt top 0"),
+    ("by solve( source 0 )", "source 0"),
+    ("by solve( top 0 )", "top 0"),
     ("by solve( top 0 0 )", "unknown top 0 0"),
     ("by solve( premise 20 1 )", "premise 20 1"),
     (
@@ -238,22 +250,45 @@ static GOALS: [(&str, &str); 44] = [
     ),
     (
         "by solve( premise 0 18446744073709551616 )",
-        "unbuilt premise 0 18446744073709551616",
+        "premise 0 18446744073709551616",
     ),
     ("by solve( premise 0 01 )", "unknown premise 0 01"),
     ("by solve( premise 0 )", "unknown premise 0"),
     ("by solve( premise 0 1 2 )", "unknown premise 0 1 2"),
-    ("by solve( compare 1 0 )", "unbuilt compare 1 0"),
+    ("by solve( compare 1 0 )", "compare 1 0"),
     ("by solve( compare 1 01 )", "unknown compare 1 01"),
-    ("by solve( more )", "unbuilt more"),
+    ("by solve( more )", "more"),
     ("by solve( more 1 )", "unknown more 1"),
-    ("by solve( finish )", "unbuilt finish"),
-    ("by solve( same $3 $1 )", "unbuilt same $3 $1"),
-    ("by solve( same ~1 $2 )", "unbuilt same ~1 $2"),
-    ("by solve( same 'a' $1 )", "unbuilt same 'a' $1"),
-    ("by solve( same $1 'a (b' )", "unbuilt same $1 'a (b'"),
+    ("by solve( finish )", "finish"),
+    ("by solve( same $3 $1 )", "same public 3 public 1"),
+    ("by solve( same ~1 $2 )", "same fresh 1 public 2"),
+    ("by solve( same 'a' $1 )", "same constant a public 1"),
+    ("by solve( same $1 'a (b' )", "same public 1 constant a (b"),
     ("by solve( same 'a' 'b' )", "unknown same 'a' 'b'"),
+    ("by solve( same ~0 ~7 )", "same fresh 0 fresh 7"),
+    (
+        "by solve( same $340282366920938463463374607431768211455 ~0 )",
+        "same public 340282366920938463463374607431768211455 fresh 0",
+    ),
+    (
+        "by solve( same $340282366920938463463374607431768211456 ~0 )",
+        "unknown same $340282366920938463463374607431768211456 ~0",
+    ),
+    ("by solve( same $0 ' ' )", "same public 0 constant  "),
+    ("by solve( same $0 '~1' )", "same public 0 constant ~1"),
     ("by solve( same '' $1 )", "unknown same '' $1"),
+    ("by solve( same a $1 )", "unknown same a $1"),
+    ("by solve( same 1 2 )", "unknown same 1 2"),
+    ("by solve( same $1  ~2 )", "unknown same $1  ~2"),
+    ("by solve( action $1 )", "unknown action $1"),
+    ("by solve( action 'a' )", "unknown action 'a'"),
+    ("by solve( compare $1 2 )", "unknown compare $1 2"),
+    ("by solve( compare 1 )", "unknown compare 1"),
+    ("by solve( source ~0 )", "unknown source ~0"),
+    ("by solve( top $0 )", "unknown top $0"),
+    ("by solve( finish 0 )", "unknown finish 0"),
+    ("by solve( more $0 )", "unknown more $0"),
+    ("by solve( induction )", "unknown induction"),
     ("by solve( same $1 $ )", "unknown same $1 $"),
     ("by solve( same $1 $01 )", "unknown same $1 $01"),
     ("by solve( same $1 )", "unknown same $1"),

@@ -4,12 +4,15 @@ ghost use Rattle.std.specs.Prelude.{◌≡◌};
 ghost use Rattle.sp_search.specs.Kinds.{case_count};
 ghost use Rattle.sp_search.specs.NodeView.{node_at};
 
+use sp_check::Step;
 use sp_learn::log::Log;
+use sp_read_proof::proof;
 use sp_search::{Node, OpenLeaf, Tree};
-use sp_skel::tree_text;
+use sp_skel::{skeleton, tree_text};
 use sp_step::moves::Move;
-use sp_step::premise::Premise;
+use sp_test_make::plain_moves::{PlainMove, PlainSide, move_of};
 use sp_test_make::systems::system;
+use sp_test_make::texts::tokens_in;
 use std::alloc::{AllocError, Global};
 use std::test::Fail;
 
@@ -80,7 +83,7 @@ fn with_only_cases(alloc: Global) -> Result<Tree, AllocError> {
 }
 
 fn with_three_cases(alloc: Global) -> Result<Tree, AllocError> {
-    let premise = Move::Premise(Premise { time: 20, place: 1 });
+    let premise = Move::Premise(20, 1);
     let mut cases = Vec::new(alloc);
     cases.push(case(alloc, "", open_leaf(alloc)?)?)?;
     cases.push(case(alloc, "at_1", leaf(alloc, Move::Simplify)?)?)?;
@@ -111,5 +114,62 @@ fn trees_are_written(rt: HostRuntime) -> Result<(), Fail> {
         tree_text(alloc, &with_ends(alloc)?)?.as_str(),
         "solve( action 0 )\n  case One\n  simplify\n  SOLVED\nnext\n  case Two\n  SOLVED\nqed\n"
     );
+    Ok(())
+}
+
+// each move with its text; a goal stands in brackets
+static WORDED: [(PlainMove, &str); 18] = [
+    (PlainMove::Simplify, "by simplify\n"),
+    (PlainMove::Contradiction, "by contradiction\n"),
+    (PlainMove::Unproved, "by sorry\n"),
+    (PlainMove::Solved, "SOLVED\n"),
+    (PlainMove::Induction, "by induction\n"),
+    (PlainMove::Or(3), "by solve( or 3 )\n"),
+    (PlainMove::Action(0), "by solve( action 0 )\n"),
+    (PlainMove::Premise(20, 1), "by solve( premise 20 1 )\n"),
+    (PlainMove::Know(4), "by solve( know 4 )\n"),
+    (PlainMove::Chain(5), "by solve( chain 5 )\n"),
+    (PlainMove::Source(6), "by solve( source 6 )\n"),
+    (PlainMove::Compare(1, 12), "by solve( compare 1 12 )\n"),
+    (PlainMove::Top(7), "by solve( top 7 )\n"),
+    (
+        PlainMove::Same(PlainSide::Fresh(1), PlainSide::Public(2)),
+        "by solve( same ~1 $2 )\n",
+    ),
+    (
+        PlainMove::Same(PlainSide::Public(0), PlainSide::Constant("a (b")),
+        "by solve( same $0 'a (b' )\n",
+    ),
+    (
+        PlainMove::Same(PlainSide::Constant("c"), PlainSide::Fresh(u128::MAX)),
+        "by solve( same 'c' ~340282366920938463463374607431768211455 )\n",
+    ),
+    (PlainMove::MoreEvents, "by solve( more )\n"),
+    (PlainMove::Finish, "by solve( finish )\n"),
+];
+
+// what the text of a tree of one node says, if it says a move
+fn said(alloc: Global, text: &str) -> Result<Option<Move>, Fail> {
+    let found = tokens_in(alloc, text.as_bytes())?;
+    let (read, _) = proof(alloc, &found, 0)?.ok_or("proof")?;
+    let tree = skeleton(alloc, &read)?;
+    match tree.nodes.first() {
+        Some(node) => match &node.step {
+            Step::Known(chosen) => Ok(Some(chosen.clone()?)),
+            Step::Unknown(_) => Ok(None),
+        },
+        None => Ok(None),
+    }
+}
+
+#[test]
+fn moves_are_written_and_read(rt: HostRuntime) -> Result<(), Fail> {
+    let alloc = rt.alloc();
+    for (chosen, text) in WORDED.iter() {
+        let written = tree_text(alloc, &leaf(alloc, move_of(alloc, *chosen)?)?)?;
+        assert_eq!(rt; written.as_str(), *text);
+        let wanted = move_of(alloc, *chosen)?;
+        assert_eq!(rt; said(alloc, text)?, Some(wanted), "{text}");
+    }
     Ok(())
 }

@@ -52,10 +52,12 @@ fn looked_for(alloc: Global, sought: &PlainFormula) -> Result<Parts, AllocError>
 }
 
 // the action of the first formula
-const ACTION: Ranked = Ranked {
-    rank: 5,
-    chosen: Move::Action(0),
-};
+fn action() -> Ranked {
+    Ranked {
+        rank: 5,
+        chosen: Move::Action(0),
+    }
+}
 
 // a node without cases
 fn alone(alloc: Global, node: Node) -> Result<Tree, AllocError>
@@ -103,7 +105,7 @@ fn contradiction(alloc: Global) -> Result<Tree, AllocError> {
 fn three_cases(alloc: Global) -> Result<Tree, AllocError> {
     let mut cases = Vec::new(alloc);
     cases.push(case(alloc, "a", contradiction(alloc)?)?)?;
-    for (name, chosen) in [("b", Some(ACTION)), ("c", None)] {
+    for (name, chosen) in [("b", Some(action())), ("c", None)] {
         cases.push(case(alloc, name, open_leaf(alloc, chosen)?)?)?;
     }
     over_all(alloc, Move::Simplify, cases)
@@ -164,6 +166,6 @@ fn trees_are_grown(rt: HostRuntime) -> Result<(), Fail> {
     }
     let root = of_one(alloc, &WANTED)?;
     let parts = looked_for(alloc, &TRUTH)?;
-    assert_eq!(rt; choice(alloc, &parts.context(), &root)?, Some(ACTION));
+    assert_eq!(rt; choice(alloc, &parts.context(), &root)?, Some(action()));
     Ok(())
 }

@@ -99,19 +99,27 @@ fn judged(
     told(alloc, judge(alloc, context, root, proof)?)
 }
 
-// what is done at a node: a move, or a text that names a step that isn't built, or none
+// what is done at a node: a move, or a text that names none
 #[derive(Clone, Copy)]
 enum Done {
-    Known(Move),
-    Unbuilt(&'static [u8]),
+    Simplify,
+    Action(u128),
+    Contradiction,
+    Solved,
+    Unproved,
+    Induction,
     Unknown(&'static [u8]),
 }
 
 impl Done {
     fn step(self, alloc: Global) -> Result<Step, AllocError> {
         match self {
-            Done::Known(chosen) => Ok(Step::Known(chosen)),
-            Done::Unbuilt(text) => Ok(Step::Unbuilt(text.to_vec(alloc)?)),
+            Done::Simplify => Ok(Step::Known(Move::Simplify)),
+            Done::Action(place) => Ok(Step::Known(Move::Action(place))),
+            Done::Contradiction => Ok(Step::Known(Move::Contradiction)),
+            Done::Solved => Ok(Step::Known(Move::Solved)),
+            Done::Unproved => Ok(Step::Known(Move::Unproved)),
+            Done::Induction => Ok(Step::Known(Move::Induction)),
             Done::Unknown(text) => Ok(Step::Unknown(text.to_vec(alloc)?)),
         }
     }
@@ -138,18 +146,18 @@ fn tree(alloc: Global, given: &[(Done, &[&str])]) -> Result<Option<Skeleton>, Al
     Ok(Skeleton::new(nodes))
 }
 
-const SIMPLIFY: (Done, &[&str]) = (Done::Known(Move::Simplify), &[""]);
+const SIMPLIFY: (Done, &[&str]) = (Done::Simplify, &[""]);
 
 // looks for the event of the action at the position, which Make has
-const FIRST_MADE: (Done, &[&str]) = (Done::Known(Move::Action(0)), &["Make"]);
+const FIRST_MADE: (Done, &[&str]) = (Done::Action(0), &["Make"]);
 
-const SECOND_MADE: (Done, &[&str]) = (Done::Known(Move::Action(1)), &["Make"]);
+const SECOND_MADE: (Done, &[&str]) = (Done::Action(1), &["Make"]);
 
-const CONTRADICTION: (Done, &[&str]) = (Done::Known(Move::Contradiction), &[]);
+const CONTRADICTION: (Done, &[&str]) = (Done::Contradiction, &[]);
 
-const SOLVED: (Done, &[&str]) = (Done::Known(Move::Solved), &[]);
+const SOLVED: (Done, &[&str]) = (Done::Solved, &[]);
 
-const UNPROVED: (Done, &[&str]) = (Done::Known(Move::Unproved), &[]);
+const UNPROVED: (Done, &[&str]) = (Done::Unproved, &[]);
 
 // Proofs that A comes once, how many steps each has, and what comes of it: whole ones; and those in which a case is left out, has
 // another name, or is one too many.
@@ -170,12 +178,7 @@ static PROOFS: [(Nodes, u64, &str); 8] = [
         "3: instance",
     ),
     (
-        &[
-            SIMPLIFY,
-            FIRST_MADE,
-            FIRST_MADE,
-            (Done::Unbuilt(b"induction"), &[]),
-        ],
+        &[SIMPLIFY, FIRST_MADE, FIRST_MADE, (Done::Induction, &[])],
         4,
         "4: instance",
     ),
@@ -190,24 +193,16 @@ static PROOFS: [(Nodes, u64, &str); 8] = [
         "4: move",
     ),
     (
-        &[SIMPLIFY, FIRST_MADE, (Done::Known(Move::Action(0)), &[])],
+        &[SIMPLIFY, FIRST_MADE, (Done::Action(0), &[])],
         3,
         "3: cases",
     ),
     (
-        &[
-            SIMPLIFY,
-            (Done::Known(Move::Action(0)), &["Made"]),
-            UNPROVED,
-        ],
+        &[SIMPLIFY, (Done::Action(0), &["Made"]), UNPROVED],
         2,
         "2: cases",
     ),
-    (
-        &[(Done::Known(Move::Unproved), &[""]), CONTRADICTION],
-        1,
-        "1: cases",
-    ),
+    (&[(Done::Unproved, &[""]), CONTRADICTION], 1, "1: cases"),
 ];
 
 #[test]
@@ -224,7 +219,7 @@ fn proofs_are_judged(rt: HostRuntime) -> Result<(), Fail> {
 }
 
 // looks for the event of A, which Make and Again have
-const EITHER_MADE: (Done, &[&str]) = (Done::Known(Move::Action(0)), &["Make", "Again"]);
+const EITHER_MADE: (Done, &[&str]) = (Done::Action(0), &["Make", "Again"]);
 
 // The search for A, which ends below Make and below Again; whether a leaf is open; and what comes of it.
 // `Make` and `Again` both do A: the search may end at either, with a log of that rule alone.
@@ -270,12 +265,7 @@ fn first_logs_are_given(rt: HostRuntime) -> Result<(), Fail> {
 }
 
 // a case where the search ends
-static LATE: [(Done, &[&str]); 4] = [
-    SIMPLIFY,
-    FIRST_MADE,
-    (Done::Known(Move::Solved), &[""]),
-    UNPROVED,
-];
+static LATE: [(Done, &[&str]); 4] = [SIMPLIFY, FIRST_MADE, (Done::Solved, &[""]), UNPROVED];
 
 // Without an event there is no log in which A comes; and where the search ends there is no case.
 #[test]
@@ -301,9 +291,9 @@ static TREES: [(Nodes, bool); 6] = [
     (&[], false),
 ];
 
-const TWO_CASES: (Done, &[&str]) = (Done::Known(Move::Simplify), &["a", "b"]);
+const TWO_CASES: (Done, &[&str]) = (Done::Simplify, &["a", "b"]);
 
-const NO_CASES: (Done, &[&str]) = (Done::Known(Move::Simplify), &[]);
+const NO_CASES: (Done, &[&str]) = (Done::Simplify, &[]);
 
 #[test]
 fn nodes_are_one_tree(rt: HostRuntime) -> Result<(), Fail> {

@@ -5,15 +5,16 @@ use crate::examples::reduced;
 use crate::lasts::same_system;
 use crate::learning::text_of;
 use crate::moves::{
-    A_SOUGHT, K_SOUGHT, SHOWING, TakenUp, WITH_EVENT, all_have, book_of, names, taken_up,
+    A_SOUGHT, K_SOUGHT, SHOWING, Sizes, WITH_EVENT, all_have, book_of, names, taken_up,
 };
 use sp_formula::formula::Moment;
-use sp_step::moves::{Case, Move};
+use sp_step::moves::Case;
 use sp_step::reduce::Row;
 use sp_system::event::Event;
 use sp_system::system::System;
 use sp_term::term::Sort;
 use sp_test_make::plain::{NO_FACTS, PlainEvent, PlainTerm, PlainWay};
+use sp_test_make::plain_moves::PlainMove;
 use sp_test_make::plain_systems::{
     EMPTY, PlainAtom, PlainFormula, PlainLeaf, PlainSystem, system_of,
 };
@@ -415,7 +416,7 @@ fn events_of_closed_systems_are_tried(rt: HostRuntime) -> Result<(), Fail> {
     let alloc = rt.alloc();
     let rules = book_of(alloc, &SHOWING)?;
     for (i, (given, wanted, systems)) in TRIED.iter().enumerate() {
-        let found = taken_up(alloc, &rules, given, Move::Action(0))?;
+        let found = taken_up(alloc, &rules, given, PlainMove::Action(0))?;
         assert_eq!(rt; names(alloc, &found)?.as_str(), *wanted, "{i}");
         assert!(rt; have(alloc, &found, *systems)?, "{i}");
     }
@@ -423,13 +424,12 @@ fn events_of_closed_systems_are_tried(rt: HostRuntime) -> Result<(), Fail> {
 }
 
 // There is an event at the time, so that its actions are tried; or the system isn't closed, so that rules are, and the adversary.
-static NOT_TRIED: [TakenUp; 3] = [
+static NOT_TRIED: [(PlainSystem<'static>, &str, Sizes); 3] = [
     (
         PlainSystem {
             closed: true,
             ..WITH_EVENT
         },
-        Move::Action(0),
         "at_1 at_2 ",
         (1, 2, 0, 6),
     ),
@@ -438,7 +438,6 @@ static NOT_TRIED: [TakenUp; 3] = [
             closed: false,
             ..CLOSED
         },
-        Move::Action(0),
         "One Three_case_1 Three_case_2 ",
         (3, 1, 0, 10),
     ),
@@ -448,7 +447,6 @@ static NOT_TRIED: [TakenUp; 3] = [
             closed: false,
             ..CLOSED
         },
-        Move::Action(0),
         "Send ",
         (3, 1, 0, 9),
     ),
@@ -458,8 +456,8 @@ static NOT_TRIED: [TakenUp; 3] = [
 fn other_cases_stay(rt: HostRuntime) -> Result<(), Fail> {
     let alloc = rt.alloc();
     let rules = book_of(alloc, &SHOWING)?;
-    for (i, (given, chosen, wanted, held)) in NOT_TRIED.iter().enumerate() {
-        let found = taken_up(alloc, &rules, given, *chosen)?;
+    for (i, (given, wanted, held)) in NOT_TRIED.iter().enumerate() {
+        let found = taken_up(alloc, &rules, given, PlainMove::Action(0))?;
         assert_eq!(rt; names(alloc, &found)?.as_str(), *wanted, "{i}");
         assert!(rt; all_have(&found, *held), "{i}");
     }

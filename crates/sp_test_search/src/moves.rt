@@ -14,8 +14,9 @@ use sp_system::system::System;
 use sp_term::term::Sort;
 use sp_test_make::facts::no_rules;
 use sp_test_make::plain::{
-    NO_FACTS, PlainEvent, PlainFact, PlainFacts, PlainRule, PlainTerm, rules_of,
+    NO_FACTS, PlainEvent, PlainFact, PlainFacts, PlainRule, PlainTerm, PlainWay, rules_of,
 };
+use sp_test_make::plain_moves::{PlainMove, PlainSide, move_of};
 use sp_test_make::plain_systems::{
     EMPTY, PlainAtom, PlainFormula, PlainLeaf, PlainSystem, formula_of, formulas_of, system_of,
 };
@@ -175,25 +176,26 @@ pub fn taken_up(
     alloc: Global,
     rules: &RuleBook,
     given: &PlainSystem,
-    chosen: Move,
+    chosen: PlainMove,
 ) -> Result<Vec<Case>, Fail> {
     let given = system_of(alloc, given)?;
-    cases_in(apply_to_formula(alloc, rules, &given, chosen)?)
+    let chosen = move_of(alloc, chosen)?;
+    cases_in(apply_to_formula(alloc, rules, &given, &chosen)?)
 }
 
 /// A system, a move, the names of its cases, and what each of them has.
-pub type TakenUp = (PlainSystem<'static>, Move, &'static str, Sizes);
+type TakenUp = (PlainSystem<'static>, PlainMove, &'static str, Sizes);
 
 // Each rule with such an action is tried, each such action of the event, and each part.
 static FORMULAS: [TakenUp; 3] = [
     (
         TWO_ACTIONS,
-        Move::Action(0),
+        PlainMove::Action(0),
         "One Three_case_1 Three_case_2 ",
         (1, 2, 0, 7),
     ),
-    (WITH_EVENT, Move::Action(0), "at_1 at_2 ", (1, 2, 0, 6)),
-    (WITH_PARTS, Move::Or(2), "case_1 case_2 ", (0, 3, 1, 6)),
+    (WITH_EVENT, PlainMove::Action(0), "at_1 at_2 ", (1, 2, 0, 6)),
+    (WITH_PARTS, PlainMove::Or(2), "case_1 case_2 ", (0, 3, 1, 6)),
 ];
 
 #[test]
@@ -217,8 +219,8 @@ const LEARNING: PlainSystem<'static> = PlainSystem {
 
 // What the adversary may have done is done at the time.
 static OF_ADVERSARY: [TakenUp; 2] = [
-    (TWO_ACTIONS, Move::Action(1), "Send ", (1, 2, 0, 6)),
-    (LEARNING, Move::Action(0), "Learn ", (1, 1, 0, 6)),
+    (TWO_ACTIONS, PlainMove::Action(1), "Send ", (1, 2, 0, 6)),
+    (LEARNING, PlainMove::Action(0), "Learn ", (1, 1, 0, 6)),
 ];
 
 #[test]
@@ -234,19 +236,16 @@ fn actions_of_the_adversary_are_taken_up(rt: HostRuntime) -> Result<(), Fail> {
 }
 
 // a move, and why it is no instance
-static FORMULA_CLAUSES: [(Move, Option<Clause>); 9] = [
-    (Move::Simplify, Some(Clause::AnotherCrate)),
-    (
-        Move::Premise(Premise { time: 5, place: 0 }),
-        Some(Clause::AnotherCrate),
-    ),
-    (Move::Or(3), Some(Clause::Absent)),
-    (Move::Action(3), Some(Clause::Absent)),
-    (Move::Or(0), Some(Clause::OtherKind)),
-    (Move::Action(2), Some(Clause::OtherKind)),
-    (Move::Action(1), None),
-    (Move::Or(2), None),
-    (Move::Action(0), None),
+static FORMULA_CLAUSES: [(PlainMove, Option<Clause>); 9] = [
+    (PlainMove::Simplify, Some(Clause::AnotherCrate)),
+    (PlainMove::Premise(5, 0), Some(Clause::AnotherCrate)),
+    (PlainMove::Or(3), Some(Clause::Absent)),
+    (PlainMove::Action(3), Some(Clause::Absent)),
+    (PlainMove::Or(0), Some(Clause::OtherKind)),
+    (PlainMove::Action(2), Some(Clause::OtherKind)),
+    (PlainMove::Action(1), None),
+    (PlainMove::Or(2), None),
+    (PlainMove::Action(0), None),
 ];
 
 fn solvable(alloc: Global, given: &PlainFormula) -> Result<bool, AllocError> {
@@ -262,7 +261,8 @@ fn clauses_of_formulas_are_told(rt: HostRuntime) -> Result<(), Fail> {
     let rules = book_of(alloc, &SHOWING)?;
     let system = system_of(alloc, &WITH_PARTS)?;
     for (i, (chosen, wanted)) in FORMULA_CLAUSES.iter().enumerate() {
-        let applied = apply_to_formula(alloc, &rules, &system, *chosen)?;
+        let chosen = move_of(alloc, *chosen)?;
+        let applied = apply_to_formula(alloc, &rules, &system, &chosen)?;
         assert_eq!(rt; clause_in(&applied), *wanted, "{i}");
     }
     Ok(())
@@ -316,8 +316,8 @@ fn premises_are_taken_up(rt: HostRuntime) -> Result<(), Fail> {
     let alloc = rt.alloc();
     let given = system_of(alloc, &TAKING)?;
     let rules = book_of(alloc, &GIVING)?;
-    let chosen = Move::Premise(Premise { time: 5, place: 2 });
-    let found = cases_in(apply_to_graph(alloc, &rules, &given, chosen)?)?;
+    let chosen = Move::Premise(5, 2);
+    let found = cases_in(apply_to_graph(alloc, &rules, &given, &chosen)?)?;
     assert_eq!(rt; names(alloc, &found)?.as_str(), "Give_case_1 Give_case_2 ");
     for (case, conclusion) in found.iter().zip([2, 3]) {
         assert_eq!(rt; case.system.next, 8);
@@ -330,18 +330,20 @@ fn premises_are_taken_up(rt: HostRuntime) -> Result<(), Fail> {
     Ok(())
 }
 
-// The event has the time 5; the time 4 stands in a link alone, the time 7 in a formula alone.
+// The event has the time 5; the time 4 stands in a link alone, the time 7 in a formula alone; the time 8 is said to be the last.
 static WITH_TIMES: PlainSystem<'static> = PlainSystem {
+    last: Some(8),
     formulas: &[PlainFormula::Fails(PlainAtom::Before(Moment::Free(7), Moment::Bound(0)))],
     ..TAKING
 };
 
 // a time, the place of a premise there, and why its source is not looked for
-static PREMISE_CLAUSES: [(u128, usize, Option<Clause>); 8] = [
+static PREMISE_CLAUSES: [(u128, usize, Option<Clause>); 9] = [
     (9, 0, Some(Clause::Absent)),
     (5, 4, Some(Clause::Absent)),
     (4, 0, Some(Clause::OtherKind)),
     (7, 0, Some(Clause::OtherKind)),
+    (8, 0, Some(Clause::OtherKind)),
     (5, 0, Some(Clause::Condition)),
     (5, 1, Some(Clause::Condition)),
     (5, 3, Some(Clause::Condition)),
@@ -358,11 +360,43 @@ fn clauses_of_premises_are_told(rt: HostRuntime) -> Result<(), Fail> {
             time: *time,
             place: *place,
         };
-        let applied = apply_to_graph(alloc, &rules, &given, Move::Premise(premise))?;
+        let chosen = Move::Premise(*time, *place as u128);
+        let applied = apply_to_graph(alloc, &rules, &given, &chosen)?;
         assert_eq!(rt; clause_in(&applied), *wanted, "{time} {place}");
         let is_open = open_premise(&given, premise).is_some();
         assert_eq!(rt; is_open, wanted.is_none(), "{time} {place}");
     }
+    Ok(())
+}
+
+// The chain begins at the time 1, at which there is no event.
+static WITH_CHAIN: PlainSystem<'static> = PlainSystem {
+    events: &[PlainEvent::Learn(5, X0, PlainWay::ChainBegun(1, &[X0]))],
+    next: 6,
+    ..EMPTY
+};
+
+#[test]
+fn times_of_chains_are_there(rt: HostRuntime) -> Result<(), Fail> {
+    let alloc = rt.alloc();
+    let rules = no_rules(alloc)?;
+    let given = system_of(alloc, &WITH_CHAIN)?;
+    for (time, wanted) in [(1, Clause::OtherKind), (2, Clause::Absent)] {
+        let applied = apply_to_graph(alloc, &rules, &given, &Move::Premise(time, 0))?;
+        assert_eq!(rt; clause_in(&applied), Some(wanted), "{time}");
+    }
+    Ok(())
+}
+
+// 2^64 + 2 is no place of a list, though its last 64 bits are
+#[test]
+fn great_places_are_no_others(rt: HostRuntime) -> Result<(), Fail> {
+    let alloc = rt.alloc();
+    let rules = no_rules(alloc)?;
+    let given = system_of(alloc, &TAKING)?;
+    let chosen = Move::Premise(5, (1 << 64) + 2);
+    let applied = apply_to_graph(alloc, &rules, &given, &chosen)?;
+    assert_eq!(rt; clause_in(&applied), Some(Clause::Absent));
     Ok(())
 }
 
@@ -371,27 +405,36 @@ fn other_moves_take_up_no_premise(rt: HostRuntime) -> Result<(), Fail> {
     let alloc = rt.alloc();
     let rules = no_rules(alloc)?;
     let given = system_of(alloc, &TAKING)?;
-    for chosen in [Move::Simplify, Move::Or(0), Move::Action(0)] {
-        let applied = apply_to_graph(alloc, &rules, &given, chosen)?;
+    for chosen in [PlainMove::Simplify, PlainMove::Or(0), PlainMove::Action(0)] {
+        let chosen = move_of(alloc, chosen)?;
+        let applied = apply_to_graph(alloc, &rules, &given, &chosen)?;
         assert_eq!(rt; clause_in(&applied), Some(Clause::AnotherCrate));
     }
     Ok(())
 }
 
 // a move, and why it is no instance
-static MOVE_CLAUSES: [(Move, Option<Clause>); 9] = [
-    (Move::Simplify, Some(Clause::Condition)),
-    (Move::Contradiction, Some(Clause::Condition)),
-    (Move::Solved, Some(Clause::Condition)),
-    (Move::Action(1), None),
-    (Move::Or(0), Some(Clause::OtherKind)),
-    (Move::Action(2), Some(Clause::Absent)),
+static MOVE_CLAUSES: [(PlainMove, Option<Clause>); 17] = [
+    (PlainMove::Simplify, Some(Clause::Condition)),
+    (PlainMove::Contradiction, Some(Clause::Condition)),
+    (PlainMove::Solved, Some(Clause::Condition)),
+    (PlainMove::Action(1), None),
+    (PlainMove::Or(0), Some(Clause::OtherKind)),
+    (PlainMove::Action(2), Some(Clause::Absent)),
+    (PlainMove::Premise(9, 0), Some(Clause::Absent)),
+    (PlainMove::Or(1 << 64), Some(Clause::Absent)),
+    (PlainMove::Induction, Some(Clause::Condition)),
+    (PlainMove::Source(5), Some(Clause::Condition)),
+    (PlainMove::Compare(4, 5), Some(Clause::Condition)),
+    (PlainMove::Top(0), Some(Clause::Condition)),
     (
-        Move::Premise(Premise { time: 9, place: 0 }),
-        Some(Clause::Absent),
+        PlainMove::Same(PlainSide::Fresh(0), PlainSide::Fresh(1)),
+        Some(Clause::Condition),
     ),
-    (Move::Action(0), None),
-    (Move::Unproved, None),
+    (PlainMove::MoreEvents, Some(Clause::Condition)),
+    (PlainMove::Finish, Some(Clause::Condition)),
+    (PlainMove::Action(0), None),
+    (PlainMove::Unproved, None),
 ];
 
 #[test]
@@ -401,9 +444,10 @@ fn clauses_of_moves_are_told(rt: HostRuntime) -> Result<(), Fail> {
     let context = parts.context();
     let system = system_of(alloc, &TWO_ACTIONS)?;
     for (i, (chosen, wanted)) in MOVE_CLAUSES.iter().enumerate() {
-        let applied = apply(alloc, &context, &system, *chosen)?;
+        let chosen = move_of(alloc, *chosen)?;
+        let applied = apply(alloc, &context, &system, &chosen)?;
         assert_eq!(rt; clause_in(&applied), *wanted, "{i}");
-        let found = cases(alloc, &context, &system, *chosen)?;
+        let found = cases(alloc, &context, &system, &chosen)?;
         assert_eq!(rt; found.is_none(), wanted.is_some(), "{i}");
     }
     Ok(())
@@ -425,7 +469,7 @@ fn ends(
 ) -> Result<bool, AllocError> {
     let given = system(alloc, formulas_of(alloc, formulas)?, 6);
     let parts = Parts::new(alloc, Vec::new(alloc), formula_of(alloc, sought)?)?;
-    let found = cases(alloc, &parts.context(), &given, Move::Solved)?;
+    let found = cases(alloc, &parts.context(), &given, &Move::Solved)?;
     Ok(found.is_some())
 }
 

@@ -2,7 +2,8 @@ use Rattle.std.proofs.Common.{◌≡◌, map, drop}
 use Rattle.sp_spec_system.specs.Move.{Context, premise}
 use Rattle.sp_fact.specs.View.{fact_of}
 use Rattle.sp_system.specs.SystemView.{system_of}
-use Rattle.sp_spec_proof.specs.Choice.{first_instance, places_from}
+use Rattle.sp_spec_proof.specs.Choice.{first_instance}
+use Rattle.sp_spec_proof.specs.Kinds.{places_from}
 use Rattle.sp_search.proofs.choose.first_among.Given as goal
 
 abbrev pub invariant-loop-place : goal.invariant-loop-place

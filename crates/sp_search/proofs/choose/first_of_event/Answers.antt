@@ -3,7 +3,8 @@ use Rattle.sp_spec.specs.Term.{Variable}
 use Rattle.sp_spec.specs.Rule.{Fact}
 use Rattle.sp_spec_system.specs.Move.{premise}
 use Rattle.sp_system.specs.SystemView.{system_of}
-use Rattle.sp_spec_proof.specs.Choice.{first_instance, places_from}
+use Rattle.sp_spec_proof.specs.Choice.{first_instance}
+use Rattle.sp_spec_proof.specs.Kinds.{places_from}
 use Rattle.sp_search.proofs.choose.first_of_event.Goals as goal
 
 pub returns : goal.returns

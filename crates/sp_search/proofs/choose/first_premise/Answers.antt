@@ -2,7 +2,8 @@ use Rattle.std.proofs.Common.{◌<◌, ◌≡◌, length, get_or, sym, ap, ◌�
 use Rattle.std.specs.Prelude.{option_map}
 use Rattle.sp_step.specs.View.{move_of}
 use Rattle.sp_system.specs.SystemView.{event_of, system_of}
-use Rattle.sp_spec_proof.specs.Choice.{first_instance, premises_of}
+use Rattle.sp_spec_proof.specs.Choice.{first_instance}
+use Rattle.sp_spec_proof.specs.Kinds.{premises_of}
 use Rattle.sp_search.proofs.Choosing.{next_event}
 use Rattle.sp_search.proofs.choose.first_premise.Goals as goal
 

@@ -2,7 +2,8 @@ use Rattle.std.proofs.Common.{◌≡◌, map, drop}
 use Rattle.std.specs.Prelude.{flat_map}
 use Rattle.sp_spec_system.specs.Move.{Context}
 use Rattle.sp_system.specs.SystemView.{event_of, system_of}
-use Rattle.sp_spec_proof.specs.Choice.{first_instance, premises_of}
+use Rattle.sp_spec_proof.specs.Choice.{first_instance}
+use Rattle.sp_spec_proof.specs.Kinds.{premises_of}
 use Rattle.sp_search.proofs.choose.first_premise.Given as goal
 
 abbrev pub invariant-loop-event : goal.invariant-loop-event

@@ -35,7 +35,7 @@ loop-name-preserved c =
 
 pub invariant_of-result : goal.invariant_of-result
 invariant_of-result c = record {
-  is_one = over_cases c.args.chosen c.loop-name.names c.loop-name.below.items c.append-2.new.self.items
-      (c.in_ok-append-2.ensures.items ∙ ap (λ nodes. nodes ++ c.loop-name.below.items) (c.in_ok-push-2.ensures.items ∙ ap (λ nodes. nodes ++ Inner c.args.chosen c.loop-name.names ∷ []) c.new-nodes.ensures.items))
+  is_one = over_cases c.loop-name.chosen-1 c.loop-name.names c.loop-name.below.items c.append-2.new.self.items
+      (c.in_ok-append-2.ensures.items ∙ ap (λ nodes. nodes ++ c.loop-name.below.items) (c.in_ok-push-2.ensures.items ∙ ap (λ nodes. nodes ++ Inner c.loop-name.chosen-1 c.loop-name.names ∷ []) c.new-nodes.ensures.items))
       c.loop-name.invariant;
 }
