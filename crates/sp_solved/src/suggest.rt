@@ -111,13 +111,14 @@ fn all_sourced(events: &Vec<Event>, links: &Vec<Link>) -> bool
     true
 }
 
-/// Whether the message is a variable for which a public name may stand.
+/// Whether the message is a public name, or a variable for which one may stand.
 fn may_be_public(message: &Term) -> bool
     ensures { result ≡ spec.may_be_public (view message.now) }
 {
     match message {
         Term::Var(variable) => variable.sort != Sort::Fresh,
-        _ => false,
+        Term::Constant(_) => true,
+        Term::FreshName(_) | Term::App(..) => false,
     }
 }
 

@@ -1,7 +1,7 @@
 -- The log that a solved system suggests: its events one after the other, each behind those that the order puts before it, with names for
 -- the variables that are left. Source: CSF 2012, "Constraint solving" (extracting an attack from a solved system).
 use Rattle.std.specs.Prelude.{ℕ, suc, ◌==◌, Bool, true, false, not, ◌&&◌, ◌||◌, if◌then◌else◌, List, [], ◌∷◌, map, Option, Some, None, option_map, option_and_then, unwrap_or}
-use Rattle.sp_spec.specs.Term.{Variable, Term, var, Values, valued}
+use Rattle.sp_spec.specs.Term.{Variable, Term, var, constant, Values, valued}
 use Rattle.sp_spec.specs.Rule.{Fact, facts_at}
 use Rattle.sp_spec.specs.Guarded.{Guarded, holds, acts, free_time}
 use Rattle.sp_spec.specs.Log.{Entry, step, send, learn, How, Source, fresh_rule, conclusion, is_fr}
@@ -49,12 +49,13 @@ abbrev pub all_sourced : List Event → List Link → List Event → Bool
 all_sourced events links [] = true
 all_sourced events links (e ∷ es) = are_sourced events links e.time 0 (happening_premises e.happening) && all_sourced events links es
 
--- a variable for which a public name may stand
+-- a public name, or a variable for which one may stand
 abbrev pub may_be_public : Term Variable → Bool
 may_be_public (var x) = if_fresh x.sort false true
+may_be_public (constant c) = true
 may_be_public t = false
 
--- it is settled how the message is learnt: a chain has all of its messages, and what is learnt anyhow becomes a public name
+-- it is settled how the message is learnt: a chain has all of its messages, and what is learnt anyhow is a public name or becomes one
 abbrev pub is_settled_way : Term Variable → Way → Bool
 is_settled_way m anyhow = may_be_public m
 is_settled_way m (chain_begun i k ts) = false
@@ -100,7 +101,7 @@ sources_from listed links i p (f ∷ fs) =
 abbrev pub position_of : List Event → ℕ → ℕ
 position_of listed i = unwrap_or (place_of i listed) 0
 
--- what is learnt anyhow is learnt as the public name that its variable is given
+-- what is learnt anyhow is learnt as a public name: as the one that it is, or that its variable is given
 abbrev pub how_at : List Event → Values → Way → How
 how_at listed v anyhow = log.public_name
 how_at listed v public_name = log.public_name

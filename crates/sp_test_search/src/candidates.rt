@@ -318,9 +318,43 @@ const RECEIVED: PlainSystem<'static> = PlainSystem {
 
 const OF_RECEIVED: &str = "learn 'a1' public;send 'a1';T 'a1' from 1.0;";
 
-// what is learnt anyhow is a public name, and a chain has to be done
-static LEARNT: [(PlainSystem<'static>, &str); 3] = [
+// 'c' alone is learnt
+const CONSTANT_LEARNT: PlainSystem<'static> = PlainSystem {
+    events: &[PlainEvent::Learn(1, PlainTerm::Public("c"), PlainWay::Anyhow)],
+    ..NO_STEP
+};
+
+const OF_CONSTANT: &str = "learn 'c' public;";
+
+// what is learnt anyhow is a public name or a variable that may become one, and a chain has to be done
+static LEARNT: [(PlainSystem<'static>, &str); 7] = [
     (RECEIVED, OF_RECEIVED),
+    (CONSTANT_LEARNT, OF_CONSTANT),
+    (
+        PlainSystem {
+            events: &[PlainEvent::Learn(1, FRESH7, PlainWay::Anyhow)],
+            ..NO_STEP
+        },
+        "none",
+    ),
+    (
+        PlainSystem {
+            events: &[PlainEvent::Learn(1, PlainTerm::FreshName(1), PlainWay::Anyhow)],
+            ..NO_STEP
+        },
+        "none",
+    ),
+    (
+        PlainSystem {
+            events: &[PlainEvent::Learn(
+                1,
+                PlainTerm::Over("h", &[PlainTerm::Public("c")]),
+                PlainWay::Anyhow,
+            )],
+            ..NO_STEP
+        },
+        "none",
+    ),
     (
         PlainSystem {
             events: &[RECEIVING, FIRST, SENT, LEARNT_BY_BEGUN],
@@ -375,11 +409,12 @@ const SECOND_ALONE: PlainSystem<'static> = PlainSystem {
 };
 
 // what is sought, a system whose events are those of a log of the rules, or aren't, and the log
-static FOUND: [(PlainFormula<'static>, PlainSystem<'static>, &str); 5] = [
+static FOUND: [(PlainFormula<'static>, PlainSystem<'static>, &str); 6] = [
     (PlainFormula::Truth, SECOND_ALONE, "Q ~n1 'a1';"),
     (PlainFormula::Falsity, SECOND_ALONE, "none"),
     (PlainFormula::Truth, ONE_STEP, "none"),
     (PlainFormula::Truth, RECEIVED, OF_RECEIVED),
+    (PlainFormula::Truth, CONSTANT_LEARNT, OF_CONSTANT),
     (
         PlainFormula::Truth,
         PlainSystem {

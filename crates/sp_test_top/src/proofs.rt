@@ -146,6 +146,53 @@ simplify simplify by contradiction",
     ),
 ];
 
+/// A proof that ends with a log at a system with an unequal pair that is equal, in which a public constant is learnt: nothing has settled how.
+const LEARNT_CONSTANT: &str = "theory C begin
+rule R: [ ] --[ A('c') ]-> [ ]
+lemma l: exists-trace \"Ex x #i #j. K(x)@i & A(x)@j & (not x = 'c' | x = 'c')\"
+simplify
+solve( or 2 )
+  case case_1
+  solve( action 0 )
+    case Send
+    solve( action 0 )
+      case R
+      SOLVED
+    qed
+  qed
+next
+  case case_2
+  by sorry
+qed
+end
+";
+
+/// The learnt constant is public.
+const LEARNT_CONSTANT_CHECKED: &str = "l (exists-trace): verified (5 steps)
+execution:
+pub 'c'
+in 'c'
+rule R:
+trace:
+K('c')
+A('c')
+end of trace
+";
+
+#[test]
+fn learnt_constants_are_public(rt: HostRuntime) -> Result<(), Fail> {
+    let alloc = rt.alloc();
+    assert_answer(
+        &rt,
+        alloc,
+        "check",
+        LEARNT_CONSTANT,
+        0,
+        LEARNT_CONSTANT_CHECKED,
+    )?;
+    Ok(())
+}
+
 #[test]
 fn proofs_are_checked(rt: HostRuntime) -> Result<(), Fail> {
     let alloc = rt.alloc();
