@@ -19,7 +19,7 @@ fn report_on(alloc: Global, text: &[u8]) -> Result<Vec<u8>, Fail> {
 }
 
 /// Theories of one item, and their reports.
-static ITEMS: [(&[u8], &str); 16] = [
+static ITEMS: [(&[u8], &str); 17] = [
     (
         b"theory T begin rule R: [ A(x, y, ~y, ~x) ] --> [ ] end",
         "fatal: rule R: variable x has two sorts\nfatal: rule R: variable y has two sorts\n",
@@ -71,6 +71,11 @@ static ITEMS: [(&[u8], &str); 16] = [
     (
         b"theory T begin lemma l: \"All x #i. F ==> (Ex y. A(x)@i)\" end",
         "fatal: formula l: variable x not guarded\n",
+    ),
+    // no unguarded variable is looked for where a destructor stands
+    (
+        b"theory T begin lemma l: \"All x. fst(x) = 'a' ==> F\" end",
+        "fatal: formula l: destructor\n",
     ),
     (
         b"theory T begin lemma l: \"All ~x #i. A($x)@i ==> A(x)@i\" end",

@@ -1,5 +1,5 @@
 -- Which findings stand on equations, by their forms and by whether they clash.
-use Rattle.std.proofs.Common.{◌≡◌, ◌<◌, ◌+◌, ◌-◌, ℕ, Bool, true, false, not, ◌&&◌, ◌||◌, List, ◌∷◌, map, take, drop, length, get_or, MatchOption, is_some, Option, Some, None, refl, sym, ap, ap₂, ◌∙◌}
+use Rattle.std.proofs.Common.{◌≡◌, ◌<◌, ◌+◌, ◌-◌, ℕ, Bool, true, false, not, ◌&&◌, List, ◌∷◌, map, take, drop, length, get_or, MatchOption, is_some, Option, Some, None, refl, sym, ap, ap₂, ◌∙◌}
 use Rattle.std.proofs.lemmas.Bool.{and_right, both_ways, false_from_ne_true, not_from_false, not-true}
 use Rattle.std.proofs.lemmas.List.{take_rest}
 use Rattle.sp_spec.specs.Term.{Variable, Term, valued}

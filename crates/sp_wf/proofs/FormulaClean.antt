@@ -2,6 +2,7 @@
 use Rattle.std.proofs.Common.{◌≡◌, ℕ, Bool, true, false, not, ◌&&◌, ◌||◌, if◌then◌else◌, List, [], ◌∷◌, ◌++◌, Option, Some, None, is_some, option_map, option_and_then, refl, sym, ap, ap₂, ◌∙◌}
 use Rattle.sp_spec.specs.Term.{Term, var, constant, name, app, Terms, none, more}
 use Rattle.sp_spec.specs.Formula.{Written, Formula, truth, falsity, happens, equals, precedes, not_so, both, either, implies, for_all, for_some}
+use Rattle.sp_spec.specs.Signature.{Equation}
 use Rattle.sp_spec.specs.Theory.{Lemma}
 use Rattle.sp_spec.specs.Written.{in_term, in_terms}
 use Rattle.sp_spec.specs.Findings.{is_wide}
@@ -12,6 +13,7 @@ use Rattle.sp_law_guard.specs.CheckedForm.{fits, each_fits, marks_fit, has_wide,
 use Rattle.sp_guard.specs.Unguarded.{first_unguarded}
 use Rattle.sp_guard.proofs.NoneUnguarded.{none_told as guarded_told}
 use Rattle.sp_wf.specs.Finding.{Finding, arity_above, without_binder, other_sort, mixed_at, told, are_none}
+use Rattle.sp_wf.specs.SymbolFindings.{destructors_in_lemma}
 use Rattle.sp_wf.specs.FormulaFindings.{wide_in, Role, as_message, as_time, Use, uses_as, role_of, uses, is_unbound, is_mixed, unbound_uses, other_uses, mixed_uses, wide_in_lemma, unbound_in_lemma, sorts_in_lemma, mixed_in_lemma, unguarded_at, unguarded_in_lemma}
 use Rattle.sp_wf.specs.Sought.{is_there}
 use Rattle.sp_wf.proofs.Nothing.{both_true, and_grouped, told_not, told_step, none_append}
@@ -232,10 +234,11 @@ form_is : {A : Type 0} (o : Option A) → is_there o ≡ true → (x : A) × (o 
 form_is None e = absurd cc
 form_is (Some x) e = (x, refl)
 
-pub record LemmaClean (l : Lemma) : Type 0 where
+pub record LemmaClean (es : List Equation) (l : Lemma) : Type 0 where
   pub wide : are_none (wide_in_lemma l) ≡ true
   pub unbound : are_none (unbound_in_lemma l) ≡ true
-  pub unguarded : are_none (unguarded_in_lemma l) ≡ true
+  pub unguarded : are_none (unguarded_in_lemma es l) ≡ true
+  pub plain : are_none (destructors_in_lemma es l) ≡ true
   pub sorts : are_none (sorts_in_lemma l) ≡ true
   pub mixed : are_none (mixed_in_lemma l) ≡ true
 
@@ -246,12 +249,12 @@ none_named n (Some x) e = absurd cc
 chosen_some : (f : Formula) (g : Guarded) → is_guarded g ≡ true → marks_fit [] f ≡ true → has_wide f ≡ false → if_right f (Some g) ≡ Some g
 chosen_some f g e k w = ap (λ (b : Bool). if b then Some g else None) (both_true e (both_true k (not_from_false (has_wide f) w)))
 
-pub clean_has_form : (l : Lemma) → LemmaClean l → (g : Guarded) × (checked_form l.formula ≡ Some g)
-clean_has_form l c =
+pub clean_has_form : (es : List Equation) (l : Lemma) → LemmaClean es l → (g : Guarded) × (checked_form l.formula ≡ Some g)
+clean_has_form es l c =
     let f = l.formula in
     let placed = form_there [] f ∙ sym (none_placed l.name (uses [] f)) ∙ both_true c.unbound c.mixed in
     let form = form_is (guarded_form [] f) placed in
-    let looked = ap (λ (b : Bool). are_none (if b then unguarded_at l.name (first_unguarded f) else [])) (both_true c.unbound (both_true c.sorts c.mixed)) in
+    let looked = ap (λ (b : Bool). are_none (if b then unguarded_at l.name (first_unguarded f) else [])) (both_true c.plain (both_true c.unbound (both_true c.sorts c.mixed))) in
     let none = none_named l.name (first_unguarded f) (sym looked ∙ c.unguarded) in
     let guarded = (guarded_told f form.0 form.1).0 none in
     (form.0, ap (if_right f) form.1 ∙ chosen_some f form.0 guarded (sym (none_other l.name [] f) ∙ c.sorts) (not-true (has_wide f) (sym (none_wide f) ∙ c.wide)))
@@ -283,15 +286,17 @@ none_at n true None e = refl
 none_at n true (Some x) e = absurd cc
 none_at n false o e = refl
 
-pub form_is_clean : (l : Lemma) (g : Guarded) → checked_form l.formula ≡ Some g → LemmaClean l
-form_is_clean l g e =
+pub form_is_clean : (es : List Equation) (l : Lemma) (g : Guarded) → checked_form l.formula ≡ Some g → are_none (destructors_in_lemma es l) ≡ true → LemmaClean es l
+form_is_clean es l g e plain =
     let f = l.formula in
     let r = right_of f g e in
     let placed = and_parts _ _ (none_placed l.name (uses [] f) ∙ sym (form_there [] f) ∙ ap is_there r.form_is) in
     record {
       wide = none_wide f ∙ not_from_false (has_wide f) r.narrow;
       unbound = placed.0;
-      unguarded = none_at l.name (are_none (unbound_in_lemma l) && (are_none (sorts_in_lemma l) && are_none (mixed_in_lemma l))) (first_unguarded f) ((guarded_told f r.form r.form_is).1 r.guarded);
+      unguarded = none_at l.name (are_none (destructors_in_lemma es l) && (are_none (unbound_in_lemma l) && (are_none (sorts_in_lemma l) && are_none (mixed_in_lemma l)))) (first_unguarded f)
+          ((guarded_told f r.form r.form_is).1 r.guarded);
+      plain = plain;
       sorts = none_other l.name [] f ∙ r.fit;
       mixed = placed.1;
     }

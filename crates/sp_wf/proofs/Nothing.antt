@@ -19,6 +19,10 @@ pub told_not : (b : Bool) (finding : Finding) (findings : List Finding) → are_
 told_not true finding findings = refl
 told_not false finding findings = refl
 
+pub none_single : (b : Bool) (finding : Finding) → are_none (told b finding []) ≡ not b
+none_single true finding = refl
+none_single false finding = refl
+
 pub told_step : (b : Bool) (finding : Finding) (findings : List Finding) (rest : Bool) → are_none findings ≡ not rest → are_none (told b finding findings) ≡ not (b || rest)
 told_step true finding findings rest e = refl
 told_step false finding findings rest e = e

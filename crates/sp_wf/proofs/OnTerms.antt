@@ -1,16 +1,14 @@
 -- What is told of the terms of formulas: of an equivalence each side once, and of quantifiers in a row what stands in their reach.
-use Rattle.std.proofs.Common.{◌≡◌, ℕ, Bool, true, false, ◌||◌, if◌then◌else◌, List, [], ◌∷◌, ◌++◌, refl, sym, ap, ap₂, ◌∙◌}
+use Rattle.std.proofs.Common.{◌≡◌, ℕ, Bool, true, false, ◌||◌, List, [], ◌∷◌, ◌++◌, refl, sym, ap₂, ◌∙◌}
 use Rattle.sp_spec.specs.Signature.{Symbol, Equation}
 use Rattle.sp_spec.specs.Formula.{Written, Formula, truth, falsity, happens, equals, precedes, not_so, both, either, implies, for_all, for_some}
-use Rattle.sp_spec.specs.Written.{is_listed}
-use Rattle.sp_spec.proofs.Listed.{listed_now}
 use Rattle.sp_spec_text.specs.Shapes.{quantified}
 use Rattle.sp_spec_text.specs.Formulas.{quantified_some}
 use Rattle.sp_read_parts.specs.Reading.{Joint, conjoint, disjoint, join}
-use Rattle.sp_wf.specs.Finding.{Finding, destructor_in_formula, line, told}
+use Rattle.sp_wf.specs.Finding.{Finding}
 use Rattle.sp_wf.specs.SymbolFindings.{unknown_in_formula, formula_has_destructor}
 use Rattle.sp_wf.specs.FormulaFindings.{wide_in}
-use Rattle.sp_wf.specs.Atoms.{Fault, too_wide, unknown, destructor, on_terms}
+use Rattle.sp_wf.specs.Atoms.{Fault, too_wide, unknown, on_terms}
 use Rattle.sp_wf.specs.Report.{lines_after}
 use Rattle.sp_wf.proofs.Telling.{told_both}
 use Rattle.sp_wf.proofs.Formulas.{both_orders}
@@ -60,37 +58,23 @@ module _ (symbols : List Symbol) where
   unknown_told (for_all x f) = unknown_told f
   unknown_told (for_some x f) = unknown_told f
 
--- a finding that is told once more says nothing more
-told_once : (a b : Bool) (finding : Finding) (ls : List (List ℕ)) → lines_after (lines_after ls (told a finding [])) (told b finding []) ≡ lines_after ls (told (a || b) finding [])
-told_once false b finding ls = refl
-told_once true false finding ls = refl
-told_once true true finding ls =
-    let now = if is_listed (line finding) ls then ls else ls ++ line finding ∷ [] in
-    ap (λ (b : Bool). if b then now else now ++ line finding ∷ []) (listed_now (is_listed (line finding) ls) (line finding) ls refl)
+-- ---- destructors, which are told of a formula as a whole
 
-module _ (es : List Equation) (n : List ℕ) where
-  abbrev of_both : List (List ℕ) → Formula → Type 0
-  of_both ls f = lines_after ls (on_terms (destructor es n) f) ≡ lines_after ls (told (formula_has_destructor es f) (destructor_in_formula n) [])
+-- each side of an equivalence implies the other
+pub either_way : (x y : Bool) → (x || y) ≡ ((x || y) || (y || x))
+either_way true y = refl
+either_way false true = refl
+either_way false false = refl
 
-  in_both : (f g : Formula) → ((ls : List (List ℕ)) → of_both ls f) → ((ls : List (List ℕ)) → of_both ls g) → (ls : List (List ℕ))
-      → lines_after ls (on_terms (destructor es n) f ++ on_terms (destructor es n) g) ≡ lines_after ls (told (formula_has_destructor es f || formula_has_destructor es g) (destructor_in_formula n) [])
-  in_both f g h k ls =
-      let first = told (formula_has_destructor es f) (destructor_in_formula n) [] in
-      sym (told_both (on_terms (destructor es n) f) ls (on_terms (destructor es n) g))
-      ∙ k (lines_after ls (on_terms (destructor es n) f))
-      ∙ ap (λ (ms : List (List ℕ)). lines_after ms (told (formula_has_destructor es g) (destructor_in_formula n) [])) (h ls)
-      ∙ told_once (formula_has_destructor es f) (formula_has_destructor es g) (destructor_in_formula n) ls
+module _ (es : List Equation) where
+  pub destructor_for_all : (xs : List Written) (f : Formula) → formula_has_destructor es f ≡ formula_has_destructor es (quantified xs f)
+  destructor_for_all [] f = refl
+  destructor_for_all (x ∷ xs) f = destructor_for_all xs f
 
-  pub destructors_told : (f : Formula) (ls : List (List ℕ))
-      → lines_after ls (on_terms (destructor es n) f) ≡ lines_after ls (told (formula_has_destructor es f) (destructor_in_formula n) [])
-  destructors_told truth ls = refl
-  destructors_told falsity ls = refl
-  destructors_told (happens a i) ls = refl
-  destructors_told (equals t u) ls = refl
-  destructors_told (precedes i j) ls = refl
-  destructors_told (not_so f) ls = destructors_told f ls
-  destructors_told (both f g) ls = in_both f g (destructors_told f) (destructors_told g) ls
-  destructors_told (either f g) ls = in_both f g (destructors_told f) (destructors_told g) ls
-  destructors_told (implies f g) ls = in_both f g (destructors_told f) (destructors_told g) ls
-  destructors_told (for_all x f) ls = destructors_told f ls
-  destructors_told (for_some x f) ls = destructors_told f ls
+  pub destructor_for_some : (xs : List Written) (f : Formula) → formula_has_destructor es f ≡ formula_has_destructor es (quantified_some xs f)
+  destructor_for_some [] f = refl
+  destructor_for_some (x ∷ xs) f = destructor_for_some xs f
+
+  pub destructor_joined : (o : Joint) (f g : Formula) → formula_has_destructor es (join o f g) ≡ (formula_has_destructor es f || formula_has_destructor es g)
+  destructor_joined conjoint f g = refl
+  destructor_joined disjoint f g = refl

@@ -35,10 +35,10 @@ right_rules : (rs : List WrittenRule) → Every (Clean wide_in_rule) rs → Ever
 right_rules [] w s p a u = tt
 right_rules (r ∷ rs) w s p a u = (record { wide = w.0; sorts = s.0; reserved = p.0; arguments = a.0; unbound = u.0 }, right_rules rs w.1 s.1 p.1 a.1 u.1)
 
-right_lemmas : (ls : List Lemma) → Every (Clean wide_in_lemma) ls → Every (Clean unbound_in_lemma) ls → Every (Clean unguarded_in_lemma) ls → Every (Clean sorts_in_lemma) ls
-    → Every (Clean mixed_in_lemma) ls → Every LemmaClean ls
-right_lemmas [] w u g s m = tt
-right_lemmas (l ∷ ls) w u g s m = (record { wide = w.0; unbound = u.0; unguarded = g.0; sorts = s.0; mixed = m.0 }, right_lemmas ls w.1 u.1 g.1 s.1 m.1)
+right_lemmas : (es : List Equation) (ls : List Lemma) → Every (Clean wide_in_lemma) ls → Every (Clean unbound_in_lemma) ls → Every (Clean (unguarded_in_lemma es)) ls
+    → Every (Clean (destructors_in_lemma es)) ls → Every (Clean sorts_in_lemma) ls → Every (Clean mixed_in_lemma) ls → Every (LemmaClean es) ls
+right_lemmas es [] w u g d s m = tt
+right_lemmas es (l ∷ ls) w u g d s m = (record { wide = w.0; unbound = u.0; unguarded = g.0; plain = d.0; sorts = s.0; mixed = m.0 }, right_lemmas es ls w.1 u.1 g.1 d.1 s.1 m.1)
 
 module _ (symbols : List Symbol) (es : List Equation) where
   fine_rules : (rs : List WrittenRule) → Every RuleClean rs → Every (Clean (unknown_in_rule symbols)) rs → Every (Clean (destructors_in_rule es)) rs → Every (IsFineRule symbols es) rs
@@ -52,16 +52,15 @@ module _ (symbols : List Symbol) (es : List Equation) where
     fine_rules rs c.1 k.1 d.1,
   )
 
-  fine_lemmas : (ls : List Lemma) → Every LemmaClean ls → Every (Clean (λ (l : Lemma). unknown_in_formula symbols l.formula)) ls → Every (Clean (destructors_in_lemma es)) ls
-      → Every (IsFineLemma symbols es) ls
-  fine_lemmas [] c k d = tt
-  fine_lemmas (l ∷ ls) c k d = (
+  fine_lemmas : (ls : List Lemma) → Every (LemmaClean es) ls → Every (Clean (λ (l : Lemma). unknown_in_formula symbols l.formula)) ls → Every (IsFineLemma symbols es) ls
+  fine_lemmas [] c k = tt
+  fine_lemmas (l ∷ ls) c k = (
     record {
-      form = clean_has_form l c.0;
+      form = clean_has_form es l c.0;
       known = nothing (unknown_in_formula symbols l.formula) k.0;
-      plain = (none_told (formula_has_destructor es l.formula) (destructor_in_formula l.name) [] d.0).0;
+      plain = (none_told (formula_has_destructor es l.formula) (destructor_in_formula l.name) [] c.0.plain).0;
     },
-    fine_lemmas ls c.1 k.1 d.1,
+    fine_lemmas ls c.1 k.1,
   )
 
   rule_clean : (r : WrittenRule) → IsFineRule symbols es r → RuleClean r
@@ -73,14 +72,14 @@ module _ (symbols : List Symbol) (es : List Equation) where
   rule_plain : (r : WrittenRule) → IsFineRule symbols es r → Clean (destructors_in_rule es) r
   rule_plain r h = told_none (facts_have_destructor es r.facts.premises) (destructor_in_premise r.name) [] h.plain refl
 
-  lemma_clean : (l : Lemma) → IsFineLemma symbols es l → LemmaClean l
-  lemma_clean l h = form_is_clean l h.form.0 h.form.1
-
   lemma_known : (l : Lemma) → IsFineLemma symbols es l → Clean (λ (m : Lemma). unknown_in_formula symbols m.formula) l
   lemma_known l h = ap are_none h.known
 
   lemma_plain : (l : Lemma) → IsFineLemma symbols es l → Clean (destructors_in_lemma es) l
   lemma_plain l h = told_none (formula_has_destructor es l.formula) (destructor_in_formula l.name) [] h.plain refl
+
+  lemma_clean : (l : Lemma) → IsFineLemma symbols es l → LemmaClean es l
+  lemma_clean l h = form_is_clean es l h.form.0 h.form.1 (lemma_plain l h)
 
 -- ---- rules and lemmas
 
@@ -117,7 +116,7 @@ module _ (es : List Equation) (rs : List WrittenRule) where
 module _ (es : List Equation) (ls : List Lemma) where
   pub record LemmasClean : Type 0 where
     pub unbound : Every (Clean unbound_in_lemma) ls
-    pub unguarded : Every (Clean unguarded_in_lemma) ls
+    pub unguarded : Every (Clean (unguarded_in_lemma es)) ls
     pub plain : Every (Clean (destructors_in_lemma es)) ls
     pub sorts : Every (Clean sorts_in_lemma) ls
     pub mixed : Every (Clean mixed_in_lemma) ls
@@ -125,23 +124,23 @@ module _ (es : List Equation) (ls : List Lemma) where
   lemmas_all_clean : are_none (findings_on_lemmas es ls) ≡ true → LemmasClean
   lemmas_all_clean e =
       let a = none_parts (on_lemmas unbound_in_lemma ls) _ e in
-      let b = none_parts (on_lemmas unguarded_in_lemma ls) _ a.1 in
+      let b = none_parts (on_lemmas (unguarded_in_lemma es) ls) _ a.1 in
       let c = none_parts (on_lemmas (destructors_in_lemma es) ls) _ b.1 in
       let d = none_parts (on_lemmas sorts_in_lemma ls) (on_lemmas mixed_in_lemma ls) c.1 in
       record {
         unbound = lemmas_clean unbound_in_lemma ls a.0;
-        unguarded = lemmas_clean unguarded_in_lemma ls b.0;
+        unguarded = lemmas_clean (unguarded_in_lemma es) ls b.0;
         plain = lemmas_clean (destructors_in_lemma es) ls c.0;
         sorts = lemmas_clean sorts_in_lemma ls d.0;
         mixed = lemmas_clean mixed_in_lemma ls d.1;
       }
 
-  none_on_lemmas : Every LemmaClean ls → Every (Clean (destructors_in_lemma es)) ls → are_none (findings_on_lemmas es ls) ≡ true
-  none_on_lemmas h k =
-      let each_of = λ (on : Lemma → List Finding) (f : (l : Lemma) → LemmaClean l → Clean on l). no_lemma on ls (every_weaken LemmaClean (Clean on) f ls h) in
+  none_on_lemmas : Every (LemmaClean es) ls → are_none (findings_on_lemmas es ls) ≡ true
+  none_on_lemmas h =
+      let each_of = λ (on : Lemma → List Finding) (f : (l : Lemma) → LemmaClean es l → Clean on l). no_lemma on ls (every_weaken (LemmaClean es) (Clean on) f ls h) in
       none_both (on_lemmas unbound_in_lemma ls) _ (each_of unbound_in_lemma (λ l c. c.unbound))
-      (none_both (on_lemmas unguarded_in_lemma ls) _ (each_of unguarded_in_lemma (λ l c. c.unguarded))
-      (none_both (on_lemmas (destructors_in_lemma es) ls) _ (no_lemma (destructors_in_lemma es) ls k)
+      (none_both (on_lemmas (unguarded_in_lemma es) ls) _ (each_of (unguarded_in_lemma es) (λ l c. c.unguarded))
+      (none_both (on_lemmas (destructors_in_lemma es) ls) _ (each_of (destructors_in_lemma es) (λ l c. c.plain))
       (none_both (on_lemmas sorts_in_lemma ls) _ (each_of sorts_in_lemma (λ l c. c.sorts)) (each_of mixed_in_lemma (λ l c. c.mixed)))))
 
 -- ---- each finding has a line, and each line a line feed
@@ -234,7 +233,7 @@ module _ (t : WrittenText) where
         rule_names = names.0;
         lemma_names = names.1;
         rules = fine_rules all (their_equations numbered) rs (right_rules rs wide.rules rules.sorts rules.reserved rules.arguments rules.unbound) known.rules rules.plain;
-        lemmas = fine_lemmas all (their_equations numbered) ls (right_lemmas ls wide.lemmas lemmas.unbound lemmas.unguarded lemmas.sorts lemmas.mixed) known.lemmas lemmas.plain;
+        lemmas = fine_lemmas all (their_equations numbered) ls (right_lemmas (their_equations numbered) ls wide.lemmas lemmas.unbound lemmas.unguarded lemmas.plain lemmas.sorts lemmas.mixed) known.lemmas;
       }
 
   none_stands : IsWellFormed t → are_none (findings t) ≡ true
@@ -243,7 +242,7 @@ module _ (t : WrittenText) where
       let fine = IsFineRule all es in
       let right = IsFineLemma all es in
       let rules = every_weaken fine RuleClean (rule_clean all es) rs h.rules in
-      let lemmas = every_weaken right LemmaClean (lemma_clean all es) ls h.lemmas in
+      let lemmas = every_weaken right (LemmaClean es) (lemma_clean all es) ls h.lemmas in
       let builtins = none_left_out (builtins_in xs) (subst (λ (bs : List (List ℕ)). Every (λ (b : List ℕ). (found : Builtin) × (builtin_of b ≡ Some found)) bs) (sym (builtins_kept all t.items)) h.declares.builtins) in
       let symbols = ap (λ (ss : List Symbol). are_none (declared_otherwise all ss)) (declared_kept t) ∙ none_otherwise pair_symbols (declared_symbols t.items) pairs_distinct h.declares.symbols in
       let written = written_over all xs pairs_there (all_over h.over) in
@@ -257,14 +256,14 @@ module _ (t : WrittenText) where
       (record {
         symbols = subst (λ (ss : List Symbol). Every (λ (s : Symbol). s.arity ≤ 16) ss) (sym (functions_kept all t.items)) h.declares.arities;
         rules = every_weaken RuleClean (Clean wide_in_rule) (λ r c. c.wide) rs rules;
-        lemmas = every_weaken LemmaClean (Clean wide_in_lemma) (λ l c. c.wide) ls lemmas;
+        lemmas = every_weaken (LemmaClean es) (Clean wide_in_lemma) (λ l c. c.wide) ls lemmas;
       }) in
       none_both (findings_on_symbols all xs) _ (none_both (left_out (builtins_in xs)) _ builtins (none_both (declared_otherwise all (declared_symbols xs)) _ symbols known))
       (none_both (wide_in_items xs) _ wide
       (none_both (findings_on_equations all numbered) _ (accepted_clean all numbered h.accepted)
       (none_both (repeated [] [] xs) on_both (distinct_names xs h.rule_names h.lemma_names)
       (none_both (findings_on_rules es rs) (findings_on_lemmas es ls) (none_on_rules es rs rules (every_weaken fine (Clean (destructors_in_rule es)) (rule_plain all es) rs h.rules))
-      (none_on_lemmas es ls lemmas (every_weaken right (Clean (destructors_in_lemma es)) (lemma_plain all es) ls h.lemmas))))))
+      (none_on_lemmas es ls lemmas)))))
 
 pub report_is_right : ReportIsRight
 report_is_right = record {

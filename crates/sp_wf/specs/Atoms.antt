@@ -1,36 +1,32 @@
 -- One kind of finding on the terms of a formula, as the code looks for it.
-use Rattle.std.specs.Prelude.{ℕ, ◌||◌, List, [], ◌++◌, map}
+use Rattle.std.specs.Prelude.{List, [], ◌++◌, map}
 use Rattle.sp_spec.specs.Term.{Term}
-use Rattle.sp_spec.specs.Signature.{Symbol, Equation}
+use Rattle.sp_spec.specs.Signature.{Symbol}
 use Rattle.sp_spec.specs.Rule.{Action}
 use Rattle.sp_spec.specs.Formula.{Written, Formula, truth, falsity, happens, equals, precedes, not_so, both, either, implies, for_all, for_some}
 use Rattle.sp_spec.specs.Findings.{is_wide}
-use Rattle.sp_fact.specs.GroundView.{symbol_of, equation_of}
-use Rattle.sp_wf.specs.Finding.{Finding, arity_above, destructor_in_formula, told}
-use Rattle.sp_wf.specs.SymbolFindings.{unknown_in, unknown_in_all, has_destructor, have_destructor}
+use Rattle.sp_fact.specs.GroundView.{symbol_of}
+use Rattle.sp_wf.specs.Finding.{Finding, arity_above, told}
+use Rattle.sp_wf.specs.SymbolFindings.{unknown_in, unknown_in_all}
 use Rattle.sp_wf.specs.declared.atoms.TermFault.{TermFault}
 use Rattle.sp_wf.specs.declared.atoms.TermFault.TheVariants as f
 
--- an action has too many arguments, a symbol is none of these, or a destructor of these equations stands in the lemma of this name
+-- an action has too many arguments, or a symbol is none of these
 pub data Fault : Type 0 where
   too_wide : Fault
   unknown : List Symbol → Fault
-  destructor : List Equation → List ℕ → Fault
 
 abbrev pub fault_of : TermFault → Fault
 fault_of f.Wide = too_wide
 fault_of (f.Unknown symbols) = unknown (map symbol_of symbols.now.items)
-fault_of (f.Destructor equations n) = destructor (map equation_of equations.now.items) n.now
 
 abbrev pub on_action : Fault → Action Written → List Finding
 on_action too_wide a = told (is_wide a.args) (arity_above a.symbol) []
 on_action (unknown symbols) a = unknown_in_all symbols a.args
-on_action (destructor es n) a = told (have_destructor es a.args) (destructor_in_formula n) []
 
 abbrev pub on_sides : Fault → Term Written → Term Written → List Finding
 on_sides too_wide t u = []
 on_sides (unknown symbols) t u = unknown_in symbols t ++ unknown_in symbols u
-on_sides (destructor es n) t u = told (has_destructor es t || has_destructor es u) (destructor_in_formula n) []
 
 abbrev pub on_terms : Fault → Formula → List Finding
 on_terms fault truth = []

@@ -2,6 +2,7 @@
 -- well-formedness"; CSF 2012, "Guarded trace properties" (guarded variables).
 use Rattle.std.specs.Prelude.{ℕ, Bool, true, false, ◌&&◌, not, if◌then◌else◌, List, [], ◌∷◌, ◌++◌, Option, Some, None}
 use Rattle.sp_spec.specs.Formula.{Written, Formula, truth, falsity, happens, equals, precedes, not_so, both, either, implies, for_all, for_some}
+use Rattle.sp_spec.specs.Signature.{Equation}
 use Rattle.sp_spec.specs.Theory.{Lemma}
 use Rattle.sp_spec.specs.Written.{in_term, in_terms}
 use Rattle.sp_spec.specs.Findings.{is_wide}
@@ -10,6 +11,7 @@ use Rattle.sp_law_guard.specs.GuardedForm.{Meant, a_message, a_time, meant, term
 use Rattle.sp_law_guard.specs.CheckedForm.{fits}
 use Rattle.sp_guard.specs.Unguarded.{first_unguarded}
 use Rattle.sp_wf.specs.Finding.{Finding, arity_above, without_binder, not_guarded, other_sort, mixed_at, told, are_none}
+use Rattle.sp_wf.specs.SymbolFindings.{destructors_in_lemma}
 
 -- an action of more than sixteen arguments
 abbrev pub wide_in : Formula → List Finding
@@ -101,8 +103,8 @@ abbrev pub unguarded_at : List ℕ → Option (List ℕ) → List Finding
 unguarded_at n None = []
 unguarded_at n (Some x) = not_guarded n x ∷ []
 
--- the first unguarded variable, looked for where none of the other findings on variables stands
-abbrev pub unguarded_in_lemma : Lemma → List Finding
-unguarded_in_lemma l =
-    if are_none (unbound_in_lemma l) && (are_none (sorts_in_lemma l) && are_none (mixed_in_lemma l))
+-- the first unguarded variable, looked for in a formula without destructors and without the other findings on variables
+abbrev pub unguarded_in_lemma : List Equation → Lemma → List Finding
+unguarded_in_lemma es l =
+    if are_none (destructors_in_lemma es l) && (are_none (unbound_in_lemma l) && (are_none (sorts_in_lemma l) && are_none (mixed_in_lemma l)))
     then unguarded_at l.name (first_unguarded l.formula) else []

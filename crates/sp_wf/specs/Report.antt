@@ -53,7 +53,7 @@ findings_on_rules es rs =
 
 abbrev pub findings_on_lemmas : List Equation → List Lemma → List Finding
 findings_on_lemmas es ls =
-    on_lemmas unbound_in_lemma ls ++ (on_lemmas unguarded_in_lemma ls ++ (on_lemmas (destructors_in_lemma es) ls ++ (on_lemmas sorts_in_lemma ls ++ on_lemmas mixed_in_lemma ls)))
+    on_lemmas unbound_in_lemma ls ++ (on_lemmas (unguarded_in_lemma es) ls ++ (on_lemmas (destructors_in_lemma es) ls ++ (on_lemmas sorts_in_lemma ls ++ on_lemmas mixed_in_lemma ls)))
 
 -- ---- builtins, symbols and equations
 

@@ -37,7 +37,7 @@ on_rule r.Unbound = unbound_in_rule
 
 abbrev pub on_lemma : LemmaFault → Lemma → List Finding
 on_lemma l.Unbound = unbound_in_lemma
-on_lemma l.Unguarded = unguarded_in_lemma
+on_lemma (l.Unguarded es) = unguarded_in_lemma (map equation_of es.now.items)
 on_lemma (l.Destructor es) = destructors_in_lemma (map equation_of es.now.items)
 on_lemma l.OtherSort = sorts_in_lemma
 on_lemma l.Mixed = mixed_in_lemma

@@ -1,20 +1,17 @@
 // The findings on the terms of a formula, whatever binds their variables.
 
-ghost use Rattle.std.specs.Prelude.{◌≡◌, ◌||◌, ℕ, List, OnOk, map};
-ghost use Rattle.sp_fact.specs.GroundView.{equation_of};
+ghost use Rattle.std.specs.Prelude.{◌≡◌, ℕ, List, OnOk, map};
 ghost use Rattle.sp_spec.specs.Formula as formulas;
 ghost use Rattle.sp_read_parts.specs.Reading.{Joint};
 ghost use Rattle.sp_read_parts.specs.Views as parts;
 ghost use Rattle.sp_read_parts.specs.Formulas as written;
 ghost use Rattle.sp_wf.specs.Atoms as spec;
 ghost use Rattle.sp_wf.specs.Report.{lines_after};
-ghost use Rattle.sp_wf.specs.SymbolFindings as symbols;
 ghost use Rattle.sp_wf.specs.View.{lines_of};
 
-use crate::destructors::{has_destructor, have_destructor};
-use crate::finding::{Finding, FormulaFinding, tell_if};
+use crate::finding::{Finding, tell_if};
 use crate::unknown::{tell_unknown, tell_unknown_in_all};
-use sp_fact::signature::{Equation, Symbol};
+use sp_fact::signature::Symbol;
 use sp_finding::are_too_many;
 use sp_read_parts::{ReadFormula, WrittenAction, WrittenTerm};
 use std::alloc::{AllocError, Global};
@@ -26,8 +23,6 @@ pub enum TermFault<'a> {
     Wide,
     /// a symbol is none of these
     Unknown(&'a Vec<Symbol>),
-    /// a destructor of these equations stands in the formula of the lemma of this name
-    Destructor(&'a Vec<Equation>, &'a str),
 }
 
 /// Tells of what is looked for, in the arguments of an action.
@@ -46,19 +41,7 @@ fn tell_action(
             tell_if(alloc, lines, is_wrong, finding)
         }
         TermFault::Unknown(symbols) => tell_unknown_in_all(alloc, lines, symbols, &action.args),
-        TermFault::Destructor(equations, lemma) => {
-            let is_wrong = have_destructor(equations, &action.args);
-            let finding = Finding::OnFormula(lemma, FormulaFinding::Destructor);
-            tell_if(alloc, lines, is_wrong, finding)
-        }
     }
-}
-
-/// Whether a destructor stands on one of two sides.
-fn have_destructors(equations: &Vec<Equation>, left: &WrittenTerm, right: &WrittenTerm) -> bool
-    ensures { result ≡ (symbols.has_destructor (map equation_of equations.now.items) (parts.term left.now) || symbols.has_destructor (map equation_of equations.now.items) (parts.term right.now)) }
-{
-    has_destructor(equations, left) || has_destructor(equations, right)
 }
 
 /// Tells of what is looked for, on both sides of an equation.
@@ -78,11 +61,6 @@ fn tell_sides(
             tell_unknown(alloc, lines, symbols, left)?;
             tell_unknown(alloc, lines, symbols, right)?;
             Ok(())
-        }
-        TermFault::Destructor(equations, lemma) => {
-            let is_wrong = have_destructors(equations, left, right);
-            let finding = Finding::OnFormula(lemma, FormulaFinding::Destructor);
-            tell_if(alloc, lines, is_wrong, finding)
         }
     }
 }

@@ -2,6 +2,7 @@
 
 ghost use Rattle.std.specs.Prelude.{◌≡◌, ◌&&◌, ◌++◌, ℕ, List, [], if◌then◌else◌, IfOk, OnOk, map};
 ghost use Rattle.sp_spec.specs.Formula as formulas;
+ghost use Rattle.sp_fact.specs.GroundView.{equation_of};
 ghost use Rattle.sp_read_parts.specs.Reading.{Joint};
 ghost use Rattle.sp_read_parts.specs.Formulas as written;
 ghost use Rattle.sp_written.specs.Views as view;
@@ -9,13 +10,16 @@ ghost use Rattle.sp_law_guard.specs.GuardedForm as forms;
 ghost use Rattle.sp_guard.specs.View.{innermost_first};
 ghost use Rattle.sp_guard.specs.FirstNamed.{name_of};
 ghost use Rattle.sp_wf.specs.Finding.{are_none};
+ghost use Rattle.sp_wf.specs.SymbolFindings.{destructors_in_lemma};
 ghost use Rattle.sp_wf.specs.FormulaFindings as spec;
 ghost use Rattle.sp_wf.specs.Report.{lines_after};
 ghost use Rattle.sp_wf.specs.Sought.{sought, sought_view, is_there};
 ghost use Rattle.sp_wf.specs.View.{lines_of};
 
+use crate::destructors::formula_has_destructor;
 use crate::finding::{Finding, FormulaFinding, tell_if};
 use crate::uses::{Search, Sought, tell_equation, tell_happening, tell_order};
+use sp_fact::signature::Equation;
 use sp_guard::form::{guarded_form, within};
 use sp_guard::marks::marks_fit;
 use sp_guard::unguarded::first_unguarded;
@@ -157,16 +161,32 @@ fn tell_name<'a>(
     }
 }
 
-/// Tells of the first variable of the lemma that isn't guarded, where its variables are used rightly.
+/// Whether an unguarded variable is looked for: no destructor stands in the formula, and its variables are used rightly.
+#[tactic(auto, using(crate::proofs::Nothing::none_single))]
+fn is_searched(
+    alloc: Global,
+    equations: &Vec<Equation>,
+    lemma: &WrittenLemma,
+) -> Result<bool, AllocError>
+    ensures { IfOk result (λ b. b ≡ (are_none (destructors_in_lemma (map equation_of equations.now.items) (view.lemma lemma.now))
+        && (are_none (spec.unbound_in_lemma (view.lemma lemma.now)) && (are_none (spec.sorts_in_lemma (view.lemma lemma.now)) && are_none (spec.mixed_in_lemma (view.lemma lemma.now)))))) }
+{
+    let has_destructor = formula_has_destructor(equations, &lemma.formula);
+    let is_right = is_used_rightly(alloc, lemma)?;
+    Ok(!has_destructor && is_right)
+}
+
+/// Tells of the first variable of the lemma that isn't guarded, where one is looked for.
 pub fn tell_unguarded(
     alloc: Global,
     lines: &mut Vec<String>,
+    equations: &Vec<Equation>,
     lemma: &WrittenLemma,
 ) -> Result<(), AllocError>
-    ensures { OnOk result (lines_of lines.new.items ≡ lines_after (lines_of lines.old.items) (spec.unguarded_in_lemma (view.lemma lemma.now))) }
+    ensures { OnOk result (lines_of lines.new.items ≡ lines_after (lines_of lines.old.items) (spec.unguarded_in_lemma (map equation_of equations.now.items) (view.lemma lemma.now))) }
 {
-    let is_right = is_used_rightly(alloc, lemma)?;
-    if !is_right {
+    let is_searched = is_searched(alloc, equations, lemma)?;
+    if !is_searched {
         return Ok(());
     }
     let name = first_unguarded(alloc, &lemma.formula)?;

@@ -50,7 +50,7 @@ fn tell_all_lemmas(
     ensures { OnOk result (lines_of lines.new.items ≡ spec.lines_after (lines_of lines.old.items) (spec.findings_on_lemmas (map equation_of equations.now.items) (lemmas_in (view.items items.now.items)))) }
 {
     tell_lemmas(alloc, lines, LemmaFault::Unbound, items)?;
-    tell_lemmas(alloc, lines, LemmaFault::Unguarded, items)?;
+    tell_lemmas(alloc, lines, LemmaFault::Unguarded(equations), items)?;
     tell_lemmas(alloc, lines, LemmaFault::Destructor(equations), items)?;
     tell_lemmas(alloc, lines, LemmaFault::OtherSort, items)?;
     tell_lemmas(alloc, lines, LemmaFault::Mixed, items)?;

@@ -1,17 +1,15 @@
 // The findings on each rule and each lemma, one kind after the other.
 
-ghost use Rattle.std.specs.Prelude.{◌≡◌, OnOk, map};
-ghost use Rattle.sp_fact.specs.GroundView.{equation_of};
+ghost use Rattle.std.specs.Prelude.{◌≡◌, OnOk};
 ghost use Rattle.sp_spec_text.specs.Written.{item_rules, item_lemmas, without_proofs, rules_in, lemmas_in};
 ghost use Rattle.sp_written.specs.Views as view;
 ghost use Rattle.sp_read_parts.specs.Views as parts;
 ghost use Rattle.sp_wf.specs.Report as spec;
-ghost use Rattle.sp_wf.specs.SymbolFindings.{destructors_in_lemma};
 ghost use Rattle.sp_wf.specs.Told.{on_rule, on_lemma};
 ghost use Rattle.sp_wf.specs.View.{lines_of};
 
 use crate::atoms::{TermFault, tell_terms_of};
-use crate::destructors::tell_destructors;
+use crate::destructors::{tell_destructors, tell_lemma_destructors};
 use crate::facts::{tell_arguments, tell_reserved, tell_wide};
 use crate::formula::{tell_lemma, tell_unguarded};
 use crate::symbols::tell_wide_symbols;
@@ -37,7 +35,8 @@ pub enum RuleFault<'a> {
 #[derive(Clone, Copy)]
 pub enum LemmaFault<'a> {
     Unbound,
-    Unguarded,
+    /// a variable isn't guarded, in a formula without destructors of these equations
+    Unguarded(&'a Vec<Equation>),
     /// one of these equations
     Destructor(&'a Vec<Equation>),
     OtherSort,
@@ -90,20 +89,6 @@ pub fn tell_rules(
     Ok(())
 }
 
-/// Tells of the lemma where a destructor of these equations stands in its formula.
-#[tactic(auto, using(crate::proofs::OnTerms::destructors_told))]
-fn tell_lemma_destructors(
-    alloc: Global,
-    lines: &mut Vec<String>,
-    equations: &Vec<Equation>,
-    lemma: &WrittenLemma,
-) -> Result<(), AllocError>
-    ensures { OnOk result (lines_of lines.new.items ≡ spec.lines_after (lines_of lines.old.items) (destructors_in_lemma (map equation_of equations.now.items) (view.lemma lemma.now))) }
-{
-    let fault = TermFault::Destructor(equations, lemma.name);
-    tell_terms_of(alloc, lines, fault, &lemma.formula)
-}
-
 #[tactic(auto, using(crate::proofs::Formulas::sought_unbound, crate::proofs::Formulas::sought_other, crate::proofs::Formulas::sought_mixed))]
 fn tell_on_lemma(
     alloc: Global,
@@ -115,7 +100,7 @@ fn tell_on_lemma(
 {
     match fault {
         LemmaFault::Unbound => tell_lemma(alloc, lines, Sought::Unbound, lemma),
-        LemmaFault::Unguarded => tell_unguarded(alloc, lines, lemma),
+        LemmaFault::Unguarded(equations) => tell_unguarded(alloc, lines, equations, lemma),
         LemmaFault::Destructor(equations) => tell_lemma_destructors(alloc, lines, equations, lemma),
         LemmaFault::OtherSort => tell_lemma(alloc, lines, Sought::OtherSort, lemma),
         LemmaFault::Mixed => tell_lemma(alloc, lines, Sought::Mixed, lemma),
