@@ -4,7 +4,7 @@ use Rattle.sp_spec.specs.Term.{Variable}
 use Rattle.sp_spec.specs.Rule.{Fact}
 use Rattle.sp_spec.specs.Log.{is_fr, is_in}
 use Rattle.sp_spec.specs.Guarded.{Guarded, guardeds_of}
-use Rattle.sp_spec_system.specs.System.{happening_premises, Event, System}
+use Rattle.sp_spec_system.specs.System.{Happening, rule_step, sending, learning, happening_premises, Event, System}
 use Rattle.sp_spec_system.specs.MakingOne.{event_at}
 use Rattle.sp_spec_system.specs.Move.{Move, premise}
 use Rattle.sp_spec_graph.specs.Premise.{is_linked, of_a_step, open_premise, premise_cases}
@@ -12,7 +12,7 @@ use Rattle.sp_moves_formula.specs.WhyNot.{Clause, absent, condition, HasCases}
 use Rattle.sp_spec_system.specs.Occurring.{has_time}
 use Rattle.sp_moves_graph.specs.Times.{formula_has, one_has, formulas_have, happening_has, events_have}
 use Rattle.sp_moves_graph.proofs.Occurring.{each_part}
-use Rattle.sp_moves_graph.specs.WhyNot.{why_not_open, why_not_of, why_not_graph, graph_cases}
+use Rattle.sp_moves_graph.specs.WhyNot.{why_not_open, why_not_at, why_not_of, why_not_graph, graph_cases}
 use Rattle.sp_spec_forms.specs.Forms.{RuleForms}
 
 -- an event's time is in the system
@@ -48,6 +48,13 @@ by_premise : (rules : List RuleForms) (s : System) (i p : ℕ) (o : Option (Fact
 by_premise rules s i p None = sym (nothing_there rules s i p (is_linked s.links i p))
 by_premise rules s i p (Some f) = by_fact rules s i p f (is_linked s.links i p) (is_fr f || is_in f)
 
+by_happening : (rules : List RuleForms) (s : System) (i p : ℕ) (h : Happening)
+    → is_none (why_not_at s i p h)
+    ≡ is_some (premise_cases rules s i p (let r : Option (Fact Variable) = if is_linked s.links i p then None else of_a_step (slice_get (happening_premises h) p) in r))
+by_happening rules s i p (rule_step r facts) = by_premise rules s i p (slice_get facts.premises p)
+by_happening rules s i p (sending m) = sym (nothing_there rules s i p (is_linked s.links i p))
+by_happening rules s i p (learning m way) = sym (nothing_there rules s i p (is_linked s.links i p))
+
 -- the premise at a place of the event that is found
 abbrev of_event : ℕ → Option Event → Option (Fact Variable)
 of_event p o = option_and_then (λ (e : Event). slice_get (happening_premises e.happening) p) o
@@ -55,7 +62,7 @@ of_event p o = option_and_then (λ (e : Event). slice_get (happening_premises e.
 by_event : (rules : List RuleForms) (s : System) (i p : ℕ) (o : Option Event)
     → is_none (why_not_of s i p o) ≡ is_some (premise_cases rules s i p (let r : Option (Fact Variable) = if is_linked s.links i p then None else of_a_step (of_event p o) in r))
 by_event rules s i p None = sym (nothing_there rules s i p (is_linked s.links i p))
-by_event rules s i p (Some e) = by_premise rules s i p (slice_get (happening_premises e.happening) p)
+by_event rules s i p (Some e) = by_happening rules s i p e.happening
 
 by_time : (rules : List RuleForms) (s : System) (i p : ℕ) (b : Bool) → has_time i s ≡ b
     → is_none (let r : Option Clause = if b then why_not_of s i p (event_at i s.events) else Some absent in r) ≡ is_some (premise_cases rules s i p (open_premise s i p))

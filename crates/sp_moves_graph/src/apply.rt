@@ -9,7 +9,7 @@ ghost use Rattle.sp_spec_graph.specs.Premise as spec;
 ghost use Rattle.sp_moves_formula.specs.View.{case_of, move_of};
 ghost use Rattle.sp_moves_formula.specs.Applied.{clause_of, cases_of, failing};
 ghost use Rattle.sp_moves_formula.specs.WhyNot.{HasCases};
-ghost use Rattle.sp_moves_graph.specs.WhyNot.{why_not_of, why_not_graph, graph_cases};
+ghost use Rattle.sp_moves_graph.specs.WhyNot.{why_not_open, why_not_of, why_not_graph, graph_cases};
 
 use crate::premise::{Premise, premise_cases};
 use crate::times::has_time;
@@ -20,7 +20,7 @@ use sp_moves_formula::moves::{Case, Move, place_in};
 use sp_rows_graph::fresh_once::is_fresh;
 use sp_rows_graph::send_input::{is_linked, is_received};
 use sp_system::at_time::event_at;
-use sp_system::event::Event;
+use sp_system::event::{Event, What};
 use sp_system::system::System;
 use std::alloc::{AllocError, Global};
 
@@ -31,10 +31,10 @@ fn is_closed(system: &System, premise: Premise, fact: &Fact) -> bool
     is_linked(&system.links, premise.time, premise.place) || is_fresh(fact) || is_received(fact)
 }
 
-fn why_not_at(system: &System, premise: Premise, event: &Event) -> Option<Clause>
-    ensures { option_map clause_of result ≡ why_not_of (system_of system.now) premise.time premise.place (Some (event_of event.now)) }
+fn why_not_open(system: &System, premise: Premise, fact: Option<&Fact>) -> Option<Clause>
+    ensures { option_map clause_of result ≡ why_not_open (system_of system.now) premise.time premise.place (option_map (λ f. fact_of f.now) fact.entry) }
 {
-    match event.premises().get(premise.place) {
+    match fact {
         None => Some(Clause::Absent),
         Some(fact) => {
             if is_closed(system, premise, fact) {
@@ -49,8 +49,14 @@ fn why_not_at(system: &System, premise: Premise, event: &Event) -> Option<Clause
 fn why_not_of(system: &System, time: u128, place: u128, event: &Event) -> Option<Clause>
     ensures { option_map clause_of result ≡ why_not_of (system_of system.now) time place (Some (event_of event.now)) }
 {
+    let What::Rule(_) = &event.what else {
+        return Some(Clause::OtherKind);
+    };
     match place_in(event.premises(), place) {
-        Some(place) => why_not_at(system, Premise { time, place }, event),
+        Some(place) => {
+            let fact = event.premises().get(place);
+            why_not_open(system, Premise { time, place }, fact)
+        }
         None => Some(Clause::Absent),
     }
 }

@@ -4,7 +4,7 @@ use Rattle.sp_spec.specs.Term.{Variable}
 use Rattle.sp_spec.specs.Rule.{Action, Fact}
 use Rattle.sp_spec.specs.Guarded.{Guarded, truth, falsity, holds, fails, all_of, one_of, some, every, acts, same, same_time, before, last, free_time, bound_time}
 use Rattle.sp_spec.specs.Log.{is_fr, is_in}
-use Rattle.sp_spec_system.specs.System.{happening_premises, Event, System}
+use Rattle.sp_spec_system.specs.System.{Happening, rule_step, sending, learning, Event, System}
 use Rattle.sp_spec_proof.specs.Rows.{has_place, is_contradictory}
 use Rattle.sp_spec_system.specs.Formulas.{freed_action}
 use Rattle.sp_spec_system.specs.Rules.{Rules}
@@ -15,7 +15,7 @@ use Rattle.sp_spec_proof.specs.Cases.{raw_cases, simple_case, cases}
 use Rattle.sp_moves_formula.specs.WhyNot.{Clause, another_crate, condition, absent, why_no_disjunction, why_not_freed, why_no_action, HasCases}
 use Rattle.sp_moves_formula.proofs.Exact as formula
 use Rattle.sp_spec_system.specs.Occurring.{has_time}
-use Rattle.sp_moves_graph.specs.WhyNot.{why_not_open, why_not_of}
+use Rattle.sp_moves_graph.specs.WhyNot.{why_not_open, why_not_at, why_not_of}
 use Rattle.sp_moves_graph.proofs.Exact as graph
 use Rattle.sp_moves_know.specs.WhyNot.{why_not_known, why_not_chained}
 use Rattle.sp_moves_know.proofs.Exact as learning
@@ -111,9 +111,14 @@ open_asked : (s : System) (i p : ℕ) (o : Option (Fact Variable)) → why_not_o
 open_asked s i p None e = absurd cc
 open_asked s i p (Some f) e = never (is_linked s.links i p || (is_fr f || is_in f)) condition condition_differs e
 
+happening_asked : (s : System) (i p : ℕ) (h : Happening) → why_not_at s i p h ≡ Some another_crate → ⊥
+happening_asked s i p (rule_step r facts) e = open_asked s i p (slice_get facts.premises p) e
+happening_asked s i p (sending m) e = absurd cc
+happening_asked s i p (learning m way) e = absurd cc
+
 event_asked : (s : System) (i p : ℕ) (o : Option Event) → why_not_of s i p o ≡ Some another_crate → ⊥
 event_asked s i p None e = absurd cc
-event_asked s i p (Some event) e = open_asked s i p (slice_get (happening_premises event.happening) p) e
+event_asked s i p (Some event) e = happening_asked s i p event.happening e
 
 pub each_is_asked : (context : Context) (s : System) (m : Move) → IsAsked (why_not context s m)
 each_is_asked context s simplify = record { asked = unless_asked (has_place context.rules s) }

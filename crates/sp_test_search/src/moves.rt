@@ -369,7 +369,7 @@ fn clauses_of_premises_are_told(rt: HostRuntime) -> Result<(), Fail> {
     Ok(())
 }
 
-// The chain begins at the time 1, at which there is no event.
+// The chain begins at the time 1, at which there is no event; at the time 5 there is one without premises.
 static WITH_CHAIN: PlainSystem<'static> = PlainSystem {
     events: &[PlainEvent::Learn(5, X0, PlainWay::ChainBegun(1, &[X0]))],
     next: 6,
@@ -381,7 +381,11 @@ fn times_of_chains_are_there(rt: HostRuntime) -> Result<(), Fail> {
     let alloc = rt.alloc();
     let rules = no_rules(alloc)?;
     let given = system_of(alloc, &WITH_CHAIN)?;
-    for (time, wanted) in [(1, Clause::OtherKind), (2, Clause::Absent)] {
+    for (time, wanted) in [
+        (1, Clause::OtherKind),
+        (2, Clause::Absent),
+        (5, Clause::OtherKind),
+    ] {
         let applied = apply_to_graph(alloc, &rules, &given, &Move::Premise(time, 0))?;
         assert_eq!(rt; clause_in(&applied), Some(wanted), "{time}");
     }
