@@ -35,7 +35,7 @@ builtin_behind : {b : List ℕ} {tokens rest : List Lexeme} → SpellsBuiltin to
 builtin_behind (t.single n) k = k.1
 builtin_behind (t.joined n h) k = builtin_behind h k.1.1
 
-attribute_behind : {private : Bool} {tokens rest : List Lexeme} → SpellsAttribute tokens private rest → Every Spoken tokens → Every Spoken rest
+pub attribute_behind : {private : Bool} {tokens rest : List Lexeme} → SpellsAttribute tokens private rest → Every Spoken tokens → Every Spoken rest
 attribute_behind (t.attribute e) k = k.1
 
 function_named : {s : Symbol} {tokens rest : List Lexeme} → SpellsFunction tokens s rest → Every Spoken tokens → Spelled (IsNamedSymbol s) rest

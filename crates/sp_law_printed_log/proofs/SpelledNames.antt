@@ -246,7 +246,7 @@ rule_named (t.rule {actions = actions} n premises arrow conclusions) k =
 abbrev pub IsNamedLemma : Lemma → Type 0
 IsNamedLemma l = IsNameWord l.name × IsQuotableFormula l.formula
 
-kind_behind : {kind : TraceKind} {tokens rest : List Lexeme} → SpellsKind tokens kind rest → Every Spoken tokens → Every Spoken rest
+pub kind_behind : {kind : TraceKind} {tokens rest : List Lexeme} → SpellsKind tokens kind rest → Every Spoken tokens → Every Spoken rest
 kind_behind t.no_kind k = k
 kind_behind t.all_kind k = k.1.1.1
 kind_behind t.exists_kind k = k.1.1.1

@@ -47,7 +47,7 @@ mutual
   behind_more p.qed k = k.1
   behind_more (p.next h) k = behind_cases h k.1
 
-behind_part : {o : Option WrittenProof} {tokens rest : List Lexeme} → SpellsProofPart tokens o rest → Every Spoken tokens → Every Spoken rest
+pub behind_part : {o : Option WrittenProof} {tokens rest : List Lexeme} → SpellsProofPart tokens o rest → Every Spoken tokens → Every Spoken rest
 behind_part t.no_proof k = k
 behind_part (t.a_proof h) k = behind_proof h k
 

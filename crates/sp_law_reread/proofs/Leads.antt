@@ -35,7 +35,7 @@ pub record Ended (size : ℕ) (bytes behind : List ℕ) : Type 0 where
   pub ended : EndsInEnd tokens
   pub place : (b : ℕ) → place_behind is_any b tokens + length behind ≡ size
 
-ends_later : (t : Token) (ts : List Token) → EndsInEnd ts → EndsInEnd (t ∷ ts)
+pub ends_later : (t : Token) (ts : List Token) → EndsInEnd ts → EndsInEnd (t ∷ ts)
 ends_later t [] h = absurd h
 ends_later t (u ∷ ts) h = h
 

@@ -60,7 +60,7 @@ skip_local {c} f k (b ∷ m) tail r q h =
 
 -- ---- comments
 
-marks : (m : Mark) {A : Type 0} {x y w u v o a b : A} → (x ≡ a → u ≡ b) → (y ≡ a → v ≡ b) → (w ≡ a → o ≡ b) → by_mark m x y w ≡ a → by_mark m u v o ≡ b
+pub marks : (m : Mark) {A : Type 0} {x y w u v o a b : A} → (x ≡ a → u ≡ b) → (y ≡ a → v ≡ b) → (w ≡ a → o ≡ b) → by_mark m x y w ≡ a → by_mark m u v o ≡ b
 marks Opens f g h e = f e
 marks Closes f g h e = g e
 marks Neither f g h e = h e

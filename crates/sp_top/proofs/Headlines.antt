@@ -1,6 +1,5 @@
--- Each verdict that stands written is so, line by line.
-use Rattle.std.proofs.Common.{◌≡◌, ℕ, List, [], ◌∷◌, ◌++◌, map, codes, Option, Some, inl, inr, refl, sym, ap, subst, ◌∙◌, append-nil, false, arith}
-use Rattle.std.proofs.lemmas.List.{append_cancel_left}
+-- Each verdict of an answer is so, line by line.
+use Rattle.std.proofs.Common.{◌≡◌, ℕ, List, [], ◌∷◌, ◌++◌, map, codes, Option, inl, inr, refl, sym, ap, subst, ◌∙◌, append-nil, false, arith}
 use Rattle.sp_spec.specs.Lists.{Member, Every}
 use Rattle.sp_spec.specs.Theory.{Theory, Lemma}
 use Rattle.sp_spec.specs.Written.{theory_of}
@@ -13,7 +12,6 @@ use Rattle.sp_spec_text.specs.Names.{IsNameWord}
 use Rattle.sp_spec_text.specs.Blanks.{lines}
 use Rattle.sp_check.specs.Skeleton as read
 use Rattle.sp_pose.specs.Problem.{Poses}
-use Rattle.sp_io.specs.Told.{extended}
 use Rattle.sp_spec_text.specs.Behind.{IsBehindEnd}
 use Rattle.sp_law_reread.proofs.Behind.{behind_one}
 use Rattle.sp_law_printed_log.specs.Block.{block_of}
@@ -28,13 +26,9 @@ use Rattle.sp_analysis.specs.Laws.{Means, AreReadBack, JudgedRightly}
 use Rattle.sp_pose.proofs.BasicTheories.{lemmas_unlearnt}
 use Rattle.sp_analysis.proofs.NoneTaken.{outcome_parts, judged_parts}
 use Rattle.sp_analysis.proofs.ReadBack.{executions_are_read_back_lem}
-use Rattle.sp_top.specs.Command.{Request, IsAbout, IsLine}
-use Rattle.sp_top.specs.Headline.{LinesAreTrue, Tells, VerdictsAreTrue}
-use Rattle.sp_top.specs.Run.{TriedRightly, CheckedRightly, DoneRightly, HasVerdicts, VerdictsHold}
+use Rattle.sp_top.specs.Headline.{LinesAreTrue}
+use Rattle.sp_top.specs.Run.{TriedRightly, CheckedRightly}
 use Rattle.sp_top.specs.declared.Status.{Status}
-use Rattle.sp_top.specs.declared.words.Command.{Command}
-use Rattle.sp_top.specs.declared.words.Command.TheVariants.{Prove, Check, Replay, Variants}
-use Rattle.sp_top.proofs.Causes.{line_asks_one, about_one}
 use Rattle.sp_top.proofs.Told.{Told, told_text, IsRightlyTold, all_lines, told_lines, lines_true}
 
 -- ---- lemmas that are tried
@@ -102,7 +96,7 @@ opens_comment = behind_word [] 47 (codes "*") tt refl (λ e. omega (arith, e))
 closes_comment : IsNoVerdict (codes "*/")
 closes_comment = behind_word [] 42 (codes "/") tt refl (λ e. omega (arith, e))
 
-tried_true : (budget : ℕ) (bytes text : List ℕ) (status : Status) → TriedRightly budget bytes text status → (told : List ℕ) → IsBehindEnd text told → LinesAreTrue bytes told
+pub tried_true : (budget : ℕ) (bytes text : List ℕ) (status : Status) → TriedRightly budget bytes text status → (told : List ℕ) → IsBehindEnd text told → LinesAreTrue bytes told
 tried_true budget bytes text status r told behind_end =
     let written = r.analysis.theory in
     let theory = theory_of (theory_in written) in
@@ -119,9 +113,9 @@ tried_true budget bytes text status r told behind_end =
     let all = ap lines (same ∙ shape) ∙ line_cut [] (codes "/*" ++ 10 ∷ inner) tt
     ∙ ap (λ (ls : List (List ℕ)). [] ∷ ls) (line_cut (codes "/*") inner (no_feed_in (codes "/*") refl))
     ∙ ap (λ (ls : List (List ℕ)). [] ∷ codes "/*" ∷ ls) (told_lines written names ts right (codes "*/\n") ∙ ap (λ (ls : List (List ℕ)). all_lines written names ts ++ ls) last) in
-    lines_true written names bytes posing.says told ([] ∷ codes "/*" ∷ []) (codes "*/" ∷ [] ∷ []) ts right all (nothing_there, (opens_comment, tt)) (closes_comment, (nothing_there, tt))
+    lines_true written names bytes posing.says posing.fine.lemma_names told ([] ∷ codes "/*" ∷ []) (codes "*/" ∷ [] ∷ []) ts right all (nothing_there, (opens_comment, tt)) (closes_comment, (nothing_there, tt))
 
-checked_true : (bytes text : List ℕ) (status : Status) → CheckedRightly bytes text status → LinesAreTrue bytes text
+pub checked_true : (bytes text : List ℕ) (status : Status) → CheckedRightly bytes text status → LinesAreTrue bytes text
 checked_true bytes text status r =
     let written = r.checking.theory in
     let theory = theory_of (theory_in written) in
@@ -132,38 +126,4 @@ checked_true bytes text status r =
     (executions_are_read_back_lem.checked bytes text r.judged r.checking) in
     let shape : text ≡ told_text theory ts ++ [] = r.checking.written_is ∙ checked_told theory r.judged ∙ sym (append-nil (told_text theory ts)) in
     let all = ap lines shape ∙ told_lines written names ts right [] ∙ ap (λ (ls : List (List ℕ)). all_lines written names ts ++ ls) one_empty in
-    lines_true written names bytes posing.says text [] ([] ∷ []) ts right all tt (nothing_there, tt)
-
--- ---- what stands written
-
-done_true : (command : Command) (budget : ℕ) (bytes text told : List ℕ) (status : Status) → DoneRightly command budget bytes text status → Tells command text told → LinesAreTrue bytes told
-done_true Prove budget bytes text told status r t = tried_true budget bytes text status r told t
-done_true Check budget bytes text told status r t = subst (LinesAreTrue bytes) (sym t) (checked_true bytes text status r)
-done_true Replay budget bytes text told status r t = absurd t
-done_true Variants budget bytes text told status r t = absurd t
-
-module _ (words : List (List ℕ)) (holds : List ℕ → Option (Option (List ℕ))) (before now : ℕ) (old new : Option (List ℕ)) (status : Status) (h : VerdictsHold words holds before now old new status) where
-  stands_written : (request : Request) (file bytes front written : List ℕ) → IsLine words request → IsAbout request file → holds file ≡ Some (Some bytes) → old ≡ Some front
-      → new ≡ Some (front ++ written) → HasVerdicts status → DoneRightly request.command request.budget bytes written status
-  stands_written request file bytes front written line about told was is verdicts =
-      let w = h.whole verdicts in
-      let right = w.1 in
-      let one = line_asks_one words right.request request right.line line in
-      let name = about_one right.request request right.file file one right.about about in
-      let agrees : Some right.bytes ≡ Some bytes = sym (right.text.1 (Some bytes) (ap holds name ∙ told)) in
-      let same_bytes : right.bytes ≡ bytes = cc in
-      let whole : Some (front ++ w.0) ≡ Some (front ++ written) = ap (λ (o : Option (List ℕ)). extended o w.0) (sym was) ∙ sym w.2 ∙ is in
-      let same_text : w.0 ≡ written = append_cancel_left front w.0 written cc in
-      subst (λ (r : Request). DoneRightly r.command r.budget bytes written status) one
-      (subst (λ (bs : List ℕ). DoneRightly right.request.command right.request.budget bs written status) same_bytes
-      (subst (λ (t : List ℕ). DoneRightly right.request.command right.request.budget right.bytes t status) same_text right.right))
-
-  pub verdicts_are_true : VerdictsAreTrue words holds old new status
-  verdicts_are_true = record {
-    verdicts = λ request file bytes front written told line about holding was is v tells.
-        done_true request.command request.budget bytes written told status (stands_written request file bytes front written line about holding was is v) tells;
-    told = λ request file bytes front written proves line about holding was is v.
-        let r : TriedRightly request.budget bytes written status =
-        subst (λ (c : Command). DoneRightly c request.budget bytes written status) proves (stands_written request file bytes front written line about holding was is v) in
-        (codes "\n/*\n" ++ (summary (theory_of (theory_in r.analysis.theory)) r.outcomes ++ codes "*/\n"), r.again.behind);
-  }
+    lines_true written names bytes posing.says posing.fine.lemma_names text [] ([] ∷ []) ts right all tt (nothing_there, tt)

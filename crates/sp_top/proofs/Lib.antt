@@ -2,5 +2,14 @@ pub mod Lines
 pub mod Causes
 pub mod TextStatus
 pub mod Answered
+pub mod PlainNames
+pub mod PlainTexts
+pub mod PlainFindings
+pub mod PlainRules
+pub mod PlainReports
+pub mod EndStays
+pub mod WholeLines
 pub mod Told
 pub mod Headlines
+pub mod CutShort
+pub mod Verdicts

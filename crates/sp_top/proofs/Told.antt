@@ -1,8 +1,8 @@
 -- What is told of lemmas, line by line: each line that begins as a verdict's does is that of a lemma, and says what is so.
-use Rattle.std.proofs.Common.{◌≡◌, ℕ, false, List, [], ◌∷◌, ◌++◌, map, codes, Option, Some, None, refl, sym, ap, subst, ◌∙◌, append_assoc}
+use Rattle.std.proofs.Common.{◌≡◌, ℕ, false, List, [], ◌∷◌, ◌++◌, map, codes, Option, Some, None, inl, inr, refl, sym, ap, subst, ◌∙◌, append_assoc}
 use Rattle.std.specs.Prelude.{decimal}
-use Rattle.sp_spec.specs.Lists.{Member, Every}
-use Rattle.sp_spec.proofs.Lists.{every_member, every_weaken, newest_twice}
+use Rattle.sp_spec.specs.Lists.{Member, Every, Distinct}
+use Rattle.sp_spec.proofs.Lists.{every_member, every_weaken, member_map, newest_twice}
 use Rattle.sp_spec.specs.Theory.{TraceKind, all_traces, exists_trace, Theory, Lemma, signature_of}
 use Rattle.sp_spec.specs.Written.{theory_of}
 use Rattle.sp_spec.specs.Execution.{Step}
@@ -16,6 +16,7 @@ use Rattle.sp_spec_text.specs.Verdict.{Verdict, verified, falsified, summary_lin
 use Rattle.sp_spec_text.specs.Names.{IsWord}
 use Rattle.sp_spec_text.specs.Blanks.{lines}
 use Rattle.sp_spec_text.specs.StepLines.{HaveNames}
+use Rattle.sp_read_theory.proofs.Whole.{text_one}
 use Rattle.sp_law_log_execution.specs.Executed.{executed_of}
 use Rattle.sp_law_found_log.proofs.Learning.{out_of_reading}
 use Rattle.sp_law_printed_log.specs.Block.{oldest_first, block_of}
@@ -25,7 +26,7 @@ use Rattle.sp_law_printed_log.proofs.Sections.{IsNoVerdict, pass, section_lines,
 use Rattle.sp_law_printed_log.proofs.BlockLines.{entry_line, block_lines, block_cut, block_no_verdict}
 use Rattle.sp_law_printed_log.proofs.VerdictLines.{verdict_line, summary_cut, verdict_no_feed, tells_verified, tells_attack, tells_witness, tells_none}
 use Rattle.sp_analysis.specs.Laws.{Means, AreReadBack}
-use Rattle.sp_top.specs.Headline.{IsLineAbove, IsLemmaOf, IsExecutionBelow, LinesAreTrue}
+use Rattle.sp_top.specs.Headline.{IsLineAbove, IsLemmaOf, IsExecutionBelow, OfLemma, LinesAreTrue}
 
 -- what is told of a lemma
 pub record Told : Type 0 where
@@ -73,6 +74,16 @@ module _ (theory : Theory) (lemma : Lemma) (none : names_learning lemma.formula 
   means_witness None h = absurd h
   means_witness (Some log) h = (log, refl, out_of_reading lemma none (IsSatisfiedByLog theory lemma log) (IsSatisfiedBy theory lemma (executed_of theory log)) h.in_reading)
 
+-- ---- names
+
+-- of elements whose names are distinct, two of one name are one
+named_one : {A : Type 0} (name_of : A → List ℕ) (xs : List A) → Distinct (map name_of xs) → (x y : A) → Member x xs → Member y xs → name_of x ≡ name_of y → x ≡ y
+named_one name_of [] d x y m k e = absurd m
+named_one name_of (z ∷ zs) d x y (inl p) (inl q) e = sym p ∙ q
+named_one name_of (z ∷ zs) d x y (inl p) (inr k) e = absurd (d.0 (subst (λ (n : List ℕ). Member n (map name_of zs)) (sym (ap name_of p ∙ e)) (member_map name_of y zs k)))
+named_one name_of (z ∷ zs) d x y (inr m) (inl q) e = absurd (d.0 (subst (λ (n : List ℕ). Member n (map name_of zs)) (e ∙ sym (ap name_of q)) (member_map name_of x zs m)))
+named_one name_of (z ∷ zs) d x y (inr m) (inr k) e = named_one name_of zs d.1 x y m k e
+
 -- ---- lines
 
 module _ (text : WrittenText) (names : HaveNames (signature_of (theory_of (theory_in text))).symbols) where
@@ -115,7 +126,7 @@ module _ (text : WrittenText) (names : HaveNames (signature_of (theory_of (theor
       (λ t k. record { no_feed = verdict_no_feed t.lemma.name t.lemma.kind t.verdict t.steps k.named; block_is = block_is t.log k.read }) ts h) behind
 
   -- the lines of a text: none that begins as a verdict's does, those of what is told, and none again
-  module _ (bytes : List ℕ) (says : IsTextOf bytes text) (told : List ℕ) (head tail : List (List ℕ)) (ts : List Told) (right : Every (IsRightlyTold text) ts)
+  module _ (bytes : List ℕ) (says : IsTextOf bytes text) (differ : Distinct (map (λ (l : Lemma). l.name) (theory_in text).lemmas)) (told : List ℕ) (head tail : List (List ℕ)) (ts : List Told) (right : Every (IsRightlyTold text) ts)
       (are : lines told ≡ head ++ (all_lines ts ++ tail)) (no_head : Every IsNoVerdict head) (no_tail : Every IsNoVerdict tail) where
     beginning : (name rest : List ℕ) → IsWord name → (below : List (List ℕ)) → IsLineAbove told (name ++ 32 ∷ 40 ∷ rest) below → Begins first_line block ts (name ++ 32 ∷ 40 ∷ rest) below
     beginning name rest w below l =
@@ -126,6 +137,19 @@ module _ (text : WrittenText) (names : HaveNames (signature_of (theory_of (theor
     -- the lemma of which it is told
     lemma_there : (t : Told) → Member t ts → (name : List ℕ) (kind : TraceKind) → t.lemma.name ≡ name → t.lemma.kind ≡ kind → IsLemmaOf bytes name kind theory t.lemma
     lemma_there t m name kind e k = record { text = text; says = says; theory_is = refl; stands = (every_member (IsRightlyTold text) ts t m right).stands; name_is = e; kind_is = k }
+
+    -- each lemma of that name in a theory that the bytes say is the one of which it is told
+    each_there : (t : Told) → Member t ts → (name : List ℕ) (kind : TraceKind) → t.lemma.name ≡ name → (IsSo : Theory → Lemma → Type 0) → IsSo theory t.lemma
+        → (other : Theory) (lemma : Lemma) → IsLemmaOf bytes name kind other lemma → IsSo other lemma
+    each_there t m name kind e IsSo so other lemma l =
+        let one : theory ≡ other = ap (λ (w : WrittenText). theory_of (theory_in w)) (text_one says l.says) ∙ sym l.theory_is in
+        let there = subst (λ (x : Theory). Member lemma x.lemmas) (sym one) l.stands in
+        let same = named_one (λ (x : Lemma). x.name) (theory_in text).lemmas differ t.lemma lemma (every_member (IsRightlyTold text) ts t m right).stands there (e ∙ sym l.name_is) in
+        subst (λ (x : Theory). IsSo x lemma) one (subst (IsSo theory) same so)
+
+    of_lemma : (t : Told) → Member t ts → (name : List ℕ) (kind : TraceKind) → t.lemma.name ≡ name → t.lemma.kind ≡ kind → (IsSo : Theory → Lemma → Type 0) → IsSo theory t.lemma
+        → OfLemma bytes name kind IsSo
+    of_lemma t m name kind e k IsSo so = ((theory, t.lemma, lemma_there t m name kind e k, so), each_there t m name kind e IsSo so)
 
     -- the execution that stands below
     execution_there : (t : Told) → Member t ts → (log : Log) → t.log ≡ Some log → (below behind : List (List ℕ)) → below ≡ block t ++ behind → (IsSo : List Step → Type 0)
@@ -160,22 +184,24 @@ module _ (text : WrittenText) (names : HaveNames (signature_of (theory_of (theor
           let b = beginning name (codes "all-traces): verified (" ++ (decimal n ++ codes " steps)")) w below l in
           let t = b.section in
           let s = tells_verified name t.lemma.name w (word_of t b.among) t.lemma.kind t.verdict n t.steps b.line_is in
-          (theory, t.lemma, lemma_there t b.among name all_traces s.name_is s.kind_is, means_proof theory t.lemma (unlearnt_of t b.among) t.log (right_of t b.among all_traces verified s.kind_is s.verdict_is));
+          of_lemma t b.among name all_traces s.name_is s.kind_is HoldsInAll (means_proof theory t.lemma (unlearnt_of t b.among) t.log (right_of t b.among all_traces verified s.kind_is s.verdict_is));
       attack = λ name n below w l.
           let b = beginning name (codes "all-traces): falsified - found trace (" ++ (decimal n ++ codes " steps)")) w below l in
           let t = b.section in
           let s = tells_attack name t.lemma.name w (word_of t b.among) t.lemma.kind t.verdict n t.steps b.line_is in
           let f = means_attack theory t.lemma (unlearnt_of t b.among) t.log (right_of t b.among all_traces falsified s.kind_is s.verdict_is) in
-          (theory, t.lemma, lemma_there t b.among name all_traces s.name_is s.kind_is, execution_there t b.among f.0 f.1 below b.behind b.below_is (IsBrokenBy theory t.lemma) f.2);
+          of_lemma t b.among name all_traces s.name_is s.kind_is (λ (other : Theory) (lemma : Lemma). IsExecutionBelow below other (IsBrokenBy other lemma))
+          (execution_there t b.among f.0 f.1 below b.behind b.below_is (IsBrokenBy theory t.lemma) f.2);
       witness = λ name n below w l.
           let b = beginning name (codes "exists-trace): verified (" ++ (decimal n ++ codes " steps)")) w below l in
           let t = b.section in
           let s = tells_witness name t.lemma.name w (word_of t b.among) t.lemma.kind t.verdict n t.steps b.line_is in
           let f = means_witness theory t.lemma (unlearnt_of t b.among) t.log (right_of t b.among exists_trace verified s.kind_is s.verdict_is) in
-          (theory, t.lemma, lemma_there t b.among name exists_trace s.name_is s.kind_is, execution_there t b.among f.0 f.1 below b.behind b.below_is (IsSatisfiedBy theory t.lemma) f.2);
+          of_lemma t b.among name exists_trace s.name_is s.kind_is (λ (other : Theory) (lemma : Lemma). IsExecutionBelow below other (IsSatisfiedBy other lemma))
+          (execution_there t b.among f.0 f.1 below b.behind b.below_is (IsSatisfiedBy theory t.lemma) f.2);
       refutation = λ name n below w l.
           let b = beginning name (codes "exists-trace): falsified - no trace found (" ++ (decimal n ++ codes " steps)")) w below l in
           let t = b.section in
           let s = tells_none name t.lemma.name w (word_of t b.among) t.lemma.kind t.verdict n t.steps b.line_is in
-          (theory, t.lemma, lemma_there t b.among name exists_trace s.name_is s.kind_is, means_refutation theory t.lemma (unlearnt_of t b.among) t.log (right_of t b.among exists_trace falsified s.kind_is s.verdict_is));
+          of_lemma t b.among name exists_trace s.name_is s.kind_is HoldsInNone (means_refutation theory t.lemma (unlearnt_of t b.among) t.log (right_of t b.among exists_trace falsified s.kind_is s.verdict_is));
     }

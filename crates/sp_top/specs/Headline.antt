@@ -16,6 +16,7 @@ use Rattle.sp_spec_text.specs.Behind.{IsBehindEnd}
 use Rattle.sp_top.specs.Command.{Request, IsAbout, IsLine}
 use Rattle.sp_top.specs.Run.{HasVerdicts}
 use Rattle.sp_top.specs.declared.Status.{Status}
+use Rattle.sp_top.specs.declared.Status.TheVariants.{WriteFault}
 use Rattle.sp_top.specs.declared.words.Command.{Command}
 use Rattle.sp_top.specs.declared.words.Command.TheVariants.{Prove, Check, Replay, Variants}
 
@@ -23,6 +24,12 @@ use Rattle.sp_top.specs.declared.words.Command.TheVariants.{Prove, Check, Replay
 pub record IsLineAbove (text line : List ℕ) (below : List (List ℕ)) : Type 0 where
   pub above : List (List ℕ)
   pub lines_are : lines text ≡ above ++ line ∷ below
+
+-- the line is one of the text, with a line feed behind it: another stands below
+pub record IsWholeLine (text line : List ℕ) : Type 0 where
+  pub next : List ℕ
+  pub below : List (List ℕ)
+  pub stands : IsLineAbove text line (next ∷ below)
 
 -- the bytes are the text of the theory, and a lemma of this name and kind stands in it
 pub record IsLemmaOf (bytes name : List ℕ) (kind : TraceKind) (theory : Theory) (lemma : Lemma) : Type 0 where
@@ -43,8 +50,16 @@ pub record IsExecutionBelow (below : List (List ℕ)) (theory : Theory) (IsSo : 
   pub is_so : IsSo (newest_first steps)
 
 -- so it is of some lemma of that name and kind
+abbrev pub OfSomeLemma : List ℕ → List ℕ → TraceKind → (Theory → Lemma → Type 0) → Type 0
+OfSomeLemma bytes name kind IsSo = (theory : Theory) × (lemma : Lemma) × IsLemmaOf bytes name kind theory lemma × IsSo theory lemma
+
+-- so it is of each, whatever theory the bytes say
+abbrev pub OfEachLemma : List ℕ → List ℕ → TraceKind → (Theory → Lemma → Type 0) → Type 0
+OfEachLemma bytes name kind IsSo = (theory : Theory) (lemma : Lemma) → IsLemmaOf bytes name kind theory lemma → IsSo theory lemma
+
+-- the text has a lemma of that name and kind, and so it is of each that it has
 abbrev pub OfLemma : List ℕ → List ℕ → TraceKind → (Theory → Lemma → Type 0) → Type 0
-OfLemma bytes name kind IsSo = (theory : Theory) × (lemma : Lemma) × IsLemmaOf bytes name kind theory lemma × IsSo theory lemma
+OfLemma bytes name kind IsSo = OfSomeLemma bytes name kind IsSo × OfEachLemma bytes name kind IsSo
 
 -- `NAME (all-traces): verified (N steps)`: every execution satisfies the lemma. `NAME (all-traces): falsified - found trace (N steps)`: the
 -- execution that stands below breaks it. `NAME (exists-trace): verified (N steps)`: the execution that stands below satisfies it.
@@ -57,6 +72,13 @@ pub record LinesAreTrue (bytes told : List ℕ) : Type 0 where
   pub witness : (name : List ℕ) (n : ℕ) (below : List (List ℕ)) → IsWord name → IsLineAbove told (name ++ (codes " (exists-trace): verified (" ++ (decimal n ++ codes " steps)"))) below
       → OfLemma bytes name exists_trace (λ theory lemma. IsExecutionBelow below theory (IsSatisfiedBy theory lemma))
   pub refutation : (name : List ℕ) (n : ℕ) (below : List (List ℕ)) → IsWord name → IsLineAbove told (name ++ (codes " (exists-trace): falsified - no trace found (" ++ (decimal n ++ codes " steps)"))) below
+      → OfLemma bytes name exists_trace HoldsInNone
+
+-- What was written may end anywhere. Of its whole lines those that tell of every execution are so; the block below another may be cut short.
+pub record WholeLinesAreTrue (bytes told : List ℕ) : Type 0 where
+  pub proof : (name : List ℕ) (n : ℕ) → IsWord name → IsWholeLine told (name ++ (codes " (all-traces): verified (" ++ (decimal n ++ codes " steps)")))
+      → OfLemma bytes name all_traces HoldsInAll
+  pub refutation : (name : List ℕ) (n : ℕ) → IsWord name → IsWholeLine told (name ++ (codes " (exists-trace): falsified - no trace found (" ++ (decimal n ++ codes " steps)")))
       → OfLemma bytes name exists_trace HoldsInNone
 
 -- Where verdicts are told: `check` writes nothing else, and `prove` first writes the text again, up to its word `end`.
@@ -73,3 +95,6 @@ pub record VerdictsAreTrue (words : List (List ℕ)) (holds : List ℕ → Optio
   -- and `prove` tells them
   pub told : (request : Request) (file bytes before written : List ℕ) → request.command ≡ Prove → IsLine words request → IsAbout request file → holds file ≡ Some (Some bytes)
       → old ≡ Some before → new ≡ Some (before ++ written) → HasVerdicts status → (told : List ℕ) × IsBehindEnd written told
+  -- and where the sink failed, those of proofs and of refutations that stand there whole
+  pub written : (request : Request) (file bytes before written told : List ℕ) → IsLine words request → IsAbout request file → holds file ≡ Some (Some bytes)
+      → old ≡ Some before → new ≡ Some (before ++ written) → status ≡ WriteFault → Tells request.command written told → WholeLinesAreTrue bytes told

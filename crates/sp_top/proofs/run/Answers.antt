@@ -1,6 +1,6 @@
 use Rattle.std.proofs.Common.{inl, inr, refl}
 use Rattle.sp_top.proofs.Causes.{answer_is_whole, answer_of_line, usage_exactly, read_fault_exactly, too_long_exactly, answers_exactly, headline, headline_short, text_is_answered, asked_first}
-use Rattle.sp_top.proofs.Headlines.{verdicts_are_true}
+use Rattle.sp_top.proofs.Verdicts.{verdicts_are_true}
 use Rattle.sp_top.proofs.TextStatus.{verdicts_status, refused_status}
 use Rattle.sp_top.proofs.run.Goals as goal
 
@@ -83,9 +83,12 @@ returns-clause-asked g c = record {
 pub returns-in-Ok-write_whole-clause-headline : goal.returns-in-Ok-write_whole-clause-headline
 returns-in-Ok-write_whole-clause-headline g c =
     verdicts_are_true c.args.words.now _ _ _ _ _ _ (headline c.args.words.now _ _ _ _ _ c.in-Ok.answer.0.items _ c.in-Ok.ensures.answer (rw c.deref.ensures.value at c.in-Ok-write_whole.ensures.all))
+    (record { prefix = λ e. absurd (answer_is_whole c.args.words.now _ _ _ c.in-Ok.answer.0.items _ c.in-Ok.ensures.answer (inl e)) })
 
 pub returns-in-Err-clause-headline : goal.returns-in-Err-clause-headline
-returns-in-Err-clause-headline g c = verdicts_are_true c.args.words.now _ 0 0 _ _ _ (headline_short c.args.words.now _ _ _ _ _ _ (inr refl))
+returns-in-Err-clause-headline g c = verdicts_are_true c.args.words.now _ 0 0 _ _ _ (headline_short c.args.words.now _ _ _ _ _ _ (inr refl)) (record { prefix = λ e. absurd cc })
 
 pub returns-clause-headline : goal.returns-clause-headline
-returns-clause-headline g c = verdicts_are_true c.args.words.now _ 0 0 _ _ _ (headline_short c.args.words.now _ _ _ _ _ _ (inl refl))
+returns-clause-headline g c =
+    verdicts_are_true c.args.words.now _ _ _ _ _ _ (headline_short c.args.words.now _ _ _ _ _ _ (inl refl))
+    (record { prefix = λ e. (c.in-Ok.answer.0.items, c.in-Ok.answer.1, c.in-Ok.ensures.answer, rw c.deref.ensures.value at c.in-Err-write_whole.ensures.prefix) })

@@ -1,0 +1,49 @@
+-- Each verdict that stands written is so: of a whole answer, and of what stands of one whose writing was cut short.
+use Rattle.std.proofs.Common.{◌≡◌, ℕ, List, ◌++◌, codes, Option, Some, sym, ap, subst, ◌∙◌}
+use Rattle.std.proofs.lemmas.List.{append_cancel_left}
+use Rattle.sp_spec.specs.Written.{theory_of}
+use Rattle.sp_spec_text.specs.Declared.{theory_in}
+use Rattle.sp_io.specs.Told.{extended}
+use Rattle.sp_analysis.specs.Analysis.{summary}
+use Rattle.sp_top.specs.Command.{Request, IsAbout, IsLine}
+use Rattle.sp_top.specs.Headline.{LinesAreTrue, Tells, VerdictsAreTrue}
+use Rattle.sp_top.specs.Run.{TriedRightly, DoneRightly, HasVerdicts, VerdictsHold, WritesPrefix}
+use Rattle.sp_top.specs.declared.Status.{Status}
+use Rattle.sp_top.specs.declared.words.Command.{Command}
+use Rattle.sp_top.specs.declared.words.Command.TheVariants.{Prove, Check, Replay, Variants}
+use Rattle.sp_top.proofs.Causes.{line_asks_one, about_one}
+use Rattle.sp_top.proofs.Headlines.{tried_true, checked_true}
+use Rattle.sp_top.proofs.CutShort.{cut_true}
+
+done_true : (command : Command) (budget : ℕ) (bytes text told : List ℕ) (status : Status) → DoneRightly command budget bytes text status → Tells command text told → LinesAreTrue bytes told
+done_true Prove budget bytes text told status r t = tried_true budget bytes text status r told t
+done_true Check budget bytes text told status r t = subst (LinesAreTrue bytes) (sym t) (checked_true bytes text status r)
+done_true Replay budget bytes text told status r t = absurd t
+done_true Variants budget bytes text told status r t = absurd t
+
+module _ (words : List (List ℕ)) (holds : List ℕ → Option (Option (List ℕ))) (before now : ℕ) (old new : Option (List ℕ)) (status : Status) (h : VerdictsHold words holds before now old new status) where
+  stands_written : (request : Request) (file bytes front written : List ℕ) → IsLine words request → IsAbout request file → holds file ≡ Some (Some bytes) → old ≡ Some front
+      → new ≡ Some (front ++ written) → HasVerdicts status → DoneRightly request.command request.budget bytes written status
+  stands_written request file bytes front written line about told was is verdicts =
+      let w = h.whole verdicts in
+      let right = w.1 in
+      let one = line_asks_one words right.request request right.line line in
+      let name = about_one right.request request right.file file one right.about about in
+      let agrees : Some right.bytes ≡ Some bytes = sym (right.text.1 (Some bytes) (ap holds name ∙ told)) in
+      let same_bytes : right.bytes ≡ bytes = cc in
+      let whole : Some (front ++ w.0) ≡ Some (front ++ written) = ap (λ (o : Option (List ℕ)). extended o w.0) (sym was) ∙ sym w.2 ∙ is in
+      let same_text : w.0 ≡ written = append_cancel_left front w.0 written cc in
+      subst (λ (r : Request). DoneRightly r.command r.budget bytes written status) one
+      (subst (λ (bs : List ℕ). DoneRightly right.request.command right.request.budget bs written status) same_bytes
+      (subst (λ (t : List ℕ). DoneRightly right.request.command right.request.budget right.bytes t status) same_text right.right))
+
+  pub verdicts_are_true : WritesPrefix words holds before now old new status → VerdictsAreTrue words holds old new status
+  verdicts_are_true p = record {
+    verdicts = λ request file bytes front written told line about holding was is v tells.
+        done_true request.command request.budget bytes written told status (stands_written request file bytes front written line about holding was is v) tells;
+    told = λ request file bytes front written proves line about holding was is v.
+        let r : TriedRightly request.budget bytes written status =
+        subst (λ (c : Command). DoneRightly c request.budget bytes written status) proves (stands_written request file bytes front written line about holding was is v) in
+        (codes "\n/*\n" ++ (summary (theory_of (theory_in r.analysis.theory)) r.outcomes ++ codes "*/\n"), r.again.behind);
+    written = cut_true words holds before now old new status p;
+  }
