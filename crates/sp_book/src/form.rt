@@ -9,7 +9,7 @@ use sp_term::term::{Name, Term};
 pub struct Form {
     /// what is taken, shown and added
     pub facts: Facts,
-    /// how many variables there are; they are numbered below this
+    /// how many variables its facts have; they are numbered below this
     pub count: usize,
     /// what stands for each variable of the rule
     pub kept: Vec<Term>,

@@ -14,6 +14,7 @@ pub mod OverWays
 pub mod Plain
 pub mod Numbered
 pub mod Renamed
+pub mod NumberedAgain
 pub mod Matched
 pub mod Irreducible
 pub mod Results

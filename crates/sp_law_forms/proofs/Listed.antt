@@ -17,7 +17,7 @@ use Rattle.sp_law_forms.specs.Laws.{AreOverMessages, FormsAreProper}
 use Rattle.sp_law_forms.proofs.Lists.{any_passes, all_from, member_passes, member_filtered}
 use Rattle.sp_law_forms.proofs.Matched.{is_matched_from}
 use Rattle.sp_law_forms.proofs.Results.{nothing_lost}
-use Rattle.sp_law_forms.proofs.Proper.{form_normal, form_below}
+use Rattle.sp_law_forms.proofs.Proper.{form_normal, form_again, form_below}
 use Rattle.sp_law_forms.proofs.Renamed.{numbered_same}
 
 module _ (es : List Equation) (msg : AreOverMessages es) (rule : Rule) (form : Form) (m : Member form (forms es rule)) where
@@ -62,6 +62,7 @@ distinct_once f same h (x ∷ xs) = (
 pub proper_law : FormsAreProper
 proper_law = record {
   numbers = form_below;
+  again = form_again;
   irreducible = λ es msg rule form m ts mem f us part e among s same. none_matches es msg rule form m ts mem f us part e among s same;
   distinct = λ es rule. distinct_once (λ (f : Form). f.facts) alike_form alike_form_from (filter (is_normal_form es) (results es rule));
   whole = nothing_lost;

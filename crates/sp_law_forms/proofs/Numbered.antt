@@ -1,5 +1,7 @@
 -- Values of a form whose variables are numbered anew, and of what it was.
-use Rattle.std.proofs.Common.{◌≡◌, inl, inr, ℕ, zero, suc, ◌<◌, Bool, true, false, cond, List, [], ◌∷◌, ◌++◌, length, refl, sym, ap, ◌∙◌, subst, arith, true≢false, if◌then◌else◌}
+use Rattle.std.proofs.Common.{◌≡◌, inl, inr, ℕ, zero, suc, ◌<◌, Bool, true, false, not, cond, List, [], ◌∷◌, ◌++◌, length, refl, sym, ap, ◌∙◌, subst, arith, true≢false, if◌then◌else◌}
+use Rattle.std.specs.List.{filter}
+use Rattle.std.proofs.lemmas.List.Elements.{filter-append}
 use Rattle.sp_spec.specs.Lists.{Member, Every}
 use Rattle.sp_spec.specs.Term.{Sort, Variable, Term, var, constant, name, app, Terms, none, more, Values, valued, valued_all, in_terms, EachVariable, EachVariables}
 use Rattle.sp_spec.specs.Signature.{Signature, IsValue}
@@ -75,21 +77,39 @@ module _ {W : Type 0} (a b : Variable → Term W) where
     same_valued_all none h = refl
     same_valued_all (more t ts) h = cc (same_valued t h.0, same_valued_all ts h.1)
 
-module _ (xs : List Variable) where
-  abbrev IsBelow : Variable → Type 0
-  IsBelow x = x.number < length xs
+-- what stands behind changes no place of those before
+place_ahead : (xs rest : List Variable) (x : Variable) → Member x xs → place (xs ++ rest) x ≡ place xs x
+place_ahead [] rest x m = absurd m
+place_ahead (y ∷ ys) rest x m = by_test (place_ahead ys rest x) (same_variable y x) refl m
+  where
+    by_test : (Member x ys → place (ys ++ rest) x ≡ place ys x) → (c : Bool) → same_variable y x ≡ c → Member x (y ∷ ys)
+        → cond c 0 (suc (place (ys ++ rest) x)) ≡ cond c 0 (suc (place ys x))
+    by_test on true e k = refl
+    by_test on false e (inl k) = absurd (true≢false (sym ((same_variable_decides y x).1 k) ∙ e))
+    by_test on false e (inr k) = ap (λ n. suc n) (on k)
 
-  abbrev IsIn : Variable → Type 0
-  IsIn x = Member x xs
+once_ahead : (xs ys : List Variable) → (rest : List Variable) × (without_repeats same_variable (xs ++ ys) ≡ without_repeats same_variable xs ++ rest)
+once_ahead [] ys = (without_repeats same_variable ys, refl)
+once_ahead (x ∷ xs) ys =
+    let other : Variable → Bool = λ y. not (same_variable x y) in
+    let more = once_ahead xs ys in
+    (filter other more.0, ap (λ zs. x ∷ filter other zs) more.1 ∙ ap (λ zs. x ∷ zs) (filter-append other (without_repeats same_variable xs) more.0))
 
+abbrev IsBelow : ℕ → Variable → Type 0
+IsBelow n x = x.number < n
+
+abbrev IsIn : List Variable → Variable → Type 0
+IsIn xs x = Member x xs
+
+module _ (xs ys : List Variable) (n : ℕ) (below : (x : Variable) → Member x ys → place xs x < n) where
   mutual
-    below_at : (t : Term Variable) → EachVariable IsIn t → EachVariable IsBelow (valued (renumbered xs) t)
-    below_at (var x) h = place_below xs x h
+    below_at : (t : Term Variable) → EachVariable (IsIn ys) t → EachVariable (IsBelow n) (valued (renumbered xs) t)
+    below_at (var x) h = below x h
     below_at (constant c) h = tt
     below_at (name n) h = tt
     below_at (app f ts) h = all_below_at ts h
 
-    all_below_at : (ts : Terms Variable) → EachVariables IsIn ts → EachVariables IsBelow (valued_all (renumbered xs) ts)
+    all_below_at : (ts : Terms Variable) → EachVariables (IsIn ys) ts → EachVariables (IsBelow n) (valued_all (renumbered xs) ts)
     all_below_at none h = tt
     all_below_at (more t ts) h = (below_at t h.0, all_below_at ts h.1)
 
@@ -112,11 +132,22 @@ module _ (f : Facts Variable) (kept : Terms Variable) where
   kept_seen : EachVariables (IsIn (seen f kept)) kept
   kept_seen = terms_each (IsIn (seen f kept)) kept (every_parts (IsIn (seen f kept)) (occurrences f) (in_terms kept) all_seen).1
 
-  -- so their numbers are below the count
-  pub numbered_below : InFacts (IsBelow (seen f kept)) (numbered f kept).facts × EachVariables (IsBelow (seen f kept)) (numbered f kept).kept
+  abbrev once : List Variable
+  once = without_repeats same_variable (occurrences f)
+
+  place_in_facts : (x : Variable) → Member x once → place (seen f kept) x < length once
+  place_in_facts x m =
+      let ahead = once_ahead (occurrences f) (in_terms kept) in
+      let there : place (seen f kept) x ≡ place once x = ap (λ xs. place xs x) ahead.1 ∙ place_ahead once ahead.0 x m in
+      let less = place_below once x m in
+      omega (arith, there, less)
+
+  -- so the facts' have their numbers below the count, and all below the number of all
+  pub numbered_below : InFacts (IsBelow (numbered f kept).count) (numbered f kept).facts × EachVariables (IsBelow (length (seen f kept))) (numbered f kept).kept
   numbered_below = (
-    args_at (renumbered (seen f kept)) (EachVariables (IsIn (seen f kept))) (EachVariables (IsBelow (seen f kept))) (all_below_at (seen f kept)) f facts_seen,
-    all_below_at (seen f kept) kept kept_seen,
+    args_at (renumbered (seen f kept)) (EachVariables (IsIn once)) (EachVariables (IsBelow (length once)))
+        (all_below_at (seen f kept) once (length once) place_in_facts) f (occurrences_each (IsIn once) f (each_once (occurrences f))),
+    all_below_at (seen f kept) (seen f kept) (length (seen f kept)) (place_below (seen f kept)) kept kept_seen,
   )
 
   module _ (w : Values) where

@@ -1,5 +1,5 @@
 -- Forms are numbered, in normal form, and come from results.
-use Rattle.std.proofs.Common.{◌≡◌, inl, inr, ◌<◌, true, List, [], Option, Some, None, subst}
+use Rattle.std.proofs.Common.{◌≡◌, inl, inr, ℕ, ◌<◌, true, length, List, [], Option, Some, None, subst}
 use Rattle.std.specs.List.{filter}
 use Rattle.sp_spec.specs.Lists.{Member}
 use Rattle.sp_spec.specs.Term.{Variable, Terms, valued_all, EachVariables}
@@ -8,11 +8,12 @@ use Rattle.sp_spec.specs.Substitution.{Binding, bound_to}
 use Rattle.sp_spec.specs.Unifier.{mgu}
 use Rattle.sp_spec.specs.Rule.{Facts, Rule, InFacts, facts_at}
 use Rattle.sp_spec_forms.specs.Narrowing.{Chosen, narrow_facts}
-use Rattle.sp_spec_forms.specs.Numbering.{Form, numbered}
+use Rattle.sp_spec_forms.specs.Numbering.{Form, seen, numbered}
 use Rattle.sp_spec_forms.specs.Forms.{rule_variables, form_by, start, results, forms, is_normal_form, alike_form}
 use Rattle.sp_law_forms.proofs.Lists.{member_flat_mapped, member_filtered, member_passes}
 use Rattle.sp_law_forms.proofs.Repeats.{member_once}
 use Rattle.sp_law_forms.proofs.Numbered.{numbered_below}
+use Rattle.sp_law_forms.proofs.NumberedAgain.{numbered_again}
 
 -- before anything is chosen
 abbrev pub begin : Rule → Chosen
@@ -45,8 +46,11 @@ module _ (es : List Equation) (rule : Rule) (form : Form) where
   pub form_normal : Member form (forms es rule) → is_normal_form es form ≡ true
   form_normal m = member_passes (is_normal_form es) form (results es rule) (member_once alike_form form (filter (is_normal_form es) (results es rule)) m)
 
-  abbrev AreBelow : Form → Type 0
-  AreBelow g = InFacts (λ (x : Variable). x.number < g.count) g.facts × EachVariables (λ (x : Variable). x.number < g.count) g.kept
+  pub form_again : Member form (forms es rule) → numbered form.facts form.kept ≡ form
+  form_again m = let k = form_numbered m in subst (λ (g : Form). numbered g.facts g.kept ≡ g) k.2 (numbered_again k.0 k.1)
 
-  pub form_below : Member form (forms es rule) → AreBelow form
-  form_below m = let k = form_numbered m in subst (λ (g : Form). AreBelow g) k.2 (numbered_below k.0 k.1)
+  abbrev AreBelow : ℕ → Form → Type 0
+  AreBelow n g = InFacts (λ (x : Variable). x.number < g.count) g.facts × EachVariables (λ (x : Variable). x.number < n) g.kept
+
+  pub form_below : Member form (forms es rule) → AreBelow (length (seen form.facts form.kept)) form
+  form_below m = subst (AreBelow (length (seen form.facts form.kept))) (form_again m) (numbered_below form.facts form.kept)

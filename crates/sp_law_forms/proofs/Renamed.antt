@@ -27,6 +27,40 @@ filter_all : {A : Type 0} (xs : List A) → filter (λ x. true) xs ≡ xs
 filter_all [] = refl
 filter_all (x ∷ xs) = ap (λ ys. x ∷ ys) (filter_all xs)
 
+-- what stands in terms and facts whose variables are renamed
+module _ (r : Variable → Variable) where
+  abbrev pub rename : Variable → Term Variable
+  rename x = var (r x)
+
+  mutual
+    in_term_renamed : (t : Term Variable) → in_term (valued rename t) ≡ map r (in_term t)
+    in_term_renamed (var x) = refl
+    in_term_renamed (constant c) = refl
+    in_term_renamed (name n) = refl
+    in_term_renamed (app f ts) = in_terms_renamed ts
+
+    pub in_terms_renamed : (ts : Terms Variable) → in_terms (valued_all rename ts) ≡ map r (in_terms ts)
+    in_terms_renamed none = refl
+    in_terms_renamed (more t ts) =
+        ap₂ (λ xs ys. xs ++ ys) (in_term_renamed t) (in_terms_renamed ts) ∙ sym (map-append r (in_term t) (in_terms ts))
+
+  in_facts_renamed : (fs : List (Fact Variable)) → in_facts (map (fact_at rename) fs) ≡ map r (in_facts fs)
+  in_facts_renamed [] = refl
+  in_facts_renamed (f ∷ fs) =
+      ap₂ (λ xs ys. xs ++ ys) (in_terms_renamed f.args) (in_facts_renamed fs) ∙ sym (map-append r (in_terms f.args) (in_facts fs))
+
+  in_actions_renamed : (xs : List (Action Variable)) → in_actions (map (action_at rename) xs) ≡ map r (in_actions xs)
+  in_actions_renamed [] = refl
+  in_actions_renamed (a ∷ xs) =
+      ap₂ (λ xs ys. xs ++ ys) (in_terms_renamed a.args) (in_actions_renamed xs) ∙ sym (map-append r (in_terms a.args) (in_actions xs))
+
+  pub occurrences_renamed : (f : Facts Variable) → occurrences (facts_at rename f) ≡ map r (occurrences f)
+  occurrences_renamed f =
+      ap₂ (λ xs ys. xs ++ ys) (in_facts_renamed f.premises)
+      (ap₂ (λ xs ys. xs ++ ys) (in_actions_renamed f.actions) (in_facts_renamed f.conclusions)
+      ∙ sym (map-append r (in_actions f.actions) (in_facts f.conclusions)))
+      ∙ sym (map-append r (in_facts f.premises) (in_actions f.actions ++ in_facts f.conclusions))
+
 abbrev once : List Variable → List Variable
 once xs = without_repeats same_variable xs
 
@@ -80,50 +114,18 @@ module _ (r : Variable → Variable) (injective : (x y : Variable) → r x ≡ r
             go M M' on false pc false sd (inl k) = absurd (true≢false (sym ((same_variable_decides b x).1 k) ∙ sd))
             go M M' on false pc false sd (inr k) = on sd k
 
-  abbrev rename : Variable → Term Variable
-  rename x = var (r x)
-
-  mutual
-    in_term_renamed : (t : Term Variable) → in_term (valued rename t) ≡ map r (in_term t)
-    in_term_renamed (var x) = refl
-    in_term_renamed (constant c) = refl
-    in_term_renamed (name n) = refl
-    in_term_renamed (app f ts) = in_terms_renamed ts
-
-    in_terms_renamed : (ts : Terms Variable) → in_terms (valued_all rename ts) ≡ map r (in_terms ts)
-    in_terms_renamed none = refl
-    in_terms_renamed (more t ts) =
-        ap₂ (λ xs ys. xs ++ ys) (in_term_renamed t) (in_terms_renamed ts) ∙ sym (map-append r (in_term t) (in_terms ts))
-
-  in_facts_renamed : (fs : List (Fact Variable)) → in_facts (map (fact_at rename) fs) ≡ map r (in_facts fs)
-  in_facts_renamed [] = refl
-  in_facts_renamed (f ∷ fs) =
-      ap₂ (λ xs ys. xs ++ ys) (in_terms_renamed f.args) (in_facts_renamed fs) ∙ sym (map-append r (in_terms f.args) (in_facts fs))
-
-  in_actions_renamed : (xs : List (Action Variable)) → in_actions (map (action_at rename) xs) ≡ map r (in_actions xs)
-  in_actions_renamed [] = refl
-  in_actions_renamed (a ∷ xs) =
-      ap₂ (λ xs ys. xs ++ ys) (in_terms_renamed a.args) (in_actions_renamed xs) ∙ sym (map-append r (in_terms a.args) (in_actions xs))
-
-  occurrences_renamed : (f : Facts Variable) → occurrences (facts_at rename f) ≡ map r (occurrences f)
-  occurrences_renamed f =
-      ap₂ (λ xs ys. xs ++ ys) (in_facts_renamed f.premises)
-      (ap₂ (λ xs ys. xs ++ ys) (in_actions_renamed f.actions) (in_facts_renamed f.conclusions)
-      ∙ sym (map-append r (in_actions f.actions) (in_facts f.conclusions)))
-      ∙ sym (map-append r (in_facts f.premises) (in_actions f.actions ++ in_facts f.conclusions))
-
   -- the numbers are the same, whatever terms are kept
-  pub numbered_same : (f : Facts Variable) (kept kept' : Terms Variable) → (numbered (facts_at rename f) kept').facts ≡ (numbered f kept).facts
+  pub numbered_same : (f : Facts Variable) (kept kept' : Terms Variable) → (numbered (facts_at (rename r) f) kept').facts ≡ (numbered f kept).facts
   numbered_same f kept kept' =
       let K = in_terms kept in
       let K' = in_terms kept' in
       let A = occurrences f in
       let xs = seen f kept in
-      let ys = seen (facts_at rename f) kept' in
-      let a = after (renumbered ys) rename in
+      let ys = seen (facts_at (rename r) f) kept' in
+      let a = after (renumbered ys) (rename r) in
       let xs_is : xs ≡ filter (λ x. true) (once (A ++ K)) = sym (filter_all (once (A ++ K))) in
       let ys_is : ys ≡ filter (λ x. true) (once (map r A ++ K')) =
-      ap (λ zs. once (zs ++ K')) (occurrences_renamed f) ∙ sym (filter_all (once (map r A ++ K'))) in
+      ap (λ zs. once (zs ++ K')) (occurrences_renamed r f) ∙ sym (filter_all (once (map r A ++ K'))) in
       let At : Variable → Type 0 = λ x. a x ≡ renumbered xs x in
       let each : (x : Variable) → Member x A → At x =
       λ x m.
@@ -133,7 +135,7 @@ module _ (r : Variable → Variable) (injective : (x y : Variable) → r x ≡ r
       (ap (λ zs. place zs (r x)) ys_is
       ∙ same_place K K' A x (λ y. true) (λ y. true) (λ y. refl) m refl
       ∙ sym (ap (λ zs. place zs x) xs_is)) in
-      facts_after (renumbered ys) rename f
+      facts_after (renumbered ys) (rename r) f
       ∙ same_facts_at a (renumbered xs) f
       (arguments_weaken (EachVariables At) (SameArgs a (renumbered xs)) (λ ts e. same_valued_all a (renumbered xs) ts e) f
       (occurrences_each At f (every_from At A each)))

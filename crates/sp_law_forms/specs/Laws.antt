@@ -1,5 +1,5 @@
 -- What holds of the forms of a rule.
-use Rattle.std.specs.Prelude.{◌≡◌, ◌<◌, ℕ, List, [], ◌∷◌, map, true}
+use Rattle.std.specs.Prelude.{◌≡◌, ◌<◌, ℕ, List, [], ◌∷◌, map, length, true}
 use Rattle.sp_spec.specs.Lists.{Member, Every, Distinct}
 use Rattle.sp_spec.specs.Term.{Msg, Variable, Term, var, app, Terms, Values, valued, valued_all, EachVariable, EachVariables}
 use Rattle.sp_spec.specs.Signature.{Equation, Signature, RespectsSorts, IsValuation}
@@ -12,7 +12,7 @@ use Rattle.sp_law_equal.specs.Parts.{IsPartOfOne}
 use Rattle.sp_law_equal.specs.Pointwise.{AreSameFacts}
 use Rattle.sp_law_equal.specs.Right.{AreTermsOver, EquationsAreOver}
 use Rattle.sp_law_equal.specs.RightTheory.{FactsArePlain}
-use Rattle.sp_spec_forms.specs.Numbering.{Form, numbered}
+use Rattle.sp_spec_forms.specs.Numbering.{Form, seen, numbered}
 use Rattle.sp_spec_forms.specs.Reducible.{args_of}
 use Rattle.sp_spec_forms.specs.Forms.{is_normal_form, rule_variables, results, forms}
 
@@ -46,12 +46,14 @@ pub record FormsAreSound : Type 0 where
 abbrev pub AreOverMessages : List Equation → Type 0
 AreOverMessages es = (e : Equation) → Member e es → EachVariable (λ (x : Variable). x.sort ≡ Msg) e.left
 
--- Each form numbers its variables below its count, no application in its facts is an instance of a left side, no two forms have the same facts, and
--- no result that is in normal form is left out but for a form with the same facts. Facts that are the same up to names of variables are numbered
--- to the same facts, whatever terms are kept.
+-- Each form numbers the variables of its facts below its count, and those of its kept terms below the number of all that it has. Numbered again it is
+-- itself: so its count is how many variables its facts have. No application in its facts is an instance of a left side, no two forms have the same
+-- facts, and no result that is in normal form is left out but for a form with the same facts. Facts that are the same up to names of variables are
+-- numbered to the same facts, whatever terms are kept.
 pub record FormsAreProper : Type 0 where
   pub numbers : (es : List Equation) (rule : Rule) (form : Form) → Member form (forms es rule)
-      → InFacts (λ (x : Variable). x.number < form.count) form.facts × EachVariables (λ (x : Variable). x.number < form.count) form.kept
+      → InFacts (λ (x : Variable). x.number < form.count) form.facts × EachVariables (λ (x : Variable). x.number < length (seen form.facts form.kept)) form.kept
+  pub again : (es : List Equation) (rule : Rule) (form : Form) → Member form (forms es rule) → numbered form.facts form.kept ≡ form
   pub irreducible : (es : List Equation) → AreOverMessages es → (rule : Rule) (form : Form) → Member form (forms es rule)
       → (ts : Terms Variable) → Member ts (args_of form.facts) → (f : List ℕ) (us : Terms Variable) → IsPartOfOne (app f us) ts
       → (e : Equation) → Member e es → (s : Variable → Term Variable) → valued s e.left ≡ app f us → ⊥

@@ -18,7 +18,7 @@ pub fn forms_are_sound()
     ensures { FormsAreSound }
 {}
 
-/// Forms are numbered from 0 on, in normal form, and listed once; none is left out but for one with the same facts.
+/// Forms are numbered from 0 on, count their facts' variables, are in normal form, and listed once; none is left out but for one with the same facts.
 pub fn forms_are_proper()
     ensures { FormsAreProper }
 {}

@@ -5,7 +5,8 @@ use Rattle.sp_spec.specs.Term.{Variable, Term, var, Terms, valued_all, in_terms}
 use Rattle.sp_spec.specs.Same.{same_variable}
 use Rattle.sp_spec.specs.Rule.{Facts, facts_at, occurrences}
 
--- facts, with the terms that the rule's variables became; the variables of both are numbered below the count
+-- Facts, with the terms that the rule's variables became. The variables of the facts are numbered below the count, those of these terms alone from
+-- it on: they stand in no fact, so a step has none of them.
 pub record Form : Type 0 where
   pub facts : Facts Variable
   pub count : ℕ
@@ -32,4 +33,4 @@ renumbered xs x = var (record { sort = x.sort; number = place xs x })
 abbrev pub numbered : Facts Variable → Terms Variable → Form
 numbered f kept =
     let xs = seen f kept in
-    record { facts = facts_at (renumbered xs) f; count = length xs; kept = valued_all (renumbered xs) kept }
+    record { facts = facts_at (renumbered xs) f; count = length (without_repeats same_variable (occurrences f)); kept = valued_all (renumbered xs) kept }

@@ -179,6 +179,47 @@ A('c')
 end of trace
 ";
 
+/// A rule whose one form has lost a variable: no fact of its step has `$z`.
+const LOST_VARIABLE: &str = "theory K begin
+rule A: [ Fr(~k) ] --> [ U(~k) ]
+rule B: [ U(k) ] --> [ T(k) ]
+rule C: [ T(x) ] --[ Act(fst(<x, $z>)) ]-> [ ]
+lemma l: exists-trace \"Ex x #i. Act(x)@i\"
+simplify
+solve( action 0 )
+  case C
+  solve( premise 1 0 )
+    case B
+    solve( premise";
+
+/// Its proof ends with an execution, in which that variable has a value.
+const LOST_VARIABLE_CHECKED: &str = "l (exists-trace): verified (5 steps)
+execution:
+fresh ~n1
+rule A: k = ~n1
+rule B: k = ~n1
+rule C: x = ~n1, z = 'a1'
+trace:
+Act(~n1)
+end of trace
+";
+
+/// The time of the step by `B`, the status of the check, and what is said: the step by `C` used no more than the number of `x`.
+static LOST_VARIABLE_TIMES: [(&str, u8, &str); 2] = [
+    ("3", 0, LOST_VARIABLE_CHECKED),
+    ("4", 3, "l (exists-trace): rejected at step 4 (instance)\n"),
+];
+
+#[test]
+fn lost_variables_take_no_number(rt: HostRuntime) -> Result<(), Fail> {
+    let alloc = rt.alloc();
+    for (time, status, said) in &LOST_VARIABLE_TIMES {
+        let text = format!(in alloc; "{LOST_VARIABLE} {time} 0 ) case A SOLVED qed qed qed end\n")?;
+        assert_answer(&rt, alloc, "check", text.as_str(), *status, said)?;
+    }
+    Ok(())
+}
+
 #[test]
 fn learnt_constants_are_public(rt: HostRuntime) -> Result<(), Fail> {
     let alloc = rt.alloc();

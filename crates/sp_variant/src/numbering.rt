@@ -5,6 +5,7 @@ ghost use Rattle.std.specs.List.{flat_map, list_any};
 ghost use Rattle.sp_spec.specs.Term as terms;
 ghost use Rattle.sp_spec.specs.Term.{in_term, in_terms};
 ghost use Rattle.sp_spec.specs.Same.{same_variable};
+ghost use Rattle.sp_spec.specs.Rule.{occurrences};
 ghost use Rattle.sp_term.specs.View.{variable_of, view, view_all};
 ghost use Rattle.sp_fact.specs.View.{facts_of};
 ghost use Rattle.sp_spec_forms.specs.Numbering as spec;
@@ -83,15 +84,14 @@ fn see_arguments<T: HasArguments>(seen: &mut Vec<Variable>, all: &Vec<T>) -> Res
     Ok(())
 }
 
-/// Each variable of the facts, then of the terms, as it is first seen.
-fn seen(alloc: Global, facts: &Facts, kept: &Vec<Term>) -> Result<Vec<Variable>, AllocError>
-    ensures { IfOk result (λ xs. list_by variable_of xs ≡ spec.seen (facts_of facts.now) (view_all kept.now.items)) }
+/// Each variable of the facts, as it is first seen.
+fn seen_in_facts(alloc: Global, facts: &Facts) -> Result<Vec<Variable>, AllocError>
+    ensures { IfOk result (λ xs. list_by variable_of xs ≡ spec.without_repeats same_variable (occurrences (facts_of facts.now))) }
 {
     let mut seen = Vec::new(alloc);
     see_arguments(&mut seen, &facts.premises)?;
     see_arguments(&mut seen, &facts.actions)?;
     see_arguments(&mut seen, &facts.conclusions)?;
-    see_terms(&mut seen, kept)?;
     Ok(seen)
 }
 
@@ -139,15 +139,13 @@ impl<'a> Assigns<Variable, Variable> for Places<'a> {
 pub fn numbered(alloc: Global, facts: &Facts, kept: &Vec<Term>) -> Result<Form, AllocError>
     ensures { IfOk result (λ f. form_of f ≡ spec.numbered (facts_of facts.now) (view_all kept.now.items)) }
 {
-    let variables = seen(alloc, facts, kept)?;
+    let mut variables = seen_in_facts(alloc, facts)?;
+    let count = variables.len();
+    see_terms(&mut variables, kept)?;
     let places = Places {
         variables: &variables,
     };
     let facts = facts.changed(alloc, &places)?;
     let kept = apply_all(alloc, &places, kept)?;
-    Ok(Form {
-        facts,
-        count: variables.len(),
-        kept,
-    })
+    Ok(Form { facts, count, kept })
 }
