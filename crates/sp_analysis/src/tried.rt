@@ -29,6 +29,7 @@ use sp_check::{Judgement, Skeleton, Step, judge};
 use sp_formula::formula::Formula;
 use sp_guard::negate::negate;
 use sp_learn::log::Log;
+use sp_order::order::Order;
 use sp_pose::GuardedLemma;
 use sp_search::{Tree, grown_tree, is_finished, steps};
 use sp_skel::{skeleton, tree_text};
@@ -74,13 +75,14 @@ fn root(alloc: Global, sought: &Formula) -> Result<System, AllocError>
 {
     let mut formulas = Vec::new(alloc);
     formulas.push(sought.clone()?)?;
+    let order = Order::new(alloc)?;
     Ok(System {
         events: Vec::new(alloc),
         formulas,
         spent: Vec::new(alloc),
         unequal: Vec::new(alloc),
         links: Vec::new(alloc),
-        order: Vec::new(alloc),
+        order,
         last: None,
         closed: false,
         next: 0,

@@ -7,7 +7,7 @@ use Rattle.std.proofs.lemmas.Bool.{false≢true}
 use Rattle.std.proofs.lemmas.Bool.Decides.{Decides-and}
 use Rattle.std.proofs.lemmas.Slice.Eq.{bytes_eq-Decides}
 use Rattle.sp_spec_system.specs.Move.{Case}
-use Rattle.sp_moves_formula.specs.declared.moves.Case as memory
+use Rattle.sp_moves.specs.declared.moves.Case as memory
 use Rattle.sp_step.specs.View.{case_of}
 use Rattle.sp_check.specs.Rejected.{case_names}
 use Rattle.sp_check.specs.Judging.{are_named}

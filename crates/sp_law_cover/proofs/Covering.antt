@@ -4,7 +4,7 @@ use Rattle.sp_law_truth.proofs.EqualTraces.{equal_same}
 use Rattle.sp_law_system.proofs.Unifier.{unifier_is_right}
 use Rattle.sp_law_cover.specs.Laws.{MovesCover, NothingIsLost}
 use Rattle.sp_law_system.specs.Rules.{SuitsProofs}
-use Rattle.sp_law_formula.proofs.Opened.{EqualTruth}
+use Rattle.sp_law_formula.proofs.Open.{EqualTruth}
 use Rattle.sp_law_cover.proofs.Simplifying.{rows_cover, contradictions_hold}
 use Rattle.sp_law_cover.proofs.MovesCover.{moves_cover}
 use Rattle.sp_law_truth.proofs.Itself.{trace_itself}

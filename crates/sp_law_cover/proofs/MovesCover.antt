@@ -30,8 +30,8 @@ use Rattle.sp_spec_system.specs.Move.{Move, simplify, contradiction, unproved, s
 use Rattle.sp_spec_system.specs.Cases.{where_same, renamed, system_if, named}
 use Rattle.sp_spec_formula.specs.Action.{with_step, by_actions, by_each, at_each, action_cases, solving_action, by_forms, by_adversary}
 use Rattle.sp_spec_graph.specs.Premise.{open_premise, premise_cases}
-use Rattle.sp_spec_graph.specs.Know.{know_cases}
-use Rattle.sp_spec_graph.specs.Chain.{chain_cases}
+use Rattle.sp_spec_know.specs.Know.{know_cases}
+use Rattle.sp_spec_know.specs.Chain.{chain_cases}
 use Rattle.sp_spec_proof.specs.Cases.{raw_cases, simple_case, cases}
 use Rattle.sp_law_system.specs.Rules.{SuitsProofs, RulesAreNumbered, IsNumberedForm, FormsAreNumbered, FormsAreWhole}
 use Rattle.sp_law_system.specs.Proofs.{IsWellMade, IsKept, IsPast}
@@ -41,15 +41,15 @@ use Rattle.sp_law_cover.specs.Laws.{MovesCover}
 use Rattle.sp_law_formula.proofs.Freed.{freed_action_in}
 use Rattle.sp_spec.proofs.Options.{mapped}
 use Rattle.sp_law_formula.proofs.Merged.{unifier_within, Later}
-use Rattle.sp_law_formula.proofs.Opened.{EqualTruth}
-use Rattle.sp_law_formula.proofs.Parts.{or_covers, or_numbered}
+use Rattle.sp_law_formula.proofs.Open.{EqualTruth}
+use Rattle.sp_law_formula.proofs.Or.{or_covers, or_numbered}
 use Rattle.sp_law_formula.proofs.AtEach.{at_each_numbered, at_each_solved}
 use Rattle.sp_law_formula.proofs.ByAdversary.{adversary_numbered}
-use Rattle.sp_law_formula.proofs.Actions.{named_systems, systems_append, at_event_systems, step_numbered}
-use Rattle.sp_law_formula.proofs.ActionCovers.{event_found, at_event_solved, new_event_solved}
-use Rattle.sp_law_graph.proofs.Premises.{premise_numbered, premise_covers}
-use Rattle.sp_law_graph.proofs.Know.{know_numbered, know_covers}
-use Rattle.sp_law_graph.proofs.Chain.{chain_numbered, chain_covers}
+use Rattle.sp_law_formula.proofs.ActionSteps.{named_systems, systems_append, at_event_systems, step_numbered}
+use Rattle.sp_law_formula.proofs.Action.{event_found, at_event_solved, new_event_solved}
+use Rattle.sp_law_graph.proofs.Premise.{premise_numbered, premise_covers}
+use Rattle.sp_law_know.proofs.Know.{know_numbered, know_covers}
+use Rattle.sp_law_know.proofs.Chain.{chain_numbered, chain_covers}
 use Rattle.sp_law_cover.proofs.SolvedAction.{SolvesAction, at_place}
 use Rattle.sp_law_cover.proofs.Once.{raw_once}
 use Rattle.sp_law_cover.proofs.Simplifying.{no_solution, rows_cover, simplified_follows, covers_itself}

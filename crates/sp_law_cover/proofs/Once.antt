@@ -11,7 +11,8 @@ use Rattle.sp_spec_proof.specs.Rows.{Row, row_split, row_open, row_equate, row_u
 use Rattle.sp_spec_proof.specs.Cases.{raw_cases}
 use Rattle.sp_law_formula.proofs.OnceRows.{split_once, open_existential_once, equate_once, unequal_once, in_order_once, sets_last_once, action_stands_once, disjunction_once, instantiate_once, or_once, action_once}
 use Rattle.sp_law_cover.proofs.SolvedAction.{at_place}
-use Rattle.sp_law_graph.proofs.Once.{learn_once_once, linear_once_once, fresh_once_once, fresh_first_once, send_input_once, send_learnt_once, settle_learn_once, premise_once, know_once, chain_once}
+use Rattle.sp_law_graph.proofs.Once.{linear_once_once, fresh_once_once, premise_once}
+use Rattle.sp_law_know.proofs.Once.{learn_once_once, fresh_first_once, send_input_once, send_learnt_once, settle_learn_once, know_once, chain_once}
 
 pub row_once : {N : Names} (rules : Rules) (row : Row) (s t : System) → by_row rules row s ≡ Some t → IsNumbered N s → HappenOnce s.events → HappenOnce t.events
 row_once rules row_split s t e n h = split_once s t e h

@@ -22,8 +22,8 @@ use Rattle.sp_spec_system.specs.Picked.{some_two}
 use Rattle.sp_spec_formula.specs.Equate.{fails_to_equate}
 use Rattle.sp_spec_graph.specs.LinearOnce.{fails_to_link}
 use Rattle.sp_spec_graph.specs.FreshOnce.{fails_to_merge}
-use Rattle.sp_spec_graph.specs.LearnOnce.{learn_once, fails_to_learn}
-use Rattle.sp_spec_graph.specs.SettleLearn.{settle_learn}
+use Rattle.sp_spec_know.specs.LearnOnce.{learn_once, fails_to_learn}
+use Rattle.sp_spec_know.specs.SettleLearn.{settle_learn}
 use Rattle.sp_spec.specs.Lists.{Member}
 use Rattle.sp_spec_system.specs.Move.{Context}
 use Rattle.sp_law_system.specs.Rules.{SuitsProofs}
@@ -32,25 +32,28 @@ use Rattle.sp_law_cover.specs.Admitted.{HasNoSolution}
 use Rattle.sp_law_cover.specs.Contexts.{IsContextOf}
 use Rattle.sp_law_cover.specs.Laws.{IsTurn, ContradictionsHold, RowsCover}
 use Rattle.sp_law_cover.proofs.Once.{row_once}
-use Rattle.sp_law_formula.proofs.Literals.{covers_by_itself, action_stands_covers, action_stands_numbered, unequal_covers, unequal_row_numbered, equal_pair_contradicts}
-use Rattle.sp_law_formula.proofs.Splitting.{split_covers, split_numbered, some_falsity_contradicts}
-use Rattle.sp_law_formula.proofs.Orders.{in_order_covers, in_order_numbered, cyclic_contradicts, some_refuted_contradicts}
-use Rattle.sp_law_formula.proofs.Equations.{equate_covers, equate_numbered, some_fails_contradicts}
-use Rattle.sp_law_formula.proofs.Lasts.{sets_last_covers, sets_last_numbered, some_last_fails_contradicts, later_contradicts, some_last_refuted_contradicts, unlast_contradicts}
-use Rattle.sp_law_formula.proofs.Disjunctions.{disjunction_covers, disjunction_numbered}
-use Rattle.sp_law_graph.proofs.LinearOnce.{linear_once_covers, linear_once_numbered, used_twice_contradicts, links_contradict}
+use Rattle.sp_law_formula.proofs.OneCase.{covers_by_itself}
+use Rattle.sp_law_formula.proofs.ActionStands.{action_stands_covers, action_stands_numbered}
+use Rattle.sp_law_formula.proofs.Unequal.{unequal_covers, unequal_row_numbered, equal_pair_contradicts}
+use Rattle.sp_law_formula.proofs.Split.{split_covers, split_numbered, some_falsity_contradicts}
+use Rattle.sp_law_formula.proofs.InOrder.{in_order_covers, in_order_numbered, cyclic_contradicts, some_refuted_contradicts}
+use Rattle.sp_law_formula.proofs.Equate.{equate_covers, equate_numbered, some_fails_contradicts}
+use Rattle.sp_law_formula.proofs.Last.{sets_last_covers, sets_last_numbered, some_last_fails_contradicts, later_contradicts, some_last_refuted_contradicts, unlast_contradicts}
+use Rattle.sp_law_formula.proofs.Disjunction.{disjunction_covers, disjunction_numbered}
+use Rattle.sp_law_graph.proofs.LinearOnce.{linear_once_covers, linear_once_numbered, links_contradict}
+use Rattle.sp_law_graph.proofs.SourceTwice.{used_twice_contradicts, fr_twice_contradicts}
 use Rattle.sp_law_formula.proofs.Taken.{instantiate_numbered}
-use Rattle.sp_law_formula.proofs.Instantiates.{instantiate_covers}
-use Rattle.sp_law_graph.proofs.FreshOnce.{merge_contradicts, fr_twice_contradicts, fresh_once_covers, fresh_once_numbered}
-use Rattle.sp_law_graph.proofs.FreshFirst.{fresh_first_covers, fresh_first_numbered}
-use Rattle.sp_law_graph.proofs.SendInput.{send_input_covers, send_input_numbered}
-use Rattle.sp_law_graph.proofs.SendLearnt.{send_learnt_covers, send_learnt_numbered}
-use Rattle.sp_law_graph.proofs.LearnOnce.{learn_once_covers, learn_once_numbered, learning_contradicts}
-use Rattle.sp_law_graph.proofs.SettleLearn.{settle_learn_covers, settle_learn_numbered}
-use Rattle.sp_law_graph.proofs.LearntEarly.{early_contradicts}
+use Rattle.sp_law_formula.proofs.Instantiate.{instantiate_covers}
+use Rattle.sp_law_graph.proofs.FreshOnce.{merge_contradicts, fresh_once_covers, fresh_once_numbered}
+use Rattle.sp_law_know.proofs.FreshFirst.{fresh_first_covers, fresh_first_numbered}
+use Rattle.sp_law_know.proofs.SendInput.{send_input_covers, send_input_numbered}
+use Rattle.sp_law_know.proofs.SendLearnt.{send_learnt_covers, send_learnt_numbered}
+use Rattle.sp_law_know.proofs.LearnOnce.{learn_once_covers, learn_once_numbered, learning_contradicts}
+use Rattle.sp_law_know.proofs.SettleLearn.{settle_learn_covers, settle_learn_numbered}
+use Rattle.sp_law_know.proofs.LearntEarly.{early_contradicts}
 use Rattle.sp_law_graph.proofs.ReducibleEvent.{reducible_contradicts}
-use Rattle.sp_law_formula.proofs.Opened.{EqualTruth, open_existential_covers}
-use Rattle.sp_law_formula.proofs.OpenedNumbers.{open_existential_numbered}
+use Rattle.sp_law_formula.proofs.Open.{EqualTruth, open_existential_covers}
+use Rattle.sp_law_formula.proofs.OpenNumbers.{open_existential_numbered}
 
 either : (a b : Bool) → (a ≡ true → ⊥) → (b ≡ true → ⊥) → (a || b) ≡ true → ⊥
 either a b first second k = ⊎_elim first second (or_cases a b k)

@@ -15,7 +15,7 @@ use Rattle.sp_spec_system.specs.Move.{Case, systems_in}
 use Rattle.sp_spec_formula.specs.Action.{at_each}
 use Rattle.sp_law_system.specs.Laws.{UnifierIsRight}
 use Rattle.sp_law_system.proofs.Solutions.{Under, TimeUnder, agrees_itself}
-use Rattle.sp_law_formula.proofs.Actions.{systems_append, case_systems}
+use Rattle.sp_law_formula.proofs.ActionSteps.{systems_append, case_systems}
 use Rattle.sp_law_formula.proofs.MadeOne.{made_one_holds, made_one_numbered}
 use Rattle.sp_law_formula.proofs.Merged.{IfThere, SolvedBy, Later}
 

@@ -1,11 +1,12 @@
 -- A term of a formula that binds none of its variables has the value of the term of the system.
-use Rattle.std.proofs.Common.{◌≡◌, Some, sym, ap, ◌∙◌, subst}
+use Rattle.std.proofs.Common.{◌≡◌, Some, option_map, sym, ap, ◌∙◌, subst}
 use Rattle.sp_spec.specs.Term.{Names, Variable, Term, var, Terms, Grounds, valued, valued_all, MadeOf, AllMadeOf}
 use Rattle.sp_spec.specs.Rule.{Action, action_at}
+use Rattle.sp_spec.specs.Unifier.{Pair}
 use Rattle.sp_spec.specs.Guarded.{Place, free, bound, Assignment, place_in, term_in, action_in}
 use Rattle.sp_spec_system.specs.Numbered.{AtFree}
-use Rattle.sp_spec_system.specs.Formulas.{freed_place, freed, freed_all, freed_action}
-use Rattle.sp_spec.proofs.Options.{some_same, mapped}
+use Rattle.sp_spec_system.specs.Formulas.{freed_place, freed, freed_all, freed_action, pair_of}
+use Rattle.sp_spec.proofs.Options.{some_same, mapped, then_some}
 use Rattle.sp_spec.proofs.Variables.{where_value, where_values, where_made, where_all_made}
 
 module _ (m : Assignment) where
@@ -39,3 +40,10 @@ pub freed_action_in : (N : Names) → (P : Variable → Type 0) (a : Action Plac
 freed_action_in N P a b e h =
     let r = mapped (λ (us : Terms Variable). let x : Action Variable = record { symbol = a.symbol; args = us } in x) (freed_all a.args) b e in
     subst (λ (x : Action Variable). AllMadeOf N P x.args) (sym r.2) (freed_all_in N P a.args r.0 r.1 h)
+
+-- the two terms of a literal are terms of the system
+pub pair_parts : (t u : Term Place) (p : Pair) → pair_of t u ≡ Some p → (freed t ≡ Some p.0) × (freed u ≡ Some p.1)
+pair_parts t u p e =
+    let r = then_some (λ a. option_map (λ (b : Term Variable). let q : Pair = (a, b) in q) (freed u)) (freed t) p e in
+    let q = mapped (λ (b : Term Variable). let q : Pair = (r.0, b) in q) (freed u) p r.2 in
+    (r.1 ∙ ap (λ (x : Pair). Some x.0) (sym q.2), q.1 ∙ ap (λ (x : Pair). Some x.1) (sym q.2))

@@ -29,10 +29,10 @@ use Rattle.sp_spec_formula.specs.Disjunction.{instead_of, disjunction}
 use Rattle.sp_spec_formula.specs.Instantiate.{new_instance, with_formula, instantiate}
 use Rattle.sp_spec_formula.specs.Or.{by_part, disjunction_at, or_cases}
 use Rattle.sp_spec_formula.specs.Action.{with_step, by_actions, by_forms, by_each, done_there, by_adversary, at_each, action_cases}
-use Rattle.sp_law_formula.proofs.Actions.{named_systems, systems_append, at_event_systems}
+use Rattle.sp_law_formula.proofs.ActionSteps.{named_systems, systems_append, at_event_systems}
 use Rattle.sp_law_formula.proofs.AtEach.{at_each_every}
 use Rattle.sp_law_formula.proofs.Once.{times_of, added_once, OnceIn, pairs_once, made_one_once}
-use Rattle.sp_law_formula.proofs.Parts.{or_found}
+use Rattle.sp_law_formula.proofs.Or.{or_found}
 
 -- a row that picks something and does the same with whatever it is
 row_once : {A : Type 0} (f : A → System) → ((x : A) → HappenOnce (f x).events) → (o : Option A) (t : System) → option_map f o ≡ Some t → HappenOnce t.events

@@ -2,20 +2,19 @@
 use Rattle.std.proofs.Common.{◌≡◌, ◌⊎◌, ◌≤◌, ℕ, Bool, true, false, if◌then◌else◌, List, [], ◌∷◌, ◌++◌, map, Some, refl, sym, ap, ◌∙◌, subst, inl, inr, ⊎_elim}
 use Rattle.sp_spec.proofs.Same.{alike_same}
 use Rattle.std.proofs.lemmas.Bool.{or_cases}
-use Rattle.sp_spec.specs.Lists.{Member, Every, Distinct, AtPosition}
+use Rattle.sp_spec.specs.Lists.{Member, AtPosition}
 use Rattle.sp_spec.specs.Term.{Names, Variable, Term, Terms, none, more, Ground, Values, valued, valued_all}
 use Rattle.sp_spec.specs.Rule.{Fact, fact_at, facts_at}
 use Rattle.sp_spec.specs.Theory.{Theory}
 use Rattle.sp_spec.specs.Same.{alike}
 use Rattle.sp_spec.specs.Log.{Log, How, Entry, step, send, learn, fresh_names_once, IsLog, is_fr, first_arg, fresh_of, fresh_uses, all_fresh_uses}
-use Rattle.sp_spec.proofs.Lists.{member_map, member_left, member_right, distinct_apart, distinct_left}
+use Rattle.sp_spec.proofs.Lists.{member_map, member_left, member_right, distinct_apart}
 use Rattle.sp_spec_system.specs.System.{anyhow, public_name, own_name, constructed, chain_begun, chain_done, Happening, rule_step, sending, learning, Event, System}
 use Rattle.sp_spec_system.specs.Solutions.{Valuation, HappensAt, HappensIn, Solves}
 use Rattle.sp_spec_system.specs.Numbered.{IsNumbered}
 use Rattle.sp_spec_system.specs.Covering.{Covers}
 use Rattle.sp_law_system.specs.Laws.{UnifierIsRight}
 use Rattle.sp_spec_graph.specs.Fresh.{first_term, fresh_terms, happening_fresh, stands_in, share_one, shares_fresh}
-use Rattle.sp_spec_graph.specs.SourceTwice.{repeats, takes_fr_twice}
 use Rattle.sp_spec_graph.specs.FreshOnce.{fresh_once, fails_to_merge}
 use Rattle.sp_law_graph.proofs.OneEvent.{one_event_covers, one_event_numbered, apart_contradicts}
 
@@ -49,7 +48,7 @@ fresh_values v (f ∷ fs) = at (is_fr f) f.args (fresh_values v fs)
 pub fresh_member : (v : Values) (t : Term Variable) (fs : List (Fact Variable)) → Member t (fresh_terms fs) → Member (valued v t) (fresh_of (map (fact_at v) fs))
 fresh_member v t fs m = subst (Member (valued v t)) (sym (fresh_values v fs)) (member_map (valued v) t (fresh_terms fs) m)
 
-stands_member : (t : Term Variable) (us : List (Term Variable)) → stands_in t us ≡ true → Member t us
+pub stands_member : (t : Term Variable) (us : List (Term Variable)) → stands_in t us ≡ true → Member t us
 stands_member t [] e = absurd cc
 stands_member t (u ∷ us) e = ⊎_elim (λ k. inl (sym (alike_same t u k))) (λ k. inr (stands_member t us k)) (or_cases (alike t u) (stands_in t us) e)
 
@@ -62,7 +61,7 @@ shared_member (t ∷ ts) us e =
     (or_cases (stands_in t us) (share_one ts us) e)
 
 -- The entry of what happens uses the values of the terms that this uses. (What is learnt anyhow uses none, while its entry may.)
-happening_values : (log : Log) (p : ℕ) (v : Valuation) (h : Happening) → HappensAt log p v h
+pub happening_values : (log : Log) (p : ℕ) (v : Valuation) (h : Happening) → HappensAt log p v h
     → (e : Entry) × AtPosition log p e × ((happening_fresh h ≡ []) ⊎ (fresh_uses e ≡ map (valued v.terms) (happening_fresh h)))
 happening_values log p v (rule_step r facts) k = (step r (facts_at v.terms facts) k.0, k.1, inr (fresh_values v.terms facts.premises))
 happening_values log p v (sending m) k = (send (valued v.terms m), k, inl refl)
@@ -103,29 +102,3 @@ module _ (N : Names) (right : UnifierIsRight) (theory : Theory) where
   -- Failing merge: any two events that use one Fr are one.
   pub merge_contradicts : (s : System) → fails_to_merge s ≡ true → IsNumbered N s → (log : Log) → IsLog theory log → (v : Valuation) → Solves theory log v s → ⊥
   merge_contradicts s e n log is v h = apart_contradicts shares_fresh N right theory (one_event theory) s n log is v h e
-
--- Source used twice: an entry uses no Fr twice.
-entry_distinct : (theory : Theory) (log : Log) → IsLog theory log → (p : ℕ) (e : Entry) → AtPosition log p e → Distinct (fresh_uses e)
-entry_distinct theory [] is p e a = absurd a
-entry_distinct theory (d ∷ log) is p e (inl a) = subst (λ (x : Entry). Distinct (fresh_uses x)) a.1 (distinct_left (fresh_uses d) (all_fresh_uses log) (is.1 fresh_names_once))
-entry_distinct theory (d ∷ log) is p e (inr a) = entry_distinct theory log is.0 p e a
-
-repeats_contradicts : (v : Values) (ts : List (Term Variable)) → repeats ts ≡ true → Distinct (map (valued v) ts) → ⊥
-repeats_contradicts v [] e d = absurd cc
-repeats_contradicts v (t ∷ ts) e d =
-    ⊎_elim (λ k. d.0 (member_map (valued v) t ts (stands_member t ts k))) (λ k. repeats_contradicts v ts k d.1) (or_cases (stands_in t ts) (repeats ts) e)
-
-fr_contradicts : (theory : Theory) (log : Log) → IsLog theory log → (v : Valuation) (p : ℕ) (a : Happening) → HappensAt log p v a → repeats (happening_fresh a) ≡ true → ⊥
-fr_contradicts theory log is v p a h e = let d = happening_values log p v a h in at d.0 d.1 d.2
-  where
-    at : (d : Entry) → AtPosition log p d → (happening_fresh a ≡ []) ⊎ (fresh_uses d ≡ map (valued v.terms) (happening_fresh a)) → ⊥
-    at d there (inl nothing) = let none : repeats [] ≡ true = subst (λ (ts : List (Term Variable)). repeats ts ≡ true) nothing e in absurd cc
-    at d there (inr uses) = repeats_contradicts v.terms (happening_fresh a) e (subst Distinct uses (entry_distinct theory log is p d there))
-
-pub fr_twice_contradicts : (theory : Theory) (log : Log) → IsLog theory log → (v : Valuation) (es : List Event) → takes_fr_twice es ≡ true → Every (HappensIn log v) es → ⊥
-fr_twice_contradicts theory log is v [] e h = absurd cc
-fr_twice_contradicts theory log is v (d ∷ es) e h =
-    ⊎_elim
-    (λ k. fr_contradicts theory log is v (v.times d.time) d.happening h.0 k)
-    (λ k. fr_twice_contradicts theory log is v es k h.1)
-    (or_cases (repeats (happening_fresh d.happening)) (takes_fr_twice es) e)

@@ -1,7 +1,7 @@
 -- Links: two premises with one linear source are one, and so are the sources of one premise. The row makes their times one, and where
 -- that can't be there is no solution.
 use Rattle.std.proofs.Common.{◌≡◌, ◌≤◌, ℕ, Bool, true, false, not, ◌&&◌, nat_eq, slice_get, List, [], ◌∷◌, Option, Some, None, option_map, is_none, refl, sym, subst, ⊎_elim}
-use Rattle.std.proofs.lemmas.Bool.{or_cases, and_parts, eqb-true, eq-eqb}
+use Rattle.std.proofs.lemmas.Bool.{or_cases, and_parts, eqb-true}
 use Rattle.sp_spec.specs.Lists.{Every, AtPlace, AtPosition}
 use Rattle.sp_spec.specs.Term.{Names, Variable}
 use Rattle.sp_spec.specs.Rule.{Fact, Facts, fact_at}
@@ -17,17 +17,16 @@ use Rattle.sp_spec_system.specs.Equating.{same_source, same_premise}
 use Rattle.sp_spec_system.specs.MakingOne.{event_at, premise_at, made_one}
 use Rattle.sp_spec_graph.specs.LinearOnce.{is_linear, one_linear_source, premises_clash, sources_clash, premise_times, source_times, times_of_links, linear_once, cannot_link, fails_to_link}
 use Rattle.sp_law_graph.proofs.Two.{two_found, two_contradict}
-use Rattle.sp_spec_system.specs.Picked.{first_two, some_two}
-use Rattle.sp_spec_graph.specs.SourceTwice.{used_twice}
+use Rattle.sp_spec_system.specs.Picked.{first_two}
 use Rattle.std.specs.Option.{option_or}
 use Rattle.sp_spec.proofs.Options.{mapped, then_some}
-use Rattle.sp_law_formula.proofs.Literals.{covers_by_itself}
+use Rattle.sp_law_formula.proofs.OneCase.{covers_by_itself}
 use Rattle.sp_law_graph.proofs.Sources.{premise_event, one_source, source_once}
 use Rattle.sp_law_formula.proofs.Merged.{SolvedBy, NumberedFrom}
 use Rattle.sp_law_formula.proofs.MadeOne.{made_one_holds, made_one_numbered}
-use Rattle.sp_law_formula.proofs.Equations.{not_none}
+use Rattle.sp_law_formula.proofs.Equate.{not_none}
 use Rattle.sp_law_system.proofs.With.{BothUnder, LinkUnder}
-use Rattle.sp_law_formula.proofs.ActionCovers.{event_found}
+use Rattle.sp_law_formula.proofs.Action.{event_found}
 
 -- what holds of the times that links make one
 times_found : (P : Link → Type 0) (X : ℕ × ℕ → Type 0) (events : List Event) (links : List Link) (p : ℕ × ℕ) → times_of_links events links ≡ Some p → Every P links
@@ -43,9 +42,6 @@ times_found P X events links p e h taken given = at (first_two (premises_clash e
         let r = mapped source_times (first_two sources_clash links) p d in
         let two = two_found sources_clash P links r.0 r.1 h in
         subst X (sym r.2) (given r.0.0 r.0.1 two.0 two.1 two.2)
-
-differ : (i j : ℕ) → not (nat_eq i j) ≡ true → i ≡ j → ⊥
-differ i j e k = let h : nat_eq i j ≡ true = eq-eqb i j k in cc
 
 -- what a solution says of links
 module _ (theory : Theory) (log : Log) (is : IsLog theory log) (v : Valuation) where
@@ -75,7 +71,7 @@ module _ (theory : Theory) (log : Log) (is : IsLog theory log) (v : Valuation) w
           linear true k = absurd cc
           linear false k = refl
 
-  taken_once : (events : List Event) → Every (HappensIn log v) events → (l m : Link) → one_linear_source events l m ≡ true → LinkHolds log v l → LinkHolds log v m → (v.times l.to ≡ v.times m.to) × (l.premise ≡ m.premise)
+  pub taken_once : (events : List Event) → Every (HappensIn log v) events → (l m : Link) → one_linear_source events l m ≡ true → LinkHolds log v l → LinkHolds log v m → (v.times l.to ≡ v.times m.to) × (l.premise ≡ m.premise)
   taken_once events happen l m e h k =
       let both = and_parts (same_source l m) (is_linear (premise_at events l.to l.premise)) e in
       let source = and_parts (nat_eq l.from m.from) (nat_eq l.conclusion m.conclusion) both.0 in
@@ -84,7 +80,7 @@ module _ (theory : Theory) (log : Log) (is : IsLog theory log) (v : Valuation) w
       let named_too = subst (λ (x : ℕ). AtPlace k.2 m.premise (conclusion (v.times l.from) x)) (sym (eqb-true l.conclusion m.conclusion source.1)) named in
       source_once theory log is (v.times l.from) l.conclusion (v.times l.to) (v.times m.to) h.0 k.0 h.1 k.1 h.2 k.2 h.3 k.3 l.premise m.premise h.4 named_too f.0 f.1 f.2
 
-  given_once : (l m : Link) → same_premise l m ≡ true → LinkHolds log v l → LinkHolds log v m → (v.times l.from ≡ v.times m.from) × (l.conclusion ≡ m.conclusion)
+  pub given_once : (l m : Link) → same_premise l m ≡ true → LinkHolds log v l → LinkHolds log v m → (v.times l.from ≡ v.times m.from) × (l.conclusion ≡ m.conclusion)
   given_once l m e h k =
       let both = and_parts (nat_eq l.to m.to) (nat_eq l.premise m.premise) e in
       let there = subst (λ (x : ℕ). AtPosition log (v.times x) (step k.0 k.1 k.2)) (sym (eqb-true l.to m.to both.0)) k.3 in
@@ -99,21 +95,6 @@ module _ (theory : Theory) (log : Log) (is : IsLog theory log) (v : Valuation) w
 
   sources_one : (l m : Link) → sources_clash l m ≡ true → LinkHolds log v l → LinkHolds log v m → v.times l.from ≡ v.times m.from
   sources_one l m e h k = (given_once l m (and_parts (same_premise l m) (not (nat_eq l.from m.from)) e).0 h k).0
-
-  -- Source used twice.
-  used_contradicts : (events : List Event) → Every (HappensIn log v) events → (l m : Link) → used_twice events l m ≡ true → LinkHolds log v l → LinkHolds log v m → ⊥
-  used_contradicts events happen l m e h k =
-      ⊎_elim
-      (λ c.
-      let both = and_parts (one_linear_source events l m && nat_eq l.to m.to) (not (nat_eq l.premise m.premise)) c in
-      differ l.premise m.premise both.1 (taken_once events happen l m (and_parts (one_linear_source events l m) (nat_eq l.to m.to) both.0).0 h k).1)
-      (λ c.
-      let both = and_parts (same_premise l m && nat_eq l.from m.from) (not (nat_eq l.conclusion m.conclusion)) c in
-      differ l.conclusion m.conclusion both.1 (given_once l m (and_parts (same_premise l m) (nat_eq l.from m.from) both.0).0 h k).1)
-      (or_cases (one_linear_source events l m && nat_eq l.to m.to && not (nat_eq l.premise m.premise)) (same_premise l m && nat_eq l.from m.from && not (nat_eq l.conclusion m.conclusion)) e)
-
-  pub used_twice_contradicts : (s : System) → some_two (used_twice s.events) s.links ≡ true → Solves theory log v s → ⊥
-  used_twice_contradicts s e h = two_contradict (used_twice s.events) (LinkHolds log v) (used_contradicts s.events h.events) s.links e h.links
 
 module _ (N : Names) (right : UnifierIsRight) (theory : Theory) where
   times_in : (s : System) → IsNumbered N s → (p : ℕ × ℕ) → times_of_links s.events s.links ≡ Some p → BothUnder s.next p

@@ -16,10 +16,10 @@ use Rattle.sp_spec_system.specs.MakingOne.{made_one}
 use Rattle.sp_law_system.specs.Laws.{UnifierIsRight}
 use Rattle.sp_law_system.proofs.Solutions.{Under, TimeUnder}
 use Rattle.sp_law_system.proofs.With.{BothUnder}
-use Rattle.sp_law_formula.proofs.Literals.{covers_by_itself}
+use Rattle.sp_law_formula.proofs.OneCase.{covers_by_itself}
 use Rattle.sp_law_formula.proofs.Merged.{SolvedBy, NumberedFrom}
 use Rattle.sp_law_formula.proofs.MadeOne.{made_one_holds, made_one_numbered}
-use Rattle.sp_law_formula.proofs.Equations.{not_none}
+use Rattle.sp_law_formula.proofs.Equate.{not_none}
 use Rattle.sp_law_graph.proofs.Two.{two_found, two_contradict}
 
 abbrev pub times_of : Event × Event → ℕ × ℕ

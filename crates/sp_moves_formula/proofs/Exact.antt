@@ -1,13 +1,14 @@
 -- A move that takes up a formula has cases exactly where no clause of its condition fails.
-use Rattle.std.proofs.Common.{◌≡◌, ℕ, true, false, List, Option, Some, None, option_map, option_and_then, is_none, is_some, slice_get, refl, sym, ap, ◌∙◌}
+use Rattle.std.proofs.Common.{◌≡◌, ℕ, List, Option, Some, None, option_map, option_and_then, is_none, is_some, slice_get, refl, sym, ap, ◌∙◌}
 use Rattle.sp_spec.specs.Term.{Variable}
 use Rattle.sp_spec.specs.Rule.{Action}
 use Rattle.sp_spec.specs.Guarded.{Guarded, truth, falsity, holds, fails, all_of, one_of, some, every, acts, same, same_time, before, last, free_time, bound_time}
 use Rattle.sp_spec_system.specs.System.{System}
 use Rattle.sp_spec_system.specs.Formulas.{freed_action}
-use Rattle.sp_spec_system.specs.Move.{Move, or, action, Case}
+use Rattle.sp_spec_system.specs.Move.{Move, or, action}
 use Rattle.sp_spec_formula.specs.Action.{action_at_time, solving_action}
-use Rattle.sp_moves_formula.specs.WhyNot.{Clause, why_no_disjunction, why_not_freed, why_no_action, why_not_formula, formula_cases, HasCases}
+use Rattle.sp_moves_formula.specs.WhyNot.{why_no_disjunction, why_not_freed, why_no_action, why_not_formula, formula_cases}
+use Rattle.sp_moves.specs.Clause.{Clause, HasCases}
 use Rattle.sp_moves_formula.specs.Parts.{disjuncts, by_parts}
 use Rattle.sp_moves_formula.proofs.Parts.{parts_at}
 use Rattle.sp_spec_forms.specs.Forms.{RuleForms}
@@ -50,14 +51,3 @@ pub exactly : (rules : List RuleForms) (s : System) (m : Move) → HasCases (why
 exactly rules s (or k) = record { exact = by_disjunction s k (slice_get s.formulas k) ∙ ap is_some (sym (parts_at s k)) }
 exactly rules s (action k) = record { exact = by_place rules s (slice_get s.formulas k) }
 exactly rules s move = record { exact = refl }
-
-differ : true ≡ false → ⊥
-differ e = absurd cc
-
--- where there are cases no clause fails, and where there are none one does
-pub some_there : (why : Option Clause) (cases : Option (List Case)) (cs : List Case) → HasCases why cases → Some cs ≡ cases → None ≡ why
-some_there None cases cs h e = refl
-some_there (Some c) cases cs h e = absurd (differ (sym (h.exact ∙ ap is_some (sym e))))
-
-pub none_there : (why : Option Clause) (cases : Option (List Case)) → HasCases why cases → None ≡ cases → None ≡ why → ⊥
-none_there why cases h e w = differ (ap is_none w ∙ h.exact ∙ ap is_some (sym e))

@@ -9,7 +9,8 @@ use Rattle.sp_spec_system.specs.System.{System}
 use Rattle.sp_spec_system.specs.Equating.{argument_pairs, unifier_of, system_changed}
 use Rattle.sp_spec_formula.specs.Action.{by_actions, with_step, by_forms}
 use Rattle.sp_spec_system.specs.Cases.{system_if, named}
-use Rattle.sp_moves_formula.specs.Sought.{shifted, by_rule}
+use Rattle.sp_moves_formula.specs.Sought.{by_rule}
+use Rattle.sp_moves.specs.Shifted.{shifted}
 use Rattle.sp_book.specs.Book.{has_action, shows}
 use Rattle.sp_spec_forms.specs.Numbering.{Form}
 use Rattle.sp_spec_forms.specs.Forms.{RuleForms}

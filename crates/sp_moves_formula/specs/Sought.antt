@@ -1,6 +1,6 @@
 -- What the functions of this crate give, in parts of the written move.
-use Rattle.std.specs.Prelude.{ℕ, ◌+◌, List, [], ◌∷◌, if◌then◌else◌, Option, Some, None, option_map, bytes_eq, codes}
-use Rattle.sp_spec.specs.Term.{Variable, Term, var}
+use Rattle.std.specs.Prelude.{ℕ, List, [], ◌∷◌, if◌then◌else◌, Option, Some, None, option_map, bytes_eq, codes}
+use Rattle.sp_spec.specs.Term.{Variable, Term}
 use Rattle.sp_spec.specs.Rule.{Action}
 use Rattle.sp_spec.specs.Guarded.{Guarded, holds, acts, free_time}
 use Rattle.sp_spec_system.specs.Formulas.{freed_action}
@@ -19,10 +19,6 @@ timed i a = (i, a)
 abbrev pub sought : Guarded → Option (ℕ × Action Variable)
 sought (holds (acts a (free_time i))) = option_map (timed i) (freed_action a)
 sought f = None
-
--- a rule's variable, of a number from next on
-abbrev pub shifted : ℕ → Variable → Term Variable
-shifted next x = var (record { sort = x.sort; number = next + x.number })
 
 -- the systems with a new step by one form of a rule
 abbrev pub by_form : List ℕ → Form → System → ℕ → Action Variable → List System

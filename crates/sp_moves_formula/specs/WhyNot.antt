@@ -1,5 +1,5 @@
 -- Why a move is no instance, and the cases of the moves that take up a formula.
-use Rattle.std.specs.Prelude.{◌≡◌, List, Option, Some, None, is_none, is_some, slice_get}
+use Rattle.std.specs.Prelude.{List, Option, Some, None, slice_get}
 use Rattle.sp_spec.specs.Term.{Variable}
 use Rattle.sp_spec.specs.Rule.{Action}
 use Rattle.sp_spec.specs.Guarded.{Guarded, holds, acts, one_of, free_time}
@@ -9,17 +9,7 @@ use Rattle.sp_spec_system.specs.Move.{Move, or, action, Case}
 use Rattle.sp_spec_formula.specs.Action.{solving_action}
 use Rattle.sp_spec_formula.specs.Or.{disjunction_at, or_cases}
 use Rattle.sp_spec_forms.specs.Forms.{RuleForms}
-
--- What fails of a move's condition: of these the first that does.
-pub data Clause : Type 0 where
-  -- the move is none of those that are asked about
-  another_crate : Clause
-  -- a position, a time or a premise that the move names isn't in the system
-  absent : Clause
-  -- what stands there isn't of the kind that the move asks for
-  other_kind : Clause
-  -- the rest of the condition
-  condition : Clause
+use Rattle.sp_moves.specs.Clause.{Clause, another_crate, absent, other_kind}
 
 abbrev pub why_no_disjunction : Option Guarded → Option Clause
 why_no_disjunction None = Some absent
@@ -46,7 +36,3 @@ abbrev pub formula_cases : List RuleForms → System → Move → Option (List C
 formula_cases rules s (or k) = or_cases s (disjunction_at k s.formulas)
 formula_cases rules s (action k) = solving_action rules s (slice_get s.formulas k)
 formula_cases rules s move = None
-
--- no clause fails exactly where there are cases
-pub record HasCases (why : Option Clause) (cases : Option (List Case)) : Type 0 where
-  pub exact : is_none why ≡ is_some cases

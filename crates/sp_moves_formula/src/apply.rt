@@ -3,41 +3,21 @@
 ghost use Rattle.std.specs.Prelude.{◌≡◌, Some, IfOk, map, option_map};
 ghost use Rattle.sp_formula.specs.FormulaView.{formula_of};
 ghost use Rattle.sp_system.specs.SystemView.{system_of};
-ghost use Rattle.sp_moves_formula.specs.View.{case_of, move_of};
+ghost use Rattle.sp_moves.specs.View.{case_of, move_of};
 ghost use Rattle.sp_book.specs.BookView.{book_of};
-ghost use Rattle.sp_moves_formula.specs.WhyNot.{HasCases, why_no_disjunction, why_no_action, why_not_formula, formula_cases};
-ghost use Rattle.sp_moves_formula.specs.Applied.{clause_of, cases_of, failing};
+ghost use Rattle.sp_moves_formula.specs.WhyNot.{why_no_disjunction, why_no_action, why_not_formula, formula_cases};
+ghost use Rattle.sp_moves.specs.Clause.{HasCases};
+ghost use Rattle.sp_moves.specs.Applied.{clause_of, cases_of, failing};
 
-use crate::moves::{Case, Move, formula_at};
-use crate::part::or_cases;
+use crate::or::or_cases;
 use crate::solving::solving_action;
 use sp_book::book::RuleBook;
 use sp_formula::formula::{Atom, Formula, Moment};
+use sp_moves::applied::{Applied, Clause};
+use sp_moves::moves::{Case, Move, formula_at};
 use sp_system::freed::freed_action;
 use sp_system::system::System;
 use std::alloc::{AllocError, Global};
-
-/// What fails of a move's condition: the first of these that does.
-#[derive(Clone, Copy, Debug, PartialEq, Eq)]
-pub enum Clause {
-    /// the move is none of those that the call applies
-    AnotherCrate,
-    /// a position, a time or a premise that the move names isn't in the system
-    Absent,
-    /// what stands there isn't of the kind that the move asks for
-    OtherKind,
-    /// the rest of the move's condition fails
-    Condition,
-}
-
-/// What applying a move gives.
-#[derive(Drop)]
-pub enum Applied {
-    /// its cases
-    Cases(Vec<Case>),
-    /// no cases, since it is no instance
-    NotAnInstance(Clause),
-}
 
 fn why_no_disjunction(formula: &Formula) -> Option<Clause>
     ensures { option_map clause_of result ≡ why_no_disjunction (Some (formula_of formula.now)) }

@@ -4,10 +4,10 @@ ghost use Rattle.std.specs.Prelude.{◌≡◌, IfOk, ◌++◌, codes, decimal, m
 ghost use Rattle.sp_spec_system.specs.MakingOne as making_one;
 ghost use Rattle.sp_system.specs.SystemView.{event_of, system_of};
 ghost use Rattle.sp_spec_formula.specs.Action as spec;
-ghost use Rattle.sp_moves_formula.specs.View.{case_of};
+ghost use Rattle.sp_moves.specs.View.{case_of};
 
-use crate::moves::Case;
-use sp_system::made_one::made_one;
+use sp_merge::made_one::made_one;
+use sp_moves::moves::Case;
 use sp_system::system::System;
 use std::alloc::{AllocError, Global};
 

@@ -4,11 +4,11 @@ ghost use Rattle.std.specs.Prelude.{◌≡◌, IfOk, ◌++◌, codes, decimal, m
 ghost use Rattle.sp_fact.specs.View.{action_of};
 ghost use Rattle.sp_system.specs.SystemView.{system_of};
 ghost use Rattle.sp_spec_formula.specs.Action as spec;
-ghost use Rattle.sp_moves_formula.specs.View.{case_of};
+ghost use Rattle.sp_moves.specs.View.{case_of};
 
-use crate::moves::Case;
-use crate::where_same::where_same;
 use sp_fact::fact::Action;
+use sp_moves::moves::Case;
+use sp_moves::where_same::where_same;
 use sp_system::system::System;
 use std::alloc::{AllocError, Global};
 

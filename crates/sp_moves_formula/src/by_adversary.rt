@@ -5,11 +5,11 @@ ghost use Rattle.sp_term.specs.View.{name_of, view, view_all};
 ghost use Rattle.sp_spec_system.specs.System as system_spec;
 ghost use Rattle.sp_system.specs.SystemView.{event_of, system_of};
 ghost use Rattle.sp_spec_formula.specs.Action as spec;
-ghost use Rattle.sp_moves_formula.specs.View.{case_of};
+ghost use Rattle.sp_moves.specs.View.{case_of};
 ghost use Rattle.sp_moves_formula.specs.Sought.{by_message};
 
-use crate::moves::Case;
 use sp_fact::fact::Action;
+use sp_moves::moves::Case;
 use sp_system::event::Event;
 use sp_system::picked::only_term;
 use sp_system::system::System;

@@ -7,46 +7,21 @@ ghost use Rattle.sp_book.specs.View.{form_of, rule_forms_of};
 ghost use Rattle.sp_book.specs.BookView.{book_of};
 ghost use Rattle.sp_system.specs.SystemView.{system_of};
 ghost use Rattle.sp_spec_formula.specs.Action as spec;
-ghost use Rattle.sp_moves_formula.specs.View.{case_of};
+ghost use Rattle.sp_moves.specs.View.{case_of};
 ghost use Rattle.sp_moves_formula.specs.Sought.{by_form, by_rule};
 ghost use Rattle.sp_moves_formula.specs.Book.{by_found};
 
-use crate::moves::Case;
-use crate::named::named;
-use crate::renamed::renamed;
-use crate::where_same::by_actions;
 use sp_book::book::RuleBook;
 use sp_book::form::{Form, RuleForms};
 use sp_fact::fact::Action;
-use sp_system::event::Event;
+use sp_moves::moves::Case;
+use sp_moves::named::named;
+use sp_moves::renamed::renamed;
+use sp_moves::where_same::by_actions;
+use sp_moves::with_step::with_step;
 use sp_system::system::System;
 use sp_term::term::Name;
 use std::alloc::{AllocError, Global};
-
-/// The system with one more event: a step at the time by a form of the rule of this name, over variables that are new.
-///
-/// # Errors
-///
-/// `AllocError` where memory is wanting, or no number is left.
-pub fn with_step(
-    alloc: Global,
-    system: &System,
-    time: u128,
-    name: &Name,
-    form: &Form,
-) -> Result<System, AllocError>
-    ensures { IfOk result (λ s. system_of s ≡ spec.with_step (system_of system.now) time (name_of name.now) (form_of form.now)) }
-{
-    let Some(next) = system.next.checked_add(form.count as u128) else {
-        return Err(AllocError);
-    };
-    let facts = renamed(alloc, system.next, &form.facts)?;
-    let event = Event::step(time, name.clone()?, facts);
-    let mut made = system.clone()?;
-    made.events.push(event)?;
-    made.next = next;
-    Ok(made)
-}
 
 // By one form of the rule.
 fn by_form(

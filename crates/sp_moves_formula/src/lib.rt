@@ -1,8 +1,8 @@
 // The moves of a proof that take up a formula: a disjunction by its parts, an action at its event or at a new one, where a rule
 // has a step or the adversary sends or learns; in a closed system at some event that it has.
-// Below stand what the moves are (sp_spec_formula), systems in memory (sp_system) and the forms of rules in memory (sp_book); above stand the move that
-// takes up a premise (sp_moves_graph), which shares the renaming of rules and the names of cases, and all moves together (sp_step). Each call is exact: it gives the cases that the written move gives, before they are simplified, and none where
-// the move is no instance. Carried here: the promise that no case of these moves is left out.
+// Below stand what the moves are (sp_spec_formula), systems in memory (sp_system), times that are made one (sp_merge), the book of rules (sp_book),
+// and what moves share (sp_moves); above stand all moves together (sp_step). Each call is exact: it gives the cases that the written move gives,
+// before they are simplified, and none where the move is no instance. Carried here: the promise that no case of these moves is left out.
 #![tactic(auto)]
 
 pub mod action;
@@ -11,9 +11,5 @@ mod at_each;
 mod at_event;
 mod by_adversary;
 pub mod by_rules;
-pub mod moves;
-pub mod named;
-pub mod part;
-pub mod renamed;
+pub mod or;
 pub mod solving;
-pub mod where_same;

@@ -1,36 +1,17 @@
 -- A move on a premise has cases exactly where no clause of its condition fails.
-use Rattle.std.proofs.Common.{◌≡◌, ℕ, Bool, true, false, ◌||◌, ◌==◌, if◌then◌else◌, List, [], ◌∷◌, Option, Some, None, option_and_then, is_none, is_some, slice_get, refl, sym, ap, ◌∙◌}
+use Rattle.std.proofs.Common.{◌≡◌, ℕ, Bool, true, false, ◌||◌, if◌then◌else◌, List, Option, Some, None, option_and_then, is_none, is_some, slice_get, refl, sym, ap, ◌∙◌}
 use Rattle.sp_spec.specs.Term.{Variable}
 use Rattle.sp_spec.specs.Rule.{Fact}
 use Rattle.sp_spec.specs.Log.{is_fr, is_in}
-use Rattle.sp_spec.specs.Guarded.{Guarded, guardeds_of}
 use Rattle.sp_spec_system.specs.System.{Happening, rule_step, sending, learning, happening_premises, Event, System}
 use Rattle.sp_spec_system.specs.MakingOne.{event_at}
 use Rattle.sp_spec_system.specs.Move.{Move, premise}
 use Rattle.sp_spec_graph.specs.Premise.{is_linked, of_a_step, open_premise, premise_cases}
-use Rattle.sp_moves_formula.specs.WhyNot.{Clause, absent, condition, HasCases}
+use Rattle.sp_moves.specs.Clause.{Clause, absent, condition, HasCases}
 use Rattle.sp_spec_system.specs.Occurring.{has_time}
-use Rattle.sp_moves_graph.specs.Times.{formula_has, one_has, formulas_have, happening_has, events_have}
-use Rattle.sp_moves_graph.proofs.Occurring.{each_part}
+use Rattle.sp_moves.proofs.NoEvent.{no_time}
 use Rattle.sp_moves_graph.specs.WhyNot.{why_not_open, why_not_at, why_not_of, why_not_graph, graph_cases}
 use Rattle.sp_spec_forms.specs.Forms.{RuleForms}
-
--- an event's time is in the system
-no_event : (i : ℕ) (es : List Event) → events_have i es ≡ false → event_at i es ≡ None
-no_event i [] e = refl
-no_event i (x ∷ es) e = at (x.time == i) (happening_has i x.happening) e (no_event i es)
-  where
-    at : (b d : Bool) → ((b || d) || events_have i es) ≡ false → (events_have i es ≡ false → event_at i es ≡ None) → (let r : Option Event = if b then Some x else event_at i es in r) ≡ None
-    at true d h later = absurd cc
-    at false true h later = absurd cc
-    at false false h later = later h
-
-pub none_left : (a b : Bool) → (a || b) ≡ false → a ≡ false
-none_left false b e = refl
-none_left true b e = absurd cc
-
-pub no_time : (i : ℕ) (s : System) → has_time i s ≡ false → event_at i s.events ≡ None
-no_time i s e = no_event i s.events (none_left (events_have i s.events) _ (sym (each_part i s) ∙ e))
 
 by_fact : (rules : List RuleForms) (s : System) (i p : ℕ) (f : Fact Variable) (linked closed : Bool)
     → is_none (let r : Option Clause = if linked || closed then Some condition else None in r)
@@ -75,7 +56,3 @@ by_time rules s i p false e =
 pub exactly : (rules : List RuleForms) (s : System) (m : Move) → HasCases (why_not_graph s m) (graph_cases rules s m)
 exactly rules s (premise i p) = record { exact = by_time rules s i p (has_time i s) refl }
 exactly rules s move = record { exact = refl }
-
-pub one_of_listed : (i : ℕ) (fs : List Guarded) → one_has i (guardeds_of fs) ≡ formulas_have i fs
-one_of_listed i [] = refl
-one_of_listed i (f ∷ fs) = ap (λ (b : Bool). formula_has i f || b) (one_of_listed i fs)

@@ -1,2 +1,1 @@
 pub mod Exact
-pub mod Occurring

@@ -1,3 +1,2 @@
 pub mod PremiseRules
-pub mod Times
 pub mod WhyNot

@@ -7,7 +7,7 @@ use Rattle.sp_spec_system.specs.System.{Happening, rule_step, Event, System}
 use Rattle.sp_spec_system.specs.MakingOne.{event_at}
 use Rattle.sp_spec_system.specs.Move.{Move, premise, Case}
 use Rattle.sp_spec_graph.specs.Premise.{is_linked, open_premise, premise_cases}
-use Rattle.sp_moves_formula.specs.WhyNot.{Clause, another_crate, absent, other_kind, condition}
+use Rattle.sp_moves.specs.Clause.{Clause, another_crate, absent, other_kind, condition}
 use Rattle.sp_spec_system.specs.Occurring.{has_time}
 use Rattle.sp_spec_forms.specs.Forms.{RuleForms}
 

@@ -9,19 +9,18 @@ ghost use Rattle.sp_system.specs.SystemView.{system_of};
 ghost use Rattle.sp_spec_graph.specs.Premise as spec;
 ghost use Rattle.sp_spec_system.specs.Cases as cases_spec;
 ghost use Rattle.sp_spec_system.specs.MakingOne as making_one;
-ghost use Rattle.sp_moves_formula.specs.View.{case_of};
+ghost use Rattle.sp_moves.specs.View.{case_of};
 ghost use Rattle.sp_moves_graph.specs.PremiseRules.{by_form, by_source};
 
 use sp_book::book::RuleBook;
 use sp_book::form::{Form, RuleForms};
 use sp_fact::fact::Fact;
-use sp_moves_formula::moves::{Case, place_in};
-use sp_moves_formula::named::named;
-use sp_moves_formula::renamed::renamed;
-use sp_moves_formula::where_same::fact_unifier;
-use sp_rows_graph::fresh_once::is_fresh;
-use sp_rows_graph::learning::after;
-use sp_rows_graph::send_input::{is_linked, is_received};
+use sp_learnings::learning::after;
+use sp_learnings::premise::{is_fresh, is_linked, is_received};
+use sp_moves::moves::{Case, place_in};
+use sp_moves::named::named;
+use sp_moves::renamed::renamed;
+use sp_moves::where_same::fact_unifier;
 use sp_system::at_time::{event_at, premise_at};
 use sp_system::event::Event;
 use sp_system::system::{Link, System};
@@ -89,7 +88,7 @@ fn with_source(
         to: premise.time,
         premise: premise.place,
     })?;
-    made.order.push((time, premise.time))?;
+    made.order.add(alloc, time, premise.time)?;
     made.next = next;
     Ok(made)
 }

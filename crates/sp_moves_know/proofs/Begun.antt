@@ -5,7 +5,7 @@ use Rattle.sp_term.specs.View.{view}
 use Rattle.sp_term.specs.declared.term.Term.{Term}
 use Rattle.sp_term.specs.declared.term.Variable.{Variable}
 use Rattle.sp_spec_system.specs.System.{learning, chain_begun}
-use Rattle.sp_spec_graph.specs.Chain.{Begun, begun, last_of}
+use Rattle.sp_spec_know.specs.Chain.{Begun, begun, last_of}
 
 last_there : (t : Term Variable) (ts : List (Term Variable)) → option_map view (slice_get (t ∷ ts) (length ts)) ≡ Some (last_of (view t) (map view ts))
 last_there t [] = refl

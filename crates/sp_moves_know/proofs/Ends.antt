@@ -5,7 +5,7 @@ use Rattle.sp_spec.specs.Term.{app}
 use Rattle.sp_term.specs.View.{view_all}
 use Rattle.sp_term.specs.declared.term.Term.{Term}
 use Rattle.sp_term.specs.declared.term.Variable.{Variable}
-use Rattle.sp_spec_graph.specs.Chain.{is_no_end}
+use Rattle.sp_spec_know.specs.Chain.{is_no_end}
 
 pub pair_of_two : (f : List ℕ) (ts : List (Term Variable)) → length ts ≡ 2 → is_no_end (app f (view_all ts)) ≡ bytes_eq f (codes "pair")
 pair_of_two f [] e = absurd (omega (arith, e))

@@ -6,12 +6,12 @@ use Rattle.sp_spec_system.specs.System.{Event, System}
 use Rattle.sp_spec_system.specs.MakingOne.{event_at}
 use Rattle.sp_spec_system.specs.Rules.{Rules}
 use Rattle.sp_spec_system.specs.Move.{Move, know, chain, Case}
-use Rattle.sp_spec_graph.specs.SettleLearn.{settling}
-use Rattle.sp_spec_graph.specs.Know.{learnt_anyhow, is_message_variable, if_wanted, wanted_at}
-use Rattle.sp_spec_graph.specs.Chain.{Begun, begun, begun_at}
-use Rattle.sp_moves_formula.specs.WhyNot.{Clause, another_crate, absent, condition, HasCases}
+use Rattle.sp_spec_know.specs.SettleLearn.{settling}
+use Rattle.sp_spec_know.specs.Know.{learnt_anyhow, is_message_variable, if_wanted, wanted_at}
+use Rattle.sp_spec_know.specs.Chain.{Begun, begun, begun_at}
+use Rattle.sp_moves.specs.Clause.{Clause, another_crate, absent, condition, HasCases}
 use Rattle.sp_spec_system.specs.Occurring.{has_time}
-use Rattle.sp_moves_graph.proofs.Exact.{no_time}
+use Rattle.sp_moves.proofs.NoEvent.{no_time}
 use Rattle.sp_moves_know.specs.WhyNot.{why_not_wanted, why_not_known, why_not_begun, why_not_chained, why_not_learning, learning_cases}
 
 -- ---- how a message is learnt

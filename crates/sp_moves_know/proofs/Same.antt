@@ -6,7 +6,7 @@ use Rattle.sp_spec.specs.Substitution.{Binding, bound_to}
 use Rattle.sp_spec.specs.Unifier.{mgu}
 use Rattle.sp_spec_system.specs.System.{System}
 use Rattle.sp_spec_system.specs.Equating.{system_changed}
-use Rattle.sp_spec_graph.specs.Chain.{Begun, numbered_from, variables_of, with_link, with_same}
+use Rattle.sp_spec_know.specs.Chain.{Begun, numbered_from, variables_of, with_link, with_same}
 use Rattle.sp_moves_know.specs.Linking.{with_longer}
 
 pub same_there : (s t made : System) (a b : Term Variable) (bs : List Binding) → Some bs ≡ mgu ((a, b) ∷ []) → t ≡ s

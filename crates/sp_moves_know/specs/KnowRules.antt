@@ -7,7 +7,7 @@ use Rattle.sp_spec_forms.specs.Forms.{RuleForms}
 use Rattle.sp_spec_system.specs.System.{System, chain_begun, with_pairs, with_next}
 use Rattle.sp_spec_system.specs.Cases.{renamed, named}
 use Rattle.sp_spec_system.specs.Move.{Case}
-use Rattle.sp_spec_graph.specs.Know.{with_way, made_case, own_case, by_outputs, output_forms, by_each_output}
+use Rattle.sp_spec_know.specs.Know.{with_way, made_case, own_case, by_outputs, output_forms, by_each_output}
 
 -- a chain begins with this message, put out at the place by an event that is still to be made, of the next number and before that time
 abbrev pub with_begun : System → ℕ → ℕ → Term Variable → System

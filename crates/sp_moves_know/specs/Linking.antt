@@ -5,8 +5,8 @@ use Rattle.sp_spec.specs.Same.{same_variable}
 use Rattle.sp_spec.specs.Destruction.{Destruction}
 use Rattle.sp_spec_forms.specs.Numbering.{without_repeats, place}
 use Rattle.sp_spec_system.specs.System.{chain_begun, System, with_next}
-use Rattle.sp_spec_graph.specs.Know.{with_way, with_learnings}
-use Rattle.sp_spec_graph.specs.Chain.{Begun, numbered_from, with_link, with_same}
+use Rattle.sp_spec_know.specs.Know.{with_way, with_learnings}
+use Rattle.sp_spec_know.specs.Chain.{Begun, numbered_from, with_link, with_same}
 
 -- its variables, as they are first seen
 abbrev pub seen_in : Destruction → List Variable

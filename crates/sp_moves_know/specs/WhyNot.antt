@@ -7,10 +7,10 @@ use Rattle.sp_spec_system.specs.System.{Event, System}
 use Rattle.sp_spec_system.specs.MakingOne.{event_at}
 use Rattle.sp_spec_system.specs.Rules.{Rules}
 use Rattle.sp_spec_system.specs.Move.{Move, know, chain, Case}
-use Rattle.sp_spec_graph.specs.SettleLearn.{settling}
-use Rattle.sp_spec_graph.specs.Know.{learnt_anyhow, is_message_variable, know_cases}
-use Rattle.sp_spec_graph.specs.Chain.{Begun, begun, chain_cases}
-use Rattle.sp_moves_formula.specs.WhyNot.{Clause, another_crate, absent, other_kind, condition}
+use Rattle.sp_spec_know.specs.SettleLearn.{settling}
+use Rattle.sp_spec_know.specs.Know.{learnt_anyhow, is_message_variable, know_cases}
+use Rattle.sp_spec_know.specs.Chain.{Begun, begun, chain_cases}
+use Rattle.sp_moves.specs.Clause.{Clause, another_crate, absent, other_kind, condition}
 use Rattle.sp_spec_system.specs.Occurring.{has_time}
 
 -- the move asks for a message that is learnt anyhow, no message variable, and not settled

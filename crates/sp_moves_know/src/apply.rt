@@ -3,9 +3,9 @@
 ghost use Rattle.std.specs.Prelude.{◌≡◌, Some, IfOk, map, option_map};
 ghost use Rattle.sp_fact.specs.GroundView.{symbol_of};
 ghost use Rattle.sp_system.specs.SystemView.{event_of, system_of};
-ghost use Rattle.sp_moves_formula.specs.View.{case_of, move_of};
-ghost use Rattle.sp_moves_formula.specs.Applied.{clause_of, cases_of, failing};
-ghost use Rattle.sp_moves_formula.specs.WhyNot.{HasCases};
+ghost use Rattle.sp_moves.specs.View.{case_of, move_of};
+ghost use Rattle.sp_moves.specs.Applied.{clause_of, cases_of, failing};
+ghost use Rattle.sp_moves.specs.Clause.{HasCases};
 ghost use Rattle.sp_moves_know.specs.RulesView.{rules_of};
 ghost use Rattle.sp_moves_know.specs.WhyNot.{why_not_known, why_not_know, why_not_chained, why_not_chain, why_not_learning, learning_cases};
 
@@ -13,9 +13,9 @@ use crate::chain::chain_cases;
 use crate::know::{is_unasked, know_cases, learnt_anyhow};
 use sp_book::book::RuleBook;
 use sp_fact::signature::{Signature, Symbol};
-pub use sp_moves_formula::apply::{Applied, Clause};
-use sp_moves_formula::moves::{Case, Move};
-use sp_moves_graph::times::has_time;
+use sp_moves::applied::{Applied, Clause};
+use sp_moves::moves::{Case, Move};
+use sp_moves::times::has_time;
 use sp_system::at_time::event_at;
 use sp_system::event::{Event, What};
 use sp_system::system::System;

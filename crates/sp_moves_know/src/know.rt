@@ -11,9 +11,9 @@ ghost use Rattle.sp_book.specs.BookView.{book_of};
 ghost use Rattle.sp_system.specs.SystemView.{event_of, system_of};
 ghost use Rattle.sp_system.specs.WayView.{way_of};
 ghost use Rattle.sp_spec_system.specs.System.{chain_begun};
-ghost use Rattle.sp_spec_graph.specs.Know as spec;
-ghost use Rattle.sp_spec_graph.specs.SettleLearn.{settling};
-ghost use Rattle.sp_moves_formula.specs.View.{case_of};
+ghost use Rattle.sp_spec_know.specs.Know as spec;
+ghost use Rattle.sp_spec_know.specs.SettleLearn.{settling};
+ghost use Rattle.sp_moves.specs.View.{case_of};
 ghost use Rattle.sp_moves_know.specs.KnowRules.{with_begun, output_form, output_cases, cases_for};
 
 use sp_book::book::RuleBook;
@@ -21,12 +21,12 @@ use sp_book::form::{Form, RuleForms};
 use sp_destruct::destruction::may_apply;
 use sp_fact::fact::Fact;
 use sp_fact::signature::{Signature, Symbol};
-use sp_moves_formula::by_rules::with_step;
-use sp_moves_formula::moves::Case;
-use sp_moves_formula::named::named;
-use sp_moves_formula::renamed::renamed;
-use sp_rows_graph::learning::{add_learning, after, learn_by};
-use sp_rows_graph::settle_learn::settling_at;
+use sp_learnings::learning::{add_learning, after, learn_by};
+use sp_learnings::settling::settling_at;
+use sp_moves::moves::Case;
+use sp_moves::named::named;
+use sp_moves::renamed::renamed;
+use sp_moves::with_step::with_step;
 use sp_system::at_time::event_at;
 use sp_system::event::{Event, What};
 use sp_system::picked::only_term;
@@ -215,7 +215,7 @@ fn with_begun(
     let next = after(system.next)?;
     let way = begun_by(alloc, system.next, place, message)?;
     let mut begun = with_way(alloc, system, time, &way)?;
-    begun.order.push((system.next, time))?;
+    begun.order.add(alloc, system.next, time)?;
     begun.next = next;
     Ok(begun)
 }

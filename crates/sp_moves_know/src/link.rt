@@ -6,7 +6,7 @@ ghost use Rattle.sp_spec.specs.Term.{valued, valued_all};
 ghost use Rattle.sp_term.specs.View.{variable_of, view, view_all};
 ghost use Rattle.sp_destruct.specs.View.{destruction_of};
 ghost use Rattle.sp_variant.specs.View.{list_by};
-ghost use Rattle.sp_spec_graph.specs.Chain.{numbered_from, variables_of};
+ghost use Rattle.sp_spec_know.specs.Chain.{numbered_from, variables_of};
 ghost use Rattle.sp_moves_know.specs.Linking.{placed_from, seen_in};
 
 use sp_destruct::destruction::Destruction;

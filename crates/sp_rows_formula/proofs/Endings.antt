@@ -5,7 +5,7 @@ use Rattle.sp_spec_system.specs.Formulas.{Found, first_formula, spending}
 use Rattle.sp_spec_formula.specs.Equate.{equal_times}
 use Rattle.sp_spec_formula.specs.Last.{Ending, is_last, before_last, ending_of, made_last, ended_by, sets_last}
 use Rattle.sp_system.specs.SpendView.{spending_at}
-use Rattle.sp_rows_formula.specs.EndingView.{instead, ended, ended_at}
+use Rattle.sp_rows_formula.specs.LastView.{instead, ended, ended_at}
 use Rattle.sp_rows_formula.specs.RowsView.{position_of}
 use Rattle.sp_rows_formula.proofs.Positions.{spends, joined, joins}
 use Rattle.sp_rows_formula.proofs.Spent.{as_many, equated_spent}

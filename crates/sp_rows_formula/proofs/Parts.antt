@@ -12,7 +12,7 @@ use Rattle.sp_spec_formula.specs.Split.{is_falsity}
 use Rattle.sp_spec_formula.specs.Disjunction.{without_false, disjunction_of}
 use Rattle.sp_rows_formula.specs.RowsView.{position_at, position_of}
 use Rattle.sp_rows_formula.specs.PartsView.{false_of}
-use Rattle.sp_system.proofs.Merges.{cut, cut_map}
+use Rattle.sp_merge.proofs.Merges.{cut, cut_map}
 use Rattle.sp_rows_formula.proofs.Searches.{IsLeft, left_other, left_stands, place_within}
 
 seen : (f : Guarded) (b : Bool) → is_falsity f ≡ b → is_some (false_of f) ≡ b

@@ -11,7 +11,7 @@ use Rattle.sp_spec_system.specs.Equating.{Merging, merging, order_changed, syste
 use Rattle.sp_spec_system.specs.MakingOne.{Joining, MergingEvents, all_joined, at_times, joined, learnt_by_at, made_one, merging_events, one_time, turn, unified, with_times}
 use Rattle.sp_spec_formula.specs.Equate.{Equation, equal_terms, equal_times, equated}
 use Rattle.sp_system.specs.SpendView.{spending_at}
-use Rattle.sp_system.proofs.Merges.{cut, cut_map}
+use Rattle.sp_merge.proofs.Merges.{cut, cut_map}
 
 abbrev spent : ℕ → Option System → Option System
 spent k o = option_map (λ t. spending_at t k []) o

@@ -1,8 +1,8 @@
 pub mod RowsView
 pub mod OpeningView
 pub mod InsideView
-pub mod EquationView
-pub mod EndingView
+pub mod EquateView
+pub mod LastView
 pub mod SlotsView
 pub mod PartsView
 pub mod MatchesView

@@ -13,7 +13,7 @@ use Rattle.sp_formula.specs.declared.formula.Binder as memory_binder
 use Rattle.sp_formula.specs.declared.formula.Formula.{Formula}
 use Rattle.sp_spec_formula.specs.Open as rows
 use Rattle.sp_system.specs.SpendView.{spending_at}
-use Rattle.sp_rows_formula.specs.declared.existential.Opened.{Opened}
+use Rattle.sp_rows_formula.specs.declared.open_existential.Opened.{Opened}
 use Rattle.sp_rows_formula.specs.declared.opening.Values.{Values}
 
 -- one after another, so that the last one is the innermost

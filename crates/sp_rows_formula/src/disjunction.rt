@@ -9,7 +9,7 @@ ghost use Rattle.sp_rows_formula.specs.PartsView.{false_of};
 ghost use Rattle.sp_rows_formula.specs.RowsView.{picked_of, position_of};
 ghost use Rattle.sp_system.specs.Reduced.{Reduced};
 
-use crate::contradiction::is_falsity;
+use crate::split::is_falsity;
 use sp_formula::formula::Formula;
 use sp_formula::same::same_formula;
 use sp_system::spend::spend_for;

@@ -4,13 +4,14 @@ ghost use Rattle.std.specs.Prelude.{◌≡◌, ◌<◌, IfOk, OnOk, Some, length
 ghost use Rattle.sp_formula.specs.FormulaView.{formula_of};
 ghost use Rattle.sp_system.specs.SystemView.{event_of, system_of};
 ghost use Rattle.sp_spec_formula.specs.Last as rows;
-ghost use Rattle.sp_rows_formula.specs.EndingView as view;
+ghost use Rattle.sp_rows_formula.specs.LastView as view;
 ghost use Rattle.sp_rows_formula.specs.RowsView.{position_of};
 ghost use Rattle.sp_system.specs.Reduced.{Reduced};
 
-use crate::equation::{times_equated, times_fail};
-use crate::order::is_not_before;
+use crate::equate::{times_equated, times_fail};
+use crate::in_order::is_not_before;
 use sp_formula::formula::{Atom, Formula, Moment};
+use sp_order::order::Order;
 use sp_system::event::Event;
 use sp_system::order::begins_at;
 use sp_system::spend::{spend, spend_for};
@@ -150,11 +151,11 @@ pub fn fails_to_last(alloc: Global, system: &System) -> Result<bool, AllocError>
 }
 
 /// Whether some time is after the last one.
-pub fn has_later(last: Option<u128>, order: &Vec<(u128, u128)>) -> bool
-    ensures { result ≡ rows.has_later last order.now.items }
+pub fn has_later(last: Option<u128>, order: &Order) -> bool
+    ensures { result ≡ rows.has_later last order.now }
 {
     match last {
-        Some(known) => begins_at(known, order),
+        Some(known) => begins_at(known, order.pairs()),
         None => false,
     }
 }
@@ -182,55 +183,43 @@ pub fn has_last_refuted(last: Option<u128>, formulas: &Vec<Formula>) -> bool
 }
 
 // Whether each event is before the time, or at it.
-fn all_by(
-    alloc: Global,
-    order: &Vec<(u128, u128)>,
-    time: u128,
-    events: &Vec<Event>,
-) -> Result<bool, AllocError>
-    ensures { IfOk result (λ b. b ≡ rows.all_by order.now.items time (map event_of events.now.items)) }
+fn all_by(order: &Order, time: u128, events: &Vec<Event>) -> bool
+    ensures { result ≡ rows.all_by order.now time (map event_of events.now.items) }
 {
     for event in events {
-        if !is_not_before(alloc, order, time, event.time)? {
-            return Ok(false);
+        if !is_not_before(order, time, event.time) {
+            return false;
         }
     }
-    Ok(true)
+    true
 }
 
 // Whether the formula says of a time that it isn't the last one, though each event is before it or at it.
-fn is_behind_all(alloc: Global, system: &System, formula: &Formula) -> Result<bool, AllocError>
-    ensures { IfOk result (λ b. b ≡ rows.is_behind_all (system_of system.now) (formula_of formula.now)) }
+fn is_behind_all(system: &System, formula: &Formula) -> bool
+    ensures { result ≡ rows.is_behind_all (system_of system.now) (formula_of formula.now) }
 {
     match formula {
         Formula::Fails(Atom::Last(Moment::Free(time))) => {
-            all_by(alloc, &system.order, *time, &system.events)
+            all_by(&system.order, *time, &system.events)
         }
-        _ => Ok(false),
+        _ => false,
     }
 }
 
-fn some_behind_all(alloc: Global, system: &System) -> Result<bool, AllocError>
-    ensures { IfOk result (λ b. b ≡ rows.some_behind_all (system_of system.now) (system_of system.now).formulas) }
+fn some_behind_all(system: &System) -> bool
+    ensures { result ≡ rows.some_behind_all (system_of system.now) (system_of system.now).formulas }
 {
     for formula in &system.formulas {
-        if is_behind_all(alloc, system, formula)? {
-            return Ok(true);
+        if is_behind_all(system, formula) {
+            return true;
         }
     }
-    Ok(false)
+    false
 }
 
 /// Whether nothing happens but at the system's events, and a time behind them all is said not to be the last one.
-///
-/// # Errors
-///
-/// `AllocError` where memory is wanting.
-pub fn has_unlast(alloc: Global, system: &System) -> Result<bool, AllocError>
-    ensures { IfOk result (λ b. b ≡ rows.has_unlast (system_of system.now)) }
+pub fn has_unlast(system: &System) -> bool
+    ensures { result ≡ rows.has_unlast (system_of system.now) }
 {
-    if !system.closed {
-        return Ok(false);
-    }
-    some_behind_all(alloc, system)
+    system.closed && some_behind_all(system)
 }

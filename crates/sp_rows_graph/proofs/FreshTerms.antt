@@ -6,7 +6,7 @@ use Rattle.sp_spec.specs.Log.{is_fr}
 use Rattle.sp_spec_system.specs.System.{anyhow, public_name, own_name, constructed, chain_begun, chain_done, Happening, rule_step, sending, learning, happening_premises, Event, System}
 use Rattle.sp_spec_system.specs.Picked.{first_some}
 use Rattle.sp_spec_graph.specs.Fresh.{first_term, fresh_terms, happening_fresh}
-use Rattle.sp_spec_graph.specs.FreshFirst.{missing_behind}
+use Rattle.sp_spec_know.specs.FreshFirst.{missing_behind}
 use Rattle.std.specs.Option.{option_or}
 use Rattle.sp_rows_graph.specs.FreshView.{first_of, fresh_one, own_one, fresh_behind, missing_with}
 

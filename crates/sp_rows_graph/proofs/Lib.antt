@@ -1,3 +1,2 @@
 pub mod PairSearches
 pub mod FreshTerms
-pub mod Counts

@@ -6,7 +6,7 @@ use Rattle.sp_spec.specs.Log.{is_fr}
 use Rattle.sp_spec_system.specs.System.{own_name, Happening, learning, System}
 use Rattle.sp_spec_system.specs.Picked.{if_any}
 use Rattle.sp_spec_graph.specs.Fresh.{fresh_terms}
-use Rattle.sp_spec_graph.specs.FreshFirst.{missing_pairs}
+use Rattle.sp_spec_know.specs.FreshFirst.{missing_pairs}
 
 -- the pairs that put the time before each event that has the term later, if some are missing
 abbrev pub missing_with : System → ℕ → Term Variable → Option (List (ℕ × ℕ))

@@ -1,6 +1,5 @@
 pub mod LinksView
 pub mod FreshView
 pub mod SharedView
-pub mod LearningView
 pub mod InputView
-pub mod SettlingView
+pub mod LearntView

@@ -3,7 +3,7 @@ use Rattle.std.specs.Prelude.{ℕ, Bool, ◌&&◌, is_none}
 use Rattle.sp_spec_system.specs.System.{Event, System}
 use Rattle.sp_spec_system.specs.MakingOne.{made_one}
 use Rattle.sp_spec_graph.specs.Fresh.{shares_fresh}
-use Rattle.sp_spec_graph.specs.LearnOnce.{learn_same}
+use Rattle.sp_spec_know.specs.LearnOnce.{learn_same}
 use Rattle.sp_rows_graph.specs.declared.shared.Shared.{Shared}
 use Rattle.sp_rows_graph.specs.declared.shared.Shared.TheVariants.{Fresh, Learnt}
 

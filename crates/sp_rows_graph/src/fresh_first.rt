@@ -6,15 +6,16 @@ ghost use Rattle.sp_term.specs.View.{view, view_all};
 ghost use Rattle.sp_fact.specs.View.{fact_of};
 ghost use Rattle.sp_system.specs.SystemView.{event_of, system_of};
 ghost use Rattle.sp_spec_graph.specs.Fresh.{fresh_terms};
-ghost use Rattle.sp_spec_graph.specs.FreshFirst as rows;
+ghost use Rattle.sp_spec_know.specs.FreshFirst as rows;
 ghost use Rattle.sp_rows_graph.specs.FreshView.{fresh_one, missing_with};
 ghost use Rattle.sp_spec_system.specs.Picked.{first_some};
 ghost use Rattle.sp_system.specs.Reduced.{Reduced};
 
-use crate::fresh_once::{fresh_term, is_fresh, own_name};
+use crate::fresh::{fresh_term, own_name};
 use sp_fact::fact::Fact;
+use sp_learnings::premise::is_fresh;
+use sp_order::order::Order;
 use sp_system::event::{Event, What};
-use sp_system::order::{add_pairs, is_before};
 use sp_system::system::System;
 use sp_term::term::{Term, same};
 use std::alloc::{AllocError, Global};
@@ -72,20 +73,10 @@ fn comes_later(time: u128, term: &Term, event: &Event) -> bool
 }
 
 // Whether the event has the term later, and the time isn't before it.
-fn is_missing(
-    alloc: Global,
-    order: &Vec<(u128, u128)>,
-    time: u128,
-    term: &Term,
-    event: &Event,
-) -> Result<bool, AllocError>
-    ensures { IfOk result (λ b. b ≡ rows.is_missing order.now.items time (view term.now) (event_of event.now)) }
+fn is_missing(order: &Order, time: u128, term: &Term, event: &Event) -> bool
+    ensures { result ≡ rows.is_missing order.now time (view term.now) (event_of event.now) }
 {
-    if !comes_later(time, term, event) {
-        return Ok(false);
-    }
-    let is_there = is_before(alloc, order, time, event.time)?;
-    Ok(!is_there)
+    comes_later(time, term, event) && !order.before(time, event.time)
 }
 
 // The pairs that put the time before each event that has the term later.
@@ -99,7 +90,7 @@ fn missing_pairs(
 {
     let mut made = Vec::new(alloc);
     for event in &system.events {
-        if is_missing(alloc, &system.order, time, term, event)? {
+        if is_missing(&system.order, time, term, event) {
             made.push((time, event.time))?;
         }
     }
@@ -202,6 +193,6 @@ pub fn fresh_first(alloc: Global, system: &mut System) -> Result<bool, AllocErro
     let Some(pairs) = first_missing(alloc, system)? else {
         return Ok(false);
     };
-    add_pairs(system, pairs)?;
+    system.order.add_all(alloc, &pairs)?;
     Ok(true)
 }

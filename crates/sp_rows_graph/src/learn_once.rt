@@ -2,13 +2,13 @@
 
 ghost use Rattle.std.specs.Prelude.{◌≡◌, IfOk};
 ghost use Rattle.sp_system.specs.SystemView.{event_of, system_of};
-ghost use Rattle.sp_spec_graph.specs.LearnOnce as rows;
+ghost use Rattle.sp_spec_know.specs.LearnOnce as rows;
 ghost use Rattle.sp_system.specs.Reduced.{Reduced};
 
-use crate::learning::is_learning_of;
 use crate::shared::{Shared, fails_to_be_one, times_of};
+use sp_learnings::learning::is_learning_of;
+use sp_merge::made_one::made_one;
 use sp_system::event::{Event, What};
-use sp_system::made_one::made_one;
 use sp_system::system::System;
 use std::alloc::{AllocError, Global};
 

@@ -1,17 +1,16 @@
 // What a premise In takes is sent before.
 
 ghost use Rattle.std.specs.Prelude.{◌≡◌, IfOk, OnOk, map, option_map};
-ghost use Rattle.sp_spec.specs.Log.{is_in};
 ghost use Rattle.sp_fact.specs.View.{fact_of};
 ghost use Rattle.sp_system.specs.SystemView.{event_of, link_of, system_of};
 ghost use Rattle.sp_system.specs.Reduced.{Reduced};
-ghost use Rattle.sp_spec_graph.specs.Premise as premise_spec;
-ghost use Rattle.sp_spec_graph.specs.SendInput as rows;
+ghost use Rattle.sp_spec_know.specs.SendInput as rows;
 ghost use Rattle.sp_spec_system.specs.Picked.{first_some};
 ghost use Rattle.sp_rows_graph.specs.InputView.{input_of};
 
-use crate::learning::add_event;
 use sp_fact::fact::Fact;
+use sp_learnings::learning::add_event;
+use sp_learnings::premise::{is_linked, is_received};
 use sp_system::event::Event;
 use sp_system::picked::only_term;
 use sp_system::system::{Link, System};
@@ -27,25 +26,6 @@ pub struct Input {
     pub premise: usize,
     /// what it takes
     pub message: Term,
-}
-
-/// Whether the fact is an In.
-pub fn is_received(fact: &Fact) -> bool
-    ensures { result ≡ is_in (fact_of fact.now) }
-{
-    fact.symbol.text.as_str() == "In" && !fact.persistent
-}
-
-/// Whether some link leads to the premise at the place of the event at the time.
-pub fn is_linked(links: &Vec<Link>, time: u128, place: usize) -> bool
-    ensures { result ≡ premise_spec.is_linked (map link_of links.now.items) time place }
-{
-    for link in links {
-        if link.to == time && link.premise == place {
-            return true;
-        }
-    }
-    false
 }
 
 // The premise at the place, if it is an In without a link.
@@ -123,7 +103,7 @@ fn add_sending(alloc: Global, system: &mut System, input: Input) -> Result<(), A
         to: time,
         premise,
     })?;
-    system.order.push((from, time))?;
+    system.order.add(alloc, from, time)?;
     add_event(system, event)?;
     Ok(())
 }

@@ -5,10 +5,10 @@ ghost use Rattle.sp_system.specs.SystemView.{event_of, system_of};
 ghost use Rattle.sp_spec_system.specs.Picked as picked;
 ghost use Rattle.sp_rows_graph.specs.SharedView.{both_times, stay_two, share};
 
-use crate::fresh_once::shares_fresh;
+use crate::fresh::shares_fresh;
 use crate::learn_once::learn_same;
+use sp_merge::made_one::stay_apart;
 use sp_system::event::Event;
-use sp_system::made_one::stay_apart;
 use sp_system::system::System;
 use std::alloc::{AllocError, Global};
 

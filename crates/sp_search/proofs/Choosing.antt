@@ -24,7 +24,7 @@ use Rattle.sp_spec_proof.specs.Kinds.{pickers_by, are_consecutive, places_from, 
 use Rattle.sp_spec_formula.specs.Action.{solving_action}
 use Rattle.sp_spec_formula.specs.Or.{disjunction_at, or_cases}
 use Rattle.sp_spec_graph.specs.Premise.{open_premise, premise_cases}
-use Rattle.sp_spec_graph.specs.Know.{learnt_anyhow, is_message_variable}
+use Rattle.sp_spec_know.specs.Know.{learnt_anyhow, is_message_variable}
 use Rattle.sp_moves_formula.specs.Parts.{disjuncts, by_parts}
 use Rattle.sp_moves_formula.proofs.Parts.{parts_at}
 use Rattle.sp_search.specs.declared.choose.MoveKind.{MoveKind}

@@ -8,7 +8,7 @@ use Rattle.sp_spec_system.specs.System.{System}
 use Rattle.sp_spec_system.specs.Move.{Context}
 use Rattle.sp_spec_proof.specs.Choice.{Ranked}
 use Rattle.sp_learn.specs.declared.log.Log.{Log}
-use Rattle.sp_moves_formula.specs.declared.moves.Move as memory
+use Rattle.sp_moves.specs.declared.moves.Move as memory
 use Rattle.std.specs.declared.vec.Vec.{Vec}
 use Rattle.std.specs.declared.string.String.{String}
 use Rattle.sp_learn.specs.View.{log_of}

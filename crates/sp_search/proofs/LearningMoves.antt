@@ -4,11 +4,11 @@ use Rattle.std.specs.Prelude.{if◌then◌else◌}
 use Rattle.sp_spec.specs.Term.{Variable, Term}
 use Rattle.sp_spec_system.specs.System.{System, Event}
 use Rattle.sp_spec_system.specs.Move.{Move, know, chain, Context}
-use Rattle.sp_spec_graph.specs.Know.{learnt_anyhow, is_message_variable}
+use Rattle.sp_spec_know.specs.Know.{learnt_anyhow, is_message_variable}
 use Rattle.sp_spec_proof.specs.Cases.{raw_cases, simple_case}
 use Rattle.sp_spec_proof.specs.Choice.{is_instance, first_instance}
 use Rattle.sp_spec_proof.specs.Kinds.{passed_last, no_message_variable, is_fresh_variable, is_application, if_of_kind}
-use Rattle.sp_moves_formula.specs.WhyNot.{Clause}
+use Rattle.sp_moves.specs.Clause.{Clause}
 use Rattle.sp_moves_know.specs.WhyNot.{why_not_learning}
 use Rattle.sp_moves_know.proofs.Exact.{exactly}
 use Rattle.sp_search.specs.declared.learning.LearningKind.{LearningKind}

@@ -2,7 +2,7 @@
 use Rattle.std.specs.Prelude.{List, [], ◌∷◌, flat_map, Option, None, Some}
 use Rattle.sp_spec_system.specs.System.{Event}
 use Rattle.sp_spec_system.specs.Move as spec
-use Rattle.sp_spec_graph.specs.Know.{learnt_anyhow, is_message_variable}
+use Rattle.sp_spec_know.specs.Know.{learnt_anyhow, is_message_variable}
 use Rattle.sp_spec_proof.specs.Kinds.{at_message, passed_last, no_message_variable, is_fresh_variable, is_application}
 use Rattle.sp_search.specs.declared.learning.LearningKind.{LearningKind}
 use Rattle.sp_search.specs.declared.learning.LearningKind.TheVariants.{Chain, Fresh, Application, VariableChain}

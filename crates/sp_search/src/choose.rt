@@ -15,7 +15,7 @@ use sp_fact::fact::Fact;
 use sp_step::action::is_solvable;
 use sp_step::context::Context;
 use sp_step::moves::Move;
-use sp_step::part::is_disjunction;
+use sp_step::or::is_disjunction;
 use sp_step::premise::{Premise, open_premise};
 use sp_step::simplify::{is_contradictory, is_reducible};
 use sp_system::event::Event;

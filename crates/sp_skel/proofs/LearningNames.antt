@@ -9,8 +9,8 @@ use Rattle.sp_spec_forms.specs.Forms.{RuleForms}
 use Rattle.sp_spec_system.specs.System.{anyhow, constructed, chain_done, sending, learning, System}
 use Rattle.sp_spec_system.specs.Cases.{case_if, named}
 use Rattle.sp_spec_formula.specs.Action.{done_there, by_adversary}
-use Rattle.sp_spec_graph.specs.Know.{made_case, own_if, own_case, output_forms, by_each_output, with_way, with_learnings}
-use Rattle.sp_spec_graph.specs.Chain.{Begun, with_same, is_no_end, done_case, numbered_from, with_link, by_destructions}
+use Rattle.sp_spec_know.specs.Know.{made_case, own_if, own_case, output_forms, by_each_output, with_way, with_learnings}
+use Rattle.sp_spec_know.specs.Chain.{Begun, with_same, is_no_end, done_case, numbered_from, with_link, by_destructions}
 use Rattle.sp_skel.specs.Spelling.{AreNamed}
 use Rattle.sp_skel.proofs.CaseNames.{chain_named, send_named, learn_named, made_named, own_named, done_named}
 use Rattle.sp_skel.proofs.NamedCases.{CasesNamed, named_append, if_named, rule_named}

@@ -15,8 +15,8 @@ use Rattle.sp_spec_system.specs.Cases.{where_same, case_if, named}
 use Rattle.sp_spec_formula.specs.Action.{at_event, by_forms, by_each, by_adversary, at_each, action_cases, solving_action}
 use Rattle.sp_spec_formula.specs.Or.{by_part, disjunction_at, or_cases}
 use Rattle.sp_spec_graph.specs.Premise.{source_forms, by_each_source, open_premise, premise_cases}
-use Rattle.sp_spec_graph.specs.Know.{wanted_at, made_case, own_case, by_each_output}
-use Rattle.sp_spec_graph.specs.Chain.{Begun, begun_at, done_case, by_destructions}
+use Rattle.sp_spec_know.specs.Know.{wanted_at, made_case, own_case, by_each_output}
+use Rattle.sp_spec_know.specs.Chain.{Begun, begun_at, done_case, by_destructions}
 use Rattle.sp_spec_proof.specs.Cases.{raw_cases, simple_case, cases}
 use Rattle.sp_spec_proof.specs.Tree.{Tree, node, Branches, no_branch, branch, IsAccepted, AreAccepted}
 use Rattle.sp_spec_proof.specs.Growth.{grown_tree}

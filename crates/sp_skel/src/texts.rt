@@ -5,7 +5,7 @@ ghost use Rattle.std.specs.List.{list_all};
 ghost use Rattle.sp_spec_text.specs.Lex as lex;
 ghost use Rattle.sp_spec_text.specs.Blanks as blanks;
 ghost use Rattle.sp_spec_text.specs.Numerals.{below_limit};
-ghost use Rattle.sp_moves_formula.specs.View.{side_of};
+ghost use Rattle.sp_moves.specs.View.{side_of};
 ghost use Rattle.sp_step.specs.WordsView.{said_of};
 ghost use Rattle.sp_skel.specs.MoveTexts as spec;
 

@@ -10,7 +10,7 @@ use Rattle.sp_term.specs.View.{variable_of}
 use Rattle.sp_term.specs.declared.term.Variable.{Variable}
 use Rattle.sp_spec_solved.specs.Naming.{public_name, public_given}
 use Rattle.sp_spec.proofs.Lists.{next_item}
-use Rattle.sp_system.proofs.Turns.{one_less}
+use Rattle.sp_system.proofs.TurnsLeft.{one_less}
 
 pub none_left : (cs : List (List ℕ)) (n k : ℕ) → public_given cs n k [] ≡ []
 none_left cs zero k = refl

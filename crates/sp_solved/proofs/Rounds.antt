@@ -9,7 +9,7 @@ use Rattle.sp_spec_solved.specs.Listing.{first_free, one_by_one}
 use Rattle.sp_solved.specs.ListingView.{events_of}
 use Rattle.sp_spec.proofs.Options.{behind}
 use Rattle.sp_solved.proofs.Firsts.{regrouped}
-use Rattle.sp_system.proofs.Turns.{one_less}
+use Rattle.sp_system.proofs.TurnsLeft.{one_less}
 
 abbrev in_round : (List spec.Event → Option (List spec.Event)) → Option (spec.Event × List spec.Event) → Option (List spec.Event)
 in_round later o = option_and_then (λ (p : spec.Event × List spec.Event). option_map (λ (es : List spec.Event). p.0 ∷ es) (later p.1)) o

@@ -5,13 +5,13 @@ ghost use Rattle.sp_system.specs.SystemView.{event_of};
 ghost use Rattle.sp_spec_solved.specs.Listing as spec;
 ghost use Rattle.sp_solved.specs.ListingView.{events_of, free_place};
 
-use sp_system::closed::ClosedOrder;
+use sp_order::order::Order;
 use sp_system::event::Event;
 use std::alloc::{AllocError, Global};
 
 /// Whether one of these events is before the time.
-fn some_before(order: &ClosedOrder, events: &Vec<&Event>, time: u128) -> bool
-    ensures { result ≡ spec.some_before order.now.pairs.items (events_of events.now.items) time }
+fn some_before(order: &Order, events: &Vec<&Event>, time: u128) -> bool
+    ensures { result ≡ spec.some_before order.now (events_of events.now.items) time }
 {
     for event in events {
         if order.before(event.time, time) {
@@ -22,8 +22,8 @@ fn some_before(order: &ClosedOrder, events: &Vec<&Event>, time: u128) -> bool
 }
 
 /// The place of the first event that none of those left is before.
-fn free_place(order: &ClosedOrder, left: &Vec<&Event>) -> Option<usize>
-    ensures { result ≡ free_place order.now.pairs.items (events_of left.now.items) (events_of left.now.items) }
+fn free_place(order: &Order, left: &Vec<&Event>) -> Option<usize>
+    ensures { result ≡ free_place order.now (events_of left.now.items) (events_of left.now.items) }
 {
     for (place, event) in left.iter().enumerate() {
         if !some_before(order, left, event.time) {
@@ -34,8 +34,8 @@ fn free_place(order: &ClosedOrder, left: &Vec<&Event>) -> Option<usize>
 }
 
 /// Takes the first event that none of those left is before.
-fn take_free<'a>(order: &ClosedOrder, left: &mut Vec<&'a Event>) -> Option<&'a Event>
-    ensures { option_map (λ e. (event_of e.now, events_of left.new.items)) result ≡ spec.first_free order.now.pairs.items (events_of left.old.items) (events_of left.old.items) }
+fn take_free<'a>(order: &Order, left: &mut Vec<&'a Event>) -> Option<&'a Event>
+    ensures { option_map (λ e. (event_of e.now, events_of left.new.items)) result ≡ spec.first_free order.now (events_of left.old.items) (events_of left.old.items) }
 {
     let Some(place) = free_place(order, left) else {
         return None;
@@ -61,10 +61,10 @@ fn all<'a>(alloc: Global, events: &'a Vec<Event>) -> Result<Vec<&'a Event>, Allo
 /// `AllocError` where memory is wanting.
 pub fn in_order<'a>(
     alloc: Global,
-    order: &ClosedOrder,
+    order: &Order,
     events: &'a Vec<Event>,
 ) -> Result<Option<Vec<&'a Event>>, AllocError>
-    ensures { IfOk result (λ o. option_map (λ es. events_of es.items) o ≡ spec.in_order order.now.pairs.items (map event_of events.now.items)) }
+    ensures { IfOk result (λ o. option_map (λ es. events_of es.items) o ≡ spec.in_order order.now (map event_of events.now.items)) }
 {
     let mut left = all(alloc, events)?;
     let mut listed = Vec::with_capacity(alloc, events.len())?;

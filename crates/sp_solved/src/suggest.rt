@@ -27,7 +27,6 @@ use sp_learn::log::{Entry, How, Log};
 use sp_log::log::{Entry as StepEntry, Source};
 use sp_norm::instance::{facts_value, value};
 use sp_system::event::{Event, What};
-use sp_system::order::is_cyclic;
 use sp_system::system::{Link, System};
 use sp_system::way::{Chain, Way};
 use sp_term::subst::Values;
@@ -156,17 +155,13 @@ fn are_settled(events: &Vec<Event>) -> bool
 }
 
 /// Whether the system suggests a log. That premises have sources is asked early: most systems that are asked have an open one.
-fn is_ready(alloc: Global, system: &System) -> Result<bool, AllocError>
-    ensures { IfOk result (λ b. b ≡ spec.is_ready (system_of system.now)) }
+fn is_ready(system: &System) -> bool
+    ensures { result ≡ spec.is_ready (system_of system.now) }
 {
-    if !are_settled(&system.events)
-        || !have_places(&system.events, &system.formulas)
-        || !all_sourced(&system.events, &system.links)
-    {
-        return Ok(false);
-    }
-    let cyclic = is_cyclic(alloc, &system.order)?;
-    Ok(!cyclic)
+    are_settled(&system.events)
+        && have_places(&system.events, &system.formulas)
+        && all_sourced(&system.events, &system.links)
+        && !system.order.has_cycle()
 }
 
 /// The place among the events of the first one at the time.
@@ -394,11 +389,10 @@ pub fn candidate(
 ) -> Result<Option<Log>, AllocError>
     ensures { IfOk result (λ o. option_map entries_of o ≡ spec.candidate (map name_of constants.now.items) (system_of system.now)) }
 {
-    if !is_ready(alloc, system)? {
+    if !is_ready(system) {
         return Ok(None);
     }
-    let order = system.close_order(alloc)?;
-    let Some(events) = in_order(alloc, &order, &system.events)? else {
+    let Some(events) = in_order(alloc, &system.order, &system.events)? else {
         return Ok(None);
     };
     let Some(entries) = entries(alloc, constants, &system.links, &events)? else {

@@ -10,7 +10,7 @@ use Rattle.sp_spec.specs.Term.{Variable, Term}
 use Rattle.sp_spec_system.specs.System.{System, Happening, Event, happening_premises}
 use Rattle.sp_spec_system.specs.Move.{Move, Context, or, action, premise, know, chain}
 use Rattle.sp_spec_system.specs.Picked.{first_some}
-use Rattle.sp_spec_graph.specs.Know.{learnt_anyhow, is_message_variable}
+use Rattle.sp_spec_know.specs.Know.{learnt_anyhow, is_message_variable}
 use Rattle.sp_spec_proof.specs.Kinds.{Picker, of_rank, places_from, premises_of, passed_last, no_message_variable, is_fresh_variable, is_application, if_of_kind, at_message, EventKind, event_kinds, at_each_event, all_at, event_pickers, pickers_by, are_consecutive, pickers}
 use Rattle.sp_spec_proof.specs.Choice.{Ranked, with_rank, is_instance, first_instance, picked, choice}
 use Rattle.sp_spec_proof.specs.Growth.{is_unproved}

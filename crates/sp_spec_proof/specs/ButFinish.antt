@@ -7,8 +7,8 @@ use Rattle.sp_spec_system.specs.Move.{Move, simplify, contradiction, unproved, s
 use Rattle.sp_spec_formula.specs.Action.{solving_action}
 use Rattle.sp_spec_formula.specs.Or.{disjunction_at, or_cases}
 use Rattle.sp_spec_graph.specs.Premise.{open_premise, premise_cases}
-use Rattle.sp_spec_graph.specs.Know.{know_cases}
-use Rattle.sp_spec_graph.specs.Chain.{chain_cases}
+use Rattle.sp_spec_know.specs.Know.{know_cases}
+use Rattle.sp_spec_know.specs.Chain.{chain_cases}
 
 -- none where the move is no instance
 abbrev pub raw_but_finish : Context → System → Move → Option (List Case)

@@ -4,8 +4,8 @@ use Rattle.std.specs.Prelude.{Bool, true, false, not, if◌then◌else◌, ℕ, 
 use Rattle.sp_spec.specs.Term.{Sort, Msg, Fresh, Pub, Variable, Term, var, app}
 use Rattle.sp_spec_system.specs.System.{System, Happening, Event, happening_premises}
 use Rattle.sp_spec_system.specs.Move.{Move, Root, Context, simplify, contradiction, solved, or, action, premise, know, chain}
-use Rattle.sp_spec_graph.specs.Know.{learnt_anyhow, is_message_variable}
-use Rattle.sp_spec_graph.specs.Chain.{Begun, begun}
+use Rattle.sp_spec_know.specs.Know.{learnt_anyhow, is_message_variable}
+use Rattle.sp_spec_know.specs.Chain.{Begun, begun}
 
 -- a kind of moves: its rank, and the moves of that kind at a system, from the oldest on
 pub record Picker : Type 0 where

@@ -14,12 +14,12 @@ use Rattle.sp_spec_graph.specs.FreshOnce.{fresh_once, fails_to_merge}
 use Rattle.sp_spec_formula.specs.Equate.{equate, fails_to_equate}
 use Rattle.sp_spec_graph.specs.LinearOnce.{linear_once, fails_to_link}
 use Rattle.sp_spec_formula.specs.Disjunction.{disjunction}
-use Rattle.sp_spec_graph.specs.FreshFirst.{fresh_first}
-use Rattle.sp_spec_graph.specs.SendInput.{send_input}
-use Rattle.sp_spec_graph.specs.SendLearnt.{send_learnt}
-use Rattle.sp_spec_graph.specs.LearnOnce.{learn_once, fails_to_learn}
-use Rattle.sp_spec_graph.specs.SettleLearn.{settle_learn}
-use Rattle.sp_spec_graph.specs.LearntEarly.{has_early}
+use Rattle.sp_spec_know.specs.FreshFirst.{fresh_first}
+use Rattle.sp_spec_know.specs.SendInput.{send_input}
+use Rattle.sp_spec_know.specs.SendLearnt.{send_learnt}
+use Rattle.sp_spec_know.specs.LearnOnce.{learn_once, fails_to_learn}
+use Rattle.sp_spec_know.specs.SettleLearn.{settle_learn}
+use Rattle.sp_spec_know.specs.LearntEarly.{has_early}
 use Rattle.sp_spec_formula.specs.Instantiate.{instantiate}
 use Rattle.sp_spec_system.specs.Order.{is_cyclic}
 use Rattle.sp_spec_graph.specs.SourceTwice.{has_source_twice}

@@ -12,7 +12,8 @@ use Rattle.sp_spec_system.specs.MakingOne.{event_at}
 use Rattle.sp_spec_system.specs.Move.{Move, simplify, contradiction, unproved, solved, or, action, premise, know, chain, Context, Case, end_log}
 use Rattle.sp_spec_graph.specs.Premise.{is_linked}
 use Rattle.sp_spec_proof.specs.Cases.{raw_cases, simple_case, cases}
-use Rattle.sp_moves_formula.specs.WhyNot.{Clause, another_crate, condition, absent, why_no_disjunction, why_not_freed, why_no_action, HasCases}
+use Rattle.sp_moves_formula.specs.WhyNot.{why_no_disjunction, why_not_freed, why_no_action}
+use Rattle.sp_moves.specs.Clause.{Clause, another_crate, condition, absent, HasCases}
 use Rattle.sp_moves_formula.proofs.Exact as formula
 use Rattle.sp_spec_system.specs.Occurring.{has_time}
 use Rattle.sp_moves_graph.specs.WhyNot.{why_not_open, why_not_at, why_not_of}

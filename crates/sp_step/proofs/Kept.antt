@@ -25,12 +25,12 @@ use Rattle.sp_spec_formula.specs.ActionStands.{standing_of}
 use Rattle.sp_spec_formula.specs.Disjunction.{instead_of}
 use Rattle.sp_spec_formula.specs.Instantiate.{new_instance, with_formula}
 use Rattle.sp_spec_graph.specs.ReducibleEvent.{has_reducible}
-use Rattle.sp_spec_graph.specs.Learning.{learning_of, is_unlearnt, learnt_from, learnt_before}
+use Rattle.sp_spec_know.specs.Learning.{learning_of, is_unlearnt, learnt_from, learnt_before}
 use Rattle.sp_spec_graph.specs.Premise.{is_linked}
-use Rattle.sp_spec_graph.specs.SendInput.{Input, input_at, input_from, open_input, with_sending}
-use Rattle.sp_spec_graph.specs.SendLearnt.{sent, if_unlearnt, unlearnt_sending}
-use Rattle.sp_spec_graph.specs.SettleLearn.{Settling, of_sort_pub, made_of, settling, settling_of, settled_event, each_learnt_before, with_settling}
-use Rattle.sp_spec_graph.specs.FreshFirst.{missing_behind}
+use Rattle.sp_spec_know.specs.SendInput.{Input, input_at, input_from, open_input, with_sending}
+use Rattle.sp_spec_know.specs.SendLearnt.{sent, if_unlearnt, unlearnt_sending}
+use Rattle.sp_spec_know.specs.SettleLearn.{Settling, of_sort_pub, made_of, settling, settling_of, settled_event, each_learnt_before, with_settling}
+use Rattle.sp_spec_know.specs.FreshFirst.{missing_behind}
 use Rattle.sp_spec_proof.specs.Rows.{Row, row_split, row_open, row_equate, row_unequal, row_order, row_last, row_action_stands, row_disjunction, row_send_input, row_send_learnt, row_learn_once, row_linear_once, row_fresh_once, row_settle_learn, row_fresh_first, row_instantiate, by_row, reducible_term, is_contradictory}
 use Rattle.sp_spec_proof.proofs.Contradictions.{none_holds}
 use Rattle.sp_step.specs.Kept.{keeps_terms}

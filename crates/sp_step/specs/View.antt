@@ -9,7 +9,7 @@ use Rattle.sp_step.specs.declared.context.Context.{Context}
 use Rattle.sp_book.specs.BookView.{book_of}
 use Rattle.sp_spec_system.specs.Rules as spec_rules
 use Rattle.sp_step.specs.declared.context.Rules.{Rules}
-pub use Rattle.sp_moves_formula.specs.View.{move_of, case_of}
+pub use Rattle.sp_moves.specs.View.{move_of, case_of}
 
 -- the rules of a proof, with their forms
 abbrev pub rules_of : Rules → spec_rules.Rules

@@ -4,7 +4,8 @@ use Rattle.sp_spec.specs.Signature.{Symbol}
 use Rattle.sp_spec_system.specs.System.{System}
 use Rattle.sp_spec_proof.specs.Rows.{has_place, is_contradictory}
 use Rattle.sp_spec_system.specs.Move.{Move, simplify, contradiction, unproved, solved, or, action, premise, know, chain, Context, end_log}
-use Rattle.sp_moves_formula.specs.WhyNot.{Clause, another_crate, condition, why_not_formula}
+use Rattle.sp_moves_formula.specs.WhyNot.{why_not_formula}
+use Rattle.sp_moves.specs.Clause.{Clause, another_crate, condition}
 use Rattle.sp_moves_graph.specs.WhyNot.{why_not_graph}
 use Rattle.sp_moves_know.specs.WhyNot.{why_not_learning}
 

@@ -1,7 +1,7 @@
 -- The words that those in memory stand for.
 use Rattle.std.specs.Prelude.{map}
 use Rattle.sp_spec_system.specs.Words as spec
-use Rattle.sp_moves_formula.specs.View.{side_of}
+use Rattle.sp_moves.specs.View.{side_of}
 use Rattle.sp_step.specs.declared.words.Argument.{Argument}
 use Rattle.sp_step.specs.declared.words.Argument.TheVariants.{Place, Time, Variable, Side}
 use Rattle.sp_step.specs.declared.words.Said.{Said}

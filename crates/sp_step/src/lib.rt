@@ -1,12 +1,12 @@
 // One step of a proof in memory: contradictions, all elementary moves, simplification, and the moves of a proof with their words
 // and their cases, simplified.
 // Below stand what they are (sp_spec_proof), the elementary moves (sp_rows_formula, sp_rows_graph) and the moves (sp_moves_formula,
-// sp_moves_graph, sp_moves_know) by what they take up, and the logs that are looked for (sp_solved); above stand proof trees (sp_search). Each call is exact:
+// sp_moves_graph, sp_moves_know, over sp_moves) by what they take up, and the logs that are looked for (sp_solved); above stand proof trees (sp_search). Each call is exact:
 // it gives the systems and cases that the definition gives, and none where the definition gives none.
 // Carried here: the promise that what is simplified is what the written rows simplify, and that no case of a move is left out.
 #![tactic(auto)]
 
-pub use sp_moves_formula::{action, part};
+pub use sp_moves_formula::{action, or};
 pub use sp_moves_graph::premise;
 
 pub mod apply;

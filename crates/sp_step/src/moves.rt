@@ -8,8 +8,8 @@ ghost use Rattle.sp_step.specs.View.{context_of, rules_of, move_of, case_of};
 
 use crate::context::{Context, Rules};
 use crate::simplify::{has_place, is_contradictory, simplify};
-pub use sp_moves_formula::moves::{Case, Move};
-use sp_moves_formula::part::or_cases;
+pub use sp_moves::moves::{Case, Move};
+use sp_moves_formula::or::or_cases;
 use sp_moves_formula::solving::solving_action;
 use sp_moves_graph::premise::premise_cases;
 use sp_moves_know::chain::chain_cases;

@@ -12,15 +12,17 @@ ghost use Rattle.sp_step.specs.View.{rules_of};
 
 use crate::context::Rules;
 use crate::reduce::{ROWS, Row, reduce};
-use sp_rows_formula::contradiction::{has_equal_pair, has_falsity, has_refuted};
-use sp_rows_formula::equation::fails_to_equate;
+use sp_rows_formula::equate::fails_to_equate;
+use sp_rows_formula::in_order::has_refuted;
 use sp_rows_formula::last::{fails_to_last, has_last_refuted, has_later, has_unlast};
+use sp_rows_formula::split::has_falsity;
+use sp_rows_formula::unequal::has_equal_pair;
 use sp_rows_graph::fresh_once::fails_to_merge;
 use sp_rows_graph::learn_once::fails_to_learn;
 use sp_rows_graph::learnt_early::has_early;
-use sp_rows_graph::links::{fails_to_link, has_source_twice};
-use sp_rows_graph::reducible::has_reducible;
-use sp_system::order::is_cyclic;
+use sp_rows_graph::linear_once::fails_to_link;
+use sp_rows_graph::reducible_event::has_reducible;
+use sp_rows_graph::source_twice::has_source_twice;
 use sp_system::system::System;
 use std::alloc::{AllocError, Global};
 
@@ -84,13 +86,12 @@ pub fn has_place(alloc: Global, rules: &Rules, system: &System) -> Result<bool, 
 }
 
 // Whether some time is after the last one, or a time is said not to be the last one that is.
-fn ends_wrongly(alloc: Global, system: &System) -> Result<bool, AllocError>
-    ensures { IfOk result (λ b. let s = system_of system.now in b ≡ (last_spec.has_later s.last s.order || (last_spec.has_last_refuted s.last s.formulas || (last_spec.has_unlast s || false)))) }
+fn ends_wrongly(system: &System) -> bool
+    ensures { let s = system_of system.now in result ≡ (last_spec.has_later s.last s.order || (last_spec.has_last_refuted s.last s.formulas || (last_spec.has_unlast s || false))) }
 {
-    if has_later(system.last, &system.order) || has_last_refuted(system.last, &system.formulas) {
-        return Ok(true);
-    }
-    has_unlast(alloc, system)
+    has_later(system.last, &system.order)
+        || has_last_refuted(system.last, &system.formulas)
+        || has_unlast(system)
 }
 
 // Whether a contradiction is seen, where it may be known that no equation could be used in an event.
@@ -106,10 +107,10 @@ fn is_contradictory_where(
     if has_falsity(&system.formulas) || has_equal_pair(&system.unequal) {
         return Ok(true);
     }
-    if has_refuted(alloc, &system.order, &system.formulas)? || is_cyclic(alloc, &system.order)? {
+    if has_refuted(&system.order, &system.formulas) || system.order.has_cycle() {
         return Ok(true);
     }
-    if has_source_twice(system) || has_early(alloc, system)? {
+    if has_source_twice(system) || has_early(system) {
         return Ok(true);
     }
     if !irreducible && has_reducible(alloc, &rules.signature.equations, &system.events)? {
@@ -118,7 +119,7 @@ fn is_contradictory_where(
     if fails_somewhere(alloc, system)? {
         return Ok(true);
     }
-    ends_wrongly(alloc, system)
+    Ok(ends_wrongly(system))
 }
 
 /// Whether a contradiction is seen.

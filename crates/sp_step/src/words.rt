@@ -4,11 +4,11 @@ ghost use Rattle.std.specs.Prelude.{◌≡◌, ◌∷◌, [], ◌++◌, ℕ, IfO
 ghost use Rattle.std.specs.Str.{bytes_eq};
 ghost use Rattle.sp_spec_system.specs.Move as moves;
 ghost use Rattle.sp_spec_system.specs.Words as spec;
-ghost use Rattle.sp_moves_formula.specs.View.{side_of, move_of};
+ghost use Rattle.sp_moves.specs.View.{side_of, move_of};
 ghost use Rattle.sp_step.specs.WordsView.{argument_of, said_of, words_of};
 
 use crate::moves::Move;
-pub use sp_moves_formula::moves::Side;
+pub use sp_moves::moves::Side;
 use std::alloc::{AllocError, Global};
 
 /// What the word of a goal is followed by.

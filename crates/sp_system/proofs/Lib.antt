@@ -1,11 +1,5 @@
 pub mod EventFacts
-pub mod Pairs
-pub mod Paths
-pub mod WithoutSinks
-pub mod EndsKept
 pub mod Spends
-pub mod MergingSearches
-pub mod MergingPlaces
-pub mod Merges
-pub mod Turns
 pub mod OnlyOne
+pub mod ClonedPairs
+pub mod TurnsLeft

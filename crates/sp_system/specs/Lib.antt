@@ -1,10 +1,6 @@
 pub mod WayView
 pub mod EventFacts
 pub mod SystemView
-pub mod OrderView
-pub mod ClosedView
 pub mod SpendView
-pub mod MadeOneView
 pub mod Reduced
-pub mod MergingView
-pub mod JoiningView
+pub mod LearntBy

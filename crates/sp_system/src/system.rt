@@ -9,8 +9,9 @@ ghost use Rattle.sp_unify.specs.View.{pair_view};
 ghost use Rattle.sp_system.specs.SystemView.{event_of, link_of, system_of};
 
 use crate::event::Event;
-use crate::time::{changed_last, changed_order, changed_time};
+use crate::time::{changed_last, changed_time};
 use sp_formula::formula::{Formula, changed_formulas};
+use sp_order::order::Order;
 use sp_term::subst::{Subst, apply};
 use sp_term::term::Term;
 use std::alloc::{AllocError, Global};
@@ -42,7 +43,7 @@ pub struct System {
     /// the sources of premises
     pub links: Vec<Link>,
     /// the pairs of times of which the first is before the second
-    pub order: Vec<(u128, u128)>,
+    pub order: Order,
     /// the time that is said to be the last one, if one is
     pub last: Option<u128>,
     /// whether nothing happens but at its events
@@ -154,7 +155,7 @@ fn changed_links(
 impl Clone for System {
     ghost is_clone = { λ s t. system_of t ≡ system_of s };
 
-    #[tactic(auto, using(sp_term::proofs::Cloned::cloned, crate::proofs::Pairs::cloned_pairs))]
+    #[tactic(auto, using(sp_term::proofs::Cloned::cloned, crate::proofs::ClonedPairs::cloned_pairs))]
     fn clone(&self) -> Result<System, AllocError> {
         let alloc = *self.events.allocator();
         let events = self.events.clone()?;
@@ -162,7 +163,7 @@ impl Clone for System {
         let spent = self.spent.clone()?;
         let unequal = self.unequal.clone()?;
         let links = Vec::from_slice(alloc, &self.links)?;
-        let order = Vec::from_slice(alloc, &self.order)?;
+        let order = self.order.share()?;
         Ok(System {
             events,
             formulas,
@@ -193,7 +194,7 @@ impl System {
         let spent = changed_formulas(alloc, subst, small, large, &self.spent)?;
         let unequal = changed_pairs(alloc, subst, &self.unequal)?;
         let links = changed_links(alloc, small, large, &self.links)?;
-        let order = changed_order(alloc, small, large, &self.order)?;
+        let order = self.order.changed(alloc, small, large)?;
         Ok(System {
             events,
             formulas,

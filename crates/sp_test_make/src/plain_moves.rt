@@ -1,6 +1,6 @@
 // Moves as plain data, which tables can hold, and what is made of them.
 
-use sp_moves_formula::moves::{Move, Side};
+use sp_moves::moves::{Move, Side};
 use sp_term::term::Name;
 use std::alloc::{AllocError, Global};
 

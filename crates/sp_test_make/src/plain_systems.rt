@@ -204,14 +204,14 @@ fn pairs_of(
 
 /// The system.
 pub fn system_of(alloc: Global, plain: &PlainSystem) -> Result<System, AllocError> {
-    let mut made = system(alloc, formulas_of(alloc, plain.formulas)?, plain.next);
+    let mut made = system(alloc, formulas_of(alloc, plain.formulas)?, plain.next)?;
     made.events = events_of(alloc, plain.events)?;
     made.spent = formulas_of(alloc, plain.spent)?;
     made.unequal = pairs_of(alloc, plain.unequal)?;
     for (from, conclusion, to, premise) in plain.links {
         made.links.push(link(*from, *conclusion, *to, *premise))?;
     }
-    made.order = plain.order.to_vec(alloc)?;
+    made.order.add_all(alloc, plain.order)?;
     made.last = plain.last;
     made.closed = plain.closed;
     Ok(made)

@@ -4,6 +4,7 @@ use crate::facts::linear;
 use crate::terms::variable;
 use sp_fact::fact::Facts;
 use sp_formula::formula::Formula;
+use sp_order::order::Order;
 use sp_system::event::Event;
 use sp_system::system::{Link, System};
 use sp_term::term::{Name, Sort};
@@ -46,22 +47,23 @@ pub fn link(from: u128, conclusion: usize, to: u128, premise: usize) -> Link {
 }
 
 /// The system of these formulas alone, whose next number is this.
-pub fn system(alloc: Global, formulas: Vec<Formula>, next: u128) -> System {
-    System {
+pub fn system(alloc: Global, formulas: Vec<Formula>, next: u128) -> Result<System, AllocError> {
+    let order = Order::new(alloc)?;
+    Ok(System {
         events: Vec::new(alloc),
         formulas,
         spent: Vec::new(alloc),
         unequal: Vec::new(alloc),
         links: Vec::new(alloc),
-        order: Vec::new(alloc),
+        order,
         last: None,
         closed: false,
         next,
-    }
+    })
 }
 
 /// The system of one formula, whose next number is this.
 pub fn system_of_one(alloc: Global, formula: Formula, next: u128) -> Result<System, AllocError> {
     let formulas = vec![in alloc; formula]?;
-    Ok(system(alloc, formulas, next))
+    system(alloc, formulas, next)
 }

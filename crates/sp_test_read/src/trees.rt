@@ -32,7 +32,7 @@ fn leaf(alloc: Global, chosen: Move) -> Result<Tree, AllocError> {
 // a leaf without a chosen move, whose system says nothing
 fn open_leaf(alloc: Global) -> Result<Tree, AllocError> {
     let leaf = OpenLeaf {
-        system: system(alloc, Vec::new(alloc), 0),
+        system: system(alloc, Vec::new(alloc), 0)?,
         choice: None,
         depth: 1,
     };

@@ -1,6 +1,5 @@
 // The log that a solved system suggests, and the log that is looked for.
 
-use crate::examples::Parts;
 use sp_fact::ground_term::GroundTerm;
 use sp_formula::formula::Moment;
 use sp_learn::log::{Entry, How, Log};
@@ -14,6 +13,7 @@ use sp_test_make::plain_systems::{
     EMPTY, PlainAtom, PlainFormula, PlainSystem, formula_of, system_of,
 };
 use sp_test_make::terms::names;
+use sp_test_steps::examples::Parts;
 use std::alloc::{AllocError, Global};
 use std::test::Fail;
 

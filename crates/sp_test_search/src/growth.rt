@@ -4,7 +4,6 @@ ghost use Rattle.std.specs.Prelude.{◌≡◌};
 ghost use Rattle.sp_search.specs.Kinds.{case_count};
 ghost use Rattle.sp_search.specs.NodeView.{node_at};
 
-use crate::examples::Parts;
 use sp_formula::formula::{Binder, Moment};
 use sp_search::{Node, OpenLeaf, Ranked, Tree, choice, grown_tree, is_finished, steps};
 use sp_step::moves::Move;
@@ -13,6 +12,7 @@ use sp_term::term::Sort;
 use sp_test_make::plain::{NO_FACTS, PlainFacts, PlainRule, PlainTerm, rules_of};
 use sp_test_make::plain_systems::{PlainAtom, PlainFormula, PlainLeaf, formula_of};
 use sp_test_make::systems::system_of_one;
+use sp_test_steps::examples::Parts;
 use std::alloc::{AllocError, Global};
 use std::test::Fail;
 

@@ -1,6 +1,5 @@
 // Proof trees as they are read, judged.
 
-use crate::examples::Parts;
 use sp_check::{Clause, Judgement, Node, Skeleton, Step, has_open, judge, steps};
 use sp_formula::formula::{Binder, Moment};
 use sp_learn::log::{Entry, Log};
@@ -10,6 +9,7 @@ use sp_term::term::Sort;
 use sp_test_make::plain::{PlainFact, PlainFacts, PlainRule, PlainTerm, rules_of};
 use sp_test_make::plain_systems::{PlainAtom, PlainFormula, PlainLeaf, formula_of};
 use sp_test_make::systems::system_of_one;
+use sp_test_steps::examples::Parts;
 use std::alloc::{AllocError, Global};
 use std::test::Fail;
 

@@ -1,9 +1,6 @@
 // Times that are made one, with the events at them: no two events are left at one time. A closed system's events are tried so where an action
 // looks for its own.
 
-use crate::examples::reduced;
-use crate::lasts::same_system;
-use crate::learning::text_of;
 use crate::moves::{
     A_SOUGHT, K_SOUGHT, SHOWING, Sizes, WITH_EVENT, all_have, book_of, names, taken_up,
 };
@@ -18,6 +15,8 @@ use sp_test_make::plain_moves::PlainMove;
 use sp_test_make::plain_systems::{
     EMPTY, PlainAtom, PlainFormula, PlainLeaf, PlainSystem, system_of,
 };
+use sp_test_steps::examples::reduced;
+use sp_test_steps::texts::{same_system, text_of};
 use std::alloc::{AllocError, Global};
 use std::test::Fail;
 

@@ -1,11 +1,10 @@
 // The moves of a proof: their cases, and why they are no instances.
 
-use crate::examples::Parts;
 use sp_book::book::RuleBook;
 use sp_formula::formula::{Formula, Moment};
 use sp_moves_formula::action::is_solvable;
 use sp_moves_formula::apply::apply as apply_to_formula;
-use sp_moves_formula::part::is_disjunction;
+use sp_moves_formula::or::is_disjunction;
 use sp_moves_graph::apply::apply as apply_to_graph;
 use sp_moves_graph::premise::{Premise, open_premise};
 use sp_step::apply::{Applied, Clause, apply};
@@ -21,6 +20,7 @@ use sp_test_make::plain_systems::{
     EMPTY, PlainAtom, PlainFormula, PlainLeaf, PlainSystem, formula_of, formulas_of, system_of,
 };
 use sp_test_make::systems::{link, system};
+use sp_test_steps::examples::Parts;
 use sp_variant::book::book;
 use std::alloc::{AllocError, Global};
 use std::test::Fail;
@@ -325,7 +325,7 @@ fn premises_are_taken_up(rt: HostRuntime) -> Result<(), Fail> {
             case.system.links.last().copied(),
             Some(link(6, conclusion, 5, 2))
         );
-        assert_eq!(rt; case.system.order.last().copied(), Some((6, 5)));
+        assert_eq!(rt; case.system.order.pairs().last().copied(), Some((6, 5)));
     }
     Ok(())
 }
@@ -471,7 +471,7 @@ fn ends(
     sought: &PlainFormula,
     formulas: &[PlainFormula],
 ) -> Result<bool, AllocError> {
-    let given = system(alloc, formulas_of(alloc, formulas)?, 6);
+    let given = system(alloc, formulas_of(alloc, formulas)?, 6)?;
     let parts = Parts::new(alloc, Vec::new(alloc), formula_of(alloc, sought)?)?;
     let found = cases(alloc, &parts.context(), &given, &Move::Solved)?;
     Ok(found.is_some())

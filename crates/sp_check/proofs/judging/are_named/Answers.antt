@@ -3,7 +3,7 @@ use Rattle.std.specs.Prelude.{String, bytes_eq, string_bytes}
 use Rattle.std.specs.Slice.Iter.{iter_rest}
 use Rattle.std.proofs.lemmas.Bool.{false_from_ne_true}
 use Rattle.std.proofs.lemmas.Slice.Zip.{either_empty_from_Zip}
-use Rattle.sp_moves_formula.specs.declared.moves.Case.{Case}
+use Rattle.sp_moves.specs.declared.moves.Case.{Case}
 use Rattle.sp_step.specs.View.{case_of}
 use Rattle.sp_check.specs.Judging.{are_named}
 use Rattle.sp_check.proofs.Names.{as_many}

@@ -1,7 +1,7 @@
 use Rattle.std.proofs.Common.{◌≡◌, ◌++◌, map, drop}
 use Rattle.sp_system.specs.SystemView.{event_of, system_of}
 use Rattle.sp_spec_formula.specs.Action as spec
-use Rattle.sp_moves_formula.specs.View.{case_of}
+use Rattle.sp_moves.specs.View.{case_of}
 use Rattle.sp_moves_formula.proofs.at_each.at_each.Given as goal
 
 abbrev pub invariant-loop-event : goal.invariant-loop-event

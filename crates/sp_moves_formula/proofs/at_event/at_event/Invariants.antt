@@ -2,7 +2,7 @@ use Rattle.std.proofs.Common.{◌≡◌, ◌++◌, map, drop}
 use Rattle.sp_fact.specs.View.{action_of}
 use Rattle.sp_system.specs.SystemView.{system_of}
 use Rattle.sp_spec_formula.specs.Action as spec
-use Rattle.sp_moves_formula.specs.View.{case_of}
+use Rattle.sp_moves.specs.View.{case_of}
 use Rattle.sp_moves_formula.proofs.at_event.at_event.Given as goal
 
 abbrev pub invariant-loop-place : goal.invariant-loop-place

@@ -3,7 +3,7 @@ use Rattle.sp_fact.specs.View.{action_of}
 use Rattle.sp_book.specs.BookView.{book_of}
 use Rattle.sp_system.specs.SystemView.{system_of}
 use Rattle.sp_spec_formula.specs.Action as spec
-use Rattle.sp_moves_formula.specs.View.{case_of}
+use Rattle.sp_moves.specs.View.{case_of}
 use Rattle.sp_moves_formula.specs.Book.{by_places}
 use Rattle.sp_moves_formula.proofs.by_rules.by_each.Given as goal
 

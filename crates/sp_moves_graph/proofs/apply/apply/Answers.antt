@@ -1,9 +1,9 @@
 use Rattle.std.proofs.Common.{map, option_map, sym, ap, ◌∙◌}
 use Rattle.sp_system.specs.SystemView.{system_of}
-use Rattle.sp_moves_formula.specs.View.{case_of, move_of}
+use Rattle.sp_moves.specs.View.{case_of, move_of}
 use Rattle.sp_book.specs.BookView.{book_of}
-use Rattle.sp_moves_formula.specs.Applied.{clause_of}
-use Rattle.sp_moves_formula.proofs.Exact.{some_there, none_there}
+use Rattle.sp_moves.specs.Applied.{clause_of}
+use Rattle.sp_moves.proofs.CasesThere.{some_there, none_there}
 use Rattle.sp_moves_graph.specs.WhyNot.{why_not_graph, graph_cases}
 use Rattle.sp_moves_graph.proofs.Exact.{exactly}
 use Rattle.sp_moves_graph.proofs.apply.apply.Goals as goal

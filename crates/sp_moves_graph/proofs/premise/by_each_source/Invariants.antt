@@ -4,7 +4,7 @@ use Rattle.sp_book.specs.View.{rule_forms_of}
 use Rattle.sp_book.specs.BookView.{book_of}
 use Rattle.sp_system.specs.SystemView.{system_of}
 use Rattle.sp_spec_graph.specs.Premise as spec
-use Rattle.sp_moves_formula.specs.View.{case_of}
+use Rattle.sp_moves.specs.View.{case_of}
 use Rattle.sp_moves_graph.proofs.premise.by_each_source.Given as goal
 
 abbrev pub invariant-loop-rule : goal.invariant-loop-rule

@@ -5,7 +5,7 @@ use Rattle.sp_term.specs.Bindings.{bindings}
 use Rattle.sp_term.specs.View.{view, view_all}
 use Rattle.sp_destruct.specs.View.{destruction_of}
 use Rattle.sp_system.specs.SystemView.{system_of}
-use Rattle.sp_spec_graph.specs.Chain.{numbered_from, with_link}
+use Rattle.sp_spec_know.specs.Chain.{numbered_from, with_link}
 use Rattle.sp_moves_know.specs.BegunView.{begun_of}
 use Rattle.sp_moves_know.proofs.Same.{longer_by_link, same_there}
 use Rattle.sp_moves_know.proofs.chain.by_destruction.Goals as goal

@@ -8,8 +8,8 @@ use Rattle.sp_spec_system.specs.System.{System}
 use Rattle.sp_spec_system.specs.Cases.{case_if}
 use Rattle.sp_spec_system.specs.Move.{Case}
 use Rattle.sp_system.specs.SystemView.{system_of}
-use Rattle.sp_spec_graph.specs.Chain.{Begun, by_destructions}
-use Rattle.sp_moves_formula.specs.View.{case_of}
+use Rattle.sp_spec_know.specs.Chain.{Begun, by_destructions}
+use Rattle.sp_moves.specs.View.{case_of}
 use Rattle.sp_moves_know.specs.BegunView.{begun_of}
 use Rattle.sp_moves_know.specs.Linking.{by_destruction}
 use Rattle.sp_moves_know.proofs.chain.by_destructions.Goals as goal

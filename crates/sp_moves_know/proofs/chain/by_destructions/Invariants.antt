@@ -1,8 +1,8 @@
 use Rattle.std.proofs.Common.{◌≡◌, ◌+◌, ◌++◌, map, drop}
 use Rattle.sp_destruct.specs.View.{destruction_of}
 use Rattle.sp_system.specs.SystemView.{system_of}
-use Rattle.sp_spec_graph.specs.Chain as spec
-use Rattle.sp_moves_formula.specs.View.{case_of}
+use Rattle.sp_spec_know.specs.Chain as spec
+use Rattle.sp_moves.specs.View.{case_of}
 use Rattle.sp_moves_know.specs.BegunView.{begun_of}
 use Rattle.sp_moves_know.proofs.chain.by_destructions.Given as goal
 

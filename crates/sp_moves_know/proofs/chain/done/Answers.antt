@@ -5,7 +5,7 @@ use Rattle.sp_term.specs.View.{view}
 use Rattle.sp_spec_system.specs.System.{chain_done}
 use Rattle.sp_system.specs.SystemView.{system_of}
 use Rattle.sp_system.specs.WayView.{done_of}
-use Rattle.sp_spec_graph.specs.Know.{with_way}
+use Rattle.sp_spec_know.specs.Know.{with_way}
 use Rattle.sp_moves_know.proofs.Same.{same_there}
 use Rattle.sp_moves_know.proofs.chain.done.Goals as goal
 

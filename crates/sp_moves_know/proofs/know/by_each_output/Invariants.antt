@@ -2,8 +2,8 @@ use Rattle.std.proofs.Common.{◌≡◌, ◌++◌, map, drop}
 use Rattle.sp_book.specs.View.{rule_forms_of}
 use Rattle.sp_book.specs.BookView.{book_of}
 use Rattle.sp_system.specs.SystemView.{system_of}
-use Rattle.sp_spec_graph.specs.Know.{by_each_output}
-use Rattle.sp_moves_formula.specs.View.{case_of}
+use Rattle.sp_spec_know.specs.Know.{by_each_output}
+use Rattle.sp_moves.specs.View.{case_of}
 use Rattle.sp_moves_know.proofs.know.by_each_output.Given as goal
 
 abbrev pub invariant-loop-rule : goal.invariant-loop-rule

@@ -3,7 +3,7 @@ use Rattle.sp_fact.specs.View.{fact_of}
 use Rattle.sp_term.specs.View.{name_of}
 use Rattle.sp_book.specs.View.{form_of}
 use Rattle.sp_system.specs.SystemView.{system_of}
-use Rattle.sp_spec_graph.specs.Know.{by_outputs}
+use Rattle.sp_spec_know.specs.Know.{by_outputs}
 use Rattle.sp_moves_know.proofs.know.by_outputs.Given as goal
 
 abbrev pub invariant-loop-place : goal.invariant-loop-place

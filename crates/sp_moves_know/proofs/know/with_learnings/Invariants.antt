@@ -1,7 +1,7 @@
 use Rattle.std.proofs.Common.{◌≡◌, drop}
 use Rattle.sp_term.specs.View.{view_all}
 use Rattle.sp_system.specs.SystemView.{system_of}
-use Rattle.sp_spec_graph.specs.Know.{with_learnings}
+use Rattle.sp_spec_know.specs.Know.{with_learnings}
 use Rattle.sp_moves_know.proofs.know.with_learnings.Given as goal
 
 abbrev pub invariant-loop-message : goal.invariant-loop-message

@@ -6,7 +6,7 @@ use Rattle.sp_system.specs.SystemView.{system_of}
 use Rattle.sp_spec_formula.specs.Last as rows
 use Rattle.sp_rows_formula.specs.declared.last.Ending as memory
 use Rattle.sp_system.specs.Reduced.{Reduced}
-use Rattle.sp_rows_formula.specs.EndingView.{ending, ended_at}
+use Rattle.sp_rows_formula.specs.LastView.{ending, ended_at}
 use Rattle.sp_rows_formula.specs.RowsView.{position_of}
 use Rattle.sp_rows_formula.proofs.Endings.{sets_last-there}
 use Rattle.sp_rows_formula.proofs.Searches.{below}

@@ -1,6 +1,6 @@
 use Rattle.std.proofs.Common.{◌≡◌, map, drop}
 use Rattle.sp_system.specs.SystemView.{event_of, system_of}
-use Rattle.sp_spec_graph.specs.FreshFirst as rows
+use Rattle.sp_spec_know.specs.FreshFirst as rows
 use Rattle.sp_spec_system.specs.Picked as picked
 use Rattle.sp_rows_graph.proofs.fresh_first.first_missing.Given as goal
 

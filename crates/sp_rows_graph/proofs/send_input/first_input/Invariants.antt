@@ -1,7 +1,7 @@
 use Rattle.std.proofs.Common.{◌≡◌, map, drop}
 use Rattle.sp_fact.specs.View.{fact_of}
 use Rattle.sp_system.specs.SystemView.{link_of}
-use Rattle.sp_spec_graph.specs.SendInput as rows
+use Rattle.sp_spec_know.specs.SendInput as rows
 use Rattle.sp_rows_graph.proofs.send_input.first_input.Given as goal
 
 abbrev pub invariant-loop-place : goal.invariant-loop-place

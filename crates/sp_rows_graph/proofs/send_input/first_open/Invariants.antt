@@ -1,6 +1,6 @@
 use Rattle.std.proofs.Common.{◌≡◌, map, drop}
 use Rattle.sp_system.specs.SystemView.{event_of, link_of}
-use Rattle.sp_spec_graph.specs.SendInput as rows
+use Rattle.sp_spec_know.specs.SendInput as rows
 use Rattle.sp_spec_system.specs.Picked.{first_some}
 use Rattle.sp_rows_graph.proofs.send_input.first_open.Given as goal
 

@@ -1,6 +1,6 @@
 use Rattle.std.proofs.Common.{◌≡◌, map, drop}
 use Rattle.sp_system.specs.SystemView.{event_of, system_of}
-use Rattle.sp_spec_graph.specs.SendLearnt as rows
+use Rattle.sp_spec_know.specs.SendLearnt as rows
 use Rattle.sp_spec_system.specs.Picked.{first_some}
 use Rattle.sp_rows_graph.proofs.send_learnt.first_unlearnt.Given as goal
 

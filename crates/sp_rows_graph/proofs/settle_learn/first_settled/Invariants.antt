@@ -1,7 +1,7 @@
 use Rattle.std.proofs.Common.{◌≡◌, map, drop}
 use Rattle.sp_fact.specs.GroundView.{symbol_of}
 use Rattle.sp_system.specs.SystemView.{event_of}
-use Rattle.sp_spec_graph.specs.SettleLearn as rows
+use Rattle.sp_spec_know.specs.SettleLearn as rows
 use Rattle.sp_spec_system.specs.Picked.{first_some}
 use Rattle.sp_rows_graph.proofs.settle_learn.first_settled.Given as goal
 

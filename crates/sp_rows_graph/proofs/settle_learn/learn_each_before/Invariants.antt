@@ -1,7 +1,7 @@
 use Rattle.std.proofs.Common.{◌≡◌, map, drop}
 use Rattle.sp_term.specs.View.{view}
 use Rattle.sp_system.specs.SystemView.{system_of}
-use Rattle.sp_spec_graph.specs.SettleLearn.{each_learnt_before}
+use Rattle.sp_spec_know.specs.SettleLearn.{each_learnt_before}
 use Rattle.sp_rows_graph.proofs.settle_learn.learn_each_before.Given as goal
 
 abbrev pub invariant-loop-part : goal.invariant-loop-part

@@ -1,5 +1,5 @@
 use Rattle.std.proofs.Common.{◌≡◌, [], ◌∷◌, option_map, sym, ap, ◌∙◌}
-use Rattle.sp_moves_formula.specs.Applied.{clause_of}
+use Rattle.sp_moves.specs.Applied.{clause_of}
 use Rattle.sp_step.specs.View.{context_of, move_of}
 use Rattle.sp_system.specs.SystemView.{event_of, system_of}
 use Rattle.sp_search.specs.Learning.{listed, moves_at}

@@ -18,13 +18,13 @@ pub returns-in_default : goal.returns-in_default
 returns-in_default c =
     let es = c.args.events.now.items in
     let more : c.loop.counter < length es = omega (arith, c.loop-test.true, c.len-end.ensures, c.args.events.now.ok.0) in
-    stuck c.args.order.now.pairs.items (length es) c.loop.counter (events_of c.loop.left.items) (events_of c.loop.listed.items) (in_order c.args.order.now.pairs.items (map event_of es)) more
+    stuck c.args.order.now (length es) c.loop.counter (events_of c.loop.left.items) (events_of c.loop.listed.items) (in_order c.args.order.now (map event_of es)) more
     (sym c.take_free.ensures ∙ ap (taken_with c.take_free.new.left.items) c.in_default.is) c.loop.invariant
 
 pub loop-preserved : goal.loop-preserved
 loop-preserved c =
     let es = c.args.events.now.items in
     let more : c.loop.counter < length es = omega (arith, c.loop-test.true, c.len-end.ensures, c.args.events.now.ok.0) in
-    one_linear_source c.args.order.now.pairs.items (length es) c.loop.counter (events_of c.loop.left.items) (events_of c.take_free.new.left.items) c.loop.listed.items c.push.new.self.items c.in-Some.event
-    (in_order c.args.order.now.pairs.items (map event_of es)) more
+    one_linear_source c.args.order.now (length es) c.loop.counter (events_of c.loop.left.items) (events_of c.take_free.new.left.items) c.loop.listed.items c.push.new.self.items c.in-Some.event
+    (in_order c.args.order.now (map event_of es)) more
     (sym c.take_free.ensures ∙ ap (taken_with c.take_free.new.left.items) c.in-Some.is) c.in_ok-push.ensures.items c.loop.invariant

@@ -7,5 +7,5 @@ use Rattle.sp_solved.proofs.listing.in_order.Given as goal
 
 abbrev pub invariant-loop : goal.invariant-loop
 invariant-loop l =
-    option_map (λ (es : List Event). events_of l.listed.items ++ es) (one_by_one (length l.events.items - l.counter) l.order.pairs.items (events_of l.left.items))
-    ≡ in_order l.order.pairs.items (map event_of l.events.items)
+    option_map (λ (es : List Event). events_of l.listed.items ++ es) (one_by_one (length l.events.items - l.counter) l.order (events_of l.left.items))
+    ≡ in_order l.order (map event_of l.events.items)

@@ -1,9 +1,9 @@
 use Rattle.std.proofs.Common.{◌≡◌, None, map, option_map, sym, ap, ◌∙◌}
 use Rattle.sp_system.specs.SystemView.{system_of}
 use Rattle.sp_spec_proof.specs.Cases.{cases}
-use Rattle.sp_moves_formula.specs.View.{case_of, move_of}
-use Rattle.sp_moves_formula.specs.Applied.{clause_of}
-use Rattle.sp_moves_formula.proofs.Exact as formula
+use Rattle.sp_moves.specs.View.{case_of, move_of}
+use Rattle.sp_moves.specs.Applied.{clause_of}
+use Rattle.sp_moves.proofs.CasesThere as moves
 use Rattle.sp_step.specs.View.{context_of}
 use Rattle.sp_step.specs.WhyNot.{why_not}
 use Rattle.sp_step.proofs.Exact.{exactly, each_is_asked, none_there}
@@ -29,7 +29,7 @@ returns-in-Some-clause-asked c = each_is_asked (context_of c.args.context.now) (
 
 pub returns-in-Some-clause-why : goal.returns-in-Some-clause-why
 returns-in-Some-clause-why c =
-    formula.some_there (why_not (context_of c.args.context.now) (system_of c.args.system.now) (move_of c.args.chosen.now))
+    moves.some_there (why_not (context_of c.args.context.now) (system_of c.args.system.now) (move_of c.args.chosen.now))
     (cases (context_of c.args.context.now) (system_of c.args.system.now) (move_of c.args.chosen.now))
     (map case_of c.in-Some.cases.items)
     (exactly (context_of c.args.context.now) (system_of c.args.system.now) (move_of c.args.chosen.now))
@@ -39,7 +39,7 @@ pub unreachable-requires : goal.unreachable-requires
 unreachable-requires c =
     let none : None ≡ cases (context_of c.args.context.now) (system_of c.args.system.now) (move_of c.args.chosen.now)
     = ap (option_map (λ cs. map case_of cs.items)) (sym c.in-None.is) ∙ c.in_ok-cases.ensures in
-    absurd (formula.none_there (why_not (context_of c.args.context.now) (system_of c.args.system.now) (move_of c.args.chosen.now))
+    absurd (moves.none_there (why_not (context_of c.args.context.now) (system_of c.args.system.now) (move_of c.args.chosen.now))
     (cases (context_of c.args.context.now) (system_of c.args.system.now) (move_of c.args.chosen.now))
     (exactly (context_of c.args.context.now) (system_of c.args.system.now) (move_of c.args.chosen.now))
     none

@@ -1,5 +1,5 @@
 use Rattle.std.proofs.Common.{◌≡◌, drop}
-use Rattle.sp_system.specs.OrderView.{begins_at}
+use Rattle.sp_spec_system.specs.Order.{begins_at}
 use Rattle.sp_system.proofs.order.begins_at.Given as goal
 
 abbrev pub invariant-loop-pair : goal.invariant-loop-pair

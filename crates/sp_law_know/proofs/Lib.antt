@@ -1,0 +1,17 @@
+pub mod Learnt
+pub mod Learning
+pub mod KnowParts
+pub mod KnowOutputs
+pub mod KnowWanted
+pub mod Know
+pub mod ChainValues
+pub mod ChainLinks
+pub mod ChainBegun
+pub mod Chain
+pub mod SendInput
+pub mod SendLearnt
+pub mod LearnOnce
+pub mod SettleLearn
+pub mod FreshFirst
+pub mod LearntEarly
+pub mod Once

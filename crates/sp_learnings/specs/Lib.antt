@@ -1,0 +1,2 @@
+pub mod LearningView
+pub mod SettlingView

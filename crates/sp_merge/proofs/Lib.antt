@@ -1,0 +1,5 @@
+pub mod Pairs
+pub mod MergingSearches
+pub mod MergingPlaces
+pub mod Merges
+pub mod Turns

@@ -1,0 +1,3 @@
+pub mod MadeOneView
+pub mod MergingView
+pub mod JoiningView

@@ -1,0 +1,3 @@
+pub mod CasesThere
+pub mod Occurring
+pub mod NoEvent

@@ -1,8 +1,0 @@
-use Rattle.std.proofs.Common.{◌≡◌, map, drop}
-use Rattle.sp_formula.specs.FormulaView.{formula_of}
-use Rattle.sp_moves_graph.specs.Times.{formulas_have}
-use Rattle.sp_moves_graph.proofs.times.+formula_has.Given as goal
-
-abbrev pub invariant-formulas_have-loop-formula : goal.invariant-formulas_have-loop-formula
-invariant-formulas_have-loop-formula l =
-    formulas_have l.time (map formula_of l.formulas.items) ≡ formulas_have l.time (map formula_of (drop l.formula-index l.formula-items))

@@ -1,6 +1,0 @@
-use Rattle.std.proofs.Common.{◌≡◌, drop}
-use Rattle.sp_moves_graph.specs.Times.{order_has}
-use Rattle.sp_moves_graph.proofs.times.order_has.Given as goal
-
-abbrev pub invariant-loop-pair : goal.invariant-loop-pair
-invariant-loop-pair l = order_has l.time l.order.items ≡ order_has l.time (drop l.pair-index l.pair-items)

@@ -1,6 +1,0 @@
-use Rattle.sp_spec_formula.specs.InOrder as rows
-use Rattle.sp_rows_formula.proofs.Searches.{IsLeft}
-use Rattle.sp_rows_formula.proofs.order.first_ordering.Given as goal
-
-abbrev pub invariant-loop-position : goal.invariant-loop-position
-invariant-loop-position l = IsLeft (rows.order_of l.order.items) l.formulas.items l.position

@@ -1,0 +1,86 @@
+// The terms whose Fr premises and events use.
+
+ghost use Rattle.std.specs.Prelude.{◌≡◌, ◌≤◌, drop, length, map, option_map};
+ghost use Rattle.sp_term.specs.View.{view};
+ghost use Rattle.sp_fact.specs.View.{fact_of};
+ghost use Rattle.sp_system.specs.SystemView.{event_of};
+ghost use Rattle.sp_spec_graph.specs.Fresh as fresh;
+ghost use Rattle.sp_rows_graph.specs.FreshView.{fresh_one, own_one};
+
+use sp_fact::fact::Fact;
+use sp_learnings::premise::is_fresh;
+use sp_system::event::{Event, What};
+use sp_system::way::Way;
+use sp_term::term::{Term, same};
+
+/// The term whose Fr the premise uses.
+pub fn fresh_term(fact: &Fact) -> Option<&Term>
+    ensures { option_map (λ t. view t.now) result ≡ fresh_one (fact_of fact.now) }
+{
+    if is_fresh(fact) {
+        fact.args.first()
+    } else {
+        None
+    }
+}
+
+/// Whether some of the premises from `start` on use the Fr of the term.
+pub(crate) fn stands_in(term: &Term, premises: &Vec<Fact>, start: usize) -> bool
+    requires { start ≤ length premises.now.items }
+    ensures { result ≡ fresh.stands_in (view term.now) (fresh.fresh_terms (map fact_of (drop start premises.now.items))) }
+{
+    for position in start..premises.len() {
+        if let Some(other) = fresh_term(&premises[position]) {
+            if same(term, other) {
+                return true;
+            }
+        }
+    }
+    false
+}
+
+/// What the event learns as a name of the adversary's own.
+pub(crate) fn own_name(event: &Event) -> Option<&Term>
+    ensures { option_map (λ t. view t.now) result ≡ own_one (event_of event.now).happening }
+{
+    match &event.what {
+        What::Learn(message, Way::OwnName) => Some(message),
+        _ => None,
+    }
+}
+
+// Whether the event uses the Fr of the term.
+#[tactic(auto, using(crate::proofs::FreshTerms::fresh_seen))]
+fn uses_fresh(term: &Term, event: &Event) -> bool
+    ensures { result ≡ fresh.stands_in (view term.now) (fresh.happening_fresh (event_of event.now).happening) }
+{
+    match own_name(event) {
+        Some(name) => same(term, name),
+        None => stands_in(term, event.premises(), 0),
+    }
+}
+
+// Whether the event uses an Fr that one of the premises uses.
+fn uses_one(premises: &Vec<Fact>, event: &Event) -> bool
+    ensures { result ≡ fresh.share_one (fresh.fresh_terms (map fact_of premises.now.items)) (fresh.happening_fresh (event_of event.now).happening) }
+{
+    for premise in premises {
+        if let Some(term) = fresh_term(premise) {
+            if uses_fresh(term, event) {
+                return true;
+            }
+        }
+    }
+    false
+}
+
+/// Whether the events use one Fr.
+#[tactic(auto, using(crate::proofs::FreshTerms::fresh_seen))]
+pub(crate) fn shares_fresh(event: &Event, other: &Event) -> bool
+    ensures { result ≡ fresh.shares_fresh (event_of event.now) (event_of other.now) }
+{
+    match own_name(event) {
+        Some(name) => uses_fresh(name, other),
+        None => uses_one(event.premises(), other),
+    }
+}

@@ -1,0 +1,10 @@
+pub mod Learning
+pub mod SendInput
+pub mod SendLearnt
+pub mod LearnOnce
+pub mod SettleLearn
+pub mod FreshFirst
+pub mod LearntEarly
+pub mod Know
+pub mod Chain
+pub mod Source

@@ -1,0 +1,20 @@
+// What rows and contradictions give on worked examples: terms, formulas and systems in memory, what unifies, rows, instances, the last time.
+// Below stand what steps are tried on (sp_test_steps) and the crates from terms (sp_term) to all rows and moves (sp_step).
+// Nothing stands above.
+// Nothing is promised here: what the clauses of those crates don't say is shown, that they say what is meant, by values that come from
+// outside.
+// A table is a static: a function that names a constant makes its value anew, step by step, and each step is proved.
+#![tactic(auto)]
+
+#[cfg(test)]
+mod contradictions;
+#[cfg(test)]
+mod instances;
+#[cfg(test)]
+mod lasts;
+#[cfg(test)]
+mod rows;
+#[cfg(test)]
+mod systems;
+#[cfg(test)]
+mod values;
