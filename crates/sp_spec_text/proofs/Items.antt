@@ -6,7 +6,7 @@ use Rattle.sp_spec.specs.Signature.{pair_symbols}
 use Rattle.sp_spec.specs.Written.{WrittenRule, WrittenTheory}
 use Rattle.std.specs.List.{flat_map}
 use Rattle.sp_spec.specs.Signature.{Symbol}
-use Rattle.sp_spec_text.specs.Written.{WrittenProof, Item, builtins_item, functions_item, equations_item, rule_item, lemma_item, item_builtins, item_functions, item_equations, item_rules, item_lemmas, WrittenText, rules_in, lemmas_with_proofs, without_proofs, lemmas_in, proofs_in, with_proofs}
+use Rattle.sp_spec_text.specs.Written.{WrittenProof, Attribute, Item, builtins_item, functions_item, equations_item, heuristic_item, block_item, rule_item, restriction_item, lemma_item, item_builtins, item_functions, item_equations, item_rules, item_restrictions, item_lemmas, WrittenText, rules_in, restrictions_in, lemmas_with_proofs, without_proofs, lemmas_in, proofs_in, with_proofs}
 use Rattle.sp_spec_text.specs.Declared.{declared_symbols, all_symbols, new_symbols, declared_equations, added_equations, their_equations, resolved_item, resolved, theory_in}
 
 pub lemmas_begin : (x : Item) (items : List Item) → lemmas_in (x ∷ items) ≡ without_proofs (item_lemmas x) ++ lemmas_in items
@@ -23,12 +23,15 @@ lemmas_put [] proofs = refl
 lemmas_put (builtins_item bs ∷ items) proofs = lemmas_put items proofs
 lemmas_put (functions_item ss ∷ items) proofs = lemmas_put items proofs
 lemmas_put (equations_item es ∷ items) proofs = lemmas_put items proofs
-lemmas_put (rule_item r ∷ items) proofs = lemmas_put items proofs
-lemmas_put (lemma_item l p ∷ items) [] = ap (λ (qs : List (Lemma × Option WrittenProof)). (l, p) ∷ qs) (lemmas_put items [])
-lemmas_put (lemma_item l p ∷ items) (q ∷ proofs) = ap (λ (qs : List (Lemma × Option WrittenProof)). (l, q) ∷ qs) (lemmas_put items proofs)
+lemmas_put (heuristic_item ws ∷ items) proofs = lemmas_put items proofs
+lemmas_put (block_item w ∷ items) proofs = lemmas_put items proofs
+lemmas_put (rule_item bs r ∷ items) proofs = lemmas_put items proofs
+lemmas_put (restriction_item r ∷ items) proofs = lemmas_put items proofs
+lemmas_put (lemma_item l as' p ∷ items) [] = ap (λ (qs : List (Lemma × Option WrittenProof)). (l, p) ∷ qs) (lemmas_put items [])
+lemmas_put (lemma_item l as' p ∷ items) (q ∷ proofs) = ap (λ (qs : List (Lemma × Option WrittenProof)). (l, q) ∷ qs) (lemmas_put items proofs)
 
 -- what items say that don't look at proofs
-module _ {A : Type 0} (f : Item → List A) (alike : (l : Lemma) (p q : Option WrittenProof) → f (lemma_item l p) ≡ f (lemma_item l q)) where
+module _ {A : Type 0} (f : Item → List A) (alike : (l : Lemma) (as' : List Attribute) (p q : Option WrittenProof) → f (lemma_item l as' p) ≡ f (lemma_item l as' q)) where
   after : (x : Item) {xs ys : List A} → xs ≡ ys → f x ++ xs ≡ f x ++ ys
   after x e = ap (λ (zs : List A). f x ++ zs) e
 
@@ -37,17 +40,20 @@ module _ {A : Type 0} (f : Item → List A) (alike : (l : Lemma) (p q : Option W
   kept (builtins_item bs ∷ items) proofs = after (builtins_item bs) (kept items proofs)
   kept (functions_item ss ∷ items) proofs = after (functions_item ss) (kept items proofs)
   kept (equations_item es ∷ items) proofs = after (equations_item es) (kept items proofs)
-  kept (rule_item r ∷ items) proofs = after (rule_item r) (kept items proofs)
-  kept (lemma_item l p ∷ items) [] = after (lemma_item l p) (kept items [])
-  kept (lemma_item l p ∷ items) (q ∷ proofs) =
-      ap (λ (zs : List A). zs ++ flat_map f (with_proofs items proofs)) (alike l q p) ∙ after (lemma_item l p) (kept items proofs)
+  kept (heuristic_item ws ∷ items) proofs = after (heuristic_item ws) (kept items proofs)
+  kept (block_item w ∷ items) proofs = after (block_item w) (kept items proofs)
+  kept (rule_item bs r ∷ items) proofs = after (rule_item bs r) (kept items proofs)
+  kept (restriction_item r ∷ items) proofs = after (restriction_item r) (kept items proofs)
+  kept (lemma_item l as' p ∷ items) [] = after (lemma_item l as' p) (kept items [])
+  kept (lemma_item l as' p ∷ items) (q ∷ proofs) =
+      ap (λ (zs : List A). zs ++ flat_map f (with_proofs items proofs)) (alike l as' q p) ∙ after (lemma_item l as' p) (kept items proofs)
 
 rules_listed : (items : List Item) → rules_in items ≡ flat_map item_rules items
 rules_listed [] = refl
 rules_listed (x ∷ items) = ap (λ (rs : List WrittenRule). item_rules x ++ rs) (rules_listed items)
 
 rules_kept : (items : List Item) (proofs : List (Option WrittenProof)) → rules_in (with_proofs items proofs) ≡ rules_in items
-rules_kept items proofs = rules_listed (with_proofs items proofs) ∙ (kept item_rules (λ l p q. refl) items proofs ∙ sym (rules_listed items))
+rules_kept items proofs = rules_listed (with_proofs items proofs) ∙ (kept item_rules (λ l as' p q. refl) items proofs ∙ sym (rules_listed items))
 
 lemmas_stay : (qs : List (Lemma × Option WrittenProof)) (proofs : List (Option WrittenProof)) → without_proofs (proved_by qs proofs) ≡ without_proofs qs
 lemmas_stay [] proofs = refl
@@ -63,18 +69,21 @@ resolved_with symbols [] proofs = refl
 resolved_with symbols (builtins_item bs ∷ items) proofs = ap (λ (xs : List Item). resolved_item symbols (builtins_item bs) ∷ xs) (resolved_with symbols items proofs)
 resolved_with symbols (functions_item ss ∷ items) proofs = ap (λ (xs : List Item). resolved_item symbols (functions_item ss) ∷ xs) (resolved_with symbols items proofs)
 resolved_with symbols (equations_item es ∷ items) proofs = ap (λ (xs : List Item). resolved_item symbols (equations_item es) ∷ xs) (resolved_with symbols items proofs)
-resolved_with symbols (rule_item r ∷ items) proofs = ap (λ (xs : List Item). resolved_item symbols (rule_item r) ∷ xs) (resolved_with symbols items proofs)
-resolved_with symbols (lemma_item l p ∷ items) [] = ap (λ (xs : List Item). resolved_item symbols (lemma_item l p) ∷ xs) (resolved_with symbols items [])
-resolved_with symbols (lemma_item l p ∷ items) (q ∷ proofs) = ap (λ (xs : List Item). resolved_item symbols (lemma_item l q) ∷ xs) (resolved_with symbols items proofs)
+resolved_with symbols (heuristic_item ws ∷ items) proofs = ap (λ (xs : List Item). resolved_item symbols (heuristic_item ws) ∷ xs) (resolved_with symbols items proofs)
+resolved_with symbols (block_item w ∷ items) proofs = ap (λ (xs : List Item). resolved_item symbols (block_item w) ∷ xs) (resolved_with symbols items proofs)
+resolved_with symbols (rule_item bs r ∷ items) proofs = ap (λ (xs : List Item). resolved_item symbols (rule_item bs r) ∷ xs) (resolved_with symbols items proofs)
+resolved_with symbols (restriction_item r ∷ items) proofs = ap (λ (xs : List Item). resolved_item symbols (restriction_item r) ∷ xs) (resolved_with symbols items proofs)
+resolved_with symbols (lemma_item l as' p ∷ items) [] = ap (λ (xs : List Item). resolved_item symbols (lemma_item l as' p) ∷ xs) (resolved_with symbols items [])
+resolved_with symbols (lemma_item l as' p ∷ items) (q ∷ proofs) = ap (λ (xs : List Item). resolved_item symbols (lemma_item l as' q) ∷ xs) (resolved_with symbols items proofs)
 
 abbrev proved_anew : WrittenText → List (Option WrittenProof) → WrittenText
 proved_anew theory proofs = record { name = theory.name; items = with_proofs theory.items proofs }
 
 symbols_kept : (items : List Item) (proofs : List (Option WrittenProof)) → declared_symbols (with_proofs items proofs) ≡ declared_symbols items
-symbols_kept items proofs = rw (kept item_builtins (λ l p q. refl) items proofs, kept item_functions (λ l p q. refl) items proofs) refl
+symbols_kept items proofs = rw (kept item_builtins (λ l as' p q. refl) items proofs, kept item_functions (λ l as' p q. refl) items proofs) refl
 
 equations_kept : (items : List Item) (proofs : List (Option WrittenProof)) → declared_equations (with_proofs items proofs) ≡ declared_equations items
-equations_kept items proofs = rw (kept item_builtins (λ l p q. refl) items proofs, kept item_equations (λ l p q. refl) items proofs) refl
+equations_kept items proofs = rw (kept item_builtins (λ l as' p q. refl) items proofs, kept item_equations (λ l as' p q. refl) items proofs) refl
 
 pub resolved_anew : (theory : WrittenText) (proofs : List (Option WrittenProof)) → resolved (proved_anew theory proofs) ≡ proved_anew (resolved theory) proofs
 resolved_anew theory proofs = rw (symbols_kept theory.items proofs, resolved_with (all_symbols theory.items) theory.items proofs) refl
@@ -86,12 +95,12 @@ theory_from symbols t = record {
   symbols = new_symbols pair_symbols symbols;
   equations = their_equations (added_equations t.items);
   rules = rules_in t.items;
-  restrictions = [];
+  restrictions = restrictions_in t.items;
   lemmas = lemmas_in t.items;
 }
 
 from_kept : (symbols : List Symbol) (t : WrittenText) (proofs : List (Option WrittenProof)) → theory_from symbols (proved_anew t proofs) ≡ theory_from symbols t
-from_kept symbols t proofs = rw (equations_kept t.items proofs, rules_kept t.items proofs, lemmas_kept t.items proofs) refl
+from_kept symbols t proofs = rw (equations_kept t.items proofs, rules_kept t.items proofs, kept item_restrictions (λ l as' p q. refl) t.items proofs, lemmas_kept t.items proofs) refl
 
 pub theory_kept : (theory : WrittenText) (proofs : List (Option WrittenProof)) → theory_in (proved_anew theory proofs) ≡ theory_in theory
 theory_kept theory proofs =

@@ -13,9 +13,10 @@ pub data Mark : Type 0 where
   Neither : Mark
 
 -- what is wrong at a place of a text: a byte that begins no token, a comment that is not closed, a quote that begins no constant, a
--- `solve(` whose bracket is not closed
+-- `solve(` whose bracket is not closed, a block of text that is not closed
 pub data FaultKind : Type 0 where
   NoToken : FaultKind
   OpenComment : FaultKind
   NoConstant : FaultKind
   OpenSolve : FaultKind
+  OpenBlock : FaultKind

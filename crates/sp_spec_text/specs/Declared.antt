@@ -1,5 +1,5 @@
--- The theory that a text says: its signature, of the pairs, the builtins and its own functions and equations, its rules and its lemmas. A bare name
--- that is declared with arity 0 is that symbol, unless a quantifier binds it. Source: Tamarin manual, "Cryptographic messages" (built-in theories,
+-- The theory that a text says: its signature, of the pairs, the builtins and its own functions and equations, its rules with the values of their
+-- bindings, its restrictions and its lemmas. A bare name that is declared with arity 0 is that symbol, unless a quantifier or `let` binds it. Source: Tamarin manual, "Cryptographic messages" (built-in theories,
 -- user-defined functions and equations).
 use Rattle.std.specs.Prelude.{ℕ, suc, Bool, true, false, not, ◌&&◌, ◌||◌, ◌==◌, if◌then◌else◌, List, [], ◌∷◌, ◌++◌, map, Option, Some, None, codes}
 use Rattle.std.specs.List.{flat_map}
@@ -10,9 +10,10 @@ use Rattle.sp_spec.specs.Same.{alike}
 use Rattle.sp_spec.specs.Signature.{Symbol, Equation, msg, pair_symbols, pair_equations}
 use Rattle.sp_spec.specs.Rule.{action_at, facts_at}
 use Rattle.sp_spec.specs.Formula.{Mark, bare, of_sort, of_time, Written, Formula, truth, falsity, happens, equals, precedes, not_so, both, either, implies, for_all, for_some}
-use Rattle.sp_spec.specs.Theory.{Lemma}
+use Rattle.sp_spec.specs.Theory.{Restriction, Lemma}
 use Rattle.sp_spec.specs.Written.{WrittenRule, WrittenTheory, names_after, place_of}
-use Rattle.sp_spec_text.specs.Written.{Item, builtins_item, functions_item, equations_item, rule_item, lemma_item, builtins_in, functions_in, equations_in, rules_in, lemmas_in, WrittenText}
+use Rattle.sp_spec_text.specs.Bindings.{with_values}
+use Rattle.sp_spec_text.specs.Written.{Item, builtins_item, functions_item, equations_item, heuristic_item, block_item, rule_item, restriction_item, lemma_item, builtins_in, functions_in, equations_in, rules_in, restrictions_in, lemmas_in, WrittenText}
 
 -- ---- builtins
 
@@ -130,20 +131,27 @@ resolved_formula symbols bound (for_some x f) = for_some x (resolved_formula sym
 abbrev pub resolved_lemma : List Symbol → Lemma → Lemma
 resolved_lemma symbols l = record { name = l.name; kind = l.kind; formula = resolved_formula symbols [] l.formula }
 
+abbrev pub resolved_restriction : List Symbol → Restriction → Restriction
+resolved_restriction symbols r = record { name = r.name; formula = resolved_formula symbols [] r.formula }
+
 abbrev pub resolved_equation : List Symbol → Term Written × Term Written → Term Written × Term Written
 resolved_equation symbols e = (resolved_term symbols [] e.0, resolved_term symbols [] e.1)
 
 abbrev pub resolved_rule : List Symbol → WrittenRule → WrittenRule
 resolved_rule symbols r = record { name = r.name; facts = facts_at (resolved_name symbols []) r.facts }
 
+-- bindings are replaced first, so that a name that is bound is none of a symbol
 abbrev pub resolved_item : List Symbol → Item → Item
 resolved_item symbols (builtins_item bs) = builtins_item bs
 resolved_item symbols (functions_item ss) = functions_item ss
 resolved_item symbols (equations_item es) = equations_item (map (resolved_equation symbols) es)
-resolved_item symbols (rule_item r) = rule_item (resolved_rule symbols r)
-resolved_item symbols (lemma_item l p) = lemma_item (resolved_lemma symbols l) p
+resolved_item symbols (heuristic_item ws) = heuristic_item ws
+resolved_item symbols (block_item w) = block_item w
+resolved_item symbols (rule_item bs r) = rule_item [] (resolved_rule symbols (with_values bs r))
+resolved_item symbols (restriction_item r) = restriction_item (resolved_restriction symbols r)
+resolved_item symbols (lemma_item l as' p) = lemma_item (resolved_lemma symbols l) as' p
 
--- the text with symbols in the place of the names that are such
+-- the text with values in the place of the names that are bound, and with symbols in that of the names that are such
 abbrev pub resolved : WrittenText → WrittenText
 resolved t = record { name = t.name; items = map (resolved_item (all_symbols t.items)) t.items }
 
@@ -210,6 +218,6 @@ theory_in t = record {
   symbols = new_symbols pair_symbols (declared_symbols t.items);
   equations = their_equations (added_equations (resolved t).items);
   rules = rules_in (resolved t).items;
-  restrictions = [];
+  restrictions = restrictions_in (resolved t).items;
   lemmas = lemmas_in (resolved t).items;
 }

@@ -1,19 +1,11 @@
 -- Where tokens end.
-use Rattle.std.specs.Prelude.{ℕ, Bool, true, false, if◌then◌else◌, List, [], ◌∷◌}
-use Rattle.sp_spec_text.specs.Signs as s
-use Rattle.sp_spec_text.specs.Token.{Lexeme, word, constant, sign, solve, Token}
+use Rattle.std.specs.Prelude.{ℕ, Bool, true, if◌then◌else◌, List, [], ◌∷◌}
+use Rattle.sp_spec_text.specs.Token.{Lexeme, Token}
 
 -- behind the last token that passes the test, or else this place
 abbrev pub place_behind : (Lexeme → Bool) → ℕ → List Token → ℕ
 place_behind p place [] = place
 place_behind p place (t ∷ ts) = place_behind p (if p t.lexeme then t.end else place) ts
-
-abbrev pub is_quote : Lexeme → Bool
-is_quote (word w) = false
-is_quote (constant c) = false
-is_quote (sign s.Quote) = true
-is_quote (sign _) = false
-is_quote (solve s) = false
 
 abbrev pub is_any : Lexeme → Bool
 is_any x = true

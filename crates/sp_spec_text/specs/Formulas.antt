@@ -10,8 +10,8 @@ use Rattle.sp_spec.specs.Term as t
 use Rattle.sp_spec.specs.Signature.{pair}
 use Rattle.sp_spec.specs.Rule.{Fact}
 use Rattle.sp_spec.specs.Formula.{Mark, bare, Written, Formula, truth, falsity, happens, equals, precedes, not_so, both, either, implies, for_some}
-use Rattle.sp_spec_text.specs.Names.{IsName, names_fact, mark_of, mark_at}
-use Rattle.sp_spec_text.specs.Lists.{IsNotFirst}
+use Rattle.sp_spec_text.specs.Names.{IsName, names_fact, mark_of, mark_at, is_annotation}
+use Rattle.sp_spec_text.specs.Lists.{IsNotFirst, AreParts}
 use Rattle.sp_spec_text.specs.Shapes.{written, fact, action_of, quantified}
 
 -- var: `~` name ; `$` name ; `#` name ; name ; name `:` (fresh pub msg node)
@@ -45,10 +45,19 @@ mutual
     last_term : {n : ℕ} {x : Term Written} {tokens rest : List Lexeme} → SpellsTerm n tokens x (sign s.Close ∷ rest) → SpellsTerms n tokens (more x none) rest
     next_term : {n : ℕ} {x : Term Written} {xs : Terms Written} {tokens mid rest : List Lexeme} → SpellsTerm n tokens x (sign s.Comma ∷ mid) → SpellsTerms n mid xs rest → SpellsTerms n tokens (more x xs) rest
 
--- fact: `!`? name `(` term,* `)`
+-- `+` `-` `no_precomp`
+pub data SpellsAnnotation : List Lexeme → Lexeme → List Lexeme → Type 0 where
+  annotation : {x : Lexeme} {rest : List Lexeme} → is_annotation x ≡ true → SpellsAnnotation (x ∷ rest) x rest
+
+-- (`[` annotation,+ `]`)?, which say nothing of a fact
+pub data SpellsAnnotations : List Lexeme → List Lexeme → Type 0 where
+  no_annotation : {rest : List Lexeme} → SpellsAnnotations rest rest
+  annotations : {each : List Lexeme} {tokens rest : List Lexeme} → AreParts SpellsAnnotation s.Comma s.CloseList tokens each rest → SpellsAnnotations (sign s.OpenList ∷ tokens) rest
+
+-- fact: `!`? name `(` term,* `)` annotations
 pub data SpellsFact (n : ℕ) : List Lexeme → Fact Written → List Lexeme → Type 0 where
-  linear : {w : List ℕ} {args : Terms Written} {tokens rest : List Lexeme} → names_fact w ≡ true → n < 128 → SpellsArguments (n + 1) tokens args rest → SpellsFact n (word w ∷ sign s.Open ∷ tokens) (fact w false args) rest
-  persistent : {w : List ℕ} {args : Terms Written} {tokens rest : List Lexeme} → names_fact w ≡ true → n < 128 → SpellsArguments (n + 1) tokens args rest → SpellsFact n (sign s.Bang ∷ word w ∷ sign s.Open ∷ tokens) (fact w true args) rest
+  linear : {w : List ℕ} {args : Terms Written} {tokens mid rest : List Lexeme} → names_fact w ≡ true → n < 128 → SpellsArguments (n + 1) tokens args mid → SpellsAnnotations mid rest → SpellsFact n (word w ∷ sign s.Open ∷ tokens) (fact w false args) rest
+  persistent : {w : List ℕ} {args : Terms Written} {tokens mid rest : List Lexeme} → names_fact w ≡ true → n < 128 → SpellsArguments (n + 1) tokens args mid → SpellsAnnotations mid rest → SpellsFact n (sign s.Bang ∷ word w ∷ sign s.Open ∷ tokens) (fact w true args) rest
 
 -- var+ `.`
 pub data SpellsBinders : List Lexeme → List Written → List Lexeme → Type 0 where

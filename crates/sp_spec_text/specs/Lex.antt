@@ -3,15 +3,15 @@ use Rattle.std.specs.Prelude.{◌≡◌, ℕ, ◌+◌, ◌-◌, ◌<◌, Bool, t
 use Rattle.std.specs.List.{starts_with}
 use Rattle.std.specs.Str.{bytes_eq}
 use Rattle.std.specs.Char.{is_ascii_alphanumeric, is_ascii_digit}
-use Rattle.sp_spec_text.specs.Signs.{Sign}
+use Rattle.sp_spec_text.specs.Signs.{Sign, Wide}
 use Rattle.sp_spec_text.specs.Signs as s
 use Rattle.sp_spec_text.specs.Bytes.{Class}
 use Rattle.sp_spec_text.specs.Bytes as class
 use Rattle.sp_spec_text.specs.Bytes.{Mark}
 use Rattle.sp_spec_text.specs.Bytes.{Opens, Closes, Neither}
 use Rattle.sp_spec_text.specs.Bytes.{FaultKind}
-use Rattle.sp_spec_text.specs.Bytes.{NoToken, OpenComment, NoConstant, OpenSolve}
-use Rattle.sp_spec_text.specs.Token.{Lexeme, word, constant, sign, solve, Token}
+use Rattle.sp_spec_text.specs.Bytes.{NoToken, OpenComment, NoConstant, OpenSolve, OpenBlock}
+use Rattle.sp_spec_text.specs.Token.{Lexeme, word, constant, sign, solve, wide, block, Token}
 
 abbrev pub is_blank : ℕ → Bool
 is_blank b = b == 32 || b == 9 || b == 10 || b == 13
@@ -117,7 +117,7 @@ short_sign b =
     else if b == 64 then Some s.At else if b == 38 then Some s.And else if b == 124 then Some s.Or
     else if b == 61 then Some s.Equals else if b == 60 then Some s.Less else if b == 45 then Some s.Dash
     else if b == 123 then Some s.OpenBrace else if b == 125 then Some s.CloseBrace
-    else if b == 62 then Some s.Greater else if b == 47 then Some s.Slash
+    else if b == 62 then Some s.Greater else if b == 47 then Some s.Slash else if b == 43 then Some s.Plus
     else None
 
 abbrev pub short_piece : Option Sign → List ℕ → Piece
@@ -138,11 +138,45 @@ first_sign bytes =
     else if begins (codes "<=>") bytes then token (sign s.Iff) (drop 3 bytes)
     else first_short bytes
 
--- a word, a constant, or a sign
+-- the sign of logic that these three bytes are: U+2200, U+2203, U+2227, U+2228, U+21D2, U+21D4, U+22A4 or U+22A5 in UTF-8
+unfoldable pub long_sign : ℕ → ℕ → ℕ → Option Wide
+long_sign a b c =
+    if not (a == 226) then None
+    else if b == 136 then (if c == 128 then Some s.All else if c == 131 then Some s.Ex else if c == 167 then Some s.Both else if c == 168 then Some s.Either else None)
+    else if b == 135 then (if c == 146 then Some s.Then else if c == 148 then Some s.Same else None)
+    else if b == 138 then (if c == 164 then Some s.True else if c == 165 then Some s.False else None)
+    else None
+
+abbrev pub long_piece : Option Wide → List ℕ → Piece
+long_piece None rest = no_token NoToken
+long_piece (Some x) rest = token (wide x) rest
+
+abbrev pub first_long : List ℕ → Piece
+first_long (a ∷ b ∷ c ∷ bytes) = long_piece (long_sign a b c) bytes
+first_long _ = no_token NoToken
+
+-- a sign of logic that is longer than a byte; U+00AC has two
+unfoldable pub first_wide : List ℕ → Piece
+first_wide bytes = if begins (194 ∷ 172 ∷ []) bytes then token (wide s.Not) (drop 2 bytes) else first_long bytes
+
+-- what follows the first `*}`, if one is there
+unfoldable pub after_block : List ℕ → Option (List ℕ)
+after_block [] = None
+after_block (a ∷ []) = None
+after_block (a ∷ b ∷ bytes) = if a == 42 && b == 125 then Some bytes else after_block (b ∷ bytes)
+
+-- behind `{*`
+abbrev pub close_block : Option (List ℕ) → Piece
+close_block None = no_token OpenBlock
+close_block (Some rest) = token block rest
+
+-- a word, a constant, a block of text, or a sign; the bytes of signs that are longer than a byte begin with 194 or 226
 unfoldable pub piece : List ℕ → Piece
 piece bytes =
     if is_first is_ascii_alphanumeric bytes then token (word (before bytes (skip class.Word (drop 1 bytes)))) (skip class.Word (drop 1 bytes))
     else if is_first (λ b. b == 39) bytes then close_constant (drop 1 bytes) (skip class.Constant (drop 1 bytes))
+    else if begins (codes "{*") bytes then close_block (after_block (drop 2 bytes))
+    else if is_first (λ b. b == 194 || b == 226) bytes then first_wide bytes
     else first_sign bytes
 
 -- ---- the text behind `solve(`
@@ -180,15 +214,11 @@ solve_piece bytes = closed_by bytes (to_closing false 0 bytes)
 
 abbrev pub is_end : Lexeme → Bool
 is_end (word w) = bytes_eq w (codes "end")
-is_end (constant c) = false
-is_end (sign x) = false
-is_end (solve s) = false
+is_end _ = false
 
 abbrev pub is_solve : Lexeme → Bool
 is_solve (word w) = bytes_eq w (codes "solve")
-is_solve (constant c) = false
-is_solve (sign x) = false
-is_solve (solve s) = false
+is_solve _ = false
 
 abbrev pub is_solve_word : Piece → Bool
 is_solve_word (token x rest) = is_solve x

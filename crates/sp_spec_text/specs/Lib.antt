@@ -2,6 +2,7 @@ pub mod Signs
 pub mod Bytes
 pub mod Token
 pub mod Lex
+pub mod Plain
 pub mod Ends
 pub mod Names
 pub mod Numerals
@@ -9,14 +10,13 @@ pub mod Blanks
 pub mod Lists
 pub mod Shapes
 pub mod Formulas
+pub mod Bindings
 pub mod Written
+pub mod Attributes
 pub mod Declared
 pub mod Proofs
 pub mod Theories
 pub mod Spans
 pub mod Texts
 pub mod Behind
-pub mod Printed
-pub mod StepLines
-pub mod Kind
-pub mod Verdict
+pub mod Waiting

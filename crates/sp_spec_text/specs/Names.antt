@@ -1,9 +1,10 @@
--- Which words are names, which name facts, and what marks a variable's sort. Source: Tamarin manual, "Syntax description".
+-- Which words are names, which name facts, what marks a variable's sort, and what annotates a fact. Source: Tamarin manual, "Syntax description".
 use Rattle.std.specs.Prelude.{◌≡◌, ℕ, Bool, true, false, not, ◌&&◌, ◌||◌, if◌then◌else◌, List, [], ◌∷◌, Option, Some, None, codes}
 use Rattle.std.specs.Str.{bytes_eq}
 use Rattle.std.specs.Char.{is_ascii_uppercase, is_ascii_alphanumeric}
 use Rattle.sp_spec_text.specs.Signs.{Sign}
 use Rattle.sp_spec_text.specs.Signs as s
+use Rattle.sp_spec_text.specs.Token.{Lexeme, word, sign}
 use Rattle.sp_spec_text.specs.Bytes as class
 use Rattle.sp_spec_text.specs.Lex.{skip}
 use Rattle.sp_spec.specs.Term.{Msg, Fresh, Pub}
@@ -31,12 +32,8 @@ abbrev pub is_capital : List ℕ → Bool
 is_capital [] = false
 is_capital (b ∷ bytes) = is_ascii_uppercase b
 
--- the action of what the adversary learns, which names no fact in the grammar so far
-unfoldable pub is_learning : List ℕ → Bool
-is_learning w = bytes_eq w (codes "KU")
-
 abbrev pub names_fact : List ℕ → Bool
-names_fact w = is_capital w && not (is_reserved w) && not (is_learning w)
+names_fact w = is_capital w && not (is_reserved w)
 
 -- the word behind the colon of a variable
 unfoldable pub mark_of : List ℕ → Option Mark
@@ -60,6 +57,13 @@ privacy_of w =
     if bytes_eq w (codes "private") then Some true
     else if bytes_eq w (codes "public") || bytes_eq w (codes "constructor") || bytes_eq w (codes "destructor") then Some false
     else None
+
+-- what may stand in the brackets behind a fact
+unfoldable pub is_annotation : Lexeme → Bool
+is_annotation (word w) = bytes_eq w (codes "no_precomp")
+is_annotation (sign s.Plus) = true
+is_annotation (sign s.Dash) = true
+is_annotation _ = false
 
 abbrev pub is_one_so : List Bool → Bool
 is_one_so [] = false

@@ -3,7 +3,7 @@ use Rattle.std.specs.Prelude.{◌≡◌, ℕ, ◌+◌, ◌≤◌, Bool, false, �
 use Rattle.sp_spec_text.specs.Token.{Token}
 use Rattle.sp_spec_text.specs.Lex.{lexemes}
 use Rattle.sp_spec.specs.Theory.{Lemma}
-use Rattle.sp_spec_text.specs.Written.{WrittenProof, Item, lemma_item}
+use Rattle.sp_spec_text.specs.Written.{WrittenProof, Attribute, Item, lemma_item}
 use Rattle.sp_spec_text.specs.Theories.{SpellsDeclaration, SpellsLemma, SpellsProofPart}
 
 -- from behind the closing quote of a lemma's formula to behind its proof; the same place where it has none
@@ -31,10 +31,10 @@ EndsWith tokens others = (before : List Token) × (tokens ≡ before ++ others)
 pub data AreSpans : List Token → List Item → List Span → Type 0 where
   no_span : {tokens : List Token} → AreSpans tokens [] []
   past_declaration : {x : Item} {items : List Item} {spans : List Span} {tokens mid : List Token} → SpellsDeclaration (lexemes tokens) x (lexemes mid) → EndsWith tokens mid → AreSpans mid items spans → AreSpans tokens (x ∷ items) spans
-  past_lemma : {l : Lemma} {p : Option WrittenProof} {items : List Item} {span : Span} {spans : List Span} {tokens behind mid : List Token}
-      → SpellsLemma (lexemes tokens) l (lexemes behind) → IsBehind tokens behind span.from
+  past_lemma : {l : Lemma} {each : List Attribute} {p : Option WrittenProof} {items : List Item} {span : Span} {spans : List Span} {tokens behind mid : List Token}
+      → SpellsLemma (lexemes tokens) l each (lexemes behind) → IsBehind tokens behind span.from
       → SpellsProofPart (lexemes behind) p (lexemes mid) → EndsAt behind mid p span
-      → AreSpans mid items spans → AreSpans tokens (lemma_item l p ∷ items) (span ∷ spans)
+      → AreSpans mid items spans → AreSpans tokens (lemma_item l each p ∷ items) (span ∷ spans)
 
 -- ---- the text behind a proof
 

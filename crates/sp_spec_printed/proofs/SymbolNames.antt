@@ -3,7 +3,7 @@ use Rattle.std.proofs.Common.{◌≡◌, ℕ, List, [], ◌∷◌, inl, inr, ref
 use Rattle.sp_spec.specs.Signature.{Symbol, HasSymbol, Signature, pair_symbols, with_pairs}
 use Rattle.sp_spec_text.specs.Lex.{skip}
 use Rattle.sp_spec_text.specs.Names.{is_reserved, IsWord}
-use Rattle.sp_spec_text.specs.StepLines.{HaveNames}
+use Rattle.sp_spec_printed.specs.StepLines.{HaveNames}
 
 pub symbol_named : (symbols : List Symbol) (f : List ℕ) (n : ℕ) → HaveNames symbols → HasSymbol symbols f n → IsWord f
 symbol_named [] f n h m = absurd m.1

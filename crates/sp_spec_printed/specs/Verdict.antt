@@ -2,7 +2,7 @@
 use Rattle.std.specs.Prelude.{ℕ, List, ◌++◌, codes, decimal, Option, Some, None}
 use Rattle.sp_spec.specs.Theory.{TraceKind, all_traces, exists_trace}
 use Rattle.sp_spec.specs.Log.{Log}
-use Rattle.sp_spec_text.specs.Kind.{kind_text}
+use Rattle.sp_spec_printed.specs.Kind.{kind_text}
 
 -- What a node of a proof can fail of, in the order in which it is told: its text is no move's; its move is no instance; its branches don't
 -- have the names of the move's cases, one by one in their order.

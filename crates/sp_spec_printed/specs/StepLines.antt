@@ -7,7 +7,7 @@ use Rattle.sp_spec.specs.Signature.{Symbol, HasSymbol}
 use Rattle.sp_spec.specs.Execution.{Step, make_fresh, use_rule, take_out, put_in, know_public, make_own, apply_symbol}
 use Rattle.sp_spec_text.specs.Lex.{is_constant_byte}
 use Rattle.sp_spec_text.specs.Names.{IsNameWord}
-use Rattle.sp_spec_text.specs.Printed.{step_text}
+use Rattle.sp_spec_printed.specs.Printed.{step_text}
 use Rattle.sp_spec_text.specs.Blanks.{trimmed}
 
 -- ---- what may be written
