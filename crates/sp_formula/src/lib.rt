@@ -4,7 +4,10 @@
 // putting terms for variables and one time for another throughout a formula gives that of the definition (sp_spec's specs/Change.antt).
 #![tactic(auto)]
 
+pub mod fingerprint;
 pub mod formula;
 pub mod place;
 pub mod same;
+pub mod shared;
 pub mod slots;
+pub mod staying;

@@ -9,19 +9,19 @@ ghost use Rattle.sp_spec_know.specs.Know.{with_way};
 ghost use Rattle.sp_spec_know.specs.Learning as spec;
 ghost use Rattle.sp_learnings.specs.LearningView.{put_before, with_next_event};
 
+use sp_shared::shared::Shared;
 use sp_system::event::{Event, What};
 use sp_system::learnt_by::learnt_by_at;
 use sp_system::system::System;
 use sp_system::way::Way;
 use sp_term::term::{Term, same};
 use std::alloc::{AllocError, Global};
-use std::mem;
 
 /// Whether the event learns the message.
 pub fn is_learning_of(message: &Term, event: &Event) -> bool
     ensures { result ≡ spec.is_learning_of (view message.now) (event_of event.now).happening }
 {
-    match &event.what {
+    match event.what() {
         What::Learn(other, _) => same(message, other),
         _ => false,
     }
@@ -68,11 +68,11 @@ pub fn after(number: u128) -> Result<u128, AllocError>
 /// # Errors
 ///
 /// `AllocError` where memory is wanting.
-pub fn add_event(system: &mut System, event: Event) -> Result<(), AllocError>
+pub fn add_event(alloc: Global, system: &mut System, event: Event) -> Result<(), AllocError>
     ensures { OnOk result (system_of system.new ≡ with_next_event (system_of system.old) (event_of event)) }
 {
     let next = after(system.next)?;
-    system.events.push(event)?;
+    system.events.push(alloc, event)?;
     system.next = next;
     Ok(())
 }
@@ -111,7 +111,7 @@ pub fn add_learning(
     let message = message.clone()?;
     let event = Event::learn(alloc, system.next, message, Way::Anyhow)?;
     system.order.add(alloc, system.next, time)?;
-    add_event(system, event)?;
+    add_event(alloc, system, event)?;
     Ok(())
 }
 
@@ -143,8 +143,8 @@ pub fn learn_before(
 pub fn learn_by(alloc: Global, system: &mut System, time: u128, way: &Way) -> Result<(), AllocError>
     ensures { OnOk result (system_of system.new ≡ with_way (system_of system.old) time (way_of way.now)) }
 {
-    let events = mem::replace(&mut system.events, Vec::new(alloc));
-    let events = learnt_by_at(alloc, time, way, events)?;
-    system.events = events;
+    let events = learnt_by_at(alloc, time, way, &system.events)?;
+    let shared = Shared::new(alloc, events)?;
+    system.events = shared;
     Ok(())
 }

@@ -11,6 +11,9 @@ ghost use Rattle.sp_merge.specs.JoiningView.{in_one_time, joining_of, next_joini
 
 use crate::meeting::first_meeting;
 use crate::merging::{Merging, happenings_merging};
+use sp_shared::copies::copied_all;
+use sp_shared::shared::Shared;
+use sp_system::event::Event;
 use sp_system::learnt_by::learnt_by_at;
 use sp_system::system::System;
 use sp_system::time::changed_order;
@@ -40,7 +43,7 @@ fn ordered(i: u128, j: u128) -> (u128, u128)
 // The event at the position goes, and at the time it is learnt in this way.
 fn merged_events(
     alloc: Global,
-    system: System,
+    mut system: System,
     time: u128,
     position: usize,
     way: &Way,
@@ -49,30 +52,12 @@ fn merged_events(
     ensures { IfOk result (λ s. system_of s ≡ with_events (system_of system) (making_one.learnt_by_at time (way_of way.now)
         (take position (map event_of system.events.items) ++ drop (suc position) (map event_of system.events.items)))) }
 {
-    let System {
-        mut events,
-        formulas,
-        spent,
-        unequal,
-        links,
-        order,
-        last,
-        closed,
-        next,
-    } = system;
-    events.remove(position);
-    let events = learnt_by_at(alloc, time, way, events)?;
-    Ok(System {
-        events,
-        formulas,
-        spent,
-        unequal,
-        links,
-        order,
-        last,
-        closed,
-        next,
-    })
+    let mut others = copied_all(alloc, &system.events, 0)?;
+    others.remove(position);
+    let events = learnt_by_at(alloc, time, way, &others)?;
+    let shared = Shared::new(alloc, events)?;
+    system.events = shared;
+    Ok(system)
 }
 
 // The event at the position goes, and what is found is to be.
@@ -134,12 +119,13 @@ fn joined(
     ensures { IfOk result (λ o. option_map joining_of o ≡ making_one.joined (first, second) (joining_of joining)
         (making_one.merging_events (making_one.at_times first second) (map event_of joining.system.events.items))) }
 {
-    let Some((left, right)) = first_meeting(first, second, &joining.system.events) else {
+    let events: &Vec<Event> = &joining.system.events;
+    let Some((left, right)) = first_meeting(first, second, events) else {
         let alone = in_one_time(alloc, joining, first, second)?;
         return Ok(Some(alone));
     };
-    let one = &joining.system.events[left];
-    let other = &joining.system.events[right];
+    let one = &events[left];
+    let other = &events[right];
     let Some(found) = happenings_merging(alloc, one, other)? else {
         return Ok(None);
     };

@@ -240,10 +240,10 @@ pub fn happenings_merging(
 ) -> Result<Option<Merging>, AllocError>
     ensures { IfOk result (λ o. option_map merging_of o ≡ equating.merging (event_of left.now).happening (event_of right.now).happening) }
 {
-    match (&left.what, &right.what) {
+    match (left.what(), right.what()) {
         (What::Rule(rule), What::Rule(other)) => {
             if *rule == *other {
-                steps_merging(alloc, &left.facts, &right.facts)
+                steps_merging(alloc, left.facts(), right.facts())
             } else {
                 Ok(None)
             }

@@ -1,3 +1,4 @@
 pub mod CasesThere
 pub mod Occurring
 pub mod NoEvent
+pub mod Going

@@ -1,5 +1,6 @@
 -- Where a time doesn't occur in a system no event has it.
 use Rattle.std.proofs.Common.{◌≡◌, ℕ, Bool, true, false, ◌||◌, ◌==◌, if◌then◌else◌, List, [], ◌∷◌, Option, Some, None, refl, sym, ◌∙◌}
+use Rattle.std.proofs.lemmas.Bool.{or_parts}
 use Rattle.sp_spec_system.specs.System.{Event, System}
 use Rattle.sp_spec_system.specs.MakingOne.{event_at}
 use Rattle.sp_spec_system.specs.Occurring.{has_time}
@@ -15,9 +16,5 @@ no_event i (x ∷ es) e = at (x.time == i) (happening_has i x.happening) e (no_e
     at false true h later = absurd cc
     at false false h later = later h
 
-pub none_left : (a b : Bool) → (a || b) ≡ false → a ≡ false
-none_left false b e = refl
-none_left true b e = absurd cc
-
 pub no_time : (i : ℕ) (s : System) → has_time i s ≡ false → event_at i s.events ≡ None
-no_time i s e = no_event i s.events (none_left (events_have i s.events) _ (sym (each_part i s) ∙ e))
+no_time i s e = no_event i s.events (or_parts (events_have i s.events) _ (sym (each_part i s) ∙ e)).0

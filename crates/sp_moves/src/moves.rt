@@ -113,12 +113,20 @@ pub fn place_in<T>(items: &Vec<T>, number: u128) -> Option<usize>
     }
 }
 
+/// The place among the system's formulas that the number is, if it is one.
+pub fn formula_place(system: &System, number: u128) -> Option<usize>
+    ensures { result ≡ option_map (λ f. number) (slice_get system.now.formulas.items number) }
+{
+    place_in(&system.formulas, number)
+}
+
 /// The formula at the place, if there are so many.
 pub fn formula_at(system: &System, place: u128) -> Option<&Formula>
     ensures { option_map (λ f. formula_of f.now) result ≡ slice_get (system_of system.now).formulas place }
 {
-    let place = place_in(&system.formulas, place)?;
-    system.formulas.get(place)
+    let place = formula_place(system, place)?;
+    let formula = system.formulas.get(place)?;
+    Some(formula.formula())
 }
 
 /// One of the systems that a move leads to.

@@ -7,6 +7,7 @@ ghost use Rattle.sp_spec_system.specs.Occurring as occurring;
 ghost use Rattle.sp_moves.specs.Times as spec;
 
 use sp_formula::formula::{Atom, Formula, Moment};
+use sp_formula::shared::SharedFormula;
 use sp_system::event::{Event, What};
 use sp_system::system::{Link, System};
 use sp_system::way::Way;
@@ -71,13 +72,24 @@ fn formulas_have(time: u128, formulas: &Vec<Formula>) -> bool
     false
 }
 
+fn shared_have(time: u128, formulas: &Vec<SharedFormula>) -> bool
+    ensures { result ≡ spec.formulas_have time (map formula_of formulas.now.items) }
+{
+    for formula in formulas {
+        if formula_has(time, formula) {
+            return true;
+        }
+    }
+    false
+}
+
 fn event_has(time: u128, event: &Event) -> bool
     ensures { result ≡ spec.event_has time (event_of event.now) }
 {
     if event.time == time {
         return true;
     }
-    match &event.what {
+    match event.what() {
         What::Learn(_, Way::ChainBegun(chain)) => chain.time == time,
         What::Learn(_, Way::ChainDone(chain)) => chain.time == time,
         _ => false,
@@ -121,8 +133,8 @@ fn some_part_has(time: u128, system: &System) -> bool
     ensures { result ≡ spec.some_part_has time (system_of system.now) }
 {
     events_have(time, &system.events)
-        || formulas_have(time, &system.formulas)
-        || formulas_have(time, &system.spent)
+        || shared_have(time, &system.formulas)
+        || shared_have(time, &system.spent)
         || links_have(time, &system.links)
         || order_has(time, system.order.pairs())
         || system.last == Some(time)

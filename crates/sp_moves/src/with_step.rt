@@ -31,9 +31,9 @@ pub fn with_step(
         return Err(AllocError);
     };
     let facts = renamed(alloc, system.next, &form.facts)?;
-    let event = Event::step(time, name.clone()?, facts);
+    let event = Event::step(alloc, time, name.clone()?, facts)?;
     let mut made = system.clone()?;
-    made.events.push(event)?;
+    made.events.push(alloc, event)?;
     made.next = next;
     Ok(made)
 }

@@ -8,7 +8,7 @@ use Rattle.sp_spec_system.specs.Formulas.{freed_action}
 use Rattle.sp_spec_system.specs.Move.{Move, or, action}
 use Rattle.sp_spec_formula.specs.Action.{action_at_time, solving_action}
 use Rattle.sp_moves_formula.specs.WhyNot.{why_no_disjunction, why_not_freed, why_no_action, why_not_formula, formula_cases}
-use Rattle.sp_moves.specs.Clause.{Clause, HasCases}
+use Rattle.sp_moves.specs.Clause.{HasCases}
 use Rattle.sp_moves_formula.specs.Parts.{disjuncts, by_parts}
 use Rattle.sp_moves_formula.proofs.Parts.{parts_at}
 use Rattle.sp_spec_forms.specs.Forms.{RuleForms}

@@ -44,7 +44,7 @@ pub fn at_each(alloc: Global, system: &System, time: u128) -> Result<Vec<Case>, 
     ensures { IfOk result (λ cs. map case_of cs.items ≡ spec.at_each (system_of system.now) time (map event_of system.now.events.items)) }
 {
     let mut made = Vec::new(alloc);
-    for event in &system.events {
+    for event in system.events.iter() {
         if let Some(one) = where_one(alloc, system, time, event.time)? {
             let name = name_of_event(alloc, event.time)?;
             made.push(Case { name, system: one })?;

@@ -23,7 +23,7 @@ fn with_event(alloc: Global, system: &System, name: &str, event: Event) -> Resul
         ≡ record { name = name.now; system = system_spec.with_events (system_of system.now) ((system_of system.now).events ++ event_of event ∷ []) }) }
 {
     let mut made = system.clone()?;
-    made.events.push(event)?;
+    made.events.push(alloc, event)?;
     let name = String::from_str(alloc, name)?;
     Ok(Case { name, system: made })
 }

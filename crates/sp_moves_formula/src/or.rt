@@ -9,7 +9,7 @@ ghost use Rattle.sp_system.specs.SpendView.{spending_at};
 ghost use Rattle.sp_moves_formula.specs.Parts.{disjuncts, by_parts};
 
 use sp_formula::formula::Formula;
-use sp_moves::moves::{Case, place_in};
+use sp_moves::moves::{Case, formula_place};
 use sp_system::spend::spend_for;
 use sp_system::system::System;
 use std::alloc::{AllocError, Global};
@@ -44,7 +44,7 @@ fn with_part(
     let mut instead = Vec::new(alloc);
     instead.push(part.clone()?)?;
     let mut made = system.clone()?;
-    spend_for(&mut made, position, instead)?;
+    spend_for(alloc, &mut made, position, instead)?;
     Ok(made)
 }
 
@@ -122,7 +122,7 @@ pub fn or_cases(
     ensures { IfOk result (λ o. option_map (λ cs. map case_of cs.items) o
         ≡ spec.or_cases (system_of system.now) (spec.disjunction_at place (system_of system.now).formulas)) }
 {
-    let Some(position) = place_in(&system.formulas, place) else {
+    let Some(position) = formula_place(system, place) else {
         return Ok(None);
     };
     let made = cases_at(alloc, system, position)?;

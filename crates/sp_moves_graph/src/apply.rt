@@ -48,7 +48,7 @@ fn why_not_open(system: &System, premise: Premise, fact: Option<&Fact>) -> Optio
 fn why_not_of(system: &System, time: u128, place: u128, event: &Event) -> Option<Clause>
     ensures { option_map clause_of result ≡ why_not_of (system_of system.now) time place (Some (event_of event.now)) }
 {
-    let What::Rule(_) = &event.what else {
+    let What::Rule(_) = event.what() else {
         return Some(Clause::OtherKind);
     };
     match place_in(event.premises(), place) {

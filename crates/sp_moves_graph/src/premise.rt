@@ -79,15 +79,16 @@ fn with_source(
     };
     let time = system.next;
     let facts = renamed(alloc, first, &form.facts)?;
-    let event = Event::step(time, name.clone()?, facts);
+    let event = Event::step(alloc, time, name.clone()?, facts)?;
     let mut made = system.clone()?;
-    made.events.push(event)?;
-    made.links.push(Link {
+    made.events.push(alloc, event)?;
+    let link = Link {
         from: time,
         conclusion: place,
         to: premise.time,
         premise: premise.place,
-    })?;
+    };
+    made.links.push(alloc, link)?;
     made.order.add(alloc, time, premise.time)?;
     made.next = next;
     Ok(made)

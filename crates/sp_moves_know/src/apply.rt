@@ -44,7 +44,7 @@ fn why_not_known(
 fn why_not_chained(event: &Event) -> Option<Clause>
     ensures { option_map clause_of result ≡ why_not_chained (Some (event_of event.now)) }
 {
-    match &event.what {
+    match event.what() {
         What::Learn(_, Way::ChainBegun(chain)) if !chain.messages.is_empty() => None,
         _ => Some(Clause::OtherKind),
     }

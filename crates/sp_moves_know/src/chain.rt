@@ -62,7 +62,7 @@ fn begun_by<'a>(message: &'a Term, chain: &'a Chain) -> Option<Begun<'a>>
 pub fn begun_in(event: &Event) -> Option<Begun<'_>>
     ensures { option_map begun_of result ≡ spec.begun (event_of event.now).happening }
 {
-    match &event.what {
+    match event.what() {
         What::Learn(message, Way::ChainBegun(chain)) => begun_by(message, chain),
         _ => None,
     }

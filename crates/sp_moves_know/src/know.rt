@@ -71,7 +71,7 @@ pub fn with_way(alloc: Global, system: &System, time: u128, way: &Way) -> Result
 pub fn learnt_anyhow(event: &Event) -> Option<&Term>
     ensures { option_map (λ t. view t.now) result ≡ spec.learnt_anyhow (event_of event.now).happening }
 {
-    match &event.what {
+    match event.what() {
         What::Learn(message, Way::Anyhow) => Some(message),
         _ => None,
     }

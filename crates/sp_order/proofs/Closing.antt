@@ -49,9 +49,6 @@ from_second : (pairs : Pairs) (q : ℕ × ℕ) (s t : ℕ) → s ≡ q.0 → (q.
 from_second pairs q s t b (inl e) = last_pair q (member_last pairs q) (sym b) e
 from_second pairs q s t b (inr w) = then_path q (member_last pairs q) (sym b) (old_path pairs q q.1 t w)
 
-before : (order : Pairs) (s t : ℕ) → Path order s t → is_before order s t ≡ true
-before order s t w = path_before order s t w
-
 -- the bits of a row after a pair (i, j) more: if the row has i or is i's, those of j's row, and j
 abbrev pub closed_by : (ℕ → ℕ → Bool) → ℕ → ℕ → ℕ → ℕ → Bool
 closed_by leads i j s t = leads s t || ((nat_eq s i || leads s i) && (leads j t || nat_eq j t))
@@ -68,14 +65,14 @@ before_closed pairs i j s t = same_tests (is_before (pairs ++ (i, j) ∷ []) s t
   where
     first : (s ≡ i) ⊎ Path pairs s i → (nat_eq s i || is_before pairs s i) ≡ true
     first (inl e) = or_left (nat_eq s i) (is_before pairs s i) (eq-eqb s i e)
-    first (inr w) = or_right (nat_eq s i) (is_before pairs s i) (before pairs s i w)
+    first (inr w) = or_right (nat_eq s i) (is_before pairs s i) (path_before pairs s i w)
 
     second : (j ≡ t) ⊎ Path pairs j t → (is_before pairs j t || nat_eq j t) ≡ true
     second (inl e) = or_right (is_before pairs j t) (nat_eq j t) (eq-eqb j t e)
-    second (inr w) = or_left (is_before pairs j t) (nat_eq j t) (before pairs j t w)
+    second (inr w) = or_left (is_before pairs j t) (nat_eq j t) (path_before pairs j t w)
 
     told : Through pairs (i, j) s t → closed_by (is_before pairs) i j s t ≡ true
-    told (inl w) = or_left (is_before pairs s t) ((nat_eq s i || is_before pairs s i) && (is_before pairs j t || nat_eq j t)) (before pairs s t w)
+    told (inl w) = or_left (is_before pairs s t) ((nat_eq s i || is_before pairs s i) && (is_before pairs j t || nat_eq j t)) (path_before pairs s t w)
     told (inr b) =
         or_right (is_before pairs s t) ((nat_eq s i || is_before pairs s i) && (is_before pairs j t || nat_eq j t))
         (and_from (nat_eq s i || is_before pairs s i) (is_before pairs j t || nat_eq j t) (first b.0) (second b.1))
@@ -91,13 +88,13 @@ before_closed pairs i j s t = same_tests (is_before (pairs ++ (i, j) ∷ []) s t
         let both = and_parts (nat_eq s i || is_before pairs s i) (is_before pairs j t || nat_eq j t) e in
         let rest : Path (pairs ++ (i, j) ∷ []) i t = from_second pairs (i, j) i t refl (to_second both.1) in
         ⊎_elim
-        (λ k. before (pairs ++ (i, j) ∷ []) s t (subst (λ (x : ℕ). Path (pairs ++ (i, j) ∷ []) x t) (sym (eqb-true s i k)) rest))
-        (λ k. before_before (pairs ++ (i, j) ∷ []) s i t (before (pairs ++ (i, j) ∷ []) s i (old_path pairs (i, j) s i (path pairs s i k))) (before (pairs ++ (i, j) ∷ []) i t rest))
+        (λ k. path_before (pairs ++ (i, j) ∷ []) s t (subst (λ (x : ℕ). Path (pairs ++ (i, j) ∷ []) x t) (sym (eqb-true s i k)) rest))
+        (λ k. before_before (pairs ++ (i, j) ∷ []) s i t (path_before (pairs ++ (i, j) ∷ []) s i (old_path pairs (i, j) s i (path pairs s i k))) (path_before (pairs ++ (i, j) ∷ []) i t rest))
         (or_cases (nat_eq s i) (is_before pairs s i) both.0)
 
     back : closed_by (is_before pairs) i j s t ≡ true → is_before (pairs ++ (i, j) ∷ []) s t ≡ true
     back e =
         ⊎_elim
-        (λ k. before (pairs ++ (i, j) ∷ []) s t (old_path pairs (i, j) s t (path pairs s t k)))
+        (λ k. path_before (pairs ++ (i, j) ∷ []) s t (old_path pairs (i, j) s t (path pairs s t k)))
         (λ k. onward k)
         (or_cases (is_before pairs s t) ((nat_eq s i || is_before pairs s i) && (is_before pairs j t || nat_eq j t)) e)

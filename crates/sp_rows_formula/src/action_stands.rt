@@ -63,15 +63,11 @@ fn stands(alloc: Global, events: &Vec<Event>, formula: &Formula) -> Result<bool,
     }
 }
 
-fn position_of_standing(
-    alloc: Global,
-    events: &Vec<Event>,
-    formulas: &Vec<Formula>,
-) -> Result<Option<usize>, AllocError>
-    ensures { IfOk result (λ o. o ≡ option_map (λ p. p.0) (position_of (rows.standing_of (map event_of events.now.items)) (map formula_of formulas.now.items))) }
+fn position_of_standing(alloc: Global, system: &System) -> Result<Option<usize>, AllocError>
+    ensures { IfOk result (λ o. o ≡ option_map (λ p. p.0) (position_of (rows.standing_of (map event_of system.now.events.items)) (map formula_of system.now.formulas.items))) }
 {
-    for (position, formula) in formulas.iter().enumerate() {
-        if stands(alloc, events, formula)? {
+    for (position, formula) in system.formulas.iter().enumerate() {
+        if stands(alloc, &system.events, formula)? {
             return Ok(Some(position));
         }
     }
@@ -86,7 +82,7 @@ fn position_of_standing(
 pub fn action_stands(alloc: Global, system: &mut System) -> Result<bool, AllocError>
     ensures { IfOk result (λ b. Reduced b (system_of system.old) (system_of system.new) (rows.action_stands (system_of system.old))) }
 {
-    let Some(position) = position_of_standing(alloc, &system.events, &system.formulas)? else {
+    let Some(position) = position_of_standing(alloc, system)? else {
         return Ok(false);
     };
     spend(alloc, system, position)?;

@@ -1,7 +1,8 @@
 // Disjunctions.
 
-ghost use Rattle.std.specs.Prelude.{◌≡◌, IfOk, map, option_map};
+ghost use Rattle.std.specs.Prelude.{◌≡◌, ◌||◌, IfOk, map, option_map};
 ghost use Rattle.sp_spec.specs.Guarded.{one_of, guardeds_of};
+ghost use Rattle.sp_formula.specs.Fingerprint.{fingerprint};
 ghost use Rattle.sp_formula.specs.FormulaView.{formula_of};
 ghost use Rattle.sp_system.specs.SystemView.{system_of};
 ghost use Rattle.sp_spec_formula.specs.Disjunction as rows;
@@ -10,22 +11,32 @@ ghost use Rattle.sp_rows_formula.specs.RowsView.{picked_of, position_of};
 ghost use Rattle.sp_system.specs.Reduced.{Reduced};
 
 use crate::split::is_falsity;
+use sp_formula::fingerprint::fingerprint;
 use sp_formula::formula::Formula;
-use sp_formula::same::same_formula;
+use sp_formula::shared::SharedFormula;
 use sp_system::spend::spend_for;
 use sp_system::system::System;
 use std::alloc::{AllocError, Global};
 
-/// Whether one of these is the formula.
-pub fn is_a_formula(formulas: &Vec<Formula>, formula: &Formula) -> bool
+// Whether one of these is the formula, which has this fingerprint.
+fn is_among(formulas: &Vec<SharedFormula>, formula: &Formula, print: u64) -> bool
+    requires { print ≡ fingerprint (formula_of formula.now) }
     ensures { result ≡ rows.is_a_formula (map formula_of formulas.now.items) (formula_of formula.now) }
 {
     for other in formulas {
-        if same_formula(other, formula) {
+        if other.is_same(formula, print) {
             return true;
         }
     }
     false
+}
+
+/// Whether the system has the formula, or has spent it. Its fingerprint is made once, and other formulas are compared by theirs first.
+pub fn has_formula(system: &System, formula: &Formula) -> bool
+    ensures { result ≡ (rows.is_a_formula (system_of system.now).formulas (formula_of formula.now) || rows.is_a_formula (system_of system.now).spent (formula_of formula.now)) }
+{
+    let print = fingerprint(formula);
+    is_among(&system.formulas, formula, print) || is_among(&system.spent, formula, print)
 }
 
 fn is_truth(formula: &Formula) -> bool
@@ -41,9 +52,7 @@ fn is_truth(formula: &Formula) -> bool
 fn is_known(system: &System, formula: &Formula) -> bool
     ensures { result ≡ rows.is_known (system_of system.now) (formula_of formula.now) }
 {
-    is_truth(formula)
-        || is_a_formula(&system.formulas, formula)
-        || is_a_formula(&system.spent, formula)
+    is_truth(formula) || has_formula(system, formula)
 }
 
 fn some_known(system: &System, parts: &Vec<Formula>) -> bool
@@ -151,6 +160,6 @@ pub fn disjunction(alloc: Global, system: &mut System) -> Result<bool, AllocErro
     let Some((position, instead)) = first_done(alloc, system)? else {
         return Ok(false);
     };
-    spend_for(system, position, instead)?;
+    spend_for(alloc, system, position, instead)?;
     Ok(true)
 }

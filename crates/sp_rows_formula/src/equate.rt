@@ -48,13 +48,10 @@ fn equation_of(alloc: Global, formula: &Formula) -> Result<Option<Equation>, All
 }
 
 // The position of the first equation, and what it says.
-fn first_equation(
-    alloc: Global,
-    formulas: &Vec<Formula>,
-) -> Result<Option<(usize, Equation)>, AllocError>
-    ensures { IfOk result (λ o. option_map (λ p. (p.0, view.equation p.1)) o ≡ position_of rows.equation_of (map formula_of formulas.now.items)) }
+fn first_equation(alloc: Global, system: &System) -> Result<Option<(usize, Equation)>, AllocError>
+    ensures { IfOk result (λ o. option_map (λ p. (p.0, view.equation p.1)) o ≡ position_of rows.equation_of (map formula_of system.now.formulas.items)) }
 {
-    for (position, formula) in formulas.iter().enumerate() {
+    for (position, formula) in system.formulas.iter().enumerate() {
         if let Some(equation) = equation_of(alloc, formula)? {
             return Ok(Some((position, equation)));
         }
@@ -116,7 +113,7 @@ fn equated(alloc: Global, system: &mut System, equation: Equation) -> Result<boo
 pub fn equate(alloc: Global, system: &mut System) -> Result<bool, AllocError>
     ensures { IfOk result (λ b. Reduced b (system_of system.old) (system_of system.new) (rows.equate (system_of system.old))) }
 {
-    let Some((position, equation)) = first_equation(alloc, &system.formulas)? else {
+    let Some((position, equation)) = first_equation(alloc, system)? else {
         return Ok(false);
     };
     if !equated(alloc, system, equation)? {
@@ -162,7 +159,7 @@ fn equation_fails(alloc: Global, system: &System, formula: &Formula) -> Result<b
 pub fn fails_to_equate(alloc: Global, system: &System) -> Result<bool, AllocError>
     ensures { IfOk result (λ b. b ≡ rows.fails_to_equate (system_of system.now) (system_of system.now).formulas) }
 {
-    for formula in &system.formulas {
+    for formula in system.formulas.iter() {
         if equation_fails(alloc, system, formula)? {
             return Ok(true);
         }

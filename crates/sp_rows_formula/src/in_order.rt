@@ -9,6 +9,7 @@ ghost use Rattle.sp_rows_formula.specs.RowsView.{position_of};
 ghost use Rattle.sp_system.specs.Reduced.{Reduced};
 
 use sp_formula::formula::{Atom, Formula, Moment};
+use sp_formula::shared::SharedFormula;
 use sp_order::order::Order;
 use sp_system::spend::spend;
 use sp_system::system::System;
@@ -63,13 +64,12 @@ fn order_of(
 // The position of the first literal that order pairs stand for, and these.
 fn first_ordering(
     alloc: Global,
-    order: &Order,
-    formulas: &Vec<Formula>,
+    system: &System,
 ) -> Result<Option<(usize, Vec<(u128, u128)>)>, AllocError>
-    ensures { IfOk result (λ o. option_map (λ p. (p.0, p.1.items)) o ≡ position_of (rows.order_of order.now) (map formula_of formulas.now.items)) }
+    ensures { IfOk result (λ o. option_map (λ p. (p.0, p.1.items)) o ≡ position_of (rows.order_of system.now.order) (map formula_of system.now.formulas.items)) }
 {
-    for (position, formula) in formulas.iter().enumerate() {
-        if let Some(pairs) = order_of(alloc, order, formula)? {
+    for (position, formula) in system.formulas.iter().enumerate() {
+        if let Some(pairs) = order_of(alloc, &system.order, formula)? {
             return Ok(Some((position, pairs)));
         }
     }
@@ -84,7 +84,7 @@ fn first_ordering(
 pub fn in_order(alloc: Global, system: &mut System) -> Result<bool, AllocError>
     ensures { IfOk result (λ b. Reduced b (system_of system.old) (system_of system.new) (rows.in_order (system_of system.old))) }
 {
-    let Some((position, pairs)) = first_ordering(alloc, &system.order, &system.formulas)? else {
+    let Some((position, pairs)) = first_ordering(alloc, system)? else {
         return Ok(false);
     };
     spend(alloc, system, position)?;
@@ -108,7 +108,7 @@ pub fn is_refuted(order: &Order, formula: &Formula) -> bool
 }
 
 /// Whether some formula is refuted so.
-pub fn has_refuted(order: &Order, formulas: &Vec<Formula>) -> bool
+pub fn has_refuted(order: &Order, formulas: &Vec<SharedFormula>) -> bool
     ensures { result ≡ rows.has_refuted order.now (map formula_of formulas.now.items) }
 {
     for formula in formulas {

@@ -1,19 +1,23 @@
 // Universal formulas, and the formulas that follow from them for the events that a system has.
 
 ghost use Rattle.std.specs.Prelude.{◌≡◌, IfOk, drop, map, option_map};
-ghost use Rattle.sp_formula.specs.FormulaView.{atom_of, formula_of};
+ghost use Rattle.sp_formula.specs.FormulaView.{atom_of, formula_of, moment_of};
+ghost use Rattle.sp_formula.specs.PlaceView.{placed_action};
 ghost use Rattle.sp_system.specs.SystemView.{event_of, system_of};
 ghost use Rattle.sp_spec_formula.specs.Instantiate as rows;
 ghost use Rattle.sp_spec_system.specs.Picked as picked;
+ghost use Rattle.sp_rows_formula.specs.MatchesView as found_by;
 ghost use Rattle.sp_rows_formula.specs.MatchesView.{finished};
 ghost use Rattle.sp_rows_formula.specs.SlotsView.{slots_of};
 ghost use Rattle.sp_system.specs.Reduced.{Reduced};
 
-use crate::disjunction::is_a_formula;
+use crate::disjunction::has_formula;
 use crate::instances::instance_by;
 use crate::matching::matches;
 use crate::slots::Slots;
-use sp_formula::formula::{Atom, Formula};
+use sp_formula::formula::{Atom, Formula, Moment};
+use sp_formula::place::FormulaAction;
+use sp_formula::shared::SharedFormula;
 use sp_system::system::System;
 use std::alloc::{AllocError, Global};
 
@@ -30,10 +34,24 @@ fn new_by(
     let Some(made) = instance_by(alloc, guard, body, slots)? else {
         return Ok(None);
     };
-    if is_a_formula(&system.formulas, &made) || is_a_formula(&system.spent, &made) {
+    if has_formula(system, &made) {
         return Ok(None);
     }
     Ok(Some(made))
+}
+
+// The slots with the values of each match of the guard's action at an event of the system.
+fn matches_in(
+    alloc: Global,
+    system: &System,
+    slots: &Slots,
+    action: &FormulaAction,
+    moment: Moment,
+) -> Result<Vec<Slots>, AllocError>
+    ensures { IfOk result (λ found. map slots_of found.items ≡ found_by.matches (slots_of slots.now) (placed_action action.now) (moment_of moment) (map event_of system.now.events.items)) }
+{
+    let found = matches(alloc, slots, action, moment, &system.events)?;
+    Ok(found)
 }
 
 // The first new instance for which the atoms of the guard from this one on are matched.
@@ -55,7 +73,7 @@ fn first_match(
         let made = first_match(alloc, system, guard, body, from + 1, slots)?;
         return Ok(made);
     };
-    let found = matches(alloc, slots, action, *moment, &system.events)?;
+    let found = matches_in(alloc, system, slots, action, *moment)?;
     for next in &found {
         if let Some(made) = first_match(alloc, system, guard, body, from + 1, next)? {
             return Ok(Some(made));
@@ -84,7 +102,7 @@ fn new_instance(
 fn first_instance(alloc: Global, system: &System) -> Result<Option<Formula>, AllocError>
     ensures { IfOk result (λ o. option_map formula_of o ≡ picked.first_some (rows.new_instance (system_of system.now)) (map formula_of system.now.formulas.items)) }
 {
-    for formula in &system.formulas {
+    for formula in system.formulas.iter() {
         if let Some(made) = new_instance(alloc, system, formula)? {
             return Ok(Some(made));
         }
@@ -103,6 +121,7 @@ pub fn instantiate(alloc: Global, system: &mut System) -> Result<bool, AllocErro
     let Some(formula) = first_instance(alloc, system)? else {
         return Ok(false);
     };
-    system.formulas.push(formula)?;
+    let formula = SharedFormula::new(alloc, formula)?;
+    system.formulas.push(alloc, formula)?;
     Ok(true)
 }

@@ -11,6 +11,7 @@ ghost use Rattle.sp_system.specs.Reduced.{Reduced};
 use crate::equate::{times_equated, times_fail};
 use crate::in_order::is_not_before;
 use sp_formula::formula::{Atom, Formula, Moment};
+use sp_formula::shared::SharedFormula;
 use sp_order::order::Order;
 use sp_system::event::Event;
 use sp_system::order::begins_at;
@@ -40,11 +41,11 @@ fn ending_of(last: Option<u128>, formula: &Formula) -> Option<Ending>
 }
 
 // The position of the first formula that says something of the last time, and what it says.
-fn first_ending(last: Option<u128>, formulas: &Vec<Formula>) -> Option<(usize, Ending)>
-    ensures { option_map (λ p. (p.0, view.ending p.1)) result ≡ position_of (rows.ending_of last) (map formula_of formulas.now.items) }
+fn first_ending(system: &System) -> Option<(usize, Ending)>
+    ensures { option_map (λ p. (p.0, view.ending p.1)) result ≡ position_of (rows.ending_of system.now.last) (map formula_of system.now.formulas.items) }
 {
-    for (position, formula) in formulas.iter().enumerate() {
-        if let Some(ending) = ending_of(last, formula) {
+    for (position, formula) in system.formulas.iter().enumerate() {
+        if let Some(ending) = ending_of(system.last, formula) {
             return Some((position, ending));
         }
     }
@@ -95,7 +96,7 @@ fn put_before(
     let mut instead = Vec::new(alloc);
     let ordered = Atom::Before(Moment::Free(first), Moment::Free(second));
     instead.push(Formula::Holds(ordered))?;
-    spend_for(system, position, instead)
+    spend_for(alloc, system, position, instead)
 }
 
 /// Makes the time of the first formula that says so the last one, or orders the time of one that denies it before the last;
@@ -107,7 +108,7 @@ fn put_before(
 pub fn sets_last(alloc: Global, system: &mut System) -> Result<bool, AllocError>
     ensures { IfOk result (λ b. Reduced b (system_of system.old) (system_of system.new) (rows.sets_last (system_of system.old))) }
 {
-    let Some((position, ending)) = first_ending(system.last, &system.formulas) else {
+    let Some((position, ending)) = first_ending(system) else {
         return Ok(false);
     };
     match ending {
@@ -142,7 +143,7 @@ fn last_fails(alloc: Global, system: &System, formula: &Formula) -> Result<bool,
 pub fn fails_to_last(alloc: Global, system: &System) -> Result<bool, AllocError>
     ensures { IfOk result (λ b. b ≡ rows.fails_to_last (system_of system.now) (system_of system.now).formulas) }
 {
-    for formula in &system.formulas {
+    for formula in system.formulas.iter() {
         if last_fails(alloc, system, formula)? {
             return Ok(true);
         }
@@ -171,7 +172,7 @@ fn is_last_refuted(last: Option<u128>, formula: &Formula) -> bool
 }
 
 /// Whether some formula says of the last time that it isn't the last one.
-pub fn has_last_refuted(last: Option<u128>, formulas: &Vec<Formula>) -> bool
+pub fn has_last_refuted(last: Option<u128>, formulas: &Vec<SharedFormula>) -> bool
     ensures { result ≡ rows.has_last_refuted last (map formula_of formulas.now.items) }
 {
     for formula in formulas {
@@ -209,7 +210,7 @@ fn is_behind_all(system: &System, formula: &Formula) -> bool
 fn some_behind_all(system: &System) -> bool
     ensures { result ≡ rows.some_behind_all (system_of system.now) (system_of system.now).formulas }
 {
-    for formula in &system.formulas {
+    for formula in system.formulas.iter() {
         if is_behind_all(system, formula) {
             return true;
         }

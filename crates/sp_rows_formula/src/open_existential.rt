@@ -61,16 +61,12 @@ fn opening_of(
 }
 
 // The position of the first existential formula, and what opening it gives.
-fn first_existential(
-    alloc: Global,
-    next: u128,
-    formulas: &Vec<Formula>,
-) -> Result<Option<(usize, Opened)>, AllocError>
-    ensures { IfOk result (λ o. option_map opened_there o ≡ option_map (opening_there next) (position_of rows.existential_of (map formula_of formulas.now.items))) }
+fn first_existential(alloc: Global, system: &System) -> Result<Option<(usize, Opened)>, AllocError>
+    ensures { IfOk result (λ o. option_map opened_there o ≡ option_map (opening_there system.now.next) (position_of rows.existential_of (map formula_of system.now.formulas.items))) }
 {
-    for (position, formula) in formulas.iter().enumerate() {
-        if let Formula::Exists(binders, guard, body) = formula {
-            let found = opening_of(alloc, next, binders, guard, body)?;
+    for (position, formula) in system.formulas.iter().enumerate() {
+        if let Formula::Exists(binders, guard, body) = formula.formula() {
+            let found = opening_of(alloc, system.next, binders, guard, body)?;
             return Ok(Some((position, found)));
         }
     }
@@ -85,10 +81,10 @@ fn first_existential(
 pub fn open_existential(alloc: Global, system: &mut System) -> Result<bool, AllocError>
     ensures { IfOk result (λ b. Reduced b (system_of system.old) (system_of system.new) (rows.open_existential (system_of system.old))) }
 {
-    let Some((position, found)) = first_existential(alloc, system.next, &system.formulas)? else {
+    let Some((position, found)) = first_existential(alloc, system)? else {
         return Ok(false);
     };
-    spend_for(system, position, found.parts)?;
+    spend_for(alloc, system, position, found.parts)?;
     system.next = found.next;
     Ok(true)
 }

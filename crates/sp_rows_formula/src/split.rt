@@ -8,6 +8,7 @@ ghost use Rattle.sp_rows_formula.specs.RowsView.{picked_of, position_of};
 ghost use Rattle.sp_system.specs.Reduced.{Reduced};
 
 use sp_formula::formula::Formula;
+use sp_formula::shared::SharedFormula;
 use sp_system::spend::spend_for;
 use sp_system::system::System;
 use std::alloc::{AllocError, Global};
@@ -29,11 +30,11 @@ fn parts_of(alloc: Global, formula: &Formula) -> Result<Option<Vec<Formula>>, Al
 // The position of the first conjunction, and its parts.
 fn first_conjunction(
     alloc: Global,
-    formulas: &Vec<Formula>,
+    system: &System,
 ) -> Result<Option<(usize, Vec<Formula>)>, AllocError>
-    ensures { IfOk result (λ o. option_map picked_of o ≡ position_of rows.split_of (map formula_of formulas.now.items)) }
+    ensures { IfOk result (λ o. option_map picked_of o ≡ position_of rows.split_of (map formula_of system.now.formulas.items)) }
 {
-    for (position, formula) in formulas.iter().enumerate() {
+    for (position, formula) in system.formulas.iter().enumerate() {
         if let Some(parts) = parts_of(alloc, formula)? {
             return Ok(Some((position, parts)));
         }
@@ -49,10 +50,10 @@ fn first_conjunction(
 pub fn split(alloc: Global, system: &mut System) -> Result<bool, AllocError>
     ensures { IfOk result (λ b. Reduced b (system_of system.old) (system_of system.new) (rows.split (system_of system.old))) }
 {
-    let Some((position, parts)) = first_conjunction(alloc, &system.formulas)? else {
+    let Some((position, parts)) = first_conjunction(alloc, system)? else {
         return Ok(false);
     };
-    spend_for(system, position, parts)?;
+    spend_for(alloc, system, position, parts)?;
     Ok(true)
 }
 
@@ -67,7 +68,7 @@ pub fn is_falsity(formula: &Formula) -> bool
 }
 
 /// Whether some formula is false.
-pub fn has_falsity(formulas: &Vec<Formula>) -> bool
+pub fn has_falsity(formulas: &Vec<SharedFormula>) -> bool
     ensures { result ≡ rows.has_falsity (map formula_of formulas.now.items) }
 {
     for formula in formulas {

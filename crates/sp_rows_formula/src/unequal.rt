@@ -9,12 +9,14 @@ ghost use Rattle.sp_rows_formula.specs.RowsView.{position_of, keeping};
 ghost use Rattle.sp_system.specs.Reduced.{Reduced};
 
 use sp_formula::formula::{Atom, Formula};
+use sp_shared::shared::Shared;
 use sp_system::freed::freed_pair;
 use sp_system::spend::spend;
-use sp_system::system::System;
+use sp_system::system::{System, UnequalPair};
 use sp_term::term::{Term, same};
 use sp_unify::unify::mgu;
 use std::alloc::{AllocError, Global};
+use std::slice;
 
 fn inequality_of(alloc: Global, formula: &Formula) -> Result<Option<(Term, Term)>, AllocError>
     ensures { IfOk result (λ o. option_map pair_view o ≡ unequal_spec.inequality_of (formula_of formula.now)) }
@@ -27,11 +29,11 @@ fn inequality_of(alloc: Global, formula: &Formula) -> Result<Option<(Term, Term)
 
 fn position_of_inequality(
     alloc: Global,
-    formulas: &Vec<Formula>,
+    system: &System,
 ) -> Result<Option<(usize, (Term, Term))>, AllocError>
-    ensures { IfOk result (λ o. option_map (λ p. (p.0, pair_view p.1)) o ≡ position_of unequal_spec.inequality_of (map formula_of formulas.now.items)) }
+    ensures { IfOk result (λ o. option_map (λ p. (p.0, pair_view p.1)) o ≡ position_of unequal_spec.inequality_of (map formula_of system.now.formulas.items)) }
 {
-    for (position, formula) in formulas.iter().enumerate() {
+    for (position, formula) in system.formulas.iter().enumerate() {
         if let Some(pair) = inequality_of(alloc, formula)? {
             return Ok(Some((position, pair)));
         }
@@ -43,10 +45,9 @@ fn position_of_inequality(
 fn keep(alloc: Global, system: &mut System, pair: (Term, Term)) -> Result<(), AllocError>
     ensures { OnOk result (system_of system.new ≡ keeping (system_of system.old) (pair_view pair)) }
 {
-    let mut pairs = Vec::new(alloc);
-    pairs.push(pair)?;
-    if mgu(alloc, &pairs)?.is_some() {
-        system.unequal.append(&mut pairs)?;
+    if mgu(alloc, slice::from_ref(&pair))?.is_some() {
+        let pair = Shared::new(alloc, pair)?;
+        system.unequal.push(alloc, pair)?;
     }
     Ok(())
 }
@@ -60,7 +61,7 @@ fn keep(alloc: Global, system: &mut System, pair: (Term, Term)) -> Result<(), Al
 pub fn unequal(alloc: Global, system: &mut System) -> Result<bool, AllocError>
     ensures { IfOk result (λ b. Reduced b (system_of system.old) (system_of system.new) (unequal_spec.unequal (system_of system.old))) }
 {
-    let Some((position, pair)) = position_of_inequality(alloc, &system.formulas)? else {
+    let Some((position, pair)) = position_of_inequality(alloc, system)? else {
         return Ok(false);
     };
     spend(alloc, system, position)?;
@@ -69,7 +70,7 @@ pub fn unequal(alloc: Global, system: &mut System) -> Result<bool, AllocError>
 }
 
 /// Whether some pair that is said to be unequal is twice the same term.
-pub fn has_equal_pair(pairs: &Vec<(Term, Term)>) -> bool
+pub fn has_equal_pair(pairs: &Vec<UnequalPair>) -> bool
     ensures { result ≡ unequal_spec.has_equal_pair (map pair_view pairs.now.items) }
 {
     for pair in pairs {

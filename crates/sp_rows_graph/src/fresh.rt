@@ -43,7 +43,7 @@ pub(crate) fn stands_in(term: &Term, premises: &Vec<Fact>, start: usize) -> bool
 pub(crate) fn own_name(event: &Event) -> Option<&Term>
     ensures { option_map (λ t. view t.now) result ≡ own_one (event_of event.now).happening }
 {
-    match &event.what {
+    match event.what() {
         What::Learn(message, Way::OwnName) => Some(message),
         _ => None,
     }

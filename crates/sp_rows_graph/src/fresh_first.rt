@@ -59,7 +59,7 @@ fn has_taken(term: &Term, premises: &Vec<Fact>) -> bool
 fn has_learnt(term: &Term, event: &Event) -> bool
     ensures { result ≡ rows.has_learnt (view term.now) (event_of event.now).happening }
 {
-    match &event.what {
+    match event.what() {
         What::Learn(message, _) => has_term(message, term),
         _ => false,
     }
@@ -89,7 +89,7 @@ fn missing_pairs(
     ensures { IfOk result (λ ps. ps.items ≡ rows.missing_pairs (system_of system.now).order time (view term.now) (system_of system.now).events) }
 {
     let mut made = Vec::new(alloc);
-    for event in &system.events {
+    for event in system.events.iter() {
         if is_missing(&system.order, time, term, event) {
             made.push((time, event.time))?;
         }
@@ -174,7 +174,7 @@ fn first_missing(alloc: Global, system: &System) -> Result<Option<Vec<(u128, u12
     ensures { IfOk result (λ o. option_map (λ ps. ps.items) o
         ≡ first_some (rows.missing_behind (system_of system.now)) (map event_of system.now.events.items)) }
 {
-    for event in &system.events {
+    for event in system.events.iter() {
         if let Some(pairs) = missing_behind(alloc, system, event)? {
             return Ok(Some(pairs));
         }

@@ -16,7 +16,7 @@ use std::alloc::{AllocError, Global};
 pub(crate) fn learn_same(event: &Event, other: &Event) -> bool
     ensures { result ≡ rows.learn_same (event_of event.now) (event_of other.now) }
 {
-    match &event.what {
+    match event.what() {
         What::Learn(message, _) => is_learning_of(message, other),
         _ => false,
     }

@@ -58,7 +58,7 @@ fn is_early_way(system: &System, way: &Way) -> bool
 fn is_early(system: &System, event: &Event) -> bool
     ensures { result ≡ rows.is_early (system_of system.now) (event_of event.now).happening }
 {
-    match &event.what {
+    match event.what() {
         What::Learn(_, way) => is_early_way(system, way),
         _ => false,
     }
@@ -68,7 +68,7 @@ fn is_early(system: &System, event: &Event) -> bool
 pub fn has_early(system: &System) -> bool
     ensures { result ≡ rows.has_early (system_of system.now) }
 {
-    for event in &system.events {
+    for event in system.events.iter() {
         if is_early(system, event) {
             return true;
         }

@@ -78,7 +78,7 @@ fn open_input(links: &Vec<Link>, event: &Event) -> Result<Option<Input>, AllocEr
 fn first_open(system: &System) -> Result<Option<Input>, AllocError>
     ensures { IfOk result (λ o. option_map input_of o ≡ first_some (rows.open_input (system_of system.now).links) (system_of system.now).events) }
 {
-    for event in &system.events {
+    for event in system.events.iter() {
         if let Some(input) = open_input(&system.links, event)? {
             return Ok(Some(input));
         }
@@ -97,14 +97,15 @@ fn add_sending(alloc: Global, system: &mut System, input: Input) -> Result<(), A
     } = input;
     let from = system.next;
     let event = Event::send(alloc, from, message)?;
-    system.links.push(Link {
+    let link = Link {
         from,
         conclusion: 0,
         to: time,
         premise,
-    })?;
+    };
+    system.links.push(alloc, link)?;
     system.order.add(alloc, from, time)?;
-    add_event(system, event)?;
+    add_event(alloc, system, event)?;
     Ok(())
 }
 

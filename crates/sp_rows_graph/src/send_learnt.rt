@@ -18,7 +18,7 @@ use std::alloc::{AllocError, Global};
 fn sent(event: &Event) -> Option<&Term>
     ensures { option_map (λ t. view t.now) result ≡ rows.sent (event_of event.now).happening }
 {
-    match &event.what {
+    match event.what() {
         What::Send(message) => Some(message),
         _ => None,
     }
@@ -42,7 +42,7 @@ fn unlearnt_sending(system: &System, event: &Event) -> Result<Option<(Term, u128
 fn first_unlearnt(system: &System) -> Result<Option<(Term, u128)>, AllocError>
     ensures { IfOk result (λ o. option_map at_time o ≡ first_some (rows.unlearnt_sending (system_of system.now)) (system_of system.now).events) }
 {
-    for event in &system.events {
+    for event in system.events.iter() {
         if let Some(found) = unlearnt_sending(system, event)? {
             return Ok(Some(found));
         }

@@ -26,7 +26,7 @@ fn settled_event(
 ) -> Result<Option<Settling>, AllocError>
     ensures { IfOk result (λ o. option_map settling_of o ≡ rows.settled_event (map symbol_of symbols.now.items) (event_of event.now)) }
 {
-    match &event.what {
+    match event.what() {
         What::Learn(message, Way::Anyhow) => settling_at(alloc, symbols, event.time, message),
         _ => Ok(None),
     }

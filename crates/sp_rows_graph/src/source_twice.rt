@@ -1,10 +1,12 @@
 // Sources that are used twice.
 
-ghost use Rattle.std.specs.Prelude.{◌≡◌, map};
+ghost use Rattle.std.specs.Prelude.{◌≡◌, map, option_map};
 ghost use Rattle.sp_fact.specs.View.{fact_of};
 ghost use Rattle.sp_system.specs.SystemView.{event_of, link_of, system_of};
 ghost use Rattle.sp_spec_graph.specs.Fresh as fresh;
 ghost use Rattle.sp_spec_graph.specs.SourceTwice as source_twice;
+ghost use Rattle.sp_spec_system.specs.Picked as picked;
+ghost use Rattle.sp_rows_graph.specs.LinksView.{both_of};
 
 use crate::fresh::{fresh_term, own_name, stands_in};
 use crate::linear_once::one_linear_source;
@@ -60,10 +62,16 @@ pub fn takes_fr_twice(events: &Vec<Event>) -> bool
     false
 }
 
+// The first two links of which this is so.
+fn first_used(system: &System) -> Option<(Link, Link)>
+    ensures { option_map both_of result ≡ picked.first_two (source_twice.used_twice (map event_of system.now.events.items)) (map link_of system.now.links.items) }
+{
+    first_two(Clash::UsedTwice, &system.events, &system.links)
+}
+
 /// Whether one event takes a linear source twice, or an Fr, or a premise comes from two conclusions of one event.
 pub fn has_source_twice(system: &System) -> bool
     ensures { result ≡ source_twice.has_source_twice (system_of system.now) }
 {
-    first_two(Clash::UsedTwice, &system.events, &system.links).is_some()
-        || takes_fr_twice(&system.events)
+    first_used(system).is_some() || takes_fr_twice(&system.events)
 }

@@ -118,7 +118,7 @@ fn first_disjunction(system: &System) -> Option<Move>
     ensures { (context : spec.Context) → option_map move_of result ≡ first_instance context (system_of system.now) (at_each_formula spec.or context (system_of system.now)) }
 {
     for (place, formula) in system.formulas.iter().enumerate() {
-        if is_disjunction(formula) {
+        if is_disjunction(formula.formula()) {
             return Some(Move::Or(place as u128));
         }
     }
@@ -129,7 +129,7 @@ fn first_action(alloc: Global, system: &System) -> Result<Option<Move>, AllocErr
     ensures { IfOk result (λ o. (context : spec.Context) → option_map move_of o ≡ first_instance context (system_of system.now) (at_each_formula spec.action context (system_of system.now))) }
 {
     for (place, formula) in system.formulas.iter().enumerate() {
-        if is_solvable(alloc, formula)? {
+        if is_solvable(alloc, formula.formula())? {
             return Ok(Some(Move::Action(place as u128)));
         }
     }
@@ -164,7 +164,7 @@ fn first_of_event(system: &System, event: &Event) -> Option<Move>
 fn first_premise(system: &System) -> Option<Move>
     ensures { (context : spec.Context) → option_map move_of result ≡ first_instance context (system_of system.now) (at_each_event premises_of context (system_of system.now)) }
 {
-    for event in &system.events {
+    for event in system.events.iter() {
         if let Some(chosen) = first_of_event(system, event) {
             return Some(chosen);
         }

@@ -100,7 +100,7 @@ pub fn first_learning(
     ensures { IfOk result (λ o. option_map move_of o
         ≡ first_instance (context_of context.now) (system_of system.now) (each_move kind (system_of system.now).events)) }
 {
-    for event in &system.events {
+    for event in system.events.iter() {
         if let Some(chosen) = first_at(alloc, context, system, event, kind)? {
             return Ok(Some(chosen));
         }

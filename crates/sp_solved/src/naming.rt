@@ -132,8 +132,8 @@ fn see_learnt(message: &Term, way: &Way, seen: &mut Vec<Variable>) -> Result<(),
 fn see_event(event: &Event, seen: &mut Vec<Variable>) -> Result<(), AllocError>
     ensures { OnOk result (map variable_of seen.new.items ≡ once_after (map variable_of seen.old.items) (spec.in_step (event_of event.now).happening)) }
 {
-    match &event.what {
-        What::Rule(_) => see_step(&event.facts, seen),
+    match event.what() {
+        What::Rule(_) => see_step(event.facts(), seen),
         What::Send(message) => see_term(message, seen),
         What::Learn(message, way) => see_learnt(message, way, seen),
     }

@@ -23,6 +23,7 @@ use crate::naming::named;
 use sp_fact::fact::{Fact, Facts};
 use sp_fact::ground_term::GroundTerm;
 use sp_formula::formula::{Atom, Formula, Moment};
+use sp_formula::shared::SharedFormula;
 use sp_learn::log::{Entry, How, Log};
 use sp_log::log::{Entry as StepEntry, Source};
 use sp_norm::instance::{facts_value, value};
@@ -56,7 +57,7 @@ fn has_place(events: &Vec<Event>, formula: &Formula) -> bool
 }
 
 /// Whether each action among the formulas has an event at its time.
-fn have_places(events: &Vec<Event>, formulas: &Vec<Formula>) -> bool
+fn have_places(events: &Vec<Event>, formulas: &Vec<SharedFormula>) -> bool
     ensures { result ≡ spec.have_places (map event_of events.now.items) (map formula_of formulas.now.items) }
 {
     for formula in formulas {
@@ -136,7 +137,7 @@ fn is_settled_way(message: &Term, way: &Way) -> bool
 fn is_settled(event: &Event) -> bool
     ensures { result ≡ spec.is_settled (event_of event.now).happening }
 {
-    match &event.what {
+    match event.what() {
         What::Rule(_) | What::Send(_) => true,
         What::Learn(message, way) => is_settled_way(message, way),
     }
@@ -340,9 +341,9 @@ fn entry(
     ensures { IfOk result (λ e. entry_of e
         ≡ spec.entry_at (events_of listed.now.items) (value_in (bounds values.now)) (event_of event.now).happening (map source_of sources.items)) }
 {
-    match &event.what {
+    match event.what() {
         What::Rule(rule) => {
-            let step = step(alloc, values, rule, &event.facts, sources)?;
+            let step = step(alloc, values, rule, event.facts(), sources)?;
             Ok(Entry::Step(step))
         }
         What::Send(message) => {

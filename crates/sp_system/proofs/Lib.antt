@@ -1,5 +1,5 @@
 pub mod EventFacts
 pub mod Spends
 pub mod OnlyOne
-pub mod ClonedPairs
 pub mod TurnsLeft
+pub mod Kept

@@ -4,3 +4,4 @@ pub mod SystemView
 pub mod SpendView
 pub mod Reduced
 pub mod LearntBy
+pub mod Stays

@@ -4,6 +4,7 @@ use Rattle.sp_unify.specs.View.{pair_view}
 use Rattle.sp_spec_system.specs.System as spec
 use Rattle.sp_formula.specs.FormulaView.{formula_of}
 use Rattle.sp_system.specs.declared.event.Event.{Event}
+use Rattle.sp_system.specs.declared.event.Happening.{Happening}
 use Rattle.sp_system.specs.EventFacts.{happening_of}
 use Rattle.sp_system.specs.declared.system.Link.{Link}
 use Rattle.sp_system.specs.declared.system.System.{System}
@@ -11,8 +12,11 @@ use Rattle.sp_system.specs.declared.system.System.{System}
 abbrev pub event_with : ℕ → spec.Happening → spec.Event
 event_with i h = record { time = i; happening = h }
 
+abbrev pub shown : Happening → spec.Happening
+shown h = happening_of h.what h.facts
+
 abbrev pub event_of : Event → spec.Event
-event_of e = event_with e.time (happening_of e.what e.facts)
+event_of e = event_with e.time (shown e.happening)
 
 abbrev pub link_of : Link → spec.Link
 link_of l = record { from = l.from; conclusion = l.conclusion; to = l.to; premise = l.premise }

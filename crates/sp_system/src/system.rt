@@ -1,18 +1,24 @@
 // Systems in memory.
 
-ghost use Rattle.std.specs.Prelude.{◌≡◌, [], IfOk, OnOk, map};
+ghost use Rattle.std.specs.Prelude.{◌≡◌, IfOk, OnOk, map};
 ghost use Rattle.sp_spec.specs.Substitution.{bound_to};
 ghost use Rattle.sp_term.specs.Bindings.{bindings};
-ghost use Rattle.sp_spec_system.specs.Equating.{event_changed, pair_changed, link_changed, same_source, same_premise, has_link, joined_links, system_changed};
+ghost use Rattle.sp_formula.specs.FormulaView.{formula_of};
+ghost use Rattle.sp_spec_system.specs.System.{formulas_alone};
+ghost use Rattle.sp_spec_system.specs.Equating.{link_changed, same_source, same_premise, system_changed};
 ghost use Rattle.sp_spec.specs.Change.{time_replaced};
-ghost use Rattle.sp_unify.specs.View.{pair_view};
-ghost use Rattle.sp_system.specs.SystemView.{event_of, link_of, system_of};
+ghost use Rattle.sp_system.specs.SystemView.{link_of, system_of};
 
+use crate::changes::{changed_events, changed_links, changed_pairs};
 use crate::event::Event;
 use crate::time::{changed_last, changed_time};
-use sp_formula::formula::{Formula, changed_formulas};
+use sp_formula::formula::Formula;
+use sp_formula::shared::{SharedFormula, all_shared, changed_shared};
 use sp_order::order::Order;
-use sp_term::subst::{Subst, apply};
+use sp_shared::copies::Copies;
+use sp_shared::list::empty;
+use sp_shared::shared::Shared;
+use sp_term::subst::Subst;
 use sp_term::term::Term;
 use std::alloc::{AllocError, Global};
 
@@ -29,19 +35,22 @@ pub struct Link {
     pub premise: usize,
 }
 
-/// What a log has to satisfy.
+/// Two terms with different values; copies share them.
+pub type UnequalPair = Shared<(Term, Term)>;
+
+/// What a log has to satisfy; copies share each of its lists until one of them is written.
 #[derive(Drop)]
 pub struct System {
     /// the events that it has
-    pub events: Vec<Event>,
+    pub events: Shared<Vec<Event>>,
     /// what is true of it
-    pub formulas: Vec<Formula>,
+    pub formulas: Shared<Vec<SharedFormula>>,
     /// what is true of it too, and has been used
-    pub spent: Vec<Formula>,
+    pub spent: Shared<Vec<SharedFormula>>,
     /// the pairs of terms with different values
-    pub unequal: Vec<(Term, Term)>,
+    pub unequal: Shared<Vec<UnequalPair>>,
     /// the sources of premises
-    pub links: Vec<Link>,
+    pub links: Shared<Vec<Link>>,
     /// the pairs of times of which the first is before the second
     pub order: Order,
     /// the time that is said to be the last one, if one is
@@ -50,48 +59,6 @@ pub struct System {
     pub closed: bool,
     /// a number above those of all variables and times
     pub next: u128,
-}
-
-fn changed_events(
-    alloc: Global,
-    subst: &Subst,
-    small: u128,
-    large: u128,
-    events: &Vec<Event>,
-) -> Result<Vec<Event>, AllocError>
-    ensures { IfOk result (λ es. map event_of es.items ≡ map (event_changed (bound_to (bindings subst.now)) (time_replaced small large)) (map event_of events.now.items)) }
-{
-    let mut made = Vec::with_capacity(alloc, events.len())?;
-    for event in events {
-        made.push(event.changed(alloc, subst, small, large)?)?;
-    }
-    Ok(made)
-}
-
-fn changed_pair(
-    alloc: Global,
-    subst: &Subst,
-    pair: &(Term, Term),
-) -> Result<(Term, Term), AllocError>
-    ensures { IfOk result (λ p. pair_view p ≡ pair_changed (bound_to (bindings subst.now)) (pair_view pair.now)) }
-{
-    let left = apply(alloc, subst, &pair.0)?;
-    let right = apply(alloc, subst, &pair.1)?;
-    Ok((left, right))
-}
-
-fn changed_pairs(
-    alloc: Global,
-    subst: &Subst,
-    pairs: &Vec<(Term, Term)>,
-) -> Result<Vec<(Term, Term)>, AllocError>
-    ensures { IfOk result (λ ps. map pair_view ps.items ≡ map (pair_changed (bound_to (bindings subst.now))) (map pair_view pairs.now.items)) }
-{
-    let mut made = Vec::with_capacity(alloc, pairs.len())?;
-    for pair in pairs {
-        made.push(changed_pair(alloc, subst, pair)?)?;
-    }
-    Ok(made)
 }
 
 impl Link {
@@ -109,8 +76,8 @@ impl Link {
         self.to == other.to && self.premise == other.premise
     }
 
-    // The link with `small` in place of `large`.
-    fn changed(self, small: u128, large: u128) -> Link
+    /// The link with `small` in place of `large`.
+    pub(crate) fn changed(self, small: u128, large: u128) -> Link
         ensures { link_of result ≡ link_changed (time_replaced small large) (link_of self) }
     {
         Link {
@@ -122,47 +89,22 @@ impl Link {
     }
 }
 
-fn has_link(links: &Vec<Link>, link: Link) -> bool
-    ensures { result ≡ has_link (map link_of links.now.items) (link_of link) }
-{
-    for other in links {
-        if other.same_source(link) && other.same_premise(link) {
-            return true;
-        }
+/// A copy is a few numbers.
+impl Copies for Link {
+    fn copied(&self) -> Result<Link, AllocError> {
+        Ok(*self)
     }
-    false
-}
-
-// Links that become equal are one.
-fn changed_links(
-    alloc: Global,
-    small: u128,
-    large: u128,
-    links: &Vec<Link>,
-) -> Result<Vec<Link>, AllocError>
-    ensures { IfOk result (λ ls. map link_of ls.items ≡ joined_links [] (map (link_changed (time_replaced small large)) (map link_of links.now.items))) }
-{
-    let mut made = Vec::with_capacity(alloc, links.len())?;
-    for link in links {
-        let link = link.changed(small, large);
-        if !has_link(&made, link) {
-            made.push(link)?;
-        }
-    }
-    Ok(made)
 }
 
 impl Clone for System {
     ghost is_clone = { λ s t. system_of t ≡ system_of s };
 
-    #[tactic(auto, using(sp_term::proofs::Cloned::cloned, crate::proofs::ClonedPairs::cloned_pairs))]
     fn clone(&self) -> Result<System, AllocError> {
-        let alloc = *self.events.allocator();
-        let events = self.events.clone()?;
-        let formulas = self.formulas.clone()?;
-        let spent = self.spent.clone()?;
-        let unequal = self.unequal.clone()?;
-        let links = Vec::from_slice(alloc, &self.links)?;
+        let events = self.events.share()?;
+        let formulas = self.formulas.share()?;
+        let spent = self.spent.share()?;
+        let unequal = self.unequal.share()?;
+        let links = self.links.share()?;
         let order = self.order.share()?;
         Ok(System {
             events,
@@ -179,6 +121,34 @@ impl Clone for System {
 }
 
 impl System {
+    /// Nothing but these formulas.
+    ///
+    /// # Errors
+    ///
+    /// `AllocError` where memory is wanting.
+    pub fn of_formulas(alloc: Global, formulas: Vec<Formula>) -> Result<System, AllocError>
+        ensures { IfOk result (λ s. system_of s ≡ formulas_alone (map formula_of formulas.items)) }
+    {
+        let formulas = all_shared(alloc, formulas)?;
+        let formulas = Shared::new(alloc, formulas)?;
+        let events = empty(alloc)?;
+        let spent = empty(alloc)?;
+        let unequal = empty(alloc)?;
+        let links = empty(alloc)?;
+        let order = Order::new(alloc)?;
+        Ok(System {
+            events,
+            formulas,
+            spent,
+            unequal,
+            links,
+            order,
+            last: None,
+            closed: false,
+            next: 0,
+        })
+    }
+
     /// The system with each bound variable replaced, and with the time `small` in place of `large`.
     pub fn changed(
         &self,
@@ -190,8 +160,8 @@ impl System {
         ensures { IfOk result (λ s. system_of s ≡ system_changed (bound_to (bindings subst.now)) (time_replaced small large) (system_of self.now)) }
     {
         let events = changed_events(alloc, subst, small, large, &self.events)?;
-        let formulas = changed_formulas(alloc, subst, small, large, &self.formulas)?;
-        let spent = changed_formulas(alloc, subst, small, large, &self.spent)?;
+        let formulas = changed_shared(alloc, subst, small, large, &self.formulas)?;
+        let spent = changed_shared(alloc, subst, small, large, &self.spent)?;
         let unequal = changed_pairs(alloc, subst, &self.unequal)?;
         let links = changed_links(alloc, small, large, &self.links)?;
         let order = self.order.changed(alloc, small, large)?;
@@ -215,6 +185,7 @@ impl System {
         let made = self.changed(alloc, subst, 0, 0)?;
         Ok(made)
     }
+
     /// Replaces each bound variable, and puts the time `small` in place of `large`.
     ///
     /// # Errors

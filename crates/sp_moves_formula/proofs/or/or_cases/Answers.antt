@@ -10,13 +10,13 @@ use Rattle.sp_moves_formula.proofs.or.or_cases.Goals as goal
 pub returns-in_default : goal.returns-in_default
 returns-in_default c =
     let s = system_of c.args.system.now in
-    let gone = none_there formula_of c.args.system.now.formulas.items c.args.place (sym c.place_in.ensures ∙ c.in_default.is) in
+    let gone = none_there formula_of c.args.system.now.formulas.items c.args.place (sym c.formula_place.ensures ∙ c.in_default.is) in
     sym (parts_at s c.args.place ∙ ap (λ (o : Option Guarded). option_map (by_parts s c.args.place 1) (option_and_then disjuncts o)) gone)
 
 pub returns : goal.returns
 returns c =
     let s = system_of c.args.system.now in
-    let is = is_place c.args.place c.in-Some.position (slice_get c.args.system.now.formulas.items c.args.place) (sym c.place_in.ensures ∙ c.in-Some.is) in
+    let is = is_place c.args.place c.in-Some.position (slice_get c.args.system.now.formulas.items c.args.place) (sym c.formula_place.ensures ∙ c.in-Some.is) in
     c.in_ok-made.ensures
     ∙ ap (λ (k : ℕ). option_map (by_parts s k 1) (option_and_then disjuncts (slice_get s.formulas k))) is
     ∙ sym (parts_at s c.args.place)

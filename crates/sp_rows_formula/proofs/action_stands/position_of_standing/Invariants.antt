@@ -5,4 +5,4 @@ use Rattle.sp_rows_formula.proofs.Searches.{IsLeft}
 use Rattle.sp_rows_formula.proofs.action_stands.position_of_standing.Given as goal
 
 abbrev pub invariant-loop-position : goal.invariant-loop-position
-invariant-loop-position l = IsLeft (rows.standing_of (map event_of l.events.items)) l.formulas.items l.position
+invariant-loop-position l = IsLeft (rows.standing_of (map event_of l.system.events.items)) l.system.formulas.items l.position

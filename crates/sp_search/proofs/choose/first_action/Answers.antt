@@ -1,5 +1,7 @@
-use Rattle.std.proofs.Common.{◌<◌, ◌≡◌, length, get_or, refl, sym, ◌∙◌, arith}
+use Rattle.std.proofs.Common.{◌<◌, ◌≡◌, List, length, get_or, refl, sym, ap, ◌∙◌, subst}
+use Rattle.std.specs.Global.{Vec}
 use Rattle.sp_spec_system.specs.Move.{action}
+use Rattle.sp_formula.specs.declared.formula.Formula.{Formula}
 use Rattle.sp_formula.specs.FormulaView.{formula_of}
 use Rattle.sp_system.specs.SystemView.{system_of}
 use Rattle.sp_search.proofs.Choosing.{next_place, action_here}
@@ -9,11 +11,13 @@ pub returns-then-branch : goal.returns-then-branch
 returns-then-branch c context =
     let s = system_of c.args.system.now in
     let all = c.args.system.now.formulas.items in
-    let f = c.formula-item.result in
+    let item = c.formula-item.result in
+    let f = c.formula.result.now in
     let k = c.loop-place.place in
     let b = c.in_ok-is_solvable.field-0 in
-    let is : f ≡ get_or all k f = rw c.deref-formula-items.ensures.value at c.formula-item.is in
-    let below : k < length all = omega arith in
+    let items = c.deref-formula-items.ensures.value ∙ ap (λ (v : Vec Formula). v.items) c.deref.ensures in
+    let is : f ≡ get_or all k f = c.formula.ensures ∙ c.formula-item.is ∙ ap (λ (fs : List Formula). get_or fs k item) items ∙ ap (get_or all k) (sym c.formula.ensures) in
+    let below : k < length all = subst (λ (fs : List Formula). k < length fs) items c.loop-place-test.true in
     let here = action_here context s all k f b refl below is (c.in_ok-is_solvable.ensures context.rules.forms s) in
     let step = next_place context s action formula_of all k f b below is here in
     sym (rw c.if-branch.true at step) ∙ c.loop-place.invariant context
@@ -22,11 +26,13 @@ pub loop-place-preserved : goal.loop-place-preserved
 loop-place-preserved c context =
     let s = system_of c.args.system.now in
     let all = c.args.system.now.formulas.items in
-    let f = c.formula-item.result in
+    let item = c.formula-item.result in
+    let f = c.formula.result.now in
     let k = c.loop-place.place in
     let b = c.in_ok-is_solvable.field-0 in
-    let is : f ≡ get_or all k f = rw c.deref-formula-items.ensures.value at c.formula-item.is in
-    let below : k < length all = omega arith in
+    let items = c.deref-formula-items.ensures.value ∙ ap (λ (v : Vec Formula). v.items) c.deref.ensures in
+    let is : f ≡ get_or all k f = c.formula.ensures ∙ c.formula-item.is ∙ ap (λ (fs : List Formula). get_or fs k item) items ∙ ap (get_or all k) (sym c.formula.ensures) in
+    let below : k < length all = subst (λ (fs : List Formula). k < length fs) items c.loop-place-test.true in
     let here = action_here context s all k f b refl below is (c.in_ok-is_solvable.ensures context.rules.forms s) in
     let step = next_place context s action formula_of all k f b below is here in
     sym (rw c.if-branch.false at step) ∙ c.loop-place.invariant context

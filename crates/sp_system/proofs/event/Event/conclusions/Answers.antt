@@ -1,8 +1,13 @@
-use Rattle.std.proofs.Common.{ap}
+use Rattle.std.proofs.Common.{map, ap, ◌∙◌}
 use Rattle.sp_spec.specs.Term.{Variable}
 use Rattle.sp_spec.specs.Rule.{Facts}
+use Rattle.sp_fact.specs.View.{fact_of}
+use Rattle.sp_system.specs.declared.event.Happening.{Happening}
 use Rattle.sp_system.proofs.EventFacts.{facts_are}
 use Rattle.sp_system.proofs.event.Event.conclusions.Goals as goal
 
 pub returns : goal.returns
-returns c = let event = c.args.self.now in ap (λ (f : Facts Variable). f.conclusions) (facts_are event.what event.facts event.has_its_facts)
+returns c =
+    let happening = c.args.self.now.happening in
+    ap (λ (h : Happening). map fact_of h.facts.conclusions.items) c.deref.ensures
+    ∙ ap (λ (f : Facts Variable). f.conclusions) (facts_are happening.what happening.facts happening.has_its_facts)
