@@ -1,11 +1,9 @@
 pub mod Adding
-pub mod Binding
 pub mod Declaring
-pub mod Places
-pub mod Resolving
 pub mod Signatures
 pub mod Stepping
 pub mod Once
 pub mod ConstantSteps
 pub mod Joints
+pub mod WrittenRules
 pub mod Theory

@@ -1,10 +1,8 @@
 -- Symbols that are declared one after the other.
-use Rattle.std.specs.Prelude.{ℕ, Bool, ◌&&◌, not, List, ◌++◌}
+use Rattle.std.specs.Prelude.{ℕ, List, ◌++◌}
 use Rattle.std.specs.List.{flat_map}
-use Rattle.sp_spec.specs.Lists.{is_listed}
 use Rattle.sp_spec.specs.Signature.{Symbol}
-use Rattle.sp_spec.specs.Formula.{Written}
-use Rattle.sp_spec_text.specs.Declared.{new_symbols, builtin_of, builtin_symbols, is_bare, is_constant}
+use Rattle.sp_spec_text.specs.Declared.{new_symbols, builtin_of, builtin_symbols}
 
 -- these, and behind them those that are new
 abbrev pub declared_after : List Symbol → List Symbol → List Symbol
@@ -13,7 +11,3 @@ declared_after before more = before ++ new_symbols before more
 -- those of builtins
 abbrev pub symbols_named : List (List ℕ) → List Symbol
 symbols_named names = flat_map (λ b. builtin_symbols (builtin_of b)) names
-
--- the variable is a symbol, unless its name is bound
-abbrev pub names_symbol : List Symbol → List (List ℕ) → Written → Bool
-names_symbol symbols bound x = is_bare x.mark && (is_constant symbols x.name && not (is_listed x.name bound))

@@ -1,8 +1,6 @@
 -- What the values in memory stand for.
 use Rattle.std.specs.Prelude.{ℕ, List, map}
 use denote.Ref.{Bor}
-use Rattle.sp_spec.specs.Lists.{newest_first}
-use Rattle.sp_spec.specs.Formula.{Written}
 use Rattle.sp_spec_text.specs.Declared as spec
 use Rattle.sp_declared.specs.declared.builtins.Builtin.{Builtin}
 use Rattle.sp_declared.specs.declared.builtins.Builtin.TheVariants as b
@@ -17,10 +15,3 @@ builtin b.RevealingSigning = spec.revealing_signing
 -- names that are kept as parts of a text
 abbrev pub texts_of : List (Bor (List ℕ)) → List (List ℕ)
 texts_of names = map (λ n. n.now) names
-
-abbrev pub named : Written → List ℕ
-named x = x.name
-
--- names that are bound, of which the last has the shortest reach
-abbrev pub innermost_first : List (Bor (List ℕ)) → List (List ℕ)
-innermost_first bound = newest_first (texts_of bound)

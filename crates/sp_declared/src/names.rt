@@ -63,7 +63,11 @@ pub fn is_listed(name: &str, names: &Vec<&str>) -> bool
 }
 
 /// Puts the name at the end, unless it is there.
-fn see<'a>(seen: &mut Vec<&'a str>, name: &'a str) -> Result<(), AllocError>
+///
+/// # Errors
+///
+/// `AllocError` where memory is wanting.
+pub fn see<'a>(seen: &mut Vec<&'a str>, name: &'a str) -> Result<(), AllocError>
     ensures { OnOk result (texts_of seen.new.items ≡ (if written.is_listed name.now (texts_of seen.old.items) then texts_of seen.old.items else texts_of seen.old.items ++ name.now ∷ [])) }
 {
     if !is_listed(name, seen) {

@@ -7,11 +7,12 @@ ghost use Rattle.sp_read_parts.specs.Views as parts;
 ghost use Rattle.sp_spec.specs.Formula as formulas;
 ghost use Rattle.sp_read_parts.specs.Reading.{Joint};
 ghost use Rattle.sp_read_parts.specs.Formulas as written;
-ghost use Rattle.sp_spec_text.specs.Written.{rules_in, lemmas_in};
+ghost use Rattle.sp_spec_text.specs.Written.{restrictions_in, lemmas_in};
 ghost use Rattle.sp_written.specs.Views as view;
 ghost use Rattle.sp_spec.specs.Constants as spec;
 ghost use Rattle.sp_spec.specs.Constants.{once_after};
 ghost use Rattle.sp_declared.specs.Constants.{constants_in};
+ghost use Rattle.sp_declared.specs.WrittenRules.{rules_written};
 
 use sp_read_parts::{ReadFormula, WrittenAction, WrittenFact, WrittenRule, WrittenTerm};
 use sp_term::term::{Name, Term};
@@ -146,10 +147,20 @@ fn see_later(seen: &mut Vec<Name>, more: &Vec<ReadFormula>) -> Result<(), AllocE
 
 /// Puts the names of the item, if it is a rule, at the end, each unless it is there.
 fn see_if_rule(seen: &mut Vec<Name>, item: &Item) -> Result<(), AllocError>
-    ensures { OnOk result (map name_of seen.new.items ≡ once_after (map name_of seen.old.items) (spec.in_rules (rules_in (view.item item.now ∷ [])))) }
+    ensures { OnOk result (map name_of seen.new.items ≡ once_after (map name_of seen.old.items) (spec.in_rules (rules_written (view.item item.now ∷ [])))) }
 {
     match item {
-        Item::Rule(rule) => see_rule(seen, rule),
+        Item::Rule(bound) => see_rule(seen, &bound.rule),
+        _ => Ok(()),
+    }
+}
+
+/// Puts the names of the item, if it is a restriction, at the end, each unless it is there.
+fn see_if_restriction(seen: &mut Vec<Name>, item: &Item) -> Result<(), AllocError>
+    ensures { OnOk result (map name_of seen.new.items ≡ once_after (map name_of seen.old.items) (spec.in_restrictions (restrictions_in (view.item item.now ∷ [])))) }
+{
+    match item {
+        Item::Restriction(restriction) => see_formula(seen, &restriction.formula),
         _ => Ok(()),
     }
 }
@@ -166,10 +177,20 @@ fn see_if_lemma(seen: &mut Vec<Name>, item: &Item) -> Result<(), AllocError>
 
 /// Puts the names of the rules at the end, each unless it is there.
 fn see_rules(seen: &mut Vec<Name>, items: &Vec<Item>) -> Result<(), AllocError>
-    ensures { OnOk result (map name_of seen.new.items ≡ once_after (map name_of seen.old.items) (spec.in_rules (rules_in (view.items items.now.items)))) }
+    ensures { OnOk result (map name_of seen.new.items ≡ once_after (map name_of seen.old.items) (spec.in_rules (rules_written (view.items items.now.items)))) }
 {
     for item in items {
         see_if_rule(seen, item)?;
+    }
+    Ok(())
+}
+
+/// Puts the names of the restrictions at the end, each unless it is there.
+fn see_restrictions(seen: &mut Vec<Name>, items: &Vec<Item>) -> Result<(), AllocError>
+    ensures { OnOk result (map name_of seen.new.items ≡ once_after (map name_of seen.old.items) (spec.in_restrictions (restrictions_in (view.items items.now.items)))) }
+{
+    for item in items {
+        see_if_restriction(seen, item)?;
     }
     Ok(())
 }
@@ -184,18 +205,20 @@ fn see_lemmas(seen: &mut Vec<Name>, items: &Vec<Item>) -> Result<(), AllocError>
     Ok(())
 }
 
-/// The public names that stand in these items, those of rules first, each once.
-#[tactic(auto, using(crate::proofs::Once::once_both))]
+/// The public names that stand in these items, those of rules first, then those of restrictions, each once.
+#[tactic(auto, using(crate::proofs::Once::once_three))]
 fn names_in(alloc: Global, items: &Vec<Item>) -> Result<Vec<Name>, AllocError>
     ensures { IfOk result (λ names. map name_of names.items ≡ constants_in (view.items items.now.items)) }
 {
     let mut seen = Vec::new(alloc);
     see_rules(&mut seen, items)?;
+    see_restrictions(&mut seen, items)?;
     see_lemmas(&mut seen, items)?;
     Ok(seen)
 }
 
-/// The public names that stand in the theory's items, those of rules first, each once, in the order in which they first stand.
+/// The public names that stand in the theory's items, those of rules first, then those of restrictions, each once, in the order in which they first
+/// stand. Of a rule with bindings the names in its facts count, as they are written.
 ///
 /// # Errors
 ///

@@ -1,16 +1,17 @@
 -- Tokens stand in the text, one behind the other.
 use Rattle.std.proofs.Common.{◌≡◌, ℕ, ◌+◌, ◌<◌, ◌≤◌, Bool, true, false, cond, List, [], ◌∷◌, length, drop, Option, Some, None, refl, ap, subst, length-drop, arith}
-use Rattle.std.specs.Prelude.{◌&&◌, ◌==◌, nat_lt}
+use Rattle.std.specs.Prelude.{◌&&◌, ◌||◌, ◌==◌, nat_lt}
 use Rattle.std.specs.Char.{is_ascii_alphanumeric}
-use Rattle.sp_spec_text.specs.Signs.{Sign}
+use Rattle.sp_spec_text.specs.Signs.{Sign, Wide}
 use Rattle.sp_spec_text.specs.Bytes.{FaultKind}
 use Rattle.sp_spec_text.specs.Bytes as class
 use Rattle.sp_spec_text.specs.Signs as s
-use Rattle.sp_spec_text.specs.Token.{Lexeme, word, constant, sign, solve, Token}
-use Rattle.sp_spec_text.specs.Lex.{skip, Piece, token, no_token, short_sign, short_piece, first_short, first_sign, piece, before, is_first, to_closing, closed_by, Reads, as_it_is, bare, goal, IsNext, AreTokens, no_more, last, next}
+use Rattle.sp_spec_text.specs.Token.{Lexeme, word, constant, sign, solve, wide, block, Token}
+use Rattle.sp_spec_text.specs.Lex.{skip, Piece, token, no_token, short_sign, short_piece, first_short, first_sign, long_sign, long_piece, first_long, first_wide, after_block, close_block, piece, before, is_first, to_closing, closed_by, Reads, as_it_is, bare, goal, IsNext, AreTokens, no_more, last, next}
 use Rattle.sp_spec_text.specs.Ends.{place_behind, is_any}
 use Rattle.sp_lex.proofs.Pieces.{skip_shorter}
 use Rattle.sp_lex.proofs.Gaps.{LeavesMost, skips_shorter}
+use Rattle.sp_lex.proofs.Blocks.{block_leaves}
 use Rattle.sp_lex.proofs.Solve.{closing_leaves}
 
 -- fewer than these bytes are left
@@ -46,6 +47,24 @@ sign_leaves b bytes =
     let last : Leaves n (first_short (b ∷ bytes)) = short_leaves (short_sign b) bytes n (omega arith) in
     either _ (sign_of s.OpenArrow) (either _ (sign_of s.CloseArrow) (either _ (sign_of s.Arrow) (either _ (sign_of s.Implies) (either _ (sign_of s.Iff) last))))
 
+long_leaves : (o : Option Wide) (bytes : List ℕ) (n : ℕ) → length bytes < n → Leaves n (long_piece o bytes)
+long_leaves None bytes n lt = leaves_none
+long_leaves (Some x) bytes n lt = leaves_token (wide x) bytes lt
+
+first_long_leaves : (bytes : List ℕ) → Leaves (length bytes) (first_long bytes)
+first_long_leaves [] = leaves_none
+first_long_leaves (a ∷ []) = leaves_none
+first_long_leaves (a ∷ b ∷ []) = leaves_none
+first_long_leaves (a ∷ b ∷ c ∷ bytes) = long_leaves (long_sign a b c) bytes (length (a ∷ b ∷ c ∷ bytes)) (omega arith)
+
+wide_leaves : (b : ℕ) (bytes : List ℕ) → Leaves (length (b ∷ bytes)) (first_wide (b ∷ bytes))
+unfolding first_wide
+wide_leaves b bytes = either _ (leaves_token (wide s.Not) (drop 2 (b ∷ bytes)) (dropped 1 b bytes)) (first_long_leaves (b ∷ bytes))
+
+block_piece_leaves : {n : ℕ} (bytes : List ℕ) (o : Option (List ℕ)) → LeavesMost (length bytes) o → length bytes < n → Leaves n (close_block o)
+block_piece_leaves bytes None l lt = leaves_none
+block_piece_leaves bytes (Some rest) l lt = let k = l.most rest refl in leaves_token block rest (omega arith)
+
 piece_leaves : (bytes : List ℕ) → Leaves (length bytes) (piece bytes)
 unfolding piece first_sign
 piece_leaves [] = leaves_none
@@ -56,7 +75,10 @@ piece_leaves (b ∷ bytes) =
     let w = skip class.Word bytes in
     let c = skip class.Constant bytes in
     let quoted = either (nat_lt (length c) (length bytes) && is_first (λ b. b == 39) c) (leaves_token (constant (before bytes c)) (drop 1 c) constants) leaves_none in
-    either (is_ascii_alphanumeric b) (leaves_token (word (before (b ∷ bytes) w)) w words) (either (b == 39) quoted (sign_leaves b bytes))
+    let inside = drop 2 (b ∷ bytes) in
+    let blocks = block_piece_leaves {n = n} inside (after_block inside) (block_leaves inside) (dropped 1 b bytes) in
+    either (is_ascii_alphanumeric b) (leaves_token (word (before (b ∷ bytes) w)) w words)
+    (either (b == 39) quoted (either _ blocks (either (b == 194 || b == 226) (wide_leaves b bytes) (sign_leaves b bytes))))
 
 solve_leaves : {n : ℕ} (bytes : List ℕ) (o : Option (List ℕ)) → LeavesMost (length bytes) o → length bytes < n → Leaves n (closed_by bytes o)
 solve_leaves bytes None l lt = leaves_none

@@ -4,6 +4,8 @@ use Rattle.sp_spec_text.specs.Signs as signs
 use Rattle.sp_spec_text.specs.Bytes as bytes
 use Rattle.sp_lex.specs.declared.token.Sign.{Sign}
 use Rattle.sp_lex.specs.declared.token.Sign.TheVariants as s
+use Rattle.sp_lex.specs.declared.token.Wide.{Wide}
+use Rattle.sp_lex.specs.declared.token.Wide.TheVariants as w
 use Rattle.sp_lex.specs.declared.token.Class.{Class}
 use Rattle.sp_lex.specs.declared.token.Class.TheVariants as c
 use Rattle.sp_lex.specs.declared.token.Mark.{Mark}
@@ -20,7 +22,7 @@ use Rattle.sp_lex.specs.declared.token.Gap.TheVariants as g
 use Rattle.sp_lex.specs.declared.token.LexFault.{LexFault}
 use Rattle.sp_lex.specs.declared.token.LexError.{LexError}
 use Rattle.sp_lex.specs.declared.token.LexError.TheVariants.{Memory, Fault}
-use Rattle.sp_spec_text.specs.Token.{Lexeme, word, constant, sign, solve, Token}
+use Rattle.sp_spec_text.specs.Token.{Lexeme, word, constant, sign, solve, wide, block, Token}
 use Rattle.sp_spec_text.specs.Lex.{Piece, token, no_token, Step, nothing, past, unclosed, AreTokens, AreTokensBefore, IsFault}
 
 abbrev pub sign_of : Sign → signs.Sign
@@ -51,6 +53,18 @@ sign_of s.OpenBrace = signs.OpenBrace
 sign_of s.CloseBrace = signs.CloseBrace
 sign_of s.Greater = signs.Greater
 sign_of s.Slash = signs.Slash
+sign_of s.Plus = signs.Plus
+
+abbrev pub wide_of : Wide → signs.Wide
+wide_of w.All = signs.All
+wide_of w.Ex = signs.Ex
+wide_of w.Both = signs.Both
+wide_of w.Either = signs.Either
+wide_of w.Not = signs.Not
+wide_of w.Then = signs.Then
+wide_of w.Same = signs.Same
+wide_of w.True = signs.True
+wide_of w.False = signs.False
 
 abbrev pub class_of : Class → bytes.Class
 class_of c.Constant = bytes.Constant
@@ -67,12 +81,15 @@ kind_of k.NoToken = bytes.NoToken
 kind_of k.OpenComment = bytes.OpenComment
 kind_of k.NoConstant = bytes.NoConstant
 kind_of k.OpenSolve = bytes.OpenSolve
+kind_of k.OpenBlock = bytes.OpenBlock
 
 abbrev pub lexeme_of : rust.Lexeme → Lexeme
 lexeme_of (v.Word w) = word w.now
 lexeme_of (v.Constant c) = constant c.now
 lexeme_of (v.Sign x) = sign (sign_of x)
 lexeme_of (v.Solve s) = solve s.now
+lexeme_of (v.Wide x) = wide (wide_of x)
+lexeme_of v.Block = block
 
 abbrev pub token_of : rust_token.Token → Token
 token_of t = record { lexeme = lexeme_of t.lexeme; start = t.start; end = t.end }

@@ -1,11 +1,11 @@
 ghost use Rattle.std.specs.Prelude.{◌≡◌, [], ◌∷◌, MatchOption, option_map, IsUtf8, false, if◌then◌else◌, drop, length, IfSome, IfOk, OnOk, MatchResult, ◌≤◌, ◌<◌, ◌+◌, ◌++◌, Some, None};
 ghost use Rattle.sp_spec_text.specs.Lex as spec;
-ghost use Rattle.sp_spec_text.specs.Lex.{begins, close_constant, first_sign, solve_piece, Skips, IsUnclosed, NoBracket, Reads, AreTokens};
+ghost use Rattle.sp_spec_text.specs.Lex.{begins, close_block, close_constant, first_sign, first_wide, solve_piece, Skips, IsUnclosed, NoBracket, Reads, AreTokens};
 ghost use Rattle.sp_spec_text.specs.Bytes as kinds;
-ghost use Rattle.sp_lex.specs.Views.{sign_of, class_of, mark_of, found, step, Takes, Passes, IsScanned, IsFaultOf, lexeme_of, token_of, tokens_of};
+ghost use Rattle.sp_lex.specs.Views.{sign_of, wide_of, class_of, mark_of, found, step, Takes, Passes, IsScanned, IsFaultOf, lexeme_of, token_of, tokens_of};
 
 use crate::token::{
-    Class, FaultKind, Found, Gap, LexError, LexFault, Lexeme, Mark, Scanned, Sign, Token,
+    Class, FaultKind, Found, Gap, LexError, LexFault, Lexeme, Mark, Scanned, Sign, Token, Wide,
 };
 use std::alloc::{AllocError, Global};
 
@@ -132,6 +132,7 @@ fn short_sign(byte: u8) -> Option<Sign>
         b'}' => Some(Sign::CloseBrace),
         b'>' => Some(Sign::Greater),
         b'/' => Some(Sign::Slash),
+        b'+' => Some(Sign::Plus),
         _ => None,
     }
 }
@@ -171,6 +172,90 @@ fn sign(text: &[u8]) -> Found
     }
 }
 
+/// The sign of logic that these bytes are, one of those with three.
+#[tactic(auto, unfolding(sp_spec_text::specs::Lex::long_sign))]
+fn long_sign(first: u8, second: u8, third: u8) -> Option<Wide>
+    ensures { option_map wide_of result ≡ spec.long_sign first second third }
+{
+    if first != 0xE2 {
+        return None;
+    }
+    match second {
+        0x88 => match third {
+            0x80 => Some(Wide::All),
+            0x83 => Some(Wide::Ex),
+            0xA7 => Some(Wide::Both),
+            0xA8 => Some(Wide::Either),
+            _ => None,
+        },
+        0x87 => match third {
+            0x92 => Some(Wide::Then),
+            0x94 => Some(Wide::Same),
+            _ => None,
+        },
+        0x8A => match third {
+            0xA4 => Some(Wide::True),
+            0xA5 => Some(Wide::False),
+            _ => None,
+        },
+        _ => None,
+    }
+}
+
+/// The sign of logic of three bytes that stands first.
+fn first_long(text: &[u8]) -> Found
+    ensures value { found result ≡ spec.first_long text.now }
+    ensures shorter { Takes result text.now }
+{
+    match text {
+        [first, second, third, rest @ ..] => match long_sign(*first, *second, *third) {
+            Some(sign) => Found::Token(Lexeme::Wide(sign), rest),
+            None => Found::NoToken(FaultKind::NoToken),
+        },
+        _ => Found::NoToken(FaultKind::NoToken),
+    }
+}
+
+/// The sign of logic that stands first, of two bytes or of three.
+#[tactic(auto, unfolding(sp_spec_text::specs::Lex::first_wide))]
+fn wide(text: &[u8]) -> Found
+    ensures value { found result ≡ first_wide text.now }
+    ensures shorter { Takes result text.now }
+{
+    match after(text, b"\xC2\xAC") {
+        Some(rest) => Found::Token(Lexeme::Wide(Wide::Not), rest),
+        None => first_long(text),
+    }
+}
+
+/// What follows the first `*}`, if one is there.
+#[tactic(auto, using(crate::proofs::Blocks::blocks), unfolding(sp_spec_text::specs::Lex::after_block))]
+fn after_block(text: &[u8]) -> Option<&[u8]>
+    ensures value { option_map (λ x. x.now) result ≡ spec.after_block text.now }
+    ensures shorter { IfSome result (λ x. length x.now < length text.now) }
+{
+    let mut rest = text;
+    loop {
+        let (first, after) = split(rest)?;
+        let (second, behind) = split(after)?;
+        if first == b'*' && second == b'}' {
+            return Some(behind);
+        }
+        rest = after;
+    }
+}
+
+/// A block of text behind its `{*`.
+fn block(inside: &[u8]) -> Found
+    ensures value { found result ≡ close_block (spec.after_block inside.now) }
+    ensures shorter { Takes result inside.now }
+{
+    match after_block(inside) {
+        Some(rest) => Found::Token(Lexeme::Block, rest),
+        None => Found::NoToken(FaultKind::OpenBlock),
+    }
+}
+
 /// A constant behind its first quote.
 #[tactic(auto, using(crate::proofs::Pieces::pieces))]
 fn constant(body: &[u8]) -> Found
@@ -187,7 +272,7 @@ fn constant(body: &[u8]) -> Found
     }
 }
 
-/// The word, constant or sign that begins here.
+/// The word, constant, block of text or sign that begins here.
 #[tactic(auto, using(crate::proofs::Pieces::pieces), unfolding(sp_spec_text::specs::Lex::piece))]
 fn piece(text: &[u8]) -> Found
     ensures value { found result ≡ spec.piece text.now }
@@ -200,6 +285,12 @@ fn piece(text: &[u8]) -> Found
         }
         if byte == b'\'' {
             return constant(behind);
+        }
+        if let Some(inside) = after(text, b"{*") {
+            return block(inside);
+        }
+        if byte == 0xC2 || byte == 0xE2 {
+            return wide(text);
         }
     }
     sign(text)
@@ -382,6 +473,8 @@ fn is_solve(lexeme: Lexeme) -> bool
         Lexeme::Constant(_) => false,
         Lexeme::Sign(_) => false,
         Lexeme::Solve(_) => false,
+        Lexeme::Wide(_) => false,
+        Lexeme::Block => false,
     }
 }
 
@@ -414,6 +507,8 @@ fn is_end(lexeme: Lexeme) -> bool
         Lexeme::Constant(_) => false,
         Lexeme::Sign(_) => false,
         Lexeme::Solve(_) => false,
+        Lexeme::Wide(_) => false,
+        Lexeme::Block => false,
     }
 }
 

@@ -3,7 +3,7 @@
 // Carried here: the part of "texts are read exactly" that concerns bytes: a text has one list of tokens, or one first fault.
 // The language's pieces are functions in sp_spec_text, specs/Lex.antt, the lists of tokens a relation over them;
 // specs/Views.antt here says what the values in memory stand for.
-// Comments nest, and what stands between the brackets of `solve( )` is one token.
+// Comments nest; what stands between the brackets of `solve( )`, and a text block, is one token.
 // A token shows its text, and where it begins and ends; a fault its kind, and where it begins.
 #![tactic(auto)]
 
@@ -13,7 +13,7 @@ mod token;
 ghost use Rattle.sp_lex.specs.Laws.{TextsAreCutOneWay};
 
 pub use cut::{scan, tokens};
-pub use token::{FaultKind, LexError, LexFault, Lexeme, Scanned, Sign, Token};
+pub use token::{FaultKind, LexError, LexFault, Lexeme, Scanned, Sign, Token, Wide};
 
 /// A text has one list of tokens, or one first fault, and not both.
 pub fn texts_are_cut_one_way()

@@ -1,3 +1,5 @@
+use thiserror::Error;
+
 /// A sign of the language of theories.
 #[derive(Clone, Copy, PartialEq, Eq)]
 pub enum Sign {
@@ -55,9 +57,34 @@ pub enum Sign {
     Greater,
     /// `/`
     Slash,
+    /// `+`
+    Plus,
 }
 
-/// What a token is: a word, a constant without its quotes, a sign, or a goal.
+/// A sign of logic that is longer than a byte; in formulas it is read as the text beside it.
+#[derive(Clone, Copy, PartialEq, Eq)]
+pub enum Wide {
+    /// U+2200, `All`
+    All,
+    /// U+2203, `Ex`
+    Ex,
+    /// U+2227, `&`
+    Both,
+    /// U+2228, `|`
+    Either,
+    /// U+00AC, `not`
+    Not,
+    /// U+21D2, `==>`
+    Then,
+    /// U+21D4, `<=>`
+    Same,
+    /// U+22A4, `T`
+    True,
+    /// U+22A5, `F`
+    False,
+}
+
+/// What a token is: a word, a constant without its quotes, a sign, a goal, a sign of logic, or a block of text.
 #[derive(Clone, Copy)]
 pub enum Lexeme<'a> {
     Word(&'a str),
@@ -65,6 +92,9 @@ pub enum Lexeme<'a> {
     Sign(Sign),
     /// What stands between the brackets of `solve( )`, as it is written.
     Solve(&'a [u8]),
+    Wide(Wide),
+    /// `{*`, any text, and `*}`
+    Block,
 }
 
 /// A token, the place of its first byte in the text, and the place behind its last.
@@ -76,20 +106,28 @@ pub struct Token<'a> {
 }
 
 /// What is wrong at a place of a text.
-#[derive(Clone, Copy, PartialEq, Eq)]
+#[derive(Clone, Copy, Debug, PartialEq, Eq, Error)]
 pub enum FaultKind {
     /// A byte that begins no token.
+    #[error("no token begins here")]
     NoToken,
     /// A comment that is not closed.
+    #[error("the comment is not closed")]
     OpenComment,
     /// A `'` that begins no constant.
+    #[error("the quote begins no constant")]
     NoConstant,
     /// A `solve(` whose bracket is not closed.
+    #[error("the bracket behind `solve` is not closed")]
     OpenSolve,
+    /// A `{*` without `*}` behind it.
+    #[error("the text block is not closed")]
+    OpenBlock,
 }
 
 /// The first fault of a text, and the place of the byte that it begins with.
-#[derive(Clone, Copy)]
+#[derive(Clone, Copy, Debug, Error)]
+#[error("at byte {place}: {kind}")]
 pub struct LexFault {
     pub kind: FaultKind,
     pub place: usize,
@@ -103,11 +141,13 @@ pub struct Scanned<'a> {
 }
 
 /// Why a text has no tokens.
-#[derive(Clone, Copy)]
+#[derive(Clone, Copy, Debug, Error)]
 pub enum LexError {
     /// There is no memory for them.
+    #[error("out of memory")]
     Memory,
     /// The text has a fault.
+    #[error("the text has no tokens, {0}")]
     Fault(LexFault),
 }
 

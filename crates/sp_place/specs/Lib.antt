@@ -1,9 +1,5 @@
-pub mod Parts
-pub mod Table
-pub mod Language
 pub mod Refused
-pub mod Views
+pub mod Remaining
 pub mod Texts
 pub mod Runs
 pub mod Laws
-pub mod Stack

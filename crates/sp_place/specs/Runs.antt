@@ -4,21 +4,21 @@ use Rattle.sp_spec_text.specs.Token.{Lexeme, Token}
 use Rattle.sp_spec_text.specs.Lex.{lexemes}
 use Rattle.sp_spec_text.specs.Written.{WrittenText}
 use Rattle.sp_spec_text.specs.Theories.{SpellsTheory}
-use Rattle.sp_place.specs.Parts.{Awaited}
-use Rattle.sp_place.specs.Parts as a
+use Rattle.sp_await.specs.Parts as a
 use Rattle.sp_place.specs.declared.refused.Run.{Run}
 use Rattle.sp_place.specs.declared.refused.Run.TheVariants.{Wrong, Left, Whole}
-use Rattle.sp_place.specs.Language.{HasAll}
-use Rattle.sp_place.specs.Stack.{Good}
+use Rattle.sp_law_await.specs.Language.{HasAll}
+use Rattle.sp_place.specs.Remaining.{Remaining, EndsIn}
+use Rattle.sp_await.specs.Stack.{Good}
 use Rattle.sp_place.specs.Refused.{Begin, IsFirstWrong}
 
--- the tokens before the rest are taken, and these parts are left of a theory
-pub record Reached (tokens rest : List Token) (parts : List Awaited) : Type 0 where
+-- the tokens before the rest are taken, and this is left of a theory
+pub record Reached (tokens rest : List Token) (left : Remaining) : Type 0 where
   pub before : List Token
   pub are : tokens ≡ before ++ rest
-  pub goes : (more : List Lexeme) → HasAll parts more [] → HasAll (a.Theory ∷ []) (lexemes before ++ more) []
-  pub comes : (more : List Lexeme) → HasAll (a.Theory ∷ []) (lexemes before ++ more) [] → HasAll parts more []
-  pub good : Good parts
+  pub goes : (more : List Lexeme) → EndsIn left more → HasAll (a.Theory ∷ []) (lexemes before ++ more) []
+  pub comes : (more : List Lexeme) → HasAll (a.Theory ∷ []) (lexemes before ++ more) [] → EndsIn left more
+  pub good : Good left.parts
 
 -- the tokens begin a theory, and are none
 pub record IsLeft (tokens : List Token) : Type 0 where

@@ -7,7 +7,6 @@ ghost use Rattle.sp_spec_text.specs.Texts.{IsTextOf};
 ghost use Rattle.sp_place.specs.Refused.{IsRefusedAt};
 ghost use Rattle.sp_place.specs.Runs.{RunsTo};
 
-use crate::awaited::Awaited;
 use crate::stack::{advance, is_empty, start};
 use sp_lex::{Token, scan};
 use std::alloc::{AllocError, Global};
@@ -41,12 +40,13 @@ fn follow<'a>(alloc: Global, tokens: &[Token<'a>]) -> Result<Run, AllocError>
     ensures { IfOk result (RunsTo (tokens_of tokens.now)) }
 {
     let mut parts = start(alloc)?;
+    let mut in_formula = false;
     let mut at = 0;
     while let Some((token, next)) = first(tokens, at) {
-        let taken = advance(&mut parts, token.lexeme)?;
-        if !taken {
+        let Some(open) = advance(&mut parts, in_formula, token.lexeme)? else {
             return Ok(Run::Wrong(token.start));
-        }
+        };
+        in_formula = open;
         at = next;
     }
     let none_left = is_empty(&parts);

@@ -1,20 +1,22 @@
 // The parts that a text still has to have, and what a token does to them.
 
 ghost use Rattle.std.specs.Prelude.{◌≡◌, ◌∷◌, ◌++◌, true, IfOk, OnOk, MatchOption, [], MatchBool};
+ghost use Rattle.sp_await.specs.Parts as a;
+ghost use Rattle.sp_await.specs.Stack.{Fits, Good};
+ghost use Rattle.sp_await.specs.Table as spec;
+ghost use Rattle.sp_await.specs.Views.{all_of, awaited_of, expansion_of, move_of, one_token_of, parts_of};
 ghost use Rattle.sp_lex.specs.Views.{lexeme_of};
-ghost use Rattle.sp_place.specs.Parts as a;
-ghost use Rattle.sp_place.specs.Stack.{Fits, Good};
-ghost use Rattle.sp_place.specs.Table as spec;
+ghost use Rattle.sp_place.specs.Remaining.{read_as, remaining_of, stays_open as stays};
 ghost use Rattle.sp_place.specs.Texts.{Follows, Refuses};
-ghost use Rattle.sp_place.specs.Views.{all_of, awaited_of, expansion_of, formula_part_of, move_of, parts_of, proof_part_of, one_token_of, term_part_of, theory_part_of};
 
-use crate::awaited::{Awaited, FormulaPart, OneToken, ProofPart, TermPart, TheoryPart};
-use crate::lexemes::{
-    is_attribute, is_fact_name, is_name, is_numeral, is_sign, is_sort, is_step, is_word,
+use sp_await::awaited::{Awaited, ItemPart, OneToken};
+use sp_await::lexemes::{
+    is_annotation, is_attribute, is_fact_name, is_name, is_numeral, is_quote, is_sign, is_sort,
+    is_step, is_traces, is_word, plain,
 };
-use crate::moves::{Expansion, Move};
-use crate::terms::single;
-use crate::{formulas, terms, theories};
+use sp_await::moves::{Expansion, Move, single};
+use sp_await_formula::{next_in_formula, next_in_term};
+use sp_await_theory::{next_in_item, next_in_list, next_in_proof, next_in_words};
 use sp_lex::Lexeme;
 use std::alloc::{AllocError, Global};
 
@@ -28,86 +30,13 @@ fn next_token<'a>(part: OneToken, x: Lexeme<'a>) -> Move
         OneToken::Sort => single(is_sort(x)),
         OneToken::FactName => single(is_fact_name(x)),
         OneToken::Begin => single(is_word("begin", x)),
+        OneToken::Modulo => single(is_word("modulo", x)),
         OneToken::Number => single(is_numeral(x)),
         OneToken::Attribute => single(is_attribute(x)),
-        OneToken::Traces => single(is_word("traces", x)),
-        OneToken::Trace => single(is_word("trace", x)),
+        OneToken::Annotation => single(is_annotation(x)),
+        OneToken::Traces(kind) => single(is_traces(kind, x)),
         OneToken::Case => single(is_word("case", x)),
         OneToken::Method => single(is_step(x)),
-    }
-}
-
-/// What the token does to a part of a term or of a fact.
-fn next_in_term<'a>(part: TermPart, x: Lexeme<'a>) -> Move
-    requires { Fits (term_part_of part) true }
-    ensures { move_of result ≡ spec.next (term_part_of part) (lexeme_of x.entry) }
-{
-    match part {
-        TermPart::Sorted => terms::sorted(x),
-        TermPart::Variable => terms::variable(x),
-        TermPart::Term(n) => terms::term(n, x),
-        TermPart::Applied(n) => terms::applied(n, x),
-        TermPart::Tuple(n, close) => terms::tuple(n, close),
-        TermPart::MoreTuple(n, close) => terms::more_tuple(n, close, x),
-        TermPart::Arguments(n) => terms::arguments(n, x),
-        TermPart::MoreArguments(n) => terms::more_arguments(n, x),
-        TermPart::Fact(n) => terms::fact(n, x),
-        TermPart::Opened(n) => terms::opened(n, x),
-        TermPart::Binders => terms::binders(x),
-    }
-}
-
-/// What the token does to a part of a formula.
-fn next_in_formula<'a>(part: FormulaPart, x: Lexeme<'a>) -> Move
-    requires { Fits (formula_part_of part) true }
-    ensures { move_of result ≡ spec.next (formula_part_of part) (lexeme_of x.entry) }
-{
-    match part {
-        FormulaPart::Negation(n, k) => formulas::negation(n, k, x),
-        FormulaPart::Unit(n, k) => formulas::unit(n, k, x),
-        FormulaPart::Side(n, k) => formulas::side(n, k, x),
-        FormulaPart::Order(n, k) => formulas::order(n, k, x),
-        FormulaPart::Bare(n, k) => formulas::bare(n, k, x),
-        FormulaPart::Named(n, k) => formulas::named(n, k, x),
-        FormulaPart::Shown(n, k) => formulas::shown(n, k, x),
-        FormulaPart::Truth(n, k) => formulas::truth(n, k, x),
-        FormulaPart::Both(n, k) => formulas::both(n, k, x),
-        FormulaPart::Closing(n, k) => formulas::closing(n, k),
-        FormulaPart::More(n) => formulas::more(n, x),
-        FormulaPart::Twice(n) => formulas::twice(n, x),
-    }
-}
-
-/// What the token does to a part of a theory.
-fn next_in_theory<'a>(part: TheoryPart, x: Lexeme<'a>) -> Move
-    ensures { move_of result ≡ spec.next (theory_part_of part) (lexeme_of x.entry) }
-{
-    match part {
-        TheoryPart::Theory => theories::theory(x),
-        TheoryPart::Items => theories::items(x),
-        TheoryPart::MoreBuiltins => theories::more_builtins(x),
-        TheoryPart::Function => theories::function(x),
-        TheoryPart::Attributes => theories::attributes(x),
-        TheoryPart::MoreAttributes => theories::more_attributes(x),
-        TheoryPart::MoreFunctions => theories::more_functions(x),
-        TheoryPart::MoreEquations => theories::more_equations(x),
-        TheoryPart::FactList => theories::fact_list(x),
-        TheoryPart::Facts(sign) => theories::facts(sign, x),
-        TheoryPart::MoreFacts(sign) => theories::more_facts(sign, x),
-        TheoryPart::Arrow => theories::arrow(x),
-        TheoryPart::Kind => theories::kind(x),
-    }
-}
-
-/// What the token does to a part of a proof.
-fn next_in_proof<'a>(part: ProofPart, x: Lexeme<'a>) -> Move
-    ensures { move_of result ≡ spec.next (proof_part_of part) (lexeme_of x.entry) }
-{
-    match part {
-        ProofPart::Below => theories::below(x),
-        ProofPart::Proof => theories::proof(x),
-        ProofPart::Behind => theories::behind(x),
-        ProofPart::Cases => theories::cases(x),
     }
 }
 
@@ -120,7 +49,9 @@ fn next<'a>(part: Awaited, x: Lexeme<'a>) -> Move
         Awaited::Token(part) => next_token(part, x),
         Awaited::Term(part) => next_in_term(part, x),
         Awaited::Formula(part) => next_in_formula(part, x),
-        Awaited::Theory(part) => next_in_theory(part, x),
+        Awaited::Item(part) => next_in_item(part, x),
+        Awaited::List(part) => next_in_list(part, x),
+        Awaited::Words(part) => next_in_words(part, x),
         Awaited::Proof(part) => next_in_proof(part, x),
     }
 }
@@ -181,30 +112,54 @@ fn put(parts: &mut Vec<Awaited>, expansion: Expansion) -> Result<(), AllocError>
             push_two(parts, t, u)?;
             push_four(parts, p, q, r, s)
         }
-        Expansion::Eight(p, q, r, s, t, u, v, w) => {
-            push_four(parts, t, u, v, w)?;
-            push_four(parts, p, q, r, s)
-        }
     }
 }
 
-/// Takes the token: what is left are the parts behind it. False where no text goes on with it.
-#[tactic(auto, using(crate::proofs::Taking::steps))]
-pub fn advance<'a>(parts: &mut Vec<Awaited>, x: Lexeme<'a>) -> Result<bool, AllocError>
-    requires { Good (parts_of parts.old.items) }
-    ensures { IfOk result (λ b. MatchBool b (Follows (parts_of parts.old.items) (lexeme_of x.entry) (parts_of parts.new.items)) (Refuses (parts_of parts.old.items) (lexeme_of x.entry))) }
+/// The token as it is read where a formula is open, or where none is.
+fn read<'a>(in_formula: bool, x: Lexeme<'a>) -> Lexeme<'a>
+    ensures { lexeme_of result ≡ read_as in_formula (lexeme_of x.entry) }
 {
+    if in_formula { plain(x) } else { x }
+}
+
+/// Whether a formula is open behind the token.
+fn stays_open<'a>(in_formula: bool, x: Lexeme<'a>) -> bool
+    ensures { result ≡ stays in_formula (lexeme_of x.entry) }
+{
+    in_formula && !is_quote(x)
+}
+
+/// Takes the token, where a formula is open or none is: what is left are the parts behind it. The answer says whether a formula is open
+/// there; it is none where no text goes on with the token.
+///
+/// # Errors
+///
+/// There is no memory.
+#[tactic(auto, using(crate::proofs::Taking::steps))]
+pub fn advance<'a>(
+    parts: &mut Vec<Awaited>,
+    in_formula: bool,
+    x: Lexeme<'a>,
+) -> Result<Option<bool>, AllocError>
+    requires { Good (parts_of parts.old.items) }
+    ensures { IfOk result (λ o. MatchOption o (Refuses (remaining_of parts.old.items in_formula) (lexeme_of x.entry)) (λ b. Follows (remaining_of parts.old.items in_formula) (lexeme_of x.entry) (remaining_of parts.new.items b))) }
+{
+    let mut open = in_formula;
     loop {
         let Some(part) = pop(parts) else {
-            return Ok(false);
+            return Ok(None);
         };
-        match next(part, x) {
+        match next(part, read(open, x)) {
             Move::Takes(expansion) => {
                 put(parts, expansion)?;
-                return Ok(true);
+                return Ok(Some(stays_open(open, x)));
             }
             Move::Becomes(expansion) => put(parts, expansion)?,
-            Move::Stuck => return Ok(false),
+            Move::Opens(expansion) => {
+                put(parts, expansion)?;
+                open = true;
+            }
+            Move::Stuck => return Ok(None),
         }
     }
 }
@@ -214,7 +169,7 @@ pub fn start(alloc: Global) -> Result<Vec<Awaited>, AllocError>
     ensures { IfOk result (λ parts. parts_of parts.items ≡ a.Theory ∷ []) }
 {
     let mut parts = Vec::new(alloc);
-    push(&mut parts, Awaited::Theory(TheoryPart::Theory))?;
+    push(&mut parts, Awaited::Item(ItemPart::Theory))?;
     Ok(parts)
 }
 

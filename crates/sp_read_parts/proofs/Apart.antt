@@ -6,10 +6,11 @@ use Rattle.sp_spec_text.specs.Token.{Lexeme, word, sign}
 use Rattle.sp_spec.specs.Term.{Term, var}
 use Rattle.sp_spec.specs.Rule.{Fact}
 use Rattle.sp_spec.specs.Formula.{Written, Formula}
-use Rattle.sp_spec_text.specs.Names.{is_reserved, is_capital, is_learning, names_fact, mark_at}
+use Rattle.sp_spec_text.specs.Names.{is_reserved, is_capital, names_fact, mark_at}
 use Rattle.sp_spec_text.specs.Lists.{IsNotFirst, NoReading}
+use Rattle.sp_spec_text.proofs.Words.{all_reserved, ex_reserved}
 use Rattle.sp_read_parts.specs.Parts as f
-use Rattle.sp_read_parts.specs.Parts.{IsVariable, IsNoApplication, IsTerm, IsFact}
+use Rattle.sp_read_parts.specs.Parts.{IsVariable, IsNoApplication, IsTerm, IsAnnotated, IsFact}
 use Rattle.sp_read_parts.specs.Reading.{two_sides, first, second, IsEquality, IsOrder, IsAction, IsConstant, true_word, false_word, IsAtom, all_word, ex_word, Joint, conjoint, disjoint, sign_of, Part, a_whole, Reads, grouped, bound, shallow, from_group, from_binding, positive, negative, chained, lone, implying, single, double, ended, went}
 use Rattle.sp_read_parts.proofs.One.{variable_sign, term_one, term_sign, arguments_one, fact_sign}
 use Rattle.sp_read_parts.proofs.Atomic.{no_constant, or_else_none}
@@ -69,7 +70,7 @@ no_order_word {w} {tokens} l c = record { none = λ u r h. at h }
 
 -- a fact that begins with a word begins with its name and a bracket
 word_fact : {n : ℕ} {w : List ℕ} {tokens rest : List Lexeme} {x : Fact Written} → IsFact n (word w ∷ tokens) x rest → (names_fact w ≡ true) × (ts : List Lexeme) × (tokens ≡ sign s.Open ∷ ts)
-word_fact (f.linear (f.named e (f.arguments {tokens = ts} lt h))) = (e, ts, refl)
+word_fact (f.linear (f.named e (f.arguments {tokens = ts} lt h) a)) = (e, ts, refl)
 
 pub no_action_word : {n : ℕ} {w : List ℕ} {tokens : List Lexeme} → IsNotFirst (sign s.Open) tokens → NoReading (IsAction n) (word w ∷ tokens)
 no_action_word {n} {w} {tokens} o = record { none = λ u r h. at h }
@@ -102,21 +103,26 @@ sign_no_action {n} {x} {tokens} d = record { none = λ u r h. at h }
 called : {w : List ℕ} {tokens rest : List Lexeme} → IsNoApplication tokens → tokens ≡ word w ∷ sign s.Open ∷ rest → ⊥
 called {w} {rest = r} d e = d.no_bracket w r e
 
--- where a term is read that begins as a fact, both end at one place
-fact_term : {n : ℕ} {tokens r rest : List Lexeme} {x : Fact Written} {y : Term Written} → IsFact n tokens x rest → IsTerm n tokens y r → rest ≡ r
-fact_term (f.linear (f.named e (f.arguments lt h))) (f.variable d k) = absurd (called d refl)
-fact_term (f.linear (f.named e h)) (f.application i k) = (arguments_one h k).1
-fact_term (f.linear (f.named e h)) (f.braced i lt k l) = elim h [ ]
+-- where a term is read that begins as a fact, the fact's annotations stand behind it
+fact_term : {n : ℕ} {tokens r rest : List Lexeme} {x : Fact Written} {y : Term Written} → IsFact n tokens x rest → IsTerm n tokens y r → IsAnnotated r tt rest
+fact_term (f.linear (f.named e (f.arguments lt h) a)) (f.variable d k) = absurd (called d refl)
+fact_term {rest = rest} (f.linear (f.named e h a)) (f.application i k) = subst (λ (ts : List Lexeme). IsAnnotated ts tt rest) (arguments_one h k).1 a
+fact_term (f.linear (f.named e h a)) (f.braced i lt k l) = elim h [ ]
 fact_term (f.persistent h) t = absurd (term_sign refl (λ e. cc) (λ e. cc) t)
+
+-- annotations begin with `[`, or the same sign follows
+annotated_sign : {x y : Sign} {tokens rest : List Lexeme} → (x ≡ s.OpenList → ⊥) → IsAnnotated (sign x ∷ tokens) tt (sign y ∷ rest) → x ≡ y
+annotated_sign d (f.unannotated e) = refl
+annotated_sign d (f.annotated h) = absurd (d refl)
 
 pub fact_no_equality : {n : ℕ} {tokens rest : List Lexeme} {x : Fact Written} → IsFact n tokens x (sign s.At ∷ rest) → NoReading (IsEquality n) tokens
 fact_no_equality {n} {tokens} i = record { none = λ u r h. at h i }
   where
     at : {r rest : List Lexeme} {u : Formula} {x : Fact Written} → IsEquality n tokens u r → IsFact n tokens x (sign s.At ∷ rest) → ⊥
-    at (two_sides h k) i = let e = fact_term i h in cc
+    at (two_sides h k) i = let e : s.Equals ≡ s.At = annotated_sign (λ d. cc) (fact_term i h) in cc
 
 pub fact_no_order : {n : ℕ} {tokens rest : List Lexeme} {x : Fact Written} → IsFact n tokens x rest → NoReading IsOrder tokens
-fact_no_order (f.linear (f.named e (f.arguments lt h))) = no_order_word (λ r d. cc) (λ r d. cc)
+fact_no_order (f.linear (f.named e (f.arguments lt h) a)) = no_order_word (λ r d. cc) (λ r d. cc)
 fact_no_order (f.persistent h) = sign_no_order refl
 
 -- a variable with nothing behind it that makes it a symbol is a term
@@ -143,21 +149,13 @@ pub not_is_reserved : is_reserved (codes "not") ≡ true
 unfolding is_reserved
 not_is_reserved = refl
 
-pub all_is_reserved : is_reserved (codes "All") ≡ true
-unfolding is_reserved
-all_is_reserved = refl
-
-pub ex_is_reserved : is_reserved (codes "Ex") ≡ true
-unfolding is_reserved
-ex_is_reserved = refl
-
-reserved_is_out : (a b c : Bool) → b ≡ true → (a && not b && c) ≡ true → ⊥
-reserved_is_out false b c e h = cc
-reserved_is_out true false c e h = cc
-reserved_is_out true true c e h = cc
+reserved_is_out : (a b : Bool) → b ≡ true → (a && not b) ≡ true → ⊥
+reserved_is_out false b e h = cc
+reserved_is_out true false e h = cc
+reserved_is_out true true e h = cc
 
 pub reserved_no_fact : (w : List ℕ) → is_reserved w ≡ true → names_fact w ≡ true → ⊥
-reserved_no_fact w e h = reserved_is_out (is_capital w) (is_reserved w) (not (is_learning w)) e h
+reserved_no_fact w e h = reserved_is_out (is_capital w) (is_reserved w) e h
 
 reserved_no_term : {n : ℕ} {w : List ℕ} {tokens rest : List Lexeme} {x : Term Written} → is_reserved w ≡ true → IsTerm n (word w ∷ tokens) x rest → ⊥
 reserved_no_term e (f.variable c h) = let i = variable_name h in let d : true ≡ false = sym e ∙ i in cc
@@ -177,17 +175,17 @@ reserved_no_atom {n} {w} {tokens} e c = or_else_none (record { none = λ u r h. 
     action (two_sides h k) = reserved_no_fact w e (word_fact h).0
 
 pub all_no_atom : {n : ℕ} {tokens : List Lexeme} → NoReading (IsAtom n) (word (codes "All") ∷ tokens)
-all_no_atom = reserved_no_atom all_is_reserved (no_constant (λ r e. cc) (λ r e. cc))
+all_no_atom = reserved_no_atom all_reserved (no_constant (λ r e. cc) (λ r e. cc))
 
 pub ex_no_atom : {n : ℕ} {tokens : List Lexeme} → NoReading (IsAtom n) (word (codes "Ex") ∷ tokens)
-ex_no_atom = reserved_no_atom ex_is_reserved (no_constant (λ r e. cc) (λ r e. cc))
+ex_no_atom = reserved_no_atom ex_reserved (no_constant (λ r e. cc) (λ r e. cc))
 
 -- ---- brackets
 
 atom_closes : {n : ℕ} {tokens r rest : List Lexeme} {x : Term Written} {g : Formula} → IsAtom n tokens g rest → IsTerm n tokens x (sign s.Close ∷ r) → EndsTerm rest → rest ≡ sign s.Close ∷ r
 atom_closes (first (two_sides h k)) t c = let e = (term_one h t).1 in absurd cc
 atom_closes (second d (first (two_sides h k))) t c = let e = less_term h t in absurd cc
-atom_closes (second d (second e (first (two_sides h k)))) t c = let e = fact_term h t in absurd cc
+atom_closes (second d (second e (first (two_sides h k)))) t c = let i : s.Close ≡ s.At = annotated_sign (λ j. cc) (fact_term h t) in absurd cc
 atom_closes (second d (second e (second l true_word))) t c = word_alone t c
 atom_closes (second d (second e (second l false_word))) t c = word_alone t c
 
@@ -204,8 +202,8 @@ joint_not_close disjoint e d = cc
 closes_at : {p : Part} {n : ℕ} {tokens r rest : List Lexeme} {x : Term Written} {g : Formula} → Reads p n tokens g rest → IsTerm n tokens x (sign s.Close ∷ r) → EndsTerm rest → rest ≡ sign s.Close ∷ r
 closes_at (grouped lu h) (f.variable d t) c = absurd (variable_sign refl t)
 closes_at (grouped {rest = q} lu h) (f.brackets lt t) c = let e = closes_at h t (sign_ends s.Close q (λ i. i)) in cc
-closes_at (bound lt all_word b h) t c = absurd (reserved_no_term all_is_reserved t)
-closes_at (bound lt ex_word b h) t c = absurd (reserved_no_term ex_is_reserved t)
+closes_at (bound lt all_word b h) t c = absurd (reserved_no_term all_reserved t)
+closes_at (bound lt ex_word b h) t c = absurd (reserved_no_term ex_reserved t)
 closes_at (shallow h) t c = atom_closes h t c
 closes_at (from_group d h) t c = closes_at h t c
 closes_at (from_binding d h) t c = closes_at h t c

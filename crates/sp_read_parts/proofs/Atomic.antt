@@ -5,25 +5,19 @@ use Rattle.sp_spec_text.specs.Token.{Lexeme, word, sign}
 use Rattle.sp_spec.specs.Rule.{Fact}
 use Rattle.sp_spec.specs.Formula.{Written, Formula, truth, falsity}
 use Rattle.sp_spec_text.specs.Lists.{IsNotFirst, NoReading}
-use Rattle.sp_read_parts.specs.Parts.{IsVariable, arguments, named, IsFact, linear, persistent, AreBinders}
+use Rattle.sp_read_parts.specs.Parts.{arguments, named, IsFact, linear, persistent}
 use Rattle.sp_read_parts.specs.Reading.{Infix, two_sides, OrElse, first, second, IsAction, IsConstant, true_word, false_word, IsAtom}
 use Rattle.sp_read_parts.specs.Formulas.{formula}
 use Rattle.sp_read_parts.specs.declared.written.ReadFormula.TheVariants.{True, False}
 use Rattle.sp_read_parts.proofs.Shown.{true_shown, false_shown}
-use Rattle.sp_read_parts.proofs.One.{One, terms, facts', variable_one, binders_one}
-
-pub variables' : One IsVariable
-variables' = record { one = variable_one }
-
-pub binders' : One AreBinders
-binders' = record { one = binders_one }
+use Rattle.sp_read_parts.proofs.One.{One, terms, facts', variables'}
 
 -- ---- two sides
 
-pub infix_one : {A B : Type 0} {P : List Lexeme → A → List Lexeme → Type 0} {x : Sign} {Q : List Lexeme → B → List Lexeme → Type 0} {f : A → B → Formula} → One P → One Q → One (Infix P x Q f)
-infix_one {A} {B} {P} {x} {Q} {f} o w = record { one = λ {tokens} {r} {q} h k. at h k }
+pub infix_one : {A B C : Type 0} {P : List Lexeme → A → List Lexeme → Type 0} {x : Sign} {Q : List Lexeme → B → List Lexeme → Type 0} {f : A → B → C} → One P → One Q → One (Infix P x Q f)
+infix_one {A} {B} {C} {P} {x} {Q} {f} o w = record { one = λ {tokens} {r} {q} h k. at h k }
   where
-    at : {ts r q : List Lexeme} {u v : Formula} → Infix P x Q f ts u r → Infix P x Q f ts v q → (u ≡ v) × (r ≡ q)
+    at : {ts r q : List Lexeme} {u v : C} → Infix P x Q f ts u r → Infix P x Q f ts v q → (u ≡ v) × (r ≡ q)
     at (two_sides {mid = m} h k) (two_sides {b = d} {mid = l} {rest = q} i j) =
         let a = o.one h i in
         let e = a.1 in
@@ -31,26 +25,26 @@ infix_one {A} {B} {P} {x} {Q} {f} o w = record { one = λ {tokens} {r} {q} h k. 
         let b = w.one k (subst (λ (ts : List Lexeme). Q ts d q) y j) in
         (rw (a.0, b.0) refl, b.1)
 
-pub infix_at : {A B : Type 0} (P : List Lexeme → A → List Lexeme → Type 0) (x : Sign) (Q : List Lexeme → B → List Lexeme → Type 0) (f : A → B → Formula) {a : A} {b : B} {tokens mid after rest : List Lexeme}
+pub infix_at : {A B C : Type 0} (P : List Lexeme → A → List Lexeme → Type 0) (x : Sign) (Q : List Lexeme → B → List Lexeme → Type 0) (f : A → B → C) {a : A} {b : B} {tokens mid after rest : List Lexeme}
     → P tokens a mid → mid ≡ sign x ∷ after → Q after b rest → Infix P x Q f tokens (f a b) rest
 infix_at P x Q f {a = a} {tokens = tokens} h e k = two_sides (subst (λ (ts : List Lexeme). P tokens a ts) e h) k
 
-pub infix_no_left : {A B : Type 0} {P : List Lexeme → A → List Lexeme → Type 0} {x : Sign} {Q : List Lexeme → B → List Lexeme → Type 0} {f : A → B → Formula} {tokens : List Lexeme} → NoReading P tokens → NoReading (Infix P x Q f) tokens
-infix_no_left {A} {B} {P} {x} {Q} {f} n = record { none = λ u r h. at h n }
+pub infix_no_left : {A B C : Type 0} {P : List Lexeme → A → List Lexeme → Type 0} {x : Sign} {Q : List Lexeme → B → List Lexeme → Type 0} {f : A → B → C} {tokens : List Lexeme} → NoReading P tokens → NoReading (Infix P x Q f) tokens
+infix_no_left {A} {B} {C} {P} {x} {Q} {f} n = record { none = λ u r h. at h n }
   where
-    at : {ts r : List Lexeme} {u : Formula} → Infix P x Q f ts u r → NoReading P ts → ⊥
+    at : {ts r : List Lexeme} {u : C} → Infix P x Q f ts u r → NoReading P ts → ⊥
     at (two_sides {a = a} {mid = m} h k) n = n.none a (sign x ∷ m) h
 
-pub infix_no_sign : {A B : Type 0} {P : List Lexeme → A → List Lexeme → Type 0} {x : Sign} {Q : List Lexeme → B → List Lexeme → Type 0} {f : A → B → Formula} → One P → {a : A} {tokens mid : List Lexeme} → P tokens a mid → IsNotFirst (sign x) mid → NoReading (Infix P x Q f) tokens
-infix_no_sign {A} {B} {P} {x} {Q} {f} o h d = record { none = λ u r k. at k h d }
+pub infix_no_sign : {A B C : Type 0} {P : List Lexeme → A → List Lexeme → Type 0} {x : Sign} {Q : List Lexeme → B → List Lexeme → Type 0} {f : A → B → C} → One P → {a : A} {tokens mid : List Lexeme} → P tokens a mid → IsNotFirst (sign x) mid → NoReading (Infix P x Q f) tokens
+infix_no_sign {A} {B} {C} {P} {x} {Q} {f} o h d = record { none = λ u r k. at k h d }
   where
-    at : {ts r mid : List Lexeme} {u : Formula} {a : A} → Infix P x Q f ts u r → P ts a mid → IsNotFirst (sign x) mid → ⊥
+    at : {ts r mid : List Lexeme} {u : C} {a : A} → Infix P x Q f ts u r → P ts a mid → IsNotFirst (sign x) mid → ⊥
     at (two_sides {mid = m} i k) h d = d m (o.one h i).1
 
-pub infix_no_right : {A B : Type 0} {P : List Lexeme → A → List Lexeme → Type 0} {x : Sign} {Q : List Lexeme → B → List Lexeme → Type 0} {f : A → B → Formula} → One P → {a : A} {tokens mid after : List Lexeme} → P tokens a mid → mid ≡ sign x ∷ after → NoReading Q after → NoReading (Infix P x Q f) tokens
-infix_no_right {A} {B} {P} {x} {Q} {f} o h e n = record { none = λ u r k. at k h e n }
+pub infix_no_right : {A B C : Type 0} {P : List Lexeme → A → List Lexeme → Type 0} {x : Sign} {Q : List Lexeme → B → List Lexeme → Type 0} {f : A → B → C} → One P → {a : A} {tokens mid after : List Lexeme} → P tokens a mid → mid ≡ sign x ∷ after → NoReading Q after → NoReading (Infix P x Q f) tokens
+infix_no_right {A} {B} {C} {P} {x} {Q} {f} o h e n = record { none = λ u r k. at k h e n }
   where
-    at : {ts r mid after : List Lexeme} {u : Formula} {a : A} → Infix P x Q f ts u r → P ts a mid → mid ≡ sign x ∷ after → NoReading Q after → ⊥
+    at : {ts r mid after : List Lexeme} {u : C} {a : A} → Infix P x Q f ts u r → P ts a mid → mid ≡ sign x ∷ after → NoReading Q after → ⊥
     at {after = after} (two_sides {b = b} {mid = m} {rest = r} i k) h e n = let y = (o.one h i).1 in let l : m ≡ after = cc in n.none b r (subst (λ (ts : List Lexeme). Q ts b r) l k)
 
 -- ---- one way or the other
@@ -113,8 +107,8 @@ pub fact_too_deep : {n : ℕ} {tokens : List Lexeme} → 128 ≤ n → NoReading
 fact_too_deep {n} le = record { none = λ u r h. at h }
   where
     at : {ts r : List Lexeme} {u : Fact Written} → IsFact n ts u r → ⊥
-    at (linear (named e (arguments lt h))) = omega (arith, le, lt)
-    at (persistent (named e (arguments lt h))) = omega (arith, le, lt)
+    at (linear (named e (arguments lt h) a)) = omega (arith, le, lt)
+    at (persistent (named e (arguments lt h) a)) = omega (arith, le, lt)
 
 pub action_too_deep : {n : ℕ} {tokens : List Lexeme} → 128 ≤ n → NoReading (IsAction n) tokens
 action_too_deep le = infix_no_left (fact_too_deep le)

@@ -3,7 +3,8 @@ pub mod Steps
 pub mod Nested
 pub mod Loops
 pub mod Sequence
-pub mod Bindings
+pub mod Until
+pub mod Annotated
 pub mod Spelled
 pub mod Atomic
 pub mod OneFormula
@@ -13,3 +14,5 @@ pub mod Stuck
 pub mod Faithful
 pub mod Apart
 pub mod Taken
+pub mod LetBindings
+pub mod Plain

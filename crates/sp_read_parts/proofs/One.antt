@@ -1,15 +1,15 @@
 -- Each part is read in one way.
 use Rattle.std.proofs.Common.{◌≡◌, ℕ, ◌+◌, Bool, List, [], ◌∷◌, Option, Some, None, refl, sym, ap, subst, ◌∙◌}
-use Rattle.sp_spec_text.specs.Signs.{Sign}
+use Rattle.sp_spec_text.specs.Signs.{Sign, Wide}
 use Rattle.sp_spec_text.specs.Signs as s
-use Rattle.sp_spec_text.specs.Token.{Lexeme, word, constant, sign, solve}
+use Rattle.sp_spec_text.specs.Token.{Lexeme, word, constant, sign, solve, wide, block}
 use Rattle.sp_spec.specs.Term.{Term, var, app, Terms, none, more}
 use Rattle.sp_spec.specs.Rule.{Fact}
 use Rattle.sp_spec.specs.Formula.{Mark, Written}
 use Rattle.sp_spec_text.specs.Names.{mark_at}
 use Rattle.sp_spec_text.specs.Lists.{AreParts, last, next, AreItems, empty, some}
 use Rattle.sp_spec_text.specs.Shapes.{written, fact}
-use Rattle.sp_read_parts.specs.Parts.{IsNameFirst, name, IsSort, sort, IsVariable, marked, sorted, unmarked, IsNoApplication, IsTerm, fixed, variable, brackets, tuple, application, braced, IsTuple, last_part, next_part, AreArguments, arguments, AreTermsTo, no_term, some_terms, AreTerms, last_term, next_term, IsNamedFact, named, IsFact, linear, persistent, AreBinders, one_binder, more_binders}
+use Rattle.sp_read_parts.specs.Parts.{IsNameFirst, name, IsSort, sort, IsVariable, marked, sorted, unmarked, IsNoApplication, IsTerm, fixed, variable, brackets, tuple, application, braced, IsTuple, last_part, next_part, AreArguments, arguments, AreTermsTo, no_term, some_terms, AreTerms, last_term, next_term, AreAnnotations, last_annotation, next_annotation, IsAnnotated, unannotated, annotated, IsNamedFact, named, IsFact, linear, persistent, AreUntil, last_one, one_more, AreBinders}
 
 -- what is read, and what follows it, are fixed by the tokens
 pub record One {A : Type 0} (R : List Lexeme → A → List Lexeme → Type 0) : Type 0 where
@@ -35,7 +35,7 @@ variable_one (sorted {behind = b} (name h) e) (unmarked (name k) f) = absurd (f 
 variable_one (unmarked (name k) f) (sorted {behind = b} (name h) e) = absurd (f b refl)
 variable_one (unmarked (name h) e) (unmarked (name k) f) = (refl, refl)
 
--- no variable begins with a constant or a goal, nor with a sign that marks none
+-- no variable begins with a constant, a goal, a sign of logic or a block, nor with a sign that marks none
 pub variable_constant : {c : List ℕ} {tokens r : List Lexeme} {v : Written} → IsVariable (constant c ∷ tokens) v r → ⊥
 variable_constant (sorted h e) = elim h [ ]
 variable_constant (unmarked h e) = elim h [ ]
@@ -44,10 +44,21 @@ pub variable_solve : {s : List ℕ} {tokens r : List Lexeme} {v : Written} → I
 variable_solve (sorted h e) = elim h [ ]
 variable_solve (unmarked h e) = elim h [ ]
 
+pub variable_wide : {x : Wide} {tokens r : List Lexeme} {v : Written} → IsVariable (wide x ∷ tokens) v r → ⊥
+variable_wide (sorted h e) = elim h [ ]
+variable_wide (unmarked h e) = elim h [ ]
+
+pub variable_block : {tokens r : List Lexeme} {v : Written} → IsVariable (block ∷ tokens) v r → ⊥
+variable_block (sorted h e) = elim h [ ]
+variable_block (unmarked h e) = elim h [ ]
+
 pub variable_sign : {x : Sign} {tokens r : List Lexeme} {v : Written} → mark_at x ≡ None → IsVariable (sign x ∷ tokens) v r → ⊥
 variable_sign n (marked e h) = let g = sym n ∙ e in cc
 variable_sign n (sorted h e) = elim h [ ]
 variable_sign n (unmarked h e) = elim h [ ]
+
+pub variables' : One IsVariable
+variables' = record { one = variable_one }
 
 -- ---- terms
 
@@ -147,8 +158,20 @@ items_one o d c (some h) (some k) = parts_one o d h k
 
 -- ---- facts and binders
 
+annotations_one : {u v : Unit {0}} {tokens r q : List Lexeme} → AreAnnotations tokens u r → AreAnnotations tokens v q → r ≡ q
+annotations_one (last_annotation e) (last_annotation f) = refl
+annotations_one (next_annotation e h) (next_annotation f k) = annotations_one h k
+
+pub annotated_one : {u v : Unit {0}} {tokens r q : List Lexeme} → IsAnnotated tokens u r → IsAnnotated tokens v q → r ≡ q
+annotated_one (unannotated d) (unannotated e) = refl
+annotated_one (unannotated d) (annotated {tokens = ts} k) = absurd (d ts refl)
+annotated_one (annotated {tokens = ts} h) (unannotated d) = absurd (d ts refl)
+annotated_one (annotated h) (annotated k) = annotations_one h k
+
 pub named_one : {n : ℕ} {p : Bool} {tokens r q : List Lexeme} {f g : Fact Written} → IsNamedFact n p tokens f r → IsNamedFact n p tokens g q → (f ≡ g) × (r ≡ q)
-named_one {p = p} (named {w = w} e h) (named f k) = let o = arguments_one h k in (ap (λ (xs : Terms Written). fact w p xs) o.0, o.1)
+named_one {p = p} {q = q} (named {w = w} e h a) (named f k b) =
+    let o = arguments_one h k in
+    (ap (λ (xs : Terms Written). fact w p xs) o.0, annotated_one a (subst (λ (ts : List Lexeme). IsAnnotated ts tt q) (sym o.1) b))
 
 pub fact_one : {n : ℕ} {tokens r q : List Lexeme} {f g : Fact Written} → IsFact n tokens f r → IsFact n tokens g q → (f ≡ g) × (r ≡ q)
 fact_one (linear h) (linear k) = named_one h k
@@ -164,20 +187,24 @@ fact_sign d (persistent h) = d refl
 pub facts' : {n : ℕ} → One (IsFact n)
 facts' = record { one = fact_one }
 
+-- ---- parts one behind the other
+
+-- the closing token begins no part
+until_started : {A : Type 0} {R : List Lexeme → A → List Lexeme → Type 0} {close : Lexeme} → ((tokens r : List Lexeme) (x : A) → R (close ∷ tokens) x r → ⊥)
+    → {tokens r : List Lexeme} {xs : List A} → AreUntil R close (close ∷ tokens) xs r → ⊥
+until_started {close = close} c {tokens} (last_one {x = x} {rest = r} h) = c tokens (close ∷ r) x h
+until_started c {tokens} (one_more {x = x} {mid = m} h k) = c tokens m x h
+
+pub until_one : {A : Type 0} {R : List Lexeme → A → List Lexeme → Type 0} {close : Lexeme} → One R → ((tokens r : List Lexeme) (x : A) → R (close ∷ tokens) x r → ⊥)
+    → {tokens r q : List Lexeme} {xs ys : List A} → AreUntil R close tokens xs r → AreUntil R close tokens ys q → (xs ≡ ys) × (r ≡ q)
+until_one {A} o c (last_one h) (last_one k) = let i = o.one h k in let e = i.1 in (ap (λ (x : A). x ∷ []) i.0, cc)
+until_one {A} {R} {close} o c {q = q} (last_one h) (one_more {xs = ys} k l) = absurd (until_started c (subst (λ (ts : List Lexeme). AreUntil R close ts ys q) (sym (o.one h k).1) l))
+until_one {A} {R} {close} o c {r = r} (one_more {xs = xs} k l) (last_one h) = absurd (until_started c (subst (λ (ts : List Lexeme). AreUntil R close ts xs r) (o.one k h).1 l))
+until_one {A} {R} {close} o c {q = q} (one_more h k) (one_more {xs = ys} i l) =
+    let a = o.one h i in
+    let b = until_one o c k (subst (λ (ts : List Lexeme). AreUntil R close ts ys q) (sym a.1) l) in
+    let e = a.0 in let f = b.0 in (cc, b.1)
+
 -- no variable begins with a sign that marks none, and no binder with a dot
 pub binders_one : {tokens r q : List Lexeme} {vs ws : List Written} → AreBinders tokens vs r → AreBinders tokens ws q → (vs ≡ ws) × (r ≡ q)
-binders_one (one_binder h) (one_binder k) = let o = variable_one h k in let e = o.1 in (ap (λ (v : Written). v ∷ []) o.0, cc)
-binders_one (one_binder {rest = r} h) (more_binders {vs = ws} {rest = q} k l) = absurd (no_dot (subst (λ (ts : List Lexeme). AreBinders ts ws q) (sym (variable_one h k).1) l))
-  where
-    no_dot : {ts q : List Lexeme} {ws : List Written} → AreBinders (sign s.Dot ∷ ts) ws q → ⊥
-    no_dot (one_binder h) = variable_sign refl h
-    no_dot (more_binders h k) = variable_sign refl h
-binders_one (more_binders {vs = ws} {rest = q} k l) (one_binder {rest = r} h) = absurd (no_dot (subst (λ (ts : List Lexeme). AreBinders ts ws q) (sym (variable_one h k).1) l))
-  where
-    no_dot : {ts q : List Lexeme} {ws : List Written} → AreBinders (sign s.Dot ∷ ts) ws q → ⊥
-    no_dot (one_binder h) = variable_sign refl h
-    no_dot (more_binders h k) = variable_sign refl h
-binders_one {q = q} (more_binders h k) (more_binders {vs = ws} i l) =
-    let a = variable_one h i in
-    let b = binders_one k (subst (λ (ts : List Lexeme). AreBinders ts ws q) (sym a.1) l) in
-    let e = a.0 in let f = b.0 in (cc, b.1)
+binders_one h k = until_one variables' (λ ts r x i. variable_sign refl i) h k

@@ -1,15 +1,16 @@
 -- Each part that is read is spelled so by the grammar.
-use Rattle.std.proofs.Common.{ℕ, List}
+use Rattle.std.proofs.Common.{ℕ, List, [], ◌∷◌}
 use Rattle.sp_spec_text.specs.Signs.{Sign}
+use Rattle.sp_spec_text.specs.Signs as s
 use Rattle.sp_spec_text.specs.Token.{Lexeme}
 use Rattle.sp_spec.specs.Term.{Term, Terms}
 use Rattle.sp_spec.specs.Rule.{Fact}
 use Rattle.sp_spec.specs.Formula.{Written}
 use Rattle.sp_spec_text.specs.Lists.{AreParts, last, next, AreItems, empty, some}
 use Rattle.sp_read_parts.specs.Parts as f
-use Rattle.sp_read_parts.specs.Parts.{IsVariable, IsTerm, IsTuple, AreTermsTo, AreTerms, IsFact, AreBinders}
+use Rattle.sp_read_parts.specs.Parts.{IsVariable, IsTerm, IsTuple, AreTermsTo, AreTerms, AreAnnotations, IsAnnotated, IsFact, AreBinders}
 use Rattle.sp_spec_text.specs.Formulas as g
-use Rattle.sp_spec_text.specs.Formulas.{SpellsVariable, SpellsTerm, SpellsTuple, SpellsArguments, SpellsTerms, SpellsFact, SpellsBinders}
+use Rattle.sp_spec_text.specs.Formulas.{SpellsVariable, SpellsTerm, SpellsTuple, SpellsArguments, SpellsTerms, SpellsAnnotation, SpellsAnnotations, SpellsFact, SpellsBinders}
 
 pub variable_spelled : {tokens rest : List Lexeme} {v : Written} → IsVariable tokens v rest → SpellsVariable tokens v rest
 variable_spelled (f.marked e (f.name h)) = g.marked e h
@@ -47,10 +48,18 @@ pub items_spelled : {A : Type 0} {R S : List Lexeme → A → List Lexeme → Ty
 items_spelled m empty = empty
 items_spelled m (some h) = some (parts_spelled m h)
 
+annotation_parts : {u : Unit {0}} {tokens rest : List Lexeme} → AreAnnotations tokens u rest → (each : List Lexeme) × AreParts SpellsAnnotation s.Comma s.CloseList tokens each rest
+annotation_parts (f.last_annotation {x = x} e) = (x ∷ [], last (g.annotation e))
+annotation_parts (f.next_annotation {x = x} e h) = let i = annotation_parts h in (x ∷ i.0, next (g.annotation e) i.1)
+
+annotated_spelled : {u : Unit {0}} {tokens rest : List Lexeme} → IsAnnotated tokens u rest → SpellsAnnotations tokens rest
+annotated_spelled (f.unannotated d) = g.no_annotation
+annotated_spelled (f.annotated h) = g.annotations (annotation_parts h).1
+
 pub fact_spelled : {n : ℕ} {tokens rest : List Lexeme} {x : Fact Written} → IsFact n tokens x rest → SpellsFact n tokens x rest
-fact_spelled (f.linear (f.named e (f.arguments lt h))) = g.linear e lt (list_spelled h)
-fact_spelled (f.persistent (f.named e (f.arguments lt h))) = g.persistent e lt (list_spelled h)
+fact_spelled (f.linear (f.named e (f.arguments lt h) a)) = g.linear e lt (list_spelled h) (annotated_spelled a)
+fact_spelled (f.persistent (f.named e (f.arguments lt h) a)) = g.persistent e lt (list_spelled h) (annotated_spelled a)
 
 pub binders_spelled : {tokens rest : List Lexeme} {vs : List Written} → AreBinders tokens vs rest → SpellsBinders tokens vs rest
-binders_spelled (f.one_binder h) = g.one_binder (variable_spelled h)
-binders_spelled (f.more_binders h k) = g.more_binders (variable_spelled h) (binders_spelled k)
+binders_spelled (f.last_one h) = g.one_binder (variable_spelled h)
+binders_spelled (f.one_more h k) = g.more_binders (variable_spelled h) (binders_spelled k)

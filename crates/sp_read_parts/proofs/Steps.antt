@@ -1,16 +1,16 @@
 -- What a part begins with says which way it is read; each way to get stuck leaves no reading.
 use Rattle.std.proofs.Common.{◌≡◌, ℕ, ◌+◌, ◌<◌, Bool, true, false, List, [], ◌∷◌, Some, None, refl, sym, ap, subst, ◌∙◌}
-use Rattle.sp_spec_text.specs.Signs.{Sign}
+use Rattle.sp_spec_text.specs.Signs.{Sign, Wide}
 use Rattle.sp_spec_text.specs.Signs as s
-use Rattle.sp_spec_text.specs.Token.{Lexeme, word, constant, sign, solve}
+use Rattle.sp_spec_text.specs.Token.{Lexeme, word, constant, sign, solve, wide, block}
 use Rattle.sp_spec.specs.Term.{Terms}
 use Rattle.sp_spec.specs.Rule.{Fact}
 use Rattle.sp_spec.specs.Formula.{Mark, Written}
 use Rattle.sp_spec_text.specs.Names.{IsName, names_fact, mark_of, mark_at}
 use Rattle.sp_spec_text.specs.Lists.{IsNotFirst, IsNoWord, NoReading}
 use Rattle.sp_spec_text.specs.Shapes.{written, fact}
-use Rattle.sp_read_parts.specs.Parts.{IsNameFirst, name, IsSort, sort, IsVariable, marked, sorted, unmarked, AreArguments, arguments, AreTermsTo, IsNamedFact, named, IsFact, linear, persistent}
-use Rattle.sp_read_parts.proofs.One.{variable_constant, variable_solve, variable_sign}
+use Rattle.sp_read_parts.specs.Parts.{IsNameFirst, name, IsSort, sort, IsVariable, marked, sorted, unmarked, AreArguments, arguments, AreTermsTo, IsAnnotated, IsNamedFact, named, IsFact, linear, persistent}
+use Rattle.sp_read_parts.proofs.One.{variable_constant, variable_solve, variable_wide, variable_block, variable_sign, arguments_one}
 
 -- ---- names and variables
 
@@ -75,6 +75,12 @@ variable_no_constant e = record { none = λ v r h. variable_constant (subst (λ 
 pub variable_no_solve : {s : List ℕ} {tokens after : List Lexeme} → tokens ≡ solve s ∷ after → NoReading IsVariable tokens
 variable_no_solve e = record { none = λ v r h. variable_solve (subst (λ (ts : List Lexeme). IsVariable ts v r) e h) }
 
+pub variable_no_wide : {x : Wide} {tokens after : List Lexeme} → tokens ≡ wide x ∷ after → NoReading IsVariable tokens
+variable_no_wide e = record { none = λ v r h. variable_wide (subst (λ (ts : List Lexeme). IsVariable ts v r) e h) }
+
+pub variable_no_block : {tokens after : List Lexeme} → tokens ≡ block ∷ after → NoReading IsVariable tokens
+variable_no_block e = record { none = λ v r h. variable_block (subst (λ (ts : List Lexeme). IsVariable ts v r) e h) }
+
 pub variable_reserved : {w : List ℕ} {tokens after : List Lexeme} → tokens ≡ word w ∷ after → NoReading IsNameFirst tokens → NoReading IsVariable tokens
 variable_reserved e n = record { none = λ v r h. at h e n }
   where
@@ -94,7 +100,7 @@ pub ruleset names = (name_at, name_no_word, name_reserved)
 
 pub ruleset sorts = (sort_at, sort_no_word, sort_unknown)
 
-pub ruleset variables = (marked_at, sorted_at, unmarked, variable_nil, variable_no_mark, variable_no_name, variable_no_constant, variable_no_solve, variable_reserved, variable_no_sort)
+pub ruleset variables = (marked_at, sorted_at, unmarked, variable_nil, variable_no_mark, variable_no_name, variable_no_constant, variable_no_solve, variable_no_wide, variable_no_block, variable_reserved, variable_no_sort)
 
 -- ---- facts
 
@@ -113,26 +119,41 @@ no_argument_list {n} e k = record { none = λ x r h. at h e k }
     at : {ts r inside : List Lexeme} {xs : Terms Written} → AreArguments n ts xs r → ts ≡ sign s.Open ∷ inside → NoReading (AreTermsTo (n + 1)) inside → ⊥
     at {inside = i} (arguments {xs = xs} {tokens = ts} {rest = r} lt h) e k = let f : ts ≡ i = cc in k.none xs r (subst (λ (l : List Lexeme). AreTermsTo (n + 1) l xs r) f h)
 
-pub named_at : {n : ℕ} {p : Bool} {w : List ℕ} {f : Fact Written} {args : Terms Written} {tokens after rest : List Lexeme} → tokens ≡ word w ∷ after → names_fact w ≡ true → AreArguments n after args rest → f ≡ fact w p args → IsNamedFact n p tokens f rest
-named_at e f h d = rw (e, d) (named f h)
+pub named_at : {n : ℕ} {p : Bool} {w : List ℕ} {f : Fact Written} {args : Terms Written} {tokens after mid rest : List Lexeme} → tokens ≡ word w ∷ after → names_fact w ≡ true → AreArguments n after args mid → IsAnnotated mid tt rest → f ≡ fact w p args
+    → IsNamedFact n p tokens f rest
+named_at e f h a d = rw (e, d) (named f h a)
 
 pub named_no_word : {n : ℕ} {p : Bool} {tokens : List Lexeme} → IsNoWord tokens → NoReading (IsNamedFact n p) tokens
 named_no_word {n} {p} d = record { none = λ x r h. at h d }
   where
     at : {ts r : List Lexeme} {f : Fact Written} → IsNamedFact n p ts f r → IsNoWord ts → ⊥
-    at (named {w = w} {tokens = ts} e h) d = d w ts refl
+    at (named {w = w} {tokens = ts} e h a) d = d w ts refl
 
-under_name : {n : ℕ} {p : Bool} {w : List ℕ} {tokens after rest : List Lexeme} {f : Fact Written} → tokens ≡ word w ∷ after → IsNamedFact n p tokens f rest → (names_fact w ≡ true) × (args : Terms Written) × AreArguments n after args rest
+record UnderName (n : ℕ) (w : List ℕ) (after rest : List Lexeme) : Type 0 where
+  pub called : names_fact w ≡ true
+  pub args : Terms Written
+  pub mid : List Lexeme
+  pub behind_name : AreArguments n after args mid
+  pub annotations : IsAnnotated mid tt rest
+
+under_name : {n : ℕ} {p : Bool} {w : List ℕ} {tokens after rest : List Lexeme} {f : Fact Written} → tokens ≡ word w ∷ after → IsNamedFact n p tokens f rest → UnderName n w after rest
 under_name {n} {p} {rest = rest} {f = f} e h = at (subst (λ (ts : List Lexeme). IsNamedFact n p ts f rest) e h)
   where
-    at : {w : List ℕ} {after rest : List Lexeme} {f : Fact Written} → IsNamedFact n p (word w ∷ after) f rest → (names_fact w ≡ true) × (args : Terms Written) × AreArguments n after args rest
-    at (named {args = xs} e h) = (e, xs, h)
+    at : {w : List ℕ} {after rest : List Lexeme} {f : Fact Written} → IsNamedFact n p (word w ∷ after) f rest → UnderName n w after rest
+    at (named {args = xs} {mid = m} e h a) = record { called = e; args = xs; mid = m; behind_name = h; annotations = a }
 
 pub named_no_name : {n : ℕ} {p : Bool} {w : List ℕ} {tokens after : List Lexeme} → tokens ≡ word w ∷ after → names_fact w ≡ false → NoReading (IsNamedFact n p) tokens
-named_no_name e f = record { none = λ x r h. let g = sym f ∙ (under_name e h).0 in cc }
+named_no_name e f = record { none = λ x r h. let g = sym f ∙ (under_name e h).called in cc }
 
 pub named_no_arguments : {n : ℕ} {p : Bool} {w : List ℕ} {tokens after : List Lexeme} → tokens ≡ word w ∷ after → NoReading (AreArguments n) after → NoReading (IsNamedFact n p) tokens
-named_no_arguments e k = record { none = λ x r h. let i = under_name e h in k.none i.1 r i.2 }
+named_no_arguments e k = record { none = λ x r h. let i = under_name e h in k.none i.args i.mid i.behind_name }
+
+pub named_not_annotated : {n : ℕ} {p : Bool} {w : List ℕ} {args : Terms Written} {tokens after mid : List Lexeme} → tokens ≡ word w ∷ after → AreArguments n after args mid → NoReading IsAnnotated mid → NoReading (IsNamedFact n p) tokens
+named_not_annotated e h k = record {
+  none = λ x r j.
+      let i = under_name e j in
+      k.none tt r (subst (λ (ts : List Lexeme). IsAnnotated ts tt r) (sym (arguments_one h i.behind_name).1) i.annotations);
+}
 
 pub persistent_at : {n : ℕ} {f : Fact Written} {tokens after rest : List Lexeme} → tokens ≡ sign s.Bang ∷ after → IsNamedFact n true after f rest → IsFact n tokens f rest
 persistent_at e h = rw e (persistent h)
@@ -153,6 +174,6 @@ no_linear {n} d k = record { none = λ x r h. at h d k }
 
 pub ruleset argument_lists = (arguments_at, no_arguments, no_argument_list)
 
-pub ruleset named_facts = (named_at, named_no_word, named_no_name, named_no_arguments)
+pub ruleset named_facts = (named_at, named_no_word, named_no_name, named_no_arguments, named_not_annotated)
 
 pub ruleset facts_either_way = (linear, persistent_at, no_persistent, no_linear)

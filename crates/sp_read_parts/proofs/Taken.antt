@@ -7,11 +7,12 @@ use Rattle.sp_spec.specs.Term.{Term, Terms}
 use Rattle.sp_spec.specs.Rule.{Fact}
 use Rattle.sp_spec.specs.Formula.{Written, Formula}
 use Rattle.sp_spec_text.specs.Names.{is_reserved, mark_at}
-use Rattle.sp_spec_text.specs.Lists.{IsNotFirst, NoReading}
+use Rattle.sp_spec_text.specs.Lists.{IsNotFirst, NoReading, AreParts, last, next, AreItems, empty, some}
 use Rattle.sp_read_parts.specs.Parts as f
-use Rattle.sp_read_parts.specs.Parts.{IsVariable, IsTerm, IsTuple, AreTermsTo, AreTerms, IsFact, AreBinders}
+use Rattle.sp_read_parts.specs.Parts.{IsVariable, IsTerm, IsTuple, AreTermsTo, AreTerms, AreAnnotations, IsAnnotated, IsFact, AreBinders}
 use Rattle.sp_spec_text.specs.Formulas as g
-use Rattle.sp_spec_text.specs.Formulas.{SpellsVariable, SpellsTerm, SpellsTuple, SpellsArguments, SpellsTerms, SpellsFact, SpellsBinders, NoSign, SpellsUnit, SpellsNegation, SpellsConjunction, SpellsAnds, SpellsDisjunction, SpellsOrs, SpellsImplication, SpellsFormula, SpellsReach}
+use Rattle.sp_spec_text.specs.Formulas.{SpellsVariable, SpellsTerm, SpellsTuple, SpellsArguments, SpellsTerms, SpellsAnnotation, SpellsAnnotations, SpellsFact, SpellsBinders, NoSign, SpellsUnit, SpellsNegation, SpellsConjunction, SpellsAnds, SpellsDisjunction, SpellsOrs, SpellsImplication, SpellsFormula, SpellsReach}
+use Rattle.sp_spec_text.proofs.Closing.{close_no_sign}
 use Rattle.sp_read_parts.specs.Reading.{two_sides, first, second, true_word, false_word, all_word, ex_word, conjoint, disjoint, a_unit, a_negation, a_chain, an_implication, a_whole, Reads, grouped, bound, shallow, from_group, from_binding, positive, negative, chained, lone, implying, single, double, GoesOn, ended, went}
 use Rattle.sp_read_parts.specs.Closed.{Closes, IsClosed}
 use Rattle.sp_read_parts.proofs.Atomic.{first_byte, no_constant, or_else_none}
@@ -22,7 +23,7 @@ use Rattle.sp_read_parts.proofs.Apart.{EndsTerm, GoesTermOn, sign_ends, variable
 
 -- ---- variables, terms and facts
 
-variable_taken : {tokens rest : List Lexeme} {v : Written} → SpellsVariable tokens v rest → IsNotFirst (sign s.Colon) rest → IsVariable tokens v rest
+pub variable_taken : {tokens rest : List Lexeme} {v : Written} → SpellsVariable tokens v rest → IsNotFirst (sign s.Colon) rest → IsVariable tokens v rest
 variable_taken (g.marked e h) d = f.marked e (f.name h)
 variable_taken (g.unmarked h) d = f.unmarked (f.name h) d
 variable_taken (g.sorted h e) d = f.sorted (f.name h) (f.sort e)
@@ -68,9 +69,27 @@ mutual
   terms_taken (g.last_term {rest = r} h) = f.last_term (term_taken h (sign_ends s.Close r (λ i. i)))
   terms_taken (g.next_term {mid = m} h k) = f.next_term (term_taken h (sign_ends s.Comma m (λ i. i))) (terms_taken k)
 
-pub fact_taken : {n : ℕ} {tokens rest : List Lexeme} {x : Fact Written} → SpellsFact n tokens x rest → IsFact n tokens x rest
-fact_taken (g.linear e lt h) = f.linear (f.named e (f.arguments lt (list_taken h)))
-fact_taken (g.persistent e lt h) = f.persistent (f.named e (f.arguments lt (list_taken h)))
+annotations_taken : {each tokens rest : List Lexeme} → AreParts SpellsAnnotation s.Comma s.CloseList tokens each rest → AreAnnotations tokens tt rest
+annotations_taken (last (g.annotation e)) = f.last_annotation e
+annotations_taken (next (g.annotation e) k) = f.next_annotation e (annotations_taken k)
+
+annotated_taken : {tokens rest : List Lexeme} → SpellsAnnotations tokens rest → IsNotFirst (sign s.OpenList) rest → IsAnnotated tokens tt rest
+annotated_taken g.no_annotation d = f.unannotated d
+annotated_taken (g.annotations h) d = f.annotated (annotations_taken h)
+
+-- a bracket behind a fact begins its annotations
+pub fact_taken : {n : ℕ} {tokens rest : List Lexeme} {x : Fact Written} → SpellsFact n tokens x rest → IsNotFirst (sign s.OpenList) rest → IsFact n tokens x rest
+fact_taken (g.linear e lt h a) d = f.linear (f.named e (f.arguments lt (list_taken h)) (annotated_taken a d))
+fact_taken (g.persistent e lt h a) d = f.persistent (f.named e (f.arguments lt (list_taken h)) (annotated_taken a d))
+
+fact_parts_taken : {n : ℕ} {close : Sign} → (close ≡ s.OpenList → ⊥) → {tokens rest : List Lexeme} {fs : List (Fact Written)} → AreParts (SpellsFact n) s.Comma close tokens fs rest → AreParts (IsFact n) s.Comma close tokens fs rest
+fact_parts_taken {close = close} d (last h) = last (fact_taken h (λ r e. let i : close ≡ s.OpenList = cc in d i))
+fact_parts_taken d (next h k) = next (fact_taken h (λ r e. cc)) (fact_parts_taken d k)
+
+-- facts with commas, or none, before a sign that isn't `[`
+pub facts_taken : {n : ℕ} {close : Sign} → (close ≡ s.OpenList → ⊥) → {tokens rest : List Lexeme} {fs : List (Fact Written)} → AreItems (SpellsFact n) close tokens fs rest → AreItems (IsFact n) close tokens fs rest
+facts_taken d empty = empty
+facts_taken d (some h) = some (fact_parts_taken d h)
 
 variable_not_colon : {tokens rest : List Lexeme} {v : Written} → SpellsVariable tokens v rest → IsNotFirst (sign s.Colon) tokens
 variable_not_colon (g.marked {x = x} {m = m} e h) = λ r d. let i : x ≡ s.Colon = cc in let j : mark_at s.Colon ≡ Some m = subst (λ (y : Sign). mark_at y ≡ Some m) i e in cc
@@ -82,8 +101,8 @@ binders_not_colon (g.one_binder h) = variable_not_colon h
 binders_not_colon (g.more_binders h k) = variable_not_colon h
 
 binders_taken : {tokens rest : List Lexeme} {vs : List Written} → SpellsBinders tokens vs rest → AreBinders tokens vs rest
-binders_taken (g.one_binder h) = f.one_binder (variable_taken h (λ r e. cc))
-binders_taken (g.more_binders h k) = f.more_binders (variable_taken h (binders_not_colon k)) (binders_taken k)
+binders_taken (g.one_binder h) = f.last_one (variable_taken h (λ r e. cc))
+binders_taken (g.more_binders h k) = f.one_more (variable_taken h (binders_not_colon k)) (binders_taken k)
 
 -- ---- no unit begins with `not`
 
@@ -107,8 +126,8 @@ not_no_term (g.application {w = w} i lt h) e = let d : w ≡ codes "not" = cc in
 not_no_term (g.braced {w = w} i lt h k) e = let d : w ≡ codes "not" = cc in not_no_name w d i
 
 not_no_fact : {n : ℕ} {tokens rest after : List Lexeme} {x : Fact Written} → SpellsFact n tokens x rest → tokens ≡ word (codes "not") ∷ after → ⊥
-not_no_fact (g.linear {w = w} d lt h) e = let i : w ≡ codes "not" = cc in reserved_no_fact w (subst (λ (y : List ℕ). is_reserved y ≡ true) (sym i) not_is_reserved) d
-not_no_fact (g.persistent d lt h) e = cc
+not_no_fact (g.linear {w = w} d lt h a) e = let i : w ≡ codes "not" = cc in reserved_no_fact w (subst (λ (y : List ℕ). is_reserved y ≡ true) (sym i) not_is_reserved) d
+not_no_fact (g.persistent d lt h a) e = cc
 
 unit_not_negated : {n : ℕ} {tokens rest : List Lexeme} {x : Formula} → SpellsUnit n tokens x rest → IsNotFirst (word (codes "not")) tokens
 unit_not_negated (g.bracketed lt h) = λ r e. cc
@@ -164,9 +183,6 @@ ors_not_and (g.or_then h k) a = λ r e. cc
 iff_no_sign : (rest : List Lexeme) → NoSign (sign s.Iff ∷ rest)
 iff_no_sign rest = record { no_and = λ r e. cc; no_or = λ r e. cc; no_arrow = λ r e. cc }
 
-pub close_no_sign : (rest : List Lexeme) → NoSign (sign s.Close ∷ rest)
-close_no_sign rest = record { no_and = λ r e. cc; no_or = λ r e. cc; no_arrow = λ r e. cc }
-
 quote_no_sign : (rest : List Lexeme) → NoSign (sign s.Quote ∷ rest)
 quote_no_sign rest = record { no_and = λ r e. cc; no_or = λ r e. cc; no_arrow = λ r e. cc }
 
@@ -181,7 +197,7 @@ mutual
   unit_taken (g.there_is lt b h) t = from_binding ex_no_atom (bound lt ex_word (binders_taken b) (reach_taken h t))
   unit_taken g.true_unit t = shallow (second (no_equality_word t.no_equals t.ends) (second (no_order_word t.no_less t.ends.no_colon) (second (no_action_word t.ends.no_bracket) true_word)))
   unit_taken g.false_unit t = shallow (second (no_equality_word t.no_equals t.ends) (second (no_order_word t.no_less t.ends.no_colon) (second (no_action_word t.ends.no_bracket) false_word)))
-  unit_taken (g.action h k) t = let i = fact_taken h in shallow (second (fact_no_equality i) (second (fact_no_order i) (first (two_sides i (variable_taken k t.ends.no_colon)))))
+  unit_taken (g.action h k) t = let i = fact_taken h (λ r e. cc) in shallow (second (fact_no_equality i) (second (fact_no_order i) (first (two_sides i (variable_taken k t.ends.no_colon)))))
   unit_taken (g.equation {mid = m} h k) t = shallow (first (two_sides (term_taken h (sign_ends s.Equals m (λ i. i))) (term_taken k t.ends)))
   unit_taken (g.order h k) t = let i = variable_taken h (λ r e. cc) in shallow (second (less_no_equality i) (first (two_sides i (variable_taken k t.ends.no_colon))))
 

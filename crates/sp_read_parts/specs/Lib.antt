@@ -1,5 +1,6 @@
 pub mod Parts
 pub mod Views
 pub mod Reading
+pub mod Lets
 pub mod Closed
 pub mod Formulas

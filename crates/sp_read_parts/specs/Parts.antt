@@ -9,7 +9,7 @@ use Rattle.sp_spec.specs.Term as t
 use Rattle.sp_spec.specs.Signature.{pair}
 use Rattle.sp_spec.specs.Rule.{Fact}
 use Rattle.sp_spec.specs.Formula.{Mark, bare, Written}
-use Rattle.sp_spec_text.specs.Names.{IsName, names_fact, mark_of, mark_at}
+use Rattle.sp_spec_text.specs.Names.{IsName, names_fact, mark_of, mark_at, is_annotation}
 use Rattle.sp_spec_text.specs.Lists.{IsNotFirst}
 use Rattle.sp_spec_text.specs.Shapes.{written, fact}
 
@@ -64,14 +64,28 @@ mutual
     last_term : {n : ℕ} {x : Term Written} {tokens rest : List Lexeme} → IsTerm n tokens x (sign s.Close ∷ rest) → AreTerms n tokens (more x none) rest
     next_term : {n : ℕ} {x : Term Written} {xs : Terms Written} {tokens mid rest : List Lexeme} → IsTerm n tokens x (sign s.Comma ∷ mid) → AreTerms n mid xs rest → AreTerms n tokens (more x xs) rest
 
+-- annotations with commas, up to a closing bracket; which they are says nothing of a fact
+pub data AreAnnotations : List Lexeme → Unit {0} → List Lexeme → Type 0 where
+  last_annotation : {u : Unit {0}} {x : Lexeme} {rest : List Lexeme} → is_annotation x ≡ true → AreAnnotations (x ∷ sign s.CloseList ∷ rest) u rest
+  next_annotation : {u : Unit {0}} {x : Lexeme} {tokens rest : List Lexeme} → is_annotation x ≡ true → AreAnnotations tokens u rest → AreAnnotations (x ∷ sign s.Comma ∷ tokens) u rest
+
+-- the annotations behind a fact, where `[` always begins them, or none
+pub data IsAnnotated : List Lexeme → Unit {0} → List Lexeme → Type 0 where
+  unannotated : {u : Unit {0}} {rest : List Lexeme} → IsNotFirst (sign s.OpenList) rest → IsAnnotated rest u rest
+  annotated : {u : Unit {0}} {tokens rest : List Lexeme} → AreAnnotations tokens u rest → IsAnnotated (sign s.OpenList ∷ tokens) u rest
+
 pub data IsNamedFact (n : ℕ) (persistent : Bool) : List Lexeme → Fact Written → List Lexeme → Type 0 where
-  named : {w : List ℕ} {args : Terms Written} {tokens rest : List Lexeme} → names_fact w ≡ true → AreArguments n tokens args rest → IsNamedFact n persistent (word w ∷ tokens) (fact w persistent args) rest
+  named : {w : List ℕ} {args : Terms Written} {tokens mid rest : List Lexeme} → names_fact w ≡ true → AreArguments n tokens args mid → IsAnnotated mid tt rest → IsNamedFact n persistent (word w ∷ tokens) (fact w persistent args) rest
 
 pub data IsFact (n : ℕ) : List Lexeme → Fact Written → List Lexeme → Type 0 where
   linear : {f : Fact Written} {tokens rest : List Lexeme} → IsNamedFact n false tokens f rest → IsFact n tokens f rest
   persistent : {f : Fact Written} {tokens rest : List Lexeme} → IsNamedFact n true tokens f rest → IsFact n (sign s.Bang ∷ tokens) f rest
 
+-- one or more, one behind the other, up to this token
+pub data AreUntil {A : Type 0} (R : List Lexeme → A → List Lexeme → Type 0) (close : Lexeme) : List Lexeme → List A → List Lexeme → Type 0 where
+  last_one : {x : A} {tokens rest : List Lexeme} → R tokens x (close ∷ rest) → AreUntil R close tokens (x ∷ []) rest
+  one_more : {x : A} {xs : List A} {tokens mid rest : List Lexeme} → R tokens x mid → AreUntil R close mid xs rest → AreUntil R close tokens (x ∷ xs) rest
+
 -- var+ `.`
-pub data AreBinders : List Lexeme → List Written → List Lexeme → Type 0 where
-  one_binder : {v : Written} {tokens rest : List Lexeme} → IsVariable tokens v (sign s.Dot ∷ rest) → AreBinders tokens (v ∷ []) rest
-  more_binders : {v : Written} {vs : List Written} {tokens mid rest : List Lexeme} → IsVariable tokens v mid → AreBinders mid vs rest → AreBinders tokens (v ∷ vs) rest
+abbrev pub AreBinders : List Lexeme → List Written → List Lexeme → Type 0
+AreBinders = AreUntil IsVariable (sign s.Dot)

@@ -12,7 +12,7 @@ use Rattle.sp_read_parts.specs.Parts.{IsVariable, IsTerm, IsFact, AreBinders}
 use Rattle.sp_spec_text.specs.Formulas.{quantified_some, equivalent}
 
 -- two sides, and this sign between them
-pub data Infix {A B : Type 0} (P : List Lexeme → A → List Lexeme → Type 0) (x : Sign) (Q : List Lexeme → B → List Lexeme → Type 0) (f : A → B → Formula) : List Lexeme → Formula → List Lexeme → Type 0 where
+pub data Infix {A B C : Type 0} (P : List Lexeme → A → List Lexeme → Type 0) (x : Sign) (Q : List Lexeme → B → List Lexeme → Type 0) (f : A → B → C) : List Lexeme → C → List Lexeme → Type 0 where
   two_sides : {a : A} {b : B} {tokens mid rest : List Lexeme} → P tokens a (sign x ∷ mid) → Q mid b rest → Infix P x Q f tokens (f a b) rest
 
 -- the first of two ways, or else the second

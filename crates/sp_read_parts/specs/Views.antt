@@ -11,6 +11,7 @@ use Rattle.sp_spec.specs.Formula as f
 use Rattle.sp_spec.specs.Formula.{Written}
 use Rattle.sp_spec.specs.Written as spec
 use Rattle.sp_spec_text.specs.Shapes.{written}
+use Rattle.sp_spec_text.specs.Bindings.{Binding}
 use Rattle.sp_term.specs.View.{view_by, view_all_by}
 use Rattle.sp_term.specs.declared.term.Term.{Term}
 use Rattle.sp_fact.specs.View.{fact_by, action_by, facts_by}
@@ -20,6 +21,7 @@ use Rattle.sp_read_parts.specs.declared.written.Mark.{Mark}
 use Rattle.sp_read_parts.specs.declared.written.Mark.TheVariants as m
 use Rattle.sp_read_parts.specs.declared.written.WrittenVariable.{WrittenVariable}
 use Rattle.sp_read_parts.specs.declared.written.WrittenRule.{WrittenRule}
+use Rattle.sp_read_parts.specs.declared.written.WrittenBinding.{WrittenBinding}
 
 -- the tokens as they read
 abbrev pub seen : List lexer.Token → List Lexeme
@@ -53,6 +55,12 @@ facts_of fs = map fact_of fs
 
 abbrev pub action_of : Action WrittenVariable → facts.Action Written
 action_of a = action_by variable a
+
+abbrev pub binding : WrittenBinding → Binding
+binding b = record { variable = variable b.variable; value = term b.value }
+
+abbrev pub bindings : List WrittenBinding → List Binding
+bindings bs = map binding bs
 
 abbrev pub rule : WrittenRule → spec.WrittenRule
 rule r = record { name = r.name.now; facts = facts_by variable r.facts }

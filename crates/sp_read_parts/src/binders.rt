@@ -22,7 +22,7 @@ fn push_variable<'a>(
 }
 
 /// Variables up to a dot, and the place behind it.
-#[tactic(auto, using(crate::proofs::Bindings::bindings))]
+#[tactic(auto, using(crate::proofs::Until::binder_lists))]
 pub fn binders<'a>(
     alloc: Global,
     tokens: &[Token<'a>],

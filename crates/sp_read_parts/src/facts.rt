@@ -7,6 +7,7 @@ ghost use Rattle.sp_read_parts.specs.Parts.{AreArguments, IsNamedFact, IsFact};
 ghost use Rattle.sp_read_parts.specs.Views as view;
 ghost use Rattle.sp_read_parts.specs.Views.{seen_from};
 
+use crate::annotations::annotations;
 use crate::cursor::{after, word};
 use crate::terms::{LIMIT, term_list};
 use crate::words::names_fact;
@@ -54,7 +55,7 @@ fn fact_over<'a>(
     })
 }
 
-/// A fact from its name on, and the place behind it.
+/// A fact from its name on, and the place behind it and its annotations.
 #[tactic(auto, using(crate::proofs::Steps::named_facts))]
 pub fn named_fact<'a>(
     alloc: Global,
@@ -73,7 +74,10 @@ pub fn named_fact<'a>(
     if !names_fact(symbol) {
         return Ok(None);
     }
-    let Some((args, rest)) = arguments(alloc, nesting, tokens, behind)? else {
+    let Some((args, ahead)) = arguments(alloc, nesting, tokens, behind)? else {
+        return Ok(None);
+    };
+    let Some(rest) = annotations(tokens, ahead) else {
         return Ok(None);
     };
     let made = fact_over(alloc, symbol, persistent, args)?;

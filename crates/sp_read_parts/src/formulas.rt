@@ -334,7 +334,7 @@ fn implication<'a>(
 /// A formula as far as it reaches, and the place behind it.
 #[cycle(formulas)]
 #[tactic(auto, using(crate::proofs::Stuck::wholes))]
-fn whole<'a>(
+pub(crate) fn whole<'a>(
     alloc: Global,
     nesting: u32,
     tokens: &[Token<'a>],

@@ -73,6 +73,8 @@ pub fn variable<'a>(tokens: &[Token<'a>], at: usize) -> Option<(WrittenVariable<
         }
         Lexeme::Constant(_) => None,
         Lexeme::Solve(_) => None,
+        Lexeme::Wide(_) => None,
+        Lexeme::Block => None,
     }
 }
 

@@ -21,14 +21,6 @@ pub fn is_reserved(word: &str) -> bool
         || word == "solve"
 }
 
-/// Whether it is the action of learning, of which no theory speaks so far.
-#[tactic(auto, unfolding(sp_spec_text::specs::Names::is_learning))]
-pub fn is_learning(word: &str) -> bool
-    ensures { result ≡ names.is_learning word.now }
-{
-    word == "KU"
-}
-
 /// Whether it begins with a capital.
 pub fn is_capital(word: &str) -> bool
     ensures { result ≡ names.is_capital word.now }
@@ -43,7 +35,7 @@ pub fn is_capital(word: &str) -> bool
 pub fn names_fact(word: &str) -> bool
     ensures { result ≡ names.names_fact word.now }
 {
-    is_capital(word) && !is_reserved(word) && !is_learning(word)
+    is_capital(word) && !is_reserved(word)
 }
 
 /// The mark that this word is, behind the colon of a variable.

@@ -41,6 +41,13 @@ pub struct WrittenRule<'a> {
     pub facts: Facts<WrittenVariable<'a>>,
 }
 
+/// What `let` binds: a variable, and the term that stands for it.
+#[derive(Drop)]
+pub struct WrittenBinding<'a> {
+    pub variable: WrittenVariable<'a>,
+    pub value: WrittenTerm<'a>,
+}
+
 /// A formula as it is written.
 #[derive(Drop)]
 pub enum ReadFormula<'a> {

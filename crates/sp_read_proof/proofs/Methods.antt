@@ -1,7 +1,7 @@
 -- What a line begins with says which way it is read; each way to get stuck leaves no reading.
 use Rattle.std.proofs.Common.{◌≡◌, ℕ, true, false, true≢false, List, [], ◌∷◌, codes, refl, sym, ap, subst, ◌∙◌}
-use Rattle.sp_spec_text.specs.Signs.{Sign}
-use Rattle.sp_spec_text.specs.Token.{Lexeme, word, constant, sign, solve}
+use Rattle.sp_spec_text.specs.Signs.{Sign, Wide}
+use Rattle.sp_spec_text.specs.Token.{Lexeme, word, constant, sign, solve, wide, block}
 use Rattle.sp_spec_text.specs.Lists.{IsNotFirst, NoReading}
 use Rattle.sp_read_parts.specs.Parts.{IsNameFirst}
 use Rattle.sp_spec_text.specs.Written.{Method, said, goal}
@@ -46,7 +46,21 @@ method_sign e = record { none = λ x r h. at h e }
     at (by_word h) e = cc
     at by_goal e = cc
 
-pub ruleset methods = (word_at, goal_at, method_unknown, method_nil, method_constant, method_sign)
+pub method_wide : {x : Wide} {tokens rest : List Lexeme} → tokens ≡ wide x ∷ rest → NoReading SpellsMethod tokens
+method_wide e = record { none = λ x r h. at h e }
+  where
+    at : {y : Wide} {tokens rest r : List Lexeme} {x : Method} → SpellsMethod tokens x r → tokens ≡ wide y ∷ rest → ⊥
+    at (by_word h) e = cc
+    at by_goal e = cc
+
+pub method_block : {x : Method} {tokens rest r : List Lexeme} → SpellsMethod tokens x r → tokens ≡ block ∷ rest → ⊥
+method_block (by_word h) e = cc
+method_block by_goal e = cc
+
+pub method_no_block : {tokens rest : List Lexeme} → tokens ≡ block ∷ rest → NoReading SpellsMethod tokens
+method_no_block e = record { none = λ x r h. method_block h e }
+
+pub ruleset methods = (word_at, goal_at, method_unknown, method_nil, method_constant, method_sign, method_wide, method_no_block)
 
 pub method_one : {x y : Method} {tokens r q : List Lexeme} → SpellsMethod tokens x r → SpellsMethod tokens y q → (x ≡ y) × (r ≡ q)
 method_one (by_word h) k = let m = method_word k refl in (m.1, sym m.2)

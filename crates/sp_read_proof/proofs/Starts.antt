@@ -3,10 +3,10 @@ use Rattle.std.proofs.Common.{◌≡◌, ℕ, Bool, true, false, true≢false, L
 use Rattle.std.specs.Prelude.{◌||◌}
 use Rattle.std.specs.Str.{bytes_eq}
 use Rattle.sp_spec_text.specs.Signs.{Sign}
-use Rattle.sp_spec_text.specs.Token.{Lexeme, word, sign}
-use Rattle.sp_spec_text.specs.Written.{Method, WrittenProof}
-use Rattle.sp_spec_text.specs.Proofs.{is_method, SpellsMethod, by_word, by_goal, SpellsProof, solved, by_method, method_proof, method_cases}
-use Rattle.sp_read_proof.proofs.Methods.{method_word}
+use Rattle.sp_spec_text.specs.Token.{Lexeme, word, sign, block}
+use Rattle.sp_spec_text.specs.Written.{Method, WrittenProof, WrittenCases}
+use Rattle.sp_spec_text.specs.Proofs.{is_method, SpellsMethod, by_word, by_goal, SpellsProof, solved, by_method, method_proof, method_cases, SpellsCases, case}
+use Rattle.sp_read_proof.proofs.Methods.{method_word, method_block}
 
 -- the words with which proofs begin
 abbrev pub begins_proof : List ℕ → Bool
@@ -76,3 +76,20 @@ proof_not_sign solved e = cc
 proof_not_sign (by_method h) e = cc
 proof_not_sign (method_proof h k) e = method_no_sign h e
 proof_not_sign (method_cases h k) e = method_no_sign h e
+
+-- nor with a block of text
+proof_not_block : {p : WrittenProof} {tokens mid rest : List Lexeme} → SpellsProof tokens p rest → tokens ≡ block ∷ mid → ⊥
+proof_not_block solved e = cc
+proof_not_block (by_method h) e = cc
+proof_not_block (method_proof h k) e = method_block h e
+proof_not_block (method_cases h k) e = method_block h e
+
+cases_not_block : {cs : WrittenCases} {tokens mid rest : List Lexeme} → SpellsCases tokens cs rest → tokens ≡ block ∷ mid → ⊥
+cases_not_block (case n h m) e = cc
+
+-- where the first word of a proof has a block of text behind it, no word follows the proof
+pub proof_no_block : {w v : List ℕ} {p : WrittenProof} {tokens mid rest after : List Lexeme} → SpellsProof tokens p rest → tokens ≡ word w ∷ block ∷ mid → rest ≡ word v ∷ after → ⊥
+proof_no_block solved e f = cc
+proof_no_block {mid = m} (by_method {tokens = ts} h) e f = let i : ts ≡ block ∷ m = cc in method_block h i
+proof_no_block (method_proof h k) e f = proof_not_block k (method_word h e).2
+proof_no_block (method_cases h k) e f = cases_not_block k (method_word h e).2

@@ -41,6 +41,8 @@ fn method<'a>(tokens: &[Token<'a>], at: usize) -> Option<(Method<'a>, usize)>
         Lexeme::Solve(text) => Some((Method::Goal(text), rest)),
         Lexeme::Constant(_) => None,
         Lexeme::Sign(_) => None,
+        Lexeme::Wide(_) => None,
+        Lexeme::Block => None,
     }
 }
 

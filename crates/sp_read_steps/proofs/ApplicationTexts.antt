@@ -10,8 +10,8 @@ use Rattle.sp_spec.specs.Signature.{Symbol, pair}
 use Rattle.sp_spec.specs.Execution.{Step, apply_symbol}
 use Rattle.sp_fact.specs.GroundView.{row}
 use Rattle.sp_spec_text.specs.Names.{is_reserved, IsNameWord}
-use Rattle.sp_spec_text.specs.Printed.{is_pair, text_at, row_text, term_text}
-use Rattle.sp_spec_text.specs.StepLines.{HaveNames, IsWritable, AreWritable, IsWritableStep}
+use Rattle.sp_spec_printed.specs.Printed.{is_pair, text_at, row_text, term_text}
+use Rattle.sp_spec_printed.specs.StepLines.{HaveNames, IsWritable, AreWritable, IsWritableStep}
 use Rattle.sp_read_steps.specs.Reading.{named, has_symbol, chain, tuple, pair_step, pairing, unpaired, ReadsRow, next_term, ReadsApplication, no_terms, with_terms, with_parts}
 use Rattle.sp_read_steps.proofs.Words.{named_is, named_parts, named_before}
 use Rattle.sp_read_steps.proofs.Heads.{has_holds}

@@ -9,8 +9,8 @@ use Rattle.sp_spec_text.specs.Lex.{is_first, is_constant_byte, skip, before}
 use Rattle.sp_spec.specs.Lists.{Every}
 use Rattle.sp_spec.specs.Term.{constant, name, app, none, Ground}
 use Rattle.sp_spec.specs.Signature.{Symbol, HasSymbol}
-use Rattle.sp_spec_text.specs.Printed.{term_text}
-use Rattle.sp_spec_text.specs.StepLines.{IsQuotable, IsWritable}
+use Rattle.sp_spec_printed.specs.Printed.{term_text}
+use Rattle.sp_spec_printed.specs.StepLines.{IsQuotable, IsWritable}
 use Rattle.sp_read_steps.specs.Reading.{word_at, is_symbol, has_symbol, number_of, Head, whole, over, opened, nothing, ends, ended, quoted_head, of_number, numbered_head, symbol_head, other_head, by_word, head, Reads, read_whole, read_over, read_pair, ReadsRow, last_term, next_term, ReadsGiven, read_given}
 use Rattle.sp_read_steps.proofs.Words.{before_parts, word_parts, named_parts, all_constant}
 use Rattle.sp_read_steps.proofs.Decimals.{number_is}

@@ -2,8 +2,8 @@
 use Rattle.std.proofs.Common.{◌≡◌, ℕ, List, [], ◌∷◌, ◌++◌, length, refl, sym, ap, ◌∙◌, arith}
 use Rattle.sp_spec.specs.Signature.{Symbol}
 use Rattle.sp_spec.specs.Execution.{Step, make_fresh, use_rule, take_out, put_in, know_public, make_own, apply_symbol}
-use Rattle.sp_spec_text.specs.Printed.{step_text}
-use Rattle.sp_spec_text.specs.StepLines.{HaveNames, IsStepLine, AreSteps, no_line, blank_line, step_line}
+use Rattle.sp_spec_printed.specs.Printed.{step_text}
+use Rattle.sp_spec_printed.specs.StepLines.{HaveNames, IsStepLine, AreSteps, no_line, blank_line, step_line}
 use Rattle.sp_spec_text.specs.Blanks.{trimmed}
 use Rattle.sp_read_steps.specs.Laws.{StepsAreOne}
 use Rattle.sp_read_steps.proofs.One.{step_one}

@@ -6,7 +6,7 @@ use Rattle.sp_spec.specs.Term.{Ground}
 use Rattle.sp_spec.specs.Signature.{Symbol, pair}
 use Rattle.sp_spec.specs.Execution.{Step}
 use Rattle.sp_fact.specs.GroundView.{row}
-use Rattle.sp_spec_text.specs.Printed.{are_two}
+use Rattle.sp_spec_printed.specs.Printed.{are_two}
 use Rattle.sp_read_steps.specs.Reading.{has_symbol, is_pair_term, paired_with, chain, pair_step, pairing}
 
 pub two : {A : Type 0} (f : A → Ground) (ts : List A) → are_two (row (map f ts)) ≡ (length ts == 2)

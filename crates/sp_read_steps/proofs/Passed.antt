@@ -3,7 +3,7 @@ use Rattle.std.proofs.Common.{◌≡◌, ℕ, ◌+◌, inl, inr, List, [], ◌�
 use Rattle.std.specs.Prelude.{Option}
 use Rattle.sp_spec.specs.Signature.{Symbol}
 use Rattle.sp_spec.specs.Execution.{Step}
-use Rattle.sp_spec_text.specs.StepLines.{HaveNames, IsStepLine, AreSteps, no_line, blank_line, step_line, IsFirstUnread}
+use Rattle.sp_spec_printed.specs.StepLines.{HaveNames, IsStepLine, AreSteps, no_line, blank_line, step_line, IsFirstUnread}
 use Rattle.sp_spec_text.specs.Blanks.{trimmed, lines}
 use Rattle.sp_read_steps.specs.Reading.{then_lines}
 use Rattle.sp_read_steps.specs.View.{Takes}

@@ -5,8 +5,8 @@ use Rattle.std.proofs.lemmas.Bool.{and_parts, not-true}
 use Rattle.sp_spec.specs.Term.{var, constant, name, app, none, more, Ground, count}
 use Rattle.sp_spec.specs.Signature.{Symbol, HasSymbol, pair}
 use Rattle.sp_fact.specs.GroundView.{row}
-use Rattle.sp_spec_text.specs.Printed.{is_pair, text_at, row_text, term_text, arguments_text}
-use Rattle.sp_spec_text.specs.StepLines.{IsWritable, AreWritable}
+use Rattle.sp_spec_printed.specs.Printed.{is_pair, text_at, row_text, term_text, arguments_text}
+use Rattle.sp_spec_printed.specs.StepLines.{IsWritable, AreWritable}
 use Rattle.sp_read_steps.specs.Reading.{has_symbol, ends, is_pair_term, paired_with, chain, tuple, applied, paired, whole, over, opened, Reads, read_whole, read_over, read_pair, ReadsRow, last_term, next_term}
 use Rattle.sp_read_steps.proofs.Heads.{TextAt, has_holds, text_of_head}
 

@@ -5,10 +5,10 @@ use Rattle.sp_spec.specs.Lists.{Every}
 use Rattle.sp_spec.specs.Term.{Ground}
 use Rattle.sp_spec.specs.Signature.{Symbol}
 use Rattle.sp_spec.specs.Execution.{Step, make_fresh, use_rule, take_out, put_in, know_public, make_own, apply_symbol}
-use Rattle.sp_spec_text.specs.Printed.{term_text, given_text, more_given_text, step_text}
+use Rattle.sp_spec_printed.specs.Printed.{term_text, given_text, more_given_text, step_text}
 use Rattle.sp_read_steps.specs.declared.parts.Kind.{Kind}
 use Rattle.sp_read_steps.specs.declared.parts.Kind.TheVariants as kind
-use Rattle.sp_spec_text.specs.StepLines.{HaveNames, IsWritable, IsGiven, IsWritableStep, IsStepLine}
+use Rattle.sp_spec_printed.specs.StepLines.{HaveNames, IsWritable, IsGiven, IsWritableStep, IsStepLine}
 use Rattle.sp_read_steps.specs.Reading.{ends, kind_text, step_over, Reads, ReadsGiven, read_given, ReadsValues, last_value, next_value, ReadsRule, no_values, with_values, ReadsApplication, ReadsStep, read_rule, read_application, read_term}
 use Rattle.sp_read_steps.proofs.Words.{Stops, named_is, named_parts, named_before}
 use Rattle.sp_read_steps.proofs.Heads.{TextAt}

@@ -11,12 +11,12 @@ use Rattle.sp_spec.specs.Lists.{Every}
 use Rattle.sp_spec.specs.Term.{var, constant, name, app, none, more, Ground, Grounds, count, list_of}
 use Rattle.sp_spec.specs.Signature.{Symbol, HasSymbol, pair}
 use Rattle.sp_fact.specs.GroundView.{row}
-use Rattle.sp_spec_text.specs.Printed.{is_pair, text_at, row_text, term_text}
+use Rattle.sp_spec_printed.specs.Printed.{is_pair, text_at, row_text, term_text}
 use Rattle.sp_spec_text.specs.Names.{IsWord}
-use Rattle.sp_spec_text.specs.StepLines.{HaveNames, IsQuotable, IsWritable, AreWritable}
+use Rattle.sp_spec_printed.specs.StepLines.{HaveNames, IsQuotable, IsWritable, AreWritable}
 use Rattle.sp_spec_text.proofs.Numerals.{decimal_are_digits, digits_skipped}
 use Rattle.sp_spec_text.proofs.Rests.{before_rest}
-use Rattle.sp_spec_text.proofs.SymbolNames.{symbol_named}
+use Rattle.sp_spec_printed.proofs.SymbolNames.{symbol_named}
 use Rattle.sp_read_steps.specs.Reading.{is_symbol, has_symbol, number_of, ends, is_pair_term, paired_with, chain, tuple, applied, paired, whole, over, opened, quoted_head, of_number, symbol_head, other_head, by_word, head, Reads, read_whole, read_over, read_pair, ReadsRow, last_term, next_term}
 use Rattle.sp_read_steps.proofs.Words.{Stops, skip_word, word_before, skip_constant}
 use Rattle.sp_read_steps.proofs.Decimals.{number_of_decimal}

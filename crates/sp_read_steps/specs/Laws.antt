@@ -2,7 +2,7 @@
 use Rattle.std.specs.Prelude.{◌≡◌, ℕ, List}
 use Rattle.sp_spec.specs.Signature.{Symbol}
 use Rattle.sp_spec.specs.Execution.{Step}
-use Rattle.sp_spec_text.specs.StepLines.{HaveNames, AreSteps, IsFirstUnread}
+use Rattle.sp_spec_printed.specs.StepLines.{HaveNames, AreSteps, IsFirstUnread}
 
 -- Where the symbols have names as they stand in texts, lines are those of one list of steps, or one line is the first that is no step's.
 pub record StepsAreOne : Type 0 where

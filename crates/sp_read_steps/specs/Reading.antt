@@ -9,7 +9,7 @@ use Rattle.sp_spec.specs.Term.{var, constant, name, app, none, Ground}
 use Rattle.sp_spec.specs.Signature.{Symbol, pair}
 use Rattle.sp_spec.specs.Execution.{Step, make_fresh, use_rule, take_out, put_in, know_public, make_own, apply_symbol}
 use Rattle.sp_fact.specs.GroundView.{row}
-use Rattle.sp_spec_text.specs.Printed.{is_pair}
+use Rattle.sp_spec_printed.specs.Printed.{is_pair}
 use Rattle.sp_spec_text.specs.Numerals.{are_digits, value, below_limit}
 use Rattle.sp_spec_text.specs.Blanks.{lines}
 use Rattle.sp_read_steps.specs.declared.parts.Kind.{Kind}

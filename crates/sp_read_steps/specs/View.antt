@@ -10,7 +10,7 @@ use Rattle.sp_read_steps.specs.declared.parts.Head.TheVariants as h
 use Rattle.sp_read_steps.specs.declared.parts.StepLines as memory_lines
 use Rattle.sp_read_steps.specs.declared.parts.StepLines.TheVariants as s
 use Rattle.sp_spec_text.specs.Blanks.{trimmed}
-use Rattle.sp_spec_text.specs.StepLines.{AreSteps, IsFirstUnread}
+use Rattle.sp_spec_printed.specs.StepLines.{AreSteps, IsFirstUnread}
 use Rattle.sp_read_steps.specs.Reading.{Head, whole, over, opened, nothing, NoReading, ReadsStep}
 
 abbrev pub symbols_of : List memory.Symbol → List Symbol

@@ -3,7 +3,7 @@
 ghost use Rattle.std.specs.Prelude.{◌≡◌, [], ◌∷◌, ◌++◌, IfOk, OnOk, map};
 ghost use Rattle.sp_fact.specs.GroundView.{symbol_of, step_of};
 ghost use Rattle.sp_spec_text.specs.Blanks.{lines};
-ghost use Rattle.sp_spec_text.specs.StepLines.{HaveNames};
+ghost use Rattle.sp_spec_printed.specs.StepLines.{HaveNames};
 ghost use Rattle.sp_read_steps.specs.View.{Takes, AreStepLines};
 
 use crate::parts::StepLines;

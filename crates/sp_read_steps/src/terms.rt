@@ -6,7 +6,7 @@ ghost use Rattle.sp_spec_text.specs.Bytes as class;
 ghost use Rattle.sp_fact.specs.GroundView.{ground_of, row};
 ghost use Rattle.std.specs.Rc.{rc_str_bytes};
 ghost use Rattle.sp_spec.specs.Signature as signature;
-ghost use Rattle.sp_spec_text.specs.Printed as text_spec;
+ghost use Rattle.sp_spec_printed.specs.Printed as text_spec;
 ghost use Rattle.sp_read_steps.specs.Reading as spec;
 ghost use Rattle.sp_read_steps.specs.Reading.{NoReading, NoPrefix, Reads, ReadsRow};
 ghost use Rattle.sp_read_steps.specs.View.{symbols_of, head_of};

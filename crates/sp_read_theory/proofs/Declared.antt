@@ -1,28 +1,43 @@
--- Declarations from their parts, and each part that may be missing; they are read in one way, and where a word follows as the grammar spells them.
-use Rattle.std.proofs.Common.{◌≡◌, ℕ, ◌<◌, ◌≤◌, List, ◌∷◌, codes, Option, Some, None, MatchOption, IfSome, Result, Ok, Err, IfOk, refl, sym, ap, subst, ◌∙◌, arith}
+-- Declarations are read in one way, and where an item or the end follows as the grammar spells them.
+use Rattle.std.proofs.Common.{◌≡◌, ℕ, true, false, true≢false, ◌⊎◌, inl, inr, List, ◌∷◌, codes, refl, sym, ap, subst, ◌∙◌, arith}
+use Rattle.std.specs.Str.{bytes_eq}
+use Rattle.std.proofs.lemmas.Bool.{or_cases}
+use Rattle.std.proofs.lemmas.Slice.Eq.{bytes_eq-Decides}
 use Rattle.sp_spec_text.specs.Signs as s
-use Rattle.sp_spec_text.specs.Token.{Lexeme, word, sign}
+use Rattle.sp_spec_text.specs.Token.{Lexeme, word, sign, block}
 use Rattle.sp_spec.specs.Term.{Term}
 use Rattle.sp_spec.specs.Signature.{Symbol}
 use Rattle.sp_spec.specs.Formula.{Written}
-use Rattle.sp_spec.specs.Theory.{Lemma}
+use Rattle.sp_spec.specs.Theory.{Restriction, Lemma}
 use Rattle.sp_spec.specs.Written.{WrittenRule}
+use Rattle.sp_spec_text.specs.Names.{is_reserved}
+use Rattle.sp_spec_text.specs.Attributes.{is_restriction}
+use Rattle.sp_spec_text.specs.Bindings.{Binding}
 use Rattle.sp_spec_text.specs.Lists.{IsNotFirst, NoReading, AreListed, alone, and_more}
-use Rattle.sp_spec_text.specs.Written.{Item, builtins_item, functions_item, equations_item, rule_item}
+use Rattle.sp_spec_text.specs.Written.{Attribute, Item, heuristic_item, rule_item, restriction_item}
 use Rattle.sp_spec_text.specs.Theories as g
-use Rattle.sp_spec_text.specs.Theories.{SpellsEquation, SpellsRule, SpellsLemma, SpellsDeclaration}
+use Rattle.sp_spec_text.specs.Theories.{SpellsBuiltin, SpellsFunction, SpellsEquation, SpellsRuleHead, SpellsRule, SpellsRestriction, SpellsLemma, SpellsWords, SpellsDeclaration}
+use Rattle.sp_spec_text.proofs.Words.{end_reserved, restriction_words}
 use Rattle.sp_read_parts.specs.Parts.{IsTerm}
+use Rattle.sp_read_parts.specs.Reading.{first, second}
 use Rattle.sp_read_parts.proofs.One.{One, terms, term_one}
 use Rattle.sp_read_parts.proofs.Apart.{EndsTerm, sign_ends, word_ends}
+use Rattle.sp_read_parts.proofs.Atomic.{or_else_one, or_else_none}
 use Rattle.sp_read_parts.proofs.Sequence.{Fixed, fixed_none, fixed_one, Then, no_first, no_second, Becomes, no_whole}
 use Rattle.sp_read_parts.proofs.Spelled.{term_spelled}
 use Rattle.sp_read_parts.proofs.Taken.{term_taken}
-use Rattle.sp_read_theory.specs.Items.{IsBuiltin, IsFunction, IsEquation, equation, AreAll, Headed, NotHeaded, IsDeclaration, builtins, functions, equations, a_rule}
-use Rattle.sp_written.specs.declared.theory.Item as rust
-use Rattle.sp_read_theory.specs.Views.{item}
-use Rattle.sp_read_theory.proofs.Listed.{all_one, builtins_one}
+use Rattle.sp_read_theory.specs.Made.{Made, made_of}
+use Rattle.sp_read_theory.specs.Rules.{IsRule}
+use Rattle.sp_read_theory.specs.Items.{IsBuiltin, IsFunction, IsEquation, equation, AreAll, Headed, NotHeaded, Under, under_colon, IsBlock, text_block, IsListing, IsStatement, IsDeclaration}
+pub use Rattle.sp_read_theory.proofs.Follows.{StartsWord, declaration_word, lemma_starts}
+use Rattle.sp_read_theory.proofs.Follows.{Follows, words_taken}
+use Rattle.sp_read_theory.proofs.Listed.{tail_of, all_one, builtins_one}
+use Rattle.sp_read_theory.proofs.One.{fourth, fourth_byte}
+use Rattle.sp_read_theory.proofs.Making.{made_one, made_none, under_one, blocks'}
+use Rattle.sp_read_theory.proofs.RuleParts.{rule_one, rules'}
+use Rattle.sp_read_theory.proofs.LemmaParts.{restrictions'}
 use Rattle.sp_read_theory.proofs.SymbolParts.{functions_one, function_spelled, function_taken}
-use Rattle.sp_read_theory.proofs.One.{third_byte, rule_one, rule_word, lemma_word}
+use Rattle.sp_read_theory.proofs.Words.{words', words_spelled, words_rest}
 
 -- ---- keywords
 
@@ -31,9 +46,6 @@ headed_at e f = rw (e, f) refl
 
 pub not_headed_word : {keyword : List ℕ} {tokens : List Lexeme} → IsNotFirst (word keyword) tokens → NotHeaded keyword tokens
 not_headed_word d = record { none = λ r h. d (sign s.Colon ∷ r) h }
-
-pub tail_of : {x y : Lexeme} {r q : List Lexeme} → x ∷ r ≡ y ∷ q → r ≡ q
-tail_of e = cc
 
 pub not_headed_colon : {keyword : List ℕ} {tokens colon : List Lexeme} → tokens ≡ word keyword ∷ colon → IsNotFirst (sign s.Colon) colon → NotHeaded keyword tokens
 not_headed_colon e d = record { none = λ r h. d r (tail_of (sym e ∙ h)) }
@@ -76,88 +88,24 @@ equation_one (equation {mid = m} h k) (equation {y = y} {mid = n} {rest = q} i l
 pub equations_one : One IsEquation
 equations_one = record { one = equation_one }
 
--- ---- declarations from their parts
-
--- what is read behind a keyword
-under_builtins : {tokens inside rest : List Lexeme} {x : Item} → IsDeclaration tokens x rest → Headed (codes "builtins") tokens inside → (bs : List (List ℕ)) × (x ≡ builtins_item bs) × AreAll IsBuiltin inside bs rest
-under_builtins {inside = i} (builtins {bs = bs} {tokens = ts} {rest = r} h) e = let f : ts ≡ i = cc in (bs, refl, subst (λ (us : List Lexeme). AreAll IsBuiltin us bs r) f h)
-under_builtins (functions h) e = let b : 110 ≡ 105 = ap third_byte e in absurd (omega (arith, b))
-under_builtins (equations h) e = let b : 117 ≡ 105 = ap third_byte e in absurd (omega (arith, b))
-under_builtins (a_rule h) e = let b : 108 ≡ 105 = sym (rule_word h) ∙ ap third_byte e in absurd (omega (arith, b))
-
-under_functions : {tokens inside rest : List Lexeme} {x : Item} → IsDeclaration tokens x rest → Headed (codes "functions") tokens inside → (ss : List Symbol) × (x ≡ functions_item ss) × AreAll IsFunction inside ss rest
-under_functions (builtins h) e = let b : 105 ≡ 110 = ap third_byte e in absurd (omega (arith, b))
-under_functions {inside = i} (functions {ss = ss} {tokens = ts} {rest = r} h) e = let f : ts ≡ i = cc in (ss, refl, subst (λ (us : List Lexeme). AreAll IsFunction us ss r) f h)
-under_functions (equations h) e = let b : 117 ≡ 110 = ap third_byte e in absurd (omega (arith, b))
-under_functions (a_rule h) e = let b : 108 ≡ 110 = sym (rule_word h) ∙ ap third_byte e in absurd (omega (arith, b))
-
-under_equations : {tokens inside rest : List Lexeme} {x : Item} → IsDeclaration tokens x rest → Headed (codes "equations") tokens inside → (es : List (Term Written × Term Written)) × (x ≡ equations_item es) × AreAll IsEquation inside es rest
-under_equations (builtins h) e = let b : 105 ≡ 117 = ap third_byte e in absurd (omega (arith, b))
-under_equations (functions h) e = let b : 110 ≡ 117 = ap third_byte e in absurd (omega (arith, b))
-under_equations {inside = i} (equations {es = es} {tokens = ts} {rest = r} h) e = let f : ts ≡ i = cc in (es, refl, subst (λ (us : List Lexeme). AreAll IsEquation us es r) f h)
-under_equations (a_rule h) e = let b : 108 ≡ 117 = sym (rule_word h) ∙ ap third_byte e in absurd (omega (arith, b))
-
-pub no_builtins : {tokens inside : List Lexeme} → Headed (codes "builtins") tokens inside → NoReading (AreAll IsBuiltin) inside → NoReading IsDeclaration tokens
-no_builtins e n = record { none = λ x r h. let u = under_builtins h e in n.none u.0 r u.2 }
-
-pub no_functions : {tokens inside : List Lexeme} → Headed (codes "functions") tokens inside → NoReading (AreAll IsFunction) inside → NoReading IsDeclaration tokens
-no_functions e n = record { none = λ x r h. let u = under_functions h e in n.none u.0 r u.2 }
-
-pub no_equations : {tokens inside : List Lexeme} → Headed (codes "equations") tokens inside → NoReading (AreAll IsEquation) inside → NoReading IsDeclaration tokens
-no_equations e n = record { none = λ x r h. let u = under_equations h e in n.none u.0 r u.2 }
-
-pub no_declaration : {tokens : List Lexeme} → NotHeaded (codes "builtins") tokens → NotHeaded (codes "functions") tokens → NotHeaded (codes "equations") tokens → NoReading SpellsRule tokens → NoReading IsDeclaration tokens
-no_declaration b f e n = record { none = λ x r h. at h b f e n }
-  where
-    at : {ts r : List Lexeme} {x : Item} → IsDeclaration ts x r → NotHeaded (codes "builtins") ts → NotHeaded (codes "functions") ts → NotHeaded (codes "equations") ts → NoReading SpellsRule ts → ⊥
-    at (builtins {tokens = ts} h) b f e n = b.none ts refl
-    at (functions {tokens = ts} h) b f e n = f.none ts refl
-    at (equations {tokens = ts} h) b f e n = e.none ts refl
-    at (a_rule {r = x} {rest = r} h) b f e n = n.none x r h
-
-pub ruleset kinds_of_items = (builtins, functions, equations, a_rule)
-
-under_keyword : {keyword : List ℕ} {tokens inside rest : List Lexeme} {x : Item} → Headed keyword tokens inside → IsDeclaration (word keyword ∷ sign s.Colon ∷ inside) x rest → IsDeclaration tokens x rest
-under_keyword {rest = r} {x} e h = subst (λ (us : List Lexeme). IsDeclaration us x r) (sym e) h
-
--- what stands behind a keyword and is read is read with it
-pub keyword_read : {E : Type 0} (r : Result (Option (rust.Item × ℕ)) E) (keyword : List ℕ) (missing : Type 0) (tokens inside : List Lexeme) (seen : ℕ → List Lexeme)
-    → Headed keyword tokens inside → (missing → NoReading IsDeclaration tokens)
-    → IfOk r (λ o. MatchOption o missing (λ x. IsDeclaration (word keyword ∷ sign s.Colon ∷ inside) (item x.0) (seen x.1)))
-    → IfOk r (λ o. MatchOption o (NoReading IsDeclaration tokens) (λ x. IsDeclaration tokens (item x.0) (seen x.1)))
-keyword_read (Ok None) keyword missing tokens inside seen e n h = n h
-keyword_read (Ok (Some x)) keyword missing tokens inside seen e n h = under_keyword e h
-keyword_read (Err f) keyword missing tokens inside seen e n h = h
-
--- and goes on behind it
-pub further_read : {E : Type 0} (r : Result (Option (rust.Item × ℕ)) E) (at inside end : ℕ) → at < inside
-    → IfOk r (λ o. IfSome o (λ x. (inside < x.1) × (x.1 ≤ end))) → IfOk r (λ o. IfSome o (λ x. (at < x.1) × (x.1 ≤ end)))
-further_read (Ok None) at inside end lt h = h
-further_read (Ok (Some x)) at inside end lt h = (let less = h.0 in omega arith, h.1)
-further_read (Err f) at inside end lt h = h
-
--- a rule, where no keyword stands
-pub rule_read : {E : Type 0} (r : Result (Option (rust.Item × ℕ)) E) (tokens : List Lexeme) (seen : ℕ → List Lexeme)
-    → NotHeaded (codes "builtins") tokens → NotHeaded (codes "functions") tokens → NotHeaded (codes "equations") tokens
-    → IfOk r (λ o. MatchOption o (NoReading SpellsRule tokens) (λ x. IsDeclaration tokens (item x.0) (seen x.1)))
-    → IfOk r (λ o. MatchOption o (NoReading IsDeclaration tokens) (λ x. IsDeclaration tokens (item x.0) (seen x.1)))
-rule_read (Ok None) tokens seen b f e h = no_declaration b f e h
-rule_read (Ok (Some x)) tokens seen b f e h = h
-rule_read (Err g) tokens seen b f e h = h
-
 -- ---- in one way
 
-under_rule : {tokens rest : List Lexeme} {x : Item} → IsDeclaration tokens x rest → third_byte tokens ≡ 108 → (r : WrittenRule) × (x ≡ rule_item r) × SpellsRule tokens r rest
-under_rule (builtins h) e = let b : 105 ≡ 108 = e in absurd (omega (arith, b))
-under_rule (functions h) e = let b : 110 ≡ 108 = e in absurd (omega (arith, b))
-under_rule (equations h) e = let b : 117 ≡ 108 = e in absurd (omega (arith, b))
-under_rule (a_rule {r = r} h) e = (r, refl, h)
+pub declarations_one : One IsDeclaration
+declarations_one = or_else_one
+    (or_else_one (made_one (under_one builtin_lists)) (or_else_one (made_one (under_one function_lists)) (or_else_one (made_one (under_one equation_lists)) (made_one (under_one words')))))
+    (or_else_one (made_one blocks') (or_else_one (made_one rules') (made_one restrictions')))
+  where
+    builtin_lists : One (AreAll IsBuiltin)
+    builtin_lists = record { one = all_one builtins_one }
+
+    function_lists : One (AreAll IsFunction)
+    function_lists = record { one = all_one functions_one }
+
+    equation_lists : One (AreAll IsEquation)
+    equation_lists = record { one = all_one equations_one }
 
 pub declaration_one : {tokens r q : List Lexeme} {x y : Item} → IsDeclaration tokens x r → IsDeclaration tokens y q → (x ≡ y) × (r ≡ q)
-declaration_one (builtins h) k = let u = under_builtins k refl in let o = all_one builtins_one h u.2 in (ap (λ (bs : List (List ℕ)). builtins_item bs) o.0 ∙ sym u.1, o.1)
-declaration_one (functions h) k = let u = under_functions k refl in let o = all_one functions_one h u.2 in (ap (λ (ss : List Symbol). functions_item ss) o.0 ∙ sym u.1, o.1)
-declaration_one (equations h) k = let u = under_equations k refl in let o = all_one equations_one h u.2 in (ap (λ (es : List (Term Written × Term Written)). equations_item es) o.0 ∙ sym u.1, o.1)
-declaration_one (a_rule h) k = let u = under_rule k (rule_word h) in let o = rule_one h u.2 in (ap (λ (r : WrittenRule). rule_item r) o.0 ∙ sym u.1, o.1)
+declaration_one h k = declarations_one.one h k
 
 -- ---- as the grammar spells them
 
@@ -169,13 +117,69 @@ listed_spelled m (and_more h k) = and_more (m _ _ _ h) (listed_spelled m k)
 equation_spelled : {tokens rest : List Lexeme} {e : Term Written × Term Written} → IsEquation tokens e rest → SpellsEquation tokens e rest
 equation_spelled (equation h k) = g.equation (term_spelled h) (term_spelled k)
 
-pub declaration_spelled : {tokens rest : List Lexeme} {x : Item} → IsDeclaration tokens x rest → SpellsDeclaration tokens x rest
-declaration_spelled (builtins h) = g.builtins (listed_spelled (λ ts x r k. k.spells) h.spells)
-declaration_spelled (functions h) = g.functions (listed_spelled (λ ts x r k. function_spelled k) h.spells)
-declaration_spelled (equations h) = g.equations (listed_spelled (λ ts x r k. equation_spelled k) h.spells)
-declaration_spelled (a_rule h) = g.a_rule h
+listing_spelled : {tokens rest : List Lexeme} {x : Item} → IsListing tokens x rest → SpellsDeclaration tokens x rest
+listing_spelled (first (made_of (under_colon h))) = g.builtins (listed_spelled (λ ts x r k. k.spells) h.spells)
+listing_spelled (second n (first (made_of (under_colon h)))) = g.functions (listed_spelled (λ ts x r k. function_spelled k) h.spells)
+listing_spelled (second n (second m (first (made_of (under_colon h))))) = g.equations (listed_spelled (λ ts x r k. equation_spelled k) h.spells)
+listing_spelled (second n (second m (second l (made_of (under_colon h))))) = g.heuristic (words_spelled h)
 
--- ---- and what is spelled is read where a word follows, as it does where another item or the end does
+statement_spelled : {tokens rest : List Lexeme} {x : Item} → IsStatement tokens x rest → SpellsDeclaration tokens x rest
+statement_spelled (first (made_of (text_block h))) = g.text_block h
+statement_spelled (second n (first (made_of h))) = g.a_rule h
+statement_spelled (second n (second m (made_of h))) = g.a_restriction h
+
+pub declaration_spelled : {tokens rest : List Lexeme} {x : Item} → IsDeclaration tokens x rest → SpellsDeclaration tokens x rest
+declaration_spelled (first h) = listing_spelled h
+declaration_spelled (second n h) = statement_spelled h
+
+-- ---- what no other keyword begins
+
+-- a keyword and a colon stand where they are not
+not_under : {A B : Type 0} {keyword other : List ℕ} {R : List Lexeme → A → List Lexeme → Type 0} {f : A → B} {tokens : List Lexeme} → (other ≡ keyword → ⊥) → NoReading (Made (Under other R) f) (word keyword ∷ tokens)
+not_under {A} {B} {keyword} {other} {R} {f} {tokens} d = made_none (record { none = λ x r h. at h refl })
+  where
+    at : {ts r : List Lexeme} {x : A} → Under other R ts x r → ts ≡ word keyword ∷ tokens → ⊥
+    at (under_colon h) e = d cc
+
+-- behind the first token no colon stands
+record NoColon (tokens : List Lexeme) : Type 0 where
+  none : (w : List ℕ) (rest : List Lexeme) → tokens ≡ word w ∷ sign s.Colon ∷ rest → ⊥
+
+not_listed : {A B : Type 0} {other : List ℕ} {R : List Lexeme → A → List Lexeme → Type 0} {f : A → B} {tokens : List Lexeme} → NoColon tokens → NoReading (Made (Under other R) f) tokens
+not_listed {A} {B} {other} {R} n = made_none (record { none = λ x r h. at h n })
+  where
+    at : {ts r : List Lexeme} {x : A} → Under other R ts x r → NoColon ts → ⊥
+    at (under_colon {tokens = ts} h) n = n.none other ts refl
+
+no_listing : {tokens : List Lexeme} → NoColon tokens → NoReading IsListing tokens
+no_listing n = or_else_none (not_listed n) (or_else_none (not_listed n) (or_else_none (not_listed n) (not_listed n)))
+
+builtins_functions : codes "builtins" ≡ codes "functions" → ⊥
+builtins_functions e = let d : 108 ≡ 99 = ap fourth e in omega (arith, d)
+
+builtins_equations : codes "builtins" ≡ codes "equations" → ⊥
+builtins_equations e = let d : 108 ≡ 97 = ap fourth e in omega (arith, d)
+
+builtins_heuristic : codes "builtins" ≡ codes "heuristic" → ⊥
+builtins_heuristic e = let d : 108 ≡ 114 = ap fourth e in omega (arith, d)
+
+functions_equations : codes "functions" ≡ codes "equations" → ⊥
+functions_equations e = let d : 99 ≡ 97 = ap fourth e in omega (arith, d)
+
+functions_heuristic : codes "functions" ≡ codes "heuristic" → ⊥
+functions_heuristic e = let d : 99 ≡ 114 = ap fourth e in omega (arith, d)
+
+equations_heuristic : codes "equations" ≡ codes "heuristic" → ⊥
+equations_heuristic e = let d : 97 ≡ 114 = ap fourth e in omega (arith, d)
+
+-- no word with a block behind it begins a rule or a restriction
+not_block : {w : List ℕ} {x : Lexeme} {tokens : List Lexeme} → (x ≡ block → ⊥) → NoReading IsBlock (word w ∷ x ∷ tokens)
+not_block d = record { none = λ u r h. at h refl d }
+  where
+    at : {u w : List ℕ} {x : Lexeme} {ts us r : List Lexeme} → IsBlock ts u r → ts ≡ word w ∷ x ∷ us → (x ≡ block → ⊥) → ⊥
+    at (text_block h) e d = d cc
+
+-- ---- and what is spelled is read where an item or the end follows
 
 -- no sign by which a part of a list goes on
 record BehindPart (rest : List Lexeme) : Type 0 where
@@ -197,12 +201,6 @@ listed_taken m (and_more {mid = q} h k) b = and_more (m _ _ _ h (behind_comma q)
 equation_taken : {tokens rest : List Lexeme} {e : Term Written × Term Written} → SpellsEquation tokens e rest → BehindPart rest → IsEquation tokens e rest
 equation_taken (g.equation {mid = m} h k) b = equation (term_taken h (sign_ends s.Equals m (λ i. i))) (term_taken k b.ends)
 
--- a word stands first
-pub record StartsWord (tokens : List Lexeme) : Type 0 where
-  pub first : List ℕ
-  pub others : List Lexeme
-  pub are : tokens ≡ word first ∷ others
-
 all_taken : {A : Type 0} {R S : List Lexeme → A → List Lexeme → Type 0} → ((tokens : List Lexeme) (x : A) (rest : List Lexeme) → R tokens x rest → BehindPart rest → S tokens x rest)
     → {tokens rest : List Lexeme} {xs : List A} → AreListed R tokens xs rest → StartsWord rest → AreAll S tokens xs rest
 all_taken m h w = record { spells = listed_taken m h (subst BehindPart (sym w.are) (behind_word w.first w.others)); ended = λ r e. absurd (word_no_sign (sym w.are ∙ e)) }
@@ -210,31 +208,126 @@ all_taken m h w = record { spells = listed_taken m h (subst BehindPart (sym w.ar
     word_no_sign : {w : List ℕ} {us vs : List Lexeme} → word w ∷ us ≡ sign s.Comma ∷ vs → ⊥
     word_no_sign e = cc
 
-pub declaration_taken : {tokens rest : List Lexeme} {x : Item} → SpellsDeclaration tokens x rest → StartsWord rest → IsDeclaration tokens x rest
-declaration_taken (g.builtins h) w = builtins (all_taken (λ ts x r k b. record { spells = k; ended = b.no_dash }) h w)
-declaration_taken (g.functions h) w = functions (all_taken (λ ts x r k b. function_taken k b.no_bracket) h w)
-declaration_taken (g.equations h) w = equations (all_taken (λ ts x r k b. equation_taken k b) h w)
-declaration_taken (g.a_rule h) w = a_rule h
+builtins_taken : {tokens rest : List Lexeme} {bs : List (List ℕ)} → AreListed SpellsBuiltin tokens bs rest → StartsWord rest → AreAll IsBuiltin tokens bs rest
+builtins_taken h w = all_taken (λ ts x r k b. record { spells = k; ended = b.no_dash }) h w
+
+functions_taken : {tokens rest : List Lexeme} {ss : List Symbol} → AreListed SpellsFunction tokens ss rest → StartsWord rest → AreAll IsFunction tokens ss rest
+functions_taken h w = all_taken (λ ts x r k b. function_taken k b.no_bracket) h w
+
+equations_taken : {tokens rest : List Lexeme} {es : List (Term Written × Term Written)} → AreListed SpellsEquation tokens es rest → StartsWord rest → AreAll IsEquation tokens es rest
+equations_taken h w = all_taken (λ ts x r k b. equation_taken k b) h w
+
+-- a rule begins with its keyword, and behind that with a name or a bracket
+pub record RuleStart (tokens : List Lexeme) : Type 0 where
+  pub next : Lexeme
+  pub others : List Lexeme
+  pub are : tokens ≡ word (codes "rule") ∷ next ∷ others
+  pub no_colon : next ≡ sign s.Colon → ⊥
+  pub no_block : next ≡ block → ⊥
+
+pub rule_start : {tokens rest : List Lexeme} {bs : List Binding} {r : WrittenRule} → SpellsRule tokens bs r rest → RuleStart tokens
+rule_start (g.rule h l i j k) = at h
+  where
+    at : {ts body : List Lexeme} {w : List ℕ} → SpellsRuleHead ts w body → RuleStart ts
+    at (g.rule_head {w = w} {attributes = as'} g.no_modulo n a) = record { next = word w; others = as'; are = refl; no_colon = λ e. cc; no_block = λ e. cc }
+    at (g.rule_head (g.modulo {w = v} {rest = r} h) n a) = record { next = sign s.Open; others = word (codes "modulo") ∷ word v ∷ sign s.Close ∷ r; are = refl; no_colon = λ e. cc; no_block = λ e. cc }
+
+no_colon_behind : {w : List ℕ} {x : Lexeme} {tokens us : List Lexeme} → tokens ≡ word w ∷ x ∷ us → (x ≡ sign s.Colon → ⊥) → NoColon tokens
+no_colon_behind e d = record { none = λ u r f. d cc }
+
+rule_no_restriction : is_restriction (codes "rule") ≡ false
+unfolding is_restriction
+rule_no_restriction = refl
+
+lemma_no_restriction : is_restriction (codes "lemma") ≡ false
+unfolding is_restriction
+lemma_no_restriction = refl
+
+end_no_restriction : is_restriction (codes "end") ≡ false
+unfolding is_restriction
+end_no_restriction = refl
+
+-- a word with which no restriction begins
+no_restriction_word : {k w : List ℕ} → is_restriction k ≡ true → is_restriction w ≡ false → k ≡ w → ⊥
+no_restriction_word h n e = true≢false (sym h ∙ (ap is_restriction e ∙ n))
+
+rule_taken : {tokens rest : List Lexeme} {bs : List Binding} {r : WrittenRule} → SpellsRule tokens bs r rest → IsDeclaration tokens (rule_item bs r) rest
+rule_taken {bs = bs} {r} h =
+    let t = rule_start h in
+    let e = t.are in
+    second (no_listing (no_colon_behind e t.no_colon)) (second (made_none (rw e (not_block t.no_block))) (first (made_of {x = (bs, r)} h)))
+
+no_rule : {tokens rest : List Lexeme} {r : Restriction} → SpellsRestriction tokens r rest → NoReading IsRule tokens
+no_rule h = record { none = λ x r k. at h (rule_start k) }
+  where
+    at : {ts rest : List Lexeme} {r : Restriction} → SpellsRestriction ts r rest → RuleStart ts → ⊥
+    at (g.restriction {k = k} i h q) t = let e = t.are in let f : k ≡ codes "rule" = cc in no_restriction_word i rule_no_restriction f
+
+restriction_taken : {tokens rest : List Lexeme} {r : Restriction} → SpellsRestriction tokens r rest → IsDeclaration tokens (restriction_item r) rest
+restriction_taken h = second (no_listing (no_colon h)) (second (made_none (no_text h)) (second (made_none (no_rule h)) (made_of h)))
+  where
+    no_colon : {ts rest : List Lexeme} {r : Restriction} → SpellsRestriction ts r rest → NoColon ts
+    no_colon (g.restriction i h q) = record { none = λ w r e. cc }
+
+    no_text : {ts rest : List Lexeme} {r : Restriction} → SpellsRestriction ts r rest → NoReading IsBlock ts
+    no_text (g.restriction i h q) = not_block (λ e. cc)
+
+pub declaration_taken : {tokens rest : List Lexeme} {x : Item} → SpellsDeclaration tokens x rest → Follows rest → IsDeclaration tokens x rest
+declaration_taken (g.builtins h) f = first (first (made_of (under_colon (builtins_taken h f.starts))))
+declaration_taken (g.functions h) f = first (second (not_under builtins_functions) (first (made_of (under_colon (functions_taken h f.starts)))))
+declaration_taken (g.equations h) f = first (second (not_under builtins_equations) (second (not_under functions_equations) (first (made_of (under_colon (equations_taken h f.starts))))))
+declaration_taken (g.heuristic h) f = first (second (not_under builtins_heuristic) (second (not_under functions_heuristic) (second (not_under equations_heuristic) (made_of (under_colon (words_taken h f))))))
+declaration_taken (g.text_block {w = w} {rest = r} h) f = second (no_listing (no_colon_behind refl (λ e. cc))) (first (made_of (text_block h)))
+declaration_taken (g.a_rule h) f = rule_taken h
+declaration_taken (g.a_restriction h) f = restriction_taken h
+
+inside : {x y u v : Lexeme} {r q : List Lexeme} → x ∷ y ∷ r ≡ u ∷ v ∷ q → r ≡ q
+inside e = cc
+
+same_words : {ws us : List (List ℕ)} → heuristic_item ws ≡ heuristic_item us → ws ≡ us
+same_words e = cc
+
+-- of one item two spellings leave one rest
+pub declaration_rest : {tokens r q : List Lexeme} {x : Item} → SpellsDeclaration tokens x r → SpellsDeclaration tokens x q → StartsWord r → StartsWord q → r ≡ q
+declaration_rest h k v w = at h k refl refl v w
+  where
+    at : {ts us r q : List Lexeme} {x y : Item} → SpellsDeclaration ts x r → SpellsDeclaration us y q → ts ≡ us → x ≡ y → StartsWord r → StartsWord q → r ≡ q
+    at (g.builtins h) (g.builtins {bs = bs} {rest = q} k) e f v w =
+        (all_one builtins_one (builtins_taken h v) (builtins_taken (subst (λ (ts : List Lexeme). AreListed SpellsBuiltin ts bs q) (sym (inside e)) k) w)).1
+    at (g.functions h) (g.functions {ss = ss} {rest = q} k) e f v w =
+        (all_one functions_one (functions_taken h v) (functions_taken (subst (λ (ts : List Lexeme). AreListed SpellsFunction ts ss q) (sym (inside e)) k) w)).1
+    at (g.equations h) (g.equations {es = es} {rest = q} k) e f v w =
+        (all_one equations_one (equations_taken h v) (equations_taken (subst (λ (ts : List Lexeme). AreListed SpellsEquation ts es q) (sym (inside e)) k) w)).1
+    at (g.heuristic {tokens = ts} h) (g.heuristic {ws = us} {rest = q} k) e f v w =
+        let i = subst (λ (xs : List Lexeme). SpellsWords xs us q) (sym (inside e)) k in
+        words_rest h (subst (λ (ws : List (List ℕ)). SpellsWords ts ws q) (sym (same_words f)) i)
+    at (g.text_block h) (g.text_block k) e f v w = cc
+    at (g.a_rule h) (g.a_rule {bs = bs} {r = r} {rest = q} k) e f v w = (rule_one h (subst (λ (ts : List Lexeme). SpellsRule ts bs r q) (sym e) k)).1
+    at (g.a_restriction h) (g.a_restriction {r = r} {rest = q} k) e f v w = (restrictions'.one h (subst (λ (ts : List Lexeme). SpellsRestriction ts r q) (sym e) k)).1
+    at _ _ e f v w = absurd (let none : ⊥ = cc in none)
 
 -- ---- what they begin with
 
-pub declaration_word : {tokens rest : List Lexeme} {x : Item} → SpellsDeclaration tokens x rest → StartsWord tokens
-declaration_word (g.builtins {tokens = ts} h) = record { first = codes "builtins"; others = sign s.Colon ∷ ts; are = refl }
-declaration_word (g.functions {tokens = ts} h) = record { first = codes "functions"; others = sign s.Colon ∷ ts; are = refl }
-declaration_word (g.equations {tokens = ts} h) = record { first = codes "equations"; others = sign s.Colon ∷ ts; are = refl }
-declaration_word (g.a_rule (g.rule {w = w} {tokens = ts} i h j k)) = record { first = codes "rule"; others = word w ∷ sign s.Colon ∷ ts; are = refl }
-
-pub lemma_starts : {tokens rest : List Lexeme} {l : Lemma} → SpellsLemma tokens l rest → StartsWord tokens
-lemma_starts (g.lemma {w = w} {tokens = ts} i k f) = record { first = codes "lemma"; others = word w ∷ sign s.Colon ∷ ts; are = refl }
-
-pub declaration_not_lemma : {tokens r q : List Lexeme} {x : Item} {l : Lemma} → SpellsDeclaration tokens x r → SpellsLemma tokens l q → ⊥
-declaration_not_lemma (g.builtins h) k = let b : 105 ≡ 109 = lemma_word k in omega (arith, b)
-declaration_not_lemma (g.functions h) k = let b : 110 ≡ 109 = lemma_word k in omega (arith, b)
-declaration_not_lemma (g.equations h) k = let b : 117 ≡ 109 = lemma_word k in omega (arith, b)
-declaration_not_lemma (g.a_rule h) k = omega (arith, rule_word h, lemma_word k)
+pub declaration_not_lemma : {tokens r q : List Lexeme} {x : Item} {l : Lemma} {each : List Attribute} → SpellsDeclaration tokens x r → SpellsLemma tokens l each q → ⊥
+declaration_not_lemma h (g.lemma {w = w} {tokens = ts} i a k f) = at h refl
+  where
+    at : {ts us r : List Lexeme} {w : List ℕ} {x : Item} → SpellsDeclaration ts x r → ts ≡ word (codes "lemma") ∷ word w ∷ us → ⊥
+    at (g.builtins h) e = cc
+    at (g.functions h) e = cc
+    at (g.equations h) e = cc
+    at (g.heuristic h) e = cc
+    at (g.text_block h) e = cc
+    at (g.a_rule h) e = let t = rule_start h in let d : 101 ≡ 109 = ap fourth_byte (sym t.are ∙ e) in omega (arith, d)
+    at (g.a_restriction (g.restriction {k = k} i h q)) e = let f : k ≡ codes "lemma" = cc in no_restriction_word i lemma_no_restriction f
 
 pub declaration_not_end : {tokens rest after : List Lexeme} {x : Item} → SpellsDeclaration tokens x rest → tokens ≡ word (codes "end") ∷ after → ⊥
-declaration_not_end (g.builtins h) e = let b : 105 ≡ 100 = ap third_byte e in omega (arith, b)
-declaration_not_end (g.functions h) e = let b : 110 ≡ 100 = ap third_byte e in omega (arith, b)
-declaration_not_end (g.equations h) e = let b : 117 ≡ 100 = ap third_byte e in omega (arith, b)
-declaration_not_end {tokens} (g.a_rule h) e = let b : third_byte tokens ≡ 100 = ap third_byte e in omega (arith, rule_word h, b)
+declaration_not_end (g.builtins h) e = let b : 108 ≡ 0 = ap fourth_byte e in omega (arith, b)
+declaration_not_end (g.functions h) e = let b : 99 ≡ 0 = ap fourth_byte e in omega (arith, b)
+declaration_not_end (g.equations h) e = let b : 97 ≡ 0 = ap fourth_byte e in omega (arith, b)
+declaration_not_end (g.heuristic h) e = let b : 114 ≡ 0 = ap fourth_byte e in omega (arith, b)
+declaration_not_end (g.text_block {w = w} h) e = let f : w ≡ codes "end" = cc in true≢false (sym end_reserved ∙ (sym (ap is_reserved f) ∙ h))
+declaration_not_end (g.a_rule h) e = let t = rule_start h in let b : 101 ≡ 0 = ap fourth_byte (sym t.are ∙ e) in omega (arith, b)
+declaration_not_end (g.a_restriction (g.restriction {k = k} i h q)) e = let f : k ≡ codes "end" = cc in no_restriction_word i end_no_restriction f
+
+pub lemma_not_end : {tokens rest after : List Lexeme} {l : Lemma} {each : List Attribute} → SpellsLemma tokens l each rest → tokens ≡ word (codes "end") ∷ after → ⊥
+lemma_not_end (g.lemma i a k f) e = cc

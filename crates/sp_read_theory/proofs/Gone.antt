@@ -8,13 +8,14 @@ use Rattle.sp_written.specs.declared.theory.Item as rust
 use Rattle.sp_written.specs.declared.theory.Item.TheVariants as i
 use Rattle.sp_spec_text.specs.Spans.{Span}
 use Rattle.sp_spec_text.specs.Lists.{IsNotFirst, NoReading}
-use Rattle.sp_spec_text.specs.Theories.{SpellsLemma, SpellsItems, no_item, declaration_first, lemma_first}
+use Rattle.sp_spec_text.specs.Theories.{SpellsItems, no_item, declaration_first, lemma_first}
+use Rattle.sp_read_theory.specs.Lemmas.{IsLemma}
 use Rattle.sp_read_theory.specs.Items.{IsDeclaration, ReadsItem, a_declaration, a_lemma, NoItem, the_end, AreItemsToEnd, NoItems}
 use Rattle.sp_spec_text.specs.Spans.{EndsWith, AreSpans, no_span, past_declaration, past_lemma}
 use Rattle.sp_read_theory.specs.Views as view
-use Rattle.sp_read_theory.proofs.One.{lemma_not_end}
-use Rattle.sp_read_theory.proofs.Declared.{declaration_spelled, declaration_taken, declaration_not_end}
-use Rattle.sp_read_theory.proofs.OneTheory.{items_word, Behind, behind_declaration, behind_lemma}
+use Rattle.sp_read_theory.proofs.Follows.{items_follow}
+use Rattle.sp_read_theory.proofs.Declared.{declaration_spelled, declaration_taken, declaration_not_end, lemma_not_end}
+use Rattle.sp_read_theory.proofs.OneTheory.{Behind, behind_declaration, behind_lemma}
 use Rattle.sp_read_theory.proofs.Suffix.{ends_with}
 
 -- these items stand before the rest, and the proofs of their lemmas have these spans
@@ -53,13 +54,16 @@ spans_more [] ys = refl
 spans_more (i.Builtins bs ∷ xs) ys = spans_more xs ys
 spans_more (i.Functions ss ∷ xs) ys = spans_more xs ys
 spans_more (i.Equations es ∷ xs) ys = spans_more xs ys
+spans_more (i.Heuristic ws ∷ xs) ys = spans_more xs ys
+spans_more (i.Block w ∷ xs) ys = spans_more xs ys
 spans_more (i.Rule r ∷ xs) ys = spans_more xs ys
+spans_more (i.Restriction r ∷ xs) ys = spans_more xs ys
 spans_more (i.Lemma l ∷ xs) ys = ap (λ (ss : List Span). view.span_of l.span ∷ ss) (spans_more xs ys)
 
 pub declaration_item_at : {x : Item} {spans : List Span} {tokens rest : List Token} → IsDeclaration (lexemes tokens) x (lexemes rest) → EndsWith tokens rest → spans ≡ [] → ReadsItem tokens x spans rest
 declaration_item_at h e n = rw n (a_declaration h e)
 
-pub no_item_at : {tokens : List Lexeme} → NoReading IsDeclaration tokens → NoReading SpellsLemma tokens → NoItem tokens
+pub no_item_at : {tokens : List Lexeme} → NoReading IsDeclaration tokens → NoReading IsLemma tokens → NoItem tokens
 no_item_at n m = record { no_declaration = n; no_lemma = m }
 
 pub ruleset one_item = (declaration_item_at, no_item_at, ends_with)
@@ -87,8 +91,8 @@ gone_nowhere g d n = g.stops (record { none = λ xs h. at h refl d n })
   where
     at : {rest ends : List Lexeme} {xs : List Item} → SpellsItems rest xs ends → ends ≡ the_end → IsNotFirst (word (codes "end")) rest → NoItem rest → ⊥
     at no_item f d n = d [] f
-    at (declaration_first {x = x} {mid = m} k h) f d n = n.no_declaration.none x m (declaration_taken k (items_word h f))
-    at (lemma_first {l = l} {behind = b} k p h) f d n = n.no_lemma.none l b k
+    at (declaration_first {x = x} {mid = m} k h) f d n = n.no_declaration.none x m (declaration_taken k (items_follow h f))
+    at (lemma_first {l = l} {each = xs} {behind = b} k p h) f d n = n.no_lemma.none (l, xs) b k
 
 pub nothing_follows : {tokens last : List Lexeme} → tokens ≡ word (codes "end") ∷ last → last ≡ [] → tokens ≡ the_end
 nothing_follows e f = e ∙ ap (λ (ts : List Lexeme). word (codes "end") ∷ ts) f

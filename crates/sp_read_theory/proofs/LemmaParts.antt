@@ -1,23 +1,26 @@
--- Lemmas from their parts, with their proofs, and each part that may be missing.
-use Rattle.std.proofs.Common.{◌≡◌, ℕ, List, [], ◌∷◌, Option, Some, None, codes, refl, sym, subst, ◌∙◌}
+-- Lemmas from their parts, with their proofs, restrictions, and each part that may be missing.
+use Rattle.std.proofs.Common.{◌≡◌, ℕ, List, [], ◌∷◌, Option, Some, None, codes, refl, sym, ap, subst, ◌∙◌}
 use Rattle.sp_spec_text.specs.Signs as s
 use Rattle.sp_spec_text.specs.Token.{Lexeme, word, sign, Token}
 use Rattle.sp_spec_text.specs.Lex.{lexemes}
 use Rattle.sp_spec.specs.Formula.{Formula}
-use Rattle.sp_spec.specs.Theory.{TraceKind, all_traces, exists_trace, Lemma}
+use Rattle.sp_spec.specs.Theory.{TraceKind, all_traces, exists_trace, Restriction, Lemma}
 use Rattle.sp_spec_text.specs.Lists.{IsNotFirst, NoReading}
-use Rattle.sp_read_parts.specs.Closed.{IsClosed}
 use Rattle.sp_read_parts.proofs.One.{One}
 use Rattle.sp_read_parts.proofs.Sequence.{Then, no_first, no_second, Becomes, no_whole}
-use Rattle.sp_spec_text.specs.Written.{WrittenProof, lemma_item}
+use Rattle.sp_read_parts.proofs.Plain.{quoted_one}
+use Rattle.sp_spec_text.specs.Written.{WrittenProof, Attribute, lemma_item}
 use Rattle.sp_spec_text.specs.Spans.{Span}
 use Rattle.sp_spec_text.specs.Proofs.{SpellsProof}
 use Rattle.sp_spec_text.specs.Theories as g
-use Rattle.sp_spec_text.specs.Theories.{SpellsKind, SpellsLemma}
-use Rattle.sp_read_theory.specs.Items.{IsHeader, header, Dashed, NotDashed, IsKind, ReadsProofPart, ReadsItem, a_lemma}
+use Rattle.sp_spec_text.specs.Theories.{SpellsQuoted, SpellsKind, SpellsLemma, SpellsRestriction}
+use Rattle.sp_read_theory.specs.Lemmas.{Dashed, NotDashed, IsKind, IsClaim, claim, IsLemmaHead, lemma_head, IsRestrictionHead, restriction_head, IsLemma}
+use Rattle.sp_read_theory.specs.Items.{IsBlock, no_start, by_block, ReadsProofPart, ReadsItem, a_lemma}
 use Rattle.sp_spec_text.specs.Spans.{IsBehind}
-use Rattle.sp_read_theory.proofs.One.{header_one, kinds}
-use Rattle.sp_read_theory.proofs.Declared.{tail_of}
+use Rattle.sp_read_theory.proofs.One.{kinds}
+use Rattle.sp_read_theory.proofs.RuleHeads.{then_one}
+use Rattle.sp_read_theory.proofs.LemmaHeads.{attributes_spelled, attributes_taken, lemma_heads', restriction_heads'}
+use Rattle.sp_read_theory.proofs.Listed.{tail_of}
 
 -- ---- two words and a dash
 
@@ -59,47 +62,115 @@ kind_missing a b c = record { none = λ k r h. at h refl a b c }
 
 pub ruleset kinds_of_lemmas = (no_kind_at, all_kind_at, exists_kind_at, kind_missing)
 
+-- ---- formulas in double quotes
+
+pub quotes : One SpellsQuoted
+quotes = record { one = λ {tokens} h k. quoted_one tokens h k }
+
+pub claim_no_kind : {tokens : List Lexeme} → NoReading IsKind tokens → NoReading IsClaim tokens
+claim_no_kind n = record { none = λ x r h. at h n }
+  where
+    at : {ts r : List Lexeme} {x : TraceKind × Formula} → IsClaim ts x r → NoReading IsKind ts → ⊥
+    at (claim {kind = k} {body = b} h i) n = n.none k b h
+
+pub claim_no_formula : {k : TraceKind} {tokens body : List Lexeme} → IsKind tokens k body → NoReading SpellsQuoted body → NoReading IsClaim tokens
+claim_no_formula h n = record { none = λ x r i. at i h n }
+  where
+    at : {ts body r : List Lexeme} {k : TraceKind} {x : TraceKind × Formula} → IsClaim ts x r → IsKind ts k body → NoReading SpellsQuoted body → ⊥
+    at (claim {f = f} {rest = r} i j) h n = n.none f r (subst (λ (us : List Lexeme). SpellsQuoted us f r) (kinds.one i h).1 j)
+
+pub ruleset claims = (claim, claim_no_kind, claim_no_formula)
+
+claim_one : {tokens r q : List Lexeme} {x y : TraceKind × Formula} → IsClaim tokens x r → IsClaim tokens y q → (x ≡ y) × (r ≡ q)
+claim_one (claim {body = body} h i) (claim {f = f} {rest = q} j k) =
+    let a = kinds.one h j in
+    let b = quoted_one body i (subst (λ (us : List Lexeme). SpellsQuoted us f q) (sym a.1) k) in
+    (rw (a.0, b.0) refl, b.1)
+
+claims' : One IsClaim
+claims' = record { one = claim_one }
+
 -- ---- the lemma
 
-pub lemma_at : {w : List ℕ} {k : TraceKind} {f : Formula} {tokens mid body rest : List Lexeme} → IsHeader (codes "lemma") tokens w mid → IsKind mid k body → IsClosed 0 s.Quote body f rest
-    → SpellsLemma tokens (record { name = w; kind = k; formula = f }) rest
-lemma_at (header h) k f = g.lemma h k f
+pub lemma_at : {w : List ℕ} {each : List Attribute} {k : TraceKind} {f : Formula} {tokens mid rest : List Lexeme} → IsLemmaHead tokens (w, each) mid → IsClaim mid (k, f) rest
+    → IsLemma tokens (record { name = w; kind = k; formula = f }, each) rest
+lemma_at (lemma_head h a) (claim i j) = g.lemma h (attributes_spelled a) i j
 
-headers : One (IsHeader (codes "lemma"))
-headers = record { one = header_one }
+abbrev LemmaParts : List Lexeme → (List ℕ × List Attribute) × (TraceKind × Formula) → List Lexeme → Type 0
+LemmaParts = Then IsLemmaHead IsClaim
 
-abbrev LemmaParts : List Lexeme → List ℕ × (TraceKind × Formula) → List Lexeme → Type 0
-LemmaParts = Then (IsHeader (codes "lemma")) (Then IsKind (IsClosed 0 s.Quote))
+lemma_split : {tokens rest : List Lexeme} {l : Lemma} {each : List Attribute} → SpellsLemma tokens l each rest → LemmaParts tokens ((l.name, each), (l.kind, l.formula)) rest
+lemma_split (g.lemma {mid = m} h a i j) = record { mid = m; first = lemma_head h (attributes_taken a refl); second = claim i j }
 
-lemma_parts : Becomes SpellsLemma LemmaParts
-lemma_parts = record { part = λ ts x r h. (at h).0; reads = λ ts x r h. (at h).1 }
-  where
-    at : {ts r : List Lexeme} {x : Lemma} → SpellsLemma ts x r → (y : List ℕ × (TraceKind × Formula)) × LemmaParts ts y r
-    at (g.lemma {w = w} {kind = k} {f = f} {tokens = ts} {body = b} h i j) = ((w, (k, f)), record { mid = ts; first = header h; second = record { mid = b; first = i; second = j } })
+lemma_parts : Becomes IsLemma LemmaParts
+lemma_parts = record { part = λ ts x r h. ((x.0.name, x.1), (x.0.kind, x.0.formula)); reads = λ ts x r h. lemma_split h }
 
-pub lemma_no_header : {tokens : List Lexeme} → NoReading (IsHeader (codes "lemma")) tokens → NoReading SpellsLemma tokens
-lemma_no_header n = no_whole lemma_parts (no_first n)
+pub lemma_no_head : {tokens : List Lexeme} → NoReading IsLemmaHead tokens → NoReading IsLemma tokens
+lemma_no_head n = no_whole lemma_parts (no_first n)
 
-pub lemma_no_kind : {w : List ℕ} {tokens mid : List Lexeme} → IsHeader (codes "lemma") tokens w mid → NoReading IsKind mid → NoReading SpellsLemma tokens
-lemma_no_kind h n = no_whole lemma_parts (no_second headers h (no_first n))
+pub lemma_no_claim : {x : List ℕ × List Attribute} {tokens mid : List Lexeme} → IsLemmaHead tokens x mid → NoReading IsClaim mid → NoReading IsLemma tokens
+lemma_no_claim h n = no_whole lemma_parts (no_second lemma_heads' h n)
 
-pub lemma_no_formula : {w : List ℕ} {k : TraceKind} {tokens mid body : List Lexeme} → IsHeader (codes "lemma") tokens w mid → IsKind mid k body → NoReading (IsClosed 0 s.Quote) body → NoReading SpellsLemma tokens
-lemma_no_formula h k n = no_whole lemma_parts (no_second headers h (no_second kinds k n))
+pub ruleset whole_lemmas = (lemma_at, lemma_no_head, lemma_no_claim)
 
-pub ruleset whole_lemmas = (lemma_at, lemma_no_header, lemma_no_kind, lemma_no_formula)
+abbrev lemma_with : (List ℕ × List Attribute) × (TraceKind × Formula) → Lemma × List Attribute
+lemma_with p = (record { name = p.0.0; kind = p.1.0; formula = p.1.1 }, p.0.1)
+
+pub lemma_one : {tokens r q : List Lexeme} {l m : Lemma} {xs ys : List Attribute} → SpellsLemma tokens l xs r → SpellsLemma tokens m ys q → (◌≡◌ {A = Lemma × List Attribute} (l, xs) (m, ys)) × (r ≡ q)
+lemma_one {l = l} {m} {xs} {ys} h k =
+    let i = (then_one lemma_heads' claims').one (lemma_split h) (lemma_split k) in
+    let e : ◌≡◌ {A = Lemma × List Attribute} (l, xs) (m, ys) = ap lemma_with i.0 in
+    (e, i.1)
 
 -- ---- the proof behind a lemma
 
 pub no_proof_there : {behind : List Token} {span : Span} → NoReading SpellsProof (lexemes behind) → span.to ≡ span.from → ReadsProofPart behind None span behind
-no_proof_there n e = record { spells = g.no_proof; greedy = n; ends = (refl, e) }
+no_proof_there n e = record { spells = g.no_proof; greedy = no_start n; ends = (refl, e) }
 
-pub proof_there : {behind rest : List Token} {p : WrittenProof} {span : Span} → SpellsProof (lexemes behind) p (lexemes rest) → IsBehind behind rest span.to → ReadsProofPart behind (Some p) span rest
-proof_there h b = record { spells = g.a_proof h; greedy = tt; ends = b }
+pub block_there : {w : List ℕ} {rest : List Lexeme} {behind : List Token} {span : Span} → IsBlock (lexemes behind) w rest → span.to ≡ span.from → ReadsProofPart behind None span behind
+block_there h e = record { spells = g.no_proof; greedy = by_block h; ends = (refl, e) }
 
-pub ruleset proof_parts = (no_proof_there, proof_there)
+pub proof_there : {behind rest : List Token} {p : WrittenProof} {span : Span} → NoReading IsBlock (lexemes behind) → SpellsProof (lexemes behind) p (lexemes rest) → IsBehind behind rest span.to → ReadsProofPart behind (Some p) span rest
+proof_there n h b = record { spells = g.a_proof h; greedy = n; ends = b }
 
-pub proved_lemma : {l : Lemma} {p : Option WrittenProof} {place : ℕ} {span : Span} {tokens behind rest : List Token} → SpellsLemma (lexemes tokens) l (lexemes behind) → IsBehind tokens behind place → ReadsProofPart behind p span rest → span.from ≡ place
-    → ReadsItem tokens (lemma_item l p) (span ∷ []) rest
+pub ruleset proof_parts = (no_proof_there, block_there, proof_there)
+
+pub proved_lemma : {l : Lemma} {each : List Attribute} {p : Option WrittenProof} {place : ℕ} {span : Span} {tokens behind rest : List Token} → IsLemma (lexemes tokens) (l, each) (lexemes behind) → IsBehind tokens behind place → ReadsProofPart behind p span rest
+    → span.from ≡ place → ReadsItem tokens (lemma_item l each p) (span ∷ []) rest
 proved_lemma {tokens = ts} {behind = us} h b r e = a_lemma h (subst (λ (q : ℕ). IsBehind ts us q) (sym e) b) r
 
 pub ruleset proved_lemmas = (proved_lemma)
+
+-- ---- restrictions
+
+pub restriction_at : {w : List ℕ} {f : Formula} {tokens body rest : List Lexeme} → IsRestrictionHead tokens w body → SpellsQuoted body f rest → SpellsRestriction tokens (record { name = w; formula = f }) rest
+restriction_at (restriction_head i h) k = g.restriction i h k
+
+abbrev RestrictionParts : List Lexeme → List ℕ × Formula → List Lexeme → Type 0
+RestrictionParts = Then IsRestrictionHead SpellsQuoted
+
+restriction_split : {tokens rest : List Lexeme} {x : Restriction} → SpellsRestriction tokens x rest → RestrictionParts tokens (x.name, x.formula) rest
+restriction_split (g.restriction {tokens = ts} i h k) = record { mid = ts; first = restriction_head i h; second = k }
+
+restriction_parts : Becomes SpellsRestriction RestrictionParts
+restriction_parts = record { part = λ ts x r h. (x.name, x.formula); reads = λ ts x r h. restriction_split h }
+
+pub restriction_no_head : {tokens : List Lexeme} → NoReading IsRestrictionHead tokens → NoReading SpellsRestriction tokens
+restriction_no_head n = no_whole restriction_parts (no_first n)
+
+pub restriction_no_formula : {w : List ℕ} {tokens body : List Lexeme} → IsRestrictionHead tokens w body → NoReading SpellsQuoted body → NoReading SpellsRestriction tokens
+restriction_no_formula h n = no_whole restriction_parts (no_second restriction_heads' h n)
+
+pub ruleset whole_restrictions = (restriction_at, restriction_no_head, restriction_no_formula)
+
+abbrev restriction_with : List ℕ × Formula → Restriction
+restriction_with p = record { name = p.0; formula = p.1 }
+
+restriction_one : {tokens r q : List Lexeme} {x y : Restriction} → SpellsRestriction tokens x r → SpellsRestriction tokens y q → (x ≡ y) × (r ≡ q)
+restriction_one {x = x} {y} h k =
+    let i = (then_one restriction_heads' quotes).one (restriction_split h) (restriction_split k) in
+    let e : x ≡ y = ap restriction_with i.0 in
+    (e, i.1)
+
+pub restrictions' : One SpellsRestriction
+restrictions' = record { one = restriction_one }

@@ -8,6 +8,9 @@ use Rattle.sp_read_parts.specs.Parts.{IsNameFirst, name}
 use Rattle.sp_read_parts.proofs.One.{One}
 use Rattle.sp_read_theory.specs.Items.{IsBuiltin, AreAll}
 
+pub tail_of : {x y : Lexeme} {r q : List Lexeme} → x ∷ r ≡ y ∷ q → r ≡ q
+tail_of e = cc
+
 -- what is read from the rest on goes on with what was found
 pub record Onward {A : Type 0} (R : List Lexeme → List A → List Lexeme → Type 0) (tokens : List Lexeme) (found : List A) (rest : List Lexeme) : Type 0 where
   pub goes : (xs : List A) (r : List Lexeme) → R rest xs r → R tokens (found ++ xs) r

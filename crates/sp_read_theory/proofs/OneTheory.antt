@@ -1,22 +1,19 @@
 -- Tokens spell one theory.
-use Rattle.std.proofs.Common.{◌≡◌, ℕ, false, true≢false, List, [], ◌∷◌, Option, Some, codes, refl, sym, ap, subst, ◌∙◌}
+use Rattle.std.proofs.Common.{◌≡◌, ℕ, false, true≢false, ◌⊎◌, inl, inr, List, [], ◌∷◌, Option, Some, codes, refl, sym, ap, subst, ◌∙◌}
 use Rattle.sp_spec_text.specs.Token.{Lexeme, word}
 use Rattle.sp_spec.specs.Theory.{Lemma}
-use Rattle.sp_spec_text.specs.Written.{WrittenProof, Item, lemma_item, WrittenText}
+use Rattle.sp_spec_text.specs.Lists.{NoReading}
+use Rattle.sp_spec_text.specs.Written.{WrittenProof, Attribute, Item, lemma_item, WrittenText}
 use Rattle.sp_spec_text.specs.Proofs.{is_method, SpellsProof}
 use Rattle.sp_read_proof.proofs.One.{proof_one}
-use Rattle.sp_read_proof.proofs.Starts.{begins_proof, proof_word, proof_not_rule, proof_not_lemma, proof_not_end}
+use Rattle.sp_read_proof.proofs.Starts.{begins_proof, proof_word, proof_not_rule, proof_not_lemma, proof_not_end, proof_no_block}
 use Rattle.sp_spec_text.specs.Theories as g
 use Rattle.sp_spec_text.specs.Theories.{SpellsDeclaration, SpellsLemma, SpellsProofPart, SpellsItems, SpellsTheory}
-use Rattle.sp_read_theory.specs.Items.{IsDeclaration, IsGreedy, the_end, AreItemsToEnd}
-use Rattle.sp_read_theory.proofs.One.{lemmas_one, lemma_not_end}
-use Rattle.sp_read_theory.proofs.Declared.{StartsWord, declaration_one, declaration_spelled, declaration_taken, declaration_word, lemma_starts, declaration_not_lemma, declaration_not_end}
-
--- where items and the end follow, a word stands first
-pub items_word : {tokens rest : List Lexeme} {items : List Item} → SpellsItems tokens items rest → rest ≡ the_end → StartsWord tokens
-items_word g.no_item e = record { first = codes "end"; others = []; are = e }
-items_word (g.declaration_first h i) e = declaration_word h
-items_word (g.lemma_first h c i) e = lemma_starts h
+use Rattle.sp_read_theory.specs.Items.{IsBlock, text_block, IsDeclaration, HasNoProof, no_start, by_block, IsGreedy, the_end, AreItemsToEnd}
+use Rattle.sp_read_theory.proofs.Follows.{items_follow, items_word}
+use Rattle.sp_read_theory.proofs.LemmaParts.{lemma_one}
+use Rattle.sp_spec_text.proofs.Words.{restriction_words}
+use Rattle.sp_read_theory.proofs.Declared.{declaration_one, declaration_spelled, declaration_taken, declaration_not_lemma, declaration_not_end, lemma_not_end, rule_start}
 
 -- ---- proofs
 
@@ -32,27 +29,59 @@ equations_begin_none : begins_proof (codes "equations") ≡ false
 unfolding is_method
 equations_begin_none = refl
 
-proof_not_declared : {tokens rest r : List Lexeme} {p : WrittenProof} {x : Item} → SpellsProof tokens p rest → SpellsDeclaration tokens x r → ⊥
-proof_not_declared h (g.builtins k) = true≢false (sym (proof_word h refl) ∙ builtins_begin_none)
-proof_not_declared h (g.functions k) = true≢false (sym (proof_word h refl) ∙ functions_begin_none)
-proof_not_declared h (g.equations k) = true≢false (sym (proof_word h refl) ∙ equations_begin_none)
-proof_not_declared h (g.a_rule (g.rule w a b c)) = proof_not_rule h refl
+heuristic_begins_none : begins_proof (codes "heuristic") ≡ false
+unfolding is_method
+heuristic_begins_none = refl
 
--- a proof begins neither as an item does nor with the end
-pub proof_no_items : {tokens rest last : List Lexeme} {p : WrittenProof} {items : List Item} → SpellsProof tokens p rest → SpellsItems tokens items last → last ≡ the_end → ⊥
-proof_no_items h g.no_item e = proof_not_end h e
-proof_no_items h (g.declaration_first k i) e = proof_not_declared h k
-proof_no_items h (g.lemma_first (g.lemma w k f) c i) e = proof_not_lemma h refl
+restriction_begins_none : begins_proof (codes "restriction") ≡ false
+unfolding is_method
+restriction_begins_none = refl
+
+axiom_begins_none : begins_proof (codes "axiom") ≡ false
+unfolding is_method
+axiom_begins_none = refl
+
+no_proof_word : {w : List ℕ} {tokens after : List Lexeme} → begins_proof w ≡ false → tokens ≡ word w ∷ after → HasNoProof tokens
+no_proof_word b e = no_start (record { none = λ p r h. true≢false (sym (proof_word h e) ∙ b) })
+
+restriction_begins : {k : List ℕ} → (k ≡ codes "restriction") ⊎ (k ≡ codes "axiom") → begins_proof k ≡ false
+restriction_begins (inl e) = ap begins_proof e ∙ restriction_begins_none
+restriction_begins (inr e) = ap begins_proof e ∙ axiom_begins_none
+
+-- no item begins as a proof does, but a block of text
+declaration_no_proof : {tokens rest : List Lexeme} {x : Item} → SpellsDeclaration tokens x rest → HasNoProof tokens
+declaration_no_proof (g.builtins k) = no_proof_word builtins_begin_none refl
+declaration_no_proof (g.functions k) = no_proof_word functions_begin_none refl
+declaration_no_proof (g.equations k) = no_proof_word equations_begin_none refl
+declaration_no_proof (g.heuristic k) = no_proof_word heuristic_begins_none refl
+declaration_no_proof (g.text_block k) = by_block (text_block k)
+declaration_no_proof (g.a_rule k) = let e = (rule_start k).are in no_start (record { none = λ p r h. proof_not_rule h e })
+declaration_no_proof (g.a_restriction (g.restriction {k = k} i j q)) = no_proof_word (restriction_begins (restriction_words k i)) refl
+
+-- nor does the end
+items_no_proof : {tokens last : List Lexeme} {items : List Item} → SpellsItems tokens items last → last ≡ the_end → HasNoProof tokens
+items_no_proof g.no_item e = no_start (record { none = λ p r h. proof_not_end h e })
+items_no_proof (g.declaration_first k i) e = declaration_no_proof k
+items_no_proof (g.lemma_first (g.lemma w a k f) c i) e = no_start (record { none = λ p r h. proof_not_lemma h refl })
+
+proof_there : {tokens rest : List Lexeme} {p : WrittenProof} → HasNoProof tokens → NoReading IsBlock tokens → SpellsProof tokens p rest → ⊥
+proof_there {rest = r} {p} (no_start n) m h = n.none p r h
+proof_there (by_block {w = w} {rest = r} b) m h = m.none w r b
+
+-- behind what begins as a block of text and is read as a proof no item follows
+block_no_proof : {tokens rest last r : List Lexeme} {p : WrittenProof} {items : List Item} {w : List ℕ} → IsBlock tokens w r → SpellsProof tokens p rest → SpellsItems rest items last → last ≡ the_end → ⊥
+block_no_proof (text_block b) h i e = proof_no_block h refl (items_word i e).are
 
 -- where items and the end follow, any proof that begins was read
 pub greedy : {tokens rest last : List Lexeme} {p : Option WrittenProof} {items : List Item} → SpellsProofPart tokens p rest → SpellsItems rest items last → last ≡ the_end → IsGreedy tokens p
-greedy g.no_proof i e = record { none = λ p r h. proof_no_items h i e }
-greedy (g.a_proof h) i e = tt
+greedy g.no_proof i e = items_no_proof i e
+greedy (g.a_proof h) i e = record { none = λ w r b. block_no_proof b h i e }
 
 pub part_one : {tokens x y last : List Lexeme} {p q : Option WrittenProof} {items : List Item} → SpellsProofPart tokens p x → IsGreedy tokens p → SpellsProofPart tokens q y → SpellsItems y items last → last ≡ the_end → (p ≡ q) × (x ≡ y)
 part_one g.no_proof n g.no_proof i e = (refl, refl)
-part_one g.no_proof n (g.a_proof {p = p} {rest = r} k) i e = absurd (n.none p r k)
-part_one (g.a_proof h) n g.no_proof i e = absurd (proof_no_items h i e)
+part_one g.no_proof (no_start n) (g.a_proof {p = p} {rest = r} k) i e = absurd (n.none p r k)
+part_one g.no_proof (by_block b) (g.a_proof k) i e = absurd (block_no_proof b k i e)
+part_one (g.a_proof h) n g.no_proof i e = absurd (proof_there (items_no_proof i e) n h)
 part_one (g.a_proof h) n (g.a_proof k) i e = let o = proof_one h k in (ap Some o.0, o.1)
 
 -- ---- items
@@ -69,20 +98,25 @@ behind_declaration h k = at h k refl
     at : {tokens mid rest : List Lexeme} {x : Item} {items : List Item} → IsDeclaration tokens x mid → SpellsItems tokens items rest → rest ≡ the_end → Behind x mid items
     at h g.no_item e = absurd (declaration_not_end (declaration_spelled h) e)
     at h (g.declaration_first {items = xs} {mid = m} k i) e =
-        let o = declaration_one h (declaration_taken k (items_word i e)) in
+        let o = declaration_one h (declaration_taken k (items_follow i e)) in
         record { others = xs; is = rw o.0 refl; spelled = rw (o.1, sym e) i }
     at h (g.lemma_first k c i) e = absurd (declaration_not_lemma (declaration_spelled h) k)
 
-pub behind_lemma : {tokens behind mid : List Lexeme} {l : Lemma} {p : Option WrittenProof} {items : List Item} → SpellsLemma tokens l behind → SpellsProofPart behind p mid → IsGreedy behind p → AreItemsToEnd tokens items → Behind (lemma_item l p) mid items
+same_item : {l m : Lemma} {as' bs : List Attribute} {p q : Option WrittenProof} → ◌≡◌ {A = Lemma × List Attribute} (l, as') (m, bs) → p ≡ q → (xs : List Item) → lemma_item l as' p ∷ xs ≡ lemma_item m bs q ∷ xs
+same_item {p = p} e f xs = ap (λ (x : Lemma × List Attribute). lemma_item x.0 x.1 p ∷ xs) e ∙ rw f refl
+
+pub behind_lemma : {tokens behind mid : List Lexeme} {l : Lemma} {each : List Attribute} {p : Option WrittenProof} {items : List Item} → SpellsLemma tokens l each behind → SpellsProofPart behind p mid → IsGreedy behind p → AreItemsToEnd tokens items
+    → Behind (lemma_item l each p) mid items
 behind_lemma h c n k = at h c n k refl
   where
-    at : {tokens behind mid rest : List Lexeme} {l : Lemma} {p : Option WrittenProof} {items : List Item} → SpellsLemma tokens l behind → SpellsProofPart behind p mid → IsGreedy behind p → SpellsItems tokens items rest → rest ≡ the_end → Behind (lemma_item l p) mid items
+    at : {tokens behind mid rest : List Lexeme} {l : Lemma} {each : List Attribute} {p : Option WrittenProof} {items : List Item} → SpellsLemma tokens l each behind → SpellsProofPart behind p mid → IsGreedy behind p → SpellsItems tokens items rest → rest ≡ the_end
+        → Behind (lemma_item l each p) mid items
     at h c n g.no_item e = absurd (lemma_not_end h e)
     at h c n (g.declaration_first k i) e = absurd (declaration_not_lemma k h)
     at h c n (g.lemma_first {p = q} {items = xs} {behind = b} {mid = m} k d i) e =
-        let o = lemmas_one.one h k in
+        let o = lemma_one h k in
         let u = part_one c n (subst (λ (ts : List Lexeme). SpellsProofPart ts q m) (sym o.1) d) i e in
-        record { others = xs; is = rw (o.0, u.0) refl; spelled = rw (u.1, sym e) i }
+        record { others = xs; is = sym (same_item o.0 u.0 xs); spelled = rw (u.1, sym e) i }
 
 pub items_one : {tokens : List Lexeme} {xs ys : List Item} → AreItemsToEnd tokens xs → AreItemsToEnd tokens ys → xs ≡ ys
 items_one h k = at h refl k
@@ -95,7 +129,7 @@ items_one h k = at h refl k
         nothing e (g.declaration_first h k) = absurd (declaration_not_end h e)
         nothing e (g.lemma_first h c k) = absurd (lemma_not_end h e)
     at (g.declaration_first h i) e k =
-        let b = behind_declaration (declaration_taken h (items_word i e)) k in
+        let b = behind_declaration (declaration_taken h (items_follow i e)) k in
         rw (at i e b.spelled, sym b.is) refl
     at (g.lemma_first h c i) e k =
         let b = behind_lemma h c (greedy c i e) k in

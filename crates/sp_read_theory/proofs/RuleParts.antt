@@ -1,19 +1,23 @@
--- Rules and the opening of a theory from their parts, and each part that may be missing.
-use Rattle.std.proofs.Common.{◌≡◌, ℕ, List, [], ◌∷◌, map, codes, refl, subst}
+-- Rules from their parts, and each part that may be missing.
+use Rattle.std.proofs.Common.{◌≡◌, ℕ, List, [], ◌∷◌, map, codes, refl, sym, ap, subst}
 use Rattle.sp_spec_text.specs.Signs as s
 use Rattle.sp_spec_text.specs.Token.{Lexeme, word, sign}
-use Rattle.sp_spec.specs.Rule.{Fact, Action}
+use Rattle.sp_spec.specs.Rule.{Fact, Action, Facts}
 use Rattle.sp_spec.specs.Formula.{Written}
 use Rattle.sp_spec.specs.Written.{WrittenRule}
+use Rattle.sp_spec_text.specs.Bindings.{Binding}
 use Rattle.sp_spec_text.specs.Lists.{IsNotFirst, NoReading, AreItems}
-use Rattle.sp_read_parts.specs.Parts.{IsNameFirst, name, IsFact}
+use Rattle.sp_read_parts.specs.Parts.{IsFact}
 use Rattle.sp_spec_text.specs.Shapes.{action_of}
-use Rattle.sp_read_parts.proofs.One.{One, name_one}
+use Rattle.sp_read_parts.proofs.One.{One}
 use Rattle.sp_read_parts.proofs.Sequence.{Fixed, fixed_none, fixed_one, Then, no_first, no_second, Becomes, no_whole}
+use Rattle.sp_read_parts.proofs.Taken.{facts_taken}
+use Rattle.sp_read_parts.proofs.LetBindings.{bindings_one}
 use Rattle.sp_spec_text.specs.Theories as g
-use Rattle.sp_spec_text.specs.Theories.{SpellsFacts, SpellsArrow, SpellsRule}
-use Rattle.sp_read_theory.specs.Items.{IsOpening, opening, IsHeader, header}
-use Rattle.sp_read_theory.proofs.One.{spelled, taken, facts_one, arrow_one, header_one}
+use Rattle.sp_spec_text.specs.Theories.{SpellsFacts, SpellsArrow, SpellsBindings, SpellsLet, SpellsRuleHead, SpellsRule}
+use Rattle.sp_read_theory.specs.Rules.{IsLet, nothing_bound, bound, IsTransition, transition, IsRule}
+use Rattle.sp_read_theory.proofs.One.{spelled, facts_one, arrow_one, lists, arrows'}
+use Rattle.sp_read_theory.proofs.RuleHeads.{then_one, rule_heads'}
 
 -- ---- lists of facts, and arrows
 
@@ -24,7 +28,7 @@ facts_parts : Becomes SpellsFacts (Then (Fixed (sign s.OpenList)) (AreItems (IsF
 facts_parts = record { part = λ ts x r h. (tt, x); reads = λ ts x r h. at h }
   where
     at : {ts r : List Lexeme} {x : List (Fact Written)} → SpellsFacts ts x r → Then (Fixed (sign s.OpenList)) (AreItems (IsFact 0) s.CloseList) ts (tt, x) r
-    at (g.facts {tokens = ts} h) = record { mid = ts; first = refl; second = taken h }
+    at (g.facts {tokens = ts} h) = record { mid = ts; first = refl; second = facts_taken (λ e. cc) h }
 
 pub no_facts : {tokens : List Lexeme} → IsNotFirst (sign s.OpenList) tokens → NoReading SpellsFacts tokens
 no_facts d = no_whole facts_parts (no_first (fixed_none d))
@@ -52,93 +56,114 @@ no_labels e n = record { none = λ x r h. at h e n }
   where
     at : {ts r inside : List Lexeme} {x : List (Fact Written)} → SpellsArrow ts x r → ts ≡ sign s.OpenArrow ∷ inside → NoReading (AreItems (IsFact 0) s.CloseArrow) inside → ⊥
     at g.unlabelled e n = cc
-    at {inside = i} (g.labelled {fs = fs} {tokens = ts} {rest = r} h) e n = let f : ts ≡ i = cc in n.none fs r (subst (λ (l : List Lexeme). AreItems (IsFact 0) s.CloseArrow l fs r) f (taken h))
+    at {inside = i} (g.labelled {fs = fs} {tokens = ts} {rest = r} h) e n =
+        let f : ts ≡ i = cc in n.none fs r (subst (λ (l : List Lexeme). AreItems (IsFact 0) s.CloseArrow l fs r) f (facts_taken (λ d. cc) h))
 
 pub ruleset arrows = (unlabelled_at, labelled_at, no_arrow, no_labels)
 
--- ---- headers and rules
+-- ---- the facts of a rule
 
-names : One IsNameFirst
-names = record { one = name_one }
+pub transition_at : {ps as' cs : List (Fact Written)} {shown : List (Action Written)} {tokens mid behind rest : List Lexeme} → SpellsFacts tokens ps mid → SpellsArrow mid as' behind → SpellsFacts behind cs rest → shown ≡ map action_of as'
+    → IsTransition tokens (record { premises = ps; actions = shown; conclusions = cs }) rest
+transition_at h i j e = rw e (transition h i j)
 
-pub header_at : {keyword w : List ℕ} {tokens mid behind rest : List Lexeme} → tokens ≡ word keyword ∷ mid → IsNameFirst mid w behind → behind ≡ sign s.Colon ∷ rest → IsHeader keyword tokens w rest
-header_at {keyword} {w} {tokens} {rest = rest} e h f = at e h f
+abbrev TransitionParts : List Lexeme → List (Fact Written) × (List (Fact Written) × List (Fact Written)) → List Lexeme → Type 0
+TransitionParts = Then SpellsFacts (Then SpellsArrow SpellsFacts)
+
+transition_parts : Becomes IsTransition TransitionParts
+transition_parts = record { part = λ ts x r h. (at h).0; reads = λ ts x r h. (at h).1 }
   where
-    at : {keyword w : List ℕ} {tokens mid behind rest : List Lexeme} → tokens ≡ word keyword ∷ mid → IsNameFirst mid w behind → behind ≡ sign s.Colon ∷ rest → IsHeader keyword tokens w rest
-    at e (name h) f = rw (e, f) (header h)
+    at : {ts r : List Lexeme} {x : Facts Written} → IsTransition ts x r → (y : List (Fact Written) × (List (Fact Written) × List (Fact Written))) × TransitionParts ts y r
+    at (transition {premises = ps} {actions = as'} {conclusions = cs} {mid = b} {behind = c} h i j) =
+        ((ps, (as', cs)), record { mid = b; first = h; second = record { mid = c; first = i; second = j } })
 
-header_parts : {keyword : List ℕ} → Becomes (IsHeader keyword) (Then (Fixed (word keyword)) (Then IsNameFirst (Fixed (sign s.Colon))))
-header_parts {keyword} = record { part = λ ts x r h. (tt, (x, tt)); reads = λ ts x r h. at h }
+pub transition_no_premises : {tokens : List Lexeme} → NoReading SpellsFacts tokens → NoReading IsTransition tokens
+transition_no_premises n = no_whole transition_parts (no_first n)
+
+pub transition_no_arrow : {ps : List (Fact Written)} {tokens mid : List Lexeme} → SpellsFacts tokens ps mid → NoReading SpellsArrow mid → NoReading IsTransition tokens
+transition_no_arrow h n = no_whole transition_parts (no_second lists h (no_first n))
+
+pub transition_no_conclusions : {ps as' : List (Fact Written)} {tokens mid behind : List Lexeme} → SpellsFacts tokens ps mid → SpellsArrow mid as' behind → NoReading SpellsFacts behind → NoReading IsTransition tokens
+transition_no_conclusions h i n = no_whole transition_parts (no_second lists h (no_second arrows' i n))
+
+pub ruleset transitions = (transition_at, transition_no_premises, transition_no_arrow, transition_no_conclusions)
+
+transition_one : {tokens r q : List Lexeme} {x y : Facts Written} → IsTransition tokens x r → IsTransition tokens y q → (x ≡ y) × (r ≡ q)
+transition_one (transition h i j) (transition {actions = bs} {conclusions = ds} {behind = b} {rest = q} k l m) =
+    let a = facts_one h k in
+    let o = arrow_one i (subst (λ (us : List Lexeme). SpellsArrow us bs b) (sym a.1) l) in
+    let u = facts_one j (subst (λ (us : List Lexeme). SpellsFacts us ds q) (sym o.1) m) in
+    (rw (a.0, o.0, u.0) refl, u.1)
+
+transitions' : One IsTransition
+transitions' = record { one = transition_one }
+
+-- ---- bindings that may stand there
+
+pub bound_at : {bs : List Binding} {tokens inside rest : List Lexeme} → tokens ≡ word (codes "let") ∷ inside → SpellsBindings inside bs rest → IsLet tokens bs rest
+bound_at e h = rw e (bound h)
+
+pub let_none : {tokens inside : List Lexeme} → tokens ≡ word (codes "let") ∷ inside → NoReading SpellsBindings inside → NoReading IsLet tokens
+let_none e n = record { none = λ bs r h. at h e n }
   where
-    at : {keyword : List ℕ} {ts r : List Lexeme} {x : List ℕ} → IsHeader keyword ts x r → Then (Fixed (word keyword)) (Then IsNameFirst (Fixed (sign s.Colon))) ts (tt, (x, tt)) r
-    at (header {w = w} {rest = r} h) = record { mid = word w ∷ sign s.Colon ∷ r; first = refl; second = record { mid = sign s.Colon ∷ r; first = name h; second = refl } }
+    at : {ts inside r : List Lexeme} {bs : List Binding} → IsLet ts bs r → ts ≡ word (codes "let") ∷ inside → NoReading SpellsBindings inside → ⊥
+    at {inside = i} (nothing_bound d) e n = d i e
+    at {inside = i} (bound {bs = bs} {tokens = ts} {rest = r} h) e n = let f : ts ≡ i = cc in n.none bs r (subst (λ (us : List Lexeme). SpellsBindings us bs r) f h)
 
-pub header_no_keyword : {keyword : List ℕ} {tokens : List Lexeme} → IsNotFirst (word keyword) tokens → NoReading (IsHeader keyword) tokens
-header_no_keyword d = no_whole header_parts (no_first (fixed_none d))
+pub ruleset lets = (nothing_bound, bound_at, let_none)
 
-pub header_no_name : {keyword : List ℕ} {tokens mid : List Lexeme} → tokens ≡ word keyword ∷ mid → NoReading IsNameFirst mid → NoReading (IsHeader keyword) tokens
-header_no_name e n = no_whole header_parts (no_second {x = tt} fixed_one e (no_first n))
+let_one : {tokens r q : List Lexeme} {bs cs : List Binding} → IsLet tokens bs r → IsLet tokens cs q → (bs ≡ cs) × (r ≡ q)
+let_one (nothing_bound d) (nothing_bound e) = (refl, refl)
+let_one (nothing_bound d) (bound {tokens = ts} h) = absurd (d ts refl)
+let_one (bound {tokens = ts} h) (nothing_bound d) = absurd (d ts refl)
+let_one (bound h) (bound k) = bindings_one h k
 
-pub header_no_colon : {keyword w : List ℕ} {tokens mid behind : List Lexeme} → tokens ≡ word keyword ∷ mid → IsNameFirst mid w behind → IsNotFirst (sign s.Colon) behind → NoReading (IsHeader keyword) tokens
-header_no_colon e h d = no_whole header_parts (no_second {x = tt} fixed_one e (no_second names h (fixed_none d)))
+lets' : One IsLet
+lets' = record { one = let_one }
 
-pub ruleset headers = (header_at, header_no_keyword, header_no_name, header_no_colon)
+let_spelled : {tokens rest : List Lexeme} {bs : List Binding} → IsLet tokens bs rest → SpellsLet tokens bs rest
+let_spelled (nothing_bound d) = g.no_let
+let_spelled (bound h) = g.let_in h
 
-headers' : {keyword : List ℕ} → One (IsHeader keyword)
-headers' = record { one = header_one }
+-- before facts in brackets no `let` stands
+let_taken : {tokens mid rest : List Lexeme} {bs : List Binding} {fs : List (Fact Written)} → SpellsLet tokens bs mid → SpellsFacts mid fs rest → IsLet tokens bs mid
+let_taken g.no_let (g.facts k) = nothing_bound (λ r e. cc)
+let_taken (g.let_in h) k = bound h
 
-lists : One SpellsFacts
-lists = record { one = facts_one }
+-- ---- rules
 
-arrows' : One SpellsArrow
-arrows' = record { one = arrow_one }
+pub rule_at : {w : List ℕ} {bs cs : List Binding} {fs : Facts Written} {q : WrittenRule} {tokens body inner rest : List Lexeme} → SpellsRuleHead tokens w body → IsLet body bs inner → IsTransition inner fs rest → cs ≡ bs → q ≡ record { name = w; facts = fs }
+    → IsRule tokens (cs, q) rest
+rule_at h l (transition i j k) e f = rw (e, f) (g.rule h (let_spelled l) i j k)
 
-abbrev RuleParts : List Lexeme → List ℕ × (List (Fact Written) × (List (Fact Written) × List (Fact Written))) → List Lexeme → Type 0
-RuleParts = Then (IsHeader (codes "rule")) (Then SpellsFacts (Then SpellsArrow SpellsFacts))
+abbrev Parts : List Lexeme → List ℕ × (List Binding × Facts Written) → List Lexeme → Type 0
+Parts = Then SpellsRuleHead (Then IsLet IsTransition)
 
-rule_parts : Becomes SpellsRule RuleParts
-rule_parts = record { part = λ ts x r h. (at h).0; reads = λ ts x r h. (at h).1 }
-  where
-    at : {ts r : List Lexeme} {x : WrittenRule} → SpellsRule ts x r → (y : List ℕ × (List (Fact Written) × (List (Fact Written) × List (Fact Written)))) × RuleParts ts y r
-    at (g.rule {w = w} {premises = ps} {actions = as'} {conclusions = cs} {tokens = a} {mid = b} {behind = c} h i j k) =
-        ((w, (ps, (as', cs))), record { mid = a; first = header h; second = record { mid = b; first = i; second = record { mid = c; first = j; second = k } } })
+rule_split : {tokens rest : List Lexeme} {bs : List Binding} {q : WrittenRule} → SpellsRule tokens bs q rest → Parts tokens (q.name, (bs, q.facts)) rest
+rule_split (g.rule {body = b} {facts = f} h l i j k) = record { mid = b; first = h; second = record { mid = f; first = let_taken l i; second = transition i j k } }
 
-pub rule_at : {w : List ℕ} {ps as' cs : List (Fact Written)} {shown : List (Action Written)} {tokens body mid behind rest : List Lexeme} → IsHeader (codes "rule") tokens w body → SpellsFacts body ps mid → SpellsArrow mid as' behind → SpellsFacts behind cs rest → shown ≡ map action_of as'
-    → SpellsRule tokens (record { name = w; facts = record { premises = ps; actions = shown; conclusions = cs } }) rest
-rule_at (header h) i j k e = rw e (g.rule h i j k)
+rule_parts : Becomes IsRule Parts
+rule_parts = record { part = λ ts x r h. (x.1.name, (x.0, x.1.facts)); reads = λ ts x r h. rule_split h }
 
-pub rule_no_header : {tokens : List Lexeme} → NoReading (IsHeader (codes "rule")) tokens → NoReading SpellsRule tokens
-rule_no_header n = no_whole rule_parts (no_first n)
+pub rule_no_head : {tokens : List Lexeme} → NoReading SpellsRuleHead tokens → NoReading IsRule tokens
+rule_no_head n = no_whole rule_parts (no_first n)
 
-pub rule_no_premises : {w : List ℕ} {tokens body : List Lexeme} → IsHeader (codes "rule") tokens w body → NoReading SpellsFacts body → NoReading SpellsRule tokens
-rule_no_premises h n = no_whole rule_parts (no_second headers' h (no_first n))
+pub rule_no_let : {w : List ℕ} {tokens body : List Lexeme} → SpellsRuleHead tokens w body → NoReading IsLet body → NoReading IsRule tokens
+rule_no_let h n = no_whole rule_parts (no_second rule_heads' h (no_first n))
 
-pub rule_no_arrow : {w : List ℕ} {ps : List (Fact Written)} {tokens body mid : List Lexeme} → IsHeader (codes "rule") tokens w body → SpellsFacts body ps mid → NoReading SpellsArrow mid → NoReading SpellsRule tokens
-rule_no_arrow h i n = no_whole rule_parts (no_second headers' h (no_second lists i (no_first n)))
+pub rule_no_transition : {w : List ℕ} {bs : List Binding} {tokens body inner : List Lexeme} → SpellsRuleHead tokens w body → IsLet body bs inner → NoReading IsTransition inner → NoReading IsRule tokens
+rule_no_transition h l n = no_whole rule_parts (no_second rule_heads' h (no_second lets' l n))
 
-pub rule_no_conclusions : {w : List ℕ} {ps as' : List (Fact Written)} {tokens body mid behind : List Lexeme} → IsHeader (codes "rule") tokens w body → SpellsFacts body ps mid → SpellsArrow mid as' behind → NoReading SpellsFacts behind → NoReading SpellsRule tokens
-rule_no_conclusions h i j n = no_whole rule_parts (no_second headers' h (no_second lists i (no_second arrows' j n)))
+pub ruleset rule_items = (rule_at, rule_no_head, rule_no_let, rule_no_transition)
 
-pub ruleset rule_items = (rule_at, rule_no_header, rule_no_premises, rule_no_arrow, rule_no_conclusions)
+abbrev rule_with : List ℕ × (List Binding × Facts Written) → List Binding × WrittenRule
+rule_with p = (p.1.0, record { name = p.0; facts = p.1.1 })
 
--- ---- the opening
+pub rule_one : {tokens p q : List Lexeme} {bs cs : List Binding} {r s : WrittenRule} → SpellsRule tokens bs r p → SpellsRule tokens cs s q → (◌≡◌ {A = List Binding × WrittenRule} (bs, r) (cs, s)) × (p ≡ q)
+rule_one {bs = bs} {cs} {r} {s} h k =
+    let i = (then_one rule_heads' (then_one lets' transitions')).one (rule_split h) (rule_split k) in
+    let e : ◌≡◌ {A = List Binding × WrittenRule} (bs, r) (cs, s) = ap rule_with i.0 in
+    (e, i.1)
 
-pub opening_at : {w : List ℕ} {tokens mid behind rest : List Lexeme} → tokens ≡ word (codes "theory") ∷ mid → IsNameFirst mid w behind → behind ≡ word (codes "begin") ∷ rest → IsOpening tokens w rest
-opening_at e (name h) f = rw (e, f) (opening h)
-
-opening_parts : Becomes IsOpening (Then (Fixed (word (codes "theory"))) (Then IsNameFirst (Fixed (word (codes "begin")))))
-opening_parts = record { part = λ ts x r h. (tt, (x, tt)); reads = λ ts x r h. at h }
-  where
-    at : {ts r : List Lexeme} {x : List ℕ} → IsOpening ts x r → Then (Fixed (word (codes "theory"))) (Then IsNameFirst (Fixed (word (codes "begin")))) ts (tt, (x, tt)) r
-    at (opening {w = w} {rest = r} h) = record { mid = word w ∷ word (codes "begin") ∷ r; first = refl; second = record { mid = word (codes "begin") ∷ r; first = name h; second = refl } }
-
-pub opening_no_theory : {tokens : List Lexeme} → IsNotFirst (word (codes "theory")) tokens → NoReading IsOpening tokens
-opening_no_theory d = no_whole opening_parts (no_first (fixed_none d))
-
-pub opening_no_name : {tokens mid : List Lexeme} → tokens ≡ word (codes "theory") ∷ mid → NoReading IsNameFirst mid → NoReading IsOpening tokens
-opening_no_name e n = no_whole opening_parts (no_second {x = tt} fixed_one e (no_first n))
-
-pub opening_no_begin : {w : List ℕ} {tokens mid behind : List Lexeme} → tokens ≡ word (codes "theory") ∷ mid → IsNameFirst mid w behind → IsNotFirst (word (codes "begin")) behind → NoReading IsOpening tokens
-opening_no_begin e h d = no_whole opening_parts (no_second {x = tt} fixed_one e (no_second names h (fixed_none d)))
-
-pub ruleset openings = (opening_at, opening_no_theory, opening_no_name, opening_no_begin)
+pub rules' : One IsRule
+rules' = record { one = λ h k. rule_one h k }

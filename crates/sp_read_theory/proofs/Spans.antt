@@ -13,9 +13,9 @@ use Rattle.sp_spec_text.specs.Theories as g
 use Rattle.sp_spec_text.specs.Theories.{SpellsProofPart, SpellsItems}
 use Rattle.sp_read_theory.specs.Items.{the_end}
 use Rattle.sp_spec_text.specs.Spans.{IsBehind, EndsAt, EndsWith, AreSpans, no_span, past_declaration, past_lemma, is_feed, goes_on, Rise}
-use Rattle.sp_read_theory.proofs.One.{lemmas_one}
-use Rattle.sp_read_theory.proofs.Declared.{StartsWord, declaration_one, declaration_taken, declaration_word, lemma_starts, declaration_not_lemma}
-use Rattle.sp_read_theory.proofs.OneTheory.{items_word}
+use Rattle.sp_read_theory.proofs.Follows.{StartsWord, declaration_word, lemma_starts, items_word}
+use Rattle.sp_read_theory.proofs.LemmaParts.{lemma_one}
+use Rattle.sp_read_theory.proofs.Declared.{declaration_rest, declaration_not_lemma}
 use Rattle.sp_read_theory.proofs.Suffix.{end_one, behind_one}
 
 -- ---- one span for each lemma
@@ -47,12 +47,12 @@ pub spans_one : {tokens : List Token} {items : List Item} {ss ts : List Span} �
 spans_one no_span no_span = refl
 spans_one (past_declaration {items = []} r e h) (past_declaration q f k) = no_spans h k
 spans_one {ts = ts} (past_declaration {items = x ∷ xs} r e h) (past_declaration q f k) =
-    let o = end_one e f (declaration_one (declaration_taken r (spans_word h)) (declaration_taken q (spans_word k))).1 in
+    let o = end_one e f (declaration_rest r q (spans_word h) (spans_word k)) in
     spans_one h (subst (λ (us : List Token). AreSpans us (x ∷ xs) ts) (sym o) k)
 spans_one (past_declaration r e h) (past_lemma l b c f k) = absurd (declaration_not_lemma r l)
 spans_one (past_lemma l b c f k) (past_declaration r e h) = absurd (declaration_not_lemma r l)
 spans_one (past_lemma {p = p} {items = xs} {span = s} {behind = y} {mid = m} l b c e h) (past_lemma {span = t} {spans = ts} {mid = n} o d i f k) =
-    let u = behind_one b d (lemmas_one.one l o).1 in
+    let u = behind_one b d (lemma_one l o).1 in
     let i' = subst (λ (us : List Token). SpellsProofPart (lexemes us) p (lexemes n)) (sym u.1) i in
     let f' = subst (λ (us : List Token). EndsAt us n p t) (sym u.1) f in
     let v = ends_one y m n p e f' u.0 (proof_rest c i') in
@@ -114,14 +114,14 @@ pub rise : {end : ℕ} (text : List ℕ) {tokens : List Token} {items : List Ite
 rise text {tokens = ts} no_span g.no_item e h = last_above ts e h
 rise text {tokens = ts} (past_declaration {items = []} r b s) (g.declaration_first q i) e h = none_rise text s (first_above ts (declaration_word r) h)
 rise text {after = after} (past_declaration {items = x ∷ xs} r b s) (g.declaration_first q i) e h =
-    let o = (declaration_one (declaration_taken r (spans_word s)) (declaration_taken q (items_word i e))).1 in
+    let o = declaration_rest r q (spans_word s) (items_word i e) in
     rise text s (subst (λ (us : List Lexeme). SpellsItems us (x ∷ xs) after) (sym o) i) e (rising_ends b h)
 rise text (past_declaration r b s) (g.lemma_first o d i) e h = absurd (declaration_not_lemma r o)
 rise text (past_lemma l b c f k) (g.declaration_first q i) e h = absurd (declaration_not_lemma q l)
 rise text {after = after} (past_lemma {p = p} {items = xs} {span = s} {behind = y} {mid = m} l b c f k) (g.lemma_first {mid = n} o d i) e h =
     let u = rising_behind b h in
     let v = ends_above y m p s f u.2 in
-    let d' = subst (λ (us : List Lexeme). SpellsProofPart us p n) (sym (lemmas_one.one l o).1) d in
+    let d' = subst (λ (us : List Lexeme). SpellsProofPart us p n) (sym (lemma_one l o).1) d in
     let j = subst (λ (us : List Lexeme). SpellsItems us xs after) (sym (proof_rest c d')) i in
     (u.0, v.0, rise text k j e (rising_from v.1 (goes_above text s)))
 

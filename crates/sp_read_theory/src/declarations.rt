@@ -1,15 +1,16 @@
-// What a theory declares: builtins, functions and equations, each a list with commas that nothing closes; and rules.
+// What a theory declares: builtins, functions and equations, each a list with commas that nothing closes; the words of a heuristic; blocks of text,
+// rules and restrictions.
 
-ghost use Rattle.std.specs.Prelude.{◌≡◌, ◌++◌, [], ◌∷◌, map, MatchOption, IfSome, IfOk, OnOk, ◌≤◌, ◌<◌, length, codes};
-ghost use Rattle.sp_spec_text.specs.Signs as signs;
-ghost use Rattle.sp_spec_text.specs.Token.{word, sign};
+ghost use Rattle.std.specs.Prelude.{◌≡◌, ◌++◌, [], ◌∷◌, map, MatchOption, IfSome, IfOk, OnOk, ◌≤◌, ◌<◌, length};
 ghost use Rattle.sp_spec_text.specs.Lists.{NoReading};
-ghost use Rattle.sp_spec_text.specs.Theories.{SpellsRule};
-ghost use Rattle.sp_read_theory.specs.Items.{IsBuiltin, IsFunction, IsEquation, AreAll, Headed, NotHeaded, IsDeclaration};
+ghost use Rattle.sp_read_theory.specs.Items.{IsBuiltin, IsFunction, IsEquation, AreAll, Headed, NotHeaded, IsBuiltins, AreFunctions, AreEquations, IsHeuristic, IsListing, IsStatement, IsDeclaration};
 ghost use Rattle.sp_read_theory.specs.Views as view;
 ghost use Rattle.sp_read_theory.specs.Views.{seen_from};
 
-use crate::rules::rule;
+use crate::blocks::block_item;
+use crate::heuristic::words;
+use crate::lemmas::restriction_item;
+use crate::rules::rule_item;
 use crate::symbols::function;
 use sp_fact::signature::Symbol;
 use sp_lex::{Sign, Token};
@@ -181,75 +182,137 @@ fn equations<'a>(
     }
 }
 
-/// The item of builtins that stand behind their keyword, and the place behind the last.
-#[tactic(auto, using(crate::proofs::Declared::kinds_of_items))]
+/// The item of builtins behind the keyword and a colon, and the place behind it.
+#[tactic(auto, using(crate::proofs::Making::items_made))]
 fn builtins_item<'a>(
     alloc: Global,
     tokens: &[Token<'a>],
     at: usize,
 ) -> Result<Option<(Item<'a>, usize)>, AllocError>
-    ensures value { IfOk result (λ o. MatchOption o (NoReading (AreAll IsBuiltin) (seen_from tokens.now at)) (λ x. IsDeclaration (word (codes "builtins") ∷ sign signs.Colon ∷ seen_from tokens.now at) (view.item x.0) (seen_from tokens.now x.1))) }
+    ensures value { IfOk result (λ o. MatchOption o (NoReading IsBuiltins (seen_from tokens.now at)) (λ x. IsBuiltins (seen_from tokens.now at) (view.item x.0) (seen_from tokens.now x.1))) }
     ensures spans { IfOk result (λ o. IfSome o (λ x. view.spans (x.0 ∷ []) ≡ [])) }
     ensures further { IfOk result (λ o. IfSome o (λ x. (at < x.1) × (x.1 ≤ length tokens.now))) }
 {
-    let Some((found, rest)) = builtins(alloc, tokens, at)? else {
+    let Some(inside) = headed("builtins", tokens, at) else {
+        return Ok(None);
+    };
+    let Some((found, rest)) = builtins(alloc, tokens, inside)? else {
         return Ok(None);
     };
     Ok(Some((Item::Builtins(found), rest)))
 }
 
-/// The item of functions that stand behind their keyword, and the place behind the last.
-#[tactic(auto, using(crate::proofs::Declared::kinds_of_items))]
+/// The item of functions behind the keyword and a colon, and the place behind it.
+#[tactic(auto, using(crate::proofs::Making::items_made))]
 fn functions_item<'a>(
     alloc: Global,
     tokens: &[Token<'a>],
     at: usize,
 ) -> Result<Option<(Item<'a>, usize)>, AllocError>
-    ensures value { IfOk result (λ o. MatchOption o (NoReading (AreAll IsFunction) (seen_from tokens.now at)) (λ x. IsDeclaration (word (codes "functions") ∷ sign signs.Colon ∷ seen_from tokens.now at) (view.item x.0) (seen_from tokens.now x.1))) }
+    ensures value { IfOk result (λ o. MatchOption o (NoReading AreFunctions (seen_from tokens.now at)) (λ x. AreFunctions (seen_from tokens.now at) (view.item x.0) (seen_from tokens.now x.1))) }
     ensures spans { IfOk result (λ o. IfSome o (λ x. view.spans (x.0 ∷ []) ≡ [])) }
     ensures further { IfOk result (λ o. IfSome o (λ x. (at < x.1) × (x.1 ≤ length tokens.now))) }
 {
-    let Some((found, rest)) = functions(alloc, tokens, at)? else {
+    let Some(inside) = headed("functions", tokens, at) else {
+        return Ok(None);
+    };
+    let Some((found, rest)) = functions(alloc, tokens, inside)? else {
         return Ok(None);
     };
     Ok(Some((Item::Functions(found), rest)))
 }
 
-/// The item of equations that stand behind their keyword, and the place behind the last.
-#[tactic(auto, using(crate::proofs::Declared::kinds_of_items))]
+/// The item of equations behind the keyword and a colon, and the place behind it.
+#[tactic(auto, using(crate::proofs::Making::items_made))]
 fn equations_item<'a>(
     alloc: Global,
     tokens: &[Token<'a>],
     at: usize,
 ) -> Result<Option<(Item<'a>, usize)>, AllocError>
-    ensures value { IfOk result (λ o. MatchOption o (NoReading (AreAll IsEquation) (seen_from tokens.now at)) (λ x. IsDeclaration (word (codes "equations") ∷ sign signs.Colon ∷ seen_from tokens.now at) (view.item x.0) (seen_from tokens.now x.1))) }
+    ensures value { IfOk result (λ o. MatchOption o (NoReading AreEquations (seen_from tokens.now at)) (λ x. AreEquations (seen_from tokens.now at) (view.item x.0) (seen_from tokens.now x.1))) }
     ensures spans { IfOk result (λ o. IfSome o (λ x. view.spans (x.0 ∷ []) ≡ [])) }
     ensures further { IfOk result (λ o. IfSome o (λ x. (at < x.1) × (x.1 ≤ length tokens.now))) }
 {
-    let Some((found, rest)) = equations(alloc, tokens, at)? else {
+    let Some(inside) = headed("equations", tokens, at) else {
+        return Ok(None);
+    };
+    let Some((found, rest)) = equations(alloc, tokens, inside)? else {
         return Ok(None);
     };
     Ok(Some((Item::Equations(found), rest)))
 }
 
-/// The item of a rule, and the place behind it.
-#[tactic(auto, using(crate::proofs::Declared::kinds_of_items))]
-fn rule_item<'a>(
+/// The item of a heuristic behind the keyword and a colon, and the place behind it.
+#[tactic(auto, using(crate::proofs::Making::items_made))]
+fn heuristic_item<'a>(
     alloc: Global,
     tokens: &[Token<'a>],
     at: usize,
 ) -> Result<Option<(Item<'a>, usize)>, AllocError>
-    ensures value { IfOk result (λ o. MatchOption o (NoReading SpellsRule (seen_from tokens.now at)) (λ x. IsDeclaration (seen_from tokens.now at) (view.item x.0) (seen_from tokens.now x.1))) }
+    ensures value { IfOk result (λ o. MatchOption o (NoReading IsHeuristic (seen_from tokens.now at)) (λ x. IsHeuristic (seen_from tokens.now at) (view.item x.0) (seen_from tokens.now x.1))) }
     ensures spans { IfOk result (λ o. IfSome o (λ x. view.spans (x.0 ∷ []) ≡ [])) }
     ensures further { IfOk result (λ o. IfSome o (λ x. (at < x.1) × (x.1 ≤ length tokens.now))) }
 {
-    let Some((found, rest)) = rule(alloc, tokens, at)? else {
+    let Some(inside) = headed("heuristic", tokens, at) else {
         return Ok(None);
     };
-    Ok(Some((Item::Rule(found), rest)))
+    let Some((found, rest)) = words(alloc, tokens, inside)? else {
+        return Ok(None);
+    };
+    Ok(Some((Item::Heuristic(found), rest)))
 }
 
-/// What a theory declares here, or a rule, and the place behind it.
+/// A block of text, a rule or a restriction, and the place behind it.
+#[tactic(auto, using(crate::proofs::Making::alternatives))]
+fn plain_statement<'a>(
+    alloc: Global,
+    tokens: &[Token<'a>],
+    at: usize,
+) -> Result<Option<(Item<'a>, usize)>, AllocError>
+    ensures value { IfOk result (λ o. MatchOption o (NoReading IsStatement (seen_from tokens.now at)) (λ x. IsStatement (seen_from tokens.now at) (view.item x.0) (seen_from tokens.now x.1))) }
+    ensures spans { IfOk result (λ o. IfSome o (λ x. view.spans (x.0 ∷ []) ≡ [])) }
+    ensures further { IfOk result (λ o. IfSome o (λ x. (at < x.1) × (x.1 ≤ length tokens.now))) }
+{
+    if let Some((found, rest)) = block_item(tokens, at) {
+        return Ok(Some((found, rest)));
+    }
+    if let Some((found, rest)) = rule_item(alloc, tokens, at)? {
+        return Ok(Some((found, rest)));
+    }
+    match restriction_item(alloc, tokens, at)? {
+        Some((found, rest)) => Ok(Some((found, rest))),
+        None => Ok(None),
+    }
+}
+
+/// What a keyword and a colon stand before, and the place behind it.
+#[tactic(auto, using(crate::proofs::Making::alternatives))]
+fn listing<'a>(
+    alloc: Global,
+    tokens: &[Token<'a>],
+    at: usize,
+) -> Result<Option<(Item<'a>, usize)>, AllocError>
+    ensures value { IfOk result (λ o. MatchOption o (NoReading IsListing (seen_from tokens.now at)) (λ x. IsListing (seen_from tokens.now at) (view.item x.0) (seen_from tokens.now x.1))) }
+    ensures spans { IfOk result (λ o. IfSome o (λ x. view.spans (x.0 ∷ []) ≡ [])) }
+    ensures further { IfOk result (λ o. IfSome o (λ x. (at < x.1) × (x.1 ≤ length tokens.now))) }
+{
+    if let Some((found, rest)) = builtins_item(alloc, tokens, at)? {
+        return Ok(Some((found, rest)));
+    }
+    if let Some((found, rest)) = functions_item(alloc, tokens, at)? {
+        return Ok(Some((found, rest)));
+    }
+    if let Some((found, rest)) = equations_item(alloc, tokens, at)? {
+        return Ok(Some((found, rest)));
+    }
+    match heuristic_item(alloc, tokens, at)? {
+        Some((found, rest)) => Ok(Some((found, rest))),
+        None => Ok(None),
+    }
+}
+
+/// What a theory declares here, but for lemmas, and the place behind it.
+#[tactic(auto, using(crate::proofs::Making::alternatives))]
 pub fn declaration<'a>(
     alloc: Global,
     tokens: &[Token<'a>],
@@ -260,14 +323,11 @@ pub fn declaration<'a>(
     ensures spans { IfOk result (λ o. IfSome o (λ x. view.spans (x.0 ∷ []) ≡ [])) }
     ensures further { IfOk result (λ o. IfSome o (λ x. (at < x.1) × (x.1 ≤ length tokens.now))) }
 {
-    if let Some(inside) = headed("builtins", tokens, at) {
-        return builtins_item(alloc, tokens, inside);
+    if let Some((found, rest)) = listing(alloc, tokens, at)? {
+        return Ok(Some((found, rest)));
     }
-    if let Some(inside) = headed("functions", tokens, at) {
-        return functions_item(alloc, tokens, inside);
+    match plain_statement(alloc, tokens, at)? {
+        Some((found, rest)) => Ok(Some((found, rest))),
+        None => Ok(None),
     }
-    if let Some(inside) = headed("equations", tokens, at) {
-        return equations_item(alloc, tokens, inside);
-    }
-    rule_item(alloc, tokens, at)
 }

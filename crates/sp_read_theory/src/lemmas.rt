@@ -1,21 +1,27 @@
+// Lemmas with their proofs, and restrictions.
+
 ghost use Rattle.std.specs.Prelude.{◌≡◌, [], ◌∷◌, MatchOption, IfSome, IfOk, OnOk, None, option_map, ◌≤◌, ◌<◌, ◌-◌, length, drop, map, codes};
 ghost use Rattle.sp_lex.specs.Views.{tokens_of};
 ghost use Rattle.sp_lex.specs.declared.token.Token as lexer;
 ghost use Rattle.sp_spec_text.specs.Written.{lemma_item};
 ghost use Rattle.sp_spec_text.specs.Lists.{NoReading};
-ghost use Rattle.sp_spec_text.specs.Theories.{SpellsLemma};
-ghost use Rattle.sp_read_theory.specs.Items.{Dashed, NotDashed, IsKind, ReadsProofPart, ReadsItem};
+ghost use Rattle.sp_spec_text.specs.Theories.{SpellsRestriction};
+ghost use Rattle.sp_read_theory.specs.Lemmas.{Dashed, NotDashed, IsKind, IsClaim, IsLemma};
+ghost use Rattle.sp_read_theory.specs.Items.{IsRestrictionItem, ReadsProofPart, ReadsItem};
 ghost use Rattle.sp_spec_text.specs.Spans.{IsBehind};
 ghost use Rattle.sp_read_theory.specs.Views as view;
 ghost use Rattle.sp_read_theory.specs.Views.{seen_from};
 
-use crate::rules::header;
+use crate::attributes::{lemma_head, restriction_head};
+use crate::blocks::text_block;
 use sp_lex::{Sign, Token};
 use sp_read_parts::ReadFormula;
 use sp_read_parts::cursor::{after, behind};
-use sp_read_parts::formulas::formula;
+use sp_read_parts::quoted::quoted_formula;
 use sp_read_proof::proof;
-use sp_written::{Span, TraceKind, WrittenLemma, WrittenProof};
+use sp_written::{
+    Attribute, Item, Span, TraceKind, WrittenLemma, WrittenProof, WrittenRestriction,
+};
 use std::alloc::{AllocError, Global};
 
 /// The place behind two words with a dash between them and a double quote, if they stand first.
@@ -60,10 +66,30 @@ fn place_before(tokens: &[Token], rest: usize) -> usize
 #[derive(Drop)]
 struct Stated<'a> {
     name: &'a str,
+    attributes: Vec<Attribute<'a>>,
     kind: TraceKind,
     formula: ReadFormula<'a>,
     /// The place in the text behind it, where its proof is to stand.
     place: usize,
+}
+
+/// The kind of a lemma and its formula in double quotes, and the place behind them.
+#[tactic(auto, using(crate::proofs::LemmaParts::claims))]
+fn claim<'a>(
+    alloc: Global,
+    tokens: &[Token<'a>],
+    at: usize,
+) -> Result<Option<(TraceKind, ReadFormula<'a>, usize)>, AllocError>
+    ensures value { IfOk result (λ o. MatchOption o (NoReading IsClaim (seen_from tokens.now at)) (λ x. IsClaim (seen_from tokens.now at) (view.kind x.0, view.formula x.1) (seen_from tokens.now x.2))) }
+    ensures further { IfOk result (λ o. IfSome o (λ x. (at < x.2) × (x.2 ≤ length tokens.now))) }
+{
+    let Some((kind, body)) = kind(tokens, at) else {
+        return Ok(None);
+    };
+    let Some((formula, rest)) = quoted_formula(alloc, tokens, body)? else {
+        return Ok(None);
+    };
+    Ok(Some((kind, formula, rest)))
 }
 
 /// A lemma without its proof, and the place behind it.
@@ -73,23 +99,21 @@ fn statement<'a>(
     tokens: &[Token<'a>],
     at: usize,
 ) -> Result<Option<(Stated<'a>, usize)>, AllocError>
-    ensures value { IfOk result (λ o. MatchOption o (NoReading SpellsLemma (seen_from tokens.now at)) (λ x. SpellsLemma (seen_from tokens.now at) (record { name = x.0.name.now; kind = view.kind x.0.kind; formula = view.formula x.0.formula }) (seen_from tokens.now x.1))) }
+    ensures value { IfOk result (λ o. MatchOption o (NoReading IsLemma (seen_from tokens.now at)) (λ x. IsLemma (seen_from tokens.now at) (record { name = x.0.name.now; kind = view.kind x.0.kind; formula = view.formula x.0.formula }, view.attributes x.0.attributes.items) (seen_from tokens.now x.1))) }
     ensures further { IfOk result (λ o. IfSome o (λ x. (at < x.1) × (x.1 ≤ length tokens.now))) }
     ensures place { IfOk result (λ o. IfSome o (λ x. IsBehind (tokens_of (drop at tokens.now)) (tokens_of (drop x.1 tokens.now)) x.0.place)) }
 {
-    let Some((name, next)) = header("lemma", tokens, at) else {
+    let Some((name, attributes, body)) = lemma_head(alloc, tokens, at)? else {
         return Ok(None);
     };
-    let Some((kind, body)) = kind(tokens, next) else {
-        return Ok(None);
-    };
-    let Some((formula, rest)) = formula(alloc, Sign::Quote, 0, tokens, body)? else {
+    let Some((kind, formula, rest)) = claim(alloc, tokens, body)? else {
         return Ok(None);
     };
     let place = place_before(tokens, rest);
     Ok(Some((
         Stated {
             name,
+            attributes,
             kind,
             formula,
             place,
@@ -98,7 +122,7 @@ fn statement<'a>(
     )))
 }
 
-/// The proof of a lemma, if one begins here, with its span, and the place behind it.
+/// The proof of a lemma, if one begins here and no block of text does, with its span, and the place behind it.
 #[tactic(auto, using(crate::proofs::LemmaParts::proof_parts, crate::proofs::Suffix::is_behind))]
 fn proof_part<'a>(
     alloc: Global,
@@ -111,6 +135,9 @@ fn proof_part<'a>(
     ensures from { IfOk result (λ x. x.1.from ≡ from) }
     ensures further { IfOk result (λ x. (at ≤ x.2) × (x.2 ≤ length tokens.now)) }
 {
+    if let Some(_) = text_block(tokens, at) {
+        return Ok((None, Span { from, to: from }, at));
+    }
     match proof(alloc, tokens, at)? {
         Some((found, rest)) => {
             let to = place_before(tokens, rest);
@@ -127,7 +154,7 @@ pub fn lemma<'a>(
     tokens: &[Token<'a>],
     at: usize,
 ) -> Result<Option<(WrittenLemma<'a>, usize)>, AllocError>
-    ensures value { IfOk result (λ o. MatchOption o (NoReading SpellsLemma (seen_from tokens.now at)) (λ x. ReadsItem (tokens_of (drop at tokens.now)) (lemma_item (view.lemma x.0) (option_map view.proof x.0.proof)) (view.span_of x.0.span ∷ []) (tokens_of (drop x.1 tokens.now)))) }
+    ensures value { IfOk result (λ o. MatchOption o (NoReading IsLemma (seen_from tokens.now at)) (λ x. ReadsItem (tokens_of (drop at tokens.now)) (lemma_item (view.lemma x.0) (view.attributes x.0.attributes.items) (option_map view.proof x.0.proof)) (view.span_of x.0.span ∷ []) (tokens_of (drop x.1 tokens.now)))) }
     ensures further { IfOk result (λ o. IfSome o (λ x. (at < x.1) × (x.1 ≤ length tokens.now))) }
 {
     let Some((stated, behind)) = statement(alloc, tokens, at)? else {
@@ -137,6 +164,7 @@ pub fn lemma<'a>(
     Ok(Some((
         WrittenLemma {
             name: stated.name,
+            attributes: stated.attributes,
             kind: stated.kind,
             formula: stated.formula,
             proof,
@@ -144,4 +172,40 @@ pub fn lemma<'a>(
         },
         rest,
     )))
+}
+
+/// A restriction, and the place behind it.
+#[tactic(auto, using(crate::proofs::LemmaParts::whole_restrictions))]
+fn restriction<'a>(
+    alloc: Global,
+    tokens: &[Token<'a>],
+    at: usize,
+) -> Result<Option<(WrittenRestriction<'a>, usize)>, AllocError>
+    ensures value { IfOk result (λ o. MatchOption o (NoReading SpellsRestriction (seen_from tokens.now at)) (λ x. SpellsRestriction (seen_from tokens.now at) (view.restriction x.0) (seen_from tokens.now x.1))) }
+    ensures further { IfOk result (λ o. IfSome o (λ x. (at < x.1) × (x.1 ≤ length tokens.now))) }
+{
+    let Some((name, body)) = restriction_head(tokens, at) else {
+        return Ok(None);
+    };
+    let Some((formula, rest)) = quoted_formula(alloc, tokens, body)? else {
+        return Ok(None);
+    };
+    Ok(Some((WrittenRestriction { name, formula }, rest)))
+}
+
+/// The item of a restriction, and the place behind it.
+#[tactic(auto, using(crate::proofs::Making::items_made))]
+pub fn restriction_item<'a>(
+    alloc: Global,
+    tokens: &[Token<'a>],
+    at: usize,
+) -> Result<Option<(Item<'a>, usize)>, AllocError>
+    ensures value { IfOk result (λ o. MatchOption o (NoReading IsRestrictionItem (seen_from tokens.now at)) (λ x. IsRestrictionItem (seen_from tokens.now at) (view.item x.0) (seen_from tokens.now x.1))) }
+    ensures spans { IfOk result (λ o. IfSome o (λ x. view.spans (x.0 ∷ []) ≡ [])) }
+    ensures further { IfOk result (λ o. IfSome o (λ x. (at < x.1) × (x.1 ≤ length tokens.now))) }
+{
+    let Some((found, rest)) = restriction(alloc, tokens, at)? else {
+        return Ok(None);
+    };
+    Ok(Some((Item::Restriction(found), rest)))
 }

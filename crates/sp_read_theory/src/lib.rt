@@ -1,4 +1,5 @@
-// Reads theories: what they declare, rules and lemmas in any order, lemmas with their kind of trace, and the proofs that stand below lemmas.
+// Reads theories: what they declare, rules, restrictions and lemmas in any order, lemmas with their attributes and their kind of trace, and the proofs
+// that stand below lemmas.
 // Below stand names, facts and symbols (sp_term, sp_fact), tokens (sp_lex), terms, facts and formulas as they are read
 // (sp_read_parts), theories in memory (sp_written), and proofs (sp_read_proof);
 // what makes rules and formulas in memory of a theory stands above.
@@ -7,7 +8,11 @@
 // (sp_spec_text, specs/Spans.antt), and the place where its text ends.
 #![tactic(auto)]
 
+mod attributes;
+mod blocks;
 mod declarations;
+mod heads;
+mod heuristic;
 mod items;
 mod lemmas;
 mod read;

@@ -8,8 +8,8 @@ ghost use Rattle.sp_spec_text.specs.Texts.{IsTextOf, IsNoText, ArePlaces};
 ghost use Rattle.sp_read_theory.specs.Views as view;
 ghost use Rattle.sp_read_theory.specs.Views.{seen};
 
+use crate::heads::opening;
 use crate::items::items;
-use crate::rules::opening;
 use sp_lex::{LexError, Token, tokens};
 use sp_written::ReadTheory;
 use std::alloc::{AllocError, Global};

@@ -1,17 +1,20 @@
-ghost use Rattle.std.specs.Prelude.{◌≡◌, map, MatchOption, IfSome, IfOk, ◌≤◌, ◌<◌, length};
+ghost use Rattle.std.specs.Prelude.{◌≡◌, [], ◌∷◌, map, MatchOption, IfSome, IfOk, ◌≤◌, ◌<◌, length};
 ghost use Rattle.sp_spec_text.specs.Shapes as shapes;
 ghost use Rattle.sp_spec_text.specs.Lists.{NoReading};
-ghost use Rattle.sp_spec_text.specs.Theories.{SpellsFacts, SpellsArrow, SpellsRule};
-ghost use Rattle.sp_read_theory.specs.Items.{IsOpening, IsHeader};
+ghost use Rattle.sp_spec_text.specs.Theories.{SpellsFacts, SpellsArrow};
+ghost use Rattle.sp_read_theory.specs.Items.{IsRuleItem};
+ghost use Rattle.sp_read_theory.specs.Rules.{IsLet, IsTransition, IsRule};
 ghost use Rattle.sp_read_theory.specs.Views as view;
 ghost use Rattle.sp_read_theory.specs.Views.{seen_from};
 
+use crate::heads::rule_head;
 use sp_fact::fact::{Action, Facts};
 use sp_lex::{Sign, Token};
+use sp_read_parts::bindings::bindings;
 use sp_read_parts::cursor::{after, behind};
 use sp_read_parts::facts::fact_list;
-use sp_read_parts::terms::name;
-use sp_read_parts::{WrittenAction, WrittenFact, WrittenRule};
+use sp_read_parts::{WrittenAction, WrittenBinding, WrittenFact, WrittenRule, WrittenVariable};
+use sp_written::{BoundRule, Item};
 use std::alloc::{AllocError, Global};
 
 /// Facts in their brackets, and the place behind them.
@@ -79,32 +82,17 @@ fn actions_of<'a>(
     Ok(shown)
 }
 
-/// A keyword, a name and a colon, and the place behind them.
-#[tactic(auto, using(crate::proofs::RuleParts::headers))]
-pub fn header<'a>(keyword: &str, tokens: &[Token<'a>], at: usize) -> Option<(&'a str, usize)>
-    ensures value { MatchOption result (NoReading (IsHeader keyword.now) (seen_from tokens.now at)) (λ x. IsHeader keyword.now (seen_from tokens.now at) x.0.now (seen_from tokens.now x.1)) }
-    ensures further { IfSome result (λ x. (at < x.1) × (x.1 ≤ length tokens.now)) }
-{
-    let named = behind(keyword, tokens, at)?;
-    let (found, colon) = name(tokens, named)?;
-    let rest = after(Sign::Colon, tokens, colon)?;
-    Some((found, rest))
-}
-
-/// A rule, and the place behind it.
-#[tactic(auto, using(crate::proofs::RuleParts::rule_items))]
-pub fn rule<'a>(
+/// The facts of a rule with its arrow, and the place behind them.
+#[tactic(auto, using(crate::proofs::RuleParts::transitions))]
+fn transition<'a>(
     alloc: Global,
     tokens: &[Token<'a>],
     at: usize,
-) -> Result<Option<(WrittenRule<'a>, usize)>, AllocError>
-    ensures value { IfOk result (λ o. MatchOption o (NoReading SpellsRule (seen_from tokens.now at)) (λ x. SpellsRule (seen_from tokens.now at) (view.rule x.0) (seen_from tokens.now x.1))) }
+) -> Result<Option<(Facts<WrittenVariable<'a>>, usize)>, AllocError>
+    ensures value { IfOk result (λ o. MatchOption o (NoReading IsTransition (seen_from tokens.now at)) (λ x. IsTransition (seen_from tokens.now at) (view.rule_facts x.0) (seen_from tokens.now x.1))) }
     ensures further { IfOk result (λ o. IfSome o (λ x. (at < x.1) × (x.1 ≤ length tokens.now))) }
 {
-    let Some((name, body)) = header("rule", tokens, at) else {
-        return Ok(None);
-    };
-    let Some((premises, labels)) = facts_in_brackets(alloc, tokens, body)? else {
+    let Some((premises, labels)) = facts_in_brackets(alloc, tokens, at)? else {
         return Ok(None);
     };
     let Some((labelled, last)) = arrow(alloc, tokens, labels)? else {
@@ -119,17 +107,79 @@ pub fn rule<'a>(
         actions,
         conclusions,
     };
-    Ok(Some((WrittenRule { name, facts }, rest)))
+    Ok(Some((facts, rest)))
 }
 
-/// The name of a theory between `theory` and `begin`, and the place behind them.
-#[tactic(auto, using(crate::proofs::RuleParts::openings))]
-pub fn opening<'a>(tokens: &[Token<'a>], at: usize) -> Option<(&'a str, usize)>
-    ensures value { MatchOption result (NoReading IsOpening (seen_from tokens.now at)) (λ x. IsOpening (seen_from tokens.now at) x.0.now (seen_from tokens.now x.1)) }
-    ensures further { IfSome result (λ x. (at < x.1) × (x.1 ≤ length tokens.now)) }
+/// What `let` binds, if it stands first, and the place behind `in`.
+#[tactic(auto, using(crate::proofs::RuleParts::lets))]
+fn let_part<'a>(
+    alloc: Global,
+    tokens: &[Token<'a>],
+    at: usize,
+) -> Result<Option<(Vec<WrittenBinding<'a>>, usize)>, AllocError>
+    requires { at ≤ length tokens.now }
+    ensures value { IfOk result (λ o. MatchOption o (NoReading IsLet (seen_from tokens.now at)) (λ x. IsLet (seen_from tokens.now at) (view.bindings x.0.items) (seen_from tokens.now x.1))) }
+    ensures further { IfOk result (λ o. IfSome o (λ x. (at ≤ x.1) × (x.1 ≤ length tokens.now))) }
 {
-    let named = behind("theory", tokens, at)?;
-    let (found, begin) = name(tokens, named)?;
-    let rest = behind("begin", tokens, begin)?;
-    Some((found, rest))
+    let Some(inside) = behind("let", tokens, at) else {
+        return Ok(Some((Vec::new(alloc), at)));
+    };
+    let Some((found, rest)) = bindings(alloc, tokens, inside)? else {
+        return Ok(None);
+    };
+    Ok(Some((found, rest)))
+}
+
+/// A rule of this name behind its bindings.
+fn rule_of<'a>(
+    name: &'a str,
+    bindings: Vec<WrittenBinding<'a>>,
+    facts: Facts<WrittenVariable<'a>>,
+) -> BoundRule<'a>
+    ensures bindings { view.bindings result.bindings.items ≡ view.bindings bindings.entry.items }
+    ensures rule { view.rule result.rule ≡ record { name = name.now; facts = view.rule_facts facts.entry } }
+{
+    BoundRule {
+        bindings,
+        rule: WrittenRule { name, facts },
+    }
+}
+
+/// A rule behind its bindings, and the place behind both.
+#[tactic(auto, using(crate::proofs::RuleParts::rule_items))]
+fn rule<'a>(
+    alloc: Global,
+    tokens: &[Token<'a>],
+    at: usize,
+) -> Result<Option<(BoundRule<'a>, usize)>, AllocError>
+    ensures value { IfOk result (λ o. MatchOption o (NoReading IsRule (seen_from tokens.now at)) (λ x. IsRule (seen_from tokens.now at) (view.bindings x.0.bindings.items, view.rule x.0.rule) (seen_from tokens.now x.1))) }
+    ensures further { IfOk result (λ o. IfSome o (λ x. (at < x.1) × (x.1 ≤ length tokens.now))) }
+{
+    let Some((name, body)) = rule_head(tokens, at) else {
+        return Ok(None);
+    };
+    let Some((bindings, inner)) = let_part(alloc, tokens, body)? else {
+        return Ok(None);
+    };
+    let Some((facts, rest)) = transition(alloc, tokens, inner)? else {
+        return Ok(None);
+    };
+    Ok(Some((rule_of(name, bindings, facts), rest)))
+}
+
+/// The item of a rule, and the place behind it.
+#[tactic(auto, using(crate::proofs::Making::items_made))]
+pub fn rule_item<'a>(
+    alloc: Global,
+    tokens: &[Token<'a>],
+    at: usize,
+) -> Result<Option<(Item<'a>, usize)>, AllocError>
+    ensures value { IfOk result (λ o. MatchOption o (NoReading IsRuleItem (seen_from tokens.now at)) (λ x. IsRuleItem (seen_from tokens.now at) (view.item x.0) (seen_from tokens.now x.1))) }
+    ensures spans { IfOk result (λ o. IfSome o (λ x. view.spans (x.0 ∷ []) ≡ [])) }
+    ensures further { IfOk result (λ o. IfSome o (λ x. (at < x.1) × (x.1 ≤ length tokens.now))) }
+{
+    let Some((found, rest)) = rule(alloc, tokens, at)? else {
+        return Ok(None);
+    };
+    Ok(Some((Item::Rule(found), rest)))
 }

@@ -2,12 +2,12 @@
 use Rattle.std.specs.Prelude.{ℕ, List, [], ◌∷◌, length, option_map, map}
 use Rattle.sp_spec_nodes.specs.Preorder.{trees, first}
 use Rattle.sp_spec.specs.Theory as t
-use Rattle.sp_spec.specs.Theory.{Lemma}
+use Rattle.sp_spec.specs.Theory.{Restriction, Lemma}
 use Rattle.sp_spec.specs.Term.{Term}
 use Rattle.sp_spec.specs.Formula.{Written}
 use Rattle.sp_term.specs.View.{name_of}
 use Rattle.sp_fact.specs.GroundView.{symbol_of}
-use Rattle.sp_read_parts.specs.Views.{term, rule}
+use Rattle.sp_read_parts.specs.Views.{term, bindings, rule}
 use Rattle.sp_read_parts.specs.Formulas.{formula}
 use Rattle.sp_spec_text.specs.Written as text
 use Rattle.sp_written.specs.declared.proof.Method.{Method}
@@ -16,6 +16,9 @@ use Rattle.sp_written.specs.declared.proof.WrittenStep.{WrittenStep}
 use Rattle.sp_written.specs.declared.proof.WrittenProof.{WrittenProof}
 use Rattle.sp_written.specs.declared.theory.TraceKind.{TraceKind}
 use Rattle.sp_written.specs.declared.theory.TraceKind.TheVariants as k
+use Rattle.sp_written.specs.declared.theory.Attribute.{Attribute}
+use Rattle.sp_written.specs.declared.theory.Attribute.TheVariants as a
+use Rattle.sp_written.specs.declared.theory.WrittenRestriction.{WrittenRestriction}
 use Rattle.sp_written.specs.declared.theory.WrittenLemma.{WrittenLemma}
 use Rattle.sp_written.specs.declared.theory.WrittenEquation.{WrittenEquation}
 use Rattle.sp_written.specs.declared.theory.Item.{Item}
@@ -65,6 +68,20 @@ kind k.ExistsTrace = t.exists_trace
 abbrev pub lemma : WrittenLemma → Lemma
 lemma l = record { name = l.name.now; kind = kind l.kind; formula = formula l.formula }
 
+abbrev pub attribute : Attribute → text.Attribute
+attribute a.Reused = text.reused
+attribute a.OfSources = text.of_sources
+attribute a.ByInduction = text.by_induction
+attribute (a.Hiding w) = text.hiding w.now
+attribute (a.RankedBy w) = text.ranked_by w.now
+attribute (a.Unknown w) = text.unknown w.now
+
+abbrev pub attributes : List Attribute → List text.Attribute
+attributes xs = map attribute xs
+
+abbrev pub restriction : WrittenRestriction → Restriction
+restriction r = record { name = r.name.now; formula = formula r.formula }
+
 abbrev pub equation : WrittenEquation → Term Written × Term Written
 equation e = (term e.left, term e.right)
 
@@ -72,8 +89,11 @@ abbrev pub item : Item → text.Item
 item (i.Builtins bs) = text.builtins_item (map name_of bs.items)
 item (i.Functions ss) = text.functions_item (map symbol_of ss.items)
 item (i.Equations es) = text.equations_item (map equation es.items)
-item (i.Rule r) = text.rule_item (rule r)
-item (i.Lemma l) = text.lemma_item (lemma l) (option_map proof l.proof)
+item (i.Heuristic ws) = text.heuristic_item (map (λ w. w.now) ws.items)
+item (i.Block w) = text.block_item w.now
+item (i.Rule r) = text.rule_item (bindings r.bindings.items) (rule r.rule)
+item (i.Restriction r) = text.restriction_item (restriction r)
+item (i.Lemma l) = text.lemma_item (lemma l) (attributes l.attributes.items) (option_map proof l.proof)
 
 abbrev pub items : List Item → List text.Item
 items xs = map item xs

@@ -9,4 +9,7 @@ mod proof;
 mod theory;
 
 pub use proof::{Method, WrittenProof, WrittenStep};
-pub use theory::{Item, ReadTheory, Span, TraceKind, WrittenEquation, WrittenLemma};
+pub use theory::{
+    Attribute, BoundRule, Item, ReadTheory, Span, TraceKind, WrittenEquation, WrittenLemma,
+    WrittenRestriction,
+};

@@ -1,6 +1,6 @@
 use crate::proof::WrittenProof;
 use sp_fact::signature::Symbol;
-use sp_read_parts::{ReadFormula, WrittenRule, WrittenTerm};
+use sp_read_parts::{ReadFormula, WrittenBinding, WrittenRule, WrittenTerm};
 use sp_term::term::Name;
 
 /// Whether a lemma speaks of all traces, or says that there is one.
@@ -19,10 +19,44 @@ pub struct Span {
     pub to: usize,
 }
 
+/// What stands in the brackets behind the name of a lemma.
+#[derive(Clone, Copy)]
+pub enum Attribute<'a> {
+    /// `reuse`
+    Reused,
+    /// `sources`, or `typing`
+    OfSources,
+    /// `use_induction`
+    ByInduction,
+    /// `hide_lemma=` and the name of a lemma
+    Hiding(&'a str),
+    /// `heuristic=` and a word
+    RankedBy(&'a str),
+    /// any other word
+    Unknown(&'a str),
+}
+
+/// A restriction as it is written.
+#[derive(Drop)]
+pub struct WrittenRestriction<'a> {
+    pub name: &'a str,
+    pub formula: ReadFormula<'a>,
+}
+
+/// A rule as it is written, behind its bindings.
+#[derive(Drop)]
+pub struct BoundRule<'a> {
+    /// what `let` binds, from the top down
+    pub bindings: Vec<WrittenBinding<'a>>,
+    /// the rule, in which the bound names stand
+    pub rule: WrittenRule<'a>,
+}
+
 /// A lemma as it is written.
 #[derive(Drop)]
 pub struct WrittenLemma<'a> {
     pub name: &'a str,
+    pub attributes: Vec<Attribute<'a>>,
     pub kind: TraceKind,
     pub formula: ReadFormula<'a>,
     pub proof: Option<WrittenProof<'a>>,
@@ -44,7 +78,12 @@ pub enum Item<'a> {
     /// Symbols with their arities.
     Functions(Vec<Symbol>),
     Equations(Vec<WrittenEquation<'a>>),
-    Rule(WrittenRule<'a>),
+    /// The words of a heuristic.
+    Heuristic(Vec<&'a str>),
+    /// A block of text, by its word.
+    Block(&'a str),
+    Rule(BoundRule<'a>),
+    Restriction(WrittenRestriction<'a>),
     Lemma(WrittenLemma<'a>),
 }
 

@@ -1,6 +1,6 @@
 use Rattle.std.proofs.Common.{◌∷◌, [], map}
 use Rattle.sp_term.specs.View.{name_of}
-use Rattle.sp_spec_text.specs.Written.{rules_in}
+use Rattle.sp_declared.specs.WrittenRules.{rules_written}
 use Rattle.sp_written.specs.Views as view
 use Rattle.sp_spec.specs.Constants.{once_after, in_rules}
 use Rattle.sp_declared.proofs.ConstantSteps.{next, rules_begin}
@@ -8,6 +8,6 @@ use Rattle.sp_declared.proofs.public_names.see_rules.Goals as goal
 
 pub loop-item-preserved : goal.loop-item-preserved
 loop-item-preserved c =
-    next (λ x. in_rules (rules_in (view.item x ∷ []))) (λ xs. in_rules (rules_in (view.items xs))) rules_begin c.deref-item-items.result.now c.args.items.now.items c.loop-item.item-index c.item-item.result
-    (map name_of c.loop-item.seen.items) (map name_of c.see_if_rule.new.seen.items) (once_after (map name_of c.args.seen.now.items) (in_rules (rules_in (view.items c.args.items.now.items))))
+    next (λ x. in_rules (rules_written (view.item x ∷ []))) (λ xs. in_rules (rules_written (view.items xs))) rules_begin c.deref-item-items.result.now c.args.items.now.items c.loop-item.item-index c.item-item.result
+    (map name_of c.loop-item.seen.items) (map name_of c.see_if_rule.new.seen.items) (once_after (map name_of c.args.seen.now.items) (in_rules (rules_written (view.items c.args.items.now.items))))
     c.deref-item-items.ensures.value c.loop-item-test.true c.item-item.is c.in_ok-see_if_rule.ensures c.loop-item.invariant

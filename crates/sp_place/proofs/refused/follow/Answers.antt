@@ -1,10 +1,10 @@
 use Rattle.sp_place.proofs.Runs.{reached_wrong, reached_whole, reached_left}
 use Rattle.sp_place.proofs.refused.follow.Goals as goal
 
-pub returns-then-not-taken : goal.returns-then-not-taken
-returns-then-not-taken c =
+pub returns-in_default-2 : goal.returns-in_default-2
+returns-in_default-2 c =
     let first = rw c.in-Some.is at c.first.ensures.value in
-    let refuses = rw c.if-not-taken.true at c.in_ok-taken.ensures in
+    let refuses = rw c.in_default-2.is at c.in_ok-open.ensures in
     reached_wrong c.loop-token.invariant.reached first refuses
 
 pub returns-then-none_left : goal.returns-then-none_left

@@ -1,5 +1,5 @@
 use Rattle.std.proofs.Common.{List, ℕ, Vec, Global, sym, ap, ◌∙◌}
-use Rattle.sp_spec_text.specs.Printed.{is_pair}
+use Rattle.sp_spec_printed.specs.Printed.{is_pair}
 use Rattle.sp_term.specs.View.{name_of, Never}
 use Rattle.sp_term.specs.declared.term.Term.{Term}
 use Rattle.sp_fact.specs.GroundView.{ground_of, grounds_of}

@@ -1,0 +1,4 @@
+pub mod Binding
+pub mod Places
+pub mod Resolving
+pub mod Valued
