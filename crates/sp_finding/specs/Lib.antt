@@ -1,0 +1,3 @@
+pub mod Finding
+pub mod TermFindings
+pub mod View

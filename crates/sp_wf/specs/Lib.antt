@@ -1,11 +1,4 @@
-pub mod Finding
-pub mod SymbolFindings
-pub mod EquationFindings
-pub mod RuleFindings
-pub mod FormulaFindings
+pub mod ItemFindings
 pub mod Report
 pub mod Laws
-pub mod View
 pub mod Told
-pub mod Sought
-pub mod Atoms

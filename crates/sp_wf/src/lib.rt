@@ -1,25 +1,16 @@
 // The report on a theory: its fatal findings as lines, in order.
-// Below stand theories as they are written (sp_written), the definitions of what is wrong with them (sp_spec, sp_law_guard), and guarded
-// forms (sp_guard).
+// Below stand theories as they are written (sp_written), and what is told of symbols and equations, of rules, and of formulas (sp_wf_symbols,
+// sp_wf_rules, sp_wf_formulas); above stands what a text poses (sp_pose).
 // Carried here: a theory has a report exactly where it isn't analysed, and what is written is the definition's report.
-// src/finding.rt has findings and their lines, src/facts.rt and src/variables.rt what concerns a rule, src/uses.rt and src/formula.rt what
-// concerns a formula, src/atoms.rt and src/destructors.rt what concerns its terms, src/symbols.rt, src/unknown.rt and src/equations.rt symbols and
-// equations, src/told.rt each rule and lemma, src/names.rt their names, src/report_text.rt the whole.
+// src/told.rt has each rule, restriction and lemma, src/unknown.rt the symbols that aren't there, src/names.rt names, src/attributes.rt what
+// restrictions name and attributes of lemmas, src/report_text.rt the whole.
 #![tactic(auto)]
 
-mod atoms;
-mod destructors;
-mod equations;
-mod facts;
-mod finding;
-mod formula;
+mod attributes;
 mod names;
 mod report_text;
-mod symbols;
 mod told;
 mod unknown;
-mod uses;
-mod variables;
 
 ghost use Rattle.sp_wf.specs.Laws.{ReportIsRight};
 

@@ -1,65 +1,95 @@
-// The findings on the names of rules and lemmas.
+// The findings on the names of rules, on those of restrictions and lemmas, and on the names that a rule binds.
 
 ghost use Rattle.std.specs.Prelude.{◌≡◌, ◌||◌, ℕ, List, [], OnOk, bytes_eq};
 ghost use Rattle.std.specs.BTreeSet.{contains_text};
 ghost use Rattle.sp_written.specs.Views as view;
-ghost use Rattle.sp_wf.specs.Finding.{told, used_twice};
-ghost use Rattle.sp_wf.specs.Report as spec;
+ghost use Rattle.sp_finding.specs.Finding.{bound_twice, lines_after, told};
+ghost use Rattle.sp_finding.specs.View.{finding_of, lines_of};
+ghost use Rattle.sp_wf_rules.specs.BindingView.{names_of};
+ghost use Rattle.sp_wf.specs.ItemFindings as spec;
 ghost use Rattle.sp_wf.specs.Told.{or_one_of, item_again};
-ghost use Rattle.sp_wf.specs.View.{lines_of};
 
-use crate::finding::{Finding, tell_if};
+use sp_finding::{Finding, RuleFinding, tell_if};
+use sp_wf_rules::BoundNames;
 use sp_written::Item;
 use std::alloc::{AllocError, Global};
 use std::collections::BTreeSet;
 
-/// Tells of the name where it is one of these, and puts it among them.
+/// Tells of the name what is said of it, where it is one of these, and puts it among them.
 fn tell_name(
     alloc: Global,
     lines: &mut Vec<String>,
     names: &mut BTreeSet<String>,
     name: &str,
+    finding: Finding,
 ) -> Result<(), AllocError>
-    ensures is_told { OnOk result (lines_of lines.new.items ≡ spec.lines_after (lines_of lines.old.items) (told (contains_text names.old name.now) (used_twice name.now) [])) }
+    ensures is_told { OnOk result (lines_of lines.new.items ≡ lines_after (lines_of lines.old.items) (told (contains_text names.old name.now) (finding_of finding.entry) [])) }
     ensures is_put { OnOk result ((q : List ℕ) → contains_text names.new q ≡ (bytes_eq name.now q || contains_text names.old q)) }
 {
     let key = String::from_str(alloc, name)?;
     let is_new = names.insert(key)?;
-    tell_if(alloc, lines, !is_new, Finding::UsedTwice(name))?;
+    tell_if(alloc, lines, !is_new, finding)?;
     Ok(())
 }
 
-/// Tells of the item's name where an item of its kind has it already.
+/// Tells of the item's name where an item of its kind has it already; restrictions and lemmas are of one kind.
 fn tell_item_name(
     alloc: Global,
     lines: &mut Vec<String>,
     rules: &mut BTreeSet<String>,
-    lemmas: &mut BTreeSet<String>,
+    statements: &mut BTreeSet<String>,
     item: &Item,
 ) -> Result<(), AllocError>
-    ensures is_told { OnOk result (lines_of lines.new.items ≡ spec.lines_after (lines_of lines.old.items) (item_again (contains_text rules.old) (contains_text lemmas.old) (view.item item.now))) }
+    ensures is_told { OnOk result (lines_of lines.new.items ≡ lines_after (lines_of lines.old.items) (item_again (contains_text rules.old) (contains_text statements.old) (view.item item.now))) }
     ensures in_rules { OnOk result ((q : List ℕ) → contains_text rules.new q ≡ or_one_of (spec.names_of_rules (view.item item.now)) (contains_text rules.old) q) }
-    ensures in_lemmas { OnOk result ((q : List ℕ) → contains_text lemmas.new q ≡ or_one_of (spec.names_of_lemmas (view.item item.now)) (contains_text lemmas.old) q) }
+    ensures in_statements { OnOk result ((q : List ℕ) → contains_text statements.new q ≡ or_one_of (spec.names_of_statements (view.item item.now)) (contains_text statements.old) q) }
 {
     match item {
-        Item::Builtins(_) | Item::Functions(_) | Item::Equations(_) => Ok(()),
-        Item::Rule(rule) => tell_name(alloc, lines, rules, rule.name),
-        Item::Lemma(lemma) => tell_name(alloc, lines, lemmas, lemma.name),
+        Item::Rule(bound) => {
+            let name = bound.rule.name;
+            tell_name(alloc, lines, rules, name, Finding::UsedTwice(name))
+        }
+        Item::Restriction(restriction) => {
+            let name = restriction.name;
+            tell_name(alloc, lines, statements, name, Finding::UsedTwice(name))
+        }
+        Item::Lemma(lemma) => {
+            let name = lemma.name;
+            tell_name(alloc, lines, statements, name, Finding::UsedTwice(name))
+        }
+        _ => Ok(()),
     }
 }
 
-/// Tells of each rule whose name an earlier rule has, and of each lemma whose name an earlier lemma has.
+/// Tells of each rule whose name an earlier rule has, and of each restriction and each lemma whose name an earlier one has.
 pub fn tell_names(
     alloc: Global,
     lines: &mut Vec<String>,
     items: &Vec<Item>,
 ) -> Result<(), AllocError>
-    ensures { OnOk result (lines_of lines.new.items ≡ spec.lines_after (lines_of lines.old.items) (spec.repeated [] [] (view.items items.now.items))) }
+    ensures { OnOk result (lines_of lines.new.items ≡ lines_after (lines_of lines.old.items) (spec.repeated [] [] (view.items items.now.items))) }
 {
     let mut rules = BTreeSet::new(alloc);
-    let mut lemmas = BTreeSet::new(alloc);
+    let mut statements = BTreeSet::new(alloc);
     for item in items {
-        tell_item_name(alloc, lines, &mut rules, &mut lemmas, item)?;
+        tell_item_name(alloc, lines, &mut rules, &mut statements, item)?;
+    }
+    Ok(())
+}
+
+/// Tells of each name that the rule binds twice.
+pub fn tell_twice(
+    alloc: Global,
+    lines: &mut Vec<String>,
+    rule: &str,
+    bound: &BoundNames,
+) -> Result<(), AllocError>
+    ensures { OnOk result (lines_of lines.new.items ≡ lines_after (lines_of lines.old.items) (spec.told_again (bound_twice rule.now) [] (names_of bound.now).bound)) }
+{
+    let mut seen = BTreeSet::new(alloc);
+    for name in &bound.bound {
+        let finding = Finding::OnRule(rule, RuleFinding::BoundTwice(*name));
+        tell_name(alloc, lines, &mut seen, *name, finding)?;
     }
     Ok(())
 }

@@ -1,12 +1,13 @@
 use Rattle.std.proofs.Common.{◌≡◌, [], drop}
 use Rattle.std.specs.BTreeSet.{contains_text}
 use Rattle.sp_written.specs.Views as view
-use Rattle.sp_wf.specs.Report.{lines_after, repeated}
+use Rattle.sp_finding.specs.Finding.{lines_after}
+use Rattle.sp_wf.specs.ItemFindings.{repeated}
 use Rattle.sp_wf.specs.Told.{all_again}
-use Rattle.sp_wf.specs.View.{lines_of}
+use Rattle.sp_finding.specs.View.{lines_of}
 use Rattle.sp_wf.proofs.names.tell_names.Given as goal
 
 abbrev pub invariant-loop-item : goal.invariant-loop-item
 invariant-loop-item l =
-    lines_after (lines_of l.lines.items) (all_again (contains_text l.rules) (contains_text l.lemmas) (view.items (drop l.item-index l.items.items)))
+    lines_after (lines_of l.lines.items) (all_again (contains_text l.rules) (contains_text l.statements) (view.items (drop l.item-index l.items.items)))
     ≡ lines_after (lines_of l.fn.lines.items) (repeated [] [] (view.items l.items.items))

@@ -1,6 +1,6 @@
 use Rattle.std.proofs.Common.{◌≡◌, ◌++◌, drop}
 use Rattle.sp_wf.specs.Report as spec
-use Rattle.sp_wf.specs.View.{lines_of}
+use Rattle.sp_finding.specs.View.{lines_of}
 use Rattle.sp_wf.proofs.report_text.text_of.Given as goal
 
 abbrev pub invariant-loop-line : goal.invariant-loop-line

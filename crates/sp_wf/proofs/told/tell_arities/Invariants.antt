@@ -1,7 +1,8 @@
 use Rattle.std.proofs.Common.{◌≡◌, drop}
 use Rattle.sp_written.specs.Views as view
-use Rattle.sp_wf.specs.Report.{lines_after, wide_in_items}
-use Rattle.sp_wf.specs.View.{lines_of}
+use Rattle.sp_finding.specs.Finding.{lines_after}
+use Rattle.sp_wf.specs.ItemFindings.{wide_in_items}
+use Rattle.sp_finding.specs.View.{lines_of}
 use Rattle.sp_wf.proofs.told.tell_arities.Given as goal
 
 abbrev pub invariant-loop-item : goal.invariant-loop-item

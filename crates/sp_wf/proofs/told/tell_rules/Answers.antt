@@ -1,16 +1,18 @@
 use Rattle.std.proofs.Common.{List}
-use Rattle.sp_spec_text.specs.Written.{Item, item_rules, rules_in}
-use Rattle.sp_wf.specs.Finding.{Finding}
-use Rattle.sp_wf.specs.Told.{on_rule}
+use Rattle.sp_spec_text.specs.Written.{Item}
+use Rattle.sp_declared.specs.WrittenRules.{item_written, rules_written}
 use Rattle.sp_written.specs.Views as view
-use Rattle.sp_wf.specs.Report.{lines_after, on_rules}
-use Rattle.sp_wf.specs.View.{lines_of}
-use Rattle.sp_wf.proofs.Stepping.{next_told, rule_next}
+use Rattle.sp_finding.specs.Finding.{Finding, lines_after}
+use Rattle.sp_finding.specs.View.{lines_of}
+use Rattle.sp_finding.proofs.Stepping.{next_told}
+use Rattle.sp_wf.specs.ItemFindings.{on_rules}
+use Rattle.sp_wf.specs.Told.{on_rule}
+use Rattle.sp_wf.proofs.ItemSteps.{rule_next}
 use Rattle.sp_wf.proofs.told.tell_rules.Goals as goal
 
 pub loop-item-preserved : goal.loop-item-preserved
 loop-item-preserved c =
-    let all : List Item → List Finding = λ xs. on_rules (on_rule c.args.fault) (rules_in xs) in
-    next_told (λ x. on_rules (on_rule c.args.fault) (item_rules x)) all (rule_next (on_rule c.args.fault)) view.item c.deref-item-items.result.now c.args.items.now.items c.loop-item.item-index c.item-item.result
+    let all : List Item → List Finding = λ xs. on_rules (on_rule c.args.fault) (rules_written xs) in
+    next_told (λ x. on_rules (on_rule c.args.fault) (item_written x)) all (rule_next (on_rule c.args.fault)) view.item c.deref-item-items.result.now c.args.items.now.items c.loop-item.item-index c.item-item.result
     (lines_of c.loop-item.lines.items) (lines_of c.tell_if_rule.new.lines.items) (lines_after (lines_of c.args.lines.now.items) (all (view.items c.args.items.now.items)))
     c.deref-item-items.ensures.value c.loop-item-test.true c.item-item.is c.in_ok-tell_if_rule.ensures c.loop-item.invariant

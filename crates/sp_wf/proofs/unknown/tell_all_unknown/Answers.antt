@@ -1,12 +1,11 @@
 use Rattle.std.proofs.Common.{List, map, refl}
 use Rattle.sp_fact.specs.GroundView.{symbol_of}
 use Rattle.sp_spec_text.specs.Written.{Item}
-use Rattle.sp_wf.specs.SymbolFindings.{unknown_in_item, unknown_in_items}
+use Rattle.sp_wf.specs.ItemFindings.{unknown_in_item, unknown_in_items}
 use Rattle.sp_written.specs.Views as view
-use Rattle.sp_wf.specs.Finding.{Finding}
-use Rattle.sp_wf.specs.Report.{lines_after}
-use Rattle.sp_wf.specs.View.{lines_of}
-use Rattle.sp_wf.proofs.Stepping.{next_told}
+use Rattle.sp_finding.specs.Finding.{Finding, lines_after}
+use Rattle.sp_finding.specs.View.{lines_of}
+use Rattle.sp_finding.proofs.Stepping.{next_told}
 use Rattle.sp_wf.proofs.unknown.tell_all_unknown.Goals as goal
 
 pub loop-item-preserved : goal.loop-item-preserved

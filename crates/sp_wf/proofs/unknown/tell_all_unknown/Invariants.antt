@@ -1,9 +1,9 @@
 use Rattle.std.proofs.Common.{◌≡◌, drop, map}
 use Rattle.sp_fact.specs.GroundView.{symbol_of}
-use Rattle.sp_wf.specs.SymbolFindings.{unknown_in_items}
+use Rattle.sp_wf.specs.ItemFindings.{unknown_in_items}
 use Rattle.sp_written.specs.Views as view
-use Rattle.sp_wf.specs.Report.{lines_after}
-use Rattle.sp_wf.specs.View.{lines_of}
+use Rattle.sp_finding.specs.Finding.{lines_after}
+use Rattle.sp_finding.specs.View.{lines_of}
 use Rattle.sp_wf.proofs.unknown.tell_all_unknown.Given as goal
 
 abbrev pub invariant-loop-item : goal.invariant-loop-item

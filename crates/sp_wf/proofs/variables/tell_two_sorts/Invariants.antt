@@ -1,9 +1,0 @@
-use Rattle.std.proofs.Common.{◌≡◌, map, drop}
-use Rattle.sp_read_parts.specs.Views as view
-use Rattle.sp_wf.specs.RuleFindings as spec
-use Rattle.sp_wf.specs.Report.{lines_after}
-use Rattle.sp_wf.specs.View.{lines_of}
-use Rattle.sp_wf.proofs.variables.tell_two_sorts.Given as goal
-
-abbrev pub invariant-loop-variable : goal.invariant-loop-variable
-invariant-loop-variable l = lines_after (lines_of l.lines.items) (spec.two_sorted l.rule.name.now (view.rule l.rule).facts (map view.variable (drop l.variable-index l.variables.items))) ≡ lines_after (lines_of l.fn.lines.items) (spec.two_sorted l.rule.name.now (view.rule l.rule).facts (map view.variable l.variables.items))

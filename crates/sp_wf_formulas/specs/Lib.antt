@@ -1,0 +1,4 @@
+pub mod FormulaFindings
+pub mod Statements
+pub mod Atoms
+pub mod Sought

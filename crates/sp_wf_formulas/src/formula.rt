@@ -1,0 +1,202 @@
+// The findings on the variables of a formula.
+
+ghost use Rattle.std.specs.Prelude.{◌≡◌, ◌&&◌, ◌++◌, ℕ, List, [], not, IfOk, OnOk, map};
+ghost use Rattle.sp_spec.specs.Formula as formulas;
+ghost use Rattle.sp_fact.specs.GroundView.{equation_of};
+ghost use Rattle.sp_read_parts.specs.Reading.{Joint};
+ghost use Rattle.sp_read_parts.specs.Formulas as written;
+ghost use Rattle.sp_law_guard.specs.GuardedForm as forms;
+ghost use Rattle.sp_law_guard.specs.CheckedForm as checked;
+ghost use Rattle.sp_guard.specs.View.{innermost_first};
+ghost use Rattle.sp_guard.specs.FirstNamed.{name_of};
+ghost use Rattle.sp_finding.specs.Finding.{lines_after};
+ghost use Rattle.sp_finding.specs.View.{lines_of};
+ghost use Rattle.sp_wf_formulas.specs.FormulaFindings as spec;
+ghost use Rattle.sp_wf_formulas.specs.Sought.{sought, sought_view, is_there};
+ghost use Rattle.sp_wf_formulas.specs.Statements.{statement};
+
+use crate::destructors::formula_has_destructor;
+use crate::uses::{Search, Sought, tell_equation, tell_happening, tell_order};
+use sp_fact::signature::Equation;
+use sp_finding::{Finding, FormulaFinding, tell_if};
+use sp_guard::form::{guarded_form, within};
+use sp_guard::marks::marks_fit;
+use sp_guard::unguarded::first_unguarded;
+use sp_read_parts::{ReadFormula, WrittenVariable};
+use std::alloc::{AllocError, Global};
+
+/// Tells of what is looked for, where variables are used within the reach of these binders.
+#[cycle(uses)]
+#[tactic(auto, using(crate::proofs::Using::sought_on, crate::proofs::Formulas::sought_equivalent, crate::proofs::Formulas::sought_for_all, crate::proofs::Formulas::sought_for_some))]
+fn tell_uses<'a>(
+    alloc: Global,
+    lines: &mut Vec<String>,
+    search: Search<'a>,
+    binders: &Vec<WrittenVariable<'a>>,
+    formula: &ReadFormula<'a>,
+) -> Result<(), AllocError>
+    ensures { OnOk result (lines_of lines.new.items ≡ lines_after (lines_of lines.old.items) (sought (sought_view search.entry.sought) search.entry.formula.now (spec.uses (innermost_first binders.now.items) (written.formula formula.now)))) }
+{
+    match formula {
+        ReadFormula::True | ReadFormula::False => Ok(()),
+        ReadFormula::Happens(action, at) => {
+            tell_happening(alloc, lines, search, binders, action, *at)
+        }
+        ReadFormula::Equals(left, right) => {
+            tell_equation(alloc, lines, search, binders, left, right)
+        }
+        ReadFormula::Precedes(left, right) => {
+            tell_order(alloc, lines, search, binders, *left, *right)
+        }
+        ReadFormula::Not(denied) => tell_uses(alloc, lines, search, binders, denied),
+        ReadFormula::Both(left, right, more) | ReadFormula::Either(left, right, more) => {
+            tell_uses(alloc, lines, search, binders, left)?;
+            tell_uses(alloc, lines, search, binders, right)?;
+            tell_later_uses(alloc, lines, search, binders, more)
+        }
+        ReadFormula::Implies(left, right) | ReadFormula::Equivalent(left, right) => {
+            tell_uses(alloc, lines, search, binders, left)?;
+            tell_uses(alloc, lines, search, binders, right)
+        }
+        ReadFormula::ForAll(more, body) | ReadFormula::ForSome(more, body) => {
+            tell_uses_behind(alloc, lines, search, binders, more, body)
+        }
+    }
+}
+
+/// The same behind a quantifier, whose binders stand within the reach of the others.
+#[cycle(uses)]
+fn tell_uses_behind<'a>(
+    alloc: Global,
+    lines: &mut Vec<String>,
+    search: Search<'a>,
+    binders: &Vec<WrittenVariable<'a>>,
+    more: &Vec<WrittenVariable<'a>>,
+    body: &ReadFormula<'a>,
+) -> Result<(), AllocError>
+    ensures { OnOk result (lines_of lines.new.items ≡ lines_after (lines_of lines.old.items) (sought (sought_view search.entry.sought) search.entry.formula.now (spec.uses (innermost_first (binders.now.items ++ more.now.items)) (written.formula body.now)))) }
+{
+    let inner = within(alloc, binders, more)?;
+    tell_uses(alloc, lines, search, &inner, body)
+}
+
+/// The same in each of the formulas that follow.
+#[cycle(uses)]
+fn tell_later_uses<'a>(
+    alloc: Global,
+    lines: &mut Vec<String>,
+    search: Search<'a>,
+    binders: &Vec<WrittenVariable<'a>>,
+    more: &Vec<ReadFormula<'a>>,
+) -> Result<(), AllocError>
+    ensures { OnOk result ((o : Joint) (before : List (List ℕ)) (f : formulas.Formula)
+        → lines_of lines.old.items ≡ lines_after before (sought (sought_view search.entry.sought) search.entry.formula.now (spec.uses (innermost_first binders.now.items) f))
+        → lines_of lines.new.items ≡ lines_after before (sought (sought_view search.entry.sought) search.entry.formula.now
+        (spec.uses (innermost_first binders.now.items) (written.chain o f (map written.formula more.now.items))))) }
+{
+    for part in more {
+        tell_uses(alloc, lines, search, binders, part)?;
+    }
+    Ok(())
+}
+
+/// Tells of what is looked for, in the formula of this name.
+///
+/// # Errors
+///
+/// `AllocError` where memory is wanting.
+pub fn tell_sought<'a>(
+    alloc: Global,
+    lines: &mut Vec<String>,
+    wanted: Sought,
+    name: &'a str,
+    formula: &ReadFormula<'a>,
+) -> Result<(), AllocError>
+    ensures { OnOk result (lines_of lines.new.items ≡ lines_after (lines_of lines.old.items) (sought (sought_view wanted) name.now (spec.uses [] (written.formula formula.now)))) }
+{
+    let none = Vec::new(alloc);
+    let search = Search {
+        sought: wanted,
+        formula: name,
+    };
+    tell_uses(alloc, lines, search, &none, formula)
+}
+
+/// Whether the formula has a guarded form within the reach of these binders.
+#[tactic(auto, using(crate::proofs::FormulaClean::some_there))]
+fn has_form<'a>(
+    alloc: Global,
+    binders: &Vec<WrittenVariable<'a>>,
+    formula: &ReadFormula<'a>,
+) -> Result<bool, AllocError>
+    ensures { IfOk result (λ b. b ≡ is_there (forms.guarded_form (innermost_first binders.now.items) (written.formula formula.now))) }
+{
+    let form = guarded_form(alloc, binders, formula)?;
+    Ok(form.is_some())
+}
+
+/// Whether each variable has a binder, and is marked and used as that is.
+fn is_used_rightly(alloc: Global, formula: &ReadFormula) -> Result<bool, AllocError>
+    ensures { IfOk result (λ b. b ≡ (is_there (forms.guarded_form [] (written.formula formula.now)) && checked.marks_fit [] (written.formula formula.now))) }
+{
+    let none = Vec::new(alloc);
+    let has_form = has_form(alloc, &none, formula)?;
+    let fit = marks_fit(alloc, &none, formula)?;
+    Ok(has_form && fit)
+}
+
+/// Tells of a variable that isn't guarded.
+fn tell_name<'a>(
+    alloc: Global,
+    lines: &mut Vec<String>,
+    formula: &'a str,
+    name: Option<&'a str>,
+) -> Result<(), AllocError>
+    ensures { OnOk result (lines_of lines.new.items ≡ lines_after (lines_of lines.old.items) (spec.unguarded_at formula.now (name_of name.entry))) }
+{
+    match name {
+        Some(name) => {
+            let finding = Finding::OnFormula(formula, FormulaFinding::NotGuarded(name));
+            tell_if(alloc, lines, true, finding)
+        }
+        None => Ok(()),
+    }
+}
+
+/// Whether an unguarded variable is looked for: no destructor stands in the formula, and its variables are used rightly.
+fn is_searched(
+    alloc: Global,
+    equations: &Vec<Equation>,
+    formula: &ReadFormula,
+) -> Result<bool, AllocError>
+    ensures { IfOk result (λ b. b ≡ (not (spec.formula_has_destructor (map equation_of equations.now.items) (written.formula formula.now))
+        && (is_there (forms.guarded_form [] (written.formula formula.now)) && checked.marks_fit [] (written.formula formula.now)))) }
+{
+    let has_destructor = formula_has_destructor(equations, formula);
+    let is_right = is_used_rightly(alloc, formula)?;
+    Ok(!has_destructor && is_right)
+}
+
+/// Tells of the first variable of the formula of this name that isn't guarded, where one is looked for.
+///
+/// # Errors
+///
+/// `AllocError` where memory is wanting.
+#[tactic(auto, using(crate::proofs::Formulas::unguarded_told))]
+pub fn tell_unguarded<'a>(
+    alloc: Global,
+    lines: &mut Vec<String>,
+    equations: &Vec<Equation>,
+    name: &'a str,
+    formula: &ReadFormula<'a>,
+) -> Result<(), AllocError>
+    ensures { OnOk result (lines_of lines.new.items ≡ lines_after (lines_of lines.old.items) (spec.unguarded_in_lemma (map equation_of equations.now.items) (statement name.now (written.formula formula.now)))) }
+{
+    let is_searched = is_searched(alloc, equations, formula)?;
+    if !is_searched {
+        return Ok(());
+    }
+    let unguarded = first_unguarded(alloc, formula)?;
+    tell_name(alloc, lines, name, unguarded)?;
+    Ok(())
+}

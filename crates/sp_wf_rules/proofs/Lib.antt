@@ -1,0 +1,3 @@
+pub mod RuleSorts
+pub mod RuleClean
+pub mod Standing

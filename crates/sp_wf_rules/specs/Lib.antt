@@ -1,0 +1,4 @@
+pub mod RuleFindings
+pub mod BindingFindings
+pub mod BindingView
+pub mod Told

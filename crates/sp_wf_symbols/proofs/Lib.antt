@@ -1,0 +1,6 @@
+pub mod Declaring
+pub mod EquationForms
+pub mod SymbolsClean
+pub mod UnknownClean
+pub mod EquationsClean
+pub mod EquationsOver

@@ -1,0 +1,11 @@
+use Rattle.std.proofs.Common.{◌≡◌, ◌&&◌, drop, map}
+use Rattle.sp_fact.specs.GroundView.{symbol_of, equation_of}
+use Rattle.sp_wf_symbols.specs.EquationFindings as spec
+use Rattle.sp_finding.specs.Finding.{are_none}
+use Rattle.sp_declared.specs.NumberedView.{numbered_of}
+use Rattle.sp_wf_symbols.proofs.equations.are_formed.Given as goal
+
+abbrev pub invariant-loop-one : goal.invariant-loop-one
+invariant-loop-one l =
+    (are_none (spec.shapes (map symbol_of l.symbols.items) (map equation_of l.equations.items) (map numbered_of l.numbered.items)) && are_none (spec.private_constants (map symbol_of l.symbols.items) (map equation_of l.equations.items) (map numbered_of l.numbered.items)))
+    ≡ (are_none (spec.shapes (map symbol_of l.symbols.items) (map equation_of l.equations.items) (map numbered_of (drop l.one-index l.one-items))) && are_none (spec.private_constants (map symbol_of l.symbols.items) (map equation_of l.equations.items) (map numbered_of (drop l.one-index l.one-items))))

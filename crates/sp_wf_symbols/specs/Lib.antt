@@ -1,0 +1,3 @@
+pub mod SymbolFindings
+pub mod EquationFindings
+pub mod Told
