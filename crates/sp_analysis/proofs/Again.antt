@@ -12,7 +12,7 @@ use Rattle.sp_spec_proof.proofs.Growing.{grown_tree_accepted}
 use Rattle.sp_check.specs.Skeleton.{tree_of}
 use Rattle.sp_check.specs.Skeleton as read
 use Rattle.sp_check.proofs.Right.{judgements_right}
-use Rattle.sp_spec_text.specs.Written.{WrittenProof, WrittenText, item_builtins, item_functions, lemmas_with_proofs, without_proofs}
+use Rattle.sp_spec_text.specs.Written.{WrittenProof, WrittenText, item_builtins, item_functions, item_attributes, lemmas_with_proofs, without_proofs}
 use Rattle.sp_spec_text.specs.Declared.{all_symbols, resolved, theory_in}
 use Rattle.sp_spec_text.proofs.Items.{kept, proved_by, lemmas_put, resolved_anew}
 use Rattle.sp_spec_text.specs.Texts.{IsTextOf}
@@ -27,9 +27,9 @@ use Rattle.sp_spec_text.specs.Behind.{IsBehindEnd}
 use Rattle.sp_law_reread.proofs.Behind.{behind_end}
 use Rattle.sp_law_reread.proofs.Items.{read_again}
 use Rattle.sp_law_reread.proofs.Replaced.{each_lemma, same_theory, trees_proofs}
-use Rattle.sp_analysis.proofs.Anew.{as_many_resolved, posed_anew}
+use Rattle.sp_analysis.proofs.Anew.{as_many_resolved, bound_kept, waits_kept, posed_anew}
 use Rattle.sp_analysis.specs.Sought.{root_of, Setting, setting_of, context_of}
-use Rattle.sp_spec_text.specs.Verdict.{Verdict, verified, falsified, incomplete, rejected, Says, summary_line}
+use Rattle.sp_spec_printed.specs.Verdict.{Verdict, verified, falsified, incomplete, rejected, Says, summary_line}
 use Rattle.sp_law_printed_log.specs.Block.{block_of, IsNumbered}
 use Rattle.sp_spec_text.specs.Numerals.{counted}
 use Rattle.sp_analysis.specs.Analysis.{Outcome, summary, trees_of, IsOutcome, AreOutcomes, IsAnalysis}
@@ -162,8 +162,10 @@ written_is_checked_lem = record { checked = checked }
           judged = js;
           checking = record {
             theory = again;
-            poses = posed_anew a.theory again (kept item_builtins (λ l p q. refl) a.theory.items (as_proofs trees)) (kept item_functions (λ l p q. refl) a.theory.items (as_proofs trees)) same a.poses
+            poses = posed_anew a.theory again (kept item_builtins (λ l as' p q. refl) a.theory.items (as_proofs trees)) (kept item_functions (λ l as' p q. refl) a.theory.items (as_proofs trees))
+                (bound_kept a.theory.items (as_proofs trees)) (kept item_attributes (λ l as' p q. refl) a.theory.items (as_proofs trees)) same a.poses
                 (subst (λ (bytes : List ℕ). IsTextOf bytes again) (sym a.written_is) says);
+            ready = waits_kept a.theory (as_proofs trees) ∙ a.ready;
             judged_are = subst (λ (t : WrittenTheory). AreJudged (setting_of t) [] (lemmas_with_proofs (resolved again).items) js) (sym same)
                 (subst (λ (qs : List (Lemma × Option WrittenProof)). AreJudged setting [] qs js) (sym put)
                 (are_again setting budget (lemmas_with_proofs (resolved a.theory).items) outcomes a.outcomes_are r));

@@ -18,9 +18,9 @@ use Rattle.sp_spec_text.specs.Declared.{resolved, theory_in}
 use Rattle.sp_spec_text.specs.Spans.{Span}
 use Rattle.sp_spec_text.specs.Texts.{ArePlaces}
 use Rattle.sp_read_theory.proofs.Whole.{text_one, places_one}
-use Rattle.sp_pose.proofs.One.{one_report, not_posed}
+use Rattle.sp_pose.proofs.One.{one_report, not_posed, refused_or_waiting, reported_or_waiting, ready_or_waiting}
 use Rattle.sp_analysis.specs.Sought.{root_of, Setting, setting_of, context_of, proof_tree, grown_log}
-use Rattle.sp_spec_text.specs.Verdict.{Verdict, verified, falsified, incomplete, rejected, Says}
+use Rattle.sp_spec_printed.specs.Verdict.{Verdict, verified, falsified, incomplete, rejected, Says}
 use Rattle.sp_analysis.specs.Analysis.{Outcome, IsOutcome, AreOutcomes, analysed_text, IsAnalysis}
 use Rattle.sp_analysis.specs.Checking.{Judged, checked_text, IsVerdictIn, IsVerdictOn, IsJudged, AreJudged, IsChecking}
 use Rattle.sp_analysis.specs.Printed.{by_leaves, by_tree, by_judgement, judged_log}
@@ -170,4 +170,8 @@ answers_are_one_lem = record {
   no_checking = λ text written place js h c. h.nothing.none c.theory c.poses.says;
   not_analysed = λ budget text lines written outcomes r a. not_posed r a.poses;
   not_checked = λ text lines written js r c. not_posed r c.poses;
+  refused_or_waiting = λ text place h w. refused_or_waiting h w;
+  reported_or_waiting = λ text lines r w. reported_or_waiting r w;
+  analysed_or_waiting = λ budget text written outcomes a w. ready_or_waiting a.poses a.ready w;
+  checked_or_waiting = λ text written js c w. ready_or_waiting c.poses c.ready w;
 }

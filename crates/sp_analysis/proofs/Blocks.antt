@@ -4,7 +4,7 @@ use Rattle.sp_spec.specs.Rule.{Action}
 use Rattle.sp_spec.specs.Execution.{Step}
 use Rattle.sp_spec.specs.Log.{Log, visible_trace}
 use Rattle.sp_spec.specs.Lists.{Every, newest_first}
-use Rattle.sp_spec_text.specs.Printed.{trace_block}
+use Rattle.sp_spec_printed.specs.Printed.{trace_block}
 use Rattle.sp_spec.proofs.Lists.{newest_twice}
 use Rattle.sp_show.specs.Numbers.{StepHasNames, numbered_names}
 use Rattle.sp_law_printed_log.proofs.CandidateNames.{every_newest}

@@ -2,7 +2,7 @@
 use Rattle.std.proofs.Common.{◌≡◌, ℕ, List, [], ◌∷◌, Option, refl, sym, ap, subst}
 use Rattle.sp_spec.specs.Theory.{Lemma}
 use Rattle.sp_spec.specs.Guarded.{Guarded}
-use Rattle.sp_spec_text.specs.Verdict.{Verdict}
+use Rattle.sp_spec_printed.specs.Verdict.{Verdict}
 use Rattle.sp_spec_text.specs.Written.{WrittenProof}
 use Rattle.sp_pose.specs.Asked.{Asked}
 use Rattle.sp_analysis.specs.Sought.{Setting, taken_by}

@@ -37,7 +37,7 @@ use Rattle.sp_written.specs.declared.theory.WrittenLemma.{WrittenLemma}
 use Rattle.sp_law_reread.specs.Again.{between, replaced}
 use Rattle.sp_pose.proofs.Forms.{AreForms, asked_list, has_forms, lemmas_said}
 use Rattle.sp_analysis.specs.Sought.{root_of, Setting, setting_of, executed, context_of, proof_tree, grown_log}
-use Rattle.sp_spec_text.specs.Verdict.{Verdict, Says}
+use Rattle.sp_spec_printed.specs.Verdict.{Verdict, Says}
 use Rattle.sp_law_printed_log.specs.Block.{block_by, IsNumberedBy}
 use Rattle.sp_spec_text.specs.Numerals.{counted}
 use Rattle.sp_analysis.specs.Analysis.{Outcome, summary_by, trees_of, IsOutcome, AreOutcomes}
@@ -46,6 +46,7 @@ use Rattle.sp_pose.specs.Asked.{Asked, asked_of, asked_with, lemmas_read}
 use Rattle.sp_analysis.specs.Printed.{Printed, printed_of, by_tree, by_judgement, judged_log, root_for, judged_so, to_print, all_to_print, IsNameable, AreNameable, line_of, lines, spliced, text_with, written_by}
 use Rattle.sp_analysis.specs.View.{verdict_of}
 use Rattle.sp_pose.specs.Posed.{IsPosedBy}
+use Rattle.sp_pose.proofs.WaitingItems.{is_ready}
 use Rattle.sp_analysis.specs.Replies.{IsAnalysed, IsChecked, IsDone, IsAnswered}
 use Rattle.sp_analysis.proofs.NoneTaken.{outcomes_from, judged_from, all_printed, nameable_parts, nameable_from}
 use Rattle.sp_pose.specs.declared.problem.Problem.{Problem}
@@ -65,7 +66,10 @@ spans_read [] = refl
 spans_read (i.Builtins b ∷ xs) = spans_read xs
 spans_read (i.Functions f ∷ xs) = spans_read xs
 spans_read (i.Equations e ∷ xs) = spans_read xs
+spans_read (i.Heuristic ws ∷ xs) = spans_read xs
+spans_read (i.Block w ∷ xs) = spans_read xs
 spans_read (i.Rule r ∷ xs) = spans_read xs
+spans_read (i.Restriction r ∷ xs) = spans_read xs
 spans_read (i.Lemma l ∷ xs) = ap (λ (ss : List Span). view.span_of l.span ∷ ss) (spans_read xs)
 
 abbrev printed_spans : List Printed → List Span
@@ -246,10 +250,13 @@ all_judged_right : (setting : Setting) (xs : List Item) (gs : List Guarded) → 
     → AreJudged setting [] (lemmas_with_proofs (view.items xs)) (all_judged setting (lemmas_read xs) gs)
 all_judged_right setting [] [] h = tt
 all_judged_right setting [] (g ∷ gs) h = absurd h
-all_judged_right setting (i.Rule r ∷ xs) gs h = all_judged_right setting xs gs h
 all_judged_right setting (i.Builtins b ∷ xs) gs h = all_judged_right setting xs gs h
 all_judged_right setting (i.Functions f ∷ xs) gs h = all_judged_right setting xs gs h
 all_judged_right setting (i.Equations e ∷ xs) gs h = all_judged_right setting xs gs h
+all_judged_right setting (i.Heuristic ws ∷ xs) gs h = all_judged_right setting xs gs h
+all_judged_right setting (i.Block w ∷ xs) gs h = all_judged_right setting xs gs h
+all_judged_right setting (i.Rule r ∷ xs) gs h = all_judged_right setting xs gs h
+all_judged_right setting (i.Restriction r ∷ xs) gs h = all_judged_right setting xs gs h
 all_judged_right setting (i.Lemma l ∷ xs) [] h = absurd h
 all_judged_right setting (i.Lemma l ∷ xs) (g ∷ gs) h =
     judged_from setting (view.lemma l, option_map view.proof l.proof) (lemmas_with_proofs (view.items xs)) (judged_of setting l g) (all_judged setting (lemmas_read xs) gs) (judged_right setting l g h.0)
@@ -297,7 +304,7 @@ setting_is p posed =
     ap₂ (setting_made (signature_of p.signature)) posed.rules_are posed.constants_are
     ∙ ap (λ (x : Signature). setting_made x (theory_of (theory_in posed.said)).rules (constants_of (theory_in posed.said))) posed.signature_is
 
-module _ {text : List ℕ} (p : Problem) (ts : List Tried) (written : List ℕ) (verdicts : List memory.Verdict) (posed : IsPosedBy text p) where
+module _ {text : List ℕ} (p : Problem) (ts : List Tried) (written : List ℕ) (verdicts : List memory.Verdict) (posed : IsPosedBy text p) (ready : p.waits ≡ false) where
   analysed : (budget : ℕ) → map printed_of ts ≡ all_to_print (Prove budget) (setting_for p) [] (map asked_of p.lemmas.items)
       → AreNameable (Prove budget) (setting_for p) [] (map asked_of p.lemmas.items)
       → written ≡ written_by (Prove budget) text (map printed_of ts) p.behind_end → verdicts ≡ verdicts_in ts → IsAnalysed budget text written (map verdict_of verdicts)
@@ -317,6 +324,7 @@ module _ {text : List ℕ} (p : Problem) (ts : List Tried) (written : List ℕ) 
         analysis = record {
           theory = posed.said;
           poses = posed.poses;
+          ready = is_ready p posed ready;
           outcomes_are = subst (λ (x : Setting). AreOutcomes x budget [] (theory_in posed.said).lemmas os) same right;
           places = outcomes_placed setting budget ls h.forms named;
           numbers = subst (λ (x : Setting). Every (λ (o : Outcome). IsNumberedBy (executed x) o.log) os) same (outcomes_numbered setting budget ls h.forms named);
@@ -346,6 +354,7 @@ module _ {text : List ℕ} (p : Problem) (ts : List Tried) (written : List ℕ) 
         checking = record {
           theory = posed.said;
           poses = posed.poses;
+          ready = is_ready p posed ready;
           judged_are = subst (λ (t : WrittenText). AreJudged (setting_of (theory_in posed.said)) [] (lemmas_with_proofs t.items) js) posed.resolved_is
               (subst (λ (x : Setting). AreJudged x [] (lemmas_with_proofs (view.items xs)) js) same (all_judged_right setting xs h.forms h.are));
           numbers = subst (λ (x : Setting). Every (λ (j : Judged). IsNumberedBy (executed x) j.log) js) same (judged_numbered setting ls h.forms (subst (λ (as' : List Asked). AreNameable Check setting [] as') h.is nameable));
@@ -361,11 +370,11 @@ module _ {text : List ℕ} (p : Problem) (ts : List Tried) (written : List ℕ) 
   is_done Check prints nameable written_is verdicts_are = checked prints nameable written_is verdicts_are
 
 -- so of what was answered
-pub is_answered : {text : List ℕ} {E : Type 0} (p : Problem) (ts : List Tried) (r : Result Answered E) → IsPosedBy text p → (command : Command)
+pub is_answered : {text : List ℕ} {E : Type 0} (p : Problem) (ts : List Tried) (r : Result Answered E) → IsPosedBy text p → p.waits ≡ false → (command : Command)
     → map printed_of ts ≡ all_to_print command (setting_for p) [] (map asked_of p.lemmas.items) → AreNameable command (setting_for p) [] (map asked_of p.lemmas.items)
     → IfOk r (λ a. a.written.items ≡ written_by command text (map printed_of ts) p.behind_end) → IfOk r (λ a. a.verdicts.items ≡ verdicts_in ts) → IfOk r (IsAnswered command text)
-is_answered p ts (Ok a) posed command prints nameable written_is verdicts_are = is_done p ts a.written.items a.verdicts.items posed command prints nameable written_is verdicts_are
-is_answered p ts (Err e) posed command prints nameable written_is verdicts_are = tt
+is_answered p ts (Ok a) posed ready command prints nameable written_is verdicts_are = is_done p ts a.written.items a.verdicts.items posed ready command prints nameable written_is verdicts_are
+is_answered p ts (Err e) posed ready command prints nameable written_is verdicts_are = tt
 
 -- ---- what is printed of a tree that was grown
 

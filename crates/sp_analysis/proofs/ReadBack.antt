@@ -5,7 +5,7 @@ use Rattle.sp_spec.proofs.Options.{then_some}
 use Rattle.sp_spec.specs.Log.{Entry, Log, log_trace, visible_trace}
 use Rattle.std.proofs.lemmas.Bool.{and_parts}
 use Rattle.sp_law_decide.specs.Deciding.{decided, empty}
-use Rattle.sp_spec_text.specs.StepLines.{IsWritableStep}
+use Rattle.sp_spec_printed.specs.StepLines.{IsWritableStep}
 use Rattle.sp_law_printed_log.specs.Shown.{IsShownAction}
 use Rattle.sp_spec.specs.Signature.{Signature}
 use Rattle.sp_spec.specs.Theory.{TraceKind, all_traces, exists_trace, Lemma, signature_of}
@@ -20,6 +20,7 @@ use Rattle.sp_law_log_execution.specs.Executed.{executed_of}
 use Rattle.sp_spec_text.specs.Written.{WrittenProof, WrittenText, lemmas_with_proofs, without_proofs}
 use Rattle.sp_spec_system.specs.Rules.{rules_of}
 use Rattle.sp_spec_text.specs.Declared.{resolved, theory_in}
+use Rattle.sp_spec_text.specs.Waiting.{waits}
 use Rattle.sp_spec_system.specs.Numbered.{names_in}
 use Rattle.sp_spec_proof.specs.Tree.{Tree, found_log}
 use Rattle.sp_law_system.specs.Rules.{SuitsProofs}
@@ -42,7 +43,7 @@ use Rattle.sp_law_printed_log.proofs.LogSteps.{logs_may_be_written_lem}
 use Rattle.sp_law_printed_log.proofs.ReadBack.{steps_are_read_back_lem}
 use Rattle.sp_law_printed_log.proofs.TextNames.{texts_have_names_lem}
 use Rattle.sp_check.specs.Skeleton.{Skeleton}
-use Rattle.sp_spec_text.specs.Verdict.{Verdict, verified, falsified, incomplete, rejected}
+use Rattle.sp_spec_printed.specs.Verdict.{Verdict, verified, falsified, incomplete, rejected}
 use Rattle.sp_spec_system.specs.Move.{Root, root_system}
 use Rattle.sp_analysis.specs.Sought.{root_of, sought, setting_of, context_of, proof_tree}
 use Rattle.sp_analysis.specs.Analysis.{Outcome, IsOutcome, AreOutcomes}
@@ -56,7 +57,7 @@ kept_entries : (b : Bool) (entries : List Entry) (log : Log) → kept_if b entri
 kept_entries true entries log e = (refl, cc)
 kept_entries false entries log e = absurd cc
 
-module _ (text : List ℕ) (written : WrittenText) (posing : Poses text written) where
+module _ (text : List ℕ) (written : WrittenText) (posing : Poses text written) (ready : waits written ≡ false) where
   abbrev theory : WrittenTheory
   theory = theory_in written
 
@@ -64,7 +65,7 @@ module _ (text : List ℕ) (written : WrittenText) (posing : Poses text written)
   signature = signature_of (theory_of theory)
 
   found_in : IsSearched theory
-  found_in = searched written posing
+  found_in = searched written posing ready
 
   suits : SuitsProofs (theory_of theory)
   suits = text_suits theory found_in.normal_forms found_in.basic found_in.right
@@ -93,7 +94,7 @@ module _ (text : List ℕ) (written : WrittenText) (posing : Poses text written)
       let rules = (rules_of (theory_of theory)).forms in
       let h = sought kind g in
       let constants = constants_of theory in
-      let end = ends_are_well_made_lem.ends (theory_of theory) suits (context_of (setting_of theory) root) (is_context written posing l f.0 g e [] kind) (root_system root) (begins_well l f g e kind) tree log is_found in
+      let end = ends_are_well_made_lem.ends (theory_of theory) suits (context_of (setting_of theory) root) (is_context written posing ready l f.0 g e [] kind) (root_system root) (begins_well l f g e kind) tree log is_found in
       let q = then_some (λ (entries : List Entry). kept_if (is_sought signature rules h entries) entries) (candidate constants end.0) log end.2 in
       let k = kept_entries (is_sought signature rules h q.0) q.0 log q.2 in
       let is = (log_decides (theory_of theory) (checkable theory found_in) q.0).0 (and_parts (is_log signature rules q.0) (decided (log_trace (newest_first q.0)) empty h) k.0).0 in
@@ -154,7 +155,7 @@ module _ (text : List ℕ) (written : WrittenText) (posing : Poses text written)
 pub executions_are_read_back_lem : ExecutionsAreReadBack
 executions_are_read_back_lem = record {
   tried = λ budget text written outcomes a.
-      outcomes_read text a.theory a.poses budget (theory_in a.theory).lemmas outcomes (lemmas_of a.poses) a.outcomes_are a.numbers;
+      outcomes_read text a.theory a.poses a.ready budget (theory_in a.theory).lemmas outcomes (lemmas_of a.poses a.ready) a.outcomes_are a.numbers;
   checked = λ text written judged c.
-      all_judged_read text c.theory c.poses (lemmas_with_proofs (resolved c.theory).items) judged (lemmas_of c.poses) c.judged_are c.numbers;
+      all_judged_read text c.theory c.poses c.ready (lemmas_with_proofs (resolved c.theory).items) judged (lemmas_of c.poses c.ready) c.judged_are c.numbers;
 }

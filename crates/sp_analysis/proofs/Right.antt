@@ -36,7 +36,7 @@ use Rattle.sp_wf.specs.Laws.{IsFineRule}
 use Rattle.sp_analysis.specs.Sought.{sought, root_of, setting_of, context_of}
 use Rattle.sp_analysis.specs.Analysis.{Outcome, IsOutcome, AreOutcomes}
 use Rattle.sp_analysis.specs.Laws.{Means, IsRejected, JudgedRightly, VerdictsAreRight}
-use Rattle.sp_spec_text.specs.Verdict.{Verdict, verified, falsified, incomplete, rejected, Says}
+use Rattle.sp_spec_printed.specs.Verdict.{Verdict, verified, falsified, incomplete, rejected, Says}
 use Rattle.sp_analysis.specs.Checking.{IsVerdictIn, IsVerdictOn, Judged, IsJudged, AreJudged}
 use Rattle.sp_analysis.proofs.NoneTaken.{outcome_parts, judged_parts}
 use Rattle.sp_spec_system.specs.System.{System}
@@ -45,8 +45,10 @@ use Rattle.sp_check.specs.Rejected.{ReadIsAccepted}
 use Rattle.sp_check.proofs.Right.{judgements_right}
 use Rattle.sp_spec_text.specs.Written.{WrittenProof, WrittenText, lemmas_with_proofs, without_proofs}
 use Rattle.sp_spec_text.specs.Declared.{resolved, theory_in}
+use Rattle.sp_spec_text.specs.Waiting.{waits}
 use Rattle.sp_pose.specs.Problem.{Poses}
-use Rattle.sp_pose.proofs.BasicTheories.{normal_forms, lemmas_are_basic, rules_are_basic, lemmas_unlearnt, keeps_public}
+use Rattle.sp_pose.proofs.BasicTheories.{normal_forms, lemmas_are_basic, rules_are_basic, keeps_public}
+use Rattle.sp_pose.proofs.WaitingItems.{unrestricted, lemmas_unlearnt}
 
 -- a proof isn't rejected exactly where it is accepted
 accepted_or_rejected : (context : Context) (s : System) (k : Skeleton) (kind : TraceKind) (v : Verdict) (log : Option Log) → IsVerdictIn context s k kind v log
@@ -84,16 +86,16 @@ IsLemmaOf theory l =
     IsBasicFormula (signature_of (theory_of theory)) l.formula × HasNames (names_in (constants_of theory)) l.formula
     × (names_learning l.formula ≡ false)
 
-pub lemmas_of : {bytes : List ℕ} {text : WrittenText} → Poses bytes text → Every (IsLemmaOf (theory_in text)) (theory_in text).lemmas
-lemmas_of {text = text} posing =
-    go (theory_in text).lemmas (λ l m. m) (lemmas_are_basic posing) (lemmas_unlearnt posing)
+pub lemmas_of : {bytes : List ℕ} {text : WrittenText} → Poses bytes text → waits text ≡ false → Every (IsLemmaOf (theory_in text)) (theory_in text).lemmas
+lemmas_of {text = text} posing ready =
+    go (theory_in text).lemmas (λ l m. m) (lemmas_are_basic posing) (lemmas_unlearnt text ready)
   where
     go : (ls : List Lemma) → ((l : Lemma) → Member l ls → Member l (theory_in text).lemmas) → Every (λ (l : Lemma). IsBasicFormula (signature_of (theory_of (theory_in text))) l.formula) ls
         → Every (λ (l : Lemma). names_learning l.formula ≡ false) ls → Every (IsLemmaOf (theory_in text)) ls
     go [] among h u = tt
     go (l ∷ ls) among h u = ((h.0, names_stand_lem.lemmas (theory_in text) l (among l (inl refl)) h.0, u.0), go ls (λ x m. among x (inr m)) h.1 u.1)
 
-module _ {bytes : List ℕ} (text : WrittenText) (posing : Poses bytes text) where
+module _ {bytes : List ℕ} (text : WrittenText) (posing : Poses bytes text) (ready : waits text ≡ false) where
   abbrev theory : WrittenTheory
   theory = theory_in text
 
@@ -106,7 +108,7 @@ module _ {bytes : List ℕ} (text : WrittenText) (posing : Poses bytes text) whe
     basic = rules_are_basic posing;
     rule_names = posing.fine.rule_names;
     right = every_weaken (IsFineRule signature.symbols signature.equations) _ (λ r h. h.right) theory.rules posing.fine.rules;
-    unrestricted = refl;
+    unrestricted = unrestricted text ready;
   }
 
   -- a proof of a lemma begins from its guarded form, or from the negation of that
@@ -223,7 +225,7 @@ module _ {bytes : List ℕ} (text : WrittenText) (posing : Poses bytes text) whe
 pub verdicts_are_right_lem : VerdictsAreRight
 verdicts_are_right_lem = record {
   right = λ budget text written outcomes a.
-      outcomes_right a.theory a.poses budget (theory_in a.theory).lemmas outcomes (lemmas_of a.poses) a.outcomes_are;
+      outcomes_right a.theory a.poses a.ready budget (theory_in a.theory).lemmas outcomes (lemmas_of a.poses a.ready) a.outcomes_are;
   judged_right = λ text written judged c.
-      all_judged_right c.theory c.poses (lemmas_with_proofs (resolved c.theory).items) judged (lemmas_of c.poses) c.judged_are;
+      all_judged_right c.theory c.poses c.ready (lemmas_with_proofs (resolved c.theory).items) judged (lemmas_of c.poses c.ready) c.judged_are;
 }

@@ -4,7 +4,7 @@ use Rattle.sp_spec.specs.Theory.{TraceKind}
 use Rattle.sp_spec_proof.specs.Tree.{Tree, IsFinished}
 use Rattle.sp_search.specs.Finished.{finished}
 use Rattle.sp_search.proofs.Finished.{finished_decides}
-use Rattle.sp_spec_text.specs.Verdict.{Verdict, incomplete}
+use Rattle.sp_spec_printed.specs.Verdict.{Verdict, incomplete}
 use Rattle.sp_analysis.specs.Printed.{shown, by_leaves}
 
 told : (b : Bool) (t : Tree) → IsTrue b ↔ IsFinished t → b ≡ finished t

@@ -1,6 +1,6 @@
 -- What is written of a text whose lemmas have been tried: the text with a proof tree behind each lemma's formula, and a comment with the
 -- verdicts and the executions that were found. Source of the shape: Tamarin manual, "Proofs" and "Output"; the words are this project's own.
-use Rattle.std.specs.Prelude.{◌≡◌, ℕ, Option, Some, List, [], ◌∷◌, ◌++◌, map, codes}
+use Rattle.std.specs.Prelude.{◌≡◌, ℕ, false, Option, Some, List, [], ◌∷◌, ◌++◌, map, codes}
 use Rattle.sp_spec.specs.Lists.{Every}
 use Rattle.sp_spec.specs.Theory.{Theory, Lemma}
 use Rattle.sp_spec.specs.Written.{theory_of}
@@ -13,13 +13,14 @@ use Rattle.sp_spec_proof.specs.Tree.{Tree, IsFinished, steps}
 use Rattle.sp_skel.specs.Places.{HavePlaces}
 use Rattle.sp_spec_text.specs.Written.{WrittenText}
 use Rattle.sp_spec_text.specs.Declared.{theory_in}
+use Rattle.sp_spec_text.specs.Waiting.{waits}
 use Rattle.sp_spec_text.specs.Spans.{Span}
 use Rattle.sp_spec_text.specs.Texts.{ArePlaces}
 use Rattle.sp_law_reread.specs.Again.{replaced}
 use Rattle.sp_pose.specs.Problem.{Poses}
 use Rattle.sp_analysis.specs.Sought.{root_of, taken_by, Setting, setting_of, proof_tree, grown_log}
 use Rattle.sp_spec_text.specs.Numerals.{counted}
-use Rattle.sp_spec_text.specs.Verdict.{Verdict, Says, summary_line}
+use Rattle.sp_spec_printed.specs.Verdict.{Verdict, Says, summary_line}
 use Rattle.sp_law_printed_log.specs.Block.{block_by, IsNumbered}
 
 -- what came of a lemma; with the log with which the search ended, if it did
@@ -62,11 +63,12 @@ AreOutcomes setting budget taken [] (o ∷ os) = ⊥
 AreOutcomes setting budget taken (l ∷ ls) [] = ⊥
 AreOutcomes setting budget taken (l ∷ ls) (o ∷ os) = IsOutcome setting budget taken l o × AreOutcomes setting budget (taken ++ taken_by l o.verdict) ls os
 
--- Each lemma that the text poses is tried, and its proof and its verdict stand in what is written. Each place that a proof names is one that a
+-- Each lemma that the text poses is tried, if it writes nothing that nothing is proved of yet, and its proof and its verdict stand in what is written. Each place that a proof names is one that a
 -- text can name, and so is each fresh name of an execution; were one not, that would be want of memory.
 pub record IsAnalysis (budget : ℕ) (text written : List ℕ) (outcomes : List Outcome) : Type 0 where
   pub theory : WrittenText
   pub poses : Poses text theory
+  pub ready : waits theory ≡ false
   pub outcomes_are : AreOutcomes (setting_of (theory_in theory)) budget [] (theory_in theory).lemmas outcomes
   pub places : Every (λ (o : Outcome). HavePlaces o.tree) outcomes
   pub numbers : Every (λ (o : Outcome). IsNumbered (theory_of (theory_in theory)) o.log) outcomes

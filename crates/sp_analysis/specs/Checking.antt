@@ -1,7 +1,7 @@
 -- What is written of a text whose proofs have been checked: a line for each lemma, with the execution
 -- that was found behind it. A lemma without a proof has an open one.
 -- Source: Tamarin manual, "Proofs" (proofs that stand in a text are checked step by step).
-use Rattle.std.specs.Prelude.{◌≡◌, ℕ, Option, Some, None, List, [], ◌∷◌, ◌++◌}
+use Rattle.std.specs.Prelude.{◌≡◌, ℕ, false, Option, Some, None, List, [], ◌∷◌, ◌++◌}
 use Rattle.sp_spec.specs.Lists.{Every}
 use Rattle.sp_spec.specs.Theory.{TraceKind, Theory, Lemma}
 use Rattle.sp_spec.specs.Written.{theory_of}
@@ -17,11 +17,12 @@ use Rattle.sp_check.specs.Skeleton.{Skeleton, node_read, none_read, known, tree_
 use Rattle.sp_check.specs.Rejected.{IsRejectedAt}
 use Rattle.sp_spec_text.specs.Written.{WrittenProof, WrittenText, lemmas_with_proofs}
 use Rattle.sp_spec_text.specs.Declared.{resolved, theory_in}
+use Rattle.sp_spec_text.specs.Waiting.{waits}
 use Rattle.sp_skel.specs.Steps.{skeleton}
 use Rattle.sp_pose.specs.Problem.{Poses}
 use Rattle.sp_analysis.specs.Sought.{root_of, taken_by, Setting, setting_of, context_of}
 use Rattle.sp_spec_text.specs.Numerals.{counted}
-use Rattle.sp_spec_text.specs.Verdict.{Verdict, rejected, Says, summary_line}
+use Rattle.sp_spec_printed.specs.Verdict.{Verdict, rejected, Says, summary_line}
 use Rattle.sp_law_printed_log.specs.Block.{block_by, IsNumbered}
 
 -- the tree that the proof of a lemma says
@@ -71,11 +72,12 @@ AreJudged setting taken [] (j ∷ js) = ⊥
 AreJudged setting taken (q ∷ qs) [] = ⊥
 AreJudged setting taken (q ∷ qs) (j ∷ js) = IsJudged setting taken q.0 q.1 j × AreJudged setting (taken ++ taken_by q.0 j.verdict) qs js
 
--- The proof of each lemma that the text poses is checked, and its verdict stands in what is written. Each fresh name of an execution is one that a
+-- The proof of each lemma that the text poses is checked, if it writes nothing that nothing is proved of yet, and its verdict stands in what is written. Each fresh name of an execution is one that a
 -- text can name.
 pub record IsChecking (text written : List ℕ) (judged : List Judged) : Type 0 where
   pub theory : WrittenText
   pub poses : Poses text theory
+  pub ready : waits theory ≡ false
   pub judged_are : AreJudged (setting_of (theory_in theory)) [] (lemmas_with_proofs (resolved theory).items) judged
   pub numbers : Every (λ (j : Judged). IsNumbered (theory_of (theory_in theory)) j.log) judged
   pub written_is : written ≡ checked_text (theory_of (theory_in theory)) judged

@@ -4,20 +4,20 @@ use Rattle.sp_spec.specs.Lists.{Every}
 use Rattle.sp_spec.specs.Theory.{TraceKind, all_traces, exists_trace, Theory, Lemma, signature_of}
 use Rattle.sp_spec.specs.Log.{Log, visible_trace}
 use Rattle.sp_law_log_execution.specs.Executed.{executed_of}
-use Rattle.sp_spec_text.specs.Printed.{step_text}
-use Rattle.sp_spec_text.specs.StepLines.{IsWritableStep, AreSteps}
+use Rattle.sp_spec_printed.specs.Printed.{step_text}
+use Rattle.sp_spec_printed.specs.StepLines.{IsWritableStep, AreSteps}
 use Rattle.sp_law_printed_log.specs.Block.{oldest_first}
 use Rattle.sp_law_printed_log.specs.Shown.{IsShownTrace}
 use Rattle.sp_spec.specs.Written.{WrittenTheory, theory_of}
 use Rattle.sp_spec.specs.Verdict.{HoldsInReading, HoldsInNoReading}
 use Rattle.sp_check.specs.Rejected.{ReadIsAccepted}
-use Rattle.sp_spec_text.specs.Verdict.{Clause, Verdict, verified, falsified, incomplete, rejected}
+use Rattle.sp_spec_printed.specs.Verdict.{Clause, Verdict, verified, falsified, incomplete, rejected}
 use Rattle.sp_spec_proof.specs.Tree.{Tree}
 use Rattle.sp_spec_text.specs.Written.{WrittenText, proofs_in}
 use Rattle.sp_spec_text.specs.Declared.{theory_in}
 use Rattle.sp_skel.specs.Spelling.{as_written}
 use Rattle.sp_place.specs.Refused.{IsRefusedAt}
-use Rattle.sp_pose.specs.Problem.{IsReported}
+use Rattle.sp_pose.specs.Problem.{IsReported, IsWaiting}
 use Rattle.sp_spec_text.specs.Behind.{IsBehindEnd}
 use Rattle.sp_law_found_log.specs.Shown.{FoundBreaks, FoundSatisfies}
 use Rattle.sp_spec_system.specs.Move.{root_system}
@@ -54,7 +54,7 @@ pub record VerdictsAreRight : Type 0 where
   pub judged_right : (text written : List ℕ) (judged : List Judged) (c : IsChecking text written judged)
       → Every (JudgedRightly (theory_in c.theory)) judged
 
--- Of a text one thing is written, by each command and budget; and only one of three things comes of it: it is refused, reported on, or done with.
+-- Of a text one thing is written, by each command and budget; and only one of four things comes of it: it is refused, reported on, or done with, or it waits.
 pub record AnswersAreOne : Type 0 where
   pub one : (budget : ℕ) (text written other : List ℕ) (outcomes others : List Outcome) → IsAnalysis budget text written outcomes → IsAnalysis budget text other others → (written ≡ other) × (outcomes ≡ others)
   pub one_check : (text written other : List ℕ) (judged others : List Judged) → IsChecking text written judged → IsChecking text other others → (written ≡ other) × (judged ≡ others)
@@ -64,6 +64,10 @@ pub record AnswersAreOne : Type 0 where
   pub no_checking : (text written : List ℕ) (place : ℕ) (judged : List Judged) → IsRefusedAt text place → IsChecking text written judged → ⊥
   pub not_analysed : (budget : ℕ) (text lines written : List ℕ) (outcomes : List Outcome) → IsReported text lines → IsAnalysis budget text written outcomes → ⊥
   pub not_checked : (text lines written : List ℕ) (judged : List Judged) → IsReported text lines → IsChecking text written judged → ⊥
+  pub refused_or_waiting : (text : List ℕ) (place : ℕ) → IsRefusedAt text place → IsWaiting text → ⊥
+  pub reported_or_waiting : (text lines : List ℕ) → IsReported text lines → IsWaiting text → ⊥
+  pub analysed_or_waiting : (budget : ℕ) (text written : List ℕ) (outcomes : List Outcome) → IsAnalysis budget text written outcomes → IsWaiting text → ⊥
+  pub checked_or_waiting : (text written : List ℕ) (judged : List Judged) → IsChecking text written judged → IsWaiting text → ⊥
 
 -- What was written says the same theory, and the trees that were grown are its proofs; checked, each lemma gets the same line, the same
 -- verdict and the same log. Behind its word `end` stands the summary.

@@ -16,7 +16,7 @@ use Rattle.sp_spec_text.specs.Spans.{Span, goes_on}
 use Rattle.sp_pose.specs.Asked.{Asked}
 use Rattle.sp_spec_system.specs.Move.{Root, root_system}
 use Rattle.sp_analysis.specs.Sought.{root_of, Setting, executed, context_of, proof_tree, grown_log}
-use Rattle.sp_spec_text.specs.Verdict.{Verdict, verified, falsified, incomplete, rejected, summary_line}
+use Rattle.sp_spec_printed.specs.Verdict.{Verdict, verified, falsified, incomplete, rejected, summary_line}
 use Rattle.sp_law_printed_log.specs.Block.{block_by, IsNumberedBy}
 use Rattle.sp_law_reread.specs.Again.{between}
 use Rattle.sp_spec_text.specs.Numerals.{counted}

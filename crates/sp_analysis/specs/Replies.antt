@@ -1,6 +1,6 @@
 -- What is done with a text, by what is to be done with it.
 use Rattle.std.specs.Prelude.{◌≡◌, ℕ, List, map}
-use Rattle.sp_spec_text.specs.Verdict.{Verdict}
+use Rattle.sp_spec_printed.specs.Verdict.{Verdict}
 use Rattle.sp_analysis.specs.Analysis.{Outcome, IsAnalysis}
 use Rattle.sp_analysis.specs.Checking.{Judged, IsChecking}
 use Rattle.sp_analysis.specs.View.{verdict_of}

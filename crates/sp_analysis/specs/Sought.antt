@@ -15,7 +15,7 @@ use Rattle.sp_spec_system.specs.Rules.{rules_of}
 use Rattle.sp_spec_forms.specs.Forms.{RuleForms}
 use Rattle.sp_spec.specs.Execution.{Step}
 use Rattle.sp_law_log_execution.specs.Executed.{linking_of, executed_by}
-use Rattle.sp_spec_text.specs.Verdict.{Verdict}
+use Rattle.sp_spec_printed.specs.Verdict.{Verdict}
 
 -- What a lemma with this verdict gives to the proofs of the lemmas behind it: nothing as yet. (Whatever rests on that has to say so.)
 unfoldable pub taken_by : Lemma → Verdict → List Guarded

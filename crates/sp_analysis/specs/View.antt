@@ -5,7 +5,7 @@ use Rattle.sp_fact.specs.GroundView.{signature_of}
 use Rattle.sp_book.specs.BookView.{book_of}
 use Rattle.sp_check.specs.View.{clause_of}
 use Rattle.sp_analysis.specs.Sought as sought
-use Rattle.sp_spec_text.specs.Verdict as spec
+use Rattle.sp_spec_printed.specs.Verdict as spec
 use Rattle.sp_analysis.specs.declared.setting.Setting.{Setting}
 use Rattle.sp_analysis.specs.declared.verdict.Verdict.{Verdict}
 use Rattle.sp_analysis.specs.declared.verdict.Verdict.TheVariants.{Verified, Falsified, Incomplete, Rejected}

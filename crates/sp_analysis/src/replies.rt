@@ -1,6 +1,6 @@
 // What comes of a text.
 
-ghost use Rattle.std.specs.Prelude.{◌≡◌, ◌≤◌, IfOk, length, map};
+ghost use Rattle.std.specs.Prelude.{◌≡◌, ◌≤◌, false, IfOk, length, map};
 ghost use Rattle.sp_written.specs.Views as view;
 ghost use Rattle.sp_spec_text.specs.Spans.{Rise};
 ghost use Rattle.sp_pose.specs.Posed.{IsPosedBy};
@@ -52,14 +52,15 @@ fn answered_by(
     Ok(Answered { written, verdicts })
 }
 
-/// What is done with a problem of the text.
+/// What is done with a problem of the text, in which nothing waits.
 fn done(
     alloc: Global,
     command: Command,
     text: &[u8],
     problem: Problem,
 ) -> Result<Answered, AllocError>
-    requires { IsPosedBy text.now problem }
+    requires posed { IsPosedBy text.now problem }
+    requires ready { problem.waits ≡ false }
     ensures { IfOk result (IsAnswered command text.now) }
 {
     let book = book(alloc, &problem.signature.equations, &problem.rules)?;
@@ -68,6 +69,7 @@ fn done(
         rules: _,
         constants,
         lemmas,
+        waits: _,
         behind_end,
     } = problem;
     let setting = Setting {
@@ -79,7 +81,25 @@ fn done(
     answered_by(alloc, command, text, &tried, behind_end)
 }
 
-/// What comes of a text: it is refused at a place, or there are findings on its theory, or each of its lemmas is tried, or the proof of each is checked.
+/// What comes of a problem of the text.
+fn reply(
+    alloc: Global,
+    command: Command,
+    text: &[u8],
+    problem: Problem,
+) -> Result<Reply<Answered>, AllocError>
+    requires { IsPosedBy text.now problem }
+    ensures { IfOk result (IsReplyTo (IsAnswered command) text.now) }
+{
+    if problem.waits {
+        Ok(Reply::Waiting)
+    } else {
+        let answered = done(alloc, command, text, problem)?;
+        Ok(Reply::Done(answered))
+    }
+}
+
+/// What comes of a text: it is refused at a place, or there are findings on its theory, or it waits, or each of its lemmas is tried, or the proof of each is checked.
 ///
 /// # Errors
 ///
@@ -90,9 +110,6 @@ pub fn answer(alloc: Global, command: Command, text: &[u8]) -> Result<Reply<Answ
     match posed_by(alloc, text)? {
         Read::Refused(place) => Ok(Reply::Refused(place)),
         Read::Reported(lines) => Ok(Reply::Reported(lines)),
-        Read::Posed(problem) => {
-            let answered = done(alloc, command, text, problem)?;
-            Ok(Reply::Done(answered))
-        }
+        Read::Posed(problem) => reply(alloc, command, text, problem),
     }
 }

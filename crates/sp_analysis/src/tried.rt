@@ -29,7 +29,6 @@ use sp_check::{Judgement, Skeleton, Step, judge};
 use sp_formula::formula::Formula;
 use sp_guard::negate::negate;
 use sp_learn::log::Log;
-use sp_order::order::Order;
 use sp_pose::GuardedLemma;
 use sp_search::{Tree, grown_tree, is_finished, steps};
 use sp_skel::{skeleton, tree_text};
@@ -75,18 +74,8 @@ fn root(alloc: Global, sought: &Formula) -> Result<System, AllocError>
 {
     let mut formulas = Vec::new(alloc);
     formulas.push(sought.clone()?)?;
-    let order = Order::new(alloc)?;
-    Ok(System {
-        events: Vec::new(alloc),
-        formulas,
-        spent: Vec::new(alloc),
-        unequal: Vec::new(alloc),
-        links: Vec::new(alloc),
-        order,
-        last: None,
-        closed: false,
-        next: 0,
-    })
+    let system = System::of_formulas(alloc, formulas)?;
+    Ok(system)
 }
 
 /// What the lemma's proof is made in: the search ends with a log over whose trace the formula is true.

@@ -5,7 +5,7 @@ ghost use Rattle.sp_check.specs.View.{clause_of};
 ghost use Rattle.sp_written.specs.Views as view;
 ghost use Rattle.sp_spec_text.specs.Spans as places;
 ghost use Rattle.sp_spec_text.specs.Spans.{Rise};
-ghost use Rattle.sp_spec_text.specs.Verdict as spec;
+ghost use Rattle.sp_spec_printed.specs.Verdict as spec;
 ghost use Rattle.sp_law_reread.specs.Again.{between};
 ghost use Rattle.sp_analysis.specs.View.{verdict_of};
 ghost use Rattle.sp_analysis.specs.Printed as print;

@@ -11,7 +11,7 @@ use Rattle.sp_spec_proof.specs.Tree.{is_solved, first_log}
 use Rattle.sp_check.specs.Skeleton.{Step, known, unknown, Skeleton, node_read, none_read, branch_names}
 use Rattle.sp_check.specs.Nodes.{NodeRead, with_names, cases_at, over, tree_read, node_walked, walk_all}
 use Rattle.sp_check.specs.Judging.{Checked, fails, leads_to, ends_with, are_named, cases_checked, log_checked, step_checked, NodesJudged, passed, stopped, walked_on, walk, walk_checked}
-use Rattle.sp_spec_text.specs.Verdict.{clause_cases}
+use Rattle.sp_spec_printed.specs.Verdict.{clause_cases}
 use Rattle.sp_check.proofs.Names.{named_as_many}
 
 pub names_kept : (names : List (List ℕ)) (ks : List Skeleton) → length names ≡ length ks → branch_names (with_names names ks) ≡ names

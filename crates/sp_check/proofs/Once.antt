@@ -4,7 +4,7 @@ use Rattle.sp_spec_system.specs.System.{System}
 use Rattle.sp_spec_system.specs.Move.{Context, Case}
 use Rattle.sp_check.specs.Skeleton.{Step, known, unknown, Skeleton, node_read, BranchesRead, none_read, branch_read, nodes, nodes_in}
 use Rattle.sp_check.specs.Rejected.{IsMove, step_cases, case_names, IsFine, FailsFirst, ReadIsAccepted, IsRejectedAt, AreRejectedAt}
-use Rattle.sp_spec_text.specs.Verdict.{Clause, clause_move, clause_instance, clause_cases}
+use Rattle.sp_spec_printed.specs.Verdict.{Clause, clause_move, clause_instance, clause_cases}
 use Rattle.sp_check.proofs.Shape.{ReadAreAccepted, first_accepted, accepted_node}
 
 move_of_cases : (context : Context) (s : System) (step : Step) (cs : List Case) → step_cases context s step ≡ Some cs → IsMove step

@@ -9,7 +9,7 @@ use Rattle.sp_spec_proof.specs.Growth.{has_end}
 use Rattle.sp_spec_proof.proofs.TreeLogs.{log_at_end, no_log, finished_no_end}
 use Rattle.sp_check.specs.Skeleton.{Skeleton, tree_of, has_open}
 use Rattle.sp_check.specs.Rejected.{ReadIsAccepted, IsRejectedAt}
-use Rattle.sp_spec_text.specs.Verdict.{Clause}
+use Rattle.sp_spec_printed.specs.Verdict.{Clause}
 use Rattle.sp_check.specs.Judging.{Judgement, rejected, found, finished, incomplete, NodesJudged, passed, stopped, walk, judged, judgement}
 use Rattle.sp_check.specs.Laws.{JudgementsAreRight}
 use Rattle.sp_check.proofs.Walking.{WalkTells, walk_tells}

@@ -9,7 +9,7 @@ use Rattle.sp_spec_proof.specs.Tree.{node, no_branch, IsAccepted, AreAccepted, i
 use Rattle.sp_spec_proof.proofs.Logs.{log_last, log_regroup}
 use Rattle.sp_check.specs.Skeleton.{known, unknown, Skeleton, node_read, BranchesRead, none_read, branch_read, branch_names, nodes, nodes_in}
 use Rattle.sp_check.specs.Rejected.{case_names, IsRejectedAt, AreRejectedAt}
-use Rattle.sp_spec_text.specs.Verdict.{clause_cases}
+use Rattle.sp_spec_printed.specs.Verdict.{clause_cases}
 use Rattle.sp_check.specs.Judging.{are_named, fails, leads_to, cases_checked, log_checked, NodesJudged, passed, stopped, walked_on, walk, walk_checked}
 use Rattle.sp_check.proofs.Names.{named_decides}
 use Rattle.sp_check.proofs.Shape.{ReadHas, ReadHave, more_have, node_has}

@@ -6,7 +6,7 @@ use Rattle.sp_spec_system.specs.Move.{Move, Context, Case, end_log}
 use Rattle.sp_spec_proof.specs.Cases.{cases}
 use Rattle.sp_spec_proof.specs.Tree.{is_solved, first_log}
 use Rattle.sp_check.specs.Skeleton.{Step, known, unknown, Skeleton, node_read, BranchesRead, none_read, branch_read, branch_names, has_open}
-use Rattle.sp_spec_text.specs.Verdict.{Clause, clause_move, clause_instance, clause_cases}
+use Rattle.sp_spec_printed.specs.Verdict.{Clause, clause_move, clause_instance, clause_cases}
 
 -- What comes of a tree: the number of the step that is rejected, and the clause that it fails of; else the log of the first leaf with
 -- which the search ends; else whether it has no open leaf.

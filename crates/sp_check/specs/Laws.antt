@@ -7,7 +7,7 @@ use Rattle.sp_spec_proof.specs.Tree.{Tree, IsAccepted, IsFinished, found_log}
 use Rattle.sp_spec_proof.specs.Tree as tree
 use Rattle.sp_check.specs.Skeleton.{Skeleton, tree_of, nodes, steps}
 use Rattle.sp_check.specs.Rejected.{ReadIsAccepted, IsRejectedAt}
-use Rattle.sp_spec_text.specs.Verdict.{Clause}
+use Rattle.sp_spec_printed.specs.Verdict.{Clause}
 use Rattle.sp_check.specs.Judging.{rejected, found, finished, incomplete, judgement}
 
 -- Judgements of trees that were read. A tree is rejected at its first step that fails, with the first clause that this step fails of,

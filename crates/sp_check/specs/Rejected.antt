@@ -6,7 +6,7 @@ use Rattle.sp_spec_system.specs.Move.{Context, Case}
 use Rattle.sp_spec_proof.specs.Cases.{cases}
 use Rattle.sp_spec_proof.specs.Tree.{Tree, IsAccepted}
 use Rattle.sp_check.specs.Skeleton.{Step, known, unknown, Skeleton, node_read, BranchesRead, none_read, branch_read, branch_names, tree_of, nodes}
-use Rattle.sp_spec_text.specs.Verdict.{Clause, clause_move, clause_instance, clause_cases}
+use Rattle.sp_spec_printed.specs.Verdict.{Clause, clause_move, clause_instance, clause_cases}
 
 abbrev pub IsMove : Step → Type 0
 IsMove (known move) = Unit {0}

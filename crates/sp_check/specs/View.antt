@@ -7,7 +7,7 @@ use Rattle.sp_spec_system.specs.System as system
 use Rattle.sp_step.specs.View.{move_of, case_of}
 use Rattle.sp_check.specs.Nodes.{NodeRead, tree_read}
 use Rattle.sp_check.specs.Skeleton as spec
-use Rattle.sp_spec_text.specs.Verdict as clause
+use Rattle.sp_spec_printed.specs.Verdict as clause
 use Rattle.sp_check.specs.Judging as judging
 use Rattle.sp_check.specs.declared.skeleton.Step.{Step}
 use Rattle.sp_check.specs.declared.skeleton.Step.TheVariants.{Known, Unknown}

@@ -18,15 +18,19 @@ use sp_step::context::Context;
 use sp_step::moves::{Case, Move, cases};
 use sp_system::system::System;
 use std::alloc::{AllocError, Global};
+use thiserror::Error;
 
 /// What a step fails of.
-#[derive(Clone, Copy, Debug, PartialEq, Eq)]
+#[derive(Clone, Copy, Debug, PartialEq, Eq, Error)]
 pub enum Clause {
     /// its text is no move's
+    #[error("the text of the step is that of no move")]
     Move,
     /// its move is no instance here
+    #[error("the move cannot be made here")]
     Instance,
     /// its branches don't have the names of the move's cases, in their order
+    #[error("the branches are not the cases of the move, in their order")]
     Cases,
 }
 

@@ -10,6 +10,7 @@ ghost use Rattle.std.specs.Prelude.{◌≡◌, ◌<◌, ◌≤◌, ◌↔◌, Li
 ghost use Rattle.sp_io.specs.Told.{Rose, extended, IsExtendedByPrefix, IsCutShort};
 
 use std::alloc::{AllocError, Global};
+use thiserror::Error;
 
 mod mem_library;
 mod mem_sink;
@@ -20,15 +21,19 @@ pub use mem_sink::MemSink;
 pub use sure::{SureLibrary, SureSink};
 
 /// Why a fetch gave no bytes.
-#[derive(Clone, Copy, Debug, PartialEq, Eq)]
+#[derive(Clone, Copy, Debug, PartialEq, Eq, Error)]
 pub enum FetchFail {
     /// The library failed; its count of faults rose.
+    #[error("the library failed")]
     Failed = 1,
     /// There are more bytes than the limit.
+    #[error("the text is longer than the limit")]
     TooLong = 2,
     /// Memory was wanting.
+    #[error("out of memory")]
     NoMemory = 3,
     /// Nothing is held under the name.
+    #[error("nothing is held under this name")]
     Missing = 4,
 }
 
@@ -43,7 +48,8 @@ impl From<AllocError> for FetchFail {
 }
 
 /// The sink failed; its count of faults rose.
-#[derive(Clone, Copy, Debug, PartialEq, Eq)]
+#[derive(Clone, Copy, Debug, PartialEq, Eq, Error)]
+#[error("the sink failed")]
 pub struct Failed;
 
 /// A place that holds texts under names.

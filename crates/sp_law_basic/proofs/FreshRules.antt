@@ -1,5 +1,6 @@
 -- What premises Fr of a written rule without findings take: a variable of sort fresh.
 use Rattle.std.proofs.Common.{◌≡◌, ℕ, Bool, true, false, not, ◌&&◌, ◌||◌, if◌then◌else◌, List, [], ◌∷◌, map, inl, inr, refl, sym, ap, ◌∙◌, subst, true≢false}
+use Rattle.std.proofs.Math.Bool.{or-true}
 use Rattle.std.proofs.lemmas.Bool.{and_parts, or_parts, or_left, or_right, and_from}
 use Rattle.std.proofs.lemmas.Slice.Eq.{bytes_eq-Decides}
 use Rattle.sp_spec.specs.Lists.{Member, Every}
@@ -23,17 +24,13 @@ fresh_sort : (facts : Facts Written) (x : List ℕ) → is_fr_argument x facts.p
 fresh_sort facts x e =
     ap (λ (b : Bool). if b || is_written Fresh x (occurrences facts) then Fresh else if is_written Pub x (occurrences facts) then Pub else Msg) e
 
-or_true : (b : Bool) → (b || true) ≡ true
-or_true true = refl
-or_true false = refl
-
 module _ (facts : Facts Written) (f : Fact Written) (m : Member f facts.premises) where
   abbrev Wrong : Terms Written → Bool
   Wrong ts = f.persistent || not (is_one ts)
 
   -- more or less than one argument
   not_one : (ts : Terms Written) → is_one ts ≡ false → (true && Wrong ts) ≡ false → ⊥
-  not_one ts one e = true≢false (sym (ap (λ (b : Bool). f.persistent || not b) one ∙ or_true f.persistent) ∙ e)
+  not_one ts one e = true≢false (sym (ap (λ (b : Bool). f.persistent || not b) one ∙ or-true f.persistent) ∙ e)
 
   fresh_args : (ts : Terms Written) → f.args ≡ ts → is_fr_named f ≡ true → (is_fr_named f && Wrong ts) ≡ false
       → (is_fr_named f && is_one ts && not (is_fresh_variable ts)) ≡ false → IsFreshVariable (valued_all (numbered_in facts) ts)

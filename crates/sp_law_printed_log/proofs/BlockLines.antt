@@ -8,11 +8,11 @@ use Rattle.sp_spec.specs.Signature.{Symbol}
 use Rattle.sp_spec.specs.Term.{Ground, Grounds, var, constant, name, app, none, more, count}
 use Rattle.sp_spec.specs.Rule.{Action}
 use Rattle.sp_spec.specs.Execution.{Step, make_fresh, use_rule, take_out, put_in, know_public, make_own, apply_symbol, Trace}
-use Rattle.sp_spec_text.specs.Printed.{is_pair, text_at, row_text, term_text, arguments_text, given_text, step_text, action_text, more_actions_text, entry_text, entries_text, trace_block}
+use Rattle.sp_spec_printed.specs.Printed.{is_pair, text_at, row_text, term_text, arguments_text, given_text, step_text, action_text, more_actions_text, entry_text, entries_text, trace_block}
 use Rattle.sp_spec_text.specs.Names.{IsWord}
-use Rattle.sp_spec_text.specs.StepLines.{HaveNames, IsWritable, IsWritableStep}
+use Rattle.sp_spec_printed.specs.StepLines.{HaveNames, IsWritable, IsWritableStep}
 use Rattle.sp_spec_text.specs.Blanks.{lines}
-use Rattle.sp_spec_text.proofs.SymbolNames.{symbol_named}
+use Rattle.sp_spec_printed.proofs.SymbolNames.{symbol_named}
 use Rattle.sp_law_printed_log.specs.Block.{steps_text}
 use Rattle.sp_law_printed_log.specs.Shown.{IsShownAction, IsShownTrace}
 use Rattle.sp_law_printed_log.specs.Laws.{StepsAreReadBack}

@@ -17,7 +17,7 @@ use Rattle.sp_spec_solved.specs.Listing.{in_order}
 use Rattle.sp_spec_solved.specs.Naming.{in_term, in_chain, in_way, in_step, in_events, variables_of, values_of}
 use Rattle.sp_spec_solved.specs.Candidate.{is_ready, how_at, entry_at, event_sources, entries_of, logged, candidate}
 use Rattle.sp_law_truth.proofs.Only.{is_among_member}
-use Rattle.sp_spec_text.specs.StepLines.{IsQuotable}
+use Rattle.sp_spec_printed.specs.StepLines.{IsQuotable}
 use Rattle.sp_law_printed_log.specs.Laws.{CandidatesHaveNames}
 use Rattle.sp_law_candidate.proofs.Listed.{every_listed}
 use Rattle.sp_law_candidate.proofs.Names.{all_seen}

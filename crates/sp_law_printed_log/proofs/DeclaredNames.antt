@@ -9,25 +9,30 @@ use Rattle.sp_spec.specs.Formula.{Written}
 use Rattle.sp_spec_text.specs.Lex.{skip}
 use Rattle.sp_spec_text.specs.Token.{Lexeme}
 use Rattle.sp_spec_text.specs.Names.{is_reserved, IsNameWord}
-use Rattle.sp_spec_text.specs.StepLines.{HaveNames}
-use Rattle.sp_spec_text.specs.Written.{Item, builtins_item, functions_item, equations_item, rule_item, lemma_item, builtins_in, functions_in}
+use Rattle.sp_spec_printed.specs.StepLines.{HaveNames}
+use Rattle.sp_spec_text.specs.Written.{Item, builtins_item, functions_item, equations_item, heuristic_item, block_item, rule_item, restriction_item, lemma_item, builtins_in, functions_in}
 use Rattle.sp_spec_text.specs.Theories as t
-use Rattle.sp_spec_text.specs.Theories.{SpellsBuiltin, SpellsAttribute, SpellsFunction, SpellsEquation, SpellsDeclaration}
+use Rattle.sp_spec_text.specs.Theories.{SpellsBuiltin, SpellsAttribute, SpellsFunction, SpellsEquation, SpellsWords, SpellsDeclaration}
 use Rattle.sp_spec_text.specs.Declared.{Builtin, hashing, symmetric_encryption, asymmetric_encryption, signing, revealing_signing, builtin_of, symbols_of, builtin_symbols, is_named, new_symbols, declared_symbols, all_symbols}
-use Rattle.sp_spec_text.proofs.SymbolNames.{pairs_have_names}
+use Rattle.sp_spec_printed.proofs.SymbolNames.{pairs_have_names}
 use Rattle.sp_law_printed_log.proofs.TokenWords.{Spoken}
-use Rattle.sp_law_printed_log.proofs.SpelledNames.{Spelled, part_named, listed_named, term_named, IsNamedWritten, rule_named, IsNamedLemma}
+use Rattle.sp_spec_text.specs.Bindings.{with_values}
+use Rattle.sp_law_printed_log.proofs.SpelledNames.{Spelled, part_named, listed_named, term_named, IsNamedWritten, rule_named, IsNamedRestriction, restriction_named, IsNamedLemma}
 
 abbrev pub IsNamedSymbol : Symbol → Type 0
 IsNamedSymbol s = IsNameWord s.name
 
--- of builtins and equations nothing is said: what they are called, and the names in them, are printed of no execution
+-- Of builtins, equations, heuristics and blocks of text nothing is said: what they are called, and the names in them, are printed of no execution. Of a rule it
+-- is said where values stand for bound names.
 abbrev pub IsNamedItem : Item → Type 0
 IsNamedItem (builtins_item bs) = Unit {0}
 IsNamedItem (functions_item ss) = HaveNames ss
 IsNamedItem (equations_item es) = Unit {0}
-IsNamedItem (rule_item r) = IsNamedWritten r
-IsNamedItem (lemma_item l p) = IsNamedLemma l
+IsNamedItem (heuristic_item ws) = Unit {0}
+IsNamedItem (block_item w) = Unit {0}
+IsNamedItem (rule_item bs r) = IsNamedWritten (with_values bs r)
+IsNamedItem (restriction_item r) = IsNamedRestriction r
+IsNamedItem (lemma_item l as' p) = IsNamedLemma l
 
 -- ---- declarations
 
@@ -47,6 +52,10 @@ function_named (t.with_attributes n e attributes) k =
 equation_behind : {e : Term Written × Term Written} {tokens rest : List Lexeme} → SpellsEquation tokens e rest → Every Spoken tokens → Every Spoken rest
 equation_behind (t.equation h i) k = (term_named i (term_named h k).behind.1).behind
 
+pub words_behind : {ws : List (List ℕ)} {tokens rest : List Lexeme} → SpellsWords tokens ws rest → Every Spoken tokens → Every Spoken rest
+words_behind (t.one_word n) k = k.1
+words_behind (t.more_words n h) k = words_behind h k.1
+
 pub declaration_named : {x : Item} {tokens rest : List Lexeme} → SpellsDeclaration tokens x rest → Every Spoken tokens → Spelled (IsNamedItem x) rest
 declaration_named (t.builtins h) k =
     let b = listed_named (λ (b : List ℕ). Unit {0}) (λ ts b us i j. record { says = tt; behind = builtin_behind i j }) h k.1.1 in
@@ -57,7 +66,10 @@ declaration_named (t.functions h) k =
 declaration_named (t.equations h) k =
     let e = listed_named (λ (e : Term Written × Term Written). Unit {0}) (λ ts e us i j. record { says = tt; behind = equation_behind i j }) h k.1.1 in
     record { says = tt; behind = e.behind }
+declaration_named (t.heuristic h) k = record { says = tt; behind = words_behind h k.1.1 }
+declaration_named (t.text_block n) k = record { says = tt; behind = k.1.1 }
 declaration_named (t.a_rule h) k = let r = rule_named h k in record { says = r.says; behind = r.behind }
+declaration_named (t.a_restriction h) k = let r = restriction_named h k in record { says = r.says; behind = r.behind }
 
 -- ---- symbols
 
@@ -92,8 +104,11 @@ functions_named [] e = tt
 functions_named (builtins_item bs ∷ items) e = functions_named items e.1
 functions_named (functions_item ss ∷ items) e = every_append IsNamedSymbol ss (functions_in items) e.0 (functions_named items e.1)
 functions_named (equations_item es ∷ items) e = functions_named items e.1
-functions_named (rule_item r ∷ items) e = functions_named items e.1
-functions_named (lemma_item l p ∷ items) e = functions_named items e.1
+functions_named (heuristic_item ws ∷ items) e = functions_named items e.1
+functions_named (block_item w ∷ items) e = functions_named items e.1
+functions_named (rule_item bs r ∷ items) e = functions_named items e.1
+functions_named (restriction_item r ∷ items) e = functions_named items e.1
+functions_named (lemma_item l as' p ∷ items) e = functions_named items e.1
 
 pub symbols_named : (items : List Item) → Every IsNamedItem items → HaveNames (all_symbols items)
 symbols_named items e =

@@ -22,7 +22,7 @@ use Rattle.sp_law_log_execution.specs.Laws.{IsRunnable}
 use Rattle.sp_law_log_execution.proofs.Steps.{log_runs}
 use Rattle.sp_spec_text.specs.Names.{is_reserved, IsNameWord}
 use Rattle.sp_spec_text.specs.Lex.{skip}
-use Rattle.sp_spec_text.specs.StepLines.{HaveNames, IsGiven, IsWritableStep}
+use Rattle.sp_spec_printed.specs.StepLines.{HaveNames, IsGiven, IsWritableStep}
 use Rattle.sp_law_printed_log.specs.Laws.{LogsMayBeWritten}
 use Rattle.sp_law_printed_log.specs.Shown.{shown_names, numbered_names, no_variable, HasNames, StepHasNames, LogHasNames, IsNamedRule, IsShownAction, IsShownTrace}
 use Rattle.sp_law_printed_log.proofs.Writable.{term_writable, terms_writable}

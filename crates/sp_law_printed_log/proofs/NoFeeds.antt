@@ -12,11 +12,11 @@ use Rattle.sp_spec.proofs.Lists.{every_weaken, every_append}
 use Rattle.sp_spec.specs.Term.{var, constant, name, app, none, more, Ground, Grounds, count, AllMadeOf}
 use Rattle.sp_spec.specs.Signature.{Symbol, IsOver, AreOver}
 use Rattle.sp_spec.specs.Rule.{Action}
-use Rattle.sp_spec_text.specs.Printed.{is_pair, text_at, row_text, term_text, arguments_text, action_text}
+use Rattle.sp_spec_printed.specs.Printed.{is_pair, text_at, row_text, term_text, arguments_text, action_text}
 use Rattle.sp_spec_text.specs.Names.{IsWord}
-use Rattle.sp_spec_text.specs.StepLines.{IsQuotable, HaveNames}
+use Rattle.sp_spec_printed.specs.StepLines.{IsQuotable, HaveNames}
 use Rattle.sp_spec_text.specs.Blanks.{onto_first, lines}
-use Rattle.sp_spec_text.proofs.SymbolNames.{symbol_named}
+use Rattle.sp_spec_printed.proofs.SymbolNames.{symbol_named}
 use Rattle.sp_law_printed_log.specs.Shown.{shown_names, no_variable, HasNames, IsShownAction}
 
 abbrev pub NoFeed : List ℕ → Type 0

@@ -5,7 +5,7 @@ use Rattle.std.proofs.lemmas.Bool.Decides.{nat_tests}
 use Rattle.sp_spec.specs.Lists.{Every}
 use Rattle.sp_spec.proofs.Lists.{every_append}
 use Rattle.sp_spec_text.specs.Lex.{is_constant_byte}
-use Rattle.sp_spec_text.specs.StepLines.{IsQuotable}
+use Rattle.sp_spec_printed.specs.StepLines.{IsQuotable}
 use Rattle.sp_spec_solved.specs.Numeral.{digits_within, numeral}
 use Rattle.sp_spec_solved.specs.Naming.{public_name}
 

@@ -7,11 +7,11 @@ use Rattle.sp_spec.specs.Lists.{Every}
 use Rattle.sp_spec.specs.Term.{var, constant, name, app, none, more, Ground, Grounds, count, AllMadeOf}
 use Rattle.sp_spec.specs.Signature.{Symbol, IsOver, AreOver}
 use Rattle.sp_spec.specs.Execution.{Step, make_fresh, use_rule, take_out, put_in, know_public, make_own, apply_symbol}
-use Rattle.sp_spec_text.specs.Printed.{is_pair, text_at, row_text, term_text, more_given_text, given_text, step_text}
+use Rattle.sp_spec_printed.specs.Printed.{is_pair, text_at, row_text, term_text, more_given_text, given_text, step_text}
 use Rattle.sp_spec_text.specs.Names.{IsWord}
-use Rattle.sp_spec_text.specs.StepLines.{HaveNames, IsWritable, AreWritable, IsGiven, IsWritableStep, AreSteps, no_line, step_line}
+use Rattle.sp_spec_printed.specs.StepLines.{HaveNames, IsWritable, AreWritable, IsGiven, IsWritableStep, AreSteps, no_line, step_line}
 use Rattle.sp_spec_text.specs.Blanks.{unblanked, trimmed, lines}
-use Rattle.sp_spec_text.proofs.SymbolNames.{symbol_named}
+use Rattle.sp_spec_printed.proofs.SymbolNames.{symbol_named}
 use Rattle.sp_law_printed_log.specs.Block.{steps_text}
 use Rattle.sp_law_printed_log.specs.Shown.{shown_names, no_variable, HasNames}
 use Rattle.sp_law_printed_log.specs.Laws.{StepsAreReadBack}

@@ -1,21 +1,19 @@
--- Where names that are symbols are resolved, what has names as a text may have them has such names still, and the public names are the same.
+-- Where values stand for bound names and symbols for the names that are such, what has names as a text may have them has such names still, and the public names are the same.
 use Rattle.std.proofs.Common.{◌≡◌, ℕ, Bool, true, false, if◌then◌else◌, List, [], ◌∷◌, ◌++◌, map, refl, sym, ap₂, subst}
 use Rattle.std.specs.Prelude.{not, ◌&&◌}
 use Rattle.sp_spec.specs.Lists.{Every, is_listed}
 use Rattle.sp_spec.proofs.Lists.{every_map}
 use Rattle.sp_spec.specs.Term.{Term, var, constant, name, app, Terms, none, more, valued_all}
 use Rattle.sp_spec.specs.Signature.{Symbol}
-use Rattle.sp_spec.specs.Rule.{Fact, fact_at, action_at}
 use Rattle.sp_spec.specs.Formula.{Written, Formula, truth, falsity, happens, equals, precedes, not_so, both, either, implies, for_all, for_some}
-use Rattle.sp_spec.specs.Theory.{Lemma}
+use Rattle.sp_spec.specs.Theory.{Restriction, Lemma}
 use Rattle.sp_spec.specs.Written.{WrittenRule}
 use Rattle.sp_spec.specs.Constants.{in_term, in_terms, in_formula}
-use Rattle.sp_spec_text.specs.Written.{Item, builtins_item, functions_item, equations_item, rule_item, lemma_item}
-use Rattle.sp_spec_text.specs.Declared.{is_constant, is_bare, resolved_name, resolved_term, resolved_formula, resolved_lemma, resolved_rule, resolved_item}
-use Rattle.sp_spec_text.specs.StepLines.{IsQuotable}
-use Rattle.sp_law_equal.proofs.Made.{each_valued_all}
-use Rattle.sp_law_printed_log.specs.Shown.{shown_names}
-use Rattle.sp_law_printed_log.proofs.SpelledNames.{IsNamedVariable, IsNamedTerm, AreNamedTerms, IsNamedFact, IsNamedAction, IsNamedWritten, IsNamedLemma}
+use Rattle.sp_spec_text.specs.Bindings.{with_values}
+use Rattle.sp_spec_text.specs.Written.{Item, builtins_item, functions_item, equations_item, heuristic_item, block_item, rule_item, restriction_item, lemma_item}
+use Rattle.sp_spec_text.specs.Declared.{is_constant, is_bare, resolved_name, resolved_term, resolved_formula, resolved_restriction, resolved_lemma, resolved_rule, resolved_item}
+use Rattle.sp_spec_printed.specs.StepLines.{IsQuotable}
+use Rattle.sp_law_printed_log.proofs.SpelledNames.{IsNamedVariable, IsNamedTerm, IsNamedWritten, rule_valued, IsNamedRestriction, IsNamedLemma}
 use Rattle.sp_law_printed_log.proofs.DeclaredNames.{IsNamedItem}
 
 module _ (symbols : List Symbol) where
@@ -64,19 +62,11 @@ module _ (symbols : List Symbol) where
       by_test true = tt
       by_test false = h
 
-  arguments_named : (ts : Terms Written) → AreNamedTerms ts → AreNamedTerms (valued_all (resolved_name symbols []) ts)
-  arguments_named ts h = each_valued_all shown_names IsNamedVariable IsNamedVariable (resolved_name symbols []) name_named ts h
-
-  facts_named : (fs : List (Fact Written)) → Every IsNamedFact fs → Every IsNamedFact (map (fact_at (resolved_name symbols [])) fs)
-  facts_named fs e = every_map IsNamedFact IsNamedFact (fact_at (resolved_name symbols [])) (λ f h. (h.0, arguments_named f.args h.1)) fs e
-
   rule_named : (r : WrittenRule) → IsNamedWritten r → IsNamedWritten (resolved_rule symbols r)
-  rule_named r h = record {
-    name = h.name;
-    premises = facts_named r.facts.premises h.premises;
-    actions = every_map IsNamedAction IsNamedAction (action_at (resolved_name symbols [])) (λ a k. (k.0, arguments_named a.args k.1)) r.facts.actions h.actions;
-    conclusions = facts_named r.facts.conclusions h.conclusions;
-  }
+  rule_named r h = rule_valued (resolved_name symbols []) name_named r h
+
+  restriction_named : (r : Restriction) → IsNamedRestriction r → IsNamedRestriction (resolved_restriction symbols r)
+  restriction_named r h = (h.0, subst (Every IsQuotable) (sym (formula_kept [] r.formula)) h.1)
 
   lemma_named : (l : Lemma) → IsNamedLemma l → IsNamedLemma (resolved_lemma symbols l)
   lemma_named l h = (h.0, subst (Every IsQuotable) (sym (formula_kept [] l.formula)) h.1)
@@ -85,8 +75,11 @@ module _ (symbols : List Symbol) where
   item_named (builtins_item bs) h = tt
   item_named (functions_item ss) h = h
   item_named (equations_item es) h = tt
-  item_named (rule_item r) h = rule_named r h
-  item_named (lemma_item l p) h = lemma_named l h
+  item_named (heuristic_item ws) h = tt
+  item_named (block_item w) h = tt
+  item_named (rule_item bs r) h = rule_named (with_values bs r) h
+  item_named (restriction_item r) h = restriction_named r h
+  item_named (lemma_item l as' p) h = lemma_named l h
 
   pub resolved_items_named : (items : List Item) → Every IsNamedItem items → Every IsNamedItem (map (resolved_item symbols) items)
   resolved_items_named items e = every_map IsNamedItem IsNamedItem (resolved_item symbols) item_named items e

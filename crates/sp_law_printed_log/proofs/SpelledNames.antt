@@ -1,27 +1,34 @@
 -- The names and the public names in what the grammar spells are among the lexemes that spell it: those are names, and may stand in quotes.
 use Rattle.std.proofs.Common.{◌≡◌, ℕ, Bool, true, false, List, [], ◌∷◌, ◌++◌, refl}
-use Rattle.std.specs.Prelude.{not, ◌&&◌}
+use Rattle.std.specs.Prelude.{not, ◌&&◌, ◌||◌, if◌then◌else◌, codes}
+use Rattle.std.specs.Str.{bytes_eq}
 use Rattle.sp_spec.specs.Lists.{Every}
-use Rattle.sp_spec.specs.Term.{Term, var, constant, name, app, Terms, none, more, MadeOf, AllMadeOf}
-use Rattle.sp_spec.specs.Rule.{Fact, Action}
+use Rattle.sp_spec.specs.Term.{Term, var, constant, name, app, Terms, none, more, valued, MadeOf, AllMadeOf}
+use Rattle.sp_spec.specs.Rule.{Fact, Action, fact_at, action_at, facts_at}
 use Rattle.sp_spec.specs.Formula.{Written, Formula}
-use Rattle.sp_spec.specs.Theory.{TraceKind, Lemma}
+use Rattle.sp_spec.specs.Theory.{TraceKind, Restriction, Lemma}
 use Rattle.sp_spec.specs.Written.{WrittenRule}
 use Rattle.sp_spec.specs.Constants.{in_term, in_terms, in_formula}
 use Rattle.sp_spec.proofs.Lists.{every_map, every_append}
 use Rattle.sp_spec_text.specs.Signs.{Sign}
 use Rattle.sp_spec_text.specs.Token.{Lexeme}
-use Rattle.sp_spec_text.specs.Names.{is_reserved, is_capital, is_learning, names_fact, IsName, IsNameWord}
+use Rattle.sp_spec_text.specs.Names.{is_reserved, is_capital, names_fact, IsName, IsNameWord}
+use Rattle.sp_spec_text.specs.Plain.{plain_to_quote}
+use Rattle.sp_spec_text.specs.Attributes.{attribute_of}
+use Rattle.sp_spec_text.specs.Bindings.{Binding, value_by, whole, with_values}
+use Rattle.sp_spec_text.specs.Written.{Attribute, reused, of_sources, by_induction, hiding, ranked_by, unknown}
+use Rattle.sp_spec_text.proofs.Valued.{IsBoundSo, values_so}
 use Rattle.sp_spec_text.specs.Lists as l
 use Rattle.sp_spec_text.specs.Lists.{AreParts, AreItems, AreListed}
 use Rattle.sp_spec_text.specs.Shapes.{action_of, quantified}
 use Rattle.sp_spec_text.specs.Formulas as g
-use Rattle.sp_spec_text.specs.Formulas.{SpellsVariable, SpellsTerm, SpellsTuple, SpellsArguments, SpellsTerms, SpellsFact, SpellsBinders, quantified_some, equivalent, SpellsUnit, SpellsNegation, SpellsConjunction, SpellsAnds, SpellsDisjunction, SpellsOrs, SpellsImplication, SpellsFormula, SpellsReach}
+use Rattle.sp_spec_text.specs.Formulas.{SpellsVariable, SpellsTerm, SpellsTuple, SpellsArguments, SpellsTerms, SpellsAnnotation, SpellsAnnotations, SpellsFact, SpellsBinders, quantified_some, equivalent, SpellsUnit, SpellsNegation, SpellsConjunction, SpellsAnds, SpellsDisjunction, SpellsOrs, SpellsImplication, SpellsFormula, SpellsReach}
 use Rattle.sp_spec_text.specs.Theories as t
-use Rattle.sp_spec_text.specs.Theories.{SpellsFacts, SpellsArrow, SpellsRule, SpellsKind, SpellsLemma}
-use Rattle.sp_spec_text.specs.StepLines.{IsQuotable}
+use Rattle.sp_spec_text.specs.Theories.{SpellsFacts, SpellsArrow, SpellsModulo, SpellsBalanced, SpellsRuleAttributes, SpellsBinding, SpellsBindings, SpellsLet, SpellsRuleHead, SpellsRule, SpellsQuoted, SpellsRestriction, SpellsKind, SpellsLemmaAttribute, SpellsLemmaAttributes, SpellsLemma}
+use Rattle.sp_spec_printed.specs.StepLines.{IsQuotable}
 use Rattle.sp_law_printed_log.specs.Shown.{shown_names}
-use Rattle.sp_law_printed_log.proofs.TokenWords.{Spoken}
+use Rattle.sp_law_equal.proofs.Made.{each_valued, each_valued_all}
+use Rattle.sp_law_printed_log.proofs.TokenWords.{Spoken, spoken_plain}
 
 abbrev pub IsNamedVariable : Written → Type 0
 IsNamedVariable x = IsNameWord x.name
@@ -103,21 +110,28 @@ listed_named P h (l.and_more {x = x} {tokens = ts} r others) k =
     record { says = (p.says, q.says); behind = q.behind }
 
 -- what names a fact isn't reserved
-fact_name : (a b c : Bool) → (a && not b && not c) ≡ true → b ≡ false
-fact_name true false c h = refl
-fact_name true true c h = absurd (let none : ⊥ = cc in none)
-fact_name false b c h = absurd (let none : ⊥ = cc in none)
+fact_name : (a b : Bool) → (a && not b) ≡ true → b ≡ false
+fact_name true false h = refl
+fact_name true true h = absurd (let none : ⊥ = cc in none)
+fact_name false b h = absurd (let none : ⊥ = cc in none)
 
 pub symbol_named : (w : List ℕ) → names_fact w ≡ true → IsName w
-symbol_named w h = fact_name (is_capital w) (is_reserved w) (is_learning w) h
+symbol_named w h = fact_name (is_capital w) (is_reserved w) h
+
+annotation_behind : {x : Lexeme} {tokens rest : List Lexeme} → SpellsAnnotation tokens x rest → Every Spoken tokens → Every Spoken rest
+annotation_behind (g.annotation e) k = k.1
+
+pub annotations_behind : {tokens rest : List Lexeme} → SpellsAnnotations tokens rest → Every Spoken tokens → Every Spoken rest
+annotations_behind g.no_annotation k = k
+annotations_behind (g.annotations parts) k = (part_named (λ (x : Lexeme). Unit {0}) (λ ts x us h j. record { says = tt; behind = annotation_behind h j }) parts k.1).behind
 
 pub fact_named : {n : ℕ} {f : Fact Written} {tokens rest : List Lexeme} → SpellsFact n tokens f rest → Every Spoken tokens → Spelled (IsNamedFact f) rest
-fact_named (g.linear {w = w} e within h) k =
+fact_named (g.linear {w = w} e within h annotated) k =
     let terms = arguments_named h k.1.1 in
-    record { says = ((symbol_named w e, k.0), terms.says); behind = terms.behind }
-fact_named (g.persistent {w = w} e within h) k =
+    record { says = ((symbol_named w e, k.0), terms.says); behind = annotations_behind annotated terms.behind }
+fact_named (g.persistent {w = w} e within h annotated) k =
     let terms = arguments_named h k.1.1.1 in
-    record { says = ((symbol_named w e, k.1.0), terms.says); behind = terms.behind }
+    record { says = ((symbol_named w e, k.1.0), terms.says); behind = annotations_behind annotated terms.behind }
 
 -- ---- formulas: their public names
 
@@ -212,7 +226,11 @@ mutual
       let b = implication_quotable i a.behind.1 in
       record { says = equivalent_quotable f e a.says b.says; behind = b.behind }
 
--- ---- rules and lemmas
+-- behind its opening quote, where signs of logic are read as the text beside them
+pub quoted_named : (tokens : List Lexeme) {f : Formula} {rest : List Lexeme} → SpellsQuoted tokens f rest → Every Spoken tokens → Spelled (IsQuotableFormula f) rest
+quoted_named tokens h k = let f = formula_quotable h (spoken_plain tokens k) in record { says = f.says; behind = f.behind.1 }
+
+-- ---- rules
 
 -- a rule, its facts and its actions have names, and so have its variables
 pub record IsNamedWritten (r : WrittenRule) : Type 0 where
@@ -228,20 +246,71 @@ arrow_named : {fs : List (Fact Written)} {tokens rest : List Lexeme} → SpellsA
 arrow_named t.unlabelled k = record { says = tt; behind = k.1 }
 arrow_named (t.labelled items) k = item_named IsNamedFact (λ ts x us. fact_named) items k.1
 
-pub rule_named : {r : WrittenRule} {tokens rest : List Lexeme} → SpellsRule tokens r rest → Every Spoken tokens → Spelled (IsNamedWritten r) rest
-rule_named (t.rule {actions = actions} n premises arrow conclusions) k =
-    let p = facts_named premises k.1.1.1 in
+pub modulo_behind : {tokens rest : List Lexeme} → SpellsModulo tokens rest → Every Spoken tokens → Every Spoken rest
+modulo_behind t.no_modulo k = k
+modulo_behind (t.modulo n) k = k.1.1.1.1
+
+balanced_behind : {tokens rest : List Lexeme} → SpellsBalanced tokens rest → Every Spoken tokens → Every Spoken rest
+balanced_behind t.closed k = k.1
+balanced_behind (t.nested h i) k = balanced_behind i (balanced_behind h k.1)
+balanced_behind (t.passed e d h) k = balanced_behind h k.1
+
+pub rule_attributes_behind : {tokens rest : List Lexeme} → SpellsRuleAttributes tokens rest → Every Spoken tokens → Every Spoken rest
+rule_attributes_behind t.no_rule_attribute k = k
+rule_attributes_behind (t.rule_attributes h) k = balanced_behind h k.1
+
+pub head_named : {w : List ℕ} {tokens rest : List Lexeme} → SpellsRuleHead tokens w rest → Every Spoken tokens → Spelled (IsNameWord w) rest
+head_named (t.rule_head m n a) k = let named = modulo_behind m k.1 in record { says = (n, named.0); behind = (rule_attributes_behind a named.1).1 }
+
+-- what is bound has names, and so has each value that stands for a name
+binding_named : {b : Binding} {tokens rest : List Lexeme} → SpellsBinding tokens b rest → Every Spoken tokens → Spelled (IsNamedTerm b.value) rest
+binding_named (t.binding v h) k = term_named h (variable_named v k).behind.1
+
+bindings_named : {bs : List Binding} {tokens rest : List Lexeme} → SpellsBindings tokens bs rest → Every Spoken tokens → Spelled (Every (IsBoundSo IsNamedTerm) bs) rest
+bindings_named (t.last_binding h) k = let b = binding_named h k in record { says = (b.says, tt); behind = b.behind.1 }
+bindings_named (t.next_binding h later) k =
+    let b = binding_named h k in
+    let others = bindings_named later b.behind in
+    record { says = (b.says, others.says); behind = others.behind }
+
+let_named : {bs : List Binding} {tokens rest : List Lexeme} → SpellsLet tokens bs rest → Every Spoken tokens → Spelled (Every (IsBoundSo IsNamedTerm) bs) rest
+let_named t.no_let k = record { says = tt; behind = k }
+let_named (t.let_in h) k = bindings_named h k.1
+
+pub rule_valued : (v : Written → Term Written) → ((x : Written) → IsNamedVariable x → IsNamedTerm (v x)) → (r : WrittenRule) → IsNamedWritten r → IsNamedWritten (record { name = r.name; facts = facts_at v r.facts })
+rule_valued v h r e =
+    let args : (ts : Terms Written) → AreNamedTerms ts → AreNamedTerms _ = λ ts k. each_valued_all shown_names IsNamedVariable IsNamedVariable v h ts k in
+    record {
+      name = e.name;
+      premises = every_map IsNamedFact IsNamedFact (fact_at v) (λ f k. (k.0, args f.args k.1)) r.facts.premises e.premises;
+      actions = every_map IsNamedAction IsNamedAction (action_at v) (λ a k. (k.0, args a.args k.1)) r.facts.actions e.actions;
+      conclusions = every_map IsNamedFact IsNamedFact (fact_at v) (λ f k. (k.0, args f.args k.1)) r.facts.conclusions e.conclusions;
+    }
+
+values_keep : (v : Written → Term Written) (t : Term Written) → ((x : Written) → IsNamedTerm (var x) → IsNamedTerm (v x)) → IsNamedTerm t → IsNamedTerm (valued v t)
+values_keep v t h e = each_valued shown_names IsNamedVariable IsNamedVariable v h t e
+
+with_values_named : (bs : List Binding) (r : WrittenRule) → Every (IsBoundSo IsNamedTerm) bs → IsNamedWritten r → IsNamedWritten (with_values bs r)
+with_values_named [] r h e = e
+with_values_named (b ∷ bs) r h e = rule_valued (value_by (whole (b ∷ bs))) (values_so IsNamedTerm values_keep (b ∷ bs) h) r e
+
+pub rule_named : {bs : List Binding} {r : WrittenRule} {tokens rest : List Lexeme} → SpellsRule tokens bs r rest → Every Spoken tokens → Spelled (IsNamedWritten (with_values bs r)) rest
+rule_named {bs = bs} {r = r} (t.rule {actions = actions} head bound premises arrow conclusions) k =
+    let n = head_named head k in
+    let b = let_named bound n.behind in
+    let p = facts_named premises b.behind in
     let a = arrow_named arrow p.behind in
     let c = facts_named conclusions a.behind in
-    record {
-      says = record {
-        name = (n, k.1.0);
-        premises = p.says;
-        actions = every_map IsNamedFact IsNamedAction action_of (λ f h. h) actions a.says;
-        conclusions = c.says;
-      };
-      behind = c.behind;
-    }
+    let e : IsNamedWritten r = record { name = n.says; premises = p.says; actions = every_map IsNamedFact IsNamedAction action_of (λ f h. h) actions a.says; conclusions = c.says } in
+    record { says = with_values_named bs r b.says e; behind = c.behind }
+
+-- ---- restrictions and lemmas
+
+abbrev pub IsNamedRestriction : Restriction → Type 0
+IsNamedRestriction r = IsNameWord r.name × IsQuotableFormula r.formula
+
+pub restriction_named : {r : Restriction} {tokens rest : List Lexeme} → SpellsRestriction tokens r rest → Every Spoken tokens → Spelled (IsNamedRestriction r) rest
+restriction_named (t.restriction {tokens = body} e n h) k = let f = quoted_named body h k.1.1.1.1 in record { says = ((n, k.1.0), f.says); behind = f.behind }
 
 abbrev pub IsNamedLemma : Lemma → Type 0
 IsNamedLemma l = IsNameWord l.name × IsQuotableFormula l.formula
@@ -251,7 +320,34 @@ kind_behind t.no_kind k = k
 kind_behind t.all_kind k = k.1.1.1
 kind_behind t.exists_kind k = k.1.1.1
 
-pub lemma_named : {l : Lemma} {tokens rest : List Lexeme} → SpellsLemma tokens l rest → Every Spoken tokens → Spelled (IsNamedLemma l) rest
-lemma_named (t.lemma n kind h) k =
-    let f = formula_quotable h (kind_behind kind k.1.1.1).1 in
-    record { says = ((n, k.1.0), f.says); behind = f.behind.1 }
+-- the words of attributes are names
+abbrev pub IsNamedAttribute : Attribute → Type 0
+IsNamedAttribute (hiding w) = IsNameWord w
+IsNamedAttribute (ranked_by w) = IsNameWord w
+IsNamedAttribute (unknown w) = IsNameWord w
+IsNamedAttribute each = Unit {0}
+
+word_named : (w : List ℕ) → IsNameWord w → IsNamedAttribute (attribute_of w)
+unfolding attribute_of
+word_named w h = at (bytes_eq w (codes "reuse")) (bytes_eq w (codes "sources") || bytes_eq w (codes "typing")) (bytes_eq w (codes "use_induction"))
+  where
+    at : (a b c : Bool) → IsNamedAttribute (if a then reused else if b then of_sources else if c then by_induction else unknown w)
+    at true b c = tt
+    at false true c = tt
+    at false false true = tt
+    at false false false = h
+
+lemma_attribute_named : {x : Attribute} {tokens rest : List Lexeme} → SpellsLemmaAttribute tokens x rest → Every Spoken tokens → Spelled (IsNamedAttribute x) rest
+lemma_attribute_named (t.by_word {w = w} n) k = record { says = word_named w (n, k.0); behind = k.1 }
+lemma_attribute_named (t.hides n) k = record { says = (n, k.1.1.0); behind = k.1.1.1 }
+lemma_attribute_named (t.ranks n) k = record { says = (n, k.1.1.0); behind = k.1.1.1 }
+
+pub lemma_attributes_named : {each : List Attribute} {tokens rest : List Lexeme} → SpellsLemmaAttributes tokens each rest → Every Spoken tokens → Spelled (Every IsNamedAttribute each) rest
+lemma_attributes_named t.no_lemma_attribute k = record { says = tt; behind = k }
+lemma_attributes_named (t.lemma_attributes parts) k = part_named IsNamedAttribute (λ ts x us. lemma_attribute_named) parts k.1
+
+pub lemma_named : {l : Lemma} {each : List Attribute} {tokens rest : List Lexeme} → SpellsLemma tokens l each rest → Every Spoken tokens → Spelled (IsNamedLemma l) rest
+lemma_named (t.lemma {body = body} n attributes kind h) k =
+    let a = lemma_attributes_named attributes k.1.1 in
+    let f = quoted_named body h (kind_behind kind a.behind.1).1 in
+    record { says = ((n, k.1.0), f.says); behind = f.behind }

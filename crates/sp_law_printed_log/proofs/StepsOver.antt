@@ -8,7 +8,7 @@ use Rattle.sp_spec.specs.Rule.{Facts, Declared}
 use Rattle.sp_spec.specs.Theory.{Theory, signature_of}
 use Rattle.sp_spec.specs.Execution.{Step, make_fresh, use_rule, take_out, put_in, know_public, make_own, apply_symbol, State, Trace, IsNamed, IsInstance, HasSorts, Runs, IsExecution}
 use Rattle.sp_spec_text.specs.Names.{IsNameWord}
-use Rattle.sp_spec_text.specs.StepLines.{HaveNames}
+use Rattle.sp_spec_printed.specs.StepLines.{HaveNames}
 use Rattle.sp_law_printed_log.specs.Shown.{IsNamedRule}
 use Rattle.sp_law_printed_log.proofs.GivenNames.{given_each}
 

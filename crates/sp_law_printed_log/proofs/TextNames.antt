@@ -4,13 +4,13 @@ use Rattle.sp_spec.specs.Lists.{Every, is_listed}
 use Rattle.sp_spec.specs.Term.{Variable, Term, var, constant, name, app, Terms, none, more, in_term, in_terms}
 use Rattle.sp_spec.specs.Rule.{Fact, Action, Declared, FactsMadeOf, in_facts, in_actions, occurrences, action_at}
 use Rattle.sp_spec.specs.Formula.{Written}
-use Rattle.sp_spec.specs.Theory.{Lemma}
+use Rattle.sp_spec.specs.Theory.{Restriction, Lemma}
 use Rattle.sp_spec.specs.Written.{WrittenRule, sort_in, names_after, rule_names, numbered_in, rule_of}
 use Rattle.sp_spec.specs.Constants as constants
-use Rattle.sp_spec.specs.Constants.{in_rule, in_rules, in_lemmas, in_formula, once_after}
+use Rattle.sp_spec.specs.Constants.{in_rule, in_rules, in_restrictions, in_lemmas, in_formula, once_after}
 use Rattle.sp_spec.proofs.Lists.{every_map, every_weaken, every_append}
 use Rattle.sp_spec_text.specs.Token.{Lexeme}
-use Rattle.sp_spec_text.specs.Written.{WrittenProof, WrittenCases, Method, Item, builtins_item, functions_item, equations_item, rule_item, lemma_item, rules_in, lemmas_in, WrittenText}
+use Rattle.sp_spec_text.specs.Written.{WrittenProof, WrittenCases, Method, Item, builtins_item, functions_item, equations_item, heuristic_item, block_item, rule_item, restriction_item, lemma_item, rules_in, restrictions_in, lemmas_in, WrittenText}
 use Rattle.sp_spec_text.specs.Declared.{all_symbols, resolved}
 use Rattle.sp_spec_text.specs.Proofs as p
 use Rattle.sp_spec_text.specs.Proofs.{SpellsMethod, SpellsProof, SpellsCases, SpellsMore}
@@ -18,12 +18,12 @@ use Rattle.sp_spec_text.specs.Theories as t
 use Rattle.sp_spec_text.specs.Theories.{SpellsProofPart, SpellsItems, SpellsTheory}
 use Rattle.sp_spec_text.specs.Texts.{IsTextOf}
 use Rattle.sp_spec_text.specs.Names.{IsNameWord}
-use Rattle.sp_spec_text.specs.StepLines.{IsQuotable}
+use Rattle.sp_spec_printed.specs.StepLines.{IsQuotable}
 use Rattle.sp_law_equal.proofs.Made.{facts_valued}
 use Rattle.sp_law_printed_log.specs.Shown.{shown_names, IsNamedRule}
 use Rattle.sp_law_printed_log.specs.Laws.{TextsHaveNames}
 use Rattle.sp_law_printed_log.proofs.TokenWords.{Spoken, tokens_spoken}
-use Rattle.sp_law_printed_log.proofs.SpelledNames.{IsNamedVariable, IsNamedTerm, AreNamedTerms, IsNamedFact, IsNamedAction, quotable_in_terms, IsNamedWritten, IsNamedLemma, lemma_named}
+use Rattle.sp_law_printed_log.proofs.SpelledNames.{IsNamedVariable, IsNamedTerm, AreNamedTerms, IsNamedFact, IsNamedAction, quotable_in_terms, IsNamedWritten, IsNamedRestriction, IsNamedLemma, lemma_named}
 use Rattle.sp_law_printed_log.proofs.DeclaredNames.{IsNamedItem, declaration_named, symbols_named}
 use Rattle.sp_law_printed_log.proofs.ResolvedNames.{resolved_items_named}
 
@@ -66,16 +66,33 @@ rules_named [] e = tt
 rules_named (builtins_item bs ∷ items) e = rules_named items e.1
 rules_named (functions_item ss ∷ items) e = rules_named items e.1
 rules_named (equations_item es ∷ items) e = rules_named items e.1
-rules_named (rule_item r ∷ items) e = (e.0, rules_named items e.1)
-rules_named (lemma_item l p ∷ items) e = rules_named items e.1
+rules_named (heuristic_item ws ∷ items) e = rules_named items e.1
+rules_named (block_item w ∷ items) e = rules_named items e.1
+rules_named (rule_item bs r ∷ items) e = (e.0, rules_named items e.1)
+rules_named (restriction_item r ∷ items) e = rules_named items e.1
+rules_named (lemma_item l as' p ∷ items) e = rules_named items e.1
+
+restrictions_named : (items : List Item) → Every IsNamedItem items → Every IsNamedRestriction (restrictions_in items)
+restrictions_named [] e = tt
+restrictions_named (builtins_item bs ∷ items) e = restrictions_named items e.1
+restrictions_named (functions_item ss ∷ items) e = restrictions_named items e.1
+restrictions_named (equations_item es ∷ items) e = restrictions_named items e.1
+restrictions_named (heuristic_item ws ∷ items) e = restrictions_named items e.1
+restrictions_named (block_item w ∷ items) e = restrictions_named items e.1
+restrictions_named (rule_item bs r ∷ items) e = restrictions_named items e.1
+restrictions_named (restriction_item r ∷ items) e = (e.0, restrictions_named items e.1)
+restrictions_named (lemma_item l as' p ∷ items) e = restrictions_named items e.1
 
 lemmas_named : (items : List Item) → Every IsNamedItem items → Every IsNamedLemma (lemmas_in items)
 lemmas_named [] e = tt
 lemmas_named (builtins_item bs ∷ items) e = lemmas_named items e.1
 lemmas_named (functions_item ss ∷ items) e = lemmas_named items e.1
 lemmas_named (equations_item es ∷ items) e = lemmas_named items e.1
-lemmas_named (rule_item r ∷ items) e = lemmas_named items e.1
-lemmas_named (lemma_item l p ∷ items) e = (e.0, lemmas_named items e.1)
+lemmas_named (heuristic_item ws ∷ items) e = lemmas_named items e.1
+lemmas_named (block_item w ∷ items) e = lemmas_named items e.1
+lemmas_named (rule_item bs r ∷ items) e = lemmas_named items e.1
+lemmas_named (restriction_item r ∷ items) e = lemmas_named items e.1
+lemmas_named (lemma_item l as' p ∷ items) e = (e.0, lemmas_named items e.1)
 
 -- ---- the variables of a rule
 
@@ -158,9 +175,16 @@ every_once : (seen cs : List (List ℕ)) → Every IsQuotable seen → Every IsQ
 every_once seen [] e k = e
 every_once seen (c ∷ cs) e k = let b = is_listed c seen in every_once (if b then seen else seen ++ c ∷ []) cs (every_then IsQuotable b c seen k.0 e) k.1
 
--- a text's theory has no restrictions
-quotable_constants : (rules : List WrittenRule) (lemmas : List Lemma) → Every IsNamedWritten rules → Every IsNamedLemma lemmas → Every IsQuotable (once_after [] (in_rules rules ++ in_lemmas lemmas))
-quotable_constants rules lemmas r l = every_once [] (in_rules rules ++ in_lemmas lemmas) tt (every_append IsQuotable (in_rules rules) (in_lemmas lemmas) (quotable_in_rules rules r) (quotable_in_lemmas lemmas l))
+quotable_in_restrictions : (rs : List Restriction) → Every IsNamedRestriction rs → Every IsQuotable (in_restrictions rs)
+quotable_in_restrictions [] e = tt
+quotable_in_restrictions (r ∷ rs) e = every_append IsQuotable (in_formula r.formula) (in_restrictions rs) e.0.1 (quotable_in_restrictions rs e.1)
+
+quotable_constants : (rules : List WrittenRule) (restrictions : List Restriction) (lemmas : List Lemma) → Every IsNamedWritten rules → Every IsNamedRestriction restrictions → Every IsNamedLemma lemmas
+    → Every IsQuotable (once_after [] (in_rules rules ++ (in_restrictions restrictions ++ in_lemmas lemmas)))
+quotable_constants rules restrictions lemmas r s l =
+    every_once [] (in_rules rules ++ (in_restrictions restrictions ++ in_lemmas lemmas)) tt
+    (every_append IsQuotable (in_rules rules) (in_restrictions restrictions ++ in_lemmas lemmas) (quotable_in_rules rules r)
+    (every_append IsQuotable (in_restrictions restrictions) (in_lemmas lemmas) (quotable_in_restrictions restrictions s) (quotable_in_lemmas lemmas l)))
 
 -- ---- the text, and what it says
 
@@ -180,5 +204,5 @@ texts_have_names_lem = record {
   constants = λ text theory h.
       let items = (resolved theory).items in
       let e = resolved_named text theory h in
-      quotable_constants (rules_in items) (lemmas_in items) (rules_named items e) (lemmas_named items e);
+      quotable_constants (rules_in items) (restrictions_in items) (lemmas_in items) (rules_named items e) (restrictions_named items e) (lemmas_named items e);
 }

@@ -1,5 +1,5 @@
 -- The words among a text's tokens are one word each, and its constants may stand in quotes.
-use Rattle.std.proofs.Common.{◌≡◌, ℕ, ◌<◌, Bool, true, false, cond, List, [], ◌∷◌, ◌++◌, length, drop, Option, Some, None, refl, sym, ap, subst, ◌∙◌, arith}
+use Rattle.std.proofs.Common.{◌≡◌, ℕ, ◌<◌, Bool, true, false, cond, List, [], ◌∷◌, ◌++◌, length, drop, codes, Option, Some, None, refl, sym, ap, subst, ◌∙◌, arith}
 use Rattle.std.specs.Prelude.{◌&&◌, ◌||◌, ◌==◌, nat_lt}
 use Rattle.std.specs.Char.{is_ascii_alphanumeric}
 use Rattle.std.specs.Int.{is_in_range}
@@ -7,13 +7,14 @@ use Rattle.std.proofs.lemmas.Bool.{ltb-true, and_parts}
 use Rattle.sp_spec.specs.Lists.{Every}
 use Rattle.sp_spec_text.specs.Bytes as class
 use Rattle.sp_spec_text.specs.Bytes.{FaultKind, NoConstant}
-use Rattle.sp_spec_text.specs.Signs.{Sign}
+use Rattle.sp_spec_text.specs.Signs.{Sign, Wide}
 use Rattle.sp_spec_text.specs.Signs as s
-use Rattle.sp_spec_text.specs.Token.{Lexeme, word, constant, sign, solve, Token}
-use Rattle.sp_spec_text.specs.Lex.{is_constant_byte, is_in, is_first, is_digit, skip, before, Piece, token, no_token, short_sign, short_piece, first_sign, close_constant, piece, to_closing, closed_by, Reads, as_it_is, bare, goal, AreTokens, no_more, last, next, lexemes}
+use Rattle.sp_spec_text.specs.Token.{Lexeme, word, constant, sign, solve, wide, block, Token}
+use Rattle.sp_spec_text.specs.Lex.{is_constant_byte, is_in, is_first, is_digit, skip, begins, before, Piece, token, no_token, short_sign, short_piece, first_sign, long_sign, long_piece, first_long, first_wide, after_block, close_block, close_constant, piece, to_closing, closed_by, Reads, as_it_is, bare, goal, AreTokens, no_more, last, next, lexemes}
 use Rattle.sp_spec_text.proofs.Rests.{before_rest}
 use Rattle.sp_spec_text.specs.Names.{IsWord}
-use Rattle.sp_spec_text.specs.StepLines.{IsQuotable}
+use Rattle.sp_spec_text.specs.Plain.{text_beside, plain, is_quote, plain_to_quote}
+use Rattle.sp_spec_printed.specs.StepLines.{IsQuotable}
 
 -- ---- the bytes of a word
 
@@ -83,6 +84,8 @@ Spoken (word w) = IsWord w
 Spoken (constant c) = IsQuotable c
 Spoken (sign x) = Unit {0}
 Spoken (solve t) = Unit {0}
+Spoken (wide x) = Unit {0}
+Spoken block = Unit {0}
 
 abbrev SpokenFirst : Piece → Type 0
 SpokenFirst (token x rest) = Spoken x
@@ -114,6 +117,27 @@ spoken_first b bytes =
     (spoken_either _ (long s.CloseArrow)
     (spoken_either _ (long s.Arrow) (spoken_either _ (long s.Implies) (spoken_either _ (long s.Iff) (spoken_short (short_sign b) bytes)))))
 
+spoken_wide_sign : (x : Wide) (rest : List ℕ) → IsSpoken (token (wide x) rest)
+spoken_wide_sign x rest = record { is = tt }
+
+spoken_long_piece : (o : Option Wide) (bytes : List ℕ) → IsSpoken (long_piece o bytes)
+spoken_long_piece None bytes = spoken_none
+spoken_long_piece (Some x) bytes = spoken_wide_sign x bytes
+
+spoken_long : (bytes : List ℕ) → IsSpoken (first_long bytes)
+spoken_long [] = spoken_none
+spoken_long (a ∷ []) = spoken_none
+spoken_long (a ∷ b ∷ []) = spoken_none
+spoken_long (a ∷ b ∷ c ∷ bytes) = spoken_long_piece (long_sign a b c) bytes
+
+spoken_wide : (bytes : List ℕ) → IsSpoken (first_wide bytes)
+unfolding first_wide
+spoken_wide bytes = spoken_either (begins (194 ∷ 172 ∷ []) bytes) (spoken_wide_sign s.Not (drop 2 bytes)) (spoken_long bytes)
+
+spoken_block : (o : Option (List ℕ)) → IsSpoken (close_block o)
+spoken_block None = spoken_none
+spoken_block (Some rest) = record { is = tt }
+
 spoken_word : (t : Bool) (b : ℕ) (bytes rest : List ℕ) {x : Piece} → is_ascii_alphanumeric b ≡ t → Passed bytes rest → IsSpoken x
     → IsSpoken (cond t (token (word (before (b ∷ bytes) rest)) rest) x)
 spoken_word true b bytes rest e h k =
@@ -139,7 +163,8 @@ unfolding piece first_sign
 spoken_piece [] = spoken_none
 spoken_piece (b ∷ bytes) =
     spoken_word (is_ascii_alphanumeric b) b bytes (skip class.Word bytes) refl (passed bytes)
-    (spoken_either (b == 39) (spoken_constant bytes (skip class.Constant bytes) (quoted bytes)) (spoken_first b bytes))
+    (spoken_either (b == 39) (spoken_constant bytes (skip class.Constant bytes) (quoted bytes))
+    (spoken_either (begins (codes "{*") (b ∷ bytes)) (spoken_block (after_block (drop 2 (b ∷ bytes)))) (spoken_either (b == 194 || b == 226) (spoken_wide (b ∷ bytes)) (spoken_first b bytes))))
 
 spoken_closed : (bytes : List ℕ) (o : Option (List ℕ)) → IsSpoken (closed_by bytes o)
 spoken_closed bytes None = spoken_none
@@ -155,3 +180,33 @@ pub tokens_spoken : {size : ℕ} {bytes : List ℕ} {ts : List Token} → AreTok
 tokens_spoken (no_more s) = tt
 tokens_spoken (last {t = t} n e) = ((spoken_read n.reads).is, tt)
 tokens_spoken (next {t = t} n e h) = ((spoken_read n.reads).is, tokens_spoken h)
+
+-- ---- formulas: the text beside a sign of logic is spoken too
+
+spoken_beside : (x : Wide) → Spoken (text_beside x)
+unfolding skip
+spoken_beside s.All = (refl, refl)
+spoken_beside s.Ex = (refl, refl)
+spoken_beside s.Both = tt
+spoken_beside s.Either = tt
+spoken_beside s.Not = (refl, refl)
+spoken_beside s.Then = tt
+spoken_beside s.Same = tt
+spoken_beside s.True = (refl, refl)
+spoken_beside s.False = (refl, refl)
+
+spoken_as_read : (x : Lexeme) → Spoken x → Spoken (plain x)
+spoken_as_read (word w) h = h
+spoken_as_read (constant c) h = h
+spoken_as_read (sign x) h = h
+spoken_as_read (solve t) h = h
+spoken_as_read (wide x) h = spoken_beside x
+spoken_as_read block h = h
+
+pub spoken_plain : (tokens : List Lexeme) → Every Spoken tokens → Every Spoken (plain_to_quote tokens)
+spoken_plain [] k = tt
+spoken_plain (x ∷ tokens) k = by_test (is_quote x) (spoken_plain tokens k.1)
+  where
+    by_test : (t : Bool) → Every Spoken (plain_to_quote tokens) → Every Spoken (cond t (x ∷ tokens) (plain x ∷ plain_to_quote tokens))
+    by_test true later = k
+    by_test false later = (spoken_as_read x k.0, later)

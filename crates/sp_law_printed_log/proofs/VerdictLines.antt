@@ -2,8 +2,8 @@
 use Rattle.std.proofs.Common.{◌≡◌, ℕ, zero, suc, List, [], ◌∷◌, ◌++◌, codes, refl, sym, ap, ◌∙◌, append_assoc, arith}
 use Rattle.std.specs.Prelude.{decimal}
 use Rattle.sp_spec.specs.Theory.{TraceKind, all_traces, exists_trace}
-use Rattle.sp_spec_text.specs.Kind.{kind_text}
-use Rattle.sp_spec_text.specs.Verdict.{Clause, clause_move, clause_instance, clause_cases, Verdict, verified, falsified, incomplete, rejected, clause_text, falsified_text, verdict_text, summary_line}
+use Rattle.sp_spec_printed.specs.Kind.{kind_text}
+use Rattle.sp_spec_printed.specs.Verdict.{Clause, clause_move, clause_instance, clause_cases, Verdict, verified, falsified, incomplete, rejected, clause_text, falsified_text, verdict_text, summary_line}
 use Rattle.sp_spec_text.specs.Names.{IsWord}
 use Rattle.sp_law_printed_log.proofs.NoFeeds.{NoFeed, no_feed_append, no_feed_in, no_feed_word, without_blank, decimal_no_blank}
 use Rattle.sp_law_printed_log.proofs.WordSplits.{word_bytes, split_word}

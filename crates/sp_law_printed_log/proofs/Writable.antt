@@ -2,7 +2,7 @@
 use Rattle.std.specs.Prelude.{List}
 use Rattle.sp_spec.specs.Term.{var, constant, name, app, none, more, Ground, Grounds, AllMadeOf}
 use Rattle.sp_spec.specs.Signature.{Symbol, IsOver, AreOver}
-use Rattle.sp_spec_text.specs.StepLines.{IsWritable, AreWritable}
+use Rattle.sp_spec_printed.specs.StepLines.{IsWritable, AreWritable}
 use Rattle.sp_law_printed_log.specs.Shown.{shown_names, numbered_names, no_variable, HasNames}
 
 module _ (symbols : List Symbol) where

@@ -6,7 +6,7 @@ use Rattle.sp_spec.specs.Execution.{Step}
 use Rattle.sp_spec.specs.Log.{Log, visible_trace}
 use Rattle.sp_spec.specs.Lists.{Every, newest_first}
 use Rattle.sp_law_log_execution.specs.Executed.{executed_of}
-use Rattle.sp_spec_text.specs.Printed.{step_text, trace_block}
+use Rattle.sp_spec_printed.specs.Printed.{step_text, trace_block}
 use Rattle.sp_show.specs.Numbers.{StepHasNames, numbered_names}
 
 -- the order turned round: of what stands the newest first, the oldest first

@@ -12,11 +12,11 @@ use Rattle.sp_law_log_execution.specs.Laws.{IsRunnable}
 use Rattle.sp_spec_text.specs.Written.{WrittenText}
 use Rattle.sp_spec_text.specs.Declared.{theory_in}
 use Rattle.sp_spec_text.specs.Texts.{IsTextOf}
-use Rattle.sp_spec_text.specs.Printed.{step_text}
+use Rattle.sp_spec_printed.specs.Printed.{step_text}
 use Rattle.sp_spec_system.specs.System.{System}
 use Rattle.sp_spec_system.specs.Numbered.{names_in, IsNumbered}
 use Rattle.sp_spec_text.specs.Names.{IsNameWord}
-use Rattle.sp_spec_text.specs.StepLines.{IsQuotable, HaveNames, IsWritableStep, AreSteps}
+use Rattle.sp_spec_printed.specs.StepLines.{IsQuotable, HaveNames, IsWritableStep, AreSteps}
 use Rattle.sp_spec_text.specs.Blanks.{lines}
 use Rattle.sp_spec_solved.specs.Candidate.{candidate}
 use Rattle.sp_law_printed_log.specs.Block.{steps_text}

@@ -8,7 +8,7 @@ use Rattle.sp_spec.specs.Execution.{Trace}
 pub use Rattle.sp_show.specs.Numbers.{no_variable, HasNames, StepHasNames, numbered_names}
 use Rattle.sp_spec.specs.Log.{How, by_chain, Entry, step, send, learn, Log}
 use Rattle.sp_spec_text.specs.Names.{IsNameWord}
-use Rattle.sp_spec_text.specs.StepLines.{IsQuotable}
+use Rattle.sp_spec_printed.specs.StepLines.{IsQuotable}
 
 -- public names that may stand in quotes, and fresh names that are numbered from 1
 abbrev pub shown_names : Names

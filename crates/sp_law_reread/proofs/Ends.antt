@@ -4,10 +4,10 @@ use Rattle.std.specs.Prelude.{◌&&◌, ◌==◌, nat_lt}
 use Rattle.std.specs.Char.{is_ascii_alphanumeric}
 use Rattle.sp_spec_text.specs.Bytes.{Class, FaultKind, Mark, Opens, Closes, Neither}
 use Rattle.sp_spec_text.specs.Bytes as class
-use Rattle.sp_spec_text.specs.Signs.{Sign}
+use Rattle.sp_spec_text.specs.Signs.{Sign, Wide}
 use Rattle.sp_spec_text.specs.Signs as s
-use Rattle.sp_spec_text.specs.Token.{Lexeme, word, constant, sign, solve, Token}
-use Rattle.sp_spec_text.specs.Lex.{is_in, is_first, skip, before, by_mark, comment_mark, after_comment, Step, nothing, past, past_comment, gap, Skips, no_gap, gap_then, Piece, token, no_token, short_sign, short_piece, first_sign, piece, is_quoted, bracket, to_closing, closed_by, Reads, as_it_is, bare, goal, IsNext}
+use Rattle.sp_spec_text.specs.Token.{Lexeme, word, constant, sign, solve, wide, block, Token}
+use Rattle.sp_spec_text.specs.Lex.{is_in, is_first, skip, before, by_mark, comment_mark, after_comment, Step, nothing, past, past_comment, gap, Skips, no_gap, gap_then, Piece, token, no_token, short_sign, short_piece, first_sign, long_sign, long_piece, first_long, first_wide, after_block, close_block, piece, is_quoted, bracket, to_closing, closed_by, Reads, as_it_is, bare, goal, IsNext}
 
 -- the bytes end with these
 abbrev pub Ends : List ℕ → List ℕ → Type 0
@@ -94,6 +94,16 @@ comment_gives depth (a ∷ b ∷ bytes) =
 pub comment_behind : (depth : ℕ) (bytes rest : List ℕ) → after_comment depth bytes ≡ Some rest → Behind 2 bytes rest
 comment_behind depth bytes rest e = (comment_gives depth bytes).is rest e
 
+block_gives : (bytes : List ℕ) → Gives 2 bytes (after_block bytes)
+unfolding after_block
+block_gives [] = gives_none
+block_gives (a ∷ []) = gives_none
+block_gives (a ∷ b ∷ bytes) =
+    either (a == 42 && b == 125) (gives_some bytes (record { front = a ∷ b ∷ []; are = refl; long = omega arith })) (gives_more a (block_gives (b ∷ bytes)))
+
+pub block_behind : (bytes rest : List ℕ) → after_block bytes ≡ Some rest → Behind 2 bytes rest
+block_behind bytes rest e = (block_gives bytes).is rest e
+
 closing_gives : (quoted : Bool) (depth : ℕ) (bytes : List ℕ) → Gives 0 bytes (to_closing quoted depth bytes)
 unfolding to_closing
 closing_gives quoted depth [] = gives_none
@@ -102,6 +112,9 @@ closing_gives quoted depth (b ∷ bytes) =
     (gives_more b (closing_gives quoted (depth + 1) bytes))
     (either (depth == 0) (gives_some (b ∷ bytes) (record { front = []; are = refl; long = omega arith })) (gives_more b (closing_gives quoted (depth - 1) bytes)))
     (gives_more b (closing_gives (is_quoted quoted b bytes) depth bytes))
+
+pub closing_ends : (quoted : Bool) (depth : ℕ) (bytes rest : List ℕ) → to_closing quoted depth bytes ≡ Some rest → Ends bytes rest
+closing_ends quoted depth bytes rest e = behind_ends ((closing_gives quoted depth bytes).is rest e)
 
 -- ---- blanks and comments
 
@@ -166,6 +179,23 @@ sign_leads b bytes =
     let long : (x : Sign) → Leads 1 (b ∷ bytes) (token (sign x) (drop 3 (b ∷ bytes))) = λ x. leads_token (sign x) (drop 2 bytes) (behind_one b (ends_drop 2 bytes)) in
     leads_either _ (long s.OpenArrow) (leads_either _ (long s.CloseArrow) (leads_either _ (long s.Arrow) (leads_either _ (long s.Implies) (leads_either _ (long s.Iff) (leads_short (short_sign b) b bytes)))))
 
+long_leads : (o : Option Wide) (b c d : ℕ) (bytes : List ℕ) → Leads 1 (b ∷ c ∷ d ∷ bytes) (long_piece o bytes)
+long_leads None b c d bytes = leads_none
+long_leads (Some x) b c d bytes = leads_token (wide x) bytes (behind_one b (ends_more c (ends_more d (ends_all bytes))))
+
+first_long_leads : (b : ℕ) (bytes : List ℕ) → Leads 1 (b ∷ bytes) (first_long (b ∷ bytes))
+first_long_leads b [] = leads_none
+first_long_leads b (c ∷ []) = leads_none
+first_long_leads b (c ∷ d ∷ bytes) = long_leads (long_sign b c d) b c d bytes
+
+wide_leads : (b : ℕ) (bytes : List ℕ) → Leads 1 (b ∷ bytes) (first_wide (b ∷ bytes))
+unfolding first_wide
+wide_leads b bytes = leads_either _ (leads_token (wide s.Not) (drop 1 bytes) (behind_one b (ends_drop 1 bytes))) (first_long_leads b bytes)
+
+block_leads : (b : ℕ) (bytes : List ℕ) (o : Option (List ℕ)) → Gives 2 (drop 1 bytes) o → Leads 1 (b ∷ bytes) (close_block o)
+block_leads b bytes None g = leads_none
+block_leads b bytes (Some rest) g = leads_token block rest (behind_one b (ends_behind (ends_drop 1 bytes) (behind_ends (g.is rest refl))))
+
 piece_leads : (bytes : List ℕ) → Leads 1 bytes (piece bytes)
 unfolding piece first_sign
 piece_leads [] = leads_none
@@ -175,7 +205,7 @@ piece_leads (b ∷ bytes) =
     let quoted = leads_either (nat_lt (length c) (length bytes) && is_first (λ b. b == 39) c)
     (leads_token (constant (before bytes c)) (drop 1 c) (behind_one b (ends_behind (skip_ends class.Constant bytes) (ends_drop 1 c)))) leads_none in
     leads_either (is_ascii_alphanumeric b) (leads_token (word (before (b ∷ bytes) w)) w (behind_one b (skip_ends class.Word bytes)))
-    (leads_either (b == 39) quoted (sign_leads b bytes))
+    (leads_either (b == 39) quoted (leads_either _ (block_leads b bytes (after_block (drop 1 bytes)) (block_gives (drop 1 bytes))) (leads_either _ (wide_leads b bytes) (sign_leads b bytes))))
 
 pub piece_behind : (bytes : List ℕ) (x : Lexeme) (rest : List ℕ) → piece bytes ≡ token x rest → Behind 1 bytes rest
 piece_behind bytes x rest e = (piece_leads bytes).is x rest e
@@ -184,11 +214,14 @@ closed_leads : (bytes : List ℕ) (o : Option (List ℕ)) → Gives 0 bytes o �
 closed_leads bytes None g = leads_none
 closed_leads bytes (Some rest) g = leads_token (solve (before bytes rest)) (drop 1 rest) (record { front = (ends_behind (behind_ends (g.is rest refl)) (ends_drop 1 rest)).0; are = (ends_behind (behind_ends (g.is rest refl)) (ends_drop 1 rest)).1; long = omega arith })
 
+pub goal_ends : (bytes : List ℕ) (x : Lexeme) (rest : List ℕ) → closed_by bytes (to_closing false 0 bytes) ≡ token x rest → Ends bytes rest
+goal_ends bytes x rest e = behind_ends ((closed_leads bytes (to_closing false 0 bytes) (closing_gives false 0 bytes)).is x rest e)
+
 pub reads_ends : {bytes rest : List ℕ} {p : Piece} {x : Lexeme} → Reads bytes p → p ≡ token x rest → Ends bytes rest
 reads_ends {bytes} {rest} {x = x} (as_it_is e d) f = behind_ends (piece_behind bytes x rest (e ∙ f))
 reads_ends {bytes} {rest} {x = x} (bare e t n) f = behind_ends (piece_behind bytes x rest (e ∙ f))
 reads_ends {bytes} {rest} {x = y} (goal {rest = r} {inside = i} {x = x} e t h k) f =
-    ends_behind (behind_ends (piece_behind bytes x r e)) (ends_behind (skips_ends h) (ends_more 40 (behind_ends ((closed_leads i (to_closing false 0 i) (closing_gives false 0 i)).is y rest (k ∙ f)))))
+    ends_behind (behind_ends (piece_behind bytes x r e)) (ends_behind (skips_ends h) (ends_more 40 (goal_ends i y rest (k ∙ f))))
 
 pub next_ends : {size : ℕ} {bytes rest : List ℕ} {t : Token} → IsNext size bytes t rest → Ends bytes rest
 next_ends n = ends_behind (skips_ends n.skips) (reads_ends n.reads refl)

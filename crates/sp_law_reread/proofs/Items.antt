@@ -11,22 +11,21 @@ use Rattle.sp_spec_text.specs.Ends.{place_behind, is_any}
 use Rattle.sp_lex.proofs.One.{tokens_one}
 use Rattle.sp_spec_text.specs.Names.{IsName}
 use Rattle.sp_spec_proof.specs.Tree.{Tree}
-use Rattle.sp_spec_text.specs.Written.{WrittenProof, Item, WrittenText, with_proofs}
+use Rattle.sp_spec_text.specs.Written.{WrittenProof, Attribute, Item, WrittenText, with_proofs}
 use Rattle.sp_spec_text.specs.Spans.{Span, EndsAt, AreSpans, no_span, past_declaration, past_lemma}
 use Rattle.sp_spec_text.specs.Theories as g
 use Rattle.sp_spec_text.specs.Theories.{SpellsLemma, SpellsDeclaration, SpellsProofPart, SpellsItems, SpellsTheory}
 use Rattle.sp_read_theory.specs.Items.{the_end}
 use Rattle.sp_spec_text.specs.Texts.{IsTextOf, ArePlaces}
-use Rattle.sp_read_theory.proofs.One.{lemmas_one}
-use Rattle.sp_read_theory.proofs.Declared.{declaration_one, declaration_taken, declaration_not_lemma}
-use Rattle.sp_read_theory.proofs.OneTheory.{items_word}
+use Rattle.sp_read_theory.proofs.LemmaParts.{lemma_one}
+use Rattle.sp_read_theory.proofs.Declared.{declaration_rest, declaration_not_lemma}
+use Rattle.sp_read_theory.proofs.Follows.{items_word}
 use Rattle.sp_skel.specs.Spelling.{spelled, IsReadable}
 use Rattle.sp_skel.proofs.Spelled.{tree_spells}
 use Rattle.sp_skel.proofs.Blanks.{Cut}
 use Rattle.sp_law_reread.specs.Again.{replaced, as_proofs, with_trees}
 use Rattle.sp_law_reread.proofs.Ends.{Ends, ends_behind, next_ends}
-use Rattle.sp_law_reread.proofs.Local.{BeginsNoGoal}
-use Rattle.sp_law_reread.proofs.Moving.{front_of, move_declaration, move_lemma, name_begins}
+use Rattle.sp_law_reread.proofs.Moving.{front_of, move_declaration, move_lemma}
 use Rattle.sp_law_reread.proofs.Reached.{Parted, parted}
 use Rattle.sp_law_reread.proofs.Places.{At, at_start, Claim, Again, settle, extend}
 use Rattle.sp_law_reread.proofs.Stretches.{claim_end, claim_lemma, after_other, onwards}
@@ -36,7 +35,6 @@ use Rattle.sp_read_theory.proofs.Spans.{proof_rest, spans_word}
 
 -- the tokens of a declaration spell it, whatever follows
 record DeclarationBefore (first : List Token) (x : Item) : Type 0 where
-  no_goals : Every BeginsNoGoal (lexemes first)
   spells : (ys : List Lexeme) → SpellsDeclaration (lexemes first ++ ys) x ys
 
 declaration_before : (tokens mid : List Token) {x : Item} → SpellsDeclaration (lexemes tokens) x (lexemes mid) → (first : List Token) → tokens ≡ first ++ mid → DeclarationBefore first x
@@ -45,7 +43,6 @@ declaration_before tokens mid {x} h first e =
     let f = front_of (move_declaration h ys).swapped in
     append_cancel_right f.front (lexemes first) (lexemes mid) (sym f.are ∙ ap lexemes e ∙ map-append (λ (t : Token). t.lexeme) first mid) in
     record {
-      no_goals = subst (λ (xs : List Lexeme). Every BeginsNoGoal xs) (fronts []) (front_of (move_declaration h []).swapped).no_goals;
       spells = λ ys.
           let m = move_declaration h ys in
           let f = front_of m.swapped in
@@ -66,13 +63,12 @@ last_same (a ∷ xs) (b ∷ ys) x y e =
     (rw (g, h) refl, o.1)
 
 -- those of a lemma spell it up to its closing quote
-record LemmaBefore (first : List Token) (quote : Token) (l : Lemma) : Type 0 where
-  no_goals : Every BeginsNoGoal (lexemes first)
+record LemmaBefore (first : List Token) (quote : Token) (l : Lemma) (each : List Attribute) : Type 0 where
   closing : quote.lexeme ≡ sign s.Quote
-  spells : (ys : List Lexeme) → SpellsLemma (lexemes first ++ sign s.Quote ∷ ys) l ys
+  spells : (ys : List Lexeme) → SpellsLemma (lexemes first ++ sign s.Quote ∷ ys) l each ys
 
-lemma_before : (tokens behind : List Token) {l : Lemma} → SpellsLemma (lexemes tokens) l (lexemes behind) → (first : List Token) (quote : Token) → tokens ≡ first ++ quote ∷ behind → LemmaBefore first quote l
-lemma_before tokens behind {l} h first quote e =
+lemma_before : (tokens behind : List Token) {l : Lemma} {each : List Attribute} → SpellsLemma (lexemes tokens) l each (lexemes behind) → (first : List Token) (quote : Token) → tokens ≡ first ++ quote ∷ behind → LemmaBefore first quote l each
+lemma_before tokens behind {l} {each} h first quote e =
     let fronts : (ys : List Lexeme) → ((front_of (move_lemma h ys).swapped).front ≡ lexemes first) × (sign s.Quote ≡ quote.lexeme) = λ ys.
     let f = front_of (move_lemma h ys).swapped in
     let xs = lexemes behind in
@@ -80,12 +76,11 @@ lemma_before tokens behind {l} h first quote e =
     let two : (f.front ++ sign s.Quote ∷ []) ++ xs ≡ (lexemes first ++ quote.lexeme ∷ []) ++ xs = append_assoc f.front (sign s.Quote ∷ []) xs ∙ one ∙ sym (append_assoc (lexemes first) (quote.lexeme ∷ []) xs) in
     last_same f.front (lexemes first) (sign s.Quote) quote.lexeme (append_cancel_right (f.front ++ sign s.Quote ∷ []) (lexemes first ++ quote.lexeme ∷ []) xs two) in
     record {
-      no_goals = subst (λ (xs : List Lexeme). Every BeginsNoGoal xs) (fronts []).0 (front_of (move_lemma h []).swapped).no_goals;
       closing = sym (fronts []).1;
       spells = λ ys.
           let m = move_lemma h ys in
           let f = front_of m.swapped in
-          subst (λ (xs : List Lexeme). SpellsLemma xs l ys) (f.others_are ∙ ap (λ (xs : List Lexeme). xs ++ sign s.Quote ∷ ys) (fronts ys).0) m.reads;
+          subst (λ (xs : List Lexeme). SpellsLemma xs l each ys) (f.others_are ∙ ap (λ (xs : List Lexeme). xs ++ sign s.Quote ∷ ys) (fronts ys).0) m.reads;
     }
 
 -- ---- what follows an item
@@ -95,8 +90,11 @@ some_left g.no_item e f = let none : ⊥ = cc in none
 some_left (g.declaration_first (g.builtins h) i) e f = let none : ⊥ = cc in none
 some_left (g.declaration_first (g.functions h) i) e f = let none : ⊥ = cc in none
 some_left (g.declaration_first (g.equations h) i) e f = let none : ⊥ = cc in none
-some_left (g.declaration_first (g.a_rule (g.rule n a b c)) i) e f = let none : ⊥ = cc in none
-some_left (g.lemma_first (g.lemma n k j) p i) e f = let none : ⊥ = cc in none
+some_left (g.declaration_first (g.heuristic h) i) e f = let none : ⊥ = cc in none
+some_left (g.declaration_first (g.text_block n) i) e f = let none : ⊥ = cc in none
+some_left (g.declaration_first (g.a_rule (g.rule (g.rule_head m n r) h a b c)) i) e f = let none : ⊥ = cc in none
+some_left (g.declaration_first (g.a_restriction (g.restriction k n h)) i) e f = let none : ⊥ = cc in none
+some_left (g.lemma_first (g.lemma n m k j) p i) e f = let none : ⊥ = cc in none
 
 record FirstToken (ts : List Token) : Type 0 where
   token : Token
@@ -131,7 +129,10 @@ proofs_past : {tokens rest : List Lexeme} {x : Item} → SpellsDeclaration token
 proofs_past (g.builtins h) items proofs = refl
 proofs_past (g.functions h) items proofs = refl
 proofs_past (g.equations h) items proofs = refl
+proofs_past (g.heuristic h) items proofs = refl
+proofs_past (g.text_block n) items proofs = refl
 proofs_past (g.a_rule h) items proofs = refl
+proofs_past (g.a_restriction h) items proofs = refl
 
 -- The tokens up to the rest that the grammar leaves. Behind the last declaration the spans say nothing of those that follow.
 record Divided (tokens : List Token) (rest : List Lexeme) : Type 0 where
@@ -172,7 +173,7 @@ Spelled items xs = SpellsItems xs items the_end
 
 claim_declaration : {text behind bytes : List ℕ} {end : ℕ} {x : Item} {mid : List Token} {spans : List Span} (items : List Item) (trees : List Tree) (d : Declared text bytes x mid end) → x ∷ with_trees items trees ≡ with_trees (x ∷ items) trees
     → Claim text spans trees end behind d.parted_at.rest (Spelled (with_trees items trees)) → Claim text spans trees end behind bytes (Spelled (with_trees (x ∷ items) trees))
-claim_declaration items trees d e c = extend d.parted_at c d.before.no_goals (λ ys k. subst (λ (xs : List Item). Spelled xs (lexemes d.first ++ ys)) e (g.declaration_first (d.before.spells ys) k))
+claim_declaration items trees d e c = extend d.parted_at c (λ ys k. subst (λ (xs : List Item). Spelled xs (lexemes d.first ++ ys)) e (g.declaration_first (d.before.spells ys) k))
 
 claim_items : {text behind : List ℕ} {end : ℕ} {tokens : List Token} {items : List Item} {spans : List Span} {after : List Lexeme} {bytes : List ℕ} → AreSpans tokens items spans → SpellsItems (lexemes tokens) items after → after ≡ the_end
     → (trees : List Tree) → Every IsReadable trees → length trees ≡ length spans → EndAt tokens end → AreTokens (length text) bytes tokens → Ends text bytes → Claim text spans trees end behind bytes (Spelled (with_trees items trees))
@@ -183,7 +184,7 @@ claim_items {tokens = ts} (past_declaration {x = x} {items = []} h b no_span) (g
     let d = declared ts w.mid w.first (subst (λ (us : List Lexeme). SpellsDeclaration (lexemes ts) x us) (sym w.mid_is) q) w.are (first_token w.mid g.no_item f) p cut ends in
     claim_declaration [] trees d (proofs_past q [] (as_proofs trees)) (claim_end d.ends_at.from d.parted_at.cut f d.ends_at.is g.no_item)
 claim_items {tokens = ts} {after = after} (past_declaration {items = x ∷ xs} {mid = mid} h b s) (g.declaration_first q i) e trees rs l p cut ends =
-    let o = (declaration_one (declaration_taken h (spans_word s)) (declaration_taken q (items_word i e))).1 in
+    let o = declaration_rest h q (spans_word s) (items_word i e) in
     let j = subst (λ (us : List Lexeme). SpellsItems us (x ∷ xs) after) (sym o) i in
     let d = declared ts mid b.0 h b.1 (first_token mid j e) p cut ends in
     claim_declaration (x ∷ xs) trees d (proofs_past h (x ∷ xs) (as_proofs trees)) (claim_items {bytes = d.parted_at.rest} s j e trees rs l d.ends_at d.parted_at.cut d.ends)
@@ -191,7 +192,7 @@ claim_items (past_declaration h b s) (g.lemma_first o d i) e trees rs l p cut en
 claim_items (past_lemma h b c f s) (g.declaration_first q i) e trees rs l p cut ends = absurd (declaration_not_lemma q h)
 claim_items (past_lemma h b c f s) (g.lemma_first o d i) e [] rs l p cut ends = absurd (omega (arith, l))
 claim_items {text} {behind} {end} {tokens} {after = after} {bytes} (past_lemma {l = x} {p = proof} {items = xs} {span = span} {spans = spans} {behind = y} {mid = mid} h b c f s) (g.lemma_first {mid = n} o d i) e (t ∷ trees) rs l p cut ends =
-    let d' = subst (λ (us : List Lexeme). SpellsProofPart us proof n) (sym (lemmas_one.one h o).1) d in
+    let d' = subst (λ (us : List Lexeme). SpellsProofPart us proof n) (sym (lemma_one h o).1) d in
     let j = subst (λ (us : List Lexeme). SpellsItems us xs after) (sym (proof_rest c d')) i in
     let u = first_token mid j e in
     let before = lemma_before tokens y h b.before b.last b.are in
@@ -201,14 +202,13 @@ claim_items {text} {behind} {end} {tokens} {after = after} {bytes} (past_lemma {
     let w = onwards proof span u.token u.others u.are f at a.cut in
     let ends_at = end_behind proof span f (end_later p (b.before ++ b.last ∷ []) (b.are ∙ sym (append_assoc b.before (b.last ∷ []) y))) in
     let later = claim_items {bytes = w.bytes} s j e trees rs.1 (omega (arith, l)) ends_at w.cut w.at.ends in
-    claim_lemma b.last t rs.0 q a.comes before.closing b.place_is before.no_goals (settle {bytes = w.bytes} later w.at)
+    claim_lemma b.last t rs.0 q a.comes before.closing b.place_is (settle {bytes = w.bytes} later w.at)
     (λ ys k. g.lemma_first (before.spells (spelled t ys)) (g.a_proof (tree_spells t rs.0 ys)) k)
 
 -- ---- the whole text
 
 -- the first three tokens open a theory, and the items stand behind them
 record Opened (theory : WrittenText) (first others : List Token) : Type 0 where
-  no_goals : Every BeginsNoGoal (lexemes first)
   items : SpellsItems (lexemes others) theory.items the_end
   whole : (items : List Item) (ys : List Lexeme) → SpellsItems ys items the_end → SpellsTheory (lexemes first ++ ys) (record { name = theory.name; items = items })
 
@@ -220,7 +220,6 @@ three {w} {items} {us} a b c ts n h e =
     let z : word (codes "begin") ≡ c.lexeme = cc in
     let v : us ≡ lexemes ts = cc in
     record {
-      no_goals = (subst BeginsNoGoal x refl, (subst BeginsNoGoal y (name_begins w n), (subst BeginsNoGoal z refl, tt)));
       items = subst (λ (xs : List Lexeme). SpellsItems xs items the_end) v h;
       whole = λ others ys k.
           let f : word (codes "theory") ∷ word w ∷ word (codes "begin") ∷ ys ≡ a.lexeme ∷ b.lexeme ∷ c.lexeme ∷ ys = rw (x, y, z) refl in
@@ -261,7 +260,7 @@ written_again text theory spans end trees behind h p rs l =
     let all : EndAt p.tokens end = record { from = 0; is = sym p.end_is } in
     let c = claim_items {behind = behind} {bytes = q.rest} spans_are o.opened.items refl trees rs l (end_later all o.first o.are) cut q.ends in
     let made : WrittenText = record { name = theory.name; items = with_trees theory.items trees } in
-    let d = extend {Q = λ ys. SpellsTheory ys made} q c o.opened.no_goals (λ ys k. o.opened.whole (with_trees theory.items trees) ys k) in
+    let d = extend {Q = λ ys. SpellsTheory ys made} q c (λ ys k. o.opened.whole (with_trees theory.items trees) ys k) in
     settle d (at_start text)
 
 pub read_again : (text : List ℕ) (theory : WrittenText) (spans : List Span) (end : ℕ) (trees : List Tree) (behind : List ℕ) → IsTextOf text theory → ArePlaces text theory spans end → Every IsReadable trees → length trees ≡ length spans

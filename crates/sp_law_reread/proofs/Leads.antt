@@ -6,7 +6,7 @@ use Rattle.sp_spec_text.specs.Ends.{place_behind, is_any}
 use Rattle.sp_spec_text.specs.Behind.{EndsInEnd}
 use Rattle.sp_law_reread.proofs.Ends.{gap_behind, behind_ends, skips_ends, reads_ends}
 use Rattle.sp_law_reread.proofs.Local.{Reaches, reached, past_token}
-use Rattle.sp_law_reread.proofs.Reached.{shorter_end, begins_no_solve, tokens_past}
+use Rattle.sp_law_reread.proofs.Reached.{shorter_end, tokens_past}
 use Rattle.sp_law_reread.proofs.Stops.{letter_begins, quote_begins, quote_piece, end_piece}
 
 -- the bytes are cut into tokens, none of them `end`, with blanks and comments between, and then these bytes follow
@@ -21,7 +21,7 @@ leads_skipped (gap_then e s) l = past_gap e (leads_skipped s l)
 
 pub leads_reached : {to mid bytes : List ℕ} {xs : List Lexeme} → Reaches mid bytes xs → Leads to mid → Leads to bytes
 leads_reached (reached s) l = leads_skipped s l
-leads_reached (past_token {x = x} s p q e h) l = past_one s (as_it_is p (begins_no_solve x q)) e (leads_reached h l)
+leads_reached (past_token s p e h) l = past_one s p e (leads_reached h l)
 
 pub leads_quote : {to rest : List ℕ} → Leads to rest → Leads to (34 ∷ rest)
 leads_quote {rest = rest} l = past_one (no_gap (quote_begins rest)) (as_it_is (quote_piece rest) refl) refl l

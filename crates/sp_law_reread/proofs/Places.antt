@@ -1,7 +1,6 @@
 -- What is written from a place of a text on, and how it is cut.
 use Rattle.std.proofs.Common.{◌≡◌, ℕ, ◌+◌, ◌-◌, List, [], ◌∷◌, ◌++◌, length, take, drop, codes, refl, sym, ap, subst, ◌∙◌, append_assoc, length-append, arith}
 use Rattle.std.proofs.Math.Seq.{drop-append_seam}
-use Rattle.sp_spec.specs.Lists.{Every}
 use Rattle.sp_spec_text.specs.Token.{Lexeme, Token}
 use Rattle.sp_spec_text.specs.Lex.{lexemes}
 use Rattle.sp_spec_proof.specs.Tree.{Tree}
@@ -10,7 +9,7 @@ use Rattle.sp_skel.proofs.Blanks.{Lexes}
 use Rattle.sp_spec_text.proofs.Rests.{before_rest}
 use Rattle.sp_law_reread.specs.Again.{between, replaced}
 use Rattle.sp_law_reread.proofs.Ends.{Ends, ends_all}
-use Rattle.sp_law_reread.proofs.Local.{Firm, BeginsNoGoal, Reaches, reaches_local}
+use Rattle.sp_law_reread.proofs.Local.{Firm, IsOpen, Reaches, reaches_local}
 use Rattle.sp_law_reread.proofs.Reached.{lexes_reached, Parted}
 use Rattle.sp_law_reread.proofs.Leads.{Leads, leads_reached}
 
@@ -37,13 +36,14 @@ between_is {text} {bytes} {place} a end front rest e f =
 -- ---- from a place on
 
 -- What is written in place of these bytes of the text, with trees in the places of proofs, begins with the tokens of the text, up to a byte
--- that stands firm. Of all its tokens P holds. None of them is the word `end` but that before what stands behind.
+-- that stands firm, behind which no constant is closed. Of all its tokens P holds. None of them is the word `end` but that before what stands behind.
 pub record Claim (text : List ℕ) (spans : List Span) (trees : List Tree) (end : ℕ) (behind bytes : List ℕ) (P : List Lexeme → Type 0) : Type 0 where
   pub stop : ℕ
   pub firm : Firm stop
   pub front : List ℕ
   pub old : List ℕ
   pub new : List ℕ
+  pub still_open : IsOpen new
   pub bytes_are : bytes ≡ front ++ stop ∷ old
   pub written : (place : ℕ) (all before : List ℕ) → At text place all → all ≡ before ++ bytes → replaced text place spans trees end ++ 10 ∷ behind ≡ (before ++ front) ++ stop ∷ new
   pub first : List Lexeme
@@ -63,7 +63,7 @@ pub record Again (text : List ℕ) (spans : List Span) (trees : List Tree) (end 
 pub settle : {text : List ℕ} {spans : List Span} {trees : List Tree} {end place : ℕ} {behind bytes : List ℕ} {P : List Lexeme → Type 0} → Claim text spans trees end behind bytes P → At text place bytes → Again text spans trees end behind place P
 settle {text} {spans} {trees} {end} {place} {behind} {bytes} c a =
     let e = c.written place bytes [] a refl in
-    let r = reaches_local c.firm c.front c.old c.new c.reaches refl c.bytes_are in
+    let r = reaches_local c.firm c.front c.old c.new c.still_open c.reaches refl c.bytes_are in
     record {
       all = c.first ++ c.others;
       lexes = λ size. subst (λ (x : List ℕ). Lexes size x (c.first ++ c.others)) (sym e) (lexes_reached r (c.lexes size));
@@ -72,9 +72,9 @@ settle {text} {spans} {trees} {end} {place} {behind} {bytes} c a =
     }
 
 -- with more tokens before
-pub extend : {text : List ℕ} {spans : List Span} {trees : List Tree} {end : ℕ} {behind bytes : List ℕ} {P Q : List Lexeme → Type 0} {ts us : List Token} → (p : Parted (length text) bytes ts us) → Claim text spans trees end behind p.rest P → Every BeginsNoGoal (lexemes ts)
+pub extend : {text : List ℕ} {spans : List Span} {trees : List Tree} {end : ℕ} {behind bytes : List ℕ} {P Q : List Lexeme → Type 0} {ts us : List Token} → (p : Parted (length text) bytes ts us) → Claim text spans trees end behind p.rest P
     → ((ys : List Lexeme) → P ys → Q (lexemes ts ++ ys)) → Claim text spans trees end behind bytes Q
-extend {text} {Q = Q} {ts = ts} p c no_goals f =
+extend {text} {Q = Q} {ts = ts} p c f =
     let m = p.ends.0 in
     record {
       stop = c.stop;
@@ -82,12 +82,13 @@ extend {text} {Q = Q} {ts = ts} p c no_goals f =
       front = m ++ c.front;
       old = c.old;
       new = c.new;
+      still_open = c.still_open;
       bytes_are = p.ends.1 ∙ ap (λ (x : List ℕ). m ++ x) c.bytes_are ∙ sym (append_assoc m c.front (c.stop ∷ c.old));
       written = λ place all before a e.
           let g = c.written place all (before ++ m) a (e ∙ ap (λ (x : List ℕ). before ++ x) p.ends.1 ∙ sym (append_assoc before m p.rest)) in
           g ∙ ap (λ (x : List ℕ). x ++ c.stop ∷ c.new) (append_assoc before m c.front);
       first = lexemes ts ++ c.first;
-      reaches = p.reaches (c.stop ∷ c.old) c.first no_goals c.reaches;
+      reaches = p.reaches (c.stop ∷ c.old) c.first c.reaches;
       others = c.others;
       lexes = c.lexes;
       leads = c.leads;

@@ -1,11 +1,10 @@
 -- Tokens up to a place in a text, and the lexemes that are cut off there.
 use Rattle.std.proofs.Common.{◌≡◌, ℕ, ◌-◌, ◌≤◌, false, true≢false, List, [], ◌∷◌, ◌++◌, length, Option, Some, None, refl, sym, ap, subst, ◌∙◌, length-append, arith}
-use Rattle.sp_spec.specs.Lists.{Every}
-use Rattle.sp_spec_text.specs.Token.{Lexeme, word, constant, sign, solve, Token}
+use Rattle.sp_spec_text.specs.Token.{Lexeme, word, constant, sign, solve, wide, block, Token}
 use Rattle.sp_spec_text.specs.Lex.{before, past, gap, Skips, no_gap, gap_then, Piece, token, piece, is_end, is_solve, to_closing, closed_by, Reads, as_it_is, bare, goal, IsNext, AreTokens, no_more, last, next, lexemes}
 use Rattle.sp_lex.proofs.Gaps.{skips_shorter}
 use Rattle.sp_skel.proofs.Blanks.{Lexes}
-use Rattle.sp_law_reread.proofs.Ends.{Ends, ends_all, ends_behind, next_ends, behind_ends, piece_behind}
+use Rattle.sp_law_reread.proofs.Ends.{Ends, ends_all, ends_behind, next_ends, reads_ends}
 use Rattle.sp_law_reread.proofs.Local.{BeginsNoGoal, Reaches, reached, past_token}
 
 -- ---- what is read of a text is cut off
@@ -36,24 +35,26 @@ begins_no_solve (word w) p = p
 begins_no_solve (constant c) p = refl
 begins_no_solve (sign x) p = refl
 begins_no_solve (solve t) p = absurd p
+begins_no_solve (wide x) p = refl
+begins_no_solve block p = refl
 
-pub lexes_piece : {size : ℕ} {bytes from rest : List ℕ} {xs : List Lexeme} (x : Lexeme) → Skips bytes from → piece from ≡ token x rest → BeginsNoGoal x → is_end x ≡ false → Lexes size rest xs → Lexes size bytes (x ∷ xs)
-lexes_piece {size} {from = from} {rest = rest} {xs = xs} x s p q e l = record {
+pub lexes_read : {size : ℕ} {bytes from rest : List ℕ} {xs : List Lexeme} (x : Lexeme) → Skips bytes from → Reads from (token x rest) → is_end x ≡ false → Lexes size rest xs → Lexes size bytes (x ∷ xs)
+lexes_read {size} {from = from} {rest = rest} {xs = xs} x s p e l = record {
   cut = λ le.
       let a = skips_shorter s in
-      let b = shorter_end (behind_ends (piece_behind from x rest p)) in
+      let b = shorter_end (reads_ends p refl) in
       let c = l.cut (omega arith) in
       let t : Token = record { lexeme = x; start = size - length from; end = size - length rest } in
       record {
         tokens = t ∷ c.tokens;
-        cut = next (record { from = from; skips = s; reads = as_it_is p (begins_no_solve x q); start = omega arith; end = omega arith }) e c.cut;
+        cut = next (record { from = from; skips = s; reads = p; start = omega arith; end = omega arith }) e c.cut;
         are = ap (λ (ys : List Lexeme). x ∷ ys) c.are;
       };
 }
 
 pub lexes_reached : {size : ℕ} {to bytes : List ℕ} {xs ys : List Lexeme} → Reaches to bytes xs → Lexes size to ys → Lexes size bytes (xs ++ ys)
 lexes_reached (reached s) l = lexes_skipped s l
-lexes_reached (past_token {x = x} s p q e h) l = lexes_piece x s p q e (lexes_reached h l)
+lexes_reached (past_token {x = x} s p e h) l = lexes_read x s p e (lexes_reached h l)
 
 -- ---- the tokens of a text
 
@@ -74,10 +75,10 @@ pub record Parted (size : ℕ) (bytes : List ℕ) (first others : List Token) : 
   pub rest : List ℕ
   pub ends : Ends bytes rest
   pub cut : AreTokens size rest others
-  pub reaches : (to : List ℕ) (xs : List Lexeme) → Every BeginsNoGoal (lexemes first) → Reaches to rest xs → Reaches to bytes (lexemes first ++ xs)
+  pub reaches : (to : List ℕ) (xs : List Lexeme) → Reaches to rest xs → Reaches to bytes (lexemes first ++ xs)
 
 pub parted : {size : ℕ} {bytes : List ℕ} {ts : List Token} (first : List Token) (u : Token) (us : List Token) → AreTokens size bytes ts → ts ≡ first ++ u ∷ us → Parted size bytes first (u ∷ us)
-parted {size} {bytes} [] u us h e = record { rest = bytes; ends = ends_all bytes; cut = subst (λ (ts : List Token). AreTokens size bytes ts) e h; reaches = λ to xs p r. r }
+parted {size} {bytes} [] u us h e = record { rest = bytes; ends = ends_all bytes; cut = subst (λ (ts : List Token). AreTokens size bytes ts) e h; reaches = λ to xs r. r }
 parted (t ∷ []) u us (no_more s) e = absurd (let none : ⊥ = cc in none)
 parted (t ∷ v ∷ first) u us (no_more s) e = absurd (let none : ⊥ = cc in none)
 parted (t ∷ []) u us (last n d) e = absurd (let none : ⊥ = cc in none)
@@ -90,7 +91,7 @@ parted {size} {bytes} (t ∷ first) u us (next {rest = r} {t = v} {ts = ts} n d 
       rest = p.rest;
       ends = ends_behind (next_ends n) p.ends;
       cut = p.cut;
-      reaches = λ to xs q h.
-          let one : Reaches to bytes (v.lexeme ∷ (lexemes first ++ xs)) = past_token n.skips (next_piece n (subst (λ (w : Token). BeginsNoGoal w.lexeme) (sym f) q.0)) (subst (λ (w : Token). BeginsNoGoal w.lexeme) (sym f) q.0) d (p.reaches to xs q.1 h) in
+      reaches = λ to xs h.
+          let one : Reaches to bytes (v.lexeme ∷ (lexemes first ++ xs)) = past_token n.skips n.reads d (p.reaches to xs h) in
           subst (λ (w : Token). Reaches to bytes (w.lexeme ∷ (lexemes first ++ xs))) f one;
     }

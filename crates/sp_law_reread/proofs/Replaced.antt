@@ -6,7 +6,7 @@ use Rattle.sp_spec_proof.specs.Tree.{Tree}
 use Rattle.sp_spec_text.specs.Written.{Item, WrittenText, lemmas_in, proofs_in}
 use Rattle.sp_spec_text.specs.Declared.{theory_in}
 use Rattle.sp_spec_text.specs.Spans.{Span, AreSpans, no_span, past_declaration, past_lemma}
-use Rattle.sp_spec_text.specs.Theories.{SpellsDeclaration, builtins, functions, equations, a_rule}
+use Rattle.sp_spec_text.specs.Theories.{SpellsDeclaration, builtins, functions, equations, heuristic, text_block, a_rule, a_restriction}
 use Rattle.sp_spec_text.specs.Texts.{ArePlaces}
 use Rattle.sp_spec_text.proofs.Items.{theory_kept, proofs_put}
 use Rattle.sp_skel.specs.Spelling.{as_written}
@@ -19,7 +19,10 @@ no_lemma_there : {tokens rest : List Lexeme} {x : Item} → SpellsDeclaration to
 no_lemma_there (builtins h) items = refl
 no_lemma_there (functions h) items = refl
 no_lemma_there (equations h) items = refl
+no_lemma_there (heuristic h) items = refl
+no_lemma_there (text_block n) items = refl
 no_lemma_there (a_rule h) items = refl
+no_lemma_there (a_restriction h) items = refl
 
 spans_length : {tokens : List Token} {items : List Item} {spans : List Span} → AreSpans tokens items spans → length spans ≡ length (lemmas_in items)
 spans_length no_span = refl

@@ -2,7 +2,6 @@
 use Rattle.std.proofs.Common.{◌≡◌, ℕ, ◌+◌, Bool, true, false, true≢false, cond, List, [], ◌∷◌, ◌++◌, length, codes, Option, Some, None, refl, sym, ap, subst, ◌∙◌, append_assoc, append-nil, arith}
 use Rattle.std.specs.Prelude.{◌==◌}
 use Rattle.std.proofs.lemmas.Bool.{eqb-true}
-use Rattle.sp_spec.specs.Lists.{Every}
 use Rattle.sp_spec_text.specs.Signs as s
 use Rattle.sp_spec_text.specs.Token.{Lexeme, word, sign, Token}
 use Rattle.sp_spec_text.specs.Lex.{Skips, token, piece, is_end, IsNext, AreTokens, no_more, last, next, lexemes}
@@ -19,7 +18,7 @@ use Rattle.sp_law_reread.specs.Again.{replaced}
 use Rattle.sp_law_reread.proofs.Ends.{ends_behind, skips_ends, next_ends}
 use Rattle.sp_law_reread.proofs.Local.{BeginsNoGoal, reached}
 use Rattle.sp_law_reread.proofs.Reached.{next_piece, Parted, parted}
-use Rattle.sp_law_reread.proofs.Stops.{quote_firm, letter_firm, quote_read, lexes_quote, word_read, lexes_end, tokens_feed}
+use Rattle.sp_law_reread.proofs.Stops.{quote_firm, letter_firm, feed_open, end_open, quote_read, lexes_quote, word_read, lexes_end, tokens_feed}
 use Rattle.sp_law_reread.proofs.Leads.{arrived, leads_quote}
 use Rattle.sp_law_reread.proofs.TreeLeads.{leads_at, leads_blank, leads_tree}
 use Rattle.sp_law_reread.proofs.Places.{At, at_drop, between_is, Claim, Again}
@@ -37,6 +36,7 @@ end_claim {text} {behind} {bytes} {rest} {trees} {end} t n e f h =
       front = o.0;
       old = codes "nd" ++ rest;
       new = codes "nd" ++ 10 ∷ behind;
+      still_open = end_open behind;
       bytes_are = are;
       written = λ place all before a d.
           let w = before ++ o.0 in
@@ -63,9 +63,9 @@ claim_end b (next {t = t} n d k) e f h = absurd (goes_on_end t.lexeme (let g : t
 -- ---- a lemma
 
 pub claim_lemma : {text behind bytes rest : List ℕ} {spans : List Span} {trees : List Tree} {end : ℕ} {span : Span} {first : List Token} {us : List Token} {P Q : List Lexeme → Type 0} (quote : Token) (t : Tree) → IsReadable t → (p : Parted (length text) bytes first us)
-    → IsNext (length text) p.rest quote rest → quote.lexeme ≡ sign s.Quote → span.from ≡ quote.end → Every BeginsNoGoal (lexemes first) → Again text spans trees end behind (goes_on text span) P → ((ys : List Lexeme) → P ys → Q (lexemes first ++ sign s.Quote ∷ spelled t ys))
+    → IsNext (length text) p.rest quote rest → quote.lexeme ≡ sign s.Quote → span.from ≡ quote.end → Again text spans trees end behind (goes_on text span) P → ((ys : List Lexeme) → P ys → Q (lexemes first ++ sign s.Quote ∷ spelled t ys))
     → Claim text (span ∷ spans) (t ∷ trees) end behind bytes Q
-claim_lemma {text} {behind} {bytes} {rest} {spans} {trees} {end} {span} {first} {Q = Q} quote t readable p n e f no_goals again step =
+claim_lemma {text} {behind} {bytes} {rest} {spans} {trees} {end} {span} {first} {Q = Q} quote t readable p n e f again step =
     let from : n.from ≡ 34 ∷ rest = quote_read n.from rest (subst (λ (x : Lexeme). piece n.from ≡ token x rest) e (next_piece n (subst BeginsNoGoal (sym e) tt))) in
     let o = skips_ends n.skips in
     let m = p.ends.0 ++ o.0 in
@@ -80,13 +80,14 @@ claim_lemma {text} {behind} {bytes} {rest} {spans} {trees} {end} {span} {first} 
       front = m;
       old = rest;
       new = tree ++ z;
+      still_open = feed_open ((tree_text 0 t ++ later) ++ z);
       bytes_are = are;
       written = λ place all before a d.
           let w = before ++ m in
           let all_is : all ≡ (w ++ 34 ∷ []) ++ rest = d ∙ ap (λ (x : List ℕ). before ++ x) are ∙ sym (append_assoc before m (34 ∷ rest)) ∙ sym (append_assoc w (34 ∷ []) rest) in
           ap (λ (x : List ℕ). (x ++ tree) ++ z) (between_is a span.from (w ++ 34 ∷ []) rest all_is quote_end) ∙ append_assoc (w ++ 34 ∷ []) tree z ∙ append_assoc w (34 ∷ []) (tree ++ z);
       first = lexemes first ++ [];
-      reaches = p.reaches (34 ∷ rest) [] no_goals (reached (subst (λ (x : List ℕ). Skips p.rest x) from n.skips));
+      reaches = p.reaches (34 ∷ rest) [] (reached (subst (λ (x : List ℕ). Skips p.rest x) from n.skips));
       others = sign s.Quote ∷ spelled t again.all;
       lexes = λ size.
           let behind_tree = subst (λ (x : List ℕ). Lexes size x (spelled t again.all)) (sym (append_assoc (tree_text 0 t) later z)) (lexes_tree 0 t (later ++ z) readable (again.lexes size)) in

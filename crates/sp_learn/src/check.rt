@@ -30,25 +30,34 @@ use sp_log::log::{Entry as StepEntry, Source};
 use sp_log::names::is_one_of;
 use sp_term::term::{Sort, has_sort};
 use std::alloc::{AllocError, Global};
+use thiserror::Error;
 
 /// What a log owes of each entry, by the definition of logs.
-#[derive(Clone, Copy, Debug, PartialEq, Eq)]
+#[derive(Clone, Copy, Debug, PartialEq, Eq, Error)]
 pub enum Clause {
     /// a step is an instance of a rule of its name, in normal form
+    #[error("the step is no instance of a rule of its name in normal form")]
     Instance,
     /// its premises have their sources in earlier entries, and no linear source is named twice
+    #[error("a premise has no source in the entries before, or its source is named twice")]
     Sources,
     /// no fresh name is used twice
+    #[error("a fresh name is used twice")]
     Freshness,
     /// what is sent is learnt
+    #[error("the message is sent before it is learnt")]
     SentLearnt,
     /// what is learnt wasn't yet
+    #[error("the message was learnt before")]
     LearntOnce,
     /// and may be learnt in that way
+    #[error("the message cannot be learnt in this way")]
     Way,
     /// what is made alone is learnt by no chain
+    #[error("the message can be made, and is learnt by a chain")]
     MadeAlone,
     /// no message of a chain was learnt before the chain's step
+    #[error("a message of the chain was learnt before the chain's step")]
     ChainIsNew,
 }
 

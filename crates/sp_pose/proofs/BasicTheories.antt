@@ -4,7 +4,7 @@ use Rattle.std.proofs.lemmas.Bool.{or_parts}
 use Rattle.sp_spec.specs.Lists.{Every}
 use Rattle.sp_spec.proofs.Lists.{every_both, every_weaken}
 use Rattle.sp_spec.specs.Signature.{Signature}
-use Rattle.sp_spec.specs.Rule.{Fact, Action}
+use Rattle.sp_spec.specs.Rule.{Fact}
 use Rattle.sp_spec.specs.Formula.{Written, Formula, truth, falsity, happens, equals, precedes, not_so, both, either, implies, for_all, for_some}
 use Rattle.sp_spec.specs.Theory.{Lemma, signature_of}
 use Rattle.sp_spec.specs.Written.{WrittenRule, theory_of}
@@ -14,18 +14,19 @@ use Rattle.sp_law_equal.specs.NormalForms.{HasNormalForms}
 use Rattle.sp_law_conv.specs.Accepted.{AreAccepted}
 use Rattle.sp_law_equal.specs.Right.{EquationsAreOver, KeepPublic}
 use Rattle.sp_law_equal.specs.RightTheory.{IsRightTheory}
-use Rattle.sp_spec.specs.Verdict.{names_learning}
 use Rattle.sp_law_conv.specs.Laws.{HaveOneArity}
 use Rattle.sp_law_conv.proofs.Convergent.{convergence_law}
 use Rattle.sp_law_basic.specs.BasicTheory.{AreBasicTerms, IsBasicRule, IsBasicFormula}
 use Rattle.sp_law_basic.proofs.RightTexts.{texts_are_right_lem}
-use Rattle.sp_wf.specs.SymbolFindings.{unknown_in, unknown_in_all, unknown_in_facts, unknown_in_actions, unknown_in_formula, has_destructor, have_destructor, facts_have_destructor, formula_has_destructor}
+use Rattle.sp_finding.specs.TermFindings.{unknown_in, unknown_in_all, has_destructor, have_destructor}
+use Rattle.sp_wf_rules.specs.RuleFindings.{unknown_in_facts, unknown_in_actions, facts_have_destructor}
+use Rattle.sp_wf_formulas.specs.FormulaFindings.{unknown_in_formula, formula_has_destructor}
 use Rattle.sp_wf.specs.Laws.{IsFineRule, IsFineLemma}
 use Rattle.sp_pose.specs.Problem.{Poses}
 use Rattle.sp_pose.proofs.Known.{facts_over, actions_over}
 use Rattle.sp_pose.proofs.OneArity.{have_one_arity}
 use Rattle.sp_pose.proofs.Constructors.{none_left, constructor_term, constructor_terms}
-use Rattle.sp_pose.proofs.Theories.{IsSpelledFact, IsSpelledAction, IsSpelledRule, IsSpelledFormula, theory_spelled, unlearnt}
+use Rattle.sp_pose.proofs.Theories.{IsSpelledFact, IsSpelledAction, IsSpelledRule, IsSpelledFormula, theory_spelled}
 
 module _ (s : Signature) (one : HaveOneArity s.symbols) (over : EquationsAreOver s.symbols s.equations) (good : AreAccepted s.symbols s.equations) where
   facts_basic : (fs : List (Fact Written)) → Every IsSpelledFact fs → unknown_in_facts s.symbols fs ≡ [] → facts_have_destructor s.equations fs ≡ false → Every (λ (f : Fact Written). AreBasicTerms s f.args) fs
@@ -33,7 +34,7 @@ module _ (s : Signature) (one : HaveOneArity s.symbols) (over : EquationsAreOver
   facts_basic (f ∷ fs) h e d =
       let known = none_left (unknown_in_all s.symbols f.args) (unknown_in_facts s.symbols fs) e in
       let plain = or_parts (have_destructor s.equations f.args) (facts_have_destructor s.equations fs) d in
-      ((constructor_terms s one over good f.args known.0 plain.0, h.0.0), facts_basic fs h.1 known.1 plain.1)
+      ((constructor_terms s one over good f.args known.0 plain.0, h.0), facts_basic fs h.1 known.1 plain.1)
 
   rule_basic : (r : WrittenRule) → IsSpelledRule r → IsFineRule s.symbols s.equations r → IsBasicRule s r
   rule_basic r h fine =
@@ -41,8 +42,8 @@ module _ (s : Signature) (one : HaveOneArity s.symbols) (over : EquationsAreOver
       let behind = none_left (unknown_in_actions s.symbols r.facts.actions) (unknown_in_facts s.symbols r.facts.conclusions) known.1 in
       record {
         premises = facts_basic r.facts.premises h.premises known.0 fine.plain;
-        actions = every_both IsSpelledAction _ _ (λ a k o. (o, k.0)) r.facts.actions h.actions (actions_over s.symbols r.facts.actions behind.0);
-        conclusions = every_both IsSpelledFact _ _ (λ f k o. (o, k.0)) r.facts.conclusions h.conclusions (facts_over s.symbols r.facts.conclusions behind.1);
+        actions = every_both IsSpelledAction _ _ (λ a k o. (o, k)) r.facts.actions h.actions (actions_over s.symbols r.facts.actions behind.0);
+        conclusions = every_both IsSpelledFact _ _ (λ f k o. (o, k)) r.facts.conclusions h.conclusions (facts_over s.symbols r.facts.conclusions behind.1);
       }
 
   rules_basic : (rs : List WrittenRule) → Every IsSpelledRule rs → Every (IsFineRule s.symbols s.equations) rs → Every (IsBasicRule s) rs
@@ -52,7 +53,7 @@ module _ (s : Signature) (one : HaveOneArity s.symbols) (over : EquationsAreOver
   formula_basic : (f : Formula) → IsSpelledFormula f → unknown_in_formula s.symbols f ≡ [] → formula_has_destructor s.equations f ≡ false → IsBasicFormula s f
   formula_basic truth h e d = tt
   formula_basic falsity h e d = tt
-  formula_basic (happens a i) h e d = (constructor_terms s one over good a.args e d, h.0)
+  formula_basic (happens a i) h e d = (constructor_terms s one over good a.args e d, h)
   formula_basic (equals t u) h e d =
       let known = none_left (unknown_in s.symbols t) (unknown_in s.symbols u) e in
       let plain = or_parts (has_destructor s.equations t) (has_destructor s.equations u) d in
@@ -93,10 +94,6 @@ lemmas_are_basic {t = t} p = lemmas_basic (signature_in t) (have_one_arity t.ite
 pub rules_are_basic : {text : List ℕ} {t : WrittenText} → Poses text t → Every (IsBasicRule (signature_of (theory_of (theory_in t)))) (theory_in t).rules
 rules_are_basic {t = t} p =
     rules_basic (signature_in t) (have_one_arity t.items) p.fine.over p.fine.accepted (theory_in t).rules (theory_spelled p.says.spells).rules_are p.fine.rules
-
-pub lemmas_unlearnt : {text : List ℕ} {t : WrittenText} → Poses text t → Every (λ (l : Lemma). names_learning l.formula ≡ false) (theory_in t).lemmas
-lemmas_unlearnt {t = t} p =
-    every_weaken (λ (l : Lemma). IsSpelledFormula l.formula) (λ (l : Lemma). names_learning l.formula ≡ false) (λ l h. unlearnt l.formula h) (theory_in t).lemmas (theory_spelled p.says.spells).lemmas_are
 
 pub keeps_public : {text : List ℕ} {t : WrittenText} → Poses text t → KeepPublic (signature_in t).symbols (signature_in t).equations
 keeps_public {t = t} p = convergence_law.public (signature_in t).symbols (signature_in t).equations p.fine.accepted

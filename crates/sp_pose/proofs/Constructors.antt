@@ -14,9 +14,9 @@ use Rattle.sp_law_conv.specs.Laws.{HaveOneArity}
 use Rattle.sp_law_decide.specs.Normal.{IsConstructorTerm, AreConstructorTerms}
 use Rattle.sp_conv.specs.Tests.{is_application, some_root, is_pair, is_destructor}
 use Rattle.sp_conv.proofs.Tests.{some_root_from}
-use Rattle.sp_wf.specs.Finding.{Finding, unknown_symbol, told}
-use Rattle.sp_wf.specs.SymbolFindings.{has_symbol, unknown_in, unknown_in_all, has_destructor, have_destructor}
-use Rattle.sp_wf.proofs.UnknownClean.{has_tells}
+use Rattle.sp_finding.specs.Finding.{Finding, unknown_symbol, told}
+use Rattle.sp_finding.specs.TermFindings.{has_symbol, unknown_in, unknown_in_all, has_destructor, have_destructor}
+use Rattle.sp_wf_symbols.proofs.UnknownClean.{has_tells}
 
 -- ---- lists without entries
 

@@ -44,10 +44,13 @@ has_forms (l ∷ ls) as' e = at (checked_form (formula l.formula)) refl (all_ask
 
 lemmas_same : (xs : List Item) → lemmas_in (view.items xs) ≡ map view.lemma (lemmas_read xs)
 lemmas_same [] = refl
-lemmas_same (i.Rule r ∷ xs) = lemmas_same xs
 lemmas_same (i.Builtins b ∷ xs) = lemmas_same xs
 lemmas_same (i.Functions f ∷ xs) = lemmas_same xs
 lemmas_same (i.Equations e ∷ xs) = lemmas_same xs
+lemmas_same (i.Heuristic ws ∷ xs) = lemmas_same xs
+lemmas_same (i.Block w ∷ xs) = lemmas_same xs
+lemmas_same (i.Rule r ∷ xs) = lemmas_same xs
+lemmas_same (i.Restriction r ∷ xs) = lemmas_same xs
 lemmas_same (i.Lemma l ∷ xs) = ap (λ (ls : List Lemma). view.lemma l ∷ ls) (lemmas_same xs)
 
 -- the lemmas in memory are those that the text says

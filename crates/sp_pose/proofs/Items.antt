@@ -5,7 +5,7 @@ use Rattle.sp_spec.specs.Written as written
 use Rattle.sp_spec.specs.Guarded.{Guarded}
 use Rattle.sp_law_guard.specs.CheckedForm.{checked_form}
 use Rattle.sp_read_parts.specs.Formulas.{formula}
-use Rattle.sp_spec_text.specs.Written.{rules_in}
+use Rattle.sp_declared.specs.WrittenRules.{rules_written}
 use Rattle.sp_written.specs.Views as view
 use Rattle.sp_written.specs.declared.theory.Item.{Item}
 use Rattle.sp_written.specs.declared.theory.Item.TheVariants as i
@@ -17,14 +17,17 @@ use Rattle.sp_spec.proofs.Lists.{next_item}
 -- ---- rules
 
 abbrev pub rules_read : List Item → List Rule
-rules_read xs = map written.rule_of (rules_in (view.items xs))
+rules_read xs = map written.rule_of (rules_written (view.items xs))
 
 first_rules : (x : Item) (xs : List Item) → rules_read (x ∷ xs) ≡ rules_read (x ∷ []) ++ rules_read xs
-first_rules (i.Rule r) xs = refl
-first_rules (i.Lemma l) xs = refl
 first_rules (i.Builtins b) xs = refl
 first_rules (i.Functions f) xs = refl
 first_rules (i.Equations e) xs = refl
+first_rules (i.Heuristic ws) xs = refl
+first_rules (i.Block w) xs = refl
+first_rules (i.Rule r) xs = refl
+first_rules (i.Restriction r) xs = refl
+first_rules (i.Lemma l) xs = refl
 
 pub rule_pushed : (out more all : List Rule) (place : ℕ) (xs : List Item) (x : Item) → place < length xs → x ≡ get_or xs place x → out ++ rules_read (drop place xs) ≡ all
     → more ≡ out ++ rules_read (x ∷ []) → more ++ rules_read (drop (place + 1) xs) ≡ all
@@ -37,10 +40,13 @@ rule_pushed out more all place xs x below is so pushed =
 
 pub last_read : (xs : List Item) (x : Item) → lemmas_read (xs ++ x ∷ []) ≡ lemmas_read xs ++ lemmas_read (x ∷ [])
 last_read [] x = refl
-last_read (i.Rule r ∷ xs) x = last_read xs x
 last_read (i.Builtins b ∷ xs) x = last_read xs x
 last_read (i.Functions f ∷ xs) x = last_read xs x
 last_read (i.Equations e ∷ xs) x = last_read xs x
+last_read (i.Heuristic ws ∷ xs) x = last_read xs x
+last_read (i.Block w ∷ xs) x = last_read xs x
+last_read (i.Rule r ∷ xs) x = last_read xs x
+last_read (i.Restriction r ∷ xs) x = last_read xs x
 last_read (i.Lemma l ∷ xs) x = ap (λ (ls : List WrittenLemma). l ∷ ls) (last_read xs x)
 
 pub last_asked : (ls : List WrittenLemma) (l : WrittenLemma) → all_asked (ls ++ l ∷ []) ≡ asked_then (all_asked ls) l

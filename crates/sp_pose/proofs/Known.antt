@@ -13,10 +13,11 @@ use Rattle.sp_spec_text.specs.Written.{WrittenText}
 use Rattle.sp_spec_text.specs.Declared.{theory_in}
 use Rattle.sp_law_equal.specs.Right.{IsTermOver, AreTermsOver, RulesAreOver}
 use Rattle.sp_law_run.proofs.Written.{rules_over}
-use Rattle.sp_wf.specs.Finding.{unknown_symbol}
-use Rattle.sp_wf.specs.SymbolFindings.{has_symbol, unknown_in, unknown_in_all, unknown_in_facts, unknown_in_actions}
+use Rattle.sp_finding.specs.Finding.{unknown_symbol}
+use Rattle.sp_finding.specs.TermFindings.{has_symbol, unknown_in, unknown_in_all}
+use Rattle.sp_wf_rules.specs.RuleFindings.{unknown_in_facts, unknown_in_actions}
 use Rattle.sp_wf.specs.Laws.{IsFineRule}
-use Rattle.sp_wf.proofs.UnknownClean.{has_tells}
+use Rattle.sp_wf_symbols.proofs.UnknownClean.{has_tells}
 use Rattle.sp_pose.specs.Problem.{Poses}
 use Rattle.sp_pose.proofs.Constructors.{none_left, not_told}
 

@@ -9,3 +9,4 @@ pub mod Constructors
 pub mod Known
 pub mod BasicTheories
 pub mod NumberedFacts
+pub mod WaitingItems

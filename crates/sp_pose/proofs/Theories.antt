@@ -1,29 +1,29 @@
--- A text without findings has basic rules and lemmas: what the grammar spells has no fresh names and doesn't name learning, and the findings tell of
--- symbols that aren't there and of destructors.
-use Rattle.std.proofs.Common.{ℕ, Bool, true, false, if◌then◌else◌, List, [], ◌∷◌, map, not, ◌&&◌, ◌≡◌, codes, bytes_eq, refl}
+-- A text without findings has basic rules and lemmas: what the grammar spells has no fresh names, also with the values of bound names, and the findings
+-- tell of symbols that aren't there and of destructors.
+use Rattle.std.proofs.Common.{ℕ, Bool, true, false, if◌then◌else◌, List, [], ◌∷◌, map, not, ◌&&◌}
 use Rattle.sp_spec.specs.Lists.{Every, is_listed}
-use Rattle.sp_spec.specs.Term.{MadeOf, AllMadeOf, Term, var, constant, name, app, Terms, none, more, valued_all}
+use Rattle.sp_spec.specs.Term.{MadeOf, AllMadeOf, Term, var, Terms, app, none, valued}
 use Rattle.sp_spec.specs.Signature.{Symbol}
-use Rattle.sp_spec.specs.Rule.{Fact, Action, fact_at, action_at}
+use Rattle.sp_spec.specs.Rule.{Fact, Action, FactsMadeOf}
 use Rattle.sp_spec.specs.Formula.{Written, Formula, truth, falsity, happens, equals, precedes, not_so, both, either, implies, for_all, for_some}
 use Rattle.sp_spec.specs.Theory.{Lemma}
-use Rattle.sp_spec.specs.Verdict.{names_learning}
-use Rattle.sp_wf.proofs.Nothing.{both_false}
 use Rattle.sp_spec.specs.Written.{WrittenRule}
-use Rattle.sp_spec.proofs.Lists.{every_map}
 use Rattle.sp_spec_text.specs.Token.{Lexeme}
 use Rattle.sp_spec_text.specs.Signs.{Sign}
-use Rattle.sp_spec_text.specs.Written.{Item, WrittenText, rules_in, lemmas_in}
+use Rattle.sp_spec_text.specs.Bindings.{Binding, value_by, whole, with_values}
+use Rattle.sp_spec_text.proofs.Valued.{IsBoundSo, values_so}
+use Rattle.sp_spec_text.specs.Written.{Attribute, Item, WrittenText, rules_in, lemmas_in}
 use Rattle.sp_spec_text.specs.Declared.{is_bare, is_constant, resolved_name, resolved_term, resolved_formula, resolved_rule, resolved_item, all_symbols, theory_in}
 use Rattle.sp_spec_text.specs.Shapes.{action_of, quantified}
 use Rattle.sp_spec_text.specs.Formulas.{SpellsTerm, fixed, variable, brackets, tuple, application, braced, SpellsTuple, last_part, next_part, SpellsArguments, no_argument, some_arguments, SpellsTerms, last_term, next_term, SpellsFact, linear, persistent, quantified_some, SpellsUnit, bracketed, every, there_is, true_unit, false_unit, action, equation, order, SpellsNegation, unit_alone, negated, SpellsConjunction, conjunction, SpellsAnds, no_more_and, and_then, SpellsDisjunction, disjunction, SpellsOrs, no_more_or, or_then, SpellsImplication, alone, implication, SpellsFormula, one, two, SpellsReach, reach_one, reach_two}
-use Rattle.sp_spec_text.specs.Theories.{SpellsFacts, facts, SpellsArrow, unlabelled, labelled, SpellsRule, rule, SpellsLemma, lemma, SpellsDeclaration, builtins, functions, equations, a_rule, SpellsItems, no_item, declaration_first, lemma_first, SpellsTheory, theory}
+use Rattle.sp_spec_text.specs.Theories.{SpellsFacts, facts, SpellsArrow, unlabelled, labelled, SpellsBinding, binding, SpellsBindings, last_binding, next_binding, SpellsLet, no_let, let_in, SpellsRule, rule, SpellsLemma, lemma, SpellsDeclaration, builtins, functions, equations, heuristic, text_block, a_rule, a_restriction, SpellsItems, no_item, declaration_first, lemma_first, SpellsTheory, theory}
 use Rattle.sp_law_equal.specs.RightTheory.{no_fresh_names}
-use Rattle.sp_pose.proofs.Named.{not_learning, every_item}
+use Rattle.sp_law_equal.proofs.Made.{each_valued, each_valued_all, facts_valued}
+use Rattle.sp_pose.proofs.Named.{every_item}
 
 -- ---- what the grammar spells
 
--- no fresh name stands in it, and no fact is named as learning is
+-- no fresh name stands in it
 abbrev pub IsSpelledTerm : Term Written → Type 0
 IsSpelledTerm t = MadeOf no_fresh_names (λ x. Unit {0}) t
 
@@ -31,20 +31,18 @@ abbrev pub AreSpelledTerms : Terms Written → Type 0
 AreSpelledTerms ts = AllMadeOf no_fresh_names (λ x. Unit {0}) ts
 
 abbrev pub IsSpelledFact : Fact Written → Type 0
-IsSpelledFact f = AreSpelledTerms f.args × (bytes_eq f.symbol (codes "KU") ≡ false)
+IsSpelledFact f = AreSpelledTerms f.args
 
 abbrev pub IsSpelledAction : Action Written → Type 0
-IsSpelledAction a = AreSpelledTerms a.args × (bytes_eq a.symbol (codes "KU") ≡ false)
+IsSpelledAction a = AreSpelledTerms a.args
 
-pub record IsSpelledRule (r : WrittenRule) : Type 0 where
-  pub premises : Every IsSpelledFact r.facts.premises
-  pub actions : Every IsSpelledAction r.facts.actions
-  pub conclusions : Every IsSpelledFact r.facts.conclusions
+abbrev pub IsSpelledRule : WrittenRule → Type 0
+IsSpelledRule r = FactsMadeOf no_fresh_names (λ x. Unit {0}) r.facts
 
 abbrev pub IsSpelledFormula : Formula → Type 0
 IsSpelledFormula truth = Unit {0}
 IsSpelledFormula falsity = Unit {0}
-IsSpelledFormula (happens a i) = IsSpelledAction a
+IsSpelledFormula (happens a i) = AreSpelledTerms a.args
 IsSpelledFormula (equals t u) = IsSpelledTerm t × IsSpelledTerm u
 IsSpelledFormula (precedes i j) = Unit {0}
 IsSpelledFormula (not_so f) = IsSpelledFormula f
@@ -76,8 +74,8 @@ mutual
   terms_spelled (next_term t ts) = (term_spelled t, terms_spelled ts)
 
 fact_spelled : {n : ℕ} {f : Fact Written} {tokens rest : List Lexeme} → SpellsFact n tokens f rest → IsSpelledFact f
-fact_spelled (linear {w = w} named within ts) = (arguments_spelled ts, not_learning w named)
-fact_spelled (persistent {w = w} named within ts) = (arguments_spelled ts, not_learning w named)
+fact_spelled (linear named within ts annotated) = arguments_spelled ts
+fact_spelled (persistent named within ts annotated) = arguments_spelled ts
 
 facts_spelled : {fs : List (Fact Written)} {tokens rest : List Lexeme} → SpellsFacts tokens fs rest → Every IsSpelledFact fs
 facts_spelled (facts items) = every_item IsSpelledFact (λ ts x us. fact_spelled) items
@@ -90,9 +88,33 @@ actions_spelled : (fs : List (Fact Written)) → Every IsSpelledFact fs → Ever
 actions_spelled [] e = tt
 actions_spelled (f ∷ fs) e = (e.0, actions_spelled fs e.1)
 
-rule_spelled : {r : WrittenRule} {tokens rest : List Lexeme} → SpellsRule tokens r rest → IsSpelledRule r
-rule_spelled (rule {actions = actions} named premises arrow conclusions) =
-    record { premises = facts_spelled premises; actions = actions_spelled actions (arrow_spelled arrow); conclusions = facts_spelled conclusions }
+-- ---- values that stand for bound names
+
+binding_spelled : {b : Binding} {tokens rest : List Lexeme} → SpellsBinding tokens b rest → IsSpelledTerm b.value
+binding_spelled (binding v t) = term_spelled t
+
+bindings_spelled : {bs : List Binding} {tokens rest : List Lexeme} → SpellsBindings tokens bs rest → Every (IsBoundSo IsSpelledTerm) bs
+bindings_spelled (last_binding b) = (binding_spelled b, tt)
+bindings_spelled (next_binding b bs) = (binding_spelled b, bindings_spelled bs)
+
+let_spelled : {bs : List Binding} {tokens rest : List Lexeme} → SpellsLet tokens bs rest → Every (IsBoundSo IsSpelledTerm) bs
+let_spelled no_let = tt
+let_spelled (let_in bs) = bindings_spelled bs
+
+values_keep : (v : Written → Term Written) (t : Term Written) → ((x : Written) → IsSpelledTerm (var x) → IsSpelledTerm (v x)) → IsSpelledTerm t → IsSpelledTerm (valued v t)
+values_keep v t h e = each_valued no_fresh_names (λ x. Unit {0}) (λ x. Unit {0}) v h t e
+
+with_values_spelled : (bs : List Binding) (r : WrittenRule) → Every (IsBoundSo IsSpelledTerm) bs → IsSpelledRule r → IsSpelledRule (with_values bs r)
+with_values_spelled [] r h e = e
+with_values_spelled (b ∷ bs) r h e =
+    facts_valued no_fresh_names (λ x. Unit {0}) (λ x. Unit {0}) (value_by (whole (b ∷ bs))) (λ x u. values_so IsSpelledTerm values_keep (b ∷ bs) h x tt) r.facts e
+
+rule_spelled : {bs : List Binding} {r : WrittenRule} {tokens rest : List Lexeme} → SpellsRule tokens bs r rest → IsSpelledRule (with_values bs r)
+rule_spelled {bs = bs} {r = r} (rule {actions = actions} head bound premises arrow conclusions) =
+    let e : IsSpelledRule r = record { premises = facts_spelled premises; actions = actions_spelled actions (arrow_spelled arrow); conclusions = facts_spelled conclusions } in
+    with_values_spelled bs r (let_spelled bound) e
+
+-- ---- formulas
 
 all_bound : (vs : List Written) (f : Formula) → IsSpelledFormula f → IsSpelledFormula (quantified vs f)
 all_bound [] f h = h
@@ -149,8 +171,8 @@ mutual
       let b = implication_spelled g in
       ((a, b), (b, a))
 
-lemma_spelled : {l : Lemma} {tokens rest : List Lexeme} → SpellsLemma tokens l rest → IsSpelledFormula l.formula
-lemma_spelled (lemma named kind f) = formula_spelled f
+lemma_spelled : {l : Lemma} {each : List Attribute} {tokens rest : List Lexeme} → SpellsLemma tokens l each rest → IsSpelledFormula l.formula
+lemma_spelled (lemma named attributes kind f) = formula_spelled f
 
 -- ---- symbols in the place of names keep it
 
@@ -162,21 +184,13 @@ module _ (symbols : List Symbol) where
       at true = tt
       at false = tt
 
-  mutual
-    term_kept : (bound : List (List ℕ)) (t : Term Written) → IsSpelledTerm t → IsSpelledTerm (resolved_term symbols bound t)
-    term_kept bound (var x) h = name_kept bound x
-    term_kept bound (constant c) h = h
-    term_kept bound (name n) h = h
-    term_kept bound (app f ts) h = terms_kept bound ts h
-
-    terms_kept : (bound : List (List ℕ)) (ts : Terms Written) → AreSpelledTerms ts → AreSpelledTerms (valued_all (resolved_name symbols bound) ts)
-    terms_kept bound none h = tt
-    terms_kept bound (more t ts) h = (term_kept bound t h.0, terms_kept bound ts h.1)
+  term_kept : (bound : List (List ℕ)) (t : Term Written) → IsSpelledTerm t → IsSpelledTerm (resolved_term symbols bound t)
+  term_kept bound t h = each_valued no_fresh_names (λ x. Unit {0}) (λ x. Unit {0}) (resolved_name symbols bound) (λ x u. name_kept bound x) t h
 
   formula_kept : (bound : List (List ℕ)) (f : Formula) → IsSpelledFormula f → IsSpelledFormula (resolved_formula symbols bound f)
   formula_kept bound truth h = tt
   formula_kept bound falsity h = tt
-  formula_kept bound (happens a i) h = (terms_kept bound a.args h.0, h.1)
+  formula_kept bound (happens a i) h = each_valued_all no_fresh_names (λ x. Unit {0}) (λ x. Unit {0}) (resolved_name symbols bound) (λ x u. name_kept bound x) a.args h
   formula_kept bound (equals t u) h = (term_kept bound t h.0, term_kept bound u h.1)
   formula_kept bound (precedes i j) h = tt
   formula_kept bound (not_so f) h = formula_kept bound f h
@@ -186,18 +200,8 @@ module _ (symbols : List Symbol) where
   formula_kept bound (for_all x f) h = formula_kept (x.name ∷ bound) f h
   formula_kept bound (for_some x f) h = formula_kept (x.name ∷ bound) f h
 
-  fact_kept : (f : Fact Written) → IsSpelledFact f → IsSpelledFact (fact_at (resolved_name symbols []) f)
-  fact_kept f h = (terms_kept [] f.args h.0, h.1)
-
-  action_kept : (a : Action Written) → IsSpelledAction a → IsSpelledAction (action_at (resolved_name symbols []) a)
-  action_kept a h = (terms_kept [] a.args h.0, h.1)
-
   rule_kept : (r : WrittenRule) → IsSpelledRule r → IsSpelledRule (resolved_rule symbols r)
-  rule_kept r h = record {
-    premises = every_map IsSpelledFact IsSpelledFact (fact_at (resolved_name symbols [])) fact_kept r.facts.premises h.premises;
-    actions = every_map IsSpelledAction IsSpelledAction (action_at (resolved_name symbols [])) action_kept r.facts.actions h.actions;
-    conclusions = every_map IsSpelledFact IsSpelledFact (fact_at (resolved_name symbols [])) fact_kept r.facts.conclusions h.conclusions;
-  }
+  rule_kept r h = facts_valued no_fresh_names (λ x. Unit {0}) (λ x. Unit {0}) (resolved_name symbols []) (λ x u. name_kept [] x) r.facts h
 
 -- the rules and the lemmas of a theory
 pub record AreSpelled (rules : List WrittenRule) (lemmas : List Lemma) : Type 0 where
@@ -212,7 +216,10 @@ module _ (symbols : List Symbol) where
   declaration_kept items (builtins bs) m = record { rules_are = m.rules_are; lemmas_are = m.lemmas_are }
   declaration_kept items (functions fs) m = record { rules_are = m.rules_are; lemmas_are = m.lemmas_are }
   declaration_kept items (equations es) m = record { rules_are = m.rules_are; lemmas_are = m.lemmas_are }
-  declaration_kept items (a_rule {r = r} h) m = record { rules_are = (rule_kept symbols r (rule_spelled h), m.rules_are); lemmas_are = m.lemmas_are }
+  declaration_kept items (heuristic ws) m = record { rules_are = m.rules_are; lemmas_are = m.lemmas_are }
+  declaration_kept items (text_block w) m = record { rules_are = m.rules_are; lemmas_are = m.lemmas_are }
+  declaration_kept items (a_rule {bs = bs} {r = r} h) m = record { rules_are = (rule_kept symbols (with_values bs r) (rule_spelled h), m.rules_are); lemmas_are = m.lemmas_are }
+  declaration_kept items (a_restriction h) m = record { rules_are = m.rules_are; lemmas_are = m.lemmas_are }
 
   items_kept : {items : List Item} {tokens rest : List Lexeme} → SpellsItems tokens items rest → AreKept items
   items_kept no_item = record { rules_are = tt; lemmas_are = tt }
@@ -223,17 +230,3 @@ module _ (symbols : List Symbol) where
 
 pub theory_spelled : {tokens : List Lexeme} {t : WrittenText} → SpellsTheory tokens t → AreSpelled (theory_in t).rules (theory_in t).lemmas
 theory_spelled (theory {items = items} named h) = items_kept (all_symbols items) h
-
--- a formula of the grammar doesn't name learning
-pub unlearnt : (f : Formula) → IsSpelledFormula f → names_learning f ≡ false
-unlearnt truth h = refl
-unlearnt falsity h = refl
-unlearnt (happens a i) h = h.1
-unlearnt (equals t u) h = refl
-unlearnt (precedes i j) h = refl
-unlearnt (not_so f) h = unlearnt f h
-unlearnt (both f g) h = both_false (unlearnt f h.0) (unlearnt g h.1)
-unlearnt (either f g) h = both_false (unlearnt f h.0) (unlearnt g h.1)
-unlearnt (implies f g) h = both_false (unlearnt f h.0) (unlearnt g h.1)
-unlearnt (for_all x f) h = unlearnt f h
-unlearnt (for_some x f) h = unlearnt f h

@@ -31,11 +31,8 @@ asked_with l g = record { name = l.name.now; kind = view.kind l.kind; form = g; 
 -- the lemmas among the items that were read
 abbrev pub lemmas_read : List Item → List WrittenLemma
 lemmas_read [] = []
-lemmas_read (i.Rule r ∷ xs) = lemmas_read xs
-lemmas_read (i.Builtins b ∷ xs) = lemmas_read xs
-lemmas_read (i.Functions f ∷ xs) = lemmas_read xs
-lemmas_read (i.Equations e ∷ xs) = lemmas_read xs
 lemmas_read (i.Lemma l ∷ xs) = l ∷ lemmas_read xs
+lemmas_read (x ∷ xs) = lemmas_read xs
 
 -- with their guarded forms, where each formula has one
 abbrev pub all_asked : List WrittenLemma → Option (List Asked)

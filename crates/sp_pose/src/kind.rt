@@ -2,7 +2,7 @@
 
 ghost use Rattle.std.specs.Prelude.{◌≡◌};
 ghost use Rattle.sp_written.specs.Views as view;
-ghost use Rattle.sp_spec_text.specs.Kind as spec;
+ghost use Rattle.sp_spec_printed.specs.Kind as spec;
 
 use sp_written::TraceKind;
 

@@ -3,7 +3,7 @@
 ghost use Rattle.std.specs.Prelude.{◌≡◌, ◌∷◌, [], ◌++◌, Some, None, IfOk, OnOk, MatchOption, map, option_map};
 ghost use Rattle.sp_spec.specs.Written as written;
 ghost use Rattle.sp_fact.specs.View.{rule_of};
-ghost use Rattle.sp_spec_text.specs.Written.{rules_in};
+ghost use Rattle.sp_declared.specs.WrittenRules.{rules_written};
 ghost use Rattle.sp_written.specs.Views as view;
 ghost use Rattle.sp_formula.specs.FormulaView.{formula_of};
 ghost use Rattle.sp_law_guard.specs.CheckedForm as guard;
@@ -13,9 +13,9 @@ ghost use Rattle.sp_fact.specs.GroundView.{signature_of};
 ghost use Rattle.sp_pose.specs.Posed.{IsRead, IsMadeOf};
 
 use crate::numbering::numbered;
+use crate::waiting::waits;
 use sp_declared::equations::equations;
 use sp_declared::public_names::constants;
-use sp_declared::resolved::resolved;
 use sp_declared::signature::signature;
 use sp_declared::symbols::symbols;
 use sp_fact::rule::Rule;
@@ -24,8 +24,10 @@ use sp_formula::formula::Formula;
 use sp_guard::marks::checked_form;
 use sp_place::refused_at;
 use sp_read_theory::read_theory;
+use sp_resolved::resolved;
 use sp_term::term::Name;
 use sp_wf::report;
+use sp_wf_rules::bound_in;
 use sp_written::{Item, ReadTheory, Span, TraceKind, WrittenLemma, WrittenProof};
 use std::alloc::{AllocError, Global};
 
@@ -55,6 +57,8 @@ pub struct Problem<'a> {
     pub constants: Vec<Name>,
     /// its lemmas, with their guarded forms
     pub lemmas: Vec<GuardedLemma<'a>>,
+    /// whether it writes what nothing is proved of yet
+    pub waits: bool,
     /// the place behind its word `end`
     pub behind_end: usize,
 }
@@ -70,13 +74,13 @@ pub enum Read<'a> {
     Posed(Problem<'a>),
 }
 
-/// Puts the item at the end, if it is a rule, with its variables numbered.
+/// Puts the item at the end, if it is a rule, as it is written, with its variables numbered.
 fn push_rule(alloc: Global, rules: &mut Vec<Rule>, item: &Item) -> Result<(), AllocError>
-    ensures { OnOk result (map rule_of rules.new.items ≡ map rule_of rules.old.items ++ map written.rule_of (rules_in (view.item item.now ∷ []))) }
+    ensures { OnOk result (map rule_of rules.new.items ≡ map rule_of rules.old.items ++ map written.rule_of (rules_written (view.item item.now ∷ []))) }
 {
     match item {
-        Item::Rule(rule) => {
-            let made = numbered(alloc, rule)?;
+        Item::Rule(bound) => {
+            let made = numbered(alloc, &bound.rule)?;
             rules.push(made)?;
             Ok(())
         }
@@ -86,7 +90,7 @@ fn push_rule(alloc: Global, rules: &mut Vec<Rule>, item: &Item) -> Result<(), Al
 
 /// The rules among the items.
 fn rules_of(alloc: Global, items: &Vec<Item>) -> Result<Vec<Rule>, AllocError>
-    ensures { IfOk result (λ rs. map rule_of rs.items ≡ map written.rule_of (rules_in (view.items items.now.items))) }
+    ensures { IfOk result (λ rs. map rule_of rs.items ≡ map written.rule_of (rules_written (view.items items.now.items))) }
 {
     let mut rules = Vec::new(alloc);
     for item in items {
@@ -207,13 +211,14 @@ fn lemmas_in<'a>(
     guarded_lemmas(alloc, lemmas)
 }
 
-/// What a text poses, of its theory with symbols in the place of the names that are such; none where a lemma has no guarded form.
+/// What a text poses, of its theory with what its names stand for; none where a lemma has no guarded form.
 fn posed<'a>(
     alloc: Global,
     signature: Signature,
+    waits: bool,
     theory: ReadTheory<'a>,
 ) -> Result<Option<Problem<'a>>, AllocError>
-    ensures { IfOk result (λ o. MatchOption o (all_asked (lemmas_read theory.entry.items.items) ≡ None) (IsMadeOf (signature_of signature) theory.entry)) }
+    ensures { IfOk result (λ o. MatchOption o (all_asked (lemmas_read theory.entry.items.items) ≡ None) (IsMadeOf (signature_of signature) waits theory.entry)) }
 {
     let rules = rules_of(alloc, &theory.items)?;
     let constants = constants(alloc, &theory)?;
@@ -226,6 +231,7 @@ fn posed<'a>(
         rules,
         constants,
         lemmas,
+        waits,
         behind_end,
     }))
 }
@@ -244,15 +250,17 @@ pub fn posed_by<'a>(alloc: Global, text: &'a [u8]) -> Result<Read<'a>, AllocErro
         };
         return Ok(Read::Refused(place));
     };
+    let waits = waits(&read.items);
+    let bound = bound_in(alloc, &read.items)?;
     let symbols = symbols(alloc, &read.items)?;
     let theory = resolved(alloc, &symbols, read)?;
     let equations = equations(alloc, &theory.items)?;
-    let lines = report(alloc, &symbols, &equations, &theory)?;
+    let lines = report(alloc, &symbols, &equations, &bound, &theory)?;
     if !lines.is_empty() {
         return Ok(Read::Reported(lines));
     }
     let signature = signature(alloc, symbols, equations)?;
-    let Some(problem) = posed(alloc, signature, theory)? else {
+    let Some(problem) = posed(alloc, signature, waits, theory)? else {
         unreachable!()
     };
     Ok(Read::Posed(problem))

@@ -7,8 +7,8 @@ use Rattle.sp_spec.specs.Execution.{Step, Trace, Cause}
 use Rattle.sp_law_run.proofs.Runs.{runs_alike}
 use Rattle.sp_law_run.proofs.Written.{rules_right}
 use Rattle.sp_spec.specs.Lists.{newest_first}
-use Rattle.sp_spec_text.specs.Printed.{trace_block}
-use Rattle.sp_spec_text.specs.StepLines.{HaveNames, AreSteps, IsFirstUnread}
+use Rattle.sp_spec_printed.specs.Printed.{trace_block}
+use Rattle.sp_spec_printed.specs.StepLines.{HaveNames, AreSteps, IsFirstUnread}
 use Rattle.sp_read_steps.proofs.Laws.{steps_are_one}
 use Rattle.sp_exec.specs.Replay.{IsReplayed, IsFirstFault}
 use Rattle.sp_exec.proofs.Replays.{one_trace, one_fault, no_execution}
@@ -17,7 +17,7 @@ use Rattle.sp_spec_text.specs.Declared.{theory_in}
 use Rattle.sp_spec_text.specs.Texts.{ArePlaces}
 use Rattle.sp_read_theory.proofs.Whole.{text_one, places_one}
 use Rattle.sp_pose.specs.Problem.{Poses}
-use Rattle.sp_pose.proofs.One.{not_posed}
+use Rattle.sp_pose.proofs.One.{not_posed, ready_or_waiting}
 use Rattle.sp_pose.proofs.BasicTheories.{normal_forms}
 use Rattle.sp_replay.specs.Replay.{theory_said, lines_behind, HasLines, steps_done, IsUnread, IsStopped, IsMet, AreMet, met_lines, IsReplay}
 use Rattle.sp_replay.specs.Laws.{RepliesAreOne}
@@ -143,4 +143,7 @@ replies_are_one_lem = record {
   reported_or_done = λ text lines written r a. not_posed r a.has_lines.poses;
   reported_or_stopped = λ text lines n cause r a. not_posed r a.has_lines.poses;
   reported_or_unread = λ text lines n r a. not_posed r a.has_lines.poses;
+  waiting_or_done = λ text written w a. ready_or_waiting a.has_lines.poses a.has_lines.ready w;
+  waiting_or_stopped = λ text n cause w a. ready_or_waiting a.has_lines.poses a.has_lines.ready w;
+  waiting_or_unread = λ text n w a. ready_or_waiting a.has_lines.poses a.has_lines.ready w;
 }

@@ -1,5 +1,5 @@
 -- What is answered is what comes of the text.
-use Rattle.std.proofs.Common.{◌≡◌, ℕ, List, [], ◌++◌, map, drop, sym, ap, ◌∙◌, subst}
+use Rattle.std.proofs.Common.{◌≡◌, ℕ, false, List, ◌++◌, map, drop, sym, ap, ◌∙◌, subst}
 use Rattle.sp_spec.specs.Lists.{Every, newest_first}
 use Rattle.sp_spec.specs.Signature as spec
 use Rattle.sp_spec.specs.Signature.{Symbol}
@@ -12,13 +12,12 @@ use Rattle.sp_law_equal.specs.Right.{AreRight}
 use Rattle.sp_law_run.proofs.Written.{rules_right}
 use Rattle.sp_law_basic.specs.BasicTheory.{IsBasicFormula}
 use Rattle.sp_fact.specs.View.{rule_of}
-use Rattle.sp_fact.specs.View.{rule_of}
 use Rattle.sp_fact.specs.GroundView.{signature_of, symbol_of, step_of, entries_of, trace_of}
-use Rattle.sp_spec_text.specs.Printed.{trace_block}
+use Rattle.sp_spec_printed.specs.Printed.{trace_block}
 use Rattle.sp_fact.specs.declared.ground_fact.Trace.{Trace}
 use Rattle.sp_fact.specs.declared.step.Step.{Step}
 use Rattle.sp_spec_text.specs.Blanks.{lines}
-use Rattle.sp_spec_text.specs.StepLines.{AreSteps, IsFirstUnread}
+use Rattle.sp_spec_printed.specs.StepLines.{AreSteps, IsFirstUnread}
 use Rattle.sp_exec.specs.Replay.{IsReplayed, IsFirstFault}
 use Rattle.sp_exec.specs.View.{cause_of}
 use Rattle.sp_exec.specs.declared.cause.Cause.{Cause}
@@ -29,6 +28,7 @@ use Rattle.sp_pose.specs.Posed.{IsPosedBy}
 use Rattle.sp_pose.specs.declared.problem.Problem.{Problem}
 use Rattle.sp_pose.proofs.BasicTheories.{normal_forms, lemmas_are_basic}
 use Rattle.sp_pose.proofs.Known.{rules_are_over}
+use Rattle.sp_pose.proofs.WaitingItems.{is_ready}
 use Rattle.sp_replay.specs.Held.{held, held_lines}
 use Rattle.sp_replay.specs.Replay.{theory_said, behind_line, HasLines, steps_done, IsUnread, IsStopped, AreMet, met_lines, IsReplay}
 use Rattle.sp_pose.proofs.Forms.{asked_list, has_forms, lemmas_said}
@@ -38,13 +38,14 @@ use Rattle.sp_replay.proofs.Truths.{lemmas_met, lines_same}
 pub posed_right : {text : List ℕ} (p : Problem) → IsPosedBy text p → AreRight (map rule_of p.rules.items)
 posed_right p h = subst (λ (rs : List Rule). AreRight rs) (sym h.rules_are) (rules_right (theory_in h.said).rules h.poses.fine.rule_names)
 
-module _ {text : List ℕ} (p : Problem) (posed : IsPosedBy text p) (bytes : List ℕ) (behind : bytes ≡ behind_line (drop p.behind_end text)) where
+module _ {text : List ℕ} (p : Problem) (posed : IsPosedBy text p) (ready : p.waits ≡ false) (bytes : List ℕ) (behind : bytes ≡ behind_line (drop p.behind_end text)) where
   abbrev said : Theory
   said = theory_said posed.said
 
   has_lines : HasLines text posed.said (lines bytes)
   has_lines = record {
     poses = posed.poses;
+    ready = is_ready p posed ready;
     spans = view.spans posed.theory.items.items;
     behind_end = p.behind_end;
     places_are = posed.places_are;

@@ -4,7 +4,7 @@ use Rattle.sp_spec.specs.Signature as spec
 use Rattle.sp_law_equal.specs.NormalForms.{HaveNormalForms}
 use Rattle.sp_law_printed_log.proofs.TextNames.{texts_have_names_lem}
 use Rattle.sp_fact.specs.GroundView.{symbol_of, signature_of}
-use Rattle.sp_spec_text.specs.StepLines.{HaveNames}
+use Rattle.sp_spec_printed.specs.StepLines.{HaveNames}
 use Rattle.sp_pose.specs.Posed.{IsPosedBy}
 use Rattle.sp_pose.specs.declared.problem.Problem.{Problem}
 use Rattle.sp_pose.proofs.BasicTheories.{normal_forms}

@@ -3,7 +3,7 @@ use Rattle.std.specs.Prelude.{ℕ, Bool, List, [], ◌∷◌, ◌++◌, codes}
 use Rattle.sp_spec.specs.Execution.{Trace}
 use Rattle.sp_law_decide.specs.Deciding.{empty, decided}
 use Rattle.sp_pose.specs.Asked.{Asked}
-use Rattle.sp_spec_text.specs.Kind.{kind_text}
+use Rattle.sp_spec_printed.specs.Kind.{kind_text}
 use Rattle.sp_replay.specs.Replay.{met_text}
 
 -- whether the guarded form is true over the trace

@@ -9,16 +9,17 @@ use Rattle.sp_spec.specs.Execution.{Step, Trace, Cause}
 use Rattle.sp_spec.specs.Truth.{IsTrueOver}
 use Rattle.sp_law_run.specs.NormalStep.{normal_step}
 use Rattle.sp_spec.specs.Lists.{newest_first}
-use Rattle.sp_spec_text.specs.Printed.{trace_block}
+use Rattle.sp_spec_printed.specs.Printed.{trace_block}
 use Rattle.sp_spec_text.specs.Blanks.{lines}
-use Rattle.sp_spec_text.specs.StepLines.{AreSteps, IsFirstUnread}
+use Rattle.sp_spec_printed.specs.StepLines.{AreSteps, IsFirstUnread}
 use Rattle.sp_exec.specs.Replay.{IsReplayed, IsFirstFault}
 use Rattle.sp_spec_text.specs.Written.{WrittenText}
 use Rattle.sp_spec_text.specs.Declared.{theory_in}
+use Rattle.sp_spec_text.specs.Waiting.{waits}
 use Rattle.sp_spec_text.specs.Spans.{Span}
 use Rattle.sp_spec_text.specs.Texts.{ArePlaces}
 use Rattle.sp_pose.specs.Problem.{Poses}
-use Rattle.sp_spec_text.specs.Kind.{kind_text}
+use Rattle.sp_spec_printed.specs.Kind.{kind_text}
 
 -- the theory that the text says
 abbrev pub theory_said : WrittenText → Theory
@@ -33,9 +34,10 @@ behind_line (b ∷ bytes) = if b == 10 then bytes else behind_line bytes
 abbrev pub lines_behind : List ℕ → ℕ → List (List ℕ)
 lines_behind text end = lines (behind_line (drop end text))
 
--- the text says the theory, without fatal findings, and these lines stand behind it
+-- the text says the theory, without fatal findings, which writes nothing that nothing is proved of yet, and these lines stand behind it
 pub record HasLines (text : List ℕ) (theory : WrittenText) (found : List (List ℕ)) : Type 0 where
   pub poses : Poses text theory
+  pub ready : waits theory ≡ false
   pub spans : List Span
   pub behind_end : ℕ
   pub places_are : ArePlaces text theory spans behind_end

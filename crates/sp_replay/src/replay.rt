@@ -1,6 +1,6 @@
 // The steps behind a text, replayed.
 
-ghost use Rattle.std.specs.Prelude.{◌≡◌, IfOk};
+ghost use Rattle.std.specs.Prelude.{◌≡◌, false, IfOk};
 ghost use Rattle.sp_pose.specs.Posed.{IsPosedBy};
 ghost use Rattle.sp_pose.specs.Replies.{IsReplyTo};
 ghost use Rattle.sp_replay.specs.Replay as spec;
@@ -38,9 +38,10 @@ fn behind_line(text: &[u8]) -> &[u8]
     rest
 }
 
-/// The steps behind the theory, replayed.
+/// The steps behind the theory, in which nothing waits, replayed.
 fn replayed_on(alloc: Global, text: &[u8], problem: Problem) -> Result<Attempt, AllocError>
-    requires { IsPosedBy text.now problem }
+    requires posed { IsPosedBy text.now problem }
+    requires ready { problem.waits ≡ false }
     ensures { IfOk result (IsDone text.now) }
 {
     let signature = problem.signature;
@@ -58,7 +59,20 @@ fn replayed_on(alloc: Global, text: &[u8], problem: Problem) -> Result<Attempt, 
     }
 }
 
-/// What comes of a text whose lines behind its word `end` are replayed: it is refused at a place, or there are findings on its theory, or a line
+/// What comes of a problem of the text.
+fn reply(alloc: Global, text: &[u8], problem: Problem) -> Result<Reply<Attempt>, AllocError>
+    requires { IsPosedBy text.now problem }
+    ensures { IfOk result (IsReplyTo IsDone text.now) }
+{
+    if problem.waits {
+        Ok(Reply::Waiting)
+    } else {
+        let attempt = replayed_on(alloc, text, problem)?;
+        Ok(Reply::Done(attempt))
+    }
+}
+
+/// What comes of a text whose lines behind its word `end` are replayed: it is refused at a place, or there are findings on its theory, or it waits, or a line
 /// is no step's, or a step can't be done, or the steps are an execution.
 ///
 /// # Errors
@@ -70,9 +84,6 @@ pub fn replayed(alloc: Global, text: &[u8]) -> Result<Reply<Attempt>, AllocError
     match posed_by(alloc, text)? {
         Read::Refused(place) => Ok(Reply::Refused(place)),
         Read::Reported(lines) => Ok(Reply::Reported(lines)),
-        Read::Posed(problem) => {
-            let attempt = replayed_on(alloc, text, problem)?;
-            Ok(Reply::Done(attempt))
-        }
+        Read::Posed(problem) => reply(alloc, text, problem),
     }
 }

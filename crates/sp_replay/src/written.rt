@@ -2,7 +2,7 @@
 
 ghost use Rattle.std.specs.Prelude.{◌≡◌, ◌++◌, IfOk, OnOk, map};
 ghost use Rattle.sp_fact.specs.GroundView.{entries_of, trace_of};
-ghost use Rattle.sp_spec_text.specs.Printed.{trace_block};
+ghost use Rattle.sp_spec_printed.specs.Printed.{trace_block};
 ghost use Rattle.sp_pose.specs.Asked.{asked_of};
 ghost use Rattle.sp_replay.specs.Held.{held_line, held_lines};
 ghost use Rattle.sp_replay.specs.Replay as spec;

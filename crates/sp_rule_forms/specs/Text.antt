@@ -3,7 +3,7 @@
 use Rattle.std.specs.Prelude.{ℕ, List, [], ◌∷◌, ◌++◌, map, if◌then◌else◌, codes, decimal}
 use Rattle.sp_spec.specs.Term.{Sort, Msg, Fresh, Pub, Variable, app, none, valued_all, Ground}
 use Rattle.sp_spec.specs.Rule.{Fact, Action, Facts, action_at}
-use Rattle.sp_spec_text.specs.Printed.{action_text}
+use Rattle.sp_spec_printed.specs.Printed.{action_text}
 
 abbrev pub mark_text : Sort → List ℕ
 mark_text Msg = []

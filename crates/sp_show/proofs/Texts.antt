@@ -8,7 +8,7 @@ use Rattle.sp_spec.specs.Rule.{Action}
 use Rattle.sp_term.specs.View.{Never}
 use Rattle.sp_term.specs.declared.term.Term.{Term}
 use Rattle.sp_fact.specs.GroundView.{grounds_of}
-use Rattle.sp_spec_text.specs.Printed.{are_two, is_pair, text_at, row_text, arguments_text, action_text, more_actions_text, entry_text, more_given_text, given_text}
+use Rattle.sp_spec_printed.specs.Printed.{are_two, is_pair, text_at, row_text, arguments_text, action_text, more_actions_text, entry_text, more_given_text, given_text}
 use Rattle.sp_show.specs.Runs.{terms_run, opening, closing, actions_run, given_run}
 
 two_terms : (ts : List (Term Never)) → nat_eq (length ts) 2 ≡ are_two (grounds_of ts)

@@ -2,7 +2,7 @@
 use Rattle.std.specs.Prelude.{ℕ, Bool, false, not, ◌&&◌, if◌then◌else◌, List, [], ◌∷◌, ◌++◌, codes}
 use Rattle.sp_spec.specs.Term.{none, more, Ground, Grounds}
 use Rattle.sp_spec.specs.Rule.{Action}
-use Rattle.sp_spec_text.specs.Printed.{is_pair, text_at, term_text, action_text}
+use Rattle.sp_spec_printed.specs.Printed.{is_pair, text_at, term_text, action_text}
 
 abbrev pub separator : Bool → List ℕ
 separator first = if first then [] else codes ", "

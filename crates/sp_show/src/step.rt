@@ -4,7 +4,7 @@ ghost use Rattle.std.specs.Prelude.{◌≡◌, ◌++◌, IfOk, OnOk, codes, map,
 ghost use Rattle.sp_spec.specs.Term.{app};
 ghost use Rattle.sp_term.specs.View.{name_of};
 ghost use Rattle.sp_fact.specs.GroundView.{given_of, ground_of, grounds_of, step_of};
-ghost use Rattle.sp_spec_text.specs.Printed.{given_text, step_text, term_text};
+ghost use Rattle.sp_spec_printed.specs.Printed.{given_text, step_text, term_text};
 ghost use Rattle.sp_spec.specs.Lists.{Every};
 ghost use Rattle.sp_show.specs.Numbers.{HasNames, HaveNames, StepHasNames, numbered_names};
 ghost use Rattle.sp_show.specs.Runs.{given_start};

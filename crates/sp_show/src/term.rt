@@ -4,7 +4,7 @@ ghost use Rattle.std.specs.Prelude.{◌≡◌, ◌<◌, ◌^◌, ◌++◌, OnOk,
 ghost use Rattle.sp_spec.specs.Term.{app};
 ghost use Rattle.sp_term.specs.View.{name_of};
 ghost use Rattle.sp_fact.specs.GroundView.{ground_of, grounds_of};
-ghost use Rattle.sp_spec_text.specs.Printed.{arguments_text, is_pair, term_text, text_at};
+ghost use Rattle.sp_spec_printed.specs.Printed.{arguments_text, is_pair, term_text, text_at};
 ghost use Rattle.sp_show.specs.Numbers.{HasNames, HaveNames, numbered_names};
 ghost use Rattle.sp_show.specs.Runs.{closing, opening, separator, terms_run};
 

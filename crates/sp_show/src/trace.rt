@@ -2,7 +2,7 @@
 
 ghost use Rattle.std.specs.Prelude.{◌≡◌, ◌++◌, IfOk, OnOk, map, string_bytes};
 ghost use Rattle.sp_fact.specs.GroundView.{entries_of, ground_action};
-ghost use Rattle.sp_spec_text.specs.Printed.{action_text, entry_text, trace_block};
+ghost use Rattle.sp_spec_printed.specs.Printed.{action_text, entry_text, trace_block};
 
 use crate::term::{write_arguments, write_separator};
 use sp_fact::ground_fact::{GroundAction, Trace};

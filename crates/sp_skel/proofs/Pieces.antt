@@ -7,7 +7,7 @@ use Rattle.sp_spec.specs.Lists.{Every}
 use Rattle.sp_spec_text.specs.Bytes as class
 use Rattle.sp_spec_text.specs.Lex.{is_constant_byte, skip, close_constant, is_token, to_closing}
 use Rattle.sp_spec_text.specs.Blanks.{onto_first}
-use Rattle.sp_spec_text.specs.StepLines.{IsQuotable}
+use Rattle.sp_spec_printed.specs.StepLines.{IsQuotable}
 use Rattle.sp_skel.specs.MoveTexts.{words_from}
 use Rattle.sp_skel.proofs.Unbroken.{IsUnbroken, word_first, word_alone, closing_unbroken, Ends, ends}
 

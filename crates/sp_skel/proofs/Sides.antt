@@ -5,7 +5,7 @@ use Rattle.std.specs.List.{list_all}
 use Rattle.std.proofs.lemmas.Bool.{leb-true, ne_eqb, and_parts}
 use Rattle.sp_spec_text.specs.Lex.{is_constant_byte, is_digit}
 use Rattle.sp_spec_text.specs.Numerals.{are_digits}
-use Rattle.sp_spec_text.specs.StepLines.{IsQuotable}
+use Rattle.sp_spec_printed.specs.StepLines.{IsQuotable}
 use Rattle.sp_spec_text.proofs.Numerals.{decimal_are_digits}
 use Rattle.sp_spec_system.specs.Move.{Side, fresh_side, public_side, constant_side}
 use Rattle.sp_spec_system.specs.Words.{Argument, place, time, variable, side, digits, said_of, limit, SideWithin, IsWithin, EachWithin, side_text, argument_text}

@@ -1,5 +1,5 @@
 -- Trees whose moves a text can name: the numbers in them are those of memory, and the constants such as may stand in quotes.
-use Rattle.sp_spec_text.specs.StepLines.{IsQuotable}
+use Rattle.sp_spec_printed.specs.StepLines.{IsQuotable}
 use Rattle.sp_spec_system.specs.Move.{Side, constant_side, Move, same}
 use Rattle.sp_spec_system.specs.Words.{words_of, AreWithin, IsSided}
 use Rattle.sp_spec_proof.specs.Tree.{Tree, node, Branches, no_branch, branch}

@@ -1,11 +1,11 @@
 -- What is answered to a text.
-use Rattle.std.proofs.Common.{◌≡◌, ◌∙◌, ℕ, suc, List, ◌++◌, codes, ap, inl, inr}
+use Rattle.std.proofs.Common.{◌≡◌, ◌≢◌, ◌∙◌, ℕ, suc, List, ◌++◌, codes, ap, inl, inr}
 use Rattle.std.specs.Prelude.{decimal}
 use Rattle.sp_spec.specs.Execution.{Cause}
 use Rattle.sp_exec.specs.Replay.{rank}
 use Rattle.sp_place.specs.Refused.{IsRefusedAt}
-use Rattle.sp_pose.specs.Problem.{IsReported}
-use Rattle.sp_spec_text.specs.Verdict.{Verdict}
+use Rattle.sp_pose.specs.Problem.{IsReported, IsWaiting}
+use Rattle.sp_spec_printed.specs.Verdict.{Verdict}
 use Rattle.sp_analysis.specs.Replies.{IsDone}
 use Rattle.sp_analysis.specs.declared.replies.Command as asked
 use Rattle.sp_analysis.specs.declared.replies.Command.TheVariants as proofs
@@ -25,6 +25,17 @@ refusal command budget {place = place} n e f = inl (inl (record { place = place;
 pub report : (command : Command) (budget : ℕ) {bytes text : List ℕ} {status : Status} → IsReported bytes text → status ≡ Refused → CommandAnswer command budget bytes text status
 report command budget r f = inl (inr (inl (record { report = r; status_is = f })))
 
+no_list : (command : asked.Command) → of_proofs command ≢ Variants
+no_list (proofs.Prove budget) e = cc
+no_list proofs.Check e = cc
+
+pub deferral : (command : asked.Command) {bytes text : List ℕ} {status : Status} → IsWaiting bytes → text ≡ codes "refused: text at byte 0\n" → status ≡ Refused
+    → CommandAnswer (of_proofs command) (budget_in command) bytes text status
+deferral command w e f = inl (inr (inr (inl (record { no_list = no_list command; waiting = w; text_is = e; status_is = f }))))
+
+pub replay_deferral : {bytes text : List ℕ} {status : Status} → IsWaiting bytes → text ≡ codes "refused: text at byte 0\n" → status ≡ Refused → CommandAnswer Replay 0 bytes text status
+replay_deferral w e f = inl (inr (inr (inl (record { no_list = λ e. cc; waiting = w; text_is = e; status_is = f }))))
+
 done_with : (command : asked.Command) (bytes text : List ℕ) (verdicts : List Verdict) (status : Status) → IsDone command bytes text verdicts → status ≡ status_of verdicts → IsDoneWith (of_proofs command) (budget_in command) bytes text status
 done_with (proofs.Prove budget) bytes text verdicts status a e = record { outcomes = a.outcomes; analysis = a.analysis; status_is = e ∙ ap status_of a.verdicts_are }
 done_with proofs.Check bytes text verdicts status a e = record { judged = a.judged; checking = a.checking; status_is = e ∙ ap status_of a.verdicts_are }
@@ -34,7 +45,7 @@ done command {bytes} {text} verdicts {status} a e = inr (done_with command bytes
 
 pub line_refusal : {bytes text : List ℕ} {number : ℕ} {status : Status} → IsUnread bytes number → text ≡ codes "refused: line " ++ (decimal number ++ codes "\n") → status ≡ Refused
     → CommandAnswer Replay 0 bytes text status
-line_refusal {number = number} u e f = inl (inr (inr (record { replays = cc; number = number; unread = u; text_is = e; status_is = f })))
+line_refusal {number = number} u e f = inl (inr (inr (inr (record { replays = cc; number = number; unread = u; text_is = e; status_is = f }))))
 
 pub step_refusal : {bytes text : List ℕ} {number : ℕ} {cause : Cause} {status : Status} → IsStopped bytes number cause
     → text ≡ codes "step " ++ (decimal number ++ (codes " refused (" ++ (decimal (suc (rank cause)) ++ codes ")\n"))) → status ≡ Rejected → CommandAnswer Replay 0 bytes text status
@@ -46,4 +57,4 @@ replay_done r f = inr (inr (record { replay = r; status_is = f }))
 pub variants_done : {bytes text : List ℕ} {status : Status} → IsListed bytes text → status ≡ Fine → CommandAnswer Variants 0 bytes text status
 variants_done l f = inr (record { listed = l; status_is = f })
 
-pub ruleset answers = (refusal, report, done, line_refusal, step_refusal, replay_done, variants_done)
+pub ruleset answers = (refusal, report, deferral, replay_deferral, done, line_refusal, step_refusal, replay_done, variants_done)

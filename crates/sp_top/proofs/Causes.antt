@@ -1,15 +1,18 @@
 -- Each status has its cause, since it is that of the whole answer.
-use Rattle.std.proofs.Common.{◌≡◌, ◌≢◌, ◌⊎◌, ◌≤◌, ◌<◌, ℕ, List, [], ◌∷◌, Option, Some, None, length, take, refl, sym, ap, ap₂, subst, ◌∙◌, append-nil, inl, inr, arith}
+use Rattle.std.proofs.Common.{◌≡◌, ◌≢◌, ◌⊎◌, ◌≤◌, ◌<◌, ℕ, true, List, [], ◌∷◌, Option, Some, None, codes, length, take, refl, sym, ap, ap₂, subst, ◌∙◌, append-nil, inl, inr, arith}
 use Rattle.sp_io.specs.Told.{Rose, extended}
 use Rattle.sp_top.specs.Answer.{text_limit, TextAnswer, MayBeTooLong, MayBeText, IsFileAnswer, IsLineAnswer, IsAnswer}
 use Rattle.sp_spec.specs.Lists.{Member}
+use Rattle.sp_spec_text.specs.Written.{WrittenText}
+use Rattle.sp_spec_text.specs.Waiting.{waits}
+use Rattle.sp_pose.specs.Problem.{Poses, IsWaiting}
 use Rattle.sp_top.specs.Command.{Request, fetched, IsAbout, command_word, request_for, IsLine, IsNoLine}
-use Rattle.sp_top.specs.Run.{IsCutShort, UsageExactly, ReadFaultExactly, TooLongExactly, AnswersExactly, HasVerdicts, IsRight, VerdictsHold}
+use Rattle.sp_top.specs.Run.{IsCutShort, UsageExactly, ReadFaultExactly, TooLongExactly, AnswersExactly, WaitsExactly, HasVerdicts, IsRight, VerdictsHold}
 use Rattle.sp_top.specs.declared.words.Command.{Command}
 use Rattle.sp_top.specs.declared.words.Command.TheVariants.{Prove, Check, Replay, Variants}
-use Rattle.sp_top.proofs.TextStatus.{IsTextStatus, text_status, verdicts_status, status_is_one, verdicts_are_done, done_rightly}
+use Rattle.sp_top.proofs.TextStatus.{IsTextStatus, text_status, verdicts_status, status_is_one, is_deferred, why_refused, verdicts_are_done, done_rightly}
 use Rattle.sp_top.specs.declared.Status.{Status}
-use Rattle.sp_top.specs.declared.Status.TheVariants.{Usage, ReadFault, WriteFault, NoMemory, TooLong}
+use Rattle.sp_top.specs.declared.Status.TheVariants.{Refused, Usage, ReadFault, WriteFault, NoMemory, TooLong}
 
 abbrev first_byte : List ℕ → ℕ
 first_byte [] = 0
@@ -184,6 +187,44 @@ module _ (words : List (List ℕ)) (holds : List ℕ → Option (Option (List �
           let P : List ℕ → Type 0 = λ b. TextAnswer request b text status in
           let same : known.bytes ≡ bytes = cc in
           status_is_one request.command request.budget bytes other text kind status answered (subst P same known.answer)
+
+  -- a text that waits is deferred
+  pub waits_exactly : (old new : Option (List ℕ)) (text : List ℕ) (status : Status) → IsAnswer words holds before now text status → new ≡ extended old text → WaitsExactly words holds old new status
+  waits_exactly old new text status answer written = record {
+    comes = λ request file bytes line about told within no_list waiting whole read.
+        comes request bytes file told within no_list waiting read (answer_of_line words holds before now text request file status line about answer);
+    cause = λ request file bytes theory line about told posing refused.
+        why request bytes file theory told posing refused (answer_of_line words holds before now text request file status line about answer);
+  }
+    where
+      comes : (request : Request) (bytes file : List ℕ) → holds file ≡ Some (Some bytes) → length bytes ≤ text_limit → request.command ≢ Variants → IsWaiting bytes → status ≢ ReadFault
+          → IsFileAnswer request (holds file) before now text status → (status ≡ Refused) × (new ≡ extended old (codes "refused: text at byte 0\n"))
+      comes request bytes file told within no_list waiting read (inl fault) = absurd (read fault.status_is)
+      comes request bytes file told within no_list waiting read (inr (inl long)) =
+          let more : text_limit < length bytes = long.longer (Some bytes) told in
+          absurd (omega (arith, within, more))
+      comes request bytes file told within no_list waiting read (inr (inr known)) =
+          let e = known.agrees.1 (Some bytes) told in
+          let P : List ℕ → Type 0 = λ b. TextAnswer request b text status in
+          let same : known.bytes ≡ bytes = cc in
+          let d = is_deferred request.command request.budget bytes text status no_list waiting (subst P same known.answer) in
+          (d.0, written ∙ ap (extended old) d.1)
+
+      why : (request : Request) (bytes file : List ℕ) (theory : WrittenText) → holds file ≡ Some (Some bytes) → Poses bytes theory → status ≡ Refused
+          → IsFileAnswer request (holds file) before now text status → (waits theory ≡ true) ⊎ (request.command ≡ Replay)
+      why request bytes file theory told posing refused (inl fault) = let f : Refused ≡ ReadFault = sym refused ∙ fault.status_is in cc
+      why request bytes file theory told posing refused (inr (inl long)) = let f : Refused ≡ TooLong = sym refused ∙ long.status_is in cc
+      why request bytes file theory told posing refused (inr (inr known)) =
+          let e = known.agrees.1 (Some bytes) told in
+          let P : List ℕ → Type 0 = λ b. TextAnswer request b text status in
+          let same : known.bytes ≡ bytes = cc in
+          why_refused request.command request.budget bytes text status theory posing (subst P same known.answer) refused
+
+  pub waits_short : (old new : Option (List ℕ)) (status : Status) → IsCutShort status → WaitsExactly words holds old new status
+  waits_short old new status short = record {
+    comes = λ request file bytes line about told within no_list waiting whole read. absurd (whole short);
+    cause = λ request file bytes theory line about told posing refused. absurd (whole_is status Refused refused (λ e. cc) (λ e. cc) short);
+  }
 
   -- what an answer with verdicts says of each lemma is so
   pub answer_is_right : (text : List ℕ) (status : Status) → HasVerdicts status → IsAnswer words holds before now text status → IsRight words holds text status

@@ -76,7 +76,9 @@ module _ (bytes : List ℕ) where
       (plain_append (codes "refused: text at byte ") (decimal refusal.place ++ codes "\n") (plain_in (codes "refused: text at byte ") refl)
       (plain_append (decimal refusal.place) (codes "\n") (plain_number refusal.place) (plain_in (codes "\n") refl)))) t
   refused_so command text told full k (inr (inl report)) t = plain_true command text told k (report_plain bytes text report.report) t
-  refused_so command text told full k (inr (inr refusal)) t =
+  refused_so command text told full k (inr (inr (inl deferral))) t =
+      plain_true command text told k (subst IsPlain (sym deferral.text_is) (plain_in (codes "refused: text at byte 0\n") refl)) t
+  refused_so command text told full k (inr (inr (inr refusal))) t =
       plain_true command text told k (subst IsPlain (sym refusal.text_is)
       (plain_append (codes "refused: line ") (decimal refusal.number ++ codes "\n") (plain_in (codes "refused: line ") refl)
       (plain_append (decimal refusal.number) (codes "\n") (plain_number refusal.number) (plain_in (codes "\n") refl)))) t

@@ -4,21 +4,22 @@ use Rattle.std.specs.Prelude.{◌&&◌, ◌==◌, nat_lt}
 use Rattle.std.proofs.lemmas.Bool.Decides.{nat_tests}
 use Rattle.std.proofs.lemmas.Slice.Eq.{bytes_eq-Decides}
 use Rattle.std.proofs.lemmas.List.{append_cancel_right}
-use Rattle.sp_spec_text.specs.Bytes.{Class, Mark, Opens, Closes, Neither}
+use Rattle.sp_spec_text.specs.Bytes.{Class}
 use Rattle.sp_spec_text.specs.Bytes as class
-use Rattle.sp_spec_text.specs.Token.{Lexeme, word, constant, sign, solve, Token}
-use Rattle.sp_spec_text.specs.Lex.{is_in, is_first, is_digit, skip, before, by_mark, Skips, Piece, token, close_constant, piece, is_token, is_quoted, bracket, to_closing, closed_by, is_end, is_solve, NoBracket, other, open_comment, Reads, as_it_is, bare, goal, AreTokens, no_more, last, next}
+use Rattle.sp_spec_text.specs.Token.{Lexeme, word, constant, sign, solve, wide, block, Token}
+use Rattle.sp_spec_text.specs.Lex.{is_in, is_first, is_digit, skip, before, Skips, Piece, token, close_constant, piece, is_token, is_quoted, bracket, to_closing, closed_by, is_end, is_solve, NoBracket, other, open_comment, Reads, as_it_is, bare, goal, AreTokens, no_more, last, next}
 use Rattle.sp_spec_text.proofs.Rests.{before_rest}
 use Rattle.sp_lex.proofs.Gaps.{skips_one, skips_closed}
 use Rattle.sp_lex.proofs.Solve.{closing_leaves}
 use Rattle.sp_law_reread.proofs.Behind.{behind_one}
-use Rattle.sp_law_reread.proofs.Ends.{Ends, ends_more, ends_behind, skips_ends, reads_ends}
+use Rattle.sp_law_reread.proofs.Ends.{Ends, ends_behind, skips_ends, closing_ends, reads_ends}
 use Rattle.sp_law_reread.proofs.Local.{choice, marks, skips_local, piece_local}
 use Rattle.sp_law_reread.proofs.Stops.{letter_firm, word_read}
 use Rattle.sp_law_reread.proofs.Reached.{shorter_end}
 use Rattle.sp_law_reread.proofs.Leads.{Ended, ends_later}
 use Rattle.sp_spec_text.specs.Ends.{behind_all}
 use Rattle.sp_spec_text.specs.Behind.{EndsInEnd, IsBehindEnd}
+use Rattle.sp_spec_text.proofs.Closing.{closes}
 use Rattle.std.proofs.Math.Seq.{drop-append_seam}
 
 -- ---- words and constants end before a line feed
@@ -59,9 +60,6 @@ token_test : (t : Bool) (x : Lexeme) (rest : List ℕ) (y : Piece) → is_token 
 token_test true x rest y e = refl
 token_test false x rest y e = e
 
-constant_test : (body rest : List ℕ) → is_token (close_constant body rest) ≡ (nat_lt (length rest) (length body) && is_first (λ b. b == 39) rest)
-constant_test body rest = token_test (nat_lt (length rest) (length body) && is_first (λ b. b == 39) rest) _ _ _ refl
-
 shorter_so : (s w v q : List ℕ) → nat_lt (length (s ++ 10 ∷ v)) (length (w ++ 10 ∷ v)) ≡ nat_lt (length (s ++ 10 ∷ q)) (length (w ++ 10 ∷ q))
 shorter_so s w v q =
     let a = length-append s (10 ∷ v) in
@@ -76,7 +74,7 @@ begins_constant : (w v q : List ℕ)
 begins_constant w v q =
     let s = left_of class.Constant w in
     let at : (x : List ℕ) → is_token (close_constant (w ++ 10 ∷ x) (skip class.Constant (w ++ 10 ∷ x))) ≡ (nat_lt (length (s ++ 10 ∷ x)) (length (w ++ 10 ∷ x)) && is_first (λ b. b == 39) (s ++ 10 ∷ x)) =
-    λ x. ap (λ (z : List ℕ). is_token (close_constant (w ++ 10 ∷ x) z)) (stops class.Constant w x) ∙ constant_test (w ++ 10 ∷ x) (s ++ 10 ∷ x) in
+    λ x. ap (λ (z : List ℕ). is_token (close_constant (w ++ 10 ∷ x) z)) (stops class.Constant w x) ∙ closes (w ++ 10 ∷ x) (s ++ 10 ∷ x) in
     at v ∙ ap (λ (t : Bool). t && is_first (λ b. b == 39) (s ++ 10 ∷ v)) (shorter_so s w v q)
     ∙ ap (λ (t : Bool). nat_lt (length (s ++ 10 ∷ q)) (length (w ++ 10 ∷ q)) && t) (first_same (λ b. b == 39) s v q) ∙ sym (at q)
 
@@ -164,6 +162,8 @@ end_word (word w) e = (w, refl, (bytes_eq-Decides w (codes "end")).0 e)
 end_word (constant c) e = absurd (let none : ⊥ = cc in none)
 end_word (sign s) e = absurd (let none : ⊥ = cc in none)
 end_word (solve s) e = absurd (let none : ⊥ = cc in none)
+end_word (wide x) e = absurd (let none : ⊥ = cc in none)
+end_word block e = absurd (let none : ⊥ = cc in none)
 
 end_solves : (x : Lexeme) → is_end x ≡ true → is_solve x ≡ false
 end_solves x e = let w = end_word x e in ap is_solve (w.1 ∙ ap word w.2)
@@ -213,20 +213,6 @@ first_bracket : (tail a b : List ℕ) → is_first (λ b. b == 40) (tail ++ 101 
 first_bracket [] a b = refl
 first_bracket (c ∷ tail) a b = refl
 
-closing_end : (quoted : Bool) (depth : ℕ) (bytes rest : List ℕ) → to_closing quoted depth bytes ≡ Some rest → Ends bytes rest
-unfolding to_closing
-closing_end quoted depth [] rest h = no_such h
-closing_end quoted depth (b ∷ bytes) rest h =
-    at (bracket quoted b) (depth == 0) (λ e. ends_more b (closing_end quoted (depth + 1) bytes rest e)) (λ e. ends_more b (closing_end quoted (depth - 1) bytes rest e))
-    (λ e. ends_more b (closing_end (is_quoted quoted b bytes) depth bytes rest e)) h
-  where
-    at : (m : Mark) (t : Bool) {x y z : Option (List ℕ)} → (x ≡ Some rest → Ends (b ∷ bytes) rest) → (y ≡ Some rest → Ends (b ∷ bytes) rest) → (z ≡ Some rest → Ends (b ∷ bytes) rest)
-        → by_mark m x (cond t (Some (b ∷ bytes)) y) z ≡ Some rest → Ends (b ∷ bytes) rest
-    at Opens t f g k e = f e
-    at Closes true f g k e = let s : b ∷ bytes ≡ rest = cc in ([], s)
-    at Closes false f g k e = g e
-    at Neither t f g k e = k e
-
 module _ (u v q : List ℕ) where
   -- the bytes before the line feed, and those behind it
   by_feed : (m x : List ℕ) → m ++ the_end u x ≡ (m ++ (codes "end" ++ u)) ++ 10 ∷ x
@@ -271,7 +257,7 @@ module _ (u v q : List ℕ) where
   closed_at inside t rest x (Some []) c h e = let d : [] ≡ rest = cc in absurd (no_rest t (d ∙ e))
   closed_at inside t rest x (Some (b ∷ behind)) c h e =
       let d : behind ≡ t ++ the_end u v = (let g : behind ≡ rest = cc in g) ∙ e in
-      let o = closing_end false 0 inside (b ∷ behind) c in
+      let o = closing_ends false 0 inside (b ∷ behind) c in
       let are = o.1 ∙ ap (λ (y : List ℕ). o.0 ++ b ∷ y) d ∙ sym (append_assoc o.0 (b ∷ t) (the_end u v)) in
       record { byte = b; before_it = o.0; are = are; closing = sym (ap (to_closing false 0) are) ∙ c ∙ ap (λ (y : List ℕ). Some (b ∷ y)) d }
 

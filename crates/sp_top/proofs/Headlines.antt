@@ -1,16 +1,19 @@
 -- Each verdict of an answer is so, line by line.
 use Rattle.std.proofs.Common.{◌≡◌, ℕ, List, [], ◌∷◌, ◌++◌, map, codes, Option, inl, inr, refl, sym, ap, subst, ◌∙◌, append-nil, false, arith}
-use Rattle.sp_spec.specs.Lists.{Member, Every}
-use Rattle.sp_spec.specs.Theory.{Theory, Lemma}
+use Rattle.sp_spec.specs.Lists.{Member, Every, Distinct}
+use Rattle.sp_spec.proofs.Lists.{distinct_right}
+use Rattle.sp_spec.specs.Theory.{Theory, Restriction, Lemma}
 use Rattle.sp_spec.specs.Written.{theory_of}
 use Rattle.sp_spec.specs.Verdict.{names_learning}
 use Rattle.sp_spec_proof.specs.Tree.{steps}
 use Rattle.sp_spec_text.specs.Written.{WrittenProof, WrittenText, lemmas_with_proofs, without_proofs}
 use Rattle.sp_spec_text.specs.Declared.{resolved, theory_in}
-use Rattle.sp_spec_text.specs.Verdict.{summary_line}
+use Rattle.sp_spec_text.specs.Waiting.{waits}
+use Rattle.sp_spec_printed.specs.Verdict.{summary_line}
 use Rattle.sp_spec_text.specs.Names.{IsNameWord}
 use Rattle.sp_spec_text.specs.Blanks.{lines}
 use Rattle.sp_check.specs.Skeleton as read
+use Rattle.sp_wf.specs.Laws.{IsWellFormed}
 use Rattle.sp_pose.specs.Problem.{Poses}
 use Rattle.sp_spec_text.specs.Behind.{IsBehindEnd}
 use Rattle.sp_law_reread.proofs.Behind.{behind_one}
@@ -23,7 +26,7 @@ use Rattle.sp_spec_text.specs.Numerals.{counted}
 use Rattle.sp_analysis.specs.Analysis.{Outcome, summary, AreOutcomes}
 use Rattle.sp_analysis.specs.Checking.{Judged, checked_text, AreJudged}
 use Rattle.sp_analysis.specs.Laws.{Means, AreReadBack, JudgedRightly}
-use Rattle.sp_pose.proofs.BasicTheories.{lemmas_unlearnt}
+use Rattle.sp_pose.proofs.WaitingItems.{lemmas_unlearnt}
 use Rattle.sp_analysis.proofs.NoneTaken.{outcome_parts, judged_parts}
 use Rattle.sp_analysis.proofs.ReadBack.{executions_are_read_back_lem}
 use Rattle.sp_top.specs.Headline.{LinesAreTrue}
@@ -46,8 +49,8 @@ record IsKnown (text : WrittenText) (lemma : Lemma) : Type 0 where
   named : IsNameWord lemma.name
   unlearnt : names_learning lemma.formula ≡ false
 
-all_known : (bytes : List ℕ) (text : WrittenText) → Poses bytes text → Every (IsKnown text) (theory_in text).lemmas
-all_known bytes text posing = go (theory_in text).lemmas (λ l m. m) (texts_have_names_lem.lemmas bytes text posing.says) (lemmas_unlearnt posing)
+all_known : (bytes : List ℕ) (text : WrittenText) → Poses bytes text → waits text ≡ false → Every (IsKnown text) (theory_in text).lemmas
+all_known bytes text posing ready = go (theory_in text).lemmas (λ l m. m) (texts_have_names_lem.lemmas bytes text posing.says) (lemmas_unlearnt text ready)
   where
     go : (ls : List Lemma) → ((l : Lemma) → Member l ls → Member l (theory_in text).lemmas) → Every (λ (l : Lemma). IsNameWord l.name) ls → Every (λ (l : Lemma). names_learning l.formula ≡ false) ls
         → Every (IsKnown text) ls
@@ -84,6 +87,10 @@ judged_told text setting (q ∷ qs) (j ∷ js) k h m r =
     let known = subst (IsKnown text) (sym parts.0.lemma_is) k.0 in
     (record { stands = known.stands; named = known.named.1; unlearnt = known.unlearnt; means = m.0.means; read = r.0 }, judged_told text setting qs js k.1 parts.1 m.1 r.1)
 
+-- its lemmas have names of their own
+lemma_names_of : (text : WrittenText) → IsWellFormed text → Distinct (map (λ (l : Lemma). l.name) (theory_in text).lemmas)
+lemma_names_of text fine = distinct_right (map (λ (r : Restriction). r.name) (theory_in text).restrictions) (map (λ (l : Lemma). l.name) (theory_in text).lemmas) fine.statement_names
+
 -- ---- lines around them
 
 one_empty : lines [] ≡ [] ∷ []
@@ -103,7 +110,7 @@ tried_true budget bytes text status r told behind_end =
     let posing = r.analysis.poses in
     let names = texts_have_names_lem.symbols bytes written posing.says in
     let ts = map told_of r.outcomes in
-    let right = outcomes_told written (setting_of (theory_in written)) budget (theory_in written).lemmas r.outcomes (all_known bytes written posing) r.analysis.outcomes_are r.right
+    let right = outcomes_told written (setting_of (theory_in written)) budget (theory_in written).lemmas r.outcomes (all_known bytes written posing r.analysis.ready) r.analysis.outcomes_are r.right
     (executions_are_read_back_lem.tried budget bytes text r.outcomes r.analysis) in
     let same = behind_one text told (codes "\n/*\n" ++ (summary theory r.outcomes ++ codes "*/\n")) behind_end r.again.behind in
     let shape : codes "\n/*\n" ++ (summary theory r.outcomes ++ codes "*/\n") ≡ [] ++ 10 ∷ (codes "/*" ++ 10 ∷ (told_text theory ts ++ codes "*/\n")) =
@@ -113,7 +120,7 @@ tried_true budget bytes text status r told behind_end =
     let all = ap lines (same ∙ shape) ∙ line_cut [] (codes "/*" ++ 10 ∷ inner) tt
     ∙ ap (λ (ls : List (List ℕ)). [] ∷ ls) (line_cut (codes "/*") inner (no_feed_in (codes "/*") refl))
     ∙ ap (λ (ls : List (List ℕ)). [] ∷ codes "/*" ∷ ls) (told_lines written names ts right (codes "*/\n") ∙ ap (λ (ls : List (List ℕ)). all_lines written names ts ++ ls) last) in
-    lines_true written names bytes posing.says posing.fine.lemma_names told ([] ∷ codes "/*" ∷ []) (codes "*/" ∷ [] ∷ []) ts right all (nothing_there, (opens_comment, tt)) (closes_comment, (nothing_there, tt))
+    lines_true written names bytes posing.says (lemma_names_of written posing.fine) told ([] ∷ codes "/*" ∷ []) (codes "*/" ∷ [] ∷ []) ts right all (nothing_there, (opens_comment, tt)) (closes_comment, (nothing_there, tt))
 
 pub checked_true : (bytes text : List ℕ) (status : Status) → CheckedRightly bytes text status → LinesAreTrue bytes text
 checked_true bytes text status r =
@@ -122,8 +129,8 @@ checked_true bytes text status r =
     let posing = r.checking.poses in
     let names = texts_have_names_lem.symbols bytes written posing.says in
     let ts = map told_on r.judged in
-    let right = judged_told written (setting_of (theory_in written)) (lemmas_with_proofs (resolved written).items) r.judged (all_known bytes written posing) r.checking.judged_are r.right
+    let right = judged_told written (setting_of (theory_in written)) (lemmas_with_proofs (resolved written).items) r.judged (all_known bytes written posing r.checking.ready) r.checking.judged_are r.right
     (executions_are_read_back_lem.checked bytes text r.judged r.checking) in
     let shape : text ≡ told_text theory ts ++ [] = r.checking.written_is ∙ checked_told theory r.judged ∙ sym (append-nil (told_text theory ts)) in
     let all = ap lines shape ∙ told_lines written names ts right [] ∙ ap (λ (ls : List (List ℕ)). all_lines written names ts ++ ls) one_empty in
-    lines_true written names bytes posing.says posing.fine.lemma_names text [] ([] ∷ []) ts right all tt (nothing_there, tt)
+    lines_true written names bytes posing.says (lemma_names_of written posing.fine) text [] ([] ∷ []) ts right all tt (nothing_there, tt)

@@ -10,15 +10,20 @@ use Rattle.sp_spec.proofs.Lists.{every_append}
 use Rattle.sp_spec.specs.Term.{Term, var, constant, name, app, Terms, none, more, count}
 use Rattle.sp_spec.specs.Signature.{Symbol, Equation}
 use Rattle.sp_spec.specs.Rule.{Fact, Action}
+use Rattle.sp_spec.specs.Written.{WrittenRule}
 use Rattle.sp_spec.specs.Formula.{Written, Formula, truth, falsity, happens, equals, precedes, not_so, both, either, implies, for_all, for_some}
-use Rattle.sp_spec_text.specs.Written.{Item, builtins_item, functions_item, equations_item, rule_item, lemma_item}
+use Rattle.sp_spec_text.specs.Written.{Item, builtins_item, functions_item, equations_item, heuristic_item, block_item, rule_item, restriction_item, lemma_item}
 use Rattle.sp_spec_text.specs.Declared.{Builtin, hashing, symmetric_encryption, asymmetric_encryption, signing, revealing_signing, builtin_of, symbols_of, builtin_symbols, Numbered, their_equations}
-use Rattle.sp_wf.specs.Finding as f
-use Rattle.sp_wf.specs.Finding.{Finding, line, told}
-use Rattle.sp_wf.specs.SymbolFindings.{left_out, declared_otherwise, wide_symbols, unknown_in, unknown_in_all, unknown_in_facts, unknown_in_actions, unknown_in_formula, unknown_in_equations, unknown_in_item, unknown_in_items}
-use Rattle.sp_wf.specs.EquationFindings.{shapes, private_constants, clashes_with, clashes, findings_on_equations}
+use Rattle.sp_finding.specs.Finding as f
+use Rattle.sp_finding.specs.Finding.{Finding, line, told}
+use Rattle.sp_wf_symbols.specs.SymbolFindings.{left_out, declared_otherwise, wide_symbols, unknown_in_equations}
+use Rattle.sp_finding.specs.TermFindings.{unknown_in, unknown_in_all}
+use Rattle.sp_wf_rules.specs.RuleFindings.{unknown_in_facts, unknown_in_actions, unknown_in_rule}
+use Rattle.sp_wf_formulas.specs.FormulaFindings.{unknown_in_formula}
+use Rattle.sp_wf.specs.ItemFindings.{on_items, unknown_in_item, unknown_in_items}
+use Rattle.sp_wf_symbols.specs.EquationFindings.{shapes, private_constants, clashes_with, clashes, findings_on_equations}
 use Rattle.sp_top.proofs.PlainNames.{IsPlain, plain_in, plain_append, IsPlainTerm, ArePlainTerms, IsPlainFact, IsPlainAction, IsPlainFormula}
-use Rattle.sp_top.proofs.PlainTexts.{IsPlainSymbol, IsPlainEquation, IsPlainItem}
+use Rattle.sp_top.proofs.PlainTexts.{IsPlainRule, IsPlainSymbol, IsPlainEquation, IsPlainItem}
 
 -- ---- the line of a finding
 
@@ -32,6 +37,7 @@ IsPlainFinding (f.wrong_shape k) = Unit {0}
 IsPlainFinding (f.private_constant k) = Unit {0}
 IsPlainFinding (f.clash j k) = Unit {0}
 IsPlainFinding (f.used_twice x) = IsPlain x
+IsPlainFinding (f.bound_twice r x) = IsPlain r × IsPlain x
 IsPlainFinding (f.two_sorts r x) = IsPlain r × IsPlain x
 IsPlainFinding (f.reserved r x) = IsPlain r × IsPlain x
 IsPlainFinding (f.fr_argument r) = IsPlain r
@@ -42,6 +48,8 @@ IsPlainFinding (f.not_guarded n x) = IsPlain n × IsPlain x
 IsPlainFinding (f.destructor_in_formula n) = IsPlain n
 IsPlainFinding (f.other_sort n x) = IsPlain n × IsPlain x
 IsPlainFinding (f.mixed_at n x) = IsPlain n × IsPlain x
+IsPlainFinding (f.restricts_learning n) = IsPlain n
+IsPlainFinding (f.attribute_left_out n a) = IsPlain n × IsPlain a
 
 glyph_plain : (d : ℕ) → d < 10 → (digit_glyph false d == 40) ≡ false
 glyph_plain d h = grind (arith, nat_tests)
@@ -87,6 +95,8 @@ plain_line (f.destructor_in_premise r) h =
 plain_line (f.destructor_in_formula n) h = around (codes "fatal: formula ") n (codes ": destructor") (plain_in (codes "fatal: formula ") refl) h (plain_in (codes ": destructor") refl)
 plain_line (f.arity_above x) h = plain_append (codes "fatal: arity above 16: ") x (plain_in (codes "fatal: arity above 16: ") refl) h
 plain_line (f.used_twice x) h = around (codes "fatal: name ") x (codes " used twice") (plain_in (codes "fatal: name ") refl) h (plain_in (codes " used twice") refl)
+plain_line (f.bound_twice r x) h =
+    two_names (codes "fatal: rule ") r (codes ": let name ") x (codes " bound twice") (plain_in (codes "fatal: rule ") refl) h.0 (plain_in (codes ": let name ") refl) h.1 (plain_in (codes " bound twice") refl)
 plain_line (f.two_sorts r x) h =
     two_names (codes "fatal: rule ") r (codes ": variable ") x (codes " has two sorts") (plain_in (codes "fatal: rule ") refl) h.0 (plain_in (codes ": variable ") refl) h.1 (plain_in (codes " has two sorts") refl)
 plain_line (f.reserved r x) h = last_name (codes "fatal: rule ") r (codes ": reserved fact ") x (plain_in (codes "fatal: rule ") refl) h.0 (plain_in (codes ": reserved fact ") refl) h.1
@@ -101,6 +111,9 @@ plain_line (f.other_sort n x) h =
     two_names (codes "fatal: formula ") n (codes ": variable ") x (codes " has another sort than its binder") (plain_in (codes "fatal: formula ") refl) h.0 (plain_in (codes ": variable ") refl) h.1 (plain_in (codes " has another sort than its binder") refl)
 plain_line (f.mixed_at n x) h =
     last_name (codes "fatal: formula ") n (codes ": time and message mixed at ") x (plain_in (codes "fatal: formula ") refl) h.0 (plain_in (codes ": time and message mixed at ") refl) h.1
+plain_line (f.restricts_learning n) h = around (codes "fatal: restriction ") n (codes " names KU") (plain_in (codes "fatal: restriction ") refl) h (plain_in (codes " names KU") refl)
+plain_line (f.attribute_left_out n a) h =
+    last_name (codes "fatal: lemma ") n (codes ": attribute left out: ") a (plain_in (codes "fatal: lemma ") refl) h.0 (plain_in (codes ": attribute left out: ") refl) h.1
 
 -- ---- findings
 
@@ -113,6 +126,10 @@ both_plain xs ys h k = every_append IsPlainFinding xs ys h k
 pub plain_told : (b : Bool) (x : Finding) (xs : List Finding) → IsPlainFinding x → ArePlain xs → ArePlain (told b x xs)
 plain_told true x xs h k = (h, k)
 plain_told false x xs h k = k
+
+pub on_items_plain : (on : Item → List Finding) → ((x : Item) → IsPlainItem x → ArePlain (on x)) → (xs : List Item) → Every IsPlainItem xs → ArePlain (on_items on xs)
+on_items_plain on h [] e = tt
+on_items_plain on h (x ∷ xs) e = both_plain (on x) (on_items on xs) (h x e.0) (on_items_plain on h xs e.1)
 
 -- ---- symbols and terms
 
@@ -184,18 +201,23 @@ module _ (symbols : List Symbol) where
       both_plain (unknown_in symbols d.0) (unknown_in symbols d.1 ++ unknown_in_equations symbols es) (unknown_plain d.0 e.0.0)
       (both_plain (unknown_in symbols d.1) (unknown_in_equations symbols es) (unknown_plain d.1 e.0.1) (unknown_equations_plain es e.1))
 
+  unknown_rule_plain : (r : WrittenRule) → IsPlainRule r → ArePlain (unknown_in_rule symbols r)
+  unknown_rule_plain r h =
+      both_plain (unknown_in_facts symbols r.facts.premises) (unknown_in_actions symbols r.facts.actions ++ unknown_in_facts symbols r.facts.conclusions) (unknown_facts_plain r.facts.premises h.premises)
+      (both_plain (unknown_in_actions symbols r.facts.actions) (unknown_in_facts symbols r.facts.conclusions) (unknown_actions_plain r.facts.actions h.actions) (unknown_facts_plain r.facts.conclusions h.conclusions))
+
   unknown_item_plain : (x : Item) → IsPlainItem x → ArePlain (unknown_in_item symbols x)
   unknown_item_plain (builtins_item bs) h = tt
   unknown_item_plain (functions_item ss) h = tt
   unknown_item_plain (equations_item es) h = unknown_equations_plain es h
-  unknown_item_plain (rule_item r) h =
-      both_plain (unknown_in_facts symbols r.facts.premises) (unknown_in_actions symbols r.facts.actions ++ unknown_in_facts symbols r.facts.conclusions) (unknown_facts_plain r.facts.premises h.premises)
-      (both_plain (unknown_in_actions symbols r.facts.actions) (unknown_in_facts symbols r.facts.conclusions) (unknown_actions_plain r.facts.actions h.actions) (unknown_facts_plain r.facts.conclusions h.conclusions))
-  unknown_item_plain (lemma_item l p) h = unknown_formula_plain l.formula h.1
+  unknown_item_plain (heuristic_item ws) h = tt
+  unknown_item_plain (block_item w) h = tt
+  unknown_item_plain (rule_item bs r) h = unknown_rule_plain r h.1
+  unknown_item_plain (restriction_item r) h = unknown_formula_plain r.formula h.1
+  unknown_item_plain (lemma_item l as' p) h = unknown_formula_plain l.formula h.0.1
 
   pub unknown_items_plain : (xs : List Item) → Every IsPlainItem xs → ArePlain (unknown_in_items symbols xs)
-  unknown_items_plain [] e = tt
-  unknown_items_plain (x ∷ xs) e = both_plain (unknown_in_item symbols x) (unknown_in_items symbols xs) (unknown_item_plain x e.0) (unknown_items_plain xs e.1)
+  unknown_items_plain xs e = on_items_plain (unknown_in_item symbols) unknown_item_plain xs e
 
 -- ---- equations are told by their numbers
 

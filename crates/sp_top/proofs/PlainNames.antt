@@ -13,9 +13,10 @@ use Rattle.sp_spec_text.specs.Token.{Lexeme}
 use Rattle.sp_spec_text.specs.Shapes.{quantified}
 use Rattle.sp_spec_text.specs.Formulas as g
 use Rattle.sp_spec_text.specs.Formulas.{SpellsVariable, SpellsTerm, SpellsTuple, SpellsArguments, SpellsTerms, SpellsFact, SpellsBinders, quantified_some, SpellsUnit, SpellsNegation, SpellsConjunction, SpellsAnds, SpellsDisjunction, SpellsOrs, SpellsImplication, SpellsFormula, SpellsReach}
-use Rattle.sp_law_printed_log.proofs.TokenWords.{Spoken}
+use Rattle.sp_spec_text.specs.Theories.{SpellsQuoted}
+use Rattle.sp_law_printed_log.proofs.TokenWords.{Spoken, spoken_plain}
 use Rattle.sp_law_printed_log.proofs.WordSplits.{in_word, word_bytes}
-use Rattle.sp_law_printed_log.proofs.SpelledNames.{Spelled}
+use Rattle.sp_law_printed_log.proofs.SpelledNames.{Spelled, annotations_behind}
 
 -- ---- bytes
 
@@ -67,7 +68,7 @@ IsPlainFact f = IsPlain f.symbol × ArePlainTerms f.args
 abbrev pub IsPlainAction : Action Written → Type 0
 IsPlainAction a = IsPlain a.symbol × ArePlainTerms a.args
 
-variable_plain : {v : Written} {tokens rest : List Lexeme} → SpellsVariable tokens v rest → Every Spoken tokens → Spelled (IsPlainVariable v) rest
+pub variable_plain : {v : Written} {tokens rest : List Lexeme} → SpellsVariable tokens v rest → Every Spoken tokens → Spelled (IsPlainVariable v) rest
 variable_plain (g.marked {w = w} e n) k = record { says = plain_word w k.1.0; behind = k.1.1 }
 variable_plain (g.unmarked {w = w} n) k = record { says = plain_word w k.0; behind = k.1 }
 variable_plain (g.sorted {w = w} n e) k = record { says = plain_word w k.0; behind = k.1.1.1 }
@@ -103,12 +104,12 @@ mutual
       record { says = (a.says, b.says); behind = b.behind }
 
 pub fact_plain : {n : ℕ} {f : Fact Written} {tokens rest : List Lexeme} → SpellsFact n tokens f rest → Every Spoken tokens → Spelled (IsPlainFact f) rest
-fact_plain (g.linear {w = w} e within h) k =
+fact_plain (g.linear {w = w} e within h annotated) k =
     let terms = arguments_plain h k.1.1 in
-    record { says = (plain_word w k.0, terms.says); behind = terms.behind }
-fact_plain (g.persistent {w = w} e within h) k =
+    record { says = (plain_word w k.0, terms.says); behind = annotations_behind annotated terms.behind }
+fact_plain (g.persistent {w = w} e within h annotated) k =
     let terms = arguments_plain h k.1.1.1 in
-    record { says = (plain_word w k.1.0, terms.says); behind = terms.behind }
+    record { says = (plain_word w k.1.0, terms.says); behind = annotations_behind annotated terms.behind }
 
 -- ---- formulas
 
@@ -191,7 +192,7 @@ mutual
       let b = implication_plain i a.behind.1 in
       record { says = (a.says, b.says); behind = b.behind }
 
-  pub formula_plain : {n : ℕ} {f : Formula} {tokens rest : List Lexeme} → SpellsFormula n tokens f rest → Every Spoken tokens → Spelled (IsPlainFormula f) rest
+  formula_plain : {n : ℕ} {f : Formula} {tokens rest : List Lexeme} → SpellsFormula n tokens f rest → Every Spoken tokens → Spelled (IsPlainFormula f) rest
   formula_plain (g.one h) k = implication_plain h k
   formula_plain (g.two h i) k =
       let a = implication_plain h k in
@@ -204,3 +205,7 @@ mutual
       let a = implication_plain h k in
       let b = implication_plain i a.behind.1 in
       record { says = ((a.says, b.says), (b.says, a.says)); behind = b.behind }
+
+-- behind its opening quote, where signs of logic are read as the text beside them
+pub quoted_plain : (tokens : List Lexeme) {f : Formula} {rest : List Lexeme} → SpellsQuoted tokens f rest → Every Spoken tokens → Spelled (IsPlainFormula f) rest
+quoted_plain tokens h k = let f = formula_plain h (spoken_plain tokens k) in record { says = f.says; behind = f.behind.1 }

@@ -1,25 +1,29 @@
 -- No report has an opening bracket: no name of an item has one.
 use Rattle.std.proofs.Common.{ℕ, Bool, true, false, cond, List, [], ◌∷◌, ◌++◌, codes, refl, sym, subst}
+use Rattle.std.specs.List.{flat_map}
 use Rattle.sp_spec.specs.Lists.{Every, is_listed}
 use Rattle.sp_spec.proofs.Lists.{every_append, every_map}
-use Rattle.sp_spec.specs.Signature.{Symbol}
+use Rattle.sp_spec.specs.Signature.{Symbol, Equation}
 use Rattle.sp_spec.specs.Theory.{Lemma}
 use Rattle.sp_spec.specs.Written.{WrittenRule}
-use Rattle.sp_spec_text.specs.Written.{Item, builtins_item, functions_item, equations_item, rule_item, lemma_item, item_rules, item_lemmas, item_functions, without_proofs, WrittenText, builtins_in, functions_in, rules_in, lemmas_in}
+use Rattle.sp_spec_text.specs.Written.{Attribute, reused, of_sources, by_induction, hiding, ranked_by, unknown, Item, builtins_item, functions_item, equations_item, heuristic_item, block_item, rule_item, restriction_item, lemma_item, item_builtins, item_functions, WrittenText, builtins_in, functions_in}
 use Rattle.sp_spec_text.specs.Declared.{builtin_of, builtin_symbols, declared_symbols, all_symbols, all_equations, their_equations, resolved}
-use Rattle.sp_wf.specs.Finding as f
-use Rattle.sp_wf.specs.Finding.{Finding, line}
-use Rattle.sp_wf.specs.SymbolFindings.{left_out, declared_otherwise, wide_symbols, unknown_in_items}
-use Rattle.sp_wf.specs.EquationFindings.{findings_on_equations}
-use Rattle.sp_wf.specs.RuleFindings.{wide_in_rule}
-use Rattle.sp_wf.specs.FormulaFindings.{wide_in_lemma}
-use Rattle.sp_wf.specs.Report.{on_rules, on_lemmas, wide_in_item, wide_in_items, names_of_rules, names_of_lemmas, used_again, repeated, findings_on_rules, findings_on_lemmas, findings_on_symbols, findings, lines_after, text_of}
+use Rattle.sp_declared.specs.WrittenRules.{item_written}
+use Rattle.sp_finding.specs.Finding as f
+use Rattle.sp_finding.specs.Finding.{Finding, line, lines_after}
+use Rattle.sp_wf_symbols.specs.SymbolFindings.{left_out, declared_otherwise, wide_symbols}
+use Rattle.sp_wf_symbols.specs.EquationFindings.{findings_on_equations}
+use Rattle.sp_wf_rules.specs.RuleFindings.{wide_in_rule}
+use Rattle.sp_wf_rules.specs.BindingFindings.{bound_in}
+use Rattle.sp_wf_formulas.specs.FormulaFindings.{wide_in_lemma}
+use Rattle.sp_wf_formulas.specs.Statements.{item_statements, statements_in}
+use Rattle.sp_wf.specs.ItemFindings.{unknown_in_items, on_rules, on_lemmas, on_items, wide_in_item, wide_in_items, names_of_rules, names_of_statements, told_again, repeated, findings_on_rules, findings_on_lemmas, learning_in_item, left_out_by, left_out_of, attributes_in_item}
+use Rattle.sp_wf.specs.Report.{findings_on_symbols, findings_on_statements, findings, text_of}
 use Rattle.sp_pose.specs.Problem.{IsReported}
-use Rattle.std.specs.List.{flat_map}
 use Rattle.sp_top.proofs.PlainNames.{IsPlain, plain_in, plain_append}
-use Rattle.sp_top.proofs.PlainTexts.{IsPlainRule, IsPlainSymbol, IsPlainLemma, IsPlainItem, text_plain}
-use Rattle.sp_top.proofs.PlainFindings.{plain_line, ArePlain, both_plain, plain_told, builtins_plain, left_out_plain, declared_plain, wide_symbols_plain, unknown_items_plain, equations_plain}
-use Rattle.sp_top.proofs.PlainRules.{on_rules_plain, wide_rule_plain, rules_plain, on_lemmas_plain, wide_formula_plain, lemmas_plain}
+use Rattle.sp_top.proofs.PlainTexts.{IsPlainRule, IsPlainSymbol, IsPlainLemma, IsPlainAttribute, IsPlainItem, written_plain, text_plain}
+use Rattle.sp_top.proofs.PlainFindings.{plain_line, ArePlain, both_plain, plain_told, on_items_plain, builtins_plain, left_out_plain, declared_plain, wide_symbols_plain, unknown_items_plain, equations_plain}
+use Rattle.sp_top.proofs.PlainRules.{all_bound_plain, its_rules, names_again_plain, on_rules_plain, wide_rule_plain, rules_plain, on_lemmas_plain, wide_formula_plain, lemmas_plain}
 
 -- ---- what items say
 
@@ -27,73 +31,62 @@ its_functions : (x : Item) → IsPlainItem x → Every IsPlainSymbol (item_funct
 its_functions (builtins_item bs) h = tt
 its_functions (functions_item ss) h = h
 its_functions (equations_item es) h = tt
-its_functions (rule_item r) h = tt
-its_functions (lemma_item l p) h = tt
+its_functions (heuristic_item ws) h = tt
+its_functions (block_item w) h = tt
+its_functions (rule_item bs r) h = tt
+its_functions (restriction_item r) h = tt
+its_functions (lemma_item l as' p) h = tt
 
-its_rules : (x : Item) → IsPlainItem x → Every IsPlainRule (item_rules x)
-its_rules (builtins_item bs) h = tt
-its_rules (functions_item ss) h = tt
-its_rules (equations_item es) h = tt
-its_rules (rule_item r) h = (h, tt)
-its_rules (lemma_item l p) h = tt
+its_statements : (x : Item) → IsPlainItem x → Every IsPlainLemma (item_statements x)
+its_statements (builtins_item bs) h = tt
+its_statements (functions_item ss) h = tt
+its_statements (equations_item es) h = tt
+its_statements (heuristic_item ws) h = tt
+its_statements (block_item w) h = tt
+its_statements (rule_item bs r) h = tt
+its_statements (restriction_item r) h = (h, tt)
+its_statements (lemma_item l as' p) h = (h.0, tt)
 
-its_lemmas : (x : Item) → IsPlainItem x → Every IsPlainLemma (without_proofs (item_lemmas x))
-its_lemmas (builtins_item bs) h = tt
-its_lemmas (functions_item ss) h = tt
-its_lemmas (equations_item es) h = tt
-its_lemmas (rule_item r) h = tt
-its_lemmas (lemma_item l p) h = (h, tt)
+its_builtins : (x : Item) → IsPlainItem x → Every IsPlain (item_builtins x)
+its_builtins (builtins_item bs) h = h
+its_builtins (functions_item ss) h = tt
+its_builtins (equations_item es) h = tt
+its_builtins (heuristic_item ws) h = tt
+its_builtins (block_item w) h = tt
+its_builtins (rule_item bs r) h = tt
+its_builtins (restriction_item r) h = tt
+its_builtins (lemma_item l as' p) h = tt
 
 their_builtins : (xs : List Item) → Every IsPlainItem xs → Every IsPlain (builtins_in xs)
 their_builtins [] e = tt
-their_builtins (builtins_item bs ∷ xs) e = every_append IsPlain bs (builtins_in xs) e.0 (their_builtins xs e.1)
-their_builtins (functions_item ss ∷ xs) e = their_builtins xs e.1
-their_builtins (equations_item es ∷ xs) e = their_builtins xs e.1
-their_builtins (rule_item r ∷ xs) e = their_builtins xs e.1
-their_builtins (lemma_item l p ∷ xs) e = their_builtins xs e.1
+their_builtins (x ∷ xs) e = every_append IsPlain (item_builtins x) (builtins_in xs) (its_builtins x e.0) (their_builtins xs e.1)
 
 their_functions : (xs : List Item) → Every IsPlainItem xs → Every IsPlainSymbol (functions_in xs)
 their_functions [] e = tt
 their_functions (x ∷ xs) e = every_append IsPlainSymbol (item_functions x) (functions_in xs) (its_functions x e.0) (their_functions xs e.1)
 
-their_rules : (xs : List Item) → Every IsPlainItem xs → Every IsPlainRule (rules_in xs)
-their_rules [] e = tt
-their_rules (x ∷ xs) e = every_append IsPlainRule (item_rules x) (rules_in xs) (its_rules x e.0) (their_rules xs e.1)
-
-their_lemmas : (xs : List Item) → Every IsPlainItem xs → Every IsPlainLemma (lemmas_in xs)
-their_lemmas [] e = tt
-their_lemmas (builtins_item bs ∷ xs) e = their_lemmas xs e.1
-their_lemmas (functions_item ss ∷ xs) e = their_lemmas xs e.1
-their_lemmas (equations_item es ∷ xs) e = their_lemmas xs e.1
-their_lemmas (rule_item r ∷ xs) e = their_lemmas xs e.1
-their_lemmas (lemma_item l p ∷ xs) e = (e.0, their_lemmas xs e.1)
+their_statements : (xs : List Item) → Every IsPlainItem xs → Every IsPlainLemma (statements_in xs)
+their_statements [] e = tt
+their_statements (x ∷ xs) e = every_append IsPlainLemma (item_statements x) (statements_in xs) (its_statements x e.0) (their_statements xs e.1)
 
 -- ---- findings on items
 
 wide_item_plain : (x : Item) → IsPlainItem x → ArePlain (wide_in_item x)
 wide_item_plain x h =
-    both_plain (wide_symbols (item_functions x)) (on_rules wide_in_rule (item_rules x) ++ on_lemmas wide_in_lemma (without_proofs (item_lemmas x))) (wide_symbols_plain (item_functions x) (its_functions x h))
-    (both_plain (on_rules wide_in_rule (item_rules x)) (on_lemmas wide_in_lemma (without_proofs (item_lemmas x))) (on_rules_plain wide_in_rule wide_rule_plain (item_rules x) (its_rules x h))
-    (on_lemmas_plain wide_in_lemma (λ l k. wide_formula_plain l.formula k.1) (without_proofs (item_lemmas x)) (its_lemmas x h)))
+    both_plain (wide_symbols (item_functions x)) (on_rules wide_in_rule (item_written x) ++ on_lemmas wide_in_lemma (item_statements x)) (wide_symbols_plain (item_functions x) (its_functions x h))
+    (both_plain (on_rules wide_in_rule (item_written x)) (on_lemmas wide_in_lemma (item_statements x)) (on_rules_plain wide_in_rule wide_rule_plain (item_written x) (its_rules x h))
+    (on_lemmas_plain wide_in_lemma (λ l k. wide_formula_plain l.formula k.1) (item_statements x) (its_statements x h)))
 
-wide_items_plain : (xs : List Item) → Every IsPlainItem xs → ArePlain (wide_in_items xs)
-wide_items_plain [] e = tt
-wide_items_plain (x ∷ xs) e = both_plain (wide_in_item x) (wide_in_items xs) (wide_item_plain x e.0) (wide_items_plain xs e.1)
-
-again_plain : (before names : List (List ℕ)) → Every IsPlain names → ArePlain (used_again before names)
-again_plain before [] e = tt
-again_plain before (x ∷ xs) e = plain_told _ (f.used_twice x) (used_again (x ∷ before) xs) e.0 (again_plain (x ∷ before) xs e.1)
-
-repeated_plain : (rules lemmas : List (List ℕ)) (xs : List Item) → Every IsPlainItem xs → ArePlain (repeated rules lemmas xs)
-repeated_plain rules lemmas [] e = tt
-repeated_plain rules lemmas (x ∷ xs) e =
+repeated_plain : (rules statements : List (List ℕ)) (xs : List Item) → Every IsPlainItem xs → ArePlain (repeated rules statements xs)
+repeated_plain rules statements [] e = tt
+repeated_plain rules statements (x ∷ xs) e =
     let r = names_of_rules x in
-    let l = names_of_lemmas x in
-    both_plain (used_again rules r) (used_again lemmas l ++ repeated (r ++ rules) (l ++ lemmas) xs)
-    (again_plain rules r (every_map IsPlainRule IsPlain (λ (q : WrittenRule). q.name) (λ q k. k.name) (item_rules x) (its_rules x e.0)))
-    (both_plain (used_again lemmas l) (repeated (r ++ rules) (l ++ lemmas) xs)
-    (again_plain lemmas l (every_map IsPlainLemma IsPlain (λ (q : Lemma). q.name) (λ q k. k.0) (without_proofs (item_lemmas x)) (its_lemmas x e.0)))
-    (repeated_plain (r ++ rules) (l ++ lemmas) xs e.1))
+    let l = names_of_statements x in
+    both_plain (told_again f.used_twice rules r) (told_again f.used_twice statements l ++ repeated (r ++ rules) (l ++ statements) xs)
+    (names_again_plain rules r (every_map IsPlainRule IsPlain (λ (q : WrittenRule). q.name) (λ q k. k.name) (item_written x) (its_rules x e.0)))
+    (both_plain (told_again f.used_twice statements l) (repeated (r ++ rules) (l ++ statements) xs)
+    (names_again_plain statements l (every_map IsPlainLemma IsPlain (λ (q : Lemma). q.name) (λ q k. k.0) (item_statements x) (its_statements x e.0)))
+    (repeated_plain (r ++ rules) (l ++ statements) xs e.1))
 
 symbols_plain : (symbols : List Symbol) (xs : List Item) → Every IsPlainItem xs → ArePlain (findings_on_symbols symbols xs)
 symbols_plain symbols xs e =
@@ -103,17 +96,55 @@ symbols_plain symbols xs e =
     (declared_plain symbols (declared_symbols xs) (every_append IsPlainSymbol builtins (functions_in xs) (builtins_plain (builtins_in xs)) (their_functions xs e)))
     (unknown_items_plain symbols xs e))
 
-findings_plain : (t : WrittenText) → Every IsPlainItem (resolved t).items → ArePlain (findings t)
-findings_plain t e =
+learning_plain : (x : Item) → IsPlainItem x → ArePlain (learning_in_item x)
+learning_plain (builtins_item bs) h = tt
+learning_plain (functions_item ss) h = tt
+learning_plain (equations_item es) h = tt
+learning_plain (heuristic_item ws) h = tt
+learning_plain (block_item w) h = tt
+learning_plain (rule_item bs r) h = tt
+learning_plain (restriction_item r) h = plain_told _ (f.restricts_learning r.name) [] h.0 tt
+learning_plain (lemma_item l as' p) h = tt
+
+attribute_plain : (n : List ℕ) (a : Attribute) → IsPlain n → IsPlainAttribute a → ArePlain (left_out_by n a)
+attribute_plain n reused h k = tt
+attribute_plain n of_sources h k = tt
+attribute_plain n by_induction h k = tt
+attribute_plain n (hiding w) h k = tt
+attribute_plain n (ranked_by w) h k = tt
+attribute_plain n (unknown w) h k = ((h, k), tt)
+
+attributes_plain : (n : List ℕ) (each : List Attribute) → IsPlain n → Every IsPlainAttribute each → ArePlain (left_out_of n each)
+attributes_plain n [] h e = tt
+attributes_plain n (a ∷ each) h e = both_plain (left_out_by n a) (left_out_of n each) (attribute_plain n a h e.0) (attributes_plain n each h e.1)
+
+item_attributes_plain : (x : Item) → IsPlainItem x → ArePlain (attributes_in_item x)
+item_attributes_plain (builtins_item bs) h = tt
+item_attributes_plain (functions_item ss) h = tt
+item_attributes_plain (equations_item es) h = tt
+item_attributes_plain (heuristic_item ws) h = tt
+item_attributes_plain (block_item w) h = tt
+item_attributes_plain (rule_item bs r) h = tt
+item_attributes_plain (restriction_item r) h = tt
+item_attributes_plain (lemma_item l as' p) h = attributes_plain l.name as' h.0.0 h.1
+
+statements_plain : (es : List Equation) (xs : List Item) → Every IsPlainItem xs → ArePlain (findings_on_statements es xs)
+statements_plain es xs e =
+    both_plain (findings_on_lemmas es (statements_in xs)) (on_items learning_in_item xs ++ on_items attributes_in_item xs) (lemmas_plain es (statements_in xs) (their_statements xs e))
+    (both_plain (on_items learning_in_item xs) (on_items attributes_in_item xs) (on_items_plain learning_in_item learning_plain xs e) (on_items_plain attributes_in_item item_attributes_plain xs e))
+
+findings_plain : (t : WrittenText) → Every IsPlainItem t.items → Every IsPlainItem (resolved t).items → ArePlain (findings t)
+findings_plain t d e =
     let symbols = all_symbols t.items in
     let ns = all_equations (resolved t).items in
     let xs = (resolved t).items in
+    let bs = bound_in t.items in
     both_plain (findings_on_symbols symbols xs) _ (symbols_plain symbols xs e)
-    (both_plain (wide_in_items xs) _ (wide_items_plain xs e)
+    (both_plain (wide_in_items xs) _ (on_items_plain wide_in_item wide_item_plain xs e)
     (both_plain (findings_on_equations symbols ns) _ (equations_plain symbols ns)
     (both_plain (repeated [] [] xs) _ (repeated_plain [] [] xs e)
-    (both_plain (findings_on_rules (their_equations ns) (rules_in xs)) (findings_on_lemmas (their_equations ns) (lemmas_in xs)) (rules_plain (their_equations ns) (rules_in xs) (their_rules xs e))
-    (lemmas_plain (their_equations ns) (lemmas_in xs) (their_lemmas xs e))))))
+    (both_plain (findings_on_rules (their_equations ns) bs xs) (findings_on_statements (their_equations ns) xs) (rules_plain (their_equations ns) bs xs (all_bound_plain t.items d) e)
+    (statements_plain (their_equations ns) xs e)))))
 
 -- ---- the report
 
@@ -131,4 +162,4 @@ text_of_plain (l ∷ ls) e = plain_append l (codes "\n" ++ text_of ls) e.0 (plai
 
 pub report_plain : (bytes text : List ℕ) → IsReported bytes text → IsPlain text
 report_plain bytes text h =
-    subst IsPlain (sym h.lines_are) (text_of_plain (lines_after [] (findings h.theory)) (lines_plain [] (findings h.theory) tt (findings_plain h.theory (text_plain bytes h.theory h.says))))
+    subst IsPlain (sym h.lines_are) (text_of_plain (lines_after [] (findings h.theory)) (lines_plain [] (findings h.theory) tt (findings_plain h.theory (written_plain bytes h.theory h.says) (text_plain bytes h.theory h.says))))

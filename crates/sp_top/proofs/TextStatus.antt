@@ -1,8 +1,13 @@
 -- What the status of a text's answer can be. The proofs of the clauses on statuses rest on these laws alone.
-use Rattle.std.proofs.Common.{◌≡◌, ◌≢◌, ℕ, Bool, true, false, if◌then◌else◌, List, inl, inr, refl, sym, ap, ◌∙◌, subst}
+use Rattle.std.proofs.Common.{◌≡◌, ◌≢◌, ◌⊎◌, ℕ, Bool, true, false, if◌then◌else◌, List, codes, inl, inr, refl, sym, ap, ◌∙◌, subst}
 use Rattle.std.specs.List.{list_any}
+use Rattle.sp_spec_text.specs.Written.{WrittenText}
+use Rattle.sp_spec_text.specs.Waiting.{waits}
+use Rattle.sp_read_theory.proofs.Whole.{text_one}
+use Rattle.sp_pose.specs.Problem.{Poses, IsWaiting}
+use Rattle.sp_pose.proofs.One.{not_posed}
 use Rattle.sp_analysis.specs.Analysis.{Outcome}
-use Rattle.sp_spec_text.specs.Verdict.{Verdict}
+use Rattle.sp_spec_printed.specs.Verdict.{Verdict}
 use Rattle.sp_analysis.specs.Checking.{Judged}
 use Rattle.sp_top.specs.declared.words.Command.{Command}
 use Rattle.sp_top.specs.declared.words.Command.TheVariants.{Prove, Check, Replay, Variants}
@@ -11,7 +16,7 @@ use Rattle.sp_analysis.proofs.AnswersOne.{answers_are_one_lem}
 use Rattle.sp_analysis.proofs.Again.{written_is_checked_lem}
 use Rattle.sp_replay.proofs.One.{replies_are_one_lem}
 use Rattle.sp_rule_forms.proofs.One.{lists_are_one_lem}
-use Rattle.sp_top.specs.Answer.{IsRefusal, IsReport, IsLineRefusal, IsDoneWith, IsRefusedWith, CommandAnswer, is_rejected, is_falsified, is_incomplete, status_of, verdicts_of, verdicts_on}
+use Rattle.sp_top.specs.Answer.{IsRefusal, IsReport, IsDeferral, IsLineRefusal, IsDoneWith, IsRefusedWith, CommandAnswer, is_rejected, is_falsified, is_incomplete, status_of, verdicts_of, verdicts_on}
 use Rattle.sp_top.specs.Run.{HasVerdicts, DoneRightly}
 use Rattle.sp_top.specs.declared.Status.{Status}
 use Rattle.sp_top.specs.declared.Status.TheVariants.{Fine, Falsified, Incomplete, Rejected, Refused, Usage, ReadFault, WriteFault, NoMemory, TooLong}
@@ -73,7 +78,8 @@ done_status Variants budget bytes text status r = subst HasVerdicts (sym r.statu
 refused_with : (command : Command) (bytes text : List ℕ) (status : Status) → IsRefusedWith command bytes text status → status ≡ Refused
 refused_with command bytes text status (inl r) = r.status_is
 refused_with command bytes text status (inr (inl r)) = r.status_is
-refused_with command bytes text status (inr (inr r)) = r.status_is
+refused_with command bytes text status (inr (inr (inl r))) = r.status_is
+refused_with command bytes text status (inr (inr (inr r))) = r.status_is
 
 pub text_status : (command : Command) (budget : ℕ) (bytes text : List ℕ) (status : Status) → CommandAnswer command budget bytes text status → IsTextStatus status
 text_status command budget bytes text status (inl r) = subst IsTextStatus (sym (refused_with command bytes text status r)) refused_status
@@ -94,6 +100,13 @@ reported_done Replay budget bytes text other status another r (inl s) = replies_
 reported_done Replay budget bytes text other status another r (inr a) = replies_are_one_lem.reported_or_done bytes text other r.report a.replay
 reported_done Variants budget bytes text other status another r a = lists_are_one_lem.reported_or_listed bytes text other r.report a.listed
 
+pub deferred_done : (command : Command) (budget : ℕ) (bytes other : List ℕ) (another : Status) → command ≢ Variants → IsWaiting bytes → IsDoneWith command budget bytes other another → ⊥
+deferred_done Prove budget bytes other another not_listed w a = answers_are_one_lem.analysed_or_waiting budget bytes other a.outcomes a.analysis w
+deferred_done Check budget bytes other another not_listed w a = answers_are_one_lem.checked_or_waiting bytes other a.judged a.checking w
+deferred_done Replay budget bytes other another not_listed w (inl s) = replies_are_one_lem.waiting_or_stopped bytes s.number s.cause w s.stopped
+deferred_done Replay budget bytes other another not_listed w (inr a) = replies_are_one_lem.waiting_or_done bytes other w a.replay
+deferred_done Variants budget bytes other another not_listed w a = not_listed refl
+
 line_done : (command : Command) (budget : ℕ) (bytes text other : List ℕ) (status another : Status) → IsLineRefusal command bytes text status → IsDoneWith command budget bytes other another → ⊥
 line_done Prove budget bytes text other status another r a = let e = r.replays in cc
 line_done Check budget bytes text other status another r a = let e = r.replays in cc
@@ -104,7 +117,8 @@ line_done Replay budget bytes text other status another r (inr a) = replies_are_
 refused_or_done : (command : Command) (budget : ℕ) (bytes text other : List ℕ) (status another : Status) → IsRefusedWith command bytes text status → IsDoneWith command budget bytes other another → ⊥
 refused_or_done command budget bytes text other status another (inl r) a = no_text_done command budget bytes text other status another r a
 refused_or_done command budget bytes text other status another (inr (inl r)) a = reported_done command budget bytes text other status another r a
-refused_or_done command budget bytes text other status another (inr (inr r)) a = line_done command budget bytes text other status another r a
+refused_or_done command budget bytes text other status another (inr (inr (inl r))) a = deferred_done command budget bytes other another r.no_list r.waiting a
+refused_or_done command budget bytes text other status another (inr (inr (inr r))) a = line_done command budget bytes text other status another r a
 
 done_is_one : (command : Command) (budget : ℕ) (bytes text other : List ℕ) (status another : Status) → IsDoneWith command budget bytes text status → IsDoneWith command budget bytes other another → another ≡ status
 done_is_one Prove budget bytes text other status another a b =
@@ -126,6 +140,24 @@ status_is_one command budget bytes text other status another (inl r) (inl q) = r
 status_is_one command budget bytes text other status another (inl r) (inr a) = absurd (refused_or_done command budget bytes text other status another r a)
 status_is_one command budget bytes text other status another (inr a) (inl r) = absurd (refused_or_done command budget bytes other text another status r a)
 status_is_one command budget bytes text other status another (inr a) (inr b) = done_is_one command budget bytes text other status another a b
+
+-- a text that waits is deferred
+pub is_deferred : (command : Command) (budget : ℕ) (bytes text : List ℕ) (status : Status) → command ≢ Variants → IsWaiting bytes → CommandAnswer command budget bytes text status
+    → (status ≡ Refused) × (text ≡ codes "refused: text at byte 0\n")
+is_deferred command budget bytes text status not_listed w (inl (inl r)) = absurd (answers_are_one_lem.refused_or_waiting bytes r.place r.refused w)
+is_deferred command budget bytes text status not_listed w (inl (inr (inl r))) = absurd (answers_are_one_lem.reported_or_waiting bytes text r.report w)
+is_deferred command budget bytes text status not_listed w (inl (inr (inr (inl r)))) = (r.status_is, r.text_is)
+is_deferred command budget bytes text status not_listed w (inl (inr (inr (inr r)))) = absurd (replies_are_one_lem.waiting_or_unread bytes r.number w r.unread)
+is_deferred command budget bytes text status not_listed w (inr a) = absurd (deferred_done command budget bytes text status not_listed w a)
+
+-- a text that poses a theory and is refused waits, or a line of it is refused
+pub why_refused : (command : Command) (budget : ℕ) (bytes text : List ℕ) (status : Status) (theory : WrittenText) → Poses bytes theory → CommandAnswer command budget bytes text status → status ≡ Refused
+    → (waits theory ≡ true) ⊎ (command ≡ Replay)
+why_refused command budget bytes text status theory posing (inl (inl r)) e = absurd (r.refused.nothing.none theory posing.says)
+why_refused command budget bytes text status theory posing (inl (inr (inl r))) e = absurd (not_posed r.report posing)
+why_refused command budget bytes text status theory posing (inl (inr (inr (inl r)))) e = inl (ap waits (text_one posing.says r.waiting.poses.says) ∙ r.waiting.writes)
+why_refused command budget bytes text status theory posing (inl (inr (inr (inr r)))) e = inr r.replays
+why_refused command budget bytes text status theory posing (inr a) e = absurd (verdicts_or_refused status (done_status command budget bytes text status a) e)
 
 -- what has verdicts is done with
 pub verdicts_are_done : (command : Command) (budget : ℕ) (bytes text : List ℕ) (status : Status) → HasVerdicts status → CommandAnswer command budget bytes text status → IsDoneWith command budget bytes text status

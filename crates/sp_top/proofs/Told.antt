@@ -11,11 +11,11 @@ use Rattle.sp_spec.specs.Verdict.{HoldsInAll, HoldsInNone, IsBrokenBy, IsSatisfi
 use Rattle.sp_spec_text.specs.Written.{WrittenText}
 use Rattle.sp_spec_text.specs.Declared.{theory_in}
 use Rattle.sp_spec_text.specs.Texts.{IsTextOf}
-use Rattle.sp_spec_text.specs.Printed.{step_text}
-use Rattle.sp_spec_text.specs.Verdict.{Verdict, verified, falsified, summary_line}
+use Rattle.sp_spec_printed.specs.Printed.{step_text}
+use Rattle.sp_spec_printed.specs.Verdict.{Verdict, verified, falsified, summary_line}
 use Rattle.sp_spec_text.specs.Names.{IsWord}
 use Rattle.sp_spec_text.specs.Blanks.{lines}
-use Rattle.sp_spec_text.specs.StepLines.{HaveNames}
+use Rattle.sp_spec_printed.specs.StepLines.{HaveNames}
 use Rattle.sp_read_theory.proofs.Whole.{text_one}
 use Rattle.sp_law_log_execution.specs.Executed.{executed_of}
 use Rattle.sp_law_found_log.proofs.Learning.{out_of_reading}

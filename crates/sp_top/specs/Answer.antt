@@ -1,5 +1,5 @@
 -- What is answered to the words of a command: a text that is written, and a status.
-use Rattle.std.specs.Prelude.{◌≡◌, ◌⊎◌, ◌≤◌, ◌<◌, ℕ, suc, Bool, true, false, List, ◌++◌, map, Option, Some, None, IsSomeAnd, if◌then◌else◌, length, codes, decimal}
+use Rattle.std.specs.Prelude.{◌≡◌, ◌≢◌, ◌⊎◌, ◌≤◌, ◌<◌, ℕ, suc, Bool, true, false, List, ◌++◌, map, Option, Some, None, IsSomeAnd, if◌then◌else◌, length, codes, decimal}
 use Rattle.std.specs.List.{list_any}
 use Rattle.std.specs.Option.{ForSome}
 use Rattle.sp_io.specs.Told.{Rose}
@@ -9,8 +9,8 @@ use Rattle.sp_top.specs.declared.Status.TheVariants.{Fine, Falsified, Incomplete
 use Rattle.sp_top.specs.declared.Wanted.{Wanted}
 use Rattle.sp_top.specs.declared.Wanted.TheVariants as wanted
 use Rattle.sp_place.specs.Refused.{IsRefusedAt}
-use Rattle.sp_pose.specs.Problem.{IsReported}
-use Rattle.sp_spec_text.specs.Verdict.{Verdict, verified, falsified, incomplete, rejected}
+use Rattle.sp_pose.specs.Problem.{IsReported, IsWaiting}
+use Rattle.sp_spec_printed.specs.Verdict.{Verdict, verified, falsified, incomplete, rejected}
 use Rattle.sp_analysis.specs.Analysis.{Outcome, IsAnalysis}
 use Rattle.sp_analysis.specs.Checking.{Judged, IsChecking}
 use Rattle.sp_spec.specs.Execution.{Cause}
@@ -34,6 +34,13 @@ pub record IsRefusal (bytes text : List ℕ) (status : Status) : Type 0 where
 -- the text says a theory with fatal findings, and these are their lines
 pub record IsReport (bytes text : List ℕ) (status : Status) : Type 0 where
   pub report : IsReported bytes text
+  pub status_is : status ≡ Refused
+
+-- the text says a theory without fatal findings that writes what nothing is proved of yet; only its rules' forms are listed
+pub record IsDeferral (command : Command) (bytes text : List ℕ) (status : Status) : Type 0 where
+  pub no_list : command ≢ Variants
+  pub waiting : IsWaiting bytes
+  pub text_is : text ≡ codes "refused: text at byte 0\n"
   pub status_is : status ≡ Refused
 
 abbrev pub is_falsified : Verdict → Bool
@@ -115,9 +122,9 @@ IsDoneWith Check budget bytes text status = IsChecked bytes text status
 IsDoneWith Replay budget bytes text status = IsStepRefusal bytes text status ⊎ IsReplayed bytes text status
 IsDoneWith Variants budget bytes text status = HasVariants bytes text status
 
--- the text, its theory or its lines are refused
+-- the text, its theory or its lines are refused, or it waits
 abbrev pub IsRefusedWith : Command → List ℕ → List ℕ → Status → Type 0
-IsRefusedWith command bytes text status = IsRefusal bytes text status ⊎ IsReport bytes text status ⊎ IsLineRefusal command bytes text status
+IsRefusedWith command bytes text status = IsRefusal bytes text status ⊎ IsReport bytes text status ⊎ IsDeferral command bytes text status ⊎ IsLineRefusal command bytes text status
 
 -- what the command answers to the bytes of a text, within so many moves
 abbrev pub CommandAnswer : Command → ℕ → List ℕ → List ℕ → Status → Type 0

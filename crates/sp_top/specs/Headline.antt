@@ -11,7 +11,7 @@ use Rattle.sp_spec_text.specs.Declared.{theory_in}
 use Rattle.sp_spec_text.specs.Texts.{IsTextOf}
 use Rattle.sp_spec_text.specs.Names.{IsWord}
 use Rattle.sp_spec_text.specs.Blanks.{lines}
-use Rattle.sp_spec_text.specs.StepLines.{AreSteps}
+use Rattle.sp_spec_printed.specs.StepLines.{AreSteps}
 use Rattle.sp_spec_text.specs.Behind.{IsBehindEnd}
 use Rattle.sp_top.specs.Command.{Request, IsAbout, IsLine}
 use Rattle.sp_top.specs.Run.{HasVerdicts}

@@ -1,14 +1,17 @@
 -- What the top call promises, clause by clause. `before` and `now` are a count of faults before and after the call.
-use Rattle.std.specs.Prelude.{◌≡◌, ◌≢◌, ◌⊎◌, ◌≤◌, ◌<◌, ℕ, List, Option, Some, None, length, take}
+use Rattle.std.specs.Prelude.{◌≡◌, ◌≢◌, ◌⊎◌, ◌≤◌, ◌<◌, ℕ, true, List, Option, Some, None, length, take, codes}
 use Rattle.sp_io.specs.Told.{Rose, extended, IsExtendedByPrefix}
 use Rattle.sp_top.specs.Answer.{text_limit, status_of, verdicts_of, verdicts_on, IsStepRefusal, IsReplayed, HasVariants, TextAnswer, MayBeTooLong, MayBeText, IsAnswer}
 use Rattle.sp_top.specs.Command.{Request, fetched, IsAbout, IsLine, IsNoLine}
 use Rattle.sp_top.specs.declared.Status.{Status}
-use Rattle.sp_top.specs.declared.Status.TheVariants.{Fine, Falsified, Incomplete, Rejected, Usage, ReadFault, WriteFault, NoMemory, TooLong}
+use Rattle.sp_top.specs.declared.Status.TheVariants.{Fine, Falsified, Incomplete, Rejected, Refused, Usage, ReadFault, WriteFault, NoMemory, TooLong}
 use Rattle.sp_spec.specs.Lists.{Member, Every}
 use Rattle.sp_spec.specs.Written.{theory_of}
 use Rattle.sp_analysis.specs.Analysis.{Outcome, IsAnalysis}
+use Rattle.sp_spec_text.specs.Written.{WrittenText}
 use Rattle.sp_spec_text.specs.Declared.{theory_in}
+use Rattle.sp_spec_text.specs.Waiting.{waits}
+use Rattle.sp_pose.specs.Problem.{Poses, IsWaiting}
 use Rattle.sp_analysis.specs.Checking.{Judged, IsChecking}
 use Rattle.sp_analysis.specs.Laws.{Means, JudgedRightly, IsCheckedAgain}
 use Rattle.sp_top.specs.declared.words.Command.{Command}
@@ -71,6 +74,14 @@ module _ (words : List (List ℕ)) (holds : List ℕ → Option (Option (List �
     pub cause : status ≡ kind → (request : Request) × (file bytes text : List ℕ) × IsLine words request × IsAbout request file × MayBeText (holds file) bytes × TextAnswer request bytes text kind
     pub comes : (request : Request) (file bytes text : List ℕ) → IsLine words request → IsAbout request file → holds file ≡ Some (Some bytes) → length bytes ≤ text_limit → TextAnswer request bytes text kind
         → ¬ IsCutShort status → status ≢ ReadFault → status ≡ kind
+
+  -- Of a text without fatal findings that writes what nothing is proved of yet nothing is told, but for the forms of its rules; and of a text without fatal
+  -- findings that writes nothing such at most a line behind it is refused.
+  pub record WaitsExactly (old new : Option (List ℕ)) (status : Status) : Type 0 where
+    pub comes : (request : Request) (file bytes : List ℕ) → IsLine words request → IsAbout request file → holds file ≡ Some (Some bytes) → length bytes ≤ text_limit
+        → request.command ≢ Variants → IsWaiting bytes → ¬ IsCutShort status → status ≢ ReadFault → (status ≡ Refused) × (new ≡ extended old (codes "refused: text at byte 0\n"))
+    pub cause : (request : Request) (file bytes : List ℕ) (theory : WrittenText) → IsLine words request → IsAbout request file → holds file ≡ Some (Some bytes)
+        → Poses bytes theory → status ≡ Refused → (waits theory ≡ true) ⊎ (request.command ≡ Replay)
 
   -- the answer is the one that was asked for, to the bytes of the text, and what it says of each lemma is so
   pub record IsRight (answer : List ℕ) (status : Status) : Type 0 where

@@ -15,7 +15,7 @@ ghost use Rattle.sp_exec.specs.View.{cause_of};
 ghost use Rattle.sp_top.specs.Command as command;
 ghost use Rattle.sp_top.specs.Command.{IsLine, IsNoLine, fetched, request_of, of_proofs, budget_in};
 ghost use Rattle.sp_top.specs.Headline.{VerdictsAreTrue};
-ghost use Rattle.sp_top.specs.Run.{UsageExactly, ReadFaultExactly, TooLongExactly, AnswersExactly, VerdictsHold, WritesWhole, WritesPrefix, IsComplete, WriteFaultOnly, WritesNothing, AsksAsRequested};
+ghost use Rattle.sp_top.specs.Run.{UsageExactly, ReadFaultExactly, TooLongExactly, AnswersExactly, WaitsExactly, VerdictsHold, WritesWhole, WritesPrefix, IsComplete, WriteFaultOnly, WritesNothing, AsksAsRequested};
 ghost use Rattle.sp_top.specs.declared.Status.TheVariants.{Fine, Falsified, Incomplete, Rejected, Refused};
 ghost use Rattle.sp_analysis.specs.View.{verdict_of};
 ghost use Rattle.sp_top.specs.declared.words.Command.TheVariants.{Replay, Variants};
@@ -44,7 +44,7 @@ pub enum Status {
     Incomplete = 2,
     /// Some proof is rejected, or a step can't be done.
     Rejected = 3,
-    /// The text is refused, or a line behind it.
+    /// The text is refused, or a line behind it, or it writes what nothing is proved of yet.
     Refused = 4,
     /// The words are no line of the command.
     Usage = 5,
@@ -122,6 +122,14 @@ fn refusal(alloc: Global, place: usize) -> Result<(Vec<u8>, Status), AllocError>
     fixed(alloc, line.as_bytes(), Status::Refused)
 }
 
+/// The refusal of a text that writes what nothing is proved of yet.
+fn deferral(alloc: Global) -> Result<(Vec<u8>, Status), AllocError>
+    ensures text { IfOk result (λ answer. answer.0.items ≡ codes "refused: text at byte 0\n") }
+    ensures status { IfOk result (λ answer. answer.1 ≡ Refused) }
+{
+    fixed(alloc, b"refused: text at byte 0\n", Status::Refused)
+}
+
 /// The refusal of a line behind a text.
 fn line_refusal(alloc: Global, number: usize) -> Result<(Vec<u8>, Status), AllocError>
     ensures text { IfOk result (λ answer. answer.0.items ≡ codes "refused: line " ++ (decimal number ++ codes "\n")) }
@@ -162,6 +170,7 @@ fn answer_steps(alloc: Global, bytes: &[u8]) -> Result<(Vec<u8>, Status), AllocE
     match sp_replay::replayed(alloc, bytes)? {
         Reply::Refused(place) => refusal(alloc, place),
         Reply::Reported(lines) => Ok((lines, Status::Refused)),
+        Reply::Waiting => deferral(alloc),
         Reply::Done(Attempt::Unread(number)) => line_refusal(alloc, number),
         Reply::Done(Attempt::Stopped(number, cause)) => step_refusal(alloc, number, cause),
         Reply::Done(Attempt::Done(written)) => Ok((written, Status::Fine)),
@@ -176,6 +185,7 @@ fn answer_forms(alloc: Global, bytes: &[u8]) -> Result<(Vec<u8>, Status), AllocE
     match sp_rule_forms::variants(alloc, bytes)? {
         Reply::Refused(place) => refusal(alloc, place),
         Reply::Reported(lines) => Ok((lines, Status::Refused)),
+        Reply::Waiting => unreachable!(),
         Reply::Done(written) => Ok((written, Status::Fine)),
     }
 }
@@ -204,6 +214,7 @@ fn answer_proofs(
     match sp_analysis::answer(alloc, command, bytes)? {
         Reply::Refused(place) => refusal(alloc, place),
         Reply::Reported(lines) => Ok((lines, Status::Refused)),
+        Reply::Waiting => deferral(alloc),
         Reply::Done(answer) => {
             let status = status_of(&answer.verdicts);
             Ok((answer.written, status))
@@ -271,6 +282,8 @@ pub fn run<L: Library, K: Sink>(
     ensures falsified { AnswersExactly words.now (L.holds library.old) Falsified result }
     ensures incomplete { AnswersExactly words.now (L.holds library.old) Incomplete result }
     ensures fine { AnswersExactly words.now (L.holds library.old) Fine result }
+    // A text that writes what nothing is proved of yet, as a restriction, is refused, and its rules' forms alone are listed.
+    ensures waiting { WaitsExactly words.now (L.holds library.old) (K.written out.old) (K.written out.new) result }
     ensures write_fault { WriteFaultOnly (K.faults out.old) (K.faults out.new) result }
 
     // The headline: each verdict that stands written is so. A lemma on all traces that is verified holds in every execution, steps of the

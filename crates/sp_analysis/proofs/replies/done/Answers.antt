@@ -9,7 +9,7 @@ pub answered_by-requires-clause-rise : goal.answered_by-requires-clause-rise
 answered_by-requires-clause-rise c =
     let prints = subst (λ (forms : List RuleForms). map printed_of c.in_ok-tried.tried.items ≡ all_to_print c.args.command (setting_with c.args.problem forms) [] (map asked_of c.args.problem.lemmas.items))
     c.in_ok-book.ensures c.in_ok-tried.ensures.printed in
-    rise_tried c.args.command (setting_for c.args.problem) c.args.problem c.in_ok-tried.tried.items c.requires prints
+    rise_tried c.args.command (setting_for c.args.problem) c.args.problem c.in_ok-tried.tried.items c.requires.posed prints
 
 pub returns : goal.returns
 returns c =
@@ -17,4 +17,4 @@ returns c =
     c.in_ok-book.ensures c.in_ok-tried.ensures.printed in
     let nameable = subst (λ (forms : List RuleForms). AreNameable c.args.command (setting_with c.args.problem forms) [] (map asked_of c.args.problem.lemmas.items))
     c.in_ok-book.ensures c.in_ok-tried.ensures.nameable in
-    is_answered c.args.problem c.in_ok-tried.tried.items c.answered_by.result c.requires c.args.command prints nameable c.answered_by.ensures.written c.answered_by.ensures.verdicts
+    is_answered c.args.problem c.in_ok-tried.tried.items c.answered_by.result c.requires.posed c.requires.ready c.args.command prints nameable c.answered_by.ensures.written c.answered_by.ensures.verdicts

@@ -1,6 +1,6 @@
 use Rattle.std.proofs.Common.{◌≡◌, ◌++◌, map, drop}
 use Rattle.sp_fact.specs.GroundView.{entries_of, trace_of}
-use Rattle.sp_spec_text.specs.Printed.{trace_block}
+use Rattle.sp_spec_printed.specs.Printed.{trace_block}
 use Rattle.sp_pose.specs.Asked.{asked_of}
 use Rattle.sp_replay.specs.Held.{held_lines}
 use Rattle.sp_replay.proofs.written.written_by.Given as goal

@@ -3,7 +3,7 @@ use Rattle.std.proofs.lemmas.Result.{on_ok_weaker}
 use Rattle.sp_spec.specs.Term.{Ground, app}
 use Rattle.sp_term.specs.View.{name_of}
 use Rattle.sp_fact.specs.GroundView.{ground_of, grounds_of}
-use Rattle.sp_spec_text.specs.Printed.{text_at}
+use Rattle.sp_spec_printed.specs.Printed.{text_at}
 use Rattle.sp_fact.proofs.Applied.{ground_app}
 use Rattle.sp_show.specs.Numbers.{HasNames, numbered_names}
 use Rattle.sp_show.proofs.Texts.{written_application}

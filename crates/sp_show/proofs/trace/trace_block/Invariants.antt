@@ -1,6 +1,6 @@
 use Rattle.std.proofs.Common.{◌≡◌, ◌++◌, codes, drop, map, string_bytes}
 use Rattle.sp_fact.specs.GroundView.{entries_of, ground_action}
-use Rattle.sp_spec_text.specs.Printed.{entries_text}
+use Rattle.sp_spec_printed.specs.Printed.{entries_text}
 use Rattle.sp_show.proofs.trace.trace_block.Given as goal
 
 abbrev pub invariant-loop-entry : goal.invariant-loop-entry
