@@ -16,9 +16,13 @@ static SYMBOLS: [(&str, usize, bool); 4] = [
     ("secret", 0, true),
 ];
 
+fn given_symbols() -> &'static [(&'static str, usize, bool)] {
+    &SYMBOLS
+}
+
 /// The answer on these equations, behind those of pairs, which have the places 0 and 1.
 fn told(alloc: Global, more: &[&str]) -> Result<String, Fail> {
-    let symbols = symbols_with(alloc, &SYMBOLS)?;
+    let symbols = symbols_with(alloc, given_symbols())?;
     let mut equations = Signature::pairs(alloc)?.equations;
     for text in more {
         equations.push(equation_in(alloc, text)?)?;
@@ -46,9 +50,13 @@ static ALONE: [(&[&str], &str); 10] = [
     (&["<x, y> = y"], "shape 2"),
 ];
 
+fn alone() -> &'static [(&'static [&'static str], &'static str)] {
+    &ALONE
+}
+
 #[test]
 fn each_equation_by_itself(rt: HostRuntime) -> Result<(), Fail> {
-    for (equations, answer) in &ALONE {
+    for (equations, answer) in alone() {
         let told = told(rt.alloc(), equations)?;
         assert_eq!(rt; told.as_str(), *answer, "{equations:?}");
     }
@@ -63,10 +71,14 @@ static TOGETHER: [(&[&str], &str); 3] = [
     (&["fst(x) = x"], "clash 0 2"),
 ];
 
+fn together() -> &'static [(&'static [&'static str], &'static str)] {
+    &TOGETHER
+}
+
 #[test]
 fn two_equations_clash(rt: HostRuntime) -> Result<(), Fail> {
     let alloc = rt.alloc();
-    for (equations, answer) in &TOGETHER {
+    for (equations, answer) in together() {
         let told = told(alloc, equations)?;
         assert_eq!(rt; told.as_str(), *answer, "{equations:?}");
     }
@@ -75,7 +87,7 @@ fn two_equations_clash(rt: HostRuntime) -> Result<(), Fail> {
     assert_eq!(rt; equations.len(), 1);
     let found = clash(alloc, &equations[0], &other)?.is_some();
     assert!(rt; found);
-    let symbols = symbols_with(alloc, &SYMBOLS)?;
+    let symbols = symbols_with(alloc, given_symbols())?;
     let form = form_of(&symbols, &equations, &equations[0]);
     assert_eq!(rt; form, Form::WellFormed);
     Ok(())

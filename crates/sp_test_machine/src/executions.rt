@@ -37,7 +37,7 @@ make <'a', 'b'>
 make fst(<'a', 'b'>)
 in fst(<'a', 'b'>)";
 
-#[tactic(auto, using(sp_spec_text::proofs::SymbolNames::of_pairs))]
+#[tactic(auto, using(sp_spec_printed::proofs::SymbolNames::of_pairs))]
 fn projection(alloc: Global) -> Result<Vec<Step>, Fail> {
     let signature = Signature::pairs(alloc)?;
     let StepLines::Steps(steps) = read_steps(alloc, &signature.symbols, PROJECTION)? else {

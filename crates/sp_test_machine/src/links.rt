@@ -83,6 +83,10 @@ static DESTRUCTIONS: [(Symbols, &str, &str); 3] = [
     ),
 ];
 
+fn destruction_cases() -> &'static [(Symbols, &'static str, &'static str)] {
+    &DESTRUCTIONS
+}
+
 #[test]
 fn equations_have_their_destructions(rt: HostRuntime) -> Result<(), Fail> {
     let alloc = rt.alloc();
@@ -90,7 +94,7 @@ fn equations_have_their_destructions(rt: HostRuntime) -> Result<(), Fail> {
         texts_of(alloc, &Signature::pairs(alloc)?)?.as_str(),
         "<'x', 'y'> |  | 'x'\n<'x', 'y'> |  | 'y'\n"
     );
-    for (symbols, equation, lines) in &DESTRUCTIONS {
+    for (symbols, equation, lines) in destruction_cases() {
         let signature = signature(alloc, symbols, &[equation])?;
         assert_eq!(rt; texts_of(alloc, &signature)?.as_str(), *lines, "{equation}");
     }
@@ -143,6 +147,15 @@ static LINKS: [(&[&str], &str, &str, &str); 13] = [
     (&["g('q', 'r')", "'q'"], "f('a', 'b')", "'b'", "none"),
 ];
 
+fn links() -> &'static [(
+    &'static [&'static str],
+    &'static str,
+    &'static str,
+    &'static str,
+)] {
+    &LINKS
+}
+
 // NUMBER: PLACES
 fn link_text(alloc: Global, number: usize, places: &Vec<usize>) -> Result<String, AllocError> {
     let mut text = format!(in alloc; "{number}:")?;
@@ -175,7 +188,7 @@ fn links_are_found(rt: HostRuntime) -> Result<(), Fail> {
     let alloc = rt.alloc();
     let destructions = destructions(alloc)?;
     assert_eq!(rt; destructions.len(), 4);
-    for (place, (learnt, from, to, answer)) in LINKS.iter().enumerate() {
+    for (place, (learnt, from, to, answer)) in links().iter().enumerate() {
         let text = link_of(alloc, &destructions, learnt, from, to)?;
         assert_eq!(rt; text.as_str(), *answer, "{place}");
     }

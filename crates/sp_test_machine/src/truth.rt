@@ -41,6 +41,10 @@ static ANSWERS: [(&[&str], &[u8], bool); 8] = [
     ),
 ];
 
+fn answers() -> &'static [(&'static [&'static str], &'static [u8], bool)] {
+    &ANSWERS
+}
+
 fn trace(alloc: Global, steps: &[&str]) -> Result<Trace, Fail> {
     let mut entries = Vec::new(alloc);
     for actions in steps {
@@ -57,7 +61,7 @@ fn form(alloc: Global, text: &[u8]) -> Result<Formula, Fail> {
 #[test]
 fn formulas_are_true_or_false(rt: HostRuntime) -> Result<(), Fail> {
     let alloc = rt.alloc();
-    for (place, (steps, text, answer)) in ANSWERS.iter().enumerate() {
+    for (place, (steps, text, answer)) in answers().iter().enumerate() {
         let formula = form(alloc, text)?;
         let run = trace(alloc, steps)?;
         assert_eq!(rt; holds(alloc, &formula, &run)?, *answer, "{place}");

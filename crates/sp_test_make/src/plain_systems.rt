@@ -5,7 +5,9 @@ use crate::plain::{PlainEvent, PlainTerm, events_of, term_of};
 use crate::systems::{link, system};
 use sp_formula::formula::{Atom, Binder, Formula, Moment};
 use sp_formula::place::{FormulaAction, FormulaTerm};
-use sp_system::system::System;
+use sp_formula::shared::all_shared;
+use sp_shared::shared::Shared;
+use sp_system::system::{System, UnequalPair};
 use sp_term::term::{Name, Sort, Term};
 use std::alloc::{AllocError, Global};
 
@@ -192,12 +194,12 @@ pub const EMPTY: PlainSystem<'static> = PlainSystem {
 fn pairs_of(
     alloc: Global,
     plain: &[(PlainTerm, PlainTerm)],
-) -> Result<Vec<(Term, Term)>, AllocError> {
+) -> Result<Vec<UnequalPair>, AllocError> {
     let mut made = Vec::new(alloc);
     for (left, right) in plain {
         let left = term_of(alloc, left)?;
         let right = term_of(alloc, right)?;
-        made.push((left, right))?;
+        made.push(Shared::new(alloc, (left, right))?)?;
     }
     Ok(made)
 }
@@ -205,11 +207,13 @@ fn pairs_of(
 /// The system.
 pub fn system_of(alloc: Global, plain: &PlainSystem) -> Result<System, AllocError> {
     let mut made = system(alloc, formulas_of(alloc, plain.formulas)?, plain.next)?;
-    made.events = events_of(alloc, plain.events)?;
-    made.spent = formulas_of(alloc, plain.spent)?;
-    made.unequal = pairs_of(alloc, plain.unequal)?;
+    made.events.append(alloc, events_of(alloc, plain.events)?)?;
+    let spent = formulas_of(alloc, plain.spent)?;
+    made.spent.append(alloc, all_shared(alloc, spent)?)?;
+    made.unequal.append(alloc, pairs_of(alloc, plain.unequal)?)?;
     for (from, conclusion, to, premise) in plain.links {
-        made.links.push(link(*from, *conclusion, *to, *premise))?;
+        let link = link(*from, *conclusion, *to, *premise);
+        made.links.push(alloc, link)?;
     }
     made.order.add_all(alloc, plain.order)?;
     made.last = plain.last;

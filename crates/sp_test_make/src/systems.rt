@@ -4,7 +4,6 @@ use crate::facts::linear;
 use crate::terms::variable;
 use sp_fact::fact::Facts;
 use sp_formula::formula::Formula;
-use sp_order::order::Order;
 use sp_system::event::Event;
 use sp_system::system::{Link, System};
 use sp_term::term::{Name, Sort};
@@ -13,7 +12,7 @@ use std::alloc::{AllocError, Global};
 /// The event of the rule at this time.
 pub fn event(alloc: Global, time: u128, rule: &str, facts: Facts) -> Result<Event, AllocError> {
     let rule = Name::new(alloc, rule)?;
-    Ok(Event::step(time, rule, facts))
+    Event::step(alloc, time, rule, facts)
 }
 
 /// The event of a rule that takes the fresh names of these numbers.
@@ -48,18 +47,9 @@ pub fn link(from: u128, conclusion: usize, to: u128, premise: usize) -> Link {
 
 /// The system of these formulas alone, whose next number is this.
 pub fn system(alloc: Global, formulas: Vec<Formula>, next: u128) -> Result<System, AllocError> {
-    let order = Order::new(alloc)?;
-    Ok(System {
-        events: Vec::new(alloc),
-        formulas,
-        spent: Vec::new(alloc),
-        unequal: Vec::new(alloc),
-        links: Vec::new(alloc),
-        order,
-        last: None,
-        closed: false,
-        next,
-    })
+    let mut made = System::of_formulas(alloc, formulas)?;
+    made.next = next;
+    Ok(made)
 }
 
 /// The system of one formula, whose next number is this.

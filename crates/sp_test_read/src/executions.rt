@@ -197,10 +197,14 @@ make fst(sdec(senc(~n2, ~n1), 'a'))\nin fst(sdec(senc(~n2, ~n1), 'a'))",
     },
 ];
 
+fn execution_cases() -> &'static [Execution] {
+    &EXECUTIONS
+}
+
 #[test]
 fn executions_have_their_logs(rt: HostRuntime) -> Result<(), Fail> {
     let alloc = rt.alloc();
-    for execution in &EXECUTIONS {
+    for execution in execution_cases().iter() {
         let Execution {
             items,
             lines,
@@ -250,10 +254,14 @@ static NONE: [(&str, &str); 9] = [
     ("rule R: [ Fr(~k) ] --> [ ]", "fresh ~n1\nrule R: l = ~n1"),
 ];
 
+fn without_log() -> &'static [(&'static str, &'static str)] {
+    &NONE
+}
+
 #[test]
 fn what_is_no_execution_has_no_log(rt: HostRuntime) -> Result<(), Fail> {
     let alloc = rt.alloc();
-    for (items, lines) in &NONE {
+    for (items, lines) in without_log().iter() {
         let theory = format!(in alloc; "theory T begin {items} end")?;
         assert!(rt; told_of(alloc, &theory, lines)?.is_none(), "{items}");
     }

@@ -1,10 +1,11 @@
-// What is wrong with rules and lemmas is found and told.
+// What is wrong with rules, restrictions and lemmas is found and told.
 
 use sp_declared::equations::equations;
-use sp_declared::resolved::resolved;
 use sp_declared::symbols::symbols;
 use sp_read_theory::read_theory;
+use sp_resolved::resolved;
 use sp_wf::report;
+use sp_wf_rules::bound_in;
 use std::alloc::Global;
 use std::test::Fail;
 
@@ -12,9 +13,10 @@ use std::test::Fail;
 fn report_on(alloc: Global, text: &[u8]) -> Result<Vec<u8>, Fail> {
     let read = read_theory(alloc, text)?.ok_or("read")?;
     let symbols = symbols(alloc, &read.items)?;
+    let bound = bound_in(alloc, &read.items)?;
     let theory = resolved(alloc, &symbols, read)?;
     let equations = equations(alloc, &theory.items)?;
-    let lines = report(alloc, &symbols, &equations, &theory)?;
+    let lines = report(alloc, &symbols, &equations, &bound, &theory)?;
     Ok(lines)
 }
 
@@ -91,9 +93,13 @@ static ITEMS: [(&[u8], &str); 17] = [
     ),
 ];
 
+fn item_cases() -> &'static [(&'static [u8], &'static str)] {
+    &ITEMS
+}
+
 #[test]
 fn items_are_reported_on(rt: HostRuntime) -> Result<(), Fail> {
-    for (text, lines) in &ITEMS {
+    for (text, lines) in item_cases().iter() {
         let found = report_on(rt.alloc(), text)?;
         assert!(rt; found.as_slice() == lines.as_bytes(), "{lines}");
     }
@@ -138,9 +144,113 @@ rule R: [ ] --> [ ] lemma R: \"T\" rule R: [ ] --> [ ] end",
     ),
 ];
 
+fn theory_cases() -> &'static [(&'static [u8], &'static str)] {
+    &THEORIES
+}
+
 #[test]
 fn theories_are_reported_on(rt: HostRuntime) -> Result<(), Fail> {
-    for (text, lines) in &THEORIES {
+    for (text, lines) in theory_cases().iter() {
+        let found = report_on(rt.alloc(), text)?;
+        assert!(rt; found.as_slice() == lines.as_bytes(), "{lines}");
+    }
+    Ok(())
+}
+
+/// Rules with bindings, and their reports.
+static BINDINGS: [(&[u8], &str); 6] = [
+    // a bound name that stands with another mark than its binding's, and then those in its value
+    (
+        b"theory T begin rule R: let x = 'a' y = <~x, x> z = <~y, $x> in [ F($y, ~z) ] --> [ G(~x) ] end",
+        "fatal: rule R: variable y has two sorts\nfatal: rule R: variable x has two sorts\nfatal: rule R: variable z has two sorts\n",
+    ),
+    (
+        b"theory T begin rule R: let x = 'a' y = <~x, x> z = <~y, $x> in [ F(~z) ] --> [ G(~x) ] end",
+        "fatal: rule R: variable z has two sorts\nfatal: rule R: variable y has two sorts\nfatal: rule R: variable x has two sorts\n",
+    ),
+    // of a name that is bound twice the first binding counts, and a binding that isn't used leaves no trace
+    (
+        b"theory T begin rule R: let x = 'a' x = <~x, 'b'> y = x x = 'c' in [ F(y) ] --> [ ] end",
+        "fatal: rule R: let name x bound twice\n",
+    ),
+    // variables with two sorts come first; a bare name is one of sort msg
+    (
+        b"theory T begin
+rule R: let x = 'a' y = $x in [ F(~k, ~y) ] --[ A(k) ]-> [ ]
+rule S: let #t = 'a' m:msg = 'b' in [ F(#t, t:node, m) ] --> [ F(t, t:msg) ] end",
+        "fatal: rule R: variable k has two sorts\nfatal: rule R: variable y has two sorts\nfatal: rule R: variable x has two sorts\nfatal: rule S: variable t has two sorts\n",
+    ),
+    // what else is wrong is looked for where values stand for the names
+    (
+        b"theory T begin rule R: let f = ~k x = fst(~q) in [ Fr(f) ] --[ K(f), KU(k) ]-> [ Out(f), G(y) ] end",
+        "fatal: rule R: reserved fact K\nfatal: rule R: reserved fact KU\nfatal: rule R: variable y not bound\n",
+    ),
+    // a bound name is none of a symbol
+    (
+        b"theory T begin functions: c/0 rule R: let c = 'a' in [ F(c, c(), fst(c)) ] --> [ ] end",
+        "fatal: rule R: destructor in a premise\n",
+    ),
+];
+
+fn binding_cases() -> &'static [(&'static [u8], &'static str)] {
+    &BINDINGS
+}
+
+#[test]
+fn bindings_are_reported_on(rt: HostRuntime) -> Result<(), Fail> {
+    for (text, lines) in binding_cases().iter() {
+        let found = report_on(rt.alloc(), text)?;
+        assert!(rt; found.as_slice() == lines.as_bytes(), "{lines}");
+    }
+    Ok(())
+}
+
+/// Theories with restrictions, with attributes of lemmas, and with what nothing is said of; and their reports.
+static STATEMENTS: [(&[u8], &str); 5] = [
+    // a restriction doesn't name the action of learning, a lemma may
+    (
+        b"theory T begin
+restriction n: \"All x #i. KU(x)@i ==> F\" lemma l: \"All x #i. KU(x)@i ==> F\"
+axiom m: \"All x y #i. KU(x, y)@i ==> F\" end",
+        "fatal: restriction n names KU\nfatal: restriction m names KU\n",
+    ),
+    // restrictions and lemmas share their names
+    (
+        b"theory T begin
+restriction n: \"T\" lemma m: \"T\" lemma n: \"T\" axiom m: \"T\" restriction n: \"T\" rule n: [ ] --> [ ] end",
+        "fatal: name n used twice\nfatal: name m used twice\n",
+    ),
+    // what is wrong with formulas is told of both in the order of the text
+    (
+        b"theory T begin
+lemma l: \"All x #i. A(x)@j ==> g(x) = x\"
+restriction r: \"All x #i. F ==> A(x)@i\"
+lemma m: \"All ~x #i. A(x, $x)@i ==> x = i\"
+axiom s: \"All x #i. A(fst(x), z, x,x,x,x,x,x,x,x,x,x,x,x,x,x,x)@i ==> F\" end",
+        "fatal: unknown symbol g/1\nfatal: arity above 16: A\nfatal: formula l: variable j not bound\nfatal: formula s: variable z not bound\nfatal: formula r: variable x not guarded\nfatal: formula s: destructor\nfatal: formula m: variable x has another sort than its binder\nfatal: formula m: time and message mixed at i\n",
+    ),
+    // attributes that aren't known
+    (
+        b"theory T begin
+lemma l [reuse, foo, sources, typing, use_induction, hide_lemma=foo, heuristic=s, bar, foo]: \"T\"
+lemma m [foo, hide_lemma]: \"T\" end",
+        "fatal: lemma l: attribute left out: foo\nfatal: lemma l: attribute left out: bar\nfatal: lemma m: attribute left out: foo\nfatal: lemma m: attribute left out: hide_lemma\n",
+    ),
+    (
+        b"theory T begin heuristic: s C
+rule (modulo E) R [color=red, [x]]: let a = 'a' in [ F(a)[+, -], Fr(~k)[no_precomp] ] --[ A(~k) ]-> [ ]
+text {* x *} restriction r: \"T\" end",
+        "",
+    ),
+];
+
+fn statement_cases() -> &'static [(&'static [u8], &'static str)] {
+    &STATEMENTS
+}
+
+#[test]
+fn statements_are_reported_on(rt: HostRuntime) -> Result<(), Fail> {
+    for (text, lines) in statement_cases().iter() {
         let found = report_on(rt.alloc(), text)?;
         assert!(rt; found.as_slice() == lines.as_bytes(), "{lines}");
     }

@@ -5,9 +5,9 @@ use sp_guard::guarded::is_guarded;
 use sp_guard::marks::checked_form;
 use sp_guard::negate::negate;
 use sp_guard::unguarded::first_unguarded;
-use sp_lex::Sign;
 use sp_read_parts::ReadFormula;
-use sp_read_parts::formulas::formula;
+use sp_read_parts::bindings::bindings;
+use sp_read_parts::quoted::quoted_formula;
 use sp_test_make::texts::{formula_in, tokens_in};
 use std::alloc::Global;
 use std::test::Fail;
@@ -33,14 +33,14 @@ fn letter(formula: &ReadFormula) -> char {
 /// The letter of the formula that a text begins with, and how many tokens it has with its closing quote.
 fn read(alloc: Global, text: &[u8]) -> Result<Option<(char, usize)>, Fail> {
     let found = tokens_in(alloc, text)?;
-    match formula(alloc, Sign::Quote, 0, &found, 0)? {
+    match quoted_formula(alloc, &found, 0)? {
         Some((formula, rest)) => Ok(Some((letter(&formula), rest))),
         None => Ok(None),
     }
 }
 
 /// Texts, the letters of the formulas that they begin with, and how many tokens those have.
-static FORMULAS: [(&[u8], Option<(char, usize)>); 30] = [
+static FORMULAS: [(&[u8], Option<(char, usize)>); 42] = [
     (b"<x, y> = z\"", Some(('=', 8))),
     (b"h(x) = h(<y>)\"", Some(('=', 12))),
     (b"f{x, y}k = z\"", Some(('=', 10))),
@@ -71,12 +71,63 @@ static FORMULAS: [(&[u8], Option<(char, usize)>); 30] = [
     (b"All . T\"", None),
     (b"solve(x) = y\"", None),
     (b"x = /* y */ solve(y)\"", None),
+    (
+        b"\xE2\x88\x80 x #i. KU(x)@i \xE2\x87\x92 \xE2\x8A\xA4\"",
+        Some(('A', 14)),
+    ),
+    (b"\xE2\x88\x83 x. x = x\" \xE2\x88\xA7", Some(('E', 7))),
+    (b"\xC2\xAC \xE2\x8A\xA5\"", Some(('-', 3))),
+    (b"T \xE2\x88\xA7 F \xE2\x88\xA8 T\"", Some(('|', 6))),
+    (b"T \xE2\x87\x94 \xE2\x8A\xA5\"", Some(('~', 4))),
+    (b"\xE2\x8A\xA4(x)@i\"", Some(('@', 7))),
+    (b"x = \xE2\x88\x80\"", None),
+    (b"T \xE2\x88\xA7\" T\"", None),
+    (b"A(x)[+]@i\"", Some(('@', 10))),
+    (b"!A(x)[no_precomp, -, +]@i\"", Some(('@', 15))),
+    (b"A(x)[]@i\"", None),
+    (b"A(x)[other]@i\"", None),
 ];
+
+fn formula_cases() -> &'static [(&'static [u8], Option<(char, usize)>)] {
+    &FORMULAS
+}
 
 #[test]
 fn formulas_are_read(rt: HostRuntime) -> Result<(), Fail> {
-    for (text, want) in &FORMULAS {
+    for (text, want) in formula_cases().iter() {
         assert_eq!(rt; read(rt.alloc(), text)?, *want, "{text:?}");
+    }
+    Ok(())
+}
+
+/// How many bindings stand behind a `let`, and how many tokens they have with their `in`.
+fn bound(alloc: Global, text: &[u8]) -> Result<Option<(usize, usize)>, Fail> {
+    let found = tokens_in(alloc, text)?;
+    match bindings(alloc, &found, 0)? {
+        Some((all, rest)) => Ok(Some((all.len(), rest))),
+        None => Ok(None),
+    }
+}
+
+/// Texts behind `let`, how many bindings they have, and how many tokens.
+static BINDINGS: [(&[u8], Option<(usize, usize)>); 7] = [
+    (b"x = y in [", Some((1, 4))),
+    (b"x = f(y) ~k:msg = z in", None),
+    (b"x = f(y) ~k = <x, 'c'> $a = b in in", Some((3, 19))),
+    (b"x = y z:fresh = x in", Some((2, 9))),
+    (b"in", None),
+    (b"x = y", None),
+    (b"x = in", None),
+];
+
+fn binding_cases() -> &'static [(&'static [u8], Option<(usize, usize)>)] {
+    &BINDINGS
+}
+
+#[test]
+fn bindings_are_read(rt: HostRuntime) -> Result<(), Fail> {
+    for (text, want) in binding_cases().iter() {
+        assert_eq!(rt; bound(rt.alloc(), text)?, *want, "{text:?}");
     }
     Ok(())
 }
@@ -131,6 +182,10 @@ static FORMS: [(&[u8], Option<(char, usize, usize)>); 14] = [
     (b"Ex x #i. A(x,x,x,x,x,x,x,x,x,x,x,x,x,x,x,x,x)@i\"", None),
 ];
 
+fn form_cases() -> &'static [(&'static [u8], Option<(char, usize, usize)>)] {
+    &FORMS
+}
+
 /// Texts, and the outermost parts of the negations of their forms.
 static NEGATIONS: [(&[u8], (char, usize, usize)); 4] = [
     (b"All x #i #j. A(x)@i & A(x)@j ==> #i = #j\"", ('E', 3, 2)),
@@ -139,13 +194,17 @@ static NEGATIONS: [(&[u8], (char, usize, usize)); 4] = [
     (b"F\"", ('T', 0, 0)),
 ];
 
+fn negation_cases() -> &'static [(&'static [u8], (char, usize, usize))] {
+    &NEGATIONS
+}
+
 #[test]
 fn formulas_have_forms_and_negations(rt: HostRuntime) -> Result<(), Fail> {
     let alloc = rt.alloc();
-    for (text, want) in &FORMS {
+    for (text, want) in form_cases().iter() {
         assert_eq!(rt; form(alloc, text)?, *want, "{text:?}");
     }
-    for (text, want) in &NEGATIONS {
+    for (text, want) in negation_cases().iter() {
         assert_eq!(rt; negation(alloc, text)?, *want, "{text:?}");
     }
     Ok(())
@@ -174,10 +233,14 @@ static UNGUARDED: [(&[u8], Option<&str>); 16] = [
     ),
 ];
 
+fn unguarded_cases() -> &'static [(&'static [u8], Option<&'static str>)] {
+    &UNGUARDED
+}
+
 #[test]
 fn the_first_unguarded_variable_is_named(rt: HostRuntime) -> Result<(), Fail> {
     let alloc = rt.alloc();
-    for (text, name) in &UNGUARDED {
+    for (text, name) in unguarded_cases().iter() {
         let read = formula_in(alloc, text)?;
         assert!(rt; first_unguarded(alloc, &read)? == *name, "{text:?}");
     }

@@ -75,7 +75,7 @@ fn write_step(alloc: Global, out: &mut String, step: &Step) -> Result<(), AllocE
 }
 
 /// The steps of the text over the symbols of pairs, or the number of the line that is no step's.
-#[tactic(auto, using(sp_spec_text::proofs::SymbolNames::of_pairs))]
+#[tactic(auto, using(sp_spec_printed::proofs::SymbolNames::of_pairs))]
 fn read(alloc: Global, text: &str) -> Result<String, AllocError> {
     let signature = Signature::pairs(alloc)?;
     let found = read_steps(alloc, &signature.symbols, text.as_bytes())?;
@@ -129,9 +129,13 @@ static STEPS: [(&str, &str); 15] = [
     ),
 ];
 
+fn step_cases() -> &'static [(&'static str, &'static str)] {
+    &STEPS
+}
+
 #[test]
 fn steps_are_read(rt: HostRuntime) -> Result<(), Fail> {
-    for (text, steps) in &STEPS {
+    for (text, steps) in step_cases().iter() {
         assert_eq!(rt; read(rt.alloc(), text)?.as_str(), *steps, "{text}");
     }
     Ok(())
@@ -177,10 +181,14 @@ static OTHERS: [&str; 36] = [
     "pub",
 ];
 
+fn other_lines() -> &'static [&'static str] {
+    &OTHERS
+}
+
 #[test]
 fn other_lines_are_no_steps(rt: HostRuntime) -> Result<(), Fail> {
     let alloc = rt.alloc();
-    for text in &OTHERS {
+    for text in other_lines().iter() {
         let lines = format!(in alloc; "\nfresh ~n1\n{text}\njump")?;
         assert_eq!(rt; read(alloc, &lines)?.as_str(), "unread 3", "{text}");
     }

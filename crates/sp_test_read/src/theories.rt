@@ -45,7 +45,10 @@ static SHAPES: [(&[u8], Option<Shape>); 28] = [
     (b"theory T begin lemma a: \"T & \" end", None),
     (b"theory T begin rule R: [ ] --> [ ] \"T\" end", None),
     (b"theory end begin end", None),
-    (b"theory T begin rule R: [KU('c')] --> [] end", None),
+    (
+        b"theory T begin rule R: [KU('c')] --> [] end",
+        Some((1, 0, 0, 43)),
+    ),
     (b"theory T begin rule R: [B(x,)] --> [] end", None),
     (b"theory T begin rule let: [] --> [] end", None),
     (
@@ -84,9 +87,119 @@ static SHAPES: [(&[u8], Option<Shape>); 28] = [
     (b"theory T begin lemma a: \"T\" simplify end", None),
 ];
 
+fn shape_cases() -> &'static [(&'static [u8], Option<Shape>)] {
+    &SHAPES
+}
+
 #[test]
 fn theories_are_read(rt: HostRuntime) -> Result<(), Fail> {
-    for (text, want) in &SHAPES {
+    for (text, want) in shape_cases().iter() {
+        assert_eq!(rt; shape(rt.alloc(), text)?, *want, "{text:?}");
+    }
+    Ok(())
+}
+
+/// Texts with the other forms of items, and the shapes of their theories.
+static FORMS: [(&[u8], Option<Shape>); 30] = [
+    (b"theory T begin heuristic: a b c end", Some((1, 0, 0, 35))),
+    (
+        b"theory T begin heuristic: s rule R : [ ] --> [ ] end",
+        Some((2, 0, 0, 52)),
+    ),
+    (
+        b"theory T begin heuristic: s rule builtins : hashing end",
+        Some((2, 0, 0, 55)),
+    ),
+    (
+        b"theory T begin heuristic: s rule builtins : [ ] --> [ ] end",
+        Some((2, 0, 0, 59)),
+    ),
+    (
+        b"theory T begin heuristic: s lemma builtins : all - traces \"T\" end",
+        Some((2, 61, 61, 65)),
+    ),
+    (
+        b"theory T begin heuristic: s lemma builtins : all - traces, hashing end",
+        Some((2, 0, 0, 70)),
+    ),
+    (
+        b"theory T begin heuristic: s lemma functions : all - traces \"T\" end",
+        Some((2, 62, 62, 66)),
+    ),
+    (
+        b"theory T begin heuristic: s axiom equations : \"T\" end",
+        Some((2, 0, 0, 53)),
+    ),
+    (
+        b"theory T begin heuristic: heuristic heuristic : a end",
+        Some((2, 0, 0, 53)),
+    ),
+    (
+        b"theory T begin heuristic: heuristic : heuristic : a end",
+        None,
+    ),
+    (
+        b"theory T begin heuristic: a text {* x *} rule {**} end",
+        Some((3, 0, 0, 54)),
+    ),
+    (
+        b"theory T begin heuristic: a rule (modulo E) R [x=[y]] : let z = 'c' y = z in [ ] --> [ ] end",
+        Some((2, 0, 0, 92)),
+    ),
+    (b"theory T begin heuristic: rule R : [ ] --> [ ] end", None),
+    (b"theory T begin heuristic: end", None),
+    (b"theory T begin rule R [ ] ]: [ ] --> [ ] end", None),
+    (b"theory T begin rule R: let in [ ] --> [ ] end", None),
+    (
+        b"theory T begin rule R: let x = y ~z = <x, x> in [ A(z)[+, no_precomp] ] --> [ KU(x)[-] ] end",
+        Some((1, 0, 0, 92)),
+    ),
+    (
+        b"theory T begin restriction r: \"T\" axiom a: \"F\" end",
+        Some((2, 0, 0, 50)),
+    ),
+    (b"theory T begin restriction r [x]: \"T\" end", None),
+    (
+        b"theory T begin lemma a [reuse, sources, hide_lemma=b, heuristic=s, x]: \"T\" by sorry end",
+        Some((1, 74, 83, 87)),
+    ),
+    (
+        b"theory T begin lemma a [hide_lemma]: \"T\" end",
+        Some((1, 40, 40, 44)),
+    ),
+    (b"theory T begin lemma a [reuse=x]: \"T\" end", None),
+    (b"theory T begin lemma a []: \"T\" end", None),
+    (
+        b"theory T begin lemma a: \"T\" SOLVED {* x *} end",
+        Some((2, 27, 27, 46)),
+    ),
+    (
+        b"theory T begin lemma a: \"T\" SOLVED SOLVED {* x *} end",
+        Some((2, 27, 34, 53)),
+    ),
+    (b"theory T begin lemma a: \"T\" simplify by {* *} end", None),
+    (b"theory T begin lemma a: \"T\" {* x *} end", None),
+    (
+        b"theory T begin lemma a: \"\xe2\x88\x80 x #i. \xc2\xac (A(x)[+]@i) \xe2\x88\xa8 \xe2\x8a\xa4\" end",
+        Some((1, 58, 58, 62)),
+    ),
+    (
+        b"theory T begin builtins {* x *} builtins : hashing end",
+        Some((2, 0, 0, 54)),
+    ),
+    (
+        b"theory T begin restriction {* x *} lemma {* y *} end",
+        Some((2, 0, 0, 52)),
+    ),
+];
+
+fn form_cases() -> &'static [(&'static [u8], Option<Shape>)] {
+    &FORMS
+}
+
+#[test]
+fn forms_of_items_are_read(rt: HostRuntime) -> Result<(), Fail> {
+    for (text, want) in form_cases().iter() {
         assert_eq!(rt; shape(rt.alloc(), text)?, *want, "{text:?}");
     }
     Ok(())
@@ -122,6 +235,8 @@ fn items_are_read(rt: HostRuntime) -> Result<(), Fail> {
     let Some(Item::Rule(rule)) = theory.items.first() else {
         return Err("rule")?;
     };
+    assert!(rt; rule.bindings.is_empty());
+    let rule = &rule.rule;
     assert_eq!(rt; rule.name, "Make");
     assert_eq!(rt; rule.facts.premises.len(), 2);
     assert_eq!(rt; rule.facts.actions.len(), 1);

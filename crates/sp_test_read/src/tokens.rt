@@ -1,6 +1,6 @@
 // Texts are cut into tokens.
 
-use sp_lex::{FaultKind, LexError, Lexeme, tokens};
+use sp_lex::{FaultKind, LexError, Lexeme, Wide, tokens};
 use sp_test_make::texts::tokens_in;
 use std::alloc::Global;
 use std::test::Fail;
@@ -12,15 +12,19 @@ enum Kind {
     Constant,
     Sign,
     Goal,
+    Wide(Wide),
+    Block,
 }
 
-/// What kind a lexeme is of, and its text; a sign shows none.
+/// What kind a lexeme is of, and its text; a sign and a block show none.
 fn shown<'a>(lexeme: &Lexeme<'a>) -> (Kind, &'a [u8]) {
     match *lexeme {
         Lexeme::Word(word) => (Kind::Word, word.as_bytes()),
         Lexeme::Constant(inside) => (Kind::Constant, inside.as_bytes()),
         Lexeme::Sign(_) => (Kind::Sign, b""),
         Lexeme::Solve(inside) => (Kind::Goal, inside),
+        Lexeme::Wide(sign) => (Kind::Wide(sign), b""),
+        Lexeme::Block => (Kind::Block, b""),
     }
 }
 
@@ -41,7 +45,7 @@ fn has_tokens(
 }
 
 /// Texts and their tokens.
-static TOKENS: [(&[u8], &[(Kind, &[u8], usize, usize)]); 10] = [
+static TOKENS: [(&[u8], &[(Kind, &[u8], usize, usize)]); 14] = [
     (
         b"R.1_S.2 'a b'--[x]->.1 end?",
         &[
@@ -94,11 +98,57 @@ static TOKENS: [(&[u8], &[(Kind, &[u8], usize, usize)]); 10] = [
         ],
     ),
     (b"solve", &[(Kind::Word, b"solve", 0, 5)]),
+    (
+        b"\xE2\x88\x80\xE2\x88\x83 x\xE2\x88\xA7\xE2\x88\xA8\xC2\xAC",
+        &[
+            (Kind::Wide(Wide::All), b"", 0, 3),
+            (Kind::Wide(Wide::Ex), b"", 3, 6),
+            (Kind::Word, b"x", 7, 8),
+            (Kind::Wide(Wide::Both), b"", 8, 11),
+            (Kind::Wide(Wide::Either), b"", 11, 14),
+            (Kind::Wide(Wide::Not), b"", 14, 16),
+        ],
+    ),
+    (
+        b"\xE2\x87\x92\xE2\x87\x94\xE2\x8A\xA4\xE2\x8A\xA5",
+        &[
+            (Kind::Wide(Wide::Then), b"", 0, 3),
+            (Kind::Wide(Wide::Same), b"", 3, 6),
+            (Kind::Wide(Wide::True), b"", 6, 9),
+            (Kind::Wide(Wide::False), b"", 9, 12),
+        ],
+    ),
+    (
+        b"text{* \xFF ' end /* *}{**} {*} x *}",
+        &[
+            (Kind::Word, b"text", 0, 4),
+            (Kind::Block, b"", 4, 20),
+            (Kind::Block, b"", 20, 24),
+            (Kind::Block, b"", 25, 33),
+        ],
+    ),
+    (
+        b"+,-{ }",
+        &[
+            (Kind::Sign, b"", 0, 1),
+            (Kind::Sign, b"", 1, 2),
+            (Kind::Sign, b"", 2, 3),
+            (Kind::Sign, b"", 3, 4),
+            (Kind::Sign, b"", 5, 6),
+        ],
+    ),
 ];
+
+fn token_cases() -> &'static [(
+    &'static [u8],
+    &'static [(Kind, &'static [u8], usize, usize)],
+)] {
+    &TOKENS
+}
 
 #[test]
 fn texts_are_cut(rt: HostRuntime) -> Result<(), Fail> {
-    for (text, tokens) in &TOKENS {
+    for (text, tokens) in token_cases().iter() {
         assert!(rt; has_tokens(rt.alloc(), text, tokens)?, "{text:?}");
     }
     Ok(())
@@ -114,7 +164,7 @@ fn fault(alloc: Global, text: &[u8], kind: FaultKind) -> Result<Option<(usize, b
 }
 
 /// Texts, and of which kind and where their first fault is.
-static FAULTS: [(&[u8], FaultKind, Option<usize>); 13] = [
+static FAULTS: [(&[u8], FaultKind, Option<usize>); 21] = [
     (b"theory T % x", FaultKind::NoToken, Some(9)),
     (b"a \xFF", FaultKind::NoToken, Some(2)),
     (b"a /* b", FaultKind::OpenComment, Some(2)),
@@ -128,11 +178,23 @@ static FAULTS: [(&[u8], FaultKind, Option<usize>); 13] = [
     (b"solve( ') )", FaultKind::NoToken, None),
     (b"a end ''", FaultKind::NoToken, None),
     (b"a b.c \t\r\n// '", FaultKind::NoToken, None),
+    (b"a {* b * }", FaultKind::OpenBlock, Some(2)),
+    (b"a {*}", FaultKind::OpenBlock, Some(2)),
+    (b"a {*", FaultKind::OpenBlock, Some(2)),
+    (b"a {* */ *} *", FaultKind::NoToken, Some(11)),
+    (b"a \xC2\xAD", FaultKind::NoToken, Some(2)),
+    (b"a \xE2\x88\x81", FaultKind::NoToken, Some(2)),
+    (b"a \xE2\x87", FaultKind::NoToken, Some(2)),
+    (b"a \xC2", FaultKind::NoToken, Some(2)),
 ];
+
+fn fault_cases() -> &'static [(&'static [u8], FaultKind, Option<usize>)] {
+    &FAULTS
+}
 
 #[test]
 fn the_first_fault_is_found(rt: HostRuntime) -> Result<(), Fail> {
-    for (text, kind, place) in &FAULTS {
+    for (text, kind, place) in fault_cases().iter() {
         let found = fault(rt.alloc(), text, *kind)?;
         assert_eq!(rt; found, place.map(|place| (place, true)), "{text:?}");
     }

@@ -148,6 +148,10 @@ static WORDED: [(PlainMove, &str); 18] = [
     (PlainMove::Finish, "by solve( finish )\n"),
 ];
 
+fn worded_moves() -> &'static [(PlainMove, &'static str)] {
+    &WORDED
+}
+
 // what the text of a tree of one node says, if it says a move
 fn said(alloc: Global, text: &str) -> Result<Option<Move>, Fail> {
     let found = tokens_in(alloc, text.as_bytes())?;
@@ -165,7 +169,7 @@ fn said(alloc: Global, text: &str) -> Result<Option<Move>, Fail> {
 #[test]
 fn moves_are_written_and_read(rt: HostRuntime) -> Result<(), Fail> {
     let alloc = rt.alloc();
-    for (chosen, text) in WORDED.iter() {
+    for (chosen, text) in worded_moves().iter() {
         let written = tree_text(alloc, &leaf(alloc, move_of(alloc, *chosen)?)?)?;
         assert_eq!(rt; written.as_str(), *text);
         let wanted = move_of(alloc, *chosen)?;

@@ -230,6 +230,10 @@ const OF_LINKS: [Case; 5] = [
 
 static TABLES: [&[Case]; 4] = [&OF_TERMS, &OF_FORMULAS, &OF_EVENTS, &OF_LINKS];
 
+fn tables() -> &'static [&'static [Case]] {
+    &TABLES
+}
+
 fn is_contradictory(alloc: Global, given: &PlainSystem) -> Result<bool, AllocError> {
     let given = system_of(alloc, given)?;
     contradicts(alloc, &given)
@@ -245,7 +249,7 @@ fn names_made_one(alloc: Global) -> Result<System, Fail> {
 #[test]
 fn contradictions_are_seen(rt: HostRuntime) -> Result<(), Fail> {
     let alloc = rt.alloc();
-    for (table, cases) in TABLES.iter().enumerate() {
+    for (table, cases) in tables().iter().enumerate() {
         for (i, (given, wanted)) in cases.iter().enumerate() {
             let found = is_contradictory(alloc, given)?;
             assert_eq!(rt; found, *wanted, "{table} {i}");
@@ -272,26 +276,40 @@ const TWICE: PlainSystem<'static> = PlainSystem {
     ..OF_ONE_RULE
 };
 
-// how much is left, and whether there is a contradiction before and then
-static SIMPLIFIED: [(PlainSystem<'static>, bool, Sizes, bool); 4] = [
-    (SHARING, false, (1, 3, 4, 1, 0, 8), true),
-    (SHARING_OF_TWO, true, (2, 4, 0, 0, 0, 4), true),
-    (ORDERED, false, (0, 0, 3, 0, 1, 9), false),
-    (TWICE, false, (2, 0, 0, 0, 0, 9), false),
+// whether there is a contradiction, how much is left, and whether there is one then
+type Outcome = (bool, Sizes, bool);
+
+static SIMPLIFIED: [(PlainSystem<'static>, Outcome); 4] = [
+    (SHARING, (false, (1, 3, 4, 1, 0, 8), true)),
+    (SHARING_OF_TWO, (true, (2, 4, 0, 0, 0, 4), true)),
+    (ORDERED, (false, (0, 0, 3, 0, 1, 9), false)),
+    (TWICE, (false, (2, 0, 0, 0, 0, 9), false)),
 ];
+
+fn simplified_cases() -> &'static [(PlainSystem<'static>, Outcome)] {
+    &SIMPLIFIED
+}
+
+fn simplified(alloc: Global, given: &PlainSystem) -> Result<System, AllocError> {
+    let parts = no_rules(alloc)?;
+    let mut made = system_of(alloc, given)?;
+    simplify(alloc, &parts.context().theory(), &mut made)?;
+    Ok(made)
+}
+
+fn outcome_of(alloc: Global, given: &PlainSystem) -> Result<Outcome, AllocError> {
+    let before = is_contradictory(alloc, given)?;
+    let made = simplified(alloc, given)?;
+    let after = contradicts(alloc, &made)?;
+    Ok((before, sizes(&made), after))
+}
 
 #[test]
 fn systems_are_simplified(rt: HostRuntime) -> Result<(), Fail> {
     let alloc = rt.alloc();
-    let parts = no_rules(alloc)?;
-    for (i, (given, before, wanted, after)) in SIMPLIFIED.iter().enumerate() {
-        let mut made = system_of(alloc, given)?;
-        let found = contradicts(alloc, &made)?;
-        assert_eq!(rt; found, *before, "{i}");
-        simplify(alloc, &parts.context().theory(), &mut made)?;
-        assert_eq!(rt; sizes(&made), *wanted, "{i}");
-        let found = contradicts(alloc, &made)?;
-        assert_eq!(rt; found, *after, "{i}");
+    for (i, (given, wanted)) in simplified_cases().iter().enumerate() {
+        let found = outcome_of(alloc, given)?;
+        assert_eq!(rt; found, *wanted, "{i}");
     }
     Ok(())
 }

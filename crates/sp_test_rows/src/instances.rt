@@ -1,7 +1,8 @@
 // Instances of universal formulas.
 
-use sp_formula::formula::{Binder, Moment};
+use sp_formula::formula::{Binder, Formula, Moment};
 use sp_formula::same::same_formula;
+use sp_formula::shared::SharedFormula;
 use sp_step::reduce::Row;
 use sp_system::system::System;
 use sp_term::term::Sort;
@@ -25,6 +26,10 @@ const SHOWN: PlainSystem<'static> = PlainSystem {
     )],
     ..EMPTY
 };
+
+fn shown(alloc: Global) -> Result<System, AllocError> {
+    system_of(alloc, &SHOWN)
+}
 
 // A(x)@i in a guard, for the innermost message and the innermost time, and for those around them
 const COMES: PlainAtom<'static> = PlainAtom::Acts("A", &[PlainLeaf::Bound(0)], Moment::Bound(0));
@@ -80,16 +85,20 @@ static BODIES: [(PlainFormula<'static>, Option<PlainFormula<'static>>); 3] = [
     ),
 ];
 
+fn bodies() -> &'static [(PlainFormula<'static>, Option<PlainFormula<'static>>)] {
+    &BODIES
+}
+
 #[test]
 fn bodies_are_appended_once(rt: HostRuntime) -> Result<(), Fail> {
     let alloc = rt.alloc();
-    for (i, (formula, wanted)) in BODIES.iter().enumerate() {
-        let mut given = system_of(alloc, &SHOWN)?;
-        given.formulas.push(formula_of(alloc, formula)?)?;
+    for (i, (formula, wanted)) in bodies().iter().enumerate() {
+        let mut given = shown(alloc)?;
+        let formula = SharedFormula::new(alloc, formula_of(alloc, formula)?)?;
+        given.formulas.push(alloc, formula)?;
         assert!(rt; gives(alloc, &given, wanted)?, "{i}");
-        given
-            .spent
-            .push(formula_of(alloc, &PlainFormula::Falsity)?)?;
+        let falsity = SharedFormula::new(alloc, Formula::Falsity)?;
+        given.spent.push(alloc, falsity)?;
         assert!(rt; gives(alloc, &given, &None)?, "{i}");
     }
     Ok(())
@@ -134,6 +143,14 @@ static THREE_ACTIONS: PlainSystem<'static> = PlainSystem {
     ..EMPTY
 };
 
+fn plain_actions() -> &'static PlainSystem<'static> {
+    &THREE_ACTIONS
+}
+
+fn three_actions(alloc: Global) -> Result<System, AllocError> {
+    system_of(alloc, plain_actions())
+}
+
 static PAIRS: [(&str, &str); 9] = [
     ("c", "c"),
     ("c", "d"),
@@ -146,6 +163,10 @@ static PAIRS: [(&str, &str); 9] = [
     ("e", "e"),
 ];
 
+fn pairs() -> &'static [(&'static str, &'static str)] {
+    &PAIRS
+}
+
 fn same_constants<'a>(left: &'a str, right: &'a str) -> PlainFormula<'a> {
     PlainFormula::Holds(PlainAtom::Same(PlainLeaf::Public(left), PlainLeaf::Public(right)))
 }
@@ -153,11 +174,12 @@ fn same_constants<'a>(left: &'a str, right: &'a str) -> PlainFormula<'a> {
 #[test]
 fn pairs_of_actions_are_gone_over_in_order(rt: HostRuntime) -> Result<(), Fail> {
     let alloc = rt.alloc();
-    let mut given = system_of(alloc, &THREE_ACTIONS)?;
-    for (left, right) in PAIRS.iter() {
+    let mut given = three_actions(alloc)?;
+    for (left, right) in pairs().iter() {
         let next = same_constants(left, right);
         assert!(rt; gives(alloc, &given, &Some(next))?, "{left} {right}");
-        given.spent.push(formula_of(alloc, &next)?)?;
+        let spent = SharedFormula::new(alloc, formula_of(alloc, &next)?)?;
+        given.spent.push(alloc, spent)?;
     }
     assert!(rt; gives(alloc, &given, &None)?);
     Ok(())
@@ -209,10 +231,14 @@ static BOUND: [(PlainSystem<'static>, Option<PlainFormula<'static>>); 2] = [
     ),
 ];
 
+fn bound() -> &'static [(PlainSystem<'static>, Option<PlainFormula<'static>>)] {
+    &BOUND
+}
+
 #[test]
 fn equalities_bind(rt: HostRuntime) -> Result<(), Fail> {
     let alloc = rt.alloc();
-    for (i, (given, wanted)) in BOUND.iter().enumerate() {
+    for (i, (given, wanted)) in bound().iter().enumerate() {
         let given = system_of(alloc, given)?;
         assert!(rt; gives(alloc, &given, wanted)?, "{i}");
     }

@@ -274,6 +274,10 @@ const OF_ANOTHER: [Made; 3] = [
 
 static MADE: [&[Made]; 4] = [&OF_ONE_TIME, &OF_TWO_TIMES, &OF_EVENTS, &OF_ANOTHER];
 
+fn made_cases() -> &'static [&'static [Made]] {
+    &MADE
+}
+
 fn made_by_row(alloc: Global, given: &PlainSystem) -> Result<Option<System>, AllocError> {
     let given = system_of(alloc, given)?;
     reduced(alloc, Row::Last, &given)
@@ -282,7 +286,7 @@ fn made_by_row(alloc: Global, given: &PlainSystem) -> Result<Option<System>, All
 #[test]
 fn last_times_are_set(rt: HostRuntime) -> Result<(), Fail> {
     let alloc = rt.alloc();
-    for (table, cases) in MADE.iter().enumerate() {
+    for (table, cases) in made_cases().iter().enumerate() {
         for (i, (given, wanted)) in cases.iter().enumerate() {
             let found = made_by_row(alloc, given)?.ok_or("no place")?;
             let wanted = system_of(alloc, wanted)?;
@@ -417,6 +421,10 @@ const OF_TWO_EVENTS: [Judged; 6] = [
 
 static UNPLACED: [&[Judged]; 2] = [&OF_NOTHING, &OF_TWO_EVENTS];
 
+fn unplaced() -> &'static [&'static [Judged]] {
+    &UNPLACED
+}
+
 fn is_contradictory(alloc: Global, given: &PlainSystem) -> Result<bool, AllocError> {
     let given = system_of(alloc, given)?;
     contradicts(alloc, &given)
@@ -425,7 +433,7 @@ fn is_contradictory(alloc: Global, given: &PlainSystem) -> Result<bool, AllocErr
 #[test]
 fn last_times_have_places(rt: HostRuntime) -> Result<(), Fail> {
     let alloc = rt.alloc();
-    for (table, cases) in UNPLACED.iter().enumerate() {
+    for (table, cases) in unplaced().iter().enumerate() {
         for (i, (given, wanted)) in cases.iter().enumerate() {
             let made = made_by_row(alloc, given)?;
             assert!(rt; made.is_none(), "{table} {i}");
@@ -625,10 +633,14 @@ const OF_OPEN: [Judged; 6] = [
 
 static JUDGED: [&[Judged]; 4] = [&OF_ORDERS, &OF_DENIALS, &OF_CLOSED, &OF_OPEN];
 
+fn judged() -> &'static [&'static [Judged]] {
+    &JUDGED
+}
+
 #[test]
 fn contradictions_of_the_last_time_are_seen(rt: HostRuntime) -> Result<(), Fail> {
     let alloc = rt.alloc();
-    for (table, cases) in JUDGED.iter().enumerate() {
+    for (table, cases) in judged().iter().enumerate() {
         for (i, (given, wanted)) in cases.iter().enumerate() {
             let found = is_contradictory(alloc, given)?;
             assert_eq!(rt; found, *wanted, "{table} {i}");
@@ -701,11 +713,15 @@ static SIMPLIFIED: [(PlainSystem<'static>, PlainSystem<'static>, bool); 4] = [
     ),
 ];
 
+fn simplified() -> &'static [(PlainSystem<'static>, PlainSystem<'static>, bool)] {
+    &SIMPLIFIED
+}
+
 #[test]
 fn systems_with_a_last_time_are_simplified(rt: HostRuntime) -> Result<(), Fail> {
     let alloc = rt.alloc();
     let parts = no_rules(alloc)?;
-    for (i, (given, wanted, contradictory)) in SIMPLIFIED.iter().enumerate() {
+    for (i, (given, wanted, contradictory)) in simplified().iter().enumerate() {
         let mut made = system_of(alloc, given)?;
         simplify(alloc, &parts.context().theory(), &mut made)?;
         let wanted = system_of(alloc, wanted)?;

@@ -3,7 +3,7 @@
 // Nothing stands above.
 // Nothing is promised here: what the clauses of those crates don't say is shown, that they say what is meant, by values that come from
 // outside.
-// A table is a static: a function that names a constant makes its value anew, step by step, and each step is proved.
+// A table is a static that a function hands on: a function that names a table itself has the whole value of it in each step of its proof.
 #![tactic(auto)]
 
 #[cfg(test)]

@@ -271,6 +271,10 @@ static TABLES: [&[Case]; 5] = [
     &OF_EQUATIONS,
 ];
 
+fn tables() -> &'static [&'static [Case]] {
+    &TABLES
+}
+
 // how much stands in what the rows make of the system, if the last one applies
 fn sizes_made(
     alloc: Global,
@@ -290,7 +294,7 @@ fn sizes_made(
 #[test]
 fn rows_are_applied(rt: HostRuntime) -> Result<(), Fail> {
     let alloc = rt.alloc();
-    for (table, cases) in TABLES.iter().enumerate() {
+    for (table, cases) in tables().iter().enumerate() {
         for (i, (given, rows, wanted)) in cases.iter().enumerate() {
             let found = sizes_made(alloc, *rows, given)?;
             assert_eq!(rt; found, *wanted, "{table} {i}");
@@ -348,10 +352,14 @@ static ORDERED: [(PlainSystem<'static>, Row, Option<(u128, u128)>, usize); 4] = 
     ),
 ];
 
+fn ordered() -> &'static [(PlainSystem<'static>, Row, Option<(u128, u128)>, usize)] {
+    &ORDERED
+}
+
 #[test]
 fn orders_and_links_are_made(rt: HostRuntime) -> Result<(), Fail> {
     let alloc = rt.alloc();
-    for (i, (given, row, order, links)) in ORDERED.iter().enumerate() {
+    for (i, (given, row, order, links)) in ordered().iter().enumerate() {
         let given = system_of(alloc, given)?;
         let made = reduced(alloc, *row, &given)?.ok_or("no place")?;
         assert_eq!(rt; made.order.pairs().first().copied(), *order, "{i}");
@@ -425,6 +433,10 @@ static OPENED: [(PlainFormula<'static>, usize, PlainFormula<'static>); 4] = [
     (FIRST_ALONE, 1, ALONE),
 ];
 
+fn openings() -> &'static [(PlainFormula<'static>, usize, PlainFormula<'static>)] {
+    &OPENED
+}
+
 // what the formula is opened to, where 4 is the next number
 fn opened(alloc: Global, given: &PlainFormula) -> Result<System, Fail> {
     let given = system_of_one(alloc, formula_of(alloc, given)?, 4)?;
@@ -435,7 +447,7 @@ fn opened(alloc: Global, given: &PlainFormula) -> Result<System, Fail> {
 #[test]
 fn existentials_are_opened(rt: HostRuntime) -> Result<(), Fail> {
     let alloc = rt.alloc();
-    for (given, position, wanted) in OPENED.iter() {
+    for (given, position, wanted) in openings().iter() {
         let made = opened(alloc, given)?;
         let wanted = formula_of(alloc, wanted)?;
         let found = made.formulas.get(*position).ok_or("no formula")?;

@@ -3,6 +3,7 @@
 use sp_formula::formula::{Atom, Binder, Formula, Moment};
 use sp_formula::place::placed;
 use sp_formula::same::same_formula;
+use sp_formula::shared::SharedFormula;
 use sp_merge::merging::happenings_merging;
 use sp_order::order::Order;
 use sp_system::system::System;
@@ -65,6 +66,14 @@ static TWO_EVENTS: PlainSystem<'static> = PlainSystem {
     ..EMPTY
 };
 
+fn plain_events() -> &'static PlainSystem<'static> {
+    &TWO_EVENTS
+}
+
+fn two_events(alloc: Global) -> Result<System, AllocError> {
+    system_of(alloc, plain_events())
+}
+
 // what is made of them
 #[derive(Clone, Copy)]
 enum Change {
@@ -77,7 +86,7 @@ enum Change {
 
 impl Change {
     fn made(self, alloc: Global) -> Result<System, AllocError> {
-        let given = system_of(alloc, &TWO_EVENTS)?;
+        let given = two_events(alloc)?;
         let mut subst = Subst::new(alloc);
         subst.push(OTHER, Term::FreshName(7))?;
         match self {
@@ -96,13 +105,24 @@ fn some_but(alloc: Global, other: &Term) -> Result<Formula, AllocError> {
     exists(alloc, binders, guard, body)
 }
 
-// whether the first formula is about this term in place of x1, and the last one about this time in place of 3
-fn speaks_of(alloc: Global, made: &System, other: &Term, second: u128) -> Result<bool, Fail> {
+// whether the first formula is about this term in place of x1
+fn begins_about(alloc: Global, made: &System, other: &Term) -> Result<bool, Fail> {
     let some = some_but(alloc, other)?;
     let first = made.formulas.first().ok_or("first")?;
-    let last = made.formulas.last().ok_or("last")?;
+    Ok(same_formula(first, &some))
+}
+
+// whether the last one is about this time in place of 3
+fn ends_about(made: &System, second: u128) -> Result<bool, Fail> {
     let apart = Formula::Fails(same_time(2, second));
-    Ok(same_formula(first, &some) && same_formula(last, &apart))
+    let last = made.formulas.last().ok_or("last")?;
+    Ok(same_formula(last, &apart))
+}
+
+fn speaks_of(alloc: Global, made: &System, other: &Term, second: u128) -> Result<bool, Fail> {
+    let begins = begins_about(alloc, made, other)?;
+    let ends = ends_about(made, second)?;
+    Ok(begins && ends)
 }
 
 // A change, the term in place of x1, the time in place of 3, and the number of links.
@@ -113,10 +133,14 @@ static CHANGES: [(Change, PlainTerm<'static>, u128, usize); 3] = [
     (Change::Copied, X1, 3, 2),
 ];
 
+fn changes() -> &'static [(Change, PlainTerm<'static>, u128, usize)] {
+    &CHANGES
+}
+
 #[test]
 fn systems_are_changed_and_copied(rt: HostRuntime) -> Result<(), Fail> {
     let alloc = rt.alloc();
-    for (i, (change, other, second, links)) in CHANGES.iter().enumerate() {
+    for (i, (change, other, second, links)) in changes().iter().enumerate() {
         let made = change.made(alloc)?;
         let other = term_of(alloc, other)?;
         assert!(rt; speaks_of(alloc, &made, &other, *second)?, "{i}");
@@ -132,6 +156,34 @@ fn systems_are_changed_and_copied(rt: HostRuntime) -> Result<(), Fail> {
             "{i}"
         );
     }
+    Ok(())
+}
+
+// how many events, formulas and links there are
+fn counts(system: &System) -> (usize, usize, usize) {
+    (
+        system.events.len(),
+        system.formulas.len(),
+        system.links.len(),
+    )
+}
+
+#[test]
+fn copies_keep_their_lists(rt: HostRuntime) -> Result<(), Fail> {
+    let alloc = rt.alloc();
+    let given = two_events(alloc)?;
+    let mut made = given.clone()?;
+    let (events, formulas, links) = counts(&given);
+    made.events.append(alloc, Vec::new(alloc))?;
+    made.links.push(alloc, link(3, 0, 2, 0))?;
+    let falsity = SharedFormula::new(alloc, Formula::Falsity)?;
+    made.formulas.push(alloc, falsity)?;
+    assert_eq!(rt; counts(&given), (events, formulas, links));
+    assert_eq!(rt; made.links.last().copied(), Some(link(3, 0, 2, 0)));
+    let last = made.formulas.last().ok_or("last")?;
+    assert!(rt; same_formula(last, &Formula::Falsity));
+    let kept = given.formulas.last().ok_or("kept")?;
+    assert!(rt; !same_formula(kept, &Formula::Falsity));
     Ok(())
 }
 

@@ -1,7 +1,7 @@
 // Terms, facts and formulas in memory: put in for variables, copied, told apart, unified.
 
 use sp_fact::fact::Facts;
-use sp_formula::formula::{Binder, Moment};
+use sp_formula::formula::{Binder, Formula, Moment};
 use sp_formula::same::same_formula;
 use sp_term::subst::{Subst, apply, apply_all};
 use sp_term::term::{Sort, Term, Variable, same};
@@ -74,20 +74,55 @@ static PUT_IN: PlainTerm<'static> = PlainTerm::Over(
     &[N, PlainTerm::Variable(Sort::Msg, 2)],
 );
 
+fn plain_put_in() -> &'static PlainTerm<'static> {
+    &PUT_IN
+}
+
+fn pair(alloc: Global) -> Result<Term, AllocError> {
+    term_of(alloc, &GIVEN)
+}
+
+fn is_put_in(alloc: Global, made: &Term) -> Result<bool, AllocError> {
+    is_wanted(alloc, made, plain_put_in())
+}
+
+fn first_is_put_in(alloc: Global) -> Result<bool, Fail> {
+    let all = put_in(alloc, &[GIVEN])?;
+    let first = all.first().ok_or("made")?;
+    let found = is_put_in(alloc, first)?;
+    Ok(found)
+}
+
+fn first_is_bound(alloc: Global) -> Result<bool, Fail> {
+    let both = both(alloc)?;
+    let bound = both.get(FIRST).ok_or("bound")?;
+    Ok(same(bound, &Term::FreshName(7)))
+}
+
+fn with_both(alloc: Global, given: &Term) -> Result<Term, AllocError> {
+    let both = both(alloc)?;
+    apply(alloc, &both, given)
+}
+
 #[test]
 fn terms_are_put_in(rt: HostRuntime) -> Result<(), Fail> {
     let alloc = rt.alloc();
-    let all = put_in(alloc, &[GIVEN])?;
-    assert!(rt; is_wanted(alloc, all.first().ok_or("made")?, &PUT_IN)?);
-    let both = both(alloc)?;
-    let bound = both.get(FIRST).ok_or("bound")?;
-    assert!(rt; same(bound, &Term::FreshName(7)));
-    let given = term_of(alloc, &GIVEN)?;
-    let made = apply(alloc, &both, &given)?;
-    assert!(rt; is_wanted(alloc, &made, &PUT_IN)?);
+    assert!(rt; first_is_put_in(alloc)?);
+    assert!(rt; first_is_bound(alloc)?);
+    let given = pair(alloc)?;
+    let made = with_both(alloc, &given)?;
     assert!(rt; !same(&made, &given));
+    Ok(())
+}
+
+#[test]
+fn terms_are_copied(rt: HostRuntime) -> Result<(), Fail> {
+    let alloc = rt.alloc();
+    let given = pair(alloc)?;
+    let made = with_both(alloc, &given)?;
+    assert!(rt; is_put_in(alloc, &made)?);
     let copied = made.clone()?;
-    assert!(rt; is_wanted(alloc, &copied, &PUT_IN)?);
+    assert!(rt; is_put_in(alloc, &copied)?);
     Ok(())
 }
 
@@ -112,6 +147,15 @@ static UNIFIED: [(
     (X, PlainTerm::Over("pair", &[X, Y]), X, None),
 ];
 
+fn unified_cases() -> &'static [(
+    PlainTerm<'static>,
+    PlainTerm<'static>,
+    PlainTerm<'static>,
+    Option<PlainTerm<'static>>,
+)] {
+    &UNIFIED
+}
+
 // what the third term becomes under the unifier of the first two
 fn unified(
     alloc: Global,
@@ -133,7 +177,7 @@ fn unified(
 #[test]
 fn terms_are_unified(rt: HostRuntime) -> Result<(), Fail> {
     let alloc = rt.alloc();
-    for (i, (left, right, asked, wanted)) in UNIFIED.iter().enumerate() {
+    for (i, (left, right, asked, wanted)) in unified_cases().iter().enumerate() {
         match (unified(alloc, left, right, asked)?, wanted) {
             (None, None) => {}
             (Some(made), Some(wanted)) => assert!(rt; is_wanted(alloc, &made, wanted)?, "{i}"),
@@ -150,6 +194,14 @@ static OF_X: PlainFacts<'static> = PlainFacts {
     ..NO_FACTS
 };
 
+fn plain_of_x() -> &'static PlainFacts<'static> {
+    &OF_X
+}
+
+fn of_x(alloc: Global) -> Result<Facts, AllocError> {
+    facts_of(alloc, plain_of_x())
+}
+
 fn are_about(facts: &Facts, term: &Term) -> bool {
     match (facts.premises.first(), facts.actions.first()) {
         (Some(premise), Some(action)) => match (premise.args.first(), action.args.first()) {
@@ -165,7 +217,7 @@ fn are_about(facts: &Facts, term: &Term) -> bool {
 #[test]
 fn facts_are_copied_and_changed(rt: HostRuntime) -> Result<(), Fail> {
     let alloc = rt.alloc();
-    let given = facts_of(alloc, &OF_X)?;
+    let given = of_x(alloc)?;
     let copied = given.clone()?;
     assert!(rt; are_about(&copied, &Term::Var(FIRST)));
     let subst = binding(alloc, FIRST, Term::FreshName(7))?;
@@ -235,23 +287,52 @@ static TOLD_APART: [(PlainFormula<'static>, PlainFormula<'static>, bool); 5] = [
     (NESTED, NESTED, true),
 ];
 
+fn told_apart() -> &'static [(PlainFormula<'static>, PlainFormula<'static>, bool)] {
+    &TOLD_APART
+}
+
+fn copy_of(alloc: Global, given: &PlainFormula) -> Result<Formula, AllocError> {
+    let given = formula_of(alloc, given)?;
+    given.clone()
+}
+
+fn is_formula(alloc: Global, made: &Formula, wanted: &PlainFormula) -> Result<bool, AllocError> {
+    let wanted = formula_of(alloc, wanted)?;
+    Ok(same_formula(made, &wanted))
+}
+
 fn copy_is(alloc: Global, left: &PlainFormula, right: &PlainFormula) -> Result<bool, AllocError> {
-    let left = formula_of(alloc, left)?;
-    let right = formula_of(alloc, right)?;
-    let copied = left.clone()?;
-    Ok(same_formula(&copied, &right))
+    let copied = copy_of(alloc, left)?;
+    is_formula(alloc, &copied, right)
+}
+
+fn nested() -> PlainFormula<'static> {
+    NESTED
+}
+
+fn nested_at_1() -> &'static PlainFormula<'static> {
+    &NESTED_AT_1
+}
+
+// 1 is put in for 2
+fn with_1_for_2(alloc: Global, given: &PlainFormula) -> Result<Formula, AllocError> {
+    let given = formula_of(alloc, given)?;
+    let none = Subst::new(alloc);
+    given.changed(alloc, &none, 1, 2)
+}
+
+fn nested_is_changed(alloc: Global) -> Result<bool, AllocError> {
+    let changed = with_1_for_2(alloc, &nested())?;
+    is_formula(alloc, &changed, nested_at_1())
 }
 
 #[test]
 fn formulas_are_changed_and_told_apart(rt: HostRuntime) -> Result<(), Fail> {
     let alloc = rt.alloc();
-    for (i, (left, right, wanted)) in TOLD_APART.iter().enumerate() {
+    for (i, (left, right, wanted)) in told_apart().iter().enumerate() {
         let found = copy_is(alloc, left, right)?;
         assert_eq!(rt; found, *wanted, "{i}");
     }
-    let given = formula_of(alloc, &NESTED)?;
-    let changed = given.changed(alloc, &Subst::new(alloc), 1, 2)?;
-    let wanted = formula_of(alloc, &NESTED_AT_1)?;
-    assert!(rt; same_formula(&changed, &wanted));
+    assert!(rt; nested_is_changed(alloc)?);
     Ok(())
 }

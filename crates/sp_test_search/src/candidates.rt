@@ -260,6 +260,10 @@ static SUGGESTED: [(PlainSystem<'static>, &[&str], &str); 11] = [
     ),
 ];
 
+fn suggested_cases() -> &'static [(PlainSystem<'static>, &'static [&'static str], &'static str)] {
+    &SUGGESTED
+}
+
 // The log that the system suggests where these are the theory's constants.
 fn suggested(alloc: Global, given: &PlainSystem, constants: &[&str]) -> Result<String, AllocError> {
     let system = system_of(alloc, given)?;
@@ -271,7 +275,7 @@ fn suggested(alloc: Global, given: &PlainSystem, constants: &[&str]) -> Result<S
 #[test]
 fn logs_are_suggested(rt: HostRuntime) -> Result<(), Fail> {
     let alloc = rt.alloc();
-    for (i, (given, constants, wanted)) in SUGGESTED.iter().enumerate() {
+    for (i, (given, constants, wanted)) in suggested_cases().iter().enumerate() {
         let found = suggested(alloc, given, *constants)?;
         assert_eq!(rt; found.as_str(), *wanted, "{i}");
     }
@@ -371,10 +375,14 @@ static LEARNT: [(PlainSystem<'static>, &str); 7] = [
     ),
 ];
 
+fn learnt() -> &'static [(PlainSystem<'static>, &'static str)] {
+    &LEARNT
+}
+
 #[test]
 fn learning_logs_are_suggested(rt: HostRuntime) -> Result<(), Fail> {
     let alloc = rt.alloc();
-    for (i, (given, wanted)) in LEARNT.iter().enumerate() {
+    for (i, (given, wanted)) in learnt().iter().enumerate() {
         let found = suggested(alloc, given, &[])?;
         assert_eq!(rt; found.as_str(), *wanted, "{i}");
     }
@@ -403,6 +411,10 @@ static RULES: [PlainRule<'static>; 2] = [
     },
 ];
 
+fn plain_rules() -> &'static [PlainRule<'static>] {
+    &RULES
+}
+
 const SECOND_ALONE: PlainSystem<'static> = PlainSystem {
     events: &[SECOND],
     ..NO_STEP
@@ -425,13 +437,21 @@ static FOUND: [(PlainFormula<'static>, PlainSystem<'static>, &str); 6] = [
     ),
 ];
 
+fn found_cases() -> &'static [(PlainFormula<'static>, PlainSystem<'static>, &'static str)] {
+    &FOUND
+}
+
 // the log of the rules that is found in the system
 fn log_found(
     alloc: Global,
     sought: &PlainFormula,
     given: &PlainSystem,
 ) -> Result<String, AllocError> {
-    let parts = Parts::new(alloc, rules_of(alloc, &RULES)?, formula_of(alloc, sought)?)?;
+    let parts = Parts::new(
+        alloc,
+        rules_of(alloc, plain_rules())?,
+        formula_of(alloc, sought)?,
+    )?;
     let system = system_of(alloc, given)?;
     let context = parts.context();
     let book = context.rules;
@@ -442,7 +462,7 @@ fn log_found(
 #[test]
 fn logs_are_found(rt: HostRuntime) -> Result<(), Fail> {
     let alloc = rt.alloc();
-    for (i, (sought, given, wanted)) in FOUND.iter().enumerate() {
+    for (i, (sought, given, wanted)) in found_cases().iter().enumerate() {
         let found = log_found(alloc, sought, given)?;
         assert_eq!(rt; found.as_str(), *wanted, "{i}");
     }

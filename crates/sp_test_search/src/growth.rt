@@ -26,6 +26,10 @@ static RULES: [PlainRule<'static>; 1] = [PlainRule {
     },
 }];
 
+fn plain_rules() -> &'static [PlainRule<'static>] {
+    &RULES
+}
+
 // there are x and i with A(x) at i, and not x = x
 const REFUTED: PlainFormula<'static> = PlainFormula::Exists(
     &[Binder::Message(Sort::Msg), Binder::Time],
@@ -40,6 +44,10 @@ const WANTED: PlainFormula<'static> = PlainFormula::Holds(PlainAtom::Acts(
     Moment::Free(0),
 ));
 
+fn wanted() -> PlainFormula<'static> {
+    WANTED
+}
+
 // the system of the formula, whose next number is 1
 fn of_one(alloc: Global, formula: &PlainFormula) -> Result<System, AllocError> {
     system_of_one(alloc, formula_of(alloc, formula)?, 1)
@@ -47,7 +55,7 @@ fn of_one(alloc: Global, formula: &PlainFormula) -> Result<System, AllocError> {
 
 // the rule, where the log that is looked for makes the formula true
 fn looked_for(alloc: Global, sought: &PlainFormula) -> Result<Parts, AllocError> {
-    let rules = rules_of(alloc, &RULES)?;
+    let rules = rules_of(alloc, plain_rules())?;
     Parts::new(alloc, rules, formula_of(alloc, sought)?)
 }
 
@@ -70,7 +78,7 @@ fn alone(alloc: Global, node: Node) -> Result<Tree, AllocError>
 
 fn open_leaf(alloc: Global, chosen: Option<Ranked>) -> Result<Tree, AllocError> {
     let leaf = OpenLeaf {
-        system: of_one(alloc, &WANTED)?,
+        system: of_one(alloc, &wanted())?,
         choice: chosen,
         depth: 1,
     };
@@ -143,6 +151,10 @@ fn grown(
 
 const TRUTH: PlainFormula<'static> = PlainFormula::Truth;
 
+fn truth() -> PlainFormula<'static> {
+    TRUTH
+}
+
 const FALSITY: PlainFormula<'static> = PlainFormula::Falsity;
 
 // a formula, what is sought, the number of steps, and what the tree is: a proof, or one with a log
@@ -157,15 +169,19 @@ static GROWN: [(PlainFormula<'static>, PlainFormula<'static>, u64, Shape); 8] = 
     (WANTED, FALSITY, 5, (1, false, None)),
 ];
 
+fn grown_cases() -> &'static [(PlainFormula<'static>, PlainFormula<'static>, u64, Shape)] {
+    &GROWN
+}
+
 #[test]
 fn trees_are_grown(rt: HostRuntime) -> Result<(), Fail> {
     let alloc = rt.alloc();
-    for (i, (root, sought, budget, expected)) in GROWN.iter().enumerate() {
+    for (i, (root, sought, budget, expected)) in grown_cases().iter().enumerate() {
         let found = grown(alloc, root, sought, *budget)?;
         assert_eq!(rt; found, *expected, "{i}");
     }
-    let root = of_one(alloc, &WANTED)?;
-    let parts = looked_for(alloc, &TRUTH)?;
+    let root = of_one(alloc, &wanted())?;
+    let parts = looked_for(alloc, &truth())?;
     assert_eq!(rt; choice(alloc, &parts.context(), &root)?, Some(action()));
     Ok(())
 }

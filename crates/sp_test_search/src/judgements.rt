@@ -34,7 +34,15 @@ const AGAIN: PlainRule<'static> = PlainRule {
 
 static MAKE_ALONE: [PlainRule<'static>; 1] = [MAKE];
 
+fn make_alone() -> &'static [PlainRule<'static>] {
+    &MAKE_ALONE
+}
+
 static MAKE_AND_AGAIN: [PlainRule<'static>; 2] = [MAKE, AGAIN];
+
+fn make_and_again() -> &'static [PlainRule<'static>] {
+    &MAKE_AND_AGAIN
+}
 
 // A doesn't come once: there are x, i and j with A(x) at i and at j, and i isn't j
 static NOT_ONCE: PlainFormula<'static> = PlainFormula::Exists(
@@ -46,12 +54,20 @@ static NOT_ONCE: PlainFormula<'static> = PlainFormula::Exists(
     &PlainFormula::Fails(PlainAtom::SameTime(Moment::Bound(1), Moment::Bound(0))),
 );
 
+fn not_once() -> &'static PlainFormula<'static> {
+    &NOT_ONCE
+}
+
 // A comes
 static SOME: PlainFormula<'static> = PlainFormula::Exists(
     &[Binder::Message(Sort::Msg), Binder::Time],
     &[PlainAtom::Acts("A", &[PlainLeaf::Bound(0)], Moment::Bound(0))],
     &PlainFormula::Truth,
 );
+
+fn some_comes() -> &'static PlainFormula<'static> {
+    &SOME
+}
 
 // the search for this formula by these rules
 fn searched(
@@ -205,13 +221,17 @@ static PROOFS: [(Nodes, u64, &str); 8] = [
     (&[(Done::Unproved, &[""]), CONTRADICTION], 1, "1: cases"),
 ];
 
+fn proofs() -> &'static [(Nodes, u64, &'static str)] {
+    &PROOFS
+}
+
 #[test]
 fn proofs_are_judged(rt: HostRuntime) -> Result<(), Fail> {
     let alloc = rt.alloc();
-    let parts = searched(alloc, &MAKE_ALONE, &NOT_ONCE)?;
-    for (i, (nodes, count, wanted)) in PROOFS.iter().enumerate() {
+    let parts = searched(alloc, make_alone(), not_once())?;
+    for (i, (nodes, count, wanted)) in proofs().iter().enumerate() {
         let proof = tree(alloc, *nodes)?.ok_or("tree")?;
-        let found = judged(alloc, &parts.context(), &NOT_ONCE, &proof)?;
+        let found = judged(alloc, &parts.context(), not_once(), &proof)?;
         assert_eq!(rt; found.as_str(), *wanted, "{i}");
         assert_eq!(rt; steps(&proof), *count, "{i}");
     }
@@ -251,13 +271,17 @@ static LOGS: [(Nodes, bool, &str); 5] = [
     ),
 ];
 
+fn logs() -> &'static [(Nodes, bool, &'static str)] {
+    &LOGS
+}
+
 #[test]
 fn first_logs_are_given(rt: HostRuntime) -> Result<(), Fail> {
     let alloc = rt.alloc();
-    let parts = searched(alloc, &MAKE_AND_AGAIN, &SOME)?;
-    for (i, (nodes, is_open, wanted)) in LOGS.iter().enumerate() {
+    let parts = searched(alloc, make_and_again(), some_comes())?;
+    for (i, (nodes, is_open, wanted)) in logs().iter().enumerate() {
         let proof = tree(alloc, *nodes)?.ok_or("tree")?;
-        let found = judged(alloc, &parts.context(), &SOME, &proof)?;
+        let found = judged(alloc, &parts.context(), some_comes(), &proof)?;
         assert_eq!(rt; found.as_str(), *wanted, "{i}");
         assert_eq!(rt; has_open(&proof), *is_open, "{i}");
     }
@@ -267,16 +291,20 @@ fn first_logs_are_given(rt: HostRuntime) -> Result<(), Fail> {
 // a case where the search ends
 static LATE: [(Done, &[&str]); 4] = [SIMPLIFY, FIRST_MADE, (Done::Solved, &[""]), UNPROVED];
 
+fn late() -> &'static [(Done, &'static [&'static str])] {
+    &LATE
+}
+
 // Without an event there is no log in which A comes; and where the search ends there is no case.
 #[test]
 fn other_ends_are_rejected(rt: HostRuntime) -> Result<(), Fail> {
     let alloc = rt.alloc();
-    let parts = searched(alloc, &MAKE_ALONE, &SOME)?;
+    let parts = searched(alloc, make_alone(), some_comes())?;
     let early = Skeleton::leaf(alloc, Step::Known(Move::Solved))?;
-    let found = judged(alloc, &parts.context(), &SOME, &early)?;
+    let found = judged(alloc, &parts.context(), some_comes(), &early)?;
     assert_eq!(rt; found.as_str(), "1: instance");
-    let late = tree(alloc, &LATE)?.ok_or("tree")?;
-    let found = judged(alloc, &parts.context(), &SOME, &late)?;
+    let late = tree(alloc, late())?.ok_or("tree")?;
+    let found = judged(alloc, &parts.context(), some_comes(), &late)?;
     assert_eq!(rt; found.as_str(), "3: cases");
     Ok(())
 }
@@ -291,6 +319,10 @@ static TREES: [(Nodes, bool); 6] = [
     (&[], false),
 ];
 
+fn trees() -> &'static [(Nodes, bool)] {
+    &TREES
+}
+
 const TWO_CASES: (Done, &[&str]) = (Done::Simplify, &["a", "b"]);
 
 const NO_CASES: (Done, &[&str]) = (Done::Simplify, &[]);
@@ -298,7 +330,7 @@ const NO_CASES: (Done, &[&str]) = (Done::Simplify, &[]);
 #[test]
 fn nodes_are_one_tree(rt: HostRuntime) -> Result<(), Fail> {
     let alloc = rt.alloc();
-    for (i, (nodes, wanted)) in TREES.iter().enumerate() {
+    for (i, (nodes, wanted)) in trees().iter().enumerate() {
         let found = tree(alloc, *nodes)?;
         assert_eq!(rt; found.is_some(), *wanted, "{i}");
     }

@@ -149,6 +149,10 @@ const OF_LEARNINGS: [Applied; 5] = [
 
 static TABLES: [&[Applied]; 2] = [&OF_SENDINGS, &OF_LEARNINGS];
 
+fn tables() -> &'static [&'static [Applied]] {
+    &TABLES
+}
+
 // the text of what the row makes of the system, or `none`
 fn text_made(alloc: Global, given: &PlainSystem, row: Row) -> Result<String, AllocError> {
     let given = system_of(alloc, given)?;
@@ -161,7 +165,7 @@ fn text_made(alloc: Global, given: &PlainSystem, row: Row) -> Result<String, All
 #[test]
 fn rows_of_the_adversary_are_applied(rt: HostRuntime) -> Result<(), Fail> {
     let alloc = rt.alloc();
-    for cases in TABLES.iter() {
+    for cases in tables().iter() {
         for (i, (given, row, wanted)) in cases.iter().enumerate() {
             let found = text_made(alloc, given, *row)?;
             assert_eq!(rt; found.as_str(), wanted.unwrap_or("none"), "{i}");
@@ -201,10 +205,14 @@ static CONTRADICTIONS: [(PlainSystem<'static>, bool); 4] = [
     (LEARNT_TWICE, false),
 ];
 
+fn contradictions() -> &'static [(PlainSystem<'static>, bool)] {
+    &CONTRADICTIONS
+}
+
 #[test]
 fn contradictions_of_the_adversary_are_seen(rt: HostRuntime) -> Result<(), Fail> {
     let alloc = rt.alloc();
-    for (i, (given, wanted)) in CONTRADICTIONS.iter().enumerate() {
+    for (i, (given, wanted)) in contradictions().iter().enumerate() {
         let given = system_of(alloc, given)?;
         let found = contradicts(alloc, &given)?;
         assert_eq!(rt; found, *wanted, "{i}");
@@ -220,9 +228,13 @@ static OPENED: PlainTerm<'static> = PlainTerm::Over(
     &[PlainTerm::Over("senc", &[X0, X1]), X1],
 );
 
+fn plain_opened() -> &'static PlainTerm<'static> {
+    &OPENED
+}
+
 // sdec(senc(x, y), y) = x
 fn opening(alloc: Global) -> Result<Equation, AllocError> {
-    let left = term_of(alloc, &OPENED)?;
+    let left = term_of(alloc, plain_opened())?;
     let right = term_of(alloc, &X0)?;
     Ok(Equation { left, right })
 }
@@ -256,8 +268,12 @@ static GIVING: [PlainRule<'static>; 1] = [PlainRule {
     },
 }];
 
+fn plain_giving() -> &'static [PlainRule<'static>] {
+    &GIVING
+}
+
 fn giving(alloc: Global, signature: &Signature) -> Result<RuleBook, AllocError> {
-    let rules = rules_of(alloc, &GIVING)?;
+    let rules = rules_of(alloc, plain_giving())?;
     book(alloc, &signature.equations, &rules)
 }
 
@@ -303,10 +319,14 @@ static KNOWN: [(PlainEvent<'static>, &str); 5] = [
     (PlainEvent::Learn(5, X0, PlainWay::Anyhow), "none"),
 ];
 
+fn known() -> &'static [(PlainEvent<'static>, &'static str)] {
+    &KNOWN
+}
+
 // the system of this event alone
 fn of_event(alloc: Global, plain: &PlainEvent) -> Result<System, AllocError> {
     let mut made = system_of(alloc, &SIX)?;
-    made.events.push(event_of(alloc, plain)?)?;
+    made.events.push(alloc, event_of(alloc, plain)?)?;
     Ok(made)
 }
 
@@ -315,7 +335,7 @@ fn messages_are_known(rt: HostRuntime) -> Result<(), Fail> {
     let alloc = rt.alloc();
     let signature = signature(alloc)?;
     let rules = giving(alloc, &signature)?;
-    for (i, (learnt, wanted)) in KNOWN.iter().enumerate() {
+    for (i, (learnt, wanted)) in known().iter().enumerate() {
         let given = of_event(alloc, learnt)?;
         let cases = know_cases(alloc, &signature, &rules, &given, 5)?;
         assert_eq!(rt; texts_of(alloc, &cases)?.as_str(), *wanted, "{i}");
@@ -355,6 +375,10 @@ static CHAINS: [(PlainEvent<'static>, &str); 4] = [
     (PlainEvent::Learn(5, X0, PlainWay::Anyhow), "none"),
 ];
 
+fn chains() -> &'static [(PlainEvent<'static>, &'static str)] {
+    &CHAINS
+}
+
 const OF_PAIR: PlainTerm<'static> = PlainTerm::Over("pair", &[X1, X2]);
 
 const OF_HIDDEN: PlainTerm<'static> = PlainTerm::Over("senc", &[X1, X2]);
@@ -363,7 +387,7 @@ const OF_HIDDEN: PlainTerm<'static> = PlainTerm::Over("senc", &[X1, X2]);
 fn chains_go_on(rt: HostRuntime) -> Result<(), Fail> {
     let alloc = rt.alloc();
     let signature = signature(alloc)?;
-    for (i, (learnt, wanted)) in CHAINS.iter().enumerate() {
+    for (i, (learnt, wanted)) in chains().iter().enumerate() {
         let given = of_event(alloc, learnt)?;
         let cases = chain_cases(alloc, &signature, &given, 5)?;
         assert_eq!(rt; texts_of(alloc, &cases)?.as_str(), *wanted, "{i}");

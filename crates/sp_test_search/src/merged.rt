@@ -2,7 +2,7 @@
 // looks for its own.
 
 use crate::moves::{
-    A_SOUGHT, K_SOUGHT, SHOWING, Sizes, WITH_EVENT, all_have, book_of, names, taken_up,
+    A_SOUGHT, K_SOUGHT, Sizes, WITH_EVENT, all_have, book_of, names, showing, taken_up,
 };
 use sp_formula::formula::Moment;
 use sp_step::moves::Case;
@@ -274,6 +274,10 @@ const OF_MORE: [Merged; 2] = [
 
 static MERGED: [&[Merged]; 4] = [&OF_TIMES, &OF_LINKS, &OF_CHAINS, &OF_MORE];
 
+fn merged_cases() -> &'static [&'static [Merged]] {
+    &MERGED
+}
+
 // what the rows make of the system, if each has a place and leaves no two events at one time
 fn merged(alloc: Global, given: &PlainSystem, rows: &[Row]) -> Result<System, Fail> {
     let mut made = system_of(alloc, given)?;
@@ -289,7 +293,7 @@ fn merged(alloc: Global, given: &PlainSystem, rows: &[Row]) -> Result<System, Fa
 #[test]
 fn merging_leaves_one_event_at_a_time(rt: HostRuntime) -> Result<(), Fail> {
     let alloc = rt.alloc();
-    for (table, cases) in MERGED.iter().enumerate() {
+    for (table, cases) in merged_cases().iter().enumerate() {
         for (i, (given, rows, wanted)) in cases.iter().enumerate() {
             let made = merged(alloc, given, *rows)?;
             assert_eq!(rt; text_of(alloc, &made)?.as_str(), *wanted, "{table} {i}");
@@ -399,6 +403,14 @@ static TRIED: [(PlainSystem<'static>, &str, &[PlainSystem<'static>]); 5] = [
     ),
 ];
 
+fn tried() -> &'static [(
+    PlainSystem<'static>,
+    &'static str,
+    &'static [PlainSystem<'static>],
+)] {
+    &TRIED
+}
+
 // whether the cases have these systems, in each of which no two events have one time
 fn have(alloc: Global, cases: &Vec<Case>, systems: &[PlainSystem]) -> Result<bool, AllocError> {
     for (case, wanted) in cases.iter().zip(systems) {
@@ -413,8 +425,8 @@ fn have(alloc: Global, cases: &Vec<Case>, systems: &[PlainSystem]) -> Result<boo
 #[test]
 fn events_of_closed_systems_are_tried(rt: HostRuntime) -> Result<(), Fail> {
     let alloc = rt.alloc();
-    let rules = book_of(alloc, &SHOWING)?;
-    for (i, (given, wanted, systems)) in TRIED.iter().enumerate() {
+    let rules = book_of(alloc, showing())?;
+    for (i, (given, wanted, systems)) in tried().iter().enumerate() {
         let found = taken_up(alloc, &rules, given, PlainMove::Action(0))?;
         assert_eq!(rt; names(alloc, &found)?.as_str(), *wanted, "{i}");
         assert!(rt; have(alloc, &found, *systems)?, "{i}");
@@ -451,11 +463,15 @@ static NOT_TRIED: [(PlainSystem<'static>, &str, Sizes); 3] = [
     ),
 ];
 
+fn not_tried() -> &'static [(PlainSystem<'static>, &'static str, Sizes)] {
+    &NOT_TRIED
+}
+
 #[test]
 fn other_cases_stay(rt: HostRuntime) -> Result<(), Fail> {
     let alloc = rt.alloc();
-    let rules = book_of(alloc, &SHOWING)?;
-    for (i, (given, wanted, held)) in NOT_TRIED.iter().enumerate() {
+    let rules = book_of(alloc, showing())?;
+    for (i, (given, wanted, held)) in not_tried().iter().enumerate() {
         let found = taken_up(alloc, &rules, given, PlainMove::Action(0))?;
         assert_eq!(rt; names(alloc, &found)?.as_str(), *wanted, "{i}");
         assert!(rt; all_have(&found, *held), "{i}");

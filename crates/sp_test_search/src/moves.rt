@@ -35,7 +35,7 @@ const C: PlainTerm<'static> = PlainTerm::Public("c");
 const FREE_X0: PlainLeaf<'static> = PlainLeaf::Free(Sort::Msg, 0);
 
 /// One: A(~x); Other: B(x); Three: B(x), A(x), A('c')
-pub static SHOWING: [PlainRule<'static>; 3] = [
+static SHOWING: [PlainRule<'static>; 3] = [
     PlainRule {
         name: "One",
         variables: &[("x", Sort::Fresh)],
@@ -62,6 +62,10 @@ pub static SHOWING: [PlainRule<'static>; 3] = [
     },
 ];
 
+pub fn showing() -> &'static [PlainRule<'static>] {
+    &SHOWING
+}
+
 /// The rules with their forms, without equations.
 pub fn book_of(alloc: Global, rules: &[PlainRule]) -> Result<RuleBook, AllocError> {
     let rules = rules_of(alloc, rules)?;
@@ -74,6 +78,10 @@ pub const A_SOUGHT: PlainFormula<'static> = PlainFormula::Holds(PlainAtom::Acts(
     &[FREE_X0],
     Moment::Free(5),
 ));
+
+fn a_sought() -> PlainFormula<'static> {
+    A_SOUGHT
+}
 
 const B_SOUGHT: PlainFormula<'static> = PlainFormula::Holds(PlainAtom::Acts(
     "B",
@@ -88,6 +96,10 @@ pub const K_SOUGHT: PlainFormula<'static> = PlainFormula::Holds(PlainAtom::Acts(
     Moment::Free(5),
 ));
 
+fn k_sought() -> PlainFormula<'static> {
+    K_SOUGHT
+}
+
 const KU_SOUGHT: PlainFormula<'static> = PlainFormula::Holds(PlainAtom::Acts(
     "KU",
     &[FREE_X0],
@@ -101,6 +113,10 @@ const TWO_ACTIONS: PlainSystem<'static> = PlainSystem {
     ..EMPTY
 };
 
+fn two_actions() -> PlainSystem<'static> {
+    TWO_ACTIONS
+}
+
 // A and K are looked for, or truth holds, or B is looked for
 const WITH_PARTS: PlainSystem<'static> = PlainSystem {
     formulas: &[
@@ -110,6 +126,10 @@ const WITH_PARTS: PlainSystem<'static> = PlainSystem {
     ],
     ..TWO_ACTIONS
 };
+
+fn with_parts() -> PlainSystem<'static> {
+    WITH_PARTS
+}
 
 /// A and K are looked for, and Three has come at 5.
 pub const WITH_EVENT: PlainSystem<'static> = PlainSystem {
@@ -198,11 +218,15 @@ static FORMULAS: [TakenUp; 3] = [
     (WITH_PARTS, PlainMove::Or(2), "case_1 case_2 ", (0, 3, 1, 6)),
 ];
 
+fn formula_cases() -> &'static [TakenUp] {
+    &FORMULAS
+}
+
 #[test]
 fn formulas_are_taken_up(rt: HostRuntime) -> Result<(), Fail> {
     let alloc = rt.alloc();
-    let rules = book_of(alloc, &SHOWING)?;
-    for (given, chosen, wanted, held) in FORMULAS.iter() {
+    let rules = book_of(alloc, showing())?;
+    for (given, chosen, wanted, held) in formula_cases().iter() {
         let found = taken_up(alloc, &rules, given, *chosen)?;
         assert_eq!(rt; names(alloc, &found)?.as_str(), *wanted);
         assert!(rt; all_have(&found, *held), "{wanted}");
@@ -223,11 +247,15 @@ static OF_ADVERSARY: [TakenUp; 2] = [
     (LEARNING, PlainMove::Action(0), "Learn ", (1, 1, 0, 6)),
 ];
 
+fn of_adversary() -> &'static [TakenUp] {
+    &OF_ADVERSARY
+}
+
 #[test]
 fn actions_of_the_adversary_are_taken_up(rt: HostRuntime) -> Result<(), Fail> {
     let alloc = rt.alloc();
-    let rules = book_of(alloc, &SHOWING)?;
-    for (given, chosen, wanted, held) in OF_ADVERSARY.iter() {
+    let rules = book_of(alloc, showing())?;
+    for (given, chosen, wanted, held) in of_adversary().iter() {
         let found = taken_up(alloc, &rules, given, *chosen)?;
         assert_eq!(rt; names(alloc, &found)?.as_str(), *wanted);
         assert!(rt; all_have(&found, *held), "{wanted}");
@@ -248,6 +276,10 @@ static FORMULA_CLAUSES: [(PlainMove, Option<Clause>); 9] = [
     (PlainMove::Action(0), None),
 ];
 
+fn formula_clauses() -> &'static [(PlainMove, Option<Clause>)] {
+    &FORMULA_CLAUSES
+}
+
 fn solvable(alloc: Global, given: &PlainFormula) -> Result<bool, AllocError> {
     let given = formula_of(alloc, given)?;
     is_solvable(alloc, &given)
@@ -256,11 +288,11 @@ fn solvable(alloc: Global, given: &PlainFormula) -> Result<bool, AllocError> {
 #[test]
 fn clauses_of_formulas_are_told(rt: HostRuntime) -> Result<(), Fail> {
     let alloc = rt.alloc();
-    assert!(rt; solvable(alloc, &A_SOUGHT)?);
-    assert!(rt; solvable(alloc, &K_SOUGHT)?);
-    let rules = book_of(alloc, &SHOWING)?;
-    let system = system_of(alloc, &WITH_PARTS)?;
-    for (i, (chosen, wanted)) in FORMULA_CLAUSES.iter().enumerate() {
+    assert!(rt; solvable(alloc, &a_sought())?);
+    assert!(rt; solvable(alloc, &k_sought())?);
+    let rules = book_of(alloc, showing())?;
+    let system = system_of(alloc, &with_parts())?;
+    for (i, (chosen, wanted)) in formula_clauses().iter().enumerate() {
         let chosen = move_of(alloc, *chosen)?;
         let applied = apply_to_formula(alloc, &rules, &system, &chosen)?;
         assert_eq!(rt; clause_in(&applied), *wanted, "{i}");
@@ -290,6 +322,10 @@ static GIVING: [PlainRule<'static>; 2] = [
     },
 ];
 
+fn giving() -> &'static [PlainRule<'static>] {
+    &GIVING
+}
+
 // a step at the time 5 with the premises Fr(~1), In(x), T(x) and T(x), of which the last one has a link
 const TAKING: PlainSystem<'static> = PlainSystem {
     events: &[PlainEvent::Step(
@@ -310,12 +346,16 @@ const TAKING: PlainSystem<'static> = PlainSystem {
     ..EMPTY
 };
 
+fn taking() -> PlainSystem<'static> {
+    TAKING
+}
+
 // The giver is at the time 6, and its variable has the number 7.
 #[test]
 fn premises_are_taken_up(rt: HostRuntime) -> Result<(), Fail> {
     let alloc = rt.alloc();
-    let given = system_of(alloc, &TAKING)?;
-    let rules = book_of(alloc, &GIVING)?;
+    let given = system_of(alloc, &taking())?;
+    let rules = book_of(alloc, giving())?;
     let chosen = Move::Premise(5, 2);
     let found = cases_in(apply_to_graph(alloc, &rules, &given, &chosen)?)?;
     assert_eq!(rt; names(alloc, &found)?.as_str(), "Give_case_1 Give_case_2 ");
@@ -337,6 +377,10 @@ static WITH_TIMES: PlainSystem<'static> = PlainSystem {
     ..TAKING
 };
 
+fn with_times() -> &'static PlainSystem<'static> {
+    &WITH_TIMES
+}
+
 // a time, the place of a premise there, and why its source is not looked for
 static PREMISE_CLAUSES: [(u128, usize, Option<Clause>); 9] = [
     (9, 0, Some(Clause::Absent)),
@@ -350,12 +394,16 @@ static PREMISE_CLAUSES: [(u128, usize, Option<Clause>); 9] = [
     (5, 2, None),
 ];
 
+fn premise_clauses() -> &'static [(u128, usize, Option<Clause>)] {
+    &PREMISE_CLAUSES
+}
+
 #[test]
 fn clauses_of_premises_are_told(rt: HostRuntime) -> Result<(), Fail> {
     let alloc = rt.alloc();
     let rules = no_rules(alloc)?;
-    let given = system_of(alloc, &WITH_TIMES)?;
-    for (time, place, wanted) in PREMISE_CLAUSES.iter() {
+    let given = system_of(alloc, with_times())?;
+    for (time, place, wanted) in premise_clauses().iter() {
         let premise = Premise {
             time: *time,
             place: *place,
@@ -376,11 +424,15 @@ static WITH_CHAIN: PlainSystem<'static> = PlainSystem {
     ..EMPTY
 };
 
+fn with_chain() -> &'static PlainSystem<'static> {
+    &WITH_CHAIN
+}
+
 #[test]
 fn times_of_chains_are_there(rt: HostRuntime) -> Result<(), Fail> {
     let alloc = rt.alloc();
     let rules = no_rules(alloc)?;
-    let given = system_of(alloc, &WITH_CHAIN)?;
+    let given = system_of(alloc, with_chain())?;
     for (time, wanted) in [
         (1, Clause::OtherKind),
         (2, Clause::Absent),
@@ -397,7 +449,7 @@ fn times_of_chains_are_there(rt: HostRuntime) -> Result<(), Fail> {
 fn great_places_are_no_others(rt: HostRuntime) -> Result<(), Fail> {
     let alloc = rt.alloc();
     let rules = no_rules(alloc)?;
-    let given = system_of(alloc, &TAKING)?;
+    let given = system_of(alloc, &taking())?;
     let chosen = Move::Premise(5, (1 << 64) + 2);
     let applied = apply_to_graph(alloc, &rules, &given, &chosen)?;
     assert_eq!(rt; clause_in(&applied), Some(Clause::Absent));
@@ -408,7 +460,7 @@ fn great_places_are_no_others(rt: HostRuntime) -> Result<(), Fail> {
 fn other_moves_take_up_no_premise(rt: HostRuntime) -> Result<(), Fail> {
     let alloc = rt.alloc();
     let rules = no_rules(alloc)?;
-    let given = system_of(alloc, &TAKING)?;
+    let given = system_of(alloc, &taking())?;
     for chosen in [PlainMove::Simplify, PlainMove::Or(0), PlainMove::Action(0)] {
         let chosen = move_of(alloc, chosen)?;
         let applied = apply_to_graph(alloc, &rules, &given, &chosen)?;
@@ -441,13 +493,17 @@ static MOVE_CLAUSES: [(PlainMove, Option<Clause>); 17] = [
     (PlainMove::Unproved, None),
 ];
 
+fn move_clauses() -> &'static [(PlainMove, Option<Clause>)] {
+    &MOVE_CLAUSES
+}
+
 #[test]
 fn clauses_of_moves_are_told(rt: HostRuntime) -> Result<(), Fail> {
     let alloc = rt.alloc();
     let parts = Parts::new(alloc, Vec::new(alloc), Formula::Falsity)?;
     let context = parts.context();
-    let system = system_of(alloc, &TWO_ACTIONS)?;
-    for (i, (chosen, wanted)) in MOVE_CLAUSES.iter().enumerate() {
+    let system = system_of(alloc, &two_actions())?;
+    for (i, (chosen, wanted)) in move_clauses().iter().enumerate() {
         let chosen = move_of(alloc, *chosen)?;
         let applied = apply(alloc, &context, &system, &chosen)?;
         assert_eq!(rt; clause_in(&applied), *wanted, "{i}");
@@ -465,6 +521,14 @@ static ENDS: [(PlainFormula<'static>, &[PlainFormula<'static>], bool); 3] = [
     (PlainFormula::Truth, &[A_SOUGHT, K_SOUGHT], false),
 ];
 
+fn end_cases() -> &'static [(
+    PlainFormula<'static>,
+    &'static [PlainFormula<'static>],
+    bool,
+)] {
+    &ENDS
+}
+
 // whether the search ends with a log in the system of these formulas, whose next number is 6
 fn ends(
     alloc: Global,
@@ -480,7 +544,7 @@ fn ends(
 #[test]
 fn searches_end_with_a_log(rt: HostRuntime) -> Result<(), Fail> {
     let alloc = rt.alloc();
-    for (i, (sought, formulas, wanted)) in ENDS.iter().enumerate() {
+    for (i, (sought, formulas, wanted)) in end_cases().iter().enumerate() {
         let found = ends(alloc, sought, *formulas)?;
         assert_eq!(rt; found, *wanted, "{i}");
     }

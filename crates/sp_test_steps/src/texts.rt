@@ -1,7 +1,7 @@
 // Systems as texts, and systems that are the same.
 
-use sp_formula::formula::Formula;
 use sp_formula::same::same_formula;
+use sp_formula::shared::SharedFormula;
 use sp_system::event::{Event, What};
 use sp_system::system::System;
 use sp_system::way::{Chain, Way};
@@ -77,7 +77,7 @@ fn put_event(alloc: Global, text: &mut String, event: &Event) -> Result<(), Allo
     let time = event.time;
     let words = format!(in alloc; "{time} ")?;
     text.push_str(&words)?;
-    match &event.what {
+    match event.what() {
         What::Rule(rule) => text.push_str(rule.text.as_str())?,
         What::Send(message) => {
             text.push_str("send ")?;
@@ -95,7 +95,7 @@ fn put_event(alloc: Global, text: &mut String, event: &Event) -> Result<(), Allo
 
 /// Puts the events, the pairs of the order, and the next number behind the text.
 pub fn put_system(alloc: Global, text: &mut String, system: &System) -> Result<(), AllocError> {
-    for event in &system.events {
+    for event in system.events.iter() {
         put_event(alloc, text, event)?;
     }
     put_order(alloc, text, system.order.pairs())?;
@@ -119,7 +119,7 @@ fn put_order(alloc: Global, text: &mut String, order: &[(u128, u128)]) -> Result
     Ok(())
 }
 
-fn same_formulas(left: &Vec<Formula>, right: &Vec<Formula>) -> bool {
+fn same_formulas(left: &Vec<SharedFormula>, right: &Vec<SharedFormula>) -> bool {
     if left.len() != right.len() {
         return false;
     }
@@ -132,7 +132,7 @@ fn same_formulas(left: &Vec<Formula>, right: &Vec<Formula>) -> bool {
 }
 
 fn same_ends(left: &System, right: &System) -> bool {
-    left.last == right.last && left.closed == right.closed && left.links == right.links
+    left.last == right.last && left.closed == right.closed && *left.links == *right.links
 }
 
 /// Whether the systems are the same, but for facts of steps and unequal pairs.

@@ -52,6 +52,10 @@ end
     ("cut", b"theory R begin lemma"),
 ];
 
+fn texts() -> &'static [(&'static str, &'static [u8])] {
+    &TEXTS
+}
+
 /// A theory behind a comment, which with it has as many bytes as a text may have.
 fn padded(alloc: Global) -> Result<Vec<u8>, AllocError> {
     let mut text = vec![in alloc; b'/', b'*']?;
@@ -80,7 +84,7 @@ fn nested(alloc: Global, brackets: usize) -> Result<Vec<u8>, AllocError> {
 /// The short texts, those with 128 and 129 brackets, one as long as a text may be, and one longer.
 fn library(alloc: Global) -> Result<MemLibrary, AllocError> {
     let mut library = MemLibrary::new(alloc);
-    for (name, text) in &TEXTS {
+    for (name, text) in texts().iter() {
         library.put(name, text)?;
     }
     library.put("deep", &nested(alloc, 128)?)?;
@@ -135,11 +139,15 @@ static ANSWERS: [(&str, u8, &str); 23] = [
     ("spthy prove -", 6, "refused: read fault\n"),
 ];
 
+fn answer_cases() -> &'static [(&'static str, u8, &'static str)] {
+    &ANSWERS
+}
+
 #[test]
 fn answers_have_their_causes(rt: HostRuntime) -> Result<(), Fail> {
     let alloc = rt.alloc();
     let mut library = library(alloc)?;
-    for (line, status, answer) in &ANSWERS {
+    for (line, status, answer) in answer_cases().iter() {
         let words = words_of(alloc, line)?;
         let mut sink = MemSink::new(alloc, 10, 100)?;
         let ended = run(alloc, &words, &mut library, &mut sink);

@@ -249,10 +249,14 @@ static FOUND: [Found; 14] = [
     },
 ];
 
+fn found_cases() -> &'static [Found] {
+    &FOUND
+}
+
 #[test]
 fn executions_are_found_checked_and_replayed(rt: HostRuntime) -> Result<(), Fail> {
     let alloc = rt.alloc();
-    for found in &FOUND {
+    for found in found_cases().iter() {
         let Found {
             rules,
             lemma,

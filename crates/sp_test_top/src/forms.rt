@@ -116,10 +116,14 @@ end of trace
     ),
 ];
 
+fn tried_cases() -> &'static [(&'static str, &'static str, &'static str)] {
+    &TRIED
+}
+
 #[test]
 fn lemmas_over_forms_are_tried(rt: HostRuntime) -> Result<(), Fail> {
     let alloc = rt.alloc();
-    for (rules, lemma, answer) in &TRIED {
+    for (rules, lemma, answer) in tried_cases().iter() {
         let text = format!(in alloc; "theory F begin {rules}{lemma} end")?;
         let words = words_on_text(alloc, "prove")?;
         let mut library = MemLibrary::new(alloc);

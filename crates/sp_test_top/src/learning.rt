@@ -264,29 +264,47 @@ fn assert_protocol(rt: &impl Abort, alloc: Global, protocol: Protocol) -> Result
     Ok(())
 }
 
+static SECRETS: [Protocol; 7] = [CLEAR, ENCRYPTED, REVEALED, KEYED, ECHO, PRIVATE, PUBLIC];
+
+fn secrets() -> &'static [Protocol] {
+    &SECRETS
+}
+
 #[test]
 fn secrets_are_tried(rt: HostRuntime) -> Result<(), Fail> {
     let alloc = rt.alloc();
-    for protocol in [CLEAR, ENCRYPTED, REVEALED, KEYED, ECHO, PRIVATE, PUBLIC] {
-        assert_protocol(&rt, alloc, protocol)?;
+    for protocol in secrets().iter() {
+        assert_protocol(&rt, alloc, *protocol)?;
     }
     Ok(())
+}
+
+static SIGNATURES: [Protocol; 3] = [SIGNED, OPENED, UNOPENED];
+
+fn signatures() -> &'static [Protocol] {
+    &SIGNATURES
 }
 
 #[test]
 fn signatures_and_commitments_are_tried(rt: HostRuntime) -> Result<(), Fail> {
     let alloc = rt.alloc();
-    for protocol in [SIGNED, OPENED, UNOPENED] {
-        assert_protocol(&rt, alloc, protocol)?;
+    for protocol in signatures().iter() {
+        assert_protocol(&rt, alloc, *protocol)?;
     }
     Ok(())
+}
+
+static FIRST_MESSAGES: [Protocol; 2] = [YAHALOM, OTWAY_REES];
+
+fn first_messages() -> &'static [Protocol] {
+    &FIRST_MESSAGES
 }
 
 #[test]
 fn first_messages_are_tried(rt: HostRuntime) -> Result<(), Fail> {
     let alloc = rt.alloc();
-    for protocol in [YAHALOM, OTWAY_REES] {
-        assert_protocol(&rt, alloc, protocol)?;
+    for protocol in first_messages().iter() {
+        assert_protocol(&rt, alloc, *protocol)?;
     }
     Ok(())
 }
@@ -301,10 +319,14 @@ rule Second: [ In(y) ] --[ B(y) ]-> [ ]
     "order (all-traces): analysis incomplete (3 steps)",
 );
 
+fn uncompared() -> (&'static str, &'static str, &'static str) {
+    UNCOMPARED
+}
+
 #[test]
 fn orders_are_left_open(rt: HostRuntime) -> Result<(), Fail> {
     let alloc = rt.alloc();
-    let (items, lemma, line) = UNCOMPARED;
+    let (items, lemma, line) = uncompared();
     let summary = summary_of(&rt, alloc, items, lemma)?;
     assert!(rt; summary.as_str().starts_with(line), "{summary}");
     Ok(())

@@ -32,3 +32,5 @@ mod steps;
 mod symbols;
 #[cfg(test)]
 mod variants;
+#[cfg(test)]
+mod waiting;

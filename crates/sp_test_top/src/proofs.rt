@@ -67,6 +67,10 @@ static CHECKED: [(&str, u8, &str); 13] = [
     ),
 ];
 
+fn checked_cases() -> &'static [(&'static str, u8, &'static str)] {
+    &CHECKED
+}
+
 /// Lemmas before and behind the rule, and more behind the end.
 const MIXED: &str = "theory R begin
 lemma none: exists-trace \"Ex x #i. B(x)@i\"
@@ -146,6 +150,10 @@ simplify simplify by contradiction",
     ),
 ];
 
+fn failing_cases() -> &'static [(&'static str, u8, &'static str)] {
+    &FAILING
+}
+
 /// A proof that ends with a log at a system with an unequal pair that is equal, in which a public constant is learnt: nothing has settled how.
 const LEARNT_CONSTANT: &str = "theory C begin
 rule R: [ ] --[ A('c') ]-> [ ]
@@ -210,10 +218,14 @@ static LOST_VARIABLE_TIMES: [(&str, u8, &str); 2] = [
     ("4", 3, "l (exists-trace): rejected at step 4 (instance)\n"),
 ];
 
+fn lost_variable_cases() -> &'static [(&'static str, u8, &'static str)] {
+    &LOST_VARIABLE_TIMES
+}
+
 #[test]
 fn lost_variables_take_no_number(rt: HostRuntime) -> Result<(), Fail> {
     let alloc = rt.alloc();
-    for (time, status, said) in &LOST_VARIABLE_TIMES {
+    for (time, status, said) in lost_variable_cases().iter() {
         let text = format!(in alloc; "{LOST_VARIABLE} {time} 0 ) case A SOLVED qed qed qed end\n")?;
         assert_answer(&rt, alloc, "check", text.as_str(), *status, said)?;
     }
@@ -237,7 +249,7 @@ fn learnt_constants_are_public(rt: HostRuntime) -> Result<(), Fail> {
 #[test]
 fn proofs_are_checked(rt: HostRuntime) -> Result<(), Fail> {
     let alloc = rt.alloc();
-    for (proof, status, said) in &CHECKED {
+    for (proof, status, said) in checked_cases().iter() {
         let text = format!(in alloc; "{THEORY}{proof}end\n")?;
         let line = format!(in alloc; "once (all-traces): {said}\n")?;
         assert_answer(&rt, alloc, "check", text.as_str(), *status, line.as_str())?;
@@ -248,7 +260,7 @@ fn proofs_are_checked(rt: HostRuntime) -> Result<(), Fail> {
 #[test]
 fn failing_equations_are_simplified(rt: HostRuntime) -> Result<(), Fail> {
     let alloc = rt.alloc();
-    for (lemma, status, said) in &FAILING {
+    for (lemma, status, said) in failing_cases().iter() {
         let text = format!(in alloc; "theory R begin {lemma} end\n")?;
         assert_answer(&rt, alloc, "check", text.as_str(), *status, said)?;
     }

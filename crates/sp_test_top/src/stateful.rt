@@ -127,10 +127,16 @@ rule Get: [ S(x) ] --[ Got(x) ]-> [ ]
     ],
 };
 
+static STATEFUL: [Stateful; 5] = [TOKEN, NO_TOKEN, HANDSHAKE, LOCK, EITHER];
+
+fn stateful_cases() -> &'static [Stateful] {
+    &STATEFUL
+}
+
 #[test]
 fn theories_with_state_are_tried(rt: HostRuntime) -> Result<(), Fail> {
     let alloc = rt.alloc();
-    for stateful in [TOKEN, NO_TOKEN, HANDSHAKE, LOCK, EITHER] {
+    for stateful in stateful_cases().iter() {
         let rules = stateful.rules;
         for (lemma, line) in stateful.lemmas {
             let text = format!(in alloc; "theory T begin\n{rules}lemma {lemma}\nend\n")?;

@@ -47,6 +47,10 @@ static BEHIND_FIRST: [(&str, u8, &str); 14] = [
     ("\nfresh ~n1\nfresh ~n1\njump\n", 4, "refused: line 3\n"),
 ];
 
+fn step_cases() -> &'static [(&'static str, u8, &'static str)] {
+    &BEHIND_FIRST
+}
+
 /// Two secrets are made, and the first of them is used.
 const SECRETS: &str = "theory Secrets begin
 rule Make: [ Fr(~k) ] --[ A(~k), B(~k, 'c') ]-> [ !S(~k) ]
@@ -117,7 +121,7 @@ in 'a'
 #[test]
 fn steps_are_replayed(rt: HostRuntime) -> Result<(), Fail> {
     let alloc = rt.alloc();
-    for (lines, status, answer) in &BEHIND_FIRST {
+    for (lines, status, answer) in step_cases().iter() {
         let text = format!(in alloc; "{FIRST}{lines}")?;
         assert_answer(&rt, alloc, "replay", text.as_str(), *status, answer)?;
     }

@@ -99,10 +99,14 @@ static REPORTED: [(&str, &str); 22] = [
     ),
 ];
 
+fn reported_cases() -> &'static [(&'static str, &'static str)] {
+    &REPORTED
+}
+
 #[test]
 fn findings_are_reported(rt: HostRuntime) -> Result<(), Fail> {
     let alloc = rt.alloc();
-    for (items, report) in &REPORTED {
+    for (items, report) in reported_cases().iter() {
         let text = format!(in alloc; "theory T begin {items} end")?;
         for command in ["prove", "check", "replay"] {
             assert_answer(&rt, alloc, command, text.as_str(), 4, report)?;
@@ -164,10 +168,14 @@ static STEPS: [(&str, u8, &str); 12] = [
     ("pub sdec(senc(~n1, 'b'), 'b')\n", 3, "step 1 refused (5)\n"),
 ];
 
+fn step_cases() -> &'static [(&'static str, u8, &'static str)] {
+    &STEPS
+}
+
 #[test]
 fn steps_with_symbols_are_replayed(rt: HostRuntime) -> Result<(), Fail> {
     let alloc = rt.alloc();
-    for (lines, status, answer) in &STEPS {
+    for (lines, status, answer) in step_cases().iter() {
         let text = format!(in alloc; "{KEYS}{lines}")?;
         assert_answer(&rt, alloc, "replay", text.as_str(), *status, answer)?;
     }
@@ -216,6 +224,10 @@ static PROVED: [(&str, &str); 8] = [
     ),
 ];
 
+fn proved_cases() -> &'static [(&'static str, &'static str)] {
+    &PROVED
+}
+
 const RULES: &str = "builtins: hashing functions: k/0
 rule Make: [ Fr(~x) ] --[ A(h(~x), h(~x)) ]-> [ T(h(~x), <~x, 'c'>) ]
 rule Take: [ T(h(x), <x, y>) ] --[ B(<x, h(x), y>, k) ]-> [ ]
@@ -224,7 +236,7 @@ rule Take: [ T(h(x), <x, y>) ] --[ B(<x, h(x), y>, k) ]-> [ ]
 #[test]
 fn lemmas_over_symbols_are_tried(rt: HostRuntime) -> Result<(), Fail> {
     let alloc = rt.alloc();
-    for (lemma, line) in &PROVED {
+    for (lemma, line) in proved_cases().iter() {
         let text = format!(in alloc; "theory T begin {RULES}{lemma} end")?;
         let words = words_on_text(alloc, "prove")?;
         let mut library = MemLibrary::new(alloc);

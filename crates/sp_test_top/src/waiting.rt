@@ -1,0 +1,146 @@
+// Texts that write what nothing is proved of yet, and rules with bindings. What is listed of rules is worked out by hand.
+
+use crate::calls::assert_answer;
+use std::test::Fail;
+
+/// Items of which nothing is proved yet, without findings.
+static WAITING: [&str; 7] = [
+    "restriction one: \"T\"",
+    "axiom one: \"All x #i. A(x)@i ==> T\"",
+    "lemma one [reuse]: \"T\"",
+    "lemma one [heuristic=s, typing]: \"T\"",
+    "lemma one [use_induction]: \"T\"",
+    "lemma one [hide_lemma=two]: \"T\"",
+    "lemma one: \"All x #i. KU(x)@i ==> T\"",
+];
+
+fn waiting_cases() -> &'static [&'static str] {
+    &WAITING
+}
+
+/// Items with a finding, beside one that waits, and their line.
+static FOUND: [(&str, &str); 3] = [
+    (
+        "restriction one: \"T\" lemma one: \"T\"",
+        "fatal: name one used twice\n",
+    ),
+    (
+        "restriction one: \"All x #i. KU(x)@i ==> T\"",
+        "fatal: restriction one names KU\n",
+    ),
+    (
+        "lemma one [reuse, other]: \"T\"",
+        "fatal: lemma one: attribute left out: other\n",
+    ),
+];
+
+fn found_cases() -> &'static [(&'static str, &'static str)] {
+    &FOUND
+}
+
+/// Items that wait for nothing, and what is answered where no steps are replayed.
+static READY: [(&str, &str); 4] = [
+    ("heuristic: s", "trace:\nend of trace\n"),
+    ("note {* \"restriction\" *}", "trace:\nend of trace\n"),
+    (
+        "lemma one [heuristic=s]: \"T\"",
+        "trace:\nend of trace\none (all-traces): met\n",
+    ),
+    (
+        "lemma KU: \"T\"",
+        "trace:\nend of trace\nKU (all-traces): met\n",
+    ),
+];
+
+fn ready_cases() -> &'static [(&'static str, &'static str)] {
+    &READY
+}
+
+/// Rules, and what is listed of them.
+static RULES: [(&str, &str); 4] = [
+    // the values of a name stand in the facts, whatever its mark
+    (
+        "rule Bound: let x = <a, b> in [ M(a, b) ] --[ A(x) ]-> [ N(x) ]",
+        "rule Bound: 1 forms
+  [ M(v0, v1) ] --[ A(<v0, v1>) ]-> [ N(<v0, v1>) ]
+",
+    ),
+    // from the top down: what stands above stands for the names below, and not the other way round
+    (
+        "rule Down: let x = 'a' y = <x, x> in [ ] --[ A(y) ]-> [ ]",
+        "rule Down: 1 forms
+  [ ] --[ A(<'a', 'a'>) ]-> [ ]
+",
+    ),
+    // the value is put in once: a name of the value is that of the rule
+    (
+        "rule Once: let x = h(x) in [ M(x) ] --> [ ]",
+        "rule Once: 1 forms
+  [ M(h(v0)) ] --[ ]-> [ ]
+",
+    ),
+    // attributes, annotations and a restriction say nothing of rules
+    (
+        "rule (modulo E) Marked [color=#ffffff, [ - ]]: [ M(x)[+, -], N(x)[no_precomp] ] --> [ ] restriction one: \"T\"",
+        "rule Marked: 1 forms
+  [ M(v0), N(v0) ] --[ ]-> [ ]
+",
+    ),
+];
+
+fn rule_cases() -> &'static [(&'static str, &'static str)] {
+    &RULES
+}
+
+#[test]
+fn what_nothing_is_proved_of_is_refused(rt: HostRuntime) -> Result<(), Fail> {
+    let alloc = rt.alloc();
+    for items in waiting_cases().iter() {
+        let text = format!(in alloc; "theory W begin {items} end")?;
+        for command in ["prove", "check", "replay"] {
+            assert_answer(
+                &rt,
+                alloc,
+                command,
+                text.as_str(),
+                4,
+                "refused: text at byte 0\n",
+            )?;
+        }
+        assert_answer(&rt, alloc, "variants", text.as_str(), 0, "")?;
+    }
+    Ok(())
+}
+
+#[test]
+fn findings_are_told_first(rt: HostRuntime) -> Result<(), Fail> {
+    let alloc = rt.alloc();
+    for (items, answer) in found_cases().iter() {
+        let text = format!(in alloc; "theory W begin {items} end")?;
+        for command in ["prove", "check", "replay", "variants"] {
+            assert_answer(&rt, alloc, command, text.as_str(), 4, answer)?;
+        }
+    }
+    Ok(())
+}
+
+#[test]
+fn others_are_answered(rt: HostRuntime) -> Result<(), Fail> {
+    let alloc = rt.alloc();
+    for (items, answer) in ready_cases().iter() {
+        let text = format!(in alloc; "theory W begin {items} end")?;
+        assert_answer(&rt, alloc, "variants", text.as_str(), 0, "")?;
+        assert_answer(&rt, alloc, "replay", text.as_str(), 0, answer)?;
+    }
+    Ok(())
+}
+
+#[test]
+fn bound_names_have_their_values(rt: HostRuntime) -> Result<(), Fail> {
+    let alloc = rt.alloc();
+    for (items, answer) in rule_cases().iter() {
+        let text = format!(in alloc; "theory W begin builtins: hashing {items} end")?;
+        assert_answer(&rt, alloc, "variants", text.as_str(), 0, answer)?;
+    }
+    Ok(())
+}
