@@ -1,14 +1,14 @@
 -- Formulas that are the same are equal, and so have one fingerprint.
 use Rattle.std.proofs.Common.{◌≡◌, ℕ, Bool, true, false, ◌&&◌, List, [], ◌∷◌, refl, sym, ap, ap₂, ◌∙◌}
 use Rattle.std.specs.Str.{bytes_eq}
-use Rattle.std.proofs.lemmas.Bool.{and_parts, and_from, eqb-true, false_from_ne_true}
+use Rattle.std.proofs.lemmas.Bool.{and_parts, eqb-true, false_from_ne_true}
 use Rattle.std.proofs.lemmas.Slice.Eq.{bytes_eq-Decides}
-use Rattle.sp_spec.specs.Term.{Sort, Variable, Term, Terms}
+use Rattle.sp_spec.specs.Term.{Term, Terms}
 use Rattle.sp_spec.specs.Rule.{Action}
 use Rattle.sp_spec.specs.Guarded.{Place, Time, free_time, bound_time, Binder, message, time, Atom, acts, same, same_time, before, last, Guarded, truth, falsity, holds, fails, all_of, one_of, some, every, Guardeds, no_more, and_then}
 use Rattle.sp_spec.specs.Same.{same_sort, same_by, same_all_by}
 use Rattle.sp_spec.specs.SameFormula.{same_place, same_moment, same_binder, same_binders, same_atom, same_atoms, same_formula, same_formulas}
-use Rattle.sp_spec.proofs.Same.{same_variable_decides, same_by_decides, same_all_by_decides}
+use Rattle.sp_spec.proofs.Same.{same_sort_tells, same_by_decides, same_all_by_decides}
 use Rattle.sp_formula.specs.PlaceLaws.{same_place_decides}
 use Rattle.sp_formula.specs.Fingerprint.{fingerprint}
 
@@ -17,14 +17,8 @@ moments (free_time i) (free_time j) e = ap free_time (eqb-true i j e)
 moments (bound_time k) (bound_time l) e = ap bound_time (eqb-true k l e)
 moments i j e = absurd cc
 
--- sorts, as those of variables with one number
-sorts : (s u : Sort) → same_sort s u ≡ true → s ≡ u
-sorts s u e =
-    let of_sort : Sort → Variable = λ r. record { sort = r; number = 0 } in
-    ap (λ (x : Variable). x.sort) ((same_variable_decides (of_sort s) (of_sort u)).0 (and_from _ _ e refl))
-
 binders : (b c : Binder) → same_binder b c ≡ true → b ≡ c
-binders (message s) (message u) e = ap message (sorts s u e)
+binders (message s) (message u) e = ap message (same_sort_tells s u e)
 binders time time e = refl
 binders b c e = absurd cc
 

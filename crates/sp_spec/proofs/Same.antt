@@ -7,7 +7,7 @@ use Rattle.std.specs.Str.{bytes_eq}
 use Rattle.sp_spec.specs.Term.{Sort, Msg, Fresh, Pub, Variable, Term, var, constant, name, app, Terms, none, more, Ground, Grounds}
 use Rattle.sp_spec.specs.Same.{same_sort, same_variable, same_by, same_all_by, no_test, same_term, same_terms, alike}
 
-same_sort_tells : (s u : Sort) → same_sort s u ≡ true → s ≡ u
+pub same_sort_tells : (s u : Sort) → same_sort s u ≡ true → s ≡ u
 same_sort_tells Msg Msg e = refl
 same_sort_tells Msg Fresh e = absurd cc
 same_sort_tells Msg Pub e = absurd cc
