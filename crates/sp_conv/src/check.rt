@@ -12,18 +12,36 @@ use crate::form::{Form, form_of};
 use sp_fact::signature::{Equation, Symbol};
 use sp_term::subst::Subst;
 use std::alloc::{AllocError, Global};
+use std::fmt;
+use thiserror::Error;
 
-/// What comes of the test; places are counted from 0.
+/// What is wrong with the equations; places are counted from 0.
+#[derive(Drop, Error)]
+pub enum EquationFault {
+    /// the first equation that isn't of the form that is asked for
+    #[error("the equation at place {0} is not of the form that is asked for")]
+    WrongShape(usize),
+    /// the first equation whose right side is a constant that is private, where nothing else is wrong with any
+    #[error("the right side of the equation at place {0} is a private constant")]
+    PrivateConstant(usize),
+    /// the first two equations that clash, and the unifier of their left sides, renamed apart
+    #[error("the equations at the places {0} and {1} clash")]
+    Clash(usize, usize, Subst),
+}
+
+impl fmt::Debug for EquationFault {
+    fn fmt<W: fmt::Write>(&self, f: &mut fmt::Formatter<W>) -> fmt::Result {
+        fmt::Display::fmt(self, f)
+    }
+}
+
+/// What comes of the test.
 #[derive(Drop)]
 pub enum Checked {
     /// the equations are accepted
     Accepted,
-    /// the first equation that isn't of the form that is asked for
-    WrongShape(usize),
-    /// the first equation whose right side is a constant that is private, where nothing else is wrong with any
-    PrivateConstant(usize),
-    /// the first two equations that clash, and the unifier of their left sides, renamed apart
-    Clash(usize, usize, Subst),
+    /// they are not, for this fault
+    Faulty(EquationFault),
 }
 
 // The place of the first equation of the form.
@@ -91,14 +109,17 @@ pub fn check_equations(
     ensures { IfOk result (IsVerdictOn (map symbol_of symbols.now.items) (map equation_of equations.now.items)) }
 {
     if let Some(place) = first_of(symbols, equations, Form::WrongShape) {
-        return Ok(Checked::WrongShape(place));
+        return Ok(Checked::Faulty(EquationFault::WrongShape(place)));
     }
     if let Some(place) = first_of(symbols, equations, Form::PrivateConstant) {
-        return Ok(Checked::PrivateConstant(place));
+        return Ok(Checked::Faulty(EquationFault::PrivateConstant(place)));
     }
     let found = first_clash(alloc, equations)?;
     match found {
-        Some((first, second, unifier)) => Ok(Checked::Clash(first, second, unifier)),
+        Some((first, second, unifier)) => {
+            let fault = EquationFault::Clash(first, second, unifier);
+            Ok(Checked::Faulty(fault))
+        }
         None => Ok(Checked::Accepted),
     }
 }

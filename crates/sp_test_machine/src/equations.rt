@@ -1,6 +1,6 @@
 // Which equations are accepted, beside those of pairs: tables whose answers are worked out by hand.
 
-use sp_conv::check::{Checked, check_equations};
+use sp_conv::check::{Checked, EquationFault, check_equations};
 use sp_conv::clash::clash;
 use sp_conv::form::{Form, form_of};
 use sp_fact::signature::Signature;
@@ -29,9 +29,13 @@ fn told(alloc: Global, more: &[&str]) -> Result<String, Fail> {
     }
     let answer = match check_equations(alloc, &symbols, &equations)? {
         Checked::Accepted => format!(in alloc; "accepted"),
-        Checked::WrongShape(place) => format!(in alloc; "shape {place}"),
-        Checked::PrivateConstant(place) => format!(in alloc; "private {place}"),
-        Checked::Clash(first, second, _) => format!(in alloc; "clash {first} {second}"),
+        Checked::Faulty(EquationFault::WrongShape(place)) => format!(in alloc; "shape {place}"),
+        Checked::Faulty(EquationFault::PrivateConstant(place)) => {
+            format!(in alloc; "private {place}")
+        }
+        Checked::Faulty(EquationFault::Clash(first, second, _)) => {
+            format!(in alloc; "clash {first} {second}")
+        }
     };
     Ok(answer?)
 }
