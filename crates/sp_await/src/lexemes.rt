@@ -1,17 +1,16 @@
 // Tests on tokens.
 
 ghost use Rattle.std.specs.Prelude.{◌≡◌, is_some};
-ghost use Rattle.sp_lex.specs.Views.{lexeme_of, sign_of, wide_of};
+ghost use Rattle.sp_lex.specs.Views.{lexeme_of, sign_of};
 ghost use Rattle.sp_await.specs.Keywords as keywords;
 ghost use Rattle.sp_await.specs.Table as spec;
 ghost use Rattle.sp_await.specs.Views.{keyword_of, kind_of};
 ghost use Rattle.sp_spec_text.specs.Names as names;
 ghost use Rattle.sp_spec_text.specs.Numerals as numerals;
-ghost use Rattle.sp_spec_text.specs.Plain as plain_spec;
 ghost use Rattle.sp_spec_text.specs.Proofs as proofs;
 
 use crate::keywords::{Keyword, ListItem, NamedItem, TraceKind};
-use sp_lex::{Lexeme, Sign, Wide};
+use sp_lex::{Lexeme, Sign};
 use sp_read_parts::words::{is_reserved, mark_at, mark_of, names_fact};
 
 fn code(sign: Sign) -> u8
@@ -322,47 +321,5 @@ pub fn keyword<'a>(lexeme: Lexeme<'a>) -> Keyword
         Lexeme::Solve(_) => Keyword::Neither,
         Lexeme::Wide(_) => Keyword::Neither,
         Lexeme::Block => Keyword::Neither,
-    }
-}
-
-/// Whether it is a quote.
-pub fn is_quote<'a>(lexeme: Lexeme<'a>) -> bool
-    ensures { result ≡ plain_spec.is_quote (lexeme_of lexeme.entry) }
-{
-    match lexeme {
-        Lexeme::Sign(Sign::Quote) => true,
-        Lexeme::Sign(_) => false,
-        Lexeme::Word(_) => false,
-        Lexeme::Constant(_) => false,
-        Lexeme::Solve(_) => false,
-        Lexeme::Wide(_) => false,
-        Lexeme::Block => false,
-    }
-}
-
-/// The text beside a sign of logic.
-fn text_beside<'a>(sign: Wide) -> Lexeme<'a>
-    ensures { lexeme_of result ≡ plain_spec.text_beside (wide_of sign) }
-{
-    match sign {
-        Wide::All => Lexeme::Word("All"),
-        Wide::Ex => Lexeme::Word("Ex"),
-        Wide::Both => Lexeme::Sign(Sign::And),
-        Wide::Either => Lexeme::Sign(Sign::Or),
-        Wide::Not => Lexeme::Word("not"),
-        Wide::Then => Lexeme::Sign(Sign::Implies),
-        Wide::Same => Lexeme::Sign(Sign::Iff),
-        Wide::True => Lexeme::Word("T"),
-        Wide::False => Lexeme::Word("F"),
-    }
-}
-
-/// The token as it is read in a formula.
-pub fn plain<'a>(lexeme: Lexeme<'a>) -> Lexeme<'a>
-    ensures { lexeme_of result ≡ plain_spec.plain (lexeme_of lexeme.entry) }
-{
-    match lexeme {
-        Lexeme::Wide(sign) => text_beside(sign),
-        other => other,
     }
 }

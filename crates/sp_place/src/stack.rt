@@ -11,13 +11,14 @@ ghost use Rattle.sp_place.specs.Texts.{Follows, Refuses};
 
 use sp_await::awaited::{Awaited, ItemPart, OneToken};
 use sp_await::lexemes::{
-    is_annotation, is_attribute, is_fact_name, is_name, is_numeral, is_quote, is_sign, is_sort,
-    is_step, is_traces, is_word, plain,
+    is_annotation, is_attribute, is_fact_name, is_name, is_numeral, is_sign, is_sort, is_step,
+    is_traces, is_word,
 };
 use sp_await::moves::{Expansion, Move, single};
 use sp_await_formula::{next_in_formula, next_in_term};
 use sp_await_theory::{next_in_item, next_in_list, next_in_proof, next_in_words};
 use sp_lex::Lexeme;
+use sp_read_parts::quoted::{is_quote, plain};
 use std::alloc::{AllocError, Global};
 
 /// What the token does to a part that is one token.

@@ -1,10 +1,8 @@
 // Reads variables, terms, facts, formulas and the bindings of `let` from tokens; what a rule is in memory stands here too.
 // Below stand sp_spec (what is written), sp_spec_text (the grammar) and sp_lex (tokens); theories are read above (sp_read_theory).
-// Carried here: the promise that texts are read exactly, for the parts of a theory. The grammar is sp_spec_text's (specs/Names.antt,
-// specs/Formulas.antt), and what a reader gives is spelled there by the tokens that it takes; where it gives nothing, no text of the
-// grammar stands there. Terms and facts are read by specs/Parts.antt, formulas as far as they reach (specs/Reading.antt), which before a
-// closing sign is what the grammar says (specs/Closed.antt), bindings by specs/Lets.antt. Behind an opening quote wide signs of logic are
-// read as the text beside them, in a copy of the tokens (quoted).
+// Carried here: the promise that texts are read exactly, for the parts of a theory. What a reader gives is spelled by the tokens that it takes, in
+// the grammar of sp_spec_text; where it gives nothing, no text of the grammar stands there (specs/Parts.antt, Reading.antt, Closed.antt, Lets.antt).
+// Behind an opening quote wide signs of logic are read as the text beside them, in a copy of the tokens (quoted).
 #![tactic(auto)]
 
 mod annotations;
