@@ -4,3 +4,4 @@ pub mod FreshRules
 pub mod Named
 pub mod PlainRules
 pub mod RightTexts
+pub mod RestrictionForms

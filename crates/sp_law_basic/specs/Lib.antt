@@ -1,2 +1,3 @@
 pub mod BasicTheory
 pub mod Laws
+pub mod Restrictions

@@ -1,5 +1,6 @@
 pub mod Executable
 pub mod Traces
+pub mod Restricted
 pub mod Found
 pub mod Sought
 pub mod Learning

@@ -1,11 +1,11 @@
--- A text has the public names of its rules and of its lemmas.
+-- A text has the public names of its rules, of its restrictions and of its lemmas.
 use Rattle.std.proofs.Common.{◌≡◌, ℕ, true, List, [], ◌∷◌, ◌++◌}
 use Rattle.sp_spec.specs.Lists.{Every, Member, is_listed}
 use Rattle.sp_spec.specs.Term.{any_names, Term, var, constant, name, app, Terms, none, more, MadeOf, AllMadeOf, EachVariables}
 use Rattle.sp_spec.specs.Signature.{Signature}
 use Rattle.sp_spec.specs.Formula.{Written, Formula, truth, falsity, happens, equals, precedes, not_so, both, either, implies, for_all, for_some}
 use Rattle.sp_spec.specs.Rule.{Fact, Action}
-use Rattle.sp_spec.specs.Theory.{Lemma, signature_of}
+use Rattle.sp_spec.specs.Theory.{Restriction, Lemma, signature_of}
 use Rattle.sp_spec.specs.Written.{WrittenRule, WrittenTheory, theory_of}
 use Rattle.sp_spec.specs.Constants.{in_term, in_terms, in_facts, in_actions, in_rule, in_rules, in_formula, in_restrictions, in_lemmas, constants_of}
 use Rattle.sp_spec.proofs.Lists.{every_parts, every_member}
@@ -67,18 +67,33 @@ rule_listed : (listed : List (List ℕ)) (rules : List WrittenRule) → AreListe
 rule_listed listed [] k = tt
 rule_listed listed (r ∷ rules) k = let both = every_parts _ (in_rule r) (in_rules rules) k in (both.0, rule_listed listed rules both.1)
 
+restriction_listed : (listed : List (List ℕ)) (restrictions : List Restriction) → AreListed listed (in_restrictions restrictions) → Every (λ (r : Restriction). AreListed listed (in_formula r.formula)) restrictions
+restriction_listed listed [] k = tt
+restriction_listed listed (r ∷ restrictions) k = let both = every_parts _ (in_formula r.formula) (in_restrictions restrictions) k in (both.0, restriction_listed listed restrictions both.1)
+
 lemma_listed : (listed : List (List ℕ)) (lemmas : List Lemma) → AreListed listed (in_lemmas lemmas) → Every (λ (l : Lemma). AreListed listed (in_formula l.formula)) lemmas
 lemma_listed listed [] k = tt
 lemma_listed listed (l ∷ lemmas) k = let both = every_parts _ (in_formula l.formula) (in_lemmas lemmas) k in (both.0, lemma_listed listed lemmas both.1)
 
+-- the names of its rules, and those behind them
+text_listed : (theory : WrittenTheory) → AreListed (constants_of theory) (in_rules theory.rules) × AreListed (constants_of theory) (in_restrictions theory.restrictions ++ in_lemmas theory.lemmas)
+text_listed theory =
+    every_parts _ (in_rules theory.rules) (in_restrictions theory.restrictions ++ in_lemmas theory.lemmas) (all_stand (in_rules theory.rules ++ (in_restrictions theory.restrictions ++ in_lemmas theory.lemmas)) [])
+
+formulas_listed : (theory : WrittenTheory) → AreListed (constants_of theory) (in_restrictions theory.restrictions) × AreListed (constants_of theory) (in_lemmas theory.lemmas)
+formulas_listed theory = every_parts _ (in_restrictions theory.restrictions) (in_lemmas theory.lemmas) (text_listed theory).1
+
 pub rules_listed : (theory : WrittenTheory) → Every (λ (r : WrittenRule). AreListed (constants_of theory) (in_rule r)) theory.rules
-rules_listed theory =
-    rule_listed (constants_of theory) theory.rules
-    (every_parts _ (in_rules theory.rules) (in_restrictions theory.restrictions ++ in_lemmas theory.lemmas) (all_stand (in_rules theory.rules ++ (in_restrictions theory.restrictions ++ in_lemmas theory.lemmas)) [])).0
+rules_listed theory = rule_listed (constants_of theory) theory.rules (text_listed theory).0
+
+pub restriction_has_names : (theory : WrittenTheory) (r : Restriction) → Member r theory.restrictions → IsBasicFormula (signature_of (theory_of theory)) r.formula
+    → HasNames (names_in (constants_of theory)) r.formula
+restriction_has_names theory r member basic =
+    let each = restriction_listed (constants_of theory) theory.restrictions (formulas_listed theory).0 in
+    formula_named (constants_of theory) (signature_of (theory_of theory)) r.formula basic (every_member _ theory.restrictions r member each)
 
 pub lemma_has_names : (theory : WrittenTheory) (lemma : Lemma) → Member lemma theory.lemmas → IsBasicFormula (signature_of (theory_of theory)) lemma.formula
     → HasNames (names_in (constants_of theory)) lemma.formula
 lemma_has_names theory lemma member basic =
-    let behind = (every_parts _ (in_rules theory.rules) (in_restrictions theory.restrictions ++ in_lemmas theory.lemmas) (all_stand (in_rules theory.rules ++ (in_restrictions theory.restrictions ++ in_lemmas theory.lemmas)) [])).1 in
-    let each = lemma_listed (constants_of theory) theory.lemmas (every_parts _ (in_restrictions theory.restrictions) (in_lemmas theory.lemmas) behind).1 in
+    let each = lemma_listed (constants_of theory) theory.lemmas (formulas_listed theory).1 in
     formula_named (constants_of theory) (signature_of (theory_of theory)) lemma.formula basic (every_member _ theory.lemmas lemma member each)

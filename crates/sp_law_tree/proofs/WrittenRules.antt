@@ -13,7 +13,7 @@ use Rattle.sp_law_system.specs.Rules.{RulesAreNumbered}
 use Rattle.sp_spec.specs.Constants.{in_facts, in_actions, in_rule, constants_of}
 use Rattle.sp_spec_system.specs.Numbered.{names_in}
 use Rattle.sp_law_tree.specs.Laws.{NamesStand}
-use Rattle.sp_law_tree.proofs.Listed.{AreListed, facts_made, actions_made, rules_listed, lemma_has_names}
+use Rattle.sp_law_tree.proofs.Listed.{AreListed, facts_made, actions_made, rules_listed, restriction_has_names, lemma_has_names}
 use Rattle.sp_law_basic.specs.BasicTheory.{IsBasicRule}
 
 place_under : (x : List ℕ) (xs : List (List ℕ)) → is_listed x xs ≡ true → place_of x xs < length xs
@@ -49,5 +49,6 @@ each_numbered signature listed (r ∷ rs) p k = (rule_numbered signature listed 
 pub names_stand_lem : NamesStand
 names_stand_lem = record {
   rules = λ theory basic. each_numbered (signature_of (theory_of theory)) (constants_of theory) theory.rules basic (rules_listed theory);
+  restrictions = restriction_has_names;
   lemmas = lemma_has_names;
 }

@@ -1,4 +1,4 @@
--- The rules and the lemmas of a text without findings are basic over its signature, and its equations have normal forms.
+-- The rules, the restrictions and the lemmas of a text without findings are basic over its signature, and its equations have normal forms.
 use Rattle.std.proofs.Common.{◌≡◌, ℕ, false, List, [], ◌∷◌, ◌++◌}
 use Rattle.std.proofs.lemmas.Bool.{or_parts}
 use Rattle.sp_spec.specs.Lists.{Every}
@@ -6,7 +6,7 @@ use Rattle.sp_spec.proofs.Lists.{every_both, every_weaken}
 use Rattle.sp_spec.specs.Signature.{Signature}
 use Rattle.sp_spec.specs.Rule.{Fact}
 use Rattle.sp_spec.specs.Formula.{Written, Formula, truth, falsity, happens, equals, precedes, not_so, both, either, implies, for_all, for_some}
-use Rattle.sp_spec.specs.Theory.{Lemma, signature_of}
+use Rattle.sp_spec.specs.Theory.{Restriction, Lemma, signature_of}
 use Rattle.sp_spec.specs.Written.{WrittenRule, theory_of}
 use Rattle.sp_spec_text.specs.Written.{WrittenText}
 use Rattle.sp_spec_text.specs.Declared.{theory_in}
@@ -17,11 +17,12 @@ use Rattle.sp_law_equal.specs.RightTheory.{IsRightTheory}
 use Rattle.sp_law_conv.specs.Laws.{HaveOneArity}
 use Rattle.sp_law_conv.proofs.Convergent.{convergence_law}
 use Rattle.sp_law_basic.specs.BasicTheory.{AreBasicTerms, IsBasicRule, IsBasicFormula}
+use Rattle.sp_law_basic.specs.Restrictions.{IsBasicRestriction}
 use Rattle.sp_law_basic.proofs.RightTexts.{texts_are_right_lem}
 use Rattle.sp_finding.specs.TermFindings.{unknown_in, unknown_in_all, has_destructor, have_destructor}
 use Rattle.sp_wf_rules.specs.RuleFindings.{unknown_in_facts, unknown_in_actions, facts_have_destructor}
 use Rattle.sp_wf_formulas.specs.FormulaFindings.{unknown_in_formula, formula_has_destructor}
-use Rattle.sp_wf.specs.Laws.{IsFineRule, IsFineLemma}
+use Rattle.sp_wf.specs.Laws.{IsFineRule, IsFineLemma, IsFineRestriction}
 use Rattle.sp_pose.specs.Problem.{Poses}
 use Rattle.sp_pose.proofs.Known.{facts_over, actions_over}
 use Rattle.sp_pose.proofs.OneArity.{have_one_arity}
@@ -79,6 +80,13 @@ module _ (s : Signature) (one : HaveOneArity s.symbols) (over : EquationsAreOver
   lemmas_basic [] h fine = tt
   lemmas_basic (l ∷ ls) h fine = (formula_basic l.formula h.0 fine.0.known fine.0.plain, lemmas_basic ls h.1 fine.1)
 
+  restrictions_basic : (rs : List Restriction) → Every (λ (r : Restriction). IsSpelledFormula r.formula) rs → Every (IsFineRestriction s.symbols s.equations) rs → Every (IsBasicRestriction s) rs
+  restrictions_basic [] h fine = tt
+  restrictions_basic (r ∷ rs) h fine = (
+    record { basic = formula_basic r.formula h.0 fine.0.fine.known fine.0.fine.plain; form = fine.0.fine.form.0; form_is = fine.0.fine.form.1; unlearnt = fine.0.silent },
+    restrictions_basic rs h.1 fine.1,
+  )
+
 abbrev signature_in : WrittenText → Signature
 signature_in t = signature_of (theory_of (theory_in t))
 
@@ -89,6 +97,11 @@ normal_forms {t = t} p =
 
 pub lemmas_are_basic : {text : List ℕ} {t : WrittenText} → Poses text t → Every (λ (l : Lemma). IsBasicFormula (signature_of (theory_of (theory_in t))) l.formula) (theory_in t).lemmas
 lemmas_are_basic {t = t} p = lemmas_basic (signature_in t) (have_one_arity t.items) p.fine.over p.fine.accepted (theory_in t).lemmas (theory_spelled p.says.spells).lemmas_are p.fine.lemmas
+
+-- each restriction has a guarded form too, and doesn't speak of learning
+pub restrictions_are_basic : {text : List ℕ} {t : WrittenText} → Poses text t → Every (IsBasicRestriction (signature_of (theory_of (theory_in t)))) (theory_in t).restrictions
+restrictions_are_basic {t = t} p =
+    restrictions_basic (signature_in t) (have_one_arity t.items) p.fine.over p.fine.accepted (theory_in t).restrictions (theory_spelled p.says.spells).restrictions_are p.fine.restrictions
 
 -- destructors may stand in actions and conclusions
 pub rules_are_basic : {text : List ℕ} {t : WrittenText} → Poses text t → Every (IsBasicRule (signature_of (theory_of (theory_in t)))) (theory_in t).rules

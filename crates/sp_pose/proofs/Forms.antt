@@ -1,8 +1,10 @@
--- Lemmas that were read, and their guarded forms.
-use Rattle.std.proofs.Common.{◌≡◌, ℕ, List, [], ◌∷◌, map, Option, Some, None, option_map, option_and_then, refl, sym, ap, ◌∙◌}
-use Rattle.sp_spec.specs.Theory.{Lemma}
+-- Lemmas and restrictions that were read, and their guarded forms.
+use Rattle.std.proofs.Common.{◌≡◌, ℕ, List, [], ◌∷◌, ◌++◌, map, Option, Some, None, option_map, option_and_then, refl, sym, ap, ap₂, ◌∙◌}
+use Rattle.std.proofs.lemmas.List.{map-append}
+use Rattle.sp_spec.specs.Theory.{Restriction, Lemma}
 use Rattle.sp_spec.specs.Guarded.{Guarded}
 use Rattle.sp_law_guard.specs.CheckedForm.{checked_form}
+use Rattle.sp_law_basic.specs.Restrictions.{form_in, restriction_forms}
 use Rattle.sp_read_parts.specs.Formulas.{formula}
 use Rattle.sp_spec_text.specs.Written.{WrittenText, lemmas_in}
 use Rattle.sp_spec_text.specs.Declared.{theory_in}
@@ -10,6 +12,7 @@ use Rattle.sp_written.specs.Views as view
 use Rattle.sp_written.specs.declared.theory.Item.{Item}
 use Rattle.sp_written.specs.declared.theory.Item.TheVariants as i
 use Rattle.sp_written.specs.declared.theory.WrittenLemma.{WrittenLemma}
+use Rattle.sp_pose.specs.Required.{Required, required_by, all_required}
 use Rattle.sp_pose.specs.Asked.{Asked, asked_with, lemmas_read, all_asked}
 use Rattle.sp_pose.specs.Posed.{IsPosedBy}
 use Rattle.sp_pose.specs.declared.problem.Problem.{Problem}
@@ -56,3 +59,16 @@ lemmas_same (i.Lemma l ∷ xs) = ap (λ (ls : List Lemma). view.lemma l ∷ ls) 
 -- the lemmas in memory are those that the text says
 pub lemmas_said : {text : List ℕ} (p : Problem) (posed : IsPosedBy text p) → (theory_in posed.said).lemmas ≡ map view.lemma (lemmas_read posed.theory.items.items)
 lemmas_said p posed = ap (λ (t : WrittenText). lemmas_in t.items) (sym posed.resolved_is) ∙ lemmas_same posed.theory.items.items
+
+-- ---- restrictions
+
+-- their guarded forms
+pub required_forms : (rs : List Restriction) → map (λ (q : Required). q.form) (all_required rs) ≡ restriction_forms rs
+required_forms [] = refl
+required_forms (r ∷ rs) =
+    map-append (λ (q : Required). q.form) (required_by r.name (checked_form r.formula)) (all_required rs)
+    ∙ ap₂ (λ (gs hs : List Guarded). gs ++ hs) (one_form r.name (checked_form r.formula)) (required_forms rs)
+  where
+    one_form : (name : List ℕ) (o : Option Guarded) → map (λ (q : Required). q.form) (required_by name o) ≡ form_in o
+    one_form name None = refl
+    one_form name (Some g) = refl

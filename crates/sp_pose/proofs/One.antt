@@ -1,7 +1,7 @@
 -- A text is reported on in one way, and isn't posed then; and it waits or doesn't.
 use Rattle.std.proofs.Common.{◌≡◌, ℕ, false, List, sym, ap, ◌∙◌, subst, true≢false}
 use Rattle.sp_spec_text.specs.Written.{WrittenText}
-use Rattle.sp_spec_text.specs.Waiting.{waits}
+use Rattle.sp_pose.specs.Waiting.{waits}
 use Rattle.sp_read_theory.proofs.Whole.{text_one}
 use Rattle.sp_place.specs.Refused.{IsRefusedAt}
 use Rattle.sp_wf.specs.Report.{report}

@@ -10,8 +10,8 @@ use Rattle.sp_declared.specs.WrittenRules.{rules_written}
 use Rattle.sp_declared.proofs.WrittenRules.{rules_all}
 use Rattle.sp_declared.proofs.Theory.{theory_constants}
 use Rattle.sp_spec_text.specs.Written as written
-use Rattle.sp_spec_text.specs.Written.{WrittenText, lemmas_in}
-use Rattle.sp_spec_text.specs.Waiting.{waits}
+use Rattle.sp_spec_text.specs.Written.{WrittenText, restrictions_in, lemmas_in}
+use Rattle.sp_pose.specs.Waiting.{waits}
 use Rattle.sp_spec_text.specs.Declared.{all_symbols, resolved_item, resolved, Numbered, all_equations, their_equations, theory_in}
 use Rattle.sp_spec_text.specs.Spans.{Span, Rise}
 use Rattle.sp_written.specs.Views as view
@@ -24,6 +24,7 @@ use Rattle.sp_wf.specs.Laws.{IsFineLemma}
 use Rattle.sp_wf_rules.specs.BindingFindings.{BoundNames, bound_in}
 use Rattle.sp_wf.proofs.ReportClean.{HasForm, report_is_right}
 use Rattle.sp_pose.specs.Problem.{Poses, IsReported}
+use Rattle.sp_pose.specs.Required.{all_required}
 use Rattle.sp_pose.specs.Asked.{Asked, asked_with, lemmas_read, all_asked}
 use Rattle.sp_pose.specs.Posed.{IsMadeOf, IsPosedBy}
 use Rattle.sp_pose.specs.declared.problem.Problem.{Problem}
@@ -115,6 +116,7 @@ made {text = text} t read theory s waiting p posing is over spans end places ris
       signature_is = h.signature_is ∙ over;
       rules_are = h.rules_are ∙ ap (λ (xs : List written.Item). map rule_of (rules_written xs)) items ∙ ap (λ (rs : List WrittenRule). map rule_of rs) (rules_all t);
       constants_are = h.constants_are ∙ theory_constants t (view.items theory.items.items) items;
+      restrictions_are = h.restrictions_are ∙ ap (λ (xs : List written.Item). all_required (restrictions_in xs)) items;
       lemmas_are = h.lemmas_are;
       waits_is = h.waits_is ∙ w;
       places_are = subst (λ (ss : List Span). ArePlaces text t ss p.behind_end) (sym spans) (subst (ArePlaces text t (view.spans read.items.items)) (sym behind) places);

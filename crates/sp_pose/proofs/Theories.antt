@@ -1,4 +1,4 @@
--- A text without findings has basic rules and lemmas: what the grammar spells has no fresh names, also with the values of bound names, and the findings
+-- A text without findings has basic rules, restrictions and lemmas: what the grammar spells has no fresh names, also with the values of bound names, and the findings
 -- tell of symbols that aren't there and of destructors.
 use Rattle.std.proofs.Common.{ℕ, Bool, true, false, if◌then◌else◌, List, [], ◌∷◌, map, not, ◌&&◌}
 use Rattle.sp_spec.specs.Lists.{Every, is_listed}
@@ -6,17 +6,17 @@ use Rattle.sp_spec.specs.Term.{MadeOf, AllMadeOf, Term, var, Terms, app, none, v
 use Rattle.sp_spec.specs.Signature.{Symbol}
 use Rattle.sp_spec.specs.Rule.{Fact, Action, FactsMadeOf}
 use Rattle.sp_spec.specs.Formula.{Written, Formula, truth, falsity, happens, equals, precedes, not_so, both, either, implies, for_all, for_some}
-use Rattle.sp_spec.specs.Theory.{Lemma}
+use Rattle.sp_spec.specs.Theory.{Restriction, Lemma}
 use Rattle.sp_spec.specs.Written.{WrittenRule}
 use Rattle.sp_spec_text.specs.Token.{Lexeme}
 use Rattle.sp_spec_text.specs.Signs.{Sign}
 use Rattle.sp_spec_text.specs.Bindings.{Binding, value_by, whole, with_values}
 use Rattle.sp_spec_text.proofs.Valued.{IsBoundSo, values_so}
-use Rattle.sp_spec_text.specs.Written.{Attribute, Item, WrittenText, rules_in, lemmas_in}
+use Rattle.sp_spec_text.specs.Written.{Attribute, Item, WrittenText, rules_in, restrictions_in, lemmas_in}
 use Rattle.sp_spec_text.specs.Declared.{is_bare, is_constant, resolved_name, resolved_term, resolved_formula, resolved_rule, resolved_item, all_symbols, theory_in}
 use Rattle.sp_spec_text.specs.Shapes.{action_of, quantified}
 use Rattle.sp_spec_text.specs.Formulas.{SpellsTerm, fixed, variable, brackets, tuple, application, braced, SpellsTuple, last_part, next_part, SpellsArguments, no_argument, some_arguments, SpellsTerms, last_term, next_term, SpellsFact, linear, persistent, quantified_some, SpellsUnit, bracketed, every, there_is, true_unit, false_unit, action, equation, order, SpellsNegation, unit_alone, negated, SpellsConjunction, conjunction, SpellsAnds, no_more_and, and_then, SpellsDisjunction, disjunction, SpellsOrs, no_more_or, or_then, SpellsImplication, alone, implication, SpellsFormula, one, two, SpellsReach, reach_one, reach_two}
-use Rattle.sp_spec_text.specs.Theories.{SpellsFacts, facts, SpellsArrow, unlabelled, labelled, SpellsBinding, binding, SpellsBindings, last_binding, next_binding, SpellsLet, no_let, let_in, SpellsRule, rule, SpellsLemma, lemma, SpellsDeclaration, builtins, functions, equations, heuristic, text_block, a_rule, a_restriction, SpellsItems, no_item, declaration_first, lemma_first, SpellsTheory, theory}
+use Rattle.sp_spec_text.specs.Theories.{SpellsFacts, facts, SpellsArrow, unlabelled, labelled, SpellsBinding, binding, SpellsBindings, last_binding, next_binding, SpellsLet, no_let, let_in, SpellsRule, rule, SpellsRestriction, restriction, SpellsLemma, lemma, SpellsDeclaration, builtins, functions, equations, heuristic, text_block, a_rule, a_restriction, SpellsItems, no_item, declaration_first, lemma_first, SpellsTheory, theory}
 use Rattle.sp_law_equal.specs.RightTheory.{no_fresh_names}
 use Rattle.sp_law_equal.proofs.Made.{each_valued, each_valued_all, facts_valued}
 use Rattle.sp_pose.proofs.Named.{every_item}
@@ -171,6 +171,9 @@ mutual
       let b = implication_spelled g in
       ((a, b), (b, a))
 
+restriction_spelled : {r : Restriction} {tokens rest : List Lexeme} → SpellsRestriction tokens r rest → IsSpelledFormula r.formula
+restriction_spelled (restriction word named f) = formula_spelled f
+
 lemma_spelled : {l : Lemma} {each : List Attribute} {tokens rest : List Lexeme} → SpellsLemma tokens l each rest → IsSpelledFormula l.formula
 lemma_spelled (lemma named attributes kind f) = formula_spelled f
 
@@ -203,30 +206,32 @@ module _ (symbols : List Symbol) where
   rule_kept : (r : WrittenRule) → IsSpelledRule r → IsSpelledRule (resolved_rule symbols r)
   rule_kept r h = facts_valued no_fresh_names (λ x. Unit {0}) (λ x. Unit {0}) (resolved_name symbols []) (λ x u. name_kept [] x) r.facts h
 
--- the rules and the lemmas of a theory
-pub record AreSpelled (rules : List WrittenRule) (lemmas : List Lemma) : Type 0 where
+-- the rules, the restrictions and the lemmas of a theory
+pub record AreSpelled (rules : List WrittenRule) (restrictions : List Restriction) (lemmas : List Lemma) : Type 0 where
   pub rules_are : Every IsSpelledRule rules
+  pub restrictions_are : Every (λ (r : Restriction). IsSpelledFormula r.formula) restrictions
   pub lemmas_are : Every (λ (l : Lemma). IsSpelledFormula l.formula) lemmas
 
 module _ (symbols : List Symbol) where
   abbrev AreKept : List Item → Type 0
-  AreKept items = AreSpelled (rules_in (map (resolved_item symbols) items)) (lemmas_in (map (resolved_item symbols) items))
+  AreKept items = AreSpelled (rules_in (map (resolved_item symbols) items)) (restrictions_in (map (resolved_item symbols) items)) (lemmas_in (map (resolved_item symbols) items))
 
   declaration_kept : {x : Item} {tokens rest : List Lexeme} (items : List Item) → SpellsDeclaration tokens x rest → AreKept items → AreKept (x ∷ items)
-  declaration_kept items (builtins bs) m = record { rules_are = m.rules_are; lemmas_are = m.lemmas_are }
-  declaration_kept items (functions fs) m = record { rules_are = m.rules_are; lemmas_are = m.lemmas_are }
-  declaration_kept items (equations es) m = record { rules_are = m.rules_are; lemmas_are = m.lemmas_are }
-  declaration_kept items (heuristic ws) m = record { rules_are = m.rules_are; lemmas_are = m.lemmas_are }
-  declaration_kept items (text_block w) m = record { rules_are = m.rules_are; lemmas_are = m.lemmas_are }
-  declaration_kept items (a_rule {bs = bs} {r = r} h) m = record { rules_are = (rule_kept symbols (with_values bs r) (rule_spelled h), m.rules_are); lemmas_are = m.lemmas_are }
-  declaration_kept items (a_restriction h) m = record { rules_are = m.rules_are; lemmas_are = m.lemmas_are }
+  declaration_kept items (builtins bs) m = record { rules_are = m.rules_are; restrictions_are = m.restrictions_are; lemmas_are = m.lemmas_are }
+  declaration_kept items (functions fs) m = record { rules_are = m.rules_are; restrictions_are = m.restrictions_are; lemmas_are = m.lemmas_are }
+  declaration_kept items (equations es) m = record { rules_are = m.rules_are; restrictions_are = m.restrictions_are; lemmas_are = m.lemmas_are }
+  declaration_kept items (heuristic ws) m = record { rules_are = m.rules_are; restrictions_are = m.restrictions_are; lemmas_are = m.lemmas_are }
+  declaration_kept items (text_block w) m = record { rules_are = m.rules_are; restrictions_are = m.restrictions_are; lemmas_are = m.lemmas_are }
+  declaration_kept items (a_rule {bs = bs} {r = r} h) m = record { rules_are = (rule_kept symbols (with_values bs r) (rule_spelled h), m.rules_are); restrictions_are = m.restrictions_are; lemmas_are = m.lemmas_are }
+  declaration_kept items (a_restriction {r = r} h) m =
+      record { rules_are = m.rules_are; restrictions_are = (formula_kept symbols [] r.formula (restriction_spelled h), m.restrictions_are); lemmas_are = m.lemmas_are }
 
   items_kept : {items : List Item} {tokens rest : List Lexeme} → SpellsItems tokens items rest → AreKept items
-  items_kept no_item = record { rules_are = tt; lemmas_are = tt }
+  items_kept no_item = record { rules_are = tt; restrictions_are = tt; lemmas_are = tt }
   items_kept (declaration_first {items = items} d later) = declaration_kept items d (items_kept later)
   items_kept (lemma_first {l = l} h p later) =
       let m = items_kept later in
-      record { rules_are = m.rules_are; lemmas_are = (formula_kept symbols [] l.formula (lemma_spelled h), m.lemmas_are) }
+      record { rules_are = m.rules_are; restrictions_are = m.restrictions_are; lemmas_are = (formula_kept symbols [] l.formula (lemma_spelled h), m.lemmas_are) }
 
-pub theory_spelled : {tokens : List Lexeme} {t : WrittenText} → SpellsTheory tokens t → AreSpelled (theory_in t).rules (theory_in t).lemmas
+pub theory_spelled : {tokens : List Lexeme} {t : WrittenText} → SpellsTheory tokens t → AreSpelled (theory_in t).rules (theory_in t).restrictions (theory_in t).lemmas
 theory_spelled (theory {items = items} named h) = items_kept (all_symbols items) h

@@ -1,4 +1,4 @@
--- A text that doesn't wait has no restrictions, and none of its lemmas names learning.
+-- None of the lemmas of a text that doesn't wait names learning.
 use Rattle.std.proofs.Common.{◌≡◌, ℕ, Bool, true, false, ◌||◌, List, [], ◌∷◌, map, refl, sym, ap₂, ◌∙◌}
 use Rattle.std.specs.List.{list_any}
 use Rattle.std.proofs.lemmas.Bool.{or_parts}
@@ -7,8 +7,8 @@ use Rattle.sp_spec.specs.Signature.{Symbol}
 use Rattle.sp_spec.specs.Formula.{Formula, truth, falsity, happens, equals, precedes, not_so, both, either, implies, for_all, for_some}
 use Rattle.sp_spec.specs.Theory.{Lemma}
 use Rattle.sp_spec.specs.Verdict.{names_learning}
-use Rattle.sp_spec_text.specs.Waiting.{attribute_waits, item_waits, waits}
-use Rattle.sp_spec_text.specs.Written.{Item, builtins_item, functions_item, equations_item, heuristic_item, block_item, rule_item, restriction_item, lemma_item, WrittenText, restrictions_in, lemmas_in}
+use Rattle.sp_pose.specs.Waiting.{attribute_waits, item_waits, waits}
+use Rattle.sp_spec_text.specs.Written.{Item, builtins_item, functions_item, equations_item, heuristic_item, block_item, rule_item, restriction_item, lemma_item, WrittenText, lemmas_in}
 use Rattle.sp_spec_text.specs.Declared.{all_symbols, resolved_formula, resolved_item, theory_in}
 use Rattle.sp_pose.specs.Problem.{IsWaiting}
 use Rattle.sp_pose.specs.Posed.{IsPosedBy}
@@ -36,18 +36,6 @@ module _ (symbols : List Symbol) where
   learning_kept bound (for_all x f) = learning_kept (x.name ∷ bound) f
   learning_kept bound (for_some x f) = learning_kept (x.name ∷ bound) f
 
-  unrestricted_in : (xs : List Item) → list_any item_waits xs ≡ false → restrictions_in (map (resolved_item symbols) xs) ≡ []
-  unrestricted_in [] e = refl
-  unrestricted_in (builtins_item bs ∷ xs) e = unrestricted_in xs e
-  unrestricted_in (functions_item ss ∷ xs) e = unrestricted_in xs e
-  unrestricted_in (equations_item es ∷ xs) e = unrestricted_in xs e
-  unrestricted_in (heuristic_item ws ∷ xs) e = unrestricted_in xs e
-  unrestricted_in (block_item w ∷ xs) e = unrestricted_in xs e
-  unrestricted_in (rule_item bs r ∷ xs) e = unrestricted_in xs e
-  unrestricted_in (restriction_item r ∷ xs) e = absurd cc
-  unrestricted_in (lemma_item l as' p ∷ xs) e =
-      unrestricted_in xs (or_parts (names_learning l.formula || list_any attribute_waits as') (list_any item_waits xs) e).1
-
   unlearnt_in : (xs : List Item) → list_any item_waits xs ≡ false → Every (λ (l : Lemma). names_learning l.formula ≡ false) (lemmas_in (map (resolved_item symbols) xs))
   unlearnt_in [] e = tt
   unlearnt_in (builtins_item bs ∷ xs) e = unlearnt_in xs e
@@ -56,13 +44,10 @@ module _ (symbols : List Symbol) where
   unlearnt_in (heuristic_item ws ∷ xs) e = unlearnt_in xs e
   unlearnt_in (block_item w ∷ xs) e = unlearnt_in xs e
   unlearnt_in (rule_item bs r ∷ xs) e = unlearnt_in xs e
-  unlearnt_in (restriction_item r ∷ xs) e = absurd cc
+  unlearnt_in (restriction_item r ∷ xs) e = unlearnt_in xs e
   unlearnt_in (lemma_item l as' p ∷ xs) e =
       let parts = or_parts (names_learning l.formula || list_any attribute_waits as') (list_any item_waits xs) e in
       (learning_kept [] l.formula ∙ (or_parts (names_learning l.formula) (list_any attribute_waits as') parts.0).0, unlearnt_in xs parts.1)
-
-pub unrestricted : (t : WrittenText) → waits t ≡ false → (theory_in t).restrictions ≡ []
-unrestricted t e = unrestricted_in (all_symbols t.items) t.items e
 
 pub lemmas_unlearnt : (t : WrittenText) → waits t ≡ false → Every (λ (l : Lemma). names_learning l.formula ≡ false) (theory_in t).lemmas
 lemmas_unlearnt t e = unlearnt_in (all_symbols t.items) t.items e

@@ -5,7 +5,7 @@ use Rattle.sp_spec.specs.Guarded.{Guarded}
 use Rattle.sp_law_guard.specs.CheckedForm.{checked_form}
 use Rattle.sp_formula.specs.FormulaView.{formula_of}
 use Rattle.sp_read_parts.specs.Formulas.{formula}
-use Rattle.sp_spec_text.specs.Written.{WrittenProof}
+use Rattle.sp_spec_text.specs.Written.{Attribute, WrittenProof}
 use Rattle.sp_written.specs.Views as view
 use Rattle.sp_spec_text.specs.Spans.{Span}
 use Rattle.sp_written.specs.declared.theory.Item.{Item}
@@ -13,20 +13,21 @@ use Rattle.sp_written.specs.declared.theory.Item.TheVariants as i
 use Rattle.sp_written.specs.declared.theory.WrittenLemma.{WrittenLemma}
 use Rattle.sp_pose.specs.declared.problem.GuardedLemma.{GuardedLemma}
 
--- a lemma by its guarded form, with its proof and where that stands
+-- a lemma by its guarded form, with its attributes, its proof and where that stands
 pub record Asked : Type 0 where
   pub name : List ℕ
   pub kind : TraceKind
+  pub attributes : List Attribute
   pub form : Guarded
   pub proof : Option WrittenProof
   pub span : Span
 
 abbrev pub asked_of : GuardedLemma → Asked
-asked_of l = record { name = l.name.now; kind = view.kind l.kind; form = formula_of l.form; proof = option_map view.proof l.proof; span = view.span_of l.span }
+asked_of l = record { name = l.name.now; kind = view.kind l.kind; attributes = view.attributes l.attributes.items; form = formula_of l.form; proof = option_map view.proof l.proof; span = view.span_of l.span }
 
 -- a lemma that was read, with this guarded form
 abbrev pub asked_with : WrittenLemma → Guarded → Asked
-asked_with l g = record { name = l.name.now; kind = view.kind l.kind; form = g; proof = option_map view.proof l.proof; span = view.span_of l.span }
+asked_with l g = record { name = l.name.now; kind = view.kind l.kind; attributes = view.attributes l.attributes.items; form = g; proof = option_map view.proof l.proof; span = view.span_of l.span }
 
 -- the lemmas among the items that were read
 abbrev pub lemmas_read : List Item → List WrittenLemma

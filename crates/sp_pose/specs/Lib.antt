@@ -1,4 +1,6 @@
+pub mod Waiting
 pub mod Problem
+pub mod Required
 pub mod Asked
 pub mod Posed
 pub mod Numbering

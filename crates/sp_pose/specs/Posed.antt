@@ -9,8 +9,8 @@ use Rattle.sp_fact.specs.View as memory
 use Rattle.sp_spec.specs.Constants.{constants_of}
 use Rattle.sp_declared.specs.Constants.{constants_in}
 use Rattle.sp_declared.specs.WrittenRules.{rules_written}
-use Rattle.sp_spec_text.specs.Written.{WrittenText}
-use Rattle.sp_spec_text.specs.Waiting.{waits}
+use Rattle.sp_spec_text.specs.Written.{WrittenText, restrictions_in}
+use Rattle.sp_pose.specs.Waiting.{waits}
 use Rattle.sp_spec_text.specs.Declared.{resolved, theory_in}
 use Rattle.sp_written.specs.Views as view
 use Rattle.sp_written.specs.declared.theory.ReadTheory.{ReadTheory}
@@ -18,6 +18,7 @@ use Rattle.sp_spec_text.specs.Spans.{Rise}
 use Rattle.sp_spec_text.specs.Texts.{ArePlaces}
 use Rattle.sp_place.specs.Refused.{IsRefusedAt}
 use Rattle.sp_pose.specs.Problem.{Poses, IsReported}
+use Rattle.sp_pose.specs.Required.{required_of, all_required}
 use Rattle.sp_pose.specs.Asked.{asked_of, lemmas_read, all_asked}
 use Rattle.sp_pose.specs.declared.problem.Problem.{Problem}
 use Rattle.sp_pose.specs.declared.problem.Read.{Read}
@@ -28,11 +29,12 @@ pub record IsMadeOf (s : Signature) (waiting : Bool) (theory : ReadTheory) (p : 
   pub signature_is : signature_of p.signature ≡ s
   pub rules_are : map memory.rule_of p.rules.items ≡ map rule_of (rules_written (view.items theory.items.items))
   pub constants_are : map name_of p.constants.items ≡ constants_in (view.items theory.items.items)
+  pub restrictions_are : map required_of p.restrictions.items ≡ all_required (restrictions_in (view.items theory.items.items))
   pub lemmas_are : all_asked (lemmas_read theory.items.items) ≡ Some (map asked_of p.lemmas.items)
   pub waits_is : p.waits ≡ waiting
   pub end_is : p.behind_end ≡ theory.behind_end
 
--- It is what the text poses: the signature, the rules and the public names of the theory that the text says, its lemmas with their guarded forms, and whether
+-- It is what the text poses: the signature, the rules and the public names of the theory that the text says, its restrictions and its lemmas with their guarded forms, and whether
 -- it writes what nothing is proved of yet. The theory in memory is that of the text with what its names stand for.
 pub record IsPosedBy (text : List ℕ) (p : Problem) : Type 0 where
   pub said : WrittenText
@@ -42,6 +44,7 @@ pub record IsPosedBy (text : List ℕ) (p : Problem) : Type 0 where
   pub signature_is : signature_of p.signature ≡ spec.signature_of (theory_of (theory_in said))
   pub rules_are : map memory.rule_of p.rules.items ≡ (theory_of (theory_in said)).rules
   pub constants_are : map name_of p.constants.items ≡ constants_of (theory_in said)
+  pub restrictions_are : map required_of p.restrictions.items ≡ all_required (theory_in said).restrictions
   pub lemmas_are : all_asked (lemmas_read theory.items.items) ≡ Some (map asked_of p.lemmas.items)
   pub waits_is : p.waits ≡ waits said
   pub places_are : ArePlaces text said (view.spans theory.items.items) p.behind_end

@@ -1,7 +1,7 @@
 -- What a text sets out to prove.
 use Rattle.std.specs.Prelude.{◌≡◌, List, ℕ, true}
 use Rattle.sp_spec_text.specs.Written.{WrittenText}
-use Rattle.sp_spec_text.specs.Waiting.{waits}
+use Rattle.sp_pose.specs.Waiting.{waits}
 use Rattle.sp_spec_text.specs.Texts.{IsTextOf}
 use Rattle.sp_wf.specs.Report.{report}
 use Rattle.sp_wf.specs.Laws.{IsWellFormed}

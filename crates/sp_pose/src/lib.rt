@@ -1,8 +1,9 @@
-// What a text sets out to prove: it is read, and its rules and lemmas are looked at.
+// What a text sets out to prove: it is read, and its rules, restrictions and lemmas are looked at.
 // Below stand the reader (sp_read_theory), the place of what it refuses (sp_place), what its names stand for (sp_declared, sp_resolved), findings (sp_wf), guarded
 // forms (sp_guard) and rules in memory (sp_fact); above stand what is proved and checked (sp_analysis) and what is replayed (sp_replay).
 // Carried here: the promise that a text is refused at its place, or reported on by its findings, or that its rules, with their variables numbered, public
-// names and lemmas are those that it says, each lemma by its guarded form; and that it waits exactly where it writes what nothing is proved of yet.
+// names, restrictions and lemmas are those that it says, restrictions and lemmas by their guarded forms; and that it waits exactly where it writes what nothing
+// is proved of yet.
 #![tactic(auto)]
 
 mod kind;
@@ -13,5 +14,5 @@ mod waiting;
 
 pub use kind::kind_text;
 pub use numbering::numbered;
-pub use problem::{GuardedLemma, Problem, Read, posed_by};
+pub use problem::{GuardedLemma, GuardedRestriction, Problem, Read, posed_by};
 pub use reply::Reply;

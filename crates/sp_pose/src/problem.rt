@@ -4,11 +4,13 @@ ghost use Rattle.std.specs.Prelude.{◌≡◌, ◌∷◌, [], ◌++◌, Some, No
 ghost use Rattle.sp_spec.specs.Written as written;
 ghost use Rattle.sp_fact.specs.View.{rule_of};
 ghost use Rattle.sp_declared.specs.WrittenRules.{rules_written};
+ghost use Rattle.sp_spec_text.specs.Written.{restrictions_in};
 ghost use Rattle.sp_written.specs.Views as view;
 ghost use Rattle.sp_formula.specs.FormulaView.{formula_of};
 ghost use Rattle.sp_law_guard.specs.CheckedForm as guard;
 ghost use Rattle.sp_read_parts.specs.Formulas.{formula};
 ghost use Rattle.sp_pose.specs.Asked.{asked_of, asked_with, asked_then, lemmas_read, all_asked};
+ghost use Rattle.sp_pose.specs.Required.{required_of, required_by, all_required};
 ghost use Rattle.sp_fact.specs.GroundView.{signature_of};
 ghost use Rattle.sp_pose.specs.Posed.{IsRead, IsMadeOf};
 
@@ -28,8 +30,17 @@ use sp_resolved::resolved;
 use sp_term::term::Name;
 use sp_wf::report;
 use sp_wf_rules::bound_in;
-use sp_written::{Item, ReadTheory, Span, TraceKind, WrittenLemma, WrittenProof};
+use sp_written::{Attribute, Item, ReadTheory, Span, TraceKind, WrittenLemma, WrittenProof};
 use std::alloc::{AllocError, Global};
+
+/// A restriction without fatal findings.
+#[derive(Drop)]
+pub struct GuardedRestriction<'a> {
+    /// its name
+    pub name: &'a str,
+    /// the guarded form of its formula
+    pub form: Formula,
+}
 
 /// A lemma without fatal findings.
 #[derive(Drop)]
@@ -38,6 +49,8 @@ pub struct GuardedLemma<'a> {
     pub name: &'a str,
     /// whether it speaks of all traces, or of some
     pub kind: TraceKind,
+    /// how it is proved, and whether it is taken for others
+    pub attributes: Vec<Attribute<'a>>,
     /// the guarded form of its formula
     pub form: Formula,
     /// the proof that stands below it
@@ -55,6 +68,8 @@ pub struct Problem<'a> {
     pub rules: Vec<Rule>,
     /// its public names, each once
     pub constants: Vec<Name>,
+    /// its restrictions, with their guarded forms
+    pub restrictions: Vec<GuardedRestriction<'a>>,
     /// its lemmas, with their guarded forms
     pub lemmas: Vec<GuardedLemma<'a>>,
     /// whether it writes what nothing is proved of yet
@@ -99,6 +114,56 @@ fn rules_of(alloc: Global, items: &Vec<Item>) -> Result<Vec<Rule>, AllocError>
     Ok(rules)
 }
 
+/// Puts the restriction at the end, if it has a guarded form.
+fn push_guarded<'a>(
+    restrictions: &mut Vec<GuardedRestriction<'a>>,
+    name: &'a str,
+    form: Option<Formula>,
+) -> Result<(), AllocError>
+    ensures { OnOk result (map required_of restrictions.new.items ≡ map required_of restrictions.old.items ++ required_by name.now (option_map formula_of form)) }
+{
+    match form {
+        Some(form) => {
+            restrictions.push(GuardedRestriction { name, form })?;
+            Ok(())
+        }
+        None => Ok(()),
+    }
+}
+
+/// Puts the item at the end with its guarded form, if it is a restriction.
+#[tactic(auto, using(crate::proofs::Items::required_alone))]
+fn push_restriction<'a>(
+    alloc: Global,
+    restrictions: &mut Vec<GuardedRestriction<'a>>,
+    item: &Item<'a>,
+) -> Result<(), AllocError>
+    ensures { OnOk result (map required_of restrictions.new.items ≡ map required_of restrictions.old.items ++ all_required (restrictions_in (view.item item.now ∷ []))) }
+{
+    match item {
+        Item::Restriction(restriction) => {
+            let form = checked_form(alloc, &restriction.formula)?;
+            push_guarded(restrictions, restriction.name, form)?;
+            Ok(())
+        }
+        _ => Ok(()),
+    }
+}
+
+/// The restrictions among the items with their guarded forms; one that has none is passed over, which doesn't happen where there are no findings.
+fn restrictions_of<'a>(
+    alloc: Global,
+    items: &Vec<Item<'a>>,
+) -> Result<Vec<GuardedRestriction<'a>>, AllocError>
+    ensures { IfOk result (λ rs. map required_of rs.items ≡ all_required (restrictions_in (view.items items.now.items))) }
+{
+    let mut restrictions = Vec::new(alloc);
+    for item in items {
+        push_restriction(alloc, &mut restrictions, item)?;
+    }
+    Ok(restrictions)
+}
+
 /// Puts the item at the end, if it is a lemma.
 fn push_lemma<'a>(lemmas: &mut Vec<WrittenLemma<'a>>, item: Item<'a>) -> Result<(), AllocError>
     ensures { OnOk result (lemmas.new.items ≡ lemmas.old.items ++ lemmas_read (item.entry ∷ [])) }
@@ -130,6 +195,7 @@ fn guarded_by<'a>(lemma: WrittenLemma<'a>, form: Formula) -> GuardedLemma<'a>
     GuardedLemma {
         name: lemma.name,
         kind: lemma.kind,
+        attributes: lemma.attributes,
         form,
         proof: lemma.proof,
         span: lemma.span,
@@ -222,6 +288,7 @@ fn posed<'a>(
 {
     let rules = rules_of(alloc, &theory.items)?;
     let constants = constants(alloc, &theory)?;
+    let restrictions = restrictions_of(alloc, &theory.items)?;
     let behind_end = theory.behind_end;
     let Some(lemmas) = lemmas_in(alloc, theory.items)? else {
         return Ok(None);
@@ -230,6 +297,7 @@ fn posed<'a>(
         signature,
         rules,
         constants,
+        restrictions,
         lemmas,
         waits,
         behind_end,

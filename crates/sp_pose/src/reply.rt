@@ -7,8 +7,8 @@ pub enum Reply<T> {
     Refused(usize),
     /// There are findings on its theory, and these are their lines.
     Reported(Vec<u8>),
-    /// There are none, but it writes what nothing is proved of yet: a restriction, a lemma on what the adversary learns, or an attribute of a lemma that says
-    /// how lemmas are proved, or that one is taken for others.
+    /// There are none, but it writes what nothing is proved of yet: a lemma on what the adversary learns, or an attribute by which a lemma is proved by
+    /// induction.
     Waiting,
     /// There are none, and this comes of what it poses.
     Done(T),

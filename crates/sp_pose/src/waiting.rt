@@ -2,22 +2,22 @@
 
 ghost use Rattle.std.specs.Prelude.{◌≡◌};
 ghost use Rattle.std.specs.List.{list_any};
-ghost use Rattle.sp_spec_text.specs.Waiting as spec;
+ghost use Rattle.sp_pose.specs.Waiting as spec;
 ghost use Rattle.sp_written.specs.Views as view;
 ghost use Rattle.sp_written.specs.declared.theory.Item.TheVariants.{Lemma};
 
 use sp_finding::names_learning;
 use sp_written::{Attribute, Item, WrittenLemma};
 
-/// Whether the attribute says how a lemma is proved, or that it is taken for others.
+/// Whether a lemma is proved by induction by this attribute.
 fn attribute_waits(attribute: &Attribute) -> bool
     ensures { result ≡ spec.attribute_waits (view.attribute attribute.now) }
 {
     match attribute {
-        Attribute::Reused => true,
+        Attribute::Reused => false,
         Attribute::OfSources => true,
         Attribute::ByInduction => true,
-        Attribute::Hiding(_) => true,
+        Attribute::Hiding(_) => false,
         Attribute::RankedBy(_) => false,
         Attribute::Unknown(_) => false,
     }
@@ -42,12 +42,11 @@ fn lemma_waits(lemma: &WrittenLemma) -> bool
     names_learning(&lemma.formula) || some_attribute_waits(&lemma.attributes)
 }
 
-/// Whether the item is a restriction, or such a lemma.
+/// Whether the item is such a lemma.
 fn item_waits(item: &Item) -> bool
     ensures { result ≡ spec.item_waits (view.item item.now) }
 {
     match item {
-        Item::Restriction(_) => true,
         Item::Lemma(lemma) => lemma_waits(lemma),
         _ => false,
     }

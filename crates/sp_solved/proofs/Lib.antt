@@ -5,3 +5,4 @@ pub mod Giving
 pub mod Rounds
 pub mod Constant
 pub mod Entries
+pub mod Asked

@@ -1,2 +1,3 @@
 pub mod ListingView
 pub mod Found
+pub mod View

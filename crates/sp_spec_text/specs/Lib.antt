@@ -19,4 +19,3 @@ pub mod Theories
 pub mod Spans
 pub mod Texts
 pub mod Behind
-pub mod Waiting

@@ -1,9 +1,10 @@
 -- The contexts that those in memory stand for.
-use Rattle.std.specs.Prelude.{map, false, Some, None, []}
+use Rattle.std.specs.Prelude.{map, Some, []}
 use Rattle.sp_term.specs.View.{name_of}
-use Rattle.sp_formula.specs.FormulaView.{formula_of}
 use Rattle.sp_fact.specs.GroundView.{signature_of}
 use Rattle.sp_solved.specs.Found.{found}
+use Rattle.sp_solved.specs.View.{root_of}
+use Rattle.sp_spec_system.specs.Move.{asked_formulas}
 use Rattle.sp_spec_system.specs.Move as spec
 use Rattle.sp_step.specs.declared.context.Context.{Context}
 use Rattle.sp_book.specs.BookView.{book_of}
@@ -20,14 +21,7 @@ abbrev pub context_of : Context → spec.Context
 context_of c = record {
   rules = record { signature = signature_of c.sought.signature.now; forms = book_of c.rules.now };
   public_names = map name_of c.sought.constants.now.items;
-  root = Some (record {
-    restrictions = [];
-    taken = [];
-    sought = formula_of c.sought.formula.now;
-    begins_with_induction = false;
-    consecutive = false;
-    cases = None;
-  });
+  root = Some (root_of c.sought.root);
   table = [];
-  found = found (signature_of c.sought.signature.now) (book_of c.rules.now) (map name_of c.sought.constants.now.items) (formula_of c.sought.formula.now);
+  found = found (signature_of c.sought.signature.now) (book_of c.rules.now) (map name_of c.sought.constants.now.items) (asked_formulas (root_of c.sought.root));
 }

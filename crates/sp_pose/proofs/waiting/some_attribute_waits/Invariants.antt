@@ -1,6 +1,6 @@
 use Rattle.std.proofs.Common.{◌≡◌, drop}
 use Rattle.std.specs.List.{list_any}
-use Rattle.sp_spec_text.specs.Waiting.{attribute_waits}
+use Rattle.sp_pose.specs.Waiting.{attribute_waits}
 use Rattle.sp_written.specs.Views as view
 use Rattle.sp_pose.proofs.waiting.some_attribute_waits.Given as goal
 
