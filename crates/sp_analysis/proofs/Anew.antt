@@ -7,9 +7,9 @@ use Rattle.sp_spec.specs.Theory.{Restriction, Lemma, signature_of}
 use Rattle.sp_spec.specs.Written.{WrittenRule, WrittenTheory, theory_of}
 use Rattle.sp_law_conv.specs.Accepted.{AreAccepted}
 use Rattle.sp_law_equal.specs.Right.{EquationsAreOver}
-use Rattle.sp_spec_text.specs.Written.{WrittenProof, Attribute, Item, builtins_item, functions_item, equations_item, heuristic_item, block_item, rule_item, restriction_item, lemma_item, WrittenText, item_attributes, builtins_in, functions_in, lemmas_in, with_proofs}
+use Rattle.sp_spec_text.specs.Written.{WrittenProof, Item, builtins_item, functions_item, equations_item, heuristic_item, block_item, rule_item, restriction_item, lemma_item, WrittenText, item_attributes, builtins_in, functions_in, lemmas_in, with_proofs}
 use Rattle.sp_spec_text.specs.Declared.{Builtin, builtin_of, new_symbols, declared_symbols, resolved_item, theory_in}
-use Rattle.sp_spec_text.specs.Waiting.{item_waits, waits}
+use Rattle.sp_pose.specs.Waiting.{item_waits, waits}
 use Rattle.sp_spec_text.specs.Texts.{IsTextOf}
 use Rattle.sp_spec_text.proofs.Items.{kept}
 use Rattle.sp_wf_rules.specs.BindingFindings.{BoundNames, item_bound, bound_in}

@@ -1,5 +1,5 @@
 -- Of a text one thing is written.
-use Rattle.std.proofs.Common.{◌≡◌, ℕ, List, [], ◌∷◌, Option, Some, None, refl, sym, ap, ap₂, ◌∙◌, subst}
+use Rattle.std.proofs.Common.{◌≡◌, ℕ, List, [], ◌∷◌, ◌++◌, Option, Some, None, refl, sym, ap, ap₂, ◌∙◌, subst}
 use Rattle.sp_spec.specs.Log.{Log}
 use Rattle.sp_spec.specs.Theory.{TraceKind, all_traces, exists_trace, Lemma}
 use Rattle.sp_spec.specs.Written.{theory_of}
@@ -13,19 +13,19 @@ use Rattle.sp_check.specs.Judging as judging
 use Rattle.sp_check.specs.Judging.{Judgement, judgement}
 use Rattle.sp_check.specs.Skeleton.{Skeleton, tree_of}
 use Rattle.sp_check.proofs.Right.{judgements_right}
-use Rattle.sp_spec_text.specs.Written.{WrittenProof, WrittenText, lemmas_with_proofs}
+use Rattle.sp_spec_text.specs.Written.{WrittenText}
 use Rattle.sp_spec_text.specs.Declared.{resolved, theory_in}
 use Rattle.sp_spec_text.specs.Spans.{Span}
 use Rattle.sp_spec_text.specs.Texts.{ArePlaces}
 use Rattle.sp_read_theory.proofs.Whole.{text_one, places_one}
 use Rattle.sp_pose.proofs.One.{one_report, not_posed, refused_or_waiting, reported_or_waiting, ready_or_waiting}
+use Rattle.sp_analysis.specs.Taken.{Stated, stated_in, Taken, taken_by, taken_for}
 use Rattle.sp_analysis.specs.Sought.{root_of, Setting, setting_of, context_of, proof_tree, grown_log}
 use Rattle.sp_spec_printed.specs.Verdict.{Verdict, verified, falsified, incomplete, rejected, Says}
 use Rattle.sp_analysis.specs.Analysis.{Outcome, IsOutcome, AreOutcomes, analysed_text, IsAnalysis}
 use Rattle.sp_analysis.specs.Checking.{Judged, checked_text, IsVerdictIn, IsVerdictOn, IsJudged, AreJudged, IsChecking}
 use Rattle.sp_analysis.specs.Printed.{by_leaves, by_tree, by_judgement, judged_log}
 use Rattle.sp_analysis.specs.Laws.{AnswersAreOne}
-use Rattle.sp_analysis.proofs.NoneTaken.{outcome_parts, judged_parts}
 use Rattle.std.proofs.lemmas.Bool.{false_from_ne_true}
 
 -- ---- verdicts
@@ -84,55 +84,57 @@ module _ (context : Context) (s : System) (k : Skeleton) where
 abbrev made : Lemma → Tree → Option Log → Verdict → Outcome
 made l t log v = record { lemma = l; tree = t; log = log; verdict = v }
 
-same_outcome : (setting : Setting) (budget : ℕ) (l : Lemma) (o p : Outcome) → IsOutcome setting budget [] l o → IsOutcome setting budget [] l p → o ≡ p
-same_outcome setting budget l o p h k =
+same_outcome : (setting : Setting) (budget : ℕ) (taken : List Taken) (q : Stated) (o p : Outcome) → IsOutcome setting budget taken q o → IsOutcome setting budget taken q p → o ≡ p
+same_outcome setting budget taken q o p h k =
     let forms : Some h.form ≡ Some k.form = sym h.form_is ∙ k.form_is in
     let form : h.form ≡ k.form = cc in
-    let tree : o.tree ≡ p.tree = h.tree_is ∙ ap (λ (g : Guarded). proof_tree setting budget (root_of [] l.kind g)) form ∙ sym k.tree_is in
-    let log : o.log ≡ p.log = h.log_is ∙ ap (λ (g : Guarded). grown_log setting budget (root_of [] l.kind g)) form ∙ sym k.log_is in
-    let says : Says l.kind o.verdict p.log (IsFinished p.tree) =
-    subst (λ (t : Tree). Says l.kind o.verdict p.log (IsFinished t)) tree (subst (λ (x : Option Log). Says l.kind o.verdict x (IsFinished o.tree)) log h.verdict_is) in
-    let verdict = by_its_tree l.kind p.tree o.verdict p.log says ∙ sym (by_its_tree l.kind p.tree p.verdict p.log k.verdict_is) in
+    let root : Guarded → Root = root_of setting (taken_for q.attributes taken) q.lemma.kind in
+    let tree : o.tree ≡ p.tree = h.tree_is ∙ ap (λ (g : Guarded). proof_tree setting budget (root g)) form ∙ sym k.tree_is in
+    let log : o.log ≡ p.log = h.log_is ∙ ap (λ (g : Guarded). grown_log setting budget (root g)) form ∙ sym k.log_is in
+    let says : Says q.lemma.kind o.verdict p.log (IsFinished p.tree) =
+    subst (λ (t : Tree). Says q.lemma.kind o.verdict p.log (IsFinished t)) tree (subst (λ (x : Option Log). Says q.lemma.kind o.verdict x (IsFinished o.tree)) log h.verdict_is) in
+    let verdict = by_its_tree q.lemma.kind p.tree o.verdict p.log says ∙ sym (by_its_tree q.lemma.kind p.tree p.verdict p.log k.verdict_is) in
     ap₂ (λ (m : Lemma) (t : Tree). made m t o.log o.verdict) (h.lemma_is ∙ sym k.lemma_is) tree ∙ ap₂ (made p.lemma p.tree) log verdict
 
-same_outcomes : (setting : Setting) (budget : ℕ) (ls : List Lemma) (os ps : List Outcome) → AreOutcomes setting budget [] ls os → AreOutcomes setting budget [] ls ps → os ≡ ps
-same_outcomes setting budget [] [] [] h k = refl
-same_outcomes setting budget [] [] (p ∷ ps) h k = absurd k
-same_outcomes setting budget [] (o ∷ os) ps h k = absurd h
-same_outcomes setting budget (l ∷ ls) [] ps h k = absurd h
-same_outcomes setting budget (l ∷ ls) (o ∷ os) [] h k = absurd k
-same_outcomes setting budget (l ∷ ls) (o ∷ os) (p ∷ ps) h k =
-    let one = outcome_parts setting budget l ls o os h in
-    let other = outcome_parts setting budget l ls p ps k in
-    ap₂ (λ (x : Outcome) (xs : List Outcome). x ∷ xs) (same_outcome setting budget l o p one.0 other.0) (same_outcomes setting budget ls os ps one.1 other.1)
+same_outcomes : (setting : Setting) (budget : ℕ) (taken : List Taken) (qs : List Stated) (os ps : List Outcome) → AreOutcomes setting budget taken qs os → AreOutcomes setting budget taken qs ps → os ≡ ps
+same_outcomes setting budget taken [] [] [] h k = refl
+same_outcomes setting budget taken [] [] (p ∷ ps) h k = absurd k
+same_outcomes setting budget taken [] (o ∷ os) ps h k = absurd h
+same_outcomes setting budget taken (q ∷ qs) [] ps h k = absurd h
+same_outcomes setting budget taken (q ∷ qs) (o ∷ os) [] h k = absurd k
+same_outcomes setting budget taken (q ∷ qs) (o ∷ os) (p ∷ ps) h k =
+    let one : o ≡ p = same_outcome setting budget taken q o p h.0 k.0 in
+    let later = subst (λ (x : Outcome). AreOutcomes setting budget (taken ++ taken_by q x.verdict) qs os) one h.1 in
+    ap₂ (λ (x : Outcome) (xs : List Outcome). x ∷ xs) one (same_outcomes setting budget (taken ++ taken_by q p.verdict) qs os ps later k.1)
 
 abbrev judged : Lemma → Root → Skeleton → Option Log → Verdict → Judged
 judged l root k log v = record { lemma = l; root = root; proof = k; log = log; verdict = v }
 
-same_judged : (setting : Setting) (l : Lemma) (p : Option WrittenProof) (i j : Judged) → IsJudged setting [] l p i → IsJudged setting [] l p j → i ≡ j
-same_judged setting l p i j h k =
+same_judged : (setting : Setting) (taken : List Taken) (q : Stated) (i j : Judged) → IsJudged setting taken q i → IsJudged setting taken q j → i ≡ j
+same_judged setting taken q i j h k =
     let forms : Some h.form ≡ Some k.form = sym h.form_is ∙ k.form_is in
     let form : h.form ≡ k.form = cc in
-    let root : i.root ≡ j.root = h.root_is ∙ ap (root_of [] l.kind) form ∙ sym k.root_is in
+    let kind = q.lemma.kind in
+    let root : i.root ≡ j.root = h.root_is ∙ ap (root_of setting (taken_for q.attributes taken) kind) form ∙ sym k.root_is in
     let proof : i.proof ≡ j.proof = h.proof_is ∙ sym k.proof_is in
-    let moved : IsVerdictOn setting l.kind j.root j.proof i.verdict i.log =
-    subst (λ (g : Root). IsVerdictOn setting l.kind g j.proof i.verdict i.log) root (subst (λ (x : Skeleton). IsVerdictOn setting l.kind i.root x i.verdict i.log) proof h.verdict_is) in
-    let first = by_its_judgement (context_of setting j.root) (root_system j.root) j.proof l.kind i.verdict i.log moved in
-    let second = by_its_judgement (context_of setting j.root) (root_system j.root) j.proof l.kind j.verdict j.log k.verdict_is in
+    let moved : IsVerdictOn setting kind j.root j.proof i.verdict i.log =
+    subst (λ (g : Root). IsVerdictOn setting kind g j.proof i.verdict i.log) root (subst (λ (x : Skeleton). IsVerdictOn setting kind i.root x i.verdict i.log) proof h.verdict_is) in
+    let first = by_its_judgement (context_of setting j.root) (root_system j.root) j.proof kind i.verdict i.log moved in
+    let second = by_its_judgement (context_of setting j.root) (root_system j.root) j.proof kind j.verdict j.log k.verdict_is in
     ap₂ (λ (m : Lemma) (g : Root). judged m g i.proof i.log i.verdict) (h.lemma_is ∙ sym k.lemma_is) root
     ∙ ap (λ (x : Skeleton). judged j.lemma j.root x i.log i.verdict) proof
     ∙ ap₂ (judged j.lemma j.root j.proof) (first.1 ∙ sym second.1) (first.0 ∙ sym second.0)
 
-same_all_judged : (setting : Setting) (qs : List (Lemma × Option WrittenProof)) (is js : List Judged) → AreJudged setting [] qs is → AreJudged setting [] qs js → is ≡ js
-same_all_judged setting [] [] [] h k = refl
-same_all_judged setting [] [] (j ∷ js) h k = absurd k
-same_all_judged setting [] (i ∷ is) js h k = absurd h
-same_all_judged setting (q ∷ qs) [] js h k = absurd h
-same_all_judged setting (q ∷ qs) (i ∷ is) [] h k = absurd k
-same_all_judged setting (q ∷ qs) (i ∷ is) (j ∷ js) h k =
-    let one = judged_parts setting q qs i is h in
-    let other = judged_parts setting q qs j js k in
-    ap₂ (λ (x : Judged) (xs : List Judged). x ∷ xs) (same_judged setting q.0 q.1 i j one.0 other.0) (same_all_judged setting qs is js one.1 other.1)
+same_all_judged : (setting : Setting) (taken : List Taken) (qs : List Stated) (is js : List Judged) → AreJudged setting taken qs is → AreJudged setting taken qs js → is ≡ js
+same_all_judged setting taken [] [] [] h k = refl
+same_all_judged setting taken [] [] (j ∷ js) h k = absurd k
+same_all_judged setting taken [] (i ∷ is) js h k = absurd h
+same_all_judged setting taken (q ∷ qs) [] js h k = absurd h
+same_all_judged setting taken (q ∷ qs) (i ∷ is) [] h k = absurd k
+same_all_judged setting taken (q ∷ qs) (i ∷ is) (j ∷ js) h k =
+    let one : i ≡ j = same_judged setting taken q i j h.0 k.0 in
+    let later = subst (λ (x : Judged). AreJudged setting (taken ++ taken_by q x.verdict) qs is) one h.1 in
+    ap₂ (λ (x : Judged) (xs : List Judged). x ∷ xs) one (same_all_judged setting (taken ++ taken_by q j.verdict) qs is js later k.1)
 
 -- ---- answers
 
@@ -140,9 +142,9 @@ one_answer : (budget : ℕ) (text written other : List ℕ) (outcomes others : L
     → (written ≡ other) × (outcomes ≡ others)
 one_answer budget text written other outcomes others a b =
     let theory = text_one a.poses.says b.poses.says in
-    let tried : AreOutcomes (setting_of (theory_in b.theory)) budget [] (theory_in b.theory).lemmas outcomes =
-    subst (λ (t : WrittenText). AreOutcomes (setting_of (theory_in t)) budget [] (theory_in t).lemmas outcomes) theory a.outcomes_are in
-    let same = same_outcomes (setting_of (theory_in b.theory)) budget (theory_in b.theory).lemmas outcomes others tried b.outcomes_are in
+    let tried : AreOutcomes (setting_of (theory_in b.theory)) budget [] (stated_in (resolved b.theory).items) outcomes =
+    subst (λ (t : WrittenText). AreOutcomes (setting_of (theory_in t)) budget [] (stated_in (resolved t).items) outcomes) theory a.outcomes_are in
+    let same = same_outcomes (setting_of (theory_in b.theory)) budget [] (stated_in (resolved b.theory).items) outcomes others tried b.outcomes_are in
     let places = places_one (subst (λ (t : WrittenText). ArePlaces text t a.spans a.behind_end) theory a.places_are) b.places_are in (
       a.written_is
           ∙ ap₂ (λ (ps : List Span) (os : List Outcome). analysed_text (theory_of (theory_in a.theory)) text ps os a.behind_end) places.0 same
@@ -155,9 +157,9 @@ one_answer budget text written other outcomes others a b =
 one_check : (text written other : List ℕ) (js others : List Judged) → IsChecking text written js → IsChecking text other others → (written ≡ other) × (js ≡ others)
 one_check text written other js others a b =
     let theory = text_one a.poses.says b.poses.says in
-    let all : AreJudged (setting_of (theory_in b.theory)) [] (lemmas_with_proofs (resolved b.theory).items) js =
-    subst (λ (t : WrittenText). AreJudged (setting_of (theory_in t)) [] (lemmas_with_proofs (resolved t).items) js) theory a.judged_are in
-    let same = same_all_judged (setting_of (theory_in b.theory)) (lemmas_with_proofs (resolved b.theory).items) js others all b.judged_are in
+    let all : AreJudged (setting_of (theory_in b.theory)) [] (stated_in (resolved b.theory).items) js =
+    subst (λ (t : WrittenText). AreJudged (setting_of (theory_in t)) [] (stated_in (resolved t).items) js) theory a.judged_are in
+    let same = same_all_judged (setting_of (theory_in b.theory)) [] (stated_in (resolved b.theory).items) js others all b.judged_are in
     (a.written_is ∙ ap (checked_text (theory_of (theory_in a.theory))) same ∙ ap (λ (t : WrittenText). checked_text (theory_of (theory_in t)) others) theory ∙ sym b.written_is, same)
 
 pub answers_are_one_lem : AnswersAreOne

@@ -1,4 +1,5 @@
-pub mod NoneTaken
+pub mod StatedItems
+pub mod Taking
 pub mod Right
 pub mod AnswersOne
 pub mod Writing
@@ -8,3 +9,5 @@ pub mod Anew
 pub mod Again
 pub mod Blocks
 pub mod ReadBack
+pub mod Walked
+pub mod TakenFor

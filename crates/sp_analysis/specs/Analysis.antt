@@ -12,13 +12,14 @@ use Rattle.sp_law_guard.specs.CheckedForm.{checked_form}
 use Rattle.sp_spec_proof.specs.Tree.{Tree, IsFinished, steps}
 use Rattle.sp_skel.specs.Places.{HavePlaces}
 use Rattle.sp_spec_text.specs.Written.{WrittenText}
-use Rattle.sp_spec_text.specs.Declared.{theory_in}
-use Rattle.sp_spec_text.specs.Waiting.{waits}
+use Rattle.sp_spec_text.specs.Declared.{resolved, theory_in}
+use Rattle.sp_pose.specs.Waiting.{waits}
 use Rattle.sp_spec_text.specs.Spans.{Span}
 use Rattle.sp_spec_text.specs.Texts.{ArePlaces}
 use Rattle.sp_law_reread.specs.Again.{replaced}
 use Rattle.sp_pose.specs.Problem.{Poses}
-use Rattle.sp_analysis.specs.Sought.{root_of, taken_by, Setting, setting_of, proof_tree, grown_log}
+use Rattle.sp_analysis.specs.Taken.{Stated, stated_in, Taken, taken_by, taken_for}
+use Rattle.sp_analysis.specs.Sought.{root_of, Setting, setting_of, proof_tree, grown_log}
 use Rattle.sp_spec_text.specs.Numerals.{counted}
 use Rattle.sp_spec_printed.specs.Verdict.{Verdict, Says, summary_line}
 use Rattle.sp_law_printed_log.specs.Block.{block_by, IsNumbered}
@@ -46,22 +47,22 @@ trees_of os = map (λ (o : Outcome). o.tree) os
 abbrev pub analysed_text : Theory → List ℕ → List Span → List Outcome → ℕ → List ℕ
 analysed_text theory text spans os end = replaced text 0 spans (trees_of os) end ++ (codes "\n/*\n" ++ (summary theory os ++ codes "*/\n"))
 
--- The outcome is that of the lemma, where these formulas are taken: the proof tree of at most so many moves is grown for its guarded form, and
--- decides the verdict.
-pub record IsOutcome (setting : Setting) (budget : ℕ) (taken : List Guarded) (lemma : Lemma) (o : Outcome) : Type 0 where
-  pub lemma_is : o.lemma ≡ lemma
+-- The outcome is that of the lemma, where these are taken, but for those that it hides: the proof tree of at most so many moves is grown for its guarded
+-- form, and decides the verdict.
+pub record IsOutcome (setting : Setting) (budget : ℕ) (taken : List Taken) (q : Stated) (o : Outcome) : Type 0 where
+  pub lemma_is : o.lemma ≡ q.lemma
   pub form : Guarded
-  pub form_is : checked_form lemma.formula ≡ Some form
-  pub tree_is : o.tree ≡ proof_tree setting budget (root_of taken lemma.kind form)
-  pub log_is : o.log ≡ grown_log setting budget (root_of taken lemma.kind form)
-  pub verdict_is : Says lemma.kind o.verdict o.log (IsFinished o.tree)
+  pub form_is : checked_form q.lemma.formula ≡ Some form
+  pub tree_is : o.tree ≡ proof_tree setting budget (root_of setting (taken_for q.attributes taken) q.lemma.kind form)
+  pub log_is : o.log ≡ grown_log setting budget (root_of setting (taken_for q.attributes taken) q.lemma.kind form)
+  pub verdict_is : Says q.lemma.kind o.verdict o.log (IsFinished o.tree)
 
 -- one for each lemma, in the order of the text; each takes what those before it gave
-abbrev pub AreOutcomes : Setting → ℕ → List Guarded → List Lemma → List Outcome → Type 0
+abbrev pub AreOutcomes : Setting → ℕ → List Taken → List Stated → List Outcome → Type 0
 AreOutcomes setting budget taken [] [] = Unit {0}
 AreOutcomes setting budget taken [] (o ∷ os) = ⊥
-AreOutcomes setting budget taken (l ∷ ls) [] = ⊥
-AreOutcomes setting budget taken (l ∷ ls) (o ∷ os) = IsOutcome setting budget taken l o × AreOutcomes setting budget (taken ++ taken_by l o.verdict) ls os
+AreOutcomes setting budget taken (q ∷ qs) [] = ⊥
+AreOutcomes setting budget taken (q ∷ qs) (o ∷ os) = IsOutcome setting budget taken q o × AreOutcomes setting budget (taken ++ taken_by q o.verdict) qs os
 
 -- Each lemma that the text poses is tried, if it writes nothing that nothing is proved of yet, and its proof and its verdict stand in what is written. Each place that a proof names is one that a
 -- text can name, and so is each fresh name of an execution; were one not, that would be want of memory.
@@ -69,7 +70,7 @@ pub record IsAnalysis (budget : ℕ) (text written : List ℕ) (outcomes : List 
   pub theory : WrittenText
   pub poses : Poses text theory
   pub ready : waits theory ≡ false
-  pub outcomes_are : AreOutcomes (setting_of (theory_in theory)) budget [] (theory_in theory).lemmas outcomes
+  pub outcomes_are : AreOutcomes (setting_of (theory_in theory)) budget [] (stated_in (resolved theory).items) outcomes
   pub places : Every (λ (o : Outcome). HavePlaces o.tree) outcomes
   pub numbers : Every (λ (o : Outcome). IsNumbered (theory_of (theory_in theory)) o.log) outcomes
   pub spans : List Span

@@ -15,12 +15,13 @@ use Rattle.sp_spec_system.specs.Move.{Context, unproved, Root, root_system}
 use Rattle.sp_spec_proof.specs.Tree.{Tree, IsAccepted, IsFinished, found_log}
 use Rattle.sp_check.specs.Skeleton.{Skeleton, node_read, none_read, known, tree_of, steps}
 use Rattle.sp_check.specs.Rejected.{IsRejectedAt}
-use Rattle.sp_spec_text.specs.Written.{WrittenProof, WrittenText, lemmas_with_proofs}
+use Rattle.sp_spec_text.specs.Written.{WrittenProof, WrittenText}
 use Rattle.sp_spec_text.specs.Declared.{resolved, theory_in}
-use Rattle.sp_spec_text.specs.Waiting.{waits}
+use Rattle.sp_pose.specs.Waiting.{waits}
 use Rattle.sp_skel.specs.Steps.{skeleton}
 use Rattle.sp_pose.specs.Problem.{Poses}
-use Rattle.sp_analysis.specs.Sought.{root_of, taken_by, Setting, setting_of, context_of}
+use Rattle.sp_analysis.specs.Taken.{Stated, stated_in, Taken, taken_by, taken_for}
+use Rattle.sp_analysis.specs.Sought.{root_of, Setting, setting_of, context_of}
 use Rattle.sp_spec_text.specs.Numerals.{counted}
 use Rattle.sp_spec_printed.specs.Verdict.{Verdict, rejected, Says, summary_line}
 use Rattle.sp_law_printed_log.specs.Block.{block_by, IsNumbered}
@@ -56,21 +57,21 @@ checked_by steps_of (j ∷ js) = summary_line j.lemma.name j.lemma.kind j.verdic
 abbrev pub checked_text : Theory → List Judged → List ℕ
 checked_text theory js = checked_by (executed_of theory) js
 
--- It is that of the lemma and its proof, where these formulas are taken: the proof begins with the lemma's guarded form.
-pub record IsJudged (setting : Setting) (taken : List Guarded) (lemma : Lemma) (proof : Option WrittenProof) (j : Judged) : Type 0 where
-  pub lemma_is : j.lemma ≡ lemma
-  pub proof_is : j.proof ≡ proof_read proof
+-- It is that of the lemma and its proof, where these are taken, but for those that it hides: the proof begins with the lemma's guarded form.
+pub record IsJudged (setting : Setting) (taken : List Taken) (q : Stated) (j : Judged) : Type 0 where
+  pub lemma_is : j.lemma ≡ q.lemma
+  pub proof_is : j.proof ≡ proof_read q.proof
   pub form : Guarded
-  pub form_is : checked_form lemma.formula ≡ Some form
-  pub root_is : j.root ≡ root_of taken lemma.kind form
-  pub verdict_is : IsVerdictOn setting lemma.kind j.root j.proof j.verdict j.log
+  pub form_is : checked_form q.lemma.formula ≡ Some form
+  pub root_is : j.root ≡ root_of setting (taken_for q.attributes taken) q.lemma.kind form
+  pub verdict_is : IsVerdictOn setting q.lemma.kind j.root j.proof j.verdict j.log
 
--- one for each lemma, in the order of the text; each takes what those before it gave
-abbrev pub AreJudged : Setting → List Guarded → List (Lemma × Option WrittenProof) → List Judged → Type 0
+-- one for each lemma, in the order of the text; each takes what those before it gave, by what their proofs say
+abbrev pub AreJudged : Setting → List Taken → List Stated → List Judged → Type 0
 AreJudged setting taken [] [] = Unit {0}
 AreJudged setting taken [] (j ∷ js) = ⊥
 AreJudged setting taken (q ∷ qs) [] = ⊥
-AreJudged setting taken (q ∷ qs) (j ∷ js) = IsJudged setting taken q.0 q.1 j × AreJudged setting (taken ++ taken_by q.0 j.verdict) qs js
+AreJudged setting taken (q ∷ qs) (j ∷ js) = IsJudged setting taken q j × AreJudged setting (taken ++ taken_by q j.verdict) qs js
 
 -- The proof of each lemma that the text poses is checked, if it writes nothing that nothing is proved of yet, and its verdict stands in what is written. Each fresh name of an execution is one that a
 -- text can name.
@@ -78,6 +79,6 @@ pub record IsChecking (text written : List ℕ) (judged : List Judged) : Type 0 
   pub theory : WrittenText
   pub poses : Poses text theory
   pub ready : waits theory ≡ false
-  pub judged_are : AreJudged (setting_of (theory_in theory)) [] (lemmas_with_proofs (resolved theory).items) judged
+  pub judged_are : AreJudged (setting_of (theory_in theory)) [] (stated_in (resolved theory).items) judged
   pub numbers : Every (λ (j : Judged). IsNumbered (theory_of (theory_in theory)) j.log) judged
   pub written_is : written ≡ checked_text (theory_of (theory_in theory)) judged

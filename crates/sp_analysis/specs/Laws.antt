@@ -25,9 +25,9 @@ use Rattle.sp_analysis.specs.Sought.{setting_of, context_of}
 use Rattle.sp_analysis.specs.Analysis.{Outcome, summary, trees_of, IsAnalysis}
 use Rattle.sp_analysis.specs.Checking.{Judged, IsChecking}
 
--- Of a lemma on all traces: verified, every execution satisfies it; falsified, the log that was found stands for an execution that breaks
--- it. Of one on some trace: verified, the log that was found stands for an execution that satisfies it; falsified, no execution does. A lemma
--- that names learning is read over learning logs in place of executions.
+-- Of executions that meet the restrictions. Of a lemma on all traces: verified, every execution satisfies it; falsified, the log that was found stands for
+-- one that breaks it. Of one on some trace: verified, the log that was found stands for an execution that satisfies it; falsified, no execution does. A
+-- lemma that names learning is read over learning logs in place of executions.
 -- An incomplete analysis and a rejected proof say nothing of executions.
 abbrev pub Means : Theory → TraceKind → Verdict → Option Log → Lemma → Type 0
 Means theory all_traces verified None lemma = HoldsInReading theory lemma

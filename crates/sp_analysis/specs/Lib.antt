@@ -1,3 +1,4 @@
+pub mod Taken
 pub mod Sought
 pub mod Analysis
 pub mod Checking

@@ -2,7 +2,6 @@
 use Rattle.std.specs.Prelude.{ℕ, Bool, true, false, List, [], ◌∷◌, ◌++◌, codes, Option, Some, None, string_bytes}
 use Rattle.sp_spec.specs.Log.{Log}
 use Rattle.sp_spec.specs.Theory.{TraceKind, all_traces, exists_trace}
-use Rattle.sp_spec.specs.Guarded.{Guarded}
 use Rattle.sp_spec_proof.specs.Tree.{steps}
 use Rattle.sp_search.specs.Finished.{finished}
 use Rattle.sp_skel.specs.Places.{HavePlaces}
@@ -15,6 +14,7 @@ use Rattle.sp_spec_text.specs.Written.{WrittenProof}
 use Rattle.sp_spec_text.specs.Spans.{Span, goes_on}
 use Rattle.sp_pose.specs.Asked.{Asked}
 use Rattle.sp_spec_system.specs.Move.{Root, root_system}
+use Rattle.sp_analysis.specs.Taken.{Taken, gives, taken_if, taken_for}
 use Rattle.sp_analysis.specs.Sought.{root_of, Setting, executed, context_of, proof_tree, grown_log}
 use Rattle.sp_spec_printed.specs.Verdict.{Verdict, verified, falsified, incomplete, rejected, summary_line}
 use Rattle.sp_law_printed_log.specs.Block.{block_by, IsNumberedBy}
@@ -71,52 +71,52 @@ judged_log (judging.found log) = Some log
 judged_log judging.finished = None
 judged_log judging.incomplete = None
 
--- what a proof of the lemma begins from, where these formulas are taken
-abbrev pub root_for : List Guarded → Asked → Root
-root_for taken a = root_of taken a.kind a.form
+-- what a proof of the lemma begins from, where these are taken
+abbrev pub root_for : Setting → List Taken → Asked → Root
+root_for setting taken a = root_of setting (taken_for a.attributes taken) a.kind a.form
 
 -- what is judged of a proof that begins from the root
 abbrev pub judged_so : Setting → Root → Option WrittenProof → Judgement
 judged_so setting root proof = judgement (context_of setting root) (root_system root) (proof_read proof)
 
 -- what is to be printed of a lemma that is tried, and of one whose proof is checked
-abbrev pub to_print : Command → Setting → List Guarded → Asked → Printed
+abbrev pub to_print : Command → Setting → List Taken → Asked → Printed
 to_print (Prove budget) setting taken a = record {
   name = a.name;
   kind = a.kind;
-  verdict = by_tree a.kind (grown_log setting budget (root_for taken a)) (finished (proof_tree setting budget (root_for taken a)));
-  steps = counted (steps (proof_tree setting budget (root_for taken a)));
+  verdict = by_tree a.kind (grown_log setting budget (root_for setting taken a)) (finished (proof_tree setting budget (root_for setting taken a)));
+  steps = counted (steps (proof_tree setting budget (root_for setting taken a)));
   span = a.span;
-  proof = tree_text 0 (proof_tree setting budget (root_for taken a));
-  block = block_by (executed setting) (grown_log setting budget (root_for taken a));
+  proof = tree_text 0 (proof_tree setting budget (root_for setting taken a));
+  block = block_by (executed setting) (grown_log setting budget (root_for setting taken a));
 }
 to_print Check setting taken a = record {
   name = a.name;
   kind = a.kind;
-  verdict = by_judgement a.kind (judged_so setting (root_for taken a) a.proof);
+  verdict = by_judgement a.kind (judged_so setting (root_for setting taken a) a.proof);
   steps = counted (read.steps (proof_read a.proof));
   span = a.span;
   proof = [];
-  block = block_by (executed setting) (judged_log (judged_so setting (root_for taken a) a.proof));
+  block = block_by (executed setting) (judged_log (judged_so setting (root_for setting taken a) a.proof));
 }
 
--- what a lemma of which this is printed gives to the proofs of the lemmas behind it: nothing as yet
-unfoldable pub taken_from : Asked → Printed → List Guarded
-taken_from a p = []
+-- what a lemma of which this is printed gives to the proofs of the lemmas behind it
+abbrev pub taken_from : Asked → Printed → List Taken
+taken_from a p = taken_if (gives a.kind p.verdict a.attributes) a.name a.form
 
 -- each lemma takes what those before it gave
-abbrev pub all_to_print : Command → Setting → List Guarded → List Asked → List Printed
+abbrev pub all_to_print : Command → Setting → List Taken → List Asked → List Printed
 all_to_print command setting taken [] = []
 all_to_print command setting taken (a ∷ rest) =
     to_print command setting taken a ∷ all_to_print command setting (taken ++ taken_from a (to_print command setting taken a)) rest
 
 -- each place that the grown proof names is one that a text can name, and each fresh name of the execution that is found
-abbrev pub IsNameable : Command → Setting → List Guarded → Asked → Type 0
+abbrev pub IsNameable : Command → Setting → List Taken → Asked → Type 0
 IsNameable (Prove budget) setting taken a =
-    HavePlaces (proof_tree setting budget (root_for taken a)) × IsNumberedBy (executed setting) (grown_log setting budget (root_for taken a))
-IsNameable Check setting taken a = IsNumberedBy (executed setting) (judged_log (judged_so setting (root_for taken a) a.proof))
+    HavePlaces (proof_tree setting budget (root_for setting taken a)) × IsNumberedBy (executed setting) (grown_log setting budget (root_for setting taken a))
+IsNameable Check setting taken a = IsNumberedBy (executed setting) (judged_log (judged_so setting (root_for setting taken a) a.proof))
 
-abbrev pub AreNameable : Command → Setting → List Guarded → List Asked → Type 0
+abbrev pub AreNameable : Command → Setting → List Taken → List Asked → Type 0
 AreNameable command setting taken [] = Unit {0}
 AreNameable command setting taken (a ∷ rest) =
     IsNameable command setting taken a × AreNameable command setting (taken ++ taken_from a (to_print command setting taken a)) rest

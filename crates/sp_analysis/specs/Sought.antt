@@ -1,12 +1,13 @@
 -- What a proof is to show, what it begins with, what it is made in, and the proof tree that is grown for it.
 use Rattle.std.specs.Prelude.{List, ℕ, false, Option, None, Some, []}
 use Rattle.sp_spec.specs.Signature.{Signature}
-use Rattle.sp_spec.specs.Theory.{TraceKind, all_traces, exists_trace, Lemma, signature_of}
+use Rattle.sp_spec.specs.Theory.{TraceKind, all_traces, exists_trace, signature_of}
 use Rattle.sp_spec.specs.Written.{WrittenTheory, theory_of}
 use Rattle.sp_spec.specs.Guarded.{Guarded}
 use Rattle.sp_spec.specs.Log.{Log}
 use Rattle.sp_law_guard.specs.GuardedForm.{negate}
-use Rattle.sp_spec_system.specs.Move.{Root, root_system, Context}
+use Rattle.sp_law_basic.specs.Restrictions.{restriction_forms}
+use Rattle.sp_spec_system.specs.Move.{Root, root_system, asked_formulas, Context}
 use Rattle.sp_spec_proof.specs.Tree.{Tree, found_log}
 use Rattle.sp_spec_proof.specs.Growth.{grown_tree}
 use Rattle.sp_spec.specs.Constants.{constants_of}
@@ -15,46 +16,49 @@ use Rattle.sp_spec_system.specs.Rules.{rules_of}
 use Rattle.sp_spec_forms.specs.Forms.{RuleForms}
 use Rattle.sp_spec.specs.Execution.{Step}
 use Rattle.sp_law_log_execution.specs.Executed.{linking_of, executed_by}
-use Rattle.sp_spec_printed.specs.Verdict.{Verdict}
-
--- What a lemma with this verdict gives to the proofs of the lemmas behind it: nothing as yet. (Whatever rests on that has to say so.)
-unfoldable pub taken_by : Lemma → Verdict → List Guarded
-taken_by lemma verdict = []
 
 -- a proof looks for the negation of a lemma on all traces, and for a lemma on some trace as it is
 abbrev pub sought : TraceKind → Guarded → Guarded
 sought all_traces g = negate g
 sought exists_trace g = g
 
--- A proof begins from what is sought, and from the lemmas that are taken: from no restrictions as yet, with no first move of its own, and with its
--- kinds of moves ranked one by one.
-abbrev pub root_with : List Guarded → Guarded → Root
-root_with taken f = record { restrictions = []; taken = taken; sought = f; begins_with_induction = false; consecutive = false; cases = None }
-
-abbrev pub root_of : List Guarded → TraceKind → Guarded → Root
-root_of taken kind form = root_with taken (sought kind form)
-
--- what the proofs of a theory's lemmas have in common: its signature, its rules with their forms, and the public names that stand in it
+-- what the proofs of a theory's lemmas have in common: its signature, its rules with their forms, the public names that stand in it, and the guarded forms of its
+-- restrictions
 pub record Setting : Type 0 where
   pub signature : Signature
   pub forms : List RuleForms
   pub constants : List (List ℕ)
+  pub restrictions : List Guarded
 
 abbrev pub setting_of : WrittenTheory → Setting
-setting_of theory = record { signature = signature_of (theory_of theory); forms = (rules_of (theory_of theory)).forms; constants = constants_of theory }
+setting_of theory = record {
+  signature = signature_of (theory_of theory);
+  forms = (rules_of (theory_of theory)).forms;
+  constants = constants_of theory;
+  restrictions = restriction_forms theory.restrictions;
+}
+
+-- What a proof begins from where these formulas are taken: from the restrictions, from what is taken and from what is sought; with no first move of its
+-- own, and with its kinds of moves ranked one by one.
+abbrev pub root_with : List Guarded → List Guarded → Guarded → Root
+root_with restrictions taken f = record { restrictions = restrictions; taken = taken; sought = f; begins_with_induction = false; consecutive = false; cases = None }
+
+abbrev pub root_of : Setting → List Guarded → TraceKind → Guarded → Root
+root_of setting taken kind form = root_with setting.restrictions taken (sought kind form)
 
 -- the steps that a log stands for
 abbrev pub executed : Setting → Log → List Step
 executed setting log = executed_by setting.signature.equations setting.forms (linking_of setting.signature) log
 
--- The search ends with a log over whose trace the formula that is sought is true: the log breaks a lemma on all traces, and satisfies one on some trace.
+-- The search ends with a log over whose trace the restrictions are true and what is sought: the log meets them, and breaks a lemma on all traces, or
+-- satisfies one on some trace.
 abbrev pub context_of : Setting → Root → Context
 context_of setting root = record {
   rules = record { signature = setting.signature; forms = setting.forms };
   public_names = setting.constants;
   root = Some root;
   table = [];
-  found = found setting.signature setting.forms setting.constants root.sought;
+  found = found setting.signature setting.forms setting.constants (asked_formulas root);
 }
 
 -- the proof tree of at most so many moves that is grown from the root, and the log with which the search ended, if it did

@@ -1,12 +1,15 @@
--- The verdicts and settings that those in memory stand for.
+-- The verdicts, settings and taken lemmas that those in memory stand for.
 use Rattle.std.specs.Prelude.{map}
 use Rattle.sp_term.specs.View.{name_of}
 use Rattle.sp_fact.specs.GroundView.{signature_of}
 use Rattle.sp_book.specs.BookView.{book_of}
 use Rattle.sp_check.specs.View.{clause_of}
+use Rattle.sp_formula.specs.FormulaView.{formula_of}
 use Rattle.sp_analysis.specs.Sought as sought
+use Rattle.sp_analysis.specs.Taken as taking
 use Rattle.sp_spec_printed.specs.Verdict as spec
 use Rattle.sp_analysis.specs.declared.setting.Setting.{Setting}
+use Rattle.sp_analysis.specs.declared.taken.Taken.{Taken}
 use Rattle.sp_analysis.specs.declared.verdict.Verdict.{Verdict}
 use Rattle.sp_analysis.specs.declared.verdict.Verdict.TheVariants.{Verified, Falsified, Incomplete, Rejected}
 
@@ -17,4 +20,13 @@ verdict_of Incomplete = spec.incomplete
 verdict_of (Rejected step clause) = spec.rejected step (clause_of clause)
 
 abbrev pub setting_in : Setting → sought.Setting
-setting_in s = record { signature = signature_of s.signature; forms = book_of s.book; constants = map name_of s.constants.items }
+setting_in s = record {
+  signature = signature_of s.signature;
+  forms = book_of s.book;
+  constants = map name_of s.constants.items;
+  restrictions = map formula_of s.restrictions.items;
+}
+
+-- a lemma that is taken
+abbrev pub taken_of : Taken → taking.Taken
+taken_of t = record { name = t.name.now; form = formula_of t.form }

@@ -8,6 +8,7 @@
 mod block;
 mod replies;
 mod setting;
+mod taken;
 mod tried;
 mod verdict;
 mod written;

@@ -5,6 +5,8 @@ ghost use Rattle.sp_written.specs.Views as view;
 ghost use Rattle.sp_spec_text.specs.Spans.{Rise};
 ghost use Rattle.sp_pose.specs.Posed.{IsPosedBy};
 ghost use Rattle.sp_pose.specs.Replies.{IsReplyTo};
+ghost use Rattle.sp_pose.specs.Required.{required_of};
+ghost use Rattle.sp_formula.specs.FormulaView.{formula_of};
 ghost use Rattle.sp_analysis.specs.Printed as print;
 ghost use Rattle.sp_analysis.specs.Replies.{IsAnswered};
 
@@ -12,7 +14,8 @@ use crate::setting::Setting;
 use crate::tried::{Tried, all_tried};
 use crate::verdict::Verdict;
 use crate::written::{verdicts, written_by};
-use sp_pose::{Problem, Read, Reply, posed_by};
+use sp_formula::formula::Formula;
+use sp_pose::{GuardedRestriction, Problem, Read, Reply, posed_by};
 use sp_variant::book::book;
 use std::alloc::{AllocError, Global};
 
@@ -52,6 +55,20 @@ fn answered_by(
     Ok(Answered { written, verdicts })
 }
 
+/// The guarded forms of restrictions.
+fn their_forms(
+    alloc: Global,
+    restrictions: Vec<GuardedRestriction>,
+) -> Result<Vec<Formula>, AllocError>
+    ensures { IfOk result (λ fs. map formula_of fs.items ≡ map (λ q. q.form) (map required_of restrictions.entry.items)) }
+{
+    let mut forms = Vec::with_capacity(alloc, restrictions.len())?;
+    for restriction in restrictions {
+        forms.push(restriction.form)?;
+    }
+    Ok(forms)
+}
+
 /// What is done with a problem of the text, in which nothing waits.
 fn done(
     alloc: Global,
@@ -68,16 +85,19 @@ fn done(
         signature,
         rules: _,
         constants,
+        restrictions,
         lemmas,
         waits: _,
         behind_end,
     } = problem;
+    let restrictions = their_forms(alloc, restrictions)?;
     let setting = Setting {
         signature,
         book,
         constants,
+        restrictions,
     };
-    let tried = all_tried(alloc, command, &setting, lemmas)?;
+    let tried = all_tried(alloc, command, &setting, &lemmas)?;
     answered_by(alloc, command, text, &tried, behind_end)
 }
 

@@ -2,6 +2,7 @@
 
 use sp_book::book::RuleBook;
 use sp_fact::signature::Signature;
+use sp_formula::formula::Formula;
 use sp_term::term::Name;
 
 /// What the proofs of a theory's lemmas have in common.
@@ -13,4 +14,6 @@ pub struct Setting {
     pub book: RuleBook,
     /// the public names that stand in it
     pub constants: Vec<Name>,
+    /// the guarded forms of its restrictions
+    pub restrictions: Vec<Formula>,
 }

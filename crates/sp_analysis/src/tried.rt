@@ -1,11 +1,11 @@
 // What comes of a lemma: a proof is grown for it, or the one below it is checked, and tells the verdict.
 
 ghost use Rattle.std.specs.Prelude.{◌≡◌, [], IfOk, OnOk, map, option_map};
-ghost use Rattle.sp_spec.specs.Lists.{Every};
 ghost use Rattle.sp_written.specs.Views as view;
 ghost use Rattle.sp_formula.specs.FormulaView.{formula_of};
 ghost use Rattle.sp_step.specs.View as moves;
-ghost use Rattle.sp_spec_system.specs.Move.{root_system};
+ghost use Rattle.sp_solved.specs.View.{root_of};
+ghost use Rattle.sp_spec_system.specs.Move as system;
 ghost use Rattle.sp_system.specs.SystemView.{system_of};
 ghost use Rattle.sp_search.specs.Finished.{finished};
 ghost use Rattle.sp_search.specs.Kept.{log_in};
@@ -17,13 +17,14 @@ ghost use Rattle.sp_check.specs.View.{skeleton_of, judgement_of};
 ghost use Rattle.sp_spec_text.specs.Numerals.{counted};
 ghost use Rattle.sp_analysis.specs.Sought as spec;
 ghost use Rattle.sp_analysis.specs.Checking.{proof_read};
-ghost use Rattle.sp_analysis.specs.View.{setting_in, verdict_of};
+ghost use Rattle.sp_analysis.specs.View.{setting_in, taken_of, verdict_of};
 ghost use Rattle.sp_pose.specs.Asked as ask;
 ghost use Rattle.sp_analysis.specs.Printed as print;
 
 use crate::block::block_of;
 use crate::replies::Command;
 use crate::setting::Setting;
+use crate::taken::{Taken, push_taken, taken_for};
 use crate::verdict::Verdict;
 use sp_check::{Judgement, Skeleton, Step, judge};
 use sp_formula::formula::Formula;
@@ -32,7 +33,7 @@ use sp_learn::log::Log;
 use sp_pose::GuardedLemma;
 use sp_search::{Tree, grown_tree, is_finished, steps};
 use sp_skel::{skeleton, tree_text};
-use sp_solved::Sought;
+use sp_solved::{Root, Sought};
 use sp_step::context::Context;
 use sp_step::moves::Move;
 use sp_system::system::System;
@@ -58,7 +59,7 @@ pub struct Tried<'a> {
     pub block: String,
 }
 
-/// The formula that a proof begins with.
+/// What a proof of the lemma looks for, by its guarded form.
 fn sought(alloc: Global, kind: TraceKind, form: Formula) -> Result<Formula, AllocError>
     ensures { IfOk result (λ f. formula_of f ≡ spec.sought (view.kind kind) (formula_of form)) }
 {
@@ -68,26 +69,36 @@ fn sought(alloc: Global, kind: TraceKind, form: Formula) -> Result<Formula, Allo
     }
 }
 
-/// The system in which a proof begins.
-fn root(alloc: Global, sought: &Formula) -> Result<System, AllocError>
-    ensures { IfOk result (λ s. system_of s ≡ root_system (spec.root_with [] (formula_of sought.now))) }
+/// What a proof begins from.
+fn root_with<'a>(setting: &'a Setting, taken: &'a Vec<Formula>, sought: &'a Formula) -> Root<'a>
+    ensures { root_of result ≡ spec.root_with (setting_in setting.now).restrictions (map formula_of taken.now.items) (formula_of sought.now) }
 {
-    let mut formulas = Vec::new(alloc);
-    formulas.push(sought.clone()?)?;
+    Root {
+        restrictions: &setting.restrictions,
+        taken,
+        sought,
+    }
+}
+
+/// The system in which a proof begins.
+fn root_system(alloc: Global, root: &Root) -> Result<System, AllocError>
+    ensures { IfOk result (λ s. system_of s ≡ system.root_system (root_of root.now)) }
+{
+    let formulas = root.formulas(alloc)?;
     let system = System::of_formulas(alloc, formulas)?;
     Ok(system)
 }
 
-/// What the lemma's proof is made in: the search ends with a log over whose trace the formula is true.
-fn context_of<'a>(setting: &'a Setting, formula: &'a Formula) -> Context<'a>
-    ensures { moves.context_of result ≡ spec.context_of (setting_in setting.now) (spec.root_with [] (formula_of formula.now)) }
+/// What a proof is made in: the search ends with a log over whose trace the restrictions are true, and what is sought.
+fn context_of<'a>(setting: &'a Setting, root: Root<'a>) -> Context<'a>
+    ensures { moves.context_of result ≡ spec.context_of (setting_in setting.now) (root_of root.entry) }
 {
     Context {
         rules: &setting.book,
         sought: Sought {
             signature: &setting.signature,
             constants: &setting.constants,
-            formula,
+            root,
         },
     }
 }
@@ -145,67 +156,70 @@ fn by_judgement(kind: TraceKind, judgement: &Judgement) -> Verdict
     }
 }
 
-/// The formula that the proof of the lemma begins with.
-fn sought_by(alloc: Global, lemma: GuardedLemma) -> Result<Formula, AllocError>
-    ensures { IfOk result (λ f. formula_of f ≡ spec.sought (view.kind lemma.entry.kind) (formula_of lemma.entry.form)) }
+/// What a proof of the lemma looks for.
+fn sought_by(alloc: Global, lemma: &GuardedLemma) -> Result<Formula, AllocError>
+    ensures { IfOk result (λ f. formula_of f ≡ spec.sought (view.kind lemma.now.kind) (formula_of lemma.now.form)) }
 {
-    sought(alloc, lemma.kind, lemma.form)
+    let form = lemma.form.clone()?;
+    sought(alloc, lemma.kind, form)
 }
 
-/// The tree of at most so many moves that is grown for the formula.
+/// The tree of at most so many moves that is grown from the root.
 fn grown_over(
     alloc: Global,
     setting: &Setting,
     budget: u64,
-    formula: &Formula,
+    root: &Root,
 ) -> Result<Tree, AllocError>
-    ensures tree { IfOk result (λ t. tree_of t ≡ spec.proof_tree (setting_in setting.now) budget (spec.root_with [] (formula_of formula.now))) }
-    ensures log { IfOk result (λ t. log_in (kept_of t) ≡ spec.grown_log (setting_in setting.now) budget (spec.root_with [] (formula_of formula.now))) }
+    ensures tree { IfOk result (λ t. tree_of t ≡ spec.proof_tree (setting_in setting.now) budget (root_of root.now)) }
+    ensures log { IfOk result (λ t. log_in (kept_of t) ≡ spec.grown_log (setting_in setting.now) budget (root_of root.now)) }
 {
-    let context = context_of(setting, formula);
-    let root = root(alloc, formula)?;
-    let tree = grown_tree(alloc, &context, root, budget)?;
+    let context = context_of(setting, *root);
+    let system = root_system(alloc, root)?;
+    let tree = grown_tree(alloc, &context, system, budget)?;
     Ok(tree)
 }
 
-/// The tree of at most so many moves that is grown for the lemma, where none is taken from another.
+/// The tree of at most so many moves that is grown for the lemma.
 fn grown(
     alloc: Global,
     setting: &Setting,
     budget: u64,
-    lemma: GuardedLemma,
+    taken: &Vec<Taken>,
+    lemma: &GuardedLemma,
 ) -> Result<Tree, AllocError>
-    ensures tree { IfOk result (λ t. tree_of t ≡ spec.proof_tree (setting_in setting.now) budget (print.root_for [] (ask.asked_of lemma.entry))) }
-    ensures log { IfOk result (λ t. log_in (kept_of t) ≡ spec.grown_log (setting_in setting.now) budget (print.root_for [] (ask.asked_of lemma.entry))) }
+    ensures tree { IfOk result (λ t. tree_of t ≡ spec.proof_tree (setting_in setting.now) budget (print.root_for (setting_in setting.now) (map taken_of taken.now.items) (ask.asked_of lemma.now))) }
+    ensures log { IfOk result (λ t. log_in (kept_of t) ≡ spec.grown_log (setting_in setting.now) budget (print.root_for (setting_in setting.now) (map taken_of taken.now.items) (ask.asked_of lemma.now))) }
 {
-    let formula = sought_by(alloc, lemma)?;
-    grown_over(alloc, setting, budget, &formula)
+    let taken = taken_for(alloc, &lemma.attributes, taken)?;
+    let sought = sought_by(alloc, lemma)?;
+    let root = root_with(setting, &taken, &sought);
+    let tree = grown_over(alloc, setting, budget, &root)?;
+    Ok(tree)
 }
 
-/// What comes of the lemma where a proof of at most so many moves is grown for it; no lemma takes another as yet.
+/// What comes of the lemma where a proof of at most so many moves is grown for it.
 fn try_lemma<'a>(
     alloc: Global,
     setting: &Setting,
     budget: u64,
-    lemma: GuardedLemma<'a>,
+    taken: &Vec<Taken>,
+    lemma: &GuardedLemma<'a>,
 ) -> Result<Tried<'a>, AllocError>
-    ensures printed { IfOk result (λ t. print.printed_of t ≡ print.to_print (Command.Prove budget) (setting_in setting.now) [] (ask.asked_of lemma.entry)) }
-    ensures nameable { OnOk result (print.IsNameable (Command.Prove budget) (setting_in setting.now) [] (ask.asked_of lemma.entry)) }
+    ensures printed { IfOk result (λ t. print.printed_of t ≡ print.to_print (Command.Prove budget) (setting_in setting.now) (map taken_of taken.now.items) (ask.asked_of lemma.now)) }
+    ensures nameable { OnOk result (print.IsNameable (Command.Prove budget) (setting_in setting.now) (map taken_of taken.now.items) (ask.asked_of lemma.now)) }
 {
-    let name = lemma.name;
-    let kind = lemma.kind;
-    let span = lemma.span;
-    let tree = grown(alloc, setting, budget, lemma)?;
-    let verdict = by_tree(kind, &tree);
+    let tree = grown(alloc, setting, budget, taken, lemma)?;
+    let verdict = by_tree(lemma.kind, &tree);
     let steps = steps(&tree);
     let proof = tree_text(alloc, &tree)?;
     let block = block_of(alloc, setting, tree.found_log())?;
     Ok(Tried {
-        name,
-        kind,
+        name: lemma.name,
+        kind: lemma.kind,
         verdict,
         steps,
-        span,
+        span: lemma.span,
         proof,
         block,
     })
@@ -231,18 +245,18 @@ fn judged_log(judgement: &Judgement) -> Option<&Log>
     }
 }
 
-/// The judgement of a tree that was read as a proof that begins with the formula.
+/// The judgement of a tree that was read as a proof that begins from the root.
 fn judged_over(
     alloc: Global,
     setting: &Setting,
-    formula: &Formula,
+    root: &Root,
     tree: &Skeleton,
 ) -> Result<Judgement, AllocError>
-    ensures { IfOk result (λ j. judgement_of j ≡ judging.judgement (spec.context_of (setting_in setting.now) (spec.root_with [] (formula_of formula.now))) (root_system (spec.root_with [] (formula_of formula.now))) (skeleton_of tree.now)) }
+    ensures { IfOk result (λ j. judgement_of j ≡ judging.judgement (spec.context_of (setting_in setting.now) (root_of root.now)) (system.root_system (root_of root.now)) (skeleton_of tree.now)) }
 {
-    let context = context_of(setting, formula);
-    let root = root(alloc, formula)?;
-    let judgement = judge(alloc, &context, root, tree)?;
+    let context = context_of(setting, *root);
+    let system = root_system(alloc, root)?;
+    let judgement = judge(alloc, &context, system, tree)?;
     Ok(judgement)
 }
 
@@ -250,26 +264,32 @@ fn judged_over(
 fn judged_with(
     alloc: Global,
     setting: &Setting,
-    lemma: GuardedLemma,
+    taken: &Vec<Taken>,
+    lemma: &GuardedLemma,
     tree: &Skeleton,
 ) -> Result<Judgement, AllocError>
-    ensures { IfOk result (λ j. judgement_of j ≡ judging.judgement (spec.context_of (setting_in setting.now) (print.root_for [] (ask.asked_of lemma.entry))) (root_system (print.root_for [] (ask.asked_of lemma.entry))) (skeleton_of tree.now)) }
+    ensures { let root = print.root_for (setting_in setting.now) (map taken_of taken.now.items) (ask.asked_of lemma.now) in
+        IfOk result (λ j. judgement_of j ≡ judging.judgement (spec.context_of (setting_in setting.now) root) (system.root_system root) (skeleton_of tree.now)) }
 {
-    let formula = sought_by(alloc, lemma)?;
-    judged_over(alloc, setting, &formula, tree)
+    let taken = taken_for(alloc, &lemma.attributes, taken)?;
+    let sought = sought_by(alloc, lemma)?;
+    let root = root_with(setting, &taken, &sought);
+    let judgement = judged_over(alloc, setting, &root, tree)?;
+    Ok(judgement)
 }
 
 /// The judgement of the lemma's proof, and how many moves that has.
 fn judged(
     alloc: Global,
     setting: &Setting,
-    lemma: GuardedLemma,
+    taken: &Vec<Taken>,
+    lemma: &GuardedLemma,
 ) -> Result<(Judgement, u64), AllocError>
-    ensures judgement { IfOk result (λ r. judgement_of r.0 ≡ print.judged_so (setting_in setting.now) (print.root_for [] (ask.asked_of lemma.entry)) (ask.asked_of lemma.entry).proof) }
-    ensures steps { IfOk result (λ r. r.1 ≡ counted (read.steps (proof_read (ask.asked_of lemma.entry).proof))) }
+    ensures judgement { IfOk result (λ r. judgement_of r.0 ≡ print.judged_so (setting_in setting.now) (print.root_for (setting_in setting.now) (map taken_of taken.now.items) (ask.asked_of lemma.now)) (ask.asked_of lemma.now).proof) }
+    ensures steps { IfOk result (λ r. r.1 ≡ counted (read.steps (proof_read (ask.asked_of lemma.now).proof))) }
 {
     let tree = read_proof(alloc, &lemma.proof)?;
-    let judgement = judged_with(alloc, setting, lemma, &tree)?;
+    let judgement = judged_with(alloc, setting, taken, lemma, &tree)?;
     let steps = sp_check::steps(&tree);
     Ok((judgement, steps))
 }
@@ -278,62 +298,44 @@ fn judged(
 fn judge_lemma<'a>(
     alloc: Global,
     setting: &Setting,
-    lemma: GuardedLemma<'a>,
+    taken: &Vec<Taken>,
+    lemma: &GuardedLemma<'a>,
 ) -> Result<Tried<'a>, AllocError>
-    ensures printed { IfOk result (λ t. print.printed_of t ≡ print.to_print Command.Check (setting_in setting.now) [] (ask.asked_of lemma.entry)) }
-    ensures nameable { OnOk result (print.IsNameable Command.Check (setting_in setting.now) [] (ask.asked_of lemma.entry)) }
+    ensures printed { IfOk result (λ t. print.printed_of t ≡ print.to_print Command.Check (setting_in setting.now) (map taken_of taken.now.items) (ask.asked_of lemma.now)) }
+    ensures nameable { OnOk result (print.IsNameable Command.Check (setting_in setting.now) (map taken_of taken.now.items) (ask.asked_of lemma.now)) }
 {
-    let name = lemma.name;
-    let kind = lemma.kind;
-    let span = lemma.span;
-    let (judgement, steps) = judged(alloc, setting, lemma)?;
-    let verdict = by_judgement(kind, &judgement);
+    let (judgement, steps) = judged(alloc, setting, taken, lemma)?;
+    let verdict = by_judgement(lemma.kind, &judgement);
     let block = block_of(alloc, setting, judged_log(&judgement))?;
     Ok(Tried {
-        name,
-        kind,
+        name: lemma.name,
+        kind: lemma.kind,
         verdict,
         steps,
-        span,
+        span: lemma.span,
         proof: String::new(alloc),
         block,
     })
 }
 
-/// What comes of the lemma by the command.
+/// What comes of the lemma by the command, where these are taken.
 fn outcome<'a>(
     alloc: Global,
     command: Command,
     setting: &Setting,
-    lemma: GuardedLemma<'a>,
+    taken: &Vec<Taken>,
+    lemma: &GuardedLemma<'a>,
 ) -> Result<Tried<'a>, AllocError>
-    ensures printed { IfOk result (λ t. print.printed_of t ≡ print.to_print command (setting_in setting.now) [] (ask.asked_of lemma.entry)) }
-    ensures nameable { OnOk result (print.IsNameable command (setting_in setting.now) [] (ask.asked_of lemma.entry)) }
+    ensures printed { IfOk result (λ t. print.printed_of t ≡ print.to_print command (setting_in setting.now) (map taken_of taken.now.items) (ask.asked_of lemma.now)) }
+    ensures nameable { OnOk result (print.IsNameable command (setting_in setting.now) (map taken_of taken.now.items) (ask.asked_of lemma.now)) }
 {
     match command {
-        Command::Prove(budget) => try_lemma(alloc, setting, budget, lemma),
-        Command::Check => judge_lemma(alloc, setting, lemma),
+        Command::Prove(budget) => try_lemma(alloc, setting, budget, taken, lemma),
+        Command::Check => judge_lemma(alloc, setting, taken, lemma),
     }
 }
 
-/// What comes of each lemma, in their order, where none takes another.
-fn each_tried<'a>(
-    alloc: Global,
-    command: Command,
-    setting: &Setting,
-    lemmas: Vec<GuardedLemma<'a>>,
-) -> Result<Vec<Tried<'a>>, AllocError>
-    ensures printed { IfOk result (λ ts. map print.printed_of ts.items ≡ map (print.to_print command (setting_in setting.now) []) (map ask.asked_of lemmas.entry.items)) }
-    ensures nameable { OnOk result (Every (print.IsNameable command (setting_in setting.now) []) (map ask.asked_of lemmas.entry.items)) }
-{
-    let mut made = Vec::with_capacity(alloc, lemmas.len())?;
-    for lemma in lemmas {
-        made.push(outcome(alloc, command, setting, lemma)?)?;
-    }
-    Ok(made)
-}
-
-/// What comes of each lemma, in their order; as yet none takes another.
+/// What comes of each lemma, in their order; each takes what those before it gave.
 ///
 /// # Errors
 ///
@@ -342,11 +344,17 @@ pub fn all_tried<'a>(
     alloc: Global,
     command: Command,
     setting: &Setting,
-    lemmas: Vec<GuardedLemma<'a>>,
+    lemmas: &Vec<GuardedLemma<'a>>,
 ) -> Result<Vec<Tried<'a>>, AllocError>
-    ensures printed { IfOk result (λ ts. map print.printed_of ts.items ≡ print.all_to_print command (setting_in setting.now) [] (map ask.asked_of lemmas.entry.items)) }
-    ensures nameable { OnOk result (print.AreNameable command (setting_in setting.now) [] (map ask.asked_of lemmas.entry.items)) }
+    ensures printed { IfOk result (λ ts. map print.printed_of ts.items ≡ print.all_to_print command (setting_in setting.now) [] (map ask.asked_of lemmas.now.items)) }
+    ensures nameable { OnOk result (print.AreNameable command (setting_in setting.now) [] (map ask.asked_of lemmas.now.items)) }
 {
-    let tried = each_tried(alloc, command, setting, lemmas)?;
-    Ok(tried)
+    let mut made = Vec::with_capacity(alloc, lemmas.len())?;
+    let mut taken = Vec::new(alloc);
+    for lemma in lemmas {
+        let tried = outcome(alloc, command, setting, &taken, lemma)?;
+        push_taken(&mut taken, lemma, tried.verdict)?;
+        made.push(tried)?;
+    }
+    Ok(made)
 }

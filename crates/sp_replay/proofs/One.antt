@@ -2,7 +2,8 @@
 use Rattle.std.proofs.Common.{◌≡◌, Bool, true, false, ℕ, List, [], ◌∷◌, ◌++◌, refl, sym, ap, ap₂, ◌∙◌, subst}
 use Rattle.sp_spec.specs.Rule.{Action}
 use Rattle.sp_spec.specs.Signature.{Symbol, Signature}
-use Rattle.sp_spec.specs.Theory.{Lemma, signature_of}
+use Rattle.sp_spec.specs.Formula.{Formula}
+use Rattle.sp_spec.specs.Theory.{signature_of}
 use Rattle.sp_spec.specs.Execution.{Step, Trace, Cause}
 use Rattle.sp_law_run.proofs.Runs.{runs_alike}
 use Rattle.sp_law_run.proofs.Written.{rules_right}
@@ -19,7 +20,7 @@ use Rattle.sp_read_theory.proofs.Whole.{text_one, places_one}
 use Rattle.sp_pose.specs.Problem.{Poses}
 use Rattle.sp_pose.proofs.One.{not_posed, ready_or_waiting}
 use Rattle.sp_pose.proofs.BasicTheories.{normal_forms}
-use Rattle.sp_replay.specs.Replay.{theory_said, lines_behind, HasLines, steps_done, IsUnread, IsStopped, IsMet, AreMet, met_lines, IsReplay}
+use Rattle.sp_replay.specs.Replay.{theory_said, lines_behind, HasLines, steps_done, IsUnread, IsStopped, IsMet, AreMet, restriction_formulas, lemma_formulas, restriction_lines, met_lines, IsReplay}
 use Rattle.sp_replay.specs.Laws.{RepliesAreOne}
 use Rattle.sp_law_printed_log.proofs.TextNames.{texts_have_names_lem}
 use Rattle.sp_spec.proofs.Lists.{newest_twice}
@@ -58,40 +59,45 @@ same_entries xs ys e = sym (newest_twice xs) ∙ ap newest_first e ∙ newest_tw
 
 -- ---- truth is told in one way
 
-met_one : (signature : Signature) (trace : Trace) (l : Lemma) (b c : Bool) → IsMet signature trace b l → IsMet signature trace c l → b ≡ c
-met_one signature trace l true true h k = refl
-met_one signature trace l true false h k = absurd (k h)
-met_one signature trace l false true h k = absurd (h k)
-met_one signature trace l false false h k = refl
+met_one : (signature : Signature) (trace : Trace) (f : Formula) (b c : Bool) → IsMet signature trace b f → IsMet signature trace c f → b ≡ c
+met_one signature trace f true true h k = refl
+met_one signature trace f true false h k = absurd (k h)
+met_one signature trace f false true h k = absurd (h k)
+met_one signature trace f false false h k = refl
 
-mets_one : (signature : Signature) (trace : Trace) (ls : List Lemma) (bs cs : List Bool) → AreMet signature trace ls bs → AreMet signature trace ls cs → bs ≡ cs
+mets_one : (signature : Signature) (trace : Trace) (fs : List Formula) (bs cs : List Bool) → AreMet signature trace fs bs → AreMet signature trace fs cs → bs ≡ cs
 mets_one signature trace [] [] [] h k = refl
 mets_one signature trace [] [] (c ∷ cs) h k = absurd k
 mets_one signature trace [] (b ∷ bs) cs h k = absurd h
-mets_one signature trace (l ∷ ls) [] cs h k = absurd h
-mets_one signature trace (l ∷ ls) (b ∷ bs) [] h k = absurd k
-mets_one signature trace (l ∷ ls) (b ∷ bs) (c ∷ cs) h k = ap₂ (λ (d : Bool) (ds : List Bool). d ∷ ds) (met_one signature trace l b c h.0 k.0) (mets_one signature trace ls bs cs h.1 k.1)
+mets_one signature trace (f ∷ fs) [] cs h k = absurd h
+mets_one signature trace (f ∷ fs) (b ∷ bs) [] h k = absurd k
+mets_one signature trace (f ∷ fs) (b ∷ bs) (c ∷ cs) h k = ap₂ (λ (d : Bool) (ds : List Bool). d ∷ ds) (met_one signature trace f b c h.0 k.0) (mets_one signature trace fs bs cs h.1 k.1)
 
 -- what is done of a theory's steps
-record Told (theory : WrittenText) (steps : List Step) (entries : List (List (Action ⊥))) (met : List Bool) : Type 0 where
+record Told (theory : WrittenText) (steps : List Step) (entries : List (List (Action ⊥))) (kept met : List Bool) : Type 0 where
   replayed : IsReplayed (theory_said theory) (steps_done (theory_said theory) steps) (newest_first entries)
-  met_are : AreMet (signature_of (theory_said theory)) replayed.shown (theory_said theory).lemmas met
+  kept_are : AreMet (signature_of (theory_said theory)) replayed.shown (restriction_formulas (theory_said theory).restrictions) kept
+  met_are : AreMet (signature_of (theory_said theory)) replayed.shown (lemma_formulas (theory_said theory).lemmas) met
 
-told_one : {text : List ℕ} {theory : WrittenText} {steps : List Step} {entries others : List (List (Action ⊥))} {met meets : List Bool} → Poses text theory
-    → Told theory steps entries met → Told theory steps others meets → (entries ≡ others) × (met ≡ meets)
-told_one {theory = theory} {steps = steps} {entries = entries} {others = others} {met = met} {meets = meets} poses a b =
+told_one : {text : List ℕ} {theory : WrittenText} {steps : List Step} {entries others : List (List (Action ⊥))} {kept keeps met meets : List Bool} → Poses text theory
+    → Told theory steps entries kept met → Told theory steps others keeps meets → (entries ≡ others) × (kept ≡ keeps) × (met ≡ meets)
+told_one {theory = theory} {steps = steps} {entries = entries} {others = others} {kept = kept} {keeps = keeps} {met = met} {meets = meets} poses a b =
     let said = theory_said theory in
     let ran = steps_done (theory_said theory) steps in
     let right = rules_right (theory_in theory).rules poses.fine.rule_names in
     let traces = one_trace said ran (newest_first entries) (newest_first others) a.replayed b.replayed in
     let shown = (runs_alike said (normal_forms poses).normal_forms right (newest_first ran) a.replayed.executed.0 b.replayed.executed.0 a.replayed.shown b.replayed.shown a.replayed.executed.1 b.replayed.executed.1).1 in
-    let over = subst (λ (t : Trace). AreMet (signature_of said) t said.lemmas met) shown a.met_are in
-    (same_entries entries others traces, mets_one (signature_of said) b.replayed.shown said.lemmas met meets over b.met_are)
+    let kept_over = subst (λ (t : Trace). AreMet (signature_of said) t (restriction_formulas said.restrictions) kept) shown a.kept_are in
+    let met_over = subst (λ (t : Trace). AreMet (signature_of said) t (lemma_formulas said.lemmas) met) shown a.met_are in (
+      same_entries entries others traces,
+      mets_one (signature_of said) b.replayed.shown (restriction_formulas said.restrictions) kept keeps kept_over b.kept_are,
+      mets_one (signature_of said) b.replayed.shown (lemma_formulas said.lemmas) met meets met_over b.met_are,
+    )
 
-told_there : {text written : List ℕ} (a : IsReplay text written) {theory : WrittenText} {steps : List Step} → a.theory ≡ theory → a.steps ≡ steps → Told theory steps a.entries a.met
+told_there : {text written : List ℕ} (a : IsReplay text written) {theory : WrittenText} {steps : List Step} → a.theory ≡ theory → a.steps ≡ steps → Told theory steps a.entries a.kept a.met
 told_there a {theory} {steps} e d =
-    subst (λ (t : WrittenText). Told t steps a.entries a.met) e
-    (subst (λ (xs : List Step). Told a.theory xs a.entries a.met) d (record { replayed = a.replayed; met_are = a.met_are }))
+    subst (λ (t : WrittenText). Told t steps a.entries a.kept a.met) e
+    (subst (λ (xs : List Step). Told a.theory xs a.entries a.kept a.met) d (record { replayed = a.replayed; kept_are = a.kept_are; met_are = a.met_are }))
 
 -- ---- answers
 
@@ -100,10 +106,11 @@ one_replay text written other a b =
     let same = same_lines a.has_lines b.has_lines in
     let steps : a.steps ≡ b.steps = same_steps a.has_lines b.has_lines a.read b.read in
     let told = told_one b.has_lines.poses (told_there a same.0 steps) (told_there b refl refl) in
-    let lemmas : (theory_said a.theory).lemmas ≡ (theory_said b.theory).lemmas = ap (λ (t : WrittenText). (theory_said t).lemmas) same.0 in
+    let said = theory_said b.theory in
     a.written_is
-    ∙ ap₂ (λ (es : List (List (Action ⊥))) (bs : List Bool). trace_block es ++ met_lines (theory_said a.theory).lemmas bs) told.0 told.1
-    ∙ ap (λ (ls : List Lemma). trace_block b.entries ++ met_lines ls b.met) lemmas
+    ∙ ap (λ (t : WrittenText). trace_block a.entries ++ (restriction_lines (theory_said t).restrictions a.kept ++ met_lines (theory_said t).lemmas a.met)) same.0
+    ∙ ap₂ (λ (es : List (List (Action ⊥))) (words : List ℕ). trace_block es ++ words) told.0
+    (ap₂ (λ (ks ms : List Bool). restriction_lines said.restrictions ks ++ met_lines said.lemmas ms) told.1 told.2)
     ∙ sym b.written_is
 
 fault_there : {text : List ℕ} {n : ℕ} {cause : Cause} (a : IsStopped text n cause) {theory : WrittenText} {steps : List Step} → a.theory ≡ theory → a.steps ≡ steps

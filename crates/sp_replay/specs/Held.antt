@@ -1,17 +1,26 @@
--- What the code writes of lemmas that are kept by their guarded forms.
+-- What the code writes of restrictions and lemmas that are kept by their guarded forms.
 use Rattle.std.specs.Prelude.{ℕ, Bool, List, [], ◌∷◌, ◌++◌, codes}
 use Rattle.sp_spec.specs.Execution.{Trace}
+use Rattle.sp_spec.specs.Guarded.{Guarded}
 use Rattle.sp_law_decide.specs.Deciding.{empty, decided}
 use Rattle.sp_pose.specs.Asked.{Asked}
+use Rattle.sp_pose.specs.Required.{Required}
 use Rattle.sp_spec_printed.specs.Kind.{kind_text}
 use Rattle.sp_replay.specs.Replay.{met_text}
 
 -- whether the guarded form is true over the trace
-abbrev pub held : Trace → Asked → Bool
-held trace a = decided trace empty a.form
+abbrev pub held : Trace → Guarded → Bool
+held trace form = decided trace empty form
+
+abbrev pub required_line : Trace → Required → List ℕ
+required_line trace q = q.name ++ (codes " (restriction): " ++ met_text (held trace q.form))
+
+abbrev pub required_lines : Trace → List Required → List ℕ
+required_lines trace [] = []
+required_lines trace (q ∷ qs) = required_line trace q ++ required_lines trace qs
 
 abbrev pub held_line : Trace → Asked → List ℕ
-held_line trace a = a.name ++ (codes " (" ++ (kind_text a.kind ++ (codes "): " ++ met_text (held trace a))))
+held_line trace a = a.name ++ (codes " (" ++ (kind_text a.kind ++ (codes "): " ++ met_text (held trace a.form))))
 
 abbrev pub held_lines : Trace → List Asked → List ℕ
 held_lines trace [] = []

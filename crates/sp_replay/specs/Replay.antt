@@ -3,7 +3,8 @@
 use Rattle.std.specs.Prelude.{◌≡◌, ℕ, Bool, true, false, ◌==◌, if◌then◌else◌, List, [], ◌∷◌, ◌++◌, drop, map, codes}
 use Rattle.sp_spec.specs.Rule.{Action}
 use Rattle.sp_spec.specs.Signature.{Signature}
-use Rattle.sp_spec.specs.Theory.{Theory, Lemma, signature_of}
+use Rattle.sp_spec.specs.Formula.{Formula}
+use Rattle.sp_spec.specs.Theory.{Theory, Restriction, Lemma, signature_of}
 use Rattle.sp_spec.specs.Written.{theory_of}
 use Rattle.sp_spec.specs.Execution.{Step, Trace, Cause}
 use Rattle.sp_spec.specs.Truth.{IsTrueOver}
@@ -15,7 +16,7 @@ use Rattle.sp_spec_printed.specs.StepLines.{AreSteps, IsFirstUnread}
 use Rattle.sp_exec.specs.Replay.{IsReplayed, IsFirstFault}
 use Rattle.sp_spec_text.specs.Written.{WrittenText}
 use Rattle.sp_spec_text.specs.Declared.{theory_in}
-use Rattle.sp_spec_text.specs.Waiting.{waits}
+use Rattle.sp_pose.specs.Waiting.{waits}
 use Rattle.sp_spec_text.specs.Spans.{Span}
 use Rattle.sp_spec_text.specs.Texts.{ArePlaces}
 use Rattle.sp_pose.specs.Problem.{Poses}
@@ -63,21 +64,34 @@ pub record IsStopped (text : List ℕ) (number : ℕ) (cause : Cause) : Type 0 w
   pub read : AreSteps (signature_of (theory_said theory)).symbols found steps
   pub fault : IsFirstFault (theory_said theory) (steps_done (theory_said theory) steps) number cause
 
--- whether a lemma's formula is true over the trace
-abbrev pub IsMet : Signature → Trace → Bool → Lemma → Type 0
-IsMet signature trace true lemma = IsTrueOver signature trace lemma.formula
-IsMet signature trace false lemma = IsTrueOver signature trace lemma.formula → ⊥
+-- whether a formula is true over the trace
+abbrev pub IsMet : Signature → Trace → Bool → Formula → Type 0
+IsMet signature trace true formula = IsTrueOver signature trace formula
+IsMet signature trace false formula = IsTrueOver signature trace formula → ⊥
 
--- for each lemma, in the order of the text
-abbrev pub AreMet : Signature → Trace → List Lemma → List Bool → Type 0
+-- for each formula, in their order
+abbrev pub AreMet : Signature → Trace → List Formula → List Bool → Type 0
 AreMet signature trace [] [] = Unit {0}
 AreMet signature trace [] (b ∷ bs) = ⊥
-AreMet signature trace (l ∷ ls) [] = ⊥
-AreMet signature trace (l ∷ ls) (b ∷ bs) = IsMet signature trace b l × AreMet signature trace ls bs
+AreMet signature trace (f ∷ fs) [] = ⊥
+AreMet signature trace (f ∷ fs) (b ∷ bs) = IsMet signature trace b f × AreMet signature trace fs bs
+
+abbrev pub restriction_formulas : List Restriction → List Formula
+restriction_formulas rs = map (λ (r : Restriction). r.formula) rs
+
+abbrev pub lemma_formulas : List Lemma → List Formula
+lemma_formulas ls = map (λ (l : Lemma). l.formula) ls
 
 abbrev pub met_text : Bool → List ℕ
 met_text true = codes "met\n"
 met_text false = codes "broken\n"
+
+abbrev pub restriction_line : Restriction → Bool → List ℕ
+restriction_line r b = r.name ++ (codes " (restriction): " ++ met_text b)
+
+abbrev pub restriction_lines : List Restriction → List Bool → List ℕ
+restriction_lines (r ∷ rs) (b ∷ bs) = restriction_line r b ++ restriction_lines rs bs
+restriction_lines rs bs = []
 
 abbrev pub met_line : Lemma → Bool → List ℕ
 met_line l b = l.name ++ (codes " (" ++ (kind_text l.kind ++ (codes "): " ++ met_text b)))
@@ -86,8 +100,8 @@ abbrev pub met_lines : List Lemma → List Bool → List ℕ
 met_lines (l ∷ ls) (b ∷ bs) = met_line l b ++ met_lines ls bs
 met_lines ls bs = []
 
--- The lines are those of steps, which are an execution; its trace in normal form is written, the oldest entry first, and for each lemma
--- whether the formula is true over the trace.
+-- The lines are those of steps, which are an execution; its trace in normal form is written, the oldest entry first, and for each restriction
+-- and then for each lemma, in the order of the text, whether the formula is true over the trace.
 pub record IsReplay (text written : List ℕ) : Type 0 where
   pub theory : WrittenText
   pub found : List (List ℕ)
@@ -96,6 +110,8 @@ pub record IsReplay (text written : List ℕ) : Type 0 where
   pub read : AreSteps (signature_of (theory_said theory)).symbols found steps
   pub entries : List (List (Action ⊥))
   pub replayed : IsReplayed (theory_said theory) (steps_done (theory_said theory) steps) (newest_first entries)
+  pub kept : List Bool
+  pub kept_are : AreMet (signature_of (theory_said theory)) replayed.shown (restriction_formulas (theory_said theory).restrictions) kept
   pub met : List Bool
-  pub met_are : AreMet (signature_of (theory_said theory)) replayed.shown (theory_said theory).lemmas met
-  pub written_is : written ≡ trace_block entries ++ met_lines (theory_said theory).lemmas met
+  pub met_are : AreMet (signature_of (theory_said theory)) replayed.shown (lemma_formulas (theory_said theory).lemmas) met
+  pub written_is : written ≡ trace_block entries ++ (restriction_lines (theory_said theory).restrictions kept ++ met_lines (theory_said theory).lemmas met)

@@ -53,7 +53,7 @@ fn replayed_on(alloc: Global, text: &[u8], problem: Problem) -> Result<Attempt, 
     match replay(alloc, &signature, &problem.rules, &steps)? {
         Replayed::Refused(number, cause) => Ok(Attempt::Stopped(number, cause)),
         Replayed::Done(trace) => {
-            let written = written_by(alloc, &problem.lemmas, &trace)?;
+            let written = written_by(alloc, &problem.restrictions, &problem.lemmas, &trace)?;
             Ok(Attempt::Done(written))
         }
     }

@@ -4,20 +4,51 @@ ghost use Rattle.std.specs.Prelude.{◌≡◌, ◌++◌, IfOk, OnOk, map};
 ghost use Rattle.sp_fact.specs.GroundView.{entries_of, trace_of};
 ghost use Rattle.sp_spec_printed.specs.Printed.{trace_block};
 ghost use Rattle.sp_pose.specs.Asked.{asked_of};
-ghost use Rattle.sp_replay.specs.Held.{held_line, held_lines};
+ghost use Rattle.sp_pose.specs.Required.{required_of};
+ghost use Rattle.sp_replay.specs.Held.{required_line, required_lines, held_line, held_lines};
 ghost use Rattle.sp_replay.specs.Replay as spec;
 
 use sp_eval::truth::holds;
 use sp_fact::ground_fact::Trace;
-use sp_pose::{GuardedLemma, kind_text};
+use sp_pose::{GuardedLemma, GuardedRestriction, kind_text};
 use sp_show::trace::trace_block;
 use std::alloc::{AllocError, Global};
 
-/// The words for a lemma that is true, or isn't.
+/// The words for a formula that is true, or isn't.
 fn met_text(met: bool) -> &'static [u8]
     ensures { result.now ≡ spec.met_text met }
 {
     if met { b"met\n" } else { b"broken\n" }
+}
+
+/// Puts the line of a restriction at the end.
+fn write_restriction(
+    alloc: Global,
+    out: &mut Vec<u8>,
+    restriction: &GuardedRestriction,
+    trace: &Trace,
+) -> Result<(), AllocError>
+    ensures { OnOk result (out.new.items ≡ out.old.items ++ required_line (trace_of trace.now) (required_of restriction.now)) }
+{
+    let met = holds(alloc, &restriction.form, trace)?;
+    out.extend_from_slice(restriction.name.as_bytes())?;
+    out.extend_from_slice(b" (restriction): ")?;
+    out.extend_from_slice(met_text(met))
+}
+
+/// Puts a line for each restriction at the end.
+fn write_restrictions(
+    alloc: Global,
+    out: &mut Vec<u8>,
+    restrictions: &Vec<GuardedRestriction>,
+    trace: &Trace,
+) -> Result<(), AllocError>
+    ensures { OnOk result (out.new.items ≡ out.old.items ++ required_lines (trace_of trace.now) (map required_of restrictions.now.items)) }
+{
+    for restriction in restrictions {
+        write_restriction(alloc, out, restriction, trace)?;
+    }
+    Ok(())
 }
 
 /// Puts the line of a lemma at the end.
@@ -37,18 +68,33 @@ fn write_lemma(
     out.extend_from_slice(met_text(met))
 }
 
-/// The block of the trace, and a line for each lemma.
+/// Puts a line for each lemma at the end.
+fn write_lemmas(
+    alloc: Global,
+    out: &mut Vec<u8>,
+    lemmas: &Vec<GuardedLemma>,
+    trace: &Trace,
+) -> Result<(), AllocError>
+    ensures { OnOk result (out.new.items ≡ out.old.items ++ held_lines (trace_of trace.now) (map asked_of lemmas.now.items)) }
+{
+    for lemma in lemmas {
+        write_lemma(alloc, out, lemma, trace)?;
+    }
+    Ok(())
+}
+
+/// The block of the trace, and a line for each restriction and for each lemma.
 pub fn written_by(
     alloc: Global,
+    restrictions: &Vec<GuardedRestriction>,
     lemmas: &Vec<GuardedLemma>,
     trace: &Trace,
 ) -> Result<Vec<u8>, AllocError>
-    ensures { IfOk result (λ text. text.items ≡ trace_block (entries_of trace.now) ++ held_lines (trace_of trace.now) (map asked_of lemmas.now.items)) }
+    ensures { IfOk result (λ text. text.items ≡ trace_block (entries_of trace.now) ++ (required_lines (trace_of trace.now) (map required_of restrictions.now.items) ++ held_lines (trace_of trace.now) (map asked_of lemmas.now.items))) }
 {
     let block = trace_block(alloc, trace)?;
     let mut out = Vec::from_slice(alloc, block.as_bytes())?;
-    for lemma in lemmas {
-        write_lemma(alloc, &mut out, lemma, trace)?;
-    }
+    write_restrictions(alloc, &mut out, restrictions, trace)?;
+    write_lemmas(alloc, &mut out, lemmas, trace)?;
     Ok(out)
 }

@@ -4,7 +4,7 @@ use Rattle.sp_io.specs.Told.{Rose, extended}
 use Rattle.sp_top.specs.Answer.{text_limit, TextAnswer, MayBeTooLong, MayBeText, IsFileAnswer, IsLineAnswer, IsAnswer}
 use Rattle.sp_spec.specs.Lists.{Member}
 use Rattle.sp_spec_text.specs.Written.{WrittenText}
-use Rattle.sp_spec_text.specs.Waiting.{waits}
+use Rattle.sp_pose.specs.Waiting.{waits}
 use Rattle.sp_pose.specs.Problem.{Poses, IsWaiting}
 use Rattle.sp_top.specs.Command.{Request, fetched, IsAbout, command_word, request_for, IsLine, IsNoLine}
 use Rattle.sp_top.specs.Run.{IsCutShort, UsageExactly, ReadFaultExactly, TooLongExactly, AnswersExactly, WaitsExactly, HasVerdicts, IsRight, VerdictsHold}

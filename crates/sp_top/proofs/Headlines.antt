@@ -1,14 +1,14 @@
 -- Each verdict of an answer is so, line by line.
-use Rattle.std.proofs.Common.{◌≡◌, ℕ, List, [], ◌∷◌, ◌++◌, map, codes, Option, inl, inr, refl, sym, ap, subst, ◌∙◌, append-nil, false, arith}
+use Rattle.std.proofs.Common.{◌≡◌, ℕ, List, [], ◌∷◌, ◌++◌, map, codes, inl, inr, refl, sym, ap, subst, ◌∙◌, append-nil, false, arith}
 use Rattle.sp_spec.specs.Lists.{Member, Every, Distinct}
 use Rattle.sp_spec.proofs.Lists.{distinct_right}
 use Rattle.sp_spec.specs.Theory.{Theory, Restriction, Lemma}
 use Rattle.sp_spec.specs.Written.{theory_of}
 use Rattle.sp_spec.specs.Verdict.{names_learning}
 use Rattle.sp_spec_proof.specs.Tree.{steps}
-use Rattle.sp_spec_text.specs.Written.{WrittenProof, WrittenText, lemmas_with_proofs, without_proofs}
+use Rattle.sp_spec_text.specs.Written.{WrittenText}
 use Rattle.sp_spec_text.specs.Declared.{resolved, theory_in}
-use Rattle.sp_spec_text.specs.Waiting.{waits}
+use Rattle.sp_pose.specs.Waiting.{waits}
 use Rattle.sp_spec_printed.specs.Verdict.{summary_line}
 use Rattle.sp_spec_text.specs.Names.{IsNameWord}
 use Rattle.sp_spec_text.specs.Blanks.{lines}
@@ -21,13 +21,14 @@ use Rattle.sp_law_printed_log.specs.Block.{block_of}
 use Rattle.sp_law_printed_log.proofs.NoFeeds.{line_cut, no_feed_in}
 use Rattle.sp_law_printed_log.proofs.Sections.{IsNoVerdict, nothing_there, behind_word}
 use Rattle.sp_law_printed_log.proofs.TextNames.{texts_have_names_lem}
+use Rattle.sp_analysis.specs.Taken.{Stated, stated_in, lemmas_stated, Taken, taken_by}
 use Rattle.sp_analysis.specs.Sought.{Setting, setting_of}
 use Rattle.sp_spec_text.specs.Numerals.{counted}
 use Rattle.sp_analysis.specs.Analysis.{Outcome, summary, AreOutcomes}
 use Rattle.sp_analysis.specs.Checking.{Judged, checked_text, AreJudged}
 use Rattle.sp_analysis.specs.Laws.{Means, AreReadBack, JudgedRightly}
 use Rattle.sp_pose.proofs.WaitingItems.{lemmas_unlearnt}
-use Rattle.sp_analysis.proofs.NoneTaken.{outcome_parts, judged_parts}
+use Rattle.sp_analysis.proofs.StatedItems.{stated_lemmas}
 use Rattle.sp_analysis.proofs.ReadBack.{executions_are_read_back_lem}
 use Rattle.sp_top.specs.Headline.{LinesAreTrue}
 use Rattle.sp_top.specs.Run.{TriedRightly, CheckedRightly}
@@ -57,16 +58,18 @@ all_known bytes text posing ready = go (theory_in text).lemmas (λ l m. m) (text
     go [] among h k = tt
     go (l ∷ ls) among h k = (record { stands = among l (inl refl); named = h.0; unlearnt = k.0 }, go ls (λ x m. among x (inr m)) h.1 k.1)
 
-outcomes_told : (text : WrittenText) (setting : Setting) (budget : ℕ) (ls : List Lemma) (os : List Outcome) → Every (IsKnown text) ls → AreOutcomes setting budget [] ls os
+outcomes_told : (text : WrittenText) (setting : Setting) (budget : ℕ) (taken : List Taken) (qs : List Stated) (os : List Outcome) → Every (IsKnown text) (lemmas_stated qs)
+    → AreOutcomes setting budget taken qs os
     → Every (λ (o : Outcome). Means (theory_of (theory_in text)) o.lemma.kind o.verdict o.log o.lemma) os → Every (λ (o : Outcome). AreReadBack (theory_of (theory_in text)) o.log) os
     → Every (IsRightlyTold text) (map told_of os)
-outcomes_told text setting budget [] [] k h m r = tt
-outcomes_told text setting budget [] (o ∷ os) k h m r = absurd h
-outcomes_told text setting budget (l ∷ ls) [] k h m r = absurd h
-outcomes_told text setting budget (l ∷ ls) (o ∷ os) k h m r =
-    let parts = outcome_parts setting budget l ls o os h in
-    let known = subst (IsKnown text) (sym parts.0.lemma_is) k.0 in
-    (record { stands = known.stands; named = known.named.1; unlearnt = known.unlearnt; means = m.0; read = r.0 }, outcomes_told text setting budget ls os k.1 parts.1 m.1 r.1)
+outcomes_told text setting budget taken [] [] k h m r = tt
+outcomes_told text setting budget taken [] (o ∷ os) k h m r = absurd h
+outcomes_told text setting budget taken (q ∷ qs) [] k h m r = absurd h
+outcomes_told text setting budget taken (q ∷ qs) (o ∷ os) k h m r =
+    let known = subst (IsKnown text) (sym h.0.lemma_is) k.0 in (
+      record { stands = known.stands; named = known.named.1; unlearnt = known.unlearnt; means = m.0; read = r.0 },
+      outcomes_told text setting budget (taken ++ taken_by q o.verdict) qs os k.1 h.1 m.1 r.1,
+    )
 
 -- ---- proofs that are checked
 
@@ -77,15 +80,16 @@ checked_told : (theory : Theory) (js : List Judged) → checked_text theory js �
 checked_told theory [] = refl
 checked_told theory (j ∷ js) = ap (λ (xs : List ℕ). summary_line j.lemma.name j.lemma.kind j.verdict (counted (read.steps j.proof)) ++ (block_of theory j.log ++ xs)) (checked_told theory js)
 
-judged_told : (text : WrittenText) (setting : Setting) (qs : List (Lemma × Option WrittenProof)) (js : List Judged) → Every (IsKnown text) (without_proofs qs) → AreJudged setting [] qs js
+judged_told : (text : WrittenText) (setting : Setting) (taken : List Taken) (qs : List Stated) (js : List Judged) → Every (IsKnown text) (lemmas_stated qs) → AreJudged setting taken qs js
     → Every (JudgedRightly (theory_in text)) js → Every (λ (j : Judged). AreReadBack (theory_of (theory_in text)) j.log) js → Every (IsRightlyTold text) (map told_on js)
-judged_told text setting [] [] k h m r = tt
-judged_told text setting [] (j ∷ js) k h m r = absurd h
-judged_told text setting (q ∷ qs) [] k h m r = absurd h
-judged_told text setting (q ∷ qs) (j ∷ js) k h m r =
-    let parts = judged_parts setting q qs j js h in
-    let known = subst (IsKnown text) (sym parts.0.lemma_is) k.0 in
-    (record { stands = known.stands; named = known.named.1; unlearnt = known.unlearnt; means = m.0.means; read = r.0 }, judged_told text setting qs js k.1 parts.1 m.1 r.1)
+judged_told text setting taken [] [] k h m r = tt
+judged_told text setting taken [] (j ∷ js) k h m r = absurd h
+judged_told text setting taken (q ∷ qs) [] k h m r = absurd h
+judged_told text setting taken (q ∷ qs) (j ∷ js) k h m r =
+    let known = subst (IsKnown text) (sym h.0.lemma_is) k.0 in (
+      record { stands = known.stands; named = known.named.1; unlearnt = known.unlearnt; means = m.0.means; read = r.0 },
+      judged_told text setting (taken ++ taken_by q j.verdict) qs js k.1 h.1 m.1 r.1,
+    )
 
 -- its lemmas have names of their own
 lemma_names_of : (text : WrittenText) → IsWellFormed text → Distinct (map (λ (l : Lemma). l.name) (theory_in text).lemmas)
@@ -110,7 +114,8 @@ tried_true budget bytes text status r told behind_end =
     let posing = r.analysis.poses in
     let names = texts_have_names_lem.symbols bytes written posing.says in
     let ts = map told_of r.outcomes in
-    let right = outcomes_told written (setting_of (theory_in written)) budget (theory_in written).lemmas r.outcomes (all_known bytes written posing r.analysis.ready) r.analysis.outcomes_are r.right
+    let known = stated_lemmas written (IsKnown written) (all_known bytes written posing r.analysis.ready) in
+    let right = outcomes_told written (setting_of (theory_in written)) budget [] (stated_in (resolved written).items) r.outcomes known r.analysis.outcomes_are r.right
     (executions_are_read_back_lem.tried budget bytes text r.outcomes r.analysis) in
     let same = behind_one text told (codes "\n/*\n" ++ (summary theory r.outcomes ++ codes "*/\n")) behind_end r.again.behind in
     let shape : codes "\n/*\n" ++ (summary theory r.outcomes ++ codes "*/\n") ≡ [] ++ 10 ∷ (codes "/*" ++ 10 ∷ (told_text theory ts ++ codes "*/\n")) =
@@ -129,7 +134,8 @@ checked_true bytes text status r =
     let posing = r.checking.poses in
     let names = texts_have_names_lem.symbols bytes written posing.says in
     let ts = map told_on r.judged in
-    let right = judged_told written (setting_of (theory_in written)) (lemmas_with_proofs (resolved written).items) r.judged (all_known bytes written posing r.checking.ready) r.checking.judged_are r.right
+    let known = stated_lemmas written (IsKnown written) (all_known bytes written posing r.checking.ready) in
+    let right = judged_told written (setting_of (theory_in written)) [] (stated_in (resolved written).items) r.judged known r.checking.judged_are r.right
     (executions_are_read_back_lem.checked bytes text r.judged r.checking) in
     let shape : text ≡ told_text theory ts ++ [] = r.checking.written_is ∙ checked_told theory r.judged ∙ sym (append-nil (told_text theory ts)) in
     let all = ap lines shape ∙ told_lines written names ts right [] ∙ ap (λ (ls : List (List ℕ)). all_lines written names ts ++ ls) one_empty in

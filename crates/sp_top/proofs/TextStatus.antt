@@ -2,7 +2,7 @@
 use Rattle.std.proofs.Common.{◌≡◌, ◌≢◌, ◌⊎◌, ℕ, Bool, true, false, if◌then◌else◌, List, codes, inl, inr, refl, sym, ap, ◌∙◌, subst}
 use Rattle.std.specs.List.{list_any}
 use Rattle.sp_spec_text.specs.Written.{WrittenText}
-use Rattle.sp_spec_text.specs.Waiting.{waits}
+use Rattle.sp_pose.specs.Waiting.{waits}
 use Rattle.sp_read_theory.proofs.Whole.{text_one}
 use Rattle.sp_pose.specs.Problem.{Poses, IsWaiting}
 use Rattle.sp_pose.proofs.One.{not_posed}
@@ -16,7 +16,7 @@ use Rattle.sp_analysis.proofs.AnswersOne.{answers_are_one_lem}
 use Rattle.sp_analysis.proofs.Again.{written_is_checked_lem}
 use Rattle.sp_replay.proofs.One.{replies_are_one_lem}
 use Rattle.sp_rule_forms.proofs.One.{lists_are_one_lem}
-use Rattle.sp_top.specs.Answer.{IsRefusal, IsReport, IsDeferral, IsLineRefusal, IsDoneWith, IsRefusedWith, CommandAnswer, is_rejected, is_falsified, is_incomplete, status_of, verdicts_of, verdicts_on}
+use Rattle.sp_top.specs.Answer.{IsRefusal, IsReport, IsLineRefusal, IsDoneWith, IsRefusedWith, CommandAnswer, is_rejected, is_falsified, is_incomplete, status_of, verdicts_of, verdicts_on}
 use Rattle.sp_top.specs.Run.{HasVerdicts, DoneRightly}
 use Rattle.sp_top.specs.declared.Status.{Status}
 use Rattle.sp_top.specs.declared.Status.TheVariants.{Fine, Falsified, Incomplete, Rejected, Refused, Usage, ReadFault, WriteFault, NoMemory, TooLong}

@@ -61,9 +61,9 @@ OfEachLemma bytes name kind IsSo = (theory : Theory) (lemma : Lemma) → IsLemma
 abbrev pub OfLemma : List ℕ → List ℕ → TraceKind → (Theory → Lemma → Type 0) → Type 0
 OfLemma bytes name kind IsSo = OfSomeLemma bytes name kind IsSo × OfEachLemma bytes name kind IsSo
 
--- `NAME (all-traces): verified (N steps)`: every execution satisfies the lemma. `NAME (all-traces): falsified - found trace (N steps)`: the
--- execution that stands below breaks it. `NAME (exists-trace): verified (N steps)`: the execution that stands below satisfies it.
--- `NAME (exists-trace): falsified - no trace found (N steps)`: no execution does.
+-- Of executions that meet the theory's restrictions. `NAME (all-traces): verified (N steps)`: every execution satisfies the lemma.
+-- `NAME (all-traces): falsified - found trace (N steps)`: the execution that stands below breaks it. `NAME (exists-trace): verified (N steps)`: the
+-- execution that stands below satisfies it. `NAME (exists-trace): falsified - no trace found (N steps)`: no execution does.
 pub record LinesAreTrue (bytes told : List ℕ) : Type 0 where
   pub proof : (name : List ℕ) (n : ℕ) (below : List (List ℕ)) → IsWord name → IsLineAbove told (name ++ (codes " (all-traces): verified (" ++ (decimal n ++ codes " steps)"))) below
       → OfLemma bytes name all_traces HoldsInAll

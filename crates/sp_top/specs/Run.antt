@@ -10,7 +10,7 @@ use Rattle.sp_spec.specs.Written.{theory_of}
 use Rattle.sp_analysis.specs.Analysis.{Outcome, IsAnalysis}
 use Rattle.sp_spec_text.specs.Written.{WrittenText}
 use Rattle.sp_spec_text.specs.Declared.{theory_in}
-use Rattle.sp_spec_text.specs.Waiting.{waits}
+use Rattle.sp_pose.specs.Waiting.{waits}
 use Rattle.sp_pose.specs.Problem.{Poses, IsWaiting}
 use Rattle.sp_analysis.specs.Checking.{Judged, IsChecking}
 use Rattle.sp_analysis.specs.Laws.{Means, JudgedRightly, IsCheckedAgain}
@@ -31,9 +31,9 @@ pub record UsageExactly (words : List (List ℕ)) (status : Status) : Type 0 whe
   pub comes : IsNoLine words → ¬ IsCutShort status → status ≡ Usage
 
 -- Each lemma of the text is tried within so many moves, and each verdict is so. A lemma on all traces that is verified holds in every execution of the theory that
--- the text says, steps of the adversary included, and one that is falsified is broken by the execution that is written behind its line. One
--- on some trace that is verified is satisfied by that execution, and one that is falsified holds in none. What is written says the same theory
--- with the proofs that were grown, and is checked as it was tried.
+-- the text says that meets its restrictions, steps of the adversary included, and one that is falsified is broken by the execution that is written behind
+-- its line, which meets them. One on some trace that is verified is satisfied by that execution, and one that is falsified holds in none. What is written
+-- says the same theory with the proofs that were grown, and is checked as it was tried.
 pub record TriedRightly (budget : ℕ) (bytes answer : List ℕ) (status : Status) : Type 0 where
   pub outcomes : List Outcome
   pub analysis : IsAnalysis budget bytes answer outcomes

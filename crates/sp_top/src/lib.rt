@@ -282,13 +282,14 @@ pub fn run<L: Library, K: Sink>(
     ensures falsified { AnswersExactly words.now (L.holds library.old) Falsified result }
     ensures incomplete { AnswersExactly words.now (L.holds library.old) Incomplete result }
     ensures fine { AnswersExactly words.now (L.holds library.old) Fine result }
-    // A text that writes what nothing is proved of yet, as a restriction, is refused, and its rules' forms alone are listed.
+    // A text that writes what nothing is proved of yet, as a lemma by induction, is refused, and its rules' forms alone are listed.
     ensures waiting { WaitsExactly words.now (L.holds library.old) (K.written out.old) (K.written out.new) result }
     ensures write_fault { WriteFaultOnly (K.faults out.old) (K.faults out.new) result }
 
-    // The headline: each verdict that stands written is so. A lemma on all traces that is verified holds in every execution, steps of the
-    // adversary included, and one that is falsified is broken by the execution whose steps stand below, line by line; one on some trace that is
-    // verified is satisfied by the execution whose steps stand below, and one that is falsified holds in none.
+    // The headline: each verdict that stands written is so. A lemma on all traces that is verified holds in every execution that meets the
+    // restrictions, steps of the adversary included, and one that is falsified is broken by the execution whose steps stand below, line by line,
+    // which meets them; one on some trace that is verified is satisfied by the execution whose steps stand below, which meets them, and one that
+    // is falsified holds in none that does.
     ensures headline { VerdictsAreTrue words.now (L.holds library.old) (K.written out.old) (K.written out.new) result }
     // And exactly: what is written of each lemma is what is to be written of it. A proof that is checked is accepted exactly where its every
     // step is an instance of a move, with the cases of that move. What is replayed is told as it is, and each rule with its forms.

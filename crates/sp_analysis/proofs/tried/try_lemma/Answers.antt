@@ -1,18 +1,18 @@
-use Rattle.std.proofs.Common.{string_bytes, subst, ap, ◌∙◌}
+use Rattle.std.proofs.Common.{map, string_bytes, subst, ap, ◌∙◌}
 use Rattle.sp_search.specs.Kept.{log_in}
 use Rattle.sp_search.specs.View.{kept_of, tree_of}
 use Rattle.sp_skel.specs.Places.{HavePlaces}
 use Rattle.sp_pose.specs.Asked as ask
 use Rattle.sp_law_printed_log.specs.Block.{block_by, IsNumberedBy}
 use Rattle.sp_analysis.specs.Sought.{executed}
-use Rattle.sp_analysis.specs.View.{setting_in, verdict_of}
+use Rattle.sp_analysis.specs.View.{setting_in, taken_of, verdict_of}
 use Rattle.sp_analysis.proofs.Outcomes.{grown_printed}
 use Rattle.sp_analysis.proofs.tried.try_lemma.Goals as goal
 
 pub returns-clause-printed : goal.returns-clause-printed
 returns-clause-printed c =
     let setting = setting_in c.args.setting.now in
-    grown_printed setting c.args.budget (ask.asked_of c.args.lemma) (tree_of c.in_ok-tree.tree) (log_in (kept_of c.in_ok-tree.tree)) (record { tree_is = c.in_ok-tree.ensures.tree; log_is = c.in_ok-tree.ensures.log })
+    grown_printed setting c.args.budget (map taken_of c.args.taken.now.items) (ask.asked_of c.args.lemma.now) (tree_of c.in_ok-tree.tree) (log_in (kept_of c.in_ok-tree.tree)) (record { tree_is = c.in_ok-tree.ensures.tree; log_is = c.in_ok-tree.ensures.log })
     (verdict_of c.by_tree-verdict.result) c.steps-steps.result (string_bytes c.in_ok-proof.proof) (string_bytes c.in_ok-block.block)
     c.by_tree-verdict.ensures c.steps-steps.ensures c.in_ok-proof.ensures.text (c.in_ok-block.ensures.text ∙ ap (block_by (executed setting)) c.found_log.ensures)
 
