@@ -3,7 +3,7 @@
 use sp_declared::public_names::constants;
 use sp_fact::fact::{Action, Fact, Facts};
 use sp_fact::rule::Rule;
-use sp_pose::{Read, numbered, posed_by};
+use sp_pose::{GuardedRestriction, Read, numbered, posed_by};
 use sp_read_theory::read_theory;
 use sp_term::term::{Name, Sort, all_same};
 use sp_test_make::facts::{action, linear, persistent, rule};
@@ -26,7 +26,7 @@ fn are(names: &Vec<Name>, wanted: &[&str]) -> bool {
 }
 
 /// Texts, and their public names.
-static NAMES: [(&[u8], &[&str]); 5] = [
+static NAMES: [(&[u8], &[&str]); 6] = [
     (b"theory T begin end", &[]),
     (
         b"theory T begin rule R: [ Fr(~k), P('a',k) ] --[ A('b') ]-> [ Q('a','c') ] end",
@@ -43,6 +43,12 @@ static NAMES: [(&[u8], &[&str]); 5] = [
     (
         b"theory T begin lemma l: \"Ex #i. A('m')@i\" rule R: [ ] --[ A('n') ]-> [ ] end",
         &["n", "m"],
+    ),
+    // those of rules, of restrictions and of lemmas
+    (
+        b"theory T begin lemma l: \"Ex #i. A('a','b')@i\"
+restriction r: \"All #i. A('b','c')@i ==> F\" rule R: [ ] --[ A('c','d') ]-> [ ] end",
+        &["c", "d", "b", "a"],
     ),
 ];
 
@@ -157,5 +163,36 @@ end behind";
     let lemma = problem.lemmas.first().ok_or("lemma")?;
     assert_eq!(rt; lemma.name, "once");
     assert_eq!(rt; &text[problem.behind_end..], b" behind".as_slice());
+    Ok(())
+}
+
+/// Whether the restrictions have these names, in this order.
+fn have_names(restrictions: &Vec<GuardedRestriction>, wanted: &[&str]) -> bool {
+    if restrictions.len() != wanted.len() {
+        return false;
+    }
+    for (restriction, name) in restrictions.iter().zip(wanted) {
+        if restriction.name != *name {
+            return false;
+        }
+    }
+    true
+}
+
+#[test]
+fn a_text_poses_its_restrictions(rt: HostRuntime) -> Result<(), Fail> {
+    let alloc = rt.alloc();
+    let text = b"theory R begin
+lemma first [reuse]: \"T\"
+restriction same: \"All x y #i. Eq(x, y)@i ==> x = y\"
+lemma second [hide_lemma=first]: \"T\"
+axiom other: \"All x #i. Neq(x, x)@i ==> F\"
+end";
+    let Read::Posed(problem) = posed_by(alloc, text)? else {
+        return Err("nothing is posed".into());
+    };
+    assert!(rt; !problem.waits);
+    assert_eq!(rt; problem.lemmas.len(), 2);
+    assert!(rt; have_names(&problem.restrictions, &["same", "other"]));
     Ok(())
 }

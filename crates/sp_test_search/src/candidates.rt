@@ -1,7 +1,7 @@
 // The log that a solved system suggests, and the log that is looked for.
 
 use sp_fact::ground_term::GroundTerm;
-use sp_formula::formula::Moment;
+use sp_formula::formula::{Binder, Moment};
 use sp_learn::log::{Entry, How, Log};
 use sp_log::log::{Entry as StepEntry, Source};
 use sp_solved::{candidate, found};
@@ -10,7 +10,7 @@ use sp_test_make::plain::{
     NO_FACTS, PlainEvent, PlainFact, PlainFacts, PlainRule, PlainTerm, PlainWay, rules_of,
 };
 use sp_test_make::plain_systems::{
-    EMPTY, PlainAtom, PlainFormula, PlainSystem, formula_of, system_of,
+    EMPTY, PlainAtom, PlainFormula, PlainLeaf, PlainSystem, formula_of, formulas_of, system_of,
 };
 use sp_test_make::terms::names;
 use sp_test_steps::examples::Parts;
@@ -441,15 +441,17 @@ fn found_cases() -> &'static [(PlainFormula<'static>, PlainSystem<'static>, &'st
     &FOUND
 }
 
-// the log of the rules that is found in the system
+// the log of the rules that meets the restrictions and is found in the system
 fn log_found(
     alloc: Global,
+    restrictions: &[PlainFormula],
     sought: &PlainFormula,
     given: &PlainSystem,
 ) -> Result<String, AllocError> {
-    let parts = Parts::new(
+    let parts = Parts::restricted(
         alloc,
         rules_of(alloc, plain_rules())?,
+        formulas_of(alloc, restrictions)?,
         formula_of(alloc, sought)?,
     )?;
     let system = system_of(alloc, given)?;
@@ -463,7 +465,90 @@ fn log_found(
 fn logs_are_found(rt: HostRuntime) -> Result<(), Fail> {
     let alloc = rt.alloc();
     for (i, (sought, given, wanted)) in found_cases().iter().enumerate() {
-        let found = log_found(alloc, sought, given)?;
+        let found = log_found(alloc, &[], sought, given)?;
+        assert_eq!(rt; found.as_str(), *wanted, "{i}");
+    }
+    Ok(())
+}
+
+// ---- restrictions
+
+// where A has two arguments, they are equal
+const EQUAL: PlainFormula<'static> = PlainFormula::ForAll(
+    &[
+        Binder::Message(Sort::Msg),
+        Binder::Message(Sort::Msg),
+        Binder::Time,
+    ],
+    &[PlainAtom::Acts(
+        "A",
+        &[PlainLeaf::Bound(1), PlainLeaf::Bound(0)],
+        Moment::Bound(0),
+    )],
+    &PlainFormula::Holds(PlainAtom::Same(PlainLeaf::Bound(1), PlainLeaf::Bound(0))),
+);
+
+// where A has two arguments, they aren't equal
+const UNEQUAL: PlainFormula<'static> = PlainFormula::ForAll(
+    &[
+        Binder::Message(Sort::Msg),
+        Binder::Message(Sort::Msg),
+        Binder::Time,
+    ],
+    &[PlainAtom::Acts(
+        "A",
+        &[PlainLeaf::Bound(1), PlainLeaf::Bound(0)],
+        Moment::Bound(0),
+    )],
+    &PlainFormula::Fails(PlainAtom::Same(PlainLeaf::Bound(1), PlainLeaf::Bound(0))),
+);
+
+// nothing is sent
+const SILENT: PlainFormula<'static> = PlainFormula::ForAll(
+    &[Binder::Message(Sort::Msg), Binder::Time],
+    &[PlainAtom::Acts("K", &[PlainLeaf::Bound(0)], Moment::Bound(0))],
+    &PlainFormula::Falsity,
+);
+
+// restrictions, what is sought, a system whose events are those of a log of the rules, and that log where it meets all of them: the arguments of A
+// in SECOND are a fresh and a public name, A in RECEIVED has one argument, and what T takes is sent
+static RESTRICTED: [(
+    &[PlainFormula<'static>],
+    PlainFormula<'static>,
+    PlainSystem<'static>,
+    &str,
+); 9] = [
+    (&[UNEQUAL], PlainFormula::Truth, SECOND_ALONE, "Q ~n1 'a1';"),
+    (&[EQUAL], PlainFormula::Truth, SECOND_ALONE, "none"),
+    (
+        &[UNEQUAL, SILENT],
+        PlainFormula::Truth,
+        SECOND_ALONE,
+        "Q ~n1 'a1';",
+    ),
+    (&[UNEQUAL, EQUAL], PlainFormula::Truth, SECOND_ALONE, "none"),
+    (&[EQUAL, UNEQUAL], PlainFormula::Truth, SECOND_ALONE, "none"),
+    (&[UNEQUAL], PlainFormula::Falsity, SECOND_ALONE, "none"),
+    // what is sought may be what a restriction denies
+    (&[EQUAL], UNEQUAL, SECOND_ALONE, "none"),
+    (&[EQUAL], PlainFormula::Truth, RECEIVED, OF_RECEIVED),
+    (&[EQUAL, SILENT], PlainFormula::Truth, RECEIVED, "none"),
+];
+
+fn restricted_cases() -> &'static [(
+    &'static [PlainFormula<'static>],
+    PlainFormula<'static>,
+    PlainSystem<'static>,
+    &'static str,
+)] {
+    &RESTRICTED
+}
+
+#[test]
+fn logs_that_are_found_meet_the_restrictions(rt: HostRuntime) -> Result<(), Fail> {
+    let alloc = rt.alloc();
+    for (i, (restrictions, sought, given, wanted)) in restricted_cases().iter().enumerate() {
+        let found = log_found(alloc, *restrictions, sought, given)?;
         assert_eq!(rt; found.as_str(), *wanted, "{i}");
     }
     Ok(())

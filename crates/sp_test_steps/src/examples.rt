@@ -4,7 +4,7 @@ use sp_book::book::RuleBook;
 use sp_fact::rule::Rule;
 use sp_fact::signature::Signature;
 use sp_formula::formula::{Binder, Formula, Moment};
-use sp_solved::Sought;
+use sp_solved::{Root, Sought};
 use sp_step::context::Context;
 use sp_step::reduce::{Row, reduce};
 use sp_step::simplify::is_contradictory;
@@ -90,12 +90,19 @@ pub struct Parts {
     rules: RuleBook,
     signature: Signature,
     constants: Vec<Name>,
+    restrictions: Vec<Formula>,
+    taken: Vec<Formula>,
     formula: Formula,
 }
 
 impl Parts {
-    /// The rules, no symbols and constants, and the formula that is sought.
-    pub fn new(alloc: Global, rules: Vec<Rule>, formula: Formula) -> Result<Parts, AllocError> {
+    /// The rules, the restrictions, no symbols, constants and taken formulas, and the formula that is sought.
+    pub fn restricted(
+        alloc: Global,
+        rules: Vec<Rule>,
+        restrictions: Vec<Formula>,
+        formula: Formula,
+    ) -> Result<Parts, AllocError> {
         let signature = Signature {
             symbols: Vec::new(alloc),
             equations: Vec::new(alloc),
@@ -104,8 +111,15 @@ impl Parts {
             rules: book(alloc, &signature.equations, &rules)?,
             signature,
             constants: Vec::new(alloc),
+            restrictions,
+            taken: Vec::new(alloc),
             formula,
         })
+    }
+
+    /// The rules, no symbols, constants, restrictions and taken formulas, and the formula that is sought.
+    pub fn new(alloc: Global, rules: Vec<Rule>, formula: Formula) -> Result<Parts, AllocError> {
+        Parts::restricted(alloc, rules, Vec::new(alloc), formula)
     }
 
     /// The context of these.
@@ -115,7 +129,11 @@ impl Parts {
             sought: Sought {
                 signature: &self.signature,
                 constants: &self.constants,
-                formula: &self.formula,
+                root: Root {
+                    restrictions: &self.restrictions,
+                    taken: &self.taken,
+                    sought: &self.formula,
+                },
             },
         }
     }

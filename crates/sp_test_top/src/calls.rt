@@ -55,12 +55,13 @@ pub(crate) fn written_by(alloc: Global, command: &str, text: &str) -> Result<Str
     Ok(copied)
 }
 
-/// Asserts that the steps of the execution in the summary of a lemma, if there is one, are replayed to its trace, and that the lemma is as the trace tells:
-/// one on all traces is broken, and one on some trace is met.
+/// Asserts that the steps of the execution in the summary of a lemma, if there is one, are replayed to its trace, that each restriction is met, as these lines
+/// tell, and that the lemma is as the trace tells: one on all traces is broken, and one on some trace is met.
 fn assert_replayed(
     rt: &impl Abort,
     alloc: Global,
     theory: &str,
+    met: &str,
     summary: &str,
 ) -> Result<(), Fail> {
     let Some((_, block)) = summary.split_once("execution:\n") else {
@@ -74,17 +75,18 @@ fn assert_replayed(
         "met"
     };
     let text = format!(in alloc; "{theory}{steps}")?;
-    let answer = format!(in alloc; "trace:\n{trace}{lemma}: {truth}\n")?;
+    let answer = format!(in alloc; "trace:\n{trace}{met}{lemma}: {truth}\n")?;
     assert_answer(rt, alloc, "replay", text.as_str(), 0, answer.as_str())?;
     Ok(())
 }
 
-/// The summary of the lemma over these items. It is asserted that the proof which is written is checked to the same summary, and that the execution that was
-/// found, if one was, is replayed to its trace.
-pub(crate) fn summary_of(
+/// The summary of the lemma over these items, of whose restrictions these lines tell that they are met. It is asserted that the proof which is written is
+/// checked to the same summary, and that the execution that was found, if one was, is replayed to its trace and meets the restrictions.
+pub(crate) fn summary_under(
     rt: &impl Abort,
     alloc: Global,
     items: &str,
+    met: &str,
     lemma: &str,
 ) -> Result<String, Fail> {
     let theory = format!(in alloc; "theory T begin\n{items}lemma {lemma}\nend\n")?;
@@ -93,6 +95,16 @@ pub(crate) fn summary_of(
     let (summary, _) = comment.split_once("*/\n").ok_or("end of the summary")?;
     let checked = written_by(alloc, "check", written.as_str())?;
     assert_eq!(rt; checked.as_str(), summary, "{written}");
-    assert_replayed(rt, alloc, theory.as_str(), summary)?;
+    assert_replayed(rt, alloc, theory.as_str(), met, summary)?;
     Ok(checked)
+}
+
+/// The summary of the lemma over these items, which have no restriction.
+pub(crate) fn summary_of(
+    rt: &impl Abort,
+    alloc: Global,
+    items: &str,
+    lemma: &str,
+) -> Result<String, Fail> {
+    summary_under(rt, alloc, items, "", lemma)
 }

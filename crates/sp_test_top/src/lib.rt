@@ -1,5 +1,5 @@
-// What the program answers to commands on worked examples: proofs that are grown and checked, executions that are found and replayed, and
-// refusals.
+// What the program answers to commands on worked examples: proofs that are grown and checked, under restrictions and by lemmas that are taken,
+// executions that are found and replayed, and refusals.
 // Below stand the top call (sp_top), the library and the sinks in memory that it is called with (sp_io), and what comes of a text within so many moves
 // (sp_analysis). Nothing stands above.
 // Nothing is promised here. What no clause says is shown: that the headline speaks of what the language means, by answers that are worked
@@ -24,6 +24,10 @@ mod learning;
 mod lemmas;
 #[cfg(test)]
 mod proofs;
+#[cfg(test)]
+mod restrictions;
+#[cfg(test)]
+mod reused;
 #[cfg(test)]
 mod stateful;
 #[cfg(test)]

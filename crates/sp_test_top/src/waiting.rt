@@ -5,13 +5,13 @@ use std::test::Fail;
 
 /// Items of which nothing is proved yet, without findings.
 static WAITING: [&str; 7] = [
-    "restriction one: \"T\"",
-    "axiom one: \"All x #i. A(x)@i ==> T\"",
-    "lemma one [reuse]: \"T\"",
+    "lemma one [sources]: \"T\"",
     "lemma one [heuristic=s, typing]: \"T\"",
     "lemma one [use_induction]: \"T\"",
-    "lemma one [hide_lemma=two]: \"T\"",
     "lemma one: \"All x #i. KU(x)@i ==> T\"",
+    "lemma one [reuse, use_induction]: \"T\"",
+    "restriction one: \"T\" lemma two: \"T\" lemma three [hide_lemma=two, sources]: \"T\"",
+    "lemma one: exists-trace \"Ex x #i. KU(x)@i\" axiom two: \"T\"",
 ];
 
 fn waiting_cases() -> &'static [&'static str] {
@@ -21,15 +21,15 @@ fn waiting_cases() -> &'static [&'static str] {
 /// Items with a finding, beside one that waits, and their line.
 static FOUND: [(&str, &str); 3] = [
     (
-        "restriction one: \"T\" lemma one: \"T\"",
+        "restriction one: \"T\" lemma one [use_induction]: \"T\"",
         "fatal: name one used twice\n",
     ),
     (
-        "restriction one: \"All x #i. KU(x)@i ==> T\"",
+        "restriction one: \"All x #i. KU(x)@i ==> T\" lemma two: \"All x #i. KU(x)@i ==> T\"",
         "fatal: restriction one names KU\n",
     ),
     (
-        "lemma one [reuse, other]: \"T\"",
+        "lemma one [sources, other]: \"T\"",
         "fatal: lemma one: attribute left out: other\n",
     ),
 ];
@@ -39,7 +39,7 @@ fn found_cases() -> &'static [(&'static str, &'static str)] {
 }
 
 /// Items that wait for nothing, and what is answered where no steps are replayed.
-static READY: [(&str, &str); 4] = [
+static READY: [(&str, &str); 9] = [
     ("heuristic: s", "trace:\nend of trace\n"),
     ("note {* \"restriction\" *}", "trace:\nend of trace\n"),
     (
@@ -49,6 +49,27 @@ static READY: [(&str, &str); 4] = [
     (
         "lemma KU: \"T\"",
         "trace:\nend of trace\nKU (all-traces): met\n",
+    ),
+    (
+        "restriction one: \"T\"",
+        "trace:\nend of trace\none (restriction): met\n",
+    ),
+    // nothing is done, so there is no A
+    (
+        "axiom one: \"All x #i. A(x)@i ==> F\"",
+        "trace:\nend of trace\none (restriction): met\n",
+    ),
+    (
+        "axiom one: \"Ex x #i. A(x)@i\"",
+        "trace:\nend of trace\none (restriction): broken\n",
+    ),
+    (
+        "lemma one [reuse]: \"T\"",
+        "trace:\nend of trace\none (all-traces): met\n",
+    ),
+    (
+        "lemma one [hide_lemma=two]: \"T\"",
+        "trace:\nend of trace\none (all-traces): met\n",
     ),
 ];
 
