@@ -1,0 +1,3 @@
+pub mod Descending
+pub mod Parts
+pub mod Broken

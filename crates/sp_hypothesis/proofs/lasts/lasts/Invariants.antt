@@ -1,0 +1,12 @@
+use Rattle.std.proofs.Common.{◌≡◌, ◌++◌, map}
+use Rattle.sp_spec.specs.Guarded.{holds}
+use Rattle.sp_formula.specs.FormulaView.{binder_of, formula_of}
+use Rattle.sp_law_induction.specs.Hypothesis.{lasts}
+use Rattle.sp_hypothesis.specs.Descending.{descending}
+use Rattle.sp_hypothesis.proofs.lasts.lasts.Given as goal
+
+abbrev pub invariant-loop-place : goal.invariant-loop-place
+invariant-loop-place l = map formula_of l.made.items ++ descending holds l.place ≡ lasts (map binder_of l.binders.items)
+
+abbrev pub decreases-loop-place : goal.decreases-loop-place
+decreases-loop-place l = l.place

@@ -1,0 +1,11 @@
+pub mod Parts
+pub mod Past
+pub mod Ends
+pub mod Hypothesis
+pub mod Safety
+pub mod Shortest
+pub mod Timed
+pub mod Sides
+pub mod Covering
+pub mod Kept
+pub mod Examples
