@@ -11,7 +11,8 @@ ghost use Rattle.sp_spec.specs.Substitution.{bound_to};
 ghost use Rattle.sp_term.specs.View.{variable_of, view};
 ghost use Rattle.sp_term.specs.Bindings.{bindings};
 ghost use Rattle.sp_formula.specs.PlaceView.{place_of, place_has_sort, placed_term};
-ghost use Rattle.sp_formula.specs.PlaceLaws.{place_tests, same_place_decides};
+ghost use Rattle.sp_formula.specs.PlaceLaws.{place_tests};
+ghost use Rattle.sp_spec.proofs.SameFormula.{same_place_decides};
 
 use sp_fact::fact::Action;
 use sp_term::apply::Assigns;

@@ -15,3 +15,4 @@ pub mod Bindings
 pub mod Standing
 pub mod Logs
 pub mod Guardeds
+pub mod SameFormula
