@@ -7,7 +7,7 @@ use Rattle.sp_written.specs.declared.theory.Item.{Item}
 use Rattle.sp_written.specs.declared.theory.Item.TheVariants as i
 use Rattle.sp_spec.specs.Constants.{once_after, in_rules, in_restrictions, in_lemmas}
 use Rattle.sp_declared.specs.WrittenRules.{rules_written}
-use Rattle.sp_declared.proofs.Once.{once_both}
+use Rattle.sp_declared.specs.OnceLaws.{once_both}
 use Rattle.sp_spec.proofs.Lists.{next_item}
 
 -- the names of an element are put at the end, and those of the others are left

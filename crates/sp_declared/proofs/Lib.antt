@@ -4,6 +4,6 @@ pub mod Signatures
 pub mod Stepping
 pub mod Once
 pub mod ConstantSteps
-pub mod Joints
+pub mod Named
 pub mod WrittenRules
 pub mod Theory

@@ -4,3 +4,4 @@ pub mod Symbols
 pub mod View
 pub mod WrittenRules
 pub mod Constants
+pub mod OnceLaws

@@ -1,21 +1,23 @@
 // The public names of a theory, each once.
 
-ghost use Rattle.std.specs.Prelude.{◌≡◌, ℕ, List, ◌∷◌, [], ◌++◌, IfOk, OnOk, map};
+ghost use Rattle.std.specs.Prelude.{◌≡◌, ℕ, List, ◌∷◌, [], ◌++◌, IfOk, OnOk, map, refl};
 ghost use Rattle.sp_spec.specs.Written.{is_listed};
 ghost use Rattle.sp_term.specs.View.{name_of};
 ghost use Rattle.sp_read_parts.specs.Views as parts;
-ghost use Rattle.sp_spec.specs.Formula as formulas;
-ghost use Rattle.sp_read_parts.specs.Reading.{Joint};
 ghost use Rattle.sp_read_parts.specs.Formulas as written;
 ghost use Rattle.sp_spec_text.specs.Written.{restrictions_in, lemmas_in};
 ghost use Rattle.sp_written.specs.Views as view;
 ghost use Rattle.sp_spec.specs.Constants as spec;
 ghost use Rattle.sp_spec.specs.Constants.{once_after};
-ghost use Rattle.sp_declared.specs.Constants.{constants_in};
+ghost use Rattle.sp_declared.specs.OnceLaws.{once_both, both_orders};
+ghost use Rattle.sp_declared.specs.Constants.{constants_in, names_at};
 ghost use Rattle.sp_declared.specs.WrittenRules.{rules_written};
 
-use sp_read_parts::{ReadFormula, WrittenAction, WrittenFact, WrittenRule, WrittenTerm};
+use sp_read_parts::{
+    ReadFormula, WrittenAction, WrittenFact, WrittenRule, WrittenTerm, WrittenVariable,
+};
 use sp_term::term::{Name, Term};
+use sp_walk::{Collects, ReadAtom, collect_closed};
 use sp_written::{Item, ReadTheory};
 use std::alloc::{AllocError, Global};
 
@@ -66,7 +68,7 @@ fn see_terms(seen: &mut Vec<Name>, terms: &Vec<WrittenTerm>) -> Result<(), Alloc
 }
 
 /// Puts the names of both sides of an equality at the end, each unless it is there.
-#[tactic(auto, using(crate::proofs::Once::once_both))]
+#[tactic(auto, using(crate::specs::OnceLaws::once_both))]
 fn see_sides(
     seen: &mut Vec<Name>,
     left: &WrittenTerm,
@@ -110,39 +112,48 @@ fn see_rule(seen: &mut Vec<Name>, rule: &WrittenRule) -> Result<(), AllocError>
     Ok(())
 }
 
-/// Puts the names of a formula at the end, each unless it is there.
-#[cycle(seen)]
-fn see_formula(seen: &mut Vec<Name>, formula: &ReadFormula) -> Result<(), AllocError>
-    ensures { OnOk result (map name_of seen.new.items ≡ once_after (map name_of seen.old.items) (spec.in_formula (written.formula formula.now))) }
-{
-    match formula {
-        ReadFormula::True | ReadFormula::False | ReadFormula::Precedes(_, _) => Ok(()),
-        ReadFormula::Happens(action, _) => see_terms(seen, &action.args),
-        ReadFormula::Equals(left, right) => see_sides(seen, left, right),
-        ReadFormula::Not(inner) | ReadFormula::ForAll(_, inner) | ReadFormula::ForSome(_, inner) =>
-            { see_formula(seen, inner) }
-        ReadFormula::Both(left, right, more) | ReadFormula::Either(left, right, more) => {
-            see_formula(seen, left)?;
-            see_formula(seen, right)?;
-            see_later(seen, more)
-        }
-        ReadFormula::Implies(left, right) | ReadFormula::Equivalent(left, right) => {
-            see_formula(seen, left)?;
-            see_formula(seen, right)
+/// The public names of atoms.
+#[derive(Clone, Copy)]
+struct PublicNames;
+
+// The names of an atom are put at the end, each unless it is there.
+impl Collects<Vec<Name>> for PublicNames {
+    ghost Item = { List ℕ };
+
+    ghost Seen = { List (List ℕ) };
+
+    ghost seen_of = { λ seen. map name_of seen.items };
+
+    ghost gives = { λ t bs. names_at };
+
+    ghost after = { once_after };
+
+    fn collect<'a>(
+        &self,
+        _alloc: Global,
+        seen: &mut Vec<Name>,
+        _binders: &Vec<WrittenVariable<'a>>,
+        atom: ReadAtom<'_, 'a>,
+    ) -> Result<(), AllocError> {
+        match atom {
+            ReadAtom::Happens(action, _) => see_terms(seen, &action.args),
+            ReadAtom::Equals(left, right) => see_sides(seen, left, right),
+            ReadAtom::Precedes(_, _) => Ok(()),
         }
     }
+
+    ghost none_changes = { λ ls. refl };
+
+    ghost one_by_one = { λ ls xs ys. once_both xs ls ys };
+
+    ghost not_again = { λ ls xs ys. both_orders xs ys ls };
 }
 
-/// The same of each of the formulas that follow.
-#[cycle(seen)]
-fn see_later(seen: &mut Vec<Name>, more: &Vec<ReadFormula>) -> Result<(), AllocError>
-    ensures { OnOk result ((o : Joint) (before : List (List ℕ)) (f : formulas.Formula) → map name_of seen.old.items ≡ once_after before (spec.in_formula f)
-        → map name_of seen.new.items ≡ once_after before (spec.in_formula (written.chain o f (map written.formula more.now.items)))) }
+/// Puts the names of a formula at the end, each unless it is there.
+fn see_formula(alloc: Global, seen: &mut Vec<Name>, formula: &ReadFormula) -> Result<(), AllocError>
+    ensures { OnOk result (map name_of seen.new.items ≡ once_after (map name_of seen.old.items) (spec.in_formula (written.formula formula.now))) }
 {
-    for part in more {
-        see_formula(seen, part)?;
-    }
-    Ok(())
+    collect_closed(alloc, &PublicNames, seen, formula)
 }
 
 /// Puts the names of the item, if it is a rule, at the end, each unless it is there.
@@ -156,21 +167,21 @@ fn see_if_rule(seen: &mut Vec<Name>, item: &Item) -> Result<(), AllocError>
 }
 
 /// Puts the names of the item, if it is a restriction, at the end, each unless it is there.
-fn see_if_restriction(seen: &mut Vec<Name>, item: &Item) -> Result<(), AllocError>
+fn see_if_restriction(alloc: Global, seen: &mut Vec<Name>, item: &Item) -> Result<(), AllocError>
     ensures { OnOk result (map name_of seen.new.items ≡ once_after (map name_of seen.old.items) (spec.in_restrictions (restrictions_in (view.item item.now ∷ [])))) }
 {
     match item {
-        Item::Restriction(restriction) => see_formula(seen, &restriction.formula),
+        Item::Restriction(restriction) => see_formula(alloc, seen, &restriction.formula),
         _ => Ok(()),
     }
 }
 
 /// Puts the names of the item, if it is a lemma, at the end, each unless it is there.
-fn see_if_lemma(seen: &mut Vec<Name>, item: &Item) -> Result<(), AllocError>
+fn see_if_lemma(alloc: Global, seen: &mut Vec<Name>, item: &Item) -> Result<(), AllocError>
     ensures { OnOk result (map name_of seen.new.items ≡ once_after (map name_of seen.old.items) (spec.in_lemmas (lemmas_in (view.item item.now ∷ [])))) }
 {
     match item {
-        Item::Lemma(lemma) => see_formula(seen, &lemma.formula),
+        Item::Lemma(lemma) => see_formula(alloc, seen, &lemma.formula),
         _ => Ok(()),
     }
 }
@@ -186,21 +197,25 @@ fn see_rules(seen: &mut Vec<Name>, items: &Vec<Item>) -> Result<(), AllocError>
 }
 
 /// Puts the names of the restrictions at the end, each unless it is there.
-fn see_restrictions(seen: &mut Vec<Name>, items: &Vec<Item>) -> Result<(), AllocError>
+fn see_restrictions(
+    alloc: Global,
+    seen: &mut Vec<Name>,
+    items: &Vec<Item>,
+) -> Result<(), AllocError>
     ensures { OnOk result (map name_of seen.new.items ≡ once_after (map name_of seen.old.items) (spec.in_restrictions (restrictions_in (view.items items.now.items)))) }
 {
     for item in items {
-        see_if_restriction(seen, item)?;
+        see_if_restriction(alloc, seen, item)?;
     }
     Ok(())
 }
 
 /// Puts the names of the lemmas at the end, each unless it is there.
-fn see_lemmas(seen: &mut Vec<Name>, items: &Vec<Item>) -> Result<(), AllocError>
+fn see_lemmas(alloc: Global, seen: &mut Vec<Name>, items: &Vec<Item>) -> Result<(), AllocError>
     ensures { OnOk result (map name_of seen.new.items ≡ once_after (map name_of seen.old.items) (spec.in_lemmas (lemmas_in (view.items items.now.items)))) }
 {
     for item in items {
-        see_if_lemma(seen, item)?;
+        see_if_lemma(alloc, seen, item)?;
     }
     Ok(())
 }
@@ -212,8 +227,8 @@ fn names_in(alloc: Global, items: &Vec<Item>) -> Result<Vec<Name>, AllocError>
 {
     let mut seen = Vec::new(alloc);
     see_rules(&mut seen, items)?;
-    see_restrictions(&mut seen, items)?;
-    see_lemmas(&mut seen, items)?;
+    see_restrictions(alloc, &mut seen, items)?;
+    see_lemmas(alloc, &mut seen, items)?;
     Ok(seen)
 }
 

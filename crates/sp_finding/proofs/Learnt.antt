@@ -1,24 +1,19 @@
--- Which formulas name learning: of an equivalence each side counts once, of quantifiers in a row what stands in their reach, and of a chain each part.
-use Rattle.std.proofs.Common.{◌≡◌, Bool, true, false, ◌||◌, List, [], ◌∷◌, refl}
-use Rattle.sp_spec.specs.Formula.{Written, Formula}
+-- A formula names the action of learning where one of its atoms is one.
+use Rattle.std.proofs.Common.{◌≡◌, Bool, ◌||◌, refl, ap₂}
+use Rattle.sp_spec.specs.Formula.{Formula, truth, falsity, happens, equals, precedes, not_so, both, either, implies, for_all, for_some}
 use Rattle.sp_spec.specs.Verdict.{names_learning}
-use Rattle.sp_spec_text.specs.Shapes.{quantified}
-use Rattle.sp_spec_text.specs.Formulas.{quantified_some}
-use Rattle.sp_read_parts.specs.Reading.{Joint, conjoint, disjoint, join}
+use Rattle.sp_walk.specs.Atoms.{any_atom}
+use Rattle.sp_finding.specs.Learning.{is_learning}
 
-pub either_way : (x y : Bool) → (x || y) ≡ ((x || y) || (y || x))
-either_way true y = refl
-either_way false true = refl
-either_way false false = refl
-
-pub learning_for_all : (xs : List Written) (f : Formula) → names_learning f ≡ names_learning (quantified xs f)
-learning_for_all [] f = refl
-learning_for_all (x ∷ xs) f = learning_for_all xs f
-
-pub learning_for_some : (xs : List Written) (f : Formula) → names_learning f ≡ names_learning (quantified_some xs f)
-learning_for_some [] f = refl
-learning_for_some (x ∷ xs) f = learning_for_some xs f
-
-pub learning_joined : (o : Joint) (f g : Formula) → names_learning (join o f g) ≡ (names_learning f || names_learning g)
-learning_joined conjoint f g = refl
-learning_joined disjoint f g = refl
+pub any_learning : (f : Formula) → any_atom is_learning f ≡ names_learning f
+any_learning truth = refl
+any_learning falsity = refl
+any_learning (happens a i) = refl
+any_learning (equals t u) = refl
+any_learning (precedes i j) = refl
+any_learning (not_so f) = any_learning f
+any_learning (both f g) = ap₂ (λ (a b : Bool). a || b) (any_learning f) (any_learning g)
+any_learning (either f g) = ap₂ (λ (a b : Bool). a || b) (any_learning f) (any_learning g)
+any_learning (implies f g) = ap₂ (λ (a b : Bool). a || b) (any_learning f) (any_learning g)
+any_learning (for_all x f) = any_learning f
+any_learning (for_some x f) = any_learning f

@@ -1,3 +1,4 @@
 pub mod Finding
+pub mod Learning
 pub mod TermFindings
 pub mod View

@@ -1,19 +1,15 @@
 -- What is said of formulas that are joined, by what is said of each.
-use Rattle.std.proofs.Common.{◌≡◌, ◌&&◌, ◌||◌, List, [], ◌∷◌, refl}
+use Rattle.std.proofs.Common.{◌≡◌, ◌&&◌, List, [], ◌∷◌, refl}
 use Rattle.std.specs.Option.{option_or}
 use Rattle.sp_spec.specs.Formula.{Written, Formula}
 use Rattle.sp_read_parts.specs.Reading.{Joint, conjoint, disjoint, join}
 use Rattle.sp_read_parts.specs.Formulas.{chain}
-use Rattle.sp_law_guard.specs.CheckedForm.{marks_fit, has_wide}
+use Rattle.sp_law_guard.specs.CheckedForm.{marks_fit}
 use Rattle.sp_guard.specs.Unguarded.{QuantifierAbove, nothing_above, unguarded}
 
 pub fit_joined : (bs : List Written) (o : Joint) (f g : Formula) → marks_fit bs (join o f g) ≡ marks_fit bs f && marks_fit bs g
 fit_joined bs conjoint f g = refl
 fit_joined bs disjoint f g = refl
-
-pub wide_joined : (o : Joint) (f g : Formula) → has_wide (join o f g) ≡ has_wide f || has_wide g
-wide_joined conjoint f g = refl
-wide_joined disjoint f g = refl
 
 pub unguarded_joined : (bs : List Written) (above : QuantifierAbove) (o : Joint) (f g : Formula)
     → unguarded bs above (join o f g) ≡ option_or (unguarded bs nothing_above f) (unguarded bs nothing_above g)

@@ -1,6 +1,6 @@
 -- Variables fit their binders one after the other, and the quantifiers in a row are gone through at once.
 use Rattle.std.proofs.Common.{◌≡◌, refl, sym, ap, ap₂, ◌∙◌, Bool, true, false, ◌&&◌, ◌||◌, nat_lt, length, List, [], ◌∷◌, ◌++◌, map}
-use Rattle.sp_spec.specs.Formula.{Written, Formula}
+use Rattle.sp_spec.specs.Formula.{Written, Formula, truth, falsity, happens, equals, precedes, not_so, both, either, implies, for_all, for_some}
 use Rattle.sp_spec.specs.Term.{Term, var, constant, name, app, Terms, none, more, in_term, in_terms, each_variable, each_variables}
 use Rattle.sp_spec.specs.Findings.{is_wide}
 use Rattle.sp_term.specs.declared.term.Term as memory
@@ -11,9 +11,11 @@ use Rattle.sp_spec_text.specs.Formulas.{quantified_some}
 use Rattle.sp_read_parts.specs.Views.{terms, variable}
 use Rattle.sp_law_guard.specs.GuardedForm.{meant}
 use Rattle.sp_law_guard.specs.CheckedForm.{fits, each_fits, marks_fit, has_wide}
+use Rattle.sp_walk.specs.Atoms.{any_atom}
 use Rattle.sp_guard.specs.View.{innermost_first}
+use Rattle.sp_guard.specs.Wide.{is_wide_atom}
 use Rattle.sp_spec.specs.Lists.{newest_first}
-use Rattle.sp_guard.proofs.QuantifiedForm.{regrouped, inside}
+use Rattle.sp_walk.proofs.Collected.{regrouped, inside}
 
 pub one_fits : (x : Bool) → x && true ≡ x
 one_fits true = refl
@@ -68,11 +70,6 @@ both_ways true true = refl
 both_ways true false = refl
 both_ways false y = refl
 
-pub either_way : (x y : Bool) → x || y ≡ (x || y) || (y || x)
-either_way true y = refl
-either_way false true = refl
-either_way false false = refl
-
 all_fit : (bs xs : List Written) (f : Formula) → marks_fit (newest_first xs ++ bs) f ≡ marks_fit bs (quantified xs f)
 all_fit bs [] f = refl
 all_fit bs (x ∷ xs) f = ap (λ (cs : List Written). marks_fit cs f) (regrouped xs bs x) ∙ all_fit (x ∷ bs) xs f
@@ -89,10 +86,16 @@ pub fit_for_some : (bs vs all : List WrittenVariable) (f : Formula) → all ≡ 
 fit_for_some bs vs all f e =
     ap (λ (cs : List WrittenVariable). marks_fit (innermost_first cs) f) e ∙ ap (λ (cs : List Written). marks_fit cs f) (inside bs vs) ∙ some_fit (innermost_first bs) (map variable vs) f
 
-pub wide_for_all : (xs : List Written) (f : Formula) → has_wide f ≡ has_wide (quantified xs f)
-wide_for_all [] f = refl
-wide_for_all (x ∷ xs) f = wide_for_all xs f
-
-pub wide_for_some : (xs : List Written) (f : Formula) → has_wide f ≡ has_wide (quantified_some xs f)
-wide_for_some [] f = refl
-wide_for_some (x ∷ xs) f = wide_for_some xs f
+-- an action of the formula is wide where one of its atoms is
+pub any_wide : (f : Formula) → any_atom is_wide_atom f ≡ has_wide f
+any_wide truth = refl
+any_wide falsity = refl
+any_wide (happens a i) = refl
+any_wide (equals t u) = refl
+any_wide (precedes i j) = refl
+any_wide (not_so f) = any_wide f
+any_wide (both f g) = ap₂ (λ (a b : Bool). a || b) (any_wide f) (any_wide g)
+any_wide (either f g) = ap₂ (λ (a b : Bool). a || b) (any_wide f) (any_wide g)
+any_wide (implies f g) = ap₂ (λ (a b : Bool). a || b) (any_wide f) (any_wide g)
+any_wide (for_all x f) = any_wide f
+any_wide (for_some x f) = any_wide f

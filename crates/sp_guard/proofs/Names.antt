@@ -15,7 +15,7 @@ use Rattle.sp_law_guard.specs.IsGuarded.{messages_in}
 use Rattle.sp_guard.specs.View.{innermost_first}
 use Rattle.sp_guard.specs.Unguarded.{QuantifierAbove, turned, unguarded}
 use Rattle.sp_guard.specs.FirstNamed.{named_in, named_in_form, below_each}
-use Rattle.sp_guard.proofs.QuantifiedForm.{inside}
+use Rattle.sp_walk.proofs.Collected.{inside}
 use Rattle.sp_guard.proofs.OneByOne.{some_one_by_one, all_one_by_one}
 
 pub few_messages : (bs : List Binder) → messages_in (map binder_of bs) ≤ length bs

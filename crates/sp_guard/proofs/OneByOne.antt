@@ -10,7 +10,7 @@ use Rattle.sp_law_guard.specs.GuardedForm.{binder_of, conjuncts, guard_in, rest_
 use Rattle.sp_law_guard.specs.IsGuarded.{message_guarded, messages_in}
 use Rattle.sp_guard.specs.Unguarded.{QuantifierAbove, turned, one_more, below_some, below_all, first_guarded, outermost_guarded, named_unless, unguarded}
 use Rattle.sp_guard.specs.FirstNamed.{named_in, named_in_form, below_each}
-use Rattle.sp_guard.proofs.QuantifiedForm.{regrouped}
+use Rattle.sp_walk.proofs.Collected.{regrouped}
 use Rattle.sp_guard.proofs.NoneUnguarded.{one_within}
 use Rattle.sp_guard.specs.Bound.{for_all_form, for_some_form}
 

@@ -14,6 +14,7 @@ ghost use Rattle.sp_law_guard.specs.GuardedForm as forms;
 ghost use Rattle.sp_law_guard.specs.IsGuarded.{is_guarded};
 ghost use Rattle.sp_law_guard.specs.CheckedForm as spec;
 ghost use Rattle.sp_guard.specs.View.{innermost_first};
+ghost use Rattle.sp_guard.specs.Wide.{is_wide_atom};
 
 use crate::form::{guarded_form, within};
 use crate::guarded::is_guarded;
@@ -21,6 +22,7 @@ use crate::meaning::{Meaning, meant};
 use sp_formula::formula::Formula;
 use sp_read_parts::{Mark, ReadFormula, WrittenAction, WrittenTerm, WrittenVariable};
 use sp_term::leaves::{Tests, each_leaf, each_leaf_of_all};
+use sp_walk::{ReadAtom, TestsAtoms, any_atom};
 use std::alloc::{AllocError, Global};
 
 /// Whether a message marked like this can be what the binder with the other mark binds.
@@ -173,40 +175,27 @@ fn is_wide_action(action: &WrittenAction) -> bool
     action.args.len() > 16
 }
 
-/// Whether an action of the formula has too many arguments.
-#[cycle(wide)]
-#[tactic(auto, using(crate::proofs::MarksFit::either_way, crate::proofs::MarksFit::wide_for_all, crate::proofs::MarksFit::wide_for_some))]
-pub fn has_wide(formula: &ReadFormula) -> bool
-    ensures { result ≡ spec.has_wide (written.formula formula.now) }
-{
-    match formula {
-        ReadFormula::True | ReadFormula::False => false,
-        ReadFormula::Happens(action, _) => is_wide_action(action),
-        ReadFormula::Equals(_, _) => false,
-        ReadFormula::Precedes(_, _) => false,
-        ReadFormula::Not(denied) => has_wide(denied),
-        ReadFormula::Both(left, right, more) | ReadFormula::Either(left, right, more) => {
-            let wide = has_wide(left) || has_wide(right);
-            or_wide(wide, more)
+/// Whether an atom is an action with too many arguments.
+#[derive(Clone, Copy)]
+struct IsWide;
+
+impl TestsAtoms for IsWide {
+    ghost test_of = { λ t. is_wide_atom };
+
+    fn passes(&self, atom: ReadAtom) -> bool {
+        match atom {
+            ReadAtom::Happens(action, _) => is_wide_action(action),
+            _ => false,
         }
-        ReadFormula::Implies(left, right) => has_wide(left) || has_wide(right),
-        ReadFormula::Equivalent(left, right) => has_wide(left) || has_wide(right),
-        ReadFormula::ForAll(_, body) => has_wide(body),
-        ReadFormula::ForSome(_, body) => has_wide(body),
     }
 }
 
-// Whether this is so, or an action of the formulas that follow has too many arguments.
-#[cycle(wide)]
-fn or_wide(so_far: bool, more: &Vec<ReadFormula>) -> bool
-    ensures { (o : Joint) (f : formulas.Formula) → so_far ≡ spec.has_wide f → result ≡ spec.has_wide (written.chain o f (map written.formula more.now.items)) }
+/// Whether an action of the formula has too many arguments.
+#[tactic(auto, using(crate::proofs::MarksFit::any_wide))]
+pub fn has_wide(formula: &ReadFormula) -> bool
+    ensures { result ≡ spec.has_wide (written.formula formula.now) }
 {
-    let mut wide = so_far;
-    for part in more {
-        let next = has_wide(part);
-        wide = wide || next;
-    }
-    wide
+    any_atom(&IsWide, formula)
 }
 
 // Whether the formula's variables are marked as their binders are, and no action of it has too many arguments.

@@ -246,7 +246,6 @@ pub fn tell_statements(
 
 // ---- too many arguments
 
-#[tactic(auto, using(sp_wf_formulas::proofs::OnTerms::wide_told))]
 fn tell_wide_item(alloc: Global, lines: &mut Vec<String>, item: &Item) -> Result<(), AllocError>
     ensures { OnOk result (lines_of lines.new.items ≡ lines_after (lines_of lines.old.items) (spec.wide_in_item (view.item item.now))) }
 {

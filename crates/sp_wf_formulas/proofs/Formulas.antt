@@ -1,76 +1,33 @@
--- What is told of formulas: of an equivalence each side once, and of quantifiers in a row what stands in their reach.
-use Rattle.std.proofs.Common.{◌≡◌, ℕ, Bool, true, false, not, ◌&&◌, if◌then◌else◌, List, [], ◌∷◌, ◌++◌, map, refl, sym, ap, ap₂, ◌∙◌}
-use Rattle.sp_spec.specs.Formula.{Written, Formula}
+-- What is told of the uses of variables in formulas, and where an unguarded variable is looked for.
+use Rattle.std.proofs.Common.{◌≡◌, ℕ, Bool, true, false, not, ◌&&◌, if◌then◌else◌, List, [], ◌∷◌, ◌++◌, refl, sym, ap, ap₂, ◌∙◌}
+use Rattle.sp_spec.specs.Formula.{Written, Formula, truth, falsity, happens, equals, precedes, not_so, both, either, implies, for_all, for_some}
 use Rattle.sp_spec.specs.Signature.{Equation}
-use Rattle.sp_spec.specs.Lists.{Every, newest_first}
-use Rattle.sp_spec.proofs.Lists.{every_parts, every_append}
-use Rattle.sp_spec.specs.Written.{is_listed}
-use Rattle.sp_spec_text.specs.Shapes.{quantified}
-use Rattle.sp_spec_text.specs.Formulas.{quantified_some}
-use Rattle.sp_read_parts.specs.Views.{variable}
-use Rattle.sp_read_parts.specs.declared.written.WrittenVariable.{WrittenVariable}
-use Rattle.sp_guard.specs.View.{innermost_first}
-use Rattle.sp_guard.proofs.QuantifiedForm.{regrouped, inside}
+use Rattle.sp_walk.specs.Atoms.{collected}
 use Rattle.sp_law_guard.specs.GuardedForm.{guarded_form}
 use Rattle.sp_law_guard.specs.CheckedForm.{fits, marks_fit}
-use Rattle.sp_finding.specs.Finding.{Finding, without_binder, destructor_in_formula, other_sort, mixed_at, line, told, are_none, lines_after}
+use Rattle.sp_finding.specs.Finding.{Finding, without_binder, destructor_in_formula, other_sort, mixed_at, told, are_none}
+use Rattle.sp_wf_formulas.specs.Atoms.{uses_at}
 use Rattle.sp_wf_formulas.specs.FormulaFindings.{formula_has_destructor, Use, uses, is_unbound, is_mixed, unbound_uses, other_uses, mixed_uses, unguarded_at, unguarded_in_lemma}
 use Rattle.sp_wf_formulas.specs.Sought.{Kind, unbound, of_other_sort, mixed, sought, is_there}
 use Rattle.sp_wf_formulas.specs.Statements.{statement}
 use Rattle.sp_guard.specs.Unguarded.{first_unguarded}
 use Rattle.sp_finding.proofs.Nothing.{none_single}
-use Rattle.sp_finding.proofs.Telling.{told_both}
 use Rattle.sp_wf_formulas.proofs.Using.{sought_both}
 use Rattle.sp_wf_formulas.proofs.FormulaClean.{none_other, form_placed}
-use Rattle.sp_spec.proofs.Listed.{listed_then, listed_now}
 
--- a line that stands goes on standing, and isn't told again
-abbrev Stands : List (List ℕ) → Finding → Type 0
-Stands ls f = is_listed (line f) ls ≡ true
-
-kept_standing : (x : List ℕ) (fs : List Finding) (ls : List (List ℕ)) → is_listed x ls ≡ true → is_listed x (lines_after ls fs) ≡ true
-kept_standing x [] ls e = e
-kept_standing x (f ∷ fs) ls e = kept_standing x fs (if is_listed (line f) ls then ls else ls ++ line f ∷ []) (listed_then (is_listed (line f) ls) x (line f) ls e)
-
-all_stand : (fs : List Finding) (ls : List (List ℕ)) → Every (Stands (lines_after ls fs)) fs
-all_stand [] ls = tt
-all_stand (f ∷ fs) ls =
-    let now = if is_listed (line f) ls then ls else ls ++ line f ∷ [] in
-    (kept_standing (line f) fs now (listed_now (is_listed (line f) ls) (line f) ls refl), all_stand fs now)
-
-not_again : (fs : List Finding) (ls : List (List ℕ)) → Every (Stands ls) fs → lines_after ls fs ≡ ls
-not_again [] ls h = refl
-not_again (f ∷ fs) ls h = ap (λ (b : Bool). lines_after (if b then ls else ls ++ line f ∷ []) fs) h.0 ∙ not_again fs ls h.1
-
-pub both_orders : (xs ys : List Finding) (ls : List (List ℕ)) → lines_after ls ((xs ++ ys) ++ (ys ++ xs)) ≡ lines_after ls (xs ++ ys)
-both_orders xs ys ls =
-    let stand = every_parts (Stands (lines_after ls (xs ++ ys))) xs ys (all_stand (xs ++ ys) ls) in
-    sym (told_both (xs ++ ys) ls (ys ++ xs)) ∙ not_again (ys ++ xs) (lines_after ls (xs ++ ys)) (every_append (Stands (lines_after ls (xs ++ ys))) ys xs stand.1 stand.0)
-
-each_way : (k : Kind) (n : List ℕ) (us vs : List Use) → sought k n ((us ++ vs) ++ (vs ++ us)) ≡ (sought k n us ++ sought k n vs) ++ (sought k n vs ++ sought k n us)
-each_way k n us vs = sought_both k n (us ++ vs) (vs ++ us) ∙ ap (λ (fs : List Finding). fs ++ sought k n (vs ++ us)) (sought_both k n us vs) ∙ ap (λ (fs : List Finding). (sought k n us ++ sought k n vs) ++ fs) (sought_both k n vs us)
-
-pub sought_equivalent : (ls : List (List ℕ)) (k : Kind) (n : List ℕ) (us vs : List Use)
-    → lines_after (lines_after ls (sought k n us)) (sought k n vs) ≡ lines_after ls (sought k n ((us ++ vs) ++ (vs ++ us)))
-sought_equivalent ls k n us vs =
-    told_both (sought k n us) ls (sought k n vs) ∙ sym (ap (lines_after ls) (each_way k n us vs) ∙ both_orders (sought k n us) (sought k n vs) ls)
-
--- quantifiers in a row
-all_used : (bs xs : List Written) (f : Formula) → uses (newest_first xs ++ bs) f ≡ uses bs (quantified xs f)
-all_used bs [] f = refl
-all_used bs (x ∷ xs) f = ap (λ (cs : List Written). uses cs f) (regrouped xs bs x) ∙ all_used (x ∷ bs) xs f
-
-some_used : (bs xs : List Written) (f : Formula) → uses (newest_first xs ++ bs) f ≡ uses bs (quantified_some xs f)
-some_used bs [] f = refl
-some_used bs (x ∷ xs) f = ap (λ (cs : List Written). uses cs f) (regrouped xs bs x) ∙ some_used (x ∷ bs) xs f
-
-pub sought_for_all : (bs vs all : List WrittenVariable) (f : Formula) → all ≡ bs ++ vs → uses (innermost_first all) f ≡ uses (innermost_first bs) (quantified (map variable vs) f)
-sought_for_all bs vs all f e =
-    ap (λ (cs : List WrittenVariable). uses (innermost_first cs) f) e ∙ ap (λ (cs : List Written). uses cs f) (inside bs vs) ∙ all_used (innermost_first bs) (map variable vs) f
-
-pub sought_for_some : (bs vs all : List WrittenVariable) (f : Formula) → all ≡ bs ++ vs → uses (innermost_first all) f ≡ uses (innermost_first bs) (quantified_some (map variable vs) f)
-sought_for_some bs vs all f e =
-    ap (λ (cs : List WrittenVariable). uses (innermost_first cs) f) e ∙ ap (λ (cs : List Written). uses cs f) (inside bs vs) ∙ some_used (innermost_first bs) (map variable vs) f
+-- what is told of atoms, one after the other, is what is told of the uses in the formula
+pub sought_collected : (k : Kind) (n : List ℕ) (bs : List Written) (f : Formula) → collected (λ cs a. sought k n (uses_at cs a)) bs f ≡ sought k n (uses bs f)
+sought_collected k n bs truth = refl
+sought_collected k n bs falsity = refl
+sought_collected k n bs (happens a i) = refl
+sought_collected k n bs (equals t u) = refl
+sought_collected k n bs (precedes i j) = refl
+sought_collected k n bs (not_so f) = sought_collected k n bs f
+sought_collected k n bs (both f g) = ap₂ (λ (xs ys : List Finding). xs ++ ys) (sought_collected k n bs f) (sought_collected k n bs g) ∙ sym (sought_both k n (uses bs f) (uses bs g))
+sought_collected k n bs (either f g) = ap₂ (λ (xs ys : List Finding). xs ++ ys) (sought_collected k n bs f) (sought_collected k n bs g) ∙ sym (sought_both k n (uses bs f) (uses bs g))
+sought_collected k n bs (implies f g) = ap₂ (λ (xs ys : List Finding). xs ++ ys) (sought_collected k n bs f) (sought_collected k n bs g) ∙ sym (sought_both k n (uses bs f) (uses bs g))
+sought_collected k n bs (for_all x f) = sought_collected k n (x ∷ bs) f
+sought_collected k n bs (for_some x f) = sought_collected k n (x ∷ bs) f
 
 -- each kind is looked for by its own name too
 pub sought_unbound : (n : List ℕ) (us : List Use) → sought unbound n us ≡ unbound_uses n us

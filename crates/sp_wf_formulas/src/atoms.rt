@@ -1,17 +1,18 @@
 // The findings on the terms of a formula, whatever binds their variables.
 
-ghost use Rattle.std.specs.Prelude.{◌≡◌, ℕ, List, OnOk, map};
-ghost use Rattle.sp_spec.specs.Formula as formulas;
-ghost use Rattle.sp_read_parts.specs.Reading.{Joint};
+ghost use Rattle.std.specs.Prelude.{◌≡◌, ℕ, List, OnOk, refl};
 ghost use Rattle.sp_read_parts.specs.Views as parts;
 ghost use Rattle.sp_read_parts.specs.Formulas as written;
 ghost use Rattle.sp_wf_formulas.specs.Atoms as spec;
+ghost use Rattle.sp_finding.proofs.Telling.{told_both, both_orders};
+ghost use Rattle.sp_finding.specs.Finding as findings;
 ghost use Rattle.sp_finding.specs.Finding.{lines_after};
 ghost use Rattle.sp_finding.specs.View.{lines_of};
 
 use sp_fact::signature::Symbol;
 use sp_finding::{Finding, are_too_many, tell_if, tell_unknown, tell_unknown_in_all};
-use sp_read_parts::{ReadFormula, WrittenAction, WrittenTerm};
+use sp_read_parts::{ReadFormula, WrittenAction, WrittenTerm, WrittenVariable};
+use sp_walk::{Collects, ReadAtom, collect_closed};
 use std::alloc::{AllocError, Global};
 
 /// What may be wrong with the terms of a formula.
@@ -63,13 +64,44 @@ fn tell_sides(
     }
 }
 
+// What is told of an atom, whatever binds its variables.
+impl<'f> Collects<Vec<String>> for TermFault<'f> {
+    ghost Item = { findings.Finding };
+
+    ghost Seen = { List (List ℕ) };
+
+    ghost seen_of = { λ lines. lines_of lines.items };
+
+    ghost gives = { λ t bs. spec.on_atom (spec.fault_of t) };
+
+    ghost after = { lines_after };
+
+    fn collect<'a>(
+        &self,
+        alloc: Global,
+        lines: &mut Vec<String>,
+        _binders: &Vec<WrittenVariable<'a>>,
+        atom: ReadAtom<'_, 'a>,
+    ) -> Result<(), AllocError> {
+        match atom {
+            ReadAtom::Happens(action, _) => tell_action(alloc, lines, *self, action),
+            ReadAtom::Equals(left, right) => tell_sides(alloc, lines, *self, left, right),
+            ReadAtom::Precedes(_, _) => Ok(()),
+        }
+    }
+
+    ghost none_changes = { λ ls. refl };
+
+    ghost one_by_one = { λ ls xs ys. told_both xs ls ys };
+
+    ghost not_again = { λ ls xs ys. both_orders xs ys ls };
+}
+
 /// Tells of what is looked for, in the terms of the formula.
 ///
 /// # Errors
 ///
 /// `AllocError` where memory is wanting.
-#[cycle(terms)]
-#[tactic(auto, using(sp_finding::proofs::Telling::told_both, crate::proofs::OnTerms::told_equivalent, crate::proofs::OnTerms::told_for_all, crate::proofs::OnTerms::told_for_some))]
 pub fn tell_terms_of(
     alloc: Global,
     lines: &mut Vec<String>,
@@ -78,38 +110,5 @@ pub fn tell_terms_of(
 ) -> Result<(), AllocError>
     ensures { OnOk result (lines_of lines.new.items ≡ lines_after (lines_of lines.old.items) (spec.on_terms (spec.fault_of fault.entry) (written.formula formula.now))) }
 {
-    match formula {
-        ReadFormula::True | ReadFormula::False | ReadFormula::Precedes(_, _) => Ok(()),
-        ReadFormula::Happens(action, _) => tell_action(alloc, lines, fault, action),
-        ReadFormula::Equals(left, right) => tell_sides(alloc, lines, fault, left, right),
-        ReadFormula::Not(denied) => tell_terms_of(alloc, lines, fault, denied),
-        ReadFormula::Both(left, right, more) | ReadFormula::Either(left, right, more) => {
-            tell_terms_of(alloc, lines, fault, left)?;
-            tell_terms_of(alloc, lines, fault, right)?;
-            tell_later_terms(alloc, lines, fault, more)
-        }
-        ReadFormula::Implies(left, right) | ReadFormula::Equivalent(left, right) => {
-            tell_terms_of(alloc, lines, fault, left)?;
-            tell_terms_of(alloc, lines, fault, right)
-        }
-        ReadFormula::ForAll(_, body) => tell_terms_of(alloc, lines, fault, body),
-        ReadFormula::ForSome(_, body) => tell_terms_of(alloc, lines, fault, body),
-    }
-}
-
-/// The same in each of the formulas that follow.
-#[cycle(terms)]
-fn tell_later_terms(
-    alloc: Global,
-    lines: &mut Vec<String>,
-    fault: TermFault,
-    more: &Vec<ReadFormula>,
-) -> Result<(), AllocError>
-    ensures { OnOk result ((o : Joint) (before : List (List ℕ)) (f : formulas.Formula) → lines_of lines.old.items ≡ lines_after before (spec.on_terms (spec.fault_of fault.entry) f)
-        → lines_of lines.new.items ≡ lines_after before (spec.on_terms (spec.fault_of fault.entry) (written.chain o f (map written.formula more.now.items)))) }
-{
-    for part in more {
-        tell_terms_of(alloc, lines, fault, part)?;
-    }
-    Ok(())
+    collect_closed(alloc, &fault, lines, formula)
 }

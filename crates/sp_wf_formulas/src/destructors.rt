@@ -1,20 +1,20 @@
 // Whether destructors stand in a formula.
 
 ghost use Rattle.std.specs.Prelude.{◌≡◌, ◌||◌, OnOk, map};
-ghost use Rattle.sp_spec.specs.Formula as formulas;
 ghost use Rattle.sp_fact.specs.GroundView.{equation_of};
-ghost use Rattle.sp_read_parts.specs.Reading.{Joint};
 ghost use Rattle.sp_read_parts.specs.Views as parts;
 ghost use Rattle.sp_read_parts.specs.Formulas as written;
 ghost use Rattle.sp_finding.specs.Finding.{lines_after};
 ghost use Rattle.sp_finding.specs.TermFindings.{has_destructor};
 ghost use Rattle.sp_finding.specs.View.{lines_of};
+ghost use Rattle.sp_wf_formulas.specs.Atoms.{atom_has_destructor};
 ghost use Rattle.sp_wf_formulas.specs.FormulaFindings as spec;
 ghost use Rattle.sp_wf_formulas.specs.Statements.{statement};
 
 use sp_fact::signature::Equation;
 use sp_finding::{Finding, FormulaFinding, has_destructor, have_destructor, tell_if};
 use sp_read_parts::{ReadFormula, WrittenTerm};
+use sp_walk::{ReadAtom, TestsAtoms, any_atom};
 use std::alloc::{AllocError, Global};
 
 /// Whether a destructor stands on one of two sides.
@@ -24,46 +24,30 @@ fn have_destructors(equations: &Vec<Equation>, left: &WrittenTerm, right: &Writt
     has_destructor(equations, left) || has_destructor(equations, right)
 }
 
-/// Whether a destructor stands in the formula.
-#[cycle(formulas)]
-#[tactic(auto, using(sp_finding::proofs::Learnt::either_way, crate::proofs::OnTerms::destructor_for_all, crate::proofs::OnTerms::destructor_for_some))]
-pub fn formula_has_destructor(equations: &Vec<Equation>, formula: &ReadFormula) -> bool
-    ensures { result ≡ spec.formula_has_destructor (map equation_of equations.now.items) (written.formula formula.now) }
-{
-    match formula {
-        ReadFormula::True | ReadFormula::False => false,
-        ReadFormula::Happens(action, _) => have_destructor(equations, &action.args),
-        ReadFormula::Equals(left, right) => have_destructors(equations, left, right),
-        ReadFormula::Precedes(_, _) => false,
-        ReadFormula::Not(denied) => formula_has_destructor(equations, denied),
-        ReadFormula::Both(left, right, more) | ReadFormula::Either(left, right, more) => {
-            let found = formula_has_destructor(equations, left)
-                || formula_has_destructor(equations, right);
-            or_have_destructor(equations, found, more)
+/// Whether a destructor by these equations stands in an atom.
+#[derive(Clone, Copy)]
+struct HasDestructor<'e> {
+    equations: &'e Vec<Equation>,
+}
+
+impl<'e> TestsAtoms for HasDestructor<'e> {
+    ghost test_of = { λ t. atom_has_destructor (map equation_of t.equations.now.items) };
+
+    fn passes(&self, atom: ReadAtom) -> bool {
+        match atom {
+            ReadAtom::Happens(action, _) => have_destructor(self.equations, &action.args),
+            ReadAtom::Equals(left, right) => have_destructors(self.equations, left, right),
+            ReadAtom::Precedes(_, _) => false,
         }
-        ReadFormula::Implies(left, right) => {
-            formula_has_destructor(equations, left) || formula_has_destructor(equations, right)
-        }
-        ReadFormula::Equivalent(left, right) => {
-            formula_has_destructor(equations, left) || formula_has_destructor(equations, right)
-        }
-        ReadFormula::ForAll(_, body) => formula_has_destructor(equations, body),
-        ReadFormula::ForSome(_, body) => formula_has_destructor(equations, body),
     }
 }
 
-/// Whether this is so, or a destructor stands in one of the formulas that follow.
-#[cycle(formulas)]
-fn or_have_destructor(equations: &Vec<Equation>, so_far: bool, more: &Vec<ReadFormula>) -> bool
-    ensures { (o : Joint) (f : formulas.Formula) → so_far ≡ spec.formula_has_destructor (map equation_of equations.now.items) f
-        → result ≡ spec.formula_has_destructor (map equation_of equations.now.items) (written.chain o f (map written.formula more.now.items)) }
+/// Whether a destructor stands in the formula.
+#[tactic(auto, using(crate::proofs::OnTerms::any_destructor))]
+pub fn formula_has_destructor(equations: &Vec<Equation>, formula: &ReadFormula) -> bool
+    ensures { result ≡ spec.formula_has_destructor (map equation_of equations.now.items) (written.formula formula.now) }
 {
-    let mut found = so_far;
-    for part in more {
-        let next = formula_has_destructor(equations, part);
-        found = found || next;
-    }
-    found
+    any_atom(&HasDestructor { equations }, formula)
 }
 
 /// Tells of the formula of this name where a destructor stands in it.

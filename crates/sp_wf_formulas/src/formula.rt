@@ -1,9 +1,7 @@
 // The findings on the variables of a formula.
 
-ghost use Rattle.std.specs.Prelude.{◌≡◌, ◌&&◌, ◌++◌, ℕ, List, [], not, IfOk, OnOk, map};
-ghost use Rattle.sp_spec.specs.Formula as formulas;
+ghost use Rattle.std.specs.Prelude.{◌≡◌, ◌&&◌, [], not, IfOk, OnOk, map};
 ghost use Rattle.sp_fact.specs.GroundView.{equation_of};
-ghost use Rattle.sp_read_parts.specs.Reading.{Joint};
 ghost use Rattle.sp_read_parts.specs.Formulas as written;
 ghost use Rattle.sp_law_guard.specs.GuardedForm as forms;
 ghost use Rattle.sp_law_guard.specs.CheckedForm as checked;
@@ -16,89 +14,15 @@ ghost use Rattle.sp_wf_formulas.specs.Sought.{sought, sought_view, is_there};
 ghost use Rattle.sp_wf_formulas.specs.Statements.{statement};
 
 use crate::destructors::formula_has_destructor;
-use crate::uses::{Search, Sought, tell_equation, tell_happening, tell_order};
+use crate::uses::{Search, Sought};
 use sp_fact::signature::Equation;
 use sp_finding::{Finding, FormulaFinding, tell_if};
-use sp_guard::form::{guarded_form, within};
+use sp_guard::form::guarded_form;
 use sp_guard::marks::marks_fit;
 use sp_guard::unguarded::first_unguarded;
 use sp_read_parts::{ReadFormula, WrittenVariable};
+use sp_walk::collect_closed;
 use std::alloc::{AllocError, Global};
-
-/// Tells of what is looked for, where variables are used within the reach of these binders.
-#[cycle(uses)]
-#[tactic(auto, using(crate::proofs::Using::sought_on, crate::proofs::Formulas::sought_equivalent, crate::proofs::Formulas::sought_for_all, crate::proofs::Formulas::sought_for_some))]
-fn tell_uses<'a>(
-    alloc: Global,
-    lines: &mut Vec<String>,
-    search: Search<'a>,
-    binders: &Vec<WrittenVariable<'a>>,
-    formula: &ReadFormula<'a>,
-) -> Result<(), AllocError>
-    ensures { OnOk result (lines_of lines.new.items ≡ lines_after (lines_of lines.old.items) (sought (sought_view search.entry.sought) search.entry.formula.now (spec.uses (innermost_first binders.now.items) (written.formula formula.now)))) }
-{
-    match formula {
-        ReadFormula::True | ReadFormula::False => Ok(()),
-        ReadFormula::Happens(action, at) => {
-            tell_happening(alloc, lines, search, binders, action, *at)
-        }
-        ReadFormula::Equals(left, right) => {
-            tell_equation(alloc, lines, search, binders, left, right)
-        }
-        ReadFormula::Precedes(left, right) => {
-            tell_order(alloc, lines, search, binders, *left, *right)
-        }
-        ReadFormula::Not(denied) => tell_uses(alloc, lines, search, binders, denied),
-        ReadFormula::Both(left, right, more) | ReadFormula::Either(left, right, more) => {
-            tell_uses(alloc, lines, search, binders, left)?;
-            tell_uses(alloc, lines, search, binders, right)?;
-            tell_later_uses(alloc, lines, search, binders, more)
-        }
-        ReadFormula::Implies(left, right) | ReadFormula::Equivalent(left, right) => {
-            tell_uses(alloc, lines, search, binders, left)?;
-            tell_uses(alloc, lines, search, binders, right)
-        }
-        ReadFormula::ForAll(more, body) | ReadFormula::ForSome(more, body) => {
-            tell_uses_behind(alloc, lines, search, binders, more, body)
-        }
-    }
-}
-
-/// The same behind a quantifier, whose binders stand within the reach of the others.
-#[cycle(uses)]
-fn tell_uses_behind<'a>(
-    alloc: Global,
-    lines: &mut Vec<String>,
-    search: Search<'a>,
-    binders: &Vec<WrittenVariable<'a>>,
-    more: &Vec<WrittenVariable<'a>>,
-    body: &ReadFormula<'a>,
-) -> Result<(), AllocError>
-    ensures { OnOk result (lines_of lines.new.items ≡ lines_after (lines_of lines.old.items) (sought (sought_view search.entry.sought) search.entry.formula.now (spec.uses (innermost_first (binders.now.items ++ more.now.items)) (written.formula body.now)))) }
-{
-    let inner = within(alloc, binders, more)?;
-    tell_uses(alloc, lines, search, &inner, body)
-}
-
-/// The same in each of the formulas that follow.
-#[cycle(uses)]
-fn tell_later_uses<'a>(
-    alloc: Global,
-    lines: &mut Vec<String>,
-    search: Search<'a>,
-    binders: &Vec<WrittenVariable<'a>>,
-    more: &Vec<ReadFormula<'a>>,
-) -> Result<(), AllocError>
-    ensures { OnOk result ((o : Joint) (before : List (List ℕ)) (f : formulas.Formula)
-        → lines_of lines.old.items ≡ lines_after before (sought (sought_view search.entry.sought) search.entry.formula.now (spec.uses (innermost_first binders.now.items) f))
-        → lines_of lines.new.items ≡ lines_after before (sought (sought_view search.entry.sought) search.entry.formula.now
-        (spec.uses (innermost_first binders.now.items) (written.chain o f (map written.formula more.now.items))))) }
-{
-    for part in more {
-        tell_uses(alloc, lines, search, binders, part)?;
-    }
-    Ok(())
-}
 
 /// Tells of what is looked for, in the formula of this name.
 ///
@@ -114,12 +38,11 @@ pub fn tell_sought<'a>(
 ) -> Result<(), AllocError>
     ensures { OnOk result (lines_of lines.new.items ≡ lines_after (lines_of lines.old.items) (sought (sought_view wanted) name.now (spec.uses [] (written.formula formula.now)))) }
 {
-    let none = Vec::new(alloc);
     let search = Search {
         sought: wanted,
         formula: name,
     };
-    tell_uses(alloc, lines, search, &none, formula)
+    collect_closed(alloc, &search, lines, formula)
 }
 
 /// Whether the formula has a guarded form within the reach of these binders.

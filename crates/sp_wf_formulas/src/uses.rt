@@ -1,13 +1,16 @@
 // The findings on the variables of a formula where they are used.
 
-ghost use Rattle.std.specs.Prelude.{◌≡◌, [], ◌∷◌, ◌++◌, OnOk, option_map};
+ghost use Rattle.std.specs.Prelude.{◌≡◌, ℕ, List, [], ◌∷◌, ◌++◌, OnOk, option_map, refl};
 ghost use Rattle.sp_spec.specs.Written.{in_term, in_terms};
 ghost use Rattle.sp_read_parts.specs.Views as view;
 ghost use Rattle.sp_law_guard.specs.GuardedForm as forms;
 ghost use Rattle.sp_law_guard.specs.CheckedForm as checked;
 ghost use Rattle.sp_guard.specs.View.{meaning_of, innermost_first};
 ghost use Rattle.sp_wf_formulas.specs.FormulaFindings as spec;
+ghost use Rattle.sp_finding.proofs.Telling.{told_both, both_orders};
+ghost use Rattle.sp_finding.specs.Finding as findings;
 ghost use Rattle.sp_finding.specs.Finding.{lines_after};
+ghost use Rattle.sp_wf_formulas.specs.Atoms.{uses_at};
 ghost use Rattle.sp_wf_formulas.specs.Sought.{is_sought, said, sought, is_there, role_view, sought_view, used};
 ghost use Rattle.sp_finding.specs.View.{finding_of, lines_of};
 
@@ -15,6 +18,7 @@ use sp_finding::{Finding, FormulaFinding, tell_if};
 use sp_guard::meaning::{Meaning, meant};
 use sp_read_parts::{Mark, WrittenAction, WrittenTerm, WrittenVariable};
 use sp_term::term::Term;
+use sp_walk::{Collects, ReadAtom};
 use std::alloc::{AllocError, Global};
 
 /// What has to stand at a place.
@@ -101,13 +105,13 @@ fn finding_at<'a>(search: Search<'a>, name: &'a str) -> Finding<'a>
 }
 
 /// Tells of the variable, used in this role within the reach of these binders.
-pub fn tell_use<'a>(
+fn tell_use(
     alloc: Global,
     lines: &mut Vec<String>,
-    search: Search<'a>,
-    binders: &Vec<WrittenVariable<'a>>,
+    search: Search,
+    binders: &Vec<WrittenVariable>,
     role: Role,
-    variable: WrittenVariable<'a>,
+    variable: WrittenVariable,
 ) -> Result<(), AllocError>
     ensures { OnOk result (lines_of lines.new.items ≡ lines_after (lines_of lines.old.items) (used (sought_view search.entry.sought) search.entry.formula.now (role_view role) (innermost_first binders.now.items) (view.variable variable.entry ∷ []))) }
 {
@@ -118,13 +122,13 @@ pub fn tell_use<'a>(
 
 /// Tells of the variables of the term.
 #[cycle(terms)]
-fn tell_term<'a>(
+fn tell_term(
     alloc: Global,
     lines: &mut Vec<String>,
-    search: Search<'a>,
-    binders: &Vec<WrittenVariable<'a>>,
+    search: Search,
+    binders: &Vec<WrittenVariable>,
     role: Role,
-    term: &WrittenTerm<'a>,
+    term: &WrittenTerm,
 ) -> Result<(), AllocError>
     ensures { OnOk result (lines_of lines.new.items ≡ lines_after (lines_of lines.old.items) (used (sought_view search.entry.sought) search.entry.formula.now (role_view role) (innermost_first binders.now.items) (in_term (view.term term.now)))) }
 {
@@ -137,13 +141,13 @@ fn tell_term<'a>(
 
 /// Tells of the variables of the terms.
 #[cycle(terms)]
-fn tell_terms<'a>(
+fn tell_terms(
     alloc: Global,
     lines: &mut Vec<String>,
-    search: Search<'a>,
-    binders: &Vec<WrittenVariable<'a>>,
+    search: Search,
+    binders: &Vec<WrittenVariable>,
     role: Role,
-    terms: &Vec<WrittenTerm<'a>>,
+    terms: &Vec<WrittenTerm>,
 ) -> Result<(), AllocError>
     ensures { OnOk result (lines_of lines.new.items ≡ lines_after (lines_of lines.old.items) (used (sought_view search.entry.sought) search.entry.formula.now (role_view role) (innermost_first binders.now.items) (in_terms (view.terms terms.now.items)))) }
 {
@@ -154,13 +158,13 @@ fn tell_terms<'a>(
 }
 
 /// Tells of the variables of an action and of its time.
-pub fn tell_happening<'a>(
+fn tell_happening(
     alloc: Global,
     lines: &mut Vec<String>,
-    search: Search<'a>,
-    binders: &Vec<WrittenVariable<'a>>,
-    action: &WrittenAction<'a>,
-    at: WrittenVariable<'a>,
+    search: Search,
+    binders: &Vec<WrittenVariable>,
+    action: &WrittenAction,
+    at: WrittenVariable,
 ) -> Result<(), AllocError>
     ensures { OnOk result (lines_of lines.new.items ≡ lines_after (lines_of lines.old.items) (sought (sought_view search.entry.sought) search.entry.formula.now (spec.uses_as spec.as_message (innermost_first binders.now.items) (in_terms (view.terms action.now.args.items)) ++ spec.uses_as spec.as_time (innermost_first binders.now.items) (view.variable at.entry ∷ [])))) }
 {
@@ -171,13 +175,13 @@ pub fn tell_happening<'a>(
 
 /// Tells of two times.
 #[tactic(auto, using(sp_finding::proofs::Telling::told_on))]
-pub fn tell_order<'a>(
+fn tell_order(
     alloc: Global,
     lines: &mut Vec<String>,
-    search: Search<'a>,
-    binders: &Vec<WrittenVariable<'a>>,
-    left: WrittenVariable<'a>,
-    right: WrittenVariable<'a>,
+    search: Search,
+    binders: &Vec<WrittenVariable>,
+    left: WrittenVariable,
+    right: WrittenVariable,
 ) -> Result<(), AllocError>
     ensures { OnOk result (lines_of lines.new.items ≡ lines_after (lines_of lines.old.items) (used (sought_view search.entry.sought) search.entry.formula.now spec.as_time (innermost_first binders.now.items) (view.variable left.entry ∷ view.variable right.entry ∷ []))) }
 {
@@ -212,13 +216,13 @@ fn role_of(binders: &Vec<WrittenVariable>, left: &WrittenTerm, right: &WrittenTe
 
 /// Tells of the variables on both sides of an equation.
 #[tactic(auto, using(crate::proofs::Using::used_on))]
-pub fn tell_equation<'a>(
+fn tell_equation(
     alloc: Global,
     lines: &mut Vec<String>,
-    search: Search<'a>,
-    binders: &Vec<WrittenVariable<'a>>,
-    left: &WrittenTerm<'a>,
-    right: &WrittenTerm<'a>,
+    search: Search,
+    binders: &Vec<WrittenVariable>,
+    left: &WrittenTerm,
+    right: &WrittenTerm,
 ) -> Result<(), AllocError>
     ensures { OnOk result (lines_of lines.new.items ≡ lines_after (lines_of lines.old.items) (used (sought_view search.entry.sought) search.entry.formula.now (spec.role_of (forms.term_time (innermost_first binders.now.items) (view.term left.now)) (forms.term_time (innermost_first binders.now.items) (view.term right.now))) (innermost_first binders.now.items) (in_term (view.term left.now) ++ in_term (view.term right.now)))) }
 {
@@ -226,4 +230,43 @@ pub fn tell_equation<'a>(
     tell_term(alloc, lines, search, binders, role, left)?;
     tell_term(alloc, lines, search, binders, role, right)?;
     Ok(())
+}
+
+// What is told of the variables of an atom.
+impl<'s> Collects<Vec<String>> for Search<'s> {
+    ghost Item = { findings.Finding };
+
+    ghost Seen = { List (List ℕ) };
+
+    ghost seen_of = { λ lines. lines_of lines.items };
+
+    ghost gives = { λ t bs a. sought (sought_view t.sought) t.formula.now (uses_at bs a) };
+
+    ghost after = { lines_after };
+
+    fn collect<'a>(
+        &self,
+        alloc: Global,
+        lines: &mut Vec<String>,
+        binders: &Vec<WrittenVariable<'a>>,
+        atom: ReadAtom<'_, 'a>,
+    ) -> Result<(), AllocError> {
+        match atom {
+            ReadAtom::Happens(action, at) => {
+                tell_happening(alloc, lines, *self, binders, action, at)
+            }
+            ReadAtom::Equals(left, right) => {
+                tell_equation(alloc, lines, *self, binders, left, right)
+            }
+            ReadAtom::Precedes(left, right) => {
+                tell_order(alloc, lines, *self, binders, left, right)
+            }
+        }
+    }
+
+    ghost none_changes = { λ ls. refl };
+
+    ghost one_by_one = { λ ls xs ys. told_both xs ls ys };
+
+    ghost not_again = { λ ls xs ys. both_orders xs ys ls };
 }
