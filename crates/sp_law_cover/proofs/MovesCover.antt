@@ -18,20 +18,23 @@ use Rattle.sp_spec_system.specs.Numbered.{names_in, InEvent, InFormula, IsNumber
 use Rattle.sp_spec_system.specs.Covering.{NoneSolved, Covers}
 use Rattle.sp_law_system.specs.Laws.{UnifierIsRight}
 use Rattle.sp_spec_system.specs.Equating.{action_pair, unifier_of, system_changed}
-use Rattle.sp_spec.proofs.Lists.{every_append, every_parts, every_member, every_at}
+use Rattle.sp_spec.proofs.Lists.{every_append, every_parts, every_weaken, every_member, every_at}
 use Rattle.sp_law_equal.proofs.Made.{each_weaken_all}
+use Rattle.sp_law_log.proofs.Entries.{past_is_log}
 use Rattle.sp_law_system.proofs.Numbers.{happening_made}
 use Rattle.sp_law_system.proofs.Merging.{action_under}
 use Rattle.sp_law_system.proofs.Solutions.{Under, TimeUnder, agrees_then, change_numbered}
 use Rattle.sp_spec_system.specs.Formulas.{freed_action}
 use Rattle.sp_spec_system.specs.MakingOne.{event_at}
 use Rattle.sp_spec_proof.specs.Rows.{has_place, is_contradictory, simplified}
-use Rattle.sp_spec_system.specs.Move.{Move, simplify, contradiction, unproved, solved, or, action, premise, know, chain, Context, Case, end_log, systems_in}
+use Rattle.sp_spec_system.specs.Move.{Move, simplify, contradiction, unproved, solved, or, action, premise, know, chain, induction, root_system, Context, Case, end_log, systems_in}
 use Rattle.sp_spec_system.specs.Cases.{where_same, renamed, system_if, named}
 use Rattle.sp_spec_formula.specs.Action.{with_step, by_actions, by_each, at_each, action_cases, solving_action, by_forms, by_adversary}
 use Rattle.sp_spec_graph.specs.Premise.{open_premise, premise_cases}
 use Rattle.sp_spec_know.specs.Know.{know_cases}
 use Rattle.sp_spec_know.specs.Chain.{chain_cases}
+use Rattle.sp_spec_formula.specs.Induction.{root_induction, induction_cases}
+use Rattle.sp_spec_formula.proofs.Roots.{IsAtRoot, only_at_root}
 use Rattle.sp_spec_proof.specs.Cases.{raw_cases, simple_case, cases}
 use Rattle.sp_law_system.specs.Rules.{SuitsProofs, RulesAreNumbered, IsNumberedForm, FormsAreNumbered, FormsAreWhole}
 use Rattle.sp_law_system.specs.Proofs.{IsWellMade, IsKept, IsPast}
@@ -190,50 +193,53 @@ module _ (N : Names) (right : UnifierIsRight) (theory : Theory) (suits : SuitsPr
   by_chain_rules context r s i cs e = subst (λ (rules : Rules). chain_cases (destructions rules.signature) s i ≡ Some cs) r e
 
   -- before the cases are simplified
-  raw_numbered : (context : Context) → context.rules ≡ rules_of theory → (s : System) (move : Move) (cs : List Case) → raw_cases context s move ≡ Some cs → IsNumbered N s → Every (Later N s.next) (systems_in cs)
-  raw_numbered context r s simplify cs e n = at (has_place context.rules s) e
+  raw_numbered : (context : Context) → context.rules ≡ rules_of theory → (s : System) (move : Move) (cs : List Case) → raw_cases context s move ≡ Some cs → IsNumbered N s
+      → (root_induction context.root s ≡ Some cs → Every (Later N s.next) (systems_in cs)) → Every (Later N s.next) (systems_in cs)
+  raw_numbered context r s simplify cs e n at_root = at (has_place context.rules s) e
     where
       at : (b : Bool) → (if b then Some (record { name = []; system = s } ∷ []) else None) ≡ Some cs → Every (Later N s.next) (systems_in cs)
       at true k = let one : Case = record { name = []; system = s } in let g : one ∷ [] ≡ cs = cc in subst (λ (x : List Case). Every (Later N s.next) (systems_in x)) g ((n, le_refl s.next), tt)
       at false k = absurd cc
-  raw_numbered context r s contradiction cs e n = at (is_contradictory context.rules s) e
+  raw_numbered context r s contradiction cs e n at_root = at (is_contradictory context.rules s) e
     where
       at : (b : Bool) → (if b then Some [] else None) ≡ Some cs → Every (Later N s.next) (systems_in cs)
       at true k = let none : List Case = [] in let g : none ≡ cs = cc in subst (λ (x : List Case). Every (Later N s.next) (systems_in x)) g tt
       at false k = absurd cc
-  raw_numbered context r s unproved cs e n = let none : List Case = [] in let g : none ≡ cs = cc in subst (λ (x : List Case). Every (Later N s.next) (systems_in x)) g tt
-  raw_numbered context r s solved cs e n = at (is_some (end_log context s)) e
+  raw_numbered context r s unproved cs e n at_root = let none : List Case = [] in let g : none ≡ cs = cc in subst (λ (x : List Case). Every (Later N s.next) (systems_in x)) g tt
+  raw_numbered context r s solved cs e n at_root = at (is_some (end_log context s)) e
     where
       at : (b : Bool) → (if b then Some [] else None) ≡ Some cs → Every (Later N s.next) (systems_in cs)
       at true k = let none : List Case = [] in let g : none ≡ cs = cc in subst (λ (x : List Case). Every (Later N s.next) (systems_in x)) g tt
       at false k = absurd cc
-  raw_numbered context r s (or k) cs e n = or_numbered s n k cs e
-  raw_numbered context r s (action k) cs e n = action_numbered s n k cs (by_rules context r s k cs e)
-  raw_numbered context r s (premise i p) cs e n = premise_numbered N right theory good each_numbered whole s n i p cs (by_premise_rules context r s i p cs e)
-  raw_numbered context r s (know i) cs e n = know_numbered N theory good each_numbered whole s n i cs (by_know_rules context r s i cs e)
-  raw_numbered context r s (chain i) cs e n = chain_numbered N right theory suits.instances s n i cs (by_chain_rules context r s i cs e)
-  raw_numbered context r s move cs e n = absurd cc
+  raw_numbered context r s (or k) cs e n at_root = or_numbered s n k cs e
+  raw_numbered context r s (action k) cs e n at_root = action_numbered s n k cs (by_rules context r s k cs e)
+  raw_numbered context r s (premise i p) cs e n at_root = premise_numbered N right theory good each_numbered whole s n i p cs (by_premise_rules context r s i p cs e)
+  raw_numbered context r s (know i) cs e n at_root = know_numbered N theory good each_numbered whole s n i cs (by_know_rules context r s i cs e)
+  raw_numbered context r s (chain i) cs e n at_root = chain_numbered N right theory suits.instances s n i cs (by_chain_rules context r s i cs e)
+  raw_numbered context r s induction cs e n at_root = at_root e
+  raw_numbered context r s move cs e n at_root = absurd cc
 
   raw_covers : (context : Context) → context.rules ≡ rules_of theory → (s : System) (move : Move) (cs : List Case) → raw_cases context s move ≡ Some cs
-      → (move ≡ unproved → ⊥) → (move ≡ solved → ⊥) → IsNumbered N s → ((k : ℕ) → N (fresh_name k) → ⊥) → Covers theory s (systems_in cs)
-  raw_covers context r s simplify cs e not_open not_end n no_names = at (has_place context.rules s) e
+      → (move ≡ unproved → ⊥) → (move ≡ solved → ⊥) → (move ≡ induction → ⊥) → IsNumbered N s → ((k : ℕ) → N (fresh_name k) → ⊥) → Covers theory s (systems_in cs)
+  raw_covers context r s simplify cs e not_open not_end not_begun n no_names = at (has_place context.rules s) e
     where
       at : (b : Bool) → (if b then Some (record { name = []; system = s } ∷ []) else None) ≡ Some cs → Covers theory s (systems_in cs)
       at true k = let one : Case = record { name = []; system = s } in let g : one ∷ [] ≡ cs = cc in subst (λ (x : List Case). Covers theory s (systems_in x)) g (covers_itself theory s)
       at false k = absurd cc
-  raw_covers context r s contradiction cs e not_open not_end n no_names = at (is_contradictory context.rules s) refl e
+  raw_covers context r s contradiction cs e not_open not_end not_begun n no_names = at (is_contradictory context.rules s) refl e
     where
       at : (b : Bool) → is_contradictory context.rules s ≡ b → (if b then Some [] else None) ≡ Some cs → Covers theory s (systems_in cs)
       at true c k = record { covers = λ log is v h none. no_solution N right theory suits equal_truth context.rules r s c n log is v h }
       at false c k = absurd cc
-  raw_covers context r s unproved cs e not_open not_end n no_names = absurd (not_open refl)
-  raw_covers context r s solved cs e not_open not_end n no_names = absurd (not_end refl)
-  raw_covers context r s (or k) cs e not_open not_end n no_names = or_covers theory s k cs e
-  raw_covers context r s (action k) cs e not_open not_end n no_names = action_covers s n k cs (by_rules context r s k cs e)
-  raw_covers context r s (premise i p) cs e not_open not_end n no_names = premise_covers N right theory good each_numbered whole s n i p cs (by_premise_rules context r s i p cs e)
-  raw_covers context r s (know i) cs e not_open not_end n no_names = know_covers N theory good each_numbered whole no_names s n i cs (by_know_rules context r s i cs e)
-  raw_covers context r s (chain i) cs e not_open not_end n no_names = chain_covers N right theory suits.instances s n i cs (by_chain_rules context r s i cs e)
-  raw_covers context r s move cs e not_open not_end n no_names = absurd cc
+  raw_covers context r s unproved cs e not_open not_end not_begun n no_names = absurd (not_open refl)
+  raw_covers context r s solved cs e not_open not_end not_begun n no_names = absurd (not_end refl)
+  raw_covers context r s (or k) cs e not_open not_end not_begun n no_names = or_covers theory s k cs e
+  raw_covers context r s (action k) cs e not_open not_end not_begun n no_names = action_covers s n k cs (by_rules context r s k cs e)
+  raw_covers context r s (premise i p) cs e not_open not_end not_begun n no_names = premise_covers N right theory good each_numbered whole s n i p cs (by_premise_rules context r s i p cs e)
+  raw_covers context r s (know i) cs e not_open not_end not_begun n no_names = know_covers N theory good each_numbered whole no_names s n i cs (by_know_rules context r s i cs e)
+  raw_covers context r s (chain i) cs e not_open not_end not_begun n no_names = chain_covers N right theory suits.instances s n i cs (by_chain_rules context r s i cs e)
+  raw_covers context r s induction cs e not_open not_end not_begun n no_names = absurd (not_begun refl)
+  raw_covers context r s move cs e not_open not_end not_begun n no_names = absurd cc
 
 module _ (right : UnifierIsRight) (theory : Theory) (suits : SuitsProofs theory) (equal_truth : EqualTruth) where
   -- the cases, each simplified
@@ -257,23 +263,68 @@ module _ (right : UnifierIsRight) (theory : Theory) (suits : SuitsProofs theory)
         let f = simple_follows c.system h.0.0 o.0 in
         ((λ w a k. f.1.covers log is w k ((λ x b l. none.0 x (agrees_then n c.system.next v w x h.0.1 a b) l), tt)), simple_solved log is n v cs h.1 o.1 none.1)
 
+    -- the cases of an induction fulfil what systems of a proof do
+    at_root : (s : System) (cs : List Case) → root_induction context.root s ≡ Some cs → Every (Later N s.next) (systems_in cs)
+    at_root s cs e = cases_later (only_at_root context.root s cs e)
+      where
+        cases_later : IsAtRoot context.root s cs → Every (Later N s.next) (systems_in cs)
+        cases_later r =
+            let kept = is_of.induction.kept r.root r.is_root r.parts r.has_parts in
+            let later = every_weaken (IsKept context (root_system r.root)) (Later N (root_system r.root).next) (λ c h. (h.well_made.numbered, h.next)) (systems_in (induction_cases r.parts)) kept in
+            subst (λ (t : System). Every (Later N t.next) (systems_in cs)) (sym r.begins)
+            (subst (λ (x : List Case). Every (Later N (root_system r.root).next) (systems_in x)) (sym r.cases) later)
+
+    raw_later : (s : System) (move : Move) (cs : List Case) → raw_cases context s move ≡ Some cs → IsWellMade context s → Every (Later N s.next) (systems_in cs)
+    raw_later s move cs e made = raw_numbered N right theory suits is_of.numbered equal_truth context is_of.rules s move cs e made.numbered (at_root s cs)
+
     move_kept : (s : System) (move : Move) (cs : List Case) → cases context s move ≡ Some cs → IsWellMade context s → Every (IsKept context s) (systems_in cs)
     move_kept s move cs e made =
         let r = mapped (map (simple_case context.rules)) (raw_cases context s move) cs e in
-        let num = raw_numbered N right theory suits is_of.numbered equal_truth context is_of.rules s move r.0 r.1 made.numbered in
-        subst (λ (x : List Case). Every (IsKept context s) (systems_in x)) (sym r.2) (simple_kept s r.0 num (raw_once context s move r.0 r.1 made.numbered made.once))
+        subst (λ (x : List Case). Every (IsKept context s) (systems_in x)) (sym r.2)
+        (simple_kept s r.0 (raw_later s move r.0 r.1 made) (raw_once context s move r.0 r.1 made.numbered made.once))
 
-    move_covers : (s : System) (move : Move) (cs : List Case) → cases context s move ≡ Some cs → (move ≡ unproved → ⊥) → (move ≡ solved → ⊥) → IsWellMade context s → Covers theory s (systems_in cs)
-    move_covers s move cs e not_open not_end made =
+    move_covers : (s : System) (move : Move) (cs : List Case) → cases context s move ≡ Some cs → (move ≡ unproved → ⊥) → (move ≡ solved → ⊥) → (move ≡ induction → ⊥) → IsWellMade context s
+        → Covers theory s (systems_in cs)
+    move_covers s move cs e not_open not_end not_begun made =
         let r = mapped (map (simple_case context.rules)) (raw_cases context s move) cs e in
-        let raw = raw_covers N right theory suits is_of.numbered equal_truth context is_of.rules s move r.0 r.1 not_open not_end made.numbered (λ k h. h) in
-        let num = raw_numbered N right theory suits is_of.numbered equal_truth context is_of.rules s move r.0 r.1 made.numbered in
+        let raw = raw_covers N right theory suits is_of.numbered equal_truth context is_of.rules s move r.0 r.1 not_open not_end not_begun made.numbered (λ k h. h) in
+        let once = raw_once context s move r.0 r.1 made.numbered made.once in
         subst (λ (x : List Case). Covers theory s (systems_in x)) (sym r.2)
-        (record { covers = λ log is v h none. raw.covers log is v h (simple_solved log is s.next v r.0 num (raw_once context s move r.0 r.1 made.numbered made.once) none) })
+        (record { covers = λ log is v h none. raw.covers log is v h (simple_solved log is s.next v r.0 (raw_later s move r.0 r.1 made) once none) })
+
+    -- ---- below
+
+    -- an admitted log of the past doesn't solve the system
+    abbrev IsUnsolvedBefore : Log → System → Type 0
+    IsUnsolvedBefore log c = (past : Log) → IsPast past log → Admits theory context past → (w : Valuation) → Solves theory past w c → ⊥
+
+    simple_unsolved : (log : Log) → IsLog theory log → (n : ℕ) (cs : List Case) → Every (Later N n) (systems_in cs) → Every (λ (c : System). HappenOnce c.events) (systems_in cs)
+        → Every (IsUnsolvedBefore log) (systems_in (map (simple_case context.rules) cs)) → Every (IsUnsolvedBefore log) (systems_in cs)
+    simple_unsolved log is n [] h o none = tt
+    simple_unsolved log is n (c ∷ cs) h o none =
+        let f = simple_follows c.system h.0.0 o.0 in (
+          λ past by_then admitted w k.
+              f.1.covers past (past_is_log theory by_then.0 past (subst (IsLog theory) by_then.1 is)) w k
+              ((λ x b l. none.0 past by_then admitted x l), tt),
+          simple_unsolved log is n cs h.1 o.1 none.1,
+        )
+
+    -- induction goes over to what a log was before
+    induction_below : (s : System) (cs : List Case) → cases context s induction ≡ Some cs → IsWellMade context s → CoversBelow theory context s (systems_in cs)
+    induction_below s cs e made =
+        let r = mapped (map (simple_case context.rules)) (raw_cases context s induction) cs e in
+        let at = only_at_root context.root s r.0 r.1 in
+        let raw = is_of.induction.covers at.root at.is_root at.parts at.has_parts in
+        let here = subst (λ (t : System). CoversBelow theory context t (systems_in r.0)) (sym at.begins)
+        (subst (λ (x : List Case). CoversBelow theory context (root_system at.root) (systems_in x)) (sym at.cases) raw) in
+        let once = raw_once context s induction r.0 r.1 made.numbered made.once in
+        subst (λ (x : List Case). CoversBelow theory context s (systems_in x)) (sym r.2)
+        (record { below = λ log is admitted v h none. here.below log is admitted v h (simple_unsolved log is s.next r.0 (raw_later s induction r.0 r.1 made) once none) })
+
+    covers_below : (s : System) (move : Move) (cs : List Case) → cases context s move ≡ Some cs → (move ≡ unproved → ⊥) → (move ≡ solved → ⊥) → IsWellMade context s
+        → CoversBelow theory context s (systems_in cs)
+    covers_below s induction cs e not_open not_end made = induction_below s cs e made
+    covers_below s move cs e not_open not_end made = goes_below theory context s (systems_in cs) (move_covers s move cs e not_open not_end (λ q. cc) made)
 
   pub moves_cover : MovesCover theory
-  moves_cover = record {
-    kept = move_kept;
-    covers = move_covers;
-    covers_below = λ context is_of s move cs e not_open not_end made. goes_below theory context s (systems_in cs) (move_covers context is_of s move cs e not_open not_end made);
-  }
+  moves_cover = record { kept = move_kept; covers = move_covers; covers_below = covers_below }

@@ -6,9 +6,10 @@ use Rattle.sp_spec.specs.Term.{Names}
 use Rattle.sp_spec_system.specs.System.{System}
 use Rattle.sp_spec_system.specs.Rules.{Rules}
 use Rattle.sp_spec_system.specs.Numbered.{HappenOnce, IsNumbered}
-use Rattle.sp_spec_system.specs.Move.{Move, simplify, contradiction, unproved, solved, or, action, premise, know, chain, Context, Case, end_log, systems_in}
+use Rattle.sp_spec_system.specs.Move.{Move, simplify, contradiction, unproved, solved, or, action, premise, know, chain, induction, Context, Case, end_log, systems_in}
 use Rattle.sp_spec_proof.specs.Rows.{Row, row_split, row_open, row_equate, row_unequal, row_order, row_last, row_action_stands, row_disjunction, row_send_input, row_send_learnt, row_learn_once, row_linear_once, row_fresh_once, row_settle_learn, row_fresh_first, row_instantiate, by_row, has_place, is_contradictory}
 use Rattle.sp_spec_proof.specs.Cases.{raw_cases}
+use Rattle.sp_spec_formula.proofs.Roots.{only_at_root}
 use Rattle.sp_law_formula.proofs.OnceRows.{split_once, open_existential_once, equate_once, unequal_once, in_order_once, sets_last_once, action_stands_once, disjunction_once, instantiate_once, or_once, action_once}
 use Rattle.sp_law_cover.proofs.SolvedAction.{at_place}
 use Rattle.sp_law_graph.proofs.Once.{linear_once_once, fresh_once_once, premise_once}
@@ -56,4 +57,7 @@ raw_once context s (action k) cs e n h =
 raw_once context s (premise i p) cs e n h = premise_once context.rules.forms s n h i p cs e
 raw_once context s (know i) cs e n h = know_once context.rules s n h i cs e
 raw_once context s (chain i) cs e n h = chain_once (destructions context.rules.signature) s n h i cs e
+raw_once context s induction cs e n h =
+    let at = only_at_root context.root s cs e in
+    subst (λ (x : List Case). Every (λ (c : System). HappenOnce c.events) (systems_in x)) (sym at.cases) (tt, (tt, tt))
 raw_once context s move cs e n h = absurd cc

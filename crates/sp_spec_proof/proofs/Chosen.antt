@@ -8,10 +8,10 @@ use Rattle.sp_spec.specs.Lists.{Every}
 use Rattle.sp_spec.proofs.Lists.{every_map, every_all, every_append}
 use Rattle.sp_spec.specs.Term.{Variable, Term}
 use Rattle.sp_spec_system.specs.System.{System, Happening, Event, happening_premises}
-use Rattle.sp_spec_system.specs.Move.{Move, Context, or, action, premise, know, chain}
+use Rattle.sp_spec_system.specs.Move.{Move, Root, Context, or, action, premise, know, chain, induction}
 use Rattle.sp_spec_system.specs.Picked.{first_some}
 use Rattle.sp_spec_know.specs.Know.{learnt_anyhow, is_message_variable}
-use Rattle.sp_spec_proof.specs.Kinds.{Picker, of_rank, places_from, premises_of, passed_last, no_message_variable, is_fresh_variable, is_application, if_of_kind, at_message, EventKind, event_kinds, at_each_event, all_at, event_pickers, pickers_by, are_consecutive, pickers}
+use Rattle.sp_spec_proof.specs.Kinds.{Picker, of_rank, only, places_from, premises_of, passed_last, no_message_variable, is_fresh_variable, is_application, if_of_kind, at_message, EventKind, event_kinds, at_each_event, all_at, event_pickers, pickers_by, are_consecutive, first_pickers, pickers}
 use Rattle.sp_spec_proof.specs.Choice.{Ranked, with_rank, is_instance, first_instance, picked, choice}
 use Rattle.sp_spec_proof.specs.Growth.{is_unproved}
 
@@ -84,6 +84,10 @@ module _ (context : Context) (s : System) where
   all_prove consecutive =
       ((refl, tt), ((refl, tt), ((refl, tt), (each_proves or (λ p. refl) s.formulas, (each_proves action (λ p. refl) s.formulas, each_event_proves consecutive)))))
 
+  first_prove : (o : Option Root) → Every Proves (first_pickers o)
+  first_prove None = tt
+  first_prove (Some r) = cond_both r.begins_with_induction (of_rank 0 (only induction) ∷ []) [] (Every Proves) (λ _. ((refl, tt), tt)) (λ _. tt)
+
   -- ---- the first instance
 
   abbrev IsMade : Move → Type 0
@@ -104,7 +108,9 @@ module _ (context : Context) (s : System) where
 
   choice_is_made : IfSome (choice context s) (λ (r : Ranked). IsMade r.move)
   unfolding choice
-  choice_is_made = picked_is_made (pickers context) (all_prove (are_consecutive context.root))
+  choice_is_made =
+      picked_is_made (pickers context)
+      (every_append Proves (first_pickers context.root) (pickers_by (are_consecutive context.root)) (first_prove context.root) (all_prove (are_consecutive context.root)))
 
   pub choice_is_instance : IfSome (choice context s) (λ (r : Ranked). is_instance context s r.move ≡ true)
   choice_is_instance = IfSome_then (choice context s) choice_is_made (λ r h. h.0)

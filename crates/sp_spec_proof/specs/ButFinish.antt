@@ -3,9 +3,10 @@ use Rattle.std.specs.Prelude.{if◌then◌else◌, List, [], ◌∷◌, Option, 
 use Rattle.sp_spec.specs.Destruction.{destructions}
 use Rattle.sp_spec_system.specs.System.{System}
 use Rattle.sp_spec_proof.specs.Rows.{has_place, is_contradictory}
-use Rattle.sp_spec_system.specs.Move.{Move, simplify, contradiction, unproved, solved, or, action, premise, know, chain, Context, Case, end_log}
+use Rattle.sp_spec_system.specs.Move.{Move, simplify, contradiction, unproved, solved, or, action, premise, know, chain, induction, Context, Case, end_log}
 use Rattle.sp_spec_formula.specs.Action.{solving_action}
 use Rattle.sp_spec_formula.specs.Or.{disjunction_at, or_cases}
+use Rattle.sp_spec_formula.specs.Induction.{root_induction}
 use Rattle.sp_spec_graph.specs.Premise.{open_premise, premise_cases}
 use Rattle.sp_spec_know.specs.Know.{know_cases}
 use Rattle.sp_spec_know.specs.Chain.{chain_cases}
@@ -21,5 +22,6 @@ raw_but_finish context s (action k) = solving_action context.rules.forms s (slic
 raw_but_finish context s (premise i p) = premise_cases context.rules.forms s i p (open_premise s i p)
 raw_but_finish context s (know i) = know_cases context.rules s i
 raw_but_finish context s (chain i) = chain_cases (destructions context.rules.signature) s i
+raw_but_finish context s induction = root_induction context.root s
 -- these have no cases as yet
 raw_but_finish context s move = None

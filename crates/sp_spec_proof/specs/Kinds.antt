@@ -1,9 +1,9 @@
 -- The kinds of moves, in the order in which they are asked, and which of them count as one where a proof is asked to be consecutive. Source: Tamarin manual,
 -- "Heuristics" (`s` and `c`); the order of the kinds is this project's own.
-use Rattle.std.specs.Prelude.{Bool, true, false, not, if◌then◌else◌, ℕ, suc, List, [], ◌∷◌, map, flat_map, Option, Some, None, option_map}
+use Rattle.std.specs.Prelude.{Bool, true, false, not, if◌then◌else◌, ℕ, suc, List, [], ◌∷◌, ◌++◌, map, flat_map, Option, Some, None, option_map}
 use Rattle.sp_spec.specs.Term.{Sort, Msg, Fresh, Pub, Variable, Term, var, app}
 use Rattle.sp_spec_system.specs.System.{System, Happening, Event, happening_premises}
-use Rattle.sp_spec_system.specs.Move.{Move, Root, Context, simplify, contradiction, solved, or, action, premise, know, chain}
+use Rattle.sp_spec_system.specs.Move.{Move, Root, Context, simplify, contradiction, solved, or, action, premise, know, chain, induction}
 use Rattle.sp_spec_know.specs.Know.{learnt_anyhow, is_message_variable}
 use Rattle.sp_spec_know.specs.Chain.{Begun, begun}
 
@@ -99,6 +99,11 @@ abbrev pub are_consecutive : Option Root → Bool
 are_consecutive None = false
 are_consecutive (Some r) = r.consecutive
 
+-- before all others, where the proof is to begin with it: the move at its root alone
+abbrev pub first_pickers : Option Root → List Picker
+first_pickers None = []
+first_pickers (Some r) = if r.begins_with_induction then of_rank 0 (only induction) ∷ [] else []
+
 -- the kinds in the order in which they are asked
 abbrev pub pickers : Context → List Picker
-pickers context = pickers_by (are_consecutive context.root)
+pickers context = first_pickers context.root ++ pickers_by (are_consecutive context.root)
