@@ -1,5 +1,5 @@
 -- The kinds of moves, one after the other: the first that answers tells the choice. And the moves of a kind, one after the other.
-use Rattle.std.proofs.Common.{◌≡◌, ℕ, ◌+◌, ◌<◌, Bool, true, false, List, [], ◌∷◌, length, map, drop, get_or, Option, Some, None, refl, sym, ap, ◌∙◌, add-one, slice_get, suc, option_and_then, true≢false}
+use Rattle.std.proofs.Common.{◌≡◌, ℕ, ◌+◌, ◌<◌, Bool, true, false, List, [], ◌∷◌, ◌++◌, length, map, drop, get_or, Option, Some, None, refl, sym, ap, ◌∙◌, add-one, slice_get, suc, option_and_then, true≢false}
 use Rattle.std.specs.Prelude.{is_some, option_map, if◌then◌else◌, ◌||◌, flat_map}
 use Rattle.std.specs.Option.{option_or}
 use Rattle.std.proofs.lemmas.List.Folds.{find-append}
@@ -20,7 +20,7 @@ use Rattle.sp_spec_proof.specs.Cases.{simple_case}
 use Rattle.sp_spec_proof.specs.Rows.{rows, by_rows, failing_row, is_contradictory, fails_somewhere}
 use Rattle.sp_spec_proof.proofs.Contradictions.{one_holds}
 use Rattle.sp_spec_proof.specs.Choice.{Ranked, with_rank, is_instance, first_instance, picked, choice}
-use Rattle.sp_spec_proof.specs.Kinds.{pickers_by, are_consecutive, places_from, at_each_formula, at_each_event, premises_of, at_message, passed_last, no_message_variable, is_fresh_variable, is_application}
+use Rattle.sp_spec_proof.specs.Kinds.{pickers_by, first_pickers, are_consecutive, places_from, at_each_formula, at_each_event, premises_of, at_message, passed_last, no_message_variable, is_fresh_variable, is_application}
 use Rattle.sp_spec_formula.specs.Action.{solving_action}
 use Rattle.sp_spec_formula.specs.Or.{disjunction_at, or_cases}
 use Rattle.sp_spec_graph.specs.Premise.{open_premise, premise_cases}
@@ -30,7 +30,7 @@ use Rattle.sp_moves_formula.proofs.Parts.{parts_at}
 use Rattle.sp_search.specs.declared.choose.MoveKind.{MoveKind}
 use Rattle.sp_search.specs.declared.choose.MoveKind.TheVariants as kind
 use Rattle.sp_search.specs.declared.learning.LearningKind.TheVariants as learning
-use Rattle.sp_search.specs.Choosing.{if_so, answer}
+use Rattle.sp_search.specs.Choosing.{if_so, answer, by_kinds}
 
 -- ---- the kinds
 
@@ -83,9 +83,31 @@ each_kind context s =
     (fails_contradicts context.rules s)
 
 -- a context in memory isn't consecutive
-pub answers_are : (context : Context) (s : System) → are_consecutive context.root ≡ false → first_some (answer context s) kinds ≡ choice context s
-unfolding choice
+pub answers_are : (context : Context) (s : System) → are_consecutive context.root ≡ false
+    → first_some (answer context s) kinds ≡ by_kinds context s
+unfolding by_kinds
 answers_are context s apart = each_kind context s ∙ ap (λ (b : Bool). first_some (picked context s) (pickers_by b)) (sym apart)
+
+-- ---- induction comes before them
+
+pub is_some_map : {A B : Type 0} (f : A → B) (o : Option A) → is_some (option_map f o) ≡ is_some o
+is_some_map f None = refl
+is_some_map f (Some a) = refl
+
+first_joined : {A B : Type 0} (pick : A → Option B) (xs ys : List A) → first_some pick (xs ++ ys) ≡ option_or (first_some pick xs) (first_some pick ys)
+first_joined pick [] ys = refl
+first_joined {B = B} pick (x ∷ xs) ys = at (pick x) (first_joined pick xs ys)
+  where
+    at : (o : Option B) → first_some pick (xs ++ ys) ≡ option_or (first_some pick xs) (first_some pick ys)
+        → option_or o (first_some pick (xs ++ ys)) ≡ option_or (option_or o (first_some pick xs)) (first_some pick ys)
+    at None later = later
+    at (Some b) later = refl
+
+-- the choice, in two steps
+pub in_two : (context : Context) (s : System)
+    → choice context s ≡ option_or (first_some (picked context s) (first_pickers context.root)) (by_kinds context s)
+unfolding choice by_kinds
+in_two context s = first_joined (picked context s) (first_pickers context.root) (pickers_by (are_consecutive context.root))
 
 -- the kinds are gone over
 pub next_kind : (context : Context) (s : System) (all : List (ℕ × MoveKind)) (i : ℕ) (k : ℕ × MoveKind) → i < length all → k ≡ get_or all i k
@@ -103,10 +125,6 @@ next_place {X = X} context s move view all k x b below is here =
     ap (λ (xs : List X). first_instance context s (map move (places_from k (map view xs)))) (next_item all k x below is)
     ∙ ap (λ (t : Bool). if t then Some (move k) else rest (suc k)) here
     ∙ ap (λ (n : ℕ). if b then Some (move k) else rest n) (sym (add-one k))
-
-pub is_some_map : {A B : Type 0} (f : A → B) (o : Option A) → is_some (option_map f o) ≡ is_some o
-is_some_map f None = refl
-is_some_map f (Some a) = refl
 
 at_place : (all : List Formula) (k : ℕ) (f : Formula) → k < length all → f ≡ get_or all k f → slice_get (map formula_of all) k ≡ Some (formula_of f)
 at_place all k f below is = slice_get-map formula_of all k ∙ ap (option_map formula_of) (slice_get-get_or all k f below) ∙ ap (λ (x : Formula). Some (formula_of x)) (sym is)

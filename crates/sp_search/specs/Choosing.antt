@@ -4,10 +4,11 @@ use Rattle.std.specs.Prelude.{ℕ, Bool, if◌then◌else◌, Option, Some, None
 use Rattle.sp_spec_system.specs.System.{System}
 use Rattle.sp_spec_system.specs.Move as spec
 use Rattle.sp_spec_system.specs.Move.{Context, end_log}
+use Rattle.sp_spec_system.specs.Picked.{first_some}
 use Rattle.sp_spec_proof.specs.Rows.{rows, by_rows, is_contradictory}
 use Rattle.sp_spec_proof.specs.Choice as choice
-use Rattle.sp_spec_proof.specs.Choice.{first_instance, with_rank}
-use Rattle.sp_spec_proof.specs.Kinds.{at_each_formula, at_each_event, premises_of}
+use Rattle.sp_spec_proof.specs.Choice.{first_instance, with_rank, picked}
+use Rattle.sp_spec_proof.specs.Kinds.{at_each_formula, at_each_event, premises_of, are_consecutive, pickers_by}
 use Rattle.sp_step.specs.View.{move_of}
 use Rattle.sp_search.specs.declared.choose.Ranked.{Ranked}
 use Rattle.sp_search.specs.declared.choose.MoveKind.{MoveKind}
@@ -32,3 +33,7 @@ asked context s (Learning kind) = first_instance context s (each_move kind s.eve
 -- with the kind's rank
 abbrev pub answer : Context → System → ℕ × MoveKind → Option choice.Ranked
 answer context s kind = option_map (with_rank kind.0) (asked context s kind.1)
+
+-- the first instance of the first kind that has one
+unfoldable pub by_kinds : Context → System → Option choice.Ranked
+by_kinds context s = first_some (picked context s) (pickers_by (are_consecutive context.root))

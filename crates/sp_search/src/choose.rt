@@ -6,12 +6,14 @@ ghost use Rattle.sp_spec_graph.specs.Premise as premise_spec;
 ghost use Rattle.sp_fact.specs.View.{fact_of};
 ghost use Rattle.sp_system.specs.SystemView.{event_of, system_of};
 ghost use Rattle.sp_step.specs.View.{context_of, move_of};
-ghost use Rattle.sp_spec_proof.specs.Choice.{choice, first_instance};
-ghost use Rattle.sp_spec_proof.specs.Kinds.{at_each_event, at_each_formula, places_from, premises_of};
-ghost use Rattle.sp_search.specs.Choosing.{asked, ranked_of};
+ghost use Rattle.sp_spec_system.specs.Picked.{first_some};
+ghost use Rattle.sp_spec_proof.specs.Choice.{choice, first_instance, picked};
+ghost use Rattle.sp_spec_proof.specs.Kinds.{at_each_event, at_each_formula, first_pickers, places_from, premises_of};
+ghost use Rattle.sp_search.specs.Choosing.{asked, by_kinds, ranked_of};
 
 use crate::learning::{LearningKind, first_learning};
 use sp_fact::fact::Fact;
+use sp_moves_induction::induction::is_inductive;
 use sp_step::action::is_solvable;
 use sp_step::context::Context;
 use sp_step::moves::Move;
@@ -50,7 +52,7 @@ pub enum MoveKind {
     Learning(LearningKind),
 }
 
-// The kinds and their ranks, in the order in which they are asked.
+// The kinds and their ranks, in the order in which they are asked; induction comes before them.
 const KINDS: [(u64, MoveKind); 10] = [
     (1, MoveKind::Contradiction),
     (2, MoveKind::Simplify),
@@ -75,6 +77,35 @@ pub fn choice(
     system: &System,
 ) -> Result<Option<Ranked>, AllocError>
     ensures { IfOk result (λ o. option_map ranked_of o ≡ choice (context_of context.now) (system_of system.now)) }
+{
+    if let Some(chosen) = first_of_all(alloc, context, system)? {
+        return Ok(Some(chosen));
+    }
+    let chosen = by_kinds(alloc, context, system)?;
+    Ok(chosen)
+}
+
+// Induction, where the proof is to begin with it and the system is its root.
+fn first_of_all(
+    alloc: Global,
+    context: &Context,
+    system: &System,
+) -> Result<Option<Ranked>, AllocError>
+    ensures { IfOk result (λ o. option_map ranked_of o ≡ first_some (picked (context_of context.now) (system_of system.now)) (first_pickers (context_of context.now).root)) }
+{
+    if !context.sought.root.begins_with_induction {
+        return Ok(None);
+    }
+    if !is_inductive(alloc, &context.sought.root, system)? {
+        return Ok(None);
+    }
+    let chosen = Move::Induction;
+    Ok(Some(Ranked { rank: 0, chosen }))
+}
+
+// The first instance of the first of the kinds that has one.
+fn by_kinds(alloc: Global, context: &Context, system: &System) -> Result<Option<Ranked>, AllocError>
+    ensures { IfOk result (λ o. option_map ranked_of o ≡ by_kinds (context_of context.now) (system_of system.now)) }
 {
     for (rank, kind) in &KINDS {
         if let Some(chosen) = asked(alloc, context, system, *kind)? {

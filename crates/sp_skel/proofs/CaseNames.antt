@@ -149,3 +149,11 @@ own_named = (refl, (refl, refl))
 pub done_named : IsNameWord (codes "done")
 unfolding is_reserved skip
 done_named = (refl, (refl, refl))
+
+pub empty_named : IsNameWord (codes "empty_trace")
+unfolding is_reserved skip
+empty_named = (refl, (refl, refl))
+
+pub non_empty_named : IsNameWord (codes "non_empty_trace")
+unfolding is_reserved skip
+non_empty_named = (refl, (refl, refl))

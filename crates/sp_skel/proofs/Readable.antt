@@ -10,13 +10,15 @@ use Rattle.sp_spec_system.specs.System.{System, Event, happening_actions}
 use Rattle.sp_spec_system.specs.Formulas.{Found}
 use Rattle.sp_spec_system.specs.MakingOne.{event_at, made_one}
 use Rattle.sp_spec_proof.specs.Rows.{has_place, is_contradictory}
-use Rattle.sp_spec_system.specs.Move.{Move, simplify, contradiction, unproved, solved, or, action, premise, know, chain, induction, source, compare, top, same, more_events, finish, Context, Case, end_log}
+use Rattle.sp_spec_system.specs.Move.{Move, simplify, contradiction, unproved, solved, or, action, premise, know, chain, induction, source, compare, top, same, more_events, finish, InductionCases, Context, Case, end_log}
 use Rattle.sp_spec_system.specs.Cases.{where_same, case_if, named}
 use Rattle.sp_spec_formula.specs.Action.{at_event, by_forms, by_each, by_adversary, at_each, action_cases, solving_action}
 use Rattle.sp_spec_formula.specs.Or.{by_part, disjunction_at, or_cases}
 use Rattle.sp_spec_graph.specs.Premise.{source_forms, by_each_source, open_premise, premise_cases}
 use Rattle.sp_spec_know.specs.Know.{wanted_at, made_case, own_case, by_each_output}
 use Rattle.sp_spec_know.specs.Chain.{Begun, begun_at, done_case, by_destructions}
+use Rattle.sp_spec_formula.specs.Induction.{induction_cases}
+use Rattle.sp_spec_formula.proofs.Roots.{only_at_root}
 use Rattle.sp_spec_proof.specs.Cases.{raw_cases, simple_case, cases}
 use Rattle.sp_spec_proof.specs.Tree.{Tree, node, Branches, no_branch, branch, IsAccepted, AreAccepted}
 use Rattle.sp_spec_proof.specs.Growth.{grown_tree}
@@ -26,7 +28,7 @@ use Rattle.sp_moves_formula.proofs.ByAction.{sought_cases, solves}
 use Rattle.sp_spec_text.specs.Names.{IsName, IsWord}
 use Rattle.sp_skel.specs.Places.{HasSides, IsSaid, HavePlaces, AllHavePlaces}
 use Rattle.sp_skel.specs.Spelling.{IsReadable, AreReadable, MayHaveCases, AreNamed}
-use Rattle.sp_skel.proofs.CaseNames.{at_named, event_named, part_named}
+use Rattle.sp_skel.proofs.CaseNames.{at_named, event_named, part_named, empty_named, non_empty_named}
 use Rattle.sp_skel.proofs.NamedCases.{CasesNamed, named_append, if_named, rule_named}
 use Rattle.sp_skel.proofs.LearningNames.{adversary_named, made_cases_named, own_cases_named, outputs_named, done_cases_named, destructions_named}
 use Rattle.sp_spec_system.specs.Rules.{Rules}
@@ -119,6 +121,9 @@ chain_fine ds s i (Some b) cs e =
     let f : done_case s i b ++ by_destructions s i b 1 ds ≡ cs = cc in
     inl (subst CasesNamed f (named_append (done_case s i b) (by_destructions s i b 1 ds) (done_cases_named s i b) (destructions_named s i b 1 ds)))
 
+inductive_named : (i : InductionCases) → CasesNamed (induction_cases i)
+inductive_named i = (empty_named.0, empty_named.1, (non_empty_named.0, non_empty_named.1, tt))
+
 raw_fine : (context : Context) (s : System) (move : Move) (cs : List Case) → AreNamed context.rules.forms → raw_cases context s move ≡ Some cs → Fine cs
 raw_fine context s simplify cs h e = at (has_place context.rules s) e
   where
@@ -141,7 +146,7 @@ raw_fine context s (premise i p) cs h e = premise_fine context.rules.forms s i p
 raw_fine context s (know i) cs h e = know_fine context.rules s i (wanted_at context.rules.signature.symbols s i) cs h e
 raw_fine context s (chain i) cs h e = chain_fine (destructions context.rules.signature) s i (begun_at s i) cs e
 raw_fine context s (action k) cs h e = solving_fine context.rules.forms s (slice_get s.formulas k) cs h e
-raw_fine context s induction cs h e = absurd (let none : ⊥ = cc in none)
+raw_fine context s induction cs h e = let at = only_at_root context.root s cs e in inl (subst CasesNamed (sym at.cases) (inductive_named at.parts))
 raw_fine context s (source i) cs h e = absurd (let none : ⊥ = cc in none)
 raw_fine context s (compare i j) cs h e = absurd (let none : ⊥ = cc in none)
 raw_fine context s (top k) cs h e = absurd (let none : ⊥ = cc in none)

@@ -11,6 +11,6 @@ mod root;
 mod seek;
 mod suggest;
 
-pub use root::Root;
+pub use root::{InductionCases, Root};
 pub use seek::{Sought, found};
 pub use suggest::candidate;

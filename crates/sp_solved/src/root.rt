@@ -8,6 +8,15 @@ ghost use Rattle.sp_solved.specs.View.{root_of};
 use sp_formula::formula::Formula;
 use std::alloc::{AllocError, Global};
 
+/// What both cases of an induction begin with.
+#[derive(Clone, Copy)]
+pub struct InductionCases<'a> {
+    /// the trace is empty
+    pub empty_trace: &'a Vec<Formula>,
+    /// the trace isn't empty
+    pub non_empty_trace: &'a Vec<Formula>,
+}
+
 /// What a proof of a lemma begins from, by guarded forms.
 #[derive(Clone, Copy)]
 pub struct Root<'a> {
@@ -17,6 +26,10 @@ pub struct Root<'a> {
     pub taken: &'a Vec<Formula>,
     /// what is sought: the negation of a lemma on all traces, one on some trace as it is
     pub sought: &'a Formula,
+    /// whether its first move is to be `induction`
+    pub begins_with_induction: bool,
+    /// the cases of its induction, which a lemma on all traces may have
+    pub cases: Option<InductionCases<'a>>,
 }
 
 /// Puts the formulas at the end.

@@ -9,7 +9,8 @@ use Rattle.sp_spec_proof.specs.Rows.{has_place, is_contradictory}
 use Rattle.sp_spec_system.specs.Formulas.{freed_action}
 use Rattle.sp_spec_system.specs.Rules.{Rules}
 use Rattle.sp_spec_system.specs.MakingOne.{event_at}
-use Rattle.sp_spec_system.specs.Move.{Move, simplify, contradiction, unproved, solved, or, action, premise, know, chain, Context, Case, end_log}
+use Rattle.sp_spec_system.specs.Move.{Move, simplify, contradiction, unproved, solved, or, action, premise, know, chain, induction, Context, Case, end_log}
+use Rattle.sp_spec_formula.specs.Induction.{root_induction}
 use Rattle.sp_spec_graph.specs.Premise.{is_linked}
 use Rattle.sp_spec_proof.specs.Cases.{raw_cases, simple_case, cases}
 use Rattle.sp_moves_formula.specs.WhyNot.{why_no_disjunction, why_not_freed, why_no_action}
@@ -27,6 +28,10 @@ by_test : (b : Bool) (cs : List Case) → is_none (unless b) ≡ is_some (let r 
 by_test true cs = refl
 by_test false cs = refl
 
+where_there : (o : Option (List Case)) → is_none (unless (is_some o)) ≡ is_some o
+where_there None = refl
+where_there (Some cs) = refl
+
 raw : (context : Context) (s : System) (m : Move) → is_none (why_not context s m) ≡ is_some (raw_cases context s m)
 raw context s simplify = by_test (has_place context.rules s) (record { name = []; system = s } ∷ [])
 raw context s contradiction = by_test (is_contradictory context.rules s) []
@@ -37,6 +42,7 @@ raw context s (action k) = (formula.exactly context.rules.forms s (action k)).ex
 raw context s (premise i p) = (graph.exactly context.rules.forms s (premise i p)).exact
 raw context s (know i) = (learning.exactly context.rules s (know i)).exact
 raw context s (chain i) = (learning.exactly context.rules s (chain i)).exact
+raw context s induction = where_there (root_induction context.root s)
 raw context s move = refl
 
 simpler : (rules : Rules) (o : Option (List Case)) → is_some o ≡ is_some (option_map (map (simple_case rules)) o)
@@ -55,6 +61,7 @@ fails_there context s simplify e = by_failing (has_place context.rules s) e
 fails_there context s contradiction e = by_failing (is_contradictory context.rules s) e
 fails_there context s unproved e = absurd cc
 fails_there context s solved e = by_failing (is_some (end_log context s)) e
+fails_there context s induction e = by_failing (is_some (root_induction context.root s)) e
 fails_there context s move e = refl
 
 -- what fails where there are no cases
@@ -133,4 +140,5 @@ each_is_asked context s (know i) =
     let symbols = context.rules.signature.symbols in
     record { asked = time_asked (why_not_known symbols (event_at i s.events)) (has_time i s) (known_asked symbols (event_at i s.events)) }
 each_is_asked context s (chain i) = record { asked = time_asked (why_not_chained (event_at i s.events)) (has_time i s) (chained_asked (event_at i s.events)) }
+each_is_asked context s induction = record { asked = unless_asked (is_some (root_induction context.root s)) }
 each_is_asked context s move = record { asked = λ e. absurd cc }

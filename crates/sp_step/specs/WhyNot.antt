@@ -3,7 +3,8 @@ use Rattle.std.specs.Prelude.{◌≡◌, Bool, if◌then◌else◌, List, Option
 use Rattle.sp_spec.specs.Signature.{Symbol}
 use Rattle.sp_spec_system.specs.System.{System}
 use Rattle.sp_spec_proof.specs.Rows.{has_place, is_contradictory}
-use Rattle.sp_spec_system.specs.Move.{Move, simplify, contradiction, unproved, solved, or, action, premise, know, chain, Context, end_log}
+use Rattle.sp_spec_system.specs.Move.{Move, simplify, contradiction, unproved, solved, or, action, premise, know, chain, induction, Context, end_log}
+use Rattle.sp_spec_formula.specs.Induction.{root_induction}
 use Rattle.sp_moves_formula.specs.WhyNot.{why_not_formula}
 use Rattle.sp_moves.specs.Clause.{Clause, another_crate, condition}
 use Rattle.sp_moves_graph.specs.WhyNot.{why_not_graph}
@@ -23,6 +24,7 @@ why_not context s (action k) = why_not_formula s (action k)
 why_not context s (premise i p) = why_not_graph s (premise i p)
 why_not context s (know i) = why_not_learning context.rules.signature.symbols s (know i)
 why_not context s (chain i) = why_not_learning context.rules.signature.symbols s (chain i)
+why_not context s induction = unless (is_some (root_induction context.root s))
 -- the others have no cases as yet
 why_not context s move = Some condition
 

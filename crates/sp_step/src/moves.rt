@@ -12,6 +12,7 @@ pub use sp_moves::moves::{Case, Move};
 use sp_moves_formula::or::or_cases;
 use sp_moves_formula::solving::solving_action;
 use sp_moves_graph::premise::premise_cases;
+use sp_moves_induction::induction::root_induction;
 use sp_moves_know::chain::chain_cases;
 use sp_moves_know::know::know_cases;
 use sp_system::system::System;
@@ -81,6 +82,7 @@ fn raw_cases(
             )
         }
         Move::Chain(time) => chain_cases(alloc, context.sought.signature, system, *time),
+        Move::Induction => root_induction(alloc, &context.sought.root, system),
         // these have no cases as yet
         _ => Ok(None),
     }

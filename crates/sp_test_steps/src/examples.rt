@@ -133,6 +133,8 @@ impl Parts {
                     restrictions: &self.restrictions,
                     taken: &self.taken,
                     sought: &self.formula,
+                    begins_with_induction: false,
+                    cases: None,
                 },
             },
         }
