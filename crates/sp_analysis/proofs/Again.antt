@@ -28,7 +28,7 @@ use Rattle.sp_law_reread.proofs.Behind.{behind_end}
 use Rattle.sp_law_reread.proofs.Items.{read_again}
 use Rattle.sp_law_reread.proofs.Replaced.{each_lemma, same_theory, trees_proofs}
 use Rattle.sp_analysis.proofs.Anew.{as_many_resolved, bound_kept, waits_kept, posed_anew}
-use Rattle.sp_analysis.specs.Taken.{Stated, stated_in, Taken, taken_by, taken_for}
+use Rattle.sp_analysis.specs.Taken.{Stated, stated_in, Taken, taken_by}
 use Rattle.sp_analysis.specs.Sought.{root_of, Setting, setting_of, context_of}
 use Rattle.sp_spec_printed.specs.Verdict.{Verdict, verified, falsified, incomplete, rejected, Says, summary_line}
 use Rattle.sp_law_printed_log.specs.Block.{block_of, IsNumbered}
@@ -51,7 +51,7 @@ verdict_again context s exists_trace (rejected step clause) log t a e is says = 
 
 module _ (setting : Setting) (budget : ℕ) where
   abbrev judged_of : (taken : List Taken) (q : Stated) (o : Outcome) → IsOutcome setting budget taken q o → Judged
-  judged_of taken q o h = record { lemma = o.lemma; root = root_of setting (taken_for q.attributes taken) q.lemma.kind h.form; proof = skeleton (as_written o.tree); log = o.log; verdict = o.verdict }
+  judged_of taken q o h = record { lemma = o.lemma; root = root_of setting q.attributes taken q.lemma.kind h.form; proof = skeleton (as_written o.tree); log = o.log; verdict = o.verdict }
 
   -- the lemma with the proof that was grown
   abbrev proved : Stated → Outcome → Stated
@@ -59,7 +59,7 @@ module _ (setting : Setting) (budget : ℕ) where
 
   judged_again : (taken : List Taken) (q : Stated) (o : Outcome) (h : IsOutcome setting budget taken q o) → IsReadable o.tree → IsJudged setting taken (proved q o) (judged_of taken q o h)
   judged_again taken q o h r =
-      let root = root_of setting (taken_for q.attributes taken) q.lemma.kind h.form in
+      let root = root_of setting q.attributes taken q.lemma.kind h.form in
       let context = context_of setting root in
       let s = root_system root in
       record {
@@ -131,7 +131,7 @@ module _ (setting : Setting) (budget : ℕ) where
   all_readable taken (q ∷ qs) [] n h p = absurd h
   all_readable taken (q ∷ qs) (o ∷ os) n h p =
       let grown = h.0.tree_is in
-      let root = root_of setting (taken_for q.attributes taken) q.lemma.kind h.0.form in (
+      let root = root_of setting q.attributes taken q.lemma.kind h.0.form in (
         subst IsReadable (sym grown) (grown_readable (context_of setting root) (root_system root) budget n (subst HavePlaces grown p.0)),
         all_readable (taken ++ taken_by q o.verdict) qs os n h.1 p.1,
       )

@@ -19,7 +19,7 @@ use Rattle.sp_spec_text.specs.Spans.{Span}
 use Rattle.sp_spec_text.specs.Texts.{ArePlaces}
 use Rattle.sp_read_theory.proofs.Whole.{text_one, places_one}
 use Rattle.sp_pose.proofs.One.{one_report, not_posed, refused_or_waiting, reported_or_waiting, ready_or_waiting}
-use Rattle.sp_analysis.specs.Taken.{Stated, stated_in, Taken, taken_by, taken_for}
+use Rattle.sp_analysis.specs.Taken.{Stated, stated_in, Taken, taken_by}
 use Rattle.sp_analysis.specs.Sought.{root_of, Setting, setting_of, context_of, proof_tree, grown_log}
 use Rattle.sp_spec_printed.specs.Verdict.{Verdict, verified, falsified, incomplete, rejected, Says}
 use Rattle.sp_analysis.specs.Analysis.{Outcome, IsOutcome, AreOutcomes, analysed_text, IsAnalysis}
@@ -88,7 +88,7 @@ same_outcome : (setting : Setting) (budget : ℕ) (taken : List Taken) (q : Stat
 same_outcome setting budget taken q o p h k =
     let forms : Some h.form ≡ Some k.form = sym h.form_is ∙ k.form_is in
     let form : h.form ≡ k.form = cc in
-    let root : Guarded → Root = root_of setting (taken_for q.attributes taken) q.lemma.kind in
+    let root : Guarded → Root = root_of setting q.attributes taken q.lemma.kind in
     let tree : o.tree ≡ p.tree = h.tree_is ∙ ap (λ (g : Guarded). proof_tree setting budget (root g)) form ∙ sym k.tree_is in
     let log : o.log ≡ p.log = h.log_is ∙ ap (λ (g : Guarded). grown_log setting budget (root g)) form ∙ sym k.log_is in
     let says : Says q.lemma.kind o.verdict p.log (IsFinished p.tree) =
@@ -115,7 +115,7 @@ same_judged setting taken q i j h k =
     let forms : Some h.form ≡ Some k.form = sym h.form_is ∙ k.form_is in
     let form : h.form ≡ k.form = cc in
     let kind = q.lemma.kind in
-    let root : i.root ≡ j.root = h.root_is ∙ ap (root_of setting (taken_for q.attributes taken) kind) form ∙ sym k.root_is in
+    let root : i.root ≡ j.root = h.root_is ∙ ap (root_of setting q.attributes taken kind) form ∙ sym k.root_is in
     let proof : i.proof ≡ j.proof = h.proof_is ∙ sym k.proof_is in
     let moved : IsVerdictOn setting kind j.root j.proof i.verdict i.log =
     subst (λ (g : Root). IsVerdictOn setting kind g j.proof i.verdict i.log) root (subst (λ (x : Skeleton). IsVerdictOn setting kind i.root x i.verdict i.log) proof h.verdict_is) in

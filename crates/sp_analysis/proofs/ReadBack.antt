@@ -43,7 +43,7 @@ use Rattle.sp_law_printed_log.proofs.TextNames.{texts_have_names_lem}
 use Rattle.sp_check.specs.Skeleton.{Skeleton}
 use Rattle.sp_spec_printed.specs.Verdict.{Verdict, verified, falsified, incomplete, rejected}
 use Rattle.sp_spec_system.specs.Move.{Root, Context, root_system}
-use Rattle.sp_analysis.specs.Taken.{stated_in, Taken, taken_for}
+use Rattle.sp_analysis.specs.Taken.{stated_in, Taken}
 use Rattle.sp_analysis.specs.Sought.{root_of, sought, setting_of, context_of, proof_tree}
 use Rattle.sp_analysis.specs.Analysis.{Outcome, AreOutcomes}
 use Rattle.sp_analysis.specs.Checking.{IsVerdictOn, Judged, AreJudged}
@@ -68,7 +68,7 @@ module _ (text : List ℕ) (written : WrittenText) (posing : Poses text written)
 
   module _ (l : Lemma) (f : IsLemmaOf theory l) (g : Guarded) (e : checked_form l.formula ≡ Some g) (attributes : List Attribute) (taken : List Taken) (right : AreTakenRightly theory taken) (kind : TraceKind) where
     abbrev root : Root
-    root = root_of (setting_of theory) (taken_for attributes taken) kind g
+    root = root_of (setting_of theory) attributes taken kind g
 
     abbrev context : Context
     context = context_of (setting_of theory) root
@@ -89,7 +89,7 @@ module _ (text : List ℕ) (written : WrittenText) (posing : Poses text written)
         let rules = (rules_of (theory_of theory)).forms in
         let fs = restriction_forms theory.restrictions ++ sought kind g ∷ [] in
         let constants = constants_of theory in
-        let end = ends_are_well_made_lem.ends (theory_of theory) (suits written posing ready) context (is_context written posing ready l f g e attributes taken kind) (root_system root) begins_well tree log is_found in
+        let end = ends_are_well_made_lem.ends (theory_of theory) (suits written posing ready) context (is_context written posing ready l f g e attributes taken right kind) (root_system root) begins_well tree log is_found in
         let q = then_some (λ (entries : List Entry). kept_if (is_sought signature rules fs entries) entries) (candidate constants end.0) log end.2 in
         let k = kept_entries (is_sought signature rules fs q.0) q.0 log q.2 in
         let is = (log_decides (theory_of theory) (checkable theory found_in) q.0).0
@@ -123,7 +123,7 @@ module _ (text : List ℕ) (written : WrittenText) (posing : Poses text written)
       let q = h.stated in
       let k = h.is_outcome in
       option_read q.lemma h.is_lemma k.form k.form_is q.attributes h.taken h.right q.lemma.kind
-      (proof_tree (setting_of theory) budget (root_of (setting_of theory) (taken_for q.attributes h.taken) q.lemma.kind k.form)) o.log k.log_is numbers
+      (proof_tree (setting_of theory) budget (root_of (setting_of theory) q.attributes h.taken q.lemma.kind k.form)) o.log k.log_is numbers
 
   pub outcomes_read : (budget : ℕ) (os : List Outcome) → AreOutcomes (setting_of theory) budget [] (stated_in (resolved written).items) os
       → Every (λ (o : Outcome). IsNumbered (theory_of theory) o.log) os → Every (λ (o : Outcome). AreReadBack (theory_of theory) o.log) os

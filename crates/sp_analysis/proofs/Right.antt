@@ -36,7 +36,7 @@ use Rattle.sp_spec_text.specs.Written.{Attribute, WrittenText}
 use Rattle.sp_spec_text.specs.Declared.{resolved, theory_in}
 use Rattle.sp_pose.specs.Waiting.{waits}
 use Rattle.sp_pose.specs.Problem.{Poses}
-use Rattle.sp_analysis.specs.Taken.{Stated, stated_in, lemmas_stated, Taken, taken_by, taken_for}
+use Rattle.sp_analysis.specs.Taken.{Stated, stated_in, lemmas_stated, Taken, taken_by}
 use Rattle.sp_analysis.specs.Sought.{root_of, setting_of, context_of}
 use Rattle.sp_analysis.specs.Analysis.{Outcome, IsOutcome, AreOutcomes}
 use Rattle.sp_analysis.specs.Checking.{IsVerdictIn, IsVerdictOn, Judged, IsJudged, AreJudged}
@@ -88,7 +88,7 @@ module _ {bytes : List ℕ} (text : WrittenText) (posing : Poses bytes text) (re
   theory = theory_in text
 
   abbrev root : List Attribute → List Taken → TraceKind → Guarded → Root
-  root attributes taken kind g = root_of (setting_of theory) (taken_for attributes taken) kind g
+  root attributes taken kind g = root_of (setting_of theory) attributes taken kind g
 
   abbrev context : List Attribute → List Taken → TraceKind → Guarded → Context
   context attributes taken kind g = context_of (setting_of theory) (root attributes taken kind g)
@@ -118,7 +118,7 @@ module _ {bytes : List ℕ} (text : WrittenText) (posing : Poses bytes text) (re
         → log ≡ found_log (context attributes taken kind g) (root_system (root attributes taken kind g)) tree → Says kind v log (IsFinished tree) → Means (theory_of theory) kind v log l
     shown all_traces verified None tree accepted is says =
         into_reading l f.2 (HoldsInAllLogs (theory_of theory) l) (HoldsInAll (theory_of theory) l)
-        (lemmas_are_shown_lem.all_traces theory (provable text posing ready) (context attributes taken all_traces g) (is_context text posing ready l f g e attributes taken all_traces)
+        (lemmas_are_shown_lem.all_traces theory (provable text posing ready) (context attributes taken all_traces g) (is_context text posing ready l f g e attributes taken right all_traces)
         (has_restrictions text posing ready (root attributes taken all_traces g)) l f.0 f.1 f.2 g e (root attributes taken all_traces g) (begins text posing ready attributes taken right all_traces g)
         tree accepted says)
     shown all_traces verified (Some log) tree accepted is says = absurd says
@@ -131,7 +131,7 @@ module _ {bytes : List ℕ} (text : WrittenText) (posing : Poses bytes text) (re
     shown exists_trace verified (Some log) tree accepted is says = let s = ended attributes taken exists_trace g tree log is in satisfies l f g e s.0 log s.1
     shown exists_trace falsified None tree accepted is says =
         into_reading l f.2 (HoldsInNoLog (theory_of theory) l) (HoldsInNone (theory_of theory) l)
-        (lemmas_are_shown_lem.exists_trace theory (provable text posing ready) (context attributes taken exists_trace g) (is_context text posing ready l f g e attributes taken exists_trace)
+        (lemmas_are_shown_lem.exists_trace theory (provable text posing ready) (context attributes taken exists_trace g) (is_context text posing ready l f g e attributes taken right exists_trace)
         (has_restrictions text posing ready (root attributes taken exists_trace g)) l f.0 f.1 f.2 g e (root attributes taken exists_trace g) (begins text posing ready attributes taken right exists_trace g)
         tree accepted says)
     shown exists_trace falsified (Some log) tree accepted is says = absurd says

@@ -1,7 +1,8 @@
 -- What a proof begins from in a text that poses its theory: what is taken holds over all logs that meet the restrictions.
-use Rattle.std.proofs.Common.{inl, inr, ◌≡◌, ℕ, Bool, true, false, if◌then◌else◌, List, [], ◌∷◌, ◌++◌, Option, Some, None, refl, ap, ◌∙◌}
+use Rattle.std.proofs.Common.{inl, inr, ◌≡◌, ℕ, Bool, true, false, if◌then◌else◌, List, [], ◌∷◌, ◌++◌, Option, Some, None, refl, ap}
 use Rattle.sp_spec.specs.Lists.{Every}
 use Rattle.sp_spec.proofs.Lists.{every_append, every_from, every_member, every_weaken}
+use Rattle.sp_spec.proofs.Options.{some_same}
 use Rattle.sp_spec.specs.Signature.{Signature}
 use Rattle.sp_spec.specs.Theory.{TraceKind, all_traces, exists_trace, Restriction, Lemma, signature_of}
 use Rattle.sp_spec.specs.Written.{WrittenTheory, theory_of}
@@ -9,11 +10,11 @@ use Rattle.sp_spec.specs.Guarded.{Guarded}
 use Rattle.sp_spec.specs.Constants.{constants_of}
 use Rattle.sp_spec.specs.Verdict.{names_learning, HoldsInAllLogs}
 use Rattle.sp_law_guard.specs.CheckedForm.{checked_form}
-use Rattle.sp_spec_system.specs.Move.{InductionCases, Root, root_system}
+use Rattle.sp_spec_system.specs.Move.{Root, root_system}
 use Rattle.sp_spec_system.specs.Numbered.{names_in}
 use Rattle.sp_spec_proof.specs.Tree.{Tree, IsAccepted, IsFinished}
 use Rattle.sp_law_system.specs.Rules.{SuitsProofs}
-use Rattle.sp_law_cover.specs.Contexts.{IsContextOf}
+use Rattle.sp_law_cover.specs.Contexts.{InductionCovers, IsContextOf}
 use Rattle.sp_law_basic.specs.BasicTheory.{IsBasicFormula, HasNames}
 use Rattle.sp_law_basic.specs.Restrictions.{IsBasicRestriction, restriction_forms}
 use Rattle.sp_law_basic.proofs.RestrictionForms.{every_form}
@@ -21,6 +22,8 @@ use Rattle.sp_law_tree.specs.Laws.{IsRightForm, IsTaken, HasRestrictions, Begins
 use Rattle.sp_law_tree.proofs.WrittenRules.{names_stand_lem}
 use Rattle.sp_law_tree.proofs.OverLogs.{trees_show_logs_lem, shown_is_taken_lem}
 use Rattle.sp_law_tree.proofs.Suited.{text_suits}
+use Rattle.sp_law_inductive.specs.Cases.{cases_of}
+use Rattle.sp_law_inductive.proofs.Covering.{induction_covers, no_cases_cover}
 use Rattle.sp_law_found_log.specs.Shown.{IsSearched}
 use Rattle.sp_law_found_log.specs.Laws.{IsRootFormula}
 use Rattle.sp_law_found_log.proofs.Ends.{searches_end_as_sought_lem}
@@ -106,7 +109,7 @@ module _ {bytes : List ℕ} (text : WrittenText) (posing : Poses bytes text) (re
 
   -- what a proof begins from
   abbrev pub root_at : List Attribute → List Taken → TraceKind → Guarded → Root
-  root_at attributes taken kind g = root_of setting (taken_for attributes taken) kind g
+  root_at attributes taken kind g = root_of setting attributes taken kind g
 
   pub has_restrictions : (root : Root) → HasRestrictions (theory_of theory) (context_of setting root)
   has_restrictions root = record {
@@ -126,24 +129,6 @@ module _ {bytes : List ℕ} (text : WrittenText) (posing : Poses bytes text) (re
       from all_traces = (l.formula, f.0, g, e, inr refl)
       from exists_trace = (l.formula, f.0, g, e, inl refl)
 
-  pub is_context : (l : Lemma) → IsLemmaOf theory l → (g : Guarded) → checked_form l.formula ≡ Some g → (attributes : List Attribute) (taken : List Taken) (kind : TraceKind)
-      → IsContextOf (theory_of theory) (context_of setting (root_at attributes taken kind g))
-  is_context l f g e attributes taken kind =
-      let root = root_at attributes taken kind g in
-      record {
-        rules = refl;
-        numbered = names_stand_lem.rules theory searched.basic;
-        induction = record { kept = λ r is i has. absurd (no_cases r is i has); covers = λ r is i has. absurd (no_cases r is i has) };
-        ends = searches_end_as_sought_lem.ends theory searched (context_of setting root) root refl (asked l f g e kind) (λ s. refl);
-        table = record { taken = []; begun = tt; alone = tt; entries = tt };
-      }
-    where
-      no_cases : (r : Root) → Some (root_at attributes taken kind g) ≡ Some r → (i : InductionCases) → r.cases ≡ Some i → ⊥
-      no_cases r is i has =
-          let one : root_at attributes taken kind g ≡ r = cc in
-          let none : None ≡ Some i = ap (λ (x : Root). x.cases) one ∙ has in
-          cc
-
   pub begins : (attributes : List Attribute) (taken : List Taken) → AreTakenRightly theory taken → (kind : TraceKind) (g : Guarded)
       → BeginsWith (theory_of theory) (context_of setting (root_at attributes taken kind g)) (root_at attributes taken kind g) (sought kind g)
   begins attributes taken h kind g = record {
@@ -155,13 +140,35 @@ module _ {bytes : List ℕ} (text : WrittenText) (posing : Poses bytes text) (re
     sought = refl;
   }
 
+  pub is_context : (l : Lemma) → IsLemmaOf theory l → (g : Guarded) → checked_form l.formula ≡ Some g → (attributes : List Attribute) (taken : List Taken) → AreTakenRightly theory taken
+      → (kind : TraceKind) → IsContextOf (theory_of theory) (context_of setting (root_at attributes taken kind g))
+  is_context l f g e attributes taken h kind =
+      let root = root_at attributes taken kind g in
+      record {
+        rules = refl;
+        numbered = names_stand_lem.rules theory searched.basic;
+        induction = covered kind;
+        ends = searches_end_as_sought_lem.ends theory searched (context_of setting root) root refl (asked l f g e kind) (λ s. refl);
+        table = record { taken = []; begun = tt; alone = tt; entries = tt };
+      }
+    where
+      -- a lemma on all traces has the cases of its induction, and one on some trace has none
+      covered : (kind : TraceKind) → InductionCovers (theory_of theory) (context_of setting (root_at attributes taken kind g))
+      covered all_traces =
+          let root = root_at attributes taken all_traces g in
+          induction_covers (theory_of theory) searched.normal_forms.normal_forms (context_of setting root) (has_restrictions root) l f.0 f.1 g e root (begins attributes taken h all_traces g)
+          (λ i its. some_same (cases_of root.restrictions root.taken g) i its)
+      covered exists_trace =
+          let root = root_at attributes taken exists_trace g in
+          no_cases_cover (theory_of theory) (context_of setting root) (λ r is. ap (λ (x : Root). x.cases) (some_same root r is))
+
   -- a finished tree of a lemma on all traces shows it of all logs
   pub shown_of_logs : (l : Lemma) → IsLemmaOf theory l → (g : Guarded) → checked_form l.formula ≡ Some g → (attributes : List Attribute) (taken : List Taken) → AreTakenRightly theory taken
       → (kind : TraceKind) → kind ≡ all_traces → (tree : Tree) → IsAccepted (context_of setting (root_at attributes taken kind g)) (root_system (root_at attributes taken kind g)) tree → IsFinished tree
       → HoldsInAllLogs (theory_of theory) l
   shown_of_logs l f g e attributes taken h all_traces is tree accepted finished =
       let root = root_at attributes taken all_traces g in
-      trees_show_logs_lem.all_traces (theory_of theory) suits (context_of setting root) (is_context l f g e attributes taken all_traces) (has_restrictions root) l f.0 f.1 g e root
+      trees_show_logs_lem.all_traces (theory_of theory) suits (context_of setting root) (is_context l f g e attributes taken h all_traces) (has_restrictions root) l f.0 f.1 g e root
       (begins attributes taken h all_traces g) tree accepted finished
   shown_of_logs l f g e attributes taken h exists_trace is tree accepted finished = absurd cc
 

@@ -18,7 +18,7 @@ use Rattle.sp_spec_text.specs.Spans.{Span}
 use Rattle.sp_spec_text.specs.Texts.{ArePlaces}
 use Rattle.sp_law_reread.specs.Again.{replaced}
 use Rattle.sp_pose.specs.Problem.{Poses}
-use Rattle.sp_analysis.specs.Taken.{Stated, stated_in, Taken, taken_by, taken_for}
+use Rattle.sp_analysis.specs.Taken.{Stated, stated_in, Taken, taken_by}
 use Rattle.sp_analysis.specs.Sought.{root_of, Setting, setting_of, proof_tree, grown_log}
 use Rattle.sp_spec_text.specs.Numerals.{counted}
 use Rattle.sp_spec_printed.specs.Verdict.{Verdict, Says, summary_line}
@@ -53,8 +53,8 @@ pub record IsOutcome (setting : Setting) (budget : ℕ) (taken : List Taken) (q 
   pub lemma_is : o.lemma ≡ q.lemma
   pub form : Guarded
   pub form_is : checked_form q.lemma.formula ≡ Some form
-  pub tree_is : o.tree ≡ proof_tree setting budget (root_of setting (taken_for q.attributes taken) q.lemma.kind form)
-  pub log_is : o.log ≡ grown_log setting budget (root_of setting (taken_for q.attributes taken) q.lemma.kind form)
+  pub tree_is : o.tree ≡ proof_tree setting budget (root_of setting q.attributes taken q.lemma.kind form)
+  pub log_is : o.log ≡ grown_log setting budget (root_of setting q.attributes taken q.lemma.kind form)
   pub verdict_is : Says q.lemma.kind o.verdict o.log (IsFinished o.tree)
 
 -- one for each lemma, in the order of the text; each takes what those before it gave

@@ -20,7 +20,7 @@ use Rattle.sp_spec_text.specs.Declared.{resolved, theory_in}
 use Rattle.sp_pose.specs.Waiting.{waits}
 use Rattle.sp_skel.specs.Steps.{skeleton}
 use Rattle.sp_pose.specs.Problem.{Poses}
-use Rattle.sp_analysis.specs.Taken.{Stated, stated_in, Taken, taken_by, taken_for}
+use Rattle.sp_analysis.specs.Taken.{Stated, stated_in, Taken, taken_by}
 use Rattle.sp_analysis.specs.Sought.{root_of, Setting, setting_of, context_of}
 use Rattle.sp_spec_text.specs.Numerals.{counted}
 use Rattle.sp_spec_printed.specs.Verdict.{Verdict, rejected, Says, summary_line}
@@ -63,7 +63,7 @@ pub record IsJudged (setting : Setting) (taken : List Taken) (q : Stated) (j : J
   pub proof_is : j.proof ≡ proof_read q.proof
   pub form : Guarded
   pub form_is : checked_form q.lemma.formula ≡ Some form
-  pub root_is : j.root ≡ root_of setting (taken_for q.attributes taken) q.lemma.kind form
+  pub root_is : j.root ≡ root_of setting q.attributes taken q.lemma.kind form
   pub verdict_is : IsVerdictOn setting q.lemma.kind j.root j.proof j.verdict j.log
 
 -- one for each lemma, in the order of the text; each takes what those before it gave, by what their proofs say

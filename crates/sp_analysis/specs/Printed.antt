@@ -14,7 +14,7 @@ use Rattle.sp_spec_text.specs.Written.{WrittenProof}
 use Rattle.sp_spec_text.specs.Spans.{Span, goes_on}
 use Rattle.sp_pose.specs.Asked.{Asked}
 use Rattle.sp_spec_system.specs.Move.{Root, root_system}
-use Rattle.sp_analysis.specs.Taken.{Taken, gives, taken_if, taken_for}
+use Rattle.sp_analysis.specs.Taken.{Taken, gives, taken_if}
 use Rattle.sp_analysis.specs.Sought.{root_of, Setting, executed, context_of, proof_tree, grown_log}
 use Rattle.sp_spec_printed.specs.Verdict.{Verdict, verified, falsified, incomplete, rejected, summary_line}
 use Rattle.sp_law_printed_log.specs.Block.{block_by, IsNumberedBy}
@@ -73,7 +73,7 @@ judged_log judging.incomplete = None
 
 -- what a proof of the lemma begins from, where these are taken
 abbrev pub root_for : Setting → List Taken → Asked → Root
-root_for setting taken a = root_of setting (taken_for a.attributes taken) a.kind a.form
+root_for setting taken a = root_of setting a.attributes taken a.kind a.form
 
 -- what is judged of a proof that begins from the root
 abbrev pub judged_so : Setting → Root → Option WrittenProof → Judgement

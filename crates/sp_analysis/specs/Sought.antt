@@ -1,5 +1,7 @@
--- What a proof is to show, what it begins with, what it is made in, and the proof tree that is grown for it.
-use Rattle.std.specs.Prelude.{List, ℕ, false, Option, None, Some, []}
+-- What a proof is to show, what it begins with, what it is made in, and the proof tree that is grown for it. Source: Tamarin manual, "Lemma
+-- Annotations" (`use_induction`, `sources`).
+use Rattle.std.specs.Prelude.{List, ℕ, Bool, true, false, Option, None, Some, []}
+use Rattle.std.specs.List.{list_any}
 use Rattle.sp_spec.specs.Signature.{Signature}
 use Rattle.sp_spec.specs.Theory.{TraceKind, all_traces, exists_trace, signature_of}
 use Rattle.sp_spec.specs.Written.{WrittenTheory, theory_of}
@@ -7,7 +9,9 @@ use Rattle.sp_spec.specs.Guarded.{Guarded}
 use Rattle.sp_spec.specs.Log.{Log}
 use Rattle.sp_law_guard.specs.GuardedForm.{negate}
 use Rattle.sp_law_basic.specs.Restrictions.{restriction_forms}
-use Rattle.sp_spec_system.specs.Move.{Root, root_system, asked_formulas, Context}
+use Rattle.sp_law_inductive.specs.Cases.{cases_of}
+use Rattle.sp_spec_text.specs.Written.{Attribute, of_sources, by_induction}
+use Rattle.sp_spec_system.specs.Move.{InductionCases, Root, root_system, asked_formulas, Context}
 use Rattle.sp_spec_proof.specs.Tree.{Tree, found_log}
 use Rattle.sp_spec_proof.specs.Growth.{grown_tree}
 use Rattle.sp_spec.specs.Constants.{constants_of}
@@ -16,6 +20,7 @@ use Rattle.sp_spec_system.specs.Rules.{rules_of}
 use Rattle.sp_spec_forms.specs.Forms.{RuleForms}
 use Rattle.sp_spec.specs.Execution.{Step}
 use Rattle.sp_law_log_execution.specs.Executed.{linking_of, executed_by}
+use Rattle.sp_analysis.specs.Taken.{Taken, taken_for}
 
 -- a proof looks for the negation of a lemma on all traces, and for a lemma on some trace as it is
 abbrev pub sought : TraceKind → Guarded → Guarded
@@ -38,13 +43,37 @@ setting_of theory = record {
   restrictions = restriction_forms theory.restrictions;
 }
 
--- What a proof begins from where these formulas are taken: from the restrictions, from what is taken and from what is sought; with no first move of its
--- own, and with its kinds of moves ranked one by one.
-abbrev pub root_with : List Guarded → List Guarded → Guarded → Root
-root_with restrictions taken f = record { restrictions = restrictions; taken = taken; sought = f; begins_with_induction = false; consecutive = false; cases = None }
+-- a lemma with this attribute is to be proved by induction
+abbrev pub marks_induction : Attribute → Bool
+marks_induction by_induction = true
+marks_induction of_sources = true
+marks_induction a = false
 
-abbrev pub root_of : Setting → List Guarded → TraceKind → Guarded → Root
-root_of setting taken kind form = root_with setting.restrictions taken (sought kind form)
+-- Whether a proof is to begin with induction: that of a lemma on all traces which is marked so.
+abbrev pub begins_by : TraceKind → List Attribute → Bool
+begins_by all_traces attributes = list_any marks_induction attributes
+begins_by exists_trace attributes = false
+
+-- The cases of the induction, of a lemma on all traces; one on some trace has none.
+abbrev pub cases_for : List Guarded → List Guarded → TraceKind → Guarded → Option InductionCases
+cases_for restrictions taken all_traces form = Some (cases_of restrictions taken form)
+cases_for restrictions taken exists_trace form = None
+
+-- What a proof of a lemma of this guarded form begins from: from the restrictions, from what is taken and from what is sought. Its kinds of moves are ranked one
+-- by one.
+abbrev pub root_with : List Guarded → List Guarded → Bool → TraceKind → Guarded → Root
+root_with restrictions taken begins kind form = record {
+  restrictions = restrictions;
+  taken = taken;
+  sought = sought kind form;
+  begins_with_induction = begins;
+  consecutive = false;
+  cases = cases_for restrictions taken kind form;
+}
+
+-- so of a lemma with these attributes, which say what it hides of what was given, and whether its proof begins with induction
+abbrev pub root_of : Setting → List Attribute → List Taken → TraceKind → Guarded → Root
+root_of setting attributes taken kind form = root_with setting.restrictions (taken_for attributes taken) (begins_by kind attributes) kind form
 
 -- the steps that a log stands for
 abbrev pub executed : Setting → Log → List Step

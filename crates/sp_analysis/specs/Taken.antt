@@ -1,12 +1,12 @@
 -- Lemmas that are taken for the proofs of those behind them. Source: Tamarin manual, "Reusing Lemmas Multiple Times" and "Lemma Annotations"
--- (`reuse`, `hide_lemma`).
+-- (`reuse`, `sources`, `hide_lemma`).
 use Rattle.std.specs.Prelude.{ℕ, Bool, true, false, if◌then◌else◌, List, [], ◌∷◌, ◌++◌, map, Option, Some, None, bytes_eq}
 use Rattle.std.specs.List.{list_any}
 use Rattle.sp_spec.specs.Theory.{TraceKind, all_traces, Lemma}
 use Rattle.sp_spec.specs.Guarded.{Guarded}
 use Rattle.sp_law_guard.specs.CheckedForm.{checked_form}
 use Rattle.sp_spec_printed.specs.Verdict.{Verdict, verified}
-use Rattle.sp_spec_text.specs.Written.{Attribute, reused, hiding, WrittenProof, Item, lemma_item}
+use Rattle.sp_spec_text.specs.Written.{Attribute, reused, of_sources, hiding, WrittenProof, Item, lemma_item}
 
 -- a lemma as the text states it: with its attributes, and its proof if it has one
 pub record Stated : Type 0 where
@@ -31,11 +31,13 @@ pub record Taken : Type 0 where
   pub name : List ℕ
   pub form : Guarded
 
+-- `sources` marks a lemma as `reuse` does
 abbrev pub is_reused : Attribute → Bool
 is_reused reused = true
+is_reused of_sources = true
 is_reused a = false
 
--- What a lemma gives to the proofs behind it: one on all traces that is marked `reuse` and was verified is taken; no other is.
+-- What a lemma gives to the proofs behind it: one on all traces that is marked `reuse` or `sources` and was verified is taken; no other is.
 abbrev pub gives : TraceKind → Verdict → List Attribute → Bool
 gives all_traces verified attributes = list_any is_reused attributes
 gives kind verdict attributes = false

@@ -5,6 +5,7 @@
 // where each step is an instance.
 #![tactic(auto)]
 
+mod beginning;
 mod block;
 mod replies;
 mod setting;

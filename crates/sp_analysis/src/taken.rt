@@ -28,7 +28,7 @@ fn is_reused(attribute: &Attribute) -> bool
     ensures { result ≡ spec.is_reused (view.attribute attribute.now) }
 {
     match attribute {
-        Attribute::Reused => true,
+        Attribute::Reused | Attribute::OfSources => true,
         _ => false,
     }
 }

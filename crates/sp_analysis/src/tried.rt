@@ -21,14 +21,13 @@ ghost use Rattle.sp_analysis.specs.View.{setting_in, taken_of, verdict_of};
 ghost use Rattle.sp_pose.specs.Asked as ask;
 ghost use Rattle.sp_analysis.specs.Printed as print;
 
+use crate::beginning::beginning_of;
 use crate::block::block_of;
 use crate::replies::Command;
 use crate::setting::Setting;
-use crate::taken::{Taken, push_taken, taken_for};
+use crate::taken::{Taken, push_taken};
 use crate::verdict::Verdict;
 use sp_check::{Judgement, Skeleton, Step, judge};
-use sp_formula::formula::Formula;
-use sp_guard::negate::negate;
 use sp_learn::log::Log;
 use sp_pose::GuardedLemma;
 use sp_search::{Tree, grown_tree, is_finished, steps};
@@ -57,27 +56,6 @@ pub struct Tried<'a> {
     pub proof: String,
     /// the block of the execution that was found; empty where none was
     pub block: String,
-}
-
-/// What a proof of the lemma looks for, by its guarded form.
-fn sought(alloc: Global, kind: TraceKind, form: Formula) -> Result<Formula, AllocError>
-    ensures { IfOk result (λ f. formula_of f ≡ spec.sought (view.kind kind) (formula_of form)) }
-{
-    match kind {
-        TraceKind::AllTraces => negate(alloc, form),
-        TraceKind::ExistsTrace => Ok(form),
-    }
-}
-
-/// What a proof begins from.
-fn root_with<'a>(setting: &'a Setting, taken: &'a Vec<Formula>, sought: &'a Formula) -> Root<'a>
-    ensures { root_of result ≡ spec.root_with (setting_in setting.now).restrictions (map formula_of taken.now.items) (formula_of sought.now) }
-{
-    Root {
-        restrictions: &setting.restrictions,
-        taken,
-        sought,
-    }
 }
 
 /// The system in which a proof begins.
@@ -156,14 +134,6 @@ fn by_judgement(kind: TraceKind, judgement: &Judgement) -> Verdict
     }
 }
 
-/// What a proof of the lemma looks for.
-fn sought_by(alloc: Global, lemma: &GuardedLemma) -> Result<Formula, AllocError>
-    ensures { IfOk result (λ f. formula_of f ≡ spec.sought (view.kind lemma.now.kind) (formula_of lemma.now.form)) }
-{
-    let form = lemma.form.clone()?;
-    sought(alloc, lemma.kind, form)
-}
-
 /// The tree of at most so many moves that is grown from the root.
 fn grown_over(
     alloc: Global,
@@ -191,9 +161,8 @@ fn grown(
     ensures tree { IfOk result (λ t. tree_of t ≡ spec.proof_tree (setting_in setting.now) budget (print.root_for (setting_in setting.now) (map taken_of taken.now.items) (ask.asked_of lemma.now))) }
     ensures log { IfOk result (λ t. log_in (kept_of t) ≡ spec.grown_log (setting_in setting.now) budget (print.root_for (setting_in setting.now) (map taken_of taken.now.items) (ask.asked_of lemma.now))) }
 {
-    let taken = taken_for(alloc, &lemma.attributes, taken)?;
-    let sought = sought_by(alloc, lemma)?;
-    let root = root_with(setting, &taken, &sought);
+    let beginning = beginning_of(alloc, setting, taken, lemma)?;
+    let root = beginning.root(setting);
     let tree = grown_over(alloc, setting, budget, &root)?;
     Ok(tree)
 }
@@ -271,9 +240,8 @@ fn judged_with(
     ensures { let root = print.root_for (setting_in setting.now) (map taken_of taken.now.items) (ask.asked_of lemma.now) in
         IfOk result (λ j. judgement_of j ≡ judging.judgement (spec.context_of (setting_in setting.now) root) (system.root_system root) (skeleton_of tree.now)) }
 {
-    let taken = taken_for(alloc, &lemma.attributes, taken)?;
-    let sought = sought_by(alloc, lemma)?;
-    let root = root_with(setting, &taken, &sought);
+    let beginning = beginning_of(alloc, setting, taken, lemma)?;
+    let root = beginning.root(setting);
     let judgement = judged_over(alloc, setting, &root, tree)?;
     Ok(judgement)
 }

@@ -7,7 +7,7 @@ use Rattle.sp_spec.specs.Signature.{Symbol}
 use Rattle.sp_spec.specs.Formula.{Formula, truth, falsity, happens, equals, precedes, not_so, both, either, implies, for_all, for_some}
 use Rattle.sp_spec.specs.Theory.{Lemma}
 use Rattle.sp_spec.specs.Verdict.{names_learning}
-use Rattle.sp_pose.specs.Waiting.{attribute_waits, item_waits, waits}
+use Rattle.sp_pose.specs.Waiting.{item_waits, waits}
 use Rattle.sp_spec_text.specs.Written.{Item, builtins_item, functions_item, equations_item, heuristic_item, block_item, rule_item, restriction_item, lemma_item, WrittenText, lemmas_in}
 use Rattle.sp_spec_text.specs.Declared.{all_symbols, resolved_formula, resolved_item, theory_in}
 use Rattle.sp_pose.specs.Problem.{IsWaiting}
@@ -46,8 +46,8 @@ module _ (symbols : List Symbol) where
   unlearnt_in (rule_item bs r ∷ xs) e = unlearnt_in xs e
   unlearnt_in (restriction_item r ∷ xs) e = unlearnt_in xs e
   unlearnt_in (lemma_item l as' p ∷ xs) e =
-      let parts = or_parts (names_learning l.formula || list_any attribute_waits as') (list_any item_waits xs) e in
-      (learning_kept [] l.formula ∙ (or_parts (names_learning l.formula) (list_any attribute_waits as') parts.0).0, unlearnt_in xs parts.1)
+      let parts = or_parts (names_learning l.formula) (list_any item_waits xs) e in
+      (learning_kept [] l.formula ∙ parts.0, unlearnt_in xs parts.1)
 
 pub lemmas_unlearnt : (t : WrittenText) → waits t ≡ false → Every (λ (l : Lemma). names_learning l.formula ≡ false) (theory_in t).lemmas
 lemmas_unlearnt t e = unlearnt_in (all_symbols t.items) t.items e
