@@ -1,0 +1,4 @@
+pub mod ReadBack
+pub mod Alike
+pub mod Told
+pub mod BlockLines
