@@ -1,0 +1,4 @@
+mod Asking
+mod Numerals
+mod Parses
+mod Shapes
