@@ -19,6 +19,8 @@ mod executions;
 #[cfg(test)]
 mod forms;
 #[cfg(test)]
+mod induction;
+#[cfg(test)]
 mod learning;
 #[cfg(test)]
 mod lemmas;

@@ -60,10 +60,11 @@ static CHECKED: [(&str, u8, &str); 13] = [
     ("by solve( x )\n", 3, "rejected at step 1 (move)"),
     ("by solve( more 1 )\n", 3, "rejected at step 1 (move)"),
     ("by solve( chain 5 )\n", 3, "rejected at step 1 (instance)"),
+    // the move has cases there, but none stands below it
     (
         "by induction // at a lemma\n",
         3,
-        "rejected at step 1 (instance)",
+        "rejected at step 1 (cases)",
     ),
 ];
 

@@ -34,14 +34,15 @@ fn are(verdicts: &Vec<Verdict>, wanted: &[Verdict]) -> bool {
     true
 }
 
-/// Asserts what proofs of at most sixty moves say of the lemmas of the text.
-fn assert_verdicts(
+/// Asserts what proofs of at most so many moves say of the lemmas of the text.
+pub(crate) fn assert_verdicts(
     rt: &impl Abort,
     alloc: Global,
+    budget: u64,
     text: &str,
     wanted: &[Verdict],
 ) -> Result<(), Fail> {
-    let reply = sp_analysis::answer(alloc, Command::Prove(60), text.as_bytes())?;
+    let reply = sp_analysis::answer(alloc, Command::Prove(budget), text.as_bytes())?;
     let Reply::Done(answer) = reply else {
         return Err("no lemma is tried".into());
     };
@@ -80,7 +81,13 @@ fn marked_lemmas_are_taken(rt: HostRuntime) -> Result<(), Fail> {
         let text = format!(in alloc;
             "{LOOPING}lemma kept {first}: {KEPT}\nlemma both {second}: {BOTH}\nend\n"
         )?;
-        assert_verdicts(&rt, alloc, text.as_str(), &[Verdict::Verified, *verdict])?;
+        assert_verdicts(
+            &rt,
+            alloc,
+            60,
+            text.as_str(),
+            &[Verdict::Verified, *verdict],
+        )?;
     }
     Ok(())
 }
@@ -146,7 +153,7 @@ fn lemmas_on_all_traces_that_were_shown_are_taken(rt: HostRuntime) -> Result<(),
     let alloc = rt.alloc();
     for (lemmas, verdicts) in listed_cases().iter() {
         let text = format!(in alloc; "{LOOPING}{lemmas}\nend\n")?;
-        assert_verdicts(&rt, alloc, text.as_str(), *verdicts)?;
+        assert_verdicts(&rt, alloc, 60, text.as_str(), *verdicts)?;
     }
     Ok(())
 }

@@ -4,13 +4,10 @@ use crate::calls::assert_answer;
 use std::test::Fail;
 
 /// Items of which nothing is proved yet, without findings.
-static WAITING: [&str; 7] = [
-    "lemma one [sources]: \"T\"",
-    "lemma one [heuristic=s, typing]: \"T\"",
-    "lemma one [use_induction]: \"T\"",
+static WAITING: [&str; 4] = [
     "lemma one: \"All x #i. KU(x)@i ==> T\"",
-    "lemma one [reuse, use_induction]: \"T\"",
-    "restriction one: \"T\" lemma two: \"T\" lemma three [hide_lemma=two, sources]: \"T\"",
+    "lemma one [heuristic=s, sources]: \"All x #i. KU(x)@i ==> T\"",
+    "lemma one [use_induction]: \"T\" lemma two: \"All x #i. KU(x)@i ==> T\"",
     "lemma one: exists-trace \"Ex x #i. KU(x)@i\" axiom two: \"T\"",
 ];
 
@@ -21,7 +18,7 @@ fn waiting_cases() -> &'static [&'static str] {
 /// Items with a finding, beside one that waits, and their line.
 static FOUND: [(&str, &str); 3] = [
     (
-        "restriction one: \"T\" lemma one [use_induction]: \"T\"",
+        "restriction one: \"T\" lemma one: \"All x #i. KU(x)@i ==> T\"",
         "fatal: name one used twice\n",
     ),
     (
@@ -29,7 +26,7 @@ static FOUND: [(&str, &str); 3] = [
         "fatal: restriction one names KU\n",
     ),
     (
-        "lemma one [sources, other]: \"T\"",
+        "lemma one [sources, other]: \"All x #i. KU(x)@i ==> T\"",
         "fatal: lemma one: attribute left out: other\n",
     ),
 ];
@@ -39,7 +36,7 @@ fn found_cases() -> &'static [(&'static str, &'static str)] {
 }
 
 /// Items that wait for nothing, and what is answered where no steps are replayed.
-static READY: [(&str, &str); 9] = [
+static READY: [(&str, &str); 12] = [
     ("heuristic: s", "trace:\nend of trace\n"),
     ("note {* \"restriction\" *}", "trace:\nend of trace\n"),
     (
@@ -70,6 +67,19 @@ static READY: [(&str, &str); 9] = [
     (
         "lemma one [hide_lemma=two]: \"T\"",
         "trace:\nend of trace\none (all-traces): met\n",
+    ),
+    (
+        "lemma one [use_induction]: \"T\"",
+        "trace:\nend of trace\none (all-traces): met\n",
+    ),
+    (
+        "lemma one [sources, reuse]: \"T\"",
+        "trace:\nend of trace\none (all-traces): met\n",
+    ),
+    // a mark without effect
+    (
+        "lemma one [typing]: exists-trace \"Ex x #i. A(x)@i\"",
+        "trace:\nend of trace\none (exists-trace): broken\n",
     ),
 ];
 
