@@ -42,7 +42,7 @@ use Rattle.sp_law_found_log.specs.Shown.{IsSearched, FoundBreaks, FoundSatisfies
 use Rattle.sp_law_found_log.specs.Laws.{FoundLogsShow}
 use Rattle.sp_law_found_log.proofs.Executable.{runnable, checkable}
 use Rattle.sp_law_found_log.proofs.Restricted.{by_forms}
-use Rattle.sp_law_found_log.proofs.Learning.{into_reading}
+use Rattle.sp_law_found_log.proofs.Learning.{either_reading}
 use Rattle.sp_law_found_log.proofs.Traces.{log_normal}
 
 -- ---- truth
@@ -79,16 +79,16 @@ module _ (t : WrittenTheory) (s : IsSearched t) (log : Log) (is : IsLog (theory_
     over_log e = ((told (log_trace log) g).guarded signature can_decide).0 e
 
   -- a formula without findings, and its guarded form
-  module _ (f : Formula) (basic : IsBasicFormula signature f) (unlearnt : names_learning f ≡ false) (g : Guarded) (form : checked_form f ≡ Some g) where
+  module _ (f : Formula) (basic : IsBasicFormula signature f) (g : Guarded) (form : checked_form f ≡ Some g) where
     right : IsRight signature g
     right = let c = form_checked f g form in form_right signature f g basic c.0 c.1
 
     kept : IsTrueOver signature (log_trace log) f ↔ GuardedHolds signature (log_trace log) (assignment_of empty) g
     kept = form_kept signature (log_trace log) f g (form_checked f g form).0 (assignment_of empty)
 
-    -- it is as true over the execution
-    over_steps : IsTrueOver signature executed.trace f ↔ IsTrueOver signature (log_trace log) f
-    over_steps = let c = form_checked f g form in formula_over theory executed.trace log learnt f ((g, c.0, c.1), unlearnt)
+    -- it is as true over the execution, if it names no learning
+    over_steps : names_learning f ≡ false → IsTrueOver signature executed.trace f ↔ IsTrueOver signature (log_trace log) f
+    over_steps unlearnt = let c = form_checked f g form in formula_over theory executed.trace log learnt f ((g, c.0, c.1), unlearnt)
 
     true_there : decided (log_trace log) empty g ≡ true → IsTrueOver signature (log_trace log) f
     true_there e = kept.1 (over_log g right e)
@@ -102,14 +102,14 @@ module _ (t : WrittenTheory) (s : IsSearched t) (log : Log) (is : IsLog (theory_
     met_by_log : MeetsRestrictions theory (log_trace log)
     met_by_log =
         by_forms signature (λ h. decided (log_trace log) empty h ≡ true) (λ r. IsTrueOver signature (log_trace log) r.formula)
-        (λ r b e. true_there r.formula b.basic b.unlearnt b.form b.form_is e) t.restrictions s.restrictions met
+        (λ r b e. true_there r.formula b.basic b.form b.form_is e) t.restrictions s.restrictions met
 
     met_by_steps : MeetsRestrictions theory executed.trace
     met_by_steps =
         by_forms signature (λ h. decided (log_trace log) empty h ≡ true) (λ r. IsTrueOver signature executed.trace r.formula)
-        (λ r b e. (over_steps r.formula b.basic b.unlearnt b.form b.form_is).1 (true_there r.formula b.basic b.unlearnt b.form b.form_is e)) t.restrictions s.restrictions met
+        (λ r b e. (over_steps r.formula b.basic b.form b.form_is b.unlearnt).1 (true_there r.formula b.basic b.form b.form_is e)) t.restrictions s.restrictions met
 
-  module _ (lemma : Lemma) (basic : IsBasicFormula signature lemma.formula) (unlearnt : names_learning lemma.formula ≡ false) (g : Guarded) (form : checked_form lemma.formula ≡ Some g) where
+  module _ (lemma : Lemma) (basic : IsBasicFormula signature lemma.formula) (g : Guarded) (form : checked_form lemma.formula ≡ Some g) where
     -- the forms of the restrictions and this one are found true
     abbrev AllFound : Guarded → Type 0
     AllFound h = list_all (decided (log_trace log) empty) (restriction_forms t.restrictions ++ h ∷ []) ≡ true
@@ -124,25 +124,27 @@ module _ (t : WrittenTheory) (s : IsSearched t) (log : Log) (is : IsLog (theory_
     breaks : AllFound (negate g) → FoundBreaks theory lemma log
     breaks e =
         let p = parts (negate g) e in
-        let not_true = false_there lemma.formula basic unlearnt g form p.1 in
+        let not_true = false_there lemma.formula basic g form p.1 in
+        let by_log : IsBrokenByLog theory lemma log = (is, met_by_log p.0, not_true) in
         record {
-          by_log = (is, met_by_log p.0, not_true);
+          by_log = by_log;
           executed = executed;
           in_reading =
-              into_reading lemma unlearnt (IsBrokenByLog theory lemma log) (IsBrokenBy theory lemma (executed_of theory log))
-              (executed.trace, executed.executed, met_by_steps p.0, λ true_over. not_true ((over_steps lemma.formula basic unlearnt g form).0 true_over));
+              either_reading lemma (IsBrokenByLog theory lemma log) (IsBrokenBy theory lemma (executed_of theory log)) by_log
+              (λ unlearnt. (executed.trace, executed.executed, met_by_steps p.0, λ true_over. not_true ((over_steps lemma.formula basic g form unlearnt).0 true_over)));
         }
 
     satisfies : AllFound g → FoundSatisfies theory lemma log
     satisfies e =
         let p = parts g e in
-        let true_over = true_there lemma.formula basic unlearnt g form p.1 in
+        let true_over = true_there lemma.formula basic g form p.1 in
+        let by_log : IsSatisfiedByLog theory lemma log = (is, met_by_log p.0, true_over) in
         record {
-          by_log = (is, met_by_log p.0, true_over);
+          by_log = by_log;
           executed = executed;
           in_reading =
-              into_reading lemma unlearnt (IsSatisfiedByLog theory lemma log) (IsSatisfiedBy theory lemma (executed_of theory log))
-              (executed.trace, executed.executed, met_by_steps p.0, (over_steps lemma.formula basic unlearnt g form).1 true_over);
+              either_reading lemma (IsSatisfiedByLog theory lemma log) (IsSatisfiedBy theory lemma (executed_of theory log)) by_log
+              (λ unlearnt. (executed.trace, executed.executed, met_by_steps p.0, (over_steps lemma.formula basic g form unlearnt).1 true_over));
         }
 
 passes_log : (t : WrittenTheory) → IsSearched t → (entries : List Entry) → is_log (signature_of (theory_of t)) (rules_of (theory_of t)).forms entries ≡ true
@@ -151,6 +153,6 @@ passes_log t s entries e = (log_decides (theory_of t) (checkable t s) entries).0
 
 pub found_logs_show_lem : FoundLogsShow
 found_logs_show_lem = record {
-  breaks = λ t s lemma basic unlearnt g form entries e found. breaks t s (newest_first entries) (passes_log t s entries e) lemma basic unlearnt g form found;
-  satisfies = λ t s lemma basic unlearnt g form entries e found. satisfies t s (newest_first entries) (passes_log t s entries e) lemma basic unlearnt g form found;
+  breaks = λ t s lemma basic g form entries e found. breaks t s (newest_first entries) (passes_log t s entries e) lemma basic g form found;
+  satisfies = λ t s lemma basic g form entries e found. satisfies t s (newest_first entries) (passes_log t s entries e) lemma basic g form found;
 }

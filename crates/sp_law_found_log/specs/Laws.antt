@@ -8,7 +8,6 @@ use Rattle.sp_spec.specs.Theory.{Lemma, signature_of}
 use Rattle.sp_spec.specs.Written.{WrittenTheory, theory_of}
 use Rattle.sp_spec.specs.Guarded.{Guarded, GuardedHolds}
 use Rattle.sp_spec.specs.Log.{Entry, Log, IsLog, log_trace}
-use Rattle.sp_spec.specs.Verdict.{names_learning}
 use Rattle.sp_law_guard.specs.GuardedForm.{negate}
 use Rattle.sp_law_guard.specs.CheckedForm.{checked_form}
 use Rattle.sp_law_decide.specs.Deciding.{assignment_of, decided, empty}
@@ -24,15 +23,15 @@ use Rattle.sp_solved.specs.Found.{found}
 use Rattle.sp_law_cover.specs.Contexts.{EndsAsSought}
 use Rattle.sp_law_found_log.specs.Shown.{IsSearched, FoundBreaks, FoundSatisfies}
 
--- Of entries, the oldest first, that pass the test of logs, and a lemma that names no learning: where the guarded forms of the restrictions and the negation of the lemma's are found true over the
+-- Of entries, the oldest first, that pass the test of logs, and a lemma: where the guarded forms of the restrictions and the negation of the lemma's are found true over the
 -- log's trace, the log meets the restrictions and breaks the lemma; where the form is found true, it satisfies the lemma.
 pub record FoundLogsShow : Type 0 where
   pub breaks : (theory : WrittenTheory) → IsSearched theory → (lemma : Lemma) → IsBasicFormula (signature_of (theory_of theory)) lemma.formula
-      → names_learning lemma.formula ≡ false → (g : Guarded) → checked_form lemma.formula ≡ Some g
+      → (g : Guarded) → checked_form lemma.formula ≡ Some g
       → (entries : List Entry) → is_log (signature_of (theory_of theory)) (rules_of (theory_of theory)).forms entries ≡ true
       → list_all (decided (log_trace (newest_first entries)) empty) (restriction_forms theory.restrictions ++ negate g ∷ []) ≡ true → FoundBreaks (theory_of theory) lemma (newest_first entries)
   pub satisfies : (theory : WrittenTheory) → IsSearched theory → (lemma : Lemma) → IsBasicFormula (signature_of (theory_of theory)) lemma.formula
-      → names_learning lemma.formula ≡ false → (g : Guarded) → checked_form lemma.formula ≡ Some g
+      → (g : Guarded) → checked_form lemma.formula ≡ Some g
       → (entries : List Entry) → is_log (signature_of (theory_of theory)) (rules_of (theory_of theory)).forms entries ≡ true
       → list_all (decided (log_trace (newest_first entries)) empty) (restriction_forms theory.restrictions ++ g ∷ []) ≡ true → FoundSatisfies (theory_of theory) lemma (newest_first entries)
 

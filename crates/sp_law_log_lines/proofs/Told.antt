@@ -18,6 +18,7 @@ use Rattle.sp_spec_printed.specs.StepLines.{HaveNames, IsGiven}
 use Rattle.sp_law_printed_log.specs.Shown.{shown_names, numbered_names, no_variable, HasNames, LogHasNames, IsNamedRule}
 use Rattle.sp_law_printed_log.proofs.Writable.{term_writable}
 use Rattle.sp_law_printed_log.proofs.GivenNames.{given_each, form_given_named}
+use Rattle.sp_law_printed_log.proofs.LogSteps.{stand_in_shown, sent_over}
 use Rattle.sp_law_printed_log.proofs.CandidateNames.{every_newest}
 use Rattle.sp_spec_log_lines.specs.Line.{Giving, line_of, line_text}
 use Rattle.sp_spec_log_lines.specs.Told.{IsWritableLine, IsInstanceBy, IsSaidOf, TellOf}
@@ -27,11 +28,6 @@ use Rattle.sp_law_log_lines.specs.Laws.{LogsAreTold}
 
 abbrev Given : Type 0
 Given = List ℕ × Ground
-
-stand_in_shown : (s : Sort) → HasNames shown_names (stand_in s)
-stand_in_shown Msg = (refl, (refl, tt))
-stand_in_shown Fresh = omega arith
-stand_in_shown Pub = (refl, (refl, tt))
 
 module _ (theory : Theory) (good : IsRunnable theory) (symbols_named : HaveNames (signature_of theory).symbols) (named : Every IsNamedRule theory.rules) where
   abbrev es : List Equation
@@ -90,12 +86,7 @@ module _ (theory : Theory) (good : IsRunnable theory) (symbols_named : HaveNames
 
   -- ---- a log
 
-  -- what is sent and learnt is over the symbols
-  sent_over : (m : Ground) (past : Log) → IsLog theory (send m ∷ past) → IsOver symbols m
-  sent_over m past is =
-      let over = holds_in_log theory (IsOver symbols) (AreOver symbols) (over_lasts theory good.executable.instances) (send m ∷ past) is in
-      (over.messages (length past) (send m) (inl (refl, refl))).0
-
+  -- what is learnt is over the symbols
   learnt_over : (m : Ground) (how : How) (past : Log) → IsLog theory (learn m how ∷ past) → IsOver symbols m
   learnt_over m how past is =
       let over = holds_in_log theory (IsOver symbols) (AreOver symbols) (over_lasts theory good.executable.instances) (learn m how ∷ past) is in
@@ -106,7 +97,7 @@ module _ (theory : Theory) (good : IsRunnable theory) (symbols_named : HaveNames
   each_told (step r facts sources ∷ past) is shown =
       (step_told r facts (found theory good.executable r facts (is.1 rule_instance)) sources shown.0, each_told past is.0 shown.1)
   each_told (send m ∷ past) is shown =
-      (λ numbered. (term_writable symbols m (sent_over m past is) shown.0 numbered, refl), each_told past is.0 shown.1)
+      (λ numbered. (term_writable symbols m (sent_over theory good named m past is) shown.0 numbered, refl), each_told past is.0 shown.1)
   each_told (learn m how ∷ past) is shown =
       (λ numbered. (term_writable symbols m (learnt_over m how past is) shown.0.0 numbered, (refl, refl)), each_told past is.0 shown.1)
 

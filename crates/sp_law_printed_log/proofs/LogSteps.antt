@@ -75,7 +75,7 @@ fresh_named N (f ∷ fs) h = every_append (HasNames N) (if is_fr f then first_ar
     by_test true = first f.args h.0
     by_test false = tt
 
-stand_in_shown : (s : Sort) → HasNames shown_names (stand_in s)
+pub stand_in_shown : (s : Sort) → HasNames shown_names (stand_in s)
 stand_in_shown Msg = (refl, (refl, tt))
 stand_in_shown Fresh = omega arith
 stand_in_shown Pub = (refl, (refl, tt))
@@ -161,7 +161,7 @@ module _ (theory : Theory) (good : IsRunnable theory) (named : Every IsNamedRule
   with_entry_shown (a ∷ actions) trace h k = (h, k)
 
   -- what is sent is over the symbols
-  sent_over : (m : Ground) (past : Log) → IsLog theory (send m ∷ past) → IsOver symbols m
+  pub sent_over : (m : Ground) (past : Log) → IsLog theory (send m ∷ past) → IsOver symbols m
   sent_over m past is =
       let over = holds_in_log theory (IsOver symbols) (AreOver symbols) (over_lasts theory good.executable.instances) (send m ∷ past) is in
       (over.messages (length past) (send m) (inl (refl, refl))).0

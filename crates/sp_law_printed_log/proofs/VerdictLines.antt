@@ -1,8 +1,8 @@
--- The line of a verdict fixes the lemma's name, its kind and the verdict.
-use Rattle.std.proofs.Common.{◌≡◌, ℕ, zero, suc, List, [], ◌∷◌, ◌++◌, codes, refl, sym, ap, ◌∙◌, append_assoc, arith}
+-- The line of a verdict fixes the lemma's name, its kind, what it is read over, and the verdict.
+use Rattle.std.proofs.Common.{◌≡◌, ℕ, zero, suc, Bool, true, false, List, [], ◌∷◌, ◌++◌, codes, refl, sym, ap, ◌∙◌, append_assoc, arith}
 use Rattle.std.specs.Prelude.{decimal}
 use Rattle.sp_spec.specs.Theory.{TraceKind, all_traces, exists_trace}
-use Rattle.sp_spec_printed.specs.Kind.{kind_text}
+use Rattle.sp_spec_printed.specs.Kind.{kind_text, reading_text, kind_read}
 use Rattle.sp_spec_printed.specs.Verdict.{Clause, clause_move, clause_instance, clause_cases, Verdict, verified, falsified, incomplete, rejected, clause_text, falsified_text, verdict_text, summary_line}
 use Rattle.sp_spec_text.specs.Names.{IsWord}
 use Rattle.sp_law_printed_log.proofs.NoFeeds.{NoFeed, no_feed_append, no_feed_in, no_feed_word, without_blank, decimal_no_blank}
@@ -19,8 +19,8 @@ verdict_words kind falsified n = falsified_text kind ++ counted_words n
 verdict_words kind incomplete n = codes "analysis incomplete" ++ counted_words n
 verdict_words kind (rejected step clause) n = codes "rejected at step " ++ (decimal step ++ (codes " (" ++ (clause_text clause ++ codes ")")))
 
-abbrev pub verdict_line : List ℕ → TraceKind → Verdict → ℕ → List ℕ
-verdict_line name kind verdict n = name ++ 32 ∷ 40 ∷ (kind_text kind ++ (codes "): " ++ verdict_words kind verdict n))
+abbrev pub verdict_line : List ℕ → TraceKind → Bool → Verdict → ℕ → List ℕ
+verdict_line name kind marked verdict n = name ++ 32 ∷ 40 ∷ (kind_read kind marked ++ (codes "): " ++ verdict_words kind verdict n))
 
 counted_text : (front : List ℕ) (n : ℕ) → front ++ (codes " (" ++ (decimal n ++ codes " steps)\n")) ≡ (front ++ counted_words n) ++ 10 ∷ []
 counted_text front n =
@@ -38,11 +38,11 @@ words_text kind falsified n = counted_text (falsified_text kind) n
 words_text kind incomplete n = counted_text (codes "analysis incomplete") n
 words_text kind (rejected step clause) n = rejected_text step clause
 
-pub summary_cut : (name : List ℕ) (kind : TraceKind) (verdict : Verdict) (n : ℕ) → summary_line name kind verdict n ≡ verdict_line name kind verdict n ++ 10 ∷ []
-summary_cut name kind verdict n =
-    ap (λ (xs : List ℕ). name ++ (codes " (" ++ (kind_text kind ++ (codes "): " ++ xs)))) (words_text kind verdict n)
-    ∙ ap (λ (xs : List ℕ). name ++ (codes " (" ++ xs)) (sym (append_assoc (kind_text kind) (codes "): " ++ verdict_words kind verdict n) (10 ∷ [])))
-    ∙ sym (append_assoc name (codes " (" ++ (kind_text kind ++ (codes "): " ++ verdict_words kind verdict n))) (10 ∷ []))
+pub summary_cut : (name : List ℕ) (kind : TraceKind) (marked : Bool) (verdict : Verdict) (n : ℕ) → summary_line name kind marked verdict n ≡ verdict_line name kind marked verdict n ++ 10 ∷ []
+summary_cut name kind marked verdict n =
+    ap (λ (xs : List ℕ). name ++ (codes " (" ++ (kind_read kind marked ++ (codes "): " ++ xs)))) (words_text kind verdict n)
+    ∙ ap (λ (xs : List ℕ). name ++ (codes " (" ++ xs)) (sym (append_assoc (kind_read kind marked) (codes "): " ++ verdict_words kind verdict n) (10 ∷ [])))
+    ∙ sym (append_assoc name (codes " (" ++ (kind_read kind marked ++ (codes "): " ++ verdict_words kind verdict n))) (10 ∷ []))
 
 -- ---- which verdict a line tells
 
@@ -52,9 +52,10 @@ byte_at k [] = 0
 byte_at zero (b ∷ bytes) = b
 byte_at (suc k) (b ∷ bytes) = byte_at k bytes
 
-pub record Tells (name other : List ℕ) (kind wanted : TraceKind) (verdict said : Verdict) : Type 0 where
+pub record Tells (name other : List ℕ) (kind wanted : TraceKind) (marked read : Bool) (verdict said : Verdict) : Type 0 where
   pub name_is : name ≡ other
   pub kind_is : kind ≡ wanted
+  pub reading_is : marked ≡ read
   pub verdict_is : verdict ≡ said
 
 module _ (name other : List ℕ) (is_word : IsWord name) (is_other : IsWord other) where
@@ -64,59 +65,151 @@ module _ (name other : List ℕ) (is_word : IsWord name) (is_other : IsWord othe
       let o : 40 ∷ xs ≡ 40 ∷ ys = s.others in
       (s.words, cc)
 
-  pub tells_verified : (kind : TraceKind) (verdict : Verdict) (n k : ℕ)
-      → name ++ (codes " (all-traces): verified (" ++ (decimal n ++ codes " steps)")) ≡ verdict_line other kind verdict k → Tells other name kind all_traces verdict verified
-  tells_verified kind verdict n k e = at kind verdict (behind (codes "all-traces): verified (" ++ (decimal n ++ codes " steps)")) (kind_text kind ++ (codes "): " ++ verdict_words kind verdict k)) e)
+  pub tells_verified : (kind : TraceKind) (marked : Bool) (verdict : Verdict) (n k : ℕ)
+      → name ++ (codes " (all-traces): verified (" ++ (decimal n ++ codes " steps)")) ≡ verdict_line other kind marked verdict k
+      → Tells other name kind all_traces marked false verdict verified
+  tells_verified kind marked verdict n k e =
+      at kind marked verdict (behind (codes "all-traces): verified (" ++ (decimal n ++ codes " steps)")) (kind_read kind marked ++ (codes "): " ++ verdict_words kind verdict k)) e)
     where
-      at : (kind : TraceKind) (verdict : Verdict) → (name ≡ other) × (codes "all-traces): verified (" ++ (decimal n ++ codes " steps)") ≡ kind_text kind ++ (codes "): " ++ verdict_words kind verdict k))
-          → Tells other name kind all_traces verdict verified
-      at all_traces verified s = record { name_is = sym s.0; kind_is = refl; verdict_is = refl }
-      at all_traces falsified s = let f : 118 ≡ 102 = ap (byte_at 13) s.1 in absurd (omega (arith, f))
-      at all_traces incomplete s = let f : 118 ≡ 97 = ap (byte_at 13) s.1 in absurd (omega (arith, f))
-      at all_traces (rejected step clause) s = let f : 118 ≡ 114 = ap (byte_at 13) s.1 in absurd (omega (arith, f))
-      at exists_trace verdict s = let f : 97 ≡ 101 = ap (byte_at 0) s.1 in absurd (omega (arith, f))
+      at : (kind : TraceKind) (marked : Bool) (verdict : Verdict)
+          → (name ≡ other) × (codes "all-traces): verified (" ++ (decimal n ++ codes " steps)") ≡ kind_read kind marked ++ (codes "): " ++ verdict_words kind verdict k))
+          → Tells other name kind all_traces marked false verdict verified
+      at all_traces false verified s = record { name_is = sym s.0; kind_is = refl; reading_is = refl; verdict_is = refl }
+      at all_traces false falsified s = let f : 118 ≡ 102 = ap (byte_at 13) s.1 in absurd (omega (arith, f))
+      at all_traces false incomplete s = let f : 118 ≡ 97 = ap (byte_at 13) s.1 in absurd (omega (arith, f))
+      at all_traces false (rejected step clause) s = let f : 118 ≡ 114 = ap (byte_at 13) s.1 in absurd (omega (arith, f))
+      at all_traces true verdict s = let f : 41 ≡ 44 = ap (byte_at 10) s.1 in absurd (omega (arith, f))
+      at exists_trace true verdict s = let f : 97 ≡ 101 = ap (byte_at 0) s.1 in absurd (omega (arith, f))
+      at exists_trace false verdict s = let f : 97 ≡ 101 = ap (byte_at 0) s.1 in absurd (omega (arith, f))
 
-  pub tells_attack : (kind : TraceKind) (verdict : Verdict) (n k : ℕ)
-      → name ++ (codes " (all-traces): falsified - found trace (" ++ (decimal n ++ codes " steps)")) ≡ verdict_line other kind verdict k → Tells other name kind all_traces verdict falsified
-  tells_attack kind verdict n k e = at kind verdict (behind (codes "all-traces): falsified - found trace (" ++ (decimal n ++ codes " steps)")) (kind_text kind ++ (codes "): " ++ verdict_words kind verdict k)) e)
+  pub tells_attack : (kind : TraceKind) (marked : Bool) (verdict : Verdict) (n k : ℕ)
+      → name ++ (codes " (all-traces): falsified - found trace (" ++ (decimal n ++ codes " steps)")) ≡ verdict_line other kind marked verdict k
+      → Tells other name kind all_traces marked false verdict falsified
+  tells_attack kind marked verdict n k e =
+      at kind marked verdict (behind (codes "all-traces): falsified - found trace (" ++ (decimal n ++ codes " steps)")) (kind_read kind marked ++ (codes "): " ++ verdict_words kind verdict k)) e)
     where
-      at : (kind : TraceKind) (verdict : Verdict) → (name ≡ other) × (codes "all-traces): falsified - found trace (" ++ (decimal n ++ codes " steps)") ≡ kind_text kind ++ (codes "): " ++ verdict_words kind verdict k))
-          → Tells other name kind all_traces verdict falsified
-      at all_traces verified s = let f : 102 ≡ 118 = ap (byte_at 13) s.1 in absurd (omega (arith, f))
-      at all_traces falsified s = record { name_is = sym s.0; kind_is = refl; verdict_is = refl }
-      at all_traces incomplete s = let f : 102 ≡ 97 = ap (byte_at 13) s.1 in absurd (omega (arith, f))
-      at all_traces (rejected step clause) s = let f : 102 ≡ 114 = ap (byte_at 13) s.1 in absurd (omega (arith, f))
-      at exists_trace verdict s = let f : 97 ≡ 101 = ap (byte_at 0) s.1 in absurd (omega (arith, f))
+      at : (kind : TraceKind) (marked : Bool) (verdict : Verdict)
+          → (name ≡ other) × (codes "all-traces): falsified - found trace (" ++ (decimal n ++ codes " steps)") ≡ kind_read kind marked ++ (codes "): " ++ verdict_words kind verdict k))
+          → Tells other name kind all_traces marked false verdict falsified
+      at all_traces false verified s = let f : 102 ≡ 118 = ap (byte_at 13) s.1 in absurd (omega (arith, f))
+      at all_traces false falsified s = record { name_is = sym s.0; kind_is = refl; reading_is = refl; verdict_is = refl }
+      at all_traces false incomplete s = let f : 102 ≡ 97 = ap (byte_at 13) s.1 in absurd (omega (arith, f))
+      at all_traces false (rejected step clause) s = let f : 102 ≡ 114 = ap (byte_at 13) s.1 in absurd (omega (arith, f))
+      at all_traces true verdict s = let f : 41 ≡ 44 = ap (byte_at 10) s.1 in absurd (omega (arith, f))
+      at exists_trace true verdict s = let f : 97 ≡ 101 = ap (byte_at 0) s.1 in absurd (omega (arith, f))
+      at exists_trace false verdict s = let f : 97 ≡ 101 = ap (byte_at 0) s.1 in absurd (omega (arith, f))
 
-  pub tells_witness : (kind : TraceKind) (verdict : Verdict) (n k : ℕ)
-      → name ++ (codes " (exists-trace): verified (" ++ (decimal n ++ codes " steps)")) ≡ verdict_line other kind verdict k → Tells other name kind exists_trace verdict verified
-  tells_witness kind verdict n k e = at kind verdict (behind (codes "exists-trace): verified (" ++ (decimal n ++ codes " steps)")) (kind_text kind ++ (codes "): " ++ verdict_words kind verdict k)) e)
+  pub tells_witness : (kind : TraceKind) (marked : Bool) (verdict : Verdict) (n k : ℕ)
+      → name ++ (codes " (exists-trace): verified (" ++ (decimal n ++ codes " steps)")) ≡ verdict_line other kind marked verdict k
+      → Tells other name kind exists_trace marked false verdict verified
+  tells_witness kind marked verdict n k e =
+      at kind marked verdict (behind (codes "exists-trace): verified (" ++ (decimal n ++ codes " steps)")) (kind_read kind marked ++ (codes "): " ++ verdict_words kind verdict k)) e)
     where
-      at : (kind : TraceKind) (verdict : Verdict) → (name ≡ other) × (codes "exists-trace): verified (" ++ (decimal n ++ codes " steps)") ≡ kind_text kind ++ (codes "): " ++ verdict_words kind verdict k))
-          → Tells other name kind exists_trace verdict verified
-      at exists_trace verified s = record { name_is = sym s.0; kind_is = refl; verdict_is = refl }
-      at exists_trace falsified s = let f : 118 ≡ 102 = ap (byte_at 15) s.1 in absurd (omega (arith, f))
-      at exists_trace incomplete s = let f : 118 ≡ 97 = ap (byte_at 15) s.1 in absurd (omega (arith, f))
-      at exists_trace (rejected step clause) s = let f : 118 ≡ 114 = ap (byte_at 15) s.1 in absurd (omega (arith, f))
-      at all_traces verdict s = let f : 101 ≡ 97 = ap (byte_at 0) s.1 in absurd (omega (arith, f))
+      at : (kind : TraceKind) (marked : Bool) (verdict : Verdict)
+          → (name ≡ other) × (codes "exists-trace): verified (" ++ (decimal n ++ codes " steps)") ≡ kind_read kind marked ++ (codes "): " ++ verdict_words kind verdict k))
+          → Tells other name kind exists_trace marked false verdict verified
+      at exists_trace false verified s = record { name_is = sym s.0; kind_is = refl; reading_is = refl; verdict_is = refl }
+      at exists_trace false falsified s = let f : 118 ≡ 102 = ap (byte_at 15) s.1 in absurd (omega (arith, f))
+      at exists_trace false incomplete s = let f : 118 ≡ 97 = ap (byte_at 15) s.1 in absurd (omega (arith, f))
+      at exists_trace false (rejected step clause) s = let f : 118 ≡ 114 = ap (byte_at 15) s.1 in absurd (omega (arith, f))
+      at exists_trace true verdict s = let f : 41 ≡ 44 = ap (byte_at 12) s.1 in absurd (omega (arith, f))
+      at all_traces true verdict s = let f : 101 ≡ 97 = ap (byte_at 0) s.1 in absurd (omega (arith, f))
+      at all_traces false verdict s = let f : 101 ≡ 97 = ap (byte_at 0) s.1 in absurd (omega (arith, f))
 
-  pub tells_none : (kind : TraceKind) (verdict : Verdict) (n k : ℕ)
-      → name ++ (codes " (exists-trace): falsified - no trace found (" ++ (decimal n ++ codes " steps)")) ≡ verdict_line other kind verdict k → Tells other name kind exists_trace verdict falsified
-  tells_none kind verdict n k e = at kind verdict (behind (codes "exists-trace): falsified - no trace found (" ++ (decimal n ++ codes " steps)")) (kind_text kind ++ (codes "): " ++ verdict_words kind verdict k)) e)
+  pub tells_none : (kind : TraceKind) (marked : Bool) (verdict : Verdict) (n k : ℕ)
+      → name ++ (codes " (exists-trace): falsified - no trace found (" ++ (decimal n ++ codes " steps)")) ≡ verdict_line other kind marked verdict k
+      → Tells other name kind exists_trace marked false verdict falsified
+  tells_none kind marked verdict n k e =
+      at kind marked verdict (behind (codes "exists-trace): falsified - no trace found (" ++ (decimal n ++ codes " steps)")) (kind_read kind marked ++ (codes "): " ++ verdict_words kind verdict k)) e)
     where
-      at : (kind : TraceKind) (verdict : Verdict) → (name ≡ other) × (codes "exists-trace): falsified - no trace found (" ++ (decimal n ++ codes " steps)") ≡ kind_text kind ++ (codes "): " ++ verdict_words kind verdict k))
-          → Tells other name kind exists_trace verdict falsified
-      at exists_trace verified s = let f : 102 ≡ 118 = ap (byte_at 15) s.1 in absurd (omega (arith, f))
-      at exists_trace falsified s = record { name_is = sym s.0; kind_is = refl; verdict_is = refl }
-      at exists_trace incomplete s = let f : 102 ≡ 97 = ap (byte_at 15) s.1 in absurd (omega (arith, f))
-      at exists_trace (rejected step clause) s = let f : 102 ≡ 114 = ap (byte_at 15) s.1 in absurd (omega (arith, f))
-      at all_traces verdict s = let f : 101 ≡ 97 = ap (byte_at 0) s.1 in absurd (omega (arith, f))
+      at : (kind : TraceKind) (marked : Bool) (verdict : Verdict)
+          → (name ≡ other) × (codes "exists-trace): falsified - no trace found (" ++ (decimal n ++ codes " steps)") ≡ kind_read kind marked ++ (codes "): " ++ verdict_words kind verdict k))
+          → Tells other name kind exists_trace marked false verdict falsified
+      at exists_trace false verified s = let f : 102 ≡ 118 = ap (byte_at 15) s.1 in absurd (omega (arith, f))
+      at exists_trace false falsified s = record { name_is = sym s.0; kind_is = refl; reading_is = refl; verdict_is = refl }
+      at exists_trace false incomplete s = let f : 102 ≡ 97 = ap (byte_at 15) s.1 in absurd (omega (arith, f))
+      at exists_trace false (rejected step clause) s = let f : 102 ≡ 114 = ap (byte_at 15) s.1 in absurd (omega (arith, f))
+      at exists_trace true verdict s = let f : 41 ≡ 44 = ap (byte_at 12) s.1 in absurd (omega (arith, f))
+      at all_traces true verdict s = let f : 101 ≡ 97 = ap (byte_at 0) s.1 in absurd (omega (arith, f))
+      at all_traces false verdict s = let f : 101 ≡ 97 = ap (byte_at 0) s.1 in absurd (omega (arith, f))
+
+  pub tells_logs_verified : (kind : TraceKind) (marked : Bool) (verdict : Verdict) (n k : ℕ)
+      → name ++ (codes " (all-traces, over learning logs): verified (" ++ (decimal n ++ codes " steps)")) ≡ verdict_line other kind marked verdict k
+      → Tells other name kind all_traces marked true verdict verified
+  tells_logs_verified kind marked verdict n k e =
+      at kind marked verdict (behind (codes "all-traces, over learning logs): verified (" ++ (decimal n ++ codes " steps)")) (kind_read kind marked ++ (codes "): " ++ verdict_words kind verdict k)) e)
+    where
+      at : (kind : TraceKind) (marked : Bool) (verdict : Verdict)
+          → (name ≡ other) × (codes "all-traces, over learning logs): verified (" ++ (decimal n ++ codes " steps)") ≡ kind_read kind marked ++ (codes "): " ++ verdict_words kind verdict k))
+          → Tells other name kind all_traces marked true verdict verified
+      at all_traces true verified s = record { name_is = sym s.0; kind_is = refl; reading_is = refl; verdict_is = refl }
+      at all_traces true falsified s = let f : 118 ≡ 102 = ap (byte_at 33) s.1 in absurd (omega (arith, f))
+      at all_traces true incomplete s = let f : 118 ≡ 97 = ap (byte_at 33) s.1 in absurd (omega (arith, f))
+      at all_traces true (rejected step clause) s = let f : 118 ≡ 114 = ap (byte_at 33) s.1 in absurd (omega (arith, f))
+      at all_traces false verdict s = let f : 44 ≡ 41 = ap (byte_at 10) s.1 in absurd (omega (arith, f))
+      at exists_trace true verdict s = let f : 97 ≡ 101 = ap (byte_at 0) s.1 in absurd (omega (arith, f))
+      at exists_trace false verdict s = let f : 97 ≡ 101 = ap (byte_at 0) s.1 in absurd (omega (arith, f))
+
+  pub tells_logs_attack : (kind : TraceKind) (marked : Bool) (verdict : Verdict) (n k : ℕ)
+      → name ++ (codes " (all-traces, over learning logs): falsified - found trace (" ++ (decimal n ++ codes " steps)")) ≡ verdict_line other kind marked verdict k
+      → Tells other name kind all_traces marked true verdict falsified
+  tells_logs_attack kind marked verdict n k e =
+      at kind marked verdict (behind (codes "all-traces, over learning logs): falsified - found trace (" ++ (decimal n ++ codes " steps)")) (kind_read kind marked ++ (codes "): " ++ verdict_words kind verdict k)) e)
+    where
+      at : (kind : TraceKind) (marked : Bool) (verdict : Verdict)
+          → (name ≡ other) × (codes "all-traces, over learning logs): falsified - found trace (" ++ (decimal n ++ codes " steps)") ≡ kind_read kind marked ++ (codes "): " ++ verdict_words kind verdict k))
+          → Tells other name kind all_traces marked true verdict falsified
+      at all_traces true verified s = let f : 102 ≡ 118 = ap (byte_at 33) s.1 in absurd (omega (arith, f))
+      at all_traces true falsified s = record { name_is = sym s.0; kind_is = refl; reading_is = refl; verdict_is = refl }
+      at all_traces true incomplete s = let f : 102 ≡ 97 = ap (byte_at 33) s.1 in absurd (omega (arith, f))
+      at all_traces true (rejected step clause) s = let f : 102 ≡ 114 = ap (byte_at 33) s.1 in absurd (omega (arith, f))
+      at all_traces false verdict s = let f : 44 ≡ 41 = ap (byte_at 10) s.1 in absurd (omega (arith, f))
+      at exists_trace true verdict s = let f : 97 ≡ 101 = ap (byte_at 0) s.1 in absurd (omega (arith, f))
+      at exists_trace false verdict s = let f : 97 ≡ 101 = ap (byte_at 0) s.1 in absurd (omega (arith, f))
+
+  pub tells_logs_witness : (kind : TraceKind) (marked : Bool) (verdict : Verdict) (n k : ℕ)
+      → name ++ (codes " (exists-trace, over learning logs): verified (" ++ (decimal n ++ codes " steps)")) ≡ verdict_line other kind marked verdict k
+      → Tells other name kind exists_trace marked true verdict verified
+  tells_logs_witness kind marked verdict n k e =
+      at kind marked verdict (behind (codes "exists-trace, over learning logs): verified (" ++ (decimal n ++ codes " steps)")) (kind_read kind marked ++ (codes "): " ++ verdict_words kind verdict k)) e)
+    where
+      at : (kind : TraceKind) (marked : Bool) (verdict : Verdict)
+          → (name ≡ other) × (codes "exists-trace, over learning logs): verified (" ++ (decimal n ++ codes " steps)") ≡ kind_read kind marked ++ (codes "): " ++ verdict_words kind verdict k))
+          → Tells other name kind exists_trace marked true verdict verified
+      at exists_trace true verified s = record { name_is = sym s.0; kind_is = refl; reading_is = refl; verdict_is = refl }
+      at exists_trace true falsified s = let f : 118 ≡ 102 = ap (byte_at 35) s.1 in absurd (omega (arith, f))
+      at exists_trace true incomplete s = let f : 118 ≡ 97 = ap (byte_at 35) s.1 in absurd (omega (arith, f))
+      at exists_trace true (rejected step clause) s = let f : 118 ≡ 114 = ap (byte_at 35) s.1 in absurd (omega (arith, f))
+      at exists_trace false verdict s = let f : 44 ≡ 41 = ap (byte_at 12) s.1 in absurd (omega (arith, f))
+      at all_traces true verdict s = let f : 101 ≡ 97 = ap (byte_at 0) s.1 in absurd (omega (arith, f))
+      at all_traces false verdict s = let f : 101 ≡ 97 = ap (byte_at 0) s.1 in absurd (omega (arith, f))
+
+  pub tells_logs_none : (kind : TraceKind) (marked : Bool) (verdict : Verdict) (n k : ℕ)
+      → name ++ (codes " (exists-trace, over learning logs): falsified - no trace found (" ++ (decimal n ++ codes " steps)")) ≡ verdict_line other kind marked verdict k
+      → Tells other name kind exists_trace marked true verdict falsified
+  tells_logs_none kind marked verdict n k e =
+      at kind marked verdict (behind (codes "exists-trace, over learning logs): falsified - no trace found (" ++ (decimal n ++ codes " steps)")) (kind_read kind marked ++ (codes "): " ++ verdict_words kind verdict k)) e)
+    where
+      at : (kind : TraceKind) (marked : Bool) (verdict : Verdict)
+          → (name ≡ other) × (codes "exists-trace, over learning logs): falsified - no trace found (" ++ (decimal n ++ codes " steps)") ≡ kind_read kind marked ++ (codes "): " ++ verdict_words kind verdict k))
+          → Tells other name kind exists_trace marked true verdict falsified
+      at exists_trace true verified s = let f : 102 ≡ 118 = ap (byte_at 35) s.1 in absurd (omega (arith, f))
+      at exists_trace true falsified s = record { name_is = sym s.0; kind_is = refl; reading_is = refl; verdict_is = refl }
+      at exists_trace true incomplete s = let f : 102 ≡ 97 = ap (byte_at 35) s.1 in absurd (omega (arith, f))
+      at exists_trace true (rejected step clause) s = let f : 102 ≡ 114 = ap (byte_at 35) s.1 in absurd (omega (arith, f))
+      at exists_trace false verdict s = let f : 44 ≡ 41 = ap (byte_at 12) s.1 in absurd (omega (arith, f))
+      at all_traces true verdict s = let f : 101 ≡ 97 = ap (byte_at 0) s.1 in absurd (omega (arith, f))
+      at all_traces false verdict s = let f : 101 ≡ 97 = ap (byte_at 0) s.1 in absurd (omega (arith, f))
 
 -- ---- a line of a summary is one line
 
 kind_no_feed : (kind : TraceKind) → NoFeed (kind_text kind)
 kind_no_feed all_traces = no_feed_in (codes "all-traces") refl
 kind_no_feed exists_trace = no_feed_in (codes "exists-trace") refl
+
+reading_no_feed : (marked : Bool) → NoFeed (reading_text marked)
+reading_no_feed true = no_feed_in (codes ", over learning logs") refl
+reading_no_feed false = no_feed_in [] refl
 
 clause_no_feed : (clause : Clause) → NoFeed (clause_text clause)
 clause_no_feed clause_move = no_feed_in (codes "move") refl
@@ -140,8 +233,10 @@ words_no_feed kind (rejected step clause) n =
     no_feed_append (codes "rejected at step ") (decimal step ++ (codes " (" ++ (clause_text clause ++ codes ")"))) (no_feed_in (codes "rejected at step ") refl)
     (no_feed_append (decimal step) (codes " (" ++ (clause_text clause ++ codes ")")) (without_blank (decimal step) (decimal_no_blank step)) behind_step)
 
-pub verdict_no_feed : (name : List ℕ) (kind : TraceKind) (verdict : Verdict) (n : ℕ) → IsWord name → NoFeed (verdict_line name kind verdict n)
-verdict_no_feed name kind verdict n h =
+pub verdict_no_feed : (name : List ℕ) (kind : TraceKind) (marked : Bool) (verdict : Verdict) (n : ℕ) → IsWord name → NoFeed (verdict_line name kind marked verdict n)
+verdict_no_feed name kind marked verdict n h =
     let words = no_feed_append (codes "): ") (verdict_words kind verdict n) (no_feed_in (codes "): ") refl) (words_no_feed kind verdict n) in
-    let told = no_feed_append (kind_text kind) (codes "): " ++ verdict_words kind verdict n) (kind_no_feed kind) words in
-    no_feed_append name (codes " (" ++ (kind_text kind ++ (codes "): " ++ verdict_words kind verdict n))) (no_feed_word name h) (no_feed_append (codes " (") (kind_text kind ++ (codes "): " ++ verdict_words kind verdict n)) (no_feed_in (codes " (") refl) told)
+    let read = no_feed_append (kind_text kind) (reading_text marked) (kind_no_feed kind) (reading_no_feed marked) in
+    let told = no_feed_append (kind_read kind marked) (codes "): " ++ verdict_words kind verdict n) read words in
+    no_feed_append name (codes " (" ++ (kind_read kind marked ++ (codes "): " ++ verdict_words kind verdict n))) (no_feed_word name h)
+    (no_feed_append (codes " (") (kind_read kind marked ++ (codes "): " ++ verdict_words kind verdict n)) (no_feed_in (codes " (") refl) told)

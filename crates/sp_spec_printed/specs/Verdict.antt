@@ -1,8 +1,8 @@
 -- What is said of lemmas, in words. Source of the shape: Tamarin manual, "Output"; the words are this project's own.
-use Rattle.std.specs.Prelude.{ℕ, List, ◌++◌, codes, decimal, Option, Some, None}
+use Rattle.std.specs.Prelude.{ℕ, Bool, List, ◌++◌, codes, decimal, Option, Some, None}
 use Rattle.sp_spec.specs.Theory.{TraceKind, all_traces, exists_trace}
 use Rattle.sp_spec.specs.Log.{Log}
-use Rattle.sp_spec_printed.specs.Kind.{kind_text}
+use Rattle.sp_spec_printed.specs.Kind.{kind_read}
 
 -- What a node of a proof can fail of, in the order in which it is told: its text is no move's; its move is no instance; its branches don't
 -- have the names of the move's cases, one by one in their order.
@@ -50,5 +50,5 @@ verdict_text kind incomplete n = codes "analysis incomplete" ++ in_steps n
 verdict_text kind (rejected step clause) n = codes "rejected at step " ++ (decimal step ++ (codes " (" ++ (clause_text clause ++ codes ")\n")))
 
 -- the line of a lemma in the summary
-abbrev pub summary_line : List ℕ → TraceKind → Verdict → ℕ → List ℕ
-summary_line name kind verdict n = name ++ (codes " (" ++ (kind_text kind ++ (codes "): " ++ verdict_text kind verdict n)))
+abbrev pub summary_line : List ℕ → TraceKind → Bool → Verdict → ℕ → List ℕ
+summary_line name kind marked verdict n = name ++ (codes " (" ++ (kind_read kind marked ++ (codes "): " ++ verdict_text kind verdict n)))
