@@ -9,4 +9,3 @@ pub mod Constructors
 pub mod Known
 pub mod BasicTheories
 pub mod NumberedFacts
-pub mod WaitingItems

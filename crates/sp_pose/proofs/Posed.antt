@@ -1,5 +1,5 @@
 -- What was read poses what the text poses.
-use Rattle.std.proofs.Common.{◌≡◌, ◌≤◌, ℕ, Bool, true, false, nat_eq, arith, List, [], ◌∷◌, map, length, Option, Some, None, option_map, option_and_then, refl, sym, ap, ◌∙◌, subst}
+use Rattle.std.proofs.Common.{◌≡◌, ◌≤◌, ℕ, true, false, nat_eq, arith, List, [], ◌∷◌, map, length, Option, Some, None, option_map, option_and_then, refl, sym, ap, ◌∙◌, subst}
 use Rattle.std.proofs.lemmas.List.{nil_from_length}
 use Rattle.sp_spec.specs.Lists.{Every}
 use Rattle.sp_spec.specs.Signature.{Symbol, Equation, Signature}
@@ -11,7 +11,6 @@ use Rattle.sp_declared.proofs.WrittenRules.{rules_all}
 use Rattle.sp_declared.proofs.Theory.{theory_constants}
 use Rattle.sp_spec_text.specs.Written as written
 use Rattle.sp_spec_text.specs.Written.{WrittenText, restrictions_in, lemmas_in}
-use Rattle.sp_pose.specs.Waiting.{waits}
 use Rattle.sp_spec_text.specs.Declared.{all_symbols, resolved_item, resolved, Numbered, all_equations, their_equations, theory_in}
 use Rattle.sp_spec_text.specs.Spans.{Span, Rise}
 use Rattle.sp_written.specs.Views as view
@@ -101,11 +100,11 @@ signature_same t symbols numbered seen s e f g h =
     ∙ ap (λ (u : WrittenText). made_of (all_symbols t.items) (all_equations u.items)) (resolved_same t symbols seen e f)
 
 -- what was made of it is what the text poses
-pub made : {text : List ℕ} (t : WrittenText) (read theory : ReadTheory) (s : Signature) (waiting : Bool) (p : Problem) → Poses text t → view.theory theory ≡ resolved t
+pub made : {text : List ℕ} (t : WrittenText) (read theory : ReadTheory) (s : Signature) (p : Problem) → Poses text t → view.theory theory ≡ resolved t
     → s ≡ signature_of (theory_of (theory_in t)) → view.spans theory.items.items ≡ view.spans read.items.items → theory.behind_end ≡ read.behind_end
     → ArePlaces text t (view.spans read.items.items) read.behind_end → Rise text 0 (view.spans read.items.items) read.behind_end → read.behind_end ≤ length text
-    → waiting ≡ waits t → IsMadeOf s waiting theory p → IsPosedBy text p
-made {text = text} t read theory s waiting p posing is over spans end places rise within w h =
+    → IsMadeOf s theory p → IsPosedBy text p
+made {text = text} t read theory s p posing is over spans end places rise within h =
     let items : view.items theory.items.items ≡ (resolved t).items = ap (λ (u : WrittenText). u.items) is in
     let behind : p.behind_end ≡ read.behind_end = h.end_is ∙ end in
     record {
@@ -118,7 +117,6 @@ made {text = text} t read theory s waiting p posing is over spans end places ris
       constants_are = h.constants_are ∙ theory_constants t (view.items theory.items.items) items;
       restrictions_are = h.restrictions_are ∙ ap (λ (xs : List written.Item). all_required (restrictions_in xs)) items;
       lemmas_are = h.lemmas_are;
-      waits_is = h.waits_is ∙ w;
       places_are = subst (λ (ss : List Span). ArePlaces text t ss p.behind_end) (sym spans) (subst (ArePlaces text t (view.spans read.items.items)) (sym behind) places);
       rise = subst (λ (ss : List Span). Rise text 0 ss p.behind_end) (sym spans) (subst (Rise text 0 (view.spans read.items.items)) (sym behind) rise);
       within = subst (λ (n : ℕ). n ≤ length text) (sym behind) within;

@@ -1,7 +1,8 @@
 -- What the code keeps of a lemma before it is tried, replayed on, or its proof is checked.
-use Rattle.std.specs.Prelude.{ℕ, List, [], ◌∷◌, ◌++◌, Option, Some, option_map, option_and_then}
+use Rattle.std.specs.Prelude.{ℕ, Bool, List, [], ◌∷◌, ◌++◌, Option, Some, option_map, option_and_then}
 use Rattle.sp_spec.specs.Theory.{TraceKind}
 use Rattle.sp_spec.specs.Guarded.{Guarded}
+use Rattle.sp_spec.specs.Verdict.{names_learning}
 use Rattle.sp_law_guard.specs.CheckedForm.{checked_form}
 use Rattle.sp_formula.specs.FormulaView.{formula_of}
 use Rattle.sp_read_parts.specs.Formulas.{formula}
@@ -18,16 +19,18 @@ pub record Asked : Type 0 where
   pub name : List ℕ
   pub kind : TraceKind
   pub attributes : List Attribute
+  -- whether it names learning, and so is read over learning logs
+  pub marked : Bool
   pub form : Guarded
   pub proof : Option WrittenProof
   pub span : Span
 
 abbrev pub asked_of : GuardedLemma → Asked
-asked_of l = record { name = l.name.now; kind = view.kind l.kind; attributes = view.attributes l.attributes.items; form = formula_of l.form; proof = option_map view.proof l.proof; span = view.span_of l.span }
+asked_of l = record { name = l.name.now; kind = view.kind l.kind; attributes = view.attributes l.attributes.items; marked = l.marked; form = formula_of l.form; proof = option_map view.proof l.proof; span = view.span_of l.span }
 
 -- a lemma that was read, with this guarded form
 abbrev pub asked_with : WrittenLemma → Guarded → Asked
-asked_with l g = record { name = l.name.now; kind = view.kind l.kind; attributes = view.attributes l.attributes.items; form = g; proof = option_map view.proof l.proof; span = view.span_of l.span }
+asked_with l g = record { name = l.name.now; kind = view.kind l.kind; attributes = view.attributes l.attributes.items; marked = names_learning (formula l.formula); form = g; proof = option_map view.proof l.proof; span = view.span_of l.span }
 
 -- the lemmas among the items that were read
 abbrev pub lemmas_read : List Item → List WrittenLemma

@@ -1,4 +1,3 @@
-pub mod Waiting
 pub mod Problem
 pub mod Required
 pub mod Asked

@@ -1,7 +1,6 @@
 -- What a text sets out to prove.
-use Rattle.std.specs.Prelude.{◌≡◌, List, ℕ, true}
+use Rattle.std.specs.Prelude.{◌≡◌, List, ℕ}
 use Rattle.sp_spec_text.specs.Written.{WrittenText}
-use Rattle.sp_pose.specs.Waiting.{waits}
 use Rattle.sp_spec_text.specs.Texts.{IsTextOf}
 use Rattle.sp_wf.specs.Report.{report}
 use Rattle.sp_wf.specs.Laws.{IsWellFormed}
@@ -17,9 +16,3 @@ pub record IsReported (text lines : List ℕ) : Type 0 where
   pub says : IsTextOf text theory
   pub wrong : IsWellFormed theory → ⊥
   pub lines_are : lines ≡ report theory
-
--- the text poses a theory that writes what nothing is proved of yet
-pub record IsWaiting (text : List ℕ) : Type 0 where
-  pub theory : WrittenText
-  pub poses : Poses text theory
-  pub writes : waits theory ≡ true

@@ -15,13 +15,13 @@ ghost use Rattle.sp_fact.specs.GroundView.{signature_of};
 ghost use Rattle.sp_pose.specs.Posed.{IsRead, IsMadeOf};
 
 use crate::numbering::numbered;
-use crate::waiting::waits;
 use sp_declared::equations::equations;
 use sp_declared::public_names::constants;
 use sp_declared::signature::signature;
 use sp_declared::symbols::symbols;
 use sp_fact::rule::Rule;
 use sp_fact::signature::Signature;
+use sp_finding::names_learning;
 use sp_formula::formula::Formula;
 use sp_guard::marks::checked_form;
 use sp_place::refused_at;
@@ -51,6 +51,8 @@ pub struct GuardedLemma<'a> {
     pub kind: TraceKind,
     /// how it is proved, and whether it is taken for others
     pub attributes: Vec<Attribute<'a>>,
+    /// whether it names what the adversary learns, and so is read over learning logs
+    pub marked: bool,
     /// the guarded form of its formula
     pub form: Formula,
     /// the proof that stands below it
@@ -72,8 +74,6 @@ pub struct Problem<'a> {
     pub restrictions: Vec<GuardedRestriction<'a>>,
     /// its lemmas, with their guarded forms
     pub lemmas: Vec<GuardedLemma<'a>>,
-    /// whether it writes what nothing is proved of yet
-    pub waits: bool,
     /// the place behind its word `end`
     pub behind_end: usize,
 }
@@ -192,10 +192,12 @@ fn lemmas_of<'a>(alloc: Global, items: Vec<Item<'a>>) -> Result<Vec<WrittenLemma
 fn guarded_by<'a>(lemma: WrittenLemma<'a>, form: Formula) -> GuardedLemma<'a>
     ensures { asked_of result ≡ asked_with lemma.entry (formula_of form) }
 {
+    let marked = names_learning(&lemma.formula);
     GuardedLemma {
         name: lemma.name,
         kind: lemma.kind,
         attributes: lemma.attributes,
+        marked,
         form,
         proof: lemma.proof,
         span: lemma.span,
@@ -281,10 +283,9 @@ fn lemmas_in<'a>(
 fn posed<'a>(
     alloc: Global,
     signature: Signature,
-    waits: bool,
     theory: ReadTheory<'a>,
 ) -> Result<Option<Problem<'a>>, AllocError>
-    ensures { IfOk result (λ o. MatchOption o (all_asked (lemmas_read theory.entry.items.items) ≡ None) (IsMadeOf (signature_of signature) waits theory.entry)) }
+    ensures { IfOk result (λ o. MatchOption o (all_asked (lemmas_read theory.entry.items.items) ≡ None) (IsMadeOf (signature_of signature) theory.entry)) }
 {
     let rules = rules_of(alloc, &theory.items)?;
     let constants = constants(alloc, &theory)?;
@@ -299,7 +300,6 @@ fn posed<'a>(
         constants,
         restrictions,
         lemmas,
-        waits,
         behind_end,
     }))
 }
@@ -318,7 +318,6 @@ pub fn posed_by<'a>(alloc: Global, text: &'a [u8]) -> Result<Read<'a>, AllocErro
         };
         return Ok(Read::Refused(place));
     };
-    let waits = waits(&read.items);
     let bound = bound_in(alloc, &read.items)?;
     let symbols = symbols(alloc, &read.items)?;
     let theory = resolved(alloc, &symbols, read)?;
@@ -328,7 +327,7 @@ pub fn posed_by<'a>(alloc: Global, text: &'a [u8]) -> Result<Read<'a>, AllocErro
         return Ok(Read::Reported(lines));
     }
     let signature = signature(alloc, symbols, equations)?;
-    let Some(problem) = posed(alloc, signature, waits, theory)? else {
+    let Some(problem) = posed(alloc, signature, theory)? else {
         unreachable!()
     };
     Ok(Read::Posed(problem))

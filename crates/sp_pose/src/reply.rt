@@ -7,9 +7,6 @@ pub enum Reply<T> {
     Refused(usize),
     /// There are findings on its theory, and these are their lines.
     Reported(Vec<u8>),
-    /// There are none, but it writes what nothing is proved of yet: a lemma on what the adversary learns, or an attribute by which a lemma is proved by
-    /// induction.
-    Waiting,
     /// There are none, and this comes of what it poses.
     Done(T),
 }

@@ -18,7 +18,7 @@ use Rattle.sp_spec_text.specs.Declared.{theory_in}
 use Rattle.sp_spec_text.specs.Texts.{ArePlaces}
 use Rattle.sp_read_theory.proofs.Whole.{text_one, places_one}
 use Rattle.sp_pose.specs.Problem.{Poses}
-use Rattle.sp_pose.proofs.One.{not_posed, ready_or_waiting}
+use Rattle.sp_pose.proofs.One.{not_posed}
 use Rattle.sp_pose.proofs.BasicTheories.{normal_forms}
 use Rattle.sp_replay.specs.Replay.{theory_said, lines_behind, HasLines, steps_done, IsUnread, IsStopped, IsMet, AreMet, restriction_formulas, lemma_formulas, restriction_lines, met_lines, IsReplay}
 use Rattle.sp_replay.specs.Laws.{RepliesAreOne}
@@ -150,7 +150,4 @@ replies_are_one_lem = record {
   reported_or_done = λ text lines written r a. not_posed r a.has_lines.poses;
   reported_or_stopped = λ text lines n cause r a. not_posed r a.has_lines.poses;
   reported_or_unread = λ text lines n r a. not_posed r a.has_lines.poses;
-  waiting_or_done = λ text written w a. ready_or_waiting a.has_lines.poses a.has_lines.ready w;
-  waiting_or_stopped = λ text n cause w a. ready_or_waiting a.has_lines.poses a.has_lines.ready w;
-  waiting_or_unread = λ text n w a. ready_or_waiting a.has_lines.poses a.has_lines.ready w;
 }

@@ -1,5 +1,5 @@
 -- What is answered is what comes of the text.
-use Rattle.std.proofs.Common.{◌≡◌, ℕ, Bool, false, List, ◌++◌, map, drop, sym, ap, ap₂, ◌∙◌, subst}
+use Rattle.std.proofs.Common.{◌≡◌, ℕ, Bool, List, ◌++◌, map, drop, sym, ap, ap₂, ◌∙◌, subst}
 use Rattle.sp_spec.specs.Lists.{Every, newest_first}
 use Rattle.sp_spec.specs.Signature as spec
 use Rattle.sp_spec.specs.Signature.{Symbol}
@@ -30,7 +30,6 @@ use Rattle.sp_pose.specs.Posed.{IsPosedBy}
 use Rattle.sp_pose.specs.declared.problem.Problem.{Problem}
 use Rattle.sp_pose.proofs.BasicTheories.{normal_forms, lemmas_are_basic, restrictions_are_basic}
 use Rattle.sp_pose.proofs.Known.{rules_are_over}
-use Rattle.sp_pose.proofs.WaitingItems.{is_ready}
 use Rattle.sp_replay.specs.Held.{held, required_lines, held_lines}
 use Rattle.sp_replay.specs.Replay.{theory_said, behind_line, HasLines, steps_done, IsUnread, IsStopped, AreMet, restriction_formulas, lemma_formulas, restriction_lines, met_lines, IsReplay}
 use Rattle.sp_pose.proofs.Forms.{HasForms, has_forms, lemmas_said}
@@ -40,14 +39,13 @@ use Rattle.sp_replay.proofs.Truths.{restrictions_met, lemmas_met, restrictions_s
 pub posed_right : {text : List ℕ} (p : Problem) → IsPosedBy text p → AreRight (map rule_of p.rules.items)
 posed_right p h = subst (λ (rs : List Rule). AreRight rs) (sym h.rules_are) (rules_right (theory_in h.said).rules h.poses.fine.rule_names)
 
-module _ {text : List ℕ} (p : Problem) (posed : IsPosedBy text p) (ready : p.waits ≡ false) (bytes : List ℕ) (behind : bytes ≡ behind_line (drop p.behind_end text)) where
+module _ {text : List ℕ} (p : Problem) (posed : IsPosedBy text p) (bytes : List ℕ) (behind : bytes ≡ behind_line (drop p.behind_end text)) where
   abbrev said : Theory
   said = theory_said posed.said
 
   has_lines : HasLines text posed.said (lines bytes)
   has_lines = record {
     poses = posed.poses;
-    ready = is_ready p posed ready;
     spans = view.spans posed.theory.items.items;
     behind_end = p.behind_end;
     places_are = posed.places_are;

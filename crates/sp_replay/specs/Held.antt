@@ -6,7 +6,7 @@ use Rattle.sp_law_decide.specs.Deciding.{empty, decided}
 use Rattle.sp_pose.specs.Asked.{Asked}
 use Rattle.sp_pose.specs.Required.{Required}
 use Rattle.sp_spec_printed.specs.Kind.{kind_text}
-use Rattle.sp_replay.specs.Replay.{met_text}
+use Rattle.sp_replay.specs.Replay.{met_text, said_of}
 
 -- whether the guarded form is true over the trace
 abbrev pub held : Trace → Guarded → Bool
@@ -19,8 +19,12 @@ abbrev pub required_lines : Trace → List Required → List ℕ
 required_lines trace [] = []
 required_lines trace (q ∷ qs) = required_line trace q ++ required_lines trace qs
 
+-- what is said of a lemma
+abbrev pub held_text : Trace → Asked → List ℕ
+held_text trace a = said_of a.marked (held trace a.form)
+
 abbrev pub held_line : Trace → Asked → List ℕ
-held_line trace a = a.name ++ (codes " (" ++ (kind_text a.kind ++ (codes "): " ++ met_text (held trace a.form))))
+held_line trace a = a.name ++ (codes " (" ++ (kind_text a.kind ++ (codes "): " ++ held_text trace a)))
 
 abbrev pub held_lines : Trace → List Asked → List ℕ
 held_lines trace [] = []

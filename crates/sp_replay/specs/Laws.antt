@@ -2,10 +2,10 @@
 use Rattle.std.specs.Prelude.{◌≡◌, ℕ, List}
 use Rattle.sp_spec.specs.Execution.{Cause}
 use Rattle.sp_place.specs.Refused.{IsRefusedAt}
-use Rattle.sp_pose.specs.Problem.{IsReported, IsWaiting}
+use Rattle.sp_pose.specs.Problem.{IsReported}
 use Rattle.sp_replay.specs.Replay.{IsUnread, IsStopped, IsReplay}
 
--- one of the six, and in one way
+-- one of the five, and in one way
 pub record RepliesAreOne : Type 0 where
   pub one : (text written other : List ℕ) → IsReplay text written → IsReplay text other → written ≡ other
   pub one_stopped : (text : List ℕ) (n m : ℕ) (cause other : Cause) → IsStopped text n cause → IsStopped text m other → (n ≡ m) × (cause ≡ other)
@@ -19,6 +19,3 @@ pub record RepliesAreOne : Type 0 where
   pub reported_or_done : (text lines written : List ℕ) → IsReported text lines → IsReplay text written → ⊥
   pub reported_or_stopped : (text lines : List ℕ) (n : ℕ) (cause : Cause) → IsReported text lines → IsStopped text n cause → ⊥
   pub reported_or_unread : (text lines : List ℕ) (n : ℕ) → IsReported text lines → IsUnread text n → ⊥
-  pub waiting_or_done : (text written : List ℕ) → IsWaiting text → IsReplay text written → ⊥
-  pub waiting_or_stopped : (text : List ℕ) (n : ℕ) (cause : Cause) → IsWaiting text → IsStopped text n cause → ⊥
-  pub waiting_or_unread : (text : List ℕ) (n : ℕ) → IsWaiting text → IsUnread text n → ⊥

@@ -8,6 +8,7 @@ use Rattle.sp_spec.specs.Theory.{Theory, Restriction, Lemma, signature_of}
 use Rattle.sp_spec.specs.Written.{theory_of}
 use Rattle.sp_spec.specs.Execution.{Step, Trace, Cause}
 use Rattle.sp_spec.specs.Truth.{IsTrueOver}
+use Rattle.sp_spec.specs.Verdict.{names_learning}
 use Rattle.sp_law_run.specs.NormalStep.{normal_step}
 use Rattle.sp_spec.specs.Lists.{newest_first}
 use Rattle.sp_spec_printed.specs.Printed.{trace_block}
@@ -16,7 +17,6 @@ use Rattle.sp_spec_printed.specs.StepLines.{AreSteps, IsFirstUnread}
 use Rattle.sp_exec.specs.Replay.{IsReplayed, IsFirstFault}
 use Rattle.sp_spec_text.specs.Written.{WrittenText}
 use Rattle.sp_spec_text.specs.Declared.{theory_in}
-use Rattle.sp_pose.specs.Waiting.{waits}
 use Rattle.sp_spec_text.specs.Spans.{Span}
 use Rattle.sp_spec_text.specs.Texts.{ArePlaces}
 use Rattle.sp_pose.specs.Problem.{Poses}
@@ -35,10 +35,9 @@ behind_line (b ∷ bytes) = if b == 10 then bytes else behind_line bytes
 abbrev pub lines_behind : List ℕ → ℕ → List (List ℕ)
 lines_behind text end = lines (behind_line (drop end text))
 
--- the text says the theory, without fatal findings, which writes nothing that nothing is proved of yet, and these lines stand behind it
+-- the text says the theory, without fatal findings, and these lines stand behind it
 pub record HasLines (text : List ℕ) (theory : WrittenText) (found : List (List ℕ)) : Type 0 where
   pub poses : Poses text theory
-  pub ready : waits theory ≡ false
   pub spans : List Span
   pub behind_end : ℕ
   pub places_are : ArePlaces text theory spans behind_end
@@ -93,15 +92,20 @@ abbrev pub restriction_lines : List Restriction → List Bool → List ℕ
 restriction_lines (r ∷ rs) (b ∷ bs) = restriction_line r b ++ restriction_lines rs bs
 restriction_lines rs bs = []
 
+-- of a marked lemma, one that names learning and so is read over learning logs, and of any other
+abbrev pub said_of : Bool → Bool → List ℕ
+said_of true met = codes "not read on executions\n"
+said_of false met = met_text met
+
 abbrev pub met_line : Lemma → Bool → List ℕ
-met_line l b = l.name ++ (codes " (" ++ (kind_text l.kind ++ (codes "): " ++ met_text b)))
+met_line l b = l.name ++ (codes " (" ++ (kind_text l.kind ++ (codes "): " ++ said_of (names_learning l.formula) b)))
 
 abbrev pub met_lines : List Lemma → List Bool → List ℕ
 met_lines (l ∷ ls) (b ∷ bs) = met_line l b ++ met_lines ls bs
 met_lines ls bs = []
 
 -- The lines are those of steps, which are an execution; its trace in normal form is written, the oldest entry first, and for each restriction
--- and then for each lemma, in the order of the text, whether the formula is true over the trace.
+-- and then for each lemma, in the order of the text, whether the formula is true over the trace, or that it isn't read on executions.
 pub record IsReplay (text written : List ℕ) : Type 0 where
   pub theory : WrittenText
   pub found : List (List ℕ)

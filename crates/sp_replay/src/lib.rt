@@ -2,7 +2,7 @@
 // Below stand what a text poses (sp_pose), the reading of steps (sp_read_steps), replaying (sp_exec), truth over a trace (sp_eval) and the texts of
 // traces (sp_show); above stands the top call.
 // Carried here: the promise that steps are replayed exactly where they are an execution, that what is written is its trace, and that of each
-// restriction and lemma is written whether it is true over that trace.
+// restriction is written whether it is true over that trace, and so of each lemma, unless that names learning.
 #![tactic(auto)]
 
 mod replay;

@@ -1,6 +1,6 @@
 // The steps behind a text, replayed.
 
-ghost use Rattle.std.specs.Prelude.{◌≡◌, false, IfOk};
+ghost use Rattle.std.specs.Prelude.{◌≡◌, IfOk};
 ghost use Rattle.sp_pose.specs.Posed.{IsPosedBy};
 ghost use Rattle.sp_pose.specs.Replies.{IsReplyTo};
 ghost use Rattle.sp_replay.specs.Replay as spec;
@@ -38,10 +38,9 @@ fn behind_line(text: &[u8]) -> &[u8]
     rest
 }
 
-/// The steps behind the theory, in which nothing waits, replayed.
+/// The steps behind the theory, replayed.
 fn replayed_on(alloc: Global, text: &[u8], problem: Problem) -> Result<Attempt, AllocError>
-    requires posed { IsPosedBy text.now problem }
-    requires ready { problem.waits ≡ false }
+    requires { IsPosedBy text.now problem }
     ensures { IfOk result (IsDone text.now) }
 {
     let signature = problem.signature;
@@ -64,16 +63,12 @@ fn reply(alloc: Global, text: &[u8], problem: Problem) -> Result<Reply<Attempt>,
     requires { IsPosedBy text.now problem }
     ensures { IfOk result (IsReplyTo IsDone text.now) }
 {
-    if problem.waits {
-        Ok(Reply::Waiting)
-    } else {
-        let attempt = replayed_on(alloc, text, problem)?;
-        Ok(Reply::Done(attempt))
-    }
+    let attempt = replayed_on(alloc, text, problem)?;
+    Ok(Reply::Done(attempt))
 }
 
-/// What comes of a text whose lines behind its word `end` are replayed: it is refused at a place, or there are findings on its theory, or it waits, or a line
-/// is no step's, or a step can't be done, or the steps are an execution.
+/// What comes of a text whose lines behind its word `end` are replayed: it is refused at a place, or there are findings on its theory, or a line is no
+/// step's, or a step can't be done, or the steps are an execution.
 ///
 /// # Errors
 ///

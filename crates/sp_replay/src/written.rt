@@ -5,7 +5,7 @@ ghost use Rattle.sp_fact.specs.GroundView.{entries_of, trace_of};
 ghost use Rattle.sp_spec_printed.specs.Printed.{trace_block};
 ghost use Rattle.sp_pose.specs.Asked.{asked_of};
 ghost use Rattle.sp_pose.specs.Required.{required_of};
-ghost use Rattle.sp_replay.specs.Held.{required_line, required_lines, held_line, held_lines};
+ghost use Rattle.sp_replay.specs.Held.{required_line, required_lines, held_text, held_line, held_lines};
 ghost use Rattle.sp_replay.specs.Replay as spec;
 
 use sp_eval::truth::holds;
@@ -51,6 +51,22 @@ fn write_restrictions(
     Ok(())
 }
 
+/// Puts at the end whether the lemma is true over the trace, or that it isn't read there: so a lemma that names learning.
+fn write_said(
+    alloc: Global,
+    out: &mut Vec<u8>,
+    lemma: &GuardedLemma,
+    trace: &Trace,
+) -> Result<(), AllocError>
+    ensures { OnOk result (out.new.items ≡ out.old.items ++ held_text (trace_of trace.now) (asked_of lemma.now)) }
+{
+    if lemma.marked {
+        return out.extend_from_slice(b"not read on executions\n");
+    }
+    let met = holds(alloc, &lemma.form, trace)?;
+    out.extend_from_slice(met_text(met))
+}
+
 /// Puts the line of a lemma at the end.
 fn write_lemma(
     alloc: Global,
@@ -60,12 +76,11 @@ fn write_lemma(
 ) -> Result<(), AllocError>
     ensures { OnOk result (out.new.items ≡ out.old.items ++ held_line (trace_of trace.now) (asked_of lemma.now)) }
 {
-    let met = holds(alloc, &lemma.form, trace)?;
     out.extend_from_slice(lemma.name.as_bytes())?;
     out.extend_from_slice(b" (")?;
     out.extend_from_slice(kind_text(lemma.kind).as_bytes())?;
     out.extend_from_slice(b"): ")?;
-    out.extend_from_slice(met_text(met))
+    write_said(alloc, out, lemma, trace)
 }
 
 /// Puts a line for each lemma at the end.

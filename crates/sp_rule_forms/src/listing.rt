@@ -1,7 +1,7 @@
 // The rules of a text, each with its forms.
 
-ghost use Rattle.std.specs.Prelude.{◌≡◌, ◌++◌, false, IfOk, OnOk, map, string_bytes};
-ghost use Rattle.sp_pose.specs.Replies.{IsReplyTo, is_waiting};
+ghost use Rattle.std.specs.Prelude.{◌≡◌, ◌++◌, IfOk, OnOk, map, string_bytes};
+ghost use Rattle.sp_pose.specs.Replies.{IsReplyTo};
 ghost use Rattle.sp_book.specs.View.{form_of, rule_forms_of};
 ghost use Rattle.sp_rule_forms.specs.Variants as spec;
 ghost use Rattle.sp_rule_forms.specs.View.{IsWritten};
@@ -42,14 +42,13 @@ fn rules_text(alloc: Global, rules: &Vec<RuleForms>) -> Result<Vec<u8>, AllocErr
 }
 
 /// What comes of a text whose rules' forms are listed: it is refused at a place, or there are findings on its theory, or each of its rules is
-/// written with its forms. No text waits for that.
+/// written with its forms.
 ///
 /// # Errors
 ///
 /// `AllocError` where memory is wanting, or a number of a new variable doesn't fit.
 pub fn variants(alloc: Global, text: &[u8]) -> Result<Reply<Vec<u8>>, AllocError>
-    ensures reply { IfOk result (IsReplyTo IsWritten text.now) }
-    ensures at_once { IfOk result (λ reply. is_waiting reply ≡ false) }
+    ensures { IfOk result (IsReplyTo IsWritten text.now) }
 {
     match posed_by(alloc, text)? {
         Read::Refused(place) => Ok(Reply::Refused(place)),

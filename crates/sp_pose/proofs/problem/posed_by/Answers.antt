@@ -40,5 +40,5 @@ returns c =
     let none : c.in_ok-lines.lines.items ≡ [] = no_lines c.in_ok-lines.lines.len c.in_ok-lines.lines.items c.if-not-is_empty.ensures c.in_ok-lines.lines.ok.0 in
     let same = resolved_same said symbols seen c.in_ok-symbols.ensures c.in_ok-theory.ensures.value in
     let over = signature_same said symbols numbered seen (signature_of c.in_ok-signature.signature) c.in_ok-symbols.ensures c.in_ok-theory.ensures.value c.in_ok-equations.ensures c.in_ok-signature.ensures in
-    made said c.in-Some.read c.in_ok-theory.theory (signature_of c.in_ok-signature.signature) c.waits-waits.result c.in-Some-3.problem (poses said read.value report none) same over c.in_ok-theory.ensures.places
-    c.in_ok-theory.ensures.end read.places read.ordered.0 read.ordered.1 c.waits-waits.ensures (rw c.in-Some-3.is at c.in_ok-problem.ensures)
+    made said c.in-Some.read c.in_ok-theory.theory (signature_of c.in_ok-signature.signature) c.in-Some-3.problem (poses said read.value report none) same over c.in_ok-theory.ensures.places
+    c.in_ok-theory.ensures.end read.places read.ordered.0 read.ordered.1 (rw c.in-Some-3.is at c.in_ok-problem.ensures)
