@@ -11,8 +11,8 @@ use Rattle.sp_spec_text.specs.Ends.{place_behind, is_any}
 use Rattle.sp_lex.proofs.One.{tokens_one}
 use Rattle.sp_spec_text.specs.Names.{IsName}
 use Rattle.sp_spec_proof.specs.Tree.{Tree}
-use Rattle.sp_spec_text.specs.Written.{WrittenProof, Attribute, Item, WrittenText, with_proofs}
-use Rattle.sp_spec_text.specs.Spans.{Span, EndsAt, AreSpans, no_span, past_declaration, past_lemma}
+use Rattle.sp_spec_text.specs.Written.{WrittenProof, Attribute, Item, lemma_item, WrittenText}
+use Rattle.sp_spec_text.specs.Spans.{Span, IsBehind, EndsAt, AreSpans, no_span, past_declaration, past_lemma}
 use Rattle.sp_spec_text.specs.Theories as g
 use Rattle.sp_spec_text.specs.Theories.{SpellsLemma, SpellsDeclaration, SpellsProofPart, SpellsItems, SpellsTheory}
 use Rattle.sp_read_theory.specs.Items.{the_end}
@@ -20,34 +20,23 @@ use Rattle.sp_spec_text.specs.Texts.{IsTextOf, ArePlaces}
 use Rattle.sp_read_theory.proofs.LemmaParts.{lemma_one}
 use Rattle.sp_read_theory.proofs.Declared.{declaration_rest, declaration_not_lemma}
 use Rattle.sp_read_theory.proofs.Follows.{items_word}
-use Rattle.sp_skel.specs.Spelling.{spelled, IsReadable}
+use Rattle.sp_skel.specs.Spelling.{spelled}
 use Rattle.sp_skel.proofs.Spelled.{tree_spells}
 use Rattle.sp_skel.proofs.Blanks.{Cut}
-use Rattle.sp_law_reread.specs.Again.{replaced, as_proofs, with_trees}
+use Rattle.sp_law_reread.specs.Again.{replaced, with_trees, IsReadableIf}
 use Rattle.sp_law_reread.proofs.Ends.{Ends, ends_behind, next_ends}
 use Rattle.sp_law_reread.proofs.Moving.{front_of, move_declaration, move_lemma}
+use Rattle.sp_law_reread.proofs.Keeping.{read_before, proof_before}
 use Rattle.sp_law_reread.proofs.Reached.{Parted, parted}
-use Rattle.sp_law_reread.proofs.Places.{At, at_start, Claim, Again, settle, extend}
+use Rattle.sp_law_reread.proofs.Places.{At, at_start, Claim, Again, settle, extend, claim_stays}
 use Rattle.sp_law_reread.proofs.Stretches.{claim_end, claim_lemma, after_other, onwards}
 use Rattle.sp_read_theory.proofs.Spans.{proof_rest, spans_word}
 
 -- ---- the tokens of an item
 
 -- the tokens of a declaration spell it, whatever follows
-record DeclarationBefore (first : List Token) (x : Item) : Type 0 where
-  spells : (ys : List Lexeme) → SpellsDeclaration (lexemes first ++ ys) x ys
-
-declaration_before : (tokens mid : List Token) {x : Item} → SpellsDeclaration (lexemes tokens) x (lexemes mid) → (first : List Token) → tokens ≡ first ++ mid → DeclarationBefore first x
-declaration_before tokens mid {x} h first e =
-    let fronts : (ys : List Lexeme) → (front_of (move_declaration h ys).swapped).front ≡ lexemes first = λ ys.
-    let f = front_of (move_declaration h ys).swapped in
-    append_cancel_right f.front (lexemes first) (lexemes mid) (sym f.are ∙ ap lexemes e ∙ map-append (λ (t : Token). t.lexeme) first mid) in
-    record {
-      spells = λ ys.
-          let m = move_declaration h ys in
-          let f = front_of m.swapped in
-          subst (λ (xs : List Lexeme). SpellsDeclaration xs x ys) (f.others_are ∙ ap (λ (xs : List Lexeme). xs ++ ys) (fronts ys)) m.reads;
-    }
+declaration_before : (tokens mid : List Token) {x : Item} → SpellsDeclaration (lexemes tokens) x (lexemes mid) → (first : List Token) → tokens ≡ first ++ mid → (ys : List Lexeme) → SpellsDeclaration (lexemes first ++ ys) x ys
+declaration_before tokens mid h first e ys = read_before {R = SpellsDeclaration} tokens mid (λ zs. move_declaration h zs) first e ys
 
 last_same : (xs ys : List Lexeme) (x y : Lexeme) → xs ++ x ∷ [] ≡ ys ++ y ∷ [] → (xs ≡ ys) × (x ≡ y)
 last_same [] [] x y e = (refl, cc)
@@ -81,6 +70,32 @@ lemma_before tokens behind {l} {each} h first quote e =
           let m = move_lemma h ys in
           let f = front_of m.swapped in
           subst (λ (xs : List Lexeme). SpellsLemma xs l each ys) (f.others_are ∙ ap (λ (xs : List Lexeme). xs ++ sign s.Quote ∷ ys) (fronts ys).0) m.reads;
+    }
+
+abbrev Spelled : List Item → List Lexeme → Type 0
+Spelled items xs = SpellsItems xs items the_end
+
+-- those of a lemma and of the proof that stands below it spell both
+record LemmaKept (tokens mid : List Token) (l : Lemma) (each : List Attribute) (p : Option WrittenProof) : Type 0 where
+  first : List Token
+  are : tokens ≡ first ++ mid
+  spells : (items : List Item) (ys : List Lexeme) → Spelled items ys → Spelled (lemma_item l each p ∷ items) (lexemes first ++ ys)
+
+lemma_kept : {tokens behind mid : List Token} {l : Lemma} {each : List Attribute} {p : Option WrittenProof} (span : Span) → SpellsLemma (lexemes tokens) l each (lexemes behind)
+    → IsBehind tokens behind span.from → SpellsProofPart (lexemes behind) p (lexemes mid) → EndsAt behind mid p span → LemmaKept tokens mid l each p
+lemma_kept {tokens} {behind} {mid} {l} {each} {p} span h b c f =
+    let before = lemma_before tokens behind h b.before b.last b.are in
+    let k = proof_before span c f in
+    let proof = lexemes k.first in
+    let first = b.before ++ b.last ∷ k.first in
+    record {
+      first = first;
+      are = b.are ∙ ap (λ (ts : List Token). b.before ++ b.last ∷ ts) k.are ∙ sym (append_assoc b.before (b.last ∷ k.first) mid);
+      spells = λ items ys later.
+          let parts : lexemes first ++ ys ≡ lexemes b.before ++ b.last.lexeme ∷ (proof ++ ys) =
+          ap (λ (xs : List Lexeme). xs ++ ys) (map-append (λ (t : Token). t.lexeme) b.before (b.last ∷ k.first)) ∙ append_assoc (lexemes b.before) (b.last.lexeme ∷ proof) ys in
+          let are : lexemes first ++ ys ≡ lexemes b.before ++ sign s.Quote ∷ (proof ++ ys) = parts ∙ ap (λ (x : Lexeme). lexemes b.before ++ x ∷ (proof ++ ys)) before.closing in
+          subst (λ (xs : List Lexeme). Spelled (lemma_item l each p ∷ items) xs) (sym are) (g.lemma_first (before.spells (proof ++ ys)) (k.spells ys) later);
     }
 
 -- ---- what follows an item
@@ -124,15 +139,15 @@ end_behind {others = us} (Some p) span h e = end_later e (h.before ++ h.last ∷
 
 -- ---- declarations
 
--- proofs are put behind lemmas alone
-proofs_past : {tokens rest : List Lexeme} {x : Item} → SpellsDeclaration tokens x rest → (items : List Item) (proofs : List (Option WrittenProof)) → x ∷ with_proofs items proofs ≡ with_proofs (x ∷ items) proofs
-proofs_past (g.builtins h) items proofs = refl
-proofs_past (g.functions h) items proofs = refl
-proofs_past (g.equations h) items proofs = refl
-proofs_past (g.heuristic h) items proofs = refl
-proofs_past (g.text_block n) items proofs = refl
-proofs_past (g.a_rule h) items proofs = refl
-proofs_past (g.a_restriction h) items proofs = refl
+-- trees are put behind lemmas alone
+trees_past : {tokens rest : List Lexeme} {x : Item} → SpellsDeclaration tokens x rest → (items : List Item) (trees : List (Option Tree)) → x ∷ with_trees items trees ≡ with_trees (x ∷ items) trees
+trees_past (g.builtins h) items trees = refl
+trees_past (g.functions h) items trees = refl
+trees_past (g.equations h) items trees = refl
+trees_past (g.heuristic h) items trees = refl
+trees_past (g.text_block n) items trees = refl
+trees_past (g.a_rule h) items trees = refl
+trees_past (g.a_restriction h) items trees = refl
 
 -- The tokens up to the rest that the grammar leaves. Behind the last declaration the spans say nothing of those that follow.
 record Divided (tokens : List Token) (rest : List Lexeme) : Type 0 where
@@ -152,46 +167,44 @@ divided tokens {rest = rest} h =
       mid_is = sym (drop-map (λ (t : Token). t.lexeme) n tokens) ∙ ap (λ (xs : List Lexeme). drop n xs) f.are ∙ drop-append_seam f.front rest;
     }
 
--- a declaration is cut off these bytes, and these tokens are left
-record Declared (text bytes : List ℕ) (x : Item) (mid : List Token) (end : ℕ) : Type 0 where
-  first : List Token
-  before : DeclarationBefore first x
+-- these tokens are cut off these bytes, and those are left
+record CutOff (text bytes : List ℕ) (first mid : List Token) (end : ℕ) : Type 0 where
   parted_at : Parted (length text) bytes first mid
   ends : Ends text parted_at.rest
   ends_at : EndAt mid end
 
-declared : {text bytes : List ℕ} {end : ℕ} {x : Item} (tokens mid first : List Token) → SpellsDeclaration (lexemes tokens) x (lexemes mid) → tokens ≡ first ++ mid → FirstToken mid → EndAt tokens end → AreTokens (length text) bytes tokens → Ends text bytes
-    → Declared text bytes x mid end
-declared {text} {bytes} tokens mid first h e u p cut ends =
+cut_off : {text bytes : List ℕ} {end : ℕ} {tokens mid : List Token} (first : List Token) → tokens ≡ first ++ mid
+    → FirstToken mid → EndAt tokens end → AreTokens (length text) bytes tokens → Ends text bytes → CutOff text bytes first mid end
+cut_off {text} {bytes} first e u p cut ends =
     let o = subst (λ (ts : List Token). Parted (length text) bytes first ts) (sym u.are) (parted first u.token u.others cut (e ∙ ap (λ (ts : List Token). first ++ ts) u.are)) in
-    record { first = first; before = declaration_before tokens mid h first e; parted_at = o; ends = ends_behind ends o.ends; ends_at = end_later p first e }
+    record { parted_at = o; ends = ends_behind ends o.ends; ends_at = end_later p first e }
 
 -- ---- the items
 
-abbrev Spelled : List Item → List Lexeme → Type 0
-Spelled items xs = SpellsItems xs items the_end
-
-claim_declaration : {text behind bytes : List ℕ} {end : ℕ} {x : Item} {mid : List Token} {spans : List Span} (items : List Item) (trees : List Tree) (d : Declared text bytes x mid end) → x ∷ with_trees items trees ≡ with_trees (x ∷ items) trees
+claim_declaration : {text behind bytes : List ℕ} {end : ℕ} {x : Item} {first mid : List Token} {spans : List Span} (items : List Item) (trees : List (Option Tree)) (d : CutOff text bytes first mid end)
+    → ((ys : List Lexeme) → SpellsDeclaration (lexemes first ++ ys) x ys) → x ∷ with_trees items trees ≡ with_trees (x ∷ items) trees
     → Claim text spans trees end behind d.parted_at.rest (Spelled (with_trees items trees)) → Claim text spans trees end behind bytes (Spelled (with_trees (x ∷ items) trees))
-claim_declaration items trees d e c = extend d.parted_at c (λ ys k. subst (λ (xs : List Item). Spelled xs (lexemes d.first ++ ys)) e (g.declaration_first (d.before.spells ys) k))
+claim_declaration {first = first} items trees d before e c = extend d.parted_at c (λ ys k. subst (λ (xs : List Item). Spelled xs (lexemes first ++ ys)) e (g.declaration_first (before ys) k))
 
-claim_items : {text behind : List ℕ} {end : ℕ} {tokens : List Token} {items : List Item} {spans : List Span} {after : List Lexeme} {bytes : List ℕ} → AreSpans tokens items spans → SpellsItems (lexemes tokens) items after → after ≡ the_end
-    → (trees : List Tree) → Every IsReadable trees → length trees ≡ length spans → EndAt tokens end → AreTokens (length text) bytes tokens → Ends text bytes → Claim text spans trees end behind bytes (Spelled (with_trees items trees))
+claim_items : {text behind : List ℕ} {end : ℕ} {tokens : List Token} {items : List Item} {spans : List Span} {after : List Lexeme} {bytes : List ℕ} → AreSpans tokens items spans
+    → SpellsItems (lexemes tokens) items after → after ≡ the_end → (trees : List (Option Tree)) → Every IsReadableIf trees → length trees ≡ length spans → EndAt tokens end → AreTokens (length text) bytes tokens → Ends text bytes
+    → Claim text spans trees end behind bytes (Spelled (with_trees items trees))
 claim_items no_span g.no_item e trees rs l p cut ends = claim_end p.from cut e p.is g.no_item
 claim_items {tokens = ts} (past_declaration {x = x} {items = []} h b no_span) (g.declaration_first q g.no_item) e trees rs l p cut ends =
     let w = divided ts q in
     let f = w.mid_is ∙ e in
-    let d = declared ts w.mid w.first (subst (λ (us : List Lexeme). SpellsDeclaration (lexemes ts) x us) (sym w.mid_is) q) w.are (first_token w.mid g.no_item f) p cut ends in
-    claim_declaration [] trees d (proofs_past q [] (as_proofs trees)) (claim_end d.ends_at.from d.parted_at.cut f d.ends_at.is g.no_item)
+    let q' = subst (λ (us : List Lexeme). SpellsDeclaration (lexemes ts) x us) (sym w.mid_is) q in
+    let d = cut_off w.first w.are (first_token w.mid g.no_item f) p cut ends in
+    claim_declaration [] trees d (declaration_before ts w.mid q' w.first w.are) (trees_past q [] trees) (claim_end d.ends_at.from d.parted_at.cut f d.ends_at.is g.no_item)
 claim_items {tokens = ts} {after = after} (past_declaration {items = x ∷ xs} {mid = mid} h b s) (g.declaration_first q i) e trees rs l p cut ends =
     let o = declaration_rest h q (spans_word s) (items_word i e) in
     let j = subst (λ (us : List Lexeme). SpellsItems us (x ∷ xs) after) (sym o) i in
-    let d = declared ts mid b.0 h b.1 (first_token mid j e) p cut ends in
-    claim_declaration (x ∷ xs) trees d (proofs_past h (x ∷ xs) (as_proofs trees)) (claim_items {bytes = d.parted_at.rest} s j e trees rs l d.ends_at d.parted_at.cut d.ends)
+    let d = cut_off b.0 b.1 (first_token mid j e) p cut ends in
+    claim_declaration (x ∷ xs) trees d (declaration_before ts mid h b.0 b.1) (trees_past h (x ∷ xs) trees) (claim_items {bytes = d.parted_at.rest} s j e trees rs l d.ends_at d.parted_at.cut d.ends)
 claim_items (past_declaration h b s) (g.lemma_first o d i) e trees rs l p cut ends = absurd (declaration_not_lemma h o)
 claim_items (past_lemma h b c f s) (g.declaration_first q i) e trees rs l p cut ends = absurd (declaration_not_lemma q h)
 claim_items (past_lemma h b c f s) (g.lemma_first o d i) e [] rs l p cut ends = absurd (omega (arith, l))
-claim_items {text} {behind} {end} {tokens} {after = after} {bytes} (past_lemma {l = x} {p = proof} {items = xs} {span = span} {spans = spans} {behind = y} {mid = mid} h b c f s) (g.lemma_first {mid = n} o d i) e (t ∷ trees) rs l p cut ends =
+claim_items {text} {tokens = tokens} {after = after} (past_lemma {l = x} {p = proof} {items = xs} {span = span} {behind = y} {mid = mid} h b c f s) (g.lemma_first {mid = n} o d i) e (Some t ∷ trees) rs l p cut ends =
     let d' = subst (λ (us : List Lexeme). SpellsProofPart us proof n) (sym (lemma_one h o).1) d in
     let j = subst (λ (us : List Lexeme). SpellsItems us xs after) (sym (proof_rest c d')) i in
     let u = first_token mid j e in
@@ -204,6 +217,13 @@ claim_items {text} {behind} {end} {tokens} {after = after} {bytes} (past_lemma {
     let later = claim_items {bytes = w.bytes} s j e trees rs.1 (omega (arith, l)) ends_at w.cut w.at.ends in
     claim_lemma b.last t rs.0 q a.comes before.closing b.place_is (settle {bytes = w.bytes} later w.at)
     (λ ys k. g.lemma_first (before.spells (spelled t ys)) (g.a_proof (tree_spells t rs.0 ys)) k)
+claim_items {after = after} (past_lemma {p = proof} {items = xs} {span = span} {mid = mid} h b c f s) (g.lemma_first {mid = n} o d i) e (None ∷ trees) rs l p cut ends =
+    let d' = subst (λ (us : List Lexeme). SpellsProofPart us proof n) (sym (lemma_one h o).1) d in
+    let j = subst (λ (us : List Lexeme). SpellsItems us xs after) (sym (proof_rest c d')) i in
+    let k = lemma_kept span h b c f in
+    let w = cut_off k.first k.are (first_token mid j e) p cut ends in
+    let later = claim_items {bytes = w.parted_at.rest} s j e trees rs.1 (omega (arith, l)) w.ends_at w.parted_at.cut w.ends in
+    claim_stays (extend w.parted_at later (λ ys h. k.spells (with_trees xs trees) ys h))
 
 -- ---- the whole text
 
@@ -240,7 +260,8 @@ opening (g.theory n h) (a ∷ b ∷ []) e = absurd (let none : ⊥ = cc in none)
 opening (g.theory n h) (a ∷ b ∷ c ∷ ts) e = record { first = a ∷ b ∷ c ∷ []; others = ts; are = refl; others_are = refl; opened = three a b c ts n h e }
 
 -- what is written from the start on is a text
-text_of : {text : List ℕ} {spans : List Span} {trees : List Tree} {end : ℕ} {behind : List ℕ} {theory : WrittenText} → Again text spans trees end behind 0 (λ ys. SpellsTheory ys theory) → IsTextOf (replaced text 0 spans trees end ++ 10 ∷ behind) theory
+text_of : {text : List ℕ} {spans : List Span} {trees : List (Option Tree)} {end : ℕ} {behind : List ℕ} {theory : WrittenText} → Again text spans trees end behind 0 (λ ys. SpellsTheory ys theory)
+    → IsTextOf (replaced text 0 spans trees end ++ 10 ∷ behind) theory
 text_of {text} {spans} {trees} {end} {behind} {theory} a =
     let written = replaced text 0 spans trees end ++ 10 ∷ behind in
     from_cut ((a.lexes (length written)).cut (omega arith)) a.holds
@@ -248,7 +269,8 @@ text_of {text} {spans} {trees} {end} {behind} {theory} a =
     from_cut : {bytes : List ℕ} {xs : List Lexeme} → Cut (length bytes) bytes xs → SpellsTheory xs theory → IsTextOf bytes theory
     from_cut c h = record { tokens = c.tokens; cut = c.cut; spells = subst (λ (ys : List Lexeme). SpellsTheory ys theory) (sym c.are) h }
 
-pub written_again : (text : List ℕ) (theory : WrittenText) (spans : List Span) (end : ℕ) (trees : List Tree) (behind : List ℕ) → IsTextOf text theory → ArePlaces text theory spans end → Every IsReadable trees → length trees ≡ length spans
+pub written_again : (text : List ℕ) (theory : WrittenText) (spans : List Span) (end : ℕ) (trees : List (Option Tree)) (behind : List ℕ)
+    → IsTextOf text theory → ArePlaces text theory spans end → Every IsReadableIf trees → length trees ≡ length spans
     → Again text spans trees end behind 0 (λ ys. SpellsTheory ys (record { name = theory.name; items = with_trees theory.items trees }))
 written_again text theory spans end trees behind h p rs l =
     let says = subst (λ (ts : List Token). SpellsTheory (lexemes ts) theory) (tokens_one h.cut p.cut) h.spells in
@@ -263,6 +285,7 @@ written_again text theory spans end trees behind h p rs l =
     let d = extend {Q = λ ys. SpellsTheory ys made} q c (λ ys k. o.opened.whole (with_trees theory.items trees) ys k) in
     settle d (at_start text)
 
-pub read_again : (text : List ℕ) (theory : WrittenText) (spans : List Span) (end : ℕ) (trees : List Tree) (behind : List ℕ) → IsTextOf text theory → ArePlaces text theory spans end → Every IsReadable trees → length trees ≡ length spans
+pub read_again : (text : List ℕ) (theory : WrittenText) (spans : List Span) (end : ℕ) (trees : List (Option Tree)) (behind : List ℕ)
+    → IsTextOf text theory → ArePlaces text theory spans end → Every IsReadableIf trees → length trees ≡ length spans
     → IsTextOf (replaced text 0 spans trees end ++ (codes "\n" ++ behind)) (record { name = theory.name; items = with_trees theory.items trees })
 read_again text theory spans end trees behind h p rs l = text_of (written_again text theory spans end trees behind h p rs l)

@@ -1,6 +1,7 @@
 pub mod Ends
 pub mod Local
 pub mod Moving
+pub mod Keeping
 pub mod Reached
 pub mod Stops
 pub mod Leads

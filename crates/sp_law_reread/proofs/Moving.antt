@@ -23,7 +23,7 @@ pub data Swapped (rest other : List Lexeme) : List Lexeme → List Lexeme → Ty
   swapped_here : Swapped rest other rest other
   swapped_behind : {tokens others : List Lexeme} (x : Lexeme) → Swapped rest other tokens others → Swapped rest other (x ∷ tokens) (x ∷ others)
 
-swapped_in : {rest other mid middle tokens others : List Lexeme} → Swapped mid middle tokens others → Swapped rest other mid middle → Swapped rest other tokens others
+pub swapped_in : {rest other mid middle tokens others : List Lexeme} → Swapped mid middle tokens others → Swapped rest other mid middle → Swapped rest other tokens others
 swapped_in swapped_here k = k
 swapped_in (swapped_behind x h) k = swapped_behind x (swapped_in h k)
 

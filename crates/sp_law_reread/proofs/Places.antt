@@ -1,5 +1,5 @@
 -- What is written from a place of a text on, and how it is cut.
-use Rattle.std.proofs.Common.{◌≡◌, ℕ, ◌+◌, ◌-◌, List, [], ◌∷◌, ◌++◌, length, take, drop, codes, refl, sym, ap, subst, ◌∙◌, append_assoc, length-append, arith}
+use Rattle.std.proofs.Common.{◌≡◌, ℕ, ◌+◌, ◌-◌, List, [], ◌∷◌, ◌++◌, length, take, drop, codes, Option, None, refl, sym, ap, subst, ◌∙◌, append_assoc, length-append, arith}
 use Rattle.std.proofs.Math.Seq.{drop-append_seam}
 use Rattle.sp_spec_text.specs.Token.{Lexeme, Token}
 use Rattle.sp_spec_text.specs.Lex.{lexemes}
@@ -37,7 +37,7 @@ between_is {text} {bytes} {place} a end front rest e f =
 
 -- What is written in place of these bytes of the text, with trees in the places of proofs, begins with the tokens of the text, up to a byte
 -- that stands firm, behind which no constant is closed. Of all its tokens P holds. None of them is the word `end` but that before what stands behind.
-pub record Claim (text : List ℕ) (spans : List Span) (trees : List Tree) (end : ℕ) (behind bytes : List ℕ) (P : List Lexeme → Type 0) : Type 0 where
+pub record Claim (text : List ℕ) (spans : List Span) (trees : List (Option Tree)) (end : ℕ) (behind bytes : List ℕ) (P : List Lexeme → Type 0) : Type 0 where
   pub stop : ℕ
   pub firm : Firm stop
   pub front : List ℕ
@@ -54,13 +54,14 @@ pub record Claim (text : List ℕ) (spans : List Span) (trees : List Tree) (end 
   pub holds : P (first ++ others)
 
 -- all that is written from this place on
-pub record Again (text : List ℕ) (spans : List Span) (trees : List Tree) (end : ℕ) (behind : List ℕ) (place : ℕ) (P : List Lexeme → Type 0) : Type 0 where
+pub record Again (text : List ℕ) (spans : List Span) (trees : List (Option Tree)) (end : ℕ) (behind : List ℕ) (place : ℕ) (P : List Lexeme → Type 0) : Type 0 where
   pub all : List Lexeme
   pub lexes : (size : ℕ) → Lexes size (replaced text place spans trees end ++ 10 ∷ behind) all
   pub leads : Leads (codes "end" ++ 10 ∷ behind) (replaced text place spans trees end ++ 10 ∷ behind)
   pub holds : P all
 
-pub settle : {text : List ℕ} {spans : List Span} {trees : List Tree} {end place : ℕ} {behind bytes : List ℕ} {P : List Lexeme → Type 0} → Claim text spans trees end behind bytes P → At text place bytes → Again text spans trees end behind place P
+pub settle : {text : List ℕ} {spans : List Span} {trees : List (Option Tree)} {end place : ℕ} {behind bytes : List ℕ} {P : List Lexeme → Type 0}
+    → Claim text spans trees end behind bytes P → At text place bytes → Again text spans trees end behind place P
 settle {text} {spans} {trees} {end} {place} {behind} {bytes} c a =
     let e = c.written place bytes [] a refl in
     let r = reaches_local c.firm c.front c.old c.new c.still_open c.reaches refl c.bytes_are in
@@ -72,8 +73,8 @@ settle {text} {spans} {trees} {end} {place} {behind} {bytes} c a =
     }
 
 -- with more tokens before
-pub extend : {text : List ℕ} {spans : List Span} {trees : List Tree} {end : ℕ} {behind bytes : List ℕ} {P Q : List Lexeme → Type 0} {ts us : List Token} → (p : Parted (length text) bytes ts us) → Claim text spans trees end behind p.rest P
-    → ((ys : List Lexeme) → P ys → Q (lexemes ts ++ ys)) → Claim text spans trees end behind bytes Q
+pub extend : {text : List ℕ} {spans : List Span} {trees : List (Option Tree)} {end : ℕ} {behind bytes : List ℕ} {P Q : List Lexeme → Type 0} {ts us : List Token}
+    → (p : Parted (length text) bytes ts us) → Claim text spans trees end behind p.rest P → ((ys : List Lexeme) → P ys → Q (lexemes ts ++ ys)) → Claim text spans trees end behind bytes Q
 extend {text} {Q = Q} {ts = ts} p c f =
     let m = p.ends.0 in
     record {
@@ -93,4 +94,25 @@ extend {text} {Q = Q} {ts = ts} p c f =
       lexes = c.lexes;
       leads = c.leads;
       holds = subst Q (sym (append_assoc (lexemes ts) c.first c.others)) (f (c.first ++ c.others) c.holds);
+    }
+
+-- where no tree is given, what stands there is written
+pub claim_stays : {text : List ℕ} {span : Span} {spans : List Span} {trees : List (Option Tree)} {end : ℕ} {behind bytes : List ℕ} {P : List Lexeme → Type 0}
+    → Claim text spans trees end behind bytes P → Claim text (span ∷ spans) (None ∷ trees) end behind bytes P
+claim_stays c =
+    record {
+      stop = c.stop;
+      firm = c.firm;
+      front = c.front;
+      old = c.old;
+      new = c.new;
+      still_open = c.still_open;
+      bytes_are = c.bytes_are;
+      written = c.written;
+      first = c.first;
+      reaches = c.reaches;
+      others = c.others;
+      lexes = c.lexes;
+      leads = c.leads;
+      holds = c.holds;
     }

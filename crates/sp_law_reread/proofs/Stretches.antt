@@ -25,7 +25,8 @@ use Rattle.sp_law_reread.proofs.Places.{At, at_drop, between_is, Claim, Again}
 
 -- ---- the end
 
-end_claim : {text behind bytes rest : List ℕ} {trees : List Tree} {end : ℕ} {P : List Lexeme → Type 0} (t : Token) → IsNext (length text) bytes t rest → t.lexeme ≡ word (codes "end") → t.end ≡ end → P the_end → Claim text [] trees end behind bytes P
+end_claim : {text behind bytes rest : List ℕ} {trees : List (Option Tree)} {end : ℕ} {P : List Lexeme → Type 0} (t : Token)
+    → IsNext (length text) bytes t rest → t.lexeme ≡ word (codes "end") → t.end ≡ end → P the_end → Claim text [] trees end behind bytes P
 end_claim {text} {behind} {bytes} {rest} {trees} {end} t n e f h =
     let from : n.from ≡ codes "end" ++ rest = word_read n.from rest (codes "end") (subst (λ (x : Lexeme). piece n.from ≡ token x rest) e (next_piece n (subst BeginsNoGoal (sym e) refl))) in
     let o = skips_ends n.skips in
@@ -54,17 +55,17 @@ goes_on_end : (x : Lexeme) → x ≡ word (codes "end") → is_end x ≡ false �
 goes_on_end x e d = true≢false (ap is_end (sym e) ∙ d)
 
 -- where the word `end` alone is left
-pub claim_end : {text behind bytes : List ℕ} {trees : List Tree} {end : ℕ} {ts : List Token} {P : List Lexeme → Type 0} (b : ℕ) → AreTokens (length text) bytes ts → lexemes ts ≡ the_end → place_behind is_any b ts ≡ end → P the_end
-    → Claim text [] trees end behind bytes P
+pub claim_end : {text behind bytes : List ℕ} {trees : List (Option Tree)} {end : ℕ} {ts : List Token} {P : List Lexeme → Type 0} (b : ℕ)
+    → AreTokens (length text) bytes ts → lexemes ts ≡ the_end → place_behind is_any b ts ≡ end → P the_end → Claim text [] trees end behind bytes P
 claim_end b (no_more s) e f h = absurd (let none : ⊥ = cc in none)
 claim_end b (last {t = t} n d) e f h = end_claim t n (let g : t.lexeme ≡ word (codes "end") = cc in g) f h
 claim_end b (next {t = t} n d k) e f h = absurd (goes_on_end t.lexeme (let g : t.lexeme ≡ word (codes "end") = cc in g) d)
 
 -- ---- a lemma
 
-pub claim_lemma : {text behind bytes rest : List ℕ} {spans : List Span} {trees : List Tree} {end : ℕ} {span : Span} {first : List Token} {us : List Token} {P Q : List Lexeme → Type 0} (quote : Token) (t : Tree) → IsReadable t → (p : Parted (length text) bytes first us)
-    → IsNext (length text) p.rest quote rest → quote.lexeme ≡ sign s.Quote → span.from ≡ quote.end → Again text spans trees end behind (goes_on text span) P → ((ys : List Lexeme) → P ys → Q (lexemes first ++ sign s.Quote ∷ spelled t ys))
-    → Claim text (span ∷ spans) (t ∷ trees) end behind bytes Q
+pub claim_lemma : {text behind bytes rest : List ℕ} {spans : List Span} {trees : List (Option Tree)} {end : ℕ} {span : Span} {first : List Token} {us : List Token} {P Q : List Lexeme → Type 0} (quote : Token) (t : Tree)
+    → IsReadable t → (p : Parted (length text) bytes first us) → IsNext (length text) p.rest quote rest → quote.lexeme ≡ sign s.Quote → span.from ≡ quote.end → Again text spans trees end behind (goes_on text span) P
+    → ((ys : List Lexeme) → P ys → Q (lexemes first ++ sign s.Quote ∷ spelled t ys)) → Claim text (span ∷ spans) (Some t ∷ trees) end behind bytes Q
 claim_lemma {text} {behind} {bytes} {rest} {spans} {trees} {end} {span} {first} {Q = Q} quote t readable p n e f again step =
     let from : n.from ≡ 34 ∷ rest = quote_read n.from rest (subst (λ (x : Lexeme). piece n.from ≡ token x rest) e (next_piece n (subst BeginsNoGoal (sym e) tt))) in
     let o = skips_ends n.skips in
