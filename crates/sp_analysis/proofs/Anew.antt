@@ -1,6 +1,6 @@
 -- A text with other proofs poses what it posed.
-use Rattle.std.proofs.Common.{◌≡◌, ◌≤◌, ℕ, suc, Bool, ◌||◌, List, [], ◌∷◌, ◌++◌, length, map, Option, Some, refl, sym, ap, ◌∙◌, subst}
-use Rattle.std.specs.List.{list_any, flat_map}
+use Rattle.std.proofs.Common.{◌≡◌, ◌≤◌, ℕ, suc, List, [], ◌∷◌, ◌++◌, length, map, Option, Some, refl, sym, ap, ◌∙◌, subst}
+use Rattle.std.specs.List.{flat_map}
 use Rattle.sp_spec.specs.Lists.{Member, Every, Distinct}
 use Rattle.sp_spec.specs.Signature.{Symbol, pair_symbols}
 use Rattle.sp_spec.specs.Theory.{Restriction, Lemma, signature_of}
@@ -9,7 +9,6 @@ use Rattle.sp_law_conv.specs.Accepted.{AreAccepted}
 use Rattle.sp_law_equal.specs.Right.{EquationsAreOver}
 use Rattle.sp_spec_text.specs.Written.{WrittenProof, Item, builtins_item, functions_item, equations_item, heuristic_item, block_item, rule_item, restriction_item, lemma_item, WrittenText, item_attributes, builtins_in, functions_in, lemmas_in, with_proofs}
 use Rattle.sp_spec_text.specs.Declared.{Builtin, builtin_of, new_symbols, declared_symbols, resolved_item, theory_in}
-use Rattle.sp_pose.specs.Waiting.{item_waits, waits}
 use Rattle.sp_spec_text.specs.Texts.{IsTextOf}
 use Rattle.sp_spec_text.proofs.Items.{kept}
 use Rattle.sp_wf_rules.specs.BindingFindings.{BoundNames, item_bound, bound_in}
@@ -37,21 +36,6 @@ bound_listed (x ∷ items) = ap (λ (bs : List BoundNames). item_bound x ∷ bs)
 pub bound_kept : (items : List Item) (proofs : List (Option WrittenProof)) → bound_in (with_proofs items proofs) ≡ bound_in items
 bound_kept items proofs =
     bound_listed (with_proofs items proofs) ∙ kept (λ (item : Item). item_bound item ∷ []) (λ l as' p q. refl) items proofs ∙ sym (bound_listed items)
-
-any_put : (items : List Item) (proofs : List (Option WrittenProof)) → list_any item_waits (with_proofs items proofs) ≡ list_any item_waits items
-any_put [] proofs = refl
-any_put (builtins_item bs ∷ items) proofs = ap (λ (b : Bool). item_waits (builtins_item bs) || b) (any_put items proofs)
-any_put (functions_item ss ∷ items) proofs = ap (λ (b : Bool). item_waits (functions_item ss) || b) (any_put items proofs)
-any_put (equations_item es ∷ items) proofs = ap (λ (b : Bool). item_waits (equations_item es) || b) (any_put items proofs)
-any_put (heuristic_item ws ∷ items) proofs = ap (λ (b : Bool). item_waits (heuristic_item ws) || b) (any_put items proofs)
-any_put (block_item w ∷ items) proofs = ap (λ (b : Bool). item_waits (block_item w) || b) (any_put items proofs)
-any_put (rule_item bs r ∷ items) proofs = ap (λ (b : Bool). item_waits (rule_item bs r) || b) (any_put items proofs)
-any_put (restriction_item r ∷ items) proofs = ap (λ (b : Bool). item_waits (restriction_item r) || b) (any_put items proofs)
-any_put (lemma_item l as' p ∷ items) [] = ap (λ (b : Bool). item_waits (lemma_item l as' p) || b) (any_put items [])
-any_put (lemma_item l as' p ∷ items) (q ∷ proofs) = ap (λ (b : Bool). item_waits (lemma_item l as' p) || b) (any_put items proofs)
-
-pub waits_kept : (t : WrittenText) (proofs : List (Option WrittenProof)) → list_any item_waits (with_proofs t.items proofs) ≡ waits t
-waits_kept t proofs = any_put t.items proofs
 
 -- ---- findings
 

@@ -1,5 +1,5 @@
 -- Of a text one thing is written.
-use Rattle.std.proofs.Common.{◌≡◌, ℕ, List, [], ◌∷◌, ◌++◌, Option, Some, None, refl, sym, ap, ap₂, ◌∙◌, subst}
+use Rattle.std.proofs.Common.{◌≡◌, ℕ, true, true≢false, List, [], ◌∷◌, ◌++◌, Option, Some, None, refl, sym, ap, ap₂, ◌∙◌, subst}
 use Rattle.sp_spec.specs.Log.{Log}
 use Rattle.sp_spec.specs.Theory.{TraceKind, all_traces, exists_trace, Lemma}
 use Rattle.sp_spec.specs.Written.{theory_of}
@@ -18,11 +18,14 @@ use Rattle.sp_spec_text.specs.Declared.{resolved, theory_in}
 use Rattle.sp_spec_text.specs.Spans.{Span}
 use Rattle.sp_spec_text.specs.Texts.{ArePlaces}
 use Rattle.sp_read_theory.proofs.Whole.{text_one, places_one}
-use Rattle.sp_pose.proofs.One.{one_report, not_posed, refused_or_waiting, reported_or_waiting, ready_or_waiting}
+use Rattle.sp_pose.specs.Problem.{Poses}
+use Rattle.sp_pose.proofs.One.{one_report, not_posed}
 use Rattle.sp_analysis.specs.Taken.{Stated, stated_in, Taken, taken_by}
+use Rattle.sp_analysis.specs.Chosen.{run_among, has_lemma, placed}
+use Rattle.sp_analysis.specs.Replies.{LacksLemma}
 use Rattle.sp_analysis.specs.Sought.{root_of, Setting, setting_of, context_of, proof_tree, grown_log}
 use Rattle.sp_spec_printed.specs.Verdict.{Verdict, verified, falsified, incomplete, rejected, Says}
-use Rattle.sp_analysis.specs.Analysis.{Outcome, IsOutcome, AreOutcomes, analysed_text, IsAnalysis}
+use Rattle.sp_analysis.specs.Analysis.{Outcome, trees_of, IsOutcome, AreOutcomes, analysed_text, IsAnalysis}
 use Rattle.sp_analysis.specs.Checking.{Judged, checked_text, IsVerdictIn, IsVerdictOn, IsJudged, AreJudged, IsChecking}
 use Rattle.sp_analysis.specs.Printed.{by_leaves, by_tree, by_judgement, judged_log}
 use Rattle.sp_analysis.specs.Laws.{AnswersAreOne}
@@ -138,29 +141,37 @@ same_all_judged setting taken (q ∷ qs) (i ∷ is) (j ∷ js) h k =
 
 -- ---- answers
 
-one_answer : (budget : ℕ) (text written other : List ℕ) (outcomes others : List Outcome) → IsAnalysis budget text written outcomes → IsAnalysis budget text other others
-    → (written ≡ other) × (outcomes ≡ others)
-one_answer budget text written other outcomes others a b =
+one_answer : (budget : ℕ) (chosen : Option (List ℕ)) (text written other : List ℕ) (outcomes others : List Outcome) → IsAnalysis budget chosen text written outcomes
+    → IsAnalysis budget chosen text other others → (written ≡ other) × (outcomes ≡ others)
+one_answer budget chosen text written other outcomes others a b =
     let theory = text_one a.poses.says b.poses.says in
-    let tried : AreOutcomes (setting_of (theory_in b.theory)) budget [] (stated_in (resolved b.theory).items) outcomes =
-    subst (λ (t : WrittenText). AreOutcomes (setting_of (theory_in t)) budget [] (stated_in (resolved t).items) outcomes) theory a.outcomes_are in
-    let same = same_outcomes (setting_of (theory_in b.theory)) budget [] (stated_in (resolved b.theory).items) outcomes others tried b.outcomes_are in
-    let places = places_one (subst (λ (t : WrittenText). ArePlaces text t a.spans a.behind_end) theory a.places_are) b.places_are in (
+    let qs : WrittenText → List Stated = λ t. stated_in (resolved t).items in
+    let tried : AreOutcomes (setting_of (theory_in b.theory)) budget [] (run_among chosen (qs b.theory)) outcomes =
+    subst (λ (t : WrittenText). AreOutcomes (setting_of (theory_in t)) budget [] (run_among chosen (qs t)) outcomes) theory a.outcomes_are in
+    let same = same_outcomes (setting_of (theory_in b.theory)) budget [] (run_among chosen (qs b.theory)) outcomes others tried b.outcomes_are in
+    let places = places_one (subst (λ (t : WrittenText). ArePlaces text t a.spans a.behind_end) theory a.places_are) b.places_are in
+    let made : WrittenText → List Span → List Outcome → ℕ → List ℕ = λ t ps os end. analysed_text (theory_of (theory_in t)) text ps (placed chosen (qs t) (trees_of os)) os end in (
       a.written_is
-          ∙ ap₂ (λ (ps : List Span) (os : List Outcome). analysed_text (theory_of (theory_in a.theory)) text ps os a.behind_end) places.0 same
-          ∙ ap (analysed_text (theory_of (theory_in a.theory)) text b.spans others) places.1
-          ∙ ap (λ (t : WrittenText). analysed_text (theory_of (theory_in t)) text b.spans others b.behind_end) theory
+          ∙ ap₂ (λ (ps : List Span) (os : List Outcome). made a.theory ps os a.behind_end) places.0 same
+          ∙ ap (made a.theory b.spans others) places.1
+          ∙ ap (λ (t : WrittenText). made t b.spans others b.behind_end) theory
           ∙ sym b.written_is,
       same,
     )
 
-one_check : (text written other : List ℕ) (js others : List Judged) → IsChecking text written js → IsChecking text other others → (written ≡ other) × (js ≡ others)
-one_check text written other js others a b =
+one_check : (chosen : Option (List ℕ)) (text written other : List ℕ) (js others : List Judged) → IsChecking chosen text written js → IsChecking chosen text other others → (written ≡ other) × (js ≡ others)
+one_check chosen text written other js others a b =
     let theory = text_one a.poses.says b.poses.says in
-    let all : AreJudged (setting_of (theory_in b.theory)) [] (stated_in (resolved b.theory).items) js =
-    subst (λ (t : WrittenText). AreJudged (setting_of (theory_in t)) [] (stated_in (resolved t).items) js) theory a.judged_are in
-    let same = same_all_judged (setting_of (theory_in b.theory)) [] (stated_in (resolved b.theory).items) js others all b.judged_are in
+    let qs : WrittenText → List Stated = λ t. run_among chosen (stated_in (resolved t).items) in
+    let all : AreJudged (setting_of (theory_in b.theory)) [] (qs b.theory) js = subst (λ (t : WrittenText). AreJudged (setting_of (theory_in t)) [] (qs t) js) theory a.judged_are in
+    let same = same_all_judged (setting_of (theory_in b.theory)) [] (qs b.theory) js others all b.judged_are in
     (a.written_is ∙ ap (checked_text (theory_of (theory_in a.theory))) same ∙ ap (λ (t : WrittenText). checked_text (theory_of (theory_in t)) others) theory ∙ sym b.written_is, same)
+
+-- a text has the lemma that is named, or lacks it
+not_both : (chosen : Option (List ℕ)) {text : List ℕ} {t : WrittenText} → Poses text t → has_lemma chosen (stated_in (resolved t).items) ≡ true → LacksLemma chosen text → ⊥
+not_both chosen p h l =
+    let theory = text_one p.says l.poses.says in
+    true≢false (sym h ∙ ap (λ (t : WrittenText). has_lemma chosen (stated_in (resolved t).items)) theory ∙ l.lacks)
 
 pub answers_are_one_lem : AnswersAreOne
 answers_are_one_lem = record {
@@ -168,12 +179,12 @@ answers_are_one_lem = record {
   one_check = one_check;
   one_report = one_report;
   refused = λ text lines place h r. h.nothing.none r.theory r.says;
-  no_analysis = λ budget text written place outcomes h a. h.nothing.none a.theory a.poses.says;
-  no_checking = λ text written place js h c. h.nothing.none c.theory c.poses.says;
-  not_analysed = λ budget text lines written outcomes r a. not_posed r a.poses;
-  not_checked = λ text lines written js r c. not_posed r c.poses;
-  refused_or_waiting = λ text place h w. refused_or_waiting h w;
-  reported_or_waiting = λ text lines r w. reported_or_waiting r w;
-  analysed_or_waiting = λ budget text written outcomes a w. ready_or_waiting a.poses a.ready w;
-  checked_or_waiting = λ text written js c w. ready_or_waiting c.poses c.ready w;
+  no_analysis = λ budget chosen text written place outcomes h a. h.nothing.none a.theory a.poses.says;
+  no_checking = λ chosen text written place js h c. h.nothing.none c.theory c.poses.says;
+  not_analysed = λ budget chosen text lines written outcomes r a. not_posed r a.poses;
+  not_checked = λ chosen text lines written js r c. not_posed r c.poses;
+  refused_or_lacking = λ chosen text place h l. h.nothing.none l.theory l.poses.says;
+  reported_or_lacking = λ chosen text lines r l. not_posed r l.poses;
+  analysed_or_lacking = λ budget chosen text written outcomes a l. not_both chosen a.poses a.has l;
+  checked_or_lacking = λ chosen text written js c l. not_both chosen c.poses c.has l;
 }

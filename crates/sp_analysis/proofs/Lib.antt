@@ -11,3 +11,5 @@ pub mod Blocks
 pub mod ReadBack
 pub mod Walked
 pub mod TakenFor
+pub mod Running
+pub mod ReadRun

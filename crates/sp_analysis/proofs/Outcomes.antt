@@ -1,10 +1,11 @@
 -- What is printed of the lemmas is what their outcomes say.
-use Rattle.std.proofs.Common.{◌≡◌, ℕ, Bool, true, false, List, [], ◌∷◌, ◌++◌, map, codes, Option, Some, None, option_map, Result, Ok, Err, IfOk, refl, sym, ap, ap₂, ◌∙◌, subst, true≢false}
+use Rattle.std.proofs.Common.{◌≡◌, ◌≤◌, ℕ, Bool, true, false, if◌then◌else◌, List, [], ◌∷◌, ◌++◌, map, codes, Option, Some, None, option_map, Result, Ok, Err, IfOk, refl, sym, ap, ap₂, ◌∙◌, subst, true≢false}
 use Rattle.sp_spec.specs.Lists.{Every}
 use Rattle.sp_spec.specs.Rule.{Rule}
 use Rattle.sp_spec.specs.Signature.{Signature}
 use Rattle.sp_spec.specs.Theory.{TraceKind, all_traces, exists_trace}
 use Rattle.sp_spec.specs.Written.{theory_of}
+use Rattle.sp_spec.specs.Verdict.{names_learning}
 use Rattle.sp_spec.specs.Log.{Log}
 use Rattle.sp_spec.specs.Guarded.{Guarded}
 use Rattle.sp_law_guard.specs.CheckedForm.{checked_form}
@@ -35,21 +36,23 @@ use Rattle.sp_written.specs.declared.theory.Item.TheVariants as i
 use Rattle.sp_spec_text.specs.Spans.{Span, Rise, goes_on}
 use Rattle.sp_written.specs.declared.theory.WrittenLemma.{WrittenLemma}
 use Rattle.sp_law_reread.specs.Again.{between, replaced}
-use Rattle.sp_pose.proofs.Forms.{AreForms, asked_list, has_forms, required_forms}
+use Rattle.sp_pose.proofs.Forms.{AreForms, asked_list, HasForms, has_forms, required_forms}
 use Rattle.sp_pose.specs.Required.{Required, required_of}
 use Rattle.sp_analysis.specs.Taken.{Stated, stated_in, Taken, gives, form_taken, taken_by}
-use Rattle.sp_analysis.specs.Sought.{Setting, setting_of, executed, context_of, proof_tree, grown_log}
+use Rattle.sp_analysis.specs.Chosen.{is_run, is_among, has_lemma, run_among, placed, next_tree, later_trees}
+use Rattle.sp_analysis.specs.Sought.{Setting, setting_of, executed, given, context_of, proof_tree, grown_log}
 use Rattle.sp_spec_printed.specs.Verdict.{Verdict, Says}
-use Rattle.sp_law_printed_log.specs.Block.{block_by, IsNumberedBy}
+use Rattle.sp_analysis.specs.Found.{block_by, IsNumberedBy}
 use Rattle.sp_spec_text.specs.Numerals.{counted}
 use Rattle.sp_analysis.specs.Analysis.{Outcome, summary_by, trees_of, IsOutcome, AreOutcomes}
 use Rattle.sp_analysis.specs.Checking.{proof_read, IsVerdictIn, Judged, checked_by, IsJudged, AreJudged}
 use Rattle.sp_pose.specs.Asked.{Asked, asked_of, asked_with, lemmas_read}
-use Rattle.sp_analysis.specs.Printed.{Printed, printed_of, by_tree, by_judgement, judged_log, root_for, judged_so, to_print, taken_from, all_to_print, AreNameable, line_of, lines, spliced, text_with, written_by}
+use Rattle.sp_analysis.specs.Printed.{Printed, printed_of, by_tree, by_judgement, judged_log, root_for, judged_so, to_print, taken_from, asked_run, all_to_print, AreNameable, line_of, lines, spliced, text_with, written_by}
 use Rattle.sp_analysis.specs.View.{verdict_of}
 use Rattle.sp_pose.specs.Posed.{IsPosedBy}
-use Rattle.sp_pose.proofs.WaitingItems.{is_ready}
-use Rattle.sp_analysis.specs.Replies.{IsAnalysed, IsChecked, IsDone, IsAnswered}
+use Rattle.sp_analysis.specs.Replies.{IsAnalysed, IsChecked, LacksLemma, IsDone, IsAnswered}
+use Rattle.sp_analysis.proofs.Running.{rise_behind}
+use Rattle.sp_analysis.proofs.ReadRun.{read_run, forms_run, are_formed, listed_run, names_listed}
 use Rattle.sp_pose.specs.declared.problem.Problem.{Problem}
 use Rattle.sp_analysis.specs.declared.replies.Answered.{Answered}
 use Rattle.sp_analysis.specs.declared.replies.Command.{Command}
@@ -103,16 +106,36 @@ tried_verdicts : (ts : List Tried) → printed_verdicts (map printed_of ts) ≡ 
 tried_verdicts [] = refl
 tried_verdicts (t ∷ ts) = ap (λ (vs : List Verdict). verdict_of t.verdict ∷ vs) (tried_verdicts ts)
 
+one_rises : (text : List ℕ) (low : ℕ) (l : WrittenLemma) (ls run : List WrittenLemma) (end : ℕ) (b : Bool) → Rise text low (spans_of (l ∷ ls)) end
+    → Rise text (goes_on text (view.span_of l.span)) (spans_of run) end → Rise text low (spans_of (if b then l ∷ run else run)) end
+one_rises text low l ls run end true h k = (h.0, h.1, k)
+one_rises text low l ls run end false h k = rise_behind text low (view.span_of l.span) (spans_of run) end h.0 h.1 k
+
+-- so do the places of those that are run
+rise_run : (chosen : Option (List ℕ)) (text : List ℕ) (low : ℕ) (ls : List WrittenLemma) (end : ℕ) → Rise text low (spans_of ls) end → Rise text low (spans_of (read_run chosen ls)) end
+rise_run chosen text low [] end h = h
+rise_run chosen text low (l ∷ ls) end h =
+    one_rises text low l ls (read_run chosen ls) end (is_run chosen l.name.now) h (rise_run chosen text (goes_on text (view.span_of l.span)) ls end h.2)
+
+-- what is asked of the lemmas that are run
+asked_again : (chosen : Option (List ℕ)) (ls : List WrittenLemma) (as' : List Asked) (h : HasForms ls as') → asked_run chosen as' ≡ asked_list (read_run chosen ls) (forms_run chosen ls h.forms)
+asked_again chosen ls as' h = ap (asked_run chosen) h.is ∙ listed_run chosen ls h.forms h.are
+
 -- the proofs are put where they stand
-pub rise_tried : {text : List ℕ} (command : Command) (setting : Setting) (p : Problem) (ts : List Tried) → IsPosedBy text p → map printed_of ts ≡ all_to_print command setting [] (map asked_of p.lemmas.items)
-    → Rise text 0 (map (λ (t : Tried). view.span_of t.span) ts) p.behind_end
-rise_tried {text} command setting p ts posed prints =
+pub rise_tried : {text : List ℕ} (command : Command) (chosen : Option (List ℕ)) (setting : Setting) (p : Problem) (ts : List Tried) → IsPosedBy text p
+    → map printed_of ts ≡ all_to_print command setting [] (asked_run chosen (map asked_of p.lemmas.items)) → Rise text 0 (map (λ (t : Tried). view.span_of t.span) ts) p.behind_end
+rise_tried {text} command chosen setting p ts posed prints =
     let xs = posed.theory.items.items in
-    let h = has_forms (lemmas_read xs) (map asked_of p.lemmas.items) posed.lemmas_are in
-    let same : view.spans xs ≡ map (λ (t : Tried). view.span_of t.span) ts =
-    spans_read xs ∙ sym (spans_to_print command setting [] (lemmas_read xs) h.forms h.are) ∙ ap (λ (as' : List Asked). printed_spans (all_to_print command setting [] as')) (sym h.is)
+    let ls = lemmas_read xs in
+    let h = has_forms ls (map asked_of p.lemmas.items) posed.lemmas_are in
+    let run = read_run chosen ls in
+    let forms = forms_run chosen ls h.forms in
+    let same : spans_of run ≡ map (λ (t : Tried). view.span_of t.span) ts =
+    sym (spans_to_print command setting [] run forms (are_formed chosen ls h.forms h.are))
+    ∙ ap (λ (as' : List Asked). printed_spans (all_to_print command setting [] as')) (sym (asked_again chosen ls (map asked_of p.lemmas.items) h))
     ∙ ap printed_spans (sym prints) ∙ tried_spans ts in
-    subst (λ (ss : List Span). Rise text 0 ss p.behind_end) same posed.rise
+    subst (λ (ss : List Span). Rise text 0 ss p.behind_end) same
+    (rise_run chosen text 0 ls p.behind_end (subst (λ (ss : List Span). Rise text 0 ss p.behind_end) (spans_read xs) posed.rise))
 
 -- ---- lemmas that are tried
 
@@ -149,6 +172,32 @@ stated_same (i.Lemma l ∷ xs) = ap (λ (qs : List Stated). stated_of l ∷ qs) 
 
 stated_said : {text : List ℕ} (p : Problem) (posed : IsPosedBy text p) → stated_in (resolved posed.said).items ≡ map stated_of (lemmas_read posed.theory.items.items)
 stated_said p posed = ap (λ (t : WrittenText). stated_in t.items) (sym posed.resolved_is) ∙ stated_same posed.theory.items.items
+
+one_stated : (l : WrittenLemma) (ls : List WrittenLemma) (qs : List Stated) (b : Bool) → qs ≡ map stated_of ls → (if b then stated_of l ∷ qs else qs) ≡ map stated_of (if b then l ∷ ls else ls)
+one_stated l ls qs true e = ap (λ (rest : List Stated). stated_of l ∷ rest) e
+one_stated l ls qs false e = e
+
+-- those that are run, as the text states them
+stated_run : (chosen : Option (List ℕ)) (ls : List WrittenLemma) → run_among chosen (map stated_of ls) ≡ map stated_of (read_run chosen ls)
+stated_run chosen [] = refl
+stated_run chosen (l ∷ ls) = one_stated l (read_run chosen ls) (run_among chosen (map stated_of ls)) (is_run chosen l.name.now) (stated_run chosen ls)
+
+run_said : {text : List ℕ} (chosen : Option (List ℕ)) (p : Problem) (posed : IsPosedBy text p)
+    → run_among chosen (stated_in (resolved posed.said).items) ≡ map stated_of (read_run chosen (lemmas_read posed.theory.items.items))
+run_said chosen p posed = ap (run_among chosen) (stated_said p posed) ∙ stated_run chosen (lemmas_read posed.theory.items.items)
+
+names_stated : (ls : List WrittenLemma) → map (λ (q : Stated). q.lemma.name) (map stated_of ls) ≡ map (λ (l : WrittenLemma). l.name.now) ls
+names_stated [] = refl
+names_stated (l ∷ ls) = ap (λ (names : List (List ℕ)). l.name.now ∷ names) (names_stated ls)
+
+-- the problem has the lemmas that the text has
+pub has_same : {text : List ℕ} (chosen : Option (List ℕ)) (p : Problem) (posed : IsPosedBy text p)
+    → is_among chosen (map (λ (a : Asked). a.name) (map asked_of p.lemmas.items)) ≡ has_lemma chosen (stated_in (resolved posed.said).items)
+has_same chosen p posed =
+    let ls = lemmas_read posed.theory.items.items in
+    let h = has_forms ls (map asked_of p.lemmas.items) posed.lemmas_are in
+    ap (is_among chosen) (ap (map (λ (a : Asked). a.name)) h.is ∙ names_listed ls h.forms h.are ∙ sym (names_stated ls))
+    ∙ ap (has_lemma chosen) (sym (stated_said p posed))
 
 -- it gives what is taken of it
 given_same : (l : WrittenLemma) (g : Guarded) → checked_form (formula l.formula) ≡ Some g → (p : Printed) → taken_from (asked_with l g) p ≡ taken_by (stated_of l) p.verdict
@@ -189,16 +238,39 @@ outcomes_right setting budget taken (l ∷ ls) (g ∷ gs) h =
           (given_same l g h.0 (to_print (Prove budget) setting taken (asked_with l g))) (outcomes_right setting budget later ls gs h.1),
     )
 
-proofs_same : (setting : Setting) (budget : ℕ) (taken : List Taken) (text : List ℕ) (start end : ℕ) (ls : List WrittenLemma) (gs : List Guarded)
-    → spliced text start (all_to_print (Prove budget) setting taken (asked_list ls gs)) end ≡ replaced text start (spans_of ls) (trees_of (outcomes_of setting budget taken ls gs)) end
-proofs_same setting budget taken text start end [] gs = refl
-proofs_same setting budget taken text start end (l ∷ ls) [] = refl
-proofs_same setting budget taken text start end (l ∷ ls) (g ∷ gs) =
-    ap (λ (rest : List ℕ). between start l.span.from text ++ (codes "\n" ++ (tree_text 0 (proof_tree setting budget (root_in setting taken l g)) ++ rest)))
-    (proofs_same setting budget (then_taken (Prove budget) setting taken l g) text (goes_on text (view.span_of l.span)) end ls gs)
+module _ (chosen : Option (List ℕ)) (setting : Setting) (budget : ℕ) (text : List ℕ) (end : ℕ) where
+  -- what is to be printed from a place on, of lemmas that are run
+  abbrev to_splice : List Taken → ℕ → List WrittenLemma → List Guarded → List ℕ
+  to_splice taken start run forms = spliced text start (all_to_print (Prove budget) setting taken (asked_list run forms)) end
+
+  -- their trees
+  abbrev trees_run : List Taken → List WrittenLemma → List Guarded → List Tree
+  trees_run taken run forms = trees_of (outcomes_of setting budget taken run forms)
+
+  one_spliced : (taken : List Taken) (start : ℕ) (l : WrittenLemma) (g : Guarded) (ls run : List WrittenLemma) (forms : List Guarded) (b : Bool)
+      → to_splice (then_taken (Prove budget) setting taken l g) (goes_on text (view.span_of l.span)) run forms
+      ≡ replaced text (goes_on text (view.span_of l.span)) (spans_of ls) (placed chosen (map stated_of ls) (trees_run (then_taken (Prove budget) setting taken l g) run forms)) end
+      → to_splice taken start run forms ≡ replaced text start (spans_of ls) (placed chosen (map stated_of ls) (trees_run taken run forms)) end
+      → let trees = trees_run taken (if b then l ∷ run else run) (if b then g ∷ forms else forms) in
+      to_splice taken start (if b then l ∷ run else run) (if b then g ∷ forms else forms)
+      ≡ replaced text start (spans_of (l ∷ ls)) (if b then next_tree trees ∷ placed chosen (map stated_of ls) (later_trees trees) else None ∷ placed chosen (map stated_of ls) trees) end
+  one_spliced taken start l g ls run forms true put kept =
+      ap (λ (rest : List ℕ). between start l.span.from text ++ (codes "\n" ++ (tree_text 0 (proof_tree setting budget (root_in setting taken l g)) ++ rest))) put
+  one_spliced taken start l g ls run forms false put kept = kept
+
+  -- the proofs that were grown stand in the places of the lemmas that are run
+  proofs_same : (taken : List Taken) (start : ℕ) (ls : List WrittenLemma) (gs : List Guarded) → AreForms ls gs
+      → to_splice taken start (read_run chosen ls) (forms_run chosen ls gs)
+      ≡ replaced text start (spans_of ls) (placed chosen (map stated_of ls) (trees_run taken (read_run chosen ls) (forms_run chosen ls gs))) end
+  proofs_same taken start [] [] h = refl
+  proofs_same taken start [] (g ∷ gs) h = absurd h
+  proofs_same taken start (l ∷ ls) [] h = absurd h
+  proofs_same taken start (l ∷ ls) (g ∷ gs) h =
+      one_spliced taken start l g ls (read_run chosen ls) (forms_run chosen ls gs) (is_run chosen l.name.now)
+      (proofs_same (then_taken (Prove budget) setting taken l g) (goes_on text (view.span_of l.span)) ls gs h.1) (proofs_same taken start ls gs h.1)
 
 lines_same : (setting : Setting) (budget : ℕ) (taken : List Taken) (ls : List WrittenLemma) (gs : List Guarded)
-    → lines (all_to_print (Prove budget) setting taken (asked_list ls gs)) ≡ summary_by (executed setting) (outcomes_of setting budget taken ls gs)
+    → lines (all_to_print (Prove budget) setting taken (asked_list ls gs)) ≡ summary_by (executed setting) (given setting) (outcomes_of setting budget taken ls gs)
 lines_same setting budget taken [] gs = refl
 lines_same setting budget taken (l ∷ ls) [] = refl
 lines_same setting budget taken (l ∷ ls) (g ∷ gs) =
@@ -219,7 +291,7 @@ outcomes_placed setting budget taken (l ∷ ls) [] h = tt
 outcomes_placed setting budget taken (l ∷ ls) (g ∷ gs) h = (h.0.0, outcomes_placed setting budget (then_taken (Prove budget) setting taken l g) ls gs h.1)
 
 outcomes_numbered : (setting : Setting) (budget : ℕ) (taken : List Taken) (ls : List WrittenLemma) (gs : List Guarded)
-    → AreNameable (Prove budget) setting taken (asked_list ls gs) → Every (λ (o : Outcome). IsNumberedBy (executed setting) o.log) (outcomes_of setting budget taken ls gs)
+    → AreNameable (Prove budget) setting taken (asked_list ls gs) → Every (λ (o : Outcome). IsNumberedBy (executed setting) (given setting) (names_learning o.lemma.formula) o.log) (outcomes_of setting budget taken ls gs)
 outcomes_numbered setting budget taken [] gs h = tt
 outcomes_numbered setting budget taken (l ∷ ls) [] h = tt
 outcomes_numbered setting budget taken (l ∷ ls) (g ∷ gs) h = (h.0.1, outcomes_numbered setting budget (then_taken (Prove budget) setting taken l g) ls gs h.1)
@@ -287,7 +359,7 @@ all_judged_right setting taken (l ∷ ls) (g ∷ gs) h =
     )
 
 checked_same : (setting : Setting) (taken : List Taken) (ls : List WrittenLemma) (gs : List Guarded)
-    → lines (all_to_print Check setting taken (asked_list ls gs)) ≡ checked_by (executed setting) (all_judged setting taken ls gs)
+    → lines (all_to_print Check setting taken (asked_list ls gs)) ≡ checked_by (executed setting) (given setting) (all_judged setting taken ls gs)
 checked_same setting taken [] gs = refl
 checked_same setting taken (l ∷ ls) [] = refl
 checked_same setting taken (l ∷ ls) (g ∷ gs) =
@@ -295,7 +367,7 @@ checked_same setting taken (l ∷ ls) (g ∷ gs) =
     ap (λ (rest : List ℕ). line_of p ++ (p.block ++ rest)) (checked_same setting (then_taken Check setting taken l g) ls gs)
 
 judged_numbered : (setting : Setting) (taken : List Taken) (ls : List WrittenLemma) (gs : List Guarded) → AreNameable Check setting taken (asked_list ls gs)
-    → Every (λ (j : Judged). IsNumberedBy (executed setting) j.log) (all_judged setting taken ls gs)
+    → Every (λ (j : Judged). IsNumberedBy (executed setting) (given setting) (names_learning j.lemma.formula) j.log) (all_judged setting taken ls gs)
 judged_numbered setting taken [] gs h = tt
 judged_numbered setting taken (l ∷ ls) [] h = tt
 judged_numbered setting taken (l ∷ ls) (g ∷ gs) h = (h.0, judged_numbered setting (then_taken Check setting taken l g) ls gs h.1)
@@ -333,83 +405,104 @@ setting_is p posed =
     ∙ ap₂ (λ (x : Signature) (restrictions : List Guarded). setting_made x (theory_of (theory_in posed.said)).rules (constants_of (theory_in posed.said)) restrictions) posed.signature_is
     (ap forms_required posed.restrictions_are ∙ required_forms (theory_in posed.said).restrictions)
 
-module _ {text : List ℕ} (p : Problem) (ts : List Tried) (written : List ℕ) (verdicts : List memory.Verdict) (posed : IsPosedBy text p) (ready : p.waits ≡ false) where
-  analysed : (budget : ℕ) → map printed_of ts ≡ all_to_print (Prove budget) (setting_for p) [] (map asked_of p.lemmas.items)
-      → AreNameable (Prove budget) (setting_for p) [] (map asked_of p.lemmas.items)
-      → written ≡ written_by (Prove budget) text (map printed_of ts) p.behind_end → verdicts ≡ verdicts_in ts → IsAnalysed budget text written (map verdict_of verdicts)
+module _ {text : List ℕ} (chosen : Option (List ℕ)) (p : Problem) (ts : List Tried) (written : List ℕ) (verdicts : List memory.Verdict) (posed : IsPosedBy text p)
+    (has : is_among chosen (map (λ (a : Asked). a.name) (map asked_of p.lemmas.items)) ≡ true) where
+  abbrev asked : List Asked
+  asked = asked_run chosen (map asked_of p.lemmas.items)
+
+  analysed : (budget : ℕ) → map printed_of ts ≡ all_to_print (Prove budget) (setting_for p) [] asked → AreNameable (Prove budget) (setting_for p) [] asked
+      → written ≡ written_by (Prove budget) text (map printed_of ts) p.behind_end → verdicts ≡ verdicts_in ts → IsAnalysed budget chosen text written (map verdict_of verdicts)
   analysed budget prints nameable written_is verdicts_are =
       let xs = posed.theory.items.items in
       let ls = lemmas_read xs in
+      let qs = stated_in (resolved posed.said).items in
       let setting = setting_for p in
       let same = setting_is p posed in
       let h = has_forms ls (map asked_of p.lemmas.items) posed.lemmas_are in
-      let os = outcomes_of setting budget [] ls h.forms in
-      let all : map printed_of ts ≡ all_to_print (Prove budget) setting [] (asked_list ls h.forms) = prints ∙ ap (all_to_print (Prove budget) setting []) h.is in
-      let named = subst (λ (as' : List Asked). AreNameable (Prove budget) setting [] as') h.is nameable in
+      let run = read_run chosen ls in
+      let forms = forms_run chosen ls h.forms in
+      let os = outcomes_of setting budget [] run forms in
+      let again = asked_again chosen ls (map asked_of p.lemmas.items) h in
+      let all : map printed_of ts ≡ all_to_print (Prove budget) setting [] (asked_list run forms) = prints ∙ ap (all_to_print (Prove budget) setting []) again in
+      let named = subst (λ (as' : List Asked). AreNameable (Prove budget) setting [] as') again nameable in
       let text_of : List ℕ → List ℕ → List ℕ = λ body words. body ++ (codes "\n/*\n" ++ (words ++ codes "*/\n")) in
-      let right : AreOutcomes setting budget [] (stated_in (resolved posed.said).items) os =
-      subst (λ (qs : List Stated). AreOutcomes setting budget [] qs os) (sym (stated_said p posed)) (outcomes_right setting budget [] ls h.forms h.are) in
+      let right : AreOutcomes setting budget [] (run_among chosen qs) os =
+      subst (λ (rs : List Stated). AreOutcomes setting budget [] rs os) (sym (run_said chosen p posed)) (outcomes_right setting budget [] run forms (are_formed chosen ls h.forms h.are)) in
       record {
         outcomes = os;
         analysis = record {
           theory = posed.said;
           poses = posed.poses;
-          ready = is_ready p posed ready;
-          outcomes_are = subst (λ (x : Setting). AreOutcomes x budget [] (stated_in (resolved posed.said).items) os) same right;
-          places = outcomes_placed setting budget [] ls h.forms named;
-          numbers = subst (λ (x : Setting). Every (λ (o : Outcome). IsNumberedBy (executed x) o.log) os) same (outcomes_numbered setting budget [] ls h.forms named);
+          has = sym (has_same chosen p posed) ∙ has;
+          outcomes_are = subst (λ (x : Setting). AreOutcomes x budget [] (run_among chosen qs) os) same right;
+          places = outcomes_placed setting budget [] run forms named;
+          numbers = subst (λ (x : Setting). Every (λ (o : Outcome). IsNumberedBy (executed x) (given x) (names_learning o.lemma.formula) o.log) os) same (outcomes_numbered setting budget [] run forms named);
           spans = view.spans xs;
           behind_end = p.behind_end;
           places_are = posed.places_are;
           written_is = written_is ∙ ap (λ (ps : List Printed). text_with text ps p.behind_end) all
-              ∙ ap₂ text_of (proofs_same setting budget [] text 0 p.behind_end ls h.forms ∙ ap (λ (ss : List Span). replaced text 0 ss (trees_of os) p.behind_end) (sym (spans_read xs)))
-              (lines_same setting budget [] ls h.forms ∙ ap (λ (x : Setting). summary_by (executed x) os) same);
+              ∙ ap₂ text_of
+              (proofs_same chosen setting budget text p.behind_end [] 0 ls h.forms h.are
+              ∙ ap₂ (λ (ss : List Span) (rs : List Stated). replaced text 0 ss (placed chosen rs (trees_of os)) p.behind_end) (sym (spans_read xs)) (sym (stated_said p posed)))
+              (lines_same setting budget [] run forms ∙ ap (λ (x : Setting). summary_by (executed x) (given x) os) same);
         };
-        verdicts_are = ap (map verdict_of) verdicts_are ∙ sym (tried_verdicts ts) ∙ ap printed_verdicts all ∙ verdicts_same setting budget [] ls h.forms;
+        verdicts_are = ap (map verdict_of) verdicts_are ∙ sym (tried_verdicts ts) ∙ ap printed_verdicts all ∙ verdicts_same setting budget [] run forms;
       }
 
-  checked : map printed_of ts ≡ all_to_print Check (setting_for p) [] (map asked_of p.lemmas.items) → AreNameable Check (setting_for p) [] (map asked_of p.lemmas.items)
+  checked : map printed_of ts ≡ all_to_print Check (setting_for p) [] asked → AreNameable Check (setting_for p) [] asked
       → written ≡ written_by Check text (map printed_of ts) p.behind_end → verdicts ≡ verdicts_in ts
-      → IsChecked text written (map verdict_of verdicts)
+      → IsChecked chosen text written (map verdict_of verdicts)
   checked prints nameable written_is verdicts_are =
-      let xs = posed.theory.items.items in
-      let ls = lemmas_read xs in
+      let ls = lemmas_read posed.theory.items.items in
+      let qs = stated_in (resolved posed.said).items in
       let setting = setting_for p in
       let same = setting_is p posed in
       let h = has_forms ls (map asked_of p.lemmas.items) posed.lemmas_are in
-      let js = all_judged setting [] ls h.forms in
-      let all : map printed_of ts ≡ all_to_print Check setting [] (asked_list ls h.forms) = prints ∙ ap (all_to_print Check setting []) h.is in
+      let run = read_run chosen ls in
+      let forms = forms_run chosen ls h.forms in
+      let js = all_judged setting [] run forms in
+      let again = asked_again chosen ls (map asked_of p.lemmas.items) h in
+      let all : map printed_of ts ≡ all_to_print Check setting [] (asked_list run forms) = prints ∙ ap (all_to_print Check setting []) again in
+      let named = subst (λ (as' : List Asked). AreNameable Check setting [] as') again nameable in
       record {
         judged = js;
         checking = record {
           theory = posed.said;
           poses = posed.poses;
-          ready = is_ready p posed ready;
-          judged_are = subst (λ (x : Setting). AreJudged x [] (stated_in (resolved posed.said).items) js) same
-              (subst (λ (qs : List Stated). AreJudged setting [] qs js) (sym (stated_said p posed)) (all_judged_right setting [] ls h.forms h.are));
-          numbers = subst (λ (x : Setting). Every (λ (j : Judged). IsNumberedBy (executed x) j.log) js) same (judged_numbered setting [] ls h.forms (subst (λ (as' : List Asked). AreNameable Check setting [] as') h.is nameable));
-          written_is = written_is ∙ ap lines all ∙ checked_same setting [] ls h.forms ∙ ap (λ (x : Setting). checked_by (executed x) js) same;
+          has = sym (has_same chosen p posed) ∙ has;
+          judged_are = subst (λ (x : Setting). AreJudged x [] (run_among chosen qs) js) same
+              (subst (λ (rs : List Stated). AreJudged setting [] rs js) (sym (run_said chosen p posed)) (all_judged_right setting [] run forms (are_formed chosen ls h.forms h.are)));
+          numbers = subst (λ (x : Setting). Every (λ (j : Judged). IsNumberedBy (executed x) (given x) (names_learning j.lemma.formula) j.log) js) same (judged_numbered setting [] run forms named);
+          written_is = written_is ∙ ap lines all ∙ checked_same setting [] run forms ∙ ap (λ (x : Setting). checked_by (executed x) (given x) js) same;
         };
-        verdicts_are = ap (map verdict_of) verdicts_are ∙ sym (tried_verdicts ts) ∙ ap printed_verdicts all ∙ judged_verdicts setting [] ls h.forms;
+        verdicts_are = ap (map verdict_of) verdicts_are ∙ sym (tried_verdicts ts) ∙ ap printed_verdicts all ∙ judged_verdicts setting [] run forms;
       }
 
-  is_done : (command : Command) → map printed_of ts ≡ all_to_print command (setting_for p) [] (map asked_of p.lemmas.items)
-      → AreNameable command (setting_for p) [] (map asked_of p.lemmas.items) → written ≡ written_by command text (map printed_of ts) p.behind_end → verdicts ≡ verdicts_in ts
-      → IsDone command text written (map verdict_of verdicts)
+  is_done : (command : Command) → map printed_of ts ≡ all_to_print command (setting_for p) [] asked
+      → AreNameable command (setting_for p) [] asked → written ≡ written_by command text (map printed_of ts) p.behind_end → verdicts ≡ verdicts_in ts
+      → IsDone command chosen text written (map verdict_of verdicts)
   is_done (Prove budget) prints nameable written_is verdicts_are = analysed budget prints nameable written_is verdicts_are
   is_done Check prints nameable written_is verdicts_are = checked prints nameable written_is verdicts_are
 
 -- so of what was answered
-pub is_answered : {text : List ℕ} {E : Type 0} (p : Problem) (ts : List Tried) (r : Result Answered E) → IsPosedBy text p → p.waits ≡ false → (command : Command)
-    → map printed_of ts ≡ all_to_print command (setting_for p) [] (map asked_of p.lemmas.items) → AreNameable command (setting_for p) [] (map asked_of p.lemmas.items)
-    → IfOk r (λ a. a.written.items ≡ written_by command text (map printed_of ts) p.behind_end) → IfOk r (λ a. a.verdicts.items ≡ verdicts_in ts) → IfOk r (IsAnswered command text)
-is_answered p ts (Ok a) posed ready command prints nameable written_is verdicts_are = is_done p ts a.written.items a.verdicts.items posed ready command prints nameable written_is verdicts_are
-is_answered p ts (Err e) posed ready command prints nameable written_is verdicts_are = tt
+pub is_answered : {text : List ℕ} {E : Type 0} (chosen : Option (List ℕ)) (p : Problem) (ts : List Tried) (r : Result Answered E) → IsPosedBy text p
+    → is_among chosen (map (λ (a : Asked). a.name) (map asked_of p.lemmas.items)) ≡ true → (command : Command)
+    → map printed_of ts ≡ all_to_print command (setting_for p) [] (asked_run chosen (map asked_of p.lemmas.items))
+    → AreNameable command (setting_for p) [] (asked_run chosen (map asked_of p.lemmas.items))
+    → IfOk r (λ a. a.written.items ≡ written_by command text (map printed_of ts) p.behind_end) → IfOk r (λ a. a.verdicts.items ≡ verdicts_in ts) → IfOk r (IsAnswered command chosen text)
+is_answered chosen p ts (Ok a) posed has command prints nameable written_is verdicts_are =
+    is_done chosen p ts a.written.items a.verdicts.items posed has command prints nameable written_is verdicts_are
+is_answered chosen p ts (Err e) posed has command prints nameable written_is verdicts_are = tt
+
+-- and where there is no lemma of the name that is given
+pub lacks_lemma : {text : List ℕ} (chosen : Option (List ℕ)) (p : Problem) → IsPosedBy text p → is_among chosen (map (λ (a : Asked). a.name) (map asked_of p.lemmas.items)) ≡ false
+    → LacksLemma chosen text
+lacks_lemma chosen p posed none = record { theory = posed.said; poses = posed.poses; lacks = sym (has_same chosen p posed) ∙ none }
 
 -- ---- what is printed of a tree that was grown
 
-abbrev pub made : List ℕ → TraceKind → Span → Verdict → ℕ → List ℕ → List ℕ → Printed
-made name kind span v n proof block = record { name = name; kind = kind; verdict = v; steps = n; span = span; proof = proof; block = block }
+abbrev pub made : List ℕ → TraceKind → Bool → Span → Verdict → ℕ → List ℕ → List ℕ → Printed
+made name kind marked span v n proof block = record { name = name; kind = kind; marked = marked; verdict = v; steps = n; span = span; proof = proof; block = block }
 
 -- the tree, its log and its text are those of the lemma
 pub record IsGrown (setting : Setting) (budget : ℕ) (taken : List Taken) (a : Asked) (tree : Tree) (log : Option Log) : Type 0 where
@@ -418,22 +511,22 @@ pub record IsGrown (setting : Setting) (budget : ℕ) (taken : List Taken) (a : 
 
 pub grown_printed : (setting : Setting) (budget : ℕ) (taken : List Taken) (a : Asked) (tree : Tree) (log : Option Log) → IsGrown setting budget taken a tree log
     → (v : Verdict) (n : ℕ) (proof block : List ℕ)
-    → v ≡ by_tree a.kind log (finished tree) → n ≡ counted (steps tree) → proof ≡ tree_text 0 tree → block ≡ block_by (executed setting) log
-    → made a.name a.kind a.span v n proof block ≡ to_print (Prove budget) setting taken a
+    → v ≡ by_tree a.kind log (finished tree) → n ≡ counted (steps tree) → proof ≡ tree_text 0 tree → block ≡ block_by (executed setting) (given setting) a.marked log
+    → made a.name a.kind a.marked a.span v n proof block ≡ to_print (Prove budget) setting taken a
 grown_printed setting budget taken a tree log is v n proof block verdict_is steps_is proof_is block_is =
     let root = root_for setting taken a in
     let t = proof_tree setting budget root in
-    ap₂ (λ (w : Verdict) (m : ℕ). made a.name a.kind a.span w m proof block)
+    ap₂ (λ (w : Verdict) (m : ℕ). made a.name a.kind a.marked a.span w m proof block)
     (verdict_is ∙ ap₂ (λ (l : Option Log) (u : Tree). by_tree a.kind l (finished u)) is.log_is is.tree_is) (steps_is ∙ ap (λ (u : Tree). counted (steps u)) is.tree_is)
-    ∙ ap₂ (made a.name a.kind a.span (by_tree a.kind (grown_log setting budget root) (finished t)) (counted (steps t)))
-    (proof_is ∙ ap (tree_text 0) is.tree_is) (block_is ∙ ap (block_by (executed setting)) is.log_is)
+    ∙ ap₂ (made a.name a.kind a.marked a.span (by_tree a.kind (grown_log setting budget root) (finished t)) (counted (steps t)))
+    (proof_is ∙ ap (tree_text 0) is.tree_is) (block_is ∙ ap (block_by (executed setting) (given setting) a.marked) is.log_is)
 
 -- ---- what is printed of a proof that was read
 
 pub judged_printed : (setting : Setting) (taken : List Taken) (a : Asked) (j : Judgement) → j ≡ judged_so setting (root_for setting taken a) a.proof
-    → (v : Verdict) (n : ℕ) (proof block : List ℕ) → v ≡ by_judgement a.kind j → n ≡ counted (read.steps (proof_read a.proof)) → proof ≡ [] → block ≡ block_by (executed setting) (judged_log j)
-    → made a.name a.kind a.span v n proof block ≡ to_print Check setting taken a
+    → (v : Verdict) (n : ℕ) (proof block : List ℕ) → v ≡ by_judgement a.kind j → n ≡ counted (read.steps (proof_read a.proof)) → proof ≡ [] → block ≡ block_by (executed setting) (given setting) a.marked (judged_log j)
+    → made a.name a.kind a.marked a.span v n proof block ≡ to_print Check setting taken a
 judged_printed setting taken a j j_is v n proof block v_is n_is proof_is block_is =
-    ap₂ (λ (w : Verdict) (m : ℕ). made a.name a.kind a.span w m proof block) (v_is ∙ ap (by_judgement a.kind) j_is) n_is
-    ∙ ap₂ (made a.name a.kind a.span (by_judgement a.kind (judged_so setting (root_for setting taken a) a.proof)) (counted (read.steps (proof_read a.proof)))) proof_is
-    (block_is ∙ ap (λ (x : Judgement). block_by (executed setting) (judged_log x)) j_is)
+    ap₂ (λ (w : Verdict) (m : ℕ). made a.name a.kind a.marked a.span w m proof block) (v_is ∙ ap (by_judgement a.kind) j_is) n_is
+    ∙ ap₂ (made a.name a.kind a.marked a.span (by_judgement a.kind (judged_so setting (root_for setting taken a) a.proof)) (counted (read.steps (proof_read a.proof)))) proof_is
+    (block_is ∙ ap (λ (x : Judgement). block_by (executed setting) (given setting) a.marked (judged_log x)) j_is)

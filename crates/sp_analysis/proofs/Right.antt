@@ -18,10 +18,11 @@ use Rattle.sp_learn.specs.Checking.{is_log}
 use Rattle.sp_spec_solved.specs.Candidate.{candidate}
 use Rattle.sp_solved.specs.Found.{is_sought, kept_if, found}
 use Rattle.sp_law_found_log.specs.Shown.{FoundBreaks, FoundSatisfies}
-use Rattle.sp_law_found_log.proofs.Learning.{into_reading}
+use Rattle.sp_law_found_log.proofs.Learning.{either_reading}
 use Rattle.sp_law_found_log.proofs.Found.{found_logs_show_lem}
 use Rattle.sp_law_basic.specs.Restrictions.{restriction_forms}
 use Rattle.sp_law_tree.proofs.AllShown.{lemmas_are_shown_lem}
+use Rattle.sp_law_tree.proofs.OverLogs.{trees_show_logs_lem}
 use Rattle.sp_spec_system.specs.System.{System}
 use Rattle.sp_spec_system.specs.Move.{Root, root_system, Context}
 use Rattle.sp_spec_proof.specs.Tree.{Tree, IsAccepted, IsFinished, found_log}
@@ -34,15 +35,16 @@ use Rattle.sp_spec.specs.Constants.{constants_of}
 use Rattle.sp_spec_printed.specs.Verdict.{Verdict, verified, falsified, incomplete, rejected, Says}
 use Rattle.sp_spec_text.specs.Written.{Attribute, WrittenText}
 use Rattle.sp_spec_text.specs.Declared.{resolved, theory_in}
-use Rattle.sp_pose.specs.Waiting.{waits}
 use Rattle.sp_pose.specs.Problem.{Poses}
 use Rattle.sp_analysis.specs.Taken.{Stated, stated_in, lemmas_stated, Taken, taken_by}
+use Rattle.sp_analysis.specs.Chosen.{run_among}
 use Rattle.sp_analysis.specs.Sought.{root_of, setting_of, context_of}
 use Rattle.sp_analysis.specs.Analysis.{Outcome, IsOutcome, AreOutcomes}
 use Rattle.sp_analysis.specs.Checking.{IsVerdictIn, IsVerdictOn, Judged, IsJudged, AreJudged}
 use Rattle.sp_analysis.specs.Laws.{Means, IsRejected, JudgedRightly, VerdictsAreRight}
-use Rattle.sp_analysis.proofs.Taking.{IsLemmaOf, lemmas_of, AreTakenRightly, searched, provable, is_context, has_restrictions, begins, shown_of_logs, takes_rightly}
+use Rattle.sp_analysis.proofs.Taking.{IsLemmaOf, lemmas_of, AreTakenRightly, searched, provable, suits, is_context, has_restrictions, begins, shown_of_logs, takes_rightly}
 use Rattle.sp_analysis.proofs.StatedItems.{stated_lemmas}
+use Rattle.sp_analysis.proofs.Running.{every_run}
 
 -- a proof isn't rejected exactly where it is accepted
 accepted_or_rejected : (context : Context) (s : System) (k : Skeleton) (kind : TraceKind) (v : Verdict) (log : Option Log) → IsVerdictIn context s k kind v log
@@ -83,7 +85,7 @@ finished_says all_traces incomplete log F a b says = absurd cc
 finished_says all_traces (rejected step clause) log F a b says = absurd cc
 finished_says exists_trace v log F a b says = absurd cc
 
-module _ {bytes : List ℕ} (text : WrittenText) (posing : Poses bytes text) (ready : waits text ≡ false) where
+module _ {bytes : List ℕ} (text : WrittenText) (posing : Poses bytes text) where
   abbrev theory : WrittenTheory
   theory = theory_in text
 
@@ -98,14 +100,14 @@ module _ {bytes : List ℕ} (text : WrittenText) (posing : Poses bytes text) (re
       → FoundBreaks (theory_of theory) l log
   breaks l f g e s log is =
       let h = found_tested (signature_of (theory_of theory)) (rules_of (theory_of theory)).forms (constants_of theory) (restriction_forms theory.restrictions ++ negate g ∷ []) s log is in
-      subst (FoundBreaks (theory_of theory) l) h.log_is (found_logs_show_lem.breaks theory (searched text posing ready) l f.0 f.2 g e h.entries h.is_log h.are_true)
+      subst (FoundBreaks (theory_of theory) l) h.log_is (found_logs_show_lem.breaks theory (searched text posing) l f.0 g e h.entries h.is_log h.are_true)
 
   satisfies : (l : Lemma) → IsLemmaOf theory l → (g : Guarded) → checked_form l.formula ≡ Some g → (s : System) (log : Log)
       → found (signature_of (theory_of theory)) (rules_of (theory_of theory)).forms (constants_of theory) (restriction_forms theory.restrictions ++ g ∷ []) s ≡ Some log
       → FoundSatisfies (theory_of theory) l log
   satisfies l f g e s log is =
       let h = found_tested (signature_of (theory_of theory)) (rules_of (theory_of theory)).forms (constants_of theory) (restriction_forms theory.restrictions ++ g ∷ []) s log is in
-      subst (FoundSatisfies (theory_of theory) l) h.log_is (found_logs_show_lem.satisfies theory (searched text posing ready) l f.0 f.2 g e h.entries h.is_log h.are_true)
+      subst (FoundSatisfies (theory_of theory) l) h.log_is (found_logs_show_lem.satisfies theory (searched text posing) l f.0 g e h.entries h.is_log h.are_true)
 
   -- the log of a tree is one with which the search ends at some system
   ended : (attributes : List Attribute) (taken : List Taken) (kind : TraceKind) (g : Guarded) (tree : Tree) (log : Log)
@@ -117,9 +119,10 @@ module _ {bytes : List ℕ} (text : WrittenText) (posing : Poses bytes text) (re
     shown : (kind : TraceKind) (v : Verdict) (log : Option Log) (tree : Tree) → IsAccepted (context attributes taken kind g) (root_system (root attributes taken kind g)) tree
         → log ≡ found_log (context attributes taken kind g) (root_system (root attributes taken kind g)) tree → Says kind v log (IsFinished tree) → Means (theory_of theory) kind v log l
     shown all_traces verified None tree accepted is says =
-        into_reading l f.2 (HoldsInAllLogs (theory_of theory) l) (HoldsInAll (theory_of theory) l)
-        (lemmas_are_shown_lem.all_traces theory (provable text posing ready) (context attributes taken all_traces g) (is_context text posing ready l f g e attributes taken right all_traces)
-        (has_restrictions text posing ready (root attributes taken all_traces g)) l f.0 f.1 f.2 g e (root attributes taken all_traces g) (begins text posing ready attributes taken right all_traces g)
+        either_reading l (HoldsInAllLogs (theory_of theory) l) (HoldsInAll (theory_of theory) l)
+        (shown_of_logs text posing l f g e attributes taken right all_traces refl tree accepted says)
+        (λ unlearnt. lemmas_are_shown_lem.all_traces theory (provable text posing) (context attributes taken all_traces g) (is_context text posing l f g e attributes taken right all_traces)
+        (has_restrictions text posing (root attributes taken all_traces g)) l f.0 f.1 unlearnt g e (root attributes taken all_traces g) (begins text posing attributes taken right all_traces g)
         tree accepted says)
     shown all_traces verified (Some log) tree accepted is says = absurd says
     shown all_traces falsified None tree accepted is says = absurd says
@@ -130,9 +133,12 @@ module _ {bytes : List ℕ} (text : WrittenText) (posing : Poses bytes text) (re
     shown exists_trace verified None tree accepted is says = absurd says
     shown exists_trace verified (Some log) tree accepted is says = let s = ended attributes taken exists_trace g tree log is in satisfies l f g e s.0 log s.1
     shown exists_trace falsified None tree accepted is says =
-        into_reading l f.2 (HoldsInNoLog (theory_of theory) l) (HoldsInNone (theory_of theory) l)
-        (lemmas_are_shown_lem.exists_trace theory (provable text posing ready) (context attributes taken exists_trace g) (is_context text posing ready l f g e attributes taken right exists_trace)
-        (has_restrictions text posing ready (root attributes taken exists_trace g)) l f.0 f.1 f.2 g e (root attributes taken exists_trace g) (begins text posing ready attributes taken right exists_trace g)
+        let c = is_context text posing l f g e attributes taken right exists_trace in
+        let r = root attributes taken exists_trace g in
+        let begun = begins text posing attributes taken right exists_trace g in
+        either_reading l (HoldsInNoLog (theory_of theory) l) (HoldsInNone (theory_of theory) l)
+        (trees_show_logs_lem.exists_trace (theory_of theory) (suits text posing) (context attributes taken exists_trace g) c (has_restrictions text posing r) l f.0 f.1 g e r begun tree accepted says)
+        (λ unlearnt. lemmas_are_shown_lem.exists_trace theory (provable text posing) (context attributes taken exists_trace g) c (has_restrictions text posing r) l f.0 f.1 unlearnt g e r begun
         tree accepted says)
     shown exists_trace falsified (Some log) tree accepted is says = absurd says
     shown exists_trace incomplete None tree accepted is says = tt
@@ -152,7 +158,7 @@ module _ {bytes : List ℕ} (text : WrittenText) (posing : Poses bytes text) (re
     read_of_logs : (kind : TraceKind) (k : Skeleton) (v : Verdict) (log : Option Log) → IsVerdictOn (setting_of theory) kind (root attributes taken kind g) k v log → kind ≡ all_traces → v ≡ verified
         → HoldsInAllLogs (theory_of theory) l
     read_of_logs kind k verified log (tree, is, accepted, n, says) a b =
-        shown_of_logs text posing ready l f g e attributes taken right kind a tree accepted (finished_says kind verified log (IsFinished tree) a b says)
+        shown_of_logs text posing l f g e attributes taken right kind a tree accepted (finished_says kind verified log (IsFinished tree) a b says)
     read_of_logs kind k falsified log h a b = absurd cc
     read_of_logs kind k incomplete log h a b = absurd cc
     read_of_logs kind k (rejected step clause) log h a b = absurd cc
@@ -178,7 +184,7 @@ module _ {bytes : List ℕ} (text : WrittenText) (posing : Poses bytes text) (re
   all_judged_in taken (q ∷ qs) (j ∷ js) right f h =
       let one : IsJudgedIn j = record { taken = taken; stated = q; right = right; is_lemma = f.0; is_judged = h.0 } in
       let holds = read_of_logs q.lemma f.0 h.0.form h.0.form_is q.attributes taken right q.lemma.kind j.proof j.verdict j.log (judged_verdict j one) in
-      (one, all_judged_in (taken ++ taken_by q j.verdict) qs js (takes_rightly text posing ready taken q j.verdict right f.0 holds) f.1 h.1)
+      (one, all_judged_in (taken ++ taken_by q j.verdict) qs js (takes_rightly text posing taken q j.verdict right f.0 holds) f.1 h.1)
 
   judged_right : (j : Judged) → IsJudgedIn j → JudgedRightly theory j
   judged_right j h =
@@ -190,11 +196,15 @@ module _ {bytes : List ℕ} (text : WrittenText) (posing : Poses bytes text) (re
         accepts = accepted_or_rejected (context_of (setting_of theory) j.root) (root_system j.root) j.proof q.lemma.kind j.verdict j.log k.verdict_is;
       }
 
-  pub all_judged_known : (js : List Judged) → AreJudged (setting_of theory) [] (stated_in (resolved text).items) js → Every IsJudgedIn js
-  all_judged_known js h = all_judged_in [] (stated_in (resolved text).items) js tt (stated_lemmas text (IsLemmaOf theory) (lemmas_of posing ready)) h
+  -- those that are run are lemmas of the text
+  run_lemmas : (chosen : Option (List ℕ)) → Every (IsLemmaOf theory) (lemmas_stated (run_among chosen (stated_in (resolved text).items)))
+  run_lemmas chosen = every_run chosen (IsLemmaOf theory) (stated_in (resolved text).items) (stated_lemmas text (IsLemmaOf theory) (lemmas_of posing))
 
-  pub all_judged_right : (js : List Judged) → AreJudged (setting_of theory) [] (stated_in (resolved text).items) js → Every (JudgedRightly theory) js
-  all_judged_right js h = every_weaken IsJudgedIn (JudgedRightly theory) judged_right js (all_judged_known js h)
+  pub all_judged_known : (chosen : Option (List ℕ)) (js : List Judged) → AreJudged (setting_of theory) [] (run_among chosen (stated_in (resolved text).items)) js → Every IsJudgedIn js
+  all_judged_known chosen js h = all_judged_in [] (run_among chosen (stated_in (resolved text).items)) js tt (run_lemmas chosen) h
+
+  pub all_judged_right : (chosen : Option (List ℕ)) (js : List Judged) → AreJudged (setting_of theory) [] (run_among chosen (stated_in (resolved text).items)) js → Every (JudgedRightly theory) js
+  all_judged_right chosen js h = every_weaken IsJudgedIn (JudgedRightly theory) judged_right js (all_judged_known chosen js h)
 
   -- ---- lemmas that are tried
 
@@ -223,8 +233,8 @@ module _ {bytes : List ℕ} (text : WrittenText) (posing : Poses bytes text) (re
     all_tried_in taken (q ∷ qs) (o ∷ os) right f h =
         let one : IsTriedIn budget o = record { taken = taken; stated = q; right = right; is_lemma = f.0; is_outcome = h.0 } in (
           one,
-          all_tried_in (taken ++ taken_by q o.verdict) qs os (takes_rightly text posing ready taken q o.verdict right f.0 (λ a b.
-              shown_of_logs text posing ready q.lemma f.0 h.0.form h.0.form_is q.attributes taken right q.lemma.kind a o.tree (grown_accepted o one)
+          all_tried_in (taken ++ taken_by q o.verdict) qs os (takes_rightly text posing taken q o.verdict right f.0 (λ a b.
+              shown_of_logs text posing q.lemma f.0 h.0.form h.0.form_is q.attributes taken right q.lemma.kind a o.tree (grown_accepted o one)
               (finished_says q.lemma.kind o.verdict o.log (IsFinished o.tree) a b h.0.verdict_is))) f.1 h.1,
         )
 
@@ -236,15 +246,15 @@ module _ {bytes : List ℕ} (text : WrittenText) (posing : Poses bytes text) (re
         (shown q.lemma h.is_lemma k.form k.form_is q.attributes h.taken h.right q.lemma.kind o.verdict o.log o.tree (grown_accepted o h)
         (k.log_is ∙ ap (found_log (context q.attributes h.taken q.lemma.kind k.form) (root_system (root q.attributes h.taken q.lemma.kind k.form))) (sym k.tree_is)) k.verdict_is)
 
-    pub all_tried : (os : List Outcome) → AreOutcomes (setting_of theory) budget [] (stated_in (resolved text).items) os → Every (IsTriedIn budget) os
-    all_tried os h = all_tried_in [] (stated_in (resolved text).items) os tt (stated_lemmas text (IsLemmaOf theory) (lemmas_of posing ready)) h
+    pub all_tried : (chosen : Option (List ℕ)) (os : List Outcome) → AreOutcomes (setting_of theory) budget [] (run_among chosen (stated_in (resolved text).items)) os → Every (IsTriedIn budget) os
+    all_tried chosen os h = all_tried_in [] (run_among chosen (stated_in (resolved text).items)) os tt (run_lemmas chosen) h
 
-    pub outcomes_right : (os : List Outcome) → AreOutcomes (setting_of theory) budget [] (stated_in (resolved text).items) os
+    pub outcomes_right : (chosen : Option (List ℕ)) (os : List Outcome) → AreOutcomes (setting_of theory) budget [] (run_among chosen (stated_in (resolved text).items)) os
         → Every (λ (o : Outcome). Means (theory_of theory) o.lemma.kind o.verdict o.log o.lemma) os
-    outcomes_right os h = every_weaken (IsTriedIn budget) _ outcome_right os (all_tried os h)
+    outcomes_right chosen os h = every_weaken (IsTriedIn budget) _ outcome_right os (all_tried chosen os h)
 
 pub verdicts_are_right_lem : VerdictsAreRight
 verdicts_are_right_lem = record {
-  right = λ budget text written outcomes a. outcomes_right a.theory a.poses a.ready budget outcomes a.outcomes_are;
-  judged_right = λ text written judged c. all_judged_right c.theory c.poses c.ready judged c.judged_are;
+  right = λ budget chosen text written outcomes a. outcomes_right a.theory a.poses budget chosen outcomes a.outcomes_are;
+  judged_right = λ chosen text written judged c. all_judged_right c.theory c.poses chosen judged c.judged_are;
 }

@@ -8,7 +8,7 @@ use Rattle.sp_spec.specs.Theory.{TraceKind, all_traces, exists_trace, Restrictio
 use Rattle.sp_spec.specs.Written.{WrittenTheory, theory_of}
 use Rattle.sp_spec.specs.Guarded.{Guarded}
 use Rattle.sp_spec.specs.Constants.{constants_of}
-use Rattle.sp_spec.specs.Verdict.{names_learning, HoldsInAllLogs}
+use Rattle.sp_spec.specs.Verdict.{HoldsInAllLogs}
 use Rattle.sp_law_guard.specs.CheckedForm.{checked_form}
 use Rattle.sp_spec_system.specs.Move.{Root, root_system}
 use Rattle.sp_spec_system.specs.Numbered.{names_in}
@@ -31,10 +31,8 @@ use Rattle.sp_wf.specs.Laws.{IsFineRule}
 use Rattle.sp_spec_text.specs.Written.{Attribute, WrittenText}
 use Rattle.sp_spec_text.specs.Declared.{theory_in}
 use Rattle.sp_spec_printed.specs.Verdict.{Verdict, verified, falsified, incomplete, rejected}
-use Rattle.sp_pose.specs.Waiting.{waits}
 use Rattle.sp_pose.specs.Problem.{Poses}
 use Rattle.sp_pose.proofs.BasicTheories.{normal_forms, lemmas_are_basic, restrictions_are_basic, rules_are_basic, keeps_public}
-use Rattle.sp_pose.proofs.WaitingItems.{lemmas_unlearnt}
 use Rattle.sp_analysis.specs.Taken.{Stated, Taken, gives, form_taken, taken_by, is_hidden, taken_for}
 use Rattle.sp_analysis.specs.Sought.{sought, root_of, Setting, setting_of, context_of}
 
@@ -42,15 +40,14 @@ use Rattle.sp_analysis.specs.Sought.{sought, root_of, Setting, setting_of, conte
 abbrev pub IsLemmaOf : WrittenTheory → Lemma → Type 0
 IsLemmaOf theory l =
     IsBasicFormula (signature_of (theory_of theory)) l.formula × HasNames (names_in (constants_of theory)) l.formula
-    × (names_learning l.formula ≡ false)
 
-pub lemmas_of : {bytes : List ℕ} {text : WrittenText} → Poses bytes text → waits text ≡ false → Every (IsLemmaOf (theory_in text)) (theory_in text).lemmas
-lemmas_of {text = text} posing ready =
+pub lemmas_of : {bytes : List ℕ} {text : WrittenText} → Poses bytes text → Every (IsLemmaOf (theory_in text)) (theory_in text).lemmas
+lemmas_of {text = text} posing =
     let theory = theory_in text in
     let signature = signature_of (theory_of theory) in
     every_from (IsLemmaOf theory) theory.lemmas (λ l among.
     let basic = every_member (λ (m : Lemma). IsBasicFormula signature m.formula) theory.lemmas l among (lemmas_are_basic posing) in
-    (basic, names_stand_lem.lemmas theory l among basic, every_member (λ (m : Lemma). names_learning m.formula ≡ false) theory.lemmas l among (lemmas_unlearnt text ready)))
+    (basic, names_stand_lem.lemmas theory l among basic))
 
 -- a lemma that is taken was shown of all logs that meet the restrictions
 pub record IsTakenRightly (theory : WrittenTheory) (t : Taken) : Type 0 where
@@ -82,7 +79,7 @@ only_verified exists_trace falsified attributes e = absurd cc
 only_verified exists_trace incomplete attributes e = absurd cc
 only_verified exists_trace (rejected step clause) attributes e = absurd cc
 
-module _ {bytes : List ℕ} (text : WrittenText) (posing : Poses bytes text) (ready : waits text ≡ false) where
+module _ {bytes : List ℕ} (text : WrittenText) (posing : Poses bytes text) where
   abbrev theory : WrittenTheory
   theory = theory_in text
 

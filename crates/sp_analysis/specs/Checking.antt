@@ -1,10 +1,11 @@
 -- What is written of a text whose proofs have been checked: a line for each lemma, with the execution
 -- that was found behind it. A lemma without a proof has an open one.
 -- Source: Tamarin manual, "Proofs" (proofs that stand in a text are checked step by step).
-use Rattle.std.specs.Prelude.{◌≡◌, ℕ, false, Option, Some, None, List, [], ◌∷◌, ◌++◌}
+use Rattle.std.specs.Prelude.{◌≡◌, ℕ, true, Option, Some, None, List, [], ◌∷◌, ◌++◌}
 use Rattle.sp_spec.specs.Lists.{Every}
 use Rattle.sp_spec.specs.Theory.{TraceKind, Theory, Lemma}
 use Rattle.sp_spec.specs.Written.{theory_of}
+use Rattle.sp_spec.specs.Verdict.{names_learning}
 use Rattle.sp_spec.specs.Guarded.{Guarded}
 use Rattle.sp_spec.specs.Log.{Log}
 use Rattle.sp_spec.specs.Execution.{Step}
@@ -17,14 +18,16 @@ use Rattle.sp_check.specs.Skeleton.{Skeleton, node_read, none_read, known, tree_
 use Rattle.sp_check.specs.Rejected.{IsRejectedAt}
 use Rattle.sp_spec_text.specs.Written.{WrittenProof, WrittenText}
 use Rattle.sp_spec_text.specs.Declared.{resolved, theory_in}
-use Rattle.sp_pose.specs.Waiting.{waits}
 use Rattle.sp_skel.specs.Steps.{skeleton}
 use Rattle.sp_pose.specs.Problem.{Poses}
 use Rattle.sp_analysis.specs.Taken.{Stated, stated_in, Taken, taken_by}
+use Rattle.sp_analysis.specs.Chosen.{run_among, has_lemma}
 use Rattle.sp_analysis.specs.Sought.{root_of, Setting, setting_of, context_of}
 use Rattle.sp_spec_text.specs.Numerals.{counted}
 use Rattle.sp_spec_printed.specs.Verdict.{Verdict, rejected, Says, summary_line}
-use Rattle.sp_law_printed_log.specs.Block.{block_by, IsNumbered}
+use Rattle.sp_spec_log_lines.specs.Line.{Giving}
+use Rattle.sp_law_log_lines.specs.Block.{given_in}
+use Rattle.sp_analysis.specs.Found.{block_by, IsNumbered}
 
 -- the tree that the proof of a lemma says
 abbrev pub proof_read : Option WrittenProof → Skeleton
@@ -50,12 +53,14 @@ pub record Judged : Type 0 where
   pub log : Option Log
   pub verdict : Verdict
 
-abbrev pub checked_by : (Log → List Step) → List Judged → List ℕ
-checked_by steps_of [] = []
-checked_by steps_of (j ∷ js) = summary_line j.lemma.name j.lemma.kind j.verdict (counted (steps j.proof)) ++ (block_by steps_of j.log ++ checked_by steps_of js)
+abbrev pub checked_by : (Log → List Step) → Giving → List Judged → List ℕ
+checked_by steps_of given [] = []
+checked_by steps_of given (j ∷ js) =
+    let marked = names_learning j.lemma.formula in
+    summary_line j.lemma.name j.lemma.kind marked j.verdict (counted (steps j.proof)) ++ (block_by steps_of given marked j.log ++ checked_by steps_of given js)
 
 abbrev pub checked_text : Theory → List Judged → List ℕ
-checked_text theory js = checked_by (executed_of theory) js
+checked_text theory js = checked_by (executed_of theory) (given_in theory) js
 
 -- It is that of the lemma and its proof, where these are taken, but for those that it hides: the proof begins with the lemma's guarded form.
 pub record IsJudged (setting : Setting) (taken : List Taken) (q : Stated) (j : Judged) : Type 0 where
@@ -73,12 +78,11 @@ AreJudged setting taken [] (j ∷ js) = ⊥
 AreJudged setting taken (q ∷ qs) [] = ⊥
 AreJudged setting taken (q ∷ qs) (j ∷ js) = IsJudged setting taken q j × AreJudged setting (taken ++ taken_by q j.verdict) qs js
 
--- The proof of each lemma that the text poses is checked, if it writes nothing that nothing is proved of yet, and its verdict stands in what is written. Each fresh name of an execution is one that a
--- text can name.
-pub record IsChecking (text written : List ℕ) (judged : List Judged) : Type 0 where
+-- The proof of each lemma that the text poses is checked, or of the one alone whose name is given, and its verdict stands in what is written. Each fresh name of an execution or a log is one that a text can name.
+pub record IsChecking (chosen : Option (List ℕ)) (text written : List ℕ) (judged : List Judged) : Type 0 where
   pub theory : WrittenText
   pub poses : Poses text theory
-  pub ready : waits theory ≡ false
-  pub judged_are : AreJudged (setting_of (theory_in theory)) [] (stated_in (resolved theory).items) judged
-  pub numbers : Every (λ (j : Judged). IsNumbered (theory_of (theory_in theory)) j.log) judged
+  pub has : has_lemma chosen (stated_in (resolved theory).items) ≡ true
+  pub judged_are : AreJudged (setting_of (theory_in theory)) [] (run_among chosen (stated_in (resolved theory).items)) judged
+  pub numbers : Every (λ (j : Judged). IsNumbered (theory_of (theory_in theory)) j.lemma j.log) judged
   pub written_is : written ≡ checked_text (theory_of (theory_in theory)) judged

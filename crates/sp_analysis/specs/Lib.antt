@@ -1,4 +1,5 @@
 pub mod Taken
+pub mod Chosen
 pub mod Sought
 pub mod Analysis
 pub mod Checking
@@ -6,3 +7,4 @@ pub mod View
 pub mod Replies
 pub mod Laws
 pub mod Printed
+pub mod Found

@@ -1,5 +1,5 @@
 -- What is to be printed of a lemma that is tried or whose proof is checked, and the text that is made of that.
-use Rattle.std.specs.Prelude.{ℕ, Bool, true, false, List, [], ◌∷◌, ◌++◌, codes, Option, Some, None, string_bytes}
+use Rattle.std.specs.Prelude.{ℕ, Bool, true, false, if◌then◌else◌, List, [], ◌∷◌, ◌++◌, codes, Option, Some, None, string_bytes}
 use Rattle.sp_spec.specs.Log.{Log}
 use Rattle.sp_spec.specs.Theory.{TraceKind, all_traces, exists_trace}
 use Rattle.sp_spec_proof.specs.Tree.{steps}
@@ -15,9 +15,10 @@ use Rattle.sp_spec_text.specs.Spans.{Span, goes_on}
 use Rattle.sp_pose.specs.Asked.{Asked}
 use Rattle.sp_spec_system.specs.Move.{Root, root_system}
 use Rattle.sp_analysis.specs.Taken.{Taken, gives, taken_if}
-use Rattle.sp_analysis.specs.Sought.{root_of, Setting, executed, context_of, proof_tree, grown_log}
+use Rattle.sp_analysis.specs.Chosen.{is_run}
+use Rattle.sp_analysis.specs.Sought.{root_of, Setting, executed, given, context_of, proof_tree, grown_log}
 use Rattle.sp_spec_printed.specs.Verdict.{Verdict, verified, falsified, incomplete, rejected, summary_line}
-use Rattle.sp_law_printed_log.specs.Block.{block_by, IsNumberedBy}
+use Rattle.sp_analysis.specs.Found.{block_by, IsNumberedBy}
 use Rattle.sp_law_reread.specs.Again.{between}
 use Rattle.sp_spec_text.specs.Numerals.{counted}
 use Rattle.sp_analysis.specs.Checking.{proof_read}
@@ -26,10 +27,19 @@ use Rattle.sp_analysis.specs.declared.tried.Tried.{Tried}
 use Rattle.sp_analysis.specs.declared.replies.Command.{Command}
 use Rattle.sp_analysis.specs.declared.replies.Command.TheVariants.{Prove, Check}
 
+-- those of the lemmas that are run
+abbrev pub run_if : Option (List ℕ) → Asked → List Asked
+run_if chosen a = if is_run chosen a.name then a ∷ [] else []
+
+abbrev pub asked_run : Option (List ℕ) → List Asked → List Asked
+asked_run chosen [] = []
+asked_run chosen (a ∷ rest) = run_if chosen a ++ asked_run chosen rest
+
 -- what is printed of a lemma: its line, the text of the proof that was grown for it, and the block of the execution that was found
 pub record Printed : Type 0 where
   pub name : List ℕ
   pub kind : TraceKind
+  pub marked : Bool
   pub verdict : Verdict
   pub steps : ℕ
   pub span : Span
@@ -37,7 +47,7 @@ pub record Printed : Type 0 where
   pub block : List ℕ
 
 abbrev pub printed_of : Tried → Printed
-printed_of t = record { name = t.name.now; kind = view.kind t.kind; verdict = verdict_of t.verdict; steps = t.steps; span = view.span_of t.span; proof = string_bytes t.proof; block = string_bytes t.block }
+printed_of t = record { name = t.name.now; kind = view.kind t.kind; marked = t.marked; verdict = verdict_of t.verdict; steps = t.steps; span = view.span_of t.span; proof = string_bytes t.proof; block = string_bytes t.block }
 
 -- what a finished proof says
 abbrev pub shown : TraceKind → Verdict
@@ -84,20 +94,22 @@ abbrev pub to_print : Command → Setting → List Taken → Asked → Printed
 to_print (Prove budget) setting taken a = record {
   name = a.name;
   kind = a.kind;
+  marked = a.marked;
   verdict = by_tree a.kind (grown_log setting budget (root_for setting taken a)) (finished (proof_tree setting budget (root_for setting taken a)));
   steps = counted (steps (proof_tree setting budget (root_for setting taken a)));
   span = a.span;
   proof = tree_text 0 (proof_tree setting budget (root_for setting taken a));
-  block = block_by (executed setting) (grown_log setting budget (root_for setting taken a));
+  block = block_by (executed setting) (given setting) a.marked (grown_log setting budget (root_for setting taken a));
 }
 to_print Check setting taken a = record {
   name = a.name;
   kind = a.kind;
+  marked = a.marked;
   verdict = by_judgement a.kind (judged_so setting (root_for setting taken a) a.proof);
   steps = counted (read.steps (proof_read a.proof));
   span = a.span;
   proof = [];
-  block = block_by (executed setting) (judged_log (judged_so setting (root_for setting taken a) a.proof));
+  block = block_by (executed setting) (given setting) a.marked (judged_log (judged_so setting (root_for setting taken a) a.proof));
 }
 
 -- what a lemma of which this is printed gives to the proofs of the lemmas behind it
@@ -113,8 +125,8 @@ all_to_print command setting taken (a ∷ rest) =
 -- each place that the grown proof names is one that a text can name, and each fresh name of the execution that is found
 abbrev pub IsNameable : Command → Setting → List Taken → Asked → Type 0
 IsNameable (Prove budget) setting taken a =
-    HavePlaces (proof_tree setting budget (root_for setting taken a)) × IsNumberedBy (executed setting) (grown_log setting budget (root_for setting taken a))
-IsNameable Check setting taken a = IsNumberedBy (executed setting) (judged_log (judged_so setting (root_for setting taken a) a.proof))
+    HavePlaces (proof_tree setting budget (root_for setting taken a)) × IsNumberedBy (executed setting) (given setting) a.marked (grown_log setting budget (root_for setting taken a))
+IsNameable Check setting taken a = IsNumberedBy (executed setting) (given setting) a.marked (judged_log (judged_so setting (root_for setting taken a) a.proof))
 
 abbrev pub AreNameable : Command → Setting → List Taken → List Asked → Type 0
 AreNameable command setting taken [] = Unit {0}
@@ -124,7 +136,7 @@ AreNameable command setting taken (a ∷ rest) =
 -- ---- what is written
 
 abbrev pub line_of : Printed → List ℕ
-line_of p = summary_line p.name p.kind p.verdict p.steps
+line_of p = summary_line p.name p.kind p.marked p.verdict p.steps
 
 abbrev pub lines : List Printed → List ℕ
 lines [] = []

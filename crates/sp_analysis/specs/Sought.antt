@@ -20,6 +20,8 @@ use Rattle.sp_spec_system.specs.Rules.{rules_of}
 use Rattle.sp_spec_forms.specs.Forms.{RuleForms}
 use Rattle.sp_spec.specs.Execution.{Step}
 use Rattle.sp_law_log_execution.specs.Executed.{linking_of, executed_by}
+use Rattle.sp_spec_log_lines.specs.Line.{Giving}
+use Rattle.sp_show_log.specs.Given.{given_among}
 use Rattle.sp_analysis.specs.Taken.{Taken, taken_for}
 
 -- a proof looks for the negation of a lemma on all traces, and for a lemma on some trace as it is
@@ -78,6 +80,10 @@ root_of setting attributes taken kind form = root_with setting.restrictions (tak
 -- the steps that a log stands for
 abbrev pub executed : Setting → Log → List Step
 executed setting log = executed_by setting.signature.equations setting.forms (linking_of setting.signature) log
+
+-- the values that the facts of a step give to the variables of its rule
+abbrev pub given : Setting → Giving
+given setting = given_among setting.signature.equations setting.forms
 
 -- The search ends with a log over whose trace the restrictions are true and what is sought: the log meets them, and breaks a lemma on all traces, or
 -- satisfies one on some trace.

@@ -7,6 +7,7 @@
 
 mod beginning;
 mod block;
+mod chosen;
 mod replies;
 mod setting;
 mod taken;
@@ -16,7 +17,7 @@ mod written;
 
 ghost use Rattle.sp_analysis.specs.Laws.{VerdictsAreRight, AnswersAreOne, WrittenIsChecked, ExecutionsAreReadBack};
 
-pub use replies::{Answered, Command, answer};
+pub use replies::{Answered, Attempt, Command, answer};
 pub use verdict::Verdict;
 
 /// What is written of a lemma is so.
@@ -29,7 +30,7 @@ pub fn answers_are_one()
     ensures { AnswersAreOne }
 {}
 
-/// What is written where lemmas are tried is checked as they were tried.
+/// What is written where lemmas are tried is checked as they were tried, and the summary stands behind it.
 pub fn written_is_checked()
     ensures { WrittenIsChecked }
 {}

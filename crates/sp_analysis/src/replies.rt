@@ -1,6 +1,6 @@
 // What comes of a text.
 
-ghost use Rattle.std.specs.Prelude.{◌≡◌, ◌≤◌, false, IfOk, length, map};
+ghost use Rattle.std.specs.Prelude.{◌≡◌, ◌≤◌, true, IfOk, length, map, option_map};
 ghost use Rattle.sp_written.specs.Views as view;
 ghost use Rattle.sp_spec_text.specs.Spans.{Rise};
 ghost use Rattle.sp_pose.specs.Posed.{IsPosedBy};
@@ -8,8 +8,11 @@ ghost use Rattle.sp_pose.specs.Replies.{IsReplyTo};
 ghost use Rattle.sp_pose.specs.Required.{required_of};
 ghost use Rattle.sp_formula.specs.FormulaView.{formula_of};
 ghost use Rattle.sp_analysis.specs.Printed as print;
-ghost use Rattle.sp_analysis.specs.Replies.{IsAnswered};
+ghost use Rattle.sp_analysis.specs.Chosen as spec;
+ghost use Rattle.sp_analysis.specs.Replies.{IsAnswered, IsAttempted};
+ghost use Rattle.sp_pose.specs.Asked.{asked_of};
 
+use crate::chosen::{is_among, run_among};
 use crate::setting::Setting;
 use crate::tried::{Tried, all_tried};
 use crate::verdict::Verdict;
@@ -28,13 +31,22 @@ pub enum Command {
     Check,
 }
 
-/// What comes of a text without findings.
+/// What is written of a text's lemmas.
 #[derive(Drop)]
 pub struct Answered {
     /// what is written
     pub written: Vec<u8>,
     /// what is said of each lemma
     pub verdicts: Vec<Verdict>,
+}
+
+/// What comes of a text without findings.
+#[derive(Drop)]
+pub enum Attempt {
+    /// It has no lemma of the name that is given.
+    NoLemma,
+    /// Its lemmas have been tried, or their proofs have been checked.
+    Done(Answered),
 }
 
 /// What is written of the lemmas that have been tried, and what is said of them.
@@ -69,16 +81,17 @@ fn their_forms(
     Ok(forms)
 }
 
-/// What is done with a problem of the text, in which nothing waits.
+/// What is done with a problem of the text, which has the lemma that is named, if one is.
 fn done(
     alloc: Global,
     command: Command,
+    chosen: Option<&str>,
     text: &[u8],
     problem: Problem,
 ) -> Result<Answered, AllocError>
     requires posed { IsPosedBy text.now problem }
-    requires ready { problem.waits ≡ false }
-    ensures { IfOk result (IsAnswered command text.now) }
+    requires has { spec.is_among (option_map (λ s. s.now) chosen) (map (λ a. a.name) (map asked_of problem.lemmas.items)) ≡ true }
+    ensures { IfOk result (IsAnswered command (option_map (λ s. s.now) chosen.entry) text.now) }
 {
     let book = book(alloc, &problem.signature.equations, &problem.rules)?;
     let Problem {
@@ -87,49 +100,59 @@ fn done(
         constants,
         restrictions,
         lemmas,
-        waits: _,
         behind_end,
     } = problem;
     let restrictions = their_forms(alloc, restrictions)?;
+    let to_run = run_among(alloc, chosen, lemmas)?;
     let setting = Setting {
         signature,
         book,
         constants,
         restrictions,
     };
-    let tried = all_tried(alloc, command, &setting, &lemmas)?;
+    let tried = all_tried(alloc, command, &setting, &to_run)?;
     answered_by(alloc, command, text, &tried, behind_end)
 }
 
 /// What comes of a problem of the text.
-fn reply(
+fn attempted(
     alloc: Global,
     command: Command,
+    chosen: Option<&str>,
     text: &[u8],
     problem: Problem,
-) -> Result<Reply<Answered>, AllocError>
+) -> Result<Attempt, AllocError>
     requires { IsPosedBy text.now problem }
-    ensures { IfOk result (IsReplyTo (IsAnswered command) text.now) }
+    ensures { IfOk result (IsAttempted command (option_map (λ s. s.now) chosen.entry) text.now) }
 {
-    if problem.waits {
-        Ok(Reply::Waiting)
+    if is_among(chosen, &problem.lemmas) {
+        let answered = done(alloc, command, chosen, text, problem)?;
+        Ok(Attempt::Done(answered))
     } else {
-        let answered = done(alloc, command, text, problem)?;
-        Ok(Reply::Done(answered))
+        Ok(Attempt::NoLemma)
     }
 }
 
-/// What comes of a text: it is refused at a place, or there are findings on its theory, or it waits, or each of its lemmas is tried, or the proof of each is checked.
+/// What comes of a text: it is refused at a place, or there are findings on its theory, or it has no lemma of the name that is given, or each of its lemmas is tried, or the proof of each is
+/// checked. Where a name is given, that lemma alone is tried, and none is taken for it.
 ///
 /// # Errors
 ///
 /// `AllocError` where memory is wanting, or no number is left for a new variable.
-pub fn answer(alloc: Global, command: Command, text: &[u8]) -> Result<Reply<Answered>, AllocError>
-    ensures { IfOk result (IsReplyTo (IsAnswered command) text.now) }
+pub fn answer(
+    alloc: Global,
+    command: Command,
+    chosen: Option<&str>,
+    text: &[u8],
+) -> Result<Reply<Attempt>, AllocError>
+    ensures { IfOk result (IsReplyTo (IsAttempted command (option_map (λ s. s.now) chosen.entry)) text.now) }
 {
     match posed_by(alloc, text)? {
         Read::Refused(place) => Ok(Reply::Refused(place)),
         Read::Reported(lines) => Ok(Reply::Reported(lines)),
-        Read::Posed(problem) => reply(alloc, command, text, problem),
+        Read::Posed(problem) => {
+            let attempt = attempted(alloc, command, chosen, text, problem)?;
+            Ok(Reply::Done(attempt))
+        }
     }
 }

@@ -46,6 +46,8 @@ pub struct Tried<'a> {
     pub name: &'a str,
     /// whether it speaks of all traces, or of some
     pub kind: TraceKind,
+    /// whether it names what the adversary learns, and so is read over learning logs
+    pub marked: bool,
     /// what its proof says of it
     pub verdict: Verdict,
     /// how many moves that proof has
@@ -54,7 +56,7 @@ pub struct Tried<'a> {
     pub span: Span,
     /// the text of the proof that was grown; empty where one was checked
     pub proof: String,
-    /// the block of the execution that was found; empty where none was
+    /// the block of the execution or the log that was found; empty where none was
     pub block: String,
 }
 
@@ -182,10 +184,11 @@ fn try_lemma<'a>(
     let verdict = by_tree(lemma.kind, &tree);
     let steps = steps(&tree);
     let proof = tree_text(alloc, &tree)?;
-    let block = block_of(alloc, setting, tree.found_log())?;
+    let block = block_of(alloc, setting, lemma.marked, tree.found_log())?;
     Ok(Tried {
         name: lemma.name,
         kind: lemma.kind,
+        marked: lemma.marked,
         verdict,
         steps,
         span: lemma.span,
@@ -274,10 +277,11 @@ fn judge_lemma<'a>(
 {
     let (judgement, steps) = judged(alloc, setting, taken, lemma)?;
     let verdict = by_judgement(lemma.kind, &judgement);
-    let block = block_of(alloc, setting, judged_log(&judgement))?;
+    let block = block_of(alloc, setting, lemma.marked, judged_log(&judgement))?;
     Ok(Tried {
         name: lemma.name,
         kind: lemma.kind,
+        marked: lemma.marked,
         verdict,
         steps,
         span: lemma.span,

@@ -5,6 +5,7 @@ ghost use Rattle.sp_check.specs.View.{clause_of};
 ghost use Rattle.sp_written.specs.Views as view;
 ghost use Rattle.sp_spec_text.specs.Spans as places;
 ghost use Rattle.sp_spec_text.specs.Spans.{Rise};
+ghost use Rattle.sp_spec_printed.specs.Kind as kinds;
 ghost use Rattle.sp_spec_printed.specs.Verdict as spec;
 ghost use Rattle.sp_law_reread.specs.Again.{between};
 ghost use Rattle.sp_analysis.specs.View.{verdict_of};
@@ -112,14 +113,22 @@ fn verdict_text(
     }
 }
 
+/// What a lemma is read over, where that isn't executions.
+fn reading_text(marked: bool) -> &'static str
+    ensures { result.now ≡ kinds.reading_text marked }
+{
+    if marked { ", over learning logs" } else { "" }
+}
+
 /// The line that says what came of a lemma.
 fn summary_line(alloc: Global, lemma: &Tried) -> Result<String, AllocError>
     ensures { IfOk result (λ line. string_bytes line ≡ print.line_of (print.printed_of lemma.now)) }
 {
     let name = lemma.name;
     let kind = kind_text(lemma.kind);
+    let reading = reading_text(lemma.marked);
     let words = verdict_text(alloc, lemma.kind, lemma.verdict, lemma.steps)?;
-    let line = format!(in alloc; "{name} ({kind}): {words}")?;
+    let line = format!(in alloc; "{name} ({kind}{reading}): {words}")?;
     Ok(line)
 }
 
