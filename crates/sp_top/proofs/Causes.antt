@@ -1,53 +1,28 @@
 -- Each status has its cause, since it is that of the whole answer.
-use Rattle.std.proofs.Common.{◌≡◌, ◌≢◌, ◌⊎◌, ◌≤◌, ◌<◌, ℕ, true, List, [], ◌∷◌, Option, Some, None, codes, length, take, refl, sym, ap, ap₂, subst, ◌∙◌, append-nil, inl, inr, arith}
+use Rattle.std.proofs.Common.{◌≡◌, ◌≢◌, ◌⊎◌, ◌≤◌, ◌<◌, ℕ, List, [], ◌∷◌, Option, Some, None, length, take, refl, sym, ap, ap₂, subst, ◌∙◌, append-nil, inl, inr, arith}
 use Rattle.sp_io.specs.Told.{Rose, extended}
 use Rattle.sp_top.specs.Answer.{text_limit, TextAnswer, MayBeTooLong, MayBeText, IsFileAnswer, IsLineAnswer, IsAnswer}
 use Rattle.sp_spec.specs.Lists.{Member}
 use Rattle.sp_spec_text.specs.Written.{WrittenText}
-use Rattle.sp_pose.specs.Waiting.{waits}
-use Rattle.sp_pose.specs.Problem.{Poses, IsWaiting}
-use Rattle.sp_top.specs.Command.{Request, fetched, IsAbout, command_word, request_for, IsLine, IsNoLine}
-use Rattle.sp_top.specs.Run.{IsCutShort, UsageExactly, ReadFaultExactly, TooLongExactly, AnswersExactly, WaitsExactly, HasVerdicts, IsRight, VerdictsHold}
-use Rattle.sp_top.specs.declared.words.Command.{Command}
-use Rattle.sp_top.specs.declared.words.Command.TheVariants.{Prove, Check, Replay, Variants}
-use Rattle.sp_top.proofs.TextStatus.{IsTextStatus, text_status, verdicts_status, status_is_one, is_deferred, why_refused, verdicts_are_done, done_rightly}
+use Rattle.sp_pose.specs.Problem.{Poses}
+use Rattle.sp_top.specs.Command.{Request, fetched, IsAbout, request_by, IsLine, IsNoLine}
+use Rattle.sp_top.specs.Run.{IsCutShort, UsageExactly, ReadFaultExactly, TooLongExactly, AnswersExactly, PosedIsAnswered, HasVerdicts, IsRight, VerdictsHold}
+use Rattle.sp_words.specs.declared.Command.TheVariants.{Replay}
+use Rattle.sp_words.proofs.Asking.{line_asks_once}
+use Rattle.sp_analysis.specs.Replies.{LacksLemma}
+use Rattle.sp_top.proofs.TextStatus.{IsTextStatus, text_status, verdicts_status, status_is_one, why_refused, verdicts_are_done, done_rightly}
 use Rattle.sp_top.specs.declared.Status.{Status}
 use Rattle.sp_top.specs.declared.Status.TheVariants.{Refused, Usage, ReadFault, WriteFault, NoMemory, TooLong}
 
-abbrev first_byte : List ℕ → ℕ
-first_byte [] = 0
-first_byte (b ∷ bytes) = b
-
-same_command : (command other : Command) → command_word command ≡ command_word other → command ≡ other
-same_command Prove Prove e = refl
-same_command Prove Check e = let f : 112 ≡ 99 = ap first_byte e in absurd (omega (arith, f))
-same_command Prove Replay e = let f : 112 ≡ 114 = ap first_byte e in absurd (omega (arith, f))
-same_command Prove Variants e = let f : 112 ≡ 118 = ap first_byte e in absurd (omega (arith, f))
-same_command Check Prove e = let f : 99 ≡ 112 = ap first_byte e in absurd (omega (arith, f))
-same_command Check Check e = refl
-same_command Check Replay e = let f : 99 ≡ 114 = ap first_byte e in absurd (omega (arith, f))
-same_command Check Variants e = let f : 99 ≡ 118 = ap first_byte e in absurd (omega (arith, f))
-same_command Replay Prove e = let f : 114 ≡ 112 = ap first_byte e in absurd (omega (arith, f))
-same_command Replay Check e = let f : 114 ≡ 99 = ap first_byte e in absurd (omega (arith, f))
-same_command Replay Replay e = refl
-same_command Replay Variants e = let f : 114 ≡ 118 = ap first_byte e in absurd (omega (arith, f))
-same_command Variants Prove e = let f : 118 ≡ 112 = ap first_byte e in absurd (omega (arith, f))
-same_command Variants Check e = let f : 118 ≡ 99 = ap first_byte e in absurd (omega (arith, f))
-same_command Variants Replay e = let f : 118 ≡ 114 = ap first_byte e in absurd (omega (arith, f))
-same_command Variants Variants e = refl
-
 -- a line asks for one thing
 pub line_asks_one : (words : List (List ℕ)) (request other : Request) → IsLine words request → IsLine words other → request ≡ other
-line_asks_one words request other (command, file, (is, p, e), here) (command', file', (is', q, f), there) =
-    let word : command_word command ≡ command_word command' = cc in
-    let name : file ≡ file' = cc in
-    here ∙ ap₂ request_for (same_command command command' word) name ∙ sym there
+line_asks_one words request other (r, line, here) (q, again, there) = here ∙ ap request_by (line_asks_once words r q line again) ∙ sym there
 
 -- what is fetched is the text that it is about
 pub line_about : (words : List (List ℕ)) (request : Request) (file : List ℕ) → IsLine words request → Member file (fetched request) → IsAbout request file
-line_about words request file (command, name, says, is) m = at (subst (λ (x : Request). Member file (fetched x)) is m)
+line_about words request file (r, line, is) m = at (subst (λ (x : Request). Member file (fetched x)) is m)
   where
-    at : Member file (name ∷ []) → IsAbout request file
+    at : Member file (r.file ∷ []) → IsAbout request file
     at (inl e) = ap fetched is ∙ ap (λ (x : List ℕ). x ∷ []) e
     at (inr none) = absurd none
 
@@ -88,7 +63,7 @@ answer_is_whole words holds before now text status (inr a) = at a.answer
     at (inl fault) = whole_is status ReadFault fault.status_is (λ e. cc) (λ e. cc)
     at (inr (inl long)) = whole_is status TooLong long.status_is (λ e. cc) (λ e. cc)
     at (inr (inr known)) =
-        let kind = text_status a.request.command a.request.budget known.bytes text status known.answer in
+        let kind = text_status a.request.command a.request.budget a.request.lemma known.bytes text status known.answer in
         whole_is status status refl kind.write_fault kind.no_memory
 
 module _ (words : List (List ℕ)) (holds : List ℕ → Option (Option (List ℕ))) (before now : ℕ) where
@@ -100,7 +75,7 @@ module _ (words : List (List ℕ)) (holds : List ℕ → Option (Option (List �
       cause : IsFileAnswer a.request (holds a.file) before now text status → status ≡ Usage → IsNoLine words
       cause (inl fault) e = let f = fault.status_is in cc
       cause (inr (inl long)) e = let f = long.status_is in cc
-      cause (inr (inr known)) e = absurd ((text_status a.request.command a.request.budget known.bytes text status known.answer).usage e)
+      cause (inr (inr known)) e = absurd ((text_status a.request.command a.request.budget a.request.lemma known.bytes text status known.answer).usage e)
 
   pub read_fault_exactly : (status : Status) → Ends words holds before now status → ReadFaultExactly words holds before now status
   read_fault_exactly status (inl short) = record { cause = λ e. absurd (whole_is status ReadFault e (λ f. cc) (λ f. cc) short); comes = λ request file line among absent whole. absurd (whole short) }
@@ -111,7 +86,7 @@ module _ (words : List (List ℕ)) (holds : List ℕ → Option (Option (List �
           → (request : Request) × (file : List ℕ) × IsLine words request × Member file (fetched request) × (Rose before now ⊎ (holds file ≡ Some None))
       cause_of a (inl fault) e = (a.request, a.file, a.line, about_member a.request a.file a.about, fault.cause)
       cause_of a (inr (inl long)) e = let f = long.status_is in cc
-      cause_of a (inr (inr known)) e = absurd ((text_status a.request.command a.request.budget known.bytes text status known.answer).read_fault e)
+      cause_of a (inr (inr known)) e = absurd ((text_status a.request.command a.request.budget a.request.lemma known.bytes text status known.answer).read_fault e)
 
       cause : IsAnswer words holds before now text status → status ≡ ReadFault → (request : Request) × (file : List ℕ) × IsLine words request × Member file (fetched request) × (Rose before now ⊎ (holds file ≡ Some None))
       cause (inl usage) e = let f = usage.status_is in cc
@@ -135,7 +110,7 @@ module _ (words : List (List ℕ)) (holds : List ℕ → Option (Option (List �
           → (request : Request) × (file : List ℕ) × IsLine words request × Member file (fetched request) × MayBeTooLong (holds file)
       cause_of a (inl fault) e = let f = fault.status_is in cc
       cause_of a (inr (inl long)) e = (a.request, a.file, a.line, about_member a.request a.file a.about, long.longer)
-      cause_of a (inr (inr known)) e = absurd ((text_status a.request.command a.request.budget known.bytes text status known.answer).too_long e)
+      cause_of a (inr (inr known)) e = absurd ((text_status a.request.command a.request.budget a.request.lemma known.bytes text status known.answer).too_long e)
 
       cause : IsAnswer words holds before now text status → status ≡ TooLong → (request : Request) × (file : List ℕ) × IsLine words request × Member file (fetched request) × MayBeTooLong (holds file)
       cause (inl usage) e = let f = usage.status_is in cc
@@ -186,43 +161,27 @@ module _ (words : List (List ℕ)) (holds : List ℕ → Option (Option (List �
           let e = known.agrees.1 (Some bytes) told in
           let P : List ℕ → Type 0 = λ b. TextAnswer request b text status in
           let same : known.bytes ≡ bytes = cc in
-          status_is_one request.command request.budget bytes other text kind status answered (subst P same known.answer)
+          status_is_one request.command request.budget request.lemma bytes other text kind status answered (subst P same known.answer)
 
-  -- a text that waits is deferred
-  pub waits_exactly : (old new : Option (List ℕ)) (text : List ℕ) (status : Status) → IsAnswer words holds before now text status → new ≡ extended old text → WaitsExactly words holds old new status
-  waits_exactly old new text status answer written = record {
-    comes = λ request file bytes line about told within no_list waiting whole read.
-        comes request bytes file told within no_list waiting read (answer_of_line words holds before now text request file status line about answer);
+  -- a text that poses a theory is answered
+  pub posed_is_answered : (text : List ℕ) (status : Status) → IsAnswer words holds before now text status → PosedIsAnswered words holds status
+  posed_is_answered text status answer = record {
     cause = λ request file bytes theory line about told posing refused.
         why request bytes file theory told posing refused (answer_of_line words holds before now text request file status line about answer);
   }
     where
-      comes : (request : Request) (bytes file : List ℕ) → holds file ≡ Some (Some bytes) → length bytes ≤ text_limit → request.command ≢ Variants → IsWaiting bytes → status ≢ ReadFault
-          → IsFileAnswer request (holds file) before now text status → (status ≡ Refused) × (new ≡ extended old (codes "refused: text at byte 0\n"))
-      comes request bytes file told within no_list waiting read (inl fault) = absurd (read fault.status_is)
-      comes request bytes file told within no_list waiting read (inr (inl long)) =
-          let more : text_limit < length bytes = long.longer (Some bytes) told in
-          absurd (omega (arith, within, more))
-      comes request bytes file told within no_list waiting read (inr (inr known)) =
-          let e = known.agrees.1 (Some bytes) told in
-          let P : List ℕ → Type 0 = λ b. TextAnswer request b text status in
-          let same : known.bytes ≡ bytes = cc in
-          let d = is_deferred request.command request.budget bytes text status no_list waiting (subst P same known.answer) in
-          (d.0, written ∙ ap (extended old) d.1)
-
       why : (request : Request) (bytes file : List ℕ) (theory : WrittenText) → holds file ≡ Some (Some bytes) → Poses bytes theory → status ≡ Refused
-          → IsFileAnswer request (holds file) before now text status → (waits theory ≡ true) ⊎ (request.command ≡ Replay)
+          → IsFileAnswer request (holds file) before now text status → (request.command ≡ Replay) ⊎ LacksLemma request.lemma bytes
       why request bytes file theory told posing refused (inl fault) = let f : Refused ≡ ReadFault = sym refused ∙ fault.status_is in cc
       why request bytes file theory told posing refused (inr (inl long)) = let f : Refused ≡ TooLong = sym refused ∙ long.status_is in cc
       why request bytes file theory told posing refused (inr (inr known)) =
           let e = known.agrees.1 (Some bytes) told in
           let P : List ℕ → Type 0 = λ b. TextAnswer request b text status in
           let same : known.bytes ≡ bytes = cc in
-          why_refused request.command request.budget bytes text status theory posing (subst P same known.answer) refused
+          why_refused request.command request.budget request.lemma bytes text status theory posing (subst P same known.answer) refused
 
-  pub waits_short : (old new : Option (List ℕ)) (status : Status) → IsCutShort status → WaitsExactly words holds old new status
-  waits_short old new status short = record {
-    comes = λ request file bytes line about told within no_list waiting whole read. absurd (whole short);
+  pub posed_short : (status : Status) → IsCutShort status → PosedIsAnswered words holds status
+  posed_short status short = record {
     cause = λ request file bytes theory line about told posing refused. absurd (whole_is status Refused refused (λ e. cc) (λ e. cc) short);
   }
 
@@ -242,8 +201,8 @@ module _ (words : List (List ℕ)) (holds : List ℕ → Option (Option (List �
         about = a.about;
         text = known.agrees;
         right =
-            done_rightly a.request.command a.request.budget known.bytes text status
-            (verdicts_are_done a.request.command a.request.budget known.bytes text status h known.answer);
+            done_rightly a.request.command a.request.budget a.request.lemma known.bytes text status
+            (verdicts_are_done a.request.command a.request.budget a.request.lemma known.bytes text status h known.answer);
       }
 
   pub headline : (old new : Option (List ℕ)) (text : List ℕ) (status : Status) → IsAnswer words holds before now text status → new ≡ extended old text
@@ -281,6 +240,6 @@ nothing_asked (Some told) = ap Some (append-nil told)
 pub asked_first : (words : List (List ℕ)) (request : Request) (old new : Option (List (List ℕ))) → IsLine words request → (new ≡ old) ⊎ (new ≡ extended old (fetched request))
     → (n : ℕ) × (new ≡ extended old (take n (fetched request)))
 asked_first words request old new line (inl none) = (0, none ∙ sym (nothing_asked old))
-asked_first words request old new (command, file, says, is) (inr all) =
-    let about : IsAbout request file = ap fetched is in
+asked_first words request old new (r, line, is) (inr all) =
+    let about : IsAbout request r.file = ap fetched is in
     (1, all ∙ ap (extended old) (about ∙ sym (ap (take 1) about)))

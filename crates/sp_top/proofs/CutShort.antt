@@ -3,17 +3,18 @@ use Rattle.std.proofs.Common.{◌≡◌, ℕ, List, ◌∷◌, ◌++◌, take, d
 use Rattle.std.specs.Prelude.{decimal}
 use Rattle.std.proofs.lemmas.List.{append_cancel_left, take-append-drop}
 use Rattle.sp_spec_text.specs.Behind.{IsBehindEnd}
+use Rattle.sp_spec_text.specs.Names.{IsWord}
 use Rattle.sp_spec_text.specs.Ends.{behind_all}
 use Rattle.sp_io.specs.Told.{extended}
-use Rattle.sp_top.specs.Answer.{TextAnswer, IsRefusedWith, IsFileAnswer}
+use Rattle.sp_top.specs.Answer.{TextAnswer, IsLemmaRefusal, IsAskedRefusal, IsRefusedWith, IsFileAnswer}
 use Rattle.sp_top.specs.Command.{Request, IsAbout, IsLine}
-use Rattle.sp_top.specs.Headline.{IsLineAbove, IsWholeLine, LinesAreTrue, WholeLinesAreTrue, Tells}
+use Rattle.sp_top.specs.Headline.{IsLineAbove, IsWholeLine, LinesAreTrue, WholeLinesAreTrue, Tells, NamesByWord}
 use Rattle.sp_top.specs.Run.{DoneRightly, WritesPrefix}
 use Rattle.sp_top.specs.declared.Status.{Status}
 use Rattle.sp_top.specs.declared.Status.TheVariants.{WriteFault}
-use Rattle.sp_top.specs.declared.words.Command.{Command}
-use Rattle.sp_top.specs.declared.words.Command.TheVariants.{Prove, Check, Replay, Variants}
-use Rattle.sp_top.proofs.PlainNames.{IsPlain, plain_in, plain_append}
+use Rattle.sp_words.specs.declared.Command.{Command}
+use Rattle.sp_words.specs.declared.Command.TheVariants.{Prove, Check, Replay, Variants}
+use Rattle.sp_top.proofs.PlainNames.{IsPlain, plain_in, plain_word, plain_append}
 use Rattle.sp_top.proofs.PlainFindings.{plain_number}
 use Rattle.sp_top.proofs.PlainReports.{report_plain}
 use Rattle.sp_top.proofs.EndStays.{end_stays}
@@ -28,6 +29,11 @@ module _ (bytes : List ℕ) where
   nothing_told told plain = record {
     proof = λ name n w l. absurd (no_bracket_line told plain l.stands.above name (codes "all-traces): verified (" ++ (decimal n ++ codes " steps)")) (l.next ∷ l.below) l.stands.lines_are);
     refutation = λ name n w l. absurd (no_bracket_line told plain l.stands.above name (codes "exists-trace): falsified - no trace found (" ++ (decimal n ++ codes " steps)")) (l.next ∷ l.below) l.stands.lines_are);
+    marked_proof = λ name n w l.
+        absurd (no_bracket_line told plain l.stands.above name (codes "all-traces, over learning logs): verified (" ++ (decimal n ++ codes " steps)")) (l.next ∷ l.below) l.stands.lines_are);
+    marked_refutation = λ name n w l.
+        absurd (no_bracket_line told plain l.stands.above name (codes "exists-trace, over learning logs): falsified - no trace found (" ++ (decimal n ++ codes " steps)")) (l.next ∷ l.below)
+        l.stands.lines_are);
   }
 
   -- a whole line stays one with more behind it
@@ -49,6 +55,14 @@ module _ (bytes : List ℕ) where
             let line = name ++ (codes " (exists-trace): falsified - no trace found (" ++ (decimal n ++ codes " steps)")) in
             let s = line_stays told more line l in
             (h (feed line l)).refutation name n s.0 w s.1;
+        marked_proof = λ name n w l.
+            let line = name ++ (codes " (all-traces, over learning logs): verified (" ++ (decimal n ++ codes " steps)")) in
+            let s = line_stays told more line l in
+            (h (feed line l)).marked_proof name n s.0 w s.1;
+        marked_refutation = λ name n w l.
+            let line = name ++ (codes " (exists-trace, over learning logs): falsified - no trace found (" ++ (decimal n ++ codes " steps)")) in
+            let s = line_stays told more line l in
+            (h (feed line l)).marked_refutation name n s.0 w s.1;
       }
 
   plain_told : (command : Command) (text told : List ℕ) (k : ℕ) → IsPlain text → Tells command (take k text) told → IsPlain told
@@ -60,52 +74,62 @@ module _ (bytes : List ℕ) where
   plain_true : (command : Command) (text told : List ℕ) (k : ℕ) → IsPlain text → Tells command (take k text) told → WholeLinesAreTrue bytes told
   plain_true command text told k plain t = nothing_told told (plain_told command text told k plain t)
 
-  done_so : (command : Command) (budget : ℕ) (text told : List ℕ) (full : Status) (k : ℕ) → DoneRightly command budget bytes text full → Tells command (take k text) told → WholeLinesAreTrue bytes told
-  done_so Prove budget text told full k r t =
+  done_so : (command : Command) (budget : ℕ) (chosen : Option (List ℕ)) (text told : List ℕ) (full : Status) (k : ℕ) → DoneRightly command budget chosen bytes text full → Tells command (take k text) told → WholeLinesAreTrue bytes told
+  done_so Prove budget chosen text told full k r t =
       let more = drop k text in
       so_with_more told more
-      (λ f. tried_true budget bytes text full r (told ++ more) (subst (λ (x : List ℕ). IsBehindEnd x (told ++ more)) (take-append-drop k text) (end_stays (take k text) told more f.front f.behind t f.are)))
-  done_so Check budget text told full k r t =
-      so_with_more told (drop k text) (λ f. subst (LinesAreTrue bytes) (sym (ap (λ (x : List ℕ). x ++ drop k text) t ∙ take-append-drop k text)) (checked_true bytes text full r))
-  done_so Replay budget text told full k r t = absurd t
-  done_so Variants budget text told full k r t = absurd t
+      (λ f. tried_true budget chosen bytes text full r (told ++ more) (subst (λ (x : List ℕ). IsBehindEnd x (told ++ more)) (take-append-drop k text) (end_stays (take k text) told more f.front f.behind t f.are)))
+  done_so Check budget chosen text told full k r t =
+      so_with_more told (drop k text) (λ f. subst (LinesAreTrue bytes) (sym (ap (λ (x : List ℕ). x ++ drop k text) t ∙ take-append-drop k text)) (checked_true chosen bytes text full r))
+  done_so Replay budget chosen text told full k r t = absurd t
+  done_so Variants budget chosen text told full k r t = absurd t
 
-  refused_so : (command : Command) (text told : List ℕ) (full : Status) (k : ℕ) → IsRefusedWith command bytes text full → Tells command (take k text) told → WholeLinesAreTrue bytes told
-  refused_so command text told full k (inl refusal) t =
+  lemma_so : (command : Command) (chosen : Option (List ℕ)) (text told : List ℕ) (full : Status) (k : ℕ) → ((name : List ℕ) → chosen ≡ Some name → IsWord name)
+      → IsLemmaRefusal chosen bytes text full → Tells command (take k text) told → WholeLinesAreTrue bytes told
+  lemma_so command chosen text told full k named refusal t =
+      plain_true command text told k (subst IsPlain (sym refusal.text_is)
+      (plain_append (codes "refused: no lemma ") (refusal.name ++ codes "\n") (plain_in (codes "refused: no lemma ") refl)
+      (plain_append refusal.name (codes "\n") (plain_word refusal.name (named refusal.name refusal.is_given)) (plain_in (codes "\n") refl)))) t
+
+  asked_so : (command : Command) (chosen : Option (List ℕ)) (text told : List ℕ) (full : Status) (k : ℕ) → ((name : List ℕ) → chosen ≡ Some name → IsWord name)
+      → IsAskedRefusal command chosen bytes text full → Tells command (take k text) told → WholeLinesAreTrue bytes told
+  asked_so Prove chosen text told full k named r t = lemma_so Prove chosen text told full k named r t
+  asked_so Check chosen text told full k named r t = lemma_so Check chosen text told full k named r t
+  asked_so Replay chosen text told full k named r t = absurd t
+  asked_so Variants chosen text told full k named r t = absurd r
+
+  refused_so : (command : Command) (chosen : Option (List ℕ)) (text told : List ℕ) (full : Status) (k : ℕ) → ((name : List ℕ) → chosen ≡ Some name → IsWord name)
+      → IsRefusedWith command chosen bytes text full → Tells command (take k text) told → WholeLinesAreTrue bytes told
+  refused_so command chosen text told full k named (inl refusal) t =
       plain_true command text told k (subst IsPlain (sym refusal.text_is)
       (plain_append (codes "refused: text at byte ") (decimal refusal.place ++ codes "\n") (plain_in (codes "refused: text at byte ") refl)
       (plain_append (decimal refusal.place) (codes "\n") (plain_number refusal.place) (plain_in (codes "\n") refl)))) t
-  refused_so command text told full k (inr (inl report)) t = plain_true command text told k (report_plain bytes text report.report) t
-  refused_so command text told full k (inr (inr (inl deferral))) t =
-      plain_true command text told k (subst IsPlain (sym deferral.text_is) (plain_in (codes "refused: text at byte 0\n") refl)) t
-  refused_so command text told full k (inr (inr (inr refusal))) t =
-      plain_true command text told k (subst IsPlain (sym refusal.text_is)
-      (plain_append (codes "refused: line ") (decimal refusal.number ++ codes "\n") (plain_in (codes "refused: line ") refl)
-      (plain_append (decimal refusal.number) (codes "\n") (plain_number refusal.number) (plain_in (codes "\n") refl)))) t
+  refused_so command chosen text told full k named (inr (inl report)) t = plain_true command text told k (report_plain bytes text report.report) t
+  refused_so command chosen text told full k named (inr (inr refusal)) t = asked_so command chosen text told full k named refusal t
 
-  answer_so : (request : Request) (before now : ℕ) (text told : List ℕ) (full : Status) (k : ℕ) → IsFileAnswer request (Some (Some bytes)) before now text full → Tells request.command (take k text) told
+  answer_so : (request : Request) (before now : ℕ) (text told : List ℕ) (full : Status) (k : ℕ) → NamesByWord request → IsFileAnswer request (Some (Some bytes)) before now text full → Tells request.command (take k text) told
       → WholeLinesAreTrue bytes told
-  answer_so request before now text told full k (inl fault) t = plain_true request.command text told k (subst IsPlain (sym fault.text_is) (plain_in (codes "refused: read fault\n") refl)) t
-  answer_so request before now text told full k (inr (inl long)) t =
+  answer_so request before now text told full k named (inl fault) t = plain_true request.command text told k (subst IsPlain (sym fault.text_is) (plain_in (codes "refused: read fault\n") refl)) t
+  answer_so request before now text told full k named (inr (inl long)) t =
       plain_true request.command text told k (subst IsPlain (sym long.text_is) (plain_in (codes "refused: text longer than 1048576 bytes\n") refl)) t
-  answer_so request before now text told full k (inr (inr known)) t =
+  answer_so request before now text told full k named (inr (inr known)) t =
       let same : Some bytes ≡ Some known.bytes = known.agrees.1 (Some bytes) refl in
       let one : known.bytes ≡ bytes = cc in
       at (subst (λ (x : List ℕ). TextAnswer request x text full) one known.answer)
     where
       at : TextAnswer request bytes text full → WholeLinesAreTrue bytes told
-      at (inl refused) = refused_so request.command text told full k refused t
-      at (inr done) = done_so request.command request.budget text told full k (done_rightly request.command request.budget bytes text full done) t
+      at (inl refused) = refused_so request.command request.lemma text told full k named refused t
+      at (inr done) = done_so request.command request.budget request.lemma text told full k (done_rightly request.command request.budget request.lemma bytes text full done) t
 
 -- what was written before the sink failed
 pub cut_true : (words : List (List ℕ)) (holds : List ℕ → Option (Option (List ℕ))) (before now : ℕ) (old new : Option (List ℕ)) (status : Status) → WritesPrefix words holds before now old new status
     → (request : Request) (file bytes front written told : List ℕ) → IsLine words request → IsAbout request file → holds file ≡ Some (Some bytes) → old ≡ Some front → new ≡ Some (front ++ written)
-    → status ≡ WriteFault → Tells request.command written told → WholeLinesAreTrue bytes told
-cut_true words holds before now old new status p request file bytes front written told line about holding was is short tells =
+    → status ≡ WriteFault → NamesByWord request → Tells request.command written told → WholeLinesAreTrue bytes told
+cut_true words holds before now old new status p request file bytes front written told line about holding was is short named tells =
     let c = p.prefix short in
     let text = c.0 in
     let k = c.3.0 in
     let answer = answer_of_line words holds before now text request file c.1 line about c.2 in
     let whole : Some (front ++ take k text) ≡ Some (front ++ written) = ap (λ (o : Option (List ℕ)). extended o (take k text)) (sym was) ∙ sym c.3.2 ∙ is in
     let same : written ≡ take k text = sym (append_cancel_left front (take k text) written cc) in
-    answer_so bytes request before now text told c.1 k (subst (λ (o : Option (Option (List ℕ))). IsFileAnswer request o before now text c.1) holding answer) (subst (λ (x : List ℕ). Tells request.command x told) same tells)
+    answer_so bytes request before now text told c.1 k named (subst (λ (o : Option (Option (List ℕ))). IsFileAnswer request o before now text c.1) holding answer) (subst (λ (x : List ℕ). Tells request.command x told) same tells)

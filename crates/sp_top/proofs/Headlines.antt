@@ -1,5 +1,5 @@
 -- Each verdict of an answer is so, line by line.
-use Rattle.std.proofs.Common.{◌≡◌, ℕ, List, [], ◌∷◌, ◌++◌, map, codes, inl, inr, refl, sym, ap, subst, ◌∙◌, append-nil, false, arith}
+use Rattle.std.proofs.Common.{◌≡◌, ℕ, List, [], ◌∷◌, ◌++◌, map, codes, Option, inl, inr, refl, sym, ap, subst, ◌∙◌, append-nil, arith}
 use Rattle.sp_spec.specs.Lists.{Member, Every, Distinct}
 use Rattle.sp_spec.proofs.Lists.{distinct_right}
 use Rattle.sp_spec.specs.Theory.{Theory, Restriction, Lemma}
@@ -8,7 +8,6 @@ use Rattle.sp_spec.specs.Verdict.{names_learning}
 use Rattle.sp_spec_proof.specs.Tree.{steps}
 use Rattle.sp_spec_text.specs.Written.{WrittenText}
 use Rattle.sp_spec_text.specs.Declared.{resolved, theory_in}
-use Rattle.sp_pose.specs.Waiting.{waits}
 use Rattle.sp_spec_printed.specs.Verdict.{summary_line}
 use Rattle.sp_spec_text.specs.Names.{IsNameWord}
 use Rattle.sp_spec_text.specs.Blanks.{lines}
@@ -17,7 +16,7 @@ use Rattle.sp_wf.specs.Laws.{IsWellFormed}
 use Rattle.sp_pose.specs.Problem.{Poses}
 use Rattle.sp_spec_text.specs.Behind.{IsBehindEnd}
 use Rattle.sp_law_reread.proofs.Behind.{behind_one}
-use Rattle.sp_law_printed_log.specs.Block.{block_of}
+use Rattle.sp_analysis.specs.Found.{block_of}
 use Rattle.sp_law_printed_log.proofs.NoFeeds.{line_cut, no_feed_in}
 use Rattle.sp_law_printed_log.proofs.Sections.{IsNoVerdict, nothing_there, behind_word}
 use Rattle.sp_law_printed_log.proofs.TextNames.{texts_have_names_lem}
@@ -27,8 +26,9 @@ use Rattle.sp_spec_text.specs.Numerals.{counted}
 use Rattle.sp_analysis.specs.Analysis.{Outcome, summary, AreOutcomes}
 use Rattle.sp_analysis.specs.Checking.{Judged, checked_text, AreJudged}
 use Rattle.sp_analysis.specs.Laws.{Means, AreReadBack, JudgedRightly}
-use Rattle.sp_pose.proofs.WaitingItems.{lemmas_unlearnt}
 use Rattle.sp_analysis.proofs.StatedItems.{stated_lemmas}
+use Rattle.sp_analysis.specs.Chosen.{run_among}
+use Rattle.sp_analysis.proofs.Running.{every_run}
 use Rattle.sp_analysis.proofs.ReadBack.{executions_are_read_back_lem}
 use Rattle.sp_top.specs.Headline.{LinesAreTrue}
 use Rattle.sp_top.specs.Run.{TriedRightly, CheckedRightly}
@@ -42,32 +42,32 @@ told_of o = record { lemma = o.lemma; verdict = o.verdict; steps = counted (step
 
 summary_told : (theory : Theory) (os : List Outcome) → summary theory os ≡ told_text theory (map told_of os)
 summary_told theory [] = refl
-summary_told theory (o ∷ os) = ap (λ (xs : List ℕ). summary_line o.lemma.name o.lemma.kind o.verdict (counted (steps o.tree)) ++ (block_of theory o.log ++ xs)) (summary_told theory os)
+summary_told theory (o ∷ os) =
+    let learns = names_learning o.lemma.formula in
+    ap (λ (xs : List ℕ). summary_line o.lemma.name o.lemma.kind learns o.verdict (counted (steps o.tree)) ++ (block_of theory learns o.log ++ xs)) (summary_told theory os)
 
 -- what is known of a lemma of the text
 record IsKnown (text : WrittenText) (lemma : Lemma) : Type 0 where
   stands : Member lemma (theory_in text).lemmas
   named : IsNameWord lemma.name
-  unlearnt : names_learning lemma.formula ≡ false
 
-all_known : (bytes : List ℕ) (text : WrittenText) → Poses bytes text → waits text ≡ false → Every (IsKnown text) (theory_in text).lemmas
-all_known bytes text posing ready = go (theory_in text).lemmas (λ l m. m) (texts_have_names_lem.lemmas bytes text posing.says) (lemmas_unlearnt text ready)
+all_known : (bytes : List ℕ) (text : WrittenText) → Poses bytes text → Every (IsKnown text) (theory_in text).lemmas
+all_known bytes text posing = go (theory_in text).lemmas (λ l m. m) (texts_have_names_lem.lemmas bytes text posing.says)
   where
-    go : (ls : List Lemma) → ((l : Lemma) → Member l ls → Member l (theory_in text).lemmas) → Every (λ (l : Lemma). IsNameWord l.name) ls → Every (λ (l : Lemma). names_learning l.formula ≡ false) ls
-        → Every (IsKnown text) ls
-    go [] among h k = tt
-    go (l ∷ ls) among h k = (record { stands = among l (inl refl); named = h.0; unlearnt = k.0 }, go ls (λ x m. among x (inr m)) h.1 k.1)
+    go : (ls : List Lemma) → ((l : Lemma) → Member l ls → Member l (theory_in text).lemmas) → Every (λ (l : Lemma). IsNameWord l.name) ls → Every (IsKnown text) ls
+    go [] among h = tt
+    go (l ∷ ls) among h = (record { stands = among l (inl refl); named = h.0 }, go ls (λ x m. among x (inr m)) h.1)
 
 outcomes_told : (text : WrittenText) (setting : Setting) (budget : ℕ) (taken : List Taken) (qs : List Stated) (os : List Outcome) → Every (IsKnown text) (lemmas_stated qs)
     → AreOutcomes setting budget taken qs os
-    → Every (λ (o : Outcome). Means (theory_of (theory_in text)) o.lemma.kind o.verdict o.log o.lemma) os → Every (λ (o : Outcome). AreReadBack (theory_of (theory_in text)) o.log) os
+    → Every (λ (o : Outcome). Means (theory_of (theory_in text)) o.lemma.kind o.verdict o.log o.lemma) os → Every (λ (o : Outcome). AreReadBack (theory_of (theory_in text)) (names_learning o.lemma.formula) o.log) os
     → Every (IsRightlyTold text) (map told_of os)
 outcomes_told text setting budget taken [] [] k h m r = tt
 outcomes_told text setting budget taken [] (o ∷ os) k h m r = absurd h
 outcomes_told text setting budget taken (q ∷ qs) [] k h m r = absurd h
 outcomes_told text setting budget taken (q ∷ qs) (o ∷ os) k h m r =
     let known = subst (IsKnown text) (sym h.0.lemma_is) k.0 in (
-      record { stands = known.stands; named = known.named.1; unlearnt = known.unlearnt; means = m.0; read = r.0 },
+      record { stands = known.stands; named = known.named.1; means = m.0; read = r.0 },
       outcomes_told text setting budget (taken ++ taken_by q o.verdict) qs os k.1 h.1 m.1 r.1,
     )
 
@@ -78,16 +78,18 @@ told_on j = record { lemma = j.lemma; verdict = j.verdict; steps = counted (read
 
 checked_told : (theory : Theory) (js : List Judged) → checked_text theory js ≡ told_text theory (map told_on js)
 checked_told theory [] = refl
-checked_told theory (j ∷ js) = ap (λ (xs : List ℕ). summary_line j.lemma.name j.lemma.kind j.verdict (counted (read.steps j.proof)) ++ (block_of theory j.log ++ xs)) (checked_told theory js)
+checked_told theory (j ∷ js) =
+    let learns = names_learning j.lemma.formula in
+    ap (λ (xs : List ℕ). summary_line j.lemma.name j.lemma.kind learns j.verdict (counted (read.steps j.proof)) ++ (block_of theory learns j.log ++ xs)) (checked_told theory js)
 
 judged_told : (text : WrittenText) (setting : Setting) (taken : List Taken) (qs : List Stated) (js : List Judged) → Every (IsKnown text) (lemmas_stated qs) → AreJudged setting taken qs js
-    → Every (JudgedRightly (theory_in text)) js → Every (λ (j : Judged). AreReadBack (theory_of (theory_in text)) j.log) js → Every (IsRightlyTold text) (map told_on js)
+    → Every (JudgedRightly (theory_in text)) js → Every (λ (j : Judged). AreReadBack (theory_of (theory_in text)) (names_learning j.lemma.formula) j.log) js → Every (IsRightlyTold text) (map told_on js)
 judged_told text setting taken [] [] k h m r = tt
 judged_told text setting taken [] (j ∷ js) k h m r = absurd h
 judged_told text setting taken (q ∷ qs) [] k h m r = absurd h
 judged_told text setting taken (q ∷ qs) (j ∷ js) k h m r =
     let known = subst (IsKnown text) (sym h.0.lemma_is) k.0 in (
-      record { stands = known.stands; named = known.named.1; unlearnt = known.unlearnt; means = m.0.means; read = r.0 },
+      record { stands = known.stands; named = known.named.1; means = m.0.means; read = r.0 },
       judged_told text setting (taken ++ taken_by q j.verdict) qs js k.1 h.1 m.1 r.1,
     )
 
@@ -107,17 +109,17 @@ opens_comment = behind_word [] 47 (codes "*") tt refl (λ e. omega (arith, e))
 closes_comment : IsNoVerdict (codes "*/")
 closes_comment = behind_word [] 42 (codes "/") tt refl (λ e. omega (arith, e))
 
-pub tried_true : (budget : ℕ) (bytes text : List ℕ) (status : Status) → TriedRightly budget bytes text status → (told : List ℕ) → IsBehindEnd text told → LinesAreTrue bytes told
-tried_true budget bytes text status r told behind_end =
+pub tried_true : (budget : ℕ) (chosen : Option (List ℕ)) (bytes text : List ℕ) (status : Status) → TriedRightly budget chosen bytes text status → (told : List ℕ) → IsBehindEnd text told → LinesAreTrue bytes told
+tried_true budget chosen bytes text status r told behind_end =
     let written = r.analysis.theory in
     let theory = theory_of (theory_in written) in
     let posing = r.analysis.poses in
     let names = texts_have_names_lem.symbols bytes written posing.says in
     let ts = map told_of r.outcomes in
-    let known = stated_lemmas written (IsKnown written) (all_known bytes written posing r.analysis.ready) in
-    let right = outcomes_told written (setting_of (theory_in written)) budget [] (stated_in (resolved written).items) r.outcomes known r.analysis.outcomes_are r.right
-    (executions_are_read_back_lem.tried budget bytes text r.outcomes r.analysis) in
-    let same = behind_one text told (codes "\n/*\n" ++ (summary theory r.outcomes ++ codes "*/\n")) behind_end r.again.behind in
+    let known = every_run chosen (IsKnown written) (stated_in (resolved written).items) (stated_lemmas written (IsKnown written) (all_known bytes written posing)) in
+    let right = outcomes_told written (setting_of (theory_in written)) budget [] (run_among chosen (stated_in (resolved written).items)) r.outcomes known r.analysis.outcomes_are r.right
+    (executions_are_read_back_lem.tried budget chosen bytes text r.outcomes r.analysis) in
+    let same = behind_one text told (codes "\n/*\n" ++ (summary theory r.outcomes ++ codes "*/\n")) behind_end r.behind in
     let shape : codes "\n/*\n" ++ (summary theory r.outcomes ++ codes "*/\n") ≡ [] ++ 10 ∷ (codes "/*" ++ 10 ∷ (told_text theory ts ++ codes "*/\n")) =
     ap (λ (xs : List ℕ). codes "\n/*\n" ++ (xs ++ codes "*/\n")) (summary_told theory r.outcomes) in
     let inner = told_text theory ts ++ codes "*/\n" in
@@ -127,16 +129,16 @@ tried_true budget bytes text status r told behind_end =
     ∙ ap (λ (ls : List (List ℕ)). [] ∷ codes "/*" ∷ ls) (told_lines written names ts right (codes "*/\n") ∙ ap (λ (ls : List (List ℕ)). all_lines written names ts ++ ls) last) in
     lines_true written names bytes posing.says (lemma_names_of written posing.fine) told ([] ∷ codes "/*" ∷ []) (codes "*/" ∷ [] ∷ []) ts right all (nothing_there, (opens_comment, tt)) (closes_comment, (nothing_there, tt))
 
-pub checked_true : (bytes text : List ℕ) (status : Status) → CheckedRightly bytes text status → LinesAreTrue bytes text
-checked_true bytes text status r =
+pub checked_true : (chosen : Option (List ℕ)) (bytes text : List ℕ) (status : Status) → CheckedRightly chosen bytes text status → LinesAreTrue bytes text
+checked_true chosen bytes text status r =
     let written = r.checking.theory in
     let theory = theory_of (theory_in written) in
     let posing = r.checking.poses in
     let names = texts_have_names_lem.symbols bytes written posing.says in
     let ts = map told_on r.judged in
-    let known = stated_lemmas written (IsKnown written) (all_known bytes written posing r.checking.ready) in
-    let right = judged_told written (setting_of (theory_in written)) [] (stated_in (resolved written).items) r.judged known r.checking.judged_are r.right
-    (executions_are_read_back_lem.checked bytes text r.judged r.checking) in
+    let known = every_run chosen (IsKnown written) (stated_in (resolved written).items) (stated_lemmas written (IsKnown written) (all_known bytes written posing)) in
+    let right = judged_told written (setting_of (theory_in written)) [] (run_among chosen (stated_in (resolved written).items)) r.judged known r.checking.judged_are r.right
+    (executions_are_read_back_lem.checked chosen bytes text r.judged r.checking) in
     let shape : text ≡ told_text theory ts ++ [] = r.checking.written_is ∙ checked_told theory r.judged ∙ sym (append-nil (told_text theory ts)) in
     let all = ap lines shape ∙ told_lines written names ts right [] ∙ ap (λ (ls : List (List ℕ)). all_lines written names ts ++ ls) one_empty in
     lines_true written names bytes posing.says (lemma_names_of written posing.fine) text [] ([] ∷ []) ts right all tt (nothing_there, tt)

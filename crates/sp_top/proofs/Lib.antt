@@ -1,7 +1,7 @@
-pub mod Lines
 pub mod Causes
 pub mod TextStatus
 pub mod Answered
+pub mod Lines
 pub mod PlainNames
 pub mod PlainTexts
 pub mod PlainFindings

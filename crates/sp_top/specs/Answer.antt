@@ -1,5 +1,5 @@
 -- What is answered to the words of a command: a text that is written, and a status.
-use Rattle.std.specs.Prelude.{◌≡◌, ◌≢◌, ◌⊎◌, ◌≤◌, ◌<◌, ℕ, suc, Bool, true, false, List, ◌++◌, map, Option, Some, None, IsSomeAnd, if◌then◌else◌, length, codes, decimal}
+use Rattle.std.specs.Prelude.{◌≡◌, ◌⊎◌, ◌≤◌, ◌<◌, ℕ, suc, Bool, true, false, List, ◌++◌, map, Option, Some, None, IsSomeAnd, if◌then◌else◌, length, codes, decimal}
 use Rattle.std.specs.List.{list_any}
 use Rattle.std.specs.Option.{ForSome}
 use Rattle.sp_io.specs.Told.{Rose}
@@ -9,16 +9,17 @@ use Rattle.sp_top.specs.declared.Status.TheVariants.{Fine, Falsified, Incomplete
 use Rattle.sp_top.specs.declared.Wanted.{Wanted}
 use Rattle.sp_top.specs.declared.Wanted.TheVariants as wanted
 use Rattle.sp_place.specs.Refused.{IsRefusedAt}
-use Rattle.sp_pose.specs.Problem.{IsReported, IsWaiting}
+use Rattle.sp_pose.specs.Problem.{IsReported}
 use Rattle.sp_spec_printed.specs.Verdict.{Verdict, verified, falsified, incomplete, rejected}
 use Rattle.sp_analysis.specs.Analysis.{Outcome, IsAnalysis}
 use Rattle.sp_analysis.specs.Checking.{Judged, IsChecking}
+use Rattle.sp_analysis.specs.Replies.{LacksLemma}
 use Rattle.sp_spec.specs.Execution.{Cause}
 use Rattle.sp_exec.specs.Replay.{rank}
 use Rattle.sp_replay.specs.Replay.{IsUnread, IsStopped, IsReplay}
 use Rattle.sp_rule_forms.specs.Variants.{IsListed}
-use Rattle.sp_top.specs.declared.words.Command.{Command}
-use Rattle.sp_top.specs.declared.words.Command.TheVariants.{Prove, Check, Replay, Variants}
+use Rattle.sp_words.specs.declared.Command.{Command}
+use Rattle.sp_words.specs.declared.Command.TheVariants.{Prove, Check, Replay, Variants}
 
 -- how many bytes a text may have
 abbrev pub text_limit : ℕ
@@ -34,13 +35,6 @@ pub record IsRefusal (bytes text : List ℕ) (status : Status) : Type 0 where
 -- the text says a theory with fatal findings, and these are their lines
 pub record IsReport (bytes text : List ℕ) (status : Status) : Type 0 where
   pub report : IsReported bytes text
-  pub status_is : status ≡ Refused
-
--- the text says a theory without fatal findings that writes what nothing is proved of yet; only its rules' forms are listed
-pub record IsDeferral (command : Command) (bytes text : List ℕ) (status : Status) : Type 0 where
-  pub no_list : command ≢ Variants
-  pub waiting : IsWaiting bytes
-  pub text_is : text ≡ codes "refused: text at byte 0\n"
   pub status_is : status ≡ Refused
 
 abbrev pub is_falsified : Verdict → Bool
@@ -78,21 +72,28 @@ verdicts_of os = map (λ (o : Outcome). o.verdict) os
 abbrev pub verdicts_on : List Judged → List Verdict
 verdicts_on js = map (λ (j : Judged). j.verdict) js
 
--- the text with the proof of at most so many moves that is grown for each of its lemmas, and what is said of them
-pub record IsTried (budget : ℕ) (bytes text : List ℕ) (status : Status) : Type 0 where
+-- the text with the proof of at most so many moves that is grown for each of its lemmas, or for the one that is named, and what is said of them
+pub record IsTried (budget : ℕ) (chosen : Option (List ℕ)) (bytes text : List ℕ) (status : Status) : Type 0 where
   pub outcomes : List Outcome
-  pub analysis : IsAnalysis budget bytes text outcomes
+  pub analysis : IsAnalysis budget chosen bytes text outcomes
   pub status_is : status ≡ status_of (verdicts_of outcomes)
 
--- what is said of each lemma by the proof that stands below it
-pub record IsChecked (bytes text : List ℕ) (status : Status) : Type 0 where
+-- what is said of each lemma, or of the one that is named, by the proof that stands below it
+pub record IsChecked (chosen : Option (List ℕ)) (bytes text : List ℕ) (status : Status) : Type 0 where
   pub judged : List Judged
-  pub checking : IsChecking bytes text judged
+  pub checking : IsChecking chosen bytes text judged
   pub status_is : status ≡ status_of (verdicts_on judged)
 
+-- the text says a theory without fatal findings that has no lemma of the name that is given
+pub record IsLemmaRefusal (chosen : Option (List ℕ)) (bytes text : List ℕ) (status : Status) : Type 0 where
+  pub name : List ℕ
+  pub is_given : chosen ≡ Some name
+  pub lacks : LacksLemma chosen bytes
+  pub text_is : text ≡ codes "refused: no lemma " ++ (name ++ codes "\n")
+  pub status_is : status ≡ Refused
+
 -- a line behind the text is no step's
-pub record IsLineRefusal (command : Command) (bytes text : List ℕ) (status : Status) : Type 0 where
-  pub replays : command ≡ Replay
+pub record IsLineRefusal (bytes text : List ℕ) (status : Status) : Type 0 where
   pub number : ℕ
   pub unread : IsUnread bytes number
   pub text_is : text ≡ codes "refused: line " ++ (decimal number ++ codes "\n")
@@ -116,23 +117,30 @@ pub record HasVariants (bytes text : List ℕ) (status : Status) : Type 0 where
   pub listed : IsListed bytes text
   pub status_is : status ≡ Fine
 
-abbrev pub IsDoneWith : Command → ℕ → List ℕ → List ℕ → Status → Type 0
-IsDoneWith Prove budget bytes text status = IsTried budget bytes text status
-IsDoneWith Check budget bytes text status = IsChecked bytes text status
-IsDoneWith Replay budget bytes text status = IsStepRefusal bytes text status ⊎ IsReplayed bytes text status
-IsDoneWith Variants budget bytes text status = HasVariants bytes text status
+abbrev pub IsDoneWith : Command → ℕ → Option (List ℕ) → List ℕ → List ℕ → Status → Type 0
+IsDoneWith Prove budget chosen bytes text status = IsTried budget chosen bytes text status
+IsDoneWith Check budget chosen bytes text status = IsChecked chosen bytes text status
+IsDoneWith Replay budget chosen bytes text status = IsStepRefusal bytes text status ⊎ IsReplayed bytes text status
+IsDoneWith Variants budget chosen bytes text status = HasVariants bytes text status
 
--- the text, its theory or its lines are refused, or it waits
-abbrev pub IsRefusedWith : Command → List ℕ → List ℕ → Status → Type 0
-IsRefusedWith command bytes text status = IsRefusal bytes text status ⊎ IsReport bytes text status ⊎ IsDeferral command bytes text status ⊎ IsLineRefusal command bytes text status
+-- what is asked of the text is refused: the name of the lemma that alone is meant, or a line that is to be replayed
+abbrev pub IsAskedRefusal : Command → Option (List ℕ) → List ℕ → List ℕ → Status → Type 0
+IsAskedRefusal Prove chosen bytes text status = IsLemmaRefusal chosen bytes text status
+IsAskedRefusal Check chosen bytes text status = IsLemmaRefusal chosen bytes text status
+IsAskedRefusal Replay chosen bytes text status = IsLineRefusal bytes text status
+IsAskedRefusal Variants chosen bytes text status = ⊥
 
--- what the command answers to the bytes of a text, within so many moves
-abbrev pub CommandAnswer : Command → ℕ → List ℕ → List ℕ → Status → Type 0
-CommandAnswer command budget bytes text status = IsRefusedWith command bytes text status ⊎ IsDoneWith command budget bytes text status
+-- the text is refused, its theory, or what is asked of it
+abbrev pub IsRefusedWith : Command → Option (List ℕ) → List ℕ → List ℕ → Status → Type 0
+IsRefusedWith command chosen bytes text status = IsRefusal bytes text status ⊎ IsReport bytes text status ⊎ IsAskedRefusal command chosen bytes text status
+
+-- what the command answers to the bytes of a text, within so many moves, and of the lemma that is named, if one is
+abbrev pub CommandAnswer : Command → ℕ → Option (List ℕ) → List ℕ → List ℕ → Status → Type 0
+CommandAnswer command budget chosen bytes text status = IsRefusedWith command chosen bytes text status ⊎ IsDoneWith command budget chosen bytes text status
 
 -- what is answered to the bytes of a text, as it was asked for
 abbrev pub TextAnswer : Request → List ℕ → List ℕ → Status → Type 0
-TextAnswer request bytes text status = CommandAnswer request.command request.budget bytes text status
+TextAnswer request bytes text status = CommandAnswer request.command request.budget request.lemma bytes text status
 
 -- whatever is told is more bytes than a text may have
 abbrev pub MayBeTooLong : Option (Option (List ℕ)) → Type 0

@@ -5,20 +5,22 @@ use Rattle.sp_spec.specs.Lists.{Member, newest_first}
 use Rattle.sp_spec.specs.Theory.{TraceKind, all_traces, exists_trace, Theory, Lemma, signature_of}
 use Rattle.sp_spec.specs.Written.{theory_of}
 use Rattle.sp_spec.specs.Execution.{Step}
-use Rattle.sp_spec.specs.Verdict.{HoldsInAll, HoldsInNone, IsBrokenBy, IsSatisfiedBy}
+use Rattle.sp_spec.specs.Log.{Log}
+use Rattle.sp_spec.specs.Verdict.{HoldsInAll, HoldsInNone, IsBrokenBy, IsSatisfiedBy, HoldsInAllLogs, HoldsInNoLog, IsBrokenByLog, IsSatisfiedByLog}
 use Rattle.sp_spec_text.specs.Written.{WrittenText}
 use Rattle.sp_spec_text.specs.Declared.{theory_in}
 use Rattle.sp_spec_text.specs.Texts.{IsTextOf}
 use Rattle.sp_spec_text.specs.Names.{IsWord}
 use Rattle.sp_spec_text.specs.Blanks.{lines}
 use Rattle.sp_spec_printed.specs.StepLines.{AreSteps}
+use Rattle.sp_spec_log_lines.specs.Told.{TellOf}
 use Rattle.sp_spec_text.specs.Behind.{IsBehindEnd}
 use Rattle.sp_top.specs.Command.{Request, IsAbout, IsLine}
 use Rattle.sp_top.specs.Run.{HasVerdicts}
 use Rattle.sp_top.specs.declared.Status.{Status}
 use Rattle.sp_top.specs.declared.Status.TheVariants.{WriteFault}
-use Rattle.sp_top.specs.declared.words.Command.{Command}
-use Rattle.sp_top.specs.declared.words.Command.TheVariants.{Prove, Check, Replay, Variants}
+use Rattle.sp_words.specs.declared.Command.{Command}
+use Rattle.sp_words.specs.declared.Command.TheVariants.{Prove, Check, Replay, Variants}
 
 -- the line is one of the text, and these stand below it
 pub record IsLineAbove (text line : List ℕ) (below : List (List ℕ)) : Type 0 where
@@ -49,6 +51,15 @@ pub record IsExecutionBelow (below : List (List ℕ)) (theory : Theory) (IsSo : 
   pub are_steps : AreSteps (signature_of theory).symbols block steps
   pub is_so : IsSo (newest_first steps)
 
+-- below stand the lines of a learning log, the oldest entry first, which tell of this one
+pub record IsLogBelow (below : List (List ℕ)) (theory : Theory) (IsSo : Log → Type 0) : Type 0 where
+  pub block : List (List ℕ)
+  pub behind : List (List ℕ)
+  pub lines_are : below ≡ codes "log:" ∷ (block ++ codes "trace:" ∷ behind)
+  pub log : Log
+  pub tell : TellOf theory block (newest_first log)
+  pub is_so : IsSo log
+
 -- so it is of some lemma of that name and kind
 abbrev pub OfSomeLemma : List ℕ → List ℕ → TraceKind → (Theory → Lemma → Type 0) → Type 0
 OfSomeLemma bytes name kind IsSo = (theory : Theory) × (lemma : Lemma) × IsLemmaOf bytes name kind theory lemma × IsSo theory lemma
@@ -73,13 +84,29 @@ pub record LinesAreTrue (bytes told : List ℕ) : Type 0 where
       → OfLemma bytes name exists_trace (λ theory lemma. IsExecutionBelow below theory (IsSatisfiedBy theory lemma))
   pub refutation : (name : List ℕ) (n : ℕ) (below : List (List ℕ)) → IsWord name → IsLineAbove told (name ++ (codes " (exists-trace): falsified - no trace found (" ++ (decimal n ++ codes " steps)"))) below
       → OfLemma bytes name exists_trace HoldsInNone
+  -- A lemma that names learning is read over learning logs in place of executions, and its lines say so: behind the kind stands `, over learning logs`.
+  pub marked_proof : (name : List ℕ) (n : ℕ) (below : List (List ℕ)) → IsWord name
+      → IsLineAbove told (name ++ (codes " (all-traces, over learning logs): verified (" ++ (decimal n ++ codes " steps)"))) below → OfLemma bytes name all_traces HoldsInAllLogs
+  pub marked_attack : (name : List ℕ) (n : ℕ) (below : List (List ℕ)) → IsWord name
+      → IsLineAbove told (name ++ (codes " (all-traces, over learning logs): falsified - found trace (" ++ (decimal n ++ codes " steps)"))) below
+      → OfLemma bytes name all_traces (λ theory lemma. IsLogBelow below theory (IsBrokenByLog theory lemma))
+  pub marked_witness : (name : List ℕ) (n : ℕ) (below : List (List ℕ)) → IsWord name
+      → IsLineAbove told (name ++ (codes " (exists-trace, over learning logs): verified (" ++ (decimal n ++ codes " steps)"))) below
+      → OfLemma bytes name exists_trace (λ theory lemma. IsLogBelow below theory (IsSatisfiedByLog theory lemma))
+  pub marked_refutation : (name : List ℕ) (n : ℕ) (below : List (List ℕ)) → IsWord name
+      → IsLineAbove told (name ++ (codes " (exists-trace, over learning logs): falsified - no trace found (" ++ (decimal n ++ codes " steps)"))) below
+      → OfLemma bytes name exists_trace HoldsInNoLog
 
--- What was written may end anywhere. Of its whole lines those that tell of every execution are so; the block below another may be cut short.
+-- What was written may end anywhere. Of its whole lines those that tell of every execution, or of every log, are so; the block below another may be cut short.
 pub record WholeLinesAreTrue (bytes told : List ℕ) : Type 0 where
   pub proof : (name : List ℕ) (n : ℕ) → IsWord name → IsWholeLine told (name ++ (codes " (all-traces): verified (" ++ (decimal n ++ codes " steps)")))
       → OfLemma bytes name all_traces HoldsInAll
   pub refutation : (name : List ℕ) (n : ℕ) → IsWord name → IsWholeLine told (name ++ (codes " (exists-trace): falsified - no trace found (" ++ (decimal n ++ codes " steps)")))
       → OfLemma bytes name exists_trace HoldsInNone
+  pub marked_proof : (name : List ℕ) (n : ℕ) → IsWord name → IsWholeLine told (name ++ (codes " (all-traces, over learning logs): verified (" ++ (decimal n ++ codes " steps)")))
+      → OfLemma bytes name all_traces HoldsInAllLogs
+  pub marked_refutation : (name : List ℕ) (n : ℕ) → IsWord name
+      → IsWholeLine told (name ++ (codes " (exists-trace, over learning logs): falsified - no trace found (" ++ (decimal n ++ codes " steps)"))) → OfLemma bytes name exists_trace HoldsInNoLog
 
 -- Where verdicts are told: `check` writes nothing else, and `prove` first writes the text again, up to its word `end`.
 abbrev pub Tells : Command → List ℕ → List ℕ → Type 0
@@ -88,6 +115,10 @@ Tells Check written told = told ≡ written
 Tells Replay written told = ⊥
 Tells Variants written told = ⊥
 
+-- A lemma that is named is named by a word, as each lemma of a text is.
+abbrev pub NamesByWord : Request → Type 0
+NamesByWord request = (name : List ℕ) → request.lemma ≡ Some name → IsWord name
+
 -- Each verdict that stands written is so: where the library tells the bytes of the file, and the sink what stood there before and now.
 pub record VerdictsAreTrue (words : List (List ℕ)) (holds : List ℕ → Option (Option (List ℕ))) (old new : Option (List ℕ)) (status : Status) : Type 0 where
   pub verdicts : (request : Request) (file bytes before written told : List ℕ) → IsLine words request → IsAbout request file → holds file ≡ Some (Some bytes)
@@ -95,6 +126,7 @@ pub record VerdictsAreTrue (words : List (List ℕ)) (holds : List ℕ → Optio
   -- and `prove` tells them
   pub told : (request : Request) (file bytes before written : List ℕ) → request.command ≡ Prove → IsLine words request → IsAbout request file → holds file ≡ Some (Some bytes)
       → old ≡ Some before → new ≡ Some (before ++ written) → HasVerdicts status → (told : List ℕ) × IsBehindEnd written told
-  -- and where the sink failed, those of proofs and of refutations that stand there whole
+  -- and where the sink failed, those of proofs and of refutations that stand there whole (of an answer that is refused for want of the lemma that is named
+  -- no more stands there than that name, which whoever called gave)
   pub written : (request : Request) (file bytes before written told : List ℕ) → IsLine words request → IsAbout request file → holds file ≡ Some (Some bytes)
-      → old ≡ Some before → new ≡ Some (before ++ written) → status ≡ WriteFault → Tells request.command written told → WholeLinesAreTrue bytes told
+      → old ≡ Some before → new ≡ Some (before ++ written) → status ≡ WriteFault → NamesByWord request → Tells request.command written told → WholeLinesAreTrue bytes told

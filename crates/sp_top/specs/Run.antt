@@ -10,12 +10,12 @@ use Rattle.sp_spec.specs.Written.{theory_of}
 use Rattle.sp_analysis.specs.Analysis.{Outcome, IsAnalysis}
 use Rattle.sp_spec_text.specs.Written.{WrittenText}
 use Rattle.sp_spec_text.specs.Declared.{theory_in}
-use Rattle.sp_pose.specs.Waiting.{waits}
-use Rattle.sp_pose.specs.Problem.{Poses, IsWaiting}
+use Rattle.sp_pose.specs.Problem.{Poses}
 use Rattle.sp_analysis.specs.Checking.{Judged, IsChecking}
-use Rattle.sp_analysis.specs.Laws.{Means, JudgedRightly, IsCheckedAgain}
-use Rattle.sp_top.specs.declared.words.Command.{Command}
-use Rattle.sp_top.specs.declared.words.Command.TheVariants.{Prove, Check, Replay, Variants}
+use Rattle.sp_analysis.specs.Laws.{Means, JudgedRightly, StandsBehind, IsCheckedAgain}
+use Rattle.sp_analysis.specs.Replies.{LacksLemma}
+use Rattle.sp_words.specs.declared.Command.{Command}
+use Rattle.sp_words.specs.declared.Command.TheVariants.{Prove, Check, Replay, Variants}
 
 -- a fault of the sink or want of memory came before another cause could show
 abbrev pub IsCutShort : Status → Type 0
@@ -30,32 +30,33 @@ pub record UsageExactly (words : List (List ℕ)) (status : Status) : Type 0 whe
   pub cause : status ≡ Usage → IsNoLine words
   pub comes : IsNoLine words → ¬ IsCutShort status → status ≡ Usage
 
--- Each lemma of the text is tried within so many moves, and each verdict is so. A lemma on all traces that is verified holds in every execution of the theory that
+-- Each lemma of the text is tried within so many moves, or the one that is named, and each verdict is so. A lemma on all traces that is verified holds in every execution of the theory that
 -- the text says that meets its restrictions, steps of the adversary included, and one that is falsified is broken by the execution that is written behind
--- its line, which meets them. One on some trace that is verified is satisfied by that execution, and one that is falsified holds in none. What is written
--- says the same theory with the proofs that were grown, and is checked as it was tried.
-pub record TriedRightly (budget : ℕ) (bytes answer : List ℕ) (status : Status) : Type 0 where
+-- its line, which meets them. One on some trace that is verified is satisfied by that execution, and one that is falsified holds in none. The verdicts stand
+-- behind the word `end` of what is written. Where no lemma is named, that says the same theory with the proofs that were grown, and is checked as it was tried.
+pub record TriedRightly (budget : ℕ) (chosen : Option (List ℕ)) (bytes answer : List ℕ) (status : Status) : Type 0 where
   pub outcomes : List Outcome
-  pub analysis : IsAnalysis budget bytes answer outcomes
+  pub analysis : IsAnalysis budget chosen bytes answer outcomes
   pub status_is : status ≡ status_of (verdicts_of outcomes)
   pub right : Every (λ (o : Outcome). Means (theory_of (theory_in analysis.theory)) o.lemma.kind o.verdict o.log o.lemma) outcomes
-  pub again : IsCheckedAgain analysis.theory answer outcomes
+  pub behind : StandsBehind analysis.theory answer outcomes
+  pub again : chosen ≡ None → IsCheckedAgain analysis.theory answer outcomes
 
--- The proof of each lemma is checked, each verdict is so, and a proof is accepted exactly where its every step is an instance of a move, with
+-- The proof of each lemma is checked, or of the one that is named, each verdict is so, and a proof is accepted exactly where its every step is an instance of a move, with
 -- the cases of that move.
-pub record CheckedRightly (bytes answer : List ℕ) (status : Status) : Type 0 where
+pub record CheckedRightly (chosen : Option (List ℕ)) (bytes answer : List ℕ) (status : Status) : Type 0 where
   pub judged : List Judged
-  pub checking : IsChecking bytes answer judged
+  pub checking : IsChecking chosen bytes answer judged
   pub status_is : status ≡ status_of (verdicts_on judged)
   pub right : Every (JudgedRightly (theory_in checking.theory)) judged
 
 -- The steps behind the text are an execution, whose trace is written with what is true over it, or the first that can't be done is named; and the
 -- rules that are written have these forms.
-abbrev pub DoneRightly : Command → ℕ → List ℕ → List ℕ → Status → Type 0
-DoneRightly Prove budget bytes answer status = TriedRightly budget bytes answer status
-DoneRightly Check budget bytes answer status = CheckedRightly bytes answer status
-DoneRightly Replay budget bytes answer status = IsStepRefusal bytes answer status ⊎ IsReplayed bytes answer status
-DoneRightly Variants budget bytes answer status = HasVariants bytes answer status
+abbrev pub DoneRightly : Command → ℕ → Option (List ℕ) → List ℕ → List ℕ → Status → Type 0
+DoneRightly Prove budget chosen bytes answer status = TriedRightly budget chosen bytes answer status
+DoneRightly Check budget chosen bytes answer status = CheckedRightly chosen bytes answer status
+DoneRightly Replay budget chosen bytes answer status = IsStepRefusal bytes answer status ⊎ IsReplayed bytes answer status
+DoneRightly Variants budget chosen bytes answer status = HasVariants bytes answer status
 
 module _ (words : List (List ℕ)) (holds : List ℕ → Option (Option (List ℕ))) where
   -- ReadFault comes only where the count of faults rose or absence is told of a text that is fetched, and always where absence is told
@@ -75,13 +76,10 @@ module _ (words : List (List ℕ)) (holds : List ℕ → Option (Option (List �
     pub comes : (request : Request) (file bytes text : List ℕ) → IsLine words request → IsAbout request file → holds file ≡ Some (Some bytes) → length bytes ≤ text_limit → TextAnswer request bytes text kind
         → ¬ IsCutShort status → status ≢ ReadFault → status ≡ kind
 
-  -- Of a text without fatal findings that writes what nothing is proved of yet nothing is told, but for the forms of its rules; and of a text without fatal
-  -- findings that writes nothing such at most a line behind it is refused.
-  pub record WaitsExactly (old new : Option (List ℕ)) (status : Status) : Type 0 where
-    pub comes : (request : Request) (file bytes : List ℕ) → IsLine words request → IsAbout request file → holds file ≡ Some (Some bytes) → length bytes ≤ text_limit
-        → request.command ≢ Variants → IsWaiting bytes → ¬ IsCutShort status → status ≢ ReadFault → (status ≡ Refused) × (new ≡ extended old (codes "refused: text at byte 0\n"))
+  -- of a text without fatal findings at most a line behind it is refused, or it lacks the lemma that is named
+  pub record PosedIsAnswered (status : Status) : Type 0 where
     pub cause : (request : Request) (file bytes : List ℕ) (theory : WrittenText) → IsLine words request → IsAbout request file → holds file ≡ Some (Some bytes)
-        → Poses bytes theory → status ≡ Refused → (waits theory ≡ true) ⊎ (request.command ≡ Replay)
+        → Poses bytes theory → status ≡ Refused → (request.command ≡ Replay) ⊎ LacksLemma request.lemma bytes
 
   -- the answer is the one that was asked for, to the bytes of the text, and what it says of each lemma is so
   pub record IsRight (answer : List ℕ) (status : Status) : Type 0 where
@@ -91,7 +89,7 @@ module _ (words : List (List ℕ)) (holds : List ℕ → Option (Option (List �
     pub line : IsLine words request
     pub about : IsAbout request file
     pub text : MayBeText (holds file) bytes
-    pub right : DoneRightly request.command request.budget bytes answer status
+    pub right : DoneRightly request.command request.budget request.lemma bytes answer status
 
   -- The headline: what is written of each lemma is so. Where the sink failed, this is said of the answer of which a prefix stands.
   pub record VerdictsHold (before now : ℕ) (old new : Option (List ℕ)) (status : Status) : Type 0 where

@@ -5,7 +5,7 @@
 // answer or, after a fault of the sink, a prefix of that very answer, and that what is fetched is what the words ask for.
 #![tactic(auto)]
 
-ghost use Rattle.std.specs.Prelude.{◌≡◌, ◌⊎◌, ◌++◌, [], ◌∷◌, ℕ, suc, List, OnOk, IfOk, map, codes, decimal};
+ghost use Rattle.std.specs.Prelude.{◌≡◌, ◌⊎◌, ◌++◌, [], ◌∷◌, ℕ, suc, List, None, OnOk, IfOk, map, option_map, codes, decimal};
 ghost use Rattle.std.specs.List.{list_any};
 ghost use Rattle.sp_io.specs.Told.{extended};
 ghost use Rattle.sp_top.specs.Answer as answer;
@@ -15,20 +15,21 @@ ghost use Rattle.sp_exec.specs.View.{cause_of};
 ghost use Rattle.sp_top.specs.Command as command;
 ghost use Rattle.sp_top.specs.Command.{IsLine, IsNoLine, fetched, request_of, of_proofs, budget_in};
 ghost use Rattle.sp_top.specs.Headline.{VerdictsAreTrue};
-ghost use Rattle.sp_top.specs.Run.{UsageExactly, ReadFaultExactly, TooLongExactly, AnswersExactly, WaitsExactly, VerdictsHold, WritesWhole, WritesPrefix, IsComplete, WriteFaultOnly, WritesNothing, AsksAsRequested};
+ghost use Rattle.sp_top.specs.Run.{UsageExactly, ReadFaultExactly, TooLongExactly, AnswersExactly, PosedIsAnswered, VerdictsHold, WritesWhole, WritesPrefix, IsComplete, WriteFaultOnly, WritesNothing, AsksAsRequested};
 ghost use Rattle.sp_top.specs.declared.Status.TheVariants.{Fine, Falsified, Incomplete, Rejected, Refused};
 ghost use Rattle.sp_analysis.specs.View.{verdict_of};
-ghost use Rattle.sp_top.specs.declared.words.Command.TheVariants.{Replay, Variants};
+ghost use Rattle.sp_words.specs.declared.Command.TheVariants.{Replay, Variants};
 
 use sp_analysis::Verdict;
 use sp_io::{FetchFail, Library, Sink, write_whole};
 use sp_pose::Reply;
 use sp_replay::{Attempt, Cause};
+use sp_words::{Command, Request, RequestError};
 use std::alloc::{AllocError, Global};
 
 mod words;
 
-pub use words::{Command, Request, Words};
+pub use words::Words;
 
 /// How many bytes a text may have.
 const TEXT_LIMIT: usize = 1_048_576;
@@ -44,7 +45,7 @@ pub enum Status {
     Incomplete = 2,
     /// Some proof is rejected, or a step can't be done.
     Rejected = 3,
-    /// The text is refused, or a line behind it, or it writes what nothing is proved of yet.
+    /// The text is refused, or a line behind it, or it has no lemma of the name that is given.
     Refused = 4,
     /// The words are no line of the command.
     Usage = 5,
@@ -122,12 +123,13 @@ fn refusal(alloc: Global, place: usize) -> Result<(Vec<u8>, Status), AllocError>
     fixed(alloc, line.as_bytes(), Status::Refused)
 }
 
-/// The refusal of a text that writes what nothing is proved of yet.
-fn deferral(alloc: Global) -> Result<(Vec<u8>, Status), AllocError>
-    ensures text { IfOk result (λ answer. answer.0.items ≡ codes "refused: text at byte 0\n") }
+/// The refusal of the name of a lemma.
+fn lemma_refusal(alloc: Global, name: &str) -> Result<(Vec<u8>, Status), AllocError>
+    ensures text { IfOk result (λ answer. answer.0.items ≡ codes "refused: no lemma " ++ (name.now ++ codes "\n")) }
     ensures status { IfOk result (λ answer. answer.1 ≡ Refused) }
 {
-    fixed(alloc, b"refused: text at byte 0\n", Status::Refused)
+    let line = format!(in alloc; "refused: no lemma {name}\n")?;
+    fixed(alloc, line.as_bytes(), Status::Refused)
 }
 
 /// The refusal of a line behind a text.
@@ -165,12 +167,11 @@ fn step_refusal(alloc: Global, number: usize, cause: Cause) -> Result<(Vec<u8>, 
 /// The whole answer to the bytes of a text whose lines are replayed.
 #[tactic(auto, using(crate::proofs::Answered::answers))]
 fn answer_steps(alloc: Global, bytes: &[u8]) -> Result<(Vec<u8>, Status), AllocError>
-    ensures { IfOk result (λ answer. CommandAnswer Replay 0 bytes.now answer.0.items answer.1) }
+    ensures { IfOk result (λ answer. CommandAnswer Replay 0 None bytes.now answer.0.items answer.1) }
 {
     match sp_replay::replayed(alloc, bytes)? {
         Reply::Refused(place) => refusal(alloc, place),
         Reply::Reported(lines) => Ok((lines, Status::Refused)),
-        Reply::Waiting => deferral(alloc),
         Reply::Done(Attempt::Unread(number)) => line_refusal(alloc, number),
         Reply::Done(Attempt::Stopped(number, cause)) => step_refusal(alloc, number, cause),
         Reply::Done(Attempt::Done(written)) => Ok((written, Status::Fine)),
@@ -180,12 +181,11 @@ fn answer_steps(alloc: Global, bytes: &[u8]) -> Result<(Vec<u8>, Status), AllocE
 /// The whole answer to the bytes of a text whose rules' forms are listed.
 #[tactic(auto, using(crate::proofs::Answered::answers))]
 fn answer_forms(alloc: Global, bytes: &[u8]) -> Result<(Vec<u8>, Status), AllocError>
-    ensures { IfOk result (λ answer. CommandAnswer Variants 0 bytes.now answer.0.items answer.1) }
+    ensures { IfOk result (λ answer. CommandAnswer Variants 0 None bytes.now answer.0.items answer.1) }
 {
     match sp_rule_forms::variants(alloc, bytes)? {
         Reply::Refused(place) => refusal(alloc, place),
         Reply::Reported(lines) => Ok((lines, Status::Refused)),
-        Reply::Waiting => unreachable!(),
         Reply::Done(written) => Ok((written, Status::Fine)),
     }
 }
@@ -195,8 +195,11 @@ fn answer(alloc: Global, request: &Request, bytes: &[u8]) -> Result<(Vec<u8>, St
     ensures { IfOk result (λ answer. TextAnswer (request_of request.now) bytes.now answer.0.items answer.1) }
 {
     match request.command {
-        Command::Prove => answer_proofs(alloc, sp_analysis::Command::Prove(request.budget), bytes),
-        Command::Check => answer_proofs(alloc, sp_analysis::Command::Check, bytes),
+        Command::Prove => {
+            let command = sp_analysis::Command::Prove(request.budget);
+            answer_proofs(alloc, command, request.lemma, bytes)
+        }
+        Command::Check => answer_proofs(alloc, sp_analysis::Command::Check, request.lemma, bytes),
         Command::Replay => answer_steps(alloc, bytes),
         Command::Variants => answer_forms(alloc, bytes),
     }
@@ -207,15 +210,19 @@ fn answer(alloc: Global, request: &Request, bytes: &[u8]) -> Result<(Vec<u8>, St
 fn answer_proofs(
     alloc: Global,
     command: sp_analysis::Command,
+    lemma: Option<&str>,
     bytes: &[u8],
 ) -> Result<(Vec<u8>, Status), AllocError>
-    ensures { IfOk result (λ answer. CommandAnswer (of_proofs command) (budget_in command) bytes.now answer.0.items answer.1) }
+    ensures { IfOk result (λ answer. CommandAnswer (of_proofs command) (budget_in command) (option_map (λ s. s.now) lemma.entry) bytes.now answer.0.items answer.1) }
 {
-    match sp_analysis::answer(alloc, command, bytes)? {
+    match sp_analysis::answer(alloc, command, lemma, bytes)? {
         Reply::Refused(place) => refusal(alloc, place),
         Reply::Reported(lines) => Ok((lines, Status::Refused)),
-        Reply::Waiting => deferral(alloc),
-        Reply::Done(answer) => {
+        Reply::Done(sp_analysis::Attempt::NoLemma) => match lemma {
+            Some(name) => lemma_refusal(alloc, name),
+            None => unreachable!(),
+        },
+        Reply::Done(sp_analysis::Attempt::Done(answer)) => {
             let status = status_of(&answer.verdicts);
             Ok((answer.written, status))
         }
@@ -259,9 +266,10 @@ fn respond<L: Library>(
     ensures asked { (request : command.Request) → IsLine words.now request → (L.asked library.new ≡ L.asked library.old) ⊎ (L.asked library.new ≡ extended (L.asked library.old) (fetched request)) }
     ensures asked_all { OnOk result ((request : command.Request) → IsLine words.now request → L.asked library.new ≡ extended (L.asked library.old) (fetched request)) }
 {
-    match words.line() {
-        Some(request) => answer_file(alloc, &request, library),
-        None => fixed(alloc, b"refused: usage\n", Status::Usage),
+    match words.request() {
+        Ok(request) => answer_file(alloc, &request, library),
+        Err(RequestError::NoLine) => fixed(alloc, b"refused: usage\n", Status::Usage),
+        Err(RequestError::NoMemory) => Err(AllocError),
     }
 }
 
@@ -282,14 +290,14 @@ pub fn run<L: Library, K: Sink>(
     ensures falsified { AnswersExactly words.now (L.holds library.old) Falsified result }
     ensures incomplete { AnswersExactly words.now (L.holds library.old) Incomplete result }
     ensures fine { AnswersExactly words.now (L.holds library.old) Fine result }
-    // A text that writes what nothing is proved of yet, as a lemma by induction, is refused, and its rules' forms alone are listed.
-    ensures waiting { WaitsExactly words.now (L.holds library.old) (K.written out.old) (K.written out.new) result }
+    // Of a text without fatal findings at most a line behind it is refused, or the name of a lemma that it doesn't have.
+    ensures posed { PosedIsAnswered words.now (L.holds library.old) result }
     ensures write_fault { WriteFaultOnly (K.faults out.old) (K.faults out.new) result }
 
     // The headline: each verdict that stands written is so. A lemma on all traces that is verified holds in every execution that meets the
     // restrictions, steps of the adversary included, and one that is falsified is broken by the execution whose steps stand below, line by line,
     // which meets them; one on some trace that is verified is satisfied by the execution whose steps stand below, which meets them, and one that
-    // is falsified holds in none that does.
+    // is falsified holds in none that does. A lemma whose line says so is read over learning logs in place of executions.
     ensures headline { VerdictsAreTrue words.now (L.holds library.old) (K.written out.old) (K.written out.new) result }
     // And exactly: what is written of each lemma is what is to be written of it. A proof that is checked is accepted exactly where its every
     // step is an instance of a move, with the cases of that move. What is replayed is told as it is, and each rule with its forms.

@@ -1,4 +1,4 @@
-mod Asking
+pub mod Asking
 mod Numerals
 mod Parses
 mod Shapes

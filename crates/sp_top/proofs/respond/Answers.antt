@@ -1,6 +1,9 @@
-use Rattle.std.proofs.Common.{◌≡◌, List, ℕ, Option, Result, Ok, Err, OnOk, ◌⊎◌, subst}
+use Rattle.std.proofs.Common.{◌≡◌, List, ℕ, codes, Option, Result, Ok, Err, OnOk, IfOk, ◌⊎◌, inl, subst}
 use Rattle.sp_io.specs.Told.{extended}
-use Rattle.sp_top.specs.Command.{Request, fetched, IsLine, request_of}
+use Rattle.sp_top.specs.Command.{Request, fetched, IsLine, IsNoLine, request_of}
+use Rattle.sp_top.specs.Answer.{IsAnswer}
+use Rattle.sp_top.specs.declared.Status.{Status}
+use Rattle.sp_top.specs.declared.Status.TheVariants.{Usage}
 use Rattle.sp_top.proofs.Causes.{line_asks_one}
 use Rattle.sp_top.proofs.respond.Goals as goal
 
@@ -19,14 +22,24 @@ asked_or_not : (words : List (List ℕ)) (request : Request) (old new : Option (
     → (new ≡ old) ⊎ (new ≡ extended old (fetched request)) → (new ≡ old) ⊎ (new ≡ extended old (fetched other))
 asked_or_not words request old new other line l h = subst (λ (q : Request). (new ≡ old) ⊎ (new ≡ extended old (fetched q))) (line_asks_one words request other line l) h
 
-pub returns-in-Some-clause-no_line : goal.returns-in-Some-clause-no_line
-returns-in-Some-clause-no_line g c = λ no_line. absurd (no_line (request_of c.in-Some.request) c.in-Some.ensures)
+pub returns-in-Ok-clause-no_line : goal.returns-in-Ok-clause-no_line
+returns-in-Ok-clause-no_line g c = λ no_line. absurd (no_line (request_of c.in-Ok.request) c.in-Ok.ensures.line)
 
-pub returns-in-Some-clause-asked : goal.returns-in-Some-clause-asked
-returns-in-Some-clause-asked g c = λ request line. asked_or_not c.args.words.now (request_of c.in-Some.request) _ _ request c.in-Some.ensures line c.answer_file.ensures.asked
+pub returns-in-Ok-clause-asked : goal.returns-in-Ok-clause-asked
+returns-in-Ok-clause-asked g c = λ request line. asked_or_not c.args.words.now (request_of c.in-Ok.request) _ _ request c.in-Ok.ensures.line line c.answer_file.ensures.asked
 
-pub returns-in-Some-clause-asked_all : goal.returns-in-Some-clause-asked_all
-returns-in-Some-clause-asked_all g c = asked_any c.args.words.now (request_of c.in-Some.request) _ _ c.answer_file.result c.in-Some.ensures c.answer_file.ensures.asked_all
+pub returns-in-Ok-clause-asked_all : goal.returns-in-Ok-clause-asked_all
+returns-in-Ok-clause-asked_all g c = asked_any c.args.words.now (request_of c.in-Ok.request) _ _ c.answer_file.result c.in-Ok.ensures.line c.answer_file.ensures.asked_all
 
-pub returns-in-None-clause-asked_all : goal.returns-in-None-clause-asked_all
-returns-in-None-clause-asked_all g c = on_ok c.fixed.result (λ request line. absurd (c.in-None.ensures request line))
+-- words that are no line are answered so
+is_usage : {A E : Type 0} (text : A → List ℕ) (status : A → Status) (words : List (List ℕ)) (holds : List ℕ → Option (Option (List ℕ))) (before now : ℕ) (r : Result A E) → IsNoLine words
+    → IfOk r (λ a. text a ≡ codes "refused: usage\n") → IfOk r (λ a. status a ≡ Usage) → IfOk r (λ a. IsAnswer words holds before now (text a) (status a))
+is_usage text status words holds before now (Ok a) none t s = inl (record { no_line = none; text_is = t; status_is = s })
+is_usage text status words holds before now (Err e) none t s = tt
+
+pub returns-in-Err-NoLine-clause-answer : goal.returns-in-Err-NoLine-clause-answer
+returns-in-Err-NoLine-clause-answer g c =
+    is_usage (λ answer. answer.0.items) (λ answer. answer.1) c.args.words.now _ _ _ c.fixed.result (c.in-Err-NoLine.ensures.no_line c.in-Err-NoLine.field-0-is) c.fixed.ensures.text c.fixed.ensures.status
+
+pub returns-in-Err-NoLine-clause-asked_all : goal.returns-in-Err-NoLine-clause-asked_all
+returns-in-Err-NoLine-clause-asked_all g c = on_ok c.fixed.result (λ request line. absurd (c.in-Err-NoLine.ensures.no_line c.in-Err-NoLine.field-0-is request line))

@@ -1,5 +1,5 @@
 use Rattle.std.proofs.Common.{inl, inr, refl}
-use Rattle.sp_top.proofs.Causes.{answer_is_whole, answer_of_line, usage_exactly, read_fault_exactly, too_long_exactly, answers_exactly, waits_exactly, waits_short, headline, headline_short, text_is_answered, asked_first}
+use Rattle.sp_top.proofs.Causes.{answer_is_whole, answer_of_line, usage_exactly, read_fault_exactly, too_long_exactly, answers_exactly, posed_is_answered, posed_short, headline, headline_short, text_is_answered, asked_first}
 use Rattle.sp_top.proofs.Verdicts.{verdicts_are_true}
 use Rattle.sp_top.proofs.TextStatus.{verdicts_status, refused_status}
 use Rattle.sp_top.proofs.run.Goals as goal
@@ -93,11 +93,11 @@ returns-clause-headline g c =
     verdicts_are_true c.args.words.now _ _ _ _ _ _ (headline_short c.args.words.now _ _ _ _ _ _ (inl refl))
     (record { prefix = λ e. (c.in-Ok.answer.0.items, c.in-Ok.answer.1, c.in-Ok.ensures.answer, rw c.deref.ensures.value at c.in-Err-write_whole.ensures.prefix) })
 
-pub returns-in-Ok-write_whole-clause-waiting : goal.returns-in-Ok-write_whole-clause-waiting
-returns-in-Ok-write_whole-clause-waiting g c = waits_exactly c.args.words.now _ _ _ _ _ c.in-Ok.answer.0.items _ c.in-Ok.ensures.answer (rw c.deref.ensures.value at c.in-Ok-write_whole.ensures.all)
+pub returns-in-Ok-write_whole-clause-posed : goal.returns-in-Ok-write_whole-clause-posed
+returns-in-Ok-write_whole-clause-posed g c = posed_is_answered c.args.words.now _ _ _ c.in-Ok.answer.0.items _ c.in-Ok.ensures.answer
 
-pub returns-in-Err-clause-waiting : goal.returns-in-Err-clause-waiting
-returns-in-Err-clause-waiting g c = waits_short c.args.words.now _ 0 0 _ _ _ (inr refl)
+pub returns-in-Err-clause-posed : goal.returns-in-Err-clause-posed
+returns-in-Err-clause-posed g c = posed_short c.args.words.now _ 0 0 _ (inr refl)
 
-pub returns-clause-waiting : goal.returns-clause-waiting
-returns-clause-waiting g c = waits_short c.args.words.now _ 0 0 _ _ _ (inl refl)
+pub returns-clause-posed : goal.returns-clause-posed
+returns-clause-posed g c = posed_short c.args.words.now _ 0 0 _ (inl refl)
