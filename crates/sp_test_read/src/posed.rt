@@ -191,8 +191,26 @@ end";
     let Read::Posed(problem) = posed_by(alloc, text)? else {
         return Err("nothing is posed".into());
     };
-    assert!(rt; !problem.waits);
     assert_eq!(rt; problem.lemmas.len(), 2);
     assert!(rt; have_names(&problem.restrictions, &["same", "other"]));
+    Ok(())
+}
+
+#[test]
+fn lemmas_that_name_learning_are_marked(rt: HostRuntime) -> Result<(), Fail> {
+    let alloc = rt.alloc();
+    let text = b"theory R begin
+lemma within: \"All x #i. A(x)@i ==> not (Ex #j. KU(x)@j & #j < #i)\"
+lemma KU: \"All x #i. K(x)@i ==> F\"
+end";
+    let Read::Posed(problem) = posed_by(alloc, text)? else {
+        return Err("nothing is posed".into());
+    };
+    let within = problem.lemmas.first().ok_or("lemma")?;
+    let named = problem.lemmas.last().ok_or("lemma")?;
+    assert_eq!(rt; within.name, "within");
+    assert!(rt; within.marked);
+    assert_eq!(rt; named.name, "KU");
+    assert!(rt; !named.marked);
     Ok(())
 }

@@ -1,7 +1,7 @@
 // Theories in which the adversary takes part: an attack that is replayed and looked for, and where the adversary's facts may be named.
 
 use crate::calls::{assert_answer, written_by};
-use sp_analysis::{Command, Verdict};
+use sp_analysis::{Attempt, Command, Verdict};
 use sp_pose::Reply;
 use std::alloc::Global;
 use std::test::Fail;
@@ -103,8 +103,8 @@ fn attacks_are_replayed(rt: HostRuntime) -> Result<(), Fail> {
 
 /// What a proof of so many moves says of the only lemma of the text.
 fn verdict_within(alloc: Global, moves: u64, text: &str) -> Result<Verdict, Fail> {
-    let reply = sp_analysis::answer(alloc, Command::Prove(moves), text.as_bytes())?;
-    let Reply::Done(answer) = reply else {
+    let reply = sp_analysis::answer(alloc, Command::Prove(moves), None, text.as_bytes())?;
+    let Reply::Done(Attempt::Done(answer)) = reply else {
         return Err("no lemma is tried".into());
     };
     let verdict = answer.verdicts.first().ok_or("verdict")?;

@@ -4,7 +4,7 @@
 use crate::calls::{assert_answer, summary_under, written_by};
 use crate::reused::assert_verdicts;
 use sp_analysis::Verdict::{Falsified, Incomplete, Verified};
-use sp_analysis::{Command, Verdict};
+use sp_analysis::{Attempt, Command, Verdict};
 use sp_pose::Reply;
 use std::alloc::{AllocError, Global};
 use std::process::Abort;
@@ -64,8 +64,8 @@ const OPEN: &str = "/*\norigin (all-traces): analysis incomplete (50 steps)\n*/\
 /// Asserts that fifty moves don't show it without the mark.
 fn assert_open(rt: &impl Abort, alloc: Global) -> Result<(), Fail> {
     let text = format!(in alloc; "{LOOP}lemma origin: {ORIGIN}\nend\n")?;
-    let reply = sp_analysis::answer(alloc, Command::Prove(50), text.as_bytes())?;
-    let Reply::Done(answer) = reply else {
+    let reply = sp_analysis::answer(alloc, Command::Prove(50), None, text.as_bytes())?;
+    let Reply::Done(Attempt::Done(answer)) = reply else {
         return Err("no lemma is tried".into());
     };
     let written = str::from_utf8(answer.written.as_slice())?;

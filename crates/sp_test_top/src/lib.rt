@@ -21,9 +21,15 @@ mod forms;
 #[cfg(test)]
 mod induction;
 #[cfg(test)]
+mod items;
+#[cfg(test)]
 mod learning;
 #[cfg(test)]
 mod lemmas;
+#[cfg(test)]
+mod logs;
+#[cfg(test)]
+mod named;
 #[cfg(test)]
 mod proofs;
 #[cfg(test)]
@@ -38,5 +44,3 @@ mod steps;
 mod symbols;
 #[cfg(test)]
 mod variants;
-#[cfg(test)]
-mod waiting;

@@ -1,7 +1,7 @@
 // Lemmas that are taken for later ones: which are, by the verdicts of the same run, and what they decide. The verdicts are argued by hand.
 
 use crate::calls::{assert_answer, written_by};
-use sp_analysis::{Command, Verdict};
+use sp_analysis::{Attempt, Command, Verdict};
 use sp_pose::Reply;
 use std::alloc::{AllocError, Global};
 use std::process::Abort;
@@ -42,8 +42,8 @@ pub(crate) fn assert_verdicts(
     text: &str,
     wanted: &[Verdict],
 ) -> Result<(), Fail> {
-    let reply = sp_analysis::answer(alloc, Command::Prove(budget), text.as_bytes())?;
-    let Reply::Done(answer) = reply else {
+    let reply = sp_analysis::answer(alloc, Command::Prove(budget), None, text.as_bytes())?;
+    let Reply::Done(Attempt::Done(answer)) = reply else {
         return Err("no lemma is tried".into());
     };
     assert!(rt; are(&answer.verdicts, wanted), "{text}");

@@ -1,21 +1,10 @@
-// Texts that write what nothing is proved of yet, and rules with bindings. What is listed of rules is worked out by hand.
+// What is told of restrictions and lemmas where no steps are replayed, findings on them, and rules with bindings. What is listed of rules is worked out by
+// hand.
 
 use crate::calls::assert_answer;
 use std::test::Fail;
 
-/// Items of which nothing is proved yet, without findings.
-static WAITING: [&str; 4] = [
-    "lemma one: \"All x #i. KU(x)@i ==> T\"",
-    "lemma one [heuristic=s, sources]: \"All x #i. KU(x)@i ==> T\"",
-    "lemma one [use_induction]: \"T\" lemma two: \"All x #i. KU(x)@i ==> T\"",
-    "lemma one: exists-trace \"Ex x #i. KU(x)@i\" axiom two: \"T\"",
-];
-
-fn waiting_cases() -> &'static [&'static str] {
-    &WAITING
-}
-
-/// Items with a finding, beside one that waits, and their line.
+/// Items with a finding, beside others without, and their line.
 static FOUND: [(&str, &str); 3] = [
     (
         "restriction one: \"T\" lemma one: \"All x #i. KU(x)@i ==> T\"",
@@ -35,8 +24,8 @@ fn found_cases() -> &'static [(&'static str, &'static str)] {
     &FOUND
 }
 
-/// Items that wait for nothing, and what is answered where no steps are replayed.
-static READY: [(&str, &str); 12] = [
+/// Items without findings, and what is answered where no steps are replayed.
+static FINE: [(&str, &str); 15] = [
     ("heuristic: s", "trace:\nend of trace\n"),
     ("note {* \"restriction\" *}", "trace:\nend of trace\n"),
     (
@@ -81,10 +70,23 @@ static READY: [(&str, &str); 12] = [
         "lemma one [typing]: exists-trace \"Ex x #i. A(x)@i\"",
         "trace:\nend of trace\none (exists-trace): broken\n",
     ),
+    (
+        "restriction one: \"T\" lemma two: \"T\" lemma three [hide_lemma=two, sources]: \"T\"",
+        "trace:\nend of trace\none (restriction): met\ntwo (all-traces): met\nthree (all-traces): met\n",
+    ),
+    // a lemma that names learning is read over learning logs
+    (
+        "lemma one: \"All x #i. KU(x)@i ==> T\" lemma two: \"T\"",
+        "trace:\nend of trace\none (all-traces): not read on executions\ntwo (all-traces): met\n",
+    ),
+    (
+        "lemma one: exists-trace \"Ex x #i. KU(x)@i\" axiom two: \"T\"",
+        "trace:\nend of trace\ntwo (restriction): met\none (exists-trace): not read on executions\n",
+    ),
 ];
 
-fn ready_cases() -> &'static [(&'static str, &'static str)] {
-    &READY
+fn fine_cases() -> &'static [(&'static str, &'static str)] {
+    &FINE
 }
 
 /// Rules, and what is listed of them.
@@ -124,26 +126,6 @@ fn rule_cases() -> &'static [(&'static str, &'static str)] {
 }
 
 #[test]
-fn what_nothing_is_proved_of_is_refused(rt: HostRuntime) -> Result<(), Fail> {
-    let alloc = rt.alloc();
-    for items in waiting_cases().iter() {
-        let text = format!(in alloc; "theory W begin {items} end")?;
-        for command in ["prove", "check", "replay"] {
-            assert_answer(
-                &rt,
-                alloc,
-                command,
-                text.as_str(),
-                4,
-                "refused: text at byte 0\n",
-            )?;
-        }
-        assert_answer(&rt, alloc, "variants", text.as_str(), 0, "")?;
-    }
-    Ok(())
-}
-
-#[test]
 fn findings_are_told_first(rt: HostRuntime) -> Result<(), Fail> {
     let alloc = rt.alloc();
     for (items, answer) in found_cases().iter() {
@@ -156,9 +138,9 @@ fn findings_are_told_first(rt: HostRuntime) -> Result<(), Fail> {
 }
 
 #[test]
-fn others_are_answered(rt: HostRuntime) -> Result<(), Fail> {
+fn items_without_findings_are_answered(rt: HostRuntime) -> Result<(), Fail> {
     let alloc = rt.alloc();
-    for (items, answer) in ready_cases().iter() {
+    for (items, answer) in fine_cases().iter() {
         let text = format!(in alloc; "theory W begin {items} end")?;
         assert_answer(&rt, alloc, "variants", text.as_str(), 0, "")?;
         assert_answer(&rt, alloc, "replay", text.as_str(), 0, answer)?;
