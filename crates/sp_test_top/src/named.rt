@@ -77,6 +77,24 @@ lemma second: \"All x #i. L(x)@i ==> Ex #j. S(x)@j\"
 end
 ";
 
+/// The first lemma is read over executions, the second over learning logs, and the first is taken for it: each was shown of all logs.
+const HEARD: &str = "theory L begin
+rule Start: [ Fr(~x) ] --[ S(~x) ]-> [ T(~x) ]
+rule Loop: [ T(x) ] --[ L(x) ]-> [ T(x) ]
+lemma origin [use_induction, reuse]: \"All x #i. L(x)@i ==> Ex #j. S(x)@j & #j < #i\"
+lemma heard: \"All x #i #k. L(x)@i & KU(x)@k ==> Ex #j. S(x)@j\"
+end
+";
+
+/// And the other way round.
+const TAKEN: &str = "theory L begin
+rule Start: [ Fr(~x) ] --[ S(~x) ]-> [ T(~x) ]
+rule Loop: [ T(x) ] --[ L(x) ]-> [ T(x) ]
+lemma origin [use_induction, reuse]: \"All x #i. L(x)@i ==> (Ex #j. S(x)@j & #j < #i) | (Ex #j. KU(x)@j & S(x)@j)\"
+lemma second: \"All x #i. L(x)@i ==> Ex #j. S(x)@j\"
+end
+";
+
 /// A fatal finding.
 const WRONG: &str = "theory W begin
 rule Make: [ ] --[ A(k) ]-> [ ]
@@ -88,13 +106,15 @@ fn library(alloc: Global) -> Result<MemLibrary, Fail> {
     let mut library = MemLibrary::new(alloc);
     library.put("three", THREE.as_bytes())?;
     library.put("loop", LOOP.as_bytes())?;
+    library.put("heard", HEARD.as_bytes())?;
+    library.put("taken", TAKEN.as_bytes())?;
     library.put("wrong", WRONG.as_bytes())?;
     library.put("open", b"theory X begin /* ab")?;
     Ok(library)
 }
 
 /// The line of a command, the status, and how the answer ends.
-static ENDS: [(&str, u8, &str); 13] = [
+static ENDS: [(&str, u8, &str); 17] = [
     ("spthy prove three --lemma once", 0, FIRST),
     ("spthy prove --lemma some three", 0, SECOND),
     (
@@ -146,6 +166,26 @@ static ENDS: [(&str, u8, &str); 13] = [
         "spthy prove loop --lemma second --budget 11",
         2,
         "\n/*\nsecond (all-traces): analysis incomplete (11 steps)\n*/\n",
+    ),
+    (
+        "spthy prove heard",
+        0,
+        "\n/*\norigin (all-traces): verified (12 steps)\nheard (all-traces, over learning logs): verified (5 steps)\n*/\n",
+    ),
+    (
+        "spthy prove heard --lemma heard --budget 20",
+        2,
+        "\n/*\nheard (all-traces, over learning logs): analysis incomplete (20 steps)\n*/\n",
+    ),
+    (
+        "spthy prove taken",
+        0,
+        "\n/*\norigin (all-traces, over learning logs): verified (16 steps)\nsecond (all-traces): verified (7 steps)\n*/\n",
+    ),
+    (
+        "spthy prove taken --lemma second --budget 20",
+        2,
+        "\n/*\nsecond (all-traces): analysis incomplete (20 steps)\n*/\n",
     ),
     ("spthy prove three --budget 0", 5, "refused: usage\n"),
 ];
