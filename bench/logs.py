@@ -239,7 +239,7 @@ def copied(folder):
     shutil.copytree(f"{REPOSITORY}/crates", f"{folder}/crates", ignore=shutil.ignore_patterns("out"))
     for name in ["crates.txt", "HANDLES"]:
         shutil.copy(f"{REPOSITORY}/{name}", folder)
-    crate = f"{folder}/crates/sp_test_read"
+    crate = f"{folder}/crates/sp_test_logs"
     shutil.rmtree(f"{crate}/proofs", ignore_errors=True)
     for name in os.listdir(f"{crate}/src"):
         if name != "logs.rt":

@@ -1,4 +1,4 @@
-// What the search for a proof gives on worked examples: moves, times that are made one, what is learnt, logs that are found, trees, judgements.
+// What the search for a proof gives on worked examples: trees that are grown, and judgements.
 // Below stand what steps are tried on (sp_test_steps) and the crates of the search, from terms (sp_term) to judged trees (sp_check).
 // Nothing stands above.
 // Nothing is promised here: what the clauses of those crates don't say is shown, that they say what is meant, by values that come from
@@ -7,14 +7,6 @@
 #![tactic(auto)]
 
 #[cfg(test)]
-mod candidates;
-#[cfg(test)]
 mod growth;
 #[cfg(test)]
 mod judgements;
-#[cfg(test)]
-mod learning;
-#[cfg(test)]
-mod merged;
-#[cfg(test)]
-mod moves;

@@ -1,6 +1,6 @@
 use Rattle.sp_replay.proofs.Rules.{have_names, have_normal_forms}
 use Rattle.sp_replay.proofs.Replied.{posed_right}
-use Rattle.sp_test_read.proofs.logs.followed.Goals as goal
+use Rattle.sp_test_logs.proofs.logs.followed.Goals as goal
 
 pub read_steps-requires : goal.read_steps-requires
 read_steps-requires c = record { named = have_names c.args.problem.now c.requires }
