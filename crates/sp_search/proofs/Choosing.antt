@@ -10,6 +10,7 @@ use Rattle.sp_spec.specs.Rule.{Fact}
 use Rattle.sp_spec.proofs.Lists.{next_item}
 use Rattle.sp_spec_system.specs.System.{System, Event}
 use Rattle.sp_spec_system.specs.Picked.{first_some}
+use Rattle.sp_spec_system.proofs.Picked.{first_some_append}
 use Rattle.sp_spec_system.specs.Rules.{Rules}
 use Rattle.sp_system.specs.SystemView.{event_of}
 use Rattle.sp_system.specs.declared.event.Event as memory
@@ -94,20 +95,11 @@ pub is_some_map : {A B : Type 0} (f : A → B) (o : Option A) → is_some (optio
 is_some_map f None = refl
 is_some_map f (Some a) = refl
 
-first_joined : {A B : Type 0} (pick : A → Option B) (xs ys : List A) → first_some pick (xs ++ ys) ≡ option_or (first_some pick xs) (first_some pick ys)
-first_joined pick [] ys = refl
-first_joined {B = B} pick (x ∷ xs) ys = at (pick x) (first_joined pick xs ys)
-  where
-    at : (o : Option B) → first_some pick (xs ++ ys) ≡ option_or (first_some pick xs) (first_some pick ys)
-        → option_or o (first_some pick (xs ++ ys)) ≡ option_or (option_or o (first_some pick xs)) (first_some pick ys)
-    at None later = later
-    at (Some b) later = refl
-
 -- the choice, in two steps
 pub in_two : (context : Context) (s : System)
     → choice context s ≡ option_or (first_some (picked context s) (first_pickers context.root)) (by_kinds context s)
 unfolding choice by_kinds
-in_two context s = first_joined (picked context s) (first_pickers context.root) (pickers_by (are_consecutive context.root))
+in_two context s = first_some_append (picked context s) (first_pickers context.root) (pickers_by (are_consecutive context.root))
 
 -- the kinds are gone over
 pub next_kind : (context : Context) (s : System) (all : List (ℕ × MoveKind)) (i : ℕ) (k : ℕ × MoveKind) → i < length all → k ≡ get_or all i k

@@ -1,3 +1,6 @@
+mod BlockLaws
+mod BlockParts
+mod BlockTurns
 pub mod Budget
 pub mod Choosing
 pub mod Ends

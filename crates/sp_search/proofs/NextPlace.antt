@@ -1,5 +1,5 @@
 -- The place that is found is that of the first open leaf of the least class, and with its node replaced the tree is grown.
-use Rattle.std.proofs.Common.{◌≡◌, ◌∙◌, ℕ, zero, suc, ◌+◌, Bool, true, false, List, [], ◌∷◌, Option, Some, None, refl, sym, ap, arith, min, true≢false, option_map}
+use Rattle.std.proofs.Common.{◌≡◌, ◌∙◌, ℕ, zero, suc, ◌+◌, Bool, true, false, List, [], ◌∷◌, Option, Some, None, refl, sym, ap, arith, min, option_map}
 use Rattle.std.specs.Prelude.{if◌then◌else◌, nat_lt, is_some}
 use Rattle.std.proofs.lemmas.Bool.Decides.{nat_tests}
 use Rattle.sp_spec_system.specs.Move.{unproved, Context}
@@ -8,7 +8,6 @@ use Rattle.sp_spec_proof.specs.Growth.{least, has_class}
 use Rattle.sp_spec_nodes.specs.Preorder.{AreTrees, first}
 use Rattle.sp_spec_nodes.proofs.Preorder.{count_trees}
 use Rattle.sp_spec_nodes.proofs.Gathered.{gather, one_tree}
-use Rattle.sp_spec.specs.Log.{Log}
 use Rattle.sp_search.specs.Kept.{Kept, inner, nothing, log_in}
 use Rattle.sp_search.specs.Kinds.{Kind, open_leaf, end_at, choice, case_count, tree_over, all_kept, kept}
 use Rattle.sp_search.specs.Growing.{least_kept, least_in, turn_at, turn}
@@ -139,13 +138,7 @@ at_is context ns are = by_place (first_least 0 ns) (first_is context 0 ns)
         ∙ ap one (h.grows 1 are)
         ∙ ap (λ (p : ℕ). (kept (grown_at context p ns), true)) at
 
-no_log : {A : Type 0} (f : A → Log) (o : Option A) (log : Option Log) (some : Bool) → option_map f o ≡ log → some ≡ is_some o → some ≡ false → is_some log ≡ false
-no_log f None log some e is none = ap is_some (sym e)
-no_log f (Some a) log some e is none = absurd (true≢false (sym is ∙ none))
-
 -- where there is no log yet
-pub turn_is : {A : Type 0} (context : Context) (ns : List Kind) (place : Option ℕ) (f : A → Log) (o : Option A) (some : Bool) → AreTrees case_count 1 ns → option_map f o ≡ log_in (kept ns)
-    → some ≡ is_some o → some ≡ false → place ≡ next_place ns → turn context (kept ns) ≡ turned context ns place
-turn_is context ns place f o some are e is none found =
-    ap (λ (b : Bool). let r : Kept × Bool = if b then (kept ns, false) else turn_at context (kept ns) (least_kept (kept ns)) in r) (no_log f o (log_in (kept ns)) some e is none)
-    ∙ at_is context ns are ∙ ap (turned context ns) (sym found)
+pub tree_turns : (context : Context) (ns : List Kind) → AreTrees case_count 1 ns → is_some (log_in (kept ns)) ≡ false → turn context (kept ns) ≡ turned context ns (next_place ns)
+tree_turns context ns are none =
+    ap (λ (b : Bool). let r : Kept × Bool = if b then (kept ns, false) else turn_at context (kept ns) (least_kept (kept ns)) in r) none ∙ at_is context ns are

@@ -54,16 +54,13 @@ fn sooner(found: Option<(usize, u128)>, place: usize, class: Option<u128>) -> Op
     }
 }
 
-/// The place of the first open leaf of the least class; none where no leaf has a move.
-pub fn next_leaf(nodes: &Vec<Node>) -> Option<usize>
-    ensures { result ≡ turning.next_place (nodes_at nodes.now.items) }
+/// The place of the first open leaf of the least class, and the class; none where no leaf has a move.
+pub fn first_leaf(nodes: &Vec<Node>) -> Option<(usize, u128)>
+    ensures { result ≡ turning.first_least 0 (nodes_at nodes.now.items) }
 {
     let mut found = None;
     for (place, node) in nodes.iter().enumerate() {
         found = sooner(found, place, class_at(node));
     }
-    match found {
-        Some((place, _)) => Some(place),
-        None => None,
-    }
+    found
 }

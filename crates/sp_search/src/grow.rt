@@ -1,23 +1,27 @@
 // Trees are grown, one open leaf after the other, until the search ends at one.
 
-ghost use Rattle.std.specs.Prelude.{◌≡◌, map, option_map, string_bytes, IfOk};
+ghost use Rattle.std.specs.Prelude.{◌≡◌, ◌<◌, false, length, map, option_map, string_bytes, IfOk};
 ghost use Rattle.sp_system.specs.SystemView.{system_of};
 ghost use Rattle.sp_step.specs.View.{context_of, move_of, case_of};
 ghost use Rattle.sp_spec_proof.specs.Cases.{cases};
 ghost use Rattle.sp_spec_proof.specs.Choice as choosing;
 ghost use Rattle.sp_spec_proof.specs.Growth as growth;
 ghost use Rattle.sp_spec_proof.specs.Tree.{found_log};
+ghost use Rattle.sp_search.specs.BlockView.{all_of, kinds_of};
 ghost use Rattle.sp_search.specs.Kept.{log_in};
-ghost use Rattle.sp_search.specs.Kinds.{open_leaf};
+ghost use Rattle.sp_search.specs.Kinds.{kept, open_leaf};
 ghost use Rattle.sp_search.specs.Growing as growing;
+ghost use Rattle.sp_search.specs.InBlocks as among;
 ghost use Rattle.sp_search.specs.NodeView.{leaf_of, node_at, nodes_at};
 ghost use Rattle.sp_search.specs.Turning as turning;
 ghost use Rattle.sp_search.specs.View.{kept_of, tree_of};
 ghost use Rattle.sp_spec_system.specs.Move.{end_log};
 
+use crate::blocks::Blocks;
 use crate::choose::choice;
-use crate::class::{deeper, next_leaf};
+use crate::class::deeper;
 use crate::node::{Node, OpenLeaf};
+use crate::parts::{all_nodes, block_of, ends, next_spot, taken, with_nodes};
 use crate::tree::Tree;
 use sp_step::context::Context;
 use sp_step::moves::{Case, Move, cases};
@@ -136,32 +140,56 @@ fn leaf_at(nodes: &Vec<Node>, place: usize) -> Option<&OpenLeaf>
     }
 }
 
-// The tree with the open leaf at this place replaced.
-fn grown_at(alloc: Global, context: &Context, tree: Tree, place: usize) -> Result<Tree, AllocError>
-    ensures { IfOk result (λ t. nodes_at t.nodes.items ≡ turning.grown_at (context_of context.now) place (nodes_at tree.nodes.items)) }
+// The nodes with the open leaf at this place replaced.
+fn grown_at(
+    alloc: Global,
+    context: &Context,
+    mut nodes: Vec<Node>,
+    place: usize,
+) -> Result<Vec<Node>, AllocError>
+    ensures { IfOk result (λ ns. nodes_at ns.items ≡ turning.grown_at (context_of context.now) place (nodes_at nodes.items)) }
 {
-    let Some(leaf) = leaf_at(&tree.nodes, place) else {
-        return Ok(tree);
+    let Some(leaf) = leaf_at(&nodes, place) else {
+        return Ok(nodes);
     };
     let Some(ranked) = &leaf.choice else {
-        return Ok(tree);
+        return Ok(nodes);
     };
     let made = replaced(alloc, context, leaf, &ranked.chosen)?;
-    let Tree { mut nodes } = tree;
     let _replaced = nodes.splice(place..place + 1, made)?;
-    Ok(Tree { nodes })
+    Ok(nodes)
+}
+
+// The tree with the leaf at this place of this block replaced.
+fn grown_block(
+    alloc: Global,
+    context: &Context,
+    tree: Blocks,
+    index: usize,
+    place: usize,
+) -> Result<Blocks, AllocError>
+    requires inside { place < length (among.block_at index (kinds_of tree.blocks.items)) }
+    requires goes_on { tree.ended ≡ false }
+    ensures { IfOk result (λ t. all_of t.blocks.items ≡ among.grown_in_block (context_of context.now) index place (kinds_of tree.blocks.items)) }
+{
+    let Blocks { blocks, ended: _ } = tree;
+    let (others, nodes) = taken(blocks, index);
+    let grown = grown_at(alloc, context, nodes, place)?;
+    let ended = ends(&grown);
+    let blocks = with_nodes(others, index, grown)?;
+    Ok(Blocks { blocks, ended })
 }
 
 // The tree with the first open leaf of the least class replaced, and whether there was one; the tree itself, once the search has ended.
-fn turn(alloc: Global, context: &Context, tree: Tree) -> Result<(Tree, bool), AllocError>
-    ensures { IfOk result (λ r. (kept_of r.0, r.1) ≡ growing.turn (context_of context.now) (kept_of tree)) }
+fn turn(alloc: Global, context: &Context, tree: Blocks) -> Result<(Blocks, bool), AllocError>
+    ensures { IfOk result (λ r. (kept (all_of r.0.blocks.items), r.1) ≡ growing.turn (context_of context.now) (kept (all_of tree.blocks.items))) }
 {
-    if tree.found_log().is_some() {
+    if tree.ended {
         return Ok((tree, false));
     }
-    match next_leaf(&tree.nodes) {
-        Some(place) => {
-            let grown = grown_at(alloc, context, tree, place)?;
+    match next_spot(&tree.blocks) {
+        Some((index, place, _)) => {
+            let grown = grown_block(alloc, context, tree, index, place)?;
             Ok((grown, true))
         }
         None => Ok((tree, false)),
@@ -169,11 +197,25 @@ fn turn(alloc: Global, context: &Context, tree: Tree) -> Result<(Tree, bool), Al
 }
 
 // The tree with which growth begins: the system's own leaf.
-fn open_tree(alloc: Global, context: &Context, root: System) -> Result<Tree, AllocError>
-    ensures { IfOk result (λ t. kept_of t ≡ growing.open_leaf (context_of context.now) 0 (system_of root)) }
+fn open_tree(alloc: Global, context: &Context, root: System) -> Result<Blocks, AllocError>
+    ensures { IfOk result (λ t. kept (all_of t.blocks.items) ≡ growing.open_leaf (context_of context.now) 0 (system_of root)) }
 {
     let mut nodes = Vec::new(alloc);
     nodes.push(open_leaf(alloc, context, 0, root)?)?;
+    let mut blocks = Vec::new(alloc);
+    blocks.push(block_of(nodes))?;
+    Ok(Blocks {
+        blocks,
+        ended: false,
+    })
+}
+
+// The tree of the blocks.
+fn whole(alloc: Global, tree: Blocks) -> Result<Tree, AllocError>
+    ensures { IfOk result (λ t. kept_of t ≡ kept (all_of tree.blocks.items)) }
+{
+    let Blocks { blocks, ended: _ } = tree;
+    let nodes = all_nodes(alloc, blocks)?;
     Ok(Tree { nodes })
 }
 
@@ -196,9 +238,11 @@ pub fn grown_tree(
     for turns in 0..budget {
         let (next, grew) = turn(alloc, context, tree)?;
         if !grew {
-            return Ok(next);
+            let stopped = whole(alloc, next)?;
+            return Ok(stopped);
         }
         tree = next;
     }
-    Ok(tree)
+    let grown = whole(alloc, tree)?;
+    Ok(grown)
 }

@@ -5,12 +5,15 @@
 // Carried here: the promise that a tree without open leaves is one that the written rules accept.
 #![tactic(auto)]
 
+mod block;
+mod blocks;
 mod choose;
 mod class;
 mod count;
 mod grow;
 mod learning;
 mod node;
+mod parts;
 mod tree;
 
 pub use choose::{Ranked, choice};
