@@ -18,20 +18,12 @@ use Rattle.sp_formula.specs.declared.formula.Atom.TheVariants.{Acts}
 use Rattle.sp_formula.specs.declared.formula.Moment.{Moment}
 use Rattle.sp_spec_formula.specs.Instantiate.{first_match}
 use Rattle.sp_spec_system.specs.Picked.{first_some}
+use Rattle.sp_spec_system.proofs.Picked.{first_some_append}
 use Rattle.std.specs.Option.{option_or}
 use Rattle.sp_rows_formula.specs.MatchesView.{with_match, matches_at, matches}
 use Rattle.sp_spec_formula.specs.Instances.{Slots, matched_action}
 
 -- ---- the first of all matches
-
-module _ {A B : Type 0} (pick : A → Option B) where
-  pub or_else_some : (xs ys : List A) → first_some pick (xs ++ ys) ≡ option_or (first_some pick xs) (first_some pick ys)
-  or_else_some [] ys = refl
-  or_else_some (x ∷ xs) ys = ap (option_or (pick x)) (or_else_some xs ys) ∙ at (pick x)
-    where
-      at : (o : Option B) → option_or o (option_or (first_some pick xs) (first_some pick ys)) ≡ option_or (option_or o (first_some pick xs)) (first_some pick ys)
-      at None = refl
-      at (Some b) = refl
 
 some_at : (pick : Slots → Option Guarded) (s : Slots) (a : Action Place) (i : Time) (p : ℕ) (bs : List (Action Variable))
     → first_some (λ b. option_and_then pick (matched_action s a i b p)) bs ≡ first_some pick (matches_at s a i p bs)
@@ -47,7 +39,7 @@ pub some_match : (pick : Slots → Option Guarded) (s : Slots) (a : Action Place
 some_match pick s a i [] = refl
 some_match pick s a i (e ∷ events) =
     ap₂ option_or (some_at pick s a i e.time (happening_actions e.happening)) (some_match pick s a i events)
-    ∙ sym (or_else_some pick (matches_at s a i e.time (happening_actions e.happening)) (matches s a i events))
+    ∙ sym (first_some_append pick (matches_at s a i e.time (happening_actions e.happening)) (matches s a i events))
 
 -- one turn of the loop over events in memory: those of the next one come after those that were found
 pub event_turn : (s : Slots) (a : Action Place) (i : Time) (items : List memory_event.Event) (k : ℕ) (e : memory_event.Event) (found more grown : List memory.Slots) (all : List Slots)

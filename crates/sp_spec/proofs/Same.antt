@@ -18,7 +18,7 @@ same_sort_tells Pub Msg e = absurd cc
 same_sort_tells Pub Fresh e = absurd cc
 same_sort_tells Pub Pub e = refl
 
-same_sort_itself : (s : Sort) → same_sort s s ≡ true
+pub same_sort_itself : (s : Sort) → same_sort s s ≡ true
 same_sort_itself Msg = refl
 same_sort_itself Fresh = refl
 same_sort_itself Pub = refl

@@ -10,7 +10,7 @@ use Rattle.sp_spec.specs.Guarded.{Place, free, bound, Time, free_time, bound_tim
 use Rattle.sp_spec.specs.Guarded.{Guarded, truth, falsity, holds, fails, all_of, one_of, some, every, Guardeds, no_more, and_then}
 use Rattle.sp_spec.specs.Same.{same_sort, same_by, same_all_by}
 use Rattle.sp_spec.specs.SameFormula.{same_place, same_moment, same_binder, same_binders, same_atom, same_atoms, same_formula, same_formulas}
-use Rattle.sp_spec.proofs.Same.{same_sort_tells, same_variable_decides, same_by_decides, same_all_by_decides}
+use Rattle.sp_spec.proofs.Same.{same_sort_tells, same_sort_itself, same_variable_decides, same_by_decides, same_all_by_decides}
 
 -- ---- what is the same is equal
 
@@ -110,13 +110,8 @@ moment_itself : (i : Time) → same_moment i i ≡ true
 moment_itself (free_time i) = eq-eqb i i refl
 moment_itself (bound_time k) = eq-eqb k k refl
 
-sort_itself : (s : Sort) → same_sort s s ≡ true
-sort_itself Msg = refl
-sort_itself Fresh = refl
-sort_itself Pub = refl
-
 binder_itself : (b : Binder) → same_binder b b ≡ true
-binder_itself (message s) = sort_itself s
+binder_itself (message s) = same_sort_itself s
 binder_itself time = refl
 
 binders_themselves : (bs : List Binder) → same_binders bs bs ≡ true

@@ -1,6 +1,5 @@
 // Reads the words of the command: which of them are a line of it, and what that asks for.
-// Below stands `clap` alone, which cuts the words into a subcommand and the values of its arguments. Nothing stands above yet: the top call
-// still reads three words by hand.
+// Below stands `clap` alone, which cuts the words into a subcommand and the values of its arguments; above stands the top call (sp_top).
 // It promises that the answer is the request of the line, or that the words are no line, by the meaning that `clap` gives the command; and that
 // a line asks for one thing.
 #![tactic(auto)]
